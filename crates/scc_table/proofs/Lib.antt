@@ -1,0 +1,10 @@
+pub mod Counting
+pub mod Finding
+pub mod Inserts
+pub mod Making
+pub mod Powers
+pub mod Remove
+pub mod Removes
+pub mod Search
+pub mod Spots
+pub mod Views

@@ -1,0 +1,8 @@
+use Rattle.std.proofs.Common.{◌≡◌, sym, ◌∙◌, length, rules}
+use Rattle.scc_table.proofs.Views.{count-view}
+use Rattle.scc_table.proofs.table.Table.bucket_count.Goals as goal
+
+pub returns-clause-count : goal.returns-clause-count
+returns-clause-count g c =
+    let len : c.len.result ≡ length c.self.inside.buckets.items = search rules in
+    len ∙ sym (count-view c.self.inside.buckets.items _ c.args.self.now c.self.view_is)

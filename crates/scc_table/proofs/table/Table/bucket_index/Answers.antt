@@ -1,0 +1,11 @@
+use Rattle.std.proofs.Common.{◌≡◌, length, ap, ◌∙◌, rules}
+use Rattle.scc_table.specs.Routing.{bucket_number}
+use Rattle.scc_table.proofs.Views.{count-view, settings-view}
+use Rattle.scc_table.proofs.table.Table.bucket_index.Goals as goal
+
+pub returns : goal.returns
+returns g c =
+    let len : c.len.result ≡ length c.self.inside.buckets.items = search rules in
+    let hashed = rw (settings-view c.self.inside.buckets.items _ c.args.self.now c.self.view_is) at c.hash.ensures in
+    rw (count-view c.self.inside.buckets.items _ c.args.self.now c.self.view_is, settings-view c.self.inside.buckets.items _ c.args.self.now c.self.view_is)
+    (c.bucket_index.ensures.value ∙ ap (λ n. bucket_number c.self.inside.skipped n c.hash.result) len ∙ ap (bucket_number c.self.inside.skipped (length c.self.inside.buckets.items)) hashed)

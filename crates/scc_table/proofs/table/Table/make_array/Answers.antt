@@ -1,0 +1,50 @@
+use Rattle.std.proofs.Common.{◌≡◌, ℕ, [], List, length, refl, sym, ap, ◌∙◌, rules, arith, subst}
+use Rattle.scc_table.specs.Contents.{bucket_count, settings_of}
+use Rattle.scc_table.specs.Hashing.{hash_of}
+use Rattle.scc_table.specs.Tables.{AllEmpty}
+use Rattle.scc_table.proofs.Finding.{no-entries}
+use Rattle.scc_table.proofs.Making.{counts-none, kept-fresh, entries-fresh}
+use Rattle.scc_table.proofs.Views.{count-view, settings-view}
+use Rattle.scc_table.proofs.table.Table.make_array.Goals as goal
+
+pub returns-in_err-buckets-clause-entries : goal.returns-in_err-buckets-clause-entries
+returns-in_err-buckets-clause-entries g c =
+    let none = rw (count-view c.self.inside.buckets.items _ c.args.self.now c.self.view_is) at c.requires in
+    no-entries c.self.inside.buckets.items _ c.args.self.now c.self.view_is none
+
+pub destroy_empty-requires : goal.destroy_empty-requires
+destroy_empty-requires g c =
+    let none = rw (count-view c.self.inside.buckets.items _ c.args.self.now c.self.view_is) at c.requires in
+    rw c.replace-old.ensures.value (search rules)
+
+pub invariant_of-self : goal.invariant_of-self
+invariant_of-self g c =
+    let none = rw (count-view c.self.inside.buckets.items _ c.args.self.now c.self.view_is) at c.requires in
+    let counts = counts-none _ _ _ _ c.self.inside.buckets.items none c.self.invariant.table in
+    rw c.replace-old.ensures.after
+    (kept-fresh _ _ _ _ _ c.buckets_for-count.result c.self.inside.length c.self.inside.overflowing c.in_ok-buckets.buckets.items c.in_ok-buckets.ensures.empty c.in_ok-buckets.ensures.count c.buckets_for-count.ensures.array c.self.invariant.few_bits c.self.invariant.small_minimum counts.0 counts.1)
+
+pub returns-clause-entries : goal.returns-clause-entries
+returns-clause-entries g c =
+    let none = rw (count-view c.self.inside.buckets.items _ c.args.self.now c.self.view_is) at c.requires in
+    no-entries c.self.inside.buckets.items _ c.args.self.now c.self.view_is none
+
+pub returns-clause-still : goal.returns-clause-still
+returns-clause-still g c = entries-fresh c.replace-old.new.dest.items _ (rw c.replace-old.ensures.after c.in_ok-buckets.ensures.empty)
+
+pub returns-clause-size : goal.returns-clause-size
+returns-clause-size g c =
+    rw (settings-view c.self.inside.buckets.items _ c.args.self.now c.self.view_is, count-view c.replace-old.new.dest.items _ _ refl, c.replace-old.ensures.after, c.in_ok-buckets.ensures.count) c.buckets_for-count.ensures.size
+
+pub returns-clause-array : goal.returns-clause-array
+returns-clause-array g c =
+    rw (count-view c.replace-old.new.dest.items _ _ refl, c.replace-old.ensures.after, c.in_ok-buckets.ensures.count) c.buckets_for-count.ensures.array
+
+pub returns-clause-settings : goal.returns-clause-settings
+unfolding settings_of
+returns-clause-settings g c = sym (settings-view c.self.inside.buckets.items _ c.args.self.now c.self.view_is)
+
+pub returns-in_err-buckets-clause-still : goal.returns-in_err-buckets-clause-still
+returns-in_err-buckets-clause-still g c =
+    let none = rw (count-view c.self.inside.buckets.items _ c.args.self.now c.self.view_is) at c.requires in
+    no-entries c.self.inside.buckets.items _ c.args.self.now c.self.view_is none

@@ -1,0 +1,19 @@
+use Rattle.std.proofs.Common.{◌≡◌, ◌*◌, ℕ, length, refl, ap, sym, ◌∙◌, arith}
+use Rattle.scc_table.specs.Contents.{bucket_count, settings_of}
+use Rattle.scc_table.proofs.Making.{kept-fresh, entries-fresh}
+use Rattle.scc_table.proofs.Views.{count-view}
+use Rattle.scc_table.proofs.table.Table.with_capacity.Goals as goal
+
+pub invariant_of-result : goal.invariant_of-result
+invariant_of-result g c =
+    kept-fresh _ _ _ c.args.skipped _ c.buckets_for-count.result 0 0 c.in-Ok.buckets.items c.in-Ok.ensures.empty c.in-Ok.ensures.count c.buckets_for-count.ensures.array c.requires (omega (arith, c.buckets_for-count.ensures.array.most)) refl refl
+
+pub returns-in-Ok-clause-entries : goal.returns-in-Ok-clause-entries
+returns-in-Ok-clause-entries g c = entries-fresh c.in-Ok.buckets.items _ c.in-Ok.ensures.empty
+
+pub returns-in-Ok-clause-size : goal.returns-in-Ok-clause-size
+returns-in-Ok-clause-size g c = λ _. rw (count-view c.in-Ok.buckets.items _ _ refl, c.in-Ok.ensures.count) c.buckets_for-count.ensures.size
+
+pub returns-in-Ok-clause-settings : goal.returns-in-Ok-clause-settings
+unfolding settings_of
+returns-in-Ok-clause-settings g c = rw (count-view c.in-Ok.buckets.items _ _ refl, c.in-Ok.ensures.count) refl

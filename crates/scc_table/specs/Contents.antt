@@ -1,0 +1,71 @@
+-- What a table holds, and the words by which containers see it.
+use Rattle.std.specs.Prelude.{◌≡◌, ℕ, ◌+◌, ◌*◌, ◌<◌, ◌==◌, Bool, List, [], length, map, count_by, refl}
+use Rattle.std.specs.Hash.{HashWrites}
+use Rattle.std.specs.List.{flat_map, IsDistinct, slice_index_or}
+use Rattle.std.specs.Coded.{Coded, code_by, coded×, coded_ℕ, coded_list}
+use Rattle.std.specs.declared.hash.Hasher as hasher
+use Rattle.std.specs.declared.hash.BuildHasher as builder
+use Rattle.scc_table.specs.Hashing.{hash_of}
+use Rattle.scc_table.specs.Routing.{bucket_number}
+
+-- what is fixed at making, and what is reserved: the hasher, how many bits of a hash are skipped, the slots asked for, the slots reserved
+pub record Settings (S : Type 0) : Type 0 where
+  pub hasher : S
+  pub skipped : ℕ
+  pub asked : ℕ
+  pub reserved : ℕ
+
+-- the list of each bucket, and the settings
+pub record Contents (E S : Type 0) : Type 0 where
+  pub lists : List (List E)
+  pub settings : Settings S
+
+abbrev pub contents_code : {E S : Type 0} → Coded E → Coded S → Coded (Contents E S)
+contents_code {E} {S} e s =
+    code_by (List (List E) × (S × (ℕ × (ℕ × ℕ)))) (coded× (coded_list (coded_list e)) (coded× s (coded× coded_ℕ (coded× coded_ℕ coded_ℕ))))
+    (λ c. (c.lists, (c.settings.hasher, (c.settings.skipped, (c.settings.asked, c.settings.reserved)))))
+    (λ p. record { lists = p.0; settings = record { hasher = p.1.0; skipped = p.1.1.0; asked = p.1.1.1.0; reserved = p.1.1.1.1 } })
+    (λ _. refl)
+
+module _ {E S : Type 0} where
+  -- all entries: the buckets' lists joined, in the order of the buckets
+  unfoldable pub entries : Contents E S → List E
+  entries c = flat_map (λ l. l) c.lists
+
+  -- how many buckets the array has, 0 where there is none
+  unfoldable pub bucket_count : Contents E S → ℕ
+  bucket_count c = length c.lists
+
+  -- what is fixed, and what is reserved
+  unfoldable pub settings_of : Contents E S → Settings S
+  settings_of c = c.settings
+
+  -- the entries of one bucket, in order
+  unfoldable pub list_of : Contents E S → ℕ → List E
+  list_of c i = slice_index_or c.lists i []
+
+  -- how many buckets still have their entries in an old array: none, since every resize moves all
+  unfoldable pub pending_of : Contents E S → ℕ
+  pending_of c = 0
+
+  -- the slots that the array keeps at least: those asked for at making, and those reserved
+  abbrev pub minimum_of : Contents E S → ℕ
+  minimum_of c = (settings_of c).asked + (settings_of c).reserved
+
+  -- no two entries have equal keys
+  abbrev pub IsUniqueBy : {K : Type 0} → (K → K → Bool) → (E → K) → Contents E S → Type 0
+  IsUniqueBy eq key c = IsDistinct eq (map key (entries c))
+
+  module _ {T : Type 0} (build : builder.Ghosts S T) (feed : hasher.Ghosts T) {K : Type 0} (input : K → HashWrites) where
+    -- the hash of a key under the container's hasher
+    abbrev pub key_hash : Contents E S → K → ℕ
+    key_hash c k = hash_of build feed (settings_of c).hasher (input k)
+
+  module _ {K : Type 0} (hash : K → ℕ) where
+    -- the number of the bucket of a key
+    abbrev pub bucket_of : Contents E S → K → ℕ
+    bucket_of c k = bucket_number (settings_of c).skipped (bucket_count c) (hash k)
+
+    -- there is an array, and the bucket of k holds fewer than 32 entries
+    abbrev pub HasRoomBy : (E → K) → Contents E S → K → Type 0
+    HasRoomBy key c k = (0 < bucket_count c) × (count_by (λ e. bucket_of c (key e) == bucket_of c k) (entries c) < 32)

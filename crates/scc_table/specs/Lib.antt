@@ -1,0 +1,10 @@
+pub mod Contents
+pub mod Hashing
+pub mod Pairs
+pub mod Places
+pub mod Routing
+pub mod Shelf
+pub mod Sizes
+pub mod Steps
+pub mod Tables
+pub mod Walks

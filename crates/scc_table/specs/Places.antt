@@ -1,0 +1,31 @@
+-- Where an entry stands.
+use Rattle.std.specs.Prelude.{◌≡◌, ℕ, ◌+◌, ◌<◌, Bool, List, [], ◌∷◌, length, take, Some, slice_get}
+use Rattle.std.specs.List.{flat_map, position, slice_set}
+use Rattle.scc_table.specs.Contents.{Contents, entries, bucket_count, list_of}
+use Rattle.scc_table.specs.Steps.{Holds}
+use Rattle.scc_table.specs.declared.place.Place.{Place}
+
+module _ {E S : Type 0} where
+  -- an entry stands there
+  pub record IsPlace (c : Contents E S) (p : Place) : Type 0 where
+    pub bucket : p.bucket < bucket_count c
+    pub slot : p.slot < length (list_of c p.bucket)
+
+  -- how many entries stand before the place
+  unfoldable pub index_of : Contents E S → Place → ℕ
+  index_of c p = length (flat_map (λ l. l) (take p.bucket c.lists)) + p.slot
+
+  -- the first entry that passes stands there
+  pub record IsFoundAt (passes : E → Bool) (c : Contents E S) (p : Place) : Type 0 where
+    pub within : IsPlace c p
+    pub found : position passes (entries c) ≡ Some (index_of c p)
+
+  -- the entry was put in, and stands there
+  pub record IsInsertedAt (c : Contents E S) (e : E) (d : Contents E S) (p : Place) : Type 0 where
+    pub holds : Holds c (e ∷ entries c) d
+    pub within : IsPlace d p
+    pub here : slice_get (entries d) (index_of d p) ≡ Some e
+
+  -- the contents with e in the place
+  unfoldable pub with_entry_at : Contents E S → Place → E → Contents E S
+  with_entry_at c p e = record c { lists = slice_set c.lists p.bucket (slice_set (list_of c p.bucket) p.slot e) }

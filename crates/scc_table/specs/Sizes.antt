@@ -1,0 +1,21 @@
+-- The sizes of an array.
+use Rattle.std.specs.Prelude.{◌≡◌, ℕ, ◌+◌, ◌*◌, ◌^◌, ◌≤◌, ◌⊎◌, min}
+use Rattle.std.specs.Int.{IsPowerOfTwo}
+
+-- slots is the least power of two that is at least wanted and at least 64, cut at 2 ^ 63
+pub record IsArraySize (wanted slots : ℕ) : Type 0 where
+  pub power : IsPowerOfTwo slots
+  pub least : 64 ≤ slots
+  pub most : slots ≤ 2 ^ 63
+  pub enough : min wanted (2 ^ 63) ≤ slots
+  pub fewest : (other : ℕ) → IsPowerOfTwo other → 64 ≤ other → min wanted (2 ^ 63) ≤ other → slots ≤ other
+
+-- an array may have so many buckets, of 32 slots each
+pub record IsArray (buckets : ℕ) : Type 0 where
+  pub power : IsPowerOfTwo buckets
+  pub least : 2 ≤ buckets
+  pub most : buckets ≤ 2 ^ 58
+
+-- there is no array, or one of a lawful size
+abbrev pub IsLawful : ℕ → Type 0
+IsLawful buckets = (buckets ≡ 0) ⊎ IsArray buckets

@@ -1,0 +1,35 @@
+-- What a call may leave: the same contents, other entries, other buckets.
+use Rattle.std.specs.Prelude.{◌≡◌, ◌≢◌, ℕ, ◌+◌, ◌*◌, ◌<◌, ◌≤◌, ◌⊎◌, List}
+use Rattle.std.specs.List.Sorted.{IsPermutation}
+use Rattle.scc_table.specs.Contents.{Contents, entries, bucket_count, settings_of, minimum_of}
+use Rattle.scc_table.specs.Sizes.{IsArray}
+
+module _ {E S : Type 0} where
+  -- d has the entries of the list in their order, with the buckets and the settings of c
+  pub record HoldsExactly (c : Contents E S) (es : List E) (d : Contents E S) : Type 0 where
+    pub exact : entries d ≡ es
+    pub buckets : bucket_count d ≡ bucket_count c
+    pub settings : settings_of d ≡ settings_of c
+
+  -- entries, buckets and settings are those of c; what waits in an old array is left free
+  abbrev pub IsUnchanged : Contents E S → Contents E S → Type 0
+  IsUnchanged c d = HoldsExactly c (entries c) d
+
+  -- the number of buckets stays or is lawful, and is not lowered below the minimum
+  pub record KeepsSize (c d : Contents E S) : Type 0 where
+    pub lawful : (bucket_count d ≡ bucket_count c) ⊎ IsArray (bucket_count d)
+    pub minimum : bucket_count d < bucket_count c → minimum_of c ≤ 32 * bucket_count d
+
+  -- d has the entries of the list in some order, and the settings of c; it may have been resized
+  pub record Holds (c : Contents E S) (es : List E) (d : Contents E S) : Type 0 where
+    pub same : IsPermutation es (entries d)
+    pub size : KeepsSize c d
+    pub settings : settings_of d ≡ settings_of c
+
+  -- a resize: the same entries in some order, and a lawful number of buckets that is not lowered below the minimum
+  abbrev pub Resizes : Contents E S → Contents E S → Type 0
+  Resizes c d = Holds c (entries c) d
+
+  -- a refused call: nothing changed, or one resize to another number of buckets
+  abbrev pub Rests : Contents E S → Contents E S → Type 0
+  Rests c d = IsUnchanged c d ⊎ ((bucket_count d ≢ bucket_count c) × Resizes c d)

@@ -1,0 +1,18 @@
+-- Walks over pairs: what a closure was called on, in turn.
+use Rattle.std.specs.Prelude.{◌≡◌, Bool, true, false, List, [], ◌∷◌}
+use Rattle.std.specs.Borrow.{Bor}
+use Rattle.std.specs.Fn.{Mut, Called}
+
+module _ {F K V R : Type 0} where
+  -- a call of f at a & to the key and one to the value of p may give r, and leave f'
+  pub record CalledOn (g : Mut F (Bor K × (Bor V × Unit {0})) R) (f : F) (p : K × V) (r : R) (f' : F) : Type 0 where
+    pub key : Bor K
+    pub value : Bor V
+    pub shows : (key.now, value.now) ≡ p
+    pub called : Called g f (key, (value, tt)) r f'
+
+-- the closure was called on the pairs in turn, up to its first false; the last state is the one that it was left in
+pub data Walks {F K V : Type 0} (T : F → K × V → Bool → F → Type 0) : F → List (K × V) → Bool → F → Type 0 where
+  ended : {f : F} → Walks T f [] true f
+  stopped : {f f' : F} {p : K × V} {es : List (K × V)} → T f p false f' → Walks T f (p ∷ es) false f'
+  went_on : {f f' f'' : F} {p : K × V} {es : List (K × V)} {b : Bool} → T f p true f' → Walks T f' es b f'' → Walks T f (p ∷ es) b f''

@@ -1,0 +1,128 @@
+//! An array of buckets, found by the bits of a hash.
+ghost use Rattle.std.specs.Prelude.{◌≡◌, ◌≤◌, ◌<◌, ◌+◌, ◌*◌, ◌^◌, ℕ, [], ◌∷◌, ◌↔◌, length, Some, None, IsTrue, IfOk, OnOk, IfErr, OnErr, MatchOption, slice_get};
+ghost use Rattle.std.specs.List.{position};
+ghost use Rattle.scc_table.specs.Contents.{entries, bucket_count, settings_of, minimum_of, key_hash, bucket_of, IsUniqueBy, HasRoomBy};
+ghost use Rattle.scc_table.specs.Places.{IsPlace, IsFoundAt, index_of};
+ghost use Rattle.scc_table.specs.Sizes.{IsArraySize};
+
+mod edits;
+mod making;
+
+use crate::bucket::Bucket;
+use crate::keyed::Keyed;
+use crate::place::Place;
+use crate::route::{bucket_index, tag};
+use std::hash::{BuildHasher, Hash};
+use std::marker::Model;
+
+/// Entries with distinct keys, in buckets. A container sees the list of each bucket, the number of buckets and the settings, by the words of `specs/Contents.antt`.
+#[derive(Drop)]
+pub struct Table<E: Keyed, H: BuildHasher>
+where
+    E::Key: Eq + Hash,
+{
+    buckets: Vec<Bucket<E>>,
+    length: usize,
+    overflowing: usize,
+    asked: usize,
+    reserved: usize,
+    skipped: u32,
+    hasher: H,
+}
+
+impl<E: Keyed, H: BuildHasher> Model for Table<E, H>
+where
+    E::Key: Eq + Hash,
+{
+    ghost use Rattle.std.specs.Prelude.{map, ◌+◌};
+    ghost use Rattle.scc_table.specs.Contents.{Contents, contents_code};
+
+    ghost Value = { Contents E H };
+
+    ghost coded = { contents_code E.code H.code };
+
+    ghost use Rattle.scc_table.specs.Hashing.{hash_of};
+    ghost use Rattle.scc_table.specs.Shelf.{shelf_entries};
+    ghost use Rattle.scc_table.specs.Tables.{IsKept};
+
+    ghost view = { λ t. record { lists = map shelf_entries t.buckets.items; settings = record { hasher = t.hasher; skipped = t.skipped; asked = t.asked; reserved = t.reserved } } };
+
+    ghost invariant = { λ t. IsKept E.Key.eq E.key_of (λ k. hash_of H.BuildHasher H.Hasher.Hasher t.hasher (E.Key.hash_input k)) t.skipped (t.asked + t.reserved) t.buckets.items t.length t.overflowing };
+}
+
+impl<E: Keyed, H: BuildHasher> Table<E, H>
+where
+    E::Key: Eq + Hash,
+{
+    /// The number of entries.
+    #[inline(always)]
+    pub fn len(&self) -> usize
+        ensures len { result ≡ length (entries self.now) }
+        ensures unique { IsUniqueBy E.Key.eq E.key_of self.now }
+    {
+        self.length
+    }
+
+    /// The number of buckets, 0 where there is no array.
+    #[inline(always)]
+    pub fn bucket_count(&self) -> usize
+        ensures count { result ≡ bucket_count self.now }
+        ensures most { result ≤ 2 ^ 58 }
+    {
+        self.buckets.len()
+    }
+
+    /// The hash of a key under the table's hasher.
+    #[inline(always)]
+    pub fn hash(&self, key: &E::Key) -> u64
+        ensures { result ≡ key_hash H.BuildHasher H.Hasher.Hasher E.Key.hash_input self.now key.now }
+    {
+        self.hasher.hash_one(key)
+    }
+
+    /// The number of the bucket of a key, 0 where there is no array.
+    pub fn bucket_index(&self, key: &E::Key) -> usize
+        ensures { result ≡ bucket_of (key_hash H.BuildHasher H.Hasher.Hasher E.Key.hash_input self.now) self.now key.now }
+    {
+        bucket_index(self.hash(key), self.skipped, self.buckets.len())
+    }
+
+    /// Whether there is an array, and the bucket of the key holds fewer than 32 entries: then an insertion of the key takes no memory.
+    pub fn has_room(&self, key: &E::Key) -> bool
+        ensures { IsTrue result ↔ HasRoomBy (key_hash H.BuildHasher H.Hasher.Hasher E.Key.hash_input self.now) E.key_of self.now key.now }
+    {
+        let count = self.buckets.len();
+        if count == 0 {
+            return false;
+        }
+        let bucket = bucket_index(self.hash(key), self.skipped, count);
+        self.buckets[bucket].len() < 32
+    }
+
+    /// Where the entry with that key stands. `hash` is the key's hash.
+    #[inline(always)]
+    pub fn search(&self, hash: u64, key: &E::Key) -> Option<Place>
+        requires { hash ≡ key_hash H.BuildHasher H.Hasher.Hasher E.Key.hash_input self.now key.now }
+        ensures place { MatchOption result (position (λ e. E.Key.eq key.now (E.key_of e)) (entries self.now) ≡ None) (IsFoundAt (λ e. E.Key.eq key.now (E.key_of e)) self.now) }
+        ensures unique { IsUniqueBy E.Key.eq E.key_of self.now }
+    {
+        let count = self.buckets.len();
+        if count == 0 {
+            return None;
+        }
+        let bucket = bucket_index(hash, self.skipped, count);
+        match self.buckets[bucket].search(key, tag(hash)) {
+            Some(slot) => Some(Place { bucket, slot }),
+            None => None,
+        }
+    }
+
+    /// The entry at the place.
+    #[inline(always)]
+    pub fn entry_at(&self, place: Place) -> &E
+        requires { IsPlace self.now place }
+        ensures { slice_get (entries self.now) (index_of self.now place) ≡ Some result.now }
+    {
+        self.buckets[place.bucket].entry_at(place.slot)
+    }
+}

@@ -1,0 +1,92 @@
+//! How entries get into a table and out of it.
+ghost use Rattle.std.specs.Prelude.{◌≡◌, ◌≤◌, ◌<◌, ◌+◌, ◌*◌, ◌^◌, [], ◌∷◌, length, Some, None, IsTrue, IfOk, IfErr, OnErr, slice_get, remove};
+ghost use Rattle.std.specs.List.{position};
+ghost use Rattle.scc_table.specs.Contents.{entries, bucket_count, list_of, settings_of, key_hash, bucket_of, IsUniqueBy, HasRoomBy};
+ghost use Rattle.scc_table.specs.Places.{IsPlace, IsInsertedAt, index_of};
+ghost use Rattle.scc_table.specs.Steps.{Holds, HoldsExactly, IsUnchanged, Rests};
+
+use super::Table;
+use crate::keyed::Keyed;
+use crate::place::Place;
+use crate::route::{bucket_index, tag};
+use std::hash::{BuildHasher, Hash};
+
+/// How many entries may lie in the overflow lists of one table: fewer than this.
+pub const OVERFLOW_LIMIT: usize = 1 << 62;
+
+/// 1 where it holds, else 0.
+#[inline(always)]
+fn one_if(holds: bool) -> usize
+    ensures yes { IsTrue holds → result ≡ 1 }
+    ensures no { (IsTrue holds → ⊥) → result ≡ 0 }
+{
+    if holds { 1 } else { 0 }
+}
+
+impl<E: Keyed, H: BuildHasher> Table<E, H>
+where
+    E::Key: Eq + Hash,
+{
+    /// Puts in an entry whose key is new, and answers its place. It is handed back where there is no array and none can be had, or where its bucket is full and the overflow list can't grow.
+    pub fn insert_new(&mut self, hash: u64, entry: E) -> Result<Place, E>
+        requires hashed { hash ≡ key_hash H.BuildHasher H.Hasher.Hasher E.Key.hash_input self.old (E.key_of entry) }
+        requires absent { position (λ e. E.Key.eq (E.key_of entry) (E.key_of e)) (entries self.old) ≡ None }
+        ensures ok { IfOk result (IsInsertedAt self.old entry self.new) }
+        ensures err { IfErr result (λ e. (e ≡ entry) × Rests self.old self.new) }
+        ensures full { OnErr result (HasRoomBy (key_hash H.BuildHasher H.Hasher.Hasher E.Key.hash_input self.old) E.key_of self.old (E.key_of entry) → ⊥) }
+        ensures unique { IsUniqueBy E.Key.eq E.key_of self.new }
+    {
+        if self.bucket_count() == 0 && self.make_array().is_err() {
+            return Err(entry);
+        }
+        self.insert_in_array(hash, entry)
+    }
+
+    /// The same where there is an array.
+    fn insert_in_array(&mut self, hash: u64, entry: E) -> Result<Place, E>
+        requires array { 0 < bucket_count self.old }
+        requires hashed { hash ≡ key_hash H.BuildHasher H.Hasher.Hasher E.Key.hash_input self.old (E.key_of entry) }
+        requires absent { position (λ e. E.Key.eq (E.key_of entry) (E.key_of e)) (entries self.old) ≡ None }
+        ensures ok { IfOk result (IsInsertedAt self.old entry self.new) }
+        ensures err { IfErr result (λ e. (e ≡ entry) × IsUnchanged self.old self.new) }
+        ensures full { OnErr result (HasRoomBy (key_hash H.BuildHasher H.Hasher.Hasher E.Key.hash_input self.old) E.key_of self.old (E.key_of entry) → ⊥) }
+        ensures unique { IsUniqueBy E.Key.eq E.key_of self.new }
+    {
+        let bucket = bucket_index(hash, self.skipped, self.buckets.len());
+        if self.overflowing >= OVERFLOW_LIMIT - 1 && self.buckets[bucket].is_full() {
+            return Err(entry);
+        }
+        match self.buckets[bucket].insert(entry, tag(hash)) {
+            Ok(slot) => {
+                self.length += 1;
+                self.overflowing += one_if(slot >= 32);
+                Ok(Place { bucket, slot })
+            }
+            Err(back) => Err(back),
+        }
+    }
+
+    /// Takes the entry out of its place. The others stay, maybe in other places.
+    pub fn remove_at(&mut self, place: Place) -> E
+        requires { IsPlace self.old place }
+        ensures entry { slice_get (entries self.old) (index_of self.old place) ≡ Some result }
+        ensures others { Holds self.old (remove (entries self.old) (index_of self.old place)) self.new }
+        ensures unique { IsUniqueBy E.Key.eq E.key_of self.new }
+    {
+        self.take_at(place)
+    }
+
+    /// Takes the entry out of its place, with no resize: the others stay in their order.
+    pub fn take_at(&mut self, place: Place) -> E
+        requires { IsPlace self.old place }
+        ensures entry { slice_get (entries self.old) (index_of self.old place) ≡ Some result }
+        ensures others { HoldsExactly self.old (remove (entries self.old) (index_of self.old place)) self.new }
+        ensures unique { IsUniqueBy E.Key.eq E.key_of self.new }
+    {
+        let in_overflow = self.buckets[place.bucket].is_overflow(place.slot);
+        let entry = self.buckets[place.bucket].remove_at(place.slot);
+        self.length -= 1;
+        self.overflowing -= one_if(in_overflow);
+        entry
+    }
+}

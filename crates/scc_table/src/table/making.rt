@@ -1,0 +1,121 @@
+//! How a table and its array are made.
+ghost use Rattle.std.specs.Prelude.{◌≡◌, ◌≢◌, ◌≤◌, ◌<◌, ◌+◌, ◌*◌, ◌^◌, [], length, IsOk, IfOk, OnOk, OnErr, vec_len};
+ghost use Rattle.scc_table.specs.Contents.{entries, bucket_count, settings_of, minimum_of};
+ghost use Rattle.scc_table.specs.Sizes.{IsArray, IsArraySize};
+ghost use Rattle.scc_table.specs.Steps.{IsUnchanged};
+ghost use Rattle.scc_table.specs.Tables.{AllEmpty};
+
+use super::Table;
+use crate::bucket::Bucket;
+use crate::errors::MakeError;
+use crate::keyed::Keyed;
+use crate::sizes::buckets_for;
+use std::alloc::{AllocError, Global};
+use std::hash::{BuildHasher, Hash};
+
+impl<E: Keyed, H: BuildHasher> Table<E, H>
+where
+    E::Key: Eq + Hash,
+{
+    /// An empty table without an array, that skips so many bits of each hash.
+    pub fn new(alloc: Global, skipped: u32, hasher: H) -> Table<E, H>
+        requires { skipped ≤ 4 }
+        ensures entries { entries result ≡ [] }
+        ensures buckets { bucket_count result ≡ 0 }
+        ensures settings { settings_of result ≡ record { hasher = hasher; skipped = skipped; asked = 0; reserved = 0 } }
+    {
+        Table {
+            buckets: Vec::new(alloc),
+            length: 0,
+            overflowing: 0,
+            asked: 0,
+            reserved: 0,
+            skipped,
+            hasher,
+        }
+    }
+
+    /// An empty table with an array of the size of so many slots, which are then the slots asked for; without an array for 0. A size that can't be had is refused.
+    pub fn with_capacity(
+        alloc: Global,
+        skipped: u32,
+        slots: usize,
+        hasher: H,
+    ) -> Result<Table<E, H>, MakeError>
+    where
+        H: Drop,
+        requires { skipped ≤ 4 }
+        ensures entries { IfOk result (λ t. entries t ≡ []) }
+        ensures none { IfOk result (λ t. slots ≡ 0 → bucket_count t ≡ 0) }
+        ensures size { IfOk result (λ t. 0 < slots → IsArraySize slots (32 * bucket_count t)) }
+        ensures settings { IfOk result (λ t. settings_of t ≡ record { hasher = hasher; skipped = skipped; asked = 32 * bucket_count t; reserved = 0 }) }
+        ensures succeeds { slots ≡ 0 → IsOk result }
+    {
+        if slots == 0 {
+            return Ok(Table::new(alloc, skipped, hasher));
+        }
+        let count = buckets_for(slots);
+        match fresh_buckets(alloc, count) {
+            Ok(buckets) => Ok(Table {
+                buckets,
+                length: 0,
+                overflowing: 0,
+                asked: 32 * count,
+                reserved: 0,
+                skipped,
+                hasher,
+            }),
+            Err(_) => Err(MakeError),
+        }
+    }
+
+    /// Makes the first array, of the size of the minimum.
+    pub(crate) fn make_array(&mut self) -> Result<(), AllocError>
+        requires { bucket_count self.old ≡ 0 }
+        ensures entries { entries self.old ≡ [] }
+        ensures still { entries self.new ≡ [] }
+        ensures size { OnOk result (IsArraySize (minimum_of self.old) (32 * bucket_count self.new)) }
+        ensures array { OnOk result (IsArray (bucket_count self.new)) }
+        ensures settings { settings_of self.new ≡ settings_of self.old }
+        ensures refused { OnErr result (IsUnchanged self.old self.new) }
+    {
+        let count = buckets_for(self.asked + self.reserved);
+        let alloc = *self.buckets.allocator();
+        let buckets = fresh_buckets(alloc, count)?;
+        let old = std::mem::replace(&mut self.buckets, buckets);
+        old.destroy_empty();
+        Ok(())
+    }
+}
+
+/// So many empty buckets.
+pub(crate) fn fresh_buckets<E>(alloc: Global, count: usize) -> Result<Vec<Bucket<E>>, AllocError>
+    ensures count { IfOk result (λ v. length v.items ≡ count) }
+    ensures empty { IfOk result (λ v. AllEmpty v.items) }
+{
+    let mut fresh = Vec::with_capacity(alloc, count)?;
+    for _ in 0..count {
+        match Bucket::with_room(alloc, 0) {
+            Ok(bucket) => match fresh.push(bucket) {
+                Ok(()) => {}
+                Err(_back) => unreachable!(),
+            },
+            Err(e) => {
+                destroy_buckets(fresh);
+                return Err(e);
+            }
+        }
+    }
+    Ok(fresh)
+}
+
+/// Frees buckets that hold no entry.
+pub(crate) fn destroy_buckets<E>(buckets: Vec<Bucket<E>>)
+    requires { AllEmpty buckets.items }
+{
+    let mut buckets = buckets;
+    while let Some(bucket) = buckets.pop() {
+        bucket.destroy_empty();
+    }
+    buckets.destroy_empty();
+}
