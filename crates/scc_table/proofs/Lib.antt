@@ -8,3 +8,4 @@ pub mod Removes
 pub mod Search
 pub mod Spots
 pub mod Views
+pub mod WalkLemmas

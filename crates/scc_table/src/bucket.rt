@@ -1,5 +1,5 @@
 //! A bucket: 32 slots with their tags, in the order of their entries, and the overflow list.
-ghost use Rattle.std.specs.Prelude.{◌≡◌, ◌≤◌, ◌<◌, ◌+◌, ◌^◌, ◌↔◌, ℕ, [], length, IsTrue, IfOk, IfErr, slice_index, slice_index_or};
+ghost use Rattle.std.specs.Prelude.{◌≡◌, ◌≤◌, ◌<◌, ◌+◌, ◌^◌, ◌↔◌, ◌++◌, ℕ, [], length, IsTrue, IfOk, IfErr, slice_index, slice_index_or};
 ghost use Rattle.std.specs.List.{position};
 ghost use Rattle.scc_table.specs.Shelf.{shelf_entries, empty_shelf, with_slot, with_entry, next_place, without_place, HasRoom, HasTag};
 
@@ -162,6 +162,14 @@ impl<E> Bucket<E> {
             overflow,
         } = self;
         (slots, overflow)
+    }
+
+    /// The entries of the slots, and those of the overflow list, to look at.
+    #[inline(always)]
+    pub fn parts(&self) -> (&[E], &[E])
+        ensures { shelf_entries self.now ≡ result.0.now ++ result.1.now }
+    {
+        (self.slots.as_slice(), self.overflow.as_slice())
     }
 
     /// The entry at a place.

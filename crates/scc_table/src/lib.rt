@@ -11,6 +11,7 @@ pub mod sizes;
 pub mod table;
 pub mod tags;
 pub mod verdict;
+pub mod walks;
 
 pub use bucket::Bucket;
 pub use errors::{InsertError, KeyError, MakeError, WalkError};

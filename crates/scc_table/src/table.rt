@@ -1,9 +1,9 @@
 //! An array of buckets, found by the bits of a hash.
 ghost use Rattle.std.specs.Prelude.{◌≡◌, ◌≤◌, ◌<◌, ◌+◌, ◌*◌, ◌^◌, ℕ, [], ◌∷◌, ◌↔◌, length, Some, None, IsTrue, IfOk, OnOk, IfErr, OnErr, MatchOption, slice_get};
-ghost use Rattle.std.specs.List.{position};
+ghost use Rattle.std.specs.List.{flat_map, position};
 ghost use Rattle.scc_table.specs.Contents.{entries, bucket_count, settings_of, minimum_of, key_hash, bucket_of, IsUniqueBy, HasRoomBy};
 ghost use Rattle.scc_table.specs.Places.{IsPlace, IsFoundAt, index_of};
-ghost use Rattle.scc_table.specs.Sizes.{IsArraySize};
+ghost use Rattle.scc_table.specs.Shelf.{shelf_entries};
 
 mod edits;
 mod making;
@@ -115,6 +115,14 @@ where
             Some(slot) => Some(Place { bucket, slot }),
             None => None,
         }
+    }
+
+    /// The buckets, to look at.
+    #[inline(always)]
+    pub(crate) fn buckets(&self) -> &[Bucket<E>]
+        ensures { entries self.now ≡ flat_map shelf_entries result.now }
+    {
+        self.buckets.as_slice()
     }
 
     /// The entry at the place.
