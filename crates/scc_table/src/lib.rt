@@ -4,6 +4,7 @@
 pub mod bucket;
 pub mod errors;
 pub mod keyed;
+pub mod pairs;
 pub mod place;
 pub mod reservation;
 pub mod route;

@@ -1,0 +1,41 @@
+use Rattle.std.proofs.Common.{◌≡◌, Some, None, refl, sym, ap, subst, ◌∙◌, rules, true, false}
+use Rattle.std.specs.Result.{OnOk}
+use Rattle.std.specs.Option.{IsSome}
+use Rattle.scc_table.specs.Contents.{entries, bucket_count, settings_of, key_hash}
+use Rattle.scc_table.specs.Pairs.{find, FindsInstead}
+use Rattle.scc_map.specs.MapSteps.{Inserts}
+use Rattle.scc_map.proofs.Lookups.{find-position, find-position_none, finds-added}
+use Rattle.scc_map.proofs.hash_map.owned.Owned.insert_sync.Goals as goal
+use Rattle.scc_map.proofs.hash_map.owned.Owned.insert_sync.Goals.{in-Ok, in-Err}
+
+pub returns-in-Some-clause-step : goal.returns-in-Some-clause-step
+returns-in-Some-clause-step g c =
+    let f = find-position (g.K.PartialEq.eq c.args.k) (entries c.self.inside.table) _ c.in-Some.ensures.place.found in
+    (refl, rw (← c.self.view_is, f.2) (search rules), record { exact = refl; buckets = refl; settings = refl })
+
+pub returns-in-Some-clause-succeeds : goal.returns-in-Some-clause-succeeds
+returns-in-Some-clause-succeeds g c =
+    let f = find-position (g.K.PartialEq.eq c.args.k) (entries c.self.inside.table) _ c.in-Some.ensures.place.found in
+    λ none room. let here = rw (← c.self.view_is, f.2) at none in cc
+
+pub returns-after-insert_new-clause-step : goal.returns-after-insert_new-clause-step
+returns-after-insert_new-clause-step g c =
+    let none = find-position_none (g.K.PartialEq.eq c.args.k) (entries c.self.inside.table) c.in-None.ensures.place in
+    elim c.match-insert_new.branch [
+      in-Ok w ↦ rw (w.result-is, ← c.self.view_is) (none, w.in-Ok.ensures.ok.holds)
+    | in-Err w ↦ rw (w.result-is, ← c.self.view_is) (w.in-Err.ensures.err.0, none, w.in-Err.ensures.err.1, w.in-Err.ensures.full)
+    ]
+
+pub returns-after-insert_new-clause-succeeds : goal.returns-after-insert_new-clause-succeeds
+returns-after-insert_new-clause-succeeds g c =
+    elim c.match-insert_new.branch [
+      in-Ok w ↦ rw w.result-is (λ none room. refl)
+    | in-Err w ↦ λ none room. absurd (w.in-Err.ensures.full (rw c.self.view_is room))
+    ]
+
+pub returns-after-insert_new-clause-finds : goal.returns-after-insert_new-clause-finds
+returns-after-insert_new-clause-finds g c =
+    elim c.match-insert_new.branch [
+      in-Ok w ↦ rw (w.result-is, ← c.self.view_is) (finds-added g.met.K.Eq.laws (entries c.self.inside.table) (entries c.insert_new.new.self) (c.args.k, c.args.v) w.in-Ok.ensures.ok.holds.same w.in-Ok.ensures.unique)
+    | in-Err w ↦ rw w.result-is tt
+    ]

@@ -1,0 +1,27 @@
+use Rattle.std.proofs.Common.{◌≡◌, Some, None, refl, sym, ap, ◌∙◌, rules}
+use Rattle.scc_table.specs.Contents.{entries}
+use Rattle.scc_table.specs.Pairs.{find, without}
+use Rattle.scc_table.specs.Steps.{Holds}
+use Rattle.scc_map.proofs.Lookups.{find-position, find-position_none, finds-removed}
+use Rattle.scc_map.proofs.Splits.{without-at}
+use Rattle.scc_map.proofs.hash_map.owned.Owned.remove_sync.Goals as goal
+
+pub returns-in-Some-clause-step : goal.returns-in-Some-clause-step
+returns-in-Some-clause-step g c =
+    let es = entries c.self.inside.table in
+    let f = find-position (g.K.PartialEq.eq c.args.k.now) es _ c.in-Some.ensures.place.found in
+    let h = c.remove_at.ensures.others in
+    rw (← c.self.view_is) (
+      f.2 ∙ sym f.1 ∙ c.remove_at.ensures.entry,
+      record { same = rw (without-at g.met.K.Eq.laws c.args.k.now es _ c.in-Some.ensures.unique f) h.same; size = h.size; settings = h.settings }
+    )
+
+pub returns-in-Some-clause-finds : goal.returns-in-Some-clause-finds
+returns-in-Some-clause-finds g c =
+    let es = entries c.self.inside.table in
+    let f = find-position (g.K.PartialEq.eq c.args.k.now) es _ c.in-Some.ensures.place.found in
+    rw (← c.self.view_is) (finds-removed g.met.K.Eq.laws es _ c.args.k.now _ c.remove_at.ensures.others.same c.in-Some.ensures.unique f)
+
+pub returns-in-None-clause-step : goal.returns-in-None-clause-step
+returns-in-None-clause-step g c =
+    rw (← c.self.view_is) (find-position_none (g.K.PartialEq.eq c.args.k.now) (entries c.self.inside.table) c.in-None.ensures.place, record { exact = refl; buckets = refl; settings = refl })

@@ -1,0 +1,177 @@
+//! The map for one owner: every call that changes it takes `&mut self`.
+ghost use Rattle.std.specs.Prelude.{◌≡◌, ◌<◌, ◌*◌, ◌↔◌, List, [], length, Some, None, IsTrue, IsSome, IsOk, IfOk, OnOk, OnSome, ◌==◌};
+ghost use Rattle.std.specs.Borrow.{Bor};
+ghost use Rattle.std.specs.List.Sorted.{IsPermutation};
+ghost use Rattle.scc_table.specs.Contents.{entries, bucket_count, settings_of, key_hash};
+ghost use Rattle.scc_table.specs.Pairs.{find, FindsInstead, HasRoom, IsUnique};
+ghost use Rattle.scc_table.specs.Sizes.{IsArraySize};
+ghost use Rattle.scc_table.specs.Walks.{CalledOn, Walks};
+ghost use Rattle.scc_map.specs.Closures.{Reads};
+ghost use Rattle.scc_map.specs.MapSteps.{Inserts, Removes};
+
+use scc_table::{InsertError, MakeError, Table};
+use std::alloc::Global;
+use std::hash::{BuildHasher, BuildHasherDefault, FoldHasher, Hash};
+use std::marker::Model;
+
+/// A map from keys to values, no two keys equal. A contract sees its pairs in the map's own order as `entries m`, the number of its buckets as `bucket_count m`, and its hasher and sizes as `settings_of m`.
+///
+/// The default hasher has a fixed seed. For keys that an attacker picks, write `Owned::with_hasher(alloc, RandomState::new(&rt)?)`.
+#[derive(Drop)]
+pub struct Owned<K: Eq + Hash, V, H: BuildHasher = BuildHasherDefault<FoldHasher>> {
+    pub(crate) table: Table<(K, V), H>,
+}
+
+impl<K: Eq + Hash, V, H: BuildHasher> Model for Owned<K, V, H> {
+    ghost use Rattle.scc_table.specs.Contents.{Contents};
+
+    ghost Value = { Contents (K × V) H };
+
+    ghost view = { λ m. m.table };
+}
+
+impl<K: Eq + Hash, V> Owned<K, V> {
+    /// An empty map without an array. It takes no memory.
+    pub fn new(alloc: Global) -> Self
+        ensures entries { entries result ≡ [] }
+        ensures buckets { bucket_count result ≡ 0 }
+    {
+        Owned::with_hasher(alloc, BuildHasherDefault::new())
+    }
+
+    /// An empty map with an array for at least so many pairs at one a slot, by the rules of `with_capacity_and_hasher`.
+    pub fn with_capacity(alloc: Global, capacity: usize) -> Result<Self, MakeError>
+        ensures entries { IfOk result (λ m. entries m ≡ []) }
+        ensures none { IfOk result (λ m. capacity ≡ 0 → bucket_count m ≡ 0) }
+        ensures size { IfOk result (λ m. 0 < capacity → IsArraySize capacity (32 * bucket_count m)) }
+        ensures succeeds { capacity ≡ 0 → IsOk result }
+    {
+        Owned::with_capacity_and_hasher(alloc, capacity, BuildHasherDefault::new())
+    }
+}
+
+impl<K: Eq + Hash, V, H: BuildHasher> Owned<K, V, H> {
+    /// An empty map without an array. It takes no memory.
+    pub fn with_hasher(alloc: Global, hasher: H) -> Self
+        ensures entries { entries result ≡ [] }
+        ensures buckets { bucket_count result ≡ 0 }
+        ensures settings { settings_of result ≡ record { hasher = hasher; skipped = 0; asked = 0; reserved = 0 } }
+    {
+        Owned {
+            table: Table::new(alloc, 0, hasher),
+        }
+    }
+
+    /// An empty map with an array of the least power of two of slots that is at least `capacity` and at least 64; without an array for 0. These slots are then its minimum. A size that can't be had is refused.
+    pub fn with_capacity_and_hasher(
+        alloc: Global,
+        capacity: usize,
+        hasher: H,
+    ) -> Result<Self, MakeError>
+    where
+        H: Drop,
+        ensures entries { IfOk result (λ m. entries m ≡ []) }
+        ensures none { IfOk result (λ m. capacity ≡ 0 → bucket_count m ≡ 0) }
+        ensures size { IfOk result (λ m. 0 < capacity → IsArraySize capacity (32 * bucket_count m)) }
+        ensures settings { IfOk result (λ m. settings_of m ≡ record { hasher = hasher; skipped = 0; asked = 32 * bucket_count m; reserved = 0 }) }
+        ensures succeeds { capacity ≡ 0 → IsOk result }
+    {
+        match Table::with_capacity(alloc, 0, capacity, hasher) {
+            Ok(table) => Ok(Owned { table }),
+            Err(e) => Err(e),
+        }
+    }
+
+    /// The number of pairs.
+    pub fn len(&self) -> usize
+        ensures len { result ≡ length (entries self.now) }
+        ensures unique { IsUnique K.eq self.now }
+    {
+        self.table.len()
+    }
+
+    /// Whether there is no pair.
+    pub fn is_empty(&self) -> bool
+        ensures { IsTrue result ↔ (entries self.now ≡ []) }
+    {
+        self.table.len() == 0
+    }
+
+    /// The slots of the array, 32 a bucket; 0 without an array. It is no bound on the number of pairs.
+    pub fn capacity(&self) -> usize
+        ensures { result ≡ 32 * bucket_count self.now }
+    {
+        32 * self.table.bucket_count()
+    }
+
+    /// Whether there is an array and the bucket of `k` holds fewer than 32 pairs. An insertion of `k` then takes no memory and can't be refused.
+    pub fn has_room(&self, k: &K) -> bool
+        ensures { IsTrue result ↔ HasRoom (key_hash H.BuildHasher H.Hasher.Hasher K.hash_input self.now) self.now k.now }
+    {
+        self.table.has_room(k)
+    }
+
+    /// Whether a key equals `k`.
+    pub fn contains_sync(&self, k: &K) -> bool
+        ensures { IsTrue result ↔ IsSome (find K.eq (entries self.now) k.now) }
+    {
+        let hash = self.table.hash(k);
+        match self.table.search(hash, k) {
+            Some(_) => true,
+            None => false,
+        }
+    }
+
+    /// The answer of `f` on the pair of `k`, or None where there is none; then `f` isn't called.
+    pub fn read_sync<R, F: FnOnce(&K, &V) -> R>(&self, k: &K, f: F) -> Option<R>
+        requires { (a : Bor K) (b : Bor V) → find K.eq (entries self.now) k.now ≡ Some (a.now, b.now) → F.pre f a b }
+        ensures answer { Reads F.FnOnce f (find K.eq (entries self.now) k.now) result }
+    {
+        let hash = self.table.hash(k);
+        match self.table.search(hash, k) {
+            Some(place) => {
+                let (key, value) = self.table.pair_at(place);
+                Some(f(key, value))
+            }
+            None => None,
+        }
+    }
+
+    /// Inserts the pair where no key equals `k`. Where one does, the map stays as it is, and the supplied pair comes back; so it does where a growth that the insertion needs is refused.
+    pub fn insert_sync(&mut self, k: K, v: V) -> Result<(), InsertError<K, V>>
+        ensures step { Inserts K.eq (key_hash H.BuildHasher H.Hasher.Hasher K.hash_input self.old) self.old (k, v) result self.new }
+        ensures succeeds { find K.eq (entries self.old) k ≡ None → HasRoom (key_hash H.BuildHasher H.Hasher.Hasher K.hash_input self.old) self.old k → IsOk result }
+        ensures finds { OnOk result (FindsInstead K.eq (entries self.old) k (Some (k, v)) (entries self.new)) }
+        ensures unique { IsUnique K.eq self.new }
+    {
+        let hash = self.table.hash(&k);
+        match self.table.search(hash, &k) {
+            Some(_) => Err(InsertError::Exists((k, v))),
+            None => match self.table.insert_new(hash, (k, v)) {
+                Ok(_) => Ok(()),
+                Err(pair) => Err(InsertError::Memory(pair)),
+            },
+        }
+    }
+
+    /// Takes out the pair whose key equals `k`, and answers it.
+    pub fn remove_sync(&mut self, k: &K) -> Option<(K, V)>
+        ensures step { Removes K.eq self.old k.now result self.new }
+        ensures finds { OnSome result (FindsInstead K.eq (entries self.old) k.now None (entries self.new)) }
+        ensures unique { IsUnique K.eq self.new }
+    {
+        let hash = self.table.hash(k);
+        match self.table.search(hash, k) {
+            Some(place) => Some(self.table.remove_at(place)),
+            None => None,
+        }
+    }
+
+    /// Calls `f` on the pairs in some order, each at most once, until its first false, and answers false where it stopped.
+    pub fn iter_sync<F: FnMut(&K, &V) -> bool>(&self, f: F) -> bool
+        requires { F.IsAlwaysCallable f }
+        ensures { (es : List (K × V)) × (last : F) × IsPermutation (entries self.now) es × Walks (CalledOn F.FnMut) f es result last }
+    {
+        self.table.walk(f)
+    }
+}

@@ -1,0 +1,20 @@
+//! What a table of pairs can do beside: lend a key and a value.
+ghost use Rattle.std.specs.Prelude.{◌≡◌, Some, slice_get};
+ghost use Rattle.scc_table.specs.Contents.{entries};
+ghost use Rattle.scc_table.specs.Places.{IsPlace, index_of};
+
+use crate::place::Place;
+use crate::table::Table;
+use std::hash::{BuildHasher, Hash};
+
+impl<K: Eq + Hash, V, H: BuildHasher> Table<(K, V), H> {
+    /// The key and the value at the place.
+    #[inline(always)]
+    pub fn pair_at(&self, place: Place) -> (&K, &V)
+        requires { IsPlace self.now place }
+        ensures { slice_get (entries self.now) (index_of self.now place) ≡ Some (result.0.now, result.1.now) }
+    {
+        let pair = self.entry_at(place);
+        (&pair.0, &pair.1)
+    }
+}
