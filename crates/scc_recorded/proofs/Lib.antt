@@ -1,0 +1,4 @@
+mod MapCalls
+pub mod MapRuns
+mod Runs
+mod States

@@ -1,0 +1,28 @@
+-- The calls of a map as calls on its state.
+use Rattle.std.proofs.Common.{◌≡◌, ℕ, Bool, ◌∷◌, Option, None, Some, Ok, refl, ap}
+use Rattle.scc_table.specs.Contents.{Contents, entries, settings_of}
+use Rattle.scc_table.specs.Pairs.{without}
+use Rattle.scc_map.specs.MapSteps.{Inserts, Removes}
+use Rattle.scc_recorded.specs.Changes.{Changes}
+use Rattle.scc_recorded.specs.States.{ResizesTo, state_of, setting_of, setting_by}
+use Rattle.scc_recorded.specs.MapCalls.{MapMoves}
+use Rattle.scc_recorded.specs.declared.recorded.calls_as_values.MapCall.TheVariants.{Insert, Remove}
+use Rattle.scc_recorded.specs.declared.recorded.replies.Reply.TheVariants.{Inserted, Pair}
+use Rattle.scc_recorded.proofs.States.{holds-changes, unchanged-changes}
+
+module _ {K V H : Type 0} (eq : K → K → Bool) (hash : H → K → ℕ) (c d : Contents (K × V) H) where
+  -- an insertion of a new key
+  pub inserted : (k : K) (v : V) (u : Unit {0}) → Inserts eq (hash (settings_of c).hasher) c (k, v) (Ok u) d
+      → Changes (λ s. s.1) (MapMoves eq) (ResizesTo (setting_of c)) (state_of c) (Insert k v) Inserted (state_of d)
+  inserted k v u h = holds-changes (MapMoves eq) (Insert k v) Inserted c d ((k, v) ∷ entries c) h.1 (λ number l p. (h.0, p, refl))
+
+module _ {K V H : Type 0} (eq : K → K → Bool) (c d : Contents (K × V) H) where
+  -- a removal
+  pub removed : (k : K) (o : Option (K × V)) → Removes eq c k o d
+      → Changes (λ s. s.1) (MapMoves eq) (ResizesTo (setting_of c)) (state_of c) (Remove k) (Pair o) (state_of d)
+  removed k None h = unchanged-changes (MapMoves eq) (Remove k) (Pair None) c d h.1 (λ e. (h.0, e))
+  removed k (Some p) h = holds-changes (MapMoves eq) (Remove k) (Pair (Some p)) c d (without eq (entries c) k) h.1 (λ number l q. (h.0, q, refl))
+
+  pub removed-setting : (k : K) (o : Option (K × V)) → Removes eq c k o d → setting_of d ≡ setting_of c
+  removed-setting k None h = ap setting_by h.1.settings
+  removed-setting k (Some p) h = ap setting_by h.1.settings

@@ -1,0 +1,15 @@
+use Rattle.std.proofs.Common.{sym}
+use Rattle.scc_table.specs.Hashing.{hash_of}
+use Rattle.scc_recorded.proofs.MapCalls.{inserted, removed, removed-setting}
+use Rattle.scc_recorded.proofs.recorded.map_calls.OwnedCalls.call.Goals as goal
+
+pub returns-in-Ok-clause-ok : goal.returns-in-Ok-clause-ok
+returns-in-Ok-clause-ok g c =
+    rw c.in-Insert.is (inserted g.K.PartialEq.eq (λ h k. hash_of g.H.BuildHasher g.H.Hasher.Hasher h (g.K.Hash.hash_input k)) c.args.self.now c.insert_sync.new.self c.in-Insert.k c.in-Insert.v c.in-Ok.field-0 c.in-Ok.ensures.step)
+
+pub returns-in-Remove-clause-ok : goal.returns-in-Remove-clause-ok
+returns-in-Remove-clause-ok g c =
+    rw c.in-Remove.is (removed g.K.PartialEq.eq c.args.self.now c.remove_sync.new.self c.in-Remove.k c.remove_sync.result c.remove_sync.ensures.step)
+
+pub returns-in-Remove-clause-setting : goal.returns-in-Remove-clause-setting
+returns-in-Remove-clause-setting g c = removed-setting g.K.PartialEq.eq c.args.self.now c.remove_sync.new.self c.in-Remove.k c.remove_sync.result c.remove_sync.ensures.step

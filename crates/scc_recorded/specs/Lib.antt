@@ -1,0 +1,9 @@
+pub use Rattle.scc_table.specs.Contents
+pub use Rattle.scc_table.specs.Hashing
+pub use Rattle.scc_table.specs.Pairs
+pub use Rattle.scc_table.specs.Routing
+pub use Rattle.scc_table.specs.Sizes
+pub mod Changes
+pub mod MapCalls
+pub mod Run
+pub mod States

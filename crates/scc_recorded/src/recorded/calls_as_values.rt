@@ -1,0 +1,18 @@
+//! The calls of each kind of container as values.
+
+use std::fmt::Debug;
+
+/// A call of a map.
+#[derive(Clone, Copy, Debug, PartialEq)]
+pub enum MapCall<K, V> {
+    /// `insert_sync`. The reply is [`Reply::Inserted`], or [`Reply::Exists`] with the supplied pair.
+    Insert(K, V),
+    /// `read_sync` of the value. The reply is [`Reply::Value`].
+    Read(K),
+    /// `contains_sync`. The reply is [`Reply::Has`].
+    Contains(K),
+    /// `remove_sync`. The reply is [`Reply::Pair`].
+    Remove(K),
+    /// `len`. The reply is [`Reply::Count`].
+    Len,
+}

@@ -1,0 +1,67 @@
+//! The calls of the owned map as values.
+
+use crate::recorded::{Calls, MapCall, Refused, Reply};
+use scc_map::hash_map::Owned;
+use scc_table::InsertError;
+use std::hash::{BuildHasher, Hash};
+
+impl<K: Eq + Hash + Copy, V: Copy + PartialEq, H: BuildHasher> Calls for Owned<K, V, H> {
+    type Key = K;
+
+    type Hasher = H;
+
+    type Call = MapCall<K, V>;
+
+    type Reply = Reply<K, V>;
+
+    ghost use Rattle.std.specs.Map.{keys_of};
+    ghost use Rattle.scc_table.specs.Hashing.{hash_of};
+    ghost use Rattle.scc_recorded.specs.MapCalls.{map_key, MapMoves, MapMayRefuse};
+    ghost use Rattle.scc_recorded.specs.States.{State, state_of, setting_of, ResizesTo};
+
+    ghost State = { State (K × V) };
+
+    ghost setting = { setting_of };
+
+    ghost state = { state_of };
+
+    ghost size = { λ s. s.1 };
+
+    ghost keys = { λ s. keys_of s.0 };
+
+    ghost key_of = { map_key };
+
+    ghost moves = { λ _. MapMoves K.eq };
+
+    ghost resizes = { ResizesTo };
+
+    ghost may_refuse = { MapMayRefuse K.eq (λ h k. hash_of H.BuildHasher H.Hasher.Hasher h (K.hash_input k)) };
+
+    fn key(call: &MapCall<K, V>) -> Option<&K> {
+        match call {
+            MapCall::Insert(k, _) => Some(k),
+            MapCall::Read(k) => Some(k),
+            MapCall::Contains(k) => Some(k),
+            MapCall::Remove(k) => Some(k),
+            MapCall::Len => None,
+        }
+    }
+
+    fn call(&mut self, call: MapCall<K, V>) -> Result<Reply<K, V>, Refused> {
+        match call {
+            MapCall::Insert(k, v) => match self.insert_sync(k, v) {
+                Ok(()) => Ok(Reply::Inserted),
+                Err(InsertError::Exists((k, v))) => Ok(Reply::Exists(k, v)),
+                Err(InsertError::Memory(_)) => Err(Refused),
+            },
+            MapCall::Read(k) => Ok(Reply::Value(self.read_sync(&k, |_, v| *v))),
+            MapCall::Contains(k) => Ok(Reply::Has(self.contains_sync(&k))),
+            MapCall::Remove(k) => Ok(Reply::Pair(self.remove_sync(&k))),
+            MapCall::Len => Ok(Reply::Count(self.len())),
+        }
+    }
+
+    fn buckets(&self) -> usize {
+        self.capacity() / 32
+    }
+}
