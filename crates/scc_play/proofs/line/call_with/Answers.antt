@@ -1,0 +1,6 @@
+use Rattle.std.proofs.Common.{arith}
+use Rattle.scc_play.proofs.Extras.{no_third_argument}
+use Rattle.scc_play.proofs.line.call_with.Goals as goal
+
+pub returns-in-Some-cut_at : goal.returns-in-Some-cut_at
+returns-in-Some-cut_at c = grind (arith, no_third_argument)

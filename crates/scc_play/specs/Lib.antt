@@ -1,0 +1,4 @@
+pub mod Grammar
+pub mod Scripts
+pub mod Hashes
+pub mod Endings

@@ -1,0 +1,16 @@
+//! Runs a script of calls over an owned map.
+//!
+//! [`play::play`] reads a whole script, checks every line, makes the calls and writes the replies, the contents and
+//! the number of calls.
+#![tactic(auto)]
+
+pub mod fields;
+pub mod line;
+pub mod lines;
+pub mod number;
+pub mod play;
+pub mod same;
+pub mod script;
+#[cfg(test)]
+mod tests;
+pub mod texts;
