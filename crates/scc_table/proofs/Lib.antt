@@ -9,3 +9,5 @@ pub mod Search
 pub mod Spots
 pub mod Views
 pub mod WalkLemmas
+pub mod Writing
+pub mod WritingTables

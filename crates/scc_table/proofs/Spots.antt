@@ -21,12 +21,12 @@ get-is [] i x d e = absurd (let n : None ≡ Some x = e in cc)
 get-is (y ∷ xs) zero x d e = let s : y ≡ x = cc in sym s
 get-is (y ∷ xs) (suc i) x d e = get-is xs i x d e
 
-get-left : {X : Type 0} (xs ys : List X) (i : ℕ) (x : X) → slice_get xs i ≡ Some x → slice_get (xs ++ ys) i ≡ Some x
+pub get-left : {X : Type 0} (xs ys : List X) (i : ℕ) (x : X) → slice_get xs i ≡ Some x → slice_get (xs ++ ys) i ≡ Some x
 get-left [] ys i x e = absurd (let n : None ≡ Some x = e in cc)
 get-left (y ∷ xs) ys zero x e = e
 get-left (y ∷ xs) ys (suc i) x e = get-left xs ys i x e
 
-get-right : {X : Type 0} (xs ys : List X) (i : ℕ) → slice_get (xs ++ ys) (length xs + i) ≡ slice_get ys i
+pub get-right : {X : Type 0} (xs ys : List X) (i : ℕ) → slice_get (xs ++ ys) (length xs + i) ≡ slice_get ys i
 get-right [] ys i = let z : 0 + i ≡ i = omega arith in ap (slice_get ys) z
 get-right (x ∷ xs) ys i = let z : suc (length xs) + i ≡ suc (length xs + i) = omega arith in ap (slice_get (x ∷ (xs ++ ys))) z ∙ get-right xs ys i
 

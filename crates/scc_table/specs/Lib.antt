@@ -1,5 +1,7 @@
 pub mod Contents
 pub mod Hashing
+pub mod LendsBucket
+pub mod LendsTable
 pub mod Pairs
 pub mod Places
 pub mod Routing
@@ -8,3 +10,4 @@ pub mod Sizes
 pub mod Steps
 pub mod Tables
 pub mod Walks
+pub mod Writes

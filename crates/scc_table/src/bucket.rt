@@ -3,6 +3,8 @@ ghost use Rattle.std.specs.Prelude.{◌≡◌, ◌≤◌, ◌<◌, ◌+◌, ◌^
 ghost use Rattle.std.specs.List.{position};
 ghost use Rattle.scc_table.specs.Shelf.{shelf_entries, empty_shelf, with_slot, with_entry, next_place, without_place, HasRoom, HasTag};
 
+mod writes;
+
 use crate::keyed::Keyed;
 use crate::tags::{lowest_bit, tag_mask, without_lowest_bit};
 use std::alloc::{AllocError, Global};

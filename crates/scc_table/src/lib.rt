@@ -11,6 +11,7 @@ pub mod route;
 pub mod sizes;
 pub mod table;
 pub mod tags;
+pub mod valued;
 pub mod verdict;
 pub mod walks;
 
@@ -20,4 +21,5 @@ pub use keyed::Keyed;
 pub use place::Place;
 pub use reservation::Reservation;
 pub use table::Table;
+pub use valued::Valued;
 pub use verdict::Verdict;

@@ -1,0 +1,57 @@
+use Rattle.std.proofs.Common.{◌≡◌, ◌<◌, ℕ, length, refl, sym, ap, subst, ◌∙◌, rules, true, set}
+use Rattle.std.specs.List.{IsDistinct, slice_get}
+use Rattle.scc_table.specs.Contents.{entries, list_of}
+use Rattle.scc_table.specs.Hashing.{hash_of}
+use Rattle.scc_table.specs.Places.{index_of}
+use Rattle.scc_table.specs.Shelf.{Shelf, shelf_entries}
+use Rattle.scc_table.specs.Writes.{shelf_write_at, with_write_at}
+use Rattle.scc_table.proofs.Spots.{place-get}
+use Rattle.scc_table.proofs.Views.{count-view, list-view, entries-view}
+use Rattle.scc_table.proofs.WritingTables.{written-table, written-view, written-unique}
+use Rattle.scc_table.proofs.table.Table.parts_mut_at.Goals as goal
+
+pub index_mut-bucket-requires : goal.index_mut-bucket-requires
+index_mut-bucket-requires g c =
+    let t = c.self.inside in
+    let bs = t.buckets.items in
+    let count = count-view bs _ c.args.self.now c.self.view_is in
+    let l : c.args.place.bucket < length bs = rw count at c.requires.bucket in
+    search rules
+
+pub parts_mut_at-requires : goal.parts_mut_at-requires
+parts_mut_at-requires g c =
+    let t = c.self.inside in
+    let bs = t.buckets.items in
+    let count = count-view bs _ c.args.self.now c.self.view_is in
+    let l : c.args.place.bucket < length bs = rw count at c.requires.bucket in
+    let b = c.index_mut-bucket.result.now in
+    let here = list-view bs _ c.args.self.now c.self.view_is c.args.place.bucket b l c.index_mut-bucket.ensures.value in
+    rw here at c.requires.slot
+
+pub invariant_of-self-lent : goal.invariant_of-self-lent
+invariant_of-self-lent g c = λ w.
+    let t = c.self.inside in
+    let bs = t.buckets.items in
+    let count = count-view bs _ c.args.self.now c.self.view_is in
+    let l : c.args.place.bucket < length bs = rw count at c.requires.bucket in
+    let b = c.index_mut-bucket.result.now in
+    let here = list-view bs _ c.args.self.now c.self.view_is c.args.place.bucket b l c.index_mut-bucket.ensures.value in
+    let x = c.parts_mut_at.ensures.parts in
+    let same = g.met.E.Valued.value_keeps_key x.0 w in
+    record {
+      table = written-table g.E.Valued.with_value (λ e. hash_of g.H.BuildHasher g.H.Hasher.Hasher c.self.inside.hasher (g.E.Key.Hash.hash_input (g.E.Keyed.key_of e))) t.skipped t.length t.overflowing c.args.place bs c.self.invariant.table _ c.args.self.now c.self.view_is b l c.index_mut-bucket.ensures.value x.0 x.1 w (ap (λ k. hash_of g.H.BuildHasher g.H.Hasher.Hasher t.hasher (g.E.Key.Hash.hash_input k)) same);
+      few_bits = c.self.invariant.few_bits;
+      small_minimum = c.self.invariant.small_minimum;
+      unique = written-unique g.E.Valued.with_value (λ e. hash_of g.H.BuildHasher g.H.Hasher.Hasher c.self.inside.hasher (g.E.Key.Hash.hash_input (g.E.Keyed.key_of e))) t.skipped t.length t.overflowing c.args.place bs c.self.invariant.table _ c.args.self.now c.self.view_is b l c.index_mut-bucket.ensures.value x.0 x.1 w c.requires (rw here x.1) g.met.E.Key.Eq.laws g.E.Keyed.key_of (ap (λ k. g.E.Key.PartialEq.eq k (g.E.Keyed.key_of x.0)) same ∙ g.met.E.Key.Eq.laws.refl (g.E.Keyed.key_of x.0)) c.self.invariant.unique;
+    }
+
+pub returns : goal.returns
+returns g c =
+    let t = c.self.inside in
+    let bs = t.buckets.items in
+    let count = count-view bs _ c.args.self.now c.self.view_is in
+    let l : c.args.place.bucket < length bs = rw count at c.requires.bucket in
+    let b = c.index_mut-bucket.result.now in
+    let here = list-view bs _ c.args.self.now c.self.view_is c.args.place.bucket b l c.index_mut-bucket.ensures.value in
+    let x = c.parts_mut_at.ensures.parts in
+    ((refl, λ w. written-view g.E.Valued.with_value (λ e. hash_of g.H.BuildHasher g.H.Hasher.Hasher c.self.inside.hasher (g.E.Key.Hash.hash_input (g.E.Keyed.key_of e))) t.skipped t.length t.overflowing c.args.place bs c.self.invariant.table _ c.args.self.now c.self.view_is b l c.index_mut-bucket.ensures.value x.0 x.1 w), record { writes_back = tt; parts = (x.0, place-get c.args.self.now c.args.place c.requires x.0 (rw here x.1), c.parts_mut_at.ensures.parts.2, c.parts_mut_at.ensures.parts.3) })

@@ -1,0 +1,70 @@
+use Rattle.std.proofs.Common.{◌≡◌, ◌<◌, ℕ, length, refl, sym, ap, subst, ◌∙◌, rules, true, set}
+use Rattle.std.specs.List.{IsDistinct, slice_get}
+use Rattle.scc_table.specs.Contents.{entries, list_of}
+use Rattle.scc_table.specs.Hashing.{hash_of}
+use Rattle.scc_table.specs.Places.{index_of}
+use Rattle.scc_table.specs.Shelf.{Shelf, shelf_entries}
+use Rattle.scc_table.specs.Writes.{shelf_write_at, with_write_at}
+use Rattle.scc_table.proofs.Spots.{place-get}
+use Rattle.scc_table.proofs.Views.{count-view, list-view, entries-view}
+use Rattle.scc_table.proofs.WritingTables.{written-table, written-view, written-unique}
+use Rattle.scc_table.proofs.table.Table.replace_key_at.Goals as goal
+
+pub index_mut-requires : goal.index_mut-requires
+index_mut-requires g c =
+    let t = c.self.inside in
+    let bs = t.buckets.items in
+    let count = count-view bs _ c.args.self.now c.self.view_is in
+    let l : c.args.place.bucket < length bs = rw count at c.requires.within.bucket in
+    search rules
+
+pub replace_key_at-requires : goal.replace_key_at-requires
+replace_key_at-requires g c =
+    let t = c.self.inside in
+    let bs = t.buckets.items in
+    let count = count-view bs _ c.args.self.now c.self.view_is in
+    let l : c.args.place.bucket < length bs = rw count at c.requires.within.bucket in
+    let b = c.index_mut.result.now in
+    let here = list-view bs _ c.args.self.now c.self.view_is c.args.place.bucket b l c.index_mut.ensures.value in
+    rw here at c.requires.within.slot
+
+pub invariant_of-self : goal.invariant_of-self
+invariant_of-self g c =
+    let t = c.self.inside in
+    let bs = t.buckets.items in
+    let count = count-view bs _ c.args.self.now c.self.view_is in
+    let l : c.args.place.bucket < length bs = rw count at c.requires.within.bucket in
+    let b = c.index_mut.result.now in
+    let here = list-view bs _ c.args.self.now c.self.view_is c.args.place.bucket b l c.index_mut.ensures.value in
+    let x = c.replace_key_at.ensures.old in
+    let got = place-get c.args.self.now c.args.place c.requires.within x.0 (rw here x.1) in
+    let equal = c.requires.same x.0 got in
+    let new = g.met.E.Valued.key_is x.0 c.args.key in
+    rw c.replace_key_at.ensures.new record {
+      table = written-table g.E.Valued.with_key (λ e. hash_of g.H.BuildHasher g.H.Hasher.Hasher c.self.inside.hasher (g.E.Key.Hash.hash_input (g.E.Keyed.key_of e))) t.skipped t.length t.overflowing c.args.place bs c.self.invariant.table _ c.args.self.now c.self.view_is b l c.index_mut.ensures.value x.0 x.1 c.args.key (ap (hash_of g.H.BuildHasher g.H.Hasher.Hasher t.hasher) (ap g.E.Key.Hash.hash_input new ∙ g.met.E.Key.Hash.respects_eq c.args.key (g.E.Keyed.key_of x.0) equal));
+      few_bits = c.self.invariant.few_bits;
+      small_minimum = c.self.invariant.small_minimum;
+      unique = written-unique g.E.Valued.with_key (λ e. hash_of g.H.BuildHasher g.H.Hasher.Hasher c.self.inside.hasher (g.E.Key.Hash.hash_input (g.E.Keyed.key_of e))) t.skipped t.length t.overflowing c.args.place bs c.self.invariant.table _ c.args.self.now c.self.view_is b l c.index_mut.ensures.value x.0 x.1 c.args.key c.requires.within (rw here x.1) g.met.E.Key.Eq.laws g.E.Keyed.key_of (ap (λ k. g.E.Key.PartialEq.eq k (g.E.Keyed.key_of x.0)) new ∙ equal) c.self.invariant.unique;
+    }
+
+pub returns-clause-old : goal.returns-clause-old
+returns-clause-old g c =
+    let t = c.self.inside in
+    let bs = t.buckets.items in
+    let count = count-view bs _ c.args.self.now c.self.view_is in
+    let l : c.args.place.bucket < length bs = rw count at c.requires.within.bucket in
+    let b = c.index_mut.result.now in
+    let here = list-view bs _ c.args.self.now c.self.view_is c.args.place.bucket b l c.index_mut.ensures.value in
+    let x = c.replace_key_at.ensures.old in
+    (x.0, place-get c.args.self.now c.args.place c.requires.within x.0 (rw here x.1), x.2)
+
+pub returns-clause-new : goal.returns-clause-new
+returns-clause-new g c =
+    let t = c.self.inside in
+    let bs = t.buckets.items in
+    let count = count-view bs _ c.args.self.now c.self.view_is in
+    let l : c.args.place.bucket < length bs = rw count at c.requires.within.bucket in
+    let b = c.index_mut.result.now in
+    let here = list-view bs _ c.args.self.now c.self.view_is c.args.place.bucket b l c.index_mut.ensures.value in
+    let x = c.replace_key_at.ensures.old in
+    rw c.replace_key_at.ensures.new (written-view g.E.Valued.with_key (λ e. hash_of g.H.BuildHasher g.H.Hasher.Hasher c.self.inside.hasher (g.E.Key.Hash.hash_input (g.E.Keyed.key_of e))) t.skipped t.length t.overflowing c.args.place bs c.self.invariant.table _ c.args.self.now c.self.view_is b l c.index_mut.ensures.value x.0 x.1 c.args.key)

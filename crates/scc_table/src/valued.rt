@@ -1,0 +1,66 @@
+//! Entries whose value may be written, and whose key may be replaced by an equal one.
+ghost use Rattle.std.specs.Prelude.{◌≡◌};
+ghost use Rattle.std.specs.Borrow.{sem, Lends};
+
+use crate::keyed::Keyed;
+
+/// An entry with a value beside its key.
+pub trait Valued: Keyed {
+    type Value;
+
+    ghost value_of: { Self → Self.Value };
+
+    // The entry with that value.
+    ghost with_value: { Self → Self.Value → Self };
+
+    // The entry with that key.
+    ghost with_key: { Self → Self.Key → Self };
+
+    fn value_mut(&mut self) -> &mut Self::Value
+        ensures* writes_back { sem 𝓛 (Lends Self.row Self.Value.row self.entry result (with_value self.old)) }
+        ensures value { result.now ≡ value_of self.old };
+
+    fn parts_mut(&mut self) -> (&Self::Key, &mut Self::Value)
+        ensures* writes_back { sem 𝓛 (Lends Self.row Self.Value.row self.entry result.1 (with_value self.old)) }
+        ensures key { result.0.now ≡ Self.key_of self.old }
+        ensures value { result.1.now ≡ value_of self.old };
+
+    fn replace_key(&mut self, key: Self::Key) -> Self::Key
+        ensures old { result ≡ Self.key_of self.old }
+        ensures new { self.new ≡ with_key self.old key };
+
+    ghost value_keeps_key: { (e : Self) (v : Self.Value) → Self.key_of (with_value e v) ≡ Self.key_of e };
+
+    ghost key_is: { (e : Self) (k : Self.Key) → Self.key_of (with_key e k) ≡ k };
+}
+
+impl<K, V> Valued for (K, V) {
+    type Value = V;
+
+    ghost use Rattle.std.specs.Prelude.{refl};
+
+    ghost value_of = { λ e. e.1 };
+
+    ghost with_value = { λ e v. (e.0, v) };
+
+    ghost with_key = { λ e k. (k, e.1) };
+
+    #[inline(always)]
+    fn value_mut(&mut self) -> &mut V {
+        &mut self.1
+    }
+
+    #[inline(always)]
+    fn parts_mut(&mut self) -> (&K, &mut V) {
+        (&self.0, &mut self.1)
+    }
+
+    #[inline(always)]
+    fn replace_key(&mut self, key: K) -> K {
+        std::mem::replace(&mut self.0, key)
+    }
+
+    ghost value_keeps_key = { λ e v. refl };
+
+    ghost key_is = { λ e k. refl };
+}
