@@ -1,3 +1,4 @@
 pub mod Lookups
+pub mod MapWrites
 pub mod PairWrites
 pub mod Splits

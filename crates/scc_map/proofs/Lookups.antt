@@ -114,3 +114,13 @@ module _ {K V : Type 0} {eq : K → K → Bool} (laws : IsEquivalence eq) where
         find-IsPermutation (remove es i) d q perm (distinct-without laws es i u)
         ∙ ap (lookup_entry (eq q)) (sym (without-at laws k es i u f)) ∙ find-without es k q u
   }
+
+map_suc_none : (o : Option ℕ) → o ≡ None → option_map suc o ≡ None
+map_suc_none o e = ap (option_map suc) e
+
+-- a key that a look-up misses is at no place
+pub position-find_none : {K V : Type 0} (t : K → Bool) (es : List (K × V)) → lookup_entry t es ≡ None → position (λ e. t e.0) es ≡ None
+position-find_none t [] n = refl
+position-find_none {K} {V} t (x ∷ es) n = by_answer (t x.0)
+      (λ y. absurd (let z : Some x ≡ None = sym (cond-true (Some x) (lookup_entry t es) y) ∙ n in cc))
+      (λ y. position_cons (λ (e : K × V). t e.0) x es y ∙ map_suc_none (position (λ (e : K × V). t e.0) es) (position-find_none t es (sym (cond-false (Some x) (lookup_entry t es) y) ∙ n)))

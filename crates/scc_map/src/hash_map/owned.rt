@@ -1,15 +1,24 @@
 //! The map for one owner: every call that changes it takes `&mut self`.
-ghost use Rattle.std.specs.Prelude.{◌≡◌, ◌<◌, ◌*◌, ◌↔◌, List, [], length, Some, None, IsTrue, IsSome, IsOk, IfOk, OnOk, OnSome, ◌==◌};
-ghost use Rattle.std.specs.Borrow.{Bor};
+ghost use Rattle.std.specs.Prelude.{◌≡◌, ◌<◌, ◌*◌, ◌↔◌, List, [], length, Some, None, IsTrue, IsSome, IsOk, IfOk, OnOk, OnSome, ◌==◌, ◌∷◌, true, IfErr, OnErr, slice_get, remove};
+ghost use Rattle.std.specs.Borrow.{Bor, MutBor, sem};
+ghost use Rattle.std.specs.Fn.{FnOnceTakesAtMut};
 ghost use Rattle.std.specs.List.Sorted.{IsPermutation};
 ghost use Rattle.scc_table.specs.Contents.{entries, bucket_count, settings_of, key_hash};
 ghost use Rattle.scc_table.specs.Pairs.{find, FindsInstead, HasRoom, IsUnique};
 ghost use Rattle.scc_table.specs.Sizes.{IsArraySize};
 ghost use Rattle.scc_table.specs.Walks.{CalledOn, Walks};
-ghost use Rattle.scc_map.specs.Closures.{Reads};
-ghost use Rattle.scc_map.specs.MapSteps.{Inserts, Removes};
+ghost use Rattle.scc_table.specs.Places.{IsPlace, IsInsertedAt, index_of};
+ghost use Rattle.scc_table.specs.Steps.{Holds, Rests};
+ghost use Rattle.scc_table.specs.Writes.{with_write_at};
+ghost use Rattle.scc_map.specs.Closures.{Reads, UpdatesAt, RemovesIf};
+ghost use Rattle.scc_map.specs.Lends.{lends_value, with_pair_key};
+ghost use Rattle.scc_map.specs.MapSteps.{Inserts, Removes, Upserts};
 
-use scc_table::{InsertError, MakeError, Table};
+mod entry;
+
+pub use entry::{Entry, OccupiedEntry, ReplaceResult, VacantEntry};
+
+use scc_table::{InsertError, MakeError, Place, Table};
 use std::alloc::Global;
 use std::hash::{BuildHasher, BuildHasherDefault, FoldHasher, Hash};
 use std::marker::Model;
@@ -154,6 +163,55 @@ impl<K: Eq + Hash, V, H: BuildHasher> Owned<K, V, H> {
         }
     }
 
+    /// Stores `v` at `k`. A key that is there stays the stored one, the supplied one is dropped, and the old value is answered; this takes no memory. A new key is inserted, and None is answered; refused, the pair comes back.
+    pub fn upsert_sync(&mut self, k: K, v: V) -> Result<Option<V>, InsertError<K, V>>
+    where
+        K: Drop,
+        ensures step { Upserts K.eq (key_hash H.BuildHasher H.Hasher.Hasher K.hash_input self.old) self.old (k, v) result self.new }
+        ensures succeeds { IsSome (find K.eq (entries self.old) k) → IsOk result }
+        ensures unique { IsUnique K.eq self.new }
+    {
+        let hash = self.table.hash(&k);
+        match self.table.search(hash, &k) {
+            Some(place) => Ok(Some(std::mem::replace(self.value_mut_at(place), v))),
+            None => match self.table.insert_new(hash, (k, v)) {
+                Ok(_) => Ok(None),
+                Err(pair) => Err(InsertError::Memory(pair)),
+            },
+        }
+    }
+
+    /// Lends the pair of `k` to `u`, the value to write, and answers what `u` answered; None where there is no such pair, and then `u` isn't called.
+    pub fn update_sync<R, U: FnOnce(&K, &mut V) -> R>(&mut self, k: &K, u: U) -> Option<R>
+        requires { (a : Bor K) (b : MutBor V) → find K.eq (entries self.old) k.now ≡ Some (a.now, b.now) → U.pre u a b }
+        ensures step { UpdatesAt U.FnOnce u K.eq self.old k.now self.new (find K.eq (entries self.old) k.now) result }
+        ensures unique { IsUnique K.eq self.new }
+    {
+        let hash = self.table.hash(k);
+        match self.table.search(hash, k) {
+            Some(place) => {
+                let (key, value) = self.parts_mut_at(place);
+                Some(u(key, value))
+            }
+            None => None,
+        }
+    }
+
+    /// Takes out the pair of `k` where `f` answers true on its value. What `f` wrote goes with the pair, and stays where it answers false; then the answer is None.
+    pub fn remove_if_sync<F: FnOnce(&mut V) -> bool>(&mut self, k: &K, f: F) -> Option<(K, V)>
+        requires { (p : K × V) → find K.eq (entries self.old) k.now ≡ Some p → FnOnceTakesAtMut F.FnOnce f p.1 }
+        ensures step { RemovesIf F.FnOnce f K.eq self.old k.now result self.new (find K.eq (entries self.old) k.now) }
+        ensures unique { IsUnique K.eq self.new }
+    {
+        let hash = self.table.hash(k);
+        let place = self.table.search(hash, k)?;
+        if f(self.value_mut_at(place)) {
+            Some(self.remove_at(place))
+        } else {
+            None
+        }
+    }
+
     /// Takes out the pair whose key equals `k`, and answers it.
     pub fn remove_sync(&mut self, k: &K) -> Option<(K, V)>
         ensures step { Removes K.eq self.old k.now result self.new }
@@ -173,5 +231,64 @@ impl<K: Eq + Hash, V, H: BuildHasher> Owned<K, V, H> {
         ensures { (es : List (K × V)) × (last : F) × IsPermutation (entries self.now) es × Walks (CalledOn F.FnMut) f es result last }
     {
         self.table.walk(f)
+    }
+
+    /// The pair at the place.
+    pub(crate) fn pair_at(&self, place: Place) -> (&K, &V)
+        requires { IsPlace self.now place }
+        ensures { slice_get (entries self.now) (index_of self.now place) ≡ Some (result.0.now, result.1.now) }
+    {
+        self.table.pair_at(place)
+    }
+
+    /// The value at the place, to write.
+    pub(crate) fn value_mut_at(&mut self, place: Place) -> &mut V
+        requires { IsPlace self.old place }
+        ensures* writes_back { sem 𝓛 (lends_value K.row V.row H.row H.Hasher.row K.Hash H.BuildHasher H.Hasher.Hasher self.entry place result) }
+        ensures value { (p : K × V) × (slice_get (entries self.old) (index_of self.old place) ≡ Some p) × (result.now ≡ p.1) }
+    {
+        self.table.value_mut_at(place)
+    }
+
+    /// The key at the place, and the value to write.
+    pub(crate) fn parts_mut_at(&mut self, place: Place) -> (&K, &mut V)
+        requires { IsPlace self.old place }
+        ensures* writes_back { sem 𝓛 (lends_value K.row V.row H.row H.Hasher.row K.Hash H.BuildHasher H.Hasher.Hasher self.entry place result.1) }
+        ensures parts { slice_get (entries self.old) (index_of self.old place) ≡ Some (result.0.now, result.1.now) }
+    {
+        self.table.parts_mut_at(place)
+    }
+
+    /// Puts the key in the place of the one there, which it equals.
+    pub(crate) fn replace_key_at(&mut self, place: Place, key: K) -> K
+        requires within { IsPlace self.old place }
+        requires same { (p : K × V) → slice_get (entries self.old) (index_of self.old place) ≡ Some p → K.eq key p.0 ≡ true }
+        ensures old { (p : K × V) × (slice_get (entries self.old) (index_of self.old place) ≡ Some p) × (result ≡ p.0) }
+        ensures new { self.new ≡ with_write_at with_pair_key self.old place key }
+    {
+        self.table.replace_key_at(place, key)
+    }
+
+    /// Takes the pair out of its place.
+    pub(crate) fn remove_at(&mut self, place: Place) -> (K, V)
+        requires { IsPlace self.old place }
+        ensures pair { slice_get (entries self.old) (index_of self.old place) ≡ Some result }
+        ensures others { Holds self.old (remove (entries self.old) (index_of self.old place)) self.new }
+        ensures unique { IsUnique K.eq self.new }
+    {
+        self.table.remove_at(place)
+    }
+
+    /// Puts in a pair whose key is new, and answers its place.
+    pub(crate) fn insert_new(&mut self, hash: u64, k: K, v: V) -> Result<Place, (K, V)>
+        requires hashed { hash ≡ key_hash H.BuildHasher H.Hasher.Hasher K.hash_input self.old k }
+        requires absent { find K.eq (entries self.old) k ≡ None }
+        ensures ok { IfOk result (IsInsertedAt self.old (k, v) self.new) }
+        ensures refused { IfErr result (λ p. p ≡ (k, v)) }
+        ensures rests { OnErr result (Rests self.old self.new) }
+        ensures full { OnErr result (HasRoom (key_hash H.BuildHasher H.Hasher.Hasher K.hash_input self.old) self.old k → ⊥) }
+        ensures unique { IsUnique K.eq self.new }
+    {
+        self.table.insert_new(hash, (k, v))
     }
 }

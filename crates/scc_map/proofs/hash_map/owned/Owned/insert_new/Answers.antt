@@ -1,0 +1,9 @@
+use Rattle.scc_table.specs.Contents.{entries}
+use Rattle.scc_map.proofs.Lookups.{position-find_none}
+use Rattle.scc_map.proofs.hash_map.owned.Owned.insert_new.Goals as goal
+
+pub insert_new-requires-clause-absent : goal.insert_new-requires-clause-absent
+insert_new-requires-clause-absent g c = position-find_none (g.K.PartialEq.eq c.args.k) (entries c.self.inside.table) (rw (← c.self.view_is) at c.requires.absent)
+
+pub returns-clause-full : goal.returns-clause-full
+returns-clause-full g c = rw (← c.self.view_is) c.insert_new.ensures.full

@@ -1,0 +1,43 @@
+use Rattle.std.proofs.Common.{◌≡◌, Some, None, refl, sym, ap, ◌∙◌, rules, true, false}
+use Rattle.std.specs.Option.{IsSome}
+use Rattle.scc_table.specs.Contents.{entries}
+use Rattle.scc_table.specs.Pairs.{find}
+use Rattle.scc_table.specs.Writes.{IsPlace-with_write_at}
+use Rattle.scc_map.specs.Lends.{with_pair_value}
+use Rattle.scc_map.proofs.Lookups.{find-position_none}
+use Rattle.scc_map.proofs.MapWrites.{place-found, value-written, value-unique, written-taken_out, written-pair}
+use Rattle.scc_map.proofs.hash_map.owned.Owned.upsert_sync.Goals as goal
+use Rattle.scc_map.proofs.hash_map.owned.Owned.upsert_sync.Goals.{in-Ok, in-Err}
+
+pub returns-in-Some-clause-step : goal.returns-in-Some-clause-step
+returns-in-Some-clause-step g c =
+    let laws = g.met.K.Eq.laws in
+    let m = c.args.self.now in
+    let found = rw c.self.view_is at c.in-Some.ensures.place in
+    let unique = rw c.self.view_is at c.in-Some.ensures.unique in
+    let f = place-found g.K.PartialEq.eq m c.args.k c.in-Some.place found in
+    let v = c.value_mut_at.ensures.value in
+    let here : find g.K.PartialEq.eq (entries m) c.args.k ≡ Some (v.0.0, c.replace.result) = f.2 ∙ sym f.1 ∙ v.1 ∙ ap (λ x. Some (v.0.0, x)) (sym (c.replace.ensures.value ∙ v.2)) in
+    (v.0.0, here, rw c.replace.ensures.after (value-written laws m c.in-Some.place found.within c.args.k unique f c.args.v))
+
+pub returns-in-Some-clause-unique : goal.returns-in-Some-clause-unique
+returns-in-Some-clause-unique g c =
+    let laws = g.met.K.Eq.laws in
+    let m = c.args.self.now in
+    let found = rw c.self.view_is at c.in-Some.ensures.place in
+    let unique = rw c.self.view_is at c.in-Some.ensures.unique in
+    let f = place-found g.K.PartialEq.eq m c.args.k c.in-Some.place found in
+    value-unique laws m c.in-Some.place found.within c.args.k unique f c.replace.new.dest
+
+pub returns-after-insert_new-clause-step : goal.returns-after-insert_new-clause-step
+returns-after-insert_new-clause-step g c =
+    let none = find-position_none (g.K.PartialEq.eq c.args.k) (entries c.self.inside.table) c.in-None.ensures.place in
+    elim c.match-insert_new.branch [
+      in-Ok w ↦ rw (w.result-is, ← c.self.view_is) (none, w.in-Ok.ensures.ok.holds)
+    | in-Err w ↦ rw (w.result-is, ← c.self.view_is) (w.in-Err.ensures.err.0, none, w.in-Err.ensures.err.1, w.in-Err.ensures.full)
+    ]
+
+pub returns-after-insert_new-clause-succeeds : goal.returns-after-insert_new-clause-succeeds
+returns-after-insert_new-clause-succeeds g c =
+    let none = find-position_none (g.K.PartialEq.eq c.args.k) (entries c.self.inside.table) c.in-None.ensures.place in
+    rw (← c.self.view_is, none) (λ there. absurd (search rules))

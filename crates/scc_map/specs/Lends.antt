@@ -1,0 +1,27 @@
+-- What a map ends as, once a `&mut` into it has ended.
+use Rattle.std.specs.Prelude.{ℕ}
+use Rattle.std.specs.Borrow.{Fml, RattleType, MutBor, Lends}
+use Rattle.std.specs.HashMap.Lent.{HashMembers}
+use Rattle.std.specs.declared.hash.Hasher as hasher
+use Rattle.std.specs.declared.hash.BuildHasher as builder
+use Rattle.scc_table.specs.Contents.{Contents}
+use Rattle.scc_table.specs.Writes.{with_write_at}
+use Rattle.scc_table.specs.declared.place.Place.{Place}
+use Rattle.scc_map.specs.contracts.hash_map.owned.Owned.{the_row}
+
+-- the pair with that value
+abbrev pub with_pair_value : {K V : Type 0} → K × V → V → K × V
+with_pair_value p v = (p.0, v)
+
+-- the pair with that key
+abbrev pub with_pair_key : {K V : Type 0} → K × V → K → K × V
+with_pair_key p k = (k, p.1)
+
+module _ (K V S H : RattleType) (key : HashMembers K.Denot) (build : builder.Ghosts S.Denot H.Denot) (feed : hasher.Ghosts H.Denot) where
+  -- the map's type, as the logic holds it
+  abbrev pub map_row : RattleType
+  map_row = the_row K V S H (record { eq = key.eq }) (record { hash_input = key.hash_input }) build feed
+
+  -- the pair at the place has the last value written through r
+  abbrev pub lends_value : MutBor (Contents (K.Denot × V.Denot) S.Denot) → Place → MutBor V.Denot → Fml
+  lends_value m p r = Lends map_row V m r (with_write_at with_pair_value m.now p)
