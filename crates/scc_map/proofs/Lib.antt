@@ -1,3 +1,4 @@
+pub mod Entries
 pub mod Lookups
 pub mod MapWrites
 pub mod PairWrites

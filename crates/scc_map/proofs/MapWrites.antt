@@ -69,7 +69,7 @@ pub index-write : {E S X : Type 0} (put : E → X → E) (c : Contents E S) (p :
 unfolding index_of with_write_at
 index-write put c p w = ap (λ l. length (flat_map (λ x. x) l) + p.slot) (take-set c.lists p.bucket _)
 
-get-write_at : {E X : Type 0} (put : E → X → E) (es : List E) (i : ℕ) (e : E) (w : X) → slice_get es i ≡ Some e → slice_get (write_at put es i w) i ≡ Some (put e w)
+pub get-write_at : {E X : Type 0} (put : E → X → E) (es : List E) (i : ℕ) (e : E) (w : X) → slice_get es i ≡ Some e → slice_get (write_at put es i w) i ≡ Some (put e w)
 get-write_at put [] i e w got = absurd (let n : None ≡ Some e = got in cc)
 get-write_at put (x ∷ es) zero e w got = let s : x ≡ e = cc in ap (λ z. Some (put z w)) s
 get-write_at put (x ∷ es) (suc i) e w got = get-write_at put es i e w got
@@ -98,8 +98,8 @@ module _ {K V S : Type 0} {eq : K → K → Bool} (laws : IsEquivalence eq) (c :
   written-taken_out w e h =
       let x = written w in
       let same : remove (entries (with_write_at with_pair_value c p w)) (index_of (with_write_at with_pair_value c p w) p) ≡ without eq (entries c) k =
-          ap (λ i. remove (entries (with_write_at with_pair_value c p w)) i) (index-write with_pair_value c p w)
-          ∙ ap (λ z. remove z (index_of c p)) x.exact ∙ remove-write_at with_pair_value (entries c) (index_of c p) w ∙ sym (without-at laws k (entries c) (index_of c p) d f) in
+      ap (λ i. remove (entries (with_write_at with_pair_value c p w)) i) (index-write with_pair_value c p w)
+      ∙ ap (λ z. remove z (index_of c p)) x.exact ∙ remove-write_at with_pair_value (entries c) (index_of c p) w ∙ sym (without-at laws k (entries c) (index_of c p) d f) in
       record {
         same = rw same at h.same;
         size = record {
@@ -113,6 +113,13 @@ module _ {K V S : Type 0} {eq : K → K → Bool} (laws : IsEquivalence eq) (c :
   written-pair w q got =
       let x = written w in
       let here : slice_get (entries (with_write_at with_pair_value c p w)) (index_of (with_write_at with_pair_value c p w) p) ≡ Some (f.0.0, w) =
-          ap (λ i. slice_get (entries (with_write_at with_pair_value c p w)) i) (index-write with_pair_value c p w)
-          ∙ ap (λ z. slice_get z (index_of c p)) x.exact ∙ get-write_at with_pair_value (entries c) (index_of c p) f.0 w f.1 in
+      ap (λ i. slice_get (entries (with_write_at with_pair_value c p w)) i) (index-write with_pair_value c p w)
+      ∙ ap (λ z. slice_get z (index_of c p)) x.exact ∙ get-write_at with_pair_value (entries c) (index_of c p) f.0 w f.1 in
       let s : Some q ≡ Some (f.0.0, w) = sym got ∙ here in cc
+
+-- what stands at a place once a key was written there
+pub key-got : {K V S : Type 0} (c : Contents (K × V) S) (p : Place) (within : IsPlace c p) (q : K) (e : K × V) → slice_get (entries c) (index_of c p) ≡ Some e
+    → slice_get (entries (with_write_at with_pair_key c p q)) (index_of (with_write_at with_pair_key c p q) p) ≡ Some (q, e.1)
+key-got c p within q e got =
+    let x = exactly-write with_pair_key c p within (at (list_of c p.bucket) p.slot within.slot) (at-get (list_of c p.bucket) p.slot within.slot) q in
+    ap (slice_get (entries (with_write_at with_pair_key c p q))) (index-write with_pair_key c p q) ∙ ap (λ z. slice_get z (index_of c p)) x.exact ∙ get-write_at with_pair_key (entries c) (index_of c p) e q got

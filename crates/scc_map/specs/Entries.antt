@@ -17,6 +17,7 @@ use Rattle.scc_table.specs.Pairs.{find, without}
 use Rattle.scc_table.specs.Places.{index_of}
 use Rattle.scc_table.specs.Steps.{Holds, HoldsExactly, Rests}
 use Rattle.scc_table.specs.Writes.{with_write_at, IsPlace-with_write_at}
+use Rattle.scc_table.specs.declared.place.Place.{Place}
 use Rattle.scc_map.specs.Lends.{map_row, with_pair_value}
 use Rattle.scc_map.specs.contracts.hash_map.owned.entry.OccupiedEntry as occupied
 use Rattle.scc_map.specs.declared.hash_map.owned.entry.Entry.{Entry}
@@ -37,15 +38,19 @@ at-get (x ∷ es) zero h = refl
 at-get (x ∷ es) (suc i) h = at-get es i _
 
 module _ {K V S T : Type 0} {g : eq.Ghosts K} {h : hash.Ghosts K} {b : builder.Ghosts S T} {w : hasher.Ghosts T} where
+  -- where the entry stands
+  abbrev pub place_of : OccupiedEntry K V S T g h b w → Place
+  place_of o = record { bucket = o.bucket; slot = o.slot }
+
   -- the pair of the entry, and the pairs before and after it
   unfoldable pub occupied_pair : OccupiedEntry K V S T g h b w → K × V
-  occupied_pair o = at (list_of o.owned.now o.place.bucket) o.place.slot o.within.slot
+  occupied_pair o = at (list_of o.owned.now o.bucket) o.slot o.within.slot
 
   unfoldable pub occupied_front : OccupiedEntry K V S T g h b w → List (K × V)
-  occupied_front o = take (index_of o.owned.now o.place) (entries o.owned.now)
+  occupied_front o = take (index_of o.owned.now (place_of o)) (entries o.owned.now)
 
   unfoldable pub occupied_back : OccupiedEntry K V S T g h b w → List (K × V)
-  occupied_back o = drop (suc (index_of o.owned.now o.place)) (entries o.owned.now)
+  occupied_back o = drop (suc (index_of o.owned.now (place_of o))) (entries o.owned.now)
 
   -- the reference to the map
   abbrev pub entry_owned : Entry K V S T g h b w → MutBor (Contents (K × V) S)
@@ -86,7 +91,7 @@ module _ {K V S T : Type 0} {g : eq.Ghosts K} {h : hash.Ghosts K} {b : builder.G
 
   -- o, once v is its value
   abbrev pub with_value : OccupiedEntry K V S T g h b w → V → OccupiedEntry K V S T g h b w
-  with_value o v = record { owned = record o.owned { now = with_write_at with_pair_value o.owned.now o.place v }; place = o.place; within = IsPlace-with_write_at with_pair_value o.owned.now o.place v o.within }
+  with_value o v = record { owned = record o.owned { now = with_write_at with_pair_value o.owned.now (place_of o) v }; bucket = o.bucket; slot = o.slot; within = IsPlace-with_write_at with_pair_value o.owned.now (place_of o) v o.within }
 
   -- the stored key, or the one that was asked for
   abbrev pub entry_key : Entry K V S T g h b w → K

@@ -17,7 +17,6 @@ ghost use Rattle.scc_map.specs.MapSteps.{Inserts, Removes, Upserts};
 mod entry;
 
 pub use entry::{Entry, OccupiedEntry, ReplaceResult, VacantEntry};
-
 use scc_table::{InsertError, MakeError, Place, Table};
 use std::alloc::Global;
 use std::hash::{BuildHasher, BuildHasherDefault, FoldHasher, Hash};

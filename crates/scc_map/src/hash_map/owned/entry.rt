@@ -4,8 +4,9 @@ ghost use Rattle.scc_table.specs.Contents.{entries, key_hash};
 ghost use Rattle.scc_table.specs.Pairs.{find};
 ghost use Rattle.scc_table.specs.Places.{IsPlace};
 
+mod methods;
+
 use super::Owned;
-use scc_table::Place;
 use std::hash::{BuildHasher, BuildHasherDefault, FoldHasher, Hash};
 
 /// The entry of a key. While it is held, the map is borrowed.
@@ -18,17 +19,18 @@ pub enum Entry<'a, K: Eq + Hash, V, H: BuildHasher = BuildHasherDefault<FoldHash
 /// An entry that the map has, at its place.
 #[derive(Drop)]
 pub struct OccupiedEntry<'a, K: Eq + Hash, V, H: BuildHasher = BuildHasherDefault<FoldHasher>> {
-    pub(crate) owned: &'a mut Owned<K, V, H>,
-    pub(crate) place: Place,
-    ghost within: { IsPlace owned.now place },
+    owned: &'a mut Owned<K, V, H>,
+    bucket: usize,
+    slot: usize,
+    ghost within: { IsPlace owned.now (record { bucket = bucket; slot = slot }) },
 }
 
 /// A key that the map lacks, with its hash.
 #[derive(Drop)]
 pub struct VacantEntry<'a, K: Eq + Hash, V, H: BuildHasher = BuildHasherDefault<FoldHasher>> {
-    pub(crate) owned: &'a mut Owned<K, V, H>,
-    pub(crate) key: K,
-    pub(crate) hash: u64,
+    owned: &'a mut Owned<K, V, H>,
+    key: K,
+    hash: u64,
     ghost absent: { find K.eq (entries owned.now) key ≡ None },
     ghost hashed: { hash ≡ key_hash H.BuildHasher H.Hasher.Hasher K.hash_input owned.now key },
 }

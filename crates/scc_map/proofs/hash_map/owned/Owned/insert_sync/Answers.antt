@@ -22,20 +22,20 @@ pub returns-after-insert_new-clause-step : goal.returns-after-insert_new-clause-
 returns-after-insert_new-clause-step g c =
     let none = find-position_none (g.K.PartialEq.eq c.args.k) (entries c.self.inside.table) c.in-None.ensures.place in
     elim c.match-insert_new.branch [
-      in-Ok w ↦ rw (w.result-is, ← c.self.view_is) (none, w.in-Ok.ensures.ok.holds)
-    | in-Err w ↦ rw (w.result-is, ← c.self.view_is) (w.in-Err.ensures.err.0, none, w.in-Err.ensures.err.1, w.in-Err.ensures.full)
+      | in-Ok w ↦ rw (w.result-is, ← c.self.view_is) (none, w.in-Ok.ensures.ok.holds)
+      | in-Err w ↦ rw (w.result-is, ← c.self.view_is) (w.in-Err.ensures.err.0, none, w.in-Err.ensures.err.1, w.in-Err.ensures.full)
     ]
 
 pub returns-after-insert_new-clause-succeeds : goal.returns-after-insert_new-clause-succeeds
 returns-after-insert_new-clause-succeeds g c =
     elim c.match-insert_new.branch [
-      in-Ok w ↦ rw w.result-is (λ none room. refl)
-    | in-Err w ↦ λ none room. absurd (w.in-Err.ensures.full (rw c.self.view_is room))
+      | in-Ok w ↦ rw w.result-is (λ none room. refl)
+      | in-Err w ↦ λ none room. absurd (w.in-Err.ensures.full (rw c.self.view_is room))
     ]
 
 pub returns-after-insert_new-clause-finds : goal.returns-after-insert_new-clause-finds
 returns-after-insert_new-clause-finds g c =
     elim c.match-insert_new.branch [
-      in-Ok w ↦ rw (w.result-is, ← c.self.view_is) (finds-added g.met.K.Eq.laws (entries c.self.inside.table) (entries c.insert_new.new.self) (c.args.k, c.args.v) w.in-Ok.ensures.ok.holds.same w.in-Ok.ensures.unique)
-    | in-Err w ↦ rw w.result-is tt
+      | in-Ok w ↦ rw (w.result-is, ← c.self.view_is) (finds-added g.met.K.Eq.laws (entries c.self.inside.table) (entries c.insert_new.new.self) (c.args.k, c.args.v) w.in-Ok.ensures.ok.holds.same w.in-Ok.ensures.unique)
+      | in-Err w ↦ rw w.result-is tt
     ]

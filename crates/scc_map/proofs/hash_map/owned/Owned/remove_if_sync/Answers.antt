@@ -43,8 +43,8 @@ returns-then-f-clause-step g c =
       record { shown = c.value_mut_at.result; shows = v.2; left = _; met = c.if-f.ensures; leaves = refl },
       (
         ap Some (written-pair laws m c.in_ok-place.place found.within c.args.k.now unique f c.f.new.arg2 c.remove_at.result c.remove_at.ensures.pair ∙ ap (λ q. (q.0, c.f.new.arg2)) first),
-        written-taken_out laws m c.in_ok-place.place found.within c.args.k.now unique f c.f.new.arg2 c.remove_at.new.self c.remove_at.ensures.others
-      )
+        written-taken_out laws m c.in_ok-place.place found.within c.args.k.now unique f c.f.new.arg2 c.remove_at.new.self c.remove_at.ensures.others,
+      ),
     )
 
 pub returns-else-f-clause-step : goal.returns-else-f-clause-step

@@ -13,7 +13,7 @@ returns-in-Some-clause-step g c =
     let h = c.remove_at.ensures.others in
     rw (← c.self.view_is) (
       f.2 ∙ sym f.1 ∙ c.remove_at.ensures.entry,
-      record { same = rw (without-at g.met.K.Eq.laws c.args.k.now es _ c.in-Some.ensures.unique f) h.same; size = h.size; settings = h.settings }
+      record { same = rw (without-at g.met.K.Eq.laws c.args.k.now es _ c.in-Some.ensures.unique f) h.same; size = h.size; settings = h.settings },
     )
 
 pub returns-in-Some-clause-finds : goal.returns-in-Some-clause-finds

@@ -30,7 +30,7 @@ returns-in-Some-clause-step g c =
       c.u.new.arg3,
       refl,
       record { key = c.parts_mut_at-value.result.0; value = c.parts_mut_at-value.result.1; shows = refl; left = _; met = c.u.ensures; leaves = refl },
-      value-written laws m c.in-Some.place found.within c.args.k.now unique f c.u.new.arg3
+      value-written laws m c.in-Some.place found.within c.args.k.now unique f c.u.new.arg3,
     )
 
 pub returns-in-Some-clause-unique : goal.returns-in-Some-clause-unique

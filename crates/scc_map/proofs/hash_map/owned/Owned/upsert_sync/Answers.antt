@@ -33,8 +33,8 @@ pub returns-after-insert_new-clause-step : goal.returns-after-insert_new-clause-
 returns-after-insert_new-clause-step g c =
     let none = find-position_none (g.K.PartialEq.eq c.args.k) (entries c.self.inside.table) c.in-None.ensures.place in
     elim c.match-insert_new.branch [
-      in-Ok w ↦ rw (w.result-is, ← c.self.view_is) (none, w.in-Ok.ensures.ok.holds)
-    | in-Err w ↦ rw (w.result-is, ← c.self.view_is) (w.in-Err.ensures.err.0, none, w.in-Err.ensures.err.1, w.in-Err.ensures.full)
+      | in-Ok w ↦ rw (w.result-is, ← c.self.view_is) (none, w.in-Ok.ensures.ok.holds)
+      | in-Err w ↦ rw (w.result-is, ← c.self.view_is) (w.in-Err.ensures.err.0, none, w.in-Err.ensures.err.1, w.in-Err.ensures.full)
     ]
 
 pub returns-after-insert_new-clause-succeeds : goal.returns-after-insert_new-clause-succeeds
