@@ -25,14 +25,14 @@ module _ {E X : Type 0} (put : E → X → E) (slots : List E) (tags : List ℕ)
   slot-written w l at =
       let t : nat_lt i (length slots) ≡ true = search rules in
       let here : shelf_of (set slots i (put e w)) tags overflow room ≡ shelf_write_at put (shelf_of slots tags overflow room) i w =
-          rw (t, set-write_at put slots i e w l at, length-write_at put slots i w) refl in
+      rw (t, set-write_at put slots i e w l at, length-write_at put slots i w) refl in
       here ∙ ap (λ s. shelf_write_at put s i w) view
 
   pub overflow-written : (w : X) (k : ℕ) → length slots ≤ i → k ≡ i - length slots → k < length overflow → e ≡ get_or overflow k e → shelf_of slots tags (set overflow k (put e w)) room ≡ shelf_write_at put b i w
   overflow-written w k far ek l at =
       let t : nat_lt i (length slots) ≡ false = search rules in
       let here : shelf_of slots tags (set overflow k (put e w)) room ≡ shelf_write_at put (shelf_of slots tags overflow room) i w =
-          rw (t, set-write_at put overflow k e w l at, ek) refl in
+      rw (t, set-write_at put overflow k e w l at, ek) refl in
       here ∙ ap (λ s. shelf_write_at put s i w) view
 
   pub slot-got : i < length slots → e ≡ get_or slots i e → slice_get (shelf_entries b) i ≡ Some e

@@ -43,16 +43,16 @@ write_at-right put (x ∷ xs) ys (suc i) k w e = ap (λ z. x ∷ z) (write_at-ri
 
 pub entries_write : {E X : Type 0} (put : E → X → E) (b : Shelf E) (i : ℕ) (w : X) → shelf_entries (shelf_write_at put b i w) ≡ write_at put (shelf_entries b) i w
 entries_write put b i w = elim (dec_lt i (length b.slots)) [
-      yes q ↦ let t : nat_lt i (length b.slots) ≡ true = search rules in rw t (sym (write_at-left put b.slots b.overflow i w q))
-    | no q ↦ let far : length b.slots ≤ i = omega arith in let t : nat_lt i (length b.slots) ≡ false = search rules in
-        rw t (sym (write_at-right put b.slots b.overflow i (i - length b.slots) w (omega arith)))
-    ]
+  | yes q ↦ let t : nat_lt i (length b.slots) ≡ true = search rules in rw t (sym (write_at-left put b.slots b.overflow i w q))
+  | no q ↦ let far : length b.slots ≤ i = omega arith in let t : nat_lt i (length b.slots) ≡ false = search rules in
+      rw t (sym (write_at-right put b.slots b.overflow i (i - length b.slots) w (omega arith)))
+]
 
 slots_write : {E X : Type 0} (put : E → X → E) (b : Shelf E) (i : ℕ) (w : X) → (length (shelf_write_at put b i w).slots ≡ length b.slots) × (length (shelf_write_at put b i w).overflow ≡ length b.overflow)
 slots_write put b i w = elim (dec_lt i (length b.slots)) [
-      yes q ↦ let t : nat_lt i (length b.slots) ≡ true = search rules in rw t (length-write_at put b.slots i w, refl)
-    | no q ↦ let far : length b.slots ≤ i = omega arith in let t : nat_lt i (length b.slots) ≡ false = search rules in rw t (refl, length-write_at put b.overflow (i - length b.slots) w)
-    ]
+  | yes q ↦ let t : nat_lt i (length b.slots) ≡ true = search rules in rw t (length-write_at put b.slots i w, refl)
+  | no q ↦ let far : length b.slots ≤ i = omega arith in let t : nat_lt i (length b.slots) ≡ false = search rules in rw t (refl, length-write_at put b.overflow (i - length b.slots) w)
+]
 
 get-in_slots : {E : Type 0} (xs ys : List E) (i : ℕ) (e : E) → i < length xs → slice_get (xs ++ ys) i ≡ Some e → slice_get xs i ≡ Some e
 get-in_slots [] ys i e l got = absurd (omega arith)
@@ -61,9 +61,9 @@ get-in_slots (x ∷ xs) ys (suc i) e l got = get-in_slots xs ys i e (omega arith
 
 tags_write : {E X : Type 0} (put : E → X → E) (f : E → ℕ) (b : Shelf E) (i : ℕ) (e : E) (w : X) → slice_get (shelf_entries b) i ≡ Some e → f (put e w) ≡ f e → b.tags ≡ map f b.slots → (shelf_write_at put b i w).tags ≡ map f (shelf_write_at put b i w).slots
 tags_write put f b i e w got same h = elim (dec_lt i (length b.slots)) [
-      yes q ↦ let t : nat_lt i (length b.slots) ≡ true = search rules in rw t (h ∙ sym (map-write_at put f b.slots i e w (get-in_slots b.slots b.overflow i e q got) same))
-    | no q ↦ let far : length b.slots ≤ i = omega arith in let t : nat_lt i (length b.slots) ≡ false = search rules in rw t h
-    ]
+  | yes q ↦ let t : nat_lt i (length b.slots) ≡ true = search rules in rw t (h ∙ sym (map-write_at put f b.slots i e w (get-in_slots b.slots b.overflow i e q got) same))
+  | no q ↦ let far : length b.slots ≤ i = omega arith in let t : nat_lt i (length b.slots) ≡ false = search rules in rw t h
+]
 
 own_write : {E X : Type 0} (put : E → X → E) (hash : E → ℕ) (t m k : ℕ) (b : Shelf E) (i : ℕ) (e : E) (w : X) → slice_get (shelf_entries b) i ≡ Some e → hash (put e w) ≡ hash e → IsOwn hash t m k b → IsOwn hash t m k (shelf_write_at put b i w)
 own_write put hash t m k b i e w got same o = record {
@@ -132,7 +132,7 @@ module _ {E S X : Type 0} (put : E → X → E) (hash : E → ℕ) (t n o : ℕ)
   written-view =
       let here : get_or (map shelf_entries bs) p.bucket [] ≡ shelf_entries b = get_or-map shelf_entries bs p.bucket b [] l ∙ ap shelf_entries (sym at) in
       ap (λ z. let r : Contents E S = record { lists = z; settings = s } in r)
-        (map-set shelf_entries bs p.bucket (shelf_write_at put b p.slot w) ∙ ap (set (map shelf_entries bs) p.bucket) (entries_write put b p.slot w ∙ ap (λ z. write_at put z p.slot w) (sym here)))
+      (map-set shelf_entries bs p.bucket (shelf_write_at put b p.slot w) ∙ ap (set (map shelf_entries bs) p.bucket) (entries_write put b p.slot w ∙ ap (λ z. write_at put z p.slot w) (sym here)))
       ∙ ap (λ (x : Contents E S). let r : Contents E S = record { lists = set x.lists p.bucket (write_at put (get_or x.lists p.bucket []) p.slot w); settings = x.settings } in r) view
 
   pub written-unique : IsPlace c p → slice_get (list_of c p.bucket) p.slot ≡ Some e → {K : Type 0} {eq : K → K → Bool} (laws : IsEquivalence eq) (key : E → K) → eq (key (put e w)) (key e) ≡ true → IsDistinct eq (map key (flat_map shelf_entries bs))
@@ -142,5 +142,5 @@ module _ {E S X : Type 0} (put : E → X → E) (hash : E → ℕ) (t n o : ℕ)
       let old : IsDistinct eq (map key (entries c)) = rw (entries-view bs s c view) u in
       let new = distinct-write laws key put (entries c) (index_of c p) e w there equal old in
       let all : flat_map shelf_entries (set bs p.bucket (shelf_write_at put b p.slot w)) ≡ write_at put (entries c) (index_of c p) w =
-          sym (entries-view (set bs p.bucket (shelf_write_at put b p.slot w)) s (with_write_at put c p w) written-view) ∙ entries-write put c p within e here w in
+      sym (entries-view (set bs p.bucket (shelf_write_at put b p.slot w)) s (with_write_at put c p w) written-view) ∙ entries-write put c p within e here w in
       subst (λ (z : List E). IsDistinct eq (map key z)) (sym all) new

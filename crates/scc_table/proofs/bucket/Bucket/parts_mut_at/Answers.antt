@@ -20,4 +20,3 @@ returns-else-place-count g c =
     let held = ap (λ (x : Shelf g.row.E.Denot). length (shelf_entries x)) c.self.view_is in
     let l : c.args.place - c.len-count.result < length t.overflow.items = omega (arith, c.requires, length-append t.slots.items t.overflow.items) in
     ((refl, (λ w. overflow-written g.E.Valued.with_value t.slots.items t.tags t.overflow.items _ c.args.place e c.args.self.now c.self.view_is w (c.args.place - c.len-count.result) far same l c.index_mut-entry-else-place-count.ensures.value)), record { writes_back = tt; parts = (e, overflow-got g.E.Valued.with_value t.slots.items t.tags t.overflow.items _ c.args.place e c.args.self.now c.self.view_is (c.args.place - c.len-count.result) far same l c.index_mut-entry-else-place-count.ensures.value, c.parts_mut-else-place-count.ensures.key, c.parts_mut-else-place-count.ensures.value) })
-

@@ -31,4 +31,3 @@ returns-else-place-count-clause-new g c =
     let held = ap (λ (x : Shelf g.row.E.Denot). length (shelf_entries x)) c.self.view_is in
     let l : c.args.place - c.len-count.result < length t.overflow.items = omega (arith, c.requires, length-append t.slots.items t.overflow.items) in
     rw c.replace_key-else-place-count.ensures.new (overflow-written g.E.Valued.with_key t.slots.items t.tags t.overflow.items _ c.args.place e c.args.self.now c.self.view_is c.args.key (c.args.place - c.len-count.result) far same l c.index_mut-else-place-count.ensures.value)
-

@@ -1,0 +1,11 @@
+//! The worked cases of the containers as tests, each under its plain name, over the public crates alone; and the hashers and keys that they are made with.
+#![tactic(auto)]
+
+#[cfg(test)]
+mod map_cases;
+pub mod maybe_equal;
+#[cfg(test)]
+mod run_cases;
+#[cfg(test)]
+mod texts;
+pub mod zero;
