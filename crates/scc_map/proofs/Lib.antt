@@ -1,3 +1,4 @@
+pub mod CallerLemmas
 pub mod Entries
 pub mod Lookups
 pub mod MapWrites

@@ -86,7 +86,7 @@ module _ {K V : Type 0} {eq : K → K → Bool} (laws : IsEquivalence eq) where
   pub finds-added : (c d : List (K × V)) (p : K × V) → IsPermutation (p ∷ c) d → IsDistinct eq (keys_of d) → FindsInstead eq c p.0 (Some p) d
   finds-added c d p perm u = record { finds = λ q. find-IsPermutation (p ∷ c) d q perm (distinct-IsPermutation d (p ∷ c) (IsPermutation-sym (p ∷ c) d perm) u) }
 
-  find-without : (es : List (K × V)) (k q : K) → IsDistinct eq (keys_of es) → lookup_entry (eq q) (remove_entry (eq k) es) ≡ cond (eq q k) None (lookup_entry (eq q) es)
+  pub find-without : (es : List (K × V)) (k q : K) → IsDistinct eq (keys_of es) → lookup_entry (eq q) (remove_entry (eq k) es) ≡ cond (eq q k) None (lookup_entry (eq q) es)
   find-without [] k q d = by_answer (eq q k) (λ y. sym (cond-true None None y)) (λ y. sym (cond-false None None y))
   find-without (x ∷ es) k q d = by_answer (eq k x.0)
       (λ y. by_answer (eq q k)

@@ -168,6 +168,7 @@ impl<K: Eq + Hash, V, H: BuildHasher> Owned<K, V, H> {
         K: Drop,
         ensures step { Upserts K.eq (key_hash H.BuildHasher H.Hasher.Hasher K.hash_input self.old) self.old (k, v) result self.new }
         ensures succeeds { IsSome (find K.eq (entries self.old) k) → IsOk result }
+        ensures finds { OnOk result ((q : K) × (K.eq k q ≡ true) × FindsInstead K.eq (entries self.old) k (Some (q, v)) (entries self.new)) }
         ensures unique { IsUnique K.eq self.new }
     {
         let hash = self.table.hash(&k);
@@ -200,6 +201,7 @@ impl<K: Eq + Hash, V, H: BuildHasher> Owned<K, V, H> {
     pub fn remove_if_sync<F: FnOnce(&mut V) -> bool>(&mut self, k: &K, f: F) -> Option<(K, V)>
         requires { (p : K × V) → find K.eq (entries self.old) k.now ≡ Some p → FnOnceTakesAtMut F.FnOnce f p.1 }
         ensures step { RemovesIf F.FnOnce f K.eq self.old k.now result self.new (find K.eq (entries self.old) k.now) }
+        ensures finds { OnSome result (FindsInstead K.eq (entries self.old) k.now None (entries self.new)) }
         ensures unique { IsUnique K.eq self.new }
     {
         let hash = self.table.hash(k);

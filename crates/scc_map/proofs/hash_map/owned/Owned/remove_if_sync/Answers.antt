@@ -4,6 +4,7 @@ use Rattle.scc_table.specs.Contents.{entries}
 use Rattle.scc_table.specs.Pairs.{find}
 use Rattle.scc_table.specs.Writes.{IsPlace-with_write_at}
 use Rattle.scc_map.specs.Lends.{with_pair_value}
+use Rattle.scc_map.proofs.CallerLemmas.{finds-without}
 use Rattle.scc_map.proofs.Lookups.{find-position_none}
 use Rattle.scc_map.proofs.MapWrites.{place-found, value-written, value-unique, written-taken_out, written-pair}
 use Rattle.scc_map.proofs.hash_map.owned.Owned.remove_if_sync.Goals as goal
@@ -46,6 +47,15 @@ returns-then-f-clause-step g c =
         written-taken_out laws m c.in_ok-place.place found.within c.args.k.now unique f c.f.new.arg2 c.remove_at.new.self c.remove_at.ensures.others,
       ),
     )
+
+pub returns-then-f-clause-finds : goal.returns-then-f-clause-finds
+returns-then-f-clause-finds g c =
+    let laws = g.met.K.Eq.laws in
+    let m = c.args.self.now in
+    let found = rw c.self.view_is at c.in_ok-place.ensures.place in
+    let unique = rw c.self.view_is at c.in_ok-place.ensures.unique in
+    let f = place-found g.K.PartialEq.eq m c.args.k.now c.in_ok-place.place found in
+    finds-without laws m c.remove_at.new.self c.args.k.now (written-taken_out laws m c.in_ok-place.place found.within c.args.k.now unique f c.f.new.arg2 c.remove_at.new.self c.remove_at.ensures.others) unique c.remove_at.ensures.unique
 
 pub returns-else-f-clause-step : goal.returns-else-f-clause-step
 returns-else-f-clause-step g c =

@@ -4,7 +4,8 @@ use Rattle.scc_table.specs.Contents.{entries}
 use Rattle.scc_table.specs.Pairs.{find}
 use Rattle.scc_table.specs.Writes.{IsPlace-with_write_at}
 use Rattle.scc_map.specs.Lends.{with_pair_value}
-use Rattle.scc_map.proofs.Lookups.{find-position_none}
+use Rattle.scc_map.proofs.CallerLemmas.{finds-set_value}
+use Rattle.scc_map.proofs.Lookups.{find-position_none, finds-added}
 use Rattle.scc_map.proofs.MapWrites.{place-found, value-written, value-unique, written-taken_out, written-pair}
 use Rattle.scc_map.proofs.hash_map.owned.Owned.upsert_sync.Goals as goal
 use Rattle.scc_map.proofs.hash_map.owned.Owned.upsert_sync.Goals.{in-Ok, in-Err}
@@ -19,6 +20,15 @@ returns-in-Some-clause-step g c =
     let v = c.value_mut_at.ensures.value in
     let here : find g.K.PartialEq.eq (entries m) c.args.k ≡ Some (v.0.0, c.replace.result) = f.2 ∙ sym f.1 ∙ v.1 ∙ ap (λ x. Some (v.0.0, x)) (sym (c.replace.ensures.value ∙ v.2)) in
     (v.0.0, here, rw c.replace.ensures.after (value-written laws m c.in-Some.place found.within c.args.k unique f c.args.v))
+
+pub returns-in-Some-clause-finds : goal.returns-in-Some-clause-finds
+returns-in-Some-clause-finds g c =
+    let laws = g.met.K.Eq.laws in
+    let m = c.args.self.now in
+    let found = rw c.self.view_is at c.in-Some.ensures.place in
+    let unique = rw c.self.view_is at c.in-Some.ensures.unique in
+    let f = place-found g.K.PartialEq.eq m c.args.k c.in-Some.place found in
+    (f.0.0, f.3, finds-set_value laws m _ c.args.k f.0 c.args.v f.2 (rw c.replace.ensures.after (value-written laws m c.in-Some.place found.within c.args.k unique f c.args.v)))
 
 pub returns-in-Some-clause-unique : goal.returns-in-Some-clause-unique
 returns-in-Some-clause-unique g c =
@@ -35,6 +45,13 @@ returns-after-insert_new-clause-step g c =
     elim c.match-insert_new.branch [
       | in-Ok w ↦ rw (w.result-is, ← c.self.view_is) (none, w.in-Ok.ensures.ok.holds)
       | in-Err w ↦ rw (w.result-is, ← c.self.view_is) (w.in-Err.ensures.err.0, none, w.in-Err.ensures.err.1, w.in-Err.ensures.full)
+    ]
+
+pub returns-after-insert_new-clause-finds : goal.returns-after-insert_new-clause-finds
+returns-after-insert_new-clause-finds g c =
+    elim c.match-insert_new.branch [
+      | in-Ok w ↦ rw (w.result-is, ← c.self.view_is) (c.args.k, g.met.K.Eq.laws.refl c.args.k, finds-added g.met.K.Eq.laws (entries c.self.inside.table) (entries c.insert_new.new.self) (c.args.k, c.args.v) w.in-Ok.ensures.ok.holds.same w.in-Ok.ensures.unique)
+      | in-Err w ↦ rw w.result-is tt
     ]
 
 pub returns-after-insert_new-clause-succeeds : goal.returns-after-insert_new-clause-succeeds
