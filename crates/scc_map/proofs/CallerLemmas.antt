@@ -1,14 +1,28 @@
 -- What a caller cites of a map: look-ups after a step.
-use Rattle.std.proofs.Common.{◌≡◌, Bool, true, false, cond, List, [], ◌∷◌, ◌++◌, Option, None, Some, refl, sym, ap, ◌∙◌}
+use Rattle.std.proofs.Common.{◌≡◌, Bool, true, false, cond, List, [], ◌∷◌, ◌++◌, Option, None, Some, refl, sym, ap, subst, ◌∙◌}
+use Rattle.std.specs.Borrow.{MutBor}
 use Rattle.std.specs.Cmp.{IsEquivalence}
-use Rattle.std.specs.List.{IsDistinct}
+use Rattle.std.specs.Fn.{Once, FnOnceReturnsAtMut}
+use Rattle.std.specs.List.{IsDistinct, remove}
+use Rattle.std.specs.List.Sorted.{IsPermutation}
 use Rattle.std.specs.Map.{keys_of, lookup_entry, remove_entry, set_value}
 use Rattle.scc_table.specs.Contents.{Contents, entries}
 use Rattle.scc_table.specs.Pairs.{find, without, FindsInstead, IsUnique}
 use Rattle.scc_table.specs.Steps.{Holds, HoldsExactly}
-use Rattle.scc_map.proofs.Lookups.{find-IsPermutation, find-without, distinct-IsPermutation, finds-added}
-use Rattle.scc_map.proofs.Splits.{by_answer, cond-true, cond-false}
-use Rattle.std.proofs.lemmas.List.Sorted.{IsPermutation-sym}
+use Rattle.std.specs.declared.cmp.PartialEq as equality
+use Rattle.std.specs.declared.hash.Hash as hash
+use Rattle.std.specs.declared.hash.Hasher as hasher
+use Rattle.std.specs.declared.hash.BuildHasher as builder
+use Rattle.scc_map.specs.Entries.{Occupied, Vacant, occupied_pair, IsOccupiedAt, IsVacantAt, IsEntryOf, IsWritten, IsInserted, OrInserts, Modifies}
+use Rattle.scc_map.specs.declared.hash_map.owned.entry.Entry.{Entry}
+use Rattle.scc_map.specs.declared.hash_map.owned.entry.OccupiedEntry.{OccupiedEntry}
+use Rattle.scc_map.specs.declared.hash_map.owned.entry.VacantEntry.{VacantEntry}
+use Rattle.scc_map.specs.MapSteps.{Removes}
+use Rattle.scc_map.proofs.PairWrites.{IsPlaceOf}
+use Rattle.scc_map.proofs.Lookups.{along, apart-none, get-read, place-of_find, find-IsPermutation, find-without, distinct-IsPermutation, distinct-remove_entry, finds-added}
+use Rattle.scc_map.proofs.Splits.{by_answer, cond-true, cond-false, found-place, without-at, distinct-without, place-below}
+use Rattle.std.proofs.lemmas.List.Sorted.{IsPermutation-refl, IsPermutation-sym, IsPermutation-cons, IsPermutation-trans, IsPermutation-remove}
+use Rattle.std.proofs.lemmas.Map.Keys.{IsDistinct-head, IsDistinct-tail}
 
 module _ {K V : Type 0} {eq : K → K → Bool} (laws : IsEquivalence eq) where
   -- the pair of k, once w is its value
@@ -53,3 +67,112 @@ module _ {K V : Type 0} {eq : K → K → Bool} (laws : IsEquivalence eq) where
     -- where only the order may have changed, look-ups find what they found
     pub finds-unchanged : HoldsExactly c (entries c) d → (q : K) → find eq (entries d) q ≡ find eq (entries c) q
     finds-unchanged h q = ap (λ es. find eq es q) h.exact
+
+module _ {K V : Type 0} {eq : K → K → Bool} (laws : IsEquivalence eq) where
+  tail-find : (x : K × V) (xs : List (K × V)) (q : K) → IsDistinct eq (keys_of (x ∷ xs)) → find eq xs q ≡ cond (eq q x.0) None (find eq (x ∷ xs) q)
+  tail-find x xs q u = by_answer (eq q x.0)
+      (λ y.
+      let near : eq x.0 q ≡ true = laws.symm x.0 q ∙ y in
+      apart-none (eq q) xs (along (λ w h. sym (laws.congr x.0 q w near) ∙ h) (keys_of xs) (IsDistinct-head eq x.0 (keys_of xs) u)) ∙ sym (cond-true None (find eq (x ∷ xs) q) y))
+      (λ y. sym (cond-false (Some x) (find eq xs q) y) ∙ sym (cond-false None (find eq (x ∷ xs) q) y))
+
+  -- pairs with distinct keys are a rearrangement of others where every look-up finds the same in both
+  pub same-finds : (xs ys : List (K × V)) → IsDistinct eq (keys_of xs) → IsDistinct eq (keys_of ys) → ((q : K) → find eq ys q ≡ find eq xs q) → IsPermutation xs ys
+  same-finds [] [] u v f = IsPermutation-refl []
+  same-finds [] (y ∷ ys) u v f = absurd (let h : Some y ≡ None = sym (cond-true (Some y) (find eq ys y.0) (laws.refl y.0)) ∙ f y.0 in cc)
+  same-finds (x ∷ xs) ys u v f =
+      let here : find eq ys x.0 ≡ Some x = f x.0 ∙ cond-true (Some x) (find eq xs x.0) (laws.refl x.0) in
+      let at = place-of_find (eq x.0) ys x here in
+      let place = found-place laws x.0 ys at.0 x v at.1 (laws.refl x.0) in
+      let rest = without-at laws x.0 ys at.0 v place in
+      let inner = same-finds xs (remove ys at.0) (IsDistinct-tail eq x.0 (keys_of xs) u) (distinct-without laws ys at.0 v)
+      (λ q. ap (lookup_entry (eq q)) (sym rest) ∙ find-without laws ys x.0 q v ∙ ap (cond (eq q x.0) None) (f q) ∙ sym (tail-find x xs q u)) in
+      IsPermutation-trans (x ∷ xs) (x ∷ remove ys at.0) ys (IsPermutation-cons x xs (remove ys at.0) inner)
+      (IsPermutation-sym ys (x ∷ remove ys at.0) (IsPermutation-remove ys at.0 x (place-below ys at.0 x at.1) (sym (get-read ys at.0 x at.1))))
+
+  -- equal keys are found alike
+  pub find-equal : (es : List (K × V)) (q k : K) → eq q k ≡ true → find eq es q ≡ find eq es k
+  find-equal [] q k y = refl
+  find-equal (x ∷ es) q k y = (λ i. cond (laws.congr q k x.0 y i) (Some x) (find-equal es q k y i))
+
+  -- a pair that was put in under a new key and then taken out leaves the old pairs in some order
+  pub inserted-removed : {S : Type 0} (c d e : Contents (K × V) S) (p : K × V) (r : Option (K × V)) → find eq (entries c) p.0 ≡ None → Holds c (p ∷ entries c) d → IsUnique eq d → Removes eq d p.0 r e → IsPermutation (entries c) (entries e)
+  inserted-removed c d e p r none h u = by r
+    where
+      cs : List (K × V)
+      cs = entries c
+
+      ds : List (K × V)
+      ds = entries d
+
+      found : FindsInstead eq cs p.0 (Some p) ds
+      found = finds-inserted laws c d p h u
+
+      here : find eq ds p.0 ≡ Some p
+      here = found.finds p.0 ∙ cond-true (Some p) (find eq cs p.0) (laws.refl p.0)
+
+      place : IsPlaceOf eq ds p.0 (place-of_find (eq p.0) ds p here).0
+      place = found-place laws p.0 ds (place-of_find (eq p.0) ds p here).0 p u (place-of_find (eq p.0) ds p here).1 (laws.refl p.0)
+
+      old : IsDistinct eq (keys_of cs)
+      old = IsDistinct-tail eq p.0 (keys_of cs) (distinct-IsPermutation laws ds (p ∷ cs) (IsPermutation-sym (p ∷ cs) ds h.same) u)
+
+      left : IsPermutation cs (without eq ds p.0)
+      left = same-finds cs (without eq ds p.0) old (distinct-remove_entry laws ds p.0 (place-of_find (eq p.0) ds p here).0 u place)
+          (λ q. find-without laws ds p.0 q u ∙ by_answer (eq q p.0)
+          (λ y. cond-true None (find eq ds q) y ∙ sym none ∙ sym (find-equal cs q p.0 y))
+          (λ y. cond-false None (find eq ds q) y ∙ found.finds q ∙ cond-false (Some p) (find eq cs q) y))
+
+      by : (r : Option (K × V)) → Removes eq d p.0 r e → IsPermutation cs (entries e)
+      by None s = absurd (let x : Some p ≡ None = sym here ∙ s.0 in cc)
+      by (Some q) s = IsPermutation-trans cs (without eq ds p.0) (entries e) left s.1.same
+
+module _ {K V S T : Type 0} {g : equality.Ghosts K} {h : hash.Ghosts K} {b : builder.Ghosts S T} {w : hasher.Ghosts T} {eq : K → K → Bool} (laws : IsEquivalence eq) (c : Contents (K × V) S) (k : K) where
+  -- what look-ups find once an occupied entry was written
+  pub finds-written : (o d : OccupiedEntry K V S T g h b w) (v : V) → IsOccupiedAt eq c k o → IsWritten o v d → FindsInstead eq (entries c) k (Some ((occupied_pair o).0, v)) (entries d.owned.now)
+  finds-written o d v at written = record {
+    finds = λ q.
+        ap (λ es. find eq es q) (written.contents.exact ∙ at.writes v) ∙ find-written laws (entries c) k q (occupied_pair o) v at.found;
+  }
+
+  -- what they find once a value was put in through a vacant one
+  pub finds-put : (e : VacantEntry K V S T g h b w) (o : OccupiedEntry K V S T g h b w) (v : V) → IsVacantAt eq c k e → IsInserted e v o → IsUnique eq o.owned.now → FindsInstead eq (entries c) k (Some (k, v)) (entries o.owned.now)
+  finds-put e o v at put u = record {
+    finds = λ q.
+        (finds-inserted laws e.owned.now o.owned.now (e.key, v) put.contents u).finds q
+        ∙ (λ i. cond (eq q (at.key i)) (Some (at.key i, v)) (find eq (entries (at.contents i)) q));
+  }
+
+  -- what they find of an occupied entry that was let go
+  finds-held : (o : OccupiedEntry K V S T g h b w) → IsOccupiedAt eq c k o → FindsInstead eq (entries c) k (Some (occupied_pair o)) (entries o.owned.now)
+  finds-held o at = record {
+    finds = λ q. ap (λ d. find eq (entries d) q) at.contents ∙ by_answer (eq q k)
+        (λ y. find-equal laws (entries c) q k y ∙ at.found ∙ sym (cond-true (Some (occupied_pair o)) (find eq (entries c) q) y))
+        (λ y. sym (cond-false (Some (occupied_pair o)) (find eq (entries c) q) y));
+  }
+
+  -- what they find after `or_insert`: the pair of its entry
+  pub finds-or_insert : (e : Entry K V S T g h b w) (v : V) (o : OccupiedEntry K V S T g h b w) → IsEntryOf eq c k e → OrInserts e v o → IsUnique eq o.owned.now → FindsInstead eq (entries c) k (Some (occupied_pair o)) (entries o.owned.now)
+  finds-or_insert (Occupied p) v o at is u = subst (λ q. FindsInstead eq (entries c) k (Some (occupied_pair q)) (entries q.owned.now)) (sym is) (finds-held p at)
+  finds-or_insert (Vacant e) v o at is u = subst (λ q. FindsInstead eq (entries c) k (Some q) (entries o.owned.now)) (ap (λ x. (x, v)) (sym at.key) ∙ sym is.pair) (finds-put e o v at is u)
+
+  module _ {F : Type 0} (f : Once F (MutBor V × Unit {0}) (Unit {0} × (MutBor V × Unit {0}))) (x : F) where
+    -- the pair of the entry after `and_modify` and `or_insert`
+    abbrev pub ModifiedOr : Entry K V S T g h b w → V → K × V → Type 0
+    ModifiedOr (Occupied p) v q = (q.0 ≡ (occupied_pair p).0) × FnOnceReturnsAtMut f x (occupied_pair p).1 tt q.1
+    ModifiedOr (Vacant e) v q = q ≡ (k, v)
+
+    -- what look-ups find after `and_modify` and `or_insert`: the pair of the entry
+    pub finds-modify_or_insert : (e m : Entry K V S T g h b w) (v : V) (o : OccupiedEntry K V S T g h b w) → IsEntryOf eq c k e → Modifies f x e m → OrInserts m v o → IsUnique eq o.owned.now
+        → ModifiedOr e v (occupied_pair o) × FindsInstead eq (entries c) k (Some (occupied_pair o)) (entries o.owned.now)
+    finds-modify_or_insert (Occupied p) (Occupied d) v o at is ins u =
+        let pair : occupied_pair o ≡ ((occupied_pair p).0, is.0) = ap (λ q. occupied_pair q) ins ∙ is.2.pair in (
+          rw pair (refl, is.1),
+          subst (λ q. FindsInstead eq (entries c) k (Some (occupied_pair q)) (entries q.owned.now)) (sym ins)
+              (subst (λ q. FindsInstead eq (entries c) k (Some q) (entries d.owned.now)) (sym is.2.pair) (finds-written p d is.0 at is.2)),
+        )
+    finds-modify_or_insert (Vacant e) (Vacant d) v o at is ins u =
+        let through : IsInserted e v o = subst (λ z. IsInserted z v o) is ins in
+        (through.pair ∙ ap (λ z. (z, v)) at.key, finds-or_insert (Vacant e) v o at through u)
+    finds-modify_or_insert (Occupied p) (Vacant d) v o at is ins u = absurd is
+    finds-modify_or_insert (Vacant e) (Occupied d) v o at is ins u = absurd is

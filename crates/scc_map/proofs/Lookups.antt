@@ -41,23 +41,23 @@ module _ {K V : Type 0} (t : K → Bool) where
       (r.0, ap (slice_get (x ∷ es)) s.2 ∙ r.1, cond-false (Some x) (lookup_entry t es) y ∙ r.2, r.3))
 
   -- where a look-up finds a pair, it stands at some place
-  place-of_find : (es : List (K × V)) (p : K × V) → lookup_entry t es ≡ Some p → (i : ℕ) × (slice_get es i ≡ Some p) × (t p.0 ≡ true)
+  pub place-of_find : (es : List (K × V)) (p : K × V) → lookup_entry t es ≡ Some p → (i : ℕ) × (slice_get es i ≡ Some p) × (t p.0 ≡ true)
   place-of_find [] p e = absurd (let h : None ≡ Some p = e in cc)
   place-of_find (x ∷ es) p e =
       by_answer (t x.0)
       (λ y. let h : Some x ≡ Some p = sym (cond-true (Some x) (lookup_entry t es) y) ∙ e in let s : x ≡ p = cc in (0, h, subst (λ (q : K × V). t q.0 ≡ true) s y))
       (λ y. let r = place-of_find es p (sym (cond-false (Some x) (lookup_entry t es) y) ∙ e) in (suc r.0, r.1, r.2))
 
-get-read : {X : Type 0} (es : List X) (i : ℕ) (x : X) → slice_get es i ≡ Some x → get_or es i x ≡ x
+pub get-read : {X : Type 0} (es : List X) (i : ℕ) (x : X) → slice_get es i ≡ Some x → get_or es i x ≡ x
 get-read [] i x e = absurd (let h : None ≡ Some x = e in cc)
 get-read (y ∷ es) zero x e = let h : y ≡ x = cc in h
 get-read (y ∷ es) (suc i) x e = get-read es i x e
 
-apart-none : {K V : Type 0} (t : K → Bool) (es : List (K × V)) → AllByRecursion (λ y. t y ≡ false) (keys_of es) → lookup_entry t es ≡ None
+pub apart-none : {K V : Type 0} (t : K → Bool) (es : List (K × V)) → AllByRecursion (λ y. t y ≡ false) (keys_of es) → lookup_entry t es ≡ None
 apart-none t [] h = refl
 apart-none t (x ∷ es) h = cond-false (Some x) (lookup_entry t es) h.0 ∙ apart-none t es h.1
 
-along : {K : Type 0} {P Q : K → Type 0} → ((k : K) → P k → Q k) → (ks : List K) → AllByRecursion P ks → AllByRecursion Q ks
+pub along : {K : Type 0} {P Q : K → Type 0} → ((k : K) → P k → Q k) → (ks : List K) → AllByRecursion P ks → AllByRecursion Q ks
 along f [] h = h
 along f (k ∷ ks) h = (f k h.0, along f ks h.1)
 
@@ -104,7 +104,7 @@ module _ {K V : Type 0} {eq : K → K → Bool} (laws : IsEquivalence eq) where
       (λ z. ap (lookup_entry (eq q)) (cond-false es (x ∷ remove_entry (eq k) es) y) ∙ cond-false (Some x) (lookup_entry (eq q) (remove_entry (eq k) es)) z
       ∙ find-without es k q (IsDistinct-tail eq x.0 (keys_of es) d) ∙ ap (λ o. cond (eq q k) None o) (sym (cond-false (Some x) (lookup_entry (eq q) es) z))))
 
-  distinct-remove_entry : (es : List (K × V)) (k : K) (i : ℕ) → IsDistinct eq (keys_of es) → IsPlaceOf eq es k i → IsDistinct eq (keys_of (remove_entry (eq k) es))
+  pub distinct-remove_entry : (es : List (K × V)) (k : K) (i : ℕ) → IsDistinct eq (keys_of es) → IsPlaceOf eq es k i → IsDistinct eq (keys_of (remove_entry (eq k) es))
   distinct-remove_entry es k i d f = rw (without-at laws k es i d f) (distinct-without laws es i d)
 
   -- a look-up after the pair of k was taken out, in some order
