@@ -25,9 +25,9 @@ none_head p x xs h = h.fails 0 x (omega arith)
 none_append : {X : Type 0} (p : X → Bool) (xs ys : List X) → NoneOf p xs → NoneOf p ys → NoneOf p (xs ++ ys)
 none_append p xs ys a b = record {
   fails = λ j d l. elim (dec_lt j (length xs)) [
-      yes q ↦ rw (get_or_append_left xs ys d j q) (a.fails j d q)
+    | yes q ↦ rw (get_or_append_left xs ys d j q) (a.fails j d q)
     | no q ↦ rw (get_or-append_right xs ys (length xs) j d refl (omega arith)) (b.fails (j - length xs) d (omega (arith, length-append xs ys)))
-    ]
+  ];
 }
 
 pub position_cons : {X : Type 0} (p : X → Bool) (x : X) (xs : List X) → p x ≡ false → position p (x ∷ xs) ≡ option_map suc (position p xs)
@@ -35,11 +35,11 @@ position_cons p x xs h =
     let n : ℕ = position_or_len p xs in
     let e : position_or_len p (x ∷ xs) ≡ suc n = rw h (omega arith) in
     elim (dec_lt n (length xs)) [
-      yes q ↦ found p (x ∷ xs) (suc n) (omega arith) e ∙ sym (ap (option_map suc) (found p xs n q refl))
-    | no q ↦
-        let far : nat_lt (suc n) (length (x ∷ xs)) ≡ false = let r : length (x ∷ xs) ≤ suc n = omega arith in search rules in
-        let near : nat_lt n (length xs) ≡ false = let r : length xs ≤ n = omega arith in search rules in
-        none_by p (x ∷ xs) (suc n) e far ∙ sym (ap (option_map suc) (none_by p xs n refl near))
+      | yes q ↦ found p (x ∷ xs) (suc n) (omega arith) e ∙ sym (ap (option_map suc) (found p xs n q refl))
+      | no q ↦
+          let far : nat_lt (suc n) (length (x ∷ xs)) ≡ false = let r : length (x ∷ xs) ≤ suc n = omega arith in search rules in
+          let near : nat_lt n (length xs) ≡ false = let r : length xs ≤ n = omega arith in search rules in
+          none_by p (x ∷ xs) (suc n) e far ∙ sym (ap (option_map suc) (none_by p xs n refl near))
     ]
 
 pub position_hit : {X : Type 0} (p : X → Bool) (x : X) (xs : List X) → p x ≡ true → position p (x ∷ xs) ≡ Some 0
@@ -91,10 +91,10 @@ position_flat p (l ∷ ls) (suc i) d q f =
 
 pub position-below : {X : Type 0} (p : X → Bool) (xs : List X) (i : ℕ) → position p xs ≡ Some i → i < length xs
 position-below p xs i e = elim (dec_lt (position_or_len p xs) (length xs)) [
-      yes q ↦ let s : Some (position_or_len p xs) ≡ Some i = sym (found p xs (position_or_len p xs) q refl) ∙ e in let w : position_or_len p xs ≡ i = cc in omega arith
-    | no q ↦ let far : nat_lt (position_or_len p xs) (length xs) ≡ false = let r : length xs ≤ position_or_len p xs = omega arith in search rules in
-        let s : None ≡ Some i = sym (none_by p xs (position_or_len p xs) refl far) ∙ e in cc
-    ]
+  | yes q ↦ let s : Some (position_or_len p xs) ≡ Some i = sym (found p xs (position_or_len p xs) q refl) ∙ e in let w : position_or_len p xs ≡ i = cc in omega arith
+  | no q ↦ let far : nat_lt (position_or_len p xs) (length xs) ≡ false = let r : length xs ≤ position_or_len p xs = omega arith in search rules in
+      let s : None ≡ Some i = sym (none_by p xs (position_or_len p xs) refl far) ∙ e in cc
+]
 
 -- the entries that pass p have the hash h
 pub record HashOf {E : Type 0} (p : E → Bool) (hash : E → ℕ) (h : ℕ) : Type 0 where
@@ -110,7 +110,7 @@ not_true false h = refl
 
 own_none : {E : Type 0} (p : E → Bool) (hash : E → ℕ) (h t m j : ℕ) (b : Shelf E) → HashOf p hash h → IsOwn hash t m j b → j ≢ bucket_number t m h → NoneOf p (shelf_entries b)
 own_none p hash h t m j b a o n = record {
-  fails = λ k d l. not_true _ (λ w. n (sym (o.routed k d l) ∙ ap (bucket_number t m) (a.same _ w)))
+  fails = λ k d l. not_true _ (λ w. n (sym (o.routed k d l) ∙ ap (bucket_number t m) (a.same _ w)));
 }
 
 module _ {E : Type 0} (p : E → Bool) (hash : E → ℕ) (h t n o i : ℕ) (bs : List (Shelf E)) (own : IsTable hash t bs n o) (a : HashOf p hash h) (e : i ≡ bucket_number t (length bs) h) where

@@ -44,65 +44,65 @@ table_set hash t n o m q i bs b c h l at own w v few =
       own = λ j d lj atd.
           let lb : j < length bs = omega arith in
           subst (λ k. IsOwn hash t k j d) (sym size) (elim (dec_lt j i) [
-            yes r ↦ h.own j d lb (atd ∙ get_or-set_other bs i j c d (omega arith))
-          | no r ↦ elim (dec_lt i j) [
-              yes z ↦ h.own j d lb (atd ∙ get_or-set_other bs i j c d (omega arith))
-            | no z ↦
-                let same : j ≡ i = omega arith in
-                let here : d ≡ c = atd ∙ ap (λ x. get_or (set bs i c) x d) same ∙ get_or-set_same bs i c d l in
-                subst (IsOwn hash t (length bs) j) (sym here) (subst (λ x. IsOwn hash t (length bs) x c) (sym same) own)
+            | yes r ↦ h.own j d lb (atd ∙ get_or-set_other bs i j c d (omega arith))
+            | no r ↦ elim (dec_lt i j) [
+              | yes z ↦ h.own j d lb (atd ∙ get_or-set_other bs i j c d (omega arith))
+              | no z ↦
+                  let same : j ≡ i = omega arith in
+                  let here : d ≡ c = atd ∙ ap (λ x. get_or (set bs i c) x d) same ∙ get_or-set_same bs i c d l in
+                  subst (IsOwn hash t (length bs) j) (sym here) (subst (λ x. IsOwn hash t (length bs) x c) (sym same) own)
             ]
           ]);
     }
 
 pub entries_insert : {E : Type 0} (b : Shelf E) (e : E) (t : ℕ) → shelf_entries (with_entry b e t) ≡ insert (shelf_entries b) (next_place b) e
 entries_insert b e t = elim (dec_lt (length b.slots) 32) [
-      yes q ↦
-        let c : nat_lt (length b.slots) 32 ≡ true = search rules in
-        rw c (sym (insert-append_left b.slots b.overflow (length b.slots) e (omega arith) ∙ ap (λ z. z ++ b.overflow) (insert_end b.slots e)))
-    | no q ↦
-        let c : nat_lt (length b.slots) 32 ≡ false = let r : 32 ≤ length b.slots = omega arith in search rules in
-        rw c (sym (insert_end (b.slots ++ b.overflow) e ∙ append_assoc b.slots b.overflow (e ∷ [])))
-    ]
+  | yes q ↦
+      let c : nat_lt (length b.slots) 32 ≡ true = search rules in
+      rw c (sym (insert-append_left b.slots b.overflow (length b.slots) e (omega arith) ∙ ap (λ z. z ++ b.overflow) (insert_end b.slots e)))
+  | no q ↦
+      let c : nat_lt (length b.slots) 32 ≡ false = let r : 32 ≤ length b.slots = omega arith in search rules in
+      rw c (sym (insert_end (b.slots ++ b.overflow) e ∙ append_assoc b.slots b.overflow (e ∷ [])))
+]
 
 pub place_le : {E : Type 0} (b : Shelf E) → next_place b ≤ length (shelf_entries b)
 place_le b = elim (dec_lt (length b.slots) 32) [
-      yes q ↦ let c : nat_lt (length b.slots) 32 ≡ true = search rules in rw c (omega (arith, length-append b.slots b.overflow))
-    | no q ↦ let c : nat_lt (length b.slots) 32 ≡ false = let r : 32 ≤ length b.slots = omega arith in search rules in rw c (omega arith)
-    ]
+  | yes q ↦ let c : nat_lt (length b.slots) 32 ≡ true = search rules in rw c (omega (arith, length-append b.slots b.overflow))
+  | no q ↦ let c : nat_lt (length b.slots) 32 ≡ false = let r : 32 ≤ length b.slots = omega arith in search rules in rw c (omega arith)
+]
 
 tags_push : {E : Type 0} (hash : E → ℕ) (b : Shelf E) (e : E) → b.tags ≡ map (λ x. tag_of (hash x)) b.slots → (with_entry b e (tag_of (hash e))).tags ≡ map (λ x. tag_of (hash x)) (with_entry b e (tag_of (hash e))).slots
 tags_push hash b e h = elim (dec_lt (length b.slots) 32) [
-      yes q ↦ let c : nat_lt (length b.slots) 32 ≡ true = search rules in rw c (ap (λ s. s ++ tag_of (hash e) ∷ []) h ∙ sym (map-append (λ x. tag_of (hash x)) b.slots (e ∷ [])))
-    | no q ↦ let c : nat_lt (length b.slots) 32 ≡ false = let r : 32 ≤ length b.slots = omega arith in search rules in rw c h
-    ]
+  | yes q ↦ let c : nat_lt (length b.slots) 32 ≡ true = search rules in rw c (ap (λ s. s ++ tag_of (hash e) ∷ []) h ∙ sym (map-append (λ x. tag_of (hash x)) b.slots (e ∷ [])))
+  | no q ↦ let c : nat_lt (length b.slots) 32 ≡ false = let r : 32 ≤ length b.slots = omega arith in search rules in rw c h
+]
 
 slots_push : {E : Type 0} (b : Shelf E) (e : E) (t : ℕ) → length b.slots ≤ 32 → length (with_entry b e t).slots ≤ 32
 slots_push b e t h = elim (dec_lt (length b.slots) 32) [
-      yes q ↦ let c : nat_lt (length b.slots) 32 ≡ true = search rules in rw c (omega (arith, length-append b.slots (e ∷ [])))
-    | no q ↦ let c : nat_lt (length b.slots) 32 ≡ false = let r : 32 ≤ length b.slots = omega arith in search rules in rw c h
-    ]
+  | yes q ↦ let c : nat_lt (length b.slots) 32 ≡ true = search rules in rw c (omega (arith, length-append b.slots (e ∷ [])))
+  | no q ↦ let c : nat_lt (length b.slots) 32 ≡ false = let r : 32 ≤ length b.slots = omega arith in search rules in rw c h
+]
 
 -- whether the overflow list grew shows in the place
 pub overflow_push : {E : Type 0} (b : Shelf E) (e : E) (t : ℕ) → length b.slots ≤ 32
     → (next_place b < 32 → (length (with_entry b e t).overflow ≡ length b.overflow) × (length b.slots < 32)) × (32 ≤ next_place b → (length (with_entry b e t).overflow ≡ length b.overflow + 1) × (32 ≤ length b.slots))
 overflow_push b e t h = elim (dec_lt (length b.slots) 32) [
-      yes q ↦ let c : nat_lt (length b.slots) 32 ≡ true = search rules in rw c (λ z. (refl, q), λ z. absurd (omega arith))
-    | no q ↦ let c : nat_lt (length b.slots) 32 ≡ false = let r : 32 ≤ length b.slots = omega arith in search rules in
-        rw c (λ z. absurd (omega (arith, length-append b.slots b.overflow)), λ z. (length-append b.overflow (e ∷ []), omega arith))
-    ]
+  | yes q ↦ let c : nat_lt (length b.slots) 32 ≡ true = search rules in rw c (λ z. (refl, q), λ z. absurd (omega arith))
+  | no q ↦ let c : nat_lt (length b.slots) 32 ≡ false = let r : 32 ≤ length b.slots = omega arith in search rules in
+      rw c (λ z. absurd (omega (arith, length-append b.slots b.overflow)), λ z. (length-append b.overflow (e ∷ []), omega arith))
+]
 
 routed_insert : {E : Type 0} (f : E → ℕ) (i p : ℕ) (xs : List E) (e : E) → ((j : ℕ) (d : E) → j < length xs → f (get_or xs j d) ≡ i) → f e ≡ i → p ≤ length xs → (j : ℕ) (d : E) → j < length (insert xs p e) → f (get_or (insert xs p e) j d) ≡ i
 routed_insert f i p xs e h w l j d lj =
     let n = length-insert xs p e l in
     elim (dec_lt j p) [
-      yes q ↦ ap f (get_or-insert_below xs p e d j q l) ∙ h j d (omega arith)
-    | no q ↦ elim (dec_lt p j) [
-        yes r ↦
-          let m : ℕ = j - 1 in
-          let s : j ≡ m + 1 = omega arith in
-          ap (λ x. f (get_or (insert xs p e) x d)) s ∙ ap f (get_or-insert_above xs p e d m (omega arith) l) ∙ h m d (omega arith)
-      | no r ↦ let s : j ≡ p = omega arith in ap (λ x. f (get_or (insert xs p e) x d)) s ∙ ap f (get_or-insert_at xs p e d l) ∙ w
+      | yes q ↦ ap f (get_or-insert_below xs p e d j q l) ∙ h j d (omega arith)
+      | no q ↦ elim (dec_lt p j) [
+        | yes r ↦
+            let m : ℕ = j - 1 in
+            let s : j ≡ m + 1 = omega arith in
+            ap (λ x. f (get_or (insert xs p e) x d)) s ∙ ap f (get_or-insert_above xs p e d m (omega arith) l) ∙ h m d (omega arith)
+        | no r ↦ let s : j ≡ p = omega arith in ap (λ x. f (get_or (insert xs p e) x d)) s ∙ ap f (get_or-insert_at xs p e d l) ∙ w
       ]
     ]
 
@@ -157,8 +157,8 @@ none_left (Some k) e = absurd (let z : Some (suc k) ≡ None = e in cc)
 pub none-apart : {E K : Type 0} (eq : K → K → Bool) (key : E → K) (k : K) (es : List E) → position (λ e. eq k (key e)) es ≡ None → AllByRecursion (λ y. eq k y ≡ false) (map key es)
 none-apart eq key k [] n = tt
 none-apart {E} eq key k (e ∷ es) n = by_answer (eq k (key e))
-      (λ y. absurd (let z : Some 0 ≡ None = sym (position_hit (λ (x : E). eq k (key x)) e es y) ∙ n in cc))
-      (λ y. (y, none-apart eq key k es (none_left (position (λ (x : E). eq k (key x)) es) (sym (position_cons (λ (x : E). eq k (key x)) e es y) ∙ n))))
+    (λ y. absurd (let z : Some 0 ≡ None = sym (position_hit (λ (x : E). eq k (key x)) e es y) ∙ n in cc))
+    (λ y. (y, none-apart eq key k es (none_left (position (λ (x : E). eq k (key x)) es) (sym (position_cons (λ (x : E). eq k (key x)) e es y) ∙ n))))
 
 -- keys stay distinct where one is added that was not there
 pub unique-inserted : {E K : Type 0} {eq : K → K → Bool} (laws : IsEquivalence eq) (key : E → K) (e : E) (es ds : List E) → IsDistinct eq (map key es) → position (λ x. eq (key e) (key x)) es ≡ None → IsPermutation (e ∷ es) ds
@@ -245,8 +245,8 @@ module _ {E S : Type 0} (hash : E → ℕ) (t n o i : ℕ) (bs : List (Shelf E))
     overflow-after r lower upper =
         let p = overflow_push b e (tag_of (hash e)) (h.own i b l at).within in
         elim (dec_lt slot 32) [
-          yes q ↦ let z = lower q in let g : length d.overflow ≡ length b.overflow = ap (λ x. length x.overflow) new ∙ (p.0 (rw place at q)).0 in omega arith
-        | no q ↦ let high : 32 ≤ slot = omega arith in let z = upper high in let g : length d.overflow ≡ length b.overflow + 1 = ap (λ x. length x.overflow) new ∙ (p.1 (rw place at high)).0 in omega arith
+          | yes q ↦ let z = lower q in let g : length d.overflow ≡ length b.overflow = ap (λ x. length x.overflow) new ∙ (p.0 (rw place at q)).0 in omega arith
+          | no q ↦ let high : 32 ≤ slot = omega arith in let z = upper high in let g : length d.overflow ≡ length b.overflow + 1 = ap (λ x. length x.overflow) new ∙ (p.1 (rw place at high)).0 in omega arith
         ]
 
   module _ (d : Shelf E) (new : d ≡ record b { room = d.room }) where

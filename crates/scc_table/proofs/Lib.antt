@@ -2,6 +2,7 @@ pub mod Counting
 pub mod Finding
 pub mod Inserts
 pub mod Making
+pub mod Pours
 pub mod Powers
 pub mod Remove
 pub mod Removes

@@ -66,20 +66,20 @@ kept-none eq key hash t minimum few small = kept-empty eq key hash t minimum [] 
 pub empty-push : {E : Type 0} (bs : List (Shelf E)) (b : Shelf E) → AllEmpty bs → (shelf_entries b ≡ []) × (b.tags ≡ []) → AllEmpty (bs ++ b ∷ [])
 empty-push bs b h e = record {
   empty = λ i a l at. elim (dec_lt i (length bs)) [
-      yes q ↦ h.empty i a q (at ∙ get_or_append_left bs (b ∷ []) a i q)
+    | yes q ↦ h.empty i a q (at ∙ get_or_append_left bs (b ∷ []) a i q)
     | no q ↦
         let n : i - length bs ≡ 0 = omega (arith, length-append bs (b ∷ [])) in
         let s : a ≡ b = at ∙ get_or-append_right bs (b ∷ []) (length bs) i a refl (omega arith) ∙ ap (λ k. get_or (b ∷ []) k a) n in
         rw s e
-    ]
+  ];
 }
 
 -- the front of empty buckets
 pub empty-front : {E : Type 0} (bs : List (Shelf E)) (b : Shelf E) → AllEmpty (bs ++ b ∷ []) → AllEmpty bs × ((shelf_entries b ≡ []) × (b.tags ≡ []))
 empty-front bs b h = (
-    record { empty = λ i a l at. h.empty i a (omega (arith, length-append bs (b ∷ []))) (at ∙ sym (get_or_append_left bs (b ∷ []) a i l)) },
-    h.empty (length bs) b (omega (arith, length-append bs (b ∷ []))) (let n : length bs - length bs ≡ 0 = omega arith in sym (get_or-append_right bs (b ∷ []) (length bs) (length bs) b refl (omega arith) ∙ ap (λ k. get_or (b ∷ []) k b) n))
-  )
+  record { empty = λ i a l at. h.empty i a (omega (arith, length-append bs (b ∷ []))) (at ∙ sym (get_or_append_left bs (b ∷ []) a i l)) },
+  h.empty (length bs) b (omega (arith, length-append bs (b ∷ []))) (let n : length bs - length bs ≡ 0 = omega arith in sym (get_or-append_right bs (b ∷ []) (length bs) (length bs) b refl (omega arith) ∙ ap (λ k. get_or (b ∷ []) k b) n)),
+)
 
 -- without buckets nothing is counted
 pub counts-none : {E : Type 0} (hash : E → ℕ) (t n o : ℕ) (bs : List (Shelf E)) → length bs ≡ 0 → IsTable hash t bs n o → (n ≡ 0) × (o ≡ 0)

@@ -8,37 +8,37 @@ use lib.Pow.{pow_mono, pow-add, shl-shr}
 -- a smaller power is at most half
 half : (p q j k : ℕ) → p ≡ 2 ^ k → q ≡ 2 ^ j → q < p → q ≤ p / 2
 half p q j k ep eq l = elim (dec_lt j k) [
-      yes h ↦
-        let m : 2 ^ (j + 1) ≤ 2 ^ k = pow_mono {i = j + 1} {j = k} (omega arith) in
-        let a : 2 ^ (j + 1) ≡ 2 ^ j * 2 ^ 1 = pow-add 2 j 1 in
-        omega arith
-    | no h ↦ let m : 2 ^ k ≤ 2 ^ j = pow_mono {i = k} {j = j} (omega arith) in absurd (omega arith)
-    ]
+  | yes h ↦
+      let m : 2 ^ (j + 1) ≤ 2 ^ k = pow_mono {i = j + 1} {j = k} (omega arith) in
+      let a : 2 ^ (j + 1) ≡ 2 ^ j * 2 ^ 1 = pow-add 2 j 1 in
+      omega arith
+  | no h ↦ let m : 2 ^ k ≤ 2 ^ j = pow_mono {i = k} {j = j} (omega arith) in absurd (omega arith)
+]
 
 pub least-next : (n p : ℕ) → 64 < n → n < 2 ^ 63 → IsPowerOfTwo p → n ≤ p → p / 2 < max 1 n → IsArraySize n p
 least-next n p big small w le half_below = record {
   power = w;
   least = omega arith;
   most = elim (dec_lt (2 ^ 63) p) [
-      yes h ↦ let m : 2 ^ 63 ≤ p / 2 = half p (2 ^ 63) 63 w.0 w.1 refl h in absurd (omega arith)
+    | yes h ↦ let m : 2 ^ 63 ≤ p / 2 = half p (2 ^ 63) 63 w.0 w.1 refl h in absurd (omega arith)
     | no h ↦ omega arith
-    ];
+  ];
   enough = omega arith;
   fewest = λ q v _ f. elim (dec_lt q p) [
-      yes h ↦ let m : q ≤ p / 2 = half p q v.0 w.0 w.1 v.1 h in absurd (omega arith)
+    | yes h ↦ let m : q ≤ p / 2 = half p q v.0 w.0 w.1 v.1 h in absurd (omega arith)
     | no h ↦ omega arith
-    ]
+  ];
 }
 
 -- 64 or more is 32 times a power of at least 2
 by_32 : (p k : ℕ) → p ≡ 2 ^ k → 64 ≤ p → (p / 32 ≡ 2 ^ (k - 5)) × (32 * (p / 32) ≡ p)
 by_32 p k e l = elim (dec_lt k 5) [
-      yes h ↦ let m : 2 ^ k ≤ 2 ^ 5 = pow_mono {i = k} {j = 5} (omega arith) in absurd (omega arith)
-    | no h ↦
-        let s : k - 5 + 5 ≡ k = omega arith in
-        let a : 2 ^ k ≡ 2 ^ (k - 5) * 2 ^ 5 = ap (λ j. 2 ^ j) (sym s) ∙ pow-add 2 (k - 5) 5 in
-        (omega arith, omega arith)
-    ]
+  | yes h ↦ let m : 2 ^ k ≤ 2 ^ 5 = pow_mono {i = k} {j = 5} (omega arith) in absurd (omega arith)
+  | no h ↦
+      let s : k - 5 + 5 ≡ k = omega arith in
+      let a : 2 ^ k ≡ 2 ^ (k - 5) * 2 ^ 5 = ap (λ j. 2 ^ j) (sym s) ∙ pow-add 2 (k - 5) 5 in
+      (omega arith, omega arith)
+]
 
 pub array-of_size : (n p : ℕ) → IsArraySize n p → IsArray (p / 32) × (32 * (p / 32) ≡ p)
 array-of_size n p h =

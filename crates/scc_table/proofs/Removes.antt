@@ -28,29 +28,29 @@ map-remove f (x ∷ xs) (suc i) = ap (λ z. f x ∷ z) (map-remove f xs i)
 module _ {E : Type 0} (b : Shelf E) (k : ℕ) (lk : k < length (shelf_entries b)) where
   pub entries_without : shelf_entries (without_place b k) ≡ remove (shelf_entries b) k
   entries_without = elim (dec_lt k (length b.slots)) [
-        yes q ↦ let c : nat_lt k (length b.slots) ≡ true = search rules in rw c (sym (remove-append_left b.slots b.overflow k q))
-      | no q ↦ let far : length b.slots ≤ k = omega arith in let c : nat_lt k (length b.slots) ≡ false = search rules in
-          rw c (sym (remove-append_right b.slots b.overflow (length b.slots) k refl far))
-      ]
+    | yes q ↦ let c : nat_lt k (length b.slots) ≡ true = search rules in rw c (sym (remove-append_left b.slots b.overflow k q))
+    | no q ↦ let far : length b.slots ≤ k = omega arith in let c : nat_lt k (length b.slots) ≡ false = search rules in
+        rw c (sym (remove-append_right b.slots b.overflow (length b.slots) k refl far))
+  ]
 
   pub overflow_without : (k < length b.slots → length (without_place b k).overflow ≡ length b.overflow) × (length b.slots ≤ k → length (without_place b k).overflow + 1 ≡ length b.overflow)
   overflow_without = elim (dec_lt k (length b.slots)) [
-        yes q ↦ let c : nat_lt k (length b.slots) ≡ true = search rules in rw c (λ z. refl, λ z. absurd (omega arith))
-      | no q ↦ let far : length b.slots ≤ k = omega arith in let c : nat_lt k (length b.slots) ≡ false = search rules in
-          rw c (λ z. absurd (omega arith), λ z. length-remove b.overflow (k - length b.slots) (omega (arith, length-append b.slots b.overflow)))
-      ]
+    | yes q ↦ let c : nat_lt k (length b.slots) ≡ true = search rules in rw c (λ z. refl, λ z. absurd (omega arith))
+    | no q ↦ let far : length b.slots ≤ k = omega arith in let c : nat_lt k (length b.slots) ≡ false = search rules in
+        rw c (λ z. absurd (omega arith), λ z. length-remove b.overflow (k - length b.slots) (omega (arith, length-append b.slots b.overflow)))
+  ]
 
   slots_without : length b.slots ≤ 32 → length (without_place b k).slots ≤ 32
   slots_without h = elim (dec_lt k (length b.slots)) [
-        yes q ↦ let c : nat_lt k (length b.slots) ≡ true = search rules in rw c (omega (arith, length-remove b.slots k q))
-      | no q ↦ let far : length b.slots ≤ k = omega arith in let c : nat_lt k (length b.slots) ≡ false = search rules in rw c h
-      ]
+    | yes q ↦ let c : nat_lt k (length b.slots) ≡ true = search rules in rw c (omega (arith, length-remove b.slots k q))
+    | no q ↦ let far : length b.slots ≤ k = omega arith in let c : nat_lt k (length b.slots) ≡ false = search rules in rw c h
+  ]
 
   tags_without : (f : E → ℕ) → b.tags ≡ map f b.slots → (without_place b k).tags ≡ map f (without_place b k).slots
   tags_without f h = elim (dec_lt k (length b.slots)) [
-        yes q ↦ let c : nat_lt k (length b.slots) ≡ true = search rules in rw c (ap (λ z. remove z k) h ∙ map-remove f b.slots k)
-      | no q ↦ let far : length b.slots ≤ k = omega arith in let c : nat_lt k (length b.slots) ≡ false = search rules in rw c h
-      ]
+    | yes q ↦ let c : nat_lt k (length b.slots) ≡ true = search rules in rw c (ap (λ z. remove z k) h ∙ map-remove f b.slots k)
+    | no q ↦ let far : length b.slots ≤ k = omega arith in let c : nat_lt k (length b.slots) ≡ false = search rules in rw c h
+  ]
 
   own_without : (hash : E → ℕ) (t m i : ℕ) → IsOwn hash t m i b → IsOwn hash t m i (without_place b k)
   own_without hash t m i o = record {
@@ -60,9 +60,9 @@ module _ {E : Type 0} (b : Shelf E) (k : ℕ) (lk : k < length (shelf_entries b)
         let lr : j < length (remove (shelf_entries b) k) = subst (λ z. j < length z) entries_without lj in
         ap (λ z. bucket_number t m (hash (get_or z j d))) entries_without
         ∙ elim (dec_lt j k) [
-            yes q ↦ ap (λ z. bucket_number t m (hash z)) (get_or-remove_below (shelf_entries b) k d j q lk) ∙ o.routed j d (omega arith)
+          | yes q ↦ ap (λ z. bucket_number t m (hash z)) (get_or-remove_below (shelf_entries b) k d j q lk) ∙ o.routed j d (omega arith)
           | no q ↦ ap (λ z. bucket_number t m (hash z)) (get_or-remove_above (shelf_entries b) k d j (omega arith) lk) ∙ o.routed (j + 1) d (omega arith)
-          ];
+        ];
     within = slots_without o.within;
   }
 
@@ -101,15 +101,15 @@ module _ {E S : Type 0} (hash : E → ℕ) (t n o : ℕ) (p : Place) (bs : List 
       let over : length d.overflow ≡ length (without_place b p.slot).overflow = ap (λ x. length x.overflow) new in
       let few = h.few in
       elim (dec_lt p.slot (length b.slots)) [
-        yes q ↦
-          let z = lower q in
-          let v = w.0 q in
-          (table_set hash t n o (n - 1) (o - r) p.bucket bs b d h l at (subst (IsOwn hash t (length bs) p.bucket) (sym new) (own_without b p.slot lk hash t (length bs) p.bucket (h.own p.bucket b l at))) (let f = fewer in omega arith) (omega arith) (omega arith), omega arith)
-      | no q ↦
-          let far : length b.slots ≤ p.slot = omega arith in
-          let z = upper far in
-          let v = w.1 far in
-          (table_set hash t n o (n - 1) (o - r) p.bucket bs b d h l at (subst (IsOwn hash t (length bs) p.bucket) (sym new) (own_without b p.slot lk hash t (length bs) p.bucket (h.own p.bucket b l at))) (let f = fewer in omega arith) (omega arith) (omega arith), omega arith)
+        | yes q ↦
+            let z = lower q in
+            let v = w.0 q in
+            (table_set hash t n o (n - 1) (o - r) p.bucket bs b d h l at (subst (IsOwn hash t (length bs) p.bucket) (sym new) (own_without b p.slot lk hash t (length bs) p.bucket (h.own p.bucket b l at))) (let f = fewer in omega arith) (omega arith) (omega arith), omega arith)
+        | no q ↦
+            let far : length b.slots ≤ p.slot = omega arith in
+            let z = upper far in
+            let v = w.1 far in
+            (table_set hash t n o (n - 1) (o - r) p.bucket bs b d h l at (subst (IsOwn hash t (length bs) p.bucket) (sym new) (own_without b p.slot lk hash t (length bs) p.bucket (h.own p.bucket b l at))) (let f = fewer in omega arith) (omega arith) (omega arith), omega arith)
       ]
 
   pub removed-exactly : HoldsExactly c (remove (entries c) (index_of c p)) (view_of (set bs p.bucket d) s)
@@ -119,7 +119,7 @@ module _ {E S : Type 0} (hash : E → ℕ) (t n o : ℕ) (p : Place) (bs : List 
       let ll : p.bucket < length ls = rw (length-map bs shelf_entries) l in
       let lq : p.slot < length (get_or ls p.bucket []) = rw list-there lk in
       let lists : map shelf_entries (set bs p.bucket d) ≡ set ls p.bucket (remove (get_or ls p.bucket []) p.slot) =
-          map-set shelf_entries bs p.bucket d ∙ ap (set ls p.bucket) (ap shelf_entries new ∙ entries_without b p.slot lk ∙ ap (λ z. remove z p.slot) (sym list-there)) in
+      map-set shelf_entries bs p.bucket d ∙ ap (set ls p.bucket) (ap shelf_entries new ∙ entries_without b p.slot lk ∙ ap (λ z. remove z p.slot) (sym list-there)) in
       record {
         exact = ap (flat_map (λ l. l)) lists ∙ flat-remove ls p.bucket p.slot ll lq
             ∙ ap (λ (x : Contents E S). remove (flat_map (λ l. l) x.lists) (length (flat_map (λ l. l) (take p.bucket x.lists)) + p.slot)) view;

@@ -32,18 +32,18 @@ hits_start p b tag tags h le n e = record {
       let there : get_or b.tags j 0 ≡ tag = h j d l t in
       let stored : get_or tags j 0 ≡ tag = sym (get_or-take (length b.slots) tags j 0 l) ∙ sym (ap (λ x. get_or x j 0) e) ∙ there in
       let lane : get_or (map (λ x. x == tag) tags) j false ≡ (get_or tags j 0 == tag) = get_or-map (λ x. x == tag) tags j 0 false (omega arith) in
-      bit_mask_l (map (λ x. x == tag) tags) j ∙ bit_of_true _ (lane ∙ eq-eqb _ _ stored)
+      bit_mask_l (map (λ x. x == tag) tags) j ∙ bit_of_true _ (lane ∙ eq-eqb _ _ stored);
 }
 
 pub hits_next : {X : Type 0} (p : X → Bool) (xs : List X) (bits rest place : ℕ) → HitsLeft p xs bits → place ≡ trailing_zeros w32 bits
     → ((d : X) → place < length xs → p (get_or xs place d) ≡ true → ⊥) → ((k : ℕ) → bit_at bits k ≡ 1 → k ≢ trailing_zeros w32 bits → bit_at rest k ≡ 1) → HitsLeft p xs rest
 hits_next p xs bits rest place h e miss others = record {
-  hits = λ j d l t. others j (h.hits j d l t) (λ z. let same : j ≡ place = z ∙ sym e in miss d (omega arith) (subst (λ k. p (get_or xs k d) ≡ true) same t))
+  hits = λ j d l t. others j (h.hits j d l t) (λ z. let same : j ≡ place = z ∙ sym e in miss d (omega arith) (subst (λ k. p (get_or xs k d) ≡ true) same t));
 }
 
 pub missed_slots : {X : Type 0} (p : X → Bool) (xs : List X) (bits : ℕ) → HitsLeft p xs bits → bits ≡ 0 → MissedBelow p xs (length xs)
 missed_slots p xs bits h e = record {
-  missed = λ j d l. not_true _ (λ t. let one : bit_at 0 j ≡ 1 = subst (λ n. bit_at n j ≡ 1) e (h.hits j d l t) in let z = bit_at-zero j in omega arith)
+  missed = λ j d l. not_true _ (λ t. let one : bit_at 0 j ≡ 1 = subst (λ n. bit_at n j ≡ 1) e (h.hits j d l t) in let z = bit_at-zero j in omega arith);
 }
 
 pub found : {X : Type 0} (p : X → Bool) (xs : List X) (i : ℕ) → i < length xs → position_or_len p xs ≡ i → position p xs ≡ Some i
@@ -62,9 +62,9 @@ found_slot p xs ys bits i d h first l at pd =
 
 missed_both : {X : Type 0} (p : X → Bool) (xs ys : List X) (i k : ℕ) (d : X) → MissedBelow p xs (length xs) → MissedBelow p ys i → k < length xs + i → p (get_or (xs ++ ys) k d) ≡ false
 missed_both p xs ys i k d h m lk = elim (dec_lt k (length xs)) [
-      yes q ↦ rw (get_or_append_left xs ys d k q) (h.missed k d q)
-    | no q ↦ rw (get_or-append_right xs ys (length xs) k d refl (omega arith)) (m.missed (k - length xs) d (omega arith))
-    ]
+  | yes q ↦ rw (get_or_append_left xs ys d k q) (h.missed k d q)
+  | no q ↦ rw (get_or-append_right xs ys (length xs) k d refl (omega arith)) (m.missed (k - length xs) d (omega arith))
+]
 
 pub none_by : {X : Type 0} (p : X → Bool) (xs : List X) (n : ℕ) → position_or_len p xs ≡ n → nat_lt n (length xs) ≡ false → position p xs ≡ None
 none_by p xs n e t = rw e (rw t)

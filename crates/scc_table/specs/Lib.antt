@@ -2,6 +2,7 @@ pub mod Contents
 pub mod Hashing
 pub mod Pairs
 pub mod Places
+pub mod Pour
 pub mod Routing
 pub mod Shelf
 pub mod Sizes

@@ -6,11 +6,13 @@ pub mod errors;
 pub mod keyed;
 pub mod pairs;
 pub mod place;
+mod pour;
 pub mod reservation;
 pub mod route;
 pub mod sizes;
 pub mod table;
 pub mod tags;
+mod tally;
 pub mod verdict;
 pub mod walks;
 

@@ -26,6 +26,6 @@ returns g c =
     let len : c.len-count.result ≡ length bs = search rules in
     let hashed = rw (settings-view bs _ c.args.self.now c.self.view_is) at c.hash.ensures in
     let routed : i ≡ bucket_number c.self.inside.skipped (length bs) (hash_of g.H.BuildHasher g.H.Hasher.Hasher c.self.inside.hasher (g.E.Key.Hash.hash_input c.args.key.now)) =
-        c.bucket_index-bucket.ensures.value ∙ ap (λ n. bucket_number c.self.inside.skipped n c.hash.result) len ∙ ap (bucket_number c.self.inside.skipped (length bs)) hashed in
+    c.bucket_index-bucket.ensures.value ∙ ap (λ n. bucket_number c.self.inside.skipped n c.hash.result) len ∙ ap (bucket_number c.self.inside.skipped (length bs)) hashed in
     let held = count-in_bucket (λ e. hash_of g.H.BuildHasher g.H.Hasher.Hasher c.self.inside.hasher (g.E.Key.Hash.hash_input (g.E.Keyed.key_of e))) c.self.inside.skipped c.self.inside.length c.self.inside.overflowing i bs c.index.result.now c.self.invariant.table l c.index.ensures in
     rw (entries-view bs _ c.args.self.now c.self.view_is, count-view bs _ c.args.self.now c.self.view_is, settings-view bs _ c.args.self.now c.self.view_is, ← routed, held) (λ yes. (omega arith, search rules), λ room. search rules)

@@ -20,7 +20,7 @@ returns-then-is_full-clause-full g c =
     let l : i < length bs = search rules in
     let hashed = rw (settings-view bs _ c.args.self.now c.self.view_is) at c.requires.hashed in
     let routed : i ≡ bucket_number t.skipped (length bs) (hash_of g.H.BuildHasher g.H.Hasher.Hasher t.hasher (g.E.Key.Hash.hash_input (g.E.Keyed.key_of c.args.entry))) =
-        let len : c.len.result ≡ length bs = search rules in c.bucket_index-bucket.ensures.value ∙ ap (λ n. bucket_number t.skipped n c.args.hash) len ∙ ap (bucket_number t.skipped (length bs)) hashed in
+    let len : c.len.result ≡ length bs = search rules in c.bucket_index-bucket.ensures.value ∙ ap (λ n. bucket_number t.skipped n c.args.hash) len ∙ ap (bucket_number t.skipped (length bs)) hashed in
     let held = count-in_bucket (λ e. hash_of g.H.BuildHasher g.H.Hasher.Hasher c.self.inside.hasher (g.E.Key.Hash.hash_input (g.E.Keyed.key_of e))) t.skipped t.length t.overflowing i bs c.index.result.now c.self.invariant.table l c.index.ensures in
     let full : 32 ≤ length c.index.result.now.slots = search rules in
     rw (entries-view bs _ c.args.self.now c.self.view_is, count, settings-view bs _ c.args.self.now c.self.view_is, ← routed, held) (λ room. absurd (omega (arith, room.1, length-append c.index.result.now.slots c.index.result.now.overflow)))
@@ -64,22 +64,22 @@ invariant_of-self g c =
     let b = c.index_mut.result.now in
     let hashed = rw (settings-view bs _ c.args.self.now c.self.view_is) at c.requires.hashed in
     let routed : i ≡ bucket_number t.skipped (length bs) (hash_of g.H.BuildHasher g.H.Hasher.Hasher t.hasher (g.E.Key.Hash.hash_input (g.E.Keyed.key_of c.args.entry))) =
-        let len : c.len.result ≡ length bs = search rules in c.bucket_index-bucket.ensures.value ∙ ap (λ n. bucket_number t.skipped n c.args.hash) len ∙ ap (bucket_number t.skipped (length bs)) hashed in
+    let len : c.len.result ≡ length bs = search rules in c.bucket_index-bucket.ensures.value ∙ ap (λ n. bucket_number t.skipped n c.args.hash) len ∙ ap (bucket_number t.skipped (length bs)) hashed in
     let stored = c.in-Ok.ensures.ok.1 ∙ ap (λ x. let r : Shelf g.row.E.Denot = record (with_entry b c.args.entry x) { room = c.insert.new.self.room } in r) (c.tag.ensures ∙ ap tag_of hashed) in
     let low : c.in-Ok.slot < 32 → c.one_if.result ≡ 0 = search rules in
     let high : 32 ≤ c.in-Ok.slot → c.one_if.result ≡ 1 = search rules in
     let few : t.overflowing + c.one_if.result < 2 ^ 62 = elim (dec_lt c.in-Ok.slot 32) [
-          yes q ↦ let z = low q in let f = c.self.invariant.table.few in omega arith
-        | no q ↦
-            let z : c.one_if.result ≡ 1 = high (omega arith) in
-            elim c.else-self.branch [
-              else-self-via-then-self+else-is_full w ↦
+      | yes q ↦ let z = low q in let f = c.self.invariant.table.few in omega arith
+      | no q ↦
+          let z : c.one_if.result ≡ 1 = high (omega arith) in
+          elim c.else-self.branch [
+            | else-self-via-then-self+else-is_full w ↦
                 let same : w.index.result.now ≡ b = read-again bs i w.index.result.now b l w.index.ensures c.index_mut.ensures.value in
                 let full : 32 ≤ length w.index.result.now.slots = rw same (overflow-full (λ e. hash_of g.H.BuildHasher g.H.Hasher.Hasher c.self.inside.hasher (g.E.Key.Hash.hash_input (g.E.Keyed.key_of e))) t.skipped t.length t.overflowing i bs c.self.invariant.table _ c.args.self.now c.self.view_is b l c.index_mut.ensures.value c.insert.new.self c.args.entry c.in-Ok.slot stored c.in-Ok.ensures.ok.0 (omega arith)) in
                 absurd (search rules)
             | else-self-via-else-self w ↦ omega arith
-            ]
-        ] in
+          ]
+    ] in
     record {
       table = inserted-table (λ e. hash_of g.H.BuildHasher g.H.Hasher.Hasher c.self.inside.hasher (g.E.Key.Hash.hash_input (g.E.Keyed.key_of e))) t.skipped t.length t.overflowing i bs c.self.invariant.table _ c.args.self.now c.self.view_is b l c.index_mut.ensures.value c.insert.new.self c.args.entry c.in-Ok.slot stored c.in-Ok.ensures.ok.0 (t.overflowing + c.one_if.result) routed (overflow-after (λ e. hash_of g.H.BuildHasher g.H.Hasher.Hasher c.self.inside.hasher (g.E.Key.Hash.hash_input (g.E.Keyed.key_of e))) t.skipped t.length t.overflowing i bs c.self.invariant.table _ c.args.self.now c.self.view_is b l c.index_mut.ensures.value c.insert.new.self c.args.entry c.in-Ok.slot stored c.in-Ok.ensures.ok.0 c.one_if.result low high) few;
       few_bits = c.self.invariant.few_bits;
@@ -98,7 +98,7 @@ invariant_of-self-in-Err g c =
     let b = c.index_mut.result.now in
     let hashed = rw (settings-view bs _ c.args.self.now c.self.view_is) at c.requires.hashed in
     let routed : i ≡ bucket_number t.skipped (length bs) (hash_of g.H.BuildHasher g.H.Hasher.Hasher t.hasher (g.E.Key.Hash.hash_input (g.E.Keyed.key_of c.args.entry))) =
-        let len : c.len.result ≡ length bs = search rules in c.bucket_index-bucket.ensures.value ∙ ap (λ n. bucket_number t.skipped n c.args.hash) len ∙ ap (bucket_number t.skipped (length bs)) hashed in
+    let len : c.len.result ≡ length bs = search rules in c.bucket_index-bucket.ensures.value ∙ ap (λ n. bucket_number t.skipped n c.args.hash) len ∙ ap (bucket_number t.skipped (length bs)) hashed in
     record {
       table = refused-table (λ e. hash_of g.H.BuildHasher g.H.Hasher.Hasher c.self.inside.hasher (g.E.Key.Hash.hash_input (g.E.Keyed.key_of e))) t.skipped t.length t.overflowing i bs c.self.invariant.table _ c.args.self.now c.self.view_is b l c.index_mut.ensures.value c.insert.new.self c.in-Err.ensures.err.1;
       few_bits = c.self.invariant.few_bits;
@@ -117,7 +117,7 @@ returns-in-Ok-clause-ok g c =
     let b = c.index_mut.result.now in
     let hashed = rw (settings-view bs _ c.args.self.now c.self.view_is) at c.requires.hashed in
     let routed : i ≡ bucket_number t.skipped (length bs) (hash_of g.H.BuildHasher g.H.Hasher.Hasher t.hasher (g.E.Key.Hash.hash_input (g.E.Keyed.key_of c.args.entry))) =
-        let len : c.len.result ≡ length bs = search rules in c.bucket_index-bucket.ensures.value ∙ ap (λ n. bucket_number t.skipped n c.args.hash) len ∙ ap (bucket_number t.skipped (length bs)) hashed in
+    let len : c.len.result ≡ length bs = search rules in c.bucket_index-bucket.ensures.value ∙ ap (λ n. bucket_number t.skipped n c.args.hash) len ∙ ap (bucket_number t.skipped (length bs)) hashed in
     let stored = c.in-Ok.ensures.ok.1 ∙ ap (λ x. let r : Shelf g.row.E.Denot = record (with_entry b c.args.entry x) { room = c.insert.new.self.room } in r) (c.tag.ensures ∙ ap tag_of hashed) in
     inserted-at (λ e. hash_of g.H.BuildHasher g.H.Hasher.Hasher c.self.inside.hasher (g.E.Key.Hash.hash_input (g.E.Keyed.key_of e))) t.skipped t.length t.overflowing i bs c.self.invariant.table _ c.args.self.now c.self.view_is b l c.index_mut.ensures.value c.insert.new.self c.args.entry c.in-Ok.slot stored c.in-Ok.ensures.ok.0
 
@@ -132,7 +132,7 @@ returns-in-Ok-clause-unique g c =
     let b = c.index_mut.result.now in
     let hashed = rw (settings-view bs _ c.args.self.now c.self.view_is) at c.requires.hashed in
     let routed : i ≡ bucket_number t.skipped (length bs) (hash_of g.H.BuildHasher g.H.Hasher.Hasher t.hasher (g.E.Key.Hash.hash_input (g.E.Keyed.key_of c.args.entry))) =
-        let len : c.len.result ≡ length bs = search rules in c.bucket_index-bucket.ensures.value ∙ ap (λ n. bucket_number t.skipped n c.args.hash) len ∙ ap (bucket_number t.skipped (length bs)) hashed in
+    let len : c.len.result ≡ length bs = search rules in c.bucket_index-bucket.ensures.value ∙ ap (λ n. bucket_number t.skipped n c.args.hash) len ∙ ap (bucket_number t.skipped (length bs)) hashed in
     let stored = c.in-Ok.ensures.ok.1 ∙ ap (λ x. let r : Shelf g.row.E.Denot = record (with_entry b c.args.entry x) { room = c.insert.new.self.room } in r) (c.tag.ensures ∙ ap tag_of hashed) in
     unique-inserted g.met.E.Key.Eq.laws g.E.Keyed.key_of c.args.entry (entries c.args.self.now) _ (rw (entries-view bs _ c.args.self.now c.self.view_is) c.self.invariant.unique) c.requires.absent (inserted-holds (λ e. hash_of g.H.BuildHasher g.H.Hasher.Hasher c.self.inside.hasher (g.E.Key.Hash.hash_input (g.E.Keyed.key_of e))) t.skipped t.length t.overflowing i bs c.self.invariant.table _ c.args.self.now c.self.view_is b l c.index_mut.ensures.value c.insert.new.self c.args.entry c.in-Ok.slot stored c.in-Ok.ensures.ok.0).same
 
@@ -147,7 +147,7 @@ returns-in-Err-clause-err g c =
     let b = c.index_mut.result.now in
     let hashed = rw (settings-view bs _ c.args.self.now c.self.view_is) at c.requires.hashed in
     let routed : i ≡ bucket_number t.skipped (length bs) (hash_of g.H.BuildHasher g.H.Hasher.Hasher t.hasher (g.E.Key.Hash.hash_input (g.E.Keyed.key_of c.args.entry))) =
-        let len : c.len.result ≡ length bs = search rules in c.bucket_index-bucket.ensures.value ∙ ap (λ n. bucket_number t.skipped n c.args.hash) len ∙ ap (bucket_number t.skipped (length bs)) hashed in
+    let len : c.len.result ≡ length bs = search rules in c.bucket_index-bucket.ensures.value ∙ ap (λ n. bucket_number t.skipped n c.args.hash) len ∙ ap (bucket_number t.skipped (length bs)) hashed in
     (c.in-Err.ensures.err.0, refused-unchanged (λ e. hash_of g.H.BuildHasher g.H.Hasher.Hasher c.self.inside.hasher (g.E.Key.Hash.hash_input (g.E.Keyed.key_of e))) t.skipped t.length t.overflowing i bs c.self.invariant.table _ c.args.self.now c.self.view_is b l c.index_mut.ensures.value c.insert.new.self c.in-Err.ensures.err.1)
 
 pub returns-in-Err-clause-full : goal.returns-in-Err-clause-full
@@ -161,7 +161,7 @@ returns-in-Err-clause-full g c =
     let b = c.index_mut.result.now in
     let hashed = rw (settings-view bs _ c.args.self.now c.self.view_is) at c.requires.hashed in
     let routed : i ≡ bucket_number t.skipped (length bs) (hash_of g.H.BuildHasher g.H.Hasher.Hasher t.hasher (g.E.Key.Hash.hash_input (g.E.Keyed.key_of c.args.entry))) =
-        let len : c.len.result ≡ length bs = search rules in c.bucket_index-bucket.ensures.value ∙ ap (λ n. bucket_number t.skipped n c.args.hash) len ∙ ap (bucket_number t.skipped (length bs)) hashed in
+    let len : c.len.result ≡ length bs = search rules in c.bucket_index-bucket.ensures.value ∙ ap (λ n. bucket_number t.skipped n c.args.hash) len ∙ ap (bucket_number t.skipped (length bs)) hashed in
     let held = count-in_bucket (λ e. hash_of g.H.BuildHasher g.H.Hasher.Hasher c.self.inside.hasher (g.E.Key.Hash.hash_input (g.E.Keyed.key_of e))) t.skipped t.length t.overflowing i bs b c.self.invariant.table l c.index_mut.ensures.value in
     rw (entries-view bs _ c.args.self.now c.self.view_is, count, settings-view bs _ c.args.self.now c.self.view_is, ← routed, held) (λ room. absurd (omega (arith, room.1, c.in-Err.ensures.err.2, length-append b.slots b.overflow)))
 
@@ -176,6 +176,5 @@ returns-in-Err-clause-unique g c =
     let b = c.index_mut.result.now in
     let hashed = rw (settings-view bs _ c.args.self.now c.self.view_is) at c.requires.hashed in
     let routed : i ≡ bucket_number t.skipped (length bs) (hash_of g.H.BuildHasher g.H.Hasher.Hasher t.hasher (g.E.Key.Hash.hash_input (g.E.Keyed.key_of c.args.entry))) =
-        let len : c.len.result ≡ length bs = search rules in c.bucket_index-bucket.ensures.value ∙ ap (λ n. bucket_number t.skipped n c.args.hash) len ∙ ap (bucket_number t.skipped (length bs)) hashed in
+    let len : c.len.result ≡ length bs = search rules in c.bucket_index-bucket.ensures.value ∙ ap (λ n. bucket_number t.skipped n c.args.hash) len ∙ ap (bucket_number t.skipped (length bs)) hashed in
     rw ((refused-unchanged (λ e. hash_of g.H.BuildHasher g.H.Hasher.Hasher c.self.inside.hasher (g.E.Key.Hash.hash_input (g.E.Keyed.key_of e))) t.skipped t.length t.overflowing i bs c.self.invariant.table _ c.args.self.now c.self.view_is b l c.index_mut.ensures.value c.insert.new.self c.in-Err.ensures.err.1).exact, entries-view bs _ c.args.self.now c.self.view_is) c.self.invariant.unique
-

@@ -14,6 +14,6 @@ returns-then-is_err-clause-unique g c = rw c.make_array.ensures.still tt
 
 pub returns-clause-full : goal.returns-clause-full
 returns-clause-full g c = elim c.else-bucket_count-eq0.branch [
-      else-bucket_count-eq0-via-then-bucket_count-eq0+else-is_err w ↦ on_err c.insert_in_array.result (λ room. absurd (omega (arith, room.0, w.if-bucket_count-eq0.true, c.bucket_count.ensures.count)))
-    | else-bucket_count-eq0-via-else-bucket_count-eq0 w ↦ rw w.self-is at c.insert_in_array.ensures.full
-    ]
+  | else-bucket_count-eq0-via-then-bucket_count-eq0+else-is_err w ↦ on_err c.insert_in_array.result (λ room. absurd (omega (arith, room.0, w.if-bucket_count-eq0.true, c.bucket_count.ensures.count)))
+  | else-bucket_count-eq0-via-else-bucket_count-eq0 w ↦ rw w.self-is at c.insert_in_array.ensures.full
+]

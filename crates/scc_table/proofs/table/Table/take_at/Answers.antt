@@ -72,7 +72,7 @@ invariant_of-self g c =
     let lower : c.args.place.slot < length b.slots → c.one_if.result ≡ 0 = λ q. let r : c.args.place.slot < length c.index.result.now.slots = omega arith in search rules in
     let upper : length b.slots ≤ c.args.place.slot → c.one_if.result ≡ 1 = λ q. let r : length c.index.result.now.slots ≤ c.args.place.slot = omega arith in search rules in
     let got = place-get c.args.self.now c.args.place c.requires c.remove_at-entry.result
-        (get-index _ c.args.place.slot c.remove_at-entry.result c.requires.slot (rw (list-view bs _ c.args.self.now c.self.view_is c.args.place.bucket b l c.index_mut.ensures.value) c.remove_at-entry.ensures.entry)) in
+    (get-index _ c.args.place.slot c.remove_at-entry.result c.requires.slot (rw (list-view bs _ c.args.self.now c.self.view_is c.args.place.bucket b l c.index_mut.ensures.value) c.remove_at-entry.ensures.entry)) in
     record {
       table = (removed-table (λ e. hash_of g.H.BuildHasher g.H.Hasher.Hasher c.self.inside.hasher (g.E.Key.Hash.hash_input (g.E.Keyed.key_of e))) t.skipped t.length t.overflowing c.args.place bs c.self.invariant.table _ c.args.self.now c.self.view_is b l c.index_mut.ensures.value lk c.remove_at-entry.new.self c.remove_at-entry.ensures.others c.one_if.result lower upper).0;
       few_bits = c.self.invariant.few_bits;
@@ -89,7 +89,7 @@ returns-clause-entry g c =
     let b = c.index_mut.result.now in
     let lk : c.args.place.slot < length (shelf_entries b) = rw (list-view bs _ c.args.self.now c.self.view_is c.args.place.bucket b l c.index_mut.ensures.value) at c.requires.slot in
     let got = place-get c.args.self.now c.args.place c.requires c.remove_at-entry.result
-        (get-index _ c.args.place.slot c.remove_at-entry.result c.requires.slot (rw (list-view bs _ c.args.self.now c.self.view_is c.args.place.bucket b l c.index_mut.ensures.value) c.remove_at-entry.ensures.entry)) in
+    (get-index _ c.args.place.slot c.remove_at-entry.result c.requires.slot (rw (list-view bs _ c.args.self.now c.self.view_is c.args.place.bucket b l c.index_mut.ensures.value) c.remove_at-entry.ensures.entry)) in
     got
 
 pub returns-clause-others : goal.returns-clause-others
@@ -111,6 +111,5 @@ returns-clause-unique g c =
     let b = c.index_mut.result.now in
     let lk : c.args.place.slot < length (shelf_entries b) = rw (list-view bs _ c.args.self.now c.self.view_is c.args.place.bucket b l c.index_mut.ensures.value) at c.requires.slot in
     let got = place-get c.args.self.now c.args.place c.requires c.remove_at-entry.result
-        (get-index _ c.args.place.slot c.remove_at-entry.result c.requires.slot (rw (list-view bs _ c.args.self.now c.self.view_is c.args.place.bucket b l c.index_mut.ensures.value) c.remove_at-entry.ensures.entry)) in
+    (get-index _ c.args.place.slot c.remove_at-entry.result c.requires.slot (rw (list-view bs _ c.args.self.now c.self.view_is c.args.place.bucket b l c.index_mut.ensures.value) c.remove_at-entry.ensures.entry)) in
     removed-unique (λ e. hash_of g.H.BuildHasher g.H.Hasher.Hasher c.self.inside.hasher (g.E.Key.Hash.hash_input (g.E.Keyed.key_of e))) t.skipped t.length t.overflowing c.args.place bs c.self.invariant.table _ c.args.self.now c.self.view_is b l c.index_mut.ensures.value lk c.remove_at-entry.new.self c.remove_at-entry.ensures.others g.met.E.Key.Eq.laws g.E.Keyed.key_of c.remove_at-entry.result got c.self.invariant.unique
-

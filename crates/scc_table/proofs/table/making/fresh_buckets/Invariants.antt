@@ -7,5 +7,5 @@ abbrev pub invariant-loop : goal.invariant-loop
 invariant-loop g l = record {
   made : length l.fresh.items ≡ l.counter;
   empty : AllEmpty l.fresh.items;
-  room : l.fn.count ≤ vec_capacity l.fresh
+  room : l.fn.count ≤ vec_capacity l.fresh;
 }
