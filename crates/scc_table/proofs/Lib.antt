@@ -8,5 +8,6 @@ pub mod Remove
 pub mod Removes
 pub mod Search
 pub mod Spots
+pub mod Tallies
 pub mod Views
 pub mod WalkLemmas
