@@ -4,6 +4,7 @@ pub mod Inserts
 pub mod Making
 pub mod Pours
 pub mod Powers
+pub mod Refill
 pub mod Remove
 pub mod Removes
 pub mod Search

@@ -7,6 +7,7 @@ ghost use Rattle.scc_table.specs.Shelf.{shelf_entries};
 
 mod edits;
 mod making;
+mod resizing;
 
 use crate::bucket::Bucket;
 use crate::keyed::Keyed;

@@ -9,5 +9,5 @@ invariant-loop-count g l = record {
   made : length l.fresh.items ≡ l.count-index;
   empty : AllEmpty l.fresh.items;
   fits : Fits l.counts l.fresh.items;
-  room : length l.counts ≤ vec_capacity l.fresh
+  room : length l.counts ≤ vec_capacity l.fresh;
 }
