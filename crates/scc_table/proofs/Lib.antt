@@ -7,6 +7,7 @@ pub mod Powers
 pub mod Refill
 pub mod Remove
 pub mod Removes
+pub mod Resizes
 pub mod Search
 pub mod Spots
 pub mod Tallies

@@ -7,20 +7,19 @@ use Rattle.scc_table.proofs.Inserts.{inserted-at, inserted-table, inserted-holds
 use native.Mathlib.Decide.{dec_lt}
 use Rattle.scc_table.proofs.Counting.{count-in_bucket}
 use Rattle.scc_table.proofs.Views.{entries-view, count-view, settings-view, list-view}
-use Rattle.scc_table.proofs.table.Table.insert_in_array.Goals as goal
-use Rattle.scc_table.proofs.table.Table.insert_in_array.Goals.{else-self-via-then-self+else-is_full, else-self-via-else-self}
+use Rattle.scc_table.proofs.table.Table.insert_in.Goals as goal
+use Rattle.scc_table.proofs.table.Table.insert_in.Goals.{else-self-via-then-self+else-is_full, else-self-via-else-self}
 
 pub returns-then-is_full-clause-full : goal.returns-then-is_full-clause-full
 returns-then-is_full-clause-full g c =
     let t = c.self.inside in
     let bs = t.buckets.items in
-    let i = c.bucket_index-bucket.result in
+    let i = c.args.bucket in
     let count = count-view bs _ c.args.self.now c.self.view_is in
-    let arr = rw count at c.requires.array in
-    let l : i < length bs = search rules in
+    let l : i < length bs = rw count at c.requires.within in
     let hashed = rw (settings-view bs _ c.args.self.now c.self.view_is) at c.requires.hashed in
     let routed : i ≡ bucket_number t.skipped (length bs) (hash_of g.H.BuildHasher g.H.Hasher.Hasher t.hasher (g.E.Key.Hash.hash_input (g.E.Keyed.key_of c.args.entry))) =
-    let len : c.len.result ≡ length bs = search rules in c.bucket_index-bucket.ensures.value ∙ ap (λ n. bucket_number t.skipped n c.args.hash) len ∙ ap (bucket_number t.skipped (length bs)) hashed in
+    let at = rw (settings-view bs _ c.args.self.now c.self.view_is, count) at c.requires.routed in at ∙ ap (bucket_number t.skipped (length bs)) hashed in
     let held = count-in_bucket (λ e. hash_of g.H.BuildHasher g.H.Hasher.Hasher c.self.inside.hasher (g.E.Key.Hash.hash_input (g.E.Keyed.key_of e))) t.skipped t.length t.overflowing i bs c.index.result.now c.self.invariant.table l c.index.ensures in
     let full : 32 ≤ length c.index.result.now.slots = search rules in
     rw (entries-view bs _ c.args.self.now c.self.view_is, count, settings-view bs _ c.args.self.now c.self.view_is, ← routed, held) (λ room. absurd (omega (arith, room.1, length-append c.index.result.now.slots c.index.result.now.overflow)))
@@ -29,24 +28,27 @@ pub returns-then-is_full-clause-unique : goal.returns-then-is_full-clause-unique
 returns-then-is_full-clause-unique g c =
     rw (entries-view c.self.inside.buckets.items _ c.args.self.now c.self.view_is) c.self.invariant.unique
 
+pub index-requires : goal.index-requires
+index-requires g c =
+    let l = rw (count-view c.self.inside.buckets.items _ c.args.self.now c.self.view_is) at c.requires.within in
+    search rules
+
 pub index_mut-requires : goal.index_mut-requires
 index_mut-requires g c =
     let t = c.self.inside in
     let bs = t.buckets.items in
-    let i = c.bucket_index-bucket.result in
+    let i = c.args.bucket in
     let count = count-view bs _ c.args.self.now c.self.view_is in
-    let arr = rw count at c.requires.array in
-    let l : i < length bs = search rules in
+    let l : i < length bs = rw count at c.requires.within in
     search rules
 
 pub insert-requires : goal.insert-requires
 insert-requires g c =
     let t = c.self.inside in
     let bs = t.buckets.items in
-    let i = c.bucket_index-bucket.result in
+    let i = c.args.bucket in
     let count = count-view bs _ c.args.self.now c.self.view_is in
-    let arr = rw count at c.requires.array in
-    let l : i < length bs = search rules in
+    let l : i < length bs = rw count at c.requires.within in
     bucket-bound (λ e. hash_of g.H.BuildHasher g.H.Hasher.Hasher c.self.inside.hasher (g.E.Key.Hash.hash_input (g.E.Keyed.key_of e))) t.skipped t.length t.overflowing i bs c.index_mut.result.now c.self.invariant.table l c.index_mut.ensures.value
 
 pub overflow_add-self : goal.overflow_add-self
@@ -57,14 +59,13 @@ pub invariant_of-self : goal.invariant_of-self
 invariant_of-self g c =
     let t = c.self.inside in
     let bs = t.buckets.items in
-    let i = c.bucket_index-bucket.result in
+    let i = c.args.bucket in
     let count = count-view bs _ c.args.self.now c.self.view_is in
-    let arr = rw count at c.requires.array in
-    let l : i < length bs = search rules in
+    let l : i < length bs = rw count at c.requires.within in
     let b = c.index_mut.result.now in
     let hashed = rw (settings-view bs _ c.args.self.now c.self.view_is) at c.requires.hashed in
     let routed : i ≡ bucket_number t.skipped (length bs) (hash_of g.H.BuildHasher g.H.Hasher.Hasher t.hasher (g.E.Key.Hash.hash_input (g.E.Keyed.key_of c.args.entry))) =
-    let len : c.len.result ≡ length bs = search rules in c.bucket_index-bucket.ensures.value ∙ ap (λ n. bucket_number t.skipped n c.args.hash) len ∙ ap (bucket_number t.skipped (length bs)) hashed in
+    let at = rw (settings-view bs _ c.args.self.now c.self.view_is, count) at c.requires.routed in at ∙ ap (bucket_number t.skipped (length bs)) hashed in
     let stored = c.in-Ok.ensures.ok.1 ∙ ap (λ x. let r : Shelf g.row.E.Denot = record (with_entry b c.args.entry x) { room = c.insert.new.self.room } in r) (c.tag.ensures ∙ ap tag_of hashed) in
     let low : c.in-Ok.slot < 32 → c.one_if.result ≡ 0 = search rules in
     let high : 32 ≤ c.in-Ok.slot → c.one_if.result ≡ 1 = search rules in
@@ -91,14 +92,13 @@ pub invariant_of-self-in-Err : goal.invariant_of-self-in-Err
 invariant_of-self-in-Err g c =
     let t = c.self.inside in
     let bs = t.buckets.items in
-    let i = c.bucket_index-bucket.result in
+    let i = c.args.bucket in
     let count = count-view bs _ c.args.self.now c.self.view_is in
-    let arr = rw count at c.requires.array in
-    let l : i < length bs = search rules in
+    let l : i < length bs = rw count at c.requires.within in
     let b = c.index_mut.result.now in
     let hashed = rw (settings-view bs _ c.args.self.now c.self.view_is) at c.requires.hashed in
     let routed : i ≡ bucket_number t.skipped (length bs) (hash_of g.H.BuildHasher g.H.Hasher.Hasher t.hasher (g.E.Key.Hash.hash_input (g.E.Keyed.key_of c.args.entry))) =
-    let len : c.len.result ≡ length bs = search rules in c.bucket_index-bucket.ensures.value ∙ ap (λ n. bucket_number t.skipped n c.args.hash) len ∙ ap (bucket_number t.skipped (length bs)) hashed in
+    let at = rw (settings-view bs _ c.args.self.now c.self.view_is, count) at c.requires.routed in at ∙ ap (bucket_number t.skipped (length bs)) hashed in
     record {
       table = refused-table (λ e. hash_of g.H.BuildHasher g.H.Hasher.Hasher c.self.inside.hasher (g.E.Key.Hash.hash_input (g.E.Keyed.key_of e))) t.skipped t.length t.overflowing i bs c.self.invariant.table _ c.args.self.now c.self.view_is b l c.index_mut.ensures.value c.insert.new.self c.in-Err.ensures.err.1;
       few_bits = c.self.invariant.few_bits;
@@ -110,14 +110,13 @@ pub returns-in-Ok-clause-ok : goal.returns-in-Ok-clause-ok
 returns-in-Ok-clause-ok g c =
     let t = c.self.inside in
     let bs = t.buckets.items in
-    let i = c.bucket_index-bucket.result in
+    let i = c.args.bucket in
     let count = count-view bs _ c.args.self.now c.self.view_is in
-    let arr = rw count at c.requires.array in
-    let l : i < length bs = search rules in
+    let l : i < length bs = rw count at c.requires.within in
     let b = c.index_mut.result.now in
     let hashed = rw (settings-view bs _ c.args.self.now c.self.view_is) at c.requires.hashed in
     let routed : i ≡ bucket_number t.skipped (length bs) (hash_of g.H.BuildHasher g.H.Hasher.Hasher t.hasher (g.E.Key.Hash.hash_input (g.E.Keyed.key_of c.args.entry))) =
-    let len : c.len.result ≡ length bs = search rules in c.bucket_index-bucket.ensures.value ∙ ap (λ n. bucket_number t.skipped n c.args.hash) len ∙ ap (bucket_number t.skipped (length bs)) hashed in
+    let at = rw (settings-view bs _ c.args.self.now c.self.view_is, count) at c.requires.routed in at ∙ ap (bucket_number t.skipped (length bs)) hashed in
     let stored = c.in-Ok.ensures.ok.1 ∙ ap (λ x. let r : Shelf g.row.E.Denot = record (with_entry b c.args.entry x) { room = c.insert.new.self.room } in r) (c.tag.ensures ∙ ap tag_of hashed) in
     inserted-at (λ e. hash_of g.H.BuildHasher g.H.Hasher.Hasher c.self.inside.hasher (g.E.Key.Hash.hash_input (g.E.Keyed.key_of e))) t.skipped t.length t.overflowing i bs c.self.invariant.table _ c.args.self.now c.self.view_is b l c.index_mut.ensures.value c.insert.new.self c.args.entry c.in-Ok.slot stored c.in-Ok.ensures.ok.0
 
@@ -125,14 +124,13 @@ pub returns-in-Ok-clause-unique : goal.returns-in-Ok-clause-unique
 returns-in-Ok-clause-unique g c =
     let t = c.self.inside in
     let bs = t.buckets.items in
-    let i = c.bucket_index-bucket.result in
+    let i = c.args.bucket in
     let count = count-view bs _ c.args.self.now c.self.view_is in
-    let arr = rw count at c.requires.array in
-    let l : i < length bs = search rules in
+    let l : i < length bs = rw count at c.requires.within in
     let b = c.index_mut.result.now in
     let hashed = rw (settings-view bs _ c.args.self.now c.self.view_is) at c.requires.hashed in
     let routed : i ≡ bucket_number t.skipped (length bs) (hash_of g.H.BuildHasher g.H.Hasher.Hasher t.hasher (g.E.Key.Hash.hash_input (g.E.Keyed.key_of c.args.entry))) =
-    let len : c.len.result ≡ length bs = search rules in c.bucket_index-bucket.ensures.value ∙ ap (λ n. bucket_number t.skipped n c.args.hash) len ∙ ap (bucket_number t.skipped (length bs)) hashed in
+    let at = rw (settings-view bs _ c.args.self.now c.self.view_is, count) at c.requires.routed in at ∙ ap (bucket_number t.skipped (length bs)) hashed in
     let stored = c.in-Ok.ensures.ok.1 ∙ ap (λ x. let r : Shelf g.row.E.Denot = record (with_entry b c.args.entry x) { room = c.insert.new.self.room } in r) (c.tag.ensures ∙ ap tag_of hashed) in
     unique-inserted g.met.E.Key.Eq.laws g.E.Keyed.key_of c.args.entry (entries c.args.self.now) _ (rw (entries-view bs _ c.args.self.now c.self.view_is) c.self.invariant.unique) c.requires.absent (inserted-holds (λ e. hash_of g.H.BuildHasher g.H.Hasher.Hasher c.self.inside.hasher (g.E.Key.Hash.hash_input (g.E.Keyed.key_of e))) t.skipped t.length t.overflowing i bs c.self.invariant.table _ c.args.self.now c.self.view_is b l c.index_mut.ensures.value c.insert.new.self c.args.entry c.in-Ok.slot stored c.in-Ok.ensures.ok.0).same
 
@@ -140,28 +138,26 @@ pub returns-in-Err-clause-err : goal.returns-in-Err-clause-err
 returns-in-Err-clause-err g c =
     let t = c.self.inside in
     let bs = t.buckets.items in
-    let i = c.bucket_index-bucket.result in
+    let i = c.args.bucket in
     let count = count-view bs _ c.args.self.now c.self.view_is in
-    let arr = rw count at c.requires.array in
-    let l : i < length bs = search rules in
+    let l : i < length bs = rw count at c.requires.within in
     let b = c.index_mut.result.now in
     let hashed = rw (settings-view bs _ c.args.self.now c.self.view_is) at c.requires.hashed in
     let routed : i ≡ bucket_number t.skipped (length bs) (hash_of g.H.BuildHasher g.H.Hasher.Hasher t.hasher (g.E.Key.Hash.hash_input (g.E.Keyed.key_of c.args.entry))) =
-    let len : c.len.result ≡ length bs = search rules in c.bucket_index-bucket.ensures.value ∙ ap (λ n. bucket_number t.skipped n c.args.hash) len ∙ ap (bucket_number t.skipped (length bs)) hashed in
+    let at = rw (settings-view bs _ c.args.self.now c.self.view_is, count) at c.requires.routed in at ∙ ap (bucket_number t.skipped (length bs)) hashed in
     (c.in-Err.ensures.err.0, refused-unchanged (λ e. hash_of g.H.BuildHasher g.H.Hasher.Hasher c.self.inside.hasher (g.E.Key.Hash.hash_input (g.E.Keyed.key_of e))) t.skipped t.length t.overflowing i bs c.self.invariant.table _ c.args.self.now c.self.view_is b l c.index_mut.ensures.value c.insert.new.self c.in-Err.ensures.err.1)
 
 pub returns-in-Err-clause-full : goal.returns-in-Err-clause-full
 returns-in-Err-clause-full g c =
     let t = c.self.inside in
     let bs = t.buckets.items in
-    let i = c.bucket_index-bucket.result in
+    let i = c.args.bucket in
     let count = count-view bs _ c.args.self.now c.self.view_is in
-    let arr = rw count at c.requires.array in
-    let l : i < length bs = search rules in
+    let l : i < length bs = rw count at c.requires.within in
     let b = c.index_mut.result.now in
     let hashed = rw (settings-view bs _ c.args.self.now c.self.view_is) at c.requires.hashed in
     let routed : i ≡ bucket_number t.skipped (length bs) (hash_of g.H.BuildHasher g.H.Hasher.Hasher t.hasher (g.E.Key.Hash.hash_input (g.E.Keyed.key_of c.args.entry))) =
-    let len : c.len.result ≡ length bs = search rules in c.bucket_index-bucket.ensures.value ∙ ap (λ n. bucket_number t.skipped n c.args.hash) len ∙ ap (bucket_number t.skipped (length bs)) hashed in
+    let at = rw (settings-view bs _ c.args.self.now c.self.view_is, count) at c.requires.routed in at ∙ ap (bucket_number t.skipped (length bs)) hashed in
     let held = count-in_bucket (λ e. hash_of g.H.BuildHasher g.H.Hasher.Hasher c.self.inside.hasher (g.E.Key.Hash.hash_input (g.E.Keyed.key_of e))) t.skipped t.length t.overflowing i bs b c.self.invariant.table l c.index_mut.ensures.value in
     rw (entries-view bs _ c.args.self.now c.self.view_is, count, settings-view bs _ c.args.self.now c.self.view_is, ← routed, held) (λ room. absurd (omega (arith, room.1, c.in-Err.ensures.err.2, length-append b.slots b.overflow)))
 
@@ -169,12 +165,11 @@ pub returns-in-Err-clause-unique : goal.returns-in-Err-clause-unique
 returns-in-Err-clause-unique g c =
     let t = c.self.inside in
     let bs = t.buckets.items in
-    let i = c.bucket_index-bucket.result in
+    let i = c.args.bucket in
     let count = count-view bs _ c.args.self.now c.self.view_is in
-    let arr = rw count at c.requires.array in
-    let l : i < length bs = search rules in
+    let l : i < length bs = rw count at c.requires.within in
     let b = c.index_mut.result.now in
     let hashed = rw (settings-view bs _ c.args.self.now c.self.view_is) at c.requires.hashed in
     let routed : i ≡ bucket_number t.skipped (length bs) (hash_of g.H.BuildHasher g.H.Hasher.Hasher t.hasher (g.E.Key.Hash.hash_input (g.E.Keyed.key_of c.args.entry))) =
-    let len : c.len.result ≡ length bs = search rules in c.bucket_index-bucket.ensures.value ∙ ap (λ n. bucket_number t.skipped n c.args.hash) len ∙ ap (bucket_number t.skipped (length bs)) hashed in
+    let at = rw (settings-view bs _ c.args.self.now c.self.view_is, count) at c.requires.routed in at ∙ ap (bucket_number t.skipped (length bs)) hashed in
     rw ((refused-unchanged (λ e. hash_of g.H.BuildHasher g.H.Hasher.Hasher c.self.inside.hasher (g.E.Key.Hash.hash_input (g.E.Keyed.key_of e))) t.skipped t.length t.overflowing i bs c.self.invariant.table _ c.args.self.now c.self.view_is b l c.index_mut.ensures.value c.insert.new.self c.in-Err.ensures.err.1).exact, entries-view bs _ c.args.self.now c.self.view_is) c.self.invariant.unique
