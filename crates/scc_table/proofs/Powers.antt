@@ -62,3 +62,16 @@ double-array n h pos l = elim h [
         ];
       }
 ]
+
+-- there is one size of an array for so many slots
+pub size-once : (n p q : ℕ) → IsArraySize n p → IsArraySize n q → p ≡ q
+size-once n p q a b =
+    let l = a.fewest q b.power b.least b.enough in
+    let m = b.fewest p a.power a.least a.enough in
+    omega arith
+
+pub max-array : (a b : ℕ) → IsArray a → IsArray b → IsArray (max a b)
+max-array a b p q = elim (dec_lt a b) [
+  | yes h ↦ let e : b ≡ max a b = omega arith in subst IsArray e q
+  | no h ↦ let e : a ≡ max a b = omega arith in subst IsArray e p
+]

@@ -1,5 +1,5 @@
 -- Steps after a resize, and before one.
-use Rattle.std.proofs.Common.{◌≡◌, ◌≢◌, ◌==◌, ℕ, ◌+◌, ◌*◌, ◌^◌, ◌<◌, ◌≤◌, ◌⊎◌, inl, inr, Bool, true, false, List, [], ◌∷◌, length, map, refl, sym, ap, ◌∙◌, subst, arith, Some, None, Result, Ok, Err}
+use Rattle.std.proofs.Common.{◌≡◌, ◌≢◌, ◌==◌, ℕ, ◌+◌, ◌*◌, ◌^◌, ◌<◌, ◌≤◌, ◌⊎◌, inl, inr, Bool, true, false, List, [], ◌∷◌, length, map, refl, sym, ap, ◌∙◌, subst, max, arith, Some, None, Result, Ok, Err}
 use Rattle.std.specs.List.{All, count_by, position}
 use Rattle.std.specs.Result.{OnOk, OnErr, IfOk, IfErr}
 use Rattle.std.specs.List.Sorted.{IsPermutation}
@@ -9,11 +9,12 @@ use native.Mathlib.Decide.{dec_lt}
 use Rattle.scc_table.specs.Contents.{Contents, entries, bucket_count, settings_of, minimum_of}
 use Rattle.scc_table.specs.Places.{IsInsertedAt}
 use Rattle.scc_table.specs.Pour.{IsRegrouped}
-use Rattle.scc_table.specs.Sizes.{IsArray}
-use Rattle.scc_table.specs.Steps.{Holds, HoldsExactly, KeepsSize, IsUnchanged, Resizes, Rests}
+use Rattle.scc_table.specs.Sizes.{IsArray, IsArraySize}
+use Rattle.scc_table.specs.Steps.{Holds, HoldsExactly, KeepsSize, IsShrunk, IsUnchanged, Resizes, Rests}
 use Rattle.scc_table.specs.declared.place.Place.{Place}
 use Rattle.scc_table.proofs.Finding.{position_hit, position_cons, position_none}
 use Rattle.scc_table.proofs.Inserts.{by_answer, none_left}
+use Rattle.scc_table.proofs.Powers.{max-array, size-once}
 
 all-absent : {X : Type 0} (p : X → Bool) (xs : List X) → position p xs ≡ None → All (λ x. p x ≡ false) xs
 all-absent p [] n = λ k d l. absurd (omega arith)
@@ -92,4 +93,14 @@ module _ {E S : Type 0} where
     same = h;
     size = record { lawful = inr (rw g.count w); minimum = λ less. rw g.count (m (rw g.count at less)) };
     settings = g.settings;
+  }
+
+  -- a resize to fewer buckets, of the greater of two sizes
+  pub regrouped-shrunk : (hash : E → ℕ) (k l : ℕ) (a b : Contents E S) → IsRegrouped hash (max k l) a b → IsPermutation (entries a) (entries b) → IsArray k → IsArray l → IsArraySize (minimum_of a) (32 * k) → IsArraySize (2 * length (entries a)) (32 * l)
+      → minimum_of a ≤ 2 ^ 63 → length (entries a) ≤ 4 * bucket_count a → max k l < bucket_count a → IsShrunk a b
+  regrouped-shrunk hash k l a b g h w v sm sl small few less = record {
+    resizes = regrouped-resizes hash (max k l) a b g h (max-array k l w v) (λ z. omega (arith, sm.enough));
+    few = omega arith;
+    fewer = omega (arith, g.count);
+    size = λ m n am an. let em = size-once _ _ _ sm am in let en = size-once _ _ _ sl an in omega (arith, g.count);
   }

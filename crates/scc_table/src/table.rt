@@ -9,7 +9,9 @@ ghost use Rattle.scc_table.specs.Sizes.{IsLawful};
 mod edits;
 mod growing;
 mod making;
+mod reserving;
 mod resizing;
+mod shrinking;
 
 use crate::bucket::Bucket;
 use crate::keyed::Keyed;

@@ -68,14 +68,16 @@ where
         }
     }
 
-    /// Takes the entry out of its place. The others stay, maybe in other places.
+    /// Takes the entry out of its place. The others stay, maybe in other places: where few are left, the array may become smaller.
     pub fn remove_at(&mut self, place: Place) -> E
         requires { IsPlace self.old place }
         ensures entry { slice_get (entries self.old) (index_of self.old place) ≡ Some result }
         ensures others { Holds self.old (remove (entries self.old) (index_of self.old place)) self.new }
         ensures unique { IsUniqueBy E.Key.eq E.key_of self.new }
     {
-        self.take_at(place)
+        let entry = self.take_at(place);
+        self.shrink();
+        entry
     }
 
     /// Takes the entry out of its place, with no resize: the others stay in their order.
