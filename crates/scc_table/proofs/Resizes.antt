@@ -4,13 +4,13 @@ use Rattle.std.specs.List.{All, count_by, position}
 use Rattle.std.specs.Result.{OnOk, OnErr, IfOk, IfErr}
 use Rattle.std.specs.List.Sorted.{IsPermutation}
 use Rattle.std.proofs.lemmas.List.Elements.{All-cons}
-use Rattle.std.proofs.lemmas.List.Sorted.{All-permutation, IsPermutation-cons, IsPermutation-refl, IsPermutation-trans}
+use Rattle.std.proofs.lemmas.List.Sorted.{length_permutation, All-permutation, IsPermutation-cons, IsPermutation-refl, IsPermutation-trans}
 use native.Mathlib.Decide.{dec_lt}
 use Rattle.scc_table.specs.Contents.{Contents, entries, bucket_count, settings_of, minimum_of}
 use Rattle.scc_table.specs.Places.{IsInsertedAt}
 use Rattle.scc_table.specs.Pour.{IsRegrouped}
-use Rattle.scc_table.specs.Sizes.{IsArray, IsArraySize}
-use Rattle.scc_table.specs.Steps.{Holds, HoldsExactly, KeepsSize, IsShrunk, IsUnchanged, Resizes, Rests}
+use Rattle.scc_table.specs.Sizes.{IsArray, IsArraySize, IsSmaller}
+use Rattle.scc_table.specs.Steps.{Holds, HoldsExactly, KeepsSize, IsShrunk, IsUnchanged, Resizes, Rests, Shrinks}
 use Rattle.scc_table.specs.declared.place.Place.{Place}
 use Rattle.scc_table.proofs.Finding.{position_hit, position_cons, position_none}
 use Rattle.scc_table.proofs.Inserts.{by_answer, none_left}
@@ -100,7 +100,18 @@ module _ {E S : Type 0} where
       → minimum_of a ≤ 2 ^ 63 → length (entries a) ≤ 4 * bucket_count a → max k l < bucket_count a → IsShrunk a b
   regrouped-shrunk hash k l a b g h w v sm sl small few less = record {
     resizes = regrouped-resizes hash (max k l) a b g h (max-array k l w v) (λ z. omega (arith, sm.enough));
-    few = omega arith;
-    fewer = omega (arith, g.count);
-    size = λ m n am an. let em = size-once _ _ _ sm am in let en = size-once _ _ _ sl an in omega (arith, g.count);
+    smaller = record {
+      few = omega arith;
+      fewer = omega (arith, g.count);
+      size = λ m n am an. let em = size-once _ _ _ sm am in let en = size-once _ _ _ sl an in omega (arith, g.count);
+    };
   }
+
+  -- what a try to shrink did to the number of buckets
+  pub smaller-by : (b c : Contents E S) (m k : ℕ) → Shrinks b c → minimum_of b ≡ m → bucket_count b ≡ k → bucket_count c ≢ k → IsSmaller m (length (entries c)) k (bucket_count c)
+  smaller-by b c m k h em ek ne = elim h [
+    | inl u ↦ absurd (ne (u.buckets ∙ ek))
+    | inr s ↦
+        let same : length (entries c) ≡ length (entries b) = length_permutation (entries b) (entries c) s.resizes.same in
+        subst (λ z. IsSmaller z (length (entries c)) k (bucket_count c)) em (subst (λ z. IsSmaller (minimum_of b) (length (entries c)) z (bucket_count c)) ek (subst (λ z. IsSmaller (minimum_of b) z (bucket_count b) (bucket_count c)) (sym same) s.smaller))
+  ]

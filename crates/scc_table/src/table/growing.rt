@@ -2,7 +2,7 @@
 ghost use Rattle.std.specs.Prelude.{◌≡◌, ◌<◌, ◌+◌, ◌*◌, ◌^◌, IfOk, OnErr};
 ghost use Rattle.scc_table.specs.Contents.{bucket_count, settings_of, key_hash, HasRoomAt, IsUniqueBy};
 ghost use Rattle.scc_table.specs.Routing.{bucket_number};
-ghost use Rattle.scc_table.specs.Steps.{Rests};
+ghost use Rattle.scc_table.specs.Steps.{Grows, Rests};
 
 use super::Table;
 use crate::keyed::Keyed;
@@ -15,10 +15,11 @@ impl<E: Keyed, H: BuildHasher> Table<E, H>
 where
     E::Key: Eq + Hash,
 {
-    /// The bucket for a new key of that hash. An array is made where there is none, and doubled where that bucket is full and the table is half full.
+    /// The bucket for a new key of that hash. An array is made where there is none, and doubled where that bucket holds 32 entries or more and the table at least half as many entries as slots.
     #[inline(always)]
     pub(crate) fn bucket_for_new(&mut self, hash: u64) -> Result<usize, AllocError>
         ensures rests { Rests self.old self.new }
+        ensures growth { Grows self.old self.new }
         ensures within { IfOk result (λ i. i < bucket_count self.new) }
         ensures routed { IfOk result (λ i. i ≡ bucket_number (settings_of self.new).skipped (bucket_count self.new) hash) }
         ensures still { HasRoomAt (key_hash H.BuildHasher H.Hasher.Hasher E.Key.hash_input self.old) E.key_of self.old hash → self.new ≡ self.old }
@@ -30,7 +31,7 @@ where
             return self.first_bucket(hash);
         }
         let bucket = bucket_index(hash, self.skipped, count);
-        if self.buckets[bucket].is_full() {
+        if self.buckets[bucket].len() >= 32 {
             return Ok(self.grow_for(hash));
         }
         Ok(bucket)
@@ -41,6 +42,7 @@ where
     fn first_bucket(&mut self, hash: u64) -> Result<usize, AllocError>
         requires { bucket_count self.old ≡ 0 }
         ensures rests { Rests self.old self.new }
+        ensures growth { Grows self.old self.new }
         ensures within { IfOk result (λ i. i < bucket_count self.new) }
         ensures routed { IfOk result (λ i. i ≡ bucket_number (settings_of self.new).skipped (bucket_count self.new) hash) }
         ensures unique { IsUniqueBy E.Key.eq E.key_of self.new }
@@ -54,6 +56,7 @@ where
     fn grow_for(&mut self, hash: u64) -> usize
         requires { 0 < bucket_count self.old }
         ensures rests { Rests self.old self.new }
+        ensures growth { Grows self.old self.new }
         ensures within { result < bucket_count self.new }
         ensures routed { result ≡ bucket_number (settings_of self.new).skipped (bucket_count self.new) hash }
         ensures unique { IsUniqueBy E.Key.eq E.key_of self.new }
@@ -66,6 +69,7 @@ where
     fn grow(&mut self)
         requires { 0 < bucket_count self.old }
         ensures rests { Rests self.old self.new }
+        ensures growth { Grows self.old self.new }
         ensures array { 0 < bucket_count self.new }
         ensures unique { IsUniqueBy E.Key.eq E.key_of self.new }
     {

@@ -1,4 +1,4 @@
-use Rattle.std.proofs.Common.{◌≡◌, ℕ, ◌+◌, ◌^◌, ◌<◌, ◌≤◌, ◌∙◌, sym, ap, rules, arith, length, true, false, refl, map, set, length-append}
+use Rattle.std.proofs.Common.{◌≡◌, ℕ, ◌+◌, ◌^◌, ◌<◌, ◌≤◌, ◌∙◌, sym, ap, rules, arith, length, true, false, refl, map, set, length-append, length-set}
 use Rattle.scc_table.specs.Hashing.{hash_of}
 use Rattle.scc_table.specs.Routing.{bucket_number, tag_of}
 use Rattle.scc_table.specs.Shelf.{Shelf, shelf_entries, with_entry}
@@ -8,10 +8,10 @@ use native.Mathlib.Decide.{dec_lt}
 use Rattle.scc_table.proofs.Counting.{count-in_bucket}
 use Rattle.scc_table.proofs.Views.{entries-view, count-view, settings-view, list-view}
 use Rattle.scc_table.proofs.table.Table.insert_in.Goals as goal
-use Rattle.scc_table.proofs.table.Table.insert_in.Goals.{else-self-via-then-self+else-is_full, else-self-via-else-self}
+use Rattle.scc_table.proofs.table.Table.insert_in.Goals.{else-is_full-via-then-is_full+else-self, else-is_full-via-else-is_full}
 
-pub returns-then-is_full-clause-full : goal.returns-then-is_full-clause-full
-returns-then-is_full-clause-full g c =
+pub returns-then-self-clause-full : goal.returns-then-self-clause-full
+returns-then-self-clause-full g c =
     let t = c.self.inside in
     let bs = t.buckets.items in
     let i = c.args.bucket in
@@ -24,8 +24,8 @@ returns-then-is_full-clause-full g c =
     let full : 32 ≤ length c.index.result.now.slots = search rules in
     rw (entries-view bs _ c.args.self.now c.self.view_is, count, settings-view bs _ c.args.self.now c.self.view_is, ← routed, held) (λ room. absurd (omega (arith, room.1, length-append c.index.result.now.slots c.index.result.now.overflow)))
 
-pub returns-then-is_full-clause-unique : goal.returns-then-is_full-clause-unique
-returns-then-is_full-clause-unique g c =
+pub returns-then-self-clause-unique : goal.returns-then-self-clause-unique
+returns-then-self-clause-unique g c =
     rw (entries-view c.self.inside.buckets.items _ c.args.self.now c.self.view_is) c.self.invariant.unique
 
 pub index-requires : goal.index-requires
@@ -73,12 +73,12 @@ invariant_of-self g c =
       | yes q ↦ let z = low q in let f = c.self.invariant.table.few in omega arith
       | no q ↦
           let z : c.one_if.result ≡ 1 = high (omega arith) in
-          elim c.else-self.branch [
-            | else-self-via-then-self+else-is_full w ↦
-                let same : w.index.result.now ≡ b = read-again bs i w.index.result.now b l w.index.ensures c.index_mut.ensures.value in
-                let full : 32 ≤ length w.index.result.now.slots = rw same (overflow-full (λ e. hash_of g.H.BuildHasher g.H.Hasher.Hasher c.self.inside.hasher (g.E.Key.Hash.hash_input (g.E.Keyed.key_of e))) t.skipped t.length t.overflowing i bs c.self.invariant.table _ c.args.self.now c.self.view_is b l c.index_mut.ensures.value c.insert.new.self c.args.entry c.in-Ok.slot stored c.in-Ok.ensures.ok.0 (omega arith)) in
+          elim c.else-is_full.branch [
+            | else-is_full-via-else-is_full w ↦
+                let same : c.index.result.now ≡ b = read-again bs i c.index.result.now b l c.index.ensures c.index_mut.ensures.value in
+                let full : 32 ≤ length c.index.result.now.slots = rw same (overflow-full (λ e. hash_of g.H.BuildHasher g.H.Hasher.Hasher c.self.inside.hasher (g.E.Key.Hash.hash_input (g.E.Keyed.key_of e))) t.skipped t.length t.overflowing i bs c.self.invariant.table _ c.args.self.now c.self.view_is b l c.index_mut.ensures.value c.insert.new.self c.args.entry c.in-Ok.slot stored c.in-Ok.ensures.ok.0 (omega arith)) in
                 absurd (search rules)
-            | else-self-via-else-self w ↦ omega arith
+            | else-is_full-via-then-is_full+else-self w ↦ omega arith
           ]
     ] in
     record {
@@ -173,3 +173,13 @@ returns-in-Err-clause-unique g c =
     let routed : i ≡ bucket_number t.skipped (length bs) (hash_of g.H.BuildHasher g.H.Hasher.Hasher t.hasher (g.E.Key.Hash.hash_input (g.E.Keyed.key_of c.args.entry))) =
     let at = rw (settings-view bs _ c.args.self.now c.self.view_is, count) at c.requires.routed in at ∙ ap (bucket_number t.skipped (length bs)) hashed in
     rw ((refused-unchanged (λ e. hash_of g.H.BuildHasher g.H.Hasher.Hasher c.self.inside.hasher (g.E.Key.Hash.hash_input (g.E.Keyed.key_of e))) t.skipped t.length t.overflowing i bs c.self.invariant.table _ c.args.self.now c.self.view_is b l c.index_mut.ensures.value c.insert.new.self c.in-Err.ensures.err.1).exact, entries-view bs _ c.args.self.now c.self.view_is) c.self.invariant.unique
+
+pub returns-in-Ok-clause-buckets : goal.returns-in-Ok-clause-buckets
+returns-in-Ok-clause-buckets g c =
+    let bs = c.self.inside.buckets.items in
+    count-view (set bs c.args.bucket c.insert.new.self) _ _ refl ∙ length-set bs c.args.bucket c.insert.new.self ∙ sym (count-view bs _ c.args.self.now c.self.view_is)
+
+pub returns-in-Err-clause-buckets : goal.returns-in-Err-clause-buckets
+returns-in-Err-clause-buckets g c =
+    let bs = c.self.inside.buckets.items in
+    count-view (set bs c.args.bucket c.insert.new.self) _ _ refl ∙ length-set bs c.args.bucket c.insert.new.self ∙ sym (count-view bs _ c.args.self.now c.self.view_is)

@@ -1,6 +1,6 @@
-use Rattle.std.proofs.Common.{◌≡◌, ◌<◌, Bool, Result, Ok, Err, ap, subst}
+use Rattle.std.proofs.Common.{◌≡◌, ◌<◌, Bool, Result, Ok, Err, ap, ◌∙◌}
 use Rattle.std.specs.Result.{IfOk, OnErr}
-use Rattle.scc_table.specs.Contents.{entries, key_hash, HasRoomBy, HasRoomAt}
+use Rattle.scc_table.specs.Contents.{entries, bucket_count, key_hash, HasRoomBy, HasRoomAt}
 use Rattle.scc_table.proofs.Resizes.{absent-permuted, rests-resizes, rests-inserted}
 use Rattle.scc_table.proofs.table.Table.insert_new.Goals as goal
 
@@ -28,3 +28,8 @@ returns-in-Ok-clause-full g c =
     let same = c.bucket_for_new.ensures.still had in
     none (rw same room))
     c.insert_in.ensures.full
+
+pub returns-in-Ok-clause-kept : goal.returns-in-Ok-clause-kept
+returns-in-Ok-clause-kept g c = λ room.
+    let had : HasRoomAt (key_hash g.H.BuildHasher g.H.Hasher.Hasher g.E.Key.Hash.hash_input c.args.self.now) g.E.Keyed.key_of c.args.self.now c.args.hash = rw c.requires.hashed room in
+    c.insert_in.ensures.buckets ∙ ap bucket_count (c.bucket_for_new.ensures.still had)
