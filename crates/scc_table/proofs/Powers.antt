@@ -1,9 +1,9 @@
 -- Powers of two.
-use Rattle.std.proofs.Common.{◌≡◌, ℕ, ◌+◌, ◌-◌, ◌*◌, ◌/◌, ◌^◌, ◌<◌, ◌≤◌, ◌⊎◌, inl, inr, min, max, sym, ap, ◌∙◌, subst, refl, arith}
+use Rattle.std.proofs.Common.{◌≡◌, ℕ, ◌+◌, ◌-◌, ◌*◌, ◌/◌, ◌^◌, ◌<◌, ◌≤◌, inl, inr, max, sym, ap, ◌∙◌, subst, refl, arith}
 use Rattle.std.specs.Int.{IsPowerOfTwo}
 use Rattle.scc_table.specs.Sizes.{IsArray, IsArraySize, IsLawful}
 use native.Mathlib.Decide.{dec_lt}
-use lib.Pow.{pow_mono, pow-add, shl-shr}
+use lib.Pow.{pow_mono, pow-add}
 
 -- a smaller power is at most half
 half : (p q j k : ℕ) → p ≡ 2 ^ k → q ≡ 2 ^ j → q < p → q ≤ p / 2

@@ -1,21 +1,21 @@
 -- A table after its entries moved to empty buckets.
-use Rattle.std.proofs.Common.{◌≡◌, ◌==◌, ℕ, zero, suc, ◌+◌, ◌-◌, ◌^◌, ◌<◌, ◌≤◌, ◌⊎◌, inl, inr, Bool, true, List, [], ◌∷◌, ◌++◌, length, map, get_or, refl, sym, ap, ◌∙◌, subst, arith, length-append}
+use Rattle.std.proofs.Common.{◌≡◌, ◌==◌, ℕ, ◌^◌, ◌<◌, ◌≤◌, inr, Bool, true, List, [], ◌++◌, length, map, get_or, refl, sym, ap, ◌∙◌, subst, arith, length-append}
 use Rattle.std.specs.Cmp.{IsEquivalence}
-use Rattle.std.specs.List.{filter, flat_map, sum_by, IsDistinct}
+use Rattle.std.specs.List.{flat_map, sum_by, IsDistinct}
 use Rattle.std.specs.List.Sorted.{IsPermutation}
-use Rattle.std.proofs.lemmas.List.{get_or_default, get_or-map, length-map, nil_from_length}
+use Rattle.std.proofs.lemmas.List.{get_or_default, get_or-map, nil_from_length}
 use Rattle.std.proofs.lemmas.List.Concat.{length-flat_map}
 use Rattle.std.proofs.lemmas.List.Elements.{filter_passes, All-get_or}
 use Rattle.std.proofs.lemmas.List.Sorted.{length_permutation, IsPermutation-map}
 use Rattle.std.proofs.lemmas.List.Sums.{sum_by-le-sum_by}
 use Rattle.std.proofs.lemmas.Map.Keys.{IsDistinct-IsPermutation}
 use Rattle.std.proofs.lemmas.Bool.{eqb-true}
-use Rattle.scc_table.specs.Contents.{Contents, Settings, entries, bucket_count, settings_of, list_of}
+use Rattle.scc_table.specs.Contents.{Contents, Settings, entries, settings_of, list_of}
 use Rattle.scc_table.specs.Pour.{IsPacked, IsRegrouped, IsTally, Fits, Poured, Extends, RoomFor, bound_for}
 use Rattle.scc_table.specs.Routing.{bucket_number, tag_of}
 use Rattle.scc_table.specs.Shelf.{Shelf, shelf_entries, empty_shelf}
 use Rattle.scc_table.specs.Sizes.{IsArray}
-use Rattle.scc_table.specs.Tables.{AllEmpty, IsOwn, IsTable, IsKept}
+use Rattle.scc_table.specs.Tables.{AllEmpty, IsOwn, IsTable}
 use Rattle.scc_table.proofs.Making.{flat-empty, slots-none}
 use Rattle.scc_table.proofs.Views.{view_of, entries-view, count-view, settings-view}
 

@@ -1,9 +1,8 @@
 -- Counts of the entries that belong to each bucket.
 use Rattle.std.proofs.Common.{◌≡◌, ◌==◌, ℕ, ◌+◌, ◌^◌, ◌<◌, ◌≤◌, Bool, true, false, List, [], ◌∷◌, ◌++◌, length, take, get_or, refl, sym, ap, ◌∙◌, arith, length-append, length-take}
-use Rattle.std.specs.List.{filter, flat_map, sum_by}
-use Rattle.std.proofs.lemmas.List.{get_or_default}
+use Rattle.std.specs.List.{filter, flat_map}
 use Rattle.std.proofs.lemmas.List.Folds.{length-flat_map-take}
-use Rattle.scc_table.specs.Pour.{bound_for, IsTally, Tallies}
+use Rattle.scc_table.specs.Pour.{IsTally, Tallies}
 use Rattle.scc_table.specs.Routing.{bucket_number}
 use Rattle.scc_table.specs.Shelf.{Shelf, shelf_entries}
 

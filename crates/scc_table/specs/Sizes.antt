@@ -1,5 +1,5 @@
 -- The sizes of an array.
-use Rattle.std.specs.Prelude.{◌≡◌, ℕ, ◌+◌, ◌*◌, ◌^◌, ◌<◌, ◌≤◌, ◌⊎◌, min, max}
+use Rattle.std.specs.Prelude.{◌≡◌, ℕ, ◌*◌, ◌^◌, ◌<◌, ◌≤◌, ◌⊎◌, min, max}
 use Rattle.std.specs.Int.{IsPowerOfTwo}
 
 -- slots is the least power of two that is at least wanted and at least 64, cut at 2 ^ 63

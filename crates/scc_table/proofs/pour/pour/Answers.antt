@@ -1,5 +1,5 @@
-use Rattle.std.proofs.Common.{◌≡◌, ◌<◌, ℕ, List, [], length, rules, sym, ap, ◌∙◌}
-use Rattle.std.specs.Vec.Iter.{into_iter_items, into_iter_len}
+use Rattle.std.proofs.Common.{◌≡◌, length, rules, ap, ◌∙◌}
+use Rattle.std.specs.Vec.Iter.{into_iter_items}
 use Rattle.std.proofs.lemmas.List.{nil_from_length}
 use Rattle.scc_table.specs.Hashing.{hash_of}
 use Rattle.scc_table.specs.Routing.{bucket_number, tag_of}

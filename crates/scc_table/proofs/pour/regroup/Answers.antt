@@ -1,5 +1,5 @@
-use Rattle.std.proofs.Common.{◌≡◌, List, [], length, rules}
-use Rattle.std.specs.Vec.Iter.{into_iter_items, into_iter_len}
+use Rattle.std.proofs.Common.{◌≡◌, length, rules}
+use Rattle.std.specs.Vec.Iter.{into_iter_items}
 use Rattle.std.proofs.lemmas.List.{nil_from_length}
 use Rattle.scc_table.proofs.Pours.{groups-start, groups-room, groups-room_more, groups-step, groups-end}
 use Rattle.scc_table.proofs.pour.regroup.Goals as goal

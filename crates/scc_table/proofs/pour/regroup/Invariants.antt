@@ -1,4 +1,3 @@
-use Rattle.std.proofs.Common.{◌≡◌}
 use Rattle.std.specs.Vec.Iter.{into_iter_items, into_iter_len}
 use Rattle.scc_table.specs.Hashing.{hash_of}
 use Rattle.scc_table.proofs.Pours.{RegroupedUntil}

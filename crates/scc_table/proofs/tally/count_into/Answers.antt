@@ -1,4 +1,4 @@
-use Rattle.std.proofs.Common.{◌≡◌, ◌<◌, ◌+◌, ◌^◌, ◌∙◌, sym, ℕ, length, rules, arith, get_or}
+use Rattle.std.proofs.Common.{◌≡◌, ◌<◌, ◌∙◌, sym, length, rules, arith, get_or}
 use Rattle.std.proofs.lemmas.List.{get_or_default}
 use Rattle.scc_table.proofs.Tallies.{tally-fits}
 use Rattle.scc_table.proofs.tally.count_into.Goals as goal

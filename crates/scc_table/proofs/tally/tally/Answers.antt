@@ -1,4 +1,4 @@
-use Rattle.std.proofs.Common.{◌≡◌, ◌<◌, ℕ, length, rules, arith, get_or}
+use Rattle.std.proofs.Common.{rules}
 use Rattle.scc_table.proofs.Tallies.{slots-room, overflow-room}
 use Rattle.scc_table.proofs.tally.tally.Goals as goal
 

@@ -1,4 +1,4 @@
-use Rattle.std.proofs.Common.{◌≡◌, ◌<◌, ◌≤◌, ◌+◌, ap, sym, ◌∙◌, length, rules, arith, Result, Ok, Err, length-append}
+use Rattle.std.proofs.Common.{◌≡◌, ◌<◌, ap, ◌∙◌, length, rules, arith, Result, Ok, Err}
 use Rattle.std.specs.Result.{OnErr}
 use Rattle.scc_table.specs.Contents.{bucket_count}
 use Rattle.scc_table.specs.Hashing.{hash_of}

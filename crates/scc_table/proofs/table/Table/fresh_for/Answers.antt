@@ -1,4 +1,4 @@
-use Rattle.std.proofs.Common.{◌≡◌, ◌<◌, ◌^◌, ap, sym, ◌∙◌, length, rules, arith, subst, IfOk, Result, Ok, Err}
+use Rattle.std.proofs.Common.{◌≡◌, ap, ◌∙◌, length, arith, IfOk, Result, Ok, Err}
 use Rattle.std.specs.List.{flat_map}
 use Rattle.scc_table.specs.Hashing.{hash_of}
 use Rattle.scc_table.specs.Pour.{IsTally}

@@ -1,5 +1,4 @@
-use Rattle.std.proofs.Common.{◌≡◌, ◌<◌, ◌≤◌, ◌+◌, ◌*◌, ◌^◌, inr, ◌∙◌, sym, arith}
-use Rattle.scc_table.specs.Contents.{bucket_count}
+use Rattle.std.proofs.Common.{◌*◌, inr, arith}
 use Rattle.scc_table.proofs.Powers.{double-array}
 use Rattle.scc_table.proofs.Resizes.{regrouped-resizes}
 use Rattle.scc_table.proofs.table.Table.grow.Goals as goal

@@ -1,4 +1,4 @@
-use Rattle.std.proofs.Common.{◌≡◌, ◌<◌, ap, ◌∙◌, length, rules}
+use Rattle.std.proofs.Common.{◌≡◌, ap, ◌∙◌, length, rules}
 use Rattle.scc_table.specs.Routing.{bucket_number}
 use Rattle.scc_table.proofs.Views.{count-view, settings-view}
 use Rattle.scc_table.proofs.table.Table.grow_for.Goals as goal

@@ -1,5 +1,4 @@
-use Rattle.std.proofs.Common.{◌≡◌, ◌<◌, ◌≤◌, length, sym, rules, arith}
-use Rattle.scc_table.specs.Contents.{bucket_count, minimum_of}
+use Rattle.std.proofs.Common.{◌≡◌, length, rules, arith}
 use Rattle.scc_table.proofs.Views.{count-view}
 use Rattle.scc_table.proofs.table.Table.grow_to_minimum.Goals as goal
 

@@ -1,12 +1,12 @@
-use Rattle.std.proofs.Common.{◌≡◌, ℕ, ◌+◌, ◌^◌, ◌<◌, ◌≤◌, ◌∙◌, sym, ap, rules, arith, length, true, false, refl, map, set, length-append, length-set}
+use Rattle.std.proofs.Common.{◌≡◌, ◌+◌, ◌^◌, ◌<◌, ◌≤◌, ◌∙◌, sym, ap, rules, arith, length, refl, set, length-append, length-set}
 use Rattle.scc_table.specs.Hashing.{hash_of}
 use Rattle.scc_table.specs.Routing.{bucket_number, tag_of}
-use Rattle.scc_table.specs.Shelf.{Shelf, shelf_entries, with_entry}
+use Rattle.scc_table.specs.Shelf.{Shelf, with_entry}
 use Rattle.scc_table.specs.Contents.{entries}
 use Rattle.scc_table.proofs.Inserts.{inserted-at, inserted-table, inserted-holds, overflow-after, overflow-full, refused-unchanged, refused-entries, refused-table, unique-inserted, table-bound, bucket-bound, read-again}
 use native.Mathlib.Decide.{dec_lt}
 use Rattle.scc_table.proofs.Counting.{count-in_bucket}
-use Rattle.scc_table.proofs.Views.{entries-view, count-view, settings-view, list-view}
+use Rattle.scc_table.proofs.Views.{entries-view, count-view, settings-view}
 use Rattle.scc_table.proofs.table.Table.insert_in.Goals as goal
 use Rattle.scc_table.proofs.table.Table.insert_in.Goals.{else-is_full-via-then-is_full+else-self, else-is_full-via-else-is_full}
 

@@ -1,6 +1,6 @@
-use Rattle.std.proofs.Common.{◌≡◌, ◌<◌, Bool, Result, Ok, Err, ap, ◌∙◌}
+use Rattle.std.proofs.Common.{Result, Ok, Err, ap, ◌∙◌}
 use Rattle.std.specs.Result.{IfOk, OnErr}
-use Rattle.scc_table.specs.Contents.{entries, bucket_count, key_hash, HasRoomBy, HasRoomAt}
+use Rattle.scc_table.specs.Contents.{entries, bucket_count, key_hash, HasRoomAt}
 use Rattle.scc_table.proofs.Resizes.{absent-permuted, rests-resizes, rests-inserted}
 use Rattle.scc_table.proofs.table.Table.insert_new.Goals as goal
 

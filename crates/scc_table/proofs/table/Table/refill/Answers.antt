@@ -1,9 +1,9 @@
-use Rattle.std.proofs.Common.{◌≡◌, ◌<◌, ◌≤◌, ◌^◌, ap, sym, ◌∙◌, length, rules, arith, subst, refl}
+use Rattle.std.proofs.Common.{◌≡◌, ap, sym, ◌∙◌, length, rules, arith, refl}
 use Rattle.std.specs.List.{flat_map, sum_by}
 use Rattle.scc_table.specs.Hashing.{hash_of}
 use Rattle.scc_table.specs.Shelf.{shelf_entries}
 use Rattle.scc_table.proofs.Refill.{room-same, poured-same, spilled-few, table-after, unique-after, regrouped, permuted-view, count-entries}
-use Rattle.scc_table.proofs.Views.{view_of, entries-view, settings-view}
+use Rattle.scc_table.proofs.Views.{entries-view, settings-view}
 use Rattle.scc_table.proofs.table.Table.refill.Goals as goal
 
 pub regroup-requires-clause-room : goal.regroup-requires-clause-room

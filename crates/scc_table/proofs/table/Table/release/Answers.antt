@@ -1,7 +1,5 @@
-use Rattle.std.proofs.Common.{◌≡◌, ◌+◌, ◌-◌, ◌*◌, ◌<◌, ◌≤◌, ◌⊎◌, ◌∙◌, ap, sym, subst, arith}
-use Rattle.std.specs.List.Sorted.{IsPermutation}
-use Rattle.scc_table.specs.Contents.{Settings, entries, bucket_count, settings_of, minimum_of}
-use Rattle.scc_table.specs.Sizes.{IsArray}
+use Rattle.std.proofs.Common.{◌≡◌, ◌+◌, ◌-◌, ◌∙◌, ap, sym, arith}
+use Rattle.scc_table.specs.Contents.{Settings, bucket_count, settings_of, minimum_of}
 use Rattle.scc_table.proofs.Resizes.{smaller-by}
 use Rattle.scc_table.proofs.table.Table.release.Goals as goal
 

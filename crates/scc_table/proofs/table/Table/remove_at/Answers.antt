@@ -1,4 +1,4 @@
-use Rattle.std.proofs.Common.{◌≡◌, ◌+◌, ap}
+use Rattle.std.proofs.Common.{◌+◌, ap}
 use Rattle.scc_table.specs.Contents.{bucket_count, minimum_of}
 use Rattle.scc_table.proofs.Resizes.{smaller-by}
 use Rattle.scc_table.proofs.table.Table.remove_at.Goals as goal

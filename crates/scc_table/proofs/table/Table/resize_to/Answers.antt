@@ -1,6 +1,6 @@
-use Rattle.std.proofs.Common.{◌≡◌, ◌<◌, ◌^◌, ap, sym, ◌∙◌, length, rules, arith, subst, refl}
+use Rattle.std.proofs.Common.{arith}
 use Rattle.scc_table.proofs.Refill.{count-entries}
-use Rattle.scc_table.proofs.Views.{entries-view, settings-view}
+use Rattle.scc_table.proofs.Views.{entries-view}
 use Rattle.scc_table.proofs.table.Table.resize_to.Goals as goal
 
 pub returns-then-self-ge-OVERFLOW_LIMIT-clause-unique : goal.returns-then-self-ge-OVERFLOW_LIMIT-clause-unique

@@ -1,4 +1,4 @@
-use Rattle.std.proofs.Common.{◌≡◌, ap, sym, ◌∙◌, refl}
+use Rattle.std.proofs.Common.{sym, ◌∙◌, refl}
 use Rattle.scc_table.specs.Contents.{settings_of}
 use Rattle.scc_table.proofs.Views.{entries-view, count-view, settings-view}
 use Rattle.scc_table.proofs.table.Table.set_reserved.Goals as goal

@@ -1,7 +1,4 @@
-use Rattle.std.proofs.Common.{◌≡◌, ◌<◌, ◌≤◌, ◌*◌, ◌^◌, max, length, inl, inr, sym, ap, subst, rules, arith}
-use Rattle.scc_table.specs.Contents.{entries, bucket_count, minimum_of}
-use Rattle.scc_table.specs.Pour.{IsRegrouped}
-use Rattle.scc_table.specs.Sizes.{IsArraySize}
+use Rattle.std.proofs.Common.{inr, arith}
 use Rattle.scc_table.proofs.Resizes.{regrouped-shrunk}
 use Rattle.scc_table.proofs.table.Table.shrink_sparse.Goals as goal
 
