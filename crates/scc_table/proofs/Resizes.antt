@@ -1,7 +1,6 @@
 -- Steps after a resize, and before one.
-use Rattle.std.proofs.Common.{◌≡◌, ◌≢◌, ℕ, ◌+◌, ◌*◌, ◌^◌, ◌<◌, ◌≤◌, inl, inr, Bool, false, List, [], ◌∷◌, length, refl, sym, ap, ◌∙◌, subst, max, arith, Some, None, Result, Ok, Err}
+use Rattle.std.proofs.Common.{◌≡◌, ◌≢◌, ℕ, ◌+◌, ◌*◌, ◌^◌, ◌<◌, ◌≤◌, inl, inr, Bool, false, List, [], ◌∷◌, length, refl, sym, ap, ◌∙◌, subst, max, arith, Some, None}
 use Rattle.std.specs.List.{All, position}
-use Rattle.std.specs.Result.{OnOk, OnErr}
 use Rattle.std.specs.List.Sorted.{IsPermutation}
 use Rattle.std.proofs.lemmas.List.Elements.{All-cons}
 use Rattle.std.proofs.lemmas.List.Sorted.{length_permutation, All-permutation, IsPermutation-cons, IsPermutation-refl, IsPermutation-trans}
@@ -10,7 +9,7 @@ use Rattle.scc_table.specs.Contents.{Contents, entries, bucket_count, settings_o
 use Rattle.scc_table.specs.Places.{IsInsertedAt}
 use Rattle.scc_table.specs.Pour.{IsRegrouped}
 use Rattle.scc_table.specs.Sizes.{IsArray, IsArraySize, IsSmaller}
-use Rattle.scc_table.specs.Steps.{Holds, HoldsExactly, KeepsSize, IsShrunk, IsUnchanged, Resizes, Rests, Shrinks}
+use Rattle.scc_table.specs.Steps.{Holds, KeepsSize, IsShrunk, IsUnchanged, Resizes, Rests, Shrinks}
 use Rattle.scc_table.specs.declared.place.Place.{Place}
 use Rattle.scc_table.proofs.Finding.{position_hit, position_cons, position_none}
 use Rattle.scc_table.proofs.Inserts.{by_answer, none_left}
@@ -25,11 +24,6 @@ all-absent p (x ∷ xs) n = by_answer (p x)
 -- what is absent is absent in any order
 pub absent-permuted : {X : Type 0} (p : X → Bool) (xs ys : List X) → IsPermutation xs ys → position p xs ≡ None → position p ys ≡ None
 absent-permuted p xs ys h n = position_none p ys (record { fails = All-permutation (λ x. p x ≡ false) xs ys h (all-absent p xs n) })
-
--- whichever way a call went
-pub by_result : {A B P Q R : Type 0} (r : Result A B) → OnOk r P → OnErr r Q → (P → R) → (Q → R) → R
-by_result (Ok a) p q f g = f p
-by_result (Err b) p q f g = g q
 
 module _ {E S : Type 0} where
   pub keeps-size_then : (a b c : Contents E S) → settings_of b ≡ settings_of a → KeepsSize a b → KeepsSize b c → KeepsSize a c
@@ -58,27 +52,8 @@ module _ {E S : Type 0} where
     settings = u.settings;
   }
 
-  pub unchanged-self : (a : Contents E S) → IsUnchanged a a
-  unchanged-self a = record { exact = refl; buckets = refl; settings = refl }
-
-  pub exactly-then : (a b c : Contents E S) (es : List E) → HoldsExactly a es b → Resizes b c → Holds a es c
-  exactly-then a b c es p q = record {
-    same = subst (λ z. IsPermutation z (entries c)) p.exact q.same;
-    size = keeps-size_then a b c p.settings (record { lawful = inl p.buckets; minimum = λ less. absurd (omega (arith, p.buckets)) }) q.size;
-    settings = q.settings ∙ p.settings;
-  }
-
   pub rests-resizes : (a b : Contents E S) → Rests a b → Resizes a b
   rests-resizes a b r = elim r [ inl u ↦ unchanged-resizes a b u | inr q ↦ q.1 ]
-
-  pub rests-settings : (a b : Contents E S) → Rests a b → settings_of b ≡ settings_of a
-  rests-settings a b r = (rests-resizes a b r).settings
-
-  pub rests-unchanged : (a b c : Contents E S) → Rests a b → IsUnchanged b c → Rests a c
-  rests-unchanged a b c r u = elim r [
-    | inl v ↦ inl (record { exact = u.exact ∙ v.exact; buckets = u.buckets ∙ v.buckets; settings = u.settings ∙ v.settings })
-    | inr q ↦ inr (λ z. q.0 (sym u.buckets ∙ z), resizes-then a b c (entries a) (entries b) q.1 q.1.same (unchanged-resizes b c u))
-  ]
 
   pub rests-inserted : (a b c : Contents E S) (e : E) (p : Place) → Rests a b → IsInsertedAt b e c p → IsInsertedAt a e c p
   rests-inserted a b c e p r i = record {

@@ -1,5 +1,5 @@
 //! Entries that move from old buckets to new ones.
-ghost use Rattle.std.specs.Prelude.{◌≡◌, ◌<◌, ◌≤◌, ◌+◌, ◌^◌, ℕ, length};
+ghost use Rattle.std.specs.Prelude.{◌≡◌, ◌<◌, ◌+◌, length};
 ghost use Rattle.std.specs.List.{flat_map};
 ghost use Rattle.scc_table.specs.Hashing.{hash_of};
 ghost use Rattle.scc_table.specs.Pour.{Poured, RoomFor};

@@ -1,5 +1,5 @@
 //! How many entries each bucket of a new array will get, and how many lie in overflow lists.
-ghost use Rattle.std.specs.Prelude.{◌≡◌, ◌<◌, ◌≤◌, ◌+◌, ◌^◌, ℕ, length, IfOk, slice_index};
+ghost use Rattle.std.specs.Prelude.{◌≡◌, ◌<◌, ◌+◌, ◌^◌, ℕ, length, IfOk, slice_index};
 ghost use Rattle.std.specs.List.{flat_map, sum_by};
 ghost use Rattle.scc_table.specs.Hashing.{hash_of};
 ghost use Rattle.scc_table.specs.Pour.{IsTally, Tallies};

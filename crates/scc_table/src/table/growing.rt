@@ -1,5 +1,5 @@
 //! How a table gets room for a new key.
-ghost use Rattle.std.specs.Prelude.{◌≡◌, ◌<◌, ◌+◌, ◌*◌, ◌^◌, IfOk, OnErr};
+ghost use Rattle.std.specs.Prelude.{◌≡◌, ◌<◌, ◌+◌, ◌*◌, IfOk, OnErr};
 ghost use Rattle.scc_table.specs.Contents.{bucket_count, settings_of, key_hash, HasRoomAt, IsUniqueBy};
 ghost use Rattle.scc_table.specs.Routing.{bucket_number};
 ghost use Rattle.scc_table.specs.Steps.{Grows, Rests};

@@ -1,5 +1,5 @@
 //! How many slots a table keeps at least.
-ghost use Rattle.std.specs.Prelude.{◌≡◌, ◌≢◌, ◌≤◌, ◌<◌, ◌+◌, ◌-◌, ◌*◌, ◌^◌, ◌↔◌, ℕ, length, IsTrue};
+ghost use Rattle.std.specs.Prelude.{◌≡◌, ◌≢◌, ◌≤◌, ◌<◌, ◌+◌, ◌-◌, ◌*◌, ◌^◌, ◌↔◌, IsTrue};
 ghost use Rattle.scc_table.specs.Contents.{entries, bucket_count, settings_of, minimum_of, IsUniqueBy};
 ghost use Rattle.scc_table.specs.Sizes.{IsArraySize};
 ghost use Rattle.scc_table.specs.Steps.{IsUnchanged, Releases, Reserves, Resizes};

@@ -1,7 +1,7 @@
 //! How a table gets more buckets, or fewer.
-ghost use Rattle.std.specs.Prelude.{◌≡◌, ◌≤◌, ◌<◌, ◌+◌, ◌*◌, ◌^◌, length, IfOk, OnOk, OnErr};
+ghost use Rattle.std.specs.Prelude.{◌≡◌, ◌<◌, ◌+◌, ◌*◌, ◌^◌, length, IfOk, OnOk, OnErr};
 ghost use Rattle.std.specs.List.Sorted.{IsPermutation};
-ghost use Rattle.scc_table.specs.Contents.{entries, bucket_count, settings_of, minimum_of, key_hash, IsUniqueBy};
+ghost use Rattle.scc_table.specs.Contents.{entries, settings_of, key_hash, IsUniqueBy};
 ghost use Rattle.scc_table.specs.Pour.{IsRegrouped, RoomFor};
 ghost use Rattle.scc_table.specs.Sizes.{IsArray};
 ghost use Rattle.scc_table.specs.Steps.{IsUnchanged};

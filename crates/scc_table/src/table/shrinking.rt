@@ -1,5 +1,5 @@
 //! How a table gives back slots that it no longer needs.
-ghost use Rattle.std.specs.Prelude.{◌≡◌, ◌≤◌, ◌*◌, length};
+ghost use Rattle.std.specs.Prelude.{◌≤◌, ◌*◌, length};
 ghost use Rattle.scc_table.specs.Contents.{entries, bucket_count, IsUniqueBy};
 ghost use Rattle.scc_table.specs.Steps.{Resizes, Shrinks};
 
