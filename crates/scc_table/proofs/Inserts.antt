@@ -145,11 +145,11 @@ take-set [] (suc i) x = refl
 take-set (y ∷ xs) zero x = refl
 take-set (y ∷ xs) (suc i) x = ap (λ z. y ∷ z) (take-set xs i x)
 
-by_answer : {P : Type 0} (b : Bool) → (b ≡ true → P) → (b ≡ false → P) → P
+pub by_answer : {P : Type 0} (b : Bool) → (b ≡ true → P) → (b ≡ false → P) → P
 by_answer true p q = p refl
 by_answer false p q = q refl
 
-none_left : (o : Option ℕ) → option_map suc o ≡ None → o ≡ None
+pub none_left : (o : Option ℕ) → option_map suc o ≡ None → o ≡ None
 none_left None e = refl
 none_left (Some k) e = absurd (let z : Some (suc k) ≡ None = e in cc)
 

@@ -2,11 +2,15 @@ pub mod Counting
 pub mod Finding
 pub mod Inserts
 pub mod Making
+pub mod Pours
 pub mod Powers
+pub mod Refill
 pub mod Remove
 pub mod Removes
+pub mod Resizes
 pub mod Search
 pub mod Spots
+pub mod Tallies
 pub mod Views
 pub mod WalkLemmas
 pub mod Writing

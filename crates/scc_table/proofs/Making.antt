@@ -26,7 +26,7 @@ sums-empty {E} (b ∷ bs) h =
     let two = sum_by-cons (λ (x : Shelf E). length x.overflow) b bs in
     (omega arith, omega arith)
 
-slots-none : {E : Type 0} (b : Shelf E) → shelf_entries b ≡ [] → b.slots ≡ []
+pub slots-none : {E : Type 0} (b : Shelf E) → shelf_entries b ≡ [] → b.slots ≡ []
 slots-none b e =
     let n : length (b.slots ++ b.overflow) ≡ 0 = ap length e in
     let m = length-append b.slots b.overflow in

@@ -1,9 +1,9 @@
 -- Powers of two.
-use Rattle.std.proofs.Common.{◌≡◌, ℕ, ◌+◌, ◌-◌, ◌*◌, ◌/◌, ◌^◌, ◌<◌, ◌≤◌, ◌⊎◌, inl, inr, min, max, sym, ap, ◌∙◌, subst, refl, arith}
+use Rattle.std.proofs.Common.{◌≡◌, ℕ, ◌+◌, ◌-◌, ◌*◌, ◌/◌, ◌^◌, ◌<◌, ◌≤◌, inl, inr, max, sym, ap, ◌∙◌, subst, refl, arith}
 use Rattle.std.specs.Int.{IsPowerOfTwo}
-use Rattle.scc_table.specs.Sizes.{IsArray, IsArraySize}
+use Rattle.scc_table.specs.Sizes.{IsArray, IsArraySize, IsLawful}
 use native.Mathlib.Decide.{dec_lt}
-use lib.Pow.{pow_mono, pow-add, shl-shr}
+use lib.Pow.{pow_mono, pow-add}
 
 -- a smaller power is at most half
 half : (p q j k : ℕ) → p ≡ 2 ^ k → q ≡ 2 ^ j → q < p → q ≤ p / 2
@@ -44,3 +44,34 @@ pub array-of_size : (n p : ℕ) → IsArraySize n p → IsArray (p / 32) × (32 
 array-of_size n p h =
     let b = by_32 p h.power.0 h.power.1 h.least in
     (record { power = (h.power.0 - 5, b.0); least = omega (arith, h.least); most = omega (arith, h.most) }, b.1)
+
+-- twice an array's buckets may be an array's
+pub double-array : (n : ℕ) → IsLawful n → 0 < n → n < 2 ^ 58 → IsArray (2 * n)
+double-array n h pos l = elim h [
+  | inl z ↦ absurd (omega arith)
+  | inr a ↦
+      let k : ℕ = a.power.0 in
+      let e : n ≡ 2 ^ k = a.power.1 in
+      let p : 2 ^ (k + 1) ≡ 2 ^ k * 2 ^ 1 = pow-add 2 k 1 in
+      record {
+        power = (k + 1, omega arith);
+        least = omega (arith, a.least);
+        most = elim (dec_lt k 58) [
+          | yes q ↦ let m : 2 ^ (k + 1) ≤ 2 ^ 58 = pow_mono {i = k + 1} {j = 58} (omega arith) in omega arith
+          | no q ↦ let m : 2 ^ 58 ≤ 2 ^ k = pow_mono {i = 58} {j = k} (omega arith) in absurd (omega arith)
+        ];
+      }
+]
+
+-- there is one size of an array for so many slots
+pub size-once : (n p q : ℕ) → IsArraySize n p → IsArraySize n q → p ≡ q
+size-once n p q a b =
+    let l = a.fewest q b.power b.least b.enough in
+    let m = b.fewest p a.power a.least a.enough in
+    omega arith
+
+pub max-array : (a b : ℕ) → IsArray a → IsArray b → IsArray (max a b)
+max-array a b p q = elim (dec_lt a b) [
+  | yes h ↦ let e : b ≡ max a b = omega arith in subst IsArray e q
+  | no h ↦ let e : a ≡ max a b = omega arith in subst IsArray e p
+]

@@ -66,6 +66,10 @@ module _ {E S : Type 0} where
     abbrev pub bucket_of : Contents E S → K → ℕ
     bucket_of c k = bucket_number (settings_of c).skipped (bucket_count c) (hash k)
 
+    -- there is an array, and the bucket of that hash holds fewer than 32 entries
+    abbrev pub HasRoomAt : (E → K) → Contents E S → ℕ → Type 0
+    HasRoomAt key c h = (0 < bucket_count c) × (count_by (λ e. bucket_of c (key e) == bucket_number (settings_of c).skipped (bucket_count c) h) (entries c) < 32)
+
     -- there is an array, and the bucket of k holds fewer than 32 entries
     abbrev pub HasRoomBy : (E → K) → Contents E S → K → Type 0
     HasRoomBy key c k = (0 < bucket_count c) × (count_by (λ e. bucket_of c (key e) == bucket_of c k) (entries c) < 32)

@@ -4,6 +4,7 @@ pub mod LendsBucket
 pub mod LendsTable
 pub mod Pairs
 pub mod Places
+pub mod Pour
 pub mod Routing
 pub mod Shelf
 pub mod Sizes

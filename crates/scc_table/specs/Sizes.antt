@@ -1,5 +1,5 @@
 -- The sizes of an array.
-use Rattle.std.specs.Prelude.{◌≡◌, ℕ, ◌+◌, ◌*◌, ◌^◌, ◌≤◌, ◌⊎◌, min}
+use Rattle.std.specs.Prelude.{◌≡◌, ℕ, ◌*◌, ◌^◌, ◌<◌, ◌≤◌, ◌⊎◌, min, max}
 use Rattle.std.specs.Int.{IsPowerOfTwo}
 
 -- slots is the least power of two that is at least wanted and at least 64, cut at 2 ^ 63
@@ -19,3 +19,9 @@ pub record IsArray (buckets : ℕ) : Type 0 where
 -- there is no array, or one of a lawful size
 abbrev pub IsLawful : ℕ → Type 0
 IsLawful buckets = (buckets ≡ 0) ⊎ IsArray buckets
+
+-- an array of `from` buckets may be replaced by one of `to` where so many entries are held: they are at most an eighth of its slots, and the new slots are the greater of the sizes for the minimum and for twice the entries
+pub record IsSmaller (minimum held from to : ℕ) : Type 0 where
+  pub few : 8 * held ≤ 32 * from
+  pub fewer : to < from
+  pub size : (m n : ℕ) → IsArraySize minimum m → IsArraySize (2 * held) n → 32 * to ≡ max m n

@@ -1,8 +1,8 @@
 -- What a call may leave: the same contents, other entries, other buckets.
-use Rattle.std.specs.Prelude.{◌≡◌, ◌≢◌, ℕ, ◌+◌, ◌*◌, ◌<◌, ◌≤◌, ◌⊎◌, List}
+use Rattle.std.specs.Prelude.{◌≡◌, ◌≢◌, ℕ, ◌+◌, ◌-◌, ◌*◌, ◌^◌, ◌<◌, ◌≤◌, ◌⊎◌, List, length}
 use Rattle.std.specs.List.Sorted.{IsPermutation}
-use Rattle.scc_table.specs.Contents.{Contents, entries, bucket_count, settings_of, minimum_of}
-use Rattle.scc_table.specs.Sizes.{IsArray}
+use Rattle.scc_table.specs.Contents.{Contents, Settings, entries, bucket_count, settings_of, minimum_of}
+use Rattle.scc_table.specs.Sizes.{IsArray, IsArraySize, IsSmaller}
 
 module _ {E S : Type 0} where
   -- d has the entries of the list in their order, with the buckets and the settings of c
@@ -33,3 +33,37 @@ module _ {E S : Type 0} where
   -- a refused call: nothing changed, or one resize to another number of buckets
   abbrev pub Rests : Contents E S → Contents E S → Type 0
   Rests c d = IsUnchanged c d ⊎ ((bucket_count d ≢ bucket_count c) × Resizes c d)
+
+  -- where the number of buckets changed, there was no array and one of the size of the minimum was made, or at least half as many entries as slots were held and the slots, below the greatest number, were doubled
+  pub record Grows (c d : Contents E S) : Type 0 where
+    pub first : bucket_count c ≡ 0 → bucket_count d ≢ bucket_count c → IsArraySize (minimum_of c) (32 * bucket_count d)
+    pub half : 0 < bucket_count c → bucket_count d ≢ bucket_count c → 32 * bucket_count c ≤ 2 * length (entries c)
+    pub below : 0 < bucket_count c → bucket_count d ≢ bucket_count c → 32 * bucket_count c < 2 ^ 63
+    pub doubled : 0 < bucket_count c → bucket_count d ≢ bucket_count c → bucket_count d ≡ 2 * bucket_count c
+
+  -- the entries moved to fewer buckets
+  pub record IsShrunk (c d : Contents E S) : Type 0 where
+    pub resizes : Resizes c d
+    pub smaller : IsSmaller (minimum_of c) (length (entries c)) (bucket_count c) (bucket_count d)
+
+  -- nothing changed, or the buckets became fewer
+  abbrev pub Shrinks : Contents E S → Contents E S → Type 0
+  Shrinks c d = IsUnchanged c d ⊎ IsShrunk c d
+
+  -- d has the entries of c in some order, and the settings s; it may have been resized, but not below their minimum
+  pub record HoldsWith (c : Contents E S) (s : Settings S) (d : Contents E S) : Type 0 where
+    pub same : IsPermutation (entries c) (entries d)
+    pub lawful : (bucket_count d ≡ bucket_count c) ⊎ IsArray (bucket_count d)
+    pub minimum : bucket_count d < bucket_count c → s.asked + s.reserved ≤ 32 * bucket_count d
+    pub settings : settings_of d ≡ s
+
+  -- so many slots more are reserved, and an array may have grown to the new minimum
+  pub record Reserves (n : ℕ) (c d : Contents E S) : Type 0 where
+    pub holds : HoldsWith c (record (settings_of c) { reserved = (settings_of c).reserved + n }) d
+    pub more : bucket_count c ≤ bucket_count d
+    pub size : bucket_count d ≢ bucket_count c → (0 < bucket_count c) × IsArraySize (minimum_of d) (32 * bucket_count d)
+
+  -- so many slots less are reserved, and an array may have become smaller
+  pub record Releases (n : ℕ) (c d : Contents E S) : Type 0 where
+    pub holds : HoldsWith c (record (settings_of c) { reserved = (settings_of c).reserved - n }) d
+    pub smaller : bucket_count d ≢ bucket_count c → IsSmaller (minimum_of d) (length (entries d)) (bucket_count c) (bucket_count d)

@@ -74,6 +74,14 @@ impl<E> Bucket<E> {
         self.slots.len() + self.overflow.len()
     }
 
+    /// The number of entries in the overflow list.
+    #[inline(always)]
+    pub fn overflow_len(&self) -> usize
+        ensures { result ≡ length self.now.overflow }
+    {
+        self.overflow.len()
+    }
+
     /// Whether all slots are in use.
     #[inline(always)]
     pub fn is_full(&self) -> bool

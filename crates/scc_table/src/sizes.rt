@@ -5,6 +5,9 @@ ghost use Rattle.scc_table.specs.Sizes.{IsArray, IsArraySize};
 /// The greatest capacity of a table, in slots.
 pub const GREATEST_CAPACITY: usize = 1 << 63;
 
+/// The greatest number of buckets, of 32 slots each.
+pub const MOST_BUCKETS: usize = 1 << 58;
+
 /// The array size of so many slots: the least power of two that is at least that many and at least 64, cut at the greatest capacity.
 pub fn slots_for(slots: usize) -> usize
     ensures { IsArraySize slots result }

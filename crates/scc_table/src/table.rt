@@ -4,9 +4,14 @@ ghost use Rattle.std.specs.List.{flat_map, position};
 ghost use Rattle.scc_table.specs.Contents.{entries, bucket_count, settings_of, minimum_of, key_hash, bucket_of, IsUniqueBy, HasRoomBy};
 ghost use Rattle.scc_table.specs.Places.{IsPlace, IsFoundAt, index_of};
 ghost use Rattle.scc_table.specs.Shelf.{shelf_entries};
+ghost use Rattle.scc_table.specs.Sizes.{IsLawful};
 
 mod edits;
+mod growing;
 mod making;
+mod reserving;
+mod resizing;
+mod shrinking;
 mod writes;
 
 use crate::bucket::Bucket;
@@ -69,6 +74,7 @@ where
     pub fn bucket_count(&self) -> usize
         ensures count { result ≡ bucket_count self.now }
         ensures most { result ≤ 2 ^ 58 }
+        ensures lawful { IsLawful result }
     {
         self.buckets.len()
     }

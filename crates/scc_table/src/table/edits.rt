@@ -1,14 +1,16 @@
 //! How entries get into a table and out of it.
-ghost use Rattle.std.specs.Prelude.{◌≡◌, ◌≤◌, ◌<◌, ◌+◌, ◌*◌, ◌^◌, [], ◌∷◌, length, Some, None, IsTrue, IfOk, IfErr, OnErr, slice_get, remove};
+ghost use Rattle.std.specs.Prelude.{◌≡◌, ◌≢◌, ◌≤◌, ◌<◌, ◌+◌, ◌*◌, ◌^◌, [], ◌∷◌, length, Some, None, IsTrue, IfOk, IfErr, OnErr, slice_get, remove};
 ghost use Rattle.std.specs.List.{position};
-ghost use Rattle.scc_table.specs.Contents.{entries, bucket_count, list_of, settings_of, key_hash, bucket_of, IsUniqueBy, HasRoomBy};
+ghost use Rattle.scc_table.specs.Contents.{entries, bucket_count, list_of, settings_of, minimum_of, key_hash, bucket_of, IsUniqueBy, HasRoomBy};
 ghost use Rattle.scc_table.specs.Places.{IsPlace, IsInsertedAt, index_of};
-ghost use Rattle.scc_table.specs.Steps.{Holds, HoldsExactly, IsUnchanged, Rests};
+ghost use Rattle.scc_table.specs.Routing.{bucket_number};
+ghost use Rattle.scc_table.specs.Sizes.{IsSmaller};
+ghost use Rattle.scc_table.specs.Steps.{Grows, Holds, HoldsExactly, IsUnchanged, Rests};
 
 use super::Table;
 use crate::keyed::Keyed;
 use crate::place::Place;
-use crate::route::{bucket_index, tag};
+use crate::route::tag;
 use std::hash::{BuildHasher, Hash};
 
 /// How many entries may lie in the overflow lists of one table: fewer than this.
@@ -27,33 +29,37 @@ impl<E: Keyed, H: BuildHasher> Table<E, H>
 where
     E::Key: Eq + Hash,
 {
-    /// Puts in an entry whose key is new, and answers its place. It is handed back where there is no array and none can be had, or where its bucket is full and the overflow list can't grow.
+    /// Puts in an entry whose key is new, and answers its place. Where its bucket holds 32 entries or more and the table at least half as many entries as slots, the number of buckets is doubled first, if memory can be had: that insertion takes time by the number of entries. The entry is handed back where there is no array and none can be had, or where its bucket is full and the overflow list can't grow.
     pub fn insert_new(&mut self, hash: u64, entry: E) -> Result<Place, E>
         requires hashed { hash ≡ key_hash H.BuildHasher H.Hasher.Hasher E.Key.hash_input self.old (E.key_of entry) }
         requires absent { position (λ e. E.Key.eq (E.key_of entry) (E.key_of e)) (entries self.old) ≡ None }
         ensures ok { IfOk result (IsInsertedAt self.old entry self.new) }
         ensures err { IfErr result (λ e. (e ≡ entry) × Rests self.old self.new) }
         ensures full { OnErr result (HasRoomBy (key_hash H.BuildHasher H.Hasher.Hasher E.Key.hash_input self.old) E.key_of self.old (E.key_of entry) → ⊥) }
+        ensures growth { Grows self.old self.new }
+        ensures kept { HasRoomBy (key_hash H.BuildHasher H.Hasher.Hasher E.Key.hash_input self.old) E.key_of self.old (E.key_of entry) → bucket_count self.new ≡ bucket_count self.old }
         ensures unique { IsUniqueBy E.Key.eq E.key_of self.new }
     {
-        if self.bucket_count() == 0 && self.make_array().is_err() {
-            return Err(entry);
+        match self.bucket_for_new(hash) {
+            Ok(bucket) => self.insert_in(bucket, hash, entry),
+            Err(_) => Err(entry),
         }
-        self.insert_in_array(hash, entry)
     }
 
-    /// The same where there is an array.
-    fn insert_in_array(&mut self, hash: u64, entry: E) -> Result<Place, E>
-        requires array { 0 < bucket_count self.old }
+    /// The same into that bucket, the one of the hash.
+    #[inline(always)]
+    fn insert_in(&mut self, bucket: usize, hash: u64, entry: E) -> Result<Place, E>
+        requires within { bucket < bucket_count self.old }
+        requires routed { bucket ≡ bucket_number (settings_of self.old).skipped (bucket_count self.old) hash }
         requires hashed { hash ≡ key_hash H.BuildHasher H.Hasher.Hasher E.Key.hash_input self.old (E.key_of entry) }
         requires absent { position (λ e. E.Key.eq (E.key_of entry) (E.key_of e)) (entries self.old) ≡ None }
         ensures ok { IfOk result (IsInsertedAt self.old entry self.new) }
         ensures err { IfErr result (λ e. (e ≡ entry) × IsUnchanged self.old self.new) }
         ensures full { OnErr result (HasRoomBy (key_hash H.BuildHasher H.Hasher.Hasher E.Key.hash_input self.old) E.key_of self.old (E.key_of entry) → ⊥) }
+        ensures buckets { bucket_count self.new ≡ bucket_count self.old }
         ensures unique { IsUniqueBy E.Key.eq E.key_of self.new }
     {
-        let bucket = bucket_index(hash, self.skipped, self.buckets.len());
-        if self.overflowing >= OVERFLOW_LIMIT - 1 && self.buckets[bucket].is_full() {
+        if self.buckets[bucket].is_full() && self.overflowing >= OVERFLOW_LIMIT - 1 {
             return Err(entry);
         }
         match self.buckets[bucket].insert(entry, tag(hash)) {
@@ -66,14 +72,17 @@ where
         }
     }
 
-    /// Takes the entry out of its place. The others stay, maybe in other places.
+    /// Takes the entry out of its place. The others stay, maybe in other places: where few are left, the array may become smaller.
     pub fn remove_at(&mut self, place: Place) -> E
         requires { IsPlace self.old place }
         ensures entry { slice_get (entries self.old) (index_of self.old place) ≡ Some result }
         ensures others { Holds self.old (remove (entries self.old) (index_of self.old place)) self.new }
+        ensures smaller { bucket_count self.new ≢ bucket_count self.old → IsSmaller (minimum_of self.old) (length (entries self.new)) (bucket_count self.old) (bucket_count self.new) }
         ensures unique { IsUniqueBy E.Key.eq E.key_of self.new }
     {
-        self.take_at(place)
+        let entry = self.take_at(place);
+        self.shrink();
+        entry
     }
 
     /// Takes the entry out of its place, with no resize: the others stay in their order.

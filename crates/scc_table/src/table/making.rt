@@ -1,6 +1,7 @@
 //! How a table and its array are made.
 ghost use Rattle.std.specs.Prelude.{◌≡◌, ◌≢◌, ◌≤◌, ◌<◌, ◌+◌, ◌*◌, ◌^◌, [], length, IsOk, IfOk, OnOk, OnErr, vec_len};
 ghost use Rattle.scc_table.specs.Contents.{entries, bucket_count, settings_of, minimum_of};
+ghost use Rattle.scc_table.specs.Pour.{Fits};
 ghost use Rattle.scc_table.specs.Sizes.{IsArray, IsArraySize};
 ghost use Rattle.scc_table.specs.Steps.{IsUnchanged};
 ghost use Rattle.scc_table.specs.Tables.{AllEmpty};
@@ -96,6 +97,31 @@ pub(crate) fn fresh_buckets<E>(alloc: Global, count: usize) -> Result<Vec<Bucket
     let mut fresh = Vec::with_capacity(alloc, count)?;
     for _ in 0..count {
         match Bucket::with_room(alloc, 0) {
+            Ok(bucket) => match fresh.push(bucket) {
+                Ok(()) => {}
+                Err(_back) => unreachable!(),
+            },
+            Err(e) => {
+                destroy_buckets(fresh);
+                return Err(e);
+            }
+        }
+    }
+    Ok(fresh)
+}
+
+/// An empty bucket for each count, with room for as many entries.
+pub(crate) fn roomy_buckets<E>(
+    alloc: Global,
+    counts: &[usize],
+) -> Result<Vec<Bucket<E>>, AllocError>
+    ensures count { IfOk result (λ v. length v.items ≡ length counts.now) }
+    ensures empty { IfOk result (λ v. AllEmpty v.items) }
+    ensures fits { IfOk result (λ v. Fits counts.now v.items) }
+{
+    let mut fresh = Vec::with_capacity(alloc, counts.len())?;
+    for count in counts {
+        match Bucket::with_room(alloc, count.saturating_sub(32)) {
             Ok(bucket) => match fresh.push(bucket) {
                 Ok(()) => {}
                 Err(_back) => unreachable!(),

@@ -6,3 +6,8 @@ pub returns-clause-count : goal.returns-clause-count
 returns-clause-count g c =
     let len : c.len.result ≡ length c.self.inside.buckets.items = search rules in
     len ∙ sym (count-view c.self.inside.buckets.items _ c.args.self.now c.self.view_is)
+
+pub returns-clause-lawful : goal.returns-clause-lawful
+returns-clause-lawful g c =
+    let len : c.len.result ≡ length c.self.inside.buckets.items = search rules in
+    rw len c.self.invariant.table.sized

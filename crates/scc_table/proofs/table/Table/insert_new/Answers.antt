@@ -1,19 +1,35 @@
-use Rattle.std.proofs.Common.{◌≡◌, ◌<◌, Result, Ok, Err, arith, refl}
-use Rattle.std.specs.List.{IsDistinct}
-use Rattle.std.specs.Result.{OnErr}
+use Rattle.std.proofs.Common.{Result, Ok, Err, ap, ◌∙◌}
+use Rattle.std.specs.Result.{IfOk, OnErr}
+use Rattle.scc_table.specs.Contents.{entries, bucket_count, key_hash, HasRoomAt}
+use Rattle.scc_table.proofs.Resizes.{absent-permuted, rests-resizes, rests-inserted}
 use Rattle.scc_table.proofs.table.Table.insert_new.Goals as goal
-use Rattle.scc_table.proofs.table.Table.insert_new.Goals.{else-bucket_count-eq0-via-then-bucket_count-eq0+else-is_err, else-bucket_count-eq0-via-else-bucket_count-eq0}
 
-on_err : {A B P : Type 0} (r : Result A B) → P → OnErr r P
-on_err (Ok a) p = tt
-on_err (Err b) p = p
+if_ok : {A B : Type 0} {P Q : A → Type 0} (r : Result A B) → ((a : A) → P a → Q a) → IfOk r P → IfOk r Q
+if_ok (Ok a) f p = f a p
+if_ok (Err b) f p = tt
 
-pub returns-then-is_err-clause-unique : goal.returns-then-is_err-clause-unique
-unfolding IsDistinct
-returns-then-is_err-clause-unique g c = rw c.make_array.ensures.still tt
+on_err : {A B P Q : Type 0} (r : Result A B) → (P → Q) → OnErr r P → OnErr r Q
+on_err (Ok a) f p = tt
+on_err (Err b) f p = f p
 
-pub returns-clause-full : goal.returns-clause-full
-returns-clause-full g c = elim c.else-bucket_count-eq0.branch [
-  | else-bucket_count-eq0-via-then-bucket_count-eq0+else-is_err w ↦ on_err c.insert_in_array.result (λ room. absurd (omega (arith, room.0, w.if-bucket_count-eq0.true, c.bucket_count.ensures.count)))
-  | else-bucket_count-eq0-via-else-bucket_count-eq0 w ↦ rw w.self-is at c.insert_in_array.ensures.full
-]
+pub insert_in-requires-clause-absent : goal.insert_in-requires-clause-absent
+insert_in-requires-clause-absent g c =
+    absent-permuted _ (entries c.args.self.now) (entries c.bucket_for_new.new.self) (rests-resizes c.args.self.now c.bucket_for_new.new.self c.bucket_for_new.ensures.rests).same c.requires.absent
+
+pub returns-in-Ok-clause-ok : goal.returns-in-Ok-clause-ok
+returns-in-Ok-clause-ok g c =
+    if_ok c.insert_in.result (λ p i. rests-inserted c.args.self.now c.bucket_for_new.new.self c.insert_in.new.self c.args.entry p c.bucket_for_new.ensures.rests i) c.insert_in.ensures.ok
+
+pub returns-in-Ok-clause-full : goal.returns-in-Ok-clause-full
+returns-in-Ok-clause-full g c =
+    on_err c.insert_in.result
+    (λ none room.
+    let had : HasRoomAt (key_hash g.H.BuildHasher g.H.Hasher.Hasher g.E.Key.Hash.hash_input c.args.self.now) g.E.Keyed.key_of c.args.self.now c.args.hash = rw c.requires.hashed room in
+    let same = c.bucket_for_new.ensures.still had in
+    none (rw same room))
+    c.insert_in.ensures.full
+
+pub returns-in-Ok-clause-kept : goal.returns-in-Ok-clause-kept
+returns-in-Ok-clause-kept g c = λ room.
+    let had : HasRoomAt (key_hash g.H.BuildHasher g.H.Hasher.Hasher g.E.Key.Hash.hash_input c.args.self.now) g.E.Keyed.key_of c.args.self.now c.args.hash = rw c.requires.hashed room in
+    c.insert_in.ensures.buckets ∙ ap bucket_count (c.bucket_for_new.ensures.still had)

@@ -1,52 +1,54 @@
-use Rattle.std.proofs.Common.{◌≡◌, ℕ, ◌+◌, ◌^◌, ◌<◌, ◌≤◌, ◌∙◌, sym, ap, rules, arith, length, true, false, refl, map, set, length-append}
+use Rattle.std.proofs.Common.{◌≡◌, ◌+◌, ◌^◌, ◌<◌, ◌≤◌, ◌∙◌, sym, ap, rules, arith, length, refl, set, length-append, length-set}
 use Rattle.scc_table.specs.Hashing.{hash_of}
 use Rattle.scc_table.specs.Routing.{bucket_number, tag_of}
-use Rattle.scc_table.specs.Shelf.{Shelf, shelf_entries, with_entry}
+use Rattle.scc_table.specs.Shelf.{Shelf, with_entry}
 use Rattle.scc_table.specs.Contents.{entries}
 use Rattle.scc_table.proofs.Inserts.{inserted-at, inserted-table, inserted-holds, overflow-after, overflow-full, refused-unchanged, refused-entries, refused-table, unique-inserted, table-bound, bucket-bound, read-again}
 use native.Mathlib.Decide.{dec_lt}
 use Rattle.scc_table.proofs.Counting.{count-in_bucket}
-use Rattle.scc_table.proofs.Views.{entries-view, count-view, settings-view, list-view}
-use Rattle.scc_table.proofs.table.Table.insert_in_array.Goals as goal
-use Rattle.scc_table.proofs.table.Table.insert_in_array.Goals.{else-self-via-then-self+else-is_full, else-self-via-else-self}
+use Rattle.scc_table.proofs.Views.{entries-view, count-view, settings-view}
+use Rattle.scc_table.proofs.table.Table.insert_in.Goals as goal
+use Rattle.scc_table.proofs.table.Table.insert_in.Goals.{else-is_full-via-then-is_full+else-self, else-is_full-via-else-is_full}
 
-pub returns-then-is_full-clause-full : goal.returns-then-is_full-clause-full
-returns-then-is_full-clause-full g c =
+pub returns-then-self-clause-full : goal.returns-then-self-clause-full
+returns-then-self-clause-full g c =
     let t = c.self.inside in
     let bs = t.buckets.items in
-    let i = c.bucket_index-bucket.result in
+    let i = c.args.bucket in
     let count = count-view bs _ c.args.self.now c.self.view_is in
-    let arr = rw count at c.requires.array in
-    let l : i < length bs = search rules in
+    let l : i < length bs = rw count at c.requires.within in
     let hashed = rw (settings-view bs _ c.args.self.now c.self.view_is) at c.requires.hashed in
     let routed : i ≡ bucket_number t.skipped (length bs) (hash_of g.H.BuildHasher g.H.Hasher.Hasher t.hasher (g.E.Key.Hash.hash_input (g.E.Keyed.key_of c.args.entry))) =
-    let len : c.len.result ≡ length bs = search rules in c.bucket_index-bucket.ensures.value ∙ ap (λ n. bucket_number t.skipped n c.args.hash) len ∙ ap (bucket_number t.skipped (length bs)) hashed in
+    let at = rw (settings-view bs _ c.args.self.now c.self.view_is, count) at c.requires.routed in at ∙ ap (bucket_number t.skipped (length bs)) hashed in
     let held = count-in_bucket (λ e. hash_of g.H.BuildHasher g.H.Hasher.Hasher c.self.inside.hasher (g.E.Key.Hash.hash_input (g.E.Keyed.key_of e))) t.skipped t.length t.overflowing i bs c.index.result.now c.self.invariant.table l c.index.ensures in
     let full : 32 ≤ length c.index.result.now.slots = search rules in
     rw (entries-view bs _ c.args.self.now c.self.view_is, count, settings-view bs _ c.args.self.now c.self.view_is, ← routed, held) (λ room. absurd (omega (arith, room.1, length-append c.index.result.now.slots c.index.result.now.overflow)))
 
-pub returns-then-is_full-clause-unique : goal.returns-then-is_full-clause-unique
-returns-then-is_full-clause-unique g c =
+pub returns-then-self-clause-unique : goal.returns-then-self-clause-unique
+returns-then-self-clause-unique g c =
     rw (entries-view c.self.inside.buckets.items _ c.args.self.now c.self.view_is) c.self.invariant.unique
+
+pub index-requires : goal.index-requires
+index-requires g c =
+    let l = rw (count-view c.self.inside.buckets.items _ c.args.self.now c.self.view_is) at c.requires.within in
+    search rules
 
 pub index_mut-requires : goal.index_mut-requires
 index_mut-requires g c =
     let t = c.self.inside in
     let bs = t.buckets.items in
-    let i = c.bucket_index-bucket.result in
+    let i = c.args.bucket in
     let count = count-view bs _ c.args.self.now c.self.view_is in
-    let arr = rw count at c.requires.array in
-    let l : i < length bs = search rules in
+    let l : i < length bs = rw count at c.requires.within in
     search rules
 
 pub insert-requires : goal.insert-requires
 insert-requires g c =
     let t = c.self.inside in
     let bs = t.buckets.items in
-    let i = c.bucket_index-bucket.result in
+    let i = c.args.bucket in
     let count = count-view bs _ c.args.self.now c.self.view_is in
-    let arr = rw count at c.requires.array in
-    let l : i < length bs = search rules in
+    let l : i < length bs = rw count at c.requires.within in
     bucket-bound (λ e. hash_of g.H.BuildHasher g.H.Hasher.Hasher c.self.inside.hasher (g.E.Key.Hash.hash_input (g.E.Keyed.key_of e))) t.skipped t.length t.overflowing i bs c.index_mut.result.now c.self.invariant.table l c.index_mut.ensures.value
 
 pub overflow_add-self : goal.overflow_add-self
@@ -57,14 +59,13 @@ pub invariant_of-self : goal.invariant_of-self
 invariant_of-self g c =
     let t = c.self.inside in
     let bs = t.buckets.items in
-    let i = c.bucket_index-bucket.result in
+    let i = c.args.bucket in
     let count = count-view bs _ c.args.self.now c.self.view_is in
-    let arr = rw count at c.requires.array in
-    let l : i < length bs = search rules in
+    let l : i < length bs = rw count at c.requires.within in
     let b = c.index_mut.result.now in
     let hashed = rw (settings-view bs _ c.args.self.now c.self.view_is) at c.requires.hashed in
     let routed : i ≡ bucket_number t.skipped (length bs) (hash_of g.H.BuildHasher g.H.Hasher.Hasher t.hasher (g.E.Key.Hash.hash_input (g.E.Keyed.key_of c.args.entry))) =
-    let len : c.len.result ≡ length bs = search rules in c.bucket_index-bucket.ensures.value ∙ ap (λ n. bucket_number t.skipped n c.args.hash) len ∙ ap (bucket_number t.skipped (length bs)) hashed in
+    let at = rw (settings-view bs _ c.args.self.now c.self.view_is, count) at c.requires.routed in at ∙ ap (bucket_number t.skipped (length bs)) hashed in
     let stored = c.in-Ok.ensures.ok.1 ∙ ap (λ x. let r : Shelf g.row.E.Denot = record (with_entry b c.args.entry x) { room = c.insert.new.self.room } in r) (c.tag.ensures ∙ ap tag_of hashed) in
     let low : c.in-Ok.slot < 32 → c.one_if.result ≡ 0 = search rules in
     let high : 32 ≤ c.in-Ok.slot → c.one_if.result ≡ 1 = search rules in
@@ -72,12 +73,12 @@ invariant_of-self g c =
       | yes q ↦ let z = low q in let f = c.self.invariant.table.few in omega arith
       | no q ↦
           let z : c.one_if.result ≡ 1 = high (omega arith) in
-          elim c.else-self.branch [
-            | else-self-via-then-self+else-is_full w ↦
-                let same : w.index.result.now ≡ b = read-again bs i w.index.result.now b l w.index.ensures c.index_mut.ensures.value in
-                let full : 32 ≤ length w.index.result.now.slots = rw same (overflow-full (λ e. hash_of g.H.BuildHasher g.H.Hasher.Hasher c.self.inside.hasher (g.E.Key.Hash.hash_input (g.E.Keyed.key_of e))) t.skipped t.length t.overflowing i bs c.self.invariant.table _ c.args.self.now c.self.view_is b l c.index_mut.ensures.value c.insert.new.self c.args.entry c.in-Ok.slot stored c.in-Ok.ensures.ok.0 (omega arith)) in
+          elim c.else-is_full.branch [
+            | else-is_full-via-else-is_full w ↦
+                let same : c.index.result.now ≡ b = read-again bs i c.index.result.now b l c.index.ensures c.index_mut.ensures.value in
+                let full : 32 ≤ length c.index.result.now.slots = rw same (overflow-full (λ e. hash_of g.H.BuildHasher g.H.Hasher.Hasher c.self.inside.hasher (g.E.Key.Hash.hash_input (g.E.Keyed.key_of e))) t.skipped t.length t.overflowing i bs c.self.invariant.table _ c.args.self.now c.self.view_is b l c.index_mut.ensures.value c.insert.new.self c.args.entry c.in-Ok.slot stored c.in-Ok.ensures.ok.0 (omega arith)) in
                 absurd (search rules)
-            | else-self-via-else-self w ↦ omega arith
+            | else-is_full-via-then-is_full+else-self w ↦ omega arith
           ]
     ] in
     record {
@@ -91,14 +92,13 @@ pub invariant_of-self-in-Err : goal.invariant_of-self-in-Err
 invariant_of-self-in-Err g c =
     let t = c.self.inside in
     let bs = t.buckets.items in
-    let i = c.bucket_index-bucket.result in
+    let i = c.args.bucket in
     let count = count-view bs _ c.args.self.now c.self.view_is in
-    let arr = rw count at c.requires.array in
-    let l : i < length bs = search rules in
+    let l : i < length bs = rw count at c.requires.within in
     let b = c.index_mut.result.now in
     let hashed = rw (settings-view bs _ c.args.self.now c.self.view_is) at c.requires.hashed in
     let routed : i ≡ bucket_number t.skipped (length bs) (hash_of g.H.BuildHasher g.H.Hasher.Hasher t.hasher (g.E.Key.Hash.hash_input (g.E.Keyed.key_of c.args.entry))) =
-    let len : c.len.result ≡ length bs = search rules in c.bucket_index-bucket.ensures.value ∙ ap (λ n. bucket_number t.skipped n c.args.hash) len ∙ ap (bucket_number t.skipped (length bs)) hashed in
+    let at = rw (settings-view bs _ c.args.self.now c.self.view_is, count) at c.requires.routed in at ∙ ap (bucket_number t.skipped (length bs)) hashed in
     record {
       table = refused-table (λ e. hash_of g.H.BuildHasher g.H.Hasher.Hasher c.self.inside.hasher (g.E.Key.Hash.hash_input (g.E.Keyed.key_of e))) t.skipped t.length t.overflowing i bs c.self.invariant.table _ c.args.self.now c.self.view_is b l c.index_mut.ensures.value c.insert.new.self c.in-Err.ensures.err.1;
       few_bits = c.self.invariant.few_bits;
@@ -110,14 +110,13 @@ pub returns-in-Ok-clause-ok : goal.returns-in-Ok-clause-ok
 returns-in-Ok-clause-ok g c =
     let t = c.self.inside in
     let bs = t.buckets.items in
-    let i = c.bucket_index-bucket.result in
+    let i = c.args.bucket in
     let count = count-view bs _ c.args.self.now c.self.view_is in
-    let arr = rw count at c.requires.array in
-    let l : i < length bs = search rules in
+    let l : i < length bs = rw count at c.requires.within in
     let b = c.index_mut.result.now in
     let hashed = rw (settings-view bs _ c.args.self.now c.self.view_is) at c.requires.hashed in
     let routed : i ≡ bucket_number t.skipped (length bs) (hash_of g.H.BuildHasher g.H.Hasher.Hasher t.hasher (g.E.Key.Hash.hash_input (g.E.Keyed.key_of c.args.entry))) =
-    let len : c.len.result ≡ length bs = search rules in c.bucket_index-bucket.ensures.value ∙ ap (λ n. bucket_number t.skipped n c.args.hash) len ∙ ap (bucket_number t.skipped (length bs)) hashed in
+    let at = rw (settings-view bs _ c.args.self.now c.self.view_is, count) at c.requires.routed in at ∙ ap (bucket_number t.skipped (length bs)) hashed in
     let stored = c.in-Ok.ensures.ok.1 ∙ ap (λ x. let r : Shelf g.row.E.Denot = record (with_entry b c.args.entry x) { room = c.insert.new.self.room } in r) (c.tag.ensures ∙ ap tag_of hashed) in
     inserted-at (λ e. hash_of g.H.BuildHasher g.H.Hasher.Hasher c.self.inside.hasher (g.E.Key.Hash.hash_input (g.E.Keyed.key_of e))) t.skipped t.length t.overflowing i bs c.self.invariant.table _ c.args.self.now c.self.view_is b l c.index_mut.ensures.value c.insert.new.self c.args.entry c.in-Ok.slot stored c.in-Ok.ensures.ok.0
 
@@ -125,14 +124,13 @@ pub returns-in-Ok-clause-unique : goal.returns-in-Ok-clause-unique
 returns-in-Ok-clause-unique g c =
     let t = c.self.inside in
     let bs = t.buckets.items in
-    let i = c.bucket_index-bucket.result in
+    let i = c.args.bucket in
     let count = count-view bs _ c.args.self.now c.self.view_is in
-    let arr = rw count at c.requires.array in
-    let l : i < length bs = search rules in
+    let l : i < length bs = rw count at c.requires.within in
     let b = c.index_mut.result.now in
     let hashed = rw (settings-view bs _ c.args.self.now c.self.view_is) at c.requires.hashed in
     let routed : i ≡ bucket_number t.skipped (length bs) (hash_of g.H.BuildHasher g.H.Hasher.Hasher t.hasher (g.E.Key.Hash.hash_input (g.E.Keyed.key_of c.args.entry))) =
-    let len : c.len.result ≡ length bs = search rules in c.bucket_index-bucket.ensures.value ∙ ap (λ n. bucket_number t.skipped n c.args.hash) len ∙ ap (bucket_number t.skipped (length bs)) hashed in
+    let at = rw (settings-view bs _ c.args.self.now c.self.view_is, count) at c.requires.routed in at ∙ ap (bucket_number t.skipped (length bs)) hashed in
     let stored = c.in-Ok.ensures.ok.1 ∙ ap (λ x. let r : Shelf g.row.E.Denot = record (with_entry b c.args.entry x) { room = c.insert.new.self.room } in r) (c.tag.ensures ∙ ap tag_of hashed) in
     unique-inserted g.met.E.Key.Eq.laws g.E.Keyed.key_of c.args.entry (entries c.args.self.now) _ (rw (entries-view bs _ c.args.self.now c.self.view_is) c.self.invariant.unique) c.requires.absent (inserted-holds (λ e. hash_of g.H.BuildHasher g.H.Hasher.Hasher c.self.inside.hasher (g.E.Key.Hash.hash_input (g.E.Keyed.key_of e))) t.skipped t.length t.overflowing i bs c.self.invariant.table _ c.args.self.now c.self.view_is b l c.index_mut.ensures.value c.insert.new.self c.args.entry c.in-Ok.slot stored c.in-Ok.ensures.ok.0).same
 
@@ -140,28 +138,26 @@ pub returns-in-Err-clause-err : goal.returns-in-Err-clause-err
 returns-in-Err-clause-err g c =
     let t = c.self.inside in
     let bs = t.buckets.items in
-    let i = c.bucket_index-bucket.result in
+    let i = c.args.bucket in
     let count = count-view bs _ c.args.self.now c.self.view_is in
-    let arr = rw count at c.requires.array in
-    let l : i < length bs = search rules in
+    let l : i < length bs = rw count at c.requires.within in
     let b = c.index_mut.result.now in
     let hashed = rw (settings-view bs _ c.args.self.now c.self.view_is) at c.requires.hashed in
     let routed : i ≡ bucket_number t.skipped (length bs) (hash_of g.H.BuildHasher g.H.Hasher.Hasher t.hasher (g.E.Key.Hash.hash_input (g.E.Keyed.key_of c.args.entry))) =
-    let len : c.len.result ≡ length bs = search rules in c.bucket_index-bucket.ensures.value ∙ ap (λ n. bucket_number t.skipped n c.args.hash) len ∙ ap (bucket_number t.skipped (length bs)) hashed in
+    let at = rw (settings-view bs _ c.args.self.now c.self.view_is, count) at c.requires.routed in at ∙ ap (bucket_number t.skipped (length bs)) hashed in
     (c.in-Err.ensures.err.0, refused-unchanged (λ e. hash_of g.H.BuildHasher g.H.Hasher.Hasher c.self.inside.hasher (g.E.Key.Hash.hash_input (g.E.Keyed.key_of e))) t.skipped t.length t.overflowing i bs c.self.invariant.table _ c.args.self.now c.self.view_is b l c.index_mut.ensures.value c.insert.new.self c.in-Err.ensures.err.1)
 
 pub returns-in-Err-clause-full : goal.returns-in-Err-clause-full
 returns-in-Err-clause-full g c =
     let t = c.self.inside in
     let bs = t.buckets.items in
-    let i = c.bucket_index-bucket.result in
+    let i = c.args.bucket in
     let count = count-view bs _ c.args.self.now c.self.view_is in
-    let arr = rw count at c.requires.array in
-    let l : i < length bs = search rules in
+    let l : i < length bs = rw count at c.requires.within in
     let b = c.index_mut.result.now in
     let hashed = rw (settings-view bs _ c.args.self.now c.self.view_is) at c.requires.hashed in
     let routed : i ≡ bucket_number t.skipped (length bs) (hash_of g.H.BuildHasher g.H.Hasher.Hasher t.hasher (g.E.Key.Hash.hash_input (g.E.Keyed.key_of c.args.entry))) =
-    let len : c.len.result ≡ length bs = search rules in c.bucket_index-bucket.ensures.value ∙ ap (λ n. bucket_number t.skipped n c.args.hash) len ∙ ap (bucket_number t.skipped (length bs)) hashed in
+    let at = rw (settings-view bs _ c.args.self.now c.self.view_is, count) at c.requires.routed in at ∙ ap (bucket_number t.skipped (length bs)) hashed in
     let held = count-in_bucket (λ e. hash_of g.H.BuildHasher g.H.Hasher.Hasher c.self.inside.hasher (g.E.Key.Hash.hash_input (g.E.Keyed.key_of e))) t.skipped t.length t.overflowing i bs b c.self.invariant.table l c.index_mut.ensures.value in
     rw (entries-view bs _ c.args.self.now c.self.view_is, count, settings-view bs _ c.args.self.now c.self.view_is, ← routed, held) (λ room. absurd (omega (arith, room.1, c.in-Err.ensures.err.2, length-append b.slots b.overflow)))
 
@@ -169,12 +165,21 @@ pub returns-in-Err-clause-unique : goal.returns-in-Err-clause-unique
 returns-in-Err-clause-unique g c =
     let t = c.self.inside in
     let bs = t.buckets.items in
-    let i = c.bucket_index-bucket.result in
+    let i = c.args.bucket in
     let count = count-view bs _ c.args.self.now c.self.view_is in
-    let arr = rw count at c.requires.array in
-    let l : i < length bs = search rules in
+    let l : i < length bs = rw count at c.requires.within in
     let b = c.index_mut.result.now in
     let hashed = rw (settings-view bs _ c.args.self.now c.self.view_is) at c.requires.hashed in
     let routed : i ≡ bucket_number t.skipped (length bs) (hash_of g.H.BuildHasher g.H.Hasher.Hasher t.hasher (g.E.Key.Hash.hash_input (g.E.Keyed.key_of c.args.entry))) =
-    let len : c.len.result ≡ length bs = search rules in c.bucket_index-bucket.ensures.value ∙ ap (λ n. bucket_number t.skipped n c.args.hash) len ∙ ap (bucket_number t.skipped (length bs)) hashed in
+    let at = rw (settings-view bs _ c.args.self.now c.self.view_is, count) at c.requires.routed in at ∙ ap (bucket_number t.skipped (length bs)) hashed in
     rw ((refused-unchanged (λ e. hash_of g.H.BuildHasher g.H.Hasher.Hasher c.self.inside.hasher (g.E.Key.Hash.hash_input (g.E.Keyed.key_of e))) t.skipped t.length t.overflowing i bs c.self.invariant.table _ c.args.self.now c.self.view_is b l c.index_mut.ensures.value c.insert.new.self c.in-Err.ensures.err.1).exact, entries-view bs _ c.args.self.now c.self.view_is) c.self.invariant.unique
+
+pub returns-in-Ok-clause-buckets : goal.returns-in-Ok-clause-buckets
+returns-in-Ok-clause-buckets g c =
+    let bs = c.self.inside.buckets.items in
+    count-view (set bs c.args.bucket c.insert.new.self) _ _ refl ∙ length-set bs c.args.bucket c.insert.new.self ∙ sym (count-view bs _ c.args.self.now c.self.view_is)
+
+pub returns-in-Err-clause-buckets : goal.returns-in-Err-clause-buckets
+returns-in-Err-clause-buckets g c =
+    let bs = c.self.inside.buckets.items in
+    count-view (set bs c.args.bucket c.insert.new.self) _ _ refl ∙ length-set bs c.args.bucket c.insert.new.self ∙ sym (count-view bs _ c.args.self.now c.self.view_is)

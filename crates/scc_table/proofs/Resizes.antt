@@ -1,0 +1,92 @@
+-- Steps after a resize, and before one.
+use Rattle.std.proofs.Common.{◌≡◌, ◌≢◌, ℕ, ◌+◌, ◌*◌, ◌^◌, ◌<◌, ◌≤◌, inl, inr, Bool, false, List, [], ◌∷◌, length, refl, sym, ap, ◌∙◌, subst, max, arith, Some, None}
+use Rattle.std.specs.List.{All, position}
+use Rattle.std.specs.List.Sorted.{IsPermutation}
+use Rattle.std.proofs.lemmas.List.Elements.{All-cons}
+use Rattle.std.proofs.lemmas.List.Sorted.{length_permutation, All-permutation, IsPermutation-cons, IsPermutation-refl, IsPermutation-trans}
+use native.Mathlib.Decide.{dec_lt}
+use Rattle.scc_table.specs.Contents.{Contents, entries, bucket_count, settings_of, minimum_of}
+use Rattle.scc_table.specs.Places.{IsInsertedAt}
+use Rattle.scc_table.specs.Pour.{IsRegrouped}
+use Rattle.scc_table.specs.Sizes.{IsArray, IsArraySize, IsSmaller}
+use Rattle.scc_table.specs.Steps.{Holds, KeepsSize, IsShrunk, IsUnchanged, Resizes, Rests, Shrinks}
+use Rattle.scc_table.specs.declared.place.Place.{Place}
+use Rattle.scc_table.proofs.Finding.{position_hit, position_cons, position_none}
+use Rattle.scc_table.proofs.Inserts.{by_answer, none_left}
+use Rattle.scc_table.proofs.Powers.{max-array, size-once}
+
+all-absent : {X : Type 0} (p : X → Bool) (xs : List X) → position p xs ≡ None → All (λ x. p x ≡ false) xs
+all-absent p [] n = λ k d l. absurd (omega arith)
+all-absent p (x ∷ xs) n = by_answer (p x)
+    (λ y. absurd (let z : Some 0 ≡ None = sym (position_hit p x xs y) ∙ n in cc))
+    (λ y. All-cons (λ z. p z ≡ false) x xs y (all-absent p xs (none_left (position p xs) (sym (position_cons p x xs y) ∙ n))))
+
+-- what is absent is absent in any order
+pub absent-permuted : {X : Type 0} (p : X → Bool) (xs ys : List X) → IsPermutation xs ys → position p xs ≡ None → position p ys ≡ None
+absent-permuted p xs ys h n = position_none p ys (record { fails = All-permutation (λ x. p x ≡ false) xs ys h (all-absent p xs n) })
+
+module _ {E S : Type 0} where
+  pub keeps-size_then : (a b c : Contents E S) → settings_of b ≡ settings_of a → KeepsSize a b → KeepsSize b c → KeepsSize a c
+  keeps-size_then a b c e p q = record {
+    lawful = elim q.lawful [ inl z ↦ elim p.lawful [ inl y ↦ inl (z ∙ y) | inr y ↦ inr (subst IsArray (sym z) y) ] | inr z ↦ inr z ];
+    minimum = λ less.
+        let same : minimum_of b ≡ minimum_of a = ap (λ s. s.asked + s.reserved) e in
+        elim (dec_lt (bucket_count c) (bucket_count b)) [
+          | yes h ↦ let m = q.minimum h in omega arith
+          | no h ↦ let l : bucket_count b < bucket_count a = omega arith in let m = p.minimum l in omega arith
+        ];
+  }
+
+  pub resizes-then : (a b c : Contents E S) (es ds : List E) → Resizes a b → IsPermutation es ds → Holds b ds c → Holds a es c
+  resizes-then a b c es ds p h q = record {
+    same = IsPermutation-trans es ds (entries c) h q.same;
+    size = keeps-size_then a b c p.settings p.size q.size;
+    settings = q.settings ∙ p.settings;
+  }
+
+  -- nothing changed is a resize to the same size
+  pub unchanged-resizes : (a b : Contents E S) → IsUnchanged a b → Resizes a b
+  unchanged-resizes a b u = record {
+    same = rw u.exact (IsPermutation-refl (entries a));
+    size = record { lawful = inl u.buckets; minimum = λ less. absurd (omega (arith, u.buckets)) };
+    settings = u.settings;
+  }
+
+  pub rests-resizes : (a b : Contents E S) → Rests a b → Resizes a b
+  rests-resizes a b r = elim r [ inl u ↦ unchanged-resizes a b u | inr q ↦ q.1 ]
+
+  pub rests-inserted : (a b c : Contents E S) (e : E) (p : Place) → Rests a b → IsInsertedAt b e c p → IsInsertedAt a e c p
+  rests-inserted a b c e p r i = record {
+    holds = resizes-then a b c (e ∷ entries a) (e ∷ entries b) (rests-resizes a b r) (IsPermutation-cons e (entries a) (entries b) (rests-resizes a b r).same) i.holds;
+    within = i.within;
+    here = i.here;
+  }
+
+  -- a resize to a lawful number of buckets, not below the minimum
+  pub regrouped-resizes : (hash : E → ℕ) (n : ℕ) (a b : Contents E S) → IsRegrouped hash n a b → IsPermutation (entries a) (entries b) → IsArray n → (n < bucket_count a → minimum_of a ≤ 32 * n) → Resizes a b
+  regrouped-resizes hash n a b g h w m = record {
+    same = h;
+    size = record { lawful = inr (rw g.count w); minimum = λ less. rw g.count (m (rw g.count at less)) };
+    settings = g.settings;
+  }
+
+  -- a resize to fewer buckets, of the greater of two sizes
+  pub regrouped-shrunk : (hash : E → ℕ) (k l : ℕ) (a b : Contents E S) → IsRegrouped hash (max k l) a b → IsPermutation (entries a) (entries b) → IsArray k → IsArray l → IsArraySize (minimum_of a) (32 * k) → IsArraySize (2 * length (entries a)) (32 * l)
+      → minimum_of a ≤ 2 ^ 63 → length (entries a) ≤ 4 * bucket_count a → max k l < bucket_count a → IsShrunk a b
+  regrouped-shrunk hash k l a b g h w v sm sl small few less = record {
+    resizes = regrouped-resizes hash (max k l) a b g h (max-array k l w v) (λ z. omega (arith, sm.enough));
+    smaller = record {
+      few = omega arith;
+      fewer = omega (arith, g.count);
+      size = λ m n am an. let em = size-once _ _ _ sm am in let en = size-once _ _ _ sl an in omega (arith, g.count);
+    };
+  }
+
+  -- what a try to shrink did to the number of buckets
+  pub smaller-by : (b c : Contents E S) (m k : ℕ) → Shrinks b c → minimum_of b ≡ m → bucket_count b ≡ k → bucket_count c ≢ k → IsSmaller m (length (entries c)) k (bucket_count c)
+  smaller-by b c m k h em ek ne = elim h [
+    | inl u ↦ absurd (ne (u.buckets ∙ ek))
+    | inr s ↦
+        let same : length (entries c) ≡ length (entries b) = length_permutation (entries b) (entries c) s.resizes.same in
+        subst (λ z. IsSmaller z (length (entries c)) k (bucket_count c)) em (subst (λ z. IsSmaller (minimum_of b) (length (entries c)) z (bucket_count c)) ek (subst (λ z. IsSmaller (minimum_of b) z (bucket_count b) (bucket_count c)) (sym same) s.smaller))
+  ]

@@ -1,0 +1,56 @@
+use Rattle.std.proofs.Common.{◌≡◌, ◌<◌, ap, ◌∙◌, length, rules, arith, Result, Ok, Err}
+use Rattle.std.specs.Result.{OnErr}
+use Rattle.scc_table.specs.Contents.{bucket_count}
+use Rattle.scc_table.specs.Hashing.{hash_of}
+use Rattle.scc_table.specs.Routing.{bucket_number}
+use Rattle.scc_table.proofs.Counting.{count-in_bucket}
+use Rattle.scc_table.proofs.Inserts.{bucket-bound}
+use Rattle.scc_table.proofs.Views.{entries-view, count-view, settings-view}
+use Rattle.scc_table.proofs.table.Table.bucket_for_new.Goals as goal
+
+on_err : {A B P : Type 0} (r : Result A B) → P → OnErr r P
+on_err (Ok a) p = tt
+on_err (Err b) p = p
+
+pub first_bucket-requires : goal.first_bucket-requires
+first_bucket-requires g c = rw (count-view c.self.inside.buckets.items _ c.args.self.now c.self.view_is) (search rules)
+
+pub returns-then-count-eq0-clause-still : goal.returns-then-count-eq0-clause-still
+returns-then-count-eq0-clause-still g c =
+    let none : bucket_count c.args.self.now ≡ 0 = rw (count-view c.self.inside.buckets.items _ c.args.self.now c.self.view_is) (search rules) in
+    λ room. absurd (omega (arith, room.0))
+
+pub returns-then-count-eq0-clause-none : goal.returns-then-count-eq0-clause-none
+returns-then-count-eq0-clause-none g c = on_err c.first_bucket.result (rw (count-view c.self.inside.buckets.items _ c.args.self.now c.self.view_is) (search rules))
+
+pub len-requires : goal.len-requires
+len-requires g c =
+    let bs = c.self.inside.buckets.items in
+    let l : c.bucket_index-bucket.result < length bs = search rules in
+    bucket-bound (λ e. hash_of g.H.BuildHasher g.H.Hasher.Hasher c.self.inside.hasher (g.E.Key.Hash.hash_input (g.E.Keyed.key_of e))) c.self.inside.skipped c.self.inside.length c.self.inside.overflowing c.bucket_index-bucket.result bs c.index.result.now c.self.invariant.table l c.index.ensures
+
+pub grow_for-requires : goal.grow_for-requires
+grow_for-requires g c = rw (count-view c.self.inside.buckets.items _ c.args.self.now c.self.view_is) (search rules)
+
+pub returns-then-len-ge32-clause-still : goal.returns-then-len-ge32-clause-still
+returns-then-len-ge32-clause-still g c =
+    let t = c.self.inside in
+    let bs = t.buckets.items in
+    let i = c.bucket_index-bucket.result in
+    let l : i < length bs = search rules in
+    let len : c.len-count.result ≡ length bs = search rules in
+    let routed : i ≡ bucket_number t.skipped (length bs) c.args.hash = c.bucket_index-bucket.ensures.value ∙ ap (λ n. bucket_number t.skipped n c.args.hash) len in
+    let held = count-in_bucket (λ e. hash_of g.H.BuildHasher g.H.Hasher.Hasher c.self.inside.hasher (g.E.Key.Hash.hash_input (g.E.Keyed.key_of e))) t.skipped t.length t.overflowing i bs c.index.result.now c.self.invariant.table l c.index.ensures in
+    rw (entries-view bs _ c.args.self.now c.self.view_is, count-view bs _ c.args.self.now c.self.view_is, settings-view bs _ c.args.self.now c.self.view_is, ← routed, held) (λ room. absurd (omega (arith, room.1)))
+
+pub returns-clause-within : goal.returns-clause-within
+returns-clause-within g c = rw (count-view c.self.inside.buckets.items _ c.args.self.now c.self.view_is) (search rules)
+
+pub returns-clause-routed : goal.returns-clause-routed
+returns-clause-routed g c =
+    let bs = c.self.inside.buckets.items in
+    let len : c.len-count.result ≡ length bs = search rules in
+    rw (settings-view bs _ c.args.self.now c.self.view_is, count-view bs _ c.args.self.now c.self.view_is) (c.bucket_index-bucket.ensures.value ∙ ap (λ n. bucket_number c.self.inside.skipped n c.args.hash) len)
+
+pub returns-clause-unique : goal.returns-clause-unique
+returns-clause-unique g c = rw (entries-view c.self.inside.buckets.items _ c.args.self.now c.self.view_is) c.self.invariant.unique

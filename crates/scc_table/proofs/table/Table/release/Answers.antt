@@ -1,0 +1,20 @@
+use Rattle.std.proofs.Common.{◌≡◌, ◌+◌, ◌-◌, ◌∙◌, ap, sym, arith}
+use Rattle.scc_table.specs.Contents.{Settings, bucket_count, settings_of, minimum_of}
+use Rattle.scc_table.proofs.Resizes.{smaller-by}
+use Rattle.scc_table.proofs.table.Table.release.Goals as goal
+
+pub returns-clause-yes : goal.returns-clause-yes
+returns-clause-yes g c =
+    let set : settings_of c.set_reserved.new.self ≡ record (settings_of c.args.self.now) { reserved = (settings_of c.args.self.now).reserved - c.args.additional } =
+    c.set_reserved.ensures.settings ∙ ap (λ r. let s : Settings g.row.H.Denot = record (settings_of c.args.self.now) { reserved = r - c.args.additional } in s) c.reserved-reserved.ensures.value in
+    let r = c.shrink.ensures.resizes in
+    let minimum : minimum_of c.set_reserved.new.self ≡ (settings_of c.args.self.now).asked + ((settings_of c.args.self.now).reserved - c.args.additional) = ap (λ s. s.asked + s.reserved) set in
+    λ _. record {
+      holds = record {
+        same = rw c.set_reserved.ensures.entries at r.same;
+        lawful = rw c.set_reserved.ensures.buckets at r.size.lawful;
+        minimum = λ less. let m = r.size.minimum (omega (arith, c.set_reserved.ensures.buckets)) in omega arith;
+        settings = r.settings ∙ set;
+      };
+      smaller = smaller-by c.set_reserved.new.self c.shrink.new.self (minimum_of c.shrink.new.self) (bucket_count c.args.self.now) c.shrink.ensures.shrinks (sym (ap (λ s. s.asked + s.reserved) r.settings)) c.set_reserved.ensures.buckets;
+    }

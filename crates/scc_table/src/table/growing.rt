@@ -1,0 +1,85 @@
+//! How a table gets room for a new key.
+ghost use Rattle.std.specs.Prelude.{◌≡◌, ◌<◌, ◌+◌, ◌*◌, IfOk, OnErr};
+ghost use Rattle.scc_table.specs.Contents.{bucket_count, settings_of, key_hash, HasRoomAt, IsUniqueBy};
+ghost use Rattle.scc_table.specs.Routing.{bucket_number};
+ghost use Rattle.scc_table.specs.Steps.{Grows, Rests};
+
+use super::Table;
+use crate::keyed::Keyed;
+use crate::route::bucket_index;
+use crate::sizes::MOST_BUCKETS;
+use std::alloc::AllocError;
+use std::hash::{BuildHasher, Hash};
+
+impl<E: Keyed, H: BuildHasher> Table<E, H>
+where
+    E::Key: Eq + Hash,
+{
+    /// The bucket for a new key of that hash. An array is made where there is none, and doubled where that bucket holds 32 entries or more and the table at least half as many entries as slots.
+    #[inline(always)]
+    pub(crate) fn bucket_for_new(&mut self, hash: u64) -> Result<usize, AllocError>
+        ensures rests { Rests self.old self.new }
+        ensures growth { Grows self.old self.new }
+        ensures within { IfOk result (λ i. i < bucket_count self.new) }
+        ensures routed { IfOk result (λ i. i ≡ bucket_number (settings_of self.new).skipped (bucket_count self.new) hash) }
+        ensures still { HasRoomAt (key_hash H.BuildHasher H.Hasher.Hasher E.Key.hash_input self.old) E.key_of self.old hash → self.new ≡ self.old }
+        ensures none { OnErr result (bucket_count self.old ≡ 0) }
+        ensures unique { IsUniqueBy E.Key.eq E.key_of self.new }
+    {
+        let count = self.buckets.len();
+        if count == 0 {
+            return self.first_bucket(hash);
+        }
+        let bucket = bucket_index(hash, self.skipped, count);
+        if self.buckets[bucket].len() >= 32 {
+            return Ok(self.grow_for(hash));
+        }
+        Ok(bucket)
+    }
+
+    /// The bucket of the hash in the first array, which is made.
+    #[cold]
+    fn first_bucket(&mut self, hash: u64) -> Result<usize, AllocError>
+        requires { bucket_count self.old ≡ 0 }
+        ensures rests { Rests self.old self.new }
+        ensures growth { Grows self.old self.new }
+        ensures within { IfOk result (λ i. i < bucket_count self.new) }
+        ensures routed { IfOk result (λ i. i ≡ bucket_number (settings_of self.new).skipped (bucket_count self.new) hash) }
+        ensures unique { IsUniqueBy E.Key.eq E.key_of self.new }
+    {
+        self.make_array()?;
+        Ok(bucket_index(hash, self.skipped, self.buckets.len()))
+    }
+
+    /// The bucket of the hash, once the array was doubled if the table is half full.
+    #[cold]
+    fn grow_for(&mut self, hash: u64) -> usize
+        requires { 0 < bucket_count self.old }
+        ensures rests { Rests self.old self.new }
+        ensures growth { Grows self.old self.new }
+        ensures within { result < bucket_count self.new }
+        ensures routed { result ≡ bucket_number (settings_of self.new).skipped (bucket_count self.new) hash }
+        ensures unique { IsUniqueBy E.Key.eq E.key_of self.new }
+    {
+        self.grow();
+        bucket_index(hash, self.skipped, self.buckets.len())
+    }
+
+    /// Doubles the number of buckets where at least half as many entries as slots are held, unless the array is the greatest or memory is refused. Takes time by the number of entries.
+    fn grow(&mut self)
+        requires { 0 < bucket_count self.old }
+        ensures rests { Rests self.old self.new }
+        ensures growth { Grows self.old self.new }
+        ensures array { 0 < bucket_count self.new }
+        ensures unique { IsUniqueBy E.Key.eq E.key_of self.new }
+    {
+        let count = self.bucket_count();
+        if self.len() < 16 * count || count >= MOST_BUCKETS {
+            return;
+        }
+        match self.resize_to(2 * count) {
+            Ok(()) => {}
+            Err(_) => {}
+        }
+    }
+}

@@ -1,0 +1,66 @@
+//! How many entries each bucket of a new array will get, and how many lie in overflow lists.
+ghost use Rattle.std.specs.Prelude.{◌≡◌, ◌<◌, ◌+◌, ◌^◌, ℕ, length, IfOk, slice_index};
+ghost use Rattle.std.specs.List.{flat_map, sum_by};
+ghost use Rattle.scc_table.specs.Hashing.{hash_of};
+ghost use Rattle.scc_table.specs.Pour.{IsTally, Tallies};
+ghost use Rattle.scc_table.specs.Shelf.{shelf_entries};
+
+use crate::bucket::Bucket;
+use crate::keyed::Keyed;
+use crate::route::bucket_index;
+use std::alloc::{AllocError, Global};
+use std::hash::{BuildHasher, Hash};
+
+/// Raises the count of the bucket of each entry.
+pub(crate) fn count_into<E: Keyed, H: BuildHasher>(
+    counts: &mut Vec<usize>,
+    entries: &[E],
+    hasher: &H,
+    skipped: u32,
+    count: usize,
+)
+where
+    E::Key: Eq + Hash,
+    requires bits { skipped < 64 }
+    requires array { 0 < count }
+    requires count { length counts.old.items ≡ count }
+    requires room { (i : ℕ) → i < count → slice_index counts.old.items i + length entries.now < 2 ^ 64 }
+    ensures { Tallies (λ e. hash_of H.BuildHasher H.Hasher.Hasher hasher.now (E.Key.hash_input (E.key_of e))) skipped count counts.old.items counts.new.items entries.now }
+{
+    for entry in entries {
+        let to = bucket_index(hasher.hash_one(entry.key()), skipped, count);
+        counts[to] += 1;
+    }
+}
+
+/// How many entries of the buckets belong to each of so many buckets.
+pub(crate) fn tally<E: Keyed, H: BuildHasher>(
+    alloc: Global,
+    buckets: &[Bucket<E>],
+    hasher: &H,
+    skipped: u32,
+    count: usize,
+) -> Result<Vec<usize>, AllocError>
+where
+    E::Key: Eq + Hash,
+    requires bits { skipped < 64 }
+    requires array { 0 < count }
+    requires few { length (flat_map shelf_entries buckets.now) < 2 ^ 63 }
+    ensures { IfOk result (λ v. IsTally (λ e. hash_of H.BuildHasher H.Hasher.Hasher hasher.now (E.Key.hash_input (E.key_of e))) skipped count v.items (flat_map shelf_entries buckets.now)) }
+{
+    let mut counts = vec![in alloc; 0usize; count]?;
+    for bucket in buckets {
+        let (slots, overflow) = bucket.parts();
+        count_into(&mut counts, slots, hasher, skipped, count);
+        count_into(&mut counts, overflow, hasher, skipped, count);
+    }
+    Ok(counts)
+}
+
+/// How many entries lie in overflow lists.
+pub(crate) fn count_overflow<E>(buckets: &[Bucket<E>]) -> usize
+    requires { sum_by (λ b. length b.overflow) buckets.now < 2 ^ 64 }
+    ensures { result ≡ sum_by (λ b. length b.overflow) buckets.now }
+{
+    buckets.iter().map(|bucket| bucket.overflow_len()).sum()
+}
