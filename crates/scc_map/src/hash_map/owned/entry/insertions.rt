@@ -29,6 +29,7 @@ impl<'a, K: Eq + Hash, V, H: BuildHasher> Entry<'a, K, V, H> {
                     bucket,
                     slot,
                 } = entry;
+                drop(default);
                 let _ = owned.len();
                 Ok(OccupiedEntry {
                     owned,
