@@ -17,6 +17,7 @@ use Rattle.scc_table.specs.Pairs.{find, without}
 use Rattle.scc_table.specs.Places.{index_of}
 use Rattle.scc_table.specs.Steps.{Holds, HoldsExactly, Rests}
 use Rattle.scc_table.specs.Writes.{with_write_at, IsPlace-with_write_at}
+use Rattle.scc_table.specs.declared.errors.InsertError.{InsertError}
 use Rattle.scc_table.specs.declared.place.Place.{Place}
 use Rattle.scc_map.specs.Lends.{map_row, with_pair_value}
 use Rattle.scc_map.specs.contracts.hash_map.owned.entry.OccupiedEntry as occupied
@@ -116,6 +117,10 @@ module _ {K V S T : Type 0} {g : eq.Ghosts K} {h : hash.Ghosts K} {b : builder.G
   abbrev pub SetsEntry : Entry K V S T g h b w → V → OccupiedEntry K V S T g h b w → Type 0
   SetsEntry (Occupied p) v o = IsWritten p v o
   SetsEntry (Vacant e) v o = IsInserted e v o
+
+  -- a refusal: the key comes back with a value of which P holds
+  abbrev pub RefusesSome : Entry K V S T g h b w → (K → V → Type 0) → InsertError K V → Type 0
+  RefusesSome e P r = (v : V) × P (entry_key e) v × (r ≡ Memory (entry_key e, v))
 
   -- the reference to the map
   abbrev pub replaced_owned : ReplaceResult K V S T g h b w → MutBor (Contents (K × V) S)

@@ -1,10 +1,10 @@
-//! What makes an entry, and what an entry does. The search is made once, and an entry holds its place.
-ghost use Rattle.std.specs.Prelude.{◌≡◌, ◌∷◌, ◌++◌, [], true, Some, None, IfOk, OnErr, IfErr, IfSome, IfNone};
+//! What makes an entry, and what an entry does. The search is made once, and an entry holds its place. A call of `len` whose answer goes unused is there for its contract: no two keys are equal.
+ghost use Rattle.std.specs.Prelude.{◌≡◌, ◌∷◌, ◌++◌, [], true, Some, None, length, IfOk, OnErr, IfErr, IfSome, IfNone};
 ghost use Rattle.std.specs.Borrow.{sem};
 ghost use Rattle.scc_table.specs.Contents.{entries, key_hash};
 ghost use Rattle.scc_table.specs.Pairs.{find, HasRoom, IsUnique};
 ghost use Rattle.scc_table.specs.Steps.{Holds};
-ghost use Rattle.scc_map.specs.Entries.{Occupied, Vacant, Memory, occupied_pair, occupied_front, occupied_back, entry_owned, IsOccupiedAt, IsEntryOf, entry_key, IsWritten, IsInserted, IsVacant, OrInserts, OrInsertsSome, SetsEntry, with_value, rests_if_refused, rests_if_none, occupied_lends, TakesEntry, Modifies, replaced_owned, Replaces};
+ghost use Rattle.scc_map.specs.Entries.{Occupied, Vacant, Memory, occupied_pair, occupied_front, occupied_back, entry_owned, IsOccupiedAt, IsEntryOf, entry_key, IsWritten, IsInserted, with_value, rests_if_refused, rests_if_none, occupied_lends, TakesEntry, Modifies, replaced_owned, Replaces};
 
 use super::{Entry, OccupiedEntry, ReplaceResult, VacantEntry};
 use crate::hash_map::owned::Owned;
@@ -39,6 +39,7 @@ impl<K: Eq + Hash, V, H: BuildHasher> Owned<K, V, H> {
     pub fn get_sync(&mut self, k: &K) -> Option<OccupiedEntry<'_, K, V, H>>
         ensures same_map { IfSome result (λ o. o.owned.ghost_name ≡ self.entry.ghost_name) }
         ensures entry { IfSome result (IsOccupiedAt K.eq self.old k.now) }
+        ensures unique { IsUnique K.eq self.old }
         ensures missing { IfNone result (find K.eq (entries self.old) k.now ≡ None) }
         ensures* kept { sem 𝓛 (rests_if_none K.row V.row H.row H.Hasher.row K.Hash H.BuildHasher H.Hasher.Hasher self.entry result) }
     {
@@ -123,11 +124,14 @@ impl<'a, K: Eq + Hash, V, H: BuildHasher> OccupiedEntry<'a, K, V, H> {
     pub fn insert(&mut self, value: V) -> V
         ensures old { result ≡ (occupied_pair self.old).1 }
         ensures written { IsWritten self.old value self.new }
+        ensures unique { IsUnique K.eq self.new.owned.now }
     {
         let bucket = self.bucket;
         let slot = self.slot;
         let owned = &mut *self.owned;
-        std::mem::replace(owned.value_mut_at(Place { bucket, slot }), value)
+        let old = std::mem::replace(owned.value_mut_at(Place { bucket, slot }), value);
+        let _ = owned.len();
+        old
     }
 
     /// Removes the pair, and answers its value.
@@ -151,6 +155,15 @@ impl<'a, K: Eq + Hash, V, H: BuildHasher> OccupiedEntry<'a, K, V, H> {
         let bucket = self.bucket;
         let slot = self.slot;
         self.owned.remove_at(Place { bucket, slot })
+    }
+
+    /// The number of pairs of the map.
+    fn map_len(&self) -> usize
+        ensures len { result ≡ length (entries self.now.owned.now) }
+        ensures unique { IsUnique K.eq self.now.owned.now }
+    {
+        let owned: &Owned<K, V, H> = self.owned;
+        owned.len()
     }
 }
 
@@ -188,6 +201,15 @@ impl<'a, K: Eq + Hash, V, H: BuildHasher> VacantEntry<'a, K, V, H> {
             Err(pair) => Err(InsertError::Memory(pair)),
         }
     }
+
+    /// The number of pairs of the map.
+    fn map_len(&self) -> usize
+        ensures len { result ≡ length (entries self.now.owned.now) }
+        ensures unique { IsUnique K.eq self.now.owned.now }
+    {
+        let owned: &Owned<K, V, H> = self.owned;
+        owned.len()
+    }
 }
 
 impl<'a, K: Eq + Hash, V, H: BuildHasher> Entry<'a, K, V, H> {
@@ -204,49 +226,18 @@ impl<'a, K: Eq + Hash, V, H: BuildHasher> Entry<'a, K, V, H> {
     /// Calls `f` on the value of an occupied entry, and answers the entry. `f` isn't called on a vacant one.
     pub fn and_modify<F: FnOnce(&mut V)>(self, f: F) -> Entry<'a, K, V, H>
         requires { TakesEntry F.FnOnce f self }
-        ensures { Modifies F.FnOnce f self.entry result }
+        ensures modifies { Modifies F.FnOnce f self.entry result }
+        ensures unique { IsUnique K.eq (entry_owned result).now }
     {
         match self {
             Entry::Occupied(mut entry) => {
                 f(entry.get_mut());
+                let _ = entry.map_len();
                 Entry::Occupied(entry)
             }
-            Entry::Vacant(entry) => Entry::Vacant(entry),
-        }
-    }
-
-    /// Inserts `default` where the entry is vacant, and answers the occupied entry. An occupied one stays as it is, and can't be refused.
-    pub fn or_insert(self, default: V) -> Result<OccupiedEntry<'a, K, V, H>, InsertError<K, V>>
-    where
-        V: Drop,
-        ensures entry { IfOk result (OrInserts self.entry default) }
-        ensures refused { IfErr result (λ e. e ≡ Memory (entry_key self.entry, default)) }
-        ensures vacant { OnErr result (IsVacant self.entry) }
-        ensures* kept { sem 𝓛 (rests_if_refused K.row V.row H.row H.Hasher.row K.Hash H.BuildHasher H.Hasher.Hasher (entry_owned self.entry) result) }
-    {
-        match self {
-            Entry::Occupied(entry) => {
-                let OccupiedEntry {
-                    owned,
-                    bucket,
-                    slot,
-                } = entry;
-                Ok(OccupiedEntry {
-                    owned,
-                    bucket,
-                    slot,
-                })
-            }
             Entry::Vacant(entry) => {
-                let VacantEntry { owned, key, hash } = entry;
-                match owned.insert_new(hash, key, default) {
-                    Ok(place) => Ok(OccupiedEntry {
-                        owned,
-                        bucket: place.bucket,
-                        slot: place.slot,
-                    }),
-                    Err(pair) => Err(InsertError::Memory(pair)),
-                }
+                let _ = entry.map_len();
+                Entry::Vacant(entry)
             }
         }
     }

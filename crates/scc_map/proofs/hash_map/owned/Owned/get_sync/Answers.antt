@@ -10,10 +10,11 @@ returns-in-Some g c = (
   record {
     same_map = refl;
     entry = occupied-at (record { owned = c.args.self; bucket = c.in-Some.place.bucket; slot = c.in-Some.place.slot; within = c.self-1.given.0 }) g.met.K.Eq.laws c.args.k.now (rw c.self.view_is at c.search.ensures.unique) (rw c.self.view_is at c.in-Some.ensures.place);
+    unique = rw c.self.view_is at c.search.ensures.unique;
     missing = tt;
     kept = tt;
   },
 )
 
 pub returns-in-None : goal.returns-in-None
-returns-in-None g c = ((refl, λ _. tt, refl), record { same_map = tt; entry = tt; missing = rw (← c.self.view_is) (find-position_none (g.K.PartialEq.eq c.args.k.now) (entries c.self.inside.table) c.in-None.ensures.place); kept = tt })
+returns-in-None g c = ((refl, λ _. tt, refl), record { same_map = tt; entry = tt; unique = rw c.self.view_is at c.search.ensures.unique; missing = rw (← c.self.view_is) (find-position_none (g.K.PartialEq.eq c.args.k.now) (entries c.self.inside.table) c.in-None.ensures.place); kept = tt })

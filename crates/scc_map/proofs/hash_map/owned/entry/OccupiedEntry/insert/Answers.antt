@@ -5,12 +5,12 @@ use Rattle.scc_map.proofs.Entries.{pair-is, written-at}
 use Rattle.scc_map.proofs.hash_map.owned.entry.OccupiedEntry.insert.Goals as goal
 
 pub invariant_of-self : goal.invariant_of-self
-invariant_of-self g c = record { within = IsPlace-with_write_at with_pair_value c.args.self.now.owned.now _ c.replace.new.dest c.args.self.now.within }
+invariant_of-self g c = record { within = IsPlace-with_write_at with_pair_value c.args.self.now.owned.now _ c.replace-old.new.dest c.args.self.now.within }
 
 pub returns-clause-old : goal.returns-clause-old
 returns-clause-old g c =
     let v = c.value_mut_at.ensures.value in
-    c.replace.ensures.value ∙ v.2 ∙ ap (λ p. p.1) (sym (pair-is c.args.self.now v.0 v.1))
+    c.replace-old.ensures.value ∙ v.2 ∙ ap (λ p. p.1) (sym (pair-is c.args.self.now v.0 v.1))
 
 pub returns-clause-written : goal.returns-clause-written
-returns-clause-written g c = written-at c.args.self.now c.args.value _ _ refl (rw c.replace.ensures.after refl)
+returns-clause-written g c = written-at c.args.self.now c.args.value _ _ refl (rw c.replace-old.ensures.after refl)

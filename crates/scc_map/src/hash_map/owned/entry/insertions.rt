@@ -1,0 +1,217 @@
+//! The insertions of an entry. Each goes on at the place that the search found. Where an entry is occupied, `len` is called for its contract: no two keys are equal.
+ghost use Rattle.std.specs.Prelude.{◌≡◌, IfOk, OnErr, IfErr};
+ghost use Rattle.std.specs.Borrow.{sem};
+ghost use Rattle.std.specs.Fn.{FnOnceTakesAt, FnOnceReturnsAt};
+ghost use Rattle.scc_table.specs.Contents.{key_hash};
+ghost use Rattle.scc_table.specs.Pairs.{HasRoom, IsUnique};
+ghost use Rattle.scc_map.specs.Entries.{Memory, entry_owned, entry_key, IsVacant, OrInserts, OrInsertsSome, RefusesSome, SetsEntry, rests_if_refused};
+
+use super::{Entry, OccupiedEntry, VacantEntry};
+use scc_table::{InsertError, Place};
+use std::hash::{BuildHasher, Hash};
+
+impl<'a, K: Eq + Hash, V, H: BuildHasher> Entry<'a, K, V, H> {
+    /// Inserts `default` where the entry is vacant, and answers the occupied entry. An occupied one stays as it is, and can't be refused.
+    pub fn or_insert(self, default: V) -> Result<OccupiedEntry<'a, K, V, H>, InsertError<K, V>>
+    where
+        V: Drop,
+        ensures entry { IfOk result (OrInserts self.entry default) }
+        ensures refused { IfErr result (λ e. e ≡ Memory (entry_key self.entry, default)) }
+        ensures vacant { OnErr result (IsVacant self.entry) }
+        ensures full { OnErr result (HasRoom (key_hash H.BuildHasher H.Hasher.Hasher K.hash_input (entry_owned self.entry).now) (entry_owned self.entry).now (entry_key self.entry) → ⊥) }
+        ensures unique { IfOk result (λ o. IsUnique K.eq o.owned.now) }
+        ensures* kept { sem 𝓛 (rests_if_refused K.row V.row H.row H.Hasher.row K.Hash H.BuildHasher H.Hasher.Hasher (entry_owned self.entry) result) }
+    {
+        match self {
+            Entry::Occupied(entry) => {
+                let OccupiedEntry {
+                    owned,
+                    bucket,
+                    slot,
+                } = entry;
+                drop(default);
+                let _ = owned.len();
+                Ok(OccupiedEntry {
+                    owned,
+                    bucket,
+                    slot,
+                })
+            }
+            Entry::Vacant(entry) => {
+                let VacantEntry { owned, key, hash } = entry;
+                match owned.insert_new(hash, key, default) {
+                    Ok(place) => Ok(OccupiedEntry {
+                        owned,
+                        bucket: place.bucket,
+                        slot: place.slot,
+                    }),
+                    Err(pair) => Err(InsertError::Memory(pair)),
+                }
+            }
+        }
+    }
+
+    /// Inserts the answer of `f` where the entry is vacant, and answers the occupied entry. `f` isn't called on an occupied one.
+    pub fn or_insert_with<F: FnOnce() -> V>(
+        self,
+        f: F,
+    ) -> Result<OccupiedEntry<'a, K, V, H>, InsertError<K, V>>
+        requires { IsVacant self → F.pre f }
+        ensures entry { IfOk result (OrInsertsSome self.entry (λ k v. F.post f v)) }
+        ensures refused { IfErr result (RefusesSome self.entry (λ k v. F.post f v)) }
+        ensures vacant { OnErr result (IsVacant self.entry) }
+        ensures full { OnErr result (HasRoom (key_hash H.BuildHasher H.Hasher.Hasher K.hash_input (entry_owned self.entry).now) (entry_owned self.entry).now (entry_key self.entry) → ⊥) }
+        ensures unique { IfOk result (λ o. IsUnique K.eq o.owned.now) }
+        ensures* kept { sem 𝓛 (rests_if_refused K.row V.row H.row H.Hasher.row K.Hash H.BuildHasher H.Hasher.Hasher (entry_owned self.entry) result) }
+    {
+        match self {
+            Entry::Occupied(entry) => {
+                let OccupiedEntry {
+                    owned,
+                    bucket,
+                    slot,
+                } = entry;
+                let _ = owned.len();
+                Ok(OccupiedEntry {
+                    owned,
+                    bucket,
+                    slot,
+                })
+            }
+            Entry::Vacant(entry) => {
+                let VacantEntry { owned, key, hash } = entry;
+                let value = f();
+                match owned.insert_new(hash, key, value) {
+                    Ok(place) => Ok(OccupiedEntry {
+                        owned,
+                        bucket: place.bucket,
+                        slot: place.slot,
+                    }),
+                    Err(pair) => Err(InsertError::Memory(pair)),
+                }
+            }
+        }
+    }
+
+    /// Inserts the answer of `f` on the key where the entry is vacant, and answers the occupied entry. `f` isn't called on an occupied one.
+    pub fn or_insert_with_key<F: FnOnce(&K) -> V>(
+        self,
+        f: F,
+    ) -> Result<OccupiedEntry<'a, K, V, H>, InsertError<K, V>>
+        requires { IsVacant self → FnOnceTakesAt F.FnOnce f (entry_key self) }
+        ensures entry { IfOk result (OrInsertsSome self.entry (FnOnceReturnsAt F.FnOnce f)) }
+        ensures refused { IfErr result (RefusesSome self.entry (FnOnceReturnsAt F.FnOnce f)) }
+        ensures vacant { OnErr result (IsVacant self.entry) }
+        ensures full { OnErr result (HasRoom (key_hash H.BuildHasher H.Hasher.Hasher K.hash_input (entry_owned self.entry).now) (entry_owned self.entry).now (entry_key self.entry) → ⊥) }
+        ensures unique { IfOk result (λ o. IsUnique K.eq o.owned.now) }
+        ensures* kept { sem 𝓛 (rests_if_refused K.row V.row H.row H.Hasher.row K.Hash H.BuildHasher H.Hasher.Hasher (entry_owned self.entry) result) }
+    {
+        match self {
+            Entry::Occupied(entry) => {
+                let OccupiedEntry {
+                    owned,
+                    bucket,
+                    slot,
+                } = entry;
+                let _ = owned.len();
+                Ok(OccupiedEntry {
+                    owned,
+                    bucket,
+                    slot,
+                })
+            }
+            Entry::Vacant(entry) => {
+                let VacantEntry { owned, key, hash } = entry;
+                let value = f(&key);
+                match owned.insert_new(hash, key, value) {
+                    Ok(place) => Ok(OccupiedEntry {
+                        owned,
+                        bucket: place.bucket,
+                        slot: place.slot,
+                    }),
+                    Err(pair) => Err(InsertError::Memory(pair)),
+                }
+            }
+        }
+    }
+
+    /// Inserts the default value where the entry is vacant, and answers the occupied entry.
+    pub fn or_default(self) -> Result<OccupiedEntry<'a, K, V, H>, InsertError<K, V>>
+    where
+        V: Default,
+        ensures entry { IfOk result (OrInsertsSome self.entry (λ k v. V.is_default v)) }
+        ensures refused { IfErr result (RefusesSome self.entry (λ k v. V.is_default v)) }
+        ensures vacant { OnErr result (IsVacant self.entry) }
+        ensures full { OnErr result (HasRoom (key_hash H.BuildHasher H.Hasher.Hasher K.hash_input (entry_owned self.entry).now) (entry_owned self.entry).now (entry_key self.entry) → ⊥) }
+        ensures unique { IfOk result (λ o. IsUnique K.eq o.owned.now) }
+        ensures* kept { sem 𝓛 (rests_if_refused K.row V.row H.row H.Hasher.row K.Hash H.BuildHasher H.Hasher.Hasher (entry_owned self.entry) result) }
+    {
+        match self {
+            Entry::Occupied(entry) => {
+                let OccupiedEntry {
+                    owned,
+                    bucket,
+                    slot,
+                } = entry;
+                let _ = owned.len();
+                Ok(OccupiedEntry {
+                    owned,
+                    bucket,
+                    slot,
+                })
+            }
+            Entry::Vacant(entry) => {
+                let VacantEntry { owned, key, hash } = entry;
+                let value = V::default();
+                match owned.insert_new(hash, key, value) {
+                    Ok(place) => Ok(OccupiedEntry {
+                        owned,
+                        bucket: place.bucket,
+                        slot: place.slot,
+                    }),
+                    Err(pair) => Err(InsertError::Memory(pair)),
+                }
+            }
+        }
+    }
+
+    /// Sets the value of an occupied entry, which keeps its key; inserts it at a vacant one. It answers the entry.
+    pub fn insert_entry(self, value: V) -> Result<OccupiedEntry<'a, K, V, H>, InsertError<K, V>>
+    where
+        V: Drop,
+        ensures entry { IfOk result (SetsEntry self.entry value) }
+        ensures refused { IfErr result (λ e. e ≡ Memory (entry_key self.entry, value)) }
+        ensures vacant { OnErr result (IsVacant self.entry) }
+        ensures full { OnErr result (HasRoom (key_hash H.BuildHasher H.Hasher.Hasher K.hash_input (entry_owned self.entry).now) (entry_owned self.entry).now (entry_key self.entry) → ⊥) }
+        ensures unique { IfOk result (λ o. IsUnique K.eq o.owned.now) }
+        ensures* kept { sem 𝓛 (rests_if_refused K.row V.row H.row H.Hasher.row K.Hash H.BuildHasher H.Hasher.Hasher (entry_owned self.entry) result) }
+    {
+        match self {
+            Entry::Occupied(entry) => {
+                let OccupiedEntry {
+                    owned,
+                    bucket,
+                    slot,
+                } = entry;
+                let _old = std::mem::replace(owned.value_mut_at(Place { bucket, slot }), value);
+                let _ = owned.len();
+                Ok(OccupiedEntry {
+                    owned,
+                    bucket,
+                    slot,
+                })
+            }
+            Entry::Vacant(entry) => {
+                let VacantEntry { owned, key, hash } = entry;
+                match owned.insert_new(hash, key, value) {
+                    Ok(place) => Ok(OccupiedEntry {
+                        owned,
+                        bucket: place.bucket,
+                        slot: place.slot,
+                    }),
+                    Err(pair) => Err(InsertError::Memory(pair)),
+                }
+            }
+        }
+    }
+}
