@@ -1,5 +1,5 @@
 -- What a caller cites of a map: look-ups after a step.
-use Rattle.std.proofs.Common.{◌≡◌, Bool, true, false, cond, List, [], ◌∷◌, ◌++◌, Option, None, Some, refl, sym, ap, subst, ◌∙◌}
+use Rattle.std.proofs.Common.{◌≡◌, Bool, true, false, cond, List, [], ◌∷◌, ◌++◌, Option, None, Some, refl, sym, ap, subst, ◌∙◌, inl, inr}
 use Rattle.std.specs.Borrow.{MutBor}
 use Rattle.std.specs.Cmp.{IsEquivalence}
 use Rattle.std.specs.Fn.{Once, FnOnceReturnsAtMut}
@@ -8,7 +8,7 @@ use Rattle.std.specs.List.Sorted.{IsPermutation}
 use Rattle.std.specs.Map.{keys_of, lookup_entry, remove_entry, set_value}
 use Rattle.scc_table.specs.Contents.{Contents, entries}
 use Rattle.scc_table.specs.Pairs.{find, without, FindsInstead, IsUnique}
-use Rattle.scc_table.specs.Steps.{Holds, HoldsExactly}
+use Rattle.scc_table.specs.Steps.{Holds, HoldsExactly, Rests}
 use Rattle.std.specs.declared.cmp.PartialEq as equality
 use Rattle.std.specs.declared.hash.Hash as hash
 use Rattle.std.specs.declared.hash.Hasher as hasher
@@ -20,7 +20,8 @@ use Rattle.scc_map.specs.declared.hash_map.owned.entry.VacantEntry.{VacantEntry}
 use Rattle.scc_map.specs.MapSteps.{Removes}
 use Rattle.scc_map.proofs.PairWrites.{IsPlaceOf}
 use Rattle.scc_map.proofs.Lookups.{along, apart-none, get-read, place-of_find, find-IsPermutation, find-without, distinct-IsPermutation, distinct-remove_entry, finds-added}
-use Rattle.scc_map.proofs.Splits.{by_answer, cond-true, cond-false, found-place, without-at, distinct-without, place-below}
+pub use Rattle.scc_map.proofs.Splits.{by_answer, cond-true, cond-false}
+use Rattle.scc_map.proofs.Splits.{found-place, without-at, distinct-without, place-below}
 use Rattle.std.proofs.lemmas.List.Sorted.{IsPermutation-refl, IsPermutation-sym, IsPermutation-cons, IsPermutation-trans, IsPermutation-remove}
 use Rattle.std.proofs.lemmas.Map.Keys.{IsDistinct-head, IsDistinct-tail}
 
@@ -64,7 +65,12 @@ module _ {K V : Type 0} {eq : K → K → Bool} (laws : IsEquivalence eq) where
           ∙ find-without laws (entries c) k q u;
     }
 
-    -- where only the order may have changed, look-ups find what they found
+    -- look-ups find the same after a refused call
+    pub finds-rearranged : Rests c d → IsUnique eq d → (q : K) → find eq (entries d) q ≡ find eq (entries c) q
+    finds-rearranged (inl h) u q = ap (λ es. find eq es q) h.exact
+    finds-rearranged (inr h) u q = find-IsPermutation laws (entries c) (entries d) q h.1.same (distinct-IsPermutation laws (entries d) (entries c) (IsPermutation-sym (entries c) (entries d) h.1.same) u)
+
+    -- where nothing changed, look-ups find what they found
     pub finds-unchanged : HoldsExactly c (entries c) d → (q : K) → find eq (entries d) q ≡ find eq (entries c) q
     finds-unchanged h q = ap (λ es. find eq es q) h.exact
 

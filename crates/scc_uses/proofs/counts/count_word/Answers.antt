@@ -1,0 +1,18 @@
+use Rattle.std.proofs.Common.{rules, ◌≡◌, Some, ap, sym, subst, ◌∙◌, nat_eq}
+use Rattle.std.specs.Cmp.{nat_eq_equiv}
+use Rattle.scc_table.specs.Contents.{entries}
+use Rattle.scc_table.specs.Pairs.{find, FindsInstead}
+use Rattle.scc_map.proofs.CallerLemmas.{finds-modify_or_insert}
+use Rattle.scc_map.specs.Entries.{occupied_pair}
+use Rattle.scc_uses.specs.Counts.{one_more}
+use Rattle.scc_uses.proofs.Counting.{counted}
+use Rattle.scc_uses.proofs.counts.count_word.Goals as goal
+
+pub returns-clause-counted : goal.returns-clause-counted
+returns-clause-counted c =
+    let o = c.in_ok-counts.field-0 in
+    let h = finds-modify_or_insert nat_eq_equiv c.args.counts.now c.args.word _ _ c.entry_sync.result c.and_modify.result 1 o c.entry_sync.ensures.entry c.and_modify.ensures.modifies c.in_ok-counts.ensures.entry c.in_ok-counts.ensures.unique in
+    let pair = counted c.args.counts.now c.args.word _ _ (λ m n says. search rules) c.entry_sync.result (occupied_pair o) c.entry_sync.ensures.entry h.0 in
+    let finds : FindsInstead nat_eq (entries c.args.counts.now) c.args.word (Some (c.args.word, one_more (find nat_eq (entries c.args.counts.now) c.args.word))) (entries o.owned.now) =
+    subst (λ q. FindsInstead nat_eq (entries c.args.counts.now) c.args.word (Some q) (entries o.owned.now)) pair h.1 in
+    search rules
