@@ -43,6 +43,7 @@ impl<K: Eq + Hash, V> Owned<K, V> {
     pub fn new(alloc: Global) -> Self
         ensures entries { entries result ≡ [] }
         ensures buckets { bucket_count result ≡ 0 }
+        ensures settings { settings_of result ≡ record { hasher = (settings_of result).hasher; skipped = 0; asked = 0; reserved = 0 } }
     {
         Owned::with_hasher(alloc, BuildHasherDefault::new())
     }
@@ -52,6 +53,7 @@ impl<K: Eq + Hash, V> Owned<K, V> {
         ensures entries { IfOk result (λ m. entries m ≡ []) }
         ensures none { IfOk result (λ m. capacity ≡ 0 → bucket_count m ≡ 0) }
         ensures size { IfOk result (λ m. 0 < capacity → IsArraySize capacity (32 * bucket_count m)) }
+        ensures settings { IfOk result (λ m. settings_of m ≡ record { hasher = (settings_of m).hasher; skipped = 0; asked = 32 * bucket_count m; reserved = 0 }) }
         ensures succeeds { capacity ≡ 0 → IsOk result }
     {
         Owned::with_capacity_and_hasher(alloc, capacity, BuildHasherDefault::new())
