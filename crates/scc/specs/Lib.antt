@@ -1,4 +1,6 @@
 pub use Rattle.scc_map.specs.Closures
+pub use Rattle.scc_map.specs.Entries
+pub use Rattle.scc_map.specs.Lends
 pub use Rattle.scc_map.specs.MapSteps
 pub use Rattle.scc_recorded.specs.Changes
 pub use Rattle.scc_recorded.specs.MapCalls
@@ -7,7 +9,9 @@ pub use Rattle.scc_recorded.specs.States
 pub use Rattle.scc_table.specs.Contents
 pub use Rattle.scc_table.specs.Hashing
 pub use Rattle.scc_table.specs.Pairs
+pub use Rattle.scc_table.specs.Places
 pub use Rattle.scc_table.specs.Routing
 pub use Rattle.scc_table.specs.Sizes
 pub use Rattle.scc_table.specs.Steps
 pub use Rattle.scc_table.specs.Walks
+pub use Rattle.scc_table.specs.Writes
