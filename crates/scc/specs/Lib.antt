@@ -1,4 +1,6 @@
 pub use Rattle.scc_map.specs.Closures
+pub use Rattle.scc_map.specs.Entries
+pub use Rattle.scc_map.specs.Lends
 pub use Rattle.scc_map.specs.MapSteps
 pub use Rattle.scc_recorded.specs.Changes
 pub use Rattle.scc_recorded.specs.MapCalls
@@ -6,8 +8,14 @@ pub use Rattle.scc_recorded.specs.Run
 pub use Rattle.scc_recorded.specs.States
 pub use Rattle.scc_table.specs.Contents
 pub use Rattle.scc_table.specs.Hashing
+pub use Rattle.scc_table.specs.LendsBucket
+pub use Rattle.scc_table.specs.LendsTable
 pub use Rattle.scc_table.specs.Pairs
+pub use Rattle.scc_table.specs.Places
 pub use Rattle.scc_table.specs.Routing
+pub use Rattle.scc_table.specs.Shelf
 pub use Rattle.scc_table.specs.Sizes
 pub use Rattle.scc_table.specs.Steps
+pub use Rattle.scc_table.specs.Tables
 pub use Rattle.scc_table.specs.Walks
+pub use Rattle.scc_table.specs.Writes

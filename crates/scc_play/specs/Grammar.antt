@@ -7,7 +7,7 @@ use Rattle.std.specs.Str.{bytes_eq}
 use Rattle.std.specs.Str.Lines.{strip_carriage_return}
 use Rattle.std.specs.Str.Parse.{digits_value}
 use Rattle.scc_recorded.specs.declared.recorded.calls_as_values.MapCall.{MapCall}
-use Rattle.scc_recorded.specs.declared.recorded.calls_as_values.MapCall.TheVariants.{Insert, Read, Contains, Remove, Len}
+use Rattle.scc_recorded.specs.declared.recorded.calls_as_values.MapCall.TheVariants.{Insert, Upsert, Replace, Read, Contains, Remove, Len}
 
 -- a call on a map from numbers to numbers
 abbrev pub Call : Type 0
@@ -46,10 +46,14 @@ key_call_of name key =
     cond (bytes_eq name (codes "read")) (Some (Read key))
     (cond (bytes_eq name (codes "contains")) (Some (Contains key))
     (cond (bytes_eq name (codes "remove")) (Some (Remove key))
-    None))
+    (cond (bytes_eq name (codes "replace")) (Some (Replace key))
+    None)))
 
 abbrev pub pair_call_of : List ℕ → ℕ → ℕ → Option Call
-pair_call_of name key value = cond (bytes_eq name (codes "insert")) (Some (Insert key value)) None
+pair_call_of name key value =
+    cond (bytes_eq name (codes "insert")) (Some (Insert key value))
+    (cond (bytes_eq name (codes "upsert")) (Some (Upsert key value))
+    None)
 
 -- Lines
 

@@ -11,6 +11,4 @@ pub mod number;
 pub mod play;
 pub mod same;
 pub mod script;
-#[cfg(test)]
-mod tests;
 pub mod texts;

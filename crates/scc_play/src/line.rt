@@ -27,6 +27,8 @@ fn key_call(name: &[u8], key: u64) -> Option<MapCall<u64, u64>>
         Some(MapCall::Contains(key))
     } else if name == b"remove".as_slice() {
         Some(MapCall::Remove(key))
+    } else if name == b"replace".as_slice() {
+        Some(MapCall::Replace(key))
     } else {
         None
     }
@@ -38,6 +40,8 @@ fn pair_call(name: &[u8], key: u64, value: u64) -> Option<MapCall<u64, u64>>
 {
     if name == b"insert".as_slice() {
         Some(MapCall::Insert(key, value))
+    } else if name == b"upsert".as_slice() {
+        Some(MapCall::Upsert(key, value))
     } else {
         None
     }

@@ -1,20 +1,27 @@
 -- The calls of a map as calls on its state.
 use Rattle.std.proofs.Common.{◌≡◌, ℕ, Bool, ◌∷◌, Option, None, Some, Ok, refl, ap}
+use Rattle.std.specs.Map.{set_value}
 use Rattle.scc_table.specs.Contents.{Contents, entries, settings_of}
 use Rattle.scc_table.specs.Pairs.{without}
-use Rattle.scc_map.specs.MapSteps.{Inserts, Removes}
+use Rattle.scc_map.specs.MapSteps.{Inserts, Upserts, Removes}
 use Rattle.scc_recorded.specs.Changes.{Changes}
 use Rattle.scc_recorded.specs.States.{ResizesTo, state_of, setting_of, setting_by}
 use Rattle.scc_recorded.specs.MapCalls.{MapMoves}
-use Rattle.scc_recorded.specs.declared.recorded.calls_as_values.MapCall.TheVariants.{Insert, Remove}
-use Rattle.scc_recorded.specs.declared.recorded.replies.Reply.TheVariants.{Inserted, Pair}
-use Rattle.scc_recorded.proofs.States.{holds-changes, unchanged-changes}
+use Rattle.scc_recorded.specs.declared.recorded.calls_as_values.MapCall.TheVariants.{Insert, Upsert, Remove}
+use Rattle.scc_recorded.specs.declared.recorded.replies.Reply.TheVariants.{Inserted, Old, Pair}
+use Rattle.scc_recorded.proofs.States.{holds-changes, exactly-changes, unchanged-changes}
 
 module _ {K V H : Type 0} (eq : K → K → Bool) (hash : H → K → ℕ) (c d : Contents (K × V) H) where
   -- an insertion of a new key
   pub inserted : (k : K) (v : V) (u : Unit {0}) → Inserts eq (hash (settings_of c).hasher) c (k, v) (Ok u) d
       → Changes (λ s. s.1) (MapMoves eq) (ResizesTo (setting_of c)) (state_of c) (Insert k v) Inserted (state_of d)
   inserted k v u h = holds-changes (MapMoves eq) (Insert k v) Inserted c d ((k, v) ∷ entries c) h.1 (λ number l p. (h.0, p, refl))
+
+  -- an upsert that is not refused
+  pub upserted : (k : K) (v : V) (o : Option V) → Upserts eq (hash (settings_of c).hasher) c (k, v) (Ok o) d
+      → Changes (λ s. s.1) (MapMoves eq) (ResizesTo (setting_of c)) (state_of c) (Upsert k v) (Old o) (state_of d)
+  upserted k v None h = holds-changes (MapMoves eq) (Upsert k v) (Old None) c d ((k, v) ∷ entries c) h.1 (λ number l p. (h.0, p, refl))
+  upserted k v (Some w) h = exactly-changes (MapMoves eq) (Upsert k v) (Old (Some w)) c d (set_value (eq k) (entries c) v) h.2 (λ e b. (h.0, h.1, e, b))
 
 module _ {K V H : Type 0} (eq : K → K → Bool) (c d : Contents (K × V) H) where
   -- a removal

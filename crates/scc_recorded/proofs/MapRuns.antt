@@ -6,7 +6,6 @@ use Rattle.scc_recorded.specs.MapCalls.{MapMoves}
 use Rattle.scc_recorded.specs.Run.{IsRun, done, resize, answer}
 use Rattle.scc_recorded.specs.States.{State, ResizesTo}
 use Rattle.scc_recorded.specs.declared.recorded.fixed.Setting.{Setting}
-use Rattle.scc_recorded.specs.declared.recorded.calls_as_values.MapCall.{MapCall}
 use Rattle.scc_recorded.specs.declared.recorded.calls_as_values.MapCall.TheVariants.{Len}
 use Rattle.scc_recorded.specs.declared.recorded.replies.Reply.{Reply}
 use Rattle.scc_recorded.specs.declared.recorded.replies.Reply.TheVariants.{Inserted, Exists, Old, Key, Pair, Value, Has, Evicted, Cleared, Count}

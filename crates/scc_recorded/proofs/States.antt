@@ -5,7 +5,7 @@ use Rattle.std.proofs.lemmas.List.Sorted.{IsPermutation-refl}
 use Rattle.std.proofs.lemmas.Bool.{cases_order}
 use Rattle.scc_table.specs.Contents.{Contents, entries, bucket_count}
 use Rattle.scc_table.specs.Sizes.{IsArray}
-use Rattle.scc_table.specs.Steps.{Holds, IsUnchanged, KeepsSize}
+use Rattle.scc_table.specs.Steps.{Holds, HoldsExactly, IsUnchanged, KeepsSize}
 use Rattle.scc_recorded.specs.Changes.{Changes}
 use Rattle.scc_recorded.specs.States.{State, ResizesTo, state_of, setting_of}
 
@@ -48,3 +48,8 @@ module _ {E H : Type 0} where
     pub unchanged-changes : (c d : Contents E H) → IsUnchanged c d → (state_of d ≡ state_of c → moves (state_of c) call reply (state_of d))
         → Changes (λ s. s.1) moves (ResizesTo (setting_of c)) (state_of c) call reply (state_of d)
     unchanged-changes c d h m = inl (h.buckets, m (unchanged-state c d h))
+
+    -- a call that changes entries in their places
+    pub exactly-changes : (c d : Contents E H) (es : List E) → HoldsExactly c es d → (entries d ≡ es → bucket_count d ≡ bucket_count c → moves (state_of c) call reply (state_of d))
+        → Changes (λ s. s.1) moves (ResizesTo (setting_of c)) (state_of c) call reply (state_of d)
+    exactly-changes c d es h m = inl (h.buckets, m h.exact h.buckets)

@@ -1,20 +1,23 @@
 -- What the calls of a map do to its state, by the reply.
-use Rattle.std.specs.Prelude.{◌≡◌, ℕ, ◌<◌, ◌==◌, Bool, List, ◌∷◌, length, count_by, Option, None, Some, IsSome, is_some}
+use Rattle.std.specs.Prelude.{◌≡◌, ℕ, ◌<◌, ◌==◌, Bool, ◌∷◌, length, count_by, Option, None, Some, IsSome, is_some}
 use Rattle.std.specs.Option.{option_map}
 use Rattle.std.specs.List.Sorted.{IsPermutation}
+use Rattle.std.specs.Map.{set_value, set_key}
 use Rattle.scc_table.specs.Pairs.{find, without}
 use Rattle.scc_table.specs.Routing.{bucket_number}
 use Rattle.scc_recorded.specs.States.{State}
 use Rattle.scc_recorded.specs.declared.recorded.fixed.Setting.{Setting}
 use Rattle.scc_recorded.specs.declared.recorded.calls_as_values.MapCall.{MapCall}
-use Rattle.scc_recorded.specs.declared.recorded.calls_as_values.MapCall.TheVariants.{Insert, Read, Contains, Remove, Len}
+use Rattle.scc_recorded.specs.declared.recorded.calls_as_values.MapCall.TheVariants.{Insert, Upsert, Replace, Read, Contains, Remove, Len}
 use Rattle.scc_recorded.specs.declared.recorded.replies.Reply.{Reply}
-use Rattle.scc_recorded.specs.declared.recorded.replies.Reply.TheVariants.{Inserted, Exists, Pair, Value, Has, Count}
+use Rattle.scc_recorded.specs.declared.recorded.replies.Reply.TheVariants.{Inserted, Exists, Old, Key, Pair, Value, Has, Count}
 
 module _ {K V : Type 0} where
   -- the key of a call, None where it concerns all keys
   abbrev pub map_key : MapCall K V → Option K
   map_key (Insert k v) = Some k
+  map_key (Upsert k v) = Some k
+  map_key (Replace k) = Some k
   map_key (Read k) = Some k
   map_key (Contains k) = Some k
   map_key (Remove k) = Some k
@@ -25,6 +28,10 @@ module _ {K V : Type 0} where
     abbrev pub MapMoves : State (K × V) → MapCall K V → Reply K V → State (K × V) → Type 0
     MapMoves s (Insert k v) Inserted t = (find eq s.0 k ≡ None) × IsPermutation ((k, v) ∷ s.0) t.0 × (t.1 ≡ s.1)
     MapMoves s (Insert k v) (Exists l w) t = (l ≡ k) × (w ≡ v) × IsSome (find eq s.0 k) × (t ≡ s)
+    MapMoves s (Upsert k v) (Old None) t = (find eq s.0 k ≡ None) × IsPermutation ((k, v) ∷ s.0) t.0 × (t.1 ≡ s.1)
+    MapMoves s (Upsert k v) (Old (Some w)) t = (l : K) × (find eq s.0 k ≡ Some (l, w)) × (t.0 ≡ set_value (eq k) s.0 v) × (t.1 ≡ s.1)
+    MapMoves s (Replace k) (Key None) t = (find eq s.0 k ≡ None) × (t ≡ s)
+    MapMoves s (Replace k) (Key (Some l)) t = (v : V) × (find eq s.0 k ≡ Some (l, v)) × (t.0 ≡ set_key (eq k) s.0 k) × (t.1 ≡ s.1)
     MapMoves s (Read k) (Value r) t = (r ≡ option_map (λ p. p.1) (find eq s.0 k)) × (t ≡ s)
     MapMoves s (Contains k) (Has b) t = (b ≡ is_some (find eq s.0 k)) × (t ≡ s)
     MapMoves s (Remove k) (Pair None) t = (find eq s.0 k ≡ None) × (t ≡ s)
@@ -37,7 +44,8 @@ module _ {K V : Type 0} where
       abbrev pub MapHasRoom : Setting H → State (K × V) → K → Type 0
       MapHasRoom g s k = (0 < s.1) × (count_by (λ p. bucket_number g.skipped s.1 (hash g.hasher p.0) == bucket_number g.skipped s.1 (hash g.hasher k)) s.0 < 32)
 
-      -- memory may be refused to an insertion of a new key without room, and to no other call
+      -- memory may be refused to an insertion and an upsert of a new key without room, and to no other call
       abbrev pub MapMayRefuse : Setting H → State (K × V) → MapCall K V → Type 0
       MapMayRefuse g s (Insert k v) = (find eq s.0 k ≡ None) × (MapHasRoom g s k → ⊥)
+      MapMayRefuse g s (Upsert k v) = (find eq s.0 k ≡ None) × (MapHasRoom g s k → ⊥)
       MapMayRefuse g s call = ⊥

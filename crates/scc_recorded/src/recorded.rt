@@ -7,8 +7,6 @@ mod map_calls;
 mod refusals;
 mod replies;
 mod running;
-#[cfg(test)]
-mod uses;
 
 pub use calling::Calls;
 pub use calls_as_values::MapCall;

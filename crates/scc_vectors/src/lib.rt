@@ -2,10 +2,18 @@
 #![tactic(auto)]
 
 #[cfg(test)]
+mod hashes;
+#[cfg(test)]
 mod map_cases;
 pub mod maybe_equal;
 #[cfg(test)]
+mod recorded_cases;
+#[cfg(test)]
 mod run_cases;
+#[cfg(test)]
+mod run_scripts;
+#[cfg(test)]
+mod run_streams;
 #[cfg(test)]
 mod texts;
 pub mod zero;

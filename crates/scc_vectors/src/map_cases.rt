@@ -2,6 +2,7 @@
 use crate::maybe_equal::MaybeEqual;
 use crate::zero::Zero;
 use scc::hash_map::Owned;
+use scc::hash_map::owned::ReplaceResult;
 use scc::{InsertError, MakeError};
 use scc_play::same::Same;
 use std::hash::{BuildHasher, RandomState};
@@ -120,5 +121,52 @@ fn map_false_remove_if_keeps_what_it_wrote(rt: HostRuntime) -> Result<(), Fail> 
     });
     assert_eq!(rt; kept, None);
     assert_eq!(rt; map.remove_if_sync(&1, |v| *v == 1), Some((1, 1)));
+    Ok(())
+}
+
+#[test]
+fn map_upsert_keeps_key_replace_swaps_it(rt: HostRuntime) -> Result<(), Fail> {
+    let mut map = Owned::new(rt.alloc());
+    assert_eq!(rt; map.upsert_sync(MaybeEqual(11, 7), 17u64)?, None);
+    assert_eq!(rt; map.upsert_sync(MaybeEqual(11, 11), 18)?, Some(17));
+    let stored = map.read_sync(&MaybeEqual(11, 0), |k, v| (k.1, *v));
+    assert_eq!(rt; stored, Some((7, 18)));
+    match map.replace_sync(MaybeEqual(11, 11)) {
+        ReplaceResult::Replaced(entry, old) => {
+            assert_eq!(rt; (old.0, old.1), (11, 7));
+            assert_eq!(rt; (entry.key().1, *entry.get()), (11, 18));
+        }
+        ReplaceResult::NotReplaced(_) => assert!(rt; false, "the key is there"),
+    }
+    let stored = map.read_sync(&MaybeEqual(11, 0), |k, v| (k.1, *v));
+    assert_eq!(rt; stored, Some((11, 18)));
+    Ok(())
+}
+
+#[test]
+fn map_counts_characters_through_entries(rt: HostRuntime) -> Result<(), Fail> {
+    let mut map: Owned<char, u32> = Owned::new(rt.alloc());
+    for letter in "a short treatise on fungi".chars() {
+        map.entry_sync(letter)
+            .and_modify(|count| *count = count.saturating_add(1))
+            .or_insert(1)?;
+    }
+    assert_eq!(rt; map.read_sync(&'s', |_, v| *v), Some(2));
+    assert_eq!(rt; map.read_sync(&'t', |_, v| *v), Some(3));
+    assert_eq!(rt; map.read_sync(&'y', |_, v| *v), None);
+    assert_eq!(rt; map.len(), 13);
+    Ok(())
+}
+
+#[test]
+fn map_insert_entry_keeps_the_stored_key(rt: HostRuntime) -> Result<(), Fail> {
+    let mut map = Owned::new(rt.alloc());
+    map.insert_sync(MaybeEqual(11, 7), 17u64)?;
+    let entry = map.entry_sync(MaybeEqual(11, 11)).insert_entry(18)?;
+    assert_eq!(rt; (entry.key().0, entry.key().1), (11, 7));
+    assert_eq!(rt; *entry.get(), 18);
+    let stored = map.read_sync(&MaybeEqual(11, 0), |k, v| (k.1, *v));
+    assert_eq!(rt; stored, Some((7, 18)));
+    assert_eq!(rt; map.len(), 1);
     Ok(())
 }

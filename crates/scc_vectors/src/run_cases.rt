@@ -3,9 +3,9 @@ use scc_play::play::{BAD_CALL, FINISHED, play};
 use std::process::Abort;
 
 // Plays a script, and asserts what it writes and how it ends.
-fn expect_run<R: AllocGlobal + Abort>(rt: &R, script: &str, text: &str, status: u8) {
+pub(crate) fn expect_run<R: AllocGlobal + Abort>(rt: &R, script: &[u8], text: &str, status: u8) {
     let mut output = Vec::new(rt.alloc());
-    let mut reader = script.as_bytes();
+    let mut reader = script;
     let answered = play(rt.alloc(), &mut reader, &mut output);
     assert_eq!(rt; output.as_slice(), text.as_bytes(), "written of {script:?}");
     assert_eq!(rt; answered, status, "the status of {script:?}");
@@ -13,7 +13,7 @@ fn expect_run<R: AllocGlobal + Abort>(rt: &R, script: &str, text: &str, status: 
 
 #[test]
 fn run_map_first_script(rt: HostRuntime) {
-    let script = "map 1 1\n0 insert 1 10\n0 insert 1 20\n0 read 1\n0 len\n0 remove 2\n";
+    let script = b"map 1 1\n0 insert 1 10\n0 insert 1 20\n0 read 1\n0 len\n0 remove 2\n";
     let text = "worker 0\nok\nexists 1 20\nvalue 10\ncount 1\nnone\ncontents 1\n1 10\nrecords 5\n";
     expect_run(&rt, script, text, FINISHED);
 }
@@ -21,10 +21,10 @@ fn run_map_first_script(rt: HostRuntime) {
 #[test]
 fn run_bad_first_lines_and_arguments(rt: HostRuntime) {
     for (script, text) in [
-        ("", "line 1: bad call\n"),
-        ("map 1 3\n", "line 1: bad call\n"),
-        ("cache 1 8\n", "line 1: bad call\n"),
-        ("map 1 1\n0 insert 1\n", "line 2: bad call\n"),
+        (b"".as_slice(), "line 1: bad call\n"),
+        (b"map 1 3\n".as_slice(), "line 1: bad call\n"),
+        (b"cache 1 8\n".as_slice(), "line 1: bad call\n"),
+        (b"map 1 1\n0 insert 1\n".as_slice(), "line 2: bad call\n"),
     ] {
         expect_run(&rt, script, text, BAD_CALL);
     }
@@ -33,7 +33,7 @@ fn run_bad_first_lines_and_arguments(rt: HostRuntime) {
 #[test]
 fn run_map_numbers_at_the_limits(rt: HostRuntime) {
     let script =
-        "map 1 1\n0 contains 7\n0 insert 007 5\n0 insert 18446744073709551615 6\n0 read 7\n0 remove 7\n";
+        b"map 1 1\n0 contains 7\n0 insert 007 5\n0 insert 18446744073709551615 6\n0 read 7\n0 remove 7\n";
     let text =
         "worker 0\nfalse\nok\nok\nvalue 5\npair 7 5\ncontents 1\n18446744073709551615 6\nrecords 5\n";
     expect_run(&rt, script, text, FINISHED);
@@ -42,8 +42,16 @@ fn run_map_numbers_at_the_limits(rt: HostRuntime) {
 #[test]
 fn run_map_each_reply(rt: HostRuntime) {
     let script =
-        "map 1 1\n0 read 3\n0 remove 3\n0 contains 3\n0 insert 3 4\n0 insert 3 5\n0 contains 3\n0 read 3\n0 len\n0 remove 3\n0 len\n";
+        b"map 1 1\n0 read 3\n0 remove 3\n0 contains 3\n0 insert 3 4\n0 insert 3 5\n0 contains 3\n0 read 3\n0 len\n0 remove 3\n0 len\n";
     let text =
         "worker 0\nnone\nnone\nfalse\nok\nexists 3 5\ntrue\nvalue 4\ncount 1\npair 3 4\ncount 0\ncontents 0\nrecords 10\n";
+    expect_run(&rt, script, text, FINISHED);
+}
+
+#[test]
+fn run_map_upsert_and_replace(rt: HostRuntime) {
+    let script =
+        b"map 1 1\n0 upsert 1 10\n0 upsert 1 20\n0 replace 1\n0 replace 2\n0 read 2\n0 remove 1\n";
+    let text = "worker 0\nnone\nold 10\nkey 1\nnone\nnone\npair 1 20\ncontents 0\nrecords 6\n";
     expect_run(&rt, script, text, FINISHED);
 }

@@ -2,6 +2,7 @@
 
 use crate::recorded::{Calls, MapCall, Refused, Reply};
 use scc_map::hash_map::Owned;
+use scc_map::hash_map::owned::ReplaceResult;
 use scc_table::InsertError;
 use std::hash::{BuildHasher, Hash};
 
@@ -40,6 +41,8 @@ impl<K: Eq + Hash + Copy, V: Copy + PartialEq, H: BuildHasher> Calls for Owned<K
     fn key(call: &MapCall<K, V>) -> Option<&K> {
         match call {
             MapCall::Insert(k, _) => Some(k),
+            MapCall::Upsert(k, _) => Some(k),
+            MapCall::Replace(k) => Some(k),
             MapCall::Read(k) => Some(k),
             MapCall::Contains(k) => Some(k),
             MapCall::Remove(k) => Some(k),
@@ -53,6 +56,17 @@ impl<K: Eq + Hash + Copy, V: Copy + PartialEq, H: BuildHasher> Calls for Owned<K
                 Ok(()) => Ok(Reply::Inserted),
                 Err(InsertError::Exists((k, v))) => Ok(Reply::Exists(k, v)),
                 Err(InsertError::Memory(_)) => Err(Refused),
+            },
+            MapCall::Upsert(k, v) => match self.upsert_sync(k, v) {
+                Ok(old) => Ok(Reply::Old(old)),
+                Err(_) => Err(Refused),
+            },
+            MapCall::Replace(k) => match self.replace_sync(k) {
+                ReplaceResult::Replaced(_entry, old) => Ok(Reply::Key(Some(old))),
+                ReplaceResult::NotReplaced(entry) => {
+                    entry.into_key();
+                    Ok(Reply::Key(None))
+                }
             },
             MapCall::Read(k) => Ok(Reply::Value(self.read_sync(&k, |_, v| *v))),
             MapCall::Contains(k) => Ok(Reply::Has(self.contains_sync(&k))),

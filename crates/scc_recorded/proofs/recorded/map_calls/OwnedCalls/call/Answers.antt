@@ -1,6 +1,5 @@
-use Rattle.std.proofs.Common.{sym}
 use Rattle.scc_table.specs.Hashing.{hash_of}
-use Rattle.scc_recorded.proofs.MapCalls.{inserted, removed, removed-setting}
+use Rattle.scc_recorded.proofs.MapCalls.{inserted, upserted, removed, removed-setting}
 use Rattle.scc_recorded.proofs.recorded.map_calls.OwnedCalls.call.Goals as goal
 
 pub returns-in-Ok-clause-ok : goal.returns-in-Ok-clause-ok
@@ -13,3 +12,7 @@ returns-in-Remove-clause-ok g c =
 
 pub returns-in-Remove-clause-setting : goal.returns-in-Remove-clause-setting
 returns-in-Remove-clause-setting g c = removed-setting g.K.PartialEq.eq c.args.self.now c.remove_sync.new.self c.in-Remove.k c.remove_sync.result c.remove_sync.ensures.step
+
+pub returns-in-Ok-upsert_sync-clause-ok : goal.returns-in-Ok-upsert_sync-clause-ok
+returns-in-Ok-upsert_sync-clause-ok g c =
+    rw c.in-Upsert.is (upserted g.K.PartialEq.eq (λ h k. hash_of g.H.BuildHasher g.H.Hasher.Hasher h (g.K.Hash.hash_input k)) c.args.self.now c.upsert_sync.new.self c.in-Upsert.k c.in-Upsert.v c.in-Ok-upsert_sync.old c.in-Ok-upsert_sync.ensures.step)

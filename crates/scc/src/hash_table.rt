@@ -1,0 +1,3 @@
+//! The table of the containers with its bucket, and what an entry of a table is.
+
+pub use scc_table::{Keyed, Place, Table, Valued, bucket};

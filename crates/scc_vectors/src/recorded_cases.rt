@@ -1,0 +1,123 @@
+// Calls as values: a caller of a run that knows its clauses alone, and runs of other containers.
+ghost use Rattle.std.specs.Prelude.{◌≡◌, ℕ, [], ◌∷◌, length, OnOk};
+ghost use Rattle.scc_table.specs.Contents.{entries};
+
+use crate::maybe_equal::MaybeEqual;
+use scc::hash_map::Owned;
+use scc::recorded::{Calls, MapCall, Refused, Reply, run};
+use std::hash::{BuildHasher, RandomState};
+use std::test::Fail;
+
+// The number of pairs by a run of one call.
+fn count<H: BuildHasher>(
+    map: &mut Owned<u64, u64, H>,
+    replies: &mut Vec<Reply<u64, u64>>,
+) -> Result<(), Refused>
+    requires { replies.old.items ≡ [] }
+    ensures { OnOk result ((n : ℕ) × (replies.new.items ≡ Reply.Count n ∷ []) × (n ≡ length (entries map.old))) }
+{
+    run(map, &[MapCall::Len], replies)
+}
+
+#[test]
+fn counts_by_a_run(rt: HostRuntime) -> Result<(), Fail> {
+    let mut map = Owned::with_hasher(rt.alloc(), RandomState::new(&rt)?);
+    map.insert_sync(7, 5)?;
+    let mut replies = Vec::new(rt.alloc());
+    count(&mut map, &mut replies)?;
+    assert_eq!(rt; replies.as_slice(), [Reply::Count(1)].as_slice());
+    Ok(())
+}
+
+#[test]
+fn calls_keep_and_swap_the_stored_key(rt: HostRuntime) -> Result<(), Fail> {
+    let mut map = Owned::new(rt.alloc());
+    assert!(rt; map.call(MapCall::Replace(MaybeEqual(11, 7)))? == Reply::Key(None));
+    assert!(rt; map.call(MapCall::Upsert(MaybeEqual(11, 7), 17u64))? == Reply::Old(None));
+    assert!(rt; map.call(MapCall::Upsert(MaybeEqual(11, 11), 18))? == Reply::Old(Some(17)));
+    match map.call(MapCall::Replace(MaybeEqual(11, 11)))? {
+        Reply::Key(Some(old)) => assert_eq!(rt; old.1, 7),
+        _ => assert!(rt; false, "the key is there"),
+    }
+    match map.call(MapCall::Remove(MaybeEqual(11, 0)))? {
+        Reply::Pair(Some((key, value))) => assert_eq!(rt; (key.1, value), (11, 18)),
+        _ => assert!(rt; false, "the key is there"),
+    }
+    assert!(rt; map.call(MapCall::Len)? == Reply::Count(0));
+    Ok(())
+}
+
+// Adds each call to its total, and refuses what would bring that above 9.
+#[derive(Drop)]
+struct Tally {
+    total: u8,
+    hasher: RandomState,
+}
+
+impl Calls for Tally {
+    type Key = u8;
+
+    type Hasher = RandomState;
+
+    type Call = u8;
+
+    type Reply = u8;
+
+    ghost use Rattle.std.specs.Prelude.{ℕ, ◌+◌, ◌<◌, [], None};
+
+    ghost State = { ℕ };
+
+    ghost setting = { λ t. record { hasher = t.hasher; skipped = 0; minimum = 0; maximum = 0 } };
+
+    ghost state = { λ t. t.total };
+
+    ghost size = { λ _. 0 };
+
+    ghost keys = { λ _. [] };
+
+    ghost key_of = { λ _. None };
+
+    ghost moves = { λ _ s c r t. (t ≡ s + c) × (r ≡ t) };
+
+    ghost resizes = { λ _ _ _ _. ⊥ };
+
+    ghost may_refuse = { λ _ s c. 9 < s + c };
+
+    fn key(_call: &u8) -> Option<&u8> {
+        None
+    }
+
+    fn call(&mut self, call: u8) -> Result<u8, Refused> {
+        if self.total > 9 || call > 9 - self.total {
+            return Err(Refused);
+        }
+        self.total += call;
+        Ok(self.total)
+    }
+
+    fn buckets(&self) -> usize {
+        0
+    }
+}
+
+#[test]
+fn stops_at_the_first_refusal(rt: HostRuntime) -> Result<(), Fail> {
+    let mut tally = Tally {
+        total: 0,
+        hasher: RandomState::new(&rt)?,
+    };
+    let mut replies = Vec::new(rt.alloc());
+    assert_eq!(rt;
+        run(&mut tally, &[4, 3, 2, 1, 0], &mut replies),
+        Err(Refused)
+    );
+    assert_eq!(rt; replies.as_slice(), [4, 7, 9].as_slice());
+    assert_eq!(rt; tally.total, 9);
+    run(&mut tally, &[0], &mut replies)?;
+    assert_eq!(rt; replies.as_slice(), [4, 7, 9, 9].as_slice());
+    let Tally {
+        total: _,
+        hasher: _,
+    } = tally;
+    Ok(())
+}
