@@ -25,7 +25,3 @@ module _ {E S : Type 0} where
     pub holds : Holds c (e ∷ entries c) d
     pub within : IsPlace d p
     pub here : slice_get (entries d) (index_of d p) ≡ Some e
-
-  -- the contents with e in the place
-  unfoldable pub with_entry_at : Contents E S → Place → E → Contents E S
-  with_entry_at c p e = record c { lists = slice_set c.lists p.bucket (slice_set (list_of c p.bucket) p.slot e) }
