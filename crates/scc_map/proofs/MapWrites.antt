@@ -3,10 +3,10 @@ use Rattle.std.proofs.Common.{◌≡◌, ℕ, zero, suc, ◌+◌, ◌<◌, Bool,
 use Rattle.std.specs.Cmp.{IsEquivalence}
 use Rattle.std.specs.List.{IsDistinct, flat_map, slice_get, slice_set, remove}
 use Rattle.std.specs.Map.{keys_of, set_value, set_key, remove_entry}
-use Rattle.scc_table.specs.Contents.{Contents, entries, list_of}
+use Rattle.scc_table.specs.Contents.{Contents, entries, bucket_count, list_of}
 use Rattle.scc_table.specs.Pairs.{without}
 use Rattle.scc_table.specs.Places.{IsPlace, IsFoundAt, index_of}
-use Rattle.scc_table.specs.Steps.{Holds, HoldsExactly}
+use Rattle.scc_table.specs.Steps.{Grows, Holds, HoldsExactly}
 use Rattle.scc_table.specs.Writes.{write_at, with_write_at}
 use Rattle.scc_table.specs.declared.place.Place.{Place}
 use Rattle.scc_table.proofs.Spots.{place-get}
@@ -123,3 +123,7 @@ pub key-got : {K V S : Type 0} (c : Contents (K × V) S) (p : Place) (within : I
 key-got c p within q e got =
     let x = exactly-write with_pair_key c p within (at (list_of c p.bucket) p.slot within.slot) (at-get (list_of c p.bucket) p.slot within.slot) q in
     ap (slice_get (entries (with_write_at with_pair_key c p q))) (index-write with_pair_key c p q) ∙ ap (λ z. slice_get z (index_of c p)) x.exact ∙ get-write_at with_pair_key (entries c) (index_of c p) e q got
+
+-- where the number of buckets stays, nothing grew
+pub grows-same : {E S : Type 0} (c d : Contents E S) → bucket_count d ≡ bucket_count c → Grows c d
+grows-same c d e = record { first = λ z n. absurd (n e); half = λ z n. absurd (n e); below = λ z n. absurd (n e); doubled = λ z n. absurd (n e) }

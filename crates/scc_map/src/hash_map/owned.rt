@@ -1,14 +1,14 @@
 //! The map for one owner: every call that changes it takes `&mut self`.
-ghost use Rattle.std.specs.Prelude.{◌≡◌, ◌<◌, ◌*◌, ◌↔◌, List, [], length, Some, None, IsTrue, IsSome, IsOk, IfOk, OnOk, OnSome, ◌==◌, ◌∷◌, true, IfErr, OnErr, slice_get, remove};
+ghost use Rattle.std.specs.Prelude.{◌≡◌, ◌≢◌, ◌<◌, ◌*◌, ◌↔◌, List, [], length, Some, None, IsTrue, IsSome, IsOk, IfOk, OnOk, OnSome, ◌==◌, ◌∷◌, true, IfErr, OnErr, slice_get, remove};
 ghost use Rattle.std.specs.Borrow.{Bor, MutBor, sem};
 ghost use Rattle.std.specs.Fn.{FnOnceTakesAtMut};
 ghost use Rattle.std.specs.List.Sorted.{IsPermutation};
-ghost use Rattle.scc_table.specs.Contents.{entries, bucket_count, settings_of, key_hash};
+ghost use Rattle.scc_table.specs.Contents.{entries, bucket_count, settings_of, minimum_of, key_hash};
 ghost use Rattle.scc_table.specs.Pairs.{find, FindsInstead, HasRoom, IsUnique};
-ghost use Rattle.scc_table.specs.Sizes.{IsArraySize};
+ghost use Rattle.scc_table.specs.Sizes.{IsArraySize, IsSmaller};
 ghost use Rattle.scc_table.specs.Walks.{CalledOn, Walks};
 ghost use Rattle.scc_table.specs.Places.{IsPlace, IsInsertedAt, index_of};
-ghost use Rattle.scc_table.specs.Steps.{Holds, Rests};
+ghost use Rattle.scc_table.specs.Steps.{Grows, Holds, Rests};
 ghost use Rattle.scc_table.specs.Writes.{with_write_at};
 ghost use Rattle.scc_map.specs.Closures.{Reads, UpdatesAt, RemovesIf};
 ghost use Rattle.scc_map.specs.Lends.{lends_value, with_pair_key};
@@ -152,6 +152,7 @@ impl<K: Eq + Hash, V, H: BuildHasher> Owned<K, V, H> {
         ensures step { Inserts K.eq (key_hash H.BuildHasher H.Hasher.Hasher K.hash_input self.old) self.old (k, v) result self.new }
         ensures succeeds { find K.eq (entries self.old) k ≡ None → HasRoom (key_hash H.BuildHasher H.Hasher.Hasher K.hash_input self.old) self.old k → IsOk result }
         ensures finds { OnOk result (FindsInstead K.eq (entries self.old) k (Some (k, v)) (entries self.new)) }
+        ensures growth { Grows self.old self.new }
         ensures unique { IsUnique K.eq self.new }
     {
         let hash = self.table.hash(&k);
@@ -171,6 +172,7 @@ impl<K: Eq + Hash, V, H: BuildHasher> Owned<K, V, H> {
         ensures step { Upserts K.eq (key_hash H.BuildHasher H.Hasher.Hasher K.hash_input self.old) self.old (k, v) result self.new }
         ensures succeeds { IsSome (find K.eq (entries self.old) k) → IsOk result }
         ensures finds { OnOk result ((q : K) × (K.eq k q ≡ true) × FindsInstead K.eq (entries self.old) k (Some (q, v)) (entries self.new)) }
+        ensures growth { Grows self.old self.new }
         ensures unique { IsUnique K.eq self.new }
     {
         let hash = self.table.hash(&k);
@@ -204,6 +206,7 @@ impl<K: Eq + Hash, V, H: BuildHasher> Owned<K, V, H> {
         requires { (p : K × V) → find K.eq (entries self.old) k.now ≡ Some p → FnOnceTakesAtMut F.FnOnce f p.1 }
         ensures step { RemovesIf F.FnOnce f K.eq self.old k.now result self.new (find K.eq (entries self.old) k.now) }
         ensures finds { OnSome result (FindsInstead K.eq (entries self.old) k.now None (entries self.new)) }
+        ensures smaller { bucket_count self.new ≢ bucket_count self.old → IsSmaller (minimum_of self.old) (length (entries self.new)) (bucket_count self.old) (bucket_count self.new) }
         ensures unique { IsUnique K.eq self.new }
     {
         let hash = self.table.hash(k);
@@ -219,6 +222,7 @@ impl<K: Eq + Hash, V, H: BuildHasher> Owned<K, V, H> {
     pub fn remove_sync(&mut self, k: &K) -> Option<(K, V)>
         ensures step { Removes K.eq self.old k.now result self.new }
         ensures finds { OnSome result (FindsInstead K.eq (entries self.old) k.now None (entries self.new)) }
+        ensures smaller { bucket_count self.new ≢ bucket_count self.old → IsSmaller (minimum_of self.old) (length (entries self.new)) (bucket_count self.old) (bucket_count self.new) }
         ensures unique { IsUnique K.eq self.new }
     {
         let hash = self.table.hash(k);
@@ -277,6 +281,7 @@ impl<K: Eq + Hash, V, H: BuildHasher> Owned<K, V, H> {
         requires { IsPlace self.old place }
         ensures pair { slice_get (entries self.old) (index_of self.old place) ≡ Some result }
         ensures others { Holds self.old (remove (entries self.old) (index_of self.old place)) self.new }
+        ensures smaller { bucket_count self.new ≢ bucket_count self.old → IsSmaller (minimum_of self.old) (length (entries self.new)) (bucket_count self.old) (bucket_count self.new) }
         ensures unique { IsUnique K.eq self.new }
     {
         self.table.remove_at(place)

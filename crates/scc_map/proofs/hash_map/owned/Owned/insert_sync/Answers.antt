@@ -39,3 +39,6 @@ returns-after-insert_new-clause-finds g c =
       | in-Ok w ↦ rw (w.result-is, ← c.self.view_is) (finds-added g.met.K.Eq.laws (entries c.self.inside.table) (entries c.insert_new.new.self) (c.args.k, c.args.v) w.in-Ok.ensures.ok.holds.same w.in-Ok.ensures.unique)
       | in-Err w ↦ rw w.result-is tt
     ]
+
+pub returns-after-insert_new-clause-growth : goal.returns-after-insert_new-clause-growth
+returns-after-insert_new-clause-growth g c = rw (← c.self.view_is) c.insert_new.ensures.growth

@@ -76,3 +76,22 @@ returns-else-f-clause-unique g c =
     let unique = rw c.self.view_is at c.in_ok-place.ensures.unique in
     let f = place-found g.K.PartialEq.eq m c.args.k.now c.in_ok-place.place found in
     value-unique laws m c.in_ok-place.place found.within c.args.k.now unique f c.f.new.arg2
+
+pub returns-then-f-clause-smaller : goal.returns-then-f-clause-smaller
+returns-then-f-clause-smaller g c =
+    let laws = g.met.K.Eq.laws in
+    let m = c.args.self.now in
+    let found = rw c.self.view_is at c.in_ok-place.ensures.place in
+    let unique = rw c.self.view_is at c.in_ok-place.ensures.unique in
+    let f = place-found g.K.PartialEq.eq m c.args.k.now c.in_ok-place.place found in
+    let x = value-written laws m c.in_ok-place.place found.within c.args.k.now unique f c.f.new.arg2 in
+    rw (x.buckets, x.settings) at c.remove_at.ensures.smaller
+
+pub returns-else-f-clause-smaller : goal.returns-else-f-clause-smaller
+returns-else-f-clause-smaller g c =
+    let laws = g.met.K.Eq.laws in
+    let m = c.args.self.now in
+    let found = rw c.self.view_is at c.in_ok-place.ensures.place in
+    let unique = rw c.self.view_is at c.in_ok-place.ensures.unique in
+    let f = place-found g.K.PartialEq.eq m c.args.k.now c.in_ok-place.place found in
+    λ n. absurd (n (value-written laws m c.in_ok-place.place found.within c.args.k.now unique f c.f.new.arg2).buckets)

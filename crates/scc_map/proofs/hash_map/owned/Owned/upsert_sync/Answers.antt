@@ -6,7 +6,7 @@ use Rattle.scc_table.specs.Writes.{IsPlace-with_write_at}
 use Rattle.scc_map.specs.Lends.{with_pair_value}
 use Rattle.scc_map.proofs.CallerLemmas.{finds-set_value}
 use Rattle.scc_map.proofs.Lookups.{find-position_none, finds-added}
-use Rattle.scc_map.proofs.MapWrites.{place-found, value-written, value-unique, written-taken_out, written-pair}
+use Rattle.scc_map.proofs.MapWrites.{grows-same, place-found, value-written, value-unique, written-taken_out, written-pair}
 use Rattle.scc_map.proofs.hash_map.owned.Owned.upsert_sync.Goals as goal
 use Rattle.scc_map.proofs.hash_map.owned.Owned.upsert_sync.Goals.{in-Ok, in-Err}
 
@@ -58,3 +58,15 @@ pub returns-after-insert_new-clause-succeeds : goal.returns-after-insert_new-cla
 returns-after-insert_new-clause-succeeds g c =
     let none = find-position_none (g.K.PartialEq.eq c.args.k) (entries c.self.inside.table) c.in-None.ensures.place in
     rw (← c.self.view_is, none) (λ there. absurd (search rules))
+
+pub returns-after-insert_new-clause-growth : goal.returns-after-insert_new-clause-growth
+returns-after-insert_new-clause-growth g c = rw (← c.self.view_is) c.insert_new.ensures.growth
+
+pub returns-in-Some-clause-growth : goal.returns-in-Some-clause-growth
+returns-in-Some-clause-growth g c =
+    let laws = g.met.K.Eq.laws in
+    let m = c.args.self.now in
+    let found = rw c.self.view_is at c.in-Some.ensures.place in
+    let unique = rw c.self.view_is at c.in-Some.ensures.unique in
+    let f = place-found g.K.PartialEq.eq m c.args.k c.in-Some.place found in
+    grows-same m _ (value-written laws m c.in-Some.place found.within c.args.k unique f c.replace.new.dest).buckets
