@@ -7,6 +7,8 @@ mod hashes;
 mod map_cases;
 pub mod maybe_equal;
 #[cfg(test)]
+mod random_calls;
+#[cfg(test)]
 mod recorded_cases;
 #[cfg(test)]
 mod run_cases;
