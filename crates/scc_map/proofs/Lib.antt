@@ -1,5 +1,6 @@
 pub mod CallerLemmas
 pub mod Entries
+pub mod EntrySteps
 pub mod Lookups
 pub mod MapWrites
 pub mod PairWrites

@@ -5,6 +5,7 @@ ghost use Rattle.scc_table.specs.Pairs.{find};
 ghost use Rattle.scc_table.specs.Places.{IsPlace};
 
 mod methods;
+mod steps;
 
 use super::Owned;
 use std::hash::{BuildHasher, BuildHasherDefault, FoldHasher, Hash};

@@ -1,4 +1,4 @@
-use Rattle.std.proofs.Common.{◌≡◌, ◌∙◌, sym, length}
+use Rattle.std.proofs.Common.{◌∙◌, sym}
 use Rattle.scc_table.specs.Contents.{entries}
 use Rattle.scc_table.proofs.Standing.{along, index-start, length-zero}
 use Rattle.scc_table.proofs.table.Table.first_place.Goals as goal

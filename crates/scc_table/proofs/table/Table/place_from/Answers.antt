@@ -1,6 +1,5 @@
-use Rattle.std.proofs.Common.{◌≡◌, ◌≤◌, ◌<◌, ◌∙◌, suc, length, rules, arith, add-one, sym}
+use Rattle.std.proofs.Common.{◌≡◌, ◌≤◌, ◌<◌, ◌∙◌, length, rules, arith, add-one, sym}
 use Rattle.scc_table.specs.Contents.{bucket_count, list_of}
-use Rattle.scc_table.specs.Places.{IsPlace}
 use Rattle.scc_table.proofs.Standing.{index-skip, index-end}
 use Rattle.scc_table.proofs.Views.{count-view, list-view}
 use Rattle.scc_table.proofs.table.Table.place_from.Goals as goal

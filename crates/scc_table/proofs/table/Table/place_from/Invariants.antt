@@ -1,4 +1,4 @@
-use Rattle.std.proofs.Common.{◌≡◌, ◌≤◌, length, ℕ, ◌-◌}
+use Rattle.std.proofs.Common.{◌≡◌, ◌≤◌, length, ◌-◌}
 use Rattle.scc_table.specs.Contents.{list_of}
 use Rattle.scc_table.specs.Places.{index_of}
 use Rattle.scc_table.proofs.table.Table.place_from.Given as goal

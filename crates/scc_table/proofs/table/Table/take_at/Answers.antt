@@ -1,8 +1,6 @@
-use Rattle.std.proofs.Common.{◌≡◌, ℕ, ◌+◌, ◌^◌, ◌<◌, ◌≤◌, ◌∙◌, sym, ap, rules, arith, length, refl, set}
+use Rattle.std.proofs.Common.{◌≡◌, ◌<◌, ◌≤◌, ap, rules, arith, length}
 use Rattle.scc_table.specs.Hashing.{hash_of}
 use Rattle.scc_table.specs.Shelf.{shelf_entries}
-use Rattle.scc_table.specs.Contents.{entries}
-use Rattle.scc_table.specs.Places.{index_of}
 use Rattle.scc_table.proofs.Inserts.{read-again}
 use Rattle.scc_table.proofs.Removes.{at-least-one, removed-table, removed-exactly, removed-unique, removed-unique-flat}
 use Rattle.scc_table.proofs.Spots.{place-get, get-index}
