@@ -1,6 +1,6 @@
 -- What a bucket holds.
-use Rattle.std.specs.Prelude.{◌≡◌, ℕ, ◌-◌, ◌<◌, ◌≤◌, ◌⊎◌, List, [], ◌∷◌, ◌++◌, length, cond, nat_lt, slice_index, slice_index_or, Bool, true, refl}
-use Rattle.std.specs.List.{remove}
+use Rattle.std.specs.Prelude.{◌≡◌, ℕ, ◌+◌, ◌-◌, ◌<◌, ◌≤◌, ◌⊎◌, List, [], ◌∷◌, ◌++◌, length, drop, take, cond, nat_lt, slice_index, slice_index_or, Bool, true, refl}
+use Rattle.std.specs.List.{remove, slice_get}
 use Rattle.std.specs.Coded.{Coded, code_by, coded×, coded_ℕ, coded_list}
 
 -- the entries of the slots with their tags, those of the overflow list, and how many that list has room for
