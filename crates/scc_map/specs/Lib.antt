@@ -11,3 +11,4 @@ pub mod Entries
 pub mod EntrySteps
 pub mod Lends
 pub mod MapSteps
+pub mod MapWalks
