@@ -6,3 +6,4 @@ pub mod MapWalks
 pub mod MapWrites
 pub mod PairWrites
 pub mod Splits
+pub mod Visits

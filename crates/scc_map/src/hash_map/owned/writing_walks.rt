@@ -37,8 +37,8 @@ impl<K: Eq + Hash, V, H: BuildHasher> Owned<K, V, H> {
     {
         let mut at = self.table.first_place();
         while let Some(place) = at {
-            let _pair = self.table.take_at(place);
-            at = self.table.place_from(place);
+            let (_pair, next) = self.take_and_step(place);
+            at = next;
         }
     }
 
@@ -67,10 +67,10 @@ impl<K: Eq + Hash, V, H: BuildHasher> Owned<K, V, H> {
         let mut at = self.table.first_place();
         while let Some(place) = at {
             if self.visit(place, &mut f) {
-                at = self.table.next_place(place);
+                at = self.next_place(place);
             } else {
-                let _pair = self.table.take_at(place);
-                at = self.table.place_from(place);
+                let (_pair, next) = self.take_and_step(place);
+                at = next;
             }
         }
     }
