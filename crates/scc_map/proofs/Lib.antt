@@ -6,4 +6,5 @@ pub mod MapWalks
 pub mod MapWrites
 pub mod PairWrites
 pub mod Splits
+pub mod Takings
 pub mod Visits

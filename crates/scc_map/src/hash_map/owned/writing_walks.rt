@@ -76,7 +76,7 @@ impl<K: Eq + Hash, V, H: BuildHasher> Owned<K, V, H> {
     }
 
     /// Calls `f` on the pair at the place, with the value to write.
-    fn visit<R, F: FnMut(&K, &mut V) -> R>(&mut self, place: Place, f: &mut F) -> R
+    pub(crate) fn visit<R, F: FnMut(&K, &mut V) -> R>(&mut self, place: Place, f: &mut F) -> R
         requires within { IsPlace self.old place }
         requires callable { F.IsAlwaysCallable f.old }
         ensures callable { F.IsAlwaysCallable f.new }
