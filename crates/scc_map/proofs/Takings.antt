@@ -1,9 +1,9 @@
 -- Walks that take pairs out, pair by pair.
-use Rattle.std.proofs.Common.{◌≡◌, ℕ, suc, ◌+◌, ◌<◌, List, [], ◌∷◌, ◌++◌, length, take, drop, Bool, true, false, Option, Some, Result, Ok, Err, refl, sym, ap, ◌∙◌, arith, subst, append_assoc, append-nil, take-append-drop}
+use Rattle.std.proofs.Common.{◌≡◌, ℕ, suc, ◌+◌, ◌<◌, List, [], ◌∷◌, ◌++◌, length, take, drop, Bool, true, false, Option, Some, Result, Ok, Err, refl, sym, ap, ◌∙◌, arith, subst, append_assoc, append-nil, take-append-drop, length-append, inl, inr}
 use Rattle.std.specs.List.{slice_get, remove}
 use Rattle.scc_table.specs.Contents.{Contents, entries, list_of}
 use Rattle.scc_table.specs.Places.{IsPlace, index_of}
-use Rattle.scc_table.specs.Steps.{HoldsExactly}
+use Rattle.scc_table.specs.Steps.{Holds, HoldsExactly, Resizes}
 use Rattle.scc_table.specs.declared.errors.WalkError.{WalkError}
 use Rattle.scc_table.specs.declared.place.Place.{Place}
 use Rattle.scc_table.specs.declared.verdict.Verdict.{Verdict}
@@ -80,3 +80,18 @@ module _ {F K V S : Type 0} {T : F → K × V → Verdict → V → F → Type 0
           let front : take (index_of m p) (entries m) ++ back ≡ entries d =
           ap (λ z. z ++ back) (sym (took-before m p q w n v d out)) ∙ ap (λ z. take (index_of m p) (entries d) ++ z) (sym (took-after m p q w n v d out)) ∙ take-append-drop (index_of m p) (entries d) in
           subst (λ z. Takes T first all z (more ++ (q.0, w) ∷ []) (Ok false) f') front (calls back ((q.0, w) ∷ []) (Ok false) f' here)
+
+-- entries that stayed in their order, and were then resized
+pub holds-after : {E S : Type 0} (a b c : Contents E S) (es : List E) → HoldsExactly a es b → Resizes b c → Holds a es c
+holds-after a b c es h r = record {
+  same = rw h.exact at r.same;
+  size = record {
+    lawful = elim r.size.lawful [ inl z ↦ inl (z ∙ h.buckets) | inr z ↦ inr z ];
+    minimum = λ less. let m = r.size.minimum (rw h.buckets less) in rw h.settings at m;
+  };
+  settings = r.settings ∙ h.settings;
+}
+
+-- a list that stays as it is has nothing at its end
+pub appended-none : {X : Type 0} (xs ys more : List X) → ys ≡ xs ++ more → ys ≡ xs → length more ≡ 0
+appended-none xs ys more e s = omega (arith, length-append xs more, ap length e, ap length s)
