@@ -45,7 +45,7 @@ impl<K: Eq + Hash, V, H: BuildHasher> Owned<K, V, H> {
             if p(key, value) {
                 return Some(place);
             }
-            at = self.table.next_place(place);
+            at = self.next_place(place);
         }
         None
     }

@@ -23,6 +23,7 @@ impl<K: Eq + Hash, V, H: BuildHasher> Owned<K, V, H> {
         ensures empty { entries self.new ≡ [] }
         ensures holds { Holds self.old [] self.new }
         ensures smaller { bucket_count self.new ≢ bucket_count self.old → IsSmaller (minimum_of self.old) 0 (bucket_count self.old) (bucket_count self.new) }
+        ensures unique { IsUnique K.eq self.new }
     {
         self.take_all();
         self.table.shrink();

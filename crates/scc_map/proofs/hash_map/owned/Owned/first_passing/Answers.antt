@@ -21,7 +21,7 @@ returns-then-p g c =
 pub loop-at-smaller : goal.loop-at-smaller
 loop-at-smaller g c =
     let within : IsPlace c.args.self.now c.in-Some.place = rw c.in-Some.is at c.loop-at.invariant.within in
-    let next = reached-at c.args.self.now (suc (index_of c.args.self.now c.in-Some.place)) c.next_place-at.result (rw c.self.view_is at c.next_place-at.ensures) in
+    let next = reached-at c.args.self.now (suc (index_of c.args.self.now c.in-Some.place)) c.next_place-at.result c.next_place-at.ensures in
     rw c.in-Some.is (nearer c.args.self.now c.in-Some.place c.next_place-at.result within next.0)
 
 pub loop-at-preserved : goal.loop-at-preserved
@@ -29,7 +29,7 @@ loop-at-preserved g c =
     let m = c.args.self.now in
     let declines = rw c.in-Some.is at c.loop-at.invariant.declines in
     let here = rw c.self.view_is at c.pair_at.ensures in
-    let next = reached-at m (suc (index_of m c.in-Some.place)) c.next_place-at.result (rw c.self.view_is at c.next_place-at.ensures) in
+    let next = reached-at m (suc (index_of m c.in-Some.place)) c.next_place-at.result c.next_place-at.ensures in
     record {
       callable = search of_calls;
       within = next.1;
