@@ -30,12 +30,12 @@ pub place-prop : {E S : Type 0} (c : Contents E S) (p : Place) → IsProp (IsPla
 place-prop c p x y =
     ap (λ q. let r : IsPlace c p = record { bucket = q; slot = x.slot } in r) (le_prop x.bucket y.bucket) ∙ ap (λ q. let r : IsPlace c p = record { bucket = y.bucket; slot = q } in r) (le_prop x.slot y.slot)
 
-front-write : {E X : Type 0} (put : E → X → E) (es : List E) (i : ℕ) (w : X) → take i (write_at put es i w) ≡ take i es
+pub front-write : {E X : Type 0} (put : E → X → E) (es : List E) (i : ℕ) (w : X) → take i (write_at put es i w) ≡ take i es
 front-write put [] i w = refl
 front-write put (x ∷ es) zero w = refl
 front-write put (x ∷ es) (suc i) w = ap (λ l. x ∷ l) (front-write put es i w)
 
-back-write : {E X : Type 0} (put : E → X → E) (es : List E) (i : ℕ) (w : X) → drop (suc i) (write_at put es i w) ≡ drop (suc i) es
+pub back-write : {E X : Type 0} (put : E → X → E) (es : List E) (i : ℕ) (w : X) → drop (suc i) (write_at put es i w) ≡ drop (suc i) es
 back-write put [] i w = refl
 back-write put (x ∷ es) zero w = refl
 back-write put (x ∷ es) (suc i) w = back-write put es i w

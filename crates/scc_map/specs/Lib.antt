@@ -2,10 +2,13 @@ pub use Rattle.scc_table.specs.Contents
 pub use Rattle.scc_table.specs.Pairs
 pub use Rattle.scc_table.specs.Places
 pub use Rattle.scc_table.specs.Sizes
+pub use Rattle.scc_table.specs.Standing
 pub use Rattle.scc_table.specs.Steps
 pub use Rattle.scc_table.specs.Walks
 pub use Rattle.scc_table.specs.Writes
 pub mod Closures
 pub mod Entries
+pub mod EntrySteps
 pub mod Lends
 pub mod MapSteps
+pub mod MapWalks

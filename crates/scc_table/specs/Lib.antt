@@ -8,6 +8,7 @@ pub mod Pour
 pub mod Routing
 pub mod Shelf
 pub mod Sizes
+pub mod Standing
 pub mod Steps
 pub mod Tables
 pub mod Walks

@@ -12,6 +12,7 @@ mod making;
 mod reserving;
 mod resizing;
 mod shrinking;
+mod steps;
 mod writes;
 
 use crate::bucket::Bucket;

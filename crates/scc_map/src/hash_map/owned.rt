@@ -15,6 +15,9 @@ ghost use Rattle.scc_map.specs.Lends.{lends_value, with_pair_key};
 ghost use Rattle.scc_map.specs.MapSteps.{Inserts, Removes, Upserts};
 
 mod entry;
+mod taking_walks;
+mod walks;
+mod writing_walks;
 
 pub use entry::{Entry, OccupiedEntry, ReplaceResult, VacantEntry};
 use scc_table::{InsertError, MakeError, Place, Table};

@@ -85,10 +85,12 @@ where
         entry
     }
 
-    /// Takes the entry out of its place, with no resize: the others stay in their order.
+    /// Takes the entry out of its place, with no resize: the others stay in their order, and the one after it has as many before it as it had.
     pub fn take_at(&mut self, place: Place) -> E
         requires { IsPlace self.old place }
         ensures entry { slice_get (entries self.old) (index_of self.old place) ≡ Some result }
+        ensures follows { index_of self.new place ≡ index_of self.old place }
+        ensures list { place.slot ≤ length (list_of self.new place.bucket) }
         ensures others { HoldsExactly self.old (remove (entries self.old) (index_of self.old place)) self.new }
         ensures unique { IsUniqueBy E.Key.eq E.key_of self.new }
     {

@@ -6,6 +6,7 @@ ghost use Rattle.scc_table.specs.Places.{IsPlace};
 
 mod insertions;
 mod methods;
+mod steps;
 
 use super::Owned;
 use std::hash::{BuildHasher, BuildHasherDefault, FoldHasher, Hash};

@@ -1,11 +1,10 @@
-use Rattle.std.proofs.Common.{◌≡◌, ℕ, ◌+◌, ◌^◌, ◌<◌, ◌≤◌, ◌∙◌, sym, ap, rules, arith, length, refl, set}
+use Rattle.std.proofs.Common.{◌≡◌, ◌<◌, ◌≤◌, ap, rules, arith, length}
 use Rattle.scc_table.specs.Hashing.{hash_of}
 use Rattle.scc_table.specs.Shelf.{shelf_entries}
-use Rattle.scc_table.specs.Contents.{entries}
-use Rattle.scc_table.specs.Places.{index_of}
 use Rattle.scc_table.proofs.Inserts.{read-again}
 use Rattle.scc_table.proofs.Removes.{at-least-one, removed-table, removed-exactly, removed-unique, removed-unique-flat}
 use Rattle.scc_table.proofs.Spots.{place-get, get-index}
+use Rattle.scc_table.proofs.Standing.{taken-index, taken-list}
 use Rattle.scc_table.proofs.Views.{count-view, list-view}
 use Rattle.scc_table.proofs.table.Table.take_at.Goals as goal
 
@@ -113,3 +112,19 @@ returns-clause-unique g c =
     let got = place-get c.args.self.now c.args.place c.requires c.remove_at-entry.result
     (get-index _ c.args.place.slot c.remove_at-entry.result c.requires.slot (rw (list-view bs _ c.args.self.now c.self.view_is c.args.place.bucket b l c.index_mut.ensures.value) c.remove_at-entry.ensures.entry)) in
     removed-unique (λ e. hash_of g.H.BuildHasher g.H.Hasher.Hasher c.self.inside.hasher (g.E.Key.Hash.hash_input (g.E.Keyed.key_of e))) t.skipped t.length t.overflowing c.args.place bs c.self.invariant.table _ c.args.self.now c.self.view_is b l c.index_mut.ensures.value lk c.remove_at-entry.new.self c.remove_at-entry.ensures.others g.met.E.Key.Eq.laws g.E.Keyed.key_of c.remove_at-entry.result got c.self.invariant.unique
+
+pub returns-clause-follows : goal.returns-clause-follows
+returns-clause-follows g c =
+    let bs = c.self.inside.buckets.items in
+    let l : c.args.place.bucket < length bs = rw (count-view bs _ c.args.self.now c.self.view_is) at c.requires.bucket in
+    let b = c.index_mut.result.now in
+    let lk : c.args.place.slot < length (shelf_entries b) = rw (list-view bs _ c.args.self.now c.self.view_is c.args.place.bucket b l c.index_mut.ensures.value) at c.requires.slot in
+    taken-index c.args.place bs _ c.args.self.now c.self.view_is b l lk c.remove_at-entry.new.self c.remove_at-entry.ensures.others
+
+pub returns-clause-list : goal.returns-clause-list
+returns-clause-list g c =
+    let bs = c.self.inside.buckets.items in
+    let l : c.args.place.bucket < length bs = rw (count-view bs _ c.args.self.now c.self.view_is) at c.requires.bucket in
+    let b = c.index_mut.result.now in
+    let lk : c.args.place.slot < length (shelf_entries b) = rw (list-view bs _ c.args.self.now c.self.view_is c.args.place.bucket b l c.index_mut.ensures.value) at c.requires.slot in
+    taken-list c.args.place bs _ c.args.self.now c.self.view_is b l lk c.remove_at-entry.new.self c.remove_at-entry.ensures.others

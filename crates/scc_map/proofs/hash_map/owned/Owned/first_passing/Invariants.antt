@@ -1,0 +1,17 @@
+use Rattle.std.proofs.Common.{◌-◌, length, take, IfSome}
+use Rattle.scc_table.specs.Contents.{entries}
+use Rattle.scc_table.specs.Places.{IsPlace}
+use Rattle.scc_table.specs.Walks.{CalledOn}
+use Rattle.scc_map.specs.MapWalks.{Declines}
+use Rattle.scc_map.proofs.MapWalks.{reached}
+use Rattle.scc_map.proofs.hash_map.owned.Owned.first_passing.Given as goal
+
+abbrev pub invariant-loop-at : goal.invariant-loop-at
+invariant-loop-at g l = record {
+  callable : goal.P-IsAlwaysCallable g l.p;
+  within : IfSome l.at (IsPlace l.self);
+  declines : Declines (CalledOn g.P.FnMut) l.fn.p (take (reached l.self l.at) (entries l.self)) l.p;
+}
+
+abbrev pub decreases-loop-at : goal.decreases-loop-at
+decreases-loop-at g l = length (entries l.self) - reached l.self l.at

@@ -1,0 +1,23 @@
+use Rattle.std.proofs.Common.{◌≡◌, ◌+◌, ◌<◌, length, ap, arith, rules}
+use Rattle.std.proofs.lemmas.List.Sorted.{IsPermutation-refl}
+use Rattle.scc_table.specs.Contents.{entries, bucket_count, minimum_of}
+use Rattle.scc_table.proofs.Resizes.{smaller-by}
+use Rattle.scc_map.proofs.Takings.{appended-none, holds-after, takes-count}
+use Rattle.scc_map.proofs.hash_map.owned.Owned.iter_mut_sync.Goals as goal
+
+pub returns-then-len-before-clause-step : goal.returns-then-len-before-clause-step
+returns-then-len-before-clause-step g c =
+    let x = c.take_walk-result.ensures.step in
+    (entries c.args.self.now, x.0, x.1, x.2, IsPermutation-refl _, x.3, x.4, holds-after c.args.self.now c.take_walk-result.new.self c.shrink.new.self x.0 x.5 (rw c.self.view_is at c.shrink.ensures.resizes))
+
+pub returns-then-len-before-clause-still : goal.returns-then-len-before-clause-still
+returns-then-len-before-clause-still g c = λ same.
+    let x = c.take_walk-result.ensures.step in
+    let none = appended-none c.args.taken.now.items c.take_walk-result.new.taken.items x.1 x.4 same in
+    let fewer : length (entries c.take_walk-result.new.self) < length (entries c.args.self.now) = search rules in
+    absurd (omega (arith, none, fewer, takes-count x.3, ap length x.5.exact))
+
+pub returns-then-len-before-clause-smaller : goal.returns-then-len-before-clause-smaller
+returns-then-len-before-clause-smaller g c =
+    let held = c.take_walk-result.ensures.step.5 in
+    smaller-by c.take_walk-result.new.self c.shrink.new.self (minimum_of c.args.self.now) (bucket_count c.args.self.now) (rw c.self.view_is at c.shrink.ensures.shrinks) (ap (λ s. s.asked + s.reserved) held.settings) held.buckets

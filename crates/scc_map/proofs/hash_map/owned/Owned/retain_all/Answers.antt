@@ -1,0 +1,80 @@
+use Rattle.std.proofs.Common.{◌≡◌, ◌∙◌, ◌++◌, [], sym, ap, refl, suc, length, drop, take, subst, append-nil, of_calls}
+use Rattle.scc_table.specs.Contents.{entries}
+use Rattle.scc_table.specs.Places.{IsPlace}
+use Rattle.scc_map.specs.MapWalks.{CalledToWrite, Retains, ended}
+use Rattle.scc_map.proofs.EntrySteps.{drop-all}
+use Rattle.scc_map.proofs.MapWalks.{reached-first, take-all}
+use Rattle.scc_map.proofs.Visits.{visited, kept-next, kept-nearer, took-next, took-nearer, retains-kept, retains-removed}
+use Rattle.scc_map.proofs.hash_map.owned.Owned.retain_all.Goals as goal
+
+pub loop-at-init : goal.loop-at-init
+loop-at-init g c =
+    let start = reached-first c.args.self.now c.first_place-at.result (rw c.self.view_is at c.first_place-at.ensures) in
+    record { callable = c.requires; within = start.1; buckets = refl; settings = refl; calls = λ stay last r. rw start.0 (rw start.0 at r) }
+
+pub next_place-at-requires : goal.next_place-at-requires
+next_place-at-requires g c =
+    let x = c.if-visit.ensures.called in
+    let within = rw c.in-Some.is at c.loop-at.invariant.within in
+    (visited c.loop-at.self c.in-Some.place x.0 x.1 c.visit.new.self within x.2 x.4).within
+
+pub loop-at-smaller-then-visit : goal.loop-at-smaller-then-visit
+loop-at-smaller-then-visit g c =
+    let x = c.if-visit.ensures.called in
+    let within = rw c.in-Some.is at c.loop-at.invariant.within in
+    let v = visited c.loop-at.self c.in-Some.place x.0 x.1 c.visit.new.self within x.2 x.4 in
+    let next = kept-next c.loop-at.self c.in-Some.place x.0 x.1 c.visit.new.self v c.next_place-at.result c.next_place-at.ensures in
+    rw c.in-Some.is (kept-nearer c.loop-at.self c.in-Some.place x.0 x.1 c.visit.new.self v c.next_place-at.result within next.0)
+
+pub loop-at-preserved-then-visit : goal.loop-at-preserved-then-visit
+loop-at-preserved-then-visit g c =
+    let x = c.if-visit.ensures.called in
+    let within = rw c.in-Some.is at c.loop-at.invariant.within in
+    let v = visited c.loop-at.self c.in-Some.place x.0 x.1 c.visit.new.self within x.2 x.4 in
+    let next = kept-next c.loop-at.self c.in-Some.place x.0 x.1 c.visit.new.self v c.next_place-at.result c.next_place-at.ensures in
+    record {
+      callable = c.visit.ensures.callable;
+      within = next.1;
+      buckets = v.buckets ∙ c.loop-at.invariant.buckets;
+      settings = v.settings ∙ c.loop-at.invariant.settings;
+      calls = retains-kept c.args.f (entries c.args.self.now) c.loop-at.self c.in-Some.place c.loop-at.f c.visit.new.f x.0 x.1 c.visit.new.self v (rw c.in-Some.is at c.loop-at.invariant.calls) x.3 c.next_place-at.result next.0;
+    }
+
+pub take_and_step-pair-requires : goal.take_and_step-pair-requires
+take_and_step-pair-requires g c =
+    let x = c.if-visit.ensures.called in
+    let within = rw c.in-Some.is at c.loop-at.invariant.within in
+    (visited c.loop-at.self c.in-Some.place x.0 x.1 c.visit.new.self within x.2 x.4).within
+
+pub loop-at-smaller : goal.loop-at-smaller
+loop-at-smaller g c =
+    let x = c.if-visit.ensures.called in
+    let within = rw c.in-Some.is at c.loop-at.invariant.within in
+    let v = visited c.loop-at.self c.in-Some.place x.0 x.1 c.visit.new.self within x.2 x.4 in
+    let d = c.take_and_step-pair.new.self in
+    let next = took-next c.loop-at.self c.in-Some.place x.0 x.1 c.visit.new.self v d c.take_and_step-pair.ensures.others c.take_and_step-pair.result.1 c.take_and_step-pair.ensures.next in
+    rw c.in-Some.is (took-nearer c.loop-at.self c.in-Some.place x.0 x.1 c.visit.new.self v d c.take_and_step-pair.ensures.others c.take_and_step-pair.result.1 within next.0)
+
+pub loop-at-preserved : goal.loop-at-preserved
+loop-at-preserved g c =
+    let x = c.if-visit.ensures.called in
+    let within = rw c.in-Some.is at c.loop-at.invariant.within in
+    let v = visited c.loop-at.self c.in-Some.place x.0 x.1 c.visit.new.self within x.2 x.4 in
+    let d = c.take_and_step-pair.new.self in
+    let others = c.take_and_step-pair.ensures.others in
+    let next = took-next c.loop-at.self c.in-Some.place x.0 x.1 c.visit.new.self v d others c.take_and_step-pair.result.1 c.take_and_step-pair.ensures.next in
+    record {
+      callable = c.visit.ensures.callable;
+      within = next.1;
+      buckets = others.buckets ∙ v.buckets ∙ c.loop-at.invariant.buckets;
+      settings = others.settings ∙ v.settings ∙ c.loop-at.invariant.settings;
+      calls = retains-removed c.args.f (entries c.args.self.now) c.loop-at.self c.in-Some.place c.loop-at.f c.visit.new.f x.0 x.1 c.visit.new.self v (rw c.in-Some.is at c.loop-at.invariant.calls) x.3 d others c.take_and_step-pair.result.1 next.0;
+    }
+
+pub returns : goal.returns
+returns g c =
+    let es = entries c.loop-at.self in
+    let calls = rw c.in_default.is at c.loop-at.invariant.calls in
+    let run : Retains (CalledToWrite g.F.FnMut) c.loop-at.f (drop (length es) es) [] c.loop-at.f = rw (drop-all es (length es) refl) ended in
+    let front : take (length es) es ++ [] ≡ es = append-nil _ ∙ take-all es (length es) refl in
+    (es, c.loop-at.f, subst (λ z. Retains (CalledToWrite g.F.FnMut) c.args.f (entries c.args.self.now) z c.loop-at.f) front (calls [] c.loop-at.f run), record { exact = refl; buckets = c.loop-at.invariant.buckets; settings = c.loop-at.invariant.settings })

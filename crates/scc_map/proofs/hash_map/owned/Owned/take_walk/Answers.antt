@@ -1,0 +1,143 @@
+use Rattle.std.proofs.Common.{◌≡◌, ◌≤◌, ◌∙◌, ◌++◌, ◌∷◌, [], sym, ap, refl, suc, length, drop, take, subst, append-nil, append_assoc, arith, rules, true, Ok}
+use Rattle.scc_table.specs.Contents.{entries}
+use Rattle.scc_table.specs.Places.{IsPlace}
+use Rattle.scc_map.specs.MapWalks.{CalledToWrite, Takes, ended}
+use Rattle.scc_map.proofs.EntrySteps.{drop-all}
+use Rattle.scc_map.proofs.MapWalks.{reached-first, take-all}
+use Rattle.scc_map.proofs.Takings.{took-pair, takes-refused, takes-kept, takes-kept_last, takes-took, takes-took_last}
+use Rattle.scc_map.proofs.Visits.{visited, kept-next, kept-nearer, took-next, took-nearer}
+use Rattle.scc_map.proofs.hash_map.owned.Owned.take_walk.Goals as goal
+
+pub loop-at-init : goal.loop-at-init
+loop-at-init g c =
+    let start = reached-first c.args.self.now c.first_place-at.result (rw c.self.view_is at c.first_place-at.ensures) in
+    record { callable = c.requires; within = start.1; buckets = refl; settings = refl; room = omega arith; calls = ([], sym (append-nil _), λ stay next r last run. rw start.0 (rw start.0 at run)) }
+
+pub returns-in-Err-clause-step : goal.returns-in-Err-clause-step
+returns-in-Err-clause-step g c =
+    let within = rw c.in-Some.is at c.loop-at.invariant.within in
+    let calls = rw c.in-Some.is at c.loop-at.invariant.calls in (
+      entries c.loop-at.self,
+      calls.0,
+      c.loop-at.f,
+      takes-refused c.args.f (entries c.args.self.now) c.loop-at.self c.in-Some.place c.loop-at.f calls.0 calls.2 within _,
+      c.in-Err.ensures.items ∙ calls.1,
+      record { exact = refl; buckets = c.loop-at.invariant.buckets; settings = c.loop-at.invariant.settings },
+    )
+
+pub next_place-at-requires : goal.next_place-at-requires
+next_place-at-requires g c =
+    let x = c.in-Keep.ensures.called in
+    let within = rw c.in-Some.is at c.loop-at.invariant.within in
+    (visited c.loop-at.self c.in-Some.place x.0 x.1 c.visit.new.self within x.2 x.4).within
+
+pub loop-at-smaller-in-Keep : goal.loop-at-smaller-in-Keep
+loop-at-smaller-in-Keep g c =
+    let x = c.in-Keep.ensures.called in
+    let within = rw c.in-Some.is at c.loop-at.invariant.within in
+    let v = visited c.loop-at.self c.in-Some.place x.0 x.1 c.visit.new.self within x.2 x.4 in
+    let next = kept-next c.loop-at.self c.in-Some.place x.0 x.1 c.visit.new.self v c.next_place-at.result c.next_place-at.ensures in
+    rw c.in-Some.is (kept-nearer c.loop-at.self c.in-Some.place x.0 x.1 c.visit.new.self v c.next_place-at.result within next.0)
+
+pub loop-at-preserved-in-Keep : goal.loop-at-preserved-in-Keep
+loop-at-preserved-in-Keep g c =
+    let x = c.in-Keep.ensures.called in
+    let within = rw c.in-Some.is at c.loop-at.invariant.within in
+    let calls = rw c.in-Some.is at c.loop-at.invariant.calls in
+    let v = visited c.loop-at.self c.in-Some.place x.0 x.1 c.visit.new.self within x.2 x.4 in
+    let next = kept-next c.loop-at.self c.in-Some.place x.0 x.1 c.visit.new.self v c.next_place-at.result c.next_place-at.ensures in
+    record {
+      callable = c.visit.ensures.callable;
+      within = next.1;
+      buckets = v.buckets ∙ c.loop-at.invariant.buckets;
+      settings = v.settings ∙ c.loop-at.invariant.settings;
+      room = omega (arith, c.loop-at.invariant.room, c.reserve.ensures.capacity);
+      calls = (calls.0, c.reserve.ensures.items ∙ calls.1, takes-kept c.args.f (entries c.args.self.now) c.loop-at.self c.in-Some.place c.loop-at.f calls.0 calls.2 c.visit.new.f x.0 x.1 c.visit.new.self v x.3 c.next_place-at.result next.0);
+    }
+
+pub take_into-at-requires-clause-within : goal.take_into-at-requires-clause-within
+take_into-at-requires-clause-within g c =
+    let x = c.in-Take.ensures.called in
+    let within = rw c.in-Some.is at c.loop-at.invariant.within in
+    (visited c.loop-at.self c.in-Some.place x.0 x.1 c.visit.new.self within x.2 x.4).within
+
+pub loop-at-smaller : goal.loop-at-smaller
+loop-at-smaller g c =
+    let x = c.in-Take.ensures.called in
+    let within = rw c.in-Some.is at c.loop-at.invariant.within in
+    let v = visited c.loop-at.self c.in-Some.place x.0 x.1 c.visit.new.self within x.2 x.4 in
+    let d = c.take_into-at.new.self in
+    let others = c.take_into-at.ensures.others in
+    let next = took-next c.loop-at.self c.in-Some.place x.0 x.1 c.visit.new.self v d others c.take_into-at.result c.take_into-at.ensures.next in
+    rw c.in-Some.is (took-nearer c.loop-at.self c.in-Some.place x.0 x.1 c.visit.new.self v d others c.take_into-at.result within next.0)
+
+pub loop-at-preserved : goal.loop-at-preserved
+loop-at-preserved g c =
+    let x = c.in-Take.ensures.called in
+    let within = rw c.in-Some.is at c.loop-at.invariant.within in
+    let calls = rw c.in-Some.is at c.loop-at.invariant.calls in
+    let v = visited c.loop-at.self c.in-Some.place x.0 x.1 c.visit.new.self within x.2 x.4 in
+    let d = c.take_into-at.new.self in
+    let others = c.take_into-at.ensures.others in
+    let out = c.take_into-at.ensures.taken in
+    let pair = took-pair c.loop-at.self c.in-Some.place x.0 x.1 c.visit.new.self v out.0 out.1 in
+    let next = took-next c.loop-at.self c.in-Some.place x.0 x.1 c.visit.new.self v d others c.take_into-at.result c.take_into-at.ensures.next in
+    record {
+      callable = c.visit.ensures.callable;
+      within = next.1;
+      buckets = others.buckets ∙ v.buckets ∙ c.loop-at.invariant.buckets;
+      settings = others.settings ∙ v.settings ∙ c.loop-at.invariant.settings;
+      room = omega (arith, c.loop-at.invariant.room, c.reserve.ensures.capacity, c.take_into-at.ensures.capacity);
+      calls = (
+        calls.0 ++ (x.0.0, x.1) ∷ [],
+        out.2 ∙ ap (λ z. c.reserve.new.self.items ++ z ∷ []) pair ∙ ap (λ z. z ++ (x.0.0, x.1) ∷ []) (c.reserve.ensures.items ∙ calls.1) ∙ append_assoc c.args.taken.now.items calls.0 _,
+        takes-took c.args.f (entries c.args.self.now) c.loop-at.self c.in-Some.place c.loop-at.f calls.0 calls.2 c.visit.new.f x.0 x.1 c.visit.new.self v d others x.3 c.take_into-at.result next.0,
+      );
+    }
+
+pub returns-in-KeepStop-clause-step : goal.returns-in-KeepStop-clause-step
+returns-in-KeepStop-clause-step g c =
+    let x = c.in-KeepStop.ensures.called in
+    let within = rw c.in-Some.is at c.loop-at.invariant.within in
+    let calls = rw c.in-Some.is at c.loop-at.invariant.calls in
+    let v = visited c.loop-at.self c.in-Some.place x.0 x.1 c.visit.new.self within x.2 x.4 in (
+      entries c.visit.new.self,
+      calls.0,
+      c.visit.new.f,
+      takes-kept_last c.args.f (entries c.args.self.now) c.loop-at.self c.in-Some.place c.loop-at.f calls.0 calls.2 c.visit.new.f x.0 x.1 c.visit.new.self v x.3,
+      c.reserve.ensures.items ∙ calls.1,
+      record { exact = refl; buckets = v.buckets ∙ c.loop-at.invariant.buckets; settings = v.settings ∙ c.loop-at.invariant.settings },
+    )
+
+pub take_into-requires-clause-within : goal.take_into-requires-clause-within
+take_into-requires-clause-within g c =
+    let x = c.in-TakeStop.ensures.called in
+    let within = rw c.in-Some.is at c.loop-at.invariant.within in
+    (visited c.loop-at.self c.in-Some.place x.0 x.1 c.visit.new.self within x.2 x.4).within
+
+pub returns-in-TakeStop-clause-step : goal.returns-in-TakeStop-clause-step
+returns-in-TakeStop-clause-step g c =
+    let x = c.in-TakeStop.ensures.called in
+    let within = rw c.in-Some.is at c.loop-at.invariant.within in
+    let calls = rw c.in-Some.is at c.loop-at.invariant.calls in
+    let v = visited c.loop-at.self c.in-Some.place x.0 x.1 c.visit.new.self within x.2 x.4 in
+    let d = c.take_into.new.self in
+    let others = c.take_into.ensures.others in
+    let out = c.take_into.ensures.taken in
+    let pair = took-pair c.loop-at.self c.in-Some.place x.0 x.1 c.visit.new.self v out.0 out.1 in (
+      entries d,
+      calls.0 ++ (x.0.0, x.1) ∷ [],
+      c.visit.new.f,
+      takes-took_last c.args.f (entries c.args.self.now) c.loop-at.self c.in-Some.place c.loop-at.f calls.0 calls.2 c.visit.new.f x.0 x.1 c.visit.new.self v d others x.3,
+      out.2 ∙ ap (λ z. c.reserve.new.self.items ++ z ∷ []) pair ∙ ap (λ z. z ++ (x.0.0, x.1) ∷ []) (c.reserve.ensures.items ∙ calls.1) ∙ append_assoc c.args.taken.now.items calls.0 _,
+      record { exact = refl; buckets = others.buckets ∙ v.buckets ∙ c.loop-at.invariant.buckets; settings = others.settings ∙ v.settings ∙ c.loop-at.invariant.settings },
+    )
+
+pub returns-clause-step : goal.returns-clause-step
+returns-clause-step g c =
+    let es = entries c.loop-at.self in
+    let calls = rw c.in_default.is at c.loop-at.invariant.calls in
+    let run : Takes (CalledToWrite g.F.FnMut) c.loop-at.f (drop (length es) es) [] [] (Ok true) c.loop-at.f = rw (drop-all es (length es) refl) ended in
+    let front : take (length es) es ++ [] ≡ es = append-nil _ ∙ take-all es (length es) refl in
+    let all = subst (λ z. Takes (CalledToWrite g.F.FnMut) c.args.f (entries c.args.self.now) z (calls.0 ++ []) (Ok true) c.loop-at.f) front (calls.2 [] [] (Ok true) c.loop-at.f run) in
+    (es, calls.0, c.loop-at.f, subst (λ z. Takes (CalledToWrite g.F.FnMut) c.args.f (entries c.args.self.now) es z (Ok true) c.loop-at.f) (append-nil calls.0) all, calls.1, record { exact = refl; buckets = c.loop-at.invariant.buckets; settings = c.loop-at.invariant.settings })

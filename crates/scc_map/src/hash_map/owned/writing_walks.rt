@@ -1,0 +1,89 @@
+//! Walks that write into the pairs of a map, and take pairs out of it.
+ghost use Rattle.std.specs.Prelude.{◌≡◌, ◌≢◌, ◌++◌, List, [], length, Some, slice_get};
+ghost use Rattle.std.specs.List.Sorted.{IsPermutation};
+ghost use Rattle.scc_table.specs.Contents.{entries, bucket_count, minimum_of};
+ghost use Rattle.scc_table.specs.Pairs.{IsUnique};
+ghost use Rattle.scc_table.specs.Places.{IsPlace, index_of};
+ghost use Rattle.scc_table.specs.Sizes.{IsSmaller};
+ghost use Rattle.scc_table.specs.Steps.{Holds, HoldsExactly};
+ghost use Rattle.scc_table.specs.Writes.{with_write_at};
+ghost use Rattle.scc_map.specs.Lends.{with_pair_value};
+ghost use Rattle.scc_map.specs.MapWalks.{CalledToWrite, Retains};
+
+use super::Owned;
+use scc_table::Place;
+use std::hash::{BuildHasher, Hash};
+
+impl<K: Eq + Hash, V, H: BuildHasher> Owned<K, V, H> {
+    /// Takes out all pairs. Then the array may become smaller.
+    pub fn clear_sync(&mut self)
+    where
+        K: Drop,
+        V: Drop,
+        ensures empty { entries self.new ≡ [] }
+        ensures holds { Holds self.old [] self.new }
+        ensures smaller { bucket_count self.new ≢ bucket_count self.old → IsSmaller (minimum_of self.old) 0 (bucket_count self.old) (bucket_count self.new) }
+        ensures unique { IsUnique K.eq self.new }
+    {
+        self.take_all();
+        self.table.shrink();
+    }
+
+    /// Takes out all pairs, with no resize.
+    fn take_all(&mut self)
+    where
+        K: Drop,
+        V: Drop,
+        ensures { HoldsExactly self.old [] self.new }
+    {
+        let mut at = self.table.first_place();
+        while let Some(place) = at {
+            let (_pair, next) = self.take_and_step(place);
+            at = next;
+        }
+    }
+
+    /// Calls `f` on every pair once, in some order, with the value to write, and takes out the pairs on which it answers false. Then the array may become smaller.
+    pub fn retain_sync<F: FnMut(&K, &mut V) -> bool>(&mut self, f: F)
+    where
+        K: Drop,
+        V: Drop,
+        requires { F.IsAlwaysCallable f }
+        ensures step { (es : List (K × V)) × (stay : List (K × V)) × (last : F) × IsPermutation (entries self.old) es × Retains (CalledToWrite F.FnMut) f es stay last × Holds self.old stay self.new }
+        ensures smaller { bucket_count self.new ≢ bucket_count self.old → IsSmaller (minimum_of self.old) (length (entries self.new)) (bucket_count self.old) (bucket_count self.new) }
+        ensures unique { IsUnique K.eq self.new }
+    {
+        self.retain_all(f);
+        self.table.shrink();
+    }
+
+    /// The same in the order of the list, with no resize.
+    fn retain_all<F: FnMut(&K, &mut V) -> bool>(&mut self, mut f: F)
+    where
+        K: Drop,
+        V: Drop,
+        requires { F.IsAlwaysCallable f }
+        ensures { (stay : List (K × V)) × (last : F) × Retains (CalledToWrite F.FnMut) f (entries self.old) stay last × HoldsExactly self.old stay self.new }
+    {
+        let mut at = self.table.first_place();
+        while let Some(place) = at {
+            if self.visit(place, &mut f) {
+                at = self.next_place(place);
+            } else {
+                let (_pair, next) = self.take_and_step(place);
+                at = next;
+            }
+        }
+    }
+
+    /// Calls `f` on the pair at the place, with the value to write.
+    pub(crate) fn visit<R, F: FnMut(&K, &mut V) -> R>(&mut self, place: Place, f: &mut F) -> R
+        requires within { IsPlace self.old place }
+        requires callable { F.IsAlwaysCallable f.old }
+        ensures callable { F.IsAlwaysCallable f.new }
+        ensures called { (p : K × V) × (w : V) × (slice_get (entries self.old) (index_of self.old place) ≡ Some p) × CalledToWrite F.FnMut f.old p result w f.new × (self.new ≡ with_write_at with_pair_value self.old place w) }
+    {
+        let (key, value) = self.parts_mut_at(place);
+        f(key, value)
+    }
+}
