@@ -1,16 +1,13 @@
 -- Entries that stand one after another.
-use Rattle.std.proofs.Common.{◌≡◌, ℕ, zero, suc, ◌<◌, List, [], ◌∷◌, ◌++◌, length, take, drop, None, Some, refl, sym, ap, ◌∙◌, arith}
-use Rattle.std.specs.Borrow.{MutBor}
+use Rattle.std.proofs.Common.{◌≡◌, ℕ, zero, suc, List, [], ◌∷◌, ◌++◌, length, take, drop, None, Some, refl, sym, ap, ◌∙◌, arith}
 use Rattle.std.specs.List.{slice_get, remove}
 use Rattle.std.specs.declared.cmp.PartialEq as eq
 use Rattle.std.specs.declared.hash.Hash as hash
 use Rattle.std.specs.declared.hash.Hasher as hasher
 use Rattle.std.specs.declared.hash.BuildHasher as builder
 use Rattle.scc_table.specs.Contents.{Contents, entries}
-use Rattle.scc_table.specs.Places.{IsPlace, index_of}
-use Rattle.scc_table.specs.Standing.{StandsAt}
+use Rattle.scc_table.specs.Places.{index_of}
 use Rattle.scc_table.specs.Steps.{HoldsExactly}
-use Rattle.scc_table.specs.declared.place.Place.{Place}
 use Rattle.scc_map.specs.Entries.{place_of, occupied_pair, occupied_front, occupied_back}
 use Rattle.scc_map.specs.EntrySteps.{StandsIn, IsNext, IsNextPastRemoved}
 use Rattle.scc_map.specs.declared.hash_map.owned.entry.OccupiedEntry.{OccupiedEntry}

@@ -1,6 +1,5 @@
 -- Walks that go on by one pair.
-use Rattle.std.proofs.Common.{◌≡◌, ℕ, zero, suc, ◌<◌, ◌≤◌, ◌-◌, List, [], ◌∷◌, ◌++◌, length, take, drop, Bool, true, false, Option, None, Some, MatchOption, IfSome, refl, sym, ap, ◌∙◌, arith}
-use Rattle.std.specs.List.{slice_get, remove}
+use Rattle.std.proofs.Common.{◌≡◌, ℕ, zero, suc, ◌<◌, ◌-◌, List, [], ◌∷◌, ◌++◌, length, take, Bool, false, Option, None, Some, MatchOption, IfSome, refl, sym, ap, arith}
 use Rattle.std.specs.declared.cmp.PartialEq as eq
 use Rattle.std.specs.declared.hash.Hash as hash
 use Rattle.std.specs.declared.hash.Hasher as hasher
@@ -13,8 +12,7 @@ use Rattle.scc_table.proofs.Standing.{index-below}
 use Rattle.scc_map.specs.Entries.{place_of, occupied_pair, occupied_front}
 use Rattle.scc_map.specs.declared.hash_map.owned.entry.OccupiedEntry.{OccupiedEntry}
 use Rattle.scc_map.proofs.Entries.{pair-is}
-use Rattle.scc_map.specs.MapWalks.{Declines, ended, went_on, PassesAt, PassesFirst, PassesNone}
-use Rattle.scc_map.proofs.EntrySteps.{take-more, drop-here}
+use Rattle.scc_map.specs.MapWalks.{Declines, ended, went_on, PassesAt, PassesFirst}
 
 -- how many pairs stand before the place of a walk, all where it is over
 abbrev pub reached : {E S : Type 0} → Contents E S → Option Place → ℕ

@@ -1,5 +1,5 @@
 -- Walks that take pairs out, pair by pair.
-use Rattle.std.proofs.Common.{◌≡◌, ℕ, suc, ◌+◌, ◌<◌, List, [], ◌∷◌, ◌++◌, length, take, drop, Bool, true, false, Option, Some, Result, Ok, Err, refl, sym, ap, ◌∙◌, arith, subst, append_assoc, append-nil, take-append-drop, length-append, inl, inr}
+use Rattle.std.proofs.Common.{◌≡◌, suc, ◌+◌, List, [], ◌∷◌, ◌++◌, length, take, drop, Bool, false, Option, Some, Result, Ok, Err, refl, sym, ap, ◌∙◌, arith, subst, append_assoc, append-nil, take-append-drop, length-append, inl, inr}
 use Rattle.std.specs.List.{slice_get, remove}
 use Rattle.scc_table.specs.Contents.{Contents, entries, list_of}
 use Rattle.scc_table.specs.Places.{IsPlace, index_of}

@@ -1,5 +1,5 @@
 -- A pair that was visited in a walk: it stays with what was written, or is taken out.
-use Rattle.std.proofs.Common.{◌≡◌, ℕ, zero, suc, ◌<◌, ◌≤◌, ◌-◌, List, [], ◌∷◌, ◌++◌, length, take, drop, Bool, true, false, Option, None, Some, MatchOption, IfSome, refl, sym, ap, ◌∙◌, arith, subst, append_assoc}
+use Rattle.std.proofs.Common.{◌≡◌, ℕ, zero, suc, ◌<◌, ◌-◌, List, [], ◌∷◌, ◌++◌, length, take, drop, Bool, true, false, Option, None, Some, MatchOption, IfSome, refl, sym, ap, ◌∙◌, arith, subst, append_assoc}
 use Rattle.std.specs.List.{slice_get, remove}
 use Rattle.scc_table.specs.Contents.{Contents, entries, bucket_count, settings_of, list_of}
 use Rattle.scc_table.specs.Places.{IsPlace, index_of}
@@ -9,7 +9,7 @@ use Rattle.scc_table.specs.Writes.{write_at, with_write_at, IsPlace-with_write_a
 use Rattle.scc_table.specs.declared.place.Place.{Place}
 use Rattle.scc_table.proofs.Standing.{index-below}
 use Rattle.scc_table.proofs.WritingTables.{exactly-write}
-use Rattle.scc_map.specs.Entries.{at, at-get}
+use Rattle.scc_map.specs.Entries.{at-get}
 use Rattle.scc_map.specs.Lends.{with_pair_value}
 use Rattle.scc_map.specs.MapWalks.{Retains, kept, removed}
 use Rattle.scc_map.proofs.Entries.{front-write, back-write}

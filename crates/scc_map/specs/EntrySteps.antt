@@ -1,6 +1,6 @@
 -- Which entries of a list an occupied entry stands between, and which stands next.
-use Rattle.std.specs.Prelude.{◌≡◌, List, [], ◌∷◌, ◌++◌, Result}
-use Rattle.std.specs.Borrow.{Fml, RattleType, MutBor, RestsIfErr}
+use Rattle.std.specs.Prelude.{◌≡◌, [], ◌∷◌, ◌++◌, Result}
+use Rattle.std.specs.Borrow.{Fml, RattleType, RestsIfErr}
 use Rattle.std.specs.HashMap.Lent.{HashMembers}
 use Rattle.std.specs.declared.cmp.PartialEq as eq
 use Rattle.std.specs.declared.hash.Hash as hash

@@ -1,5 +1,4 @@
 use Rattle.std.proofs.Common.{refl, sym, ap, ◌∙◌}
-use Rattle.scc_table.specs.Contents.{entries}
 use Rattle.scc_table.specs.Places.{index_of}
 use Rattle.scc_map.proofs.EntrySteps.{stands-in, front-none}
 use Rattle.scc_map.proofs.hash_map.owned.Owned.begin_sync.Goals as goal

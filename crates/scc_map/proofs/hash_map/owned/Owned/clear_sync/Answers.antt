@@ -1,4 +1,4 @@
-use Rattle.std.proofs.Common.{◌≡◌, ◌∙◌, length, sym, ap, refl}
+use Rattle.std.proofs.Common.{◌∙◌, length, sym, ap}
 use Rattle.scc_table.specs.Contents.{entries}
 use Rattle.std.proofs.lemmas.List.Sorted.{length_permutation}
 use Rattle.scc_table.proofs.Standing.{length-zero}

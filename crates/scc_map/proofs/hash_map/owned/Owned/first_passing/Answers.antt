@@ -1,9 +1,9 @@
-use Rattle.std.proofs.Common.{◌≡◌, ◌∙◌, sym, ap, refl, length, take, suc, of_calls, Some}
+use Rattle.std.proofs.Common.{refl, length, take, suc, of_calls}
 use Rattle.scc_table.specs.Contents.{entries}
 use Rattle.scc_table.specs.Places.{IsPlace, index_of}
 use Rattle.scc_map.specs.MapWalks.{ended}
 use Rattle.scc_map.proofs.EntrySteps.{take-more}
-use Rattle.scc_map.proofs.MapWalks.{declines-more, nearer, reached, reached-at, reached-first, take-all}
+use Rattle.scc_map.proofs.MapWalks.{declines-more, nearer, reached-at, reached-first, take-all}
 use Rattle.scc_map.proofs.hash_map.owned.Owned.first_passing.Goals as goal
 
 pub loop-at-init : goal.loop-at-init

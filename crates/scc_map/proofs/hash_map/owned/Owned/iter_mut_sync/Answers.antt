@@ -1,4 +1,4 @@
-use Rattle.std.proofs.Common.{◌≡◌, ◌+◌, ◌<◌, length, ap, arith, rules}
+use Rattle.std.proofs.Common.{◌+◌, ◌<◌, length, ap, arith, rules}
 use Rattle.std.proofs.lemmas.List.Sorted.{IsPermutation-refl}
 use Rattle.scc_table.specs.Contents.{entries, bucket_count, minimum_of}
 use Rattle.scc_table.proofs.Resizes.{smaller-by}

@@ -1,6 +1,5 @@
-use Rattle.std.proofs.Common.{◌≡◌, ◌∙◌, ◌++◌, [], sym, ap, refl, suc, length, drop, take, subst, append-nil, of_calls}
+use Rattle.std.proofs.Common.{◌≡◌, ◌∙◌, ◌++◌, [], refl, length, drop, take, subst, append-nil}
 use Rattle.scc_table.specs.Contents.{entries}
-use Rattle.scc_table.specs.Places.{IsPlace}
 use Rattle.scc_map.specs.MapWalks.{CalledToWrite, Retains, ended}
 use Rattle.scc_map.proofs.EntrySteps.{drop-all}
 use Rattle.scc_map.proofs.MapWalks.{reached-first, take-all}

@@ -1,4 +1,4 @@
-use Rattle.std.proofs.Common.{◌≡◌, ◌∙◌, sym, ap, refl}
+use Rattle.std.proofs.Common.{refl}
 use Rattle.scc_map.proofs.MapWalks.{reached-first}
 use Rattle.scc_map.proofs.hash_map.owned.Owned.take_all.Goals as goal
 
