@@ -7,7 +7,7 @@ use Rattle.std.specs.Str.{bytes_eq}
 use Rattle.std.specs.Str.Lines.{strip_carriage_return}
 use Rattle.std.specs.Str.Parse.{digits_value}
 use Rattle.scc_recorded.specs.declared.recorded.calls_as_values.MapCall.{MapCall}
-use Rattle.scc_recorded.specs.declared.recorded.calls_as_values.MapCall.TheVariants.{Insert, Upsert, Replace, Read, Contains, Remove, Len}
+use Rattle.scc_recorded.specs.declared.recorded.calls_as_values.MapCall.TheVariants.{Insert, Upsert, Replace, Read, Contains, Remove, Clear, Len}
 
 -- a call on a map from numbers to numbers
 abbrev pub Call : Type 0
@@ -39,7 +39,10 @@ if_number (Some n) f = f n
 -- Calls: their names, by the number of their arguments
 
 abbrev pub bare_call_of : List ℕ → Option Call
-bare_call_of name = cond (bytes_eq name (codes "len")) (Some Len) None
+bare_call_of name =
+    cond (bytes_eq name (codes "len")) (Some Len)
+    (cond (bytes_eq name (codes "clear")) (Some Clear)
+    None)
 
 abbrev pub key_call_of : List ℕ → ℕ → Option Call
 key_call_of name key =

@@ -12,6 +12,8 @@ fn bare_call(name: &[u8]) -> Option<MapCall<u64, u64>>
 {
     if name == b"len".as_slice() {
         Some(MapCall::Len)
+    } else if name == b"clear".as_slice() {
+        Some(MapCall::Clear)
     } else {
         None
     }

@@ -1,15 +1,22 @@
 -- The calls of a map as calls on its state.
-use Rattle.std.proofs.Common.{◌≡◌, ℕ, Bool, ◌∷◌, Option, None, Some, Ok, refl, ap}
+use Rattle.std.proofs.Common.{◌≡◌, ℕ, suc, arith, length, List, [], Bool, ◌∷◌, Option, None, Some, Ok, refl, ap}
+use Rattle.std.specs.List.Sorted.{IsPermutation}
+use Rattle.std.proofs.lemmas.List.Sorted.{length_permutation}
 use Rattle.std.specs.Map.{set_value}
 use Rattle.scc_table.specs.Contents.{Contents, entries, settings_of}
 use Rattle.scc_table.specs.Pairs.{without}
+use Rattle.scc_table.specs.Steps.{Holds}
 use Rattle.scc_map.specs.MapSteps.{Inserts, Upserts, Removes}
 use Rattle.scc_recorded.specs.Changes.{Changes}
 use Rattle.scc_recorded.specs.States.{ResizesTo, state_of, setting_of, setting_by}
 use Rattle.scc_recorded.specs.MapCalls.{MapMoves}
-use Rattle.scc_recorded.specs.declared.recorded.calls_as_values.MapCall.TheVariants.{Insert, Upsert, Remove}
-use Rattle.scc_recorded.specs.declared.recorded.replies.Reply.TheVariants.{Inserted, Old, Pair}
+use Rattle.scc_recorded.specs.declared.recorded.calls_as_values.MapCall.TheVariants.{Insert, Upsert, Remove, Clear}
+use Rattle.scc_recorded.specs.declared.recorded.replies.Reply.TheVariants.{Inserted, Old, Pair, Cleared}
 use Rattle.scc_recorded.proofs.States.{holds-changes, exactly-changes, unchanged-changes}
+
+none-left : {E : Type 0} (l : List E) → IsPermutation [] l → l ≡ []
+none-left [] p = refl
+none-left (x ∷ l) p = absurd (let n : suc (length l) ≡ 0 = length_permutation [] (x ∷ l) p in omega (arith, n))
 
 module _ {K V H : Type 0} (eq : K → K → Bool) (hash : H → K → ℕ) (c d : Contents (K × V) H) where
   -- an insertion of a new key
@@ -24,6 +31,10 @@ module _ {K V H : Type 0} (eq : K → K → Bool) (hash : H → K → ℕ) (c d 
   upserted k v (Some w) h = exactly-changes (MapMoves eq) (Upsert k v) (Old (Some w)) c d (set_value (eq k) (entries c) v) h.2 (λ e b. (h.0, h.1, e, b))
 
 module _ {K V H : Type 0} (eq : K → K → Bool) (c d : Contents (K × V) H) where
+  -- a clearing
+  pub cleared : Holds c [] d → Changes (λ s. s.1) (MapMoves eq) (ResizesTo (setting_of c)) (state_of c) Clear Cleared (state_of d)
+  cleared h = holds-changes (MapMoves eq) Clear Cleared c d [] h (λ number l p. (none-left l p, refl))
+
   -- a removal
   pub removed : (k : K) (o : Option (K × V)) → Removes eq c k o d
       → Changes (λ s. s.1) (MapMoves eq) (ResizesTo (setting_of c)) (state_of c) (Remove k) (Pair o) (state_of d)

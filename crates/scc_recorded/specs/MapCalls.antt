@@ -1,5 +1,5 @@
 -- What the calls of a map do to its state, by the reply.
-use Rattle.std.specs.Prelude.{◌≡◌, ℕ, ◌<◌, ◌==◌, Bool, ◌∷◌, length, count_by, Option, None, Some, IsSome, is_some}
+use Rattle.std.specs.Prelude.{◌≡◌, ℕ, ◌<◌, ◌==◌, Bool, [], ◌∷◌, length, count_by, Option, None, Some, IsSome, is_some}
 use Rattle.std.specs.Option.{option_map}
 use Rattle.std.specs.List.Sorted.{IsPermutation}
 use Rattle.std.specs.Map.{set_value, set_key}
@@ -8,9 +8,9 @@ use Rattle.scc_table.specs.Routing.{bucket_number}
 use Rattle.scc_recorded.specs.States.{State}
 use Rattle.scc_recorded.specs.declared.recorded.fixed.Setting.{Setting}
 use Rattle.scc_recorded.specs.declared.recorded.calls_as_values.MapCall.{MapCall}
-use Rattle.scc_recorded.specs.declared.recorded.calls_as_values.MapCall.TheVariants.{Insert, Upsert, Replace, Read, Contains, Remove, Len}
+use Rattle.scc_recorded.specs.declared.recorded.calls_as_values.MapCall.TheVariants.{Insert, Upsert, Replace, Read, Contains, Remove, Clear, Len}
 use Rattle.scc_recorded.specs.declared.recorded.replies.Reply.{Reply}
-use Rattle.scc_recorded.specs.declared.recorded.replies.Reply.TheVariants.{Inserted, Exists, Old, Key, Pair, Value, Has, Count}
+use Rattle.scc_recorded.specs.declared.recorded.replies.Reply.TheVariants.{Inserted, Exists, Old, Key, Pair, Value, Has, Cleared, Count}
 
 module _ {K V : Type 0} where
   -- the key of a call, None where it concerns all keys
@@ -21,6 +21,7 @@ module _ {K V : Type 0} where
   map_key (Read k) = Some k
   map_key (Contains k) = Some k
   map_key (Remove k) = Some k
+  map_key Clear = None
   map_key Len = None
 
   module _ (eq : K → K → Bool) where
@@ -36,6 +37,7 @@ module _ {K V : Type 0} where
     MapMoves s (Contains k) (Has b) t = (b ≡ is_some (find eq s.0 k)) × (t ≡ s)
     MapMoves s (Remove k) (Pair None) t = (find eq s.0 k ≡ None) × (t ≡ s)
     MapMoves s (Remove k) (Pair (Some p)) t = (find eq s.0 k ≡ Some p) × IsPermutation (without eq s.0 k) t.0 × (t.1 ≡ s.1)
+    MapMoves s Clear Cleared t = (t.0 ≡ []) × (t.1 ≡ s.1)
     MapMoves s Len (Count n) t = (n ≡ length s.0) × (t ≡ s)
     MapMoves s call reply t = ⊥
 

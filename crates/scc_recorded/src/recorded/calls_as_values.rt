@@ -17,6 +17,8 @@ pub enum MapCall<K, V> {
     Contains(K),
     /// `remove_sync`. The reply is [`Reply::Pair`].
     Remove(K),
+    /// `clear_sync`. The reply is [`Reply::Cleared`].
+    Clear,
     /// `len`. The reply is [`Reply::Count`].
     Len,
 }

@@ -46,6 +46,7 @@ impl<K: Eq + Hash + Copy, V: Copy + PartialEq, H: BuildHasher> Calls for Owned<K
             MapCall::Read(k) => Some(k),
             MapCall::Contains(k) => Some(k),
             MapCall::Remove(k) => Some(k),
+            MapCall::Clear => None,
             MapCall::Len => None,
         }
     }
@@ -71,6 +72,10 @@ impl<K: Eq + Hash + Copy, V: Copy + PartialEq, H: BuildHasher> Calls for Owned<K
             MapCall::Read(k) => Ok(Reply::Value(self.read_sync(&k, |_, v| *v))),
             MapCall::Contains(k) => Ok(Reply::Has(self.contains_sync(&k))),
             MapCall::Remove(k) => Ok(Reply::Pair(self.remove_sync(&k))),
+            MapCall::Clear => {
+                self.clear_sync();
+                Ok(Reply::Cleared)
+            }
             MapCall::Len => Ok(Reply::Count(self.len())),
         }
     }

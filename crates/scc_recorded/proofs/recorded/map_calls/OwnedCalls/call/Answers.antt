@@ -1,5 +1,5 @@
 use Rattle.scc_table.specs.Hashing.{hash_of}
-use Rattle.scc_recorded.proofs.MapCalls.{inserted, upserted, removed, removed-setting}
+use Rattle.scc_recorded.proofs.MapCalls.{cleared, inserted, upserted, removed, removed-setting}
 use Rattle.scc_recorded.proofs.recorded.map_calls.OwnedCalls.call.Goals as goal
 
 pub returns-in-Ok-clause-ok : goal.returns-in-Ok-clause-ok
@@ -16,3 +16,6 @@ returns-in-Remove-clause-setting g c = removed-setting g.K.PartialEq.eq c.args.s
 pub returns-in-Ok-upsert_sync-clause-ok : goal.returns-in-Ok-upsert_sync-clause-ok
 returns-in-Ok-upsert_sync-clause-ok g c =
     rw c.in-Upsert.is (upserted g.K.PartialEq.eq (λ h k. hash_of g.H.BuildHasher g.H.Hasher.Hasher h (g.K.Hash.hash_input k)) c.args.self.now c.upsert_sync.new.self c.in-Upsert.k c.in-Upsert.v c.in-Ok-upsert_sync.old c.in-Ok-upsert_sync.ensures.step)
+
+pub returns-in-Clear-clause-ok : goal.returns-in-Clear-clause-ok
+returns-in-Clear-clause-ok g c = rw c.in-Clear.is (cleared g.K.PartialEq.eq c.args.self.now c.clear_sync.new.self c.clear_sync.ensures.holds)
