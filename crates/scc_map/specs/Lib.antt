@@ -8,4 +8,5 @@ pub use Rattle.scc_table.specs.Writes
 pub mod Closures
 pub mod Entries
 pub mod Lends
+pub mod MapSizes
 pub mod MapSteps

@@ -15,6 +15,7 @@ ghost use Rattle.scc_map.specs.Lends.{lends_value, with_pair_key};
 ghost use Rattle.scc_map.specs.MapSteps.{Inserts, Removes, Upserts};
 
 mod entry;
+mod sizes;
 
 pub use entry::{Entry, OccupiedEntry, ReplaceResult, VacantEntry};
 use scc_table::{InsertError, MakeError, Place, Table};
