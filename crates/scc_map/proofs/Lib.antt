@@ -4,3 +4,4 @@ pub mod Lookups
 pub mod MapWrites
 pub mod PairWrites
 pub mod Splits
+pub mod WholeMaps

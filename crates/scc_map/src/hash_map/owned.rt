@@ -16,6 +16,7 @@ ghost use Rattle.scc_map.specs.MapSteps.{Inserts, Removes, Upserts};
 
 mod entry;
 mod sizes;
+mod whole;
 
 pub use entry::{Entry, OccupiedEntry, ReplaceResult, VacantEntry};
 use scc_table::{InsertError, MakeError, Place, Table};
