@@ -121,13 +121,13 @@ module _ {K V : Type 0} {eq : K → K → Bool} (laws : IsEquivalence eq) where
       agree-back h few [] own = refl
       agree-back h few (p ∷ part) own =
           let here : agree p.0 ≡ true = by_option (lookup_entry (eq p.0) es)
-              (λ n.
-              let more = IsDistinct-cons eq p.0 (keys_of es) (apart-keys (eq p.0) es (none-find (eq p.0) es n)) de in
-              let no' : lookup_entry (eq p.0) fs ≡ None → ⊥ = λ m. (let z : None ≡ Some p = sym m ∙ own.0 in cc) in
-              absurd (omega (arith, few, covered-length fs (p ∷ es) df more (no', covers-there es h))))
-              (λ r s.
-              let at = place-of_find (eq p.0) es r s in
-              ap (λ o. option_eq E o (lookup_entry (eq p.0) fs)) s ∙ ap (option_eq E (Some r)) (lookup-alike fs p.0 r.0 at.2) ∙ all-at_find IsThere (eq p.0) es r h s) in
+          (λ n.
+          let more = IsDistinct-cons eq p.0 (keys_of es) (apart-keys (eq p.0) es (none-find (eq p.0) es n)) de in
+          let no' : lookup_entry (eq p.0) fs ≡ None → ⊥ = λ m. (let z : None ≡ Some p = sym m ∙ own.0 in cc) in
+          absurd (omega (arith, few, covered-length fs (p ∷ es) df more (no', covers-there es h))))
+          (λ r s.
+          let at = place-of_find (eq p.0) es r s in
+          ap (λ o. option_eq E o (lookup_entry (eq p.0) fs)) s ∙ ap (option_eq E (Some r)) (lookup-alike fs p.0 r.0 at.2) ∙ all-at_find IsThere (eq p.0) es r h s) in
           ap (λ b. b && list_all agree (keys_of part)) here ∙ agree-back h few part own.1
 
       pub equal-there : list_all IsThere es ≡ true → length es ≡ length fs → entries_eq eq E es fs ≡ true

@@ -1,3 +1,4 @@
+pub use Rattle.scc_table.specs.Clones
 pub use Rattle.scc_table.specs.Contents
 pub use Rattle.scc_table.specs.Pairs
 pub use Rattle.scc_table.specs.Places

@@ -143,3 +143,33 @@ fn map_equality_looks_both_ways(rt: HostRuntime) -> Result<(), Fail> {
     assert!(rt; a == b && b == a);
     Ok(())
 }
+
+#[test]
+fn map_clone_has_its_capacity_as_minimum(rt: HostRuntime) -> Result<(), Fail> {
+    let mut map = Owned::with_hasher(rt.alloc(), Zero);
+    for key in 0..40u64 {
+        map.insert_sync(key, key)?;
+    }
+    let mut copy = map.try_clone()?;
+    assert!(rt; copy == map);
+    assert_eq!(rt; copy.capacity(), 128);
+    let range = copy.capacity_range();
+    assert_eq!(rt; (*range.start(), *range.end()), (128, GREATEST));
+    for key in 0..24u64 {
+        assert_eq!(rt; copy.remove_sync(&key), Some((key, key)));
+    }
+    assert_eq!(rt; copy.len(), 16);
+    assert_eq!(rt; copy.capacity(), 128);
+    assert_eq!(rt; map.len(), 40);
+    Ok(())
+}
+
+#[test]
+fn map_clone_without_array_has_none(rt: HostRuntime) -> Result<(), Fail> {
+    let mut map: Owned<u64, u64> = Owned::new(rt.alloc());
+    assert!(rt; map.reserve(100).is_some());
+    let copy = map.try_clone()?;
+    assert_eq!(rt; copy.capacity(), 0);
+    expect_range(&rt, &copy, 0);
+    Ok(())
+}

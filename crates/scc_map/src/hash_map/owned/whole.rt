@@ -1,12 +1,14 @@
-//! What is done with a whole map: comparisons, clones, and maps made of items.
-ghost use Rattle.std.specs.Prelude.{◌≡◌, Some};
+//! What is done with a whole map: comparisons and clones.
+ghost use Rattle.std.specs.Prelude.{◌≡◌, Some, IfOk};
 ghost use Rattle.std.specs.HashMap.{entries_eq};
 ghost use Rattle.std.specs.List.{list_all};
 ghost use Rattle.std.specs.Option.{option_eq};
+ghost use Rattle.scc_table.specs.Clones.{HasClones};
 ghost use Rattle.scc_table.specs.Contents.{entries};
 ghost use Rattle.scc_table.specs.Pairs.{find};
 
 use super::Owned;
+use scc_table::MakeError;
 use std::hash::{BuildHasher, Hash};
 
 impl<K: Eq + Hash, V: PartialEq, H: BuildHasher> PartialEq for Owned<K, V, H> {
@@ -47,5 +49,21 @@ impl<K: Eq + Hash, V: PartialEq, H: BuildHasher> Owned<K, V, H> {
         ensures { result ≡ list_all (λ p. option_eq (λ p q. V.eq p.1 q.1) (Some p) (find K.eq (entries other.now) p.0)) (entries self.now) }
     {
         self.table.walk(|k, v| other.has_pair(k, v))
+    }
+}
+
+impl<K: Eq + Hash, V, H: BuildHasher> Owned<K, V, H> {
+    /// A map with clones of all pairs under a clone of the hasher, of the same capacity, which is its minimum. It is refused for want of memory, and where a clone can't be had or two keys' clones are equal.
+    pub fn try_clone(&self) -> Result<Self, MakeError>
+    where
+        K: Clone,
+        V: Clone,
+        H: Clone,
+        ensures { IfOk result (HasClones (λ p q. K.is_clone p.0 q.0 × V.is_clone p.1 q.1) H.is_clone self.now) }
+    {
+        match self.table.try_clone() {
+            Ok(table) => Ok(Owned { table }),
+            Err(e) => Err(e),
+        }
     }
 }
