@@ -8,3 +8,4 @@ pub mod PairWrites
 pub mod Splits
 pub mod Takings
 pub mod Visits
+pub mod WholeMaps

@@ -12,7 +12,7 @@ use Rattle.scc_table.proofs.Finding.{position_cons, position_hit}
 use Rattle.scc_map.proofs.PairWrites.{IsPlaceOf}
 use Rattle.scc_map.proofs.Splits.{by_answer, cond-true, cond-false, get-index, found-place, place-below, without-at, distinct-without}
 
-by_option : {X P : Type 0} (o : Option X) → (o ≡ None → P) → ((x : X) → o ≡ Some x → P) → P
+pub by_option : {X P : Type 0} (o : Option X) → (o ≡ None → P) → ((x : X) → o ≡ Some x → P) → P
 by_option None n s = n refl
 by_option (Some x) n s = s x refl
 

@@ -1,3 +1,4 @@
+pub use Rattle.scc_table.specs.Clones
 pub use Rattle.scc_table.specs.Contents
 pub use Rattle.scc_table.specs.Pairs
 pub use Rattle.scc_table.specs.Places
@@ -9,6 +10,8 @@ pub use Rattle.scc_table.specs.Writes
 pub mod Closures
 pub mod Entries
 pub mod EntrySteps
+pub mod Equality
 pub mod Lends
+pub mod MapSizes
 pub mod MapSteps
 pub mod MapWalks

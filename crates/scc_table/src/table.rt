@@ -6,6 +6,7 @@ ghost use Rattle.scc_table.specs.Places.{IsPlace, IsFoundAt, index_of};
 ghost use Rattle.scc_table.specs.Shelf.{shelf_entries};
 ghost use Rattle.scc_table.specs.Sizes.{IsLawful};
 
+mod cloning;
 mod edits;
 mod growing;
 mod making;

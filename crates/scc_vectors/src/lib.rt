@@ -17,5 +17,7 @@ mod run_scripts;
 #[cfg(test)]
 mod run_streams;
 #[cfg(test)]
+mod size_cases;
+#[cfg(test)]
 mod texts;
 pub mod zero;

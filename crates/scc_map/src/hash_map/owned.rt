@@ -15,8 +15,10 @@ ghost use Rattle.scc_map.specs.Lends.{lends_value, with_pair_key};
 ghost use Rattle.scc_map.specs.MapSteps.{Inserts, Removes, Upserts};
 
 mod entry;
+mod sizes;
 mod taking_walks;
 mod walks;
+mod whole;
 mod writing_walks;
 
 pub use entry::{Entry, OccupiedEntry, ReplaceResult, VacantEntry};

@@ -48,7 +48,7 @@ where
 
     /// The same into that bucket, the one of the hash.
     #[inline(always)]
-    fn insert_in(&mut self, bucket: usize, hash: u64, entry: E) -> Result<Place, E>
+    pub(crate) fn insert_in(&mut self, bucket: usize, hash: u64, entry: E) -> Result<Place, E>
         requires within { bucket < bucket_count self.old }
         requires routed { bucket ≡ bucket_number (settings_of self.old).skipped (bucket_count self.old) hash }
         requires hashed { hash ≡ key_hash H.BuildHasher H.Hasher.Hasher E.Key.hash_input self.old (E.key_of entry) }

@@ -1,6 +1,6 @@
 //! How many slots a table keeps at least.
 ghost use Rattle.std.specs.Prelude.{◌≡◌, ◌≢◌, ◌≤◌, ◌<◌, ◌+◌, ◌-◌, ◌*◌, ◌^◌, ◌↔◌, IsTrue};
-ghost use Rattle.scc_table.specs.Contents.{entries, bucket_count, settings_of, minimum_of, IsUniqueBy};
+ghost use Rattle.scc_table.specs.Contents.{entries, bucket_count, settings_of, minimum_of, pending_of, IsUniqueBy};
 ghost use Rattle.scc_table.specs.Sizes.{IsArraySize};
 ghost use Rattle.scc_table.specs.Steps.{IsUnchanged, Releases, Reserves, Resizes};
 
@@ -31,6 +31,14 @@ where
         ensures unique { IsUniqueBy E.Key.eq E.key_of self.now }
     {
         self.reserved
+    }
+
+    /// How many buckets wait for their entries to come from an old array: none, since every resize moves all entries at once.
+    #[inline(always)]
+    pub fn pending(&self) -> usize
+        ensures { result ≡ pending_of self.now }
+    {
+        0
     }
 
     /// Raises the minimum by so many slots, and lets an array with fewer slots grow, unless memory is refused. Where the minimum can't be raised by that, it answers false and changes nothing.

@@ -1,0 +1,105 @@
+//! How a table is made that holds clones of another's entries.
+ghost use Rattle.std.specs.Prelude.{◌≡◌, ◌*◌, [], ◌∷◌, IfOk, OnOk};
+ghost use Rattle.scc_table.specs.Clones.{AddsClones, HasClones};
+ghost use Rattle.scc_table.specs.Contents.{entries, bucket_count, settings_of};
+
+use super::Table;
+use super::making::fresh_buckets;
+use crate::errors::MakeError;
+use crate::keyed::Keyed;
+use crate::route::bucket_index;
+use std::hash::{BuildHasher, Hash};
+
+impl<E: Keyed, H: BuildHasher> Table<E, H>
+where
+    E::Key: Eq + Hash,
+{
+    /// A table with clones of all entries under a clone of the hasher. It has as many buckets, and their slots are those that it was asked for. It is refused for want of memory, and where a clone can't be had or equals another.
+    pub fn try_clone(&self) -> Result<Table<E, H>, MakeError>
+    where
+        E: Clone,
+        H: Clone,
+        ensures { IfOk result (HasClones E.is_clone H.is_clone self.now) }
+    {
+        let Ok(hasher) = self.hasher.clone() else {
+            return Err(MakeError);
+        };
+        let mut copy = self.fresh_like(hasher)?;
+        copy.insert_clones_of(self)?;
+        Ok(copy)
+    }
+
+    /// An empty table of as many buckets, which skips as many bits, under that hasher.
+    fn fresh_like(&self, hasher: H) -> Result<Table<E, H>, MakeError>
+    where
+        H: Drop,
+        ensures entries { IfOk result (λ t. entries t ≡ []) }
+        ensures buckets { IfOk result (λ t. bucket_count t ≡ bucket_count self.now) }
+        ensures settings { IfOk result (λ t. settings_of t ≡ record { hasher = hasher; skipped = (settings_of self.now).skipped; asked = 32 * bucket_count self.now; reserved = 0 }) }
+    {
+        let alloc = *self.buckets.allocator();
+        let count = self.buckets.len();
+        if count == 0 {
+            return Ok(Table::new(alloc, self.skipped, hasher));
+        }
+        match fresh_buckets(alloc, count) {
+            Ok(buckets) => Ok(Table {
+                buckets,
+                length: 0,
+                overflowing: 0,
+                asked: 32 * count,
+                reserved: 0,
+                skipped: self.skipped,
+                hasher,
+            }),
+            Err(_) => Err(MakeError),
+        }
+    }
+
+    /// Puts in a clone of each entry of the other table, with no resize.
+    fn insert_clones_of(&mut self, other: &Table<E, H>) -> Result<(), MakeError>
+    where
+        E: Clone,
+        ensures { OnOk result (AddsClones E.is_clone (entries other.now) self.old self.new) }
+    {
+        for bucket in other.buckets() {
+            let (slots, overflow) = bucket.parts();
+            self.insert_clones(slots)?;
+            self.insert_clones(overflow)?;
+        }
+        Ok(())
+    }
+
+    /// Puts in a clone of each of the entries, with no resize.
+    fn insert_clones(&mut self, sources: &[E]) -> Result<(), MakeError>
+    where
+        E: Clone,
+        ensures { OnOk result (AddsClones E.is_clone sources.now self.old self.new) }
+    {
+        for source in sources {
+            self.insert_clone(source)?;
+        }
+        Ok(())
+    }
+
+    /// Puts in a clone of the entry, with no resize. It is refused for want of memory, and where there is no array or the clone's key is there.
+    fn insert_clone(&mut self, source: &E) -> Result<(), MakeError>
+    where
+        E: Clone,
+        ensures { OnOk result (AddsClones E.is_clone (source.now ∷ []) self.old self.new) }
+    {
+        let Ok(copy) = source.clone() else {
+            return Err(MakeError);
+        };
+        let count = self.buckets.len();
+        let hash = self.hash(copy.key());
+        if count == 0 || self.search(hash, copy.key()).is_some() {
+            return Err(MakeError);
+        }
+        let bucket = bucket_index(hash, self.skipped, count);
+        match self.insert_in(bucket, hash, copy) {
+            Ok(_) => Ok(()),
+            Err(_back) => Err(MakeError),
+        }
+    }
+}
