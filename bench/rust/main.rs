@@ -1,0 +1,279 @@
+//! The Rust peers with one owner. `peers NAME GROUP RUNS ENTRIES SEED` prints the lines that README.md describes.
+//! With no argument it lists its peers and their groups.
+
+mod streams;
+
+use std::collections::HashMap as StdMap;
+use std::hash::{BuildHasher, Hasher};
+use std::time::Instant;
+use streams::{value, Streams};
+
+#[derive(Clone, Default)]
+struct Fold;
+#[derive(Default)]
+struct FoldHasher(u64);
+
+fn fold(x: u64) -> u64 {
+    let p = u128::from(x ^ 0x243F_6A88_85A3_08D3) * 0x9E37_79B9_7F4A_7C15_u128;
+    (p as u64) ^ ((p >> 64) as u64)
+}
+
+impl BuildHasher for Fold {
+    type Hasher = FoldHasher;
+    fn build_hasher(&self) -> FoldHasher {
+        FoldHasher(0)
+    }
+}
+
+impl Hasher for FoldHasher {
+    fn write(&mut self, bytes: &[u8]) {
+        for b in bytes {
+            self.0 = fold(self.0 ^ u64::from(*b));
+        }
+    }
+    fn write_u64(&mut self, x: u64) {
+        self.0 = fold(self.0 ^ x);
+    }
+    fn finish(&self) -> u64 {
+        self.0
+    }
+}
+
+/// A container with one owner.
+trait Owned {
+    fn new() -> Self;
+    fn insert(&mut self, k: u64, v: u64);
+    fn get(&self, k: u64) -> Option<u64>;
+    fn bump(&mut self, k: u64) -> bool;
+    fn remove(&mut self, k: u64) -> bool;
+    fn sum(&self) -> u64;
+}
+
+macro_rules! owned_like_std {
+    ($name:ty) => {
+        impl<S: BuildHasher + Default> Owned for $name {
+            fn new() -> Self {
+                Self::with_hasher(S::default())
+            }
+            #[inline]
+            fn insert(&mut self, k: u64, v: u64) {
+                self.insert(k, v);
+            }
+            #[inline]
+            fn get(&self, k: u64) -> Option<u64> {
+                self.get(&k).copied()
+            }
+            #[inline]
+            fn bump(&mut self, k: u64) -> bool {
+                match self.get_mut(&k) {
+                    Some(v) => {
+                        *v = v.wrapping_add(1);
+                        true
+                    }
+                    None => false,
+                }
+            }
+            #[inline]
+            fn remove(&mut self, k: u64) -> bool {
+                self.remove(&k).is_some()
+            }
+            fn sum(&self) -> u64 {
+                self.iter().fold(0u64, |s, (_, v)| s.wrapping_add(*v))
+            }
+        }
+    };
+}
+
+owned_like_std!(StdMap<u64, u64, S>);
+#[cfg(with_hashbrown)]
+owned_like_std!(hashbrown::HashMap<u64, u64, S>);
+
+fn line(work: &str, peer: &str, figure: f64) {
+    println!("{work} {peer} {figure:.2}");
+}
+
+fn check(work: &str, peer: &str, sum: u64) {
+    println!("check {work} {peer} {sum}");
+}
+
+fn per(start: Instant, operations: u64) -> f64 {
+    start.elapsed().as_nanos() as f64 / operations as f64
+}
+
+fn sum_of_hits<M: Owned>(m: &M, keys: &[u64]) -> u64 {
+    keys.iter().fold(0u64, |s, &k| m.get(k).map_or(s, |v| s.wrapping_add(v)))
+}
+
+fn count_misses<M: Owned>(m: &M, keys: &[u64]) -> u64 {
+    keys.iter().fold(0u64, |s, &k| s + u64::from(m.get(k).is_none()))
+}
+
+/// One run of the group `own`: workload, nanoseconds an operation, and sum.
+fn own_once<M: Owned>(n: u64, ins: &[u64], acc: &[u64], mis: &[u64]) -> Vec<(&'static str, f64, u64)> {
+    let mut out = Vec::new();
+    let mut m = M::new();
+    let t = Instant::now();
+    for &k in ins {
+        m.insert(k, value(k));
+    }
+    let ns = per(t, n);
+    out.push(("own_insert", ns, m.sum()));
+    let t = Instant::now();
+    let s = sum_of_hits(&m, acc);
+    out.push(("own_hit", per(t, n), s));
+    let t = Instant::now();
+    let s = count_misses(&m, mis);
+    out.push(("own_miss", per(t, n), s));
+    let t = Instant::now();
+    let s = acc.iter().fold(0u64, |s, &k| s + u64::from(m.bump(k)));
+    out.push(("own_update", per(t, n), s));
+    let t = Instant::now();
+    let s = m.sum();
+    out.push(("own_iterate", per(t, n), s));
+    let t = Instant::now();
+    let s = acc.iter().fold(0u64, |s, &k| s + u64::from(m.remove(k)));
+    let ns = per(t, n);
+    out.push(("own_remove", ns, s.wrapping_add(m.sum())));
+    out
+}
+
+fn own<M: Owned>(peer: &str, runs: u32, streams: &Streams) {
+    let (ins, acc, mis) = (streams.inserted(), streams.accessed(), streams.missing());
+    for run in 0..=runs {
+        for (work, ns, sum) in own_once::<M>(streams.entries, &ins, &acc, &mis) {
+            if run > 0 {
+                line(work, peer, ns);
+            }
+            if run == runs {
+                check(work, peer, sum);
+            }
+        }
+    }
+}
+
+fn quantiles(peer: &str, sorted: &[u64]) {
+    let at = |thousandths: usize| sorted[(sorted.len() - 1) * thousandths / 1000] as f64;
+    line("tail_p50", peer, at(500));
+    line("tail_p99", peer, at(990));
+    line("tail_p999", peer, at(999));
+    line("tail_max", peer, at(1000));
+}
+
+fn tail<M: Owned>(peer: &str, runs: u32, streams: &Streams) {
+    let ins = streams.inserted();
+    for run in 0..=runs {
+        let mut times = Vec::with_capacity(ins.len());
+        let mut m = M::new();
+        for &k in &ins {
+            let t = Instant::now();
+            m.insert(k, value(k));
+            times.push(t.elapsed().as_nanos() as u64);
+        }
+        times.sort_unstable();
+        if run > 0 {
+            quantiles(peer, &times);
+        }
+        if run == runs {
+            check("tail", peer, m.sum());
+        }
+    }
+}
+
+fn resident() -> u64 {
+    let text = std::fs::read_to_string("/proc/self/statm").unwrap_or_default();
+    let pages: u64 = text.split(' ').nth(1).and_then(|s| s.parse().ok()).unwrap_or(0);
+    pages * 4096
+}
+
+fn most_resident() -> u64 {
+    let text = std::fs::read_to_string("/proc/self/status").unwrap_or_default();
+    let row = text.lines().find_map(|l| l.strip_prefix("VmHWM:")).unwrap_or("");
+    row.split_whitespace().next().and_then(|s| s.parse::<u64>().ok()).unwrap_or(0) * 1024
+}
+
+fn insert_at<M: Owned>(m: &mut M, streams: &Streams, place: u64) {
+    let k = streams.inserted_key(place);
+    m.insert(k, value(k));
+}
+
+fn mem<M: Owned>(peer: &str, streams: &Streams) {
+    let n = streams.entries;
+    let mut m = M::new();
+    insert_at(&mut m, streams, 0);
+    let before = resident();
+    for place in 1..n {
+        insert_at(&mut m, streams, place);
+    }
+    line("mem_live", peer, resident().saturating_sub(before) as f64 / n as f64);
+    line("mem_peak", peer, most_resident().saturating_sub(before) as f64 / n as f64);
+    check("mem_live", peer, m.sum());
+}
+
+fn curve<M: Owned>(peer: &str, streams: &Streams) {
+    let n = streams.entries;
+    let step = (n / 16).max(1);
+    let mut m = M::new();
+    insert_at(&mut m, streams, 0);
+    let before = resident();
+    let mut total = 0.0;
+    for place in 1..2 * n {
+        insert_at(&mut m, streams, place);
+        let size = place + 1;
+        if size > n && size % step == 0 {
+            total += resident().saturating_sub(before) as f64 / size as f64;
+        }
+    }
+    line("mem_mean", peer, total / 16.0);
+    check("mem_mean", peer, m.sum());
+}
+
+fn run_owned<M: Owned>(peer: &str, group: &str, runs: u32, streams: &Streams) {
+    match group {
+        "own" => own::<M>(peer, runs, streams),
+        "tail" => tail::<M>(peer, runs, streams),
+        "mem" => mem::<M>(peer, streams),
+        "curve" => curve::<M>(peer, streams),
+        _ => eprintln!("{peer} has no group {group}"),
+    }
+}
+
+fn clock() {
+    let mut times: Vec<u128> = (0..1_000_001)
+        .map(|_| {
+            let t = Instant::now();
+            t.elapsed().as_nanos()
+        })
+        .collect();
+    times.sort_unstable();
+    println!("# clock: two readings in a row differ by {} ns (median)", times[500_000]);
+}
+
+fn list() {
+    println!("std own,tail,mem,curve\nstd-fold own,tail,mem,curve");
+    #[cfg(with_hashbrown)]
+    println!("hashbrown own,tail,mem,curve\nhashbrown-fold own,tail,mem,curve");
+}
+
+fn main() {
+    let args: Vec<String> = std::env::args().skip(1).collect();
+    let number = |place: usize, usual: u64| args.get(place).and_then(|s| s.parse().ok()).unwrap_or(usual);
+    let [peer, group, ..] = args.as_slice() else {
+        list();
+        return;
+    };
+    let (p, g) = (peer.as_str(), group.as_str());
+    let runs = number(2, 1) as u32;
+    let streams = Streams { entries: number(3, 1 << 20), seed: number(4, 0) };
+    match p {
+        "clock" => clock(),
+        "std" => run_owned::<StdMap<u64, u64, std::collections::hash_map::RandomState>>(p, g, runs, &streams),
+        "std-fold" => run_owned::<StdMap<u64, u64, Fold>>(p, g, runs, &streams),
+        #[cfg(with_hashbrown)]
+        "hashbrown" => {
+            run_owned::<hashbrown::HashMap<u64, u64, hashbrown::hash_map::DefaultHashBuilder>>(p, g, runs, &streams)
+        }
+        #[cfg(with_hashbrown)]
+        "hashbrown-fold" => run_owned::<hashbrown::HashMap<u64, u64, Fold>>(p, g, runs, &streams),
+        _ => eprintln!("there is no peer {p}"),
+    }
+}

@@ -1,0 +1,58 @@
+//! Measures the owned map beside the standard library's map, in the lines that the table of peers reads.
+//!
+//! With no argument it prints its peers and their groups; `NAME GROUP RUNS ENTRIES SEED` measures one group.
+#![tactic(auto)]
+
+mod memory;
+mod own;
+mod peer;
+mod report;
+mod request;
+mod streams;
+mod tail;
+
+use peer::Peer;
+use request::{Group, PeerName, Request, parse_request};
+use scc_map::hash_map::Owned;
+use std::alloc::{AllocError, Global};
+use std::collections::HashMap;
+use std::rt::{Clock, Files};
+use std::{env, io};
+
+fn list_peers(rt: &impl Print) -> io::Result<()> {
+    println!(rt; "scc-owned own,tail,mem,curve")?;
+    println!(rt; "kit-fold own,tail,mem,curve")
+}
+
+fn measure<M: Peer, R: Clock + Files + Print + Alloc>(
+    rt: &R,
+    alloc: Global,
+    request: Request,
+) -> io::Result<()> {
+    let name = request.peer.text();
+    let streams = request.streams;
+    match request.group {
+        Group::Own => own::measure::<M, R>(rt, alloc, name, request.runs, &streams),
+        Group::Tail => {
+            let keys = streams.inserted(alloc)?;
+            tail::measure::<M, R>(rt, alloc, name, request.runs, keys.as_slice())
+        }
+        Group::Memory => memory::measure::<M, R>(rt, alloc, name, &streams),
+        Group::Curve => memory::measure_curve::<M, R>(rt, alloc, name, &streams),
+    }
+}
+
+fn main(rt: HostRuntime) -> io::Result<()> {
+    let mut words = Vec::new(rt.alloc());
+    for word in env::args(&rt)?.skip(1) {
+        words.push(word).map_err(AllocError::from)?;
+    }
+    if words.is_empty() {
+        return list_peers(&rt);
+    }
+    let request = parse_request(words.as_slice())?;
+    match request.peer {
+        PeerName::Owned => measure::<Owned<u64, u64>, _>(&rt, rt.alloc(), request),
+        PeerName::Kit => measure::<HashMap<u64, u64>, _>(&rt, rt.alloc(), request),
+    }
+}
