@@ -55,3 +55,10 @@ fn run_map_upsert_and_replace(rt: HostRuntime) {
     let text = "worker 0\nnone\nold 10\nkey 1\nnone\nnone\npair 1 20\ncontents 0\nrecords 6\n";
     expect_run(&rt, script, text, FINISHED);
 }
+
+#[test]
+fn run_map_clear(rt: HostRuntime) {
+    let script = b"map 1 1\n0 insert 1 10\n0 insert 2 20\n0 clear\n0 len\n0 insert 3 30\n";
+    let text = "worker 0\nok\nok\nok\ncount 0\nok\ncontents 1\n3 30\nrecords 5\n";
+    expect_run(&rt, script, text, FINISHED);
+}
