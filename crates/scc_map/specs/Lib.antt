@@ -8,6 +8,7 @@ pub use Rattle.scc_table.specs.Walks
 pub use Rattle.scc_table.specs.Writes
 pub mod Closures
 pub mod Entries
+pub mod Collections
 pub mod Equality
 pub mod Lends
 pub mod MapSizes
