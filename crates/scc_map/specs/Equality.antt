@@ -85,10 +85,10 @@ module _ {K V : Type 0} (eq : K → K → Bool) (E : K × V → K × V → Bool)
     pub entries_eq-trans : ((x y z : K × V) → E x y ≡ true → E y z ≡ true → E x z ≡ true) → (es fs gs : List (K × V)) → entries_eq eq E es fs ≡ true → entries_eq eq E fs gs ≡ true → entries_eq eq E es gs ≡ true
     entries_eq-trans f es fs gs a b = entries_eq-from_all es gs (λ k. option-trans E f (lookup_entry (eq k) es) (lookup_entry (eq k) fs) (lookup_entry (eq k) gs) (agree-from_eq es fs a k) (agree-from_eq fs gs b k))
 
-    -- a list equals itself, where each value equals itself
-    pub entries_eq-refl : ((x : K × V) → E x x ≡ true) → (es : List (K × V)) → entries_eq eq E es es ≡ true
-    entries_eq-refl f es = entries_eq-from_all es es (λ k. option-refl (lookup_entry (eq k) es))
-      where
-        option-refl : (o : Option (K × V)) → option_eq E o o ≡ true
-        option-refl None = refl
-        option-refl (Some x) = f x
+  -- a list equals itself, where each value equals itself
+  pub entries_eq-refl : ((x : K × V) → E x x ≡ true) → (es : List (K × V)) → entries_eq eq E es es ≡ true
+  entries_eq-refl f es = entries_eq-from_all es es (λ k. option-refl (lookup_entry (eq k) es))
+    where
+      option-refl : (o : Option (K × V)) → option_eq E o o ≡ true
+      option-refl None = refl
+      option-refl (Some x) = f x

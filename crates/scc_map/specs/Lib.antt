@@ -9,6 +9,7 @@ pub use Rattle.scc_table.specs.Walks
 pub use Rattle.scc_table.specs.Writes
 pub mod Closures
 pub mod Entries
+pub mod Collections
 pub mod EntrySteps
 pub mod Equality
 pub mod Lends

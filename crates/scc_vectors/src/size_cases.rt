@@ -173,3 +173,13 @@ fn map_clone_without_array_has_none(rt: HostRuntime) -> Result<(), Fail> {
     expect_range(&rt, &copy, 0);
     Ok(())
 }
+
+#[test]
+fn map_try_from_iter_last_wins(rt: HostRuntime) -> Result<(), Fail> {
+    let items = vec![in rt.alloc(); (1u64, 10u64), (1, 20)]?;
+    let map: Owned<u64, u64> = Owned::try_from_iter(rt.alloc(), items)?;
+    assert_eq!(rt; map.read_sync(&1, |_, v| *v), Some(20));
+    assert_eq!(rt; map.len(), 1);
+    assert_eq!(rt; map.capacity(), 64);
+    Ok(())
+}

@@ -14,6 +14,7 @@ ghost use Rattle.scc_map.specs.Closures.{Reads, UpdatesAt, RemovesIf};
 ghost use Rattle.scc_map.specs.Lends.{lends_value, with_pair_key};
 ghost use Rattle.scc_map.specs.MapSteps.{Inserts, Removes, Upserts};
 
+mod collecting;
 mod entry;
 mod sizes;
 mod taking_walks;
