@@ -99,6 +99,7 @@ impl<K: Eq + Hash, V, H: BuildHasher> Owned<K, V, H> {
     }
 
     /// The number of pairs.
+    #[inline(always)]
     pub fn len(&self) -> usize
         ensures len { result ≡ length (entries self.now) }
         ensures unique { IsUnique K.eq self.now }
@@ -107,6 +108,7 @@ impl<K: Eq + Hash, V, H: BuildHasher> Owned<K, V, H> {
     }
 
     /// Whether there is no pair.
+    #[inline(always)]
     pub fn is_empty(&self) -> bool
         ensures { IsTrue result ↔ (entries self.now ≡ []) }
     {
@@ -114,6 +116,7 @@ impl<K: Eq + Hash, V, H: BuildHasher> Owned<K, V, H> {
     }
 
     /// The slots of the array, 32 a bucket; 0 without an array. It is no bound on the number of pairs.
+    #[inline(always)]
     pub fn capacity(&self) -> usize
         ensures { result ≡ 32 * bucket_count self.now }
     {
@@ -121,6 +124,7 @@ impl<K: Eq + Hash, V, H: BuildHasher> Owned<K, V, H> {
     }
 
     /// Whether there is an array and the bucket of `k` holds fewer than 32 pairs. An insertion of `k` then takes no memory and can't be refused.
+    #[inline(always)]
     pub fn has_room(&self, k: &K) -> bool
         ensures { IsTrue result ↔ HasRoom (key_hash H.BuildHasher H.Hasher.Hasher K.hash_input self.now) self.now k.now }
     {
@@ -128,6 +132,7 @@ impl<K: Eq + Hash, V, H: BuildHasher> Owned<K, V, H> {
     }
 
     /// Whether a key equals `k`.
+    #[inline(always)]
     pub fn contains_sync(&self, k: &K) -> bool
         ensures { IsTrue result ↔ IsSome (find K.eq (entries self.now) k.now) }
     {
@@ -139,6 +144,7 @@ impl<K: Eq + Hash, V, H: BuildHasher> Owned<K, V, H> {
     }
 
     /// The answer of `f` on the pair of `k`, or None where there is none; then `f` isn't called.
+    #[inline(always)]
     pub fn read_sync<R, F: FnOnce(&K, &V) -> R>(&self, k: &K, f: F) -> Option<R>
         requires { (a : Bor K) (b : Bor V) → find K.eq (entries self.now) k.now ≡ Some (a.now, b.now) → F.pre f a b }
         ensures answer { Reads F.FnOnce f (find K.eq (entries self.now) k.now) result }
@@ -154,6 +160,7 @@ impl<K: Eq + Hash, V, H: BuildHasher> Owned<K, V, H> {
     }
 
     /// Inserts the pair where no key equals `k`. Where one does, the map stays as it is, and the supplied pair comes back; so it does where a growth that the insertion needs is refused.
+    #[inline(always)]
     pub fn insert_sync(&mut self, k: K, v: V) -> Result<(), InsertError<K, V>>
         ensures step { Inserts K.eq (key_hash H.BuildHasher H.Hasher.Hasher K.hash_input self.old) self.old (k, v) result self.new }
         ensures succeeds { find K.eq (entries self.old) k ≡ None → HasRoom (key_hash H.BuildHasher H.Hasher.Hasher K.hash_input self.old) self.old k → IsOk result }
@@ -172,6 +179,7 @@ impl<K: Eq + Hash, V, H: BuildHasher> Owned<K, V, H> {
     }
 
     /// Stores `v` at `k`. A key that is there stays the stored one, the supplied one is dropped, and the old value is answered; this takes no memory. A new key is inserted, and None is answered; refused, the pair comes back.
+    #[inline(always)]
     pub fn upsert_sync(&mut self, k: K, v: V) -> Result<Option<V>, InsertError<K, V>>
     where
         K: Drop,
@@ -192,6 +200,7 @@ impl<K: Eq + Hash, V, H: BuildHasher> Owned<K, V, H> {
     }
 
     /// Lends the pair of `k` to `u`, the value to write, and answers what `u` answered; None where there is no such pair, and then `u` isn't called.
+    #[inline(always)]
     pub fn update_sync<R, U: FnOnce(&K, &mut V) -> R>(&mut self, k: &K, u: U) -> Option<R>
         requires { (a : Bor K) (b : MutBor V) → find K.eq (entries self.old) k.now ≡ Some (a.now, b.now) → U.pre u a b }
         ensures step { UpdatesAt U.FnOnce u K.eq self.old k.now self.new (find K.eq (entries self.old) k.now) result }
@@ -208,6 +217,7 @@ impl<K: Eq + Hash, V, H: BuildHasher> Owned<K, V, H> {
     }
 
     /// Takes out the pair of `k` where `f` answers true on its value. What `f` wrote goes with the pair, and stays where it answers false; then the answer is None.
+    #[inline(always)]
     pub fn remove_if_sync<F: FnOnce(&mut V) -> bool>(&mut self, k: &K, f: F) -> Option<(K, V)>
         requires { (p : K × V) → find K.eq (entries self.old) k.now ≡ Some p → FnOnceTakesAtMut F.FnOnce f p.1 }
         ensures step { RemovesIf F.FnOnce f K.eq self.old k.now result self.new (find K.eq (entries self.old) k.now) }
@@ -225,6 +235,7 @@ impl<K: Eq + Hash, V, H: BuildHasher> Owned<K, V, H> {
     }
 
     /// Takes out the pair whose key equals `k`, and answers it.
+    #[inline(always)]
     pub fn remove_sync(&mut self, k: &K) -> Option<(K, V)>
         ensures step { Removes K.eq self.old k.now result self.new }
         ensures finds { OnSome result (FindsInstead K.eq (entries self.old) k.now None (entries self.new)) }
@@ -239,6 +250,7 @@ impl<K: Eq + Hash, V, H: BuildHasher> Owned<K, V, H> {
     }
 
     /// Calls `f` on the pairs in some order, each at most once, until its first false, and answers false where it stopped.
+    #[inline(always)]
     pub fn iter_sync<F: FnMut(&K, &V) -> bool>(&self, f: F) -> bool
         requires { F.IsAlwaysCallable f }
         ensures { (es : List (K × V)) × (last : F) × IsPermutation (entries self.now) es × Walks (CalledOn F.FnMut) f es result last }
