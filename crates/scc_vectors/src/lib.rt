@@ -20,4 +20,6 @@ mod run_streams;
 mod size_cases;
 #[cfg(test)]
 mod texts;
+#[cfg(test)]
+mod walk_cases;
 pub mod zero;
