@@ -29,6 +29,28 @@ fn map_take_stop_takes_and_stops(rt: HostRuntime) -> Result<(), Fail> {
     Ok(())
 }
 
+// The sum of the values of at most 64 pairs, each taken out on the way to the next.
+fn take_each_and_go_on(map: &mut Owned<u64, u64, Zero>) -> u64 {
+    let mut sum = 0u64;
+    let mut here = map.begin_sync();
+    for _ in 0..64 {
+        here = match here {
+            None => None,
+            Some(entry) => match entry.remove_and_sync() {
+                Ok((pair, next)) => {
+                    sum = sum.wrapping_add(pair.1);
+                    Some(next)
+                }
+                Err(pair) => {
+                    sum = sum.wrapping_add(pair.1);
+                    None
+                }
+            },
+        };
+    }
+    sum
+}
+
 #[test]
 fn map_remove_and_next_never_resizes(rt: HostRuntime) -> Result<(), Fail> {
     let mut map = Owned::with_hasher(rt.alloc(), Zero);
@@ -36,20 +58,7 @@ fn map_remove_and_next_never_resizes(rt: HostRuntime) -> Result<(), Fail> {
         map.insert_sync(key, key)?;
     }
     assert_eq!(rt; map.capacity(), 128);
-    let mut sum = 0u64;
-    let mut here = map.begin_sync();
-    while let Some(entry) = here {
-        here = match entry.remove_and_sync() {
-            Ok((pair, next)) => {
-                sum = sum.wrapping_add(pair.1);
-                Some(next)
-            }
-            Err(pair) => {
-                sum = sum.wrapping_add(pair.1);
-                None
-            }
-        };
-    }
+    let sum = take_each_and_go_on(&mut map);
     assert_eq!(rt; sum, 780);
     assert_eq!(rt; map.len(), 0);
     assert_eq!(rt; map.capacity(), 128);
