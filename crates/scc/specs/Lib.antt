@@ -14,6 +14,7 @@ pub use Rattle.scc_table.specs.Pairs
 pub use Rattle.scc_table.specs.Places
 pub use Rattle.scc_table.specs.Routing
 pub use Rattle.scc_table.specs.Shelf
+pub use Rattle.scc_table.specs.ShelfWrites
 pub use Rattle.scc_table.specs.Sizes
 pub use Rattle.scc_table.specs.Steps
 pub use Rattle.scc_table.specs.Tables

@@ -12,7 +12,8 @@ use Rattle.std.specs.declared.hash.BuildHasher as builder
 use Rattle.scc_table.specs.Contents.{Contents, entries, list_of}
 use Rattle.scc_table.specs.Places.{IsPlace, IsFoundAt, IsInsertedAt, index_of}
 use Rattle.scc_table.specs.Steps.{Holds, HoldsExactly}
-use Rattle.scc_table.specs.Writes.{write_at, with_write_at}
+use Rattle.scc_table.specs.ShelfWrites.{write_at}
+use Rattle.scc_table.specs.Writes.{with_write_at}
 use Rattle.scc_table.specs.declared.place.Place.{Place}
 use Rattle.scc_table.proofs.Spots.{place-get}
 use Rattle.scc_table.proofs.WritingTables.{exactly-write}

@@ -7,7 +7,8 @@ use Rattle.scc_table.specs.Contents.{Contents, entries, bucket_count, list_of}
 use Rattle.scc_table.specs.Pairs.{without}
 use Rattle.scc_table.specs.Places.{IsPlace, IsFoundAt, index_of}
 use Rattle.scc_table.specs.Steps.{Grows, Holds, HoldsExactly}
-use Rattle.scc_table.specs.Writes.{write_at, with_write_at}
+use Rattle.scc_table.specs.ShelfWrites.{write_at}
+use Rattle.scc_table.specs.Writes.{with_write_at}
 use Rattle.scc_table.specs.declared.place.Place.{Place}
 use Rattle.scc_table.proofs.Spots.{place-get}
 use Rattle.scc_table.proofs.WritingTables.{exactly-write, distinct-write}

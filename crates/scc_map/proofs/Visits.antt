@@ -5,7 +5,8 @@ use Rattle.scc_table.specs.Contents.{Contents, entries, bucket_count, settings_o
 use Rattle.scc_table.specs.Places.{IsPlace, index_of}
 use Rattle.scc_table.specs.Standing.{StandsAt}
 use Rattle.scc_table.specs.Steps.{HoldsExactly}
-use Rattle.scc_table.specs.Writes.{write_at, with_write_at, IsPlace-with_write_at}
+use Rattle.scc_table.specs.ShelfWrites.{write_at}
+use Rattle.scc_table.specs.Writes.{with_write_at, IsPlace-with_write_at}
 use Rattle.scc_table.specs.declared.place.Place.{Place}
 use Rattle.scc_table.proofs.Standing.{index-below}
 use Rattle.scc_table.proofs.WritingTables.{exactly-write}

@@ -2,6 +2,7 @@ pub use Rattle.scc_table.specs.Clones
 pub use Rattle.scc_table.specs.Contents
 pub use Rattle.scc_table.specs.Pairs
 pub use Rattle.scc_table.specs.Places
+pub use Rattle.scc_table.specs.ShelfWrites
 pub use Rattle.scc_table.specs.Sizes
 pub use Rattle.scc_table.specs.Standing
 pub use Rattle.scc_table.specs.Steps

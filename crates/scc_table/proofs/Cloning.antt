@@ -1,11 +1,11 @@
 -- Clones that are added one after another.
-use Rattle.std.proofs.Common.{◌≡◌, ℕ, suc, ◌*◌, ◌<◌, ◌≤◌, List, [], ◌∷◌, ◌++◌, length, take, get_or, add-one, zero, ◌+◌, arith, refl, sym, ap, subst, ◌∙◌, inl, inr}
+use Rattle.std.proofs.Common.{◌≡◌, ℕ, suc, ◌*◌, ◌<◌, List, [], ◌∷◌, ◌++◌, length, take, get_or, add-one, zero, ◌+◌, arith, refl, sym, ap, subst, ◌∙◌, inl, inr}
 use Rattle.std.specs.List.{AllZip, flat_map}
 use Rattle.std.specs.List.Sorted.{IsPermutation}
 use Rattle.std.proofs.lemmas.List.Sorted.{IsPermutation-append_comm, IsPermutation-append_left, IsPermutation-append_right, IsPermutation-trans, IsPermutation-refl}
 use Rattle.scc_table.specs.Clones.{AddsClones, HasClones}
 use Rattle.scc_table.specs.Contents.{Contents, entries, bucket_count, settings_of}
-use Rattle.scc_table.specs.Shelf.{Shelf, shelf_entries}
+use Rattle.scc_bucket.specs.Shelf.{Shelf, shelf_entries}
 use Rattle.scc_table.specs.Sizes.{IsLawful, IsArray}
 
 zip-append : {E : Type 0} (C : E → E → Type 0) (xs cs ys ds : List E) → AllZip C xs cs → AllZip C ys ds → AllZip C (xs ++ ys) (cs ++ ds)

@@ -6,14 +6,10 @@ pub mod Making
 pub mod Pours
 pub mod Powers
 pub mod Refill
-pub mod Remove
 pub mod Removes
 pub mod Resizes
-pub mod Search
 pub mod Spots
 pub mod Standing
 pub mod Tallies
 pub mod Views
-pub mod WalkLemmas
-pub mod Writing
 pub mod WritingTables

@@ -7,7 +7,7 @@ use Rattle.std.proofs.lemmas.List.Elements.{filter-append}
 use Rattle.std.specs.List.Sorted.{IsPermutation}
 use Rattle.std.proofs.lemmas.List.Sorted.{IsPermutation-refl, IsPermutation-trans, IsPermutation-append_left, IsPermutation-append_right, IsPermutation-append_comm}
 use native.Mathlib.Decide.{dec_lt}
-use Rattle.scc_table.specs.Shelf.{Shelf, shelf_entries, empty_shelf, with_entry, HasRoom}
+use Rattle.scc_bucket.specs.Shelf.{Shelf, shelf_entries, empty_shelf, with_entry, HasRoom}
 use Rattle.scc_table.specs.Routing.{bucket_number, tag_of}
 use Rattle.scc_table.specs.Pour.{IsPacked, Extends, RoomFor, Poured, bound_for}
 

@@ -13,7 +13,7 @@ use Rattle.std.proofs.lemmas.Bool.{eqb-true}
 use Rattle.scc_table.specs.Contents.{Contents, Settings, entries, settings_of, list_of}
 use Rattle.scc_table.specs.Pour.{IsPacked, IsRegrouped, IsTally, Fits, Poured, Extends, RoomFor, bound_for}
 use Rattle.scc_table.specs.Routing.{bucket_number, tag_of}
-use Rattle.scc_table.specs.Shelf.{Shelf, shelf_entries, empty_shelf}
+use Rattle.scc_bucket.specs.Shelf.{Shelf, shelf_entries, empty_shelf}
 use Rattle.scc_table.specs.Sizes.{IsArray}
 use Rattle.scc_table.specs.Tables.{AllEmpty, IsOwn, IsTable}
 use Rattle.scc_table.proofs.Making.{flat-empty, slots-none}

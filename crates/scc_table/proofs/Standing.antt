@@ -5,10 +5,11 @@ use Rattle.std.proofs.lemmas.List.{map-set}
 use Rattle.std.proofs.lemmas.List.Edits.{length-remove}
 use Rattle.scc_table.specs.Contents.{Contents, Settings, entries, bucket_count, list_of}
 use Rattle.scc_table.specs.Places.{IsPlace, index_of}
-use Rattle.scc_table.specs.Shelf.{Shelf, shelf_entries, without_place}
+use Rattle.scc_bucket.specs.Shelf.{Shelf, shelf_entries, without_place}
 use Rattle.scc_table.specs.declared.place.Place.{Place}
 use Rattle.scc_table.proofs.Removes.{entries_without}
-use Rattle.scc_table.proofs.Spots.{before, flat-get, get-below}
+use Rattle.scc_bucket.proofs.Lists.{get-below}
+use Rattle.scc_table.proofs.Spots.{before, flat-get}
 use Rattle.scc_table.proofs.Views.{view_of, list-view}
 
 skip : {E : Type 0} (ls : List (List E)) (i : ℕ) → i < length ls → before ls (suc i) ≡ before ls i + length (get_or ls i [])

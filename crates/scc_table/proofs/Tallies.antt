@@ -4,7 +4,7 @@ use Rattle.std.specs.List.{filter, flat_map}
 use Rattle.std.proofs.lemmas.List.Folds.{length-flat_map-take}
 use Rattle.scc_table.specs.Pour.{IsTally, Tallies}
 use Rattle.scc_table.specs.Routing.{bucket_number}
-use Rattle.scc_table.specs.Shelf.{Shelf, shelf_entries}
+use Rattle.scc_bucket.specs.Shelf.{Shelf, shelf_entries}
 
 filter-less : {X : Type 0} (p : X → Bool) (x : X) (xs : List X) (b : Bool) → p x ≡ b → length (filter p xs) ≤ length xs → length (filter p (x ∷ xs)) ≤ length (x ∷ xs)
 filter-less p x xs true e h = rw e (omega arith)

@@ -1,9 +1,9 @@
 -- A table's words, by its buckets.
-use Rattle.std.proofs.Common.{◌≡◌, ℕ, ◌+◌, ◌<◌, List, [], ◌∷◌, ◌++◌, length, map, get_or, refl, sym, ap, ◌∙◌, arith}
+use Rattle.std.proofs.Common.{◌≡◌, ℕ, ◌<◌, List, [], ◌∷◌, ◌++◌, length, map, get_or, refl, sym, ap, ◌∙◌}
 use Rattle.std.specs.List.{flat_map}
 use Rattle.std.proofs.lemmas.List.{get_or-map, length-map}
 use Rattle.scc_table.specs.Contents.{Contents, Settings, entries, bucket_count, settings_of, list_of}
-use Rattle.scc_table.specs.Shelf.{Shelf, shelf_entries}
+use Rattle.scc_bucket.specs.Shelf.{Shelf, shelf_entries}
 
 pub flat_lists : {E : Type 0} (bs : List (Shelf E)) → flat_map (λ l. l) (map shelf_entries bs) ≡ flat_map shelf_entries bs
 flat_lists [] = refl

@@ -1,22 +1,24 @@
 -- A table with one entry written, whose new key equals its old one.
-use Rattle.std.proofs.Common.{◌≡◌, ℕ, zero, suc, ◌+◌, ◌-◌, ◌<◌, ◌≤◌, Bool, true, false, List, [], ◌∷◌, ◌++◌, length, take, map, set, get_or, nat_lt, cond, rules, refl, sym, ap, subst, ◌∙◌, arith, length-append, length-set, Some, None}
+use Rattle.std.proofs.Common.{◌≡◌, ℕ, zero, suc, ◌+◌, ◌-◌, ◌<◌, ◌≤◌, Bool, true, false, List, [], ◌∷◌, ◌++◌, length, map, set, get_or, nat_lt, rules, refl, sym, ap, subst, ◌∙◌, arith, length-set, Some, None}
 use Rattle.std.specs.Cmp.{IsEquivalence}
 use Rattle.std.specs.List.{flat_map, slice_get, IsDistinct, AllByRecursion}
-use Rattle.std.proofs.lemmas.List.{get_or-map, map-set, length-map}
+use Rattle.std.proofs.lemmas.List.{get_or-map, map-set}
 use Rattle.std.proofs.lemmas.Map.Keys.{IsDistinct-head, IsDistinct-tail, IsDistinct-cons}
 use native.Mathlib.Decide.{dec_lt}
-use Rattle.scc_table.specs.Contents.{Contents, Settings, entries, bucket_count, settings_of, list_of, IsUniqueBy}
+use Rattle.scc_table.specs.Contents.{Contents, Settings, entries, bucket_count, settings_of, list_of}
 use Rattle.scc_table.specs.Places.{IsPlace, index_of}
 use Rattle.scc_table.specs.Routing.{bucket_number, tag_of}
-use Rattle.scc_table.specs.Shelf.{Shelf, shelf_entries}
+use Rattle.scc_bucket.specs.Shelf.{Shelf, shelf_entries}
 use Rattle.scc_table.specs.Steps.{HoldsExactly}
 use Rattle.scc_table.specs.Tables.{IsOwn, IsTable}
-use Rattle.scc_table.specs.Writes.{write_at, shelf_write_at, with_write_at}
+use Rattle.scc_bucket.specs.ShelfWrites.{write_at, shelf_write_at, length-write_at}
+use Rattle.scc_table.specs.Writes.{with_write_at}
 use Rattle.scc_table.specs.declared.place.Place.{Place}
 use Rattle.scc_table.proofs.Inserts.{table_set}
-use Rattle.scc_table.proofs.Spots.{before, flat-get, flat-set, get-below, get-is, place-get}
+use Rattle.scc_bucket.proofs.Lists.{get-below, get-is}
+use Rattle.scc_table.proofs.Spots.{before, flat-get, flat-set, place-get}
 use Rattle.scc_table.proofs.Views.{view_of, entries-view}
-use Rattle.scc_table.proofs.Writing.{length-write_at, set-write_at}
+use Rattle.scc_bucket.proofs.Writing.{set-write_at}
 
 -- a function that reads the same of the written entry reads the same of all
 map-write_at : {E X Y : Type 0} (put : E → X → E) (f : E → Y) (es : List E) (i : ℕ) (e : E) (w : X) → slice_get es i ≡ Some e → f (put e w) ≡ f e → map f (write_at put es i w) ≡ map f es

@@ -1,5 +1,4 @@
 -- What a table ends as, once a `&mut` into it has ended.
-use Rattle.std.specs.Prelude.{ℕ}
 use Rattle.std.specs.Borrow.{Fml, RattleType, MutBor, Lends}
 use Rattle.std.specs.HashMap.Lent.{HashMembers}
 use Rattle.std.specs.declared.hash.Hasher as hasher
@@ -7,7 +6,7 @@ use Rattle.std.specs.declared.hash.BuildHasher as builder
 use Rattle.scc_table.specs.Contents.{Contents}
 use Rattle.scc_table.specs.Writes.{with_write_at}
 use Rattle.scc_table.specs.contracts.table.Table.{the_row}
-use Rattle.scc_table.specs.declared.keyed.Keyed as keyed
+use Rattle.scc_bucket.specs.declared.keyed.Keyed as keyed
 use Rattle.scc_table.specs.declared.place.Place.{Place}
 
 module _ (E H K T V : RattleType) (by : keyed.Ghosts E.Denot K.Denot) (key : HashMembers K.Denot) (build : builder.Ghosts H.Denot T.Denot) (feed : hasher.Ghosts T.Denot) (put : E.Denot → V.Denot → E.Denot) where

@@ -4,7 +4,7 @@ use Rattle.std.specs.List.{filter, flat_map}
 use Rattle.std.specs.List.Sorted.{IsPermutation}
 use Rattle.scc_table.specs.Contents.{Contents, entries, bucket_count, settings_of, list_of}
 use Rattle.scc_table.specs.Routing.{bucket_number, tag_of}
-use Rattle.scc_table.specs.Shelf.{Shelf, shelf_entries}
+use Rattle.scc_bucket.specs.Shelf.{Shelf, shelf_entries}
 
 -- the entries that belong to bucket i of n, in their order
 abbrev pub bound_for : {E : Type 0} → (E → ℕ) → ℕ → ℕ → ℕ → List E → List E

@@ -3,11 +3,10 @@ ghost use Rattle.std.specs.Prelude.{◌≡◌, ◌<◌, ◌+◌, length};
 ghost use Rattle.std.specs.List.{flat_map};
 ghost use Rattle.scc_table.specs.Hashing.{hash_of};
 ghost use Rattle.scc_table.specs.Pour.{Poured, RoomFor};
-ghost use Rattle.scc_table.specs.Shelf.{shelf_entries};
+ghost use Rattle.scc_bucket.specs.Shelf.{shelf_entries};
 
-use crate::bucket::Bucket;
-use crate::keyed::Keyed;
 use crate::route::{bucket_index, tag};
+use scc_bucket::{Bucket, Keyed};
 use std::hash::{BuildHasher, Hash};
 
 /// Each entry goes to the end of the bucket that its hash names, without a search. The buckets have room, so no memory is taken.

@@ -3,7 +3,7 @@ ghost use Rattle.std.specs.Prelude.{◌≡◌, ◌≤◌, ◌<◌, ◌+◌, ◌*
 ghost use Rattle.std.specs.List.{flat_map, position};
 ghost use Rattle.scc_table.specs.Contents.{entries, bucket_count, settings_of, minimum_of, key_hash, bucket_of, IsUniqueBy, HasRoomBy};
 ghost use Rattle.scc_table.specs.Places.{IsPlace, IsFoundAt, index_of};
-ghost use Rattle.scc_table.specs.Shelf.{shelf_entries};
+ghost use Rattle.scc_bucket.specs.Shelf.{shelf_entries};
 ghost use Rattle.scc_table.specs.Sizes.{IsLawful};
 
 mod cloning;
@@ -16,10 +16,9 @@ mod shrinking;
 mod steps;
 mod writes;
 
-use crate::bucket::Bucket;
-use crate::keyed::Keyed;
 use crate::place::Place;
 use crate::route::{bucket_index, tag};
+use scc_bucket::{Bucket, Keyed};
 use std::hash::{BuildHasher, Hash};
 use std::marker::Model;
 
@@ -50,7 +49,7 @@ where
     ghost coded = { contents_code E.code H.code };
 
     ghost use Rattle.scc_table.specs.Hashing.{hash_of};
-    ghost use Rattle.scc_table.specs.Shelf.{shelf_entries};
+    ghost use Rattle.scc_bucket.specs.Shelf.{shelf_entries};
     ghost use Rattle.scc_table.specs.Tables.{IsKept};
 
     ghost view = { λ t. record { lists = map shelf_entries t.buckets.items; settings = record { hasher = t.hasher; skipped = t.skipped; asked = t.asked; reserved = t.reserved } } };

@@ -3,11 +3,10 @@ ghost use Rattle.std.specs.Prelude.{◌≡◌, ◌<◌, ◌+◌, ◌^◌, ℕ, l
 ghost use Rattle.std.specs.List.{flat_map, sum_by};
 ghost use Rattle.scc_table.specs.Hashing.{hash_of};
 ghost use Rattle.scc_table.specs.Pour.{IsTally, Tallies};
-ghost use Rattle.scc_table.specs.Shelf.{shelf_entries};
+ghost use Rattle.scc_bucket.specs.Shelf.{shelf_entries};
 
-use crate::bucket::Bucket;
-use crate::keyed::Keyed;
 use crate::route::bucket_index;
+use scc_bucket::{Bucket, Keyed};
 use std::alloc::{AllocError, Global};
 use std::hash::{BuildHasher, Hash};
 

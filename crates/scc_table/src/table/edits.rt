@@ -8,9 +8,9 @@ ghost use Rattle.scc_table.specs.Sizes.{IsSmaller};
 ghost use Rattle.scc_table.specs.Steps.{Grows, Holds, HoldsExactly, IsUnchanged, Rests};
 
 use super::Table;
-use crate::keyed::Keyed;
 use crate::place::Place;
 use crate::route::tag;
+use scc_bucket::Keyed;
 use std::hash::{BuildHasher, Hash};
 
 /// How many entries may lie in the overflow lists of one table: fewer than this.

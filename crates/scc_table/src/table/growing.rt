@@ -5,9 +5,9 @@ ghost use Rattle.scc_table.specs.Routing.{bucket_number};
 ghost use Rattle.scc_table.specs.Steps.{Grows, Rests};
 
 use super::Table;
-use crate::keyed::Keyed;
 use crate::route::bucket_index;
 use crate::sizes::MOST_BUCKETS;
+use scc_bucket::Keyed;
 use std::alloc::AllocError;
 use std::hash::{BuildHasher, Hash};
 

@@ -7,10 +7,9 @@ ghost use Rattle.scc_table.specs.Steps.{IsUnchanged};
 ghost use Rattle.scc_table.specs.Tables.{AllEmpty};
 
 use super::Table;
-use crate::bucket::Bucket;
 use crate::errors::MakeError;
-use crate::keyed::Keyed;
 use crate::sizes::buckets_for;
+use scc_bucket::{Bucket, Keyed};
 use std::alloc::{AllocError, Global};
 use std::hash::{BuildHasher, Hash};
 

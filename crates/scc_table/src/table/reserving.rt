@@ -5,8 +5,8 @@ ghost use Rattle.scc_table.specs.Sizes.{IsArraySize};
 ghost use Rattle.scc_table.specs.Steps.{IsUnchanged, Releases, Reserves, Resizes};
 
 use super::Table;
-use crate::keyed::Keyed;
 use crate::sizes::{GREATEST_CAPACITY, buckets_for};
+use scc_bucket::Keyed;
 use std::hash::{BuildHasher, Hash};
 
 impl<E: Keyed, H: BuildHasher> Table<E, H>

@@ -10,10 +10,9 @@ ghost use Rattle.scc_table.specs.Tables.{AllEmpty};
 use super::Table;
 use super::edits::OVERFLOW_LIMIT;
 use super::making::roomy_buckets;
-use crate::bucket::Bucket;
-use crate::keyed::Keyed;
 use crate::pour::regroup;
 use crate::tally::{count_overflow, tally};
+use scc_bucket::{Bucket, Keyed};
 use std::alloc::AllocError;
 use std::hash::{BuildHasher, Hash};
 

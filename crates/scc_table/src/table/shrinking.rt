@@ -4,8 +4,8 @@ ghost use Rattle.scc_table.specs.Contents.{entries, bucket_count, IsUniqueBy};
 ghost use Rattle.scc_table.specs.Steps.{Resizes, Shrinks};
 
 use super::Table;
-use crate::keyed::Keyed;
 use crate::sizes::buckets_for;
+use scc_bucket::Keyed;
 use std::hash::{BuildHasher, Hash};
 
 impl<E: Keyed, H: BuildHasher> Table<E, H>

@@ -5,8 +5,8 @@ ghost use Rattle.scc_table.specs.Places.{IsPlace, index_of};
 ghost use Rattle.scc_table.specs.Standing.{StandsAt};
 
 use super::Table;
-use crate::keyed::Keyed;
 use crate::place::Place;
+use scc_bucket::Keyed;
 use std::hash::{BuildHasher, Hash};
 
 impl<E: Keyed, H: BuildHasher> Table<E, H>

@@ -8,7 +8,7 @@ ghost use Rattle.scc_table.specs.Writes.{with_write_at};
 
 use super::Table;
 use crate::place::Place;
-use crate::valued::Valued;
+use scc_bucket::Valued;
 use std::hash::{BuildHasher, Hash};
 
 impl<E: Valued, H: BuildHasher> Table<E, H>

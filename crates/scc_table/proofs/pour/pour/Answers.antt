@@ -3,7 +3,7 @@ use Rattle.std.specs.Vec.Iter.{into_iter_items}
 use Rattle.std.proofs.lemmas.List.{nil_from_length}
 use Rattle.scc_table.specs.Hashing.{hash_of}
 use Rattle.scc_table.specs.Routing.{bucket_number, tag_of}
-use Rattle.scc_table.specs.Shelf.{Shelf, with_entry}
+use Rattle.scc_bucket.specs.Shelf.{Shelf, with_entry}
 use Rattle.scc_table.proofs.Pours.{until-start, until-room, until-step, until-end}
 use Rattle.scc_table.proofs.pour.pour.Goals as goal
 

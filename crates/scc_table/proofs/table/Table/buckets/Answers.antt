@@ -1,6 +1,6 @@
 use Rattle.std.proofs.Common.{ap, sym, ◌∙◌}
 use Rattle.std.specs.List.{flat_map}
-use Rattle.scc_table.specs.Shelf.{shelf_entries}
+use Rattle.scc_bucket.specs.Shelf.{shelf_entries}
 use Rattle.scc_table.proofs.Views.{entries-view}
 use Rattle.scc_table.proofs.table.Table.buckets.Goals as goal
 

@@ -2,7 +2,7 @@ use Rattle.std.proofs.Common.{◌≡◌, ap, ◌∙◌, length, arith, IfOk, Res
 use Rattle.std.specs.List.{flat_map}
 use Rattle.scc_table.specs.Hashing.{hash_of}
 use Rattle.scc_table.specs.Pour.{IsTally}
-use Rattle.scc_table.specs.Shelf.{shelf_entries}
+use Rattle.scc_bucket.specs.Shelf.{shelf_entries}
 use Rattle.scc_table.proofs.Refill.{room-for}
 use Rattle.scc_table.proofs.Views.{entries-view, settings-view}
 use Rattle.scc_table.proofs.table.Table.fresh_for.Goals as goal

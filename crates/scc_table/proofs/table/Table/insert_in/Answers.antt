@@ -1,7 +1,7 @@
 use Rattle.std.proofs.Common.{◌≡◌, ◌+◌, ◌^◌, ◌<◌, ◌≤◌, ◌∙◌, sym, ap, rules, arith, length, refl, set, length-append, length-set}
 use Rattle.scc_table.specs.Hashing.{hash_of}
 use Rattle.scc_table.specs.Routing.{bucket_number, tag_of}
-use Rattle.scc_table.specs.Shelf.{Shelf, with_entry}
+use Rattle.scc_bucket.specs.Shelf.{Shelf, with_entry}
 use Rattle.scc_table.specs.Contents.{entries}
 use Rattle.scc_table.proofs.Inserts.{inserted-at, inserted-table, inserted-holds, overflow-after, overflow-full, refused-unchanged, refused-entries, refused-table, unique-inserted, table-bound, bucket-bound, read-again}
 use native.Mathlib.Decide.{dec_lt}

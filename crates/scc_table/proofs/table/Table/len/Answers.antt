@@ -1,6 +1,6 @@
 use Rattle.std.proofs.Common.{sym, ap, ◌∙◌, length}
 use Rattle.std.proofs.lemmas.List.Concat.{length-flat_map}
-use Rattle.scc_table.specs.Shelf.{shelf_entries}
+use Rattle.scc_bucket.specs.Shelf.{shelf_entries}
 use Rattle.scc_table.proofs.Views.{entries-view}
 use Rattle.scc_table.proofs.table.Table.len.Goals as goal
 

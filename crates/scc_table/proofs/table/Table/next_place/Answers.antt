@@ -2,7 +2,7 @@ use Rattle.std.proofs.Common.{◌≡◌, ◌<◌, ◌∙◌, suc, sym, length, r
 use Rattle.scc_table.specs.Contents.{list_of}
 use Rattle.scc_table.specs.Hashing.{hash_of}
 use Rattle.scc_table.specs.Places.{index_of}
-use Rattle.scc_table.specs.Shelf.{shelf_entries}
+use Rattle.scc_bucket.specs.Shelf.{shelf_entries}
 use Rattle.scc_table.proofs.Inserts.{bucket-bound}
 use Rattle.scc_table.proofs.Standing.{along, index-after}
 use Rattle.scc_table.proofs.Views.{count-view, list-view}

@@ -1,7 +1,7 @@
 use Rattle.std.proofs.Common.{◌≡◌, ap, sym, ◌∙◌, length, rules, arith, refl}
 use Rattle.std.specs.List.{flat_map, sum_by}
 use Rattle.scc_table.specs.Hashing.{hash_of}
-use Rattle.scc_table.specs.Shelf.{shelf_entries}
+use Rattle.scc_bucket.specs.Shelf.{shelf_entries}
 use Rattle.scc_table.proofs.Refill.{room-same, poured-same, spilled-few, table-after, unique-after, regrouped, permuted-view, count-entries}
 use Rattle.scc_table.proofs.Views.{entries-view, settings-view}
 use Rattle.scc_table.proofs.table.Table.refill.Goals as goal

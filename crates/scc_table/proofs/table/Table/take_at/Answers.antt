@@ -1,9 +1,10 @@
 use Rattle.std.proofs.Common.{◌≡◌, ◌<◌, ◌≤◌, ap, rules, arith, length}
 use Rattle.scc_table.specs.Hashing.{hash_of}
-use Rattle.scc_table.specs.Shelf.{shelf_entries}
+use Rattle.scc_bucket.specs.Shelf.{shelf_entries}
 use Rattle.scc_table.proofs.Inserts.{read-again}
 use Rattle.scc_table.proofs.Removes.{at-least-one, removed-table, removed-exactly, removed-unique, removed-unique-flat}
-use Rattle.scc_table.proofs.Spots.{place-get, get-index}
+use Rattle.scc_bucket.proofs.Lists.{get-index}
+use Rattle.scc_table.proofs.Spots.{place-get}
 use Rattle.scc_table.proofs.Standing.{taken-index, taken-list}
 use Rattle.scc_table.proofs.Views.{count-view, list-view}
 use Rattle.scc_table.proofs.table.Table.take_at.Goals as goal

@@ -1,8 +1,8 @@
-use Rattle.std.proofs.Common.{◌≡◌, ◌∙◌, ◌∷◌, ◌++◌, [], length, suc, refl, sym, ap, drop, add-one, drop-cons, true, false}
+use Rattle.std.proofs.Common.{◌∙◌, ◌∷◌, suc, sym, ap, drop, add-one, drop-cons, true, false}
 use Rattle.std.specs.List.{flat_map}
-use Rattle.scc_table.specs.Shelf.{shelf_entries}
-use Rattle.scc_table.specs.Walks.{ended}
-use Rattle.scc_table.proofs.WalkLemmas.{drop-past, walk-append, walk-stopped}
+use Rattle.scc_bucket.specs.Shelf.{shelf_entries}
+use Rattle.scc_bucket.specs.Walks.{ended}
+use Rattle.scc_bucket.proofs.WalkLemmas.{drop-past, walk-append, walk-stopped}
 use Rattle.scc_table.proofs.walks.Table+tuple2+K+V+H.walk.Goals as goal
 
 pub returns-then-not-walk : goal.returns-then-not-walk

@@ -1,8 +1,8 @@
 use Rattle.std.proofs.Common.{drop, Bool}
 use Rattle.std.specs.List.{flat_map}
 use Rattle.scc_table.specs.Contents.{entries}
-use Rattle.scc_table.specs.Shelf.{shelf_entries}
-use Rattle.scc_table.specs.Walks.{CalledOn, Walks}
+use Rattle.scc_bucket.specs.Shelf.{shelf_entries}
+use Rattle.scc_bucket.specs.Walks.{CalledOn, Walks}
 use Rattle.scc_table.proofs.walks.Table+tuple2+K+V+H.walk.Given as goal
 
 abbrev pub invariant-loop-bucket : goal.invariant-loop-bucket

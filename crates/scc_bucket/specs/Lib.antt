@@ -1,0 +1,4 @@
+pub mod LendsBucket
+pub mod Shelf
+pub mod ShelfWrites
+pub mod Walks
