@@ -1,12 +1,12 @@
 -- The entries of one bucket, picked from all entries.
-use Rattle.std.proofs.Common.{◌≡◌, ◌==◌, ℕ, zero, suc, ◌+◌, ◌<◌, ◌≤◌, ◌≢◌, Bool, true, false, List, [], ◌∷◌, ◌++◌, length, get_or, refl, sym, ap, ◌∙◌, arith, eq-eqb, rules}
+use Rattle.std.proofs.Common.{◌≡◌, ◌==◌, ℕ, zero, suc, ◌+◌, ◌<◌, ◌≢◌, true, false, List, [], ◌∷◌, ◌++◌, length, get_or, refl, sym, ap, ◌∙◌, arith, eq-eqb, rules}
 use Rattle.std.specs.List.{filter, flat_map, count_by}
 use Rattle.std.proofs.lemmas.List.{append-nil}
 use Rattle.std.proofs.lemmas.List.Elements.{filter-append}
 use Rattle.std.proofs.lemmas.List.Sums.{length-filter}
 use Rattle.scc_table.specs.Routing.{bucket_number}
 use Rattle.scc_table.specs.Shelf.{Shelf, shelf_entries}
-use Rattle.scc_table.specs.Tables.{IsOwn, IsTable}
+use Rattle.scc_table.specs.Tables.{IsTable}
 
 filter-same : {E : Type 0} (f : E → ℕ) (i : ℕ) (xs : List E) → ((j : ℕ) (d : E) → j < length xs → f (get_or xs j d) ≡ i) → filter (λ e. f e == i) xs ≡ xs
 filter-same f i [] h = refl

@@ -1,27 +1,26 @@
 -- A table with an entry put into one bucket.
-use Rattle.std.proofs.Common.{◌≡◌, ℕ, zero, suc, ◌+◌, ◌-◌, ◌*◌, ◌^◌, ◌<◌, ◌≤◌, ◌≢◌, ◌⊎◌, inl, inr, Bool, true, false, List, [], ◌∷◌, ◌++◌, length, map, set, take, get_or, refl, sym, ap, ◌∙◌, subst, cond, arith, nat_lt, rules, length-append, length-set, append_assoc, get_or-set_same, get_or-set_other, Option, Some, None}
-use Rattle.std.specs.List.{flat_map, sum_by, insert, IsDistinct, AllByRecursion, position, position_or_len}
+use Rattle.std.proofs.Common.{◌≡◌, ℕ, zero, suc, ◌+◌, ◌-◌, ◌*◌, ◌^◌, ◌<◌, ◌≤◌, inl, inr, Bool, true, false, List, [], ◌∷◌, ◌++◌, length, map, set, take, get_or, refl, sym, ap, ◌∙◌, subst, arith, nat_lt, rules, length-append, length-set, append_assoc, get_or-set_same, get_or-set_other, Option, Some, None}
+use Rattle.std.specs.List.{flat_map, sum_by, insert, IsDistinct, AllByRecursion, position}
 use Rattle.std.specs.List.Sorted.{IsPermutation}
 use Rattle.std.proofs.lemmas.List.{get_or_default, get_or-map, map-append, map-set, length-map}
 use Rattle.std.proofs.Math.Seq.{map-set_same}
 use Rattle.std.proofs.lemmas.List.Sums.{sum_by-set, sum_by-cons, get_or-le-sum_by}
 use Rattle.std.proofs.lemmas.List.Edits.{insert_end, insert-append_left, insert-append_right, length-insert, get_or-insert_below, get_or-insert_at, get_or-insert_above}
-use Rattle.std.proofs.lemmas.List.Concat.{length-flat_map}
-use Rattle.std.proofs.lemmas.List.Sorted.{IsPermutation-insert, IsPermutation-map, IsPermutation-sym}
+use Rattle.std.proofs.lemmas.List.Sorted.{IsPermutation-insert, IsPermutation-map}
 use Rattle.std.proofs.lemmas.Map.Keys.{IsDistinct-cons, IsDistinct-IsPermutation}
 use Rattle.std.specs.Cmp.{IsEquivalence}
 use Rattle.std.specs.Option.{option_map}
 use native.Mathlib.Decide.{dec_lt}
-use Rattle.scc_table.specs.Contents.{Contents, Settings, entries, bucket_count, settings_of, list_of, minimum_of}
-use Rattle.scc_table.specs.Places.{IsPlace, IsInsertedAt, index_of}
+use Rattle.scc_table.specs.Contents.{Contents, Settings, entries, bucket_count, settings_of, list_of}
+use Rattle.scc_table.specs.Places.{IsInsertedAt, index_of}
 use Rattle.scc_table.specs.Routing.{bucket_number, tag_of}
-use Rattle.scc_table.specs.Shelf.{Shelf, shelf_entries, empty_shelf, with_entry, next_place}
-use Rattle.scc_table.specs.Steps.{Holds, KeepsSize, HoldsExactly, IsUnchanged}
+use Rattle.scc_table.specs.Shelf.{Shelf, shelf_entries, with_entry, next_place}
+use Rattle.scc_table.specs.Steps.{Holds, IsUnchanged}
 use Rattle.scc_table.specs.Sizes.{IsLawful}
 use Rattle.scc_table.specs.Tables.{IsOwn, IsTable}
-use Rattle.scc_table.proofs.Finding.{NoneOf, position_hit, position_cons, position_none}
+use Rattle.scc_table.proofs.Finding.{position_hit, position_cons}
 use Rattle.scc_table.proofs.Spots.{before, get-index}
-use Rattle.scc_table.proofs.Views.{view_of, flat_lists, entries-view, count-view, settings-view, list-view}
+use Rattle.scc_table.proofs.Views.{view_of, flat_lists, count-view, settings-view}
 
 -- a table with one bucket changed
 pub table_set : {E : Type 0} (hash : E → ℕ) (t n o m q i : ℕ) (bs : List (Shelf E)) (b c : Shelf E) → IsTable hash t bs n o → i < length bs → b ≡ get_or bs i b → IsOwn hash t (length bs) i c

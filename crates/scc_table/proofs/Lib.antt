@@ -12,6 +12,8 @@ pub mod Resizes
 pub mod Search
 pub mod Spots
 pub mod Standing
+pub mod SwapRemoves
+pub mod Swaps
 pub mod Tallies
 pub mod Views
 pub mod WalkLemmas

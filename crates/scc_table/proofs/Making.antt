@@ -1,5 +1,5 @@
 -- Tables that hold nothing.
-use Rattle.std.proofs.Common.{◌≡◌, ℕ, zero, suc, ◌+◌, ◌^◌, ◌-◌, ◌<◌, ◌≤◌, Bool, List, [], ◌∷◌, ◌++◌, length, map, get_or, refl, sym, ap, ◌∙◌, inl, inr, arith, length-append}
+use Rattle.std.proofs.Common.{◌≡◌, ℕ, suc, ◌^◌, ◌-◌, ◌≤◌, Bool, List, [], ◌∷◌, ◌++◌, length, map, get_or, refl, sym, ap, ◌∙◌, inl, inr, arith, length-append}
 use Rattle.scc_table.specs.Contents.{Settings, entries}
 use Rattle.scc_table.proofs.Views.{view_of, entries-view}
 use Rattle.std.specs.List.{IsDistinct, flat_map, sum_by}
@@ -7,9 +7,9 @@ use Rattle.std.proofs.lemmas.List.{nil_from_length, get_or_append_left, get_or-a
 use native.Mathlib.Decide.{dec_lt}
 use Rattle.std.proofs.lemmas.List.Sums.{sum_by-cons}
 use Rattle.scc_table.specs.Routing.{tag_of}
-use Rattle.scc_table.specs.Shelf.{Shelf, shelf_entries, empty_shelf}
+use Rattle.scc_table.specs.Shelf.{Shelf, shelf_entries}
 use Rattle.scc_table.specs.Sizes.{IsArray, IsLawful}
-use Rattle.scc_table.specs.Tables.{IsOwn, IsTable, IsKept, AllEmpty}
+use Rattle.scc_table.specs.Tables.{IsTable, IsKept, AllEmpty}
 
 pub flat-empty : {E : Type 0} (bs : List (Shelf E)) → AllEmpty bs → flat_map shelf_entries bs ≡ []
 flat-empty [] h = refl

@@ -1,5 +1,5 @@
 -- A table with an entry taken out of one bucket.
-use Rattle.std.proofs.Common.{◌≡◌, ℕ, zero, suc, ◌+◌, ◌-◌, ◌*◌, ◌^◌, ◌<◌, ◌≤◌, ◌≢◌, Bool, true, false, List, [], ◌∷◌, ◌++◌, length, map, set, take, get_or, refl, sym, ap, ◌∙◌, subst, cond, arith, nat_lt, rules, length-append, length-set, Some}
+use Rattle.std.proofs.Common.{◌≡◌, ℕ, zero, suc, ◌+◌, ◌-◌, ◌<◌, ◌≤◌, Bool, true, false, List, [], ◌∷◌, length, map, set, take, get_or, refl, sym, ap, ◌∙◌, subst, arith, nat_lt, rules, length-append, length-set, Some}
 use Rattle.std.specs.List.{flat_map, remove, slice_get, IsDistinct}
 use Rattle.std.specs.Cmp.{IsEquivalence}
 use Rattle.std.proofs.lemmas.List.{get_or-map, map-set, length-map}
@@ -8,16 +8,16 @@ use Rattle.std.proofs.lemmas.List.Edits.{length-remove, get_or-remove_below, get
 use Rattle.std.proofs.lemmas.List.Sorted.{IsPermutation-remove, IsPermutation-map}
 use Rattle.std.proofs.lemmas.Map.Keys.{IsDistinct-tail, IsDistinct-IsPermutation}
 use native.Mathlib.Decide.{dec_lt}
-use Rattle.scc_table.specs.Contents.{Contents, Settings, entries, bucket_count, settings_of, list_of, IsUniqueBy}
-use Rattle.scc_table.specs.Places.{IsPlace, index_of}
+use Rattle.scc_table.specs.Contents.{Contents, Settings, entries, bucket_count, settings_of, IsUniqueBy}
+use Rattle.scc_table.specs.Places.{index_of}
 use Rattle.scc_table.specs.Routing.{bucket_number, tag_of}
 use Rattle.scc_table.specs.Shelf.{Shelf, shelf_entries, without_place}
 use Rattle.scc_table.specs.Steps.{HoldsExactly}
 use Rattle.scc_table.specs.Tables.{IsOwn, IsTable}
 use Rattle.scc_table.specs.declared.place.Place.{Place}
-use Rattle.scc_table.proofs.Inserts.{table_set, entries-lists}
-use Rattle.scc_table.proofs.Spots.{before, flat-remove, get-below, get-is}
-use Rattle.scc_table.proofs.Views.{view_of, entries-view, count-view, settings-view, list-view}
+use Rattle.scc_table.proofs.Inserts.{table_set}
+use Rattle.scc_table.proofs.Spots.{flat-remove, get-below, get-is}
+use Rattle.scc_table.proofs.Views.{view_of, entries-view, count-view, settings-view}
 
 map-remove : {X Y : Type 0} (f : X → Y) (xs : List X) (i : ℕ) → remove (map f xs) i ≡ map f (remove xs i)
 map-remove f [] zero = refl
@@ -52,7 +52,7 @@ module _ {E : Type 0} (b : Shelf E) (k : ℕ) (lk : k < length (shelf_entries b)
     | no q ↦ let far : length b.slots ≤ k = omega arith in let c : nat_lt k (length b.slots) ≡ false = search rules in rw c h
   ]
 
-  own_without : (hash : E → ℕ) (t m i : ℕ) → IsOwn hash t m i b → IsOwn hash t m i (without_place b k)
+  pub own_without : (hash : E → ℕ) (t m i : ℕ) → IsOwn hash t m i b → IsOwn hash t m i (without_place b k)
   own_without hash t m i o = record {
     tagged = tags_without (λ e. tag_of (hash e)) o.tagged;
     routed = λ j d lj.

@@ -1,5 +1,5 @@
 -- Steps after a resize, and before one.
-use Rattle.std.proofs.Common.{◌≡◌, ◌≢◌, ℕ, ◌+◌, ◌*◌, ◌^◌, ◌<◌, ◌≤◌, inl, inr, Bool, false, List, [], ◌∷◌, length, refl, sym, ap, ◌∙◌, subst, max, arith, Some, None}
+use Rattle.std.proofs.Common.{◌≡◌, ◌≢◌, ℕ, ◌+◌, ◌*◌, ◌^◌, ◌<◌, ◌≤◌, inl, inr, Bool, false, List, [], ◌∷◌, length, sym, ap, ◌∙◌, subst, max, arith, Some, None}
 use Rattle.std.specs.List.{All, position}
 use Rattle.std.specs.List.Sorted.{IsPermutation}
 use Rattle.std.proofs.lemmas.List.Elements.{All-cons}
@@ -42,6 +42,17 @@ module _ {E S : Type 0} where
     same = IsPermutation-trans es ds (entries c) h q.same;
     size = keeps-size_then a b c p.settings p.size q.size;
     settings = q.settings ∙ p.settings;
+  }
+
+  -- a resize after a change that kept the number of buckets
+  pub then-resized : (a b c : Contents E S) (es : List E) → IsPermutation es (entries b) → bucket_count b ≡ bucket_count a → settings_of b ≡ settings_of a → Resizes b c → Holds a es c
+  then-resized a b c es h n e q = record {
+    same = IsPermutation-trans es (entries b) (entries c) h q.same;
+    size = record {
+      lawful = elim q.size.lawful [ inl z ↦ inl (z ∙ n) | inr z ↦ inr z ];
+      minimum = λ less. let same : minimum_of b ≡ minimum_of a = ap (λ s. s.asked + s.reserved) e in let m = q.size.minimum (omega arith) in omega arith;
+    };
+    settings = q.settings ∙ e;
   }
 
   -- nothing changed is a resize to the same size

@@ -1,6 +1,6 @@
 -- Lists joined end to end, seen at one place of one of them.
-use Rattle.std.proofs.Common.{◌≡◌, ℕ, zero, suc, ◌+◌, ◌-◌, ◌<◌, ◌≤◌, List, [], ◌∷◌, ◌++◌, length, take, drop, get_or, set, refl, sym, ap, subst, ◌∙◌, arith, length-append, None, Some}
-use Rattle.std.specs.List.{flat_map, slice_get, slice_set, remove}
+use Rattle.std.proofs.Common.{◌≡◌, ℕ, zero, suc, ◌+◌, ◌-◌, ◌<◌, List, [], ◌∷◌, ◌++◌, length, take, get_or, set, refl, sym, ap, ◌∙◌, arith, length-append, None, Some}
+use Rattle.std.specs.List.{flat_map, slice_get, remove}
 use Rattle.std.proofs.lemmas.List.Edits.{remove-append_left, remove-append_right}
 use Rattle.scc_table.specs.Contents.{Contents, entries, bucket_count, list_of}
 use Rattle.scc_table.specs.Places.{IsPlace, index_of}

@@ -1,5 +1,5 @@
 -- Buckets and tables with one entry written.
-use Rattle.std.proofs.Common.{◌≡◌, ℕ, zero, suc, ◌+◌, ◌-◌, ◌<◌, ◌≤◌, List, [], ◌∷◌, ◌++◌, length, take, set, get_or, nat_lt, true, false, cond, rules, refl, sym, ap, ◌∙◌, arith, length-append, length-set, Some}
+use Rattle.std.proofs.Common.{◌≡◌, ℕ, zero, suc, ◌+◌, ◌-◌, ◌<◌, ◌≤◌, List, [], ◌∷◌, ◌++◌, length, take, set, get_or, nat_lt, true, false, rules, refl, sym, ap, ◌∙◌, arith, Some}
 use Rattle.std.specs.List.{slice_get}
 use Rattle.scc_table.specs.Shelf.{Shelf, shelf_entries}
 use Rattle.scc_table.specs.Writes.{write_at, shelf_write_at}

@@ -1,11 +1,11 @@
 -- A table with one entry written, whose new key equals its old one.
-use Rattle.std.proofs.Common.{◌≡◌, ℕ, zero, suc, ◌+◌, ◌-◌, ◌<◌, ◌≤◌, Bool, true, false, List, [], ◌∷◌, ◌++◌, length, take, map, set, get_or, nat_lt, cond, rules, refl, sym, ap, subst, ◌∙◌, arith, length-append, length-set, Some, None}
+use Rattle.std.proofs.Common.{◌≡◌, ℕ, zero, suc, ◌+◌, ◌-◌, ◌<◌, ◌≤◌, Bool, true, false, List, [], ◌∷◌, ◌++◌, length, map, set, get_or, nat_lt, rules, refl, sym, ap, subst, ◌∙◌, arith, length-set, Some, None}
 use Rattle.std.specs.Cmp.{IsEquivalence}
 use Rattle.std.specs.List.{flat_map, slice_get, IsDistinct, AllByRecursion}
-use Rattle.std.proofs.lemmas.List.{get_or-map, map-set, length-map}
+use Rattle.std.proofs.lemmas.List.{get_or-map, map-set}
 use Rattle.std.proofs.lemmas.Map.Keys.{IsDistinct-head, IsDistinct-tail, IsDistinct-cons}
 use native.Mathlib.Decide.{dec_lt}
-use Rattle.scc_table.specs.Contents.{Contents, Settings, entries, bucket_count, settings_of, list_of, IsUniqueBy}
+use Rattle.scc_table.specs.Contents.{Contents, Settings, entries, bucket_count, settings_of, list_of}
 use Rattle.scc_table.specs.Places.{IsPlace, index_of}
 use Rattle.scc_table.specs.Routing.{bucket_number, tag_of}
 use Rattle.scc_table.specs.Shelf.{Shelf, shelf_entries}

@@ -1,5 +1,5 @@
 -- Contents whose entries are clones of others.
-use Rattle.std.specs.Prelude.{◌≡◌, ℕ, ◌*◌, List, ◌++◌}
+use Rattle.std.specs.Prelude.{◌≡◌, ◌*◌, List, ◌++◌}
 use Rattle.std.specs.List.{AllZip}
 use Rattle.std.specs.List.Sorted.{IsPermutation}
 use Rattle.scc_table.specs.Contents.{Contents, entries, bucket_count, settings_of}

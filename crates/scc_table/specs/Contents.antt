@@ -1,5 +1,5 @@
 -- What a table holds, and the words by which containers see it.
-use Rattle.std.specs.Prelude.{◌≡◌, ℕ, ◌+◌, ◌*◌, ◌<◌, ◌==◌, Bool, List, [], length, map, count_by, refl}
+use Rattle.std.specs.Prelude.{ℕ, ◌+◌, ◌<◌, ◌==◌, Bool, List, [], length, map, count_by, refl}
 use Rattle.std.specs.Hash.{HashWrites}
 use Rattle.std.specs.List.{flat_map, IsDistinct, slice_index_or}
 use Rattle.std.specs.Coded.{Coded, code_by, coded×, coded_ℕ, coded_list}

@@ -1,6 +1,6 @@
 -- Where an entry stands.
-use Rattle.std.specs.Prelude.{◌≡◌, ℕ, ◌+◌, ◌<◌, Bool, List, [], ◌∷◌, length, take, Some, slice_get}
-use Rattle.std.specs.List.{flat_map, position, slice_set}
+use Rattle.std.specs.Prelude.{◌≡◌, ℕ, ◌+◌, ◌<◌, Bool, ◌∷◌, length, take, Some, slice_get}
+use Rattle.std.specs.List.{flat_map, position}
 use Rattle.scc_table.specs.Contents.{Contents, entries, bucket_count, list_of}
 use Rattle.scc_table.specs.Steps.{Holds}
 use Rattle.scc_table.specs.declared.place.Place.{Place}

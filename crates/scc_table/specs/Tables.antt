@@ -1,5 +1,5 @@
 -- What the fields of a table keep.
-use Rattle.std.specs.Prelude.{◌≡◌, ℕ, ◌+◌, ◌^◌, ◌<◌, ◌≤◌, Bool, List, [], length, map, slice_index_or}
+use Rattle.std.specs.Prelude.{◌≡◌, ℕ, ◌^◌, ◌<◌, ◌≤◌, Bool, List, [], length, map, slice_index_or}
 use Rattle.std.specs.List.{flat_map, sum_by, IsDistinct}
 use Rattle.scc_table.specs.Routing.{bucket_number, tag_of}
 use Rattle.scc_table.specs.Shelf.{Shelf, shelf_entries}

@@ -1,4 +1,4 @@
-use Rattle.std.proofs.Common.{◌≡◌, ◌<◌, ◌≤◌, refl, arith}
+use Rattle.std.proofs.Common.{refl, arith}
 use Rattle.scc_table.proofs.Powers.{least-next}
 use Rattle.scc_table.proofs.sizes.slots_for.Goals as goal
 

@@ -1,4 +1,4 @@
-use Rattle.std.proofs.Common.{◌≡◌, ◌==◌, ◌<◌, ◌≤◌, ◌^◌, ℕ, List, arith, map, length, rules, subst, sym, ◌∙◌, ap}
+use Rattle.std.proofs.Common.{◌≡◌, ◌==◌, ◌<◌, ◌^◌, ℕ, List, arith, map, length, rules}
 use Rattle.std.specs.Int.{w8}
 use Rattle.std.proofs.lemmas.Simd.{bitmask_splat, mask_l-lt}
 use lib.Lanes.{mask_l}

@@ -1,4 +1,4 @@
-use Rattle.std.proofs.Common.{◌≡◌, ◌+◌, ◌*◌, ◌/◌, ◌%◌, ◌<◌, ◌≤◌, ◌≢◌, ◌-◌, ◌^◌, ℕ, zero, suc, min, arith, ap, sym, ◌∙◌, subst, bit_and}
+use Rattle.std.proofs.Common.{◌≡◌, ◌+◌, ◌*◌, ◌/◌, ◌%◌, ◌<◌, ◌≢◌, ◌-◌, ◌^◌, ℕ, zero, suc, arith, ap, sym, ◌∙◌, bit_and}
 use Rattle.std.specs.Int.{bit_at, trailing_zeros, w32}
 use Rattle.std.proofs.lemmas.Nat.Bits.{bit_at-trailing_zeros, bit_at_and, bit_at_cat_low, bit_at_cat_high, bit_at-zero}
 use lib.Pow.{pow_pos}

@@ -1,4 +1,4 @@
-use Rattle.std.proofs.Common.{◌≡◌, ◌∙◌, ◌∷◌, [], length, suc, refl, sym, ap, drop, add-one, drop-cons, true, false, of_calls}
+use Rattle.std.proofs.Common.{◌≡◌, ◌∙◌, ◌∷◌, [], suc, refl, sym, ap, drop, add-one, drop-cons, true, false, of_calls}
 use Rattle.scc_table.specs.Walks.{ended, stopped, went_on}
 use Rattle.scc_table.proofs.WalkLemmas.{drop-past}
 use Rattle.scc_table.proofs.walks.walk_pairs.Goals as goal

@@ -1,4 +1,4 @@
-use Rattle.std.proofs.Common.{◌≡◌, ◌+◌, List, [], ◌++◌, length, ap, sym, ◌∙◌, arith, rules, length-append}
+use Rattle.std.proofs.Common.{◌≡◌, List, [], ◌++◌, length, ap, ◌∙◌, arith, rules, length-append}
 use Rattle.scc_table.specs.Shelf.{shelf_entries}
 use Rattle.scc_table.proofs.bucket.Bucket.destroy_empty.Goals as goal
 

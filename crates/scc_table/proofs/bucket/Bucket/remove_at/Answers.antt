@@ -1,4 +1,4 @@
-use Rattle.std.proofs.Common.{◌≡◌, ◌<◌, ◌≤◌, ◌+◌, ℕ, List, arith, rules, sym, ap, ◌∙◌, length, take, subst}
+use Rattle.std.proofs.Common.{◌≡◌, ◌<◌, ◌+◌, ℕ, List, arith, rules, ap, ◌∙◌, length, subst}
 use Rattle.std.specs.List.{remove}
 use Rattle.std.proofs.lemmas.Slice.{put_mid-rotated}
 use Rattle.scc_table.proofs.Remove.{tags_left, removed}

@@ -1,6 +1,6 @@
-use Rattle.std.proofs.Common.{◌≡◌, ◌≤◌, ◌<◌, ◌-◌, ℕ, length, refl, sym, ap, ◌∙◌, arith, rules, length-append}
+use Rattle.std.proofs.Common.{◌≡◌, ◌≤◌, ◌<◌, ◌-◌, length, ap, arith, rules, length-append}
 use Rattle.scc_table.specs.Shelf.{Shelf, shelf_entries}
-use Rattle.scc_table.proofs.Writing.{slot-written, overflow-written, slot-got, overflow-got}
+use Rattle.scc_table.proofs.Writing.{slot-written, overflow-written, overflow-got}
 use Rattle.scc_table.proofs.bucket.Bucket.replace_key_at.Goals as goal
 
 pub returns-then-place-count-clause-new : goal.returns-then-place-count-clause-new

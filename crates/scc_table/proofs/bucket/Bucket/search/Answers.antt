@@ -1,4 +1,4 @@
-use Rattle.std.proofs.Common.{◌≡◌, ◌<◌, ◌≤◌, ◌+◌, ℕ, Some, arith, rules, sym, ap, ◌∙◌, length, take, subst, get_or, true}
+use Rattle.std.proofs.Common.{◌≡◌, ◌<◌, ◌≤◌, ◌+◌, Some, rules, sym, ap, ◌∙◌, length, take, subst, get_or, true}
 use Rattle.scc_table.proofs.Search.{hits_start, missed_slots, found_slot, found_overflow, found_none}
 use Rattle.scc_table.proofs.bucket.Bucket.search.Goals as goal
 

@@ -1,4 +1,3 @@
-use Rattle.std.proofs.Common.{◌≡◌, ◌<◌, ℕ}
 use Rattle.scc_table.proofs.Search.{HitsLeft, MissedBelow}
 use Rattle.scc_table.proofs.bucket.Bucket.search.Given as goal
 

@@ -1,4 +1,4 @@
-use Rattle.std.proofs.Common.{◌≡◌, ◌≤◌, ◌<◌, ◌-◌, ℕ, length, refl, sym, ap, ◌∙◌, arith, rules, length-append}
+use Rattle.std.proofs.Common.{◌≡◌, ◌≤◌, ◌<◌, ◌-◌, length, refl, ap, arith, rules, length-append}
 use Rattle.scc_table.specs.Shelf.{Shelf, shelf_entries}
 use Rattle.scc_table.proofs.Writing.{slot-written, overflow-written, slot-got, overflow-got}
 use Rattle.scc_table.proofs.bucket.Bucket.value_mut_at.Goals as goal

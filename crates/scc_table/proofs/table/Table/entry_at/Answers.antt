@@ -1,5 +1,4 @@
-use Rattle.std.proofs.Common.{◌≡◌, ◌<◌, ap, sym, ◌∙◌, length, get_or, subst, rules}
-use Rattle.scc_table.specs.Shelf.{shelf_entries}
+use Rattle.std.proofs.Common.{rules}
 use Rattle.scc_table.proofs.Views.{count-view, list-view}
 use Rattle.scc_table.proofs.Spots.{get-index, place-get}
 use Rattle.scc_table.proofs.table.Table.entry_at.Goals as goal

@@ -1,5 +1,4 @@
-use Rattle.std.proofs.Common.{◌≡◌, ◌*◌, length, refl, sym, ap, ◌∙◌, arith, rules}
-use Rattle.scc_table.specs.Contents.{settings_of, bucket_count}
+use Rattle.std.proofs.Common.{◌≡◌, length, refl, sym, ◌∙◌, arith, rules}
 use Rattle.scc_table.proofs.Cloning.{array-of_some}
 use Rattle.scc_table.proofs.Making.{kept-fresh, entries-fresh}
 use Rattle.scc_table.proofs.Views.{count-view, settings-view}

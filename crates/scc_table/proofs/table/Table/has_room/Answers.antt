@@ -1,7 +1,6 @@
-use Rattle.std.proofs.Common.{◌≡◌, ◌<◌, length, ap, sym, ◌∙◌, rules, arith}
+use Rattle.std.proofs.Common.{◌≡◌, ◌<◌, length, ap, ◌∙◌, rules, arith}
 use Rattle.scc_table.specs.Hashing.{hash_of}
 use Rattle.scc_table.specs.Routing.{bucket_number}
-use Rattle.scc_table.specs.Shelf.{shelf_entries}
 use Rattle.scc_table.proofs.Counting.{count-in_bucket}
 use Rattle.scc_table.proofs.Inserts.{bucket-bound}
 use Rattle.scc_table.proofs.Views.{entries-view, count-view, settings-view}

@@ -1,4 +1,4 @@
-use Rattle.std.proofs.Common.{refl, sym, rules}
+use Rattle.std.proofs.Common.{sym}
 use Rattle.scc_table.proofs.Cloning.{adds-none, adds-bucket}
 use Rattle.scc_table.proofs.table.Table.insert_clones_of.Goals as goal
 

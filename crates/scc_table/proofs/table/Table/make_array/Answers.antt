@@ -1,7 +1,5 @@
-use Rattle.std.proofs.Common.{◌≡◌, ℕ, [], List, length, refl, sym, ap, ◌∙◌, rules, arith, subst}
-use Rattle.scc_table.specs.Contents.{bucket_count, settings_of}
-use Rattle.scc_table.specs.Hashing.{hash_of}
-use Rattle.scc_table.specs.Tables.{AllEmpty}
+use Rattle.std.proofs.Common.{refl, sym, rules}
+use Rattle.scc_table.specs.Contents.{settings_of}
 use Rattle.scc_table.proofs.Finding.{no-entries}
 use Rattle.scc_table.proofs.Making.{counts-none, kept-fresh, entries-fresh}
 use Rattle.scc_table.proofs.Views.{count-view, settings-view}

@@ -1,8 +1,5 @@
-use Rattle.std.proofs.Common.{◌≡◌, List, [], length, refl, inl, arith, rules, map}
-use Rattle.std.specs.List.{IsDistinct, flat_map}
+use Rattle.std.proofs.Common.{refl, arith}
 use Rattle.scc_table.specs.Contents.{entries, bucket_count, settings_of}
-use Rattle.scc_table.specs.Shelf.{Shelf, shelf_entries}
-use Rattle.scc_table.specs.Tables.{IsTable, IsKept}
 use Rattle.scc_table.proofs.Making.{kept-none}
 use Rattle.scc_table.proofs.table.Table.new.Goals as goal
 

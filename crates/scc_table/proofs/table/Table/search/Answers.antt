@@ -1,7 +1,6 @@
-use Rattle.std.proofs.Common.{◌≡◌, ℕ, ◌∙◌, sym, ap, rules, length, true, refl}
-use Rattle.std.specs.List.{position}
+use Rattle.std.proofs.Common.{◌≡◌, ◌∙◌, sym, ap, rules, length, refl}
 use Rattle.scc_table.specs.Hashing.{hash_of}
-use Rattle.scc_table.proofs.Finding.{HashOf, has_tag, found_at, missed_at, no-entries}
+use Rattle.scc_table.proofs.Finding.{has_tag, found_at, missed_at, no-entries}
 use Rattle.scc_table.proofs.Views.{entries-view, settings-view}
 use Rattle.scc_table.proofs.table.Table.search.Goals as goal
 

@@ -1,12 +1,7 @@
-use Rattle.std.proofs.Common.{◌≡◌, ◌<◌, ℕ, length, refl, sym, ap, subst, ◌∙◌, rules, true, set}
-use Rattle.std.specs.List.{IsDistinct, slice_get}
-use Rattle.scc_table.specs.Contents.{entries, list_of}
+use Rattle.std.proofs.Common.{◌<◌, length, refl, ap, ◌∙◌, rules}
 use Rattle.scc_table.specs.Hashing.{hash_of}
-use Rattle.scc_table.specs.Places.{index_of}
-use Rattle.scc_table.specs.Shelf.{Shelf, shelf_entries}
-use Rattle.scc_table.specs.Writes.{shelf_write_at, with_write_at}
 use Rattle.scc_table.proofs.Spots.{place-get}
-use Rattle.scc_table.proofs.Views.{count-view, list-view, entries-view}
+use Rattle.scc_table.proofs.Views.{count-view, list-view}
 use Rattle.scc_table.proofs.WritingTables.{written-table, written-view, written-unique}
 use Rattle.scc_table.proofs.table.Table.value_mut_at.Goals as goal
 

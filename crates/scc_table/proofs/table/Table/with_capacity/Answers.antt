@@ -1,5 +1,5 @@
-use Rattle.std.proofs.Common.{◌≡◌, ◌*◌, ℕ, length, refl, ap, sym, ◌∙◌, arith}
-use Rattle.scc_table.specs.Contents.{bucket_count, settings_of}
+use Rattle.std.proofs.Common.{refl, arith}
+use Rattle.scc_table.specs.Contents.{settings_of}
 use Rattle.scc_table.proofs.Making.{kept-fresh, entries-fresh}
 use Rattle.scc_table.proofs.Views.{count-view}
 use Rattle.scc_table.proofs.table.Table.with_capacity.Goals as goal

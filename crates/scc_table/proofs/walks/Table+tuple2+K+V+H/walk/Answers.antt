@@ -1,4 +1,4 @@
-use Rattle.std.proofs.Common.{◌≡◌, ◌∙◌, ◌∷◌, ◌++◌, [], length, suc, refl, sym, ap, drop, add-one, drop-cons, true, false}
+use Rattle.std.proofs.Common.{◌∙◌, ◌∷◌, suc, sym, ap, drop, add-one, drop-cons, true, false}
 use Rattle.std.specs.List.{flat_map}
 use Rattle.scc_table.specs.Shelf.{shelf_entries}
 use Rattle.scc_table.specs.Walks.{ended}
