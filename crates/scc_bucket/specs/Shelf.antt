@@ -1,6 +1,6 @@
 -- What a bucket holds.
 use Rattle.std.specs.Prelude.{◌≡◌, ℕ, ◌-◌, ◌<◌, ◌≤◌, ◌⊎◌, List, [], ◌∷◌, ◌++◌, length, cond, nat_lt, slice_index, slice_index_or, Bool, true, refl}
-use Rattle.std.specs.List.{remove}
+use Rattle.std.specs.List.{remove, swap_remove}
 use Rattle.std.specs.Coded.{Coded, code_by, coded×, coded_ℕ, coded_list}
 
 -- the entries of the slots with their tags, those of the overflow list, and how many that list has room for
@@ -51,6 +51,12 @@ abbrev pub without_place : {E : Type 0} → Shelf E → ℕ → Shelf E
 without_place b i = cond (nat_lt i (length b.slots))
     (record { slots = remove b.slots i; tags = remove b.tags i; overflow = b.overflow; room = b.room })
     (record { slots = b.slots; tags = b.tags; overflow = remove b.overflow (i - length b.slots); room = b.room })
+
+-- the bucket without the entry x at place i, where the last slot or the last of the overflow list now stands
+abbrev pub swapped_out : {E : Type 0} → Shelf E → ℕ → E → Shelf E
+swapped_out b i x = cond (nat_lt i (length b.slots))
+    (record { slots = swap_remove b.slots i x; tags = swap_remove b.tags i 0; overflow = b.overflow; room = b.room })
+    (record { slots = b.slots; tags = b.tags; overflow = swap_remove b.overflow (i - length b.slots) x; room = b.room })
 
 -- the slots whose entry passes p have the tag t
 abbrev pub HasTag : {E : Type 0} → (E → Bool) → ℕ → Shelf E → Type 0

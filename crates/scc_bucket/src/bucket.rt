@@ -1,7 +1,7 @@
 //! A bucket: 32 slots with their tags, in the order of their entries, and the overflow list.
 ghost use Rattle.std.specs.Prelude.{◌≡◌, ◌≤◌, ◌<◌, ◌+◌, ◌^◌, ◌↔◌, ◌++◌, ℕ, [], length, IsTrue, IfOk, IfErr, slice_index, slice_index_or};
 ghost use Rattle.std.specs.List.{position};
-ghost use Rattle.scc_bucket.specs.Shelf.{shelf_entries, empty_shelf, with_slot, with_entry, next_place, without_place, HasRoom, HasTag};
+ghost use Rattle.scc_bucket.specs.Shelf.{shelf_entries, empty_shelf, with_slot, with_entry, next_place, without_place, swapped_out, HasRoom, HasTag};
 
 mod writes;
 
@@ -159,6 +159,21 @@ impl<E> Bucket<E> {
         }
         self.tags[place..].rotate_left(1);
         self.slots.remove(place)
+    }
+
+    /// Takes an entry out. The last entry of the slots, or of the overflow list, takes its place.
+    #[inline(always)]
+    pub fn swap_remove_at(&mut self, place: usize) -> E
+        requires { place < length (shelf_entries self.old) }
+        ensures entry { result ≡ slice_index_or (shelf_entries self.old) place result }
+        ensures others { self.new ≡ swapped_out self.old place result }
+    {
+        let count = self.slots.len();
+        if place >= count {
+            return self.overflow.swap_remove(place - count);
+        }
+        self.tags[place] = self.tags[count - 1];
+        self.slots.swap_remove(place)
     }
 
     /// The entries of the slots, and those of the overflow list.

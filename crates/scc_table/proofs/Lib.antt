@@ -10,6 +10,7 @@ pub mod Removes
 pub mod Resizes
 pub mod Spots
 pub mod Standing
+pub mod SwapRemoves
 pub mod Tallies
 pub mod Views
 pub mod WritingTables

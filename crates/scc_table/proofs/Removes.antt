@@ -53,7 +53,7 @@ module _ {E : Type 0} (b : Shelf E) (k : ℕ) (lk : k < length (shelf_entries b)
     | no q ↦ let far : length b.slots ≤ k = omega arith in let c : nat_lt k (length b.slots) ≡ false = search rules in rw c h
   ]
 
-  own_without : (hash : E → ℕ) (t m i : ℕ) → IsOwn hash t m i b → IsOwn hash t m i (without_place b k)
+  pub own_without : (hash : E → ℕ) (t m i : ℕ) → IsOwn hash t m i b → IsOwn hash t m i (without_place b k)
   own_without hash t m i o = record {
     tagged = tags_without (λ e. tag_of (hash e)) o.tagged;
     routed = λ j d lj.

@@ -44,6 +44,17 @@ module _ {E S : Type 0} where
     settings = q.settings ∙ p.settings;
   }
 
+  -- a resize after a change that kept the number of buckets
+  pub then-resized : (a b c : Contents E S) (es : List E) → IsPermutation es (entries b) → bucket_count b ≡ bucket_count a → settings_of b ≡ settings_of a → Resizes b c → Holds a es c
+  then-resized a b c es h n e q = record {
+    same = IsPermutation-trans es (entries b) (entries c) h q.same;
+    size = record {
+      lawful = elim q.size.lawful [ inl z ↦ inl (z ∙ n) | inr z ↦ inr z ];
+      minimum = λ less. let same : minimum_of b ≡ minimum_of a = ap (λ s. s.asked + s.reserved) e in let m = q.size.minimum (omega arith) in omega arith;
+    };
+    settings = q.settings ∙ e;
+  }
+
   -- nothing changed is a resize to the same size
   pub unchanged-resizes : (a b : Contents E S) → IsUnchanged a b → Resizes a b
   unchanged-resizes a b u = record {

@@ -10,6 +10,7 @@ mod cloning;
 mod edits;
 mod growing;
 mod making;
+mod removing;
 mod reserving;
 mod resizing;
 mod shrinking;

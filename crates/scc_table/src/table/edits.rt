@@ -1,11 +1,10 @@
 //! How entries get into a table and out of it.
-ghost use Rattle.std.specs.Prelude.{◌≡◌, ◌≢◌, ◌≤◌, ◌<◌, ◌+◌, ◌*◌, ◌^◌, [], ◌∷◌, length, Some, None, IsTrue, IfOk, IfErr, OnErr, slice_get, remove};
+ghost use Rattle.std.specs.Prelude.{◌≡◌, ◌≤◌, ◌<◌, ◌+◌, ◌*◌, ◌^◌, [], ◌∷◌, length, Some, None, IsTrue, IfOk, IfErr, OnErr, slice_get, remove};
 ghost use Rattle.std.specs.List.{position};
-ghost use Rattle.scc_table.specs.Contents.{entries, bucket_count, list_of, settings_of, minimum_of, key_hash, bucket_of, IsUniqueBy, HasRoomBy};
+ghost use Rattle.scc_table.specs.Contents.{entries, bucket_count, list_of, settings_of, key_hash, bucket_of, IsUniqueBy, HasRoomBy};
 ghost use Rattle.scc_table.specs.Places.{IsPlace, IsInsertedAt, index_of};
 ghost use Rattle.scc_table.specs.Routing.{bucket_number};
-ghost use Rattle.scc_table.specs.Sizes.{IsSmaller};
-ghost use Rattle.scc_table.specs.Steps.{Grows, Holds, HoldsExactly, IsUnchanged, Rests};
+ghost use Rattle.scc_table.specs.Steps.{Grows, HoldsExactly, IsUnchanged, Rests};
 
 use super::Table;
 use crate::place::Place;
@@ -18,7 +17,7 @@ pub const OVERFLOW_LIMIT: usize = 1 << 62;
 
 /// 1 where it holds, else 0.
 #[inline(always)]
-fn one_if(holds: bool) -> usize
+pub(super) fn one_if(holds: bool) -> usize
     ensures yes { IsTrue holds → result ≡ 1 }
     ensures no { (IsTrue holds → ⊥) → result ≡ 0 }
 {
@@ -70,19 +69,6 @@ where
             }
             Err(back) => Err(back),
         }
-    }
-
-    /// Takes the entry out of its place. The others stay, maybe in other places: where few are left, the array may become smaller.
-    pub fn remove_at(&mut self, place: Place) -> E
-        requires { IsPlace self.old place }
-        ensures entry { slice_get (entries self.old) (index_of self.old place) ≡ Some result }
-        ensures others { Holds self.old (remove (entries self.old) (index_of self.old place)) self.new }
-        ensures smaller { bucket_count self.new ≢ bucket_count self.old → IsSmaller (minimum_of self.old) (length (entries self.new)) (bucket_count self.old) (bucket_count self.new) }
-        ensures unique { IsUniqueBy E.Key.eq E.key_of self.new }
-    {
-        let entry = self.take_at(place);
-        self.shrink();
-        entry
     }
 
     /// Takes the entry out of its place, with no resize: the others stay in their order, and the one after it has as many before it as it had.

@@ -1,0 +1,48 @@
+//! How entries get out of a table where the order of the others is free.
+ghost use Rattle.std.specs.Prelude.{◌≡◌, ◌≢◌, Some, length, slice_get, remove};
+ghost use Rattle.std.specs.List.Sorted.{IsPermutation};
+ghost use Rattle.scc_table.specs.Contents.{entries, bucket_count, settings_of, minimum_of, IsUniqueBy};
+ghost use Rattle.scc_table.specs.Places.{IsPlace, index_of};
+ghost use Rattle.scc_table.specs.Sizes.{IsSmaller};
+ghost use Rattle.scc_table.specs.Steps.{Holds};
+
+use super::Table;
+use super::edits::one_if;
+use crate::keyed::Keyed;
+use crate::place::Place;
+use std::hash::{BuildHasher, Hash};
+
+impl<E: Keyed, H: BuildHasher> Table<E, H>
+where
+    E::Key: Eq + Hash,
+{
+    /// Takes the entry out of its place. The others stay, maybe in other places: where few are left, the array may become smaller.
+    pub fn remove_at(&mut self, place: Place) -> E
+        requires { IsPlace self.old place }
+        ensures entry { slice_get (entries self.old) (index_of self.old place) ≡ Some result }
+        ensures others { Holds self.old (remove (entries self.old) (index_of self.old place)) self.new }
+        ensures smaller { bucket_count self.new ≢ bucket_count self.old → IsSmaller (minimum_of self.old) (length (entries self.new)) (bucket_count self.old) (bucket_count self.new) }
+        ensures unique { IsUniqueBy E.Key.eq E.key_of self.new }
+    {
+        let entry = self.swap_take_at(place);
+        self.shrink();
+        entry
+    }
+
+    /// Takes the entry out of its place, with no resize. The last entry of its bucket's slots, or of its overflow list, may take its place.
+    #[inline(always)]
+    fn swap_take_at(&mut self, place: Place) -> E
+        requires { IsPlace self.old place }
+        ensures entry { slice_get (entries self.old) (index_of self.old place) ≡ Some result }
+        ensures others { IsPermutation (remove (entries self.old) (index_of self.old place)) (entries self.new) }
+        ensures buckets { bucket_count self.new ≡ bucket_count self.old }
+        ensures settings { settings_of self.new ≡ settings_of self.old }
+        ensures unique { IsUniqueBy E.Key.eq E.key_of self.new }
+    {
+        let in_overflow = self.buckets[place.bucket].is_overflow(place.slot);
+        let entry = self.buckets[place.bucket].swap_remove_at(place.slot);
+        self.length -= 1;
+        self.overflowing -= one_if(in_overflow);
+        entry
+    }
+}
