@@ -65,3 +65,9 @@ module _ {S C R : Type 0} (Like : S → S → Type 0) {moves : S → C → R →
   runs-agree l done r = none-made l r
   runs-agree {t} l (resize {s} {t = mid} {buckets} h r) q = runs-agree (left s t mid buckets l h) r q
   runs-agree {t} {v} {others} l (answer m r) q = one-made m (λ t v others k p. runs-agree k r p) t v others l q
+
+-- a run gives no more replies than there are calls
+pub no-more : {S C R : Type 0} {moves : S → C → R → S → Type 0} {resizes : S → ℕ → S → Type 0} {s u : S} {calls : List C} {made : List R} → IsRun moves resizes s calls made u → length made ≤ length calls
+no-more done = omega arith
+no-more (resize h r) = no-more r
+no-more (answer {calls} {replies} m r) = omega (arith, no-more r)

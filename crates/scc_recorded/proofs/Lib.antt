@@ -2,5 +2,5 @@ pub mod Independence
 mod MapCalls
 pub mod MapIndependence
 pub mod MapRuns
-mod Runs
+pub mod Runs
 mod States

@@ -1,5 +1,5 @@
 -- What a call of a map answers and leaves is settled by its pairs, whatever their order: hashes and the number of buckets don't matter.
-use Rattle.std.proofs.Common.{◌≡◌, ◌∙◌, ℕ, Bool, true, false, cond, List, [], ◌∷◌, ◌++◌, length, Option, None, Some, refl, sym, ap, subst}
+use Rattle.std.proofs.Common.{◌≡◌, ◌∙◌, ℕ, Bool, true, false, cond, List, [], ◌∷◌, ◌++◌, length, Option, None, Some, refl, sym, ap, subst, arith}
 use Rattle.std.specs.Cmp.{IsEquivalence}
 use Rattle.std.specs.List.{IsDistinct, AllByRecursion}
 use Rattle.std.specs.List.Sorted.{IsPermutation}
@@ -20,7 +20,7 @@ use Rattle.scc_recorded.specs.declared.recorded.calls_as_values.MapCall.{MapCall
 use Rattle.scc_recorded.specs.declared.recorded.calls_as_values.MapCall.TheVariants.{Insert, Upsert, Replace, Read, Contains, Remove, Clear, Len}
 use Rattle.scc_recorded.specs.declared.recorded.replies.Reply.{Reply}
 use Rattle.scc_recorded.specs.declared.recorded.replies.Reply.TheVariants.{Inserted, Exists, Old, Key, Pair, Value, Has, Evicted, Cleared, Count}
-use Rattle.scc_recorded.proofs.Independence.{Agrees, runs-agree}
+use Rattle.scc_recorded.proofs.Independence.{Agrees, runs-agree, equally-many, first-replies, no-more}
 
 module _ {K V : Type 0} (t : K → Bool) where
   -- the pairs about the one that is found
@@ -225,3 +225,13 @@ module _ {K V H I : Type 0} {eq : K → K → Bool} (laws : IsEquivalence eq) (g
       (λ s t u number l z. record { distinct = distinct-IsPermutation laws s.0 u.0 z.same l.distinct; pairs = IsPermutation-trans u.0 s.0 t.0 (IsPermutation-sym s.0 u.0 z.same) l.pairs })
       (λ s t u number l z. record { distinct = l.distinct; pairs = IsPermutation-trans s.0 t.0 u.0 l.pairs z.same })
       (record { distinct = d; pairs = perm }) a b
+
+  module _ {s t u v : State (K × V)} {calls : List (MapCall K V)} {made others : List (Reply K V)} (d : IsDistinct eq (keys_of s.0)) (perm : IsPermutation s.0 t.0)
+      (a : IsRun (MapMoves eq) (ResizesTo g) s calls made u) (b : IsRun (MapMoves eq) (ResizesTo h) t calls others v) (all : length made ≡ length calls) where
+    -- two runs that answer every call
+    pub map-runs-same : length others ≡ length calls → (made ≡ others) × IsPermutation u.0 v.0
+    map-runs-same too = let e = equally-many (IsRearranged eq) made others u v (map-runs-agree d perm a b) (all ∙ sym too) in (e.0, e.1.pairs)
+
+    -- a run that answers every call, and one that may have stopped
+    pub map-runs-first : (rest : List (Reply K V)) × (made ≡ others ++ rest)
+    map-runs-first = first-replies (IsRearranged eq) made others u v (map-runs-agree d perm a b) (omega (arith, all, no-more b))
