@@ -1,5 +1,5 @@
 -- Two runs of the same calls, where what is alike in two states settles what a call answers.
-use Rattle.std.proofs.Common.{◌≡◌, ◌∙◌, ℕ, ◌+◌, suc, List, [], ◌∷◌, ◌++◌, length, ◌⊎◌, inl, inr, refl, sym, ap, arith, length-append, append-nil, ◌≤◌}
+use Rattle.std.proofs.Common.{◌≡◌, ◌∙◌, ℕ, List, [], ◌∷◌, ◌++◌, length, ◌⊎◌, inl, inr, refl, sym, ap, arith, length-append, append-nil, ◌≤◌}
 use Rattle.scc_recorded.specs.Run.{IsRun, done, resize, answer}
 
 module _ {R : Type 0} where

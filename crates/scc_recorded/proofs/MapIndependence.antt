@@ -1,5 +1,5 @@
 -- What a call of a map answers and leaves is settled by its pairs, whatever their order: hashes and the number of buckets don't matter.
-use Rattle.std.proofs.Common.{◌≡◌, ◌∙◌, ℕ, Bool, true, false, cond, List, [], ◌∷◌, ◌++◌, length, Option, None, Some, refl, sym, ap, subst, arith}
+use Rattle.std.proofs.Common.{◌≡◌, ◌∙◌, Bool, true, false, cond, List, [], ◌∷◌, ◌++◌, length, Option, None, Some, refl, sym, ap, subst, arith}
 use Rattle.std.specs.Cmp.{IsEquivalence}
 use Rattle.std.specs.List.{IsDistinct, AllByRecursion}
 use Rattle.std.specs.List.Sorted.{IsPermutation}
@@ -19,7 +19,7 @@ use Rattle.scc_recorded.specs.declared.recorded.fixed.Setting.{Setting}
 use Rattle.scc_recorded.specs.declared.recorded.calls_as_values.MapCall.{MapCall}
 use Rattle.scc_recorded.specs.declared.recorded.calls_as_values.MapCall.TheVariants.{Insert, Upsert, Replace, Read, Contains, Remove, Clear, Len}
 use Rattle.scc_recorded.specs.declared.recorded.replies.Reply.{Reply}
-use Rattle.scc_recorded.specs.declared.recorded.replies.Reply.TheVariants.{Inserted, Exists, Old, Key, Pair, Value, Has, Evicted, Cleared, Count}
+use Rattle.scc_recorded.specs.declared.recorded.replies.Reply.TheVariants.{Inserted, Exists, Old, Key, Pair, Value, Has, Cleared, Count}
 use Rattle.scc_recorded.proofs.Independence.{Agrees, runs-agree, equally-many, first-replies, no-more}
 
 module _ {K V : Type 0} (t : K → Bool) where
@@ -201,12 +201,11 @@ module _ {K V : Type 0} {eq : K → K → Bool} (laws : IsEquivalence eq) where
   moves-alike s t u v call q r d perm m n =
       let a = settled eq s call q u m in
       let b = settled eq t call r v n in
-      let o : a.0 ≡ b.0 = sym a.1 ∙ sym (there-alike s.0 t.0 (map_key call) d perm) ∙ b.1 in
-      (
+      let o : a.0 ≡ b.0 = sym a.1 ∙ sym (there-alike s.0 t.0 (map_key call) d perm) ∙ b.1 in (
         a.2 ∙ answered-alike a.0 s.0 t.0 call perm ∙ ap (λ z. answered eq z t.0 call) o ∙ sym b.2,
         IsPermutation-trans u.0 (left eq a.0 s.0 call) v.0 (IsPermutation-sym (left eq a.0 s.0 call) u.0 a.3)
-        (IsPermutation-trans (left eq a.0 s.0 call) (left eq a.0 t.0 call) v.0 (left-alike a.0 s.0 t.0 call a.1 d perm)
-        (subst (λ z. IsPermutation (left eq z t.0 call) v.0) (sym o) b.3)),
+            (IsPermutation-trans (left eq a.0 s.0 call) (left eq a.0 t.0 call) v.0 (left-alike a.0 s.0 t.0 call a.1 d perm)
+            (subst (λ z. IsPermutation (left eq z t.0 call) v.0) (sym o) b.3)),
       )
 
 module _ {K V : Type 0} (eq : K → K → Bool) where

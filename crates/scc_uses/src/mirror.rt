@@ -13,12 +13,7 @@ use std::hash::{BuildHasher, Hash};
 /// Makes the same calls on two maps that have the same pairs, each under a hasher, a capacity and a minimum of its own: it adds the same replies for both, and leaves the same pairs in both.
 ///
 /// All calls are made on the first map before any on the second. Where one is refused on the first, the second isn't touched. Where one is refused on the second, the replies up to there are the first of those of the first map.
-pub fn run_on_both<
-    K: Eq + Hash + Copy,
-    V: Copy + PartialEq,
-    H: BuildHasher,
-    I: BuildHasher,
->(
+pub fn run_on_both<K: Eq + Hash + Copy, V: Copy + PartialEq, H: BuildHasher, I: BuildHasher>(
     first: &mut Owned<K, V, H>,
     second: &mut Owned<K, V, I>,
     calls: &[MapCall<K, V>],
