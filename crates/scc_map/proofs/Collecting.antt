@@ -2,13 +2,13 @@
 use Rattle.std.proofs.Common.{◌≡◌, ◌∙◌, ℕ, Bool, true, false, cond, List, [], ◌∷◌, ◌++◌, reverse, Option, None, Some, Ok, refl, sym, ap, subst}
 use mathlib.Core.List.{reverse-cons}
 use Rattle.std.specs.Cmp.{IsEquivalence}
-use Rattle.std.specs.List.{FoldsTo, IsDistinct, AllZip, fold}
-use Rattle.std.specs.Map.{keys_of, lookup_entry, set_value}
-use Rattle.std.specs.Option.{option_or, MatchOption, IsSomeAnd}
+use Rattle.std.specs.List.{IsDistinct, fold}
+use Rattle.std.specs.Map.{keys_of, lookup_entry}
+use Rattle.std.specs.Option.{option_or}
 use Rattle.std.proofs.lemmas.Map.{keys-set_value}
 use Rattle.scc_table.specs.Contents.{Contents, entries, settings_of}
 use Rattle.scc_table.specs.Pairs.{find, IsUnique}
-use Rattle.scc_map.specs.Collections.{UpsertsOne, UpsertsAll, key_and_value, FindsItems}
+use Rattle.scc_map.specs.Collections.{UpsertsAll, key_and_value, FindsItems}
 use Rattle.scc_map.specs.MapSteps.{Upserts}
 use Rattle.scc_map.proofs.CallerLemmas.{finds-inserted, finds-set_value, find-equal}
 use Rattle.scc_map.proofs.Lookups.{distinct-IsPermutation}

@@ -5,11 +5,10 @@ use Rattle.std.specs.HashMap.{entries_eq}
 use Rattle.std.specs.List.{AllByRecursion, IsDistinct, list_all}
 use Rattle.std.specs.Map.{keys_of, lookup_entry, remove_entry}
 use Rattle.std.specs.Option.{option_eq}
-use Rattle.std.proofs.lemmas.Map.{NonePasses}
 use Rattle.std.proofs.lemmas.Map.Keys.{IsDistinct-head, IsDistinct-tail, IsDistinct-cons}
 use Rattle.std.proofs.lemmas.Bool.{false≢true}
 use Rattle.scc_table.specs.Walks.{Walks, ended, stopped, went_on}
-use Rattle.scc_map.proofs.Lookups.{by_option, place-of_find, find-without, distinct-remove_entry, along}
+use Rattle.scc_map.proofs.Lookups.{by_option, place-of_find, find-without, distinct-remove_entry}
 use Rattle.scc_map.proofs.Splits.{by_answer, cond-true, cond-false, found-place, none-find, apart-keys}
 
 -- where each answer is that of a test, the walk's is that of the test at every pair

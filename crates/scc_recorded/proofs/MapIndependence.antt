@@ -11,7 +11,7 @@ use Rattle.std.proofs.lemmas.Map.Keys.{IsDistinct-head, IsDistinct-tail, IsDisti
 use Rattle.scc_table.specs.Pairs.{find, without}
 use Rattle.scc_map.proofs.CallerLemmas.{same-finds}
 use Rattle.scc_map.proofs.Lookups.{along, find-IsPermutation, find-without, distinct-IsPermutation}
-use Rattle.scc_map.proofs.Splits.{by_answer, cond-true, cond-false, without-split, set_value-split, set_key-split, none-find}
+use Rattle.scc_map.proofs.Splits.{by_answer, cond-true, cond-false, without-split, set_value-split, set_key-split, distinct-added}
 use Rattle.scc_recorded.specs.MapCalls.{MapMoves, map_key}
 use Rattle.scc_recorded.specs.Run.{IsRun}
 use Rattle.scc_recorded.specs.States.{State, ResizesTo}
@@ -29,10 +29,6 @@ module _ {K V : Type 0} (t : K → Bool) where
   split-found (x ∷ es) p e = by_answer (t x.0)
       (λ y. let h : Some x ≡ Some p = sym (cond-true (Some x) (lookup_entry t es) y) ∙ e in let s : x ≡ p = cc in ([], es, ap (λ z. z ∷ es) s, tt, subst (λ (q : K × V). t q.0 ≡ true) s y))
       (λ y. let r = split-found es p (sym (cond-false (Some x) (lookup_entry t es) y) ∙ e) in (x ∷ r.0, r.1, ap (λ l. x ∷ l) r.2, (y, r.3), r.4))
-
-none-equal : {K V : Type 0} (t : K → Bool) (es : List (K × V)) → NonePasses t es → AllByRecursion (λ k. t k ≡ false) (keys_of es)
-none-equal t [] n = tt
-none-equal t (x ∷ es) n = (n.0, none-equal t es n.1)
 
 module _ {K V : Type 0} (eq : K → K → Bool) where
   -- the found pair and the others
@@ -72,10 +68,6 @@ module _ {K V : Type 0} {eq : K → K → Bool} (laws : IsEquivalence eq) where
       IsDistinct-cons eq q.0 (keys_of (without eq es k))
       (along (λ z n. laws.congr q.0 p.0 z y ∙ n) (keys_of (without eq es k)) (IsDistinct-head eq p.0 (keys_of (without eq es k)) apart))
       (IsDistinct-tail eq p.0 (keys_of (without eq es k)) apart)
-
-  -- a pair whose key was missing
-  added-distinct : (es : List (K × V)) (p : K × V) → find eq es p.0 ≡ None → IsDistinct eq (keys_of es) → IsDistinct eq (keys_of (p ∷ es))
-  added-distinct es p n d = IsDistinct-cons eq p.0 (keys_of es) (none-equal (eq p.0) es (none-find (eq p.0) es n)) d
 
   -- the others are the same in another order
   others-alike : (es ds : List (K × V)) (k : K) (p : K × V) → find eq es k ≡ Some p → IsDistinct eq (keys_of es) → IsPermutation es ds → IsPermutation (without eq es k) (without eq ds k)
@@ -177,9 +169,9 @@ module _ {K V : Type 0} {eq : K → K → Bool} (laws : IsEquivalence eq) where
   left-alike o es ds Len f d perm = perm
 
   left-distinct : (o : Option (K × V)) (es : List (K × V)) (call : MapCall K V) → there eq es call ≡ o → IsDistinct eq (keys_of es) → IsDistinct eq (keys_of (left eq o es call))
-  left-distinct None es (Insert k v) f d = added-distinct laws es (k, v) f d
+  left-distinct None es (Insert k v) f d = distinct-added laws es (k, v) d f
   left-distinct (Some p) es (Insert k v) f d = d
-  left-distinct None es (Upsert k v) f d = added-distinct laws es (k, v) f d
+  left-distinct None es (Upsert k v) f d = distinct-added laws es (k, v) d f
   left-distinct (Some p) es (Upsert k v) f d = instead-distinct laws es k p (p.0, v) f d (laws.refl p.0)
   left-distinct None es (Replace k) f d = d
   left-distinct (Some p) es (Replace k) f d = instead-distinct laws es k p (k, p.1) f d (split-found (eq k) es p f).4

@@ -1,6 +1,5 @@
-use Rattle.std.proofs.Common.{◌≡◌, List, length, sym, ap, subst, ◌∙◌, ◌<◌}
-use Rattle.scc_table.specs.Contents.{bucket_count, settings_of, key_hash}
-use Rattle.scc_map.specs.Collections.{IsCollected, UpsertsAll}
+use Rattle.std.proofs.Common.{◌≡◌, length, ap, ◌∙◌}
+use Rattle.scc_table.specs.Contents.{key_hash}
 use Rattle.scc_map.proofs.Collecting.{collected-settings, collected-distinct, collected-finds, none-unique}
 use Rattle.scc_map.proofs.hash_map.owned.Owned.try_from_iter.Goals as goal
 
