@@ -1,3 +1,4 @@
+pub mod Clones
 pub mod Collecting
 pub mod CallerLemmas
 pub mod Entries

@@ -45,6 +45,10 @@ module _ {K V : Type 0} (t : K → Bool) where
   none-find [] n = tt
   none-find (x ∷ es) n = by_answer (t x.0) (λ y. let h : Some x ≡ None = sym (cond-true (Some x) (lookup_entry t es) y) ∙ n in cc) (λ y. (y, none-find es (sym (cond-false (Some x) (lookup_entry t es) y) ∙ n)))
 
+  pub apart-keys : (es : List (K × V)) → NonePasses t es → AllByRecursion (λ k. t k ≡ false) (keys_of es)
+  apart-keys [] n = tt
+  apart-keys (x ∷ es) n = (n.0, apart-keys es n.1)
+
   pub NonePasses-more : (es : List (K × V)) (i : ℕ) (p : K × V) → slice_get es i ≡ Some p → t p.0 ≡ false → NonePasses t (take i es) → NonePasses t (take (suc i) es)
   NonePasses-more [] i p at y n = tt
   NonePasses-more (x ∷ es) zero p at y n = let e : x ≡ p = cc in (subst (λ (q : K × V). t q.0 ≡ false) (sym e) y, tt)
@@ -130,6 +134,10 @@ module _ {K V : Type 0} {eq : K → K → Bool} (laws : IsEquivalence eq) where
 
   pub distinct-push : (es : List (K × V)) (p : K × V) → IsDistinct eq (keys_of es) → lookup_entry (eq p.0) es ≡ None → IsDistinct eq (keys_of (es ++ p ∷ []))
   distinct-push es p d n = rw (keys-push es p) (IsDistinct-push laws (keys_of es) p.0 d (none-any (eq p.0) es n))
+
+  -- a new pair before the others
+  pub distinct-added : (es : List (K × V)) (p : K × V) → IsDistinct eq (keys_of es) → lookup_entry (eq p.0) es ≡ None → IsDistinct eq (keys_of (p ∷ es))
+  distinct-added es p d n = IsDistinct-cons eq p.0 (keys_of es) (apart-keys (eq p.0) es (none-find (eq p.0) es n)) d
 
   -- the pairs without the one at the place i
   pub distinct-without : (es : List (K × V)) (i : ℕ) → IsDistinct eq (keys_of es) → IsDistinct eq (keys_of (remove es i))

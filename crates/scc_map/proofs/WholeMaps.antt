@@ -5,12 +5,11 @@ use Rattle.std.specs.HashMap.{entries_eq}
 use Rattle.std.specs.List.{AllByRecursion, IsDistinct, list_all}
 use Rattle.std.specs.Map.{keys_of, lookup_entry, remove_entry}
 use Rattle.std.specs.Option.{option_eq}
-use Rattle.std.proofs.lemmas.Map.{NonePasses}
 use Rattle.std.proofs.lemmas.Map.Keys.{IsDistinct-head, IsDistinct-tail, IsDistinct-cons}
 use Rattle.std.proofs.lemmas.Bool.{false≢true}
 use Rattle.scc_table.specs.Walks.{Walks, ended, stopped, went_on}
-use Rattle.scc_map.proofs.Lookups.{by_option, place-of_find, find-without, distinct-remove_entry, along}
-use Rattle.scc_map.proofs.Splits.{by_answer, cond-true, cond-false, found-place, none-find}
+use Rattle.scc_map.proofs.Lookups.{by_option, place-of_find, find-without, distinct-remove_entry}
+use Rattle.scc_map.proofs.Splits.{by_answer, cond-true, cond-false, found-place, none-find, apart-keys}
 
 -- where each answer is that of a test, the walk's is that of the test at every pair
 pub walk-list_all : {F K V : Type 0} {T : F → K × V → Bool → F → Type 0} (I : F → Type 0) (t : K × V → Bool)
@@ -40,10 +39,6 @@ length-without c [] p e = absurd (let z : None ≡ Some p = e in cc)
 length-without c (x ∷ es) p e = by_answer (c x.0)
     (λ y. ap (λ l. suc (length l)) (cond-true es (x ∷ remove_entry c es) y))
     (λ y. ap (λ l. suc (length l)) (cond-false es (x ∷ remove_entry c es) y) ∙ ap suc (length-without c es p (sym (cond-false (Some x) (lookup_entry c es) y) ∙ e)))
-
-apart-keys : {K V : Type 0} (c : K → Bool) (es : List (K × V)) → NonePasses c es → AllByRecursion (λ k. c k ≡ false) (keys_of es)
-apart-keys c [] n = tt
-apart-keys c (x ∷ es) n = (n.0, apart-keys c es n.1)
 
 module _ {K V : Type 0} {eq : K → K → Bool} (laws : IsEquivalence eq) where
   abbrev IsOwn : List (K × V) → K × V → Type 0

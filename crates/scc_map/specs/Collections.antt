@@ -1,7 +1,9 @@
--- A map that is made of items.
-use Rattle.std.specs.Prelude.{◌≡◌, ℕ, ◌*◌, ◌<◌, Bool, List, [], length, Option, Ok}
+-- A map that is made of items, or of another map's pairs.
+use Rattle.std.specs.Prelude.{◌≡◌, ℕ, ◌*◌, ◌<◌, Bool, List, [], length, reverse, Option, None, Some, Ok, MatchOption}
 use Rattle.std.specs.List.{FoldsTo}
+use Rattle.std.specs.Option.{IsSomeAnd}
 use Rattle.scc_table.specs.Contents.{Contents, entries, bucket_count, settings_of}
+use Rattle.scc_table.specs.Pairs.{find}
 use Rattle.scc_table.specs.Sizes.{IsArraySize}
 use Rattle.scc_map.specs.MapSteps.{Upserts}
 
@@ -23,4 +25,20 @@ module _ {K V S : Type 0} (eq : K → K → Bool) (hash : Contents (K × V) S �
     pub size : 0 < length ps → IsArraySize (length ps) (32 * bucket_count made)
     pub asked : (settings_of made).asked ≡ 32 * bucket_count made
     pub reserved : (settings_of made).reserved ≡ 0
+    pub skipped : (settings_of made).skipped ≡ 0
+    pub settings : settings_of d ≡ settings_of made
     pub run : UpsertsAll eq (hash made) made ps d
+
+module _ {K V : Type 0} where
+  -- the key of the first pair with the value of the second, where there are both
+  abbrev pub key_and_value : Option (K × V) → Option (K × V) → Option (K × V)
+  key_and_value (Some p) (Some q) = Some (p.0, q.1)
+  key_and_value p q = None
+
+  -- a look-up of k in the pairs finds the key of the first item whose key equals k, with the value of the last one; nothing where there is none
+  pub record FindsItems (eq : K → K → Bool) (items pairs : List (K × V)) : Type 0 where
+    pub finds : (k : K) → find eq pairs k ≡ key_and_value (find eq items k) (find eq (reverse items) k)
+
+  -- where a look-up of k finds a pair in the old pairs, it finds a clone of it, by C, in the new ones; else nothing
+  pub record FindsClones (eq : K → K → Bool) (C : K × V → K × V → Type 0) (old new : List (K × V)) : Type 0 where
+    pub finds : (k : K) → MatchOption (find eq old k) (find eq new k ≡ None) (λ p. IsSomeAnd (find eq new k) (C p))

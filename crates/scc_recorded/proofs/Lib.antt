@@ -1,4 +1,6 @@
+pub mod Independence
 mod MapCalls
+pub mod MapIndependence
 pub mod MapRuns
-mod Runs
+pub mod Runs
 mod States

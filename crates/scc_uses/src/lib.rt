@@ -4,4 +4,5 @@
 pub mod chain;
 pub mod counts;
 pub mod memo;
+pub mod mirror;
 pub mod sessions;

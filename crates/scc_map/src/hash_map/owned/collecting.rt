@@ -1,8 +1,9 @@
 //! Maps that are made of items.
 ghost use Rattle.std.specs.Prelude.{List, IfOk, OnOk};
 ghost use Rattle.std.specs.Iterator.{Drains, IsFinite};
-ghost use Rattle.scc_table.specs.Contents.{key_hash};
-ghost use Rattle.scc_map.specs.Collections.{IsCollected, UpsertsAll};
+ghost use Rattle.scc_table.specs.Contents.{entries, key_hash};
+ghost use Rattle.scc_table.specs.Pairs.{IsUnique};
+ghost use Rattle.scc_map.specs.Collections.{FindsItems, IsCollected, UpsertsAll};
 
 use super::Owned;
 use scc_table::MakeError;
@@ -20,7 +21,8 @@ impl<K: Eq + Hash, V, H: BuildHasher> Owned<K, V, H> {
         V: Drop,
         H: Default + Drop,
         requires { (it : I.IntoIter) → I.into_iter_gives items it → I.IntoIter.can_next it × IsFinite (I.IntoIter.remaining it) }
-        ensures { IfOk result (λ m. (it : I.IntoIter) × (xs : List (K × V)) × I.into_iter_gives items it × Drains I.IntoIter.next_gives it xs × IsCollected K.eq (key_hash H.BuildHasher H.Hasher.Hasher K.hash_input) xs m) }
+        ensures items { IfOk result (λ m. (it : I.IntoIter) × (xs : List (K × V)) × I.into_iter_gives items it × Drains I.IntoIter.next_gives it xs × IsCollected K.eq (key_hash H.BuildHasher H.Hasher.Hasher K.hash_input) xs m × FindsItems K.eq xs (entries m)) }
+        ensures unique { IfOk result (λ m. IsUnique K.eq m) }
     {
         let Ok(pairs) = Vec::from_iter(alloc, items) else {
             return Err(MakeError);

@@ -1,11 +1,12 @@
 //! What is done with a whole map: comparisons and clones.
-ghost use Rattle.std.specs.Prelude.{◌≡◌, Some, IfOk};
+ghost use Rattle.std.specs.Prelude.{◌≡◌, Some, IfOk, true};
 ghost use Rattle.std.specs.HashMap.{entries_eq};
 ghost use Rattle.std.specs.List.{list_all};
 ghost use Rattle.std.specs.Option.{option_eq};
 ghost use Rattle.scc_table.specs.Clones.{HasClones};
 ghost use Rattle.scc_table.specs.Contents.{entries};
-ghost use Rattle.scc_table.specs.Pairs.{find};
+ghost use Rattle.scc_table.specs.Pairs.{find, IsUnique};
+ghost use Rattle.scc_map.specs.Collections.{FindsClones};
 
 use super::Owned;
 use scc_table::MakeError;
@@ -59,10 +60,16 @@ impl<K: Eq + Hash, V, H: BuildHasher> Owned<K, V, H> {
         K: Clone,
         V: Clone,
         H: Clone,
-        ensures { IfOk result (HasClones (λ p q. K.is_clone p.0 q.0 × V.is_clone p.1 q.1) H.is_clone self.now) }
+        ensures clones { IfOk result (HasClones (λ p q. K.is_clone p.0 q.0 × V.is_clone p.1 q.1) H.is_clone self.now) }
+        ensures finds { IfOk result (λ m. ((k : K) → (copy : K) → K.is_clone k copy → K.eq k copy ≡ true) → FindsClones K.eq (λ p q. K.is_clone p.0 q.0 × V.is_clone p.1 q.1) (entries self.now) (entries m)) }
+        ensures unique { IfOk result (λ m. IsUnique K.eq m) }
     {
         match self.table.try_clone() {
-            Ok(table) => Ok(Owned { table }),
+            Ok(table) => {
+                let copy = Owned { table };
+                prove!(copy.len() == self.len());
+                Ok(copy)
+            }
             Err(e) => Err(e),
         }
     }
