@@ -13,17 +13,13 @@ fn expect_script<R: AllocGlobal + Abort + Print>(rt: &R, script: &[u8], text: &[
         let mut writer = place.as_mut_slice();
         let answered = play(rt.alloc(), &mut reader, &mut writer);
         let written = 64usize.saturating_sub(writer.len());
-        let refused = answered == NO_MEMORY;
-        if refused {
-            refusal.meet(rt, "a script");
-        } else {
+        if answered != NO_MEMORY {
             assert_eq!(rt; answered, status);
+            assert_eq!(rt; place.get(..written), Some(text));
+            return;
         }
-        let wanted = if refused {
-            b"out of memory\n".as_slice()
-        } else {
-            text
-        };
+        refusal.meet(rt, "a script");
+        let wanted = b"out of memory\n".as_slice();
         assert_eq!(rt; place.get(..written), Some(wanted));
     }
 }
