@@ -3,7 +3,7 @@
 use std::hash::{BuildHasher, Hasher};
 
 /// Builds hashers by which every key has the hash 0.
-#[derive(Clone, Copy, Debug, PartialEq)]
+#[derive(Clone, Copy, Debug, Default, PartialEq)]
 pub struct Zero;
 
 /// Finishes with 0, whatever was written.
