@@ -31,6 +31,7 @@ pub fn without_lowest_bit(bits: u32) -> u32
     requires { 0 < bits }
     ensures less { result < bits }
     ensures others { (k : ℕ) → bit_at bits k ≡ 1 → k ≢ trailing_zeros w32 bits → bit_at result k ≡ 1 }
+    ensures only { (k : ℕ) → bit_at result k ≡ 1 → (bit_at bits k ≡ 1) × (k ≢ trailing_zeros w32 bits) }
 {
     bits & (bits - 1)
 }
