@@ -1,11 +1,11 @@
 -- What a caller cites of a map: look-ups after a step.
-use Rattle.std.proofs.Common.{◌≡◌, Bool, true, false, cond, List, [], ◌∷◌, ◌++◌, Option, None, Some, refl, sym, ap, subst, ◌∙◌, inl, inr}
+use Rattle.std.proofs.Common.{◌≡◌, Bool, true, false, cond, List, [], ◌∷◌, Option, None, Some, refl, sym, ap, subst, ◌∙◌, inl, inr}
 use Rattle.std.specs.Borrow.{MutBor}
 use Rattle.std.specs.Cmp.{IsEquivalence}
 use Rattle.std.specs.Fn.{Once, FnOnceReturnsAtMut}
 use Rattle.std.specs.List.{IsDistinct, remove}
 use Rattle.std.specs.List.Sorted.{IsPermutation}
-use Rattle.std.specs.Map.{keys_of, lookup_entry, remove_entry, set_value}
+use Rattle.std.specs.Map.{keys_of, lookup_entry, set_value}
 use Rattle.scc_table.specs.Contents.{Contents, entries}
 use Rattle.scc_table.specs.Pairs.{find, without, FindsInstead, IsUnique}
 use Rattle.scc_table.specs.Steps.{Holds, HoldsExactly, Rests}

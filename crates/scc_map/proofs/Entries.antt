@@ -1,29 +1,26 @@
 -- What an occupied entry shows.
-use Rattle.std.proofs.Common.{◌≡◌, ℕ, zero, suc, ◌<◌, ◌≤◌, Bool, true, List, [], ◌∷◌, ◌++◌, length, take, drop, Option, None, Some, refl, sym, ap, subst, ◌∙◌, arith}
+use Rattle.std.proofs.Common.{◌≡◌, ℕ, zero, suc, Bool, List, [], ◌∷◌, take, drop, Some, refl, sym, ap, ◌∙◌}
 use native.Mathlib.Bridge.{le_prop}
 use Rattle.std.specs.Borrow.{MutBor}
 use Rattle.std.specs.Cmp.{IsEquivalence}
-use Rattle.std.specs.List.{IsDistinct, slice_get, slice_set, remove}
-use Rattle.std.specs.Map.{keys_of, set_key}
+use Rattle.std.specs.List.{IsDistinct, slice_get}
+use Rattle.std.specs.Map.{keys_of}
 use Rattle.std.specs.declared.cmp.PartialEq as eq
 use Rattle.std.specs.declared.hash.Hash as hash
 use Rattle.std.specs.declared.hash.Hasher as hasher
 use Rattle.std.specs.declared.hash.BuildHasher as builder
 use Rattle.scc_table.specs.Contents.{Contents, entries, list_of}
 use Rattle.scc_table.specs.Places.{IsPlace, IsFoundAt, IsInsertedAt, index_of}
-use Rattle.scc_table.specs.Steps.{Holds, HoldsExactly}
 use Rattle.scc_table.specs.ShelfWrites.{write_at}
 use Rattle.scc_table.specs.Writes.{with_write_at}
 use Rattle.scc_table.specs.declared.place.Place.{Place}
 use Rattle.scc_table.proofs.Spots.{place-get}
 use Rattle.scc_table.proofs.WritingTables.{exactly-write}
-use Rattle.scc_map.specs.Entries.{at, at-get, place_of, occupied_pair, occupied_front, occupied_back, IsOccupiedAt, IsWritten, IsInserted}
+use Rattle.scc_map.specs.Entries.{at-get, place_of, occupied_pair, occupied_front, occupied_back, IsOccupiedAt, IsWritten, IsInserted}
 use Rattle.scc_map.specs.Lends.{with_pair_value}
 use Rattle.scc_map.specs.declared.hash_map.owned.entry.OccupiedEntry.{OccupiedEntry}
 use Rattle.scc_map.specs.declared.hash_map.owned.entry.VacantEntry.{VacantEntry}
-use Rattle.scc_map.proofs.Lookups.{find-position}
 use Rattle.scc_map.proofs.MapWrites.{write-parts, index-write, get-write_at, place-found}
-use Rattle.scc_map.proofs.PairWrites.{IsPlaceOf}
 use Rattle.scc_map.proofs.Splits.{set_value-at, without-at}
 
 -- there is one proof that a place is one

@@ -1,8 +1,8 @@
 -- Writes and removals at the place of a key, in the words of the map.
-use Rattle.std.proofs.Common.{◌≡◌, ℕ, zero, suc, ◌+◌, ◌<◌, Bool, true, List, [], ◌∷◌, ◌++◌, length, take, drop, Option, None, Some, refl, sym, ap, subst, ◌∙◌, arith, inl, inr}
+use Rattle.std.proofs.Common.{◌≡◌, ℕ, zero, suc, ◌+◌, Bool, true, List, [], ◌∷◌, ◌++◌, length, take, drop, None, Some, refl, sym, ap, ◌∙◌, inl, inr}
 use Rattle.std.specs.Cmp.{IsEquivalence}
 use Rattle.std.specs.List.{IsDistinct, flat_map, slice_get, slice_set, remove}
-use Rattle.std.specs.Map.{keys_of, set_value, set_key, remove_entry}
+use Rattle.std.specs.Map.{keys_of, set_value, set_key}
 use Rattle.scc_table.specs.Contents.{Contents, entries, bucket_count, list_of}
 use Rattle.scc_table.specs.Pairs.{without}
 use Rattle.scc_table.specs.Places.{IsPlace, IsFoundAt, index_of}
@@ -10,13 +10,12 @@ use Rattle.scc_table.specs.Steps.{Grows, Holds, HoldsExactly}
 use Rattle.scc_table.specs.ShelfWrites.{write_at}
 use Rattle.scc_table.specs.Writes.{with_write_at}
 use Rattle.scc_table.specs.declared.place.Place.{Place}
-use Rattle.scc_table.proofs.Spots.{place-get}
 use Rattle.scc_table.proofs.WritingTables.{exactly-write, distinct-write}
 use Rattle.scc_map.specs.Entries.{at, at-get}
 use Rattle.scc_map.specs.Lends.{with_pair_value, with_pair_key}
 use Rattle.scc_map.proofs.Lookups.{find-position}
 use Rattle.scc_map.proofs.PairWrites.{IsPlaceOf}
-use Rattle.scc_map.proofs.Splits.{set_value-at, set_key-at, without-at, place-below}
+use Rattle.scc_map.proofs.Splits.{set_value-at, set_key-at, without-at}
 
 pub write-parts : {E X : Type 0} (put : E → X → E) (es : List E) (i : ℕ) (e : E) (w : X) → slice_get es i ≡ Some e → write_at put es i w ≡ take i es ++ put e w ∷ drop (suc i) es
 write-parts put [] i e w got = absurd (let n : None ≡ Some e = got in cc)

@@ -1,7 +1,7 @@
 -- What the contracts of an entry cite.
 pub use Rattle.scc_map.specs.declared.hash_map.owned.entry.Entry.TheVariants.{Occupied, Vacant}
 pub use Rattle.scc_table.specs.declared.errors.InsertError.TheVariants.{Exists, Memory}
-use Rattle.std.specs.Prelude.{◌≡◌, ℕ, zero, suc, ◌<◌, Bool, true, List, [], ◌∷◌, ◌++◌, length, take, drop, Option, None, Some, slice_get, refl, Result, Ok, Err, ⊤}
+use Rattle.std.specs.Prelude.{◌≡◌, ℕ, zero, suc, ◌<◌, Bool, true, List, [], ◌∷◌, ◌++◌, length, take, drop, Option, None, Some, slice_get, refl, Result, ⊤}
 use Rattle.std.specs.Borrow.{Fml, RattleType, MutBor, RestsIfErr, RestsIfNone, follows}
 use Rattle.std.specs.HashMap.Lent.{HashMembers}
 use Rattle.std.specs.Fn.{Once, FnOnceTakesAtMut, FnOnceReturnsAtMut}

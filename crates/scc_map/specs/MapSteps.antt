@@ -1,5 +1,5 @@
 -- What each call does to the contents of a map. Each relation goes by the reply.
-use Rattle.std.specs.Prelude.{◌≡◌, ℕ, Bool, List, ◌∷◌, Option, None, Some, Result, Ok, Err, IsSome}
+use Rattle.std.specs.Prelude.{◌≡◌, ℕ, Bool, ◌∷◌, Option, None, Some, Result, Ok, Err, IsSome}
 use Rattle.std.specs.Map.{set_value}
 use Rattle.scc_table.specs.Contents.{Contents, entries}
 use Rattle.scc_table.specs.Pairs.{find, without, HasRoom}

@@ -1,7 +1,7 @@
 -- What a call of a map answers and leaves is settled by its pairs, whatever their order: hashes and the number of buckets don't matter.
 use Rattle.std.proofs.Common.{◌≡◌, ◌∙◌, Bool, true, false, cond, List, [], ◌∷◌, ◌++◌, length, Option, None, Some, refl, sym, ap, subst, arith}
 use Rattle.std.specs.Cmp.{IsEquivalence}
-use Rattle.std.specs.List.{IsDistinct, AllByRecursion}
+use Rattle.std.specs.List.{IsDistinct}
 use Rattle.std.specs.List.Sorted.{IsPermutation}
 use Rattle.std.specs.Map.{keys_of, lookup_entry, set_value, set_key}
 use Rattle.std.specs.Option.{IsSome, is_some, option_map}

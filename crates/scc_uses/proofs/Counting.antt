@@ -1,5 +1,5 @@
 -- What the entry of a word holds once it was counted.
-use Rattle.std.proofs.Common.{◌≡◌, ℕ, suc, ◌^◌, ◌-◌, min, Option, None, Some, refl, sym, ap, ◌∙◌, nat_eq, MutBor}
+use Rattle.std.proofs.Common.{◌≡◌, ℕ, suc, ◌^◌, ◌-◌, min, sym, ap, ◌∙◌, nat_eq, MutBor}
 use Rattle.std.specs.Cmp.{nat_eq_equiv}
 use Rattle.std.specs.Fn.{Once, FnOnceReturnsAtMut}
 use Rattle.std.specs.declared.cmp.PartialEq as equality

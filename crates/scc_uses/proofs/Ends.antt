@@ -1,14 +1,13 @@
 -- From what look-ups of a map find to when sessions end.
-use Rattle.std.proofs.Common.{◌≡◌, ◌≤◌, ◌<◌, ℕ, Bool, true, false, cond, max, List, Option, None, Some, Result, Ok, Err, refl, sym, ap, subst, ◌∙◌, nat_eq, arith, Bor, MutBor, inl, inr}
+use Rattle.std.proofs.Common.{◌≡◌, ◌≤◌, ◌<◌, ℕ, Bool, true, false, cond, max, Option, None, Some, Result, Ok, Err, refl, sym, ap, subst, ◌∙◌, nat_eq, arith, Bor, MutBor}
 use Rattle.std.specs.Cmp.{nat_eq_equiv}
 use Rattle.std.specs.Fn.{Once, FnOnceReturnsAtMut}
-use Rattle.std.specs.List.Sorted.{IsPermutation}
 use Rattle.std.specs.Map.{set_value}
 use Rattle.std.specs.Option.{option_map, is_some, OnSome}
 use Rattle.std.specs.Result.{OnOk, OnErr}
 use Rattle.scc_table.specs.Contents.{Contents, entries}
 use Rattle.scc_table.specs.Pairs.{find, FindsInstead, IsUnique}
-use Rattle.scc_table.specs.Steps.{Holds, HoldsExactly, Rests}
+use Rattle.scc_table.specs.Steps.{HoldsExactly}
 use Rattle.scc_table.specs.declared.errors.InsertError.{InsertError}
 use Rattle.scc_table.specs.declared.errors.InsertError.TheVariants.{Exists, Memory}
 use Rattle.scc_map.specs.Closures.{UpdatesAt, RemovesIf, RemovedIf, WritesAt}

@@ -1,4 +1,4 @@
-use Rattle.std.proofs.Common.{rules, ◌≡◌, Some, ap, sym, subst, ◌∙◌, nat_eq}
+use Rattle.std.proofs.Common.{rules, Some, subst, nat_eq}
 use Rattle.std.specs.Cmp.{nat_eq_equiv}
 use Rattle.scc_table.specs.Contents.{entries}
 use Rattle.scc_table.specs.Pairs.{find, FindsInstead}

@@ -1,9 +1,3 @@
-use Rattle.std.proofs.Common.{◌≡◌, Some, None, Ok, Err, Result, ap, sym, ◌∙◌, nat_eq, ℕ}
-use Rattle.std.specs.Option.{option_map}
-use Rattle.std.specs.Result.{OnOk, OnErr}
-use Rattle.scc_table.specs.Contents.{entries}
-use Rattle.scc_table.specs.Pairs.{find, FindsInstead}
-use Rattle.scc_uses.specs.Sessions.{end_of, Sets, IsAsBefore}
 use Rattle.scc_uses.proofs.Ends.{begun, refused}
 use Rattle.scc_uses.proofs.sessions.Sessions.begin.Goals as goal
 

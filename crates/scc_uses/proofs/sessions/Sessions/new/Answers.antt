@@ -1,4 +1,4 @@
-use Rattle.std.proofs.Common.{◌≡◌, ap, nat_eq}
+use Rattle.std.proofs.Common.{ap, nat_eq}
 use Rattle.std.specs.Option.{option_map}
 use Rattle.scc_table.specs.Pairs.{find}
 use Rattle.scc_uses.specs.Sessions.{end_of}

@@ -1,4 +1,4 @@
-use Rattle.std.proofs.Common.{◌≡◌, rules}
+use Rattle.std.proofs.Common.{rules}
 use Rattle.scc_uses.proofs.Ends.{renewed}
 use Rattle.scc_uses.proofs.sessions.Sessions.renew.Goals as goal
 

@@ -1,5 +1,4 @@
 use Rattle.std.proofs.Common.{rules}
-use Rattle.std.specs.Option.{IsSome}
 use Rattle.scc_table.specs.Contents.{entries}
 use Rattle.scc_map.proofs.Lookups.{find-position, find-position_none}
 use Rattle.scc_map.proofs.hash_map.owned.Owned.contains_sync.Goals as goal

@@ -1,4 +1,3 @@
-use Rattle.std.proofs.Common.{◌≡◌}
 use Rattle.scc_table.specs.Contents.{entries}
 use Rattle.scc_map.proofs.Entries.{occupied-at}
 use Rattle.scc_map.proofs.Lookups.{find-position_none}

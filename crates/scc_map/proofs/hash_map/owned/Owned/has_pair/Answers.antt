@@ -1,5 +1,4 @@
-use Rattle.std.proofs.Common.{◌≡◌, Some, sym, ap, ◌∙◌, refl}
-use Rattle.std.specs.Option.{option_eq}
+use Rattle.std.proofs.Common.{◌≡◌, Some, sym, ◌∙◌, refl}
 use Rattle.scc_table.specs.Contents.{entries}
 use Rattle.scc_map.proofs.Lookups.{find-position, find-position_none}
 use Rattle.scc_map.proofs.hash_map.owned.Owned.has_pair.Goals as goal

@@ -1,9 +1,5 @@
-use Rattle.std.proofs.Common.{◌≡◌, Some, None, refl, sym, ap, subst, ◌∙◌, rules, true, false}
-use Rattle.std.specs.Result.{OnOk}
-use Rattle.std.specs.Option.{IsSome}
-use Rattle.scc_table.specs.Contents.{entries, bucket_count, settings_of, key_hash}
-use Rattle.scc_table.specs.Pairs.{find, FindsInstead}
-use Rattle.scc_map.specs.MapSteps.{Inserts}
+use Rattle.std.proofs.Common.{refl, rules}
+use Rattle.scc_table.specs.Contents.{entries}
 use Rattle.scc_map.proofs.Lookups.{find-position, find-position_none, finds-added}
 use Rattle.scc_map.proofs.hash_map.owned.Owned.insert_sync.Goals as goal
 use Rattle.scc_map.proofs.hash_map.owned.Owned.insert_sync.Goals.{in-Ok, in-Err}

@@ -1,4 +1,4 @@
-use Rattle.std.proofs.Common.{◌≡◌, Some, sym, ap, ◌∙◌, refl, of_calls, rules}
+use Rattle.std.proofs.Common.{◌≡◌, Some, refl, of_calls}
 use Rattle.std.specs.Option.{option_eq}
 use Rattle.scc_table.specs.Contents.{entries}
 use Rattle.scc_table.specs.Pairs.{find}

@@ -1,7 +1,5 @@
-use Rattle.std.proofs.Common.{◌≡◌, Some, None, refl, sym, ap, ◌∙◌, rules}
+use Rattle.std.proofs.Common.{refl, sym, ◌∙◌}
 use Rattle.scc_table.specs.Contents.{entries}
-use Rattle.scc_table.specs.Pairs.{find, without}
-use Rattle.scc_table.specs.Steps.{Holds}
 use Rattle.scc_map.proofs.Lookups.{find-position, find-position_none, finds-removed}
 use Rattle.scc_map.proofs.Splits.{without-at}
 use Rattle.scc_map.proofs.hash_map.owned.Owned.remove_sync.Goals as goal

@@ -1,4 +1,4 @@
-use Rattle.std.proofs.Common.{◌≡◌, ◌∙◌, sym, ap, Some, refl}
+use Rattle.std.proofs.Common.{◌≡◌, ◌∙◌, sym, ap, Some}
 use Rattle.scc_table.specs.Contents.{entries}
 use Rattle.std.specs.List.{slice_get}
 use Rattle.scc_table.specs.Pairs.{find}

@@ -1,12 +1,9 @@
-use Rattle.std.proofs.Common.{◌≡◌, Some, None, refl, sym, ap, ◌∙◌, rules, true, false}
-use Rattle.std.specs.Option.{IsSome}
+use Rattle.std.proofs.Common.{◌≡◌, Some, sym, ap, ◌∙◌, rules}
 use Rattle.scc_table.specs.Contents.{entries}
 use Rattle.scc_table.specs.Pairs.{find}
-use Rattle.scc_table.specs.Writes.{IsPlace-with_write_at}
-use Rattle.scc_map.specs.Lends.{with_pair_value}
 use Rattle.scc_map.proofs.CallerLemmas.{finds-set_value}
 use Rattle.scc_map.proofs.Lookups.{find-position_none, finds-added}
-use Rattle.scc_map.proofs.MapWrites.{grows-same, place-found, value-written, value-unique, written-taken_out, written-pair}
+use Rattle.scc_map.proofs.MapWrites.{grows-same, place-found, value-written, value-unique}
 use Rattle.scc_map.proofs.hash_map.owned.Owned.upsert_sync.Goals as goal
 use Rattle.scc_map.proofs.hash_map.owned.Owned.upsert_sync.Goals.{in-Ok, in-Err}
 

@@ -1,9 +1,6 @@
-use Rattle.std.proofs.Common.{◌≡◌, Some, true, false, nat_eq, sym, ◌∙◌, arith}
+use Rattle.std.proofs.Common.{nat_eq, sym, ◌∙◌, arith}
 use Rattle.std.proofs.lemmas.Bool.{eqb-true}
-use Rattle.std.specs.List.{list_all}
-use Rattle.std.specs.Option.{option_eq}
 use Rattle.scc_table.specs.Contents.{entries}
-use Rattle.scc_table.specs.Pairs.{find}
 use Rattle.scc_map.proofs.Splits.{by_answer}
 use Rattle.scc_map.proofs.WholeMaps.{equal-there, unequal-there, unequal-length}
 use Rattle.scc_map.proofs.hash_map.owned.whole.OwnedPartialEq.eq.Goals as goal
