@@ -6,6 +6,12 @@ pub use Rattle.scc_recorded.specs.Changes
 pub use Rattle.scc_recorded.specs.MapCalls
 pub use Rattle.scc_recorded.specs.Run
 pub use Rattle.scc_recorded.specs.States
+pub use Rattle.scc_recorded.specs.SetCalls
+pub use Rattle.scc_set.specs.Collections
+pub use Rattle.scc_set.specs.Keys
+pub use Rattle.scc_set.specs.SetEntries
+pub use Rattle.scc_set.specs.SetSteps
+pub use Rattle.scc_set.specs.SetWalks
 pub use Rattle.scc_table.specs.Contents
 pub use Rattle.scc_table.specs.Hashing
 pub use Rattle.scc_table.specs.LendsBucket

@@ -3,6 +3,9 @@
 
 pub mod hash_table;
 
+pub use scc_cache::hash_cache;
+pub use scc_index::hash_index;
 pub use scc_map::hash_map;
 pub use scc_recorded::recorded;
+pub use scc_set::hash_set;
 pub use scc_table::{InsertError, KeyError, MakeError, Reservation, Verdict, WalkError};

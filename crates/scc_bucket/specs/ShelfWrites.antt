@@ -3,6 +3,10 @@ use Rattle.std.specs.Prelude.{◌≡◌, ℕ, zero, suc, ◌-◌, List, [], ◌�
 use Rattle.std.proofs.Common.{ap}
 use Rattle.scc_bucket.specs.Shelf.{Shelf}
 
+-- the entry is replaced as a whole
+abbrev pub put_whole : {E : Type 0} → E → E → E
+put_whole e x = x
+
 -- the entries, where `put` writes x into the one at the place i
 abbrev pub write_at : {E X : Type 0} → (E → X → E) → List E → ℕ → X → List E
 write_at put [] i x = []

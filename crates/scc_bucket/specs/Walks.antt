@@ -1,7 +1,8 @@
 -- Walks over pairs: what a closure was called on, in turn.
-use Rattle.std.specs.Prelude.{◌≡◌, Bool, true, false, List, [], ◌∷◌}
+use Rattle.std.specs.Prelude.{◌≡◌, Bool, true, false, List, [], ◌∷◌, ◌++◌}
 use Rattle.std.specs.Borrow.{Bor}
-use Rattle.std.specs.Fn.{Mut, Called}
+use Rattle.std.specs.Fn.{Mut, Called, Takes}
+use Rattle.std.specs.List.{FoldsTo}
 
 module _ {F K V R : Type 0} where
   -- a call of f at a & to the key and one to the value of p may give r, and leave f'
@@ -10,6 +11,18 @@ module _ {F K V R : Type 0} where
     pub value : Bor V
     pub shows : (key.now, value.now) ≡ p
     pub called : Called g f (key, (value, tt)) r f'
+
+-- f may be called at a & to the key and one to the value of p
+abbrev pub TakesOn : {F K V R : Type 0} → Mut F (Bor K × (Bor V × Unit {0})) R → F → K × V → Type 0
+TakesOn {F} {K} {V} g f p = (key : Bor K) (value : Bor V) → (key.now, value.now) ≡ p → Takes g f (key, (value, tt))
+
+-- Q holds at each item in turn, of what Step has taken f to over the items before it
+pub record HoldsInTurn {F P : Type 0} (Step : F → P → F → Type 0) (Q : F → P → Type 0) (f : F) (es : List P) : Type 0 where
+  pub at : (before after : List P) (p : P) (f' : F) → es ≡ before ++ p ∷ after → FoldsTo Step f before f' → Q f' p
+
+-- f may be called on the pairs in turn, for as long as each call has answered `on`
+abbrev pub CallableWhile : {F K V R : Type 0} → Mut F (Bor K × (Bor V × Unit {0})) R → R → F → List (K × V) → Type 0
+CallableWhile g on = HoldsInTurn (λ s p t. CalledOn g s p on t) (TakesOn g)
 
 -- the closure was called on the pairs in turn, up to its first false; the last state is the one that it was left in
 pub data Walks {F K V : Type 0} (T : F → K × V → Bool → F → Type 0) : F → List (K × V) → Bool → F → Type 0 where

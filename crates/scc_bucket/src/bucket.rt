@@ -1,8 +1,9 @@
 //! A bucket: 32 slots with their tags, in the order of their entries, and the overflow list.
-ghost use Rattle.std.specs.Prelude.{◌≡◌, ◌≤◌, ◌<◌, ◌+◌, ◌^◌, ◌↔◌, ◌++◌, ℕ, [], length, IsTrue, IfOk, IfErr, slice_index, slice_index_or};
+ghost use Rattle.std.specs.Prelude.{◌≡◌, ◌≤◌, ◌<◌, ◌+◌, ◌^◌, ◌↔◌, ◌++◌, ℕ, [], length, IsTrue, IfOk, IfErr, OnErr, slice_index, slice_index_or};
 ghost use Rattle.std.specs.List.{position};
 ghost use Rattle.scc_bucket.specs.Shelf.{shelf_entries, empty_shelf, with_slot, with_entry, next_place, without_place, swapped_out, HasRoom, HasTag};
 
+mod room;
 mod writes;
 
 use crate::keyed::Keyed;
@@ -134,6 +135,7 @@ impl<E> Bucket<E> {
         requires { length (shelf_entries self.old) < 2 ^ 63 }
         ensures ok { IfOk result (λ p. (p ≡ next_place self.old) × (self.new ≡ record (with_entry self.old entry tag) { room = self.new.room })) }
         ensures err { IfErr result (λ e. (e ≡ entry) × (self.new ≡ record self.old { room = self.new.room }) × (32 ≤ length self.old.slots)) }
+        ensures refused { OnErr result (self.old.room ≤ length self.old.overflow) }
     {
         let count = self.slots.len();
         if count < 32 {

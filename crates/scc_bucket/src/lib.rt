@@ -3,10 +3,12 @@
 
 pub mod bucket;
 pub mod keyed;
+pub mod made;
 pub mod tags;
 pub mod valued;
 pub mod walks;
 
 pub use bucket::Bucket;
 pub use keyed::Keyed;
+pub use made::Made;
 pub use valued::Valued;

@@ -8,20 +8,24 @@ use Rattle.std.specs.List.Sorted.{IsPermutation}
 use Rattle.std.specs.Map.{keys_of, lookup_entry, set_value}
 use Rattle.scc_table.specs.Contents.{Contents, entries}
 use Rattle.scc_table.specs.Pairs.{find, without, FindsInstead, IsUnique}
+use Rattle.scc_table.specs.Places.{index_of}
 use Rattle.scc_table.specs.Steps.{Holds, HoldsExactly, Rests}
 use Rattle.std.specs.declared.cmp.PartialEq as equality
 use Rattle.std.specs.declared.hash.Hash as hash
 use Rattle.std.specs.declared.hash.Hasher as hasher
 use Rattle.std.specs.declared.hash.BuildHasher as builder
+use Rattle.scc_table.specs.declared.guard.Guard as guard
 use Rattle.scc_map.specs.Entries.{Occupied, Vacant, occupied_pair, IsOccupiedAt, IsVacantAt, IsEntryOf, IsWritten, IsInserted, OrInserts, Modifies}
-use Rattle.scc_map.specs.declared.hash_map.owned.entry.Entry.{Entry}
-use Rattle.scc_map.specs.declared.hash_map.owned.entry.OccupiedEntry.{OccupiedEntry}
-use Rattle.scc_map.specs.declared.hash_map.owned.entry.VacantEntry.{VacantEntry}
+use Rattle.scc_map.specs.declared.hash_map.held.HeldEntry.{HeldEntry}
+use Rattle.scc_map.specs.declared.hash_map.held.HeldPlace.{HeldPlace}
+use Rattle.scc_map.specs.declared.hash_map.held.HeldVacant.{HeldVacant}
 use Rattle.scc_map.specs.MapSteps.{Removes}
-use Rattle.scc_map.proofs.PairWrites.{IsPlaceOf}
-use Rattle.scc_map.proofs.Lookups.{along, apart-none, get-read, place-of_find, find-IsPermutation, find-without, distinct-IsPermutation, distinct-remove_entry, finds-added}
-pub use Rattle.scc_map.proofs.Splits.{by_answer, cond-true, cond-false}
-use Rattle.scc_map.proofs.Splits.{found-place, without-at, distinct-without, place-below}
+use Rattle.scc_map.proofs.Entries.{occupied-by}
+use Rattle.scc_table.proofs.Placed.{entry_of-get}
+use Rattle.scc_table.proofs.PairWrites.{IsPlaceOf}
+use Rattle.scc_table.proofs.Lookups.{along, apart-none, get-read, place-of_find, find-IsPermutation, find-without, distinct-IsPermutation, distinct-remove_entry, finds-added}
+pub use Rattle.scc_table.proofs.PairSplits.{by_answer, cond-true, cond-false}
+use Rattle.scc_table.proofs.PairSplits.{found-place, without-at, distinct-without, place-below}
 use Rattle.std.proofs.lemmas.List.Sorted.{IsPermutation-refl, IsPermutation-sym, IsPermutation-cons, IsPermutation-trans, IsPermutation-remove}
 use Rattle.std.proofs.lemmas.Map.Keys.{IsDistinct-head, IsDistinct-tail}
 
@@ -133,24 +137,24 @@ module _ {K V : Type 0} {eq : K → K → Bool} (laws : IsEquivalence eq) where
       by None s = absurd (let x : Some p ≡ None = sym here ∙ s.0 in cc)
       by (Some q) s = IsPermutation-trans cs (without eq ds p.0) (entries e) left s.1.same
 
-module _ {K V S T : Type 0} {g : equality.Ghosts K} {h : hash.Ghosts K} {b : builder.Ghosts S T} {w : hasher.Ghosts T} {eq : K → K → Bool} (laws : IsEquivalence eq) (c : Contents (K × V) S) (k : K) where
+module _ {G N K V S T : Type 0} {keep : guard.Ghosts G (Contents (K × V) S)} {g : equality.Ghosts K} {h : hash.Ghosts K} {b : builder.Ghosts S T} {w : hasher.Ghosts T} {eq : K → K → Bool} (laws : IsEquivalence eq) (c : Contents (K × V) S) (k : K) where
   -- what look-ups find once an occupied entry was written
-  pub finds-written : (o d : OccupiedEntry K V S T g h b w) (v : V) → IsOccupiedAt eq c k o → IsWritten o v d → FindsInstead eq (entries c) k (Some ((occupied_pair o).0, v)) (entries d.owned.now)
+  pub finds-written : (o d : HeldEntry G N K V S T keep g h b w) (v : V) → IsOccupiedAt eq c k o → IsWritten o v d → FindsInstead eq (entries c) k (Some ((occupied_pair o).0, v)) (entries (keep.kept d.guard))
   finds-written o d v at written = record {
     finds = λ q.
-        ap (λ es. find eq es q) (written.contents.exact ∙ at.writes v) ∙ find-written laws (entries c) k q (occupied_pair o) v at.found;
+        ap (λ es. find eq es q) (written.at.contents.exact ∙ at.writes v) ∙ find-written laws (entries c) k q (occupied_pair o) v at.found;
   }
 
   -- what they find once a value was put in through a vacant one
-  pub finds-put : (e : VacantEntry K V S T g h b w) (o : OccupiedEntry K V S T g h b w) (v : V) → IsVacantAt eq c k e → IsInserted e v o → IsUnique eq o.owned.now → FindsInstead eq (entries c) k (Some (k, v)) (entries o.owned.now)
+  pub finds-put : (e : HeldVacant G N K V S T keep g h b w) (o : HeldEntry G N K V S T keep g h b w) (v : V) → IsVacantAt eq c k e → IsInserted e v o → IsUnique eq (keep.kept o.guard) → FindsInstead eq (entries c) k (Some (k, v)) (entries (keep.kept o.guard))
   finds-put e o v at put u = record {
     finds = λ q.
-        (finds-inserted laws e.owned.now o.owned.now (e.key, v) put.contents u).finds q
+        (finds-inserted laws (keep.kept e.guard) (keep.kept o.guard) (e.key, v) put.at.contents u).finds q
         ∙ (λ i. cond (eq q (at.key i)) (Some (at.key i, v)) (find eq (entries (at.contents i)) q));
   }
 
   -- what they find of an occupied entry that was let go
-  finds-held : (o : OccupiedEntry K V S T g h b w) → IsOccupiedAt eq c k o → FindsInstead eq (entries c) k (Some (occupied_pair o)) (entries o.owned.now)
+  finds-held : (o : HeldEntry G N K V S T keep g h b w) → IsOccupiedAt eq c k o → FindsInstead eq (entries c) k (Some (occupied_pair o)) (entries (keep.kept o.guard))
   finds-held o at = record {
     finds = λ q. ap (λ d. find eq (entries d) q) at.contents ∙ by_answer (eq q k)
         (λ y. find-equal laws (entries c) q k y ∙ at.found ∙ sym (cond-true (Some (occupied_pair o)) (find eq (entries c) q) y))
@@ -158,27 +162,42 @@ module _ {K V S T : Type 0} {g : equality.Ghosts K} {h : hash.Ghosts K} {b : bui
   }
 
   -- what they find after `or_insert`: the pair of its entry
-  pub finds-or_insert : (e : Entry K V S T g h b w) (v : V) (o : OccupiedEntry K V S T g h b w) → IsEntryOf eq c k e → OrInserts e v o → IsUnique eq o.owned.now → FindsInstead eq (entries c) k (Some (occupied_pair o)) (entries o.owned.now)
-  finds-or_insert (Occupied p) v o at is u = subst (λ q. FindsInstead eq (entries c) k (Some (occupied_pair q)) (entries q.owned.now)) (sym is) (finds-held p at)
-  finds-or_insert (Vacant e) v o at is u = subst (λ q. FindsInstead eq (entries c) k (Some q) (entries o.owned.now)) (ap (λ x. (x, v)) (sym at.key) ∙ sym is.pair) (finds-put e o v at is u)
+  pub finds-or_insert : (e : HeldPlace G N K V S T keep g h b w) (v : V) (o : HeldEntry G N K V S T keep g h b w) → IsEntryOf eq c k e → OrInserts e v o → IsUnique eq (keep.kept o.guard) → FindsInstead eq (entries c) k (Some (occupied_pair o)) (entries (keep.kept o.guard))
+  finds-or_insert (Occupied p) v o at is u = subst (λ q. FindsInstead eq (entries c) k (Some (occupied_pair q)) (entries (keep.kept q.guard))) (sym is) (finds-held p at)
+  finds-or_insert (Vacant e) v o at is u = subst (λ q. FindsInstead eq (entries c) k (Some q) (entries (keep.kept o.guard))) (ap (λ x. (x, v)) (sym at.key) ∙ sym is.at.here) (finds-put e o v at is u)
 
   module _ {F : Type 0} (f : Once F (MutBor V × Unit {0}) (Unit {0} × (MutBor V × Unit {0}))) (x : F) where
     -- the pair of the entry after `and_modify` and `or_insert`
-    abbrev pub ModifiedOr : Entry K V S T g h b w → V → K × V → Type 0
+    abbrev pub ModifiedOr : HeldPlace G N K V S T keep g h b w → V → K × V → Type 0
     ModifiedOr (Occupied p) v q = (q.0 ≡ (occupied_pair p).0) × FnOnceReturnsAtMut f x (occupied_pair p).1 tt q.1
     ModifiedOr (Vacant e) v q = q ≡ (k, v)
 
     -- what look-ups find after `and_modify` and `or_insert`: the pair of the entry
-    pub finds-modify_or_insert : (e m : Entry K V S T g h b w) (v : V) (o : OccupiedEntry K V S T g h b w) → IsEntryOf eq c k e → Modifies f x e m → OrInserts m v o → IsUnique eq o.owned.now
-        → ModifiedOr e v (occupied_pair o) × FindsInstead eq (entries c) k (Some (occupied_pair o)) (entries o.owned.now)
+    pub finds-modify_or_insert : (e e2 : HeldPlace G N K V S T keep g h b w) (v : V) (o : HeldEntry G N K V S T keep g h b w) → IsEntryOf eq c k e → Modifies f x e e2 → OrInserts e2 v o → IsUnique eq (keep.kept o.guard)
+        → ModifiedOr e v (occupied_pair o) × FindsInstead eq (entries c) k (Some (occupied_pair o)) (entries (keep.kept o.guard))
     finds-modify_or_insert (Occupied p) (Occupied d) v o at is ins u =
-        let pair : occupied_pair o ≡ ((occupied_pair p).0, is.0) = ap (λ q. occupied_pair q) ins ∙ is.2.pair in (
+        let pair : occupied_pair o ≡ ((occupied_pair p).0, is.0) = ap (λ q. occupied_pair q) ins ∙ is.2.at.here in (
           rw pair (refl, is.1),
-          subst (λ q. FindsInstead eq (entries c) k (Some (occupied_pair q)) (entries q.owned.now)) (sym ins)
-              (subst (λ q. FindsInstead eq (entries c) k (Some q) (entries d.owned.now)) (sym is.2.pair) (finds-written p d is.0 at is.2)),
+          subst (λ q. FindsInstead eq (entries c) k (Some (occupied_pair q)) (entries (keep.kept q.guard))) (sym ins)
+              (subst (λ q. FindsInstead eq (entries c) k (Some q) (entries (keep.kept d.guard))) (sym is.2.at.here) (finds-written p d is.0 at is.2)),
         )
     finds-modify_or_insert (Vacant e) (Vacant d) v o at is ins u =
         let through : IsInserted e v o = subst (λ z. IsInserted z v o) is ins in
-        (through.pair ∙ ap (λ z. (z, v)) at.key, finds-or_insert (Vacant e) v o at through u)
+        (through.at.here ∙ ap (λ z. (z, v)) at.key, finds-or_insert (Vacant e) v o at through u)
     finds-modify_or_insert (Occupied p) (Vacant d) v o at is ins u = absurd is
     finds-modify_or_insert (Vacant e) (Occupied d) v o at is ins u = absurd is
+
+-- the pair that a look-up finds has an equal key
+pub find-key : {K V : Type 0} (eq : K → K → Bool) (es : List (K × V)) (k : K) (p : K × V) → find eq es k ≡ Some p → eq k p.0 ≡ true
+find-key eq es k p f = (place-of_find (eq k) es p f).2
+
+-- look-ups find the same in a rearrangement
+pub find-rearranged : {K V : Type 0} {eq : K → K → Bool} (laws : IsEquivalence eq) (xs ys : List (K × V)) (q : K) → IsPermutation xs ys → IsDistinct eq (keys_of xs) → find eq ys q ≡ find eq xs q
+find-rearranged laws xs ys q same u = find-IsPermutation laws xs ys q same u
+
+module _ {G N K V S T : Type 0} {keep : guard.Ghosts G (Contents (K × V) S)} {g : equality.Ghosts K} {h : hash.Ghosts K} {b : builder.Ghosts S T} {w : hasher.Ghosts T} {eq : K → K → Bool} (laws : IsEquivalence eq) where
+  -- an entry is that of its own key, whichever call it came from
+  pub occupied-of-unique : (o : HeldEntry G N K V S T keep g h b w) → IsUnique eq (keep.kept o.guard) → IsOccupiedAt eq (keep.kept o.guard) (occupied_pair o).0 o
+  occupied-of-unique o u =
+      let c : Contents (K × V) S = keep.kept o.guard in
+      occupied-by laws (occupied_pair o).0 o u (found-place laws (occupied_pair o).0 (entries c) (index_of c o.place) (occupied_pair o) u (entry_of-get c o.place o.within) (laws.refl (occupied_pair o).0))

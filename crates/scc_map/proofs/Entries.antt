@@ -1,7 +1,5 @@
--- What an occupied entry shows.
-use Rattle.std.proofs.Common.{◌≡◌, ℕ, zero, suc, Bool, List, [], ◌∷◌, take, drop, Some, refl, sym, ap, ◌∙◌}
-use native.Mathlib.Bridge.{le_prop}
-use Rattle.std.specs.Borrow.{MutBor}
+-- What an entry shows, under any guard.
+use Rattle.std.proofs.Common.{◌≡◌, List, Bool, Some, refl, sym, ap, subst, ◌∙◌}
 use Rattle.std.specs.Cmp.{IsEquivalence}
 use Rattle.std.specs.List.{IsDistinct, slice_get}
 use Rattle.std.specs.Map.{keys_of}
@@ -9,85 +7,81 @@ use Rattle.std.specs.declared.cmp.PartialEq as eq
 use Rattle.std.specs.declared.hash.Hash as hash
 use Rattle.std.specs.declared.hash.Hasher as hasher
 use Rattle.std.specs.declared.hash.BuildHasher as builder
-use Rattle.scc_table.specs.Contents.{Contents, entries, list_of}
+use Rattle.scc_table.specs.Contents.{Contents, entries}
+use Rattle.scc_table.specs.Pairs.{with_pair_value}
+use Rattle.scc_table.specs.Placed.{entry_of, front_of, back_of}
 use Rattle.scc_table.specs.Places.{IsPlace, IsFoundAt, IsInsertedAt, index_of}
-use Rattle.scc_table.specs.ShelfWrites.{write_at}
 use Rattle.scc_table.specs.Writes.{with_write_at}
-use Rattle.scc_table.specs.declared.place.Place.{Place}
-use Rattle.scc_table.proofs.Spots.{place-get}
-use Rattle.scc_table.proofs.WritingTables.{exactly-write}
-use Rattle.scc_map.specs.Entries.{at-get, place_of, occupied_pair, occupied_front, occupied_back, IsOccupiedAt, IsWritten, IsInserted}
-use Rattle.scc_map.specs.Lends.{with_pair_value}
-use Rattle.scc_map.specs.declared.hash_map.owned.entry.OccupiedEntry.{OccupiedEntry}
-use Rattle.scc_map.specs.declared.hash_map.owned.entry.VacantEntry.{VacantEntry}
-use Rattle.scc_map.proofs.MapWrites.{write-parts, index-write, get-write_at, place-found}
-use Rattle.scc_map.proofs.Splits.{set_value-at, without-at}
+use Rattle.scc_table.specs.declared.guard.Guard as guard
+use Rattle.scc_table.proofs.KeyWrites.{place-found}
+use Rattle.scc_table.proofs.PairSplits.{set_value-at, without-at}
+use Rattle.scc_table.proofs.PairWrites.{IsPlaceOf}
+use Rattle.scc_table.proofs.Placed.{place-prop, entry_of-is, written-there, put-there}
+use Rattle.scc_map.specs.Entries.{occupied_pair, occupied_front, occupied_back, IsOccupiedAt, IsWritten, IsInserted, written_map, still_within, with_value}
+use Rattle.scc_map.specs.declared.hash_map.held.HeldEntry.{HeldEntry}
+use Rattle.scc_map.specs.declared.hash_map.held.HeldVacant.{HeldVacant}
 
--- there is one proof that a place is one
-pub place-prop : {E S : Type 0} (c : Contents E S) (p : Place) → IsProp (IsPlace c p)
-place-prop c p x y =
-    ap (λ q. let r : IsPlace c p = record { bucket = q; slot = x.slot } in r) (le_prop x.bucket y.bucket) ∙ ap (λ q. let r : IsPlace c p = record { bucket = y.bucket; slot = q } in r) (le_prop x.slot y.slot)
+module _ {G N K V S T : Type 0} {d : guard.Ghosts G (Contents (K × V) S)} {g : eq.Ghosts K} {h : hash.Ghosts K} {b : builder.Ghosts S T} {w : hasher.Ghosts T} where
+  -- what the guard showed at the place is the pair
+  pub pair-is : (o : HeldEntry G N K V S T d g h b w) (m : Contents (K × V) S) (p : K × V) → m ≡ d.kept o.guard → slice_get (entries m) (index_of m o.place) ≡ Some p → p ≡ occupied_pair o
+  pair-is o m p is got = sym (entry_of-is (d.kept o.guard) o.place o.within p (subst (λ (c : Contents (K × V) S). slice_get (entries c) (index_of c o.place) ≡ Some p) is got))
 
-pub front-write : {E X : Type 0} (put : E → X → E) (es : List E) (i : ℕ) (w : X) → take i (write_at put es i w) ≡ take i es
-front-write put [] i w = refl
-front-write put (x ∷ es) zero w = refl
-front-write put (x ∷ es) (suc i) w = ap (λ l. x ∷ l) (front-write put es i w)
-
-pub back-write : {E X : Type 0} (put : E → X → E) (es : List E) (i : ℕ) (w : X) → drop (suc i) (write_at put es i w) ≡ drop (suc i) es
-back-write put [] i w = refl
-back-write put (x ∷ es) zero w = refl
-back-write put (x ∷ es) (suc i) w = back-write put es i w
-
-module _ {K V S T : Type 0} {g : eq.Ghosts K} {h : hash.Ghosts K} {b : builder.Ghosts S T} {w : hasher.Ghosts T} (o : OccupiedEntry K V S T g h b w) where
-  pub pair-get : slice_get (entries o.owned.now) (index_of o.owned.now (place_of o)) ≡ Some (occupied_pair o)
-  unfolding occupied_pair
-  pair-get = place-get o.owned.now (place_of o) o.within _ (at-get (list_of o.owned.now o.bucket) o.slot o.within.slot)
-
-  pub pair-is : (p : K × V) → slice_get (entries o.owned.now) (index_of o.owned.now (place_of o)) ≡ Some p → occupied_pair o ≡ p
-  pair-is p e = let s : Some (occupied_pair o) ≡ Some p = sym pair-get ∙ e in cc
-
-  pub occupied-at : {same : K → K → Bool} (laws : IsEquivalence same) (k : K) → IsDistinct same (keys_of (entries o.owned.now)) → IsFoundAt (λ e. same k e.0) o.owned.now (place_of o) → IsOccupiedAt same o.owned.now k o
-  unfolding occupied_front occupied_back
-  occupied-at {same = same} laws k d found =
-      let f = place-found same o.owned.now k (place_of o) found in
-      let e : occupied_pair o ≡ f.0 = pair-is f.0 f.1 in
+  -- an entry at the place of a key is that of the key
+  pub occupied-by : {same : K → K → Bool} (laws : IsEquivalence same) (k : K) (o : HeldEntry G N K V S T d g h b w) → IsDistinct same (keys_of (entries (d.kept o.guard))) → IsPlaceOf same (entries (d.kept o.guard)) k (index_of (d.kept o.guard) o.place)
+      → IsOccupiedAt same (d.kept o.guard) k o
+  unfolding front_of back_of
+  occupied-by {same = same} laws k o u f =
+      let c : Contents (K × V) S = d.kept o.guard in
+      let e : occupied_pair o ≡ f.0 = entry_of-is c o.place o.within f.0 f.1 in
       record {
         contents = refl;
         found = f.2 ∙ ap Some (sym e);
         equal = rw e f.3;
-        writes = λ v. rw e (sym (set_value-at laws k (entries o.owned.now) (index_of o.owned.now (place_of o)) d f v));
-        removes = sym (without-at laws k (entries o.owned.now) (index_of o.owned.now (place_of o)) d f);
+        writes = λ v. rw e (sym (set_value-at laws k (entries c) (index_of c o.place) u f v));
+        removes = sym (without-at laws k (entries c) (index_of c o.place) u f);
       }
 
-module _ {K V S T : Type 0} {g : eq.Ghosts K} {h : hash.Ghosts K} {b : builder.Ghosts S T} {w : hasher.Ghosts T} (o : OccupiedEntry K V S T g h b w) where
-  pub written-at : (v : V) (r : MutBor (Contents (K × V) S)) (within : IsPlace r.now (place_of o)) → r.ghost_name ≡ o.owned.ghost_name → r.now ≡ with_write_at with_pair_value o.owned.now (place_of o) v
-      → IsWritten o v (record { owned = r; bucket = o.bucket; slot = o.slot; within = within })
-  unfolding occupied_front occupied_back
-  written-at v r within name now =
-      let c : Contents (K × V) S = o.owned.now in
-      let d : Contents (K × V) S = with_write_at with_pair_value c (place_of o) v in
-      let exact = exactly-write with_pair_value c (place_of o) o.within _ (at-get (list_of c o.bucket) o.slot o.within.slot) v in
-      let index : index_of r.now (place_of o) ≡ index_of c (place_of o) = ap (λ m. index_of m (place_of o)) now ∙ index-write with_pair_value c (place_of o) v in
-      let es : entries r.now ≡ write_at with_pair_value (entries c) (index_of c (place_of o)) v = ap entries now ∙ exact.exact in
+  -- the entry that a search found is that of the key
+  pub occupied-at : {same : K → K → Bool} (laws : IsEquivalence same) (k : K) (o : HeldEntry G N K V S T d g h b w) → IsDistinct same (keys_of (entries (d.kept o.guard))) → IsFoundAt (λ e. same k e.0) (d.kept o.guard) o.place
+      → IsOccupiedAt same (d.kept o.guard) k o
+  occupied-at {same = same} laws k o u found = occupied-by laws k o u (place-found same (d.kept o.guard) k o.place found)
+
+  -- the place is one in what the guard then keeps
+  pub within-written : (o : HeldEntry G N K V S T d g h b w) (m : Contents (K × V) S) (v : V) → m ≡ d.kept o.guard → IsPlace (d.kept (d.keeping o.guard (with_write_at with_pair_value m o.place v))) o.place
+  within-written o m v is = subst (λ c. IsPlace (d.kept (d.keeping o.guard (with_write_at with_pair_value c o.place v))) o.place) (sym is) (still_within o v)
+
+  -- the entry is the same by whatever proof that its place is one
+  pub written-same : (o : HeldEntry G N K V S T d g h b w) (m : Contents (K × V) S) (v : V) → (is : m ≡ d.kept o.guard) → (p : IsPlace (d.kept (d.keeping o.guard (with_write_at with_pair_value m o.place v))) o.place)
+      → record { guard = d.keeping o.guard (with_write_at with_pair_value m o.place v); place = o.place; rest = o.rest; of = o.of; within = p } ≡ with_value o v
+  written-same o m v is =
+      let Written : Contents (K × V) S → Type 0 = λ c. (p : IsPlace (d.kept (d.keeping o.guard (with_write_at with_pair_value c o.place v))) o.place) → record { guard = d.keeping o.guard (with_write_at with_pair_value c o.place v); place = o.place; rest = o.rest; of = o.of; within = p } ≡ with_value o v in
+      subst Written (sym is) (λ p. ap (λ r. record (with_value o v) { within = r }) (place-prop _ _ p (still_within o v)))
+
+  pub within-after : (o : HeldEntry G N K V S T d g h b w) (m n : Contents (K × V) S) (v : V) → m ≡ d.kept o.guard → n ≡ with_write_at with_pair_value m o.place v → IsPlace (d.kept (d.keeping o.guard n)) o.place
+  within-after o m n v is made = subst (λ c. IsPlace (d.kept (d.keeping o.guard c)) o.place) (sym made) (within-written o m v is)
+
+  -- what was written through the guard is written in the entry
+  pub written-after : (o : HeldEntry G N K V S T d g h b w) (m n : Contents (K × V) S) (v : V) → m ≡ d.kept o.guard → n ≡ with_write_at with_pair_value m o.place v → (p : IsPlace (d.kept (d.keeping o.guard n)) o.place)
+      → IsWritten o v (record { guard = d.keeping o.guard n; place = o.place; rest = o.rest; of = o.of; within = p })
+  written-after o m n v is made p = record {
+    same_guard = ap (d.keeping o.guard) (sym (d.keeps o.guard n));
+    rest = refl;
+    at = written-there with_pair_value (d.kept o.guard) o.place o.within v (d.kept (d.keeping o.guard n)) p (d.keeps o.guard n ∙ made ∙ ap (λ c. with_write_at with_pair_value c o.place v) is);
+  }
+
+  pub written-with : (o : HeldEntry G N K V S T d g h b w) (v : V) → IsWritten o v (with_value o v)
+  written-with o v = written-after o (d.kept o.guard) (written_map o v) v refl refl (still_within o v)
+
+  -- what was put in through the guard stands at the entry
+  pub inserted-after : (e : HeldVacant G N K V S T d g h b w) (m n : Contents (K × V) S) (v : V) (o : HeldEntry G N K V S T d g h b w) → o.guard ≡ d.keeping e.guard n → o.rest ≡ e.rest → m ≡ d.kept e.guard → IsInsertedAt m (e.key, v) n o.place → IsInserted e v o
+  inserted-after e m n v o guarded rests is i =
+      let k : d.kept o.guard ≡ n = ap d.kept guarded ∙ d.keeps e.guard n in
       record {
-        same_map = name;
-        contents = record {
-          exact = es ∙ write-parts with_pair_value (entries c) (index_of c (place_of o)) (occupied_pair o) v (pair-get o);
-          buckets = rw now exact.buckets;
-          settings = rw now exact.settings;
-        };
-        pair = pair-is (let d : OccupiedEntry K V S T g h b w = record { owned = r; bucket = o.bucket; slot = o.slot; within = within } in d) _ (ap (slice_get (entries r.now)) index ∙ ap (λ z. slice_get z (index_of c (place_of o))) es ∙ get-write_at with_pair_value (entries c) (index_of c (place_of o)) (occupied_pair o) v (pair-get o));
-        front = ap (λ i. take i (entries r.now)) index ∙ ap (take (index_of c (place_of o))) es ∙ front-write with_pair_value (entries c) (index_of c (place_of o)) v;
-        back = ap (λ i. drop (suc i) (entries r.now)) index ∙ ap (drop (suc (index_of c (place_of o)))) es ∙ back-write with_pair_value (entries c) (index_of c (place_of o)) v;
+        same_guard = guarded ∙ ap (d.keeping e.guard) (sym k);
+        rest = rests;
+        at = put-there (d.kept e.guard) (e.key, v) (d.kept o.guard) o.place o.within (subst (λ c. IsInsertedAt c (e.key, v) (d.kept o.guard) o.place) is (subst (λ c. IsInsertedAt m (e.key, v) c o.place) (sym k) i));
       }
 
-module _ {K V S T : Type 0} {g : eq.Ghosts K} {h : hash.Ghosts K} {b : builder.Ghosts S T} {w : hasher.Ghosts T} (e : VacantEntry K V S T g h b w) where
-  pub inserted-at : (v : V) (r : MutBor (Contents (K × V) S)) (p : Place) (within : IsPlace r.now p) → r.ghost_name ≡ e.owned.ghost_name → IsInsertedAt e.owned.now (e.key, v) r.now p
-      → IsInserted e v (record { owned = r; bucket = p.bucket; slot = p.slot; within = within })
-  inserted-at v r p within name i =
-      let o : OccupiedEntry K V S T g h b w = record { owned = r; bucket = p.bucket; slot = p.slot; within = within } in
-      record { same_map = name; contents = i.holds; pair = pair-is o (e.key, v) i.here }
-
--- an entry that is made anew of its parts
-pub same-entry : {K V S T : Type 0} {g : eq.Ghosts K} {h : hash.Ghosts K} {b : builder.Ghosts S T} {w : hasher.Ghosts T} (o : OccupiedEntry K V S T g h b w) (p : IsPlace o.owned.now (place_of o)) → record o { within = p } ≡ o
-same-entry o p = ap (λ q. record o { within = q }) (place-prop o.owned.now (place_of o) p o.within)
+  -- an entry that is made anew of its parts
+  pub same-entry : (o : HeldEntry G N K V S T d g h b w) (p : IsPlace (d.kept o.guard) o.place) → record o { within = p } ≡ o
+  same-entry o p = ap (λ r. record o { within = r }) (place-prop (d.kept o.guard) o.place p o.within)

@@ -3,11 +3,9 @@ pub mod Collecting
 pub mod CallerLemmas
 pub mod Entries
 pub mod EntrySteps
-pub mod Lookups
+pub mod Filtering
 pub mod MapWalks
-pub mod MapWrites
-pub mod PairWrites
-pub mod Splits
 pub mod Takings
+pub mod Visiting
 pub mod Visits
 pub mod WholeMaps

@@ -1,18 +1,17 @@
 -- Walks that go on by one pair.
 use Rattle.std.proofs.Common.{◌≡◌, ℕ, zero, suc, ◌<◌, ◌-◌, List, [], ◌∷◌, ◌++◌, length, take, Bool, false, Option, None, Some, MatchOption, IfSome, refl, sym, ap, arith}
-use Rattle.std.specs.declared.cmp.PartialEq as eq
-use Rattle.std.specs.declared.hash.Hash as hash
-use Rattle.std.specs.declared.hash.Hasher as hasher
-use Rattle.std.specs.declared.hash.BuildHasher as builder
+use Rattle.std.specs.Borrow.{Bor, MutBor}
+use Rattle.std.specs.Fn.{Mut}
+use denote.Param.Always.{always_mut, mut_next}
 use Rattle.scc_table.specs.Contents.{Contents, entries}
 use Rattle.scc_table.specs.Places.{IsPlace, index_of}
 use Rattle.scc_table.specs.Standing.{StandsAt}
 use Rattle.scc_table.specs.declared.place.Place.{Place}
 use Rattle.scc_table.proofs.Standing.{index-below}
-use Rattle.scc_map.specs.Entries.{place_of, occupied_pair, occupied_front}
-use Rattle.scc_map.specs.declared.hash_map.owned.entry.OccupiedEntry.{OccupiedEntry}
-use Rattle.scc_map.proofs.Entries.{pair-is}
-use Rattle.scc_map.specs.MapWalks.{Declines, ended, went_on, PassesAt, PassesFirst}
+use Rattle.scc_table.specs.Placed.{entry_of, front_of}
+use Rattle.scc_table.proofs.Placed.{entry_of-is}
+use Rattle.scc_table.proofs.WalkLemmas.{turn-always}
+use Rattle.scc_map.specs.MapWalks.{CallableToWrite, Declines, ended, went_on, PassesAt, PassesFirst}
 
 -- how many pairs stand before the place of a walk, all where it is over
 abbrev pub reached : {E S : Type 0} → Contents E S → Option Place → ℕ
@@ -43,8 +42,11 @@ module _ {F K V : Type 0} {T : F → K × V → Bool → F → Type 0} where
   declines-more [] ended t = went_on t ended
   declines-more (x ∷ es) (went_on s d) t = went_on s (declines-more es d t)
 
--- the pair that passes first is that of the entry at its place
-pub passes-at : {K V S T F : Type 0} {g : eq.Ghosts K} {h : hash.Ghosts K} {b : builder.Ghosts S T} {w : hasher.Ghosts T} {C : F → K × V → Bool → F → Type 0} {f : F} (o : OccupiedEntry K V S T g h b w)
-    → PassesFirst C f (entries o.owned.now) (index_of o.owned.now (place_of o)) → PassesAt C f (occupied_front o) (occupied_pair o)
-unfolding occupied_front
-passes-at {C = C} {f = f} o p = rw (pair-is o p.pair p.here) p.first
+-- the pair that passes first is that of the place
+pub passes-at : {K V S F : Type 0} {C : F → K × V → Bool → F → Type 0} {f : F} (c : Contents (K × V) S) (p : Place) (h : IsPlace c p) → PassesFirst C f (entries c) (index_of c p) → PassesAt C f (front_of c p) (entry_of c p h)
+unfolding front_of
+passes-at {C = C} {f = f} c p h x = rw (entry_of-is c p h x.pair x.here) x.first
+
+-- a closure that may always be called may be called to write on all pairs
+pub CallableToWrite-always : {F K V R : Type 0} (g : Mut F (Bor K × (MutBor V × Unit {0})) (R × (MutBor V × Unit {0}))) (On : R → Type 0) (f : F) (es : List (K × V)) → always_mut g f → CallableToWrite g On f es
+CallableToWrite-always g On = turn-always _ _ (always_mut g) (λ f f' p t h. mut_next g _ _ _ _ _ t.3.called refl h) (λ f p h key value shows. (h.at ((key, (value, tt)) ∷ [])).0)

@@ -1,19 +1,20 @@
 -- Walks that take pairs out, pair by pair.
 use Rattle.std.proofs.Common.{◌≡◌, suc, ◌+◌, List, [], ◌∷◌, ◌++◌, length, take, drop, Bool, false, Option, Some, Result, Ok, Err, refl, sym, ap, ◌∙◌, arith, subst, append_assoc, append-nil, take-append-drop, length-append, inl, inr}
 use Rattle.std.specs.List.{slice_get, remove}
-use Rattle.scc_table.specs.Contents.{Contents, entries, list_of}
+use Rattle.std.proofs.lemmas.List.{nil_from_length}
+use Rattle.scc_table.specs.Contents.{Contents, entries, bucket_count, list_of}
 use Rattle.scc_table.specs.Places.{IsPlace, index_of}
-use Rattle.scc_table.specs.Steps.{Holds, HoldsExactly, Resizes}
+use Rattle.scc_table.specs.Steps.{Holds, HoldsExactly, Resizes, ShrinksWhenDue}
 use Rattle.scc_table.specs.declared.errors.WalkError.{WalkError}
 use Rattle.scc_table.specs.declared.place.Place.{Place}
 use Rattle.scc_table.specs.declared.verdict.Verdict.{Verdict}
 use Rattle.scc_table.specs.declared.verdict.Verdict.TheVariants.{Keep, Take, KeepStop, TakeStop}
 use Rattle.scc_table.proofs.Spots.{place-get}
-use Rattle.scc_map.specs.Entries.{at, at-get}
+use Rattle.scc_table.specs.Placed.{at, at-get}
 use Rattle.scc_map.specs.MapWalks.{Takes, ended, refused, kept, took, kept_last, took_last}
-use Rattle.scc_map.proofs.EntrySteps.{drop-here}
+use Rattle.scc_table.proofs.Placed.{drop-here}
 use Rattle.scc_map.proofs.MapWalks.{reached}
-use Rattle.scc_map.proofs.Splits.{split-place}
+use Rattle.scc_table.proofs.PairSplits.{split-place}
 use Rattle.scc_map.proofs.Visits.{Visited, kept-before, took-before, took-after}
 
 -- each pair of a walk stays or is taken
@@ -95,3 +96,11 @@ holds-after a b c es h r = record {
 -- a list that stays as it is has nothing at its end
 pub appended-none : {X : Type 0} (xs ys more : List X) → ys ≡ xs ++ more → ys ≡ xs → length more ≡ 0
 appended-none xs ys more e s = omega (arith, length-append xs more, ap length e, ap length s)
+
+-- a list that nothing is put at the end of stays as it is
+pub appended-some : {X : Type 0} (xs ys more : List X) → ys ≡ xs ++ more → length more ≡ 0 → ys ≡ xs
+appended-some xs ys more e n = e ∙ ap (λ z. xs ++ z) (nil_from_length more n) ∙ append-nil xs
+
+-- a shrink that was due, seen from before a change that kept the number of buckets
+pub shrinks-since : {E S : Type 0} (a b c : Contents E S) → bucket_count b ≡ bucket_count a → ShrinksWhenDue b c → ShrinksWhenDue a c
+shrinks-since a b c e h = record { shrunk = λ m n am an few less down. h.shrunk m n am an (omega arith) (omega arith) down }

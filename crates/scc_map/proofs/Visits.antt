@@ -10,13 +10,15 @@ use Rattle.scc_table.specs.Writes.{with_write_at, IsPlace-with_write_at}
 use Rattle.scc_table.specs.declared.place.Place.{Place}
 use Rattle.scc_table.proofs.Standing.{index-below}
 use Rattle.scc_table.proofs.WritingTables.{exactly-write}
-use Rattle.scc_map.specs.Entries.{at-get}
-use Rattle.scc_map.specs.Lends.{with_pair_value}
+use Rattle.scc_table.specs.Walks.{HoldsInTurn}
+use Rattle.scc_table.proofs.WalkLemmas.{turn-first, turn-others}
+use Rattle.scc_table.specs.Placed.{at-get}
+use Rattle.scc_table.specs.Pairs.{with_pair_value}
 use Rattle.scc_map.specs.MapWalks.{Retains, kept, removed}
-use Rattle.scc_map.proofs.Entries.{front-write, back-write}
-use Rattle.scc_map.proofs.EntrySteps.{take-more, drop-here, take-removed, drop-removed}
+use Rattle.scc_table.proofs.Placed.{front-write, back-write}
+use Rattle.scc_table.proofs.Placed.{take-more, drop-here, take-removed, drop-removed}
 use Rattle.scc_map.proofs.MapWalks.{reached, reached-at}
-use Rattle.scc_map.proofs.MapWrites.{index-write, get-write_at}
+use Rattle.scc_table.proofs.KeyWrites.{index-write, get-write_at}
 
 length-write : {E X : Type 0} (put : E → X → E) (es : List E) (i : ℕ) (w : X) → length (write_at put es i w) ≡ length es
 length-write put [] i w = refl
@@ -110,3 +112,20 @@ module _ {F K V S : Type 0} {T : F → K × V → Bool → V → F → Type 0} (
       let here : Retains T f (drop (index_of m p) (entries m)) stay last = subst (λ z. Retains T f z stay last) (sym v.here) (removed t rest) in
       let front : take (index_of m p) (entries m) ++ stay ≡ take (reached d o) (entries d) ++ stay = ap (λ z. z ++ stay) (sym (took-before m p q w n v d out) ∙ ap (λ i. take i (entries d)) (sym e)) in
       subst (λ z. Retains T first all z last) front (calls stay last here)
+
+-- what holds in turn from the place on
+module _ {F K V S : Type 0} {Step : F → K × V → F → Type 0} {Q : F → K × V → Type 0} (m : Contents (K × V) S) (p : Place) where
+  pub turn-here : {f : F} → HoldsInTurn Step Q f (drop (index_of m p) (entries m)) → (x : K × V) → slice_get (entries m) (index_of m p) ≡ Some x → Q f x
+  turn-here {f = f} h x e = turn-first Step Q (subst (HoldsInTurn Step Q f) (drop-here (entries m) (index_of m p) x e) h)
+
+  module _ (q : K × V) (w : V) (n : Contents (K × V) S) (v : Visited m p q w n) {f f' : F} (h : HoldsInTurn Step Q f (drop (index_of m p) (entries m))) (t : Step f q f') where
+    turn-next : HoldsInTurn Step Q f' (drop (suc (index_of m p)) (entries m))
+    turn-next = turn-others Step Q (subst (HoldsInTurn Step Q f) v.here h) t
+
+    -- after a step it holds from the next pair on
+    pub turn-kept : (o : Option Place) → reached n o ≡ suc (index_of m p) → HoldsInTurn Step Q f' (drop (reached n o) (entries n))
+    turn-kept o e = subst (HoldsInTurn Step Q f') (sym (ap (λ i. drop i (entries n)) e ∙ v.after)) turn-next
+
+    -- and so where the pair is out
+    pub turn-removed : (d : Contents (K × V) S) → HoldsExactly n (remove (entries n) (index_of n p)) d → (o : Option Place) → reached d o ≡ index_of m p → HoldsInTurn Step Q f' (drop (reached d o) (entries d))
+    turn-removed d out o e = subst (HoldsInTurn Step Q f') (sym (ap (λ i. drop i (entries d)) e ∙ took-after m p q w n v d out)) turn-next

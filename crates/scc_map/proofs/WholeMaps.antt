@@ -8,8 +8,8 @@ use Rattle.std.specs.Option.{option_eq}
 use Rattle.std.proofs.lemmas.Map.Keys.{IsDistinct-head, IsDistinct-tail, IsDistinct-cons}
 use Rattle.std.proofs.lemmas.Bool.{false≢true}
 use Rattle.scc_table.specs.Walks.{Walks, ended, stopped, went_on}
-use Rattle.scc_map.proofs.Lookups.{by_option, place-of_find, find-without, distinct-remove_entry}
-use Rattle.scc_map.proofs.Splits.{by_answer, cond-true, cond-false, found-place, none-find, apart-keys}
+use Rattle.scc_table.proofs.Lookups.{by_option, place-of_find, find-without, distinct-remove_entry}
+use Rattle.scc_table.proofs.PairSplits.{by_answer, cond-true, cond-false, found-place, none-find, apart-keys}
 
 -- where each answer is that of a test, the walk's is that of the test at every pair
 pub walk-list_all : {F K V : Type 0} {T : F → K × V → Bool → F → Type 0} (I : F → Type 0) (t : K × V → Bool)

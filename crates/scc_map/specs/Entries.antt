@@ -1,160 +1,184 @@
--- What the contracts of an entry cite.
-pub use Rattle.scc_map.specs.declared.hash_map.owned.entry.Entry.TheVariants.{Occupied, Vacant}
+-- What the contracts of an entry cite. An entry holds its map by a guard: a `&mut` in the owned form.
+pub use Rattle.scc_map.specs.declared.hash_map.held.HeldPlace.TheVariants.{Occupied, Vacant}
 pub use Rattle.scc_table.specs.declared.errors.InsertError.TheVariants.{Exists, Memory}
-use Rattle.std.specs.Prelude.{◌≡◌, ℕ, zero, suc, ◌<◌, Bool, true, List, [], ◌∷◌, ◌++◌, length, take, drop, Option, None, Some, slice_get, refl, Result, ⊤}
-use Rattle.std.specs.Borrow.{Fml, RattleType, MutBor, RestsIfErr, RestsIfNone, follows}
+use Rattle.std.specs.Prelude.{◌≡◌, ℕ, Bool, true, List, ◌∷◌, ◌++◌, Option, None, Some, Result, ⊤}
+use Rattle.std.specs.Borrow.{Fml, RattleType, MutBor, Lends, RestsIfErr, RestsIfNone}
 use Rattle.std.specs.HashMap.Lent.{HashMembers}
 use Rattle.std.specs.Fn.{Once, FnOnceTakesAtMut, FnOnceReturnsAtMut}
-use Rattle.std.specs.Map.{set_value, set_key}
+use Rattle.std.specs.Map.{set_value}
 use Rattle.std.specs.declared.cmp.PartialEq as eq
 use Rattle.std.specs.declared.hash.Hash as hash
 use Rattle.std.specs.declared.hash.Hasher as hasher
 use Rattle.std.specs.declared.hash.BuildHasher as builder
-use Rattle.std.proofs.Common.{arith}
-use mir.Syntax.{named}
-use Rattle.scc_table.specs.Contents.{Contents, entries, list_of}
-use Rattle.scc_table.specs.Pairs.{find, without}
-use Rattle.scc_table.specs.Places.{index_of}
-use Rattle.scc_table.specs.Steps.{Holds, HoldsExactly, Rests}
+use Rattle.std.proofs.Common.{sym, subst}
+use Rattle.scc_table.specs.Contents.{Contents, entries, key_hash}
+use Rattle.scc_table.specs.PairSteps.{SwapsKey}
+use Rattle.scc_table.specs.Pairs.{find, without, IsUnique, with_pair_value}
+use Rattle.scc_table.specs.Placed.{entry_of, front_of, back_of, IsWrittenAt, IsPutAt}
+use Rattle.scc_table.specs.Places.{IsPlace}
+use Rattle.scc_table.specs.Steps.{FirstArrayWhenDue, GrowsFor, HoldsExactly, Rests}
 use Rattle.scc_table.specs.Writes.{with_write_at, IsPlace-with_write_at}
 use Rattle.scc_table.specs.declared.errors.InsertError.{InsertError}
-use Rattle.scc_table.specs.declared.place.Place.{Place}
-use Rattle.scc_map.specs.Lends.{map_row, with_pair_value}
-use Rattle.scc_map.specs.contracts.hash_map.owned.entry.OccupiedEntry as occupied
-use Rattle.scc_map.specs.declared.hash_map.owned.entry.Entry.{Entry}
-use Rattle.scc_map.specs.declared.hash_map.owned.entry.OccupiedEntry.{OccupiedEntry}
-use Rattle.scc_map.specs.declared.hash_map.owned.entry.VacantEntry.{VacantEntry}
-use Rattle.scc_map.specs.declared.hash_map.owned.entry.ReplaceResult.{ReplaceResult}
-use Rattle.scc_map.specs.declared.hash_map.owned.entry.ReplaceResult.TheVariants.{Replaced, NotReplaced}
+use Rattle.scc_table.specs.declared.guard.Guard as guard
+use Rattle.scc_map.specs.Lends.{map_row}
+use Rattle.scc_map.specs.contracts.hash_map.held.HeldEntry.{the_row}
+use Rattle.scc_map.specs.declared.hash_map.held.HeldEntry.{HeldEntry}
+use Rattle.scc_map.specs.declared.hash_map.held.HeldPlace.{HeldPlace}
+use Rattle.scc_map.specs.declared.hash_map.held.HeldReplace.{HeldReplace}
+use Rattle.scc_map.specs.declared.hash_map.held.HeldReplace.TheVariants.{Replaced, NotReplaced}
+use Rattle.scc_map.specs.declared.hash_map.held.HeldVacant.{HeldVacant}
 
--- the element at the place
-abbrev pub at : {X : Type 0} (es : List X) (i : ℕ) → i < length es → X
-at [] i h = absurd (omega arith)
-at (x ∷ es) zero h = x
-at (x ∷ es) (suc i) h = at es i (omega arith)
+module _ {K V S : Type 0} where
+  -- d is c once the new key k was put in: the array is one that had to be made, or grew as it may and has to
+  pub record IsGrownFor (hash : K → ℕ) (c : Contents (K × V) S) (k : K) (d : Contents (K × V) S) : Type 0 where
+    pub grows : GrowsFor hash (λ p. p.0) c k d
+    pub first : FirstArrayWhenDue c d
 
-pub at-get : {X : Type 0} (es : List X) (i : ℕ) (h : i < length es) → slice_get es i ≡ Some (at es i h)
-at-get [] i h = absurd (omega arith)
-at-get (x ∷ es) zero h = refl
-at-get (x ∷ es) (suc i) h = at-get es i _
+  -- c, where an insertion of the new key k was refused: it rests as it was, or resized once as it may and has to be, with distinct keys
+  pub record RestsRefused (same : K → K → Bool) (hash : K → ℕ) (c : Contents (K × V) S) (k : K) (d : Contents (K × V) S) : Type 0 where
+    pub rests : Rests c d
+    pub grows : GrowsFor hash (λ p. p.0) c k d
+    pub unique : IsUnique same d
 
-module _ {K V S T : Type 0} {g : eq.Ghosts K} {h : hash.Ghosts K} {b : builder.Ghosts S T} {w : hasher.Ghosts T} where
-  -- where the entry stands
-  abbrev pub place_of : OccupiedEntry K V S T g h b w → Place
-  place_of o = record { bucket = o.bucket; slot = o.slot }
+module _ {G N K V S T : Type 0} {d : guard.Ghosts G (Contents (K × V) S)} {g : eq.Ghosts K} {h : hash.Ghosts K} {b : builder.Ghosts S T} {w : hasher.Ghosts T} where
+  -- the map that the entry holds
+  abbrev pub held_map : HeldEntry G N K V S T d g h b w → Contents (K × V) S
+  held_map o = d.kept o.guard
 
   -- the pair of the entry, and the pairs before and after it
-  unfoldable pub occupied_pair : OccupiedEntry K V S T g h b w → K × V
-  occupied_pair o = at (list_of o.owned.now o.bucket) o.slot o.within.slot
+  abbrev pub occupied_pair : HeldEntry G N K V S T d g h b w → K × V
+  occupied_pair o = entry_of (d.kept o.guard) o.place o.within
 
-  unfoldable pub occupied_front : OccupiedEntry K V S T g h b w → List (K × V)
-  occupied_front o = take (index_of o.owned.now (place_of o)) (entries o.owned.now)
+  abbrev pub occupied_front : HeldEntry G N K V S T d g h b w → List (K × V)
+  occupied_front o = front_of (d.kept o.guard) o.place
 
-  unfoldable pub occupied_back : OccupiedEntry K V S T g h b w → List (K × V)
-  occupied_back o = drop (suc (index_of o.owned.now (place_of o))) (entries o.owned.now)
+  abbrev pub occupied_back : HeldEntry G N K V S T d g h b w → List (K × V)
+  occupied_back o = back_of (d.kept o.guard) o.place
 
-  -- the reference to the map
-  abbrev pub entry_owned : Entry K V S T g h b w → MutBor (Contents (K × V) S)
-  entry_owned (Occupied o) = o.owned
-  entry_owned (Vacant e) = e.owned
+  -- what holds the map
+  abbrev pub entry_guard : HeldPlace G N K V S T d g h b w → G
+  entry_guard (Occupied o) = o.guard
+  entry_guard (Vacant e) = e.guard
 
   -- the map stays, and o stands at the pair of k
-  pub record IsOccupiedAt (same : K → K → Bool) (c : Contents (K × V) S) (k : K) (o : OccupiedEntry K V S T g h b w) : Type 0 where
-    pub contents : o.owned.now ≡ c
+  pub record IsOccupiedAt (same : K → K → Bool) (c : Contents (K × V) S) (k : K) (o : HeldEntry G N K V S T d g h b w) : Type 0 where
+    pub contents : d.kept o.guard ≡ c
     pub found : find same (entries c) k ≡ Some (occupied_pair o)
     pub equal : same k (occupied_pair o).0 ≡ true
     pub writes : (v : V) → occupied_front o ++ ((occupied_pair o).0, v) ∷ occupied_back o ≡ set_value (same k) (entries c) v
     pub removes : occupied_front o ++ occupied_back o ≡ without same (entries c) k
 
   -- the map stays, and e has the key k, which the map lacks
-  pub record IsVacantAt (same : K → K → Bool) (c : Contents (K × V) S) (k : K) (e : VacantEntry K V S T g h b w) : Type 0 where
-    pub contents : e.owned.now ≡ c
+  pub record IsVacantAt (same : K → K → Bool) (c : Contents (K × V) S) (k : K) (e : HeldVacant G N K V S T d g h b w) : Type 0 where
+    pub contents : d.kept e.guard ≡ c
     pub found : find same (entries c) k ≡ None
     pub key : e.key ≡ k
 
-  abbrev pub IsEntryOf : (K → K → Bool) → Contents (K × V) S → K → Entry K V S T g h b w → Type 0
+  abbrev pub IsEntryOf : (K → K → Bool) → Contents (K × V) S → K → HeldPlace G N K V S T d g h b w → Type 0
   IsEntryOf same c k (Occupied o) = IsOccupiedAt same c k o
   IsEntryOf same c k (Vacant e) = IsVacantAt same c k e
 
-  -- d is the entry o, once v is its value
-  pub record IsWritten (o : OccupiedEntry K V S T g h b w) (v : V) (d : OccupiedEntry K V S T g h b w) : Type 0 where
-    pub same_map : d.owned.ghost_name ≡ o.owned.ghost_name
-    pub contents : HoldsExactly o.owned.now (occupied_front o ++ ((occupied_pair o).0, v) ∷ occupied_back o) d.owned.now
-    pub pair : occupied_pair d ≡ ((occupied_pair o).0, v)
-    pub front : occupied_front d ≡ occupied_front o
-    pub back : occupied_back d ≡ occupied_back o
+  -- p is the entry o, once v is its value
+  pub record IsWritten (o : HeldEntry G N K V S T d g h b w) (v : V) (p : HeldEntry G N K V S T d g h b w) : Type 0 where
+    pub same_guard : p.guard ≡ d.keeping o.guard (d.kept p.guard)
+    pub rest : p.rest ≡ o.rest
+    pub at : IsWrittenAt (d.kept o.guard) o.place ((occupied_pair o).0, v) (d.kept p.guard) p.place p.within
 
   -- o stands at the pair that was put in through e
-  pub record IsInserted (e : VacantEntry K V S T g h b w) (v : V) (o : OccupiedEntry K V S T g h b w) : Type 0 where
-    pub same_map : o.owned.ghost_name ≡ e.owned.ghost_name
-    pub contents : Holds e.owned.now ((e.key, v) ∷ entries e.owned.now) o.owned.now
-    pub pair : occupied_pair o ≡ (e.key, v)
+  pub record IsInserted (e : HeldVacant G N K V S T d g h b w) (v : V) (o : HeldEntry G N K V S T d g h b w) : Type 0 where
+    pub same_guard : o.guard ≡ d.keeping e.guard (d.kept o.guard)
+    pub rest : o.rest ≡ e.rest
+    pub at : IsPutAt (d.kept e.guard) (e.key, v) (d.kept o.guard) o.place o.within
+
+  abbrev pub written_map : HeldEntry G N K V S T d g h b w → V → Contents (K × V) S
+  written_map o v = with_write_at with_pair_value (d.kept o.guard) o.place v
+
+  pub still_within : (o : HeldEntry G N K V S T d g h b w) (v : V) → IsPlace (d.kept (d.keeping o.guard (written_map o v))) o.place
+  still_within o v =
+      let P : Contents (K × V) S → Type 0 = λ c. IsPlace c o.place in
+      subst P (sym (d.keeps o.guard (written_map o v))) (IsPlace-with_write_at with_pair_value (d.kept o.guard) o.place v o.within)
 
   -- o, once v is its value
-  abbrev pub with_value : OccupiedEntry K V S T g h b w → V → OccupiedEntry K V S T g h b w
-  with_value o v = record { owned = record o.owned { now = with_write_at with_pair_value o.owned.now (place_of o) v }; bucket = o.bucket; slot = o.slot; within = IsPlace-with_write_at with_pair_value o.owned.now (place_of o) v o.within }
+  abbrev pub with_value : HeldEntry G N K V S T d g h b w → V → HeldEntry G N K V S T d g h b w
+  with_value o v = record {
+    guard = d.keeping o.guard (written_map o v);
+    place = o.place;
+    rest = o.rest;
+    of = o.of;
+    within = still_within o v;
+  }
 
   -- the stored key, or the one that was asked for
-  abbrev pub entry_key : Entry K V S T g h b w → K
+  abbrev pub entry_key : HeldPlace G N K V S T d g h b w → K
   entry_key (Occupied o) = (occupied_pair o).0
   entry_key (Vacant e) = e.key
 
-  abbrev pub IsVacant : Entry K V S T g h b w → Type 0
+  abbrev pub IsVacant : HeldPlace G N K V S T d g h b w → Type 0
   IsVacant (Occupied o) = ⊥
   IsVacant (Vacant e) = ⊤
 
   -- o is the entry; where that was vacant, a value of which P holds was put in
-  abbrev pub OrInsertsSome : Entry K V S T g h b w → (K → V → Type 0) → OccupiedEntry K V S T g h b w → Type 0
+  abbrev pub OrInsertsSome : HeldPlace G N K V S T d g h b w → (K → V → Type 0) → HeldEntry G N K V S T d g h b w → Type 0
   OrInsertsSome (Occupied p) P o = o ≡ p
   OrInsertsSome (Vacant e) P o = (v : V) × P e.key v × IsInserted e v o
 
   -- o is the entry, once v was put in where it was vacant
-  abbrev pub OrInserts : Entry K V S T g h b w → V → OccupiedEntry K V S T g h b w → Type 0
+  abbrev pub OrInserts : HeldPlace G N K V S T d g h b w → V → HeldEntry G N K V S T d g h b w → Type 0
   OrInserts (Occupied p) v o = o ≡ p
   OrInserts (Vacant e) v o = IsInserted e v o
 
   -- o is the entry with v as its value, put in where it was vacant
-  abbrev pub SetsEntry : Entry K V S T g h b w → V → OccupiedEntry K V S T g h b w → Type 0
+  abbrev pub SetsEntry : HeldPlace G N K V S T d g h b w → V → HeldEntry G N K V S T d g h b w → Type 0
   SetsEntry (Occupied p) v o = IsWritten p v o
   SetsEntry (Vacant e) v o = IsInserted e v o
 
+  -- where a value was put in, the array grew as an insertion of the key may and has to
+  abbrev pub GrowsThrough : (K → ℕ) → HeldPlace G N K V S T d g h b w → HeldEntry G N K V S T d g h b w → Type 0
+  GrowsThrough hash (Occupied p) o = ⊤
+  GrowsThrough hash (Vacant e) o = IsGrownFor hash (d.kept e.guard) e.key (d.kept o.guard)
+
   -- a refusal: the key comes back with a value of which P holds
-  abbrev pub RefusesSome : Entry K V S T g h b w → (K → V → Type 0) → InsertError K V → Type 0
+  abbrev pub RefusesSome : HeldPlace G N K V S T d g h b w → (K → V → Type 0) → InsertError K V → Type 0
   RefusesSome e P r = (v : V) × P (entry_key e) v × (r ≡ Memory (entry_key e, v))
 
-  -- the reference to the map
-  abbrev pub replaced_owned : ReplaceResult K V S T g h b w → MutBor (Contents (K × V) S)
-  replaced_owned (Replaced o k) = o.owned
-  replaced_owned (NotReplaced e) = e.owned
+  -- what holds the map
+  abbrev pub replaced_guard : HeldReplace G N K V S T d g h b w → G
+  replaced_guard (Replaced o k) = o.guard
+  replaced_guard (NotReplaced e) = e.guard
 
   -- k is put in the place of the key that equals it, at which o stands. Where there is none nothing changes
-  abbrev pub Replaces : (K → K → Bool) → Contents (K × V) S → K → ReplaceResult K V S T g h b w → Type 0
-  Replaces same c k (Replaced o old) = (v : V) × (find same (entries c) k ≡ Some (old, v)) × (occupied_pair o ≡ (k, v)) × HoldsExactly c (set_key (same k) (entries c) k) o.owned.now
+  abbrev pub Replaces : (K → K → Bool) → Contents (K × V) S → K → HeldReplace G N K V S T d g h b w → Type 0
+  Replaces same c k (Replaced o old) = SwapsKey same (entries c) k old (λ v es. (occupied_pair o ≡ (k, v)) × HoldsExactly c es (d.kept o.guard))
   Replaces same c k (NotReplaced e) = IsVacantAt same c k e
 
   module _ {F : Type 0} (f : Once F (MutBor V × Unit {0}) (Unit {0} × (MutBor V × Unit {0}))) (x : F) where
     -- the closure may be called on the value
-    abbrev pub TakesEntry : Entry K V S T g h b w → Type 0
+    abbrev pub TakesEntry : HeldPlace G N K V S T d g h b w → Type 0
     TakesEntry (Occupied o) = FnOnceTakesAtMut f x (occupied_pair o).1
     TakesEntry (Vacant e) = ⊤
 
     -- the entry, once the closure was called on its value
-    abbrev pub Modifies : Entry K V S T g h b w → Entry K V S T g h b w → Type 0
-    Modifies (Occupied o) (Occupied d) = (v : V) × FnOnceReturnsAtMut f x (occupied_pair o).1 tt v × IsWritten o v d
-    Modifies (Vacant e) (Vacant d) = d ≡ e
-    Modifies e d = ⊥
+    abbrev pub Modifies : HeldPlace G N K V S T d g h b w → HeldPlace G N K V S T d g h b w → Type 0
+    Modifies (Occupied o) (Occupied p) = (v : V) × FnOnceReturnsAtMut f x (occupied_pair o).1 tt v × IsWritten o v p
+    Modifies (Vacant e) (Vacant p) = p ≡ e
+    Modifies e p = ⊥
+
+module _ (G N K V S T : RattleType) {d : guard.Ghosts G.Denot (Contents (K.Denot × V.Denot) S.Denot)} {g : eq.Ghosts K.Denot} {h : hash.Ghosts K.Denot} {b : builder.Ghosts S.Denot T.Denot} {w : hasher.Ghosts T.Denot} where
+  -- once the borrow r ends, the entry behind o has the last value written through r
+  abbrev pub occupied_lends : MutBor (HeldEntry G.Denot N.Denot K.Denot V.Denot S.Denot T.Denot d g h b w) → MutBor V.Denot → Fml
+  occupied_lends o r = Lends (the_row G N K V S T d g h b w) V o r (with_value o.now)
 
 module _ (K V S T : RattleType) (key : HashMembers K.Denot) (build : builder.Ghosts S.Denot T.Denot) (feed : hasher.Ghosts T.Denot) where
-  -- where r has no entry, the map behind m rests: as it was, or resized once
-  abbrev pub rests_if_refused : {E : Type 0} {g : eq.Ghosts K.Denot} {h : hash.Ghosts K.Denot} {b : builder.Ghosts S.Denot T.Denot} {w : hasher.Ghosts T.Denot}
-      → MutBor (Contents (K.Denot × V.Denot) S.Denot) → Result (OccupiedEntry K.Denot V.Denot S.Denot T.Denot g h b w) E → Fml
-  rests_if_refused m r = RestsIfErr (map_row K V S T key build feed) m (λ o. o.owned.ghost_name) r (λ n. Rests m.now n)
+  -- an entry of a map that is borrowed
+  abbrev pub Borrowed : (N : Type 0) → guard.Ghosts (MutBor (Contents (K.Denot × V.Denot) S.Denot)) (Contents (K.Denot × V.Denot) S.Denot) → eq.Ghosts K.Denot → hash.Ghosts K.Denot → builder.Ghosts S.Denot T.Denot → hasher.Ghosts T.Denot → Type 0
+  Borrowed N d g h b w = HeldEntry (MutBor (Contents (K.Denot × V.Denot) S.Denot)) N K.Denot V.Denot S.Denot T.Denot d g h b w
+
+  -- where r has no entry, since an insertion of the new key k was refused, the map behind m rests: as it was, or resized once
+  abbrev pub rests_if_refused : {E N : Type 0} {d : guard.Ghosts (MutBor (Contents (K.Denot × V.Denot) S.Denot)) (Contents (K.Denot × V.Denot) S.Denot)} {g : eq.Ghosts K.Denot} {h : hash.Ghosts K.Denot} {b : builder.Ghosts S.Denot T.Denot} {w : hasher.Ghosts T.Denot}
+      → MutBor (Contents (K.Denot × V.Denot) S.Denot) → K.Denot → Result (Borrowed N d g h b w) E → Fml
+  rests_if_refused m k r = RestsIfErr (map_row K V S T key build feed) m (λ o. o.guard.ghost_name) r (λ n. RestsRefused key.eq (key_hash build feed key.hash_input m.now) m.now k n)
 
   -- where r has no entry, the map behind m stays as it is
-  abbrev pub rests_if_none : {g : eq.Ghosts K.Denot} {h : hash.Ghosts K.Denot} {b : builder.Ghosts S.Denot T.Denot} {w : hasher.Ghosts T.Denot}
-      → MutBor (Contents (K.Denot × V.Denot) S.Denot) → Option (OccupiedEntry K.Denot V.Denot S.Denot T.Denot g h b w) → Fml
-  rests_if_none m r = RestsIfNone (map_row K V S T key build feed) m (λ o. o.owned.ghost_name) r (λ n. n ≡ m.now)
-
-  -- once the borrow r ends, the entry behind o has the last value written through r
-  abbrev pub occupied_lends : MutBor (OccupiedEntry K.Denot V.Denot S.Denot T.Denot (record { eq = key.eq }) (record { hash_input = key.hash_input }) build feed) → MutBor V.Denot → Fml
-  occupied_lends o r = follows (occupied.the_row (record { mir = named 1; lft = [] }) K V S T (record { eq = key.eq }) (record { hash_input = key.hash_input }) build feed) V o.ghost_name r.ghost_name (with_value o.now)
+  abbrev pub rests_if_none : {N : Type 0} {d : guard.Ghosts (MutBor (Contents (K.Denot × V.Denot) S.Denot)) (Contents (K.Denot × V.Denot) S.Denot)} {g : eq.Ghosts K.Denot} {h : hash.Ghosts K.Denot} {b : builder.Ghosts S.Denot T.Denot} {w : hasher.Ghosts T.Denot}
+      → MutBor (Contents (K.Denot × V.Denot) S.Denot) → Option (Borrowed N d g h b w) → Fml
+  rests_if_none m r = RestsIfNone (map_row K V S T key build feed) m (λ o. o.guard.ghost_name) r (λ n. n ≡ m.now)

@@ -4,17 +4,10 @@ use Rattle.std.specs.HashMap.Lent.{HashMembers}
 use Rattle.std.specs.declared.hash.Hasher as hasher
 use Rattle.std.specs.declared.hash.BuildHasher as builder
 use Rattle.scc_table.specs.Contents.{Contents}
+use Rattle.scc_table.specs.Pairs.{with_pair_value}
 use Rattle.scc_table.specs.Writes.{with_write_at}
 use Rattle.scc_table.specs.declared.place.Place.{Place}
 use Rattle.scc_map.specs.contracts.hash_map.owned.Owned.{the_row}
-
--- the pair with that value
-abbrev pub with_pair_value : {K V : Type 0} → K × V → V → K × V
-with_pair_value p v = (p.0, v)
-
--- the pair with that key
-abbrev pub with_pair_key : {K V : Type 0} → K × V → K → K × V
-with_pair_key p k = (k, p.1)
 
 module _ (K V S H : RattleType) (key : HashMembers K.Denot) (build : builder.Ghosts S.Denot H.Denot) (feed : hasher.Ghosts H.Denot) where
   -- the map's type, as the logic holds it

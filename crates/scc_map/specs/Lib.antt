@@ -1,5 +1,6 @@
 pub use Rattle.scc_table.specs.Clones
 pub use Rattle.scc_table.specs.Contents
+pub use Rattle.scc_table.specs.PairSteps
 pub use Rattle.scc_table.specs.Pairs
 pub use Rattle.scc_table.specs.Places
 pub use Rattle.scc_table.specs.ShelfWrites
@@ -17,3 +18,4 @@ pub mod Lends
 pub mod MapSizes
 pub mod MapSteps
 pub mod MapWalks
+pub mod Sinks

@@ -1,7 +1,8 @@
 -- Walks over the pairs of a map: what a closure was called on in turn, and what became of each pair.
-use Rattle.std.specs.Prelude.{◌≡◌, ℕ, Bool, true, false, List, [], ◌∷◌, take, Result, Ok, Err, Some, slice_get}
+use Rattle.std.specs.Prelude.{◌≡◌, ℕ, Bool, true, false, List, [], ◌∷◌, take, Result, Ok, Err, Some, slice_get, ⊤}
 use Rattle.std.specs.Borrow.{Bor, MutBor}
 use Rattle.std.specs.Fn.{Mut, Called}
+use Rattle.scc_table.specs.Walks.{HoldsInTurn}
 use Rattle.scc_table.specs.declared.errors.WalkError.{WalkError}
 use Rattle.scc_table.specs.declared.verdict.Verdict.{Verdict}
 use Rattle.scc_table.specs.declared.verdict.Verdict.TheVariants.{Keep, Take, KeepStop, TakeStop}
@@ -38,6 +39,21 @@ pub record CalledToWrite {F K V R : Type 0} (g : Mut F (Bor K × (MutBor V × Un
   pub left : MutBor V
   pub called : Called g f (key, (value, tt)) (r, (left, tt)) f'
   pub leaves : left.now ≡ w
+
+-- f may be called at a & to the key and a &mut to the value of p
+abbrev pub TakesToWrite : {F K V R : Type 0} → Mut F (Bor K × (MutBor V × Unit {0})) (R × (MutBor V × Unit {0})) → F → K × V → Type 0
+TakesToWrite {F} {K} {V} g f p = (key : Bor K) (value : MutBor V) → (key.now, value.now) ≡ p → g.pre f (key, (value, tt))
+
+-- f may be called on the pairs in turn, each with the value to write, for as long as On holds of each answer
+abbrev pub CallableToWrite : {F K V R : Type 0} → Mut F (Bor K × (MutBor V × Unit {0})) (R × (MutBor V × Unit {0})) → (R → Type 0) → F → List (K × V) → Type 0
+CallableToWrite {F} {K} {V} {R} g On = HoldsInTurn (λ s p t. (r : R) × (w : V) × On r × CalledToWrite g s p r w t) (TakesToWrite g)
+
+-- the verdicts after which a walk goes on
+abbrev pub GoesOn : Verdict → Type 0
+GoesOn Keep = ⊤
+GoesOn Take = ⊤
+GoesOn KeepStop = ⊥
+GoesOn TakeStop = ⊥
 
 -- the closure was called on all pairs in turn. The second list is those that stay, with what it wrote
 pub data Retains {F K V : Type 0} (T : F → K × V → Bool → V → F → Type 0) : F → List (K × V) → List (K × V) → F → Type 0 where

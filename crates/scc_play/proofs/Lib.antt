@@ -3,3 +3,5 @@ pub mod Numbers
 pub mod Extras
 pub mod Cuts
 pub mod Steps
+pub mod Drained
+pub mod DrainedKeys

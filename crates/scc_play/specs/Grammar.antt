@@ -1,17 +1,25 @@
 -- The grammar of a script: what a line means, and what the whole text means.
 -- A text is a list of bytes. Its lines stand between line feeds, and a line's fields between spaces.
-use Rattle.std.specs.Prelude.{ℕ, ◌+◌, ◌^◌, ◌==◌, ◌&&◌, Bool, false, cond, List, [], ◌∷◌, ◌++◌, map, Option, Some, None, Result, Ok, Err, codes, length, nat_lt}
+use Rattle.std.specs.Prelude.{ℕ, ◌+◌, ◌^◌, ◌==◌, ◌&&◌, Bool, cond, List, [], ◌∷◌, ◌++◌, map, Option, Some, None, Result, Ok, Err, codes, length, nat_lt}
 use Rattle.std.specs.List.{slice_split, list_all}
 use Rattle.std.specs.Char.{is_ascii_digit}
 use Rattle.std.specs.Str.{bytes_eq}
 use Rattle.std.specs.Str.Lines.{strip_carriage_return}
 use Rattle.std.specs.Str.Parse.{digits_value}
 use Rattle.scc_recorded.specs.declared.recorded.calls_as_values.MapCall.{MapCall}
-use Rattle.scc_recorded.specs.declared.recorded.calls_as_values.MapCall.TheVariants.{Insert, Upsert, Replace, Read, Contains, Remove, Clear, Len}
+use Rattle.scc_recorded.specs.declared.recorded.calls_as_values.MapCall.TheVariants as map_call
+use Rattle.scc_recorded.specs.declared.recorded.calls_as_values.SetCall.{SetCall}
+use Rattle.scc_recorded.specs.declared.recorded.calls_as_values.SetCall.TheVariants as set_call
+use Rattle.scc_recorded.specs.declared.recorded.calls_as_values.IndexCall.{IndexCall}
+use Rattle.scc_recorded.specs.declared.recorded.calls_as_values.IndexCall.TheVariants as index_call
+use Rattle.scc_play.specs.declared.line.Kind.{Kind}
+use Rattle.scc_play.specs.declared.line.Kind.TheVariants.{Map, Set, Index}
 
--- a call on a map from numbers to numbers
-abbrev pub Call : Type 0
-Call = MapCall ℕ ℕ
+-- what a kind calls its calls: those without an argument, those with a key, those with a key and a value
+pub record Names (C : Type 0) : Type 0 where
+  pub bare : List ℕ → Option C
+  pub keyed : List ℕ → ℕ → Option C
+  pub paired : List ℕ → ℕ → ℕ → Option C
 
 -- the parts of a text between the bytes `byte`
 abbrev pub parts : ℕ → List ℕ → List (List ℕ)
@@ -32,65 +40,106 @@ abbrev pub is_the_number : ℕ → List ℕ → Bool
 is_the_number n field = is_number field && (digits_value 10 field == n)
 
 -- what a number answers, where the field is one
-abbrev pub if_number : Option ℕ → (ℕ → Option Call) → Option Call
+abbrev pub if_number : {C : Type 0} → Option ℕ → (ℕ → Option C) → Option C
 if_number None f = None
 if_number (Some n) f = f n
 
--- Calls: their names, by the number of their arguments
+-- Calls: their names in each kind, by the number of their arguments
 
-abbrev pub bare_call_of : List ℕ → Option Call
-bare_call_of name =
-    cond (bytes_eq name (codes "len")) (Some Len)
-    (cond (bytes_eq name (codes "clear")) (Some Clear)
+-- the calls without an argument, which all kinds have
+abbrev pub either : {C : Type 0} → C → C → List ℕ → Option C
+either len clear name =
+    cond (bytes_eq name (codes "len")) (Some len)
+    (cond (bytes_eq name (codes "clear")) (Some clear)
     None)
 
-abbrev pub key_call_of : List ℕ → ℕ → Option Call
-key_call_of name key =
-    cond (bytes_eq name (codes "read")) (Some (Read key))
-    (cond (bytes_eq name (codes "contains")) (Some (Contains key))
-    (cond (bytes_eq name (codes "remove")) (Some (Remove key))
-    (cond (bytes_eq name (codes "replace")) (Some (Replace key))
+abbrev pub map_keyed : List ℕ → ℕ → Option (MapCall ℕ ℕ)
+map_keyed name key =
+    cond (bytes_eq name (codes "read")) (Some (map_call.Read key))
+    (cond (bytes_eq name (codes "contains")) (Some (map_call.Contains key))
+    (cond (bytes_eq name (codes "remove")) (Some (map_call.Remove key))
+    (cond (bytes_eq name (codes "replace")) (Some (map_call.Replace key))
     None)))
 
-abbrev pub pair_call_of : List ℕ → ℕ → ℕ → Option Call
-pair_call_of name key value =
-    cond (bytes_eq name (codes "insert")) (Some (Insert key value))
-    (cond (bytes_eq name (codes "upsert")) (Some (Upsert key value))
+abbrev pub map_paired : List ℕ → ℕ → ℕ → Option (MapCall ℕ ℕ)
+map_paired name key value =
+    cond (bytes_eq name (codes "insert")) (Some (map_call.Insert key value))
+    (cond (bytes_eq name (codes "upsert")) (Some (map_call.Upsert key value))
     None)
+
+abbrev pub map_names : Names (MapCall ℕ ℕ)
+map_names = record { bare = either map_call.Len map_call.Clear; keyed = map_keyed; paired = map_paired }
+
+abbrev pub set_keyed : List ℕ → ℕ → Option (SetCall ℕ)
+set_keyed name key =
+    cond (bytes_eq name (codes "insert")) (Some (set_call.Insert key))
+    (cond (bytes_eq name (codes "replace")) (Some (set_call.Replace key))
+    (cond (bytes_eq name (codes "remove")) (Some (set_call.Remove key))
+    (cond (bytes_eq name (codes "read")) (Some (set_call.Read key))
+    (cond (bytes_eq name (codes "contains")) (Some (set_call.Contains key))
+    None))))
+
+abbrev pub set_names : Names (SetCall ℕ)
+set_names = record { bare = either set_call.Len set_call.Clear; keyed = set_keyed; paired = λ name key value. None }
+
+abbrev pub index_keyed : List ℕ → ℕ → Option (IndexCall ℕ ℕ)
+index_keyed name key =
+    cond (bytes_eq name (codes "read")) (Some (index_call.Read key))
+    (cond (bytes_eq name (codes "contains")) (Some (index_call.Contains key))
+    (cond (bytes_eq name (codes "remove")) (Some (index_call.Remove key))
+    None))
+
+abbrev pub index_paired : List ℕ → ℕ → ℕ → Option (IndexCall ℕ ℕ)
+index_paired name key value =
+    cond (bytes_eq name (codes "insert")) (Some (index_call.Insert key value))
+    (cond (bytes_eq name (codes "update")) (Some (index_call.Update key value))
+    None)
+
+abbrev pub index_names : Names (IndexCall ℕ ℕ)
+index_names = record { bare = either index_call.Len index_call.Clear; keyed = index_keyed; paired = index_paired }
 
 -- Lines
 
--- the arguments that stand behind a name: none, a key, or a key and a value
-abbrev pub call_of_arguments : List ℕ → List (List ℕ) → Option Call
-call_of_arguments name [] = bare_call_of name
-call_of_arguments name (key ∷ []) = if_number (number_of key) (λ k. key_call_of name k)
-call_of_arguments name (key ∷ value ∷ []) = if_number (number_of key) (λ k. if_number (number_of value) (λ v. pair_call_of name k v))
-call_of_arguments name (key ∷ value ∷ extra ∷ more) = None
+module _ {C : Type 0} (names : Names C) where
+  -- the arguments that stand behind a name: none, a key, or a key and a value
+  abbrev pub call_of_arguments : List ℕ → List (List ℕ) → Option C
+  call_of_arguments name [] = names.bare name
+  call_of_arguments name (key ∷ []) = if_number (number_of key) (λ k. names.keyed name k)
+  call_of_arguments name (key ∷ value ∷ []) = if_number (number_of key) (λ k. if_number (number_of value) (λ v. names.paired name k v))
+  call_of_arguments name (key ∷ value ∷ extra ∷ more) = None
 
--- a name and its arguments
-abbrev pub call_of_name : List (List ℕ) → Option Call
-call_of_name [] = None
-call_of_name (name ∷ arguments) = call_of_arguments name arguments
+  -- a name and its arguments
+  abbrev pub call_of_name : List (List ℕ) → Option C
+  call_of_name [] = None
+  call_of_name (name ∷ arguments) = call_of_arguments name arguments
 
--- a call's line is a worker, a name and arguments, and the one worker is 0
-abbrev pub call_of_fields : List (List ℕ) → Option Call
-call_of_fields [] = None
-call_of_fields (worker ∷ call) = cond (is_the_number 0 worker) (call_of_name call) None
+  -- a call's line is a worker, a name and arguments, and the one worker is 0
+  abbrev pub call_of_fields : List (List ℕ) → Option C
+  call_of_fields [] = None
+  call_of_fields (worker ∷ call) = cond (is_the_number 0 worker) (call_of_name call) None
 
--- the call that a line means, if it is in the grammar
-abbrev pub call_of_line : List ℕ → Option Call
-call_of_line line = call_of_fields (parts 32 line)
+  -- the call that a line means, if it is in the grammar
+  abbrev pub call_of_line : List ℕ → Option C
+  call_of_line line = call_of_fields (parts 32 line)
+
+-- the kind of this name
+abbrev pub kind_of_name : List ℕ → Option Kind
+kind_of_name name =
+    cond (bytes_eq name (codes "map")) (Some Map)
+    (cond (bytes_eq name (codes "set")) (Some Set)
+    (cond (bytes_eq name (codes "index")) (Some Index)
+    None))
 
 -- the first line: a kind, the number of workers and the number of stripes
-abbrev pub is_header_of_fields : List (List ℕ) → Bool
-is_header_of_fields [] = false
-is_header_of_fields (kind ∷ []) = false
-is_header_of_fields (kind ∷ workers ∷ []) = false
-is_header_of_fields (kind ∷ workers ∷ stripes ∷ []) = bytes_eq kind (codes "map") && (is_the_number 1 workers && is_the_number 1 stripes)
-is_header_of_fields (kind ∷ workers ∷ stripes ∷ extra ∷ more) = false
+abbrev pub kind_of_fields : List (List ℕ) → Option Kind
+kind_of_fields [] = None
+kind_of_fields (kind ∷ []) = None
+kind_of_fields (kind ∷ workers ∷ []) = None
+kind_of_fields (kind ∷ workers ∷ stripes ∷ []) = cond (is_the_number 1 workers && is_the_number 1 stripes) (kind_of_name kind) None
+kind_of_fields (kind ∷ workers ∷ stripes ∷ extra ∷ more) = None
 
-abbrev pub is_header_line : List ℕ → Bool
-is_header_line line = is_header_of_fields (parts 32 line)
+abbrev pub kind_of_line : List ℕ → Option Kind
+kind_of_line line = kind_of_fields (parts 32 line)
 
 -- The whole text
 
@@ -105,30 +154,46 @@ without_end (part ∷ next ∷ more) = part ∷ without_end (next ∷ more)
 unfoldable pub lines_of : List ℕ → List (List ℕ)
 lines_of text = map strip_carriage_return (without_end (parts 10 text))
 
--- what a script means: its calls in order, or the number of its first bad line
-abbrev pub Meaning : Type 0
-Meaning = Result (List Call) ℕ
+module _ {C : Type 0} where
+  -- `done` calls, and then what follows
+  abbrev pub after_calls : List C → Result (List C) ℕ → Result (List C) ℕ
+  after_calls done (Ok more) = Ok (done ++ more)
+  after_calls done (Err number) = Err number
 
--- `done` calls, and then what follows
-abbrev pub after_calls : List Call → Meaning → Meaning
-after_calls done (Ok more) = Ok (done ++ more)
-after_calls done (Err number) = Err number
+  -- the line of this number, read as a call, and then what follows it
+  abbrev pub first_then : Option C → ℕ → Result (List C) ℕ → Result (List C) ℕ
+  first_then None number rest = Err number
+  first_then (Some call) number rest = after_calls (call ∷ []) rest
 
--- the line of this number, read as a call, and then what follows it
-abbrev pub first_then : Option Call → ℕ → Meaning → Meaning
-first_then None number rest = Err number
-first_then (Some call) number rest = after_calls (call ∷ []) rest
+  -- the lines from this number on, as calls in their order or the number of the first bad one: an empty one is no call and not bad
+  abbrev pub calls_of_lines : Names C → ℕ → List (List ℕ) → Result (List C) ℕ
+  calls_of_lines names number [] = Ok []
+  calls_of_lines names number ([] ∷ lines) = calls_of_lines names (number + 1) lines
+  calls_of_lines names number ((b ∷ bs) ∷ lines) = first_then (call_of_line names (b ∷ bs)) number (calls_of_lines names (number + 1) lines)
 
--- the lines from this number on: an empty one is no call and not bad
-abbrev pub calls_of_lines : ℕ → List (List ℕ) → Meaning
-calls_of_lines number [] = Ok []
-calls_of_lines number ([] ∷ lines) = calls_of_lines (number + 1) lines
-calls_of_lines number ((b ∷ bs) ∷ lines) = first_then (call_of_line (b ∷ bs)) number (calls_of_lines (number + 1) lines)
+-- what a script means: a kind with its calls in order, or the number of its first bad line
+pub data Meaning : Type 0 where
+  map_calls : List (MapCall ℕ ℕ) → Meaning
+  set_calls : List (SetCall ℕ) → Meaning
+  index_calls : List (IndexCall ℕ ℕ) → Meaning
+  bad_line : ℕ → Meaning
+
+-- the calls of a kind, or a bad line
+abbrev pub meaning_by : {C : Type 0} → (List C → Meaning) → Result (List C) ℕ → Meaning
+meaning_by kind (Ok calls) = kind calls
+meaning_by kind (Err number) = bad_line number
+
+-- what the lines behind the header mean
+abbrev pub meaning_of_lines : Option Kind → List (List ℕ) → Meaning
+meaning_of_lines None lines = bad_line 1
+meaning_of_lines (Some Map) lines = meaning_by map_calls (calls_of_lines map_names 2 lines)
+meaning_of_lines (Some Set) lines = meaning_by set_calls (calls_of_lines set_names 2 lines)
+meaning_of_lines (Some Index) lines = meaning_by index_calls (calls_of_lines index_names 2 lines)
 
 -- a header, and then calls; a text without a line has a bad first line
 abbrev pub script_of_lines : List (List ℕ) → Meaning
-script_of_lines [] = Err 1
-script_of_lines (header ∷ lines) = cond (is_header_line header) (calls_of_lines 2 lines) (Err 1)
+script_of_lines [] = bad_line 1
+script_of_lines (header ∷ lines) = meaning_of_lines (kind_of_line header) lines
 
 -- what a script of these bytes means
 abbrev pub script_of : List ℕ → Meaning

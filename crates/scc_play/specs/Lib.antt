@@ -2,3 +2,5 @@ pub mod Grammar
 pub mod Scripts
 pub mod Hashes
 pub mod Endings
+pub mod Output
+pub mod Finished

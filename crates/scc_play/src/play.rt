@@ -1,15 +1,13 @@
-//! Plays a script on an owned map.
+//! Plays a script on an owned container.
 ghost use Rattle.std.specs.Prelude.{◌≡◌, ◌≢◌, ◌⊎◌, IfOk, IfSome};
 ghost use Rattle.std.specs.String.{string_bytes};
 ghost use Rattle.std.specs.Io.KnownBytes.{Appends};
 ghost use Rattle.scc_play.specs.Grammar.{script_of};
 ghost use Rattle.scc_play.specs.Endings.{Answers, Ends};
 
-use crate::same::Same;
+use crate::runs::{run_index, run_map, run_set};
 use crate::script::{Script, parse_script};
-use crate::texts::{OUT_OF_MEMORY, bad_call_text, output_text};
-use scc_map::hash_map::Owned;
-use scc_recorded::recorded::{MapCall, run};
+use crate::texts::{OUT_OF_MEMORY, bad_call_text};
 use std::alloc::{AllocError, Global};
 use std::io::{ErrorKind, Read, Write};
 
@@ -32,34 +30,21 @@ struct Answer {
     status: u8,
 }
 
-// The pairs of a map in rising order of keys.
-fn sorted_pairs(alloc: Global, map: &Owned<u64, u64, Same>) -> Result<Vec<(u64, u64)>, AllocError> {
-    let mut pairs = Vec::with_capacity(alloc, map.len())?;
-    if !map.iter_sync(|key, value| pairs.push((*key, *value)).is_ok()) {
-        return Err(AllocError);
-    }
-    pairs.sort_unstable();
-    Ok(pairs)
-}
-
-// Makes the calls on a new map, and prints their replies and the contents that they leave.
-fn run_calls(alloc: Global, calls: &[MapCall<u64, u64>]) -> Result<String, AllocError> {
-    let mut map = Owned::with_hasher(alloc, Same);
-    let mut replies = Vec::new(alloc);
-    if run(&mut map, calls, &mut replies).is_err() {
-        return Err(AllocError);
-    }
-    let pairs = sorted_pairs(alloc, &map)?;
-    output_text(alloc, replies.as_slice(), pairs.as_slice())
-}
-
 // Checks the whole script, and then makes its calls.
 fn answer_script(alloc: Global, script: &[u8]) -> Result<Answer, AllocError>
     ensures { IfOk result (λ answer. Answers (script_of script.now) answer.status (string_bytes answer.text)) }
 {
     match parse_script(alloc, script)? {
-        Script::Calls(calls) => Ok(Answer {
-            text: run_calls(alloc, calls.as_slice())?,
+        Script::Map(calls) => Ok(Answer {
+            text: run_map(alloc, calls.as_slice())?,
+            status: FINISHED,
+        }),
+        Script::Set(calls) => Ok(Answer {
+            text: run_set(alloc, calls.as_slice())?,
+            status: FINISHED,
+        }),
+        Script::Index(calls) => Ok(Answer {
+            text: run_index(alloc, calls.as_slice())?,
             status: FINISHED,
         }),
         Script::BadLine(number) => Ok(Answer {
@@ -80,13 +65,13 @@ fn finish<W: Write>(writer: &mut W, text: &str, status: u8) -> u8
     status
 }
 
-/// Reads a script, makes its calls on a new map, and writes what they answered. The answer is the exit status.
+/// Reads a script, makes its calls on a new container of the kind that it names, and writes what they answered. The answer is the exit status.
 ///
 /// The script is read whole before any line is checked, every line is checked before any call is made, and the whole
 /// output is written last.
 ///
-/// - [`FINISHED`]: written are the line `worker 0`, a line for each call's reply, `contents N`, N lines `KEY VALUE` in
-///   rising order of keys, and `records R`, where R is the number of calls.
+/// - [`FINISHED`]: written are the line `worker 0`, a line for each call's reply, `contents N`, N lines `KEY VALUE`, of a set
+///   `KEY`, in rising order of keys, and `records R`, where R is the number of calls.
 /// - [`BAD_CALL`]: written is the line `line N: bad call` alone, where N, counted from 1, is the first line that isn't
 ///   in the grammar. No call was made.
 /// - [`NO_MEMORY`]: written is the line `out of memory` alone.

@@ -1,6 +1,12 @@
+pub mod CacheCalls
+mod CacheMaking
 pub mod Independence
+mod IndexCalls
 mod MapCalls
+mod SetCalls
 pub mod MapIndependence
 pub mod MapRuns
 pub mod Runs
 mod States
+pub mod Merges
+mod Making

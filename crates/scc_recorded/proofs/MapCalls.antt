@@ -14,7 +14,7 @@ use Rattle.scc_recorded.specs.declared.recorded.calls_as_values.MapCall.TheVaria
 use Rattle.scc_recorded.specs.declared.recorded.replies.Reply.TheVariants.{Inserted, Old, Pair, Cleared}
 use Rattle.scc_recorded.proofs.States.{holds-changes, exactly-changes, unchanged-changes}
 
-none-left : {E : Type 0} (l : List E) → IsPermutation [] l → l ≡ []
+pub none-left : {E : Type 0} (l : List E) → IsPermutation [] l → l ≡ []
 none-left [] p = refl
 none-left (x ∷ l) p = absurd (let n : suc (length l) ≡ 0 = length_permutation [] (x ∷ l) p in omega (arith, n))
 
@@ -22,13 +22,13 @@ module _ {K V H : Type 0} (eq : K → K → Bool) (hash : H → K → ℕ) (c d 
   -- an insertion of a new key
   pub inserted : (k : K) (v : V) (u : Unit {0}) → Inserts eq (hash (settings_of c).hasher) c (k, v) (Ok u) d
       → Changes (λ s. s.1) (MapMoves eq) (ResizesTo (setting_of c)) (state_of c) (Insert k v) Inserted (state_of d)
-  inserted k v u h = holds-changes (MapMoves eq) (Insert k v) Inserted c d ((k, v) ∷ entries c) h.1 (λ number l p. (h.0, p, refl))
+  inserted k v u h = holds-changes (MapMoves eq) (Insert k v) Inserted c d ((k, v) ∷ entries c) h.1 (λ number l p. (h.0, (p, refl)))
 
   -- an upsert that is not refused
   pub upserted : (k : K) (v : V) (o : Option V) → Upserts eq (hash (settings_of c).hasher) c (k, v) (Ok o) d
       → Changes (λ s. s.1) (MapMoves eq) (ResizesTo (setting_of c)) (state_of c) (Upsert k v) (Old o) (state_of d)
-  upserted k v None h = holds-changes (MapMoves eq) (Upsert k v) (Old None) c d ((k, v) ∷ entries c) h.1 (λ number l p. (h.0, p, refl))
-  upserted k v (Some w) h = exactly-changes (MapMoves eq) (Upsert k v) (Old (Some w)) c d (set_value (eq k) (entries c) v) h.2 (λ e b. (h.0, h.1, e, b))
+  upserted k v None h = holds-changes (MapMoves eq) (Upsert k v) (Old None) c d ((k, v) ∷ entries c) h.1 (λ number l p. (h.0, (p, refl)))
+  upserted k v (Some w) h = exactly-changes (MapMoves eq) (Upsert k v) (Old (Some w)) c d (set_value (eq k) (entries c) v) h.2 (λ e b. (h.0, h.1, (e, b)))
 
 module _ {K V H : Type 0} (eq : K → K → Bool) (c d : Contents (K × V) H) where
   -- a clearing
@@ -39,7 +39,7 @@ module _ {K V H : Type 0} (eq : K → K → Bool) (c d : Contents (K × V) H) wh
   pub removed : (k : K) (o : Option (K × V)) → Removes eq c k o d
       → Changes (λ s. s.1) (MapMoves eq) (ResizesTo (setting_of c)) (state_of c) (Remove k) (Pair o) (state_of d)
   removed k None h = unchanged-changes (MapMoves eq) (Remove k) (Pair None) c d h.1 (λ e. (h.0, e))
-  removed k (Some p) h = holds-changes (MapMoves eq) (Remove k) (Pair (Some p)) c d (without eq (entries c) k) h.1 (λ number l q. (h.0, q, refl))
+  removed k (Some p) h = holds-changes (MapMoves eq) (Remove k) (Pair (Some p)) c d (without eq (entries c) k) h.1 (λ number l q. (h.0, (q, refl)))
 
   pub removed-setting : (k : K) (o : Option (K × V)) → Removes eq c k o d → setting_of d ≡ setting_of c
   removed-setting k None h = ap setting_by h.1.settings

@@ -10,8 +10,8 @@ use Rattle.std.proofs.lemmas.Map.{NonePasses}
 use Rattle.std.proofs.lemmas.Map.Keys.{IsDistinct-head, IsDistinct-tail, IsDistinct-cons}
 use Rattle.scc_table.specs.Pairs.{find, without}
 use Rattle.scc_map.proofs.CallerLemmas.{same-finds}
-use Rattle.scc_map.proofs.Lookups.{along, find-IsPermutation, find-without, distinct-IsPermutation}
-use Rattle.scc_map.proofs.Splits.{by_answer, cond-true, cond-false, without-split, set_value-split, set_key-split, distinct-added}
+use Rattle.scc_table.proofs.Lookups.{along, find-IsPermutation, find-without, distinct-IsPermutation}
+use Rattle.scc_table.proofs.PairSplits.{by_answer, cond-true, cond-false, without-split, set_value-split, set_key-split, distinct-added}
 use Rattle.scc_recorded.specs.MapCalls.{MapMoves, map_key}
 use Rattle.scc_recorded.specs.Run.{IsRun}
 use Rattle.scc_recorded.specs.States.{State, ResizesTo}
@@ -126,20 +126,20 @@ module _ {K V : Type 0} (eq : K → K → Bool) where
   -- a move answers and leaves just that
   settled : (s : State (K × V)) (call : MapCall K V) (reply : Reply K V) (t : State (K × V)) → MapMoves eq s call reply t
       → (o : Option (K × V)) × (there s.0 call ≡ o) × (reply ≡ answered o s.0 call) × IsPermutation (left o s.0 call) t.0
-  settled s (Insert k v) Inserted t m = (None, m.0, refl, m.1)
+  settled s (Insert k v) Inserted t m = (None, m.0, refl, m.1.0)
   settled s (Insert k v) (Exists l w) t m =
-      let p = some-of (find eq s.0 k) m.2 in
-      (Some p.0, p.1, (λ i. Exists (m.0 i) (m.1 i)), same s t m.3)
-  settled s (Upsert k v) (Old None) t m = (None, m.0, refl, m.1)
+      let p = some-of (find eq s.0 k) m.1 in
+      (Some p.0, p.1, ap (λ q. Exists q.0 q.1) m.0, same s t m.2)
+  settled s (Upsert k v) (Old None) t m = (None, m.0, refl, m.1.0)
   settled s (Upsert k v) (Old (Some w)) t m =
-      (Some (m.0, w), m.1, refl, subst (IsPermutation ((m.0, v) ∷ without eq s.0 k)) (sym m.2) (IsPermutation-sym (set_value (eq k) s.0 v) ((m.0, v) ∷ without eq s.0 k) (value-apart eq s.0 k (m.0, w) v m.1)))
+      (Some (m.0, w), m.1, refl, subst (IsPermutation ((m.0, v) ∷ without eq s.0 k)) (sym m.2.0) (IsPermutation-sym (set_value (eq k) s.0 v) ((m.0, v) ∷ without eq s.0 k) (value-apart eq s.0 k (m.0, w) v m.1)))
   settled s (Replace k) (Key None) t m = (None, m.0, refl, same s t m.1)
   settled s (Replace k) (Key (Some l)) t m =
-      (Some (l, m.0), m.1, refl, subst (IsPermutation ((k, m.0) ∷ without eq s.0 k)) (sym m.2) (IsPermutation-sym (set_key (eq k) s.0 k) ((k, m.0) ∷ without eq s.0 k) (key-apart eq s.0 k (l, m.0) k m.1)))
+      (Some (l, m.0), m.1, refl, subst (IsPermutation ((k, m.0) ∷ without eq s.0 k)) (sym m.2.0) (IsPermutation-sym (set_key (eq k) s.0 k) ((k, m.0) ∷ without eq s.0 k) (key-apart eq s.0 k (l, m.0) k m.1)))
   settled s (Read k) (Value r) t m = (find eq s.0 k, refl, ap Value m.0, same s t m.1)
   settled s (Contains k) (Has b) t m = (find eq s.0 k, refl, ap Has m.0, same s t m.1)
   settled s (Remove k) (Pair None) t m = (None, m.0, refl, same s t m.1)
-  settled s (Remove k) (Pair (Some p)) t m = (Some p, m.0, refl, m.1)
+  settled s (Remove k) (Pair (Some p)) t m = (Some p, m.0, refl, m.1.0)
   settled s Clear Cleared t m = (None, refl, refl, subst (IsPermutation []) (sym m.0) (IsPermutation-refl []))
   settled s Len (Count n) t m = (None, refl, ap Count m.0, same s t m.1)
   settled s call reply t m = absurd m

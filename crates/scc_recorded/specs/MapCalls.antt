@@ -1,9 +1,9 @@
 -- What the calls of a map do to its state, by the reply.
-use Rattle.std.specs.Prelude.{◌≡◌, ℕ, ◌<◌, ◌==◌, Bool, [], ◌∷◌, length, count_by, Option, None, Some, IsSome, is_some}
+use Rattle.std.specs.Prelude.{◌≡◌, ℕ, ◌<◌, ◌==◌, Bool, List, [], length, count_by, Option, None, Some, is_some}
 use Rattle.std.specs.Option.{option_map}
 use Rattle.std.specs.List.Sorted.{IsPermutation}
-use Rattle.std.specs.Map.{set_value, set_key}
-use Rattle.scc_table.specs.Pairs.{find, without}
+use Rattle.scc_table.specs.PairSteps.{AddsPair, HandsBack, SetsValue, SwapsKey, LacksKey, TakesPair}
+use Rattle.scc_table.specs.Pairs.{find}
 use Rattle.scc_table.specs.Routing.{bucket_number}
 use Rattle.scc_recorded.specs.States.{State}
 use Rattle.scc_recorded.specs.declared.recorded.fixed.Setting.{Setting}
@@ -24,19 +24,27 @@ module _ {K V : Type 0} where
   map_key Clear = None
   map_key Len = None
 
+  -- t has these pairs in some order, in as many buckets
+  abbrev pub Rearranges : State (K × V) → State (K × V) → List (K × V) → Type 0
+  Rearranges s t es = IsPermutation es t.0 × (t.1 ≡ s.1)
+
+  -- t has these pairs in this order, in as many buckets
+  abbrev pub Becomes : State (K × V) → State (K × V) → List (K × V) → Type 0
+  Becomes s t es = (t.0 ≡ es) × (t.1 ≡ s.1)
+
   module _ (eq : K → K → Bool) where
     -- the call may give the reply and leave t, with no resize
     abbrev pub MapMoves : State (K × V) → MapCall K V → Reply K V → State (K × V) → Type 0
-    MapMoves s (Insert k v) Inserted t = (find eq s.0 k ≡ None) × IsPermutation ((k, v) ∷ s.0) t.0 × (t.1 ≡ s.1)
-    MapMoves s (Insert k v) (Exists l w) t = (l ≡ k) × (w ≡ v) × IsSome (find eq s.0 k) × (t ≡ s)
-    MapMoves s (Upsert k v) (Old None) t = (find eq s.0 k ≡ None) × IsPermutation ((k, v) ∷ s.0) t.0 × (t.1 ≡ s.1)
-    MapMoves s (Upsert k v) (Old (Some w)) t = (l : K) × (find eq s.0 k ≡ Some (l, w)) × (t.0 ≡ set_value (eq k) s.0 v) × (t.1 ≡ s.1)
-    MapMoves s (Replace k) (Key None) t = (find eq s.0 k ≡ None) × (t ≡ s)
-    MapMoves s (Replace k) (Key (Some l)) t = (v : V) × (find eq s.0 k ≡ Some (l, v)) × (t.0 ≡ set_key (eq k) s.0 k) × (t.1 ≡ s.1)
+    MapMoves s (Insert k v) Inserted t = AddsPair eq s.0 (k, v) (Rearranges s t)
+    MapMoves s (Insert k v) (Exists l w) t = HandsBack eq s.0 (k, v) (l, w) (λ es. t ≡ (es, s.1))
+    MapMoves s (Upsert k v) (Old None) t = AddsPair eq s.0 (k, v) (Rearranges s t)
+    MapMoves s (Upsert k v) (Old (Some w)) t = SetsValue eq s.0 (k, v) w (Becomes s t)
+    MapMoves s (Replace k) (Key None) t = LacksKey eq s.0 k (λ es. t ≡ (es, s.1))
+    MapMoves s (Replace k) (Key (Some l)) t = SwapsKey eq s.0 k l (λ v. Becomes s t)
     MapMoves s (Read k) (Value r) t = (r ≡ option_map (λ p. p.1) (find eq s.0 k)) × (t ≡ s)
     MapMoves s (Contains k) (Has b) t = (b ≡ is_some (find eq s.0 k)) × (t ≡ s)
-    MapMoves s (Remove k) (Pair None) t = (find eq s.0 k ≡ None) × (t ≡ s)
-    MapMoves s (Remove k) (Pair (Some p)) t = (find eq s.0 k ≡ Some p) × IsPermutation (without eq s.0 k) t.0 × (t.1 ≡ s.1)
+    MapMoves s (Remove k) (Pair None) t = LacksKey eq s.0 k (λ es. t ≡ (es, s.1))
+    MapMoves s (Remove k) (Pair (Some p)) t = TakesPair eq s.0 k p (Rearranges s t)
     MapMoves s Clear Cleared t = (t.0 ≡ []) × (t.1 ≡ s.1)
     MapMoves s Len (Count n) t = (n ≡ length s.0) × (t ≡ s)
     MapMoves s call reply t = ⊥

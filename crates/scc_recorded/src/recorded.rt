@@ -1,16 +1,27 @@
 //! Calls as values, and runs of them.
 
+mod cache_calls;
 mod calling;
 mod calls_as_values;
 mod fixed;
+mod index_calls;
+mod law;
 mod map_calls;
+mod opening;
 mod refusals;
 mod replies;
+mod routing;
 mod running;
+mod set_calls;
+mod steps;
 
 pub use calling::Calls;
-pub use calls_as_values::MapCall;
-pub use fixed::Setting;
+pub use calls_as_values::{CacheCall, IndexCall, MapCall, SetCall};
+pub use fixed::{Request, Setting};
+pub use law::{every_kind_has_parts, every_merge_is_a_run};
+pub use opening::{Guarded, Site, same_setting, two_parts};
 pub use refusals::Refused;
 pub use replies::Reply;
+pub use routing::route;
 pub use running::run;
+pub use steps::Step;

@@ -4,6 +4,8 @@
 #[cfg(test)]
 mod fixtures;
 #[cfg(test)]
+mod indexes;
+#[cfg(test)]
 mod insertions;
 #[cfg(test)]
 mod making;
@@ -15,5 +17,7 @@ mod reservations;
 mod runs;
 #[cfg(test)]
 mod scripts;
+#[cfg(test)]
+mod sets;
 #[cfg(test)]
 mod walks;

@@ -166,7 +166,7 @@ pub unique-inserted : {E K : Type 0} {eq : K → K → Bool} (laws : IsEquivalen
 unique-inserted {eq = eq} laws key e es ds d n p =
     IsDistinct-IsPermutation eq laws.symm (key e ∷ map key es) (map key ds) (IsPermutation-map key (e ∷ es) ds p) (IsDistinct-cons eq (key e) (map key es) (none-apart eq key (key e) es n) d)
 
-module _ {E S : Type 0} (hash : E → ℕ) (t n o i : ℕ) (bs : List (Shelf E)) (h : IsTable hash t bs n o) (s : Settings S) (c : Contents E S) (view : view_of bs s ≡ c) (b : Shelf E) (l : i < length bs) (at : b ≡ get_or bs i b) where
+module _ {E S : Type 0} (hash : E → ℕ) (t n o i : ℕ) (bs : List (Shelf E)) (h : IsTable hash t bs n o) (s : Settings S) {f : Bool} (c : Contents E S) (view : view_of f bs s ≡ c) (b : Shelf E) (l : i < length bs) (at : b ≡ get_or bs i b) where
   list-here : get_or (map shelf_entries bs) i [] ≡ shelf_entries b
   list-here = get_or-map shelf_entries bs i b [] l ∙ ap shelf_entries (sym at)
 
@@ -199,7 +199,7 @@ module _ {E S : Type 0} (hash : E → ℕ) (t n o i : ℕ) (bs : List (Shelf E))
     pub permuted : IsPermutation (e ∷ flat_map (λ l. l) (map shelf_entries bs)) (flat_map (λ l. l) (map shelf_entries (set bs i d)))
     permuted = rw new-entries (IsPermutation-insert (flat_map (λ l. l) (map shelf_entries bs)) (before (map shelf_entries bs) i + slot) e)
 
-    pub inserted-holds : Holds c (e ∷ entries c) (view_of (set bs i d) s)
+    pub inserted-holds : Holds c (e ∷ entries c) (view_of f (set bs i d) s)
     unfolding entries bucket_count settings_of
     inserted-holds =
         let count : length (map shelf_entries (set bs i d)) ≡ bucket_count c = length-map (set bs i d) shelf_entries ∙ length-set bs i d ∙ sym (count-view bs s c view) in
@@ -209,7 +209,7 @@ module _ {E S : Type 0} (hash : E → ℕ) (t n o i : ℕ) (bs : List (Shelf E))
           settings = sym (settings-view bs s c view);
         }
 
-    pub inserted-at : IsInsertedAt c e (view_of (set bs i d) s) (record { bucket = i; slot = slot })
+    pub inserted-at : IsInsertedAt c e (view_of f (set bs i d) s) (record { bucket = i; slot = slot })
     unfolding entries bucket_count list_of index_of
     inserted-at =
         let ls : List (List E) = map shelf_entries bs in
@@ -254,7 +254,7 @@ module _ {E S : Type 0} (hash : E → ℕ) (t n o i : ℕ) (bs : List (Shelf E))
     same-lists = map-set_same shelf_entries bs i d b (ap shelf_entries new ∙ ap shelf_entries at)
 
     -- nothing shows of a refused growth
-    pub refused-unchanged : IsUnchanged c (view_of (set bs i d) s)
+    pub refused-unchanged : IsUnchanged c (view_of f (set bs i d) s)
     unfolding entries bucket_count settings_of
     refused-unchanged = record {
       exact = ap (flat_map (λ l. l)) same-lists ∙ sym entries-lists;

@@ -1,8 +1,16 @@
+pub use Rattle.scc_bucket.proofs.WalkLemmas
+pub mod Bounds
 pub mod Cloning
 pub mod Counting
 pub mod Finding
 pub mod Inserts
+pub mod KeyWrites
+pub mod Lookups
 pub mod Making
+pub mod Mapped
+pub mod PairSplits
+pub mod PairWrites
+pub mod Placed
 pub mod Pours
 pub mod Powers
 pub mod Refill

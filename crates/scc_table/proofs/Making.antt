@@ -15,7 +15,7 @@ pub flat-empty : {E : Type 0} (bs : List (Shelf E)) → AllEmpty bs → flat_map
 flat-empty [] h = refl
 flat-empty (b ∷ bs) h = rw (h.empty 0 b (omega arith) refl).0 (flat-empty bs (record { empty = λ i a l at. h.empty (suc i) a (omega arith) at }))
 
-sums-empty : {E : Type 0} (bs : List (Shelf E)) → AllEmpty bs → (sum_by (λ b. length (shelf_entries b)) bs ≡ 0) × (sum_by (λ b. length b.overflow) bs ≡ 0)
+pub sums-empty : {E : Type 0} (bs : List (Shelf E)) → AllEmpty bs → (sum_by (λ b. length (shelf_entries b)) bs ≡ 0) × (sum_by (λ b. length b.overflow) bs ≡ 0)
 sums-empty [] h = (refl, refl)
 sums-empty {E} (b ∷ bs) h =
     let ih = sums-empty bs (record { empty = λ i a l at. h.empty (suc i) a (omega arith) at }) in
@@ -91,5 +91,5 @@ pub kept-fresh : {E K : Type 0} (eq : K → K → Bool) (key : E → K) (hash : 
 kept-fresh eq key hash t minimum count n o bs h e a few small en eo = rw (en, eo) (kept-empty eq key hash t minimum bs h (inr (rw e a)) few small)
 
 -- an empty table has no entries
-pub entries-fresh : {E S : Type 0} (bs : List (Shelf E)) (s : Settings S) → AllEmpty bs → entries (view_of bs s) ≡ []
-entries-fresh bs s h = entries-view bs s (view_of bs s) refl ∙ flat-empty bs h
+pub entries-fresh : {E S : Type 0} (bs : List (Shelf E)) (s : Settings S) (f : Bool) → AllEmpty bs → entries (view_of f bs s) ≡ []
+entries-fresh bs s f h = entries-view bs s (view_of f bs s) refl ∙ flat-empty bs h

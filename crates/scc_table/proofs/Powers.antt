@@ -1,7 +1,7 @@
 -- Powers of two.
 use Rattle.std.proofs.Common.{◌≡◌, ℕ, ◌+◌, ◌-◌, ◌*◌, ◌/◌, ◌^◌, ◌<◌, ◌≤◌, inl, inr, max, sym, ap, ◌∙◌, subst, refl, arith}
 use Rattle.std.specs.Int.{IsPowerOfTwo}
-use Rattle.scc_table.specs.Sizes.{IsArray, IsArraySize, IsLawful}
+use Rattle.scc_table.specs.Sizes.{IsArray, IsArraySize, IsLawful, IsSmaller}
 use native.Mathlib.Decide.{dec_lt}
 use lib.Pow.{pow_mono, pow-add}
 
@@ -75,3 +75,14 @@ max-array a b p q = elim (dec_lt a b) [
   | yes h ↦ let e : b ≡ max a b = omega arith in subst IsArray e q
   | no h ↦ let e : a ≡ max a b = omega arith in subst IsArray e p
 ]
+
+-- the number of buckets that an array may shrink to is the greater of two
+pub smaller-to : (k l minimum held from : ℕ) → IsArraySize minimum (32 * k) → IsArraySize (2 * held) (32 * l) → 8 * held ≤ 32 * from → max k l < from → IsSmaller minimum held from (max k l)
+smaller-to k l minimum held from sm sl few less = record {
+  few = few;
+  fewer = less;
+  size = λ m n am an. let em = size-once _ _ _ sm am in let en = size-once _ _ _ sl an in omega arith;
+}
+
+pub smaller-only : (k l n minimum held from : ℕ) → IsArraySize minimum (32 * k) → IsArraySize (2 * held) (32 * l) → IsSmaller minimum held from n → n ≡ max k l
+smaller-only k l n minimum held from sm sl h = let e = h.size (32 * k) (32 * l) sm sl in omega arith

@@ -1,5 +1,5 @@
 -- A table after its entries moved to empty buckets.
-use Rattle.std.proofs.Common.{◌≡◌, ◌==◌, ℕ, ◌^◌, ◌<◌, ◌≤◌, inr, Bool, true, List, [], ◌++◌, length, map, get_or, refl, sym, ap, ◌∙◌, subst, arith, length-append}
+use Rattle.std.proofs.Common.{◌≡◌, ◌==◌, ℕ, suc, ◌^◌, ◌<◌, ◌≤◌, inl, inr, Bool, true, List, [], ◌∷◌, ◌++◌, length, map, get_or, refl, sym, ap, ◌∙◌, subst, arith, length-append}
 use Rattle.std.specs.Cmp.{IsEquivalence}
 use Rattle.std.specs.List.{flat_map, sum_by, IsDistinct}
 use Rattle.std.specs.List.Sorted.{IsPermutation}
@@ -7,7 +7,7 @@ use Rattle.std.proofs.lemmas.List.{get_or_default, get_or-map, nil_from_length}
 use Rattle.std.proofs.lemmas.List.Concat.{length-flat_map}
 use Rattle.std.proofs.lemmas.List.Elements.{filter_passes, All-get_or}
 use Rattle.std.proofs.lemmas.List.Sorted.{length_permutation, IsPermutation-map}
-use Rattle.std.proofs.lemmas.List.Sums.{sum_by-le-sum_by}
+use Rattle.std.proofs.lemmas.List.Sums.{sum_by-cons, sum_by-le-sum_by}
 use Rattle.std.proofs.lemmas.Map.Keys.{IsDistinct-IsPermutation}
 use Rattle.std.proofs.lemmas.Bool.{eqb-true}
 use Rattle.scc_table.specs.Contents.{Contents, Settings, entries, settings_of, list_of}
@@ -97,18 +97,36 @@ module _ {E : Type 0} (hash : E → ℕ) (t k : ℕ) (fresh new : List (Shelf E)
   pub unique-after : {K : Type 0} {eq : K → K → Bool} (laws : IsEquivalence eq) (key : E → K) → IsDistinct eq (map key es) → IsDistinct eq (map key (flat_map shelf_entries new))
   unique-after {eq = eq} laws key d = IsDistinct-IsPermutation eq laws.symm (map key es) (map key (flat_map shelf_entries new)) (IsPermutation-map key es (flat_map shelf_entries new) moved-all) d
 
+sum-none : {X : Type 0} (f : X → ℕ) (xs : List X) → ((i : ℕ) (d : X) → i < length xs → f (get_or xs i d) ≡ 0) → sum_by f xs ≡ 0
+sum-none f [] h = refl
+sum-none f (x ∷ xs) h = omega (arith, sum_by-cons f x xs, h 0 x (omega arith), sum-none f xs (λ i d l. h (suc i) d (omega arith)))
+
+-- where no bucket gets more than 32, none has an overflow list
+pub spilled-none : {E : Type 0} (hash : E → ℕ) (t k : ℕ) (fresh new : List (Shelf E)) (es : List E) (p : Poured hash t k fresh new es) (h : AllEmpty fresh) (size : length fresh ≡ k) → ((i : ℕ) → i < k → length (bound_for hash t k i es) ≤ 32) → sum_by (λ b. length b.overflow) new ≡ 0
+spilled-none {E} hash t k fresh new es p h size short =
+    sum-none (λ (b : Shelf E). length b.overflow) new (λ i d l.
+    let b : Shelf E = get_or new i d in
+    let at : b ≡ get_or new i b = get_or_default new i d b l in
+    let x = bucket-is hash t k fresh new es p h size i b (omega (arith, p.count)) at in
+    let few = short i (omega (arith, p.count)) in
+    let all : length (b.slots ++ b.overflow) ≡ length (bound_for hash t k i es) = ap length x.entries_are in
+    elim x.packed.last [
+      | inl full ↦ omega (arith, length-append b.slots b.overflow)
+      | inr none ↦ ap length none
+    ])
+
 -- the same, of what a clause sees
-module _ {E S : Type 0} (hash : E → ℕ) (k : ℕ) (bs fresh new : List (Shelf E)) (s : Settings S) (c : Contents E S) (view : view_of bs s ≡ c) (p : Poured hash s.skipped k fresh new (flat_map shelf_entries bs)) (h : AllEmpty fresh) (size : length fresh ≡ k) where
-  pub regrouped : IsRegrouped hash k c (view_of new s)
+module _ {E S : Type 0} (hash : E → ℕ) (k : ℕ) (bs fresh new : List (Shelf E)) (s : Settings S) {f : Bool} (c : Contents E S) (view : view_of f bs s ≡ c) (p : Poured hash s.skipped k fresh new (flat_map shelf_entries bs)) (h : AllEmpty fresh) (size : length fresh ≡ k) where
+  pub regrouped : (g : Bool) → IsRegrouped hash k c (view_of g new s)
   unfolding list_of settings_of
-  regrouped = record {
-    count = count-view new s (view_of new s) refl ∙ p.count ∙ size;
+  regrouped g = record {
+    count = count-view new s (view_of g new s) refl ∙ p.count ∙ size;
     each = λ i l. rw (entries-view bs s c view) (list-is hash s.skipped k fresh new (flat_map shelf_entries bs) p h size i [] l ∙ ap (λ (x : Contents E S). bound_for hash x.settings.skipped k i (flat_map shelf_entries bs)) view);
     settings = sym (settings-view bs s c view);
   }
 
-  pub permuted-view : IsPermutation (entries c) (entries (view_of new s))
-  permuted-view = rw (entries-view bs s c view, entries-view new s (view_of new s) refl) (moved-all hash s.skipped k fresh new (flat_map shelf_entries bs) p h size)
+  pub permuted-view : (g : Bool) → IsPermutation (entries c) (entries (view_of g new s))
+  permuted-view g = rw (entries-view bs s c view, entries-view new s (view_of g new s) refl) (moved-all hash s.skipped k fresh new (flat_map shelf_entries bs) p h size)
 
 -- the same room, by equal names
 pub room-same : {E : Type 0} (hash : E → ℕ) (t k m : ℕ) (fresh dest : List (Shelf E)) (es ds : List E) → k ≡ m → fresh ≡ dest → es ≡ ds → RoomFor hash t k fresh es → RoomFor hash t m dest ds
@@ -121,5 +139,5 @@ poured-same hash t k m fresh dest new es ds ek ef ee p =
     subst (λ z. Poured hash t m dest new z) ee (subst (λ z. Poured hash t m z new es) ef (subst (λ z. Poured hash t z fresh new es) ek p))
 
 -- a table has as many entries as it counted
-pub count-entries : {E S : Type 0} (hash : E → ℕ) (t n o : ℕ) (bs : List (Shelf E)) (s : Settings S) (c : Contents E S) → view_of bs s ≡ c → IsTable hash t bs n o → n ≡ length (entries c)
+pub count-entries : {E S : Type 0} (hash : E → ℕ) (t n o : ℕ) (bs : List (Shelf E)) (s : Settings S) {f : Bool} (c : Contents E S) → view_of f bs s ≡ c → IsTable hash t bs n o → n ≡ length (entries c)
 count-entries hash t n o bs s c view h = h.counted ∙ sym (length-flat_map shelf_entries bs) ∙ sym (ap length (entries-view bs s c view))

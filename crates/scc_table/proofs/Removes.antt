@@ -72,7 +72,7 @@ pub unique-removed : {E K : Type 0} {eq : K → K → Bool} (laws : IsEquivalenc
 unique-removed {eq = eq} laws key es i x l at d =
     IsDistinct-tail eq (key x) (map key (remove es i)) (IsDistinct-IsPermutation eq laws.symm (map key es) (key x ∷ map key (remove es i)) (IsPermutation-map key es (x ∷ remove es i) (IsPermutation-remove es i x l at)) d)
 
-module _ {E S : Type 0} (hash : E → ℕ) (t n o : ℕ) (p : Place) (bs : List (Shelf E)) (h : IsTable hash t bs n o) (s : Settings S) (c : Contents E S) (view : view_of bs s ≡ c) (b : Shelf E) (l : p.bucket < length bs) (at : b ≡ get_or bs p.bucket b)
+module _ {E S : Type 0} (hash : E → ℕ) (t n o : ℕ) (p : Place) (bs : List (Shelf E)) (h : IsTable hash t bs n o) (s : Settings S) {f : Bool} (c : Contents E S) (view : view_of f bs s ≡ c) (b : Shelf E) (l : p.bucket < length bs) (at : b ≡ get_or bs p.bucket b)
     (lk : p.slot < length (shelf_entries b)) (d : Shelf E) (new : d ≡ without_place b p.slot) where
   list-there : get_or (map shelf_entries bs) p.bucket [] ≡ shelf_entries b
   list-there = get_or-map shelf_entries bs p.bucket b [] l ∙ ap shelf_entries (sym at)
@@ -113,7 +113,7 @@ module _ {E S : Type 0} (hash : E → ℕ) (t n o : ℕ) (p : Place) (bs : List 
             (table_set hash t n o (n - 1) (o - r) p.bucket bs b d h l at (subst (IsOwn hash t (length bs) p.bucket) (sym new) (own_without b p.slot lk hash t (length bs) p.bucket (h.own p.bucket b l at))) (let f = fewer in omega arith) (omega arith) (omega arith), omega arith)
       ]
 
-  pub removed-exactly : HoldsExactly c (remove (entries c) (index_of c p)) (view_of (set bs p.bucket d) s)
+  pub removed-exactly : HoldsExactly c (remove (entries c) (index_of c p)) (view_of f (set bs p.bucket d) s)
   unfolding entries bucket_count settings_of index_of
   removed-exactly =
       let ls : List (List E) = map shelf_entries bs in
@@ -129,7 +129,7 @@ module _ {E S : Type 0} (hash : E → ℕ) (t n o : ℕ) (p : Place) (bs : List 
       }
 
   pub removed-unique : {K : Type 0} {eq : K → K → Bool} (laws : IsEquivalence eq) (key : E → K) (x : E) → slice_get (entries c) (index_of c p) ≡ Some x → IsDistinct eq (map key (flat_map shelf_entries bs))
-      → IsUniqueBy eq key (view_of (set bs p.bucket d) s)
+      → IsUniqueBy eq key (view_of f (set bs p.bucket d) s)
   removed-unique {eq = eq} laws key x got u =
       rw removed-exactly.exact (unique-removed laws key (entries c) (index_of c p) x (get-below (entries c) (index_of c p) x got) (get-is (entries c) (index_of c p) x x got) (rw (entries-view bs s c view) u))
 
@@ -137,4 +137,4 @@ module _ {E S : Type 0} (hash : E → ℕ) (t n o : ℕ) (p : Place) (bs : List 
       → IsDistinct eq (map key (flat_map shelf_entries (set bs p.bucket d)))
   removed-unique-flat {eq = eq} laws key x got u =
       let w = removed-unique laws key x got u in
-      subst (λ (z : List E). IsDistinct eq (map key z)) (entries-view (set bs p.bucket d) s (view_of (set bs p.bucket d) s) refl) w
+      subst (λ (z : List E). IsDistinct eq (map key z)) (entries-view (set bs p.bucket d) s (view_of f (set bs p.bucket d) s) refl) w

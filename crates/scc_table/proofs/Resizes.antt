@@ -5,11 +5,11 @@ use Rattle.std.specs.List.Sorted.{IsPermutation}
 use Rattle.std.proofs.lemmas.List.Elements.{All-cons}
 use Rattle.std.proofs.lemmas.List.Sorted.{length_permutation, All-permutation, IsPermutation-cons, IsPermutation-refl, IsPermutation-trans}
 use native.Mathlib.Decide.{dec_lt}
-use Rattle.scc_table.specs.Contents.{Contents, entries, bucket_count, settings_of, minimum_of}
+use Rattle.scc_table.specs.Contents.{Contents, entries, bucket_count, settings_of, minimum_of, refused_of}
 use Rattle.scc_table.specs.Places.{IsInsertedAt}
 use Rattle.scc_table.specs.Pour.{IsRegrouped}
 use Rattle.scc_table.specs.Sizes.{IsArray, IsArraySize, IsSmaller}
-use Rattle.scc_table.specs.Steps.{Holds, KeepsSize, IsShrunk, IsUnchanged, Resizes, Rests, Shrinks}
+use Rattle.scc_table.specs.Steps.{Holds, KeepsSize, IsShrunk, IsUnchanged, Resizes, ReachesMinimumWhenDue, Rests, Shrinks, ShrinksWhenDue}
 use Rattle.scc_table.specs.declared.place.Place.{Place}
 use Rattle.scc_table.proofs.Finding.{position_hit, position_cons, position_none}
 use Rattle.scc_table.proofs.Inserts.{by_answer, none_left}
@@ -91,6 +91,25 @@ module _ {E S : Type 0} where
       fewer = omega (arith, g.count);
       size = λ m n am an. let em = size-once _ _ _ sm am in let en = size-once _ _ _ sl an in omega (arith, g.count);
     };
+  }
+
+  -- a try to shrink that goes by the two sizes does what is due
+  pub shrinks-due : (k l : ℕ) (a b : Contents E S) → IsArraySize (minimum_of b) (32 * k) → IsArraySize (2 * length (entries b)) (32 * l) → (max k l < bucket_count a → bucket_count b ≡ max k l) → ShrinksWhenDue a b
+  shrinks-due k l a b sm sl made = record {
+    shrunk = λ m n am an few less down.
+        let em = size-once _ _ _ sm am in
+        let en = size-once _ _ _ sl an in
+        let e = made (omega arith) in
+        omega arith;
+  }
+
+  -- a try to grow that goes by that size does what is due
+  pub reaches-due : (k : ℕ) (a b : Contents E S) → IsArraySize (minimum_of b) (32 * k) → (0 < bucket_count a → bucket_count a < k → length (entries a) < 2 ^ 62 → refused_of b ≡ false → bucket_count b ≡ k) → ReachesMinimumWhenDue a b
+  reaches-due k a b size made = record {
+    reached = λ m am some less few down.
+        let e = size-once _ _ _ size am in
+        let z = made some (omega arith) few down in
+        omega arith;
   }
 
   -- what a try to shrink did to the number of buckets

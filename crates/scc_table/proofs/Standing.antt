@@ -1,5 +1,5 @@
 -- How many entries stand before a place.
-use Rattle.std.proofs.Common.{◌≡◌, ℕ, zero, suc, ◌+◌, ◌<◌, ◌≤◌, List, [], ◌∷◌, length, take, map, set, get_or, refl, sym, ap, ◌∙◌, arith, length-append, length-set, get_or-set_same, Option, None, Some, MatchOption}
+use Rattle.std.proofs.Common.{◌≡◌, ℕ, zero, suc, ◌+◌, ◌<◌, ◌≤◌, Bool, List, [], ◌∷◌, length, take, map, set, get_or, refl, sym, ap, ◌∙◌, arith, length-append, length-set, get_or-set_same, Option, None, Some, MatchOption}
 use Rattle.std.specs.List.{flat_map, remove, slice_get}
 use Rattle.std.proofs.lemmas.List.{map-set}
 use Rattle.std.proofs.lemmas.List.Edits.{length-remove}
@@ -74,9 +74,9 @@ take-set [] (suc i) x = refl
 take-set (y ∷ xs) zero x = refl
 take-set (y ∷ xs) (suc i) x = ap (λ z. y ∷ z) (take-set xs i x)
 
-module _ {E S : Type 0} (p : Place) (bs : List (Shelf E)) (s : Settings S) (c : Contents E S) (view : view_of bs s ≡ c) (b : Shelf E) (l : p.bucket < length bs) (lk : p.slot < length (shelf_entries b)) (d : Shelf E) (new : d ≡ without_place b p.slot) where
+module _ {E S : Type 0} (p : Place) (bs : List (Shelf E)) (s : Settings S) {f : Bool} (c : Contents E S) (view : view_of f bs s ≡ c) (b : Shelf E) (l : p.bucket < length bs) (lk : p.slot < length (shelf_entries b)) (d : Shelf E) (new : d ≡ without_place b p.slot) where
   -- as many entries stand before a place once the one there is taken out
-  pub taken-index : index_of (view_of (set bs p.bucket d) s) p ≡ index_of c p
+  pub taken-index : index_of (view_of f (set bs p.bucket d) s) p ≡ index_of c p
   unfolding index_of
   taken-index =
       ap (λ z. length (flat_map (λ l. l) (take p.bucket z)) + p.slot) (map-set shelf_entries bs p.bucket d)
@@ -84,9 +84,9 @@ module _ {E S : Type 0} (p : Place) (bs : List (Shelf E)) (s : Settings S) (c : 
       ∙ ap (λ (x : Contents E S). length (flat_map (λ l. l) (take p.bucket x.lists)) + p.slot) view
 
   -- and the list of its bucket doesn't end before it
-  pub taken-list : p.slot ≤ length (list_of (view_of (set bs p.bucket d) s) p.bucket)
+  pub taken-list : p.slot ≤ length (list_of (view_of f (set bs p.bucket d) s) p.bucket)
   taken-list =
       let there : p.bucket < length (set bs p.bucket d) = rw (length-set bs p.bucket d) l in
-      let here = list-view (set bs p.bucket d) s (view_of (set bs p.bucket d) s) refl p.bucket d there (sym (get_or-set_same bs p.bucket d d l)) in
+      let here = list-view (set bs p.bucket d) s (view_of f (set bs p.bucket d) s) refl p.bucket d there (sym (get_or-set_same bs p.bucket d d l)) in
       let fewer : length (shelf_entries d) ≡ length (remove (shelf_entries b) p.slot) = ap (λ x. length (shelf_entries x)) new ∙ ap length (entries_without b p.slot lk) in
       rw here (omega (arith, length-remove (shelf_entries b) p.slot lk))

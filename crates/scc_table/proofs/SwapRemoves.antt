@@ -31,7 +31,7 @@ flat-permuted [] i xs ys h p = absurd (omega arith)
 flat-permuted (l ∷ ls) zero xs ys h p = IsPermutation-append_left (flat_map (λ l. l) ls) xs ys p
 flat-permuted (l ∷ ls) (suc i) xs ys h p = IsPermutation-append_right l (flat_map (λ l. l) (set ls i xs)) (flat_map (λ l. l) (set ls i ys)) (flat-permuted ls i xs ys (omega arith) p)
 
-module _ {E S : Type 0} (hash : E → ℕ) (t n o : ℕ) (p : Place) (bs : List (Shelf E)) (h : IsTable hash t bs n o) (s : Settings S) (c : Contents E S) (view : view_of bs s ≡ c) (b : Shelf E) (l : p.bucket < length bs) (at : b ≡ get_or bs p.bucket b)
+module _ {E S : Type 0} (hash : E → ℕ) (t n o : ℕ) (p : Place) (bs : List (Shelf E)) (h : IsTable hash t bs n o) (s : Settings S) {f : Bool} (c : Contents E S) (view : view_of f bs s ≡ c) (b : Shelf E) (l : p.bucket < length bs) (at : b ≡ get_or bs p.bucket b)
     (lk : p.slot < length (shelf_entries b)) (x : E) (d : Shelf E) (new : d ≡ swapped_out b p.slot x) where
   -- the bucket, had the others moved up
   abbrev up : Shelf E
@@ -50,7 +50,7 @@ module _ {E S : Type 0} (hash : E → ℕ) (t n o : ℕ) (p : Place) (bs : List 
       let again = table_set hash t (n - 1) (o - r) (n - 1) (o - r) p.bucket (set bs p.bucket up) up d w.0 there (sym (get_or-set_same bs p.bucket up up l)) own (omega arith) (omega arith) w.0.few in
       (subst (λ z. IsTable hash t z (n - 1) (o - r)) (set-set bs p.bucket up d) again, w.1)
 
-  pub swapped-holds : IsPermutation (remove (entries c) (index_of c p)) (entries (view_of (set bs p.bucket d) s))
+  pub swapped-holds : IsPermutation (remove (entries c) (index_of c p)) (entries (view_of f (set bs p.bucket d) s))
   unfolding entries
   swapped-holds =
       let ls : List (List E) = map shelf_entries bs in
@@ -60,23 +60,23 @@ module _ {E S : Type 0} (hash : E → ℕ) (t n o : ℕ) (p : Place) (bs : List 
       let as-is : flat_map (λ l. l) (set ls p.bucket (shelf_entries d)) ≡ flat_map (λ l. l) (map shelf_entries (set bs p.bucket d)) = ap (flat_map (λ l. l)) (sym (map-set shelf_entries bs p.bucket d)) in
       subst (λ z. IsPermutation (remove (entries c) (index_of c p)) z) as-is (subst (λ z. IsPermutation z (flat_map (λ l. l) (set ls p.bucket (shelf_entries d)))) as-was (flat-permuted ls p.bucket (shelf_entries up) (shelf_entries d) ll moved))
 
-  pub swapped-count : bucket_count (view_of (set bs p.bucket d) s) ≡ bucket_count c
+  pub swapped-count : bucket_count (view_of f (set bs p.bucket d) s) ≡ bucket_count c
   unfolding bucket_count
   swapped-count = length-map (set bs p.bucket d) shelf_entries ∙ length-set bs p.bucket d ∙ sym (count-view bs s c view)
 
-  pub swapped-settings : settings_of (view_of (set bs p.bucket d) s) ≡ settings_of c
+  pub swapped-settings : settings_of (view_of f (set bs p.bucket d) s) ≡ settings_of c
   unfolding settings_of
   swapped-settings = sym (settings-view bs s c view)
 
   pub swapped-unique : {K : Type 0} {eq : K → K → Bool} (laws : IsEquivalence eq) (key : E → K) (y : E) → slice_get (entries c) (index_of c p) ≡ Some y → IsDistinct eq (map key (flat_map shelf_entries bs))
-      → IsUniqueBy eq key (view_of (set bs p.bucket d) s)
+      → IsUniqueBy eq key (view_of f (set bs p.bucket d) s)
   swapped-unique {eq = eq} laws key y got u =
       let es = remove (entries c) (index_of c p) in
       let left : IsDistinct eq (map key es) = subst (λ z. IsDistinct eq (map key z)) (removed-exactly hash t n o p bs h s c view b l at lk up refl).exact (removed-unique hash t n o p bs h s c view b l at lk up refl laws key y got u) in
-      let is = entries (view_of (set bs p.bucket d) s) in
+      let is = entries (view_of f (set bs p.bucket d) s) in
       IsDistinct-IsPermutation eq laws.symm (map key es) (map key is) (IsPermutation-map key es is swapped-holds) left
 
   pub swapped-unique-flat : {K : Type 0} {eq : K → K → Bool} (laws : IsEquivalence eq) (key : E → K) (y : E) → slice_get (entries c) (index_of c p) ≡ Some y → IsDistinct eq (map key (flat_map shelf_entries bs))
       → IsDistinct eq (map key (flat_map shelf_entries (set bs p.bucket d)))
   swapped-unique-flat {eq = eq} laws key y got u =
-      subst (λ (z : List E). IsDistinct eq (map key z)) (entries-view (set bs p.bucket d) s (view_of (set bs p.bucket d) s) refl) (swapped-unique laws key y got u)
+      subst (λ (z : List E). IsDistinct eq (map key z)) (entries-view (set bs p.bucket d) s (view_of f (set bs p.bucket d) s) refl) (swapped-unique laws key y got u)

@@ -1,19 +1,20 @@
 -- A table's words, by its buckets.
-use Rattle.std.proofs.Common.{◌≡◌, ℕ, ◌<◌, List, [], ◌∷◌, ◌++◌, length, map, get_or, refl, sym, ap, ◌∙◌}
+use Rattle.std.proofs.Common.{◌≡◌, ℕ, ◌<◌, Bool, List, [], ◌∷◌, ◌++◌, length, map, get_or, refl, sym, ap, ◌∙◌}
 use Rattle.std.specs.List.{flat_map}
 use Rattle.std.proofs.lemmas.List.{get_or-map, length-map}
-use Rattle.scc_table.specs.Contents.{Contents, Settings, entries, bucket_count, settings_of, list_of}
+use Rattle.scc_table.specs.Contents.{Contents, Settings, entries, bucket_count, settings_of, refused_of, list_of, lists_of, spilled_of}
+use Rattle.scc_table.specs.Tables.{spilled_in}
 use Rattle.scc_bucket.specs.Shelf.{Shelf, shelf_entries}
 
 pub flat_lists : {E : Type 0} (bs : List (Shelf E)) → flat_map (λ l. l) (map shelf_entries bs) ≡ flat_map shelf_entries bs
 flat_lists [] = refl
 flat_lists (b ∷ bs) = ap (λ z. shelf_entries b ++ z) (flat_lists bs)
 
--- what a clause sees of these buckets and settings
-abbrev pub view_of : {E S : Type 0} → List (Shelf E) → Settings S → Contents E S
-view_of bs s = record { lists = map shelf_entries bs; settings = s }
+-- what a clause sees of this flag, these buckets and settings
+abbrev pub view_of : {E S : Type 0} → Bool → List (Shelf E) → Settings S → Contents E S
+view_of f bs s = record { lists = map shelf_entries bs; settings = s; refused = f; spilled = spilled_in bs }
 
-module _ {E S : Type 0} (bs : List (Shelf E)) (s : Settings S) (c : Contents E S) (view : view_of bs s ≡ c) where
+module _ {E S : Type 0} (bs : List (Shelf E)) (s : Settings S) {f : Bool} (c : Contents E S) (view : view_of f bs s ≡ c) where
   pub entries-view : entries c ≡ flat_map shelf_entries bs
   unfolding entries
   entries-view = ap (λ (x : Contents E S). flat_map (λ l. l) x.lists) (sym view) ∙ flat_lists bs
@@ -26,6 +27,18 @@ module _ {E S : Type 0} (bs : List (Shelf E)) (s : Settings S) (c : Contents E S
   unfolding settings_of
   settings-view = ap (λ (x : Contents E S). x.settings) (sym view)
 
+  pub refused-view : refused_of c ≡ f
+  unfolding refused_of
+  refused-view = ap (λ (x : Contents E S). x.refused) (sym view)
+
   pub list-view : (i : ℕ) (b : Shelf E) → i < length bs → b ≡ get_or bs i b → list_of c i ≡ shelf_entries b
   unfolding list_of
   list-view i b l at = ap (λ (x : Contents E S). get_or x.lists i []) (sym view) ∙ get_or-map shelf_entries bs i b [] l ∙ ap shelf_entries (sym at)
+
+  pub lists-view : lists_of c ≡ map shelf_entries bs
+  unfolding lists_of
+  lists-view = ap (λ (x : Contents E S). x.lists) (sym view)
+
+  pub spilled-view : spilled_of c ≡ spilled_in bs
+  unfolding spilled_of
+  spilled-view = ap (λ (x : Contents E S). x.spilled) (sym view)

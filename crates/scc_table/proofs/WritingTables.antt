@@ -10,7 +10,8 @@ use Rattle.scc_table.specs.Places.{IsPlace, index_of}
 use Rattle.scc_table.specs.Routing.{bucket_number, tag_of}
 use Rattle.scc_bucket.specs.Shelf.{Shelf, shelf_entries}
 use Rattle.scc_table.specs.Steps.{HoldsExactly}
-use Rattle.scc_table.specs.Tables.{IsOwn, IsTable}
+use Rattle.std.proofs.lemmas.List.Sums.{sum_by-set}
+use Rattle.scc_table.specs.Tables.{IsOwn, IsTable, spilled_in}
 use Rattle.scc_bucket.specs.ShelfWrites.{write_at, shelf_write_at, length-write_at}
 use Rattle.scc_table.specs.Writes.{with_write_at}
 use Rattle.scc_table.specs.declared.place.Place.{Place}
@@ -120,7 +121,7 @@ module _ {E S X : Type 0} (put : E → X → E) (c : Contents E S) (p : Place) (
   unfolding bucket_count settings_of with_write_at
   exactly-write = record { exact = entries-write; buckets = length-set c.lists p.bucket _; settings = refl }
 
-module _ {E S X : Type 0} (put : E → X → E) (hash : E → ℕ) (t n o : ℕ) (p : Place) (bs : List (Shelf E)) (h : IsTable hash t bs n o) (s : Settings S) (c : Contents E S) (view : view_of bs s ≡ c) (b : Shelf E) (l : p.bucket < length bs) (at : b ≡ get_or bs p.bucket b)
+module _ {E S X : Type 0} (put : E → X → E) (hash : E → ℕ) (t n o : ℕ) (p : Place) (bs : List (Shelf E)) (h : IsTable hash t bs n o) (s : Settings S) {f : Bool} (c : Contents E S) (view : view_of f bs s ≡ c) (b : Shelf E) (l : p.bucket < length bs) (at : b ≡ get_or bs p.bucket b)
     (e : E) (got : slice_get (shelf_entries b) p.slot ≡ Some e) (w : X) where
   pub written-table : hash (put e w) ≡ hash e → IsTable hash t (set bs p.bucket (shelf_write_at put b p.slot w)) n o
   written-table same =
@@ -129,13 +130,20 @@ module _ {E S X : Type 0} (put : E → X → E) (hash : E → ℕ) (t n o : ℕ)
       let over = (slots_write put b p.slot w).1 in
       table_set hash t n o n o p.bucket bs b d h l at (own_write put hash t (length bs) p.bucket b p.slot e w got same (h.own p.bucket b l at)) (omega arith) (omega arith) h.few
 
-  pub written-view : view_of (set bs p.bucket (shelf_write_at put b p.slot w)) s ≡ with_write_at put c p w
+  pub written-view : view_of f (set bs p.bucket (shelf_write_at put b p.slot w)) s ≡ with_write_at put c p w
   unfolding list_of with_write_at
   written-view =
       let here : get_or (map shelf_entries bs) p.bucket [] ≡ shelf_entries b = get_or-map shelf_entries bs p.bucket b [] l ∙ ap shelf_entries (sym at) in
-      ap (λ z. let r : Contents E S = record { lists = z; settings = s } in r)
+      let over = (slots_write put b p.slot w).1 in
+      let spill : spilled_in (set bs p.bucket (shelf_write_at put b p.slot w)) ≡ spilled_in bs =
+      let f : Shelf E → ℕ = λ x. length x.overflow in
+      let sums = sum_by-set f bs p.bucket (shelf_write_at put b p.slot w) b l in
+      let e : f (get_or bs p.bucket b) ≡ f b = ap f (sym at) in
+      omega (arith, over) in
+      ap (λ n. let r : Contents E S = record { lists = map shelf_entries (set bs p.bucket (shelf_write_at put b p.slot w)); settings = s; refused = f; spilled = n } in r) spill
+      ∙ ap (λ z. let r : Contents E S = record { lists = z; settings = s; refused = f; spilled = spilled_in bs } in r)
       (map-set shelf_entries bs p.bucket (shelf_write_at put b p.slot w) ∙ ap (set (map shelf_entries bs) p.bucket) (entries_write put b p.slot w ∙ ap (λ z. write_at put z p.slot w) (sym here)))
-      ∙ ap (λ (x : Contents E S). let r : Contents E S = record { lists = set x.lists p.bucket (write_at put (get_or x.lists p.bucket []) p.slot w); settings = x.settings } in r) view
+      ∙ ap (λ (x : Contents E S). let r : Contents E S = record { lists = set x.lists p.bucket (write_at put (get_or x.lists p.bucket []) p.slot w); settings = x.settings; refused = x.refused; spilled = x.spilled } in r) view
 
   pub written-unique : IsPlace c p → slice_get (list_of c p.bucket) p.slot ≡ Some e → {K : Type 0} {eq : K → K → Bool} (laws : IsEquivalence eq) (key : E → K) → eq (key (put e w)) (key e) ≡ true → IsDistinct eq (map key (flat_map shelf_entries bs))
       → IsDistinct eq (map key (flat_map shelf_entries (set bs p.bucket (shelf_write_at put b p.slot w))))

@@ -2,7 +2,7 @@
 use Rattle.std.specs.Prelude.{ℕ, ◌+◌, ◌<◌, ◌==◌, Bool, List, [], length, map, count_by, refl}
 use Rattle.std.specs.Hash.{HashWrites}
 use Rattle.std.specs.List.{flat_map, IsDistinct, slice_index_or}
-use Rattle.std.specs.Coded.{Coded, code_by, coded×, coded_ℕ, coded_list}
+use Rattle.std.specs.Coded.{Coded, code_by, coded×, coded_ℕ, coded_bool, coded_list}
 use Rattle.std.specs.declared.hash.Hasher as hasher
 use Rattle.std.specs.declared.hash.BuildHasher as builder
 use Rattle.scc_table.specs.Hashing.{hash_of}
@@ -15,16 +15,18 @@ pub record Settings (S : Type 0) : Type 0 where
   pub asked : ℕ
   pub reserved : ℕ
 
--- the list of each bucket, and the settings
+-- the list of each bucket, the settings, whether the last resize that was due was refused, and how many entries lie in overflow lists
 pub record Contents (E S : Type 0) : Type 0 where
   pub lists : List (List E)
   pub settings : Settings S
+  pub refused : Bool
+  pub spilled : ℕ
 
 abbrev pub contents_code : {E S : Type 0} → Coded E → Coded S → Coded (Contents E S)
 contents_code {E} {S} e s =
-    code_by (List (List E) × (S × (ℕ × (ℕ × ℕ)))) (coded× (coded_list (coded_list e)) (coded× s (coded× coded_ℕ (coded× coded_ℕ coded_ℕ))))
-    (λ c. (c.lists, (c.settings.hasher, (c.settings.skipped, (c.settings.asked, c.settings.reserved)))))
-    (λ p. record { lists = p.0; settings = record { hasher = p.1.0; skipped = p.1.1.0; asked = p.1.1.1.0; reserved = p.1.1.1.1 } })
+    code_by (List (List E) × (S × (ℕ × (ℕ × (ℕ × (Bool × ℕ)))))) (coded× (coded_list (coded_list e)) (coded× s (coded× coded_ℕ (coded× coded_ℕ (coded× coded_ℕ (coded× coded_bool coded_ℕ))))))
+    (λ c. (c.lists, (c.settings.hasher, (c.settings.skipped, (c.settings.asked, (c.settings.reserved, (c.refused, c.spilled)))))))
+    (λ p. record { lists = p.0; settings = record { hasher = p.1.0; skipped = p.1.1.0; asked = p.1.1.1.0; reserved = p.1.1.1.1.0 }; refused = p.1.1.1.1.1.0; spilled = p.1.1.1.1.1.1 })
     (λ _. refl)
 
 module _ {E S : Type 0} where
@@ -40,9 +42,21 @@ module _ {E S : Type 0} where
   unfoldable pub settings_of : Contents E S → Settings S
   settings_of c = c.settings
 
+  -- whether memory was refused for the last resize that was due
+  unfoldable pub refused_of : Contents E S → Bool
+  refused_of c = c.refused
+
   -- the entries of one bucket, in order
   unfoldable pub list_of : Contents E S → ℕ → List E
   list_of c i = slice_index_or c.lists i []
+
+  -- the lists of all buckets, in the order of the buckets
+  unfoldable pub lists_of : Contents E S → List (List E)
+  lists_of c = c.lists
+
+  -- how many entries lie in overflow lists
+  unfoldable pub spilled_of : Contents E S → ℕ
+  spilled_of c = c.spilled
 
   -- how many buckets still have their entries in an old array: none, since every resize moves all
   unfoldable pub pending_of : Contents E S → ℕ

@@ -2,11 +2,15 @@ pub use Rattle.scc_bucket.specs.LendsBucket
 pub use Rattle.scc_bucket.specs.Shelf
 pub use Rattle.scc_bucket.specs.ShelfWrites
 pub use Rattle.scc_bucket.specs.Walks
+pub mod Bounded
 pub mod Clones
 pub mod Contents
 pub mod Hashing
 pub mod LendsTable
+pub mod Mapped
+pub mod PairSteps
 pub mod Pairs
+pub mod Placed
 pub mod Places
 pub mod Pour
 pub mod Routing

@@ -24,3 +24,11 @@ module _ {K V S : Type 0} where
   -- there is an array, and the bucket of k holds fewer than 32 pairs
   abbrev pub HasRoom : (K → ℕ) → Contents (K × V) S → K → Type 0
   HasRoom hash c k = HasRoomBy hash (λ p. p.0) c k
+
+-- the pair with that value
+abbrev pub with_pair_value : {K V : Type 0} → K × V → V → K × V
+with_pair_value p v = (p.0, v)
+
+-- the pair with that key
+abbrev pub with_pair_key : {K V : Type 0} → K × V → K → K × V
+with_pair_key p k = (k, p.1)

@@ -5,6 +5,10 @@ use Rattle.scc_table.specs.Routing.{bucket_number, tag_of}
 use Rattle.scc_bucket.specs.Shelf.{Shelf, shelf_entries}
 use Rattle.scc_table.specs.Sizes.{IsLawful}
 
+-- how many entries of the buckets lie in overflow lists
+abbrev pub spilled_in : {E : Type 0} → List (Shelf E) → ℕ
+spilled_in bs = sum_by (λ b. length b.overflow) bs
+
 -- one bucket of a table: its tags are those of its entries, each of which belongs to it
 pub record IsOwn {E : Type 0} (hash : E → ℕ) (skipped count i : ℕ) (b : Shelf E) : Type 0 where
   pub tagged : b.tags ≡ map (λ e. tag_of (hash e)) b.slots

@@ -1,6 +1,6 @@
 //! What a table of pairs can do beside: lend a key and a value.
 ghost use Rattle.std.specs.Prelude.{◌≡◌, Some, slice_get};
-ghost use Rattle.scc_table.specs.Contents.{entries};
+ghost use Rattle.scc_table.specs.Contents.{entries, list_of};
 ghost use Rattle.scc_table.specs.Places.{IsPlace, index_of};
 
 use crate::place::Place;
@@ -15,6 +15,16 @@ impl<K: Eq + Hash, V, H: BuildHasher> Table<(K, V), H> {
         ensures { slice_get (entries self.now) (index_of self.now place) ≡ Some (result.0.now, result.1.now) }
     {
         let pair = self.entry_at(place);
+        (&pair.0, &pair.1)
+    }
+
+    /// The key and the value at the place, seen in the list of its bucket.
+    #[inline(always)]
+    pub fn pair_in(&self, place: Place) -> (&K, &V)
+        requires { IsPlace self.now place }
+        ensures { slice_get (list_of self.now place.bucket) place.slot ≡ Some (result.0.now, result.1.now) }
+    {
+        let pair = self.entry_in(place);
         (&pair.0, &pair.1)
     }
 }

@@ -1,15 +1,17 @@
 //! An array of buckets, found by the bits of a hash.
 ghost use Rattle.std.specs.Prelude.{◌≡◌, ◌≤◌, ◌<◌, ◌+◌, ◌*◌, ◌^◌, ℕ, [], ◌∷◌, ◌↔◌, length, Some, None, IsTrue, IfOk, OnOk, IfErr, OnErr, MatchOption, slice_get};
 ghost use Rattle.std.specs.List.{flat_map, position};
-ghost use Rattle.scc_table.specs.Contents.{entries, bucket_count, settings_of, minimum_of, key_hash, bucket_of, IsUniqueBy, HasRoomBy};
+ghost use Rattle.scc_table.specs.Contents.{entries, bucket_count, settings_of, minimum_of, refused_of, key_hash, bucket_of, IsUniqueBy, HasRoomBy};
 ghost use Rattle.scc_table.specs.Places.{IsPlace, IsFoundAt, index_of};
 ghost use Rattle.scc_bucket.specs.Shelf.{shelf_entries};
 ghost use Rattle.scc_table.specs.Sizes.{IsLawful};
 
+mod bounded;
 mod cloning;
 mod edits;
 mod growing;
 mod making;
+mod putting;
 mod removing;
 mod reserving;
 mod resizing;
@@ -35,6 +37,7 @@ where
     asked: usize,
     reserved: usize,
     skipped: u32,
+    refused: bool,
     hasher: H,
 }
 
@@ -51,9 +54,9 @@ where
 
     ghost use Rattle.scc_table.specs.Hashing.{hash_of};
     ghost use Rattle.scc_bucket.specs.Shelf.{shelf_entries};
-    ghost use Rattle.scc_table.specs.Tables.{IsKept};
+    ghost use Rattle.scc_table.specs.Tables.{IsKept, spilled_in};
 
-    ghost view = { λ t. record { lists = map shelf_entries t.buckets.items; settings = record { hasher = t.hasher; skipped = t.skipped; asked = t.asked; reserved = t.reserved } } };
+    ghost view = { λ t. record { lists = map shelf_entries t.buckets.items; settings = record { hasher = t.hasher; skipped = t.skipped; asked = t.asked; reserved = t.reserved }; refused = t.refused; spilled = spilled_in t.buckets.items } };
 
     ghost invariant = { λ t. IsKept E.Key.eq E.key_of (λ k. hash_of H.BuildHasher H.Hasher.Hasher t.hasher (E.Key.hash_input k)) t.skipped (t.asked + t.reserved) t.buckets.items t.length t.overflowing };
 }
@@ -79,6 +82,14 @@ where
         ensures lawful { IsLawful result }
     {
         self.buckets.len()
+    }
+
+    /// Whether memory was refused for the last resize that was due.
+    #[inline(always)]
+    pub fn is_resize_refused(&self) -> bool
+        ensures { result ≡ refused_of self.now }
+    {
+        self.refused
     }
 
     /// The hash of a key under the table's hasher.

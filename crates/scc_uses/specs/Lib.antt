@@ -1,3 +1,7 @@
 pub mod Counts
 pub mod Memo
 pub mod Sessions
+pub mod Interning
+pub mod Routing
+pub mod Windows
+pub mod Sums

@@ -1,8 +1,17 @@
-//! Uses of the owned map, as a caller writes them: each contract speaks of what a look-up finds or a run answers, and its proof cites nothing but the contracts of the map and of runs, and their callers' lemmas.
+//! Uses of the owned map, set and index, as a caller writes them: each contract speaks of what a look-up finds or a run answers, and its proof cites nothing but the contracts of the containers and of runs, and their callers' lemmas.
 #![tactic(auto)]
 
 pub mod chain;
+pub mod configs;
 pub mod counts;
+pub mod difference;
+pub mod distinct;
+pub mod interner;
 pub mod memo;
 pub mod mirror;
+pub mod mirror_sets;
+pub mod parts;
+pub mod requests;
+pub mod routing;
 pub mod sessions;
+pub mod snapshots;

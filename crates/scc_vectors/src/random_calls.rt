@@ -1,10 +1,17 @@
-// Random calls on a map and on a plain list of pairs: the answers are the same, under every hasher.
+//! Random calls on a map and on a plain list of pairs, whose answers have to be the same. The tests make some thousands of them.
+#[cfg(test)]
 use crate::zero::Zero;
 use scc::InsertError;
 use scc::hash_map::Owned;
+#[cfg(test)]
 use scc_play::same::Same;
-use std::hash::{BuildHasher, BuildHasherDefault, FoldHasher};
+use std::alloc::{AllocError, Global};
+use std::hash::BuildHasher;
+#[cfg(test)]
+use std::hash::{BuildHasherDefault, FoldHasher};
+#[cfg(test)]
 use std::process::Abort;
+#[cfg(test)]
 use std::test::Fail;
 
 // The next number of a linear congruential generator, its upper half.
@@ -29,106 +36,113 @@ fn forget(model: &mut Vec<(u64, u64)>, key: u64) {
     }
 }
 
-// One insertion, upsert or write in place.
-fn write<R: AllocGlobal + Abort, H: BuildHasher>(
-    rt: &R,
+// Whether one insertion, upsert or write in place answers as on the list.
+fn write<H: BuildHasher>(
     map: &mut Owned<u64, u64, H>,
     model: &mut Vec<(u64, u64)>,
     kind: u64,
     pair: (u64, u64),
-) -> Result<(), Fail> {
+) -> Result<bool, AllocError> {
     let (key, value) = pair;
     let there = pair_of(model, key);
     let stored = there.is_none() || kind > 1;
-    match kind {
+    let agrees = match kind {
         0 | 1 => match map.insert_sync(key, value) {
-            Ok(()) => assert!(rt; there.is_none()),
-            Err(InsertError::Exists(back)) => assert_eq!(rt; (there.is_some(), back), (true, pair)),
-            Err(InsertError::Memory(_)) => assert!(rt; false, "memory is there"),
+            Ok(()) => there.is_none(),
+            Err(InsertError::Exists(back)) => there.is_some() && back == pair,
+            Err(InsertError::Memory(_)) => return Err(AllocError),
         },
-        2 => assert_eq!(rt; map.upsert_sync(key, value)?, there.map(|p| p.1)),
-        _ => {
-            let old = map.entry_sync(key).insert_entry(value)?;
-            assert_eq!(rt; (*old.key(), *old.get()), pair);
-        }
-    }
+        2 => match map.upsert_sync(key, value) {
+            Ok(old) => old == there.map(|p| p.1),
+            Err(_) => return Err(AllocError),
+        },
+        _ => match map.entry_sync(key).insert_entry(value) {
+            Ok(entry) => *entry.key() == key && *entry.get() == value,
+            Err(_) => return Err(AllocError),
+        },
+    };
     if stored {
         forget(model, key);
         model.push(pair)?;
     }
-    Ok(())
+    Ok(agrees)
 }
 
-// One removal or look-up.
-fn look<R: AllocGlobal + Abort, H: BuildHasher>(
-    rt: &R,
+// Whether one removal or look-up answers as on the list.
+fn look<H: BuildHasher>(
     map: &mut Owned<u64, u64, H>,
     model: &mut Vec<(u64, u64)>,
     kind: u64,
     key: u64,
-) {
+) -> bool {
     let there = pair_of(model, key);
-    match kind {
+    let agrees = match kind {
         0 | 1 => {
-            assert_eq!(rt; map.remove_sync(&key), there);
+            let taken = map.remove_sync(&key);
             forget(model, key);
+            taken == there
         }
         2 => {
             let even = there.filter(|pair| pair.1 % 2 == 0);
-            assert_eq!(rt; map.remove_if_sync(&key, |value| *value % 2 == 0), even);
+            let taken = map.remove_if_sync(&key, |value| *value % 2 == 0);
             if even.is_some() {
                 forget(model, key);
             }
+            taken == even
         }
         _ => {
-            assert_eq!(rt;
-                map.read_sync(&key, |_, value| *value),
-                there.map(|pair| pair.1)
-            );
-            assert_eq!(rt; map.contains_sync(&key), there.is_some());
+            let read = map.read_sync(&key, |_, value| *value);
+            read == there.map(|pair| pair.1) && map.contains_sync(&key) == there.is_some()
         }
-    }
-    assert_eq!(rt; map.len(), model.len());
+    };
+    agrees && map.len() == model.len()
 }
 
-// So many calls on keys below a power of two, writes and removals half and half.
-fn compare<R: AllocGlobal + Abort, H: BuildHasher>(
-    rt: &R,
+/// Whether so many calls on keys below a power of two, writes and removals half and half, answer as on a plain list, and the map has the pairs of the list at the end. The map has to be empty. It takes time by the calls times the keys.
+pub fn agrees_with_a_list<H: BuildHasher>(
+    alloc: Global,
     map: &mut Owned<u64, u64, H>,
-    calls: u32,
+    calls: u64,
     mask: u64,
-) -> Result<(), Fail> {
-    let mut model: Vec<(u64, u64)> = Vec::new(rt.alloc());
+) -> Result<bool, AllocError> {
+    let mut model: Vec<(u64, u64)> = Vec::new(alloc);
     let mut seed = mask;
+    let mut agrees = true;
     for _ in 0..calls {
         let key = (next(&mut seed) & mask).wrapping_mul(0x9E37_79B9_7F4A_7C15);
         let kind = next(&mut seed) % 4;
-        if next(&mut seed) % 2 == 0 {
-            write(rt, map, &mut model, kind, (key, next(&mut seed)))?;
+        let call_agrees = if next(&mut seed) % 2 == 0 {
+            let value = next(&mut seed);
+            write(map, &mut model, kind, (key, value))?
         } else {
-            look(rt, map, &mut model, kind, key);
-        }
+            look(map, &mut model, kind, key)
+        };
+        agrees = agrees && call_agrees;
     }
     for pair in model.iter() {
-        assert_eq!(rt; map.read_sync(&pair.0, |_, value| *value), Some(pair.1));
+        let there = map.read_sync(&pair.0, |_, value| *value) == Some(pair.1);
+        agrees = agrees && there;
     }
-    Ok(())
+    Ok(agrees)
 }
 
 #[test]
 fn map_random_calls_under_a_good_hasher(rt: HostRuntime) -> Result<(), Fail> {
     let mut map = Owned::with_hasher(rt.alloc(), BuildHasherDefault::<FoldHasher>::new());
-    compare(&rt, &mut map, 100_000, 2047)
+    assert!(rt; agrees_with_a_list(rt.alloc(), &mut map, 20_000, 2047)?);
+    Ok(())
 }
 
 #[test]
 fn map_random_calls_under_their_own_hash(rt: HostRuntime) -> Result<(), Fail> {
     let mut map = Owned::with_hasher(rt.alloc(), Same);
-    compare(&rt, &mut map, 100_000, 511)
+    assert!(rt; agrees_with_a_list(rt.alloc(), &mut map, 20_000, 511)?);
+    Ok(())
 }
 
 #[test]
 fn map_random_calls_in_one_bucket(rt: HostRuntime) -> Result<(), Fail> {
     let mut map = Owned::with_hasher(rt.alloc(), Zero);
-    compare(&rt, &mut map, 50_000, 255)
+    assert!(rt; agrees_with_a_list(rt.alloc(), &mut map, 10_000, 255)?);
+    Ok(())
 }

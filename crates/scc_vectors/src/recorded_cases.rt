@@ -3,8 +3,10 @@ ghost use Rattle.std.specs.Prelude.{◌≡◌, ℕ, [], ◌∷◌, length, OnOk}
 ghost use Rattle.scc_table.specs.Contents.{entries};
 
 use crate::maybe_equal::MaybeEqual;
+use scc::MakeError;
 use scc::hash_map::Owned;
 use scc::recorded::{Calls, MapCall, Refused, Reply, run};
+use std::alloc::Global;
 use std::hash::{BuildHasher, RandomState};
 use std::test::Fail;
 
@@ -63,15 +65,23 @@ impl Calls for Tally {
 
     type Reply = u8;
 
-    ghost use Rattle.std.specs.Prelude.{ℕ, ◌+◌, ◌<◌, [], None};
+    ghost use Rattle.std.specs.Prelude.{◌≡◌, ℕ, ◌+◌, ◌<◌, List, [], None};
+    ghost use Rattle.std.proofs.Common.{◌∙◌, sym};
+    ghost use Rattle.scc_recorded.specs.Parted.{PartMoves, PartResizes, parted_call, parted_resize};
 
     ghost State = { ℕ };
+
+    ghost Whole = { List ℕ };
 
     ghost setting = { λ t. record { hasher = t.hasher; skipped = 0; minimum = 0; maximum = 0 } };
 
     ghost state = { λ t. t.total };
 
     ghost size = { λ _. 0 };
+
+    ghost empty = { λ _. 0 };
+
+    ghost limits = { λ _ _ m. m ≡ 0 };
 
     ghost keys = { λ _. [] };
 
@@ -82,6 +92,12 @@ impl Calls for Tally {
     ghost resizes = { λ _ _ _ _. ⊥ };
 
     ghost may_refuse = { λ _ s c. 9 < s + c };
+
+    ghost whole = { λ p. p };
+
+    ghost whole_moves = { λ _ _. PartMoves (λ s c r t. (t ≡ s + c) × (r ≡ t)) (λ _. None) (λ k. k) };
+
+    ghost whole_resizes = { λ _ _. PartResizes (λ _ _ _. ⊥) };
 
     fn key(_call: &u8) -> Option<&u8> {
         None
@@ -98,6 +114,29 @@ impl Calls for Tally {
     fn buckets(&self) -> usize {
         0
     }
+
+    // A tally is made by hand alone.
+    fn make(
+        _alloc: Global,
+        _skipped: u32,
+        _slots: usize,
+        _maximum: usize,
+        _hasher: RandomState,
+    ) -> Result<Self, MakeError> {
+        Err(MakeError)
+    }
+
+    ghost one_limit = { λ _ _ m n p q. p ∙ sym q };
+
+    ghost call_is_whole = { λ _ _ before after old new call reply _ key s. parted_call (λ s c r t. (t ≡ s + c) × (r ≡ t)) (λ _. None) (λ k. k) before after old new call reply key s };
+
+    ghost resize_is_whole = { λ _ _ before after old new buckets _ s. parted_resize (λ _ _ _. ⊥) before after old new buckets s };
+
+    ghost call_keeps = { λ _ _ _ _ _ _ _ _ _ _. tt };
+
+    ghost resize_keeps = { λ _ _ _ _ _ _ _ _. tt };
+
+    ghost empty_keeps = { λ _ _ _ _. tt };
 }
 
 #[test]

@@ -62,3 +62,36 @@ fn run_map_clear(rt: HostRuntime) {
     let text = "worker 0\nok\nok\nok\ncount 0\nok\ncontents 1\n3 30\nrecords 5\n";
     expect_run(&rt, script, text, FINISHED);
 }
+
+#[test]
+fn run_set_calls(rt: HostRuntime) {
+    expect_run(
+        &rt,
+        b"set 1 1\n0 insert 5\n0 insert 5\n0 replace 5\n0 replace 6\n0 remove 5\n",
+        "worker 0\nok\nexists 5\nkey 5\nnone\nkey 5\ncontents 1\n6\nrecords 5\n",
+        FINISHED,
+    );
+}
+
+#[test]
+fn run_index_calls(rt: HostRuntime) {
+    expect_run(
+        &rt,
+        b"index 1 1\n0 update 1 5\n0 insert 1 4\n0 update 1 5\n0 insert 1 6\n0 read 1\n0 remove 1\n0 remove 1\n",
+        "worker 0\nfalse\nok\ntrue\nexists 1 6\nvalue 5\ntrue\nfalse\ncontents 0\nrecords 7\n",
+        FINISHED,
+    );
+}
+
+#[test]
+fn run_kinds_have_their_own_calls(rt: HostRuntime) {
+    for script in [
+        b"set 1 1\n0 insert 5 6\n".as_slice(),
+        b"set 1 1\n0 upsert 5\n".as_slice(),
+        b"index 1 1\n0 upsert 5 6\n".as_slice(),
+        b"index 1 1\n0 replace 5\n".as_slice(),
+        b"map 1 1\n0 update 5 6\n".as_slice(),
+    ] {
+        expect_run(&rt, script, "line 2: bad call\n", BAD_CALL);
+    }
+}

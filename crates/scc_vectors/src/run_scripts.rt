@@ -158,3 +158,13 @@ fn write_line(text: &mut String, word: &str, first: u64, second: u64) -> Result<
     writeln!(text, "{word} {first} {second}")?;
     Ok(())
 }
+
+#[test]
+fn run_contents_at_both_ends_of_the_numbers(rt: HostRuntime) {
+    expect_run(
+        &rt,
+        b"map 1 1\n0 insert 18446744073709551615 9223372036854775808\n0 insert 1 18446744073709551615\n0 read 18446744073709551615\n",
+        "worker 0\nok\nok\nvalue 9223372036854775808\ncontents 2\n1 18446744073709551615\n18446744073709551615 9223372036854775808\nrecords 3\n",
+        FINISHED,
+    );
+}

@@ -1,17 +1,18 @@
 //! The map for one owner: every call that changes it takes `&mut self`.
-ghost use Rattle.std.specs.Prelude.{◌≡◌, ◌≢◌, ◌<◌, ◌*◌, ◌↔◌, List, [], length, Some, None, IsTrue, IsSome, IsOk, IfOk, OnOk, OnSome, ◌==◌, ◌∷◌, true, IfErr, OnErr, slice_get, remove};
+ghost use Rattle.std.specs.Prelude.{◌≡◌, ◌≢◌, ◌<◌, ◌*◌, ◌≤◌, ◌↔◌, List, [], length, Some, None, IsTrue, IsSome, IsOk, IfOk, IfSome, IfNone, OnOk, OnSome, ◌==◌, ◌∷◌, true, IfErr, OnErr, slice_get, remove};
+ghost use Rattle.std.specs.Arc.{arc_value};
 ghost use Rattle.std.specs.Borrow.{Bor, MutBor, sem};
 ghost use Rattle.std.specs.Fn.{FnOnceTakesAtMut};
 ghost use Rattle.std.specs.List.Sorted.{IsPermutation};
-ghost use Rattle.scc_table.specs.Contents.{entries, bucket_count, settings_of, minimum_of, key_hash};
-ghost use Rattle.scc_table.specs.Pairs.{find, FindsInstead, HasRoom, IsUnique};
+ghost use Rattle.scc_table.specs.Contents.{entries, bucket_count, settings_of, minimum_of, refused_of, key_hash};
+ghost use Rattle.scc_table.specs.Pairs.{find, FindsInstead, HasRoom, IsUnique, with_pair_key, with_pair_value};
 ghost use Rattle.scc_table.specs.Sizes.{IsArraySize, IsSmaller};
-ghost use Rattle.scc_table.specs.Walks.{CalledOn, Walks};
+ghost use Rattle.scc_table.specs.Walks.{CalledOn, CallableWhile, Walks};
 ghost use Rattle.scc_table.specs.Places.{IsPlace, IsInsertedAt, index_of};
-ghost use Rattle.scc_table.specs.Steps.{Grows, Holds, Rests};
+ghost use Rattle.scc_table.specs.Steps.{FirstArrayWhenDue, Grows, GrowsFor, GrowsWhenDue, Holds, Rests, ShrinksWhenDue};
 ghost use Rattle.scc_table.specs.Writes.{with_write_at};
-ghost use Rattle.scc_map.specs.Closures.{Reads, UpdatesAt, RemovesIf};
-ghost use Rattle.scc_map.specs.Lends.{lends_value, with_pair_key};
+ghost use Rattle.scc_map.specs.Closures.{Reads, UpdatesAt, WritesAt, RemovesIf};
+ghost use Rattle.scc_map.specs.Lends.{lends_value};
 ghost use Rattle.scc_map.specs.MapSteps.{Inserts, Removes, Upserts};
 
 mod collecting;
@@ -23,10 +24,11 @@ mod whole;
 mod writing_walks;
 
 pub use entry::{Entry, OccupiedEntry, ReplaceResult, VacantEntry};
-use scc_table::{InsertError, MakeError, Place, Table};
+use scc_table::{InsertError, MakeError, Place, Shared, Table};
 use std::alloc::Global;
 use std::hash::{BuildHasher, BuildHasherDefault, FoldHasher, Hash};
 use std::marker::Model;
+use std::sync::Arc;
 
 /// A map from keys to values, no two keys equal. A contract sees its pairs in the map's own order as `entries m`, the number of its buckets as `bucket_count m`, and its hasher and sizes as `settings_of m`.
 ///
@@ -66,6 +68,27 @@ impl<K: Eq + Hash, V> Owned<K, V> {
     }
 }
 
+impl<K: Eq + Hash, V, H: BuildHasher> Owned<K, V, Shared<H>> {
+    /// An empty map that skips so many bits of each hash, and hashes as each other part of that hasher does. Else as `with_capacity_and_hasher`.
+    pub fn part(
+        alloc: Global,
+        skipped: u32,
+        capacity: usize,
+        hasher: Arc<H>,
+    ) -> Result<Self, MakeError>
+    where
+        H: Drop,
+        requires { skipped ≤ 4 }
+        ensures entries { IfOk result (λ m. entries m ≡ []) }
+        ensures none { IfOk result (λ m. capacity ≡ 0 → bucket_count m ≡ 0) }
+        ensures size { IfOk result (λ m. 0 < capacity → IsArraySize capacity (32 * bucket_count m)) }
+        ensures settings { IfOk result (λ m. settings_of m ≡ record { hasher = arc_value hasher; skipped = skipped; asked = 32 * bucket_count m; reserved = 0 }) }
+        ensures succeeds { capacity ≡ 0 → IsOk result }
+    {
+        Owned::skipping(alloc, skipped, capacity, Shared::new(hasher))
+    }
+}
+
 impl<K: Eq + Hash, V, H: BuildHasher> Owned<K, V, H> {
     /// An empty map without an array. It takes no memory.
     pub fn with_hasher(alloc: Global, hasher: H) -> Self
@@ -98,6 +121,28 @@ impl<K: Eq + Hash, V, H: BuildHasher> Owned<K, V, H> {
         }
     }
 
+    /// As `with_capacity_and_hasher`, but skips so many bits of each hash.
+    pub fn skipping(
+        alloc: Global,
+        skipped: u32,
+        capacity: usize,
+        hasher: H,
+    ) -> Result<Self, MakeError>
+    where
+        H: Drop,
+        requires { skipped ≤ 4 }
+        ensures entries { IfOk result (λ m. entries m ≡ []) }
+        ensures none { IfOk result (λ m. capacity ≡ 0 → bucket_count m ≡ 0) }
+        ensures size { IfOk result (λ m. 0 < capacity → IsArraySize capacity (32 * bucket_count m)) }
+        ensures settings { IfOk result (λ m. settings_of m ≡ record { hasher = hasher; skipped = skipped; asked = 32 * bucket_count m; reserved = 0 }) }
+        ensures succeeds { capacity ≡ 0 → IsOk result }
+    {
+        match Table::with_capacity(alloc, skipped, capacity, hasher) {
+            Ok(table) => Ok(Owned { table }),
+            Err(e) => Err(e),
+        }
+    }
+
     /// The number of pairs.
     #[inline(always)]
     pub fn len(&self) -> usize
@@ -113,6 +158,14 @@ impl<K: Eq + Hash, V, H: BuildHasher> Owned<K, V, H> {
         ensures { IsTrue result ↔ (entries self.now ≡ []) }
     {
         self.table.len() == 0
+    }
+
+    /// Whether memory was refused for the last resize that was due. The next one that is made lowers it. Where it is false after a call that had to resize, the map has the size that the rules ask for.
+    #[inline(always)]
+    pub fn is_resize_refused(&self) -> bool
+        ensures { result ≡ refused_of self.now }
+    {
+        self.table.is_resize_refused()
     }
 
     /// The slots of the array, 32 a bucket; 0 without an array. It is no bound on the number of pairs.
@@ -165,7 +218,11 @@ impl<K: Eq + Hash, V, H: BuildHasher> Owned<K, V, H> {
         ensures step { Inserts K.eq (key_hash H.BuildHasher H.Hasher.Hasher K.hash_input self.old) self.old (k, v) result self.new }
         ensures succeeds { find K.eq (entries self.old) k ≡ None → HasRoom (key_hash H.BuildHasher H.Hasher.Hasher K.hash_input self.old) self.old k → IsOk result }
         ensures finds { OnOk result (FindsInstead K.eq (entries self.old) k (Some (k, v)) (entries self.new)) }
+        ensures same { OnErr result ((q : K) → find K.eq (entries self.new) q ≡ find K.eq (entries self.old) q) }
         ensures growth { Grows self.old self.new }
+        ensures kept { find K.eq (entries self.old) k ≡ None → HasRoom (key_hash H.BuildHasher H.Hasher.Hasher K.hash_input self.old) self.old k → bucket_count self.new ≡ bucket_count self.old }
+        ensures due { find K.eq (entries self.old) k ≡ None → GrowsWhenDue (key_hash H.BuildHasher H.Hasher.Hasher K.hash_input self.old) (λ p. p.0) self.old k self.new }
+        ensures first { OnOk result (FirstArrayWhenDue self.old self.new) }
         ensures unique { IsUnique K.eq self.new }
     {
         let hash = self.table.hash(&k);
@@ -186,7 +243,11 @@ impl<K: Eq + Hash, V, H: BuildHasher> Owned<K, V, H> {
         ensures step { Upserts K.eq (key_hash H.BuildHasher H.Hasher.Hasher K.hash_input self.old) self.old (k, v) result self.new }
         ensures succeeds { IsSome (find K.eq (entries self.old) k) → IsOk result }
         ensures finds { OnOk result ((q : K) × (K.eq k q ≡ true) × FindsInstead K.eq (entries self.old) k (Some (q, v)) (entries self.new)) }
+        ensures same { OnErr result ((q : K) → find K.eq (entries self.new) q ≡ find K.eq (entries self.old) q) }
         ensures growth { Grows self.old self.new }
+        ensures kept { find K.eq (entries self.old) k ≡ None → HasRoom (key_hash H.BuildHasher H.Hasher.Hasher K.hash_input self.old) self.old k → bucket_count self.new ≡ bucket_count self.old }
+        ensures due { find K.eq (entries self.old) k ≡ None → GrowsWhenDue (key_hash H.BuildHasher H.Hasher.Hasher K.hash_input self.old) (λ p. p.0) self.old k self.new }
+        ensures first { find K.eq (entries self.old) k ≡ None → OnOk result (FirstArrayWhenDue self.old self.new) }
         ensures unique { IsUnique K.eq self.new }
     {
         let hash = self.table.hash(&k);
@@ -204,6 +265,8 @@ impl<K: Eq + Hash, V, H: BuildHasher> Owned<K, V, H> {
     pub fn update_sync<R, U: FnOnce(&K, &mut V) -> R>(&mut self, k: &K, u: U) -> Option<R>
         requires { (a : Bor K) (b : MutBor V) → find K.eq (entries self.old) k.now ≡ Some (a.now, b.now) → U.pre u a b }
         ensures step { UpdatesAt U.FnOnce u K.eq self.old k.now self.new (find K.eq (entries self.old) k.now) result }
+        ensures finds { IfSome result (λ x. (p : K × V) × (w : V) × (find K.eq (entries self.old) k.now ≡ Some p) × (K.eq k.now p.0 ≡ true) × WritesAt U.FnOnce u p x w × FindsInstead K.eq (entries self.old) k.now (Some (p.0, w)) (entries self.new)) }
+        ensures missing { IfNone result (find K.eq (entries self.old) k.now ≡ None) }
         ensures unique { IsUnique K.eq self.new }
     {
         let hash = self.table.hash(k);
@@ -223,6 +286,7 @@ impl<K: Eq + Hash, V, H: BuildHasher> Owned<K, V, H> {
         ensures step { RemovesIf F.FnOnce f K.eq self.old k.now result self.new (find K.eq (entries self.old) k.now) }
         ensures finds { OnSome result (FindsInstead K.eq (entries self.old) k.now None (entries self.new)) }
         ensures smaller { bucket_count self.new ≢ bucket_count self.old → IsSmaller (minimum_of self.old) (length (entries self.new)) (bucket_count self.old) (bucket_count self.new) }
+        ensures due { OnSome result (ShrinksWhenDue self.old self.new) }
         ensures unique { IsUnique K.eq self.new }
     {
         let hash = self.table.hash(k);
@@ -240,6 +304,7 @@ impl<K: Eq + Hash, V, H: BuildHasher> Owned<K, V, H> {
         ensures step { Removes K.eq self.old k.now result self.new }
         ensures finds { OnSome result (FindsInstead K.eq (entries self.old) k.now None (entries self.new)) }
         ensures smaller { bucket_count self.new ≢ bucket_count self.old → IsSmaller (minimum_of self.old) (length (entries self.new)) (bucket_count self.old) (bucket_count self.new) }
+        ensures due { OnSome result (ShrinksWhenDue self.old self.new) }
         ensures unique { IsUnique K.eq self.new }
     {
         let hash = self.table.hash(k);
@@ -252,14 +317,14 @@ impl<K: Eq + Hash, V, H: BuildHasher> Owned<K, V, H> {
     /// Calls `f` on the pairs in some order, each at most once, until its first false, and answers false where it stopped.
     #[inline(always)]
     pub fn iter_sync<F: FnMut(&K, &V) -> bool>(&self, f: F) -> bool
-        requires { F.IsAlwaysCallable f }
+        requires { (es : List (K × V)) → IsPermutation (entries self.now) es → CallableWhile F.FnMut true f es }
         ensures { (es : List (K × V)) × (last : F) × IsPermutation (entries self.now) es × Walks (CalledOn F.FnMut) f es result last }
     {
         self.table.walk(f)
     }
 
     /// The pair at the place.
-    pub(crate) fn pair_at(&self, place: Place) -> (&K, &V)
+    pub fn pair_at(&self, place: Place) -> (&K, &V)
         requires { IsPlace self.now place }
         ensures { slice_get (entries self.now) (index_of self.now place) ≡ Some (result.0.now, result.1.now) }
     {
@@ -273,6 +338,18 @@ impl<K: Eq + Hash, V, H: BuildHasher> Owned<K, V, H> {
         ensures value { (p : K × V) × (slice_get (entries self.old) (index_of self.old place) ≡ Some p) × (result.now ≡ p.1) }
     {
         self.table.value_mut_at(place)
+    }
+
+    /// Writes the value at the place, and answers the old one.
+    pub(crate) fn write_at(&mut self, place: Place, value: V) -> V
+        requires { IsPlace self.old place }
+        ensures old { (p : K × V) × (slice_get (entries self.old) (index_of self.old place) ≡ Some p) × (result ≡ p.1) }
+        ensures new { self.new ≡ with_write_at with_pair_value self.old place value }
+        ensures unique { IsUnique K.eq self.new }
+    {
+        let old = std::mem::replace(self.value_mut_at(place), value);
+        let _ = self.len();
+        old
     }
 
     /// The key at the place, and the value to write.
@@ -295,11 +372,12 @@ impl<K: Eq + Hash, V, H: BuildHasher> Owned<K, V, H> {
     }
 
     /// Takes the pair out of its place.
-    pub(crate) fn remove_at(&mut self, place: Place) -> (K, V)
+    pub fn remove_at(&mut self, place: Place) -> (K, V)
         requires { IsPlace self.old place }
         ensures pair { slice_get (entries self.old) (index_of self.old place) ≡ Some result }
         ensures others { Holds self.old (remove (entries self.old) (index_of self.old place)) self.new }
         ensures smaller { bucket_count self.new ≢ bucket_count self.old → IsSmaller (minimum_of self.old) (length (entries self.new)) (bucket_count self.old) (bucket_count self.new) }
+        ensures due { ShrinksWhenDue self.old self.new }
         ensures unique { IsUnique K.eq self.new }
     {
         self.table.remove_at(place)
@@ -313,6 +391,8 @@ impl<K: Eq + Hash, V, H: BuildHasher> Owned<K, V, H> {
         ensures refused { IfErr result (λ p. p ≡ (k, v)) }
         ensures rests { OnErr result (Rests self.old self.new) }
         ensures full { OnErr result (HasRoom (key_hash H.BuildHasher H.Hasher.Hasher K.hash_input self.old) self.old k → ⊥) }
+        ensures grows { GrowsFor (key_hash H.BuildHasher H.Hasher.Hasher K.hash_input self.old) (λ p. p.0) self.old k self.new }
+        ensures first { OnOk result (FirstArrayWhenDue self.old self.new) }
         ensures unique { IsUnique K.eq self.new }
     {
         self.table.insert_new(hash, (k, v))

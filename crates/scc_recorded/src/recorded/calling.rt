@@ -1,17 +1,21 @@
 //! Containers whose calls are values.
-ghost use Rattle.std.specs.Prelude.{◌≡◌, ℕ, List, Option, Some, None, IfOk, OnErr, MatchOption};
+ghost use Rattle.std.specs.Prelude.{◌≡◌, ℕ, ◌*◌, ◌<◌, ◌≤◌, List, ◌∷◌, ◌++◌, length, Option, Some, None, IfOk, OnErr, MatchOption};
 ghost use Rattle.scc_recorded.specs.Changes.{Changes, Stays};
+ghost use Rattle.scc_recorded.specs.Made.{IsMadeFor};
+ghost use Rattle.scc_recorded.specs.Parts.{Routed, KeyRouted, RoutedFrom, part_of};
 ghost use Rattle.scc_recorded.specs.declared.recorded.fixed.Setting.{Setting};
 
 use crate::recorded::Refused;
-use std::hash::BuildHasher;
+use scc_table::MakeError;
+use std::alloc::Global;
+use std::hash::{BuildHasher, Hash};
 
 /// A container whose calls are values, and what its calls mean.
 ///
 /// The meaning is a relation of states: what the container contains, with its number of buckets.
 pub trait Calls: Sized {
     /// What routes a call to a part.
-    type Key;
+    type Key: Hash;
 
     type Hasher: BuildHasher;
 
@@ -22,6 +26,9 @@ pub trait Calls: Sized {
     // What calls read and change.
     ghost State: { Type 0 };
 
+    // What the parts of a container are together.
+    ghost Whole: { Type 0 };
+
     // What no call changes.
     ghost setting: { Self → Setting Self.Hasher };
 
@@ -29,6 +36,12 @@ pub trait Calls: Sized {
 
     // The number of buckets.
     ghost size: { State → ℕ };
+
+    // Nothing, with so many buckets.
+    ghost empty: { ℕ → State };
+
+    // Where this maximum was asked for and an array of so many slots was made, the maximum is the last number. 0 in all kinds but the cache.
+    ghost limits: { ℕ → ℕ → ℕ → Type 0 };
 
     // The keys that are there.
     ghost keys: { State → List Self.Key };
@@ -45,6 +58,14 @@ pub trait Calls: Sized {
     // Memory for the call may be refused in this state.
     ghost may_refuse: { Setting Self.Hasher → State → Self.Call → Type 0 };
 
+    ghost whole: { List State → Whole };
+
+    // In a container of so many parts, the call of the part with that number may give the reply and lead from the first whole to the second.
+    ghost whole_moves: { Setting Self.Hasher → ℕ → ℕ → Whole → Self.Call → Self.Reply → Whole → Type 0 };
+
+    // A resize of the part with that number to so many buckets may lead from the first whole to the second.
+    ghost whole_resizes: { Setting Self.Hasher → ℕ → ℕ → Whole → ℕ → Whole → Type 0 };
+
     /// The key of the call, None for a call that concerns all keys.
     fn key(call: &Self::Call) -> Option<&Self::Key>
         ensures { MatchOption result (key_of call.now ≡ None) (λ k. key_of call.now ≡ Some k.now) };
@@ -59,4 +80,42 @@ pub trait Calls: Sized {
     /// The number of buckets, 0 where there is no array.
     fn buckets(&self) -> usize
         ensures { result ≡ size (state self.now) };
+
+    /// An empty part under that hasher, which skips so many bits of each hash and has an array for so many slots, none for 0. Only a cache looks at the maximum. Parts that are made for the same have the same setting and as many buckets.
+    fn make(
+        alloc: Global,
+        skipped: u32,
+        slots: usize,
+        maximum: usize,
+        hasher: Self::Hasher,
+    ) -> Result<Self, MakeError>
+    where
+        Self::Hasher: Drop,
+        requires { skipped ≤ 4 }
+        ensures made { IfOk result (λ c. IsMadeFor limits (record { hasher = hasher; skipped = skipped; slots = slots; maximum = maximum }) (setting c)) }
+        ensures state { IfOk result (λ c. state c ≡ empty (size (state c))) }
+        ensures size { IfOk result (λ c. (setting c).minimum ≡ 32 * size (state c)) };
+
+    // Parts that are made alike have one maximum.
+    ghost one_limit: { (asked slots m n : ℕ) → limits asked slots m → limits asked slots n → m ≡ n };
+
+    // Where every key of every part, and the call's, routes to its own part, a step of one part is a step of the whole.
+    ghost call_is_whole: { (g : Setting Self.Hasher) (n : ℕ) (before after : List State) (old new : State) (call : Self.Call) (reply : Self.Reply)
+        → RoutedFrom (part_of Self.Hasher.BuildHasher Self.Hasher.Hasher.Hasher Self.Key.Hash.hash_input g.hasher n) keys 0 (before ++ old ∷ after) → KeyRouted (part_of Self.Hasher.BuildHasher Self.Hasher.Hasher.Hasher Self.Key.Hash.hash_input g.hasher n) (length before) (key_of call)
+        → moves g old call reply new
+        → whole_moves g n (length before) (whole (before ++ old ∷ after)) call reply (whole (before ++ new ∷ after)) };
+
+    ghost resize_is_whole: { (g : Setting Self.Hasher) (n : ℕ) (before after : List State) (old new : State) (buckets : ℕ)
+        → RoutedFrom (part_of Self.Hasher.BuildHasher Self.Hasher.Hasher.Hasher Self.Key.Hash.hash_input g.hasher n) keys 0 (before ++ old ∷ after)
+        → resizes g old buckets new
+        → whole_resizes g n (length before) (whole (before ++ old ∷ after)) buckets (whole (before ++ new ∷ after)) };
+
+    // Keys stay in their parts: a call brings in no key but its own, a resize none.
+    ghost call_keeps: { (g : Setting Self.Hasher) (n i : ℕ) (old new : State) (call : Self.Call) (reply : Self.Reply)
+        → Routed (part_of Self.Hasher.BuildHasher Self.Hasher.Hasher.Hasher Self.Key.Hash.hash_input g.hasher n) i (keys old) → KeyRouted (part_of Self.Hasher.BuildHasher Self.Hasher.Hasher.Hasher Self.Key.Hash.hash_input g.hasher n) i (key_of call) → moves g old call reply new → Routed (part_of Self.Hasher.BuildHasher Self.Hasher.Hasher.Hasher Self.Key.Hash.hash_input g.hasher n) i (keys new) };
+
+    ghost resize_keeps: { (g : Setting Self.Hasher) (n i : ℕ) (old new : State) (buckets : ℕ)
+        → Routed (part_of Self.Hasher.BuildHasher Self.Hasher.Hasher.Hasher Self.Key.Hash.hash_input g.hasher n) i (keys old) → resizes g old buckets new → Routed (part_of Self.Hasher.BuildHasher Self.Hasher.Hasher.Hasher Self.Key.Hash.hash_input g.hasher n) i (keys new) };
+
+    ghost empty_keeps: { (h : Self.Hasher) (n i buckets : ℕ) → Routed (part_of Self.Hasher.BuildHasher Self.Hasher.Hasher.Hasher Self.Key.Hash.hash_input h n) i (keys (empty buckets)) };
 }

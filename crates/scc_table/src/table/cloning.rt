@@ -50,6 +50,7 @@ where
                 asked: 32 * count,
                 reserved: 0,
                 skipped: self.skipped,
+                refused: false,
                 hasher,
             }),
             Err(_) => Err(MakeError),

@@ -1,10 +1,11 @@
 //! How entries get into a table and out of it.
-ghost use Rattle.std.specs.Prelude.{◌≡◌, ◌≤◌, ◌<◌, ◌+◌, ◌*◌, ◌^◌, [], ◌∷◌, length, Some, None, IsTrue, IfOk, IfErr, OnErr, slice_get, remove};
+ghost use Rattle.std.specs.Prelude.{◌≡◌, ◌≤◌, ◌<◌, ◌+◌, ◌-◌, ◌*◌, ◌^◌, [], ◌∷◌, length, Some, None, IsTrue, IfOk, IfErr, OnOk, OnErr, slice_get, remove};
 ghost use Rattle.std.specs.List.{position};
-ghost use Rattle.scc_table.specs.Contents.{entries, bucket_count, list_of, settings_of, key_hash, bucket_of, IsUniqueBy, HasRoomBy};
+ghost use Rattle.scc_table.specs.Bounded.{HasList, IsBounded};
+ghost use Rattle.scc_table.specs.Contents.{entries, bucket_count, list_of, settings_of, refused_of, key_hash, bucket_of, IsUniqueBy, HasRoomBy};
 ghost use Rattle.scc_table.specs.Places.{IsPlace, IsInsertedAt, index_of};
 ghost use Rattle.scc_table.specs.Routing.{bucket_number};
-ghost use Rattle.scc_table.specs.Steps.{Grows, HoldsExactly, IsUnchanged, Rests};
+ghost use Rattle.scc_table.specs.Steps.{FirstArrayWhenDue, Grows, GrowsWhenDue, HoldsExactly, IsUnchanged, Rests};
 
 use super::Table;
 use crate::place::Place;
@@ -24,6 +25,15 @@ pub(super) fn one_if(holds: bool) -> usize
     if holds { 1 } else { 0 }
 }
 
+/// Whether so many entries in overflow lists are the most that one table may have.
+#[inline(always)]
+fn is_overflow_full(overflowing: usize) -> bool
+    ensures full { IsTrue result → 2 ^ 62 - 1 ≤ overflowing }
+    ensures room { (IsTrue result → ⊥) → overflowing < 2 ^ 62 - 1 }
+{
+    overflowing >= OVERFLOW_LIMIT - 1
+}
+
 impl<E: Keyed, H: BuildHasher> Table<E, H>
 where
     E::Key: Eq + Hash,
@@ -36,6 +46,9 @@ where
         ensures err { IfErr result (λ e. (e ≡ entry) × Rests self.old self.new) }
         ensures full { OnErr result (HasRoomBy (key_hash H.BuildHasher H.Hasher.Hasher E.Key.hash_input self.old) E.key_of self.old (E.key_of entry) → ⊥) }
         ensures growth { Grows self.old self.new }
+        ensures due { GrowsWhenDue (key_hash H.BuildHasher H.Hasher.Hasher E.Key.hash_input self.old) E.key_of self.old (E.key_of entry) self.new }
+        ensures first { OnOk result (FirstArrayWhenDue self.old self.new) }
+        ensures none { OnErr result (bucket_count self.old ≡ 0 → IsUnchanged self.old self.new) }
         ensures kept { HasRoomBy (key_hash H.BuildHasher H.Hasher.Hasher E.Key.hash_input self.old) E.key_of self.old (E.key_of entry) → bucket_count self.new ≡ bucket_count self.old }
         ensures unique { IsUniqueBy E.Key.eq E.key_of self.new }
     {
@@ -56,9 +69,10 @@ where
         ensures err { IfErr result (λ e. (e ≡ entry) × IsUnchanged self.old self.new) }
         ensures full { OnErr result (HasRoomBy (key_hash H.BuildHasher H.Hasher.Hasher E.Key.hash_input self.old) E.key_of self.old (E.key_of entry) → ⊥) }
         ensures buckets { bucket_count self.new ≡ bucket_count self.old }
+        ensures refused { refused_of self.new ≡ refused_of self.old }
         ensures unique { IsUniqueBy E.Key.eq E.key_of self.new }
     {
-        if self.buckets[bucket].is_full() && self.overflowing >= OVERFLOW_LIMIT - 1 {
+        if self.buckets[bucket].is_full() && is_overflow_full(self.overflowing) {
             return Err(entry);
         }
         match self.buckets[bucket].insert(entry, tag(hash)) {
@@ -78,6 +92,22 @@ where
         ensures follows { index_of self.new place ≡ index_of self.old place }
         ensures list { place.slot ≤ length (list_of self.new place.bucket) }
         ensures others { HoldsExactly self.old (remove (entries self.old) (index_of self.old place)) self.new }
+        ensures unique { IsUniqueBy E.Key.eq E.key_of self.new }
+    {
+        self.take_in(place)
+    }
+
+    /// The same as `take_at`, seen in the list of its bucket too.
+    pub fn take_in(&mut self, place: Place) -> E
+        requires { IsPlace self.old place }
+        ensures entry { slice_get (entries self.old) (index_of self.old place) ≡ Some result }
+        ensures follows { index_of self.new place ≡ index_of self.old place }
+        ensures list { place.slot ≤ length (list_of self.new place.bucket) }
+        ensures others { HoldsExactly self.old (remove (entries self.old) (index_of self.old place)) self.new }
+        ensures listed { slice_get (list_of self.old place.bucket) place.slot ≡ Some result }
+        ensures gone { position (λ e. E.Key.eq (E.key_of result) (E.key_of e)) (entries self.new) ≡ None }
+        ensures short { IsBounded self.old → length (list_of self.new place.bucket) < 32 }
+        ensures lists { IsBounded self.old → HasList self.old place.bucket (remove (list_of self.old place.bucket) place.slot) self.new }
         ensures unique { IsUniqueBy E.Key.eq E.key_of self.new }
     {
         let in_overflow = self.buckets[place.bucket].is_overflow(place.slot);

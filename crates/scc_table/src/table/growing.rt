@@ -1,10 +1,11 @@
 //! How a table gets room for a new key.
-ghost use Rattle.std.specs.Prelude.{◌≡◌, ◌<◌, ◌+◌, ◌*◌, IfOk, OnErr};
-ghost use Rattle.scc_table.specs.Contents.{bucket_count, settings_of, key_hash, HasRoomAt, IsUniqueBy};
+ghost use Rattle.std.specs.Prelude.{◌≡◌, ◌≤◌, ◌<◌, ◌+◌, ◌*◌, ◌^◌, [], false, length, IfOk, OnOk, OnErr};
+ghost use Rattle.scc_table.specs.Contents.{entries, bucket_count, settings_of, refused_of, key_hash, HasRoomAt, IsUniqueBy};
 ghost use Rattle.scc_table.specs.Routing.{bucket_number};
-ghost use Rattle.scc_table.specs.Steps.{Grows, Rests};
+ghost use Rattle.scc_table.specs.Steps.{FirstArrayWhenDue, Grows, IsUnchanged, Rests};
 
 use super::Table;
+use super::edits::OVERFLOW_LIMIT;
 use crate::route::bucket_index;
 use crate::sizes::MOST_BUCKETS;
 use scc_bucket::Keyed;
@@ -23,7 +24,11 @@ where
         ensures within { IfOk result (λ i. i < bucket_count self.new) }
         ensures routed { IfOk result (λ i. i ≡ bucket_number (settings_of self.new).skipped (bucket_count self.new) hash) }
         ensures still { HasRoomAt (key_hash H.BuildHasher H.Hasher.Hasher E.Key.hash_input self.old) E.key_of self.old hash → self.new ≡ self.old }
+        ensures due { 0 < bucket_count self.old → (HasRoomAt (key_hash H.BuildHasher H.Hasher.Hasher E.Key.hash_input self.old) E.key_of self.old hash → ⊥) → 32 * bucket_count self.old ≤ 2 * length (entries self.old) → 32 * bucket_count self.old < 2 ^ 63 → length (entries self.old) < 2 ^ 62 → refused_of self.new ≡ false → bucket_count self.new ≡ 2 * bucket_count self.old }
+        ensures first { OnOk result (FirstArrayWhenDue self.old self.new) }
+        ensures bare { bucket_count self.old ≡ 0 → entries self.new ≡ [] }
         ensures none { OnErr result (bucket_count self.old ≡ 0) }
+        ensures refused { OnErr result (IsUnchanged self.old self.new) }
         ensures unique { IsUniqueBy E.Key.eq E.key_of self.new }
     {
         let count = self.buckets.len();
@@ -43,6 +48,9 @@ where
         requires { bucket_count self.old ≡ 0 }
         ensures rests { Rests self.old self.new }
         ensures growth { Grows self.old self.new }
+        ensures first { OnOk result (FirstArrayWhenDue self.old self.new) }
+        ensures bare { entries self.new ≡ [] }
+        ensures refused { OnErr result (IsUnchanged self.old self.new) }
         ensures within { IfOk result (λ i. i < bucket_count self.new) }
         ensures routed { IfOk result (λ i. i ≡ bucket_number (settings_of self.new).skipped (bucket_count self.new) hash) }
         ensures unique { IsUniqueBy E.Key.eq E.key_of self.new }
@@ -57,6 +65,7 @@ where
         requires { 0 < bucket_count self.old }
         ensures rests { Rests self.old self.new }
         ensures growth { Grows self.old self.new }
+        ensures due { 32 * bucket_count self.old ≤ 2 * length (entries self.old) → 32 * bucket_count self.old < 2 ^ 63 → length (entries self.old) < 2 ^ 62 → refused_of self.new ≡ false → bucket_count self.new ≡ 2 * bucket_count self.old }
         ensures within { result < bucket_count self.new }
         ensures routed { result ≡ bucket_number (settings_of self.new).skipped (bucket_count self.new) hash }
         ensures unique { IsUniqueBy E.Key.eq E.key_of self.new }
@@ -70,11 +79,13 @@ where
         requires { 0 < bucket_count self.old }
         ensures rests { Rests self.old self.new }
         ensures growth { Grows self.old self.new }
+        ensures due { 32 * bucket_count self.old ≤ 2 * length (entries self.old) → 32 * bucket_count self.old < 2 ^ 63 → length (entries self.old) < 2 ^ 62 → refused_of self.new ≡ false → bucket_count self.new ≡ 2 * bucket_count self.old }
         ensures array { 0 < bucket_count self.new }
         ensures unique { IsUniqueBy E.Key.eq E.key_of self.new }
     {
         let count = self.bucket_count();
-        if self.len() < 16 * count || count >= MOST_BUCKETS {
+        let length = self.len();
+        if length < 16 * count || count >= MOST_BUCKETS || length >= OVERFLOW_LIMIT {
             return;
         }
         match self.resize_to(2 * count) {

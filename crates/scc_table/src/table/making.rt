@@ -1,6 +1,8 @@
 //! How a table and its array are made.
+ghost use Rattle.std.specs.Arc.{arc_value};
 ghost use Rattle.std.specs.Prelude.{◌≡◌, ◌≢◌, ◌≤◌, ◌<◌, ◌+◌, ◌*◌, ◌^◌, [], length, IsOk, IfOk, OnOk, OnErr, vec_len};
-ghost use Rattle.scc_table.specs.Contents.{entries, bucket_count, settings_of, minimum_of};
+ghost use Rattle.scc_table.specs.Bounded.{IsListed, IsResized};
+ghost use Rattle.scc_table.specs.Contents.{entries, bucket_count, settings_of, minimum_of, key_hash};
 ghost use Rattle.scc_table.specs.Pour.{Fits};
 ghost use Rattle.scc_table.specs.Sizes.{IsArray, IsArraySize};
 ghost use Rattle.scc_table.specs.Steps.{IsUnchanged};
@@ -8,10 +10,12 @@ ghost use Rattle.scc_table.specs.Tables.{AllEmpty};
 
 use super::Table;
 use crate::errors::MakeError;
+use crate::shared::Shared;
 use crate::sizes::buckets_for;
 use scc_bucket::{Bucket, Keyed};
 use std::alloc::{AllocError, Global};
 use std::hash::{BuildHasher, Hash};
+use std::sync::Arc;
 
 impl<E: Keyed, H: BuildHasher> Table<E, H>
 where
@@ -21,6 +25,7 @@ where
     pub fn new(alloc: Global, skipped: u32, hasher: H) -> Table<E, H>
         requires { skipped ≤ 4 }
         ensures entries { entries result ≡ [] }
+        ensures listed { IsListed (λ e. key_hash H.BuildHasher H.Hasher.Hasher E.Key.hash_input result (E.key_of e)) result }
         ensures buckets { bucket_count result ≡ 0 }
         ensures settings { settings_of result ≡ record { hasher = hasher; skipped = skipped; asked = 0; reserved = 0 } }
     {
@@ -31,6 +36,7 @@ where
             asked: 0,
             reserved: 0,
             skipped,
+            refused: false,
             hasher,
         }
     }
@@ -46,6 +52,7 @@ where
         H: Drop,
         requires { skipped ≤ 4 }
         ensures entries { IfOk result (λ t. entries t ≡ []) }
+        ensures listed { IfOk result (λ t. IsListed (λ e. key_hash H.BuildHasher H.Hasher.Hasher E.Key.hash_input t (E.key_of e)) t) }
         ensures none { IfOk result (λ t. slots ≡ 0 → bucket_count t ≡ 0) }
         ensures size { IfOk result (λ t. 0 < slots → IsArraySize slots (32 * bucket_count t)) }
         ensures settings { IfOk result (λ t. settings_of t ≡ record { hasher = hasher; skipped = skipped; asked = 32 * bucket_count t; reserved = 0 }) }
@@ -63,6 +70,7 @@ where
                 asked: 32 * count,
                 reserved: 0,
                 skipped,
+                refused: false,
                 hasher,
             }),
             Err(_) => Err(MakeError),
@@ -78,6 +86,8 @@ where
         ensures array { OnOk result (IsArray (bucket_count self.new)) }
         ensures settings { settings_of self.new ≡ settings_of self.old }
         ensures refused { OnErr result (IsUnchanged self.old self.new) }
+        ensures resized { OnOk result (IsResized (λ e. key_hash H.BuildHasher H.Hasher.Hasher E.Key.hash_input self.old (E.key_of e)) self.old self.new) }
+        ensures same { OnErr result (self.new ≡ self.old) }
     {
         let count = buckets_for(self.asked + self.reserved);
         let alloc = *self.buckets.allocator();
@@ -85,6 +95,31 @@ where
         let old = std::mem::replace(&mut self.buckets, buckets);
         old.destroy_empty();
         Ok(())
+    }
+}
+
+impl<E: Keyed, H: BuildHasher> Table<E, Shared<H>>
+where
+    E::Key: Eq + Hash,
+{
+    /// An empty part: it skips so many bits of each hash, and hashes as each other part of that hasher does. Else as `with_capacity`.
+    pub fn part(
+        alloc: Global,
+        skipped: u32,
+        slots: usize,
+        hasher: Arc<H>,
+    ) -> Result<Table<E, Shared<H>>, MakeError>
+    where
+        H: Drop,
+        requires { skipped ≤ 4 }
+        ensures entries { IfOk result (λ t. entries t ≡ []) }
+        ensures listed { IfOk result (λ t. IsListed (λ e. key_hash H.BuildHasher H.Hasher.Hasher E.Key.hash_input t (E.key_of e)) t) }
+        ensures none { IfOk result (λ t. slots ≡ 0 → bucket_count t ≡ 0) }
+        ensures size { IfOk result (λ t. 0 < slots → IsArraySize slots (32 * bucket_count t)) }
+        ensures settings { IfOk result (λ t. settings_of t ≡ record { hasher = arc_value hasher; skipped = skipped; asked = 32 * bucket_count t; reserved = 0 }) }
+        ensures succeeds { slots ≡ 0 → IsOk result }
+    {
+        Table::with_capacity(alloc, skipped, slots, Shared::new(hasher))
     }
 }
 

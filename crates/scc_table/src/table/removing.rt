@@ -4,7 +4,7 @@ ghost use Rattle.std.specs.List.Sorted.{IsPermutation};
 ghost use Rattle.scc_table.specs.Contents.{entries, bucket_count, settings_of, minimum_of, IsUniqueBy};
 ghost use Rattle.scc_table.specs.Places.{IsPlace, index_of};
 ghost use Rattle.scc_table.specs.Sizes.{IsSmaller};
-ghost use Rattle.scc_table.specs.Steps.{Holds};
+ghost use Rattle.scc_table.specs.Steps.{Holds, ShrinksWhenDue};
 
 use super::Table;
 use super::edits::one_if;
@@ -22,6 +22,7 @@ where
         ensures entry { slice_get (entries self.old) (index_of self.old place) ≡ Some result }
         ensures others { Holds self.old (remove (entries self.old) (index_of self.old place)) self.new }
         ensures smaller { bucket_count self.new ≢ bucket_count self.old → IsSmaller (minimum_of self.old) (length (entries self.new)) (bucket_count self.old) (bucket_count self.new) }
+        ensures due { ShrinksWhenDue self.old self.new }
         ensures unique { IsUniqueBy E.Key.eq E.key_of self.new }
     {
         let entry = self.swap_take_at(place);

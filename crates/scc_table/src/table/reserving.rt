@@ -2,9 +2,10 @@
 ghost use Rattle.std.specs.Prelude.{◌≡◌, ◌≢◌, ◌≤◌, ◌<◌, ◌+◌, ◌-◌, ◌*◌, ◌^◌, ◌↔◌, IsTrue};
 ghost use Rattle.scc_table.specs.Contents.{entries, bucket_count, settings_of, minimum_of, pending_of, IsUniqueBy};
 ghost use Rattle.scc_table.specs.Sizes.{IsArraySize};
-ghost use Rattle.scc_table.specs.Steps.{IsUnchanged, Releases, Reserves, Resizes};
+ghost use Rattle.scc_table.specs.Steps.{IsUnchanged, ReachesMinimumWhenDue, Releases, Reserves, Resizes, ShrinksWhenDue};
 
 use super::Table;
+use super::edits::OVERFLOW_LIMIT;
 use crate::sizes::{GREATEST_CAPACITY, buckets_for};
 use scc_bucket::Keyed;
 use std::hash::{BuildHasher, Hash};
@@ -45,6 +46,7 @@ where
     pub fn reserve(&mut self, additional: usize) -> bool
         ensures answer { IsTrue result ↔ ((0 < additional) × (minimum_of self.old + additional ≤ 2 ^ 63)) }
         ensures yes { IsTrue result → Reserves additional self.old self.new }
+        ensures due { IsTrue result → ReachesMinimumWhenDue self.old self.new }
         ensures no { (IsTrue result → ⊥) → IsUnchanged self.old self.new }
         ensures unique { IsUniqueBy E.Key.eq E.key_of self.new }
     {
@@ -62,6 +64,7 @@ where
     pub fn release(&mut self, additional: usize) -> bool
         ensures answer { IsTrue result ↔ (additional ≤ (settings_of self.old).reserved) }
         ensures yes { IsTrue result → Releases additional self.old self.new }
+        ensures due { IsTrue result → ShrinksWhenDue self.old self.new }
         ensures no { (IsTrue result → ⊥) → IsUnchanged self.old self.new }
         ensures unique { IsUniqueBy E.Key.eq E.key_of self.new }
     {
@@ -89,11 +92,12 @@ where
         ensures resizes { Resizes self.old self.new }
         ensures more { bucket_count self.old ≤ bucket_count self.new }
         ensures size { bucket_count self.new ≢ bucket_count self.old → (0 < bucket_count self.old) × IsArraySize (minimum_of self.old) (32 * bucket_count self.new) }
+        ensures due { ReachesMinimumWhenDue self.old self.new }
         ensures unique { IsUniqueBy E.Key.eq E.key_of self.new }
     {
         let count = self.buckets.len();
         let wanted = buckets_for(self.minimum());
-        if count == 0 || count >= wanted {
+        if count == 0 || count >= wanted || self.length >= OVERFLOW_LIMIT {
             return;
         }
         match self.resize_to(wanted) {

@@ -1,14 +1,14 @@
 //! How a table gets more buckets, or fewer.
-ghost use Rattle.std.specs.Prelude.{◌≡◌, ◌<◌, ◌+◌, ◌*◌, ◌^◌, length, IfOk, OnOk, OnErr};
+ghost use Rattle.std.specs.Prelude.{◌≡◌, ◌≤◌, ◌<◌, ◌+◌, ◌*◌, ◌^◌, ◌↔◌, ℕ, length, true, false, IsTrue, IfOk, OnOk, OnErr, slice_index};
 ghost use Rattle.std.specs.List.Sorted.{IsPermutation};
-ghost use Rattle.scc_table.specs.Contents.{entries, settings_of, key_hash, IsUniqueBy};
-ghost use Rattle.scc_table.specs.Pour.{IsRegrouped, RoomFor};
+ghost use Rattle.scc_table.specs.Bounded.{IsBounded, MovesShort};
+ghost use Rattle.scc_table.specs.Contents.{entries, bucket_count, settings_of, refused_of, key_hash, IsUniqueBy};
+ghost use Rattle.scc_table.specs.Pour.{IsRegrouped, IsTally, RoomFor, bound_for};
 ghost use Rattle.scc_table.specs.Sizes.{IsArray};
 ghost use Rattle.scc_table.specs.Steps.{IsUnchanged};
 ghost use Rattle.scc_table.specs.Tables.{AllEmpty};
 
 use super::Table;
-use super::edits::OVERFLOW_LIMIT;
 use super::making::roomy_buckets;
 use crate::pour::regroup;
 use crate::tally::{count_overflow, tally};
@@ -47,27 +47,100 @@ where
         requires room { RoomFor (λ e. key_hash H.BuildHasher H.Hasher.Hasher E.Key.hash_input self.old (E.key_of e)) (settings_of self.old).skipped (length fresh.items) fresh.items (entries self.old) }
         ensures lists { IsRegrouped (λ e. key_hash H.BuildHasher H.Hasher.Hasher E.Key.hash_input self.old (E.key_of e)) (length fresh.items) self.old self.new }
         ensures same { IsPermutation (entries self.old) (entries self.new) }
+        ensures down { refused_of self.new ≡ false }
+        ensures bounded { ((i : ℕ) → i < length fresh.items → length (bound_for (λ e. key_hash H.BuildHasher H.Hasher.Hasher E.Key.hash_input self.old (E.key_of e)) (settings_of self.old).skipped (length fresh.items) i (entries self.old)) ≤ 32) → IsBounded self.new }
         ensures unique { IsUniqueBy E.Key.eq E.key_of self.new }
     {
         let count = fresh.len();
         let old = std::mem::replace(&mut self.buckets, fresh);
         regroup(&mut self.buckets, old, &self.hasher, self.skipped, count);
         self.overflowing = count_overflow(self.buckets.as_slice());
+        self.refused = false;
     }
 
-    /// Moves all entries to so many buckets, each in the order that its entries had. Takes time by the number of entries and of buckets. Where memory is refused, nothing changed.
+    /// How many entries each bucket would get, of so many.
+    fn counts_for(&self, count: usize) -> Result<Vec<usize>, AllocError>
+        requires array { 0 < count }
+        requires few { length (entries self.now) < 2 ^ 62 }
+        ensures { IfOk result (λ v. IsTally (λ e. key_hash H.BuildHasher H.Hasher.Hasher E.Key.hash_input self.now (E.key_of e)) (settings_of self.now).skipped count v.items (entries self.now)) }
+    {
+        tally(
+            *self.buckets.allocator(),
+            self.buckets.as_slice(),
+            &self.hasher,
+            self.skipped,
+            count,
+        )
+    }
+
+    /// Moves all entries to so many buckets, each in the order that its entries had, where none gets more than 32. Where one would, nothing changes; where memory is refused, that is noted. Takes time by the number of entries and of buckets.
+    pub(crate) fn resize_short(&mut self, count: usize)
+        requires array { IsArray count }
+        requires few { length (entries self.old) < 2 ^ 62 }
+        ensures moves { MovesShort (λ e. key_hash H.BuildHasher H.Hasher.Hasher E.Key.hash_input self.old (E.key_of e)) count self.old self.new }
+        ensures twice { IsBounded self.old → count ≡ 2 * bucket_count self.old → (i : ℕ) → i < count → length (bound_for (λ e. key_hash H.BuildHasher H.Hasher.Hasher E.Key.hash_input self.old (E.key_of e)) (settings_of self.old).skipped count i (entries self.old)) ≤ 32 }
+        ensures same { IsPermutation (entries self.old) (entries self.new) }
+        ensures settings { settings_of self.new ≡ settings_of self.old }
+    {
+        match self.counts_for(count) {
+            Ok(counts) => {
+                if all_short(counts.as_slice()) {
+                    self.refill_or_note(counts);
+                }
+            }
+            Err(_) => self.refused = true,
+        }
+    }
+
+    /// The second half of that, once it is known how many entries each bucket gets.
+    fn refill_or_note(&mut self, counts: Vec<usize>)
+        requires array { IsArray (length counts.items) }
+        requires few { length (entries self.old) < 2 ^ 62 }
+        requires tally { IsTally (λ e. key_hash H.BuildHasher H.Hasher.Hasher E.Key.hash_input self.old (E.key_of e)) (settings_of self.old).skipped (length counts.items) counts.items (entries self.old) }
+        requires short { (i : ℕ) → i < length counts.items → slice_index counts.items i ≤ 32 }
+        ensures moves { MovesShort (λ e. key_hash H.BuildHasher H.Hasher.Hasher E.Key.hash_input self.old (E.key_of e)) (length counts.items) self.old self.new }
+        ensures same { IsPermutation (entries self.old) (entries self.new) }
+        ensures settings { settings_of self.new ≡ settings_of self.old }
+    {
+        let alloc = *self.buckets.allocator();
+        match roomy_buckets(alloc, counts.as_slice()) {
+            Ok(fresh) => self.refill(fresh),
+            Err(_) => self.refused = true,
+        }
+    }
+
+    /// Moves all entries to so many buckets, each in the order that its entries had. Takes time by the number of entries and of buckets. Where memory is refused, nothing changed. Whether it was is noted.
     pub(crate) fn resize_to(&mut self, count: usize) -> Result<(), AllocError>
-        requires { IsArray count }
+        requires array { IsArray count }
+        requires few { length (entries self.old) < 2 ^ 62 }
         ensures lists { OnOk result (IsRegrouped (λ e. key_hash H.BuildHasher H.Hasher.Hasher E.Key.hash_input self.old (E.key_of e)) count self.old self.new) }
         ensures same { OnOk result (IsPermutation (entries self.old) (entries self.new)) }
+        ensures down { OnOk result (refused_of self.new ≡ false) }
         ensures err { OnErr result (IsUnchanged self.old self.new) }
+        ensures up { OnErr result (refused_of self.new ≡ true) }
         ensures unique { IsUniqueBy E.Key.eq E.key_of self.new }
     {
-        if self.length >= OVERFLOW_LIMIT {
-            return Err(AllocError);
+        match self.fresh_for(count) {
+            Ok(fresh) => {
+                self.refill(fresh);
+                Ok(())
+            }
+            Err(e) => {
+                self.refused = true;
+                Err(e)
+            }
         }
-        let fresh = self.fresh_for(count)?;
-        self.refill(fresh);
-        Ok(())
     }
+}
+
+/// Whether none of the counts is above 32.
+fn all_short(counts: &[usize]) -> bool
+    ensures { IsTrue result ↔ ((i : ℕ) → i < length counts.now → slice_index counts.now i ≤ 32) }
+{
+    for count in counts {
+        if *count > 32 {
+            return false;
+        }
+    }
+    true
 }

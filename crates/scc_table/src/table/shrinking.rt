@@ -1,7 +1,7 @@
 //! How a table gives back slots that it no longer needs.
 ghost use Rattle.std.specs.Prelude.{◌≤◌, ◌*◌, length};
 ghost use Rattle.scc_table.specs.Contents.{entries, bucket_count, IsUniqueBy};
-ghost use Rattle.scc_table.specs.Steps.{Resizes, Shrinks};
+ghost use Rattle.scc_table.specs.Steps.{Resizes, Shrinks, ShrinksWhenDue};
 
 use super::Table;
 use crate::sizes::buckets_for;
@@ -17,6 +17,7 @@ where
     pub fn shrink(&mut self)
         ensures resizes { Resizes self.old self.new }
         ensures shrinks { Shrinks self.old self.new }
+        ensures due { ShrinksWhenDue self.old self.new }
         ensures unique { IsUniqueBy E.Key.eq E.key_of self.new }
     {
         let count = self.bucket_count();
@@ -32,6 +33,7 @@ where
         requires { length (entries self.old) ≤ 4 * bucket_count self.old }
         ensures resizes { Resizes self.old self.new }
         ensures shrinks { Shrinks self.old self.new }
+        ensures due { ShrinksWhenDue self.old self.new }
         ensures unique { IsUniqueBy E.Key.eq E.key_of self.new }
     {
         let present = self.bucket_count();

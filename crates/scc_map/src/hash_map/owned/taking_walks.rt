@@ -7,10 +7,11 @@ ghost use Rattle.scc_table.specs.Pairs.{IsUnique};
 ghost use Rattle.scc_table.specs.Places.{IsPlace, index_of};
 ghost use Rattle.scc_table.specs.Sizes.{IsSmaller};
 ghost use Rattle.scc_table.specs.Standing.{StandsAt};
-ghost use Rattle.scc_table.specs.Steps.{Holds, HoldsExactly};
-ghost use Rattle.scc_map.specs.MapWalks.{CalledToWrite, Takes};
+ghost use Rattle.scc_table.specs.Steps.{Holds, HoldsExactly, ShrinksWhenDue};
+ghost use Rattle.scc_map.specs.MapWalks.{CallableToWrite, CalledToWrite, GoesOn, Takes};
 
 use super::Owned;
+use crate::hash_map::sink::Sink;
 use scc_table::{Place, Verdict, WalkError};
 use std::hash::{BuildHasher, Hash};
 
@@ -21,12 +22,33 @@ impl<K: Eq + Hash, V, H: BuildHasher> Owned<K, V, H> {
         f: F,
         taken: &mut Vec<(K, V)>,
     ) -> Result<bool, WalkError>
-        requires { F.IsAlwaysCallable f }
+        requires { (es : List (K × V)) → IsPermutation (entries self.old) es → CallableToWrite F.FnMut GoesOn f es }
         ensures step { (es : List (K × V)) × (stay : List (K × V)) × (more : List (K × V)) × (last : F) × IsPermutation (entries self.old) es × Takes (CalledToWrite F.FnMut) f es stay more result last × (taken.new.items ≡ taken.old.items ++ more) × Holds self.old stay self.new }
         ensures still { taken.new.items ≡ taken.old.items → bucket_count self.new ≡ bucket_count self.old }
         ensures smaller { bucket_count self.new ≢ bucket_count self.old → IsSmaller (minimum_of self.old) (length (entries self.new)) (bucket_count self.old) (bucket_count self.new) }
         ensures full { OnErr result (vec_capacity taken.new ≤ vec_len taken.new) }
         ensures room { vec_capacity taken.old ≤ vec_capacity taken.new }
+        ensures due { (taken.new.items ≡ taken.old.items → ⊥) → ShrinksWhenDue self.old self.new }
+        ensures was_unique { IsUnique K.eq self.old }
+        ensures unique { IsUnique K.eq self.new }
+    {
+        self.iter_mut_into(f, taken)
+    }
+
+    /// The same, where the taken pairs go to the end of any list that takes pairs.
+    pub fn iter_mut_into<F: FnMut(&K, &mut V) -> Verdict, L: Sink<K, V>>(
+        &mut self,
+        f: F,
+        taken: &mut L,
+    ) -> Result<bool, WalkError>
+        requires { (es : List (K × V)) → IsPermutation (entries self.old) es → CallableToWrite F.FnMut GoesOn f es }
+        ensures step { (es : List (K × V)) × (stay : List (K × V)) × (more : List (K × V)) × (last : F) × IsPermutation (entries self.old) es × Takes (CalledToWrite F.FnMut) f es stay more result last × (L.pairs taken.new ≡ L.pairs taken.old ++ more) × Holds self.old stay self.new }
+        ensures still { L.pairs taken.new ≡ L.pairs taken.old → bucket_count self.new ≡ bucket_count self.old }
+        ensures smaller { bucket_count self.new ≢ bucket_count self.old → IsSmaller (minimum_of self.old) (length (entries self.new)) (bucket_count self.old) (bucket_count self.new) }
+        ensures full { OnErr result (L.capacity taken.new ≤ length (L.pairs taken.new)) }
+        ensures room { L.capacity taken.old ≤ L.capacity taken.new }
+        ensures due { (L.pairs taken.new ≡ L.pairs taken.old → ⊥) → ShrinksWhenDue self.old self.new }
+        ensures was_unique { IsUnique K.eq self.old }
         ensures unique { IsUnique K.eq self.new }
     {
         let before = self.len();
@@ -38,19 +60,19 @@ impl<K: Eq + Hash, V, H: BuildHasher> Owned<K, V, H> {
     }
 
     /// The same in the order of the list, with no resize.
-    fn take_walk<F: FnMut(&K, &mut V) -> Verdict>(
+    fn take_walk<F: FnMut(&K, &mut V) -> Verdict, L: Sink<K, V>>(
         &mut self,
         mut f: F,
-        taken: &mut Vec<(K, V)>,
+        taken: &mut L,
     ) -> Result<bool, WalkError>
-        requires { F.IsAlwaysCallable f }
-        ensures step { (stay : List (K × V)) × (more : List (K × V)) × (last : F) × Takes (CalledToWrite F.FnMut) f (entries self.old) stay more result last × (taken.new.items ≡ taken.old.items ++ more) × HoldsExactly self.old stay self.new }
-        ensures full { OnErr result (vec_capacity taken.new ≤ vec_len taken.new) }
-        ensures room { vec_capacity taken.old ≤ vec_capacity taken.new }
+        requires { CallableToWrite F.FnMut GoesOn f (entries self.old) }
+        ensures step { (stay : List (K × V)) × (more : List (K × V)) × (last : F) × Takes (CalledToWrite F.FnMut) f (entries self.old) stay more result last × (L.pairs taken.new ≡ L.pairs taken.old ++ more) × HoldsExactly self.old stay self.new }
+        ensures full { OnErr result (L.capacity taken.new ≤ length (L.pairs taken.new)) }
+        ensures room { L.capacity taken.old ≤ L.capacity taken.new }
     {
         let mut at = self.table.first_place();
         while let Some(place) = at {
-            match taken.reserve(1) {
+            match taken.reserve_one() {
                 Ok(()) => {}
                 Err(_) => return Err(WalkError),
             }
@@ -72,16 +94,16 @@ impl<K: Eq + Hash, V, H: BuildHasher> Owned<K, V, H> {
     }
 
     /// Moves the pair out of its place to the end of `taken`, which has room, and answers the place of the pair that followed.
-    fn take_into(&mut self, place: Place, taken: &mut Vec<(K, V)>) -> Option<Place>
+    fn take_into<L: Sink<K, V>>(&mut self, place: Place, taken: &mut L) -> Option<Place>
         requires within { IsPlace self.old place }
-        requires room { vec_len taken.old < vec_capacity taken.old }
-        ensures taken { (p : K × V) × (slice_get (entries self.old) (index_of self.old place) ≡ Some p) × (taken.new.items ≡ taken.old.items ++ p ∷ []) }
+        requires room { length (L.pairs taken.old) < L.capacity taken.old }
+        ensures taken { (p : K × V) × (slice_get (entries self.old) (index_of self.old place) ≡ Some p) × (L.pairs taken.new ≡ L.pairs taken.old ++ p ∷ []) }
         ensures others { HoldsExactly self.old (remove (entries self.old) (index_of self.old place)) self.new }
         ensures next { MatchOption result (suc (index_of self.old place) ≡ length (entries self.old)) (StandsAt self.new (index_of self.old place)) }
-        ensures capacity { vec_capacity taken.new ≡ vec_capacity taken.old }
+        ensures capacity { L.capacity taken.new ≡ L.capacity taken.old }
     {
         let (pair, next) = self.take_and_step(place);
-        taken.push_reserved(pair);
+        taken.push_pair(pair);
         next
     }
 }

@@ -1,11 +1,11 @@
 //! Walks over the pairs of a map, from place to place.
-ghost use Rattle.std.specs.Prelude.{◌≡◌, suc, length, remove, slice_get, Some, MatchOption};
+ghost use Rattle.std.specs.Prelude.{◌≡◌, [], suc, length, remove, slice_get, Some, MatchOption, false};
 ghost use Rattle.scc_table.specs.Contents.{entries};
 ghost use Rattle.scc_table.specs.Pairs.{IsUnique};
 ghost use Rattle.scc_table.specs.Places.{IsPlace, index_of};
 ghost use Rattle.scc_table.specs.Standing.{StandsAt};
 ghost use Rattle.scc_table.specs.Steps.{HoldsExactly};
-ghost use Rattle.scc_table.specs.Walks.{CalledOn};
+ghost use Rattle.scc_table.specs.Walks.{CalledOn, CallableWhile};
 ghost use Rattle.scc_map.specs.MapWalks.{PassesNone, PassesFirst};
 
 use super::Owned;
@@ -13,8 +13,15 @@ use scc_table::Place;
 use std::hash::{BuildHasher, Hash};
 
 impl<K: Eq + Hash, V, H: BuildHasher> Owned<K, V, H> {
+    /// The place of the first pair of the list, or None where the map is empty.
+    pub fn first_place(&self) -> Option<Place>
+        ensures { MatchOption result (entries self.now ≡ []) (StandsAt self.now 0) }
+    {
+        self.table.first_place()
+    }
+
     /// The place after that one, or None where it is the last.
-    pub(crate) fn next_place(&self, place: Place) -> Option<Place>
+    pub fn next_place(&self, place: Place) -> Option<Place>
         requires { IsPlace self.now place }
         ensures { MatchOption result (suc (index_of self.now place) ≡ length (entries self.now)) (StandsAt self.now (suc (index_of self.now place))) }
     {
@@ -22,7 +29,7 @@ impl<K: Eq + Hash, V, H: BuildHasher> Owned<K, V, H> {
     }
 
     /// Takes the pair out of its place, with no resize, and answers it with the place of the pair that followed.
-    pub(crate) fn take_and_step(&mut self, place: Place) -> ((K, V), Option<Place>)
+    pub fn take_and_step(&mut self, place: Place) -> ((K, V), Option<Place>)
         requires { IsPlace self.old place }
         ensures pair { slice_get (entries self.old) (index_of self.old place) ≡ Some result.0 }
         ensures others { HoldsExactly self.old (remove (entries self.old) (index_of self.old place)) self.new }
@@ -35,8 +42,8 @@ impl<K: Eq + Hash, V, H: BuildHasher> Owned<K, V, H> {
     }
 
     /// The place of the first pair on which `p` answers true. It is called on the pairs in their order, up to that one.
-    pub(crate) fn first_passing<P: FnMut(&K, &V) -> bool>(&self, mut p: P) -> Option<Place>
-        requires { P.IsAlwaysCallable p }
+    pub fn first_passing<P: FnMut(&K, &V) -> bool>(&self, mut p: P) -> Option<Place>
+        requires { CallableWhile P.FnMut false p (entries self.now) }
         ensures { MatchOption result (PassesNone (CalledOn P.FnMut) p (entries self.now)) (λ place. IsPlace self.now place × PassesFirst (CalledOn P.FnMut) p (entries self.now) (index_of self.now place)) }
     {
         let mut at = self.table.first_place();

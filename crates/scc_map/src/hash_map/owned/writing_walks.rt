@@ -1,14 +1,13 @@
 //! Walks that write into the pairs of a map, and take pairs out of it.
-ghost use Rattle.std.specs.Prelude.{◌≡◌, ◌≢◌, ◌++◌, List, [], length, Some, slice_get};
+ghost use Rattle.std.specs.Prelude.{◌≡◌, ◌≢◌, ◌++◌, List, [], length, Some, slice_get, ⊤};
 ghost use Rattle.std.specs.List.Sorted.{IsPermutation};
 ghost use Rattle.scc_table.specs.Contents.{entries, bucket_count, minimum_of};
-ghost use Rattle.scc_table.specs.Pairs.{IsUnique};
+ghost use Rattle.scc_table.specs.Pairs.{IsUnique, with_pair_value};
 ghost use Rattle.scc_table.specs.Places.{IsPlace, index_of};
 ghost use Rattle.scc_table.specs.Sizes.{IsSmaller};
-ghost use Rattle.scc_table.specs.Steps.{Holds, HoldsExactly};
+ghost use Rattle.scc_table.specs.Steps.{Holds, HoldsExactly, ShrinksWhenDue};
 ghost use Rattle.scc_table.specs.Writes.{with_write_at};
-ghost use Rattle.scc_map.specs.Lends.{with_pair_value};
-ghost use Rattle.scc_map.specs.MapWalks.{CalledToWrite, Retains};
+ghost use Rattle.scc_map.specs.MapWalks.{CallableToWrite, CalledToWrite, Retains, TakesToWrite};
 
 use super::Owned;
 use scc_table::Place;
@@ -23,6 +22,7 @@ impl<K: Eq + Hash, V, H: BuildHasher> Owned<K, V, H> {
         ensures empty { entries self.new ≡ [] }
         ensures holds { Holds self.old [] self.new }
         ensures smaller { bucket_count self.new ≢ bucket_count self.old → IsSmaller (minimum_of self.old) 0 (bucket_count self.old) (bucket_count self.new) }
+        ensures due { ShrinksWhenDue self.old self.new }
         ensures unique { IsUnique K.eq self.new }
     {
         self.take_all();
@@ -48,11 +48,14 @@ impl<K: Eq + Hash, V, H: BuildHasher> Owned<K, V, H> {
     where
         K: Drop,
         V: Drop,
-        requires { F.IsAlwaysCallable f }
+        requires { (es : List (K × V)) → IsPermutation (entries self.old) es → CallableToWrite F.FnMut (λ answer. ⊤) f es }
         ensures step { (es : List (K × V)) × (stay : List (K × V)) × (last : F) × IsPermutation (entries self.old) es × Retains (CalledToWrite F.FnMut) f es stay last × Holds self.old stay self.new }
         ensures smaller { bucket_count self.new ≢ bucket_count self.old → IsSmaller (minimum_of self.old) (length (entries self.new)) (bucket_count self.old) (bucket_count self.new) }
+        ensures due { ShrinksWhenDue self.old self.new }
+        ensures was_unique { IsUnique K.eq self.old }
         ensures unique { IsUnique K.eq self.new }
     {
+        let _ = self.len();
         self.retain_all(f);
         self.table.shrink();
     }
@@ -62,7 +65,7 @@ impl<K: Eq + Hash, V, H: BuildHasher> Owned<K, V, H> {
     where
         K: Drop,
         V: Drop,
-        requires { F.IsAlwaysCallable f }
+        requires { CallableToWrite F.FnMut (λ answer. ⊤) f (entries self.old) }
         ensures { (stay : List (K × V)) × (last : F) × Retains (CalledToWrite F.FnMut) f (entries self.old) stay last × HoldsExactly self.old stay self.new }
     {
         let mut at = self.table.first_place();
@@ -79,9 +82,8 @@ impl<K: Eq + Hash, V, H: BuildHasher> Owned<K, V, H> {
     /// Calls `f` on the pair at the place, with the value to write.
     pub(crate) fn visit<R, F: FnMut(&K, &mut V) -> R>(&mut self, place: Place, f: &mut F) -> R
         requires within { IsPlace self.old place }
-        requires callable { F.IsAlwaysCallable f.old }
-        ensures callable { F.IsAlwaysCallable f.new }
-        ensures called { (p : K × V) × (w : V) × (slice_get (entries self.old) (index_of self.old place) ≡ Some p) × CalledToWrite F.FnMut f.old p result w f.new × (self.new ≡ with_write_at with_pair_value self.old place w) }
+        requires callable { (p : K × V) → slice_get (entries self.old) (index_of self.old place) ≡ Some p → TakesToWrite F.FnMut f.old p }
+        ensures { (p : K × V) × (w : V) × (slice_get (entries self.old) (index_of self.old place) ≡ Some p) × CalledToWrite F.FnMut f.old p result w f.new × (self.new ≡ with_write_at with_pair_value self.old place w) }
     {
         let (key, value) = self.parts_mut_at(place);
         f(key, value)

@@ -3,4 +3,4 @@ use Rattle.scc_play.proofs.Extras.{no_third_argument}
 use Rattle.scc_play.proofs.line.call_with.Goals as goal
 
 pub returns-in-Some-cut_at : goal.returns-in-Some-cut_at
-returns-in-Some-cut_at c = grind (arith, no_third_argument)
+returns-in-Some-cut_at g c = grind (arith, no_third_argument g.C.Named.names)

@@ -6,6 +6,6 @@ use Rattle.scc_play.proofs.Steps.{at_end}
 use Rattle.scc_play.proofs.script.parse_calls.Goals as goal
 
 pub returns : goal.returns
-returns c =
-    at_end c.loop-rest.calls.items c.loop-rest.number (lines_of c.loop-rest.rest.now) (lines_none c.loop-rest.rest.now (search rules))
+returns g c =
+    at_end g.C.Named.names c.loop-rest.calls.items c.loop-rest.number (lines_of c.loop-rest.rest.now) (lines_none c.loop-rest.rest.now (search rules))
     ∙ sym c.loop-rest.invariant.meaning

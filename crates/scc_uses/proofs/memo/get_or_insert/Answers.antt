@@ -9,6 +9,6 @@ use Rattle.scc_uses.proofs.memo.get_or_insert.Goals as goal
 pub returns-clause-stored : goal.returns-clause-stored
 returns-clause-stored c =
     let o = c.in_ok-entry.entry in
-    let h : FindsInstead nat_eq (entries c.args.values.now) c.args.key (Some (occupied_pair o)) (entries o.owned.now) =
+    let h : FindsInstead nat_eq (entries c.args.values.now) c.args.key (Some (occupied_pair o)) (entries o.guard.now) =
     finds-or_insert nat_eq_equiv c.args.values.now c.args.key c.entry_sync.result c.args.default o c.entry_sync.ensures.entry c.in_ok-entry.ensures.entry c.in_ok-entry.ensures.unique in
     search rules

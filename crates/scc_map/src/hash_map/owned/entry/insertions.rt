@@ -1,16 +1,19 @@
-//! The insertions of an entry. Each goes on at the place that the search found. Where an entry is occupied, `len` is called for its contract: no two keys are equal.
+//! The insertions of an entry of a borrowed map. Each goes on at the place that the search found. Where an entry is occupied, `len` is called for its contract: no two keys are equal.
 ghost use Rattle.std.specs.Prelude.{◌≡◌, IfOk, OnErr, IfErr};
 ghost use Rattle.std.specs.Borrow.{sem};
 ghost use Rattle.std.specs.Fn.{FnOnceTakesAt, FnOnceReturnsAt};
 ghost use Rattle.scc_table.specs.Contents.{key_hash};
 ghost use Rattle.scc_table.specs.Pairs.{HasRoom, IsUnique};
-ghost use Rattle.scc_map.specs.Entries.{Memory, entry_owned, entry_key, IsVacant, OrInserts, OrInsertsSome, RefusesSome, SetsEntry, rests_if_refused};
+ghost use Rattle.scc_map.specs.Entries.{Memory, held_map, entry_guard, entry_key, GrowsThrough, IsVacant, OrInserts, OrInsertsSome, RefusesSome, SetsEntry, rests_if_refused};
 
-use super::{Entry, OccupiedEntry, VacantEntry};
-use scc_table::{InsertError, Place};
+use super::OccupiedEntry;
+use crate::hash_map::held::{HeldEntry, HeldPlace, HeldVacant};
+use crate::hash_map::owned::Owned;
+use scc_table::InsertError;
 use std::hash::{BuildHasher, Hash};
+use std::marker::PhantomData;
 
-impl<'a, K: Eq + Hash, V, H: BuildHasher> Entry<'a, K, V, H> {
+impl<'a, K: Eq + Hash, V, H: BuildHasher> HeldPlace<&'a mut Owned<K, V, H>, (), K, V, H> {
     /// Inserts `default` where the entry is vacant, and answers the occupied entry. An occupied one stays as it is, and can't be refused.
     pub fn or_insert(self, default: V) -> Result<OccupiedEntry<'a, K, V, H>, InsertError<K, V>>
     where
@@ -18,32 +21,42 @@ impl<'a, K: Eq + Hash, V, H: BuildHasher> Entry<'a, K, V, H> {
         ensures entry { IfOk result (OrInserts self.entry default) }
         ensures refused { IfErr result (λ e. e ≡ Memory (entry_key self.entry, default)) }
         ensures vacant { OnErr result (IsVacant self.entry) }
-        ensures full { OnErr result (HasRoom (key_hash H.BuildHasher H.Hasher.Hasher K.hash_input (entry_owned self.entry).now) (entry_owned self.entry).now (entry_key self.entry) → ⊥) }
-        ensures unique { IfOk result (λ o. IsUnique K.eq o.owned.now) }
-        ensures* kept { sem 𝓛 (rests_if_refused K.row V.row H.row H.Hasher.row K.Hash H.BuildHasher H.Hasher.Hasher (entry_owned self.entry) result) }
+        ensures full { OnErr result (HasRoom (key_hash H.BuildHasher H.Hasher.Hasher K.hash_input (entry_guard self.entry).now) (entry_guard self.entry).now (entry_key self.entry) → ⊥) }
+        ensures growth { IfOk result (GrowsThrough (key_hash H.BuildHasher H.Hasher.Hasher K.hash_input (entry_guard self.entry).now) self.entry) }
+        ensures unique { IfOk result (λ o. IsUnique K.eq (held_map o)) }
+        ensures* kept { sem 𝓛 (rests_if_refused K.row V.row H.row H.Hasher.row K.Hash H.BuildHasher H.Hasher.Hasher (entry_guard self.entry) (entry_key self.entry) result) }
     {
         match self {
-            Entry::Occupied(entry) => {
-                let OccupiedEntry {
-                    owned,
-                    bucket,
-                    slot,
+            HeldPlace::Occupied(entry) => {
+                let HeldEntry {
+                    guard,
+                    place,
+                    rest,
+                    of,
                 } = entry;
                 drop(default);
-                let _ = owned.len();
-                Ok(OccupiedEntry {
-                    owned,
-                    bucket,
-                    slot,
+                let _ = guard.len();
+                Ok(HeldEntry {
+                    guard,
+                    place,
+                    rest,
+                    of,
                 })
             }
-            Entry::Vacant(entry) => {
-                let VacantEntry { owned, key, hash } = entry;
-                match owned.insert_new(hash, key, default) {
-                    Ok(place) => Ok(OccupiedEntry {
-                        owned,
-                        bucket: place.bucket,
-                        slot: place.slot,
+            HeldPlace::Vacant(entry) => {
+                let HeldVacant {
+                    guard,
+                    key,
+                    hash,
+                    rest,
+                    of: _,
+                } = entry;
+                match guard.insert_new(hash, key, default) {
+                    Ok(place) => Ok(HeldEntry {
+                        guard,
+                        place,
+                        rest,
+                        of: PhantomData,
                     }),
                     Err(pair) => Err(InsertError::Memory(pair)),
                 }
@@ -60,32 +73,42 @@ impl<'a, K: Eq + Hash, V, H: BuildHasher> Entry<'a, K, V, H> {
         ensures entry { IfOk result (OrInsertsSome self.entry (λ k v. F.post f v)) }
         ensures refused { IfErr result (RefusesSome self.entry (λ k v. F.post f v)) }
         ensures vacant { OnErr result (IsVacant self.entry) }
-        ensures full { OnErr result (HasRoom (key_hash H.BuildHasher H.Hasher.Hasher K.hash_input (entry_owned self.entry).now) (entry_owned self.entry).now (entry_key self.entry) → ⊥) }
-        ensures unique { IfOk result (λ o. IsUnique K.eq o.owned.now) }
-        ensures* kept { sem 𝓛 (rests_if_refused K.row V.row H.row H.Hasher.row K.Hash H.BuildHasher H.Hasher.Hasher (entry_owned self.entry) result) }
+        ensures full { OnErr result (HasRoom (key_hash H.BuildHasher H.Hasher.Hasher K.hash_input (entry_guard self.entry).now) (entry_guard self.entry).now (entry_key self.entry) → ⊥) }
+        ensures growth { IfOk result (GrowsThrough (key_hash H.BuildHasher H.Hasher.Hasher K.hash_input (entry_guard self.entry).now) self.entry) }
+        ensures unique { IfOk result (λ o. IsUnique K.eq (held_map o)) }
+        ensures* kept { sem 𝓛 (rests_if_refused K.row V.row H.row H.Hasher.row K.Hash H.BuildHasher H.Hasher.Hasher (entry_guard self.entry) (entry_key self.entry) result) }
     {
         match self {
-            Entry::Occupied(entry) => {
-                let OccupiedEntry {
-                    owned,
-                    bucket,
-                    slot,
+            HeldPlace::Occupied(entry) => {
+                let HeldEntry {
+                    guard,
+                    place,
+                    rest,
+                    of,
                 } = entry;
-                let _ = owned.len();
-                Ok(OccupiedEntry {
-                    owned,
-                    bucket,
-                    slot,
+                let _ = guard.len();
+                Ok(HeldEntry {
+                    guard,
+                    place,
+                    rest,
+                    of,
                 })
             }
-            Entry::Vacant(entry) => {
-                let VacantEntry { owned, key, hash } = entry;
+            HeldPlace::Vacant(entry) => {
+                let HeldVacant {
+                    guard,
+                    key,
+                    hash,
+                    rest,
+                    of: _,
+                } = entry;
                 let value = f();
-                match owned.insert_new(hash, key, value) {
-                    Ok(place) => Ok(OccupiedEntry {
-                        owned,
-                        bucket: place.bucket,
-                        slot: place.slot,
+                match guard.insert_new(hash, key, value) {
+                    Ok(place) => Ok(HeldEntry {
+                        guard,
+                        place,
+                        rest,
+                        of: PhantomData,
                     }),
                     Err(pair) => Err(InsertError::Memory(pair)),
                 }
@@ -102,32 +125,42 @@ impl<'a, K: Eq + Hash, V, H: BuildHasher> Entry<'a, K, V, H> {
         ensures entry { IfOk result (OrInsertsSome self.entry (FnOnceReturnsAt F.FnOnce f)) }
         ensures refused { IfErr result (RefusesSome self.entry (FnOnceReturnsAt F.FnOnce f)) }
         ensures vacant { OnErr result (IsVacant self.entry) }
-        ensures full { OnErr result (HasRoom (key_hash H.BuildHasher H.Hasher.Hasher K.hash_input (entry_owned self.entry).now) (entry_owned self.entry).now (entry_key self.entry) → ⊥) }
-        ensures unique { IfOk result (λ o. IsUnique K.eq o.owned.now) }
-        ensures* kept { sem 𝓛 (rests_if_refused K.row V.row H.row H.Hasher.row K.Hash H.BuildHasher H.Hasher.Hasher (entry_owned self.entry) result) }
+        ensures full { OnErr result (HasRoom (key_hash H.BuildHasher H.Hasher.Hasher K.hash_input (entry_guard self.entry).now) (entry_guard self.entry).now (entry_key self.entry) → ⊥) }
+        ensures growth { IfOk result (GrowsThrough (key_hash H.BuildHasher H.Hasher.Hasher K.hash_input (entry_guard self.entry).now) self.entry) }
+        ensures unique { IfOk result (λ o. IsUnique K.eq (held_map o)) }
+        ensures* kept { sem 𝓛 (rests_if_refused K.row V.row H.row H.Hasher.row K.Hash H.BuildHasher H.Hasher.Hasher (entry_guard self.entry) (entry_key self.entry) result) }
     {
         match self {
-            Entry::Occupied(entry) => {
-                let OccupiedEntry {
-                    owned,
-                    bucket,
-                    slot,
+            HeldPlace::Occupied(entry) => {
+                let HeldEntry {
+                    guard,
+                    place,
+                    rest,
+                    of,
                 } = entry;
-                let _ = owned.len();
-                Ok(OccupiedEntry {
-                    owned,
-                    bucket,
-                    slot,
+                let _ = guard.len();
+                Ok(HeldEntry {
+                    guard,
+                    place,
+                    rest,
+                    of,
                 })
             }
-            Entry::Vacant(entry) => {
-                let VacantEntry { owned, key, hash } = entry;
+            HeldPlace::Vacant(entry) => {
+                let HeldVacant {
+                    guard,
+                    key,
+                    hash,
+                    rest,
+                    of: _,
+                } = entry;
                 let value = f(&key);
-                match owned.insert_new(hash, key, value) {
-                    Ok(place) => Ok(OccupiedEntry {
-                        owned,
-                        bucket: place.bucket,
-                        slot: place.slot,
+                match guard.insert_new(hash, key, value) {
+                    Ok(place) => Ok(HeldEntry {
+                        guard,
+                        place,
+                        rest,
+                        of: PhantomData,
                     }),
                     Err(pair) => Err(InsertError::Memory(pair)),
                 }
@@ -142,32 +175,42 @@ impl<'a, K: Eq + Hash, V, H: BuildHasher> Entry<'a, K, V, H> {
         ensures entry { IfOk result (OrInsertsSome self.entry (λ k v. V.is_default v)) }
         ensures refused { IfErr result (RefusesSome self.entry (λ k v. V.is_default v)) }
         ensures vacant { OnErr result (IsVacant self.entry) }
-        ensures full { OnErr result (HasRoom (key_hash H.BuildHasher H.Hasher.Hasher K.hash_input (entry_owned self.entry).now) (entry_owned self.entry).now (entry_key self.entry) → ⊥) }
-        ensures unique { IfOk result (λ o. IsUnique K.eq o.owned.now) }
-        ensures* kept { sem 𝓛 (rests_if_refused K.row V.row H.row H.Hasher.row K.Hash H.BuildHasher H.Hasher.Hasher (entry_owned self.entry) result) }
+        ensures full { OnErr result (HasRoom (key_hash H.BuildHasher H.Hasher.Hasher K.hash_input (entry_guard self.entry).now) (entry_guard self.entry).now (entry_key self.entry) → ⊥) }
+        ensures growth { IfOk result (GrowsThrough (key_hash H.BuildHasher H.Hasher.Hasher K.hash_input (entry_guard self.entry).now) self.entry) }
+        ensures unique { IfOk result (λ o. IsUnique K.eq (held_map o)) }
+        ensures* kept { sem 𝓛 (rests_if_refused K.row V.row H.row H.Hasher.row K.Hash H.BuildHasher H.Hasher.Hasher (entry_guard self.entry) (entry_key self.entry) result) }
     {
         match self {
-            Entry::Occupied(entry) => {
-                let OccupiedEntry {
-                    owned,
-                    bucket,
-                    slot,
+            HeldPlace::Occupied(entry) => {
+                let HeldEntry {
+                    guard,
+                    place,
+                    rest,
+                    of,
                 } = entry;
-                let _ = owned.len();
-                Ok(OccupiedEntry {
-                    owned,
-                    bucket,
-                    slot,
+                let _ = guard.len();
+                Ok(HeldEntry {
+                    guard,
+                    place,
+                    rest,
+                    of,
                 })
             }
-            Entry::Vacant(entry) => {
-                let VacantEntry { owned, key, hash } = entry;
+            HeldPlace::Vacant(entry) => {
+                let HeldVacant {
+                    guard,
+                    key,
+                    hash,
+                    rest,
+                    of: _,
+                } = entry;
                 let value = V::default();
-                match owned.insert_new(hash, key, value) {
-                    Ok(place) => Ok(OccupiedEntry {
-                        owned,
-                        bucket: place.bucket,
-                        slot: place.slot,
+                match guard.insert_new(hash, key, value) {
+                    Ok(place) => Ok(HeldEntry {
+                        guard,
+                        place,
+                        rest,
+                        of: PhantomData,
                     }),
                     Err(pair) => Err(InsertError::Memory(pair)),
                 }
@@ -182,32 +225,41 @@ impl<'a, K: Eq + Hash, V, H: BuildHasher> Entry<'a, K, V, H> {
         ensures entry { IfOk result (SetsEntry self.entry value) }
         ensures refused { IfErr result (λ e. e ≡ Memory (entry_key self.entry, value)) }
         ensures vacant { OnErr result (IsVacant self.entry) }
-        ensures full { OnErr result (HasRoom (key_hash H.BuildHasher H.Hasher.Hasher K.hash_input (entry_owned self.entry).now) (entry_owned self.entry).now (entry_key self.entry) → ⊥) }
-        ensures unique { IfOk result (λ o. IsUnique K.eq o.owned.now) }
-        ensures* kept { sem 𝓛 (rests_if_refused K.row V.row H.row H.Hasher.row K.Hash H.BuildHasher H.Hasher.Hasher (entry_owned self.entry) result) }
+        ensures full { OnErr result (HasRoom (key_hash H.BuildHasher H.Hasher.Hasher K.hash_input (entry_guard self.entry).now) (entry_guard self.entry).now (entry_key self.entry) → ⊥) }
+        ensures growth { IfOk result (GrowsThrough (key_hash H.BuildHasher H.Hasher.Hasher K.hash_input (entry_guard self.entry).now) self.entry) }
+        ensures unique { IfOk result (λ o. IsUnique K.eq (held_map o)) }
+        ensures* kept { sem 𝓛 (rests_if_refused K.row V.row H.row H.Hasher.row K.Hash H.BuildHasher H.Hasher.Hasher (entry_guard self.entry) (entry_key self.entry) result) }
     {
         match self {
-            Entry::Occupied(entry) => {
-                let OccupiedEntry {
-                    owned,
-                    bucket,
-                    slot,
+            HeldPlace::Occupied(entry) => {
+                let HeldEntry {
+                    guard,
+                    place,
+                    rest,
+                    of,
                 } = entry;
-                let _old = std::mem::replace(owned.value_mut_at(Place { bucket, slot }), value);
-                let _ = owned.len();
-                Ok(OccupiedEntry {
-                    owned,
-                    bucket,
-                    slot,
+                let _old = guard.write_at(place, value);
+                Ok(HeldEntry {
+                    guard,
+                    place,
+                    rest,
+                    of,
                 })
             }
-            Entry::Vacant(entry) => {
-                let VacantEntry { owned, key, hash } = entry;
-                match owned.insert_new(hash, key, value) {
-                    Ok(place) => Ok(OccupiedEntry {
-                        owned,
-                        bucket: place.bucket,
-                        slot: place.slot,
+            HeldPlace::Vacant(entry) => {
+                let HeldVacant {
+                    guard,
+                    key,
+                    hash,
+                    rest,
+                    of: _,
+                } = entry;
+                match guard.insert_new(hash, key, value) {
+                    Ok(place) => Ok(HeldEntry {
+                        guard,
+                        place,
+                        rest,
+                        of: PhantomData,
                     }),
                     Err(pair) => Err(InsertError::Memory(pair)),
                 }

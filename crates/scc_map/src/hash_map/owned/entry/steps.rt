@@ -1,31 +1,33 @@
 //! Entries in the order of the map's list.
-ghost use Rattle.std.specs.Prelude.{◌≡◌, [], IfSome, IfNone, IfOk, IfErr};
+ghost use Rattle.std.specs.Prelude.{◌≡◌, [], IfSome, IfNone, IfOk, IfErr, false};
 ghost use Rattle.std.specs.Borrow.{sem};
 ghost use Rattle.scc_table.specs.Contents.{entries};
 ghost use Rattle.scc_table.specs.Pairs.{IsUnique};
-ghost use Rattle.scc_table.specs.Walks.{CalledOn};
-ghost use Rattle.scc_map.specs.Entries.{occupied_pair, occupied_front, occupied_back, rests_if_none};
+ghost use Rattle.scc_table.specs.Walks.{CalledOn, CallableWhile};
+ghost use Rattle.scc_map.specs.Entries.{held_map, occupied_pair, occupied_front, occupied_back, rests_if_none};
 ghost use Rattle.scc_map.specs.EntrySteps.{StandsIn, IsNext, IsNextPastRemoved, rests_removed};
 ghost use Rattle.scc_map.specs.MapWalks.{PassesAt, PassesNone};
 
 use super::OccupiedEntry;
+use crate::hash_map::held::HeldEntry;
 use crate::hash_map::owned::Owned;
-use scc_table::Place;
 use std::hash::{BuildHasher, Hash};
+use std::marker::PhantomData;
 
 impl<K: Eq + Hash, V, H: BuildHasher> Owned<K, V, H> {
     /// The first entry of the map's list, or None where the map is empty.
     pub fn begin_sync(&mut self) -> Option<OccupiedEntry<'_, K, V, H>>
-        ensures same_map { IfSome result (λ o. o.owned.ghost_name ≡ self.entry.ghost_name) }
+        ensures same_map { IfSome result (λ o. o.guard.ghost_name ≡ self.entry.ghost_name) }
         ensures first { IfSome result (λ o. StandsIn self.old o × (occupied_front o ≡ [])) }
         ensures empty { IfNone result (entries self.old ≡ []) }
         ensures* kept { sem 𝓛 (rests_if_none K.row V.row H.row H.Hasher.row K.Hash H.BuildHasher H.Hasher.Hasher self.entry result) }
     {
         match self.table.first_place() {
-            Some(place) => Some(OccupiedEntry {
-                owned: self,
-                bucket: place.bucket,
-                slot: place.slot,
+            Some(place) => Some(HeldEntry {
+                guard: self,
+                place,
+                rest: (),
+                of: PhantomData,
             }),
             None => None,
         }
@@ -33,41 +35,44 @@ impl<K: Eq + Hash, V, H: BuildHasher> Owned<K, V, H> {
 
     /// The first entry of the map's list on whose pair `p` answers true, or None where there is none. `p` is called on the pairs in the order of the list, up to that one.
     pub fn any_sync<P: FnMut(&K, &V) -> bool>(&mut self, p: P) -> Option<OccupiedEntry<'_, K, V, H>>
-        requires { P.IsAlwaysCallable p }
-        ensures same_map { IfSome result (λ o. o.owned.ghost_name ≡ self.entry.ghost_name) }
+        requires { CallableWhile P.FnMut false p (entries self.old) }
+        ensures same_map { IfSome result (λ o. o.guard.ghost_name ≡ self.entry.ghost_name) }
         ensures here { IfSome result (StandsIn self.old) }
         ensures first { IfSome result (λ o. PassesAt (CalledOn P.FnMut) p (occupied_front o) (occupied_pair o)) }
         ensures none { IfNone result (PassesNone (CalledOn P.FnMut) p (entries self.old)) }
         ensures* kept { sem 𝓛 (rests_if_none K.row V.row H.row H.Hasher.row K.Hash H.BuildHasher H.Hasher.Hasher self.entry result) }
     {
         match self.first_passing(p) {
-            Some(place) => Some(OccupiedEntry {
-                owned: self,
-                bucket: place.bucket,
-                slot: place.slot,
+            Some(place) => Some(HeldEntry {
+                guard: self,
+                place,
+                rest: (),
+                of: PhantomData,
             }),
             None => None,
         }
     }
 }
 
-impl<'a, K: Eq + Hash, V, H: BuildHasher> OccupiedEntry<'a, K, V, H> {
+impl<'a, K: Eq + Hash, V, H: BuildHasher> HeldEntry<&'a mut Owned<K, V, H>, (), K, V, H> {
     /// The entry that stands next in the map's list, or None where this one is the last. Nothing is resized.
     pub fn next_sync(self) -> Option<OccupiedEntry<'a, K, V, H>>
         ensures next { IfSome result (IsNext self.entry) }
         ensures last { IfNone result (occupied_back self.entry ≡ []) }
-        ensures* kept { sem 𝓛 (rests_if_none K.row V.row H.row H.Hasher.row K.Hash H.BuildHasher H.Hasher.Hasher self.entry.owned result) }
+        ensures* kept { sem 𝓛 (rests_if_none K.row V.row H.row H.Hasher.row K.Hash H.BuildHasher H.Hasher.Hasher self.entry.guard result) }
     {
-        let OccupiedEntry {
-            owned,
-            bucket,
-            slot,
+        let HeldEntry {
+            guard,
+            place,
+            rest,
+            of: _,
         } = self;
-        match owned.next_place(Place { bucket, slot }) {
-            Some(place) => Some(OccupiedEntry {
-                owned,
-                bucket: place.bucket,
-                slot: place.slot,
+        match guard.next_place(place) {
+            Some(place) => Some(HeldEntry {
+                guard,
+                place,
+                rest,
+                of: PhantomData,
             }),
             None => None,
         }
@@ -77,23 +82,25 @@ impl<'a, K: Eq + Hash, V, H: BuildHasher> OccupiedEntry<'a, K, V, H> {
     pub fn remove_and_sync(self) -> Result<((K, V), OccupiedEntry<'a, K, V, H>), (K, V)>
         ensures pair { IfOk result (λ r. r.0 ≡ occupied_pair self.entry) }
         ensures next { IfOk result (λ r. IsNextPastRemoved self.entry r.1) }
-        ensures unique { IfOk result (λ r. IsUnique K.eq r.1.owned.now) }
+        ensures unique { IfOk result (λ r. IsUnique K.eq (held_map r.1)) }
         ensures last { IfErr result (λ p. (p ≡ occupied_pair self.entry) × (occupied_back self.entry ≡ [])) }
         ensures* kept { sem 𝓛 (rests_removed K.row V.row H.row H.Hasher.row K.Hash H.BuildHasher H.Hasher.Hasher self.entry result) }
     {
-        let OccupiedEntry {
-            owned,
-            bucket,
-            slot,
+        let HeldEntry {
+            guard,
+            place,
+            rest,
+            of: _,
         } = self;
-        let (pair, next) = owned.take_and_step(Place { bucket, slot });
+        let (pair, next) = guard.take_and_step(place);
         match next {
             Some(place) => Ok((
                 pair,
-                OccupiedEntry {
-                    owned,
-                    bucket: place.bucket,
-                    slot: place.slot,
+                HeldEntry {
+                    guard,
+                    place,
+                    rest,
+                    of: PhantomData,
                 },
             )),
             None => Err(pair),

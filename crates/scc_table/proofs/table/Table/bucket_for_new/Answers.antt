@@ -1,6 +1,6 @@
-use Rattle.std.proofs.Common.{◌≡◌, ◌<◌, ap, ◌∙◌, length, rules, arith, Result, Ok, Err}
+use Rattle.std.proofs.Common.{◌≡◌, ◌<◌, ap, sym, ◌∙◌, length, rules, arith, Result, Ok, Err}
 use Rattle.std.specs.Result.{OnErr}
-use Rattle.scc_table.specs.Contents.{bucket_count}
+use Rattle.scc_table.specs.Contents.{bucket_count, key_hash, HasRoomAt}
 use Rattle.scc_table.specs.Hashing.{hash_of}
 use Rattle.scc_table.specs.Routing.{bucket_number}
 use Rattle.scc_table.proofs.Counting.{count-in_bucket}
@@ -54,3 +54,39 @@ returns-clause-routed g c =
 
 pub returns-clause-unique : goal.returns-clause-unique
 returns-clause-unique g c = rw (entries-view c.self.inside.buckets.items _ c.args.self.now c.self.view_is) c.self.invariant.unique
+
+pub returns-then-count-eq0-clause-due : goal.returns-then-count-eq0-clause-due
+returns-then-count-eq0-clause-due g c =
+    let none : bucket_count c.args.self.now ≡ 0 = rw (count-view c.self.inside.buckets.items _ c.args.self.now c.self.view_is) (search rules) in
+    λ some. absurd (omega arith)
+
+pub returns-clause-due : goal.returns-clause-due
+returns-clause-due g c =
+    let t = c.self.inside in
+    let bs = t.buckets.items in
+    let i = c.bucket_index-bucket.result in
+    let l : i < length bs = search rules in
+    let len : c.len-count.result ≡ length bs = search rules in
+    let routed : i ≡ bucket_number t.skipped (length bs) c.args.hash = c.bucket_index-bucket.ensures.value ∙ ap (λ n. bucket_number t.skipped n c.args.hash) len in
+    let held = count-in_bucket (λ e. hash_of g.H.BuildHasher g.H.Hasher.Hasher c.self.inside.hasher (g.E.Key.Hash.hash_input (g.E.Keyed.key_of e))) t.skipped t.length t.overflowing i bs c.index.result.now c.self.invariant.table l c.index.ensures in
+    let room : HasRoomAt (key_hash g.H.BuildHasher g.H.Hasher.Hasher g.E.Key.Hash.hash_input c.args.self.now) g.E.Keyed.key_of c.args.self.now c.args.hash =
+    rw (entries-view bs _ c.args.self.now c.self.view_is, count-view bs _ c.args.self.now c.self.view_is, settings-view bs _ c.args.self.now c.self.view_is, ← routed, held) (omega arith, omega arith) in
+    λ _ full. absurd (full room)
+
+pub returns-clause-first : goal.returns-clause-first
+returns-clause-first g c =
+    let count = count-view c.self.inside.buckets.items _ c.args.self.now c.self.view_is in
+    let len : c.len-count.result ≡ length c.self.inside.buckets.items = search rules in
+    record { made = λ none. absurd (c.if-count-eq0.false (len ∙ sym count ∙ none)) }
+
+pub returns-clause-bare : goal.returns-clause-bare
+returns-clause-bare g c =
+    let count = count-view c.self.inside.buckets.items _ c.args.self.now c.self.view_is in
+    let len : c.len-count.result ≡ length c.self.inside.buckets.items = search rules in
+    λ none. absurd (c.if-count-eq0.false (len ∙ sym count ∙ none))
+
+pub returns-then-len-ge32-clause-bare : goal.returns-then-len-ge32-clause-bare
+returns-then-len-ge32-clause-bare g c =
+    let count = count-view c.self.inside.buckets.items _ c.args.self.now c.self.view_is in
+    let len : c.len-count.result ≡ length c.self.inside.buckets.items = search rules in
+    λ none. absurd (c.if-count-eq0.false (len ∙ sym count ∙ none))

@@ -25,7 +25,7 @@ invariant_of-result g c =
     kept-fresh _ _ _ c.self.inside.skipped _ (length bs) 0 0 c.in-Ok.buckets.items c.in-Ok.ensures.empty (c.in-Ok.ensures.count ∙ len) array c.self.invariant.few_bits (omega (arith, array.most, len)) refl refl
 
 pub returns-in-Ok-clause-entries : goal.returns-in-Ok-clause-entries
-returns-in-Ok-clause-entries g c = entries-fresh c.in-Ok.buckets.items _ c.in-Ok.ensures.empty
+returns-in-Ok-clause-entries g c = entries-fresh c.in-Ok.buckets.items _ _ c.in-Ok.ensures.empty
 
 pub returns-in-Ok-clause-buckets : goal.returns-in-Ok-clause-buckets
 returns-in-Ok-clause-buckets g c =

@@ -3,8 +3,8 @@ use Rattle.scc_table.proofs.Powers.{double-array}
 use Rattle.scc_table.proofs.Resizes.{regrouped-resizes}
 use Rattle.scc_table.proofs.table.Table.grow.Goals as goal
 
-pub resize_to-requires : goal.resize_to-requires
-resize_to-requires g c = double-array c.bucket_count-count.result c.bucket_count-count.ensures.lawful (omega (arith, c.requires, c.bucket_count-count.ensures.count)) (omega arith)
+pub resize_to-requires-clause-array : goal.resize_to-requires-clause-array
+resize_to-requires-clause-array g c = double-array c.bucket_count-count.result c.bucket_count-count.ensures.lawful (omega (arith, c.requires, c.bucket_count-count.ensures.count)) (omega arith)
 
 pub returns-in-Ok-clause-rests : goal.returns-in-Ok-clause-rests
 returns-in-Ok-clause-rests g c =

@@ -1,4 +1,4 @@
-use Rattle.std.proofs.Common.{◌≡◌, ◌+◌, ◌^◌, ◌<◌, ◌≤◌, ◌∙◌, sym, ap, rules, arith, length, refl, set, length-append, length-set}
+use Rattle.std.proofs.Common.{◌≡◌, ◌+◌, ◌-◌, ◌^◌, ◌<◌, ◌≤◌, ◌∙◌, sym, ap, rules, arith, length, refl, set, length-append, length-set}
 use Rattle.scc_table.specs.Hashing.{hash_of}
 use Rattle.scc_table.specs.Routing.{bucket_number, tag_of}
 use Rattle.scc_bucket.specs.Shelf.{Shelf, with_entry}
@@ -6,12 +6,12 @@ use Rattle.scc_table.specs.Contents.{entries}
 use Rattle.scc_table.proofs.Inserts.{inserted-at, inserted-table, inserted-holds, overflow-after, overflow-full, refused-unchanged, refused-entries, refused-table, unique-inserted, table-bound, bucket-bound, read-again}
 use native.Mathlib.Decide.{dec_lt}
 use Rattle.scc_table.proofs.Counting.{count-in_bucket}
-use Rattle.scc_table.proofs.Views.{entries-view, count-view, settings-view}
+use Rattle.scc_table.proofs.Views.{entries-view, count-view, settings-view, refused-view}
 use Rattle.scc_table.proofs.table.Table.insert_in.Goals as goal
-use Rattle.scc_table.proofs.table.Table.insert_in.Goals.{else-is_full-via-then-is_full+else-self, else-is_full-via-else-is_full}
+use Rattle.scc_table.proofs.table.Table.insert_in.Goals.{else-is_full-via-then-is_full+else-is_overflow_full, else-is_full-via-else-is_full}
 
-pub returns-then-self-clause-full : goal.returns-then-self-clause-full
-returns-then-self-clause-full g c =
+pub returns-then-is_overflow_full-clause-full : goal.returns-then-is_overflow_full-clause-full
+returns-then-is_overflow_full-clause-full g c =
     let t = c.self.inside in
     let bs = t.buckets.items in
     let i = c.args.bucket in
@@ -24,8 +24,8 @@ returns-then-self-clause-full g c =
     let full : 32 ≤ length c.index.result.now.slots = search rules in
     rw (entries-view bs _ c.args.self.now c.self.view_is, count, settings-view bs _ c.args.self.now c.self.view_is, ← routed, held) (λ room. absurd (omega (arith, room.1, length-append c.index.result.now.slots c.index.result.now.overflow)))
 
-pub returns-then-self-clause-unique : goal.returns-then-self-clause-unique
-returns-then-self-clause-unique g c =
+pub returns-then-is_overflow_full-clause-unique : goal.returns-then-is_overflow_full-clause-unique
+returns-then-is_overflow_full-clause-unique g c =
     rw (entries-view c.self.inside.buckets.items _ c.args.self.now c.self.view_is) c.self.invariant.unique
 
 pub index-requires : goal.index-requires
@@ -78,7 +78,7 @@ invariant_of-self g c =
                 let same : c.index.result.now ≡ b = read-again bs i c.index.result.now b l c.index.ensures c.index_mut.ensures.value in
                 let full : 32 ≤ length c.index.result.now.slots = rw same (overflow-full (λ e. hash_of g.H.BuildHasher g.H.Hasher.Hasher c.self.inside.hasher (g.E.Key.Hash.hash_input (g.E.Keyed.key_of e))) t.skipped t.length t.overflowing i bs c.self.invariant.table _ c.args.self.now c.self.view_is b l c.index_mut.ensures.value c.insert.new.self c.args.entry c.in-Ok.slot stored c.in-Ok.ensures.ok.0 (omega arith)) in
                 absurd (search rules)
-            | else-is_full-via-then-is_full+else-self w ↦ omega arith
+            | else-is_full-via-then-is_full+else-is_overflow_full w ↦ let less : t.overflowing < 2 ^ 62 - 1 = search rules in omega arith
           ]
     ] in
     record {
@@ -183,3 +183,9 @@ pub returns-in-Err-clause-buckets : goal.returns-in-Err-clause-buckets
 returns-in-Err-clause-buckets g c =
     let bs = c.self.inside.buckets.items in
     count-view (set bs c.args.bucket c.insert.new.self) _ _ refl ∙ length-set bs c.args.bucket c.insert.new.self ∙ sym (count-view bs _ c.args.self.now c.self.view_is)
+
+pub returns-in-Ok-clause-refused : goal.returns-in-Ok-clause-refused
+returns-in-Ok-clause-refused g c = refused-view _ _ _ refl ∙ sym (refused-view c.self.inside.buckets.items _ c.args.self.now c.self.view_is)
+
+pub returns-in-Err-clause-refused : goal.returns-in-Err-clause-refused
+returns-in-Err-clause-refused g c = refused-view _ _ _ refl ∙ sym (refused-view c.self.inside.buckets.items _ c.args.self.now c.self.view_is)

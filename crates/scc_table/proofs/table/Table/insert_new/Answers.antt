@@ -1,4 +1,4 @@
-use Rattle.std.proofs.Common.{Result, Ok, Err, ap, ◌∙◌}
+use Rattle.std.proofs.Common.{Result, Ok, Err, ap, ◌∙◌, arith}
 use Rattle.std.specs.Result.{IfOk, OnErr}
 use Rattle.scc_table.specs.Contents.{entries, bucket_count, key_hash, HasRoomAt}
 use Rattle.scc_table.proofs.Resizes.{absent-permuted, rests-resizes, rests-inserted}
@@ -33,3 +33,11 @@ pub returns-in-Ok-clause-kept : goal.returns-in-Ok-clause-kept
 returns-in-Ok-clause-kept g c = λ room.
     let had : HasRoomAt (key_hash g.H.BuildHasher g.H.Hasher.Hasher g.E.Key.Hash.hash_input c.args.self.now) g.E.Keyed.key_of c.args.self.now c.args.hash = rw c.requires.hashed room in
     c.insert_in.ensures.buckets ∙ ap bucket_count (c.bucket_for_new.ensures.still had)
+
+pub returns-in-Ok-clause-none : goal.returns-in-Ok-clause-none
+returns-in-Ok-clause-none g c =
+    on_err c.insert_in.result
+    (λ full none.
+    let bare = c.bucket_for_new.ensures.bare none in
+    absurd (full (omega (arith, c.in-Ok.ensures.within), rw bare (omega arith))))
+    c.insert_in.ensures.full

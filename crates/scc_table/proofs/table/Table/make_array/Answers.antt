@@ -1,5 +1,7 @@
 use Rattle.std.proofs.Common.{refl, sym, rules}
 use Rattle.scc_table.specs.Contents.{settings_of}
+use Rattle.scc_table.specs.Tables.{AllEmpty}
+use Rattle.scc_table.proofs.Bounds.{resized-fresh}
 use Rattle.scc_table.proofs.Finding.{no-entries}
 use Rattle.scc_table.proofs.Making.{counts-none, kept-fresh, entries-fresh}
 use Rattle.scc_table.proofs.Views.{count-view, settings-view}
@@ -28,7 +30,7 @@ returns-clause-entries g c =
     no-entries c.self.inside.buckets.items _ c.args.self.now c.self.view_is none
 
 pub returns-clause-still : goal.returns-clause-still
-returns-clause-still g c = entries-fresh c.replace-old.new.dest.items _ (rw c.replace-old.ensures.after c.in_ok-buckets.ensures.empty)
+returns-clause-still g c = entries-fresh c.replace-old.new.dest.items _ _ (rw c.replace-old.ensures.after c.in_ok-buckets.ensures.empty)
 
 pub returns-clause-size : goal.returns-clause-size
 returns-clause-size g c =
@@ -46,3 +48,11 @@ pub returns-in_err-buckets-clause-still : goal.returns-in_err-buckets-clause-sti
 returns-in_err-buckets-clause-still g c =
     let none = rw (count-view c.self.inside.buckets.items _ c.args.self.now c.self.view_is) at c.requires in
     no-entries c.self.inside.buckets.items _ c.args.self.now c.self.view_is none
+
+pub returns-clause-resized : goal.returns-clause-resized
+returns-clause-resized g c =
+    let bs = c.replace-old.new.dest.items in
+    let none = rw (count-view c.self.inside.buckets.items _ c.args.self.now c.self.view_is) at c.requires in
+    let nothing = no-entries c.self.inside.buckets.items _ c.args.self.now c.self.view_is none in
+    let fresh : AllEmpty bs = rw c.replace-old.ensures.after c.in_ok-buckets.ensures.empty in
+    resized-fresh _ _ bs _ c.args.self.now nothing fresh (rw (c.replace-old.ensures.after, c.in_ok-buckets.ensures.count) c.buckets_for-count.ensures.array) (sym (settings-view c.self.inside.buckets.items _ c.args.self.now c.self.view_is))

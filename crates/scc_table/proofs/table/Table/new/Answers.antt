@@ -1,6 +1,9 @@
-use Rattle.std.proofs.Common.{refl, arith}
+use Rattle.std.proofs.Common.{refl, arith, inl, []}
 use Rattle.scc_table.specs.Contents.{entries, bucket_count, settings_of}
-use Rattle.scc_table.proofs.Making.{kept-none}
+use Rattle.scc_table.specs.Hashing.{hash_of}
+use Rattle.scc_table.proofs.Bounds.{bounded-fresh, listed-view}
+use Rattle.scc_table.proofs.Views.{settings-view}
+use Rattle.scc_table.proofs.Making.{kept-none, none-empty, table-empty}
 use Rattle.scc_table.proofs.table.Table.new.Goals as goal
 
 pub invariant_of-result : goal.invariant_of-result
@@ -17,3 +20,7 @@ returns-clause-buckets g c = rw c.new.ensures.items refl
 pub returns-clause-settings : goal.returns-clause-settings
 unfolding settings_of
 returns-clause-settings g c = refl
+
+pub returns-clause-listed : goal.returns-clause-listed
+returns-clause-listed g c =
+    rw c.new.ensures.items (rw (settings-view [] _ _ refl) (listed-view _ 0 0 [] _ _ refl (table-empty (λ e. hash_of g.H.BuildHasher g.H.Hasher.Hasher c.args.hasher (g.E.Key.Hash.hash_input (g.E.Keyed.key_of e))) c.args.skipped [] none-empty (inl refl)) (bounded-fresh _ [] _ none-empty)))

@@ -1,9 +1,9 @@
-use Rattle.std.proofs.Common.{◌≡◌, ap, sym, ◌∙◌, length, rules, arith, refl}
+use Rattle.std.proofs.Common.{◌≡◌, ap, sym, ◌∙◌, length, rules, arith, refl, false}
 use Rattle.std.specs.List.{flat_map, sum_by}
 use Rattle.scc_table.specs.Hashing.{hash_of}
 use Rattle.scc_bucket.specs.Shelf.{shelf_entries}
-use Rattle.scc_table.proofs.Refill.{room-same, poured-same, spilled-few, table-after, unique-after, regrouped, permuted-view, count-entries}
-use Rattle.scc_table.proofs.Views.{entries-view, settings-view}
+use Rattle.scc_table.proofs.Refill.{room-same, poured-same, spilled-few, spilled-none, table-after, unique-after, regrouped, permuted-view, count-entries}
+use Rattle.scc_table.proofs.Views.{entries-view, settings-view, refused-view, spilled-view}
 use Rattle.scc_table.proofs.table.Table.refill.Goals as goal
 
 pub regroup-requires-clause-room : goal.regroup-requires-clause-room
@@ -47,7 +47,7 @@ returns-clause-lists g c =
     let poured = poured-same (λ e. hash_of g.H.BuildHasher g.H.Hasher.Hasher c.self.inside.hasher (g.E.Key.Hash.hash_input (g.E.Keyed.key_of e))) c.self.inside.skipped _ _ c.replace-old.new.dest.items c.args.fresh.items c.regroup.new.fresh.items (flat_map shelf_entries c.replace-old.result.items) (flat_map shelf_entries bs)
     count (ap (λ v. v.items) c.replace-old.ensures.after) (ap (λ v. flat_map shelf_entries v.items) c.replace-old.ensures.value) c.regroup.ensures in
     rw (settings-view bs _ c.args.self.now c.self.view_is)
-    (regrouped (λ e. hash_of g.H.BuildHasher g.H.Hasher.Hasher c.self.inside.hasher (g.E.Key.Hash.hash_input (g.E.Keyed.key_of e))) (length c.args.fresh.items) bs c.args.fresh.items c.regroup.new.fresh.items _ c.args.self.now c.self.view_is poured c.requires.empty refl)
+    (regrouped (λ e. hash_of g.H.BuildHasher g.H.Hasher.Hasher c.self.inside.hasher (g.E.Key.Hash.hash_input (g.E.Keyed.key_of e))) (length c.args.fresh.items) bs c.args.fresh.items c.regroup.new.fresh.items _ c.args.self.now c.self.view_is poured c.requires.empty refl false)
 
 pub returns-clause-same : goal.returns-clause-same
 returns-clause-same g c =
@@ -55,7 +55,7 @@ returns-clause-same g c =
     let count : c.len-count.result ≡ length c.args.fresh.items = search rules in
     let poured = poured-same (λ e. hash_of g.H.BuildHasher g.H.Hasher.Hasher c.self.inside.hasher (g.E.Key.Hash.hash_input (g.E.Keyed.key_of e))) c.self.inside.skipped _ _ c.replace-old.new.dest.items c.args.fresh.items c.regroup.new.fresh.items (flat_map shelf_entries c.replace-old.result.items) (flat_map shelf_entries bs)
     count (ap (λ v. v.items) c.replace-old.ensures.after) (ap (λ v. flat_map shelf_entries v.items) c.replace-old.ensures.value) c.regroup.ensures in
-    permuted-view (λ e. hash_of g.H.BuildHasher g.H.Hasher.Hasher c.self.inside.hasher (g.E.Key.Hash.hash_input (g.E.Keyed.key_of e))) (length c.args.fresh.items) bs c.args.fresh.items c.regroup.new.fresh.items _ c.args.self.now c.self.view_is poured c.requires.empty refl
+    permuted-view (λ e. hash_of g.H.BuildHasher g.H.Hasher.Hasher c.self.inside.hasher (g.E.Key.Hash.hash_input (g.E.Keyed.key_of e))) (length c.args.fresh.items) bs c.args.fresh.items c.regroup.new.fresh.items _ c.args.self.now c.self.view_is poured c.requires.empty refl false
 
 pub returns-clause-unique : goal.returns-clause-unique
 returns-clause-unique g c =
@@ -65,3 +65,15 @@ returns-clause-unique g c =
     count (ap (λ v. v.items) c.replace-old.ensures.after) (ap (λ v. flat_map shelf_entries v.items) c.replace-old.ensures.value) c.regroup.ensures in
     rw (entries-view c.regroup.new.fresh.items _ _ refl)
     (unique-after (λ e. hash_of g.H.BuildHasher g.H.Hasher.Hasher c.self.inside.hasher (g.E.Key.Hash.hash_input (g.E.Keyed.key_of e))) c.self.inside.skipped (length c.args.fresh.items) c.args.fresh.items c.regroup.new.fresh.items (flat_map shelf_entries bs) poured c.requires.empty refl g.met.E.Key.Eq.laws g.E.Keyed.key_of c.self.invariant.unique)
+
+pub returns-clause-down : goal.returns-clause-down
+returns-clause-down g c = refused-view c.regroup.new.fresh.items _ _ refl
+
+pub returns-clause-bounded : goal.returns-clause-bounded
+returns-clause-bounded g c =
+    let bs = c.self.inside.buckets.items in
+    let count : c.len-count.result ≡ length c.args.fresh.items = search rules in
+    let poured = poured-same (λ e. hash_of g.H.BuildHasher g.H.Hasher.Hasher c.self.inside.hasher (g.E.Key.Hash.hash_input (g.E.Keyed.key_of e))) c.self.inside.skipped _ _ c.replace-old.new.dest.items c.args.fresh.items c.regroup.new.fresh.items (flat_map shelf_entries c.replace-old.result.items) (flat_map shelf_entries bs)
+    count (ap (λ v. v.items) c.replace-old.ensures.after) (ap (λ v. flat_map shelf_entries v.items) c.replace-old.ensures.value) c.regroup.ensures in
+    rw (spilled-view c.regroup.new.fresh.items _ _ refl, settings-view bs _ c.args.self.now c.self.view_is, entries-view bs _ c.args.self.now c.self.view_is)
+    (spilled-none (λ e. hash_of g.H.BuildHasher g.H.Hasher.Hasher c.self.inside.hasher (g.E.Key.Hash.hash_input (g.E.Keyed.key_of e))) c.self.inside.skipped (length c.args.fresh.items) c.args.fresh.items c.regroup.new.fresh.items (flat_map shelf_entries bs) poured c.requires.empty refl)

@@ -1,18 +1,18 @@
-use Rattle.std.proofs.Common.{arith}
-use Rattle.scc_table.proofs.Refill.{count-entries}
-use Rattle.scc_table.proofs.Views.{entries-view}
+use Rattle.std.proofs.Common.{refl, sym, ◌∙◌}
+use Rattle.scc_table.proofs.Views.{entries-view, count-view, settings-view, refused-view}
 use Rattle.scc_table.proofs.table.Table.resize_to.Goals as goal
 
-pub returns-then-self-ge-OVERFLOW_LIMIT-clause-unique : goal.returns-then-self-ge-OVERFLOW_LIMIT-clause-unique
-returns-then-self-ge-OVERFLOW_LIMIT-clause-unique g c = rw (entries-view c.self.inside.buckets.items _ c.args.self.now c.self.view_is) c.self.invariant.unique
+pub returns-in-Err-clause-err : goal.returns-in-Err-clause-err
+returns-in-Err-clause-err g c =
+    let bs = c.self.inside.buckets.items in
+    record {
+      exact = entries-view bs _ _ refl ∙ sym (entries-view bs _ c.args.self.now c.self.view_is);
+      buckets = count-view bs _ _ refl ∙ sym (count-view bs _ c.args.self.now c.self.view_is);
+      settings = settings-view bs _ _ refl ∙ sym (settings-view bs _ c.args.self.now c.self.view_is);
+    }
 
-pub fresh_for-requires-clause-few : goal.fresh_for-requires-clause-few
-fresh_for-requires-clause-few g c =
-    let counted = count-entries _ _ _ _ c.self.inside.buckets.items _ c.args.self.now c.self.view_is c.self.invariant.table in omega arith
+pub returns-in-Err-clause-up : goal.returns-in-Err-clause-up
+returns-in-Err-clause-up g c = refused-view c.self.inside.buckets.items _ _ refl
 
-pub returns-in_err-fresh-clause-unique : goal.returns-in_err-fresh-clause-unique
-returns-in_err-fresh-clause-unique g c = rw (entries-view c.self.inside.buckets.items _ c.args.self.now c.self.view_is) c.self.invariant.unique
-
-pub refill-requires-clause-few : goal.refill-requires-clause-few
-refill-requires-clause-few g c =
-    let counted = count-entries _ _ _ _ c.self.inside.buckets.items _ c.args.self.now c.self.view_is c.self.invariant.table in omega arith
+pub returns-in-Err-clause-unique : goal.returns-in-Err-clause-unique
+returns-in-Err-clause-unique g c = rw (entries-view c.self.inside.buckets.items _ _ refl) c.self.invariant.unique

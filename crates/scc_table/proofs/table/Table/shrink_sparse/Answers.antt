@@ -1,5 +1,7 @@
-use Rattle.std.proofs.Common.{inr, arith}
-use Rattle.scc_table.proofs.Resizes.{regrouped-shrunk}
+use Rattle.std.proofs.Common.{◌∙◌, inr, arith}
+use Rattle.std.proofs.lemmas.List.Sorted.{length_permutation}
+use Rattle.scc_table.specs.Contents.{entries}
+use Rattle.scc_table.proofs.Resizes.{regrouped-shrunk, shrinks-due}
 use Rattle.scc_table.proofs.table.Table.shrink_sparse.Goals as goal
 
 pub overflow_mul-len : goal.overflow_mul-len
@@ -18,3 +20,15 @@ returns-in-Ok-clause-shrinks g c =
     let fitting = rw c.len.ensures.len at c.buckets_for-2.ensures.size in
     let lists = rw c.max-count.ensures at c.in-Ok.ensures.lists in
     inr (regrouped-shrunk _ c.buckets_for.result c.buckets_for-2.result c.args.self.now c.resize_to.new.self lists c.in-Ok.ensures.same c.buckets_for.ensures.array c.buckets_for-2.ensures.array least fitting (omega (arith, c.minimum.ensures.value, c.minimum.ensures.most)) c.requires (omega (arith, c.max-count.ensures, c.bucket_count-present.ensures.count)))
+
+pub returns-then-count-present-clause-due : goal.returns-then-count-present-clause-due
+returns-then-count-present-clause-due g c =
+    let least = rw c.minimum.ensures.value at c.buckets_for.ensures.size in
+    let fitting = rw c.len.ensures.len at c.buckets_for-2.ensures.size in
+    shrinks-due c.buckets_for.result c.buckets_for-2.result c.args.self.now c.args.self.now least fitting (λ less. absurd (omega (arith, c.max-count.ensures, c.bucket_count-present.ensures.count)))
+
+pub returns-in-Ok-clause-due : goal.returns-in-Ok-clause-due
+returns-in-Ok-clause-due g c =
+    let least = rw (c.minimum.ensures.value, ← c.in-Ok.ensures.lists.settings) at c.buckets_for.ensures.size in
+    let fitting = rw (c.len.ensures.len, ← length_permutation (entries c.args.self.now) (entries c.resize_to.new.self) c.in-Ok.ensures.same) at c.buckets_for-2.ensures.size in
+    shrinks-due c.buckets_for.result c.buckets_for-2.result c.args.self.now c.resize_to.new.self least fitting (λ _. c.in-Ok.ensures.lists.count ∙ c.max-count.ensures)

@@ -1,12 +1,12 @@
-use Rattle.std.proofs.Common.{drop, Bool}
+use Rattle.std.proofs.Common.{drop, Bool, true}
 use Rattle.std.specs.List.{flat_map}
 use Rattle.scc_table.specs.Contents.{entries}
 use Rattle.scc_bucket.specs.Shelf.{shelf_entries}
-use Rattle.scc_bucket.specs.Walks.{CalledOn, Walks}
+use Rattle.scc_bucket.specs.Walks.{CalledOn, CallableWhile, Walks}
 use Rattle.scc_table.proofs.walks.Table+tuple2+K+V+H.walk.Given as goal
 
 abbrev pub invariant-loop-bucket : goal.invariant-loop-bucket
 invariant-loop-bucket g l = record {
-  callable : goal.F-IsAlwaysCallable g l.f;
+  callable : CallableWhile g.F.FnMut true l.f (flat_map shelf_entries (drop l.bucket-index l.bucket-items));
   rest : (b : Bool) (last : g.row.F.Denot) → Walks (CalledOn g.F.FnMut) l.f (flat_map shelf_entries (drop l.bucket-index l.bucket-items)) b last → Walks (CalledOn g.F.FnMut) l.fn.f (entries l.self) b last;
 }

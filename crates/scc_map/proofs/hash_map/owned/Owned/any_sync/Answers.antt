@@ -4,4 +4,4 @@ use Rattle.scc_map.proofs.MapWalks.{passes-at}
 use Rattle.scc_map.proofs.hash_map.owned.Owned.any_sync.Goals as goal
 
 pub returns-in-Some : goal.returns-in-Some
-returns-in-Some g c = ((refl, λ w. refl, tt), record { same_map = refl; here = stands-in _; first = passes-at _ c.in-Some.ensures.1; none = tt; kept = tt })
+returns-in-Some g c = ((refl, λ w. refl, tt), record { same_map = refl; here = stands-in _; first = passes-at _ _ _ c.in-Some.ensures.1; none = tt; kept = tt })

@@ -1,14 +1,14 @@
-use Rattle.std.proofs.Common.{◌-◌, length, take, IfSome}
+use Rattle.std.proofs.Common.{◌-◌, length, take, drop, IfSome, false}
 use Rattle.scc_table.specs.Contents.{entries}
 use Rattle.scc_table.specs.Places.{IsPlace}
-use Rattle.scc_table.specs.Walks.{CalledOn}
+use Rattle.scc_table.specs.Walks.{CalledOn, CallableWhile}
 use Rattle.scc_map.specs.MapWalks.{Declines}
 use Rattle.scc_map.proofs.MapWalks.{reached}
 use Rattle.scc_map.proofs.hash_map.owned.Owned.first_passing.Given as goal
 
 abbrev pub invariant-loop-at : goal.invariant-loop-at
 invariant-loop-at g l = record {
-  callable : goal.P-IsAlwaysCallable g l.p;
+  callable : CallableWhile g.P.FnMut false l.p (drop (reached l.self l.at) (entries l.self));
   within : IfSome l.at (IsPlace l.self);
   declines : Declines (CalledOn g.P.FnMut) l.fn.p (take (reached l.self l.at) (entries l.self)) l.p;
 }

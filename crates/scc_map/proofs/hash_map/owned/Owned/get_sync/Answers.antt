@@ -1,7 +1,7 @@
 use Rattle.std.proofs.Common.{refl}
 use Rattle.scc_table.specs.Contents.{entries}
 use Rattle.scc_map.proofs.Entries.{occupied-at}
-use Rattle.scc_map.proofs.Lookups.{find-position_none}
+use Rattle.scc_table.proofs.Lookups.{find-position_none}
 use Rattle.scc_map.proofs.hash_map.owned.Owned.get_sync.Goals as goal
 
 pub returns-in-Some : goal.returns-in-Some
@@ -9,7 +9,7 @@ returns-in-Some g c = (
   (refl, λ w. refl, tt),
   record {
     same_map = refl;
-    entry = occupied-at (record { owned = c.args.self; bucket = c.in-Some.place.bucket; slot = c.in-Some.place.slot; within = c.self-1.given.0 }) g.met.K.Eq.laws c.args.k.now (rw c.self.view_is at c.search.ensures.unique) (rw c.self.view_is at c.in-Some.ensures.place);
+    entry = occupied-at g.met.K.Eq.laws c.args.k.now _ (rw c.self.view_is at c.search.ensures.unique) (rw c.self.view_is at c.in-Some.ensures.place);
     unique = rw c.self.view_is at c.search.ensures.unique;
     missing = tt;
     kept = tt;

@@ -1,6 +1,6 @@
 use Rattle.std.proofs.Common.{◌≡◌, Some, sym, ◌∙◌, refl}
 use Rattle.scc_table.specs.Contents.{entries}
-use Rattle.scc_map.proofs.Lookups.{find-position, find-position_none}
+use Rattle.scc_table.proofs.Lookups.{find-position, find-position_none}
 use Rattle.scc_map.proofs.hash_map.owned.Owned.has_pair.Goals as goal
 
 pub returns-in-Some : goal.returns-in-Some

@@ -1,6 +1,7 @@
 use Rattle.std.proofs.Common.{refl, rules}
 use Rattle.scc_table.specs.Contents.{entries}
-use Rattle.scc_map.proofs.Lookups.{find-position, find-position_none, finds-added}
+use Rattle.scc_table.proofs.Lookups.{find-position, find-position_none, finds-added}
+use Rattle.scc_map.proofs.CallerLemmas.{finds-rearranged}
 use Rattle.scc_map.proofs.hash_map.owned.Owned.insert_sync.Goals as goal
 use Rattle.scc_map.proofs.hash_map.owned.Owned.insert_sync.Goals.{in-Ok, in-Err}
 
@@ -38,3 +39,21 @@ returns-after-insert_new-clause-finds g c =
 
 pub returns-after-insert_new-clause-growth : goal.returns-after-insert_new-clause-growth
 returns-after-insert_new-clause-growth g c = rw (← c.self.view_is) c.insert_new.ensures.growth
+
+pub returns-in-Some-clause-due : goal.returns-in-Some-clause-due
+returns-in-Some-clause-due g c =
+    let f = find-position (g.K.PartialEq.eq c.args.k) (entries c.self.inside.table) _ c.in-Some.ensures.place.found in
+    λ none. let here = rw (← c.self.view_is, f.2) at none in cc
+
+pub returns-after-insert_new-clause-due : goal.returns-after-insert_new-clause-due
+returns-after-insert_new-clause-due g c = λ _. rw (← c.self.view_is) c.insert_new.ensures.due
+
+pub returns-after-insert_new-clause-kept : goal.returns-after-insert_new-clause-kept
+returns-after-insert_new-clause-kept g c = λ _. rw (← c.self.view_is) c.insert_new.ensures.kept
+
+pub returns-after-insert_new-clause-same : goal.returns-after-insert_new-clause-same
+returns-after-insert_new-clause-same g c =
+    elim c.match-insert_new.branch [
+      | in-Ok w ↦ rw w.result-is tt
+      | in-Err w ↦ rw (w.result-is, ← c.self.view_is) (finds-rearranged g.met.K.Eq.laws c.self.inside.table c.insert_new.new.self w.in-Err.ensures.err.1 c.insert_new.ensures.unique)
+    ]

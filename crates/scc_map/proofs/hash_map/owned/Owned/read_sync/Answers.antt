@@ -1,7 +1,7 @@
 use Rattle.std.proofs.Common.{◌≡◌, Some, refl, sym, ◌∙◌}
 use Rattle.scc_table.specs.Contents.{entries}
 use Rattle.scc_table.specs.Pairs.{find}
-use Rattle.scc_map.proofs.Lookups.{find-position, find-position_none}
+use Rattle.scc_table.proofs.Lookups.{find-position, find-position_none}
 use Rattle.scc_map.proofs.hash_map.owned.Owned.read_sync.Goals as goal
 
 pub f-requires : goal.f-requires

@@ -1,7 +1,7 @@
 use Rattle.std.proofs.Common.{refl, sym, ◌∙◌}
 use Rattle.scc_table.specs.Contents.{entries}
-use Rattle.scc_map.proofs.Lookups.{find-position, find-position_none, finds-removed}
-use Rattle.scc_map.proofs.Splits.{without-at}
+use Rattle.scc_table.proofs.Lookups.{find-position, find-position_none, finds-removed}
+use Rattle.scc_table.proofs.PairSplits.{without-at}
 use Rattle.scc_map.proofs.hash_map.owned.Owned.remove_sync.Goals as goal
 
 pub returns-in-Some-clause-step : goal.returns-in-Some-clause-step
@@ -23,3 +23,6 @@ returns-in-Some-clause-finds g c =
 pub returns-in-None-clause-step : goal.returns-in-None-clause-step
 returns-in-None-clause-step g c =
     rw (← c.self.view_is) (find-position_none (g.K.PartialEq.eq c.args.k.now) (entries c.self.inside.table) c.in-None.ensures.place, record { exact = refl; buckets = refl; settings = refl })
+
+pub returns-in-Some-clause-smaller : goal.returns-in-Some-clause-smaller
+returns-in-Some-clause-smaller g c = rw (← c.self.view_is) c.remove_at.ensures.smaller

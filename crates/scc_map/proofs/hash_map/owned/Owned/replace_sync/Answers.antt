@@ -4,10 +4,10 @@ use Rattle.std.specs.List.{slice_get}
 use Rattle.scc_table.specs.Pairs.{find}
 use Rattle.scc_table.specs.Places.{index_of}
 use Rattle.scc_table.specs.Writes.{IsPlace-with_write_at}
-use Rattle.scc_map.specs.Lends.{with_pair_key}
-use Rattle.scc_map.proofs.Entries.{pair-is}
-use Rattle.scc_map.proofs.Lookups.{find-position_none}
-use Rattle.scc_map.proofs.MapWrites.{place-found, key-written, key-unique, key-got}
+use Rattle.scc_table.specs.Pairs.{with_pair_key}
+use Rattle.scc_table.proofs.Placed.{entry_of-is}
+use Rattle.scc_table.proofs.Lookups.{find-position_none}
+use Rattle.scc_table.proofs.KeyWrites.{place-found, key-written, key-unique, key-got}
 use Rattle.scc_map.proofs.hash_map.owned.Owned.replace_sync.Goals as goal
 
 pub replace_key_at-old-requires-clause-same : goal.replace_key_at-old-requires-clause-same
@@ -36,8 +36,10 @@ returns-in-Some-clause-step g c =
     let here : find g.K.PartialEq.eq (entries m) c.args.k ≡ Some (c.replace_key_at-old.result, old.0.1) = f.2 ∙ same ∙ ap (λ x. Some (x, old.0.1)) (sym old.2) in (
       old.0.1,
       here,
-      pair-is _ (c.args.k, old.0.1) (ap (λ n. slice_get (entries n) (index_of n c.in-Some.place)) c.replace_key_at-old.ensures.new ∙ key-got m c.in-Some.place found.within c.args.k old.0 old.1),
-      rw c.replace_key_at-old.ensures.new (key-written laws m c.in-Some.place found.within c.args.k unique f c.args.k),
+      (
+        entry_of-is _ c.in-Some.place _ (c.args.k, old.0.1) (ap (λ n. slice_get (entries n) (index_of n c.in-Some.place)) c.replace_key_at-old.ensures.new ∙ key-got m c.in-Some.place found.within c.args.k old.0 old.1),
+        rw c.replace_key_at-old.ensures.new (key-written laws m c.in-Some.place found.within c.args.k unique f c.args.k),
+      ),
     )
 
 pub returns-in-Some-clause-unique : goal.returns-in-Some-clause-unique

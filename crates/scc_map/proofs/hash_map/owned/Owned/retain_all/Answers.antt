@@ -1,25 +1,28 @@
 use Rattle.std.proofs.Common.{◌≡◌, ◌∙◌, ◌++◌, [], refl, length, drop, take, subst, append-nil}
 use Rattle.scc_table.specs.Contents.{entries}
 use Rattle.scc_map.specs.MapWalks.{CalledToWrite, Retains, ended}
-use Rattle.scc_map.proofs.EntrySteps.{drop-all}
+use Rattle.scc_table.proofs.Placed.{drop-all}
 use Rattle.scc_map.proofs.MapWalks.{reached-first, take-all}
-use Rattle.scc_map.proofs.Visits.{visited, kept-next, kept-nearer, took-next, took-nearer, retains-kept, retains-removed}
+use Rattle.scc_map.proofs.Visits.{visited, kept-next, kept-nearer, took-next, took-nearer, retains-kept, retains-removed, turn-here, turn-kept, turn-removed}
 use Rattle.scc_map.proofs.hash_map.owned.Owned.retain_all.Goals as goal
 
 pub loop-at-init : goal.loop-at-init
 loop-at-init g c =
     let start = reached-first c.args.self.now c.first_place-at.result (rw c.self.view_is at c.first_place-at.ensures) in
-    record { callable = c.requires; within = start.1; buckets = refl; settings = refl; calls = λ stay last r. rw start.0 (rw start.0 at r) }
+    record { callable = rw start.0 c.requires; within = start.1; buckets = refl; settings = refl; calls = λ stay last r. rw start.0 (rw start.0 at r) }
+
+pub visit-requires-clause-callable : goal.visit-requires-clause-callable
+visit-requires-clause-callable g c = turn-here c.loop-at.self c.in-Some.place (rw c.in-Some.is at c.loop-at.invariant.callable)
 
 pub next_place-at-requires : goal.next_place-at-requires
 next_place-at-requires g c =
-    let x = c.if-visit.ensures.called in
+    let x = c.if-visit.ensures in
     let within = rw c.in-Some.is at c.loop-at.invariant.within in
     (visited c.loop-at.self c.in-Some.place x.0 x.1 c.visit.new.self within x.2 x.4).within
 
 pub loop-at-smaller-then-visit : goal.loop-at-smaller-then-visit
 loop-at-smaller-then-visit g c =
-    let x = c.if-visit.ensures.called in
+    let x = c.if-visit.ensures in
     let within = rw c.in-Some.is at c.loop-at.invariant.within in
     let v = visited c.loop-at.self c.in-Some.place x.0 x.1 c.visit.new.self within x.2 x.4 in
     let next = kept-next c.loop-at.self c.in-Some.place x.0 x.1 c.visit.new.self v c.next_place-at.result c.next_place-at.ensures in
@@ -27,12 +30,12 @@ loop-at-smaller-then-visit g c =
 
 pub loop-at-preserved-then-visit : goal.loop-at-preserved-then-visit
 loop-at-preserved-then-visit g c =
-    let x = c.if-visit.ensures.called in
+    let x = c.if-visit.ensures in
     let within = rw c.in-Some.is at c.loop-at.invariant.within in
     let v = visited c.loop-at.self c.in-Some.place x.0 x.1 c.visit.new.self within x.2 x.4 in
     let next = kept-next c.loop-at.self c.in-Some.place x.0 x.1 c.visit.new.self v c.next_place-at.result c.next_place-at.ensures in
     record {
-      callable = c.visit.ensures.callable;
+      callable = turn-kept c.loop-at.self c.in-Some.place x.0 x.1 c.visit.new.self v (rw c.in-Some.is at c.loop-at.invariant.callable) (_, x.1, tt, x.3) c.next_place-at.result next.0;
       within = next.1;
       buckets = v.buckets ∙ c.loop-at.invariant.buckets;
       settings = v.settings ∙ c.loop-at.invariant.settings;
@@ -41,13 +44,13 @@ loop-at-preserved-then-visit g c =
 
 pub take_and_step-pair-requires : goal.take_and_step-pair-requires
 take_and_step-pair-requires g c =
-    let x = c.if-visit.ensures.called in
+    let x = c.if-visit.ensures in
     let within = rw c.in-Some.is at c.loop-at.invariant.within in
     (visited c.loop-at.self c.in-Some.place x.0 x.1 c.visit.new.self within x.2 x.4).within
 
 pub loop-at-smaller : goal.loop-at-smaller
 loop-at-smaller g c =
-    let x = c.if-visit.ensures.called in
+    let x = c.if-visit.ensures in
     let within = rw c.in-Some.is at c.loop-at.invariant.within in
     let v = visited c.loop-at.self c.in-Some.place x.0 x.1 c.visit.new.self within x.2 x.4 in
     let d = c.take_and_step-pair.new.self in
@@ -56,14 +59,14 @@ loop-at-smaller g c =
 
 pub loop-at-preserved : goal.loop-at-preserved
 loop-at-preserved g c =
-    let x = c.if-visit.ensures.called in
+    let x = c.if-visit.ensures in
     let within = rw c.in-Some.is at c.loop-at.invariant.within in
     let v = visited c.loop-at.self c.in-Some.place x.0 x.1 c.visit.new.self within x.2 x.4 in
     let d = c.take_and_step-pair.new.self in
     let others = c.take_and_step-pair.ensures.others in
     let next = took-next c.loop-at.self c.in-Some.place x.0 x.1 c.visit.new.self v d others c.take_and_step-pair.result.1 c.take_and_step-pair.ensures.next in
     record {
-      callable = c.visit.ensures.callable;
+      callable = turn-removed c.loop-at.self c.in-Some.place x.0 x.1 c.visit.new.self v (rw c.in-Some.is at c.loop-at.invariant.callable) (_, x.1, tt, x.3) d others c.take_and_step-pair.result.1 next.0;
       within = next.1;
       buckets = others.buckets ∙ v.buckets ∙ c.loop-at.invariant.buckets;
       settings = others.settings ∙ v.settings ∙ c.loop-at.invariant.settings;

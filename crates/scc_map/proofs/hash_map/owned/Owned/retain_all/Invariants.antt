@@ -1,13 +1,14 @@
 use Rattle.std.proofs.Common.{◌≡◌, ◌-◌, ◌++◌, List, length, take, drop, IfSome}
+use Rattle.std.specs.Prelude.{⊤}
 use Rattle.scc_table.specs.Contents.{entries, bucket_count, settings_of}
 use Rattle.scc_table.specs.Places.{IsPlace}
-use Rattle.scc_map.specs.MapWalks.{CalledToWrite, Retains}
+use Rattle.scc_map.specs.MapWalks.{CallableToWrite, CalledToWrite, Retains}
 use Rattle.scc_map.proofs.MapWalks.{reached}
 use Rattle.scc_map.proofs.hash_map.owned.Owned.retain_all.Given as goal
 
 abbrev pub invariant-loop-at : goal.invariant-loop-at
 invariant-loop-at g l = record {
-  callable : goal.F-IsAlwaysCallable g l.f;
+  callable : CallableToWrite g.F.FnMut (λ answer. ⊤) l.f (drop (reached l.self l.at) (entries l.self));
   within : IfSome l.at (IsPlace l.self);
   buckets : bucket_count l.self ≡ bucket_count l.fn.self;
   settings : settings_of l.self ≡ settings_of l.fn.self;

@@ -1,16 +1,16 @@
 use Rattle.std.proofs.Common.{◌≡◌, ◌∙◌, ◌++◌, ◌∷◌, [], sym, ap, refl, length, drop, take, subst, append-nil, append_assoc, arith, true, Ok}
 use Rattle.scc_table.specs.Contents.{entries}
 use Rattle.scc_map.specs.MapWalks.{CalledToWrite, Takes, ended}
-use Rattle.scc_map.proofs.EntrySteps.{drop-all}
+use Rattle.scc_table.proofs.Placed.{drop-all}
 use Rattle.scc_map.proofs.MapWalks.{reached-first, take-all}
 use Rattle.scc_map.proofs.Takings.{took-pair, takes-refused, takes-kept, takes-kept_last, takes-took, takes-took_last}
-use Rattle.scc_map.proofs.Visits.{visited, kept-next, kept-nearer, took-next, took-nearer}
+use Rattle.scc_map.proofs.Visits.{visited, kept-next, kept-nearer, took-next, took-nearer, turn-here, turn-kept, turn-removed}
 use Rattle.scc_map.proofs.hash_map.owned.Owned.take_walk.Goals as goal
 
 pub loop-at-init : goal.loop-at-init
 loop-at-init g c =
     let start = reached-first c.args.self.now c.first_place-at.result (rw c.self.view_is at c.first_place-at.ensures) in
-    record { callable = c.requires; within = start.1; buckets = refl; settings = refl; room = omega arith; calls = ([], sym (append-nil _), λ stay next r last run. rw start.0 (rw start.0 at run)) }
+    record { callable = rw start.0 c.requires; within = start.1; buckets = refl; settings = refl; room = omega arith; calls = ([], sym (append-nil _), λ stay next r last run. rw start.0 (rw start.0 at run)) }
 
 pub returns-in-Err-clause-step : goal.returns-in-Err-clause-step
 returns-in-Err-clause-step g c =
@@ -20,19 +20,22 @@ returns-in-Err-clause-step g c =
       calls.0,
       c.loop-at.f,
       takes-refused c.args.f (entries c.args.self.now) c.loop-at.self c.in-Some.place c.loop-at.f calls.0 calls.2 within _,
-      c.in-Err.ensures.items ∙ calls.1,
+      c.in-Err.ensures.pairs ∙ calls.1,
       record { exact = refl; buckets = c.loop-at.invariant.buckets; settings = c.loop-at.invariant.settings },
     )
 
+pub visit-requires-clause-callable : goal.visit-requires-clause-callable
+visit-requires-clause-callable g c = turn-here c.loop-at.self c.in-Some.place (rw c.in-Some.is at c.loop-at.invariant.callable)
+
 pub next_place-at-requires : goal.next_place-at-requires
 next_place-at-requires g c =
-    let x = c.in-Keep.ensures.called in
+    let x = c.in-Keep.ensures in
     let within = rw c.in-Some.is at c.loop-at.invariant.within in
     (visited c.loop-at.self c.in-Some.place x.0 x.1 c.visit.new.self within x.2 x.4).within
 
 pub loop-at-smaller-in-Keep : goal.loop-at-smaller-in-Keep
 loop-at-smaller-in-Keep g c =
-    let x = c.in-Keep.ensures.called in
+    let x = c.in-Keep.ensures in
     let within = rw c.in-Some.is at c.loop-at.invariant.within in
     let v = visited c.loop-at.self c.in-Some.place x.0 x.1 c.visit.new.self within x.2 x.4 in
     let next = kept-next c.loop-at.self c.in-Some.place x.0 x.1 c.visit.new.self v c.next_place-at.result c.next_place-at.ensures in
@@ -40,29 +43,29 @@ loop-at-smaller-in-Keep g c =
 
 pub loop-at-preserved-in-Keep : goal.loop-at-preserved-in-Keep
 loop-at-preserved-in-Keep g c =
-    let x = c.in-Keep.ensures.called in
+    let x = c.in-Keep.ensures in
     let within = rw c.in-Some.is at c.loop-at.invariant.within in
     let calls = rw c.in-Some.is at c.loop-at.invariant.calls in
     let v = visited c.loop-at.self c.in-Some.place x.0 x.1 c.visit.new.self within x.2 x.4 in
     let next = kept-next c.loop-at.self c.in-Some.place x.0 x.1 c.visit.new.self v c.next_place-at.result c.next_place-at.ensures in
     record {
-      callable = c.visit.ensures.callable;
+      callable = turn-kept c.loop-at.self c.in-Some.place x.0 x.1 c.visit.new.self v (rw c.in-Some.is at c.loop-at.invariant.callable) (_, x.1, tt, x.3) c.next_place-at.result next.0;
       within = next.1;
       buckets = v.buckets ∙ c.loop-at.invariant.buckets;
       settings = v.settings ∙ c.loop-at.invariant.settings;
-      room = omega (arith, c.loop-at.invariant.room, c.reserve.ensures.capacity);
-      calls = (calls.0, c.reserve.ensures.items ∙ calls.1, takes-kept c.args.f (entries c.args.self.now) c.loop-at.self c.in-Some.place c.loop-at.f calls.0 calls.2 c.visit.new.f x.0 x.1 c.visit.new.self v x.3 c.next_place-at.result next.0);
+      room = omega (arith, c.loop-at.invariant.room, c.reserve_one.ensures.capacity);
+      calls = (calls.0, c.reserve_one.ensures.pairs ∙ calls.1, takes-kept c.args.f (entries c.args.self.now) c.loop-at.self c.in-Some.place c.loop-at.f calls.0 calls.2 c.visit.new.f x.0 x.1 c.visit.new.self v x.3 c.next_place-at.result next.0);
     }
 
 pub take_into-at-requires-clause-within : goal.take_into-at-requires-clause-within
 take_into-at-requires-clause-within g c =
-    let x = c.in-Take.ensures.called in
+    let x = c.in-Take.ensures in
     let within = rw c.in-Some.is at c.loop-at.invariant.within in
     (visited c.loop-at.self c.in-Some.place x.0 x.1 c.visit.new.self within x.2 x.4).within
 
 pub loop-at-smaller : goal.loop-at-smaller
 loop-at-smaller g c =
-    let x = c.in-Take.ensures.called in
+    let x = c.in-Take.ensures in
     let within = rw c.in-Some.is at c.loop-at.invariant.within in
     let v = visited c.loop-at.self c.in-Some.place x.0 x.1 c.visit.new.self within x.2 x.4 in
     let d = c.take_into-at.new.self in
@@ -72,7 +75,7 @@ loop-at-smaller g c =
 
 pub loop-at-preserved : goal.loop-at-preserved
 loop-at-preserved g c =
-    let x = c.in-Take.ensures.called in
+    let x = c.in-Take.ensures in
     let within = rw c.in-Some.is at c.loop-at.invariant.within in
     let calls = rw c.in-Some.is at c.loop-at.invariant.calls in
     let v = visited c.loop-at.self c.in-Some.place x.0 x.1 c.visit.new.self within x.2 x.4 in
@@ -82,21 +85,21 @@ loop-at-preserved g c =
     let pair = took-pair c.loop-at.self c.in-Some.place x.0 x.1 c.visit.new.self v out.0 out.1 in
     let next = took-next c.loop-at.self c.in-Some.place x.0 x.1 c.visit.new.self v d others c.take_into-at.result c.take_into-at.ensures.next in
     record {
-      callable = c.visit.ensures.callable;
+      callable = turn-removed c.loop-at.self c.in-Some.place x.0 x.1 c.visit.new.self v (rw c.in-Some.is at c.loop-at.invariant.callable) (_, x.1, tt, x.3) d others c.take_into-at.result next.0;
       within = next.1;
       buckets = others.buckets ∙ v.buckets ∙ c.loop-at.invariant.buckets;
       settings = others.settings ∙ v.settings ∙ c.loop-at.invariant.settings;
-      room = omega (arith, c.loop-at.invariant.room, c.reserve.ensures.capacity, c.take_into-at.ensures.capacity);
+      room = omega (arith, c.loop-at.invariant.room, c.reserve_one.ensures.capacity, c.take_into-at.ensures.capacity);
       calls = (
         calls.0 ++ (x.0.0, x.1) ∷ [],
-        out.2 ∙ ap (λ z. c.reserve.new.self.items ++ z ∷ []) pair ∙ ap (λ z. z ++ (x.0.0, x.1) ∷ []) (c.reserve.ensures.items ∙ calls.1) ∙ append_assoc c.args.taken.now.items calls.0 _,
+        out.2 ∙ ap (λ z. g.L.Sink.pairs c.reserve_one.new.self ++ z ∷ []) pair ∙ ap (λ z. z ++ (x.0.0, x.1) ∷ []) (c.reserve_one.ensures.pairs ∙ calls.1) ∙ append_assoc (g.L.Sink.pairs c.args.taken.now) calls.0 _,
         takes-took c.args.f (entries c.args.self.now) c.loop-at.self c.in-Some.place c.loop-at.f calls.0 calls.2 c.visit.new.f x.0 x.1 c.visit.new.self v d others x.3 c.take_into-at.result next.0,
       );
     }
 
 pub returns-in-KeepStop-clause-step : goal.returns-in-KeepStop-clause-step
 returns-in-KeepStop-clause-step g c =
-    let x = c.in-KeepStop.ensures.called in
+    let x = c.in-KeepStop.ensures in
     let within = rw c.in-Some.is at c.loop-at.invariant.within in
     let calls = rw c.in-Some.is at c.loop-at.invariant.calls in
     let v = visited c.loop-at.self c.in-Some.place x.0 x.1 c.visit.new.self within x.2 x.4 in (
@@ -104,19 +107,19 @@ returns-in-KeepStop-clause-step g c =
       calls.0,
       c.visit.new.f,
       takes-kept_last c.args.f (entries c.args.self.now) c.loop-at.self c.in-Some.place c.loop-at.f calls.0 calls.2 c.visit.new.f x.0 x.1 c.visit.new.self v x.3,
-      c.reserve.ensures.items ∙ calls.1,
+      c.reserve_one.ensures.pairs ∙ calls.1,
       record { exact = refl; buckets = v.buckets ∙ c.loop-at.invariant.buckets; settings = v.settings ∙ c.loop-at.invariant.settings },
     )
 
 pub take_into-requires-clause-within : goal.take_into-requires-clause-within
 take_into-requires-clause-within g c =
-    let x = c.in-TakeStop.ensures.called in
+    let x = c.in-TakeStop.ensures in
     let within = rw c.in-Some.is at c.loop-at.invariant.within in
     (visited c.loop-at.self c.in-Some.place x.0 x.1 c.visit.new.self within x.2 x.4).within
 
 pub returns-in-TakeStop-clause-step : goal.returns-in-TakeStop-clause-step
 returns-in-TakeStop-clause-step g c =
-    let x = c.in-TakeStop.ensures.called in
+    let x = c.in-TakeStop.ensures in
     let within = rw c.in-Some.is at c.loop-at.invariant.within in
     let calls = rw c.in-Some.is at c.loop-at.invariant.calls in
     let v = visited c.loop-at.self c.in-Some.place x.0 x.1 c.visit.new.self within x.2 x.4 in
@@ -128,7 +131,7 @@ returns-in-TakeStop-clause-step g c =
       calls.0 ++ (x.0.0, x.1) ∷ [],
       c.visit.new.f,
       takes-took_last c.args.f (entries c.args.self.now) c.loop-at.self c.in-Some.place c.loop-at.f calls.0 calls.2 c.visit.new.f x.0 x.1 c.visit.new.self v d others x.3,
-      out.2 ∙ ap (λ z. c.reserve.new.self.items ++ z ∷ []) pair ∙ ap (λ z. z ++ (x.0.0, x.1) ∷ []) (c.reserve.ensures.items ∙ calls.1) ∙ append_assoc c.args.taken.now.items calls.0 _,
+      out.2 ∙ ap (λ z. g.L.Sink.pairs c.reserve_one.new.self ++ z ∷ []) pair ∙ ap (λ z. z ++ (x.0.0, x.1) ∷ []) (c.reserve_one.ensures.pairs ∙ calls.1) ∙ append_assoc (g.L.Sink.pairs c.args.taken.now) calls.0 _,
       record { exact = refl; buckets = others.buckets ∙ v.buckets ∙ c.loop-at.invariant.buckets; settings = others.settings ∙ v.settings ∙ c.loop-at.invariant.settings },
     )
 

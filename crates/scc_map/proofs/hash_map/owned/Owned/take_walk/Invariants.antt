@@ -1,20 +1,19 @@
 use Rattle.std.proofs.Common.{◌≡◌, ◌≤◌, ◌-◌, ◌++◌, List, Bool, Result, length, take, drop, IfSome}
-use Rattle.std.specs.Vec.{vec_capacity}
 use Rattle.scc_table.specs.Contents.{entries, bucket_count, settings_of}
 use Rattle.scc_table.specs.Places.{IsPlace}
 use Rattle.scc_table.specs.declared.errors.WalkError.{WalkError}
-use Rattle.scc_map.specs.MapWalks.{CalledToWrite, Takes}
+use Rattle.scc_map.specs.MapWalks.{CallableToWrite, CalledToWrite, GoesOn, Takes}
 use Rattle.scc_map.proofs.MapWalks.{reached}
 use Rattle.scc_map.proofs.hash_map.owned.Owned.take_walk.Given as goal
 
 abbrev pub invariant-loop-at : goal.invariant-loop-at
 invariant-loop-at g l = record {
-  callable : goal.F-IsAlwaysCallable g l.f;
+  callable : CallableToWrite g.F.FnMut GoesOn l.f (drop (reached l.self l.at) (entries l.self));
   within : IfSome l.at (IsPlace l.self);
   buckets : bucket_count l.self ≡ bucket_count l.fn.self;
   settings : settings_of l.self ≡ settings_of l.fn.self;
-  room : vec_capacity l.fn.taken ≤ vec_capacity l.taken;
-  calls : (more : List (g.row.K.Denot × g.row.V.Denot)) × (l.taken.items ≡ l.fn.taken.items ++ more)
+  room : g.L.Sink.capacity l.fn.taken ≤ g.L.Sink.capacity l.taken;
+  calls : (more : List (g.row.K.Denot × g.row.V.Denot)) × (g.L.Sink.pairs l.taken ≡ g.L.Sink.pairs l.fn.taken ++ more)
       × ((stay next : List (g.row.K.Denot × g.row.V.Denot)) (r : Result Bool WalkError) (last : g.row.F.Denot) → Takes (CalledToWrite g.F.FnMut) l.f (drop (reached l.self l.at) (entries l.self)) stay next r last
       → Takes (CalledToWrite g.F.FnMut) l.fn.f (entries l.fn.self) (take (reached l.self l.at) (entries l.self) ++ stay) (more ++ next) r last);
 }

@@ -1,8 +1,9 @@
 use Rattle.std.proofs.Common.{◌≡◌, Some, refl, sym, ◌∙◌}
 use Rattle.scc_table.specs.Contents.{entries}
 use Rattle.scc_table.specs.Pairs.{find}
-use Rattle.scc_map.proofs.Lookups.{find-position_none}
-use Rattle.scc_map.proofs.MapWrites.{place-found, value-written, value-unique}
+use Rattle.scc_table.proofs.Lookups.{find-position_none}
+use Rattle.scc_table.proofs.KeyWrites.{place-found, value-written, value-unique}
+use Rattle.scc_map.proofs.CallerLemmas.{finds-set_value}
 use Rattle.scc_map.proofs.hash_map.owned.Owned.update_sync.Goals as goal
 
 pub u-requires : goal.u-requires
@@ -41,3 +42,22 @@ returns-in-Some-clause-unique g c =
 
 pub returns-in-None-clause-step : goal.returns-in-None-clause-step
 returns-in-None-clause-step g c = rw (← c.self.view_is, find-position_none (g.K.PartialEq.eq c.args.k.now) (entries c.self.inside.table) c.in-None.ensures.place) (refl, record { exact = refl; buckets = refl; settings = refl })
+
+pub returns-in-Some-clause-finds : goal.returns-in-Some-clause-finds
+returns-in-Some-clause-finds g c =
+    let laws = g.met.K.Eq.laws in
+    let m = c.args.self.now in
+    let found = rw c.self.view_is at c.in-Some.ensures.place in
+    let unique = rw c.self.view_is at c.in-Some.ensures.unique in
+    let f = place-found g.K.PartialEq.eq m c.args.k.now c.in-Some.place found in
+    let shown : f.0 ≡ (c.parts_mut_at-value.result.0.now, c.parts_mut_at-value.result.1.now) = let s : Some f.0 ≡ Some (c.parts_mut_at-value.result.0.now, c.parts_mut_at-value.result.1.now) = sym f.1 ∙ c.parts_mut_at-value.ensures.parts in cc in (
+      f.0,
+      c.u.new.arg3,
+      f.2,
+      f.3,
+      record { key = c.parts_mut_at-value.result.0; value = c.parts_mut_at-value.result.1; shows = sym shown; left = _; met = c.u.ensures; leaves = refl },
+      finds-set_value laws m _ c.args.k.now f.0 c.u.new.arg3 f.2 (value-written laws m c.in-Some.place found.within c.args.k.now unique f c.u.new.arg3),
+    )
+
+pub returns-in-None-clause-missing : goal.returns-in-None-clause-missing
+returns-in-None-clause-missing g c = rw (← c.self.view_is) (find-position_none (g.K.PartialEq.eq c.args.k.now) (entries c.self.inside.table) c.in-None.ensures.place)

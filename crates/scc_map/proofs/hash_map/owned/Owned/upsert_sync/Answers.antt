@@ -1,9 +1,9 @@
 use Rattle.std.proofs.Common.{◌≡◌, Some, sym, ap, ◌∙◌, rules}
 use Rattle.scc_table.specs.Contents.{entries}
 use Rattle.scc_table.specs.Pairs.{find}
-use Rattle.scc_map.proofs.CallerLemmas.{finds-set_value}
-use Rattle.scc_map.proofs.Lookups.{find-position_none, finds-added}
-use Rattle.scc_map.proofs.MapWrites.{grows-same, place-found, value-written, value-unique}
+use Rattle.scc_map.proofs.CallerLemmas.{finds-rearranged, finds-set_value}
+use Rattle.scc_table.proofs.Lookups.{find-position_none, finds-added}
+use Rattle.scc_table.proofs.KeyWrites.{grows-same, place-found, value-written, value-unique}
 use Rattle.scc_map.proofs.hash_map.owned.Owned.upsert_sync.Goals as goal
 use Rattle.scc_map.proofs.hash_map.owned.Owned.upsert_sync.Goals.{in-Ok, in-Err}
 
@@ -67,3 +67,26 @@ returns-in-Some-clause-growth g c =
     let unique = rw c.self.view_is at c.in-Some.ensures.unique in
     let f = place-found g.K.PartialEq.eq m c.args.k c.in-Some.place found in
     grows-same m _ (value-written laws m c.in-Some.place found.within c.args.k unique f c.replace.new.dest).buckets
+
+pub returns-in-Some-clause-due : goal.returns-in-Some-clause-due
+returns-in-Some-clause-due g c =
+    let f = place-found g.K.PartialEq.eq c.args.self.now c.args.k c.in-Some.place (rw c.self.view_is at c.in-Some.ensures.place) in
+    λ none. let here = rw f.2 at none in cc
+
+pub returns-after-insert_new-clause-due : goal.returns-after-insert_new-clause-due
+returns-after-insert_new-clause-due g c = λ _. rw (← c.self.view_is) c.insert_new.ensures.due
+
+pub returns-after-insert_new-clause-kept : goal.returns-after-insert_new-clause-kept
+returns-after-insert_new-clause-kept g c = λ _. rw (← c.self.view_is) c.insert_new.ensures.kept
+
+pub returns-in-Some-clause-kept : goal.returns-in-Some-clause-kept
+returns-in-Some-clause-kept g c =
+    let f = place-found g.K.PartialEq.eq c.args.self.now c.args.k c.in-Some.place (rw c.self.view_is at c.in-Some.ensures.place) in
+    λ none. let here = rw f.2 at none in cc
+
+pub returns-after-insert_new-clause-same : goal.returns-after-insert_new-clause-same
+returns-after-insert_new-clause-same g c =
+    elim c.match-insert_new.branch [
+      | in-Ok w ↦ rw w.result-is tt
+      | in-Err w ↦ rw (w.result-is, ← c.self.view_is) (finds-rearranged g.met.K.Eq.laws c.self.inside.table c.insert_new.new.self w.in-Err.ensures.err.1 c.insert_new.ensures.unique)
+    ]

@@ -1,8 +1,8 @@
 use Rattle.std.proofs.Common.{refl}
 use Rattle.scc_map.proofs.hash_map.owned.Owned.visit.Goals as goal
 
-pub returns-clause-called : goal.returns-clause-called
-returns-clause-called g c = (
+pub returns : goal.returns
+returns g c = (
   (c.parts_mut_at-value.result.0.now, c.parts_mut_at-value.result.1.now),
   c.f.new.arg3,
   c.parts_mut_at-value.ensures.parts,

@@ -1,0 +1,127 @@
+-- What an entry shows, under any guard.
+use Rattle.std.proofs.Common.{◌≡◌, ℕ, List, [], Bool, Option, None, Some, refl, sym, ap, subst, ◌∙◌}
+use Rattle.std.specs.List.{slice_get, slice_set, slice_index_or}
+use Rattle.std.specs.declared.cmp.PartialEq as eq
+use Rattle.std.specs.declared.hash.Hash as hash
+use Rattle.std.specs.declared.hash.Hasher as hasher
+use Rattle.std.specs.declared.hash.BuildHasher as builder
+use Rattle.scc_table.specs.Contents.{Contents, bucket_count, settings_of, refused_of, list_of, lists_of, key_hash}
+use Rattle.scc_table.specs.Pairs.{with_pair_key, with_pair_value}
+use Rattle.scc_table.specs.Placed.{at, at-get, entry_of}
+use Rattle.scc_table.specs.Places.{IsPlace}
+use Rattle.scc_table.specs.ShelfWrites.{write_at}
+use Rattle.scc_table.specs.Writes.{with_write_at}
+use Rattle.scc_table.specs.declared.guard.Guard as guard
+use Rattle.scc_table.specs.declared.place.Place.{Place}
+use Rattle.scc_table.proofs.KeyWrites.{get-write_at}
+use Rattle.scc_table.proofs.Placed.{place-prop}
+use Rattle.scc_cache.specs.CacheSteps.{Changes, IsFound, IsPresentAt, PutsNew, number_in}
+use Rattle.scc_cache.specs.Caches.{Cached}
+use Rattle.scc_cache.specs.Entries.{occupied_pair, IsOccupiedAt, IsPut, IsRefreshed, IsWritten, written_cache, still_within, with_value}
+use Rattle.scc_cache.specs.Lends.{with_key_at, with_value_at}
+use Rattle.scc_cache.specs.ListSteps.{Refreshes, Rewrites}
+use Rattle.scc_cache.specs.declared.hash_cache.held.HeldEntry.{HeldEntry}
+use Rattle.scc_cache.specs.declared.hash_cache.held.HeldVacant.{HeldVacant}
+use Rattle.scc_cache.proofs.Writing.{write-set, written-list}
+
+module _ {E S : Type 0} (c : Contents E S) (p : Place) (h : IsPlace c p) where
+  pub listed-entry : slice_get (list_of c p.bucket) p.slot ≡ Some (entry_of c p h)
+  unfolding entry_of
+  listed-entry = at-get (list_of c p.bucket) p.slot h.slot
+
+  pub entry-listed : (e : E) → slice_get (list_of c p.bucket) p.slot ≡ Some e → e ≡ entry_of c p h
+  entry-listed e got = let s : Some e ≡ Some (entry_of c p h) = sym got ∙ listed-entry in cc
+
+module _ {K V S : Type 0} (c : Cached (K × V) S) (p : Place) (h : IsPlace c.contents p) where
+  -- a value written is one list changed
+  pub changes-written : (v : V) → Changes (λ ls ms. ms ≡ slice_set ls p.bucket (slice_set (slice_index_or ls p.bucket []) p.slot ((entry_of c.contents p h).0, v))) c (with_value_at c p v)
+  unfolding with_write_at lists_of list_of settings_of refused_of
+  changes-written v = record {
+    lists = ap (slice_set c.contents.lists p.bucket) (write-set with_pair_value (slice_index_or c.contents.lists p.bucket []) p.slot v (entry_of c.contents p h) (listed-entry c.contents p h));
+    settings = refl;
+    refused = refl;
+    maximum = refl;
+  }
+
+  pub pair-written : (v : V) (q : IsPlace (with_value_at c p v).contents p) → entry_of (with_value_at c p v).contents p q ≡ ((entry_of c.contents p h).0, v)
+  pair-written v q = sym (entry-listed (with_value_at c p v).contents p q ((entry_of c.contents p h).0, v) (ap (λ l. slice_get l p.slot) (written-list with_pair_value c.contents p h v) ∙ get-write_at with_pair_value (list_of c.contents p.bucket) p.slot (entry_of c.contents p h) v (listed-entry c.contents p h)))
+
+-- a key put in the place of its equal is one list changed
+pub changes-key : {K V S : Type 0} (hash : K → ℕ) (same : K → K → Bool) (c : Cached (K × V) S) (k : K) (p : Place) (f : IsFound hash same c.contents k p) → Changes (Rewrites (number_in hash c.contents) same k f.pair (k, f.pair.1)) c (with_key_at c p k)
+unfolding with_write_at lists_of list_of settings_of refused_of bucket_count
+changes-key hash same c k p f = record {
+  lists = (p.slot, f.there, ap (slice_set c.contents.lists p.bucket) (write-set with_pair_key (slice_index_or c.contents.lists p.bucket []) p.slot k f.pair f.here) ∙ ap (λ j. slice_set c.contents.lists j (slice_set (slice_index_or c.contents.lists j []) p.slot (k, f.pair.1))) f.bucket);
+  settings = refl;
+  refused = refl;
+  maximum = refl;
+}
+
+pub pair-keyed : {K V S : Type 0} (c d : Cached (K × V) S) (p : Place) (h : IsPlace c.contents p) (e : K × V) (k : K) → slice_get (list_of c.contents p.bucket) p.slot ≡ Some e → d ≡ with_key_at c p k → (q : IsPlace d.contents p) → entry_of d.contents p q ≡ (k, e.1)
+pair-keyed c d p h e k got made q =
+    sym (entry-listed d.contents p q (k, e.1) (ap (λ x. slice_get (list_of x.contents p.bucket) p.slot) made ∙ ap (λ l. slice_get l p.slot) (written-list with_pair_key c.contents p h k) ∙ get-write_at with_pair_key (list_of c.contents p.bucket) p.slot e k got))
+
+module _ {G N K V S T : Type 0} {d : guard.Ghosts G (Cached (K × V) S)} {g : eq.Ghosts K} {h : hash.Ghosts K} {b : builder.Ghosts S T} {w : hasher.Ghosts T} where
+  -- what the guard showed at the place is the pair
+  pub pair-is : (o : HeldEntry G N K V S T d g h b w) (m : Cached (K × V) S) (p : K × V) → m ≡ d.kept o.guard → slice_get (list_of m.contents o.place.bucket) o.place.slot ≡ Some p → p ≡ occupied_pair o
+  pair-is o m p is got = entry-listed (d.kept o.guard).contents o.place o.within p (subst (λ (x : Cached (K × V) S). slice_get (list_of x.contents o.place.bucket) o.place.slot ≡ Some p) is got)
+
+  -- the entry that a search found is that of the key
+  pub occupied-at : (same : K → K → Bool) (k : K) (o : HeldEntry G N K V S T d g h b w) → IsFound (key_hash b w h.hash_input (d.kept o.guard).contents) same (d.kept o.guard).contents k o.place → IsOccupiedAt same (d.kept o.guard) k o
+  occupied-at same k o f = record {
+    contents = refl;
+    bucket = f.bucket;
+    there = subst (λ p. IsPresentAt (key_hash b w h.hash_input (d.kept o.guard).contents) same (d.kept o.guard).contents k o.place.slot p) (pair-is o (d.kept o.guard) f.pair refl f.here) f.there;
+  }
+
+  -- the entry that a get found stands at the pair that it moved
+  pub refreshed-at : (same : K → K → Bool) (c : Cached (K × V) S) (k : K) (o : HeldEntry G N K V S T d g h b w) (p : K × V) → slice_get (list_of (d.kept o.guard).contents o.place.bucket) o.place.slot ≡ Some p
+      → Changes (Refreshes (number_in (key_hash b w h.hash_input c.contents) c.contents) same k p) c (d.kept o.guard) → IsRefreshed same c k o
+  refreshed-at same c k o p got s = record { changes = subst (λ x. Changes (Refreshes (number_in (key_hash b w h.hash_input c.contents) c.contents) same k x) c (d.kept o.guard)) (pair-is o (d.kept o.guard) p refl got) s }
+
+  -- the place is one in what the guard then keeps
+  pub within-written : (o : HeldEntry G N K V S T d g h b w) (m : Cached (K × V) S) (v : V) → m ≡ d.kept o.guard → IsPlace (d.kept (d.keeping o.guard (with_value_at m o.place v))).contents o.place
+  within-written o m v is = subst (λ c. IsPlace (d.kept (d.keeping o.guard (with_value_at c o.place v))).contents o.place) (sym is) (still_within o v)
+
+  -- the entry is the same by whatever proof that its place is one
+  pub written-same : (o : HeldEntry G N K V S T d g h b w) (m : Cached (K × V) S) (v : V) → (is : m ≡ d.kept o.guard) → (p : IsPlace (d.kept (d.keeping o.guard (with_value_at m o.place v))).contents o.place)
+      → record { guard = d.keeping o.guard (with_value_at m o.place v); place = o.place; rest = o.rest; of = o.of; within = p } ≡ with_value o v
+  written-same o m v is =
+      let Written : Cached (K × V) S → Type 0 = λ c. (p : IsPlace (d.kept (d.keeping o.guard (with_value_at c o.place v))).contents o.place) → record { guard = d.keeping o.guard (with_value_at c o.place v); place = o.place; rest = o.rest; of = o.of; within = p } ≡ with_value o v in
+      subst Written (sym is) (λ p. ap (λ r. record (with_value o v) { within = r }) (place-prop _ _ p (still_within o v)))
+
+  pub within-after : (o : HeldEntry G N K V S T d g h b w) (m n : Cached (K × V) S) (v : V) → m ≡ d.kept o.guard → n ≡ with_value_at m o.place v → IsPlace (d.kept (d.keeping o.guard n)).contents o.place
+  within-after o m n v is made = subst (λ c. IsPlace (d.kept (d.keeping o.guard c)).contents o.place) (sym made) (within-written o m v is)
+
+  -- what was written through the guard is written in the entry
+  pub written-after : (o : HeldEntry G N K V S T d g h b w) (m n : Cached (K × V) S) (v : V) → m ≡ d.kept o.guard → n ≡ with_value_at m o.place v → (p : IsPlace (d.kept (d.keeping o.guard n)).contents o.place)
+      → IsWritten o v (record { guard = d.keeping o.guard n; place = o.place; rest = o.rest; of = o.of; within = p })
+  written-after o m n v is made p =
+      let e : d.kept (d.keeping o.guard n) ≡ with_value_at (d.kept o.guard) o.place v = d.keeps o.guard n ∙ made ∙ ap (λ c. with_value_at c o.place v) is in
+      record {
+        same_guard = ap (d.keeping o.guard) (sym (d.keeps o.guard n));
+        rest = refl;
+        place = refl;
+        changes = rw e (changes-written (d.kept o.guard) o.place o.within v);
+        pair =
+            let Pair : Cached (K × V) S → Type 0 = λ x. (q : IsPlace x.contents o.place) → entry_of x.contents o.place q ≡ ((occupied_pair o).0, v) in
+            subst Pair (sym e) (pair-written (d.kept o.guard) o.place o.within v) p;
+      }
+
+  pub written-with : (o : HeldEntry G N K V S T d g h b w) (v : V) → IsWritten o v (with_value o v)
+  written-with o v = written-after o (d.kept o.guard) (written_cache o v) v refl refl (still_within o v)
+
+  -- what was put in through the guard stands at the entry
+  pub put-after : (same : K → K → Bool) (e : HeldVacant G N K V S T d g h b w) (m n : Cached (K × V) S) (v : V) (x : Option (K × V)) (o : HeldEntry G N K V S T d g h b w) → o.guard ≡ d.keeping e.guard n → o.rest ≡ e.rest → m ≡ d.kept e.guard
+      → PutsNew (key_hash b w h.hash_input m.contents) same m (e.key, v) x n → slice_get (list_of n.contents o.place.bucket) o.place.slot ≡ Some (e.key, v) → IsPut same e v x o
+  put-after same e m n v x o guarded rests is step got =
+      let k : d.kept o.guard ≡ n = ap d.kept guarded ∙ d.keeps e.guard n in
+      record {
+        same_guard = guarded ∙ ap (d.keeping e.guard) (sym k);
+        rest = rests;
+        step = subst (λ c. PutsNew (key_hash b w h.hash_input c.contents) same c (e.key, v) x (d.kept o.guard)) is (subst (λ c. PutsNew (key_hash b w h.hash_input m.contents) same m (e.key, v) x c) (sym k) step);
+        pair = sym (pair-is o n (e.key, v) (sym k) got);
+      }
+
+  -- an entry that is made anew of its parts
+  pub same-entry : (o : HeldEntry G N K V S T d g h b w) (p : IsPlace (d.kept o.guard).contents o.place) → record o { within = p } ≡ o
+  same-entry o p = ap (λ r. record o { within = r }) (place-prop (d.kept o.guard).contents o.place p o.within)

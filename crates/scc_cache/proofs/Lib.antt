@@ -1,0 +1,4 @@
+pub mod Caching
+pub mod Entries
+pub mod Walking
+pub mod Writing

@@ -1,0 +1,13 @@
+use Rattle.std.proofs.Common.{◌≡◌, ◌∙◌, ap, None, Some}
+use Rattle.std.specs.Option.{MatchOption}
+use Rattle.scc_table.specs.Contents.{bucket_count, settings_of}
+use Rattle.scc_table.specs.Hashing.{hash_of}
+use Rattle.scc_table.specs.Routing.{bucket_number}
+use Rattle.scc_cache.proofs.Caching.{found-or-lacking}
+use Rattle.scc_cache.proofs.hash_cache.owned.Owned.find.Goals as goal
+
+pub returns : goal.returns
+returns g c =
+    let t = c.self.inside.table in
+    let hashed = rw (← c.self.view_is) at c.requires in
+    rw (← c.self.view_is) (found-or-lacking (λ k. hash_of g.H.BuildHasher g.H.Hasher.Hasher (settings_of t).hasher (g.K.Hash.hash_input k)) g.K.PartialEq.eq t c.args.k.now _ c.find_in.result (ap (bucket_number (settings_of t).skipped (bucket_count t)) hashed) c.find_in.ensures)

@@ -1,0 +1,37 @@
+use Rattle.std.proofs.Common.{◌≡◌, ◌∙◌, ℕ, ◌≤◌, ◌*◌, List, refl, sym, ap, subst, arith}
+use Rattle.std.specs.List.{remove}
+use Rattle.scc_table.specs.Bounded.{ShrinksBounded}
+use Rattle.scc_table.specs.Contents.{bucket_count, settings_of}
+use Rattle.scc_table.specs.Hashing.{hash_of}
+use Rattle.scc_cache.proofs.Caching.{list-count, lists-set, shrunk-within, state-after}
+use Rattle.scc_cache.proofs.hash_cache.owned.Owned.remove_at.Goals as goal
+
+pub invariant_of-self : goal.invariant_of-self
+invariant_of-self g c =
+    let h = c.self.invariant in
+    let list = c.take_in-pair.ensures.lists h.lists.bounded in
+    let same = list-count c.self.inside.table c.take_in-pair.new.self _ _ list in
+    let less = shrunk-within _ c.take_in-pair.new.self c.shrink_within.new.self c.shrink_within.ensures.shrinks in
+    state-after g.K.PartialEq.eq _ _ c.self.inside.table c.shrink_within.new.self c.self.inside.maximum h c.shrink_within.ensures.listed c.shrink_within.ensures.unique (less.1 ∙ list.settings) (omega (arith, less.0, h.within))
+
+pub returns-clause-state : goal.returns-clause-state
+returns-clause-state g c =
+    let h = c.self.invariant in
+    let list = c.take_in-pair.ensures.lists h.lists.bounded in
+    let same = list-count c.self.inside.table c.take_in-pair.new.self _ _ list in
+    let less = shrunk-within _ c.take_in-pair.new.self c.shrink_within.new.self c.shrink_within.ensures.shrinks in
+    state-after g.K.PartialEq.eq _ _ c.self.inside.table c.shrink_within.new.self c.self.inside.maximum h c.shrink_within.ensures.listed c.shrink_within.ensures.unique (less.1 ∙ list.settings) (omega (arith, less.0, h.within))
+
+pub returns-clause-pair : goal.returns-clause-pair
+returns-clause-pair g c = rw (← c.self.view_is) c.take_in-pair.ensures.listed
+
+pub returns-clause-left : goal.returns-clause-left
+returns-clause-left g c =
+    let left = c.take_in-pair.new.self in
+    let list = c.take_in-pair.ensures.lists c.self.invariant.lists.bounded in
+    let shrinks = subst (λ s. ShrinksBounded (λ e. hash_of g.H.BuildHasher g.H.Hasher.Hasher s.hasher (g.K.Hash.hash_input e.0)) left c.shrink_within.new.self) list.settings c.shrink_within.ensures.shrinks in
+    rw (← c.self.view_is) (
+      record { contents = left; maximum = c.self.inside.maximum },
+      record { lists = lists-set c.self.inside.table left _ (λ es. remove es c.args.place.slot) list; settings = list.settings; refused = list.refused; maximum = refl },
+      record { shrinks = shrinks; maximum = refl },
+    )

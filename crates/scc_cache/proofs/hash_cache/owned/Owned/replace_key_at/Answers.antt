@@ -1,0 +1,37 @@
+use Rattle.std.proofs.Common.{◌≡◌, ◌∙◌, refl, sym, ap, subst}
+use Rattle.scc_table.specs.Contents.{settings_of}
+use Rattle.scc_table.specs.Hashing.{hash_of}
+use Rattle.scc_table.specs.Pairs.{with_pair_key}
+use Rattle.scc_cache.specs.Caches.{Cached, IsCacheState}
+use Rattle.scc_cache.specs.Lends.{with_key_at}
+use Rattle.scc_cache.proofs.Writing.{get-listed, key-state-by}
+use Rattle.scc_cache.proofs.hash_cache.owned.Owned.replace_key_at.Goals as goal
+
+pub replace_key_at-old-requires-clause-same : goal.replace_key_at-old-requires-clause-same
+replace_key_at-old-requires-clause-same g c =
+    let within = rw (← c.self.view_is) at c.requires.within in
+    λ p got. c.requires.same p (rw (← c.self.view_is) (get-listed with_pair_key c.self.inside.table c.args.place within c.args.key p got))
+
+pub invariant_of-self : goal.invariant_of-self
+invariant_of-self g c =
+    let within = rw (← c.self.view_is) at c.requires.within in
+    let same = rw (← c.self.view_is) at c.requires.same in
+    let s = settings_of c.self.inside.table in
+    key-state-by g.K.PartialEq.eq (λ s k. hash_of g.H.BuildHasher g.H.Hasher.Hasher s.hasher (g.K.Hash.hash_input k)) (record { contents = c.self.inside.table; maximum = c.self.inside.maximum }) c.args.place within c.self.invariant c.args.key c.replace_key_at-old.new.self c.replace_key_at-old.ensures.new
+    (λ q got. ap (hash_of g.H.BuildHasher g.H.Hasher.Hasher s.hasher) (g.met.K.Hash.respects_eq c.args.key q.0 (same q got)))
+    c.len.ensures.unique
+
+pub returns-clause-old : goal.returns-clause-old
+returns-clause-old g c =
+    let within = rw (← c.self.view_is) at c.requires.within in
+    let v = c.replace_key_at-old.ensures.old in
+    rw (← c.self.view_is) (v.0, get-listed with_pair_key c.self.inside.table c.args.place within c.args.key v.0 v.1, v.2)
+
+pub returns-clause-state : goal.returns-clause-state
+returns-clause-state g c =
+    let within = rw (← c.self.view_is) at c.requires.within in
+    let same = rw (← c.self.view_is) at c.requires.same in
+    let s = settings_of c.self.inside.table in
+    key-state-by g.K.PartialEq.eq (λ s k. hash_of g.H.BuildHasher g.H.Hasher.Hasher s.hasher (g.K.Hash.hash_input k)) (record { contents = c.self.inside.table; maximum = c.self.inside.maximum }) c.args.place within c.self.invariant c.args.key c.replace_key_at-old.new.self c.replace_key_at-old.ensures.new
+    (λ q got. ap (hash_of g.H.BuildHasher g.H.Hasher.Hasher s.hasher) (g.met.K.Hash.respects_eq c.args.key q.0 (same q got)))
+    c.len.ensures.unique

@@ -1,0 +1,105 @@
+-- What each call does to a cache. Each relation goes by the reply.
+use Rattle.std.specs.Prelude.{◌≡◌, ℕ, Bool, List, [], Option, None, Some, Result, Ok, Err, map, remove, slice_get}
+use Rattle.std.specs.List.{position, slice_index_or, slice_set}
+use Rattle.std.specs.Borrow.{Bor}
+use Rattle.std.specs.Fn.{Once}
+use Rattle.scc_table.specs.Bounded.{GrowsBelow, IsListed, ShrinksBounded}
+use Rattle.scc_table.specs.Contents.{Contents, entries, bucket_count, list_of, lists_of, refused_of, settings_of}
+use Rattle.scc_table.specs.Places.{IsPlace}
+use Rattle.scc_table.specs.Routing.{bucket_number}
+use Rattle.scc_table.specs.declared.place.Place.{Place}
+use Rattle.scc_table.specs.declared.errors.InsertError.{InsertError}
+use Rattle.scc_table.specs.declared.errors.InsertError.TheVariants.{Exists, Memory}
+use Rattle.scc_cache.specs.Caches.{Cached}
+use Rattle.scc_cache.specs.ListSteps.{IsMissing, IsThere, PutsPair, Refreshes, Rewrites, TakesOut}
+
+module _ {E S : Type 0} where
+  -- the lists change as R says; settings, maximum and whether memory was refused stay
+  pub record Changes (R : List (List E) → List (List E) → Type 0) (c d : Cached E S) : Type 0 where
+    pub lists : R (lists_of c.contents) (lists_of d.contents)
+    pub settings : settings_of d.contents ≡ settings_of c.contents
+    pub refused : refused_of d.contents ≡ refused_of c.contents
+    pub maximum : d.maximum ≡ c.maximum
+
+  -- the growth that a new pair of list i lets happen first
+  pub record GrowsFor (hash : E → ℕ) (i : ℕ) (c d : Cached E S) : Type 0 where
+    pub grows : GrowsBelow hash c.maximum i c.contents d.contents
+    pub listed : IsListed hash d.contents
+    pub settings : settings_of d.contents ≡ settings_of c.contents
+    pub maximum : d.maximum ≡ c.maximum
+
+  -- the shrink that is tried last
+  pub record ShrinksTo (hash : E → ℕ) (c d : Cached E S) : Type 0 where
+    pub shrinks : ShrinksBounded hash c.contents d.contents
+    pub maximum : d.maximum ≡ c.maximum
+
+  -- what stood at the place was taken out, the others of its list stay in their order; then the array may become smaller
+  abbrev pub TakesAtBy : (E → ℕ) → Cached E S → Place → Cached E S → Type 0
+  TakesAtBy hash c p d = (left : Cached E S) × Changes (λ ls ms. ms ≡ slice_set ls p.bucket (remove (slice_index_or ls p.bucket []) p.slot)) c left × ShrinksTo hash left d
+
+  -- all pairs were taken out; then the array may become smaller
+  abbrev pub ClearsBy : (E → ℕ) → Cached E S → Cached E S → Type 0
+  ClearsBy hash c d = (left : Cached E S) × Changes (λ ls ms. ms ≡ map (λ _. []) ls) c left × ShrinksTo hash left d
+
+module _ {K V S : Type 0} (hash : K → ℕ) where
+  abbrev pub Clears : Cached (K × V) S → Cached (K × V) S → Type 0
+  Clears = ClearsBy (λ p. hash p.0)
+
+  abbrev pub TakesAt : Cached (K × V) S → Place → Cached (K × V) S → Type 0
+  TakesAt = TakesAtBy (λ p. hash p.0)
+
+  -- the number of the list of a key, of n lists, behind the skipped bits of c
+  abbrev pub number_in : Contents (K × V) S → ℕ → K → ℕ
+  number_in c n k = bucket_number (settings_of c).skipped n (hash k)
+
+  module _ (eq : K → K → Bool) where
+    -- no key equals k
+    abbrev pub IsAbsent : Contents (K × V) S → K → Type 0
+    IsAbsent c k = IsMissing (number_in c) eq (lists_of c) k
+
+    -- p is the pair of k, and stands there in its list
+    abbrev pub IsPresentAt : Contents (K × V) S → K → ℕ → K × V → Type 0
+    IsPresentAt c k i p = IsThere (number_in c) eq (lists_of c) k i p
+
+    -- p is the pair of k
+    abbrev pub IsPresent : Contents (K × V) S → K → K × V → Type 0
+    IsPresent c k p = (i : ℕ) × IsPresentAt c k i p
+
+    -- no key equals k, in its list or in any
+    pub record IsLacking (c : Contents (K × V) S) (k : K) : Type 0 where
+      pub absent : IsAbsent c k
+      pub all : position (λ p. eq k p.0) (entries c) ≡ None
+
+    -- the pair of k stands at the place
+    pub record IsFound (c : Contents (K × V) S) (k : K) (p : Place) : Type 0 where
+      pub within : IsPlace c p
+      pub bucket : p.bucket ≡ number_in c (bucket_count c) k
+      pub pair : K × V
+      pub there : IsPresentAt c k p.slot pair
+      pub here : slice_get (list_of c p.bucket) p.slot ≡ Some pair
+
+    -- the new pair p was put in after a growth, where that is due; x is what it drove out
+    abbrev pub PutsNew : Cached (K × V) S → K × V → Option (K × V) → Cached (K × V) S → Type 0
+    PutsNew c p x d = (grown : Cached (K × V) S) × GrowsFor (λ e. hash e.0) (number_in c.contents (bucket_count c.contents) p.0) c grown × Changes (PutsPair (number_in c.contents) eq p x) grown d
+
+    -- a put of the pair p. A key that is there changes nothing, and p comes back; so it does where there is no array and none can be had
+    abbrev pub Puts : Cached (K × V) S → K × V → Result (Option (K × V)) (InsertError K V) → Cached (K × V) S → Type 0
+    Puts c p (Ok x) d = IsAbsent c.contents p.0 × PutsNew c p x d
+    Puts c p (Err (Exists q)) d = (q ≡ p) × ((o : K × V) × IsPresent c.contents p.0 o) × (d ≡ c)
+    Puts c p (Err (Memory q)) d = (q ≡ p) × IsAbsent c.contents p.0 × (bucket_count c.contents ≡ 0) × (d ≡ c)
+
+    -- p, the pair of k, was taken out; then the array may become smaller
+    abbrev pub TakesThen : Cached (K × V) S → K → K × V → Cached (K × V) S → Type 0
+    TakesThen c k p d = (left : Cached (K × V) S) × Changes (TakesOut (number_in c.contents) eq k p) c left × ShrinksTo (λ e. hash e.0) left d
+
+    -- a removal of k: its pair is answered, and the others of its list stay in their order
+    abbrev pub Removes : Cached (K × V) S → K → Option (K × V) → Cached (K × V) S → Type 0
+    Removes c k None d = IsAbsent c.contents k × (d ≡ c)
+    Removes c k (Some p) d = TakesThen c k p d
+
+    -- a call of f at the pair of k may give r
+    pub record AnswersOn {F R : Type 0} (g : Once F (Bor K × (Bor V × Unit {0})) R) (f : F) (c : Contents (K × V) S) (k : K) (r : R) : Type 0 where
+      pub key : Bor K
+      pub value : Bor V
+      pub shows : IsPresent c k (key.now, value.now)
+      pub met : g.post f (key, (value, tt)) r

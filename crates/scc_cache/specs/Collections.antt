@@ -1,0 +1,26 @@
+-- A cache that is made of items.
+use Rattle.std.specs.Prelude.{◌≡◌, ℕ, ◌*◌, ◌<◌, Bool, List, [], length, max, Option, Result, Ok, Err}
+use Rattle.std.specs.List.{FoldsTo}
+use Rattle.scc_table.specs.Contents.{Contents, entries, bucket_count}
+use Rattle.scc_table.specs.Sizes.{IsArraySize}
+use Rattle.scc_table.specs.declared.errors.InsertError.{InsertError}
+use Rattle.scc_cache.specs.Caches.{Cached}
+use Rattle.scc_cache.specs.CacheSteps.{Puts}
+
+module _ {K V S : Type 0} (eq : K → K → Bool) (hash : Contents (K × V) S → K → ℕ) where
+  -- a put of the pair, with whatever answer
+  abbrev pub PutsOne : Cached (K × V) S → K × V → Cached (K × V) S → Type 0
+  PutsOne c p d = (r : Result (Option (K × V)) (InsertError K V)) × Puts (hash c.contents) eq c p r d
+
+  -- the pairs were put in their order
+  abbrev pub PutsAll : Cached (K × V) S → List (K × V) → Cached (K × V) S → Type 0
+  PutsAll c ps d = FoldsTo PutsOne c ps d
+
+  -- d is what puts of the pairs, in their order, make of an empty cache with an array and a maximum for as many pairs
+  pub record IsCollected (ps : List (K × V)) (d : Cached (K × V) S) : Type 0 where
+    pub made : Cached (K × V) S
+    pub empty : entries made.contents ≡ []
+    pub none : length ps ≡ 0 → bucket_count made.contents ≡ 0
+    pub size : 0 < length ps → IsArraySize (length ps) (32 * bucket_count made.contents)
+    pub maximum : IsArraySize (max (length ps) (32 * bucket_count made.contents)) made.maximum
+    pub run : PutsAll made ps d

@@ -1,0 +1,10 @@
+pub use Rattle.scc_table.specs.Bounded
+pub use Rattle.scc_table.specs.Contents
+pub use Rattle.scc_table.specs.Pairs
+pub use Rattle.scc_table.specs.Sizes
+pub mod CacheSteps
+pub mod Caches
+pub mod Collections
+pub mod Entries
+pub mod Lends
+pub mod ListSteps

@@ -1,0 +1,156 @@
+//! What makes an entry of a borrowed cache, and what lets the cache go. The search is made once, and an entry holds its place.
+ghost use Rattle.std.specs.Prelude.{◌≡◌, IfOk, IfErr, IfSome, IfNone};
+ghost use Rattle.std.specs.Borrow.{sem};
+ghost use Rattle.scc_table.specs.Contents.{bucket_count, key_hash};
+ghost use Rattle.scc_cache.specs.CacheSteps.{IsAbsent, TakesAt};
+ghost use Rattle.scc_cache.specs.Caches.{IsCacheState};
+ghost use Rattle.scc_cache.specs.Entries.{Memory, held_cache, occupied_pair, entry_guard, IsEntryOf, IsRefreshed, IsPut, rests_if_refused, rests_if_none, replaced_guard, Replaces};
+
+use super::{Entry, OccupiedEntry, ReplaceResult};
+use crate::hash_cache::EvictedEntry;
+use crate::hash_cache::held::{HeldEntry, HeldPlace, HeldReplace, HeldVacant};
+use crate::hash_cache::owned::Owned;
+use scc_table::InsertError;
+use std::hash::{BuildHasher, Hash};
+use std::marker::PhantomData;
+
+impl<K: Eq + Hash, V, H: BuildHasher> Owned<K, V, H> {
+    /// The entry of `k`: occupied at the stored pair, or vacant with `k`. It takes no memory, makes no array and leaves the order of the pairs.
+    pub fn entry_sync(&mut self, k: K) -> Entry<'_, K, V, H>
+    where
+        K: Drop,
+        ensures same_cache { (entry_guard result).ghost_name ≡ self.entry.ghost_name }
+        ensures entry { IsEntryOf K.eq self.old k result }
+    {
+        let hash = self.table.hash(&k);
+        match self.find(hash, &k) {
+            Some(place) => HeldPlace::Occupied(HeldEntry {
+                guard: self,
+                place,
+                rest: (),
+                of: PhantomData,
+            }),
+            None => HeldPlace::Vacant(HeldVacant {
+                guard: self,
+                key: k,
+                hash,
+                rest: (),
+                of: PhantomData,
+            }),
+        }
+    }
+
+    /// The occupied entry of `k`, whose pair becomes the most recent of its bucket; None where no key equals it, and then nothing changes. It takes no memory.
+    pub fn get_sync(&mut self, k: &K) -> Option<OccupiedEntry<'_, K, V, H>>
+        ensures same_cache { IfSome result (λ o. o.guard.ghost_name ≡ self.entry.ghost_name) }
+        ensures entry { IfSome result (IsRefreshed K.eq self.old k.now) }
+        ensures missing { IfNone result (IsAbsent (key_hash H.BuildHasher H.Hasher.Hasher K.hash_input self.old.contents) K.eq self.old.contents k.now) }
+        ensures* kept { sem 𝓛 (rests_if_none K.row V.row H.row H.Hasher.row K.Hash H.BuildHasher H.Hasher.Hasher self.entry result) }
+    {
+        match self.refresh(k) {
+            Some(place) => Some(HeldEntry {
+                guard: self,
+                place,
+                rest: (),
+                of: PhantomData,
+            }),
+            None => None,
+        }
+    }
+
+    /// Puts `k` in the place of the key that equals it, keeps the value, and answers the entry with the old key. Where no key equals it, it inserts nothing and answers the vacant entry. It takes no memory and leaves the order of the pairs.
+    pub fn replace_sync(&mut self, k: K) -> ReplaceResult<'_, K, V, H>
+        ensures same_cache { (replaced_guard result).ghost_name ≡ self.entry.ghost_name }
+        ensures step { Replaces K.eq self.old k result }
+    {
+        let hash = self.table.hash(&k);
+        match self.find(hash, &k) {
+            Some(place) => {
+                let old = self.replace_key_at(place, k);
+                HeldReplace::Replaced(
+                    HeldEntry {
+                        guard: self,
+                        place,
+                        rest: (),
+                        of: PhantomData,
+                    },
+                    old,
+                )
+            }
+            None => HeldReplace::NotReplaced(HeldVacant {
+                guard: self,
+                key: k,
+                hash,
+                rest: (),
+                of: PhantomData,
+            }),
+        }
+    }
+}
+
+impl<'a, N, K: Eq + Hash, V, H: BuildHasher> HeldEntry<&'a mut Owned<K, V, H>, N, K, V, H> {
+    /// Removes the pair, and answers its value. The array may become smaller.
+    pub fn remove(self) -> V
+    where
+        N: Drop,
+        K: Drop,
+        ensures value { result ≡ (occupied_pair self.entry).1 }
+        ensures removed { TakesAt (key_hash H.BuildHasher H.Hasher.Hasher K.hash_input (held_cache self.entry).contents) (held_cache self.entry) self.entry.place self.exit.0.now }
+        ensures state { IsCacheState K.eq (key_hash H.BuildHasher H.Hasher.Hasher K.hash_input self.exit.0.now.contents) self.exit.0.now }
+    {
+        let (_key, value) = self.remove_entry();
+        value
+    }
+
+    /// Removes the pair, and answers it. The array may become smaller.
+    pub fn remove_entry(self) -> (K, V)
+    where
+        N: Drop,
+        ensures pair { result ≡ occupied_pair self.entry }
+        ensures removed { TakesAt (key_hash H.BuildHasher H.Hasher.Hasher K.hash_input (held_cache self.entry).contents) (held_cache self.entry) self.entry.place self.exit.0.now }
+        ensures state { IsCacheState K.eq (key_hash H.BuildHasher H.Hasher.Hasher K.hash_input self.exit.0.now.contents) self.exit.0.now }
+    {
+        let place = self.place;
+        self.guard.remove_at(place)
+    }
+}
+
+impl<'a, K: Eq + Hash, V, H: BuildHasher> HeldVacant<&'a mut Owned<K, V, H>, (), K, V, H> {
+    /// Gives the key back, and leaves the cache as it is.
+    pub fn into_key(self) -> K
+        ensures key { result ≡ self.entry.key }
+        ensures unchanged { self.exit.0.now ≡ self.entry.guard.now }
+    {
+        self.key
+    }
+
+    /// Puts in the key with `value` as the most recent pair of its bucket, by the rules of `put_sync`, and answers the pair that it drove out and its entry. Refused for want of memory, which comes only where there is no array, key and value come back and nothing changed.
+    pub fn put_entry(
+        self,
+        value: V,
+    ) -> Result<(EvictedEntry<K, V>, OccupiedEntry<'a, K, V, H>), InsertError<K, V>>
+        ensures put { IfOk result (λ r. IsPut K.eq self.entry value r.0 r.1) }
+        ensures refused { IfErr result (λ e. (e ≡ Memory (self.entry.key, value)) × (bucket_count self.entry.guard.now.contents ≡ 0)) }
+        ensures* kept { sem 𝓛 (rests_if_refused K.row V.row H.row H.Hasher.row K.Hash H.BuildHasher H.Hasher.Hasher self.entry.guard result) }
+    {
+        let HeldVacant {
+            guard,
+            key,
+            hash,
+            rest,
+            of: _,
+        } = self;
+        match guard.put_at(hash, key, value) {
+            Ok((evicted, place)) => Ok((
+                evicted,
+                HeldEntry {
+                    guard,
+                    place,
+                    rest,
+                    of: PhantomData,
+                },
+            )),
+            Err(pair) => Err(InsertError::Memory(pair)),
+        }
+    }
+}

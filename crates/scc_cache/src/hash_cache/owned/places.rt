@@ -1,0 +1,124 @@
+//! What is done at a place of a cache.
+ghost use Rattle.std.specs.Prelude.{◌≡◌, true, Some, IfOk, IfErr, MatchOption, slice_get};
+ghost use Rattle.std.specs.Borrow.{sem};
+ghost use Rattle.scc_table.specs.Contents.{bucket_count, list_of, key_hash};
+ghost use Rattle.scc_table.specs.Places.{IsPlace};
+ghost use Rattle.scc_cache.specs.CacheSteps.{Changes, IsFound, IsLacking, PutsNew, TakesAt, number_in};
+ghost use Rattle.scc_cache.specs.Caches.{IsCacheState};
+ghost use Rattle.scc_cache.specs.Lends.{lends_value, with_key_at, with_value_at};
+ghost use Rattle.scc_cache.specs.ListSteps.{Refreshes};
+
+use super::Owned;
+use crate::hash_cache::EvictedEntry;
+use scc_table::Place;
+use std::hash::{BuildHasher, Hash};
+
+impl<K: Eq + Hash, V, H: BuildHasher> Owned<K, V, H> {
+    /// Where the pair of `k` stands. `hash` is the hash of `k`.
+    #[inline(always)]
+    pub(crate) fn find(&self, hash: u64, k: &K) -> Option<Place>
+        requires { hash ≡ key_hash H.BuildHasher H.Hasher.Hasher K.hash_input self.now.contents k.now }
+        ensures { MatchOption result (IsLacking (key_hash H.BuildHasher H.Hasher.Hasher K.hash_input self.now.contents) K.eq self.now.contents k.now) (IsFound (key_hash H.BuildHasher H.Hasher.Hasher K.hash_input self.now.contents) K.eq self.now.contents k.now) }
+    {
+        self.table.find_in(hash, k)
+    }
+
+    /// The key and the value at the place.
+    #[inline(always)]
+    pub(crate) fn pair_in(&self, place: Place) -> (&K, &V)
+        requires { IsPlace self.now.contents place }
+        ensures { slice_get (list_of self.now.contents place.bucket) place.slot ≡ Some (result.0.now, result.1.now) }
+    {
+        self.table.pair_in(place)
+    }
+
+    /// Puts in a pair whose key is new, and answers what it drove out, and its place.
+    #[inline(always)]
+    pub(crate) fn put_at(
+        &mut self,
+        hash: u64,
+        k: K,
+        v: V,
+    ) -> Result<(EvictedEntry<K, V>, Place), (K, V)>
+        requires hashed { hash ≡ key_hash H.BuildHasher H.Hasher.Hasher K.hash_input self.old.contents k }
+        requires lacking { IsLacking (key_hash H.BuildHasher H.Hasher.Hasher K.hash_input self.old.contents) K.eq self.old.contents k }
+        ensures step { IfOk result (λ r. PutsNew (key_hash H.BuildHasher H.Hasher.Hasher K.hash_input self.old.contents) K.eq self.old (k, v) r.0 self.new) }
+        ensures here { IfOk result (λ r. IsPlace self.new.contents r.1 × (slice_get (list_of self.new.contents r.1.bucket) r.1.slot ≡ Some (k, v))) }
+        ensures refused { IfErr result (λ p. (p ≡ (k, v)) × (bucket_count self.old.contents ≡ 0) × (self.new ≡ self.old)) }
+        ensures state { IsCacheState K.eq (key_hash H.BuildHasher H.Hasher.Hasher K.hash_input self.new.contents) self.new }
+    {
+        match self.table.bucket_within(hash, self.maximum) {
+            Ok(bucket) => {
+                self.table.keep_lists();
+                let evicted = self.table.put_last(bucket, hash, (k, v));
+                let slot = self.table.list_len(bucket) - 1;
+                Ok((evicted, Place { bucket, slot }))
+            }
+            Err(_) => Err((k, v)),
+        }
+    }
+
+    /// Makes the pair of `k` the most recent of its bucket, and answers where it then stands.
+    #[inline(always)]
+    pub(crate) fn refresh(&mut self, k: &K) -> Option<Place>
+        ensures step { MatchOption result (IsLacking (key_hash H.BuildHasher H.Hasher.Hasher K.hash_input self.old.contents) K.eq self.old.contents k.now × (self.new ≡ self.old)) (λ place. IsPlace self.new.contents place × ((p : K × V) × (slice_get (list_of self.new.contents place.bucket) place.slot ≡ Some p) × Changes (Refreshes (number_in (key_hash H.BuildHasher H.Hasher.Hasher K.hash_input self.old.contents) self.old.contents) K.eq k.now p) self.old self.new)) }
+        ensures state { IsCacheState K.eq (key_hash H.BuildHasher H.Hasher.Hasher K.hash_input self.new.contents) self.new }
+    {
+        let hash = self.table.hash(k);
+        match self.table.find_in(hash, k) {
+            Some(place) => {
+                let bucket = place.bucket;
+                self.table.touch(bucket, place.slot, hash);
+                let slot = self.table.list_len(bucket) - 1;
+                Some(Place { bucket, slot })
+            }
+            None => None,
+        }
+    }
+
+    /// Takes the pair out of its place. The others of its list stay in their order; then the array may become smaller.
+    #[inline(always)]
+    pub(crate) fn remove_at(&mut self, place: Place) -> (K, V)
+        requires { IsPlace self.old.contents place }
+        ensures pair { slice_get (list_of self.old.contents place.bucket) place.slot ≡ Some result }
+        ensures left { TakesAt (key_hash H.BuildHasher H.Hasher.Hasher K.hash_input self.old.contents) self.old place self.new }
+        ensures state { IsCacheState K.eq (key_hash H.BuildHasher H.Hasher.Hasher K.hash_input self.new.contents) self.new }
+    {
+        let pair = self.table.take_in(place);
+        self.table.shrink_within();
+        pair
+    }
+
+    /// The value at the place, to write. The order of the pairs stays.
+    pub(crate) fn value_mut_at(&mut self, place: Place) -> &mut V
+        requires { IsPlace self.old.contents place }
+        ensures* writes_back { sem 𝓛 (lends_value K.row V.row H.row H.Hasher.row K.Hash H.BuildHasher H.Hasher.Hasher self.entry place result) }
+        ensures value { (p : K × V) × (slice_get (list_of self.old.contents place.bucket) place.slot ≡ Some p) × (result.now ≡ p.1) }
+        ensures state { (v : V) → IsCacheState K.eq (key_hash H.BuildHasher H.Hasher.Hasher K.hash_input (with_value_at self.old place v).contents) (with_value_at self.old place v) }
+    {
+        self.table.value_mut_at(place)
+    }
+
+    /// Writes the value at the place, and answers the old one.
+    pub(crate) fn write_at(&mut self, place: Place, value: V) -> V
+        requires { IsPlace self.old.contents place }
+        ensures old { (p : K × V) × (slice_get (list_of self.old.contents place.bucket) place.slot ≡ Some p) × (result ≡ p.1) }
+        ensures new { self.new ≡ with_value_at self.old place value }
+        ensures state { IsCacheState K.eq (key_hash H.BuildHasher H.Hasher.Hasher K.hash_input self.new.contents) self.new }
+    {
+        std::mem::replace(self.value_mut_at(place), value)
+    }
+
+    /// Puts the key in the place of the one there, which it equals, and answers that one.
+    pub(crate) fn replace_key_at(&mut self, place: Place, key: K) -> K
+        requires within { IsPlace self.old.contents place }
+        requires same { (p : K × V) → slice_get (list_of self.old.contents place.bucket) place.slot ≡ Some p → K.eq key p.0 ≡ true }
+        ensures old { (p : K × V) × (slice_get (list_of self.old.contents place.bucket) place.slot ≡ Some p) × (result ≡ p.0) }
+        ensures new { self.new ≡ with_key_at self.old place key }
+        ensures state { IsCacheState K.eq (key_hash H.BuildHasher H.Hasher.Hasher K.hash_input self.new.contents) self.new }
+    {
+        let old = self.table.replace_key_at(place, key);
+        let _ = self.table.len();
+        old
+    }
+}

@@ -1,0 +1,71 @@
+//! Walks over the pairs of a cache. No walk makes a pair more recent.
+ghost use Rattle.std.specs.Prelude.{◌≡◌, suc, List, [], length, remove, true, Some, slice_get, MatchOption};
+ghost use Rattle.std.specs.List.Sorted.{IsPermutation};
+ghost use Rattle.scc_table.specs.Contents.{entries, list_of, refused_of, key_hash};
+ghost use Rattle.scc_table.specs.Places.{IsPlace, index_of};
+ghost use Rattle.scc_table.specs.Standing.{StandsAt};
+ghost use Rattle.scc_table.specs.Steps.{HoldsExactly};
+ghost use Rattle.scc_table.specs.Walks.{CalledOn, CallableWhile, Walks};
+ghost use Rattle.scc_cache.specs.CacheSteps.{Clears};
+ghost use Rattle.scc_cache.specs.Caches.{IsCacheState};
+
+use super::Owned;
+use scc_table::Place;
+use std::hash::{BuildHasher, Hash};
+
+impl<K: Eq + Hash, V, H: BuildHasher> Owned<K, V, H> {
+    /// Calls `f` on the pairs in some order, each at most once, until its first false, and answers false where it stopped. The order of the pairs stays.
+    #[inline(always)]
+    pub fn iter_sync<F: FnMut(&K, &V) -> bool>(&self, f: F) -> bool
+        requires { (es : List (K × V)) → IsPermutation (entries self.now.contents) es → CallableWhile F.FnMut true f es }
+        ensures { (es : List (K × V)) × (last : F) × IsPermutation (entries self.now.contents) es × Walks (CalledOn F.FnMut) f es result last }
+    {
+        self.table.walk(f)
+    }
+
+    /// Takes out all pairs. Then the array may become smaller.
+    pub fn clear_sync(&mut self)
+    where
+        K: Drop,
+        V: Drop,
+        ensures empty { entries self.new.contents ≡ [] }
+        ensures step { Clears (key_hash H.BuildHasher H.Hasher.Hasher K.hash_input self.old.contents) self.old self.new }
+        ensures state { IsCacheState K.eq (key_hash H.BuildHasher H.Hasher.Hasher K.hash_input self.new.contents) self.new }
+    {
+        self.take_all();
+        self.table.shrink_within();
+    }
+
+    /// Takes out all pairs, with no resize.
+    fn take_all(&mut self)
+    where
+        K: Drop,
+        V: Drop,
+        ensures empty { HoldsExactly self.old.contents [] self.new.contents }
+        ensures refused { refused_of self.new.contents ≡ refused_of self.old.contents }
+        ensures maximum { self.new.maximum ≡ self.old.maximum }
+        ensures state { IsCacheState K.eq (key_hash H.BuildHasher H.Hasher.Hasher K.hash_input self.new.contents) self.new }
+    {
+        let mut at = self.table.first_place();
+        while let Some(place) = at {
+            let (_pair, next) = self.take_and_step(place);
+            at = next;
+        }
+        let _ = self.len();
+    }
+
+    /// Takes the pair out of its place, with no resize, and answers it with the place of the pair that followed.
+    pub(crate) fn take_and_step(&mut self, place: Place) -> ((K, V), Option<Place>)
+        requires { IsPlace self.old.contents place }
+        ensures pair { slice_get (list_of self.old.contents place.bucket) place.slot ≡ Some result.0 }
+        ensures others { HoldsExactly self.old.contents (remove (entries self.old.contents) (index_of self.old.contents place)) self.new.contents }
+        ensures refused { refused_of self.new.contents ≡ refused_of self.old.contents }
+        ensures maximum { self.new.maximum ≡ self.old.maximum }
+        ensures next { MatchOption result.1 (suc (index_of self.old.contents place) ≡ length (entries self.old.contents)) (StandsAt self.new.contents (index_of self.old.contents place)) }
+    {
+        let pair = self.table.take_in(place);
+        let next = self.table.place_from(place);
+        self.table.keep_lists();
+        (pair, next)
+    }
+}

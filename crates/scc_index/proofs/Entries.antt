@@ -1,0 +1,80 @@
+-- What an entry shows, under any guard.
+use Rattle.std.proofs.Common.{◌≡◌, List, Bool, true, Some, suc, take, drop, refl, sym, ap, subst, ◌∙◌}
+use Rattle.std.specs.Cmp.{IsEquivalence}
+use Rattle.std.specs.List.{IsDistinct, slice_get}
+use Rattle.std.specs.Map.{keys_of, set_key}
+use Rattle.std.specs.declared.cmp.PartialEq as eq
+use Rattle.std.specs.declared.hash.Hash as hash
+use Rattle.std.specs.declared.hash.Hasher as hasher
+use Rattle.std.specs.declared.hash.BuildHasher as builder
+use Rattle.scc_table.specs.Contents.{Contents, entries}
+use Rattle.scc_table.specs.ShelfWrites.{put_whole}
+use Rattle.scc_table.specs.Placed.{entry_of, front_of, back_of}
+use Rattle.scc_table.specs.Places.{IsPlace, IsFoundAt, IsInsertedAt, index_of}
+use Rattle.scc_table.specs.Writes.{with_write_at, IsPlace-with_write_at}
+use Rattle.scc_table.specs.declared.guard.Guard as guard
+use Rattle.scc_table.proofs.KeyWrites.{place-found}
+use Rattle.scc_table.proofs.PairSplits.{set_value-at, set_key-split, apart-at, without-at}
+use Rattle.scc_table.proofs.Placed.{place-prop, entry_of-is, splits-there, written-there, put-there}
+use Rattle.scc_index.specs.Entries.{occupied_pair, IsOccupiedAt, IsUpdated, IsInserted}
+use Rattle.scc_index.proofs.Updates.{finds-replaced}
+use Rattle.scc_index.specs.declared.hash_index.held.HeldEntry.{HeldEntry}
+use Rattle.scc_index.specs.declared.hash_index.held.HeldVacant.{HeldVacant}
+
+module _ {G N K V S T : Type 0} {d : guard.Ghosts G (Contents (K × V) S)} {g : eq.Ghosts K} {h : hash.Ghosts K} {b : builder.Ghosts S T} {w : hasher.Ghosts T} where
+  -- what the guard showed at the place is the pair
+  pub pair-is : (o : HeldEntry G N K V S T d g h b w) (m : Contents (K × V) S) (p : K × V) → m ≡ d.kept o.guard → slice_get (entries m) (index_of m o.place) ≡ Some p → p ≡ occupied_pair o
+  pair-is o m p is got = sym (entry_of-is (d.kept o.guard) o.place o.within p (subst (λ (c : Contents (K × V) S). slice_get (entries c) (index_of c o.place) ≡ Some p) is got))
+
+  -- the entry that a search found is that of the key
+  pub occupied-at : {same : K → K → Bool} (laws : IsEquivalence same) (k : K) (o : HeldEntry G N K V S T d g h b w) → IsDistinct same (keys_of (entries (d.kept o.guard))) → IsFoundAt (λ e. same k e.0) (d.kept o.guard) o.place
+      → IsOccupiedAt same (d.kept o.guard) k o
+  unfolding front_of back_of
+  occupied-at {same = same} laws k o u found =
+      let c : Contents (K × V) S = d.kept o.guard in
+      let f = place-found same c k o.place found in
+      let e : occupied_pair o ≡ f.0 = entry_of-is c o.place o.within f.0 f.1 in
+      record {
+        contents = refl;
+        found = f.2 ∙ ap Some (sym e);
+        equal = rw e f.3;
+        writes = λ v. rw e (sym (set_value-at laws k (entries c) (index_of c o.place) u f v));
+        updates = λ q v. sym (ap (λ l. set_key (same k) l q) (set_value-at laws k (entries c) (index_of c o.place) u f v) ∙ set_key-split (same k) (take (index_of c o.place) (entries c)) (f.0.0, v) (drop (suc (index_of c o.place)) (entries c)) q (apart-at laws k (entries c) (index_of c o.place) u f) f.3);
+        removes = sym (without-at laws k (entries c) (index_of c o.place) u f);
+      }
+
+  -- a place stays one in what the guard keeps once a version was put there
+  pub within-after : (o : HeldEntry G N K V S T d g h b w) (m n : Contents (K × V) S) (e : K × V) → m ≡ d.kept o.guard → n ≡ with_write_at put_whole m o.place e → IsPlace (d.kept (d.keeping o.guard n)) o.place
+  within-after o m n e is made =
+      let P : Contents (K × V) S → Type 0 = λ c. IsPlace c o.place in
+      subst P (sym (d.keeps o.guard n)) (subst P (sym made) (IsPlace-with_write_at put_whole m o.place e (subst P (sym is) o.within)))
+
+  -- the version that was put in through the guard stands in the entry
+  pub updated-after : (C : K → K → Type 0) {same : K → K → Bool} (laws : IsEquivalence same) (o : HeldEntry G N K V S T d g h b w) (m n : Contents (K × V) S) (e : K × V) → m ≡ d.kept o.guard → n ≡ with_write_at put_whole m o.place e → C (occupied_pair o).0 e.0 → same e.0 (occupied_pair o).0 ≡ true
+      → IsDistinct same (keys_of (entries m)) → (p : IsPlace (d.kept (d.keeping o.guard n)) o.place) → IsUpdated C same o e.1 (record { guard = d.keeping o.guard n; place = o.place; rest = o.rest; of = o.of; within = p })
+  updated-after C laws o m n e is made cloned equal u p =
+      let at = written-there put_whole (d.kept o.guard) o.place o.within e (d.kept (d.keeping o.guard n)) p (d.keeps o.guard n ∙ made ∙ ap (λ c. with_write_at put_whole c o.place e) is) in
+      let split = splits-there (d.kept o.guard) o.place o.within in
+      record {
+        same_guard = ap (d.keeping o.guard) (sym (d.keeps o.guard n));
+        rest = refl;
+        key = e.0;
+        cloned = cloned;
+        equal = equal;
+        at = at;
+        finds = finds-replaced laws (front_of (d.kept o.guard) o.place) (back_of (d.kept o.guard) o.place) (occupied_pair o) e (entries (d.kept o.guard)) (entries (d.kept (d.keeping o.guard n))) split.splits at.contents.exact equal (rw is at u);
+      }
+
+  -- what was put in through the guard stands at the entry
+  pub inserted-after : (e : HeldVacant G N K V S T d g h b w) (m n : Contents (K × V) S) (v : V) (o : HeldEntry G N K V S T d g h b w) → o.guard ≡ d.keeping e.guard n → o.rest ≡ e.rest → m ≡ d.kept e.guard → IsInsertedAt m (e.key, v) n o.place → IsInserted e v o
+  inserted-after e m n v o guarded rests is i =
+      let k : d.kept o.guard ≡ n = ap d.kept guarded ∙ d.keeps e.guard n in
+      record {
+        same_guard = guarded ∙ ap (d.keeping e.guard) (sym k);
+        rest = rests;
+        at = put-there (d.kept e.guard) (e.key, v) (d.kept o.guard) o.place o.within (subst (λ c. IsInsertedAt c (e.key, v) (d.kept o.guard) o.place) is (subst (λ c. IsInsertedAt m (e.key, v) c o.place) (sym k) i));
+      }
+
+  -- an entry that is made anew of its parts
+  pub same-entry : (o : HeldEntry G N K V S T d g h b w) (p : IsPlace (d.kept o.guard) o.place) → record o { within = p } ≡ o
+  same-entry o p = ap (λ r. record o { within = r }) (place-prop (d.kept o.guard) o.place p o.within)

@@ -1,0 +1,28 @@
+-- Entries that stand one after another, under any guard.
+use Rattle.std.proofs.Common.{◌≡◌, ℕ, suc, List, refl, ap}
+use Rattle.std.specs.List.{remove}
+use Rattle.std.specs.declared.cmp.PartialEq as eq
+use Rattle.std.specs.declared.hash.Hash as hash
+use Rattle.std.specs.declared.hash.Hasher as hasher
+use Rattle.std.specs.declared.hash.BuildHasher as builder
+use Rattle.scc_table.specs.Contents.{Contents, entries}
+use Rattle.scc_table.specs.Places.{index_of}
+use Rattle.scc_table.specs.Steps.{HoldsExactly}
+use Rattle.scc_table.specs.declared.guard.Guard as guard
+use Rattle.scc_table.proofs.Placed.{splits-there, next-there, past-there}
+use Rattle.scc_index.specs.EntrySteps.{StandsIn, IsNext, IsNextPastRemoved}
+use Rattle.scc_index.specs.declared.hash_index.held.HeldEntry.{HeldEntry}
+
+module _ {G N K V S T : Type 0} {d : guard.Ghosts G (Contents (K × V) S)} {g : eq.Ghosts K} {h : hash.Ghosts K} {b : builder.Ghosts S T} {w : hasher.Ghosts T} where
+  -- the list is the pairs before an entry, its own, and those after it
+  pub stands-in : (o : HeldEntry G N K V S T d g h b w) → StandsIn (d.kept o.guard) o
+  stands-in o = record { contents = refl; at = splits-there (d.kept o.guard) o.place o.within }
+
+  -- the entry at the next place
+  pub next-at : (o p : HeldEntry G N K V S T d g h b w) → p.guard ≡ d.keeping o.guard (d.kept p.guard) → d.kept p.guard ≡ d.kept o.guard → index_of (d.kept o.guard) p.place ≡ suc (index_of (d.kept o.guard) o.place) → IsNext o p
+  next-at o p same now index = record { same_guard = same; at = next-there (d.kept o.guard) o.place o.within (d.kept p.guard) p.place p.within now index }
+
+  -- the entry at the place of the one that was taken out
+  pub next-past : (o p : HeldEntry G N K V S T d g h b w) → p.guard ≡ d.keeping o.guard (d.kept p.guard) → HoldsExactly (d.kept o.guard) (remove (entries (d.kept o.guard)) (index_of (d.kept o.guard) o.place)) (d.kept p.guard)
+      → index_of (d.kept p.guard) p.place ≡ index_of (d.kept o.guard) o.place → IsNextPastRemoved o p
+  next-past o p same others index = record { same_guard = same; at = past-there (d.kept o.guard) o.place (d.kept p.guard) p.place p.within others index }

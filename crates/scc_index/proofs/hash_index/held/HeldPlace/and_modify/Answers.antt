@@ -1,0 +1,9 @@
+use Rattle.std.proofs.Common.{refl, ap, ◌∙◌}
+use Rattle.scc_index.specs.Entries.{Occupied}
+use Rattle.scc_index.proofs.hash_index.held.HeldPlace.and_modify.Goals as goal
+
+pub returns-in-Ok-clause-modifies : goal.returns-in-Ok-clause-modifies
+returns-in-Ok-clause-modifies g c = rw c.in-Occupied.is (c.f-value.result, (c.get.result, c.f-value.ensures, c.get.ensures), c.in-Ok.ensures.updated)
+
+pub returns-in-Err-clause-refused : goal.returns-in-Err-clause-refused
+returns-in-Err-clause-refused g c = rw c.in-Occupied.is (ap Occupied c.in-Err.ensures.refused.1, rw c.in-Err.ensures.refused.0 (c.get.result, c.f-value.ensures, c.get.ensures))

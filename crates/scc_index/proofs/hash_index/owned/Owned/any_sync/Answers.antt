@@ -1,0 +1,7 @@
+use Rattle.std.proofs.Common.{refl}
+use Rattle.scc_index.proofs.EntrySteps.{stands-in}
+use Rattle.scc_index.proofs.IndexWalks.{passes-at}
+use Rattle.scc_index.proofs.hash_index.owned.Owned.any_sync.Goals as goal
+
+pub returns-in-Some : goal.returns-in-Some
+returns-in-Some g c = ((refl, λ w. refl, tt), record { same_index = refl; here = stands-in _; first = passes-at _ _ _ c.in-Some.ensures.1; none = tt; kept = tt })

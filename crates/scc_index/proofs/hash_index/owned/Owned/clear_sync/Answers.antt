@@ -1,0 +1,10 @@
+use Rattle.std.proofs.Common.{◌∙◌, length, sym, ap}
+use Rattle.scc_table.specs.Contents.{entries}
+use Rattle.std.proofs.lemmas.List.Sorted.{length_permutation}
+use Rattle.scc_table.proofs.Standing.{length-zero}
+use Rattle.scc_index.proofs.hash_index.owned.Owned.clear_sync.Goals as goal
+
+pub returns-clause-empty : goal.returns-clause-empty
+returns-clause-empty g c =
+    let same = rw c.self.view_is at c.shrink.ensures.resizes.same in
+    length-zero (entries c.shrink.new.self) (sym (length_permutation (entries c.take_all.new.self) (entries c.shrink.new.self) same ∙ ap length c.take_all.ensures.exact))

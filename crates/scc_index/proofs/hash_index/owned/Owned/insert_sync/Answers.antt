@@ -1,0 +1,44 @@
+use Rattle.std.proofs.Common.{refl, rules}
+use Rattle.scc_table.specs.Contents.{entries}
+use Rattle.scc_index.proofs.AfterSteps.{finds-rearranged}
+use Rattle.scc_table.proofs.Lookups.{find-position, find-position_none, finds-added}
+use Rattle.scc_index.proofs.hash_index.owned.Owned.insert_sync.Goals as goal
+use Rattle.scc_index.proofs.hash_index.owned.Owned.insert_sync.Goals.{in-Ok, in-Err}
+
+pub returns-in-Some-clause-step : goal.returns-in-Some-clause-step
+returns-in-Some-clause-step g c =
+    let f = find-position (g.K.PartialEq.eq c.args.k) (entries c.self.inside.table) _ c.in-Some.ensures.place.found in
+    (refl, rw (← c.self.view_is, f.2) (search rules), record { exact = refl; buckets = refl; settings = refl })
+
+pub returns-after-insert_made-clause-step : goal.returns-after-insert_made-clause-step
+returns-after-insert_made-clause-step g c =
+    let none = find-position_none (g.K.PartialEq.eq c.args.k) (entries c.self.inside.table) c.in-None.ensures.place in
+    elim c.match-insert_made.branch [
+      | in-Ok w ↦ rw (w.result-is, ← c.self.view_is) (none, w.in-Ok.ensures.ok.holds)
+      | in-Err w ↦ rw (w.result-is, ← c.self.view_is) (w.in-Err.ensures.err.0, none, w.in-Err.ensures.err.1)
+    ]
+
+pub returns-after-insert_made-clause-finds : goal.returns-after-insert_made-clause-finds
+returns-after-insert_made-clause-finds g c =
+    elim c.match-insert_made.branch [
+      | in-Ok w ↦ rw (w.result-is, ← c.self.view_is) (finds-added g.met.K.Eq.laws (entries c.self.inside.table) (entries c.insert_made.new.self) (c.args.k, c.args.v) w.in-Ok.ensures.ok.holds.same w.in-Ok.ensures.unique)
+      | in-Err w ↦ rw w.result-is tt
+    ]
+
+pub returns-after-insert_made-clause-growth : goal.returns-after-insert_made-clause-growth
+returns-after-insert_made-clause-growth g c = rw (← c.self.view_is) c.insert_made.ensures.growth
+
+pub returns-in-Some-clause-due : goal.returns-in-Some-clause-due
+returns-in-Some-clause-due g c =
+    let f = find-position (g.K.PartialEq.eq c.args.k) (entries c.self.inside.table) _ c.in-Some.ensures.place.found in
+    λ none. let here = rw (← c.self.view_is, f.2) at none in cc
+
+pub returns-after-insert_made-clause-due : goal.returns-after-insert_made-clause-due
+returns-after-insert_made-clause-due g c = λ _. rw (← c.self.view_is) c.insert_made.ensures.due
+
+pub returns-after-insert_made-clause-same : goal.returns-after-insert_made-clause-same
+returns-after-insert_made-clause-same g c =
+    elim c.match-insert_made.branch [
+      | in-Ok w ↦ rw w.result-is tt
+      | in-Err w ↦ rw (w.result-is, ← c.self.view_is) (finds-rearranged g.met.K.Eq.laws c.self.inside.table c.insert_made.new.self w.in-Err.ensures.err.1 c.insert_made.ensures.unique)
+    ]

@@ -1,0 +1,25 @@
+use Rattle.std.proofs.Common.{◌≡◌, ◌∙◌, [], ◌∷◌, suc, length, map, ap, refl}
+use Rattle.std.specs.Arc.{arc_value}
+use Rattle.std.proofs.lemmas.List.{map-append}
+use Rattle.scc_table.specs.Contents.{entries}
+use Rattle.scc_table.specs.Places.{index_of}
+use Rattle.scc_table.proofs.Placed.{take-more}
+use Rattle.scc_index.proofs.IndexWalks.{nearer, reached-at, reached-first, take-all}
+use Rattle.scc_index.proofs.Snapshots.{turned-back}
+use Rattle.scc_index.proofs.hash_index.owned.Owned.iter.Goals as goal
+
+pub loop-at-preserved : goal.loop-at-preserved
+loop-at-preserved g c =
+    let m = c.args.self.now in
+    let got = rw c.self.view_is at c.entry_at.ensures in
+    let next = reached-at m (suc (index_of m c.in-Some.place)) c.next_place-at.result c.next_place-at.ensures in
+    let listed = rw c.in-Some.is at c.loop-at.invariant.listed in
+    record {
+      within = next.1;
+      listed = rw (next.0, take-more (entries m) (index_of m c.in-Some.place) _ got, c.in-Ok-push.ensures.items, map-append, listed, c.in-Ok-share.ensures) refl;
+    }
+
+pub returns : goal.returns
+returns g c =
+    let listed = rw c.in_default.is at c.loop-at.invariant.listed in
+    rw c.reverse.ensures.items (turned-back arc_value c.loop-at.versions.items ∙ listed ∙ take-all (entries c.args.self.now) (length (entries c.args.self.now)) refl)

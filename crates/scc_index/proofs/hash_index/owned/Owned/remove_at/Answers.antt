@@ -1,0 +1,7 @@
+use Rattle.scc_index.proofs.hash_index.owned.Owned.remove_at.Goals as goal
+
+pub returns-clause-others : goal.returns-clause-others
+returns-clause-others g c = rw (← c.self.view_is) c.remove_at-version.ensures.others
+
+pub returns-clause-smaller : goal.returns-clause-smaller
+returns-clause-smaller g c = rw (← c.self.view_is) c.remove_at-version.ensures.smaller

@@ -1,0 +1,46 @@
+-- An index that is made of items, or of another index's pairs.
+use Rattle.std.specs.Prelude.{◌≡◌, ℕ, ◌*◌, ◌<◌, Bool, List, [], length, Option, None, Some, Ok, Err, Result, MatchOption}
+use Rattle.std.specs.List.{FoldsTo}
+use Rattle.std.specs.Option.{IsSomeAnd}
+use Rattle.scc_table.specs.Contents.{Contents, entries, bucket_count, settings_of}
+use Rattle.scc_table.specs.Pairs.{find}
+use Rattle.scc_table.specs.Sizes.{IsArraySize}
+use Rattle.scc_table.specs.declared.errors.InsertError.{InsertError}
+use Rattle.scc_table.specs.declared.errors.InsertError.TheVariants.{Exists, Memory}
+use Rattle.scc_index.specs.IndexSteps.{Inserts}
+
+-- not refused for want of memory
+abbrev pub IsAnswered : {K V : Type 0} → Result (Unit {0}) (InsertError K V) → Type 0
+IsAnswered (Ok _) = Unit {0}
+IsAnswered (Err (Exists q)) = Unit {0}
+IsAnswered (Err (Memory q)) = ⊥
+
+module _ {K V S : Type 0} (eq : K → K → Bool) where
+  -- an insertion that is not refused for want of memory
+  abbrev pub InsertsOne : Contents (K × V) S → K × V → Contents (K × V) S → Type 0
+  InsertsOne c p d = (r : Result (Unit {0}) (InsertError K V)) × IsAnswered r × Inserts eq c p r d
+
+  -- the pairs were inserted in their order
+  abbrev pub InsertsAll : Contents (K × V) S → List (K × V) → Contents (K × V) S → Type 0
+  InsertsAll c ps d = FoldsTo InsertsOne c ps d
+
+  -- d is what insertions of the pairs, in their order, make of an empty index with an array for as many pairs
+  pub record IsCollected (ps : List (K × V)) (d : Contents (K × V) S) : Type 0 where
+    pub made : Contents (K × V) S
+    pub empty : entries made ≡ []
+    pub none : length ps ≡ 0 → bucket_count made ≡ 0
+    pub size : 0 < length ps → IsArraySize (length ps) (32 * bucket_count made)
+    pub asked : (settings_of made).asked ≡ 32 * bucket_count made
+    pub reserved : (settings_of made).reserved ≡ 0
+    pub skipped : (settings_of made).skipped ≡ 0
+    pub settings : settings_of d ≡ settings_of made
+    pub run : InsertsAll made ps d
+
+module _ {K V : Type 0} where
+  -- a look-up of k in the pairs finds the first item whose key equals k; nothing where there is none
+  pub record FindsFirst (eq : K → K → Bool) (items pairs : List (K × V)) : Type 0 where
+    pub finds : (k : K) → find eq pairs k ≡ find eq items k
+
+  -- where a look-up of k finds a pair in the old pairs, it finds a clone of it, by C, in the new ones; else nothing
+  pub record FindsClones (eq : K → K → Bool) (C : K × V → K × V → Type 0) (old new : List (K × V)) : Type 0 where
+    pub finds : (k : K) → MatchOption (find eq old k) (find eq new k ≡ None) (λ p. IsSomeAnd (find eq new k) (C p))

@@ -1,0 +1,132 @@
+-- What the contracts of an entry cite. An entry holds its map by a guard: a `&mut` in the owned form.
+pub use Rattle.scc_index.specs.declared.hash_index.held.HeldPlace.TheVariants.{Occupied, Vacant}
+pub use Rattle.scc_table.specs.declared.errors.InsertError.TheVariants.{Exists, Memory}
+use Rattle.std.specs.Prelude.{◌≡◌, Bool, true, List, ◌∷◌, ◌++◌, Option, None, Some, Result, ⊤}
+use Rattle.std.specs.Borrow.{Fml, RattleType, Bor, MutBor, RestsIfErr, RestsIfNone}
+use Rattle.std.specs.HashMap.Lent.{HashMembers}
+use Rattle.std.specs.Fn.{Once, FnOnceTakesAt, FnOnceReturnsAt}
+use Rattle.std.specs.Map.{set_value, set_key}
+use Rattle.std.specs.declared.cmp.PartialEq as eq
+use Rattle.std.specs.declared.hash.Hash as hash
+use Rattle.std.specs.declared.hash.Hasher as hasher
+use Rattle.std.specs.declared.hash.BuildHasher as builder
+use Rattle.scc_table.specs.Contents.{Contents, entries}
+use Rattle.scc_table.specs.Pairs.{find, without, FindsInstead}
+use Rattle.scc_table.specs.Placed.{entry_of, front_of, back_of, IsWrittenAt, IsPutAt}
+use Rattle.scc_table.specs.Steps.{Rests}
+use Rattle.scc_table.specs.declared.errors.InsertError.{InsertError}
+use Rattle.scc_table.specs.declared.guard.Guard as guard
+use Rattle.scc_index.specs.Lends.{index_row}
+use Rattle.scc_index.specs.declared.hash_index.held.HeldEntry.{HeldEntry}
+use Rattle.scc_index.specs.declared.hash_index.held.HeldPlace.{HeldPlace}
+use Rattle.scc_index.specs.declared.hash_index.held.HeldVacant.{HeldVacant}
+
+module _ {G N K V S T : Type 0} {d : guard.Ghosts G (Contents (K × V) S)} {g : eq.Ghosts K} {h : hash.Ghosts K} {b : builder.Ghosts S T} {w : hasher.Ghosts T} where
+  -- the index that the entry holds
+  abbrev pub held_index : HeldEntry G N K V S T d g h b w → Contents (K × V) S
+  held_index o = d.kept o.guard
+
+  -- the pair of the entry, and the pairs before and after it
+  abbrev pub occupied_pair : HeldEntry G N K V S T d g h b w → K × V
+  occupied_pair o = entry_of (d.kept o.guard) o.place o.within
+
+  abbrev pub occupied_front : HeldEntry G N K V S T d g h b w → List (K × V)
+  occupied_front o = front_of (d.kept o.guard) o.place
+
+  abbrev pub occupied_back : HeldEntry G N K V S T d g h b w → List (K × V)
+  occupied_back o = back_of (d.kept o.guard) o.place
+
+  -- what holds the index
+  abbrev pub entry_guard : HeldPlace G N K V S T d g h b w → G
+  entry_guard (Occupied o) = o.guard
+  entry_guard (Vacant e) = e.guard
+
+  -- the index stays, and o stands at the pair of k
+  pub record IsOccupiedAt (same : K → K → Bool) (c : Contents (K × V) S) (k : K) (o : HeldEntry G N K V S T d g h b w) : Type 0 where
+    pub contents : d.kept o.guard ≡ c
+    pub found : find same (entries c) k ≡ Some (occupied_pair o)
+    pub equal : same k (occupied_pair o).0 ≡ true
+    pub writes : (v : V) → occupied_front o ++ ((occupied_pair o).0, v) ∷ occupied_back o ≡ set_value (same k) (entries c) v
+    pub updates : (q : K) (v : V) → occupied_front o ++ (q, v) ∷ occupied_back o ≡ set_key (same k) (set_value (same k) (entries c) v) q
+    pub removes : occupied_front o ++ occupied_back o ≡ without same (entries c) k
+
+  -- the index stays, and e has the key k, which the index lacks
+  pub record IsVacantAt (same : K → K → Bool) (c : Contents (K × V) S) (k : K) (e : HeldVacant G N K V S T d g h b w) : Type 0 where
+    pub contents : d.kept e.guard ≡ c
+    pub found : find same (entries c) k ≡ None
+    pub key : e.key ≡ k
+
+  abbrev pub IsEntryOf : (K → K → Bool) → Contents (K × V) S → K → HeldPlace G N K V S T d g h b w → Type 0
+  IsEntryOf same c k (Occupied o) = IsOccupiedAt same c k o
+  IsEntryOf same c k (Vacant e) = IsVacantAt same c k e
+
+  -- p is the entry o, once a version of the value v and a clone of the key, by C, has taken the place of the old one
+  pub record IsUpdated (C : K → K → Type 0) (same : K → K → Bool) (o : HeldEntry G N K V S T d g h b w) (v : V) (p : HeldEntry G N K V S T d g h b w) : Type 0 where
+    pub same_guard : p.guard ≡ d.keeping o.guard (d.kept p.guard)
+    pub rest : p.rest ≡ o.rest
+    pub key : K
+    pub cloned : C (occupied_pair o).0 key
+    pub equal : same key (occupied_pair o).0 ≡ true
+    pub at : IsWrittenAt (d.kept o.guard) o.place (key, v) (d.kept p.guard) p.place p.within
+    pub finds : FindsInstead same (entries (d.kept o.guard)) (occupied_pair o).0 (Some (key, v)) (entries (d.kept p.guard))
+
+  -- o stands at the pair that was put in through e
+  pub record IsInserted (e : HeldVacant G N K V S T d g h b w) (v : V) (o : HeldEntry G N K V S T d g h b w) : Type 0 where
+    pub same_guard : o.guard ≡ d.keeping e.guard (d.kept o.guard)
+    pub rest : o.rest ≡ e.rest
+    pub at : IsPutAt (d.kept e.guard) (e.key, v) (d.kept o.guard) o.place o.within
+
+  -- the stored key, or the one that was asked for
+  abbrev pub entry_key : HeldPlace G N K V S T d g h b w → K
+  entry_key (Occupied o) = (occupied_pair o).0
+  entry_key (Vacant e) = e.key
+
+  abbrev pub IsVacant : HeldPlace G N K V S T d g h b w → Type 0
+  IsVacant (Occupied o) = ⊥
+  IsVacant (Vacant e) = ⊤
+
+  -- o is the entry; where that was vacant, a value of which P holds was put in
+  abbrev pub OrInsertsSome : HeldPlace G N K V S T d g h b w → (K → V → Type 0) → HeldEntry G N K V S T d g h b w → Type 0
+  OrInsertsSome (Occupied p) P o = o ≡ p
+  OrInsertsSome (Vacant e) P o = (v : V) × P e.key v × IsInserted e v o
+
+  -- o is the entry, once v was put in where it was vacant
+  abbrev pub OrInserts : HeldPlace G N K V S T d g h b w → V → HeldEntry G N K V S T d g h b w → Type 0
+  OrInserts (Occupied p) v o = o ≡ p
+  OrInserts (Vacant e) v o = IsInserted e v o
+
+  -- a refusal: the key comes back with a value of which P holds
+  abbrev pub RefusesSome : HeldPlace G N K V S T d g h b w → (K → V → Type 0) → InsertError K V → Type 0
+  RefusesSome e P r = (v : V) × P (entry_key e) v × (r ≡ Memory (entry_key e, v))
+
+  module _ {F : Type 0} (f : Once F (Bor V × Unit {0}) V) (x : F) where
+    -- the closure may be called on the value
+    abbrev pub TakesEntry : HeldPlace G N K V S T d g h b w → Type 0
+    TakesEntry (Occupied o) = FnOnceTakesAt f x (occupied_pair o).1
+    TakesEntry (Vacant e) = ⊤
+
+    -- the entry, once what the closure answered on its value was published
+    abbrev pub Modifies : (K → K → Type 0) → (K → K → Bool) → HeldPlace G N K V S T d g h b w → HeldPlace G N K V S T d g h b w → Type 0
+    Modifies C same (Occupied o) (Occupied p) = (v : V) × FnOnceReturnsAt f x (occupied_pair o).1 v × IsUpdated C same o v p
+    Modifies C same (Vacant e) (Vacant p) = p ≡ e
+    Modifies C same e p = ⊥
+
+    -- the entry comes back as it was, with what the closure answered on its value
+    abbrev pub RefusesModify : HeldPlace G N K V S T d g h b w → HeldPlace G N K V S T d g h b w × V → Type 0
+    RefusesModify (Occupied o) r = (r.0 ≡ Occupied o) × FnOnceReturnsAt f x (occupied_pair o).1 r.1
+    RefusesModify (Vacant e) r = ⊥
+
+module _ (K V S T : RattleType) (key : HashMembers K.Denot) (build : builder.Ghosts S.Denot T.Denot) (feed : hasher.Ghosts T.Denot) where
+  -- an entry of an index that is borrowed
+  abbrev pub Borrowed : (N : Type 0) → guard.Ghosts (MutBor (Contents (K.Denot × V.Denot) S.Denot)) (Contents (K.Denot × V.Denot) S.Denot) → eq.Ghosts K.Denot → hash.Ghosts K.Denot → builder.Ghosts S.Denot T.Denot → hasher.Ghosts T.Denot → Type 0
+  Borrowed N d g h b w = HeldEntry (MutBor (Contents (K.Denot × V.Denot) S.Denot)) N K.Denot V.Denot S.Denot T.Denot d g h b w
+
+  -- where r has no entry, the index behind m rests: as it was, or resized once
+  abbrev pub rests_if_refused : {E N : Type 0} {d : guard.Ghosts (MutBor (Contents (K.Denot × V.Denot) S.Denot)) (Contents (K.Denot × V.Denot) S.Denot)} {g : eq.Ghosts K.Denot} {h : hash.Ghosts K.Denot} {b : builder.Ghosts S.Denot T.Denot} {w : hasher.Ghosts T.Denot}
+      → MutBor (Contents (K.Denot × V.Denot) S.Denot) → Result (Borrowed N d g h b w) E → Fml
+  rests_if_refused m r = RestsIfErr (index_row K V S T key build feed) m (λ o. o.guard.ghost_name) r (λ n. Rests m.now n)
+
+  -- where r has no entry, the index behind m stays as it is
+  abbrev pub rests_if_none : {N : Type 0} {d : guard.Ghosts (MutBor (Contents (K.Denot × V.Denot) S.Denot)) (Contents (K.Denot × V.Denot) S.Denot)} {g : eq.Ghosts K.Denot} {h : hash.Ghosts K.Denot} {b : builder.Ghosts S.Denot T.Denot} {w : hasher.Ghosts T.Denot}
+      → MutBor (Contents (K.Denot × V.Denot) S.Denot) → Option (Borrowed N d g h b w) → Fml
+  rests_if_none m r = RestsIfNone (index_row K V S T key build feed) m (λ o. o.guard.ghost_name) r (λ n. n ≡ m.now)

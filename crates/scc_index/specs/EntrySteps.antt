@@ -1,0 +1,38 @@
+-- Which entries of a list an occupied entry stands between, and which stands next.
+use Rattle.std.specs.Prelude.{◌≡◌, ◌++◌, Option}
+use Rattle.std.specs.Borrow.{Fml, RattleType, MutBor, RestsIfNone}
+use Rattle.std.specs.HashMap.Lent.{HashMembers}
+use Rattle.std.specs.declared.cmp.PartialEq as eq
+use Rattle.std.specs.declared.hash.Hash as hash
+use Rattle.std.specs.declared.hash.Hasher as hasher
+use Rattle.std.specs.declared.hash.BuildHasher as builder
+use Rattle.scc_table.specs.Contents.{Contents}
+use Rattle.scc_table.specs.Pairs.{IsUnique}
+use Rattle.scc_table.specs.Placed.{SplitsAt, IsNextAt, IsNextPastRemovedAt}
+use Rattle.scc_table.specs.Steps.{HoldsExactly}
+use Rattle.scc_table.specs.declared.guard.Guard as guard
+use Rattle.scc_index.specs.Entries.{occupied_front, occupied_back, Borrowed}
+use Rattle.scc_index.specs.Lends.{index_row}
+use Rattle.scc_index.specs.declared.hash_index.held.HeldEntry.{HeldEntry}
+
+module _ {G N K V S T : Type 0} {d : guard.Ghosts G (Contents (K × V) S)} {g : eq.Ghosts K} {h : hash.Ghosts K} {b : builder.Ghosts S T} {w : hasher.Ghosts T} where
+  -- the index stays, and its list is the pairs before o, that of o, and those after it
+  pub record StandsIn (c : Contents (K × V) S) (o : HeldEntry G N K V S T d g h b w) : Type 0 where
+    pub contents : d.kept o.guard ≡ c
+    pub at : SplitsAt (d.kept o.guard) o.place o.within
+
+  -- p stands next after o in the list, which stays
+  pub record IsNext (o p : HeldEntry G N K V S T d g h b w) : Type 0 where
+    pub same_guard : p.guard ≡ d.keeping o.guard (d.kept p.guard)
+    pub at : IsNextAt (d.kept o.guard) o.place o.within (d.kept p.guard) p.place p.within
+
+  -- the pair of o is out, the others stay in their order, and p stands at the one that stood next after it
+  pub record IsNextPastRemoved (o p : HeldEntry G N K V S T d g h b w) : Type 0 where
+    pub same_guard : p.guard ≡ d.keeping o.guard (d.kept p.guard)
+    pub at : IsNextPastRemovedAt (d.kept o.guard) o.place (d.kept p.guard) p.place p.within
+
+module _ (K V S T : RattleType) (key : HashMembers K.Denot) (build : builder.Ghosts S.Denot T.Denot) (feed : hasher.Ghosts T.Denot) where
+  -- where r has no entry, the index behind o is left with the other pairs in their order
+  abbrev pub rests_removed : {N : Type 0} {d : guard.Ghosts (MutBor (Contents (K.Denot × V.Denot) S.Denot)) (Contents (K.Denot × V.Denot) S.Denot)} {g : eq.Ghosts K.Denot} {h : hash.Ghosts K.Denot} {b : builder.Ghosts S.Denot T.Denot} {w : hasher.Ghosts T.Denot}
+      → Borrowed K V S T key build feed N d g h b w → Option (Borrowed K V S T key build feed N d g h b w) → Fml
+  rests_removed {d = d} o r = RestsIfNone (index_row K V S T key build feed) o.guard (λ p. p.guard.ghost_name) r (λ n. HoldsExactly (d.kept o.guard) (occupied_front o ++ occupied_back o) n × IsUnique key.eq n)

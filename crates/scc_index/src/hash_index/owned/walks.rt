@@ -1,0 +1,117 @@
+//! Walks over the pairs of an index, from place to place.
+ghost use Rattle.std.specs.Prelude.{◌≡◌, ◌≢◌, suc, List, [], length, remove, MatchOption, false};
+ghost use Rattle.std.specs.List.Sorted.{IsPermutation};
+ghost use Rattle.scc_table.specs.Contents.{entries, bucket_count, minimum_of};
+ghost use Rattle.scc_table.specs.Pairs.{IsUnique};
+ghost use Rattle.scc_table.specs.Places.{IsPlace, index_of};
+ghost use Rattle.scc_table.specs.Sizes.{IsSmaller};
+ghost use Rattle.scc_table.specs.Standing.{StandsAt};
+ghost use Rattle.scc_table.specs.Steps.{Holds, HoldsExactly, ShrinksWhenDue};
+ghost use Rattle.scc_table.specs.Walks.{CalledOn, CallableWhile};
+ghost use Rattle.scc_index.specs.IndexWalks.{CallableOnAll, PassesNone, PassesFirst, Retains};
+
+use super::Owned;
+use scc_table::Place;
+use std::hash::{BuildHasher, Hash};
+
+impl<K: Eq + Hash, V, H: BuildHasher> Owned<K, V, H> {
+    /// Takes out all versions. Then the array may become smaller.
+    pub fn clear_sync(&mut self)
+    where
+        K: Drop,
+        V: Drop,
+        ensures empty { entries self.new ≡ [] }
+        ensures holds { Holds self.old [] self.new }
+        ensures smaller { bucket_count self.new ≢ bucket_count self.old → IsSmaller (minimum_of self.old) 0 (bucket_count self.old) (bucket_count self.new) }
+        ensures due { ShrinksWhenDue self.old self.new }
+        ensures unique { IsUnique K.eq self.new }
+    {
+        self.take_all();
+        self.table.shrink();
+    }
+
+    /// Takes out all versions, with no resize.
+    fn take_all(&mut self)
+    where
+        K: Drop,
+        V: Drop,
+        ensures { HoldsExactly self.old [] self.new }
+    {
+        let mut at = self.table.first_place();
+        while let Some(place) = at {
+            at = self.take_and_step(place);
+        }
+    }
+
+    /// Calls `f` on every pair once, in some order, and takes out the versions of the pairs on which it answers false. Then the array may become smaller.
+    pub fn retain_sync<F: FnMut(&K, &V) -> bool>(&mut self, f: F)
+    where
+        K: Drop,
+        V: Drop,
+        requires { (es : List (K × V)) → IsPermutation (entries self.old) es → CallableOnAll F.FnMut f es }
+        ensures step { (es : List (K × V)) × (stay : List (K × V)) × (last : F) × IsPermutation (entries self.old) es × Retains (CalledOn F.FnMut) f es stay last × Holds self.old stay self.new }
+        ensures smaller { bucket_count self.new ≢ bucket_count self.old → IsSmaller (minimum_of self.old) (length (entries self.new)) (bucket_count self.old) (bucket_count self.new) }
+        ensures due { ShrinksWhenDue self.old self.new }
+        ensures unique { IsUnique K.eq self.new }
+    {
+        self.retain_all(f);
+        self.table.shrink();
+    }
+
+    /// The same in the order of the list, with no resize.
+    fn retain_all<F: FnMut(&K, &V) -> bool>(&mut self, mut f: F)
+    where
+        K: Drop,
+        V: Drop,
+        requires { CallableOnAll F.FnMut f (entries self.old) }
+        ensures { (stay : List (K × V)) × (last : F) × Retains (CalledOn F.FnMut) f (entries self.old) stay last × HoldsExactly self.old stay self.new }
+    {
+        let mut at = self.table.first_place();
+        while let Some(place) = at {
+            let (key, value) = self.pair_at(place);
+            if f(key, value) {
+                at = self.next_place(place);
+            } else {
+                at = self.take_and_step(place);
+            }
+        }
+    }
+
+    /// The place after that one, or None where it is the last.
+    pub(crate) fn next_place(&self, place: Place) -> Option<Place>
+        requires { IsPlace self.now place }
+        ensures { MatchOption result (suc (index_of self.now place) ≡ length (entries self.now)) (StandsAt self.now (suc (index_of self.now place))) }
+    {
+        self.table.next_place(place)
+    }
+
+    /// Takes the version out of its place, with no resize, and answers the place of the one that followed.
+    pub(crate) fn take_and_step(&mut self, place: Place) -> Option<Place>
+    where
+        K: Drop,
+        V: Drop,
+        requires { IsPlace self.old place }
+        ensures others { HoldsExactly self.old (remove (entries self.old) (index_of self.old place)) self.new }
+        ensures next { MatchOption result (suc (index_of self.old place) ≡ length (entries self.old)) (StandsAt self.new (index_of self.old place)) }
+        ensures unique { IsUnique K.eq self.new }
+    {
+        let _version = self.table.take_at(place);
+        self.table.place_from(place)
+    }
+
+    /// The place of the first pair on which `p` answers true. It is called on the pairs in their order, up to that one.
+    pub(crate) fn first_passing<P: FnMut(&K, &V) -> bool>(&self, mut p: P) -> Option<Place>
+        requires { CallableWhile P.FnMut false p (entries self.now) }
+        ensures { MatchOption result (PassesNone (CalledOn P.FnMut) p (entries self.now)) (λ place. IsPlace self.now place × PassesFirst (CalledOn P.FnMut) p (entries self.now) (index_of self.now place)) }
+    {
+        let mut at = self.table.first_place();
+        while let Some(place) = at {
+            let (key, value) = self.pair_at(place);
+            if p(key, value) {
+                return Some(place);
+            }
+            at = self.next_place(place);
+        }
+        None
+    }
+}

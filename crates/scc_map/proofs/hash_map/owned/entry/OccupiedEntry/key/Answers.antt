@@ -1,6 +1,0 @@
-use Rattle.std.proofs.Common.{sym, ap}
-use Rattle.scc_map.proofs.Entries.{pair-is}
-use Rattle.scc_map.proofs.hash_map.owned.entry.OccupiedEntry.key.Goals as goal
-
-pub returns : goal.returns
-returns g c = ap (λ p. p.0) (sym (pair-is c.args.self.now (c.pair_at.result.0.now, c.pair_at.result.1.now) c.pair_at.ensures))

@@ -1,9 +1,0 @@
-use Rattle.std.proofs.Common.{refl}
-use Rattle.scc_map.proofs.EntrySteps.{next-at, back-none}
-use Rattle.scc_map.proofs.hash_map.owned.entry.OccupiedEntry.next_sync.Goals as goal
-
-pub returns-in-Some : goal.returns-in-Some
-returns-in-Some g c = ((refl, λ w. refl, tt), record { next = next-at c.args.self _ refl c.in-Some.ensures.index; last = tt; kept = tt })
-
-pub returns-in-None : goal.returns-in-None
-returns-in-None g c = ((refl, λ _. tt, refl), record { next = tt; last = back-none c.args.self c.in-None.ensures; kept = tt })

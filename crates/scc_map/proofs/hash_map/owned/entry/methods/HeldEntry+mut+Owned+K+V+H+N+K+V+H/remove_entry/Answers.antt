@@ -1,0 +1,11 @@
+use Rattle.std.proofs.Common.{refl}
+use Rattle.scc_table.specs.Placed.{front_of, back_of}
+use Rattle.scc_map.proofs.Entries.{pair-is}
+use Rattle.scc_map.proofs.hash_map.owned.entry.methods.HeldEntry+mut+Owned+K+V+H+N+K+V+H.remove_entry.Goals as goal
+
+pub returns-clause-pair : goal.returns-clause-pair
+returns-clause-pair g c = pair-is c.args.self c.args.self.guard.now c.remove_at.result refl c.remove_at.ensures.pair
+
+pub returns-clause-removed : goal.returns-clause-removed
+unfolding front_of back_of
+returns-clause-removed g c = c.remove_at.ensures.others

@@ -1,0 +1,41 @@
+-- What a run that was finished answers.
+use Rattle.std.specs.Prelude.{◌≡◌, ℕ, List, [], length, nat_eq}
+use Rattle.std.specs.List.Sorted.{IsPermutation, IsSorted}
+use Rattle.std.specs.Ordering.{nat_cmp, ordering_then}
+use Rattle.std.specs.declared.cmp.Ordering.{Ordering}
+use Rattle.scc_recorded.specs.Run.{IsRun}
+use Rattle.scc_recorded.specs.States.{ResizesTo}
+use Rattle.scc_recorded.specs.IndexCalls.{IndexMoves}
+use Rattle.scc_recorded.specs.MapCalls.{MapMoves}
+use Rattle.scc_recorded.specs.SetCalls.{SetMoves}
+use Rattle.scc_recorded.specs.declared.recorded.calls_as_values.IndexCall.{IndexCall}
+use Rattle.scc_recorded.specs.declared.recorded.calls_as_values.MapCall.{MapCall}
+use Rattle.scc_recorded.specs.declared.recorded.calls_as_values.SetCall.{SetCall}
+use Rattle.scc_recorded.specs.declared.recorded.fixed.Setting.{Setting}
+use Rattle.scc_play.specs.declared.same.Same.{Same}
+use Rattle.scc_play.specs.Output.{reply_line, content_line, key_reply_line, key_line, output_of}
+
+-- by key, and then by value
+abbrev pub pair_cmp : ℕ × ℕ → ℕ × ℕ → Ordering
+pair_cmp x y = ordering_then (nat_cmp x.0 y.0) (nat_cmp x.1 y.1)
+
+-- a reply to each call, one after another from the start; the items that they leave, in rising order; and their text
+pub record IsOutput {S C R X : Type 0} (moves : S → C → R → S → Type 0) (resizes : S → ℕ → S → Type 0) (start : S) (items : S → List X) (order : X → X → Ordering) (reply : R → List ℕ) (content : X → List ℕ) (calls : List C) (text : List ℕ) : Type 0 where
+  pub replies : List R
+  pub last : S
+  pub shown : List X
+  pub run : IsRun moves resizes start calls replies last
+  pub all : length replies ≡ length calls
+  pub same : IsPermutation (items last) shown
+  pub rising : IsSorted order shown
+  pub whole : text ≡ output_of reply content replies shown
+
+-- the output of a run of these calls of a map from no pairs
+abbrev pub MapOutput : List (MapCall ℕ ℕ) → List ℕ → Type 0
+MapOutput calls text = (setting : Setting Same) × IsOutput (MapMoves nat_eq) (ResizesTo setting) ([], 0) (λ s. s.0) pair_cmp reply_line content_line calls text
+
+abbrev pub SetOutput : List (SetCall ℕ) → List ℕ → Type 0
+SetOutput calls text = (setting : Setting Same) × IsOutput (SetMoves nat_eq) (ResizesTo setting) ([], 0) (λ s. s.0) nat_cmp key_reply_line key_line calls text
+
+abbrev pub IndexOutput : List (IndexCall ℕ ℕ) → List ℕ → Type 0
+IndexOutput calls text = (setting : Setting Same) × IsOutput (IndexMoves nat_eq) (ResizesTo setting) ([], 0) (λ s. s.0) pair_cmp reply_line content_line calls text

@@ -1,0 +1,48 @@
+-- What the calls of a set do to its state, by the reply.
+use Rattle.std.specs.Prelude.{◌≡◌, ℕ, ◌<◌, ◌==◌, Bool, [], ◌∷◌, length, count_by, Option, None, Some, IsSome, is_some}
+use Rattle.std.specs.List.Sorted.{IsPermutation}
+use Rattle.scc_table.specs.Routing.{bucket_number}
+use Rattle.scc_set.specs.Keys.{find, without, with_key}
+use Rattle.scc_recorded.specs.States.{State}
+use Rattle.scc_recorded.specs.declared.recorded.fixed.Setting.{Setting}
+use Rattle.scc_recorded.specs.declared.recorded.calls_as_values.SetCall.{SetCall}
+use Rattle.scc_recorded.specs.declared.recorded.calls_as_values.SetCall.TheVariants.{Insert, Replace, Read, Contains, Remove, Clear, Len}
+use Rattle.scc_recorded.specs.declared.recorded.replies.Reply.{Reply}
+use Rattle.scc_recorded.specs.declared.recorded.replies.Reply.TheVariants.{Inserted, Exists, Key, Has, Cleared, Count}
+
+module _ {K : Type 0} where
+  -- the key of a call, None where it concerns all keys
+  abbrev pub key_of_set : SetCall K → Option K
+  key_of_set (Insert k) = Some k
+  key_of_set (Replace k) = Some k
+  key_of_set (Remove k) = Some k
+  key_of_set (Read k) = Some k
+  key_of_set (Contains k) = Some k
+  key_of_set Clear = None
+  key_of_set Len = None
+
+  module _ (eq : K → K → Bool) where
+    -- the call may give the reply and leave t, with no resize
+    abbrev pub SetMoves : State K → SetCall K → Reply K (Unit {0}) → State K → Type 0
+    SetMoves s (Insert k) Inserted t = (find eq s.0 k ≡ None) × IsPermutation (k ∷ s.0) t.0 × (t.1 ≡ s.1)
+    SetMoves s (Insert k) (Exists l u) t = (l ≡ k) × IsSome (find eq s.0 k) × (t ≡ s)
+    SetMoves s (Replace k) (Key None) t = (find eq s.0 k ≡ None) × IsPermutation (k ∷ s.0) t.0 × (t.1 ≡ s.1)
+    SetMoves s (Replace k) (Key (Some l)) t = (find eq s.0 k ≡ Some l) × (t.0 ≡ with_key eq s.0 k) × (t.1 ≡ s.1)
+    SetMoves s (Remove k) (Key None) t = (find eq s.0 k ≡ None) × (t ≡ s)
+    SetMoves s (Remove k) (Key (Some l)) t = (find eq s.0 k ≡ Some l) × IsPermutation (without eq s.0 k) t.0 × (t.1 ≡ s.1)
+    SetMoves s (Read k) (Key r) t = (r ≡ find eq s.0 k) × (t ≡ s)
+    SetMoves s (Contains k) (Has b) t = (b ≡ is_some (find eq s.0 k)) × (t ≡ s)
+    SetMoves s Clear Cleared t = (t.0 ≡ []) × (t.1 ≡ s.1)
+    SetMoves s Len (Count n) t = (n ≡ length s.0) × (t ≡ s)
+    SetMoves s call reply t = ⊥
+
+    module _ {H : Type 0} (hash : H → K → ℕ) where
+      -- there is an array, and the bucket of k holds fewer than 32 keys
+      abbrev pub SetHasRoom : Setting H → State K → K → Type 0
+      SetHasRoom g s k = (0 < s.1) × (count_by (λ q. bucket_number g.skipped s.1 (hash g.hasher q) == bucket_number g.skipped s.1 (hash g.hasher k)) s.0 < 32)
+
+      -- memory may be refused to an insertion and a replacement of a new key without room, and to no other call
+      abbrev pub SetMayRefuse : Setting H → State K → SetCall K → Type 0
+      SetMayRefuse g s (Insert k) = (find eq s.0 k ≡ None) × (SetHasRoom g s k → ⊥)
+      SetMayRefuse g s (Replace k) = (find eq s.0 k ≡ None) × (SetHasRoom g s k → ⊥)
+      SetMayRefuse g s call = ⊥

@@ -1,0 +1,5 @@
+pub mod Clones
+pub mod Collecting
+pub mod Places
+pub mod Sets
+pub mod Walks

@@ -1,0 +1,88 @@
+-- Places of pairs with unit values as places of their keys.
+use Rattle.std.proofs.Common.{◌≡◌, ℕ, zero, suc, Bool, List, [], ◌∷◌, length, map, take, Option, None, Some, MatchOption, refl, sym, ap, subst, ◌∙◌}
+use Rattle.std.specs.Borrow.{Bor}
+use Rattle.std.specs.Fn.{Mut, Called, CalledAt, TakesAt, Takes as MayTake}
+use Rattle.std.specs.List.{slice_get, remove}
+use Rattle.std.specs.Map.{keys_of}
+use Rattle.std.specs.Option.{option_map}
+use Rattle.scc_table.specs.Contents.{Contents, entries}
+use Rattle.scc_table.specs.Placed.{front_of}
+use Rattle.scc_table.specs.Places.{IsPlace, index_of}
+use Rattle.scc_table.specs.Standing.{StandsAt}
+use Rattle.scc_table.specs.Steps.{Holds, HoldsExactly}
+use Rattle.scc_table.specs.Walks.{CalledOn}
+use Rattle.scc_table.specs.declared.place.Place.{Place}
+use Rattle.scc_table.proofs.Mapped.{entries-mapped, length-mapped, index_of-mapped, IsPlace-mapped, StandsAt-mapped, Holds-mapped, HoldsExactly-mapped}
+use Rattle.scc_map.specs.MapWalks as writes
+use Rattle.scc_set.specs.Keys.{of_map}
+use Rattle.scc_set.specs.SetWalks.{PassesNone, PassesAt}
+use Rattle.scc_set.proofs.Walks.{PassesNone-keys, PassesAt-keys}
+
+get-map : {E F : Type 0} (f : E → F) (es : List E) (i : ℕ) → slice_get (map f es) i ≡ option_map f (slice_get es i)
+get-map f [] i = refl
+get-map f (e ∷ es) zero = refl
+get-map f (e ∷ es) (suc i) = get-map f es i
+
+take-keys : {E F : Type 0} (f : E → F) (n : ℕ) (es : List E) → take n (map f es) ≡ map f (take n es)
+take-keys f zero es = refl
+take-keys f (suc n) [] = refl
+take-keys f (suc n) (e ∷ es) = ap (λ l. f e ∷ l) (take-keys f n es)
+
+remove-map : {E F : Type 0} (f : E → F) (es : List E) (i : ℕ) → remove (map f es) i ≡ map f (remove es i)
+remove-map f [] zero = refl
+remove-map f [] (suc i) = refl
+remove-map f (e ∷ es) zero = refl
+remove-map f (e ∷ es) (suc i) = ap (λ l. f e ∷ l) (remove-map f es i)
+
+some-same : {X : Type 0} (x y : X) → Some x ≡ Some y → x ≡ y
+some-same x y e = cc
+
+module _ {K S : Type 0} (c : Contents (K × Unit {0}) S) where
+  abbrev key_of : K × Unit {0} → K
+  key_of p = p.0
+
+  -- the key at a place is that of the pair there
+  pub get-key : (place : Place) (p : K × Unit {0}) → slice_get (entries c) (index_of c place) ≡ Some p → slice_get (entries (of_map c)) (index_of (of_map c) place) ≡ Some p.0
+  get-key place p h = rw (index_of-mapped key_of c place, entries-mapped key_of c) (get-map key_of (entries c) (index_of c place) ∙ ap (λ o. option_map key_of o) h)
+
+  pub starts : (r : Option Place) → MatchOption r (entries c ≡ []) (StandsAt c 0) → MatchOption r (entries (of_map c) ≡ []) (StandsAt (of_map c) 0)
+  starts None h = entries-mapped key_of c ∙ ap (λ es. keys_of es) h
+  starts (Some p) h = StandsAt-mapped key_of c 0 p h
+
+  pub follows : (place : Place) (r : Option Place) → MatchOption r (suc (index_of c place) ≡ length (entries c)) (StandsAt c (suc (index_of c place)))
+      → MatchOption r (suc (index_of (of_map c) place) ≡ length (entries (of_map c))) (StandsAt (of_map c) (suc (index_of (of_map c) place)))
+  follows place None h = rw (index_of-mapped key_of c place, length-mapped key_of c) h
+  follows place (Some q) h = rw (index_of-mapped key_of c place) (StandsAt-mapped key_of c (suc (index_of c place)) q h)
+
+  removed-keys : (place : Place) → keys_of (remove (entries c) (index_of c place)) ≡ remove (entries (of_map c)) (index_of (of_map c) place)
+  removed-keys place = sym (ap (λ i. remove (entries (of_map c)) i) (index_of-mapped key_of c place) ∙ ap (λ es. remove es (index_of c place)) (entries-mapped key_of c) ∙ remove-map key_of (entries c) (index_of c place))
+
+  pub holds-others : (place : Place) (d : Contents (K × Unit {0}) S) → Holds c (remove (entries c) (index_of c place)) d → Holds (of_map c) (remove (entries (of_map c)) (index_of (of_map c) place)) (of_map d)
+  holds-others place d h = subst (λ ks. Holds (of_map c) ks (of_map d)) (removed-keys place) (Holds-mapped key_of c (remove (entries c) (index_of c place)) d h)
+
+  pub exactly-others : (place : Place) (d : Contents (K × Unit {0}) S) → HoldsExactly c (remove (entries c) (index_of c place)) d → HoldsExactly (of_map c) (remove (entries (of_map c)) (index_of (of_map c) place)) (of_map d)
+  exactly-others place d h = subst (λ ks. HoldsExactly (of_map c) ks (of_map d)) (removed-keys place) (HoldsExactly-mapped key_of c (remove (entries c) (index_of c place)) d h)
+
+  pub follows-taken : (place : Place) (d : Contents (K × Unit {0}) S) (r : Option Place) → MatchOption r (suc (index_of c place) ≡ length (entries c)) (StandsAt d (index_of c place))
+      → MatchOption r (suc (index_of (of_map c) place) ≡ length (entries (of_map c))) (StandsAt (of_map d) (index_of (of_map c) place))
+  follows-taken place d None h = rw (index_of-mapped key_of c place, length-mapped key_of c) h
+  follows-taken place d (Some q) h = rw (index_of-mapped key_of c place) (StandsAt-mapped key_of d (index_of c place) q h)
+
+  front-keys : (place : Place) → keys_of (take (index_of c place) (entries c)) ≡ front_of (of_map c) place
+  unfolding front_of
+  front-keys place = sym (ap (λ i. take i (entries (of_map c))) (index_of-mapped key_of c place) ∙ ap (λ es. take (index_of c place) es) (entries-mapped key_of c) ∙ take-keys key_of (index_of c place) (entries c))
+
+  module _ {C F : Type 0} (gm : Mut C (Bor K × (Bor (Unit {0}) × Unit {0})) Bool) (gf : Mut F (Bor K × Unit {0}) Bool) (of : C → F)
+      (one : (s : C) (key : Bor K) (value : Bor (Unit {0})) (r : Bool) (t : C) → Called gm s (key, (value, tt)) r t → CalledAt gf (of s) key.now r (of t))
+      (may : (s : C) (key : Bor K) (value : Bor (Unit {0})) → TakesAt gf (of s) key.now → MayTake gm s (key, (value, tt))) where
+    -- the first key that passes stands where the first pair does
+    pub passing : (s : C) (r : Option Place) → MatchOption r (writes.PassesNone (CalledOn gm) s (entries c)) (λ place. IsPlace c place × writes.PassesFirst (CalledOn gm) s (entries c) (index_of c place))
+        → MatchOption r (PassesNone (CalledAt gf) (of s) (entries (of_map c))) (λ place. IsPlace (of_map c) place × ((k : K) → slice_get (entries (of_map c)) (index_of (of_map c) place) ≡ Some k → PassesAt (CalledAt gf) (of s) (front_of (of_map c) place) k))
+    passing s None h = rw (entries-mapped key_of c) (PassesNone-keys gm gf of one may s (entries c) h)
+    passing s (Some place) h = (
+      IsPlace-mapped key_of c place h.0,
+      λ k e.
+          let same : h.1.pair.0 ≡ k = some-same h.1.pair.0 k (sym (get-key place h.1.pair h.1.here) ∙ e) in
+          subst (PassesAt (CalledAt gf) (of s) (front_of (of_map c) place)) same
+          (subst (λ ks. PassesAt (CalledAt gf) (of s) ks h.1.pair.0) (front-keys place) (PassesAt-keys gm gf of one may s (take (index_of c place) (entries c)) h.1.pair h.1.first)),
+    )

@@ -1,0 +1,15 @@
+use Rattle.scc_table.proofs.Mapped.{ShrinksWhenDue-mapped}
+use Rattle.scc_set.proofs.Sets.{ReleasesOrRefuses-keys, on-ok, shows, unique-keys}
+use Rattle.scc_set.proofs.hash_set.owned.Owned.release.Goals as goal
+
+pub returns-clause-step : goal.returns-clause-step
+returns-clause-step g c = rw (← c.self.view_is) (ReleasesOrRefuses-keys c.args.reservation c.self.inside.map c.release.result c.release.new.self c.release.ensures.step)
+
+pub returns-clause-succeeds : goal.returns-clause-succeeds
+returns-clause-succeeds g c = rw (← c.self.view_is, (shows c.self.inside.map).settings) c.release.ensures.succeeds
+
+pub returns-clause-due : goal.returns-clause-due
+returns-clause-due g c = rw (← c.self.view_is) (on-ok c.release.result (ShrinksWhenDue-mapped _ _ _) c.release.ensures.due)
+
+pub returns-clause-unique : goal.returns-clause-unique
+returns-clause-unique g c = unique-keys _ _ c.release.ensures.unique

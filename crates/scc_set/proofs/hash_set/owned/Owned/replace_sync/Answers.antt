@@ -1,0 +1,13 @@
+use Rattle.std.proofs.Common.{IsOk, ap, ◌∙◌}
+use Rattle.scc_table.specs.Contents.{bucket_count}
+use Rattle.scc_set.proofs.hash_set.owned.Owned.replace_sync.Goals as goal
+
+pub returns-in-Err-insert_sync-clause-succeeds : goal.returns-in-Err-insert_sync-clause-succeeds
+returns-in-Err-insert_sync-clause-succeeds g c =
+    λ r. let e = c.in-Err.ensures.missing in let h : IsOk c.insert_sync.result = c.insert_sync.ensures.succeeds (rw (e.2, e.0) e.1) (rw (e.2, e.0) r) in rw c.in-Err-insert_sync.is at h
+
+pub returns-in-Ok-insert_sync-clause-kept : goal.returns-in-Ok-insert_sync-clause-kept
+returns-in-Ok-insert_sync-clause-kept g c = λ n r. let e = c.in-Err.ensures.missing in c.insert_sync.ensures.kept (rw (e.2, e.0) n) (rw (e.2, e.0) r) ∙ ap bucket_count e.2
+
+pub returns-in-Err-insert_sync-clause-kept : goal.returns-in-Err-insert_sync-clause-kept
+returns-in-Err-insert_sync-clause-kept g c = λ n r. let e = c.in-Err.ensures.missing in c.insert_sync.ensures.kept (rw (e.2, e.0) n) (rw (e.2, e.0) r) ∙ ap bucket_count e.2

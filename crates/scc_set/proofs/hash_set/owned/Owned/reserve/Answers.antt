@@ -1,0 +1,15 @@
+use Rattle.scc_table.proofs.Mapped.{ReachesMinimumWhenDue-mapped}
+use Rattle.scc_set.proofs.Sets.{ReservesOrRefuses-keys, on-some, shows, unique-keys}
+use Rattle.scc_set.proofs.hash_set.owned.Owned.reserve.Goals as goal
+
+pub returns-clause-step : goal.returns-clause-step
+returns-clause-step g c = rw (← c.self.view_is) (ReservesOrRefuses-keys c.args.additional c.self.inside.map c.reserve.result c.reserve.new.self c.reserve.ensures.step)
+
+pub returns-clause-succeeds : goal.returns-clause-succeeds
+returns-clause-succeeds g c = rw (← c.self.view_is, (shows c.self.inside.map).settings) c.reserve.ensures.succeeds
+
+pub returns-clause-due : goal.returns-clause-due
+returns-clause-due g c = rw (← c.self.view_is) (on-some c.reserve.result (ReachesMinimumWhenDue-mapped _ _ _) c.reserve.ensures.due)
+
+pub returns-clause-unique : goal.returns-clause-unique
+returns-clause-unique g c = unique-keys _ _ c.reserve.ensures.unique

@@ -1,0 +1,11 @@
+use Rattle.scc_set.proofs.Sets.{swapped-keys, missing-keys, unique-keys}
+use Rattle.scc_set.proofs.hash_set.owned.Owned.swap_key.Goals as goal
+
+pub returns-clause-swapped : goal.returns-clause-swapped
+returns-clause-swapped g c = rw (← c.self.view_is) (swapped-keys g.met.K.Eq.laws c.self.inside.map c.args.k c.swap_in_map.new.map c.swap_in_map.result c.swap_in_map.ensures.swapped)
+
+pub returns-clause-missing : goal.returns-clause-missing
+returns-clause-missing g c = rw (← c.self.view_is) (missing-keys g.met.K.Eq.laws c.self.inside.map c.args.k c.swap_in_map.new.map c.swap_in_map.result c.swap_in_map.ensures.missing)
+
+pub returns-clause-unique : goal.returns-clause-unique
+returns-clause-unique g c = unique-keys _ _ c.swap_in_map.ensures.unique

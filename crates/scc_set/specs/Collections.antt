@@ -1,0 +1,38 @@
+-- A set that is made of items, or of another set's keys.
+use Rattle.std.specs.Prelude.{◌≡◌, ℕ, ◌*◌, ◌<◌, Bool, List, [], ◌∷◌, length, None, IsSome, MatchOption, ◌⊎◌}
+use Rattle.std.specs.List.{FoldsTo}
+use Rattle.std.specs.Option.{IsSomeAnd}
+use Rattle.scc_table.specs.Contents.{Contents, entries, bucket_count, settings_of}
+use Rattle.scc_table.specs.Sizes.{IsArraySize}
+use Rattle.scc_table.specs.Steps.{Holds, IsUnchanged}
+use Rattle.scc_set.specs.Keys.{find}
+
+module _ {K S : Type 0} (eq : K → K → Bool) where
+  -- an insertion that is not refused for memory: a new key is added, one that equals a key that is there changes nothing
+  abbrev pub InsertsOne : Contents K S → K → Contents K S → Type 0
+  InsertsOne c k d = ((find eq (entries c) k ≡ None) × Holds c (k ∷ entries c) d) ⊎ (IsSome (find eq (entries c) k) × IsUnchanged c d)
+
+  -- the keys were inserted in their order
+  abbrev pub InsertsAll : Contents K S → List K → Contents K S → Type 0
+  InsertsAll c ks d = FoldsTo InsertsOne c ks d
+
+  -- d is what insertions of the keys, in their order, make of an empty set with an array for as many keys
+  pub record IsCollected (ks : List K) (d : Contents K S) : Type 0 where
+    pub made : Contents K S
+    pub empty : entries made ≡ []
+    pub none : length ks ≡ 0 → bucket_count made ≡ 0
+    pub size : 0 < length ks → IsArraySize (length ks) (32 * bucket_count made)
+    pub asked : (settings_of made).asked ≡ 32 * bucket_count made
+    pub reserved : (settings_of made).reserved ≡ 0
+    pub skipped : (settings_of made).skipped ≡ 0
+    pub settings : settings_of d ≡ settings_of made
+    pub run : InsertsAll made ks d
+
+module _ {K : Type 0} where
+  -- a look-up of k in the keys finds the first item that equals k; nothing where there is none
+  pub record FindsItems (eq : K → K → Bool) (items keys : List K) : Type 0 where
+    pub finds : (k : K) → find eq keys k ≡ find eq items k
+
+  -- where a look-up of k finds a key in the old keys, it finds a clone of it, by C, in the new ones; else nothing
+  pub record FindsClones (eq : K → K → Bool) (C : K → K → Type 0) (old new : List K) : Type 0 where
+    pub finds : (k : K) → MatchOption (find eq old k) (find eq new k ≡ None) (λ q. IsSomeAnd (find eq new k) (C q))

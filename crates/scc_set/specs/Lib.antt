@@ -1,0 +1,13 @@
+pub use Rattle.scc_map.specs.MapSizes
+pub use Rattle.scc_table.specs.Clones
+pub use Rattle.scc_table.specs.Contents
+pub use Rattle.scc_table.specs.Mapped
+pub use Rattle.scc_table.specs.Sizes
+pub use Rattle.scc_table.specs.Steps
+pub mod Collections
+pub mod Equality
+pub mod Keys
+pub mod SetSteps
+pub mod SetWalks
+pub mod Lends
+pub mod SetEntries

@@ -1,0 +1,56 @@
+-- What the contracts of an entry cite: the key that it stands at, those before and after it, and what it leaves.
+use Rattle.std.specs.Prelude.{◌≡◌, List, ◌++◌, Option, Result}
+use Rattle.std.specs.Borrow.{Fml, RattleType, MutBor, RestsIfErr, RestsIfNone}
+use Rattle.std.specs.HashMap.Lent.{HashMembers}
+use Rattle.std.specs.declared.cmp.PartialEq as eq
+use Rattle.std.specs.declared.hash.Hash as hash
+use Rattle.std.specs.declared.hash.Hasher as hasher
+use Rattle.std.specs.declared.hash.BuildHasher as builder
+use Rattle.scc_table.specs.Contents.{Contents}
+use Rattle.scc_table.specs.Placed.{entry_of, front_of, back_of, SplitsAt, IsNextAt, IsNextPastRemovedAt}
+use Rattle.scc_table.specs.Steps.{HoldsExactly}
+use Rattle.scc_table.specs.declared.place.Place.{Place}
+use Rattle.scc_set.specs.Keys.{IsUnique}
+use Rattle.scc_set.specs.Lends.{set_row}
+use Rattle.scc_set.specs.declared.hash_set.owned.entry.OccupiedEntry.{OccupiedEntry}
+
+module _ {K S T : Type 0} {g : eq.Ghosts K} {h : hash.Ghosts K} {b : builder.Ghosts S T} {w : hasher.Ghosts T} where
+  -- where the entry stands
+  abbrev pub place_of : OccupiedEntry K S T g h b w → Place
+  place_of o = record { bucket = o.bucket; slot = o.slot }
+
+  -- the key of the entry, and the keys before and after it
+  abbrev pub occupied_key : OccupiedEntry K S T g h b w → K
+  occupied_key o = entry_of o.set.now (place_of o) o.within
+
+  abbrev pub occupied_front : OccupiedEntry K S T g h b w → List K
+  occupied_front o = front_of o.set.now (place_of o)
+
+  abbrev pub occupied_back : OccupiedEntry K S T g h b w → List K
+  occupied_back o = back_of o.set.now (place_of o)
+
+  -- the set stays, and its list is the keys before o, that of o, and those after it
+  pub record StandsIn (c : Contents K S) (o : OccupiedEntry K S T g h b w) : Type 0 where
+    pub contents : o.set.now ≡ c
+    pub at : SplitsAt o.set.now (place_of o) o.within
+
+  -- p stands next after o in the list, which stays
+  pub record IsNext (o p : OccupiedEntry K S T g h b w) : Type 0 where
+    pub same_set : p.set.ghost_name ≡ o.set.ghost_name
+    pub at : IsNextAt o.set.now (place_of o) o.within p.set.now (place_of p) p.within
+
+  -- the key of o is out, the others stay in their order, and p stands at the one that stood next after it
+  pub record IsNextPastRemoved (o p : OccupiedEntry K S T g h b w) : Type 0 where
+    pub same_set : p.set.ghost_name ≡ o.set.ghost_name
+    pub at : IsNextPastRemovedAt o.set.now (place_of o) p.set.now (place_of p) p.within
+
+module _ (K S T : RattleType) (key : HashMembers K.Denot) (build : builder.Ghosts S.Denot T.Denot) (feed : hasher.Ghosts T.Denot) where
+  -- where r has no entry, the set behind m stays as it is
+  abbrev pub rests_if_none : {g : eq.Ghosts K.Denot} {h : hash.Ghosts K.Denot} {b : builder.Ghosts S.Denot T.Denot} {w : hasher.Ghosts T.Denot}
+      → MutBor (Contents K.Denot S.Denot) → Option (OccupiedEntry K.Denot S.Denot T.Denot g h b w) → Fml
+  rests_if_none m r = RestsIfNone (set_row K S T key build feed) m (λ o. o.set.ghost_name) r (λ n. n ≡ m.now)
+
+  -- where r has no entry, the set behind o is left with the other keys in their order
+  abbrev pub rests_removed : {A B : Type 0} {g : eq.Ghosts K.Denot} {h : hash.Ghosts K.Denot} {b : builder.Ghosts S.Denot T.Denot} {w : hasher.Ghosts T.Denot}
+      → OccupiedEntry K.Denot S.Denot T.Denot g h b w → Result (A × OccupiedEntry K.Denot S.Denot T.Denot g h b w) B → Fml
+  rests_removed o r = RestsIfErr (set_row K S T key build feed) o.set (λ d. d.1.set.ghost_name) r (λ n. HoldsExactly o.set.now (occupied_front o ++ occupied_back o) n × IsUnique key.eq n)

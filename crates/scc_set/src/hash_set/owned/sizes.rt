@@ -1,0 +1,55 @@
+//! The calls about the size of a set: reservations, the range of the capacity, the bucket of a key.
+ghost use Rattle.std.specs.Prelude.{◌≡◌, ◌+◌, ◌≤◌, ◌<◌, ◌^◌, ◌↔◌, IsSome, IsOk, OnSome, OnOk};
+ghost use Rattle.scc_table.specs.Contents.{settings_of, minimum_of, pending_of, key_hash, bucket_of};
+ghost use Rattle.scc_table.specs.Steps.{ReachesMinimumWhenDue, ShrinksWhenDue};
+ghost use Rattle.scc_map.specs.MapSizes.{ReservesOrRefuses, ReleasesOrRefuses};
+ghost use Rattle.scc_set.specs.Keys.{IsUnique};
+
+use super::Owned;
+use scc_table::Reservation;
+use std::hash::{BuildHasher, Hash};
+use std::ops::RangeInclusive;
+
+impl<K: Eq + Hash, H: BuildHasher> Owned<K, H> {
+    /// Raises the minimum by so many slots, and answers the token that gives them back; None for 0, and where the minimum would pass the greatest capacity. An array with fewer slots than the minimum grows, unless memory is refused; the token comes all the same.
+    pub fn reserve(&mut self, additional: usize) -> Option<Reservation>
+        ensures step { ReservesOrRefuses additional self.old result self.new }
+        ensures succeeds { IsSome result ↔ ((0 < additional) × (minimum_of self.old + additional ≤ 2 ^ 63)) }
+        ensures due { OnSome result (ReachesMinimumWhenDue self.old self.new) }
+        ensures unique { IsUnique K.eq self.new }
+    {
+        self.map.reserve(additional)
+    }
+
+    /// Gives reserved slots back, and tries to make the array smaller. A token for more slots than what is reserved here comes back, and nothing changes.
+    pub fn release(&mut self, reservation: Reservation) -> Result<(), Reservation>
+        ensures step { ReleasesOrRefuses reservation self.old result self.new }
+        ensures succeeds { IsOk result ↔ (reservation ≤ (settings_of self.old).reserved) }
+        ensures due { OnOk result (ShrinksWhenDue self.old self.new) }
+        ensures unique { IsUnique K.eq self.new }
+    {
+        self.map.release(reservation)
+    }
+
+    /// From the slots that the array keeps at least to those that it may grow to.
+    pub fn capacity_range(&self) -> RangeInclusive<usize>
+        ensures low { result.start ≡ minimum_of self.now }
+        ensures high { result.end ≡ 2 ^ 63 }
+    {
+        self.map.capacity_range()
+    }
+
+    /// The number of the bucket of `k`, 0 without an array.
+    pub fn bucket_index(&self, k: &K) -> usize
+        ensures index { result ≡ bucket_of (key_hash H.BuildHasher H.Hasher.Hasher K.hash_input self.now) self.now k.now }
+    {
+        self.map.bucket_index(k)
+    }
+
+    /// How many buckets wait for their keys to come from an old array: none, since every resize moves all keys at once.
+    pub fn pending(&self) -> usize
+        ensures { result ≡ pending_of self.now }
+    {
+        self.map.pending()
+    }
+}

@@ -1,0 +1,4 @@
+//! A hash set over the map of `scc_map`, for one owner.
+#![tactic(auto)]
+
+pub mod hash_set;

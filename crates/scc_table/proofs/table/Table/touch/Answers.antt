@@ -1,0 +1,19 @@
+use Rattle.std.proofs.Common.{◌≡◌, ◌++◌, [], ◌∷◌, subst}
+use Rattle.scc_table.specs.Bounded.{HasList}
+use Rattle.scc_table.proofs.Bounds.{has-list-of, has-list-then}
+use Rattle.scc_table.proofs.table.Table.touch.Goals as goal
+
+pub push_last-requires-clause-absent : goal.push_last-requires-clause-absent
+push_last-requires-clause-absent g c = c.take_in-entry.ensures.gone
+
+pub push_last-requires-clause-short : goal.push_last-requires-clause-short
+push_last-requires-clause-short g c = c.take_in-entry.ensures.short c.requires.bounded
+
+pub returns-clause-list : goal.returns-clause-list
+returns-clause-list g c =
+    let taken = c.take_in-entry.ensures.lists c.requires.bounded in
+    let here = has-list-of c.args.self.now c.take_in-entry.new.self c.args.bucket _ taken c.requires.within in (
+      c.take_in-entry.result,
+      c.take_in-entry.ensures.listed,
+      subst (λ es. HasList c.args.self.now c.args.bucket (es ++ c.take_in-entry.result ∷ []) c.push_last.new.self) here (has-list-then c.args.self.now c.take_in-entry.new.self c.args.bucket _ taken c.push_last.new.self _ c.push_last.ensures.list),
+    )

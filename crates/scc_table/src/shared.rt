@@ -1,0 +1,60 @@
+//! A hasher that several containers share.
+ghost use Rattle.std.specs.Prelude.{◌≡◌, IfOk};
+ghost use Rattle.std.specs.Arc.{arc_value};
+
+use std::alloc::AllocError;
+use std::hash::BuildHasher;
+use std::marker::Model;
+use std::sync::Arc;
+
+/// One of several owners of a hasher. Containers that are made with owners of one hasher hash alike, and no clone of the hasher is asked for. A contract sees the hasher itself.
+#[derive(Drop)]
+pub struct Shared<H> {
+    owner: Arc<H>,
+}
+
+impl<H> Model for Shared<H> {
+    ghost use Rattle.std.specs.Arc.{arc_value};
+
+    ghost Value = { H };
+
+    ghost coded = { H.code };
+
+    ghost view = { λ s. arc_value s.owner };
+}
+
+impl<H> Shared<H> {
+    /// An owner of the hasher.
+    pub fn new(owner: Arc<H>) -> Shared<H>
+        ensures { result ≡ arc_value owner }
+    {
+        Shared { owner }
+    }
+}
+
+/// What can be handed out once more, the same.
+pub trait Share: Sized {
+    /// The same once more.
+    fn share(&self) -> Result<Self, AllocError>
+        ensures { IfOk result (λ s. s ≡ self.now) };
+}
+
+impl<H> Share for Shared<H> {
+    /// One more owner of the same hasher. It is refused where there are 2^63 - 1 of them.
+    fn share(&self) -> Result<Shared<H>, AllocError> {
+        Ok(Shared {
+            owner: Arc::try_clone(&self.owner)?,
+        })
+    }
+}
+
+impl<H: BuildHasher> BuildHasher for Shared<H> {
+    type Hasher = H::Hasher;
+
+    ghost build_hasher = { H.build_hasher };
+
+    #[inline(always)]
+    fn build_hasher(&self) -> H::Hasher {
+        self.owner.build_hasher()
+    }
+}

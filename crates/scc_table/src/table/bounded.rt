@@ -1,0 +1,221 @@
+//! Tables whose buckets hold at most 32 entries, each in the order of its list.
+ghost use Rattle.std.specs.Prelude.{◌≡◌, ◌≤◌, ◌<◌, ◌*◌, ◌^◌, ◌++◌, [], ◌∷◌, length, None, Some, IfOk, OnErr, MatchOption, slice_get, remove};
+ghost use Rattle.std.specs.List.{position};
+ghost use Rattle.std.specs.List.Sorted.{IsPermutation};
+ghost use Rattle.scc_table.specs.Bounded.{DoublesBelow, GrowsBelow, HasList, IsBounded, IsListed, IsListedAt, IsUnlisted, PutsLast, ShrinksBounded};
+ghost use Rattle.scc_table.specs.Contents.{entries, bucket_count, list_of, settings_of, key_hash, IsUniqueBy};
+ghost use Rattle.scc_table.specs.Places.{IsPlace};
+ghost use Rattle.scc_table.specs.Routing.{bucket_number};
+
+use super::Table;
+use super::edits::OVERFLOW_LIMIT;
+use crate::place::Place;
+use crate::route::{bucket_index, tag};
+use crate::sizes::buckets_for;
+use scc_bucket::Keyed;
+use std::alloc::AllocError;
+use std::hash::{BuildHasher, Hash};
+
+impl<E: Keyed, H: BuildHasher> Table<E, H>
+where
+    E::Key: Eq + Hash,
+{
+    /// The place in the list of the bucket, the one of the hash, of the entry with that key.
+    #[inline(always)]
+    pub fn search_in(&self, bucket: usize, hash: u64, key: &E::Key) -> Option<usize>
+        requires within { bucket < bucket_count self.now }
+        requires routed { bucket ≡ bucket_number (settings_of self.now).skipped (bucket_count self.now) hash }
+        requires hashed { hash ≡ key_hash H.BuildHasher H.Hasher.Hasher E.Key.hash_input self.now key.now }
+        ensures place { result ≡ position (λ e. E.Key.eq key.now (E.key_of e)) (list_of self.now bucket) }
+        ensures missed { result ≡ None → position (λ e. E.Key.eq key.now (E.key_of e)) (entries self.now) ≡ None }
+    {
+        self.buckets[bucket].search(key, tag(hash))
+    }
+
+    /// Where the entry with that key stands in the list of its bucket. `hash` is the key's hash.
+    #[inline(always)]
+    pub fn find_in(&self, hash: u64, key: &E::Key) -> Option<Place>
+        requires { hash ≡ key_hash H.BuildHasher H.Hasher.Hasher E.Key.hash_input self.now key.now }
+        ensures { MatchOption result (IsUnlisted (λ e. E.Key.eq key.now (E.key_of e)) self.now (bucket_number (settings_of self.now).skipped (bucket_count self.now) hash)) (IsListedAt (λ e. E.Key.eq key.now (E.key_of e)) self.now (bucket_number (settings_of self.now).skipped (bucket_count self.now) hash)) }
+    {
+        if self.bucket_count() == 0 {
+            return None;
+        }
+        let bucket = self.bucket_at(hash);
+        match self.search_in(bucket, hash, key) {
+            Some(slot) => Some(Place { bucket, slot }),
+            None => None,
+        }
+    }
+
+    /// Makes the array smaller where at most an eighth as many entries as slots are held, a smaller array has enough slots and each of its buckets gets at most 32 entries, unless memory is refused. Takes time by the number of entries and of buckets where it tries, else none to speak of.
+    #[inline(always)]
+    pub fn shrink_within(&mut self)
+        requires { IsBounded self.old }
+        ensures shrinks { ShrinksBounded (λ e. key_hash H.BuildHasher H.Hasher.Hasher E.Key.hash_input self.old (E.key_of e)) self.old self.new }
+        ensures listed { IsListed (λ e. key_hash H.BuildHasher H.Hasher.Hasher E.Key.hash_input self.new (E.key_of e)) self.new }
+        ensures same { IsPermutation (entries self.old) (entries self.new) }
+        ensures unique { IsUniqueBy E.Key.eq E.key_of self.new }
+    {
+        let present = self.bucket_count();
+        let length = self.len();
+        if present <= 2 || length > 4 * present {
+            self.keep_lists();
+            return;
+        }
+        self.narrow();
+        self.keep_lists();
+    }
+
+    /// What every table keeps of its lists. It does nothing, and is there for its contract.
+    #[inline(always)]
+    pub fn keep_lists(&self)
+        ensures listed { IsBounded self.now → IsListed (λ e. key_hash H.BuildHasher H.Hasher.Hasher E.Key.hash_input self.now (E.key_of e)) self.now }
+        ensures unique { IsUniqueBy E.Key.eq E.key_of self.now }
+    {
+        let _ = self.buckets.len();
+    }
+
+    /// The same where so few entries are held.
+    #[cold]
+    fn narrow(&mut self)
+        requires bounded { IsBounded self.old }
+        requires few { length (entries self.old) ≤ 4 * bucket_count self.old }
+        ensures shrinks { ShrinksBounded (λ e. key_hash H.BuildHasher H.Hasher.Hasher E.Key.hash_input self.old (E.key_of e)) self.old self.new }
+        ensures bounded { IsBounded self.new }
+        ensures same { IsPermutation (entries self.old) (entries self.new) }
+    {
+        let present = self.bucket_count();
+        let count = buckets_for(self.minimum()).max(buckets_for(2 * self.len()));
+        if count >= present {
+            return;
+        }
+        self.resize_short(count);
+    }
+
+    /// The entry at the place, seen in the list of its bucket.
+    #[inline(always)]
+    pub fn entry_in(&self, place: Place) -> &E
+        requires { IsPlace self.now place }
+        ensures { slice_get (list_of self.now place.bucket) place.slot ≡ Some result.now }
+    {
+        self.buckets[place.bucket].entry_at(place.slot)
+    }
+
+    /// How many entries the bucket holds.
+    #[inline(always)]
+    pub fn list_len(&self, bucket: usize) -> usize
+        requires { bucket < bucket_count self.now }
+        ensures { result ≡ length (list_of self.now bucket) }
+    {
+        self.buckets[bucket].len()
+    }
+
+    /// The number of the bucket of a hash, 0 where there is no array.
+    #[inline(always)]
+    pub fn bucket_at(&self, hash: u64) -> usize
+        ensures value { result ≡ bucket_number (settings_of self.now).skipped (bucket_count self.now) hash }
+        ensures within { 0 < bucket_count self.now → result < bucket_count self.now }
+    {
+        bucket_index(hash, self.skipped, self.buckets.len())
+    }
+
+    /// The bucket for a new key of that hash. An array is made where there is none, and doubled where that bucket holds 32 entries, the table at least half as many entries as slots and fewer slots than `most`. Where memory for the doubling is refused the array stays.
+    #[inline(always)]
+    pub fn bucket_within(&mut self, hash: u64, most: usize) -> Result<usize, AllocError>
+        requires bounded { IsBounded self.old }
+        requires most { most ≤ 2 ^ 63 }
+        ensures grows { IfOk result (λ _. GrowsBelow (λ e. key_hash H.BuildHasher H.Hasher.Hasher E.Key.hash_input self.old (E.key_of e)) most (bucket_number (settings_of self.old).skipped (bucket_count self.old) hash) self.old self.new) }
+        ensures same { IsPermutation (entries self.old) (entries self.new) }
+        ensures settings { settings_of self.new ≡ settings_of self.old }
+        ensures bounded { IsBounded self.new }
+        ensures within { IfOk result (λ i. i < bucket_count self.new) }
+        ensures routed { IfOk result (λ i. i ≡ bucket_number (settings_of self.new).skipped (bucket_count self.new) hash) }
+        ensures none { OnErr result ((bucket_count self.old ≡ 0) × (self.new ≡ self.old)) }
+    {
+        if self.bucket_count() == 0 {
+            self.make_array()?;
+            return Ok(self.bucket_at(hash));
+        }
+        let bucket = self.bucket_at(hash);
+        if self.list_len(bucket) >= 32 {
+            self.double_within(most);
+            return Ok(self.bucket_at(hash));
+        }
+        Ok(bucket)
+    }
+
+    /// Doubles the number of buckets where at least half as many entries as slots are held, fewer slots than `most`, unless memory is refused. Takes time by the number of entries.
+    #[cold]
+    fn double_within(&mut self, most: usize)
+        requires array { 0 < bucket_count self.old }
+        requires bounded { IsBounded self.old }
+        requires most { most ≤ 2 ^ 63 }
+        ensures doubles { DoublesBelow (λ e. key_hash H.BuildHasher H.Hasher.Hasher E.Key.hash_input self.old (E.key_of e)) most self.old self.new }
+        ensures same { IsPermutation (entries self.old) (entries self.new) }
+        ensures settings { settings_of self.new ≡ settings_of self.old }
+        ensures bounded { IsBounded self.new }
+        ensures array { 0 < bucket_count self.new }
+    {
+        let count = self.bucket_count();
+        let length = self.len();
+        if length < 16 * count || 32 * count >= most || length >= OVERFLOW_LIMIT {
+            return;
+        }
+        self.resize_short(2 * count);
+    }
+
+    /// Puts an entry whose key is new at the end of the list of its bucket, which holds fewer than 32.
+    #[inline(always)]
+    pub(crate) fn push_last(&mut self, bucket: usize, hash: u64, entry: E)
+        requires within { bucket < bucket_count self.old }
+        requires routed { bucket ≡ bucket_number (settings_of self.old).skipped (bucket_count self.old) hash }
+        requires hashed { hash ≡ key_hash H.BuildHasher H.Hasher.Hasher E.Key.hash_input self.old (E.key_of entry) }
+        requires absent { position (λ e. E.Key.eq (E.key_of entry) (E.key_of e)) (entries self.old) ≡ None }
+        requires bounded { IsBounded self.old }
+        requires short { length (list_of self.old bucket) < 32 }
+        ensures list { HasList self.old bucket (list_of self.old bucket ++ entry ∷ []) self.new }
+        ensures listed { IsListed (λ e. key_hash H.BuildHasher H.Hasher.Hasher E.Key.hash_input self.new (E.key_of e)) self.new }
+        ensures unique { IsUniqueBy E.Key.eq E.key_of self.new }
+    {
+        self.buckets[bucket].insert_reserved(entry, tag(hash));
+        self.length += 1;
+    }
+
+    /// Puts an entry whose key is new at the end of the list of its bucket. Where that holds 32, its first one goes and is answered. It takes no memory.
+    #[inline(always)]
+    pub fn put_last(&mut self, bucket: usize, hash: u64, entry: E) -> Option<E>
+        requires within { bucket < bucket_count self.old }
+        requires routed { bucket ≡ bucket_number (settings_of self.old).skipped (bucket_count self.old) hash }
+        requires hashed { hash ≡ key_hash H.BuildHasher H.Hasher.Hasher E.Key.hash_input self.old (E.key_of entry) }
+        requires absent { position (λ e. E.Key.eq (E.key_of entry) (E.key_of e)) (entries self.old) ≡ None }
+        requires bounded { IsBounded self.old }
+        ensures step { PutsLast self.old bucket entry result self.new }
+        ensures listed { IsListed (λ e. key_hash H.BuildHasher H.Hasher.Hasher E.Key.hash_input self.new (E.key_of e)) self.new }
+        ensures unique { IsUniqueBy E.Key.eq E.key_of self.new }
+    {
+        if self.list_len(bucket) < 32 {
+            self.push_last(bucket, hash, entry);
+            return None;
+        }
+        let first = self.take_in(Place { bucket, slot: 0 });
+        self.push_last(bucket, hash, entry);
+        Some(first)
+    }
+
+    /// Moves the entry to the end of the list of its bucket, the one of the hash.
+    #[inline(always)]
+    pub fn touch(&mut self, bucket: usize, slot: usize, hash: u64)
+        requires within { bucket < bucket_count self.old }
+        requires slot { slot < length (list_of self.old bucket) }
+        requires routed { bucket ≡ bucket_number (settings_of self.old).skipped (bucket_count self.old) hash }
+        requires bounded { IsBounded self.old }
+        requires hashed { (e : E) → slice_get (list_of self.old bucket) slot ≡ Some e → hash ≡ key_hash H.BuildHasher H.Hasher.Hasher E.Key.hash_input self.old (E.key_of e) }
+        ensures list { (e : E) × (slice_get (list_of self.old bucket) slot ≡ Some e) × HasList self.old bucket (remove (list_of self.old bucket) slot ++ e ∷ []) self.new }
+        ensures listed { IsListed (λ e. key_hash H.BuildHasher H.Hasher.Hasher E.Key.hash_input self.new (E.key_of e)) self.new }
+        ensures unique { IsUniqueBy E.Key.eq E.key_of self.new }
+    {
+        let entry = self.take_in(Place { bucket, slot });
+        self.push_last(bucket, hash, entry);
+    }
+}

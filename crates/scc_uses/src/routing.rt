@@ -1,0 +1,83 @@
+//! A routing table: the best route to each destination.
+ghost use Rattle.std.specs.Prelude.{ℕ, ◌≡◌, None, OnOk, OnErr, IfOk};
+
+use scc_map::hash_map::Owned;
+use scc_map::hash_map::owned::Entry;
+use scc_table::InsertError;
+use std::alloc::Global;
+use std::marker::Model;
+
+/// Where packets go next, and at what cost.
+#[derive(Clone, Copy, Debug, PartialEq)]
+pub struct Route {
+    pub next_hop: u32,
+    pub metric: u32,
+}
+
+/// The routes by destination. A contract sees the route to each as `route_to t destination`.
+#[derive(Drop)]
+pub struct Routes {
+    routes: Owned<u32, Route>,
+}
+
+impl Model for Routes {
+    ghost use Rattle.std.specs.Prelude.{ℕ};
+    ghost use Rattle.std.specs.declared.hash.BuildHasherDefault.{BuildHasherDefault};
+    ghost use Rattle.std.specs.declared.hash.FoldHasher.{FoldHasher};
+    ghost use Rattle.scc_table.specs.Contents.{Contents};
+    ghost use Rattle.scc_uses.specs.declared.routing.Route.{Route};
+
+    ghost Value = { Contents (ℕ × Route) (BuildHasherDefault FoldHasher) };
+
+    ghost view = { λ s. s.routes };
+}
+
+impl Routes {
+    ghost use Rattle.scc_uses.specs.Routing.{route_to, Offers, IsAsBefore, not_by};
+
+    /// No route.
+    pub fn new(alloc: Global) -> Self
+        ensures { (d : ℕ) → route_to result d ≡ None }
+    {
+        Routes {
+            routes: Owned::new(alloc),
+        }
+    }
+
+    /// Takes a route where there is none to its destination, or where its metric is lower than that of the one that is there, and answers whether it did.
+    pub fn offer(&mut self, destination: u32, route: Route) -> Result<bool, InsertError<u32, Route>>
+        ensures offered { IfOk result (Offers (route_to self.old destination) self.old destination route self.new) }
+        ensures refused { OnErr result (IsAsBefore self.old self.new) }
+        ensures vacant { OnErr result (route_to self.old destination ≡ None) }
+    {
+        match self.routes.entry_sync(destination) {
+            Entry::Occupied(mut there) => {
+                if route.metric < there.get().metric {
+                    there.insert(route);
+                    Ok(true)
+                } else {
+                    Ok(false)
+                }
+            }
+            Entry::Vacant(free) => {
+                let _entry = free.insert_entry(route)?;
+                Ok(true)
+            }
+        }
+    }
+
+    /// Withdraws all routes by a next hop.
+    pub fn withdraw(&mut self, next_hop: u32)
+        ensures { (d : ℕ) → route_to self.new d ≡ not_by next_hop (route_to self.old d) }
+    {
+        self.routes
+            .retain_sync(|_, route| route.next_hop != next_hop);
+    }
+
+    /// The route to a destination.
+    pub fn look_up(&self, destination: u32) -> Option<Route>
+        ensures { result ≡ route_to self.now destination }
+    {
+        self.routes.read_sync(&destination, |_, route| *route)
+    }
+}

@@ -1,0 +1,29 @@
+//! Sums over snapshots of an index, whatever was changed since.
+ghost use Rattle.std.specs.Prelude.{◌≡◌, [], IfOk};
+ghost use Rattle.scc_table.specs.Contents.{entries};
+ghost use Rattle.scc_uses.specs.Sums.{sum_from};
+
+use scc_index::hash_index::Owned;
+use scc_index::hash_index::owned::Iter;
+use scc_table::MakeError;
+
+/// The sum of the values of a snapshot, modulo 2^64. It is that of the pairs when the snapshot was taken, since their versions never change.
+pub fn sum(versions: Iter<u64, u64>) -> u64
+    ensures { result ≡ sum_from 0 versions }
+{
+    let mut sum = 0u64;
+    for version in versions {
+        sum = sum.wrapping_add(*version.value());
+    }
+    sum
+}
+
+/// Takes out all versions, and answers the sum of the values that were there, modulo 2^64.
+pub fn clear_and_sum(index: &mut Owned<u64, u64>) -> Result<u64, MakeError>
+    ensures sum { IfOk result (λ s. s ≡ sum_from 0 (entries index.old)) }
+    ensures empty { IfOk result (λ s. entries index.new ≡ []) }
+{
+    let versions = index.iter()?;
+    index.clear_sync();
+    Ok(sum(versions))
+}

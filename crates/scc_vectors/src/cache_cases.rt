@@ -1,0 +1,159 @@
+// Worked cases of the owned cache. Under the hasher that finishes with 0 all keys stand in one bucket.
+use crate::zero::Zero;
+use scc::InsertError;
+use scc::hash_cache::{DEFAULT_MAXIMUM_CAPACITY, Owned};
+use scc_play::same::Same;
+use std::process::Abort;
+use std::test::Fail;
+
+// A cache of one bucket in use, with the keys from 0 to 31.
+fn full<R: AllocGlobal>(rt: &R, maximum: usize) -> Result<Owned<u64, u64, Zero>, Fail> {
+    let mut cache = Owned::with_capacity_and_hasher(rt.alloc(), 0, maximum, Zero)?;
+    for key in 0..32u64 {
+        cache.put_sync(key, key)?;
+    }
+    Ok(cache)
+}
+
+// The pair that a put of the key drives out.
+fn put<R: AllocGlobal + Abort>(
+    rt: &R,
+    cache: &mut Owned<u64, u64, Zero>,
+    key: u64,
+) -> Option<(u64, u64)> {
+    match cache.put_sync(key, key) {
+        Ok(evicted) => evicted,
+        Err(_) => {
+            assert!(rt; false, "the put of a new key {key}");
+            None
+        }
+    }
+}
+
+#[test]
+fn cache_get_refreshes_put_entry_does_not(rt: HostRuntime) -> Result<(), Fail> {
+    let mut cache = full(&rt, 64)?;
+    match cache.get_sync(&0) {
+        Some(entry) => assert_eq!(rt; (*entry.key(), *entry.get()), (0, 0)),
+        None => assert!(rt; false),
+    }
+    assert_eq!(rt; put(&rt, &mut cache, 32), Some((1, 1)));
+    assert!(rt; cache.contains_sync(&0));
+
+    let mut cache = full(&rt, 64)?;
+    let (evicted, _) = cache.entry_sync(0).put_entry(7)?;
+    assert!(rt; evicted.is_none());
+    assert_eq!(rt; put(&rt, &mut cache, 32), Some((0, 7)));
+    Ok(())
+}
+
+#[test]
+fn cache_doubles_then_evicts(rt: HostRuntime) -> Result<(), Fail> {
+    let mut cache = full(&rt, 128)?;
+    assert_eq!(rt; cache.capacity(), 64);
+    assert_eq!(rt; put(&rt, &mut cache, 32), Some((0, 0)));
+    assert_eq!(rt; cache.capacity(), 128);
+    assert_eq!(rt; put(&rt, &mut cache, 33), Some((1, 1)));
+    assert_eq!(rt; (cache.capacity(), cache.len()), (128, 32));
+    Ok(())
+}
+
+#[test]
+fn cache_capacities_and_ranges(rt: HostRuntime) -> Result<(), Fail> {
+    let cache: Owned<u64, u64> = Owned::with_capacity(rt.alloc(), 1000, 2000)?;
+    assert_eq!(rt; cache.capacity(), 1024);
+    assert_eq!(rt; cache.capacity_range(), 1024..=2048);
+    let cache: Owned<u64, u64> = Owned::with_capacity(rt.alloc(), 0, 0)?;
+    assert_eq!(rt; cache.capacity_range(), 0..=64);
+    let cache: Owned<u64, u64> = Owned::with_capacity(rt.alloc(), 100, 2000)?;
+    assert_eq!(rt; cache.capacity_range(), 128..=2048);
+    let cache: Owned<u64, u64> = Owned::new(rt.alloc());
+    assert_eq!(rt; cache.capacity_range(), 0..=DEFAULT_MAXIMUM_CAPACITY);
+    assert_eq!(rt; (cache.capacity(), cache.pending()), (0, 0));
+    assert!(rt; cache.is_empty());
+    Ok(())
+}
+
+#[test]
+fn cache_shrinks_and_evicts_again(rt: HostRuntime) -> Result<(), Fail> {
+    let mut cache = full(&rt, 128)?;
+    assert_eq!(rt; put(&rt, &mut cache, 32), Some((0, 0)));
+    assert_eq!(rt; cache.capacity(), 128);
+    for key in 1..17u64 {
+        assert_eq!(rt; cache.capacity(), 128, "before the removal of {key}");
+        assert_eq!(rt; cache.remove_sync(&key), Some((key, key)));
+    }
+    assert_eq!(rt; (cache.capacity(), cache.len()), (64, 16));
+    for key in 33..49u64 {
+        assert_eq!(rt; put(&rt, &mut cache, key), None);
+    }
+    assert_eq!(rt; put(&rt, &mut cache, 49), Some((17, 17)));
+    assert_eq!(rt; cache.capacity(), 128);
+    Ok(())
+}
+
+#[test]
+fn cache_which_calls_leave_the_order(rt: HostRuntime) -> Result<(), Fail> {
+    let mut cache = full(&rt, 64)?;
+    assert_eq!(rt; cache.read_sync(&0, |_, value| *value), Some(0));
+    assert!(rt; cache.contains_sync(&0));
+    assert!(rt; cache.iter_sync(|_, _| true));
+    match cache.put_sync(0, 9) {
+        Err(InsertError::Exists(pair)) => assert_eq!(rt; pair, (0, 9)),
+        _ => assert!(rt; false),
+    }
+    drop(cache.entry_sync(0));
+    drop(cache.replace_sync(0));
+    assert_eq!(rt; put(&rt, &mut cache, 32), Some((0, 0)));
+    Ok(())
+}
+
+#[test]
+fn cache_evicts_from_the_keys_own_bucket(rt: HostRuntime) -> Result<(), Fail> {
+    let mut cache = Owned::with_capacity_and_hasher(rt.alloc(), 64, 64, Same)?;
+    let other = 1u64 << 63;
+    cache.put_sync(other, 0)?;
+    for key in 0..32u64 {
+        assert!(rt; cache.put_sync(key, key)?.is_none());
+    }
+    assert_eq!(rt; cache.put_sync(32, 32)?, Some((0, 0)));
+    assert!(rt; cache.contains_sync(&other));
+    assert_eq!(rt; (cache.len(), cache.capacity()), (33, 64));
+    Ok(())
+}
+
+#[test]
+fn cache_entries_do_what_they_say(rt: HostRuntime) -> Result<(), Fail> {
+    let mut cache: Owned<u64, u64> = Owned::new(rt.alloc());
+    let (evicted, entry) = cache.entry_sync(1).or_put(10)?;
+    assert_eq!(rt; (evicted, *entry.get()), (None, 10));
+    let (_, entry) = cache.entry_sync(1).or_put_with(|| 11)?;
+    assert_eq!(rt; *entry.get(), 10);
+    let (_, entry) = cache
+        .entry_sync(2)
+        .or_put_with_key(|key| key.wrapping_mul(10))?;
+    assert_eq!(rt; (*entry.key(), *entry.get()), (2, 20));
+    let (_, entry) = cache.entry_sync(3).or_default()?;
+    assert_eq!(rt; *entry.get(), 0);
+    let (_, mut entry) = cache
+        .entry_sync(3)
+        .and_modify(|value| *value = 7)
+        .put_entry(8)?;
+    assert_eq!(rt; entry.put(9), 8);
+    *entry.get_mut() = 30;
+    assert_eq!(rt; entry.remove_entry(), (3, 30));
+    assert_eq!(rt; cache.len(), 2);
+    cache.clear_sync();
+    assert!(rt; cache.is_empty());
+    Ok(())
+}
+
+#[test]
+fn cache_try_from_iter_first_wins(rt: HostRuntime) -> Result<(), Fail> {
+    let items = vec![in rt.alloc(); (1u64, 10u64), (1, 20)]?;
+    let cache: Owned<u64, u64> = Owned::try_from_iter(rt.alloc(), items)?;
+    assert_eq!(rt; cache.read_sync(&1, |_, value| *value), Some(10));
+    assert_eq!(rt; (cache.len(), cache.capacity()), (1, 64));
+    assert_eq!(rt; cache.capacity_range(), 64..=64);
+    Ok(())
+}
