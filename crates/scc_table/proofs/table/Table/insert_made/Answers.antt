@@ -1,4 +1,4 @@
-use Rattle.std.proofs.Common.{Result, Ok, Err, ap, ◌∙◌, arith}
+use Rattle.std.proofs.Common.{Result, Ok, Err, ap, sym, ◌∙◌, arith}
 use Rattle.std.specs.Result.{IfOk, OnErr}
 use Rattle.scc_table.specs.Contents.{entries, bucket_count, key_hash, HasRoomAt}
 use Rattle.scc_table.proofs.Resizes.{absent-permuted, rests-resizes, rests-inserted}
@@ -24,3 +24,11 @@ pub returns-in-Ok-clause-kept : goal.returns-in-Ok-clause-kept
 returns-in-Ok-clause-kept g c = λ room.
     let had : HasRoomAt (key_hash g.H.BuildHasher g.H.Hasher.Hasher g.E.Key.Hash.hash_input c.args.self.now) g.E.Keyed.key_of c.args.self.now c.args.hash = rw c.requires.hashed room in
     c.insert_made_in.ensures.buckets ∙ ap bucket_count (c.bucket_for_new.ensures.still had)
+
+pub returns-in-Ok-clause-due : goal.returns-in-Ok-clause-due
+returns-in-Ok-clause-due g c = record {
+  doubled = λ some full half below few down. c.insert_made_in.ensures.buckets ∙ c.bucket_for_new.ensures.due some (λ room. full (rw c.requires.hashed at room)) half below few (sym c.insert_made_in.ensures.refused ∙ down);
+  raised = λ low up.
+      let r = c.bucket_for_new.ensures.raised low (sym c.insert_made_in.ensures.refused ∙ up) in
+      (r.0, λ room. r.1 (rw c.requires.hashed room), r.2, r.3);
+}
