@@ -1,4 +1,4 @@
-//! Measures the owned map beside the standard library's map, in the lines that the table of peers reads.
+//! Measures the owned map beside the standard library's map, and the owned set and index beside the owned map, in the lines that the table of peers reads.
 //!
 //! With no argument it prints its peers and their groups; `NAME GROUP RUNS ENTRIES SEED` measures one group.
 #![tactic(auto)]
@@ -13,7 +13,9 @@ mod tail;
 
 use peer::Peer;
 use request::{Group, PeerName, Request, parse_request};
+use scc_index::hash_index;
 use scc_map::hash_map::Owned;
+use scc_set::hash_set;
 use std::alloc::{AllocError, Global};
 use std::collections::HashMap;
 use std::rt::{Clock, Files};
@@ -21,7 +23,9 @@ use std::{env, io};
 
 fn list_peers(rt: &impl Print) -> io::Result<()> {
     println!(rt; "scc-owned own,tail,mem,curve")?;
-    println!(rt; "kit-fold own,tail,mem,curve")
+    println!(rt; "kit-fold own,tail,mem,curve")?;
+    println!(rt; "scc-set mem,beside")?;
+    println!(rt; "scc-index own,mem,beside")
 }
 
 fn measure<M: Peer, R: Clock + Files + Print + Alloc>(
@@ -39,6 +43,14 @@ fn measure<M: Peer, R: Clock + Files + Print + Alloc>(
         }
         Group::Memory => memory::measure::<M, R>(rt, alloc, name, &streams),
         Group::Curve => memory::measure_curve::<M, R>(rt, alloc, name, &streams),
+        Group::Beside => own::measure_beside::<Owned<u64, u64>, M, R>(
+            rt,
+            alloc,
+            "scc-owned",
+            name,
+            request.runs,
+            &streams,
+        ),
     }
 }
 
@@ -54,5 +66,7 @@ fn main(rt: HostRuntime) -> io::Result<()> {
     match request.peer {
         PeerName::Owned => measure::<Owned<u64, u64>, _>(&rt, rt.alloc(), request),
         PeerName::Kit => measure::<HashMap<u64, u64>, _>(&rt, rt.alloc(), request),
+        PeerName::Set => measure::<hash_set::Owned<u64>, _>(&rt, rt.alloc(), request),
+        PeerName::Index => measure::<hash_index::Owned<u64, u64>, _>(&rt, rt.alloc(), request),
     }
 }

@@ -174,6 +174,63 @@ fn run_once<M: Peer>(clock: &impl Clock, mut map: M, lists: &Lists) -> io::Resul
     Ok([filled, hits, misses, written, walked, cleared])
 }
 
+/// Prints the lines of a run.
+fn print_lines(
+    rt: &impl Print,
+    peer: &str,
+    outcomes: &[Outcome],
+    streams: &Streams,
+) -> io::Result<()> {
+    for outcome in outcomes {
+        line(
+            rt,
+            outcome.work.name(),
+            peer,
+            outcome.spent,
+            streams.entries,
+        )?;
+    }
+    Ok(())
+}
+
+/// Prints the sums of a run, but for the walk's, which comes after writes that a set can't keep.
+fn print_checks(rt: &impl Print, peer: &str, outcomes: &[Outcome]) -> io::Result<()> {
+    for outcome in outcomes {
+        match outcome.work {
+            Work::Iterate => {}
+            work => check(rt, work.name(), peer, outcome.sum)?,
+        }
+    }
+    Ok(())
+}
+
+/// Goes through the workloads on a container and on another beside it, in turn: once to warm up and then `runs` times. Prints a line for each.
+pub fn measure_beside<M: Peer, N: Peer, R: Clock + Print>(
+    rt: &R,
+    alloc: Global,
+    first: &str,
+    second: &str,
+    runs: u64,
+    streams: &Streams,
+) -> io::Result<()> {
+    let lists = make_lists(alloc, streams)?;
+    for run in 0..=runs {
+        let map: M = Peer::make(alloc);
+        let firsts = run_once(rt, map, &lists)?;
+        let other: N = Peer::make(alloc);
+        let seconds = run_once(rt, other, &lists)?;
+        if run > 0 {
+            print_lines(rt, first, &firsts, streams)?;
+            print_lines(rt, second, &seconds, streams)?;
+        }
+        if run == runs {
+            print_checks(rt, first, &firsts)?;
+            print_checks(rt, second, &seconds)?;
+        }
+    }
+    Ok(())
+}
+
 /// Goes through the workloads once to warm up and then `runs` times, and prints a line for each.
 pub fn measure<M: Peer, R: Clock + Print>(
     rt: &R,

@@ -1,5 +1,8 @@
-//! What the benchmark asks of a map, and the two maps that it measures.
+//! What the benchmark asks of a map, and the maps that it measures. A set and an index answer to the same.
+use crate::streams::value as value_of;
+use scc_index::hash_index;
 use scc_map::hash_map::Owned;
+use scc_set::hash_set;
 use std::alloc::Global;
 use std::collections::HashMap;
 use std::io;
@@ -104,6 +107,93 @@ impl Peer for HashMap<u64, u64> {
         for (_, value) in self.iter() {
             total = total.wrapping_add(*value);
         }
+        total
+    }
+}
+
+/// A set stands for a map in which each key has the value of the streams; a write swaps the key.
+impl Peer for hash_set::Owned<u64> {
+    fn make(alloc: Global) -> Self {
+        hash_set::Owned::new(alloc)
+    }
+
+    #[inline(always)]
+    fn insert(&mut self, key: u64, _value: u64) -> io::Result<()> {
+        match self.insert_sync(key) {
+            Ok(()) => Ok(()),
+            Err(_) => Err(out_of_memory()),
+        }
+    }
+
+    #[inline(always)]
+    fn get(&self, key: u64) -> Option<u64> {
+        self.read_sync(&key, |found| value_of(*found))
+    }
+
+    #[inline(always)]
+    fn bump(&mut self, key: u64) -> bool {
+        match self.replace_sync(key) {
+            Ok(old) => old.is_some(),
+            Err(_) => false,
+        }
+    }
+
+    #[inline(always)]
+    fn remove(&mut self, key: u64) -> bool {
+        self.remove_sync(&key).is_some()
+    }
+
+    fn sum(&self) -> u64 {
+        let mut total = 0u64;
+        self.iter_sync(|key| {
+            total = total.wrapping_add(value_of(*key));
+            true
+        });
+        total
+    }
+}
+
+/// A look-up peeks, and a write publishes a new version.
+impl Peer for hash_index::Owned<u64, u64> {
+    fn make(alloc: Global) -> Self {
+        hash_index::Owned::new(alloc)
+    }
+
+    #[inline(always)]
+    fn insert(&mut self, key: u64, value: u64) -> io::Result<()> {
+        match self.insert_sync(key, value) {
+            Ok(()) => Ok(()),
+            Err(_) => Err(out_of_memory()),
+        }
+    }
+
+    #[inline(always)]
+    fn get(&self, key: u64) -> Option<u64> {
+        self.peek_with(&key, |_, value| *value)
+    }
+
+    #[inline(always)]
+    fn bump(&mut self, key: u64) -> bool {
+        match self.get_sync(&key) {
+            Some(mut entry) => {
+                let next = entry.get().wrapping_add(1);
+                entry.update(next).is_ok()
+            }
+            None => false,
+        }
+    }
+
+    #[inline(always)]
+    fn remove(&mut self, key: u64) -> bool {
+        self.remove_sync(&key)
+    }
+
+    fn sum(&self) -> u64 {
+        let mut total = 0u64;
+        self.iter_sync(|_, value| {
+            total = total.wrapping_add(*value);
+            true
+        });
         total
     }
 }

@@ -6,6 +6,8 @@ use std::io;
 pub enum PeerName {
     Owned,
     Kit,
+    Set,
+    Index,
 }
 
 #[derive(Clone, Copy, Drop)]
@@ -14,6 +16,7 @@ pub enum Group {
     Tail,
     Memory,
     Curve,
+    Beside,
 }
 
 /// A group of workloads on one peer, so many times.
@@ -33,6 +36,8 @@ impl PeerName {
         match self {
             PeerName::Owned => "scc-owned",
             PeerName::Kit => "kit-fold",
+            PeerName::Set => "scc-set",
+            PeerName::Index => "scc-index",
         }
     }
 }
@@ -45,6 +50,8 @@ fn parse_peer(word: &str) -> io::Result<PeerName> {
     match word {
         "scc-owned" => Ok(PeerName::Owned),
         "kit-fold" => Ok(PeerName::Kit),
+        "scc-set" => Ok(PeerName::Set),
+        "scc-index" => Ok(PeerName::Index),
         _ => Err(bad_argument()),
     }
 }
@@ -55,6 +62,7 @@ fn parse_group(word: &str) -> io::Result<Group> {
         "tail" => Ok(Group::Tail),
         "mem" => Ok(Group::Memory),
         "curve" => Ok(Group::Curve),
+        "beside" => Ok(Group::Beside),
         _ => Err(bad_argument()),
     }
 }

@@ -134,6 +134,37 @@ fn a_refused_update_hands_the_value_back(rt: HostRuntime) {
     expect_keys_below(&rt, &index, 2);
 }
 
+// Publishes the value of a present key with its lowest bit turned. Refused, the entry comes back as it was, with the value that the closure answered, and publishes that by the next call.
+fn expect_modified<R: Abort + Print>(rt: &R, refusal: &mut Refusal, index: &mut Index, key: u64) {
+    let before = index.peek_with(&key, |_, value| *value);
+    match index.entry_sync(key).and_modify(|value| *value ^ 1) {
+        Ok(entry) => assert_eq!(rt; *entry.key(), key),
+        Err(back) => {
+            refusal.meet(rt, "an entry's modification");
+            let value = back.1;
+            assert_eq!(rt; before, Some(value ^ 1));
+            match back.0 {
+                Entry::Occupied(mut entry) => {
+                    assert_eq!(rt; (*entry.key(), *entry.get()), (key, value ^ 1));
+                    assert_eq!(rt; entry.update(value), Ok(()));
+                }
+                Entry::Vacant(_) => assert!(rt; false, "the key is there"),
+            }
+        }
+    }
+    let after = index.peek_with(&key, |_, value| *value ^ 1);
+    assert_eq!(rt; after, before);
+}
+
+#[test]
+fn a_refused_and_modify_hands_the_entry_and_the_value_back(rt: HostRuntime) {
+    let mut refusal = Refusal::new();
+    let mut index = filled(&rt, &mut refusal, 2);
+    expect_modified(&rt, &mut refusal, &mut index, 1);
+    expect_modified(&rt, &mut refusal, &mut index, 1);
+    expect_keys_below(&rt, &index, 2);
+}
+
 // Every version of the snapshot, once, has the complement of its key as value.
 fn expect_versions<R: Abort>(rt: &R, versions: Iter<u64, u64>, count: usize) {
     let mut left = versions;

@@ -1,5 +1,6 @@
 pub mod Counting
 pub mod Ends
+pub mod IndexIndependence
 pub mod KeyLemmas
 pub mod Replies
 pub mod RouteLemmas

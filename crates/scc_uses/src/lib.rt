@@ -9,6 +9,7 @@ pub mod distinct;
 pub mod interner;
 pub mod memo;
 pub mod mirror;
+pub mod mirror_indexes;
 pub mod mirror_sets;
 pub mod parts;
 pub mod requests;
