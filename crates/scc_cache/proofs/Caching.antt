@@ -5,10 +5,9 @@ use Rattle.std.specs.List.{IsDistinct, flat_map, remove, slice_get, slice_set, s
 use Rattle.std.specs.Option.{option_map}
 use native.Mathlib.Decide.{dec_lt}
 use lib.Pow.{pow_mono, pow-add}
-use Rattle.scc_table.specs.Bounded.{HasList, IsListedAt, IsUnlisted, PutsLast, GrowsBelow, makes, has_room, is_full, DoublesBelow, stays, denied, doubles, IsListed, IsResized, KeepsLists, ShrinksBounded, stays_wide, denied_narrow, narrows}
+use Rattle.scc_table.specs.Bounded.{HasList, IsListedAt, IsUnlisted, PutsLast, GrowsBelow, makes, has_room, is_full, stays, denied, doubles, IsListed, ShrinksBounded, stays_wide, denied_narrow, narrows}
 use Rattle.scc_table.specs.Contents.{Contents, entries, bucket_count, settings_of, refused_of, minimum_of, list_of, lists_of}
 use Rattle.scc_table.specs.Pairs.{IsUnique}
-use Rattle.scc_table.specs.Sizes.{IsArray, IsArraySize}
 use Rattle.scc_table.proofs.Bounds.{absent-rest, has-list-of, keeps-count}
 use Rattle.scc_table.proofs.Finding.{position_hit, position_cons}
 use Rattle.scc_table.proofs.Inserts.{by_answer}

@@ -1,5 +1,5 @@
 -- What an entry shows, under any guard.
-use Rattle.std.proofs.Common.{◌≡◌, ℕ, List, [], Bool, Option, None, Some, refl, sym, ap, subst, ◌∙◌}
+use Rattle.std.proofs.Common.{◌≡◌, ℕ, [], Bool, Option, Some, refl, sym, ap, subst, ◌∙◌}
 use Rattle.std.specs.List.{slice_get, slice_set, slice_index_or}
 use Rattle.std.specs.declared.cmp.PartialEq as eq
 use Rattle.std.specs.declared.hash.Hash as hash
@@ -7,9 +7,8 @@ use Rattle.std.specs.declared.hash.Hasher as hasher
 use Rattle.std.specs.declared.hash.BuildHasher as builder
 use Rattle.scc_table.specs.Contents.{Contents, bucket_count, settings_of, refused_of, list_of, lists_of, key_hash}
 use Rattle.scc_table.specs.Pairs.{with_pair_key, with_pair_value}
-use Rattle.scc_table.specs.Placed.{at, at-get, entry_of}
+use Rattle.scc_table.specs.Placed.{at-get, entry_of}
 use Rattle.scc_table.specs.Places.{IsPlace}
-use Rattle.scc_table.specs.ShelfWrites.{write_at}
 use Rattle.scc_table.specs.Writes.{with_write_at}
 use Rattle.scc_table.specs.declared.guard.Guard as guard
 use Rattle.scc_table.specs.declared.place.Place.{Place}
@@ -51,6 +50,16 @@ pub changes-key : {K V S : Type 0} (hash : K → ℕ) (same : K → K → Bool) 
 unfolding with_write_at lists_of list_of settings_of refused_of bucket_count
 changes-key hash same c k p f = record {
   lists = (p.slot, f.there, ap (slice_set c.contents.lists p.bucket) (write-set with_pair_key (slice_index_or c.contents.lists p.bucket []) p.slot k f.pair f.here) ∙ ap (λ j. slice_set c.contents.lists j (slice_set (slice_index_or c.contents.lists j []) p.slot (k, f.pair.1))) f.bucket);
+  settings = refl;
+  refused = refl;
+  maximum = refl;
+}
+
+-- so is a value put in the place of the old one
+pub changes-value : {K V S : Type 0} (hash : K → ℕ) (same : K → K → Bool) (c : Cached (K × V) S) (k : K) (p : Place) (f : IsFound hash same c.contents k p) (v : V) → Changes (Rewrites (number_in hash c.contents) same k f.pair (f.pair.0, v)) c (with_value_at c p v)
+unfolding with_write_at lists_of list_of settings_of refused_of bucket_count
+changes-value hash same c k p f v = record {
+  lists = (p.slot, f.there, ap (slice_set c.contents.lists p.bucket) (write-set with_pair_value (slice_index_or c.contents.lists p.bucket []) p.slot v f.pair f.here) ∙ ap (λ j. slice_set c.contents.lists j (slice_set (slice_index_or c.contents.lists j []) p.slot (f.pair.0, v))) f.bucket);
   settings = refl;
   refused = refl;
   maximum = refl;

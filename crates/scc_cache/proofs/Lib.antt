@@ -1,4 +1,6 @@
 pub mod Caching
 pub mod Entries
+pub mod Removing
+pub mod Walked
 pub mod Walking
 pub mod Writing

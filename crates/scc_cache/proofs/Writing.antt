@@ -1,10 +1,10 @@
 -- Writes into the lists of a cache.
-use Rattle.std.proofs.Common.{◌≡◌, ◌≢◌, ℕ, zero, suc, ◌<◌, ◌≤◌, ◌⊎◌, inl, inr, Bool, List, [], ◌∷◌, ◌++◌, length, map, set, get_or, refl, sym, ap, ◌∙◌, subst, arith, length-set, get_or-set_same, get_or-set_other, Option, Some, None}
-use Rattle.std.specs.List.{IsDistinct, flat_map, slice_get, slice_set, slice_index_or}
+use Rattle.std.proofs.Common.{◌≡◌, ◌≢◌, ℕ, zero, suc, ◌⊎◌, inl, inr, Bool, List, [], ◌∷◌, ◌++◌, length, map, set, get_or, refl, sym, ap, ◌∙◌, subst, arith, length-set, get_or-set_same, get_or-set_other, Some, None}
+use Rattle.std.specs.List.{IsDistinct, flat_map, slice_get}
 use Rattle.std.proofs.lemmas.List.{map-append}
 use native.Mathlib.Decide.{dec_lt}
 use Rattle.scc_table.specs.Bounded.{IsListed}
-use Rattle.scc_table.specs.Contents.{Contents, Settings, entries, bucket_count, settings_of, spilled_of, minimum_of, list_of, lists_of}
+use Rattle.scc_table.specs.Contents.{Contents, Settings, entries, bucket_count, settings_of, spilled_of, list_of}
 use Rattle.scc_table.specs.Pairs.{IsUnique, with_pair_key, with_pair_value}
 use Rattle.scc_table.specs.Places.{IsPlace, index_of}
 use Rattle.scc_table.specs.ShelfWrites.{write_at, length-write_at}

@@ -11,7 +11,7 @@ use Rattle.scc_table.specs.declared.place.Place.{Place}
 use Rattle.scc_table.specs.declared.errors.InsertError.{InsertError}
 use Rattle.scc_table.specs.declared.errors.InsertError.TheVariants.{Exists, Memory}
 use Rattle.scc_cache.specs.Caches.{Cached}
-use Rattle.scc_cache.specs.ListSteps.{IsMissing, IsThere, PutsPair, Refreshes, Rewrites, TakesOut}
+use Rattle.scc_cache.specs.ListSteps.{IsMissing, IsThere, PutsPair, TakesOut}
 
 module _ {E S : Type 0} where
   -- the lists change as R says; settings, maximum and whether memory was refused stay

@@ -1,5 +1,5 @@
 -- What a cache holds, and what always holds of it.
-use Rattle.std.specs.Prelude.{◌≡◌, ℕ, Bool, ◌*◌, ◌^◌, ◌≤◌, refl}
+use Rattle.std.specs.Prelude.{ℕ, Bool, ◌*◌, ◌^◌, ◌≤◌, refl}
 use Rattle.std.specs.Coded.{Coded, code_by, coded×, coded_ℕ}
 use Rattle.std.specs.Int.{IsPowerOfTwo}
 use Rattle.scc_table.specs.Bounded.{IsListed}

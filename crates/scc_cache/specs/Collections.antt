@@ -1,5 +1,5 @@
 -- A cache that is made of items.
-use Rattle.std.specs.Prelude.{◌≡◌, ℕ, ◌*◌, ◌<◌, Bool, List, [], length, max, Option, Result, Ok, Err}
+use Rattle.std.specs.Prelude.{◌≡◌, ℕ, ◌*◌, ◌<◌, Bool, List, [], length, max, Option, Result}
 use Rattle.std.specs.List.{FoldsTo}
 use Rattle.scc_table.specs.Contents.{Contents, entries, bucket_count}
 use Rattle.scc_table.specs.Sizes.{IsArraySize}

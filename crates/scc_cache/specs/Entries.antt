@@ -1,7 +1,7 @@
 -- What the contracts of an entry cite. An entry holds its cache by a guard: a `&mut` in the owned form.
 pub use Rattle.scc_cache.specs.declared.hash_cache.held.HeldPlace.TheVariants.{Occupied, Vacant}
 pub use Rattle.scc_table.specs.declared.errors.InsertError.TheVariants.{Exists, Memory}
-use Rattle.std.specs.Prelude.{◌≡◌, ℕ, Bool, List, [], Option, None, Some, Result, ⊤}
+use Rattle.std.specs.Prelude.{◌≡◌, Bool, [], Option, None, Result, ⊤}
 use Rattle.std.specs.Borrow.{Fml, RattleType, MutBor, Lends, RestsIfErr, RestsIfNone}
 use Rattle.std.specs.HashMap.Lent.{HashMembers}
 use Rattle.std.specs.Fn.{Once, FnOnceTakesAtMut, FnOnceReturnsAtMut}
@@ -15,7 +15,7 @@ use Rattle.scc_table.specs.Contents.{bucket_count, key_hash}
 use Rattle.scc_table.specs.Pairs.{with_pair_value}
 use Rattle.scc_table.specs.Placed.{entry_of}
 use Rattle.scc_table.specs.Places.{IsPlace}
-use Rattle.scc_table.specs.Writes.{with_write_at, IsPlace-with_write_at}
+use Rattle.scc_table.specs.Writes.{IsPlace-with_write_at}
 use Rattle.scc_table.specs.declared.errors.InsertError.{InsertError}
 use Rattle.scc_table.specs.declared.guard.Guard as guard
 use Rattle.scc_cache.specs.CacheSteps.{Changes, IsAbsent, IsPresentAt, PutsNew, number_in}

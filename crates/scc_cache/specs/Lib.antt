@@ -1,8 +1,12 @@
 pub use Rattle.scc_table.specs.Bounded
 pub use Rattle.scc_table.specs.Contents
 pub use Rattle.scc_table.specs.Pairs
+pub use Rattle.scc_table.specs.Pour
 pub use Rattle.scc_table.specs.Sizes
+pub use Rattle.scc_map.specs.Equality
+pub use Rattle.scc_map.specs.MapWalks
 pub mod CacheSteps
+pub mod CacheWalks
 pub mod Caches
 pub mod Collections
 pub mod Entries

@@ -1,5 +1,6 @@
 pub mod Parts
 pub mod Numbers
+pub mod OwnHash
 pub mod Extras
 pub mod Cuts
 pub mod Steps

@@ -2,8 +2,8 @@
 use Rattle.std.specs.Prelude.{◌≡◌, ◌⊎◌, ℕ, List, ◌++◌, Option, codes}
 use Rattle.std.specs.Fmt.{decimal}
 use Rattle.std.specs.Io.KnownBytes.{Appends}
-use Rattle.scc_play.specs.Finished.{MapOutput, SetOutput, IndexOutput}
-use Rattle.scc_play.specs.Grammar.{Meaning, map_calls, set_calls, index_calls, bad_line}
+use Rattle.scc_play.specs.Finished.{MapOutput, SetOutput, IndexOutput, CacheOutput}
+use Rattle.scc_play.specs.Grammar.{Meaning, map_calls, set_calls, index_calls, cache_calls, bad_line}
 
 -- the text of a script whose first bad line has this number
 abbrev pub bad_line_text : ℕ → List ℕ
@@ -14,6 +14,7 @@ abbrev pub Answers : Meaning → ℕ → List ℕ → Type 0
 Answers (map_calls calls) status text = (status ≡ 0) × MapOutput calls text
 Answers (set_calls calls) status text = (status ≡ 0) × SetOutput calls text
 Answers (index_calls calls) status text = (status ≡ 0) × IndexOutput calls text
+Answers (cache_calls calls) status text = (status ≡ 0) × CacheOutput calls text
 Answers (bad_line number) status text = (status ≡ 2) × (text ≡ bad_line_text number)
 
 -- what was written before, then the answer's text; or the text on memory; or a stream failed

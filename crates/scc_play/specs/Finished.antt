@@ -1,13 +1,17 @@
 -- What a run that was finished answers.
 use Rattle.std.specs.Prelude.{◌≡◌, ℕ, List, [], length, nat_eq}
+use Rattle.std.specs.List.{flat_map}
 use Rattle.std.specs.List.Sorted.{IsPermutation, IsSorted}
 use Rattle.std.specs.Ordering.{nat_cmp, ordering_then}
 use Rattle.std.specs.declared.cmp.Ordering.{Ordering}
+use Rattle.scc_table.specs.Routing.{bucket_number}
 use Rattle.scc_recorded.specs.Run.{IsRun}
 use Rattle.scc_recorded.specs.States.{ResizesTo}
+use Rattle.scc_recorded.specs.CacheCalls.{CacheMoves, CacheResizes}
 use Rattle.scc_recorded.specs.IndexCalls.{IndexMoves}
 use Rattle.scc_recorded.specs.MapCalls.{MapMoves}
 use Rattle.scc_recorded.specs.SetCalls.{SetMoves}
+use Rattle.scc_recorded.specs.declared.recorded.calls_as_values.CacheCall.{CacheCall}
 use Rattle.scc_recorded.specs.declared.recorded.calls_as_values.IndexCall.{IndexCall}
 use Rattle.scc_recorded.specs.declared.recorded.calls_as_values.MapCall.{MapCall}
 use Rattle.scc_recorded.specs.declared.recorded.calls_as_values.SetCall.{SetCall}
@@ -39,3 +43,15 @@ SetOutput calls text = (setting : Setting Same) × IsOutput (SetMoves nat_eq) (R
 
 abbrev pub IndexOutput : List (IndexCall ℕ ℕ) → List ℕ → Type 0
 IndexOutput calls text = (setting : Setting Same) × IsOutput (IndexMoves nat_eq) (ResizesTo setting) ([], 0) (λ s. s.0) pair_cmp reply_line content_line calls text
+
+-- the setting of a script's cache: no bit of a hash is skipped, nothing is asked for, and the maximum is 256 slots
+abbrev pub script_setting : Setting Same
+script_setting = record { hasher = record {}; skipped = 0; minimum = 0; maximum = 256 }
+
+-- the number of the list of a key, of n lists: a key is its own hash
+abbrev pub key_number : ℕ → ℕ → ℕ
+key_number n k = bucket_number 0 n k
+
+-- the same of a cache from no lists, whose contents are those of all lists
+abbrev pub CacheOutput : List (CacheCall ℕ ℕ) → List ℕ → Type 0
+CacheOutput calls text = IsOutput (CacheMoves nat_eq key_number) (CacheResizes script_setting key_number) [] (flat_map (λ l. l)) pair_cmp reply_line content_line calls text

@@ -12,8 +12,10 @@ use Rattle.scc_recorded.specs.declared.recorded.calls_as_values.SetCall.{SetCall
 use Rattle.scc_recorded.specs.declared.recorded.calls_as_values.SetCall.TheVariants as set_call
 use Rattle.scc_recorded.specs.declared.recorded.calls_as_values.IndexCall.{IndexCall}
 use Rattle.scc_recorded.specs.declared.recorded.calls_as_values.IndexCall.TheVariants as index_call
+use Rattle.scc_recorded.specs.declared.recorded.calls_as_values.CacheCall.{CacheCall}
+use Rattle.scc_recorded.specs.declared.recorded.calls_as_values.CacheCall.TheVariants as cache_call
 use Rattle.scc_play.specs.declared.line.Kind.{Kind}
-use Rattle.scc_play.specs.declared.line.Kind.TheVariants.{Map, Set, Index}
+use Rattle.scc_play.specs.declared.line.Kind.TheVariants.{Map, Set, Index, Cache}
 
 -- what a kind calls its calls: those without an argument, those with a key, those with a key and a value
 pub record Names (C : Type 0) : Type 0 where
@@ -98,6 +100,24 @@ index_paired name key value =
 abbrev pub index_names : Names (IndexCall ℕ ℕ)
 index_names = record { bare = either index_call.Len index_call.Clear; keyed = index_keyed; paired = index_paired }
 
+abbrev pub cache_keyed : List ℕ → ℕ → Option (CacheCall ℕ ℕ)
+cache_keyed name key =
+    cond (bytes_eq name (codes "get")) (Some (cache_call.Get key))
+    (cond (bytes_eq name (codes "read")) (Some (cache_call.Read key))
+    (cond (bytes_eq name (codes "contains")) (Some (cache_call.Contains key))
+    (cond (bytes_eq name (codes "remove")) (Some (cache_call.Remove key))
+    (cond (bytes_eq name (codes "replace")) (Some (cache_call.Replace key))
+    None))))
+
+abbrev pub cache_paired : List ℕ → ℕ → ℕ → Option (CacheCall ℕ ℕ)
+cache_paired name key value =
+    cond (bytes_eq name (codes "put")) (Some (cache_call.Put key value))
+    (cond (bytes_eq name (codes "write")) (Some (cache_call.Write key value))
+    None)
+
+abbrev pub cache_names : Names (CacheCall ℕ ℕ)
+cache_names = record { bare = either cache_call.Len cache_call.Clear; keyed = cache_keyed; paired = cache_paired }
+
 -- Lines
 
 module _ {C : Type 0} (names : Names C) where
@@ -128,7 +148,8 @@ kind_of_name name =
     cond (bytes_eq name (codes "map")) (Some Map)
     (cond (bytes_eq name (codes "set")) (Some Set)
     (cond (bytes_eq name (codes "index")) (Some Index)
-    None))
+    (cond (bytes_eq name (codes "cache")) (Some Cache)
+    None)))
 
 -- the first line: a kind, the number of workers and the number of stripes
 abbrev pub kind_of_fields : List (List ℕ) → Option Kind
@@ -176,6 +197,7 @@ pub data Meaning : Type 0 where
   map_calls : List (MapCall ℕ ℕ) → Meaning
   set_calls : List (SetCall ℕ) → Meaning
   index_calls : List (IndexCall ℕ ℕ) → Meaning
+  cache_calls : List (CacheCall ℕ ℕ) → Meaning
   bad_line : ℕ → Meaning
 
 -- the calls of a kind, or a bad line
@@ -189,6 +211,7 @@ meaning_of_lines None lines = bad_line 1
 meaning_of_lines (Some Map) lines = meaning_by map_calls (calls_of_lines map_names 2 lines)
 meaning_of_lines (Some Set) lines = meaning_by set_calls (calls_of_lines set_names 2 lines)
 meaning_of_lines (Some Index) lines = meaning_by index_calls (calls_of_lines index_names 2 lines)
+meaning_of_lines (Some Cache) lines = meaning_by cache_calls (calls_of_lines cache_names 2 lines)
 
 -- a header, and then calls; a text without a line has a bad first line
 abbrev pub script_of_lines : List (List ℕ) → Meaning

@@ -12,6 +12,7 @@ pub enum Kind {
     Map,
     Set,
     Index,
+    Cache,
 }
 
 // The call of this name whose arguments are the fields of `arguments`.
@@ -63,6 +64,8 @@ fn kind_named(name: &[u8]) -> Option<Kind>
         Some(Kind::Set)
     } else if name == b"index".as_slice() {
         Some(Kind::Index)
+    } else if name == b"cache".as_slice() {
+        Some(Kind::Cache)
     } else {
         None
     }

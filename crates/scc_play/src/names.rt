@@ -1,8 +1,8 @@
 //! What each kind of container calls its calls in a script.
 ghost use Rattle.std.specs.Prelude.{◌≡◌, ℕ};
-ghost use Rattle.scc_play.specs.Grammar.{Names, either, map_keyed, map_paired, set_keyed, index_keyed, index_paired};
+ghost use Rattle.scc_play.specs.Grammar.{Names, either, map_keyed, map_paired, set_keyed, index_keyed, index_paired, cache_keyed, cache_paired};
 
-use scc_recorded::recorded::{IndexCall, MapCall, SetCall};
+use scc_recorded::recorded::{CacheCall, IndexCall, MapCall, SetCall};
 
 /// Calls that a script may name.
 pub trait Named: Copy {
@@ -112,6 +112,38 @@ fn index_call_of(name: &[u8], key: u64, value: u64) -> Option<IndexCall<u64, u64
     }
 }
 
+// The call of a cache that takes a key.
+fn cache_call_at(name: &[u8], key: u64) -> Option<CacheCall<u64, u64>>
+    ensures { result ≡ cache_keyed name.now key }
+{
+    if name == b"get".as_slice() {
+        Some(CacheCall::Get(key))
+    } else if name == b"read".as_slice() {
+        Some(CacheCall::Read(key))
+    } else if name == b"contains".as_slice() {
+        Some(CacheCall::Contains(key))
+    } else if name == b"remove".as_slice() {
+        Some(CacheCall::Remove(key))
+    } else if name == b"replace".as_slice() {
+        Some(CacheCall::Replace(key))
+    } else {
+        None
+    }
+}
+
+// The call of a cache that takes a key and a value.
+fn cache_call_of(name: &[u8], key: u64, value: u64) -> Option<CacheCall<u64, u64>>
+    ensures { result ≡ cache_paired name.now key value }
+{
+    if name == b"put".as_slice() {
+        Some(CacheCall::Put(key, value))
+    } else if name == b"write".as_slice() {
+        Some(CacheCall::Write(key, value))
+    } else {
+        None
+    }
+}
+
 impl Named for MapCall<u64, u64> {
     ghost use Rattle.scc_play.specs.Grammar.{map_names};
 
@@ -163,5 +195,23 @@ impl Named for IndexCall<u64, u64> {
 
     fn paired(name: &[u8], key: u64, value: u64) -> Option<Self> {
         index_call_of(name, key, value)
+    }
+}
+
+impl Named for CacheCall<u64, u64> {
+    ghost use Rattle.scc_play.specs.Grammar.{cache_names};
+
+    ghost names = { cache_names };
+
+    fn bare(name: &[u8]) -> Option<Self> {
+        either_call(name, CacheCall::Len, CacheCall::Clear)
+    }
+
+    fn keyed(name: &[u8], key: u64) -> Option<Self> {
+        cache_call_at(name, key)
+    }
+
+    fn paired(name: &[u8], key: u64, value: u64) -> Option<Self> {
+        cache_call_of(name, key, value)
     }
 }

@@ -5,7 +5,7 @@ ghost use Rattle.std.specs.Io.KnownBytes.{Appends};
 ghost use Rattle.scc_play.specs.Grammar.{script_of};
 ghost use Rattle.scc_play.specs.Endings.{Answers, Ends};
 
-use crate::runs::{run_index, run_map, run_set};
+use crate::runs::{run_cache, run_index, run_map, run_set};
 use crate::script::{Script, parse_script};
 use crate::texts::{OUT_OF_MEMORY, bad_call_text};
 use std::alloc::{AllocError, Global};
@@ -45,6 +45,10 @@ fn answer_script(alloc: Global, script: &[u8]) -> Result<Answer, AllocError>
         }),
         Script::Index(calls) => Ok(Answer {
             text: run_index(alloc, calls.as_slice())?,
+            status: FINISHED,
+        }),
+        Script::Cache(calls) => Ok(Answer {
+            text: run_cache(alloc, calls.as_slice())?,
             status: FINISHED,
         }),
         Script::BadLine(number) => Ok(Answer {

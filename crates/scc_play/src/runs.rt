@@ -4,13 +4,14 @@ ghost use Rattle.std.specs.List.Sorted.{IsPermutation, IsSorted};
 ghost use Rattle.std.specs.Ordering.{nat_cmp};
 ghost use Rattle.std.specs.String.{string_bytes};
 ghost use Rattle.scc_table.specs.Contents.{entries};
-ghost use Rattle.scc_play.specs.Finished.{pair_cmp, MapOutput, SetOutput, IndexOutput};
+ghost use Rattle.scc_play.specs.Finished.{pair_cmp, MapOutput, SetOutput, IndexOutput, CacheOutput};
 
 use crate::same::Same;
 use crate::texts::{key_output_text, output_text};
+use scc_cache::hash_cache::Owned as OwnedCache;
 use scc_index::hash_index::Owned as OwnedIndex;
 use scc_map::hash_map::Owned as OwnedMap;
-use scc_recorded::recorded::{IndexCall, MapCall, SetCall, run};
+use scc_recorded::recorded::{CacheCall, IndexCall, MapCall, SetCall, run};
 use scc_set::hash_set::Owned as OwnedSet;
 use scc_table::Verdict;
 use std::alloc::{AllocError, Global};
@@ -63,6 +64,25 @@ fn sorted_versions(
     Ok(pairs)
 }
 
+// Takes the pairs out of a cache, in rising order of keys.
+fn sorted_cached(
+    alloc: Global,
+    cache: &mut OwnedCache<u64, u64, Same>,
+) -> Result<Vec<(u64, u64)>, AllocError>
+    ensures same { IfOk result (λ pairs. IsPermutation (entries cache.old.contents) pairs.items) }
+    ensures rising { IfOk result (λ pairs. IsSorted pair_cmp pairs.items) }
+{
+    let mut pairs = Vec::with_capacity(alloc, cache.len())?;
+    if cache
+        .iter_mut_sync(|_, _| Verdict::Take, &mut pairs)
+        .is_err()
+    {
+        return Err(AllocError);
+    }
+    pairs.sort_unstable();
+    Ok(pairs)
+}
+
 /// Makes the calls on a new map, and prints their replies and the contents that they leave.
 pub fn run_map(alloc: Global, calls: &[MapCall<u64, u64>]) -> Result<String, AllocError>
     ensures { IfOk result (λ text. MapOutput calls.now (string_bytes text)) }
@@ -99,5 +119,18 @@ pub fn run_index(alloc: Global, calls: &[IndexCall<u64, u64>]) -> Result<String,
         return Err(AllocError);
     }
     let pairs = sorted_versions(alloc, &index)?;
+    output_text(alloc, replies.as_slice(), pairs.as_slice())
+}
+
+/// The same on a new cache, whose maximum is 256 slots.
+pub fn run_cache(alloc: Global, calls: &[CacheCall<u64, u64>]) -> Result<String, AllocError>
+    ensures { IfOk result (λ text. CacheOutput calls.now (string_bytes text)) }
+{
+    let mut cache = OwnedCache::with_hasher(alloc, Same);
+    let mut replies = Vec::new(alloc);
+    if run(&mut cache, calls, &mut replies).is_err() {
+        return Err(AllocError);
+    }
+    let pairs = sorted_cached(alloc, &mut cache)?;
     output_text(alloc, replies.as_slice(), pairs.as_slice())
 }

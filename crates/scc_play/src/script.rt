@@ -6,7 +6,7 @@ ghost use Rattle.scc_play.specs.Scripts.{meaning_of, calls_or_line};
 use crate::line::{Kind, parse_kind, parse_line};
 use crate::lines::first_line;
 use crate::names::Named;
-use scc_recorded::recorded::{IndexCall, MapCall, SetCall};
+use scc_recorded::recorded::{CacheCall, IndexCall, MapCall, SetCall};
 use std::alloc::{AllocError, Global};
 
 /// What a script is.
@@ -18,6 +18,8 @@ pub enum Script {
     Set(Vec<SetCall<u64>>),
     /// The same of an index.
     Index(Vec<IndexCall<u64, u64>>),
+    /// The same of a cache.
+    Cache(Vec<CacheCall<u64, u64>>),
     /// The number of the first line that isn't in the grammar, counted from 1.
     BadLine(usize),
 }
@@ -72,6 +74,10 @@ pub fn parse_script(alloc: Global, text: &[u8]) -> Result<Script, AllocError>
         },
         Some(Kind::Index) => match parse_calls(alloc, rest)? {
             Lines::Calls(calls) => Ok(Script::Index(calls)),
+            Lines::BadLine(number) => Ok(Script::BadLine(number)),
+        },
+        Some(Kind::Cache) => match parse_calls(alloc, rest)? {
+            Lines::Calls(calls) => Ok(Script::Cache(calls)),
             Lines::BadLine(number) => Ok(Script::BadLine(number)),
         },
     }

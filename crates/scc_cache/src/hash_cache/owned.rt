@@ -3,14 +3,19 @@ ghost use Rattle.std.specs.Prelude.{◌≡◌, ◌≤◌, ◌<◌, ◌*◌, ◌�
 ghost use Rattle.std.specs.Borrow.{Bor};
 ghost use Rattle.scc_table.specs.Contents.{entries, bucket_count, settings_of, minimum_of, pending_of, key_hash};
 ghost use Rattle.scc_table.specs.Sizes.{IsArraySize};
+ghost use Rattle.std.specs.Fn.{FnOnceTakesAtMut};
 ghost use Rattle.scc_cache.specs.CacheSteps.{AnswersOn, IsAbsent, IsPresent, Puts, Removes};
+ghost use Rattle.scc_cache.specs.CacheWalks.{RemovesIf};
 ghost use Rattle.scc_cache.specs.Caches.{IsCacheState};
 
 mod collecting;
 mod entry;
 mod making;
 mod places;
+mod taking_walks;
 mod walks;
+mod whole;
+mod writing_walks;
 
 use super::EvictedEntry;
 pub use entry::{Entry, OccupiedEntry, ReplaceResult, VacantEntry};
@@ -142,6 +147,23 @@ impl<K: Eq + Hash, V, H: BuildHasher> Owned<K, V, H> {
         match self.find(hash, k) {
             Some(place) => Some(self.remove_at(place)),
             None => None,
+        }
+    }
+
+    /// Takes out the pair of `k` where `f` answers true on its value. What `f` wrote goes with the pair, and stays where it answers false; then the answer is None, and the order of the pairs stays. Where few pairs are left after a removal, the array may become smaller.
+    #[inline(always)]
+    pub fn remove_if_sync<F: FnOnce(&mut V) -> bool>(&mut self, k: &K, f: F) -> Option<(K, V)>
+        requires { (p : K × V) → IsPresent (key_hash H.BuildHasher H.Hasher.Hasher K.hash_input self.old.contents) K.eq self.old.contents k.now p → FnOnceTakesAtMut F.FnOnce f p.1 }
+        ensures step { RemovesIf (key_hash H.BuildHasher H.Hasher.Hasher K.hash_input self.old.contents) K.eq F.FnOnce f self.old k.now result self.new }
+        ensures state { IsCacheState K.eq (key_hash H.BuildHasher H.Hasher.Hasher K.hash_input self.new.contents) self.new }
+    {
+        let hash = self.table.hash(k);
+        let place = self.find(hash, k)?;
+        if f(self.value_mut_at(place)) {
+            Some(self.remove_at(place))
+        } else {
+            let _ = self.len();
+            None
         }
     }
 }

@@ -1,8 +1,8 @@
 //! What is done at a place of a cache.
 ghost use Rattle.std.specs.Prelude.{◌≡◌, true, Some, IfOk, IfErr, MatchOption, slice_get};
 ghost use Rattle.std.specs.Borrow.{sem};
-ghost use Rattle.scc_table.specs.Contents.{bucket_count, list_of, key_hash};
-ghost use Rattle.scc_table.specs.Places.{IsPlace};
+ghost use Rattle.scc_table.specs.Contents.{entries, bucket_count, list_of, key_hash};
+ghost use Rattle.scc_table.specs.Places.{IsPlace, index_of};
 ghost use Rattle.scc_cache.specs.CacheSteps.{Changes, IsFound, IsLacking, PutsNew, TakesAt, number_in};
 ghost use Rattle.scc_cache.specs.Caches.{IsCacheState};
 ghost use Rattle.scc_cache.specs.Lends.{lends_value, with_key_at, with_value_at};
@@ -97,6 +97,15 @@ impl<K: Eq + Hash, V, H: BuildHasher> Owned<K, V, H> {
         ensures state { (v : V) → IsCacheState K.eq (key_hash H.BuildHasher H.Hasher.Hasher K.hash_input (with_value_at self.old place v).contents) (with_value_at self.old place v) }
     {
         self.table.value_mut_at(place)
+    }
+
+    /// The key at the place, and the value to write. The order of the pairs stays.
+    pub(crate) fn parts_mut_at(&mut self, place: Place) -> (&K, &mut V)
+        requires { IsPlace self.old.contents place }
+        ensures* writes_back { sem 𝓛 (lends_value K.row V.row H.row H.Hasher.row K.Hash H.BuildHasher H.Hasher.Hasher self.entry place result.1) }
+        ensures parts { slice_get (entries self.old.contents) (index_of self.old.contents place) ≡ Some (result.0.now, result.1.now) }
+    {
+        self.table.parts_mut_at(place)
     }
 
     /// Writes the value at the place, and answers the old one.

@@ -54,10 +54,18 @@ impl<K: Eq + Hash, V, H: BuildHasher> Owned<K, V, H> {
         let _ = self.len();
     }
 
+    /// The place after that one, or None where it is the last.
+    pub(crate) fn next_place(&self, place: Place) -> Option<Place>
+        requires { IsPlace self.now.contents place }
+        ensures { MatchOption result (suc (index_of self.now.contents place) ≡ length (entries self.now.contents)) (StandsAt self.now.contents (suc (index_of self.now.contents place))) }
+    {
+        self.table.next_place(place)
+    }
+
     /// Takes the pair out of its place, with no resize, and answers it with the place of the pair that followed.
     pub(crate) fn take_and_step(&mut self, place: Place) -> ((K, V), Option<Place>)
         requires { IsPlace self.old.contents place }
-        ensures pair { slice_get (list_of self.old.contents place.bucket) place.slot ≡ Some result.0 }
+        ensures pair { slice_get (entries self.old.contents) (index_of self.old.contents place) ≡ Some result.0 }
         ensures others { HoldsExactly self.old.contents (remove (entries self.old.contents) (index_of self.old.contents place)) self.new.contents }
         ensures refused { refused_of self.new.contents ≡ refused_of self.old.contents }
         ensures maximum { self.new.maximum ≡ self.old.maximum }

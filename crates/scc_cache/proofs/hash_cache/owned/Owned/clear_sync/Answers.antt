@@ -1,4 +1,4 @@
-use Rattle.std.proofs.Common.{◌≡◌, ◌∙◌, ap, subst, refl, sym, arith}
+use Rattle.std.proofs.Common.{subst, refl, arith}
 use Rattle.scc_table.specs.Bounded.{ShrinksBounded}
 use Rattle.scc_table.specs.Hashing.{hash_of}
 use Rattle.scc_cache.proofs.Caching.{shrunk-within, state-after}

@@ -1,5 +1,4 @@
-use Rattle.std.proofs.Common.{◌≡◌, ◌∙◌, ap, None, Some}
-use Rattle.std.specs.Option.{MatchOption}
+use Rattle.std.proofs.Common.{ap}
 use Rattle.scc_table.specs.Contents.{bucket_count, settings_of}
 use Rattle.scc_table.specs.Hashing.{hash_of}
 use Rattle.scc_table.specs.Routing.{bucket_number}

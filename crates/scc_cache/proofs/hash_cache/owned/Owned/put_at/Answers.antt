@@ -1,4 +1,4 @@
-use Rattle.std.proofs.Common.{◌≡◌, ◌∙◌, ℕ, ◌<◌, ◌≤◌, ◌*◌, refl, sym, ap, subst, Some, None, arith}
+use Rattle.std.proofs.Common.{◌∙◌, ℕ, ◌≤◌, ◌*◌, refl, sym, ap, subst, arith}
 use Rattle.scc_table.specs.Bounded.{GrowsBelow, IsListed}
 use Rattle.scc_table.specs.Contents.{entries, bucket_count, settings_of}
 use Rattle.scc_table.specs.Hashing.{hash_of}

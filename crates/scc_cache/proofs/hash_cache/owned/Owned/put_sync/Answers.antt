@@ -1,4 +1,4 @@
-use Rattle.std.proofs.Common.{◌≡◌, ◌∙◌, refl, sym}
+use Rattle.std.proofs.Common.{refl}
 use Rattle.scc_cache.proofs.hash_cache.owned.Owned.put_sync.Goals as goal
 
 pub returns-in-Some-clause-step : goal.returns-in-Some-clause-step

@@ -1,5 +1,3 @@
-use Rattle.std.proofs.Common.{◌≡◌, ◌∙◌, Some, sym, subst}
-use Rattle.scc_cache.specs.CacheSteps.{IsPresent}
 use Rattle.scc_cache.proofs.Caching.{shows-pair}
 use Rattle.scc_cache.proofs.hash_cache.owned.Owned.read_sync.Goals as goal
 

@@ -1,7 +1,6 @@
-use Rattle.std.proofs.Common.{◌≡◌, ◌∙◌, ℕ, ◌≤◌, ◌*◌, List, refl, sym, ap, subst, arith}
+use Rattle.std.proofs.Common.{◌∙◌, refl, subst, arith}
 use Rattle.std.specs.List.{remove}
 use Rattle.scc_table.specs.Bounded.{ShrinksBounded}
-use Rattle.scc_table.specs.Contents.{bucket_count, settings_of}
 use Rattle.scc_table.specs.Hashing.{hash_of}
 use Rattle.scc_cache.proofs.Caching.{list-count, lists-set, shrunk-within, state-after}
 use Rattle.scc_cache.proofs.hash_cache.owned.Owned.remove_at.Goals as goal

@@ -1,9 +1,7 @@
-use Rattle.std.proofs.Common.{◌≡◌, ◌∙◌, refl, sym, ap, subst}
+use Rattle.std.proofs.Common.{ap}
 use Rattle.scc_table.specs.Contents.{settings_of}
 use Rattle.scc_table.specs.Hashing.{hash_of}
 use Rattle.scc_table.specs.Pairs.{with_pair_key}
-use Rattle.scc_cache.specs.Caches.{Cached, IsCacheState}
-use Rattle.scc_cache.specs.Lends.{with_key_at}
 use Rattle.scc_cache.proofs.Writing.{get-listed, key-state-by}
 use Rattle.scc_cache.proofs.hash_cache.owned.Owned.replace_key_at.Goals as goal
 

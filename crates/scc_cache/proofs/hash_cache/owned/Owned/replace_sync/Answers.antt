@@ -2,10 +2,8 @@ use Rattle.std.proofs.Common.{◌≡◌, ◌∙◌, sym, ap, subst, Some}
 use Rattle.scc_table.specs.Pairs.{with_pair_key}
 use Rattle.scc_table.specs.Writes.{IsPlace-with_write_at}
 use Rattle.scc_table.specs.Contents.{key_hash}
-use Rattle.scc_table.specs.Places.{IsPlace}
 use Rattle.scc_cache.specs.CacheSteps.{Changes, number_in}
 use Rattle.scc_cache.specs.ListSteps.{Rewrites}
-use Rattle.scc_cache.specs.Lends.{with_key_at}
 use Rattle.scc_cache.proofs.Caching.{found-equal}
 use Rattle.scc_cache.proofs.Entries.{changes-key, pair-keyed}
 use Rattle.scc_cache.proofs.hash_cache.owned.Owned.replace_sync.Goals as goal

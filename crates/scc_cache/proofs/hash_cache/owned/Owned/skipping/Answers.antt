@@ -1,4 +1,4 @@
-use Rattle.std.proofs.Common.{◌≡◌, ◌+◌, ◌∙◌, ◌*◌, ◌≤◌, refl, ap, arith}
+use Rattle.std.proofs.Common.{◌≡◌, ◌+◌, ◌∙◌, ◌*◌, ◌≤◌, ap, arith}
 use Rattle.scc_table.specs.Contents.{bucket_count, minimum_of}
 use Rattle.scc_cache.proofs.Caching.{state-empty}
 use Rattle.scc_cache.proofs.hash_cache.owned.Owned.skipping.Goals as goal

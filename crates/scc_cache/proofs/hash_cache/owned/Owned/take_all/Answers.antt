@@ -1,4 +1,4 @@
-use Rattle.std.proofs.Common.{refl, arith, ap}
+use Rattle.std.proofs.Common.{refl}
 use Rattle.scc_cache.proofs.Walking.{reached-first, left-shorter}
 use Rattle.scc_cache.proofs.hash_cache.owned.Owned.take_all.Goals as goal
 

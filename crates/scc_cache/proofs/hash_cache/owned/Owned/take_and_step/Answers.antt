@@ -1,4 +1,4 @@
-use Rattle.std.proofs.Common.{ap, arith}
+use Rattle.std.proofs.Common.{arith}
 use Rattle.scc_cache.proofs.Caching.{list-count, state-after}
 use Rattle.scc_cache.proofs.Walking.{next-after}
 use Rattle.scc_cache.proofs.hash_cache.owned.Owned.take_and_step.Goals as goal

@@ -1,5 +1,4 @@
-use Rattle.std.proofs.Common.{◌≡◌, length, ap, ◌∙◌}
-use Rattle.scc_table.specs.Contents.{key_hash}
+use Rattle.std.proofs.Common.{◌≡◌, length, ◌∙◌}
 use Rattle.scc_cache.proofs.hash_cache.owned.Owned.try_from_iter.Goals as goal
 
 pub returns-clause-items : goal.returns-clause-items

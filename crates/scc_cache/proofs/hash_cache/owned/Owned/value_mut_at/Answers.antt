@@ -1,8 +1,6 @@
 use Rattle.std.proofs.Common.{refl, ap}
-use Rattle.scc_table.specs.Contents.{settings_of}
 use Rattle.scc_table.specs.Hashing.{hash_of}
 use Rattle.scc_table.specs.Pairs.{with_pair_value}
-use Rattle.scc_cache.specs.Caches.{Cached, IsCacheState}
 use Rattle.scc_cache.specs.Lends.{with_value_at}
 use Rattle.scc_cache.proofs.Writing.{get-listed, value-state-by}
 use Rattle.scc_cache.proofs.hash_cache.owned.Owned.value_mut_at.Goals as goal

@@ -1,6 +1,4 @@
 use Rattle.std.proofs.Common.{refl, arith}
-use Rattle.std.specs.List.{IsDistinct}
-use Rattle.scc_table.specs.Contents.{entries}
 use Rattle.scc_cache.proofs.Caching.{state-empty}
 use Rattle.scc_cache.proofs.hash_cache.owned.Owned.with_hasher.Goals as goal
 

@@ -1,0 +1,58 @@
+-- Removals of a pair that a closure wrote.
+use Rattle.std.proofs.Common.{◌≡◌, ℕ, zero, suc, Bool, List, [], ◌∷◌, Some, refl, sym, ap, ◌∙◌}
+use Rattle.std.specs.List.{remove, slice_get, slice_set, slice_index_or}
+use Rattle.scc_table.specs.Contents.{Settings, bucket_count, list_of, lists_of, settings_of, refused_of}
+use Rattle.scc_table.specs.Pairs.{with_pair_value}
+use Rattle.scc_table.specs.ShelfWrites.{write_at}
+use Rattle.scc_table.specs.Writes.{with_write_at}
+use Rattle.scc_table.specs.declared.place.Place.{Place}
+use Rattle.scc_table.proofs.KeyWrites.{get-write_at}
+use Rattle.scc_cache.specs.CacheSteps.{IsFound, TakesAt, TakesThen}
+use Rattle.scc_cache.specs.Caches.{Cached}
+use Rattle.scc_cache.specs.Lends.{with_value_at}
+use Rattle.scc_cache.proofs.Writing.{written-list}
+
+set-twice : {X : Type 0} (xs : List X) (i : ℕ) (x y : X) → slice_set (slice_set xs i x) i y ≡ slice_set xs i y
+set-twice [] zero x y = refl
+set-twice [] (suc i) x y = refl
+set-twice (z ∷ xs) zero x y = refl
+set-twice (z ∷ xs) (suc i) x y = ap (λ w. z ∷ w) (set-twice xs i x y)
+
+-- what is written goes where its place is emptied
+remove-written : {E X : Type 0} (put : E → X → E) (es : List E) (i : ℕ) (w : X) → remove (write_at put es i w) i ≡ remove es i
+remove-written put [] i w = refl
+remove-written put (e ∷ es) zero w = refl
+remove-written put (e ∷ es) (suc i) w = ap (λ z. e ∷ z) (remove-written put es i w)
+
+module _ {K V S : Type 0} {hash : K → ℕ} {eq : K → K → Bool} (c : Cached (K × V) S) (k : K) (p : Place) (f : IsFound hash eq c.contents k p) where
+  pub found-pair : (x : K × V) → slice_get (list_of c.contents p.bucket) p.slot ≡ Some x → x ≡ f.pair
+  found-pair x got = let s : Some x ≡ Some f.pair = sym got ∙ f.here in cc
+
+  -- the pair that goes has what was written
+  pub removed-pair : (w : V) (x : K × V) → slice_get (list_of (with_value_at c p w).contents p.bucket) p.slot ≡ Some x → x ≡ (f.pair.0, w)
+  removed-pair w x got =
+      let here = ap (λ l. slice_get l p.slot) (written-list with_pair_value c.contents p f.within w) ∙ get-write_at with_pair_value (list_of c.contents p.bucket) p.slot f.pair w f.here in
+      let s : Some x ≡ Some (f.pair.0, w) = sym got ∙ here in
+      cc
+
+-- a removal of a pair that was written is one of the pair
+pub takes-written : {K V S : Type 0} (hash : Settings S → K → ℕ) (eq : K → K → Bool) (c : Cached (K × V) S) (k : K) (p : Place) (f : IsFound (hash (settings_of c.contents)) eq c.contents k p) (w : V) (d : Cached (K × V) S)
+    → TakesAt (hash (settings_of (with_value_at c p w).contents)) (with_value_at c p w) p d → TakesThen (hash (settings_of c.contents)) eq c k f.pair d
+unfolding bucket_count lists_of list_of settings_of refused_of with_write_at
+takes-written hash eq c k p f w d (left, change, shrinks) =
+    let ls = c.contents.lists in
+    let list = slice_index_or ls p.bucket [] in (
+      left,
+      record {
+        lists = (
+          p.slot,
+          f.there,
+          change.lists ∙ ap (λ z. slice_set (slice_set ls p.bucket (write_at with_pair_value list p.slot w)) p.bucket (remove z p.slot)) (written-list with_pair_value c.contents p f.within w)
+              ∙ set-twice ls p.bucket _ _ ∙ ap (slice_set ls p.bucket) (remove-written with_pair_value list p.slot w) ∙ ap (λ j. slice_set ls j (remove (slice_index_or ls j []) p.slot)) f.bucket,
+        );
+        settings = change.settings;
+        refused = change.refused;
+        maximum = change.maximum;
+      },
+      shrinks,
+    )

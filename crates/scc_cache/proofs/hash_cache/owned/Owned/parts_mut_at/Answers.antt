@@ -1,0 +1,15 @@
+use Rattle.std.proofs.Common.{refl, ap}
+use Rattle.scc_table.specs.Hashing.{hash_of}
+use Rattle.scc_cache.specs.Lends.{with_value_at}
+use Rattle.scc_cache.proofs.Writing.{value-state-by}
+use Rattle.scc_cache.proofs.hash_cache.owned.Owned.parts_mut_at.Goals as goal
+
+pub invariant_of-self-lent : goal.invariant_of-self-lent
+invariant_of-self-lent g c w =
+    let within = rw (← c.self.view_is) at c.requires in
+    value-state-by g.K.PartialEq.eq (λ s k. hash_of g.H.BuildHasher g.H.Hasher.Hasher s.hasher (g.K.Hash.hash_input k)) (record { contents = c.self.inside.table; maximum = c.self.inside.maximum }) c.args.place within c.self.invariant w
+
+pub returns : goal.returns
+returns g c =
+    let x = c.parts_mut_at.ensures.parts in
+    ((refl, λ w. ap (λ m. with_value_at m c.args.place w) c.self.view_is), record { writes_back = tt; parts = rw (← c.self.view_is, x.2, x.3) x.1 })

@@ -1,0 +1,91 @@
+//! The walk that takes pairs out of a cache into a list.
+ghost use Rattle.std.specs.Prelude.{◌≡◌, ◌≤◌, ◌<◌, ◌++◌, suc, List, [], ◌∷◌, length, remove, Some, slice_get, OnErr, MatchOption};
+ghost use Rattle.std.specs.List.Sorted.{IsPermutation};
+ghost use Rattle.std.specs.Vec.{vec_len, vec_capacity};
+ghost use Rattle.scc_table.specs.Contents.{entries, key_hash, refused_of};
+ghost use Rattle.scc_table.specs.Pairs.{IsUnique};
+ghost use Rattle.scc_table.specs.Places.{IsPlace, index_of};
+ghost use Rattle.scc_table.specs.Standing.{StandsAt};
+ghost use Rattle.scc_table.specs.Steps.{HoldsExactly};
+ghost use Rattle.scc_map.specs.MapWalks.{CallableToWrite, CalledToWrite, GoesOn, Takes};
+ghost use Rattle.scc_cache.specs.CacheWalks.{GoesOver, LeavesPairs, ShrinksIfTaken};
+ghost use Rattle.scc_cache.specs.Caches.{Cached, IsCacheState};
+
+use super::Owned;
+use scc_table::{Place, Verdict, WalkError};
+use std::hash::{BuildHasher, Hash};
+
+impl<K: Eq + Hash, V, H: BuildHasher> Owned<K, V, H> {
+    /// Calls `f` on the pairs in some order, each at most once, with the value to write, until it stops, and answers false where it stopped. A pair on which it answers `Take` or `TakeStop` goes to the end of `taken`; the others keep the order of their list. Room for one pair is made in `taken` before each call of `f`; where it can't be had, the walk ends with an error, and what it did so far stays. Where a pair was taken, the array may become smaller.
+    pub fn iter_mut_sync<F: FnMut(&K, &mut V) -> Verdict>(
+        &mut self,
+        f: F,
+        taken: &mut Vec<(K, V)>,
+    ) -> Result<bool, WalkError>
+        requires { (es : List (K × V)) → IsPermutation (entries self.old.contents) es → CallableToWrite F.FnMut GoesOn f es }
+        ensures step { (es : List (K × V)) × (stay : List (K × V)) × (more : List (K × V)) × (last : F) × (left : Cached (K × V) H) × GoesOver (key_hash H.BuildHasher H.Hasher.Hasher K.hash_input self.old.contents) self.old.contents es × Takes (CalledToWrite F.FnMut) f es stay more result last × (taken.new.items ≡ taken.old.items ++ more) × LeavesPairs (key_hash H.BuildHasher H.Hasher.Hasher K.hash_input self.old.contents) self.old stay left × ShrinksIfTaken (key_hash H.BuildHasher H.Hasher.Hasher K.hash_input self.old.contents) more left self.new }
+        ensures full { OnErr result (vec_capacity taken.new ≤ vec_len taken.new) }
+        ensures room { vec_capacity taken.old ≤ vec_capacity taken.new }
+        ensures was_unique { IsUnique K.eq self.old.contents }
+        ensures state { IsCacheState K.eq (key_hash H.BuildHasher H.Hasher.Hasher K.hash_input self.new.contents) self.new }
+    {
+        let before = self.len();
+        let result = self.take_walk(f, taken);
+        if self.len() < before {
+            self.table.shrink_within();
+        }
+        result
+    }
+
+    /// The same in the order of the list, with no resize.
+    fn take_walk<F: FnMut(&K, &mut V) -> Verdict>(
+        &mut self,
+        mut f: F,
+        taken: &mut Vec<(K, V)>,
+    ) -> Result<bool, WalkError>
+        requires { CallableToWrite F.FnMut GoesOn f (entries self.old.contents) }
+        ensures step { (stay : List (K × V)) × (more : List (K × V)) × (last : F) × Takes (CalledToWrite F.FnMut) f (entries self.old.contents) stay more result last × (taken.new.items ≡ taken.old.items ++ more) × HoldsExactly self.old.contents stay self.new.contents }
+        ensures refused { refused_of self.new.contents ≡ refused_of self.old.contents }
+        ensures maximum { self.new.maximum ≡ self.old.maximum }
+        ensures full { OnErr result (vec_capacity taken.new ≤ vec_len taken.new) }
+        ensures room { vec_capacity taken.old ≤ vec_capacity taken.new }
+    {
+        let mut at = self.table.first_place();
+        while let Some(place) = at {
+            match taken.reserve(1) {
+                Ok(()) => {}
+                Err(_) => return Err(WalkError),
+            }
+            match self.visit(place, &mut f) {
+                Verdict::Keep => {
+                    at = self.next_place(place);
+                }
+                Verdict::Take => {
+                    at = self.take_into(place, taken);
+                }
+                Verdict::KeepStop => return Ok(false),
+                Verdict::TakeStop => {
+                    let _ = self.take_into(place, taken);
+                    return Ok(false);
+                }
+            }
+        }
+        Ok(true)
+    }
+
+    /// Moves the pair out of its place to the end of `taken`, which has room, and answers the place of the pair that followed.
+    fn take_into(&mut self, place: Place, taken: &mut Vec<(K, V)>) -> Option<Place>
+        requires within { IsPlace self.old.contents place }
+        requires room { vec_len taken.old < vec_capacity taken.old }
+        ensures taken { (p : K × V) × (slice_get (entries self.old.contents) (index_of self.old.contents place) ≡ Some p) × (taken.new.items ≡ taken.old.items ++ p ∷ []) }
+        ensures others { HoldsExactly self.old.contents (remove (entries self.old.contents) (index_of self.old.contents place)) self.new.contents }
+        ensures refused { refused_of self.new.contents ≡ refused_of self.old.contents }
+        ensures maximum { self.new.maximum ≡ self.old.maximum }
+        ensures next { MatchOption result (suc (index_of self.old.contents place) ≡ length (entries self.old.contents)) (StandsAt self.new.contents (index_of self.old.contents place)) }
+        ensures capacity { vec_capacity taken.new ≡ vec_capacity taken.old }
+    {
+        let (pair, next) = self.take_and_step(place);
+        taken.push_reserved(pair);
+        next
+    }
+}
