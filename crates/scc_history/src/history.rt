@@ -1,0 +1,12 @@
+//! Recorded parts: stripes, logs, and the order of their steps.
+
+mod log;
+mod notes;
+mod receipts;
+mod refusals;
+mod stripe;
+
+pub use log::Log;
+pub use receipts::Receipt;
+pub use refusals::CallError;
+pub use stripe::Stripe;

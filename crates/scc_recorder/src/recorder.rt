@@ -1,0 +1,16 @@
+//! Recorded containers, the passes of those who call them, and what a finished run is.
+
+mod counts;
+mod guards;
+mod locked;
+mod opening;
+mod passes;
+mod setups;
+mod whole;
+mod whole_calls;
+
+pub use guards::Guarded;
+pub use locked::Recorded;
+pub use passes::Pass;
+pub use setups::Setup;
+pub use whole_calls::WholeCalls;
