@@ -7,10 +7,8 @@ mod opening;
 mod passes;
 mod setups;
 mod whole;
-mod whole_calls;
 
 pub use guards::Guarded;
 pub use locked::Recorded;
 pub use passes::Pass;
 pub use setups::Setup;
-pub use whole_calls::WholeCalls;
