@@ -1,1 +1,6 @@
 pub mod Growing
+pub mod Ordering
+pub mod Items
+pub mod Numbers
+pub mod Places
+pub mod Waiting

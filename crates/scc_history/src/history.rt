@@ -2,11 +2,13 @@
 
 mod log;
 mod notes;
+mod order;
 mod receipts;
 mod refusals;
 mod stripe;
 
 pub use log::Log;
+pub use order::{Histories, stamp_order};
 pub use receipts::Receipt;
 pub use refusals::CallError;
 pub use stripe::Stripe;
