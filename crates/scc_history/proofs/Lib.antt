@@ -3,4 +3,5 @@ pub mod Ordering
 pub mod Items
 pub mod Numbers
 pub mod Places
+pub mod Telling
 pub mod Waiting

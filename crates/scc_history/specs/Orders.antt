@@ -1,6 +1,6 @@
 -- Merges of histories, as lists of places, and the one in stamp order.
 use Rattle.std.specs.Prelude.{◌≡◌, ℕ, ◌+◌, ◌<◌, ◌≤◌, List, [], ◌∷◌, ◌++◌, length, map, min, Option, Some, None, slice_get, slice_set, slice_index, ◌⊎◌, drop}
-use Rattle.std.specs.List.{AllPairs, filter_map}
+use Rattle.std.specs.List.{AllByRecursion, AllPairs, filter_map}
 use Rattle.scc_recorded.specs.declared.recorded.steps.Step.{Step}
 use Rattle.scc_recorded.specs.declared.recorded.steps.Step.TheVariants.{Call, Resize}
 
@@ -66,3 +66,7 @@ step_at histories place = in_history (slice_get histories place.0) place.1
 -- along these places the stamps of calls don't fall, and equal ones stand by stripe
 abbrev pub StampsRise : {A R : Type 0} → List (List (Step A R)) → List (ℕ × ℕ) → Type 0
 StampsRise histories places = AllPairs (λ p q. StampsComeAt (step_at histories p) (step_at histories q) p.0 q.0) places
+
+-- at each of these places a step stands
+abbrev pub AllStand : {X : Type 0} → List (List X) → List (ℕ × ℕ) → Type 0
+AllStand histories places = AllByRecursion (λ p. (p.0 < length histories) × (p.1 < slice_index (map length histories) p.0)) places

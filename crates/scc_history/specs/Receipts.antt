@@ -1,5 +1,6 @@
 -- A caller's receipts beside the records of its calls.
 use Rattle.std.specs.Prelude.{◌≡◌, ℕ, ◌+◌, ◌<◌, List, [], ◌∷◌, Bool, true, Option, Some, None, slice_get, length, map, Contains, ◌==◌, if◌then◌else◌}
+use Rattle.std.specs.List.{AllByRecursion, AllPairs}
 use Rattle.scc_recorded.specs.declared.recorded.steps.Step.{Step}
 use Rattle.scc_recorded.specs.declared.recorded.steps.Step.TheVariants.{Call, Resize}
 use Rattle.scc_history.specs.declared.history.receipts.Receipt.{Receipt}
@@ -26,6 +27,6 @@ Matches calls replies receipts records = (k : ℕ) → SameAt calls replies (sli
 abbrev pub DiffersFirst : {A R : Type 0} → (A → A → Bool) → (R → R → Bool) → List (Receipt A R) → List (Receipt A R) → ℕ → Type 0
 DiffersFirst calls replies receipts records j = ((k : ℕ) → k < j → SameAt calls replies (slice_get receipts k) (slice_get records k)) × ¬ SameAt calls replies (slice_get receipts j) (slice_get records j)
 
--- these are the numbers below count, each once
+-- these are the numbers below count, each once: as many, none too great, no two equal
 abbrev pub AreAll : ℕ → List ℕ → Type 0
-AreAll count numbers = (length numbers ≡ count) × ((i : ℕ) → i < count → Contains numbers i)
+AreAll count numbers = (length numbers ≡ count) × AllByRecursion (λ n. n < count) numbers × AllPairs (λ m n. m ≡ n → ⊥) numbers

@@ -1,6 +1,7 @@
 //! Recorded parts: stripes, logs, and the order of their steps.
 
 mod log;
+mod matching;
 mod notes;
 mod order;
 mod receipts;
@@ -8,6 +9,7 @@ mod refusals;
 mod stripe;
 
 pub use log::Log;
+pub use matching::{first_difference, records_by_pass};
 pub use order::{Histories, stamp_order};
 pub use receipts::Receipt;
 pub use refusals::CallError;

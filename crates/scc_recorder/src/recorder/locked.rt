@@ -1,5 +1,5 @@
 //! A container in parts behind locks.
-ghost use Rattle.std.specs.Prelude.{◌≡◌, ℕ, ◌<◌, List, [], ◌∷◌, ◌++◌, Err, IfOk, OnErr, IsSome, Option, Some, vec_len};
+ghost use Rattle.std.specs.Prelude.{◌≡◌, ℕ, ◌<◌, List, [], ◌∷◌, ◌++◌, Err, IfOk, OnErr, IsSome, Option, Some, vec_len, vec_capacity, ◌≤◌};
 ghost use Rattle.scc_recorded.specs.declared.recorded.fixed.Request.{Request};
 ghost use Rattle.scc_recorded.specs.declared.recorded.fixed.Setting.{Setting};
 ghost use Rattle.scc_history.specs.Stamps.{receipt};
@@ -19,14 +19,18 @@ use std::sync::{Mutex, RwLock, Wait};
 pub struct Recorded<C: Calls, L: Ledger, M: Site<Request<C::Hasher>>> {
     /// The number of stripes.
     pub stripes: usize,
+    /// The number of passes that were handed out.
+    pub passes: usize,
     pub(crate) locks: Vec<RwLock<Guarded<C, M>>>,
     pub(crate) count: Mutex<Count<L, M>>,
     pub(crate) hasher: C::Hasher,
-    pub(crate) passes: usize,
     pub(crate) alloc: Global,
+    pub(crate) room: Vec<Guarded<C, M>>,
     pub ghost placed: { ∥ ((r : Request C.Hasher) × (M.chosen ≡ Some r) × (r.hasher ≡ hasher)) ∥₁ },
     pub ghost number: { vec_len locks ≡ stripes },
     pub ghost some: { 0 < stripes },
+    pub ghost empty: { room.items ≡ [] },
+    pub ghost reserved: { stripes ≤ vec_capacity room },
 }
 
 impl<C: Calls, L: Ledger, M: Site<Request<C::Hasher>>> Recorded<C, L, M> {

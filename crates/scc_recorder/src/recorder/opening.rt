@@ -4,6 +4,7 @@ ghost use Rattle.std.specs.List.{AllByRecursion, range_with_len};
 ghost use Rattle.scc_recorder.specs.Setups.{IsStripes, request_of, share_of, skipped_for};
 
 use crate::recorder::counts::Count;
+use crate::recorder::lists::list_for;
 use crate::recorder::setups::{bits_for, slots_for};
 use crate::recorder::{Guarded, Pass, Recorded, Setup};
 use scc_recorded::recorded::{Calls, Request, Site};
@@ -32,7 +33,7 @@ where
         requires site { M.chosen ≡ Some (request_of setup.capacity setup.maximum setup.hasher stripes) }
         requires stripes { IsStripes stripes }
         requires passes { 0 < passes }
-        ensures stripes { IfOk result (λ r. r.0.stripes ≡ stripes) }
+        ensures stripes { IfOk result (λ r. (r.0.stripes ≡ stripes) × (r.0.passes ≡ passes)) }
         ensures numbers { IfOk result (λ r. map (λ p. p.log.number) r.1.items ≡ range_with_len 0 passes) }
         ensures new { IfOk result (λ r. AllByRecursion (λ p. (p.log.clock ≡ 0) × (p.log.receipts.items ≡ [])) r.1.items) }
     {
@@ -43,13 +44,17 @@ where
         let maximum = slots_for(setup.maximum, stripes);
         let hasher = setup.hasher;
         let locks = lock_all(alloc, bits_for(stripes), slots, maximum, stripes, &hasher, rest)?;
+        let Ok(room) = list_for(alloc, stripes) else {
+            return Err(MakeError);
+        };
         let recorded = Recorded {
             stripes,
+            passes,
             locks,
             count: Mutex::new(Count::new(book, other)),
             hasher,
-            passes,
             alloc,
+            room,
         };
         Ok((recorded, handed))
     }
