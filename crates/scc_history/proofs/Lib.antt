@@ -1,3 +1,4 @@
+pub mod Along
 pub mod Growing
 pub mod Ordering
 pub mod Items

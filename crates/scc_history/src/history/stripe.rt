@@ -22,6 +22,7 @@ pub struct Stripe<C: Calls> {
     pub opened: usize,
     pub ghost replays: { ∥ Replay (C.moves (C.setting container)) (C.resizes (C.setting container)) (C.empty opened) history.items (C.state container) ∥₁ },
     pub ghost rising: { Rises 0 history.items last } by { Rises-prop 0 history.items last },
+    pub ghost short: { last < 18446744073709551616 },
 }
 
 impl<C: Calls> Stripe<C> {

@@ -14,6 +14,7 @@ invariant_of-self-in-Err g c =
     let h : old.last ≤ stamp = omega arith in
     record {
       replays = grown _ _ _ _ m.moves m.resizes m.empty old.opened (m.setting old.container) (m.setting new) (m.state old.container) (m.state new) _ _ _ c.call.ensures.setting e old.replays (Replay-resized _ _ _ (m.moves (m.setting old.container)) (m.resizes (m.setting old.container)) m.size (m.state old.container) (m.state new) stamp c.in-Err.ensures.err);
+      short = old.short;
       rising = rw e (Rises-resized _ _ old.last (m.size (m.state old.container)) (m.size (m.state new)) stamp old.history.items old.rising h);
     }
 
@@ -28,6 +29,7 @@ invariant_of-self-in-Ok g c =
     let h : old.last < stamp = omega arith in
     record {
       replays = grown _ _ _ _ m.moves m.resizes m.empty old.opened (m.setting old.container) (m.setting new) (m.state old.container) (m.state new) _ _ _ c.call.ensures.setting e old.replays (Replay-recorded _ _ _ (m.moves (m.setting old.container)) (m.resizes (m.setting old.container)) m.size (m.state old.container) (m.state new) stamp number c.args.call c.in-Ok.reply c.in-Ok.ensures.ok);
+      short = omega arith;
       rising = rw e (Rises-recorded _ _ old.last (m.size (m.state old.container)) (m.size (m.state new)) stamp number c.args.call c.in-Ok.reply old.history.items old.rising h);
     }
 
