@@ -21,3 +21,4 @@ pub mod IndexWhole
 pub mod SetCalls
 pub mod SetLaws
 pub mod SetWhole
+pub mod WholeLaws

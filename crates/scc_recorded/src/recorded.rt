@@ -14,6 +14,7 @@ mod routing;
 mod running;
 mod set_calls;
 mod steps;
+mod whole_calls;
 
 pub use calling::Calls;
 pub use calls_as_values::{CacheCall, IndexCall, MapCall, SetCall};
@@ -25,3 +26,4 @@ pub use replies::Reply;
 pub use routing::route;
 pub use running::run;
 pub use steps::Step;
+pub use whole_calls::WholeCalls;

@@ -1,0 +1,8 @@
+pub mod Along
+pub mod Growing
+pub mod Ordering
+pub mod Items
+pub mod Numbers
+pub mod Places
+pub mod Telling
+pub mod Waiting

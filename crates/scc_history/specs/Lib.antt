@@ -1,0 +1,4 @@
+pub mod Stamps
+pub mod Orders
+pub mod Receipts
+pub mod Waiting

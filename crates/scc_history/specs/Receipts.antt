@@ -1,0 +1,32 @@
+-- A caller's receipts beside the records of its calls.
+use Rattle.std.specs.Prelude.{◌≡◌, ℕ, ◌+◌, ◌<◌, List, [], ◌∷◌, Bool, true, Option, Some, None, slice_get, length, map, Contains, ◌==◌, if◌then◌else◌}
+use Rattle.std.specs.List.{AllByRecursion, AllPairs}
+use Rattle.scc_recorded.specs.declared.recorded.steps.Step.{Step}
+use Rattle.scc_recorded.specs.declared.recorded.steps.Step.TheVariants.{Call, Resize}
+use Rattle.scc_history.specs.declared.history.receipts.Receipt.{Receipt}
+use Rattle.scc_history.specs.Stamps.{receipt}
+
+-- the call records of the caller with that number, in this order, as receipts
+abbrev pub calls_of : {A R : Type 0} → ℕ → List (ℕ × Step A R) → List (Receipt A R)
+calls_of number [] = []
+calls_of number ((i, Call stamp pass call reply) ∷ entries) = if pass == number then receipt stamp call reply ∷ calls_of number entries else calls_of number entries
+calls_of number ((i, Resize stamp buckets) ∷ entries) = calls_of number entries
+
+-- neither is there, or both are and agree: in stamp, call and reply
+abbrev pub SameAt : {A R : Type 0} → (A → A → Bool) → (R → R → Bool) → Option (Receipt A R) → Option (Receipt A R) → Type 0
+SameAt calls replies None None = Unit {0}
+SameAt calls replies (Some r) (Some s) = (r.stamp ≡ s.stamp) × (calls r.call s.call ≡ true) × (replies r.reply s.reply ≡ true)
+SameAt calls replies None (Some s) = ⊥
+SameAt calls replies (Some r) None = ⊥
+
+-- one for one, in order
+abbrev pub Matches : {A R : Type 0} → (A → A → Bool) → (R → R → Bool) → List (Receipt A R) → List (Receipt A R) → Type 0
+Matches calls replies receipts records = (k : ℕ) → SameAt calls replies (slice_get receipts k) (slice_get records k)
+
+-- they agree before this place and not at it
+abbrev pub DiffersFirst : {A R : Type 0} → (A → A → Bool) → (R → R → Bool) → List (Receipt A R) → List (Receipt A R) → ℕ → Type 0
+DiffersFirst calls replies receipts records j = ((k : ℕ) → k < j → SameAt calls replies (slice_get receipts k) (slice_get records k)) × ¬ SameAt calls replies (slice_get receipts j) (slice_get records j)
+
+-- these are the numbers below count, each once: as many, none too great, no two equal
+abbrev pub AreAll : ℕ → List ℕ → Type 0
+AreAll count numbers = (length numbers ≡ count) × AllByRecursion (λ n. n < count) numbers × AllPairs (λ m n. m ≡ n → ⊥) numbers

@@ -1,0 +1,11 @@
+//! What a caller keeps of one of its calls.
+
+use std::fmt::Debug;
+
+/// What was answered to a call, and the stamp of its record.
+#[derive(Clone, Copy, Debug, PartialEq)]
+pub struct Receipt<A, R> {
+    pub stamp: u64,
+    pub call: A,
+    pub reply: R,
+}

@@ -1,0 +1,5 @@
+pub mod Adding
+pub mod Comparing
+pub mod Handing
+pub mod Placed
+pub mod Seen

@@ -1,0 +1,5 @@
+use Rattle.std.proofs.Common.{rules}
+use Rattle.scc_recorder.proofs.recorder.locked.Recorded.call.Goals as goal
+
+pub returns-clause-refused : goal.returns-clause-refused
+returns-clause-refused g c e = ∣ (_, _, c.step.ensures.refused e) ∣₁

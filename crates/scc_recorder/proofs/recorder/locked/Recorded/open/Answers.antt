@@ -1,0 +1,5 @@
+use Rattle.std.proofs.Common.{rules, refl}
+use Rattle.scc_recorder.proofs.recorder.locked.Recorded.open.Goals as goal
+
+pub invariant_of-recorded-clause-placed : goal.invariant_of-recorded-clause-placed
+invariant_of-recorded-clause-placed g c = ∣ (_, c.requires.site, refl) ∣₁

@@ -1,0 +1,21 @@
+//! Recorded containers, the passes of those who call them, and what a finished run is.
+
+mod checks;
+mod closing;
+mod comparing;
+mod counts;
+mod guards;
+mod lists;
+mod locked;
+mod opening;
+mod passes;
+mod refusals;
+mod setups;
+mod whole;
+
+pub use closing::Closed;
+pub use guards::Guarded;
+pub use locked::Recorded;
+pub use passes::Pass;
+pub use refusals::FinishError;
+pub use setups::Setup;

@@ -1,0 +1,73 @@
+//! What a lock guards.
+ghost use Rattle.std.specs.Prelude.{◌≡◌, ℕ, ◌+◌, ◌*◌, ◌<◌, ◌≤◌, List, [], ◌∷◌, ◌++◌, Err, length, IfOk, OnOk, OnErr, Option, Some};
+ghost use Rattle.scc_recorded.specs.Made.{IsMadeFor};
+ghost use Rattle.scc_recorded.specs.declared.recorded.fixed.Request.{Request};
+ghost use Rattle.scc_history.specs.Stamps.{receipt, calls_in};
+
+use crate::recorder::Pass;
+use crate::recorder::counts::Count;
+use scc_history::history::{CallError, Stripe};
+use scc_recorded::recorded::{Calls, Request, Site};
+use scc_table::MakeError;
+use std::alloc::Global;
+use std::sync::ledger::{Ledger, Share};
+use std::sync::{Mutex, Wait};
+
+/// A stripe that was made for the request of its site, with its part of the count of records.
+#[derive(Drop)]
+pub struct Guarded<C: Calls, M: Site<Request<C::Hasher>>> {
+    pub stripe: Stripe<C>,
+    pub(crate) share: Share<M>,
+    pub ghost placed: { ∥ ((r : Request C.Hasher) × (M.chosen ≡ Some r) × IsMadeFor C.limits r (C.setting stripe.container)) ∥₁ },
+    pub ghost part: { share.parts ≡ 1 },
+    pub ghost counted: { share.amount ≡ calls_in stripe.history.items },
+}
+
+impl<C: Calls, M: Site<Request<C::Hasher>>> Guarded<C, M> {
+    // An empty stripe, which takes one part of the ledger.
+    pub(crate) fn open(
+        alloc: Global,
+        skipped: u32,
+        slots: usize,
+        maximum: usize,
+        hasher: C::Hasher,
+        all: &mut Share<M>,
+    ) -> Result<Guarded<C, M>, MakeError>
+    where
+        C::Hasher: Drop,
+        requires site { M.chosen ≡ Some (record { hasher = hasher; skipped = skipped; slots = slots; maximum = maximum }) }
+        requires skipped { skipped ≤ 4 }
+        requires part { (0 < all.old.parts) × (all.old.amount ≡ 0) }
+        ensures { OnOk result ((all.new.parts + 1 ≡ all.old.parts) × (all.new.amount ≡ 0)) }
+    {
+        let stripe = Stripe::open(alloc, skipped, slots, maximum, hasher)?;
+        let share = all.split_off(1, 0);
+        Ok(Guarded { stripe, share })
+    }
+
+    // One step, counted in both books.
+    pub(crate) fn step<L: Ledger, R: Wait>(
+        &mut self,
+        rt: &R,
+        pass: &mut Pass<C, L>,
+        count: &Mutex<Count<L, M>>,
+        call: C::Call,
+    ) -> Result<C::Reply, CallError>
+        ensures number { pass.new.log.number ≡ pass.old.log.number }
+        ensures ok { IfOk result (λ r. (pass.old.log.clock < pass.new.log.clock) × (pass.new.log.receipts.items ≡ pass.old.log.receipts.items ++ receipt pass.new.log.clock call r ∷ [])) }
+        ensures err { OnErr result ((pass.new.log.clock ≡ pass.old.log.clock) × (pass.new.log.receipts.items ≡ pass.old.log.receipts.items)) }
+        ensures refused { result ≡ Err CallError.Container → C.may_refuse (C.setting self.old.stripe.container) (C.state self.old.stripe.container) call }
+    {
+        let Guarded {
+            stripe,
+            share: records,
+        } = self;
+        let Pass {
+            log,
+            share: receipts,
+        } = pass;
+        let reply = stripe.step(log, call)?;
+        count.lock(rt).add(receipts, records);
+        Ok(reply)
+    }
+}

@@ -1,0 +1,113 @@
+//! Recorded containers are opened.
+ghost use Rattle.std.specs.Prelude.{◌≡◌, ℕ, ◌+◌, ◌<◌, ◌≤◌, [], IfOk, Some, map, vec_len};
+ghost use Rattle.std.specs.List.{AllByRecursion, range_with_len};
+ghost use Rattle.scc_recorder.specs.Setups.{IsStripes, request_of, share_of, skipped_for};
+
+use crate::recorder::counts::Count;
+use crate::recorder::lists::list_for;
+use crate::recorder::setups::{bits_for, slots_for};
+use crate::recorder::{Guarded, Pass, Recorded, Setup};
+use scc_recorded::recorded::{Calls, Request, Site};
+use scc_table::{MakeError, Share};
+use std::alloc::Global;
+use std::sync::ledger::{Blank, Ledger, Share as Part};
+use std::sync::{Mutex, RwLock};
+
+impl<C: Calls + Drop, L: Ledger, M: Site<Request<C::Hasher>>> Recorded<C, L, M>
+where
+    C::Hasher: Share + Drop,
+{
+    /// An empty container in so many stripes, and the passes of those who may call it, numbered from 0.
+    ///
+    /// The slots and the maximum are divided evenly among the stripes. Fails where memory is refused, or the hasher can't be shared once more.
+    pub fn open(
+        alloc: Global,
+        setup: Setup<C::Hasher>,
+        stripes: usize,
+        passes: usize,
+        receipts: Blank,
+        records: Blank,
+    ) -> Result<(Recorded<C, L, M>, Vec<Pass<C, L>>), MakeError>
+        requires receipts { (receipts.name ≡ L.name) × (receipts.parts ≡ L.parts) × (receipts.parts ≡ passes) }
+        requires records { (records.name ≡ M.name) × (records.parts ≡ M.parts) × (records.parts ≡ stripes) }
+        requires site { M.chosen ≡ Some (request_of setup.capacity setup.maximum setup.hasher stripes) }
+        requires stripes { IsStripes stripes }
+        requires passes { 0 < passes }
+        ensures stripes { IfOk result (λ r. (r.0.stripes ≡ stripes) × (r.0.passes ≡ passes)) }
+        ensures numbers { IfOk result (λ r. map (λ p. p.log.number) r.1.items ≡ range_with_len 0 passes) }
+        ensures new { IfOk result (λ r. AllByRecursion (λ p. (p.log.clock ≡ 0) × (p.log.receipts.items ≡ [])) r.1.items) }
+    {
+        let (book, mut all) = receipts.open::<L>();
+        let (other, rest) = records.open::<M>();
+        let handed = pass_all(alloc, passes, &mut all)?;
+        let slots = slots_for(setup.capacity, stripes);
+        let maximum = slots_for(setup.maximum, stripes);
+        let hasher = setup.hasher;
+        let locks = lock_all(alloc, bits_for(stripes), slots, maximum, stripes, &hasher, rest)?;
+        let Ok(room) = list_for(alloc, stripes) else {
+            return Err(MakeError);
+        };
+        let recorded = Recorded {
+            stripes,
+            passes,
+            locks,
+            count: Mutex::new(Count::new(book, other)),
+            hasher,
+            alloc,
+            room,
+        };
+        Ok((recorded, handed))
+    }
+}
+
+// So many passes of nothing, numbered from 0.
+fn pass_all<C: Calls, L: Ledger>(
+    alloc: Global,
+    passes: usize,
+    all: &mut Part<L>,
+) -> Result<Vec<Pass<C, L>>, MakeError>
+    requires part { (all.old.parts ≡ passes) × (all.old.amount ≡ 0) }
+    ensures numbers { IfOk result (λ v. map (λ p. p.log.number) v.items ≡ range_with_len 0 passes) }
+    ensures new { IfOk result (λ v. AllByRecursion (λ p. (p.log.clock ≡ 0) × (p.log.receipts.items ≡ [])) v.items) }
+{
+    let mut handed = Vec::new(alloc);
+    if handed.reserve(passes).is_err() {
+        return Err(MakeError);
+    }
+    for number in 0..passes {
+        let pass = Pass::open(alloc, number, all);
+        handed.push_reserved(pass);
+    }
+    Ok(handed)
+}
+
+// So many empty stripes, each behind a lock.
+fn lock_all<C: Calls + Drop, M: Site<Request<C::Hasher>>>(
+    alloc: Global,
+    skipped: u32,
+    slots: usize,
+    maximum: usize,
+    stripes: usize,
+    hasher: &C::Hasher,
+    rest: Part<M>,
+) -> Result<Vec<RwLock<Guarded<C, M>>>, MakeError>
+where
+    C::Hasher: Share + Drop,
+    requires site { M.chosen ≡ Some (record { hasher = hasher.now; skipped = skipped; slots = slots; maximum = maximum }) }
+    requires skipped { skipped ≤ 4 }
+    requires part { (rest.parts ≡ stripes) × (rest.amount ≡ 0) }
+    ensures { IfOk result (λ v. vec_len v ≡ stripes) }
+{
+    let mut rest = rest;
+    let mut locks = Vec::new(alloc);
+    for _i in 0..stripes {
+        let Ok(shared) = hasher.share() else {
+            return Err(MakeError);
+        };
+        let guarded = Guarded::open(alloc, skipped, slots, maximum, shared, &mut rest)?;
+        if locks.push(RwLock::new(guarded)).is_err() {
+            return Err(MakeError);
+        }
+    }
+    Ok(locks)
+}
