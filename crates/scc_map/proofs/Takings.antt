@@ -100,7 +100,3 @@ appended-none xs ys more e s = omega (arith, length-append xs more, ap length e,
 -- a list that nothing is put at the end of stays as it is
 pub appended-some : {X : Type 0} (xs ys more : List X) → ys ≡ xs ++ more → length more ≡ 0 → ys ≡ xs
 appended-some xs ys more e n = e ∙ ap (λ z. xs ++ z) (nil_from_length more n) ∙ append-nil xs
-
--- a shrink that was due, seen from before a change that kept the number of buckets
-pub shrinks-since : {E S : Type 0} (a b c : Contents E S) → bucket_count b ≡ bucket_count a → ShrinksWhenDue b c → ShrinksWhenDue a c
-shrinks-since a b c e h = record { shrunk = λ m n am an few less down. h.shrunk m n am an (omega arith) (omega arith) down }

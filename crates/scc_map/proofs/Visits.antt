@@ -1,7 +1,7 @@
 -- A pair that was visited in a walk: it stays with what was written, or is taken out.
 use Rattle.std.proofs.Common.{◌≡◌, ℕ, zero, suc, ◌<◌, ◌-◌, List, [], ◌∷◌, ◌++◌, length, take, drop, Bool, true, false, Option, None, Some, MatchOption, IfSome, refl, sym, ap, ◌∙◌, arith, subst, append_assoc}
 use Rattle.std.specs.List.{slice_get, remove}
-use Rattle.scc_table.specs.Contents.{Contents, entries, bucket_count, settings_of, list_of}
+use Rattle.scc_table.specs.Contents.{Contents, entries, bucket_count, settings_of, list_of, refused_of}
 use Rattle.scc_table.specs.Places.{IsPlace, index_of}
 use Rattle.scc_table.specs.Standing.{StandsAt}
 use Rattle.scc_table.specs.Steps.{HoldsExactly}
@@ -18,7 +18,7 @@ use Rattle.scc_map.specs.MapWalks.{Retains, kept, removed}
 use Rattle.scc_table.proofs.Placed.{front-write, back-write}
 use Rattle.scc_table.proofs.Placed.{take-more, drop-here, take-removed, drop-removed}
 use Rattle.scc_map.proofs.MapWalks.{reached, reached-at}
-use Rattle.scc_table.proofs.KeyWrites.{index-write, get-write_at}
+use Rattle.scc_table.proofs.KeyWrites.{index-write, get-write_at, noted-write}
 
 length-write : {E X : Type 0} (put : E → X → E) (es : List E) (i : ℕ) (w : X) → length (write_at put es i w) ≡ length es
 length-write put [] i w = refl
@@ -41,6 +41,7 @@ pub record Visited {K V S : Type 0} (m : Contents (K × V) S) (p : Place) (q : K
   pub count : length (entries n) ≡ length (entries m)
   pub buckets : bucket_count n ≡ bucket_count m
   pub settings : settings_of n ≡ settings_of m
+  pub noted : refused_of n ≡ refused_of m
 
 module _ {K V S : Type 0} (m : Contents (K × V) S) (p : Place) where
   pub visited : (q : K × V) (w : V) (n : Contents (K × V) S) → IsPlace m p → slice_get (entries m) (index_of m p) ≡ Some q → n ≡ with_write_at with_pair_value m p w → Visited m p q w n
@@ -59,6 +60,7 @@ module _ {K V S : Type 0} (m : Contents (K × V) S) (p : Place) where
         count = ap length all ∙ length-write with_pair_value es i w;
         buckets = ap bucket_count new ∙ h.buckets;
         settings = ap settings_of new ∙ h.settings;
+        noted = ap refused_of new ∙ noted-write with_pair_value m p w;
       }
 
   module _ (q : K × V) (w : V) (n : Contents (K × V) S) (v : Visited m p q w n) where

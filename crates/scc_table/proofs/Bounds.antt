@@ -15,7 +15,7 @@ use Rattle.scc_table.specs.Bounded.{IsBounded, IsListed, IsResized, IsUnlisted, 
 use Rattle.scc_table.specs.Pour.{bound_for}
 use Rattle.scc_table.specs.Routing.{bucket_number}
 use Rattle.scc_table.specs.Sizes.{IsArray}
-use Rattle.scc_table.specs.Contents.{Contents, Settings, entries, bucket_count, settings_of, refused_of, list_of, lists_of, spilled_of}
+use Rattle.scc_table.specs.Contents.{Contents, Settings, entries, bucket_count, settings_of, refused_of, list_of, lists_of, spilled_of, IsRouted}
 use Rattle.scc_table.specs.Tables.{AllEmpty, IsTable, spilled_in}
 use Rattle.scc_bucket.specs.Shelf.{Shelf, shelf_entries, empty_shelf, with_slot, with_entry, next_place, without_place}
 use Rattle.scc_table.proofs.Counting.{entries-of_bucket}
@@ -168,14 +168,28 @@ unlisted-none p c i n =
 pub none-there : {X : Type 0} {C : Type 0} (xs : List X) (j : ℕ) (x : X) → xs ≡ [] → slice_get xs j ≡ Some x → C
 none-there xs j x none got = let l = get-below xs j x got in absurd (let n : length xs ≡ 0 = ap length none in omega arith)
 
--- the lists of a table without overflow
-module _ {E S : Type 0} (hash : E → ℕ) (n o : ℕ) (bs : List (Shelf E)) (s : Settings S) (c : Contents E S) {f : Bool} (view : view_of f bs s ≡ c) (h : IsTable hash s.skipped bs n o) (bounded : IsBounded c) where
+-- the lists of a table, with overflow or without
+module _ {E S : Type 0} (hash : E → ℕ) (n o : ℕ) (bs : List (Shelf E)) (s : Settings S) (c : Contents E S) {f : Bool} (view : view_of f bs s ≡ c) (h : IsTable hash s.skipped bs n o) where
   past-list : (i : ℕ) → length bs ≤ i → list_of c i ≡ []
   unfolding list_of
   past-list i l = ap (λ (x : Contents E S). get_or x.lists i []) (sym view) ∙ get_or_past (map shelf_entries bs) i [] (omega (arith, length-map bs shelf_entries))
 
-  pub listed-view : IsListed hash c
-  listed-view = record {
+  -- each entry lies in the bucket of its hash
+  pub routed-view : IsRouted hash c
+  routed-view = record {
+    routed = λ i j e got. elim (dec_lt i (length bs)) [
+      | yes l ↦
+          let b : Shelf E = get_or bs i empty_shelf in
+          let at : b ≡ get_or bs i b = get_or_default bs i empty_shelf b l in
+          let here : slice_get (shelf_entries b) j ≡ Some e = rw (list-view bs s c view i b l at) at got in
+          let is : e ≡ get_or (shelf_entries b) j e = get-is (shelf_entries b) j e e here in
+          rw (settings-view bs s c view, count-view bs s c view) (ap (λ z. bucket_number s.skipped (length bs) (hash z)) is ∙ (h.own i b l at).routed j e (get-below (shelf_entries b) j e here))
+      | no l ↦ none-there (list_of c i) j e (past-list i (omega arith)) got
+    ];
+  }
+
+  pub listed-view : IsBounded c → IsListed hash c
+  listed-view bounded = record {
     lawful = rw (count-view bs s c view) h.sized;
     bounded = bounded;
     short = λ i. elim (dec_lt i (length bs)) [
@@ -187,15 +201,7 @@ module _ {E S : Type 0} (hash : E → ℕ) (n o : ℕ) (bs : List (Shelf E)) (s 
           omega arith
       | no l ↦ let same : length (list_of c i) ≡ 0 = ap length (past-list i (omega arith)) in omega arith
     ];
-    routed = λ i j e got. elim (dec_lt i (length bs)) [
-      | yes l ↦
-          let b : Shelf E = get_or bs i empty_shelf in
-          let at : b ≡ get_or bs i b = get_or_default bs i empty_shelf b l in
-          let here : slice_get (shelf_entries b) j ≡ Some e = rw (list-view bs s c view i b l at) at got in
-          let is : e ≡ get_or (shelf_entries b) j e = get-is (shelf_entries b) j e e here in
-          rw (settings-view bs s c view, count-view bs s c view) (ap (λ z. bucket_number s.skipped (length bs) (hash z)) is ∙ (h.own i b l at).routed j e (get-below (shelf_entries b) j e here))
-      | no l ↦ none-there (list_of c i) j e (past-list i (omega arith)) got
-    ];
+    routed = routed-view.routed;
   }
 
 pub keeps-count : {E S : Type 0} (c d : Contents E S) → KeepsLists c d → bucket_count d ≡ bucket_count c

@@ -119,10 +119,10 @@ module _ {E F S : Type 0} (f : E → F) where
   FirstArrayWhenDue-mapped c d h = record { made = rw (bucket_count-mapped c, bucket_count-mapped d, settings_of-mapped c) h.made }
 
   pub ShrinksWhenDue-mapped : (c d : Contents E S) → ShrinksWhenDue c d → ShrinksWhenDue (mapped f c) (mapped f d)
-  ShrinksWhenDue-mapped c d h = record { shrunk = rw (bucket_count-mapped c, bucket_count-mapped d, settings_of-mapped d, length-mapped d, refused_of-mapped d) h.shrunk }
+  ShrinksWhenDue-mapped c d h = record { shrunk = rw (bucket_count-mapped c, bucket_count-mapped d, settings_of-mapped d, length-mapped d, refused_of-mapped d) h.shrunk; raised = rw (bucket_count-mapped c, settings_of-mapped d, length-mapped d, refused_of-mapped c, refused_of-mapped d) h.raised }
 
   pub ReachesMinimumWhenDue-mapped : (c d : Contents E S) → ReachesMinimumWhenDue c d → ReachesMinimumWhenDue (mapped f c) (mapped f d)
-  ReachesMinimumWhenDue-mapped c d h = record { reached = rw (bucket_count-mapped c, bucket_count-mapped d, settings_of-mapped d, length-mapped c, refused_of-mapped d) h.reached }
+  ReachesMinimumWhenDue-mapped c d h = record { reached = rw (bucket_count-mapped c, bucket_count-mapped d, settings_of-mapped d, length-mapped c, refused_of-mapped d) h.reached; raised = rw (bucket_count-mapped c, settings_of-mapped d, refused_of-mapped c, refused_of-mapped d) h.raised }
 
   HoldsWith-mapped : (c : Contents E S) (s : Settings S) (d : Contents E S) → HoldsWith c s d → HoldsWith (mapped f c) s (mapped f d)
   HoldsWith-mapped c s d h = record {
@@ -157,6 +157,9 @@ module _ {E F S : Type 0} (f : E → F) where
     pub GrowsWhenDue-mapped : (hash : K → ℕ) (c : Contents E S) (k : K) (d : Contents E S) → GrowsWhenDue hash (λ e. key (f e)) c k d → GrowsWhenDue hash key (mapped f c) k (mapped f d)
     GrowsWhenDue-mapped hash c k d h = record {
       doubled = λ a b. rw (bucket_count-mapped c, bucket_count-mapped d, length-mapped c, refused_of-mapped d) (h.doubled (rw (bucket_count-mapped c) at a) (λ r. b (HasRoomBy-mapped hash c k r)));
+      raised = λ low up.
+          let r = h.raised (rw (refused_of-mapped c) at low) (rw (refused_of-mapped d) at up) in
+          (rw (bucket_count-mapped c) r.0, λ room. r.1 (HasRoomBy-from_mapped hash c k room), rw (bucket_count-mapped c, length-mapped c) r.2, rw (bucket_count-mapped c) r.3);
     }
 
     pub IsUniqueBy-mapped : (eq : K → K → Bool) (c : Contents E S) → IsUniqueBy eq (λ e. key (f e)) c → IsUniqueBy eq key (mapped f c)

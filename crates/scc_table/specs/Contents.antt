@@ -1,7 +1,7 @@
 -- What a table holds, and the words by which containers see it.
-use Rattle.std.specs.Prelude.{ℕ, ◌+◌, ◌<◌, ◌==◌, Bool, List, [], length, map, count_by, refl}
+use Rattle.std.specs.Prelude.{◌≡◌, ℕ, Some, ◌+◌, ◌<◌, ◌==◌, Bool, List, [], length, map, count_by, refl}
 use Rattle.std.specs.Hash.{HashWrites}
-use Rattle.std.specs.List.{flat_map, IsDistinct, slice_index_or}
+use Rattle.std.specs.List.{flat_map, IsDistinct, slice_get, slice_index_or}
 use Rattle.std.specs.Coded.{Coded, code_by, coded×, coded_ℕ, coded_bool, coded_list}
 use Rattle.std.specs.declared.hash.Hasher as hasher
 use Rattle.std.specs.declared.hash.BuildHasher as builder
@@ -65,6 +65,10 @@ module _ {E S : Type 0} where
   -- the slots that the array keeps at least: those asked for at making, and those reserved
   abbrev pub minimum_of : Contents E S → ℕ
   minimum_of c = (settings_of c).asked + (settings_of c).reserved
+
+  -- each entry stands in the list of the bucket that its hash names
+  pub record IsRouted (hash : E → ℕ) (c : Contents E S) : Type 0 where
+    pub routed : (i j : ℕ) (e : E) → slice_get (list_of c i) j ≡ Some e → bucket_number (settings_of c).skipped (bucket_count c) (hash e) ≡ i
 
   -- no two entries have equal keys
   abbrev pub IsUniqueBy : {K : Type 0} → (K → K → Bool) → (E → K) → Contents E S → Type 0

@@ -1,5 +1,5 @@
 -- What a call may leave: the same contents, other entries, other buckets.
-use Rattle.std.specs.Prelude.{◌≡◌, ◌≢◌, ℕ, ◌+◌, ◌-◌, ◌*◌, ◌^◌, ◌<◌, ◌≤◌, ◌⊎◌, false, List, length, max}
+use Rattle.std.specs.Prelude.{◌≡◌, ◌≢◌, ℕ, ◌+◌, ◌-◌, ◌*◌, ◌^◌, ◌<◌, ◌≤◌, ◌⊎◌, false, true, List, length, max}
 use Rattle.std.specs.List.Sorted.{IsPermutation}
 use Rattle.scc_table.specs.Contents.{Contents, Settings, entries, bucket_count, settings_of, minimum_of, refused_of, HasRoomBy}
 use Rattle.scc_table.specs.Sizes.{IsArray, IsArraySize, IsSmaller}
@@ -72,17 +72,24 @@ module _ {E S : Type 0} where
   pub record FirstArrayWhenDue (c d : Contents E S) : Type 0 where
     pub made : bucket_count c ≡ 0 → IsArraySize (minimum_of c) (32 * bucket_count d)
 
-  -- for a new key k whose bucket has no room, the slots were doubled where at least half as many entries as slots were held and the slots were below the greatest number, unless memory was refused; 2 ^ 62 entries are more than a table can hold
+  -- for a new key k whose bucket has no room, the slots were doubled where at least half as many entries as slots were held and the slots were below the greatest number, unless memory was refused; the note of refused memory rises only there; 2 ^ 62 entries are more than a table can hold
   pub record GrowsWhenDue {K : Type 0} (hash : K → ℕ) (key : E → K) (c : Contents E S) (k : K) (d : Contents E S) : Type 0 where
     pub doubled : 0 < bucket_count c → (HasRoomBy hash key c k → ⊥) → 32 * bucket_count c ≤ 2 * length (entries c) → 32 * bucket_count c < 2 ^ 63 → length (entries c) < 2 ^ 62 → refused_of d ≡ false → bucket_count d ≡ 2 * bucket_count c
+    pub raised : refused_of c ≡ false → refused_of d ≡ true → (0 < bucket_count c) × (HasRoomBy hash key c k → ⊥) × (32 * bucket_count c ≤ 2 * length (entries c)) × (32 * bucket_count c < 2 ^ 63)
 
-  -- where the entries that are left are at most an eighth of the slots, and the greater of the sizes for the minimum and for twice these entries is smaller, the array got that size, unless memory was refused
+  -- the note of refused memory rises only where a new key k asked for a growth that was due
+  pub record RaisesWhenDue {K : Type 0} (hash : K → ℕ) (key : E → K) (c : Contents E S) (k : K) (d : Contents E S) : Type 0 where
+    pub raised : refused_of c ≡ false → refused_of d ≡ true → (0 < bucket_count c) × (HasRoomBy hash key c k → ⊥) × (32 * bucket_count c ≤ 2 * length (entries c)) × (32 * bucket_count c < 2 ^ 63)
+
+  -- where the entries that are left are at most an eighth of the slots, and the greater of the sizes for the minimum and for twice these entries is smaller, the array got that size, unless memory was refused; the note of refused memory rises only there
   pub record ShrinksWhenDue (c d : Contents E S) : Type 0 where
     pub shrunk : (m n : ℕ) → IsArraySize (minimum_of d) m → IsArraySize (2 * length (entries d)) n → 8 * length (entries d) ≤ 32 * bucket_count c → max m n < 32 * bucket_count c → refused_of d ≡ false → 32 * bucket_count d ≡ max m n
+    pub raised : refused_of c ≡ false → refused_of d ≡ true → (m n : ℕ) → IsArraySize (minimum_of d) m → IsArraySize (2 * length (entries d)) n → (8 * length (entries d) ≤ 32 * bucket_count c) × (max m n < 32 * bucket_count c)
 
-  -- an array with fewer slots than the minimum, as it is now, got the size of it, unless memory was refused
+  -- an array with fewer slots than the minimum, as it is now, got the size of it, unless memory was refused; the note of refused memory rises only there
   pub record ReachesMinimumWhenDue (c d : Contents E S) : Type 0 where
     pub reached : (m : ℕ) → IsArraySize (minimum_of d) m → 0 < bucket_count c → 32 * bucket_count c < m → length (entries c) < 2 ^ 62 → refused_of d ≡ false → 32 * bucket_count d ≡ m
+    pub raised : refused_of c ≡ false → refused_of d ≡ true → (m : ℕ) → IsArraySize (minimum_of d) m → (0 < bucket_count c) × (32 * bucket_count c < m)
 
   -- what an insertion of a new key k may do to the number of buckets, and has to: nothing where the bucket of k has room
   pub record GrowsFor {K : Type 0} (hash : K → ℕ) (key : E → K) (c : Contents E S) (k : K) (d : Contents E S) : Type 0 where

@@ -3,7 +3,7 @@ ghost use Rattle.std.specs.Prelude.{◌≡◌, ◌≤◌, ◌<◌, ◌*◌, ◌^
 ghost use Rattle.std.specs.List.{position};
 ghost use Rattle.std.specs.List.Sorted.{IsPermutation};
 ghost use Rattle.scc_table.specs.Bounded.{DoublesBelow, GrowsBelow, HasList, IsBounded, IsListed, IsListedAt, IsUnlisted, PutsLast, ShrinksBounded};
-ghost use Rattle.scc_table.specs.Contents.{entries, bucket_count, list_of, settings_of, key_hash, IsUniqueBy};
+ghost use Rattle.scc_table.specs.Contents.{entries, bucket_count, list_of, settings_of, key_hash, IsUniqueBy, IsRouted};
 ghost use Rattle.scc_table.specs.Places.{IsPlace};
 ghost use Rattle.scc_table.specs.Routing.{bucket_number};
 
@@ -70,6 +70,7 @@ where
     /// What every table keeps of its lists. It does nothing, and is there for its contract.
     #[inline(always)]
     pub fn keep_lists(&self)
+        ensures routed { IsRouted (λ e. key_hash H.BuildHasher H.Hasher.Hasher E.Key.hash_input self.now (E.key_of e)) self.now }
         ensures listed { IsBounded self.now → IsListed (λ e. key_hash H.BuildHasher H.Hasher.Hasher E.Key.hash_input self.now (E.key_of e)) self.now }
         ensures unique { IsUniqueBy E.Key.eq E.key_of self.now }
     {

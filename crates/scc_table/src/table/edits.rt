@@ -92,6 +92,7 @@ where
         ensures follows { index_of self.new place ≡ index_of self.old place }
         ensures list { place.slot ≤ length (list_of self.new place.bucket) }
         ensures others { HoldsExactly self.old (remove (entries self.old) (index_of self.old place)) self.new }
+        ensures noted { refused_of self.new ≡ refused_of self.old }
         ensures unique { IsUniqueBy E.Key.eq E.key_of self.new }
     {
         self.take_in(place)
@@ -104,6 +105,7 @@ where
         ensures follows { index_of self.new place ≡ index_of self.old place }
         ensures list { place.slot ≤ length (list_of self.new place.bucket) }
         ensures others { HoldsExactly self.old (remove (entries self.old) (index_of self.old place)) self.new }
+        ensures noted { refused_of self.new ≡ refused_of self.old }
         ensures listed { slice_get (list_of self.old place.bucket) place.slot ≡ Some result }
         ensures gone { position (λ e. E.Key.eq (E.key_of result) (E.key_of e)) (entries self.new) ≡ None }
         ensures short { IsBounded self.old → length (list_of self.new place.bucket) < 32 }

@@ -1,5 +1,5 @@
 //! How a table gets room for a new key.
-ghost use Rattle.std.specs.Prelude.{◌≡◌, ◌≤◌, ◌<◌, ◌+◌, ◌*◌, ◌^◌, [], false, length, IfOk, OnOk, OnErr};
+ghost use Rattle.std.specs.Prelude.{◌≡◌, ◌≤◌, ◌<◌, ◌+◌, ◌*◌, ◌^◌, [], false, true, length, IfOk, OnOk, OnErr};
 ghost use Rattle.scc_table.specs.Contents.{entries, bucket_count, settings_of, refused_of, key_hash, HasRoomAt, IsUniqueBy};
 ghost use Rattle.scc_table.specs.Routing.{bucket_number};
 ghost use Rattle.scc_table.specs.Steps.{FirstArrayWhenDue, Grows, IsUnchanged, Rests};
@@ -25,6 +25,7 @@ where
         ensures routed { IfOk result (λ i. i ≡ bucket_number (settings_of self.new).skipped (bucket_count self.new) hash) }
         ensures still { HasRoomAt (key_hash H.BuildHasher H.Hasher.Hasher E.Key.hash_input self.old) E.key_of self.old hash → self.new ≡ self.old }
         ensures due { 0 < bucket_count self.old → (HasRoomAt (key_hash H.BuildHasher H.Hasher.Hasher E.Key.hash_input self.old) E.key_of self.old hash → ⊥) → 32 * bucket_count self.old ≤ 2 * length (entries self.old) → 32 * bucket_count self.old < 2 ^ 63 → length (entries self.old) < 2 ^ 62 → refused_of self.new ≡ false → bucket_count self.new ≡ 2 * bucket_count self.old }
+        ensures raised { refused_of self.old ≡ false → refused_of self.new ≡ true → (0 < bucket_count self.old) × (HasRoomAt (key_hash H.BuildHasher H.Hasher.Hasher E.Key.hash_input self.old) E.key_of self.old hash → ⊥) × (32 * bucket_count self.old ≤ 2 * length (entries self.old)) × (32 * bucket_count self.old < 2 ^ 63) }
         ensures first { OnOk result (FirstArrayWhenDue self.old self.new) }
         ensures bare { bucket_count self.old ≡ 0 → entries self.new ≡ [] }
         ensures none { OnErr result (bucket_count self.old ≡ 0) }
@@ -48,6 +49,7 @@ where
         requires { bucket_count self.old ≡ 0 }
         ensures rests { Rests self.old self.new }
         ensures growth { Grows self.old self.new }
+        ensures noted { refused_of self.new ≡ refused_of self.old }
         ensures first { OnOk result (FirstArrayWhenDue self.old self.new) }
         ensures bare { entries self.new ≡ [] }
         ensures refused { OnErr result (IsUnchanged self.old self.new) }
@@ -66,6 +68,7 @@ where
         ensures rests { Rests self.old self.new }
         ensures growth { Grows self.old self.new }
         ensures due { 32 * bucket_count self.old ≤ 2 * length (entries self.old) → 32 * bucket_count self.old < 2 ^ 63 → length (entries self.old) < 2 ^ 62 → refused_of self.new ≡ false → bucket_count self.new ≡ 2 * bucket_count self.old }
+        ensures raised { refused_of self.old ≡ false → refused_of self.new ≡ true → (32 * bucket_count self.old ≤ 2 * length (entries self.old)) × (32 * bucket_count self.old < 2 ^ 63) }
         ensures within { result < bucket_count self.new }
         ensures routed { result ≡ bucket_number (settings_of self.new).skipped (bucket_count self.new) hash }
         ensures unique { IsUniqueBy E.Key.eq E.key_of self.new }
@@ -80,6 +83,7 @@ where
         ensures rests { Rests self.old self.new }
         ensures growth { Grows self.old self.new }
         ensures due { 32 * bucket_count self.old ≤ 2 * length (entries self.old) → 32 * bucket_count self.old < 2 ^ 63 → length (entries self.old) < 2 ^ 62 → refused_of self.new ≡ false → bucket_count self.new ≡ 2 * bucket_count self.old }
+        ensures raised { refused_of self.old ≡ false → refused_of self.new ≡ true → (32 * bucket_count self.old ≤ 2 * length (entries self.old)) × (32 * bucket_count self.old < 2 ^ 63) }
         ensures array { 0 < bucket_count self.new }
         ensures unique { IsUniqueBy E.Key.eq E.key_of self.new }
     {

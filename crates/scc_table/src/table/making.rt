@@ -2,7 +2,7 @@
 ghost use Rattle.std.specs.Arc.{arc_value};
 ghost use Rattle.std.specs.Prelude.{◌≡◌, ◌≢◌, ◌≤◌, ◌<◌, ◌+◌, ◌*◌, ◌^◌, [], length, IsOk, IfOk, OnOk, OnErr, vec_len};
 ghost use Rattle.scc_table.specs.Bounded.{IsListed, IsResized};
-ghost use Rattle.scc_table.specs.Contents.{entries, bucket_count, settings_of, minimum_of, key_hash};
+ghost use Rattle.scc_table.specs.Contents.{entries, bucket_count, settings_of, refused_of, minimum_of, key_hash};
 ghost use Rattle.scc_table.specs.Pour.{Fits};
 ghost use Rattle.scc_table.specs.Sizes.{IsArray, IsArraySize};
 ghost use Rattle.scc_table.specs.Steps.{IsUnchanged};
@@ -85,6 +85,7 @@ where
         ensures size { OnOk result (IsArraySize (minimum_of self.old) (32 * bucket_count self.new)) }
         ensures array { OnOk result (IsArray (bucket_count self.new)) }
         ensures settings { settings_of self.new ≡ settings_of self.old }
+        ensures noted { refused_of self.new ≡ refused_of self.old }
         ensures refused { OnErr result (IsUnchanged self.old self.new) }
         ensures resized { OnOk result (IsResized (λ e. key_hash H.BuildHasher H.Hasher.Hasher E.Key.hash_input self.old (E.key_of e)) self.old self.new) }
         ensures same { OnErr result (self.new ≡ self.old) }

@@ -1,7 +1,7 @@
 //! How entries get out of a table where the order of the others is free.
 ghost use Rattle.std.specs.Prelude.{◌≡◌, ◌≢◌, Some, length, slice_get, remove};
 ghost use Rattle.std.specs.List.Sorted.{IsPermutation};
-ghost use Rattle.scc_table.specs.Contents.{entries, bucket_count, settings_of, minimum_of, IsUniqueBy};
+ghost use Rattle.scc_table.specs.Contents.{entries, bucket_count, settings_of, refused_of, minimum_of, IsUniqueBy};
 ghost use Rattle.scc_table.specs.Places.{IsPlace, index_of};
 ghost use Rattle.scc_table.specs.Sizes.{IsSmaller};
 ghost use Rattle.scc_table.specs.Steps.{Holds, ShrinksWhenDue};
@@ -37,6 +37,7 @@ where
         ensures entry { slice_get (entries self.old) (index_of self.old place) ≡ Some result }
         ensures others { IsPermutation (remove (entries self.old) (index_of self.old place)) (entries self.new) }
         ensures buckets { bucket_count self.new ≡ bucket_count self.old }
+        ensures noted { refused_of self.new ≡ refused_of self.old }
         ensures settings { settings_of self.new ≡ settings_of self.old }
         ensures unique { IsUniqueBy E.Key.eq E.key_of self.new }
     {

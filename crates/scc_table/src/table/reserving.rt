@@ -1,6 +1,6 @@
 //! How many slots a table keeps at least.
 ghost use Rattle.std.specs.Prelude.{◌≡◌, ◌≢◌, ◌≤◌, ◌<◌, ◌+◌, ◌-◌, ◌*◌, ◌^◌, ◌↔◌, IsTrue};
-ghost use Rattle.scc_table.specs.Contents.{entries, bucket_count, settings_of, minimum_of, pending_of, IsUniqueBy};
+ghost use Rattle.scc_table.specs.Contents.{entries, bucket_count, settings_of, refused_of, minimum_of, pending_of, IsUniqueBy};
 ghost use Rattle.scc_table.specs.Sizes.{IsArraySize};
 ghost use Rattle.scc_table.specs.Steps.{IsUnchanged, ReachesMinimumWhenDue, Releases, Reserves, Resizes, ShrinksWhenDue};
 
@@ -83,6 +83,7 @@ where
         ensures entries { entries self.new ≡ entries self.old }
         ensures buckets { bucket_count self.new ≡ bucket_count self.old }
         ensures settings { settings_of self.new ≡ record (settings_of self.old) { reserved = reserved } }
+        ensures noted { refused_of self.new ≡ refused_of self.old }
     {
         self.reserved = reserved;
     }

@@ -1,7 +1,7 @@
 //! Walks over the pairs of an index, from place to place.
 ghost use Rattle.std.specs.Prelude.{◌≡◌, ◌≢◌, suc, List, [], length, remove, MatchOption, false};
 ghost use Rattle.std.specs.List.Sorted.{IsPermutation};
-ghost use Rattle.scc_table.specs.Contents.{entries, bucket_count, minimum_of};
+ghost use Rattle.scc_table.specs.Contents.{entries, bucket_count, minimum_of, refused_of};
 ghost use Rattle.scc_table.specs.Pairs.{IsUnique};
 ghost use Rattle.scc_table.specs.Places.{IsPlace, index_of};
 ghost use Rattle.scc_table.specs.Sizes.{IsSmaller};
@@ -35,7 +35,8 @@ impl<K: Eq + Hash, V, H: BuildHasher> Owned<K, V, H> {
     where
         K: Drop,
         V: Drop,
-        ensures { HoldsExactly self.old [] self.new }
+        ensures step { HoldsExactly self.old [] self.new }
+        ensures noted { refused_of self.new ≡ refused_of self.old }
     {
         let mut at = self.table.first_place();
         while let Some(place) = at {
@@ -64,7 +65,8 @@ impl<K: Eq + Hash, V, H: BuildHasher> Owned<K, V, H> {
         K: Drop,
         V: Drop,
         requires { CallableOnAll F.FnMut f (entries self.old) }
-        ensures { (stay : List (K × V)) × (last : F) × Retains (CalledOn F.FnMut) f (entries self.old) stay last × HoldsExactly self.old stay self.new }
+        ensures step { (stay : List (K × V)) × (last : F) × Retains (CalledOn F.FnMut) f (entries self.old) stay last × HoldsExactly self.old stay self.new }
+        ensures noted { refused_of self.new ≡ refused_of self.old }
     {
         let mut at = self.table.first_place();
         while let Some(place) = at {
@@ -92,6 +94,7 @@ impl<K: Eq + Hash, V, H: BuildHasher> Owned<K, V, H> {
         V: Drop,
         requires { IsPlace self.old place }
         ensures others { HoldsExactly self.old (remove (entries self.old) (index_of self.old place)) self.new }
+        ensures noted { refused_of self.new ≡ refused_of self.old }
         ensures next { MatchOption result (suc (index_of self.old place) ≡ length (entries self.old)) (StandsAt self.new (index_of self.old place)) }
         ensures unique { IsUnique K.eq self.new }
     {

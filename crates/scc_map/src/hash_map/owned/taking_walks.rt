@@ -2,7 +2,7 @@
 ghost use Rattle.std.specs.Prelude.{◌≡◌, ◌≢◌, ◌≤◌, ◌<◌, ◌++◌, suc, List, [], ◌∷◌, length, remove, Some, slice_get, OnErr, MatchOption};
 ghost use Rattle.std.specs.List.Sorted.{IsPermutation};
 ghost use Rattle.std.specs.Vec.{vec_len, vec_capacity};
-ghost use Rattle.scc_table.specs.Contents.{entries, bucket_count, minimum_of};
+ghost use Rattle.scc_table.specs.Contents.{entries, bucket_count, minimum_of, refused_of};
 ghost use Rattle.scc_table.specs.Pairs.{IsUnique};
 ghost use Rattle.scc_table.specs.Places.{IsPlace, index_of};
 ghost use Rattle.scc_table.specs.Sizes.{IsSmaller};
@@ -67,6 +67,7 @@ impl<K: Eq + Hash, V, H: BuildHasher> Owned<K, V, H> {
     ) -> Result<bool, WalkError>
         requires { CallableToWrite F.FnMut GoesOn f (entries self.old) }
         ensures step { (stay : List (K × V)) × (more : List (K × V)) × (last : F) × Takes (CalledToWrite F.FnMut) f (entries self.old) stay more result last × (L.pairs taken.new ≡ L.pairs taken.old ++ more) × HoldsExactly self.old stay self.new }
+        ensures noted { refused_of self.new ≡ refused_of self.old }
         ensures full { OnErr result (L.capacity taken.new ≤ length (L.pairs taken.new)) }
         ensures room { L.capacity taken.old ≤ L.capacity taken.new }
     {
@@ -99,6 +100,7 @@ impl<K: Eq + Hash, V, H: BuildHasher> Owned<K, V, H> {
         requires room { length (L.pairs taken.old) < L.capacity taken.old }
         ensures taken { (p : K × V) × (slice_get (entries self.old) (index_of self.old place) ≡ Some p) × (L.pairs taken.new ≡ L.pairs taken.old ++ p ∷ []) }
         ensures others { HoldsExactly self.old (remove (entries self.old) (index_of self.old place)) self.new }
+        ensures noted { refused_of self.new ≡ refused_of self.old }
         ensures next { MatchOption result (suc (index_of self.old place) ≡ length (entries self.old)) (StandsAt self.new (index_of self.old place)) }
         ensures capacity { L.capacity taken.new ≡ L.capacity taken.old }
     {

@@ -1,6 +1,6 @@
 //! Walks over the pairs of a map, from place to place.
 ghost use Rattle.std.specs.Prelude.{◌≡◌, [], suc, length, remove, slice_get, Some, MatchOption, false};
-ghost use Rattle.scc_table.specs.Contents.{entries};
+ghost use Rattle.scc_table.specs.Contents.{entries, refused_of};
 ghost use Rattle.scc_table.specs.Pairs.{IsUnique};
 ghost use Rattle.scc_table.specs.Places.{IsPlace, index_of};
 ghost use Rattle.scc_table.specs.Standing.{StandsAt};
@@ -33,6 +33,7 @@ impl<K: Eq + Hash, V, H: BuildHasher> Owned<K, V, H> {
         requires { IsPlace self.old place }
         ensures pair { slice_get (entries self.old) (index_of self.old place) ≡ Some result.0 }
         ensures others { HoldsExactly self.old (remove (entries self.old) (index_of self.old place)) self.new }
+        ensures noted { refused_of self.new ≡ refused_of self.old }
         ensures next { MatchOption result.1 (suc (index_of self.old place) ≡ length (entries self.old)) (StandsAt self.new (index_of self.old place)) }
         ensures unique { IsUnique K.eq self.new }
     {

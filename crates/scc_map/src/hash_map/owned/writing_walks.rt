@@ -1,7 +1,7 @@
 //! Walks that write into the pairs of a map, and take pairs out of it.
 ghost use Rattle.std.specs.Prelude.{◌≡◌, ◌≢◌, ◌++◌, List, [], length, Some, slice_get, ⊤};
 ghost use Rattle.std.specs.List.Sorted.{IsPermutation};
-ghost use Rattle.scc_table.specs.Contents.{entries, bucket_count, minimum_of};
+ghost use Rattle.scc_table.specs.Contents.{entries, bucket_count, minimum_of, refused_of};
 ghost use Rattle.scc_table.specs.Pairs.{IsUnique, with_pair_value};
 ghost use Rattle.scc_table.specs.Places.{IsPlace, index_of};
 ghost use Rattle.scc_table.specs.Sizes.{IsSmaller};
@@ -34,7 +34,8 @@ impl<K: Eq + Hash, V, H: BuildHasher> Owned<K, V, H> {
     where
         K: Drop,
         V: Drop,
-        ensures { HoldsExactly self.old [] self.new }
+        ensures step { HoldsExactly self.old [] self.new }
+        ensures noted { refused_of self.new ≡ refused_of self.old }
     {
         let mut at = self.table.first_place();
         while let Some(place) = at {
@@ -66,7 +67,8 @@ impl<K: Eq + Hash, V, H: BuildHasher> Owned<K, V, H> {
         K: Drop,
         V: Drop,
         requires { CallableToWrite F.FnMut (λ answer. ⊤) f (entries self.old) }
-        ensures { (stay : List (K × V)) × (last : F) × Retains (CalledToWrite F.FnMut) f (entries self.old) stay last × HoldsExactly self.old stay self.new }
+        ensures step { (stay : List (K × V)) × (last : F) × Retains (CalledToWrite F.FnMut) f (entries self.old) stay last × HoldsExactly self.old stay self.new }
+        ensures noted { refused_of self.new ≡ refused_of self.old }
     {
         let mut at = self.table.first_place();
         while let Some(place) = at {

@@ -90,3 +90,17 @@ returns-then-len-ge32-clause-bare g c =
     let count = count-view c.self.inside.buckets.items _ c.args.self.now c.self.view_is in
     let len : c.len-count.result ≡ length c.self.inside.buckets.items = search rules in
     λ none. absurd (c.if-count-eq0.false (len ∙ sym count ∙ none))
+
+pub returns-then-len-ge32-clause-raised : goal.returns-then-len-ge32-clause-raised
+returns-then-len-ge32-clause-raised g c =
+    let t = c.self.inside in
+    let bs = t.buckets.items in
+    let i = c.bucket_index-bucket.result in
+    let l : i < length bs = search rules in
+    let len : c.len-count.result ≡ length bs = search rules in
+    let routed : i ≡ bucket_number t.skipped (length bs) c.args.hash = c.bucket_index-bucket.ensures.value ∙ ap (λ n. bucket_number t.skipped n c.args.hash) len in
+    let held = count-in_bucket (λ e. hash_of g.H.BuildHasher g.H.Hasher.Hasher c.self.inside.hasher (g.E.Key.Hash.hash_input (g.E.Keyed.key_of e))) t.skipped t.length t.overflowing i bs c.index.result.now c.self.invariant.table l c.index.ensures in
+    let full : HasRoomAt (key_hash g.H.BuildHasher g.H.Hasher.Hasher g.E.Key.Hash.hash_input c.args.self.now) g.E.Keyed.key_of c.args.self.now c.args.hash → ⊥ =
+    rw (entries-view bs _ c.args.self.now c.self.view_is, count-view bs _ c.args.self.now c.self.view_is, settings-view bs _ c.args.self.now c.self.view_is, ← routed, held) (λ room. absurd (omega (arith, room.1))) in
+    let some : 0 < bucket_count c.args.self.now = rw (count-view bs _ c.args.self.now c.self.view_is) (search rules) in
+    λ low up. let r = c.grow_for.ensures.raised low up in (some, full, r.0, r.1)

@@ -1,4 +1,5 @@
-use Rattle.std.proofs.Common.{◌≡◌, length, rules, arith}
+use Rattle.std.proofs.Common.{◌≡◌, ◌∙◌, sym, length, rules, arith}
+use Rattle.std.proofs.lemmas.Bool.{true≢false}
 use Rattle.scc_table.proofs.Refill.{count-entries}
 use Rattle.scc_table.proofs.Resizes.{reaches-due}
 use Rattle.scc_table.proofs.Views.{count-view}
@@ -33,8 +34,17 @@ returns-then-count-eq0-clause-due g c =
       | then-count-eq0-via-else-count-eq0+then-count-wanted w ↦ absurd (omega arith)
       | then-count-eq0-via-else-count-eq0+else-count-wanted+then-self-ge-OVERFLOW_LIMIT w ↦ absurd (omega arith)
     ])
+    (λ low up. absurd (true≢false (sym up ∙ low)))
 
 pub returns-in-Ok-clause-due : goal.returns-in-Ok-clause-due
 returns-in-Ok-clause-due g c =
     let size = rw (c.minimum.ensures.value, ← c.in-Ok.ensures.lists.settings) at c.buckets_for-wanted.ensures.size in
-    reaches-due c.buckets_for-wanted.result c.args.self.now c.resize_to.new.self size (λ _ _ _ _. c.in-Ok.ensures.lists.count)
+    reaches-due c.buckets_for-wanted.result c.args.self.now c.resize_to.new.self size (λ _ _ _ _. c.in-Ok.ensures.lists.count) (λ low up. absurd (true≢false (sym up ∙ c.in-Ok.ensures.down)))
+
+pub returns-in-Err-clause-due : goal.returns-in-Err-clause-due
+returns-in-Err-clause-due g c =
+    let count = count-view c.self.inside.buckets.items _ c.args.self.now c.self.view_is in
+    let len : c.len-count.result ≡ length c.self.inside.buckets.items = search rules in
+    let size = rw (c.minimum.ensures.value, ← c.in-Err.ensures.err.settings) at c.buckets_for-wanted.ensures.size in
+    reaches-due c.buckets_for-wanted.result c.args.self.now c.resize_to.new.self size (λ _ _ _ down. absurd (true≢false (sym c.in-Err.ensures.up ∙ down)))
+    (λ low up. let z = c.if-count-eq0.false in (omega arith, omega arith))

@@ -1,4 +1,4 @@
-use Rattle.std.proofs.Common.{Result, Ok, Err, ap, ◌∙◌, arith}
+use Rattle.std.proofs.Common.{Result, Ok, Err, ap, sym, ◌∙◌, arith}
 use Rattle.std.specs.Result.{IfOk, OnErr}
 use Rattle.scc_table.specs.Contents.{entries, bucket_count, key_hash, HasRoomAt}
 use Rattle.scc_table.proofs.Resizes.{absent-permuted, rests-resizes, rests-inserted}
@@ -41,3 +41,11 @@ returns-in-Ok-clause-none g c =
     let bare = c.bucket_for_new.ensures.bare none in
     absurd (full (omega (arith, c.in-Ok.ensures.within), rw bare (omega arith))))
     c.insert_in.ensures.full
+
+pub returns-in-Ok-clause-due : goal.returns-in-Ok-clause-due
+returns-in-Ok-clause-due g c = record {
+  doubled = λ some full half below few down. c.insert_in.ensures.buckets ∙ c.bucket_for_new.ensures.due some (λ room. full (rw c.requires.hashed at room)) half below few (sym c.insert_in.ensures.refused ∙ down);
+  raised = λ low up.
+      let r = c.bucket_for_new.ensures.raised low (sym c.insert_in.ensures.refused ∙ up) in
+      (r.0, λ room. r.1 (rw c.requires.hashed room), r.2, r.3);
+}

@@ -1,5 +1,5 @@
 use Rattle.scc_table.specs.Hashing.{hash_of}
-use Rattle.scc_table.proofs.Bounds.{listed-view}
+use Rattle.scc_table.proofs.Bounds.{listed-view, routed-view}
 use Rattle.scc_table.proofs.Views.{entries-view, settings-view}
 use Rattle.scc_table.proofs.table.Table.keep_lists.Goals as goal
 
@@ -11,3 +11,8 @@ returns-clause-listed g c =
 
 pub returns-clause-unique : goal.returns-clause-unique
 returns-clause-unique g c = rw (entries-view c.self.inside.buckets.items _ c.args.self.now c.self.view_is) c.self.invariant.unique
+
+pub returns-clause-routed : goal.returns-clause-routed
+returns-clause-routed g c =
+    rw (settings-view c.self.inside.buckets.items _ c.args.self.now c.self.view_is)
+    (routed-view (λ e. hash_of g.H.BuildHasher g.H.Hasher.Hasher c.self.inside.hasher (g.E.Key.Hash.hash_input (g.E.Keyed.key_of e))) _ _ c.self.inside.buckets.items _ c.args.self.now c.self.view_is c.self.invariant.table)

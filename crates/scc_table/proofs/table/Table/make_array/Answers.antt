@@ -1,10 +1,10 @@
-use Rattle.std.proofs.Common.{refl, sym, rules}
+use Rattle.std.proofs.Common.{◌∙◌, refl, sym, rules}
 use Rattle.scc_table.specs.Contents.{settings_of}
 use Rattle.scc_table.specs.Tables.{AllEmpty}
 use Rattle.scc_table.proofs.Bounds.{resized-fresh}
 use Rattle.scc_table.proofs.Finding.{no-entries}
 use Rattle.scc_table.proofs.Making.{counts-none, kept-fresh, entries-fresh}
-use Rattle.scc_table.proofs.Views.{count-view, settings-view}
+use Rattle.scc_table.proofs.Views.{count-view, refused-view, settings-view}
 use Rattle.scc_table.proofs.table.Table.make_array.Goals as goal
 
 pub returns-in_err-buckets-clause-entries : goal.returns-in_err-buckets-clause-entries
@@ -56,3 +56,6 @@ returns-clause-resized g c =
     let nothing = no-entries c.self.inside.buckets.items _ c.args.self.now c.self.view_is none in
     let fresh : AllEmpty bs = rw c.replace-old.ensures.after c.in_ok-buckets.ensures.empty in
     resized-fresh _ _ bs _ c.args.self.now nothing fresh (rw (c.replace-old.ensures.after, c.in_ok-buckets.ensures.count) c.buckets_for-count.ensures.array) (sym (settings-view c.self.inside.buckets.items _ c.args.self.now c.self.view_is))
+
+pub returns-clause-noted : goal.returns-clause-noted
+returns-clause-noted g c = refused-view _ _ _ refl ∙ sym (refused-view c.self.inside.buckets.items _ c.args.self.now c.self.view_is)

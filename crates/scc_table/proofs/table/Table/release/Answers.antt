@@ -1,6 +1,6 @@
 use Rattle.std.proofs.Common.{◌≡◌, ◌+◌, ◌-◌, ◌∙◌, ap, sym, arith}
 use Rattle.scc_table.specs.Contents.{Settings, bucket_count, settings_of, minimum_of}
-use Rattle.scc_table.proofs.Resizes.{smaller-by}
+use Rattle.scc_table.proofs.Resizes.{smaller-by, shrinks-after}
 use Rattle.scc_table.proofs.table.Table.release.Goals as goal
 
 pub returns-clause-yes : goal.returns-clause-yes
@@ -18,3 +18,6 @@ returns-clause-yes g c =
       };
       smaller = smaller-by c.set_reserved.new.self c.shrink.new.self (minimum_of c.shrink.new.self) (bucket_count c.args.self.now) c.shrink.ensures.shrinks (sym (ap (λ s. s.asked + s.reserved) r.settings)) c.set_reserved.ensures.buckets;
     }
+
+pub returns-clause-due : goal.returns-clause-due
+returns-clause-due g c = λ _. shrinks-after c.args.self.now c.set_reserved.new.self c.shrink.new.self c.set_reserved.ensures.buckets c.set_reserved.ensures.noted c.shrink.ensures.due

@@ -1,6 +1,6 @@
 use Rattle.std.proofs.Common.{sym, ◌∙◌, refl}
 use Rattle.scc_table.specs.Contents.{settings_of}
-use Rattle.scc_table.proofs.Views.{entries-view, count-view, settings-view}
+use Rattle.scc_table.proofs.Views.{entries-view, count-view, refused-view, settings-view}
 use Rattle.scc_table.proofs.table.Table.set_reserved.Goals as goal
 
 pub invariant_of-self : goal.invariant_of-self
@@ -20,3 +20,6 @@ returns-clause-buckets g c = count-view c.self.inside.buckets.items _ _ refl ∙
 pub returns-clause-settings : goal.returns-clause-settings
 unfolding settings_of
 returns-clause-settings g c = rw (settings-view c.self.inside.buckets.items _ c.args.self.now c.self.view_is)
+
+pub returns-clause-noted : goal.returns-clause-noted
+returns-clause-noted g c = refused-view _ _ _ refl ∙ sym (refused-view c.self.inside.buckets.items _ c.args.self.now c.self.view_is)

@@ -1,4 +1,4 @@
-use Rattle.std.proofs.Common.{refl, ◌≡◌, ◌<◌, ◌≤◌, ap, rules, arith, length}
+use Rattle.std.proofs.Common.{refl, sym, ◌∙◌, ◌≡◌, ◌<◌, ◌≤◌, ap, rules, arith, length}
 use Rattle.scc_table.specs.Hashing.{hash_of}
 use Rattle.scc_bucket.specs.Shelf.{shelf_entries, without_place}
 use Rattle.scc_table.proofs.Inserts.{read-again}
@@ -6,7 +6,7 @@ use Rattle.scc_table.proofs.Removes.{at-least-one}
 use Rattle.scc_table.proofs.SwapRemoves.{swapped-table, swapped-holds, swapped-count, swapped-settings, swapped-unique, swapped-unique-flat}
 use Rattle.scc_bucket.proofs.Lists.{get-index}
 use Rattle.scc_table.proofs.Spots.{place-get}
-use Rattle.scc_table.proofs.Views.{count-view, list-view}
+use Rattle.scc_table.proofs.Views.{count-view, list-view, refused-view}
 use Rattle.scc_table.proofs.table.Table.swap_take_at.Goals as goal
 
 pub index-requires : goal.index-requires
@@ -133,3 +133,6 @@ returns-clause-unique g c =
     let got = place-get c.args.self.now c.args.place c.requires c.swap_remove_at-entry.result
     (get-index _ c.args.place.slot c.swap_remove_at-entry.result c.requires.slot (rw (list-view bs _ c.args.self.now c.self.view_is c.args.place.bucket b l c.index_mut.ensures.value) c.swap_remove_at-entry.ensures.entry)) in
     swapped-unique (λ e. hash_of g.H.BuildHasher g.H.Hasher.Hasher c.self.inside.hasher (g.E.Key.Hash.hash_input (g.E.Keyed.key_of e))) t.skipped t.length t.overflowing c.args.place bs c.self.invariant.table _ c.args.self.now c.self.view_is b l c.index_mut.ensures.value lk c.swap_remove_at-entry.result c.swap_remove_at-entry.new.self c.swap_remove_at-entry.ensures.others g.met.E.Key.Eq.laws g.E.Keyed.key_of c.swap_remove_at-entry.result got c.self.invariant.unique
+
+pub returns-clause-noted : goal.returns-clause-noted
+returns-clause-noted g c = refused-view _ _ _ refl ∙ sym (refused-view c.self.inside.buckets.items _ c.args.self.now c.self.view_is)

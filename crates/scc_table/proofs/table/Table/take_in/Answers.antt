@@ -1,4 +1,4 @@
-use Rattle.std.proofs.Common.{◌≡◌, ◌<◌, ◌≤◌, ap, rules, arith, length}
+use Rattle.std.proofs.Common.{◌≡◌, ◌<◌, ◌≤◌, ap, rules, arith, length, refl, sym, ◌∙◌}
 use Rattle.scc_table.specs.Contents.{entries}
 use Rattle.scc_table.specs.Hashing.{hash_of}
 use Rattle.scc_bucket.specs.Shelf.{shelf_entries}
@@ -8,7 +8,7 @@ use Rattle.scc_table.proofs.Removes.{at-least-one, removed-table, removed-exactl
 use Rattle.scc_bucket.proofs.Lists.{get-index}
 use Rattle.scc_table.proofs.Spots.{place-get}
 use Rattle.scc_table.proofs.Standing.{taken-index, taken-list}
-use Rattle.scc_table.proofs.Views.{entries-view, count-view, list-view}
+use Rattle.scc_table.proofs.Views.{entries-view, count-view, list-view, refused-view}
 use Rattle.scc_table.proofs.table.Table.take_in.Goals as goal
 
 pub index-requires : goal.index-requires
@@ -166,3 +166,6 @@ returns-clause-short g c =
     let b = c.index_mut.result.now in
     let lk : c.args.place.slot < length (shelf_entries b) = rw (list-view bs _ c.args.self.now c.self.view_is c.args.place.bucket b l c.index_mut.ensures.value) at c.requires.slot in
     λ bounded. removed-short bs _ c.args.self.now c.self.view_is c.args.place.bucket b l c.index_mut.ensures.value bounded c.remove_at-entry.new.self c.args.place.slot lk c.remove_at-entry.ensures.others (c.self.invariant.table.own c.args.place.bucket b l c.index_mut.ensures.value).within
+
+pub returns-clause-noted : goal.returns-clause-noted
+returns-clause-noted g c = refused-view _ _ _ refl ∙ sym (refused-view c.self.inside.buckets.items _ c.args.self.now c.self.view_is)

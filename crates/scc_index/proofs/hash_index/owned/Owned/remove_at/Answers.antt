@@ -5,3 +5,6 @@ returns-clause-others g c = rw (← c.self.view_is) c.remove_at-version.ensures.
 
 pub returns-clause-smaller : goal.returns-clause-smaller
 returns-clause-smaller g c = rw (← c.self.view_is) c.remove_at-version.ensures.smaller
+
+pub returns-clause-due : goal.returns-clause-due
+returns-clause-due g c = rw (← c.self.view_is) (c.remove_at-version.ensures.due)

@@ -1,4 +1,4 @@
-use Rattle.std.proofs.Common.{◌≡◌, Some, refl, sym, ap, ◌∙◌, rules}
+use Rattle.std.proofs.Common.{◌≡◌, Some, refl, sym, ◌∙◌}
 use Rattle.scc_table.specs.Contents.{entries}
 use Rattle.scc_table.specs.Pairs.{find}
 use Rattle.scc_table.proofs.Lookups.{find-position, find-position_none, finds-removed}
@@ -39,3 +39,6 @@ returns-else-f-clause-step g c =
 
 pub returns-in-None-clause-step : goal.returns-in-None-clause-step
 returns-in-None-clause-step g c = rw (← c.self.view_is, find-position_none (g.K.PartialEq.eq c.args.k.now) (entries c.self.inside.table) c.in-None.ensures.place) (refl, record { exact = refl; buckets = refl; settings = refl })
+
+pub returns-then-f-clause-due : goal.returns-then-f-clause-due
+returns-then-f-clause-due g c = rw (← c.self.view_is) (λ _. c.remove_at-version.ensures.due)

@@ -1,4 +1,4 @@
-use Rattle.std.proofs.Common.{refl, sym, ◌∙◌, rules}
+use Rattle.std.proofs.Common.{refl, rules}
 use Rattle.scc_table.specs.Contents.{entries}
 use Rattle.scc_table.proofs.Lookups.{find-position, find-position_none, finds-removed}
 use Rattle.scc_table.proofs.PairSplits.{without-at}
@@ -26,3 +26,6 @@ returns-in-None-clause-step g c =
 
 pub returns-in-Some-clause-smaller : goal.returns-in-Some-clause-smaller
 returns-in-Some-clause-smaller g c = rw (← c.self.view_is) c.remove_at-removed.ensures.smaller
+
+pub returns-in-Some-clause-due : goal.returns-in-Some-clause-due
+returns-in-Some-clause-due g c = rw (← c.self.view_is) (λ _. c.remove_at-removed.ensures.due)

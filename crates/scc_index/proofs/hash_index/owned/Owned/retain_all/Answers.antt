@@ -11,7 +11,7 @@ use Rattle.scc_index.proofs.hash_index.owned.Owned.retain_all.Goals as goal
 pub loop-at-init : goal.loop-at-init
 loop-at-init g c =
     let start = reached-first c.args.self.now c.first_place-at.result (rw c.self.view_is at c.first_place-at.ensures) in
-    record { callable = rw start.0 c.requires; within = start.1; buckets = refl; settings = refl; calls = λ stay last r. rw start.0 (rw start.0 at r) }
+    record { callable = rw start.0 c.requires; within = start.1; buckets = refl; settings = refl; noted = refl; calls = λ stay last r. rw start.0 (rw start.0 at r) }
 
 pub f-requires : goal.f-requires
 f-requires g c =
@@ -35,6 +35,7 @@ loop-at-preserved-then-f g c =
       within = next.1;
       buckets = c.loop-at.invariant.buckets;
       settings = c.loop-at.invariant.settings;
+      noted = c.loop-at.invariant.noted;
       calls = retains-kept m c.in-Some.place _ within got c.args.f (entries c.args.self.now) c.loop-at.f c.f.new.self (rw c.in-Some.is at c.loop-at.invariant.calls) record { key = _; value = _; shows = refl; called = c.if-f.ensures } c.next_place-at.result next.0;
     }
 
@@ -60,11 +61,12 @@ loop-at-preserved g c =
       within = next.1;
       buckets = others.buckets ∙ c.loop-at.invariant.buckets;
       settings = others.settings ∙ c.loop-at.invariant.settings;
+      noted = c.take_and_step-at.ensures.noted ∙ c.loop-at.invariant.noted;
       calls = retains-removed m c.in-Some.place _ within got c.args.f (entries c.args.self.now) c.loop-at.f c.f.new.self (rw c.in-Some.is at c.loop-at.invariant.calls) record { key = _; value = _; shows = refl; called = c.if-f.ensures } d others c.take_and_step-at.result next.0;
     }
 
-pub returns : goal.returns
-returns g c =
+pub returns-clause-step : goal.returns-clause-step
+returns-clause-step g c =
     let es = entries c.loop-at.self in
     let calls = rw c.in_default.is at c.loop-at.invariant.calls in
     let run : Retains (CalledOn g.F.FnMut) c.loop-at.f (drop (length es) es) [] c.loop-at.f = rw (drop-all es (length es) refl) ended in

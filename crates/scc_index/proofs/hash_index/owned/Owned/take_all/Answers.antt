@@ -10,7 +10,7 @@ use Rattle.scc_index.proofs.hash_index.owned.Owned.take_all.Goals as goal
 pub loop-at-init : goal.loop-at-init
 loop-at-init g c =
     let start = reached-first c.args.self.now c.first_place-at.result (rw c.self.view_is at c.first_place-at.ensures) in
-    record { within = start.1; first = start.0; buckets = refl; settings = refl }
+    record { within = start.1; first = start.0; buckets = refl; settings = refl; noted = refl }
 
 pub loop-at-smaller : goal.loop-at-smaller
 loop-at-smaller g c =

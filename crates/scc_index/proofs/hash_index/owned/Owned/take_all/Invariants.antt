@@ -1,5 +1,5 @@
 use Rattle.std.proofs.Common.{◌≡◌, length, IfSome}
-use Rattle.scc_table.specs.Contents.{entries, bucket_count, settings_of}
+use Rattle.scc_table.specs.Contents.{entries, bucket_count, settings_of, refused_of}
 use Rattle.scc_table.specs.Places.{IsPlace}
 use Rattle.scc_index.proofs.IndexWalks.{reached}
 use Rattle.scc_index.proofs.hash_index.owned.Owned.take_all.Given as goal
@@ -10,6 +10,7 @@ invariant-loop-at g l = record {
   first : reached l.self l.at ≡ 0;
   buckets : bucket_count l.self ≡ bucket_count l.fn.self;
   settings : settings_of l.self ≡ settings_of l.fn.self;
+  noted : refused_of l.self ≡ refused_of l.fn.self;
 }
 
 abbrev pub decreases-loop-at : goal.decreases-loop-at

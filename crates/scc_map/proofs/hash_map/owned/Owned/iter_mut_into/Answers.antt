@@ -1,7 +1,7 @@
 use Rattle.std.proofs.Common.{◌+◌, ◌<◌, ◌≤◌, length, ap, arith, rules}
 use Rattle.std.proofs.lemmas.List.Sorted.{IsPermutation-refl}
 use Rattle.scc_table.specs.Contents.{entries, bucket_count, minimum_of}
-use Rattle.scc_table.proofs.Resizes.{smaller-by}
+use Rattle.scc_table.proofs.Resizes.{smaller-by, shrinks-after}
 use Rattle.scc_map.proofs.Takings.{appended-none, appended-some, holds-after, takes-count}
 use Rattle.scc_map.proofs.hash_map.owned.Owned.iter_mut_into.Goals as goal
 
@@ -30,3 +30,7 @@ returns-else-len-before-clause-due g c =
     let x = c.take_walk-result.ensures.step in
     let kept : length (entries c.args.self.now) ≤ length (entries c.take_walk-result.new.self) = search rules in
     λ taken. absurd (taken (appended-some (g.L.Sink.pairs c.args.taken.now) (g.L.Sink.pairs c.take_walk-result.new.taken) x.1 x.4 (omega (arith, kept, takes-count x.3, ap length x.5.exact))))
+
+pub returns-then-len-before-clause-due : goal.returns-then-len-before-clause-due
+returns-then-len-before-clause-due g c =
+    λ taken. shrinks-after c.args.self.now c.take_walk-result.new.self c.shrink.new.self c.take_walk-result.ensures.step.5.buckets c.take_walk-result.ensures.noted (rw c.self.view_is at c.shrink.ensures.due)

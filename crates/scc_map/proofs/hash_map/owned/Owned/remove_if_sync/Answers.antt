@@ -5,8 +5,8 @@ use Rattle.scc_table.specs.Writes.{IsPlace-with_write_at}
 use Rattle.scc_table.specs.Pairs.{with_pair_value}
 use Rattle.scc_map.proofs.CallerLemmas.{finds-without}
 use Rattle.scc_table.proofs.Lookups.{find-position_none}
-use Rattle.scc_table.proofs.KeyWrites.{place-found, value-written, value-unique, written-taken_out, written-pair}
-use Rattle.scc_map.proofs.Takings.{shrinks-since}
+use Rattle.scc_table.proofs.KeyWrites.{place-found, value-written, value-unique, written-taken_out, written-pair, noted-write}
+use Rattle.scc_table.proofs.Resizes.{shrinks-after}
 use Rattle.scc_map.proofs.hash_map.owned.Owned.remove_if_sync.Goals as goal
 
 pub returns-in_err-place-clause-step : goal.returns-in_err-place-clause-step
@@ -103,4 +103,4 @@ returns-then-f-clause-due g c =
     let found = rw c.self.view_is at c.in_ok-place.ensures.place in
     let unique = rw c.self.view_is at c.in_ok-place.ensures.unique in
     let f = place-found g.K.PartialEq.eq m c.args.k.now c.in_ok-place.place found in
-    shrinks-since m _ c.remove_at.new.self (value-written laws m c.in_ok-place.place found.within c.args.k.now unique f c.f.new.arg2).buckets c.remove_at.ensures.due
+    shrinks-after m _ c.remove_at.new.self (value-written laws m c.in_ok-place.place found.within c.args.k.now unique f c.f.new.arg2).buckets (noted-write with_pair_value m c.in_ok-place.place c.f.new.arg2) c.remove_at.ensures.due

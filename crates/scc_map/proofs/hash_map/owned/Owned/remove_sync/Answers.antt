@@ -26,3 +26,6 @@ returns-in-None-clause-step g c =
 
 pub returns-in-Some-clause-smaller : goal.returns-in-Some-clause-smaller
 returns-in-Some-clause-smaller g c = rw (← c.self.view_is) c.remove_at.ensures.smaller
+
+pub returns-in-Some-clause-due : goal.returns-in-Some-clause-due
+returns-in-Some-clause-due g c = rw (← c.self.view_is) c.remove_at.ensures.due

@@ -9,7 +9,7 @@ use Rattle.scc_map.proofs.hash_map.owned.Owned.retain_all.Goals as goal
 pub loop-at-init : goal.loop-at-init
 loop-at-init g c =
     let start = reached-first c.args.self.now c.first_place-at.result (rw c.self.view_is at c.first_place-at.ensures) in
-    record { callable = rw start.0 c.requires; within = start.1; buckets = refl; settings = refl; calls = λ stay last r. rw start.0 (rw start.0 at r) }
+    record { callable = rw start.0 c.requires; within = start.1; buckets = refl; settings = refl; noted = refl; calls = λ stay last r. rw start.0 (rw start.0 at r) }
 
 pub visit-requires-clause-callable : goal.visit-requires-clause-callable
 visit-requires-clause-callable g c = turn-here c.loop-at.self c.in-Some.place (rw c.in-Some.is at c.loop-at.invariant.callable)
@@ -39,6 +39,7 @@ loop-at-preserved-then-visit g c =
       within = next.1;
       buckets = v.buckets ∙ c.loop-at.invariant.buckets;
       settings = v.settings ∙ c.loop-at.invariant.settings;
+      noted = v.noted ∙ c.loop-at.invariant.noted;
       calls = retains-kept c.args.f (entries c.args.self.now) c.loop-at.self c.in-Some.place c.loop-at.f c.visit.new.f x.0 x.1 c.visit.new.self v (rw c.in-Some.is at c.loop-at.invariant.calls) x.3 c.next_place-at.result next.0;
     }
 
@@ -70,11 +71,12 @@ loop-at-preserved g c =
       within = next.1;
       buckets = others.buckets ∙ v.buckets ∙ c.loop-at.invariant.buckets;
       settings = others.settings ∙ v.settings ∙ c.loop-at.invariant.settings;
+      noted = c.take_and_step-pair.ensures.noted ∙ v.noted ∙ c.loop-at.invariant.noted;
       calls = retains-removed c.args.f (entries c.args.self.now) c.loop-at.self c.in-Some.place c.loop-at.f c.visit.new.f x.0 x.1 c.visit.new.self v (rw c.in-Some.is at c.loop-at.invariant.calls) x.3 d others c.take_and_step-pair.result.1 next.0;
     }
 
-pub returns : goal.returns
-returns g c =
+pub returns-clause-step : goal.returns-clause-step
+returns-clause-step g c =
     let es = entries c.loop-at.self in
     let calls = rw c.in_default.is at c.loop-at.invariant.calls in
     let run : Retains (CalledToWrite g.F.FnMut) c.loop-at.f (drop (length es) es) [] c.loop-at.f = rw (drop-all es (length es) refl) ended in

@@ -1,13 +1,16 @@
 use Rattle.std.proofs.Common.{◌+◌, ap}
 use Rattle.std.proofs.lemmas.List.Sorted.{IsPermutation-refl}
 use Rattle.scc_table.specs.Contents.{entries, bucket_count, minimum_of}
-use Rattle.scc_table.proofs.Resizes.{smaller-by}
+use Rattle.scc_table.proofs.Resizes.{smaller-by, shrinks-after}
 use Rattle.scc_map.proofs.hash_map.owned.Owned.retain_sync.Goals as goal
 
 pub returns-clause-smaller : goal.returns-clause-smaller
 returns-clause-smaller g c =
-    let held = c.retain_all.ensures.3 in
+    let held = c.retain_all.ensures.step.3 in
     smaller-by c.retain_all.new.self c.shrink.new.self (minimum_of c.args.self.now) (bucket_count c.args.self.now) (rw c.self.view_is at c.shrink.ensures.shrinks) (ap (λ s. s.asked + s.reserved) held.settings) held.buckets
 
 pub retain_all-requires : goal.retain_all-requires
 retain_all-requires g c = c.requires (entries c.args.self.now) (IsPermutation-refl _)
+
+pub returns-clause-due : goal.returns-clause-due
+returns-clause-due g c = shrinks-after c.args.self.now c.retain_all.new.self c.shrink.new.self c.retain_all.ensures.step.3.buckets c.retain_all.ensures.noted (rw c.self.view_is at c.shrink.ensures.due)

@@ -10,7 +10,7 @@ use Rattle.scc_map.proofs.hash_map.owned.Owned.take_walk.Goals as goal
 pub loop-at-init : goal.loop-at-init
 loop-at-init g c =
     let start = reached-first c.args.self.now c.first_place-at.result (rw c.self.view_is at c.first_place-at.ensures) in
-    record { callable = rw start.0 c.requires; within = start.1; buckets = refl; settings = refl; room = omega arith; calls = ([], sym (append-nil _), λ stay next r last run. rw start.0 (rw start.0 at run)) }
+    record { callable = rw start.0 c.requires; within = start.1; buckets = refl; settings = refl; noted = refl; room = omega arith; calls = ([], sym (append-nil _), λ stay next r last run. rw start.0 (rw start.0 at run)) }
 
 pub returns-in-Err-clause-step : goal.returns-in-Err-clause-step
 returns-in-Err-clause-step g c =
@@ -53,6 +53,7 @@ loop-at-preserved-in-Keep g c =
       within = next.1;
       buckets = v.buckets ∙ c.loop-at.invariant.buckets;
       settings = v.settings ∙ c.loop-at.invariant.settings;
+      noted = v.noted ∙ c.loop-at.invariant.noted;
       room = omega (arith, c.loop-at.invariant.room, c.reserve_one.ensures.capacity);
       calls = (calls.0, c.reserve_one.ensures.pairs ∙ calls.1, takes-kept c.args.f (entries c.args.self.now) c.loop-at.self c.in-Some.place c.loop-at.f calls.0 calls.2 c.visit.new.f x.0 x.1 c.visit.new.self v x.3 c.next_place-at.result next.0);
     }
@@ -89,6 +90,7 @@ loop-at-preserved g c =
       within = next.1;
       buckets = others.buckets ∙ v.buckets ∙ c.loop-at.invariant.buckets;
       settings = others.settings ∙ v.settings ∙ c.loop-at.invariant.settings;
+      noted = c.take_into-at.ensures.noted ∙ v.noted ∙ c.loop-at.invariant.noted;
       room = omega (arith, c.loop-at.invariant.room, c.reserve_one.ensures.capacity, c.take_into-at.ensures.capacity);
       calls = (
         calls.0 ++ (x.0.0, x.1) ∷ [],
@@ -143,3 +145,17 @@ returns-clause-step g c =
     let front : take (length es) es ++ [] ≡ es = append-nil _ ∙ take-all es (length es) refl in
     let all = subst (λ z. Takes (CalledToWrite g.F.FnMut) c.args.f (entries c.args.self.now) z (calls.0 ++ []) (Ok true) c.loop-at.f) front (calls.2 [] [] (Ok true) c.loop-at.f run) in
     (es, calls.0, c.loop-at.f, subst (λ z. Takes (CalledToWrite g.F.FnMut) c.args.f (entries c.args.self.now) es z (Ok true) c.loop-at.f) (append-nil calls.0) all, calls.1, record { exact = refl; buckets = c.loop-at.invariant.buckets; settings = c.loop-at.invariant.settings })
+
+pub returns-in-KeepStop-clause-noted : goal.returns-in-KeepStop-clause-noted
+returns-in-KeepStop-clause-noted g c =
+    let x = c.in-KeepStop.ensures in
+    let within = rw c.in-Some.is at c.loop-at.invariant.within in
+    let v = visited c.loop-at.self c.in-Some.place x.0 x.1 c.visit.new.self within x.2 x.4 in
+    v.noted ∙ c.loop-at.invariant.noted
+
+pub returns-in-TakeStop-clause-noted : goal.returns-in-TakeStop-clause-noted
+returns-in-TakeStop-clause-noted g c =
+    let x = c.in-TakeStop.ensures in
+    let within = rw c.in-Some.is at c.loop-at.invariant.within in
+    let v = visited c.loop-at.self c.in-Some.place x.0 x.1 c.visit.new.self within x.2 x.4 in
+    c.take_into.ensures.noted ∙ v.noted ∙ c.loop-at.invariant.noted

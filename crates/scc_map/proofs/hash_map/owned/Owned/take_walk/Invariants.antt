@@ -1,5 +1,5 @@
 use Rattle.std.proofs.Common.{◌≡◌, ◌≤◌, ◌-◌, ◌++◌, List, Bool, Result, length, take, drop, IfSome}
-use Rattle.scc_table.specs.Contents.{entries, bucket_count, settings_of}
+use Rattle.scc_table.specs.Contents.{entries, bucket_count, settings_of, refused_of}
 use Rattle.scc_table.specs.Places.{IsPlace}
 use Rattle.scc_table.specs.declared.errors.WalkError.{WalkError}
 use Rattle.scc_map.specs.MapWalks.{CallableToWrite, CalledToWrite, GoesOn, Takes}
@@ -12,6 +12,7 @@ invariant-loop-at g l = record {
   within : IfSome l.at (IsPlace l.self);
   buckets : bucket_count l.self ≡ bucket_count l.fn.self;
   settings : settings_of l.self ≡ settings_of l.fn.self;
+  noted : refused_of l.self ≡ refused_of l.fn.self;
   room : g.L.Sink.capacity l.fn.taken ≤ g.L.Sink.capacity l.taken;
   calls : (more : List (g.row.K.Denot × g.row.V.Denot)) × (g.L.Sink.pairs l.taken ≡ g.L.Sink.pairs l.fn.taken ++ more)
       × ((stay next : List (g.row.K.Denot × g.row.V.Denot)) (r : Result Bool WalkError) (last : g.row.F.Denot) → Takes (CalledToWrite g.F.FnMut) l.f (drop (reached l.self l.at) (entries l.self)) stay next r last
