@@ -1,5 +1,5 @@
 -- What an entry shows, under any guard.
-use Rattle.std.proofs.Common.{◌≡◌, List, Bool, true, Some, suc, take, drop, refl, sym, ap, subst, ◌∙◌}
+use Rattle.std.proofs.Common.{◌≡◌, Bool, true, Some, suc, take, drop, refl, sym, ap, subst, ◌∙◌}
 use Rattle.std.specs.Cmp.{IsEquivalence}
 use Rattle.std.specs.List.{IsDistinct, slice_get}
 use Rattle.std.specs.Map.{keys_of, set_key}
@@ -9,7 +9,7 @@ use Rattle.std.specs.declared.hash.Hasher as hasher
 use Rattle.std.specs.declared.hash.BuildHasher as builder
 use Rattle.scc_table.specs.Contents.{Contents, entries}
 use Rattle.scc_table.specs.ShelfWrites.{put_whole}
-use Rattle.scc_table.specs.Placed.{entry_of, front_of, back_of}
+use Rattle.scc_table.specs.Placed.{front_of, back_of}
 use Rattle.scc_table.specs.Places.{IsPlace, IsFoundAt, IsInsertedAt, index_of}
 use Rattle.scc_table.specs.Writes.{with_write_at, IsPlace-with_write_at}
 use Rattle.scc_table.specs.declared.guard.Guard as guard

@@ -1,5 +1,5 @@
 -- An index that is made of items, or of another index's pairs.
-use Rattle.std.specs.Prelude.{◌≡◌, ℕ, ◌*◌, ◌<◌, Bool, List, [], length, Option, None, Some, Ok, Err, Result, MatchOption}
+use Rattle.std.specs.Prelude.{◌≡◌, ◌*◌, ◌<◌, Bool, List, [], length, None, Ok, Err, Result, MatchOption}
 use Rattle.std.specs.List.{FoldsTo}
 use Rattle.std.specs.Option.{IsSomeAnd}
 use Rattle.scc_table.specs.Contents.{Contents, entries, bucket_count, settings_of}

@@ -1,7 +1,7 @@
 -- What the contracts of an entry cite. An entry holds its map by a guard: a `&mut` in the owned form.
 pub use Rattle.scc_index.specs.declared.hash_index.held.HeldPlace.TheVariants.{Occupied, Vacant}
 pub use Rattle.scc_table.specs.declared.errors.InsertError.TheVariants.{Exists, Memory}
-use Rattle.std.specs.Prelude.{◌≡◌, Bool, true, List, ◌∷◌, ◌++◌, Option, None, Some, Result, ⊤}
+use Rattle.std.specs.Prelude.{◌≡◌, ℕ, Bool, true, List, ◌∷◌, ◌++◌, Option, None, Some, Result, ⊤}
 use Rattle.std.specs.Borrow.{Fml, RattleType, Bor, MutBor, RestsIfErr, RestsIfNone}
 use Rattle.std.specs.HashMap.Lent.{HashMembers}
 use Rattle.std.specs.Fn.{Once, FnOnceTakesAt, FnOnceReturnsAt}
@@ -13,13 +13,19 @@ use Rattle.std.specs.declared.hash.BuildHasher as builder
 use Rattle.scc_table.specs.Contents.{Contents, entries}
 use Rattle.scc_table.specs.Pairs.{find, without, FindsInstead}
 use Rattle.scc_table.specs.Placed.{entry_of, front_of, back_of, IsWrittenAt, IsPutAt}
-use Rattle.scc_table.specs.Steps.{Rests}
+use Rattle.scc_table.specs.Steps.{FirstArrayWhenDue, GrowsFor, IsUnchanged}
 use Rattle.scc_table.specs.declared.errors.InsertError.{InsertError}
 use Rattle.scc_table.specs.declared.guard.Guard as guard
 use Rattle.scc_index.specs.Lends.{index_row}
 use Rattle.scc_index.specs.declared.hash_index.held.HeldEntry.{HeldEntry}
 use Rattle.scc_index.specs.declared.hash_index.held.HeldPlace.{HeldPlace}
 use Rattle.scc_index.specs.declared.hash_index.held.HeldVacant.{HeldVacant}
+
+module _ {K V S : Type 0} where
+  -- d is c once the new key k was put in: the array is one that had to be made, or grew as it may and has to
+  pub record IsGrownFor (hash : K → ℕ) (c : Contents (K × V) S) (k : K) (d : Contents (K × V) S) : Type 0 where
+    pub grows : GrowsFor hash (λ p. p.0) c k d
+    pub first : FirstArrayWhenDue c d
 
 module _ {G N K V S T : Type 0} {d : guard.Ghosts G (Contents (K × V) S)} {g : eq.Ghosts K} {h : hash.Ghosts K} {b : builder.Ghosts S T} {w : hasher.Ghosts T} where
   -- the index that the entry holds
@@ -95,6 +101,11 @@ module _ {G N K V S T : Type 0} {d : guard.Ghosts G (Contents (K × V) S)} {g : 
   OrInserts (Occupied p) v o = o ≡ p
   OrInserts (Vacant e) v o = IsInserted e v o
 
+  -- where a value was put in, the array is one that had to be made, or grew as an insertion of the key may and has to
+  abbrev pub GrowsThrough : (K → ℕ) → HeldPlace G N K V S T d g h b w → HeldEntry G N K V S T d g h b w → Type 0
+  GrowsThrough hash (Occupied p) o = ⊤
+  GrowsThrough hash (Vacant e) o = IsGrownFor hash (d.kept e.guard) e.key (d.kept o.guard)
+
   -- a refusal: the key comes back with a value of which P holds
   abbrev pub RefusesSome : HeldPlace G N K V S T d g h b w → (K → V → Type 0) → InsertError K V → Type 0
   RefusesSome e P r = (v : V) × P (entry_key e) v × (r ≡ Memory (entry_key e, v))
@@ -121,10 +132,10 @@ module _ (K V S T : RattleType) (key : HashMembers K.Denot) (build : builder.Gho
   abbrev pub Borrowed : (N : Type 0) → guard.Ghosts (MutBor (Contents (K.Denot × V.Denot) S.Denot)) (Contents (K.Denot × V.Denot) S.Denot) → eq.Ghosts K.Denot → hash.Ghosts K.Denot → builder.Ghosts S.Denot T.Denot → hasher.Ghosts T.Denot → Type 0
   Borrowed N d g h b w = HeldEntry (MutBor (Contents (K.Denot × V.Denot) S.Denot)) N K.Denot V.Denot S.Denot T.Denot d g h b w
 
-  -- where r has no entry, the index behind m rests: as it was, or resized once
+  -- where r has no entry, since an insertion was refused, the index behind m stays as it is
   abbrev pub rests_if_refused : {E N : Type 0} {d : guard.Ghosts (MutBor (Contents (K.Denot × V.Denot) S.Denot)) (Contents (K.Denot × V.Denot) S.Denot)} {g : eq.Ghosts K.Denot} {h : hash.Ghosts K.Denot} {b : builder.Ghosts S.Denot T.Denot} {w : hasher.Ghosts T.Denot}
       → MutBor (Contents (K.Denot × V.Denot) S.Denot) → Result (Borrowed N d g h b w) E → Fml
-  rests_if_refused m r = RestsIfErr (index_row K V S T key build feed) m (λ o. o.guard.ghost_name) r (λ n. Rests m.now n)
+  rests_if_refused m r = RestsIfErr (index_row K V S T key build feed) m (λ o. o.guard.ghost_name) r (λ n. IsUnchanged m.now n)
 
   -- where r has no entry, the index behind m stays as it is
   abbrev pub rests_if_none : {N : Type 0} {d : guard.Ghosts (MutBor (Contents (K.Denot × V.Denot) S.Denot)) (Contents (K.Denot × V.Denot) S.Denot)} {g : eq.Ghosts K.Denot} {h : hash.Ghosts K.Denot} {b : builder.Ghosts S.Denot T.Denot} {w : hasher.Ghosts T.Denot}

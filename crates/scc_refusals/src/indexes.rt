@@ -45,7 +45,7 @@ fn expect_keys_below<R: Abort>(rt: &R, index: &Index, count: u64) {
     assert!(rt; !index.contains(&count));
 }
 
-// Adds `key` to the keys below it. Refused, the pair comes back, the keys stay, and the next call adds it.
+// Adds `key` to the keys below it. Refused, the pair comes back, the keys and the array stay, and the next call adds it.
 fn expect_added<R: Abort + Print>(
     rt: &R,
     refusal: &mut Refusal,
@@ -53,10 +53,12 @@ fn expect_added<R: Abort + Print>(
     way: Way,
     key: u64,
 ) {
+    let before = index.capacity();
     match add(index, way, key, !key) {
         Ok(()) => {}
         Err(InsertError::Memory(pair)) => {
             refusal.meet(rt, "an insertion into an index");
+            assert_eq!(rt; index.capacity(), before, "by {way:?}");
             assert_eq!(rt; pair, (key, !key), "by {way:?}");
             expect_keys_below(rt, index, key);
             assert!(rt; add(index, way, key, !key).is_ok(), "by {way:?}");

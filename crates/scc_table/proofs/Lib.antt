@@ -4,6 +4,7 @@ pub mod Cloning
 pub mod Counting
 pub mod Finding
 pub mod Inserts
+pub mod Growth
 pub mod KeyWrites
 pub mod Lookups
 pub mod Making

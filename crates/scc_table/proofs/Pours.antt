@@ -11,16 +11,16 @@ use Rattle.scc_bucket.specs.Shelf.{Shelf, shelf_entries, empty_shelf, with_entry
 use Rattle.scc_table.specs.Routing.{bucket_number, tag_of}
 use Rattle.scc_table.specs.Pour.{IsPacked, Extends, RoomFor, Poured, bound_for}
 
-bound_append : {E : Type 0} (hash : E → ℕ) (t k i : ℕ) (xs ys : List E) → bound_for hash t k i (xs ++ ys) ≡ bound_for hash t k i xs ++ bound_for hash t k i ys
+pub bound_append : {E : Type 0} (hash : E → ℕ) (t k i : ℕ) (xs ys : List E) → bound_for hash t k i (xs ++ ys) ≡ bound_for hash t k i xs ++ bound_for hash t k i ys
 bound_append hash t k i xs ys = filter-append _ xs ys
 
-bound_here : {E : Type 0} (hash : E → ℕ) (t k i : ℕ) (e : E) (es : List E) → i ≡ bucket_number t k (hash e) → bound_for hash t k i (e ∷ es) ≡ e ∷ bound_for hash t k i es
+pub bound_here : {E : Type 0} (hash : E → ℕ) (t k i : ℕ) (e : E) (es : List E) → i ≡ bucket_number t k (hash e) → bound_for hash t k i (e ∷ es) ≡ e ∷ bound_for hash t k i es
 bound_here hash t k i e es h = let s : (bucket_number t k (hash e) == i) ≡ true = eq-eqb _ _ (sym h) in rw s
 
 not_equal : (a b : ℕ) → a ≢ b → (a == b) ≡ false
 not_equal a b h = search rules
 
-bound_other : {E : Type 0} (hash : E → ℕ) (t k i : ℕ) (e : E) (es : List E) → i ≢ bucket_number t k (hash e) → bound_for hash t k i (e ∷ es) ≡ bound_for hash t k i es
+pub bound_other : {E : Type 0} (hash : E → ℕ) (t k i : ℕ) (e : E) (es : List E) → i ≢ bucket_number t k (hash e) → bound_for hash t k i (e ∷ es) ≡ bound_for hash t k i es
 bound_other hash t k i e es h = let s : (bucket_number t k (hash e) == i) ≡ false = not_equal _ _ (λ z. h (sym z)) in rw s
 
 room_by : {E : Type 0} (b : Shelf E) → length b.slots ≤ 32 → length b.slots + length b.overflow < 32 + b.room → HasRoom b

@@ -26,7 +26,7 @@ overflow-none b e =
     let z : length b.overflow ≡ 0 = omega arith in
     nil_from_length b.overflow z
 
-packed-empty : {E : Type 0} (hash : E → ℕ) (b : Shelf E) → shelf_entries b ≡ [] → b.tags ≡ [] → IsPacked hash b
+pub packed-empty : {E : Type 0} (hash : E → ℕ) (b : Shelf E) → shelf_entries b ≡ [] → b.tags ≡ [] → IsPacked hash b
 packed-empty hash b e w =
     let none = slots-none b e in
     record {
@@ -52,7 +52,7 @@ module _ {E : Type 0} (hash : E → ℕ) (t k : ℕ) (fresh new : List (Shelf E)
   moved-all = let m = p.moved in rw (flat-empty fresh h) at m
 
   -- what bucket i holds then
-  bucket-is : (i : ℕ) (b : Shelf E) → i < k → b ≡ get_or new i b → Extends hash empty_shelf b (bound_for hash t k i es)
+  pub bucket-is : (i : ℕ) (b : Shelf E) → i < k → b ≡ get_or new i b → Extends hash empty_shelf b (bound_for hash t k i es)
   bucket-is i b l at =
       let lf : i < length fresh = omega arith in
       let a : Shelf E = get_or fresh i empty_shelf in
@@ -83,16 +83,20 @@ module _ {E : Type 0} (hash : E → ℕ) (t k : ℕ) (fresh new : List (Shelf E)
       let all : sum_by (λ b. length (shelf_entries b)) new ≡ length es = sym (length-flat_map shelf_entries new) ∙ length_permutation es (flat_map shelf_entries new) moved-all in
       omega arith
 
-  pub table-after : (n o : ℕ) → IsArray k → n ≡ length es → o ≡ sum_by (λ b. length b.overflow) new → length es < 2 ^ 62 → IsTable hash t new n o
-  table-after n o a en eo few =
+  -- the table, where so few lie in overflow lists
+  pub table-spilled : (n o : ℕ) → IsArray k → n ≡ length es → o ≡ sum_by (λ b. length b.overflow) new → sum_by (λ b. length b.overflow) new < 2 ^ 62 → IsTable hash t new n o
+  table-spilled n o a en eo few =
       let long : length new ≡ k = p.count ∙ size in
       record {
         sized = inr (rw long a);
         counted = en ∙ sym (length_permutation es (flat_map shelf_entries new) moved-all) ∙ length-flat_map shelf_entries new;
         spilled = eo;
-        few = let f = spilled-few in omega arith;
+        few = omega arith;
         own = λ i b l at. subst (λ m. IsOwn hash t m i b) (sym long) (own i b (bucket-is i b (omega arith) at));
       }
+
+  pub table-after : (n o : ℕ) → IsArray k → n ≡ length es → o ≡ sum_by (λ b. length b.overflow) new → length es < 2 ^ 62 → IsTable hash t new n o
+  table-after n o a en eo few = table-spilled n o a en eo (let f = spilled-few in omega arith)
 
   pub unique-after : {K : Type 0} {eq : K → K → Bool} (laws : IsEquivalence eq) (key : E → K) → IsDistinct eq (map key es) → IsDistinct eq (map key (flat_map shelf_entries new))
   unique-after {eq = eq} laws key d = IsDistinct-IsPermutation eq laws.symm (map key es) (map key (flat_map shelf_entries new)) (IsPermutation-map key es (flat_map shelf_entries new) moved-all) d

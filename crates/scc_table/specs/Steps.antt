@@ -77,6 +77,10 @@ module _ {E S : Type 0} where
     pub doubled : 0 < bucket_count c → (HasRoomBy hash key c k → ⊥) → 32 * bucket_count c ≤ 2 * length (entries c) → 32 * bucket_count c < 2 ^ 63 → length (entries c) < 2 ^ 62 → refused_of d ≡ false → bucket_count d ≡ 2 * bucket_count c
     pub raised : refused_of c ≡ false → refused_of d ≡ true → (0 < bucket_count c) × (HasRoomBy hash key c k → ⊥) × (32 * bucket_count c ≤ 2 * length (entries c)) × (32 * bucket_count c < 2 ^ 63)
 
+  -- the note of refused memory rises only where a new key k asked for a growth that was due
+  pub record RaisesWhenDue {K : Type 0} (hash : K → ℕ) (key : E → K) (c : Contents E S) (k : K) (d : Contents E S) : Type 0 where
+    pub raised : refused_of c ≡ false → refused_of d ≡ true → (0 < bucket_count c) × (HasRoomBy hash key c k → ⊥) × (32 * bucket_count c ≤ 2 * length (entries c)) × (32 * bucket_count c < 2 ^ 63)
+
   -- where the entries that are left are at most an eighth of the slots, and the greater of the sizes for the minimum and for twice these entries is smaller, the array got that size, unless memory was refused; the note of refused memory rises only there
   pub record ShrinksWhenDue (c d : Contents E S) : Type 0 where
     pub shrunk : (m n : ℕ) → IsArraySize (minimum_of d) m → IsArraySize (2 * length (entries d)) n → 8 * length (entries d) ≤ 32 * bucket_count c → max m n < 32 * bucket_count c → refused_of d ≡ false → 32 * bucket_count d ≡ max m n

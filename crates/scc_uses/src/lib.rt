@@ -7,6 +7,7 @@ pub mod counts;
 pub mod difference;
 pub mod distinct;
 pub mod interner;
+pub mod marks;
 pub mod memo;
 pub mod mirror;
 pub mod mirror_indexes;

@@ -4,12 +4,12 @@ ghost use Rattle.std.specs.Arc.{arc_value};
 ghost use Rattle.std.specs.Borrow.{Bor};
 ghost use Rattle.std.specs.Fn.{FnOnceTakesAt};
 ghost use Rattle.std.specs.List.Sorted.{IsPermutation};
-ghost use Rattle.scc_table.specs.Contents.{entries, bucket_count, settings_of, minimum_of, key_hash};
+ghost use Rattle.scc_table.specs.Contents.{entries, bucket_count, settings_of, minimum_of, refused_of, key_hash};
 ghost use Rattle.scc_table.specs.Pairs.{find, FindsInstead, HasRoom, IsUnique};
 ghost use Rattle.scc_table.specs.Sizes.{IsArraySize, IsSmaller};
 ghost use Rattle.scc_table.specs.Walks.{CalledOn, CallableWhile, Walks};
 ghost use Rattle.scc_table.specs.Places.{IsPlace, IsInsertedAt, index_of};
-ghost use Rattle.scc_table.specs.Steps.{FirstArrayWhenDue, Grows, GrowsWhenDue, Holds, Rests, ShrinksWhenDue};
+ghost use Rattle.scc_table.specs.Steps.{FirstArrayWhenDue, Grows, GrowsFor, GrowsWhenDue, Holds, IsUnchanged, RaisesWhenDue, ShrinksWhenDue};
 ghost use Rattle.scc_table.specs.ShelfWrites.{put_whole};
 ghost use Rattle.scc_table.specs.Writes.{with_write_at};
 ghost use Rattle.scc_index.specs.Closures.{Reads, RemovesIf};
@@ -168,6 +168,14 @@ impl<K: Eq + Hash, V, H: BuildHasher> Owned<K, V, H> {
         32 * self.table.bucket_count()
     }
 
+    /// Whether memory was refused for the last resize that was due. The next one that is made lowers it. Where it is false after a call that had to resize, the index has the size that the rules ask for.
+    #[inline(always)]
+    pub fn is_resize_refused(&self) -> bool
+        ensures { result ≡ refused_of self.now }
+    {
+        self.table.is_resize_refused()
+    }
+
     /// Whether there is an array and the bucket of `k` holds fewer than 32 pairs. An insertion of `k` then makes its version, and no other memory is asked for.
     #[inline(always)]
     pub fn has_room(&self, k: &K) -> bool
@@ -225,14 +233,16 @@ impl<K: Eq + Hash, V, H: BuildHasher> Owned<K, V, H> {
         self.peek_with(k, f)
     }
 
-    /// Inserts a version of the pair where no key equals `k`. Where one does, the index stays as it is, and the supplied pair comes back; so it does where memory for the version, or a growth that the insertion needs, is refused.
+    /// Inserts a version of the pair where no key equals `k`. Where one does, the index stays as it is, and the supplied pair comes back; so it does where memory for the version, or for room that the insertion needs, is refused, since all memory is asked for before anything is changed.
     #[inline(always)]
     pub fn insert_sync(&mut self, k: K, v: V) -> Result<(), InsertError<K, V>>
         ensures step { Inserts K.eq self.old (k, v) result self.new }
         ensures finds { OnOk result (FindsInstead K.eq (entries self.old) k (Some (k, v)) (entries self.new)) }
         ensures same { OnErr result ((q : K) → find K.eq (entries self.new) q ≡ find K.eq (entries self.old) q) }
         ensures growth { Grows self.old self.new }
-        ensures due { find K.eq (entries self.old) k ≡ None → GrowsWhenDue (key_hash H.BuildHasher H.Hasher.Hasher K.hash_input self.old) (λ p. p.0) self.old k self.new }
+        ensures kept { find K.eq (entries self.old) k ≡ None → HasRoom (key_hash H.BuildHasher H.Hasher.Hasher K.hash_input self.old) self.old k → bucket_count self.new ≡ bucket_count self.old }
+        ensures due { OnOk result (GrowsWhenDue (key_hash H.BuildHasher H.Hasher.Hasher K.hash_input self.old) (λ p. p.0) self.old k self.new) }
+        ensures raised { OnErr result (RaisesWhenDue (key_hash H.BuildHasher H.Hasher.Hasher K.hash_input self.old) (λ p. p.0) self.old k self.new) }
         ensures first { OnOk result (FirstArrayWhenDue self.old self.new) }
         ensures unique { IsUnique K.eq self.new }
     {
@@ -333,8 +343,8 @@ impl<K: Eq + Hash, V, H: BuildHasher> Owned<K, V, H> {
         requires absent { find K.eq (entries self.old) k ≡ None }
         ensures ok { IfOk result (IsInsertedAt self.old (k, v) self.new) }
         ensures refused { IfErr result (λ p. p ≡ (k, v)) }
-        ensures rests { OnErr result (Rests self.old self.new) }
-        ensures due { GrowsWhenDue (key_hash H.BuildHasher H.Hasher.Hasher K.hash_input self.old) (λ p. p.0) self.old k self.new }
+        ensures unchanged { OnErr result (IsUnchanged self.old self.new) }
+        ensures grows { OnOk result (GrowsFor (key_hash H.BuildHasher H.Hasher.Hasher K.hash_input self.old) (λ p. p.0) self.old k self.new) }
         ensures first { OnOk result (FirstArrayWhenDue self.old self.new) }
         ensures unique { IsUnique K.eq self.new }
     {

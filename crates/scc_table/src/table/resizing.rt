@@ -1,8 +1,10 @@
 //! How a table gets more buckets, or fewer.
-ghost use Rattle.std.specs.Prelude.{◌≡◌, ◌≤◌, ◌<◌, ◌+◌, ◌*◌, ◌^◌, ◌↔◌, ℕ, length, true, false, IsTrue, IfOk, OnOk, OnErr, slice_index};
+ghost use Rattle.std.specs.Prelude.{◌≡◌, ◌≤◌, ◌<◌, ◌+◌, ◌*◌, ◌^◌, ◌↔◌, ◌++◌, ◌∷◌, [], ℕ, length, true, false, None, IsTrue, IfOk, OnOk, OnErr, slice_index};
+ghost use Rattle.std.specs.List.{position};
 ghost use Rattle.std.specs.List.Sorted.{IsPermutation};
 ghost use Rattle.scc_table.specs.Bounded.{IsBounded, MovesShort};
 ghost use Rattle.scc_table.specs.Contents.{entries, bucket_count, settings_of, refused_of, key_hash, IsUniqueBy};
+ghost use Rattle.scc_table.specs.Places.{IsInsertedAt};
 ghost use Rattle.scc_table.specs.Pour.{IsRegrouped, IsTally, RoomFor, bound_for};
 ghost use Rattle.scc_table.specs.Sizes.{IsArray};
 ghost use Rattle.scc_table.specs.Steps.{IsUnchanged};
@@ -10,7 +12,9 @@ ghost use Rattle.scc_table.specs.Tables.{AllEmpty};
 
 use super::Table;
 use super::making::roomy_buckets;
-use crate::pour::regroup;
+use crate::place::Place;
+use crate::pour::{regroup, regroup_with};
+use crate::route::bucket_index;
 use crate::tally::{count_overflow, tally};
 use scc_bucket::{Bucket, Keyed};
 use std::alloc::AllocError;
@@ -107,6 +111,59 @@ where
             Ok(fresh) => self.refill(fresh),
             Err(_) => self.refused = true,
         }
+    }
+
+    /// The half of a growth that takes memory: empty buckets, each with room for the entries that it will get, and that of the hash for one more.
+    pub(crate) fn fresh_with(&self, count: usize, hash: u64) -> Result<Vec<Bucket<E>>, AllocError>
+        requires array { IsArray count }
+        requires few { length (entries self.now) < 2 ^ 62 }
+        ensures count { IfOk result (λ v. length v.items ≡ count) }
+        ensures empty { IfOk result (λ v. AllEmpty v.items) }
+        ensures room { IfOk result (λ v. (e : E) → hash ≡ key_hash H.BuildHasher H.Hasher.Hasher E.Key.hash_input self.now (E.key_of e) → RoomFor (λ e. key_hash H.BuildHasher H.Hasher.Hasher E.Key.hash_input self.now (E.key_of e)) (settings_of self.now).skipped count v.items (entries self.now ++ e ∷ [])) }
+    {
+        let mut counts = self.counts_for(count)?;
+        let to = bucket_index(hash, self.skipped, count);
+        counts[to] += 1;
+        roomy_buckets(*self.buckets.allocator(), counts.as_slice())
+    }
+
+    /// The half of a growth that takes no memory: each entry moves once, to the end of its bucket, and then the new one, whose key is new, comes to the end of its own. Answers its place.
+    pub(crate) fn refill_with(&mut self, fresh: Vec<Bucket<E>>, hash: u64, entry: E) -> Place
+        requires array { IsArray (length fresh.items) }
+        requires more { bucket_count self.old ≤ length fresh.items }
+        requires empty { AllEmpty fresh.items }
+        requires few { length (entries self.old) < 2 ^ 62 }
+        requires room { RoomFor (λ e. key_hash H.BuildHasher H.Hasher.Hasher E.Key.hash_input self.old (E.key_of e)) (settings_of self.old).skipped (length fresh.items) fresh.items (entries self.old ++ entry ∷ []) }
+        requires hashed { hash ≡ key_hash H.BuildHasher H.Hasher.Hasher E.Key.hash_input self.old (E.key_of entry) }
+        requires absent { position (λ e. E.Key.eq (E.key_of entry) (E.key_of e)) (entries self.old) ≡ None }
+        ensures ok { IsInsertedAt self.old entry self.new result }
+        ensures count { bucket_count self.new ≡ length fresh.items }
+        ensures down { refused_of self.new ≡ false }
+        ensures unique { IsUniqueBy E.Key.eq E.key_of self.new }
+    {
+        let count = fresh.len();
+        let old = std::mem::replace(&mut self.buckets, fresh);
+        let place = regroup_with(
+            &mut self.buckets,
+            old,
+            hash,
+            entry,
+            &self.hasher,
+            self.skipped,
+            count,
+        );
+        self.overflowing = count_overflow(self.buckets.as_slice());
+        self.length += 1;
+        self.refused = false;
+        place
+    }
+
+    /// Notes that memory for a resize was refused.
+    pub(crate) fn note_refused(&mut self)
+        ensures unchanged { IsUnchanged self.old self.new }
+        ensures up { refused_of self.new ≡ true }
+    {
+        self.refused = true;
     }
 
     /// Moves all entries to so many buckets, each in the order that its entries had. Takes time by the number of entries and of buckets. Where memory is refused, nothing changed. Whether it was is noted.

@@ -2,8 +2,9 @@
 ghost use Rattle.std.specs.Prelude.{◌≡◌, IfOk, OnErr, IfErr};
 ghost use Rattle.std.specs.Borrow.{sem};
 ghost use Rattle.std.specs.Fn.{FnOnceTakesAt, FnOnceReturnsAt};
+ghost use Rattle.scc_table.specs.Contents.{key_hash};
 ghost use Rattle.scc_table.specs.Pairs.{IsUnique};
-ghost use Rattle.scc_index.specs.Entries.{Memory, held_index, entry_guard, entry_key, IsVacant, OrInserts, OrInsertsSome, RefusesSome, rests_if_refused};
+ghost use Rattle.scc_index.specs.Entries.{Memory, held_index, entry_guard, entry_key, GrowsThrough, IsVacant, OrInserts, OrInsertsSome, RefusesSome, rests_if_refused};
 
 use super::OccupiedEntry;
 use crate::hash_index::held::{HeldEntry, HeldPlace, HeldVacant};
@@ -20,6 +21,7 @@ impl<'a, K: Eq + Hash, V, H: BuildHasher> HeldPlace<&'a mut Owned<K, V, H>, (), 
         ensures entry { IfOk result (OrInserts self.entry default) }
         ensures refused { IfErr result (λ e. e ≡ Memory (entry_key self.entry, default)) }
         ensures vacant { OnErr result (IsVacant self.entry) }
+        ensures growth { IfOk result (GrowsThrough (key_hash H.BuildHasher H.Hasher.Hasher K.hash_input (entry_guard self.entry).now) self.entry) }
         ensures unique { IfOk result (λ o. IsUnique K.eq (held_index o)) }
         ensures* kept { sem 𝓛 (rests_if_refused K.row V.row H.row H.Hasher.row K.Hash H.BuildHasher H.Hasher.Hasher (entry_guard self.entry) result) }
     {
@@ -70,6 +72,7 @@ impl<'a, K: Eq + Hash, V, H: BuildHasher> HeldPlace<&'a mut Owned<K, V, H>, (), 
         ensures entry { IfOk result (OrInsertsSome self.entry (λ k v. F.post f v)) }
         ensures refused { IfErr result (RefusesSome self.entry (λ k v. F.post f v)) }
         ensures vacant { OnErr result (IsVacant self.entry) }
+        ensures growth { IfOk result (GrowsThrough (key_hash H.BuildHasher H.Hasher.Hasher K.hash_input (entry_guard self.entry).now) self.entry) }
         ensures unique { IfOk result (λ o. IsUnique K.eq (held_index o)) }
         ensures* kept { sem 𝓛 (rests_if_refused K.row V.row H.row H.Hasher.row K.Hash H.BuildHasher H.Hasher.Hasher (entry_guard self.entry) result) }
     {
@@ -120,6 +123,7 @@ impl<'a, K: Eq + Hash, V, H: BuildHasher> HeldPlace<&'a mut Owned<K, V, H>, (), 
         ensures entry { IfOk result (OrInsertsSome self.entry (FnOnceReturnsAt F.FnOnce f)) }
         ensures refused { IfErr result (RefusesSome self.entry (FnOnceReturnsAt F.FnOnce f)) }
         ensures vacant { OnErr result (IsVacant self.entry) }
+        ensures growth { IfOk result (GrowsThrough (key_hash H.BuildHasher H.Hasher.Hasher K.hash_input (entry_guard self.entry).now) self.entry) }
         ensures unique { IfOk result (λ o. IsUnique K.eq (held_index o)) }
         ensures* kept { sem 𝓛 (rests_if_refused K.row V.row H.row H.Hasher.row K.Hash H.BuildHasher H.Hasher.Hasher (entry_guard self.entry) result) }
     {
@@ -168,6 +172,7 @@ impl<'a, K: Eq + Hash, V, H: BuildHasher> HeldPlace<&'a mut Owned<K, V, H>, (), 
         ensures entry { IfOk result (OrInsertsSome self.entry (λ k v. V.is_default v)) }
         ensures refused { IfErr result (RefusesSome self.entry (λ k v. V.is_default v)) }
         ensures vacant { OnErr result (IsVacant self.entry) }
+        ensures growth { IfOk result (GrowsThrough (key_hash H.BuildHasher H.Hasher.Hasher K.hash_input (entry_guard self.entry).now) self.entry) }
         ensures unique { IfOk result (λ o. IsUnique K.eq (held_index o)) }
         ensures* kept { sem 𝓛 (rests_if_refused K.row V.row H.row H.Hasher.row K.Hash H.BuildHasher H.Hasher.Hasher (entry_guard self.entry) result) }
     {

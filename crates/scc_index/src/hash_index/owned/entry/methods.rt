@@ -1,10 +1,10 @@
 //! What makes an entry of a borrowed index, and what lets the index go. The search is made once, and an entry holds its place.
 ghost use Rattle.std.specs.Prelude.{◌≡◌, ◌++◌, None, IfOk, IfErr, IfSome, IfNone};
 ghost use Rattle.std.specs.Borrow.{sem};
-ghost use Rattle.scc_table.specs.Contents.{entries};
+ghost use Rattle.scc_table.specs.Contents.{entries, key_hash};
 ghost use Rattle.scc_table.specs.Pairs.{find, IsUnique};
 ghost use Rattle.scc_table.specs.Steps.{Holds, ShrinksWhenDue};
-ghost use Rattle.scc_index.specs.Entries.{Memory, held_index, occupied_front, occupied_back, entry_guard, IsOccupiedAt, IsEntryOf, IsInserted, rests_if_refused, rests_if_none};
+ghost use Rattle.scc_index.specs.Entries.{Memory, held_index, occupied_front, occupied_back, entry_guard, IsOccupiedAt, IsEntryOf, IsGrownFor, IsInserted, rests_if_refused, rests_if_none};
 
 use super::{Entry, OccupiedEntry};
 use crate::hash_index::held::{HeldEntry, HeldPlace, HeldVacant};
@@ -89,6 +89,7 @@ impl<'a, K: Eq + Hash, V, H: BuildHasher> HeldVacant<&'a mut Owned<K, V, H>, (),
     /// Inserts the key with `value`, and answers its entry. Refused for want of memory, key and value come back.
     pub fn insert_entry(self, value: V) -> Result<OccupiedEntry<'a, K, V, H>, InsertError<K, V>>
         ensures inserted { IfOk result (IsInserted self.entry value) }
+        ensures growth { IfOk result (λ o. IsGrownFor (key_hash H.BuildHasher H.Hasher.Hasher K.hash_input self.entry.guard.now) self.entry.guard.now self.entry.key (held_index o)) }
         ensures unique { IfOk result (λ o. IsUnique K.eq (held_index o)) }
         ensures refused { IfErr result (λ e. e ≡ Memory (self.entry.key, value)) }
         ensures* kept { sem 𝓛 (rests_if_refused K.row V.row H.row H.Hasher.row K.Hash H.BuildHasher H.Hasher.Hasher self.entry.guard result) }

@@ -1,4 +1,4 @@
-use Rattle.std.proofs.Common.{◌≡◌, ◌∙◌, sym, ap, subst, refl, true}
+use Rattle.std.proofs.Common.{◌≡◌, ◌∙◌, sym}
 use Rattle.scc_index.specs.Entries.{occupied_pair}
 use Rattle.scc_index.proofs.Entries.{within-after, updated-after, pair-is}
 use Rattle.scc_index.proofs.hash_index.held.HeldEntry.update.Goals as goal

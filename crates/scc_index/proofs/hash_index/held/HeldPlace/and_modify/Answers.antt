@@ -1,4 +1,4 @@
-use Rattle.std.proofs.Common.{refl, ap, ◌∙◌}
+use Rattle.std.proofs.Common.{ap}
 use Rattle.scc_index.specs.Entries.{Occupied}
 use Rattle.scc_index.proofs.hash_index.held.HeldPlace.and_modify.Goals as goal
 

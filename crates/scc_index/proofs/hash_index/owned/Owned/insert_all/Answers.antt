@@ -1,6 +1,5 @@
 use Rattle.std.proofs.Common.{Ok, Err}
 use Rattle.std.proofs.lemmas.Fn.{FoldsTo-push}
-use Rattle.scc_table.specs.declared.errors.InsertError.TheVariants.{Exists}
 use Rattle.scc_index.specs.Collections.{InsertsOne}
 use Rattle.scc_index.proofs.hash_index.owned.Owned.insert_all.Goals as goal
 

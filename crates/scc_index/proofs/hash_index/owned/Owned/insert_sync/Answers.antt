@@ -1,6 +1,6 @@
-use Rattle.std.proofs.Common.{refl, rules}
+use Rattle.std.proofs.Common.{◌≡◌, ◌∙◌, refl, sym, true, false, rules}
 use Rattle.scc_table.specs.Contents.{entries}
-use Rattle.scc_index.proofs.AfterSteps.{finds-rearranged}
+use Rattle.scc_index.proofs.AfterSteps.{finds-unchanged}
 use Rattle.scc_table.proofs.Lookups.{find-position, find-position_none, finds-added}
 use Rattle.scc_index.proofs.hash_index.owned.Owned.insert_sync.Goals as goal
 use Rattle.scc_index.proofs.hash_index.owned.Owned.insert_sync.Goals.{in-Ok, in-Err}
@@ -28,17 +28,34 @@ returns-after-insert_made-clause-finds g c =
 pub returns-after-insert_made-clause-growth : goal.returns-after-insert_made-clause-growth
 returns-after-insert_made-clause-growth g c = rw (← c.self.view_is) c.insert_made.ensures.growth
 
-pub returns-in-Some-clause-due : goal.returns-in-Some-clause-due
-returns-in-Some-clause-due g c =
+pub returns-in-Some-clause-kept : goal.returns-in-Some-clause-kept
+returns-in-Some-clause-kept g c =
     let f = find-position (g.K.PartialEq.eq c.args.k) (entries c.self.inside.table) _ c.in-Some.ensures.place.found in
     λ none. let here = rw (← c.self.view_is, f.2) at none in cc
 
+pub returns-after-insert_made-clause-kept : goal.returns-after-insert_made-clause-kept
+returns-after-insert_made-clause-kept g c = λ _. rw (← c.self.view_is) c.insert_made.ensures.kept
+
+pub returns-in-Some-clause-raised : goal.returns-in-Some-clause-raised
+returns-in-Some-clause-raised g c = record { raised = λ low up. absurd (let z : true ≡ false = sym up ∙ low in cc) }
+
 pub returns-after-insert_made-clause-due : goal.returns-after-insert_made-clause-due
-returns-after-insert_made-clause-due g c = λ _. rw (← c.self.view_is) c.insert_made.ensures.due
+returns-after-insert_made-clause-due g c =
+    elim c.match-insert_made.branch [
+      | in-Ok w ↦ rw (w.result-is, ← c.self.view_is) w.in-Ok.ensures.due
+      | in-Err w ↦ rw w.result-is tt
+    ]
+
+pub returns-after-insert_made-clause-raised : goal.returns-after-insert_made-clause-raised
+returns-after-insert_made-clause-raised g c =
+    elim c.match-insert_made.branch [
+      | in-Ok w ↦ rw w.result-is tt
+      | in-Err w ↦ rw (w.result-is, ← c.self.view_is) w.in-Err.ensures.raised
+    ]
 
 pub returns-after-insert_made-clause-same : goal.returns-after-insert_made-clause-same
 returns-after-insert_made-clause-same g c =
     elim c.match-insert_made.branch [
       | in-Ok w ↦ rw w.result-is tt
-      | in-Err w ↦ rw (w.result-is, ← c.self.view_is) (finds-rearranged g.met.K.Eq.laws c.self.inside.table c.insert_made.new.self w.in-Err.ensures.err.1 c.insert_made.ensures.unique)
+      | in-Err w ↦ rw (w.result-is, ← c.self.view_is) (finds-unchanged g.met.K.Eq.laws c.self.inside.table c.insert_made.new.self w.in-Err.ensures.err.1)
     ]

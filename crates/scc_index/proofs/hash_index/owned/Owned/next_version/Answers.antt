@@ -1,4 +1,4 @@
-use Rattle.std.proofs.Common.{◌≡◌, ap, refl, rules, true}
+use Rattle.std.proofs.Common.{◌≡◌, refl, rules, true}
 use Rattle.scc_index.proofs.hash_index.owned.Owned.next_version.Goals as goal
 
 pub returns-in-Ok-make-clause-made : goal.returns-in-Ok-make-clause-made

@@ -1,4 +1,4 @@
-use Rattle.std.proofs.Common.{refl, sym, ◌∙◌, rules}
+use Rattle.std.proofs.Common.{refl, rules}
 use Rattle.scc_table.specs.Contents.{entries}
 use Rattle.scc_table.proofs.Lookups.{find-position, find-position_none, finds-removed}
 use Rattle.scc_table.proofs.PairSplits.{without-at}

@@ -1,4 +1,3 @@
-use Rattle.std.proofs.Common.{refl}
 use Rattle.scc_table.specs.Placed.{front_of, back_of}
 use Rattle.scc_index.proofs.hash_index.owned.entry.methods.HeldEntry+mut+Owned+K+V+H+N+K+V+H.remove_entry.Goals as goal
 
