@@ -1,6 +1,7 @@
 -- The least pass that disagrees, one pass at a time.
-use Rattle.std.proofs.Common.{◌≡◌, ℕ, zero, suc, ◌+◌, ◌<◌, ◌≤◌, List, [], ◌∷◌, length, get_or, Bool, true, false, Option, None, Some, ◌⊎◌, inl, inr, refl, sym, ap, ◌∙◌, subst, arith}
+use Rattle.std.proofs.Common.{◌≡◌, ℕ, zero, suc, ◌+◌, ◌<◌, ◌≤◌, List, [], ◌∷◌, length, map, get_or, Bool, true, false, Option, None, Some, ◌⊎◌, inl, inr, refl, sym, ap, ◌∙◌, subst, arith}
 use Rattle.std.specs.Prelude.{slice_get, nat_lt, if◌then◌else◌, MatchOption, IfNone, IfSome}
+use Rattle.std.specs.List.{AllByRecursion}
 use Rattle.std.proofs.lemmas.Bool.{cases_lt}
 use Rattle.std.proofs.lemmas.Bool.Decides.{nat_tests}
 use Rattle.scc_history.specs.declared.history.receipts.Receipt.{Receipt}
@@ -63,3 +64,31 @@ module _ {A R : Type 0} (calls : A → A → Bool) (replies : R → R → Bool) 
   pub found_is : (found : Option ℕ) → IfNone found (Matches calls replies us vs) → IfSome found (λ j. DiffersFirst calls replies us vs j) → MatchOption found (Matches calls replies xs ys) (λ j. DiffersFirst calls replies xs ys j)
   found_is None none some = rw (e, f) at none
   found_is (Some j) none some = rw (e, f) at some
+
+mapped_at : {V Y : Type 0} (f : V → Y) (vs : List V) (n : ℕ) (y e : Y) → n < length vs → ((d : V) → f (get_or vs n d) ≡ y) → get_or (map f vs) n e ≡ y
+mapped_at f [] n y e h all = absurd (omega arith)
+mapped_at f (v ∷ vs) zero y e h all = all v
+mapped_at f (v ∷ vs) (suc n) y e h all = mapped_at f vs n y e (omega arith) all
+
+all_get : {T : Type 0} (f : T → ℕ) (count : ℕ) (ts : List T) (k : ℕ) (t : T) → AllByRecursion (λ n. n < count) (map f ts) → slice_get ts k ≡ Some t → f t < count
+all_get f count [] k t a e = cc
+all_get f count (s ∷ ts) zero t a e = let g : s ≡ t = cc in rw g at a.0
+all_get f count (s ∷ ts) (suc k) t a e = all_get f count ts k t a.1 e
+
+-- the same of the records that were listed, where each list is that of its number
+module _ {T A R V : Type 0} (calls : A → A → Bool) (replies : R → R → Bool) (number : T → ℕ) (receipts : T → List (Receipt A R)) (passes : List T) (f : V → List (Receipt A R)) (vs : List V) (records : ℕ → List (Receipt A R)) (count : ℕ)
+    (below : AllByRecursion (λ n. n < count) (map number passes)) (long : length vs ≡ count) (each : (n : ℕ) (d : V) → n < count → f (get_or vs n d) ≡ records n)
+  where
+    listed : (n : ℕ) → n < count → get_or (map f vs) n [] ≡ records n
+    listed n h = mapped_at f vs n (records n) [] (omega (arith, h, long)) (λ d. each n d h)
+
+    pub match_listed : AllMatch calls replies number receipts passes (λ n. get_or (map f vs) n []) → AllMatch calls replies number receipts passes records
+    match_listed all k p e = subst (λ l. Matches calls replies (receipts p) l) (listed (number p) (all_get number count passes k p below e)) (all k p e)
+
+    pub differs_listed : (n place : ℕ) → FirstDisagrees calls replies number receipts passes (λ n. get_or (map f vs) n []) n place → FirstDisagrees calls replies number receipts passes records n place
+    differs_listed n place d =
+        let h = d.0 in
+        let less : n < count = let b = all_get number count passes h.0 h.1 below h.2 in omega (arith, b, h.3) in (
+          (h.0, h.1, h.2, h.3, subst (λ l. DiffersFirst calls replies (receipts h.1) l place) (listed n less) h.4),
+          λ k p e l. subst (λ l. Matches calls replies (receipts p) l) (listed (number p) (all_get number count passes k p below e)) (d.1 k p e l),
+        )

@@ -1,4 +1,6 @@
 pub mod Adding
+pub mod Alike
+pub mod Causes
 pub mod Comparing
 pub mod Handing
 pub mod Placed

@@ -5,9 +5,9 @@ ghost use Rattle.scc_recorded.specs.Histories.{CallsRouted, StepRouted, FirstMis
 ghost use Rattle.scc_recorded.specs.Parts.{part_of};
 ghost use Rattle.scc_history.specs.Receipts.{AreAll};
 
-use crate::recorder::{Guarded, Pass};
+use crate::recorder::{Guarded, Pass, Site};
 use scc_history::history::Histories;
-use scc_recorded::recorded::{Calls, Request, Site, Step, route};
+use scc_recorded::recorded::{Calls, Step, route};
 use std::alloc::{AllocError, Global};
 use std::sync::ledger::Ledger;
 
@@ -34,7 +34,7 @@ pub(crate) fn are_all<C: Calls, L: Ledger>(
 }
 
 // The first call that doesn't stand in its own stripe.
-pub(crate) fn misrouted<C: Calls, M: Site<Request<C::Hasher>>>(
+pub(crate) fn misrouted<C: Calls, M: Site<C::Hasher>>(
     hasher: &C::Hasher,
     stripes: &[Guarded<C, M>],
 ) -> Option<(usize, usize)>

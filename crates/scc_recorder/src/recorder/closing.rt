@@ -4,15 +4,15 @@ ghost use Rattle.scc_recorded.specs.declared.recorded.fixed.Request.{Request};
 ghost use Rattle.scc_history.specs.Stamps.{Rises};
 
 use crate::recorder::counts::Count;
-use crate::recorder::{Guarded, Recorded};
+use crate::recorder::{Guarded, Recorded, Site};
 use scc_history::history::{Histories, Stripe};
-use scc_recorded::recorded::{Calls, Request, Site, Step};
+use scc_recorded::recorded::{Calls, Step};
 use std::alloc::Global;
 use std::sync::ledger::Ledger;
 
 /// The stripes of a container that nobody calls any more.
 #[derive(Drop)]
-pub struct Closed<C: Calls, L: Ledger, M: Site<Request<C::Hasher>>> {
+pub struct Closed<C: Calls, L: Ledger, M: Site<C::Hasher>> {
     pub stripes: Vec<Guarded<C, M>>,
     pub hasher: C::Hasher,
     /// The number of passes that were handed out.
@@ -23,7 +23,7 @@ pub struct Closed<C: Calls, L: Ledger, M: Site<Request<C::Hasher>>> {
     pub ghost some: { 0 < vec_len stripes },
 }
 
-impl<C: Calls + Drop, L: Ledger, M: Site<Request<C::Hasher>>> Recorded<C, L, M>
+impl<C: Calls + Drop, L: Ledger, M: Site<C::Hasher>> Recorded<C, L, M>
 where
     C::Hasher: Drop,
 {
@@ -56,7 +56,7 @@ where
     }
 }
 
-impl<C: Calls, L: Ledger, M: Site<Request<C::Hasher>>> Closed<C, L, M> {
+impl<C: Calls, L: Ledger, M: Site<C::Hasher>> Closed<C, L, M> {
     /// The stripe with that number, if there is one.
     pub fn stripe(&self, i: usize) -> Option<&Stripe<C>>
         ensures { MatchOption result (vec_len self.now.stripes ≤ i) (λ s. slice_get (map (λ g. g.stripe) self.now.stripes.items) i ≡ Some s.now) }
@@ -69,7 +69,7 @@ impl<C: Calls, L: Ledger, M: Site<Request<C::Hasher>>> Closed<C, L, M> {
     }
 }
 
-impl<C: Calls, M: Site<Request<C::Hasher>>> Histories for Guarded<C, M> {
+impl<C: Calls, M: Site<C::Hasher>> Histories for Guarded<C, M> {
     type Call = C::Call;
 
     type Reply = C::Reply;
@@ -85,7 +85,7 @@ impl<C: Calls, M: Site<Request<C::Hasher>>> Histories for Guarded<C, M> {
     }
 }
 
-impl<C: Calls, M: Site<Request<C::Hasher>>> Guarded<C, M> {
+impl<C: Calls, M: Site<C::Hasher>> Guarded<C, M> {
     // The container, the history and the number of buckets at opening.
     pub(crate) fn into_parts(self) -> (C, Vec<Step<C::Call, C::Reply>>, usize)
         ensures { (result.0 ≡ self.stripe.container) × (result.1 ≡ self.stripe.history) × (result.2 ≡ self.stripe.opened) }

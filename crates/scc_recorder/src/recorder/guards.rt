@@ -4,10 +4,10 @@ ghost use Rattle.scc_recorded.specs.Made.{IsMadeFor};
 ghost use Rattle.scc_recorded.specs.declared.recorded.fixed.Request.{Request};
 ghost use Rattle.scc_history.specs.Stamps.{receipt, calls_in};
 
-use crate::recorder::Pass;
+use crate::recorder::{Pass, Site};
 use crate::recorder::counts::Count;
 use scc_history::history::{CallError, Stripe};
-use scc_recorded::recorded::{Calls, Request, Site};
+use scc_recorded::recorded::Calls;
 use scc_table::MakeError;
 use std::alloc::Global;
 use std::sync::ledger::{Ledger, Share};
@@ -15,7 +15,7 @@ use std::sync::{Mutex, Wait};
 
 /// A stripe that was made for the request of its site, with its part of the count of records.
 #[derive(Drop)]
-pub struct Guarded<C: Calls, M: Site<Request<C::Hasher>>> {
+pub struct Guarded<C: Calls, M: Site<C::Hasher>> {
     pub stripe: Stripe<C>,
     pub(crate) share: Share<M>,
     pub ghost placed: { ∥ ((r : Request C.Hasher) × (M.chosen ≡ Some r) × IsMadeFor C.limits r (C.setting stripe.container)) ∥₁ },
@@ -23,7 +23,7 @@ pub struct Guarded<C: Calls, M: Site<Request<C::Hasher>>> {
     pub ghost counted: { share.amount ≡ calls_in stripe.history.items },
 }
 
-impl<C: Calls, M: Site<Request<C::Hasher>>> Guarded<C, M> {
+impl<C: Calls, M: Site<C::Hasher>> Guarded<C, M> {
     // An empty stripe, which takes one part of the ledger.
     pub(crate) fn open(
         alloc: Global,

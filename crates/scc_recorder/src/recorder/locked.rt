@@ -5,9 +5,9 @@ ghost use Rattle.scc_recorded.specs.declared.recorded.fixed.Setting.{Setting};
 ghost use Rattle.scc_history.specs.Stamps.{receipt};
 
 use crate::recorder::counts::Count;
-use crate::recorder::{Guarded, Pass};
+use crate::recorder::{Guarded, Pass, Site};
 use scc_history::history::CallError;
-use scc_recorded::recorded::{Calls, Request, Site, route};
+use scc_recorded::recorded::{Calls, route};
 use std::alloc::Global;
 use std::sync::ledger::Ledger;
 use std::sync::{Mutex, RwLock, Wait};
@@ -16,7 +16,7 @@ use std::sync::{Mutex, RwLock, Wait};
 ///
 /// L is the ledger of the receipts, in one part for each pass; M that of the call records, in one part for each stripe, and it names what the stripes were made for.
 #[derive(Drop)]
-pub struct Recorded<C: Calls, L: Ledger, M: Site<Request<C::Hasher>>> {
+pub struct Recorded<C: Calls, L: Ledger, M: Site<C::Hasher>> {
     /// The number of stripes.
     pub stripes: usize,
     /// The number of passes that were handed out.
@@ -33,7 +33,7 @@ pub struct Recorded<C: Calls, L: Ledger, M: Site<Request<C::Hasher>>> {
     pub ghost reserved: { stripes ≤ vec_capacity room },
 }
 
-impl<C: Calls, L: Ledger, M: Site<Request<C::Hasher>>> Recorded<C, L, M> {
+impl<C: Calls, L: Ledger, M: Site<C::Hasher>> Recorded<C, L, M> {
     /// Makes a call with a key, in the stripe of its key. Any thread may call it, and may wait for that stripe's lock.
     ///
     /// `Room` comes where memory for the record or the receipt was refused, or no stamp is left; then nothing was touched. `Container` comes only to calls that a container may refuse for memory.

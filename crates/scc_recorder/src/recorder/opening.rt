@@ -6,14 +6,14 @@ ghost use Rattle.scc_recorder.specs.Setups.{IsStripes, request_of, share_of, ski
 use crate::recorder::counts::Count;
 use crate::recorder::lists::list_for;
 use crate::recorder::setups::{bits_for, slots_for};
-use crate::recorder::{Guarded, Pass, Recorded, Setup};
-use scc_recorded::recorded::{Calls, Request, Site};
+use crate::recorder::{Guarded, Pass, Recorded, Setup, Site};
+use scc_recorded::recorded::Calls;
 use scc_table::{MakeError, Share};
 use std::alloc::Global;
 use std::sync::ledger::{Blank, Ledger, Share as Part};
 use std::sync::{Mutex, RwLock};
 
-impl<C: Calls + Drop, L: Ledger, M: Site<Request<C::Hasher>>> Recorded<C, L, M>
+impl<C: Calls + Drop, L: Ledger, M: Site<C::Hasher>> Recorded<C, L, M>
 where
     C::Hasher: Share + Drop,
 {
@@ -82,7 +82,7 @@ fn pass_all<C: Calls, L: Ledger>(
 }
 
 // So many empty stripes, each behind a lock.
-fn lock_all<C: Calls + Drop, M: Site<Request<C::Hasher>>>(
+fn lock_all<C: Calls + Drop, M: Site<C::Hasher>>(
     alloc: Global,
     skipped: u32,
     slots: usize,

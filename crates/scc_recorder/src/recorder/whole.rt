@@ -3,13 +3,13 @@ ghost use Rattle.std.specs.Prelude.{◌≡◌, ℕ, ◌+◌, ◌<◌, ◌≤◌,
 ghost use Rattle.std.specs.List.{sum_by};
 ghost use Rattle.scc_recorder.specs.Adds.{Adds, number_of};
 
-use crate::recorder::{Pass, Recorded};
+use crate::recorder::{Pass, Recorded, Site};
 use scc_history::history::{CallError, Receipt};
-use scc_recorded::recorded::{Calls, Request, Site, WholeCalls};
+use scc_recorded::recorded::{Calls, WholeCalls};
 use std::sync::Wait;
 use std::sync::ledger::Ledger;
 
-impl<C: WholeCalls, L: Ledger, M: Site<Request<C::Hasher>>> Recorded<C, L, M> {
+impl<C: WholeCalls, L: Ledger, M: Site<C::Hasher>> Recorded<C, L, M> {
     /// Clears all stripes, stripe 0 first, each with a call and a stamp of its own.
     ///
     /// Where a stripe has no room for the record or the receipt, those before it are cleared and recorded.
@@ -47,7 +47,7 @@ fn sum_of<C: WholeCalls>(receipts: &[Receipt<C::Call, C::Reply>]) -> usize
     sum
 }
 
-impl<C: Calls, L: Ledger, M: Site<Request<C::Hasher>>> Recorded<C, L, M> {
+impl<C: Calls, L: Ledger, M: Site<C::Hasher>> Recorded<C, L, M> {
     // One call of each stripe, stripe 0 first.
     fn each<R: Wait>(
         &self,

@@ -1,0 +1,46 @@
+use Rattle.std.proofs.Common.{rules, ◌≡◌, ◌+◌, ◌<◌, ℕ, List, [], Err, map, length, arith, refl, sym, ap, ◌∙◌, subst}
+use Rattle.std.specs.Prelude.{slice_index_or}
+use Rattle.std.specs.List.{AllByRecursion}
+use Rattle.scc_history.specs.Orders.{IsStampOrder, steps_at}
+use Rattle.scc_history.specs.Receipts.{AreAll, calls_of}
+use Rattle.scc_history.proofs.Along.{stands}
+use Rattle.scc_recorder.specs.Closing.{FirstDisagrees}
+use Rattle.scc_recorder.proofs.Causes.{same_disagreement}
+use Rattle.scc_recorder.proofs.Comparing.{match_listed, differs_listed}
+use Rattle.scc_recorder.proofs.recorder.closing.Closed.order_of.Goals as goal
+
+pub records_by_pass-requires : goal.records_by_pass-requires
+records_by_pass-requires g c =
+    let hs = map (λ s. s.stripe.history.items) c.args.self.now.stripes.items in
+    let order = rw c.as_slice-2.ensures.value at c.in-Ok-stamp_order.ensures in
+    rw (c.as_slice-3.ensures.value, c.as_slice-4.ensures.value) (stands hs c.in-Ok-stamp_order.order.items order.0)
+
+pub first_disagreement-requires : goal.first_disagreement-requires
+first_disagreement-requires g c =
+    let all = c.in-Ok.ensures.0 c.if-not-complete.false in
+    let n : length c.as_slice-5.result.now ≡ c.args.self.now.passes = omega (arith, c.as_slice-5.ensures.len, c.in-Ok-records_by_pass.ensures.len) in
+    rw n all.1
+
+pub returns-clause-complete : goal.returns-clause-complete
+returns-clause-complete g c = c.in-Ok.ensures.0 c.if-not-complete.false
+
+pub returns-clause-order : goal.returns-clause-order
+returns-clause-order g c = rw c.as_slice-2.ensures.value at c.in-Ok-stamp_order.ensures
+
+pub returns-clause-receipts : goal.returns-clause-receipts
+returns-clause-receipts g c =
+    let all = c.in-Ok.ensures.0 c.if-not-complete.false in
+    let hs = map (λ s. s.stripe.history.items) c.args.self.now.stripes.items in
+    let records = rw (c.as_slice-3.ensures.value, c.as_slice-4.ensures.value) at c.in-Ok-records_by_pass.ensures.records in
+    match_listed g.C.Call.PartialEq.eq g.C.Reply.PartialEq.eq (λ p. p.log.number) (λ p. p.log.receipts.items) c.args.passes.now (λ v. v.items) c.in-Ok-records_by_pass.records.items (λ n. calls_of n (steps_at hs c.in-Ok-stamp_order.order.items)) c.args.self.now.passes all.1 (omega (arith, c.in-Ok-records_by_pass.ensures.len)) records
+    (rw c.as_slice-5.ensures.value at c.in_default-first_disagreement.ensures.none)
+
+pub returns-in-Some-first_disagreement-clause-disagrees : goal.returns-in-Some-first_disagreement-clause-disagrees
+returns-in-Some-first_disagreement-clause-disagrees g c n k e =
+    let all = c.in-Ok.ensures.0 c.if-not-complete.false in
+    let hs = map (λ s. s.stripe.history.items) c.args.self.now.stripes.items in
+    let records = rw (c.as_slice-3.ensures.value, c.as_slice-4.ensures.value) at c.in-Ok-records_by_pass.ensures.records in
+    let d = differs_listed g.C.Call.PartialEq.eq g.C.Reply.PartialEq.eq (λ p. p.log.number) (λ p. p.log.receipts.items) c.args.passes.now (λ v. v.items) c.in-Ok-records_by_pass.records.items (λ n. calls_of n (steps_at hs c.in-Ok-stamp_order.order.items)) c.args.self.now.passes all.1 (omega (arith, c.in-Ok-records_by_pass.ensures.len)) records c.in-Some-first_disagreement.pass c.in-Some-first_disagreement.receipt
+    (rw c.as_slice-5.ensures.value at c.in-Some-first_disagreement.ensures.some) in
+    let same = same_disagreement c.in-Some-first_disagreement.pass c.in-Some-first_disagreement.receipt n k e in
+    ∣ (c.in-Ok-stamp_order.order.items, rw c.as_slice-2.ensures.value at c.in-Ok-stamp_order.ensures, rw (same.0, same.1) at d) ∣₁

@@ -1,0 +1,16 @@
+//! What stripes were made for.
+ghost use Rattle.std.specs.Prelude.{None, Option};
+ghost use Rattle.scc_recorded.specs.declared.recorded.fixed.Request.{Request};
+
+use scc_recorded::recorded::Request;
+use std::marker::Brand;
+use std::sync::ledger::Ledger;
+
+/// A ledger of stripes that were all made for one request. Who opens them chooses it.
+pub trait Site<H>: Ledger {
+    ghost chosen: { Option (Request H) };
+}
+
+impl<H> Site<H> for Brand {
+    ghost chosen = { None };
+}
