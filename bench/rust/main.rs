@@ -237,6 +237,43 @@ fn run_owned<M: Owned>(peer: &str, group: &str, runs: u32, streams: &Streams) {
     }
 }
 
+/// The crate lru on keys of which few come often: a look-up, and a put where it missed.
+#[cfg(with_lru)]
+fn cache(peer: &str, runs: u32, streams: &Streams) {
+    let stream = streams.skewed(2 * streams.entries);
+    let n = streams.entries as usize;
+    for run in 0..=runs {
+        let mut c = lru::LruCache::new(65_536);
+        let mut steps = |keys: &[u64]| {
+            let (mut sum, mut hits) = (0u64, 0u64);
+            let start = Instant::now();
+            for &k in keys {
+                let seen = match c.get(&k) {
+                    Some(v) => {
+                        hits += 1;
+                        *v
+                    }
+                    None => {
+                        c.put(k, value(k));
+                        value(k)
+                    }
+                };
+                sum = sum.wrapping_add(seen);
+            }
+            (per(start, streams.entries), hits, sum)
+        };
+        steps(&stream[..n]);
+        let (ns, hits, sum) = steps(&stream[n..]);
+        if run > 0 {
+            line("cache_t1", peer, ns);
+            line("hitrate_t1", peer, hits as f64 * 100.0 / n as f64);
+        }
+        if run == runs {
+            check("cache_t1", peer, sum);
+        }
+    }
+}
+
 fn clock() {
     let mut times: Vec<u128> = (0..1_000_001)
         .map(|_| {
@@ -252,6 +289,8 @@ fn list() {
     println!("std own,tail,mem,curve\nstd-fold own,tail,mem,curve");
     #[cfg(with_hashbrown)]
     println!("hashbrown own,tail,mem,curve\nhashbrown-fold own,tail,mem,curve");
+    #[cfg(with_lru)]
+    println!("lru-own cache");
 }
 
 fn main() {
@@ -274,6 +313,8 @@ fn main() {
         }
         #[cfg(with_hashbrown)]
         "hashbrown-fold" => run_owned::<hashbrown::HashMap<u64, u64, Fold>>(p, g, runs, &streams),
+        #[cfg(with_lru)]
+        "lru-own" if g == "cache" => cache(p, runs, &streams),
         _ => eprintln!("there is no peer {p}"),
     }
 }

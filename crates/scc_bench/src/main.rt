@@ -1,8 +1,9 @@
-//! Measures the owned map beside the standard library's map, and the owned set and index beside the owned map, in the lines that the table of peers reads.
+//! Measures the owned map beside the standard library's map, the owned set and index beside the owned map, and the owned cache, in the lines that the table of peers reads.
 //!
 //! With no argument it prints its peers and their groups; `NAME GROUP RUNS ENTRIES SEED` measures one group.
 #![tactic(auto)]
 
+mod cache;
 mod memory;
 mod own;
 mod peer;
@@ -12,7 +13,7 @@ mod streams;
 mod tail;
 
 use peer::Peer;
-use request::{Group, PeerName, Request, parse_request};
+use request::{Group, PeerName, Request, bad_argument, parse_request};
 use scc_index::hash_index;
 use scc_map::hash_map::Owned;
 use scc_set::hash_set;
@@ -25,7 +26,8 @@ fn list_peers(rt: &impl Print) -> io::Result<()> {
     println!(rt; "scc-owned own,tail,mem,curve")?;
     println!(rt; "kit-fold own,tail,mem,curve")?;
     println!(rt; "scc-set mem,beside")?;
-    println!(rt; "scc-index own,mem,beside")
+    println!(rt; "scc-index own,mem,beside")?;
+    println!(rt; "scc-cache cache")
 }
 
 fn measure<M: Peer, R: Clock + Files + Print + Alloc>(
@@ -51,6 +53,16 @@ fn measure<M: Peer, R: Clock + Files + Print + Alloc>(
             request.runs,
             &streams,
         ),
+        Group::Cache => Err(bad_argument()),
+    }
+}
+
+fn measure_cache<R: Clock + Print>(rt: &R, alloc: Global, request: Request) -> io::Result<()> {
+    match request.group {
+        Group::Cache => {
+            cache::measure(rt, alloc, request.peer.text(), request.runs, &request.streams)
+        }
+        _ => Err(bad_argument()),
     }
 }
 
@@ -68,5 +80,6 @@ fn main(rt: HostRuntime) -> io::Result<()> {
         PeerName::Kit => measure::<HashMap<u64, u64>, _>(&rt, rt.alloc(), request),
         PeerName::Set => measure::<hash_set::Owned<u64>, _>(&rt, rt.alloc(), request),
         PeerName::Index => measure::<hash_index::Owned<u64, u64>, _>(&rt, rt.alloc(), request),
+        PeerName::Cache => measure_cache(&rt, rt.alloc(), request),
     }
 }

@@ -25,7 +25,8 @@ pub trait Peer: Drop {
     fn sum(&self) -> u64;
 }
 
-fn out_of_memory() -> io::Error {
+/// The error of refused memory.
+pub fn out_of_memory() -> io::Error {
     io::Error::from(io::ErrorKind::OutOfMemory)
 }
 

@@ -8,6 +8,7 @@ pub enum PeerName {
     Kit,
     Set,
     Index,
+    Cache,
 }
 
 #[derive(Clone, Copy, Drop)]
@@ -17,6 +18,7 @@ pub enum Group {
     Memory,
     Curve,
     Beside,
+    Cache,
 }
 
 /// A group of workloads on one peer, so many times.
@@ -38,11 +40,13 @@ impl PeerName {
             PeerName::Kit => "kit-fold",
             PeerName::Set => "scc-set",
             PeerName::Index => "scc-index",
+            PeerName::Cache => "scc-cache",
         }
     }
 }
 
-fn bad_argument() -> io::Error {
+/// The error of an argument that names nothing.
+pub fn bad_argument() -> io::Error {
     io::Error::from(io::ErrorKind::InvalidInput)
 }
 
@@ -52,6 +56,7 @@ fn parse_peer(word: &str) -> io::Result<PeerName> {
         "kit-fold" => Ok(PeerName::Kit),
         "scc-set" => Ok(PeerName::Set),
         "scc-index" => Ok(PeerName::Index),
+        "scc-cache" => Ok(PeerName::Cache),
         _ => Err(bad_argument()),
     }
 }
@@ -63,6 +68,7 @@ fn parse_group(word: &str) -> io::Result<Group> {
         "mem" => Ok(Group::Memory),
         "curve" => Ok(Group::Curve),
         "beside" => Ok(Group::Beside),
+        "cache" => Ok(Group::Cache),
         _ => Err(bad_argument()),
     }
 }

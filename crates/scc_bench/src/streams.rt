@@ -7,6 +7,10 @@ const INSERTED: u64 = 1;
 
 const MISSING: u64 = 2;
 
+const RANKED: u64 = 7;
+
+const RANKS: u64 = 500;
+
 /// What all streams of one measurement share.
 #[derive(Clone, Copy, Drop)]
 pub struct Streams {
@@ -64,6 +68,17 @@ impl Streams {
         let mut keys = Vec::new(alloc);
         for place in 0..self.entries {
             keys.push(self.key(MISSING, place))?;
+        }
+        Ok(keys)
+    }
+
+    /// As many keys from that step on, whose chance falls as one over their rank, up to a factor of two: each of 21 levels is as likely, and a level has twice the ranks of the one before.
+    pub fn skewed(&self, alloc: Global, from: u64) -> Result<Vec<u64>, AllocError> {
+        let mut keys = Vec::new(alloc);
+        for place in 0..self.entries {
+            let r = self.key(RANKS, from.wrapping_add(place));
+            let least = 1u64 << ((r >> 40) % 21);
+            keys.push(self.key(RANKED, least + (r & (least - 1))))?;
         }
         Ok(keys)
     }
