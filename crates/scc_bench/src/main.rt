@@ -60,7 +60,13 @@ fn measure<M: Peer, R: Clock + Files + Print + Alloc>(
 fn measure_cache<R: Clock + Print>(rt: &R, alloc: Global, request: Request) -> io::Result<()> {
     match request.group {
         Group::Cache => {
-            cache::measure(rt, alloc, request.peer.text(), request.runs, &request.streams)
+            cache::measure(
+                rt,
+                alloc,
+                request.peer.text(),
+                request.runs,
+                &request.streams,
+            )
         }
         _ => Err(bad_argument()),
     }
