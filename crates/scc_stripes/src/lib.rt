@@ -1,0 +1,4 @@
+//! Workers in threads of their own.
+#![tactic(auto)]
+
+pub mod stripes;
