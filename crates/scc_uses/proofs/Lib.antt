@@ -1,3 +1,4 @@
+pub mod CachedValues
 pub mod Counting
 pub mod Ends
 pub mod IndexIndependence

@@ -1,5 +1,7 @@
 pub mod Counts
 pub mod Memo
+pub mod CachedValues
+pub mod RequestCounts
 pub mod Sessions
 pub mod Interning
 pub mod Routing

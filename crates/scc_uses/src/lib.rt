@@ -1,4 +1,4 @@
-//! Uses of the owned map, set and index, as a caller writes them: each contract speaks of what a look-up finds or a run answers, and its proof cites nothing but the contracts of the containers and of runs, and their callers' lemmas.
+//! Uses of the owned map, set, index and cache, as a caller writes them: each contract speaks of what a look-up finds or a run answers, and its proof cites nothing but the contracts of the containers and of runs, and their callers' lemmas.
 #![tactic(auto)]
 
 pub mod chain;
@@ -6,6 +6,7 @@ pub mod configs;
 pub mod counts;
 pub mod difference;
 pub mod distinct;
+pub mod evaluator;
 pub mod interner;
 pub mod marks;
 pub mod memo;
@@ -13,6 +14,7 @@ pub mod mirror;
 pub mod mirror_indexes;
 pub mod mirror_sets;
 pub mod parts;
+pub mod request_cache;
 pub mod requests;
 pub mod routing;
 pub mod sessions;

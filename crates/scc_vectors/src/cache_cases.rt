@@ -1,7 +1,9 @@
 // Worked cases of the owned cache. Under the hasher that finishes with 0 all keys stand in one bucket.
+use crate::maybe_equal::MaybeEqual;
 use crate::zero::Zero;
-use scc::InsertError;
+use scc::hash_cache::owned::ReplaceResult;
 use scc::hash_cache::{DEFAULT_MAXIMUM_CAPACITY, Owned};
+use scc::{InsertError, Verdict};
 use scc_play::same::Same;
 use std::process::Abort;
 use std::test::Fail;
@@ -155,5 +157,120 @@ fn cache_try_from_iter_first_wins(rt: HostRuntime) -> Result<(), Fail> {
     assert_eq!(rt; cache.read_sync(&1, |_, value| *value), Some(10));
     assert_eq!(rt; (cache.len(), cache.capacity()), (1, 64));
     assert_eq!(rt; cache.capacity_range(), 64..=64);
+    Ok(())
+}
+
+#[test]
+fn cache_equality_ignores_recency(rt: HostRuntime) -> Result<(), Fail> {
+    let mut first = Owned::with_capacity_and_hasher(rt.alloc(), 0, 64, Zero)?;
+    let mut second = Owned::with_capacity_and_hasher(rt.alloc(), 0, 64, Zero)?;
+    for key in 1..3u64 {
+        first.put_sync(key, key)?;
+        second.put_sync(3 - key, 3 - key)?;
+    }
+    assert!(rt; first == second);
+    first.put_sync(3, 3)?;
+    assert!(rt; !(first == second));
+    assert!(rt; !(second == first));
+    Ok(())
+}
+
+#[test]
+fn cache_walks_keep_the_order(rt: HostRuntime) -> Result<(), Fail> {
+    let mut cache = full(&rt, 64)?;
+    cache.retain_sync(|key, value| {
+        *value = key.wrapping_add(100);
+        *key % 2 == 1
+    });
+    assert_eq!(rt; cache.len(), 16);
+    for key in 32..48u64 {
+        assert_eq!(rt; put(&rt, &mut cache, key), None);
+    }
+    assert_eq!(rt; put(&rt, &mut cache, 48), Some((1, 101)));
+    let mut taken = Vec::new(rt.alloc());
+    let result = cache.iter_mut_sync(
+        |key, _| {
+            if *key == 3 {
+                Verdict::Take
+            } else {
+                Verdict::Keep
+            }
+        },
+        &mut taken,
+    );
+    assert!(rt; matches!(result, Ok(true)));
+    assert_eq!(rt; taken.as_slice(), [(3, 103)].as_slice());
+    assert_eq!(rt; put(&rt, &mut cache, 49), None);
+    assert_eq!(rt; put(&rt, &mut cache, 50), Some((5, 105)));
+    Ok(())
+}
+
+#[test]
+fn cache_iter_mut_stops_at_its_first_call(rt: HostRuntime) -> Result<(), Fail> {
+    let mut taken = Vec::new(rt.alloc());
+    for verdict in [Verdict::TakeStop, Verdict::KeepStop] {
+        let mut cache: Owned<u64, u64> = Owned::new(rt.alloc());
+        for key in 1..4u64 {
+            cache.put_sync(key, 0)?;
+        }
+        let result = cache.iter_mut_sync(
+            |_, value| {
+                *value = 9;
+                verdict
+            },
+            &mut taken,
+        );
+        assert!(rt; matches!(result, Ok(false)));
+        let mut nines = 0u64;
+        cache.iter_sync(|_, value| {
+            if *value == 9 {
+                nines = nines.wrapping_add(1);
+            }
+            true
+        });
+        let is_taken = matches!(verdict, Verdict::TakeStop);
+        assert_eq!(rt; nines, if is_taken { 0 } else { 1 });
+        assert_eq!(rt; cache.len(), if is_taken { 2 } else { 3 });
+    }
+    assert_eq!(rt; taken.len(), 1);
+    Ok(())
+}
+
+#[test]
+fn cache_false_remove_if_keeps_what_it_wrote(rt: HostRuntime) -> Result<(), Fail> {
+    let mut cache = full(&rt, 64)?;
+    let declined = cache.remove_if_sync(&0, |value| {
+        *value = 50;
+        false
+    });
+    assert!(rt; declined.is_none());
+    assert_eq!(rt; put(&rt, &mut cache, 32), Some((0, 50)));
+    let removed = cache.remove_if_sync(&1, |value| {
+        *value = 51;
+        true
+    });
+    assert_eq!(rt; removed, Some((1, 51)));
+    let missing = cache.remove_if_sync(&1, |_| true);
+    assert!(rt; missing.is_none());
+    assert_eq!(rt; cache.len(), 31);
+    Ok(())
+}
+
+#[test]
+fn cache_replace_under_one_hash_keeps_values(rt: HostRuntime) -> Result<(), Fail> {
+    let mut cache = Owned::with_capacity_and_hasher(rt.alloc(), 0, 64, Zero)?;
+    for key in 0..32u64 {
+        cache.put_sync(MaybeEqual(key, 100 + key), key)?;
+    }
+    for key in 0..32u64 {
+        match cache.replace_sync(MaybeEqual(key, 200 + key)) {
+            ReplaceResult::Replaced(entry, old) => {
+                assert_eq!(rt; (old.0, old.1), (key, 100 + key));
+                assert_eq!(rt; (entry.key().1, *entry.get()), (200 + key, key));
+            }
+            ReplaceResult::NotReplaced(_) => assert!(rt; false),
+        }
+    }
+    assert_eq!(rt; cache.len(), 32);
     Ok(())
 }

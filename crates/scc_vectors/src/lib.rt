@@ -1,6 +1,7 @@
 //! The worked cases of the containers as tests, each under its plain name, over the public crates alone; and the hashers and keys that they are made with.
 #![tactic(auto)]
 
+pub mod alike;
 #[cfg(test)]
 mod cache_cases;
 #[cfg(test)]
@@ -14,6 +15,7 @@ mod index_cases;
 #[cfg(test)]
 mod map_cases;
 pub mod maybe_equal;
+pub mod random_cache_calls;
 pub mod random_calls;
 #[cfg(test)]
 mod recorded_cases;

@@ -1,6 +1,7 @@
 // Worked cases of the program: whole scripts, with what they write and their status.
 use scc_play::play::{BAD_CALL, FINISHED, play};
 use std::process::Abort;
+use std::test::Fail;
 
 // Plays a script, and asserts what it writes and how it ends.
 pub(crate) fn expect_run<R: AllocGlobal + Abort>(rt: &R, script: &[u8], text: &str, status: u8) {
@@ -84,6 +85,43 @@ fn run_index_calls(rt: HostRuntime) {
 }
 
 #[test]
+fn run_cache_evicts_the_first(rt: HostRuntime) -> Result<(), Fail> {
+    let mut script = String::from_str(rt.alloc(), "cache 1 1\n")?;
+    let mut text = String::from_str(rt.alloc(), "worker 0\n")?;
+    for key in 0..33u64 {
+        script.push_str(format!(in rt.alloc(); "0 put {key} {key}\n")?.as_str())?;
+        text.push_str(if key < 32 { "ok\n" } else { "evicted 0 0\n" })?;
+    }
+    text.push_str("contents 32\n")?;
+    for key in 1..33u64 {
+        text.push_str(format!(in rt.alloc(); "{key} {key}\n")?.as_str())?;
+    }
+    text.push_str("records 33\n")?;
+    expect_run(&rt, script.as_bytes(), text.as_str(), FINISHED);
+    Ok(())
+}
+
+#[test]
+fn run_cache_calls(rt: HostRuntime) {
+    expect_run(
+        &rt,
+        b"cache 1 1\n0 write 1 5\n0 put 1 6\n0 write 1 7\n0 get 1\n0 read 2\n0 replace 1\n",
+        "worker 0\nnone\nok\nold 6\nvalue 7\nnone\nkey 1\ncontents 1\n1 7\nrecords 6\n",
+        FINISHED,
+    );
+}
+
+#[test]
+fn run_cache_each_other_reply(rt: HostRuntime) {
+    expect_run(
+        &rt,
+        b"cache 1 1\n0 get 3\n0 contains 3\n0 remove 3\n0 put 3 4\n0 put 3 5\n0 contains 3\n0 len\n0 remove 3\n0 put 4 4\n0 clear\n0 len\n",
+        "worker 0\nnone\nfalse\nnone\nok\nexists 3 5\ntrue\ncount 1\npair 3 4\nok\nok\ncount 0\ncontents 0\nrecords 11\n",
+        FINISHED,
+    );
+}
+
+#[test]
 fn run_kinds_have_their_own_calls(rt: HostRuntime) {
     for script in [
         b"set 1 1\n0 insert 5 6\n".as_slice(),
@@ -91,6 +129,11 @@ fn run_kinds_have_their_own_calls(rt: HostRuntime) {
         b"index 1 1\n0 upsert 5 6\n".as_slice(),
         b"index 1 1\n0 replace 5\n".as_slice(),
         b"map 1 1\n0 update 5 6\n".as_slice(),
+        b"map 1 1\n0 get 5\n".as_slice(),
+        b"map 1 1\n0 put 5 6\n".as_slice(),
+        b"cache 1 1\n0 insert 5 6\n".as_slice(),
+        b"cache 1 1\n0 put 5\n".as_slice(),
+        b"cache 1 1\n0 upsert 5 6\n".as_slice(),
     ] {
         expect_run(&rt, script, "line 2: bad call\n", BAD_CALL);
     }
