@@ -145,7 +145,8 @@ fn expect_modified<R: Abort + Print>(rt: &R, refusal: &mut Refusal, index: &mut 
             refusal.meet(rt, "an entry's modification");
             let value = back.1;
             assert_eq!(rt; before, Some(value ^ 1));
-            match back.0 {
+            let back = back.0;
+            match back {
                 Entry::Occupied(mut entry) => {
                     assert_eq!(rt; (*entry.key(), *entry.get()), (key, value ^ 1));
                     assert_eq!(rt; entry.update(value), Ok(()));
