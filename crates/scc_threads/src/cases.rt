@@ -103,7 +103,7 @@ fn play_by_two<L: Ledger, M: Site<Shared<Same>>, R: Wait>(
 ) -> Result<Option<Seen>, AllocError>
     requires receipts { (receipts.name ≡ L.name) × (receipts.parts ≡ L.parts) × (receipts.parts ≡ 2) }
     requires records { (records.name ≡ M.name) × (records.parts ≡ M.parts) × (records.parts ≡ 2) }
-    requires site { M.chosen ≡ Some (request_of 0 0 hasher 2) }
+    requires site { (M.chosen ≡ Some (request_of 0 0 hasher 2)) × (M.all ≡ 2) }
 {
     let setup = Setup {
         capacity: 0,

@@ -4,3 +4,5 @@
 #[cfg(test)]
 mod cases;
 pub mod same;
+#[cfg(test)]
+mod workers;

@@ -9,4 +9,4 @@ abbrev pub ghosts-play_by_two-M-Ledger : goal.ghosts-play_by_two-M-Ledger
 ghosts-play_by_two-M-Ledger g a = record { name = a.records.name; parts = a.records.parts }
 
 abbrev pub ghosts-play_by_two-M-Site : goal.ghosts-play_by_two-M-Site
-ghosts-play_by_two-M-Site g a = record { chosen = Some (request_of 0 0 a.hasher 2) }
+ghosts-play_by_two-M-Site g a = record { chosen = Some (request_of 0 0 a.hasher 2); all = 2 }
