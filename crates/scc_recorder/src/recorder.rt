@@ -11,6 +11,7 @@ mod locked;
 mod opening;
 mod passes;
 mod refusals;
+mod rooms;
 mod setups;
 mod sites;
 mod whole;

@@ -4,6 +4,7 @@ ghost use Rattle.scc_recorded.specs.declared.recorded.fixed.Request.{Request};
 ghost use Rattle.scc_history.specs.Stamps.{Rises};
 
 use crate::recorder::counts::Count;
+use crate::recorder::rooms::Room;
 use crate::recorder::{Guarded, Recorded, Site};
 use scc_history::history::{Histories, Stripe};
 use scc_recorded::recorded::{Calls, Step};
@@ -21,6 +22,7 @@ pub struct Closed<C: Calls, L: Ledger, M: Site<C::Hasher>> {
     pub(crate) alloc: Global,
     pub ghost placed: { ∥ ((r : Request C.Hasher) × (M.chosen ≡ Some r) × (r.hasher ≡ hasher)) ∥₁ },
     pub ghost some: { 0 < vec_len stripes },
+    pub ghost all: { vec_len stripes ≡ M.all },
 }
 
 impl<C: Calls + Drop, L: Ledger, M: Site<C::Hasher>> Recorded<C, L, M>
@@ -42,7 +44,8 @@ where
             room,
         } = self;
         let mut locks = locks;
-        let mut stripes = room;
+        let Room { list } = room.into_inner();
+        let mut stripes = list;
         while !locks.is_empty() {
             stripes.push_reserved(locks.remove(0).into_inner());
         }

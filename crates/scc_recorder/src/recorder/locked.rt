@@ -1,16 +1,17 @@
 //! A container in parts behind locks.
-ghost use Rattle.std.specs.Prelude.{◌≡◌, ℕ, ◌<◌, List, [], ◌∷◌, ◌++◌, Err, IfOk, OnErr, IsSome, Option, Some, vec_len, vec_capacity, ◌≤◌};
+ghost use Rattle.std.specs.Prelude.{◌≡◌, ℕ, ◌<◌, List, [], ◌∷◌, ◌++◌, Err, IfOk, OnErr, IsSome, Option, Some, vec_len};
 ghost use Rattle.scc_recorded.specs.declared.recorded.fixed.Request.{Request};
 ghost use Rattle.scc_recorded.specs.declared.recorded.fixed.Setting.{Setting};
 ghost use Rattle.scc_history.specs.Stamps.{receipt};
 
 use crate::recorder::counts::Count;
+use crate::recorder::rooms::Room;
 use crate::recorder::{Guarded, Pass, Site};
 use scc_history::history::CallError;
 use scc_recorded::recorded::{Calls, route};
 use std::alloc::Global;
 use std::sync::ledger::Ledger;
-use std::sync::{Mutex, RwLock, Wait};
+use std::sync::{Mutex, Wait};
 
 /// A container in stripes, each behind a lock with its history. Threads share it by reference.
 ///
@@ -21,16 +22,15 @@ pub struct Recorded<C: Calls, L: Ledger, M: Site<C::Hasher>> {
     pub stripes: usize,
     /// The number of passes that were handed out.
     pub passes: usize,
-    pub(crate) locks: Vec<RwLock<Guarded<C, M>>>,
+    pub(crate) locks: Vec<Mutex<Guarded<C, M>>>,
     pub(crate) count: Mutex<Count<L, M>>,
     pub(crate) hasher: C::Hasher,
     pub(crate) alloc: Global,
-    pub(crate) room: Vec<Guarded<C, M>>,
+    pub(crate) room: Mutex<Room<C, M>>,
     pub ghost placed: { ∥ ((r : Request C.Hasher) × (M.chosen ≡ Some r) × (r.hasher ≡ hasher)) ∥₁ },
     pub ghost number: { vec_len locks ≡ stripes },
     pub ghost some: { 0 < stripes },
-    pub ghost empty: { room.items ≡ [] },
-    pub ghost reserved: { stripes ≤ vec_capacity room },
+    pub ghost all: { M.all ≡ stripes },
 }
 
 impl<C: Calls, L: Ledger, M: Site<C::Hasher>> Recorded<C, L, M> {
@@ -54,7 +54,7 @@ impl<C: Calls, L: Ledger, M: Site<C::Hasher>> Recorded<C, L, M> {
         };
         let place = route::<C>(&self.hasher, self.locks.len(), key);
         self.locks[place]
-            .write(rt)
+            .lock(rt)
             .step(rt, pass, &self.count, call)
     }
 }

@@ -5,13 +5,14 @@ ghost use Rattle.scc_recorder.specs.Setups.{IsStripes, request_of, share_of, ski
 
 use crate::recorder::counts::Count;
 use crate::recorder::lists::list_for;
+use crate::recorder::rooms::Room;
 use crate::recorder::setups::{bits_for, slots_for};
 use crate::recorder::{Guarded, Pass, Recorded, Setup, Site};
 use scc_recorded::recorded::Calls;
 use scc_table::{MakeError, Share};
 use std::alloc::Global;
 use std::sync::ledger::{Blank, Ledger, Share as Part};
-use std::sync::{Mutex, RwLock};
+use std::sync::Mutex;
 
 impl<C: Calls + Drop, L: Ledger, M: Site<C::Hasher>> Recorded<C, L, M>
 where
@@ -31,6 +32,7 @@ where
         requires receipts { (receipts.name ≡ L.name) × (receipts.parts ≡ L.parts) × (receipts.parts ≡ passes) }
         requires records { (records.name ≡ M.name) × (records.parts ≡ M.parts) × (records.parts ≡ stripes) }
         requires site { M.chosen ≡ Some (request_of setup.capacity setup.maximum setup.hasher stripes) }
+        requires all { M.all ≡ stripes }
         requires stripes { IsStripes stripes }
         requires passes { 0 < passes }
         ensures stripes { IfOk result (λ r. (r.0.stripes ≡ stripes) × (r.0.passes ≡ passes)) }
@@ -44,7 +46,7 @@ where
         let maximum = slots_for(setup.maximum, stripes);
         let hasher = setup.hasher;
         let locks = lock_all(alloc, bits_for(stripes), slots, maximum, stripes, &hasher, rest)?;
-        let Ok(room) = list_for(alloc, stripes) else {
+        let Ok(list) = list_for(alloc, stripes) else {
             return Err(MakeError);
         };
         let recorded = Recorded {
@@ -54,7 +56,7 @@ where
             count: Mutex::new(Count::new(book, other)),
             hasher,
             alloc,
-            room,
+            room: Mutex::new(Room { list }),
         };
         Ok((recorded, handed))
     }
@@ -90,7 +92,7 @@ fn lock_all<C: Calls + Drop, M: Site<C::Hasher>>(
     stripes: usize,
     hasher: &C::Hasher,
     rest: Part<M>,
-) -> Result<Vec<RwLock<Guarded<C, M>>>, MakeError>
+) -> Result<Vec<Mutex<Guarded<C, M>>>, MakeError>
 where
     C::Hasher: Share + Drop,
     requires site { M.chosen ≡ Some (record { hasher = hasher.now; skipped = skipped; slots = slots; maximum = maximum }) }
@@ -105,7 +107,7 @@ where
             return Err(MakeError);
         };
         let guarded = Guarded::open(alloc, skipped, slots, maximum, shared, &mut rest)?;
-        if locks.push(RwLock::new(guarded)).is_err() {
+        if locks.push(Mutex::new(guarded)).is_err() {
             return Err(MakeError);
         }
     }

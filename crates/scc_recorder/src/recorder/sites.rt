@@ -1,5 +1,5 @@
 //! What stripes were made for.
-ghost use Rattle.std.specs.Prelude.{None, Option};
+ghost use Rattle.std.specs.Prelude.{ℕ, None, Option};
 ghost use Rattle.scc_recorded.specs.declared.recorded.fixed.Request.{Request};
 
 use scc_recorded::recorded::Request;
@@ -9,8 +9,13 @@ use std::sync::ledger::Ledger;
 /// A ledger of stripes that were all made for one request. Who opens them chooses it.
 pub trait Site<H>: Ledger {
     ghost chosen: { Option (Request H) };
+
+    // The number of the stripes.
+    ghost all: { ℕ };
 }
 
 impl<H> Site<H> for Brand {
     ghost chosen = { None };
+
+    ghost all = { 0 };
 }

@@ -60,7 +60,7 @@ impl<C: Calls, L: Ledger, M: Site<C::Hasher>> Recorded<C, L, M> {
         ensures err { OnErr result ((n : ℕ) × (n < self.now.stripes) × Adds pass.old.log.clock call n pass.old.log.receipts.items pass.new.log.receipts.items) }
     {
         for i in 0..self.locks.len() {
-            self.locks[i].write(rt).step(rt, pass, &self.count, call)?;
+            self.locks[i].lock(rt).step(rt, pass, &self.count, call)?;
         }
         Ok(())
     }
