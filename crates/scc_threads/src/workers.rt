@@ -18,6 +18,7 @@ use std::thread::Threads;
 const TURNS: usize = 200;
 
 // One caller: every other call is on a key of its own, the others on keys that all share.
+#[derive(Drop)]
 struct Caller<'a, L: Ledger, M: Site<Shared<Same>>, R: Wait> {
     rt: &'a R,
     recorded: &'a Recorded<Map, L, M>,
@@ -28,7 +29,7 @@ struct Caller<'a, L: Ledger, M: Site<Shared<Same>>, R: Wait> {
 
 // The call of a turn: four turns go over an own key, and each fourth is a shared one.
 fn call_of(worker: usize, j: usize) -> MapCall<u64, u64> {
-    let own = ((worker as u64) << 32) + (j as u64 / 4);
+    let own = (1 << 40) | ((worker as u64) << 32) | (j as u64 / 4);
     match j % 4 {
         0 => MapCall::Insert(own, j as u64),
         1 => MapCall::Upsert(j as u64 % 8, worker as u64),
@@ -53,7 +54,7 @@ impl<L: Ledger, M: Site<Shared<Same>>, R: Wait> Work for Caller<'_, L, M, R> {
     }
 
     fn turn(&mut self, j: usize) -> bool {
-        let call = call_of(self.pass.number() + 1, j);
+        let call = call_of(self.pass.number(), j);
         match call {
             MapCall::Clear => false,
             MapCall::Len => false,

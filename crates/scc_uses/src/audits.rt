@@ -1,0 +1,36 @@
+//! What an auditor of recorded containers may rely on.
+ghost use Rattle.std.specs.Prelude.{◌≡◌, ℕ, ◌<◌, length, map, IfOk, OnOk, Some, slice_get};
+ghost use Rattle.scc_history.specs.Orders.{steps_at};
+ghost use Rattle.scc_history.specs.Receipts.{calls_of};
+
+use scc_history::history::{CallError, Log, Stripe};
+use scc_recorded::recorded::Calls;
+use scc_recorder::recorder::{Closed, Finished, Pass, Site, Unfinished};
+use std::sync::ledger::Ledger;
+
+/// A call by the one, and a later call by the other, who was told of it: its stamp is greater.
+pub fn one_after_another<C: Calls>(
+    stripe: &mut Stripe<C>,
+    first: &mut Log<C>,
+    second: &mut Log<C>,
+    call: C::Call,
+) -> Result<(), CallError>
+    ensures { OnOk result (first.new.clock < second.new.clock) }
+{
+    stripe.step(first, call)?;
+    second.told(first);
+    stripe.step(second, call)?;
+    Ok(())
+}
+
+/// Finishes a run. Each pass then has as many receipts as there are call records with its number: no call went unanswered, and none was answered that isn't recorded.
+pub fn audit<C: Calls + Drop, L: Ledger, M: Site<C::Hasher>>(
+    closed: Closed<C, L, M>,
+    passes: Vec<Pass<C, L>>,
+) -> Result<Finished<C>, Unfinished<C, L, M>>
+where
+    C::Hasher: Drop,
+    ensures { IfOk result (λ f. (k : ℕ) (p : _) → slice_get passes.items k ≡ Some p → length p.log.receipts.items ≡ length (calls_of p.log.number (steps_at (map (λ h. h.items) f.histories.items) f.order.items))) }
+{
+    closed.finish(passes)
+}
