@@ -22,9 +22,11 @@ fn all_agree(alloc: Global, calls: u64) -> Result<bool, AllocError> {
     let mut good = Owned::with_hasher(alloc, BuildHasherDefault::<FoldHasher>::new());
     let mut own = Owned::with_hasher(alloc, Same);
     let mut one = Owned::with_hasher(alloc, Zero);
-    Ok(agrees_with_a_list(alloc, &mut good, calls, 2047)?
-        && agrees_with_a_list(alloc, &mut own, calls, 511)?
-        && agrees_with_a_list(alloc, &mut one, calls, 255)?)
+    Ok(
+        agrees_with_a_list(alloc, &mut good, calls, 2047)?
+            && agrees_with_a_list(alloc, &mut own, calls, 511)?
+            && agrees_with_a_list(alloc, &mut one, calls, 255)?,
+    )
 }
 
 // The number in the argument, the usual one where there is none.
