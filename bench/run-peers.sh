@@ -7,7 +7,7 @@
 #   SEED           seed of the keys (0)
 #   RUNS           measured runs of each workload in a process (1)
 #   ROUNDS         how often all is gone through (5); several rounds spread a passing load over all peers
-#   ONLY_GROUPS    some of: own tail mem curve
+#   ONLY_GROUPS    some of: own tail mem curve cache
 #   ONLY_PEERS     names of peers, as the first column of a listing has them
 #   EXTRA_PEERS    further programs, one path a line, that keep to the conventions of README.md
 #   WIDE           1: also the wide tables
@@ -18,7 +18,7 @@ entries=${ENTRIES:-1048576}
 seed=${SEED:-0}
 runs=${RUNS:-1}
 rounds=${ROUNDS:-5}
-groups=${ONLY_GROUPS:-own tail mem curve}
+groups=${ONLY_GROUPS:-own tail mem curve cache}
 mkdir -p "$build"
 
 say() { echo "$*" >&2; }

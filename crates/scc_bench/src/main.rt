@@ -1,8 +1,9 @@
-//! Measures the owned map beside the standard library's map, in the lines that the table of peers reads.
+//! Measures the owned map beside the standard library's map, and the owned cache, in the lines that the table of peers reads.
 //!
 //! With no argument it prints its peers and their groups; `NAME GROUP RUNS ENTRIES SEED` measures one group.
 #![tactic(auto)]
 
+mod cache;
 mod memory;
 mod own;
 mod peer;
@@ -12,7 +13,7 @@ mod streams;
 mod tail;
 
 use peer::Peer;
-use request::{Group, PeerName, Request, parse_request};
+use request::{Group, PeerName, Request, bad_argument, parse_request};
 use scc_map::hash_map::Owned;
 use std::alloc::{AllocError, Global};
 use std::collections::HashMap;
@@ -21,7 +22,8 @@ use std::{env, io};
 
 fn list_peers(rt: &impl Print) -> io::Result<()> {
     println!(rt; "scc-owned own,tail,mem,curve")?;
-    println!(rt; "kit-fold own,tail,mem,curve")
+    println!(rt; "kit-fold own,tail,mem,curve")?;
+    println!(rt; "scc-cache cache")
 }
 
 fn measure<M: Peer, R: Clock + Files + Print + Alloc>(
@@ -39,6 +41,21 @@ fn measure<M: Peer, R: Clock + Files + Print + Alloc>(
         }
         Group::Memory => memory::measure::<M, R>(rt, alloc, name, &streams),
         Group::Curve => memory::measure_curve::<M, R>(rt, alloc, name, &streams),
+        Group::Cache => Err(bad_argument()),
+    }
+}
+
+fn measure_cache<R: Clock + Print + Alloc>(
+    rt: &R,
+    alloc: Global,
+    request: Request,
+) -> io::Result<()> {
+    match request.group {
+        Group::Cache => {
+            let name = request.peer.text();
+            cache::measure(rt, alloc, name, request.runs, &request.streams)
+        }
+        _ => Err(bad_argument()),
     }
 }
 
@@ -54,5 +71,6 @@ fn main(rt: HostRuntime) -> io::Result<()> {
     match request.peer {
         PeerName::Owned => measure::<Owned<u64, u64>, _>(&rt, rt.alloc(), request),
         PeerName::Kit => measure::<HashMap<u64, u64>, _>(&rt, rt.alloc(), request),
+        PeerName::Cache => measure_cache(&rt, rt.alloc(), request),
     }
 }

@@ -6,6 +6,7 @@ use std::io;
 pub enum PeerName {
     Owned,
     Kit,
+    Cache,
 }
 
 #[derive(Clone, Copy, Drop)]
@@ -14,6 +15,7 @@ pub enum Group {
     Tail,
     Memory,
     Curve,
+    Cache,
 }
 
 /// A group of workloads on one peer, so many times.
@@ -33,11 +35,13 @@ impl PeerName {
         match self {
             PeerName::Owned => "scc-owned",
             PeerName::Kit => "kit-fold",
+            PeerName::Cache => "scc-cache",
         }
     }
 }
 
-fn bad_argument() -> io::Error {
+/// What a request is refused with.
+pub fn bad_argument() -> io::Error {
     io::Error::from(io::ErrorKind::InvalidInput)
 }
 
@@ -45,6 +49,7 @@ fn parse_peer(word: &str) -> io::Result<PeerName> {
     match word {
         "scc-owned" => Ok(PeerName::Owned),
         "kit-fold" => Ok(PeerName::Kit),
+        "scc-cache" => Ok(PeerName::Cache),
         _ => Err(bad_argument()),
     }
 }
@@ -55,6 +60,7 @@ fn parse_group(word: &str) -> io::Result<Group> {
         "tail" => Ok(Group::Tail),
         "mem" => Ok(Group::Memory),
         "curve" => Ok(Group::Curve),
+        "cache" => Ok(Group::Cache),
         _ => Err(bad_argument()),
     }
 }

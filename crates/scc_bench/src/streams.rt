@@ -7,6 +7,10 @@ const INSERTED: u64 = 1;
 
 const MISSING: u64 = 2;
 
+const RANKED: u64 = 7;
+
+const STEPS: u64 = 500;
+
 /// What all streams of one measurement share.
 #[derive(Clone, Copy, Drop)]
 pub struct Streams {
@@ -64,6 +68,18 @@ impl Streams {
         let mut keys = Vec::new(alloc);
         for place in 0..self.entries {
             keys.push(self.key(MISSING, place))?;
+        }
+        Ok(keys)
+    }
+
+    /// As many keys from that step on, by a law of Zipf: of 21 levels each is equally likely, and a level has twice as many keys as the one before it.
+    pub fn ranked(&self, alloc: Global, from: u64) -> Result<Vec<u64>, AllocError> {
+        let mut keys = Vec::new(alloc);
+        for step in 0..self.entries {
+            let drawn = self.key(STEPS, from.wrapping_add(step));
+            let width = 1u64 << ((drawn >> 40) % 21);
+            let rank = width.wrapping_add(drawn & width.wrapping_sub(1));
+            keys.push(self.key(RANKED, rank))?;
         }
         Ok(keys)
     }
