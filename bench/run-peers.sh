@@ -18,7 +18,7 @@ entries=${ENTRIES:-1048576}
 seed=${SEED:-0}
 runs=${RUNS:-1}
 rounds=${ROUNDS:-5}
-groups=${ONLY_GROUPS:-own tail mem curve}
+groups=${ONLY_GROUPS:-own tail mem curve cache}
 mkdir -p "$build"
 
 say() { echo "$*" >&2; }
