@@ -110,9 +110,8 @@ fn play_by_two<L: Ledger, M: Site<Shared<Same>>, R: Wait>(
         maximum: 0,
         hasher,
     };
-    let Ok((recorded, handed)) = Recorded::<Map, L, M>::open(
-        alloc, setup, 2, 2, receipts, records,
-    ) else {
+    let Ok((recorded, handed)) = Recorded::<Map, L, M>::open(alloc, setup, 2, 2, receipts, records)
+    else {
         return Err(AllocError);
     };
     let mut passes = handed;

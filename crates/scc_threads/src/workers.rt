@@ -114,9 +114,8 @@ fn work_together<
         maximum: 0,
         hasher,
     };
-    let Ok((recorded, handed)) = Recorded::<Map, L, M>::open(
-        alloc, setup, 1, 8, receipts, records,
-    ) else {
+    let Ok((recorded, handed)) = Recorded::<Map, L, M>::open(alloc, setup, 1, 8, receipts, records)
+    else {
         return Err(AllocError);
     };
     let mut callers = Vec::new(alloc);
@@ -147,7 +146,11 @@ fn work_together<
         }
     }
     match recorded.finish(passes) {
-        Ok(finished) => Ok(if as_alone { Some(records_of(&finished)) } else { None }),
+        Ok(finished) => Ok(if as_alone {
+            Some(records_of(&finished))
+        } else {
+            None
+        }),
         Err(_unfinished) => Ok(None),
     }
 }

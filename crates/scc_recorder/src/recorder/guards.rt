@@ -4,8 +4,8 @@ ghost use Rattle.scc_recorded.specs.Made.{IsMadeFor};
 ghost use Rattle.scc_recorded.specs.declared.recorded.fixed.Request.{Request};
 ghost use Rattle.scc_history.specs.Stamps.{receipt, calls_in};
 
-use crate::recorder::{Pass, Site};
 use crate::recorder::counts::Count;
+use crate::recorder::{Pass, Site};
 use scc_history::history::{CallError, Stripe};
 use scc_recorded::recorded::Calls;
 use scc_table::MakeError;

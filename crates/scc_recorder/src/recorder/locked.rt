@@ -53,8 +53,6 @@ impl<C: Calls, L: Ledger, M: Site<C::Hasher>> Recorded<C, L, M> {
             unreachable!();
         };
         let place = route::<C>(&self.hasher, self.locks.len(), key);
-        self.locks[place]
-            .lock(rt)
-            .step(rt, pass, &self.count, call)
+        self.locks[place].lock(rt).step(rt, pass, &self.count, call)
     }
 }

@@ -11,8 +11,8 @@ use crate::recorder::{Guarded, Pass, Recorded, Setup, Site};
 use scc_recorded::recorded::Calls;
 use scc_table::{MakeError, Share};
 use std::alloc::Global;
-use std::sync::ledger::{Blank, Ledger, Share as Part};
 use std::sync::Mutex;
+use std::sync::ledger::{Blank, Ledger, Share as Part};
 
 impl<C: Calls + Drop, L: Ledger, M: Site<C::Hasher>> Recorded<C, L, M>
 where
@@ -45,7 +45,15 @@ where
         let slots = slots_for(setup.capacity, stripes);
         let maximum = slots_for(setup.maximum, stripes);
         let hasher = setup.hasher;
-        let locks = lock_all(alloc, bits_for(stripes), slots, maximum, stripes, &hasher, rest)?;
+        let locks = lock_all(
+            alloc,
+            bits_for(stripes),
+            slots,
+            maximum,
+            stripes,
+            &hasher,
+            rest,
+        )?;
         let Ok(list) = list_for(alloc, stripes) else {
             return Err(MakeError);
         };

@@ -49,12 +49,7 @@ fn sum_of<C: WholeCalls>(receipts: &[Receipt<C::Call, C::Reply>]) -> usize
 
 impl<C: Calls, L: Ledger, M: Site<C::Hasher>> Recorded<C, L, M> {
     // One call of each stripe, stripe 0 first.
-    fn each<R: Wait>(
-        &self,
-        rt: &R,
-        pass: &mut Pass<C, L>,
-        call: C::Call,
-    ) -> Result<(), CallError>
+    fn each<R: Wait>(&self, rt: &R, pass: &mut Pass<C, L>, call: C::Call) -> Result<(), CallError>
         ensures number { pass.new.log.number ≡ pass.old.log.number }
         ensures ok { OnOk result (Adds pass.old.log.clock call self.now.stripes pass.old.log.receipts.items pass.new.log.receipts.items) }
         ensures err { OnErr result ((n : ℕ) × (n < self.now.stripes) × Adds pass.old.log.clock call n pass.old.log.receipts.items pass.new.log.receipts.items) }

@@ -1,8 +1,7 @@
-use Rattle.std.proofs.Common.{rules, ◌≡◌, ◌+◌, ◌<◌, ◌≤◌, ℕ, List, Bool, true, false, map, length, take, get_or, arith, refl, sym, ap, ◌∙◌}
-use Rattle.std.specs.Prelude.{slice_index_or}
+use Rattle.std.proofs.Common.{◌≡◌, ◌<◌, ℕ, false, map, length, take, get_or, arith, sym, ap, ◌∙◌}
 use Rattle.std.proofs.lemmas.List.{length-map, length-take-le, take_more, get_or-take, get_or_read}
 use Rattle.scc_history.proofs.Telling.{all_at}
-use Rattle.scc_recorder.proofs.Seen.{Seen, seen_more, twice, number_at}
+use Rattle.scc_recorder.proofs.Seen.{seen_more, twice, number_at}
 use Rattle.scc_recorder.proofs.recorder.checks.are_all.Goals as goal
 use Rattle.scc_recorder.proofs.recorder.checks.are_all.Goals.{then-number-count-via-then-number-count, then-number-count-via-else-number-count+then-index}
 
@@ -29,8 +28,7 @@ returns-then-number-count g c =
     let m : (d : ℕ) → get_or numbers k d ≡ n = λ d. number_at (λ p. p.log.number) passes k d c.index-passes-k.result c.loop-k-test.true in
     let t : length (take k numbers) ≡ k = length-take-le k numbers (omega arith) in
     let same_start : (i d : ℕ) → i < length (take k numbers) → get_or numbers i d ≡ get_or (take k numbers) i d = λ i d l. sym (get_or-take k numbers i d (omega (arith, t, l))) in
-    let next : (d : ℕ) → get_or numbers (length (take k numbers)) d ≡ n = λ d. ap (λ j. get_or numbers j d) t ∙ m d in
-    (
+    let next : (d : ℕ) → get_or numbers (length (take k numbers)) d ≡ n = λ d. ap (λ j. get_or numbers j d) t ∙ m d in (
       λ f. absurd (cc),
       λ all. elim c.then-number-count.branch [
         | then-number-count-via-then-number-count w ↦ let b = all_at (λ n. n < c.args.count) numbers k 0 all.1 less in absurd (omega (arith, b, m 0, w.if-number-count.true))
