@@ -1,12 +1,12 @@
 -- What holds along a merge and along the stamp order.
-use Rattle.std.proofs.Common.{◌≡◌, ℕ, zero, suc, ◌+◌, ◌<◌, ◌≤◌, List, [], ◌∷◌, length, map, drop, Option, None, Some, ◌⊎◌, inl, inr, refl, sym, ap, ◌∙◌, arith, length-set}
+use Rattle.std.proofs.Common.{◌≡◌, ℕ, zero, suc, ◌+◌, ◌<◌, ◌≤◌, List, [], ◌∷◌, length, map, Option, None, Some, ◌⊎◌, inl, inr, refl, ap, ◌∙◌, arith}
 use Rattle.std.specs.Prelude.{slice_get, slice_set, slice_index}
-use Rattle.std.specs.List.{AllByRecursion, AllPairs}
+use Rattle.std.specs.List.{AllPairs}
 use Rattle.std.proofs.lemmas.List.{length-map}
 use Rattle.scc_recorded.specs.declared.recorded.steps.Step.{Step}
 use Rattle.scc_recorded.specs.declared.recorded.steps.Step.TheVariants.{Call, Resize}
 use Rattle.scc_history.specs.Stamps.{Rises}
-use Rattle.scc_history.specs.Orders.{MergeFrom, IsMerge, AllStand, Comes, StampsComeAt, StampsRise, order_number, number_in, step_at, least}
+use Rattle.scc_history.specs.Orders.{MergeFrom, IsMerge, AllStand, Comes, StampsComeAt, StampsRise, order_number, number_in, step_at}
 use Rattle.scc_history.proofs.Numbers.{call_number}
 
 module _ {X : Type 0} (hs : List (List X)) where

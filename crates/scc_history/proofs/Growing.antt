@@ -1,5 +1,5 @@
 -- What one call adds keeps the replay, the rising stamps and the number of records.
-use Rattle.std.proofs.Common.{◌≡◌, ℕ, ◌+◌, ◌<◌, ◌≤◌, List, [], ◌∷◌, ◌++◌, Bool, true, false, ◌⊎◌, refl, sym, ap, ◌∙◌, subst, arith, inl, inr}
+use Rattle.std.proofs.Common.{◌≡◌, ℕ, ◌+◌, ◌<◌, ◌≤◌, List, [], ◌∷◌, ◌++◌, Bool, true, false, refl, sym, ap, ◌∙◌, subst, arith, inl, inr}
 use Rattle.std.specs.Prelude.{nat_lt, ◌==◌, if◌then◌else◌, MatchBool}
 use Rattle.std.proofs.lemmas.Bool.Decides.{nat_tests}
 use Rattle.std.proofs.Math.Logic.{∥∥₁_map}
@@ -7,7 +7,7 @@ use Rattle.scc_recorded.specs.declared.recorded.steps.Step.{Step}
 use Rattle.scc_recorded.specs.declared.recorded.steps.Step.TheVariants.{Call, Resize}
 use Rattle.scc_history.specs.declared.history.receipts.Receipt.{Receipt}
 use Rattle.scc_recorded.specs.Changes.{Changes, Stays}
-use Rattle.scc_recorded.specs.Histories.{Goes, Replay}
+use Rattle.scc_recorded.specs.Histories.{Replay}
 use Rattle.scc_history.specs.Stamps.{Rises, RisesTo, recorded, resized, receipt, calls_in}
 
 module _ (S A R : Type 0) (moves : S → A → R → S → Type 0) (resizes : S → ℕ → S → Type 0) (size : S → ℕ) where

@@ -1,10 +1,10 @@
 -- The order number of a call is its own stamp.
-use Rattle.std.proofs.Common.{◌≡◌, ℕ, zero, suc, ◌+◌, ◌<◌, ◌≤◌, List, [], ◌∷◌, length, drop, min, Option, Some, refl, sym, ap, ◌∙◌, arith}
+use Rattle.std.proofs.Common.{◌≡◌, ℕ, zero, suc, ◌≤◌, List, [], ◌∷◌, drop, Some, arith}
 use Rattle.std.specs.Prelude.{slice_get}
 use Rattle.scc_recorded.specs.declared.recorded.steps.Step.{Step}
 use Rattle.scc_recorded.specs.declared.recorded.steps.Step.TheVariants.{Call, Resize}
 use Rattle.scc_history.specs.Stamps.{Rises}
-use Rattle.scc_history.specs.Orders.{least, stamp_of}
+use Rattle.scc_history.specs.Orders.{least}
 
 module _ (A R : Type 0) where
   rises_bound : (low : ℕ) (h : List (Step A R)) (last : ℕ) → Rises low h last → low ≤ last

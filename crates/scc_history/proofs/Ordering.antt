@@ -1,14 +1,13 @@
 -- The order by stamps, one place at a time.
-use Rattle.std.proofs.Common.{◌≡◌, ℕ, zero, suc, ◌+◌, ◌-◌, ◌<◌, ◌≤◌, List, [], ◌∷◌, ◌++◌, length, map, drop, min, get_or, Option, Some, None, ◌⊎◌, inl, inr, refl, sym, ap, ◌∙◌, subst, arith, add-one, append_assoc, length-set, replicate}
-use Rattle.std.specs.Prelude.{slice_get, slice_set, slice_index, nat_lt, if◌then◌else◌, MatchOption, ◌^◌, Bool, true, false}
-use Rattle.std.proofs.lemmas.Bool.Decides.{nat_tests}
+use Rattle.std.proofs.Common.{◌≡◌, ℕ, zero, suc, ◌+◌, ◌-◌, ◌<◌, ◌≤◌, List, [], ◌∷◌, ◌++◌, length, map, drop, min, get_or, Option, Some, None, ◌⊎◌, inl, inr, refl, sym, ap, ◌∙◌, arith, add-one, append_assoc, length-set, replicate}
+use Rattle.std.specs.Prelude.{slice_get, slice_set, slice_index}
 use Rattle.std.specs.List.{AllPairs}
 use Rattle.std.proofs.lemmas.Bool.{cases_lt, cases_eq}
 use Rattle.std.proofs.lemmas.List.{append-nil, get_or-set_same, get_or-set_other, length-map, get_or_append_left, get_or_push, length-append}
 use Rattle.std.proofs.lemmas.Grind.{same_number_lists}
 use Rattle.std.proofs.lemmas.List.Quantifiers.{all_pairs_push}
 use Rattle.scc_recorded.specs.declared.recorded.steps.Step.{Step}
-use Rattle.scc_history.specs.Orders.{MergeFrom, IsMerge, IsStampOrder, stamp_of, least, number_in, order_number, Comes}
+use Rattle.scc_history.specs.Orders.{MergeFrom, IsStampOrder, stamp_of, least, number_in, order_number, Comes}
 
 pub get_at : (xs : List ℕ) (i : ℕ) → i < length xs → slice_get xs i ≡ Some (slice_index xs i)
 get_at [] i h = absurd (omega arith)

@@ -1,9 +1,9 @@
 -- A merge by places is a merge of the steps.
-use Rattle.std.proofs.Common.{◌≡◌, ℕ, zero, suc, ◌+◌, ◌<◌, ◌≤◌, List, [], ◌∷◌, ◌++◌, length, map, drop, Option, Some, None, refl, sym, ap, ◌∙◌, subst, arith, add-one}
+use Rattle.std.proofs.Common.{◌≡◌, ℕ, zero, suc, ◌+◌, ◌<◌, List, [], ◌∷◌, length, map, drop, Some, refl, ap, ◌∙◌, arith, add-one}
 use Rattle.std.specs.Prelude.{slice_get, slice_set, slice_index}
 use Rattle.std.specs.List.{AllByRecursion}
 use Rattle.scc_recorded.specs.Histories.{Merge}
-use Rattle.scc_history.specs.Orders.{MergeFrom, IsMerge, at_list, steps_at}
+use Rattle.scc_history.specs.Orders.{MergeFrom, IsMerge, steps_at}
 
 module _ (X : Type 0) where
   abbrev rests : List (List X) → List ℕ → List (List X)

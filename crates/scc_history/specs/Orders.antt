@@ -1,5 +1,5 @@
 -- Merges of histories, as lists of places, and the one in stamp order.
-use Rattle.std.specs.Prelude.{◌≡◌, ℕ, ◌+◌, ◌<◌, ◌≤◌, List, [], ◌∷◌, ◌++◌, length, map, min, Option, Some, None, slice_get, slice_set, slice_index, ◌⊎◌, drop}
+use Rattle.std.specs.Prelude.{◌≡◌, ℕ, ◌+◌, ◌<◌, ◌≤◌, List, [], ◌∷◌, length, map, min, Option, Some, None, slice_get, slice_set, slice_index, ◌⊎◌, drop}
 use Rattle.std.specs.List.{AllByRecursion, AllPairs, filter_map}
 use Rattle.scc_recorded.specs.declared.recorded.steps.Step.{Step}
 use Rattle.scc_recorded.specs.declared.recorded.steps.Step.TheVariants.{Call, Resize}

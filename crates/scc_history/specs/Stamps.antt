@@ -1,6 +1,6 @@
 -- How stamps rise, and what one call adds to a history.
-use Rattle.std.specs.Prelude.{◌≡◌, ℕ, ◌+◌, ◌<◌, ◌≤◌, List, [], ◌∷◌, ◌++◌, ⊤, nat_lt, if◌then◌else◌, ◌==◌, length}
-use Rattle.std.specs.Coded.{×_prop, Unit-prop, le_prop}
+use Rattle.std.specs.Prelude.{ℕ, ◌+◌, ◌<◌, ◌≤◌, List, [], ◌∷◌, nat_lt, if◌then◌else◌, ◌==◌}
+use Rattle.std.specs.Coded.{×_prop, le_prop}
 use Rattle.scc_recorded.specs.declared.recorded.steps.Step.{Step}
 use Rattle.scc_recorded.specs.declared.recorded.steps.Step.TheVariants.{Call, Resize}
 use Rattle.scc_history.specs.declared.history.receipts.Receipt.{Receipt}

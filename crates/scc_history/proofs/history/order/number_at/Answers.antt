@@ -1,5 +1,5 @@
-use Rattle.std.proofs.Common.{◌≡◌, Some, min, drop, ◌+◌, arith, sym, ap, ◌∙◌}
-use Rattle.scc_history.specs.Orders.{least, stamp_of}
+use Rattle.std.proofs.Common.{Some, drop, arith, sym, ap, ◌∙◌}
+use Rattle.scc_history.specs.Orders.{stamp_of}
 use Rattle.scc_history.proofs.Items.{item_at}
 use Rattle.scc_history.proofs.Numbers.{call_number}
 use Rattle.scc_history.proofs.Ordering.{least_bound, least_next, least_end}

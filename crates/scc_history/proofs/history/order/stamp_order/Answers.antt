@@ -1,8 +1,8 @@
-use Rattle.std.proofs.Common.{◌≡◌, ◌+◌, ◌<◌, ℕ, List, [], Some, map, length, arith, rules, replicate, refl, sym, ap, ◌∙◌}
+use Rattle.std.proofs.Common.{◌≡◌, ◌+◌, ◌<◌, [], Some, map, length, arith, rules, replicate, sym, ap, ◌∙◌}
 use Rattle.std.specs.Prelude.{slice_index, slice_set}
 use Rattle.std.specs.BinaryHeap.{heap_items}
 use Rattle.std.proofs.lemmas.List.{length-map, nil_from_length, get_or_read, get_or-set_same}
-use Rattle.scc_history.proofs.Ordering.{Ordered, left, left_falls, ordered_none, ordered_more, ordered_all, zeros_of, history_at, length_at}
+use Rattle.scc_history.proofs.Ordering.{left_falls, ordered_none, ordered_more, ordered_all, zeros_of, history_at, length_at}
 use Rattle.scc_history.proofs.Waiting.{here, least_here, taken, advanced, all_done}
 use Rattle.scc_history.proofs.history.order.stamp_order.Goals as goal
 

@@ -1,8 +1,7 @@
-use Rattle.std.proofs.Common.{rules, ◌≡◌, ◌+◌, ◌<◌, ◌≤◌, ℕ, List, Bool, true, false, map, length, take, get_or, arith, refl, sym, ap, ◌∙◌}
-use Rattle.std.specs.Prelude.{slice_index_or}
+use Rattle.std.proofs.Common.{◌≡◌, ◌<◌, ℕ, false, map, length, take, get_or, arith, sym, ap, ◌∙◌}
 use Rattle.std.proofs.lemmas.List.{length-map, length-take-le, take_more, get_or-take, get_or_read}
 use Rattle.scc_history.proofs.Telling.{all_at}
-use Rattle.scc_recorder.proofs.Seen.{Seen, seen_more, twice, number_at}
+use Rattle.scc_recorder.proofs.Seen.{seen_more, twice, number_at}
 use Rattle.scc_recorder.proofs.recorder.checks.are_all.Goals as goal
 use Rattle.scc_recorder.proofs.recorder.checks.are_all.Goals.{then-number-count-via-then-number-count, then-number-count-via-else-number-count+then-index}
 

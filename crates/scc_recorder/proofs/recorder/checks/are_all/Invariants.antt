@@ -1,5 +1,4 @@
-use Rattle.std.proofs.Common.{◌≡◌, ◌<◌, ℕ, true, false, take, map, length, vec_len}
-use Rattle.std.specs.Prelude.{slice_index_or}
+use Rattle.std.proofs.Common.{take, map}
 use Rattle.scc_recorder.proofs.Seen.{Seen}
 use Rattle.scc_recorder.proofs.recorder.checks.are_all.Given as goal
 

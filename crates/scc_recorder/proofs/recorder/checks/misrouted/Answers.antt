@@ -1,4 +1,4 @@
-use Rattle.std.proofs.Common.{◌≡◌, ◌+◌, ◌<◌, ℕ, Some, map, length, arith, take, sym, ap, ◌∙◌}
+use Rattle.std.proofs.Common.{◌≡◌, ◌+◌, Some, length, arith, sym, ap, ◌∙◌}
 use Rattle.scc_history.proofs.Ordering.{history_at}
 use Rattle.scc_recorded.specs.Parts.{part_of}
 use Rattle.scc_recorder.proofs.Placed.{calls_take_more}

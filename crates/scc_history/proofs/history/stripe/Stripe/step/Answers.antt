@@ -1,6 +1,5 @@
-use Rattle.std.proofs.Common.{rules, ◌≡◌, ℕ, ◌+◌, ◌<◌, ◌≤◌, List, [], ◌∷◌, ◌++◌, max, ap, sym, ◌∙◌, arith}
-use Rattle.scc_recorded.specs.Histories.{Replay}
-use Rattle.scc_history.specs.Stamps.{Rises, RisesTo, recorded, resized, receipt}
+use Rattle.std.proofs.Common.{◌≡◌, ◌+◌, ◌<◌, ◌≤◌, [], ◌∷◌, ◌++◌, arith}
+use Rattle.scc_history.specs.Stamps.{recorded, resized, receipt}
 use Rattle.scc_history.proofs.Growing.{grown, Replay-recorded, Replay-resized, Rises-recorded, Rises-resized, RisesTo-push}
 use Rattle.scc_history.proofs.history.stripe.Stripe.step.Goals as goal
 

@@ -1,5 +1,4 @@
-use Rattle.std.proofs.Common.{◌≡◌, ◌+◌, ◌<◌, ℕ, List, Err, map, length, arith, refl, sym, ap, ◌∙◌, subst, vec_len}
-use Rattle.std.specs.List.{AllByRecursion}
+use Rattle.std.proofs.Common.{◌≡◌, ◌<◌, Err, map, length, arith, sym, ap, ◌∙◌, subst, vec_len}
 use Rattle.std.proofs.Math.Logic.{∥∥₁_elim, ∥∥₁_map}
 use Rattle.std.proofs.lemmas.List.{length-map}
 use Rattle.scc_recorded.specs.Histories.{CallsRouted}

@@ -1,10 +1,7 @@
-use Rattle.std.proofs.Common.{rules, ◌≡◌, ◌+◌, ◌<◌, ℕ, List, [], Err, map, length, arith, refl, sym, ap, ◌∙◌, subst}
-use Rattle.std.specs.Prelude.{slice_index_or}
-use Rattle.std.specs.List.{AllByRecursion}
-use Rattle.scc_history.specs.Orders.{IsStampOrder, steps_at}
-use Rattle.scc_history.specs.Receipts.{AreAll, calls_of}
+use Rattle.std.proofs.Common.{◌≡◌, map, length, arith}
+use Rattle.scc_history.specs.Orders.{steps_at}
+use Rattle.scc_history.specs.Receipts.{calls_of}
 use Rattle.scc_history.proofs.Along.{stands}
-use Rattle.scc_recorder.specs.Closing.{FirstDisagrees}
 use Rattle.scc_recorder.proofs.Causes.{same_disagreement}
 use Rattle.scc_recorder.proofs.Comparing.{match_listed, differs_listed}
 use Rattle.scc_recorder.proofs.recorder.closing.Closed.order_of.Goals as goal

@@ -1,4 +1,3 @@
-use Rattle.std.proofs.Common.{rules}
 use Rattle.scc_recorder.proofs.recorder.guards.Guarded.open.Goals as goal
 
 pub invariant_of-result-clause-placed : goal.invariant_of-result-clause-placed

@@ -1,4 +1,3 @@
-use Rattle.std.proofs.Common.{rules}
 use Rattle.scc_recorder.proofs.recorder.locked.Recorded.call.Goals as goal
 
 pub returns-clause-refused : goal.returns-clause-refused

@@ -1,4 +1,4 @@
-use Rattle.std.proofs.Common.{rules, refl}
+use Rattle.std.proofs.Common.{refl}
 use Rattle.scc_recorder.proofs.recorder.locked.Recorded.open.Goals as goal
 
 pub invariant_of-recorded-clause-placed : goal.invariant_of-recorded-clause-placed
