@@ -1,6 +1,7 @@
 //! The worked cases of the containers as tests, each under its plain name, over the public crates alone; and the hashers and keys that they are made with.
 #![tactic(auto)]
 
+#[cfg(test)]
 mod cache_cases;
 #[cfg(test)]
 mod entry_cases;
