@@ -2,6 +2,8 @@
 #![tactic(auto)]
 
 #[cfg(test)]
+mod as_run;
+#[cfg(test)]
 mod cases;
 pub mod same;
 #[cfg(test)]
