@@ -49,10 +49,10 @@ build libc --cfg 'feature="std"' $(cat "$lib/libc.cfg")
 build getrandom $(on cfg_if libc)
 build ahash --cfg 'feature="std"' --cfg 'feature="runtime-rng"' --cfg 'feature="folded_multiply"' $(on getrandom once_cell)
 build hashbrown --cfg 'feature="ahash"' --cfg 'feature="inline-more"' $(on ahash)
-if ! ls -d "$crates"/lru-[0-9]* > /dev/null 2>&1; then
+if ls -d "$crates"/lru-[0-9]* > /dev/null 2>&1; then
+    build lru --cfg 'feature="hashbrown"' $(on hashbrown)
+    flags="$flags --cfg with_lru $(on lru)"
+else
     echo "missing: librust-lru-dev (needed for lru)" >&2
-    rustc $flags --edition 2021 --cfg with_hashbrown $(on hashbrown) -o "$out/peers-rust" "$here/rust/main.rs"
-    exit
 fi
-build lru --cfg 'feature="hashbrown"' $(on hashbrown)
-rustc $flags --edition 2021 --cfg with_hashbrown --cfg with_lru $(on hashbrown lru) -o "$out/peers-rust" "$here/rust/main.rs"
+rustc $flags --edition 2021 --cfg with_hashbrown $(on hashbrown) -o "$out/peers-rust" "$here/rust/main.rs"

@@ -237,39 +237,81 @@ fn run_owned<M: Owned>(peer: &str, group: &str, runs: u32, streams: &Streams) {
     }
 }
 
-/// The crate lru on keys of which few come often: a look-up, and a put where it missed.
+/// The most pairs of a cache, how many keys the gets go through, and how many keys fill a cache.
+#[cfg(with_lru)]
+const MOST: usize = 65_536;
+#[cfg(with_lru)]
+const KEPT: u64 = 16_384;
+#[cfg(with_lru)]
+const FILLING: u64 = 131_072;
+
+/// Puts the key with its value, and says whether another pair was evicted.
+#[cfg(with_lru)]
+fn put(cache: &mut lru::LruCache<u64, u64>, k: u64) -> bool {
+    cache.push(k, value(k)).is_some()
+}
+
+/// Gets each key, or else puts it: nanoseconds an operation, sum, and how many were there.
+#[cfg(with_lru)]
+fn get_or_put_all(cache: &mut lru::LruCache<u64, u64>, keys: &[u64]) -> (f64, u64, u64) {
+    let (mut sum, mut hits) = (0u64, 0u64);
+    let t = Instant::now();
+    for &k in keys {
+        match cache.get(&k) {
+            Some(v) => {
+                sum = sum.wrapping_add(*v);
+                hits += 1;
+            }
+            None => {
+                put(cache, k);
+                sum = sum.wrapping_add(value(k));
+            }
+        }
+    }
+    (per(t, keys.len() as u64), sum, hits)
+}
+
+#[cfg(with_lru)]
+fn get_all(cache: &mut lru::LruCache<u64, u64>, keys: &[u64]) -> (f64, u64) {
+    let t = Instant::now();
+    let sum = keys.iter().fold(0u64, |s, k| cache.get(k).map_or(s, |v| s.wrapping_add(*v)));
+    (per(t, keys.len() as u64), sum)
+}
+
+#[cfg(with_lru)]
+fn put_all(cache: &mut lru::LruCache<u64, u64>, keys: &[u64]) -> (f64, u64) {
+    let t = Instant::now();
+    let evicted = keys.iter().fold(0u64, |s, &k| s + u64::from(put(cache, k)));
+    (per(t, keys.len() as u64), evicted)
+}
+
+/// The crate lru with one owner.
 #[cfg(with_lru)]
 fn cache(peer: &str, runs: u32, streams: &Streams) {
-    let stream = streams.skewed(2 * streams.entries);
-    let n = streams.entries as usize;
+    let some = |entries| Streams { entries, seed: streams.seed };
+    let (warming, ranked) = (streams.ranked(0), streams.ranked(streams.entries));
+    let (kept, accessed) = (some(KEPT).inserted(), some(KEPT).accessed());
+    let (filling, evicting) = (some(FILLING).inserted(), streams.missing());
     for run in 0..=runs {
-        let mut c = lru::LruCache::new(65_536);
-        let mut steps = |keys: &[u64]| {
-            let (mut sum, mut hits) = (0u64, 0u64);
-            let start = Instant::now();
-            for &k in keys {
-                let seen = match c.get(&k) {
-                    Some(v) => {
-                        hits += 1;
-                        *v
-                    }
-                    None => {
-                        c.put(k, value(k));
-                        value(k)
-                    }
-                };
-                sum = sum.wrapping_add(seen);
-            }
-            (per(start, streams.entries), hits, sum)
-        };
-        steps(&stream[..n]);
-        let (ns, hits, sum) = steps(&stream[n..]);
+        let mut c = lru::LruCache::new(MOST);
+        get_or_put_all(&mut c, &warming);
+        let (step_ns, step_sum, hits) = get_or_put_all(&mut c, &ranked);
+        let mut c = lru::LruCache::new(MOST);
+        put_all(&mut c, &kept);
+        let (get_ns, get_sum) = get_all(&mut c, &accessed);
+        let mut c = lru::LruCache::new(MOST);
+        put_all(&mut c, &filling);
+        let (put_ns, evicted) = put_all(&mut c, &evicting);
         if run > 0 {
-            line("cache_t1", peer, ns);
-            line("hitrate_t1", peer, hits as f64 * 100.0 / n as f64);
+            line("cache_t1", peer, step_ns);
+            line("cache_get", peer, get_ns);
+            line("cache_evict", peer, put_ns);
+            line("hitrate_t1", peer, hits as f64 * 100.0 / streams.entries as f64);
         }
         if run == runs {
-            check("cache_t1", peer, sum);
+            check("cache_t1", peer, step_sum);
+            check("cache_get", peer, get_sum);
+            check("cache_evict", peer, evicted);
         }
     }
 }

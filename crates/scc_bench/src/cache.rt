@@ -1,75 +1,180 @@
-//! The workload of a bounded cache: a look-up, which refreshes, and a put where the key is missing.
-use crate::peer::out_of_memory;
+//! The workloads of a cache of 65,536 pairs at most: steps that get a key or else put it, gets of keys that are there, and puts that evict.
 use crate::report::{check, line, nanos};
 use crate::streams::{Streams, value};
 use scc_cache::hash_cache::Owned;
-use std::alloc::Global;
+use std::alloc::{AllocError, Global};
 use std::io;
 use std::rt::Clock;
 use std::time::Instant;
 
-/// The most pairs of each cache.
+/// The most pairs of a cache.
 const MOST: usize = 65_536;
 
-/// What some steps took in nanoseconds, how many of them hit, and the sum of the values seen.
+/// How many keys the gets go through, few enough that none is evicted.
+const KEPT: u64 = 16_384;
+
+/// How many keys fill each bucket of a cache, with a wide margin.
+const FILLING: u64 = 131_072;
+
+type Cache = Owned<u64, u64>;
+
+/// What a workload took in nanoseconds, its sum, and how often the key was there or a pair was evicted.
 #[derive(Clone, Copy, Drop)]
 struct Outcome {
     spent: u64,
-    hits: u64,
     sum: u64,
+    count: u64,
 }
 
-// The value of the key, and whether it was there.
-#[inline(always)]
-fn step(cache: &mut Owned<u64, u64>, key: u64) -> io::Result<(u64, bool)> {
-    if let Some(entry) = cache.get_sync(&key) {
-        return Ok((*entry.get(), true));
-    }
-    match cache.put_sync(key, value(key)) {
-        Ok(_) => Ok((value(key), false)),
+fn out_of_memory() -> io::Error {
+    io::Error::from(io::ErrorKind::OutOfMemory)
+}
+
+fn empty(alloc: Global) -> io::Result<Cache> {
+    match Owned::with_capacity(alloc, 0, MOST) {
+        Ok(cache) => Ok(cache),
         Err(_) => Err(out_of_memory()),
     }
 }
 
-fn steps(clock: &impl Clock, cache: &mut Owned<u64, u64>, keys: &[u64]) -> io::Result<Outcome> {
-    let mut hits = 0u64;
+/// Puts the key with its value, and says whether a pair was evicted.
+#[inline(always)]
+fn put(cache: &mut Cache, key: u64) -> io::Result<bool> {
+    match cache.put_sync(key, value(key)) {
+        Ok(evicted) => Ok(evicted.is_some()),
+        Err(_) => Err(out_of_memory()),
+    }
+}
+
+/// The value of the key where it is there; its pair becomes the most recent of its bucket.
+#[inline(always)]
+fn get(cache: &mut Cache, key: u64) -> Option<u64> {
+    match cache.get_sync(&key) {
+        Some(entry) => Some(*entry.get()),
+        None => None,
+    }
+}
+
+/// Gets each key, or else puts it, and counts the keys that were there.
+fn get_or_put_all(clock: &impl Clock, cache: &mut Cache, keys: &[u64]) -> io::Result<Outcome> {
     let mut sum = 0u64;
+    let mut count = 0u64;
     let start = Instant::now(clock)?;
     for key in keys {
-        let (seen, hit) = step(cache, *key)?;
-        sum = sum.wrapping_add(seen);
-        hits = hits.wrapping_add(u64::from(hit));
+        match get(cache, *key) {
+            Some(found) => {
+                sum = sum.wrapping_add(found);
+                count = count.wrapping_add(1);
+            }
+            None => {
+                put(cache, *key)?;
+                sum = sum.wrapping_add(value(*key));
+            }
+        }
     }
+    let spent = nanos(start.elapsed(clock)?);
+    Ok(Outcome { spent, sum, count })
+}
+
+/// Gets each key, and counts those that were there.
+fn get_all(clock: &impl Clock, cache: &mut Cache, keys: &[u64]) -> io::Result<Outcome> {
+    let mut sum = 0u64;
+    let mut count = 0u64;
+    let start = Instant::now(clock)?;
+    for key in keys {
+        if let Some(found) = get(cache, *key) {
+            sum = sum.wrapping_add(found);
+            count = count.wrapping_add(1);
+        }
+    }
+    let spent = nanos(start.elapsed(clock)?);
+    Ok(Outcome { spent, sum, count })
+}
+
+/// Puts each key, and counts the pairs that were evicted.
+fn put_all(clock: &impl Clock, cache: &mut Cache, keys: &[u64]) -> io::Result<Outcome> {
+    let mut count = 0u64;
+    let start = Instant::now(clock)?;
+    for key in keys {
+        if put(cache, *key)? {
+            count = count.wrapping_add(1);
+        }
+    }
+    let spent = nanos(start.elapsed(clock)?);
     Ok(Outcome {
-        spent: nanos(start.elapsed(clock)?),
-        hits,
-        sum,
+        spent,
+        sum: count,
+        count,
     })
 }
 
-/// Measures the cache on keys of which few come often: as many steps untimed, and then the timed ones.
+/// The keys of the workloads, made before the clock starts.
+#[derive(Drop)]
+struct Lists {
+    warming: Vec<u64>,
+    ranked: Vec<u64>,
+    kept: Vec<u64>,
+    accessed: Vec<u64>,
+    filling: Vec<u64>,
+    evicting: Vec<u64>,
+}
+
+fn make_lists(alloc: Global, streams: &Streams) -> Result<Lists, AllocError> {
+    let few = Streams {
+        entries: KEPT,
+        seed: streams.seed,
+    };
+    let filling = Streams {
+        entries: FILLING,
+        seed: streams.seed,
+    };
+    Ok(Lists {
+        warming: streams.ranked(alloc, 0)?,
+        ranked: streams.ranked(alloc, streams.entries)?,
+        kept: few.inserted(alloc)?,
+        accessed: few.accessed(alloc)?,
+        filling: filling.inserted(alloc)?,
+        evicting: streams.missing(alloc)?,
+    })
+}
+
+/// Goes through the workloads once to warm up and then `runs` times, and prints a line for each.
 pub fn measure<R: Clock + Print>(
     rt: &R,
     alloc: Global,
-    name: &str,
+    peer: &str,
     runs: u64,
     streams: &Streams,
 ) -> io::Result<()> {
-    let first = streams.skewed(alloc, 0)?;
-    let second = streams.skewed(alloc, streams.entries)?;
-    let mut sum = 0u64;
+    let lists = make_lists(alloc, streams)?;
+    let steps = streams.entries;
     for run in 0..=runs {
-        let Ok(mut cache) = Owned::with_capacity(alloc, 0, MOST) else {
-            return Err(out_of_memory());
-        };
-        steps(rt, &mut cache, first.as_slice())?;
-        let outcome = steps(rt, &mut cache, second.as_slice())?;
-        sum = outcome.sum;
+        let mut cache = empty(alloc)?;
+        get_or_put_all(rt, &mut cache, lists.warming.as_slice())?;
+        let stepped = get_or_put_all(rt, &mut cache, lists.ranked.as_slice())?;
+        let mut cache = empty(alloc)?;
+        put_all(rt, &mut cache, lists.kept.as_slice())?;
+        let got = get_all(rt, &mut cache, lists.accessed.as_slice())?;
+        let mut cache = empty(alloc)?;
+        put_all(rt, &mut cache, lists.filling.as_slice())?;
+        let evicted = put_all(rt, &mut cache, lists.evicting.as_slice())?;
         if run > 0 {
-            line(rt, "cache_t1", name, outcome.spent, streams.entries)?;
-            let percent = outcome.hits.saturating_mul(100);
-            line(rt, "hitrate_t1", name, percent, streams.entries)?;
+            line(rt, "cache_t1", peer, stepped.spent, steps)?;
+            line(rt, "cache_get", peer, got.spent, KEPT)?;
+            line(rt, "cache_evict", peer, evicted.spent, steps)?;
+            line(
+                rt,
+                "hitrate_t1",
+                peer,
+                stepped.count.saturating_mul(100),
+                steps,
+            )?;
+        }
+        if run == runs {
+            check(rt, "cache_t1", peer, stepped.sum)?;
+            check(rt, "cache_get", peer, got.sum)?;
+            check(rt, "cache_evict", peer, evicted.sum)?;
         }
     }
-    check(rt, "cache_t1", name, sum)
+    Ok(())
 }

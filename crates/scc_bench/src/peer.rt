@@ -25,8 +25,7 @@ pub trait Peer: Drop {
     fn sum(&self) -> u64;
 }
 
-/// The error of refused memory.
-pub fn out_of_memory() -> io::Error {
+fn out_of_memory() -> io::Error {
     io::Error::from(io::ErrorKind::OutOfMemory)
 }
 

@@ -9,7 +9,7 @@ const MISSING: u64 = 2;
 
 const RANKED: u64 = 7;
 
-const RANKS: u64 = 500;
+const STEPS: u64 = 500;
 
 /// What all streams of one measurement share.
 #[derive(Clone, Copy, Drop)]
@@ -72,13 +72,14 @@ impl Streams {
         Ok(keys)
     }
 
-    /// As many keys from that step on, whose chance falls as one over their rank, up to a factor of two: each of 21 levels is as likely, and a level has twice the ranks of the one before.
-    pub fn skewed(&self, alloc: Global, from: u64) -> Result<Vec<u64>, AllocError> {
+    /// As many keys from that step on, by a law of Zipf: of 21 levels each is equally likely, and a level has twice as many keys as the one before it.
+    pub fn ranked(&self, alloc: Global, from: u64) -> Result<Vec<u64>, AllocError> {
         let mut keys = Vec::new(alloc);
-        for place in 0..self.entries {
-            let r = self.key(RANKS, from.wrapping_add(place));
-            let least = 1u64 << ((r >> 40) % 21);
-            keys.push(self.key(RANKED, least + (r & (least - 1))))?;
+        for step in 0..self.entries {
+            let drawn = self.key(STEPS, from.wrapping_add(step));
+            let width = 1u64 << ((drawn >> 40) % 21);
+            let rank = width.wrapping_add(drawn & width.wrapping_sub(1));
+            keys.push(self.key(RANKED, rank))?;
         }
         Ok(keys)
     }
