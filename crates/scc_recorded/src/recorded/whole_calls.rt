@@ -35,8 +35,7 @@ pub trait WholeCalls: Calls {
 }
 
 impl<K: Eq + Hash + Copy, V: Copy + PartialEq, H: BuildHasher> WholeCalls
-    for scc_map::hash_map::Owned<K, V, H>
-{
+    for scc_map::hash_map::Owned<K, V, H> {
     ghost use Rattle.std.specs.Prelude.{refl};
     ghost use Rattle.scc_recorded.specs.WholeLaws.{told_by, map_clears, map_counts};
     ghost use Rattle.scc_recorded.specs.declared.recorded.calls_as_values.MapCall.TheVariants.{Clear, Len};
@@ -93,8 +92,7 @@ impl<K: Eq + Hash + Copy, H: BuildHasher> WholeCalls for scc_set::hash_set::Owne
 }
 
 impl<K: Eq + Hash + Copy, V: Copy + PartialEq, H: BuildHasher> WholeCalls
-    for scc_index::hash_index::Owned<K, V, H>
-{
+    for scc_index::hash_index::Owned<K, V, H> {
     ghost use Rattle.std.specs.Prelude.{refl};
     ghost use Rattle.scc_recorded.specs.WholeLaws.{told_by, map_clears, map_counts};
     ghost use Rattle.scc_recorded.specs.declared.recorded.calls_as_values.IndexCall.TheVariants.{Clear, Len};
@@ -123,8 +121,7 @@ impl<K: Eq + Hash + Copy, V: Copy + PartialEq, H: BuildHasher> WholeCalls
 }
 
 impl<K: Eq + Hash + Copy, V: Copy + PartialEq, H: BuildHasher> WholeCalls
-    for scc_cache::hash_cache::Owned<K, V, H>
-{
+    for scc_cache::hash_cache::Owned<K, V, H> {
     ghost use Rattle.std.specs.Prelude.{refl};
     ghost use Rattle.scc_table.specs.Hashing.{hash_of};
     ghost use Rattle.scc_recorded.specs.CacheCalls.{number_by};
