@@ -1,5 +1,6 @@
 //! Recorded containers, the passes of those who call them, and what a finished run is.
 
+mod auditing;
 mod checks;
 mod closing;
 mod comparing;
