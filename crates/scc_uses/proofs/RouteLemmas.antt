@@ -1,5 +1,5 @@
 -- From what look-ups of a map find to routes.
-use Rattle.std.proofs.Common.{◌≡◌, ◌≤◌, ◌<◌, ℕ, Bool, true, false, cond, not, Option, None, Some, refl, sym, ap, subst, ◌∙◌, nat_eq, arith, inl, inr}
+use Rattle.std.proofs.Common.{◌≡◌, ◌≤◌, ◌<◌, ℕ, Bool, true, false, cond, not, Option, None, Some, refl, sym, ap, subst, ◌∙◌, nat_eq, arith}
 use Rattle.std.specs.Cmp.{nat_eq_equiv}
 use Rattle.std.specs.Option.{option_map}
 use Rattle.std.specs.declared.cmp.PartialEq as equality
@@ -11,8 +11,6 @@ use Rattle.scc_map.specs.declared.hash_map.held.HeldEntry.{HeldEntry}
 use Rattle.scc_map.specs.declared.hash_map.held.HeldVacant.{HeldVacant}
 use Rattle.scc_table.specs.declared.guard.Guard as guard
 use Rattle.scc_map.proofs.CallerLemmas.{finds-rearranged, finds-written, finds-put}
-use Rattle.scc_table.proofs.Lookups.{find-IsPermutation}
-use Rattle.scc_table.specs.Steps.{Rests}
 use Rattle.scc_table.specs.Contents.{Contents, entries}
 use Rattle.scc_table.specs.Pairs.{find, FindsInstead, IsUnique}
 use Rattle.scc_uses.specs.declared.routing.Route.{Route}
