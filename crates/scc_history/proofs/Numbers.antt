@@ -1,4 +1,4 @@
--- The order number of a call is its own stamp.
+-- A call stands in the stamp order by the stamp that it was given.
 use Rattle.std.proofs.Common.{◌≡◌, ℕ, zero, suc, ◌≤◌, List, [], ◌∷◌, drop, Some, arith}
 use Rattle.std.specs.Prelude.{slice_get}
 use Rattle.scc_recorded.specs.declared.recorded.steps.Step.{Step}

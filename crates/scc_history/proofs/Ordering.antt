@@ -1,4 +1,4 @@
--- The order by stamps, one place at a time.
+-- The stamp order grows by one place.
 use Rattle.std.proofs.Common.{◌≡◌, ℕ, zero, suc, ◌+◌, ◌-◌, ◌<◌, ◌≤◌, List, [], ◌∷◌, ◌++◌, length, map, drop, min, get_or, Option, Some, None, ◌⊎◌, inl, inr, refl, sym, ap, ◌∙◌, arith, add-one, append_assoc, length-set, replicate}
 use Rattle.std.specs.Prelude.{slice_get, slice_set, slice_index}
 use Rattle.std.specs.List.{AllPairs}
@@ -14,7 +14,7 @@ get_at [] i h = absurd (omega arith)
 get_at (x ∷ xs) zero h = refl
 get_at (x ∷ xs) (suc i) h = get_at xs i (omega arith)
 
--- how much is left
+-- the number of steps that are not done, of all lists together
 abbrev pub left : List ℕ → List ℕ → ℕ
 left [] ds = 0
 left (l ∷ ls) [] = 0
@@ -59,7 +59,7 @@ module _ (A R : Type 0) where
   least_end (x ∷ h) zero e = absurd (omega arith)
   least_end (x ∷ h) (suc j) e = least_end h j (omega arith)
 
--- the order so far, with what is done of each history
+-- places that are a beginning of the stamp order, beside how many steps of each history they take
 pub record Ordered {A R : Type 0} (hs : List (List (Step A R))) (done : List ℕ) (order : List (ℕ × ℕ)) : Type 0 where
   pub same : length done ≡ length hs
   pub within : (k : ℕ) → k < length hs → slice_index done k ≤ slice_index (map length hs) k
@@ -82,7 +82,7 @@ module _ (A R : Type 0) (hs : List (List (Step A R))) where
     rest = λ k h e a d f. absurd (omega arith);
   }
 
-  -- what comes before each next step
+  -- a place that comes before the next step of every history
   abbrev Entry : List ℕ → ℕ × ℕ → Type 0
   Entry done x = (k : ℕ) → k < length hs → slice_index done k < slice_index (map length hs) k → Comes hs x (k, slice_index done k)
 

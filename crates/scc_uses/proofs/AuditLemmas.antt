@@ -1,5 +1,5 @@
 -- Lists that agree one for one are equally long.
-use Rattle.std.proofs.Common.{◌≡◌, ℕ, zero, suc, List, [], ◌∷◌, length, Bool, refl, ap}
+use Rattle.std.proofs.Common.{◌≡◌, suc, List, [], ◌∷◌, length, Bool, refl, ap}
 use Rattle.std.specs.Prelude.{Result, Ok, Err, IfOk}
 use Rattle.scc_history.specs.declared.history.receipts.Receipt.{Receipt}
 use Rattle.scc_history.specs.Receipts.{Matches}

@@ -1,12 +1,18 @@
 //! What an auditor of recorded containers may rely on.
 ghost use Rattle.std.specs.Prelude.{◌≡◌, ℕ, ◌<◌, length, map, IfOk, OnOk, Some, slice_get};
 ghost use Rattle.scc_history.specs.Orders.{steps_at};
+ghost use Rattle.scc_recorder.specs.Setups.{request_of};
 ghost use Rattle.scc_history.specs.Receipts.{calls_of};
 
 use scc_history::history::{CallError, Log, Stripe};
-use scc_recorded::recorded::Calls;
-use scc_recorder::recorder::{Closed, Finished, Pass, Site, Unfinished};
-use std::sync::ledger::Ledger;
+use scc_map::hash_map::Owned;
+use scc_recorded::recorded::{Calls, MapCall, Reply};
+use scc_recorder::recorder::{Closed, Finished, Pass, Recorded, Setup, Site, Unfinished};
+use scc_table::Shared;
+use std::alloc::Global;
+use std::hash::BuildHasher;
+use std::sync::Wait;
+use std::sync::ledger::{Blank, Ledger};
 
 /// A call by the one, and a later call by the other, who was told of it: its stamp is greater.
 pub fn one_after_another<C: Calls>(
@@ -33,4 +39,28 @@ where
     ensures { IfOk result (λ f. (k : ℕ) (p : _) → slice_get passes.items k ≡ Some p → length p.log.receipts.items ≡ length (calls_of p.log.number (steps_at (map (λ h. h.items) f.histories.items) f.order.items))) }
 {
     closed.finish(passes)
+}
+
+/// One insertion into a map of two stripes.
+pub fn insert_once<H: BuildHasher + Drop, L: Ledger, M: Site<Shared<H>>, R: Wait>(
+    rt: &R,
+    alloc: Global,
+    hasher: Shared<H>,
+    receipts: Blank,
+    records: Blank,
+) -> Option<Reply<u64, u64>>
+    requires receipts { (receipts.name ≡ L.name) × (receipts.parts ≡ L.parts) × (receipts.parts ≡ 1) }
+    requires records { (records.name ≡ M.name) × (records.parts ≡ M.parts) × (records.parts ≡ 2) }
+    requires site { (M.chosen ≡ Some (request_of 0 0 hasher 2)) × (M.all ≡ 2) }
+{
+    let setup = Setup {
+        capacity: 0,
+        maximum: 0,
+        hasher,
+    };
+    let (recorded, mut passes) = Recorded::<Owned<u64, u64, Shared<H>>, L, M>::open(
+        alloc, setup, 2, 1, receipts, records,
+    ).ok()?;
+    let mut pass = passes.pop()?;
+    recorded.call(rt, &mut pass, MapCall::Insert(1, 10)).ok()
 }
