@@ -2,8 +2,8 @@
 ghost use Rattle.std.specs.Prelude.{◌≡◌, Some};
 ghost use Rattle.scc_recorder.specs.Setups.{request_of};
 
-use crate::same::Same;
 use scc_map::hash_map::Owned;
+use scc_play::same::Same;
 use scc_recorded::recorded::{MapCall, Reply, Step};
 use scc_recorder::recorder::{FinishError, Finished, Pass, Recorded, Setup, Site};
 use scc_table::Shared;
