@@ -5,4 +5,5 @@ pub mod Items
 pub mod Numbers
 pub mod Places
 pub mod Telling
+pub mod Unique
 pub mod Waiting

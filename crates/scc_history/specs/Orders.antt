@@ -50,6 +50,10 @@ Comes histories p q = (order_number histories p < order_number histories q) ⊎ 
 abbrev pub IsStampOrder : {A R : Type 0} → List (List (Step A R)) → List (ℕ × ℕ) → Type 0
 IsStampOrder histories places = IsMerge histories places × AllPairs (Comes histories) places
 
+-- a stamp order, and any other is the same
+abbrev pub IsOnlyStampOrder : {A R : Type 0} → List (List (Step A R)) → List (ℕ × ℕ) → Type 0
+IsOnlyStampOrder histories places = IsStampOrder histories places × ((others : List (ℕ × ℕ)) → IsStampOrder histories others → others ≡ places)
+
 -- where both places have calls, their stamps don't fall, and equal ones stand by stripe
 abbrev pub StampsComeAt : {A R : Type 0} → Option (Step A R) → Option (Step A R) → ℕ → ℕ → Type 0
 StampsComeAt (Some (Call s p c r)) (Some (Call t q d u)) i j = (s < t) ⊎ ((s ≡ t) × (i ≤ j))

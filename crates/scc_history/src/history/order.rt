@@ -1,7 +1,7 @@
 //! The steps of all stripes in the order of their stamps.
 ghost use Rattle.std.specs.Prelude.{◌≡◌, ℕ, ◌+◌, ◌<◌, ◌≤◌, List, length, map, drop, IfOk, OnOk};
 ghost use Rattle.scc_recorded.specs.declared.recorded.steps.Step.{Step};
-ghost use Rattle.scc_history.specs.Orders.{IsStampOrder, least};
+ghost use Rattle.scc_history.specs.Orders.{IsOnlyStampOrder, least};
 ghost use Rattle.scc_history.specs.Stamps.{Rises};
 ghost use Rattle.scc_history.specs.Waiting.{NextJoins, Waiting};
 ghost use Rattle.std.specs.BinaryHeap.{IsHeap, heap_items};
@@ -78,12 +78,12 @@ fn first_steps<H: Histories>(
     Ok(next)
 }
 
-/// The places of all steps in the order of their stamps. It takes time by the number of steps times the logarithm of the number of stripes.
+/// The places of all steps in the order of their stamps, of which there is only one. It takes time by the number of steps times the logarithm of the number of stripes.
 pub fn stamp_order<H: Histories>(
     alloc: Global,
     stripes: &[H],
 ) -> Result<Vec<(usize, usize)>, AllocError>
-    ensures { IfOk result (λ v. IsStampOrder (map H.history stripes.now) v.items) }
+    ensures { IfOk result (λ v. IsOnlyStampOrder (map H.history stripes.now) v.items) }
 {
     let mut done: Vec<usize> = vec![in alloc; 0; stripes.len()]?;
     let mut next = first_steps(alloc, stripes)?;

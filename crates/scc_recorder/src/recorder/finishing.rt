@@ -6,7 +6,7 @@ ghost use Rattle.scc_recorded.specs.Made.{IsMadeFor};
 ghost use Rattle.scc_recorded.specs.Parts.{part_of};
 ghost use Rattle.scc_recorded.specs.declared.recorded.fixed.Request.{Request};
 ghost use Rattle.scc_recorded.specs.declared.recorded.fixed.Setting.{Setting};
-ghost use Rattle.scc_history.specs.Orders.{IsMerge, IsStampOrder, StampsRise, steps_at};
+ghost use Rattle.scc_history.specs.Orders.{IsMerge, IsOnlyStampOrder, StampsRise, steps_at};
 ghost use Rattle.scc_history.specs.Receipts.{AreAll, calls_of};
 ghost use Rattle.scc_recorder.specs.Closing.{AllMatch, FirstDisagrees};
 
@@ -53,14 +53,14 @@ where
         ensures routed { IfOk result (λ f. CallsRouted C.key_of (part_of C.Hasher.BuildHasher C.Hasher.Hasher.Hasher C.Key.Hash.hash_input self.hasher (length f.histories.items)) 0 (map (λ h. h.items) f.histories.items)) }
         ensures merges { IfOk result (λ f. (g : Setting C.Hasher) → AllByRecursion (λ c. C.setting c ≡ g) f.parts.items → (places : List (ℕ × ℕ)) → IsMerge (map (λ h. h.items) f.histories.items) places
             → ∥ Run (C.whole_moves g (length f.histories.items)) (C.whole_resizes g (length f.histories.items)) (C.whole (map C.empty f.opened.items)) (steps_at (map (λ h. h.items) f.histories.items) places) (C.whole (map C.state f.parts.items)) ∥₁) }
-        ensures order { IfOk result (λ f. IsStampOrder (map (λ h. h.items) f.histories.items) f.order.items) }
+        ensures order { IfOk result (λ f. IsOnlyStampOrder (map (λ h. h.items) f.histories.items) f.order.items) }
         ensures stamps { IfOk result (λ f. StampsRise (map (λ h. h.items) f.histories.items) f.order.items) }
         ensures complete { IfOk result (λ f. AreAll self.passes (map (λ p. p.log.number) passes.items)) }
         ensures receipts { IfOk result (λ f. AllMatch C.Call.eq C.Reply.eq (λ p. p.log.number) (λ p. p.log.receipts.items) passes.items (λ n. calls_of n (steps_at (map (λ h. h.items) f.histories.items) f.order.items))) }
         ensures back { IfErr result (λ u. (u.recorded ≡ self) × (u.passes ≡ passes)) }
         ensures missing { IfErr result (λ u. u.cause ≡ FinishError.Missing → ¬ AreAll self.passes (map (λ p. p.log.number) passes.items)) }
         ensures misrouted { IfErr result (λ u. (i j : ℕ) → u.cause ≡ FinishError.Misrouted i j → FirstMisrouted C.key_of (part_of C.Hasher.BuildHasher C.Hasher.Hasher.Hasher C.Key.Hash.hash_input self.hasher (vec_len self.stripes)) (map (λ s. s.stripe.history.items) self.stripes.items) i j) }
-        ensures disagrees { IfErr result (λ u. (n k : ℕ) → u.cause ≡ FinishError.Disagrees n k → ∥ ((order : List (ℕ × ℕ)) × IsStampOrder (map (λ s. s.stripe.history.items) self.stripes.items) order
+        ensures disagrees { IfErr result (λ u. (n k : ℕ) → u.cause ≡ FinishError.Disagrees n k → ∥ ((order : List (ℕ × ℕ)) × IsOnlyStampOrder (map (λ s. s.stripe.history.items) self.stripes.items) order
             × FirstDisagrees C.Call.eq C.Reply.eq (λ p. p.log.number) (λ p. p.log.receipts.items) passes.items (λ m. calls_of m (steps_at (map (λ s. s.stripe.history.items) self.stripes.items) order)) n k) ∥₁) }
     {
         let order = match self.order_of(passes.as_slice()) {
@@ -106,11 +106,11 @@ where
     fn order_of(&self, passes: &[Pass<C, L>]) -> Result<Vec<(usize, usize)>, FinishError>
         ensures complete { IfOk result (λ v. AreAll self.now.passes (map (λ p. p.log.number) passes.now)) }
         ensures routed { IfOk result (λ v. CallsRouted C.key_of (part_of C.Hasher.BuildHasher C.Hasher.Hasher.Hasher C.Key.Hash.hash_input self.now.hasher (vec_len self.now.stripes)) 0 (map (λ s. s.stripe.history.items) self.now.stripes.items)) }
-        ensures order { IfOk result (λ v. IsStampOrder (map (λ s. s.stripe.history.items) self.now.stripes.items) v.items) }
+        ensures order { IfOk result (λ v. IsOnlyStampOrder (map (λ s. s.stripe.history.items) self.now.stripes.items) v.items) }
         ensures receipts { IfOk result (λ v. AllMatch C.Call.eq C.Reply.eq (λ p. p.log.number) (λ p. p.log.receipts.items) passes.now (λ n. calls_of n (steps_at (map (λ s. s.stripe.history.items) self.now.stripes.items) v.items))) }
         ensures missing { result ≡ Err FinishError.Missing → ¬ AreAll self.now.passes (map (λ p. p.log.number) passes.now) }
         ensures misrouted { (i j : ℕ) → result ≡ Err (FinishError.Misrouted i j) → FirstMisrouted C.key_of (part_of C.Hasher.BuildHasher C.Hasher.Hasher.Hasher C.Key.Hash.hash_input self.now.hasher (vec_len self.now.stripes)) (map (λ s. s.stripe.history.items) self.now.stripes.items) i j }
-        ensures disagrees { (n k : ℕ) → result ≡ Err (FinishError.Disagrees n k) → ∥ ((order : List (ℕ × ℕ)) × IsStampOrder (map (λ s. s.stripe.history.items) self.now.stripes.items) order
+        ensures disagrees { (n k : ℕ) → result ≡ Err (FinishError.Disagrees n k) → ∥ ((order : List (ℕ × ℕ)) × IsOnlyStampOrder (map (λ s. s.stripe.history.items) self.now.stripes.items) order
             × FirstDisagrees C.Call.eq C.Reply.eq (λ p. p.log.number) (λ p. p.log.receipts.items) passes.now (λ m. calls_of m (steps_at (map (λ s. s.stripe.history.items) self.now.stripes.items) order)) n k) ∥₁ }
     {
         let Ok(complete) = are_all(self.alloc, passes, self.passes) else {

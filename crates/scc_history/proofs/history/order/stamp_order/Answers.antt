@@ -3,6 +3,7 @@ use Rattle.std.specs.Prelude.{slice_index, slice_set}
 use Rattle.std.specs.BinaryHeap.{heap_items}
 use Rattle.std.proofs.lemmas.List.{length-map, nil_from_length, get_or_read, get_or-set_same}
 use Rattle.scc_history.proofs.Ordering.{left_falls, ordered_none, ordered_more, ordered_all, zeros_of, history_at, length_at}
+use Rattle.scc_history.proofs.Unique.{only_order}
 use Rattle.scc_history.proofs.Waiting.{here, least_here, taken, advanced, all_done}
 use Rattle.scc_history.proofs.history.order.stamp_order.Goals as goal
 
@@ -72,4 +73,5 @@ returns g c =
     let none = c.in_default.ensures.none in
     let e : heap_items c.loop-i.next ≡ [] = nil_from_length (heap_items c.loop-i.next) (omega (arith, none, c.loop-i.next.data.ok.0)) in
     let w = rw e at c.loop-i.invariant.waiting in
-    ordered_all _ _ hs c.loop-i.done.items c.loop-i.order.items c.loop-i.invariant.ordered (λ k h. all_done (λ x. x.0) hs (length stripes) c.loop-i.done.items w k (omega (arith, n)))
+    let o = ordered_all _ _ hs c.loop-i.done.items c.loop-i.order.items c.loop-i.invariant.ordered (λ k h. all_done (λ x. x.0) hs (length stripes) c.loop-i.done.items w k (omega (arith, n))) in
+    (o, λ others p. only_order _ _ hs others c.loop-i.order.items p o)

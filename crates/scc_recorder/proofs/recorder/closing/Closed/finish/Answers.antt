@@ -39,7 +39,7 @@ pub returns-clause-stamps : goal.returns-clause-stamps
 returns-clause-stamps g c =
     let self = c.args.self in
     let hs = map (λ s. s.stripe.history.items) self.stripes.items in
-    rw c.move_out.ensures.histories (stamps_rise hs (rising_at (λ s. s.stripe.history.items) (λ s. (s.stripe.last, s.stripe.rising, let h = s.stripe.short in omega arith)) self.stripes.items) c.in-Ok.order.items c.in-Ok.ensures.order.1)
+    rw c.move_out.ensures.histories (stamps_rise hs (rising_at (λ s. s.stripe.history.items) (λ s. (s.stripe.last, s.stripe.rising, let h = s.stripe.short in omega arith)) self.stripes.items) c.in-Ok.order.items c.in-Ok.ensures.order.0.1)
 
 pub returns-clause-complete : goal.returns-clause-complete
 returns-clause-complete g c = rw c.as_slice.ensures.value at c.in-Ok.ensures.complete

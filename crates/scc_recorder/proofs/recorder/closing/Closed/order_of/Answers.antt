@@ -10,7 +10,7 @@ pub records_by_pass-requires : goal.records_by_pass-requires
 records_by_pass-requires g c =
     let hs = map (λ s. s.stripe.history.items) c.args.self.now.stripes.items in
     let order = rw c.as_slice-2.ensures.value at c.in-Ok-stamp_order.ensures in
-    rw (c.as_slice-3.ensures.value, c.as_slice-4.ensures.value) (stands hs c.in-Ok-stamp_order.order.items order.0)
+    rw (c.as_slice-3.ensures.value, c.as_slice-4.ensures.value) (stands hs c.in-Ok-stamp_order.order.items order.0.0)
 
 pub first_disagreement-requires : goal.first_disagreement-requires
 first_disagreement-requires g c =
