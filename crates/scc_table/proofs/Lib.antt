@@ -6,6 +6,7 @@ pub mod Finding
 pub mod Inserts
 pub mod Growth
 pub mod KeyWrites
+pub mod Latest
 pub mod Lookups
 pub mod Making
 pub mod Mapped

@@ -204,7 +204,7 @@ where
         Some(first)
     }
 
-    /// Moves the entry to the end of the list of its bucket, the one of the hash.
+    /// Moves the entry to the end of the list of its bucket, the one of the hash, unless it stands there.
     #[inline(always)]
     pub fn touch(&mut self, bucket: usize, slot: usize, hash: u64)
         requires within { bucket < bucket_count self.old }
@@ -216,6 +216,10 @@ where
         ensures listed { IsListed (λ e. key_hash H.BuildHasher H.Hasher.Hasher E.Key.hash_input self.new (E.key_of e)) self.new }
         ensures unique { IsUniqueBy E.Key.eq E.key_of self.new }
     {
+        if self.list_len(bucket) - slot == 1 {
+            self.keep_lists();
+            return;
+        }
         let entry = self.take_in(Place { bucket, slot });
         self.push_last(bucket, hash, entry);
     }

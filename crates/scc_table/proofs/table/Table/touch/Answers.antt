@@ -1,6 +1,7 @@
-use Rattle.std.proofs.Common.{◌≡◌, ◌++◌, [], ◌∷◌, subst}
+use Rattle.std.proofs.Common.{◌≡◌, ◌++◌, [], ◌∷◌, subst, arith}
 use Rattle.scc_table.specs.Bounded.{HasList}
 use Rattle.scc_table.proofs.Bounds.{has-list-of, has-list-then}
+use Rattle.scc_table.proofs.Latest.{stands-last}
 use Rattle.scc_table.proofs.table.Table.touch.Goals as goal
 
 pub push_last-requires-clause-absent : goal.push_last-requires-clause-absent
@@ -17,3 +18,6 @@ returns-clause-list g c =
       c.take_in-entry.ensures.listed,
       subst (λ es. HasList c.args.self.now c.args.bucket (es ++ c.take_in-entry.result ∷ []) c.push_last.new.self) here (has-list-then c.args.self.now c.take_in-entry.new.self c.args.bucket _ taken c.push_last.new.self _ c.push_last.ensures.list),
     )
+
+pub returns-then-list_len-slot-eq1-clause-list : goal.returns-then-list_len-slot-eq1-clause-list
+returns-then-list_len-slot-eq1-clause-list g c = stands-last c.args.self.now c.args.bucket c.args.slot c.requires.within c.requires.bounded (omega (arith, c.requires.slot, c.list_len.ensures, c.if-list_len-slot-eq1.true))
