@@ -1,3 +1,4 @@
+pub use Rattle.scc_map.specs.ClosureSteps
 pub use Rattle.scc_map.specs.Closures
 pub use Rattle.scc_map.specs.Entries
 pub use Rattle.scc_map.specs.Lends

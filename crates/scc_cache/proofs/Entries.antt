@@ -10,7 +10,7 @@ use Rattle.scc_table.specs.Pairs.{with_pair_key, with_pair_value}
 use Rattle.scc_table.specs.Placed.{at-get, entry_of}
 use Rattle.scc_table.specs.Places.{IsPlace}
 use Rattle.scc_table.specs.Writes.{with_write_at}
-use Rattle.scc_table.specs.declared.guard.Guard as guard
+use Rattle.scc_common.specs.declared.guard.Guard as guard
 use Rattle.scc_table.specs.declared.place.Place.{Place}
 use Rattle.scc_table.proofs.KeyWrites.{get-write_at}
 use Rattle.scc_table.proofs.Placed.{place-prop}

@@ -16,7 +16,7 @@ use Rattle.scc_cache.specs.Lends.{with_value_at}
 use Rattle.scc_table.specs.Places.{IsPlace, index_of}
 use Rattle.scc_table.specs.Writes.{with_write_at}
 use Rattle.scc_table.specs.declared.place.Place.{Place}
-use Rattle.scc_map.proofs.Visits.{Visited, visited}
+use Rattle.scc_walks.proofs.Visits.{Visited, visited}
 
 not_equal : (a b : ℕ) → a ≢ b → (a == b) ≡ false
 not_equal a b h = search rules

@@ -8,8 +8,8 @@ use Rattle.scc_table.specs.Contents.{Contents, entries, bucket_count, list_of, l
 use Rattle.scc_table.specs.Places.{IsPlace}
 use Rattle.scc_table.specs.Routing.{bucket_number}
 use Rattle.scc_table.specs.declared.place.Place.{Place}
-use Rattle.scc_table.specs.declared.errors.InsertError.{InsertError}
-use Rattle.scc_table.specs.declared.errors.InsertError.TheVariants.{Exists, Memory}
+use Rattle.scc_common.specs.declared.errors.InsertError.{InsertError}
+use Rattle.scc_common.specs.declared.errors.InsertError.TheVariants.{Exists, Memory}
 use Rattle.scc_cache.specs.Caches.{Cached}
 use Rattle.scc_cache.specs.ListSteps.{IsMissing, IsThere, PutsPair, TakesOut}
 

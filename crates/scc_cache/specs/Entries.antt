@@ -1,6 +1,6 @@
 -- What the contracts of an entry cite. An entry holds its cache by a guard: a `&mut` in the owned form.
 pub use Rattle.scc_cache.specs.declared.hash_cache.held.HeldPlace.TheVariants.{Occupied, Vacant}
-pub use Rattle.scc_table.specs.declared.errors.InsertError.TheVariants.{Exists, Memory}
+pub use Rattle.scc_common.specs.declared.errors.InsertError.TheVariants.{Exists, Memory}
 use Rattle.std.specs.Prelude.{◌≡◌, Bool, [], Option, None, Result, ⊤}
 use Rattle.std.specs.Borrow.{Fml, RattleType, MutBor, Lends, RestsIfErr, RestsIfNone}
 use Rattle.std.specs.HashMap.Lent.{HashMembers}
@@ -16,8 +16,8 @@ use Rattle.scc_table.specs.Pairs.{with_pair_value}
 use Rattle.scc_table.specs.Placed.{entry_of}
 use Rattle.scc_table.specs.Places.{IsPlace}
 use Rattle.scc_table.specs.Writes.{IsPlace-with_write_at}
-use Rattle.scc_table.specs.declared.errors.InsertError.{InsertError}
-use Rattle.scc_table.specs.declared.guard.Guard as guard
+use Rattle.scc_common.specs.declared.errors.InsertError.{InsertError}
+use Rattle.scc_common.specs.declared.guard.Guard as guard
 use Rattle.scc_cache.specs.CacheSteps.{Changes, IsAbsent, IsPresentAt, PutsNew, number_in}
 use Rattle.scc_cache.specs.Caches.{Cached}
 use Rattle.scc_cache.specs.Lends.{cache_row, with_value_at}

@@ -3,8 +3,8 @@ pub use Rattle.scc_table.specs.Contents
 pub use Rattle.scc_table.specs.Pairs
 pub use Rattle.scc_table.specs.Pour
 pub use Rattle.scc_table.specs.Sizes
-pub use Rattle.scc_map.specs.Equality
-pub use Rattle.scc_map.specs.MapWalks
+pub use Rattle.scc_walks.specs.Equality
+pub use Rattle.scc_walks.specs.PairWalks
 pub mod CacheSteps
 pub mod CacheWalks
 pub mod Caches

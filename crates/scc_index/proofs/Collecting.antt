@@ -6,8 +6,8 @@ use Rattle.std.specs.Map.{keys_of}
 use Rattle.std.specs.Option.{option_or, IsSome}
 use Rattle.scc_table.specs.Contents.{Contents, entries, settings_of}
 use Rattle.scc_table.specs.Pairs.{find, IsUnique}
-use Rattle.scc_table.specs.declared.errors.InsertError.{InsertError}
-use Rattle.scc_table.specs.declared.errors.InsertError.TheVariants.{Exists, Memory}
+use Rattle.scc_common.specs.declared.errors.InsertError.{InsertError}
+use Rattle.scc_common.specs.declared.errors.InsertError.TheVariants.{Exists, Memory}
 use Rattle.scc_index.specs.Collections.{FindsFirst, InsertsAll, IsAnswered}
 use Rattle.scc_index.specs.IndexSteps.{Inserts}
 use Rattle.scc_index.proofs.AfterSteps.{finds-inserted, finds-unchanged, find-equal}

@@ -12,7 +12,7 @@ use Rattle.scc_table.specs.ShelfWrites.{put_whole}
 use Rattle.scc_table.specs.Placed.{front_of, back_of}
 use Rattle.scc_table.specs.Places.{IsPlace, IsFoundAt, IsInsertedAt, index_of}
 use Rattle.scc_table.specs.Writes.{with_write_at, IsPlace-with_write_at}
-use Rattle.scc_table.specs.declared.guard.Guard as guard
+use Rattle.scc_common.specs.declared.guard.Guard as guard
 use Rattle.scc_table.proofs.KeyWrites.{place-found}
 use Rattle.scc_table.proofs.PairSplits.{set_value-at, set_key-split, apart-at, without-at}
 use Rattle.scc_table.proofs.Placed.{place-prop, entry_of-is, splits-there, written-there, put-there}

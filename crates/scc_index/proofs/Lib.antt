@@ -3,8 +3,6 @@ pub mod Clones
 pub mod Collecting
 pub mod Entries
 pub mod EntrySteps
-pub mod IndexWalks
 pub mod Snapshots
 pub mod Updates
 pub mod Visits
-pub mod WholeMaps

@@ -11,12 +11,8 @@ use Rattle.scc_table.proofs.Placed.{take-more, drop-here, take-removed, drop-rem
 use Rattle.scc_table.proofs.Standing.{index-below}
 use Rattle.scc_table.proofs.WalkLemmas.{turn-first, turn-others}
 use Rattle.scc_index.specs.IndexWalks.{Retains, kept, removed}
-use Rattle.scc_index.proofs.IndexWalks.{reached}
-
-pub shorter : {X : Type 0} (es : List X) (i : ℕ) → i < length es → suc (length (remove es i)) ≡ length es
-shorter [] i h = absurd (omega arith)
-shorter (x ∷ es) zero h = refl
-shorter (x ∷ es) (suc i) h = ap suc (shorter es i (omega arith))
+use Rattle.scc_walks.proofs.Reached.{reached}
+use Rattle.scc_walks.proofs.Visits.{shorter}
 
 module _ {K V S : Type 0} (m : Contents (K × V) S) (p : Place) (q : K × V) (within : IsPlace m p) (got : slice_get (entries m) (index_of m p) ≡ Some q) where
   here : drop (index_of m p) (entries m) ≡ q ∷ drop (suc (index_of m p)) (entries m)

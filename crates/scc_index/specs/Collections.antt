@@ -5,8 +5,8 @@ use Rattle.std.specs.Option.{IsSomeAnd}
 use Rattle.scc_table.specs.Contents.{Contents, entries, bucket_count, settings_of}
 use Rattle.scc_table.specs.Pairs.{find}
 use Rattle.scc_table.specs.Sizes.{IsArraySize}
-use Rattle.scc_table.specs.declared.errors.InsertError.{InsertError}
-use Rattle.scc_table.specs.declared.errors.InsertError.TheVariants.{Exists, Memory}
+use Rattle.scc_common.specs.declared.errors.InsertError.{InsertError}
+use Rattle.scc_common.specs.declared.errors.InsertError.TheVariants.{Exists, Memory}
 use Rattle.scc_index.specs.IndexSteps.{Inserts}
 
 -- not refused for want of memory

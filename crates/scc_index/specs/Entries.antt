@@ -1,6 +1,6 @@
 -- What the contracts of an entry cite. An entry holds its map by a guard: a `&mut` in the owned form.
 pub use Rattle.scc_index.specs.declared.hash_index.held.HeldPlace.TheVariants.{Occupied, Vacant}
-pub use Rattle.scc_table.specs.declared.errors.InsertError.TheVariants.{Exists, Memory}
+pub use Rattle.scc_common.specs.declared.errors.InsertError.TheVariants.{Exists, Memory}
 use Rattle.std.specs.Prelude.{◌≡◌, ℕ, Bool, true, List, ◌∷◌, ◌++◌, Option, None, Some, Result, ⊤}
 use Rattle.std.specs.Borrow.{Fml, RattleType, Bor, MutBor, RestsIfErr, RestsIfNone}
 use Rattle.std.specs.HashMap.Lent.{HashMembers}
@@ -14,8 +14,8 @@ use Rattle.scc_table.specs.Contents.{Contents, entries}
 use Rattle.scc_table.specs.Pairs.{find, without, FindsInstead}
 use Rattle.scc_table.specs.Placed.{entry_of, front_of, back_of, IsWrittenAt, IsPutAt}
 use Rattle.scc_table.specs.Steps.{FirstArrayWhenDue, GrowsFor, IsUnchanged}
-use Rattle.scc_table.specs.declared.errors.InsertError.{InsertError}
-use Rattle.scc_table.specs.declared.guard.Guard as guard
+use Rattle.scc_common.specs.declared.errors.InsertError.{InsertError}
+use Rattle.scc_common.specs.declared.guard.Guard as guard
 use Rattle.scc_index.specs.Lends.{index_row}
 use Rattle.scc_index.specs.declared.hash_index.held.HeldEntry.{HeldEntry}
 use Rattle.scc_index.specs.declared.hash_index.held.HeldPlace.{HeldPlace}

@@ -10,7 +10,7 @@ use Rattle.scc_table.specs.Contents.{Contents}
 use Rattle.scc_table.specs.Pairs.{IsUnique}
 use Rattle.scc_table.specs.Placed.{SplitsAt, IsNextAt, IsNextPastRemovedAt}
 use Rattle.scc_table.specs.Steps.{HoldsExactly}
-use Rattle.scc_table.specs.declared.guard.Guard as guard
+use Rattle.scc_common.specs.declared.guard.Guard as guard
 use Rattle.scc_index.specs.Entries.{occupied_front, occupied_back, Borrowed}
 use Rattle.scc_index.specs.Lends.{index_row}
 use Rattle.scc_index.specs.declared.hash_index.held.HeldEntry.{HeldEntry}

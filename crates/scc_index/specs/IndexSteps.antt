@@ -3,8 +3,8 @@ use Rattle.std.specs.Prelude.{◌≡◌, Bool, true, false, ◌∷◌, None, Res
 use Rattle.scc_table.specs.Contents.{Contents, entries}
 use Rattle.scc_table.specs.Pairs.{find, without}
 use Rattle.scc_table.specs.Steps.{Holds, IsUnchanged}
-use Rattle.scc_table.specs.declared.errors.InsertError.{InsertError}
-use Rattle.scc_table.specs.declared.errors.InsertError.TheVariants.{Exists, Memory}
+use Rattle.scc_common.specs.declared.errors.InsertError.{InsertError}
+use Rattle.scc_common.specs.declared.errors.InsertError.TheVariants.{Exists, Memory}
 
 module _ {K V S : Type 0} (eq : K → K → Bool) where
   -- an insertion of the pair: a new key is added; a key that is there stays as it is, and the supplied pair comes back;

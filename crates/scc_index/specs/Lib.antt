@@ -9,11 +9,13 @@ pub use Rattle.scc_table.specs.Standing
 pub use Rattle.scc_table.specs.Steps
 pub use Rattle.scc_table.specs.Walks
 pub use Rattle.scc_table.specs.Writes
-pub mod Closures
+pub use Rattle.scc_walks.specs.Closures
+pub use Rattle.scc_walks.specs.Equality
+pub use Rattle.scc_walks.specs.PairWalks
+pub mod ClosureSteps
 pub mod Collections
 pub mod Entries
 pub mod EntrySteps
-pub mod Equality
 pub mod IndexSizes
 pub mod IndexSteps
 pub mod IndexWalks

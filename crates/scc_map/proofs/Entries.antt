@@ -12,7 +12,7 @@ use Rattle.scc_table.specs.Pairs.{with_pair_value}
 use Rattle.scc_table.specs.Placed.{entry_of, front_of, back_of}
 use Rattle.scc_table.specs.Places.{IsPlace, IsFoundAt, IsInsertedAt, index_of}
 use Rattle.scc_table.specs.Writes.{with_write_at}
-use Rattle.scc_table.specs.declared.guard.Guard as guard
+use Rattle.scc_common.specs.declared.guard.Guard as guard
 use Rattle.scc_table.proofs.KeyWrites.{place-found}
 use Rattle.scc_table.proofs.PairSplits.{set_value-at, without-at}
 use Rattle.scc_table.proofs.PairWrites.{IsPlaceOf}

@@ -10,11 +10,11 @@ use Rattle.std.proofs.lemmas.Map.Keys.{IsDistinct-head, IsDistinct-tail}
 use Rattle.scc_table.specs.Contents.{Contents, entries}
 use Rattle.scc_table.specs.Pairs.{find, IsUnique}
 use Rattle.scc_table.specs.Steps.{Holds}
-use Rattle.scc_table.specs.declared.errors.WalkError.{WalkError}
-use Rattle.scc_table.specs.declared.verdict.Verdict.{Verdict}
-use Rattle.scc_table.specs.declared.verdict.Verdict.TheVariants.{Keep, Take, KeepStop, TakeStop}
-use Rattle.scc_map.specs.MapWalks.{Retains, Takes}
-use Rattle.scc_map.specs.MapWalks as walks
+use Rattle.scc_common.specs.declared.errors.WalkError.{WalkError}
+use Rattle.scc_common.specs.declared.verdict.Verdict.{Verdict}
+use Rattle.scc_common.specs.declared.verdict.Verdict.TheVariants.{Keep, Take, KeepStop, TakeStop}
+use Rattle.scc_walks.specs.PairWalks.{Retains, Takes}
+use Rattle.scc_walks.specs.PairWalks as walks
 use Rattle.scc_map.proofs.CallerLemmas.{by_answer, cond-true, cond-false}
 use Rattle.scc_table.proofs.Lookups.{along, apart-none, find-IsPermutation, distinct-IsPermutation}
 

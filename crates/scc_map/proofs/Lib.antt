@@ -4,8 +4,4 @@ pub mod CallerLemmas
 pub mod Entries
 pub mod EntrySteps
 pub mod Filtering
-pub mod MapWalks
-pub mod Takings
 pub mod Visiting
-pub mod Visits
-pub mod WholeMaps

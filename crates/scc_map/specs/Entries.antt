@@ -1,6 +1,6 @@
 -- What the contracts of an entry cite. An entry holds its map by a guard: a `&mut` in the owned form.
 pub use Rattle.scc_map.specs.declared.hash_map.held.HeldPlace.TheVariants.{Occupied, Vacant}
-pub use Rattle.scc_table.specs.declared.errors.InsertError.TheVariants.{Exists, Memory}
+pub use Rattle.scc_common.specs.declared.errors.InsertError.TheVariants.{Exists, Memory}
 use Rattle.std.specs.Prelude.{◌≡◌, ℕ, Bool, true, List, ◌∷◌, ◌++◌, Option, None, Some, Result, ⊤}
 use Rattle.std.specs.Borrow.{Fml, RattleType, MutBor, Lends, RestsIfErr, RestsIfNone}
 use Rattle.std.specs.HashMap.Lent.{HashMembers}
@@ -18,8 +18,8 @@ use Rattle.scc_table.specs.Placed.{entry_of, front_of, back_of, IsWrittenAt, IsP
 use Rattle.scc_table.specs.Places.{IsPlace}
 use Rattle.scc_table.specs.Steps.{FirstArrayWhenDue, GrowsFor, HoldsExactly, Rests}
 use Rattle.scc_table.specs.Writes.{with_write_at, IsPlace-with_write_at}
-use Rattle.scc_table.specs.declared.errors.InsertError.{InsertError}
-use Rattle.scc_table.specs.declared.guard.Guard as guard
+use Rattle.scc_common.specs.declared.errors.InsertError.{InsertError}
+use Rattle.scc_common.specs.declared.guard.Guard as guard
 use Rattle.scc_map.specs.Lends.{map_row}
 use Rattle.scc_map.specs.contracts.hash_map.held.HeldEntry.{the_row}
 use Rattle.scc_map.specs.declared.hash_map.held.HeldEntry.{HeldEntry}

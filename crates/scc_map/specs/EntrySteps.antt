@@ -10,7 +10,7 @@ use Rattle.scc_table.specs.Contents.{Contents}
 use Rattle.scc_table.specs.Pairs.{IsUnique}
 use Rattle.scc_table.specs.Placed.{SplitsAt, IsNextAt, IsNextPastRemovedAt}
 use Rattle.scc_table.specs.Steps.{HoldsExactly}
-use Rattle.scc_table.specs.declared.guard.Guard as guard
+use Rattle.scc_common.specs.declared.guard.Guard as guard
 use Rattle.scc_map.specs.Entries.{occupied_front, occupied_back, Borrowed}
 use Rattle.scc_map.specs.Lends.{map_row}
 use Rattle.scc_map.specs.declared.hash_map.held.HeldEntry.{HeldEntry}

@@ -9,13 +9,14 @@ pub use Rattle.scc_table.specs.Standing
 pub use Rattle.scc_table.specs.Steps
 pub use Rattle.scc_table.specs.Walks
 pub use Rattle.scc_table.specs.Writes
-pub mod Closures
+pub use Rattle.scc_walks.specs.Closures
+pub use Rattle.scc_walks.specs.Equality
+pub use Rattle.scc_walks.specs.PairWalks
+pub mod ClosureSteps
 pub mod Entries
 pub mod Collections
 pub mod EntrySteps
-pub mod Equality
 pub mod Lends
 pub mod MapSizes
 pub mod MapSteps
-pub mod MapWalks
 pub mod Sinks

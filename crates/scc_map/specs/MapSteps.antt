@@ -4,8 +4,8 @@ use Rattle.scc_table.specs.Contents.{Contents, entries}
 use Rattle.scc_table.specs.PairSteps.{AddsPair, HandsBack, SetsValue, LacksKey, TakesPair}
 use Rattle.scc_table.specs.Pairs.{find, HasRoom}
 use Rattle.scc_table.specs.Steps.{Holds, HoldsExactly, Rests}
-use Rattle.scc_table.specs.declared.errors.InsertError.{InsertError}
-use Rattle.scc_table.specs.declared.errors.InsertError.TheVariants.{Exists, Memory}
+use Rattle.scc_common.specs.declared.errors.InsertError.{InsertError}
+use Rattle.scc_common.specs.declared.errors.InsertError.TheVariants.{Exists, Memory}
 
 module _ {K V S : Type 0} (eq : K → K → Bool) (hash : K → ℕ) where
   -- an insertion of the pair: a new key is added; a key that is there stays as it is, and the supplied pair comes back;

@@ -1,9 +1,9 @@
 -- A walk over a set that takes every key.
 use Rattle.std.proofs.Common.{◌≡◌, Bool, true, false, List, ◌∷◌, Result, refl, ap}
 use Rattle.std.specs.Result.{is_err}
-use Rattle.scc_table.specs.declared.errors.WalkError.{WalkError}
-use Rattle.scc_table.specs.declared.verdict.Verdict.{Verdict}
-use Rattle.scc_table.specs.declared.verdict.Verdict.TheVariants.{Keep, Take, KeepStop, TakeStop}
+use Rattle.scc_common.specs.declared.errors.WalkError.{WalkError}
+use Rattle.scc_common.specs.declared.verdict.Verdict.{Verdict}
+use Rattle.scc_common.specs.declared.verdict.Verdict.TheVariants.{Keep, Take, KeepStop, TakeStop}
 use Rattle.scc_set.specs.SetWalks.{Takes}
 use Rattle.scc_set.specs.SetWalks as walks
 

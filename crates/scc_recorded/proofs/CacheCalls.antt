@@ -21,8 +21,8 @@ use Rattle.scc_recorded.specs.declared.recorded.calls_as_values.CacheCall.TheVar
 use Rattle.scc_recorded.specs.declared.recorded.fixed.Setting.{Setting}
 use Rattle.scc_recorded.specs.declared.recorded.replies.Reply.{Reply}
 use Rattle.scc_recorded.specs.declared.recorded.replies.Reply.TheVariants.{Evicted, Exists, Old, Pair, Value, Has, Cleared, Count}
-use Rattle.scc_table.specs.declared.errors.InsertError.TheVariants.{Memory}
-use Rattle.scc_table.specs.declared.errors.InsertError.TheVariants as error
+use Rattle.scc_common.specs.declared.errors.InsertError.TheVariants.{Memory}
+use Rattle.scc_common.specs.declared.errors.InsertError.TheVariants as error
 
 -- the same state is left where nothing happened
 pub stays-same : {X : Type 0} (R : List X → ℕ → List X → Type 0) (s t : List X) → t ≡ s → Stays length R s t

@@ -7,7 +7,7 @@ use Rattle.std.specs.declared.cmp.PartialEq as equality
 use Rattle.std.specs.declared.hash.Hash as hash
 use Rattle.std.specs.declared.hash.Hasher as hasher
 use Rattle.std.specs.declared.hash.BuildHasher as builder
-use Rattle.scc_table.specs.declared.guard.Guard as guard
+use Rattle.scc_common.specs.declared.guard.Guard as guard
 use Rattle.scc_table.specs.Contents.{Contents, entries, bucket_count}
 use Rattle.scc_table.specs.Pairs.{find, without}
 use Rattle.scc_table.specs.Steps.{Holds}

@@ -1,7 +1,7 @@
 // What every test here stands on: the one refusal of a run, and maps in which all keys share a bucket.
 use scc::MakeError;
 use scc::hash_map::Owned;
-use scc_vectors::zero::Zero;
+use scc_fixtures::zero::Zero;
 use std::alloc::AllocError;
 use std::io::Print;
 use std::process::Abort;

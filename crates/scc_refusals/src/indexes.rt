@@ -3,7 +3,7 @@ use crate::fixtures::Refusal;
 use scc::hash_index::Owned;
 use scc::hash_index::owned::{Entry, Iter};
 use scc::{InsertError, MakeError};
-use scc_vectors::zero::Zero;
+use scc_fixtures::zero::Zero;
 use std::io::Print;
 use std::process::Abort;
 use std::test::Fail;

@@ -3,7 +3,7 @@ use crate::fixtures::{Map, Refusal, expect_keys_below, made};
 use scc::InsertError;
 use scc::hash_map::Owned;
 use scc::hash_map::owned::Entry;
-use scc_vectors::zero::Zero;
+use scc_fixtures::zero::Zero;
 use std::io::Print;
 use std::process::Abort;
 use std::test::Fail;

@@ -3,7 +3,7 @@ use crate::fixtures::{Map, Refusal, expect_keys_below};
 use crate::insertions::{WAYS, Way, add, expect_added};
 use scc::InsertError;
 use scc::hash_map::Owned;
-use scc_vectors::zero::Zero;
+use scc_fixtures::zero::Zero;
 use std::process::Abort;
 
 const GREATEST: usize = 9_223_372_036_854_775_808;

@@ -3,7 +3,7 @@ use crate::fixtures::{Refusal, expect_keys_below, made};
 use crate::insertions::{Way, expect_added};
 use scc::hash_map::Owned;
 use scc::recorded::{Calls, MapCall, Refused, Reply, run};
-use scc_vectors::zero::Zero;
+use scc_fixtures::zero::Zero;
 use std::test::Fail;
 
 #[test]

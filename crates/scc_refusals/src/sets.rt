@@ -2,7 +2,7 @@
 use crate::fixtures::Refusal;
 use scc::hash_set::Owned;
 use scc::{KeyError, MakeError, Verdict, WalkError};
-use scc_vectors::zero::Zero;
+use scc_fixtures::zero::Zero;
 use std::io::Print;
 use std::process::Abort;
 use std::test::Fail;

@@ -13,7 +13,7 @@ use Rattle.scc_table.specs.Steps.{Holds, HoldsExactly}
 use Rattle.scc_table.specs.Walks.{CalledOn}
 use Rattle.scc_table.specs.declared.place.Place.{Place}
 use Rattle.scc_table.proofs.Mapped.{entries-mapped, length-mapped, index_of-mapped, IsPlace-mapped, StandsAt-mapped, Holds-mapped, HoldsExactly-mapped}
-use Rattle.scc_map.specs.MapWalks as writes
+use Rattle.scc_walks.specs.PairWalks as writes
 use Rattle.scc_set.specs.Keys.{of_map}
 use Rattle.scc_set.specs.SetWalks.{PassesNone, PassesAt}
 use Rattle.scc_set.proofs.Walks.{PassesNone-keys, PassesAt-keys}

@@ -18,12 +18,12 @@ use Rattle.scc_table.specs.Sizes.{IsSmaller}
 use Rattle.scc_table.specs.Steps.{Holds, HoldsExactly, IsUnchanged, Rests, Grows, FirstArrayWhenDue, GrowsWhenDue, ShrinksWhenDue, ReachesMinimumWhenDue}
 use Rattle.scc_table.specs.Pairs.{find as find_pair, without as without_pair, FindsInstead as FindsPairInstead, HasRoom as HasRoomForPair, IsUnique as IsUniqueMap}
 use Rattle.scc_table.proofs.Mapped.{entries-mapped, bucket_count-mapped, settings_of-mapped, refused_of-mapped, pending_of-mapped, length-mapped, HoldsExactly-mapped, IsUnchanged-mapped, Holds-mapped, Rests-mapped, Grows-mapped, FirstArrayWhenDue-mapped, ShrinksWhenDue-mapped, ReachesMinimumWhenDue-mapped, Reserves-mapped, Releases-mapped, HasRoomBy-mapped, HasRoomBy-from_mapped, GrowsWhenDue-mapped}
-use Rattle.scc_table.specs.declared.errors.InsertError.{InsertError}
-use Rattle.scc_table.specs.declared.errors.InsertError.TheVariants.{Exists, Memory}
+use Rattle.scc_common.specs.declared.errors.InsertError.{InsertError}
+use Rattle.scc_common.specs.declared.errors.InsertError.TheVariants.{Exists, Memory}
 use Rattle.scc_map.specs.MapSizes.{ReservesOrRefuses, ReleasesOrRefuses}
 use Rattle.scc_map.specs.MapSteps as pairs
-use Rattle.scc_map.specs.Closures as closures
-use Rattle.scc_map.specs.Closures.{AnswersAt}
+use Rattle.scc_walks.specs.Closures as closures
+use Rattle.scc_walks.specs.Closures.{AnswersAt}
 use Rattle.scc_set.specs.Keys.{find, without, with_key, of_map, FindsInstead, IsUnique, HasRoom}
 use Rattle.scc_set.specs.SetSteps.{Inserts, Removes, Reads, RemovedIf, RemovesIf, key_answer}
 

@@ -10,11 +10,11 @@ use Rattle.std.proofs.lemmas.List.Sorted.{IsPermutation-map}
 use Rattle.scc_table.specs.Contents.{Contents, entries}
 use Rattle.scc_table.specs.Walks.{HoldsInTurn, CalledOn, TakesOn}
 use Rattle.scc_table.specs.Walks as pairs
-use Rattle.scc_table.specs.declared.errors.WalkError.{WalkError}
-use Rattle.scc_table.specs.declared.verdict.Verdict.{Verdict}
+use Rattle.scc_common.specs.declared.errors.WalkError.{WalkError}
+use Rattle.scc_common.specs.declared.verdict.Verdict.{Verdict}
 use Rattle.scc_table.proofs.Mapped.{entries-mapped}
-use Rattle.scc_map.specs.MapWalks.{CalledToWrite, TakesToWrite, CallableToWrite}
-use Rattle.scc_map.specs.MapWalks as writes
+use Rattle.scc_walks.specs.PairWalks.{CalledToWrite, TakesToWrite, CallableToWrite}
+use Rattle.scc_walks.specs.PairWalks as writes
 use Rattle.scc_map.specs.Sinks.{with_units}
 use Rattle.scc_set.specs.Keys.{of_map}
 use Rattle.scc_set.specs.SetWalks.{CallableWhile, Walks, walked, stopped, went_on, Declines, declined_none, declined, PassesNone, PassesAt, Retains, retained, stayed, went, Takes, ended, refused, kept, took, kept_last, took_last}

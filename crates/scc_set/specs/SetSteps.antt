@@ -4,10 +4,10 @@ use Rattle.std.specs.Borrow.{Bor}
 use Rattle.std.specs.Fn.{Once, FnOnceReturnsAt}
 use Rattle.scc_table.specs.Contents.{Contents, entries}
 use Rattle.scc_table.specs.Steps.{Holds, HoldsExactly, IsUnchanged, Rests}
-use Rattle.scc_table.specs.declared.errors.InsertError.{InsertError}
-use Rattle.scc_table.specs.declared.errors.InsertError.TheVariants.{Exists as PairExists, Memory as PairMemory}
-use Rattle.scc_table.specs.declared.errors.KeyError.{KeyError}
-use Rattle.scc_table.specs.declared.errors.KeyError.TheVariants.{Exists, Memory}
+use Rattle.scc_common.specs.declared.errors.InsertError.{InsertError}
+use Rattle.scc_common.specs.declared.errors.InsertError.TheVariants.{Exists as PairExists, Memory as PairMemory}
+use Rattle.scc_common.specs.declared.errors.KeyError.{KeyError}
+use Rattle.scc_common.specs.declared.errors.KeyError.TheVariants.{Exists, Memory}
 use Rattle.scc_set.specs.Keys.{find, without, with_key, HasRoom}
 
 -- the answer of a set, where the map behind it answers r

@@ -1,28 +1,19 @@
-//! The table of the hash containers: an array of buckets of 32 tagged slots with an overflow list each, found by the bits of a hash. Also what all four containers share: error types, verdicts and reservations.
+//! The table of the hash containers: an array of buckets of 32 tagged slots with an overflow list each, found by the bits of a hash. It names the bucket's items, and what all containers share, again.
 #![tactic(auto)]
 
-pub mod errors;
-pub mod guard;
 pub mod pairs;
 pub mod place;
 mod pour;
-pub mod reservation;
 pub mod route;
-pub mod shared;
 pub mod sizes;
 pub mod table;
 mod tally;
-pub mod verdict;
-pub mod version;
 pub mod versions;
 pub mod walks;
 
-pub use errors::{InsertError, KeyError, MakeError, WalkError};
-pub use guard::Guard;
 pub use place::Place;
-pub use reservation::Reservation;
 pub use scc_bucket::{Bucket, Keyed, Made, Valued, bucket, keyed, made, tags, valued};
-pub use shared::{Share, Shared};
+pub use scc_common::{Guard, InsertError, KeyError, MakeError, Reservation, Share, Shared};
+pub use scc_common::{SharedVersion, Verdict, Version, WalkError};
+pub use scc_common::{errors, guard, reservation, shared, verdict, version};
 pub use table::Table;
-pub use verdict::Verdict;
-pub use version::{SharedVersion, Version};

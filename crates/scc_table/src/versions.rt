@@ -7,8 +7,8 @@ ghost use Rattle.scc_table.specs.Places.{IsPlace, index_of};
 
 use crate::place::Place;
 use crate::table::Table;
-use crate::version::{SharedVersion, Version};
 use scc_bucket::Bucket;
+use scc_common::{SharedVersion, Version};
 use std::hash::{BuildHasher, Hash};
 
 /// Calls `f` on the pairs of the versions in turn, until its first false. The answer is false where it stopped.

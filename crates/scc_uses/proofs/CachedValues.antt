@@ -5,8 +5,8 @@ use Rattle.std.proofs.lemmas.Bool.{eqb-true}
 use Rattle.std.proofs.lemmas.List.{nil_from_length}
 use Rattle.scc_table.specs.Bounded.{GrowsBelow, makes, has_room, is_full, DoublesBelow, stays, denied, doubles, IsResized}
 use Rattle.scc_table.specs.Contents.{Contents, entries, bucket_count, list_of, lists_of}
-use Rattle.scc_table.specs.declared.errors.InsertError.{InsertError}
-use Rattle.scc_table.specs.declared.errors.InsertError.TheVariants.{Exists, Memory}
+use Rattle.scc_common.specs.declared.errors.InsertError.{InsertError}
+use Rattle.scc_common.specs.declared.errors.InsertError.TheVariants.{Exists, Memory}
 use Rattle.scc_cache.specs.CacheSteps.{Puts, PutsNew, number_in}
 use Rattle.scc_cache.specs.Caches.{Cached}
 use Rattle.scc_cache.specs.ListSteps.{PutsPair, Refreshes, list_for}

@@ -11,7 +11,7 @@ use Rattle.scc_table.specs.Pairs.{find}
 use Rattle.scc_map.specs.Entries.{occupied_pair, IsEntryOf}
 use Rattle.scc_map.specs.declared.hash_map.held.HeldPlace.TheVariants.{Occupied, Vacant}
 use Rattle.scc_map.specs.declared.hash_map.held.HeldPlace.{HeldPlace}
-use Rattle.scc_table.specs.declared.guard.Guard as guard
+use Rattle.scc_common.specs.declared.guard.Guard as guard
 use Rattle.scc_map.proofs.CallerLemmas.{ModifiedOr}
 use Rattle.scc_uses.specs.Counts.{one_more}
 use borrow.Author.Tests.{eqb-true}

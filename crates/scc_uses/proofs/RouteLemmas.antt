@@ -9,7 +9,7 @@ use Rattle.std.specs.declared.hash.BuildHasher as builder
 use Rattle.scc_map.specs.Entries.{RestsRefused, occupied_pair, IsOccupiedAt, IsVacantAt, IsWritten, IsInserted}
 use Rattle.scc_map.specs.declared.hash_map.held.HeldEntry.{HeldEntry}
 use Rattle.scc_map.specs.declared.hash_map.held.HeldVacant.{HeldVacant}
-use Rattle.scc_table.specs.declared.guard.Guard as guard
+use Rattle.scc_common.specs.declared.guard.Guard as guard
 use Rattle.scc_map.proofs.CallerLemmas.{finds-rearranged, finds-written, finds-put}
 use Rattle.scc_table.specs.Contents.{Contents, entries}
 use Rattle.scc_table.specs.Pairs.{find, FindsInstead, IsUnique}

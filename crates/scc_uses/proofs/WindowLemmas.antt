@@ -11,9 +11,10 @@ use Rattle.std.proofs.lemmas.List.Sorted.{IsPermutation-trans, IsPermutation-app
 use Rattle.scc_table.specs.Contents.{Contents, entries}
 use Rattle.scc_table.specs.Pairs.{find, FindsInstead, IsUnique}
 use Rattle.scc_table.specs.Steps.{Holds}
-use Rattle.scc_table.specs.declared.errors.InsertError.{InsertError}
-use Rattle.scc_table.specs.declared.errors.InsertError.TheVariants.{Exists, Memory}
-use Rattle.scc_map.specs.Closures.{UpdatesAt, WritesAt}
+use Rattle.scc_common.specs.declared.errors.InsertError.{InsertError}
+use Rattle.scc_common.specs.declared.errors.InsertError.TheVariants.{Exists, Memory}
+use Rattle.scc_map.specs.ClosureSteps.{UpdatesAt}
+use Rattle.scc_walks.specs.Closures.{WritesAt}
 use Rattle.scc_map.specs.MapSteps.{Inserts}
 use Rattle.scc_map.proofs.CallerLemmas.{finds-set_value, finds-rearranged, finds-unchanged}
 use Rattle.scc_uses.specs.declared.requests.Window.{Window}

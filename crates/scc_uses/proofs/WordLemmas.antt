@@ -6,8 +6,8 @@ use Rattle.std.specs.Option.{option_map}
 use Rattle.std.specs.Result.{is_err, OnOk}
 use Rattle.scc_table.specs.Contents.{Contents, entries}
 use Rattle.scc_table.specs.Pairs.{find, FindsInstead, IsUnique}
-use Rattle.scc_table.specs.declared.errors.InsertError.{InsertError}
-use Rattle.scc_table.specs.declared.errors.InsertError.TheVariants.{Exists, Memory}
+use Rattle.scc_common.specs.declared.errors.InsertError.{InsertError}
+use Rattle.scc_common.specs.declared.errors.InsertError.TheVariants.{Exists, Memory}
 use Rattle.scc_map.specs.MapSteps.{Inserts}
 use Rattle.scc_map.proofs.CallerLemmas.{by_answer, cond-true, cond-false, finds-rearranged, finds-unchanged}
 use Rattle.scc_uses.specs.Interning.{IsNumberOf, IsInverse, number_in}

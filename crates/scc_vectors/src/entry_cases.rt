@@ -1,5 +1,5 @@
 // What entries do beside the worked cases: defaults, steps, removals.
-use crate::zero::Zero;
+use scc_fixtures::zero::Zero;
 use scc::hash_map::Owned;
 use scc::hash_map::owned::Entry;
 use std::process::Abort;

@@ -1,6 +1,6 @@
 // Worked cases of the owned index.
-use crate::maybe_equal::MaybeEqual;
-use crate::zero::Zero;
+use scc_fixtures::maybe_equal::MaybeEqual;
+use scc_fixtures::zero::Zero;
 use scc::hash_index::Owned;
 use scc::hash_index::owned::{Entry, Iter};
 use scc::recorded::{Calls, IndexCall, Reply, run};

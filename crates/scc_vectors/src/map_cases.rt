@@ -1,6 +1,6 @@
 // Worked cases of the owned map.
-use crate::maybe_equal::MaybeEqual;
-use crate::zero::Zero;
+use scc_fixtures::maybe_equal::MaybeEqual;
+use scc_fixtures::zero::Zero;
 use scc::hash_map::Owned;
 use scc::hash_map::owned::ReplaceResult;
 use scc::{InsertError, MakeError};

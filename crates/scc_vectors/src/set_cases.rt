@@ -1,6 +1,6 @@
 // Worked cases of the owned set.
-use crate::maybe_equal::MaybeEqual;
-use crate::zero::Zero;
+use scc_fixtures::maybe_equal::MaybeEqual;
+use scc_fixtures::zero::Zero;
 use scc::hash_set::Owned;
 use scc::recorded::{Calls, Reply, SetCall, run};
 use scc::{KeyError, Verdict};

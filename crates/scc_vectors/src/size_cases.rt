@@ -1,5 +1,5 @@
 // Worked cases of the size of the owned map, and of whole maps.
-use crate::zero::Zero;
+use scc_fixtures::zero::Zero;
 use scc::hash_map::Owned;
 use scc_play::same::Same;
 use std::process::Abort;

@@ -1,5 +1,5 @@
 // Worked cases of the walks of the owned map.
-use crate::zero::Zero;
+use scc_fixtures::zero::Zero;
 use scc::Verdict;
 use scc::hash_map::Owned;
 use std::process::Abort;

@@ -1,5 +1,5 @@
 // How often each walk calls its closure, stopped and not.
-use crate::zero::Zero;
+use scc_fixtures::zero::Zero;
 use scc::Verdict;
 use scc::hash_map::Owned;
 use std::process::Abort;

@@ -12,7 +12,8 @@ ghost use Rattle.scc_table.specs.Places.{IsPlace, IsInsertedAt, index_of};
 ghost use Rattle.scc_table.specs.Steps.{FirstArrayWhenDue, Grows, GrowsFor, GrowsWhenDue, Holds, IsUnchanged, RaisesWhenDue, ShrinksWhenDue};
 ghost use Rattle.scc_table.specs.ShelfWrites.{put_whole};
 ghost use Rattle.scc_table.specs.Writes.{with_write_at};
-ghost use Rattle.scc_index.specs.Closures.{Reads, RemovesIf};
+ghost use Rattle.scc_index.specs.ClosureSteps.{RemovesIf};
+ghost use Rattle.scc_walks.specs.Closures.{Reads};
 ghost use Rattle.scc_index.specs.IndexSteps.{Inserts, Removes};
 
 mod collecting;

@@ -11,7 +11,8 @@ ghost use Rattle.scc_table.specs.Walks.{CalledOn, CallableWhile, Walks};
 ghost use Rattle.scc_table.specs.Places.{IsPlace, IsInsertedAt, index_of};
 ghost use Rattle.scc_table.specs.Steps.{FirstArrayWhenDue, Grows, GrowsFor, GrowsWhenDue, Holds, Rests, ShrinksWhenDue};
 ghost use Rattle.scc_table.specs.Writes.{with_write_at};
-ghost use Rattle.scc_map.specs.Closures.{Reads, UpdatesAt, WritesAt, RemovesIf};
+ghost use Rattle.scc_map.specs.ClosureSteps.{UpdatesAt, RemovesIf};
+ghost use Rattle.scc_walks.specs.Closures.{Reads, WritesAt};
 ghost use Rattle.scc_map.specs.Lends.{lends_value};
 ghost use Rattle.scc_map.specs.MapSteps.{Inserts, Removes, Upserts};
 

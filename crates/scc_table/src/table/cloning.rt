@@ -5,9 +5,9 @@ ghost use Rattle.scc_table.specs.Contents.{entries, bucket_count, settings_of};
 
 use super::Table;
 use super::making::fresh_buckets;
-use crate::errors::MakeError;
 use crate::route::bucket_index;
 use scc_bucket::Keyed;
+use scc_common::MakeError;
 use std::hash::{BuildHasher, Hash};
 
 impl<E: Keyed, H: BuildHasher> Table<E, H>

@@ -9,10 +9,9 @@ ghost use Rattle.scc_table.specs.Steps.{IsUnchanged};
 ghost use Rattle.scc_table.specs.Tables.{AllEmpty};
 
 use super::Table;
-use crate::errors::MakeError;
-use crate::shared::Shared;
 use crate::sizes::buckets_for;
 use scc_bucket::{Bucket, Keyed};
+use scc_common::{MakeError, Shared};
 use std::alloc::{AllocError, Global};
 use std::hash::{BuildHasher, Hash};
 use std::sync::Arc;

@@ -7,7 +7,7 @@ ghost use Rattle.scc_table.specs.Pairs.{IsUnique};
 ghost use Rattle.scc_table.specs.Places.{IsPlace, index_of};
 ghost use Rattle.scc_table.specs.Standing.{StandsAt};
 ghost use Rattle.scc_table.specs.Steps.{HoldsExactly};
-ghost use Rattle.scc_map.specs.MapWalks.{CallableToWrite, CalledToWrite, GoesOn, Takes};
+ghost use Rattle.scc_walks.specs.PairWalks.{CallableToWrite, CalledToWrite, GoesOn, Takes};
 ghost use Rattle.scc_cache.specs.CacheWalks.{GoesOver, LeavesPairs, ShrinksIfTaken};
 ghost use Rattle.scc_cache.specs.Caches.{Cached, IsCacheState};
 

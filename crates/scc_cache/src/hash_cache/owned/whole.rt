@@ -10,7 +10,7 @@ use super::Owned;
 use std::hash::{BuildHasher, Hash};
 
 impl<K: Eq + Hash, V: PartialEq, H: BuildHasher> PartialEq for Owned<K, V, H> {
-    ghost use Rattle.scc_map.specs.Equality.{entries_eq-symm, entries_eq-trans};
+    ghost use Rattle.scc_walks.specs.Equality.{entries_eq-symm, entries_eq-trans};
 
     ghost eq = { λ m n. entries_eq K.eq (λ p q. V.eq p.1 q.1) (entries m.contents) (entries n.contents) };
 
@@ -25,7 +25,7 @@ impl<K: Eq + Hash, V: PartialEq, H: BuildHasher> PartialEq for Owned<K, V, H> {
 impl<K: Eq + Hash, V: Eq, H: BuildHasher> Eq for Owned<K, V, H> {
     ghost use Rattle.std.specs.Cmp;
     ghost use Rattle.std.specs.Cmp.{partial_equiv_from_equiv};
-    ghost use Rattle.scc_map.specs.Equality.{entries_eq-symm, entries_eq-trans, entries_eq-refl};
+    ghost use Rattle.scc_walks.specs.Equality.{entries_eq-symm, entries_eq-trans, entries_eq-refl};
 
     ghost laws = { let v = V.Eq.laws in Cmp.equiv (record { symm = λ m n. entries_eq-symm K.eq (λ p q. V.eq p.1 q.1) (λ p q. v.symm p.1 q.1) (entries m.contents) (entries n.contents); trans = λ l m n. entries_eq-trans K.eq (λ p q. V.eq p.1 q.1) K.Eq.laws (λ p q r. (partial_equiv_from_equiv v).trans p.1 q.1 r.1) (entries l.contents) (entries m.contents) (entries n.contents) }) (λ m. entries_eq-refl K.eq (λ p q. V.eq p.1 q.1) (λ p. v.refl p.1) (entries m.contents)) };
 }

@@ -5,7 +5,7 @@ ghost use Rattle.scc_table.specs.Contents.{entries, key_hash, refused_of};
 ghost use Rattle.scc_table.specs.Pairs.{IsUnique};
 ghost use Rattle.scc_table.specs.Places.{IsPlace, index_of};
 ghost use Rattle.scc_table.specs.Steps.{HoldsExactly};
-ghost use Rattle.scc_map.specs.MapWalks.{CallableToWrite, CalledToWrite, Retains, TakesToWrite};
+ghost use Rattle.scc_walks.specs.PairWalks.{CallableToWrite, CalledToWrite, Retains, TakesToWrite};
 ghost use Rattle.scc_cache.specs.CacheSteps.{ShrinksTo};
 ghost use Rattle.scc_cache.specs.CacheWalks.{GoesOver, LeavesPairs};
 ghost use Rattle.scc_cache.specs.Caches.{Cached, IsCacheState};

@@ -8,7 +8,8 @@ ghost use Rattle.scc_table.specs.Sizes.{IsSmaller};
 ghost use Rattle.scc_table.specs.Standing.{StandsAt};
 ghost use Rattle.scc_table.specs.Steps.{Holds, HoldsExactly, ShrinksWhenDue};
 ghost use Rattle.scc_table.specs.Walks.{CalledOn, CallableWhile};
-ghost use Rattle.scc_index.specs.IndexWalks.{CallableOnAll, PassesNone, PassesFirst, Retains};
+ghost use Rattle.scc_index.specs.IndexWalks.{CallableOnAll, Retains};
+ghost use Rattle.scc_walks.specs.PairWalks.{PassesNone, PassesFirst};
 
 use super::Owned;
 use scc_table::Place;

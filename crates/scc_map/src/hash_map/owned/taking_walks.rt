@@ -8,7 +8,7 @@ ghost use Rattle.scc_table.specs.Places.{IsPlace, index_of};
 ghost use Rattle.scc_table.specs.Sizes.{IsSmaller};
 ghost use Rattle.scc_table.specs.Standing.{StandsAt};
 ghost use Rattle.scc_table.specs.Steps.{Holds, HoldsExactly, ShrinksWhenDue};
-ghost use Rattle.scc_map.specs.MapWalks.{CallableToWrite, CalledToWrite, GoesOn, Takes};
+ghost use Rattle.scc_walks.specs.PairWalks.{CallableToWrite, CalledToWrite, GoesOn, Takes};
 
 use super::Owned;
 use crate::hash_map::sink::Sink;

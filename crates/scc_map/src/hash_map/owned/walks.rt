@@ -6,7 +6,7 @@ ghost use Rattle.scc_table.specs.Places.{IsPlace, index_of};
 ghost use Rattle.scc_table.specs.Standing.{StandsAt};
 ghost use Rattle.scc_table.specs.Steps.{HoldsExactly};
 ghost use Rattle.scc_table.specs.Walks.{CalledOn, CallableWhile};
-ghost use Rattle.scc_map.specs.MapWalks.{PassesNone, PassesFirst};
+ghost use Rattle.scc_walks.specs.PairWalks.{PassesNone, PassesFirst};
 
 use super::Owned;
 use scc_table::Place;

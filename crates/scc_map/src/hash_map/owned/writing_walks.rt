@@ -7,7 +7,7 @@ ghost use Rattle.scc_table.specs.Places.{IsPlace, index_of};
 ghost use Rattle.scc_table.specs.Sizes.{IsSmaller};
 ghost use Rattle.scc_table.specs.Steps.{Holds, HoldsExactly, ShrinksWhenDue};
 ghost use Rattle.scc_table.specs.Writes.{with_write_at};
-ghost use Rattle.scc_map.specs.MapWalks.{CallableToWrite, CalledToWrite, Retains, TakesToWrite};
+ghost use Rattle.scc_walks.specs.PairWalks.{CallableToWrite, CalledToWrite, Retains, TakesToWrite};
 
 use super::Owned;
 use scc_table::Place;

@@ -6,7 +6,7 @@ ghost use Rattle.scc_table.specs.Pairs.{IsUnique};
 ghost use Rattle.scc_table.specs.Walks.{CalledOn, CallableWhile};
 ghost use Rattle.scc_index.specs.Entries.{held_index, occupied_pair, occupied_front, occupied_back, rests_if_none};
 ghost use Rattle.scc_index.specs.EntrySteps.{StandsIn, IsNext, IsNextPastRemoved, rests_removed};
-ghost use Rattle.scc_index.specs.IndexWalks.{PassesAt, PassesNone};
+ghost use Rattle.scc_walks.specs.PairWalks.{PassesAt, PassesNone};
 
 use super::OccupiedEntry;
 use crate::hash_index::held::HeldEntry;

@@ -3,7 +3,7 @@ use Rattle.std.proofs.lemmas.List.Sorted.{IsPermutation-refl}
 use Rattle.scc_table.specs.Bounded.{ShrinksBounded}
 use Rattle.scc_table.specs.Contents.{entries}
 use Rattle.scc_table.specs.Hashing.{hash_of}
-use Rattle.scc_map.proofs.Takings.{takes-count}
+use Rattle.scc_walks.proofs.Takings.{takes-count}
 use Rattle.scc_cache.proofs.Caching.{shrunk-within, state-after}
 use Rattle.scc_cache.proofs.Walked.{goes-over, leaves-pairs, listed-same, shrinks-taken, rests-untaken}
 use Rattle.scc_cache.proofs.hash_cache.owned.Owned.iter_mut_sync.Goals as goal

@@ -1,11 +1,11 @@
 use Rattle.std.proofs.Common.{◌≡◌, ◌∙◌, ◌++◌, ◌∷◌, [], sym, ap, refl, length, drop, take, subst, append-nil, append_assoc, arith, true, Ok}
 use Rattle.scc_table.specs.Contents.{entries}
-use Rattle.scc_map.specs.MapWalks.{CalledToWrite, Takes, ended}
+use Rattle.scc_walks.specs.PairWalks.{CalledToWrite, Takes, ended}
 use Rattle.scc_table.proofs.Placed.{drop-all}
-use Rattle.scc_map.proofs.MapWalks.{reached-first, take-all}
-use Rattle.scc_map.proofs.Takings.{took-pair, takes-refused, takes-kept, takes-kept_last, takes-took, takes-took_last}
+use Rattle.scc_walks.proofs.Reached.{reached-first, take-all}
+use Rattle.scc_walks.proofs.Takings.{took-pair, takes-refused, takes-kept, takes-kept_last, takes-took, takes-took_last}
 use Rattle.scc_cache.proofs.Walked.{visits}
-use Rattle.scc_map.proofs.Visits.{kept-next, kept-nearer, took-next, took-nearer, turn-here, turn-kept, turn-removed}
+use Rattle.scc_walks.proofs.Visits.{kept-next, kept-nearer, took-next, took-nearer, turn-here, turn-kept, turn-removed}
 use Rattle.scc_cache.proofs.hash_cache.owned.Owned.take_walk.Goals as goal
 
 pub loop-at-init : goal.loop-at-init

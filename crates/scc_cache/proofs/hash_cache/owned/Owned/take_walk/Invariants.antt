@@ -2,9 +2,9 @@ use Rattle.std.proofs.Common.{◌≡◌, ◌≤◌, ◌-◌, ◌++◌, List, Boo
 use Rattle.std.specs.Vec.{vec_capacity}
 use Rattle.scc_table.specs.Contents.{entries, bucket_count, settings_of, refused_of}
 use Rattle.scc_table.specs.Places.{IsPlace}
-use Rattle.scc_table.specs.declared.errors.WalkError.{WalkError}
-use Rattle.scc_map.specs.MapWalks.{CallableToWrite, CalledToWrite, GoesOn, Takes}
-use Rattle.scc_map.proofs.MapWalks.{reached}
+use Rattle.scc_common.specs.declared.errors.WalkError.{WalkError}
+use Rattle.scc_walks.specs.PairWalks.{CallableToWrite, CalledToWrite, GoesOn, Takes}
+use Rattle.scc_walks.proofs.Reached.{reached}
 use Rattle.scc_cache.proofs.hash_cache.owned.Owned.take_walk.Given as goal
 
 abbrev pub invariant-loop-at : goal.invariant-loop-at

@@ -1,6 +1,6 @@
 use Rattle.std.proofs.Common.{refl}
 use Rattle.scc_index.proofs.EntrySteps.{stands-in}
-use Rattle.scc_index.proofs.IndexWalks.{passes-at}
+use Rattle.scc_walks.proofs.Reached.{passes-at}
 use Rattle.scc_index.proofs.hash_index.owned.Owned.any_sync.Goals as goal
 
 pub returns-in-Some : goal.returns-in-Some

@@ -4,7 +4,7 @@ use Rattle.std.proofs.lemmas.List.{map-append}
 use Rattle.scc_table.specs.Contents.{entries}
 use Rattle.scc_table.specs.Places.{index_of}
 use Rattle.scc_table.proofs.Placed.{take-more}
-use Rattle.scc_index.proofs.IndexWalks.{reached-at, take-all}
+use Rattle.scc_walks.proofs.Reached.{reached-at, take-all}
 use Rattle.scc_index.proofs.Snapshots.{turned-back}
 use Rattle.scc_index.proofs.hash_index.owned.Owned.iter.Goals as goal
 

@@ -2,7 +2,7 @@ use Rattle.std.proofs.Common.{◌≡◌, ◌-◌, length, map, take, IfSome}
 use Rattle.std.specs.Arc.{arc_value}
 use Rattle.scc_table.specs.Contents.{entries}
 use Rattle.scc_table.specs.Places.{IsPlace}
-use Rattle.scc_index.proofs.IndexWalks.{reached}
+use Rattle.scc_walks.proofs.Reached.{reached}
 use Rattle.scc_index.proofs.hash_index.owned.Owned.iter.Given as goal
 
 abbrev pub invariant-loop-at : goal.invariant-loop-at

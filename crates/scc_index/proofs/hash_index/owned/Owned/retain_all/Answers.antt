@@ -4,7 +4,7 @@ use Rattle.scc_table.specs.Places.{index_of}
 use Rattle.scc_table.specs.Walks.{CalledOn}
 use Rattle.scc_index.specs.IndexWalks.{Retains, ended}
 use Rattle.scc_table.proofs.Placed.{drop-all}
-use Rattle.scc_index.proofs.IndexWalks.{nearer, reached-at, reached-first, take-all}
+use Rattle.scc_walks.proofs.Reached.{nearer, reached-at, reached-first, take-all}
 use Rattle.scc_index.proofs.Visits.{took-next, took-nearer, retains-kept, retains-removed, turn-here, turn-kept, turn-removed}
 use Rattle.scc_index.proofs.hash_index.owned.Owned.retain_all.Goals as goal
 

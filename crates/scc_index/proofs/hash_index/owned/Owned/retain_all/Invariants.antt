@@ -3,7 +3,7 @@ use Rattle.scc_table.specs.Contents.{entries, bucket_count, settings_of, refused
 use Rattle.scc_table.specs.Places.{IsPlace}
 use Rattle.scc_table.specs.Walks.{CalledOn}
 use Rattle.scc_index.specs.IndexWalks.{CallableOnAll, Retains}
-use Rattle.scc_index.proofs.IndexWalks.{reached}
+use Rattle.scc_walks.proofs.Reached.{reached}
 use Rattle.scc_index.proofs.hash_index.owned.Owned.retain_all.Given as goal
 
 abbrev pub invariant-loop-at : goal.invariant-loop-at

@@ -3,8 +3,8 @@ use Rattle.std.specs.List.{remove}
 use Rattle.scc_table.specs.Contents.{entries}
 use Rattle.scc_table.specs.Places.{index_of}
 use Rattle.scc_table.proofs.Standing.{index-below}
-use Rattle.scc_index.proofs.Visits.{shorter}
-use Rattle.scc_index.proofs.IndexWalks.{reached-first}
+use Rattle.scc_walks.proofs.Visits.{shorter}
+use Rattle.scc_walks.proofs.Reached.{reached-first}
 use Rattle.scc_index.proofs.hash_index.owned.Owned.take_all.Goals as goal
 
 pub loop-at-init : goal.loop-at-init

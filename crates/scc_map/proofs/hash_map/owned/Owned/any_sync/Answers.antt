@@ -1,6 +1,6 @@
 use Rattle.std.proofs.Common.{refl}
 use Rattle.scc_map.proofs.EntrySteps.{stands-in}
-use Rattle.scc_map.proofs.MapWalks.{passes-at}
+use Rattle.scc_walks.proofs.Reached.{passes-at}
 use Rattle.scc_map.proofs.hash_map.owned.Owned.any_sync.Goals as goal
 
 pub returns-in-Some : goal.returns-in-Some

@@ -2,7 +2,7 @@ use Rattle.std.proofs.Common.{◌≡◌, Some, refl, of_calls}
 use Rattle.std.specs.Option.{option_eq}
 use Rattle.scc_table.specs.Contents.{entries}
 use Rattle.scc_table.specs.Pairs.{find}
-use Rattle.scc_map.proofs.WholeMaps.{walk-list_all}
+use Rattle.scc_walks.proofs.Comparing.{walk-list_all}
 use Rattle.scc_map.proofs.hash_map.owned.Owned.is_within.Goals as goal
 
 pub returns : goal.returns

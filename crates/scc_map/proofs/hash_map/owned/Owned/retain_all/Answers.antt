@@ -1,9 +1,9 @@
 use Rattle.std.proofs.Common.{◌≡◌, ◌∙◌, ◌++◌, [], refl, length, drop, take, subst, append-nil}
 use Rattle.scc_table.specs.Contents.{entries}
-use Rattle.scc_map.specs.MapWalks.{CalledToWrite, Retains, ended}
+use Rattle.scc_walks.specs.PairWalks.{CalledToWrite, Retains, ended}
 use Rattle.scc_table.proofs.Placed.{drop-all}
-use Rattle.scc_map.proofs.MapWalks.{reached-first, take-all}
-use Rattle.scc_map.proofs.Visits.{visited, kept-next, kept-nearer, took-next, took-nearer, retains-kept, retains-removed, turn-here, turn-kept, turn-removed}
+use Rattle.scc_walks.proofs.Reached.{reached-first, take-all}
+use Rattle.scc_walks.proofs.Visits.{visited, kept-next, kept-nearer, took-next, took-nearer, retains-kept, retains-removed, turn-here, turn-kept, turn-removed}
 use Rattle.scc_map.proofs.hash_map.owned.Owned.retain_all.Goals as goal
 
 pub loop-at-init : goal.loop-at-init

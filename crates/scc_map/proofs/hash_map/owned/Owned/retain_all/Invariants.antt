@@ -2,8 +2,8 @@ use Rattle.std.proofs.Common.{◌≡◌, ◌-◌, ◌++◌, List, length, take, 
 use Rattle.std.specs.Prelude.{⊤}
 use Rattle.scc_table.specs.Contents.{entries, bucket_count, settings_of, refused_of}
 use Rattle.scc_table.specs.Places.{IsPlace}
-use Rattle.scc_map.specs.MapWalks.{CallableToWrite, CalledToWrite, Retains}
-use Rattle.scc_map.proofs.MapWalks.{reached}
+use Rattle.scc_walks.specs.PairWalks.{CallableToWrite, CalledToWrite, Retains}
+use Rattle.scc_walks.proofs.Reached.{reached}
 use Rattle.scc_map.proofs.hash_map.owned.Owned.retain_all.Given as goal
 
 abbrev pub invariant-loop-at : goal.invariant-loop-at

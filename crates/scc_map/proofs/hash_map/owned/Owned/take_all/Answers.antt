@@ -1,5 +1,5 @@
 use Rattle.std.proofs.Common.{refl}
-use Rattle.scc_map.proofs.MapWalks.{reached-first}
+use Rattle.scc_walks.proofs.Reached.{reached-first}
 use Rattle.scc_map.proofs.hash_map.owned.Owned.take_all.Goals as goal
 
 pub loop-at-init : goal.loop-at-init

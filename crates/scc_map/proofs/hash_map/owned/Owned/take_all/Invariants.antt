@@ -1,7 +1,7 @@
 use Rattle.std.proofs.Common.{◌≡◌, length, IfSome}
 use Rattle.scc_table.specs.Contents.{entries, bucket_count, settings_of, refused_of}
 use Rattle.scc_table.specs.Places.{IsPlace}
-use Rattle.scc_map.proofs.MapWalks.{reached}
+use Rattle.scc_walks.proofs.Reached.{reached}
 use Rattle.scc_map.proofs.hash_map.owned.Owned.take_all.Given as goal
 
 abbrev pub invariant-loop-at : goal.invariant-loop-at

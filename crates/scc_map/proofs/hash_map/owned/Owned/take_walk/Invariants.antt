@@ -1,9 +1,9 @@
 use Rattle.std.proofs.Common.{◌≡◌, ◌≤◌, ◌-◌, ◌++◌, List, Bool, Result, length, take, drop, IfSome}
 use Rattle.scc_table.specs.Contents.{entries, bucket_count, settings_of, refused_of}
 use Rattle.scc_table.specs.Places.{IsPlace}
-use Rattle.scc_table.specs.declared.errors.WalkError.{WalkError}
-use Rattle.scc_map.specs.MapWalks.{CallableToWrite, CalledToWrite, GoesOn, Takes}
-use Rattle.scc_map.proofs.MapWalks.{reached}
+use Rattle.scc_common.specs.declared.errors.WalkError.{WalkError}
+use Rattle.scc_walks.specs.PairWalks.{CallableToWrite, CalledToWrite, GoesOn, Takes}
+use Rattle.scc_walks.proofs.Reached.{reached}
 use Rattle.scc_map.proofs.hash_map.owned.Owned.take_walk.Given as goal
 
 abbrev pub invariant-loop-at : goal.invariant-loop-at

@@ -2,7 +2,7 @@ use Rattle.std.proofs.Common.{◌≡◌, ◌∙◌, ℕ, [], length, Some, Err, 
 use Rattle.std.specs.List.{slice_index_or, slice_set}
 use Rattle.scc_table.specs.Contents.{key_hash, lists_of, settings_of}
 use Rattle.scc_table.specs.Hashing.{hash_of}
-use Rattle.scc_table.specs.declared.errors.InsertError.{InsertError}
+use Rattle.scc_common.specs.declared.errors.InsertError.{InsertError}
 use Rattle.scc_cache.specs.CacheSteps.{IsPresentAt, Puts, number_in}
 use Rattle.scc_cache.specs.Entries.{occupied_pair}
 use Rattle.scc_recorded.specs.CacheCalls.{cache_setting, CacheMoves, CacheResizes}

@@ -1,6 +1,6 @@
 use Rattle.std.proofs.Common.{◌≡◌, ◌++◌, rules, arith, ap, sym, ◌∙◌, map, append-nil}
 use Rattle.std.proofs.lemmas.List.{length-map}
-use Rattle.scc_map.specs.MapWalks.{GoesOn}
+use Rattle.scc_walks.specs.PairWalks.{GoesOn}
 use Rattle.scc_map.specs.Sinks.{with_units}
 use Rattle.scc_table.proofs.Mapped.{Holds-mapped, ShrinksWhenDue-mapped, bucket_count-mapped}
 use Rattle.scc_set.proofs.Sets.{on-err, shows, smaller-keys, unique-keys}

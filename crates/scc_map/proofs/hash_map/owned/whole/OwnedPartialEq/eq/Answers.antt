@@ -2,7 +2,7 @@ use Rattle.std.proofs.Common.{nat_eq, sym, ◌∙◌, arith}
 use Rattle.std.proofs.lemmas.Bool.{eqb-true}
 use Rattle.scc_table.specs.Contents.{entries}
 use Rattle.scc_table.proofs.PairSplits.{by_answer}
-use Rattle.scc_map.proofs.WholeMaps.{equal-there, unequal-there, unequal-length}
+use Rattle.scc_walks.proofs.Comparing.{equal-there, unequal-there, unequal-length}
 use Rattle.scc_map.proofs.hash_map.owned.whole.OwnedPartialEq.eq.Goals as goal
 
 pub returns-then-len : goal.returns-then-len

@@ -1,29 +1,10 @@
 //! Random calls on a cache and on plain lists, whose answers and whose order have to be the same.
-#[cfg(test)]
-use crate::alike::Alike;
-#[cfg(test)]
-use crate::zero::Zero;
+use crate::numbers::next;
 use scc::InsertError;
 use scc::hash_cache::Owned;
 use scc::hash_cache::owned::Entry;
-#[cfg(test)]
-use scc_play::same::Same;
 use std::alloc::{AllocError, Global};
 use std::hash::BuildHasher;
-#[cfg(test)]
-use std::hash::{BuildHasherDefault, FoldHasher};
-#[cfg(test)]
-use std::process::Abort;
-#[cfg(test)]
-use std::test::Fail;
-
-// The next number of a linear congruential generator, its upper half.
-fn next(seed: &mut u64) -> u64 {
-    *seed = seed
-        .wrapping_mul(6_364_136_223_846_793_005)
-        .wrapping_add(1_442_695_040_888_963_407);
-    *seed >> 32
-}
 
 // The lists of a cache, each from the least to the most recent pair. There are 0, or a power of two of them, 2 at least.
 #[derive(Drop)]
@@ -318,38 +299,4 @@ pub fn agrees_with_lists<H: BuildHasher>(
         }
     }
     Ok(agrees)
-}
-
-#[test]
-fn cache_random_calls_in_one_bucket(rt: HostRuntime) -> Result<(), Fail> {
-    let mut cache = Owned::with_capacity_and_hasher(rt.alloc(), 0, 256, Zero)?;
-    assert!(rt; agrees_with_lists(rt.alloc(), &Zero, &mut cache, 35_000, 63)?);
-    Ok(())
-}
-
-#[test]
-fn cache_random_calls_under_one_tag(rt: HostRuntime) -> Result<(), Fail> {
-    let mut cache = Owned::with_capacity_and_hasher(rt.alloc(), 0, 512, Alike)?;
-    assert!(rt; agrees_with_lists(rt.alloc(), &Alike, &mut cache, 35_000, 511)?);
-    Ok(())
-}
-
-#[test]
-fn cache_random_calls_under_a_good_hasher(rt: HostRuntime) -> Result<(), Fail> {
-    let hasher = BuildHasherDefault::<FoldHasher>::new();
-    let mut cache = Owned::with_capacity_and_hasher(
-        rt.alloc(),
-        0,
-        1024,
-        BuildHasherDefault::new(),
-    )?;
-    assert!(rt; agrees_with_lists(rt.alloc(), &hasher, &mut cache, 35_000, 1023)?);
-    Ok(())
-}
-
-#[test]
-fn cache_random_calls_under_their_own_hash(rt: HostRuntime) -> Result<(), Fail> {
-    let mut cache = Owned::with_capacity_and_hasher(rt.alloc(), 0, 512, Same)?;
-    assert!(rt; agrees_with_lists(rt.alloc(), &Same, &mut cache, 35_000, 511)?);
-    Ok(())
 }

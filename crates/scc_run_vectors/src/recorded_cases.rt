@@ -2,7 +2,7 @@
 ghost use Rattle.std.specs.Prelude.{◌≡◌, ℕ, [], ◌∷◌, length, OnOk};
 ghost use Rattle.scc_table.specs.Contents.{entries};
 
-use crate::maybe_equal::MaybeEqual;
+use scc_fixtures::maybe_equal::MaybeEqual;
 use scc::MakeError;
 use scc::hash_map::Owned;
 use scc::recorded::{Calls, MapCall, Refused, Reply, run};

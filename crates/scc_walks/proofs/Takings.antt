@@ -5,17 +5,17 @@ use Rattle.std.proofs.lemmas.List.{nil_from_length}
 use Rattle.scc_table.specs.Contents.{Contents, entries, bucket_count, list_of}
 use Rattle.scc_table.specs.Places.{IsPlace, index_of}
 use Rattle.scc_table.specs.Steps.{Holds, HoldsExactly, Resizes, ShrinksWhenDue}
-use Rattle.scc_table.specs.declared.errors.WalkError.{WalkError}
+use Rattle.scc_common.specs.declared.errors.WalkError.{WalkError}
 use Rattle.scc_table.specs.declared.place.Place.{Place}
-use Rattle.scc_table.specs.declared.verdict.Verdict.{Verdict}
-use Rattle.scc_table.specs.declared.verdict.Verdict.TheVariants.{Keep, Take, KeepStop, TakeStop}
+use Rattle.scc_common.specs.declared.verdict.Verdict.{Verdict}
+use Rattle.scc_common.specs.declared.verdict.Verdict.TheVariants.{Keep, Take, KeepStop, TakeStop}
 use Rattle.scc_table.proofs.Spots.{place-get}
 use Rattle.scc_table.specs.Placed.{at, at-get}
-use Rattle.scc_map.specs.MapWalks.{Takes, ended, refused, kept, took, kept_last, took_last}
+use Rattle.scc_walks.specs.PairWalks.{Takes, ended, refused, kept, took, kept_last, took_last}
 use Rattle.scc_table.proofs.Placed.{drop-here}
-use Rattle.scc_map.proofs.MapWalks.{reached}
+use Rattle.scc_walks.proofs.Reached.{reached}
 use Rattle.scc_table.proofs.PairSplits.{split-place}
-use Rattle.scc_map.proofs.Visits.{Visited, kept-before, took-before, took-after}
+use Rattle.scc_walks.proofs.Visits.{Visited, kept-before, took-before, took-after}
 
 -- each pair of a walk stays or is taken
 pub takes-count : {F K V : Type 0} {T : F → K × V → Verdict → V → F → Type 0} {f last : F} {es stay more : List (K × V)} {r : Result Bool WalkError} → Takes T f es stay more r last → length es ≡ length stay + length more

@@ -1,11 +1,11 @@
--- Walks over the pairs of a map: what a closure was called on in turn, and what became of each pair.
+-- Walks over pairs: what a closure was called on in turn, and what became of each pair.
 use Rattle.std.specs.Prelude.{◌≡◌, ℕ, Bool, true, false, List, [], ◌∷◌, take, Result, Ok, Err, Some, slice_get, ⊤}
 use Rattle.std.specs.Borrow.{Bor, MutBor}
 use Rattle.std.specs.Fn.{Mut, Called}
 use Rattle.scc_table.specs.Walks.{HoldsInTurn}
-use Rattle.scc_table.specs.declared.errors.WalkError.{WalkError}
-use Rattle.scc_table.specs.declared.verdict.Verdict.{Verdict}
-use Rattle.scc_table.specs.declared.verdict.Verdict.TheVariants.{Keep, Take, KeepStop, TakeStop}
+use Rattle.scc_common.specs.declared.errors.WalkError.{WalkError}
+use Rattle.scc_common.specs.declared.verdict.Verdict.{Verdict}
+use Rattle.scc_common.specs.declared.verdict.Verdict.TheVariants.{Keep, Take, KeepStop, TakeStop}
 
 module _ {F K V : Type 0} (T : F → K × V → Bool → F → Type 0) where
   -- the closure was called on the pairs in turn and answered false on each; the last state is the one that it was left in

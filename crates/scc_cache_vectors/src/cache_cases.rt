@@ -1,6 +1,6 @@
 // Worked cases of the owned cache. Under the hasher that finishes with 0 all keys stand in one bucket.
-use crate::maybe_equal::MaybeEqual;
-use crate::zero::Zero;
+use scc_fixtures::maybe_equal::MaybeEqual;
+use scc_fixtures::zero::Zero;
 use scc::hash_cache::owned::ReplaceResult;
 use scc::hash_cache::{DEFAULT_MAXIMUM_CAPACITY, Owned};
 use scc::{InsertError, Verdict};

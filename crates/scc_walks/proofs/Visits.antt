@@ -14,10 +14,10 @@ use Rattle.scc_table.specs.Walks.{HoldsInTurn}
 use Rattle.scc_table.proofs.WalkLemmas.{turn-first, turn-others}
 use Rattle.scc_table.specs.Placed.{at-get}
 use Rattle.scc_table.specs.Pairs.{with_pair_value}
-use Rattle.scc_map.specs.MapWalks.{Retains, kept, removed}
+use Rattle.scc_walks.specs.PairWalks.{Retains, kept, removed}
 use Rattle.scc_table.proofs.Placed.{front-write, back-write}
 use Rattle.scc_table.proofs.Placed.{take-more, drop-here, take-removed, drop-removed}
-use Rattle.scc_map.proofs.MapWalks.{reached, reached-at}
+use Rattle.scc_walks.proofs.Reached.{reached, reached-at}
 use Rattle.scc_table.proofs.KeyWrites.{index-write, get-write_at, noted-write}
 
 length-write : {E X : Type 0} (put : E → X → E) (es : List E) (i : ℕ) (w : X) → length (write_at put es i w) ≡ length es

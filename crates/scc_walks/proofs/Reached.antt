@@ -1,5 +1,8 @@
 -- Walks that go on by one pair.
 use Rattle.std.proofs.Common.{◌≡◌, ℕ, zero, suc, ◌<◌, ◌-◌, List, [], ◌∷◌, ◌++◌, length, take, Bool, false, Option, None, Some, MatchOption, IfSome, refl, sym, ap, arith}
+use Rattle.std.specs.Borrow.{Bor, MutBor}
+use Rattle.std.specs.Fn.{Mut}
+use denote.Param.Always.{always_mut, mut_next}
 use Rattle.scc_table.specs.Contents.{Contents, entries}
 use Rattle.scc_table.specs.Places.{IsPlace, index_of}
 use Rattle.scc_table.specs.Standing.{StandsAt}
@@ -7,7 +10,8 @@ use Rattle.scc_table.specs.declared.place.Place.{Place}
 use Rattle.scc_table.proofs.Standing.{index-below}
 use Rattle.scc_table.specs.Placed.{entry_of, front_of}
 use Rattle.scc_table.proofs.Placed.{entry_of-is}
-use Rattle.scc_index.specs.IndexWalks.{Declines, ended, went_on, PassesAt, PassesFirst}
+use Rattle.scc_table.proofs.WalkLemmas.{turn-always}
+use Rattle.scc_walks.specs.PairWalks.{CallableToWrite, Declines, ended, went_on, PassesAt, PassesFirst}
 
 -- how many pairs stand before the place of a walk, all where it is over
 abbrev pub reached : {E S : Type 0} → Contents E S → Option Place → ℕ
@@ -42,3 +46,7 @@ module _ {F K V : Type 0} {T : F → K × V → Bool → F → Type 0} where
 pub passes-at : {K V S F : Type 0} {C : F → K × V → Bool → F → Type 0} {f : F} (c : Contents (K × V) S) (p : Place) (h : IsPlace c p) → PassesFirst C f (entries c) (index_of c p) → PassesAt C f (front_of c p) (entry_of c p h)
 unfolding front_of
 passes-at {C = C} {f = f} c p h x = rw (entry_of-is c p h x.pair x.here) x.first
+
+-- a closure that may always be called may be called to write on all pairs
+pub CallableToWrite-always : {F K V R : Type 0} (g : Mut F (Bor K × (MutBor V × Unit {0})) (R × (MutBor V × Unit {0}))) (On : R → Type 0) (f : F) (es : List (K × V)) → always_mut g f → CallableToWrite g On f es
+CallableToWrite-always g On = turn-always _ _ (always_mut g) (λ f f' p t h. mut_next g _ _ _ _ _ t.3.called refl h) (λ f p h key value shows. (h.at ((key, (value, tt)) ∷ [])).0)

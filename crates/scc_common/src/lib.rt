@@ -1,0 +1,16 @@
+//! What all containers share: errors, verdicts, reservations, what holds a container for writing, hashers and versions with several owners.
+#![tactic(auto)]
+
+pub mod errors;
+pub mod guard;
+pub mod reservation;
+pub mod shared;
+pub mod verdict;
+pub mod version;
+
+pub use errors::{InsertError, KeyError, MakeError, WalkError};
+pub use guard::Guard;
+pub use reservation::Reservation;
+pub use shared::{Share, Shared};
+pub use verdict::Verdict;
+pub use version::{SharedVersion, Version};

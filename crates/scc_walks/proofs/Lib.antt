@@ -1,0 +1,4 @@
+pub mod Comparing
+pub mod Reached
+pub mod Takings
+pub mod Visits
