@@ -16,6 +16,8 @@ mod set_cases;
 #[cfg(test)]
 mod size_cases;
 #[cfg(test)]
+mod tag_cases;
+#[cfg(test)]
 mod walk_cases;
 #[cfg(test)]
 mod walk_stops;
