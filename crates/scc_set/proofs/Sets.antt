@@ -22,7 +22,7 @@ use Rattle.scc_common.specs.declared.errors.InsertError.{InsertError}
 use Rattle.scc_common.specs.declared.errors.InsertError.TheVariants.{Exists, Memory}
 use Rattle.scc_map.specs.MapSizes.{ReservesOrRefuses, ReleasesOrRefuses}
 use Rattle.scc_map.specs.MapSteps as pairs
-use Rattle.scc_walks.specs.Closures as closures
+use Rattle.scc_map.specs.ClosureSteps as closures
 use Rattle.scc_walks.specs.Closures.{AnswersAt}
 use Rattle.scc_set.specs.Keys.{find, without, with_key, of_map, FindsInstead, IsUnique, HasRoom}
 use Rattle.scc_set.specs.SetSteps.{Inserts, Removes, Reads, RemovedIf, RemovesIf, key_answer}
