@@ -1,6 +1,6 @@
 -- What the map's words say of pairs, the set's say of keys.
 use Rattle.std.proofs.Common.{◌≡◌, ◌≢◌, ℕ, ◌+◌, ◌*◌, ◌≤◌, ◌<◌, ◌↔◌, Bool, true, false, cond, ◌⊎◌, inl, inr, List, [], ◌∷◌, length, map, Option, None, Some, Ok, Err, IsTrue, IsSome, refl, sym, ap, subst, ◌∙◌}
-use Rattle.std.specs.Prelude.{Result, IfErr, IfOk, OnErr, OnOk, OnSome, IsOk, IsSomeAnd}
+use Rattle.std.specs.Prelude.{Result, IfErr, IfNone, IfOk, OnErr, OnOk, OnSome, IsOk, IsSomeAnd}
 use Rattle.std.specs.Borrow.{Bor, MutBor}
 use Rattle.std.specs.Fn.{Once, FnOnceReturnsAt}
 use Rattle.std.specs.Cmp.{IsEquivalence}
@@ -22,6 +22,7 @@ use Rattle.scc_common.specs.declared.errors.InsertError.{InsertError}
 use Rattle.scc_common.specs.declared.errors.InsertError.TheVariants.{Exists, Memory}
 use Rattle.scc_map.specs.MapSizes.{ReservesOrRefuses, ReleasesOrRefuses}
 use Rattle.scc_map.specs.MapSteps as pairs
+use Rattle.scc_map.specs.ClosureSteps as steps
 use Rattle.scc_walks.specs.Closures as closures
 use Rattle.scc_walks.specs.Closures.{AnswersAt}
 use Rattle.scc_set.specs.Keys.{find, without, with_key, of_map, FindsInstead, IsUnique, HasRoom}
@@ -78,6 +79,10 @@ ok-answer (Err e) h = absurd (let n : false ≡ true = h in cc)
 pub on-key : {K P Q : Type 0} (o : Option (K × Unit {0})) → (P → Q) → OnSome o P → OnSome (key_alone o) Q
 on-key None f h = tt
 on-key (Some p) f h = f h
+
+pub on-no_key : {K P Q : Type 0} (o : Option (K × Unit {0})) → (P → Q) → IfNone o P → IfNone (key_alone o) Q
+on-no_key None f h = f h
+on-no_key (Some p) f h = tt
 
 module _ {K S : Type 0} (eq : K → K → Bool) where
   -- a look-up in the set answers the key of the pair
@@ -166,6 +171,10 @@ pub record Shows {K S : Type 0} (c : Contents (K × Unit {0}) S) (s : Contents K
 pub shows : {K S : Type 0} (c : Contents (K × Unit {0}) S) → Shows c (of_map c)
 shows {K} c = let f : K × Unit {0} → K = λ p. p.0 in record { keys = entries-mapped f c; length = length-mapped f c; buckets = bucket_count-mapped f c; settings = settings_of-mapped f c; refused = refused_of-mapped f c; pending = pending_of-mapped f c }
 
+-- the note of refused memory stays in the set where it stays in the map
+pub noted-keys : {K S : Type 0} (c d : Contents (K × Unit {0}) S) → refused_of d ≡ refused_of c → refused_of (of_map d) ≡ refused_of (of_map c)
+noted-keys c d h = (shows d).refused ∙ h ∙ sym (shows c).refused
+
 pub shown : {K S : Type 0} (c : Contents (K × Unit {0}) S) (s : Contents K S) → of_map c ≡ s → Shows c s
 shown c s e = subst (Shows c) e (shows c)
 
@@ -195,11 +204,11 @@ module _ {C F K S : Type 0} (gm : Once C (MutBor (Unit {0}) × Unit {0}) (Bool �
       let f : K × Unit {0} → K = λ p. p.0 in
       rw (entries-mapped f c) (subst (λ ks. HoldsExactly (of_map c) ks (of_map d)) (written-keys (eq k) (entries c) w) (HoldsExactly-mapped f c (set_value (eq k) (entries c) w) d h))
 
-  removed-if : (p : K × Unit {0}) (w : Unit {0}) (b : Bool) → closures.RemovedIf gm m eq c k r d p w b → RemovedIf gf f eq (of_map c) k (key_alone r) (of_map d) p.0 b
+  removed-if : (p : K × Unit {0}) (w : Unit {0}) (b : Bool) → steps.RemovedIf gm m eq c k r d p w b → RemovedIf gf f eq (of_map c) k (key_alone r) (of_map d) p.0 b
   removed-if p w true h = (ap key_alone h.0, subst (λ es. Holds (of_map c) es (of_map d)) (without-pairs eq c k) (Holds-mapped (λ q. q.0) c (without_pair eq (entries c) k) d h.1))
   removed-if p w false h = (ap key_alone h.0, stays w h.1)
 
-  pub RemovesIf-keys : (o : Option (K × Unit {0})) → closures.RemovesIf gm m eq c k r d o → RemovesIf gf f eq (of_map c) k (key_alone r) (of_map d) (key_alone o)
+  pub RemovesIf-keys : (o : Option (K × Unit {0})) → steps.RemovesIf gm m eq c k r d o → RemovesIf gf f eq (of_map c) k (key_alone r) (of_map d) (key_alone o)
   RemovesIf-keys None h = (ap key_alone h.0, IsUnchanged-mapped (λ p. p.0) c d h.1)
   RemovesIf-keys (Some p) h = (h.0, one h.2.shown h.2.left h.0 h.2.met, removed-if p h.1 h.0 h.3)
 
@@ -220,6 +229,10 @@ none-shown (e ∷ es) h = absurd (let n : e.0 ∷ keys_of es ≡ [] = h in cc)
 pub on-some : {A P Q : Type 0} (o : Option A) → (P → Q) → OnSome o P → OnSome o Q
 on-some None f h = tt
 on-some (Some x) f h = f h
+
+pub on-none : {A P Q : Type 0} (o : Option A) → (P → Q) → IfNone o P → IfNone o Q
+on-none None f h = f h
+on-none (Some x) f h = tt
 
 pub on-err : {A E P Q : Type 0} (r : Result A E) → (P → Q) → OnErr r P → OnErr r Q
 on-err (Ok x) f h = tt
