@@ -5,7 +5,7 @@ use Rattle.std.specs.declared.cmp.PartialEq as eq
 use Rattle.std.specs.declared.hash.Hash as hash
 use Rattle.std.specs.declared.hash.Hasher as hasher
 use Rattle.std.specs.declared.hash.BuildHasher as builder
-use Rattle.scc_table.specs.Contents.{Contents, entries}
+use Rattle.scc_table.specs.Contents.{Contents, entries, refused_of}
 use Rattle.scc_table.specs.Places.{index_of}
 use Rattle.scc_table.specs.Steps.{HoldsExactly}
 use Rattle.scc_common.specs.declared.guard.Guard as guard
@@ -24,5 +24,5 @@ module _ {G N K V S T : Type 0} {d : guard.Ghosts G (Contents (K × V) S)} {g : 
 
   -- the entry at the place of the one that was taken out
   pub next-past : (o p : HeldEntry G N K V S T d g h b w) → p.guard ≡ d.keeping o.guard (d.kept p.guard) → HoldsExactly (d.kept o.guard) (remove (entries (d.kept o.guard)) (index_of (d.kept o.guard) o.place)) (d.kept p.guard)
-      → index_of (d.kept p.guard) p.place ≡ index_of (d.kept o.guard) o.place → IsNextPastRemoved o p
-  next-past o p same others index = record { same_guard = same; at = past-there (d.kept o.guard) o.place (d.kept p.guard) p.place p.within others index }
+      → refused_of (d.kept p.guard) ≡ refused_of (d.kept o.guard) → index_of (d.kept p.guard) p.place ≡ index_of (d.kept o.guard) o.place → IsNextPastRemoved o p
+  next-past o p same others noted index = record { same_guard = same; at = past-there (d.kept o.guard) o.place (d.kept p.guard) p.place p.within others noted index }

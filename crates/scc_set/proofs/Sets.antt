@@ -1,6 +1,6 @@
 -- What the map's words say of pairs, the set's say of keys.
 use Rattle.std.proofs.Common.{◌≡◌, ◌≢◌, ℕ, ◌+◌, ◌*◌, ◌≤◌, ◌<◌, ◌↔◌, Bool, true, false, cond, ◌⊎◌, inl, inr, List, [], ◌∷◌, length, map, Option, None, Some, Ok, Err, IsTrue, IsSome, refl, sym, ap, subst, ◌∙◌}
-use Rattle.std.specs.Prelude.{Result, IfErr, IfOk, OnErr, OnOk, OnSome, IsOk, IsSomeAnd}
+use Rattle.std.specs.Prelude.{Result, IfErr, IfNone, IfOk, OnErr, OnOk, OnSome, IsOk, IsSomeAnd}
 use Rattle.std.specs.Borrow.{Bor, MutBor}
 use Rattle.std.specs.Fn.{Once, FnOnceReturnsAt}
 use Rattle.std.specs.Cmp.{IsEquivalence}
@@ -79,6 +79,10 @@ ok-answer (Err e) h = absurd (let n : false ≡ true = h in cc)
 pub on-key : {K P Q : Type 0} (o : Option (K × Unit {0})) → (P → Q) → OnSome o P → OnSome (key_alone o) Q
 on-key None f h = tt
 on-key (Some p) f h = f h
+
+pub on-no_key : {K P Q : Type 0} (o : Option (K × Unit {0})) → (P → Q) → IfNone o P → IfNone (key_alone o) Q
+on-no_key None f h = f h
+on-no_key (Some p) f h = tt
 
 module _ {K S : Type 0} (eq : K → K → Bool) where
   -- a look-up in the set answers the key of the pair
@@ -167,6 +171,10 @@ pub record Shows {K S : Type 0} (c : Contents (K × Unit {0}) S) (s : Contents K
 pub shows : {K S : Type 0} (c : Contents (K × Unit {0}) S) → Shows c (of_map c)
 shows {K} c = let f : K × Unit {0} → K = λ p. p.0 in record { keys = entries-mapped f c; length = length-mapped f c; buckets = bucket_count-mapped f c; settings = settings_of-mapped f c; refused = refused_of-mapped f c; pending = pending_of-mapped f c }
 
+-- the note of refused memory stays in the set where it stays in the map
+pub noted-keys : {K S : Type 0} (c d : Contents (K × Unit {0}) S) → refused_of d ≡ refused_of c → refused_of (of_map d) ≡ refused_of (of_map c)
+noted-keys c d h = (shows d).refused ∙ h ∙ sym (shows c).refused
+
 pub shown : {K S : Type 0} (c : Contents (K × Unit {0}) S) (s : Contents K S) → of_map c ≡ s → Shows c s
 shown c s e = subst (Shows c) e (shows c)
 
@@ -221,6 +229,10 @@ none-shown (e ∷ es) h = absurd (let n : e.0 ∷ keys_of es ≡ [] = h in cc)
 pub on-some : {A P Q : Type 0} (o : Option A) → (P → Q) → OnSome o P → OnSome o Q
 on-some None f h = tt
 on-some (Some x) f h = f h
+
+pub on-none : {A P Q : Type 0} (o : Option A) → (P → Q) → IfNone o P → IfNone o Q
+on-none None f h = f h
+on-none (Some x) f h = tt
 
 pub on-err : {A E P Q : Type 0} (r : Result A E) → (P → Q) → OnErr r P → OnErr r Q
 on-err (Ok x) f h = tt

@@ -2,14 +2,14 @@
 use Rattle.std.proofs.Common.{◌≡◌, ℕ, zero, suc, List, [], ◌∷◌, ◌++◌, length, take, drop, None, Some, refl, sym, ap, subst, ◌∙◌, arith}
 use native.Mathlib.Bridge.{le_prop}
 use Rattle.std.specs.List.{slice_get, remove}
-use Rattle.scc_table.specs.Contents.{Contents, entries, list_of}
+use Rattle.scc_table.specs.Contents.{Contents, entries, list_of, refused_of}
 use Rattle.scc_table.specs.Places.{IsPlace, IsInsertedAt, index_of}
 use Rattle.scc_table.specs.Placed.{at, at-get, entry_of, front_of, back_of, SplitsAt, IsWrittenAt, IsPutAt, IsNextAt, IsNextPastRemovedAt}
 use Rattle.scc_table.specs.ShelfWrites.{write_at}
 use Rattle.scc_table.specs.Steps.{HoldsExactly}
 use Rattle.scc_table.specs.Writes.{with_write_at}
 use Rattle.scc_table.specs.declared.place.Place.{Place}
-use Rattle.scc_table.proofs.KeyWrites.{write-parts, index-write, get-write_at}
+use Rattle.scc_table.proofs.KeyWrites.{write-parts, index-write, get-write_at, noted-write}
 use Rattle.scc_table.proofs.PairSplits.{split-place}
 use Rattle.scc_table.proofs.Spots.{place-get}
 use Rattle.scc_table.proofs.WritingTables.{exactly-write}
@@ -84,6 +84,7 @@ module _ {E S : Type 0} where
           buckets = rw now exact.buckets;
           settings = rw now exact.settings;
         };
+        noted = ap refused_of now ∙ noted-write put c p w;
         here = entry_of-is d p j _ (ap (slice_get (entries d)) index ∙ ap (λ z. slice_get z (index_of c p)) es ∙ get-write_at put (entries c) (index_of c p) (entry_of c p h) w (entry_of-get c p h));
         front = ap (λ i. take i (entries d)) index ∙ ap (take (index_of c p)) es ∙ front-write put (entries c) (index_of c p) w;
         back = ap (λ i. drop (suc i) (entries d)) index ∙ ap (drop (suc (index_of c p))) es ∙ back-write put (entries c) (index_of c p) w;
@@ -124,10 +125,11 @@ module _ {E S : Type 0} where
   left-there c p d others = record { exact = others.exact ∙ removed-parts (entries c) (index_of c p); buckets = others.buckets; settings = others.settings }
 
   -- the place of the same index is that of the entry that stood next
-  pub past-there : (c : Contents E S) (p : Place) (d : Contents E S) (q : Place) (j : IsPlace d q) → HoldsExactly c (remove (entries c) (index_of c p)) d → index_of d q ≡ index_of c p → IsNextPastRemovedAt c p d q j
+  pub past-there : (c : Contents E S) (p : Place) (d : Contents E S) (q : Place) (j : IsPlace d q) → HoldsExactly c (remove (entries c) (index_of c p)) d → refused_of d ≡ refused_of c → index_of d q ≡ index_of c p → IsNextPastRemovedAt c p d q j
   unfolding front_of back_of
-  past-there c p d q j others index = record {
+  past-there c p d q j others noted index = record {
     contents = left-there c p d others;
+    noted = noted;
     front = ap (λ n. take n (entries d)) index ∙ ap (take (index_of c p)) others.exact ∙ take-removed (entries c) (index_of c p);
     back = sym (drop-here (entries d) (index_of d q) (entry_of d q j) (entry_of-get d q j)) ∙ ap (λ n. drop n (entries d)) index ∙ ap (drop (index_of c p)) others.exact ∙ drop-removed (entries c) (index_of c p);
   }

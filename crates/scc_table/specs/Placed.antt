@@ -1,7 +1,7 @@
 -- The entry at a place, those before and after it, and what a change there leaves.
 use Rattle.std.specs.Prelude.{◌≡◌, ℕ, zero, suc, ◌<◌, List, [], ◌∷◌, ◌++◌, length, take, drop, Some, slice_get, refl}
 use Rattle.std.proofs.Common.{arith}
-use Rattle.scc_table.specs.Contents.{Contents, entries, list_of}
+use Rattle.scc_table.specs.Contents.{Contents, entries, list_of, refused_of}
 use Rattle.scc_table.specs.Places.{IsPlace, index_of}
 use Rattle.scc_table.specs.Steps.{Holds, HoldsExactly}
 use Rattle.scc_table.specs.declared.place.Place.{Place}
@@ -34,9 +34,10 @@ module _ {E S : Type 0} where
   pub record SplitsAt (c : Contents E S) (p : Place) (h : IsPlace c p) : Type 0 where
     pub splits : entries c ≡ front_of c p ++ entry_of c p h ∷ back_of c p
 
-  -- d is c with e in place of the entry at p, and e stands at q
+  -- d is c with e in place of the entry at p, and e stands at q; the note of refused memory stays
   pub record IsWrittenAt (c : Contents E S) (p : Place) (e : E) (d : Contents E S) (q : Place) (j : IsPlace d q) : Type 0 where
     pub contents : HoldsExactly c (front_of c p ++ e ∷ back_of c p) d
+    pub noted : refused_of d ≡ refused_of c
     pub here : entry_of d q j ≡ e
     pub front : front_of d q ≡ front_of c p
     pub back : back_of d q ≡ back_of c p
@@ -52,8 +53,9 @@ module _ {E S : Type 0} where
     pub front : front_of d q ≡ front_of c p ++ entry_of c p h ∷ []
     pub back : entry_of d q j ∷ back_of d q ≡ back_of c p
 
-  -- d is c without the entry at p, the others in their order, and q is where the one stands that stood next
+  -- d is c without the entry at p, the others in their order, and q is where the one stands that stood next; the note of refused memory stays
   pub record IsNextPastRemovedAt (c : Contents E S) (p : Place) (d : Contents E S) (q : Place) (j : IsPlace d q) : Type 0 where
     pub contents : HoldsExactly c (front_of c p ++ back_of c p) d
+    pub noted : refused_of d ≡ refused_of c
     pub front : front_of d q ≡ front_of c p
     pub back : entry_of d q j ∷ back_of d q ≡ back_of c p

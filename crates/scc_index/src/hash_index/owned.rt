@@ -245,6 +245,7 @@ impl<K: Eq + Hash, V, H: BuildHasher> Owned<K, V, H> {
         ensures due { OnOk result (GrowsWhenDue (key_hash H.BuildHasher H.Hasher.Hasher K.hash_input self.old) (λ p. p.0) self.old k self.new) }
         ensures raised { OnErr result (RaisesWhenDue (key_hash H.BuildHasher H.Hasher.Hasher K.hash_input self.old) (λ p. p.0) self.old k self.new) }
         ensures first { OnOk result (FirstArrayWhenDue self.old self.new) }
+        ensures noted { IsSome (find K.eq (entries self.old) k) → refused_of self.new ≡ refused_of self.old }
         ensures unique { IsUnique K.eq self.new }
     {
         let hash = self.table.hash(&k);
@@ -267,6 +268,7 @@ impl<K: Eq + Hash, V, H: BuildHasher> Owned<K, V, H> {
         ensures finds { IsTrue result → FindsInstead K.eq (entries self.old) k.now None (entries self.new) }
         ensures smaller { bucket_count self.new ≢ bucket_count self.old → IsSmaller (minimum_of self.old) (length (entries self.new)) (bucket_count self.old) (bucket_count self.new) }
         ensures due { IsTrue result → ShrinksWhenDue self.old self.new }
+        ensures noted { (IsTrue result → ⊥) → refused_of self.new ≡ refused_of self.old }
         ensures unique { IsUnique K.eq self.new }
     {
         let hash = self.table.hash(k);
@@ -290,6 +292,7 @@ impl<K: Eq + Hash, V, H: BuildHasher> Owned<K, V, H> {
         ensures finds { IsTrue result → FindsInstead K.eq (entries self.old) k.now None (entries self.new) }
         ensures smaller { bucket_count self.new ≢ bucket_count self.old → IsSmaller (minimum_of self.old) (length (entries self.new)) (bucket_count self.old) (bucket_count self.new) }
         ensures due { IsTrue result → ShrinksWhenDue self.old self.new }
+        ensures noted { (IsTrue result → ⊥) → refused_of self.new ≡ refused_of self.old }
         ensures unique { IsUnique K.eq self.new }
     {
         match self.table.search(self.table.hash(k), k) {

@@ -224,6 +224,7 @@ impl<K: Eq + Hash, V, H: BuildHasher> Owned<K, V, H> {
         ensures kept { find K.eq (entries self.old) k ≡ None → HasRoom (key_hash H.BuildHasher H.Hasher.Hasher K.hash_input self.old) self.old k → bucket_count self.new ≡ bucket_count self.old }
         ensures due { find K.eq (entries self.old) k ≡ None → GrowsWhenDue (key_hash H.BuildHasher H.Hasher.Hasher K.hash_input self.old) (λ p. p.0) self.old k self.new }
         ensures first { OnOk result (FirstArrayWhenDue self.old self.new) }
+        ensures noted { IsSome (find K.eq (entries self.old) k) → refused_of self.new ≡ refused_of self.old }
         ensures unique { IsUnique K.eq self.new }
     {
         let hash = self.table.hash(&k);
@@ -249,6 +250,7 @@ impl<K: Eq + Hash, V, H: BuildHasher> Owned<K, V, H> {
         ensures kept { find K.eq (entries self.old) k ≡ None → HasRoom (key_hash H.BuildHasher H.Hasher.Hasher K.hash_input self.old) self.old k → bucket_count self.new ≡ bucket_count self.old }
         ensures due { find K.eq (entries self.old) k ≡ None → GrowsWhenDue (key_hash H.BuildHasher H.Hasher.Hasher K.hash_input self.old) (λ p. p.0) self.old k self.new }
         ensures first { find K.eq (entries self.old) k ≡ None → OnOk result (FirstArrayWhenDue self.old self.new) }
+        ensures noted { IsSome (find K.eq (entries self.old) k) → refused_of self.new ≡ refused_of self.old }
         ensures unique { IsUnique K.eq self.new }
     {
         let hash = self.table.hash(&k);
@@ -268,6 +270,7 @@ impl<K: Eq + Hash, V, H: BuildHasher> Owned<K, V, H> {
         ensures step { UpdatesAt U.FnOnce u K.eq self.old k.now self.new (find K.eq (entries self.old) k.now) result }
         ensures finds { IfSome result (λ x. (p : K × V) × (w : V) × (find K.eq (entries self.old) k.now ≡ Some p) × (K.eq k.now p.0 ≡ true) × WritesAt U.FnOnce u p x w × FindsInstead K.eq (entries self.old) k.now (Some (p.0, w)) (entries self.new)) }
         ensures missing { IfNone result (find K.eq (entries self.old) k.now ≡ None) }
+        ensures noted { refused_of self.new ≡ refused_of self.old }
         ensures unique { IsUnique K.eq self.new }
     {
         let hash = self.table.hash(k);
@@ -288,6 +291,7 @@ impl<K: Eq + Hash, V, H: BuildHasher> Owned<K, V, H> {
         ensures finds { OnSome result (FindsInstead K.eq (entries self.old) k.now None (entries self.new)) }
         ensures smaller { bucket_count self.new ≢ bucket_count self.old → IsSmaller (minimum_of self.old) (length (entries self.new)) (bucket_count self.old) (bucket_count self.new) }
         ensures due { OnSome result (ShrinksWhenDue self.old self.new) }
+        ensures noted { IfNone result (refused_of self.new ≡ refused_of self.old) }
         ensures unique { IsUnique K.eq self.new }
     {
         let hash = self.table.hash(k);
@@ -306,6 +310,7 @@ impl<K: Eq + Hash, V, H: BuildHasher> Owned<K, V, H> {
         ensures finds { OnSome result (FindsInstead K.eq (entries self.old) k.now None (entries self.new)) }
         ensures smaller { bucket_count self.new ≢ bucket_count self.old → IsSmaller (minimum_of self.old) (length (entries self.new)) (bucket_count self.old) (bucket_count self.new) }
         ensures due { OnSome result (ShrinksWhenDue self.old self.new) }
+        ensures noted { IfNone result (refused_of self.new ≡ refused_of self.old) }
         ensures unique { IsUnique K.eq self.new }
     {
         let hash = self.table.hash(k);

@@ -1,5 +1,5 @@
 //! The set for one owner: every call that changes it takes `&mut self`.
-ghost use Rattle.std.specs.Prelude.{◌≡◌, ◌≢◌, ◌<◌, ◌≤◌, ◌*◌, ◌↔◌, [], length, Some, None, IsTrue, IsSome, IsOk, IfErr, IfOk, OnErr, OnOk, OnSome};
+ghost use Rattle.std.specs.Prelude.{◌≡◌, ◌≢◌, ◌<◌, ◌≤◌, ◌*◌, ◌↔◌, [], length, Some, None, IsTrue, IsSome, IsOk, IfErr, IfNone, IfOk, OnErr, OnOk, OnSome};
 ghost use Rattle.std.specs.Arc.{arc_value};
 ghost use Rattle.std.specs.Fn.{FnOnceTakesAt, FnOnceReturnsAt};
 ghost use Rattle.scc_table.specs.Contents.{entries, bucket_count, settings_of, minimum_of, refused_of, key_hash};
@@ -216,6 +216,7 @@ impl<K: Eq + Hash, H: BuildHasher> Owned<K, H> {
         ensures growth { Grows self.old self.new }
         ensures due { find K.eq (entries self.old) k ≡ None → GrowsWhenDue (key_hash H.BuildHasher H.Hasher.Hasher K.hash_input self.old) (λ q. q) self.old k self.new }
         ensures first { OnOk result (FirstArrayWhenDue self.old self.new) }
+        ensures noted { IsSome (find K.eq (entries self.old) k) → refused_of self.new ≡ refused_of self.old }
         ensures unique { IsUnique K.eq self.new }
     {
         key_answer(self.map.insert_sync(k, ()))
@@ -233,6 +234,7 @@ impl<K: Eq + Hash, H: BuildHasher> Owned<K, H> {
         ensures growth { Grows self.old self.new }
         ensures due { find K.eq (entries self.old) k ≡ None → GrowsWhenDue (key_hash H.BuildHasher H.Hasher.Hasher K.hash_input self.old) (λ q. q) self.old k self.new }
         ensures first { find K.eq (entries self.old) k ≡ None → OnOk result (FirstArrayWhenDue self.old self.new) }
+        ensures noted { IsSome (find K.eq (entries self.old) k) → refused_of self.new ≡ refused_of self.old }
         ensures unique { IsUnique K.eq self.new }
     {
         match self.swap_key(k) {
@@ -247,6 +249,7 @@ impl<K: Eq + Hash, H: BuildHasher> Owned<K, H> {
     /// Puts `k` in the place of the key that equals it, and answers the old one; `k` itself, as an `Err`, where there is none.
     fn swap_key(&mut self, k: K) -> Result<K, K>
         ensures swapped { IfOk result (λ old. (find K.eq (entries self.old) k ≡ Some old) × HoldsExactly self.old (with_key K.eq (entries self.old) k) self.new × FindsInstead K.eq (entries self.old) k (Some k) (entries self.new)) }
+        ensures noted { refused_of self.new ≡ refused_of self.old }
         ensures missing { IfErr result (λ q. (q ≡ k) × (find K.eq (entries self.old) k ≡ None) × (self.new ≡ self.old)) }
         ensures unique { IsUnique K.eq self.new }
     {
@@ -261,6 +264,7 @@ impl<K: Eq + Hash, H: BuildHasher> Owned<K, H> {
         ensures finds { OnSome result (FindsInstead K.eq (entries self.old) k.now None (entries self.new)) }
         ensures smaller { bucket_count self.new ≢ bucket_count self.old → IsSmaller (minimum_of self.old) (length (entries self.new)) (bucket_count self.old) (bucket_count self.new) }
         ensures due { OnSome result (ShrinksWhenDue self.old self.new) }
+        ensures noted { IfNone result (refused_of self.new ≡ refused_of self.old) }
         ensures unique { IsUnique K.eq self.new }
     {
         key_alone(
@@ -281,6 +285,7 @@ impl<K: Eq + Hash, H: BuildHasher> Owned<K, H> {
         ensures finds { OnSome result (FindsInstead K.eq (entries self.old) k.now None (entries self.new)) }
         ensures smaller { bucket_count self.new ≢ bucket_count self.old → IsSmaller (minimum_of self.old) (length (entries self.new)) (bucket_count self.old) (bucket_count self.new) }
         ensures due { OnSome result (ShrinksWhenDue self.old self.new) }
+        ensures noted { IfNone result (refused_of self.new ≡ refused_of self.old) }
         ensures unique { IsUnique K.eq self.new }
     {
         key_alone(self.map.remove_sync(k))
@@ -305,6 +310,7 @@ fn swap_in_map<K: Eq + Hash, H: BuildHasher>(
     k: K,
 ) -> Result<K, K>
     ensures swapped { IfOk result (λ old. (find_pair K.eq (entries map.old) k ≡ Some (old, tt)) × HoldsExactly map.old (set_key (K.eq k) (entries map.old) k) map.new) }
+    ensures noted { refused_of map.new ≡ refused_of map.old }
     ensures missing { IfErr result (λ q. (q ≡ k) × (find_pair K.eq (entries map.old) k ≡ None) × (map.new ≡ map.old)) }
     ensures unique { IsUniqueMap K.eq map.new }
 {

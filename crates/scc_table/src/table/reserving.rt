@@ -48,6 +48,7 @@ where
         ensures yes { IsTrue result → Reserves additional self.old self.new }
         ensures due { IsTrue result → ReachesMinimumWhenDue self.old self.new }
         ensures no { (IsTrue result → ⊥) → IsUnchanged self.old self.new }
+        ensures noted { (IsTrue result → ⊥) → refused_of self.new ≡ refused_of self.old }
         ensures unique { IsUniqueBy E.Key.eq E.key_of self.new }
     {
         let minimum = self.minimum();
@@ -66,6 +67,7 @@ where
         ensures yes { IsTrue result → Releases additional self.old self.new }
         ensures due { IsTrue result → ShrinksWhenDue self.old self.new }
         ensures no { (IsTrue result → ⊥) → IsUnchanged self.old self.new }
+        ensures noted { (IsTrue result → ⊥) → refused_of self.new ≡ refused_of self.old }
         ensures unique { IsUniqueBy E.Key.eq E.key_of self.new }
     {
         let reserved = self.reserved();

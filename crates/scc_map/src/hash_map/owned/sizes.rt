@@ -1,6 +1,6 @@
 //! The calls about the size of a map: reservations, the range of the capacity, the bucket of a key.
-ghost use Rattle.std.specs.Prelude.{◌≡◌, ◌+◌, ◌≤◌, ◌<◌, ◌^◌, ◌↔◌, IsSome, IsOk, OnSome, OnOk};
-ghost use Rattle.scc_table.specs.Contents.{bucket_count, settings_of, minimum_of, pending_of, key_hash, bucket_of};
+ghost use Rattle.std.specs.Prelude.{◌≡◌, ◌+◌, ◌≤◌, ◌<◌, ◌^◌, ◌↔◌, IsSome, IsOk, IfNone, OnErr, OnOk, OnSome};
+ghost use Rattle.scc_table.specs.Contents.{bucket_count, settings_of, minimum_of, pending_of, refused_of, key_hash, bucket_of};
 ghost use Rattle.scc_table.specs.Pairs.{IsUnique};
 ghost use Rattle.scc_table.specs.Steps.{ReachesMinimumWhenDue, ShrinksWhenDue};
 ghost use Rattle.scc_map.specs.MapSizes.{ReservesOrRefuses, ReleasesOrRefuses};
@@ -17,6 +17,7 @@ impl<K: Eq + Hash, V, H: BuildHasher> Owned<K, V, H> {
         ensures step { ReservesOrRefuses additional self.old result self.new }
         ensures succeeds { IsSome result ↔ ((0 < additional) × (minimum_of self.old + additional ≤ 2 ^ 63)) }
         ensures due { OnSome result (ReachesMinimumWhenDue self.old self.new) }
+        ensures noted { IfNone result (refused_of self.new ≡ refused_of self.old) }
         ensures unique { IsUnique K.eq self.new }
     {
         if self.table.reserve(additional) {
@@ -31,6 +32,7 @@ impl<K: Eq + Hash, V, H: BuildHasher> Owned<K, V, H> {
         ensures step { ReleasesOrRefuses reservation self.old result self.new }
         ensures succeeds { IsOk result ↔ (reservation ≤ (settings_of self.old).reserved) }
         ensures due { OnOk result (ShrinksWhenDue self.old self.new) }
+        ensures noted { OnErr result (refused_of self.new ≡ refused_of self.old) }
         ensures unique { IsUnique K.eq self.new }
     {
         if self.table.release(reservation.additional_capacity()) {

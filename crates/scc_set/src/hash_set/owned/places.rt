@@ -1,7 +1,7 @@
 //! The places of keys, as an entry goes from one to the next.
 ghost use Rattle.std.specs.Prelude.{◌≡◌, ◌≢◌, [], suc, length, remove, slice_get, Some, MatchOption, false};
 ghost use Rattle.std.specs.Fn.{CalledAt, TakesAt};
-ghost use Rattle.scc_table.specs.Contents.{entries, bucket_count, minimum_of};
+ghost use Rattle.scc_table.specs.Contents.{entries, bucket_count, minimum_of, refused_of};
 ghost use Rattle.scc_table.specs.Placed.{front_of};
 ghost use Rattle.scc_table.specs.Places.{IsPlace, index_of};
 ghost use Rattle.scc_table.specs.Sizes.{IsSmaller};
@@ -68,6 +68,7 @@ impl<K: Eq + Hash, H: BuildHasher> Owned<K, H> {
         requires { IsPlace self.old place }
         ensures key { slice_get (entries self.old) (index_of self.old place) ≡ Some result.0 }
         ensures others { HoldsExactly self.old (remove (entries self.old) (index_of self.old place)) self.new }
+        ensures noted { refused_of self.new ≡ refused_of self.old }
         ensures next { MatchOption result.1 (suc (index_of self.old place) ≡ length (entries self.old)) (StandsAt self.new (index_of self.old place)) }
         ensures unique { IsUnique K.eq self.new }
     {

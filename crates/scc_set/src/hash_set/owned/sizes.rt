@@ -1,6 +1,6 @@
 //! The calls about the size of a set: reservations, the range of the capacity, the bucket of a key.
-ghost use Rattle.std.specs.Prelude.{◌≡◌, ◌+◌, ◌≤◌, ◌<◌, ◌^◌, ◌↔◌, IsSome, IsOk, OnSome, OnOk};
-ghost use Rattle.scc_table.specs.Contents.{settings_of, minimum_of, pending_of, key_hash, bucket_of};
+ghost use Rattle.std.specs.Prelude.{◌≡◌, ◌+◌, ◌≤◌, ◌<◌, ◌^◌, ◌↔◌, IsSome, IsOk, IfNone, OnErr, OnOk, OnSome};
+ghost use Rattle.scc_table.specs.Contents.{settings_of, minimum_of, pending_of, refused_of, key_hash, bucket_of};
 ghost use Rattle.scc_table.specs.Steps.{ReachesMinimumWhenDue, ShrinksWhenDue};
 ghost use Rattle.scc_map.specs.MapSizes.{ReservesOrRefuses, ReleasesOrRefuses};
 ghost use Rattle.scc_set.specs.Keys.{IsUnique};
@@ -16,6 +16,7 @@ impl<K: Eq + Hash, H: BuildHasher> Owned<K, H> {
         ensures step { ReservesOrRefuses additional self.old result self.new }
         ensures succeeds { IsSome result ↔ ((0 < additional) × (minimum_of self.old + additional ≤ 2 ^ 63)) }
         ensures due { OnSome result (ReachesMinimumWhenDue self.old self.new) }
+        ensures noted { IfNone result (refused_of self.new ≡ refused_of self.old) }
         ensures unique { IsUnique K.eq self.new }
     {
         self.map.reserve(additional)
@@ -26,6 +27,7 @@ impl<K: Eq + Hash, H: BuildHasher> Owned<K, H> {
         ensures step { ReleasesOrRefuses reservation self.old result self.new }
         ensures succeeds { IsOk result ↔ (reservation ≤ (settings_of self.old).reserved) }
         ensures due { OnOk result (ShrinksWhenDue self.old self.new) }
+        ensures noted { OnErr result (refused_of self.new ≡ refused_of self.old) }
         ensures unique { IsUnique K.eq self.new }
     {
         self.map.release(reservation)

@@ -1,7 +1,7 @@
 //! What makes an entry of a borrowed map, and what lets the map go. The search is made once, and an entry holds its place.
 ghost use Rattle.std.specs.Prelude.{◌≡◌, ◌≢◌, ◌++◌, length, None, IfOk, OnErr, OnOk, IfErr, IfSome, IfNone};
 ghost use Rattle.std.specs.Borrow.{sem};
-ghost use Rattle.scc_table.specs.Contents.{entries, bucket_count, minimum_of, key_hash};
+ghost use Rattle.scc_table.specs.Contents.{entries, bucket_count, minimum_of, refused_of, key_hash};
 ghost use Rattle.scc_table.specs.Pairs.{find, HasRoom, IsUnique};
 ghost use Rattle.scc_table.specs.Sizes.{IsSmaller};
 ghost use Rattle.scc_table.specs.Steps.{Holds, ShrinksWhenDue};
@@ -65,6 +65,7 @@ impl<K: Eq + Hash, V, H: BuildHasher> Owned<K, V, H> {
     pub fn replace_sync(&mut self, k: K) -> ReplaceResult<'_, K, V, H>
         ensures same_map { (replaced_guard result).ghost_name ≡ self.entry.ghost_name }
         ensures step { Replaces K.eq self.old k result }
+        ensures noted { refused_of (replaced_guard result).now ≡ refused_of self.old }
         ensures unique { IsUnique K.eq (replaced_guard result).now }
     {
         let hash = self.table.hash(&k);

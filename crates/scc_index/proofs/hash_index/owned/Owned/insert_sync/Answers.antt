@@ -59,3 +59,8 @@ returns-after-insert_made-clause-same g c =
       | in-Ok w ↦ rw w.result-is tt
       | in-Err w ↦ rw (w.result-is, ← c.self.view_is) (finds-unchanged g.met.K.Eq.laws c.self.inside.table c.insert_made.new.self w.in-Err.ensures.err.1)
     ]
+
+pub returns-after-insert_made-clause-noted : goal.returns-after-insert_made-clause-noted
+returns-after-insert_made-clause-noted g c =
+    let none = find-position_none (g.K.PartialEq.eq c.args.k) (entries c.self.inside.table) c.in-None.ensures.place in
+    rw (← c.self.view_is, none) (λ there. absurd (search rules))

@@ -57,3 +57,8 @@ returns-after-insert_new-clause-same g c =
       | in-Ok w ↦ rw w.result-is tt
       | in-Err w ↦ rw (w.result-is, ← c.self.view_is) (finds-rearranged g.met.K.Eq.laws c.self.inside.table c.insert_new.new.self w.in-Err.ensures.err.1 c.insert_new.ensures.unique)
     ]
+
+pub returns-after-insert_new-clause-noted : goal.returns-after-insert_new-clause-noted
+returns-after-insert_new-clause-noted g c =
+    let none = find-position_none (g.K.PartialEq.eq c.args.k) (entries c.self.inside.table) c.in-None.ensures.place in
+    rw (← c.self.view_is, none) (λ there. absurd (search rules))

@@ -104,3 +104,6 @@ returns-then-f-clause-due g c =
     let unique = rw c.self.view_is at c.in_ok-place.ensures.unique in
     let f = place-found g.K.PartialEq.eq m c.args.k.now c.in_ok-place.place found in
     shrinks-after m _ c.remove_at.new.self (value-written laws m c.in_ok-place.place found.within c.args.k.now unique f c.f.new.arg2).buckets (noted-write with_pair_value m c.in_ok-place.place c.f.new.arg2) c.remove_at.ensures.due
+
+pub returns-else-f-clause-noted : goal.returns-else-f-clause-noted
+returns-else-f-clause-noted g c = noted-write with_pair_value c.args.self.now c.in_ok-place.place c.f.new.arg2

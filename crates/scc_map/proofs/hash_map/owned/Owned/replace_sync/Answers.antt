@@ -1,5 +1,5 @@
 use Rattle.std.proofs.Common.{◌≡◌, ◌∙◌, sym, ap, Some}
-use Rattle.scc_table.specs.Contents.{entries}
+use Rattle.scc_table.specs.Contents.{entries, refused_of}
 use Rattle.std.specs.List.{slice_get}
 use Rattle.scc_table.specs.Pairs.{find}
 use Rattle.scc_table.specs.Places.{index_of}
@@ -7,7 +7,7 @@ use Rattle.scc_table.specs.Writes.{IsPlace-with_write_at}
 use Rattle.scc_table.specs.Pairs.{with_pair_key}
 use Rattle.scc_table.proofs.Placed.{entry_of-is}
 use Rattle.scc_table.proofs.Lookups.{find-position_none}
-use Rattle.scc_table.proofs.KeyWrites.{place-found, key-written, key-unique, key-got}
+use Rattle.scc_table.proofs.KeyWrites.{place-found, key-written, key-unique, key-got, noted-write}
 use Rattle.scc_map.proofs.hash_map.owned.Owned.replace_sync.Goals as goal
 
 pub replace_key_at-old-requires-clause-same : goal.replace_key_at-old-requires-clause-same
@@ -50,3 +50,6 @@ returns-in-Some-clause-unique g c =
     let unique = rw c.self.view_is at c.in-Some.ensures.unique in
     let f = place-found g.K.PartialEq.eq m c.args.k c.in-Some.place found in
     rw c.replace_key_at-old.ensures.new (key-unique laws m c.in-Some.place found.within c.args.k unique f c.args.k f.3)
+
+pub returns-in-Some-clause-noted : goal.returns-in-Some-clause-noted
+returns-in-Some-clause-noted g c = ap refused_of c.replace_key_at-old.ensures.new ∙ noted-write with_pair_key c.args.self.now c.in-Some.place c.args.k

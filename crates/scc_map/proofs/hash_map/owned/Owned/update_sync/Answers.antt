@@ -1,8 +1,8 @@
 use Rattle.std.proofs.Common.{◌≡◌, Some, refl, sym, ◌∙◌}
 use Rattle.scc_table.specs.Contents.{entries}
-use Rattle.scc_table.specs.Pairs.{find}
+use Rattle.scc_table.specs.Pairs.{find, with_pair_value}
 use Rattle.scc_table.proofs.Lookups.{find-position_none}
-use Rattle.scc_table.proofs.KeyWrites.{place-found, value-written, value-unique}
+use Rattle.scc_table.proofs.KeyWrites.{noted-write, place-found, value-written, value-unique}
 use Rattle.scc_map.proofs.CallerLemmas.{finds-set_value}
 use Rattle.scc_map.proofs.hash_map.owned.Owned.update_sync.Goals as goal
 
@@ -61,3 +61,6 @@ returns-in-Some-clause-finds g c =
 
 pub returns-in-None-clause-missing : goal.returns-in-None-clause-missing
 returns-in-None-clause-missing g c = rw (← c.self.view_is) (find-position_none (g.K.PartialEq.eq c.args.k.now) (entries c.self.inside.table) c.in-None.ensures.place)
+
+pub returns-in-Some-clause-noted : goal.returns-in-Some-clause-noted
+returns-in-Some-clause-noted g c = noted-write with_pair_value c.args.self.now c.in-Some.place c.u.new.arg3

@@ -1,9 +1,9 @@
 use Rattle.std.proofs.Common.{◌≡◌, Some, sym, ap, ◌∙◌, rules}
 use Rattle.scc_table.specs.Contents.{entries}
-use Rattle.scc_table.specs.Pairs.{find}
+use Rattle.scc_table.specs.Pairs.{find, with_pair_value}
 use Rattle.scc_map.proofs.CallerLemmas.{finds-rearranged, finds-set_value}
 use Rattle.scc_table.proofs.Lookups.{find-position_none, finds-added}
-use Rattle.scc_table.proofs.KeyWrites.{grows-same, place-found, value-written, value-unique}
+use Rattle.scc_table.proofs.KeyWrites.{grows-same, noted-write, place-found, value-written, value-unique}
 use Rattle.scc_map.proofs.hash_map.owned.Owned.upsert_sync.Goals as goal
 use Rattle.scc_map.proofs.hash_map.owned.Owned.upsert_sync.Goals.{in-Ok, in-Err}
 
@@ -90,3 +90,11 @@ returns-after-insert_new-clause-same g c =
       | in-Ok w ↦ rw w.result-is tt
       | in-Err w ↦ rw (w.result-is, ← c.self.view_is) (finds-rearranged g.met.K.Eq.laws c.self.inside.table c.insert_new.new.self w.in-Err.ensures.err.1 c.insert_new.ensures.unique)
     ]
+
+pub returns-in-Some-clause-noted : goal.returns-in-Some-clause-noted
+returns-in-Some-clause-noted g c = λ _. noted-write with_pair_value c.args.self.now c.in-Some.place c.replace.new.dest
+
+pub returns-after-insert_new-clause-noted : goal.returns-after-insert_new-clause-noted
+returns-after-insert_new-clause-noted g c =
+    let none = find-position_none (g.K.PartialEq.eq c.args.k) (entries c.self.inside.table) c.in-None.ensures.place in
+    rw (← c.self.view_is, none) (λ there. absurd (search rules))

@@ -1,6 +1,6 @@
 use Rattle.std.proofs.Common.{sym, ◌∙◌}
 use Rattle.scc_table.proofs.Mapped.{Grows-mapped, FirstArrayWhenDue-mapped}
-use Rattle.scc_set.proofs.Sets.{on-refusal, same-keys, shows, on-answer, ok-answer, Inserts-hashed, roomy-hashed, grows-hashed, finds-keys, none-found, unique-keys}
+use Rattle.scc_set.proofs.Sets.{found-is, noted-keys, on-refusal, same-keys, shows, on-answer, ok-answer, Inserts-hashed, roomy-hashed, grows-hashed, finds-keys, none-found, unique-keys}
 use Rattle.scc_set.proofs.hash_set.owned.Owned.insert_sync.Goals as goal
 
 pub returns-clause-step : goal.returns-clause-step
@@ -29,3 +29,6 @@ returns-clause-first g c = rw (← c.self.view_is, c.key_answer.ensures) (on-ans
 
 pub returns-clause-unique : goal.returns-clause-unique
 returns-clause-unique g c = unique-keys _ _ c.insert_sync.ensures.unique
+
+pub returns-clause-noted : goal.returns-clause-noted
+returns-clause-noted g c = rw (← c.self.view_is) (λ there. noted-keys _ _ (c.insert_sync.ensures.noted (found-is g.K.PartialEq.eq c.self.inside.map c.args.k there)))

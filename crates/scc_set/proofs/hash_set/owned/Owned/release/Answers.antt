@@ -1,5 +1,5 @@
 use Rattle.scc_table.proofs.Mapped.{ShrinksWhenDue-mapped}
-use Rattle.scc_set.proofs.Sets.{ReleasesOrRefuses-keys, on-ok, shows, unique-keys}
+use Rattle.scc_set.proofs.Sets.{ReleasesOrRefuses-keys, noted-keys, on-err, on-ok, shows, unique-keys}
 use Rattle.scc_set.proofs.hash_set.owned.Owned.release.Goals as goal
 
 pub returns-clause-step : goal.returns-clause-step
@@ -13,3 +13,6 @@ returns-clause-due g c = rw (← c.self.view_is) (on-ok c.release.result (Shrink
 
 pub returns-clause-unique : goal.returns-clause-unique
 returns-clause-unique g c = unique-keys _ _ c.release.ensures.unique
+
+pub returns-clause-noted : goal.returns-clause-noted
+returns-clause-noted g c = rw (← c.self.view_is) (on-err c.release.result (noted-keys _ _) c.release.ensures.noted)

@@ -2,7 +2,7 @@ use Rattle.std.proofs.Common.{refl, rules}
 use Rattle.scc_table.proofs.Mapped.{ShrinksWhenDue-mapped}
 use Rattle.scc_table.specs.Pairs.{find as find_pair}
 use Rattle.scc_table.specs.Contents.{entries}
-use Rattle.scc_set.proofs.Sets.{found, is-found, on-key, RemovesIf-keys, finds-keys, smaller-keys, unique-keys}
+use Rattle.scc_set.proofs.Sets.{found, is-found, noted-keys, on-key, on-no_key, RemovesIf-keys, finds-keys, smaller-keys, unique-keys}
 use Rattle.scc_set.proofs.hash_set.owned.Owned.remove_if_sync.Goals as goal
 
 pub remove_if_sync-requires : goal.remove_if_sync-requires
@@ -23,3 +23,6 @@ returns-clause-due g c = rw (← c.self.view_is, c.key_alone.ensures) (on-key c.
 
 pub returns-clause-unique : goal.returns-clause-unique
 returns-clause-unique g c = unique-keys _ _ c.remove_if_sync.ensures.unique
+
+pub returns-clause-noted : goal.returns-clause-noted
+returns-clause-noted g c = rw (← c.self.view_is, c.key_alone.ensures) (on-no_key c.remove_if_sync.result (noted-keys _ _) c.remove_if_sync.ensures.noted)

@@ -1,5 +1,5 @@
 use Rattle.scc_table.proofs.Mapped.{ShrinksWhenDue-mapped}
-use Rattle.scc_set.proofs.Sets.{on-key, Removes-keys, finds-keys, smaller-keys, unique-keys}
+use Rattle.scc_set.proofs.Sets.{noted-keys, on-key, on-no_key, Removes-keys, finds-keys, smaller-keys, unique-keys}
 use Rattle.scc_set.proofs.hash_set.owned.Owned.remove_sync.Goals as goal
 
 pub returns-clause-step : goal.returns-clause-step
@@ -16,3 +16,6 @@ returns-clause-due g c = rw (← c.self.view_is, c.key_alone.ensures) (on-key c.
 
 pub returns-clause-unique : goal.returns-clause-unique
 returns-clause-unique g c = unique-keys _ _ c.remove_sync.ensures.unique
+
+pub returns-clause-noted : goal.returns-clause-noted
+returns-clause-noted g c = rw (← c.self.view_is, c.key_alone.ensures) (on-no_key c.remove_sync.result (noted-keys _ _) c.remove_sync.ensures.noted)

@@ -1,5 +1,5 @@
 use Rattle.scc_table.proofs.Mapped.{ReachesMinimumWhenDue-mapped}
-use Rattle.scc_set.proofs.Sets.{ReservesOrRefuses-keys, on-some, shows, unique-keys}
+use Rattle.scc_set.proofs.Sets.{ReservesOrRefuses-keys, noted-keys, on-none, on-some, shows, unique-keys}
 use Rattle.scc_set.proofs.hash_set.owned.Owned.reserve.Goals as goal
 
 pub returns-clause-step : goal.returns-clause-step
@@ -13,3 +13,6 @@ returns-clause-due g c = rw (← c.self.view_is) (on-some c.reserve.result (Reac
 
 pub returns-clause-unique : goal.returns-clause-unique
 returns-clause-unique g c = unique-keys _ _ c.reserve.ensures.unique
+
+pub returns-clause-noted : goal.returns-clause-noted
+returns-clause-noted g c = rw (← c.self.view_is) (on-none c.reserve.result (noted-keys _ _) c.reserve.ensures.noted)

@@ -1,4 +1,4 @@
-use Rattle.scc_set.proofs.Sets.{swapped-keys, missing-keys, unique-keys}
+use Rattle.scc_set.proofs.Sets.{noted-keys, swapped-keys, missing-keys, unique-keys}
 use Rattle.scc_set.proofs.hash_set.owned.Owned.swap_key.Goals as goal
 
 pub returns-clause-swapped : goal.returns-clause-swapped
@@ -9,3 +9,6 @@ returns-clause-missing g c = rw (← c.self.view_is) (missing-keys g.met.K.Eq.la
 
 pub returns-clause-unique : goal.returns-clause-unique
 returns-clause-unique g c = unique-keys _ _ c.swap_in_map.ensures.unique
+
+pub returns-clause-noted : goal.returns-clause-noted
+returns-clause-noted g c = rw (← c.self.view_is) (noted-keys _ _ c.swap_in_map.ensures.noted)

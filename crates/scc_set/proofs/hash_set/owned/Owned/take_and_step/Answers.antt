@@ -1,5 +1,5 @@
 use Rattle.scc_table.proofs.Mapped.{IsPlace-from_mapped}
-use Rattle.scc_set.proofs.Sets.{unique-keys}
+use Rattle.scc_set.proofs.Sets.{noted-keys, unique-keys}
 use Rattle.scc_set.proofs.Places.{get-key, exactly-others, follows-taken}
 use Rattle.scc_set.proofs.hash_set.owned.Owned.take_and_step.Goals as goal
 
@@ -17,3 +17,6 @@ returns-clause-next g c = rw (← c.self.view_is) (follows-taken c.self.inside.m
 
 pub returns-clause-unique : goal.returns-clause-unique
 returns-clause-unique g c = unique-keys _ _ c.take_and_step-pair.ensures.unique
+
+pub returns-clause-noted : goal.returns-clause-noted
+returns-clause-noted g c = rw (← c.self.view_is) (noted-keys _ _ c.take_and_step-pair.ensures.noted)

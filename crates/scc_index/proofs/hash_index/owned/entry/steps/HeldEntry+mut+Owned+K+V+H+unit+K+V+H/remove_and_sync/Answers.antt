@@ -7,7 +7,7 @@ pub returns-in-Some : goal.returns-in-Some
 returns-in-Some g c = (
   (refl, λ w. refl, tt),
   record {
-    next = next-past c.args.self _ refl c.in-Some.ensures.others c.in-Some.ensures.next.index;
+    next = next-past c.args.self _ refl c.in-Some.ensures.others c.in-Some.ensures.noted c.in-Some.ensures.next.index;
     unique = c.in-Some.ensures.unique;
     last = tt;
     kept = tt;
@@ -16,6 +16,6 @@ returns-in-Some g c = (
 
 pub returns-in-None : goal.returns-in-None
 returns-in-None g c = (
-  (refl, λ _. tt, (left-there _ _ _ c.in-None.ensures.others, c.in-None.ensures.unique)),
+  (refl, λ _. tt, (left-there _ _ _ c.in-None.ensures.others, c.in-None.ensures.noted, c.in-None.ensures.unique)),
   record { next = tt; unique = tt; last = back-none _ _ c.in-None.ensures.next; kept = tt },
 )

@@ -10,7 +10,7 @@ returns-in-Some g c =
       (refl, λ w. refl, tt),
       record {
         pair = pair-is c.args.self c.args.self.guard.now c.take_and_step-pair.result.0 refl c.take_and_step-pair.ensures.pair;
-        next = next-past c.args.self _ refl c.take_and_step-pair.ensures.others next.index;
+        next = next-past c.args.self _ refl c.take_and_step-pair.ensures.others c.take_and_step-pair.ensures.noted next.index;
         unique = c.take_and_step-pair.ensures.unique;
         last = tt;
         kept = tt;
@@ -20,7 +20,7 @@ returns-in-Some g c =
 pub returns-in-None : goal.returns-in-None
 returns-in-None g c =
     let none = rw c.in-None.is at c.take_and_step-pair.ensures.next in (
-      (refl, λ _. tt, (left-there _ _ _ c.take_and_step-pair.ensures.others, c.take_and_step-pair.ensures.unique)),
+      (refl, λ _. tt, (left-there _ _ _ c.take_and_step-pair.ensures.others, c.take_and_step-pair.ensures.noted, c.take_and_step-pair.ensures.unique)),
       record {
         pair = tt;
         next = tt;
