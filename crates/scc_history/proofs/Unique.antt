@@ -1,5 +1,5 @@
 -- There is one stamp order.
-use Rattle.std.proofs.Common.{◌≡◌, ℕ, zero, suc, ◌+◌, ◌<◌, ◌≤◌, List, [], ◌∷◌, length, map, get_or, Some, ◌⊎◌, inl, inr, refl, sym, ap, ◌∙◌, arith}
+use Rattle.std.proofs.Common.{◌≡◌, ℕ, zero, suc, ◌+◌, ◌<◌, ◌≤◌, List, [], ◌∷◌, length, map, get_or, Some, ◌⊎◌, inl, inr, refl, sym, ap, ◌∙◌, subst, arith}
 use Rattle.std.specs.Prelude.{slice_get, slice_set, slice_index}
 use Rattle.std.specs.List.{AllPairs}
 use Rattle.std.proofs.lemmas.Bool.{cases_eq}
@@ -18,16 +18,21 @@ get_other (x ∷ xs) zero (suc k) n h = refl
 get_other (x ∷ xs) (suc i) zero n h = refl
 get_other (x ∷ xs) (suc i) (suc k) n h = get_other xs i k n (λ e. h (ap suc e))
 
+some_is : {i j : ℕ} → Some i ≡ Some j → i ≡ j
+some_is e = cc
+
+pair_is : (p : ℕ × ℕ) (i j : ℕ) → p.0 ≡ i → p.1 ≡ j → p ≡ (i, j)
+pair_is p i j e f = rw (sym e, sym f) refl
+
 -- where the next step of list k isn't done, it stands in the rest of the merge
 stands : (lengths done : List ℕ) (places : List (ℕ × ℕ)) (k j : ℕ) (d : ℕ × ℕ) → MergeFrom lengths done places → slice_get done k ≡ Some j → j < slice_index lengths k → (n : ℕ) × (n < length places) × (get_or places n d ≡ (k, j))
 stands lengths done [] k j d m e h = absurd (omega (arith, get_index done k j e, h, ap (λ l. slice_index l k) m))
-stands lengths done (place ∷ places) k j d m e h = by_list (cases_eq k place.0)
+stands lengths done (place ∷ places) k j d m e h =
+    by_list (cases_eq k place.0) (λ s. stands lengths (slice_set done place.0 (place.1 + 1)) places k j d m.2 (get_other done place.0 k (place.1 + 1) s ∙ e) h)
   where
-    by_list : (k ≡ place.0) ⊎ (k ≡ place.0 → ⊥) → (n : ℕ) × (n < length (place ∷ places)) × (get_or (place ∷ places) n d ≡ (k, j))
-    by_list (inl s) = (0, omega arith, cc)
-    by_list (inr s) =
-        let r = stands lengths (slice_set done place.0 (place.1 + 1)) places k j d m.2 (get_other done place.0 k (place.1 + 1) s ∙ e) h in
-        (suc r.0, omega (arith, r.1), r.2)
+    by_list : (k ≡ place.0) ⊎ (k ≡ place.0 → ⊥) → ((k ≡ place.0 → ⊥) → (n : ℕ) × (n < length places) × (get_or places n d ≡ (k, j))) → (n : ℕ) × (n < length (place ∷ places)) × (get_or (place ∷ places) n d ≡ (k, j))
+    by_list (inl s) later = let f : place.1 ≡ j = some_is (sym m.0 ∙ ap (λ i. slice_get done i) (sym s) ∙ e) in (0, omega arith, pair_is place k j (sym s) f)
+    by_list (inr s) later = let r = later s in (suc r.0, omega (arith, r.1), r.2)
 
 module _ (A R : Type 0) (hs : List (List (Step A R))) where
   both_ways : (p q : ℕ × ℕ) → Comes hs p q → Comes hs q p → p.0 ≡ q.0
@@ -51,15 +56,18 @@ module _ (A R : Type 0) (hs : List (List (Step A R))) where
   one_from lengths done [] [] m n a b = refl
   one_from lengths done [] (q ∷ qs) m n a b = absurd (omega (arith, get_index done q.0 q.1 n.0, n.1, ap (λ l. slice_index l q.0) m))
   one_from lengths done (p ∷ ps) [] m n a b = absurd (omega (arith, get_index done p.0 p.1 m.0, m.1, ap (λ l. slice_index l p.0) n))
-  one_from lengths done (p ∷ ps) (q ∷ qs) m n a b = by_list (cases_eq p.0 q.0)
+  one_from lengths done (p ∷ ps) (q ∷ qs) m n a b =
+      by_list (cases_eq p.0 q.0) (λ s. one_from lengths (slice_set done p.0 (p.1 + 1)) ps qs m.2 (same_next s) (rest_pairs p ps a) (rest_pairs q qs b))
     where
-      by_list : (p.0 ≡ q.0) ⊎ (p.0 ≡ q.0 → ⊥) → p ∷ ps ≡ q ∷ qs
-      by_list (inl s) =
-          let t : p.1 ≡ q.1 = sym (get_index done p.0 p.1 m.0) ∙ ap (λ i. slice_index done i) s ∙ get_index done q.0 q.1 n.0 in
-          let e : p ≡ q = cc in
-          let r = one_from lengths (slice_set done p.0 (p.1 + 1)) ps qs m.2 (rw (sym s, sym t) n.2) (rest_pairs p ps a) (rest_pairs q qs b) in
-          rw (e, r) refl
-      by_list (inr s) = absurd (s (both_ways p q (first_comes lengths done p q ps m a n.0 n.1 s) (first_comes lengths done q p qs n b m.0 m.1 (λ e. s (sym e)))))
+      second : p.0 ≡ q.0 → p.1 ≡ q.1
+      second s = sym (get_index done p.0 p.1 m.0) ∙ ap (λ i. slice_index done i) s ∙ get_index done q.0 q.1 n.0
+
+      same_next : p.0 ≡ q.0 → MergeFrom lengths (slice_set done p.0 (p.1 + 1)) qs
+      same_next s = subst (λ i. MergeFrom lengths (slice_set done i (p.1 + 1)) qs) (sym s) (subst (λ j. MergeFrom lengths (slice_set done q.0 (j + 1)) qs) (sym (second s)) n.2)
+
+      by_list : (p.0 ≡ q.0) ⊎ (p.0 ≡ q.0 → ⊥) → (p.0 ≡ q.0 → ps ≡ qs) → p ∷ ps ≡ q ∷ qs
+      by_list (inl s) rest = let e : p ≡ q = pair_is p q.0 q.1 s (second s) in rw (e, rest s) refl
+      by_list (inr s) rest = absurd (s (both_ways p q (first_comes lengths done p q ps m a n.0 n.1 s) (first_comes lengths done q p qs n b m.0 m.1 (λ e. s (sym e)))))
 
   -- two stamp orders of the same histories are the same
   pub only_order : (ps qs : List (ℕ × ℕ)) → IsStampOrder hs ps → IsStampOrder hs qs → ps ≡ qs
