@@ -1,5 +1,5 @@
 -- Clones of pairs with unit values are clones of their keys.
-use Rattle.std.proofs.Common.{◌≡◌, Bool, List, [], ◌∷◌, Option, None, Some, MatchOption, refl, sym, ap, ◌∙◌}
+use Rattle.std.proofs.Common.{◌≡◌, Bool, List, [], ◌∷◌, Option, None, Some, MatchOption, ap}
 use Rattle.std.specs.List.{AllZip}
 use Rattle.std.specs.Map.{keys_of}
 use Rattle.std.specs.Option.{IsSomeAnd}
@@ -10,7 +10,7 @@ use Rattle.scc_table.specs.Pairs.{find as find_pair}
 use Rattle.scc_table.proofs.Mapped.{entries-mapped, bucket_count-mapped, settings_of-mapped}
 use Rattle.scc_map.specs.Collections as pairs
 use Rattle.scc_set.specs.Collections.{FindsClones}
-use Rattle.scc_set.specs.Keys.{find, of_map}
+use Rattle.scc_set.specs.Keys.{of_map}
 use Rattle.scc_set.proofs.Sets.{found, key_alone}
 
 module _ {K : Type 0} (C : K → K → Type 0) (D : K × Unit {0} → K × Unit {0} → Type 0) (one : (p q : K × Unit {0}) → D p q → C p.0 q.0) where

@@ -1,23 +1,23 @@
 -- What the map's words say of pairs, the set's say of keys.
-use Rattle.std.proofs.Common.{◌≡◌, ◌≢◌, ℕ, ◌+◌, ◌*◌, ◌≤◌, ◌<◌, ◌↔◌, Bool, true, false, cond, ◌⊎◌, inl, inr, List, [], ◌∷◌, length, map, Option, None, Some, Ok, Err, IsTrue, IsSome, refl, sym, ap, subst, ◌∙◌}
+use Rattle.std.proofs.Common.{◌≡◌, ◌≢◌, ℕ, Bool, true, false, cond, List, [], ◌∷◌, length, Option, None, Some, Ok, Err, IsSome, refl, sym, ap, subst, ◌∙◌}
 use Rattle.std.specs.Prelude.{Result, IfErr, IfNone, IfOk, OnErr, OnOk, OnSome, IsOk, IsSomeAnd}
 use Rattle.std.specs.Borrow.{Bor, MutBor}
 use Rattle.std.specs.Fn.{Once, FnOnceReturnsAt}
 use Rattle.std.specs.Cmp.{IsEquivalence}
 use Rattle.std.specs.Hash.{HashWrites}
 use Rattle.std.proofs.lemmas.Bool.{false≢true}
-use Rattle.std.specs.List.{IsDistinct, find as first_passing}
+use Rattle.std.specs.List.{find as first_passing}
 use Rattle.std.specs.Map.{keys_of, lookup_entry, remove_entry, set_key, set_value}
 use Rattle.std.specs.Option.{option_map}
 use Rattle.std.specs.Set.{remove_key, swap_key}
 use Rattle.std.specs.declared.hash.Hasher as hasher
 use Rattle.std.specs.declared.hash.BuildHasher as builder
-use Rattle.scc_table.specs.Contents.{Contents, Settings, entries, bucket_count, settings_of, minimum_of, refused_of, pending_of, key_hash, bucket_of, HasRoomBy}
+use Rattle.scc_table.specs.Contents.{Contents, entries, bucket_count, settings_of, minimum_of, refused_of, pending_of, key_hash, bucket_of}
 use Rattle.scc_table.specs.Mapped.{mapped}
 use Rattle.scc_table.specs.Sizes.{IsSmaller}
-use Rattle.scc_table.specs.Steps.{Holds, HoldsExactly, IsUnchanged, Rests, Grows, FirstArrayWhenDue, GrowsWhenDue, ShrinksWhenDue, ReachesMinimumWhenDue}
+use Rattle.scc_table.specs.Steps.{Holds, HoldsExactly, IsUnchanged, GrowsWhenDue}
 use Rattle.scc_table.specs.Pairs.{find as find_pair, without as without_pair, FindsInstead as FindsPairInstead, HasRoom as HasRoomForPair, IsUnique as IsUniqueMap}
-use Rattle.scc_table.proofs.Mapped.{entries-mapped, bucket_count-mapped, settings_of-mapped, refused_of-mapped, pending_of-mapped, length-mapped, HoldsExactly-mapped, IsUnchanged-mapped, Holds-mapped, Rests-mapped, Grows-mapped, FirstArrayWhenDue-mapped, ShrinksWhenDue-mapped, ReachesMinimumWhenDue-mapped, Reserves-mapped, Releases-mapped, HasRoomBy-mapped, HasRoomBy-from_mapped, GrowsWhenDue-mapped}
+use Rattle.scc_table.proofs.Mapped.{entries-mapped, bucket_count-mapped, settings_of-mapped, refused_of-mapped, pending_of-mapped, length-mapped, HoldsExactly-mapped, IsUnchanged-mapped, Holds-mapped, Rests-mapped, Reserves-mapped, Releases-mapped, HasRoomBy-mapped, HasRoomBy-from_mapped, GrowsWhenDue-mapped}
 use Rattle.scc_common.specs.declared.errors.InsertError.{InsertError}
 use Rattle.scc_common.specs.declared.errors.InsertError.TheVariants.{Exists, Memory}
 use Rattle.scc_map.specs.MapSizes.{ReservesOrRefuses, ReleasesOrRefuses}

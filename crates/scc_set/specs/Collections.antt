@@ -1,5 +1,5 @@
 -- A set that is made of items, or of another set's keys.
-use Rattle.std.specs.Prelude.{◌≡◌, ℕ, ◌*◌, ◌<◌, Bool, List, [], ◌∷◌, length, None, IsSome, MatchOption, ◌⊎◌}
+use Rattle.std.specs.Prelude.{◌≡◌, ◌*◌, ◌<◌, Bool, List, [], ◌∷◌, length, None, IsSome, MatchOption, ◌⊎◌}
 use Rattle.std.specs.List.{FoldsTo}
 use Rattle.std.specs.Option.{IsSomeAnd}
 use Rattle.scc_table.specs.Contents.{Contents, entries, bucket_count, settings_of}

@@ -1,5 +1,5 @@
 -- Walks over the keys of a set: what a closure was called on in turn, and what became of each key.
-use Rattle.std.specs.Prelude.{◌≡◌, Bool, true, false, List, [], ◌∷◌, Result, Ok, Err}
+use Rattle.std.specs.Prelude.{Bool, true, false, List, [], ◌∷◌, Result, Ok, Err}
 use Rattle.std.specs.Borrow.{Bor}
 use Rattle.std.specs.Fn.{Mut, CalledAt, TakesAt}
 use Rattle.scc_table.specs.Walks.{HoldsInTurn}

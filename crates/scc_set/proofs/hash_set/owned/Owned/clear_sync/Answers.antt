@@ -1,6 +1,6 @@
 use Rattle.std.proofs.Common.{ap, ◌∙◌}
 use Rattle.std.specs.Map.{keys_of}
-use Rattle.scc_table.proofs.Mapped.{Holds-mapped, ShrinksWhenDue-mapped, bucket_count-mapped, settings_of-mapped}
+use Rattle.scc_table.proofs.Mapped.{Holds-mapped, ShrinksWhenDue-mapped}
 use Rattle.scc_set.proofs.Sets.{shows, unique-keys}
 use Rattle.scc_set.proofs.hash_set.owned.Owned.clear_sync.Goals as goal
 

@@ -1,4 +1,4 @@
-use Rattle.std.proofs.Common.{refl, inl, inr, ◌∙◌, ap}
+use Rattle.std.proofs.Common.{inl, inr, ◌∙◌}
 use Rattle.std.proofs.lemmas.Fn.{FoldsTo-push}
 use Rattle.scc_table.specs.Contents.{entries}
 use Rattle.scc_set.specs.Collections.{InsertsOne}

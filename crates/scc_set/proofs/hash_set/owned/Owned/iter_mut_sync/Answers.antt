@@ -1,20 +1,20 @@
-use Rattle.std.proofs.Common.{◌≡◌, ◌++◌, rules, arith, ap, sym, ◌∙◌, map, append-nil}
+use Rattle.std.proofs.Common.{arith, ap, sym, ◌∙◌}
 use Rattle.std.proofs.lemmas.List.{length-map}
 use Rattle.scc_walks.specs.PairWalks.{GoesOn}
 use Rattle.scc_map.specs.Sinks.{with_units}
-use Rattle.scc_table.proofs.Mapped.{Holds-mapped, ShrinksWhenDue-mapped, bucket_count-mapped}
+use Rattle.scc_table.proofs.Mapped.{Holds-mapped, ShrinksWhenDue-mapped}
 use Rattle.scc_set.proofs.Sets.{on-err, shows, smaller-keys, unique-keys}
 use Rattle.scc_set.proofs.Walks.{ordered-keys, callable-writes, to-key, Takes-keys, taken-keys, units-same}
 use Rattle.scc_set.proofs.hash_set.owned.Owned.iter_mut_sync.Goals as goal
 
 pub iter_mut_into-requires : goal.iter_mut_into-requires
-iter_mut_into-requires g c = λ es p. callable-writes _ g.F.FnMut (λ s. s.0) (λ s key value left r t h. search rules) (λ s key value h. search rules) GoesOn _ es (c.requires _ (rw (← c.self.view_is) (ordered-keys c.self.inside.map es p)))
+iter_mut_into-requires g c = λ es p. callable-writes _ g.F.FnMut (λ s. s.0) (λ s key value left r t h. h.met) (λ s key value h. h) GoesOn _ es (c.requires _ (rw (← c.self.view_is) (ordered-keys c.self.inside.map es p)))
 
 pub returns-clause-step : goal.returns-clause-step
 returns-clause-step g c =
     let x = c.iter_mut_into.ensures.step in
     rw (← c.self.view_is)
-    (_, _, _, x.3.0, ordered-keys c.self.inside.map x.0 x.4, Takes-keys (λ s. s.0) (to-key _ g.F.FnMut (λ s. s.0) (λ s key value left r t h. search rules) (λ s key value h. search rules)) _ x.0 x.1 x.2 _ x.3 x.5, taken-keys _ _ x.2 x.6, Holds-mapped _ _ _ _ x.7)
+    (_, _, _, x.3.0, ordered-keys c.self.inside.map x.0 x.4, Takes-keys (λ s. s.0) (to-key _ g.F.FnMut (λ s. s.0) (λ s key value left r t h. h.met) (λ s key value h. h)) _ x.0 x.1 x.2 _ x.3 x.5, taken-keys _ _ x.2 x.6, Holds-mapped _ _ _ _ x.7)
 
 pub returns-clause-still : goal.returns-clause-still
 returns-clause-still g c = rw (← c.self.view_is) (λ e. (shows c.iter_mut_into.new.self).buckets ∙ c.iter_mut_into.ensures.still (ap (λ ks. with_units ks) e) ∙ sym (shows c.self.inside.map).buckets)

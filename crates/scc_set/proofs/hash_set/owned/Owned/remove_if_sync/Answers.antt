@@ -1,4 +1,4 @@
-use Rattle.std.proofs.Common.{refl, rules}
+use Rattle.std.proofs.Common.{refl}
 use Rattle.scc_table.proofs.Mapped.{ShrinksWhenDue-mapped}
 use Rattle.scc_table.specs.Pairs.{find as find_pair}
 use Rattle.scc_table.specs.Contents.{entries}
@@ -10,7 +10,7 @@ remove_if_sync-requires g c = λ p h x e. c.requires (rw (← c.self.view_is) (i
 
 pub returns-clause-step : goal.returns-clause-step
 returns-clause-step g c = rw (← c.self.view_is, c.key_alone.ensures, found g.K.PartialEq.eq c.self.inside.map c.args.k.now)
-    (RemovesIf-keys _ _ g.F.FnOnce c.args.f (λ value left b h. search rules) g.K.PartialEq.eq c.self.inside.map c.args.k.now c.remove_if_sync.result c.remove_if_sync.new.self (find_pair g.K.PartialEq.eq (entries c.self.inside.map) c.args.k.now) c.remove_if_sync.ensures.step)
+    (RemovesIf-keys _ _ g.F.FnOnce c.args.f (λ value left b h. h) g.K.PartialEq.eq c.self.inside.map c.args.k.now c.remove_if_sync.result c.remove_if_sync.new.self (find_pair g.K.PartialEq.eq (entries c.self.inside.map) c.args.k.now) c.remove_if_sync.ensures.step)
 
 pub returns-clause-finds : goal.returns-clause-finds
 returns-clause-finds g c = rw (← c.self.view_is, c.key_alone.ensures) (on-key c.remove_if_sync.result (finds-keys _ _ _ _ _) c.remove_if_sync.ensures.finds)

@@ -1,4 +1,3 @@
-use Rattle.std.proofs.Common.{rules}
 use Rattle.std.specs.Prelude.{⊤}
 use Rattle.scc_table.proofs.Mapped.{Holds-mapped, ShrinksWhenDue-mapped}
 use Rattle.scc_set.proofs.Sets.{smaller-keys, unique-keys}
@@ -6,12 +5,12 @@ use Rattle.scc_set.proofs.Walks.{ordered-keys, callable-writes, to-key, Retains-
 use Rattle.scc_set.proofs.hash_set.owned.Owned.retain_sync.Goals as goal
 
 pub retain_sync-requires : goal.retain_sync-requires
-retain_sync-requires g c = λ es p. callable-writes _ g.F.FnMut (λ s. s.0) (λ s key value left r t h. search rules) (λ s key value h. search rules) (λ a. ⊤) _ es (c.requires _ (rw (← c.self.view_is) (ordered-keys c.self.inside.map es p)))
+retain_sync-requires g c = λ es p. callable-writes _ g.F.FnMut (λ s. s.0) (λ s key value left r t h. h.met) (λ s key value h. h) (λ a. ⊤) _ es (c.requires _ (rw (← c.self.view_is) (ordered-keys c.self.inside.map es p)))
 
 pub returns-clause-step : goal.returns-clause-step
 returns-clause-step g c =
     let x = c.retain_sync.ensures.step in
-    rw (← c.self.view_is) (_, _, x.2.0, ordered-keys c.self.inside.map x.0 x.3, Retains-keys (λ s. s.0) (to-key _ g.F.FnMut (λ s. s.0) (λ s key value left r t h. search rules) (λ s key value h. search rules)) _ x.0 x.1 x.2 x.4, Holds-mapped _ _ _ _ x.5)
+    rw (← c.self.view_is) (_, _, x.2.0, ordered-keys c.self.inside.map x.0 x.3, Retains-keys (λ s. s.0) (to-key _ g.F.FnMut (λ s. s.0) (λ s key value left r t h. h.met) (λ s key value h. h)) _ x.0 x.1 x.2 x.4, Holds-mapped _ _ _ _ x.5)
 
 pub returns-clause-smaller : goal.returns-clause-smaller
 returns-clause-smaller g c = rw (← c.self.view_is) (smaller-keys _ _ c.retain_sync.ensures.smaller)

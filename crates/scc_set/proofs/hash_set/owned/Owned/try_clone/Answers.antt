@@ -1,4 +1,3 @@
-use Rattle.std.proofs.Common.{sym}
 use Rattle.scc_set.proofs.Clones.{clones-keys, finds-clones-keys}
 use Rattle.scc_set.proofs.Sets.{unique-keys}
 use Rattle.scc_set.proofs.hash_set.owned.Owned.try_clone.Goals as goal

@@ -1,6 +1,4 @@
-use Rattle.std.proofs.Common.{◌≡◌, ap, ◌∙◌, []}
-use Rattle.scc_table.specs.Contents.{entries}
-use Rattle.scc_set.specs.Keys.{find}
+use Rattle.std.proofs.Common.{ap, ◌∙◌}
 use Rattle.scc_set.proofs.hash_set.owned.Owned.try_from_iter.Goals as goal
 
 pub returns-clause-items : goal.returns-clause-items

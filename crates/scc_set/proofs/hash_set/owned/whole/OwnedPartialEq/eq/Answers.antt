@@ -1,4 +1,4 @@
-use Rattle.std.proofs.Common.{◌≡◌, sym, ◌∙◌}
+use Rattle.std.proofs.Common.{sym, ◌∙◌}
 use Rattle.scc_table.specs.Contents.{entries}
 use Rattle.scc_set.specs.Equality.{keys_eq, keys_eq-pairs}
 use Rattle.scc_set.proofs.Sets.{shown}
