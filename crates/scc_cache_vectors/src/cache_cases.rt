@@ -1,9 +1,9 @@
 // Worked cases of the owned cache. Under the hasher that finishes with 0 all keys stand in one bucket.
-use scc_fixtures::maybe_equal::MaybeEqual;
-use scc_fixtures::zero::Zero;
 use scc::hash_cache::owned::ReplaceResult;
 use scc::hash_cache::{DEFAULT_MAXIMUM_CAPACITY, Owned};
 use scc::{InsertError, Verdict};
+use scc_fixtures::maybe_equal::MaybeEqual;
+use scc_fixtures::zero::Zero;
 use scc_play::same::Same;
 use std::process::Abort;
 use std::test::Fail;

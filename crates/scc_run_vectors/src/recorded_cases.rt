@@ -2,10 +2,10 @@
 ghost use Rattle.std.specs.Prelude.{◌≡◌, ℕ, [], ◌∷◌, length, OnOk};
 ghost use Rattle.scc_table.specs.Contents.{entries};
 
-use scc_fixtures::maybe_equal::MaybeEqual;
 use scc::MakeError;
 use scc::hash_map::Owned;
 use scc::recorded::{Calls, MapCall, Refused, Reply, run};
+use scc_fixtures::maybe_equal::MaybeEqual;
 use std::alloc::Global;
 use std::hash::{BuildHasher, RandomState};
 use std::test::Fail;

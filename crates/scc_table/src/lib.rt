@@ -13,7 +13,8 @@ pub mod walks;
 
 pub use place::Place;
 pub use scc_bucket::{Bucket, Keyed, Made, Valued, bucket, keyed, made, tags, valued};
-pub use scc_common::{Guard, InsertError, KeyError, MakeError, Reservation, Share, Shared};
-pub use scc_common::{SharedVersion, Verdict, Version, WalkError};
-pub use scc_common::{errors, guard, reservation, shared, verdict, version};
+pub use scc_common::{
+    Guard, InsertError, KeyError, MakeError, Reservation, Share, Shared, SharedVersion, Verdict,
+    Version, WalkError, errors, guard, reservation, shared, verdict, version,
+};
 pub use table::Table;

@@ -1,7 +1,7 @@
 // What entries do beside the worked cases: defaults, steps, removals.
-use scc_fixtures::zero::Zero;
 use scc::hash_map::Owned;
 use scc::hash_map::owned::Entry;
+use scc_fixtures::zero::Zero;
 use std::process::Abort;
 use std::test::Fail;
 

@@ -1,10 +1,10 @@
 // Worked cases of the owned index.
-use scc_fixtures::maybe_equal::MaybeEqual;
-use scc_fixtures::zero::Zero;
 use scc::hash_index::Owned;
 use scc::hash_index::owned::{Entry, Iter};
 use scc::recorded::{Calls, IndexCall, Reply, run};
 use scc::{InsertError, MakeError};
+use scc_fixtures::maybe_equal::MaybeEqual;
+use scc_fixtures::zero::Zero;
 use scc_play::same::Same;
 use std::hash::BuildHasher;
 use std::process::Abort;

@@ -1,9 +1,9 @@
 // Worked cases of the owned map.
-use scc_fixtures::maybe_equal::MaybeEqual;
-use scc_fixtures::zero::Zero;
 use scc::hash_map::Owned;
 use scc::hash_map::owned::ReplaceResult;
 use scc::{InsertError, MakeError};
+use scc_fixtures::maybe_equal::MaybeEqual;
+use scc_fixtures::zero::Zero;
 use scc_play::same::Same;
 use std::hash::{BuildHasher, RandomState};
 use std::process::Abort;

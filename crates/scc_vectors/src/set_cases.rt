@@ -1,9 +1,9 @@
 // Worked cases of the owned set.
-use scc_fixtures::maybe_equal::MaybeEqual;
-use scc_fixtures::zero::Zero;
 use scc::hash_set::Owned;
 use scc::recorded::{Calls, Reply, SetCall, run};
 use scc::{KeyError, Verdict};
+use scc_fixtures::maybe_equal::MaybeEqual;
+use scc_fixtures::zero::Zero;
 use std::hash::RandomState;
 use std::test::Fail;
 

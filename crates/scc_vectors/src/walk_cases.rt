@@ -1,7 +1,7 @@
 // Worked cases of the walks of the owned map.
-use scc_fixtures::zero::Zero;
 use scc::Verdict;
 use scc::hash_map::Owned;
+use scc_fixtures::zero::Zero;
 use std::process::Abort;
 use std::test::Fail;
 

@@ -1,7 +1,7 @@
 // How often each walk calls its closure, stopped and not.
-use scc_fixtures::zero::Zero;
 use scc::Verdict;
 use scc::hash_map::Owned;
+use scc_fixtures::zero::Zero;
 use std::process::Abort;
 use std::test::Fail;
 
