@@ -1,3 +1,4 @@
-pub mod OwnHash
-pub mod Drained
-pub mod DrainedKeys
+pub mod Answering
+pub mod Listing
+pub mod Telling
+pub mod Assembling

@@ -1,2 +1,6 @@
+pub mod Ended
 pub mod Endings
 pub mod Answered
+pub mod Telling
+pub mod Played
+pub mod Kinds

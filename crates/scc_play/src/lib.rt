@@ -5,6 +5,8 @@
 #![tactic(auto)]
 
 mod crew;
+mod ends;
+mod kinds;
 pub mod play;
 mod receipts;
 mod stripes;

@@ -9,7 +9,7 @@ use scc_script::line::WorkerCall;
 use std::alloc::{AllocError, Global};
 
 // The calls of one worker, in their order.
-fn calls_of<A: Copy>(
+pub(crate) fn calls_of<A: Copy>(
     alloc: Global,
     worker: usize,
     calls: &[WorkerCall<A>],
@@ -100,7 +100,7 @@ fn records_of<P: Printed>(stripes: usize, call: &P::Call) -> usize {
 }
 
 // The replies to the calls of a worker, where its receipts are those of what they became.
-fn replies_of<P: Printed>(
+pub(crate) fn replies_of<P: Printed>(
     alloc: Global,
     stripes: usize,
     calls: &[P::Call],

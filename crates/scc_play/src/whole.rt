@@ -84,8 +84,9 @@ fn sorted_items<P: Printed + Drop>(
     ensures rising { IfOk result (λ items. IsSorted P.Item.cmp items.items) }
 {
     let mut items = Vec::new(alloc);
-    for part in parts {
-        let mut part = part;
+    let mut parts = parts;
+    while !parts.is_empty() {
+        let mut part = parts.remove(0);
         part.take_items(&mut items)?;
     }
     items.sort_unstable();

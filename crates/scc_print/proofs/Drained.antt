@@ -1,10 +1,11 @@
 -- A walk that takes every pair.
 use Rattle.std.proofs.Common.{◌≡◌, Bool, true, false, not, List, [], ◌∷◌, ◌++◌, Result, Ok, Err, refl, subst, ◌∙◌}
-use Rattle.std.specs.List.{filter}
+use Rattle.std.specs.List.{filter, flat_map}
 use Rattle.std.specs.List.Sorted.{IsPermutation}
 use Rattle.std.specs.Result.{is_err}
 use Rattle.std.proofs.lemmas.List.Sorted.{IsPermutation-trans}
 use Rattle.scc_map.proofs.Filtering.{Sorts}
+use Rattle.scc_table.specs.Contents.{Contents, entries, lists_of}
 
 none-kept : {X : Type 0} (es : List X) → filter (λ x. not true) es ≡ []
 none-kept [] = refl
@@ -16,3 +17,8 @@ drained cs es stay more (Ok b) ok same s =
     let none : stay ≡ [] = s.left ∙ none-kept es in
     IsPermutation-trans cs es more same (subst (λ l. IsPermutation es (l ++ more)) none s.all)
 drained cs es stay more (Err e) ok same s = absurd (let h : true ≡ false = ok in cc)
+
+-- the contents of all lists
+pub all-entries : {E S : Type 0} (c : Contents E S) → entries c ≡ flat_map (λ l. l) (lists_of c)
+unfolding entries lists_of
+all-entries c = refl

@@ -4,8 +4,8 @@
 #![tactic(auto)]
 
 use scc::hash_map::Owned;
-use scc_play::number::parse_number;
-use scc_play::same::Same;
+use scc_script::number::parse_number;
+use scc_script::same::Same;
 use scc_vectors::random_calls::agrees_with_a_list;
 use scc_vectors::zero::Zero;
 use std::alloc::{AllocError, Global};

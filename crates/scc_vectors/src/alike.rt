@@ -1,7 +1,7 @@
 //! A hasher under which keys differ above the lowest 7 bits of their hashes alone.
 ghost use Rattle.std.specs.Prelude.{◌*◌, ◌/◌};
 
-use scc_play::same::{Same, SameHasher};
+use scc_script::same::{Same, SameHasher};
 use std::hash::{BuildHasher, Hasher};
 
 /// Builds hashers by which the lowest 7 bits of each hash are 0, so that all slots have one tag.

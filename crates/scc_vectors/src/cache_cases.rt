@@ -4,7 +4,7 @@ use crate::zero::Zero;
 use scc::hash_cache::owned::ReplaceResult;
 use scc::hash_cache::{DEFAULT_MAXIMUM_CAPACITY, Owned};
 use scc::{InsertError, Verdict};
-use scc_play::same::Same;
+use scc_script::same::Same;
 use std::process::Abort;
 use std::test::Fail;
 

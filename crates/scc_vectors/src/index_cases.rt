@@ -5,7 +5,7 @@ use scc::hash_index::Owned;
 use scc::hash_index::owned::{Entry, Iter};
 use scc::recorded::{Calls, IndexCall, Reply, run};
 use scc::{InsertError, MakeError};
-use scc_play::same::Same;
+use scc_script::same::Same;
 use std::hash::BuildHasher;
 use std::process::Abort;
 use std::test::Fail;

@@ -4,7 +4,7 @@ use crate::zero::Zero;
 use scc::hash_map::Owned;
 use scc::hash_map::owned::ReplaceResult;
 use scc::{InsertError, MakeError};
-use scc_play::same::Same;
+use scc_script::same::Same;
 use std::hash::{BuildHasher, RandomState};
 use std::process::Abort;
 use std::test::Fail;

@@ -7,7 +7,7 @@ use scc::InsertError;
 use scc::hash_cache::Owned;
 use scc::hash_cache::owned::Entry;
 #[cfg(test)]
-use scc_play::same::Same;
+use scc_script::same::Same;
 use std::alloc::{AllocError, Global};
 use std::hash::BuildHasher;
 #[cfg(test)]

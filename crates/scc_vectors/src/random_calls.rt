@@ -4,7 +4,7 @@ use crate::zero::Zero;
 use scc::InsertError;
 use scc::hash_map::Owned;
 #[cfg(test)]
-use scc_play::same::Same;
+use scc_script::same::Same;
 use std::alloc::{AllocError, Global};
 use std::hash::BuildHasher;
 #[cfg(test)]
