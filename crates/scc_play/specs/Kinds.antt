@@ -1,9 +1,10 @@
 -- What scripts of each kind do: a key is its own hash.
 use Rattle.std.specs.Prelude.{◌≡◌, ℕ, ◌%◌, ◌^◌, ◌==◌, List, [], length, max, replicate, nat_eq}
-use Rattle.std.specs.List.{flat_map}
 use Rattle.std.specs.List.Sorted.{IsPermutation}
 use Rattle.std.specs.Ordering.{nat_cmp}
+use Rattle.scc_table.specs.Contents.{Contents, entries, lists_of}
 use Rattle.scc_table.specs.Sizes.{IsArraySize}
+use Rattle.scc_cache.specs.Caches.{Cached}
 use Rattle.scc_recorded.specs.CacheCalls.{cache_key, number_by, CacheMoves, CacheResizes}
 use Rattle.scc_recorded.specs.IndexCalls.{index_key, IndexMoves}
 use Rattle.scc_recorded.specs.IndexWhole.{IndexWholeMoves}
@@ -13,7 +14,7 @@ use Rattle.scc_recorded.specs.Parted.{PartMoves, PartResizes}
 use Rattle.scc_recorded.specs.Parts.{part_number}
 use Rattle.scc_recorded.specs.SetCalls.{key_of_set, SetMoves}
 use Rattle.scc_recorded.specs.SetWhole.{SetWholeMoves}
-use Rattle.scc_recorded.specs.States.{State, ResizesTo}
+use Rattle.scc_recorded.specs.States.{State, state_of, ResizesTo}
 use Rattle.scc_recorded.specs.WholeLaws.{told_by}
 use Rattle.scc_recorded.specs.declared.recorded.calls_as_values.CacheCall.{CacheCall}
 use Rattle.scc_recorded.specs.declared.recorded.calls_as_values.IndexCall.{IndexCall}
@@ -42,7 +43,7 @@ module _ (hash : ℕ → ℕ) where
   abbrev pub route_by : ℕ → ℕ → ℕ
   route_by stripes k = part_number stripes (hash k)
 
-  abbrev pub map_machine : Machine Same (State (ℕ × ℕ)) (List (ℕ × ℕ)) (MapCall ℕ ℕ) (Reply ℕ ℕ) ℕ (ℕ × ℕ)
+  abbrev pub map_machine : Machine (Contents (ℕ × ℕ) Same) Same (State (ℕ × ℕ)) (List (ℕ × ℕ)) (MapCall ℕ ℕ) (Reply ℕ ℕ) ℕ (ℕ × ℕ)
   map_machine = record {
     limits = λ _ _ m. m ≡ 0;
     empty = λ b. ([], b);
@@ -54,13 +55,14 @@ module _ (hash : ℕ → ℕ) where
     whole_resizes = λ _ _ _ w _ v. IsPermutation w v;
     told = told_by;
     count = Count;
-    shown = λ s. s.0;
+    state = state_of;
+    shown = entries;
     order = pair_cmp;
     reply = reply_line;
     content = content_line;
   }
 
-  abbrev pub set_machine : Machine Same (State ℕ) (List ℕ) (SetCall ℕ) (Reply ℕ (Unit {0})) ℕ ℕ
+  abbrev pub set_machine : Machine (Contents ℕ Same) Same (State ℕ) (List ℕ) (SetCall ℕ) (Reply ℕ (Unit {0})) ℕ ℕ
   set_machine = record {
     limits = λ _ _ m. m ≡ 0;
     empty = λ b. ([], b);
@@ -72,13 +74,14 @@ module _ (hash : ℕ → ℕ) where
     whole_resizes = λ _ _ _ w _ v. IsPermutation w v;
     told = told_by;
     count = Count;
-    shown = λ s. s.0;
+    state = state_of;
+    shown = entries;
     order = nat_cmp;
     reply = key_reply_line;
     content = key_line;
   }
 
-  abbrev pub index_machine : Machine Same (State (ℕ × ℕ)) (List (ℕ × ℕ)) (IndexCall ℕ ℕ) (Reply ℕ ℕ) ℕ (ℕ × ℕ)
+  abbrev pub index_machine : Machine (Contents (ℕ × ℕ) Same) Same (State (ℕ × ℕ)) (List (ℕ × ℕ)) (IndexCall ℕ ℕ) (Reply ℕ ℕ) ℕ (ℕ × ℕ)
   index_machine = record {
     limits = λ _ _ m. m ≡ 0;
     empty = λ b. ([], b);
@@ -90,13 +93,14 @@ module _ (hash : ℕ → ℕ) where
     whole_resizes = λ _ _ _ w _ v. IsPermutation w v;
     told = told_by;
     count = Count;
-    shown = λ s. s.0;
+    state = state_of;
+    shown = entries;
     order = pair_cmp;
     reply = reply_line;
     content = content_line;
   }
 
-  abbrev pub cache_machine : Machine Same (List (List (ℕ × ℕ))) (List (List (List (ℕ × ℕ)))) (CacheCall ℕ ℕ) (Reply ℕ ℕ) ℕ (ℕ × ℕ)
+  abbrev pub cache_machine : Machine (Cached (ℕ × ℕ) Same) Same (List (List (ℕ × ℕ))) (List (List (List (ℕ × ℕ)))) (CacheCall ℕ ℕ) (Reply ℕ ℕ) ℕ (ℕ × ℕ)
   cache_machine = record {
     limits = λ asked slots m. IsArraySize (max asked slots) m;
     empty = λ b. replicate b [];
@@ -108,7 +112,8 @@ module _ (hash : ℕ → ℕ) where
     whole_resizes = λ g n i. PartResizes (CacheResizes g (number_by (λ h k. hash k) g)) i;
     told = told_by;
     count = Count;
-    shown = flat_map (λ l. l);
+    state = λ c. lists_of c.contents;
+    shown = λ c. entries c.contents;
     order = pair_cmp;
     reply = reply_line;
     content = content_line;

@@ -24,7 +24,7 @@ IsMadeBy workers (Call stamp pass call reply) = pass < workers
 IsMadeBy workers (Resize stamp buckets) = Unit {0}
 
 -- what each part of a container of a kind holds and does, what the whole does, and how replies and contents are printed
-pub record Machine (H S W A R K X : Type 0) : Type 1 where
+pub record Machine (C H S W A R K X : Type 0) : Type 1 where
   pub limits : ℕ → ℕ → ℕ → Type 0
   pub empty : ℕ → S
   pub key_of : A → Option K
@@ -35,25 +35,26 @@ pub record Machine (H S W A R K X : Type 0) : Type 1 where
   pub whole_resizes : Setting H → ℕ → ℕ → W → ℕ → W → Type 0
   pub told : R → Option ℕ
   pub count : ℕ → R
-  pub shown : S → List X
+  pub state : C → S
+  pub shown : C → List X
   pub order : X → X → Ordering
   pub reply : R → List ℕ
   pub content : X → List ℕ
 
--- Histories of so many stripes that workers made from nothing: each replays to what its part holds, each call stands in the part of its key and is a worker's, and every merge of them is a run of the whole.
+-- Histories of so many stripes that workers made from nothing: each replays to the state of its container at the end, each call stands in the part of its key and is a worker's, and every merge of them is a run of the whole.
 -- In the order of the stamps, the calls of each worker are those of the script, one after another, with the replies that are printed; the contents are printed in rising order; and the records are counted.
-pub record IsPlayed {H S W A R K X : Type 0} (machine : Machine H S W A R K X) (route : ℕ → K → ℕ) (request : Request H) (workers stripes : ℕ) (calls : List (WorkerCall A)) (text : List ℕ) : Type 0 where
+pub record IsPlayed {C H S W A R K X : Type 0} (machine : Machine C H S W A R K X) (route : ℕ → K → ℕ) (request : Request H) (workers stripes : ℕ) (calls : List (WorkerCall A)) (text : List ℕ) : Type 0 where
   pub setting : Setting H
   pub histories : List (List (Step A R))
-  pub ends : List S
+  pub ends : List C
   pub places : List (ℕ × ℕ)
   pub replies : List (List R)
   pub items : List X
   pub made : IsMadeFor machine.limits request setting
   pub divided : length histories ≡ stripes
-  pub replays : Replays (machine.moves setting) (machine.resizes setting) (replicate stripes (machine.empty 0)) histories ends
+  pub replays : Replays (machine.moves setting) (machine.resizes setting) (replicate stripes (machine.empty 0)) histories (map machine.state ends)
   pub routed : CallsRouted machine.key_of (route stripes) 0 histories
-  pub merges : (order : List (ℕ × ℕ)) → IsMerge histories order → ∥ Run (machine.whole_moves setting stripes) (machine.whole_resizes setting stripes) (machine.whole (replicate stripes (machine.empty 0))) (steps_at histories order) (machine.whole ends) ∥₁
+  pub merges : (order : List (ℕ × ℕ)) → IsMerge histories order → ∥ Run (machine.whole_moves setting stripes) (machine.whole_resizes setting stripes) (machine.whole (replicate stripes (machine.empty 0))) (steps_at histories order) (machine.whole (map machine.state ends)) ∥₁
   pub known : AllByRecursion (AllByRecursion (IsMadeBy workers)) histories
   pub order : IsStampOrder histories places
   pub stamps : StampsRise histories places

@@ -80,7 +80,7 @@ fn sorted_items<P: Printed + Drop>(
     alloc: Global,
     parts: Vec<P>,
 ) -> Result<Vec<P::Item>, AllocError>
-    ensures same { IfOk result (λ items. IsPermutation (flat_map P.shown (map P.state parts.items)) items.items) }
+    ensures same { IfOk result (λ items. IsPermutation (flat_map P.shown parts.items) items.items) }
     ensures rising { IfOk result (λ items. IsSorted P.Item.cmp items.items) }
 {
     let mut items = Vec::new(alloc);
@@ -102,7 +102,7 @@ pub(crate) fn whole_text<P: Printed + Drop>(
 ) -> Result<Option<String>, AllocError>
     ensures known { IfOk result (λ o. IfSome o (λ text. AllByRecursion (AllByRecursion (IsMadeBy workers)) (map (λ h. h.items) finished.histories.items))) }
     ensures opened { IfOk result (λ o. IfSome o (λ text. AllByRecursion (λ n. n ≡ 0) finished.opened.items)) }
-    ensures text { IfOk result (λ o. IfSome o (λ text. (items : List P.Item) × IsPermutation (flat_map P.shown (map P.state finished.parts.items)) items × IsSorted P.Item.cmp items
+    ensures text { IfOk result (λ o. IfSome o (λ text. (items : List P.Item) × IsPermutation (flat_map P.shown finished.parts.items) items × IsSorted P.Item.cmp items
         × (string_bytes text ≡ output_of P.reply_line P.item_line (map (λ v. v.items) replies.now) items (sum_by calls_in (map (λ h. h.items) finished.histories.items))))) }
 {
     let Finished {

@@ -1,7 +1,7 @@
 //! Makes the calls of one worker on a new container of one stripe, and prints what they answered.
 ghost use Rattle.std.specs.Prelude.{◌≡◌, IfOk};
 ghost use Rattle.std.specs.String.{string_bytes};
-ghost use Rattle.scc_print.specs.Finished.{IsOutput, MapOutput, SetOutput, IndexOutput, CacheOutput};
+ghost use Rattle.scc_print.specs.Finished.{IsOutputOf, MapOutput, SetOutput, IndexOutput, CacheOutput};
 
 use crate::printed::Printed;
 use crate::texts::output_text;
@@ -19,7 +19,7 @@ fn run_on<P: Printed>(
     container: &mut P,
     calls: &[P::Call],
 ) -> Result<String, AllocError>
-    ensures { IfOk result (λ text. IsOutput (P.moves (P.setting container.old)) (P.resizes (P.setting container.old)) (P.state container.old) P.shown P.Item.cmp P.reply_line P.item_line calls.now (string_bytes text)) }
+    ensures { IfOk result (λ text. IsOutputOf P.state P.shown (P.moves (P.setting container.old)) (P.resizes (P.setting container.old)) (P.state container.old) P.Item.cmp P.reply_line P.item_line calls.now (string_bytes text)) }
 {
     let mut replies = Vec::new(alloc);
     if run(container, calls, &mut replies).is_err() {

@@ -17,7 +17,7 @@ pub trait Printed: WholeCalls {
     type Item: Copy + Ord;
 
     // What the contents are printed of, in any order.
-    ghost shown: { Self.State → List Self.Item };
+    ghost shown: { Self → List Self.Item };
 
     ghost reply_line: { Self.Reply → List ℕ };
 
@@ -28,7 +28,7 @@ pub trait Printed: WholeCalls {
 
     /// Takes all contents out, to the end of the list.
     fn take_items(&mut self, items: &mut Vec<Self::Item>) -> Result<(), AllocError>
-        ensures { OnOk result ((more : List Self.Item) × (items.new.items ≡ items.old.items ++ more) × IsPermutation (shown (state self.old)) more) };
+        ensures { OnOk result ((more : List Self.Item) × (items.new.items ≡ items.old.items ++ more) × IsPermutation (shown self.old) more) };
 
     /// Adds the line of a reply.
     fn add_reply(output: &mut String, reply: Self::Reply) -> Result<(), AllocError>

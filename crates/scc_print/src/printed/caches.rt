@@ -12,11 +12,11 @@ use std::hash::BuildHasher;
 impl<H: BuildHasher> Printed for Owned<u64, u64, H> {
     type Item = (u64, u64);
 
-    ghost use Rattle.std.specs.List.{flat_map};
+    ghost use Rattle.scc_table.specs.Contents.{entries};
     ghost use Rattle.scc_print.specs.Output.{content_line, reply_line};
     ghost use Rattle.scc_recorded.specs.declared.recorded.replies.Reply.TheVariants.{Count};
 
-    ghost shown = { flat_map (λ l. l) };
+    ghost shown = { λ c. entries c.contents };
 
     ghost reply_line = { reply_line };
 

@@ -12,9 +12,10 @@ impl<H: BuildHasher> Printed for Owned<u64, u64, H> {
     type Item = (u64, u64);
 
     ghost use Rattle.scc_print.specs.Output.{content_line, reply_line};
+    ghost use Rattle.scc_table.specs.Contents.{entries};
     ghost use Rattle.scc_recorded.specs.declared.recorded.replies.Reply.TheVariants.{Count};
 
-    ghost shown = { λ s. s.0 };
+    ghost shown = { entries };
 
     ghost reply_line = { reply_line };
 

@@ -1,6 +1,6 @@
 use Rattle.std.proofs.Common.{◌≡◌, sym, rules, ◌++◌}
 use Rattle.scc_print.proofs.DrainedKeys.{all-taken}
-use Rattle.scc_print.proofs.printed.sets.OwnedPrinted.take_items.Goals as goal
+use Rattle.scc_print.proofs.printed.sets.OwnedU64Printed.take_items.Goals as goal
 
 pub returns : goal.returns
 returns g c =

@@ -1,7 +1,7 @@
 use Rattle.std.proofs.Common.{◌≡◌, true, sym, rules, ◌++◌}
 use Rattle.scc_map.proofs.Filtering.{takes-sort}
 use Rattle.scc_print.proofs.Drained.{drained}
-use Rattle.scc_print.proofs.printed.maps.OwnedPrinted.take_items.Goals as goal
+use Rattle.scc_print.proofs.printed.maps.OwnedU64U64Printed.take_items.Goals as goal
 
 pub returns : goal.returns
 returns g c =

@@ -1,7 +1,7 @@
 use Rattle.std.proofs.Common.{◌≡◌, true, sym, rules, ◌++◌}
 use Rattle.scc_map.proofs.Filtering.{takes-sort}
-use Rattle.scc_print.proofs.Drained.{drained, all-entries}
-use Rattle.scc_print.proofs.printed.caches.OwnedPrinted.take_items.Goals as goal
+use Rattle.scc_print.proofs.Drained.{drained}
+use Rattle.scc_print.proofs.printed.caches.OwnedU64U64Printed.take_items.Goals as goal
 
 pub returns : goal.returns
 returns g c =
@@ -9,4 +9,4 @@ returns g c =
     let sorts = takes-sort _ (λ p. true) _ (λ p v w f' t. search rules) s.0 s.1 s.2 c.iter_mut_sync.result s.3 s.6 in
     let all = drained _ s.0 s.1 s.2 c.iter_mut_sync.result (sym c.if-is_err.ensures.value) s.5.same sorts in
     let taken : c.iter_mut_sync.new.taken.items ≡ c.args.items.now.items ++ s.2 = search rules in
-    (s.2, taken, rw (all-entries c.args.self.now.contents) at all)
+    (s.2, taken, all)

@@ -1,7 +1,7 @@
 use Rattle.std.proofs.Common.{◌≡◌, rules, ◌++◌}
 use Rattle.std.proofs.lemmas.List.Sorted.{IsPermutation-refl}
 use Rattle.scc_table.specs.Contents.{entries}
-use Rattle.scc_print.proofs.printed.indexes.OwnedPrinted.take_items.Goals as goal
+use Rattle.scc_print.proofs.printed.indexes.OwnedU64U64Printed.take_items.Goals as goal
 
 pub returns : goal.returns
 returns g c =
