@@ -4,7 +4,7 @@ use scc::hash_cache::{DEFAULT_MAXIMUM_CAPACITY, Owned};
 use scc::{InsertError, Verdict};
 use scc_fixtures::maybe_equal::MaybeEqual;
 use scc_fixtures::zero::Zero;
-use scc_play::same::Same;
+use scc_script::same::Same;
 use std::process::Abort;
 use std::test::Fail;
 

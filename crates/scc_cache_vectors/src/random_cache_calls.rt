@@ -3,7 +3,7 @@ use scc::hash_cache::Owned;
 use scc_fixtures::alike::Alike;
 use scc_fixtures::random_cache_calls::agrees_with_lists;
 use scc_fixtures::zero::Zero;
-use scc_play::same::Same;
+use scc_script::same::Same;
 use std::hash::{BuildHasherDefault, FoldHasher};
 use std::process::Abort;
 use std::test::Fail;

@@ -1,7 +1,7 @@
 //! A hasher under which keys differ above the lowest 7 bits of their hashes alone.
 ghost use Rattle.std.specs.Prelude.{◌*◌, ◌/◌};
 
-use scc_play::same::{Same, SameHasher};
+use scc_script::same::{Same, SameHasher};
 use std::hash::{BuildHasher, Hasher};
 
 /// Builds hashers by which the lowest 7 bits of each hash are 0, so that all slots have one tag.
@@ -15,7 +15,7 @@ pub struct AlikeHasher {
 }
 
 impl Hasher for AlikeHasher {
-    ghost use Rattle.scc_play.specs.Hashes.{same_write};
+    ghost use Rattle.scc_script.specs.Hashes.{same_write};
 
     ghost write = { λ hasher bytes. record { inner = same_write hasher.inner bytes } };
 

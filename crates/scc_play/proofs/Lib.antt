@@ -1,8 +1,4 @@
-pub mod Parts
-pub mod Numbers
-pub mod OwnHash
-pub mod Extras
-pub mod Cuts
-pub mod Steps
-pub mod Drained
-pub mod DrainedKeys
+pub mod Answering
+pub mod Listing
+pub mod Telling
+pub mod Assembling

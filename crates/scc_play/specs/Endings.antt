@@ -1,20 +1,42 @@
--- What a run writes and how it ends.
-use Rattle.std.specs.Prelude.{◌≡◌, ◌⊎◌, ℕ, List, ◌++◌, Option, codes}
+-- What a script is answered with, and how its program ends.
+use Rattle.std.specs.Prelude.{◌≡◌, ◌⊎◌, ◌==◌, ◌&&◌, ℕ, List, ◌++◌, map, MatchBool, Option, codes}
 use Rattle.std.specs.Fmt.{decimal}
 use Rattle.std.specs.Io.KnownBytes.{Appends}
-use Rattle.scc_play.specs.Finished.{MapOutput, SetOutput, IndexOutput, CacheOutput}
-use Rattle.scc_play.specs.Grammar.{Meaning, map_calls, set_calls, index_calls, cache_calls, bad_line}
+use Rattle.scc_print.specs.Finished.{MapOutput, SetOutput, IndexOutput, CacheOutput}
+use Rattle.scc_script.specs.Grammar.{Meaning, map_calls, set_calls, index_calls, cache_calls, bad_line}
+use Rattle.scc_script.specs.declared.line.WorkerCall.{WorkerCall}
+use Rattle.scc_play.specs.Kinds.{MapPlayed, SetPlayed, IndexPlayed, CachePlayed}
+use Rattle.scc_play.specs.declared.ends.Cause.{Cause}
+use Rattle.scc_play.specs.declared.ends.Cause.TheVariants.{Missing, Misrouted, Disagrees}
 
 -- the text of a script whose first bad line has this number
 abbrev pub bad_line_text : ℕ → List ℕ
 bad_line_text number = codes "line " ++ (decimal number ++ codes ": bad call\n")
 
+-- the text of a run that wasn't finished
+abbrev pub finish_text : Cause → List ℕ
+finish_text Missing = codes "finish 7\n"
+finish_text Misrouted = codes "finish 8\n"
+finish_text Disagrees = codes "finish 9\n"
+
+-- the calls of all workers, in their order
+abbrev pub all_calls : {A : Type 0} → List (WorkerCall A) → List A
+all_calls calls = map (λ c. c.call) calls
+
+-- several workers or stripes: the output of what the workers did, or why the run wasn't finished
+abbrev pub AnswersAmong : (List ℕ → Type 0) → ℕ → List ℕ → Type 0
+AnswersAmong among status text = ((status ≡ 0) × among text) ⊎ ((cause : Cause) × (status ≡ 5) × (text ≡ finish_text cause))
+
+-- one worker on one stripe: the output of a run, and nothing else
+abbrev pub AnswersBy : (List ℕ → Type 0) → (List ℕ → Type 0) → ℕ → ℕ → ℕ → List ℕ → Type 0
+AnswersBy alone among workers stripes status text = MatchBool ((workers == 1) && (stripes == 1)) ((status ≡ 0) × alone text) (AnswersAmong among status text)
+
 -- the status and the text that answer a script
 abbrev pub Answers : Meaning → ℕ → List ℕ → Type 0
-Answers (map_calls calls) status text = (status ≡ 0) × MapOutput calls text
-Answers (set_calls calls) status text = (status ≡ 0) × SetOutput calls text
-Answers (index_calls calls) status text = (status ≡ 0) × IndexOutput calls text
-Answers (cache_calls calls) status text = (status ≡ 0) × CacheOutput calls text
+Answers (map_calls workers stripes calls) status text = AnswersBy (MapOutput (all_calls calls)) (MapPlayed workers stripes calls) workers stripes status text
+Answers (set_calls workers stripes calls) status text = AnswersBy (SetOutput (all_calls calls)) (SetPlayed workers stripes calls) workers stripes status text
+Answers (index_calls workers stripes calls) status text = AnswersBy (IndexOutput (all_calls calls)) (IndexPlayed workers stripes calls) workers stripes status text
+Answers (cache_calls workers stripes calls) status text = AnswersBy (CacheOutput (all_calls calls)) (CachePlayed workers stripes calls) workers stripes status text
 Answers (bad_line number) status text = (status ≡ 2) × (text ≡ bad_line_text number)
 
 -- what was written before, then the answer's text; or the text on memory; or a stream failed

@@ -1,6 +1,6 @@
-pub mod Grammar
-pub mod Scripts
-pub mod Hashes
+pub mod Ended
 pub mod Endings
-pub mod Output
-pub mod Finished
+pub mod Answered
+pub mod Telling
+pub mod Played
+pub mod Kinds

@@ -1,16 +1,13 @@
-//! Runs a script of calls over an owned container.
+//! Plays a script of calls.
 //!
 //! [`play::play`] reads a whole script, checks every line, makes the calls and writes the replies, the contents and
-//! the number of calls.
+//! the number of call records.
 #![tactic(auto)]
 
-pub mod fields;
-pub mod line;
-pub mod lines;
-pub mod names;
-pub mod number;
+mod crew;
+mod ends;
+mod kinds;
 pub mod play;
-pub mod runs;
-pub mod same;
-pub mod script;
-pub mod texts;
+mod receipts;
+mod stripes;
+mod whole;

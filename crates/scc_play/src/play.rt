@@ -1,15 +1,24 @@
-//! Plays a script on an owned container.
-ghost use Rattle.std.specs.Prelude.{◌≡◌, ◌≢◌, ◌⊎◌, IfOk, IfSome};
+//! Plays a script.
+ghost use Rattle.std.specs.Prelude.{◌≡◌, ◌≢◌, ◌⊎◌, ◌==◌, ◌&&◌, IfOk, IfSome, map};
 ghost use Rattle.std.specs.String.{string_bytes};
 ghost use Rattle.std.specs.Io.KnownBytes.{Appends};
-ghost use Rattle.scc_play.specs.Grammar.{script_of};
-ghost use Rattle.scc_play.specs.Endings.{Answers, Ends};
+ghost use Rattle.scc_print.specs.Finished.{MapOutput, SetOutput, IndexOutput, CacheOutput};
+ghost use Rattle.scc_script.specs.Grammar.{script_of, IsCrew, IsDivision};
+ghost use Rattle.scc_script.specs.Scripts.{HasCrew, meaning_of};
+ghost use Rattle.scc_play.specs.Endings.{Answers, AnswersAmong, AnswersBy, Ends, all_calls, bad_line_text, finish_text};
+ghost use Rattle.scc_play.specs.Ended.{IfPlayed, MatchEnd};
+ghost use Rattle.scc_play.specs.Kinds.{MapPlayed, SetPlayed, IndexPlayed, CachePlayed};
 
-use crate::runs::{run_cache, run_index, run_map, run_set};
-use crate::script::{Script, parse_script};
-use crate::texts::{OUT_OF_MEMORY, bad_call_text};
+use crate::ends::{Cause, End};
+use crate::kinds::{play_cache, play_index, play_map, play_set};
+use scc_print::alone::{run_cache, run_index, run_map, run_set};
+use scc_recorded::recorded::{CacheCall, IndexCall, MapCall, SetCall};
+use scc_script::line::WorkerCall;
+use scc_script::script::{Script, parse_script};
 use std::alloc::{AllocError, Global};
 use std::io::{ErrorKind, Read, Write};
+use std::sync::Wait;
+use std::thread::Threads;
 
 /// The run was finished, and its output is written.
 pub const FINISHED: u8 = 0;
@@ -17,11 +26,17 @@ pub const FINISHED: u8 = 0;
 /// A line of the script isn't in the grammar; the first such line is named.
 pub const BAD_CALL: u8 = 2;
 
-/// Memory was refused.
+/// Memory or a thread was refused.
 pub const NO_MEMORY: u8 = 3;
 
 /// A read or a write of the streams failed.
 pub const STREAM_FAILED: u8 = 4;
+
+/// The histories of the stripes don't finish.
+pub const UNFINISHED: u8 = 5;
+
+// What is printed where memory is refused.
+const OUT_OF_MEMORY: &str = "out of memory\n";
 
 // What a script is answered with: a text and a status.
 #[derive(Drop)]
@@ -30,32 +45,173 @@ struct Answer {
     status: u8,
 }
 
-// Checks the whole script, and then makes its calls.
-fn answer_script(alloc: Global, script: &[u8]) -> Result<Answer, AllocError>
-    ensures { IfOk result (λ answer. Answers (script_of script.now) answer.status (string_bytes answer.text)) }
+// What is printed of a script whose line `number`, counted from 1, isn't in the grammar.
+fn bad_call_text(alloc: Global, number: usize) -> Result<String, AllocError>
+    ensures { IfOk result (λ text. string_bytes text ≡ bad_line_text number) }
 {
-    match parse_script(alloc, script)? {
-        Script::Map(calls) => Ok(Answer {
-            text: run_map(alloc, calls.as_slice())?,
-            status: FINISHED,
+    format!(in alloc; "line {number}: bad call\n")
+}
+
+// What is printed of a run that wasn't finished.
+fn unfinished_text(alloc: Global, cause: Cause) -> Result<String, AllocError>
+    ensures { IfOk result (λ text. string_bytes text ≡ finish_text cause) }
+{
+    match cause {
+        Cause::Missing => String::from_str(alloc, "finish 7\n"),
+        Cause::Misrouted => String::from_str(alloc, "finish 8\n"),
+        Cause::Disagrees => String::from_str(alloc, "finish 9\n"),
+    }
+}
+
+// The answer of one worker on one stripe.
+fn answer_alone(text: String) -> Answer
+    ensures { (result.status ≡ 0) × (result.text ≡ text) }
+{
+    Answer {
+        text,
+        status: FINISHED,
+    }
+}
+
+// The answer of several workers or stripes.
+fn answer_among(alloc: Global, end: End) -> Result<Answer, AllocError>
+    ensures played { IfOk result (λ a. MatchEnd end (λ text. (a.status ≡ 0) × (string_bytes a.text ≡ text)) (λ cause. (a.status ≡ 5) × (string_bytes a.text ≡ finish_text cause))) }
+{
+    match end {
+        End::Played(text) => Ok(answer_alone(text)),
+        End::Unfinished(cause) => Ok(Answer {
+            text: unfinished_text(alloc, cause)?,
+            status: UNFINISHED,
         }),
-        Script::Set(calls) => Ok(Answer {
-            text: run_set(alloc, calls.as_slice())?,
-            status: FINISHED,
-        }),
-        Script::Index(calls) => Ok(Answer {
-            text: run_index(alloc, calls.as_slice())?,
-            status: FINISHED,
-        }),
-        Script::Cache(calls) => Ok(Answer {
-            text: run_cache(alloc, calls.as_slice())?,
-            status: FINISHED,
-        }),
+    }
+}
+
+// The calls of all workers, in their order.
+fn calls_alone<A: Copy>(alloc: Global, calls: &[WorkerCall<A>]) -> Result<Vec<A>, AllocError>
+    ensures { IfOk result (λ v. v.items ≡ all_calls calls.now) }
+{
+    let mut all = Vec::with_capacity(alloc, calls.len())?;
+    for call in calls {
+        all.push(call.call)?;
+    }
+    Ok(all)
+}
+
+// Plays a script of a map.
+fn answer_map<R: Threads + Wait + Sync>(
+    rt: &R,
+    alloc: Global,
+    workers: usize,
+    stripes: usize,
+    calls: &[WorkerCall<MapCall<u64, u64>>],
+) -> Result<Answer, AllocError>
+    requires { IsCrew workers × IsDivision stripes }
+    ensures { IfOk result (λ a. AnswersBy (MapOutput (all_calls calls.now)) (MapPlayed workers stripes calls.now) workers stripes a.status (string_bytes a.text)) }
+{
+    if workers == 1 && stripes == 1 {
+        let all = calls_alone(alloc, calls)?;
+        Ok(answer_alone(run_map(alloc, all.as_slice())?))
+    } else {
+        answer_among(alloc, play_map(rt, alloc, workers, stripes, calls)?)
+    }
+}
+
+// Plays a script of a set.
+fn answer_set<R: Threads + Wait + Sync>(
+    rt: &R,
+    alloc: Global,
+    workers: usize,
+    stripes: usize,
+    calls: &[WorkerCall<SetCall<u64>>],
+) -> Result<Answer, AllocError>
+    requires { IsCrew workers × IsDivision stripes }
+    ensures { IfOk result (λ a. AnswersBy (SetOutput (all_calls calls.now)) (SetPlayed workers stripes calls.now) workers stripes a.status (string_bytes a.text)) }
+{
+    if workers == 1 && stripes == 1 {
+        let all = calls_alone(alloc, calls)?;
+        Ok(answer_alone(run_set(alloc, all.as_slice())?))
+    } else {
+        answer_among(alloc, play_set(rt, alloc, workers, stripes, calls)?)
+    }
+}
+
+// Plays a script of an index.
+fn answer_index<R: Threads + Wait + Sync>(
+    rt: &R,
+    alloc: Global,
+    workers: usize,
+    stripes: usize,
+    calls: &[WorkerCall<IndexCall<u64, u64>>],
+) -> Result<Answer, AllocError>
+    requires { IsCrew workers × IsDivision stripes }
+    ensures { IfOk result (λ a. AnswersBy (IndexOutput (all_calls calls.now)) (IndexPlayed workers stripes calls.now) workers stripes a.status (string_bytes a.text)) }
+{
+    if workers == 1 && stripes == 1 {
+        let all = calls_alone(alloc, calls)?;
+        Ok(answer_alone(run_index(alloc, all.as_slice())?))
+    } else {
+        answer_among(alloc, play_index(rt, alloc, workers, stripes, calls)?)
+    }
+}
+
+// Plays a script of a cache.
+fn answer_cache<R: Threads + Wait + Sync>(
+    rt: &R,
+    alloc: Global,
+    workers: usize,
+    stripes: usize,
+    calls: &[WorkerCall<CacheCall<u64, u64>>],
+) -> Result<Answer, AllocError>
+    requires { IsCrew workers × IsDivision stripes }
+    ensures { IfOk result (λ a. AnswersBy (CacheOutput (all_calls calls.now)) (CachePlayed workers stripes calls.now) workers stripes a.status (string_bytes a.text)) }
+{
+    if workers == 1 && stripes == 1 {
+        let all = calls_alone(alloc, calls)?;
+        Ok(answer_alone(run_cache(alloc, all.as_slice())?))
+    } else {
+        answer_among(alloc, play_cache(rt, alloc, workers, stripes, calls)?)
+    }
+}
+
+// Makes the calls of a script, or names its first bad line.
+fn answer_by_kind<R: Threads + Wait + Sync>(
+    rt: &R,
+    alloc: Global,
+    script: Script,
+) -> Result<Answer, AllocError>
+    requires { HasCrew script }
+    ensures { IfOk result (λ a. Answers (meaning_of script) a.status (string_bytes a.text)) }
+{
+    match script {
+        Script::Map(workers, stripes, calls) => {
+            answer_map(rt, alloc, workers, stripes, calls.as_slice())
+        }
+        Script::Set(workers, stripes, calls) => {
+            answer_set(rt, alloc, workers, stripes, calls.as_slice())
+        }
+        Script::Index(workers, stripes, calls) => {
+            answer_index(rt, alloc, workers, stripes, calls.as_slice())
+        }
+        Script::Cache(workers, stripes, calls) => {
+            answer_cache(rt, alloc, workers, stripes, calls.as_slice())
+        }
         Script::BadLine(number) => Ok(Answer {
             text: bad_call_text(alloc, number)?,
             status: BAD_CALL,
         }),
     }
+}
+
+// Checks the whole script, and then makes its calls.
+fn answer_script<R: Threads + Wait + Sync>(
+    rt: &R,
+    alloc: Global,
+    script: &[u8],
+) -> Result<Answer, AllocError>
+    ensures { IfOk result (λ a. Answers (script_of script.now) a.status (string_bytes a.text)) }
+{
+    let script = parse_script(alloc, script)?;
+    answer_by_kind(rt, alloc, script)
 }
 
 // Writes a text and ends with the status, or with that of a failed stream.
@@ -72,17 +228,26 @@ fn finish<W: Write>(writer: &mut W, text: &str, status: u8) -> u8
 /// Reads a script, makes its calls on a new container of the kind that it names, and writes what they answered. The answer is the exit status.
 ///
 /// The script is read whole before any line is checked, every line is checked before any call is made, and the whole
-/// output is written last.
+/// output is written last. Each worker makes its calls on a thread of its own, on a recorded container in as many
+/// stripes as the script names; those of one worker on one stripe are made on an owned container.
 ///
-/// - [`FINISHED`]: written are the line `worker 0`, a line for each call's reply, `contents N`, N lines `KEY VALUE`, of a set
-///   `KEY`, in rising order of keys, and `records R`, where R is the number of calls.
+/// - [`FINISHED`]: written are for each worker from 0 the line `worker W` and a line for each of its calls' replies, then
+///   `contents N`, N lines `KEY VALUE`, of a set `KEY`, in rising order of keys, and `records R`, where R is the number of
+///   call records: clearing and counting make one a stripe.
 /// - [`BAD_CALL`]: written is the line `line N: bad call` alone, where N, counted from 1, is the first line that isn't
 ///   in the grammar. No call was made.
 /// - [`NO_MEMORY`]: written is the line `out of memory` alone.
 /// - [`STREAM_FAILED`]: nothing was written where the read failed; where a write failed, nothing after it.
-pub fn play<R: Read, W: Write>(alloc: Global, reader: &mut R, writer: &mut W) -> u8
+/// - [`UNFINISHED`]: written is the line `finish N` alone: 7 where a pass is missing, 8 where a record is misrouted, 9 where
+///   a receipt isn't its record, or what was recorded isn't what the script has.
+pub fn play<T: Threads + Wait + Sync, R: Read, W: Write>(
+    rt: &T,
+    alloc: Global,
+    reader: &mut R,
+    writer: &mut W,
+) -> u8
     ensures ends { IfSome (R.remaining reader.old) (λ script. Ends (W.contents writer.old) (W.contents writer.new) (script_of script) result) }
-    ensures status { (result ≡ FINISHED) ⊎ ((result ≡ BAD_CALL) ⊎ ((result ≡ NO_MEMORY) ⊎ (result ≡ STREAM_FAILED))) }
+    ensures status { (result ≡ FINISHED) ⊎ ((result ≡ BAD_CALL) ⊎ ((result ≡ NO_MEMORY) ⊎ ((result ≡ STREAM_FAILED) ⊎ (result ≡ UNFINISHED)))) }
 {
     let mut script = Vec::new(alloc);
     if let Err(error) = reader.read_to_end(&mut script) {
@@ -91,7 +256,7 @@ pub fn play<R: Read, W: Write>(alloc: Global, reader: &mut R, writer: &mut W) ->
         }
         return STREAM_FAILED;
     }
-    match answer_script(alloc, script.as_slice()) {
+    match answer_script(rt, alloc, script.as_slice()) {
         Ok(answer) => finish(writer, answer.text.as_str(), answer.status),
         Err(AllocError) => finish(writer, OUT_OF_MEMORY, NO_MEMORY),
     }

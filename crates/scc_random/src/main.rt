@@ -6,8 +6,8 @@
 use scc::hash_map::Owned;
 use scc_fixtures::random_calls::agrees_with_a_list;
 use scc_fixtures::zero::Zero;
-use scc_play::number::parse_number;
-use scc_play::same::Same;
+use scc_script::number::parse_number;
+use scc_script::same::Same;
 use std::alloc::{AllocError, Global};
 use std::env;
 use std::hash::{BuildHasherDefault, FoldHasher};

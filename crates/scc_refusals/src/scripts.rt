@@ -3,15 +3,22 @@ use crate::fixtures::Refusal;
 use scc_play::play::{BAD_CALL, FINISHED, NO_MEMORY, play};
 use std::io::Print;
 use std::process::Abort;
+use std::sync::Wait;
+use std::thread::Threads;
 
 // Plays a script into a place that takes no memory. Refused, it writes `out of memory` alone and ends in 3, and the next run writes the text.
-fn expect_script<R: AllocGlobal + Abort + Print>(rt: &R, script: &[u8], text: &[u8], status: u8) {
+fn expect_script<R: AllocGlobal + Abort + Print + Threads + Wait + Sync>(
+    rt: &R,
+    script: &[u8],
+    text: &[u8],
+    status: u8,
+) {
     let mut refusal = Refusal::new();
     let mut place = [0u8; 64];
     for _ in 0..2 {
         let mut reader = script;
         let mut writer = place.as_mut_slice();
-        let answered = play(rt.alloc(), &mut reader, &mut writer);
+        let answered = play(rt, rt.alloc(), &mut reader, &mut writer);
         let written = 64usize.saturating_sub(writer.len());
         if answered != NO_MEMORY {
             assert_eq!(rt; answered, status);

@@ -8,6 +8,6 @@ use std::io;
 use std::process::ExitCode;
 
 fn main(rt: HostRuntime) -> ExitCode {
-    let status = play(rt.alloc(), &mut rt.reader(), &mut io::writer(&rt));
+    let status = play(&rt, rt.alloc(), &mut rt.reader(), &mut io::writer(&rt));
     ExitCode::from(status)
 }

@@ -1,5 +1,5 @@
 // The hash of a script's keys.
-use scc_play::same::Same;
+use scc_script::same::Same;
 use std::hash::{BuildHasher, Hasher};
 
 #[test]

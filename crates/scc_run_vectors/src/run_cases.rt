@@ -1,13 +1,20 @@
 // Worked cases of the program: whole scripts, with what they write and their status.
 use scc_play::play::{BAD_CALL, FINISHED, play};
 use std::process::Abort;
+use std::sync::Wait;
 use std::test::Fail;
+use std::thread::Threads;
 
 // Plays a script, and asserts what it writes and how it ends.
-pub(crate) fn expect_run<R: AllocGlobal + Abort>(rt: &R, script: &[u8], text: &str, status: u8) {
+pub(crate) fn expect_run<R: AllocGlobal + Abort + Threads + Wait + Sync>(
+    rt: &R,
+    script: &[u8],
+    text: &str,
+    status: u8,
+) {
     let mut output = Vec::new(rt.alloc());
     let mut reader = script;
-    let answered = play(rt.alloc(), &mut reader, &mut output);
+    let answered = play(rt, rt.alloc(), &mut reader, &mut output);
     assert_eq!(rt; output.as_slice(), text.as_bytes(), "written of {script:?}");
     assert_eq!(rt; answered, status, "the status of {script:?}");
 }

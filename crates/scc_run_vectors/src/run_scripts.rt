@@ -2,10 +2,12 @@
 use crate::run_cases::expect_run;
 use scc_play::play::{BAD_CALL, FINISHED, play};
 use std::process::Abort;
+use std::sync::Wait;
 use std::test::Fail;
+use std::thread::Threads;
 
 // Asserts that line `number` is the first bad one.
-fn expect_bad_line<R: AllocGlobal + Abort>(
+fn expect_bad_line<R: AllocGlobal + Abort + Threads + Wait + Sync>(
     rt: &R,
     script: &[u8],
     number: usize,
@@ -38,9 +40,12 @@ fn run_bad_headers(rt: HostRuntime) -> Result<(), Fail> {
         b" map 1 1\n".as_slice(),
         b"map  1 1\n".as_slice(),
         b"Map 1 1\n".as_slice(),
-        b"map 2 1\n".as_slice(),
-        b"map 1 2\n".as_slice(),
         b"map 0 1\n".as_slice(),
+        b"map 17 1\n".as_slice(),
+        b"map 1 0\n".as_slice(),
+        b"map 1 5\n".as_slice(),
+        b"map 1 32\n".as_slice(),
+        b"cache 1 16\n".as_slice(),
         b"map +1 1\n".as_slice(),
         b"map 1 1\r\r\n".as_slice(),
         b"map 1 18446744073709551617\n".as_slice(),
@@ -146,7 +151,7 @@ fn run_many_calls(rt: HostRuntime) -> Result<(), Fail> {
     wanted.push_str("records 100000\n")?;
     let mut output = Vec::new(rt.alloc());
     let mut reader = script.as_bytes();
-    let status = play(rt.alloc(), &mut reader, &mut output);
+    let status = play(&rt, rt.alloc(), &mut reader, &mut output);
     assert_eq!(rt; status, FINISHED);
     assert!(rt; output.as_slice() == wanted.as_bytes());
     Ok(())

@@ -27,7 +27,7 @@ fn run_failing_reader(rt: HostRuntime) {
             first,
             kind: ErrorKind::Other,
         };
-        let status = play(rt.alloc(), &mut reader, &mut output);
+        let status = play(&rt, rt.alloc(), &mut reader, &mut output);
         assert_eq!(rt; status, STREAM_FAILED);
         assert_eq!(rt; output.len(), 0);
     }
@@ -40,7 +40,7 @@ fn run_reader_without_memory(rt: HostRuntime) {
         first: b"cache 1 8\n".as_slice(),
         kind: ErrorKind::OutOfMemory,
     };
-    let status = play(rt.alloc(), &mut reader, &mut output);
+    let status = play(&rt, rt.alloc(), &mut reader, &mut output);
     assert_eq!(rt; output.as_slice(), b"out of memory\n".as_slice());
     assert_eq!(rt; status, NO_MEMORY);
 }
@@ -79,7 +79,7 @@ fn run_failing_writer(rt: HostRuntime) {
                 room,
                 fails_at_flush,
             };
-            let status = play(rt.alloc(), &mut reader, &mut writer);
+            let status = play(&rt, rt.alloc(), &mut reader, &mut writer);
             assert_eq!(rt; status, STREAM_FAILED);
         }
         let mut reader = script;
@@ -87,7 +87,7 @@ fn run_failing_writer(rt: HostRuntime) {
             room: 1000,
             fails_at_flush: false,
         };
-        let status = play(rt.alloc(), &mut reader, &mut writer);
+        let status = play(&rt, rt.alloc(), &mut reader, &mut writer);
         assert_ne!(rt; status, STREAM_FAILED);
     }
 }

@@ -3,7 +3,7 @@ ghost use Rattle.std.specs.Prelude.{◌≡◌, Some};
 ghost use Rattle.scc_recorder.specs.Setups.{request_of};
 
 use scc_map::hash_map::Owned;
-use scc_play::same::Same;
+use scc_script::same::Same;
 use scc_recorded::recorded::{MapCall, Reply, Step};
 use scc_recorder::recorder::{FinishError, Finished, Pass, Recorded, Setup, Site};
 use scc_table::Shared;

@@ -6,4 +6,6 @@ mod as_run;
 #[cfg(test)]
 mod cases;
 #[cfg(test)]
+mod scripts;
+#[cfg(test)]
 mod workers;

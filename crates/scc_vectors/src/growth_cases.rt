@@ -1,7 +1,7 @@
 // When an array grows, at the edges of the rules, and that nothing is leaked on the way.
 use scc::Verdict;
 use scc::hash_map::Owned;
-use scc_play::same::Same;
+use scc_script::same::Same;
 use std::process::Abort;
 use std::rc::Rc;
 use std::test::Fail;

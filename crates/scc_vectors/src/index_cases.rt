@@ -5,7 +5,7 @@ use scc::recorded::{Calls, IndexCall, Reply, run};
 use scc::{InsertError, MakeError};
 use scc_fixtures::maybe_equal::MaybeEqual;
 use scc_fixtures::zero::Zero;
-use scc_play::same::Same;
+use scc_script::same::Same;
 use std::hash::BuildHasher;
 use std::process::Abort;
 use std::test::Fail;

@@ -4,7 +4,7 @@ use scc::hash_map::owned::ReplaceResult;
 use scc::{InsertError, MakeError};
 use scc_fixtures::maybe_equal::MaybeEqual;
 use scc_fixtures::zero::Zero;
-use scc_play::same::Same;
+use scc_script::same::Same;
 use std::hash::{BuildHasher, RandomState};
 use std::process::Abort;
 use std::test::Fail;

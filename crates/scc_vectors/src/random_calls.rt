@@ -2,7 +2,7 @@
 use scc::hash_map::Owned;
 use scc_fixtures::random_calls::agrees_with_a_list;
 use scc_fixtures::zero::Zero;
-use scc_play::same::Same;
+use scc_script::same::Same;
 use std::hash::{BuildHasherDefault, FoldHasher};
 use std::process::Abort;
 use std::test::Fail;

@@ -1,7 +1,7 @@
 // Worked cases of the size of the owned map, and of whole maps.
 use scc::hash_map::Owned;
 use scc_fixtures::zero::Zero;
-use scc_play::same::Same;
+use scc_script::same::Same;
 use std::process::Abort;
 use std::test::Fail;
 

@@ -1,0 +1,8 @@
+-- The records so far are those of the first histories.
+use Rattle.std.proofs.Common.{◌≡◌, take, map}
+use Rattle.std.specs.List.{sum_by}
+use Rattle.scc_history.specs.Stamps.{calls_in}
+use Rattle.scc_play.proofs.whole.records_in.Given as goal
+
+abbrev pub invariant-loop-history : goal.invariant-loop-history
+invariant-loop-history g l = l.records ≡ sum_by calls_in (map (λ h. h.items) (take l.history-index l.histories))

@@ -1,0 +1,43 @@
+-- What the calls of a script become over several stripes, and what is printed of each.
+use Rattle.std.specs.Prelude.{◌≡◌, ℕ, List, [], ◌∷◌, ◌++◌, length, map, min, Option, None, Some, ◌==◌, if◌then◌else◌}
+use Rattle.std.specs.List.{AllByRecursion, sum_by}
+use Rattle.scc_history.specs.Stamps.{receipt}
+use Rattle.scc_history.specs.declared.history.receipts.Receipt.{Receipt}
+use Rattle.scc_script.specs.declared.line.WorkerCall.{WorkerCall}
+
+-- the calls of one worker, in their order
+abbrev pub calls_by : {A : Type 0} → ℕ → List (WorkerCall A) → List A
+calls_by worker [] = []
+calls_by worker (c ∷ calls) = if c.worker == worker then c.call ∷ calls_by worker calls else calls_by worker calls
+
+-- the number that a reply tells, 0 for one that tells none
+abbrev pub number_of : Option ℕ → ℕ
+number_of None = 0
+number_of (Some n) = n
+
+module _ {A R K : Type 0} (key_of : A → Option K) (told : R → Option ℕ) (count : ℕ → R) where
+  -- the reply to a call of all stripes, by what the first stripe told: the sum of what they count, where it counts; else what the first replied
+  abbrev pub joint_by : Option ℕ → R → List R → R
+  joint_by None first replies = first
+  joint_by (Some n) first replies = count (min 18446744073709551615 (sum_by (λ r. number_of (told r)) replies))
+
+  -- the reply to a call of all stripes, from those of the stripes
+  abbrev pub IsJoint : List R → R → Type 0
+  IsJoint [] reply = ⊥
+  IsJoint (first ∷ more) reply = reply ≡ joint_by (told first) first (first ∷ more)
+
+  -- a call with a key is one record; one without is a record of each stripe, of that call
+  abbrev pub IsAnsweredBy : Option K → ℕ → A → List (Receipt A R) → R → Type 0
+  IsAnsweredBy (Some k) stripes call records reply = (stamp : ℕ) × (records ≡ receipt stamp call reply ∷ [])
+  IsAnsweredBy None stripes call records reply = (length records ≡ stripes) × AllByRecursion (λ r. r.call ≡ call) records × IsJoint (map (λ r. r.reply) records) reply
+
+  -- these records are what a call of a script became, and this is the reply that is printed of it
+  abbrev pub IsAnswered : ℕ → A → List (Receipt A R) → R → Type 0
+  IsAnswered stripes call records reply = IsAnsweredBy (key_of call) stripes call records reply
+
+  -- the records are those of the calls, one call after another, with these replies
+  abbrev pub AreAnswered : ℕ → List A → List (Receipt A R) → List R → Type 0
+  AreAnswered stripes [] records replies = (records ≡ []) × (replies ≡ [])
+  AreAnswered stripes (call ∷ calls) records replies =
+      (here : List (Receipt A R)) × (rest : List (Receipt A R)) × (reply : R) × (more : List R)
+      × (records ≡ here ++ rest) × (replies ≡ reply ∷ more) × IsAnswered stripes call here reply × AreAnswered stripes calls rest more

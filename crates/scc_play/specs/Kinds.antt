@@ -1,0 +1,133 @@
+-- What scripts of each kind do: a key is its own hash.
+use Rattle.std.specs.Prelude.{◌≡◌, ℕ, ◌%◌, ◌^◌, ◌==◌, List, [], length, max, replicate, nat_eq}
+use Rattle.std.specs.List.Sorted.{IsPermutation}
+use Rattle.std.specs.Ordering.{nat_cmp}
+use Rattle.scc_table.specs.Contents.{Contents, entries, lists_of}
+use Rattle.scc_table.specs.Sizes.{IsArraySize}
+use Rattle.scc_cache.specs.Caches.{Cached}
+use Rattle.scc_recorded.specs.CacheCalls.{cache_key, number_by, CacheMoves, CacheResizes}
+use Rattle.scc_recorded.specs.IndexCalls.{index_key, IndexMoves}
+use Rattle.scc_recorded.specs.IndexWhole.{IndexWholeMoves}
+use Rattle.scc_recorded.specs.MapCalls.{map_key, MapMoves}
+use Rattle.scc_recorded.specs.MapWhole.{joined, MapWholeMoves}
+use Rattle.scc_recorded.specs.Parted.{PartMoves, PartResizes}
+use Rattle.scc_recorded.specs.Parts.{part_number}
+use Rattle.scc_recorded.specs.SetCalls.{key_of_set, SetMoves}
+use Rattle.scc_recorded.specs.SetWhole.{SetWholeMoves}
+use Rattle.scc_recorded.specs.States.{State, state_of, ResizesTo}
+use Rattle.scc_recorded.specs.WholeLaws.{told_by}
+use Rattle.scc_recorded.specs.declared.recorded.calls_as_values.CacheCall.{CacheCall}
+use Rattle.scc_recorded.specs.declared.recorded.calls_as_values.IndexCall.{IndexCall}
+use Rattle.scc_recorded.specs.declared.recorded.calls_as_values.MapCall.{MapCall}
+use Rattle.scc_recorded.specs.declared.recorded.calls_as_values.SetCall.{SetCall}
+use Rattle.scc_recorded.specs.declared.recorded.fixed.Request.{Request}
+use Rattle.scc_recorded.specs.declared.recorded.replies.Reply.{Reply}
+use Rattle.scc_recorded.specs.declared.recorded.replies.Reply.TheVariants.{Count}
+use Rattle.scc_recorder.specs.Setups.{request_of}
+use Rattle.scc_print.specs.Finished.{pair_cmp}
+use Rattle.scc_print.specs.Output.{reply_line, content_line, key_reply_line, key_line}
+use Rattle.scc_script.specs.declared.line.WorkerCall.{WorkerCall}
+use Rattle.scc_script.specs.declared.same.Same.{Same}
+use Rattle.scc_play.specs.Played.{IsPlayed, Machine}
+
+-- the hash of a key of 64 bits
+abbrev pub own_hash : ℕ → ℕ
+own_hash k = k % 2 ^ 64
+
+-- what each stripe of a script's container is made for: no array, and its share of 256 slots at most
+abbrev pub script_request : ℕ → Request Same
+script_request stripes = request_of 0 256 (record {}) stripes
+
+module _ (hash : ℕ → ℕ) where
+  -- the stripe of a key
+  abbrev pub route_by : ℕ → ℕ → ℕ
+  route_by stripes k = part_number stripes (hash k)
+
+  abbrev pub map_machine : Machine (Contents (ℕ × ℕ) Same) Same (State (ℕ × ℕ)) (List (ℕ × ℕ)) (MapCall ℕ ℕ) (Reply ℕ ℕ) ℕ (ℕ × ℕ)
+  map_machine = record {
+    limits = λ _ _ m. m ≡ 0;
+    empty = λ b. ([], b);
+    key_of = map_key;
+    moves = λ _. MapMoves nat_eq;
+    resizes = ResizesTo;
+    whole = joined;
+    whole_moves = λ g n i. MapWholeMoves nat_eq (λ k. route_by n k == i);
+    whole_resizes = λ _ _ _ w _ v. IsPermutation w v;
+    told = told_by;
+    count = Count;
+    state = state_of;
+    shown = entries;
+    order = pair_cmp;
+    reply = reply_line;
+    content = content_line;
+  }
+
+  abbrev pub set_machine : Machine (Contents ℕ Same) Same (State ℕ) (List ℕ) (SetCall ℕ) (Reply ℕ (Unit {0})) ℕ ℕ
+  set_machine = record {
+    limits = λ _ _ m. m ≡ 0;
+    empty = λ b. ([], b);
+    key_of = key_of_set;
+    moves = λ _. SetMoves nat_eq;
+    resizes = ResizesTo;
+    whole = joined;
+    whole_moves = λ g n i. SetWholeMoves nat_eq (λ k. route_by n k == i);
+    whole_resizes = λ _ _ _ w _ v. IsPermutation w v;
+    told = told_by;
+    count = Count;
+    state = state_of;
+    shown = entries;
+    order = nat_cmp;
+    reply = key_reply_line;
+    content = key_line;
+  }
+
+  abbrev pub index_machine : Machine (Contents (ℕ × ℕ) Same) Same (State (ℕ × ℕ)) (List (ℕ × ℕ)) (IndexCall ℕ ℕ) (Reply ℕ ℕ) ℕ (ℕ × ℕ)
+  index_machine = record {
+    limits = λ _ _ m. m ≡ 0;
+    empty = λ b. ([], b);
+    key_of = index_key;
+    moves = λ _. IndexMoves nat_eq;
+    resizes = ResizesTo;
+    whole = joined;
+    whole_moves = λ g n i. IndexWholeMoves nat_eq (λ k. route_by n k == i);
+    whole_resizes = λ _ _ _ w _ v. IsPermutation w v;
+    told = told_by;
+    count = Count;
+    state = state_of;
+    shown = entries;
+    order = pair_cmp;
+    reply = reply_line;
+    content = content_line;
+  }
+
+  abbrev pub cache_machine : Machine (Cached (ℕ × ℕ) Same) Same (List (List (ℕ × ℕ))) (List (List (List (ℕ × ℕ)))) (CacheCall ℕ ℕ) (Reply ℕ ℕ) ℕ (ℕ × ℕ)
+  cache_machine = record {
+    limits = λ asked slots m. IsArraySize (max asked slots) m;
+    empty = λ b. replicate b [];
+    key_of = cache_key;
+    moves = λ g. CacheMoves nat_eq (number_by (λ h k. hash k) g);
+    resizes = λ g. CacheResizes g (number_by (λ h k. hash k) g);
+    whole = λ parts. parts;
+    whole_moves = λ g n i. PartMoves (CacheMoves nat_eq (number_by (λ h k. hash k) g)) cache_key (λ k. route_by n k) i;
+    whole_resizes = λ g n i. PartResizes (CacheResizes g (number_by (λ h k. hash k) g)) i;
+    told = told_by;
+    count = Count;
+    state = λ c. lists_of c.contents;
+    shown = λ c. entries c.contents;
+    order = pair_cmp;
+    reply = reply_line;
+    content = content_line;
+  }
+
+-- what so many workers did on a map in so many stripes, and its text; and so on
+abbrev pub MapPlayed : ℕ → ℕ → List (WorkerCall (MapCall ℕ ℕ)) → List ℕ → Type 0
+MapPlayed workers stripes calls text = ∥ IsPlayed (map_machine own_hash) (route_by own_hash) (script_request stripes) workers stripes calls text ∥₁
+
+abbrev pub SetPlayed : ℕ → ℕ → List (WorkerCall (SetCall ℕ)) → List ℕ → Type 0
+SetPlayed workers stripes calls text = ∥ IsPlayed (set_machine own_hash) (route_by own_hash) (script_request stripes) workers stripes calls text ∥₁
+
+abbrev pub IndexPlayed : ℕ → ℕ → List (WorkerCall (IndexCall ℕ ℕ)) → List ℕ → Type 0
+IndexPlayed workers stripes calls text = ∥ IsPlayed (index_machine own_hash) (route_by own_hash) (script_request stripes) workers stripes calls text ∥₁
+
+abbrev pub CachePlayed : ℕ → ℕ → List (WorkerCall (CacheCall ℕ ℕ)) → List ℕ → Type 0
+CachePlayed workers stripes calls text = ∥ IsPlayed (cache_machine own_hash) (route_by own_hash) (script_request stripes) workers stripes calls text ∥₁

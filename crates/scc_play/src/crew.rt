@@ -1,0 +1,92 @@
+//! One worker of a script.
+
+use scc_print::printed::Printed;
+use scc_recorded::recorded::Calls;
+use scc_recorder::recorder::{Pass, Recorded, Site};
+use scc_stripes::stripes::{Open, Work, run};
+use std::alloc::{AllocError, Global};
+use std::sync::Wait;
+use std::sync::ledger::Ledger;
+use std::thread::Threads;
+
+/// A worker with a pass of its own, who makes its calls of a script one after another.
+#[derive(Drop)]
+struct Worker<'a, P: Printed, L: Ledger, M: Site<P::Hasher>, R: Wait> {
+    rt: &'a R,
+    recorded: &'a Recorded<P, L, M>,
+    calls: &'a [P::Call],
+    pass: Pass<P, L>,
+}
+
+// Makes a call of one stripe or of all. False where it is refused.
+fn make_call<P: Printed, L: Ledger, M: Site<P::Hasher>, R: Wait>(
+    rt: &R,
+    recorded: &Recorded<P, L, M>,
+    pass: &mut Pass<P, L>,
+    call: P::Call,
+) -> bool {
+    if let Some(_key) = P::key(&call) {
+        recorded.call(rt, pass, call).is_ok()
+    } else if call == P::clear_call() {
+        recorded.clear(rt, pass).is_ok()
+    } else if call == P::len_call() {
+        recorded.len(rt, pass).is_ok()
+    } else {
+        false
+    }
+}
+
+impl<P: Printed, L: Ledger, M: Site<P::Hasher>, R: Wait> Work for Worker<'_, P, L, M, R> {
+    fn turns(&self) -> usize {
+        self.calls.len()
+    }
+
+    fn turn(&mut self, j: usize) -> bool {
+        match self.calls.get(j) {
+            Some(call) => make_call(self.rt, self.recorded, &mut self.pass, *call),
+            None => false,
+        }
+    }
+}
+
+/// Has each worker make its calls, on a thread of its own, and hands the passes back. Refused where a thread wasn't started, or a call was refused.
+pub(crate) fn work_all<P, L, M, R>(
+    rt: &R,
+    alloc: Global,
+    recorded: &Recorded<P, L, M>,
+    passes: Vec<Pass<P, L>>,
+    lists: &[Vec<P::Call>],
+) -> Result<Vec<Pass<P, L>>, AllocError>
+where
+    P: Printed + Drop + Send,
+    P::Call: Send + Sync,
+    P::Reply: Send,
+    P::Hasher: Drop + Send + Sync,
+    L: Ledger + Send + Sync,
+    M: Site<P::Hasher> + Send + Sync,
+    R: Threads + Wait + Sync,
+{
+    let mut workers = Vec::with_capacity(alloc, passes.len())?;
+    for (pass, calls) in passes.into_iter().zip(lists) {
+        workers.push(Worker {
+            rt,
+            recorded,
+            calls: calls.as_slice(),
+            pass,
+        })?;
+    }
+    if run(rt, alloc, workers.as_mut_slice(), &Open).is_err() {
+        return Err(AllocError);
+    }
+    let mut handed = Vec::with_capacity(alloc, workers.len())?;
+    for worker in workers {
+        let Worker {
+            rt: _,
+            recorded: _,
+            calls: _,
+            pass,
+        } = worker;
+        handed.push(pass)?;
+    }
+    Ok(handed)
+}

@@ -1,0 +1,23 @@
+//! How a run of several workers ends.
+
+use std::fmt::Debug;
+
+/// Why a run wasn't finished, by the refusals of `finish`.
+#[derive(Clone, Copy, Debug, PartialEq)]
+pub(crate) enum Cause {
+    /// A pass is missing.
+    Missing,
+    /// A record stands in a stripe that isn't its key's.
+    Misrouted,
+    /// A receipt isn't its record, or isn't of the script's call.
+    Disagrees,
+}
+
+/// How a run of several workers ended.
+#[derive(Drop)]
+pub(crate) enum End {
+    /// All calls were made: the output.
+    Played(String),
+    /// The run wasn't finished.
+    Unfinished(Cause),
+}

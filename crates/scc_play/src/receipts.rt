@@ -1,0 +1,131 @@
+//! What a worker's calls were answered, from the receipts of what they became.
+ghost use Rattle.std.specs.Prelude.{◌≡◌, ℕ, ◌<◌, length, map, min, IfOk, IfSome, true, drop};
+ghost use Rattle.std.specs.List.{AllByRecursion, sum_by};
+ghost use Rattle.scc_play.specs.Answered.{AreAnswered, IsAnswered, IsJoint, number_of, calls_by};
+
+use scc_history::history::Receipt;
+use scc_print::printed::Printed;
+use scc_script::line::WorkerCall;
+use std::alloc::{AllocError, Global};
+
+// The calls of one worker, in their order.
+pub(crate) fn calls_of<A: Copy>(
+    alloc: Global,
+    worker: usize,
+    calls: &[WorkerCall<A>],
+) -> Result<Vec<A>, AllocError>
+    ensures { IfOk result (λ v. v.items ≡ calls_by worker calls.now) }
+{
+    let mut own = Vec::new(alloc);
+    for call in calls {
+        if call.worker == worker {
+            own.push(call.call)?;
+        }
+    }
+    Ok(own)
+}
+
+// Whether all receipts are of this call.
+fn are_all_of<P: Printed>(call: &P::Call, receipts: &[Receipt<P::Call, P::Reply>]) -> bool
+    ensures { result ≡ true → AllByRecursion (λ r. r.call ≡ call.now) receipts.now }
+{
+    P::exact_calls();
+    for receipt in receipts {
+        if receipt.call != *call {
+            return false;
+        }
+    }
+    true
+}
+
+// The sum of the numbers that replies tell.
+fn sum_of<P: Printed>(receipts: &[Receipt<P::Call, P::Reply>]) -> usize
+    ensures { result ≡ min 18446744073709551615 (sum_by (λ r. number_of (P.told r.reply)) receipts.now) }
+{
+    let mut sum: usize = 0;
+    for receipt in receipts {
+        sum = sum.saturating_add(P::told(&receipt.reply).unwrap_or(0));
+    }
+    sum
+}
+
+// The reply to a call of all stripes.
+fn joint_reply<P: Printed>(receipts: &[Receipt<P::Call, P::Reply>]) -> P::Reply
+    requires { 0 < length receipts.now }
+    ensures { IsJoint P.key_of P.told P.count_reply (map (λ r. r.reply) receipts.now) result }
+{
+    let first = receipts[0].reply;
+    match P::told(&first) {
+        None => first,
+        Some(_) => P::count_reply(sum_of::<P>(receipts)),
+    }
+}
+
+// The reply to the call, where these are the receipts of what it became.
+fn reply_of<P: Printed>(
+    stripes: usize,
+    call: &P::Call,
+    receipts: &[Receipt<P::Call, P::Reply>],
+) -> Option<P::Reply>
+    requires { 0 < stripes }
+    ensures { IfSome result (λ reply. IsAnswered P.key_of P.told P.count_reply stripes call.now receipts.now reply) }
+{
+    if !are_all_of::<P>(call, receipts) {
+        return None;
+    }
+    match P::key(call) {
+        Some(_) => {
+            if receipts.len() == 1 {
+                Some(receipts[0].reply)
+            } else {
+                None
+            }
+        }
+        None => {
+            if receipts.len() == stripes {
+                Some(joint_reply::<P>(receipts))
+            } else {
+                None
+            }
+        }
+    }
+}
+
+// How many records the call becomes.
+fn records_of<P: Printed>(stripes: usize, call: &P::Call) -> usize {
+    match P::key(call) {
+        Some(_) => 1,
+        None => stripes,
+    }
+}
+
+// The replies to the calls of a worker, where its receipts are those of what they became.
+pub(crate) fn replies_of<P: Printed>(
+    alloc: Global,
+    stripes: usize,
+    calls: &[P::Call],
+    receipts: &[Receipt<P::Call, P::Reply>],
+) -> Result<Option<Vec<P::Reply>>, AllocError>
+    requires { 0 < stripes }
+    ensures { IfOk result (λ o. IfSome o (λ replies. AreAnswered P.key_of P.told P.count_reply stripes calls.now receipts.now replies.items)) }
+{
+    let mut replies = Vec::new(alloc);
+    let mut rest = receipts;
+    for call in calls {
+        let count = records_of::<P>(stripes, call);
+        if rest.len() < count {
+            return Ok(None);
+        }
+        let (here, after) = rest.split_at(count);
+        let Some(reply) = reply_of::<P>(stripes, call, here) else {
+            return Ok(None);
+        };
+        replies.push(reply)?;
+        rest = after;
+    }
+    if rest.is_empty() {
+        Ok(Some(replies))
+    } else {
+        Ok(None)
+    }
+}

@@ -1,0 +1,123 @@
+//! What a finished run holds, as text.
+ghost use Rattle.std.specs.Prelude.{◌≡◌, ℕ, ◌<◌, List, length, map, IfOk, IfSome, true};
+ghost use Rattle.std.specs.List.{AllByRecursion, flat_map, sum_by};
+ghost use Rattle.std.specs.List.Sorted.{IsPermutation, IsSorted};
+ghost use Rattle.std.specs.String.{string_bytes};
+ghost use Rattle.scc_history.specs.Stamps.{calls_in};
+ghost use Rattle.scc_print.specs.Output.{output_of};
+ghost use Rattle.scc_play.specs.Played.{IsMadeBy};
+
+use scc_print::printed::Printed;
+use scc_print::texts::output_text;
+use scc_recorded::recorded::Step;
+use scc_recorder::recorder::Finished;
+use std::alloc::{AllocError, Global};
+
+// Whether each call of a history was made by one of so many workers.
+fn is_known<A: Copy, R: Copy>(workers: usize, history: &[Step<A, R>]) -> bool
+    ensures { result ≡ true → AllByRecursion (IsMadeBy workers) history.now }
+{
+    for step in history {
+        if let Step::Call { pass, .. } = step {
+            if *pass >= workers {
+                return false;
+            }
+        }
+    }
+    true
+}
+
+// Whether each call of all histories was made by one of so many workers.
+fn are_known<A: Copy, R: Copy>(workers: usize, histories: &[Vec<Step<A, R>>]) -> bool
+    ensures { result ≡ true → AllByRecursion (AllByRecursion (IsMadeBy workers)) (map (λ h. h.items) histories.now) }
+{
+    for history in histories {
+        if !is_known(workers, history.as_slice()) {
+            return false;
+        }
+    }
+    true
+}
+
+// Whether all numbers are 0.
+fn are_none(numbers: &[usize]) -> bool
+    ensures { result ≡ true → AllByRecursion (λ n. n ≡ 0) numbers.now }
+{
+    for number in numbers {
+        if *number != 0 {
+            return false;
+        }
+    }
+    true
+}
+
+// The number of call records of a history.
+fn count_of<A: Copy, R: Copy>(history: &[Step<A, R>]) -> usize
+    ensures { result ≡ calls_in history.now }
+{
+    let mut count: usize = 0;
+    for j in 0..history.len() {
+        if let Step::Call { .. } = &history[j] {
+            count += 1;
+        }
+    }
+    count
+}
+
+// The number of call records of all histories; None past the greatest number.
+fn records_in<A: Copy, R: Copy>(histories: &[Vec<Step<A, R>>]) -> Option<usize>
+    ensures { IfSome result (λ n. n ≡ sum_by calls_in (map (λ h. h.items) histories.now)) }
+{
+    let mut records: usize = 0;
+    for history in histories {
+        records = records.checked_add(count_of(history.as_slice()))?;
+    }
+    Some(records)
+}
+
+// The contents of all parts, in rising order.
+fn sorted_items<P: Printed + Drop>(
+    alloc: Global,
+    parts: Vec<P>,
+) -> Result<Vec<P::Item>, AllocError>
+    ensures same { IfOk result (λ items. IsPermutation (flat_map P.shown parts.items) items.items) }
+    ensures rising { IfOk result (λ items. IsSorted P.Item.cmp items.items) }
+{
+    let mut items = Vec::new(alloc);
+    let mut parts = parts;
+    while !parts.is_empty() {
+        let mut part = parts.remove(0);
+        part.take_items(&mut items)?;
+    }
+    items.sort_unstable();
+    Ok(items)
+}
+
+/// The output of a run, where its stripes began without arrays and each call was made by one of so many workers.
+pub(crate) fn whole_text<P: Printed + Drop>(
+    alloc: Global,
+    workers: usize,
+    replies: &[Vec<P::Reply>],
+    finished: Finished<P>,
+) -> Result<Option<String>, AllocError>
+    ensures known { IfOk result (λ o. IfSome o (λ text. AllByRecursion (AllByRecursion (IsMadeBy workers)) (map (λ h. h.items) finished.histories.items))) }
+    ensures opened { IfOk result (λ o. IfSome o (λ text. AllByRecursion (λ n. n ≡ 0) finished.opened.items)) }
+    ensures text { IfOk result (λ o. IfSome o (λ text. (items : List P.Item) × IsPermutation (flat_map P.shown finished.parts.items) items × IsSorted P.Item.cmp items
+        × (string_bytes text ≡ output_of P.reply_line P.item_line (map (λ v. v.items) replies.now) items (sum_by calls_in (map (λ h. h.items) finished.histories.items))))) }
+{
+    let Finished {
+        parts,
+        histories,
+        opened,
+        order: _,
+    } = finished;
+    if !are_known(workers, histories.as_slice()) || !are_none(opened.as_slice()) {
+        return Ok(None);
+    }
+    let Some(records) = records_in(histories.as_slice()) else {
+        return Ok(None);
+    };
+    let items = sorted_items(alloc, parts)?;
+    let text = output_text::<P>(alloc, replies, items.as_slice(), records)?;
+    Ok(Some(text))
+}

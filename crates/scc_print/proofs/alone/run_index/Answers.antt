@@ -1,0 +1,11 @@
+use Rattle.std.proofs.Common.{◌≡◌, [], rules}
+use Rattle.scc_recorded.specs.States.{setting_of, state_of}
+use Rattle.scc_print.proofs.Results.{if_ok}
+use Rattle.scc_print.proofs.alone.run_index.Goals as goal
+
+pub returns : goal.returns
+returns c = if_ok c.run_on.result c.run_on.ensures (λ text o.
+    let start : state_of c.with_hasher-index.result ≡ ([], 0) = (λ i. (c.with_hasher-index.ensures.entries i, c.with_hasher-index.ensures.buckets i)) in (
+      setting_of c.with_hasher-index.result,
+      record { replies = o.replies; last = state_of o.last; shown = o.shown; run = rw start at o.run; all = o.all; same = o.same; rising = o.rising; whole = o.whole },
+    ))

@@ -1,0 +1,52 @@
+//! Containers of numbers whose replies and contents are printed.
+ghost use Rattle.std.specs.Prelude.{◌≡◌, ℕ, List, ◌++◌, OnOk, true};
+ghost use Rattle.std.specs.List.Sorted.{IsPermutation};
+ghost use Rattle.std.specs.String.{string_bytes};
+
+mod caches;
+mod indexes;
+mod maps;
+mod sets;
+
+use scc_recorded::recorded::WholeCalls;
+use std::alloc::AllocError;
+
+/// A container whose replies and contents are printed.
+pub trait Printed: WholeCalls {
+    /// What a line of the contents is printed of.
+    type Item: Copy + Ord;
+
+    // What the contents are printed of, in any order.
+    ghost shown: { Self → List Self.Item };
+
+    ghost reply_line: { Self.Reply → List ℕ };
+
+    ghost item_line: { Self.Item → List ℕ };
+
+    // The reply of a count.
+    ghost count_reply: { ℕ → Self.Reply };
+
+    /// Takes all contents out, to the end of the list.
+    fn take_items(&mut self, items: &mut Vec<Self::Item>) -> Result<(), AllocError>
+        ensures { OnOk result ((more : List Self.Item) × (items.new.items ≡ items.old.items ++ more) × IsPermutation (shown self.old) more) };
+
+    /// Adds the line of a reply.
+    fn add_reply(output: &mut String, reply: Self::Reply) -> Result<(), AllocError>
+        ensures { OnOk result (string_bytes output.new ≡ string_bytes output.old ++ reply_line reply) };
+
+    /// Adds the line of an item.
+    fn add_item(output: &mut String, item: Self::Item) -> Result<(), AllocError>
+        ensures { OnOk result (string_bytes output.new ≡ string_bytes output.old ++ item_line item) };
+
+    /// The reply of a count.
+    fn count_reply(count: usize) -> Self::Reply
+        ensures { result ≡ count_reply count };
+
+    /// Calls that compare as equal are the same.
+    fn exact_calls()
+        ensures { (a b : Self.Call) → Self.Call.eq a b ≡ true → a ≡ b };
+
+    /// Replies that compare as equal are the same.
+    fn exact_replies()
+        ensures { (a b : Self.Reply) → Self.Reply.eq a b ≡ true → a ≡ b };
+}

@@ -1,0 +1,50 @@
+//! What is printed of a set.
+
+use crate::printed::Printed;
+use crate::texts::add_key_reply_line;
+use scc_recorded::recorded::Reply;
+use scc_set::hash_set::Owned;
+use scc_table::Verdict;
+use std::alloc::AllocError;
+use std::fmt::Write;
+use std::hash::BuildHasher;
+
+impl<H: BuildHasher> Printed for Owned<u64, H> {
+    type Item = u64;
+
+    ghost use Rattle.scc_print.specs.Output.{key_line, key_reply_line};
+    ghost use Rattle.scc_table.specs.Contents.{entries};
+    ghost use Rattle.scc_recorded.specs.declared.recorded.replies.Reply.TheVariants.{Count};
+
+    ghost shown = { entries };
+
+    ghost reply_line = { key_reply_line };
+
+    ghost item_line = { key_line };
+
+    ghost count_reply = { Count };
+
+    fn take_items(&mut self, items: &mut Vec<u64>) -> Result<(), AllocError> {
+        items.reserve(self.len())?;
+        if self.iter_mut_sync(|_| Verdict::Take, items).is_err() {
+            return Err(AllocError);
+        }
+        Ok(())
+    }
+
+    fn add_reply(output: &mut String, reply: Reply<u64, ()>) -> Result<(), AllocError> {
+        add_key_reply_line(output, reply)
+    }
+
+    fn add_item(output: &mut String, item: u64) -> Result<(), AllocError> {
+        writeln!(output, "{item}")
+    }
+
+    fn count_reply(count: usize) -> Reply<u64, ()> {
+        Reply::Count(count)
+    }
+
+    fn exact_calls() {}
+
+    fn exact_replies() {}
+}

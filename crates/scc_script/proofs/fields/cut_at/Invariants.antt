@@ -1,0 +1,6 @@
+-- No byte so far is the one at which the text is cut.
+use Rattle.std.proofs.Common.{◌≡◌, ℕ, ◌<◌, get_or}
+use Rattle.scc_script.proofs.fields.cut_at.Given as goal
+
+abbrev pub invariant-loop-place : goal.invariant-loop-place
+invariant-loop-place l = (k : ℕ) → k < l.place → get_or l.text k 0 ≡ l.byte → ⊥

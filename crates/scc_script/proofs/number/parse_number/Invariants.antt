@@ -1,0 +1,13 @@
+-- The bytes so far are digits, and `value` is the number that they write.
+use Rattle.std.proofs.Common.{◌≡◌, ◌<◌, ◌^◌, take, true}
+use Rattle.std.specs.List.{list_all}
+use Rattle.std.specs.Char.{is_ascii_digit}
+use Rattle.std.specs.Str.Parse.{digits_value}
+use Rattle.scc_script.proofs.number.parse_number.Given as goal
+
+abbrev pub invariant-loop-byte : goal.invariant-loop-byte
+invariant-loop-byte l = record {
+  digits : list_all is_ascii_digit (take l.byte-index l.field) ≡ true;
+  value : l.value ≡ digits_value 10 (take l.byte-index l.field);
+  small : l.value < 2 ^ 64;
+}

@@ -1,0 +1,27 @@
+-- What the parser's answer says of a script.
+use Rattle.std.specs.Prelude.{ℕ, List, Result, Ok, Err}
+use Rattle.scc_script.specs.Grammar.{IsCrew, IsDivision, Meaning, map_calls, set_calls, index_calls, cache_calls, bad_line}
+use Rattle.scc_script.specs.declared.line.WorkerCall.{WorkerCall}
+use Rattle.scc_script.specs.declared.script.Lines.{Lines}
+use Rattle.scc_script.specs.declared.script.Lines.TheVariants as lines
+use Rattle.scc_script.specs.declared.script.Script.{Script}
+use Rattle.scc_script.specs.declared.script.Script.TheVariants.{Map, Set, Index, Cache, BadLine}
+
+abbrev pub calls_or_line : {C : Type 0} → Lines C → Result (List (WorkerCall C)) ℕ
+calls_or_line (lines.Calls calls) = Ok calls.items
+calls_or_line (lines.BadLine number) = Err number
+
+abbrev pub meaning_of : Script → Meaning
+meaning_of (Map workers stripes calls) = map_calls workers stripes calls.items
+meaning_of (Set workers stripes calls) = set_calls workers stripes calls.items
+meaning_of (Index workers stripes calls) = index_calls workers stripes calls.items
+meaning_of (Cache workers stripes calls) = cache_calls workers stripes calls.items
+meaning_of (BadLine number) = bad_line number
+
+-- a good script has lawful numbers of workers and of stripes
+abbrev pub HasCrew : Script → Type 0
+HasCrew (Map workers stripes calls) = IsCrew workers × IsDivision stripes
+HasCrew (Set workers stripes calls) = IsCrew workers × IsDivision stripes
+HasCrew (Index workers stripes calls) = IsCrew workers × IsDivision stripes
+HasCrew (Cache workers stripes calls) = IsCrew workers × IsDivision stripes
+HasCrew (BadLine number) = Unit {0}

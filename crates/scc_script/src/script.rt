@@ -1,0 +1,102 @@
+//! Reads a whole script.
+ghost use Rattle.std.specs.Prelude.{◌≡◌, IfOk};
+ghost use Rattle.scc_script.specs.Grammar.{script_of, calls_of_lines, lines_of, meaning_of_kind, IsCrew, IsDivision};
+ghost use Rattle.scc_script.specs.Scripts.{meaning_of, calls_or_line, HasCrew};
+
+use crate::line::{Header, Kind, WorkerCall, parse_header, parse_line};
+use crate::lines::first_line;
+use crate::names::Named;
+use scc_recorded::recorded::{CacheCall, IndexCall, MapCall, SetCall};
+use std::alloc::{AllocError, Global};
+
+/// What a script is.
+#[derive(Drop)]
+pub enum Script {
+    /// Every line is good: the numbers of workers and of stripes, and the calls of a map in their order.
+    Map(usize, usize, Vec<WorkerCall<MapCall<u64, u64>>>),
+    /// The same of a set.
+    Set(usize, usize, Vec<WorkerCall<SetCall<u64>>>),
+    /// The same of an index.
+    Index(usize, usize, Vec<WorkerCall<IndexCall<u64, u64>>>),
+    /// The same of a cache.
+    Cache(usize, usize, Vec<WorkerCall<CacheCall<u64, u64>>>),
+    /// The number of the first line that isn't in the grammar, counted from 1.
+    BadLine(usize),
+}
+
+// The calls of some lines in their order, or the number of the first bad line.
+#[derive(Drop)]
+enum Lines<C> {
+    Calls(Vec<WorkerCall<C>>),
+    BadLine(usize),
+}
+
+// The calls of the lines of `text`, whose first has the number 2, by so many workers.
+fn parse_calls<C: Named>(
+    alloc: Global,
+    workers: usize,
+    text: &[u8],
+) -> Result<Lines<C>, AllocError>
+    ensures { IfOk result (λ lines. calls_or_line lines ≡ calls_of_lines C.names workers 2 (lines_of text.now)) }
+{
+    let mut calls = Vec::new(alloc);
+    let mut number: usize = 2;
+    let mut rest = text;
+    while !rest.is_empty() {
+        let (line, after) = first_line(rest);
+        if !line.is_empty() {
+            let Some(call) = parse_line::<C>(line, workers) else {
+                return Ok(Lines::BadLine(number));
+            };
+            calls.push(call)?;
+        }
+        number += 1;
+        rest = after;
+    }
+    Ok(Lines::Calls(calls))
+}
+
+// What the lines behind the header are.
+fn parse_rest(alloc: Global, header: Header, rest: &[u8]) -> Result<Script, AllocError>
+    requires { IsCrew header.workers × IsDivision header.stripes }
+    ensures value { IfOk result (λ script. meaning_of script ≡ meaning_of_kind header.kind header.workers header.stripes (lines_of rest.now)) }
+    ensures crew { IfOk result HasCrew }
+{
+    let workers = header.workers;
+    let stripes = header.stripes;
+    match header.kind {
+        Kind::Map => match parse_calls(alloc, workers, rest)? {
+            Lines::Calls(calls) => Ok(Script::Map(workers, stripes, calls)),
+            Lines::BadLine(number) => Ok(Script::BadLine(number)),
+        },
+        Kind::Set => match parse_calls(alloc, workers, rest)? {
+            Lines::Calls(calls) => Ok(Script::Set(workers, stripes, calls)),
+            Lines::BadLine(number) => Ok(Script::BadLine(number)),
+        },
+        Kind::Index => match parse_calls(alloc, workers, rest)? {
+            Lines::Calls(calls) => Ok(Script::Index(workers, stripes, calls)),
+            Lines::BadLine(number) => Ok(Script::BadLine(number)),
+        },
+        Kind::Cache => match parse_calls(alloc, workers, rest)? {
+            Lines::Calls(calls) => Ok(Script::Cache(workers, stripes, calls)),
+            Lines::BadLine(number) => Ok(Script::BadLine(number)),
+        },
+    }
+}
+
+/// Reads a script: a header, and then a call on each line that isn't empty.
+///
+/// Answers the calls of all lines in their order, or the number of the first bad line; an error is want of memory.
+pub fn parse_script(alloc: Global, text: &[u8]) -> Result<Script, AllocError>
+    ensures value { IfOk result (λ script. meaning_of script ≡ script_of text.now) }
+    ensures crew { IfOk result HasCrew }
+{
+    if text.is_empty() {
+        return Ok(Script::BadLine(1));
+    }
+    let (header, rest) = first_line(text);
+    match parse_header(header) {
+        None => Ok(Script::BadLine(1)),
+        Some(header) => parse_rest(alloc, header, rest),
+    }
+}
