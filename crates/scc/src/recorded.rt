@@ -1,0 +1,10 @@
+//! Calls as values and their runs; containers that threads share and that record their calls, the passes of those who call them, and what a finished run was.
+
+pub use scc_history::history::{CallError, Log, Receipt, Stripe};
+pub use scc_recorded::recorded::{
+    CacheCall, Calls, IndexCall, MapCall, Refused, Reply, Request, SetCall, Setting, Step,
+    WholeCalls, every_merge_is_a_run, route, run,
+};
+pub use scc_recorder::recorder::{
+    Closed, FinishError, Finished, Guarded, Pass, Recorded, Setup, Site, Unfinished,
+};
