@@ -2,3 +2,4 @@ pub mod Answering
 pub mod Listing
 pub mod Telling
 pub mod Assembling
+pub mod Keys

@@ -1,5 +1,6 @@
 -- What scripts of each kind do: a key is its own hash.
-use Rattle.std.specs.Prelude.{◌≡◌, ℕ, ◌%◌, ◌^◌, ◌==◌, List, [], length, max, replicate, nat_eq}
+use Rattle.std.specs.Prelude.{Option, Some, ◌≡◌, ℕ, ◌%◌, ◌^◌, ◌==◌, List, [], length, max, replicate, nat_eq}
+use Rattle.std.specs.Hash.{le_bytes}
 use Rattle.std.specs.List.Sorted.{IsPermutation}
 use Rattle.std.specs.Ordering.{nat_cmp}
 use Rattle.scc_table.specs.Contents.{Contents, entries, lists_of}
@@ -26,6 +27,7 @@ use Rattle.scc_recorded.specs.declared.recorded.replies.Reply.TheVariants.{Count
 use Rattle.scc_recorder.specs.Setups.{request_of}
 use Rattle.scc_print.specs.Finished.{pair_cmp}
 use Rattle.scc_print.specs.Output.{reply_line, content_line, key_reply_line, key_line}
+use Rattle.scc_script.specs.Hashes.{same_write}
 use Rattle.scc_script.specs.declared.line.WorkerCall.{WorkerCall}
 use Rattle.scc_script.specs.declared.same.Same.{Same}
 use Rattle.scc_play.specs.Played.{IsPlayed, Machine}
@@ -118,6 +120,27 @@ module _ (hash : ℕ → ℕ) where
     reply = reply_line;
     content = content_line;
   }
+
+-- the hash of a key as a script's hasher finishes with it
+abbrev pub finished_hash : ℕ → ℕ
+finished_hash k = (same_write (record { last = 0 }) (le_bytes 8 k)).last
+
+-- what was played for the request that was chosen
+module _ {C S W A R X : Type 0} (machine : (ℕ → ℕ) → Machine C Same S W A R ℕ X) where
+  abbrev pub PlayedFor : Option (Request Same) → ℕ → ℕ → List (WorkerCall A) → List ℕ → Type 0
+  PlayedFor chosen workers stripes calls text = ∥ ((r : Request Same) × (chosen ≡ Some r) × IsPlayed (machine finished_hash) (route_by finished_hash) r workers stripes calls text) ∥₁
+
+abbrev pub MapPlayedFor : Option (Request Same) → ℕ → ℕ → List (WorkerCall (MapCall ℕ ℕ)) → List ℕ → Type 0
+MapPlayedFor chosen workers stripes calls text = PlayedFor map_machine chosen workers stripes calls text
+
+abbrev pub SetPlayedFor : Option (Request Same) → ℕ → ℕ → List (WorkerCall (SetCall ℕ)) → List ℕ → Type 0
+SetPlayedFor chosen workers stripes calls text = PlayedFor set_machine chosen workers stripes calls text
+
+abbrev pub IndexPlayedFor : Option (Request Same) → ℕ → ℕ → List (WorkerCall (IndexCall ℕ ℕ)) → List ℕ → Type 0
+IndexPlayedFor chosen workers stripes calls text = PlayedFor index_machine chosen workers stripes calls text
+
+abbrev pub CachePlayedFor : Option (Request Same) → ℕ → ℕ → List (WorkerCall (CacheCall ℕ ℕ)) → List ℕ → Type 0
+CachePlayedFor chosen workers stripes calls text = PlayedFor cache_machine chosen workers stripes calls text
 
 -- what so many workers did on a map in so many stripes, and its text; and so on
 abbrev pub MapPlayed : ℕ → ℕ → List (WorkerCall (MapCall ℕ ℕ)) → List ℕ → Type 0

@@ -1,17 +1,15 @@
 //! One worker of a script.
 
 use scc_print::printed::Printed;
-use scc_recorded::recorded::Calls;
 use scc_recorder::recorder::{Pass, Recorded, Site};
-use scc_stripes::stripes::{Open, Work, run};
+use scc_stripes::stripes::Work;
 use std::alloc::{AllocError, Global};
 use std::sync::Wait;
 use std::sync::ledger::Ledger;
-use std::thread::Threads;
 
 /// A worker with a pass of its own, who makes its calls of a script one after another.
 #[derive(Drop)]
-struct Worker<'a, P: Printed, L: Ledger, M: Site<P::Hasher>, R: Wait> {
+pub(crate) struct Worker<'a, P: Printed, L: Ledger, M: Site<P::Hasher>, R: Wait> {
     rt: &'a R,
     recorded: &'a Recorded<P, L, M>,
     calls: &'a [P::Call],
@@ -49,23 +47,14 @@ impl<P: Printed, L: Ledger, M: Site<P::Hasher>, R: Wait> Work for Worker<'_, P, 
     }
 }
 
-/// Has each worker make its calls, on a thread of its own, and hands the passes back. Refused where a thread wasn't started, or a call was refused.
-pub(crate) fn work_all<P, L, M, R>(
-    rt: &R,
+/// A worker for each pass, with the calls of its number.
+pub(crate) fn workers_of<'a, P: Printed, L: Ledger, M: Site<P::Hasher>, R: Wait>(
+    rt: &'a R,
     alloc: Global,
-    recorded: &Recorded<P, L, M>,
+    recorded: &'a Recorded<P, L, M>,
     passes: Vec<Pass<P, L>>,
-    lists: &[Vec<P::Call>],
-) -> Result<Vec<Pass<P, L>>, AllocError>
-where
-    P: Printed + Drop + Send,
-    P::Call: Send + Sync,
-    P::Reply: Send,
-    P::Hasher: Drop + Send + Sync,
-    L: Ledger + Send + Sync,
-    M: Site<P::Hasher> + Send + Sync,
-    R: Threads + Wait + Sync,
-{
+    lists: &'a [Vec<P::Call>],
+) -> Result<Vec<Worker<'a, P, L, M, R>>, AllocError> {
     let mut workers = Vec::with_capacity(alloc, passes.len())?;
     for (pass, calls) in passes.into_iter().zip(lists) {
         workers.push(Worker {
@@ -75,10 +64,15 @@ where
             pass,
         })?;
     }
-    if run(rt, alloc, workers.as_mut_slice(), &Open).is_err() {
-        return Err(AllocError);
-    }
-    let mut handed = Vec::with_capacity(alloc, workers.len())?;
+    Ok(workers)
+}
+
+/// The passes of the workers.
+pub(crate) fn passes_of<P: Printed, L: Ledger, M: Site<P::Hasher>, R: Wait>(
+    alloc: Global,
+    workers: Vec<Worker<'_, P, L, M, R>>,
+) -> Result<Vec<Pass<P, L>>, AllocError> {
+    let mut passes = Vec::with_capacity(alloc, workers.len())?;
     for worker in workers {
         let Worker {
             rt: _,
@@ -86,7 +80,7 @@ where
             calls: _,
             pass,
         } = worker;
-        handed.push(pass)?;
+        passes.push(pass)?;
     }
-    Ok(handed)
+    Ok(passes)
 }

@@ -1,29 +1,83 @@
-//! Plays a script of each kind on several stripes.
-ghost use Rattle.std.specs.Prelude.{◌≡◌, IfOk};
-ghost use Rattle.std.specs.Arc.{arc_value};
+//! Plays a script of each kind on several stripes: a thread may be handed only what is known of in full, so the threads of each kind are started here.
+ghost use Rattle.std.specs.Prelude.{◌≡◌, IfOk, Some};
+ghost use Rattle.scc_recorder.specs.Setups.{request_of};
 ghost use Rattle.scc_script.specs.Grammar.{IsCrew, IsDivision};
 ghost use Rattle.scc_play.specs.Ended.{IfPlayed};
-ghost use Rattle.scc_play.specs.Kinds.{MapPlayed, SetPlayed, IndexPlayed, CachePlayed};
+ghost use Rattle.scc_play.specs.Kinds.{MapPlayed, SetPlayed, IndexPlayed, CachePlayed, MapPlayedFor, SetPlayedFor, IndexPlayedFor, CachePlayedFor};
 
+use crate::crew::{passes_of, workers_of};
 use crate::ends::End;
-use crate::stripes::play_stripes;
+use crate::stripes::{divided, finish_run};
 use scc_cache::hash_cache::Owned as OwnedCache;
 use scc_index::hash_index::Owned as OwnedIndex;
 use scc_map::hash_map::Owned as OwnedMap;
 use scc_recorded::recorded::{CacheCall, IndexCall, MapCall, SetCall};
+use scc_recorder::recorder::{Recorded, Setup, Site};
 use scc_script::line::WorkerCall;
 use scc_script::same::Same;
 use scc_set::hash_set::Owned as OwnedSet;
+use scc_stripes::stripes::{Open, run};
 use scc_table::Shared;
 use std::alloc::{AllocError, Global};
 use std::marker::Brand;
-use std::sync::ledger::Blank;
+use std::sync::ledger::{Blank, Ledger};
 use std::sync::{Arc, Wait};
 use std::thread::Threads;
 
 // One owner of a script's hasher.
 fn shared(alloc: Global) -> Result<Shared<Same>, AllocError> {
     Ok(Shared::new(Arc::new(alloc, Same)?))
+}
+
+// What a script's container is made with.
+fn setup_of(hasher: Shared<Same>) -> Setup<Shared<Same>>
+    ensures { (result.capacity ≡ 0) × (result.maximum ≡ 256) × (result.hasher ≡ hasher) }
+{
+    Setup {
+        capacity: 0,
+        maximum: 256,
+        hasher,
+    }
+}
+
+// Plays calls of a map under two ledgers.
+fn play_map_in<L, M, R>(
+    rt: &R,
+    alloc: Global,
+    hasher: Shared<Same>,
+    receipts: Blank,
+    records: Blank,
+    workers: usize,
+    stripes: usize,
+    calls: &[WorkerCall<MapCall<u64, u64>>],
+) -> Result<End, AllocError>
+where
+    L: Ledger + Send + Sync,
+    M: Site<Shared<Same>> + Send + Sync,
+    R: Threads + Wait + Sync,
+    requires receipts { (receipts.name ≡ L.name) × (receipts.parts ≡ L.parts) × (receipts.parts ≡ workers) }
+    requires records { (records.name ≡ M.name) × (records.parts ≡ M.parts) × (records.parts ≡ stripes) }
+    requires site { (M.chosen ≡ Some (request_of 0 256 hasher stripes)) × (M.all ≡ stripes) }
+    requires crew { IsCrew workers × IsDivision stripes }
+    ensures { IfOk result (λ e. IfPlayed e (MapPlayedFor M.chosen workers stripes calls.now)) }
+{
+    let lists = divided(alloc, workers, calls)?;
+    let Ok((recorded, handed)) = Recorded::<OwnedMap<u64, u64, Shared<Same>>, L, M>::open(
+        alloc,
+        setup_of(hasher),
+        stripes,
+        workers,
+        receipts,
+        records,
+    ) else {
+        return Err(AllocError);
+    };
+    let mut crew = workers_of(rt, alloc, &recorded, handed, lists.as_slice())?;
+    if run(rt, alloc, crew.as_mut_slice(), &Open).is_err() {
+        return Err(AllocError);
+    }
+    let passes = passes_of(alloc, crew)?;
+    finish_run(alloc, workers, stripes, calls, recorded.close(), passes)
 }
 
 /// Plays calls of a map.
@@ -37,7 +91,7 @@ pub(crate) fn play_map<R: Threads + Wait + Sync>(
     requires { IsCrew workers × IsDivision stripes }
     ensures { IfOk result (λ e. IfPlayed e (MapPlayed workers stripes calls.now)) }
 {
-    play_stripes::<OwnedMap<u64, u64, Shared<Same>>, Brand, Brand, R>(
+    play_map_in::<Brand, Brand, R>(
         rt,
         alloc,
         shared(alloc)?,
@@ -47,6 +101,46 @@ pub(crate) fn play_map<R: Threads + Wait + Sync>(
         stripes,
         calls,
     )
+}
+
+// Plays calls of a set under two ledgers.
+fn play_set_in<L, M, R>(
+    rt: &R,
+    alloc: Global,
+    hasher: Shared<Same>,
+    receipts: Blank,
+    records: Blank,
+    workers: usize,
+    stripes: usize,
+    calls: &[WorkerCall<SetCall<u64>>],
+) -> Result<End, AllocError>
+where
+    L: Ledger + Send + Sync,
+    M: Site<Shared<Same>> + Send + Sync,
+    R: Threads + Wait + Sync,
+    requires receipts { (receipts.name ≡ L.name) × (receipts.parts ≡ L.parts) × (receipts.parts ≡ workers) }
+    requires records { (records.name ≡ M.name) × (records.parts ≡ M.parts) × (records.parts ≡ stripes) }
+    requires site { (M.chosen ≡ Some (request_of 0 256 hasher stripes)) × (M.all ≡ stripes) }
+    requires crew { IsCrew workers × IsDivision stripes }
+    ensures { IfOk result (λ e. IfPlayed e (SetPlayedFor M.chosen workers stripes calls.now)) }
+{
+    let lists = divided(alloc, workers, calls)?;
+    let Ok((recorded, handed)) = Recorded::<OwnedSet<u64, Shared<Same>>, L, M>::open(
+        alloc,
+        setup_of(hasher),
+        stripes,
+        workers,
+        receipts,
+        records,
+    ) else {
+        return Err(AllocError);
+    };
+    let mut crew = workers_of(rt, alloc, &recorded, handed, lists.as_slice())?;
+    if run(rt, alloc, crew.as_mut_slice(), &Open).is_err() {
+        return Err(AllocError);
+    }
+    let passes = passes_of(alloc, crew)?;
+    finish_run(alloc, workers, stripes, calls, recorded.close(), passes)
 }
 
 /// Plays calls of a set.
@@ -60,7 +154,7 @@ pub(crate) fn play_set<R: Threads + Wait + Sync>(
     requires { IsCrew workers × IsDivision stripes }
     ensures { IfOk result (λ e. IfPlayed e (SetPlayed workers stripes calls.now)) }
 {
-    play_stripes::<OwnedSet<u64, Shared<Same>>, Brand, Brand, R>(
+    play_set_in::<Brand, Brand, R>(
         rt,
         alloc,
         shared(alloc)?,
@@ -70,6 +164,46 @@ pub(crate) fn play_set<R: Threads + Wait + Sync>(
         stripes,
         calls,
     )
+}
+
+// Plays calls of an index under two ledgers.
+fn play_index_in<L, M, R>(
+    rt: &R,
+    alloc: Global,
+    hasher: Shared<Same>,
+    receipts: Blank,
+    records: Blank,
+    workers: usize,
+    stripes: usize,
+    calls: &[WorkerCall<IndexCall<u64, u64>>],
+) -> Result<End, AllocError>
+where
+    L: Ledger + Send + Sync,
+    M: Site<Shared<Same>> + Send + Sync,
+    R: Threads + Wait + Sync,
+    requires receipts { (receipts.name ≡ L.name) × (receipts.parts ≡ L.parts) × (receipts.parts ≡ workers) }
+    requires records { (records.name ≡ M.name) × (records.parts ≡ M.parts) × (records.parts ≡ stripes) }
+    requires site { (M.chosen ≡ Some (request_of 0 256 hasher stripes)) × (M.all ≡ stripes) }
+    requires crew { IsCrew workers × IsDivision stripes }
+    ensures { IfOk result (λ e. IfPlayed e (IndexPlayedFor M.chosen workers stripes calls.now)) }
+{
+    let lists = divided(alloc, workers, calls)?;
+    let Ok((recorded, handed)) = Recorded::<OwnedIndex<u64, u64, Shared<Same>>, L, M>::open(
+        alloc,
+        setup_of(hasher),
+        stripes,
+        workers,
+        receipts,
+        records,
+    ) else {
+        return Err(AllocError);
+    };
+    let mut crew = workers_of(rt, alloc, &recorded, handed, lists.as_slice())?;
+    if run(rt, alloc, crew.as_mut_slice(), &Open).is_err() {
+        return Err(AllocError);
+    }
+    let passes = passes_of(alloc, crew)?;
+    finish_run(alloc, workers, stripes, calls, recorded.close(), passes)
 }
 
 /// Plays calls of an index.
@@ -83,7 +217,7 @@ pub(crate) fn play_index<R: Threads + Wait + Sync>(
     requires { IsCrew workers × IsDivision stripes }
     ensures { IfOk result (λ e. IfPlayed e (IndexPlayed workers stripes calls.now)) }
 {
-    play_stripes::<OwnedIndex<u64, u64, Shared<Same>>, Brand, Brand, R>(
+    play_index_in::<Brand, Brand, R>(
         rt,
         alloc,
         shared(alloc)?,
@@ -93,6 +227,46 @@ pub(crate) fn play_index<R: Threads + Wait + Sync>(
         stripes,
         calls,
     )
+}
+
+// Plays calls of a cache under two ledgers.
+fn play_cache_in<L, M, R>(
+    rt: &R,
+    alloc: Global,
+    hasher: Shared<Same>,
+    receipts: Blank,
+    records: Blank,
+    workers: usize,
+    stripes: usize,
+    calls: &[WorkerCall<CacheCall<u64, u64>>],
+) -> Result<End, AllocError>
+where
+    L: Ledger + Send + Sync,
+    M: Site<Shared<Same>> + Send + Sync,
+    R: Threads + Wait + Sync,
+    requires receipts { (receipts.name ≡ L.name) × (receipts.parts ≡ L.parts) × (receipts.parts ≡ workers) }
+    requires records { (records.name ≡ M.name) × (records.parts ≡ M.parts) × (records.parts ≡ stripes) }
+    requires site { (M.chosen ≡ Some (request_of 0 256 hasher stripes)) × (M.all ≡ stripes) }
+    requires crew { IsCrew workers × IsDivision stripes }
+    ensures { IfOk result (λ e. IfPlayed e (CachePlayedFor M.chosen workers stripes calls.now)) }
+{
+    let lists = divided(alloc, workers, calls)?;
+    let Ok((recorded, handed)) = Recorded::<OwnedCache<u64, u64, Shared<Same>>, L, M>::open(
+        alloc,
+        setup_of(hasher),
+        stripes,
+        workers,
+        receipts,
+        records,
+    ) else {
+        return Err(AllocError);
+    };
+    let mut crew = workers_of(rt, alloc, &recorded, handed, lists.as_slice())?;
+    if run(rt, alloc, crew.as_mut_slice(), &Open).is_err() {
+        return Err(AllocError);
+    }
+    let passes = passes_of(alloc, crew)?;
+    finish_run(alloc, workers, stripes, calls, recorded.close(), passes)
 }
 
 /// Plays calls of a cache.
@@ -106,7 +280,7 @@ pub(crate) fn play_cache<R: Threads + Wait + Sync>(
     requires { IsCrew workers × IsDivision stripes }
     ensures { IfOk result (λ e. IfPlayed e (CachePlayed workers stripes calls.now)) }
 {
-    play_stripes::<OwnedCache<u64, u64, Shared<Same>>, Brand, Brand, R>(
+    play_cache_in::<Brand, Brand, R>(
         rt,
         alloc,
         shared(alloc)?,

@@ -1,26 +1,20 @@
-//! Plays the calls of several workers on a new container in stripes.
+//! What workers were told, and the end of their run.
 ghost use Rattle.std.specs.Prelude.{◌≡◌, ℕ, ◌<◌, List, length, map, IfOk, IfSome, Some, vec_len};
 ghost use Rattle.std.specs.String.{string_bytes};
 ghost use Rattle.scc_recorded.specs.Parts.{part_of};
 ghost use Rattle.scc_recorded.specs.declared.recorded.fixed.Request.{Request};
-ghost use Rattle.scc_recorder.specs.Setups.{request_of};
-ghost use Rattle.scc_script.specs.Grammar.{IsCrew, IsDivision};
 ghost use Rattle.scc_play.specs.Ended.{IfPlayed};
 ghost use Rattle.scc_play.specs.Played.{IsPlayed};
 ghost use Rattle.scc_play.specs.Telling.{AreTold};
 
-use crate::crew::work_all;
 use crate::ends::{Cause, End};
 use crate::receipts::{calls_of, replies_of};
 use crate::whole::whole_text;
 use scc_print::printed::Printed;
-use scc_recorder::recorder::{Closed, FinishError, Pass, Recorded, Setup, Site};
+use scc_recorder::recorder::{Closed, FinishError, Pass, Site};
 use scc_script::line::WorkerCall;
-use scc_table::Share;
 use std::alloc::{AllocError, Global};
-use std::sync::Wait;
-use std::sync::ledger::{Blank, Ledger};
-use std::thread::Threads;
+use std::sync::ledger::Ledger;
 
 // What each worker was told, where the passes are in order and their receipts are those of the script's calls.
 fn told_by_all<P: Printed, L: Ledger>(
@@ -47,8 +41,8 @@ fn told_by_all<P: Printed, L: Ledger>(
     Ok(Some(told))
 }
 
-// The calls of each worker.
-fn divided<A: Copy>(
+/// The calls of each worker.
+pub(crate) fn divided<A: Copy>(
     alloc: Global,
     workers: usize,
     calls: &[WorkerCall<A>],
@@ -60,8 +54,8 @@ fn divided<A: Copy>(
     Ok(lists)
 }
 
-// The output of a run that is over, or why it isn't finished.
-fn finish_run<P: Printed + Drop, L: Ledger, M: Site<P::Hasher>>(
+/// The output of a run that is over, or why it isn't finished.
+pub(crate) fn finish_run<P: Printed + Drop, L: Ledger, M: Site<P::Hasher>>(
     alloc: Global,
     workers: usize,
     stripes: usize,
@@ -97,46 +91,4 @@ where
         Some(text) => Ok(End::Played(text)),
         None => Ok(End::Unfinished(Cause::Disagrees)),
     }
-}
-
-/// Plays the calls of so many workers, each on a thread of its own, on a new container without arrays in so many stripes.
-pub(crate) fn play_stripes<P, L, M, R>(
-    rt: &R,
-    alloc: Global,
-    hasher: P::Hasher,
-    receipts: Blank,
-    records: Blank,
-    workers: usize,
-    stripes: usize,
-    calls: &[WorkerCall<P::Call>],
-) -> Result<End, AllocError>
-where
-    P: Printed + Drop + Send,
-    P::Call: Send + Sync,
-    P::Reply: Send,
-    P::Hasher: Share + Drop + Send + Sync,
-    L: Ledger + Send + Sync,
-    M: Site<P::Hasher> + Send + Sync,
-    R: Threads + Wait + Sync,
-    requires receipts { (receipts.name ≡ L.name) × (receipts.parts ≡ L.parts) × (receipts.parts ≡ workers) }
-    requires records { (records.name ≡ M.name) × (records.parts ≡ M.parts) × (records.parts ≡ stripes) }
-    requires site { (M.chosen ≡ Some (request_of 0 256 hasher stripes)) × (M.all ≡ stripes) }
-    requires crew { IsCrew workers × IsDivision stripes }
-    ensures { IfOk result (λ e. IfPlayed e (λ text. ∥ ((r : Request P.Hasher) × (M.chosen ≡ Some r)
-        × IsPlayed (record { limits = P.limits; empty = P.empty; key_of = P.key_of; moves = P.moves; resizes = P.resizes; whole = P.whole; whole_moves = P.whole_moves; whole_resizes = P.whole_resizes; told = P.told; count = P.count_reply; state = P.state; shown = P.shown; order = P.Item.cmp; reply = P.reply_line; content = P.item_line })
-        (part_of P.Hasher.BuildHasher P.Hasher.Hasher.Hasher P.Key.Hash.hash_input r.hasher) r workers stripes calls.now text) ∥₁)) }
-{
-    let lists = divided(alloc, workers, calls)?;
-    let setup = Setup {
-        capacity: 0,
-        maximum: 256,
-        hasher,
-    };
-    let Ok((recorded, handed)) =
-        Recorded::<P, L, M>::open(alloc, setup, stripes, workers, receipts, records)
-    else {
-        return Err(AllocError);
-    };
-    let passes = work_all(rt, alloc, &recorded, handed, lists.as_slice())?;
-    finish_run(alloc, workers, stripes, calls, recorded.close(), passes)
 }

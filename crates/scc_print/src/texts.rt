@@ -35,10 +35,7 @@ fn add_pair(
 }
 
 // Adds the line of a reply.
-pub(crate) fn add_reply_line(
-    output: &mut String,
-    reply: Reply<u64, u64>,
-) -> Result<(), AllocError>
+pub(crate) fn add_reply_line(output: &mut String, reply: Reply<u64, u64>) -> Result<(), AllocError>
     ensures { OnOk result (string_bytes output.new ≡ string_bytes output.old ++ reply_line reply) }
 {
     match reply {
@@ -87,10 +84,7 @@ fn add_worker<P: Printed>(
 }
 
 // Adds the lines of all workers, from worker 0 on.
-fn add_workers<P: Printed>(
-    output: &mut String,
-    replies: &[Vec<P::Reply>],
-) -> Result<(), AllocError>
+fn add_workers<P: Printed>(output: &mut String, replies: &[Vec<P::Reply>]) -> Result<(), AllocError>
     ensures { OnOk result (string_bytes output.new ≡ string_bytes output.old ++ workers_text P.reply_line 0 (map (λ v. v.items) replies.now)) }
 {
     for worker in 0..replies.len() {

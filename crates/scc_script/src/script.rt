@@ -32,11 +32,7 @@ enum Lines<C> {
 }
 
 // The calls of the lines of `text`, whose first has the number 2, by so many workers.
-fn parse_calls<C: Named>(
-    alloc: Global,
-    workers: usize,
-    text: &[u8],
-) -> Result<Lines<C>, AllocError>
+fn parse_calls<C: Named>(alloc: Global, workers: usize, text: &[u8]) -> Result<Lines<C>, AllocError>
     ensures { IfOk result (λ lines. calls_or_line lines ≡ calls_of_lines C.names workers 2 (lines_of text.now)) }
 {
     let mut calls = Vec::new(alloc);

@@ -3,9 +3,9 @@ ghost use Rattle.std.specs.Prelude.{◌≡◌, Some};
 ghost use Rattle.scc_recorder.specs.Setups.{request_of};
 
 use crate::cases::shared;
-use scc_script::same::Same;
 use scc_recorded::recorded::{CacheCall, IndexCall, MapCall, SetCall, WholeCalls, run};
 use scc_recorder::recorder::{Recorded, Setup, Site};
+use scc_script::same::Same;
 use scc_table::{Share, Shared};
 use std::alloc::{AllocError, Global};
 use std::marker::Brand;

@@ -3,9 +3,9 @@ ghost use Rattle.std.specs.Prelude.{◌≡◌, Some};
 ghost use Rattle.scc_recorder.specs.Setups.{request_of};
 
 use scc_map::hash_map::Owned;
-use scc_script::same::Same;
 use scc_recorded::recorded::{MapCall, Reply, Step};
 use scc_recorder::recorder::{FinishError, Finished, Pass, Recorded, Setup, Site};
+use scc_script::same::Same;
 use scc_table::Shared;
 use std::alloc::{AllocError, Global};
 use std::marker::Brand;

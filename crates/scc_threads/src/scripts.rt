@@ -66,8 +66,7 @@ fn run_each_kind_on_stripes(rt: HostRuntime) {
         ),
         (
             b"map 16 1\n15 insert 7 8\n".as_slice(),
-            b"worker 0\nworker 1\nworker 2\nworker 3\nworker 4\nworker 5\nworker 6\nworker 7\nworker 8\nworker 9\nworker 10\nworker 11\nworker 12\nworker 13\nworker 14\nworker 15\nok\ncontents 1\n7 8\nrecords 1\n"
-                .as_slice(),
+            b"worker 0\nworker 1\nworker 2\nworker 3\nworker 4\nworker 5\nworker 6\nworker 7\nworker 8\nworker 9\nworker 10\nworker 11\nworker 12\nworker 13\nworker 14\nworker 15\nok\ncontents 1\n7 8\nrecords 1\n".as_slice(),
         ),
     ] {
         expect_run(&rt, script, text, FINISHED);
@@ -81,7 +80,10 @@ fn run_bad_workers_and_stripes(rt: HostRuntime) {
         (b"cache 1 8\n".as_slice(), b"line 1: bad call\n".as_slice()),
         (b"map 17 1\n".as_slice(), b"line 1: bad call\n".as_slice()),
         (b"map 0 1\n".as_slice(), b"line 1: bad call\n".as_slice()),
-        (b"map 2 2\n1 len\n2 len\n".as_slice(), b"line 3: bad call\n".as_slice()),
+        (
+            b"map 2 2\n1 len\n2 len\n".as_slice(),
+            b"line 3: bad call\n".as_slice(),
+        ),
     ] {
         expect_run(&rt, script, text, BAD_CALL);
     }

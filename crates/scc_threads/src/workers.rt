@@ -3,9 +3,9 @@ ghost use Rattle.std.specs.Prelude.{◌≡◌, Some};
 ghost use Rattle.scc_recorder.specs.Setups.{request_of};
 
 use crate::cases::{Map, shared};
-use scc_script::same::Same;
 use scc_recorded::recorded::{MapCall, Reply, Step};
 use scc_recorder::recorder::{Finished, Pass, Recorded, Setup, Site};
+use scc_script::same::Same;
 use scc_stripes::stripes::{Gate, Work, run};
 use scc_table::Shared;
 use std::alloc::{AllocError, Global};

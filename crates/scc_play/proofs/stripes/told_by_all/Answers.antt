@@ -6,8 +6,8 @@ use Rattle.scc_play.proofs.stripes.told_by_all.Goals as goal
 pub loop-k-preserved : goal.loop-k-preserved
 loop-k-preserved g c = λ more others.
     let within : c.loop-k.k < length c.args.passes.now = omega arith in
-    let at : get_or c.args.passes.now c.loop-k.k c.pass.now ≡ c.pass.now = search rules in
-    let next = one-told g.P.Calls.key_of g.P.WholeCalls.told g.P.Printed.count_reply c.args.stripes c.args.calls.now (λ p. p.log.number) (λ p. p.log.receipts.items) (λ v. v.items) c.args.passes.now c.loop-k.k c.pass.now c.in-Some.replies more within at (search rules) (search rules) others in
+    let at : get_or c.args.passes.now c.loop-k.k c.index-passes-k.result ≡ c.index-passes-k.result = search rules in
+    let next = one-told g.P.Calls.key_of g.P.WholeCalls.told g.P.Printed.count_reply c.args.stripes c.args.calls.now (λ p. p.log.number) (λ p. p.log.receipts.items) (λ v. v.items) c.args.passes.now c.loop-k.k c.index-passes-k.result c.in-Some.replies more within at (search rules) (search rules) others in
     let all = c.loop-k.invariant (c.in-Some.replies ∷ more) next in
     let added : c.push.new.self.items ≡ c.loop-k.told.items ++ c.in-Some.replies ∷ [] = search rules in
     rw added (rw (append_assoc c.loop-k.told.items (c.in-Some.replies ∷ []) more) all)

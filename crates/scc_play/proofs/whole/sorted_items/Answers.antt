@@ -1,9 +1,14 @@
 use Rattle.std.proofs.Common.{rules, ◌≡◌, [], ◌∷◌}
 use Rattle.std.specs.List.{flat_map}
 use Rattle.std.proofs.lemmas.List.{nil_from_length}
-use Rattle.std.proofs.lemmas.List.Sorted.{IsPermutation-trans}
+use Rattle.std.proofs.lemmas.List.Sorted.{IsPermutation-refl, IsPermutation-trans}
 use Rattle.scc_play.proofs.Listing.{taken-more, taken-all}
 use Rattle.scc_play.proofs.whole.sorted_items.Goals as goal
+
+pub loop-parts-init : goal.loop-parts-init
+loop-parts-init g c =
+    let none : c.new-items.result.items ≡ [] = search rules in
+    rw none (IsPermutation-refl (flat_map g.P.Printed.shown c.args.parts.items))
 
 pub loop-parts-preserved : goal.loop-parts-preserved
 loop-parts-preserved g c =
