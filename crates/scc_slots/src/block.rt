@@ -42,7 +42,7 @@ impl<E> SlotBlock<E> {
         if !may_hold::<E>(count) {
             return Err(AllocError);
         }
-        let (start, row, right) = obtain(&alloc, count)?;
+        let (start, (row, right)) = obtain(&alloc, count)?;
         Ok(SlotBlock {
             start,
             count,

@@ -72,9 +72,9 @@ unsafe impl<E, A: Allocator> Sync for Right<E, A> {}
 pub(crate) fn obtain<E, A: Allocator>(
     alloc: &A,
     count: usize,
-) -> Result<(Start<E>, Row<E>, Right<E, A>), AllocError>
+) -> Result<(Start<E>, (Row<E>, Right<E, A>)), AllocError>
     requires { FitsInBlock E.row count }
-    ensures { IfOk result (λ made. (made.1.start ≡ made.0.first) × (made.1.places ≡ replicate count None) × (made.2.start ≡ made.0.first) × (made.2.count ≡ count) × (made.2.alloc ≡ alloc.now)) }
+    ensures { IfOk result (λ made. (made.1.0.start ≡ made.0.first) × (made.1.0.places ≡ replicate count None) × (made.1.1.start ≡ made.0.first) × (made.1.1.count ≡ count) × (made.1.1.alloc ≡ alloc.now)) }
 {
     match alloc.allocate(count * size_of::<E>(), align_of::<E>()) {
         Err(refused) => Err(refused),
@@ -82,7 +82,7 @@ pub(crate) fn obtain<E, A: Allocator>(
             let start = Start {
                 first: block as *mut E,
             };
-            Ok((start, Row { of: PhantomData }, Right { of: PhantomData }))
+            Ok((start, (Row { of: PhantomData }, Right { of: PhantomData })))
         }
     }
 }
