@@ -6,7 +6,18 @@ use mir.Syntax.{ty_array}
 use base.Logic.{ent, sep, emp, via, fst∗, snd∗, id⊢}
 use base.Fml.{Fml, Lft, ftrue, fsep, froom}
 use types.Logic.{Logic, sem}
-use types.Kit.{‵, ◌⊛◌, ◌$◌, ◌∵◌, !, qed, by, move, keep, use1, use2, split, frame, fsplit, fjoin, done}
+use base.Fml.{fat}
+use base.Fraction.{full_share}
+use borrow.Table.OneValue.{part_out}
+use denote.Laws.{Is, shows}
+use denote.Memory.{part_at}
+use denote.Param.{layout, param}
+use denote.Param.Laws.{Laws, param_laws}
+use denote.RattleType.{RattleType}
+use denote.Steps.{peeks}
+use mir.Val.{Val}
+use Rattle.std_alloc.proofs.RcSteps.{Good}
+use types.Kit.{Item, Goal, Seq, some, pick, ‵, ◌⊛◌, ◌$◌, ◌∵◌, !, qed, by, move, keep, use1, use2, split, frame, fsplit, fjoin, done}
 use Rattle.std.specs.Mem.{type_size}
 use Rattle.core.proofs.mem.Param.{El, R, elτ}
 use Rattle.scc_slots.specs.Owned.{place_owns, places_own, place_shows, places_show}
@@ -93,3 +104,11 @@ module _ (E : El) {M : Type 1} {𝓤 : Ura M} (𝓛 : Logic 𝓤) (b : ℕ) wher
   places-room (suc n) o = qed 𝓛 (‵ (All o (replicate (suc n) None)) ∷ []) ∵ fsplit ! $
       use1 𝓛 (‵ (froom (elτ E) b o)) (𝓛.laws.raw-room (elτ E) b o) $ move ! (1 ∷ []) $
       use1 𝓛 (‵ (froom (ty_array (elτ E) n) b (o + size E))) (places-room n (o + size E)) $ move ! (1 ∷ 0 ∷ []) $ by ! (𝓛.laws.room_cons (elτ E) n b o)
+
+-- what lies in a place is a cell with one value, and what the value owns
+pub cell_out : {M : Type 1} {𝓤 : Ura M} {𝓛 : Logic 𝓤} {K : Type 0} {Γ : List (Item 𝓤)} {G : Goal 𝓤 𝓛.H} → K → {X : RattleType} (L : Laws X) (x : X.Denot) (b o : ℕ)
+    → ((v : Val) → Good (layout X) v → Seq K 𝓛 (‵ (fat full_share (layout X) b o v) ∷ ‵ (X.own_val x (v ∷ [])) ∷ Γ) G)
+    → Seq K 𝓛 (‵ (part_at (param 0 X) full_share x b o) ∷ Γ) G
+cell_out {𝓛 = 𝓛} t {X} L x b o k =
+    use1 𝓛 (some (λ (v : Val). ‵ (fat full_share (layout X) b o v) ⊛ ‵ (X.own_val x (v ∷ [])))) (part_out 𝓛 (param 0 X) refl full_share x b o) $ pick t (λ v. split t $ move t (1 ∷ []) $
+    peeks t (param 0 X) (Is (param 0 X)) (shows 𝓛 (param 0 X)) x (v ∷ []) (λ is. move t (1 ∷ 0 ∷ []) $ k v (((param_laws 0 X L).lawful 𝓛).typed x (v ∷ []) is).0))
