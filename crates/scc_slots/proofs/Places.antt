@@ -15,6 +15,9 @@ use denote.Param.{layout, param}
 use denote.Param.Laws.{Laws, param_laws}
 use denote.RattleType.{RattleType}
 use denote.Steps.{peeks}
+use denote.Struct.Owning.{shape}
+use denote.Struct.Struct.{Struct}
+use Rattle.scc_slots.specs.contracts.row.Row as Row
 use mir.Val.{Val}
 use Rattle.std_alloc.proofs.RcSteps.{Good}
 use types.Kit.{Item, Goal, Seq, some, pick, ‵, ◌⊛◌, ◌$◌, ◌∵◌, !, qed, by, move, keep, use1, use2, split, frame, fsplit, fjoin, done}
@@ -25,6 +28,10 @@ use Rattle.scc_slots.specs.Owned.{place_owns, places_own, place_shows, places_sh
 module _ (E : El) where
   abbrev pub Cell : Type 0
   Cell = Option E.row.Denot
+
+  -- the one field of a row, which has no bytes
+  abbrev pub Field : RattleType
+  Field = Struct (shape (Row.the_type (R E)))
 
   abbrev pub size : ℕ
   size = type_size (R E)
