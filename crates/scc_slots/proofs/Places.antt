@@ -14,16 +14,25 @@ use denote.Memory.{part_at}
 use denote.Param.{layout, param}
 use denote.Param.Laws.{Laws, param_laws}
 use denote.RattleType.{RattleType}
-use denote.Steps.{peeks}
+use denote.RawPtr.{Ptr, RawPtr, ptr_val}
+use denote.Steps.{owned, peeks}
 use denote.Struct.Owning.{shape}
-use denote.Struct.Struct.{Struct}
+use denote.Struct.Declared.{shape as flat_shape}
+use denote.Struct.Struct.{Struct, Struct-Makes}
+use Rattle.core.proofs.marker.PhantomData.TheLaws as phantom
+use Rattle.scc_slots.proofs.row.Start.TheLaws as start_laws
+use Rattle.scc_slots.specs.contracts.row.Start as Start
 use Rattle.scc_slots.specs.contracts.row.Row as Row
-use mir.Val.{Val}
-use Rattle.std_alloc.proofs.RcSteps.{Good}
-use types.Kit.{Item, Goal, Seq, some, pick, ‵, ◌⊛◌, ◌$◌, ◌∵◌, !, qed, by, move, keep, use1, use2, split, frame, fsplit, fjoin, done}
+use mir.Val.{Val, vstruct, vcons, vnil}
+use Rattle.std_alloc.proofs.RcSteps.{Good, word}
+use types.Kit.{Item, Goal, Seq, Step, some, pick, ‵, ◌⊛◌, ◌$◌, ◌∵◌, !, qed, by, move, keep, use1, use2, split, frame, fsplit, fjoin, done}
 use Rattle.std.specs.Mem.{type_size}
 use Rattle.core.proofs.mem.Param.{El, R, elτ}
 use Rattle.scc_slots.specs.Owned.{place_owns, places_own, place_shows, places_show}
+
+-- a struct of one field that has no bytes
+abbrev pub mark : Val
+mark = vstruct (vcons (vstruct vnil) vnil)
 
 module _ (E : El) where
   abbrev pub Cell : Type 0
@@ -119,3 +128,14 @@ pub cell_out : {M : Type 1} {𝓤 : Ura M} {𝓛 : Logic 𝓤} {K : Type 0} {Γ 
 cell_out {𝓛 = 𝓛} t {X} L x b o k =
     use1 𝓛 (some (λ (v : Val). ‵ (fat full_share (layout X) b o v) ⊛ ‵ (X.own_val x (v ∷ [])))) (part_out 𝓛 (param 0 X) refl full_share x b o) $ pick t (λ v. split t $ move t (1 ∷ []) $
     peeks t (param 0 X) (Is (param 0 X)) (shows 𝓛 (param 0 X)) x (v ∷ []) (λ is. move t (1 ∷ 0 ∷ []) $ k v (((param_laws 0 X L).lawful 𝓛).typed x (v ∷ []) is).0))
+
+-- the field of a row has no bytes, and is had for nothing
+pub field_made : {M : Type 1} {𝓤 : Ura M} {𝓛 : Logic 𝓤} {K : Type 0} {Γ : List (Item 𝓤)} {G : Goal 𝓤 𝓛.H} → K → (E : El) → Step K 𝓛 (‵ ((Field E).own_val (tt, tt) (mark ∷ [])) ∷ Γ) G Γ G
+field_made {𝓛 = 𝓛} t E =
+    owned t (Field E) (Is (Field E)) (Struct-Makes 𝓛 (shape (Row.the_type (R E))) (phantom.the_field_plain RawPtr, tt)) (tt, tt) (mark ∷ []) ((vstruct vnil ∷ [], tt), (refl, ((tt, (refl, tt)), tt)))
+
+-- a start owns nothing but its word
+pub start_made : {M : Type 1} {𝓤 : Ura M} {𝓛 : Logic 𝓤} {K : Type 0} {Γ : List (Item 𝓤)} {G : Goal 𝓤 𝓛.H} → K → (E : El) (p : Ptr) → Step K 𝓛 (‵ ((Struct (flat_shape (Start.the_type (R E)))).own_val (p, tt) (word p ∷ [])) ∷ Γ) G Γ G
+start_made {𝓛 = 𝓛} t E p =
+    let S = Struct (flat_shape (Start.the_type (R E))) in
+    owned t S (Is S) (Struct-Makes 𝓛 (flat_shape (Start.the_type (R E))) (start_laws.the_plain (R E))) (p, tt) (word p ∷ []) ((ptr_val p ∷ [], tt), (refl, (refl, tt)))

@@ -20,7 +20,7 @@ use denote.Triple.Walked.{Stays, walk_of, stay_dropped, Goes-dropped}
 use lib.Dec.{T as Holds}
 use mir.MapTy.{inst_fn}
 use mir.Syntax.{Fn, ty_array, ty_unit, w64}
-use mir.Val.{Val, vptr, vint, vunit, vstruct, vcons, vnil, has_ty, WT}
+use mir.Val.{Val, vptr, vint, vunit, has_ty, WT}
 use prog.Capped.{capped_fits}
 use prog.Memory.{align, capped}
 use prog.Wp.{WpFn}
@@ -35,7 +35,7 @@ use Rattle.std.proofs.raw_atomic.Walks.{proved_at, leaves}
 use Rattle.std_alloc.proofs.RawLayout.{as_raw}
 use Rattle.std_alloc.proofs.RcSteps.{word, word-Good}
 use Rattle.std_alloc.proofs.VecSteps.Shapes.{after}
-use Rattle.scc_slots.proofs.Places.{Cell, size, places-room}
+use Rattle.scc_slots.proofs.Places.{Cell, mark, size, places-room}
 use Rattle.scc_slots.proofs.row.give_back.Code as code
 use Rattle.scc_slots.proofs.row.give_back.Statement.{statement}
 use Rattle.scc_slots.proofs.row.Right.TheLaws as right_laws
@@ -47,10 +47,6 @@ use Rattle.scc_slots.specs.contracts.row.Row as Row
 use Rattle.scc_slots.specs.contracts.row.Start as Start
 use Rattle.scc_slots.specs.contracts.row.give_back as f
 use Rattle.scc_slots.specs.contracts.row.give_back.Key.{name as #give_back}
-
--- a struct of one field that has no bytes
-abbrev mark : Val
-mark = vstruct (vcons (vstruct vnil) vnil)
 
 pub give_back_spec : {M : Type 1} → statement M
 give_back_spec 𝓤 𝓛 𝓜 𝓡 wired X Y L LY g d dd met md =
