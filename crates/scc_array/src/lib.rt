@@ -1,0 +1,6 @@
+//! The array of buckets of the hash containers, in two columns: 32 tags a bucket, and 32 places for entries a bucket.
+#![tactic(auto)]
+
+pub mod columns;
+
+pub use columns::Columns;
