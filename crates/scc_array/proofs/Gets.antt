@@ -76,3 +76,13 @@ module _ {X : Type 0} where
 
     pub get-swapped_past : (j : ℕ) → last ≤ j → slice_get (swap_remove xs i d) j ≡ None
     get-swapped_past j l = get-past (swap_remove xs i d) j (let n = length-swapped in omega arith)
+
+  pub get-within : (xs : List X) (i : ℕ) (x : X) → slice_get xs i ≡ Some x → i < length xs
+  get-within [] i x e = absurd (let n : None ≡ Some x = e in cc)
+  get-within (y ∷ xs) zero x e = omega arith
+  get-within (y ∷ xs) (suc i) x e = let l = get-within xs i x e in omega arith
+
+  pub get-is : (xs : List X) (i : ℕ) (x d : X) → slice_get xs i ≡ Some x → x ≡ get_or xs i d
+  get-is [] i x d e = absurd (let n : None ≡ Some x = e in cc)
+  get-is (y ∷ xs) zero x d e = let s : y ≡ x = cc in sym s
+  get-is (y ∷ xs) (suc i) x d e = get-is xs i x d e

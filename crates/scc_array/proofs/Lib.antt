@@ -5,3 +5,5 @@ pub mod Pushing
 pub mod Empty
 pub mod Gathering
 pub mod Windows
+pub mod Swapping
+pub mod WritingOver

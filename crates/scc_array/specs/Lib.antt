@@ -1,1 +1,2 @@
+pub mod LendsColumns
 pub mod Windows

@@ -1,6 +1,6 @@
 -- What the columns hold: of each bucket the entries and their tags.
-use Rattle.std.specs.Prelude.{◌≡◌, ℕ, zero, suc, ◌+◌, ◌*◌, ◌^◌, ◌<◌, ◌≤◌, List, [], ◌∷◌, ◌++◌, length, map, slice_get, slice_index_or, Option, Some, None, refl}
-use Rattle.std.specs.List.{range_with_len, swap_remove}
+use Rattle.std.specs.Prelude.{◌≡◌, ℕ, zero, suc, ◌+◌, ◌*◌, ◌^◌, ◌<◌, ◌≤◌, List, [], ◌∷◌, ◌++◌, length, map, slice_get, slice_index, slice_index_or, Bool, true, Option, Some, None, refl}
+use Rattle.std.specs.List.{range_with_len, slice_set, swap_remove}
 use Rattle.std.specs.Coded.{Coded, code_by, coded×, coded_ℕ, coded_list}
 
 -- the entries of a bucket's places, and their tags
@@ -25,6 +25,14 @@ pushed w e t = record { slots = w.slots ++ e ∷ []; tags = w.tags ++ t ∷ [] }
 -- without the entry x at the place i, where the last one now stands
 abbrev pub popped_over : {E : Type 0} → Window E → ℕ → E → Window E
 popped_over w i x = record { slots = swap_remove w.slots i x; tags = swap_remove w.tags i 0 }
+
+-- with the entry x at the place i
+abbrev pub written_over : {E : Type 0} → Window E → ℕ → E → Window E
+written_over w i x = record { slots = slice_set w.slots i x; tags = w.tags }
+
+-- the entries that pass p have the tag t
+abbrev pub IsTagged : {E : Type 0} → (E → Bool) → ℕ → Window E → Type 0
+IsTagged {E} p t w = (j : ℕ) (e : E) → j < length w.slots → p (slice_index_or w.slots j e) ≡ true → slice_index w.tags j ≡ t
 
 -- the tag of a place in use
 abbrev pub tag_there : ℕ → Option ℕ
