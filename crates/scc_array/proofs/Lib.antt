@@ -2,6 +2,7 @@ pub mod Bucket
 pub mod Counting
 pub mod Gets
 pub mod Pushing
+pub mod Drained
 pub mod Empty
 pub mod Gathering
 pub mod Windows
