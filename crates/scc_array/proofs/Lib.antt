@@ -1,10 +1,11 @@
 pub mod Bucket
 pub mod Counting
-pub mod Gets
-pub mod Pushing
 pub mod Drained
 pub mod Empty
 pub mod Gathering
-pub mod Windows
+pub mod Gets
+pub mod Pushing
+pub mod Shelves
 pub mod Swapping
+pub mod Windows
 pub mod WritingOver

@@ -1,2 +1,3 @@
 pub mod LendsColumns
+pub mod Shelves
 pub mod Windows

@@ -1,0 +1,24 @@
+use Rattle.std.proofs.Common.{◌≡◌, ◌≢◌, ◌≤◌, ◌<◌, ◌+◌, ◌-◌, ◌*◌, ◌^◌, ◌++◌, arith, ℕ, List, [], ◌∷◌, length, set, get_or, Option, Some, None, Bool, true, false, refl, sym, ap, ◌∙◌, subst, rules, length-append}
+use Rattle.scc_array.proofs.Shelves.{window-within, shelf-is, slots-are, overflow-is, list-within, length-shelves, shelves-window, shelves-list, shelves-empty, no-list, some-list, empty-list, list-read}
+use Rattle.scc_array.specs.Shelves.{shelf_of, spilled, spare}
+use Rattle.scc_array.specs.Windows.{window_of, empty_window}
+use Rattle.scc_bucket.specs.Shelf.{Shelf, shelf_entries, empty_shelf}
+use Rattle.scc_array.proofs.array.Array.bucket_len.Goals as goal
+
+pub count-requires : goal.count-requires
+count-requires g c =
+    let ws = c.self.inside.columns in let os = c.self.inside.overflow.items in let bs = c.args.self.now in let b = c.args.bucket in
+    let view = c.self.view_is in let within = window-within ws os bs view b c.requires.bucket in
+    within
+
+pub overflow_add-result : goal.overflow_add-result
+overflow_add-result g c =
+    let ws = c.self.inside.columns in let os = c.self.inside.overflow.items in let bs = c.args.self.now in let b = c.args.bucket in
+    let view = c.self.view_is in let within = window-within ws os bs view b c.requires.bucket in
+    record { fits = let n = ap length (slots-are ws os bs view b c.requires.bucket) in omega (arith, c.requires.few, c.count.ensures.count, c.overflow_len.ensures, length-append (shelf_of bs b).slots (shelf_of bs b).overflow) }
+
+pub returns : goal.returns
+returns g c =
+    let ws = c.self.inside.columns in let os = c.self.inside.overflow.items in let bs = c.args.self.now in let b = c.args.bucket in
+    let view = c.self.view_is in let within = window-within ws os bs view b c.requires.bucket in
+    let n = ap length (slots-are ws os bs view b c.requires.bucket) in omega (arith, c.count.ensures.count, c.overflow_len.ensures, length-append (shelf_of bs b).slots (shelf_of bs b).overflow)

@@ -1,0 +1,25 @@
+use Rattle.std.proofs.Common.{◌≡◌, ◌≢◌, ◌≤◌, ◌<◌, ◌+◌, ◌-◌, ◌*◌, ◌^◌, ◌++◌, arith, ℕ, List, [], ◌∷◌, length, set, get_or, Option, Some, None, Bool, true, false, refl, sym, ap, ◌∙◌, subst, rules, length-append}
+use Rattle.scc_array.proofs.Shelves.{window-within, shelf-is, slots-are, overflow-is, list-within, length-shelves, shelves-window, shelves-list, shelves-empty, no-list, some-list, empty-list, list-read}
+use Rattle.scc_array.specs.Shelves.{shelf_of, spilled, spare}
+use Rattle.scc_array.specs.Windows.{window_of, empty_window}
+use Rattle.scc_bucket.specs.Shelf.{Shelf, shelf_entries, empty_shelf}
+use Rattle.scc_bucket.specs.Shelf.{with_slot}
+use Rattle.scc_array.proofs.array.Array.insert_reserved.Goals as goal
+
+pub push-requires-clause-bucket : goal.push-requires-clause-bucket
+push-requires-clause-bucket g c =
+    let ws = c.self.inside.columns in let os = c.self.inside.overflow.items in let bs = c.args.self.now in let b = c.args.bucket in
+    let view = c.self.view_is in let within = window-within ws os bs view b c.requires.bucket in
+    within
+
+pub push-requires-clause-room : goal.push-requires-clause-room
+push-requires-clause-room g c =
+    let ws = c.self.inside.columns in let os = c.self.inside.overflow.items in let bs = c.args.self.now in let b = c.args.bucket in
+    let view = c.self.view_is in let within = window-within ws os bs view b c.requires.bucket in
+    let n = ap length (slots-are ws os bs view b c.requires.bucket) in omega (arith, c.requires.room)
+
+pub returns : goal.returns
+returns g c =
+    let ws = c.self.inside.columns in let os = c.self.inside.overflow.items in let bs = c.args.self.now in let b = c.args.bucket in
+    let view = c.self.view_is in let within = window-within ws os bs view b c.requires.bucket in
+    rw c.push.ensures (shelves-window ws os b within _ ∙ ap (λ v. set v b _) view ∙ ap (λ (s : Shelf g.row.E.Denot). set bs b (with_slot s c.args.entry c.args.tag)) (sym (shelf-is ws os bs view b c.requires.bucket)))
