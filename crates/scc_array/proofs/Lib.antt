@@ -4,6 +4,7 @@ pub mod Drained
 pub mod Empty
 pub mod Gathering
 pub mod Gets
+pub mod Joined
 pub mod Pushing
 pub mod Shelves
 pub mod Swapping

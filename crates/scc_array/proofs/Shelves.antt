@@ -66,6 +66,26 @@ module _ {E A : Type 0} (ws : List (Window E)) (os : List (Vec E A)) (bs : List 
   pub list-within : IsArray ws os → os ≢ [] → b < length os
   list-within kept some = elim kept.lists [ inl e ↦ absurd (some e) | inr e ↦ let l = window-within in omega arith ]
 
+  -- there are lists where the bucket has an entry in one
+  pub spilled-there : IsArray ws os → 0 < length (shelf_of bs b).overflow → b < length os
+  spilled-there kept some = list-within kept (λ e. let z : length (shelf_of bs b).overflow ≡ 0 = ap length (sym overflow-is ∙ ap (λ l. spilled (slice_get l b)) e) in omega arith)
+
+  pub list-is : (v : Vec E A) → slice_get os b ≡ Some v → v.items ≡ (shelf_of bs b).overflow
+  list-is v e = ap spilled (sym e) ∙ overflow-is
+
+module _ {E A : Type 0} (ws : List (Window E)) (os : List (Vec E A)) (bs : List (Shelf E)) (view : shelves ws os ≡ bs) (b : ℕ) (within : b < length bs) (F : Shelf E → Shelf E) where
+  -- F is what happened to the places of the bucket
+  pub seen-window : (w : Window E) → F (shelf_at ws os b) ≡ record { slots = w.slots; tags = w.tags; overflow = spilled (slice_get os b); room = spare (slice_get os b) } → shelves (set ws b w) os ≡ set bs b (F (shelf_of bs b))
+  seen-window w e =
+      shelves-window ws os b (window-within ws os bs view b within) w ∙ ap (λ s. set (shelves ws os) b s) (sym e)
+      ∙ ap (λ v. set v b (F (shelf_at ws os b))) view ∙ ap (λ s. set bs b (F s)) (sym (shelf-is ws os bs view b within))
+
+  -- F is what happened to the list of the bucket
+  pub seen-list : (v : Vec E A) → b < length os → F (shelf_at ws os b) ≡ record { slots = (window_of ws b).slots; tags = (window_of ws b).tags; overflow = v.items; room = vec_capacity v } → shelves ws (set os b v) ≡ set bs b (F (shelf_of bs b))
+  seen-list v there e =
+      shelves-list ws os b (window-within ws os bs view b within) v there ∙ ap (λ s. set (shelves ws os) b s) (sym e)
+      ∙ ap (λ v. set v b (F (shelf_at ws os b))) view ∙ ap (λ s. set bs b (F s)) (sym (shelf-is ws os bs view b within))
+
 -- an array with no entry and no lists
 pub shelves-empty : (E A : Type 0) (n : ℕ) → shelves {E = E} {A = A} (replicate n empty_window) [] ≡ replicate n empty_shelf
 shelves-empty E A n =

@@ -1,9 +1,11 @@
 //! The array of buckets: 32 places a bucket in columns, and lists for the entries past them, which are made with the first such entry.
-ghost use Rattle.std.specs.Prelude.{◌≡◌, ◌+◌, ◌^◌, ◌≤◌, ◌<◌, ◌↔◌, length, replicate, slice_set, slice_index_or, IfOk, IfErr, OnErr, IsTrue};
+ghost use Rattle.std.specs.Prelude.{◌≡◌, ◌+◌, ◌^◌, ◌≤◌, ◌<◌, ◌↔◌, length, replicate, slice_set, slice_index_or, IfOk, IfErr, OnErr, IsTrue, slice_get, Some, None};
 ghost use Rattle.scc_array.specs.Shelves.{shelf_of};
-ghost use Rattle.scc_bucket.specs.Shelf.{shelf_entries, empty_shelf, with_slot};
+ghost use Rattle.scc_bucket.specs.Shelf.{shelf_entries, empty_shelf, with_slot, swapped_out, HasTag};
+ghost use Rattle.std.specs.List.{position};
 
 use crate::columns::Columns;
+use scc_bucket::Keyed;
 use std::alloc::{AllocError, Global};
 use std::marker::Model;
 
@@ -102,4 +104,88 @@ impl<E> Array<E> {
     {
         self.columns.push(bucket, entry, tag);
     }
+
+    /// The entry at a place.
+    #[inline(always)]
+    pub fn entry_at(&self, bucket: usize, place: usize) -> &E
+        requires bucket { bucket < length self.now }
+        requires place { place < length (shelf_entries (shelf_of self.now bucket)) }
+        ensures { slice_get (shelf_entries (shelf_of self.now bucket)) place ≡ Some result.now }
+    {
+        let count = self.columns.count(bucket);
+        if place < count {
+            return self.columns.entry_at(bucket, place);
+        }
+        &self.overflow[bucket][place - count]
+    }
+
+    /// Takes an entry out. The last entry of the places, or of the list past them, takes its place.
+    #[inline(always)]
+    pub fn swap_remove_at(&mut self, bucket: usize, place: usize) -> E
+        requires bucket { bucket < length self.old }
+        requires place { place < length (shelf_entries (shelf_of self.old bucket)) }
+        ensures entry { slice_get (shelf_entries (shelf_of self.old bucket)) place ≡ Some result }
+        ensures others { self.new ≡ slice_set self.old bucket (swapped_out (shelf_of self.old bucket) place result) }
+    {
+        let count = self.columns.count(bucket);
+        if place < count {
+            return self.columns.swap_remove(bucket, place);
+        }
+        let list = &mut self.overflow[bucket];
+        list.swap_remove(place - count)
+    }
+}
+
+impl<E: Keyed> Array<E>
+where
+    E::Key: Eq,
+{
+    /// The place of the first entry of the bucket with that key. Only places with the tag are compared, in rising order, and then the entries past them.
+    #[inline(always)]
+    pub fn search(&self, bucket: usize, key: &E::Key, tag: u8) -> Option<usize>
+        requires bucket { bucket < length self.now }
+        requires tag { 0 < tag }
+        requires tagged { HasTag (λ e. E.Key.eq key.now (E.key_of e)) tag (shelf_of self.now bucket) }
+        ensures { result ≡ position (λ e. E.Key.eq key.now (E.key_of e)) (shelf_entries (shelf_of self.now bucket)) }
+    {
+        match self.columns.find(bucket, key, tag) {
+            Some(place) => Some(place),
+            None => {
+                if self.overflow.len() == 0 {
+                    return None;
+                }
+                self.search_list(bucket, key)
+            }
+        }
+    }
+
+    /// The same past the places, where none of them has the key.
+    fn search_list(&self, bucket: usize, key: &E::Key) -> Option<usize>
+        requires bucket { bucket < length self.now }
+        requires missed { position (λ e. E.Key.eq key.now (E.key_of e)) (shelf_of self.now bucket).slots ≡ None }
+        ensures { result ≡ position (λ e. E.Key.eq key.now (E.key_of e)) (shelf_entries (shelf_of self.now bucket)) }
+    {
+        if self.overflow.len() == 0 {
+            return None;
+        }
+        let count = self.columns.count(bucket);
+        match find_in(self.overflow[bucket].as_slice(), key) {
+            Some(i) => Some(count + i),
+            None => None,
+        }
+    }
+}
+
+/// The place of the first entry with that key.
+fn find_in<E: Keyed>(entries: &[E], key: &E::Key) -> Option<usize>
+where
+    E::Key: Eq,
+    ensures { result ≡ position (λ e. E.Key.eq key.now (E.key_of e)) entries.now }
+{
+    for (i, entry) in entries.iter().enumerate() {
+        if *key == *entry.key() {
+            return Some(i);
+        }
+    }
+    None
 }

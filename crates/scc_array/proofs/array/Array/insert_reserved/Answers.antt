@@ -1,7 +1,7 @@
 use Rattle.std.proofs.Common.{◌≡◌, ◌≢◌, ◌≤◌, ◌<◌, ◌+◌, ◌-◌, ◌*◌, ◌^◌, ◌++◌, arith, ℕ, List, [], ◌∷◌, length, set, get_or, Option, Some, None, Bool, true, false, refl, sym, ap, ◌∙◌, subst, rules, length-append}
-use Rattle.scc_array.proofs.Shelves.{window-within, shelf-is, slots-are, overflow-is, list-within, length-shelves, shelves-window, shelves-list, shelves-empty, no-list, some-list, empty-list, list-read}
+use Rattle.scc_array.proofs.Shelves.{seen-window, window-within, shelf-is, slots-are, overflow-is, list-within, length-shelves, shelves-window, shelves-list, shelves-empty, no-list, some-list, empty-list, list-read}
 use Rattle.scc_array.specs.Shelves.{shelf_of, spilled, spare}
-use Rattle.scc_array.specs.Windows.{window_of, empty_window}
+use Rattle.scc_array.specs.Windows.{pushed, window_of, empty_window}
 use Rattle.scc_bucket.specs.Shelf.{Shelf, shelf_entries, empty_shelf}
 use Rattle.scc_bucket.specs.Shelf.{with_slot}
 use Rattle.scc_array.proofs.array.Array.insert_reserved.Goals as goal
@@ -22,4 +22,4 @@ pub returns : goal.returns
 returns g c =
     let ws = c.self.inside.columns in let os = c.self.inside.overflow.items in let bs = c.args.self.now in let b = c.args.bucket in
     let view = c.self.view_is in let within = window-within ws os bs view b c.requires.bucket in
-    rw c.push.ensures (shelves-window ws os b within _ ∙ ap (λ v. set v b _) view ∙ ap (λ (s : Shelf g.row.E.Denot). set bs b (with_slot s c.args.entry c.args.tag)) (sym (shelf-is ws os bs view b c.requires.bucket)))
+    rw c.push.ensures (seen-window ws os bs view b c.requires.bucket (λ s. with_slot s c.args.entry c.args.tag) (pushed (window_of ws b) c.args.entry c.args.tag) refl)
