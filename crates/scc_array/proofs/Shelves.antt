@@ -81,9 +81,14 @@ module _ {E A : Type 0} (ws : List (Window E)) (os : List (Vec E A)) (bs : List 
       ∙ ap (λ v. set v b (F (shelf_at ws os b))) view ∙ ap (λ s. set bs b (F s)) (sym (shelf-is ws os bs view b within))
 
   -- F is what happened to the list of the bucket
-  pub seen-list : (v : Vec E A) → b < length os → F (shelf_at ws os b) ≡ record { slots = (window_of ws b).slots; tags = (window_of ws b).tags; overflow = v.items; room = vec_capacity v } → shelves ws (set os b v) ≡ set bs b (F (shelf_of bs b))
-  seen-list v there e =
-      shelves-list ws os b (window-within ws os bs view b within) v there ∙ ap (λ s. set (shelves ws os) b s) (sym e)
+  pub seen-list : (v : Vec E A) (items : List E) (room : ℕ) → b < length os → v.items ≡ items → vec_capacity v ≡ room
+      → F (shelf_at ws os b) ≡ record { slots = (window_of ws b).slots; tags = (window_of ws b).tags; overflow = items; room = room } → shelves ws (set os b v) ≡ set bs b (F (shelf_of bs b))
+  seen-list v items room there ei er e =
+      let t : Shelf E = record { slots = (window_of ws b).slots; tags = (window_of ws b).tags; overflow = items; room = room } in
+      shelves-list ws os b (window-within ws os bs view b within) v there
+      ∙ ap (λ (l : List E). set (shelves ws os) b (record { slots = (window_of ws b).slots; tags = (window_of ws b).tags; overflow = l; room = vec_capacity v })) ei
+      ∙ ap (λ (r : ℕ). set (shelves ws os) b (record { slots = (window_of ws b).slots; tags = (window_of ws b).tags; overflow = items; room = r })) er
+      ∙ ap (λ (s : Shelf E). set (shelves ws os) b s) (sym e)
       ∙ ap (λ v. set v b (F (shelf_at ws os b))) view ∙ ap (λ s. set bs b (F s)) (sym (shelf-is ws os bs view b within))
 
 -- an array with no entry and no lists

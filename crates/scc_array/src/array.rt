@@ -189,3 +189,15 @@ where
     }
     None
 }
+
+impl<E: Drop> Drop for Array<E> {
+    fn drop(self) {
+        let Array {
+            columns,
+            overflow,
+            alloc: _,
+        } = self;
+        drop(columns);
+        drop(overflow);
+    }
+}

@@ -3,7 +3,8 @@ ghost use Rattle.std.specs.Prelude.{◌≡◌, ◌^◌, ◌≤◌, ◌<◌, ◌�
 ghost use Rattle.std.specs.Borrow.{sem};
 ghost use Rattle.std.specs.Int.{bit_at};
 ghost use Rattle.std.specs.List.{position};
-ghost use Rattle.scc_array.specs.Windows.{empty_window, window_of, pushed, popped_over, IsTagged};
+ghost use Rattle.scc_array.specs.Windows.{empty_window, window_of, pushed, popped_over, IsColumns, IsTagged};
+ghost use Rattle.scc_slots.specs.Places.{IsDrained};
 
 use scc_bucket::Keyed;
 use scc_bucket::tags::{lowest_bit, tag_mask, without_lowest_bit};
@@ -168,5 +169,25 @@ where
             bits = without_lowest_bit(bits);
         }
         None
+    }
+}
+
+/// Drops what the places hold whose tag isn't 0.
+fn drop_places<E: Drop>(tags: &[[u8; 32]], slots: &mut SlotBlock<E>)
+    requires { IsColumns tags.now slots.old }
+    ensures { IsDrained slots.new }
+{
+    for p in 0..slots.places() {
+        if tags[p / 32][p % 32] != 0 {
+            drop(slots.take(p));
+        }
+    }
+}
+
+impl<E: Drop> Drop for Columns<E> {
+    fn drop(self) {
+        let Columns { tags, mut slots } = self;
+        drop_places(tags.as_slice(), &mut slots);
+        slots.destroy_empty();
     }
 }

@@ -1,5 +1,6 @@
 use Rattle.std.proofs.Common.{◌≡◌, ◌≢◌, ◌≤◌, ◌<◌, ◌+◌, ◌-◌, ◌*◌, ◌^◌, ◌++◌, arith, ℕ, List, [], ◌∷◌, length, set, get_or, Option, Some, None, Bool, true, false, nat_lt, refl, sym, ap, ◌∙◌, subst, rules, length-append}
 use Rattle.std.specs.List.{slice_get, position, swap_remove}
+use Rattle.std.specs.Vec.{vec_capacity}
 use Rattle.scc_array.proofs.Gets.{get-is, get-within, get-here}
 use Rattle.scc_array.proofs.Joined.{position-joined, or_later, get-later}
 use Rattle.scc_bucket.proofs.Lists.{get-left}
@@ -81,5 +82,6 @@ returns-clause-others g c =
     let v = c.index_mut-list.result.now in let held = list-read os b v there c.index_mut-list.ensures.value in
     let x = c.swap_remove-2.result in let count = c.count-count.ensures.count in
     let t : nat_lt c.args.place (length (window_of ws b).slots) ≡ false = let l : length (window_of ws b).slots ≤ c.args.place = omega (arith, c.count-count.ensures.count, c.if-place-count.false) in search rules in
-    seen-list ws os bs view b c.requires.bucket (λ s. swapped_out s c.args.place x) c.swap_remove-2.new.self there
-    (rw (t, held, c.swap_remove-2.ensures.items, c.swap_remove-2.ensures.capacity, ← count) refl)
+    let j = c.args.place - c.count-count.result in let same : c.args.place - length (window_of ws b).slots ≡ j = ap (λ n. c.args.place - n) (sym count) in
+    seen-list ws os bs view b c.requires.bucket (λ s. swapped_out s c.args.place x) c.swap_remove-2.new.self (swap_remove v.items j x) (vec_capacity v) there c.swap_remove-2.ensures.items c.swap_remove-2.ensures.capacity
+    (rw (t, held, same) refl)
