@@ -5,6 +5,7 @@ pub mod Empty
 pub mod Gathering
 pub mod Gets
 pub mod Joined
+pub mod ListPushing
 pub mod Pushing
 pub mod Shelves
 pub mod Swapping

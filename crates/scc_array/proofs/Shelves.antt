@@ -5,7 +5,9 @@ use Rattle.std.proofs.lemmas.List.FromFn.{get_or-map-range_with_len, length-map-
 use Rattle.std.specs.List.{slice_get, range_with_len}
 use Rattle.std.specs.Vec.{vec_capacity}
 use Rattle.std.specs.declared.vec.Vec.{Vec}
-use Rattle.scc_array.proofs.Gets.{get-set, get-set_other, get-past}
+use native.Mathlib.Decide.{dec_lt}
+use Rattle.scc_array.proofs.Gets.{get-set, get-set_other, get-past, get-some, get-is}
+use Rattle.scc_array.specs.Lists.{AreBare, Opens, were_there, were_made}
 use Rattle.scc_array.proofs.Windows.{same_or_not}
 use Rattle.scc_array.specs.Shelves.{shelf_of, spilled, spare, shelf_at, shelves, IsArray}
 use Rattle.scc_array.specs.Windows.{Window, empty_window, window_of}
@@ -115,3 +117,32 @@ pub list-read : {E A : Type 0} (os : List (Vec E A)) (b : ℕ) (v : Vec E A) →
 list-read [] b v h e = absurd (omega arith)
 list-read (o ∷ os) zero v h e = ap Some (sym e)
 list-read (o ∷ os) (suc b) v h e = list-read os b v (omega arith) e
+
+-- the room of the changed bucket is what it is seen to be
+pub own-room : {E : Type 0} (seen bs : List (Shelf E)) (b : ℕ) (s : Shelf E) → b < length bs → seen ≡ set bs b s → seen ≡ set bs b (record s { room = (shelf_of seen b).room })
+own-room seen bs b s h e =
+    let r : s.room ≡ (shelf_of seen b).room = sym (ap (λ v. (shelf_of v b).room) e ∙ ap (λ (t : Shelf _). t.room) (get_or-set_same bs b s empty_shelf h)) in
+    e ∙ ap (λ r. set bs b (record s { room = r })) r
+
+-- lists that were made are seen as none
+module _ {E A : Type 0} (ws : List (Window E)) (os ds : List (Vec E A)) (bs : List (Shelf E)) (view : shelves ws os ≡ bs) (kept : IsArray ws os) (n : ℕ) (count : n ≡ length ws) where
+  bare-spilled : AreBare ds → (i : ℕ) → (spilled (slice_get ds i) ≡ []) × (spare (slice_get ds i) ≡ 0)
+  bare-spilled h i = elim (dec_lt i (length ds)) [
+    | yes l ↦
+        let v = get-some ds i l in let k = h.bare i v.0 l (get-is ds i v.0 v.0 v.1) in
+        (ap spilled v.1 ∙ k.0, ap spare v.1 ∙ k.1)
+    | no k ↦ let past : slice_get ds i ≡ None = get-past ds i (omega arith) in (ap spilled past, ap spare past)
+  ]
+
+  pub opened-view : Opens os n ds → shelves ws ds ≡ bs
+  opened-view (were_there h e) = ap (shelves ws) e ∙ view
+  opened-view (were_made e l bare) =
+      shelves-are ws ds (shelves ws os) (length-shelves ws os) (λ i h.
+      let k = bare-spilled bare i in
+      ap (λ (l : List E). record { slots = (window_of ws i).slots; tags = (window_of ws i).tags; overflow = l; room = spare (slice_get ds i) }) (k.0 ∙ sym (no-list os i e))
+      ∙ ap (λ (r : ℕ). record { slots = (window_of ws i).slots; tags = (window_of ws i).tags; overflow = spilled (slice_get os i); room = r }) (k.1 ∙ sym (ap (λ l. spare (slice_get l i)) e))
+      ∙ sym (shelf-there ws os i h)) ∙ view
+
+  pub opened-count : Opens os n ds → length ds ≡ length ws
+  opened-count (were_there h e) = ap length e ∙ elim kept.lists [ inl z ↦ absurd (let l : length os ≡ 0 = ap length z in omega arith) | inr l ↦ l ]
+  opened-count (were_made e l bare) = l ∙ count

@@ -1,10 +1,11 @@
 //! The array of buckets: 32 places a bucket in columns, and lists for the entries past them, which are made with the first such entry.
 ghost use Rattle.std.specs.Prelude.{◌≡◌, ◌+◌, ◌^◌, ◌≤◌, ◌<◌, ◌↔◌, length, replicate, slice_set, slice_index_or, IfOk, IfErr, OnErr, IsTrue, slice_get, Some, None};
 ghost use Rattle.scc_array.specs.Shelves.{shelf_of};
-ghost use Rattle.scc_bucket.specs.Shelf.{shelf_entries, empty_shelf, with_slot, swapped_out, HasTag};
+ghost use Rattle.scc_bucket.specs.Shelf.{shelf_entries, empty_shelf, with_slot, with_overflow, with_entry, next_place, swapped_out, HasTag};
 ghost use Rattle.std.specs.List.{position};
 
 use crate::columns::Columns;
+use crate::lists::{open_lists, push_to};
 use scc_bucket::Keyed;
 use std::alloc::{AllocError, Global};
 use std::marker::Model;
@@ -103,6 +104,37 @@ impl<E> Array<E> {
         ensures { self.new ≡ slice_set self.old bucket (with_slot (shelf_of self.old bucket) entry tag) }
     {
         self.columns.push(bucket, entry, tag);
+    }
+
+    /// The entry stands in the next place of the bucket, or at the end of the list past its places. It is handed back, and the bucket is as it was, only where all places are in use and the list can't grow.
+    #[inline(always)]
+    pub fn insert(&mut self, bucket: usize, entry: E, tag: u8) -> Result<usize, E>
+        requires bucket { bucket < length self.old }
+        requires few { length (shelf_entries (shelf_of self.old bucket)) < 2 ^ 63 }
+        requires tag { 0 < tag }
+        ensures ok { IfOk result (λ p. (p ≡ next_place (shelf_of self.old bucket)) × (self.new ≡ slice_set self.old bucket (record (with_entry (shelf_of self.old bucket) entry tag) { room = (shelf_of self.new bucket).room }))) }
+        ensures err { IfErr result (λ e. (e ≡ entry) × (self.new ≡ slice_set self.old bucket (record (shelf_of self.old bucket) { room = (shelf_of self.new bucket).room })) × (32 ≤ length (shelf_of self.old bucket).slots)) }
+    {
+        let count = self.columns.count(bucket);
+        if count < 32 {
+            self.columns.push(bucket, entry, tag);
+            return Ok(count);
+        }
+        self.push_list(bucket, entry)
+    }
+
+    /// The entry stands at the end of the list past the places of the bucket.
+    #[cold]
+    fn push_list(&mut self, bucket: usize, entry: E) -> Result<usize, E>
+        requires bucket { bucket < length self.old }
+        ensures ok { IfOk result (λ p. (p ≡ 32 + length (shelf_of self.old bucket).overflow) × (self.new ≡ slice_set self.old bucket (record (with_overflow (shelf_of self.old bucket) entry) { room = (shelf_of self.new bucket).room }))) }
+        ensures err { IfErr result (λ e. (e ≡ entry) × (self.new ≡ slice_set self.old bucket (record (shelf_of self.old bucket) { room = (shelf_of self.new bucket).room }))) }
+    {
+        match open_lists(&mut self.overflow, self.alloc, self.columns.len()) {
+            Ok(()) => {}
+            Err(_) => return Err(entry),
+        }
+        push_to(&mut self.overflow, bucket, entry)
     }
 
     /// The entry at a place.

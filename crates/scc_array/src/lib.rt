@@ -3,6 +3,7 @@
 
 pub mod array;
 pub mod columns;
+mod lists;
 
 pub use array::Array;
 pub use columns::Columns;
