@@ -1,3 +1,4 @@
+pub mod ArrayWriting
 pub mod Bucket
 pub mod Counting
 pub mod Drained

@@ -1,3 +1,4 @@
+pub mod LendsArray
 pub mod LendsColumns
 pub mod Lists
 pub mod Shelves
