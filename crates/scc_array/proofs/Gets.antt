@@ -86,3 +86,23 @@ module _ {X : Type 0} where
   get-is [] i x d e = absurd (let n : None ≡ Some x = e in cc)
   get-is (y ∷ xs) zero x d e = let s : y ≡ x = cc in sym s
   get-is (y ∷ xs) (suc i) x d e = get-is xs i x d e
+
+  -- the elements after the one that goes move up
+  pub get-removed_before : (xs : List X) (i j : ℕ) → j < i → slice_get (remove xs i) j ≡ slice_get xs j
+  get-removed_before [] zero j h = refl
+  get-removed_before [] (suc i) j h = refl
+  get-removed_before (x ∷ xs) zero j h = absurd (omega arith)
+  get-removed_before (x ∷ xs) (suc i) zero h = refl
+  get-removed_before (x ∷ xs) (suc i) (suc j) h = get-removed_before xs i j (omega arith)
+
+  pub get-removed_after : (xs : List X) (i j : ℕ) → i ≤ j → slice_get (remove xs i) j ≡ slice_get xs (suc j)
+  get-removed_after [] zero j h = refl
+  get-removed_after [] (suc i) j h = refl
+  get-removed_after (x ∷ xs) zero j h = refl
+  get-removed_after (x ∷ xs) (suc i) zero h = absurd (omega arith)
+  get-removed_after (x ∷ xs) (suc i) (suc j) h = get-removed_after xs i j (omega arith)
+
+  pub length-removed : (xs : List X) (i : ℕ) → i < length xs → suc (length (remove xs i)) ≡ length xs
+  length-removed [] i h = absurd (omega arith)
+  length-removed (x ∷ xs) zero h = refl
+  length-removed (x ∷ xs) (suc i) h = ap suc (length-removed xs i (omega arith))

@@ -9,6 +9,7 @@ pub mod Joined
 pub mod ListPushing
 pub mod Pushing
 pub mod Shelves
+pub mod Shifting
 pub mod Swapping
 pub mod Windows
 pub mod WritingOver

@@ -2,4 +2,5 @@ pub mod LendsArray
 pub mod LendsColumns
 pub mod Lists
 pub mod Shelves
+pub mod Shifts
 pub mod Windows

@@ -1,6 +1,6 @@
 -- What the columns hold: of each bucket the entries and their tags.
 use Rattle.std.specs.Prelude.{◌≡◌, ℕ, zero, suc, ◌+◌, ◌*◌, ◌^◌, ◌<◌, ◌≤◌, List, [], ◌∷◌, ◌++◌, length, map, slice_get, slice_index, slice_index_or, Bool, true, Option, Some, None, refl}
-use Rattle.std.specs.List.{range_with_len, slice_set, swap_remove}
+use Rattle.std.specs.List.{range_with_len, remove, slice_set, swap_remove}
 use Rattle.std.specs.Coded.{Coded, code_by, coded×, coded_ℕ, coded_list}
 
 -- the entries of a bucket's places, and their tags
@@ -25,6 +25,10 @@ pushed w e t = record { slots = w.slots ++ e ∷ []; tags = w.tags ++ t ∷ [] }
 -- without the entry x at the place i, where the last one now stands
 abbrev pub popped_over : {E : Type 0} → Window E → ℕ → E → Window E
 popped_over w i x = record { slots = swap_remove w.slots i x; tags = swap_remove w.tags i 0 }
+
+-- without the entry at the place i, the others in their order
+abbrev pub shifted_out : {E : Type 0} → Window E → ℕ → Window E
+shifted_out w i = record { slots = remove w.slots i; tags = remove w.tags i }
 
 -- with the entry x at the place i
 abbrev pub written_over : {E : Type 0} → Window E → ℕ → E → Window E

@@ -1,7 +1,7 @@
 //! The array of buckets: 32 places a bucket in columns, and lists for the entries past them, which are made with the first such entry.
 ghost use Rattle.std.specs.Prelude.{◌≡◌, ◌+◌, ◌^◌, ◌≤◌, ◌<◌, ◌↔◌, length, replicate, slice_set, slice_index_or, IfOk, IfErr, OnErr, IsTrue, slice_get, Some, None};
 ghost use Rattle.scc_array.specs.Shelves.{shelf_of};
-ghost use Rattle.scc_bucket.specs.Shelf.{shelf_entries, empty_shelf, with_slot, with_overflow, with_entry, next_place, swapped_out, HasTag};
+ghost use Rattle.scc_bucket.specs.Shelf.{shelf_entries, empty_shelf, with_slot, with_overflow, with_entry, next_place, without_place, swapped_out, HasTag};
 ghost use Rattle.std.specs.List.{position};
 
 mod writes;
@@ -151,6 +151,21 @@ impl<E> Array<E> {
             return self.columns.entry_at(bucket, place);
         }
         &self.overflow[bucket][place - count]
+    }
+
+    /// Takes an entry out. The entries after it in the places, or in the list past them, move up by one.
+    pub fn remove_at(&mut self, bucket: usize, place: usize) -> E
+        requires bucket { bucket < length self.old }
+        requires place { place < length (shelf_entries (shelf_of self.old bucket)) }
+        ensures entry { slice_get (shelf_entries (shelf_of self.old bucket)) place ≡ Some result }
+        ensures others { self.new ≡ slice_set self.old bucket (without_place (shelf_of self.old bucket) place) }
+    {
+        let count = self.columns.count(bucket);
+        if place < count {
+            return self.columns.remove(bucket, place);
+        }
+        let list = &mut self.overflow[bucket];
+        list.remove(place - count)
     }
 
     /// Takes an entry out. The last entry of the places, or of the list past them, takes its place.

@@ -3,9 +3,10 @@ ghost use Rattle.std.specs.Prelude.{◌≡◌, ◌^◌, ◌≤◌, ◌<◌, ◌�
 ghost use Rattle.std.specs.Borrow.{sem};
 ghost use Rattle.std.specs.Int.{bit_at};
 ghost use Rattle.std.specs.List.{position};
-ghost use Rattle.scc_array.specs.Windows.{empty_window, window_of, pushed, popped_over, IsColumns, IsTagged};
+ghost use Rattle.scc_array.specs.Windows.{empty_window, window_of, pushed, popped_over, shifted_out, IsColumns, IsTagged};
 ghost use Rattle.scc_slots.specs.Places.{IsDrained};
 
+use crate::shifts::{close_places, close_tags};
 use scc_bucket::Keyed;
 use scc_bucket::tags::{lowest_bit, tag_mask, without_lowest_bit};
 use scc_slots::SlotBlock;
@@ -126,6 +127,21 @@ impl<E> Columns<E> {
             return end;
         }
         self.slots.replace(base + place, end)
+    }
+
+    /// Takes an entry out. Those after it move up by one place.
+    pub fn remove(&mut self, bucket: usize, place: usize) -> E
+        requires bucket { bucket < length self.old }
+        requires place { place < length (window_of self.old bucket).slots }
+        ensures entry { slice_get (window_of self.old bucket).slots place ≡ Some result }
+        ensures others { self.new ≡ slice_set self.old bucket (shifted_out (window_of self.old bucket) place) }
+    {
+        let last = self.count(bucket) - 1;
+        let base = 32 * bucket;
+        let entry = self.slots.take(base + place);
+        close_places(&mut self.slots, base + place, base + last);
+        close_tags(&mut self.tags[bucket], place, last);
+        entry
     }
 
     /// The entry at a place, to write to.

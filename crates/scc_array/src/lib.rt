@@ -4,6 +4,7 @@
 pub mod array;
 pub mod columns;
 mod lists;
+mod shifts;
 
 pub use array::Array;
 pub use columns::Columns;
