@@ -24,7 +24,7 @@ module _ {E A : Type 0} (ws : List (Window E)) (os ds : List (Vec E A)) (bs : Li
     list-pushed-ok (Ok p) (u, v, held, is, items, changed) =
         let s : Shelf E → Shelf E = λ s. record { slots = s.slots; tags = s.tags; overflow = s.overflow ++ e ∷ []; room = vec_capacity v } in
         let seen : shelves ws (set ds b v) ≡ set bs b (s (shelf_of bs b)) = seen-list ws ds bs now b within s v (u.items ++ e ∷ []) (vec_capacity v) opened-within items refl
-            (ap (λ (l : List E). record { slots = (window_of ws b).slots; tags = (window_of ws b).tags; overflow = l ++ e ∷ []; room = vec_capacity v }) (ap spilled held)) in
+        (ap (λ (l : List E). record { slots = (window_of ws b).slots; tags = (window_of ws b).tags; overflow = l ++ e ∷ []; room = vec_capacity v }) (ap spilled held)) in
         (is ∙ ap (λ l. 32 + length l) (list-is ws ds bs now b within u held), own-room (shelves ws es) bs b (s (shelf_of bs b)) within (ap (shelves ws) changed ∙ seen))
     list-pushed-ok (Err x) h = tt
 
@@ -33,7 +33,7 @@ module _ {E A : Type 0} (ws : List (Window E)) (os ds : List (Vec E A)) (bs : Li
     list-pushed-err (Err x) (same, (u, v, held, items, changed)) =
         let s : Shelf E → Shelf E = λ s. record { slots = s.slots; tags = s.tags; overflow = s.overflow; room = vec_capacity v } in
         let seen : shelves ws (set ds b v) ≡ set bs b (s (shelf_of bs b)) = seen-list ws ds bs now b within s v u.items (vec_capacity v) opened-within items refl
-            (ap (λ (l : List E). record { slots = (window_of ws b).slots; tags = (window_of ws b).tags; overflow = l; room = vec_capacity v }) (ap spilled held)) in
+        (ap (λ (l : List E). record { slots = (window_of ws b).slots; tags = (window_of ws b).tags; overflow = l; room = vec_capacity v }) (ap spilled held)) in
         (same, own-room (shelves ws es) bs b (s (shelf_of bs b)) within (ap (shelves ws) changed ∙ seen))
 
 -- nothing changed, so the room of the bucket is what it was

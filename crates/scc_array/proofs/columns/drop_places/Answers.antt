@@ -17,18 +17,20 @@ loop-p-preserved g c =
     let inv = c.loop-p.invariant in let p = c.loop-p.p in let n = c.places-p-end.ensures.count in
     elim c.if-tags-p-ne0.branch [
       | then-tags-p-ne0 w ↦
-          let now = w.slots-is ∙ w.take.ensures.places in
-          (ap length now ∙ length-set c.loop-p.slots p None ∙ inv.0,
-          (λ q l. ap (λ s. get_or s q None) now ∙ elim (same_or_not q p) [
-            | inl e ↦ ap (λ k. get_or (set c.loop-p.slots p None) k None) e ∙ get_or-set_same c.loop-p.slots p None None (omega (arith, inv.0))
-            | inr e ↦ get_or-set_other c.loop-p.slots p q None None e ∙ inv.1 q (omega arith)
-          ]),
-          (λ q l. ap (λ s. get_or s q None) now ∙ get_or-set_other c.loop-p.slots p q None None (λ e. omega arith) ∙ inv.2 q (omega arith)))
-      | else-tags-p-ne0 w ↦
-          (ap length w.slots-is ∙ inv.0,
-          (λ q l. ap (λ s. get_or s q None) w.slots-is ∙ elim (same_or_not q p) [
-            | inl e ↦ ap (λ k. get_or c.loop-p.slots k None) e ∙ inv.2 p (omega arith) ∙ unused-free c.args.tags.now c.args.slots.now c.requires p (omega arith) w.if-tags-p-ne0.false
-            | inr e ↦ inv.1 q (omega arith)
-          ]),
-          (λ q l. ap (λ s. get_or s q None) w.slots-is ∙ inv.2 q (omega arith)))
+          let now = w.slots-is ∙ w.take.ensures.places in (
+            ap length now ∙ length-set c.loop-p.slots p None ∙ inv.0,
+            (λ q l. ap (λ s. get_or s q None) now ∙ elim (same_or_not q p) [
+              | inl e ↦ ap (λ k. get_or (set c.loop-p.slots p None) k None) e ∙ get_or-set_same c.loop-p.slots p None None (omega (arith, inv.0))
+              | inr e ↦ get_or-set_other c.loop-p.slots p q None None e ∙ inv.1 q (omega arith)
+            ]),
+            (λ q l. ap (λ s. get_or s q None) now ∙ get_or-set_other c.loop-p.slots p q None None (λ e. omega arith) ∙ inv.2 q (omega arith)),
+          )
+      | else-tags-p-ne0 w ↦ (
+        ap length w.slots-is ∙ inv.0,
+        (λ q l. ap (λ s. get_or s q None) w.slots-is ∙ elim (same_or_not q p) [
+          | inl e ↦ ap (λ k. get_or c.loop-p.slots k None) e ∙ inv.2 p (omega arith) ∙ unused-free c.args.tags.now c.args.slots.now c.requires p (omega arith) w.if-tags-p-ne0.false
+          | inr e ↦ inv.1 q (omega arith)
+        ]),
+        (λ q l. ap (λ s. get_or s q None) w.slots-is ∙ inv.2 q (omega arith)),
+      )
     ]

@@ -44,7 +44,7 @@ returns-in-Some g c =
     let v = c.index.result.now in let items = list-is ws os bs view b c.requires.bucket v (list-read os b v there c.index.ensures) in
     let in_list : c.find_in.result ≡ position p ys = c.find_in.ensures ∙ ap (position p) (c.as_slice.ensures.value ∙ items) in
     let whole : position p (shelf_entries (shelf_of bs b)) ≡ or_later None (length xs) c.find_in.result =
-        position-joined p xs ys ∙ ap (λ o. or_later o (length xs) (position p ys)) c.requires.missed ∙ ap (λ o. or_later None (length xs) o) (sym in_list) in
+    position-joined p xs ys ∙ ap (λ o. or_later o (length xs) (position p ys)) c.requires.missed ∙ ap (λ o. or_later None (length xs) o) (sym in_list) in
     let k : c.count-count.result ≡ length xs = c.count-count.ensures.count ∙ ap length (slots-are ws os bs view b c.requires.bucket) in
     ap (λ n. Some (n + c.in-Some.i)) k ∙ sym (whole ∙ ap (λ o. or_later None (length xs) o) c.in-Some.is)
 
@@ -58,5 +58,5 @@ returns-in-None g c =
     let v = c.index.result.now in let items = list-is ws os bs view b c.requires.bucket v (list-read os b v there c.index.ensures) in
     let in_list : c.find_in.result ≡ position p ys = c.find_in.ensures ∙ ap (position p) (c.as_slice.ensures.value ∙ items) in
     let whole : position p (shelf_entries (shelf_of bs b)) ≡ or_later None (length xs) c.find_in.result =
-        position-joined p xs ys ∙ ap (λ o. or_later o (length xs) (position p ys)) c.requires.missed ∙ ap (λ o. or_later None (length xs) o) (sym in_list) in
+    position-joined p xs ys ∙ ap (λ o. or_later o (length xs) (position p ys)) c.requires.missed ∙ ap (λ o. or_later None (length xs) o) (sym in_list) in
     sym (whole ∙ ap (λ o. or_later None (length xs) o) c.in-None.is)

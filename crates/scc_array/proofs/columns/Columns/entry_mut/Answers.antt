@@ -29,6 +29,7 @@ pub returns : goal.returns
 returns g c =
     let rows = c.self.inside.tags.items in let places = c.self.inside.slots in let ws = c.args.self.now in let b = c.args.bucket in
     let kept = c.self.invariant in let view = c.self.view_is in
-    let packed = packed-there rows places kept ws view b c.requires.bucket in let within = row-within rows places kept ws view b c.requires.bucket in
-    ((refl, λ w. windows-written rows places kept b within _ _ packed c.args.place c.requires.place w ∙ ap (λ v. set v b (written_over (window_of ws b) c.args.place w)) view),
-    record { writes_back = tt; entry = entry-there rows places kept ws view b c.requires.bucket c.args.place c.requires.place c.get_mut.result.now c.get_mut.ensures.entry })
+    let packed = packed-there rows places kept ws view b c.requires.bucket in let within = row-within rows places kept ws view b c.requires.bucket in (
+      (refl, λ w. windows-written rows places kept b within _ _ packed c.args.place c.requires.place w ∙ ap (λ v. set v b (written_over (window_of ws b) c.args.place w)) view),
+      record { writes_back = tt; entry = entry-there rows places kept ws view b c.requires.bucket c.args.place c.requires.place c.get_mut.result.now c.get_mut.ensures.entry },
+    )

@@ -20,9 +20,10 @@ pub put-requires : goal.put-requires
 put-requires g c =
     let rows = c.self.inside.tags.items in let places = c.self.inside.slots in let ws = c.args.self.now in let b = c.args.bucket in
     let packed = packed-there rows places c.self.invariant ws c.self.view_is b c.requires.bucket in
-    let k : c.count-place.result ≡ length (window_of ws b).slots = c.count-place.ensures.count in
-    (place-within rows places c.self.invariant ws c.self.view_is b c.requires.bucket c.count-place.result (omega (arith, c.requires.room)),
-    place-free rows places b _ _ packed c.count-place.result (omega arith) (omega (arith, c.requires.room)))
+    let k : c.count-place.result ≡ length (window_of ws b).slots = c.count-place.ensures.count in (
+      place-within rows places c.self.invariant ws c.self.view_is b c.requires.bucket c.count-place.result (omega (arith, c.requires.room)),
+      place-free rows places b _ _ packed c.count-place.result (omega arith) (omega (arith, c.requires.room)),
+    )
 
 pub invariant_of-self : goal.invariant_of-self
 invariant_of-self g c =

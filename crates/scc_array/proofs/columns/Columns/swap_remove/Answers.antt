@@ -96,7 +96,7 @@ returns-clause-entry g c =
     let row = row-read rows b c.index_mut-row.result.now within c.index_mut-row.ensures.value in
     let last : c.count-last.result - 1 ≡ length (window_of ws b).slots - 1 = ap (λ n. n - 1) k in
     let same : get_or c.take-end.new.self (32 * b + c.args.place) None ≡ get_or places (32 * b + c.args.place) None =
-        rw c.take-end.ensures.places (get_or-set_other places _ (32 * b + c.args.place) None None (λ e. c.if-place-last.false (omega arith))) in
+    rw c.take-end.ensures.places (get_or-set_other places _ (32 * b + c.args.place) None None (λ e. c.if-place-last.false (omega arith))) in
     entry-there rows places kept ws view b c.requires.bucket c.args.place c.requires.place c.replace.result (sym same ∙ c.replace.ensures.entry)
 
 pub returns-clause-others : goal.returns-clause-others
