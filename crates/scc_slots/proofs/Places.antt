@@ -1,9 +1,9 @@
 -- One place is taken out of a row and put back, whatever lies in it then; and the room of a block is a row of free places. Assumes `Logic`.
-use Rattle.std.proofs.Common.{◌≡◌, ℕ, zero, suc, ◌+◌, ◌*◌, ◌<◌, List, [], ◌∷◌, length, replicate, get_or, set, Option, Some, None, refl, sym, ap, subst, arith}
+use Rattle.std.proofs.Common.{◌≡◌, ℕ, zero, suc, ◌+◌, ◌*◌, ◌<◌, List, [], ◌∷◌, length, replicate, get_or, set, Option, Some, None, refl, subst, arith}
 use native.Mathlib.Nat.{zero-mul, suc-mul}
 use seplogic.Ra.Ura.{Ura}
 use mir.Syntax.{ty_array}
-use base.Logic.{ent, sep, emp, via, fst∗, snd∗, id⊢}
+use base.Logic.{ent, sep, via, fst∗, snd∗, id⊢}
 use base.Fml.{Fml, Lft, ftrue, fsep, froom}
 use types.Logic.{Logic, sem}
 use base.Fml.{fat}

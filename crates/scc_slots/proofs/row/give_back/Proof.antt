@@ -1,5 +1,5 @@
 -- `give_back` joins free places to the room of one block, which the right lets go back. Assumes `Logic`.
-use Rattle.std.proofs.Common.{◌≡◌, ℕ, ◌*◌, ◌^◌, ◌<◌, List, [], ◌∷◌, ◌++◌, length, replicate, None, refl, sym, ap, subst, ◌∙◌, arith}
+use Rattle.std.proofs.Common.{◌≡◌, ℕ, ◌*◌, ◌^◌, ◌<◌, List, [], ◌∷◌, ◌++◌, replicate, None, refl, sym, ap, subst, ◌∙◌, arith}
 use Rattle.std.proofs.lemmas.List.{length-replicate}
 use base.Fml.{ftrue, flft, froom, Incl-trans}
 use base.Logic.{SProp, id⊢, never}
@@ -25,7 +25,7 @@ use prog.Capped.{capped_fits}
 use prog.Memory.{align, capped}
 use prog.Wp.{WpFn}
 use types.ByLocal.{alloc_all, pass_all, free_all, look_at, get, get_in, sets, lands_last, is, env}
-use types.Kit.{by, later, given, await, learn, group, ‵, raw, ◌⊛◌, prop, at_ret, ◌$◌, ◌∵◌, !, qed, move, keep, drop as skip, use1, split, join, rewrite, regoal, fsplit, fjoin, feq_i, feq_l, flt_l, done}
+use types.Kit.{by, later, given, await, learn, group, ‵, raw, ◌⊛◌, prop, at_ret, ◌$◌, ◌∵◌, !, qed, move, keep, drop as skip, use1, split, join, rewrite, regoal, fsplit, fjoin, feq_i, feq_l, flt_l}
 use types.Part.{whole, sub}
 use types.Run.{stop, fld, unit_lit, of_opd, bin, size_word, align_word, no_more, and_then, first, blocks, exec, returns, enter}
 use Rattle.core.proofs.alloc.Calls.{Al, token, Gives, at_gives, Gives-goes, Gives-Gives, Goes-blank}

@@ -1,8 +1,8 @@
 -- `obtain` cuts the room of a new block into free places, and keeps the right to give it back. Assumes `Logic`.
-use Rattle.std.proofs.Common.{◌≡◌, ℕ, ◌*◌, ◌^◌, ◌<◌, List, [], ◌∷◌, ◌++◌, length, replicate, None, Ok, Err, refl, sym, ap, subst, ◌∙◌, arith}
+use Rattle.std.proofs.Common.{◌≡◌, ℕ, ◌*◌, ◌^◌, ◌<◌, List, [], ◌∷◌, ◌++◌, length, replicate, None, Ok, Err, refl, sym, ap, subst, arith}
 use Rattle.std.proofs.lemmas.List.{length-replicate}
-use base.Fml.{ftrue, flft, froom, Incl-trans}
-use base.Logic.{SProp, emp, id⊢}
+use base.Fml.{ftrue, flft, Incl-trans}
+use base.Logic.{SProp, emp}
 use contract.BorrowLft.{◌⊑◌}
 use contract.Monad.{fact, fact_i}
 use contract.Running.{tables}
@@ -35,7 +35,7 @@ use prog.Memory.{align, capped}
 use prog.Wp.{Wp, WpFn, after_seq, at_return}
 use types.ByLocal.{alloc_all, pass_all, free_all, look_at, get, get_in, get_tag, sets, sets_last, lands_as, is, env}
 use types.Match.{live, vrt, in_variant}
-use types.Kit.{Post as After, any_q, use0, use2, flt_i, by, later, await, ‵, raw, ◌⊛◌, prop, at_ret, ◌$◌, ◌∵◌, !, qed, move, keep, drop as skip, use1, split, join, rewrite, regoal, fsplit, fjoin, feq_i, feq_l, flt_l, done}
+use types.Kit.{Post as After, any_q, use0, use2, flt_i, by, later, await, ‵, raw, ◌⊛◌, prop, at_ret, ◌$◌, ◌∵◌, !, qed, move, keep, use1, split, join, regoal, fsplit, fjoin, feq_l}
 use types.Part.{whole, agg}
 use types.Run.{switches_on, stop, fld, lit, of_opd, bin, size_word, align_word, no_more, and_then, first, exec, returns, enter}
 use Rattle.core.proofs.alloc.Calls.{Al, Answer-typed, Answered, Takes, at_takes, Takes-goes, Takes-gives, answers}

@@ -1,4 +1,4 @@
-use Rattle.std.proofs.Common.{◌≡◌, length, replicate, None, sym, ap, ◌∙◌, subst}
+use Rattle.std.proofs.Common.{replicate, None, sym, ap, ◌∙◌, subst}
 use Rattle.scc_slots.proofs.Drained.{drained-replicate}
 use Rattle.scc_slots.proofs.block.SlotBlock.destroy_empty.Goals as goal
 use Rattle.scc_slots.specs.Places.{IsDrained}

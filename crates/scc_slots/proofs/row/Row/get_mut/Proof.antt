@@ -1,12 +1,12 @@
 -- `get_mut` lends one entry out of the row, which ends with what was written there last. Assumes `Logic`.
 use Rattle.std.proofs.Common.{◌≡◌, ℕ, ◌+◌, ◌*◌, ◌^◌, ◌<◌, List, [], ◌∷◌, ◌++◌, length, set, get_or, Some, None, refl, sym, subst, ◌∙◌, arith}
 use lib.ListN.{length-set}
-use base.Fml.{Fml, GName, fsep, ftrue, flft, fobs, fbor, fat}
+use base.Fml.{Fml, GName, fsep, ftrue, flft, fat}
 use base.Fraction.{full_share}
 use base.Logic.{SProp, ent, sep, emp, id⊢, never}
 use mir.MapTy.{inst_fn}
 use mir.Syntax.{Fn, named, w64}
-use mir.Val.{Val, vptr, vint, vunit}
+use mir.Val.{Val, vptr, vint}
 use prog.Wp.{WpFn}
 use contract.BorrowLft.{◌⊑◌}
 use contract.Monad.{fact, fact_i}
@@ -15,11 +15,10 @@ use denote.Follow.{follows, Part, lends_Part}
 use seplogic.Ra.Ura.{Ura}
 use types.Logic.{Logic, sem}
 use Rattle.scc_slots.specs.RowLends.{with_places}
-use types.Kit.{by, use0, fpack, group, later, some, await, pick, ‵, raw, ◌⊛◌, prop, at_ret, ◌$◌, ◌∵◌, !, qed, move, keep, drop as skip, use1, use2, split, join, rewrite, regoal, suffices, fsplit, fsplit3, fjoin, fjoin3, feq_i, feq_l, flt_l, flt_i, frame, done}
+use types.Kit.{by, use0, fpack, group, later, some, await, pick, ‵, raw, ◌⊛◌, prop, at_ret, ◌$◌, ◌∵◌, !, qed, move, keep, use1, use2, split, join, rewrite, regoal, fsplit, fsplit3, fjoin, fjoin3, feq_l, flt_l, flt_i, done}
 use types.Part.{whole, sub}
 use types.Run.{addr, stop, fld, of_opd, bin, size_lit, first, blocks, exec, returns, enter}
 use types.ByLocal.{alloc_all, pass_all, free_all, look_at, get, get_in, through, sets, sets_last, take_at, give_at, env}
-use types.SemTy.{Body as Borrowed}
 use denote.Builtin.{usize}
 use denote.Exit.{yes, no}
 use denote.Memory.{mem, cell_at, part_of}
@@ -29,13 +28,12 @@ use denote.RattleType.{RattleType, owns}
 use denote.RawPtr.{Ptr, block_ptr, in_a_block}
 use denote.Ref.{MutBor, MutRef}
 use denote.Signature.{mut_ref_to, plain, types_at}
-use denote.Steps.{nothing, opens, closes, heard}
+use denote.Steps.{nothing, opens, heard}
 use denote.Triple.Clauses.{Ended}
-use denote.Triple.Walked.{Stays, walk_of, says, stay_dropped, Goes-dropped, Goes-spent_ref}
-use Rattle.core.proofs.mem.Param.{El, R, args, elτ, one, lawful}
+use denote.Triple.Walked.{Stays, walk_of, stay_dropped, Goes-dropped, Goes-spent_ref}
+use Rattle.core.proofs.mem.Param.{El, R, args}
 use Rattle.core.proofs.ptr.Rows.{times_below, one_below}
 use Rattle.std.proofs.raw_atomic.Walks.{proved_at, leaves}
-use Rattle.std_alloc.proofs.RawLayout.{as_raw}
 use Rattle.std_alloc.proofs.RcSteps.{word, word-Good}
 use Rattle.std_alloc.proofs.VecSteps.Shapes.{after}
 use Rattle.scc_slots.proofs.Places.{Field, Cell, size, others, filled-within, place-out, place-in}

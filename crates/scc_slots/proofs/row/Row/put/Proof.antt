@@ -1,11 +1,11 @@
 -- `put` writes into the room of a free place. Assumes `Logic`.
-use Rattle.std.proofs.Common.{◌≡◌, ℕ, ◌+◌, ◌*◌, ◌^◌, ◌<◌, List, [], ◌∷◌, ◌++◌, length, set, get_or, Some, None, refl, sym, subst, ◌∙◌, arith}
+use Rattle.std.proofs.Common.{◌≡◌, ◌+◌, ◌*◌, ◌^◌, ◌<◌, List, [], ◌∷◌, ◌++◌, length, set, get_or, Some, None, refl, sym, subst, ◌∙◌, arith}
 use lib.ListN.{length-set}
-use base.Fml.{ftrue, flft, fobs, fbor, fat}
+use base.Fml.{ftrue, flft, fat}
 use base.Fraction.{full_share}
 use base.Logic.{SProp, id⊢, never}
 use mir.MapTy.{inst_fn}
-use mir.Syntax.{Fn, named, w64}
+use mir.Syntax.{Fn, w64}
 use mir.Val.{Val, vptr, vint, vunit}
 use prog.Wp.{WpFn}
 use contract.BorrowLft.{◌⊑◌}
@@ -15,16 +15,13 @@ use types.Kit.{‵, raw, ◌⊛◌, prop, at_ret, ◌$◌, ◌∵◌, !, qed, mo
 use types.Part.{whole, sub}
 use types.Run.{init, stop, fld, unit_lit, of_opd, bin, size_lit, assigns_last, first, blocks, exec, returns, enter}
 use types.ByLocal.{alloc_all, pass_all, free_all, look_at, get, get_in, through, sets, take_at, give_at, env}
-use types.SemTy.{Body as Borrowed}
-use denote.Builtin.{usize, RefMutOf}
+use denote.Builtin.{usize}
 use denote.Exit.{yes, no}
-use denote.Memory.{mem}
 use denote.Param.{layout}
 use denote.Param.Laws.{param_laws}
 use borrow.Table.OneValue.{part_in}
 use denote.RattleType.{RattleType, owns}
 use denote.RawPtr.{Ptr, in_a_block}
-use denote.Ref.{mut_Tells}
 use denote.Signature.{plain, types_at}
 use denote.Steps.{nothing, opens, closes, heard}
 use denote.Triple.Clauses.{Ended}

@@ -1,34 +1,31 @@
 -- `take` reads the entry of a place out, and its room is free. Assumes `Logic`.
-use Rattle.std.proofs.Common.{◌≡◌, ℕ, ◌+◌, ◌*◌, ◌^◌, ◌<◌, List, [], ◌∷◌, ◌++◌, length, set, get_or, Some, None, refl, sym, subst, ◌∙◌, arith}
+use Rattle.std.proofs.Common.{◌≡◌, ◌+◌, ◌*◌, ◌^◌, ◌<◌, List, [], ◌∷◌, ◌++◌, length, set, get_or, Some, None, refl, sym, subst, ◌∙◌, arith}
 use lib.ListN.{length-set}
-use base.Fml.{froom, ftrue, flft, fobs, fbor, fat}
+use base.Fml.{froom, ftrue, flft, fat}
 use base.Fraction.{full_share}
 use base.Logic.{SProp, emp, id⊢, never}
 use mir.MapTy.{inst_fn}
-use mir.Syntax.{Fn, named, w64}
-use mir.Val.{Val, vptr, vint, vunit}
+use mir.Syntax.{Fn, w64}
+use mir.Val.{Val, vptr, vint}
 use prog.Wp.{WpFn}
 use contract.BorrowLft.{◌⊑◌}
 use contract.Monad.{fact, fact_i}
 use contract.Running.{tables}
-use types.Kit.{by, use0, ‵, raw, ◌⊛◌, prop, at_ret, ◌$◌, ◌∵◌, !, qed, move, keep, drop as skip, use1, use2, split, join, rewrite, regoal, suffices, fsplit, fsplit3, fjoin, fjoin3, feq_i, feq_l, flt_l, flt_i, frame, done}
+use types.Kit.{by, use0, ‵, raw, ◌⊛◌, prop, at_ret, ◌$◌, ◌∵◌, !, qed, move, keep, use1, use2, split, join, rewrite, regoal, fsplit, fsplit3, fjoin, fjoin3, feq_i, feq_l, flt_l, flt_i}
 use types.Part.{whole, sub}
 use types.Run.{load, look, stop, fld, of_opd, bin, size_lit, first, blocks, exec, returns, enter}
 use types.ByLocal.{alloc_all, pass_all, free_all, look_at, get, get_in, through, sets, sets_last, take_at, give_at, env}
-use types.SemTy.{Body as Borrowed}
-use denote.Builtin.{usize, RefMutOf}
+use denote.Builtin.{usize}
 use denote.Exit.{yes, no}
-use denote.Memory.{mem}
 use denote.Param.{layout}
 use denote.Param.Laws.{param_laws}
 use denote.RattleType.{RattleType, owns}
 use denote.RawPtr.{Ptr, in_a_block}
-use denote.Ref.{mut_Tells}
 use denote.Signature.{plain, types_at}
 use denote.Steps.{nothing, opens, closes, heard}
 use denote.Triple.Clauses.{Ended}
-use denote.Triple.Walked.{Stays, walk_of, says, stay_dropped, stay_ref, Goes-dropped, Goes-ref, ends_at}
-use Rattle.core.proofs.mem.Param.{El, R, args, elτ, one, lawful}
+use denote.Triple.Walked.{Stays, walk_of, stay_dropped, stay_ref, Goes-dropped, Goes-ref}
+use Rattle.core.proofs.mem.Param.{El, R, args, elτ}
 use Rattle.core.proofs.ptr.Rows.{times_below, one_below}
 use Rattle.std.proofs.raw_atomic.Walks.{proved_at, leaves}
 use Rattle.std_alloc.proofs.RawLayout.{as_raw}
