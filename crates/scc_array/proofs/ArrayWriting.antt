@@ -1,12 +1,12 @@
 -- An entry of an array with something written into it.
-use Rattle.std.proofs.Common.{◌≡◌, ℕ, ◌+◌, ◌-◌, ◌<◌, ◌≤◌, List, [], ◌++◌, length, set, get_or, Option, Some, None, nat_lt, true, false, refl, sym, ap, ◌∙◌, arith, rules, length-append}
+use Rattle.std.proofs.Common.{◌≡◌, ℕ, ◌-◌, ◌<◌, ◌≤◌, List, length, set, get_or, Some, nat_lt, true, false, refl, sym, ap, ◌∙◌, arith, rules, length-append}
 use Rattle.std.specs.List.{slice_get}
 use Rattle.std.specs.Vec.{vec_capacity}
 use Rattle.std.specs.declared.vec.Vec.{Vec}
 use Rattle.scc_array.proofs.Gets.{get-is, get-here}
 use Rattle.scc_array.proofs.Joined.{get-later}
-use Rattle.scc_array.proofs.Shelves.{window-within, slots-are, spilled-there, list-is, seen-window, seen-list}
-use Rattle.scc_array.specs.Shelves.{shelf_of, spilled, shelf_at, shelves, IsArray}
+use Rattle.scc_array.proofs.Shelves.{slots-are, spilled-there, list-is, seen-window, seen-list}
+use Rattle.scc_array.specs.Shelves.{shelf_of, shelves, IsArray}
 use Rattle.scc_array.specs.Windows.{Window, window_of, written_over}
 use Rattle.scc_bucket.proofs.Lists.{get-left}
 use Rattle.scc_bucket.proofs.Writing.{set-write_at}

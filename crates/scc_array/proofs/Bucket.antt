@@ -1,12 +1,9 @@
 -- What is known of one bucket of columns.
-use Rattle.std.proofs.Common.{◌≡◌, ℕ, zero, suc, ◌+◌, ◌*◌, ◌^◌, ◌<◌, ◌≤◌, List, [], ◌∷◌, ◌++◌, length, set, get_or, Option, Some, None, refl, sym, ap, ◌∙◌, subst, arith, length-set}
-use Rattle.std.proofs.lemmas.List.{get_or-set_same, get_or-set_other}
+use Rattle.std.proofs.Common.{◌≡◌, ℕ, zero, suc, ◌+◌, ◌*◌, ◌^◌, ◌<◌, ◌≤◌, List, [], ◌∷◌, length, get_or, Option, Some, None, sym, ap, ◌∙◌, subst, arith}
 use Rattle.std.specs.List.{slice_get}
-use native.Mathlib.Decide.{dec_lt}
-use Rattle.scc_array.proofs.Counting.{place-used, place-free, tag-used, tag-free, tag-there}
-use Rattle.scc_array.proofs.Gets.{get-end, get-before_end}
-use Rattle.scc_array.proofs.Windows.{length-windows, window-there, windows-changed, columns-changed, same_or_not}
-use Rattle.scc_array.specs.Windows.{Window, empty_window, window_of, window_at, windows, pushed, tag_there, IsPacked, IsColumns}
+use Rattle.scc_array.proofs.Counting.{place-used}
+use Rattle.scc_array.proofs.Windows.{length-windows, window-there}
+use Rattle.scc_array.specs.Windows.{Window, window_of, windows, IsPacked, IsColumns}
 
 -- the columns are seen as ws, and i is the number of a bucket
 module _ {E : Type 0} (rows : List (List ℕ)) (places : List (Option E)) (kept : IsColumns rows places) (ws : List (Window E)) (view : windows rows places ≡ ws) (i : ℕ) (within : i < length ws) where

@@ -1,5 +1,5 @@
 -- How many places a row of tags says are in use, and which of them have a tag.
-use Rattle.std.proofs.Common.{◌≡◌, ◌≢◌, ◌==◌, ℕ, zero, suc, ◌+◌, ◌*◌, ◌<◌, ◌≤◌, Bool, true, false, cond, List, [], ◌∷◌, length, map, get_or, Option, Some, None, refl, sym, ap, ◌∙◌, subst, arith, eq-eqb, eqb}
+use Rattle.std.proofs.Common.{◌≡◌, ◌==◌, ℕ, zero, suc, ◌+◌, ◌*◌, ◌<◌, ◌≤◌, Bool, true, false, cond, List, [], length, map, get_or, Option, Some, None, refl, sym, ap, ◌∙◌, subst, arith, eq-eqb}
 use Rattle.std.proofs.lemmas.Bool.{eqb-true}
 use Rattle.std.proofs.lemmas.List.{get_or-map, length-map, get_or_past}
 use Rattle.std.proofs.lemmas.Nat.Bits.{bit_at-zero}
@@ -8,8 +8,8 @@ use Rattle.std.specs.Int.{bit_at}
 use Rattle.std.specs.List.{slice_get}
 use lib.Lanes.{mask_l}
 use native.Mathlib.Decide.{dec_lt}
-use Rattle.scc_array.proofs.Gets.{get-past, get-some, get-none}
-use Rattle.scc_array.specs.Windows.{tag_there, tag_at, IsPacked}
+use Rattle.scc_array.proofs.Gets.{get-past, get-some}
+use Rattle.scc_array.specs.Windows.{tag_there, IsPacked}
 
 abbrev pub same_mask : ℕ → List ℕ → ℕ
 same_mask t row = mask_l (map (λ x. x == t) row)

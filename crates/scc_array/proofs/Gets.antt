@@ -1,7 +1,6 @@
 -- A changed list, seen at one place.
-use Rattle.std.proofs.Common.{◌≡◌, ◌≢◌, ℕ, zero, suc, ◌+◌, ◌-◌, ◌<◌, ◌≤◌, List, [], ◌∷◌, ◌++◌, length, take, set, get_or, Some, None, refl, sym, ap, ◌∙◌, subst, arith, length-set}
+use Rattle.std.proofs.Common.{◌≡◌, ◌≢◌, ℕ, zero, suc, ◌-◌, ◌<◌, ◌≤◌, List, [], ◌∷◌, ◌++◌, length, take, set, get_or, Some, None, refl, sym, ap, ◌∙◌, arith, length-set}
 use Rattle.std.specs.List.{slice_get, swap_remove, remove}
-use native.Mathlib.Decide.{dec_lt}
 
 module _ {X : Type 0} where
   pub get-past : (xs : List X) (i : ℕ) → length xs ≤ i → slice_get xs i ≡ None

@@ -1,13 +1,12 @@
 -- An entry at the end of the list past the places of a bucket.
-use Rattle.std.proofs.Common.{◌≡◌, ℕ, ◌+◌, ◌<◌, ◌≤◌, List, [], ◌∷◌, ◌++◌, length, set, Option, Some, None, Result, Ok, Err, refl, sym, ap, ◌∙◌, arith}
+use Rattle.std.proofs.Common.{◌≡◌, ℕ, ◌+◌, ◌<◌, List, [], ◌∷◌, ◌++◌, length, set, Result, Ok, Err, refl, sym, ap, ◌∙◌, arith}
 use Rattle.std.proofs.lemmas.List.{set-get_or}
 use Rattle.std.specs.Prelude.{IfOk, IfErr}
-use Rattle.std.specs.List.{slice_get}
 use Rattle.std.specs.Vec.{vec_capacity}
 use Rattle.std.specs.declared.vec.Vec.{Vec}
-use Rattle.scc_array.proofs.Shelves.{window-within, list-is, overflow-is, seen-list, own-room, opened-view, opened-count}
+use Rattle.scc_array.proofs.Shelves.{window-within, list-is, seen-list, own-room, opened-view, opened-count}
 use Rattle.scc_array.specs.Lists.{Opens, Pushes}
-use Rattle.scc_array.specs.Shelves.{shelf_of, spilled, shelf_at, shelves, IsArray}
+use Rattle.scc_array.specs.Shelves.{shelf_of, spilled, shelves, IsArray}
 use Rattle.scc_array.specs.Windows.{Window, window_of}
 use Rattle.scc_bucket.specs.Shelf.{Shelf, with_overflow}
 

@@ -1,11 +1,10 @@
 -- Columns, bucket by bucket.
-use Rattle.std.proofs.Common.{◌≡◌, ◌≢◌, ℕ, ◌+◌, ◌*◌, ◌^◌, ◌<◌, ◌≤◌, ◌⊎◌, List, [], ◌∷◌, length, map, set, get_or, Option, Some, None, refl, sym, ap, ◌∙◌, subst, inl, inr, arith, length-set}
+use Rattle.std.proofs.Common.{◌≡◌, ◌≢◌, ℕ, ◌+◌, ◌*◌, ◌^◌, ◌<◌, ◌≤◌, ◌⊎◌, List, [], length, set, get_or, Option, None, sym, ap, ◌∙◌, subst, inl, inr, arith, length-set}
 use Rattle.std.proofs.lemmas.List.{ext_get_or, get_or-set_same, get_or-set_other}
 use Rattle.std.proofs.lemmas.List.FromFn.{get_or-map-range_with_len, length-map-range_with_len}
-use Rattle.std.specs.List.{slice_get, range_with_len}
 use native.Mathlib.Decide.{dec_lt}
 use Rattle.scc_array.proofs.Gathering.{gather-is}
-use Rattle.scc_array.specs.Windows.{Window, empty_window, window_of, gather, place_at, tag_at, window_at, windows, IsPacked, IsColumns}
+use Rattle.scc_array.specs.Windows.{Window, empty_window, window_of, place_at, tag_at, window_at, windows, IsPacked, IsColumns}
 
 pub same_or_not : (a b : ℕ) → (a ≡ b) ⊎ (a ≢ b)
 same_or_not a b = elim (dec_lt a b) [

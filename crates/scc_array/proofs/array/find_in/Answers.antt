@@ -1,4 +1,4 @@
-use Rattle.std.proofs.Common.{◌≡◌, ◌<◌, ◌≤◌, arith, rules, ℕ, length, get_or, true, sym, ap, ◌∙◌, subst}
+use Rattle.std.proofs.Common.{◌≡◌, rules, true, sym, ap, ◌∙◌, subst}
 use Rattle.scc_bucket.proofs.Search.{position_is, none_is}
 use Rattle.scc_array.proofs.array.find_in.Goals as goal
 

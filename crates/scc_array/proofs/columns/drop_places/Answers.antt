@@ -1,6 +1,5 @@
-use Rattle.std.proofs.Common.{◌≡◌, ◌≢◌, ◌<◌, ◌≤◌, ◌+◌, ◌*◌, ◌/◌, ◌%◌, arith, rules, ℕ, length, get_or, set, Option, None, Some, sym, ap, ◌∙◌, subst, refl, inl, inr, length-set}
+use Rattle.std.proofs.Common.{arith, length, get_or, set, None, ap, ◌∙◌, inl, inr, length-set}
 use Rattle.std.proofs.lemmas.List.{get_or-set_same, get_or-set_other}
-use native.Mathlib.Decide.{dec_lt}
 use Rattle.scc_array.proofs.Drained.{used-filled, unused-free}
 use Rattle.scc_array.proofs.Windows.{same_or_not}
 use Rattle.scc_array.proofs.columns.drop_places.Goals as goal

@@ -1,4 +1,4 @@
-use Rattle.std.proofs.Common.{◌≡◌, ◌+◌, ◌<◌, ◌≤◌, arith, ◌∙◌, inr}
+use Rattle.std.proofs.Common.{◌+◌, arith, ◌∙◌, inr}
 use Rattle.scc_array.proofs.shifts.close_places.Goals as goal
 
 pub move_place-requires-clause-from : goal.move_place-requires-clause-from

@@ -1,4 +1,4 @@
-use Rattle.std.proofs.Common.{◌≡◌, ◌+◌, ◌<◌, ◌≤◌, ◌⊎◌, ℕ, length, get_or, None}
+use Rattle.std.proofs.Common.{None}
 use Rattle.scc_array.proofs.shifts.close_places.Given as goal
 use Rattle.scc_array.specs.Shifts.{Closes}
 

@@ -1,6 +1,5 @@
 use Rattle.std.proofs.Common.{◌≡◌, ◌+◌, ◌<◌, ◌≤◌, ◌⊎◌, ℕ, length, get_or}
 use Rattle.scc_array.proofs.shifts.close_tags.Given as goal
-use Rattle.scc_array.specs.Shifts.{Closes}
 
 abbrev pub invariant-loop-p : goal.invariant-loop-p
 invariant-loop-p l = record {

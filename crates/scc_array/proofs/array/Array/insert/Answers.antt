@@ -1,9 +1,9 @@
-use Rattle.std.proofs.Common.{◌≡◌, ◌≢◌, ◌≤◌, ◌<◌, ◌+◌, ◌-◌, ◌++◌, arith, ℕ, List, [], ◌∷◌, length, set, Option, Some, None, Bool, true, false, nat_lt, refl, sym, ap, ◌∙◌, subst, rules, length-append}
-use Rattle.scc_array.proofs.ListPushing.{opened-within, list-pushed-ok, list-pushed-err, same-room, and-third}
-use Rattle.scc_array.proofs.Shelves.{window-within, shelf-is, slots-are, length-shelves, seen-window, own-room}
-use Rattle.scc_array.specs.Shelves.{shelf_of, spilled, spare}
+use Rattle.std.proofs.Common.{◌≡◌, ◌≤◌, ◌<◌, ◌+◌, arith, length, set, true, false, nat_lt, refl, sym, ap, ◌∙◌, rules, length-append}
+use Rattle.scc_array.proofs.ListPushing.{and-third}
+use Rattle.scc_array.proofs.Shelves.{window-within, slots-are, seen-window, own-room}
+use Rattle.scc_array.specs.Shelves.{shelf_of}
 use Rattle.scc_array.specs.Windows.{window_of, pushed}
-use Rattle.scc_bucket.specs.Shelf.{Shelf, shelf_entries, with_slot, with_overflow, with_entry, next_place}
+use Rattle.scc_bucket.specs.Shelf.{shelf_entries, with_slot}
 use Rattle.scc_array.proofs.array.Array.insert.Goals as goal
 
 pub count-count-requires : goal.count-count-requires

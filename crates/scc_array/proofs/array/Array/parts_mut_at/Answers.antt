@@ -1,6 +1,6 @@
-use Rattle.std.proofs.Common.{◌≡◌, ◌≤◌, ◌<◌, ◌+◌, ◌-◌, arith, ℕ, List, length, set, get_or, Option, Some, refl, sym, ap, ◌∙◌, rules}
+use Rattle.std.proofs.Common.{◌≤◌, ◌<◌, ◌-◌, arith, length, refl}
 use Rattle.std.specs.Vec.{with_item}
-use Rattle.scc_array.proofs.ArrayWriting.{place-got, place-written, in-list, list-there, list-long, list-got, list-written}
+use Rattle.scc_array.proofs.ArrayWriting.{place-got, place-written, list-there, list-long, list-got, list-written}
 use Rattle.scc_array.proofs.Shelves.{window-within, list-read}
 use Rattle.scc_array.specs.Windows.{window_of}
 use Rattle.scc_array.proofs.array.Array.parts_mut_at.Goals as goal

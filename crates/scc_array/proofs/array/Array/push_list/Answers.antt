@@ -1,9 +1,4 @@
-use Rattle.std.proofs.Common.{◌≡◌, ◌≢◌, ◌≤◌, ◌<◌, ◌+◌, ◌-◌, ◌++◌, arith, ℕ, List, [], ◌∷◌, length, set, Option, Some, None, Bool, true, false, nat_lt, refl, sym, ap, ◌∙◌, subst, rules, length-append}
-use Rattle.scc_array.proofs.ListPushing.{opened-within, list-pushed-ok, list-pushed-err, same-room}
-use Rattle.scc_array.proofs.Shelves.{window-within, shelf-is, slots-are, length-shelves, seen-window, own-room}
-use Rattle.scc_array.specs.Shelves.{shelf_of, spilled, spare}
-use Rattle.scc_array.specs.Windows.{window_of, pushed}
-use Rattle.scc_bucket.specs.Shelf.{Shelf, shelf_entries, with_slot, with_overflow, with_entry, next_place}
+use Rattle.scc_array.proofs.ListPushing.{opened-within, list-pushed-ok, list-pushed-err}
 use Rattle.scc_array.proofs.array.Array.push_list.Goals as goal
 
 pub push_to-requires : goal.push_to-requires

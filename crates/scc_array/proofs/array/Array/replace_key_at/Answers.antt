@@ -1,10 +1,9 @@
-use Rattle.std.proofs.Common.{◌≡◌, ◌≤◌, ◌<◌, ◌+◌, ◌-◌, arith, ℕ, List, length, set, get_or, Option, Some, refl, sym, ap, ◌∙◌, rules}
-use Rattle.std.specs.Vec.{with_item, vec_capacity}
-use Rattle.scc_array.proofs.ArrayWriting.{place-got, place-written, in-list, list-there, list-long, list-got, list-written}
+use Rattle.std.proofs.Common.{◌≤◌, ◌<◌, ◌-◌, arith, length, set, refl, ap, ◌∙◌}
+use Rattle.std.specs.Vec.{with_item}
+use Rattle.scc_array.proofs.ArrayWriting.{place-got, place-written, list-there, list-long, list-got, list-written}
 use Rattle.scc_array.proofs.Shelves.{window-within, list-read}
 use Rattle.scc_array.specs.Shelves.{shelves}
 use Rattle.scc_array.specs.Windows.{window_of, written_over}
-use Rattle.scc_bucket.specs.ShelfWrites.{put_whole}
 use Rattle.scc_array.proofs.array.Array.replace_key_at.Goals as goal
 
 pub count-count-requires : goal.count-count-requires

@@ -1,10 +1,9 @@
-use Rattle.std.proofs.Common.{◌≡◌, ◌≢◌, ◌≤◌, ◌<◌, ◌+◌, ◌-◌, ◌*◌, ◌^◌, ◌++◌, arith, ℕ, List, [], ◌∷◌, length, set, get_or, Option, Some, None, Bool, true, false, nat_lt, refl, sym, ap, ◌∙◌, subst, rules, length-append}
-use Rattle.std.specs.List.{slice_get, position, swap_remove}
+use Rattle.std.proofs.Common.{◌≡◌, [], length, Some, None, Bool, sym, ap, ◌∙◌, subst}
+use Rattle.std.specs.List.{position}
 use Rattle.scc_array.proofs.Joined.{position-joined, or_later}
-use Rattle.scc_array.proofs.Shelves.{window-within, shelf-is, slots-are, overflow-is, list-within, spilled-there, list-is, length-shelves, no-list, some-list, empty-list, list-read}
-use Rattle.scc_array.specs.Shelves.{shelf_of, spilled, spare, shelf_at}
-use Rattle.scc_array.specs.Windows.{window_of, IsTagged}
-use Rattle.scc_bucket.specs.Shelf.{Shelf, shelf_entries, empty_shelf, HasTag}
+use Rattle.scc_array.proofs.Shelves.{window-within, shelf-is, slots-are, overflow-is, no-list, empty-list}
+use Rattle.scc_array.specs.Shelves.{shelf_of}
+use Rattle.scc_bucket.specs.Shelf.{Shelf, HasTag}
 use Rattle.scc_array.proofs.array.Array.search.Goals as goal
 
 pub find-requires-clause-bucket : goal.find-requires-clause-bucket

@@ -1,13 +1,13 @@
-use Rattle.std.proofs.Common.{◌≡◌, ◌≢◌, ◌≤◌, ◌<◌, ◌+◌, ◌-◌, ◌*◌, ◌^◌, ◌++◌, arith, ℕ, List, [], ◌∷◌, length, set, get_or, Option, Some, None, Bool, true, false, nat_lt, refl, sym, ap, ◌∙◌, subst, rules, length-append}
-use Rattle.std.specs.List.{slice_get, position, swap_remove}
+use Rattle.std.proofs.Common.{◌≡◌, ◌≤◌, ◌<◌, ◌-◌, arith, length, Some, true, false, nat_lt, refl, sym, ap, ◌∙◌, rules, length-append}
+use Rattle.std.specs.List.{slice_get, swap_remove}
 use Rattle.std.specs.Vec.{vec_capacity}
-use Rattle.scc_array.proofs.Gets.{get-is, get-within, get-here}
-use Rattle.scc_array.proofs.Joined.{position-joined, or_later, get-later}
+use Rattle.scc_array.proofs.Gets.{get-here}
+use Rattle.scc_array.proofs.Joined.{get-later}
 use Rattle.scc_bucket.proofs.Lists.{get-left}
-use Rattle.scc_array.proofs.Shelves.{window-within, shelf-is, slots-are, overflow-is, list-within, spilled-there, list-is, length-shelves, seen-window, seen-list, no-list, some-list, empty-list, list-read}
-use Rattle.scc_array.specs.Shelves.{shelf_of, spilled, spare}
+use Rattle.scc_array.proofs.Shelves.{window-within, slots-are, spilled-there, list-is, seen-window, seen-list, list-read}
+use Rattle.scc_array.specs.Shelves.{shelf_of}
 use Rattle.scc_array.specs.Windows.{window_of, popped_over}
-use Rattle.scc_bucket.specs.Shelf.{Shelf, shelf_entries, empty_shelf, swapped_out}
+use Rattle.scc_bucket.specs.Shelf.{swapped_out}
 use Rattle.scc_array.proofs.array.Array.swap_remove_at.Goals as goal
 
 pub count-count-requires : goal.count-count-requires

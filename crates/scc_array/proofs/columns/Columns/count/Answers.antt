@@ -1,4 +1,4 @@
-use Rattle.std.proofs.Common.{◌≡◌, ◌≤◌, ap, ◌∙◌, sym, subst, length, arith, rules, List, ℕ, [], get_or}
+use Rattle.std.proofs.Common.{◌≡◌, ap, ◌∙◌, sym, subst, arith, [], get_or}
 use Rattle.std.specs.Int.{bit_at}
 use Rattle.scc_array.proofs.Bucket.{packed-there, row-wide, row-within, row-read}
 use Rattle.scc_array.proofs.Counting.{same_mask, full-count, lowest-count}

@@ -1,4 +1,4 @@
-use Rattle.std.proofs.Common.{◌≡◌, ◌≤◌, ◌<◌, ◌+◌, ◌*◌, ◌^◌, arith, ℕ}
+use Rattle.std.proofs.Common.{arith}
 use Rattle.scc_array.proofs.Bucket.{packed-there, number-small, filled-there, entry-there}
 use Rattle.scc_array.proofs.columns.Columns.entry_at.Goals as goal
 

@@ -1,4 +1,4 @@
-use Rattle.std.proofs.Common.{◌≡◌, ◌≤◌, ◌<◌, ◌+◌, ◌*◌, ◌^◌, arith, ℕ, set, refl, ap, ◌∙◌}
+use Rattle.std.proofs.Common.{arith, set, refl, ap, ◌∙◌}
 use Rattle.scc_array.proofs.Bucket.{packed-there, row-within, number-small, filled-there, entry-there}
 use Rattle.scc_array.proofs.WritingOver.{windows-written, columns-written}
 use Rattle.scc_array.proofs.columns.Columns.entry_mut.Goals as goal

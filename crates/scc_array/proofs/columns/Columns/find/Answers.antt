@@ -1,9 +1,8 @@
-use Rattle.std.proofs.Common.{◌≡◌, ◌<◌, ◌++◌, Some, None, rules, sym, ap, ◌∙◌, length, subst, get_or, true, false, [], append-nil, Bool, ℕ, arith}
-use Rattle.std.specs.List.{position}
+use Rattle.std.proofs.Common.{◌≡◌, rules, sym, ap, ◌∙◌, subst, true, false, [], append-nil}
 use Rattle.scc_array.proofs.Gets.{get-is}
 use Rattle.scc_array.proofs.columns.Columns.find.Goals as goal
 use Rattle.scc_array.specs.Windows.{window_of}
-use Rattle.scc_bucket.proofs.Search.{hits_next, missed_slots, found_slot, none_is, MissedBelow}
+use Rattle.scc_bucket.proofs.Search.{hits_next, missed_slots, found_slot, none_is}
 
 pub returns-then-eq : goal.returns-then-eq
 returns-then-eq g c =

@@ -1,4 +1,4 @@
-use Rattle.std.proofs.Common.{◌≡◌, ◌<◌, ℕ, length, slice_index_or}
+use Rattle.std.proofs.Common.{◌≡◌, ◌<◌, ℕ, length}
 use Rattle.std.specs.Int.{bit_at}
 use Rattle.scc_array.proofs.columns.Columns.find.Given as goal
 use Rattle.scc_array.specs.Windows.{window_of}

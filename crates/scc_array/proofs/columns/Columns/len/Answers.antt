@@ -1,4 +1,4 @@
-use Rattle.std.proofs.Common.{◌≡◌, ap, ◌∙◌, sym, length, arith}
+use Rattle.std.proofs.Common.{ap, ◌∙◌, sym, length}
 use Rattle.scc_array.proofs.Windows.{length-windows}
 use Rattle.scc_array.proofs.columns.Columns.len.Goals as goal
 

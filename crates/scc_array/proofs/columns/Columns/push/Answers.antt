@@ -1,9 +1,9 @@
-use Rattle.std.proofs.Common.{◌≡◌, ◌≤◌, ◌<◌, ◌+◌, ◌*◌, ◌^◌, arith, ℕ, List, [], set, get_or, Option, Some, None, length, refl, sym, ap, ◌∙◌, subst}
+use Rattle.std.proofs.Common.{◌≡◌, arith, set, length, ap, ◌∙◌}
 use Rattle.scc_array.proofs.Bucket.{packed-there, number-small, row-within, row-read, place-within}
 use Rattle.scc_array.proofs.Counting.{place-free}
 use Rattle.scc_array.proofs.Pushing.{windows-pushed, columns-pushed}
 use Rattle.scc_array.proofs.columns.Columns.push.Goals as goal
-use Rattle.scc_array.specs.Windows.{windows, IsColumns, window_of, pushed}
+use Rattle.scc_array.specs.Windows.{window_of, pushed}
 
 pub index_mut-row-requires : goal.index_mut-row-requires
 index_mut-row-requires g c = let l = row-within c.self.inside.tags.items c.self.inside.slots c.self.invariant c.args.self.now c.self.view_is c.args.bucket c.requires.bucket in omega (arith, c.self.inside.tags.ok.0)

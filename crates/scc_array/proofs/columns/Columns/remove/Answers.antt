@@ -1,6 +1,6 @@
-use Rattle.std.proofs.Common.{◌≡◌, ◌≢◌, ◌≤◌, ◌<◌, ◌+◌, ◌-◌, ◌*◌, ◌^◌, arith, ℕ, List, [], length, set, get_or, Option, Some, None, refl, sym, ap, ◌∙◌, subst, rules}
+use Rattle.std.proofs.Common.{◌≡◌, ◌+◌, ◌-◌, ◌*◌, arith, [], length, set, get_or, None, ap, ◌∙◌}
 use Rattle.std.proofs.lemmas.List.{get_or-set_other}
-use Rattle.scc_array.proofs.Bucket.{packed-there, row-within, row-read, number-small, place-within, filled-there, entry-there}
+use Rattle.scc_array.proofs.Bucket.{packed-there, row-within, row-read, number-small, filled-there, entry-there}
 use Rattle.scc_array.proofs.Shifting.{windows-shifted, columns-shifted}
 use Rattle.scc_array.proofs.columns.Columns.remove.Goals as goal
 use Rattle.scc_array.specs.Shifts.{Closes}

@@ -1,4 +1,4 @@
-use Rattle.std.proofs.Common.{◌≡◌, ◌≢◌, ◌≤◌, ◌<◌, ◌+◌, ◌-◌, ◌*◌, ◌^◌, arith, ℕ, List, [], length, set, get_or, Option, Some, None, refl, sym, ap, ◌∙◌, subst, rules}
+use Rattle.std.proofs.Common.{◌≡◌, ◌+◌, ◌-◌, ◌*◌, arith, length, set, get_or, Some, None, sym, ap, ◌∙◌, subst}
 use Rattle.std.proofs.lemmas.List.{get_or-set_other}
 use Rattle.scc_array.proofs.Bucket.{packed-there, row-within, row-read, number-small, filled-there, entry-there}
 use Rattle.scc_array.proofs.Swapping.{windows-last, columns-last, windows-over, columns-over}

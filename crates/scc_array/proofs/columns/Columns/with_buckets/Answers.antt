@@ -1,5 +1,5 @@
-use Rattle.std.proofs.Common.{◌≡◌, ◌≤◌, ◌<◌, ◌+◌, ◌*◌, ◌^◌, arith, ℕ, List, [], replicate, Option, Some, None, length, refl, sym, ap, ◌∙◌, subst, rules}
-use Rattle.scc_array.proofs.Empty.{windows-empty, columns-empty, blank, blank-cloned}
+use Rattle.std.proofs.Common.{◌≡◌, replicate}
+use Rattle.scc_array.proofs.Empty.{windows-empty, columns-empty, blank-cloned}
 use Rattle.scc_array.proofs.columns.Columns.with_buckets.Goals as goal
 
 pub invariant_of-result : goal.invariant_of-result
