@@ -1,0 +1,15 @@
+pub mod ArrayWriting
+pub mod Bucket
+pub mod Counting
+pub mod Drained
+pub mod Empty
+pub mod Gathering
+pub mod Gets
+pub mod Joined
+pub mod ListPushing
+pub mod Pushing
+pub mod Shelves
+pub mod Shifting
+pub mod Swapping
+pub mod Windows
+pub mod WritingOver

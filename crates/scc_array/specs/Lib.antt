@@ -1,0 +1,6 @@
+pub mod LendsArray
+pub mod LendsColumns
+pub mod Lists
+pub mod Shelves
+pub mod Shifts
+pub mod Windows

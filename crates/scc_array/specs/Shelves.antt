@@ -1,0 +1,32 @@
+-- The buckets of an array: their places, and the lists of the entries past them.
+use Rattle.std.specs.Prelude.{◌≡◌, ℕ, ◌⊎◌, List, [], length, map, slice_get, slice_index_or, Option, Some, None}
+use Rattle.std.specs.List.{range_with_len}
+use Rattle.std.specs.Vec.{vec_capacity}
+use Rattle.std.specs.declared.vec.Vec.{Vec}
+use Rattle.scc_array.specs.Windows.{Window, window_of}
+use Rattle.scc_bucket.specs.Shelf.{Shelf, empty_shelf}
+
+-- the bucket of that number
+abbrev pub shelf_of : {E : Type 0} → List (Shelf E) → ℕ → Shelf E
+shelf_of bs i = slice_index_or bs i empty_shelf
+
+module _ {E A : Type 0} where
+  -- the entries of a list, and how many it has room for; none where there is no list
+  abbrev pub spilled : Option (Vec E A) → List E
+  spilled None = []
+  spilled (Some v) = v.items
+
+  abbrev pub spare : Option (Vec E A) → ℕ
+  spare None = 0
+  spare (Some v) = vec_capacity v
+
+  module _ (ws : List (Window E)) (os : List (Vec E A)) where
+    abbrev pub shelf_at : ℕ → Shelf E
+    shelf_at i = record { slots = (window_of ws i).slots; tags = (window_of ws i).tags; overflow = spilled (slice_get os i); room = spare (slice_get os i) }
+
+    abbrev pub shelves : List (Shelf E)
+    shelves = map shelf_at (range_with_len 0 (length ws))
+
+    -- there are no lists yet, or one for each bucket
+    pub record IsArray : Type 0 where
+      pub lists : (os ≡ []) ⊎ (length os ≡ length ws)

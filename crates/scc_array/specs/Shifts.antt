@@ -1,0 +1,9 @@
+-- A list in which what follows a gap has moved up by one place.
+use Rattle.std.specs.Prelude.{◌≡◌, ℕ, ◌+◌, ◌<◌, ◌≤◌, ◌⊎◌, List, length, slice_index_or}
+
+-- from the gap to the last place each has what came next; the last one has d; the others are as they were
+pub record Closes {X : Type 0} (d : X) (xs : List X) (gap last : ℕ) (ys : List X) : Type 0 where
+  pub count : length ys ≡ length xs
+  pub moved : (q : ℕ) → gap ≤ q → q < last → slice_index_or ys q d ≡ slice_index_or xs (q + 1) d
+  pub end : slice_index_or ys last d ≡ d
+  pub others : (q : ℕ) → (q < gap) ⊎ (last < q) → slice_index_or ys q d ≡ slice_index_or xs q d

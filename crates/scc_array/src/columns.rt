@@ -1,0 +1,209 @@
+//! Two columns: a row of 32 tags for each bucket, and 32 places for entries. The entries of a bucket lie in the first of its places, and the tag of a free place is 0.
+ghost use Rattle.std.specs.Prelude.{◌≡◌, ◌^◌, ◌≤◌, ◌<◌, ◌↔◌, ℕ, Some, length, replicate, slice_set, IfOk, IsTrue, slice_get, slice_index, []};
+ghost use Rattle.std.specs.Borrow.{sem};
+ghost use Rattle.std.specs.Int.{bit_at};
+ghost use Rattle.std.specs.List.{position};
+ghost use Rattle.scc_array.specs.Windows.{empty_window, window_of, pushed, popped_over, shifted_out, IsColumns, IsTagged};
+ghost use Rattle.scc_slots.specs.Places.{IsDrained};
+
+use crate::shifts::{close_places, close_tags};
+use scc_bucket::Keyed;
+use scc_bucket::tags::{lowest_bit, tag_mask, without_lowest_bit};
+use scc_slots::SlotBlock;
+use std::alloc::{AllocError, Global};
+use std::marker::Model;
+
+/// Buckets of 32 places. A contract sees the entries of each bucket, and their tags.
+pub struct Columns<E> {
+    tags: Vec<[u8; 32]>,
+    slots: SlotBlock<E>,
+}
+
+impl<E> Model for Columns<E> {
+    ghost use Rattle.std.specs.Prelude.{List};
+    ghost use Rattle.std.specs.Coded.{coded_list};
+    ghost use Rattle.scc_array.specs.Windows.{Window, window_code, windows, IsColumns};
+
+    ghost Value = { List (Window E) };
+
+    ghost coded = { coded_list (window_code E.code) };
+
+    ghost view = { λ c. windows c.tags.items c.slots };
+
+    ghost invariant = { λ c. IsColumns c.tags.items c.slots };
+}
+
+impl<E> Columns<E> {
+    /// So many empty buckets.
+    pub fn with_buckets(alloc: Global, count: usize) -> Result<Columns<E>, AllocError>
+        requires { count ≤ 2 ^ 58 }
+        ensures { IfOk result (λ c. c ≡ replicate count empty_window) }
+    {
+        let slots = SlotBlock::with_places(alloc, 32 * count)?;
+        match vec![in alloc; [0u8; 32]; count] {
+            Ok(tags) => Ok(Columns { tags, slots }),
+            Err(e) => {
+                slots.destroy_empty();
+                Err(e)
+            }
+        }
+    }
+
+    /// The number of buckets.
+    #[inline(always)]
+    pub fn len(&self) -> usize
+        ensures count { result ≡ length self.now }
+        ensures most { result ≤ 2 ^ 58 }
+    {
+        self.tags.len()
+    }
+
+    /// How many entries the bucket has.
+    #[inline(always)]
+    pub fn count(&self, bucket: usize) -> usize
+        requires { bucket < length self.now }
+        ensures count { result ≡ length (window_of self.now bucket).slots }
+        ensures most { result ≤ 32 }
+    {
+        let free = tag_mask(&self.tags[bucket], 0);
+        if free == 0 { 32 } else { lowest_bit(free) }
+    }
+
+    /// The entry at a place.
+    #[inline(always)]
+    pub fn entry_at(&self, bucket: usize, place: usize) -> &E
+        requires bucket { bucket < length self.now }
+        requires place { place < length (window_of self.now bucket).slots }
+        ensures { slice_get (window_of self.now bucket).slots place ≡ Some result.now }
+    {
+        self.slots.get(32 * bucket + place)
+    }
+
+    /// The places of the bucket with that tag, a bit each.
+    #[inline(always)]
+    fn hits(&self, bucket: usize, tag: u8) -> u32
+        requires bucket { bucket < length self.now }
+        requires tag { 0 < tag }
+        ensures all { (j : ℕ) → j < length (window_of self.now bucket).slots → slice_index (window_of self.now bucket).tags j ≡ tag → bit_at result j ≡ 1 }
+        ensures only { (j : ℕ) → bit_at result j ≡ 1 → j < length (window_of self.now bucket).slots }
+    {
+        tag_mask(&self.tags[bucket], tag)
+    }
+
+    /// The entry stands in the next place, which is free.
+    #[inline(always)]
+    pub fn push(&mut self, bucket: usize, entry: E, tag: u8)
+        requires bucket { bucket < length self.old }
+        requires room { length (window_of self.old bucket).slots < 32 }
+        requires tag { 0 < tag }
+        ensures { self.new ≡ slice_set self.old bucket (pushed (window_of self.old bucket) entry tag) }
+    {
+        let place = self.count(bucket);
+        let row = &mut self.tags[bucket];
+        row[place] = tag;
+        self.slots.put(32 * bucket + place, entry);
+    }
+}
+
+impl<E> Columns<E> {
+    ghost use Rattle.scc_array.specs.LendsColumns.{lends_slot};
+
+    /// Takes an entry out. The last one of its bucket takes its place.
+    #[inline(always)]
+    pub fn swap_remove(&mut self, bucket: usize, place: usize) -> E
+        requires bucket { bucket < length self.old }
+        requires place { place < length (window_of self.old bucket).slots }
+        ensures entry { slice_get (window_of self.old bucket).slots place ≡ Some result }
+        ensures others { self.new ≡ slice_set self.old bucket (popped_over (window_of self.old bucket) place result) }
+    {
+        let last = self.count(bucket) - 1;
+        let row = &mut self.tags[bucket];
+        let tag = row[last];
+        row[place] = tag;
+        row[last] = 0;
+        let base = 32 * bucket;
+        let end = self.slots.take(base + last);
+        if place == last {
+            return end;
+        }
+        self.slots.replace(base + place, end)
+    }
+
+    /// Takes an entry out. Those after it move up by one place.
+    pub fn remove(&mut self, bucket: usize, place: usize) -> E
+        requires bucket { bucket < length self.old }
+        requires place { place < length (window_of self.old bucket).slots }
+        ensures entry { slice_get (window_of self.old bucket).slots place ≡ Some result }
+        ensures others { self.new ≡ slice_set self.old bucket (shifted_out (window_of self.old bucket) place) }
+    {
+        let last = self.count(bucket) - 1;
+        let base = 32 * bucket;
+        let entry = self.slots.take(base + place);
+        close_places(&mut self.slots, base + place, base + last);
+        close_tags(&mut self.tags[bucket], place, last);
+        entry
+    }
+
+    /// The entry at a place, to write to.
+    #[inline(always)]
+    pub fn entry_mut(&mut self, bucket: usize, place: usize) -> &mut E
+        requires bucket { bucket < length self.old }
+        requires place { place < length (window_of self.old bucket).slots }
+        ensures* writes_back { sem 𝓛 (lends_slot E.row self.entry bucket place result) }
+        ensures entry { slice_get (window_of self.old bucket).slots place ≡ Some result.now }
+    {
+        self.slots.get_mut(32 * bucket + place)
+    }
+
+    /// Gives the columns back, which hold no entry.
+    pub fn destroy_empty(self)
+        requires { (i : ℕ) → i < length self → (window_of self i).slots ≡ [] }
+    {
+        let Columns { tags: _, slots } = self;
+        slots.destroy_empty();
+    }
+}
+
+impl<E: Keyed> Columns<E>
+where
+    E::Key: Eq,
+{
+    /// The place of the first entry of the bucket with that key. Only places with the tag are compared, in rising order.
+    #[inline(always)]
+    pub fn find(&self, bucket: usize, key: &E::Key, tag: u8) -> Option<usize>
+        requires bucket { bucket < length self.now }
+        requires tag { 0 < tag }
+        requires tagged { IsTagged (λ e. E.Key.eq key.now (E.key_of e)) tag (window_of self.now bucket) }
+        ensures { result ≡ position (λ e. E.Key.eq key.now (E.key_of e)) (window_of self.now bucket).slots }
+    {
+        let mut bits = self.hits(bucket, tag);
+        'hits: while bits != 0 {
+            let place = lowest_bit(bits);
+            if *key == *self.entry_at(bucket, place).key() {
+                return Some(place);
+            }
+            bits = without_lowest_bit(bits);
+        }
+        None
+    }
+}
+
+/// Drops what the places hold whose tag isn't 0.
+fn drop_places<E: Drop>(tags: &[[u8; 32]], slots: &mut SlotBlock<E>)
+    requires { IsColumns tags.now slots.old }
+    ensures { IsDrained slots.new }
+{
+    for p in 0..slots.places() {
+        if tags[p / 32][p % 32] != 0 {
+            drop(slots.take(p));
+        }
+    }
+}
+
+impl<E: Drop> Drop for Columns<E> {
+    fn drop(self) {
+        let Columns { tags, mut slots } = self;
+        drop_places(tags.as_slice(), &mut slots);
+        slots.destroy_empty();
+    }
+}

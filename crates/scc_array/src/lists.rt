@@ -1,0 +1,52 @@
+//! The lists of the entries past the places, one a bucket, which are made with the first such entry.
+ghost use Rattle.std.specs.Prelude.{◌≡◌, ◌<◌, length, IfOk, OnOk, OnErr};
+ghost use Rattle.scc_array.specs.Lists.{AreBare, Opens, Pushes};
+
+use std::alloc::{AllocError, Global};
+use std::mem;
+
+/// So many empty lists, none of which has memory of its own.
+fn bare_lists<E>(alloc: Global, count: usize) -> Result<Vec<Vec<E>>, AllocError>
+    ensures count { IfOk result (λ v. length v.items ≡ count) }
+    ensures bare { IfOk result (λ v. AreBare v.items) }
+{
+    let mut lists = Vec::with_capacity(alloc, count)?;
+    for _ in 0..count {
+        match lists.push(Vec::new(alloc)) {
+            Ok(()) => {}
+            Err(_back) => unreachable!(),
+        }
+    }
+    Ok(lists)
+}
+
+/// Makes so many empty lists where there are none.
+pub(crate) fn open_lists<E>(
+    lists: &mut Vec<Vec<E>>,
+    alloc: Global,
+    count: usize,
+) -> Result<(), AllocError>
+    ensures ok { OnOk result (Opens lists.old.items count lists.new.items) }
+    ensures err { OnErr result (lists.new.items ≡ lists.old.items) }
+{
+    if lists.len() != 0 {
+        return Ok(());
+    }
+    let fresh = bare_lists(alloc, count)?;
+    let none = mem::replace(lists, fresh);
+    none.destroy_empty();
+    Ok(())
+}
+
+/// Puts the entry at the end of a list, and answers its place there after 32 others. It is handed back where memory is refused.
+pub(crate) fn push_to<E>(lists: &mut Vec<Vec<E>>, bucket: usize, entry: E) -> Result<usize, E>
+    requires { bucket < length lists.old.items }
+    ensures { Pushes lists.old.items bucket entry result lists.new.items }
+{
+    let list = &mut lists[bucket];
+    let place = 32 + list.len();
+    match list.push(entry) {
+        Ok(()) => Ok(place),
+        Err(refused) => Err(refused.value),
+    }
+}

@@ -1,0 +1,4 @@
+pub mod Crossing
+pub mod Drained
+pub mod Places
+pub mod Shown

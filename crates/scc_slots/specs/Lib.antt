@@ -1,0 +1,5 @@
+pub mod BlockLends
+pub mod Blocks
+pub mod Owned
+pub mod Places
+pub mod RowLends

@@ -1,0 +1,47 @@
+-- What a row of places and the right to its block own, and what a `&` to a row shows.
+use Rattle.std.specs.Prelude.{ℕ, ◌+◌, ◌*◌, ◌^◌, List, [], ◌∷◌, length, Option, Some, None}
+use Rattle.std.specs.Mem.{type_size}
+use base.Fraction.{full_share}
+use base.Fml.{Lft, Fml, ftrue, ffalse, fsep, flt, froom}
+use mir.Syntax.{Ty, ty_array}
+use mir.Raw.{raw}
+use denote.RattleType.{RattleType}
+use denote.Memory.{lone, part_at, shared_of}
+use denote.Sharing.{nothing, said, beside}
+use denote.RawPtr.{Ptr, block_ptr, null_ptr}
+
+module _ (R : RattleType) (b : ℕ) where
+  -- an entry o bytes into the block, or the room for one
+  abbrev pub place_owns : ℕ → Option R.Denot → Fml
+  place_owns o None = froom (raw (lone R.mir)) b o
+  place_owns o (Some x) = part_at R full_share x b o
+
+  -- the same of each place of a list, one after another
+  abbrev pub places_own : ℕ → List (Option R.Denot) → Fml
+  places_own o [] = ftrue
+  places_own o (c ∷ cs) = fsep (place_owns o c) (places_own (o + type_size R) cs)
+
+  abbrev pub place_shows : ℕ → Option R.Denot → Lft → Fml
+  place_shows o None = nothing
+  place_shows o (Some x) = shared_of R x b o
+
+  abbrev pub places_show : ℕ → List (Option R.Denot) → Lft → Fml
+  places_show o [] = nothing
+  places_show o (c ∷ cs) = beside (place_shows o c) (places_show (o + type_size R) cs)
+
+module _ (R : RattleType) where
+  -- the places have fewer than 2 ^ 63 bytes
+  abbrev pub bounded : List (Option R.Denot) → Fml
+  bounded cs = flt (length cs * type_size R) (2 ^ 63)
+
+  abbrev pub row_owns : Ptr → List (Option R.Denot) → Fml
+  row_owns null_ptr cs = ffalse
+  row_owns (block_ptr b o) cs = fsep (places_own R b o cs) (bounded cs)
+
+  abbrev pub row_shows : Ptr → List (Option R.Denot) → Lft → Fml
+  row_shows null_ptr cs = said ffalse
+  row_shows (block_ptr b o) cs = beside (places_show R b o cs) (said (bounded cs))
+
+  -- what lets the block of n places go back
+  abbrev pub right_owns : (Ty → Ptr → Fml) → Ptr → ℕ → Fml
+  right_owns token start n = token (raw (ty_array (lone R.mir) n)) start

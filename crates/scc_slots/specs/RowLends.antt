@@ -1,0 +1,11 @@
+-- What a row ends as, once a `&mut` to one of its entries has ended.
+use Rattle.std.specs.Prelude.{ℕ, List, slice_set, Option, Some}
+use Rattle.std.specs.Borrow.{Fml, RattleType, MutBor, Lends}
+use Rattle.scc_slots.specs.declared.row.Row.{Row}
+use Rattle.scc_slots.specs.contracts.row.Row.{the_row}
+
+abbrev pub with_places : {X : Type 0} → Row X → List (Option X) → Row X
+with_places row cs = record { of = row.of; start = row.start; places = cs }
+
+abbrev pub lends_place : (R : RattleType) → MutBor (Row R.Denot) → ℕ → MutBor R.Denot → Fml
+lends_place R row i entry = Lends (the_row R) R row entry (λ w. with_places row.now (slice_set row.now.places i (Some w)))

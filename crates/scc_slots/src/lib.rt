@@ -1,0 +1,9 @@
+//! One block of places for entries, seen as a list of options. A place doesn't say whether it is in use: its owner has to know.
+#![tactic(auto)]
+
+mod block;
+mod row;
+
+pub use block::SlotBlock;
+#[doc(hidden)]
+pub use row::{Right, Row, Start};

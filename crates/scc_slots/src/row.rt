@@ -1,0 +1,147 @@
+//! The places themselves, behind a pointer, and the right to give their block back. The only code of the containers that goes by a raw pointer.
+ghost use Rattle.std.specs.Prelude.{◌≡◌, ℕ, ◌<◌, List, Option, Some, None, length, replicate, slice_index_or, slice_set, IfOk};
+ghost use Rattle.std.specs.Borrow.{sem};
+ghost use Rattle.std.specs.Vec.Ownership.{FitsInBlock};
+ghost use base.Fml.{ftrue};
+ghost use denote.RawPtr.{Ptr};
+ghost use Rattle.scc_slots.specs.Owned.{row_owns, row_shows, right_owns};
+ghost use Rattle.scc_slots.specs.Places.{IsFilled, IsVacant};
+
+use std::alloc::{AllocError, Allocator};
+use std::marker::{Model, PhantomData, Send, Sync};
+use std::mem::{align_of, size_of};
+
+/// Where a row begins. It owns nothing.
+pub struct Start<E> {
+    first: *mut E,
+}
+
+impl<E> Clone for Start<E> {
+    ghost is_clone = { λ x y. y ≡ x };
+
+    ghost is_infallible = { λ _. Unit {0} };
+
+    fn clone(&self) -> Result<Start<E>, AllocError> {
+        Ok(*self)
+    }
+}
+
+impl<E> Copy for Start<E> {}
+
+unsafe impl<E> Send for Start<E> {}
+
+unsafe impl<E> Sync for Start<E> {}
+
+/// The owner of each entry that lies in a place, and of the room of each place that is free. It has no bytes.
+pub struct Row<E> {
+    of: PhantomData<*const E>,
+    ghost start: { Ptr },
+    ghost places: { List (Option E) },
+}
+
+impl<E> Model for Row<E> {
+    ghost also_owns = { λ row. row_owns E.row row.start row.places };
+
+    ghost also_shares = { λ row _ κ. row_shows E.row row.start row.places κ };
+}
+
+unsafe impl<E: Send> Send for Row<E> {}
+
+unsafe impl<E: Sync> Sync for Row<E> {}
+
+/// The right to give the block of `count` places at `start` back to `alloc`. It has no bytes.
+pub struct Right<E, A: Allocator> {
+    of: PhantomData<*const (E, A)>,
+    ghost start: { Ptr },
+    ghost count: { ℕ },
+    ghost alloc: { A },
+}
+
+impl<E, A: Allocator> Model for Right<E, A> {
+    ghost also_owns = { λ right. right_owns E.row (A.dealloc_token right.alloc) right.start right.count };
+
+    ghost also_shares = { λ _ _ _. ftrue };
+}
+
+unsafe impl<E, A: Allocator + Send> Send for Right<E, A> {}
+
+// Nothing is reached through a `&` to it.
+unsafe impl<E, A: Allocator> Sync for Right<E, A> {}
+
+/// Asks for `count` places and writes none of them.
+pub(crate) fn obtain<E, A: Allocator>(
+    alloc: &A,
+    count: usize,
+) -> Result<(Start<E>, (Row<E>, Right<E, A>)), AllocError>
+    requires { FitsInBlock E.row count }
+    ensures { IfOk result (λ made. (made.1.0.start ≡ made.0.first) × (made.1.0.places ≡ replicate count None) × (made.1.1.start ≡ made.0.first) × (made.1.1.count ≡ count) × (made.1.1.alloc ≡ alloc.now)) }
+{
+    match alloc.allocate(count * size_of::<E>(), align_of::<E>()) {
+        Err(refused) => Err(refused),
+        Ok(block) => {
+            let start = Start {
+                first: block as *mut E,
+            };
+            Ok((start, (Row { of: PhantomData }, Right { of: PhantomData })))
+        }
+    }
+}
+
+/// Gives the block of `count` free places back.
+pub(crate) fn give_back<E, A: Allocator>(
+    alloc: &A,
+    start: Start<E>,
+    count: usize,
+    row: Row<E>,
+    right: Right<E, A>,
+)
+    requires { (row.start ≡ start.first) × (row.places ≡ replicate count None) × (right.start ≡ start.first) × (right.count ≡ count) × (right.alloc ≡ alloc.now) }
+{
+    let Row { of: _ } = row;
+    let Right { of: _ } = right;
+    unsafe {
+        alloc.deallocate(
+            start.first as *mut u8,
+            count * size_of::<E>(),
+            align_of::<E>(),
+        );
+    }
+}
+
+impl<E> Row<E> {
+    ghost use Rattle.scc_slots.specs.RowLends.{lends_place};
+
+    /// Fills a free place.
+    pub(crate) fn put(&mut self, start: Start<E>, place: usize, entry: E)
+        requires { (start.first ≡ self.old.start) × IsVacant self.old.places place }
+        ensures { (self.new.start ≡ self.old.start) × (self.new.places ≡ slice_set self.old.places place (Some entry)) }
+    {
+        unsafe { start.first.add(place).write(entry) }
+    }
+
+    /// Takes the entry of a place, which is free then.
+    pub(crate) fn take(&mut self, start: Start<E>, place: usize) -> E
+        requires { (start.first ≡ self.old.start) × IsFilled self.old.places place }
+        ensures entry { slice_index_or self.old.places place None ≡ Some result }
+        ensures places { (self.new.start ≡ self.old.start) × (self.new.places ≡ slice_set self.old.places place None) }
+    {
+        unsafe { start.first.add(place).read() }
+    }
+
+    /// The entry of a place.
+    pub(crate) fn get(&self, start: Start<E>, place: usize) -> &E
+        requires { (start.first ≡ self.now.start) × IsFilled self.now.places place }
+        ensures { slice_index_or self.now.places place None ≡ Some result.now }
+    {
+        unsafe { &*start.first.add(place) }
+    }
+
+    /// The entry of a place, to write to.
+    pub(crate) fn get_mut(&mut self, start: Start<E>, place: usize) -> &mut E
+        requires { (start.first ≡ self.old.start) × IsFilled self.old.places place }
+        ensures* writes_back { sem 𝓛 (lends_place E.row self.entry place result) }
+        ensures entry { slice_index_or self.old.places place None ≡ Some result.now }
+    {
+        unsafe { &mut *start.first.add(place) }
+    }
+}
