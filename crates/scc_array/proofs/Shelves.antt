@@ -75,6 +75,9 @@ module _ {E A : Type 0} (ws : List (Window E)) (os : List (Vec E A)) (bs : List 
   pub list-is : (v : Vec E A) → slice_get os b ≡ Some v → v.items ≡ (shelf_of bs b).overflow
   list-is v e = ap spilled (sym e) ∙ overflow-is
 
+  pub room-is : (v : Vec E A) → slice_get os b ≡ Some v → vec_capacity v ≡ (shelf_of bs b).room
+  room-is v e = ap spare (sym e) ∙ ap (λ (s : Shelf E). s.room) (sym shelf-is)
+
 module _ {E A : Type 0} (ws : List (Window E)) (os : List (Vec E A)) (bs : List (Shelf E)) (view : shelves ws os ≡ bs) (b : ℕ) (within : b < length bs) (F : Shelf E → Shelf E) where
   -- F is what happened to the places of the bucket
   pub seen-window : (w : Window E) → F (shelf_at ws os b) ≡ record { slots = w.slots; tags = w.tags; overflow = spilled (slice_get os b); room = spare (slice_get os b) } → shelves (set ws b w) os ≡ set bs b (F (shelf_of bs b))

@@ -1,5 +1,5 @@
 -- Lists that are made with the first entry that needs one.
-use Rattle.std.specs.Prelude.{◌≡◌, ℕ, ◌+◌, ◌<◌, List, [], ◌∷◌, ◌++◌, length, slice_index_or, slice_get, slice_set, Some, Result, Ok, Err}
+use Rattle.std.specs.Prelude.{◌≡◌, ℕ, ◌+◌, ◌<◌, ◌≤◌, List, [], ◌∷◌, ◌++◌, length, slice_index_or, slice_get, slice_set, Some, Result, Ok, Err}
 use Rattle.std.specs.Vec.{vec_capacity}
 use Rattle.std.specs.declared.vec.Vec.{Vec}
 
@@ -13,7 +13,7 @@ module _ {E A : Type 0} where
     were_there : 0 < length os → ds ≡ os → Opens os n ds
     were_made : os ≡ [] → length ds ≡ n → AreBare ds → Opens os n ds
 
-  -- list b has the entry at its end, and the place there after 32 others is the answer; or it has what it had, and the entry is the answer
+  -- list b has the entry at its end, and the place there after 32 others is the answer; or it has what it had, no more room, and the entry is the answer
   abbrev pub Pushes : List (Vec E A) → ℕ → E → Result ℕ E → List (Vec E A) → Type 0
   Pushes os b e (Ok p) ds = (u : Vec E A) × (v : Vec E A) × (slice_get os b ≡ Some u) × (p ≡ 32 + length u.items) × (v.items ≡ u.items ++ e ∷ []) × (ds ≡ slice_set os b v)
-  Pushes os b e (Err x) ds = (x ≡ e) × ((u : Vec E A) × (v : Vec E A) × (slice_get os b ≡ Some u) × (v.items ≡ u.items) × (ds ≡ slice_set os b v))
+  Pushes os b e (Err x) ds = (x ≡ e) × ((u : Vec E A) × (v : Vec E A) × (slice_get os b ≡ Some u) × (v.items ≡ u.items) × (ds ≡ slice_set os b v) × (vec_capacity u ≤ length u.items))

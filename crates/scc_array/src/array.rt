@@ -116,6 +116,7 @@ impl<E> Array<E> {
         requires tag { 0 < tag }
         ensures ok { IfOk result (λ p. (p ≡ next_place (shelf_of self.old bucket)) × (self.new ≡ slice_set self.old bucket (record (with_entry (shelf_of self.old bucket) entry tag) { room = (shelf_of self.new bucket).room }))) }
         ensures err { IfErr result (λ e. (e ≡ entry) × (self.new ≡ slice_set self.old bucket (record (shelf_of self.old bucket) { room = (shelf_of self.new bucket).room })) × (32 ≤ length (shelf_of self.old bucket).slots)) }
+        ensures refused { OnErr result ((shelf_of self.old bucket).room ≤ length (shelf_of self.old bucket).overflow) }
     {
         let count = self.columns.count(bucket);
         if count < 32 {
@@ -131,6 +132,7 @@ impl<E> Array<E> {
         requires bucket { bucket < length self.old }
         ensures ok { IfOk result (λ p. (p ≡ 32 + length (shelf_of self.old bucket).overflow) × (self.new ≡ slice_set self.old bucket (record (with_overflow (shelf_of self.old bucket) entry) { room = (shelf_of self.new bucket).room }))) }
         ensures err { IfErr result (λ e. (e ≡ entry) × (self.new ≡ slice_set self.old bucket (record (shelf_of self.old bucket) { room = (shelf_of self.new bucket).room }))) }
+        ensures refused { OnErr result ((shelf_of self.old bucket).room ≤ length (shelf_of self.old bucket).overflow) }
     {
         match open_lists(&mut self.overflow, self.alloc, self.columns.len()) {
             Ok(()) => {}

@@ -28,6 +28,7 @@ pub(crate) fn open_lists<E>(
 ) -> Result<(), AllocError>
     ensures ok { OnOk result (Opens lists.old.items count lists.new.items) }
     ensures err { OnErr result (lists.new.items ≡ lists.old.items) }
+    ensures none { OnErr result (length lists.old.items ≡ 0) }
 {
     if lists.len() != 0 {
         return Ok(());

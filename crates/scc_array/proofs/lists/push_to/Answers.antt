@@ -1,4 +1,5 @@
-use Rattle.std.proofs.Common.{◌+◌, refl, ap, ◌∙◌}
+use Rattle.std.proofs.Common.{◌≤◌, ◌+◌, length, refl, ap, ◌∙◌, arith}
+use Rattle.std.specs.Vec.{vec_capacity}
 use Rattle.scc_array.proofs.Shelves.{list-read}
 use Rattle.scc_array.proofs.lists.push_to.Goals as goal
 
@@ -12,4 +13,5 @@ pub returns-in-Err : goal.returns-in-Err
 returns-in-Err g c =
     let u = c.index_mut-list.result.now in
     let held = list-read c.args.lists.now.items c.args.bucket u c.requires c.index_mut-list.ensures.value in
-    (c.in-Err.ensures.value_returned, (u, c.push.new.self, held, c.in-Err.ensures.items, refl))
+    let full : vec_capacity u ≤ length u.items = let m = u.ok.0 in let f = c.in-Err.ensures.full in omega arith in
+    (c.in-Err.ensures.value_returned, (u, c.push.new.self, held, c.in-Err.ensures.items, refl, full))
