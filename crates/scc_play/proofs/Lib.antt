@@ -2,4 +2,5 @@ pub mod Answering
 pub mod Listing
 pub mod Telling
 pub mod Assembling
+pub mod Ending
 pub mod Keys

@@ -76,10 +76,7 @@ fn records_in<A: Copy, R: Copy>(histories: &[Vec<Step<A, R>>]) -> Option<usize>
 }
 
 // The contents of all parts, in rising order.
-fn sorted_items<P: Printed + Drop>(
-    alloc: Global,
-    parts: Vec<P>,
-) -> Result<Vec<P::Item>, AllocError>
+fn sorted_items<P: Printed + Drop>(alloc: Global, parts: Vec<P>) -> Result<Vec<P::Item>, AllocError>
     ensures same { IfOk result (λ items. IsPermutation (flat_map P.shown parts.items) items.items) }
     ensures rising { IfOk result (λ items. IsSorted P.Item.cmp items.items) }
 {
