@@ -23,4 +23,4 @@ returns-in-Some-2 g c =
     let crew : length c.args.passes.items ≡ c.args.workers = omega (arith, p, e.complete.0, c.requires.workers) in
     assembled _ _ _ _ c.exact_calls.ensures c.exact_replies.ensures g.P.Calls.setting (λ q. q.log.number) (λ q. q.log.receipts.items) (λ v. v.items)
     g.M.Site.chosen c.args.workers c.args.stripes c.args.calls.now closed.hasher f.parts.items hs f.opened.items f.order.items c.args.passes.items c.in-Some.told.items (string_bytes c.in-Some-2.text) (length f.histories.items)
-    many counted empty crew e.alike e.replays e.routed e.merges e.order e.stamps e.receipts zeros known tells shows
+    many counted empty crew e.alike e.replays e.routed e.merges e.order.0 e.stamps e.receipts zeros known tells shows
