@@ -12,7 +12,7 @@ flat_lists (b ∷ bs) = ap (λ z. shelf_entries b ++ z) (flat_lists bs)
 
 -- what a clause sees of this flag, these buckets and settings
 abbrev pub view_of : {E S : Type 0} → Bool → List (Shelf E) → Settings S → Contents E S
-view_of f bs s = record { lists = map shelf_entries bs; settings = s; refused = f; spilled = spilled_in bs }
+view_of f bs s = record { lists = map shelf_entries bs; settings = s; refused = f; spilled = spilled_in bs; waiting = []; held = [] }
 
 module _ {E S : Type 0} (bs : List (Shelf E)) (s : Settings S) {f : Bool} (c : Contents E S) (view : view_of f bs s ≡ c) where
   pub entries-view : entries c ≡ flat_map shelf_entries bs
