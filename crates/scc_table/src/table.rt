@@ -9,6 +9,7 @@ ghost use Rattle.scc_table.specs.Sizes.{IsLawful};
 mod bounded;
 mod cloning;
 mod edits;
+mod exchange;
 mod growing;
 mod making;
 mod putting;
