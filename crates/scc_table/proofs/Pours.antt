@@ -23,7 +23,7 @@ not_equal a b h = search rules
 pub bound_other : {E : Type 0} (hash : E → ℕ) (t k i : ℕ) (e : E) (es : List E) → i ≢ bucket_number t k (hash e) → bound_for hash t k i (e ∷ es) ≡ bound_for hash t k i es
 bound_other hash t k i e es h = let s : (bucket_number t k (hash e) == i) ≡ false = not_equal _ _ (λ z. h (sym z)) in rw s
 
-room_by : {E : Type 0} (b : Shelf E) → length b.slots ≤ 32 → length b.slots + length b.overflow < 32 + b.room → HasRoom b
+pub room_by : {E : Type 0} (b : Shelf E) → length b.slots ≤ 32 → length b.slots + length b.overflow < 32 + b.room → HasRoom b
 room_by b w h = elim (dec_lt (length b.slots) 32) [ yes q ↦ inl q | no q ↦ inr (omega arith) ]
 
 pub pour_room : {E : Type 0} (hash : E → ℕ) (t k i : ℕ) (old mid : List (Shelf E)) (es ys rest : List E) (e : E) (b : Shelf E) → RoomFor hash t k old es → Poured hash t k old mid ys → es ≡ ys ++ e ∷ rest
@@ -70,7 +70,7 @@ packed_push hash b c e p w = elim (dec_lt (length b.slots) 32) [
       subst (IsPacked hash) (sym v) (record { last = inl (omega arith); tagged = p.tagged; within = p.within })
 ]
 
-extends_push : {E : Type 0} (hash : E → ℕ) (a b c : Shelf E) (e : E) (es : List E) → Extends hash a b es → c ≡ record (with_entry b e (tag_of (hash e))) { room = c.room } → b.room ≤ c.room → Extends hash a c (es ++ e ∷ [])
+pub extends_push : {E : Type 0} (hash : E → ℕ) (a b c : Shelf E) (e : E) (es : List E) → Extends hash a b es → c ≡ record (with_entry b e (tag_of (hash e))) { room = c.room } → b.room ≤ c.room → Extends hash a c (es ++ e ∷ [])
 extends_push hash a b c e es x w more = record {
   entries_are = ap shelf_entries w ∙ entries_push hash b e _ x.packed ∙ ap (λ z. z ++ e ∷ []) x.entries_are ∙ append_assoc (shelf_entries a) es (e ∷ []);
   room = omega (arith, x.room);

@@ -1,8 +1,8 @@
 -- A table's words, by its buckets.
 use Rattle.std.proofs.Common.{◌≡◌, ℕ, ◌<◌, Bool, List, [], ◌∷◌, ◌++◌, length, map, get_or, refl, sym, ap, ◌∙◌}
-use Rattle.std.specs.List.{flat_map}
+use Rattle.std.specs.List.{flat_map, count_by}
 use Rattle.std.proofs.lemmas.List.{get_or-map, length-map}
-use Rattle.scc_table.specs.Contents.{Contents, Settings, entries, bucket_count, settings_of, refused_of, list_of, lists_of, spilled_of}
+use Rattle.scc_table.specs.Contents.{Contents, Settings, entries, bucket_count, settings_of, refused_of, list_of, lists_of, spilled_of, waiting_of, held_of, pending_of}
 use Rattle.scc_table.specs.Tables.{spilled_in}
 use Rattle.scc_bucket.specs.Shelf.{Shelf, shelf_entries}
 
@@ -12,7 +12,7 @@ flat_lists (b ∷ bs) = ap (λ z. shelf_entries b ++ z) (flat_lists bs)
 
 -- what a clause sees of this flag, these buckets and settings
 abbrev pub view_of : {E S : Type 0} → Bool → List (Shelf E) → Settings S → Contents E S
-view_of f bs s = record { lists = map shelf_entries bs; settings = s; refused = f; spilled = spilled_in bs }
+view_of f bs s = record { lists = map shelf_entries bs; settings = s; refused = f; spilled = spilled_in bs; waiting = []; held = [] }
 
 module _ {E S : Type 0} (bs : List (Shelf E)) (s : Settings S) {f : Bool} (c : Contents E S) (view : view_of f bs s ≡ c) where
   pub entries-view : entries c ≡ flat_map shelf_entries bs
@@ -42,3 +42,16 @@ module _ {E S : Type 0} (bs : List (Shelf E)) (s : Settings S) {f : Bool} (c : C
   pub spilled-view : spilled_of c ≡ spilled_in bs
   unfolding spilled_of
   spilled-view = ap (λ (x : Contents E S). x.spilled) (sym view)
+
+  -- nothing waits
+  pub waiting-view : waiting_of c ≡ []
+  unfolding waiting_of
+  waiting-view = ap (λ (x : Contents E S). x.waiting) (sym view)
+
+  pub held-view : held_of c ≡ []
+  unfolding held_of
+  held-view = ap (λ (x : Contents E S). x.held) (sym view)
+
+  pub pending-view : pending_of c ≡ 0
+  unfolding pending_of
+  pending-view = ap (λ (x : Contents E S). count_by (λ w. w) x.waiting) (sym view)

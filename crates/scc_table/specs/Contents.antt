@@ -15,18 +15,20 @@ pub record Settings (S : Type 0) : Type 0 where
   pub asked : ℕ
   pub reserved : ℕ
 
--- the list of each bucket, the settings, whether the last resize that was due was refused, and how many entries lie in overflow lists
+-- the list of each bucket, the settings, whether the last resize that was due was refused, and how many entries lie in overflow lists; then of each bucket whether its entries wait in an old array, and of each bucket of that array the buckets that its entries belong to, in their order. No bucket is named in either where nothing waits
 pub record Contents (E S : Type 0) : Type 0 where
   pub lists : List (List E)
   pub settings : Settings S
   pub refused : Bool
   pub spilled : ℕ
+  pub waiting : List Bool
+  pub held : List (List ℕ)
 
 abbrev pub contents_code : {E S : Type 0} → Coded E → Coded S → Coded (Contents E S)
 contents_code {E} {S} e s =
-    code_by (List (List E) × (S × (ℕ × (ℕ × (ℕ × (Bool × ℕ)))))) (coded× (coded_list (coded_list e)) (coded× s (coded× coded_ℕ (coded× coded_ℕ (coded× coded_ℕ (coded× coded_bool coded_ℕ))))))
-    (λ c. (c.lists, (c.settings.hasher, (c.settings.skipped, (c.settings.asked, (c.settings.reserved, (c.refused, c.spilled)))))))
-    (λ p. record { lists = p.0; settings = record { hasher = p.1.0; skipped = p.1.1.0; asked = p.1.1.1.0; reserved = p.1.1.1.1.0 }; refused = p.1.1.1.1.1.0; spilled = p.1.1.1.1.1.1 })
+    code_by (List (List E) × (S × (ℕ × (ℕ × (ℕ × (Bool × (ℕ × (List Bool × List (List ℕ))))))))) (coded× (coded_list (coded_list e)) (coded× s (coded× coded_ℕ (coded× coded_ℕ (coded× coded_ℕ (coded× coded_bool (coded× coded_ℕ (coded× (coded_list coded_bool) (coded_list (coded_list coded_ℕ))))))))))
+    (λ c. (c.lists, (c.settings.hasher, (c.settings.skipped, (c.settings.asked, (c.settings.reserved, (c.refused, (c.spilled, (c.waiting, c.held)))))))))
+    (λ p. record { lists = p.0; settings = record { hasher = p.1.0; skipped = p.1.1.0; asked = p.1.1.1.0; reserved = p.1.1.1.1.0 }; refused = p.1.1.1.1.1.0; spilled = p.1.1.1.1.1.1.0; waiting = p.1.1.1.1.1.1.1.0; held = p.1.1.1.1.1.1.1.1 })
     (λ _. refl)
 
 module _ {E S : Type 0} where
@@ -58,9 +60,17 @@ module _ {E S : Type 0} where
   unfoldable pub spilled_of : Contents E S → ℕ
   spilled_of c = c.spilled
 
-  -- how many buckets still have their entries in an old array: none, since every resize moves all
+  -- of each bucket whether its entries wait in an old array; empty where none does
+  unfoldable pub waiting_of : Contents E S → List Bool
+  waiting_of c = c.waiting
+
+  -- of each bucket of the old array the buckets that its entries belong to, in their order; empty where there is none
+  unfoldable pub held_of : Contents E S → List (List ℕ)
+  held_of c = c.held
+
+  -- how many buckets still have their entries in an old array
   unfoldable pub pending_of : Contents E S → ℕ
-  pending_of c = 0
+  pending_of c = count_by (λ w. w) c.waiting
 
   -- the slots that the array keeps at least: those asked for at making, and those reserved
   abbrev pub minimum_of : Contents E S → ℕ

@@ -9,6 +9,7 @@ ghost use Rattle.scc_table.specs.Sizes.{IsLawful};
 mod bounded;
 mod cloning;
 mod edits;
+mod exchange;
 mod growing;
 mod making;
 mod putting;
@@ -45,7 +46,7 @@ impl<E: Keyed, H: BuildHasher> Model for Table<E, H>
 where
     E::Key: Eq + Hash,
 {
-    ghost use Rattle.std.specs.Prelude.{map, ◌+◌};
+    ghost use Rattle.std.specs.Prelude.{map, ◌+◌, []};
     ghost use Rattle.scc_table.specs.Contents.{Contents, contents_code};
 
     ghost Value = { Contents E H };
@@ -56,7 +57,7 @@ where
     ghost use Rattle.scc_bucket.specs.Shelf.{shelf_entries};
     ghost use Rattle.scc_table.specs.Tables.{IsKept, spilled_in};
 
-    ghost view = { λ t. record { lists = map shelf_entries t.buckets.items; settings = record { hasher = t.hasher; skipped = t.skipped; asked = t.asked; reserved = t.reserved }; refused = t.refused; spilled = spilled_in t.buckets.items } };
+    ghost view = { λ t. record { lists = map shelf_entries t.buckets.items; settings = record { hasher = t.hasher; skipped = t.skipped; asked = t.asked; reserved = t.reserved }; refused = t.refused; spilled = spilled_in t.buckets.items; waiting = []; held = [] } };
 
     ghost invariant = { λ t. IsKept E.Key.eq E.key_of (λ k. hash_of H.BuildHasher H.Hasher.Hasher t.hasher (E.Key.hash_input k)) t.skipped (t.asked + t.reserved) t.buckets.items t.length t.overflowing };
 }

@@ -39,6 +39,7 @@ where
     pub fn pending(&self) -> usize
         ensures { result ≡ pending_of self.now }
     {
+        let _one_array = self.length;
         0
     }
 

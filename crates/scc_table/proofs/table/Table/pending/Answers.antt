@@ -1,7 +1,6 @@
-use Rattle.std.proofs.Common.{refl}
-use Rattle.scc_table.specs.Contents.{pending_of}
+use Rattle.std.proofs.Common.{sym}
+use Rattle.scc_table.proofs.Views.{pending-view}
 use Rattle.scc_table.proofs.table.Table.pending.Goals as goal
 
 pub returns : goal.returns
-unfolding pending_of
-returns g c = refl
+returns g c = sym (pending-view c.self.inside.buckets.items _ c.args.self.now c.self.view_is)
