@@ -20,7 +20,7 @@ pub use calling::Calls;
 pub use calls_as_values::{CacheCall, IndexCall, MapCall, SetCall};
 pub use fixed::{Request, Setting};
 pub use law::{every_kind_has_parts, every_merge_is_a_run};
-pub use opening::{Guarded, Site, same_setting, two_parts};
+pub use opening::two_parts;
 pub use refusals::Refused;
 pub use replies::Reply;
 pub use routing::route;
