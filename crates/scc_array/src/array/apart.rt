@@ -6,12 +6,12 @@ ghost use Rattle.scc_bucket.specs.Shelf.{shelf_entries};
 
 use super::Array;
 use crate::lists::destroy_lists;
-use scc_slots::SlotBlock;
+use scc_slots::Slots;
 
 /// What an array is made of. Its entries may be taken out in any order.
 pub struct Parts<E> {
     pub tags: Vec<[u8; 32]>,
-    pub places: SlotBlock<E>,
+    pub places: Slots<E>,
     pub lists: Vec<Vec<E>>,
 }
 
