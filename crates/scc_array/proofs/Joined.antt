@@ -11,7 +11,7 @@ abbrev pub or_later : Option ℕ → ℕ → Option ℕ → Option ℕ
 or_later (Some i) n o = Some i
 or_later None n o = option_map (λ k. n + k) o
 
-true-or-false : (b : Bool) → (b ≡ true) ⊎ (b ≡ false)
+pub true-or-false : (b : Bool) → (b ≡ true) ⊎ (b ≡ false)
 true-or-false true = inl refl
 true-or-false false = inr refl
 

@@ -8,8 +8,11 @@ pub mod Gets
 pub mod Joined
 pub mod ListPushing
 pub mod Pushing
+pub mod Reserving
 pub mod Shelves
 pub mod Shifting
+pub mod Spent
 pub mod Swapping
+pub mod Taken
 pub mod Windows
 pub mod WritingOver

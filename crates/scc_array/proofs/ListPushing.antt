@@ -20,7 +20,7 @@ module _ {E A : Type 0} (ws : List (Window E)) (os ds : List (Vec E A)) (bs : Li
 
   module _ (e : E) (es : List (Vec E A)) where
     pub list-pushed-ok : (r : Result ℕ E) → Pushes ds b e r es → IfOk r (λ p. (p ≡ 32 + length (shelf_of bs b).overflow) × (shelves ws es ≡ set bs b (record (with_overflow (shelf_of bs b) e) { room = (shelf_of (shelves ws es) b).room })))
-    list-pushed-ok (Ok p) (u, v, held, is, items, changed) =
+    list-pushed-ok (Ok p) (u, v, held, is, items, grown, changed) =
         let s : Shelf E → Shelf E = λ s. record { slots = s.slots; tags = s.tags; overflow = s.overflow ++ e ∷ []; room = vec_capacity v } in
         let seen : shelves ws (set ds b v) ≡ set bs b (s (shelf_of bs b)) = seen-list ws ds bs now b within s v (u.items ++ e ∷ []) (vec_capacity v) opened-within items refl
         (ap (λ (l : List E). record { slots = (window_of ws b).slots; tags = (window_of ws b).tags; overflow = l ++ e ∷ []; room = vec_capacity v }) (ap spilled held)) in

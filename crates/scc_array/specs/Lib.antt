@@ -1,3 +1,4 @@
+pub mod Apart
 pub mod LendsArray
 pub mod LendsColumns
 pub mod Lists

@@ -15,5 +15,14 @@ module _ {E A : Type 0} where
 
   -- list b has the entry at its end, and the place there after 32 others is the answer; or it has what it had, no more room, and the entry is the answer
   abbrev pub Pushes : List (Vec E A) → ℕ → E → Result ℕ E → List (Vec E A) → Type 0
-  Pushes os b e (Ok p) ds = (u : Vec E A) × (v : Vec E A) × (slice_get os b ≡ Some u) × (p ≡ 32 + length u.items) × (v.items ≡ u.items ++ e ∷ []) × (ds ≡ slice_set os b v)
+  Pushes os b e (Ok p) ds = (u : Vec E A) × (v : Vec E A) × (slice_get os b ≡ Some u) × (p ≡ 32 + length u.items) × (v.items ≡ u.items ++ e ∷ []) × (vec_capacity u ≤ vec_capacity v) × (ds ≡ slice_set os b v)
   Pushes os b e (Err x) ds = (x ≡ e) × ((u : Vec E A) × (v : Vec E A) × (slice_get os b ≡ Some u) × (v.items ≡ u.items) × (ds ≡ slice_set os b v) × (vec_capacity u ≤ length u.items))
+
+  -- no list has an entry
+  pub record AreSpent (os : List (Vec E A)) : Type 0 where
+    pub spent : (i : ℕ) (v : Vec E A) → i < length os → v ≡ slice_index_or os i v → v.items ≡ []
+
+  -- list b has what it had, and no less room; on success room for n more
+  abbrev pub Reserves : {X : Type 0} → List (Vec E A) → ℕ → ℕ → Result (Unit {0}) X → List (Vec E A) → Type 0
+  Reserves os b n (Ok _) ds = (u : Vec E A) × (v : Vec E A) × (slice_get os b ≡ Some u) × (v.items ≡ u.items) × (vec_capacity u ≤ vec_capacity v) × (length u.items + n ≤ vec_capacity v) × (ds ≡ slice_set os b v)
+  Reserves os b n (Err _) ds = (u : Vec E A) × (v : Vec E A) × (slice_get os b ≡ Some u) × (v.items ≡ u.items) × (vec_capacity u ≤ vec_capacity v) × (ds ≡ slice_set os b v)

@@ -1,13 +1,17 @@
 //! The array of buckets: 32 places a bucket in columns, and lists for the entries past them, which are made with the first such entry.
-ghost use Rattle.std.specs.Prelude.{◌≡◌, ◌+◌, ◌^◌, ◌≤◌, ◌<◌, ◌↔◌, length, replicate, slice_set, slice_index_or, IfOk, IfErr, OnErr, IsTrue, slice_get, Some, None};
+ghost use Rattle.std.specs.Prelude.{◌≡◌, [], ◌+◌, ◌^◌, ◌≤◌, ◌<◌, ◌↔◌, length, replicate, slice_set, slice_index_or, IfOk, IfErr, OnErr, IsTrue, slice_get, Some, None};
 ghost use Rattle.scc_array.specs.Shelves.{shelf_of};
 ghost use Rattle.scc_bucket.specs.Shelf.{shelf_entries, empty_shelf, with_slot, with_overflow, with_entry, next_place, without_place, swapped_out, HasTag};
 ghost use Rattle.std.specs.List.{position};
 
+mod apart;
+mod reads;
+mod room;
 mod writes;
 
 use crate::columns::Columns;
 use crate::lists::{open_lists, push_to};
+pub use apart::Parts;
 use scc_bucket::Keyed;
 use std::alloc::{AllocError, Global};
 use std::marker::Model;
@@ -35,6 +39,17 @@ impl<E> Model for Array<E> {
 }
 
 impl<E> Array<E> {
+    /// An array without buckets, which asks for no memory.
+    pub fn none(alloc: Global) -> Array<E>
+        ensures { result ≡ [] }
+    {
+        Array {
+            columns: Columns::none(alloc),
+            overflow: Vec::new(alloc),
+            alloc,
+        }
+    }
+
     /// So many empty buckets.
     pub fn with_buckets(alloc: Global, count: usize) -> Result<Array<E>, AllocError>
         requires { count ≤ 2 ^ 58 }

@@ -3,20 +3,21 @@ ghost use Rattle.std.specs.Prelude.{◌≡◌, ◌^◌, ◌≤◌, ◌<◌, ◌�
 ghost use Rattle.std.specs.Borrow.{sem};
 ghost use Rattle.std.specs.Int.{bit_at};
 ghost use Rattle.std.specs.List.{position};
+ghost use Rattle.scc_array.specs.Apart.{AreColumns};
 ghost use Rattle.scc_array.specs.Windows.{empty_window, window_of, pushed, popped_over, shifted_out, IsColumns, IsTagged};
 ghost use Rattle.scc_slots.specs.Places.{IsDrained};
 
 use crate::shifts::{close_places, close_tags};
 use scc_bucket::Keyed;
 use scc_bucket::tags::{lowest_bit, tag_mask, without_lowest_bit};
-use scc_slots::SlotBlock;
+use scc_slots::Slots;
 use std::alloc::{AllocError, Global};
 use std::marker::Model;
 
 /// Buckets of 32 places. A contract sees the entries of each bucket, and their tags.
 pub struct Columns<E> {
     tags: Vec<[u8; 32]>,
-    slots: SlotBlock<E>,
+    slots: Slots<E>,
 }
 
 impl<E> Model for Columns<E> {
@@ -34,12 +35,22 @@ impl<E> Model for Columns<E> {
 }
 
 impl<E> Columns<E> {
+    /// No buckets.
+    pub fn none(alloc: Global) -> Columns<E>
+        ensures { result ≡ [] }
+    {
+        Columns {
+            tags: Vec::new(alloc),
+            slots: Slots::none(),
+        }
+    }
+
     /// So many empty buckets.
     pub fn with_buckets(alloc: Global, count: usize) -> Result<Columns<E>, AllocError>
         requires { count ≤ 2 ^ 58 }
         ensures { IfOk result (λ c. c ≡ replicate count empty_window) }
     {
-        let slots = SlotBlock::with_places(alloc, 32 * count)?;
+        let slots = Slots::with_places(alloc, 32 * count)?;
         match vec![in alloc; [0u8; 32]; count] {
             Ok(tags) => Ok(Columns { tags, slots }),
             Err(e) => {
@@ -155,6 +166,14 @@ impl<E> Columns<E> {
         self.slots.get_mut(32 * bucket + place)
     }
 
+    /// The tags of all buckets, and their places.
+    pub fn into_parts(self) -> (Vec<[u8; 32]>, Slots<E>)
+        ensures { AreColumns self result.0.items result.1 }
+    {
+        let Columns { tags, slots } = self;
+        (tags, slots)
+    }
+
     /// Gives the columns back, which hold no entry.
     pub fn destroy_empty(self)
         requires { (i : ℕ) → i < length self → (window_of self i).slots ≡ [] }
@@ -189,7 +208,7 @@ where
 }
 
 /// Drops what the places hold whose tag isn't 0.
-fn drop_places<E: Drop>(tags: &[[u8; 32]], slots: &mut SlotBlock<E>)
+fn drop_places<E: Drop>(tags: &[[u8; 32]], slots: &mut Slots<E>)
     requires { IsColumns tags.now slots.old }
     ensures { IsDrained slots.new }
 {

@@ -1,6 +1,6 @@
 //! The lists of the entries past the places, one a bucket, which are made with the first such entry.
 ghost use Rattle.std.specs.Prelude.{◌≡◌, ◌<◌, length, IfOk, OnOk, OnErr};
-ghost use Rattle.scc_array.specs.Lists.{AreBare, Opens, Pushes};
+ghost use Rattle.scc_array.specs.Lists.{AreBare, AreSpent, Opens, Pushes, Reserves};
 
 use std::alloc::{AllocError, Global};
 use std::mem;
@@ -50,4 +50,31 @@ pub(crate) fn push_to<E>(lists: &mut Vec<Vec<E>>, bucket: usize, entry: E) -> Re
         Ok(()) => Ok(place),
         Err(refused) => Err(refused.value),
     }
+}
+
+/// Room for so many more entries at the end of a list.
+pub(crate) fn reserve_in<E>(
+    lists: &mut Vec<Vec<E>>,
+    bucket: usize,
+    additional: usize,
+) -> Result<(), AllocError>
+    requires { bucket < length lists.old.items }
+    ensures { Reserves lists.old.items bucket additional result lists.new.items }
+{
+    let list = &mut lists[bucket];
+    match list.reserve(additional) {
+        Ok(()) => Ok(()),
+        Err(refused) => Err(refused),
+    }
+}
+
+/// Frees lists that hold no entry.
+pub(crate) fn destroy_lists<E>(lists: Vec<Vec<E>>)
+    requires { AreSpent lists.items }
+{
+    let mut lists = lists;
+    while let Some(list) = lists.pop() {
+        list.destroy_empty();
+    }
+    lists.destroy_empty();
 }

@@ -3,11 +3,11 @@ ghost use Rattle.std.specs.Prelude.{◌≡◌, ◌<◌, ◌≤◌, ℕ, length, 
 ghost use Rattle.scc_array.specs.Shifts.{Closes};
 ghost use Rattle.scc_slots.specs.Places.{IsFilled};
 
-use scc_slots::SlotBlock;
+use scc_slots::Slots;
 
 /// Moves the entries after the free place up by one, to the last one.
 #[inline(always)]
-pub(crate) fn close_places<E>(slots: &mut SlotBlock<E>, gap: usize, last: usize)
+pub(crate) fn close_places<E>(slots: &mut Slots<E>, gap: usize, last: usize)
     requires order { gap ≤ last }
     requires within { last < length slots.old }
     requires free { slice_index_or slots.old gap None ≡ None }

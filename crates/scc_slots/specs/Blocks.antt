@@ -1,5 +1,5 @@
 -- What holds of the fields of a block.
-use Rattle.std.specs.Prelude.{◌≡◌, ℕ, ◌^◌, ◌<◌, length}
+use Rattle.std.specs.Prelude.{◌≡◌, ℕ, ◌^◌, ◌<◌, List, [], length, Option, Some, None}
 use Rattle.scc_slots.specs.declared.row.Right.{Right}
 use Rattle.scc_slots.specs.declared.row.Row.{Row}
 use Rattle.scc_slots.specs.declared.row.Start.{Start}
@@ -9,3 +9,8 @@ pub record IsBlock {X A : Type 0} (start : Start X) (row : Row X) (right : Right
   pub begins : start.first ≡ row.start
   pub places : (length row.places ≡ count) × (count < 2 ^ 63)
   pub right_to : (right.start ≡ row.start) × (right.count ≡ count) × (right.alloc ≡ alloc)
+
+-- the places of a block, none where there is no block
+abbrev pub places_in : {X : Type 0} → Option (List (Option X)) → List (Option X)
+places_in None = []
+places_in (Some places) = places

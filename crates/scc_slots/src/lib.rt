@@ -3,7 +3,9 @@
 
 mod block;
 mod row;
+mod slots;
 
 pub use block::SlotBlock;
 #[doc(hidden)]
 pub use row::{Right, Row, Start};
+pub use slots::Slots;

@@ -1,5 +1,5 @@
 -- One entry more than a resize moves: the room that it gets, and the table that has it.
-use Rattle.std.proofs.Common.{◌≡◌, ◌==◌, ℕ, zero, suc, ◌+◌, ◌^◌, ◌<◌, ◌≤◌, ◌≢◌, inl, inr, Bool, List, [], ◌∷◌, ◌++◌, length, map, set, get_or, refl, sym, ap, ◌∙◌, subst, arith, length-append, length-set, get_or-set_same, get_or-set_other, append-nil, Some}
+use Rattle.std.proofs.Common.{◌≡◌, ◌==◌, ℕ, zero, suc, ◌+◌, ◌^◌, ◌<◌, ◌≤◌, ◌≢◌, inl, inr, Bool, List, [], ◌∷◌, ◌++◌, length, map, set, take, get_or, refl, sym, ap, ◌∙◌, subst, arith, length-append, length-set, get_or-set_same, get_or-set_other, append-nil, Some}
 use Rattle.std.specs.Cmp.{IsEquivalence}
 use Rattle.std.specs.List.{flat_map, sum_by, IsDistinct, slice_get, position}
 use Rattle.std.specs.List.Sorted.{IsPermutation}
@@ -11,7 +11,7 @@ use native.Mathlib.Decide.{dec_lt}
 use Rattle.scc_bucket.specs.Shelf.{Shelf, shelf_entries, empty_shelf}
 use Rattle.scc_table.specs.Contents.{Contents, Settings, entries, bucket_count, settings_of, list_of}
 use Rattle.scc_table.specs.Places.{IsPlace, IsInsertedAt}
-use Rattle.scc_table.specs.Pour.{IsTally, Poured, RoomFor, bound_for}
+use Rattle.scc_table.specs.Pour.{IsTally, Tallies, Poured, RoomFor, bound_for}
 use Rattle.scc_table.specs.Routing.{bucket_number}
 use Rattle.scc_table.specs.Sizes.{IsArray}
 use Rattle.scc_table.specs.Tables.{AllEmpty}
@@ -22,6 +22,8 @@ use Rattle.scc_table.proofs.Views.{view_of, entries-view, count-view, settings-v
 use Rattle.scc_table.proofs.Pours.{bound_append, bound_here, bound_other}
 use Rattle.scc_table.proofs.Refill.{bucket-is, moved-all, packed-empty}
 use Rattle.scc_table.proofs.Tallies.{filter-le}
+use Rattle.scc_table.proofs.Arrays.{take-got, flat-next}
+use Rattle.scc_array.specs.Shelves.{shelf_of}
 
 module _ {E : Type 0} (hash : E → ℕ) (t n i : ℕ) (es : List E) (e : E) (h : i ≡ bucket_number t n (hash e)) where
   -- the bucket of the entry gets one more
@@ -50,6 +52,47 @@ module _ {E : Type 0} (hash : E → ℕ) (t n i : ℕ) (es : List E) (e : E) (h 
           ]
         ];
       }
+
+-- the same of counts that were raised
+pub tallies-last : {E : Type 0} (hash : E → ℕ) (t n i : ℕ) (es : List E) (e : E) → i ≡ bucket_number t n (hash e) → (old mid : List ℕ) → Tallies hash t n old mid es → i < length old → Tallies hash t n old (set mid i (get_or mid i 0 + 1)) (es ++ e ∷ [])
+tallies-last hash t n i es e h old mid w l =
+    let v = get_or mid i 0 + 1 in
+    let other : (j : ℕ) → j < length old → j ≢ i → get_or (set mid i v) j 0 ≡ get_or old j 0 + length (bound_for hash t n j (es ++ e ∷ []))
+    = λ j lj ne. get_or-set_other mid i j v 0 ne ∙ w.each j lj ∙ ap (λ z. get_or old j 0 + length z) (sym (bound-others hash t n i es e h j ne)) in
+    let here : get_or (set mid i v) i 0 ≡ get_or old i 0 + length (bound_for hash t n i (es ++ e ∷ []))
+    = omega (arith, get_or-set_same mid i v 0 (omega (arith, w.count)), w.each i l, length-append (bound_for hash t n i es) (e ∷ []), ap length (bound-last hash t n i es e h)) in
+    record {
+      count = length-set mid i v ∙ w.count;
+      each = λ j lj. elim (dec_lt j i) [
+        | yes q ↦ other j lj (omega arith)
+        | no q ↦ elim (dec_lt i j) [
+          | yes r ↦ other j lj (omega arith)
+          | no r ↦ let same : j ≡ i = omega arith in subst (λ z. get_or (set mid i v) z 0 ≡ get_or old z 0 + length (bound_for hash t n z (es ++ e ∷ []))) (sym same) here
+        ]
+      ];
+    }
+
+-- one entry more of those that are counted
+pub tallies-next : {E : Type 0} (hash : E → ℕ) (t n i j : ℕ) (es : List E) (e : E) → i ≡ bucket_number t n (hash e) → slice_get es j ≡ Some e → (old mid : List ℕ) → Tallies hash t n old mid (take j es) → i < length old → (x : ℕ) → x ≡ get_or mid i 0
+    → Tallies hash t n old (set mid i (x + 1)) (take (j + 1) es)
+tallies-next hash t n i j es e h got old mid w l x at =
+    let next : suc j ≡ j + 1 = omega arith in
+    subst (λ z. Tallies hash t n old (set mid i (z + 1)) (take (j + 1) es)) (sym at)
+    (subst (λ z. Tallies hash t n old (set mid i (get_or mid i 0 + 1)) (take z es)) next
+    (subst (λ z. Tallies hash t n old (set mid i (get_or mid i 0 + 1)) z) (sym (take-got es j e got)) (tallies-last hash t n i (take j es) e h old mid w l)))
+
+-- one bucket more
+pub tally-bucket : {E : Type 0} (hash : E → ℕ) (t n j : ℕ) (bs : List (Shelf E)) (mid new : List ℕ) → j < length bs → IsTally hash t n mid (flat_map shelf_entries (take j bs)) → Tallies hash t n mid new (shelf_entries (shelf_of bs j)) → IsTally hash t n new (flat_map shelf_entries (take (suc j) bs))
+tally-bucket hash t n j bs mid new l w v =
+    let es = flat_map shelf_entries (take j bs) in let xs = shelf_entries (shelf_of bs j) in
+    record {
+      count = v.count ∙ w.count;
+      each = λ i q.
+          let a = v.each i (omega (arith, w.count)) in let b = w.each i q in
+          let c : length (bound_for hash t n i (flat_map shelf_entries (take (suc j) bs))) ≡ length (bound_for hash t n i es) + length (bound_for hash t n i xs)
+          = ap (λ z. length (bound_for hash t n i z)) (flat-next bs j l) ∙ ap length (bound_append hash t n i es xs) ∙ length-append (bound_for hash t n i es) (bound_for hash t n i xs) in
+          omega arith;
+    }
 
 -- a count is no greater than the number of entries
 pub tally-small : {E : Type 0} (hash : E → ℕ) (t n i : ℕ) (counts : List ℕ) (es : List E) → IsTally hash t n counts es → i < n → get_or counts i 0 ≤ length es

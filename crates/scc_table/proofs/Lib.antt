@@ -1,9 +1,12 @@
 pub use Rattle.scc_bucket.proofs.WalkLemmas
+pub mod Arrays
 pub mod Bounds
 pub mod Cloning
 pub mod Counting
+pub mod Emptied
 pub mod Finding
 pub mod Inserts
+pub mod Fresh
 pub mod Growth
 pub mod KeyWrites
 pub mod Latest

@@ -7,8 +7,10 @@ use Rattle.std.proofs.lemmas.List.Elements.{filter-append}
 use Rattle.std.specs.List.Sorted.{IsPermutation}
 use Rattle.std.proofs.lemmas.List.Sorted.{IsPermutation-refl, IsPermutation-trans, IsPermutation-append_left, IsPermutation-append_right, IsPermutation-append_comm}
 use native.Mathlib.Decide.{dec_lt}
+use Rattle.scc_array.specs.Shelves.{shelf_of}
 use Rattle.scc_bucket.specs.Shelf.{Shelf, shelf_entries, empty_shelf, with_entry, HasRoom}
 use Rattle.scc_table.specs.Routing.{bucket_number, tag_of}
+use Rattle.scc_table.proofs.Arrays.{shelf-at, put-is, put-own}
 use Rattle.scc_table.specs.Pour.{IsPacked, Extends, RoomFor, Poured, bound_for}
 
 pub bound_append : {E : Type 0} (hash : E → ℕ) (t k i : ℕ) (xs ys : List E) → bound_for hash t k i (xs ++ ys) ≡ bound_for hash t k i xs ++ bound_for hash t k i ys
@@ -248,3 +250,16 @@ module _ {E : Type 0} (hash : E → ℕ) (t k : ℕ) (old mid : List (Shelf E)) 
         subst (Poured hash t k old new) (one_more p.done b ss vs es eo)
         (poured_both hash t k old next new (flat_map shelf_entries p.done ++ ss) vs (poured_both hash t k old mid next (flat_map shelf_entries p.done) ss p.poured q) r);
   }
+
+-- one entry more, put into an array
+module _ {E : Type 0} (hash : E → ℕ) (t k i : ℕ) (mid ds : List (Shelf E)) (e : E) (h : i ≡ bucket_number t k (hash e)) (l : i < length mid) (u : ℕ) (tagged : u ≡ tag_of (hash e))
+    (put : ds ≡ set mid i (record (with_entry (shelf_of mid i) e u) { room = (shelf_of ds i).room })) (more : (shelf_of mid i).room ≤ (shelf_of ds i).room) where
+  put-shelf : shelf_of ds i ≡ record (with_entry (shelf_of mid i) e (tag_of (hash e))) { room = (shelf_of ds i).room }
+  put-shelf = put-is mid i l ds _ put ∙ ap (λ x. let r : Shelf E = record (with_entry (shelf_of mid i) e x) { room = (shelf_of ds i).room } in r) tagged
+
+  pub until-put : (old : List (Shelf E)) (all rest left : List E) → PouredUntil hash t k old mid all rest → rest ≡ e ∷ left → PouredUntil hash t k old ds all left
+  until-put old all rest left p s =
+      subst (λ v. PouredUntil hash t k old v all left) (sym (put-own mid i l ds _ put)) (until-step hash t k i old mid all rest left p e s (shelf_of mid i) h l (shelf-at mid i l) (shelf_of ds i) put-shelf more)
+
+  pub pour-put : (old : List (Shelf E)) (ys : List E) → Poured hash t k old mid ys → Poured hash t k old ds (ys ++ e ∷ [])
+  pour-put old ys p = subst (λ v. Poured hash t k old v (ys ++ e ∷ [])) (sym (put-own mid i l ds _ put)) (pour_step hash t k i old mid ys e (shelf_of mid i) (shelf_of ds i) p h l (shelf-at mid i l) put-shelf more)

@@ -45,3 +45,6 @@ module _ {E : Type 0} (hash : E → ℕ) (t n j : ℕ) (counts : List ℕ) (bs :
       let e = w.each i (omega (arith, h.count)) in
       let f = filter-le (λ x. bucket_number t n (hash x) == i) ss in
       omega arith
+
+  pub bucket-few : length ss < 2 ^ 63
+  bucket-few = let a = so-far in omega arith

@@ -5,6 +5,7 @@ pub use Rattle.scc_bucket.specs.Walks
 pub mod Bounded
 pub mod Clones
 pub mod Contents
+pub mod Emptying
 pub mod Hashing
 pub mod LendsTable
 pub mod Mapped

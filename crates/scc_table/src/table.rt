@@ -3,6 +3,7 @@ ghost use Rattle.std.specs.Prelude.{◌≡◌, ◌≤◌, ◌<◌, ◌+◌, ◌*
 ghost use Rattle.std.specs.List.{flat_map, position};
 ghost use Rattle.scc_table.specs.Contents.{entries, bucket_count, settings_of, minimum_of, refused_of, key_hash, bucket_of, IsUniqueBy, HasRoomBy};
 ghost use Rattle.scc_table.specs.Places.{IsPlace, IsFoundAt, index_of};
+ghost use Rattle.scc_array.specs.Shelves.{shelf_of};
 ghost use Rattle.scc_bucket.specs.Shelf.{shelf_entries};
 ghost use Rattle.scc_table.specs.Sizes.{IsLawful};
 
@@ -22,7 +23,8 @@ mod writes;
 
 use crate::place::Place;
 use crate::route::{bucket_index, tag};
-use scc_bucket::{Bucket, Keyed};
+use scc_array::Array;
+use scc_bucket::Keyed;
 use std::hash::{BuildHasher, Hash};
 use std::marker::Model;
 
@@ -32,7 +34,7 @@ pub struct Table<E: Keyed, H: BuildHasher>
 where
     E::Key: Eq + Hash,
 {
-    buckets: Vec<Bucket<E>>,
+    buckets: Array<E>,
     length: usize,
     overflowing: usize,
     asked: usize,
@@ -57,9 +59,9 @@ where
     ghost use Rattle.scc_bucket.specs.Shelf.{shelf_entries};
     ghost use Rattle.scc_table.specs.Tables.{IsKept, spilled_in};
 
-    ghost view = { λ t. record { lists = map shelf_entries t.buckets.items; settings = record { hasher = t.hasher; skipped = t.skipped; asked = t.asked; reserved = t.reserved }; refused = t.refused; spilled = spilled_in t.buckets.items; waiting = []; held = [] } };
+    ghost view = { λ t. record { lists = map shelf_entries t.buckets; settings = record { hasher = t.hasher; skipped = t.skipped; asked = t.asked; reserved = t.reserved }; refused = t.refused; spilled = spilled_in t.buckets; waiting = []; held = [] } };
 
-    ghost invariant = { λ t. IsKept E.Key.eq E.key_of (λ k. hash_of H.BuildHasher H.Hasher.Hasher t.hasher (E.Key.hash_input k)) t.skipped (t.asked + t.reserved) t.buckets.items t.length t.overflowing };
+    ghost invariant = { λ t. IsKept E.Key.eq E.key_of (λ k. hash_of H.BuildHasher H.Hasher.Hasher t.hasher (E.Key.hash_input k)) t.skipped (t.asked + t.reserved) t.buckets t.length t.overflowing };
 }
 
 impl<E: Keyed, H: BuildHasher> Table<E, H>
@@ -117,7 +119,7 @@ where
             return false;
         }
         let bucket = bucket_index(self.hash(key), self.skipped, count);
-        self.buckets[bucket].len() < 32
+        self.buckets.bucket_len(bucket) < 32
     }
 
     /// Where the entry with that key stands. `hash` is the key's hash.
@@ -132,7 +134,7 @@ where
             return None;
         }
         let bucket = bucket_index(hash, self.skipped, count);
-        match self.buckets[bucket].search(key, tag(hash)) {
+        match self.buckets.search(bucket, key, tag(hash)) {
             Some(slot) => Some(Place { bucket, slot }),
             None => None,
         }
@@ -140,10 +142,11 @@ where
 
     /// The buckets, to look at.
     #[inline(always)]
-    pub(crate) fn buckets(&self) -> &[Bucket<E>]
-        ensures { entries self.now ≡ flat_map shelf_entries result.now }
+    pub(crate) fn array(&self) -> &Array<E>
+        ensures all { entries self.now ≡ flat_map shelf_entries result.now }
+        ensures few { (i : ℕ) → i < length result.now → length (shelf_entries (shelf_of result.now i)) < 2 ^ 63 }
     {
-        self.buckets.as_slice()
+        &self.buckets
     }
 
     /// The entry at the place.
@@ -152,6 +155,6 @@ where
         requires { IsPlace self.now place }
         ensures { slice_get (entries self.now) (index_of self.now place) ≡ Some result.now }
     {
-        self.buckets[place.bucket].entry_at(place.slot)
+        self.buckets.entry_at(place.bucket, place.slot)
     }
 }

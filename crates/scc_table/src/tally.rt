@@ -3,17 +3,20 @@ ghost use Rattle.std.specs.Prelude.{◌≡◌, ◌<◌, ◌+◌, ◌^◌, ℕ, l
 ghost use Rattle.std.specs.List.{flat_map, sum_by};
 ghost use Rattle.scc_table.specs.Hashing.{hash_of};
 ghost use Rattle.scc_table.specs.Pour.{IsTally, Tallies};
+ghost use Rattle.scc_array.specs.Shelves.{shelf_of};
 ghost use Rattle.scc_bucket.specs.Shelf.{shelf_entries};
 
 use crate::route::bucket_index;
-use scc_bucket::{Bucket, Keyed};
+use scc_array::Array;
+use scc_bucket::Keyed;
 use std::alloc::{AllocError, Global};
 use std::hash::{BuildHasher, Hash};
 
-/// Raises the count of the bucket of each entry.
+/// Raises the count of the new bucket of each entry of an old one.
 pub(crate) fn count_into<E: Keyed, H: BuildHasher>(
     counts: &mut Vec<usize>,
-    entries: &[E],
+    array: &Array<E>,
+    bucket: usize,
     hasher: &H,
     skipped: u32,
     count: usize,
@@ -23,10 +26,14 @@ where
     requires bits { skipped < 64 }
     requires array { 0 < count }
     requires count { length counts.old.items ≡ count }
-    requires room { (i : ℕ) → i < count → slice_index counts.old.items i + length entries.now < 2 ^ 64 }
-    ensures { Tallies (λ e. hash_of H.BuildHasher H.Hasher.Hasher hasher.now (E.Key.hash_input (E.key_of e))) skipped count counts.old.items counts.new.items entries.now }
+    requires within { bucket < length array.now }
+    requires few { length (shelf_entries (shelf_of array.now bucket)) < 2 ^ 63 }
+    requires room { (i : ℕ) → i < count → slice_index counts.old.items i + length (shelf_entries (shelf_of array.now bucket)) < 2 ^ 64 }
+    ensures { Tallies (λ e. hash_of H.BuildHasher H.Hasher.Hasher hasher.now (E.Key.hash_input (E.key_of e))) skipped count counts.old.items counts.new.items (shelf_entries (shelf_of array.now bucket)) }
 {
-    for entry in entries {
+    let slots = array.slot_count(bucket);
+    for place in 0..array.bucket_len(bucket) {
+        let entry = array.entry_of(bucket, place, slots);
         let to = bucket_index(hasher.hash_one(entry.key()), skipped, count);
         counts[to] += 1;
     }
@@ -35,7 +42,7 @@ where
 /// How many entries of the buckets belong to each of so many buckets.
 pub(crate) fn tally<E: Keyed, H: BuildHasher>(
     alloc: Global,
-    buckets: &[Bucket<E>],
+    array: &Array<E>,
     hasher: &H,
     skipped: u32,
     count: usize,
@@ -44,22 +51,24 @@ where
     E::Key: Eq + Hash,
     requires bits { skipped < 64 }
     requires array { 0 < count }
-    requires few { length (flat_map shelf_entries buckets.now) < 2 ^ 63 }
-    ensures { IfOk result (λ v. IsTally (λ e. hash_of H.BuildHasher H.Hasher.Hasher hasher.now (E.Key.hash_input (E.key_of e))) skipped count v.items (flat_map shelf_entries buckets.now)) }
+    requires few { length (flat_map shelf_entries array.now) < 2 ^ 63 }
+    ensures { IfOk result (λ v. IsTally (λ e. hash_of H.BuildHasher H.Hasher.Hasher hasher.now (E.Key.hash_input (E.key_of e))) skipped count v.items (flat_map shelf_entries array.now)) }
 {
     let mut counts = vec![in alloc; 0usize; count]?;
-    for bucket in buckets {
-        let (slots, overflow) = bucket.parts();
-        count_into(&mut counts, slots, hasher, skipped, count);
-        count_into(&mut counts, overflow, hasher, skipped, count);
+    for bucket in 0..array.len() {
+        count_into(&mut counts, array, bucket, hasher, skipped, count);
     }
     Ok(counts)
 }
 
 /// How many entries lie in overflow lists.
-pub(crate) fn count_overflow<E>(buckets: &[Bucket<E>]) -> usize
-    requires { sum_by (λ b. length b.overflow) buckets.now < 2 ^ 64 }
-    ensures { result ≡ sum_by (λ b. length b.overflow) buckets.now }
+pub(crate) fn count_overflow<E>(array: &Array<E>) -> usize
+    requires { sum_by (λ b. length b.overflow) array.now < 2 ^ 64 }
+    ensures { result ≡ sum_by (λ b. length b.overflow) array.now }
 {
-    buckets.iter().map(|bucket| bucket.overflow_len()).sum()
+    let mut total = 0;
+    for bucket in 0..array.len() {
+        total += array.overflow_len(bucket);
+    }
+    total
 }

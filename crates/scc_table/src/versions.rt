@@ -1,5 +1,6 @@
 //! What a table of versions can do beside: lend a version, and walk over the pairs.
-ghost use Rattle.std.specs.Prelude.{◌≡◌, Some, true, slice_get};
+ghost use Rattle.std.specs.Prelude.{◌≡◌, ◌<◌, ◌^◌, length, Some, true, slice_get};
+ghost use Rattle.scc_array.specs.Shelves.{shelf_of};
 ghost use Rattle.scc_bucket.specs.Shelf.{shelf_entries};
 ghost use Rattle.scc_bucket.specs.Walks.{CalledOn, CallableWhile, Walks};
 ghost use Rattle.scc_table.specs.Contents.{entries};
@@ -7,42 +8,30 @@ ghost use Rattle.scc_table.specs.Places.{IsPlace, index_of};
 
 use crate::place::Place;
 use crate::table::Table;
-use scc_bucket::Bucket;
+use scc_array::Array;
 use scc_common::{SharedVersion, Version};
 use std::hash::{BuildHasher, Hash};
 
-/// Calls `f` on the pairs of the versions in turn, until its first false. The answer is false where it stopped.
+/// Calls `f` on the pairs of a bucket's versions in turn, until its first false. The answer is false where it stopped.
 #[inline(always)]
-fn walk_versions<K, V, F: FnMut(&K, &V) -> bool>(
-    versions: &[SharedVersion<K, V>],
+fn walk_bucket<K, V, F: FnMut(&K, &V) -> bool>(
+    array: &Array<SharedVersion<K, V>>,
+    bucket: usize,
     f: &mut F,
 ) -> bool
-    requires { CallableWhile F.FnMut true f.old versions.now }
-    ensures { Walks (CalledOn F.FnMut) f.old versions.now result f.new }
+    requires within { bucket < length array.now }
+    requires few { length (shelf_entries (shelf_of array.now bucket)) < 2 ^ 63 }
+    requires callable { CallableWhile F.FnMut true f.old (shelf_entries (shelf_of array.now bucket)) }
+    ensures { Walks (CalledOn F.FnMut) f.old (shelf_entries (shelf_of array.now bucket)) result f.new }
 {
-    for entry in versions {
-        let version = entry.version();
+    let slots = array.slot_count(bucket);
+    for place in 0..array.bucket_len(bucket) {
+        let version = array.entry_of(bucket, place, slots).version();
         if !f(version.key(), version.value()) {
             return false;
         }
     }
     true
-}
-
-/// The same on a bucket's pairs.
-#[inline(always)]
-fn walk_bucket<K, V, F: FnMut(&K, &V) -> bool>(
-    bucket: &Bucket<SharedVersion<K, V>>,
-    f: &mut F,
-) -> bool
-    requires { CallableWhile F.FnMut true f.old (shelf_entries bucket.now) }
-    ensures { Walks (CalledOn F.FnMut) f.old (shelf_entries bucket.now) result f.new }
-{
-    let (slots, overflow) = bucket.parts();
-    if !walk_versions(slots, f) {
-        return false;
-    }
-    walk_versions(overflow, f)
 }
 
 impl<K: Eq + Hash, V, H: BuildHasher> Table<SharedVersion<K, V>, H> {
@@ -60,8 +49,9 @@ impl<K: Eq + Hash, V, H: BuildHasher> Table<SharedVersion<K, V>, H> {
         requires { CallableWhile F.FnMut true f (entries self.now) }
         ensures { (last : F) × Walks (CalledOn F.FnMut) f (entries self.now) result last }
     {
-        for bucket in self.buckets() {
-            if !walk_bucket(bucket, &mut f) {
+        let array = self.array();
+        for bucket in 0..array.len() {
+            if !walk_bucket(array, bucket, &mut f) {
                 return false;
             }
         }

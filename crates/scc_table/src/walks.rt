@@ -1,11 +1,36 @@
 //! Walks over pairs, which lend a key and a value to a closure.
-ghost use Rattle.std.specs.Prelude.{true};
+ghost use Rattle.std.specs.Prelude.{◌<◌, ◌^◌, length, true};
+ghost use Rattle.scc_array.specs.Shelves.{shelf_of};
+ghost use Rattle.scc_bucket.specs.Shelf.{shelf_entries};
 ghost use Rattle.scc_bucket.specs.Walks.{CalledOn, CallableWhile, Walks};
 ghost use Rattle.scc_table.specs.Contents.{entries};
 
 use crate::table::Table;
+use scc_array::Array;
 pub use scc_bucket::walks::walk_pairs;
 use std::hash::{BuildHasher, Hash};
+
+/// Calls `f` on a bucket's pairs in turn, until its first false. The answer is false where it stopped.
+#[inline(always)]
+fn walk_bucket<K, V, F: FnMut(&K, &V) -> bool>(
+    array: &Array<(K, V)>,
+    bucket: usize,
+    f: &mut F,
+) -> bool
+    requires within { bucket < length array.now }
+    requires few { length (shelf_entries (shelf_of array.now bucket)) < 2 ^ 63 }
+    requires callable { CallableWhile F.FnMut true f.old (shelf_entries (shelf_of array.now bucket)) }
+    ensures { Walks (CalledOn F.FnMut) f.old (shelf_entries (shelf_of array.now bucket)) result f.new }
+{
+    let slots = array.slot_count(bucket);
+    for place in 0..array.bucket_len(bucket) {
+        let pair = array.entry_of(bucket, place, slots);
+        if !f(&pair.0, &pair.1) {
+            return false;
+        }
+    }
+    true
+}
 
 impl<K: Eq + Hash, V, H: BuildHasher> Table<(K, V), H> {
     /// Calls `f` on all pairs in the table's order, until its first false.
@@ -13,8 +38,9 @@ impl<K: Eq + Hash, V, H: BuildHasher> Table<(K, V), H> {
         requires { CallableWhile F.FnMut true f (entries self.now) }
         ensures { (last : F) × Walks (CalledOn F.FnMut) f (entries self.now) result last }
     {
-        for bucket in self.buckets() {
-            if !bucket.walk(&mut f) {
+        let array = self.array();
+        for bucket in 0..array.len() {
+            if !walk_bucket(array, bucket, &mut f) {
                 return false;
             }
         }

@@ -29,7 +29,7 @@ where
         ensures place { result ≡ position (λ e. E.Key.eq key.now (E.key_of e)) (list_of self.now bucket) }
         ensures missed { result ≡ None → position (λ e. E.Key.eq key.now (E.key_of e)) (entries self.now) ≡ None }
     {
-        self.buckets[bucket].search(key, tag(hash))
+        self.buckets.search(bucket, key, tag(hash))
     }
 
     /// Where the entry with that key stands in the list of its bucket. `hash` is the key's hash.
@@ -100,7 +100,7 @@ where
         requires { IsPlace self.now place }
         ensures { slice_get (list_of self.now place.bucket) place.slot ≡ Some result.now }
     {
-        self.buckets[place.bucket].entry_at(place.slot)
+        self.buckets.entry_at(place.bucket, place.slot)
     }
 
     /// How many entries the bucket holds.
@@ -109,7 +109,7 @@ where
         requires { bucket < bucket_count self.now }
         ensures { result ≡ length (list_of self.now bucket) }
     {
-        self.buckets[bucket].len()
+        self.buckets.bucket_len(bucket)
     }
 
     /// The number of the bucket of a hash, 0 where there is no array.
@@ -179,7 +179,7 @@ where
         ensures listed { IsListed (λ e. key_hash H.BuildHasher H.Hasher.Hasher E.Key.hash_input self.new (E.key_of e)) self.new }
         ensures unique { IsUniqueBy E.Key.eq E.key_of self.new }
     {
-        self.buckets[bucket].insert_reserved(entry, tag(hash));
+        self.buckets.insert_reserved(bucket, entry, tag(hash));
         self.length += 1;
     }
 

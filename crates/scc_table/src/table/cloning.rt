@@ -1,11 +1,14 @@
 //! How a table is made that holds clones of another's entries.
-ghost use Rattle.std.specs.Prelude.{◌≡◌, ◌*◌, [], ◌∷◌, IfOk, OnOk};
+ghost use Rattle.std.specs.Prelude.{◌≡◌, ◌*◌, ◌^◌, ◌<◌, [], ◌∷◌, length, IfOk, OnOk};
+ghost use Rattle.scc_array.specs.Shelves.{shelf_of};
+ghost use Rattle.scc_bucket.specs.Shelf.{shelf_entries};
 ghost use Rattle.scc_table.specs.Clones.{AddsClones, HasClones};
 ghost use Rattle.scc_table.specs.Contents.{entries, bucket_count, settings_of};
 
 use super::Table;
 use super::making::fresh_buckets;
 use crate::route::bucket_index;
+use scc_array::Array;
 use scc_bucket::Keyed;
 use scc_common::MakeError;
 use std::hash::{BuildHasher, Hash};
@@ -37,7 +40,7 @@ where
         ensures buckets { IfOk result (λ t. bucket_count t ≡ bucket_count self.now) }
         ensures settings { IfOk result (λ t. settings_of t ≡ record { hasher = hasher; skipped = (settings_of self.now).skipped; asked = 32 * bucket_count self.now; reserved = 0 }) }
     {
-        let alloc = *self.buckets.allocator();
+        let alloc = self.buckets.allocator();
         let count = self.buckets.len();
         if count == 0 {
             return Ok(Table::new(alloc, self.skipped, hasher));
@@ -63,22 +66,23 @@ where
         E: Clone,
         ensures { OnOk result (AddsClones E.is_clone (entries other.now) self.old self.new) }
     {
-        for bucket in other.buckets() {
-            let (slots, overflow) = bucket.parts();
-            self.insert_clones(slots)?;
-            self.insert_clones(overflow)?;
+        let array = other.array();
+        for bucket in 0..array.len() {
+            self.insert_clones(array, bucket)?;
         }
         Ok(())
     }
 
-    /// Puts in a clone of each of the entries, with no resize.
-    fn insert_clones(&mut self, sources: &[E]) -> Result<(), MakeError>
+    /// Puts in a clone of each entry of that bucket, with no resize.
+    fn insert_clones(&mut self, array: &Array<E>, bucket: usize) -> Result<(), MakeError>
     where
         E: Clone,
-        ensures { OnOk result (AddsClones E.is_clone sources.now self.old self.new) }
+        requires within { bucket < length array.now }
+        requires few { length (shelf_entries (shelf_of array.now bucket)) < 2 ^ 63 }
+        ensures { OnOk result (AddsClones E.is_clone (shelf_entries (shelf_of array.now bucket)) self.old self.new) }
     {
-        for source in sources {
-            self.insert_clone(source)?;
+        for place in 0..array.bucket_len(bucket) {
+            self.insert_clone(array.entry_at(bucket, place))?;
         }
         Ok(())
     }

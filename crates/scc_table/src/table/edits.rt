@@ -72,10 +72,10 @@ where
         ensures refused { refused_of self.new ≡ refused_of self.old }
         ensures unique { IsUniqueBy E.Key.eq E.key_of self.new }
     {
-        if self.buckets[bucket].is_full() && is_overflow_full(self.overflowing) {
+        if self.buckets.is_full(bucket) && is_overflow_full(self.overflowing) {
             return Err(entry);
         }
-        match self.buckets[bucket].insert(entry, tag(hash)) {
+        match self.buckets.insert(bucket, entry, tag(hash)) {
             Ok(slot) => {
                 self.length += 1;
                 self.overflowing += one_if(slot >= 32);
@@ -112,8 +112,8 @@ where
         ensures lists { IsBounded self.old → HasList self.old place.bucket (remove (list_of self.old place.bucket) place.slot) self.new }
         ensures unique { IsUniqueBy E.Key.eq E.key_of self.new }
     {
-        let in_overflow = self.buckets[place.bucket].is_overflow(place.slot);
-        let entry = self.buckets[place.bucket].remove_at(place.slot);
+        let in_overflow = self.buckets.is_overflow(place.bucket, place.slot);
+        let entry = self.buckets.remove_at(place.bucket, place.slot);
         self.length -= 1;
         self.overflowing -= one_if(in_overflow);
         entry

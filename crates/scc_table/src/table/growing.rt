@@ -37,7 +37,7 @@ where
             return self.first_bucket(hash);
         }
         let bucket = bucket_index(hash, self.skipped, count);
-        if self.buckets[bucket].len() >= 32 {
+        if self.buckets.bucket_len(bucket) >= 32 {
             return Ok(self.grow_for(hash));
         }
         Ok(bucket)

@@ -1,6 +1,7 @@
 //! How a table and its array are made.
 ghost use Rattle.std.specs.Arc.{arc_value};
-ghost use Rattle.std.specs.Prelude.{◌≡◌, ◌≢◌, ◌≤◌, ◌<◌, ◌+◌, ◌*◌, ◌^◌, [], length, IsOk, IfOk, OnOk, OnErr, vec_len};
+ghost use Rattle.std.specs.Prelude.{◌≡◌, ◌≢◌, ◌≤◌, ◌<◌, ◌+◌, ◌*◌, ◌^◌, [], length, IsOk, IfOk, OnOk, OnErr, slice_set};
+ghost use Rattle.scc_array.specs.Shelves.{shelf_of};
 ghost use Rattle.scc_table.specs.Bounded.{IsListed, IsResized};
 ghost use Rattle.scc_table.specs.Contents.{entries, bucket_count, settings_of, refused_of, minimum_of, key_hash};
 ghost use Rattle.scc_table.specs.Pour.{Fits};
@@ -10,7 +11,8 @@ ghost use Rattle.scc_table.specs.Tables.{AllEmpty};
 
 use super::Table;
 use crate::sizes::buckets_for;
-use scc_bucket::{Bucket, Keyed};
+use scc_array::Array;
+use scc_bucket::Keyed;
 use scc_common::{MakeError, Shared};
 use std::alloc::{AllocError, Global};
 use std::hash::{BuildHasher, Hash};
@@ -29,7 +31,7 @@ where
         ensures settings { settings_of result ≡ record { hasher = hasher; skipped = skipped; asked = 0; reserved = 0 } }
     {
         Table {
-            buckets: Vec::new(alloc),
+            buckets: Array::none(alloc),
             length: 0,
             overflowing: 0,
             asked: 0,
@@ -90,7 +92,7 @@ where
         ensures same { OnErr result (self.new ≡ self.old) }
     {
         let count = buckets_for(self.asked + self.reserved);
-        let alloc = *self.buckets.allocator();
+        let alloc = self.buckets.allocator();
         let buckets = fresh_buckets(alloc, count)?;
         let old = std::mem::replace(&mut self.buckets, buckets);
         old.destroy_empty();
@@ -124,58 +126,42 @@ where
 }
 
 /// So many empty buckets.
-pub(crate) fn fresh_buckets<E>(alloc: Global, count: usize) -> Result<Vec<Bucket<E>>, AllocError>
-    ensures count { IfOk result (λ v. length v.items ≡ count) }
-    ensures empty { IfOk result (λ v. AllEmpty v.items) }
+pub(crate) fn fresh_buckets<E>(alloc: Global, count: usize) -> Result<Array<E>, AllocError>
+    requires { count ≤ 2 ^ 58 }
+    ensures count { IfOk result (λ a. length a ≡ count) }
+    ensures empty { IfOk result (λ a. AllEmpty a) }
 {
-    let mut fresh = Vec::with_capacity(alloc, count)?;
-    for _ in 0..count {
-        match Bucket::with_room(alloc, 0) {
-            Ok(bucket) => match fresh.push(bucket) {
-                Ok(()) => {}
-                Err(_back) => unreachable!(),
-            },
-            Err(e) => {
-                destroy_buckets(fresh);
-                return Err(e);
-            }
-        }
-    }
-    Ok(fresh)
+    Array::with_buckets(alloc, count)
 }
 
 /// An empty bucket for each count, with room for as many entries.
-pub(crate) fn roomy_buckets<E>(
-    alloc: Global,
-    counts: &[usize],
-) -> Result<Vec<Bucket<E>>, AllocError>
-    ensures count { IfOk result (λ v. length v.items ≡ length counts.now) }
-    ensures empty { IfOk result (λ v. AllEmpty v.items) }
-    ensures fits { IfOk result (λ v. Fits counts.now v.items) }
+pub(crate) fn roomy_buckets<E>(alloc: Global, counts: &[usize]) -> Result<Array<E>, AllocError>
+    requires { length counts.now ≤ 2 ^ 58 }
+    ensures count { IfOk result (λ a. length a ≡ length counts.now) }
+    ensures empty { IfOk result (λ a. AllEmpty a) }
+    ensures fits { IfOk result (λ a. Fits counts.now a) }
 {
-    let mut fresh = Vec::with_capacity(alloc, counts.len())?;
-    for count in counts {
-        match Bucket::with_room(alloc, count.saturating_sub(32)) {
-            Ok(bucket) => match fresh.push(bucket) {
-                Ok(()) => {}
-                Err(_back) => unreachable!(),
-            },
-            Err(e) => {
-                destroy_buckets(fresh);
-                return Err(e);
+    let mut fresh = fresh_buckets(alloc, counts.len())?;
+    for bucket in 0..counts.len() {
+        match reserve_for(&mut fresh, bucket, counts[bucket]) {
+            Ok(()) => {}
+            Err(refused) => {
+                fresh.destroy_empty();
+                return Err(refused);
             }
         }
     }
     Ok(fresh)
 }
 
-/// Frees buckets that hold no entry.
-pub(crate) fn destroy_buckets<E>(buckets: Vec<Bucket<E>>)
-    requires { AllEmpty buckets.items }
+/// Room for so many entries in an empty bucket.
+fn reserve_for<E>(fresh: &mut Array<E>, bucket: usize, count: usize) -> Result<(), AllocError>
+    requires { bucket < length fresh.old }
+    ensures value { fresh.new ≡ slice_set fresh.old bucket (record (shelf_of fresh.old bucket) { room = (shelf_of fresh.new bucket).room }) }
+    ensures room { OnOk result (count ≤ 32 + (shelf_of fresh.new bucket).room) }
 {
-    let mut buckets = buckets;
-    while let Some(bucket) = buckets.pop() {
-        bucket.destroy_empty();
+    if count <= 32 {
+        return Ok(());
     }
-    buckets.destroy_empty();
+    fresh.reserve_overflow(bucket, count - 32)
 }

@@ -13,11 +13,12 @@ ghost use Rattle.scc_table.specs.Writes.{with_write_at};
 
 use super::Table;
 use super::edits::{OVERFLOW_LIMIT, one_if};
-use super::making::{destroy_buckets, fresh_buckets};
+use super::making::fresh_buckets;
 use crate::place::Place;
 use crate::route::{bucket_index, tag};
 use crate::sizes::{MOST_BUCKETS, buckets_for};
-use scc_bucket::{Bucket, Keyed, Made};
+use scc_array::Array;
+use scc_bucket::{Keyed, Made};
 use std::alloc::Global;
 use std::hash::{BuildHasher, Hash};
 
@@ -27,7 +28,7 @@ where
 {
     /// What the table takes its memory from.
     pub fn allocator(&self) -> Global {
-        *self.buckets.allocator()
+        self.buckets.allocator()
     }
 
     /// Puts the entry in the place of the one there, whose key it equals, and answers that one.
@@ -37,7 +38,7 @@ where
         ensures old { slice_get (entries self.old) (index_of self.old place) ≡ Some result }
         ensures new { self.new ≡ with_write_at put_whole self.old place entry }
     {
-        self.buckets[place.bucket].replace_at(place.slot, entry)
+        self.buckets.replace_at(place.bucket, place.slot, entry)
     }
 }
 
@@ -63,7 +64,7 @@ where
             return self.insert_made_first(hash, parts);
         }
         let bucket = bucket_index(hash, self.skipped, count);
-        if self.buckets[bucket].len() >= 32 {
+        if self.buckets.bucket_len(bucket) >= 32 {
             return self.insert_made_full(bucket, hash, parts);
         }
         self.insert_made_in(bucket, hash, parts)
@@ -82,7 +83,7 @@ where
         ensures unique { IsUniqueBy E.Key.eq E.key_of self.new }
     {
         let count = buckets_for(self.asked + self.reserved);
-        match fresh_buckets(*self.buckets.allocator(), count) {
+        match fresh_buckets(self.buckets.allocator(), count) {
             Ok(fresh) => self.insert_made_with(fresh, hash, parts),
             Err(_) => Err(parts),
         }
@@ -124,27 +125,27 @@ where
     /// The same into empty buckets that take the place of the old ones, with room for all entries and the new one.
     fn insert_made_with(
         &mut self,
-        fresh: Vec<Bucket<E>>,
+        fresh: Array<E>,
         hash: u64,
         parts: E::Parts,
     ) -> Result<Place, E::Parts>
-        requires array { IsArray (length fresh.items) }
-        requires more { bucket_count self.old ≤ length fresh.items }
-        requires empty { AllEmpty fresh.items }
+        requires array { IsArray (length fresh) }
+        requires more { bucket_count self.old ≤ length fresh }
+        requires empty { AllEmpty fresh }
         requires few { length (entries self.old) < 2 ^ 62 }
-        requires room { RoomFor (λ e. key_hash H.BuildHasher H.Hasher.Hasher E.Key.hash_input self.old (E.key_of e)) (settings_of self.old).skipped (length fresh.items) fresh.items (entries self.old ++ E.made_of parts ∷ []) }
+        requires room { RoomFor (λ e. key_hash H.BuildHasher H.Hasher.Hasher E.Key.hash_input self.old (E.key_of e)) (settings_of self.old).skipped (length fresh) fresh (entries self.old ++ E.made_of parts ∷ []) }
         requires hashed { hash ≡ key_hash H.BuildHasher H.Hasher.Hasher E.Key.hash_input self.old (E.key_of (E.made_of parts)) }
         requires absent { position (λ e. E.Key.eq (E.key_of (E.made_of parts)) (E.key_of e)) (entries self.old) ≡ None }
         ensures ok { IfOk result (IsInsertedAt self.old (E.made_of parts) self.new) }
-        ensures count { OnOk result (bucket_count self.new ≡ length fresh.items) }
+        ensures count { OnOk result (bucket_count self.new ≡ length fresh) }
         ensures down { OnOk result (refused_of self.new ≡ false) }
         ensures err { IfErr result (λ p. (p ≡ parts) × (self.new ≡ self.old)) }
         ensures unique { IsUniqueBy E.Key.eq E.key_of self.new }
     {
-        match E::make(*self.buckets.allocator(), parts) {
+        match E::make(self.buckets.allocator(), parts) {
             Ok(entry) => Ok(self.refill_with(fresh, hash, entry)),
             Err(back) => {
-                destroy_buckets(fresh);
+                fresh.destroy_empty();
                 Err(back)
             }
         }
@@ -168,10 +169,10 @@ where
         ensures refused { refused_of self.new ≡ refused_of self.old }
         ensures unique { IsUniqueBy E.Key.eq E.key_of self.new }
     {
-        if self.buckets[bucket].is_full() && self.overflowing >= OVERFLOW_LIMIT - 1 {
+        if self.buckets.is_full(bucket) && self.overflowing >= OVERFLOW_LIMIT - 1 {
             return Err(parts);
         }
-        match self.buckets[bucket].insert_made(parts, tag(hash)) {
+        match self.buckets.insert_made(bucket, parts, tag(hash)) {
             Ok(slot) => {
                 self.length += 1;
                 self.overflowing += one_if(slot >= 32);

@@ -41,8 +41,8 @@ where
         ensures settings { settings_of self.new ≡ settings_of self.old }
         ensures unique { IsUniqueBy E.Key.eq E.key_of self.new }
     {
-        let in_overflow = self.buckets[place.bucket].is_overflow(place.slot);
-        let entry = self.buckets[place.bucket].swap_remove_at(place.slot);
+        let in_overflow = self.buckets.is_overflow(place.bucket, place.slot);
+        let entry = self.buckets.swap_remove_at(place.bucket, place.slot);
         self.length -= 1;
         self.overflowing -= one_if(in_overflow);
         entry

@@ -16,7 +16,8 @@ use crate::place::Place;
 use crate::pour::{regroup, regroup_with};
 use crate::route::bucket_index;
 use crate::tally::{count_overflow, tally};
-use scc_bucket::{Bucket, Keyed};
+use scc_array::Array;
+use scc_bucket::Keyed;
 use std::alloc::AllocError;
 use std::hash::{BuildHasher, Hash};
 
@@ -25,40 +26,34 @@ where
     E::Key: Eq + Hash,
 {
     /// The half of a resize that takes memory: empty buckets, each with room for the entries that it will get.
-    fn fresh_for(&self, count: usize) -> Result<Vec<Bucket<E>>, AllocError>
+    fn fresh_for(&self, count: usize) -> Result<Array<E>, AllocError>
         requires array { IsArray count }
         requires few { length (entries self.now) < 2 ^ 62 }
-        ensures count { IfOk result (λ v. length v.items ≡ count) }
-        ensures empty { IfOk result (λ v. AllEmpty v.items) }
-        ensures room { IfOk result (λ v. RoomFor (λ e. key_hash H.BuildHasher H.Hasher.Hasher E.Key.hash_input self.now (E.key_of e)) (settings_of self.now).skipped count v.items (entries self.now)) }
+        ensures count { IfOk result (λ v. length v ≡ count) }
+        ensures empty { IfOk result (λ v. AllEmpty v) }
+        ensures room { IfOk result (λ v. RoomFor (λ e. key_hash H.BuildHasher H.Hasher.Hasher E.Key.hash_input self.now (E.key_of e)) (settings_of self.now).skipped count v (entries self.now)) }
     {
-        let alloc = *self.buckets.allocator();
-        let counts = tally(
-            alloc,
-            self.buckets.as_slice(),
-            &self.hasher,
-            self.skipped,
-            count,
-        )?;
+        let alloc = self.buckets.allocator();
+        let counts = tally(alloc, &self.buckets, &self.hasher, self.skipped, count)?;
         roomy_buckets(alloc, counts.as_slice())
     }
 
     /// The half of a resize that takes no memory: each entry moves once, to the end of its bucket.
-    fn refill(&mut self, fresh: Vec<Bucket<E>>)
-        requires array { IsArray (length fresh.items) }
-        requires empty { AllEmpty fresh.items }
+    fn refill(&mut self, fresh: Array<E>)
+        requires array { IsArray (length fresh) }
+        requires empty { AllEmpty fresh }
         requires few { length (entries self.old) < 2 ^ 62 }
-        requires room { RoomFor (λ e. key_hash H.BuildHasher H.Hasher.Hasher E.Key.hash_input self.old (E.key_of e)) (settings_of self.old).skipped (length fresh.items) fresh.items (entries self.old) }
-        ensures lists { IsRegrouped (λ e. key_hash H.BuildHasher H.Hasher.Hasher E.Key.hash_input self.old (E.key_of e)) (length fresh.items) self.old self.new }
+        requires room { RoomFor (λ e. key_hash H.BuildHasher H.Hasher.Hasher E.Key.hash_input self.old (E.key_of e)) (settings_of self.old).skipped (length fresh) fresh (entries self.old) }
+        ensures lists { IsRegrouped (λ e. key_hash H.BuildHasher H.Hasher.Hasher E.Key.hash_input self.old (E.key_of e)) (length fresh) self.old self.new }
         ensures same { IsPermutation (entries self.old) (entries self.new) }
         ensures down { refused_of self.new ≡ false }
-        ensures bounded { ((i : ℕ) → i < length fresh.items → length (bound_for (λ e. key_hash H.BuildHasher H.Hasher.Hasher E.Key.hash_input self.old (E.key_of e)) (settings_of self.old).skipped (length fresh.items) i (entries self.old)) ≤ 32) → IsBounded self.new }
+        ensures bounded { ((i : ℕ) → i < length fresh → length (bound_for (λ e. key_hash H.BuildHasher H.Hasher.Hasher E.Key.hash_input self.old (E.key_of e)) (settings_of self.old).skipped (length fresh) i (entries self.old)) ≤ 32) → IsBounded self.new }
         ensures unique { IsUniqueBy E.Key.eq E.key_of self.new }
     {
         let count = fresh.len();
         let old = std::mem::replace(&mut self.buckets, fresh);
         regroup(&mut self.buckets, old, &self.hasher, self.skipped, count);
-        self.overflowing = count_overflow(self.buckets.as_slice());
+        self.overflowing = count_overflow(&self.buckets);
         self.refused = false;
     }
 
@@ -69,8 +64,8 @@ where
         ensures { IfOk result (λ v. IsTally (λ e. key_hash H.BuildHasher H.Hasher.Hasher E.Key.hash_input self.now (E.key_of e)) (settings_of self.now).skipped count v.items (entries self.now)) }
     {
         tally(
-            *self.buckets.allocator(),
-            self.buckets.as_slice(),
+            self.buckets.allocator(),
+            &self.buckets,
             &self.hasher,
             self.skipped,
             count,
@@ -106,7 +101,7 @@ where
         ensures same { IsPermutation (entries self.old) (entries self.new) }
         ensures settings { settings_of self.new ≡ settings_of self.old }
     {
-        let alloc = *self.buckets.allocator();
+        let alloc = self.buckets.allocator();
         match roomy_buckets(alloc, counts.as_slice()) {
             Ok(fresh) => self.refill(fresh),
             Err(_) => self.refused = true,
@@ -114,30 +109,30 @@ where
     }
 
     /// The half of a growth that takes memory: empty buckets, each with room for the entries that it will get, and that of the hash for one more.
-    pub(crate) fn fresh_with(&self, count: usize, hash: u64) -> Result<Vec<Bucket<E>>, AllocError>
+    pub(crate) fn fresh_with(&self, count: usize, hash: u64) -> Result<Array<E>, AllocError>
         requires array { IsArray count }
         requires few { length (entries self.now) < 2 ^ 62 }
-        ensures count { IfOk result (λ v. length v.items ≡ count) }
-        ensures empty { IfOk result (λ v. AllEmpty v.items) }
-        ensures room { IfOk result (λ v. (e : E) → hash ≡ key_hash H.BuildHasher H.Hasher.Hasher E.Key.hash_input self.now (E.key_of e) → RoomFor (λ e. key_hash H.BuildHasher H.Hasher.Hasher E.Key.hash_input self.now (E.key_of e)) (settings_of self.now).skipped count v.items (entries self.now ++ e ∷ [])) }
+        ensures count { IfOk result (λ v. length v ≡ count) }
+        ensures empty { IfOk result (λ v. AllEmpty v) }
+        ensures room { IfOk result (λ v. (e : E) → hash ≡ key_hash H.BuildHasher H.Hasher.Hasher E.Key.hash_input self.now (E.key_of e) → RoomFor (λ e. key_hash H.BuildHasher H.Hasher.Hasher E.Key.hash_input self.now (E.key_of e)) (settings_of self.now).skipped count v (entries self.now ++ e ∷ [])) }
     {
         let mut counts = self.counts_for(count)?;
         let to = bucket_index(hash, self.skipped, count);
         counts[to] += 1;
-        roomy_buckets(*self.buckets.allocator(), counts.as_slice())
+        roomy_buckets(self.buckets.allocator(), counts.as_slice())
     }
 
     /// The half of a growth that takes no memory: each entry moves once, to the end of its bucket, and then the new one, whose key is new, comes to the end of its own. Answers its place.
-    pub(crate) fn refill_with(&mut self, fresh: Vec<Bucket<E>>, hash: u64, entry: E) -> Place
-        requires array { IsArray (length fresh.items) }
-        requires more { bucket_count self.old ≤ length fresh.items }
-        requires empty { AllEmpty fresh.items }
+    pub(crate) fn refill_with(&mut self, fresh: Array<E>, hash: u64, entry: E) -> Place
+        requires array { IsArray (length fresh) }
+        requires more { bucket_count self.old ≤ length fresh }
+        requires empty { AllEmpty fresh }
         requires few { length (entries self.old) < 2 ^ 62 }
-        requires room { RoomFor (λ e. key_hash H.BuildHasher H.Hasher.Hasher E.Key.hash_input self.old (E.key_of e)) (settings_of self.old).skipped (length fresh.items) fresh.items (entries self.old ++ entry ∷ []) }
+        requires room { RoomFor (λ e. key_hash H.BuildHasher H.Hasher.Hasher E.Key.hash_input self.old (E.key_of e)) (settings_of self.old).skipped (length fresh) fresh (entries self.old ++ entry ∷ []) }
         requires hashed { hash ≡ key_hash H.BuildHasher H.Hasher.Hasher E.Key.hash_input self.old (E.key_of entry) }
         requires absent { position (λ e. E.Key.eq (E.key_of entry) (E.key_of e)) (entries self.old) ≡ None }
         ensures ok { IsInsertedAt self.old entry self.new result }
-        ensures count { bucket_count self.new ≡ length fresh.items }
+        ensures count { bucket_count self.new ≡ length fresh }
         ensures down { refused_of self.new ≡ false }
         ensures unique { IsUniqueBy E.Key.eq E.key_of self.new }
     {
@@ -152,7 +147,7 @@ where
             self.skipped,
             count,
         );
-        self.overflowing = count_overflow(self.buckets.as_slice());
+        self.overflowing = count_overflow(&self.buckets);
         self.length += 1;
         self.refused = false;
         place

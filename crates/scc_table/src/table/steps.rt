@@ -26,7 +26,7 @@ where
         ensures { MatchOption result (suc (index_of self.now place) ≡ length (entries self.now)) (StandsAt self.now (suc (index_of self.now place))) }
     {
         let bucket = place.bucket;
-        let count = self.buckets[bucket].len();
+        let count = self.buckets.bucket_len(bucket);
         let slot = place.slot + 1;
         if slot < count {
             return Some(Place { bucket, slot });
@@ -45,7 +45,7 @@ where
         let mut bucket = place.bucket;
         let mut slot = place.slot;
         'buckets: while bucket < self.buckets.len() {
-            if slot < self.buckets[bucket].len() {
+            if slot < self.buckets.bucket_len(bucket) {
                 return Some(Place { bucket, slot });
             }
             bucket += 1;

@@ -22,8 +22,7 @@ where
         ensures* writes_back { sem 𝓛 (lends_value E.row H.row E.Key.row H.Hasher.row E.Value.row E.Keyed E.Key.Hash H.BuildHasher H.Hasher.Hasher E.with_value self.entry place result) }
         ensures value { (e : E) × (slice_get (entries self.old) (index_of self.old place) ≡ Some e) × (result.now ≡ E.value_of e) }
     {
-        let bucket = &mut self.buckets[place.bucket];
-        bucket.value_mut_at(place.slot)
+        self.buckets.value_mut_at(place.bucket, place.slot)
     }
 
     /// The key of the entry at the place, and its value to write.
@@ -33,8 +32,7 @@ where
         ensures* writes_back { sem 𝓛 (lends_value E.row H.row E.Key.row H.Hasher.row E.Value.row E.Keyed E.Key.Hash H.BuildHasher H.Hasher.Hasher E.with_value self.entry place result.1) }
         ensures parts { (e : E) × (slice_get (entries self.old) (index_of self.old place) ≡ Some e) × (result.0.now ≡ E.Keyed.key_of e) × (result.1.now ≡ E.value_of e) }
     {
-        let bucket = &mut self.buckets[place.bucket];
-        bucket.parts_mut_at(place.slot)
+        self.buckets.parts_mut_at(place.bucket, place.slot)
     }
 
     /// Puts the key in the place of the one there, which it equals, and answers that one.
@@ -44,6 +42,6 @@ where
         ensures old { (e : E) × (slice_get (entries self.old) (index_of self.old place) ≡ Some e) × (result ≡ E.Keyed.key_of e) }
         ensures new { self.new ≡ with_write_at E.with_key self.old place key }
     {
-        self.buckets[place.bucket].replace_key_at(place.slot, key)
+        self.buckets.replace_key_at(place.bucket, place.slot, key)
     }
 }

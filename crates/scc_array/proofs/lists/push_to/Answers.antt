@@ -7,7 +7,7 @@ pub returns-in-Ok : goal.returns-in-Ok
 returns-in-Ok g c =
     let u = c.index_mut-list.result.now in
     let held = list-read c.args.lists.now.items c.args.bucket u c.requires c.index_mut-list.ensures.value in
-    (u, c.push.new.self, held, ap (λ n. 32 + n) (c.len-place.ensures ∙ u.ok.0), c.in-Ok.ensures.items, refl)
+    (u, c.push.new.self, held, ap (λ n. 32 + n) (c.len-place.ensures ∙ u.ok.0), c.in-Ok.ensures.items, c.push.ensures.capacity, refl)
 
 pub returns-in-Err : goal.returns-in-Err
 returns-in-Err g c =

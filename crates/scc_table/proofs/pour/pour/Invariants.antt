@@ -4,7 +4,7 @@ use Rattle.scc_table.proofs.Pours.{PouredUntil}
 use Rattle.scc_table.proofs.pour.pour.Given as goal
 
 abbrev pub invariant-loop-entry : goal.invariant-loop-entry
-invariant-loop-entry g l = PouredUntil (λ e. hash_of g.H.BuildHasher g.H.Hasher.Hasher l.hasher (g.E.Key.Hash.hash_input (g.E.Keyed.key_of e))) l.skipped l.count l.initial.fresh.items l.fresh.items l.fn.from.items (into_iter_items l.entries)
+invariant-loop-entry g l = PouredUntil (λ e. hash_of g.H.BuildHasher g.H.Hasher.Hasher l.hasher (g.E.Key.Hash.hash_input (g.E.Keyed.key_of e))) l.skipped l.count l.initial.fresh l.fresh l.fn.from.items (into_iter_items l.entries)
 
 abbrev pub decreases-loop-entry : goal.decreases-loop-entry
 decreases-loop-entry g l = into_iter_len l.entries

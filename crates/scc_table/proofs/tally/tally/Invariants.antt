@@ -6,4 +6,4 @@ use Rattle.scc_bucket.specs.Shelf.{shelf_entries}
 use Rattle.scc_table.proofs.tally.tally.Given as goal
 
 abbrev pub invariant-loop-bucket : goal.invariant-loop-bucket
-invariant-loop-bucket g l = IsTally (λ e. hash_of g.H.BuildHasher g.H.Hasher.Hasher l.hasher (g.E.Key.Hash.hash_input (g.E.Keyed.key_of e))) l.skipped l.count l.counts.items (flat_map shelf_entries (take l.bucket-index l.buckets))
+invariant-loop-bucket g l = IsTally (λ e. hash_of g.H.BuildHasher g.H.Hasher.Hasher l.hasher (g.E.Key.Hash.hash_input (g.E.Keyed.key_of e))) l.skipped l.count l.counts.items (flat_map shelf_entries (take l.bucket l.array))

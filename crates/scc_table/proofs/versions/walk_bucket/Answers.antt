@@ -1,14 +1,34 @@
-use Rattle.scc_bucket.proofs.WalkLemmas.{callable-after, turn-front, walk-append, walk-stopped}
+use Rattle.std.proofs.Common.{◌≡◌, ◌≤◌, ◌∙◌, ◌∷◌, [], suc, refl, sym, ap, drop, add-one, length, rules, true, false}
+use Rattle.scc_array.specs.Shelves.{shelf_of}
+use Rattle.scc_bucket.specs.Shelf.{shelf_entries}
+use Rattle.scc_bucket.specs.Walks.{ended, stopped, went_on}
+use Rattle.scc_bucket.proofs.WalkLemmas.{turn-first, turn-others, drop-past}
+use Rattle.scc_table.proofs.Arrays.{drop-got}
 use Rattle.scc_table.proofs.versions.walk_bucket.Goals as goal
 
-pub walk_versions-requires : goal.walk_versions-requires
-walk_versions-requires g c = turn-front _ _ c.parts.result.0.now c.parts.result.1.now (rw c.parts.ensures at c.requires)
+pub f-requires : goal.f-requires
+f-requires g c =
+    let xs = shelf_entries (shelf_of c.args.array.now c.args.bucket) in
+    let rest = drop-got xs c.loop-place.place c.entry_of.result.now c.entry_of.ensures in
+    turn-first _ _ (rw rest at c.loop-place.invariant.callable) _ _ (let s : (c.key.result.now, c.value.result.now) ≡ c.entry_of.result.now = rw (c.key.ensures, c.value.ensures, c.version-version.ensures) refl in s)
 
-pub walk_versions-requires-2 : goal.walk_versions-requires-2
-walk_versions-requires-2 g c = callable-after g.F.FnMut c.parts.result.0.now c.parts.result.1.now (rw c.parts.ensures at c.requires) c.if-not-walk_versions.ensures
+pub returns-then-not-f : goal.returns-then-not-f
+returns-then-not-f g c =
+    let xs = shelf_entries (shelf_of c.args.array.now c.args.bucket) in
+    let rest = drop-got xs c.loop-place.place c.entry_of.result.now c.entry_of.ensures in
+    c.loop-place.invariant.rest false c.f.new.self (rw rest (stopped record { key = _; value = _; shows = (let s : (c.key.result.now, c.value.result.now) ≡ c.entry_of.result.now = rw (c.key.ensures, c.value.ensures, c.version-version.ensures) refl in s); called = c.if-not-f.ensures }))
 
-pub returns-then-not-walk_versions : goal.returns-then-not-walk_versions
-returns-then-not-walk_versions g c = rw c.parts.ensures (walk-stopped c.parts.result.1.now c.if-not-walk_versions.ensures)
+pub loop-place-preserved : goal.loop-place-preserved
+loop-place-preserved g c =
+    let xs = shelf_entries (shelf_of c.args.array.now c.args.bucket) in
+    let rest = drop-got xs c.loop-place.place c.entry_of.result.now c.entry_of.ensures in
+    record {
+      callable = rw add-one (turn-others _ _ (rw rest at c.loop-place.invariant.callable) record { key = _; value = _; shows = (let s : (c.key.result.now, c.value.result.now) ≡ c.entry_of.result.now = rw (c.key.ensures, c.value.ensures, c.version-version.ensures) refl in s); called = c.if-not-f.ensures });
+      rest = λ b last w. c.loop-place.invariant.rest b last (rw rest (went_on record { key = _; value = _; shows = (let s : (c.key.result.now, c.value.result.now) ≡ c.entry_of.result.now = rw (c.key.ensures, c.value.ensures, c.version-version.ensures) refl in s); called = c.if-not-f.ensures } (rw add-one at w)));
+    }
 
 pub returns : goal.returns
-returns g c = rw c.parts.ensures (walk-append c.if-not-walk_versions.ensures c.walk_versions-2.ensures)
+returns g c =
+    let xs = shelf_entries (shelf_of c.args.array.now c.args.bucket) in
+    let far : length xs ≤ c.loop-place.place = search rules in
+    c.loop-place.invariant.rest true c.loop-place.f (rw (drop-past xs c.loop-place.place far) ended)

@@ -4,10 +4,10 @@ use Rattle.scc_table.proofs.table.Table.bucket_count.Goals as goal
 
 pub returns-clause-count : goal.returns-clause-count
 returns-clause-count g c =
-    let len : c.len.result ≡ length c.self.inside.buckets.items = search rules in
-    len ∙ sym (count-view c.self.inside.buckets.items _ c.args.self.now c.self.view_is)
+    let len : c.len.result ≡ length c.self.inside.buckets = search rules in
+    len ∙ sym (count-view c.self.inside.buckets _ c.args.self.now c.self.view_is)
 
 pub returns-clause-lawful : goal.returns-clause-lawful
 returns-clause-lawful g c =
-    let len : c.len.result ≡ length c.self.inside.buckets.items = search rules in
+    let len : c.len.result ≡ length c.self.inside.buckets = search rules in
     rw len c.self.invariant.table.sized

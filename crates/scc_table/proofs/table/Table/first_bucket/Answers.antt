@@ -15,13 +15,13 @@ returns-clause-unique g c = rw c.make_array.ensures.still tt
 
 pub returns-clause-within : goal.returns-clause-within
 returns-clause-within g c =
-    let bs = c.self.inside.buckets.items in
+    let bs = c.self.inside.buckets in
     let positive : 0 < bucket_count c.make_array.new.self = omega (arith, c.in_ok-make_array.ensures.array.least) in
     let some = rw (count-view bs _ c.make_array.new.self c.self.view_is) at positive in
     rw (count-view bs _ c.make_array.new.self c.self.view_is) (search rules)
 
 pub returns-clause-routed : goal.returns-clause-routed
 returns-clause-routed g c =
-    let bs = c.self.inside.buckets.items in
+    let bs = c.self.inside.buckets in
     let len : c.len.result ≡ length bs = search rules in
     rw (settings-view bs _ c.make_array.new.self c.self.view_is, count-view bs _ c.make_array.new.self c.self.view_is) (c.bucket_index.ensures.value ∙ ap (λ n. bucket_number c.self.inside.skipped n c.args.hash) len)

@@ -27,7 +27,7 @@ if_all (Err e) p q r f = tt
 
 pub returns-clause-room : goal.returns-clause-room
 returns-clause-room g c =
-    let bs = c.self.inside.buckets.items in
+    let bs = c.self.inside.buckets in
     let i = c.bucket_index-to.result in
     let counts = c.in_ok-counts.counts.items in
     let t = settings_of c.args.self.now in
@@ -41,4 +41,4 @@ returns-clause-room g c =
     let to : i ≡ bucket_number t.skipped c.args.count (hash_of g.H.BuildHasher g.H.Hasher.Hasher t.hasher (g.E.Key.Hash.hash_input (g.E.Keyed.key_of x)))
     = c.bucket_index-to.ensures.value ∙ ap (λ s. bucket_number s.skipped c.args.count c.args.hash) (sym (settings-view bs _ c.args.self.now c.self.view_is)) ∙ ap (bucket_number t.skipped c.args.count) hashed in
     let more = tally-last (λ y. hash_of g.H.BuildHasher g.H.Hasher.Hasher t.hasher (g.E.Key.Hash.hash_input (g.E.Keyed.key_of y))) t.skipped c.args.count i (entries c.args.self.now) x to counts w l in
-    room-for _ t.skipped c.args.count (set counts i (get_or counts i 0 + 1)) v.items (entries c.args.self.now ++ x ∷ []) e (rw slice at f) more (n ∙ ap length slice ∙ more.count))
+    room-for _ t.skipped c.args.count (set counts i (get_or counts i 0 + 1)) v (entries c.args.self.now ++ x ∷ []) e (rw slice at f) more (n ∙ ap length slice ∙ more.count))

@@ -5,13 +5,13 @@ use Rattle.scc_table.proofs.table.Table.insert_clone.Goals as goal
 
 pub insert_in-requires-clause-within : goal.insert_in-requires-clause-within
 insert_in-requires-clause-within g c =
-    let bs = c.self.inside.buckets.items in
+    let bs = c.self.inside.buckets in
     let len : c.len-count.result ≡ length bs = search rules in
     rw (count-view bs _ c.args.self.now c.self.view_is) (omega (arith, len, c.bucket_index-bucket.ensures.within (omega (arith, c.if-count-eq0.false))))
 
 pub insert_in-requires-clause-routed : goal.insert_in-requires-clause-routed
 insert_in-requires-clause-routed g c =
-    let bs = c.self.inside.buckets.items in
+    let bs = c.self.inside.buckets in
     let len : c.len-count.result ≡ length bs = search rules in
     rw (settings-view bs _ c.args.self.now c.self.view_is, count-view bs _ c.args.self.now c.self.view_is) (c.bucket_index-bucket.ensures.value ∙ ap (λ n. bucket_number c.self.inside.skipped n c.hash-hash.result) len)
 

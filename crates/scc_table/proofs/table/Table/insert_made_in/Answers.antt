@@ -7,52 +7,54 @@ use Rattle.scc_table.proofs.Inserts.{inserted-at, inserted-table, inserted-holds
 use native.Mathlib.Decide.{dec_lt}
 use Rattle.scc_table.proofs.Counting.{count-in_bucket}
 use Rattle.scc_table.proofs.Views.{entries-view, count-view, settings-view, refused-view}
+use Rattle.scc_array.specs.Shelves.{shelf_of}
+use Rattle.scc_table.proofs.Arrays.{shelf-at, put-is, put-own}
 use Rattle.scc_table.proofs.table.Table.insert_made_in.Goals as goal
 use Rattle.scc_table.proofs.table.Table.insert_made_in.Goals.{else-is_full-via-then-is_full+else-self, else-is_full-via-else-is_full}
 
 pub returns-then-self-clause-unique : goal.returns-then-self-clause-unique
 returns-then-self-clause-unique g c =
-    rw (entries-view c.self.inside.buckets.items _ c.args.self.now c.self.view_is) c.self.invariant.unique
+    rw (entries-view c.self.inside.buckets _ c.args.self.now c.self.view_is) c.self.invariant.unique
 
-pub index-requires : goal.index-requires
-index-requires g c =
-    let l = rw (count-view c.self.inside.buckets.items _ c.args.self.now c.self.view_is) at c.requires.within in
+pub is_full-requires : goal.is_full-requires
+is_full-requires g c =
+    let l = rw (count-view c.self.inside.buckets _ c.args.self.now c.self.view_is) at c.requires.within in
     search rules
 
-pub index_mut-requires : goal.index_mut-requires
-index_mut-requires g c =
+pub insert_made-requires-clause-bucket : goal.insert_made-requires-clause-bucket
+insert_made-requires-clause-bucket g c =
     let t = c.self.inside in
-    let bs = t.buckets.items in
+    let bs = t.buckets in
     let i = c.args.bucket in
     let count = count-view bs _ c.args.self.now c.self.view_is in
     let l : i < length bs = rw count at c.requires.within in
     search rules
 
-pub insert_made-requires : goal.insert_made-requires
-insert_made-requires g c =
+pub insert_made-requires-clause-few : goal.insert_made-requires-clause-few
+insert_made-requires-clause-few g c =
     let t = c.self.inside in
-    let bs = t.buckets.items in
+    let bs = t.buckets in
     let i = c.args.bucket in
     let count = count-view bs _ c.args.self.now c.self.view_is in
     let l : i < length bs = rw count at c.requires.within in
-    bucket-bound (λ e. hash_of g.H.BuildHasher g.H.Hasher.Hasher c.self.inside.hasher (g.E.Key.Hash.hash_input (g.E.Keyed.key_of e))) t.skipped t.length t.overflowing i bs c.index_mut.result.now c.self.invariant.table l c.index_mut.ensures.value
+    bucket-bound (λ e. hash_of g.H.BuildHasher g.H.Hasher.Hasher c.self.inside.hasher (g.E.Key.Hash.hash_input (g.E.Keyed.key_of e))) t.skipped t.length t.overflowing i bs (shelf_of c.self.inside.buckets c.args.bucket) c.self.invariant.table l (shelf-at c.self.inside.buckets c.args.bucket l)
 
 pub overflow_add-self : goal.overflow_add-self
 overflow_add-self g c =
-    record { fits = let m = table-bound (λ e. hash_of g.H.BuildHasher g.H.Hasher.Hasher c.self.inside.hasher (g.E.Key.Hash.hash_input (g.E.Keyed.key_of e))) c.self.inside.skipped c.self.inside.length c.self.inside.overflowing c.self.inside.buckets.items c.self.invariant.table in omega arith }
+    record { fits = let m = table-bound (λ e. hash_of g.H.BuildHasher g.H.Hasher.Hasher c.self.inside.hasher (g.E.Key.Hash.hash_input (g.E.Keyed.key_of e))) c.self.inside.skipped c.self.inside.length c.self.inside.overflowing c.self.inside.buckets c.self.invariant.table in omega arith }
 
 pub invariant_of-self : goal.invariant_of-self
 invariant_of-self g c =
     let t = c.self.inside in
-    let bs = t.buckets.items in
+    let bs = t.buckets in
     let i = c.args.bucket in
     let count = count-view bs _ c.args.self.now c.self.view_is in
     let l : i < length bs = rw count at c.requires.within in
-    let b = c.index_mut.result.now in
+    let b = (shelf_of c.self.inside.buckets c.args.bucket) in
     let hashed = rw (settings-view bs _ c.args.self.now c.self.view_is) at c.requires.hashed in
     let routed : i ≡ bucket_number t.skipped (length bs) (hash_of g.H.BuildHasher g.H.Hasher.Hasher t.hasher (g.E.Key.Hash.hash_input (g.E.Keyed.key_of (g.E.Made.made_of c.args.parts)))) =
     let at = rw (settings-view bs _ c.args.self.now c.self.view_is, count) at c.requires.routed in at ∙ ap (bucket_number t.skipped (length bs)) hashed in
-    let stored = c.in-Ok.ensures.ok.1 ∙ ap (λ x. let r : Shelf g.row.E.Denot = record (with_entry b (g.E.Made.made_of c.args.parts) x) { room = c.insert_made.new.self.room } in r) (c.tag.ensures ∙ ap tag_of hashed) in
+    let stored = (put-is c.self.inside.buckets c.args.bucket l c.insert_made.new.self _ c.in-Ok.ensures.ok.1) ∙ ap (λ x. let r : Shelf g.row.E.Denot = record (with_entry b (g.E.Made.made_of c.args.parts) x) { room = (shelf_of c.insert_made.new.self c.args.bucket).room } in r) (c.tag.ensures ∙ ap tag_of hashed) in
     let low : c.in-Ok.slot < 32 → c.one_if.result ≡ 0 = search rules in
     let high : 32 ≤ c.in-Ok.slot → c.one_if.result ≡ 1 = search rules in
     let few : t.overflowing + c.one_if.result < 2 ^ 62 = elim (dec_lt c.in-Ok.slot 32) [
@@ -61,103 +63,103 @@ invariant_of-self g c =
           let z : c.one_if.result ≡ 1 = high (omega arith) in
           elim c.else-is_full.branch [
             | else-is_full-via-else-is_full w ↦
-                let same : c.index.result.now ≡ b = read-again bs i c.index.result.now b l c.index.ensures c.index_mut.ensures.value in
-                let full : 32 ≤ length c.index.result.now.slots = rw same (overflow-full (λ e. hash_of g.H.BuildHasher g.H.Hasher.Hasher c.self.inside.hasher (g.E.Key.Hash.hash_input (g.E.Keyed.key_of e))) t.skipped t.length t.overflowing i bs c.self.invariant.table _ c.args.self.now c.self.view_is b l c.index_mut.ensures.value c.insert_made.new.self (g.E.Made.made_of c.args.parts) c.in-Ok.slot stored c.in-Ok.ensures.ok.0 (omega arith)) in
+                let same : (shelf_of c.self.inside.buckets c.args.bucket) ≡ b = read-again bs i (shelf_of c.self.inside.buckets c.args.bucket) b l (shelf-at c.self.inside.buckets c.args.bucket l) (shelf-at c.self.inside.buckets c.args.bucket l) in
+                let full : 32 ≤ length (shelf_of c.self.inside.buckets c.args.bucket).slots = rw same (overflow-full (λ e. hash_of g.H.BuildHasher g.H.Hasher.Hasher c.self.inside.hasher (g.E.Key.Hash.hash_input (g.E.Keyed.key_of e))) t.skipped t.length t.overflowing i bs c.self.invariant.table _ c.args.self.now c.self.view_is b l (shelf-at c.self.inside.buckets c.args.bucket l) (shelf_of c.insert_made.new.self c.args.bucket) (g.E.Made.made_of c.args.parts) c.in-Ok.slot stored c.in-Ok.ensures.ok.0 (omega arith)) in
                 absurd (search rules)
             | else-is_full-via-then-is_full+else-self w ↦ omega arith
           ]
     ] in
-    record {
-      table = inserted-table (λ e. hash_of g.H.BuildHasher g.H.Hasher.Hasher c.self.inside.hasher (g.E.Key.Hash.hash_input (g.E.Keyed.key_of e))) t.skipped t.length t.overflowing i bs c.self.invariant.table _ c.args.self.now c.self.view_is b l c.index_mut.ensures.value c.insert_made.new.self (g.E.Made.made_of c.args.parts) c.in-Ok.slot stored c.in-Ok.ensures.ok.0 (t.overflowing + c.one_if.result) routed (overflow-after (λ e. hash_of g.H.BuildHasher g.H.Hasher.Hasher c.self.inside.hasher (g.E.Key.Hash.hash_input (g.E.Keyed.key_of e))) t.skipped t.length t.overflowing i bs c.self.invariant.table _ c.args.self.now c.self.view_is b l c.index_mut.ensures.value c.insert_made.new.self (g.E.Made.made_of c.args.parts) c.in-Ok.slot stored c.in-Ok.ensures.ok.0 c.one_if.result low high) few;
+    rw (put-own c.self.inside.buckets c.args.bucket l c.insert_made.new.self _ c.in-Ok.ensures.ok.1) record {
+      table = inserted-table (λ e. hash_of g.H.BuildHasher g.H.Hasher.Hasher c.self.inside.hasher (g.E.Key.Hash.hash_input (g.E.Keyed.key_of e))) t.skipped t.length t.overflowing i bs c.self.invariant.table _ c.args.self.now c.self.view_is b l (shelf-at c.self.inside.buckets c.args.bucket l) (shelf_of c.insert_made.new.self c.args.bucket) (g.E.Made.made_of c.args.parts) c.in-Ok.slot stored c.in-Ok.ensures.ok.0 (t.overflowing + c.one_if.result) routed (overflow-after (λ e. hash_of g.H.BuildHasher g.H.Hasher.Hasher c.self.inside.hasher (g.E.Key.Hash.hash_input (g.E.Keyed.key_of e))) t.skipped t.length t.overflowing i bs c.self.invariant.table _ c.args.self.now c.self.view_is b l (shelf-at c.self.inside.buckets c.args.bucket l) (shelf_of c.insert_made.new.self c.args.bucket) (g.E.Made.made_of c.args.parts) c.in-Ok.slot stored c.in-Ok.ensures.ok.0 c.one_if.result low high) few;
       few_bits = c.self.invariant.few_bits;
       small_minimum = c.self.invariant.small_minimum;
-      unique = let u = unique-inserted g.met.E.Key.Eq.laws g.E.Keyed.key_of (g.E.Made.made_of c.args.parts) (entries c.args.self.now) _ (rw (entries-view bs _ c.args.self.now c.self.view_is) c.self.invariant.unique) c.requires.absent (inserted-holds (λ e. hash_of g.H.BuildHasher g.H.Hasher.Hasher c.self.inside.hasher (g.E.Key.Hash.hash_input (g.E.Keyed.key_of e))) t.skipped t.length t.overflowing i bs c.self.invariant.table _ c.args.self.now c.self.view_is b l c.index_mut.ensures.value c.insert_made.new.self (g.E.Made.made_of c.args.parts) c.in-Ok.slot stored c.in-Ok.ensures.ok.0).same in rw (entries-view (set bs i c.insert_made.new.self) _ _ refl) at u;
+      unique = let u = unique-inserted g.met.E.Key.Eq.laws g.E.Keyed.key_of (g.E.Made.made_of c.args.parts) (entries c.args.self.now) _ (rw (entries-view bs _ c.args.self.now c.self.view_is) c.self.invariant.unique) c.requires.absent (inserted-holds (λ e. hash_of g.H.BuildHasher g.H.Hasher.Hasher c.self.inside.hasher (g.E.Key.Hash.hash_input (g.E.Keyed.key_of e))) t.skipped t.length t.overflowing i bs c.self.invariant.table _ c.args.self.now c.self.view_is b l (shelf-at c.self.inside.buckets c.args.bucket l) (shelf_of c.insert_made.new.self c.args.bucket) (g.E.Made.made_of c.args.parts) c.in-Ok.slot stored c.in-Ok.ensures.ok.0).same in rw (entries-view (set bs i (shelf_of c.insert_made.new.self c.args.bucket)) _ _ refl) at u;
     }
 
 pub invariant_of-self-in-Err : goal.invariant_of-self-in-Err
 invariant_of-self-in-Err g c =
     let t = c.self.inside in
-    let bs = t.buckets.items in
+    let bs = t.buckets in
     let i = c.args.bucket in
     let count = count-view bs _ c.args.self.now c.self.view_is in
     let l : i < length bs = rw count at c.requires.within in
-    let b = c.index_mut.result.now in
+    let b = (shelf_of c.self.inside.buckets c.args.bucket) in
     let hashed = rw (settings-view bs _ c.args.self.now c.self.view_is) at c.requires.hashed in
     let routed : i ≡ bucket_number t.skipped (length bs) (hash_of g.H.BuildHasher g.H.Hasher.Hasher t.hasher (g.E.Key.Hash.hash_input (g.E.Keyed.key_of (g.E.Made.made_of c.args.parts)))) =
     let at = rw (settings-view bs _ c.args.self.now c.self.view_is, count) at c.requires.routed in at ∙ ap (bucket_number t.skipped (length bs)) hashed in
-    record {
-      table = refused-table (λ e. hash_of g.H.BuildHasher g.H.Hasher.Hasher c.self.inside.hasher (g.E.Key.Hash.hash_input (g.E.Keyed.key_of e))) t.skipped t.length t.overflowing i bs c.self.invariant.table _ c.args.self.now c.self.view_is b l c.index_mut.ensures.value c.insert_made.new.self c.in-Err.ensures.err.1;
+    rw (put-own c.self.inside.buckets c.args.bucket l c.insert_made.new.self _ c.in-Err.ensures.err.1) record {
+      table = refused-table (λ e. hash_of g.H.BuildHasher g.H.Hasher.Hasher c.self.inside.hasher (g.E.Key.Hash.hash_input (g.E.Keyed.key_of e))) t.skipped t.length t.overflowing i bs c.self.invariant.table _ c.args.self.now c.self.view_is b l (shelf-at c.self.inside.buckets c.args.bucket l) (shelf_of c.insert_made.new.self c.args.bucket) (put-is c.self.inside.buckets c.args.bucket l c.insert_made.new.self _ c.in-Err.ensures.err.1);
       few_bits = c.self.invariant.few_bits;
       small_minimum = c.self.invariant.small_minimum;
-      unique = rw (refused-entries (λ e. hash_of g.H.BuildHasher g.H.Hasher.Hasher c.self.inside.hasher (g.E.Key.Hash.hash_input (g.E.Keyed.key_of e))) t.skipped t.length t.overflowing i bs c.self.invariant.table _ c.args.self.now c.self.view_is b l c.index_mut.ensures.value c.insert_made.new.self c.in-Err.ensures.err.1) c.self.invariant.unique;
+      unique = rw (refused-entries (λ e. hash_of g.H.BuildHasher g.H.Hasher.Hasher c.self.inside.hasher (g.E.Key.Hash.hash_input (g.E.Keyed.key_of e))) t.skipped t.length t.overflowing i bs c.self.invariant.table _ c.args.self.now c.self.view_is b l (shelf-at c.self.inside.buckets c.args.bucket l) (shelf_of c.insert_made.new.self c.args.bucket) (put-is c.self.inside.buckets c.args.bucket l c.insert_made.new.self _ c.in-Err.ensures.err.1)) c.self.invariant.unique;
     }
 
 pub returns-in-Ok-clause-ok : goal.returns-in-Ok-clause-ok
 returns-in-Ok-clause-ok g c =
     let t = c.self.inside in
-    let bs = t.buckets.items in
+    let bs = t.buckets in
     let i = c.args.bucket in
     let count = count-view bs _ c.args.self.now c.self.view_is in
     let l : i < length bs = rw count at c.requires.within in
-    let b = c.index_mut.result.now in
+    let b = (shelf_of c.self.inside.buckets c.args.bucket) in
     let hashed = rw (settings-view bs _ c.args.self.now c.self.view_is) at c.requires.hashed in
     let routed : i ≡ bucket_number t.skipped (length bs) (hash_of g.H.BuildHasher g.H.Hasher.Hasher t.hasher (g.E.Key.Hash.hash_input (g.E.Keyed.key_of (g.E.Made.made_of c.args.parts)))) =
     let at = rw (settings-view bs _ c.args.self.now c.self.view_is, count) at c.requires.routed in at ∙ ap (bucket_number t.skipped (length bs)) hashed in
-    let stored = c.in-Ok.ensures.ok.1 ∙ ap (λ x. let r : Shelf g.row.E.Denot = record (with_entry b (g.E.Made.made_of c.args.parts) x) { room = c.insert_made.new.self.room } in r) (c.tag.ensures ∙ ap tag_of hashed) in
-    inserted-at (λ e. hash_of g.H.BuildHasher g.H.Hasher.Hasher c.self.inside.hasher (g.E.Key.Hash.hash_input (g.E.Keyed.key_of e))) t.skipped t.length t.overflowing i bs c.self.invariant.table _ c.args.self.now c.self.view_is b l c.index_mut.ensures.value c.insert_made.new.self (g.E.Made.made_of c.args.parts) c.in-Ok.slot stored c.in-Ok.ensures.ok.0
+    let stored = (put-is c.self.inside.buckets c.args.bucket l c.insert_made.new.self _ c.in-Ok.ensures.ok.1) ∙ ap (λ x. let r : Shelf g.row.E.Denot = record (with_entry b (g.E.Made.made_of c.args.parts) x) { room = (shelf_of c.insert_made.new.self c.args.bucket).room } in r) (c.tag.ensures ∙ ap tag_of hashed) in
+    rw (put-own c.self.inside.buckets c.args.bucket l c.insert_made.new.self _ c.in-Ok.ensures.ok.1) (inserted-at (λ e. hash_of g.H.BuildHasher g.H.Hasher.Hasher c.self.inside.hasher (g.E.Key.Hash.hash_input (g.E.Keyed.key_of e))) t.skipped t.length t.overflowing i bs c.self.invariant.table _ c.args.self.now c.self.view_is b l (shelf-at c.self.inside.buckets c.args.bucket l) (shelf_of c.insert_made.new.self c.args.bucket) (g.E.Made.made_of c.args.parts) c.in-Ok.slot stored c.in-Ok.ensures.ok.0)
 
 pub returns-in-Ok-clause-unique : goal.returns-in-Ok-clause-unique
 returns-in-Ok-clause-unique g c =
     let t = c.self.inside in
-    let bs = t.buckets.items in
+    let bs = t.buckets in
     let i = c.args.bucket in
     let count = count-view bs _ c.args.self.now c.self.view_is in
     let l : i < length bs = rw count at c.requires.within in
-    let b = c.index_mut.result.now in
+    let b = (shelf_of c.self.inside.buckets c.args.bucket) in
     let hashed = rw (settings-view bs _ c.args.self.now c.self.view_is) at c.requires.hashed in
     let routed : i ≡ bucket_number t.skipped (length bs) (hash_of g.H.BuildHasher g.H.Hasher.Hasher t.hasher (g.E.Key.Hash.hash_input (g.E.Keyed.key_of (g.E.Made.made_of c.args.parts)))) =
     let at = rw (settings-view bs _ c.args.self.now c.self.view_is, count) at c.requires.routed in at ∙ ap (bucket_number t.skipped (length bs)) hashed in
-    let stored = c.in-Ok.ensures.ok.1 ∙ ap (λ x. let r : Shelf g.row.E.Denot = record (with_entry b (g.E.Made.made_of c.args.parts) x) { room = c.insert_made.new.self.room } in r) (c.tag.ensures ∙ ap tag_of hashed) in
-    unique-inserted g.met.E.Key.Eq.laws g.E.Keyed.key_of (g.E.Made.made_of c.args.parts) (entries c.args.self.now) _ (rw (entries-view bs _ c.args.self.now c.self.view_is) c.self.invariant.unique) c.requires.absent (inserted-holds (λ e. hash_of g.H.BuildHasher g.H.Hasher.Hasher c.self.inside.hasher (g.E.Key.Hash.hash_input (g.E.Keyed.key_of e))) t.skipped t.length t.overflowing i bs c.self.invariant.table _ c.args.self.now c.self.view_is b l c.index_mut.ensures.value c.insert_made.new.self (g.E.Made.made_of c.args.parts) c.in-Ok.slot stored c.in-Ok.ensures.ok.0).same
+    let stored = (put-is c.self.inside.buckets c.args.bucket l c.insert_made.new.self _ c.in-Ok.ensures.ok.1) ∙ ap (λ x. let r : Shelf g.row.E.Denot = record (with_entry b (g.E.Made.made_of c.args.parts) x) { room = (shelf_of c.insert_made.new.self c.args.bucket).room } in r) (c.tag.ensures ∙ ap tag_of hashed) in
+    rw (put-own c.self.inside.buckets c.args.bucket l c.insert_made.new.self _ c.in-Ok.ensures.ok.1) (unique-inserted g.met.E.Key.Eq.laws g.E.Keyed.key_of (g.E.Made.made_of c.args.parts) (entries c.args.self.now) _ (rw (entries-view bs _ c.args.self.now c.self.view_is) c.self.invariant.unique) c.requires.absent (inserted-holds (λ e. hash_of g.H.BuildHasher g.H.Hasher.Hasher c.self.inside.hasher (g.E.Key.Hash.hash_input (g.E.Keyed.key_of e))) t.skipped t.length t.overflowing i bs c.self.invariant.table _ c.args.self.now c.self.view_is b l (shelf-at c.self.inside.buckets c.args.bucket l) (shelf_of c.insert_made.new.self c.args.bucket) (g.E.Made.made_of c.args.parts) c.in-Ok.slot stored c.in-Ok.ensures.ok.0).same)
 
 pub returns-in-Err-clause-err : goal.returns-in-Err-clause-err
 returns-in-Err-clause-err g c =
     let t = c.self.inside in
-    let bs = t.buckets.items in
+    let bs = t.buckets in
     let i = c.args.bucket in
     let count = count-view bs _ c.args.self.now c.self.view_is in
     let l : i < length bs = rw count at c.requires.within in
-    let b = c.index_mut.result.now in
+    let b = (shelf_of c.self.inside.buckets c.args.bucket) in
     let hashed = rw (settings-view bs _ c.args.self.now c.self.view_is) at c.requires.hashed in
     let routed : i ≡ bucket_number t.skipped (length bs) (hash_of g.H.BuildHasher g.H.Hasher.Hasher t.hasher (g.E.Key.Hash.hash_input (g.E.Keyed.key_of (g.E.Made.made_of c.args.parts)))) =
     let at = rw (settings-view bs _ c.args.self.now c.self.view_is, count) at c.requires.routed in at ∙ ap (bucket_number t.skipped (length bs)) hashed in
-    (c.in-Err.ensures.err.0, refused-unchanged (λ e. hash_of g.H.BuildHasher g.H.Hasher.Hasher c.self.inside.hasher (g.E.Key.Hash.hash_input (g.E.Keyed.key_of e))) t.skipped t.length t.overflowing i bs c.self.invariant.table _ c.args.self.now c.self.view_is b l c.index_mut.ensures.value c.insert_made.new.self c.in-Err.ensures.err.1)
+    rw (put-own c.self.inside.buckets c.args.bucket l c.insert_made.new.self _ c.in-Err.ensures.err.1) ((c.in-Err.ensures.err.0, refused-unchanged (λ e. hash_of g.H.BuildHasher g.H.Hasher.Hasher c.self.inside.hasher (g.E.Key.Hash.hash_input (g.E.Keyed.key_of e))) t.skipped t.length t.overflowing i bs c.self.invariant.table _ c.args.self.now c.self.view_is b l (shelf-at c.self.inside.buckets c.args.bucket l) (shelf_of c.insert_made.new.self c.args.bucket) (put-is c.self.inside.buckets c.args.bucket l c.insert_made.new.self _ c.in-Err.ensures.err.1)))
 
 pub returns-in-Err-clause-unique : goal.returns-in-Err-clause-unique
 returns-in-Err-clause-unique g c =
     let t = c.self.inside in
-    let bs = t.buckets.items in
+    let bs = t.buckets in
     let i = c.args.bucket in
     let count = count-view bs _ c.args.self.now c.self.view_is in
     let l : i < length bs = rw count at c.requires.within in
-    let b = c.index_mut.result.now in
+    let b = (shelf_of c.self.inside.buckets c.args.bucket) in
     let hashed = rw (settings-view bs _ c.args.self.now c.self.view_is) at c.requires.hashed in
     let routed : i ≡ bucket_number t.skipped (length bs) (hash_of g.H.BuildHasher g.H.Hasher.Hasher t.hasher (g.E.Key.Hash.hash_input (g.E.Keyed.key_of (g.E.Made.made_of c.args.parts)))) =
     let at = rw (settings-view bs _ c.args.self.now c.self.view_is, count) at c.requires.routed in at ∙ ap (bucket_number t.skipped (length bs)) hashed in
-    rw ((refused-unchanged (λ e. hash_of g.H.BuildHasher g.H.Hasher.Hasher c.self.inside.hasher (g.E.Key.Hash.hash_input (g.E.Keyed.key_of e))) t.skipped t.length t.overflowing i bs c.self.invariant.table _ c.args.self.now c.self.view_is b l c.index_mut.ensures.value c.insert_made.new.self c.in-Err.ensures.err.1).exact, entries-view bs _ c.args.self.now c.self.view_is) c.self.invariant.unique
+    rw (put-own c.self.inside.buckets c.args.bucket l c.insert_made.new.self _ c.in-Err.ensures.err.1) (rw ((refused-unchanged (λ e. hash_of g.H.BuildHasher g.H.Hasher.Hasher c.self.inside.hasher (g.E.Key.Hash.hash_input (g.E.Keyed.key_of e))) t.skipped t.length t.overflowing i bs c.self.invariant.table _ c.args.self.now c.self.view_is b l (shelf-at c.self.inside.buckets c.args.bucket l) (shelf_of c.insert_made.new.self c.args.bucket) (put-is c.self.inside.buckets c.args.bucket l c.insert_made.new.self _ c.in-Err.ensures.err.1)).exact, entries-view bs _ c.args.self.now c.self.view_is) c.self.invariant.unique)
 
 pub returns-in-Ok-clause-buckets : goal.returns-in-Ok-clause-buckets
 returns-in-Ok-clause-buckets g c =
-    let bs = c.self.inside.buckets.items in
-    count-view (set bs c.args.bucket c.insert_made.new.self) _ _ refl ∙ length-set bs c.args.bucket c.insert_made.new.self ∙ sym (count-view bs _ c.args.self.now c.self.view_is)
+    let bs = c.self.inside.buckets in
+    count-view c.insert_made.new.self _ _ refl ∙ ap length c.in-Ok.ensures.ok.1 ∙ length-set bs c.args.bucket _ ∙ sym (count-view bs _ c.args.self.now c.self.view_is)
 
 pub returns-in-Err-clause-buckets : goal.returns-in-Err-clause-buckets
 returns-in-Err-clause-buckets g c =
-    let bs = c.self.inside.buckets.items in
-    count-view (set bs c.args.bucket c.insert_made.new.self) _ _ refl ∙ length-set bs c.args.bucket c.insert_made.new.self ∙ sym (count-view bs _ c.args.self.now c.self.view_is)
+    let bs = c.self.inside.buckets in
+    count-view c.insert_made.new.self _ _ refl ∙ ap length c.in-Err.ensures.err.1 ∙ length-set bs c.args.bucket _ ∙ sym (count-view bs _ c.args.self.now c.self.view_is)
 
 pub returns-in-Ok-clause-refused : goal.returns-in-Ok-clause-refused
-returns-in-Ok-clause-refused g c = refused-view _ _ _ refl ∙ sym (refused-view c.self.inside.buckets.items _ c.args.self.now c.self.view_is)
+returns-in-Ok-clause-refused g c = refused-view _ _ _ refl ∙ sym (refused-view c.self.inside.buckets _ c.args.self.now c.self.view_is)
 
 pub returns-in-Err-clause-refused : goal.returns-in-Err-clause-refused
-returns-in-Err-clause-refused g c = refused-view _ _ _ refl ∙ sym (refused-view c.self.inside.buckets.items _ c.args.self.now c.self.view_is)
+returns-in-Err-clause-refused g c = refused-view _ _ _ refl ∙ sym (refused-view c.self.inside.buckets _ c.args.self.now c.self.view_is)

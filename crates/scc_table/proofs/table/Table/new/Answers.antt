@@ -7,15 +7,15 @@ use Rattle.scc_table.proofs.Making.{kept-none, none-empty, table-empty}
 use Rattle.scc_table.proofs.table.Table.new.Goals as goal
 
 pub invariant_of-result : goal.invariant_of-result
-invariant_of-result g c = rw c.new.ensures.items (kept-none _ _ _ c.args.skipped 0 c.requires (omega arith))
+invariant_of-result g c = rw c.none.ensures (kept-none _ _ _ c.args.skipped 0 c.requires (omega arith))
 
 pub returns-clause-entries : goal.returns-clause-entries
 unfolding entries
-returns-clause-entries g c = rw c.new.ensures.items refl
+returns-clause-entries g c = rw c.none.ensures refl
 
 pub returns-clause-buckets : goal.returns-clause-buckets
 unfolding bucket_count
-returns-clause-buckets g c = rw c.new.ensures.items refl
+returns-clause-buckets g c = rw c.none.ensures refl
 
 pub returns-clause-settings : goal.returns-clause-settings
 unfolding settings_of
@@ -23,4 +23,4 @@ returns-clause-settings g c = refl
 
 pub returns-clause-listed : goal.returns-clause-listed
 returns-clause-listed g c =
-    rw c.new.ensures.items (rw (settings-view [] _ _ refl) (listed-view _ 0 0 [] _ _ refl (table-empty (λ e. hash_of g.H.BuildHasher g.H.Hasher.Hasher c.args.hasher (g.E.Key.Hash.hash_input (g.E.Keyed.key_of e))) c.args.skipped [] none-empty (inl refl)) (bounded-fresh _ [] _ none-empty)))
+    rw c.none.ensures (rw (settings-view [] _ _ refl) (listed-view _ 0 0 [] _ _ refl (table-empty (λ e. hash_of g.H.BuildHasher g.H.Hasher.Hasher c.args.hasher (g.E.Key.Hash.hash_input (g.E.Keyed.key_of e))) c.args.skipped [] none-empty (inl refl)) (bounded-fresh _ [] _ none-empty)))

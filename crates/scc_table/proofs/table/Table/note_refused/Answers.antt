@@ -4,7 +4,7 @@ use Rattle.scc_table.proofs.table.Table.note_refused.Goals as goal
 
 pub returns-clause-unchanged : goal.returns-clause-unchanged
 returns-clause-unchanged g c =
-    let bs = c.self.inside.buckets.items in
+    let bs = c.self.inside.buckets in
     record {
       exact = entries-view bs _ _ refl ∙ sym (entries-view bs _ c.args.self.now c.self.view_is);
       buckets = count-view bs _ _ refl ∙ sym (count-view bs _ c.args.self.now c.self.view_is);
@@ -12,4 +12,4 @@ returns-clause-unchanged g c =
     }
 
 pub returns-clause-up : goal.returns-clause-up
-returns-clause-up g c = refused-view c.self.inside.buckets.items _ _ refl
+returns-clause-up g c = refused-view c.self.inside.buckets _ _ refl

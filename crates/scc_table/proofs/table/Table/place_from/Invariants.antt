@@ -10,4 +10,4 @@ invariant-buckets g l = record {
 }
 
 abbrev pub decreases-buckets : goal.decreases-buckets
-decreases-buckets g l = length l.self-inside.buckets.items - l.bucket
+decreases-buckets g l = length l.self-inside.buckets - l.bucket

@@ -8,72 +8,72 @@ use Rattle.scc_table.proofs.table.Table.refill.Goals as goal
 
 pub regroup-requires-clause-room : goal.regroup-requires-clause-room
 regroup-requires-clause-room g c =
-    let bs = c.self.inside.buckets.items in
-    let count : length c.args.fresh.items ≡ c.len-count.result = search rules in
+    let bs = c.self.inside.buckets in
+    let count : length c.args.fresh ≡ c.len-count.result = search rules in
     let room = rw (settings-view bs _ c.args.self.now c.self.view_is, entries-view bs _ c.args.self.now c.self.view_is) at c.requires.room in
-    room-same (λ e. hash_of g.H.BuildHasher g.H.Hasher.Hasher c.self.inside.hasher (g.E.Key.Hash.hash_input (g.E.Keyed.key_of e))) c.self.inside.skipped _ _ c.args.fresh.items c.replace-old.new.dest.items (flat_map shelf_entries bs) (flat_map shelf_entries c.replace-old.result.items)
-    count (sym (ap (λ v. v.items) c.replace-old.ensures.after)) (sym (ap (λ v. flat_map shelf_entries v.items) c.replace-old.ensures.value)) room
+    room-same (λ e. hash_of g.H.BuildHasher g.H.Hasher.Hasher c.self.inside.hasher (g.E.Key.Hash.hash_input (g.E.Keyed.key_of e))) c.self.inside.skipped _ _ c.args.fresh c.replace-old.new.dest (flat_map shelf_entries bs) (flat_map shelf_entries c.replace-old.result)
+    count (sym c.replace-old.ensures.after) (sym (ap (λ v. flat_map shelf_entries v) c.replace-old.ensures.value)) room
 
 pub count_overflow-self-inside-requires : goal.count_overflow-self-inside-requires
 count_overflow-self-inside-requires g c =
-    let bs = c.self.inside.buckets.items in
-    let count : c.len-count.result ≡ length c.args.fresh.items = search rules in
+    let bs = c.self.inside.buckets in
+    let count : c.len-count.result ≡ length c.args.fresh = search rules in
     let few = rw (entries-view bs _ c.args.self.now c.self.view_is) at c.requires.few in
-    let poured = poured-same (λ e. hash_of g.H.BuildHasher g.H.Hasher.Hasher c.self.inside.hasher (g.E.Key.Hash.hash_input (g.E.Keyed.key_of e))) c.self.inside.skipped _ _ c.replace-old.new.dest.items c.args.fresh.items c.regroup.new.fresh.items (flat_map shelf_entries c.replace-old.result.items) (flat_map shelf_entries bs)
-    count (ap (λ v. v.items) c.replace-old.ensures.after) (ap (λ v. flat_map shelf_entries v.items) c.replace-old.ensures.value) c.regroup.ensures in
-    let less = spilled-few (λ e. hash_of g.H.BuildHasher g.H.Hasher.Hasher c.self.inside.hasher (g.E.Key.Hash.hash_input (g.E.Keyed.key_of e))) c.self.inside.skipped (length c.args.fresh.items) c.args.fresh.items c.regroup.new.fresh.items (flat_map shelf_entries bs) poured c.requires.empty refl in
-    rw c.as_slice.ensures.value (omega arith)
+    let poured = poured-same (λ e. hash_of g.H.BuildHasher g.H.Hasher.Hasher c.self.inside.hasher (g.E.Key.Hash.hash_input (g.E.Keyed.key_of e))) c.self.inside.skipped _ _ c.replace-old.new.dest c.args.fresh c.regroup.new.fresh (flat_map shelf_entries c.replace-old.result) (flat_map shelf_entries bs)
+    count c.replace-old.ensures.after (ap (λ v. flat_map shelf_entries v) c.replace-old.ensures.value) c.regroup.ensures in
+    let less = spilled-few (λ e. hash_of g.H.BuildHasher g.H.Hasher.Hasher c.self.inside.hasher (g.E.Key.Hash.hash_input (g.E.Keyed.key_of e))) c.self.inside.skipped (length c.args.fresh) c.args.fresh c.regroup.new.fresh (flat_map shelf_entries bs) poured c.requires.empty refl in
+    omega arith
 
 pub invariant_of-self : goal.invariant_of-self
 invariant_of-self g c =
-    let bs = c.self.inside.buckets.items in
-    let count : c.len-count.result ≡ length c.args.fresh.items = search rules in
+    let bs = c.self.inside.buckets in
+    let count : c.len-count.result ≡ length c.args.fresh = search rules in
     let few = rw (entries-view bs _ c.args.self.now c.self.view_is) at c.requires.few in
-    let poured = poured-same (λ e. hash_of g.H.BuildHasher g.H.Hasher.Hasher c.self.inside.hasher (g.E.Key.Hash.hash_input (g.E.Keyed.key_of e))) c.self.inside.skipped _ _ c.replace-old.new.dest.items c.args.fresh.items c.regroup.new.fresh.items (flat_map shelf_entries c.replace-old.result.items) (flat_map shelf_entries bs)
-    count (ap (λ v. v.items) c.replace-old.ensures.after) (ap (λ v. flat_map shelf_entries v.items) c.replace-old.ensures.value) c.regroup.ensures in
+    let poured = poured-same (λ e. hash_of g.H.BuildHasher g.H.Hasher.Hasher c.self.inside.hasher (g.E.Key.Hash.hash_input (g.E.Keyed.key_of e))) c.self.inside.skipped _ _ c.replace-old.new.dest c.args.fresh c.regroup.new.fresh (flat_map shelf_entries c.replace-old.result) (flat_map shelf_entries bs)
+    count c.replace-old.ensures.after (ap (λ v. flat_map shelf_entries v) c.replace-old.ensures.value) c.regroup.ensures in
     let counted = count-entries _ _ _ _ bs _ c.args.self.now c.self.view_is c.self.invariant.table ∙ ap length (entries-view bs _ c.args.self.now c.self.view_is) in
-    let spilled = c.count_overflow-self-inside.ensures ∙ ap (sum_by (λ b. length b.overflow)) c.as_slice.ensures.value in
+    let spilled = c.count_overflow-self-inside.ensures in
     record {
-      table = table-after (λ e. hash_of g.H.BuildHasher g.H.Hasher.Hasher c.self.inside.hasher (g.E.Key.Hash.hash_input (g.E.Keyed.key_of e))) c.self.inside.skipped (length c.args.fresh.items) c.args.fresh.items c.regroup.new.fresh.items (flat_map shelf_entries bs) poured c.requires.empty refl c.self.inside.length c.count_overflow-self-inside.result c.requires.array counted spilled few;
+      table = table-after (λ e. hash_of g.H.BuildHasher g.H.Hasher.Hasher c.self.inside.hasher (g.E.Key.Hash.hash_input (g.E.Keyed.key_of e))) c.self.inside.skipped (length c.args.fresh) c.args.fresh c.regroup.new.fresh (flat_map shelf_entries bs) poured c.requires.empty refl c.self.inside.length c.count_overflow-self-inside.result c.requires.array counted spilled few;
       few_bits = c.self.invariant.few_bits;
       small_minimum = c.self.invariant.small_minimum;
-      unique = unique-after (λ e. hash_of g.H.BuildHasher g.H.Hasher.Hasher c.self.inside.hasher (g.E.Key.Hash.hash_input (g.E.Keyed.key_of e))) c.self.inside.skipped (length c.args.fresh.items) c.args.fresh.items c.regroup.new.fresh.items (flat_map shelf_entries bs) poured c.requires.empty refl g.met.E.Key.Eq.laws g.E.Keyed.key_of c.self.invariant.unique;
+      unique = unique-after (λ e. hash_of g.H.BuildHasher g.H.Hasher.Hasher c.self.inside.hasher (g.E.Key.Hash.hash_input (g.E.Keyed.key_of e))) c.self.inside.skipped (length c.args.fresh) c.args.fresh c.regroup.new.fresh (flat_map shelf_entries bs) poured c.requires.empty refl g.met.E.Key.Eq.laws g.E.Keyed.key_of c.self.invariant.unique;
     }
 
 pub returns-clause-lists : goal.returns-clause-lists
 returns-clause-lists g c =
-    let bs = c.self.inside.buckets.items in
-    let count : c.len-count.result ≡ length c.args.fresh.items = search rules in
-    let poured = poured-same (λ e. hash_of g.H.BuildHasher g.H.Hasher.Hasher c.self.inside.hasher (g.E.Key.Hash.hash_input (g.E.Keyed.key_of e))) c.self.inside.skipped _ _ c.replace-old.new.dest.items c.args.fresh.items c.regroup.new.fresh.items (flat_map shelf_entries c.replace-old.result.items) (flat_map shelf_entries bs)
-    count (ap (λ v. v.items) c.replace-old.ensures.after) (ap (λ v. flat_map shelf_entries v.items) c.replace-old.ensures.value) c.regroup.ensures in
+    let bs = c.self.inside.buckets in
+    let count : c.len-count.result ≡ length c.args.fresh = search rules in
+    let poured = poured-same (λ e. hash_of g.H.BuildHasher g.H.Hasher.Hasher c.self.inside.hasher (g.E.Key.Hash.hash_input (g.E.Keyed.key_of e))) c.self.inside.skipped _ _ c.replace-old.new.dest c.args.fresh c.regroup.new.fresh (flat_map shelf_entries c.replace-old.result) (flat_map shelf_entries bs)
+    count c.replace-old.ensures.after (ap (λ v. flat_map shelf_entries v) c.replace-old.ensures.value) c.regroup.ensures in
     rw (settings-view bs _ c.args.self.now c.self.view_is)
-    (regrouped (λ e. hash_of g.H.BuildHasher g.H.Hasher.Hasher c.self.inside.hasher (g.E.Key.Hash.hash_input (g.E.Keyed.key_of e))) (length c.args.fresh.items) bs c.args.fresh.items c.regroup.new.fresh.items _ c.args.self.now c.self.view_is poured c.requires.empty refl false)
+    (regrouped (λ e. hash_of g.H.BuildHasher g.H.Hasher.Hasher c.self.inside.hasher (g.E.Key.Hash.hash_input (g.E.Keyed.key_of e))) (length c.args.fresh) bs c.args.fresh c.regroup.new.fresh _ c.args.self.now c.self.view_is poured c.requires.empty refl false)
 
 pub returns-clause-same : goal.returns-clause-same
 returns-clause-same g c =
-    let bs = c.self.inside.buckets.items in
-    let count : c.len-count.result ≡ length c.args.fresh.items = search rules in
-    let poured = poured-same (λ e. hash_of g.H.BuildHasher g.H.Hasher.Hasher c.self.inside.hasher (g.E.Key.Hash.hash_input (g.E.Keyed.key_of e))) c.self.inside.skipped _ _ c.replace-old.new.dest.items c.args.fresh.items c.regroup.new.fresh.items (flat_map shelf_entries c.replace-old.result.items) (flat_map shelf_entries bs)
-    count (ap (λ v. v.items) c.replace-old.ensures.after) (ap (λ v. flat_map shelf_entries v.items) c.replace-old.ensures.value) c.regroup.ensures in
-    permuted-view (λ e. hash_of g.H.BuildHasher g.H.Hasher.Hasher c.self.inside.hasher (g.E.Key.Hash.hash_input (g.E.Keyed.key_of e))) (length c.args.fresh.items) bs c.args.fresh.items c.regroup.new.fresh.items _ c.args.self.now c.self.view_is poured c.requires.empty refl false
+    let bs = c.self.inside.buckets in
+    let count : c.len-count.result ≡ length c.args.fresh = search rules in
+    let poured = poured-same (λ e. hash_of g.H.BuildHasher g.H.Hasher.Hasher c.self.inside.hasher (g.E.Key.Hash.hash_input (g.E.Keyed.key_of e))) c.self.inside.skipped _ _ c.replace-old.new.dest c.args.fresh c.regroup.new.fresh (flat_map shelf_entries c.replace-old.result) (flat_map shelf_entries bs)
+    count c.replace-old.ensures.after (ap (λ v. flat_map shelf_entries v) c.replace-old.ensures.value) c.regroup.ensures in
+    permuted-view (λ e. hash_of g.H.BuildHasher g.H.Hasher.Hasher c.self.inside.hasher (g.E.Key.Hash.hash_input (g.E.Keyed.key_of e))) (length c.args.fresh) bs c.args.fresh c.regroup.new.fresh _ c.args.self.now c.self.view_is poured c.requires.empty refl false
 
 pub returns-clause-unique : goal.returns-clause-unique
 returns-clause-unique g c =
-    let bs = c.self.inside.buckets.items in
-    let count : c.len-count.result ≡ length c.args.fresh.items = search rules in
-    let poured = poured-same (λ e. hash_of g.H.BuildHasher g.H.Hasher.Hasher c.self.inside.hasher (g.E.Key.Hash.hash_input (g.E.Keyed.key_of e))) c.self.inside.skipped _ _ c.replace-old.new.dest.items c.args.fresh.items c.regroup.new.fresh.items (flat_map shelf_entries c.replace-old.result.items) (flat_map shelf_entries bs)
-    count (ap (λ v. v.items) c.replace-old.ensures.after) (ap (λ v. flat_map shelf_entries v.items) c.replace-old.ensures.value) c.regroup.ensures in
-    rw (entries-view c.regroup.new.fresh.items _ _ refl)
-    (unique-after (λ e. hash_of g.H.BuildHasher g.H.Hasher.Hasher c.self.inside.hasher (g.E.Key.Hash.hash_input (g.E.Keyed.key_of e))) c.self.inside.skipped (length c.args.fresh.items) c.args.fresh.items c.regroup.new.fresh.items (flat_map shelf_entries bs) poured c.requires.empty refl g.met.E.Key.Eq.laws g.E.Keyed.key_of c.self.invariant.unique)
+    let bs = c.self.inside.buckets in
+    let count : c.len-count.result ≡ length c.args.fresh = search rules in
+    let poured = poured-same (λ e. hash_of g.H.BuildHasher g.H.Hasher.Hasher c.self.inside.hasher (g.E.Key.Hash.hash_input (g.E.Keyed.key_of e))) c.self.inside.skipped _ _ c.replace-old.new.dest c.args.fresh c.regroup.new.fresh (flat_map shelf_entries c.replace-old.result) (flat_map shelf_entries bs)
+    count c.replace-old.ensures.after (ap (λ v. flat_map shelf_entries v) c.replace-old.ensures.value) c.regroup.ensures in
+    rw (entries-view c.regroup.new.fresh _ _ refl)
+    (unique-after (λ e. hash_of g.H.BuildHasher g.H.Hasher.Hasher c.self.inside.hasher (g.E.Key.Hash.hash_input (g.E.Keyed.key_of e))) c.self.inside.skipped (length c.args.fresh) c.args.fresh c.regroup.new.fresh (flat_map shelf_entries bs) poured c.requires.empty refl g.met.E.Key.Eq.laws g.E.Keyed.key_of c.self.invariant.unique)
 
 pub returns-clause-down : goal.returns-clause-down
-returns-clause-down g c = refused-view c.regroup.new.fresh.items _ _ refl
+returns-clause-down g c = refused-view c.regroup.new.fresh _ _ refl
 
 pub returns-clause-bounded : goal.returns-clause-bounded
 returns-clause-bounded g c =
-    let bs = c.self.inside.buckets.items in
-    let count : c.len-count.result ≡ length c.args.fresh.items = search rules in
-    let poured = poured-same (λ e. hash_of g.H.BuildHasher g.H.Hasher.Hasher c.self.inside.hasher (g.E.Key.Hash.hash_input (g.E.Keyed.key_of e))) c.self.inside.skipped _ _ c.replace-old.new.dest.items c.args.fresh.items c.regroup.new.fresh.items (flat_map shelf_entries c.replace-old.result.items) (flat_map shelf_entries bs)
-    count (ap (λ v. v.items) c.replace-old.ensures.after) (ap (λ v. flat_map shelf_entries v.items) c.replace-old.ensures.value) c.regroup.ensures in
-    rw (spilled-view c.regroup.new.fresh.items _ _ refl, settings-view bs _ c.args.self.now c.self.view_is, entries-view bs _ c.args.self.now c.self.view_is)
-    (spilled-none (λ e. hash_of g.H.BuildHasher g.H.Hasher.Hasher c.self.inside.hasher (g.E.Key.Hash.hash_input (g.E.Keyed.key_of e))) c.self.inside.skipped (length c.args.fresh.items) c.args.fresh.items c.regroup.new.fresh.items (flat_map shelf_entries bs) poured c.requires.empty refl)
+    let bs = c.self.inside.buckets in
+    let count : c.len-count.result ≡ length c.args.fresh = search rules in
+    let poured = poured-same (λ e. hash_of g.H.BuildHasher g.H.Hasher.Hasher c.self.inside.hasher (g.E.Key.Hash.hash_input (g.E.Keyed.key_of e))) c.self.inside.skipped _ _ c.replace-old.new.dest c.args.fresh c.regroup.new.fresh (flat_map shelf_entries c.replace-old.result) (flat_map shelf_entries bs)
+    count c.replace-old.ensures.after (ap (λ v. flat_map shelf_entries v) c.replace-old.ensures.value) c.regroup.ensures in
+    rw (spilled-view c.regroup.new.fresh _ _ refl, settings-view bs _ c.args.self.now c.self.view_is, entries-view bs _ c.args.self.now c.self.view_is)
+    (spilled-none (λ e. hash_of g.H.BuildHasher g.H.Hasher.Hasher c.self.inside.hasher (g.E.Key.Hash.hash_input (g.E.Keyed.key_of e))) c.self.inside.skipped (length c.args.fresh) c.args.fresh c.regroup.new.fresh (flat_map shelf_entries bs) poured c.requires.empty refl)

@@ -28,28 +28,28 @@ returns-else-all_short-clause-moves g c =
     let yes = c.all_short.ensures.1 (rw c.as_slice.ensures.value all) in search rules) refl
 
 pub returns-in-Err-clause-moves : goal.returns-in-Err-clause-moves
-returns-in-Err-clause-moves g c = noted-moves _ c.args.count c.self.inside.buckets.items _ c.args.self.now c.self.view_is
+returns-in-Err-clause-moves g c = noted-moves _ c.args.count c.self.inside.buckets _ c.args.self.now c.self.view_is
 
 pub returns-in-Err-clause-same : goal.returns-in-Err-clause-same
-returns-in-Err-clause-same g c = noted-same (λ _. 0) 0 c.self.inside.buckets.items _ c.args.self.now c.self.view_is
+returns-in-Err-clause-same g c = noted-same (λ _. 0) 0 c.self.inside.buckets _ c.args.self.now c.self.view_is
 
 pub returns-in-Err-clause-settings : goal.returns-in-Err-clause-settings
-returns-in-Err-clause-settings g c = noted-settings (λ _. 0) 0 c.self.inside.buckets.items _ c.args.self.now c.self.view_is
+returns-in-Err-clause-settings g c = noted-settings (λ _. 0) 0 c.self.inside.buckets _ c.args.self.now c.self.view_is
 
 pub returns-then-all_short-clause-twice : goal.returns-then-all_short-clause-twice
 returns-then-all_short-clause-twice g c =
     λ bounded size.
-    rw (settings-view c.self.inside.buckets.items _ c.args.self.now c.self.view_is)
-    (rw (settings-view c.self.inside.buckets.items _ c.args.self.now c.self.view_is) at (doubled-view (λ e. hash_of g.H.BuildHasher g.H.Hasher.Hasher c.self.inside.hasher (g.E.Key.Hash.hash_input (g.E.Keyed.key_of e))) _ _ c.args.count c.self.inside.buckets.items _ c.args.self.now c.self.view_is c.self.invariant.table bounded size))
+    rw (settings-view c.self.inside.buckets _ c.args.self.now c.self.view_is)
+    (rw (settings-view c.self.inside.buckets _ c.args.self.now c.self.view_is) at (doubled-view (λ e. hash_of g.H.BuildHasher g.H.Hasher.Hasher c.self.inside.hasher (g.E.Key.Hash.hash_input (g.E.Keyed.key_of e))) _ _ c.args.count c.self.inside.buckets _ c.args.self.now c.self.view_is c.self.invariant.table bounded size))
 
 pub returns-else-all_short-clause-twice : goal.returns-else-all_short-clause-twice
 returns-else-all_short-clause-twice g c =
     λ bounded size.
-    rw (settings-view c.self.inside.buckets.items _ c.args.self.now c.self.view_is)
-    (rw (settings-view c.self.inside.buckets.items _ c.args.self.now c.self.view_is) at (doubled-view (λ e. hash_of g.H.BuildHasher g.H.Hasher.Hasher c.self.inside.hasher (g.E.Key.Hash.hash_input (g.E.Keyed.key_of e))) _ _ c.args.count c.self.inside.buckets.items _ c.args.self.now c.self.view_is c.self.invariant.table bounded size))
+    rw (settings-view c.self.inside.buckets _ c.args.self.now c.self.view_is)
+    (rw (settings-view c.self.inside.buckets _ c.args.self.now c.self.view_is) at (doubled-view (λ e. hash_of g.H.BuildHasher g.H.Hasher.Hasher c.self.inside.hasher (g.E.Key.Hash.hash_input (g.E.Keyed.key_of e))) _ _ c.args.count c.self.inside.buckets _ c.args.self.now c.self.view_is c.self.invariant.table bounded size))
 
 pub returns-in-Err-clause-twice : goal.returns-in-Err-clause-twice
 returns-in-Err-clause-twice g c =
     λ bounded size.
-    rw (settings-view c.self.inside.buckets.items _ c.args.self.now c.self.view_is)
-    (rw (settings-view c.self.inside.buckets.items _ c.args.self.now c.self.view_is) at (doubled-view (λ e. hash_of g.H.BuildHasher g.H.Hasher.Hasher c.self.inside.hasher (g.E.Key.Hash.hash_input (g.E.Keyed.key_of e))) _ _ c.args.count c.self.inside.buckets.items _ c.args.self.now c.self.view_is c.self.invariant.table bounded size))
+    rw (settings-view c.self.inside.buckets _ c.args.self.now c.self.view_is)
+    (rw (settings-view c.self.inside.buckets _ c.args.self.now c.self.view_is) at (doubled-view (λ e. hash_of g.H.BuildHasher g.H.Hasher.Hasher c.self.inside.hasher (g.E.Key.Hash.hash_input (g.E.Keyed.key_of e))) _ _ c.args.count c.self.inside.buckets _ c.args.self.now c.self.view_is c.self.invariant.table bounded size))

@@ -7,6 +7,6 @@ use Rattle.scc_table.proofs.walks.Table+tuple2+K+V+H.walk.Given as goal
 
 abbrev pub invariant-loop-bucket : goal.invariant-loop-bucket
 invariant-loop-bucket g l = record {
-  callable : CallableWhile g.F.FnMut true l.f (flat_map shelf_entries (drop l.bucket-index l.bucket-items));
-  rest : (b : Bool) (last : g.row.F.Denot) → Walks (CalledOn g.F.FnMut) l.f (flat_map shelf_entries (drop l.bucket-index l.bucket-items)) b last → Walks (CalledOn g.F.FnMut) l.fn.f (entries l.self) b last;
+  callable : CallableWhile g.F.FnMut true l.f (flat_map shelf_entries (drop l.bucket l.array));
+  rest : (b : Bool) (last : g.row.F.Denot) → Walks (CalledOn g.F.FnMut) l.f (flat_map shelf_entries (drop l.bucket l.array)) b last → Walks (CalledOn g.F.FnMut) l.fn.f (entries l.self) b last;
 }

@@ -1,0 +1,7 @@
+-- What places end as, once a `&mut` to one of their entries has ended.
+use Rattle.std.specs.Prelude.{ℕ, List, slice_set, Option, Some}
+use Rattle.std.specs.Borrow.{Fml, RattleType, MutBor, Lends}
+use Rattle.scc_slots.specs.contracts.slots.Slots.{the_row}
+
+abbrev pub lends_slot : (R : RattleType) → MutBor (List (Option R.Denot)) → ℕ → MutBor R.Denot → Fml
+lends_slot R slots i entry = Lends (the_row R) R slots entry (λ w. slice_set slots.now i (Some w))
