@@ -1,4 +1,7 @@
 //! The table of the hash containers whose resizes are spread over insertions: the entries of an old array wait there until their bucket in the new one takes them over.
 #![tactic(auto)]
 
+pub mod incremental;
 mod moving;
+
+pub use incremental::Incremental;
