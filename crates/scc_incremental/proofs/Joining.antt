@@ -55,3 +55,10 @@ module _ {E S : Type 0} (hash : E → ℕ) (c : Contents E S) (ws : List Bool) (
   pub count-together : (ws ≡ []) ⊎ (length ws ≡ bucket_count c) → bucket_count (together hash c ws olds) ≡ bucket_count c
   unfolding bucket_count lists_of
   count-together flags = length-joined (target_by hash c) (flat_map shelf_entries olds) 0 ws c.lists flags
+
+-- where some wait, there is one flag for each bucket
+pub flags-length : {E S : Type 0} (c : Contents E S) (ws : List Bool) (n : ℕ) → (ws ≡ []) ⊎ (length ws ≡ bucket_count c) → n ≡ count_by (λ w. w) ws → 0 < n → length ws ≡ bucket_count c
+flags-length c ws n flags counted some = elim flags [
+  | inl z ↦ absurd (let e : n ≡ 0 = counted ∙ ap (count_by (λ w. w)) z in omega arith)
+  | inr z ↦ z
+]

@@ -75,6 +75,9 @@ where
         requires { bucket < bucket_count self.now }
         ensures { IsTrue result ↔ IsWaiting self.now bucket }
     {
-        self.pending != 0 && self.waiting[bucket]
+        if self.pending == 0 {
+            return false;
+        }
+        self.waiting[bucket]
     }
 }
