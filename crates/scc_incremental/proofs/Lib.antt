@@ -1,3 +1,4 @@
+pub mod Arriving
 pub mod Draining
 pub mod Joining
 pub mod Pulling

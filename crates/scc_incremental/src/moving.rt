@@ -14,6 +14,9 @@ use scc_table::{Bucket, Keyed, Table};
 use std::alloc::{AllocError, Global};
 use std::hash::{BuildHasher, Hash};
 
+/// How many entries may lie in the overflow lists of both arrays: fewer than this.
+const OVERFLOW_LIMIT: usize = 1 << 62;
+
 /// Moves the entries of one old bucket that belong to the target to the end of that one's bucket, in order. It has room for them, so no memory is taken. The others stay in their order. `table` has the hasher.
 pub(crate) fn pull<E: Keyed, H: BuildHasher>(
     into: &mut Bucket<E>,
@@ -131,7 +134,15 @@ where
     Ok(())
 }
 
-/// Moves the entries of all old buckets that belong to the target into the table's bucket of that number, which is empty, in order, and answers how many they are. `coming` is no less; at most `left` of them may lie past the slots. Where memory is refused, all stays.
+/// How many entries more may lie in overflow lists.
+fn left_of(overflowing: usize, aside: usize) -> usize
+    requires { overflowing + aside < 2 ^ 62 }
+    ensures { overflowing + aside + result + 1 ≡ 2 ^ 62 }
+{
+    OVERFLOW_LIMIT - 1 - overflowing - aside
+}
+
+/// Moves the entries of all old buckets that belong to the target into the table's bucket of that number, which is empty, in order, and answers how many they are. `coming` is no less; `aside` entries are counted as if they lay in overflow lists too. Where memory is refused, all stays.
 pub(crate) fn move_in<E: Keyed, H: BuildHasher>(
     current: &mut Table<E, H>,
     old: &mut Array<E>,
@@ -139,7 +150,7 @@ pub(crate) fn move_in<E: Keyed, H: BuildHasher>(
     first: usize,
     last: usize,
     coming: usize,
-    left: usize,
+    aside: usize,
     skipped: u32,
 ) -> Result<usize, AllocError>
 where
@@ -152,18 +163,20 @@ where
     requires few { (j : ℕ) → length (shelf_of old.old j).overflow < 2 ^ 62 }
     requires own { AreOwn (λ e. key_hash H.BuildHasher H.Hasher.Hasher E.Key.hash_input current.old (E.key_of e)) skipped old.old }
     requires coming { length (bound_for (λ e. key_hash H.BuildHasher H.Hasher.Hasher E.Key.hash_input current.old (E.key_of e)) skipped (bucket_count current.old) target (flat_map shelf_entries old.old)) ≤ coming }
-    requires left { spilled_of current.old + left < 2 ^ 62 }
+    requires aside { spilled_of current.old + aside < 2 ^ 62 }
     requires most { length (flat_map shelf_entries old.old) < 2 ^ 63 }
     requires unique { IsDistinct E.Key.eq (map E.key_of (flat_map (λ l. l) (slice_set (lists_of current.old) target (bound_for (λ e. key_hash H.BuildHasher H.Hasher.Hasher E.Key.hash_input current.old (E.key_of e)) skipped (bucket_count current.old) target (flat_map shelf_entries old.old))))) }
     ensures ok { IfOk result (λ n. TakesOver (λ e. key_hash H.BuildHasher H.Hasher.Hasher E.Key.hash_input current.old (E.key_of e)) target n current.old old.old current.new old.new) }
-    ensures few { OnOk result (spilled_of current.new ≤ spilled_of current.old + left) }
+    ensures few { OnOk result (spilled_of current.new + aside < 2 ^ 62) }
     ensures err { OnErr result (IsAsBefore current.old current.new) }
     ensures stays { OnErr result (old.new ≡ old.old) }
     ensures refused { OnErr result (32 < coming) }
 {
+    current.keep_lists();
     let alloc = current.allocator();
     let (mut fresh, count, overflowing) = current.exchange(Vec::new(alloc), 0, 0);
     let buckets = fresh.len();
+    let left = left_of(overflowing, aside);
     let filled = fill(
         &mut fresh[target],
         alloc,
