@@ -24,10 +24,10 @@ bound-flat_none hash t n i [] f = refl
 bound-flat_none hash t n i (b ∷ bs) f =
     bound_append hash t n i (shelf_entries b) (flat_map shelf_entries bs) ∙ ap (λ z. z ++ bound_for hash t n i (flat_map shelf_entries bs)) (f 0) ∙ bound-flat_none hash t n i bs (λ j. f (suc j))
 
-flat-parts : {E : Type 0} (m : ℕ) (bs : List (Shelf E)) → flat_map shelf_entries bs ≡ flat_map shelf_entries (take m bs) ++ flat_map shelf_entries (drop m bs)
+pub flat-parts : {E : Type 0} (m : ℕ) (bs : List (Shelf E)) → flat_map shelf_entries bs ≡ flat_map shelf_entries (take m bs) ++ flat_map shelf_entries (drop m bs)
 flat-parts m bs = ap (flat_map shelf_entries) (sym (take-append-drop m bs)) ∙ flat_map-append shelf_entries (take m bs) (drop m bs)
 
-flat-more : {E : Type 0} (m : ℕ) (bs : List (Shelf E)) → m < length bs → flat_map shelf_entries (take (m + 1) bs) ≡ flat_map shelf_entries (take m bs) ++ shelf_entries (shelf_of bs m)
+pub flat-more : {E : Type 0} (m : ℕ) (bs : List (Shelf E)) → m < length bs → flat_map shelf_entries (take (m + 1) bs) ≡ flat_map shelf_entries (take m bs) ++ shelf_entries (shelf_of bs m)
 flat-more m bs l =
     ap (flat_map shelf_entries) (take_more bs m empty_shelf l) ∙ flat_map-append shelf_entries (take m bs) (shelf_of bs m ∷ []) ∙ ap (λ z. flat_map shelf_entries (take m bs) ++ z) (append-nil (shelf_entries (shelf_of bs m)))
 
@@ -51,7 +51,7 @@ pub record DrainsUntil {E : Type 0} (hash : E → ℕ) (t n i : ℕ) (olds : Lis
   pub moved : Extends hash a b (bound_for hash t n i (flat_map shelf_entries (take m olds)))
 
 module _ {E : Type 0} (hash : E → ℕ) (t n i first last : ℕ) (olds : List (Shelf E)) (sources : IsWithinSources hash t n i first last olds) (a : Shelf E) where
-  before-none : bound_for hash t n i (flat_map shelf_entries (take first olds)) ≡ []
+  pub before-none : bound_for hash t n i (flat_map shelf_entries (take first olds)) ≡ []
   before-none = bound-flat_none hash t n i (take first olds) (λ j. elim (dec_lt j first) [
     | yes q ↦ ap (λ z. bound_for hash t n i (shelf_entries z)) (get_or-take first olds j empty_shelf q) ∙ sources.none j (inl q)
     | no q ↦ ap (λ z. bound_for hash t n i (shelf_entries z)) (get_or_past (take first olds) j empty_shelf (omega (arith, length-take first olds)))
@@ -59,6 +59,12 @@ module _ {E : Type 0} (hash : E → ℕ) (t n i first last : ℕ) (olds : List (
 
   after-none : bound_for hash t n i (flat_map shelf_entries (drop last olds)) ≡ []
   after-none = bound-flat_none hash t n i (drop last olds) (λ j. ap (λ z. bound_for hash t n i (shelf_entries z)) (get_or-drop last olds j empty_shelf) ∙ sources.none (last + j) (inr (omega arith)))
+
+  -- and so those of the buckets before `last` are all
+  pub take-all_bound : bound_for hash t n i (flat_map shelf_entries (take last olds)) ≡ bound_for hash t n i (flat_map shelf_entries olds)
+  take-all_bound =
+      sym (ap (bound_for hash t n i) (flat-parts last olds) ∙ bound_append hash t n i (flat_map shelf_entries (take last olds)) (flat_map shelf_entries (drop last olds))
+      ∙ ap (λ z. bound_for hash t n i (flat_map shelf_entries (take last olds)) ++ z) after-none ∙ append-nil (bound_for hash t n i (flat_map shelf_entries (take last olds))))
 
   pub drain-start : AreOwn hash t olds → IsPacked hash a → DrainsUntil hash t n i olds a olds a first
   drain-start own packed = record {
@@ -73,9 +79,6 @@ module _ {E : Type 0} (hash : E → ℕ) (t n i first last : ℕ) (olds : List (
   module _ (news : List (Shelf E)) (b : Shelf E) where
     pub drain-end : DrainsUntil hash t n i olds a news b last → Drains hash t n i olds a news b
     drain-end p =
-        let all : bound_for hash t n i (flat_map shelf_entries (take last olds)) ≡ bound_for hash t n i (flat_map shelf_entries olds) =
-        sym (ap (bound_for hash t n i) (flat-parts last olds) ∙ bound_append hash t n i (flat_map shelf_entries (take last olds)) (flat_map shelf_entries (drop last olds))
-        ∙ ap (λ z. bound_for hash t n i (flat_map shelf_entries (take last olds)) ++ z) after-none ∙ append-nil (bound_for hash t n i (flat_map shelf_entries (take last olds)))) in
         record {
           count = p.count;
           kept = λ j l. elim (dec_lt j last) [
@@ -84,7 +87,7 @@ module _ {E : Type 0} (hash : E → ℕ) (t n i first last : ℕ) (olds : List (
           ];
           own = record { own = λ j l. let q : j < length olds = omega (arith, p.count) in subst (λ m. IsOwn hash t m j (shelf_of news j)) (sym p.count) (p.own j q) };
           overflow = p.overflow;
-          moved = subst (λ z. Extends hash a b z) all p.moved;
+          moved = subst (λ z. Extends hash a b z) take-all_bound p.moved;
         }
 
     module _ (m : ℕ) (p : DrainsUntil hash t n i olds a news b m) (l : m < last) where

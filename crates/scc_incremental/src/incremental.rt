@@ -15,7 +15,7 @@ where
     E::Key: Eq + Hash,
 {
     current: Table<E, H>,
-    old: Array<E>,
+    draining: Array<E>,
     waiting: Vec<bool>,
     pending: usize,
     next: usize,
@@ -35,9 +35,9 @@ where
 
     ghost coded = { contents_code E.code H.code };
 
-    ghost view = { λ t. together (λ e. key_hash H.BuildHasher H.Hasher.Hasher E.Key.hash_input t.current (E.key_of e)) t.current t.waiting.items t.old };
+    ghost view = { λ t. together (λ e. key_hash H.BuildHasher H.Hasher.Hasher E.Key.hash_input t.current (E.key_of e)) t.current t.waiting.items t.draining };
 
-    ghost invariant = { λ t. IsIncremental E.Key.eq E.key_of (key_hash H.BuildHasher H.Hasher.Hasher E.Key.hash_input t.current) t.current t.waiting.items t.old t.skipped t.pending t.next t.held t.held_overflow };
+    ghost invariant = { λ t. IsIncremental E.Key.eq E.key_of (key_hash H.BuildHasher H.Hasher.Hasher E.Key.hash_input t.current) t.current t.waiting.items t.draining t.skipped t.pending t.next t.held t.held_overflow };
 }
 
 impl<E: Keyed, H: BuildHasher> Incremental<E, H>

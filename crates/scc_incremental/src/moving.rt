@@ -1,12 +1,14 @@
 //! How the entries of one bucket of the new array come out of the old one.
-ghost use Rattle.std.specs.Prelude.{◌≡◌, ◌<◌, ◌≤◌, ◌+◌, ◌^◌, ℕ, [], length, map, slice_set, IfOk, OnOk, OnErr};
+ghost use Rattle.std.specs.Prelude.{◌≡◌, ◌<◌, ◌≤◌, ◌+◌, ◌^◌, ◌*◌, ℕ, [], length, map, slice_set, IfOk, OnOk, OnErr};
 ghost use Rattle.std.specs.List.{flat_map, IsDistinct};
 ghost use Rattle.scc_array.specs.Shelves.{shelf_of};
 ghost use Rattle.scc_bucket.specs.Shelf.{empty_shelf, shelf_entries};
 ghost use Rattle.scc_incremental.specs.Moves.{AreOwn, Drains, IsAsBefore, IsWithinSources, Pulls, TakesOver};
 ghost use Rattle.scc_table.specs.Contents.{bucket_count, key_hash, list_of, lists_of, settings_of, spilled_of};
 ghost use Rattle.scc_table.specs.Pour.{IsPacked, bound_for};
+ghost use Rattle.scc_table.specs.Routing.{bucket_number};
 ghost use Rattle.scc_table.specs.Tables.{IsOwn};
+ghost use Rattle.scc_incremental.specs.TwoArrays.{AreMultiples};
 
 use scc_array::Array;
 use scc_table::route::{bucket_index, tag};
@@ -198,4 +200,74 @@ where
         Ok(()) => Ok(moved),
         Err(e) => Err(e),
     }
+}
+
+/// The old buckets in which entries of the target lie: from the first answer up to before the second.
+pub(crate) fn sources(old: usize, count: usize, target: usize) -> (usize, usize)
+    requires some { 0 < old }
+    requires most { old ≤ 2 ^ 58 }
+    requires target { target < count }
+    requires multiples { AreMultiples old count }
+    ensures order { result.0 ≤ result.1 }
+    ensures within { result.1 ≤ old }
+    ensures only { (skipped hash : ℕ) → bucket_number skipped count hash ≡ target → (result.0 ≤ bucket_number skipped old hash) × (bucket_number skipped old hash < result.1) }
+{
+    if old <= count {
+        let targets = count / old;
+        let source = target / targets;
+        return (source, source + 1);
+    }
+    let spread = old / count;
+    (target * spread, target * spread + spread)
+}
+
+/// How many entries of one old bucket belong to the target.
+fn count_in<E: Keyed, H: BuildHasher>(
+    old: &Array<E>,
+    source: usize,
+    target: usize,
+    table: &Table<E, H>,
+    skipped: u32,
+    count: usize,
+) -> usize
+where
+    E::Key: Eq + Hash,
+    requires bits { skipped < 64 }
+    requires source { source < length old.now }
+    requires few { length (shelf_entries (shelf_of old.now source)) < 2 ^ 63 }
+    ensures { result ≡ length (bound_for (λ e. key_hash H.BuildHasher H.Hasher.Hasher E.Key.hash_input table.now (E.key_of e)) skipped count target (shelf_entries (shelf_of old.now source))) }
+{
+    let held = old.bucket_len(source);
+    let mut found = 0;
+    for place in 0..held {
+        let hash = table.hash(old.entry_at(source, place).key());
+        if bucket_index(hash, skipped, count) == target {
+            found += 1;
+        }
+    }
+    found
+}
+
+/// How many entries of all old buckets belong to the target, where only those from `first` up to before `last` hold such entries.
+pub(crate) fn count_all<E: Keyed, H: BuildHasher>(
+    old: &Array<E>,
+    first: usize,
+    last: usize,
+    target: usize,
+    table: &Table<E, H>,
+    skipped: u32,
+    count: usize,
+) -> usize
+where
+    E::Key: Eq + Hash,
+    requires bits { skipped < 64 }
+    requires sources { IsWithinSources (λ e. key_hash H.BuildHasher H.Hasher.Hasher E.Key.hash_input table.now (E.key_of e)) skipped count target first last old.now }
+    requires most { length (flat_map shelf_entries old.now) < 2 ^ 63 }
+    ensures { result ≡ length (bound_for (λ e. key_hash H.BuildHasher H.Hasher.Hasher E.Key.hash_input table.now (E.key_of e)) skipped count target (flat_map shelf_entries old.now)) }
+{
+    let mut found = 0;
+    for source in first..last {
+        found += count_in(old, source, target, table, skipped, count);
+    }
+    found
 }
