@@ -1,13 +1,7 @@
-// A library with one function.
+//! The table of the hash containers whose resizes are spread over insertions: the entries of an old array wait there until their bucket in the new one takes them over.
 #![tactic(auto)]
 
-ghost use Rattle.std.specs.Prelude.{◌≡◌};
-ghost use Rattle.scc_incremental.specs.Echo.{echo_of};
+pub mod incremental;
+mod moving;
 
-// The `ensures` clause is the contract: what `echo` returns is `echo_of` of its argument, a definition
-// in `specs/Echo.antt`, which a caller's clause can cite too.
-pub fn echo(x: usize) -> usize
-    ensures { result ≡ echo_of x }
-{
-    x
-}
+pub use incremental::Incremental;

@@ -1,38 +1,43 @@
 //! A table with other buckets in the place of its own.
-ghost use Rattle.std.specs.Prelude.{◌≡◌, [], length, map};
+ghost use Rattle.std.specs.Prelude.{◌≡◌, [], map};
 ghost use Rattle.std.specs.List.{flat_map, IsDistinct};
 ghost use Rattle.scc_bucket.specs.Shelf.{shelf_entries};
-ghost use Rattle.scc_table.specs.Contents.{entries, lists_of, settings_of, refused_of, spilled_of, waiting_of, held_of, key_hash};
+ghost use Rattle.scc_table.specs.Contents.{lists_of, settings_of, refused_of, spilled_of, waiting_of, held_of, key_hash};
 ghost use Rattle.scc_table.specs.Tables.{IsTable};
 
 use super::Table;
-use scc_bucket::{Bucket, Keyed};
+use scc_array::Array;
+use scc_bucket::Keyed;
 use std::hash::{BuildHasher, Hash};
 
 impl<E: Keyed, H: BuildHasher> Table<E, H>
 where
     E::Key: Eq + Hash,
 {
-    /// Puts other buckets, with so many entries and so many of them in overflow lists, in the place of the table's own, and answers those. Neither array is looked at.
+    /// Puts other buckets, with so many entries and so many of them in overflow lists, in the place of the table's own, and answers those with their two numbers. Neither array is looked at.
     pub fn exchange(
         &mut self,
-        buckets: Vec<Bucket<E>>,
+        buckets: Array<E>,
         count: usize,
         overflowing: usize,
-    ) -> Vec<Bucket<E>>
-        requires table { IsTable (λ e. key_hash H.BuildHasher H.Hasher.Hasher E.Key.hash_input self.old (E.key_of e)) (settings_of self.old).skipped buckets.items count overflowing }
-        requires unique { IsDistinct E.Key.eq (map E.key_of (flat_map shelf_entries buckets.items)) }
-        ensures lists { lists_of self.new ≡ map shelf_entries buckets.items }
+    ) -> (Array<E>, usize, usize)
+        requires table { IsTable (λ e. key_hash H.BuildHasher H.Hasher.Hasher E.Key.hash_input self.old (E.key_of e)) (settings_of self.old).skipped buckets count overflowing }
+        requires unique { IsDistinct E.Key.eq (map E.key_of (flat_map shelf_entries buckets)) }
+        ensures lists { lists_of self.new ≡ map shelf_entries buckets }
         ensures settings { settings_of self.new ≡ settings_of self.old }
         ensures noted { refused_of self.new ≡ refused_of self.old }
         ensures spilled { spilled_of self.new ≡ overflowing }
         ensures waiting { waiting_of self.new ≡ [] }
         ensures held { held_of self.new ≡ [] }
-        ensures were { lists_of self.old ≡ map shelf_entries result.items }
-        ensures table { IsTable (λ e. key_hash H.BuildHasher H.Hasher.Hasher E.Key.hash_input self.old (E.key_of e)) (settings_of self.old).skipped result.items (length (entries self.old)) (spilled_of self.old) }
+        ensures were { lists_of self.old ≡ map shelf_entries result.0 }
+        ensures table { IsTable (λ e. key_hash H.BuildHasher H.Hasher.Hasher E.Key.hash_input self.old (E.key_of e)) (settings_of self.old).skipped result.0 result.1 result.2 }
+        ensures overflowing { result.2 ≡ spilled_of self.old }
     {
+        let own_count = self.length;
+        let own_overflowing = self.overflowing;
         self.length = count;
         self.overflowing = overflowing;
-        std::mem::replace(&mut self.buckets, buckets)
+        let own = std::mem::replace(&mut self.buckets, buckets);
+        (own, own_count, own_overflowing)
     }
 }

@@ -3,14 +3,13 @@ use Rattle.std.specs.List.{flat_map, IsDistinct}
 use Rattle.scc_bucket.specs.Shelf.{Shelf, shelf_entries}
 use Rattle.scc_table.specs.Hashing.{hash_of}
 use Rattle.scc_table.specs.Tables.{IsTable, spilled_in}
-use Rattle.scc_table.proofs.Refill.{count-entries}
 use Rattle.scc_table.proofs.Views.{settings-view, refused-view, spilled-view, lists-view, waiting-view, held-view}
 use Rattle.scc_table.proofs.table.Table.exchange.Goals as goal
 
 pub invariant_of-self : goal.invariant_of-self
 invariant_of-self g c =
-    let now = ap (λ v. v.items) (sym c.replace.ensures.after) in
-    let at = settings-view c.self.inside.buckets.items _ c.args.self.now c.self.view_is in
+    let now = sym c.replace-own.ensures.after in
+    let at = settings-view c.self.inside.buckets _ c.args.self.now c.self.view_is in
     record {
       table =
           subst (λ (bs : List (Shelf g.row.E.Denot)). IsTable (λ e. hash_of g.H.BuildHasher g.H.Hasher.Hasher c.self.inside.hasher (g.E.Key.Hash.hash_input (g.E.Keyed.key_of e))) c.self.inside.skipped bs c.args.count c.args.overflowing) now
@@ -21,16 +20,16 @@ invariant_of-self g c =
     }
 
 pub returns-clause-lists : goal.returns-clause-lists
-returns-clause-lists g c = lists-view _ _ _ refl ∙ ap (λ v. map shelf_entries v.items) c.replace.ensures.after
+returns-clause-lists g c = lists-view _ _ _ refl ∙ ap (map shelf_entries) c.replace-own.ensures.after
 
 pub returns-clause-settings : goal.returns-clause-settings
-returns-clause-settings g c = settings-view _ _ _ refl ∙ sym (settings-view c.self.inside.buckets.items _ c.args.self.now c.self.view_is)
+returns-clause-settings g c = settings-view _ _ _ refl ∙ sym (settings-view c.self.inside.buckets _ c.args.self.now c.self.view_is)
 
 pub returns-clause-noted : goal.returns-clause-noted
-returns-clause-noted g c = refused-view _ _ _ refl ∙ sym (refused-view c.self.inside.buckets.items _ c.args.self.now c.self.view_is)
+returns-clause-noted g c = refused-view _ _ _ refl ∙ sym (refused-view c.self.inside.buckets _ c.args.self.now c.self.view_is)
 
 pub returns-clause-spilled : goal.returns-clause-spilled
-returns-clause-spilled g c = spilled-view _ _ _ refl ∙ ap (λ v. spilled_in v.items) c.replace.ensures.after ∙ sym c.requires.table.spilled
+returns-clause-spilled g c = spilled-view _ _ _ refl ∙ ap spilled_in c.replace-own.ensures.after ∙ sym c.requires.table.spilled
 
 pub returns-clause-waiting : goal.returns-clause-waiting
 returns-clause-waiting g c = waiting-view _ _ _ refl
@@ -39,12 +38,12 @@ pub returns-clause-held : goal.returns-clause-held
 returns-clause-held g c = held-view _ _ _ refl
 
 pub returns-clause-were : goal.returns-clause-were
-returns-clause-were g c = lists-view c.self.inside.buckets.items _ c.args.self.now c.self.view_is ∙ ap (λ v. map shelf_entries v.items) (sym c.replace.ensures.value)
+returns-clause-were g c = lists-view c.self.inside.buckets _ c.args.self.now c.self.view_is ∙ ap (map shelf_entries) (sym c.replace-own.ensures.value)
+
+pub returns-clause-overflowing : goal.returns-clause-overflowing
+returns-clause-overflowing g c = c.self.invariant.table.spilled ∙ sym (spilled-view c.self.inside.buckets _ c.args.self.now c.self.view_is)
 
 pub returns-clause-table : goal.returns-clause-table
 returns-clause-table g c =
-    let t = c.self.inside in
-    let at = settings-view t.buckets.items _ c.args.self.now c.self.view_is in
-    let count = count-entries (λ e. hash_of g.H.BuildHasher g.H.Hasher.Hasher t.hasher (g.E.Key.Hash.hash_input (g.E.Keyed.key_of e))) t.skipped t.length t.overflowing t.buckets.items _ c.args.self.now c.self.view_is c.self.invariant.table in
-    let over = c.self.invariant.table.spilled ∙ sym (spilled-view t.buckets.items _ c.args.self.now c.self.view_is) in
-    rw (at, ← count, ← over, c.replace.ensures.value) c.self.invariant.table
+    let at = settings-view c.self.inside.buckets _ c.args.self.now c.self.view_is in
+    rw (at, c.replace-own.ensures.value) c.self.invariant.table

@@ -1,0 +1,6 @@
+pub mod Arriving
+pub mod Counted
+pub mod Draining
+pub mod Joining
+pub mod Numbers
+pub mod Pulling

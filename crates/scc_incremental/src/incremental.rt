@@ -1,0 +1,83 @@
+//! A table of two arrays, of which the old one drains.
+ghost use Rattle.std.specs.Prelude.{◌≡◌, ◌<◌, ◌↔◌, true, IsTrue};
+ghost use Rattle.scc_table.specs.Contents.{bucket_count, pending_of, refused_of};
+ghost use Rattle.scc_table.specs.Sizes.{IsLawful};
+ghost use Rattle.scc_incremental.specs.TwoArrays.{IsWaiting};
+
+use scc_array::Array;
+use scc_table::{Keyed, Table};
+use std::hash::{BuildHasher, Hash};
+use std::marker::Model;
+
+/// Entries with distinct keys, in the buckets of an array, or of an old one where their bucket waits for them. A container sees one list for each bucket, wherever its entries lie.
+pub struct Incremental<E: Keyed, H: BuildHasher>
+where
+    E::Key: Eq + Hash,
+{
+    current: Table<E, H>,
+    draining: Array<E>,
+    waiting: Vec<bool>,
+    pending: usize,
+    next: usize,
+    held: usize,
+    held_overflow: usize,
+    skipped: u32,
+}
+
+impl<E: Keyed, H: BuildHasher> Model for Incremental<E, H>
+where
+    E::Key: Eq + Hash,
+{
+    ghost use Rattle.scc_table.specs.Contents.{Contents, contents_code, key_hash};
+    ghost use Rattle.scc_incremental.specs.TwoArrays.{together, IsIncremental};
+
+    ghost Value = { Contents E H };
+
+    ghost coded = { contents_code E.code H.code };
+
+    ghost view = { λ t. together (λ e. key_hash H.BuildHasher H.Hasher.Hasher E.Key.hash_input t.current (E.key_of e)) t.current t.waiting.items t.draining };
+
+    ghost invariant = { λ t. IsIncremental E.Key.eq E.key_of (key_hash H.BuildHasher H.Hasher.Hasher E.Key.hash_input t.current) t.current t.waiting.items t.draining t.skipped t.pending t.next t.held t.held_overflow };
+}
+
+impl<E: Keyed, H: BuildHasher> Incremental<E, H>
+where
+    E::Key: Eq + Hash,
+{
+    /// The number of buckets, 0 where there is no array.
+    #[inline(always)]
+    pub fn bucket_count(&self) -> usize
+        ensures count { result ≡ bucket_count self.now }
+        ensures lawful { IsLawful result }
+    {
+        self.current.bucket_count()
+    }
+
+    /// How many buckets wait for their entries to come from the old array.
+    #[inline(always)]
+    pub fn pending(&self) -> usize
+        ensures { result ≡ pending_of self.now }
+    {
+        self.pending
+    }
+
+    /// Whether memory was refused for the last resize that was due.
+    #[inline(always)]
+    pub fn is_resize_refused(&self) -> bool
+        ensures { result ≡ refused_of self.now }
+    {
+        self.current.is_resize_refused()
+    }
+
+    /// Whether the bucket waits for its entries to come from the old array.
+    #[inline(always)]
+    pub fn is_waiting(&self, bucket: usize) -> bool
+        requires { bucket < bucket_count self.now }
+        ensures { IsTrue result ↔ IsWaiting self.now bucket }
+    {
+        if self.pending == 0 {
+            return false;
+        }
+        self.waiting[bucket]
+    }
+}
