@@ -12,6 +12,8 @@ mod insertions;
 #[cfg(test)]
 mod making;
 #[cfg(test)]
+mod recorded;
+#[cfg(test)]
 mod removals;
 #[cfg(test)]
 mod reservations;

@@ -6,6 +6,8 @@ mod as_run;
 #[cfg(test)]
 mod cases;
 #[cfg(test)]
+mod crews;
+#[cfg(test)]
 mod scripts;
 #[cfg(test)]
 mod workers;

@@ -1,170 +1,215 @@
-// Recorded containers that several threads call.
-ghost use Rattle.std.specs.Prelude.{◌≡◌, Some};
-ghost use Rattle.scc_recorder.specs.Setups.{request_of};
-
-use crate::cases::{Map, shared};
-use scc_recorded::recorded::{MapCall, Reply, Step};
-use scc_recorder::recorder::{Finished, Pass, Recorded, Setup, Site};
-use scc_script::same::Same;
-use scc_stripes::stripes::{Gate, Work, run};
-use scc_table::Shared;
+// Workers that share one recorded container, and the run of one thread that their records stand beside.
+use scc_recorded::recorded::{Step, WholeCalls, run};
+use scc_recorder::recorder::{Finished, Pass, Recorded, Site};
+use scc_stripes::stripes::Work;
 use std::alloc::{AllocError, Global};
-use std::marker::Brand;
 use std::sync::Wait;
-use std::sync::ledger::{Blank, Ledger};
-use std::test::Fail;
-use std::thread::Threads;
+use std::sync::ledger::Ledger;
 
-const TURNS: usize = 200;
+pub(crate) const WORKERS: u64 = 8;
 
-// One caller: every other call is on a key of its own, the others on keys that all share.
+const TURNS: u64 = 200;
+
+// How many keys each worker has to itself.
+const OWN: u64 = 25;
+
+// How many keys all share.
+const SHARED: u64 = 8;
+
+// What workers do on a container of each kind.
+pub(crate) trait Turns: WholeCalls + Drop {
+    // The call of a turn on a key of the worker's own, and what it is answered where nobody else is there, if that can be known.
+    fn own_turn(key: u64, j: u64) -> (Self::Call, Option<Self::Reply>);
+
+    // The call of a turn on a key that all share.
+    fn shared_turn(key: u64, j: u64) -> Self::Call;
+
+    // The call that tells what a key has.
+    fn probe(key: u64) -> Self::Call;
+}
+
+// The keys of a worker lie in different buckets, one for each eight turns.
+fn own_key(worker: u64, place: u64) -> u64 {
+    (place << 59) | (1 << 40) | (worker << 32)
+}
+
+// Every other call is on a key of the worker's own, the others are on keys that all share.
+fn turn_of<C: Turns>(worker: u64, j: u64) -> (C::Call, Option<C::Reply>) {
+    if j % 2 == 0 {
+        C::own_turn(own_key(worker, j / 8), j)
+    } else {
+        let key = worker.wrapping_add(j / 2) % SHARED;
+        (C::shared_turn(key, j), None)
+    }
+}
+
+fn turns_of<C: Turns>(
+    alloc: Global,
+    worker: u64,
+) -> Result<Vec<(C::Call, Option<C::Reply>)>, AllocError> {
+    let mut turns = Vec::new(alloc);
+    for j in 0..TURNS {
+        turns.push(turn_of::<C>(worker, j))?;
+    }
+    Ok(turns)
+}
+
+// The turns of all workers.
+pub(crate) fn all_turns<C: Turns>(
+    alloc: Global,
+) -> Result<Vec<Vec<(C::Call, Option<C::Reply>)>>, AllocError> {
+    let mut lists = Vec::new(alloc);
+    for worker in 0..WORKERS {
+        lists.push(turns_of::<C>(alloc, worker)?)?;
+    }
+    Ok(lists)
+}
+
+// What is asked of each key in the end.
+fn probes<C: Turns>(alloc: Global) -> Result<Vec<C::Call>, AllocError> {
+    let mut calls = Vec::new(alloc);
+    for n in 0..SHARED + WORKERS * OWN {
+        let key = if n < SHARED {
+            n
+        } else {
+            own_key((n - SHARED) / OWN, (n - SHARED) % OWN)
+        };
+        calls.push(C::probe(key))?;
+    }
+    calls.push(C::len_call())?;
+    Ok(calls)
+}
+
+// One worker, with a pass of its own.
 #[derive(Drop)]
-struct Caller<'a, L: Ledger, M: Site<Shared<Same>>, R: Wait> {
+pub(crate) struct Caller<'a, C: Turns, L: Ledger, M: Site<C::Hasher>, R: Wait> {
     rt: &'a R,
-    recorded: &'a Recorded<Map, L, M>,
-    pass: Pass<Map, L>,
+    recorded: &'a Recorded<C, L, M>,
+    turns: &'a [(C::Call, Option<C::Reply>)],
+    pass: Pass<C, L>,
     // Whether each reply on its own keys was that of one thread.
     as_alone: bool,
 }
 
-// The call of a turn: four turns go over an own key, and each fourth is a shared one.
-fn call_of(worker: usize, j: usize) -> MapCall<u64, u64> {
-    let own = (1 << 40) | ((worker as u64) << 32) | (j as u64 / 4);
-    match j % 4 {
-        0 => MapCall::Insert(own, j as u64),
-        1 => MapCall::Upsert(j as u64 % 8, worker as u64),
-        2 => MapCall::Read(own),
-        _ => MapCall::Remove(j as u64 % 8),
-    }
-}
-
-fn is_as_alone(j: usize, reply: &Reply<u64, u64>) -> bool {
-    match (j % 4, reply) {
-        (0, Reply::Inserted) => true,
-        (2, Reply::Value(Some(v))) => *v == j as u64 - 2,
-        (0, _) => false,
-        (2, _) => false,
-        _ => true,
-    }
-}
-
-impl<L: Ledger, M: Site<Shared<Same>>, R: Wait> Work for Caller<'_, L, M, R> {
+impl<C: Turns, L: Ledger, M: Site<C::Hasher>, R: Wait> Work for Caller<'_, C, L, M, R> {
     fn turns(&self) -> usize {
-        TURNS
+        self.turns.len()
     }
 
     fn turn(&mut self, j: usize) -> bool {
-        let call = call_of(self.pass.number(), j);
-        match call {
-            MapCall::Clear => false,
-            MapCall::Len => false,
-            keyed => match self.recorded.call(self.rt, &mut self.pass, keyed) {
-                Ok(reply) => {
-                    self.as_alone = self.as_alone && is_as_alone(j, &reply);
-                    true
-                }
-                Err(_refused) => false,
-            },
-        }
-    }
-}
-
-#[derive(Drop)]
-struct Open;
-
-impl Gate for Open {
-    fn before(&self, _worker: usize, _j: usize) -> bool {
-        true
-    }
-
-    fn after(&self, _worker: usize, _j: usize) {}
-}
-
-// How many call records there are.
-fn records_of(finished: &Finished<Map>) -> usize {
-    let mut records: usize = 0;
-    for history in finished.histories.as_slice() {
-        for step in history.as_slice() {
-            if let Step::Call { .. } = step {
-                records = records.saturating_add(1);
+        let Some((call, alone)) = self.turns.get(j) else {
+            return false;
+        };
+        let Some(_key) = C::key(call) else {
+            return false;
+        };
+        match self.recorded.call(self.rt, &mut self.pass, *call) {
+            Ok(reply) => {
+                self.as_alone = self.as_alone && alone.is_none_or(|alone| alone == reply);
+                true
             }
+            Err(_refused) => false,
         }
     }
-    records
 }
 
-// Eight callers on one stripe. It answers the number of call records, where the run is finished and each caller had its own keys to itself.
-fn work_together<
-    L: Ledger + Send + Sync,
-    M: Site<Shared<Same>> + Send + Sync,
-    R: Threads + Wait + Sync,
->(
-    rt: &R,
+// A worker for each pass.
+pub(crate) fn callers_of<'a, C: Turns, L: Ledger, M: Site<C::Hasher>, R: Wait>(
+    rt: &'a R,
     alloc: Global,
-    hasher: Shared<Same>,
-    receipts: Blank,
-    records: Blank,
-) -> Result<Option<usize>, AllocError>
-    requires receipts { (receipts.name ≡ L.name) × (receipts.parts ≡ L.parts) × (receipts.parts ≡ 8) }
-    requires records { (records.name ≡ M.name) × (records.parts ≡ M.parts) × (records.parts ≡ 1) }
-    requires site { (M.chosen ≡ Some (request_of 0 0 hasher 1)) × (M.all ≡ 1) }
-{
-    let setup = Setup {
-        capacity: 0,
-        maximum: 0,
-        hasher,
-    };
-    let Ok((recorded, handed)) = Recorded::<Map, L, M>::open(alloc, setup, 1, 8, receipts, records)
-    else {
-        return Err(AllocError);
-    };
-    let mut callers = Vec::new(alloc);
-    for pass in handed {
-        let caller = Caller {
+    recorded: &'a Recorded<C, L, M>,
+    passes: Vec<Pass<C, L>>,
+    lists: &'a [Vec<(C::Call, Option<C::Reply>)>],
+) -> Result<Vec<Caller<'a, C, L, M, R>>, AllocError> {
+    let mut callers = Vec::with_capacity(alloc, passes.len())?;
+    for (pass, turns) in passes.into_iter().zip(lists) {
+        callers.push(Caller {
             rt,
-            recorded: &recorded,
+            recorded,
+            turns: turns.as_slice(),
             pass,
             as_alone: true,
-        };
-        if callers.push(caller).is_err() {
-            return Err(AllocError);
-        }
+        })?;
     }
-    let ended = run(rt, alloc, callers.as_mut_slice(), &Open);
-    let mut passes = Vec::new(alloc);
-    let mut as_alone = ended.is_ok();
+    Ok(callers)
+}
+
+// The passes of the workers, if each had its own keys to itself.
+pub(crate) fn passes_of<C: Turns, L: Ledger, M: Site<C::Hasher>, R: Wait>(
+    alloc: Global,
+    callers: Vec<Caller<'_, C, L, M, R>>,
+) -> Result<Option<Vec<Pass<C, L>>>, AllocError> {
+    let mut passes = Vec::with_capacity(alloc, callers.len())?;
+    let mut alone = true;
     for caller in callers {
         let Caller {
             rt: _,
             recorded: _,
+            turns: _,
             pass,
-            as_alone: alone,
+            as_alone,
         } = caller;
-        as_alone = as_alone && alone;
-        if passes.push(pass).is_err() {
-            return Err(AllocError);
-        }
+        alone = alone && as_alone;
+        passes.push(pass)?;
     }
-    match recorded.finish(passes) {
-        Ok(finished) => Ok(if as_alone {
-            Some(records_of(&finished))
-        } else {
-            None
-        }),
-        Err(_unfinished) => Ok(None),
-    }
+    Ok(if alone { Some(passes) } else { None })
 }
 
-#[test]
-fn eight_workers_on_one_recorded_stripe(rt: HostRuntime) -> Result<(), Fail> {
-    let alloc = rt.alloc();
-    let records = work_together::<Brand, Brand, _>(
-        &rt,
-        alloc,
-        shared(alloc)?,
-        Blank::new(8),
-        Blank::new(1),
-    )?;
-    assert_eq!(rt; records, Some(1600));
-    Ok(())
+// The calls along the order of steps, and what they were answered.
+fn records_of<C: Turns>(
+    alloc: Global,
+    finished: &Finished<C>,
+) -> Result<(Vec<C::Call>, Vec<C::Reply>), AllocError> {
+    let mut calls = Vec::new(alloc);
+    let mut replies = Vec::new(alloc);
+    for place in finished.order.as_slice() {
+        if let Some(history) = finished.histories.get(place.0) {
+            if let Some(Step::Call { call, reply, .. }) = history.get(place.1) {
+                calls.push(*call)?;
+                replies.push(*reply)?;
+            }
+        }
+    }
+    Ok((calls, replies))
+}
+
+// How many call records there are, where a run of them on that part gives the recorded replies and the recorded contents.
+fn records_as_run<C: Turns>(
+    alloc: Global,
+    finished: Finished<C>,
+    alone: C,
+) -> Result<Option<usize>, AllocError> {
+    let (calls, replies) = records_of(alloc, &finished)?;
+    let mut parts = finished.parts;
+    let Some(mut part) = parts.pop() else {
+        return Ok(None);
+    };
+    let mut alone = alone;
+    let mut answered = Vec::new(alloc);
+    let mut wanted = Vec::new(alloc);
+    let mut held = Vec::new(alloc);
+    let asked = probes::<C>(alloc)?;
+    let ran = run(&mut alone, calls.as_slice(), &mut answered).is_ok()
+        && run(&mut alone, asked.as_slice(), &mut wanted).is_ok()
+        && run(&mut part, asked.as_slice(), &mut held).is_ok();
+    let same = answered.as_slice() == replies.as_slice() && wanted.as_slice() == held.as_slice();
+    Ok(if ran && same { Some(calls.len()) } else { None })
+}
+
+// Finishes a run on one stripe, with the passes in reverse order, and puts it beside one on that part.
+pub(crate) fn finish_as_run<C: Turns, L: Ledger, M: Site<C::Hasher>>(
+    alloc: Global,
+    recorded: Recorded<C, L, M>,
+    passes: Vec<Pass<C, L>>,
+    alone: C,
+) -> Result<Option<usize>, AllocError>
+where
+    C::Hasher: Drop,
+{
+    let mut passes = passes;
+    passes.reverse();
+    match recorded.finish(passes) {
+        Ok(finished) => records_as_run(alloc, finished, alone),
+        Err(_unfinished) => Ok(None),
+    }
 }
