@@ -1,6 +1,6 @@
 //! How many entries each bucket of a new array will get, and how many lie in overflow lists.
 ghost use Rattle.std.specs.Prelude.{◌≡◌, ◌<◌, ◌+◌, ◌^◌, ℕ, length, IfOk, slice_index};
-ghost use Rattle.std.specs.List.{flat_map, sum_by};
+ghost use Rattle.std.specs.List.{flat_map};
 ghost use Rattle.scc_table.specs.Hashing.{hash_of};
 ghost use Rattle.scc_table.specs.Pour.{IsTally, Tallies};
 ghost use Rattle.scc_array.specs.Shelves.{shelf_of};
@@ -59,16 +59,4 @@ where
         count_into(&mut counts, array, bucket, hasher, skipped, count);
     }
     Ok(counts)
-}
-
-/// How many entries lie in overflow lists.
-pub(crate) fn count_overflow<E>(array: &Array<E>) -> usize
-    requires { sum_by (λ b. length b.overflow) array.now < 2 ^ 64 }
-    ensures { result ≡ sum_by (λ b. length b.overflow) array.now }
-{
-    let mut total = 0;
-    for bucket in 0..array.len() {
-        total += array.overflow_len(bucket);
-    }
-    total
 }

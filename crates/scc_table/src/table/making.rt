@@ -1,7 +1,6 @@
 //! How a table and its array are made.
 ghost use Rattle.std.specs.Arc.{arc_value};
-ghost use Rattle.std.specs.Prelude.{◌≡◌, ◌≢◌, ◌≤◌, ◌<◌, ◌+◌, ◌*◌, ◌^◌, [], length, IsOk, IfOk, OnOk, OnErr, slice_set};
-ghost use Rattle.scc_array.specs.Shelves.{shelf_of};
+ghost use Rattle.std.specs.Prelude.{◌≡◌, ◌≢◌, ◌≤◌, ◌<◌, ◌+◌, ◌*◌, ◌^◌, [], length, IsOk, IfOk, OnOk, OnErr};
 ghost use Rattle.scc_table.specs.Bounded.{IsListed, IsResized};
 ghost use Rattle.scc_table.specs.Contents.{entries, bucket_count, settings_of, refused_of, minimum_of, key_hash};
 ghost use Rattle.scc_table.specs.Pour.{Fits};
@@ -143,7 +142,7 @@ pub(crate) fn roomy_buckets<E>(alloc: Global, counts: &[usize]) -> Result<Array<
 {
     let mut fresh = fresh_buckets(alloc, counts.len())?;
     for bucket in 0..counts.len() {
-        match reserve_for(&mut fresh, bucket, counts[bucket]) {
+        match fresh.reserve_for(bucket, counts[bucket]) {
             Ok(()) => {}
             Err(refused) => {
                 fresh.destroy_empty();
@@ -152,16 +151,4 @@ pub(crate) fn roomy_buckets<E>(alloc: Global, counts: &[usize]) -> Result<Array<
         }
     }
     Ok(fresh)
-}
-
-/// Room for so many entries in an empty bucket.
-fn reserve_for<E>(fresh: &mut Array<E>, bucket: usize, count: usize) -> Result<(), AllocError>
-    requires { bucket < length fresh.old }
-    ensures value { fresh.new ≡ slice_set fresh.old bucket (record (shelf_of fresh.old bucket) { room = (shelf_of fresh.new bucket).room }) }
-    ensures room { OnOk result (count ≤ 32 + (shelf_of fresh.new bucket).room) }
-{
-    if count <= 32 {
-        return Ok(());
-    }
-    fresh.reserve_overflow(bucket, count - 32)
 }

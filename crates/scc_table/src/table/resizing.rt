@@ -15,7 +15,7 @@ use super::making::roomy_buckets;
 use crate::place::Place;
 use crate::pour::{regroup, regroup_with};
 use crate::route::bucket_index;
-use crate::tally::{count_overflow, tally};
+use crate::tally::tally;
 use scc_array::Array;
 use scc_bucket::Keyed;
 use std::alloc::AllocError;
@@ -53,7 +53,7 @@ where
         let count = fresh.len();
         let old = std::mem::replace(&mut self.buckets, fresh);
         regroup(&mut self.buckets, old, &self.hasher, self.skipped, count);
-        self.overflowing = count_overflow(&self.buckets);
+        self.overflowing = self.buckets.overflow_total();
         self.refused = false;
     }
 
@@ -147,7 +147,7 @@ where
             self.skipped,
             count,
         );
-        self.overflowing = count_overflow(&self.buckets);
+        self.overflowing = self.buckets.overflow_total();
         self.length += 1;
         self.refused = false;
         place

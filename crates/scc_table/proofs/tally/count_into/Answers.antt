@@ -5,7 +5,7 @@ use Rattle.scc_bucket.specs.Shelf.{shelf_entries}
 use Rattle.scc_table.specs.Hashing.{hash_of}
 use Rattle.scc_table.specs.Pour.{Tallies}
 use Rattle.scc_table.specs.Routing.{bucket_number}
-use Rattle.scc_table.proofs.Arrays.{take-whole}
+use Rattle.scc_array.proofs.Totals.{take-whole}
 use Rattle.scc_table.proofs.Growth.{tallies-next}
 use Rattle.scc_table.proofs.Tallies.{tally-fits}
 use Rattle.scc_table.proofs.tally.count_into.Goals as goal

@@ -5,7 +5,8 @@ use Rattle.scc_bucket.specs.Shelf.{shelf_entries}
 use Rattle.std.specs.List.{flat_map}
 use Rattle.scc_table.specs.Hashing.{hash_of}
 use Rattle.scc_table.specs.Pour.{IsTally}
-use Rattle.scc_table.proofs.Arrays.{shelf-at, take-whole}
+use Rattle.scc_array.proofs.Totals.{take-whole}
+use Rattle.scc_table.proofs.Arrays.{shelf-at}
 use Rattle.scc_table.proofs.Growth.{tally-bucket}
 use Rattle.scc_table.proofs.Tallies.{slots-room, bucket-few}
 use Rattle.scc_table.proofs.tally.tally.Goals as goal

@@ -3,7 +3,7 @@ use Rattle.scc_array.specs.Shelves.{shelf_of}
 use Rattle.scc_bucket.specs.Shelf.{shelf_entries}
 use Rattle.scc_bucket.proofs.Lists.{get-is}
 use Rattle.scc_table.specs.Clones.{AddsClones}
-use Rattle.scc_table.proofs.Arrays.{take-whole}
+use Rattle.scc_array.proofs.Totals.{take-whole}
 use Rattle.scc_table.proofs.Cloning.{adds-none, adds-next}
 use Rattle.scc_table.proofs.table.Table.insert_clones.Goals as goal
 

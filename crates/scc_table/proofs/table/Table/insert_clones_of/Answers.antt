@@ -3,7 +3,8 @@ use Rattle.std.specs.List.{flat_map}
 use Rattle.scc_array.specs.Shelves.{shelf_of}
 use Rattle.scc_bucket.specs.Shelf.{shelf_entries}
 use Rattle.scc_table.specs.Clones.{AddsClones}
-use Rattle.scc_table.proofs.Arrays.{flat-next, take-whole}
+use Rattle.scc_array.proofs.Totals.{take-whole}
+use Rattle.scc_table.proofs.Arrays.{flat-next}
 use Rattle.scc_table.proofs.Cloning.{adds-none, adds-more}
 use Rattle.scc_table.proofs.table.Table.insert_clones_of.Goals as goal
 

@@ -14,8 +14,8 @@ regroup-requires-clause-room g c =
     room-same (λ e. hash_of g.H.BuildHasher g.H.Hasher.Hasher c.self.inside.hasher (g.E.Key.Hash.hash_input (g.E.Keyed.key_of e))) c.self.inside.skipped _ _ c.args.fresh c.replace-old.new.dest (flat_map shelf_entries bs) (flat_map shelf_entries c.replace-old.result)
     count (sym c.replace-old.ensures.after) (sym (ap (λ v. flat_map shelf_entries v) c.replace-old.ensures.value)) room
 
-pub count_overflow-self-inside-requires : goal.count_overflow-self-inside-requires
-count_overflow-self-inside-requires g c =
+pub overflow_total-self-inside-requires : goal.overflow_total-self-inside-requires
+overflow_total-self-inside-requires g c =
     let bs = c.self.inside.buckets in
     let count : c.len-count.result ≡ length c.args.fresh = search rules in
     let few = rw (entries-view bs _ c.args.self.now c.self.view_is) at c.requires.few in
@@ -32,9 +32,9 @@ invariant_of-self g c =
     let poured = poured-same (λ e. hash_of g.H.BuildHasher g.H.Hasher.Hasher c.self.inside.hasher (g.E.Key.Hash.hash_input (g.E.Keyed.key_of e))) c.self.inside.skipped _ _ c.replace-old.new.dest c.args.fresh c.regroup.new.fresh (flat_map shelf_entries c.replace-old.result) (flat_map shelf_entries bs)
     count c.replace-old.ensures.after (ap (λ v. flat_map shelf_entries v) c.replace-old.ensures.value) c.regroup.ensures in
     let counted = count-entries _ _ _ _ bs _ c.args.self.now c.self.view_is c.self.invariant.table ∙ ap length (entries-view bs _ c.args.self.now c.self.view_is) in
-    let spilled = c.count_overflow-self-inside.ensures in
+    let spilled = c.overflow_total-self-inside.ensures in
     record {
-      table = table-after (λ e. hash_of g.H.BuildHasher g.H.Hasher.Hasher c.self.inside.hasher (g.E.Key.Hash.hash_input (g.E.Keyed.key_of e))) c.self.inside.skipped (length c.args.fresh) c.args.fresh c.regroup.new.fresh (flat_map shelf_entries bs) poured c.requires.empty refl c.self.inside.length c.count_overflow-self-inside.result c.requires.array counted spilled few;
+      table = table-after (λ e. hash_of g.H.BuildHasher g.H.Hasher.Hasher c.self.inside.hasher (g.E.Key.Hash.hash_input (g.E.Keyed.key_of e))) c.self.inside.skipped (length c.args.fresh) c.args.fresh c.regroup.new.fresh (flat_map shelf_entries bs) poured c.requires.empty refl c.self.inside.length c.overflow_total-self-inside.result c.requires.array counted spilled few;
       few_bits = c.self.invariant.few_bits;
       small_minimum = c.self.invariant.small_minimum;
       unique = unique-after (λ e. hash_of g.H.BuildHasher g.H.Hasher.Hasher c.self.inside.hasher (g.E.Key.Hash.hash_input (g.E.Keyed.key_of e))) c.self.inside.skipped (length c.args.fresh) c.args.fresh c.regroup.new.fresh (flat_map shelf_entries bs) poured c.requires.empty refl g.met.E.Key.Eq.laws g.E.Keyed.key_of c.self.invariant.unique;

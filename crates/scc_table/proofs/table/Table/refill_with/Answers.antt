@@ -26,8 +26,8 @@ regroup_with-place-requires-clause-room g c =
     room-same (λ e. hash_of g.H.BuildHasher g.H.Hasher.Hasher c.self.inside.hasher (g.E.Key.Hash.hash_input (g.E.Keyed.key_of e))) c.self.inside.skipped _ _ c.args.fresh c.replace-old.new.dest (flat_map shelf_entries bs ++ c.args.entry ∷ []) (flat_map shelf_entries c.replace-old.result ++ c.args.entry ∷ [])
     count (sym c.replace-old.ensures.after) (sym (ap (λ v. flat_map shelf_entries v ++ c.args.entry ∷ []) c.replace-old.ensures.value)) room
 
-pub count_overflow-self-inside-requires : goal.count_overflow-self-inside-requires
-count_overflow-self-inside-requires g c =
+pub overflow_total-self-inside-requires : goal.overflow_total-self-inside-requires
+overflow_total-self-inside-requires g c =
     let bs = c.self.inside.buckets in
     let es = flat_map shelf_entries bs in
     let count : c.len-count.result ≡ length c.args.fresh = search rules in
@@ -60,11 +60,11 @@ invariant_of-self g c =
     let within : made.result.bucket < length c.args.fresh = omega (arith, made.ensures.within) in
     let few = rw (entries-view bs _ c.args.self.now c.self.view_is) at c.requires.few in
     let counted = count-entries _ _ _ _ bs _ c.args.self.now c.self.view_is c.self.invariant.table ∙ ap length (entries-view bs _ c.args.self.now c.self.view_is) in
-    let spilled = c.count_overflow-self-inside.ensures in
+    let spilled = c.overflow_total-self-inside.ensures in
     let less = spilled-last (λ e. hash_of g.H.BuildHasher g.H.Hasher.Hasher c.self.inside.hasher (g.E.Key.Hash.hash_input (g.E.Keyed.key_of e))) c.self.inside.skipped (length c.args.fresh) made.result.bucket c.args.fresh made.new.fresh es c.args.entry poured c.requires.empty refl to within in
     let absent = rw (entries-view bs _ c.args.self.now c.self.view_is) at c.requires.absent in
     record {
-      table = table-spilled (λ e. hash_of g.H.BuildHasher g.H.Hasher.Hasher c.self.inside.hasher (g.E.Key.Hash.hash_input (g.E.Keyed.key_of e))) c.self.inside.skipped (length c.args.fresh) c.args.fresh made.new.fresh (es ++ c.args.entry ∷ []) poured c.requires.empty refl (c.self.inside.length + 1) c.count_overflow-self-inside.result c.requires.array (omega (arith, length-append es (c.args.entry ∷ []))) spilled (omega arith);
+      table = table-spilled (λ e. hash_of g.H.BuildHasher g.H.Hasher.Hasher c.self.inside.hasher (g.E.Key.Hash.hash_input (g.E.Keyed.key_of e))) c.self.inside.skipped (length c.args.fresh) c.args.fresh made.new.fresh (es ++ c.args.entry ∷ []) poured c.requires.empty refl (c.self.inside.length + 1) c.overflow_total-self-inside.result c.requires.array (omega (arith, length-append es (c.args.entry ∷ []))) spilled (omega arith);
       few_bits = c.self.invariant.few_bits;
       small_minimum = c.self.invariant.small_minimum;
       unique = unique-inserted g.met.E.Key.Eq.laws g.E.Keyed.key_of c.args.entry es (flat_map shelf_entries made.new.fresh) c.self.invariant.unique absent (moved-last (λ e. hash_of g.H.BuildHasher g.H.Hasher.Hasher c.self.inside.hasher (g.E.Key.Hash.hash_input (g.E.Keyed.key_of e))) c.self.inside.skipped (length c.args.fresh) made.result.bucket c.args.fresh made.new.fresh es c.args.entry poured c.requires.empty refl to within);

@@ -7,7 +7,7 @@ loop-bucket-init g c = record { made = c.in_ok-fresh.ensures.count ∙ search ru
 
 pub loop-bucket-preserved : goal.loop-bucket-preserved
 loop-bucket-preserved g c =
-    let bs = c.loop-bucket.fresh in let ds = c.reserve_for.new.fresh in let j = c.loop-bucket.bucket in
+    let bs = c.loop-bucket.fresh in let ds = c.reserve_for.new.self in let j = c.loop-bucket.bucket in
     let m : length bs ≡ length c.args.counts.now = c.loop-bucket.invariant.made in
     let l : j < length bs = search rules in
     let put = c.reserve_for.ensures.value in
@@ -19,7 +19,7 @@ loop-bucket-preserved g c =
 
 pub destroy_empty-requires : goal.destroy_empty-requires
 destroy_empty-requires g c =
-    let bs = c.loop-bucket.fresh in let ds = c.reserve_for.new.fresh in let j = c.loop-bucket.bucket in
+    let bs = c.loop-bucket.fresh in let ds = c.reserve_for.new.self in let j = c.loop-bucket.bucket in
     let m : length bs ≡ length c.args.counts.now = c.loop-bucket.invariant.made in
     let l : j < length bs = search rules in
     all-empty ds (room-empty bs ds j l _ c.reserve_for.ensures.value c.loop-bucket.invariant.empty)
