@@ -13,5 +13,5 @@ returns-in-Ok g c =
 pub returns-in-Err : goal.returns-in-Err
 returns-in-Err g c = (
   (refl, λ _. tt, rw c.in-Vacant.is c.in-Err.ensures.unchanged),
-  record { entry = tt; refused = rw c.in-Vacant.is ((c.f-value.result, (_, c.f-value.ensures, refl), rw c.in-Err.ensures.refused refl)); vacant = rw c.in-Vacant.is tt; growth = tt; unique = tt; kept = tt },
+  record { entry = tt; refused = (c.f-value.result, rw c.in-Vacant.is (_, c.f-value.ensures, refl), rw c.in-Vacant.is (rw c.in-Err.ensures.refused refl)); vacant = rw c.in-Vacant.is tt; growth = tt; unique = tt; kept = tt },
 )
