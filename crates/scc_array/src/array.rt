@@ -87,7 +87,7 @@ impl<E> Array<E> {
         requires { bucket < length self.now }
         ensures { IsTrue result ↔ (length (shelf_of self.now bucket).slots ≤ place) }
     {
-        place >= self.columns.count(bucket)
+        place >= self.columns.count_past(bucket, place)
     }
 
     /// How many entries the bucket has past its places.
@@ -163,7 +163,7 @@ impl<E> Array<E> {
         requires place { place < length (shelf_entries (shelf_of self.now bucket)) }
         ensures { slice_get (shelf_entries (shelf_of self.now bucket)) place ≡ Some result.now }
     {
-        let count = self.columns.count(bucket);
+        let count = self.columns.count_past(bucket, place);
         if place < count {
             return self.columns.entry_at(bucket, place);
         }
@@ -177,7 +177,7 @@ impl<E> Array<E> {
         ensures entry { slice_get (shelf_entries (shelf_of self.old bucket)) place ≡ Some result }
         ensures others { self.new ≡ slice_set self.old bucket (without_place (shelf_of self.old bucket) place) }
     {
-        let count = self.columns.count(bucket);
+        let count = self.columns.count_past(bucket, place);
         if place < count {
             return self.columns.remove(bucket, place);
         }
@@ -193,7 +193,7 @@ impl<E> Array<E> {
         ensures entry { slice_get (shelf_entries (shelf_of self.old bucket)) place ≡ Some result }
         ensures others { self.new ≡ slice_set self.old bucket (swapped_out (shelf_of self.old bucket) place result) }
     {
-        let count = self.columns.count(bucket);
+        let count = self.columns.count_past(bucket, place);
         if place < count {
             return self.columns.swap_remove(bucket, place);
         }

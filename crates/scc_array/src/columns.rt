@@ -80,6 +80,19 @@ impl<E> Columns<E> {
         if free == 0 { 32 } else { lowest_bit(free) }
     }
 
+    /// How many entries the bucket has, where none stands at the place; where one does, a number above that of the place. It looks at one tag first.
+    #[inline(always)]
+    pub fn count_past(&self, bucket: usize, place: usize) -> usize
+        requires { bucket < length self.now }
+        ensures within { place < result → place < length (window_of self.now bucket).slots }
+        ensures past { result ≤ place → result ≡ length (window_of self.now bucket).slots }
+    {
+        if place < 32 && self.tags[bucket][place] != 0 {
+            return 32;
+        }
+        self.count(bucket)
+    }
+
     /// The entry at a place.
     #[inline(always)]
     pub fn entry_at(&self, bucket: usize, place: usize) -> &E

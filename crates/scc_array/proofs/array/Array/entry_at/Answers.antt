@@ -7,8 +7,8 @@ use Rattle.scc_array.proofs.Shelves.{window-within, slots-are, spilled-there, li
 use Rattle.scc_array.specs.Shelves.{shelf_of}
 use Rattle.scc_array.proofs.array.Array.entry_at.Goals as goal
 
-pub count-count-requires : goal.count-count-requires
-count-count-requires g c =
+pub count_past-count-requires : goal.count_past-count-requires
+count_past-count-requires g c =
     let ws = c.self.inside.columns in let os = c.self.inside.overflow.items in let bs = c.args.self.now in let b = c.args.bucket in
     let view = c.self.view_is in let within = window-within ws os bs view b c.requires.bucket in
     within
@@ -18,7 +18,6 @@ returns-then-place-count g c =
     let ws = c.self.inside.columns in let os = c.self.inside.overflow.items in let bs = c.args.self.now in let b = c.args.bucket in
     let view = c.self.view_is in let within = window-within ws os bs view b c.requires.bucket in
     let slots = slots-are ws os bs view b c.requires.bucket in
-    let k : c.count-count.result ≡ length (shelf_of bs b).slots = c.count-count.ensures.count ∙ ap length slots in
     get-left (shelf_of bs b).slots (shelf_of bs b).overflow c.args.place c.entry_at.result.now (ap (λ l. slice_get l c.args.place) (sym slots) ∙ c.entry_at.ensures)
 
 pub index-requires : goal.index-requires
@@ -26,9 +25,9 @@ index-requires g c =
     let ws = c.self.inside.columns in let os = c.self.inside.overflow.items in let bs = c.args.self.now in let b = c.args.bucket in
     let view = c.self.view_is in let within = window-within ws os bs view b c.requires.bucket in
     let slots = slots-are ws os bs view b c.requires.bucket in
-    let k : c.count-count.result ≡ length (shelf_of bs b).slots = c.count-count.ensures.count ∙ ap length slots in
+    let k : c.count_past-count.result ≡ length (shelf_of bs b).slots = (c.count_past-count.ensures.past (omega (arith, c.if-place-count.false))) ∙ ap length slots in
     let far : length (shelf_of bs b).slots ≤ c.args.place = omega (arith, c.if-place-count.false) in
-    let some : c.args.place - c.count-count.result < length (shelf_of bs b).overflow = omega (arith, c.requires.place, length-append (shelf_of bs b).slots (shelf_of bs b).overflow) in
+    let some : c.args.place - c.count_past-count.result < length (shelf_of bs b).overflow = omega (arith, c.requires.place, length-append (shelf_of bs b).slots (shelf_of bs b).overflow) in
     let there = spilled-there ws os bs view b c.requires.bucket c.self.invariant (omega arith) in
     omega (arith, c.self.inside.overflow.ok.0)
 
@@ -37,9 +36,9 @@ index-requires-2 g c =
     let ws = c.self.inside.columns in let os = c.self.inside.overflow.items in let bs = c.args.self.now in let b = c.args.bucket in
     let view = c.self.view_is in let within = window-within ws os bs view b c.requires.bucket in
     let slots = slots-are ws os bs view b c.requires.bucket in
-    let k : c.count-count.result ≡ length (shelf_of bs b).slots = c.count-count.ensures.count ∙ ap length slots in
+    let k : c.count_past-count.result ≡ length (shelf_of bs b).slots = (c.count_past-count.ensures.past (omega (arith, c.if-place-count.false))) ∙ ap length slots in
     let far : length (shelf_of bs b).slots ≤ c.args.place = omega (arith, c.if-place-count.false) in
-    let some : c.args.place - c.count-count.result < length (shelf_of bs b).overflow = omega (arith, c.requires.place, length-append (shelf_of bs b).slots (shelf_of bs b).overflow) in
+    let some : c.args.place - c.count_past-count.result < length (shelf_of bs b).overflow = omega (arith, c.requires.place, length-append (shelf_of bs b).slots (shelf_of bs b).overflow) in
     let there = spilled-there ws os bs view b c.requires.bucket c.self.invariant (omega arith) in
     let v = c.index.result.now in let items = list-is ws os bs view b c.requires.bucket v (list-read os b v there c.index.ensures) in
     omega (arith, v.ok.0, ap length items)
@@ -49,10 +48,10 @@ returns g c =
     let ws = c.self.inside.columns in let os = c.self.inside.overflow.items in let bs = c.args.self.now in let b = c.args.bucket in
     let view = c.self.view_is in let within = window-within ws os bs view b c.requires.bucket in
     let slots = slots-are ws os bs view b c.requires.bucket in
-    let k : c.count-count.result ≡ length (shelf_of bs b).slots = c.count-count.ensures.count ∙ ap length slots in
+    let k : c.count_past-count.result ≡ length (shelf_of bs b).slots = (c.count_past-count.ensures.past (omega (arith, c.if-place-count.false))) ∙ ap length slots in
     let far : length (shelf_of bs b).slots ≤ c.args.place = omega (arith, c.if-place-count.false) in
-    let some : c.args.place - c.count-count.result < length (shelf_of bs b).overflow = omega (arith, c.requires.place, length-append (shelf_of bs b).slots (shelf_of bs b).overflow) in
+    let some : c.args.place - c.count_past-count.result < length (shelf_of bs b).overflow = omega (arith, c.requires.place, length-append (shelf_of bs b).slots (shelf_of bs b).overflow) in
     let there = spilled-there ws os bs view b c.requires.bucket c.self.invariant (omega arith) in
     let v = c.index.result.now in let items = list-is ws os bs view b c.requires.bucket v (list-read os b v there c.index.ensures) in
-    let x = c.index-2.result.now in let j = c.args.place - c.count-count.result in
+    let x = c.index-2.result.now in let j = c.args.place - c.count_past-count.result in
     get-later (shelf_of bs b).slots (shelf_of bs b).overflow c.args.place j (omega arith) ∙ ap (λ l. slice_get l j) (sym items) ∙ get-here v.items j x (omega (arith, ap length items)) ∙ ap Some (sym c.index-2.ensures)

@@ -5,14 +5,14 @@ use Rattle.scc_array.proofs.Shelves.{window-within, list-read}
 use Rattle.scc_array.specs.Windows.{window_of}
 use Rattle.scc_array.proofs.array.Array.value_mut_at.Goals as goal
 
-pub count-count-requires : goal.count-count-requires
-count-count-requires g c = window-within c.self.inside.columns c.self.inside.overflow.items c.args.self.now c.self.view_is c.args.bucket c.requires.bucket
+pub count_past-count-requires : goal.count_past-count-requires
+count_past-count-requires g c = window-within c.self.inside.columns c.self.inside.overflow.items c.args.self.now c.self.view_is c.args.bucket c.requires.bucket
 
 pub returns-then-place-count : goal.returns-then-place-count
 returns-then-place-count g c =
     let ws = c.self.inside.columns in let os = c.self.inside.overflow.items in let bs = c.args.self.now in let b = c.args.bucket in
     let view = c.self.view_is in let kept = c.self.invariant in let put = g.E.Valued.with_value in let i = c.args.place in
-    let e = c.entry_mut-entry.result.now in let l : i < length (window_of ws b).slots = omega (arith, c.count-count.ensures.count, c.if-place-count.true) in
+    let e = c.entry_mut-entry.result.now in let l : i < length (window_of ws b).slots = c.count_past-count.ensures.within c.if-place-count.true in
     let got = place-got put ws os bs view kept b c.requires.bucket i e l c.entry_mut-entry.ensures.entry in
     ((refl, λ w. place-written put ws os bs view kept b c.requires.bucket i e l c.entry_mut-entry.ensures.entry w), record { writes_back = tt; value = (e, got, c.value_mut.ensures.value) })
 
@@ -20,27 +20,27 @@ pub index_mut-list-requires : goal.index_mut-list-requires
 index_mut-list-requires g c =
     let ws = c.self.inside.columns in let os = c.self.inside.overflow.items in let bs = c.args.self.now in let b = c.args.bucket in
     let view = c.self.view_is in let kept = c.self.invariant in let put = g.E.Valued.with_value in let i = c.args.place in
-    let k = c.count-count.result in let far : k ≤ i = omega (arith, c.if-place-count.false) in
-    let there = list-there put ws os bs view kept b c.requires.bucket i c.requires.place k c.count-count.ensures.count far in
+    let k = c.count_past-count.result in let far : k ≤ i = omega (arith, c.if-place-count.false) in
+    let there = list-there put ws os bs view kept b c.requires.bucket i c.requires.place k (c.count_past-count.ensures.past (omega (arith, c.if-place-count.false))) far in
     omega (arith, c.self.inside.overflow.ok.0)
 
 pub index_mut-entry-requires : goal.index_mut-entry-requires
 index_mut-entry-requires g c =
     let ws = c.self.inside.columns in let os = c.self.inside.overflow.items in let bs = c.args.self.now in let b = c.args.bucket in
     let view = c.self.view_is in let kept = c.self.invariant in let put = g.E.Valued.with_value in let i = c.args.place in
-    let k = c.count-count.result in let far : k ≤ i = omega (arith, c.if-place-count.false) in
-    let there = list-there put ws os bs view kept b c.requires.bucket i c.requires.place k c.count-count.ensures.count far in
+    let k = c.count_past-count.result in let far : k ≤ i = omega (arith, c.if-place-count.false) in
+    let there = list-there put ws os bs view kept b c.requires.bucket i c.requires.place k (c.count_past-count.ensures.past (omega (arith, c.if-place-count.false))) far in
     let v = c.index_mut-list.result.now in let held = list-read os b v there c.index_mut-list.ensures.value in
-    let l = list-long put ws os bs view kept b c.requires.bucket i c.requires.place k c.count-count.ensures.count far v held in
+    let l = list-long put ws os bs view kept b c.requires.bucket i c.requires.place k (c.count_past-count.ensures.past (omega (arith, c.if-place-count.false))) far v held in
     omega (arith, v.ok.0)
 
 pub returns-else-place-count : goal.returns-else-place-count
 returns-else-place-count g c =
     let ws = c.self.inside.columns in let os = c.self.inside.overflow.items in let bs = c.args.self.now in let b = c.args.bucket in
     let view = c.self.view_is in let kept = c.self.invariant in let put = g.E.Valued.with_value in let i = c.args.place in
-    let k = c.count-count.result in let far : k ≤ i = omega (arith, c.if-place-count.false) in
-    let there = list-there put ws os bs view kept b c.requires.bucket i c.requires.place k c.count-count.ensures.count far in
+    let k = c.count_past-count.result in let far : k ≤ i = omega (arith, c.if-place-count.false) in
+    let there = list-there put ws os bs view kept b c.requires.bucket i c.requires.place k (c.count_past-count.ensures.past (omega (arith, c.if-place-count.false))) far in
     let v = c.index_mut-list.result.now in let held = list-read os b v there c.index_mut-list.ensures.value in
     let e = c.index_mut-entry.result.now in
-    let got = list-got put ws os bs view kept b c.requires.bucket i c.requires.place k c.count-count.ensures.count far v held e c.index_mut-entry.ensures.value in
-    ((refl, λ w. list-written put ws os bs view kept b c.requires.bucket i c.requires.place k c.count-count.ensures.count far v held e c.index_mut-entry.ensures.value (with_item v (i - k) (put e w)) w refl refl), record { writes_back = tt; value = (e, got, c.value_mut-else-place-count.ensures.value) })
+    let got = list-got put ws os bs view kept b c.requires.bucket i c.requires.place k (c.count_past-count.ensures.past (omega (arith, c.if-place-count.false))) far v held e c.index_mut-entry.ensures.value in
+    ((refl, λ w. list-written put ws os bs view kept b c.requires.bucket i c.requires.place k (c.count_past-count.ensures.past (omega (arith, c.if-place-count.false))) far v held e c.index_mut-entry.ensures.value (with_item v (i - k) (put e w)) w refl refl), record { writes_back = tt; value = (e, got, c.value_mut-else-place-count.ensures.value) })
