@@ -4,3 +4,5 @@ pub mod Draining
 pub mod Joining
 pub mod Numbers
 pub mod Pulling
+pub mod Relocated
+pub mod Relocating
