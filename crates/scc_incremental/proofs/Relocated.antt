@@ -1,5 +1,5 @@
 -- The fields of a table of two arrays, once a bucket took its entries over.
-use Rattle.std.proofs.Common.{◌≡◌, ◌==◌, ℕ, zero, suc, ◌+◌, ◌-◌, ◌^◌, ◌<◌, ◌≤◌, ◌≢◌, ◌⊎◌, inl, inr, Bool, true, false, not, cond, List, [], ◌∷◌, length, map, set, get_or, refl, sym, ap, ◌∙◌, subst, arith, length-set, get_or-set_same, get_or-set_other}
+use Rattle.std.proofs.Common.{◌≡◌, ◌==◌, ℕ, zero, suc, ◌+◌, ◌-◌, ◌^◌, ◌<◌, ◌≤◌, ◌≢◌, ◌⊎◌, inl, inr, Bool, true, false, not, cond, List, [], ◌∷◌, length, map, set, get_or, refl, sym, ap, ◌∙◌, subst, arith, length-set, get_or-set_same, get_or-set_other, eq-eqb}
 use Rattle.std.specs.List.{filter, flat_map, count_by, sum_by, IsDistinct}
 use Rattle.std.proofs.lemmas.List.Concat.{length-flat_map}
 use Rattle.std.proofs.lemmas.List.Filters.{length-filter_both}
@@ -13,8 +13,9 @@ use Rattle.scc_table.specs.Routing.{bucket_number}
 use Rattle.scc_table.specs.Sizes.{IsArray}
 use Rattle.scc_table.specs.Tables.{spilled_in}
 use Rattle.scc_incremental.specs.Moves.{AreOwn, TakesOver, others_for}
-use Rattle.scc_incremental.specs.TwoArrays.{joined, waits_at, target_by, together, AreMultiples, TwoArrays, IsIncremental}
-use Rattle.scc_incremental.proofs.Relocating.{bound-others_none, bound-others_same, flat-others, none-up, one-down, up-within, joined-none, joined-moved}
+use Rattle.scc_incremental.specs.TwoArrays.{joined, waits_at, target_by, together, settle, AreMultiples, TwoArrays, IsIncremental, IsRelocated}
+use Rattle.scc_incremental.proofs.Joining.{lists-together, settings-together, refused-together, waiting-together, pending-together}
+use Rattle.scc_incremental.proofs.Relocating.{not_equal, bound-others_none, bound-others_same, flat-others, none-up, one-down, up-within, joined-none, joined-moved}
 
 pub count-is : {E S : Type 0} (c : Contents E S) → bucket_count c ≡ length (lists_of c)
 unfolding bucket_count lists_of
@@ -112,8 +113,8 @@ module _ {E S : Type 0} (hash : E → ℕ) (i n : ℕ) (c d : Contents E S) (ws 
     bare = λ k high.
         let flag = sym (flags-after settles k) ∙ high in
         let apart = λ (ne : k ≢ i).
-            list-is d k ∙ ap (λ z. get_or z k []) takes.lists ∙ get_or-set_other (lists_of c) i k (bound_for hash (settings_of c).skipped (bucket_count c) i (flat_map shelf_entries olds)) [] ne ∙ sym (list-is c k)
-            ∙ arrays.bare k (sym (get_or-set_other ws i k false false ne) ∙ flag) in
+        list-is d k ∙ ap (λ z. get_or z k []) takes.lists ∙ get_or-set_other (lists_of c) i k (bound_for hash (settings_of c).skipped (bucket_count c) i (flat_map shelf_entries olds)) [] ne ∙ sym (list-is c k)
+        ∙ arrays.bare k (sym (get_or-set_other ws i k false false ne) ∙ flag) in
         elim (dec_lt k i) [
           | yes r ↦ apart (omega arith)
           | no r ↦ elim (dec_lt i k) [
@@ -161,3 +162,23 @@ fields-after {E} eq key hash i n c d ws vs olds news skipped pending next held a
       few = few;
       unique = subst (λ z. IsDistinct eq (map key z)) (sym (entries-after h i n c d ws vs olds news inv.arrays up takes settles)) inv.unique;
     }
+
+settle-others : (ws : List Bool) (i : ℕ) → 0 < count_by (λ w. w) (set ws i false) → settle ws i ≡ set ws i false
+settle-others ws i some = let z : (count_by (λ w. w) (set ws i false) == 0) ≡ false = not_equal _ _ (omega arith) in rw z
+
+settle-last : (ws : List Bool) (i : ℕ) → count_by (λ w. w) (set ws i false) ≡ 0 → settle ws i ≡ []
+settle-last ws i none = let z : (count_by (λ w. w) (set ws i false) == 0) ≡ true = eq-eqb _ _ none in rw z
+
+pub settle-after : {ws vs : List Bool} {i : ℕ} → Settles ws i vs → vs ≡ settle ws i
+settle-after {ws} {i = i} (others e some) = e ∙ sym (settle-others ws i some)
+settle-after {ws} {i = i} (last e none) = e ∙ sym (settle-last ws i none)
+
+pub relocated-after : {E S : Type 0} (hash : E → ℕ) (i n : ℕ) (c d : Contents E S) (ws vs : List Bool) (olds news : List (Shelf E)) → TwoArrays hash c ws olds → waits_at ws i ≡ true → TakesOver hash i n c olds d news → Settles ws i vs
+    → IsRelocated i (together hash c ws olds) (together hash d vs news)
+relocated-after hash i n c d ws vs olds news arrays up takes settles = record {
+  lists = lists-together hash d vs news ∙ joined-after hash i n c d ws vs olds news arrays up takes settles ∙ sym (lists-together hash c ws olds);
+  settings = settings-together hash d vs news ∙ takes.settings ∙ sym (settings-together hash c ws olds);
+  refused = refused-together hash d vs news ∙ takes.refused ∙ sym (refused-together hash c ws olds);
+  waiting = waiting-together hash d vs news ∙ settle-after settles ∙ ap (λ w. settle w i) (sym (waiting-together hash c ws olds));
+  pending = pending-together hash c ws olds ∙ one-down ws i (up-within ws i up) up ∙ ap (λ m. m + 1) (sym (count-after settles) ∙ sym (pending-together hash d vs news));
+}

@@ -14,7 +14,7 @@ use Rattle.scc_incremental.specs.Moves.{others_for}
 use Rattle.scc_incremental.specs.TwoArrays.{joined, waits_at}
 use Rattle.scc_incremental.proofs.Joining.{get-joined, length-joined}
 
-not_equal : (a b : ℕ) → a ≢ b → (a == b) ≡ false
+pub not_equal : (a b : ℕ) → a ≢ b → (a == b) ≡ false
 not_equal a b h = search rules
 
 module _ {E : Type 0} (hash : E → ℕ) (t n i : ℕ) where

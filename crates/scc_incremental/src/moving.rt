@@ -3,7 +3,7 @@ ghost use Rattle.std.specs.Prelude.{◌≡◌, ◌<◌, ◌≤◌, ◌+◌, ◌^
 ghost use Rattle.std.specs.List.{flat_map, IsDistinct};
 ghost use Rattle.scc_array.specs.Shelves.{shelf_of};
 ghost use Rattle.scc_bucket.specs.Shelf.{empty_shelf, shelf_entries};
-ghost use Rattle.scc_incremental.specs.Moves.{AreOwn, Drains, IsAsBefore, IsWithinSources, Pulls, TakesOver};
+ghost use Rattle.scc_incremental.specs.Moves.{AreOwn, Drains, IsWithinSources, Pulls, TakesOver};
 ghost use Rattle.scc_table.specs.Contents.{bucket_count, key_hash, list_of, lists_of, settings_of, spilled_of};
 ghost use Rattle.scc_table.specs.Pour.{IsPacked, bound_for};
 ghost use Rattle.scc_table.specs.Routing.{bucket_number};
@@ -166,11 +166,10 @@ where
     requires own { AreOwn (λ e. key_hash H.BuildHasher H.Hasher.Hasher E.Key.hash_input current.old (E.key_of e)) skipped old.old }
     requires coming { length (bound_for (λ e. key_hash H.BuildHasher H.Hasher.Hasher E.Key.hash_input current.old (E.key_of e)) skipped (bucket_count current.old) target (flat_map shelf_entries old.old)) ≤ coming }
     requires aside { spilled_of current.old + aside < 2 ^ 62 }
-    requires most { length (flat_map shelf_entries old.old) < 2 ^ 63 }
     requires unique { IsDistinct E.Key.eq (map E.key_of (flat_map (λ l. l) (slice_set (lists_of current.old) target (bound_for (λ e. key_hash H.BuildHasher H.Hasher.Hasher E.Key.hash_input current.old (E.key_of e)) skipped (bucket_count current.old) target (flat_map shelf_entries old.old))))) }
     ensures ok { IfOk result (λ n. TakesOver (λ e. key_hash H.BuildHasher H.Hasher.Hasher E.Key.hash_input current.old (E.key_of e)) target n current.old old.old current.new old.new) }
     ensures few { OnOk result (spilled_of current.new + aside < 2 ^ 62) }
-    ensures err { OnErr result (IsAsBefore current.old current.new) }
+    ensures err { OnErr result (current.new ≡ current.old) }
     ensures stays { OnErr result (old.new ≡ old.old) }
     ensures refused { OnErr result (32 < coming) }
 {
@@ -262,7 +261,9 @@ where
     E::Key: Eq + Hash,
     requires bits { skipped < 64 }
     requires sources { IsWithinSources (λ e. key_hash H.BuildHasher H.Hasher.Hasher E.Key.hash_input table.now (E.key_of e)) skipped count target first last old.now }
-    requires most { length (flat_map shelf_entries old.now) < 2 ^ 63 }
+    requires few { (j : ℕ) → length (shelf_of old.now j).overflow < 2 ^ 62 }
+    requires own { AreOwn (λ e. key_hash H.BuildHasher H.Hasher.Hasher E.Key.hash_input table.now (E.key_of e)) skipped old.now }
+    requires most { length (flat_map shelf_entries old.now) < 2 ^ 64 }
     ensures { result ≡ length (bound_for (λ e. key_hash H.BuildHasher H.Hasher.Hasher E.Key.hash_input table.now (E.key_of e)) skipped count target (flat_map shelf_entries old.now)) }
 {
     let mut found = 0;

@@ -5,7 +5,7 @@ use Rattle.scc_table.specs.Contents.{bucket_count, key_hash, list_of, lists_of, 
 use Rattle.scc_table.specs.Pour.{bound_for}
 use Rattle.scc_table.specs.Tables.{IsTable}
 use Rattle.scc_table.proofs.Inserts.{table-bound, bucket-bound}
-use Rattle.scc_incremental.proofs.Arriving.{count-were, list-were, is-bare, landed-from, landed-list, landed-spilled, landed-table, distinct-landed, IsDistinct-nil, lists-set, same-lists}
+use Rattle.scc_incremental.proofs.Arriving.{count-were, list-were, is-bare, landed-from, landed-list, landed-spilled, landed-table, distinct-landed, IsDistinct-nil, lists-set, same-contents, same-lists}
 use Rattle.scc_incremental.proofs.moving.move_in.Goals as goal
 
 pub exchange-fresh-requires-clause-unique : goal.exchange-fresh-requires-clause-unique
@@ -291,12 +291,9 @@ returns-in-Err-clause-err g c =
     let spilled : c.overflow_len-spilled.result ≡ length d.overflow = c.overflow_len-spilled.ensures ∙ ap (λ z. length z.overflow) here2 in
     let none : shelf_entries d ≡ [] = ap shelf_entries c.in-Err.ensures.stays in
     let no_overflow : length d.overflow ≡ 0 = ap (λ z. length z.overflow) c.in-Err.ensures.stays in
-    record {
-      lists = c.exchange-none.ensures.lists ∙ lists-set g.E.Key.PartialEq.eq g.E.Keyed.key_of cur bs were i d ∙ same-lists g.E.Key.PartialEq.eq g.E.Keyed.key_of cur bs were i d b l at bare none;
-      settings = c.exchange-none.ensures.settings ∙ c.exchange-fresh.ensures.settings;
-      refused = c.exchange-none.ensures.noted ∙ c.exchange-fresh.ensures.noted;
-      spilled = omega (arith, c.exchange-none.ensures.spilled, c.exchange-fresh.ensures.overflowing);
-    }
+    same-contents cur c.exchange-none.new.self (c.exchange-none.ensures.lists ∙ lists-set g.E.Key.PartialEq.eq g.E.Keyed.key_of cur bs were i d ∙ same-lists g.E.Key.PartialEq.eq g.E.Keyed.key_of cur bs were i d b l at bare none)
+    (c.exchange-none.ensures.settings ∙ c.exchange-fresh.ensures.settings) (c.exchange-none.ensures.noted ∙ c.exchange-fresh.ensures.noted) (omega (arith, c.exchange-none.ensures.spilled, c.exchange-fresh.ensures.overflowing))
+    (c.exchange-none.ensures.waiting ∙ c.exchange-fresh.ensures.waiting) (c.exchange-none.ensures.held ∙ c.exchange-fresh.ensures.held)
 
 pub left_of-left-requires : goal.left_of-left-requires
 left_of-left-requires g c = omega (arith, c.exchange-fresh.ensures.overflowing, c.requires.aside)
