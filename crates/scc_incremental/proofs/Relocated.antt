@@ -7,14 +7,15 @@ use Rattle.std.proofs.lemmas.List.Sums.{sum_by-cons}
 use native.Mathlib.Decide.{dec_lt}
 use Rattle.scc_array.specs.Shelves.{shelf_of}
 use Rattle.scc_bucket.specs.Shelf.{Shelf, shelf_entries}
-use Rattle.scc_table.specs.Contents.{Contents, entries, bucket_count, list_of, lists_of, settings_of, spilled_of}
+use Rattle.scc_table.specs.Contents.{Contents, entries, bucket_count, list_of, lists_of, settings_of, spilled_of, waiting_of}
 use Rattle.scc_table.specs.Pour.{bound_for}
 use Rattle.scc_table.specs.Routing.{bucket_number}
 use Rattle.scc_table.specs.Sizes.{IsArray}
 use Rattle.scc_table.specs.Tables.{spilled_in}
+use Rattle.scc_table.proofs.PairSplits.{by_answer}
 use Rattle.scc_incremental.specs.Moves.{AreOwn, TakesOver, others_for}
-use Rattle.scc_incremental.specs.TwoArrays.{joined, waits_at, target_by, together, settle, AreMultiples, TwoArrays, IsIncremental, IsRelocated}
-use Rattle.scc_incremental.proofs.Joining.{lists-together, settings-together, refused-together, waiting-together, pending-together}
+use Rattle.scc_incremental.specs.TwoArrays.{joined, waits_at, target_by, together, settle, held_in, held_without, AreMultiples, TwoArrays, IsIncremental, IsRelocated}
+use Rattle.scc_incremental.proofs.Joining.{lists-together, held-together, settings-together, refused-together, waiting-together, pending-together}
 use Rattle.scc_incremental.proofs.Relocating.{not_equal, bound-others_none, bound-others_same, flat-others, none-up, one-down, up-within, joined-none, joined-moved}
 
 pub count-is : {E S : Type 0} (c : Contents E S) → bucket_count c ≡ length (lists_of c)
@@ -173,6 +174,26 @@ pub settle-after : {ws vs : List Bool} {i : ℕ} → Settles ws i vs → vs ≡ 
 settle-after {ws} {i = i} (others e some) = e ∙ sym (settle-others ws i some)
 settle-after {ws} {i = i} (last e none) = e ∙ sym (settle-last ws i none)
 
+map-others : {E : Type 0} (f : E → ℕ) (i : ℕ) (es : List E) → map f (filter (λ e. not (f e == i)) es) ≡ filter (λ t. not (t == i)) (map f es)
+map-others f i [] = refl
+map-others f i (e ∷ es) = by_answer (f e == i) (λ q. rw q (map-others f i es)) (λ q. rw q (ap (λ z. f e ∷ z) (map-others f i es)))
+
+held-others : {E : Type 0} (f : E → ℕ) (i : ℕ) (olds news : List (Shelf E)) → length news ≡ length olds → ((j : ℕ) → j < length olds → shelf_entries (shelf_of news j) ≡ filter (λ e. not (f e == i)) (shelf_entries (shelf_of olds j)))
+    → map (λ b. map f (shelf_entries b)) news ≡ map (λ ts. filter (λ t. not (t == i)) ts) (map (λ b. map f (shelf_entries b)) olds)
+held-others f i [] [] l h = refl
+held-others f i [] (b ∷ news) l h = absurd (omega arith)
+held-others f i (a ∷ olds) [] l h = absurd (omega arith)
+held-others f i (a ∷ olds) (b ∷ news) l h =
+    let first : map f (shelf_entries b) ≡ filter (λ t. not (t == i)) (map f (shelf_entries a)) = ap (map f) (h 0 (omega arith)) ∙ map-others f i (shelf_entries a) in
+    ap (λ z. z ∷ map (λ x. map f (shelf_entries x)) news) first
+    ∙ ap (λ z. filter (λ t. not (t == i)) (map f (shelf_entries a)) ∷ z) (held-others f i olds news (omega arith) (λ j q. h (suc j) (omega arith)))
+
+held-after : {E : Type 0} (f : E → ℕ) (i : ℕ) (ws vs : List Bool) (olds news : List (Shelf E)) → waits_at ws i ≡ true → length news ≡ length olds → ((j : ℕ) → j < length olds → shelf_entries (shelf_of news j) ≡ filter (λ e. not (f e == i)) (shelf_entries (shelf_of olds j)))
+    → held_in f vs news ≡ held_without vs i (held_in f ws olds)
+held-after f i [] vs olds news up l h = absurd (let q : false ≡ true = up in cc)
+held-after f i (w ∷ ws) [] olds news up l h = refl
+held-after f i (w ∷ ws) (v ∷ vs) olds news up l h = held-others f i olds news l h
+
 pub relocated-after : {E S : Type 0} (hash : E → ℕ) (i n : ℕ) (c d : Contents E S) (ws vs : List Bool) (olds news : List (Shelf E)) → TwoArrays hash c ws olds → waits_at ws i ≡ true → TakesOver hash i n c olds d news → Settles ws i vs
     → IsRelocated i (together hash c ws olds) (together hash d vs news)
 relocated-after hash i n c d ws vs olds news arrays up takes settles = record {
@@ -180,5 +201,7 @@ relocated-after hash i n c d ws vs olds news arrays up takes settles = record {
   settings = settings-together hash d vs news ∙ takes.settings ∙ sym (settings-together hash c ws olds);
   refused = refused-together hash d vs news ∙ takes.refused ∙ sym (refused-together hash c ws olds);
   waiting = waiting-together hash d vs news ∙ settle-after settles ∙ ap (λ w. settle w i) (sym (waiting-together hash c ws olds));
+  held = held-together hash d vs news ∙ ap (λ f. held_in f vs news) (target-same hash i n c d ws vs olds news arrays up takes settles) ∙ held-after (target_by hash c) i ws vs olds news up takes.count takes.kept
+      ∙ ap (λ v. held_without v i (held_in (target_by hash c) ws olds)) (sym (waiting-together hash d vs news)) ∙ ap (held_without (waiting_of (together hash d vs news)) i) (sym (held-together hash c ws olds));
   pending = pending-together hash c ws olds ∙ one-down ws i (up-within ws i up) up ∙ ap (λ m. m + 1) (sym (count-after settles) ∙ sym (pending-together hash d vs news));
 }
