@@ -1,0 +1,57 @@
+//! How buckets take their entries over from the old array.
+ghost use Rattle.std.specs.Prelude.{◌≡◌, ◌<◌, length, OnOk, OnErr};
+ghost use Rattle.scc_table.specs.Contents.{list_of};
+ghost use Rattle.scc_incremental.specs.TwoArrays.{IsRelocated, IsWaiting};
+
+use super::Incremental;
+use crate::moving::{count_all, move_in, sources};
+use scc_table::Keyed;
+use std::alloc::AllocError;
+use std::hash::{BuildHasher, Hash};
+
+impl<E: Keyed, H: BuildHasher> Incremental<E, H>
+where
+    E::Key: Eq + Hash,
+{
+    /// Moves the entries of a bucket that waits to it, in their order. It asks for memory only where more than 32 come; where that is refused, nothing changes. Takes time by the number of entries in the old buckets that they come from.
+    pub fn relocate(&mut self, bucket: usize) -> Result<(), AllocError>
+        requires { IsWaiting self.old bucket }
+        ensures ok { OnOk result (IsRelocated bucket self.old self.new) }
+        ensures err { OnErr result (self.new ≡ self.old) }
+        ensures refused { OnErr result (32 < length (list_of self.old bucket)) }
+    {
+        let count = self.current.bucket_count();
+        let (first, last) = sources(self.draining.len(), count, bucket);
+        let coming = count_all(
+            &self.draining,
+            first,
+            last,
+            bucket,
+            &self.current,
+            self.skipped,
+            count,
+        );
+        let aside = self.held_overflow;
+        match move_in(
+            &mut self.current,
+            &mut self.draining,
+            bucket,
+            first,
+            last,
+            coming,
+            aside,
+            self.skipped,
+        ) {
+            Ok(moved) => {
+                self.held -= moved;
+                self.pending -= 1;
+                self.waiting[bucket] = false;
+                if self.pending == 0 {
+                    self.waiting.clear();
+                }
+                Ok(())
+            }
+            Err(e) => Err(e),
+        }
+    }
+}
