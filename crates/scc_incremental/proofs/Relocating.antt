@@ -49,6 +49,10 @@ none-up (w ∷ ws) h zero = by_answer w (λ q. absurd (let s = sum_by-cons (λ x
 none-up (w ∷ ws) h (suc k) = none-up ws (let s = sum_by-cons (λ x. cond x 1 0) w ws in omega arith) k
 
 -- one flag less is up
+pub all-down : (ws : List Bool) → ((k : ℕ) → k < length ws → waits_at ws k ≡ false) → count_by (λ w. w) ws ≡ 0
+all-down [] h = refl
+all-down (w ∷ ws) h = let z : w ≡ false = h 0 (omega arith) in rw z (all-down ws (λ k l. h (suc k) (omega arith)))
+
 pub one-down : (ws : List Bool) (i : ℕ) → i < length ws → waits_at ws i ≡ true → count_by (λ w. w) ws ≡ count_by (λ w. w) (set ws i false) + 1
 one-down ws i l up =
     let s : count_by (λ w. w) (set ws i false) + cond {A = ℕ} (get_or ws i false) 1 0 ≡ count_by (λ w. w) ws + 0 = sum_by-set (λ x. cond x 1 0) ws i false false l in

@@ -58,6 +58,11 @@ module _ {E S : Type 0} where
   abbrev pub IsWaiting : Contents E S → ℕ → Type 0
   IsWaiting c i = waits_at (waiting_of c) i ≡ true
 
+  -- bucket i is the first that waits
+  pub record IsFirstWaiting (c : Contents E S) (i : ℕ) : Type 0 where
+    pub waits : IsWaiting c i
+    pub below : (j : ℕ) → j < i → waits_at (waiting_of c) j ≡ false
+
   -- the numbers of the buckets that wait, in rising order
   abbrev pub pending_targets : Contents E S → List ℕ
   pending_targets c = filter (waits_at (waiting_of c)) (range_with_len 0 (length (waiting_of c)))

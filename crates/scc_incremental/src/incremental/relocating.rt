@@ -1,7 +1,7 @@
 //! How buckets take their entries over from the old array.
-ghost use Rattle.std.specs.Prelude.{◌≡◌, ◌<◌, length, OnOk, OnErr};
-ghost use Rattle.scc_table.specs.Contents.{list_of};
-ghost use Rattle.scc_incremental.specs.TwoArrays.{IsRelocated, IsWaiting};
+ghost use Rattle.std.specs.Prelude.{◌≡◌, ◌<◌, ℕ, length, OnOk, OnErr};
+ghost use Rattle.scc_table.specs.Contents.{list_of, pending_of};
+ghost use Rattle.scc_incremental.specs.TwoArrays.{IsFirstWaiting, IsRelocated, IsWaiting};
 
 use super::Incremental;
 use crate::moving::{count_all, move_in, sources};
@@ -53,5 +53,29 @@ where
             }
             Err(e) => Err(e),
         }
+    }
+
+    /// The number of the first bucket that waits.
+    fn first_waiting(&self) -> usize
+        requires { 0 < pending_of self.now }
+        ensures { IsFirstWaiting self.now result }
+    {
+        for bucket in self.next..self.waiting.len() {
+            if self.waiting[bucket] {
+                return bucket;
+            }
+        }
+        unreachable!()
+    }
+
+    /// Moves the entries of the first bucket that waits to it, as `relocate` does. The buckets before it aren't looked at again.
+    pub fn relocate_next(&mut self) -> Result<(), AllocError>
+        requires { 0 < pending_of self.old }
+        ensures ok { OnOk result ((i : ℕ) × (IsFirstWaiting self.old i) × (IsRelocated i self.old self.new)) }
+        ensures err { OnErr result (self.new ≡ self.old) }
+    {
+        let bucket = self.first_waiting();
+        self.next = bucket;
+        self.relocate(bucket)
     }
 }
