@@ -2,6 +2,7 @@ pub mod Arriving
 pub mod Buckets
 pub mod Counted
 pub mod Draining
+pub mod Finishing
 pub mod Joining
 pub mod Numbers
 pub mod Preparing

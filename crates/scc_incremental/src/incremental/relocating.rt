@@ -1,6 +1,6 @@
 //! How buckets take their entries over from the old array.
-ghost use Rattle.std.specs.Prelude.{◌≡◌, ◌<◌, ℕ, length, OnOk, OnErr};
-ghost use Rattle.scc_table.specs.Contents.{list_of, pending_of};
+ghost use Rattle.std.specs.Prelude.{◌≡◌, ◌<◌, ℕ, [], length, OnOk, OnErr};
+ghost use Rattle.scc_table.specs.Contents.{list_of, lists_of, pending_of, refused_of, settings_of, waiting_of};
 ghost use Rattle.scc_incremental.specs.TwoArrays.{IsFirstWaiting, IsRelocated, IsWaiting};
 
 use super::Incremental;
@@ -77,5 +77,19 @@ where
         let bucket = self.first_waiting();
         self.next = bucket;
         self.relocate(bucket)
+    }
+
+    /// Moves the entries of all buckets that wait to them, the first bucket first. Where memory is refused for one, it and those after it still wait.
+    pub fn finish(&mut self) -> Result<(), AllocError>
+        ensures lists { lists_of self.new ≡ lists_of self.old }
+        ensures settings { settings_of self.new ≡ settings_of self.old }
+        ensures noted { refused_of self.new ≡ refused_of self.old }
+        ensures fewer { (i : ℕ) → IsWaiting self.new i → IsWaiting self.old i }
+        ensures ok { OnOk result (waiting_of self.new ≡ []) }
+    {
+        for _ in 0..self.pending {
+            self.relocate_next()?;
+        }
+        Ok(())
     }
 }

@@ -1,7 +1,7 @@
-use Rattle.std.proofs.Common.{◌≡◌, ◌<◌, ◌∙◌, true, false, sym, ap, subst, arith, length}
+use Rattle.std.proofs.Common.{◌≡◌, ◌<◌, ◌∙◌, false, sym, ap, arith, length}
 use native.Mathlib.Decide.{dec_lt}
 use Rattle.std.proofs.lemmas.List.{get_or_read}
-use Rattle.scc_table.specs.Contents.{bucket_count, pending_of, waiting_of}
+use Rattle.scc_table.specs.Contents.{pending_of, waiting_of}
 use Rattle.scc_incremental.specs.TwoArrays.{waits_at}
 use Rattle.scc_incremental.proofs.Joining.{waiting-together, pending-together}
 use Rattle.scc_incremental.proofs.Relocating.{all-down}

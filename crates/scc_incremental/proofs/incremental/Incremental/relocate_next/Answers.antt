@@ -1,4 +1,4 @@
-use Rattle.std.proofs.Common.{◌≡◌, ◌<◌, ◌∙◌, sym, ap}
+use Rattle.std.proofs.Common.{◌≡◌, ◌∙◌, sym, ap}
 use Rattle.scc_table.specs.Contents.{waiting_of}
 use Rattle.scc_incremental.specs.TwoArrays.{waits_at}
 use Rattle.scc_incremental.proofs.Joining.{waiting-together}
