@@ -1,11 +1,11 @@
 -- A table one of whose buckets, which was empty, gets the entries that come from the old array.
-use Rattle.std.proofs.Common.{◌≡◌, ◌==◌, ℕ, zero, suc, ◌+◌, ◌^◌, ◌<◌, ◌≤◌, ◌⊎◌, inl, inr, Bool, true, false, List, [], ◌∷◌, ◌++◌, length, map, set, get_or, refl, sym, ap, ◌∙◌, subst, arith, length-append, Result, Ok, Err, eqb-true, lit<}
+use Rattle.std.proofs.Common.{◌≡◌, ◌==◌, ℕ, ◌+◌, ◌^◌, ◌<◌, ◌≤◌, ◌⊎◌, inl, inr, Bool, true, List, [], ◌∷◌, ◌++◌, length, map, set, get_or, refl, sym, ap, ◌∙◌, subst, arith, length-append, Result, Ok, Err, eqb-true, lit<}
 use Rattle.std.specs.Prelude.{OnOk, OnErr}
-use Rattle.std.specs.List.{filter, flat_map, IsDistinct}
+use Rattle.std.specs.List.{flat_map, IsDistinct}
 use Rattle.std.proofs.lemmas.List.{map-set, length-map, get_or-map, set-get_or}
 use Rattle.std.proofs.lemmas.List.Elements.{filter_passes, All-get_or}
 use Rattle.scc_bucket.specs.Shelf.{Shelf, shelf_entries, empty_shelf}
-use Rattle.scc_table.specs.Contents.{Contents, entries, bucket_count, list_of, lists_of, IsUniqueBy}
+use Rattle.scc_table.specs.Contents.{Contents, Settings, entries, bucket_count, list_of, lists_of, settings_of, refused_of, spilled_of, waiting_of, held_of, IsUniqueBy}
 use Rattle.scc_table.specs.Pour.{bound_for, Extends}
 use Rattle.scc_table.specs.Routing.{bucket_number, tag_of}
 use Rattle.scc_table.specs.Tables.{IsOwn, IsTable}
@@ -131,3 +131,13 @@ module _ {E K S : Type 0} (eq : K → K → Bool) (key : E → K) (c : Contents 
 pub IsDistinct-nil : {K : Type 0} (eq : K → K → Bool) → IsDistinct eq []
 unfolding IsDistinct
 IsDistinct-nil eq = tt
+
+contents_with : {E S : Type 0} → List (List E) → Settings S → Bool → ℕ → List Bool → List (List ℕ) → Contents E S
+contents_with ls s r n ws hs = record { lists = ls; settings = s; refused = r; spilled = n; waiting = ws; held = hs }
+
+-- contents are the same where all their words are
+pub same-contents : {E S : Type 0} (c d : Contents E S) → lists_of d ≡ lists_of c → settings_of d ≡ settings_of c → refused_of d ≡ refused_of c → spilled_of d ≡ spilled_of c → waiting_of d ≡ waiting_of c → held_of d ≡ held_of c → d ≡ c
+unfolding lists_of settings_of refused_of spilled_of waiting_of held_of contents_with
+same-contents c d ls s r n ws hs =
+    ap (λ z. contents_with z d.settings d.refused d.spilled d.waiting d.held) ls ∙ ap (λ z. contents_with c.lists z d.refused d.spilled d.waiting d.held) s ∙ ap (λ z. contents_with c.lists c.settings z d.spilled d.waiting d.held) r
+    ∙ ap (λ z. contents_with c.lists c.settings c.refused z d.waiting d.held) n ∙ ap (λ z. contents_with c.lists c.settings c.refused c.spilled z d.held) ws ∙ ap (λ z. contents_with c.lists c.settings c.refused c.spilled c.waiting z) hs

@@ -1,9 +1,9 @@
 -- The lists of two arrays together.
-use Rattle.std.proofs.Common.{◌≡◌, ◌==◌, ℕ, zero, suc, ◌+◌, ◌<◌, ◌≤◌, ◌⊎◌, inl, inr, Bool, true, false, cond, List, [], ◌∷◌, ◌++◌, length, get_or, refl, sym, ap, ◌∙◌, subst, arith}
+use Rattle.std.proofs.Common.{◌≡◌, ◌==◌, ℕ, zero, suc, ◌+◌, ◌<◌, ◌⊎◌, inl, inr, Bool, cond, List, [], ◌∷◌, length, get_or, refl, sym, ap, ◌∙◌, arith}
 use Rattle.std.specs.List.{filter, flat_map, count_by}
 use Rattle.scc_bucket.specs.Shelf.{Shelf, shelf_entries}
-use Rattle.scc_table.specs.Contents.{Contents, entries, bucket_count, list_of, lists_of, settings_of, refused_of, spilled_of, waiting_of, held_of, pending_of}
-use Rattle.scc_incremental.specs.TwoArrays.{joined, together, target_by, waits_at, held_in, TwoArrays}
+use Rattle.scc_table.specs.Contents.{Contents, bucket_count, lists_of, settings_of, refused_of, waiting_of, held_of, pending_of}
+use Rattle.scc_incremental.specs.TwoArrays.{joined, together, target_by, waits_at, held_in}
 
 module _ {E : Type 0} (target : E → ℕ) (es : List E) where
   pub length-joined : (i : ℕ) (ws : List Bool) (ls : List (List E)) → (ws ≡ []) ⊎ (length ws ≡ length ls) → length (joined target i ws ls es) ≡ length ls

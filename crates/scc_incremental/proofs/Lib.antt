@@ -1,6 +1,12 @@
 pub mod Arriving
+pub mod Buckets
 pub mod Counted
 pub mod Draining
+pub mod Finishing
 pub mod Joining
 pub mod Numbers
+pub mod Preparing
 pub mod Pulling
+pub mod Relocated
+pub mod Relocating
+pub mod Sublists

@@ -1,5 +1,5 @@
 -- The buckets of a hash in two arrays, of which one has a multiple of the other's buckets.
-use Rattle.std.proofs.Common.{◌≡◌, ℕ, zero, suc, ◌+◌, ◌*◌, ◌/◌, ◌%◌, ◌^◌, ◌<◌, ◌≤◌, refl, sym, ap, ◌∙◌, subst, arith}
+use Rattle.std.proofs.Common.{◌≡◌, ℕ, zero, suc, ◌+◌, ◌*◌, ◌/◌, ◌%◌, ◌^◌, ◌<◌, ◌≤◌, sym, ap, ◌∙◌, subst, arith}
 use Rattle.std.proofs.Math.Nat.{div-div-eq-div-mul, div-eq_of_eq-mul_left, div-mul-le_self, lt-div-mul-add, mul-div-mul_left}
 use Rattle.scc_table.specs.Routing.{bucket_number}
 use Rattle.scc_incremental.specs.TwoArrays.{AreMultiples, grown, shrunk}

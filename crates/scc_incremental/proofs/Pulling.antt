@@ -1,6 +1,6 @@
 -- One old bucket, of which the entries of a target are taken out one after the other.
-use Rattle.std.proofs.Common.{◌≡◌, ◌==◌, ℕ, zero, suc, ◌+◌, ◌-◌, ◌<◌, ◌≤◌, ◌≢◌, Bool, true, false, not, Some, List, [], ◌∷◌, ◌++◌, length, set, take, drop, get_or, refl, sym, ap, ◌∙◌, subst, arith, rules, length-append, length-drop, length-take, length-set, append_assoc, get_or-set_same}
-use Rattle.std.specs.List.{filter, slice_get, remove}
+use Rattle.std.proofs.Common.{◌≡◌, ◌==◌, ℕ, ◌+◌, ◌-◌, ◌<◌, ◌≤◌, ◌≢◌, Bool, true, false, not, Some, List, [], ◌∷◌, ◌++◌, length, set, take, drop, get_or, refl, sym, ap, ◌∙◌, subst, arith, rules, length-append, length-drop, length-take, length-set, append_assoc, get_or-set_same}
+use Rattle.std.specs.List.{slice_get, remove}
 use Rattle.std.proofs.lemmas.List.{append-nil, drop_more, take_more, take-append-drop, set-set, set-get_or, take_all, drop_all}
 use Rattle.std.proofs.lemmas.List.Edits.{remove-append_right}
 use Rattle.std.proofs.lemmas.List.Elements.{filter-append}

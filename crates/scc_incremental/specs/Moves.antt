@@ -3,7 +3,7 @@ use Rattle.std.specs.Prelude.{◌≡◌, ◌==◌, ℕ, ◌<◌, ◌≤◌, ◌�
 use Rattle.std.specs.List.{filter, flat_map}
 use Rattle.scc_array.specs.Shelves.{shelf_of}
 use Rattle.scc_bucket.specs.Shelf.{Shelf, shelf_entries}
-use Rattle.scc_table.specs.Contents.{Contents, bucket_count, lists_of, refused_of, settings_of, spilled_of}
+use Rattle.scc_table.specs.Contents.{Contents, bucket_count, lists_of, refused_of, settings_of}
 use Rattle.scc_table.specs.Pour.{bound_for, Extends}
 use Rattle.scc_table.specs.Routing.{bucket_number}
 use Rattle.scc_table.specs.Tables.{IsOwn}
@@ -37,13 +37,6 @@ pub record Drains {E : Type 0} (hash : E → ℕ) (t n i : ℕ) (olds : List (Sh
   pub own : AreOwn hash t news
   pub overflow : (j : ℕ) → length (shelf_of news j).overflow ≤ length (shelf_of olds j).overflow
   pub moved : Extends hash a b (bound_for hash t n i (flat_map shelf_entries olds))
-
--- lists, settings, whether memory was refused and the number of entries in overflow lists are those of c
-pub record IsAsBefore {E S : Type 0} (c d : Contents E S) : Type 0 where
-  pub lists : lists_of d ≡ lists_of c
-  pub settings : settings_of d ≡ settings_of c
-  pub refused : refused_of d ≡ refused_of c
-  pub spilled : spilled_of d ≡ spilled_of c
 
 -- the n entries of the old array that belong to bucket i are the list of that bucket, in order; the old array keeps the others, in order
 pub record TakesOver {E S : Type 0} (hash : E → ℕ) (i n : ℕ) (c : Contents E S) (olds : List (Shelf E)) (d : Contents E S) (news : List (Shelf E)) : Type 0 where

@@ -1,7 +1,6 @@
 -- Two arrays beside each other: the entries of an old one wait there until their bucket of the new one takes them over.
 use Rattle.std.specs.Prelude.{◌≡◌, ◌==◌, ℕ, suc, ◌+◌, ◌*◌, ◌^◌, ◌<◌, ◌≤◌, ◌⊎◌, Bool, true, false, cond, List, [], ◌∷◌, length, map, not, count_by, slice_index_or, slice_set}
 use Rattle.std.specs.List.{filter, flat_map, range_with_len, sum_by, IsDistinct}
-use Rattle.scc_array.specs.Shelves.{shelf_of}
 use Rattle.scc_bucket.specs.Shelf.{Shelf, shelf_entries}
 use Rattle.scc_table.specs.Contents.{Contents, entries, bucket_count, list_of, lists_of, settings_of, refused_of, spilled_of, waiting_of, held_of, pending_of}
 use Rattle.scc_table.specs.Pour.{bound_for}
@@ -59,6 +58,11 @@ module _ {E S : Type 0} where
   abbrev pub IsWaiting : Contents E S → ℕ → Type 0
   IsWaiting c i = waits_at (waiting_of c) i ≡ true
 
+  -- bucket i is the first that waits
+  pub record IsFirstWaiting (c : Contents E S) (i : ℕ) : Type 0 where
+    pub waits : IsWaiting c i
+    pub below : (j : ℕ) → j < i → waits_at (waiting_of c) j ≡ false
+
   -- the numbers of the buckets that wait, in rising order
   abbrev pub pending_targets : Contents E S → List ℕ
   pending_targets c = filter (waits_at (waiting_of c)) (range_with_len 0 (length (waiting_of c)))
@@ -78,7 +82,7 @@ pub record IsRelocated {E S : Type 0} (i : ℕ) (c d : Contents E S) : Type 0 wh
   pub settings : settings_of d ≡ settings_of c
   pub refused : refused_of d ≡ refused_of c
   pub waiting : waiting_of d ≡ settle (waiting_of c) i
-  pub held : held_of d ≡ held_without (settle (waiting_of c) i) i (held_of c)
+  pub held : held_of d ≡ held_without (waiting_of d) i (held_of c)
   pub pending : pending_of c ≡ pending_of d + 1
 
 -- of all fields of a table of two arrays

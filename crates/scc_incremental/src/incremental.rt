@@ -4,6 +4,8 @@ ghost use Rattle.scc_table.specs.Contents.{bucket_count, pending_of, refused_of}
 ghost use Rattle.scc_table.specs.Sizes.{IsLawful};
 ghost use Rattle.scc_incremental.specs.TwoArrays.{IsWaiting};
 
+mod relocating;
+
 use scc_array::Array;
 use scc_table::{Keyed, Table};
 use std::hash::{BuildHasher, Hash};

@@ -3,7 +3,7 @@ ghost use Rattle.std.specs.Prelude.{◌≡◌, ◌<◌, ◌≤◌, ◌+◌, ◌^
 ghost use Rattle.std.specs.List.{flat_map, IsDistinct};
 ghost use Rattle.scc_array.specs.Shelves.{shelf_of};
 ghost use Rattle.scc_bucket.specs.Shelf.{empty_shelf, shelf_entries};
-ghost use Rattle.scc_incremental.specs.Moves.{AreOwn, Drains, IsAsBefore, IsWithinSources, Pulls, TakesOver};
+ghost use Rattle.scc_incremental.specs.Moves.{AreOwn, Drains, IsWithinSources, Pulls, TakesOver};
 ghost use Rattle.scc_table.specs.Contents.{bucket_count, key_hash, list_of, lists_of, settings_of, spilled_of};
 ghost use Rattle.scc_table.specs.Pour.{IsPacked, bound_for};
 ghost use Rattle.scc_table.specs.Routing.{bucket_number};
@@ -12,16 +12,16 @@ ghost use Rattle.scc_incremental.specs.TwoArrays.{AreMultiples};
 
 use scc_array::Array;
 use scc_table::route::{bucket_index, tag};
-use scc_table::{Bucket, Keyed, Table};
-use std::alloc::{AllocError, Global};
+use scc_table::{Keyed, Table};
+use std::alloc::AllocError;
 use std::hash::{BuildHasher, Hash};
 
 /// How many entries may lie in the overflow lists of both arrays: fewer than this.
 const OVERFLOW_LIMIT: usize = 1 << 62;
 
-/// Moves the entries of one old bucket that belong to the target to the end of that one's bucket, in order. It has room for them, so no memory is taken. The others stay in their order. `table` has the hasher.
+/// Moves the entries of one old bucket that belong to the target to the end of the bucket of that number, in order. It has room for them, so no memory is taken. The others stay in their order. `table` has the hasher.
 pub(crate) fn pull<E: Keyed, H: BuildHasher>(
-    into: &mut Bucket<E>,
+    into: &mut Array<E>,
     old: &mut Array<E>,
     source: usize,
     target: usize,
@@ -35,9 +35,11 @@ where
     requires source { source < length old.old }
     requires few { length (shelf_of old.old source).overflow < 2 ^ 62 }
     requires own { IsOwn (λ e. key_hash H.BuildHasher H.Hasher.Hasher E.Key.hash_input table.now (E.key_of e)) skipped (length old.old) source (shelf_of old.old source) }
-    requires packed { IsPacked (λ e. key_hash H.BuildHasher H.Hasher.Hasher E.Key.hash_input table.now (E.key_of e)) into.old }
-    requires room { length (shelf_entries into.old) + length (bound_for (λ e. key_hash H.BuildHasher H.Hasher.Hasher E.Key.hash_input table.now (E.key_of e)) skipped count target (shelf_entries (shelf_of old.old source))) ≤ 32 + into.old.room }
-    ensures { Pulls (λ e. key_hash H.BuildHasher H.Hasher.Hasher E.Key.hash_input table.now (E.key_of e)) skipped count target source old.old into.old old.new into.new }
+    requires target { target < length into.old }
+    requires packed { IsPacked (λ e. key_hash H.BuildHasher H.Hasher.Hasher E.Key.hash_input table.now (E.key_of e)) (shelf_of into.old target) }
+    requires room { length (shelf_entries (shelf_of into.old target)) + length (bound_for (λ e. key_hash H.BuildHasher H.Hasher.Hasher E.Key.hash_input table.now (E.key_of e)) skipped count target (shelf_entries (shelf_of old.old source))) ≤ 32 + (shelf_of into.old target).room }
+    ensures pulls { Pulls (λ e. key_hash H.BuildHasher H.Hasher.Hasher E.Key.hash_input table.now (E.key_of e)) skipped count target source old.old (shelf_of into.old target) old.new (shelf_of into.new target) }
+    ensures others { into.new ≡ slice_set into.old target (shelf_of into.new target) }
 {
     let held = old.bucket_len(source);
     let mut place = 0;
@@ -45,16 +47,16 @@ where
         let hash = table.hash(old.entry_at(source, place).key());
         if bucket_index(hash, skipped, count) == target {
             let entry = old.remove_at(source, place);
-            into.insert_within(entry, tag(hash));
+            into.insert_within(target, entry, tag(hash));
         } else {
             place += 1;
         }
     }
 }
 
-/// Moves the entries of all old buckets that belong to the target to the end of that one's bucket, in order, where only the old buckets from `first` up to before `last` hold such entries. It has room for them. The others stay in their order.
+/// Moves the entries of all old buckets that belong to the target to the end of the bucket of that number, in order, where only the old buckets from `first` up to before `last` hold such entries. It has room for them. The others stay in their order.
 pub(crate) fn drain<E: Keyed, H: BuildHasher>(
-    into: &mut Bucket<E>,
+    into: &mut Array<E>,
     old: &mut Array<E>,
     first: usize,
     last: usize,
@@ -69,25 +71,28 @@ where
     requires sources { IsWithinSources (λ e. key_hash H.BuildHasher H.Hasher.Hasher E.Key.hash_input table.now (E.key_of e)) skipped count target first last old.old }
     requires few { (j : ℕ) → length (shelf_of old.old j).overflow < 2 ^ 62 }
     requires own { AreOwn (λ e. key_hash H.BuildHasher H.Hasher.Hasher E.Key.hash_input table.now (E.key_of e)) skipped old.old }
-    requires packed { IsPacked (λ e. key_hash H.BuildHasher H.Hasher.Hasher E.Key.hash_input table.now (E.key_of e)) into.old }
-    requires room { length (shelf_entries into.old) + length (bound_for (λ e. key_hash H.BuildHasher H.Hasher.Hasher E.Key.hash_input table.now (E.key_of e)) skipped count target (flat_map shelf_entries old.old)) ≤ 32 + into.old.room }
-    ensures { Drains (λ e. key_hash H.BuildHasher H.Hasher.Hasher E.Key.hash_input table.now (E.key_of e)) skipped count target old.old into.old old.new into.new }
+    requires target { target < length into.old }
+    requires packed { IsPacked (λ e. key_hash H.BuildHasher H.Hasher.Hasher E.Key.hash_input table.now (E.key_of e)) (shelf_of into.old target) }
+    requires room { length (shelf_entries (shelf_of into.old target)) + length (bound_for (λ e. key_hash H.BuildHasher H.Hasher.Hasher E.Key.hash_input table.now (E.key_of e)) skipped count target (flat_map shelf_entries old.old)) ≤ 32 + (shelf_of into.old target).room }
+    ensures drains { Drains (λ e. key_hash H.BuildHasher H.Hasher.Hasher E.Key.hash_input table.now (E.key_of e)) skipped count target old.old (shelf_of into.old target) old.new (shelf_of into.new target) }
+    ensures others { into.new ≡ slice_set into.old target (shelf_of into.new target) }
 {
     for source in first..last {
         pull(into, old, source, target, table, skipped, count);
     }
 }
 
-/// Makes room in an empty bucket for so many entries, at most `left` of them past its slots.
+/// Makes room in an empty bucket for so many entries, at most `left` of them past its places.
 fn make_ready<E>(
-    bucket: &mut Bucket<E>,
-    alloc: Global,
+    into: &mut Array<E>,
+    bucket: usize,
     coming: usize,
     left: usize,
 ) -> Result<(), AllocError>
-    requires empty { bucket.old ≡ record empty_shelf { room = bucket.old.room } }
-    ensures value { bucket.new ≡ record empty_shelf { room = bucket.new.room } }
-    ensures room { OnOk result (coming ≤ 32 + bucket.new.room) }
+    requires bucket { bucket < length into.old }
+    requires empty { shelf_of into.old bucket ≡ record empty_shelf { room = (shelf_of into.old bucket).room } }
+    ensures value { into.new ≡ slice_set into.old bucket (record empty_shelf { room = (shelf_of into.new bucket).room }) }
+    ensures room { OnOk result (coming ≤ 32 + (shelf_of into.new bucket).room) }
     ensures few { OnOk result (coming ≤ 32 + left) }
     ensures refused { OnErr result (32 < coming) }
 {
@@ -97,16 +102,12 @@ fn make_ready<E>(
     if coming - 32 > left {
         return Err(AllocError);
     }
-    let roomy = Bucket::with_room(alloc, coming - 32)?;
-    let none = std::mem::replace(bucket, roomy);
-    none.destroy_empty();
-    Ok(())
+    into.reserve_overflow(bucket, coming - 32)
 }
 
-/// Moves the entries of all old buckets that belong to the target into that one's bucket, which is empty, in order. `coming` is how many they are, at least; at most `left` of them may lie past the slots. Where memory is refused, all stays.
+/// Moves the entries of all old buckets that belong to the target into the bucket of that number, which is empty, in order. `coming` is how many they are, at least; at most `left` of them may lie past its places. Where memory is refused, all stays.
 fn fill<E: Keyed, H: BuildHasher>(
-    into: &mut Bucket<E>,
-    alloc: Global,
+    into: &mut Array<E>,
     coming: usize,
     left: usize,
     old: &mut Array<E>,
@@ -123,15 +124,17 @@ where
     requires sources { IsWithinSources (λ e. key_hash H.BuildHasher H.Hasher.Hasher E.Key.hash_input table.now (E.key_of e)) skipped count target first last old.old }
     requires few { (j : ℕ) → length (shelf_of old.old j).overflow < 2 ^ 62 }
     requires own { AreOwn (λ e. key_hash H.BuildHasher H.Hasher.Hasher E.Key.hash_input table.now (E.key_of e)) skipped old.old }
-    requires empty { into.old ≡ record empty_shelf { room = into.old.room } }
+    requires target { target < length into.old }
+    requires empty { shelf_of into.old target ≡ record empty_shelf { room = (shelf_of into.old target).room } }
     requires coming { length (bound_for (λ e. key_hash H.BuildHasher H.Hasher.Hasher E.Key.hash_input table.now (E.key_of e)) skipped count target (flat_map shelf_entries old.old)) ≤ coming }
-    ensures ok { OnOk result (Drains (λ e. key_hash H.BuildHasher H.Hasher.Hasher E.Key.hash_input table.now (E.key_of e)) skipped count target old.old empty_shelf old.new into.new) }
+    ensures ok { OnOk result (Drains (λ e. key_hash H.BuildHasher H.Hasher.Hasher E.Key.hash_input table.now (E.key_of e)) skipped count target old.old empty_shelf old.new (shelf_of into.new target)) }
     ensures few { OnOk result (coming ≤ 32 + left) }
-    ensures stays { OnErr result (into.new ≡ record empty_shelf { room = into.new.room }) }
+    ensures others { into.new ≡ slice_set into.old target (shelf_of into.new target) }
+    ensures stays { OnErr result (shelf_of into.new target ≡ record empty_shelf { room = (shelf_of into.new target).room }) }
     ensures err { OnErr result (old.new ≡ old.old) }
     ensures refused { OnErr result (32 < coming) }
 {
-    make_ready(into, alloc, coming, left)?;
+    make_ready(into, target, coming, left)?;
     drain(into, old, first, last, target, table, skipped, count);
     Ok(())
 }
@@ -166,34 +169,23 @@ where
     requires own { AreOwn (λ e. key_hash H.BuildHasher H.Hasher.Hasher E.Key.hash_input current.old (E.key_of e)) skipped old.old }
     requires coming { length (bound_for (λ e. key_hash H.BuildHasher H.Hasher.Hasher E.Key.hash_input current.old (E.key_of e)) skipped (bucket_count current.old) target (flat_map shelf_entries old.old)) ≤ coming }
     requires aside { spilled_of current.old + aside < 2 ^ 62 }
-    requires most { length (flat_map shelf_entries old.old) < 2 ^ 63 }
     requires unique { IsDistinct E.Key.eq (map E.key_of (flat_map (λ l. l) (slice_set (lists_of current.old) target (bound_for (λ e. key_hash H.BuildHasher H.Hasher.Hasher E.Key.hash_input current.old (E.key_of e)) skipped (bucket_count current.old) target (flat_map shelf_entries old.old))))) }
     ensures ok { IfOk result (λ n. TakesOver (λ e. key_hash H.BuildHasher H.Hasher.Hasher E.Key.hash_input current.old (E.key_of e)) target n current.old old.old current.new old.new) }
     ensures few { OnOk result (spilled_of current.new + aside < 2 ^ 62) }
-    ensures err { OnErr result (IsAsBefore current.old current.new) }
+    ensures err { OnErr result (current.new ≡ current.old) }
     ensures stays { OnErr result (old.new ≡ old.old) }
     ensures refused { OnErr result (32 < coming) }
 {
     current.keep_lists();
     let alloc = current.allocator();
-    let (mut fresh, count, overflowing) = current.exchange(Vec::new(alloc), 0, 0);
+    let (mut fresh, count, overflowing) = current.exchange(Array::none(alloc), 0, 0);
     let buckets = fresh.len();
     let left = left_of(overflowing, aside);
     let filled = fill(
-        &mut fresh[target],
-        alloc,
-        coming,
-        left,
-        old,
-        first,
-        last,
-        target,
-        current,
-        skipped,
-        buckets,
+        &mut fresh, coming, left, old, first, last, target, current, skipped, buckets,
     );
-    let moved = fresh[target].len();
-    let spilled = fresh[target].overflow_len();
+    let moved = fresh.bucket_len(target);
+    let spilled = fresh.overflow_len(target);
     let (none, _, _) = current.exchange(fresh, count + moved, overflowing + spilled);
     none.destroy_empty();
     match filled {
@@ -262,7 +254,9 @@ where
     E::Key: Eq + Hash,
     requires bits { skipped < 64 }
     requires sources { IsWithinSources (λ e. key_hash H.BuildHasher H.Hasher.Hasher E.Key.hash_input table.now (E.key_of e)) skipped count target first last old.now }
-    requires most { length (flat_map shelf_entries old.now) < 2 ^ 63 }
+    requires few { (j : ℕ) → length (shelf_of old.now j).overflow < 2 ^ 62 }
+    requires own { AreOwn (λ e. key_hash H.BuildHasher H.Hasher.Hasher E.Key.hash_input table.now (E.key_of e)) skipped old.now }
+    requires most { length (flat_map shelf_entries old.now) < 2 ^ 64 }
     ensures { result ≡ length (bound_for (λ e. key_hash H.BuildHasher H.Hasher.Hasher E.Key.hash_input table.now (E.key_of e)) skipped count target (flat_map shelf_entries old.now)) }
 {
     let mut found = 0;

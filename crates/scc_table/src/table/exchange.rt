@@ -1,5 +1,5 @@
 //! A table with other buckets in the place of its own.
-ghost use Rattle.std.specs.Prelude.{◌≡◌, [], map};
+ghost use Rattle.std.specs.Prelude.{◌≡◌, map};
 ghost use Rattle.std.specs.List.{flat_map, IsDistinct};
 ghost use Rattle.scc_bucket.specs.Shelf.{shelf_entries};
 ghost use Rattle.scc_table.specs.Contents.{lists_of, settings_of, refused_of, spilled_of, waiting_of, held_of, key_hash};
@@ -27,8 +27,8 @@ where
         ensures settings { settings_of self.new ≡ settings_of self.old }
         ensures noted { refused_of self.new ≡ refused_of self.old }
         ensures spilled { spilled_of self.new ≡ overflowing }
-        ensures waiting { waiting_of self.new ≡ [] }
-        ensures held { held_of self.new ≡ [] }
+        ensures waiting { waiting_of self.new ≡ waiting_of self.old }
+        ensures held { held_of self.new ≡ held_of self.old }
         ensures were { lists_of self.old ≡ map shelf_entries result.0 }
         ensures table { IsTable (λ e. key_hash H.BuildHasher H.Hasher.Hasher E.Key.hash_input self.old (E.key_of e)) (settings_of self.old).skipped result.0 result.1 result.2 }
         ensures overflowing { result.2 ≡ spilled_of self.old }

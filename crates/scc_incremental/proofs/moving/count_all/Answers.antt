@@ -1,4 +1,4 @@
-use Rattle.std.proofs.Common.{◌≡◌, ◌<◌, ◌≤◌, ◌+◌, ◌∙◌, sym, ap, arith, length, take}
+use Rattle.std.proofs.Common.{◌≡◌, ◌<◌, ◌∙◌, sym, ap, arith, length, length-append, take}
 use Rattle.std.specs.List.{flat_map}
 use Rattle.scc_array.specs.Shelves.{shelf_of}
 use Rattle.scc_bucket.specs.Shelf.{shelf_entries}
@@ -15,8 +15,10 @@ loop-source-init g c =
 pub count_in-found-requires-clause-few : goal.count_in-found-requires-clause-few
 count_in-found-requires-clause-few g c =
     let l : c.loop-source.source < length c.args.old.now = omega (arith, c.requires.sources.within) in
-    let m = part-le c.args.old.now c.loop-source.source l in
-    omega (arith, c.requires.most)
+    let within = (c.requires.own.own c.loop-source.source l).within in
+    let over = c.requires.few c.loop-source.source in
+    let s = shelf_of c.args.old.now c.loop-source.source in
+    omega (arith, length-append s.slots s.overflow)
 
 pub overflow_add-found : goal.overflow_add-found
 overflow_add-found g c =

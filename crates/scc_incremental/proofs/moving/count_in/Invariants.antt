@@ -1,4 +1,4 @@
-use Rattle.std.proofs.Common.{◌≡◌, ◌<◌, ◌≤◌, length, take}
+use Rattle.std.proofs.Common.{◌≡◌, length, take}
 use Rattle.scc_array.specs.Shelves.{shelf_of}
 use Rattle.scc_bucket.specs.Shelf.{shelf_entries}
 use Rattle.scc_table.specs.Contents.{key_hash}

@@ -1,5 +1,4 @@
-use Rattle.std.proofs.Common.{◌≡◌, ◌<◌, ◌≤◌, ◌/◌, ◌+◌, arith}
-use Rattle.scc_table.specs.Routing.{bucket_number}
+use Rattle.std.proofs.Common.{arith}
 use Rattle.scc_incremental.proofs.Numbers.{only-grown, only-shrunk}
 use Rattle.scc_incremental.proofs.moving.sources.Goals as goal
 

@@ -1,6 +1,5 @@
-use Rattle.std.proofs.Common.{sym, ap, ◌∙◌, subst}
+use Rattle.std.proofs.Common.{sym, ap, ◌∙◌}
 use Rattle.scc_table.specs.Contents.{bucket_count}
-use Rattle.scc_table.specs.Sizes.{IsLawful}
 use Rattle.scc_incremental.proofs.Joining.{count-together}
 use Rattle.scc_incremental.proofs.incremental.Incremental.bucket_count.Goals as goal
 

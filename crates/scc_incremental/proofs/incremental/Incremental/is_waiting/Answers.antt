@@ -1,4 +1,4 @@
-use Rattle.std.proofs.Common.{◌≡◌, ◌<◌, ◌∙◌, Bool, true, false, IsTrue, List, sym, ap, subst, arith, length, rules, get_or}
+use Rattle.std.proofs.Common.{◌≡◌, ◌<◌, ◌∙◌, true, false, sym, ap, arith, length, rules}
 use Rattle.std.proofs.lemmas.List.{get_or_read}
 use Rattle.scc_table.specs.Contents.{bucket_count, waiting_of}
 use Rattle.scc_incremental.specs.TwoArrays.{waits_at}

@@ -32,10 +32,10 @@ pub returns-clause-spilled : goal.returns-clause-spilled
 returns-clause-spilled g c = spilled-view _ _ _ refl ∙ ap spilled_in c.replace-own.ensures.after ∙ sym c.requires.table.spilled
 
 pub returns-clause-waiting : goal.returns-clause-waiting
-returns-clause-waiting g c = waiting-view _ _ _ refl
+returns-clause-waiting g c = waiting-view _ _ _ refl ∙ sym (waiting-view c.self.inside.buckets _ c.args.self.now c.self.view_is)
 
 pub returns-clause-held : goal.returns-clause-held
-returns-clause-held g c = held-view _ _ _ refl
+returns-clause-held g c = held-view _ _ _ refl ∙ sym (held-view c.self.inside.buckets _ c.args.self.now c.self.view_is)
 
 pub returns-clause-were : goal.returns-clause-were
 returns-clause-were g c = lists-view c.self.inside.buckets _ c.args.self.now c.self.view_is ∙ ap (map shelf_entries) (sym c.replace-own.ensures.value)

@@ -1,0 +1,133 @@
+-- What a bucket needs, before it takes its entries over.
+use Rattle.std.proofs.Common.{◌≡◌, ◌==◌, ℕ, ◌+◌, ◌^◌, ◌<◌, ◌≤◌, ◌≢◌, ◌⊎◌, inl, inr, Bool, true, false, cond, List, [], length, map, set, get_or, refl, sym, ap, ◌∙◌, subst, arith, length-set, get_or-set_same, get_or-set_other, eqb-true}
+use Rattle.std.specs.List.{filter, flat_map, sum_by, IsDistinct}
+use Rattle.std.proofs.lemmas.List.{get_or_past, get_or_default}
+use Rattle.std.proofs.lemmas.List.Concat.{length-flat_map}
+use Rattle.std.proofs.lemmas.List.Sums.{get_or-le-sum_by}
+use native.Mathlib.Decide.{dec_lt}
+use Rattle.scc_array.specs.Shelves.{shelf_of}
+use Rattle.scc_bucket.specs.Shelf.{Shelf, shelf_entries, empty_shelf}
+use Rattle.scc_table.specs.Contents.{Contents, entries, bucket_count, list_of, lists_of, settings_of}
+use Rattle.scc_table.specs.Pour.{bound_for}
+use Rattle.scc_table.specs.Routing.{bucket_number}
+use Rattle.scc_table.specs.Sizes.{IsArray}
+use Rattle.scc_table.specs.Tables.{IsOwn, IsTable, spilled_in}
+use Rattle.scc_table.proofs.Inserts.{table-bound}
+use Rattle.scc_table.proofs.PairSplits.{by_answer}
+use Rattle.scc_incremental.specs.Moves.{AreOwn, IsWithinSources}
+use Rattle.scc_incremental.specs.TwoArrays.{AreMultiples, joined, waits_at, target_by, together, TwoArrays}
+use Rattle.scc_incremental.proofs.Joining.{get-joined, length-joined}
+use Rattle.scc_incremental.proofs.Relocated.{count-is, list-is}
+use Rattle.scc_incremental.proofs.Relocating.{up-within}
+use Rattle.scc_incremental.proofs.Sublists.{flat-sub, distinct-sub, filter-none}
+
+outside : (first last j m : ℕ) → (j < first) ⊎ (last ≤ j) → m ≡ j → first ≤ m → m < last → ⊥
+outside first last j m out e low high = elim out [ inl q ↦ omega arith | inr q ↦ omega arith ]
+
+-- the old buckets outside the sources hold none of the target's entries
+pub within-sources : {E : Type 0} (hash : E → ℕ) (t n i first last : ℕ) (olds : List (Shelf E)) → AreOwn hash t olds → first ≤ last → last ≤ length olds
+    → ((s h : ℕ) → bucket_number s n h ≡ i → (first ≤ bucket_number s (length olds) h) × (bucket_number s (length olds) h < last)) → IsWithinSources hash t n i first last olds
+within-sources hash t n i first last olds own order within only = record {
+  order = order;
+  within = within;
+  none = λ j out. elim (dec_lt j (length olds)) [
+    | yes l ↦
+        let es = shelf_entries (shelf_of olds j) in
+        filter-none (λ e. bucket_number t n (hash e) == i) es
+        (λ k d lk. by_answer (bucket_number t n (hash (get_or es k d)) == i)
+        (λ q.
+        let r = only t (hash (get_or es k d)) (eqb-true _ _ q) in
+        absurd (outside first last j _ out ((own.own j l).routed k d lk) r.0 r.1))
+        (λ q. q))
+    | no l ↦ ap (λ z. bound_for hash t n i (shelf_entries z)) (get_or_past olds j empty_shelf (omega arith))
+  ];
+}
+
+-- no old bucket has many entries past its places
+pub few-each : {E : Type 0} (olds : List (Shelf E)) (aside : ℕ) → spilled_in olds ≤ aside → aside < 2 ^ 62 → (j : ℕ) → length (shelf_of olds j).overflow < 2 ^ 62
+few-each {E} olds aside le few j = elim (dec_lt j (length olds)) [
+  | yes l ↦ let f : Shelf E → ℕ = λ x. length x.overflow in let m : f (get_or olds j empty_shelf) ≤ sum_by f olds = get_or-le-sum_by f olds j empty_shelf l in omega arith
+  | no l ↦ let z : length (shelf_of olds j).overflow ≡ 0 = ap (λ x. length x.overflow) (get_or_past olds j empty_shelf (omega arith)) in
+      let s : 0 < 2 ^ 62 = omega arith in
+      omega arith
+]
+
+module _ {E S : Type 0} (hash : E → ℕ) (c : Contents E S) (ws : List Bool) (olds : List (Shelf E)) (arrays : TwoArrays hash c ws olds) (i : ℕ) (up : waits_at ws i ≡ true) (long : length ws ≡ bucket_count c) where
+  -- the list of a bucket that waits is that of its entries in the old array
+  pub waiting-list : list_of (together hash c ws olds) i ≡ bound_for hash (settings_of c).skipped (bucket_count c) i (flat_map shelf_entries olds)
+  unfolding list_of lists_of
+  waiting-list =
+      let l : length ws ≡ length c.lists = long ∙ count-is c in
+      let within = up-within ws i up in
+      let near : 0 + i ≡ i = omega arith in
+      let es = flat_map shelf_entries olds in
+      get-joined (target_by hash c) es 0 i ws c.lists l (omega arith) ∙ ap (λ (v : Bool). cond v (filter (λ e. target_by hash c e == 0 + i) es) (get_or c.lists i [])) up ∙ ap (λ m. filter (λ e. target_by hash c e == m) es) near
+
+  parts : (k : ℕ) → (get_or (set (lists_of c) i (bound_for hash (settings_of c).skipped (bucket_count c) i (flat_map shelf_entries olds))) k [] ≡ get_or (joined (target_by hash c) 0 ws (lists_of c) (flat_map shelf_entries olds)) k [])
+      ⊎ (get_or (set (lists_of c) i (bound_for hash (settings_of c).skipped (bucket_count c) i (flat_map shelf_entries olds))) k [] ≡ [])
+  parts k =
+      let es = flat_map shelf_entries olds in
+      let b = bound_for hash (settings_of c).skipped (bucket_count c) i es in
+      let ls = lists_of c in
+      let l : length ws ≡ length ls = long ∙ count-is c in
+      let near : 0 + k ≡ k = omega arith in
+      let apart = λ (ne : k ≢ i) (lk : k < length ls).
+      let mine = get_or-set_other ls i k b [] ne in
+      let right = get-joined (target_by hash c) es 0 k ws ls l lk in
+      by_answer {P = (get_or (set ls i b) k [] ≡ get_or (joined (target_by hash c) 0 ws ls es) k []) ⊎ (get_or (set ls i b) k [] ≡ [])} (waits_at ws k)
+      (λ q. inr (mine ∙ sym (list-is c k) ∙ arrays.bare k q))
+      (λ q. inl (mine ∙ sym (ap (λ (v : Bool). cond v (filter (λ e. target_by hash c e == 0 + k) es) (get_or ls k [])) q) ∙ sym right)) in
+      elim (dec_lt k (length ls)) [
+        | no far ↦ inr (get_or_past (set ls i b) k [] (omega (arith, length-set ls i b)))
+        | yes lk ↦ elim (dec_lt k i) [
+          | yes r ↦ apart (omega arith) lk
+          | no r ↦ elim (dec_lt i k) [
+            | yes s ↦ apart (omega arith) lk
+            | no s ↦
+                let here : k ≡ i = omega arith in
+                inl (ap (λ m. get_or (set ls i b) m []) here ∙ get_or-set_same ls i b [] (omega arith)
+                ∙ sym (get-joined (target_by hash c) es 0 k ws ls l lk ∙ ap (λ (v : Bool). cond v (filter (λ e. target_by hash c e == 0 + k) es) (get_or ls k [])) (ap (waits_at ws) here ∙ up)
+                ∙ ap (λ m. filter (λ e. target_by hash c e == m) es) (near ∙ here)))
+          ]
+        ]
+      ]
+
+  -- the keys of the new array stay distinct
+  pub unique-before : {K : Type 0} (eq : K → K → Bool) (key : E → K) → IsDistinct eq (map key (entries (together hash c ws olds)))
+      → IsDistinct eq (map key (flat_map (λ l. l) (set (lists_of c) i (bound_for hash (settings_of c).skipped (bucket_count c) i (flat_map shelf_entries olds)))))
+  unfolding entries
+  unique-before eq key u =
+      let es = flat_map shelf_entries olds in
+      let ls = lists_of c in
+      let b = bound_for hash (settings_of c).skipped (bucket_count c) i es in
+      let l : length ws ≡ length ls = long ∙ count-is c in
+      distinct-sub eq key (flat-sub (set ls i b) (joined (target_by hash c) 0 ws ls es) (length-set ls i b ∙ sym (length-joined (target_by hash c) es 0 ws ls (inr l))) parts) u
+
+module _ {E S : Type 0} (c : Contents E S) (ws : List Bool) (olds : List (Shelf E)) (i : ℕ) where
+  some-flag : {P : Type 0} → waits_at ws i ≡ true → ws ≡ [] → P
+  some-flag up z = absurd (let q : false ≡ true = ap (λ w. waits_at w i) (sym z) ∙ up in cc)
+
+  pub multiple-flags : (ws ≡ []) ⊎ AreMultiples (length olds) (bucket_count c) → waits_at ws i ≡ true → AreMultiples (length olds) (bucket_count c)
+  multiple-flags h up = elim h [ inl z ↦ some-flag up z | inr z ↦ z ]
+
+  pub sized-flags : (ws ≡ []) ⊎ IsArray (length olds) → waits_at ws i ≡ true → IsArray (length olds)
+  sized-flags h up = elim h [ inl z ↦ some-flag up z | inr z ↦ z ]
+
+-- where some bucket waits, there is a flag for each
+pub long-flags : {E S : Type 0} (c : Contents E S) (ws : List Bool) (i : ℕ) → (ws ≡ []) ⊎ (length ws ≡ bucket_count c) → waits_at ws i ≡ true → length ws ≡ bucket_count c
+long-flags c ws i h up = elim h [ inl z ↦ absurd (let q : false ≡ true = ap (λ w. waits_at w i) (sym z) ∙ up in cc) | inr z ↦ z ]
+
+-- the old array holds fewer entries than a word counts
+pub most-held : {E : Type 0} (hash : E → ℕ) (t : ℕ) (olds : List (Shelf E)) → IsArray (length olds) → AreOwn hash t olds → spilled_in olds < 2 ^ 62 → length (flat_map shelf_entries olds) < 2 ^ 63 + 2 ^ 62
+most-held {E} hash t olds sized own few =
+    let f : Shelf E → ℕ = λ b. length (shelf_entries b) in
+    let table : IsTable hash t olds (sum_by f olds) (spilled_in olds) = record {
+      sized = inr sized;
+      counted = refl;
+      spilled = refl;
+      few = few;
+      own = λ j b l at. subst (IsOwn hash t (length olds) j) (sym (at ∙ get_or_default olds j b empty_shelf l)) (own.own j l);
+    } in
+    let bound = table-bound hash t (sum_by f olds) (spilled_in olds) olds table in
+    let e : length (flat_map shelf_entries olds) ≡ sum_by f olds = length-flat_map shelf_entries olds in
+    omega arith

@@ -1,0 +1,95 @@
+//! How buckets take their entries over from the old array.
+ghost use Rattle.std.specs.Prelude.{◌≡◌, ◌<◌, ℕ, [], length, OnOk, OnErr};
+ghost use Rattle.scc_table.specs.Contents.{list_of, lists_of, pending_of, refused_of, settings_of, waiting_of};
+ghost use Rattle.scc_incremental.specs.TwoArrays.{IsFirstWaiting, IsRelocated, IsWaiting};
+
+use super::Incremental;
+use crate::moving::{count_all, move_in, sources};
+use scc_table::Keyed;
+use std::alloc::AllocError;
+use std::hash::{BuildHasher, Hash};
+
+impl<E: Keyed, H: BuildHasher> Incremental<E, H>
+where
+    E::Key: Eq + Hash,
+{
+    /// Moves the entries of a bucket that waits to it, in their order. It asks for memory only where more than 32 come; where that is refused, nothing changes. Takes time by the number of entries in the old buckets that they come from.
+    pub fn relocate(&mut self, bucket: usize) -> Result<(), AllocError>
+        requires { IsWaiting self.old bucket }
+        ensures ok { OnOk result (IsRelocated bucket self.old self.new) }
+        ensures err { OnErr result (self.new ≡ self.old) }
+        ensures refused { OnErr result (32 < length (list_of self.old bucket)) }
+    {
+        let count = self.current.bucket_count();
+        let (first, last) = sources(self.draining.len(), count, bucket);
+        let coming = count_all(
+            &self.draining,
+            first,
+            last,
+            bucket,
+            &self.current,
+            self.skipped,
+            count,
+        );
+        let aside = self.held_overflow;
+        match move_in(
+            &mut self.current,
+            &mut self.draining,
+            bucket,
+            first,
+            last,
+            coming,
+            aside,
+            self.skipped,
+        ) {
+            Ok(moved) => {
+                self.held -= moved;
+                self.pending -= 1;
+                self.waiting[bucket] = false;
+                if self.pending == 0 {
+                    self.waiting.clear();
+                }
+                Ok(())
+            }
+            Err(e) => Err(e),
+        }
+    }
+
+    /// The number of the first bucket that waits.
+    fn first_waiting(&self) -> usize
+        requires { 0 < pending_of self.now }
+        ensures { IsFirstWaiting self.now result }
+    {
+        for bucket in self.next..self.waiting.len() {
+            if self.waiting[bucket] {
+                return bucket;
+            }
+        }
+        unreachable!()
+    }
+
+    /// Moves the entries of the first bucket that waits to it, as `relocate` does. The buckets before it aren't looked at again.
+    pub fn relocate_next(&mut self) -> Result<(), AllocError>
+        requires { 0 < pending_of self.old }
+        ensures ok { OnOk result ((i : ℕ) × (IsFirstWaiting self.old i) × (IsRelocated i self.old self.new)) }
+        ensures err { OnErr result (self.new ≡ self.old) }
+    {
+        let bucket = self.first_waiting();
+        self.next = bucket;
+        self.relocate(bucket)
+    }
+
+    /// Moves the entries of all buckets that wait to them, the first bucket first. Where memory is refused for one, it and those after it still wait.
+    pub fn finish(&mut self) -> Result<(), AllocError>
+        ensures lists { lists_of self.new ≡ lists_of self.old }
+        ensures settings { settings_of self.new ≡ settings_of self.old }
+        ensures noted { refused_of self.new ≡ refused_of self.old }
+        ensures fewer { (i : ℕ) → IsWaiting self.new i → IsWaiting self.old i }
+        ensures ok { OnOk result (waiting_of self.new ≡ []) }
+    {
+        for _ in 0..self.pending {
+            self.relocate_next()?;
+        }
+        Ok(())
+    }
+}
