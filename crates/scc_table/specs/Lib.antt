@@ -9,6 +9,7 @@ pub mod Emptying
 pub mod Hashing
 pub mod LendsTable
 pub mod Mapped
+pub mod OneList
 pub mod PairSteps
 pub mod Pairs
 pub mod Placed
