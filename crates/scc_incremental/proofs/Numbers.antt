@@ -1,5 +1,5 @@
 -- The buckets of a hash in two arrays, of which one has a multiple of the other's buckets.
-use Rattle.std.proofs.Common.{◌≡◌, ℕ, zero, suc, ◌+◌, ◌*◌, ◌/◌, ◌%◌, ◌^◌, ◌<◌, ◌≤◌, sym, ap, ◌∙◌, subst, arith}
+use Rattle.std.proofs.Common.{◌≡◌, ℕ, zero, suc, ◌+◌, ◌*◌, ◌/◌, ◌%◌, ◌^◌, ◌<◌, ◌≤◌, sym, ap, ◌∙◌, subst, arith, div-lt_iff_lt-mul, mul_comm}
 use Rattle.std.proofs.Math.Nat.{div-div-eq-div-mul, div-eq_of_eq-mul_left, div-mul-le_self, lt-div-mul-add, mul-div-mul_left}
 use Rattle.scc_table.specs.Routing.{bucket_number}
 use Rattle.scc_incremental.specs.TwoArrays.{AreMultiples, grown, shrunk}
@@ -46,3 +46,11 @@ only-shrunk m n t h target less within many at =
     let low : target * (m / n) ≤ bucket_number t m h = subst (λ z. z * (m / n) ≤ bucket_number t m h) q (div-mul-le_self (bucket_number t m h) (m / n)) in
     let high : bucket_number t m h < target * (m / n) + m / n = subst (λ z. bucket_number t m h < z * (m / n) + m / n) q (lt-div-mul-add pos) in
     (low, high)
+
+-- a target's number among more buckets names one of the fewer
+pub source-within : (m n target : ℕ) → 0 < m → m ≤ n → target < n → AreMultiples m n → target / (n / m) < m
+source-within m n target some less within many =
+    let e = quotient m n some less many in
+    let pos = some-quotient (n / m) m n e (omega arith) in
+    let f : m * (n / m) ≡ n = mul_comm m (n / m) ∙ e in
+    (div-lt_iff_lt-mul pos).1 (subst (λ z. target < z) (sym f) within)

@@ -24,10 +24,10 @@ abbrev pub held_in : {E : Type 0} → (E → ℕ) → List Bool → List (Shelf 
 held_in target [] olds = []
 held_in target (w ∷ ws) olds = map (λ b. map target (shelf_entries b)) olds
 
--- one number of buckets is a multiple of the other
+-- one number of buckets is a multiple of the other, and they differ
 pub data AreMultiples (m n : ℕ) : Type 0 where
-  grown : (r : ℕ) → 0 < r → n ≡ r * m → AreMultiples m n
-  shrunk : (r : ℕ) → 0 < r → m ≡ r * n → AreMultiples m n
+  grown : (r : ℕ) → 1 < r → n ≡ r * m → AreMultiples m n
+  shrunk : (r : ℕ) → 1 < r → m ≡ r * n → AreMultiples m n
 
 module _ {E S : Type 0} where
   -- the bucket of the new array that an entry belongs to

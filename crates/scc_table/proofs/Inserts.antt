@@ -272,7 +272,7 @@ module _ {E S : Type 0} (hash : E → ℕ) (t n o i : ℕ) (bs : List (Shelf E))
         table_set hash t n o n o i bs b d h l at (own_same hash t (length bs) i b d (h.own i b l at) new) (omega arith) (omega arith) h.few
 
 -- a table has at most 32 entries a bucket, and those in overflow lists
-sum-bound : {E : Type 0} (bs : List (Shelf E)) → ((i : ℕ) (b : Shelf E) → i < length bs → b ≡ get_or bs i b → length b.slots ≤ 32)
+pub sum-bound : {E : Type 0} (bs : List (Shelf E)) → ((i : ℕ) (b : Shelf E) → i < length bs → b ≡ get_or bs i b → length b.slots ≤ 32)
     → sum_by (λ b. length (shelf_entries b)) bs ≤ 32 * length bs + sum_by (λ b. length b.overflow) bs
 sum-bound [] f = omega arith
 sum-bound {E} (b ∷ bs) f =

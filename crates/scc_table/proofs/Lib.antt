@@ -13,6 +13,7 @@ pub mod Latest
 pub mod Lookups
 pub mod Making
 pub mod Mapped
+pub mod OneList
 pub mod PairSplits
 pub mod PairWrites
 pub mod Placed

@@ -1,7 +1,7 @@
 //! An array of buckets, found by the bits of a hash.
 ghost use Rattle.std.specs.Prelude.{◌≡◌, ◌≤◌, ◌<◌, ◌+◌, ◌*◌, ◌^◌, ℕ, [], ◌∷◌, ◌↔◌, length, Some, None, IsTrue, IfOk, OnOk, IfErr, OnErr, MatchOption, slice_get};
 ghost use Rattle.std.specs.List.{flat_map, position};
-ghost use Rattle.scc_table.specs.Contents.{entries, bucket_count, settings_of, minimum_of, refused_of, key_hash, bucket_of, IsUniqueBy, HasRoomBy};
+ghost use Rattle.scc_table.specs.Contents.{entries, bucket_count, settings_of, minimum_of, refused_of, spilled_of, key_hash, bucket_of, IsUniqueBy, HasRoomBy};
 ghost use Rattle.scc_table.specs.Places.{IsPlace, IsFoundAt, index_of};
 ghost use Rattle.scc_array.specs.Shelves.{shelf_of};
 ghost use Rattle.scc_bucket.specs.Shelf.{shelf_entries};
@@ -72,9 +72,19 @@ where
     #[inline(always)]
     pub fn len(&self) -> usize
         ensures len { result ≡ length (entries self.now) }
+        ensures most { result ≤ 32 * bucket_count self.now + spilled_of self.now }
         ensures unique { IsUniqueBy E.Key.eq E.key_of self.now }
     {
         self.length
+    }
+
+    /// How many entries lie in overflow lists.
+    #[inline(always)]
+    pub fn overflow_len(&self) -> usize
+        ensures value { result ≡ spilled_of self.now }
+        ensures most { result < 2 ^ 62 }
+    {
+        self.overflowing
     }
 
     /// The number of buckets, 0 where there is no array.

@@ -33,7 +33,7 @@ where
     }
 
     /// An empty table of as many buckets, which skips as many bits, under that hasher.
-    fn fresh_like(&self, hasher: H) -> Result<Table<E, H>, MakeError>
+    pub fn fresh_like(&self, hasher: H) -> Result<Table<E, H>, MakeError>
     where
         H: Drop,
         ensures entries { IfOk result (λ t. entries t ≡ []) }
@@ -61,7 +61,7 @@ where
     }
 
     /// Puts in a clone of each entry of the other table, with no resize.
-    fn insert_clones_of(&mut self, other: &Table<E, H>) -> Result<(), MakeError>
+    pub fn insert_clones_of(&mut self, other: &Table<E, H>) -> Result<(), MakeError>
     where
         E: Clone,
         ensures { OnOk result (AddsClones E.is_clone (entries other.now) self.old self.new) }
@@ -74,7 +74,7 @@ where
     }
 
     /// Puts in a clone of each entry of that bucket, with no resize.
-    fn insert_clones(&mut self, array: &Array<E>, bucket: usize) -> Result<(), MakeError>
+    pub fn insert_clones(&mut self, array: &Array<E>, bucket: usize) -> Result<(), MakeError>
     where
         E: Clone,
         requires within { bucket < length array.now }

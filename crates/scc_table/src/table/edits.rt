@@ -3,6 +3,7 @@ ghost use Rattle.std.specs.Prelude.{◌≡◌, ◌≤◌, ◌<◌, ◌+◌, ◌-
 ghost use Rattle.std.specs.List.{position};
 ghost use Rattle.scc_table.specs.Bounded.{HasList, IsBounded};
 ghost use Rattle.scc_table.specs.Contents.{entries, bucket_count, list_of, settings_of, refused_of, key_hash, bucket_of, IsUniqueBy, HasRoomBy};
+ghost use Rattle.scc_table.specs.OneList.{HasSameLists, IsPutIn, IsTakenFrom};
 ghost use Rattle.scc_table.specs.Places.{IsPlace, IsInsertedAt, index_of};
 ghost use Rattle.scc_table.specs.Routing.{bucket_number};
 ghost use Rattle.scc_table.specs.Steps.{FirstArrayWhenDue, Grows, GrowsWhenDue, HoldsExactly, IsUnchanged, Rests};
@@ -60,13 +61,15 @@ where
 
     /// The same into that bucket, the one of the hash.
     #[inline(always)]
-    pub(crate) fn insert_in(&mut self, bucket: usize, hash: u64, entry: E) -> Result<Place, E>
+    pub fn insert_in(&mut self, bucket: usize, hash: u64, entry: E) -> Result<Place, E>
         requires within { bucket < bucket_count self.old }
         requires routed { bucket ≡ bucket_number (settings_of self.old).skipped (bucket_count self.old) hash }
         requires hashed { hash ≡ key_hash H.BuildHasher H.Hasher.Hasher E.Key.hash_input self.old (E.key_of entry) }
         requires absent { position (λ e. E.Key.eq (E.key_of entry) (E.key_of e)) (entries self.old) ≡ None }
         ensures ok { IfOk result (IsInsertedAt self.old entry self.new) }
+        ensures exact { IfOk result (IsPutIn self.old bucket entry self.new) }
         ensures err { IfErr result (λ e. (e ≡ entry) × IsUnchanged self.old self.new) }
+        ensures stays { OnErr result (HasSameLists self.old self.new) }
         ensures full { OnErr result (HasRoomBy (key_hash H.BuildHasher H.Hasher.Hasher E.Key.hash_input self.old) E.key_of self.old (E.key_of entry) → ⊥) }
         ensures buckets { bucket_count self.new ≡ bucket_count self.old }
         ensures refused { refused_of self.new ≡ refused_of self.old }
@@ -110,6 +113,7 @@ where
         ensures gone { position (λ e. E.Key.eq (E.key_of result) (E.key_of e)) (entries self.new) ≡ None }
         ensures short { IsBounded self.old → length (list_of self.new place.bucket) < 32 }
         ensures lists { IsBounded self.old → HasList self.old place.bucket (remove (list_of self.old place.bucket) place.slot) self.new }
+        ensures exact { IsTakenFrom self.old place self.new }
         ensures unique { IsUniqueBy E.Key.eq E.key_of self.new }
     {
         let in_overflow = self.buckets.is_overflow(place.bucket, place.slot);

@@ -78,7 +78,7 @@ where
     }
 
     /// Makes the first array, of the size of the minimum.
-    pub(crate) fn make_array(&mut self) -> Result<(), AllocError>
+    pub fn make_array(&mut self) -> Result<(), AllocError>
         requires { bucket_count self.old ≡ 0 }
         ensures entries { entries self.old ≡ [] }
         ensures still { entries self.new ≡ [] }

@@ -3,6 +3,7 @@ ghost use Rattle.std.specs.Prelude.{◌≡◌, ◌<◌, ◌≤◌, ◌*◌, ◌^
 ghost use Rattle.std.specs.List.{position};
 ghost use Rattle.scc_bucket.specs.ShelfWrites.{put_whole};
 ghost use Rattle.scc_table.specs.Contents.{entries, bucket_count, settings_of, minimum_of, refused_of, key_hash, IsUniqueBy, HasRoomBy};
+ghost use Rattle.scc_table.specs.OneList.{HasSameLists, IsPutIn};
 ghost use Rattle.scc_table.specs.Places.{IsPlace, IsInsertedAt, index_of};
 ghost use Rattle.scc_table.specs.Pour.{RoomFor};
 ghost use Rattle.scc_table.specs.Routing.{bucket_number};
@@ -116,7 +117,7 @@ where
         match self.fresh_with(2 * count, hash) {
             Ok(fresh) => self.insert_made_with(fresh, hash, parts),
             Err(_) => {
-                self.note_refused();
+                self.note(true);
                 self.insert_made_in(bucket, hash, parts)
             }
         }
@@ -153,7 +154,7 @@ where
 
     /// The same into that bucket, the one of the hash.
     #[inline(always)]
-    pub(crate) fn insert_made_in(
+    pub fn insert_made_in(
         &mut self,
         bucket: usize,
         hash: u64,
@@ -164,7 +165,9 @@ where
         requires hashed { hash ≡ key_hash H.BuildHasher H.Hasher.Hasher E.Key.hash_input self.old (E.key_of (E.made_of parts)) }
         requires absent { position (λ e. E.Key.eq (E.key_of (E.made_of parts)) (E.key_of e)) (entries self.old) ≡ None }
         ensures ok { IfOk result (IsInsertedAt self.old (E.made_of parts) self.new) }
+        ensures exact { IfOk result (IsPutIn self.old bucket (E.made_of parts) self.new) }
         ensures err { IfErr result (λ p. (p ≡ parts) × IsUnchanged self.old self.new) }
+        ensures stays { OnErr result (HasSameLists self.old self.new) }
         ensures buckets { bucket_count self.new ≡ bucket_count self.old }
         ensures refused { refused_of self.new ≡ refused_of self.old }
         ensures unique { IsUniqueBy E.Key.eq E.key_of self.new }

@@ -2,6 +2,7 @@
 ghost use Rattle.std.specs.Prelude.{◌≡◌, ◌≢◌, Some, length, slice_get, remove};
 ghost use Rattle.std.specs.List.Sorted.{IsPermutation};
 ghost use Rattle.scc_table.specs.Contents.{entries, bucket_count, settings_of, refused_of, minimum_of, IsUniqueBy};
+ghost use Rattle.scc_table.specs.OneList.{IsSwappedOutOf};
 ghost use Rattle.scc_table.specs.Places.{IsPlace, index_of};
 ghost use Rattle.scc_table.specs.Sizes.{IsSmaller};
 ghost use Rattle.scc_table.specs.Steps.{Holds, ShrinksWhenDue};
@@ -32,10 +33,11 @@ where
 
     /// Takes the entry out of its place, with no resize. The last entry of its bucket's slots, or of its overflow list, may take its place.
     #[inline(always)]
-    fn swap_take_at(&mut self, place: Place) -> E
+    pub fn swap_take_at(&mut self, place: Place) -> E
         requires { IsPlace self.old place }
         ensures entry { slice_get (entries self.old) (index_of self.old place) ≡ Some result }
         ensures others { IsPermutation (remove (entries self.old) (index_of self.old place)) (entries self.new) }
+        ensures exact { IsSwappedOutOf self.old place self.new }
         ensures buckets { bucket_count self.new ≡ bucket_count self.old }
         ensures noted { refused_of self.new ≡ refused_of self.old }
         ensures settings { settings_of self.new ≡ settings_of self.old }

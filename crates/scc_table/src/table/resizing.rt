@@ -3,7 +3,7 @@ ghost use Rattle.std.specs.Prelude.{◌≡◌, ◌≤◌, ◌<◌, ◌+◌, ◌*
 ghost use Rattle.std.specs.List.{position};
 ghost use Rattle.std.specs.List.Sorted.{IsPermutation};
 ghost use Rattle.scc_table.specs.Bounded.{IsBounded, MovesShort};
-ghost use Rattle.scc_table.specs.Contents.{entries, bucket_count, settings_of, refused_of, key_hash, IsUniqueBy};
+ghost use Rattle.scc_table.specs.Contents.{entries, bucket_count, settings_of, refused_of, lists_of, spilled_of, key_hash, IsUniqueBy};
 ghost use Rattle.scc_table.specs.Places.{IsInsertedAt};
 ghost use Rattle.scc_table.specs.Pour.{IsRegrouped, IsTally, RoomFor, bound_for};
 ghost use Rattle.scc_table.specs.Sizes.{IsArray};
@@ -153,12 +153,15 @@ where
         place
     }
 
-    /// Notes that memory for a resize was refused.
-    pub(crate) fn note_refused(&mut self)
+    /// Sets the note of refused memory alone.
+    pub fn note(&mut self, refused: bool)
         ensures unchanged { IsUnchanged self.old self.new }
-        ensures up { refused_of self.new ≡ true }
+        ensures lists { lists_of self.new ≡ lists_of self.old }
+        ensures settings { settings_of self.new ≡ settings_of self.old }
+        ensures spilled { spilled_of self.new ≡ spilled_of self.old }
+        ensures noted { refused_of self.new ≡ refused }
     {
-        self.refused = true;
+        self.refused = refused;
     }
 
     /// Moves all entries to so many buckets, each in the order that its entries had. Takes time by the number of entries and of buckets. Where memory is refused, nothing changed. Whether it was is noted.

@@ -6,6 +6,7 @@ use Rattle.scc_table.specs.Contents.{entries}
 use Rattle.scc_table.proofs.Inserts.{inserted-at, inserted-table, inserted-holds, overflow-after, overflow-full, refused-unchanged, refused-entries, refused-table, unique-inserted, table-bound, bucket-bound, read-again}
 use native.Mathlib.Decide.{dec_lt}
 use Rattle.scc_table.proofs.Counting.{count-in_bucket}
+use Rattle.scc_table.proofs.OneList.{put-in-list, same-in-lists}
 use Rattle.scc_table.proofs.Views.{entries-view, count-view, settings-view, refused-view}
 use Rattle.scc_array.specs.Shelves.{shelf_of}
 use Rattle.scc_table.proofs.Arrays.{shelf-at, put-is, put-own}
@@ -191,3 +192,18 @@ returns-in-Ok-clause-refused g c = refused-view _ _ _ refl ∙ sym (refused-view
 
 pub returns-in-Err-clause-refused : goal.returns-in-Err-clause-refused
 returns-in-Err-clause-refused g c = refused-view _ _ _ refl ∙ sym (refused-view c.self.inside.buckets _ c.args.self.now c.self.view_is)
+
+pub returns-in-Ok-clause-exact : goal.returns-in-Ok-clause-exact
+returns-in-Ok-clause-exact g c =
+    let t = c.self.inside in
+    let bs = t.buckets in
+    let i = c.args.bucket in
+    let l : i < length bs = rw (count-view bs _ c.args.self.now c.self.view_is) at c.requires.within in
+    let b = (shelf_of c.self.inside.buckets c.args.bucket) in
+    rw (put-own c.self.inside.buckets c.args.bucket l c.insert.new.self _ c.in-Ok.ensures.ok.1) (put-in-list bs _ c.args.self.now c.self.view_is i b l (shelf-at c.self.inside.buckets c.args.bucket l) (shelf_of c.insert.new.self c.args.bucket) c.args.entry _ c.in-Ok.slot (c.self.invariant.table.own i b l (shelf-at c.self.inside.buckets c.args.bucket l)).within (put-is c.self.inside.buckets c.args.bucket l c.insert.new.self _ c.in-Ok.ensures.ok.1) c.in-Ok.ensures.ok.0)
+
+pub returns-in-Err-clause-stays : goal.returns-in-Err-clause-stays
+returns-in-Err-clause-stays g c =
+    let bs = c.self.inside.buckets in
+    let l : c.args.bucket < length bs = rw (count-view bs _ c.args.self.now c.self.view_is) at c.requires.within in
+    rw (put-own c.self.inside.buckets c.args.bucket l c.insert.new.self _ c.in-Err.ensures.err.1) (same-in-lists bs _ c.args.self.now c.self.view_is c.args.bucket (shelf_of bs c.args.bucket) l (shelf-at bs c.args.bucket l) (shelf_of c.insert.new.self c.args.bucket) (put-is c.self.inside.buckets c.args.bucket l c.insert.new.self _ c.in-Err.ensures.err.1))

@@ -1,6 +1,6 @@
 use Rattle.std.proofs.Common.{sym, ◌∙◌, refl}
 use Rattle.scc_table.specs.Contents.{settings_of}
-use Rattle.scc_table.proofs.Views.{entries-view, count-view, refused-view, settings-view}
+use Rattle.scc_table.proofs.Views.{entries-view, count-view, lists-view, refused-view, settings-view, spilled-view}
 use Rattle.scc_table.proofs.table.Table.set_reserved.Goals as goal
 
 pub invariant_of-self : goal.invariant_of-self
@@ -23,3 +23,9 @@ returns-clause-settings g c = rw (settings-view c.self.inside.buckets _ c.args.s
 
 pub returns-clause-noted : goal.returns-clause-noted
 returns-clause-noted g c = refused-view _ _ _ refl ∙ sym (refused-view c.self.inside.buckets _ c.args.self.now c.self.view_is)
+
+pub returns-clause-lists : goal.returns-clause-lists
+returns-clause-lists g c = lists-view c.self.inside.buckets _ _ refl ∙ sym (lists-view c.self.inside.buckets _ c.args.self.now c.self.view_is)
+
+pub returns-clause-spilled : goal.returns-clause-spilled
+returns-clause-spilled g c = spilled-view c.self.inside.buckets _ _ refl ∙ sym (spilled-view c.self.inside.buckets _ c.args.self.now c.self.view_is)

@@ -4,6 +4,7 @@ use Rattle.scc_table.specs.Hashing.{hash_of}
 use Rattle.scc_bucket.specs.Shelf.{shelf_entries}
 use Rattle.scc_table.proofs.Bounds.{gone, removed-list, removed-short}
 use Rattle.scc_table.proofs.Inserts.{read-again}
+use Rattle.scc_table.proofs.OneList.{taken-from-list}
 use Rattle.scc_table.proofs.Removes.{at-least-one, removed-table, removed-exactly, removed-unique, removed-unique-flat}
 use Rattle.scc_table.proofs.Spots.{place-get}
 use Rattle.scc_table.proofs.Standing.{taken-index, taken-list}
@@ -170,3 +171,11 @@ returns-clause-short g c =
 
 pub returns-clause-noted : goal.returns-clause-noted
 returns-clause-noted g c = refused-view _ _ _ refl ∙ sym (refused-view c.self.inside.buckets _ c.args.self.now c.self.view_is)
+
+pub returns-clause-exact : goal.returns-clause-exact
+returns-clause-exact g c =
+    let bs = c.self.inside.buckets in
+    let l : c.args.place.bucket < length bs = rw (count-view bs _ c.args.self.now c.self.view_is) at c.requires.bucket in
+    let b = (shelf_of c.self.inside.buckets c.args.place.bucket) in
+    let lk : c.args.place.slot < length (shelf_entries b) = rw (list-view bs _ c.args.self.now c.self.view_is c.args.place.bucket b l (shelf-at c.self.inside.buckets c.args.place.bucket l)) at c.requires.slot in
+    rw (put-own c.self.inside.buckets c.args.place.bucket l c.remove_at-entry.new.self _ c.remove_at-entry.ensures.others) (taken-from-list bs _ c.args.self.now c.self.view_is c.args.place.bucket b l (shelf-at c.self.inside.buckets c.args.place.bucket l) (shelf_of c.remove_at-entry.new.self c.args.place.bucket) c.args.place.slot lk (put-is c.self.inside.buckets c.args.place.bucket l c.remove_at-entry.new.self _ c.remove_at-entry.ensures.others))
