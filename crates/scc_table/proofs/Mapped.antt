@@ -156,7 +156,7 @@ module _ {E F S : Type 0} (f : E → F) where
 
     pub GrowsWhenDue-mapped : (hash : K → ℕ) (c : Contents E S) (k : K) (d : Contents E S) → GrowsWhenDue hash (λ e. key (f e)) c k d → GrowsWhenDue hash key (mapped f c) k (mapped f d)
     GrowsWhenDue-mapped hash c k d h = record {
-      doubled = λ a b. rw (bucket_count-mapped c, bucket_count-mapped d, length-mapped c, refused_of-mapped d) (h.doubled (rw (bucket_count-mapped c) at a) (λ r. b (HasRoomBy-mapped hash c k r)));
+      doubled = λ a z b. rw (bucket_count-mapped c, bucket_count-mapped d, length-mapped c, refused_of-mapped d) (h.doubled (rw (bucket_count-mapped c) at a) (sym (pending_of-mapped c) ∙ z) (λ r. b (HasRoomBy-mapped hash c k r)));
       raised = λ low up.
           let r = h.raised (rw (refused_of-mapped c) at low) (rw (refused_of-mapped d) at up) in
           (rw (bucket_count-mapped c) r.0, λ room. r.1 (HasRoomBy-from_mapped hash c k room), rw (bucket_count-mapped c, length-mapped c) r.2, rw (bucket_count-mapped c) r.3);

@@ -1,7 +1,7 @@
 -- What a call may leave: the same contents, other entries, other buckets.
 use Rattle.std.specs.Prelude.{◌≡◌, ◌≢◌, ℕ, ◌+◌, ◌-◌, ◌*◌, ◌^◌, ◌<◌, ◌≤◌, ◌⊎◌, false, true, List, length, max}
 use Rattle.std.specs.List.Sorted.{IsPermutation}
-use Rattle.scc_table.specs.Contents.{Contents, Settings, entries, bucket_count, settings_of, minimum_of, refused_of, HasRoomBy}
+use Rattle.scc_table.specs.Contents.{Contents, Settings, entries, bucket_count, settings_of, minimum_of, refused_of, pending_of, HasRoomBy}
 use Rattle.scc_table.specs.Sizes.{IsArray, IsArraySize, IsSmaller}
 
 module _ {E S : Type 0} where
@@ -72,9 +72,9 @@ module _ {E S : Type 0} where
   pub record FirstArrayWhenDue (c d : Contents E S) : Type 0 where
     pub made : bucket_count c ≡ 0 → IsArraySize (minimum_of c) (32 * bucket_count d)
 
-  -- for a new key k whose bucket has no room, the slots were doubled where at least half as many entries as slots were held and the slots were below the greatest number, unless memory was refused; the note of refused memory rises only there; 2 ^ 62 entries are more than a table can hold
+  -- for a new key k whose bucket has no room, the slots were doubled where no bucket waited, at least half as many entries as slots were held and the slots were below the greatest number, unless memory was refused; the note of refused memory rises only there; 2 ^ 62 entries are more than a table can hold
   pub record GrowsWhenDue {K : Type 0} (hash : K → ℕ) (key : E → K) (c : Contents E S) (k : K) (d : Contents E S) : Type 0 where
-    pub doubled : 0 < bucket_count c → (HasRoomBy hash key c k → ⊥) → 32 * bucket_count c ≤ 2 * length (entries c) → 32 * bucket_count c < 2 ^ 63 → length (entries c) < 2 ^ 62 → refused_of d ≡ false → bucket_count d ≡ 2 * bucket_count c
+    pub doubled : 0 < bucket_count c → pending_of c ≡ 0 → (HasRoomBy hash key c k → ⊥) → 32 * bucket_count c ≤ 2 * length (entries c) → 32 * bucket_count c < 2 ^ 63 → length (entries c) < 2 ^ 62 → refused_of d ≡ false → bucket_count d ≡ 2 * bucket_count c
     pub raised : refused_of c ≡ false → refused_of d ≡ true → (0 < bucket_count c) × (HasRoomBy hash key c k → ⊥) × (32 * bucket_count c ≤ 2 * length (entries c)) × (32 * bucket_count c < 2 ^ 63)
 
   -- the note of refused memory rises only where a new key k asked for a growth that was due

@@ -85,7 +85,7 @@ returns-then-bucket_len-ge32-clause-due g c =
     let some : 0 < bucket_count c.args.self.now = rw (count-view bs _ c.args.self.now c.self.view_is) (search rules) in
     on_ok c.insert_made_full.result
     (λ due. record {
-      doubled = λ _ _ half below few down. due half below few down;
+      doubled = λ _ _ _ half below few down. due half below few down;
       raised = λ low up. let r = c.insert_made_full.ensures.raised low up in (some, λ room. full (rw c.requires.hashed room), r.0, r.1);
     })
     c.insert_made_full.ensures.due
@@ -138,6 +138,6 @@ returns-clause-due g c =
     let room : HasRoomAt (key_hash g.H.BuildHasher g.H.Hasher.Hasher g.E.Key.Hash.hash_input c.args.self.now) g.E.Keyed.key_of c.args.self.now c.args.hash =
     rw (entries-view bs _ c.args.self.now c.self.view_is, count-view bs _ c.args.self.now c.self.view_is, settings-view bs _ c.args.self.now c.self.view_is, ← routed, held) (omega arith, omega arith) in
     if_ok c.insert_made_in.result (record {
-      doubled = λ some full. absurd (full (rw c.requires.hashed at room));
+      doubled = λ some _ full. absurd (full (rw c.requires.hashed at room));
       raised = λ low up. absurd (let z : true ≡ false = sym up ∙ c.insert_made_in.ensures.refused ∙ low in cc);
     })

@@ -44,7 +44,7 @@ returns-in-Ok-clause-none g c =
 
 pub returns-in-Ok-clause-due : goal.returns-in-Ok-clause-due
 returns-in-Ok-clause-due g c = record {
-  doubled = λ some full half below few down. c.insert_in.ensures.buckets ∙ c.bucket_for_new.ensures.due some (λ room. full (rw c.requires.hashed at room)) half below few (sym c.insert_in.ensures.refused ∙ down);
+  doubled = λ some _ full half below few down. c.insert_in.ensures.buckets ∙ c.bucket_for_new.ensures.due some (λ room. full (rw c.requires.hashed at room)) half below few (sym c.insert_in.ensures.refused ∙ down);
   raised = λ low up.
       let r = c.bucket_for_new.ensures.raised low (sym c.insert_in.ensures.refused ∙ up) in
       (r.0, λ room. r.1 (rw c.requires.hashed room), r.2, r.3);
