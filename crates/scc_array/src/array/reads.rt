@@ -17,26 +17,6 @@ impl<E> Array<E> {
         self.columns.count(bucket)
     }
 
-    /// The entry at a place in use.
-    #[inline(always)]
-    pub fn slot_at(&self, bucket: usize, place: usize) -> &E
-        requires bucket { bucket < length self.now }
-        requires place { place < length (shelf_of self.now bucket).slots }
-        ensures { slice_get (shelf_of self.now bucket).slots place ≡ Some result.now }
-    {
-        self.columns.entry_at(bucket, place)
-    }
-
-    /// The entry at a place of the list past the places of the bucket.
-    #[inline(always)]
-    pub fn overflow_at(&self, bucket: usize, place: usize) -> &E
-        requires bucket { bucket < length self.now }
-        requires place { place < length (shelf_of self.now bucket).overflow }
-        ensures { slice_get (shelf_of self.now bucket).overflow place ≡ Some result.now }
-    {
-        &self.overflow[bucket][place]
-    }
-
     /// The entry at a place, where it is known how many places of the bucket are in use. A walk asks for that once a bucket.
     #[inline(always)]
     pub fn entry_of(&self, bucket: usize, place: usize, slots: usize) -> &E

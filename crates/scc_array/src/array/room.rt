@@ -1,5 +1,5 @@
 //! Room that is made before an entry is there.
-ghost use Rattle.std.specs.Prelude.{◌≡◌, ◌≤◌, ◌<◌, ◌+◌, ◌^◌, length, slice_set, IfOk, IfErr, OnOk};
+ghost use Rattle.std.specs.Prelude.{◌≡◌, ◌≤◌, ◌<◌, ◌+◌, ◌^◌, length, slice_set, IfOk, IfErr, OnOk, OnErr};
 ghost use Rattle.scc_array.specs.Shelves.{shelf_of};
 ghost use Rattle.scc_bucket.specs.Shelf.{shelf_entries, with_entry, with_overflow, next_place, HasRoom};
 
@@ -59,11 +59,12 @@ impl<E> Array<E> {
         reserve_in(&mut self.overflow, bucket, additional)
     }
 
-    /// Room for so many entries in a bucket that has none.
+    /// Room for so many entries in a bucket that has none. Memory is asked for where they are more than 32.
     pub fn reserve_for(&mut self, bucket: usize, count: usize) -> Result<(), AllocError>
         requires { bucket < length self.old }
         ensures value { self.new ≡ slice_set self.old bucket (record (shelf_of self.old bucket) { room = (shelf_of self.new bucket).room }) }
         ensures room { OnOk result (count ≤ 32 + (shelf_of self.new bucket).room) }
+        ensures refused { OnErr result (32 < count) }
     {
         if count <= 32 {
             return Ok(());
@@ -77,6 +78,7 @@ impl<E> Array<E> {
         requires { bucket < length self.old }
         ensures value { self.new ≡ slice_set self.old bucket (record (shelf_of self.old bucket) { room = (shelf_of self.new bucket).room }) }
         ensures room { OnOk result (HasRoom (shelf_of self.new bucket)) }
+        ensures refused { OnErr result (32 ≤ length (shelf_of self.old bucket).slots) }
     {
         if self.columns.count(bucket) < 32 {
             return Ok(());

@@ -39,7 +39,8 @@ where
     pub fn pending(&self) -> usize
         ensures { result ≡ pending_of self.now }
     {
-        let _one_array = self.length;
+        // A read of a field lets the proof see the representation.
+        let _length = self.length;
         0
     }
 
