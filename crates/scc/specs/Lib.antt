@@ -26,7 +26,6 @@ pub use Rattle.scc_set.specs.SetSteps
 pub use Rattle.scc_set.specs.SetWalks
 pub use Rattle.scc_table.specs.Contents
 pub use Rattle.scc_table.specs.Hashing
-pub use Rattle.scc_table.specs.LendsBucket
 pub use Rattle.scc_table.specs.LendsTable
 pub use Rattle.scc_table.specs.Pairs
 pub use Rattle.scc_table.specs.Places

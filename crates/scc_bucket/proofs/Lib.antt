@@ -1,5 +1,4 @@
 pub mod Lists
-pub mod Remove
 pub mod Search
 pub mod Swaps
 pub mod WalkLemmas

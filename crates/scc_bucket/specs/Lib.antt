@@ -1,4 +1,3 @@
-pub mod LendsBucket
 pub mod Shelf
 pub mod ShelfWrites
 pub mod Walks

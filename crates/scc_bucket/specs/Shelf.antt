@@ -10,12 +10,6 @@ pub record Shelf (E : Type 0) : Type 0 where
   pub overflow : List E
   pub room : ℕ
 
--- of the fields of a bucket
-pub record IsShelf (lanes count room : ℕ) : Type 0 where
-  pub lanes_are : lanes ≡ 32
-  pub within : count ≤ 32
-  pub reserved : 32 ≤ room
-
 abbrev pub shelf_code : {E : Type 0} → Coded E → Coded (Shelf E)
 shelf_code {E} c =
     code_by (List E × (List ℕ × (List E × ℕ))) (coded× (coded_list c) (coded× (coded_list coded_ℕ) (coded× (coded_list c) coded_ℕ)))

@@ -1,4 +1,3 @@
-pub use Rattle.scc_bucket.specs.LendsBucket
 pub use Rattle.scc_bucket.specs.Shelf
 pub use Rattle.scc_bucket.specs.ShelfWrites
 pub use Rattle.scc_bucket.specs.Walks

@@ -12,7 +12,7 @@ pub mod versions;
 pub mod walks;
 
 pub use place::Place;
-pub use scc_bucket::{Bucket, Keyed, Made, Valued, bucket, keyed, made, tags, valued};
+pub use scc_bucket::{Keyed, Made, Valued, keyed, made, tags, valued};
 pub use scc_common::{
     Guard, InsertError, KeyError, MakeError, Reservation, Share, Shared, SharedVersion, Verdict,
     Version, WalkError, errors, guard, reservation, shared, verdict, version,

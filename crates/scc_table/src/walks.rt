@@ -7,7 +7,6 @@ ghost use Rattle.scc_table.specs.Contents.{entries};
 
 use crate::table::Table;
 use scc_array::Array;
-pub use scc_bucket::walks::walk_pairs;
 use std::hash::{BuildHasher, Hash};
 
 /// Calls `f` on a bucket's pairs in turn, until its first false. The answer is false where it stopped.
