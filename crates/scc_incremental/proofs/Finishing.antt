@@ -12,7 +12,7 @@ set-down (w ∷ ws) zero (suc k) h = h
 set-down (w ∷ ws) (suc i) zero h = h
 set-down (w ∷ ws) (suc i) (suc k) h = set-down ws i k h
 
-settle-down : (ws : List Bool) (i k : ℕ) → waits_at (settle ws i) k ≡ true → waits_at ws k ≡ true
+pub settle-down : (ws : List Bool) (i k : ℕ) → waits_at (settle ws i) k ≡ true → waits_at ws k ≡ true
 settle-down ws i k h =
     by_answer (count_by (λ w. w) (set ws i false) == 0)
     (λ q. let z : waits_at [] k ≡ true = rw q at h in absurd (let y : false ≡ true = z in cc))

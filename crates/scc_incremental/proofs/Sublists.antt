@@ -8,11 +8,11 @@ pub data Sub {X : Type 0} : List X → List X → Type 0 where
   keep : {x : X} {xs ys : List X} → Sub xs ys → Sub (x ∷ xs) (x ∷ ys)
   skip : {y : X} {xs ys : List X} → Sub xs ys → Sub xs (y ∷ ys)
 
-keep_all : {X : Type 0} (zs : List X) {xs ys : List X} → Sub xs ys → Sub (zs ++ xs) (zs ++ ys)
+pub keep_all : {X : Type 0} (zs : List X) {xs ys : List X} → Sub xs ys → Sub (zs ++ xs) (zs ++ ys)
 keep_all [] s = s
 keep_all (z ∷ zs) s = keep (keep_all zs s)
 
-skip_all : {X : Type 0} (zs : List X) {xs ys : List X} → Sub xs ys → Sub xs (zs ++ ys)
+pub skip_all : {X : Type 0} (zs : List X) {xs ys : List X} → Sub xs ys → Sub xs (zs ++ ys)
 skip_all [] s = s
 skip_all (z ∷ zs) s = skip (skip_all zs s)
 

@@ -1,10 +1,25 @@
 //! A table of two arrays, of which the old one drains.
-ghost use Rattle.std.specs.Prelude.{◌≡◌, ◌<◌, ◌↔◌, true, IsTrue};
+ghost use Rattle.std.specs.Prelude.{◌≡◌, ◌<◌, ◌≤◌, ◌^◌, ◌↔◌, true, IsTrue};
 ghost use Rattle.scc_table.specs.Contents.{bucket_count, pending_of, refused_of};
 ghost use Rattle.scc_table.specs.Sizes.{IsLawful};
 ghost use Rattle.scc_incremental.specs.TwoArrays.{IsWaiting};
 
+mod cloning;
+mod inserting;
+mod lasting;
+mod making;
+mod pairs;
+mod reading;
 mod relocating;
+mod removing;
+mod reserving;
+mod searching;
+mod shrinking;
+mod starting;
+mod steps;
+mod taking;
+mod walking;
+mod writing;
 
 use scc_array::Array;
 use scc_table::{Keyed, Table};
@@ -12,6 +27,7 @@ use std::hash::{BuildHasher, Hash};
 use std::marker::Model;
 
 /// Entries with distinct keys, in the buckets of an array, or of an old one where their bucket waits for them. A container sees one list for each bucket, wherever its entries lie.
+#[derive(Drop)]
 pub struct Incremental<E: Keyed, H: BuildHasher>
 where
     E::Key: Eq + Hash,
@@ -50,6 +66,7 @@ where
     #[inline(always)]
     pub fn bucket_count(&self) -> usize
         ensures count { result ≡ bucket_count self.now }
+        ensures most { result ≤ 2 ^ 58 }
         ensures lawful { IsLawful result }
     {
         self.current.bucket_count()

@@ -17,7 +17,7 @@ use std::alloc::AllocError;
 use std::hash::{BuildHasher, Hash};
 
 /// How many entries may lie in the overflow lists of both arrays: fewer than this.
-const OVERFLOW_LIMIT: usize = 1 << 62;
+pub(crate) const OVERFLOW_LIMIT: usize = 1 << 62;
 
 /// Moves the entries of one old bucket that belong to the target to the end of the bucket of that number, in order. It has room for them, so no memory is taken. The others stay in their order. `table` has the hasher.
 pub(crate) fn pull<E: Keyed, H: BuildHasher>(

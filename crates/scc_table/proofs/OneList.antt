@@ -51,6 +51,12 @@ module _ {E S : Type 0} (bs : List (Shelf E)) (s : Settings S) {f : Bool} (c : C
           | yes q ↦ let o = (push.0 q).0 in omega arith
           | no q ↦ let o = (push.1 (omega arith)).0 in omega arith
         ]);
+        short = λ few.
+            let p = place_le b in
+            let n = ap length here in
+            let o = (push.0 (omega arith)).0 in
+            let z = one-spilled d 0 (omega arith) in
+            omega arith;
       }
 
   pub same-in-lists : (d : Shelf E) → d ≡ record b { room = d.room } → HasSameLists c (view_of f (set bs i d) s)

@@ -1,5 +1,5 @@
 -- What a call changes of one list.
-use Rattle.std.specs.Prelude.{◌≡◌, ℕ, ◌+◌, ◌≤◌, List, length, slice_set, remove}
+use Rattle.std.specs.Prelude.{◌≡◌, ℕ, ◌+◌, ◌<◌, ◌≤◌, List, length, slice_set, remove}
 use Rattle.std.specs.List.{insert}
 use Rattle.std.specs.List.Sorted.{IsPermutation}
 use Rattle.scc_table.specs.Contents.{Contents, list_of, lists_of, settings_of, refused_of, spilled_of}
@@ -14,6 +14,7 @@ module _ {E S : Type 0} where
     pub settings : settings_of d ≡ settings_of c
     pub refused : refused_of d ≡ refused_of c
     pub spilled : spilled_of d ≤ spilled_of c + 1
+    pub short : length (list_of c i) < 32 → spilled_of d ≤ spilled_of c
 
   -- lists, settings and the note of refused memory are those of c, with no more entries in overflow lists
   pub record HasSameLists (c d : Contents E S) : Type 0 where

@@ -1,0 +1,22 @@
+use Rattle.std.proofs.Common.{◌∙◌, ◌+◌, ◌^◌, ◌≤◌, ap, subst}
+use Rattle.scc_table.specs.Contents.{bucket_count, key_hash, settings_of}
+use Rattle.scc_table.specs.Hashing.{hash_of}
+use Rattle.scc_table.specs.Routing.{bucket_number}
+use Rattle.scc_incremental.proofs.Seen.{count-seen, settings-seen}
+use Rattle.scc_incremental.proofs.incremental.Incremental.reserved.Goals as goal
+
+pub returns-clause-value : goal.returns-clause-value
+returns-clause-value g c =
+    let t = c.self.inside in
+    let hk = key_hash g.H.BuildHasher g.H.Hasher.Hasher g.E.Key.Hash.hash_input t.current in
+    let hash = λ (e : g.row.E.Denot). hk (g.E.Keyed.key_of e) in
+    let set = settings-seen hash t.current t.waiting.items t.draining c.args.self.now c.self.view_is in
+    c.reserved.ensures.value ∙ ap (λ s. s.reserved) set
+
+pub returns-clause-most : goal.returns-clause-most
+returns-clause-most g c =
+    let t = c.self.inside in
+    let hk = key_hash g.H.BuildHasher g.H.Hasher.Hasher g.E.Key.Hash.hash_input t.current in
+    let hash = λ (e : g.row.E.Denot). hk (g.E.Keyed.key_of e) in
+    let set = settings-seen hash t.current t.waiting.items t.draining c.args.self.now c.self.view_is in
+    subst (λ s. s.asked + s.reserved ≤ 2 ^ 63) set c.reserved.ensures.most

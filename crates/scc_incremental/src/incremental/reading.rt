@@ -1,0 +1,81 @@
+//! Reads: the entry at a place, the settings, and the number of the bucket of a key.
+ghost use Rattle.std.specs.Prelude.{◌≡◌, ◌≤◌, ◌<◌, ◌^◌, length, Some, slice_get};
+ghost use Rattle.scc_table.specs.Contents.{entries, bucket_count, bucket_of, key_hash, minimum_of, settings_of, IsUniqueBy};
+ghost use Rattle.scc_table.specs.Routing.{bucket_number};
+ghost use Rattle.scc_incremental.specs.Places.{IsPlace, index_of};
+
+use super::Incremental;
+use scc_table::{Keyed, Place};
+use std::hash::{BuildHasher, Hash};
+
+impl<E: Keyed, H: BuildHasher> Incremental<E, H>
+where
+    E::Key: Eq + Hash,
+{
+    /// The number of entries.
+    #[inline(always)]
+    pub fn len(&self) -> usize
+        ensures len { result ≡ length (entries self.now) }
+        ensures unique { IsUniqueBy E.Key.eq E.key_of self.now }
+    {
+        let _ = self.current.bucket_count();
+        self.current.len() + self.held
+    }
+
+    /// The entry at the place.
+    #[inline(always)]
+    pub fn entry_at(&self, place: Place) -> &E
+        requires { IsPlace self.now place }
+        ensures { slice_get (entries self.now) (index_of self.now place) ≡ Some result.now }
+    {
+        let count = self.current.bucket_count();
+        if place.bucket < count {
+            return self.current.entry_in(place);
+        }
+        self.draining.entry_at(place.bucket - count, place.slot)
+    }
+
+    /// The hash of a key under the table's hasher.
+    #[inline(always)]
+    pub fn hash(&self, key: &E::Key) -> u64
+        ensures { result ≡ key_hash H.BuildHasher H.Hasher.Hasher E.Key.hash_input self.now key.now }
+    {
+        self.current.hash(key)
+    }
+
+    /// The number of the bucket of a key, 0 where there is no array.
+    pub fn bucket_index(&self, key: &E::Key) -> usize
+        ensures { result ≡ bucket_of (key_hash H.BuildHasher H.Hasher.Hasher E.Key.hash_input self.now) self.now key.now }
+    {
+        self.current.bucket_index(key)
+    }
+
+    /// The number of the bucket of a hash, 0 where there is no array.
+    #[inline(always)]
+    pub fn bucket_at(&self, hash: u64) -> usize
+        ensures value { result ≡ bucket_number (settings_of self.now).skipped (bucket_count self.now) hash }
+        ensures within { 0 < bucket_count self.now → result < bucket_count self.now }
+    {
+        self.current.bucket_at(hash)
+    }
+
+    /// The slots that the array keeps at least: those asked for at making, and those reserved.
+    #[inline(always)]
+    pub fn minimum(&self) -> usize
+        ensures value { result ≡ minimum_of self.now }
+        ensures most { result ≤ 2 ^ 63 }
+        ensures unique { IsUniqueBy E.Key.eq E.key_of self.now }
+    {
+        self.current.minimum()
+    }
+
+    /// The slots reserved and not given back.
+    #[inline(always)]
+    pub fn reserved(&self) -> usize
+        ensures value { result ≡ (settings_of self.now).reserved }
+        ensures most { minimum_of self.now ≤ 2 ^ 63 }
+        ensures unique { IsUniqueBy E.Key.eq E.key_of self.now }
+    {
+        self.current.reserved()
+    }
+}
