@@ -7,10 +7,13 @@ pub mod Counted
 pub mod CurrentChanges
 pub mod Draining
 pub mod Finishing
+pub mod Firsts
+pub mod FoundInList
 pub mod Gathered
 pub mod Inserted
 pub mod JoinedChanges
 pub mod Joining
+pub mod Listed
 pub mod Listing
 pub mod MappedPlaces
 pub mod Nexts

@@ -87,3 +87,8 @@ if-err (Err y) f p = f y p
 pub by-answer : {X Y : Type 0} {P : X → Type 0} {Q R : Type 0} (r : Result X Y) → IfOk r P → OnErr r Q → ((x : X) → P x → R) → (Q → R) → R
 by-answer (Ok x) p q f h = f x p
 by-answer (Err y) p q f h = h q
+
+-- what holds anyway holds of a refusal
+pub any-err : {X Y P : Type 0} (r : Result X Y) → P → OnErr r P
+any-err (Ok x) p = tt
+any-err (Err y) p = p

@@ -1,10 +1,10 @@
 //! How new keys get into a table of two arrays.
-ghost use Rattle.std.specs.Prelude.{◌≡◌, ◌≤◌, ◌<◌, ◌+◌, ◌-◌, ◌^◌, ◌⊎◌, ℕ, false, None, drop, IsTrue, IfOk, IfErr, OnOk, OnErr};
+ghost use Rattle.std.specs.Prelude.{◌≡◌, ◌≢◌, ◌≤◌, ◌<◌, ◌+◌, ◌-◌, ◌^◌, ◌⊎◌, ℕ, false, None, drop, IsTrue, IfOk, IfErr, OnOk, OnErr};
 ghost use Rattle.std.specs.List.{position};
 ghost use Rattle.scc_table.specs.Contents.{entries, bucket_count, held_of, key_hash, lists_of, pending_of, refused_of, settings_of, waiting_of, HasRoomBy, IsUniqueBy};
 ghost use Rattle.scc_table.specs.OneList.{HasSameLists, IsPutIn};
 ghost use Rattle.scc_table.specs.Routing.{bucket_number};
-ghost use Rattle.scc_table.specs.Steps.{IsUnchanged};
+ghost use Rattle.scc_table.specs.Steps.{FirstArrayWhenDue, Grows, GrowsWhenDue, IsUnchanged, Rests};
 ghost use Rattle.scc_incremental.specs.Places.{IsInsertedAt};
 ghost use Rattle.scc_incremental.specs.Relocates.{AreShort, left_after};
 ghost use Rattle.scc_incremental.specs.TwoArrays.{IsWaiting, pending_targets, waits_at};
@@ -27,6 +27,33 @@ impl<E: Keyed, H: BuildHasher> Incremental<E, H>
 where
     E::Key: Eq + Hash,
 {
+    /// Puts in an entry whose key is new, and answers its place. Its bucket takes its own entries over first where it waits, and then the first ones that wait do, two in all. Where no bucket waits, that one holds 32 entries or more and the table at least half as many entries as slots, the number of buckets is doubled first, if memory can be had: every bucket of the new array waits then. The entry is handed back where there is no array and none can be had, where memory for its bucket's entries that waited is refused, or where its bucket is full and the overflow list can't grow.
+    pub fn insert_new(&mut self, hash: u64, entry: E) -> Result<Place, E>
+        requires hashed { hash ≡ key_hash H.BuildHasher H.Hasher.Hasher E.Key.hash_input self.old (E.key_of entry) }
+        requires absent { position (λ e. E.Key.eq (E.key_of entry) (E.key_of e)) (entries self.old) ≡ None }
+        ensures ok { IfOk result (IsInsertedAt self.old entry self.new) }
+        ensures err { IfErr result (λ e. (e ≡ entry) × Rests self.old self.new) }
+        ensures full { OnErr result (HasRoomBy (key_hash H.BuildHasher H.Hasher.Hasher E.Key.hash_input self.old) E.key_of self.old (E.key_of entry) → ⊥) }
+        ensures growth { Grows self.old self.new }
+        ensures due { GrowsWhenDue (key_hash H.BuildHasher H.Hasher.Hasher E.Key.hash_input self.old) E.key_of self.old (E.key_of entry) self.new }
+        ensures first { OnOk result (FirstArrayWhenDue self.old self.new) }
+        ensures none { OnErr result (bucket_count self.old ≡ 0 → IsUnchanged self.old self.new) }
+        ensures kept { HasRoomBy (key_hash H.BuildHasher H.Hasher.Hasher E.Key.hash_input self.old) E.key_of self.old (E.key_of entry) → bucket_count self.new ≡ bucket_count self.old }
+        ensures fewer { 0 < bucket_count self.old → bucket_count self.new ≡ bucket_count self.old → (i : ℕ) → IsWaiting self.new i → IsWaiting self.old i }
+        ensures less { 0 < bucket_count self.old → bucket_count self.new ≡ bucket_count self.old → pending_of self.new ≤ pending_of self.old }
+        ensures most { 0 < bucket_count self.old → bucket_count self.new ≡ bucket_count self.old → pending_of self.old ≤ pending_of self.new + 2 }
+        ensures grown { 0 < bucket_count self.old → bucket_count self.new ≢ bucket_count self.old → bucket_count self.new ≤ pending_of self.new + 2 }
+        ensures array { bucket_count self.old ≡ 0 → pending_of self.new ≡ 0 }
+        ensures settled { OnOk result (waits_at (waiting_of self.new) (bucket_number (settings_of self.old).skipped (bucket_count self.new) hash) ≡ false) }
+        ensures exact { OnOk result (0 < bucket_count self.old → bucket_count self.new ≡ bucket_count self.old → AreShort self.old → pending_targets self.new ≡ left_after (bucket_number (settings_of self.old).skipped (bucket_count self.old) hash) (pending_targets self.old)) }
+        ensures unique { IsUniqueBy E.Key.eq E.key_of self.new }
+    {
+        match self.bucket_for_new(hash) {
+            Ok(bucket) => self.insert_at(bucket, hash, entry),
+            Err(_) => Err(entry),
+        }
+    }
+
     /// Puts in an entry whose key is new, into that bucket, the one of the hash, and answers its place. Where that bucket waits, it takes its entries over first, and then the first ones that wait, two in all. The entry is handed back where memory for its own bucket is refused.
     fn insert_at(&mut self, bucket: usize, hash: u64, entry: E) -> Result<Place, E>
         requires within { bucket < bucket_count self.old }

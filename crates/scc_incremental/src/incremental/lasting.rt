@@ -1,13 +1,15 @@
-//! One list of a bucket that doesn't wait, in the order of its entries, in a table whose lists hold at most 32 entries each, none of them in an overflow list.
-ghost use Rattle.std.specs.Prelude.{◌≡◌, ◌<◌, ◌++◌, [], ◌∷◌, length, None, Some, slice_get, remove};
+//! Entries in the lists of their buckets, and lists of buckets that don't wait, in a table whose lists hold at most 32 entries each, none of them in an overflow list.
+ghost use Rattle.std.specs.Prelude.{◌≡◌, ◌<◌, ◌++◌, [], ◌∷◌, length, None, Some, slice_get, remove, MatchOption};
 ghost use Rattle.std.specs.List.{position};
-ghost use Rattle.scc_table.specs.Bounded.{HasList, IsBounded, IsListed, PutsLast};
+ghost use Rattle.scc_table.specs.Bounded.{HasList, IsBounded, IsListed, IsUnlisted, PutsLast};
 ghost use Rattle.scc_table.specs.Contents.{entries, bucket_count, list_of, settings_of, waiting_of, held_of, key_hash, IsUniqueBy};
 ghost use Rattle.scc_table.specs.Routing.{bucket_number};
+ghost use Rattle.scc_incremental.specs.Bounded.{IsListedAt};
+ghost use Rattle.scc_incremental.specs.Places.{IsPlace, spot_of};
 ghost use Rattle.scc_incremental.specs.TwoArrays.{IsWaiting};
 
 use super::Incremental;
-use scc_table::Keyed;
+use scc_table::{Keyed, Place};
 use std::hash::{BuildHasher, Hash};
 
 impl<E: Keyed, H: BuildHasher> Incremental<E, H>
@@ -63,5 +65,25 @@ where
         ensures unique { IsUniqueBy E.Key.eq E.key_of self.new }
     {
         self.current.touch(bucket, slot, hash);
+    }
+
+    /// Where the entry with that key stands in the list of its bucket. `hash` is the key's hash.
+    #[inline(always)]
+    pub fn find_in(&self, hash: u64, key: &E::Key) -> Option<Place>
+        requires { hash ≡ key_hash H.BuildHasher H.Hasher.Hasher E.Key.hash_input self.now key.now }
+        ensures { MatchOption result (IsUnlisted (λ e. E.Key.eq key.now (E.key_of e)) self.now (bucket_number (settings_of self.now).skipped (bucket_count self.now) hash)) (IsListedAt (λ e. E.Key.eq key.now (E.key_of e)) self.now (bucket_number (settings_of self.now).skipped (bucket_count self.now) hash)) }
+    {
+        self.keep_lists();
+        let _ = self.bucket_at(hash);
+        self.search(hash, key)
+    }
+
+    /// The entry at the place, seen in the list of its bucket.
+    #[inline(always)]
+    pub fn entry_in(&self, place: Place) -> &E
+        requires { IsPlace self.now place }
+        ensures { slice_get (list_of self.now (spot_of self.now place).bucket) (spot_of self.now place).slot ≡ Some result.now }
+    {
+        self.entry_at(place)
     }
 }

@@ -1,10 +1,11 @@
 //! Reads: the entry at a place, the settings, and the number of the bucket of a key.
-ghost use Rattle.std.specs.Prelude.{◌≡◌, ◌≤◌, ◌<◌, ◌^◌, length, Some, slice_get};
-ghost use Rattle.scc_table.specs.Contents.{entries, bucket_count, bucket_of, key_hash, minimum_of, settings_of, IsUniqueBy};
+ghost use Rattle.std.specs.Prelude.{◌≡◌, ◌≤◌, ◌<◌, ◌^◌, ◌↔◌, length, Some, IsTrue, slice_get};
+ghost use Rattle.scc_table.specs.Contents.{entries, bucket_count, bucket_of, key_hash, list_of, minimum_of, settings_of, HasRoomBy, IsUniqueBy};
 ghost use Rattle.scc_table.specs.Routing.{bucket_number};
 ghost use Rattle.scc_incremental.specs.Places.{IsPlace, index_of};
 
 use super::Incremental;
+use crate::moving::{count_all, sources};
 use scc_table::{Keyed, Place};
 use std::hash::{BuildHasher, Hash};
 
@@ -57,6 +58,38 @@ where
         ensures within { 0 < bucket_count self.now → result < bucket_count self.now }
     {
         self.current.bucket_at(hash)
+    }
+
+    /// How many entries the bucket holds, wherever they lie. For one that waits it takes time by the number of entries in the old buckets that hold them.
+    pub fn list_len(&self, bucket: usize) -> usize
+        requires { bucket < bucket_count self.now }
+        ensures { result ≡ length (list_of self.now bucket) }
+    {
+        if self.is_waiting(bucket) {
+            let count = self.current.bucket_count();
+            let (first, last) = sources(self.draining.len(), count, bucket);
+            return count_all(
+                &self.draining,
+                first,
+                last,
+                bucket,
+                &self.current,
+                self.skipped,
+                count,
+            );
+        }
+        self.current.list_len(bucket)
+    }
+
+    /// Whether there is an array, and the bucket of the key holds fewer than 32 entries: then an insertion of the key takes no memory.
+    pub fn has_room(&self, key: &E::Key) -> bool
+        ensures { IsTrue result ↔ HasRoomBy (key_hash H.BuildHasher H.Hasher.Hasher E.Key.hash_input self.now) E.key_of self.now key.now }
+    {
+        if self.bucket_count() == 0 {
+            return false;
+        }
+        self.keep_lists();
+        self.list_len(self.bucket_index(key)) < 32
     }
 
     /// The slots that the array keeps at least: those asked for at making, and those reserved.

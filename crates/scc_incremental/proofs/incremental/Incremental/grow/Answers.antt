@@ -1,0 +1,52 @@
+use Rattle.std.proofs.Common.{◌≡◌, ◌≢◌, ◌∙◌, ◌*◌, inl, inr, replicate, true, sym, ap, subst, arith}
+use Rattle.scc_table.specs.Contents.{bucket_count, key_hash, waiting_of}
+use Rattle.scc_table.specs.Pour.{IsRegrouped}
+use Rattle.scc_table.proofs.Powers.{double-array}
+use Rattle.scc_table.proofs.Resizes.{regrouped-resizes}
+use Rattle.scc_incremental.proofs.Same.{count-same, unchanged-same}
+use Rattle.scc_incremental.proofs.incremental.Incremental.grow.Goals as goal
+
+pub start-requires-clause-array : goal.start-requires-clause-array
+start-requires-clause-array g c = double-array c.bucket_count-count.result c.bucket_count-count.ensures.lawful (omega (arith, c.requires.some, c.bucket_count-count.ensures.count)) (omega arith)
+
+pub start-requires-clause-other : goal.start-requires-clause-other
+start-requires-clause-other g c = λ e. absurd (omega (arith, c.requires.some, c.bucket_count-count.ensures.count))
+
+pub returns-in-Ok-clause-rests : goal.returns-in-Ok-clause-rests
+returns-in-Ok-clause-rests g c =
+    let array = double-array c.bucket_count-count.result c.bucket_count-count.ensures.lawful (omega (arith, c.requires.some, c.bucket_count-count.ensures.count)) (omega arith) in
+    inr (
+      λ z. let n = c.in-Ok.ensures.lists.count in absurd (omega (arith, c.requires.some, c.bucket_count-count.ensures.count)),
+      regrouped-resizes _ (2 * c.bucket_count-count.result) c.args.self.now c.start.new.self c.in-Ok.ensures.lists c.in-Ok.ensures.same array (λ less. absurd (omega (arith, c.bucket_count-count.ensures.count))),
+    )
+
+pub returns-in-Ok-clause-all : goal.returns-in-Ok-clause-all
+returns-in-Ok-clause-all g c = λ ne. c.in-Ok.ensures.waiting ∙ ap (λ n. replicate n true) (sym c.in-Ok.ensures.lists.count)
+
+pub returns-in-Ok-clause-lists : goal.returns-in-Ok-clause-lists
+returns-in-Ok-clause-lists g c =
+    let hash = λ (e : g.row.E.Denot). key_hash g.H.BuildHasher g.H.Hasher.Hasher g.E.Key.Hash.hash_input c.args.self.now (g.E.Keyed.key_of e) in
+    λ ne. subst (λ n. IsRegrouped hash n c.args.self.now c.start.new.self) (sym c.in-Ok.ensures.lists.count) c.in-Ok.ensures.lists
+
+pub returns-in-Ok-clause-waiting : goal.returns-in-Ok-clause-waiting
+returns-in-Ok-clause-waiting g c = let n = c.in-Ok.ensures.lists.count in λ z. absurd (omega (arith, c.requires.some, c.bucket_count-count.ensures.count))
+
+pub returns-in-Err-clause-rests : goal.returns-in-Err-clause-rests
+returns-in-Err-clause-rests g c = inl (unchanged-same c.args.self.now c.start.new.self c.in-Err.ensures.err c.in-Err.ensures.settings)
+
+pub returns-in-Err-clause-growth : goal.returns-in-Err-clause-growth
+returns-in-Err-clause-growth g c =
+    let same = count-same c.args.self.now c.start.new.self c.in-Err.ensures.err in
+    record { first = λ z ne. absurd (ne same); half = λ z ne. absurd (ne same); below = λ z ne. absurd (ne same); doubled = λ z ne. absurd (ne same) }
+
+pub returns-in-Err-clause-all : goal.returns-in-Err-clause-all
+returns-in-Err-clause-all g c = λ ne. absurd (ne (count-same c.args.self.now c.start.new.self c.in-Err.ensures.err))
+
+pub returns-in-Err-clause-lists : goal.returns-in-Err-clause-lists
+returns-in-Err-clause-lists g c = λ ne. absurd (ne (count-same c.args.self.now c.start.new.self c.in-Err.ensures.err))
+
+pub returns-in-Err-clause-array : goal.returns-in-Err-clause-array
+returns-in-Err-clause-array g c = let same = count-same c.args.self.now c.start.new.self c.in-Err.ensures.err in omega (arith, c.requires.some)
+
+pub returns-in-Ok-clause-stays : goal.returns-in-Ok-clause-stays
+returns-in-Ok-clause-stays g c = let n = c.in-Ok.ensures.lists.count in λ z. absurd (omega (arith, c.requires.some, c.bucket_count-count.ensures.count))

@@ -1,0 +1,95 @@
+//! How a table of two arrays gets room for a new key.
+ghost use Rattle.std.specs.Prelude.{◌≡◌, ◌≢◌, ◌≤◌, ◌<◌, ◌*◌, ◌^◌, [], false, true, length, replicate, IfOk, OnOk, OnErr};
+ghost use Rattle.scc_table.specs.Contents.{entries, bucket_count, key_hash, lists_of, pending_of, refused_of, settings_of, waiting_of, HasRoomAt, IsUniqueBy};
+ghost use Rattle.scc_table.specs.Pour.{IsRegrouped};
+ghost use Rattle.scc_table.specs.Routing.{bucket_number};
+ghost use Rattle.scc_table.specs.Steps.{FirstArrayWhenDue, Grows, IsUnchanged, Rests};
+
+use super::Incremental;
+use scc_table::Keyed;
+use scc_table::sizes::MOST_BUCKETS;
+use std::alloc::AllocError;
+use std::hash::{BuildHasher, Hash};
+
+impl<E: Keyed, H: BuildHasher> Incremental<E, H>
+where
+    E::Key: Eq + Hash,
+{
+    /// The bucket for a new key of that hash. An array is made where there is none, and doubled where no bucket waits, that one holds 32 entries or more and the table at least half as many entries as slots.
+    pub(super) fn bucket_for_new(&mut self, hash: u64) -> Result<usize, AllocError>
+        ensures rests { Rests self.old self.new }
+        ensures growth { Grows self.old self.new }
+        ensures within { IfOk result (λ i. i < bucket_count self.new) }
+        ensures routed { IfOk result (λ i. i ≡ bucket_number (settings_of self.new).skipped (bucket_count self.new) hash) }
+        ensures still { HasRoomAt (key_hash H.BuildHasher H.Hasher.Hasher E.Key.hash_input self.old) E.key_of self.old hash → self.new ≡ self.old }
+        ensures due { 0 < bucket_count self.old → pending_of self.old ≡ 0 → (HasRoomAt (key_hash H.BuildHasher H.Hasher.Hasher E.Key.hash_input self.old) E.key_of self.old hash → ⊥) → 32 * bucket_count self.old ≤ 2 * length (entries self.old) → 32 * bucket_count self.old < 2 ^ 63 → refused_of self.new ≡ false → bucket_count self.new ≡ 2 * bucket_count self.old }
+        ensures raised { refused_of self.old ≡ false → refused_of self.new ≡ true → (0 < bucket_count self.old) × (HasRoomAt (key_hash H.BuildHasher H.Hasher.Hasher E.Key.hash_input self.old) E.key_of self.old hash → ⊥) × (32 * bucket_count self.old ≤ 2 * length (entries self.old)) × (32 * bucket_count self.old < 2 ^ 63) }
+        ensures first { OnOk result (FirstArrayWhenDue self.old self.new) }
+        ensures bare { bucket_count self.old ≡ 0 → entries self.new ≡ [] }
+        ensures settled { bucket_count self.old ≡ 0 → waiting_of self.new ≡ [] }
+        ensures stays { 0 < bucket_count self.old → bucket_count self.new ≡ bucket_count self.old → lists_of self.new ≡ lists_of self.old }
+        ensures waiting { 0 < bucket_count self.old → bucket_count self.new ≡ bucket_count self.old → waiting_of self.new ≡ waiting_of self.old }
+        ensures all { 0 < bucket_count self.old → bucket_count self.new ≢ bucket_count self.old → waiting_of self.new ≡ replicate (bucket_count self.new) true }
+        ensures none { OnErr result (bucket_count self.old ≡ 0) }
+        ensures refused { OnErr result (IsUnchanged self.old self.new) }
+        ensures unique { IsUniqueBy E.Key.eq E.key_of self.new }
+    {
+        self.keep_lists();
+        if self.bucket_count() == 0 {
+            self.make_array()?;
+            return Ok(self.bucket_at(hash));
+        }
+        let bucket = self.bucket_at(hash);
+        if self.pending() > 0 {
+            return Ok(bucket);
+        }
+        if self.list_len(bucket) < 32 {
+            return Ok(bucket);
+        }
+        self.grow();
+        Ok(self.bucket_at(hash))
+    }
+
+    /// Doubles the number of buckets where no bucket waits and at least half as many entries as slots are held, unless the array is the greatest or memory is refused: then every bucket of the new array waits. Takes time by the number of buckets.
+    fn grow(&mut self)
+        requires some { 0 < bucket_count self.old }
+        requires settled { pending_of self.old ≡ 0 }
+        ensures rests { Rests self.old self.new }
+        ensures growth { Grows self.old self.new }
+        ensures due { 32 * bucket_count self.old ≤ 2 * length (entries self.old) → 32 * bucket_count self.old < 2 ^ 63 → refused_of self.new ≡ false → bucket_count self.new ≡ 2 * bucket_count self.old }
+        ensures raised { refused_of self.old ≡ false → refused_of self.new ≡ true → (32 * bucket_count self.old ≤ 2 * length (entries self.old)) × (32 * bucket_count self.old < 2 ^ 63) }
+        ensures stays { bucket_count self.new ≡ bucket_count self.old → lists_of self.new ≡ lists_of self.old }
+        ensures waiting { bucket_count self.new ≡ bucket_count self.old → waiting_of self.new ≡ waiting_of self.old }
+        ensures all { bucket_count self.new ≢ bucket_count self.old → waiting_of self.new ≡ replicate (bucket_count self.new) true }
+        ensures lists { bucket_count self.new ≢ bucket_count self.old → IsRegrouped (λ e. key_hash H.BuildHasher H.Hasher.Hasher E.Key.hash_input self.old (E.key_of e)) (bucket_count self.new) self.old self.new }
+        ensures array { 0 < bucket_count self.new }
+        ensures unique { IsUniqueBy E.Key.eq E.key_of self.new }
+    {
+        let count = self.bucket_count();
+        let length = self.len();
+        if length < 16 * count || count >= MOST_BUCKETS {
+            return;
+        }
+        match self.start(2 * count) {
+            Ok(()) => {}
+            Err(_) => {}
+        }
+    }
+
+    /// Makes the first array, of the size of the minimum. None of its buckets waits.
+    fn make_array(&mut self) -> Result<(), AllocError>
+        requires { bucket_count self.old ≡ 0 }
+        ensures rests { Rests self.old self.new }
+        ensures growth { Grows self.old self.new }
+        ensures noted { refused_of self.new ≡ refused_of self.old }
+        ensures first { OnOk result (FirstArrayWhenDue self.old self.new) }
+        ensures array { OnOk result (0 < bucket_count self.new) }
+        ensures bare { entries self.new ≡ [] }
+        ensures waiting { waiting_of self.new ≡ [] }
+        ensures refused { OnErr result (IsUnchanged self.old self.new) }
+        ensures unique { IsUniqueBy E.Key.eq E.key_of self.new }
+    {
+        self.current.make_array()?;
+        Ok(())
+    }
+}
