@@ -4,6 +4,7 @@ ghost use Rattle.scc_table.specs.Contents.{entries, bucket_count, minimum_of, pe
 ghost use Rattle.scc_table.specs.Sizes.{IsSmaller};
 ghost use Rattle.scc_table.specs.Steps.{Holds, ShrinksWhenDue};
 ghost use Rattle.scc_incremental.specs.Places.{IsPlace, index_of};
+ghost use Rattle.scc_incremental.specs.TwoArrays.{IsWaiting};
 
 use super::Incremental;
 use scc_table::{Keyed, Place};
@@ -13,7 +14,7 @@ impl<E: Keyed, H: BuildHasher> Incremental<E, H>
 where
     E::Key: Eq + Hash,
 {
-    /// Takes the entry out of its place. The others stay, maybe in other places: where few are left, the array may become smaller. No bucket takes entries over by a removal alone.
+    /// Takes the entry out of its place. The others stay, maybe in other places: where few are left, the array may become smaller, and then every bucket of the new one waits. Where that is not due, the same buckets wait as before.
     pub fn remove_at(&mut self, place: Place) -> E
         requires { IsPlace self.old place }
         ensures entry { slice_get (entries self.old) (index_of self.old place) ≡ Some result }
@@ -21,6 +22,7 @@ where
         ensures smaller { bucket_count self.new ≢ bucket_count self.old → IsSmaller (minimum_of self.old) (length (entries self.new)) (bucket_count self.old) (bucket_count self.new) }
         ensures due { ShrinksWhenDue self.old self.new }
         ensures all { bucket_count self.new ≢ bucket_count self.old → pending_of self.new ≡ bucket_count self.new }
+        ensures fewer { bucket_count self.new ≡ bucket_count self.old → (i : ℕ) → IsWaiting self.new i → IsWaiting self.old i }
         ensures less { bucket_count self.new ≡ bucket_count self.old → pending_of self.new ≤ pending_of self.old }
         ensures waiting { ((n : ℕ) → IsSmaller (minimum_of self.old) (length (entries self.new)) (bucket_count self.old) n → ⊥) → waiting_of self.new ≡ waiting_of self.old }
         ensures unique { IsUniqueBy E.Key.eq E.key_of self.new }

@@ -1,10 +1,11 @@
-use Rattle.std.proofs.Common.{◌+◌, ◌≤◌, ◌∙◌, ap, sym, subst, length}
+use Rattle.std.proofs.Common.{◌≡◌, ◌+◌, ◌≤◌, true, ◌∙◌, ap, sym, subst, length}
 use Rattle.std.specs.List.{remove}
 use Rattle.std.proofs.lemmas.List.Sorted.{length_permutation}
 use Rattle.scc_table.specs.Contents.{entries, bucket_count, minimum_of, pending_of}
 use Rattle.scc_table.specs.Sizes.{IsSmaller}
 use Rattle.scc_table.proofs.Resizes.{smaller-by, shrinks-after, then-resized}
 use Rattle.scc_incremental.specs.Places.{index_of}
+use Rattle.scc_incremental.specs.TwoArrays.{waits_at}
 use Rattle.scc_incremental.proofs.Same.{pending-same}
 use Rattle.scc_incremental.proofs.incremental.Incremental.remove_at.Goals as goal
 
@@ -40,3 +41,7 @@ returns-clause-waiting g c =
     (subst (λ m. IsSmaller m (length (entries c.shrink.new.self)) (bucket_count c.args.self.now) due.buckets) minimum
     (subst (λ n. IsSmaller (minimum_of took) n (bucket_count c.args.self.now) due.buckets) same
     (subst (λ n. IsSmaller (minimum_of took) (length (entries took)) n due.buckets) c.swap_take_at-entry.ensures.buckets due.smaller)))) ∙ c.swap_take_at-entry.ensures.waiting
+
+pub returns-clause-fewer : goal.returns-clause-fewer
+returns-clause-fewer g c =
+    λ z i w. subst (λ ws. waits_at ws i ≡ true) c.swap_take_at-entry.ensures.waiting (c.shrink.ensures.spreads.fewer (z ∙ sym c.swap_take_at-entry.ensures.buckets) i w)
