@@ -10,6 +10,7 @@ mod inserting;
 mod lasting;
 mod making;
 mod pairs;
+mod putting;
 mod reading;
 mod relocating;
 mod removing;
