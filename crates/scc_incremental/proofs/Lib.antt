@@ -5,6 +5,7 @@ pub mod Buckets
 pub mod Cloned
 pub mod Counted
 pub mod CurrentChanges
+pub mod Doubling
 pub mod Draining
 pub mod Finishing
 pub mod Firsts

@@ -5,6 +5,7 @@ ghost use Rattle.scc_table.specs.Sizes.{IsLawful};
 ghost use Rattle.scc_incremental.specs.TwoArrays.{IsWaiting};
 
 mod cloning;
+mod doubling;
 mod growing;
 mod inserting;
 mod lasting;

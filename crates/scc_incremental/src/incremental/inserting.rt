@@ -55,7 +55,7 @@ where
     }
 
     /// Puts in an entry whose key is new, into that bucket, the one of the hash, and answers its place. Where that bucket waits, it takes its entries over first, and then the first ones that wait, two in all. The entry is handed back where memory for its own bucket is refused.
-    fn insert_at(&mut self, bucket: usize, hash: u64, entry: E) -> Result<Place, E>
+    pub(super) fn insert_at(&mut self, bucket: usize, hash: u64, entry: E) -> Result<Place, E>
         requires within { bucket < bucket_count self.old }
         requires routed { bucket ≡ bucket_number (settings_of self.old).skipped (bucket_count self.old) hash }
         requires hashed { hash ≡ key_hash H.BuildHasher H.Hasher.Hasher E.Key.hash_input self.old (E.key_of entry) }
