@@ -5,6 +5,7 @@ pub mod Buckets
 pub mod Cloned
 pub mod Counted
 pub mod CurrentChanges
+pub mod Doubling
 pub mod Draining
 pub mod Finishing
 pub mod Firsts
@@ -15,6 +16,7 @@ pub mod JoinedChanges
 pub mod Joining
 pub mod Listed
 pub mod Listing
+pub mod Lone
 pub mod MappedPlaces
 pub mod Nexts
 pub mod Noting
@@ -31,6 +33,7 @@ pub mod Relocating
 pub mod Same
 pub mod Searching
 pub mod Seen
+pub mod Settled
 pub mod Settling
 pub mod Spreading
 pub mod Starting

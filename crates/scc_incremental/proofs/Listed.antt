@@ -42,3 +42,11 @@ count-listed {E} hash d i routed =
     let f : E → ℕ = λ e. bucket_number (settings_of d).skipped (bucket_count d) (hash e) in
     let z : i ≡ 0 + i = omega arith in
     sym (length-filter (λ e. f e == i) (flat_map (λ l. l) d.lists)) ∙ ap length (flat-at f i 0 i d.lists (λ k m e g. let y : k ≡ 0 + k = omega arith in routed.routed k m e g ∙ y) z)
+
+-- those of a bucket are its list
+pub listed-is : {E S : Type 0} (hash : E → ℕ) (d : Contents E S) (i : ℕ) → IsRouted hash d → filter (λ e. bucket_number (settings_of d).skipped (bucket_count d) (hash e) == i) (entries d) ≡ list_of d i
+unfolding entries list_of
+listed-is {E} hash d i routed =
+    let f : E → ℕ = λ e. bucket_number (settings_of d).skipped (bucket_count d) (hash e) in
+    let z : i ≡ 0 + i = omega arith in
+    flat-at f i 0 i d.lists (λ k m e g. let y : k ≡ 0 + k = omega arith in routed.routed k m e g ∙ y) z

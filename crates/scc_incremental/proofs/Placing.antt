@@ -26,7 +26,7 @@ all-entries : {E S : Type 0} (c : Contents E S) → entries c ≡ flat_map (λ l
 unfolding entries lists_of
 all-entries c = refl
 
-index-same : {E S : Type 0} (c d : Contents E S) (p : Place) → lists_of d ≡ lists_of c → spots.index_of d p ≡ spots.index_of c p
+pub index-same : {E S : Type 0} (c d : Contents E S) (p : Place) → lists_of d ≡ lists_of c → spots.index_of d p ≡ spots.index_of c p
 unfolding lists_of spots.index_of
 index-same c d p same = ap (λ ls. length (flat_map (λ l. l) (take p.bucket ls)) + p.slot) same
 

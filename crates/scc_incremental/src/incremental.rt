@@ -5,11 +5,13 @@ ghost use Rattle.scc_table.specs.Sizes.{IsLawful};
 ghost use Rattle.scc_incremental.specs.TwoArrays.{IsWaiting};
 
 mod cloning;
+mod doubling;
 mod growing;
 mod inserting;
 mod lasting;
 mod making;
 mod pairs;
+mod putting;
 mod reading;
 mod relocating;
 mod removing;

@@ -15,7 +15,7 @@ use scc_table::{Keyed, Place};
 use std::hash::{BuildHasher, Hash};
 
 /// Whether a bucket that holds so many entries can't take one more, since so many lie in overflow lists of the two arrays.
-fn is_overflow_full(listed: usize, spilled: usize, aside: usize) -> bool
+pub(super) fn is_overflow_full(listed: usize, spilled: usize, aside: usize) -> bool
     requires { spilled + aside < 2 ^ 62 }
     ensures full { IsTrue result → 32 ≤ listed }
     ensures room { (IsTrue result → ⊥) → (listed < 32) ⊎ (spilled + aside < 2 ^ 62 - 1) }
@@ -55,7 +55,7 @@ where
     }
 
     /// Puts in an entry whose key is new, into that bucket, the one of the hash, and answers its place. Where that bucket waits, it takes its entries over first, and then the first ones that wait, two in all. The entry is handed back where memory for its own bucket is refused.
-    fn insert_at(&mut self, bucket: usize, hash: u64, entry: E) -> Result<Place, E>
+    pub(super) fn insert_at(&mut self, bucket: usize, hash: u64, entry: E) -> Result<Place, E>
         requires within { bucket < bucket_count self.old }
         requires routed { bucket ≡ bucket_number (settings_of self.old).skipped (bucket_count self.old) hash }
         requires hashed { hash ≡ key_hash H.BuildHasher H.Hasher.Hasher E.Key.hash_input self.old (E.key_of entry) }
@@ -172,7 +172,7 @@ where
 
     /// Moves the entries of the first buckets that wait to them, of so many buckets. One whose memory is refused counts among them.
     #[inline(always)]
-    fn relocate_some(&mut self, most: usize)
+    pub(super) fn relocate_some(&mut self, most: usize)
         ensures lists { lists_of self.new ≡ lists_of self.old }
         ensures settings { settings_of self.new ≡ settings_of self.old }
         ensures noted { refused_of self.new ≡ refused_of self.old }

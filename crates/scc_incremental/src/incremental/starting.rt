@@ -88,7 +88,7 @@ where
     }
 
     /// Puts the empty buckets in the place of the present ones, which drain from then on: every one of the new buckets waits, as the flags say.
-    fn begin(&mut self, count: usize, fresh: Array<E>, flags: Vec<bool>)
+    pub(super) fn begin(&mut self, count: usize, fresh: Array<E>, flags: Vec<bool>)
         requires settled { pending_of self.old ≡ 0 }
         requires array { IsArray count }
         requires some { 0 < bucket_count self.old }

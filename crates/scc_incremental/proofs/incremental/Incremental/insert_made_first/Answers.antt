@@ -1,0 +1,218 @@
+use Rattle.std.proofs.Common.{◌≡◌, ◌∙◌, ◌<◌, ◌^◌, ℕ, None, true, false, List, map, sym, ap, subst, arith}
+use Rattle.std.specs.List.{position, IsDistinct}
+use Rattle.scc_table.specs.Contents.{bucket_count, entries, key_hash, refused_of, settings_of}
+use Rattle.scc_table.proofs.PairSplits.{by_answer}
+use Rattle.scc_incremental.specs.TwoArrays.{IsIncremental, together}
+use Rattle.scc_incremental.proofs.Alone.{entries-alone, lists-alone}
+use Rattle.scc_incremental.proofs.Firsts.{no-flags}
+use Rattle.scc_incremental.proofs.Joining.{refused-together, settings-together, waiting-together}
+use Rattle.scc_incremental.proofs.Lone.{fields-lone, over-first, over-grows, over-inserted, over-unchanged}
+use Rattle.scc_incremental.proofs.Same.{entries-same, hash-same, if-err, if-ok, on-ok}
+use Rattle.scc_incremental.proofs.Settled.{either-answer, raises-some}
+use Rattle.scc_incremental.proofs.Viewed.{count-seen, lists-seen, refused-seen, settings-seen}
+use Rattle.scc_incremental.proofs.incremental.Incremental.insert_made_first.Goals as goal
+
+pub insert_made-placed-requires-clause-hashed : goal.insert_made-placed-requires-clause-hashed
+insert_made-placed-requires-clause-hashed g c =
+    let t = c.self.inside in
+    let cur = t.current in
+    let ws = t.waiting.items in
+    let olds = t.draining in
+    let a = c.args.self.now in
+    let inv = c.self.invariant in
+    let hk = key_hash g.H.BuildHasher g.H.Hasher.Hasher g.E.Key.Hash.hash_input cur in
+    let hash = λ (e : g.row.E.Denot). hk (g.E.Keyed.key_of e) in
+    let view = c.self.view_is in
+    let count = count-seen hash cur ws olds a view inv.arrays.flags in
+    let none = no-flags ws (bucket_count cur) inv.arrays.flags (sym count ∙ c.requires.none) in
+    let outer = hash-same g.H.BuildHasher g.H.Hasher.Hasher g.E.Key.Hash.hash_input cur a (settings-seen hash cur ws olds a view) in
+    c.requires.hashed ∙ ap (λ (h : g.row.E-Key.Denot → ℕ). h (g.E.Keyed.key_of (g.E.Made.made_of c.args.parts))) outer
+
+pub insert_made-placed-requires-clause-absent : goal.insert_made-placed-requires-clause-absent
+insert_made-placed-requires-clause-absent g c =
+    let t = c.self.inside in
+    let cur = t.current in
+    let ws = t.waiting.items in
+    let olds = t.draining in
+    let a = c.args.self.now in
+    let inv = c.self.invariant in
+    let hk = key_hash g.H.BuildHasher g.H.Hasher.Hasher g.E.Key.Hash.hash_input cur in
+    let hash = λ (e : g.row.E.Denot). hk (g.E.Keyed.key_of e) in
+    let view = c.self.view_is in
+    let count = count-seen hash cur ws olds a view inv.arrays.flags in
+    let none = no-flags ws (bucket_count cur) inv.arrays.flags (sym count ∙ c.requires.none) in
+    let before = lists-seen hash cur ws olds a view none in
+    subst (λ es. position (λ e. g.E.Key.PartialEq.eq (g.E.Keyed.key_of (g.E.Made.made_of c.args.parts)) (g.E.Keyed.key_of e)) es ≡ None) (entries-same cur a before) c.requires.absent
+
+pub invariant_of-self : goal.invariant_of-self
+invariant_of-self g c =
+    let t = c.self.inside in
+    let cur = t.current in
+    let ws = t.waiting.items in
+    let olds = t.draining in
+    let a = c.args.self.now in
+    let new = c.insert_made-placed.new.self in
+    let inv = c.self.invariant in
+    let hk = key_hash g.H.BuildHasher g.H.Hasher.Hasher g.E.Key.Hash.hash_input cur in
+    let hash = λ (e : g.row.E.Denot). hk (g.E.Keyed.key_of e) in
+    let view = c.self.view_is in
+    let count = count-seen hash cur ws olds a view inv.arrays.flags in
+    let none = no-flags ws (bucket_count cur) inv.arrays.flags (sym count ∙ c.requires.none) in
+    let kept : settings_of new ≡ settings_of cur = either-answer c.insert_made-placed.result c.insert_made-placed.ensures.ok c.insert_made-placed.ensures.err (λ p i. i.holds.settings) (λ p u. u.1.settings) in
+    let same = hash-same g.H.BuildHasher g.H.Hasher.Hasher g.E.Key.Hash.hash_input cur new kept in
+    let few = c.overflow_len-few.ensures in
+    subst (λ (h : g.row.E-Key.Denot → ℕ). IsIncremental g.E.Key.PartialEq.eq g.E.Keyed.key_of h new ws olds t.skipped t.pending t.next t.held 0) (sym same)
+    (fields-lone g.E.Key.PartialEq.eq g.E.Keyed.key_of hk cur new ws olds t.skipped t.pending t.next t.held t.held_overflow inv none kept (omega (arith, few.value, few.most)) c.insert_made-placed.ensures.unique)
+
+pub returns-clause-ok : goal.returns-clause-ok
+returns-clause-ok g c =
+    let t = c.self.inside in
+    let cur = t.current in
+    let ws = t.waiting.items in
+    let olds = t.draining in
+    let a = c.args.self.now in
+    let new = c.insert_made-placed.new.self in
+    let inv = c.self.invariant in
+    let hk = key_hash g.H.BuildHasher g.H.Hasher.Hasher g.E.Key.Hash.hash_input cur in
+    let hash = λ (e : g.row.E.Denot). hk (g.E.Keyed.key_of e) in
+    let view = c.self.view_is in
+    let count = count-seen hash cur ws olds a view inv.arrays.flags in
+    let none = no-flags ws (bucket_count cur) inv.arrays.flags (sym count ∙ c.requires.none) in
+    let later = λ (e : g.row.E.Denot). key_hash g.H.BuildHasher g.H.Hasher.Hasher g.E.Key.Hash.hash_input new (g.E.Keyed.key_of e) in
+    let d = together later new ws olds in
+    let before = lists-seen hash cur ws olds a view none in
+    let had = settings-seen hash cur ws olds a view in
+    let after = lists-alone later new ws olds none in
+    let has = settings-together later new ws olds in
+    if-ok c.insert_made-placed.result (λ p i. over-inserted a cur new d before had after has (waiting-together later new ws olds ∙ none) (g.E.Made.made_of c.args.parts) p i) c.insert_made-placed.ensures.ok
+
+pub returns-clause-err : goal.returns-clause-err
+returns-clause-err g c =
+    let t = c.self.inside in
+    let cur = t.current in
+    let ws = t.waiting.items in
+    let olds = t.draining in
+    let a = c.args.self.now in
+    let new = c.insert_made-placed.new.self in
+    let inv = c.self.invariant in
+    let hk = key_hash g.H.BuildHasher g.H.Hasher.Hasher g.E.Key.Hash.hash_input cur in
+    let hash = λ (e : g.row.E.Denot). hk (g.E.Keyed.key_of e) in
+    let view = c.self.view_is in
+    let count = count-seen hash cur ws olds a view inv.arrays.flags in
+    let none = no-flags ws (bucket_count cur) inv.arrays.flags (sym count ∙ c.requires.none) in
+    let later = λ (e : g.row.E.Denot). key_hash g.H.BuildHasher g.H.Hasher.Hasher g.E.Key.Hash.hash_input new (g.E.Keyed.key_of e) in
+    let d = together later new ws olds in
+    let before = lists-seen hash cur ws olds a view none in
+    let had = settings-seen hash cur ws olds a view in
+    let after = lists-alone later new ws olds none in
+    let has = settings-together later new ws olds in
+    if-err c.insert_made-placed.result (λ p u. (u.0, over-unchanged a cur new d before had after has u.1)) c.insert_made-placed.ensures.err
+
+pub returns-clause-growth : goal.returns-clause-growth
+returns-clause-growth g c =
+    let t = c.self.inside in
+    let cur = t.current in
+    let ws = t.waiting.items in
+    let olds = t.draining in
+    let a = c.args.self.now in
+    let new = c.insert_made-placed.new.self in
+    let inv = c.self.invariant in
+    let hk = key_hash g.H.BuildHasher g.H.Hasher.Hasher g.E.Key.Hash.hash_input cur in
+    let hash = λ (e : g.row.E.Denot). hk (g.E.Keyed.key_of e) in
+    let view = c.self.view_is in
+    let count = count-seen hash cur ws olds a view inv.arrays.flags in
+    let none = no-flags ws (bucket_count cur) inv.arrays.flags (sym count ∙ c.requires.none) in
+    let later = λ (e : g.row.E.Denot). key_hash g.H.BuildHasher g.H.Hasher.Hasher g.E.Key.Hash.hash_input new (g.E.Keyed.key_of e) in
+    let d = together later new ws olds in
+    let before = lists-seen hash cur ws olds a view none in
+    let had = settings-seen hash cur ws olds a view in
+    let after = lists-alone later new ws olds none in
+    let has = settings-together later new ws olds in
+    over-grows a cur new d before had after has c.requires.none c.insert_made-placed.ensures.growth
+
+pub returns-clause-first : goal.returns-clause-first
+returns-clause-first g c =
+    let t = c.self.inside in
+    let cur = t.current in
+    let ws = t.waiting.items in
+    let olds = t.draining in
+    let a = c.args.self.now in
+    let new = c.insert_made-placed.new.self in
+    let inv = c.self.invariant in
+    let hk = key_hash g.H.BuildHasher g.H.Hasher.Hasher g.E.Key.Hash.hash_input cur in
+    let hash = λ (e : g.row.E.Denot). hk (g.E.Keyed.key_of e) in
+    let view = c.self.view_is in
+    let count = count-seen hash cur ws olds a view inv.arrays.flags in
+    let none = no-flags ws (bucket_count cur) inv.arrays.flags (sym count ∙ c.requires.none) in
+    let later = λ (e : g.row.E.Denot). key_hash g.H.BuildHasher g.H.Hasher.Hasher g.E.Key.Hash.hash_input new (g.E.Keyed.key_of e) in
+    let d = together later new ws olds in
+    let before = lists-seen hash cur ws olds a view none in
+    let had = settings-seen hash cur ws olds a view in
+    let after = lists-alone later new ws olds none in
+    let has = settings-together later new ws olds in
+    on-ok c.insert_made-placed.result (λ f. over-first a cur new d before had after has f) c.insert_made-placed.ensures.first
+
+pub returns-clause-waiting : goal.returns-clause-waiting
+returns-clause-waiting g c =
+    let t = c.self.inside in
+    let cur = t.current in
+    let ws = t.waiting.items in
+    let olds = t.draining in
+    let a = c.args.self.now in
+    let new = c.insert_made-placed.new.self in
+    let inv = c.self.invariant in
+    let hk = key_hash g.H.BuildHasher g.H.Hasher.Hasher g.E.Key.Hash.hash_input cur in
+    let hash = λ (e : g.row.E.Denot). hk (g.E.Keyed.key_of e) in
+    let view = c.self.view_is in
+    let count = count-seen hash cur ws olds a view inv.arrays.flags in
+    let none = no-flags ws (bucket_count cur) inv.arrays.flags (sym count ∙ c.requires.none) in
+    let later = λ (e : g.row.E.Denot). key_hash g.H.BuildHasher g.H.Hasher.Hasher g.E.Key.Hash.hash_input new (g.E.Keyed.key_of e) in
+    let d = together later new ws olds in
+    let before = lists-seen hash cur ws olds a view none in
+    let had = settings-seen hash cur ws olds a view in
+    let after = lists-alone later new ws olds none in
+    let has = settings-together later new ws olds in
+    waiting-together later new ws olds ∙ none
+
+pub returns-clause-raised : goal.returns-clause-raised
+returns-clause-raised g c =
+    let t = c.self.inside in
+    let cur = t.current in
+    let ws = t.waiting.items in
+    let olds = t.draining in
+    let a = c.args.self.now in
+    let new = c.insert_made-placed.new.self in
+    let inv = c.self.invariant in
+    let hk = key_hash g.H.BuildHasher g.H.Hasher.Hasher g.E.Key.Hash.hash_input cur in
+    let hash = λ (e : g.row.E.Denot). hk (g.E.Keyed.key_of e) in
+    let view = c.self.view_is in
+    let count = count-seen hash cur ws olds a view inv.arrays.flags in
+    let none = no-flags ws (bucket_count cur) inv.arrays.flags (sym count ∙ c.requires.none) in
+    let later = λ (e : g.row.E.Denot). key_hash g.H.BuildHasher g.H.Hasher.Hasher g.E.Key.Hash.hash_input new (g.E.Keyed.key_of e) in
+    let d = together later new ws olds in
+    let before = lists-seen hash cur ws olds a view none in
+    let had = settings-seen hash cur ws olds a view in
+    let after = lists-alone later new ws olds none in
+    let has = settings-together later new ws olds in
+    let low = refused-seen hash cur ws olds a view in
+    let up = refused-together later new ws olds in
+    λ down. up ∙ by_answer (refused_of new)
+    (λ q. absurd (let z = (raises-some _ _ cur _ new c.insert_made-placed.result c.insert_made-placed.ensures.due c.insert_made-placed.ensures.raised (sym low ∙ down) q).0 in omega (arith, count, c.requires.none)))
+    (λ q. q)
+
+pub returns-clause-unique : goal.returns-clause-unique
+returns-clause-unique g c =
+    let t = c.self.inside in
+    let cur = t.current in
+    let ws = t.waiting.items in
+    let olds = t.draining in
+    let a = c.args.self.now in
+    let new = c.insert_made-placed.new.self in
+    let inv = c.self.invariant in
+    let hk = key_hash g.H.BuildHasher g.H.Hasher.Hasher g.E.Key.Hash.hash_input cur in
+    let hash = λ (e : g.row.E.Denot). hk (g.E.Keyed.key_of e) in
+    let view = c.self.view_is in
+    let count = count-seen hash cur ws olds a view inv.arrays.flags in
+    let none = no-flags ws (bucket_count cur) inv.arrays.flags (sym count ∙ c.requires.none) in
+    let later = λ (e : g.row.E.Denot). key_hash g.H.BuildHasher g.H.Hasher.Hasher g.E.Key.Hash.hash_input new (g.E.Keyed.key_of e) in
+    subst (λ (es : List g.row.E.Denot). IsDistinct g.E.Key.PartialEq.eq (map g.E.Keyed.key_of es)) (sym (entries-alone later new ws olds none)) c.insert_made-placed.ensures.unique
