@@ -1,3 +1,3 @@
-//! The table of the containers with its bucket, and what an entry of a table is.
+//! The table of the containers, and what an entry of a table is.
 
-pub use scc_table::{Keyed, Made, Place, SharedVersion, Table, Valued, Version, bucket, tags};
+pub use scc_table::{Keyed, Made, Place, SharedVersion, Table, Valued, Version, tags};
