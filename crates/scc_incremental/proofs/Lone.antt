@@ -1,5 +1,5 @@
 -- A table of two arrays of which no bucket waits, where a call changes the new array alone.
-use Rattle.std.proofs.Common.{◌≡◌, ◌≢◌, ℕ, ◌+◌, ◌*◌, ◌^◌, ◌<◌, ◌≤◌, ◌==◌, inl, inr, Bool, true, false, List, [], ◌∷◌, length, map, sym, ap, ◌∙◌, subst, arith}
+use Rattle.std.proofs.Common.{◌≡◌, ℕ, ◌+◌, ◌*◌, ◌^◌, ◌<◌, ◌==◌, inl, inr, Bool, true, false, List, [], ◌∷◌, length, map, sym, ap, ◌∙◌, subst, arith}
 use Rattle.std.specs.List.{filter, flat_map, slice_get, IsDistinct}
 use Rattle.std.specs.List.Sorted.{IsPermutation}
 use Rattle.scc_bucket.specs.Shelf.{Shelf, shelf_entries}
@@ -11,7 +11,7 @@ use Rattle.scc_table.specs.Steps.{FirstArrayWhenDue, Grows, IsUnchanged}
 use Rattle.scc_table.specs.declared.place.Place.{Place}
 use Rattle.scc_incremental.specs.Moves.{AreOwn}
 use Rattle.scc_incremental.specs.Places.{IsInsertedAt, spot_of}
-use Rattle.scc_incremental.specs.TwoArrays.{IsIncremental, together, waits_at}
+use Rattle.scc_incremental.specs.TwoArrays.{IsIncremental, waits_at}
 use Rattle.scc_incremental.proofs.Alone.{entries-alone, nothing-held, spilled-bare}
 use Rattle.scc_incremental.proofs.OldSpots.{spot-own}
 use Rattle.scc_incremental.proofs.Placing.{index-same}

@@ -1,4 +1,4 @@
-use Rattle.std.proofs.Common.{◌≡◌, ◌∙◌, ◌*◌, ◌<◌, length, sym, ap, arith}
+use Rattle.std.proofs.Common.{◌≡◌, ◌∙◌, ◌*◌, length, sym, ap, arith}
 use Rattle.scc_table.specs.Contents.{bucket_count, key_hash, list_of, settings_of}
 use Rattle.scc_table.specs.Pour.{bound_for}
 use Rattle.scc_table.specs.Routing.{bucket_number}

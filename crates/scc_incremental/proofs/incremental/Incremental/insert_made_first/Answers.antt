@@ -1,6 +1,6 @@
-use Rattle.std.proofs.Common.{◌≡◌, ◌∙◌, ◌<◌, ◌^◌, ℕ, None, true, false, List, map, sym, ap, subst, arith}
+use Rattle.std.proofs.Common.{◌≡◌, ◌∙◌, ℕ, None, List, map, sym, ap, subst, arith}
 use Rattle.std.specs.List.{position, IsDistinct}
-use Rattle.scc_table.specs.Contents.{bucket_count, entries, key_hash, refused_of, settings_of}
+use Rattle.scc_table.specs.Contents.{bucket_count, key_hash, refused_of, settings_of}
 use Rattle.scc_table.proofs.PairSplits.{by_answer}
 use Rattle.scc_incremental.specs.TwoArrays.{IsIncremental, together}
 use Rattle.scc_incremental.proofs.Alone.{entries-alone, lists-alone}

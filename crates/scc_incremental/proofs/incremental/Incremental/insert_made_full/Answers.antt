@@ -1,4 +1,4 @@
-use Rattle.std.proofs.Common.{◌*◌, arith}
+use Rattle.std.proofs.Common.{arith}
 use Rattle.scc_table.proofs.Powers.{double-array}
 use Rattle.scc_incremental.proofs.Settled.{settled-all}
 use Rattle.scc_incremental.proofs.incremental.Incremental.insert_made_full.Goals as goal

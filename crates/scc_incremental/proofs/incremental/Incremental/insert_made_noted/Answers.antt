@@ -1,6 +1,6 @@
-use Rattle.std.proofs.Common.{◌≡◌, ◌∙◌, ◌<◌, None, inl, sym, ap, subst, arith}
+use Rattle.std.proofs.Common.{◌≡◌, ◌∙◌, None, inl, sym, ap, subst, arith}
 use Rattle.std.specs.List.{position}
-use Rattle.scc_table.specs.Contents.{bucket_count, entries, settings_of}
+use Rattle.scc_table.specs.Contents.{bucket_count, settings_of}
 use Rattle.scc_table.specs.Routing.{bucket_number}
 use Rattle.scc_table.proofs.Resizes.{rests-inserted}
 use Rattle.scc_incremental.specs.Places.{spot_of}

@@ -1,4 +1,4 @@
-use Rattle.std.proofs.Common.{◌≡◌, ◌∙◌, drop, ap, arith}
+use Rattle.std.proofs.Common.{◌∙◌, drop, ap, arith}
 use Rattle.scc_incremental.proofs.Placing.{placed-at, placed-count, placed-down, placed-fewer, placed-short}
 use Rattle.scc_incremental.proofs.Same.{count-same, pending-same, unchanged-same}
 use Rattle.scc_incremental.proofs.Targets.{targets-same}

@@ -1,10 +1,10 @@
-use Rattle.std.proofs.Common.{◌≡◌, ◌∙◌, ◌<◌, ◌≤◌, ℕ, None, length, refl, sym, ap, subst, arith}
+use Rattle.std.proofs.Common.{◌≡◌, ◌∙◌, None, sym, ap, subst, arith}
 use Rattle.std.specs.List.{position}
-use Rattle.scc_table.specs.Contents.{HasRoomBy, bucket_count, entries, key_hash, list_of, settings_of}
+use Rattle.scc_table.specs.Contents.{bucket_count, settings_of}
 use Rattle.scc_table.specs.Routing.{bucket_number}
 use Rattle.scc_incremental.specs.TwoArrays.{pending_targets}
-use Rattle.scc_incremental.proofs.Placing.{long-none, relocated-fewer, relocated-inserted, relocated-left, relocated-short, room-same}
-use Rattle.scc_incremental.proofs.Same.{count-same, entries-same, hash-same, if-err, if-ok, on-err, on-ok}
+use Rattle.scc_incremental.proofs.Placing.{relocated-fewer, relocated-inserted, relocated-left, relocated-short}
+use Rattle.scc_incremental.proofs.Same.{count-same, entries-same, if-err, if-ok, on-ok}
 use Rattle.scc_incremental.proofs.incremental.Incremental.insert_made_waiting.Goals as goal
 
 pub insert_made_settled-requires-clause-within : goal.insert_made_settled-requires-clause-within

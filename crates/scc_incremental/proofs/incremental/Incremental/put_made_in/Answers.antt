@@ -1,11 +1,11 @@
-use Rattle.std.proofs.Common.{◌≡◌, ◌∙◌, ◌<◌, ◌≤◌, ℕ, ◌+◌, ◌^◌, true, false, inl, inr, length, sym, ap, subst, arith}
-use Rattle.scc_table.specs.Contents.{HasRoomBy, bucket_count, held_of, key_hash, list_of, lists_of, settings_of, spilled_of}
+use Rattle.std.proofs.Common.{◌≡◌, ◌∙◌, ◌<◌, ℕ, ◌+◌, ◌^◌, true, false, inl, inr, sym, ap, subst, arith}
+use Rattle.scc_table.specs.Contents.{bucket_count, held_of, key_hash, settings_of, spilled_of}
 use Rattle.scc_table.specs.OneList.{HasSameLists, IsPutIn}
 use Rattle.scc_table.specs.Routing.{bucket_number}
 use Rattle.scc_incremental.specs.TwoArrays.{IsIncremental, together, waits_at}
-use Rattle.scc_incremental.proofs.Joining.{refused-together, settings-together, waiting-together}
-use Rattle.scc_incremental.proofs.Noting.{fields-less, held-kept, lists-kept}
-use Rattle.scc_incremental.proofs.Putting.{absent-own, fields-put, held-put, long-full, put-together, room-own, same-together}
+use Rattle.scc_incremental.proofs.Joining.{waiting-together}
+use Rattle.scc_incremental.proofs.Noting.{fields-less, held-kept}
+use Rattle.scc_incremental.proofs.Putting.{absent-own, fields-put, held-put, put-together, same-together}
 use Rattle.scc_incremental.proofs.Same.{by-answer, hash-same, if-ok, on-err}
 use Rattle.scc_incremental.proofs.Viewed.{count-seen, settings-seen, waiting-seen}
 use Rattle.scc_incremental.proofs.incremental.Incremental.put_made_in.Goals as goal
