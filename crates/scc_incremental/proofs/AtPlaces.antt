@@ -47,8 +47,8 @@ module _ {E S : Type 0} where
   pub back-none : (c : Contents E S) (p : Place) → suc (index_of c p) ≡ length (entries c) → back_of c p ≡ []
   back-none c p z = placing.back-none c (spot_of c p) z
 
-  pub next-there : (c : Contents E S) (p : Place) (h : IsPlace c p) (d : Contents E S) (q : Place) (j : IsPlace d q) → d ≡ c → index_of d q ≡ suc (index_of c p) → IsNextAt c p h d q j
-  next-there c p h d q j same next = placing.next-there c (spot_of c p) h d (spot_of d q) j same (ap (λ m. places.index_of m (spot_of d q)) (sym same) ∙ next)
+  pub next-there : (c : Contents E S) (p : Place) (h : IsPlace c p) (d : Contents E S) (q : Place) (j : IsPlace d q) → d ≡ c → index_of c q ≡ suc (index_of c p) → IsNextAt c p h d q j
+  next-there c p h d q j same next = placing.next-there c (spot_of c p) h d (spot_of d q) j same (ap (λ m. places.index_of c (spot_of m q)) same ∙ next)
 
   pub left-there : (c : Contents E S) (p : Place) (d : Contents E S) → HoldsExactly c (remove (entries c) (index_of c p)) d → HoldsExactly c (front_of c p ++ back_of c p) d
   left-there c p d others = placing.left-there c (spot_of c p) d others

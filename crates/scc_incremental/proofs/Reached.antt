@@ -1,12 +1,15 @@
 -- Walks that go from place to place of two arrays.
-use Rattle.std.proofs.Common.{◌≡◌, ℕ, zero, suc, ◌<◌, ◌-◌, ◌++◌, Bool, true, false, List, [], ◌∷◌, length, Option, None, Some, MatchOption, IfSome, take, drop, refl, sym, ap, arith}
+use Rattle.std.proofs.Common.{◌≡◌, ℕ, zero, suc, ◌<◌, ◌-◌, ◌++◌, Bool, true, false, List, [], ◌∷◌, length, Option, None, Some, MatchOption, IfSome, take, drop, refl, sym, ap, ◌∙◌, arith}
 use Rattle.std.specs.List.{slice_get}
 use Rattle.scc_bucket.specs.Walks.{Walks, ended, stopped, went_on}
 use Rattle.scc_bucket.proofs.WalkLemmas.{walk-append}
 use Rattle.scc_table.specs.Contents.{Contents, entries}
+use Rattle.scc_table.specs.Places as spots
+use Rattle.scc_table.specs.Standing as standing
 use Rattle.scc_table.specs.declared.place.Place.{Place}
 use Rattle.scc_table.proofs.Standing.{index-below}
-use Rattle.scc_incremental.specs.Places.{IsPlace, StandsAt, index_of, spot_of}
+use Rattle.scc_incremental.specs.Placed.{spot-with_write_at}
+use Rattle.scc_incremental.specs.Places.{IsPlace, StandsAt, index_of, spot_of, with_write_at}
 
 -- how many entries stand before the place of a walk, all where it is over
 abbrev pub reached : {E S : Type 0} → Contents E S → Option Place → ℕ
@@ -25,6 +28,25 @@ module _ {E S : Type 0} (c : Contents E S) where
   -- a walk that goes on comes nearer to its end
   pub nearer : (p : Place) (o : Option Place) → IsPlace c p → reached c o ≡ suc (index_of c p) → length (entries c) - reached c o < length (entries c) - index_of c p
   nearer p o h e = let l = index-below c (spot_of c p) h in omega arith
+
+-- the spot of the place of a walk
+abbrev pub walk_spot : {E S : Type 0} → Contents E S → Option Place → Option Place
+walk_spot c None = None
+walk_spot c (Some p) = Some (spot_of c p)
+
+module _ {E S : Type 0} (c : Contents E S) where
+  -- where a walk goes on, by the spot of its place
+  pub stands-spot : (A : Type 0) (i : ℕ) (o : Option Place) → MatchOption o A (StandsAt c i) → MatchOption (walk_spot c o) A (standing.StandsAt c i)
+  stands-spot A i None h = h
+  stands-spot A i (Some p) h = h
+
+  pub within-spot : (o : Option Place) → IfSome (walk_spot c o) (spots.IsPlace c) → IfSome o (IsPlace c)
+  within-spot None h = h
+  within-spot (Some p) h = h
+
+  -- a write changes no spot
+  pub spot-written : {X : Type 0} (put : E → X → E) (p : Place) (w : X) (n : Contents E S) → n ≡ with_write_at put c p w → (q : Place) → spot_of n q ≡ spot_of c q
+  spot-written put p w n new q = ap (λ d. spot_of d q) new ∙ spot-with_write_at put c (spot_of c p) w q
 
 pub all-taken : {X : Type 0} (xs : List X) (i : ℕ) → i ≡ length xs → take i xs ≡ xs
 all-taken [] zero h = refl

@@ -8,7 +8,7 @@ use Rattle.std.specs.List.Sorted.{IsPermutation}
 use Rattle.std.specs.Map.{keys_of, lookup_entry, set_value}
 use Rattle.scc_table.specs.Contents.{Contents, entries}
 use Rattle.scc_table.specs.Pairs.{find, without, FindsInstead, IsUnique}
-use Rattle.scc_table.specs.Places.{index_of}
+use Rattle.scc_incremental.specs.Places.{index_of}
 use Rattle.scc_table.specs.Steps.{Holds, HoldsExactly, Rests}
 use Rattle.std.specs.declared.cmp.PartialEq as equality
 use Rattle.std.specs.declared.hash.Hash as hash
@@ -21,7 +21,7 @@ use Rattle.scc_map.specs.declared.hash_map.held.HeldPlace.{HeldPlace}
 use Rattle.scc_map.specs.declared.hash_map.held.HeldVacant.{HeldVacant}
 use Rattle.scc_map.specs.MapSteps.{Removes}
 use Rattle.scc_map.proofs.Entries.{occupied-by}
-use Rattle.scc_table.proofs.Placed.{entry_of-get}
+use Rattle.scc_incremental.proofs.AtPlaces.{entry_of-get}
 use Rattle.scc_table.proofs.PairWrites.{IsPlaceOf}
 use Rattle.scc_table.proofs.Lookups.{along, apart-none, get-read, place-of_find, find-IsPermutation, find-without, distinct-IsPermutation, distinct-remove_entry, finds-added}
 pub use Rattle.scc_table.proofs.PairSplits.{by_answer, cond-true, cond-false}

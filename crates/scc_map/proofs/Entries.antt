@@ -9,14 +9,15 @@ use Rattle.std.specs.declared.hash.Hasher as hasher
 use Rattle.std.specs.declared.hash.BuildHasher as builder
 use Rattle.scc_table.specs.Contents.{Contents, entries}
 use Rattle.scc_table.specs.Pairs.{with_pair_value}
-use Rattle.scc_table.specs.Placed.{entry_of, front_of, back_of}
-use Rattle.scc_table.specs.Places.{IsPlace, IsFoundAt, IsInsertedAt, index_of}
-use Rattle.scc_table.specs.Writes.{with_write_at}
+use Rattle.scc_table.specs.Placed as spots
+use Rattle.scc_incremental.specs.Placed.{entry_of}
+use Rattle.scc_incremental.specs.Places.{IsPlace, IsFoundAt, IsInsertedAt, index_of}
+use Rattle.scc_incremental.specs.Places.{with_write_at}
 use Rattle.scc_common.specs.declared.guard.Guard as guard
-use Rattle.scc_table.proofs.KeyWrites.{place-found}
+use Rattle.scc_incremental.proofs.AtPlaces.{place-found}
 use Rattle.scc_table.proofs.PairSplits.{set_value-at, without-at}
 use Rattle.scc_table.proofs.PairWrites.{IsPlaceOf}
-use Rattle.scc_table.proofs.Placed.{place-prop, entry_of-is, written-there, put-there}
+use Rattle.scc_incremental.proofs.AtPlaces.{place-prop, entry_of-is, written-there, put-there}
 use Rattle.scc_map.specs.Entries.{occupied_pair, occupied_front, occupied_back, IsOccupiedAt, IsWritten, IsInserted, written_map, still_within, with_value}
 use Rattle.scc_map.specs.declared.hash_map.held.HeldEntry.{HeldEntry}
 use Rattle.scc_map.specs.declared.hash_map.held.HeldVacant.{HeldVacant}
@@ -29,7 +30,7 @@ module _ {G N K V S T : Type 0} {d : guard.Ghosts G (Contents (K × V) S)} {g : 
   -- an entry at the place of a key is that of the key
   pub occupied-by : {same : K → K → Bool} (laws : IsEquivalence same) (k : K) (o : HeldEntry G N K V S T d g h b w) → IsDistinct same (keys_of (entries (d.kept o.guard))) → IsPlaceOf same (entries (d.kept o.guard)) k (index_of (d.kept o.guard) o.place)
       → IsOccupiedAt same (d.kept o.guard) k o
-  unfolding front_of back_of
+  unfolding spots.front_of spots.back_of
   occupied-by {same = same} laws k o u f =
       let c : Contents (K × V) S = d.kept o.guard in
       let e : occupied_pair o ≡ f.0 = entry_of-is c o.place o.within f.0 f.1 in

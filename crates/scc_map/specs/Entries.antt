@@ -14,10 +14,11 @@ use Rattle.std.proofs.Common.{sym, subst}
 use Rattle.scc_table.specs.Contents.{Contents, entries, key_hash}
 use Rattle.scc_table.specs.PairSteps.{SwapsKey}
 use Rattle.scc_table.specs.Pairs.{find, without, IsUnique, with_pair_value}
-use Rattle.scc_table.specs.Placed.{entry_of, front_of, back_of, IsWrittenAt, IsPutAt}
-use Rattle.scc_table.specs.Places.{IsPlace}
+use Rattle.scc_incremental.specs.Placed.{entry_of, front_of, back_of, IsWrittenAt, IsPutAt}
+use Rattle.scc_incremental.specs.Places.{IsPlace}
 use Rattle.scc_table.specs.Steps.{FirstArrayWhenDue, GrowsFor, HoldsExactly, Rests}
-use Rattle.scc_table.specs.Writes.{with_write_at, IsPlace-with_write_at}
+use Rattle.scc_incremental.specs.Placed.{IsPlace-with_write_at}
+use Rattle.scc_incremental.specs.Places.{with_write_at}
 use Rattle.scc_common.specs.declared.errors.InsertError.{InsertError}
 use Rattle.scc_common.specs.declared.guard.Guard as guard
 use Rattle.scc_map.specs.Lends.{map_row}

@@ -8,7 +8,7 @@ use Rattle.std.specs.declared.hash.Hasher as hasher
 use Rattle.std.specs.declared.hash.BuildHasher as builder
 use Rattle.scc_table.specs.Contents.{Contents, refused_of}
 use Rattle.scc_table.specs.Pairs.{IsUnique}
-use Rattle.scc_table.specs.Placed.{SplitsAt, IsNextAt, IsNextPastRemovedAt}
+use Rattle.scc_incremental.specs.Placed.{SplitsAt, IsNextAt, IsNextPastRemovedAt}
 use Rattle.scc_table.specs.Steps.{HoldsExactly}
 use Rattle.scc_common.specs.declared.guard.Guard as guard
 use Rattle.scc_map.specs.Entries.{occupied_front, occupied_back, Borrowed}

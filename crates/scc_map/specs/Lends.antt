@@ -5,7 +5,7 @@ use Rattle.std.specs.declared.hash.Hasher as hasher
 use Rattle.std.specs.declared.hash.BuildHasher as builder
 use Rattle.scc_table.specs.Contents.{Contents}
 use Rattle.scc_table.specs.Pairs.{with_pair_value}
-use Rattle.scc_table.specs.Writes.{with_write_at}
+use Rattle.scc_incremental.specs.Places.{with_write_at}
 use Rattle.scc_table.specs.declared.place.Place.{Place}
 use Rattle.scc_map.specs.contracts.hash_map.owned.Owned.{the_row}
 

@@ -6,13 +6,15 @@ use Rattle.std.specs.List.{slice_get, remove}
 use Rattle.std.specs.Map.{keys_of}
 use Rattle.std.specs.Option.{option_map}
 use Rattle.scc_table.specs.Contents.{Contents, entries}
-use Rattle.scc_table.specs.Placed.{front_of}
-use Rattle.scc_table.specs.Places.{IsPlace, index_of}
-use Rattle.scc_table.specs.Standing.{StandsAt}
+use Rattle.scc_table.specs.Placed as spots
+use Rattle.scc_incremental.specs.Placed.{front_of}
+use Rattle.scc_incremental.specs.Places.{IsPlace, index_of}
+use Rattle.scc_incremental.specs.Places.{StandsAt}
 use Rattle.scc_table.specs.Steps.{Holds, HoldsExactly}
 use Rattle.scc_table.specs.Walks.{CalledOn}
 use Rattle.scc_table.specs.declared.place.Place.{Place}
-use Rattle.scc_table.proofs.Mapped.{entries-mapped, length-mapped, index_of-mapped, IsPlace-mapped, StandsAt-mapped, Holds-mapped, HoldsExactly-mapped}
+use Rattle.scc_table.proofs.Mapped.{entries-mapped, length-mapped, Holds-mapped, HoldsExactly-mapped}
+use Rattle.scc_incremental.proofs.MappedPlaces.{index_of-mapped, IsPlace-mapped, StandsAt-mapped}
 use Rattle.scc_walks.specs.PairWalks as writes
 use Rattle.scc_set.specs.Keys.{of_map}
 use Rattle.scc_set.specs.SetWalks.{PassesNone, PassesAt}
@@ -69,7 +71,7 @@ module _ {K S : Type 0} (c : Contents (K × Unit {0}) S) where
   follows-taken place d (Some q) h = rw (index_of-mapped key_of c place) (StandsAt-mapped key_of d (index_of c place) q h)
 
   front-keys : (place : Place) → keys_of (take (index_of c place) (entries c)) ≡ front_of (of_map c) place
-  unfolding front_of
+  unfolding spots.front_of
   front-keys place = sym (ap (λ i. take i (entries (of_map c))) (index_of-mapped key_of c place) ∙ ap (λ es. take (index_of c place) es) (entries-mapped key_of c) ∙ take-keys key_of (index_of c place) (entries c))
 
   module _ {C F : Type 0} (gm : Mut C (Bor K × (Bor (Unit {0}) × Unit {0})) Bool) (gf : Mut F (Bor K × Unit {0}) Bool) (of : C → F)

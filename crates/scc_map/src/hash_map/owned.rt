@@ -4,17 +4,18 @@ ghost use Rattle.std.specs.Arc.{arc_value};
 ghost use Rattle.std.specs.Borrow.{Bor, MutBor, sem};
 ghost use Rattle.std.specs.Fn.{FnOnceTakesAtMut};
 ghost use Rattle.std.specs.List.Sorted.{IsPermutation};
-ghost use Rattle.scc_table.specs.Contents.{entries, bucket_count, settings_of, minimum_of, refused_of, key_hash};
+ghost use Rattle.scc_table.specs.Contents.{entries, bucket_count, settings_of, minimum_of, refused_of, waiting_of, key_hash};
 ghost use Rattle.scc_table.specs.Pairs.{find, FindsInstead, HasRoom, IsUnique, with_pair_key, with_pair_value};
 ghost use Rattle.scc_table.specs.Sizes.{IsArraySize, IsSmaller};
 ghost use Rattle.scc_table.specs.Walks.{CalledOn, CallableWhile, Walks};
-ghost use Rattle.scc_table.specs.Places.{IsPlace, IsInsertedAt, index_of};
+ghost use Rattle.scc_incremental.specs.Places.{IsPlace, IsInsertedAt, index_of};
 ghost use Rattle.scc_table.specs.Steps.{FirstArrayWhenDue, Grows, GrowsFor, GrowsWhenDue, Holds, Rests, ShrinksWhenDue};
-ghost use Rattle.scc_table.specs.Writes.{with_write_at};
+ghost use Rattle.scc_incremental.specs.Places.{with_write_at};
 ghost use Rattle.scc_map.specs.ClosureSteps.{UpdatesAt, RemovesIf};
 ghost use Rattle.scc_walks.specs.Closures.{Reads, WritesAt};
 ghost use Rattle.scc_map.specs.Lends.{lends_value};
 ghost use Rattle.scc_map.specs.MapSteps.{Inserts, Removes, Upserts};
+ghost use Rattle.scc_map.specs.Relocations.{Relocates, RelocatesNone, RelocatesTwo};
 
 mod collecting;
 mod entry;
@@ -25,7 +26,8 @@ mod whole;
 mod writing_walks;
 
 pub use entry::{Entry, OccupiedEntry, ReplaceResult, VacantEntry};
-use scc_table::{InsertError, MakeError, Place, Shared, Table};
+use scc_incremental::Incremental;
+use scc_table::{InsertError, MakeError, Place, Shared};
 use std::alloc::Global;
 use std::hash::{BuildHasher, BuildHasherDefault, FoldHasher, Hash};
 use std::marker::Model;
@@ -36,7 +38,7 @@ use std::sync::Arc;
 /// The default hasher has a fixed seed. For keys that an attacker picks, write `Owned::with_hasher(alloc, RandomState::new(&rt)?)`.
 #[derive(Drop)]
 pub struct Owned<K: Eq + Hash, V, H: BuildHasher = BuildHasherDefault<FoldHasher>> {
-    pub(crate) table: Table<(K, V), H>,
+    pub(crate) table: Incremental<(K, V), H>,
 }
 
 impl<K: Eq + Hash, V, H: BuildHasher> Model for Owned<K, V, H> {
@@ -98,7 +100,7 @@ impl<K: Eq + Hash, V, H: BuildHasher> Owned<K, V, H> {
         ensures settings { settings_of result ≡ record { hasher = hasher; skipped = 0; asked = 0; reserved = 0 } }
     {
         Owned {
-            table: Table::new(alloc, 0, hasher),
+            table: Incremental::new(alloc, 0, hasher),
         }
     }
 
@@ -116,7 +118,7 @@ impl<K: Eq + Hash, V, H: BuildHasher> Owned<K, V, H> {
         ensures settings { IfOk result (λ m. settings_of m ≡ record { hasher = hasher; skipped = 0; asked = 32 * bucket_count m; reserved = 0 }) }
         ensures succeeds { capacity ≡ 0 → IsOk result }
     {
-        match Table::with_capacity(alloc, 0, capacity, hasher) {
+        match Incremental::with_capacity(alloc, 0, capacity, hasher) {
             Ok(table) => Ok(Owned { table }),
             Err(e) => Err(e),
         }
@@ -138,7 +140,7 @@ impl<K: Eq + Hash, V, H: BuildHasher> Owned<K, V, H> {
         ensures settings { IfOk result (λ m. settings_of m ≡ record { hasher = hasher; skipped = skipped; asked = 32 * bucket_count m; reserved = 0 }) }
         ensures succeeds { capacity ≡ 0 → IsOk result }
     {
-        match Table::with_capacity(alloc, skipped, capacity, hasher) {
+        match Incremental::with_capacity(alloc, skipped, capacity, hasher) {
             Ok(table) => Ok(Owned { table }),
             Err(e) => Err(e),
         }
@@ -225,6 +227,9 @@ impl<K: Eq + Hash, V, H: BuildHasher> Owned<K, V, H> {
         ensures due { find K.eq (entries self.old) k ≡ None → GrowsWhenDue (key_hash H.BuildHasher H.Hasher.Hasher K.hash_input self.old) (λ p. p.0) self.old k self.new }
         ensures first { OnOk result (FirstArrayWhenDue self.old self.new) }
         ensures noted { IsSome (find K.eq (entries self.old) k) → refused_of self.new ≡ refused_of self.old }
+        ensures relocates { find K.eq (entries self.old) k ≡ None → Relocates self.old self.new }
+        ensures two { find K.eq (entries self.old) k ≡ None → OnOk result (RelocatesTwo (key_hash H.BuildHasher H.Hasher.Hasher K.hash_input self.old k) self.old self.new) }
+        ensures waiting { IsSome (find K.eq (entries self.old) k) → waiting_of self.new ≡ waiting_of self.old }
         ensures unique { IsUnique K.eq self.new }
     {
         let hash = self.table.hash(&k);
@@ -251,6 +256,9 @@ impl<K: Eq + Hash, V, H: BuildHasher> Owned<K, V, H> {
         ensures due { find K.eq (entries self.old) k ≡ None → GrowsWhenDue (key_hash H.BuildHasher H.Hasher.Hasher K.hash_input self.old) (λ p. p.0) self.old k self.new }
         ensures first { find K.eq (entries self.old) k ≡ None → OnOk result (FirstArrayWhenDue self.old self.new) }
         ensures noted { IsSome (find K.eq (entries self.old) k) → refused_of self.new ≡ refused_of self.old }
+        ensures relocates { find K.eq (entries self.old) k ≡ None → Relocates self.old self.new }
+        ensures two { find K.eq (entries self.old) k ≡ None → OnOk result (RelocatesTwo (key_hash H.BuildHasher H.Hasher.Hasher K.hash_input self.old k) self.old self.new) }
+        ensures waiting { IsSome (find K.eq (entries self.old) k) → waiting_of self.new ≡ waiting_of self.old }
         ensures unique { IsUnique K.eq self.new }
     {
         let hash = self.table.hash(&k);
@@ -271,6 +279,7 @@ impl<K: Eq + Hash, V, H: BuildHasher> Owned<K, V, H> {
         ensures finds { IfSome result (λ x. (p : K × V) × (w : V) × (find K.eq (entries self.old) k.now ≡ Some p) × (K.eq k.now p.0 ≡ true) × WritesAt U.FnOnce u p x w × FindsInstead K.eq (entries self.old) k.now (Some (p.0, w)) (entries self.new)) }
         ensures missing { IfNone result (find K.eq (entries self.old) k.now ≡ None) }
         ensures noted { refused_of self.new ≡ refused_of self.old }
+        ensures waiting { waiting_of self.new ≡ waiting_of self.old }
         ensures unique { IsUnique K.eq self.new }
     {
         let hash = self.table.hash(k);
@@ -292,6 +301,8 @@ impl<K: Eq + Hash, V, H: BuildHasher> Owned<K, V, H> {
         ensures smaller { bucket_count self.new ≢ bucket_count self.old → IsSmaller (minimum_of self.old) (length (entries self.new)) (bucket_count self.old) (bucket_count self.new) }
         ensures due { OnSome result (ShrinksWhenDue self.old self.new) }
         ensures noted { IfNone result (refused_of self.new ≡ refused_of self.old) }
+        ensures relocates { OnSome result (RelocatesNone self.old self.new) }
+        ensures waiting { IfNone result (waiting_of self.new ≡ waiting_of self.old) }
         ensures unique { IsUnique K.eq self.new }
     {
         let hash = self.table.hash(k);
@@ -311,6 +322,8 @@ impl<K: Eq + Hash, V, H: BuildHasher> Owned<K, V, H> {
         ensures smaller { bucket_count self.new ≢ bucket_count self.old → IsSmaller (minimum_of self.old) (length (entries self.new)) (bucket_count self.old) (bucket_count self.new) }
         ensures due { OnSome result (ShrinksWhenDue self.old self.new) }
         ensures noted { IfNone result (refused_of self.new ≡ refused_of self.old) }
+        ensures relocates { OnSome result (RelocatesNone self.old self.new) }
+        ensures waiting { IfNone result (waiting_of self.new ≡ waiting_of self.old) }
         ensures unique { IsUnique K.eq self.new }
     {
         let hash = self.table.hash(k);
@@ -384,6 +397,7 @@ impl<K: Eq + Hash, V, H: BuildHasher> Owned<K, V, H> {
         ensures others { Holds self.old (remove (entries self.old) (index_of self.old place)) self.new }
         ensures smaller { bucket_count self.new ≢ bucket_count self.old → IsSmaller (minimum_of self.old) (length (entries self.new)) (bucket_count self.old) (bucket_count self.new) }
         ensures due { ShrinksWhenDue self.old self.new }
+        ensures relocates { RelocatesNone self.old self.new }
         ensures unique { IsUnique K.eq self.new }
     {
         self.table.remove_at(place)

@@ -2,12 +2,13 @@
 ghost use Rattle.std.specs.Prelude.{◌≡◌, ◌≢◌, ◌≤◌, ◌<◌, ◌++◌, suc, List, [], ◌∷◌, length, remove, Some, slice_get, OnErr, MatchOption};
 ghost use Rattle.std.specs.List.Sorted.{IsPermutation};
 ghost use Rattle.std.specs.Vec.{vec_len, vec_capacity};
-ghost use Rattle.scc_table.specs.Contents.{entries, bucket_count, minimum_of, refused_of};
+ghost use Rattle.scc_table.specs.Contents.{entries, bucket_count, minimum_of, refused_of, waiting_of};
 ghost use Rattle.scc_table.specs.Pairs.{IsUnique};
-ghost use Rattle.scc_table.specs.Places.{IsPlace, index_of};
+ghost use Rattle.scc_incremental.specs.Places.{IsPlace, index_of};
 ghost use Rattle.scc_table.specs.Sizes.{IsSmaller};
-ghost use Rattle.scc_table.specs.Standing.{StandsAt};
+ghost use Rattle.scc_incremental.specs.Places.{StandsAt};
 ghost use Rattle.scc_table.specs.Steps.{Holds, HoldsExactly, ShrinksWhenDue};
+ghost use Rattle.scc_map.specs.Relocations.{RelocatesNone};
 ghost use Rattle.scc_walks.specs.PairWalks.{CallableToWrite, CalledToWrite, GoesOn, Takes};
 
 use super::Owned;
@@ -29,6 +30,7 @@ impl<K: Eq + Hash, V, H: BuildHasher> Owned<K, V, H> {
         ensures full { OnErr result (vec_capacity taken.new ≤ vec_len taken.new) }
         ensures room { vec_capacity taken.old ≤ vec_capacity taken.new }
         ensures due { (taken.new.items ≡ taken.old.items → ⊥) → ShrinksWhenDue self.old self.new }
+        ensures relocates { RelocatesNone self.old self.new }
         ensures was_unique { IsUnique K.eq self.old }
         ensures unique { IsUnique K.eq self.new }
     {
@@ -48,6 +50,7 @@ impl<K: Eq + Hash, V, H: BuildHasher> Owned<K, V, H> {
         ensures full { OnErr result (L.capacity taken.new ≤ length (L.pairs taken.new)) }
         ensures room { L.capacity taken.old ≤ L.capacity taken.new }
         ensures due { (L.pairs taken.new ≡ L.pairs taken.old → ⊥) → ShrinksWhenDue self.old self.new }
+        ensures relocates { RelocatesNone self.old self.new }
         ensures was_unique { IsUnique K.eq self.old }
         ensures unique { IsUnique K.eq self.new }
     {
@@ -68,6 +71,7 @@ impl<K: Eq + Hash, V, H: BuildHasher> Owned<K, V, H> {
         requires { CallableToWrite F.FnMut GoesOn f (entries self.old) }
         ensures step { (stay : List (K × V)) × (more : List (K × V)) × (last : F) × Takes (CalledToWrite F.FnMut) f (entries self.old) stay more result last × (L.pairs taken.new ≡ L.pairs taken.old ++ more) × HoldsExactly self.old stay self.new }
         ensures noted { refused_of self.new ≡ refused_of self.old }
+        ensures waiting { waiting_of self.new ≡ waiting_of self.old }
         ensures full { OnErr result (L.capacity taken.new ≤ length (L.pairs taken.new)) }
         ensures room { L.capacity taken.old ≤ L.capacity taken.new }
     {
@@ -101,6 +105,7 @@ impl<K: Eq + Hash, V, H: BuildHasher> Owned<K, V, H> {
         ensures taken { (p : K × V) × (slice_get (entries self.old) (index_of self.old place) ≡ Some p) × (L.pairs taken.new ≡ L.pairs taken.old ++ p ∷ []) }
         ensures others { HoldsExactly self.old (remove (entries self.old) (index_of self.old place)) self.new }
         ensures noted { refused_of self.new ≡ refused_of self.old }
+        ensures waiting { waiting_of self.new ≡ waiting_of self.old }
         ensures next { MatchOption result (suc (index_of self.old place) ≡ length (entries self.old)) (StandsAt self.new (index_of self.old place)) }
         ensures capacity { L.capacity taken.new ≡ L.capacity taken.old }
     {

@@ -1,9 +1,9 @@
 //! Walks over the pairs of a map, from place to place.
 ghost use Rattle.std.specs.Prelude.{◌≡◌, [], suc, length, remove, slice_get, Some, MatchOption, false};
-ghost use Rattle.scc_table.specs.Contents.{entries, refused_of};
+ghost use Rattle.scc_table.specs.Contents.{entries, refused_of, waiting_of};
 ghost use Rattle.scc_table.specs.Pairs.{IsUnique};
-ghost use Rattle.scc_table.specs.Places.{IsPlace, index_of};
-ghost use Rattle.scc_table.specs.Standing.{StandsAt};
+ghost use Rattle.scc_incremental.specs.Places.{IsPlace, index_of};
+ghost use Rattle.scc_incremental.specs.Places.{StandsAt};
 ghost use Rattle.scc_table.specs.Steps.{HoldsExactly};
 ghost use Rattle.scc_table.specs.Walks.{CalledOn, CallableWhile};
 ghost use Rattle.scc_walks.specs.PairWalks.{PassesNone, PassesFirst};
@@ -34,12 +34,11 @@ impl<K: Eq + Hash, V, H: BuildHasher> Owned<K, V, H> {
         ensures pair { slice_get (entries self.old) (index_of self.old place) ≡ Some result.0 }
         ensures others { HoldsExactly self.old (remove (entries self.old) (index_of self.old place)) self.new }
         ensures noted { refused_of self.new ≡ refused_of self.old }
+        ensures waiting { waiting_of self.new ≡ waiting_of self.old }
         ensures next { MatchOption result.1 (suc (index_of self.old place) ≡ length (entries self.old)) (StandsAt self.new (index_of self.old place)) }
         ensures unique { IsUnique K.eq self.new }
     {
-        let pair = self.table.take_at(place);
-        let next = self.table.place_from(place);
-        (pair, next)
+        self.table.take_and_step(place)
     }
 
     /// The place of the first pair on which `p` answers true. It is called on the pairs in their order, up to that one.

@@ -1,12 +1,13 @@
 //! Walks that write into the pairs of a map, and take pairs out of it.
 ghost use Rattle.std.specs.Prelude.{◌≡◌, ◌≢◌, ◌++◌, List, [], length, Some, slice_get, ⊤};
 ghost use Rattle.std.specs.List.Sorted.{IsPermutation};
-ghost use Rattle.scc_table.specs.Contents.{entries, bucket_count, minimum_of, refused_of};
+ghost use Rattle.scc_table.specs.Contents.{entries, bucket_count, minimum_of, refused_of, waiting_of};
 ghost use Rattle.scc_table.specs.Pairs.{IsUnique, with_pair_value};
-ghost use Rattle.scc_table.specs.Places.{IsPlace, index_of};
+ghost use Rattle.scc_incremental.specs.Places.{IsPlace, index_of};
 ghost use Rattle.scc_table.specs.Sizes.{IsSmaller};
 ghost use Rattle.scc_table.specs.Steps.{Holds, HoldsExactly, ShrinksWhenDue};
-ghost use Rattle.scc_table.specs.Writes.{with_write_at};
+ghost use Rattle.scc_incremental.specs.Places.{with_write_at};
+ghost use Rattle.scc_map.specs.Relocations.{RelocatesNone};
 ghost use Rattle.scc_walks.specs.PairWalks.{CallableToWrite, CalledToWrite, Retains, TakesToWrite};
 
 use super::Owned;
@@ -23,6 +24,7 @@ impl<K: Eq + Hash, V, H: BuildHasher> Owned<K, V, H> {
         ensures holds { Holds self.old [] self.new }
         ensures smaller { bucket_count self.new ≢ bucket_count self.old → IsSmaller (minimum_of self.old) 0 (bucket_count self.old) (bucket_count self.new) }
         ensures due { ShrinksWhenDue self.old self.new }
+        ensures relocates { RelocatesNone self.old self.new }
         ensures unique { IsUnique K.eq self.new }
     {
         self.take_all();
@@ -36,6 +38,7 @@ impl<K: Eq + Hash, V, H: BuildHasher> Owned<K, V, H> {
         V: Drop,
         ensures step { HoldsExactly self.old [] self.new }
         ensures noted { refused_of self.new ≡ refused_of self.old }
+        ensures waiting { waiting_of self.new ≡ waiting_of self.old }
     {
         let mut at = self.table.first_place();
         while let Some(place) = at {
@@ -53,6 +56,7 @@ impl<K: Eq + Hash, V, H: BuildHasher> Owned<K, V, H> {
         ensures step { (es : List (K × V)) × (stay : List (K × V)) × (last : F) × IsPermutation (entries self.old) es × Retains (CalledToWrite F.FnMut) f es stay last × Holds self.old stay self.new }
         ensures smaller { bucket_count self.new ≢ bucket_count self.old → IsSmaller (minimum_of self.old) (length (entries self.new)) (bucket_count self.old) (bucket_count self.new) }
         ensures due { ShrinksWhenDue self.old self.new }
+        ensures relocates { RelocatesNone self.old self.new }
         ensures was_unique { IsUnique K.eq self.old }
         ensures unique { IsUnique K.eq self.new }
     {
@@ -69,6 +73,7 @@ impl<K: Eq + Hash, V, H: BuildHasher> Owned<K, V, H> {
         requires { CallableToWrite F.FnMut (λ answer. ⊤) f (entries self.old) }
         ensures step { (stay : List (K × V)) × (last : F) × Retains (CalledToWrite F.FnMut) f (entries self.old) stay last × HoldsExactly self.old stay self.new }
         ensures noted { refused_of self.new ≡ refused_of self.old }
+        ensures waiting { waiting_of self.new ≡ waiting_of self.old }
     {
         let mut at = self.table.first_place();
         while let Some(place) = at {

@@ -3,7 +3,7 @@ ghost use Rattle.std.specs.Prelude.{◌≡◌, ◌≢◌, ◌++◌, [], length, 
 ghost use Rattle.std.specs.Borrow.{sem};
 ghost use Rattle.std.specs.Fn.{CalledAt};
 ghost use Rattle.scc_table.specs.Contents.{entries, bucket_count, minimum_of};
-ghost use Rattle.scc_table.specs.Places.{IsPlace};
+ghost use Rattle.scc_incremental.specs.Places.{IsPlace};
 ghost use Rattle.scc_table.specs.Sizes.{IsSmaller};
 ghost use Rattle.scc_table.specs.Steps.{Holds, ShrinksWhenDue};
 ghost use Rattle.scc_set.specs.Keys.{IsUnique};

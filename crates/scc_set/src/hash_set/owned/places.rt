@@ -2,10 +2,10 @@
 ghost use Rattle.std.specs.Prelude.{◌≡◌, ◌≢◌, [], suc, length, remove, slice_get, Some, MatchOption, false};
 ghost use Rattle.std.specs.Fn.{CalledAt, TakesAt};
 ghost use Rattle.scc_table.specs.Contents.{entries, bucket_count, minimum_of, refused_of};
-ghost use Rattle.scc_table.specs.Placed.{front_of};
-ghost use Rattle.scc_table.specs.Places.{IsPlace, index_of};
+ghost use Rattle.scc_incremental.specs.Placed.{front_of};
+ghost use Rattle.scc_incremental.specs.Places.{IsPlace, index_of};
 ghost use Rattle.scc_table.specs.Sizes.{IsSmaller};
-ghost use Rattle.scc_table.specs.Standing.{StandsAt};
+ghost use Rattle.scc_incremental.specs.Places.{StandsAt};
 ghost use Rattle.scc_table.specs.Steps.{Holds, HoldsExactly, ShrinksWhenDue};
 ghost use Rattle.scc_set.specs.Keys.{IsUnique};
 ghost use Rattle.scc_set.specs.SetWalks.{CallableWhile, PassesAt, PassesNone};

@@ -10,3 +10,6 @@ returns-clause-full g c = rw (← c.self.view_is) c.insert_new.ensures.full
 
 pub returns-clause-grows : goal.returns-clause-grows
 returns-clause-grows g c = rw (← c.self.view_is) record { growth = c.insert_new.ensures.growth; due = c.insert_new.ensures.due; kept = c.insert_new.ensures.kept }
+
+pub returns-clause-ok : goal.returns-clause-ok
+returns-clause-ok g c = rw (← c.self.view_is) c.insert_new.ensures.ok

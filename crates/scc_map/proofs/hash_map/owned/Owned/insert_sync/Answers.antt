@@ -1,7 +1,8 @@
-use Rattle.std.proofs.Common.{refl, rules}
+use Rattle.std.proofs.Common.{refl, rules, subst}
 use Rattle.scc_table.specs.Contents.{entries}
 use Rattle.scc_table.proofs.Lookups.{find-position, find-position_none, finds-added}
 use Rattle.scc_map.proofs.CallerLemmas.{finds-rearranged}
+use Rattle.scc_map.specs.Relocations.{RelocatesTwo}
 use Rattle.scc_map.proofs.hash_map.owned.Owned.insert_sync.Goals as goal
 use Rattle.scc_map.proofs.hash_map.owned.Owned.insert_sync.Goals.{in-Ok, in-Err}
 
@@ -60,5 +61,20 @@ returns-after-insert_new-clause-same g c =
 
 pub returns-after-insert_new-clause-noted : goal.returns-after-insert_new-clause-noted
 returns-after-insert_new-clause-noted g c =
+    let none = find-position_none (g.K.PartialEq.eq c.args.k) (entries c.self.inside.table) c.in-None.ensures.place in
+    rw (← c.self.view_is, none) (λ there. absurd (search rules))
+
+pub returns-after-insert_new-clause-relocates : goal.returns-after-insert_new-clause-relocates
+returns-after-insert_new-clause-relocates g c = λ _. rw (← c.self.view_is) record { fewer = c.insert_new.ensures.fewer; less = c.insert_new.ensures.less; most = c.insert_new.ensures.most; grown = c.insert_new.ensures.grown; array = c.insert_new.ensures.array }
+
+pub returns-after-insert_new-clause-two : goal.returns-after-insert_new-clause-two
+returns-after-insert_new-clause-two g c =
+    elim c.match-insert_new.branch [
+      | in-Ok w ↦ λ _. rw (w.result-is, ← c.self.view_is) (subst (λ h. RelocatesTwo h c.self.inside.table c.insert_new.new.self) c.hash-hash.ensures record { settled = w.in-Ok.ensures.settled; exact = w.in-Ok.ensures.exact })
+      | in-Err w ↦ λ _. rw w.result-is tt
+    ]
+
+pub returns-after-insert_new-clause-waiting : goal.returns-after-insert_new-clause-waiting
+returns-after-insert_new-clause-waiting g c =
     let none = find-position_none (g.K.PartialEq.eq c.args.k) (entries c.self.inside.table) c.in-None.ensures.place in
     rw (← c.self.view_is, none) (λ there. absurd (search rules))

@@ -3,6 +3,7 @@ use Rattle.std.proofs.lemmas.List.Sorted.{IsPermutation-refl}
 use Rattle.scc_table.specs.Contents.{entries, bucket_count, minimum_of}
 use Rattle.scc_table.proofs.Resizes.{smaller-by, shrinks-after}
 use Rattle.scc_walks.proofs.Takings.{appended-none, appended-some, holds-after, takes-count}
+use Rattle.scc_map.proofs.Relocations.{shrunk-after, kept-after}
 use Rattle.scc_map.proofs.hash_map.owned.Owned.iter_mut_into.Goals as goal
 
 pub returns-then-len-before-clause-step : goal.returns-then-len-before-clause-step
@@ -34,3 +35,11 @@ returns-else-len-before-clause-due g c =
 pub returns-then-len-before-clause-due : goal.returns-then-len-before-clause-due
 returns-then-len-before-clause-due g c =
     λ taken. shrinks-after c.args.self.now c.take_walk-result.new.self c.shrink.new.self c.take_walk-result.ensures.step.5.buckets c.take_walk-result.ensures.noted (rw c.self.view_is at c.shrink.ensures.due)
+
+pub returns-then-len-before-clause-relocates : goal.returns-then-len-before-clause-relocates
+returns-then-len-before-clause-relocates g c =
+    let held = c.take_walk-result.ensures.step.5 in
+    shrunk-after c.args.self.now c.take_walk-result.new.self c.shrink.new.self held.buckets (ap (λ s. s.asked + s.reserved) held.settings) c.take_walk-result.ensures.waiting (rw c.self.view_is at c.shrink.ensures.resizes) (rw c.self.view_is at c.shrink.ensures.spreads)
+
+pub returns-else-len-before-clause-relocates : goal.returns-else-len-before-clause-relocates
+returns-else-len-before-clause-relocates g c = kept-after c.args.self.now c.take_walk-result.new.self c.take_walk-result.ensures.step.5.buckets c.take_walk-result.ensures.waiting

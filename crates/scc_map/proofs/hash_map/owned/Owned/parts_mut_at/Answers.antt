@@ -1,5 +1,5 @@
 use Rattle.std.proofs.Common.{refl, ap}
-use Rattle.scc_table.specs.Writes.{with_write_at}
+use Rattle.scc_incremental.specs.Places.{with_write_at}
 use Rattle.scc_table.specs.Pairs.{with_pair_value}
 use Rattle.scc_map.proofs.hash_map.owned.Owned.parts_mut_at.Goals as goal
 

@@ -1,12 +1,13 @@
-use Rattle.std.proofs.Common.{◌≡◌, Some, refl, sym, ap, ◌∙◌, rules, true, false}
+use Rattle.std.proofs.Common.{◌≡◌, Some, refl, sym, ap, ◌∙◌, rules, true, false, ◌+◌}
 use Rattle.scc_table.specs.Contents.{entries}
 use Rattle.scc_table.specs.Pairs.{find}
-use Rattle.scc_table.specs.Writes.{IsPlace-with_write_at}
+use Rattle.scc_incremental.specs.Placed.{IsPlace-with_write_at}
 use Rattle.scc_table.specs.Pairs.{with_pair_value}
 use Rattle.scc_map.proofs.CallerLemmas.{finds-without}
 use Rattle.scc_table.proofs.Lookups.{find-position_none}
-use Rattle.scc_table.proofs.KeyWrites.{place-found, value-written, value-unique, written-taken_out, written-pair, noted-write}
+use Rattle.scc_incremental.proofs.AtPlaces.{place-found, value-written, value-unique, written-taken_out, written-pair, noted-write}
 use Rattle.scc_table.proofs.Resizes.{shrinks-after}
+use Rattle.scc_map.proofs.Relocations.{removed-after, waiting-write}
 use Rattle.scc_map.proofs.hash_map.owned.Owned.remove_if_sync.Goals as goal
 
 pub returns-in_err-place-clause-step : goal.returns-in_err-place-clause-step
@@ -107,3 +108,19 @@ returns-then-f-clause-due g c =
 
 pub returns-else-f-clause-noted : goal.returns-else-f-clause-noted
 returns-else-f-clause-noted g c = noted-write with_pair_value c.args.self.now c.in_ok-place.place c.f.new.arg2
+
+pub value_mut_at-requires : goal.value_mut_at-requires
+value_mut_at-requires g c = let found = rw c.self.view_is at c.in_ok-place.ensures.place in found.within
+
+pub returns-then-f-clause-relocates : goal.returns-then-f-clause-relocates
+returns-then-f-clause-relocates g c =
+    let laws = g.met.K.Eq.laws in
+    let m = c.args.self.now in
+    let found = rw c.self.view_is at c.in_ok-place.ensures.place in
+    let unique = rw c.self.view_is at c.in_ok-place.ensures.unique in
+    let f = place-found g.K.PartialEq.eq m c.args.k.now c.in_ok-place.place found in
+    let x = value-written laws m c.in_ok-place.place found.within c.args.k.now unique f c.f.new.arg2 in
+    removed-after m _ c.remove_at.new.self x.buckets (ap (λ s. s.asked + s.reserved) x.settings) (waiting-write with_pair_value m c.in_ok-place.place c.f.new.arg2) c.remove_at.ensures.relocates
+
+pub returns-else-f-clause-waiting : goal.returns-else-f-clause-waiting
+returns-else-f-clause-waiting g c = waiting-write with_pair_value c.args.self.now c.in_ok-place.place c.f.new.arg2

@@ -2,12 +2,12 @@ use Rattle.std.proofs.Common.{◌≡◌, ◌∙◌, sym, ap, Some}
 use Rattle.scc_table.specs.Contents.{entries, refused_of}
 use Rattle.std.specs.List.{slice_get}
 use Rattle.scc_table.specs.Pairs.{find}
-use Rattle.scc_table.specs.Places.{index_of}
-use Rattle.scc_table.specs.Writes.{IsPlace-with_write_at}
+use Rattle.scc_incremental.specs.Places.{index_of}
+use Rattle.scc_incremental.specs.Placed.{IsPlace-with_write_at}
 use Rattle.scc_table.specs.Pairs.{with_pair_key}
-use Rattle.scc_table.proofs.Placed.{entry_of-is}
+use Rattle.scc_incremental.proofs.AtPlaces.{entry_of-is}
 use Rattle.scc_table.proofs.Lookups.{find-position_none}
-use Rattle.scc_table.proofs.KeyWrites.{place-found, key-written, key-unique, key-got, noted-write}
+use Rattle.scc_incremental.proofs.AtPlaces.{place-found, key-written, key-unique, key-got, noted-write}
 use Rattle.scc_map.proofs.hash_map.owned.Owned.replace_sync.Goals as goal
 
 pub replace_key_at-old-requires-clause-same : goal.replace_key_at-old-requires-clause-same
@@ -53,3 +53,6 @@ returns-in-Some-clause-unique g c =
 
 pub returns-in-Some-clause-noted : goal.returns-in-Some-clause-noted
 returns-in-Some-clause-noted g c = ap refused_of c.replace_key_at-old.ensures.new ∙ noted-write with_pair_key c.args.self.now c.in-Some.place c.args.k
+
+pub replace_key_at-old-requires-clause-within : goal.replace_key_at-old-requires-clause-within
+replace_key_at-old-requires-clause-within g c = let found = rw c.self.view_is at c.in-Some.ensures.place in found.within

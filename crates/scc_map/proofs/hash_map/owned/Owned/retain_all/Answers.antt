@@ -1,78 +1,85 @@
-use Rattle.std.proofs.Common.{◌≡◌, ◌∙◌, ◌++◌, [], refl, length, drop, take, subst, append-nil}
-use Rattle.scc_table.specs.Contents.{entries}
+use Rattle.std.proofs.Common.{◌≡◌, ◌∙◌, ap, ◌++◌, [], refl, length, drop, take, subst, append-nil}
+use Rattle.scc_table.specs.Contents.{entries, waiting_of}
+use Rattle.scc_table.specs.Pairs.{with_pair_value}
 use Rattle.scc_walks.specs.PairWalks.{CalledToWrite, Retains, ended}
 use Rattle.scc_table.proofs.Placed.{drop-all}
-use Rattle.scc_walks.proofs.Reached.{reached-first, take-all}
-use Rattle.scc_walks.proofs.Visits.{visited, kept-next, kept-nearer, took-next, took-nearer, retains-kept, retains-removed, turn-here, turn-kept, turn-removed}
+use Rattle.scc_walks.proofs.Reached.{take-all}
+use Rattle.scc_incremental.specs.Places.{spot_of}
+use Rattle.scc_incremental.proofs.Reached.{walk_spot}
+use Rattle.scc_walks.proofs.Visits.{visited, kept-nearer, took-nearer, retains-kept, retains-removed, turn-here, turn-kept, turn-removed}
+use Rattle.scc_map.proofs.Relocations.{waiting-write}
+use Rattle.scc_map.proofs.SpotVisits.{first-spot, place-after, kept-spot, others-out, took-spot}
 use Rattle.scc_map.proofs.hash_map.owned.Owned.retain_all.Goals as goal
 
 pub loop-at-init : goal.loop-at-init
 loop-at-init g c =
-    let start = reached-first c.args.self.now c.first_place-at.result (rw c.self.view_is at c.first_place-at.ensures) in
-    record { callable = rw start.0 c.requires; within = start.1; buckets = refl; settings = refl; noted = refl; calls = λ stay last r. rw start.0 (rw start.0 at r) }
+    let start = first-spot c.args.self.now c.first_place-at.result (rw c.self.view_is at c.first_place-at.ensures) in
+    record { callable = rw start.0 c.requires; within = start.1; buckets = refl; settings = refl; noted = refl; waiting = refl; calls = λ stay last r. rw start.0 (rw start.0 at r) }
 
 pub visit-requires-clause-callable : goal.visit-requires-clause-callable
-visit-requires-clause-callable g c = turn-here c.loop-at.self c.in-Some.place (rw c.in-Some.is at c.loop-at.invariant.callable)
+visit-requires-clause-callable g c = turn-here c.loop-at.self (spot_of c.loop-at.self c.in-Some.place) (rw c.in-Some.is at c.loop-at.invariant.callable)
 
 pub next_place-at-requires : goal.next_place-at-requires
 next_place-at-requires g c =
     let x = c.if-visit.ensures in
     let within = rw c.in-Some.is at c.loop-at.invariant.within in
-    (visited c.loop-at.self c.in-Some.place x.0 x.1 c.visit.new.self within x.2 x.4).within
+    place-after c.loop-at.self c.in-Some.place x.0 x.1 c.visit.new.self x.4 (visited c.loop-at.self (spot_of c.loop-at.self c.in-Some.place) x.0 x.1 c.visit.new.self within x.2 x.4)
 
 pub loop-at-smaller-then-visit : goal.loop-at-smaller-then-visit
 loop-at-smaller-then-visit g c =
     let x = c.if-visit.ensures in
     let within = rw c.in-Some.is at c.loop-at.invariant.within in
-    let v = visited c.loop-at.self c.in-Some.place x.0 x.1 c.visit.new.self within x.2 x.4 in
-    let next = kept-next c.loop-at.self c.in-Some.place x.0 x.1 c.visit.new.self v c.next_place-at.result c.next_place-at.ensures in
-    rw c.in-Some.is (kept-nearer c.loop-at.self c.in-Some.place x.0 x.1 c.visit.new.self v c.next_place-at.result within next.0)
+    let v = visited c.loop-at.self (spot_of c.loop-at.self c.in-Some.place) x.0 x.1 c.visit.new.self within x.2 x.4 in
+    let next = kept-spot c.loop-at.self c.in-Some.place x.0 x.1 c.visit.new.self x.4 v c.next_place-at.result c.next_place-at.ensures in
+    rw c.in-Some.is (kept-nearer c.loop-at.self (spot_of c.loop-at.self c.in-Some.place) x.0 x.1 c.visit.new.self v (walk_spot c.visit.new.self c.next_place-at.result) within next.0)
 
 pub loop-at-preserved-then-visit : goal.loop-at-preserved-then-visit
 loop-at-preserved-then-visit g c =
     let x = c.if-visit.ensures in
     let within = rw c.in-Some.is at c.loop-at.invariant.within in
-    let v = visited c.loop-at.self c.in-Some.place x.0 x.1 c.visit.new.self within x.2 x.4 in
-    let next = kept-next c.loop-at.self c.in-Some.place x.0 x.1 c.visit.new.self v c.next_place-at.result c.next_place-at.ensures in
+    let v = visited c.loop-at.self (spot_of c.loop-at.self c.in-Some.place) x.0 x.1 c.visit.new.self within x.2 x.4 in
+    let next = kept-spot c.loop-at.self c.in-Some.place x.0 x.1 c.visit.new.self x.4 v c.next_place-at.result c.next_place-at.ensures in
     record {
-      callable = turn-kept c.loop-at.self c.in-Some.place x.0 x.1 c.visit.new.self v (rw c.in-Some.is at c.loop-at.invariant.callable) (_, x.1, tt, x.3) c.next_place-at.result next.0;
+      callable = turn-kept c.loop-at.self (spot_of c.loop-at.self c.in-Some.place) x.0 x.1 c.visit.new.self v (rw c.in-Some.is at c.loop-at.invariant.callable) (_, x.1, tt, x.3) (walk_spot c.visit.new.self c.next_place-at.result) next.0;
       within = next.1;
       buckets = v.buckets ∙ c.loop-at.invariant.buckets;
       settings = v.settings ∙ c.loop-at.invariant.settings;
       noted = v.noted ∙ c.loop-at.invariant.noted;
-      calls = retains-kept c.args.f (entries c.args.self.now) c.loop-at.self c.in-Some.place c.loop-at.f c.visit.new.f x.0 x.1 c.visit.new.self v (rw c.in-Some.is at c.loop-at.invariant.calls) x.3 c.next_place-at.result next.0;
+      waiting = (ap waiting_of x.4 ∙ waiting-write with_pair_value c.loop-at.self c.in-Some.place x.1) ∙ c.loop-at.invariant.waiting;
+      calls = retains-kept c.args.f (entries c.args.self.now) c.loop-at.self (spot_of c.loop-at.self c.in-Some.place) c.loop-at.f c.visit.new.f x.0 x.1 c.visit.new.self v (rw c.in-Some.is at c.loop-at.invariant.calls) x.3 (walk_spot c.visit.new.self c.next_place-at.result) next.0;
     }
 
 pub take_and_step-pair-requires : goal.take_and_step-pair-requires
 take_and_step-pair-requires g c =
     let x = c.if-visit.ensures in
     let within = rw c.in-Some.is at c.loop-at.invariant.within in
-    (visited c.loop-at.self c.in-Some.place x.0 x.1 c.visit.new.self within x.2 x.4).within
+    place-after c.loop-at.self c.in-Some.place x.0 x.1 c.visit.new.self x.4 (visited c.loop-at.self (spot_of c.loop-at.self c.in-Some.place) x.0 x.1 c.visit.new.self within x.2 x.4)
 
 pub loop-at-smaller : goal.loop-at-smaller
 loop-at-smaller g c =
     let x = c.if-visit.ensures in
     let within = rw c.in-Some.is at c.loop-at.invariant.within in
-    let v = visited c.loop-at.self c.in-Some.place x.0 x.1 c.visit.new.self within x.2 x.4 in
+    let v = visited c.loop-at.self (spot_of c.loop-at.self c.in-Some.place) x.0 x.1 c.visit.new.self within x.2 x.4 in
     let d = c.take_and_step-pair.new.self in
-    let next = took-next c.loop-at.self c.in-Some.place x.0 x.1 c.visit.new.self v d c.take_and_step-pair.ensures.others c.take_and_step-pair.result.1 c.take_and_step-pair.ensures.next in
-    rw c.in-Some.is (took-nearer c.loop-at.self c.in-Some.place x.0 x.1 c.visit.new.self v d c.take_and_step-pair.ensures.others c.take_and_step-pair.result.1 within next.0)
+    let next = took-spot c.loop-at.self c.in-Some.place x.0 x.1 c.visit.new.self x.4 v d c.take_and_step-pair.ensures.others c.take_and_step-pair.result.1 c.take_and_step-pair.ensures.next in
+    rw c.in-Some.is (took-nearer c.loop-at.self (spot_of c.loop-at.self c.in-Some.place) x.0 x.1 c.visit.new.self v d (others-out c.loop-at.self c.in-Some.place x.0 x.1 c.visit.new.self x.4 v d c.take_and_step-pair.ensures.others) (walk_spot d c.take_and_step-pair.result.1) within next.0)
 
 pub loop-at-preserved : goal.loop-at-preserved
 loop-at-preserved g c =
     let x = c.if-visit.ensures in
     let within = rw c.in-Some.is at c.loop-at.invariant.within in
-    let v = visited c.loop-at.self c.in-Some.place x.0 x.1 c.visit.new.self within x.2 x.4 in
+    let v = visited c.loop-at.self (spot_of c.loop-at.self c.in-Some.place) x.0 x.1 c.visit.new.self within x.2 x.4 in
     let d = c.take_and_step-pair.new.self in
-    let others = c.take_and_step-pair.ensures.others in
-    let next = took-next c.loop-at.self c.in-Some.place x.0 x.1 c.visit.new.self v d others c.take_and_step-pair.result.1 c.take_and_step-pair.ensures.next in
+    let others = others-out c.loop-at.self c.in-Some.place x.0 x.1 c.visit.new.self x.4 v d c.take_and_step-pair.ensures.others in
+    let next = took-spot c.loop-at.self c.in-Some.place x.0 x.1 c.visit.new.self x.4 v d c.take_and_step-pair.ensures.others c.take_and_step-pair.result.1 c.take_and_step-pair.ensures.next in
     record {
-      callable = turn-removed c.loop-at.self c.in-Some.place x.0 x.1 c.visit.new.self v (rw c.in-Some.is at c.loop-at.invariant.callable) (_, x.1, tt, x.3) d others c.take_and_step-pair.result.1 next.0;
+      callable = turn-removed c.loop-at.self (spot_of c.loop-at.self c.in-Some.place) x.0 x.1 c.visit.new.self v (rw c.in-Some.is at c.loop-at.invariant.callable) (_, x.1, tt, x.3) d others (walk_spot d c.take_and_step-pair.result.1) next.0;
       within = next.1;
       buckets = others.buckets ∙ v.buckets ∙ c.loop-at.invariant.buckets;
       settings = others.settings ∙ v.settings ∙ c.loop-at.invariant.settings;
       noted = c.take_and_step-pair.ensures.noted ∙ v.noted ∙ c.loop-at.invariant.noted;
-      calls = retains-removed c.args.f (entries c.args.self.now) c.loop-at.self c.in-Some.place c.loop-at.f c.visit.new.f x.0 x.1 c.visit.new.self v (rw c.in-Some.is at c.loop-at.invariant.calls) x.3 d others c.take_and_step-pair.result.1 next.0;
+      waiting = c.take_and_step-pair.ensures.waiting ∙ (ap waiting_of x.4 ∙ waiting-write with_pair_value c.loop-at.self c.in-Some.place x.1) ∙ c.loop-at.invariant.waiting;
+      calls = retains-removed c.args.f (entries c.args.self.now) c.loop-at.self (spot_of c.loop-at.self c.in-Some.place) c.loop-at.f c.visit.new.f x.0 x.1 c.visit.new.self v (rw c.in-Some.is at c.loop-at.invariant.calls) x.3 d others (walk_spot d c.take_and_step-pair.result.1) next.0;
     }
 
 pub returns-clause-step : goal.returns-clause-step

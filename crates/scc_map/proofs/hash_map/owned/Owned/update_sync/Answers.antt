@@ -2,8 +2,9 @@ use Rattle.std.proofs.Common.{◌≡◌, Some, refl, sym, ◌∙◌}
 use Rattle.scc_table.specs.Contents.{entries}
 use Rattle.scc_table.specs.Pairs.{find, with_pair_value}
 use Rattle.scc_table.proofs.Lookups.{find-position_none}
-use Rattle.scc_table.proofs.KeyWrites.{noted-write, place-found, value-written, value-unique}
+use Rattle.scc_incremental.proofs.AtPlaces.{noted-write, place-found, value-written, value-unique}
 use Rattle.scc_map.proofs.CallerLemmas.{finds-set_value}
+use Rattle.scc_map.proofs.Relocations.{waiting-write}
 use Rattle.scc_map.proofs.hash_map.owned.Owned.update_sync.Goals as goal
 
 pub u-requires : goal.u-requires
@@ -64,3 +65,9 @@ returns-in-None-clause-missing g c = rw (← c.self.view_is) (find-position_none
 
 pub returns-in-Some-clause-noted : goal.returns-in-Some-clause-noted
 returns-in-Some-clause-noted g c = noted-write with_pair_value c.args.self.now c.in-Some.place c.u.new.arg3
+
+pub parts_mut_at-value-requires : goal.parts_mut_at-value-requires
+parts_mut_at-value-requires g c = let found = rw c.self.view_is at c.in-Some.ensures.place in found.within
+
+pub returns-in-Some-clause-waiting : goal.returns-in-Some-clause-waiting
+returns-in-Some-clause-waiting g c = waiting-write with_pair_value c.args.self.now c.in-Some.place c.u.new.arg3

@@ -1,9 +1,12 @@
-use Rattle.std.proofs.Common.{◌≡◌, Some, sym, ap, ◌∙◌, rules}
+use Rattle.std.proofs.Common.{◌≡◌, Some, sym, ap, ◌∙◌, rules, subst}
 use Rattle.scc_table.specs.Contents.{entries}
 use Rattle.scc_table.specs.Pairs.{find, with_pair_value}
 use Rattle.scc_map.proofs.CallerLemmas.{finds-rearranged, finds-set_value}
 use Rattle.scc_table.proofs.Lookups.{find-position_none, finds-added}
-use Rattle.scc_table.proofs.KeyWrites.{grows-same, noted-write, place-found, value-written, value-unique}
+use Rattle.scc_table.proofs.KeyWrites.{grows-same}
+use Rattle.scc_incremental.proofs.AtPlaces.{noted-write, place-found, value-written, value-unique}
+use Rattle.scc_map.specs.Relocations.{RelocatesTwo}
+use Rattle.scc_map.proofs.Relocations.{waiting-write}
 use Rattle.scc_map.proofs.hash_map.owned.Owned.upsert_sync.Goals as goal
 use Rattle.scc_map.proofs.hash_map.owned.Owned.upsert_sync.Goals.{in-Ok, in-Err}
 
@@ -98,3 +101,34 @@ pub returns-after-insert_new-clause-noted : goal.returns-after-insert_new-clause
 returns-after-insert_new-clause-noted g c =
     let none = find-position_none (g.K.PartialEq.eq c.args.k) (entries c.self.inside.table) c.in-None.ensures.place in
     rw (← c.self.view_is, none) (λ there. absurd (search rules))
+
+pub value_mut_at-requires : goal.value_mut_at-requires
+value_mut_at-requires g c = let found = rw c.self.view_is at c.in-Some.ensures.place in found.within
+
+pub returns-after-insert_new-clause-relocates : goal.returns-after-insert_new-clause-relocates
+returns-after-insert_new-clause-relocates g c = λ _. rw (← c.self.view_is) record { fewer = c.insert_new.ensures.fewer; less = c.insert_new.ensures.less; most = c.insert_new.ensures.most; grown = c.insert_new.ensures.grown; array = c.insert_new.ensures.array }
+
+pub returns-after-insert_new-clause-two : goal.returns-after-insert_new-clause-two
+returns-after-insert_new-clause-two g c =
+    elim c.match-insert_new.branch [
+      | in-Ok w ↦ λ _. rw (w.result-is, ← c.self.view_is) (subst (λ h. RelocatesTwo h c.self.inside.table c.insert_new.new.self) c.hash-hash.ensures record { settled = w.in-Ok.ensures.settled; exact = w.in-Ok.ensures.exact })
+      | in-Err w ↦ λ _. rw w.result-is tt
+    ]
+
+pub returns-after-insert_new-clause-waiting : goal.returns-after-insert_new-clause-waiting
+returns-after-insert_new-clause-waiting g c =
+    let none = find-position_none (g.K.PartialEq.eq c.args.k) (entries c.self.inside.table) c.in-None.ensures.place in
+    rw (← c.self.view_is, none) (λ there. absurd (search rules))
+
+pub returns-in-Some-clause-relocates : goal.returns-in-Some-clause-relocates
+returns-in-Some-clause-relocates g c =
+    let f = place-found g.K.PartialEq.eq c.args.self.now c.args.k c.in-Some.place (rw c.self.view_is at c.in-Some.ensures.place) in
+    λ none. let here = rw f.2 at none in cc
+
+pub returns-in-Some-clause-two : goal.returns-in-Some-clause-two
+returns-in-Some-clause-two g c =
+    let f = place-found g.K.PartialEq.eq c.args.self.now c.args.k c.in-Some.place (rw c.self.view_is at c.in-Some.ensures.place) in
+    λ none. let here = rw f.2 at none in cc
+
+pub returns-in-Some-clause-waiting : goal.returns-in-Some-clause-waiting
+returns-in-Some-clause-waiting g c = λ _. waiting-write with_pair_value c.args.self.now c.in-Some.place c.replace.new.dest

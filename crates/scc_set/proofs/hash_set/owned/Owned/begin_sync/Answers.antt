@@ -1,5 +1,5 @@
 use Rattle.std.proofs.Common.{refl}
-use Rattle.scc_table.proofs.Placed.{splits-there, front-none}
+use Rattle.scc_incremental.proofs.AtPlaces.{splits-there, front-none}
 use Rattle.scc_set.proofs.hash_set.owned.Owned.begin_sync.Goals as goal
 
 pub returns-in-Some : goal.returns-in-Some

@@ -1,4 +1,4 @@
-use Rattle.scc_table.proofs.Mapped.{IsPlace-from_mapped}
+use Rattle.scc_incremental.proofs.MappedPlaces.{IsPlace-from_mapped}
 use Rattle.scc_set.proofs.Places.{follows}
 use Rattle.scc_set.proofs.hash_set.owned.Owned.next_place.Goals as goal
 

@@ -1,4 +1,5 @@
-use Rattle.scc_table.proofs.Mapped.{IsPlace-from_mapped, ShrinksWhenDue-mapped}
+use Rattle.scc_table.proofs.Mapped.{ShrinksWhenDue-mapped}
+use Rattle.scc_incremental.proofs.MappedPlaces.{IsPlace-from_mapped}
 use Rattle.scc_set.proofs.Sets.{smaller-keys, unique-keys}
 use Rattle.scc_set.proofs.Places.{get-key, holds-others}
 use Rattle.scc_set.proofs.hash_set.owned.Owned.remove_at.Goals as goal

@@ -1,4 +1,4 @@
-use Rattle.scc_table.proofs.Mapped.{IsPlace-from_mapped}
+use Rattle.scc_incremental.proofs.MappedPlaces.{IsPlace-from_mapped}
 use Rattle.scc_set.proofs.Sets.{noted-keys, unique-keys}
 use Rattle.scc_set.proofs.Places.{get-key, exactly-others, follows-taken}
 use Rattle.scc_set.proofs.hash_set.owned.Owned.take_and_step.Goals as goal

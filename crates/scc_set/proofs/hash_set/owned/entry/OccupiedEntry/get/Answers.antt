@@ -1,5 +1,5 @@
 use Rattle.std.proofs.Common.{sym}
-use Rattle.scc_table.proofs.Placed.{entry_of-is}
+use Rattle.scc_incremental.proofs.AtPlaces.{entry_of-is}
 use Rattle.scc_set.proofs.hash_set.owned.entry.OccupiedEntry.get.Goals as goal
 
 pub returns : goal.returns

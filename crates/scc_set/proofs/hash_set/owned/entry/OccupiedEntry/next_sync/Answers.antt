@@ -1,5 +1,5 @@
 use Rattle.std.proofs.Common.{refl}
-use Rattle.scc_table.proofs.Placed.{back-none, next-there}
+use Rattle.scc_incremental.proofs.AtPlaces.{back-none, next-there}
 use Rattle.scc_set.proofs.hash_set.owned.entry.OccupiedEntry.next_sync.Goals as goal
 
 pub returns-in-Some : goal.returns-in-Some

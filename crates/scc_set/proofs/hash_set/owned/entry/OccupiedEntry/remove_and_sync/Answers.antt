@@ -1,5 +1,5 @@
 use Rattle.std.proofs.Common.{refl, sym}
-use Rattle.scc_table.proofs.Placed.{back-none, left-there, past-there, entry_of-is}
+use Rattle.scc_incremental.proofs.AtPlaces.{back-none, left-there, past-there, entry_of-is}
 use Rattle.scc_set.proofs.hash_set.owned.entry.OccupiedEntry.remove_and_sync.Goals as goal
 
 pub returns-in-Some : goal.returns-in-Some

@@ -11,5 +11,7 @@ returns-in-Ok g c =
     ((refl, λ w. refl, tt), record { entry = rw c.in-Vacant.is ((c.f-value.result, c.f-value.ensures, inserted-after c.in-Vacant.entry c.in-Vacant.entry.guard.now c.insert_new.new.self c.f-value.result _ refl refl refl c.in-Ok.ensures.ok)); refused = tt; vacant = tt; full = tt; growth = rw c.in-Vacant.is record { grows = c.insert_new.ensures.grows; first = c.in-Ok.ensures.first }; unique = c.in-Ok.ensures.unique; kept = tt })
 
 pub returns-in-Err : goal.returns-in-Err
-returns-in-Err g c =
-    rw c.in-Vacant.is ((refl, λ _. tt, record { rests = c.in-Err.ensures.rests; grows = c.insert_new.ensures.grows; unique = c.insert_new.ensures.unique }), record { entry = tt; refused = (c.f-value.result, c.f-value.ensures, rw c.in-Err.ensures.refused refl); vacant = tt; full = c.in-Err.ensures.full; growth = tt; unique = tt; kept = tt })
+returns-in-Err g c = (
+  (refl, λ _. tt, rw c.in-Vacant.is (record { rests = c.in-Err.ensures.rests; grows = c.insert_new.ensures.grows; unique = c.insert_new.ensures.unique })),
+  record { entry = tt; refused = rw c.in-Vacant.is ((c.f-value.result, c.f-value.ensures, rw c.in-Err.ensures.refused refl)); vacant = rw c.in-Vacant.is tt; full = rw c.in-Vacant.is c.in-Err.ensures.full; growth = tt; unique = tt; kept = tt },
+)

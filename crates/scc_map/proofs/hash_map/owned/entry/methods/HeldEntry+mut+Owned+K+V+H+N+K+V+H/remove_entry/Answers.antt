@@ -1,5 +1,5 @@
 use Rattle.std.proofs.Common.{refl}
-use Rattle.scc_table.specs.Placed.{front_of, back_of}
+use Rattle.scc_table.specs.Placed as spots
 use Rattle.scc_map.proofs.Entries.{pair-is}
 use Rattle.scc_map.proofs.hash_map.owned.entry.methods.HeldEntry+mut+Owned+K+V+H+N+K+V+H.remove_entry.Goals as goal
 
@@ -7,5 +7,5 @@ pub returns-clause-pair : goal.returns-clause-pair
 returns-clause-pair g c = pair-is c.args.self c.args.self.guard.now c.remove_at.result refl c.remove_at.ensures.pair
 
 pub returns-clause-removed : goal.returns-clause-removed
-unfolding front_of back_of
+unfolding spots.front_of spots.back_of
 returns-clause-removed g c = c.remove_at.ensures.others

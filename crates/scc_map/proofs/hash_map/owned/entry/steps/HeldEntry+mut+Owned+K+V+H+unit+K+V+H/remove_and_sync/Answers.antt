@@ -1,5 +1,5 @@
 use Rattle.std.proofs.Common.{refl}
-use Rattle.scc_table.proofs.Placed.{back-none, left-there}
+use Rattle.scc_incremental.proofs.AtPlaces.{back-none, left-there}
 use Rattle.scc_map.proofs.Entries.{pair-is}
 use Rattle.scc_map.proofs.EntrySteps.{next-past}
 use Rattle.scc_map.proofs.hash_map.owned.entry.steps.HeldEntry+mut+Owned+K+V+H+unit+K+V+H.remove_and_sync.Goals as goal
