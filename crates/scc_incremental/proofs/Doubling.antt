@@ -19,7 +19,7 @@ filter-both p q h (e ∷ es) =
     (λ a. by_answer (q e) (λ b. rw b (rw a rest)) (λ b. rw b (rw a rest)))
 
 -- a bucket among twice as many has its entries from one
-bound-listed : {E S : Type 0} (hash : E → ℕ) (c : Contents E S) (h i : ℕ) → IsRouted hash c → i ≡ bucket_number (settings_of c).skipped (bucket_count c) h
+pub bound-listed : {E S : Type 0} (hash : E → ℕ) (c : Contents E S) (h i : ℕ) → IsRouted hash c → i ≡ bucket_number (settings_of c).skipped (bucket_count c) h
     → bound_for hash (settings_of c).skipped (2 * bucket_count c) (bucket_number (settings_of c).skipped (2 * bucket_count c) h) (list_of c i) ≡ bound_for hash (settings_of c).skipped (2 * bucket_count c) (bucket_number (settings_of c).skipped (2 * bucket_count c) h) (entries c)
 bound-listed {E} hash c h i routed at =
     let s = (settings_of c).skipped in

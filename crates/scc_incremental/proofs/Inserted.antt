@@ -102,10 +102,14 @@ module _ {E S : Type 0} (c : Contents E S) (i : ℕ) (e : E) (d : Contents E S) 
         omega (arith, put.slot);
   }
 
-  -- the entry stands where it was put
+  -- the entry stands where it was put in its list
+  pub put-here : slice_get (list_of d p.bucket) p.slot ≡ Some e
+  put-here = ap (λ k. slice_get (list_of d k) p.slot) put.bucket ∙ ap (λ z. slice_get z p.slot) put-list ∙ get-insert (list_of c i) p.slot e put.slot
+
+  -- and among all entries
   pub put-inserted : IsInsertedAt c e d p
   put-inserted = record {
     holds = put-holds;
     within = put-within;
-    here = place-get d p put-within e (ap (λ k. slice_get (list_of d k) p.slot) put.bucket ∙ ap (λ z. slice_get z p.slot) put-list ∙ get-insert (list_of c i) p.slot e put.slot);
+    here = place-get d p put-within e put-here;
   }

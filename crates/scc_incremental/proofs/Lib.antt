@@ -1,6 +1,7 @@
 pub mod Alone
 pub mod Arriving
 pub mod AtPlaces
+pub mod Begun
 pub mod Buckets
 pub mod Cloned
 pub mod Counted
@@ -11,6 +12,7 @@ pub mod Finishing
 pub mod Firsts
 pub mod FoundInList
 pub mod Gathered
+pub mod Grown
 pub mod Inserted
 pub mod JoinedChanges
 pub mod Joining

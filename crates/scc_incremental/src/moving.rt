@@ -7,7 +7,8 @@ ghost use Rattle.scc_incremental.specs.Moves.{AreOwn, Drains, IsWithinSources, P
 ghost use Rattle.scc_table.specs.Contents.{bucket_count, key_hash, list_of, lists_of, settings_of, spilled_of};
 ghost use Rattle.scc_table.specs.Pour.{IsPacked, bound_for};
 ghost use Rattle.scc_table.specs.Routing.{bucket_number};
-ghost use Rattle.scc_table.specs.Tables.{IsOwn};
+ghost use Rattle.scc_table.specs.Sizes.{IsArray};
+ghost use Rattle.scc_table.specs.Tables.{spilled_in, IsOwn};
 ghost use Rattle.scc_incremental.specs.TwoArrays.{AreMultiples};
 
 use scc_array::Array;
@@ -148,7 +149,7 @@ fn left_of(overflowing: usize, aside: usize) -> usize
 }
 
 /// Moves the entries of all old buckets that belong to the target into the table's bucket of that number, which is empty, in order, and answers how many they are. `coming` is no less; `aside` entries are counted as if they lay in overflow lists too. Where memory is refused, all stays.
-pub(crate) fn move_in<E: Keyed, H: BuildHasher>(
+fn move_in<E: Keyed, H: BuildHasher>(
     current: &mut Table<E, H>,
     old: &mut Array<E>,
     target: usize,
@@ -264,4 +265,36 @@ where
         found += count_in(old, source, target, table, skipped, count);
     }
     found
+}
+
+/// Moves the entries of all old buckets that belong to the target into the table's bucket of that number, which is empty, in order, and answers how many they are. `aside` entries, no fewer than lie in the overflow lists of the old array, are counted as if they lay in overflow lists too. Where memory is refused, all stays.
+pub(crate) fn take<E: Keyed, H: BuildHasher>(
+    current: &mut Table<E, H>,
+    old: &mut Array<E>,
+    target: usize,
+    aside: usize,
+    skipped: u32,
+) -> Result<usize, AllocError>
+where
+    E::Key: Eq + Hash,
+    requires bits { skipped < 64 }
+    requires skips { skipped ≡ (settings_of current.old).skipped }
+    requires target { target < bucket_count current.old }
+    requires bare { list_of current.old target ≡ [] }
+    requires sized { IsArray (length old.old) }
+    requires multiples { AreMultiples (length old.old) (bucket_count current.old) }
+    requires own { AreOwn (λ e. key_hash H.BuildHasher H.Hasher.Hasher E.Key.hash_input current.old (E.key_of e)) skipped old.old }
+    requires spilled { spilled_in old.old ≤ aside }
+    requires aside { spilled_of current.old + aside < 2 ^ 62 }
+    requires unique { IsDistinct E.Key.eq (map E.key_of (flat_map (λ l. l) (slice_set (lists_of current.old) target (bound_for (λ e. key_hash H.BuildHasher H.Hasher.Hasher E.Key.hash_input current.old (E.key_of e)) skipped (bucket_count current.old) target (flat_map shelf_entries old.old))))) }
+    ensures ok { IfOk result (λ n. TakesOver (λ e. key_hash H.BuildHasher H.Hasher.Hasher E.Key.hash_input current.old (E.key_of e)) target n current.old old.old current.new old.new) }
+    ensures few { OnOk result (spilled_of current.new + aside < 2 ^ 62) }
+    ensures err { OnErr result (current.new ≡ current.old) }
+    ensures stays { OnErr result (old.new ≡ old.old) }
+    ensures refused { OnErr result (32 < length (bound_for (λ e. key_hash H.BuildHasher H.Hasher.Hasher E.Key.hash_input current.old (E.key_of e)) skipped (bucket_count current.old) target (flat_map shelf_entries old.old))) }
+{
+    let count = current.bucket_count();
+    let (first, last) = sources(old.len(), count, target);
+    let coming = count_all(old, first, last, target, current, skipped, count);
+    move_in(current, old, target, first, last, coming, aside, skipped)
 }

@@ -1,16 +1,17 @@
 //! Entries that are made when they are put into a table of two arrays.
-ghost use Rattle.std.specs.Prelude.{◌≡◌, ◌≢◌, ◌≤◌, ◌<◌, ◌+◌, ◌*◌, ◌^◌, ℕ, [], false, true, None, drop, length, IfOk, IfErr, OnOk, OnErr};
-ghost use Rattle.std.specs.List.{position};
+ghost use Rattle.std.specs.Prelude.{◌≡◌, ◌≢◌, ◌≤◌, ◌<◌, ◌+◌, ◌-◌, ◌*◌, ◌^◌, ℕ, [], false, true, None, drop, length, IfOk, IfErr, OnOk, OnErr};
+ghost use Rattle.std.specs.List.{position, range_with_len};
 ghost use Rattle.scc_table.specs.Contents.{entries, bucket_count, held_of, key_hash, pending_of, refused_of, settings_of, waiting_of, HasRoomBy, IsUniqueBy};
 ghost use Rattle.scc_table.specs.OneList.{HasSameLists, IsPutIn};
 ghost use Rattle.scc_table.specs.Routing.{bucket_number};
 ghost use Rattle.scc_table.specs.Steps.{FirstArrayWhenDue, Grows, GrowsWhenDue, IsUnchanged, RaisesWhenDue};
 ghost use Rattle.scc_incremental.specs.Places.{IsInsertedAt};
-ghost use Rattle.scc_incremental.specs.Relocates.{AreShort, left_after};
+ghost use Rattle.scc_incremental.specs.Relocates.{left_after, AreShort, AreShortAmong};
 ghost use Rattle.scc_incremental.specs.TwoArrays.{IsWaiting, pending_targets, waits_at};
 
 use super::Incremental;
 use super::inserting::is_overflow_full;
+use crate::fresh::fresh_waiting;
 use scc_table::sizes::MOST_BUCKETS;
 use scc_table::{Keyed, Made, Place};
 use std::hash::{BuildHasher, Hash};
@@ -37,6 +38,9 @@ where
         ensures array { bucket_count self.old ≡ 0 → pending_of self.new ≡ 0 }
         ensures settled { OnOk result (waits_at (waiting_of self.new) (bucket_number (settings_of self.old).skipped (bucket_count self.new) hash) ≡ false) }
         ensures exact { OnOk result (0 < bucket_count self.old → bucket_count self.new ≡ bucket_count self.old → AreShort self.old → pending_targets self.new ≡ left_after (bucket_number (settings_of self.old).skipped (bucket_count self.old) hash) (pending_targets self.old)) }
+        ensures spread { OnOk result (0 < bucket_count self.old → bucket_count self.new ≢ bucket_count self.old → AreShortAmong (λ e. key_hash H.BuildHasher H.Hasher.Hasher E.Key.hash_input self.old (E.key_of e)) (bucket_count self.new) self.old → pending_targets self.new ≡ left_after (bucket_number (settings_of self.old).skipped (bucket_count self.new) hash) (range_with_len 0 (bucket_count self.new))) }
+        ensures all_but_two { OnOk result (0 < bucket_count self.old → bucket_count self.new ≢ bucket_count self.old → AreShortAmong (λ e. key_hash H.BuildHasher H.Hasher.Hasher E.Key.hash_input self.old (E.key_of e)) (bucket_count self.new) self.old → pending_of self.new + 2 ≡ bucket_count self.new) }
+        ensures by_two { OnOk result (0 < bucket_count self.old → bucket_count self.new ≡ bucket_count self.old → AreShort self.old → pending_of self.new ≡ pending_of self.old - 2) }
         ensures unique { IsUniqueBy E.Key.eq E.key_of self.new }
     {
         self.keep_lists();
@@ -94,6 +98,7 @@ where
         ensures fewer { bucket_count self.new ≡ bucket_count self.old → (i : ℕ) → IsWaiting self.new i → IsWaiting self.old i }
         ensures less { bucket_count self.new ≡ bucket_count self.old → pending_of self.new ≤ pending_of self.old }
         ensures grown { bucket_count self.new ≢ bucket_count self.old → bucket_count self.new ≤ pending_of self.new + 2 }
+        ensures spread { OnOk result (bucket_count self.new ≢ bucket_count self.old → AreShortAmong (λ e. key_hash H.BuildHasher H.Hasher.Hasher E.Key.hash_input self.old (E.key_of e)) (bucket_count self.new) self.old → pending_targets self.new ≡ left_after (bucket_number (settings_of self.old).skipped (bucket_count self.new) hash) (range_with_len 0 (bucket_count self.new))) }
         ensures settled { OnOk result (waits_at (waiting_of self.new) (bucket_number (settings_of self.old).skipped (bucket_count self.new) hash) ≡ false) }
         ensures unique { IsUniqueBy E.Key.eq E.key_of self.new }
     {
@@ -102,7 +107,10 @@ where
         if length < 16 * count || count >= MOST_BUCKETS {
             return self.insert_made_at(bucket, hash, parts);
         }
-        match self.double_with_room(bucket, hash) {
+        if self.is_crowded(bucket, hash) {
+            return self.insert_made_crowded(bucket, hash, parts);
+        }
+        match fresh_waiting(self.current.allocator(), 2 * count) {
             Ok((fresh, flags)) => self.insert_made_with(2 * count, fresh, flags, hash, parts),
             Err(_) => self.insert_made_noted(bucket, hash, parts),
         }

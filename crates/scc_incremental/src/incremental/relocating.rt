@@ -4,7 +4,7 @@ ghost use Rattle.scc_table.specs.Contents.{held_of, list_of, lists_of, pending_o
 ghost use Rattle.scc_incremental.specs.TwoArrays.{IsFirstWaiting, IsRelocated, IsWaiting};
 
 use super::Incremental;
-use crate::moving::{count_all, move_in, sources};
+use crate::moving::take;
 use scc_array::Array;
 use scc_table::Keyed;
 use std::alloc::AllocError;
@@ -52,25 +52,11 @@ where
         ensures err { OnErr result (self.new ≡ self.old) }
         ensures refused { OnErr result (32 < length (list_of self.old bucket)) }
     {
-        let count = self.current.bucket_count();
-        let (first, last) = sources(self.draining.len(), count, bucket);
-        let coming = count_all(
-            &self.draining,
-            first,
-            last,
-            bucket,
-            &self.current,
-            self.skipped,
-            count,
-        );
         let aside = self.held_overflow;
-        match move_in(
+        match take(
             &mut self.current,
             &mut self.draining,
             bucket,
-            first,
-            last,
-            coming,
             aside,
             self.skipped,
         ) {
