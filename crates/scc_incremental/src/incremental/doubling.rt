@@ -88,6 +88,7 @@ where
             Ok(()) => {
                 self.note(false);
                 self.relocate_some(1);
+                self.keep_lists();
                 Place { bucket, slot }
             }
             Err(_) => {
