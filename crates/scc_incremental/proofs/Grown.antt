@@ -1,5 +1,6 @@
 -- What waits after the array grew, and where an entry stands then.
-use Rattle.std.proofs.Common.{◌≡◌, ◌==◌, ◌≢◌, ℕ, ◌+◌, ◌-◌, ◌*◌, ◌<◌, ◌≤◌, Bool, true, false, not, cond, List, [], ◌∷◌, ◌++◌, length, set, get_or, drop, take, replicate, Some, refl, sym, ap, ◌∙◌, subst, arith, get_or-set_same, get_or-set_other, length-set}
+use Rattle.std.proofs.Common.{◌≡◌, ◌==◌, ◌≢◌, ℕ, ◌+◌, ◌-◌, ◌*◌, ◌<◌, ◌≤◌, Bool, true, false, not, cond, List, [], ◌∷◌, ◌++◌, length, set, get_or, drop, take, replicate, Some, Result, Ok, Err, refl, sym, ap, ◌∙◌, subst, arith, get_or-set_same, get_or-set_other, length-set}
+use Rattle.std.specs.Prelude.{OnOk}
 use Rattle.std.specs.List.{filter, flat_map, count_by, range_with_len, slice_get}
 use Rattle.std.specs.List.Sorted.{IsPermutation}
 use Rattle.std.proofs.lemmas.List.{length-replicate}
@@ -148,3 +149,8 @@ pub grown-spread : {E S : Type 0} (hash : E → ℕ) (n : ℕ) (a b f : Contents
 grown-spread hash n a b f h i reg all at exact short =
     exact (all-short hash n a b reg all short) ∙ ap (left_after i) (targets-all n b all)
     ∙ ap (λ k. left_after k (range_with_len 0 n)) (at ∙ ap (λ s. bucket_number s.skipped (bucket_count b) h) reg.settings ∙ ap (λ m. bucket_number (settings_of a).skipped m h) reg.count)
+
+-- what follows from two things that hold of an acceptance
+pub on-both : {X Y P Q R : Type 0} (r : Result X Y) → (P → Q → R) → OnOk r P → OnOk r Q → OnOk r R
+on-both (Ok x) f p q = f p q
+on-both (Err y) f p q = p

@@ -7,6 +7,7 @@ use Rattle.scc_incremental.specs.TwoArrays.{waits_at}
 use Rattle.scc_incremental.proofs.Grown.{around-inserted, around-short}
 use Rattle.scc_incremental.proofs.Inserted.{put-count, put-here, put-within}
 use Rattle.scc_incremental.proofs.Same.{count-same, hash-same, pending-same, unchanged-same}
+use Rattle.scc_incremental.proofs.Settled.{settled-all}
 use Rattle.scc_incremental.proofs.incremental.Incremental.insert_made_crowded.Goals as goal
 
 pub double_around-requires-clause-within : goal.double_around-requires-clause-within
@@ -203,3 +204,6 @@ returns-in-Err-clause-most g c =
     let m = c.put_made_in.new.self in
     let z = c.in-Err.ensures.stays in
     λ ne. absurd (ne (count-same a m z.lists))
+
+pub put_made_in-requires-clause-settled : goal.put_made_in-requires-clause-settled
+put_made_in-requires-clause-settled g c = settled-all c.args.self.now c.requires.pending c.args.bucket

@@ -1,4 +1,4 @@
-use Rattle.std.proofs.Common.{◌≡◌, ◌∙◌, ◌*◌, length, take, sym, ap, arith}
+use Rattle.std.proofs.Common.{◌≡◌, ◌∙◌, ◌*◌, ◌<◌, length, take, sym, ap, arith, rules}
 use Rattle.std.proofs.lemmas.List.{take_all}
 use Rattle.scc_table.specs.Contents.{bucket_count, key_hash, list_of, settings_of}
 use Rattle.scc_table.specs.Pour.{bound_for}
@@ -24,4 +24,6 @@ returns g c =
     ∙ ap (λ z. length (bound_for hash z (2 * r) c.bucket_index-target.result es)) s ∙ ap (λ z. length (bound_for hash (settings_of a).skipped z c.bucket_index-target.result es)) n
     ∙ ap (λ z. length (bound_for hash (settings_of a).skipped (2 * bucket_count a) z es)) at in
     let all = bound-few hash a c.args.hash c.args.bucket c.keep_lists.ensures.routed c.requires.routed in
-    λ no. omega arith
+    λ no.
+    let low : c.count_bound.result < 32 = search rules in
+    omega arith
