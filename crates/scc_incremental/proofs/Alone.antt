@@ -9,7 +9,7 @@ use Rattle.scc_table.specs.Pour.{bound_for}
 use Rattle.scc_table.specs.Routing.{bucket_number}
 use Rattle.scc_table.specs.Tables.{spilled_in}
 use Rattle.scc_incremental.specs.TwoArrays.{held_in, target_by, together, TwoArrays, IsIncremental}
-use Rattle.scc_incremental.proofs.Arriving.{nil-left}
+use Rattle.scc_relocation.proofs.Arriving.{nil-left}
 
 equal : (a b : ℕ) → a ≡ b → (a == b) ≡ true
 equal a b h = search rules

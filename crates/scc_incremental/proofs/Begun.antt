@@ -12,11 +12,11 @@ use Rattle.scc_table.specs.Pour.{IsRegrouped}
 use Rattle.scc_table.specs.Sizes.{IsArray}
 use Rattle.scc_table.specs.Tables.{IsTable}
 use Rattle.scc_table.proofs.Arrays.{shelf-at}
-use Rattle.scc_incremental.specs.Moves.{TakesOver}
+use Rattle.scc_relocation.specs.Moves.{TakesOver}
 use Rattle.scc_incremental.specs.TwoArrays.{settle, together, waits_at, IsIncremental, IsRelocated}
 use Rattle.scc_incremental.proofs.Alone.{entries-alone}
-use Rattle.scc_incremental.proofs.Arriving.{count-were, entries-were, list-were}
-use Rattle.scc_incremental.proofs.Counted.{bound-le}
+use Rattle.scc_relocation.proofs.Arriving.{count-were, entries-were, list-were}
+use Rattle.scc_relocation.proofs.Counted.{bound-le}
 use Rattle.scc_incremental.proofs.Grown.{but-one}
 use Rattle.scc_incremental.proofs.Joining.{waiting-together, refused-together}
 use Rattle.scc_incremental.proofs.Relocated.{fields-after, others, relocated-after, Settles}

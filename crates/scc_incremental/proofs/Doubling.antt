@@ -7,7 +7,7 @@ use Rattle.scc_table.specs.Pour.{bound_for}
 use Rattle.scc_table.specs.Routing.{bucket_number}
 use Rattle.scc_table.proofs.PairSplits.{by_answer}
 use Rattle.scc_incremental.proofs.Listed.{listed-is}
-use Rattle.scc_incremental.proofs.Numbers.{number-div}
+use Rattle.scc_relocation.proofs.Numbers.{number-div}
 
 -- those that pass both are those that pass the narrower
 filter-both : {E : Type 0} (p q : E → Bool) → ((e : E) → p e ≡ true → q e ≡ true) → (es : List E) → filter p (filter q es) ≡ filter p es

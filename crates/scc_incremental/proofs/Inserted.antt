@@ -16,7 +16,7 @@ use Rattle.scc_table.proofs.Finding.{position_hit, position_cons}
 use Rattle.scc_table.proofs.Inserts.{none_left}
 use Rattle.scc_table.proofs.PairSplits.{by_answer}
 use Rattle.scc_table.proofs.Spots.{place-get}
-use Rattle.scc_incremental.proofs.Sublists.{Sub, none, keep, skip, keep_all, skip_all}
+use Rattle.scc_relocation.proofs.Sublists.{Sub, none, keep, skip, keep_all, skip_all}
 
 -- what none of a list passes, none of a part does
 pub absent-sub : {X : Type 0} (p : X → Bool) {xs ys : List X} → Sub xs ys → position p ys ≡ None → position p xs ≡ None

@@ -1,13 +1,9 @@
 pub mod Alone
-pub mod Arriving
 pub mod AtPlaces
 pub mod Begun
-pub mod Buckets
 pub mod Cloned
-pub mod Counted
 pub mod CurrentChanges
 pub mod Doubling
-pub mod Draining
 pub mod Finishing
 pub mod Firsts
 pub mod FoundInList
@@ -22,12 +18,10 @@ pub mod Lone
 pub mod MappedPlaces
 pub mod Nexts
 pub mod Noting
-pub mod Numbers
 pub mod OldChanges
 pub mod OldSpots
 pub mod Placing
 pub mod Preparing
-pub mod Pulling
 pub mod Putting
 pub mod Reached
 pub mod Relocated
@@ -40,7 +34,6 @@ pub mod Settling
 pub mod Spreading
 pub mod Starting
 pub mod Stepped
-pub mod Sublists
 pub mod TakeSteps
 pub mod Taken
 pub mod TakenFrom

@@ -10,7 +10,7 @@ ghost use Rattle.scc_incremental.specs.Relocates.{left_after, AreShort, AreShort
 ghost use Rattle.scc_incremental.specs.TwoArrays.{IsWaiting, pending_targets, waits_at};
 
 use super::Incremental;
-use crate::moving::OVERFLOW_LIMIT;
+use scc_relocation::OVERFLOW_LIMIT;
 use scc_table::{Keyed, Place};
 use std::hash::{BuildHasher, Hash};
 

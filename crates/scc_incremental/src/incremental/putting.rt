@@ -11,7 +11,7 @@ ghost use Rattle.scc_incremental.specs.TwoArrays.{IsWaiting, pending_targets, wa
 
 use super::Incremental;
 use super::inserting::is_overflow_full;
-use crate::fresh::fresh_waiting;
+use scc_relocation::fresh_waiting;
 use scc_table::sizes::MOST_BUCKETS;
 use scc_table::{Keyed, Made, Place};
 use std::hash::{BuildHasher, Hash};

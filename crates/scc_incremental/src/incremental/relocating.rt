@@ -4,7 +4,7 @@ ghost use Rattle.scc_table.specs.Contents.{held_of, list_of, lists_of, pending_o
 ghost use Rattle.scc_incremental.specs.TwoArrays.{IsFirstWaiting, IsRelocated, IsWaiting};
 
 use super::Incremental;
-use crate::moving::take;
+use scc_relocation::take;
 use scc_array::Array;
 use scc_table::Keyed;
 use std::alloc::AllocError;

@@ -9,8 +9,8 @@ ghost use Rattle.scc_table.specs.Steps.{IsUnchanged};
 ghost use Rattle.scc_incremental.specs.TwoArrays.{settle, IsFirstWaiting, IsWaiting};
 
 use super::Incremental;
-use crate::fresh::fresh_waiting;
-use crate::moving::take;
+use scc_relocation::fresh_waiting;
+use scc_relocation::take;
 use scc_array::Array;
 use scc_table::Keyed;
 use std::alloc::AllocError;

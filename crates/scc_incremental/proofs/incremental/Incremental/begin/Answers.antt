@@ -11,7 +11,7 @@ use Rattle.scc_table.proofs.Fresh.{empty-replicate}
 use Rattle.scc_table.proofs.Making.{flat-empty, table-empty}
 use Rattle.scc_incremental.specs.TwoArrays.{IsIncremental, together}
 use Rattle.scc_incremental.proofs.Alone.{all-bare, count-alone, entries-alone, lists-alone, nothing-held}
-use Rattle.scc_incremental.proofs.Arriving.{count-were, entries-were, IsDistinct-nil}
+use Rattle.scc_relocation.proofs.Arriving.{count-were, entries-were, IsDistinct-nil}
 use Rattle.scc_incremental.proofs.Joining.{waiting-together, pending-together, refused-together}
 use Rattle.scc_incremental.proofs.Same.{hash-same}
 use Rattle.scc_incremental.proofs.Starting.{count-up, permuted-all, started-fields, started-lists}

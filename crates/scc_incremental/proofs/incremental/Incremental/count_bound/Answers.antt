@@ -5,7 +5,7 @@ use Rattle.scc_table.specs.Places as spots
 use Rattle.scc_table.specs.Routing.{bucket_number}
 use Rattle.scc_table.specs.declared.place.Place.{Place}
 use Rattle.scc_incremental.specs.Places.{spot_of}
-use Rattle.scc_incremental.proofs.Counted.{bound-le, counts-one, counts-none}
+use Rattle.scc_relocation.proofs.Counted.{bound-le, counts-one, counts-none}
 use Rattle.scc_incremental.proofs.OldSpots.{spot-own}
 use Rattle.scc_incremental.proofs.incremental.Incremental.count_bound.Goals as goal
 use Rattle.scc_incremental.proofs.incremental.Incremental.count_bound.Goals.{then-bucket_index-target, else-bucket_index-target}

@@ -7,7 +7,7 @@ use Rattle.scc_table.specs.Hashing.{hash_of}
 use Rattle.scc_incremental.specs.TwoArrays.{waits_at, together, IsIncremental, IsRelocated}
 use Rattle.scc_incremental.proofs.Joining.{waiting-together}
 use Rattle.scc_incremental.proofs.Preparing.{unique-before, waiting-list, long-flags, multiple-flags, sized-flags}
-use Rattle.scc_incremental.proofs.Counted.{bound-le}
+use Rattle.scc_relocation.proofs.Counted.{bound-le}
 use Rattle.scc_incremental.proofs.Relocated.{others, last, fields-after, relocated-after}
 use Rattle.scc_incremental.proofs.Relocating.{up-within, one-down}
 use Rattle.scc_incremental.proofs.incremental.Incremental.take_over.Goals as goal
