@@ -1,13 +1,12 @@
 -- What waits after the array grew, and where an entry stands then.
-use Rattle.std.proofs.Common.{◌≡◌, ◌==◌, ◌≢◌, ℕ, ◌+◌, ◌-◌, ◌*◌, ◌<◌, ◌≤◌, Bool, true, false, not, cond, List, [], ◌∷◌, ◌++◌, length, set, get_or, drop, take, replicate, Some, Result, Ok, Err, refl, sym, ap, ◌∙◌, subst, arith, get_or-set_same, get_or-set_other, length-set}
+use Rattle.std.proofs.Common.{◌≡◌, ◌==◌, ◌≢◌, ℕ, ◌+◌, ◌-◌, ◌*◌, ◌<◌, ◌≤◌, Bool, true, false, not, cond, List, ◌∷◌, ◌++◌, length, set, drop, take, replicate, Some, Result, Ok, Err, refl, sym, ap, ◌∙◌, subst, arith, get_or-set_same, length-set}
 use Rattle.std.specs.Prelude.{OnOk}
-use Rattle.std.specs.List.{filter, flat_map, count_by, range_with_len, slice_get}
+use Rattle.std.specs.List.{filter, count_by, range_with_len, slice_get}
 use Rattle.std.specs.List.Sorted.{IsPermutation}
 use Rattle.std.proofs.lemmas.List.{length-replicate}
 use Rattle.std.proofs.lemmas.List.FromFn.{length-range_with_len}
 use Rattle.std.proofs.lemmas.List.Sorted.{sum_by-IsPermutation}
 use Rattle.std.proofs.lemmas.List.Sums.{length-filter}
-use native.Mathlib.Decide.{dec_lt}
 use Rattle.scc_bucket.proofs.Lists.{get-below, get-right}
 use Rattle.scc_table.specs.Contents.{Contents, entries, bucket_count, list_of, settings_of, held_of, pending_of, waiting_of, IsRouted}
 use Rattle.scc_table.specs.OneList.{IsPutIn}

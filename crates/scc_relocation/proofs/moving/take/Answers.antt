@@ -1,6 +1,4 @@
-use Rattle.std.proofs.Common.{◌≡◌, ◌∙◌, ◌^◌, ◌<◌, length, sym, ap, subst, arith}
-use Rattle.std.specs.List.{flat_map}
-use Rattle.scc_bucket.specs.Shelf.{shelf_entries}
+use Rattle.std.proofs.Common.{◌^◌, ◌<◌, arith}
 use Rattle.scc_table.specs.Contents.{bucket_count, key_hash}
 use Rattle.scc_table.specs.Tables.{spilled_in}
 use Rattle.scc_relocation.proofs.Sources.{within-sources, few-each, most-held}

@@ -1,4 +1,4 @@
-use Rattle.std.proofs.Common.{◌≡◌, ◌∙◌, ◌*◌, ◌<◌, ℕ, Some, sym, ap, subst, arith}
+use Rattle.std.proofs.Common.{◌≡◌, ◌∙◌, ◌*◌, ℕ, Some, sym, ap, subst, arith}
 use Rattle.std.specs.List.{range_with_len}
 use Rattle.scc_table.specs.Contents.{bucket_count, key_hash, settings_of, waiting_of}
 use Rattle.scc_table.specs.Routing.{bucket_number}

@@ -1,8 +1,8 @@
-use Rattle.std.proofs.Common.{◌≡◌, ◌∙◌, ℕ, ◌-◌, map, set, replicate, true, false, refl, sym, ap, subst, arith}
+use Rattle.std.proofs.Common.{◌≡◌, ◌∙◌, ℕ, ◌-◌, map, set, replicate, true, false, sym, ap, subst, arith}
 use Rattle.std.proofs.lemmas.List.{length-replicate}
 use Rattle.std.specs.List.Sorted.{IsPermutation}
 use Rattle.scc_bucket.specs.Shelf.{empty_shelf, shelf_entries}
-use Rattle.scc_table.specs.Contents.{entries, held_of, key_hash, lists_of, refused_of, settings_of, waiting_of, IsUniqueBy}
+use Rattle.scc_table.specs.Contents.{entries, held_of, key_hash, lists_of, refused_of, settings_of, waiting_of}
 use Rattle.scc_table.specs.Pour.{IsRegrouped}
 use Rattle.scc_table.specs.Tables.{IsTable}
 use Rattle.scc_table.proofs.Fresh.{empty-replicate}
