@@ -1,6 +1,6 @@
 // Random calls on containers most of whose buckets wait for their entries.
 use scc::recorded::{MapCall, Reply, run};
-use scc::{hash_map, hash_set};
+use scc::{hash_index, hash_map, hash_set};
 use scc_fixtures::numbers::next;
 use scc_fixtures::waiting_calls::{Tally, run_waiting};
 use scc_script::same::Same;
@@ -30,6 +30,16 @@ fn set_random_calls_while_buckets_wait(rt: HostRuntime) -> Result<(), Fail> {
     expect(&rt, run_waiting(rt.alloc(), &mut set, 12, 1023)?);
     let mut set = hash_set::Owned::with_hasher(rt.alloc(), Same);
     expect(&rt, run_waiting(rt.alloc(), &mut set, 12, 1023)?);
+    Ok(())
+}
+
+#[test]
+fn index_random_calls_while_buckets_wait(rt: HostRuntime) -> Result<(), Fail> {
+    let mut index =
+        hash_index::Owned::with_hasher(rt.alloc(), BuildHasherDefault::<FoldHasher>::new());
+    expect(&rt, run_waiting(rt.alloc(), &mut index, 12, 1023)?);
+    let mut index = hash_index::Owned::with_hasher(rt.alloc(), Same);
+    expect(&rt, run_waiting(rt.alloc(), &mut index, 12, 1023)?);
     Ok(())
 }
 
