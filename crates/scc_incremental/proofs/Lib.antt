@@ -30,6 +30,7 @@ pub mod Putting
 pub mod Reached
 pub mod Relocated
 pub mod Relocating
+pub mod Relocations
 pub mod Same
 pub mod Searching
 pub mod Seen

@@ -1,14 +1,13 @@
+pub use Rattle.scc_incremental.specs.Placed
+pub use Rattle.scc_incremental.specs.Places
+pub use Rattle.scc_incremental.specs.Relocations
 pub use Rattle.scc_table.specs.Clones
 pub use Rattle.scc_table.specs.Contents
 pub use Rattle.scc_table.specs.Pairs
-pub use Rattle.scc_table.specs.Placed
-pub use Rattle.scc_table.specs.Places
 pub use Rattle.scc_table.specs.ShelfWrites
 pub use Rattle.scc_table.specs.Sizes
-pub use Rattle.scc_table.specs.Standing
 pub use Rattle.scc_table.specs.Steps
 pub use Rattle.scc_table.specs.Walks
-pub use Rattle.scc_table.specs.Writes
 pub use Rattle.scc_walks.specs.Closures
 pub use Rattle.scc_walks.specs.Equality
 pub use Rattle.scc_walks.specs.PairWalks

@@ -15,7 +15,7 @@ ghost use Rattle.scc_map.specs.ClosureSteps.{UpdatesAt, RemovesIf};
 ghost use Rattle.scc_walks.specs.Closures.{Reads, WritesAt};
 ghost use Rattle.scc_map.specs.Lends.{lends_value};
 ghost use Rattle.scc_map.specs.MapSteps.{Inserts, Removes, Upserts};
-ghost use Rattle.scc_map.specs.Relocations.{Relocates, RelocatesNone, RelocatesTwo};
+ghost use Rattle.scc_incremental.specs.Relocations.{Relocates, RelocatesNone, RelocatesTwo};
 
 mod collecting;
 mod entry;

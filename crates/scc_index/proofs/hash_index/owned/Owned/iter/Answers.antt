@@ -2,9 +2,10 @@ use Rattle.std.proofs.Common.{◌∙◌, suc, length, refl}
 use Rattle.std.specs.Arc.{arc_value}
 use Rattle.std.proofs.lemmas.List.{map-append}
 use Rattle.scc_table.specs.Contents.{entries}
-use Rattle.scc_table.specs.Places.{index_of}
+use Rattle.scc_incremental.specs.Places.{index_of}
 use Rattle.scc_table.proofs.Placed.{take-more}
-use Rattle.scc_walks.proofs.Reached.{reached-at, take-all}
+use Rattle.scc_walks.proofs.Reached.{take-all}
+use Rattle.scc_incremental.proofs.Reached.{reached-at}
 use Rattle.scc_index.proofs.Snapshots.{turned-back}
 use Rattle.scc_index.proofs.hash_index.owned.Owned.iter.Goals as goal
 
