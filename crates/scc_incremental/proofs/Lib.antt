@@ -18,6 +18,7 @@ pub mod Listed
 pub mod Listing
 pub mod Lone
 pub mod MappedPlaces
+pub mod MappedRelocations
 pub mod Nexts
 pub mod Noting
 pub mod Numbers
