@@ -1,5 +1,6 @@
 pub use Rattle.scc_incremental.specs.Placed
 pub use Rattle.scc_incremental.specs.Places
+pub use Rattle.scc_incremental.specs.Relocates
 pub use Rattle.scc_incremental.specs.Relocations
 pub use Rattle.scc_table.specs.Clones
 pub use Rattle.scc_table.specs.Contents
