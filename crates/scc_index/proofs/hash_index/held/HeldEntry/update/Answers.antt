@@ -16,3 +16,6 @@ returns-in-Ok-clause-updated g c =
 
 pub returns-in-Ok-clause-waiting : goal.returns-in-Ok-clause-waiting
 returns-in-Ok-clause-waiting g c = waiting-after c.args.self.now c.lend.result.now c.put_at.new.self c.in-Ok.version c.lend.ensures.value c.put_at.ensures.new
+
+pub put_at-requires-clause-within : goal.put_at-requires-clause-within
+put_at-requires-clause-within g c = rw c.lend.ensures.value c.args.self.now.within

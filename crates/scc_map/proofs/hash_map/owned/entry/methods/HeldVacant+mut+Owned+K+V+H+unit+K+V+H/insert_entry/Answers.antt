@@ -8,5 +8,5 @@ returns-in-Ok g c = ((refl, λ w. refl, tt), record { inserted = inserted-after 
 pub returns-in-Err : goal.returns-in-Err
 returns-in-Err g c = (
   (refl, λ _. tt, record { rests = c.in-Err.ensures.rests; grows = c.insert_new.ensures.grows; relocates = c.insert_new.ensures.relocates; unique = c.insert_new.ensures.unique }),
-  record { inserted = tt; growth = tt; relocates = tt; two = tt; unique = tt; refused = rw (c.in-Err.ensures.refused refl) refl; full = c.in-Err.ensures.full; kept = tt },
+  record { inserted = tt; growth = tt; relocates = tt; two = tt; unique = tt; refused = rw c.in-Err.ensures.refused refl; full = c.in-Err.ensures.full; kept = tt },
 )
