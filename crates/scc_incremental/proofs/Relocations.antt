@@ -9,7 +9,7 @@ use Rattle.scc_table.specs.declared.place.Place.{Place}
 use Rattle.scc_incremental.specs.Places.{with_write_at}
 use Rattle.scc_incremental.specs.Relocates.{IsShrinkDue, Spreads}
 use Rattle.scc_incremental.proofs.Same.{pending-same}
-use Rattle.scc_map.specs.Relocations.{RelocatesNone}
+use Rattle.scc_incremental.specs.Relocations.{RelocatesNone}
 
 module _ {E S : Type 0} where
   -- a write leaves the same buckets waiting
