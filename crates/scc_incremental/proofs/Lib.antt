@@ -35,6 +35,7 @@ pub mod Searching
 pub mod Seen
 pub mod Settled
 pub mod Settling
+pub mod Short
 pub mod Spreading
 pub mod Starting
 pub mod Stepped
