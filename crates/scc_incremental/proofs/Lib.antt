@@ -16,6 +16,7 @@ pub mod Listed
 pub mod Listing
 pub mod Lone
 pub mod MappedPlaces
+pub mod MappedRelocations
 pub mod Nexts
 pub mod Noting
 pub mod OldChanges
@@ -26,11 +27,13 @@ pub mod Putting
 pub mod Reached
 pub mod Relocated
 pub mod Relocating
+pub mod Relocations
 pub mod Same
 pub mod Searching
 pub mod Seen
 pub mod Settled
 pub mod Settling
+pub mod Short
 pub mod Spreading
 pub mod Starting
 pub mod Stepped

@@ -4,7 +4,7 @@ use Rattle.std.proofs.lemmas.List.{nil_from_length}
 use Rattle.scc_table.specs.Contents.{HasRoomAt, bucket_count, entries, key_hash, list_of, pending_of, settings_of}
 use Rattle.scc_table.specs.Routing.{bucket_number}
 use Rattle.scc_incremental.specs.TwoArrays.{pending_targets}
-use Rattle.scc_incremental.proofs.Doubling.{any-ok}
+use Rattle.scc_relocation.proofs.Arriving.{any-ok}
 use Rattle.scc_incremental.proofs.Finishing.{pending-is}
 use Rattle.scc_incremental.proofs.Listed.{count-listed}
 use Rattle.scc_incremental.proofs.Placing.{none-left}

@@ -8,7 +8,8 @@ use Rattle.scc_table.specs.Tables.{IsTable}
 use Rattle.scc_table.proofs.Fresh.{empty-replicate}
 use Rattle.scc_table.proofs.Making.{flat-empty}
 use Rattle.scc_incremental.specs.TwoArrays.{together, IsIncremental}
-use Rattle.scc_incremental.proofs.Alone.{all-bare, nothing-held}
+use Rattle.scc_table.proofs.Bare.{all-bare}
+use Rattle.scc_incremental.proofs.Alone.{nothing-held}
 use Rattle.scc_relocation.proofs.Arriving.{same-contents, IsDistinct-nil}
 use Rattle.scc_incremental.proofs.Begun.{begun, begun-bare, begun-count, begun-unique, begun-up, taken-fields, taken-less, taken-lists, taken-same}
 use Rattle.scc_incremental.proofs.Grown.{settle-all}
