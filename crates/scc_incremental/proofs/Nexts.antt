@@ -18,7 +18,7 @@ use Rattle.scc_incremental.specs.TwoArrays.{held_in, target_by, together, TwoArr
 use Rattle.scc_relocation.proofs.Draining.{before-none, take-all_bound}
 use Rattle.scc_incremental.proofs.Joining.{count-together, held-together, waiting-together}
 use Rattle.scc_incremental.proofs.OldSpots.{count-map, held-before, held-some, old-place, old-spot, old-waits, own-list, own-place, own-spot}
-use Rattle.scc_relocation.proofs.Sources.{few-each}
+use Rattle.scc_relocation.proofs.FromBuckets.{few-each}
 use Rattle.scc_incremental.proofs.Preparing.{long-flags, waiting-list}
 use Rattle.scc_incremental.proofs.Relocating.{up-within}
 use Rattle.scc_incremental.proofs.Stepped.{before-start, bound-count}

@@ -6,10 +6,7 @@ use scc_array::Array;
 use std::alloc::{AllocError, Global};
 
 /// So many empty buckets, and a flag for each that is up.
-pub fn fresh_waiting<E>(
-    alloc: Global,
-    count: usize,
-) -> Result<(Array<E>, Vec<bool>), AllocError>
+pub fn fresh_waiting<E>(alloc: Global, count: usize) -> Result<(Array<E>, Vec<bool>), AllocError>
     requires { count ≤ 2 ^ 58 }
     ensures buckets { IfOk result (λ r. r.0 ≡ replicate count empty_shelf) }
     ensures flags { IfOk result (λ r. r.1.items ≡ replicate count true) }

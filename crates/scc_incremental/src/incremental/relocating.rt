@@ -6,8 +6,8 @@ ghost use Rattle.scc_incremental.specs.Relocates.{AreShort};
 ghost use Rattle.scc_incremental.specs.TwoArrays.{IsFirstWaiting, IsRelocated, IsWaiting};
 
 use super::Incremental;
-use scc_relocation::take;
 use scc_array::Array;
+use scc_relocation::take;
 use scc_table::Keyed;
 use std::alloc::AllocError;
 use std::hash::{BuildHasher, Hash};

@@ -11,9 +11,8 @@ ghost use Rattle.scc_incremental.specs.Relocates.{AreShort};
 ghost use Rattle.scc_incremental.specs.TwoArrays.{settle, IsFirstWaiting, IsWaiting};
 
 use super::Incremental;
-use scc_relocation::fresh_waiting;
-use scc_relocation::take;
 use scc_array::Array;
+use scc_relocation::{fresh_waiting, take};
 use scc_table::Keyed;
 use std::alloc::AllocError;
 use std::hash::{BuildHasher, Hash};

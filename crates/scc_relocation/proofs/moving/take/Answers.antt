@@ -1,7 +1,7 @@
 use Rattle.std.proofs.Common.{◌^◌, ◌<◌, arith}
 use Rattle.scc_table.specs.Contents.{bucket_count, key_hash}
 use Rattle.scc_table.specs.Tables.{spilled_in}
-use Rattle.scc_relocation.proofs.Sources.{within-sources, few-each, most-held}
+use Rattle.scc_relocation.proofs.FromBuckets.{within-sources, few-each, most-held}
 use Rattle.scc_relocation.proofs.moving.take.Goals as goal
 
 pub sources-first-requires-clause-some : goal.sources-first-requires-clause-some
