@@ -9,7 +9,6 @@ use Rattle.scc_table.specs.Pour.{bound_for}
 use Rattle.scc_table.specs.Routing.{bucket_number}
 use Rattle.scc_table.specs.Tables.{spilled_in}
 use Rattle.scc_incremental.specs.TwoArrays.{held_in, target_by, together, TwoArrays, IsIncremental}
-use Rattle.scc_incremental.proofs.Arriving.{nil-left}
 
 equal : (a b : ℕ) → a ≡ b → (a == b) ≡ true
 equal a b h = search rules
@@ -21,12 +20,6 @@ bound-nowhere hash t n (e ∷ es) h =
     let i : ℕ = bucket_number t n (hash e) in
     let here : (bucket_number t n (hash e) == i) ≡ true = equal _ _ refl in
     absurd (let z = rw here at (h i) in cc)
-
--- buckets without entries
-pub all-bare : {E : Type 0} (olds : List (Shelf E)) → flat_map shelf_entries olds ≡ [] → (i : ℕ) → shelf_entries (shelf_of olds i) ≡ []
-all-bare [] h i = refl
-all-bare (b ∷ olds) h zero = (nil-left (shelf_entries b) (flat_map shelf_entries olds) h).0
-all-bare (b ∷ olds) h (suc i) = all-bare olds (nil-left (shelf_entries b) (flat_map shelf_entries olds) h).1 i
 
 module _ {E S : Type 0} (hash : E → ℕ) (c : Contents E S) (ws : List Bool) (olds : List (Shelf E)) (none : ws ≡ []) where
   -- nothing lies in the old array

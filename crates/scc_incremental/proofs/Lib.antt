@@ -18,6 +18,7 @@ pub mod Listed
 pub mod Listing
 pub mod Lone
 pub mod MappedPlaces
+pub mod MappedRelocations
 pub mod Nexts
 pub mod Noting
 pub mod Numbers
@@ -30,6 +31,7 @@ pub mod Putting
 pub mod Reached
 pub mod Relocated
 pub mod Relocating
+pub mod Relocations
 pub mod Same
 pub mod Searching
 pub mod Seen

@@ -14,7 +14,7 @@ use Rattle.scc_table.proofs.PairSplits.{by_answer}
 use Rattle.scc_table.proofs.Pours.{bound_append}
 use Rattle.scc_incremental.specs.Relocates.{AreShort}
 use Rattle.scc_incremental.specs.TwoArrays.{IsWaiting, settle, waits_at}
-use Rattle.scc_incremental.proofs.Arriving.{nil-left}
+use Rattle.scc_table.proofs.Bare.{nil-left}
 use Rattle.scc_incremental.proofs.Counted.{bound-le}
 use Rattle.scc_incremental.proofs.Doubling.{filter-both}
 use Rattle.scc_incremental.proofs.Listed.{filter-all, filter-no, listed-is}

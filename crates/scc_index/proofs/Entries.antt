@@ -7,16 +7,16 @@ use Rattle.std.specs.declared.cmp.PartialEq as eq
 use Rattle.std.specs.declared.hash.Hash as hash
 use Rattle.std.specs.declared.hash.Hasher as hasher
 use Rattle.std.specs.declared.hash.BuildHasher as builder
-use Rattle.scc_table.specs.Contents.{Contents, entries}
+use Rattle.scc_table.specs.Contents.{Contents, entries, waiting_of}
 use Rattle.scc_table.specs.ShelfWrites.{put_whole}
-use Rattle.scc_table.specs.Placed.{front_of, back_of}
-use Rattle.scc_table.specs.Places.{IsPlace, IsFoundAt, IsInsertedAt, index_of}
-use Rattle.scc_table.specs.Writes.{with_write_at, IsPlace-with_write_at}
+use Rattle.scc_table.specs.Placed as spots
+use Rattle.scc_incremental.specs.Placed.{front_of, back_of, IsPlace-with_write_at}
+use Rattle.scc_incremental.specs.Places.{IsPlace, IsFoundAt, IsInsertedAt, index_of, with_write_at}
 use Rattle.scc_common.specs.declared.guard.Guard as guard
-use Rattle.scc_table.proofs.KeyWrites.{place-found}
 use Rattle.scc_table.proofs.PairSplits.{set_value-at, set_key-split, apart-at, without-at}
-use Rattle.scc_table.proofs.Placed.{place-prop, entry_of-is, splits-there, written-there, put-there}
+use Rattle.scc_incremental.proofs.AtPlaces.{place-found, place-prop, entry_of-is, splits-there, written-there, put-there}
 use Rattle.scc_index.specs.Entries.{occupied_pair, IsOccupiedAt, IsUpdated, IsInserted}
+use Rattle.scc_incremental.proofs.Relocations.{waiting-write}
 use Rattle.scc_index.proofs.Updates.{finds-replaced}
 use Rattle.scc_index.specs.declared.hash_index.held.HeldEntry.{HeldEntry}
 use Rattle.scc_index.specs.declared.hash_index.held.HeldVacant.{HeldVacant}
@@ -29,7 +29,7 @@ module _ {G N K V S T : Type 0} {d : guard.Ghosts G (Contents (K × V) S)} {g : 
   -- the entry that a search found is that of the key
   pub occupied-at : {same : K → K → Bool} (laws : IsEquivalence same) (k : K) (o : HeldEntry G N K V S T d g h b w) → IsDistinct same (keys_of (entries (d.kept o.guard))) → IsFoundAt (λ e. same k e.0) (d.kept o.guard) o.place
       → IsOccupiedAt same (d.kept o.guard) k o
-  unfolding front_of back_of
+  unfolding spots.front_of spots.back_of
   occupied-at {same = same} laws k o u found =
       let c : Contents (K × V) S = d.kept o.guard in
       let f = place-found same c k o.place found in
@@ -64,6 +64,10 @@ module _ {G N K V S T : Type 0} {d : guard.Ghosts G (Contents (K × V) S)} {g : 
         at = at;
         finds = finds-replaced laws (front_of (d.kept o.guard) o.place) (back_of (d.kept o.guard) o.place) (occupied_pair o) e (entries (d.kept o.guard)) (entries (d.kept (d.keeping o.guard n))) split.splits at.contents.exact equal (rw is at u);
       }
+
+  -- the same buckets wait once a version was put there
+  pub waiting-after : (o : HeldEntry G N K V S T d g h b w) (m n : Contents (K × V) S) (e : K × V) → m ≡ d.kept o.guard → n ≡ with_write_at put_whole m o.place e → waiting_of (d.kept (d.keeping o.guard n)) ≡ waiting_of (d.kept o.guard)
+  waiting-after o m n e is made = ap waiting_of (d.keeps o.guard n ∙ made) ∙ waiting-write put_whole m o.place e ∙ ap waiting_of is
 
   -- what was put in through the guard stands at the entry
   pub inserted-after : (e : HeldVacant G N K V S T d g h b w) (m n : Contents (K × V) S) (v : V) (o : HeldEntry G N K V S T d g h b w) → o.guard ≡ d.keeping e.guard n → o.rest ≡ e.rest → m ≡ d.kept e.guard → IsInsertedAt m (e.key, v) n o.place → IsInserted e v o

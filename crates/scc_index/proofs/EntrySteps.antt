@@ -6,10 +6,10 @@ use Rattle.std.specs.declared.hash.Hash as hash
 use Rattle.std.specs.declared.hash.Hasher as hasher
 use Rattle.std.specs.declared.hash.BuildHasher as builder
 use Rattle.scc_table.specs.Contents.{Contents, entries, refused_of}
-use Rattle.scc_table.specs.Places.{index_of}
+use Rattle.scc_incremental.specs.Places.{index_of}
 use Rattle.scc_table.specs.Steps.{HoldsExactly}
 use Rattle.scc_common.specs.declared.guard.Guard as guard
-use Rattle.scc_table.proofs.Placed.{splits-there, next-there, past-there}
+use Rattle.scc_incremental.proofs.AtPlaces.{splits-there, next-there, past-there}
 use Rattle.scc_index.specs.EntrySteps.{StandsIn, IsNext, IsNextPastRemoved}
 use Rattle.scc_index.specs.declared.hash_index.held.HeldEntry.{HeldEntry}
 

@@ -2,8 +2,7 @@
 use Rattle.std.proofs.Common.{◌≡◌, ℕ, zero, suc, ◌<◌, ◌-◌, List, [], ◌∷◌, ◌++◌, length, take, drop, Bool, true, false, Option, None, Some, MatchOption, IfSome, refl, sym, ap, ◌∙◌, arith, subst, append_assoc}
 use Rattle.std.specs.List.{slice_get, remove}
 use Rattle.scc_table.specs.Contents.{Contents, entries}
-use Rattle.scc_table.specs.Places.{IsPlace, index_of}
-use Rattle.scc_table.specs.Standing.{StandsAt}
+use Rattle.scc_incremental.specs.Places.{IsPlace, StandsAt, index_of, spot_of}
 use Rattle.scc_table.specs.Steps.{HoldsExactly}
 use Rattle.scc_table.specs.Walks.{HoldsInTurn}
 use Rattle.scc_table.specs.declared.place.Place.{Place}
@@ -11,7 +10,7 @@ use Rattle.scc_table.proofs.Placed.{take-more, drop-here, take-removed, drop-rem
 use Rattle.scc_table.proofs.Standing.{index-below}
 use Rattle.scc_table.proofs.WalkLemmas.{turn-first, turn-others}
 use Rattle.scc_index.specs.IndexWalks.{Retains, kept, removed}
-use Rattle.scc_walks.proofs.Reached.{reached}
+use Rattle.scc_incremental.proofs.Reached.{reached}
 use Rattle.scc_walks.proofs.Visits.{shorter}
 
 module _ {K V S : Type 0} (m : Contents (K × V) S) (p : Place) (q : K × V) (within : IsPlace m p) (got : slice_get (entries m) (index_of m p) ≡ Some q) where
@@ -20,7 +19,7 @@ module _ {K V S : Type 0} (m : Contents (K × V) S) (p : Place) (q : K × V) (wi
 
   module _ (d : Contents (K × V) S) (out : HoldsExactly m (remove (entries m) (index_of m p)) d) where
     took-count : suc (length (entries d)) ≡ length (entries m)
-    took-count = ap (λ z. suc (length z)) out.exact ∙ shorter (entries m) (index_of m p) (index-below m p within)
+    took-count = ap (λ z. suc (length z)) out.exact ∙ shorter (entries m) (index_of m p) (index-below m (spot_of m p) within)
 
     -- where the walk goes on once the pair is out
     pub took-next : (o : Option Place) → MatchOption o (suc (index_of m p) ≡ length (entries m)) (StandsAt d (index_of m p)) → (reached d o ≡ index_of m p) × IfSome o (IsPlace d)
@@ -34,7 +33,7 @@ module _ {K V S : Type 0} (m : Contents (K × V) S) (p : Place) (q : K × V) (wi
     took-after = ap (drop (index_of m p)) out.exact ∙ drop-removed (entries m) (index_of m p)
 
     pub took-nearer : (o : Option Place) → reached d o ≡ index_of m p → length (entries d) - reached d o < length (entries m) - index_of m p
-    took-nearer o e = omega (arith, index-below m p within, took-count)
+    took-nearer o e = let l = index-below m (spot_of m p) within in omega (arith, took-count)
 
   module _ {F : Type 0} {T : F → K × V → Bool → F → Type 0} (first : F) (all : List (K × V)) (f f' : F)
       (calls : (stay : List (K × V)) (last : F) → Retains T f (drop (index_of m p) (entries m)) stay last → Retains T first all (take (index_of m p) (entries m) ++ stay) last) where

@@ -10,9 +10,10 @@ use Rattle.std.specs.declared.cmp.PartialEq as eq
 use Rattle.std.specs.declared.hash.Hash as hash
 use Rattle.std.specs.declared.hash.Hasher as hasher
 use Rattle.std.specs.declared.hash.BuildHasher as builder
-use Rattle.scc_table.specs.Contents.{Contents, entries}
+use Rattle.scc_table.specs.Contents.{Contents, entries, waiting_of}
 use Rattle.scc_table.specs.Pairs.{find, without, FindsInstead}
-use Rattle.scc_table.specs.Placed.{entry_of, front_of, back_of, IsWrittenAt, IsPutAt}
+use Rattle.scc_incremental.specs.Placed.{entry_of, front_of, back_of, IsWrittenAt, IsPutAt}
+use Rattle.scc_incremental.specs.Relocations.{Relocates, RelocatesTwo}
 use Rattle.scc_table.specs.Steps.{FirstArrayWhenDue, GrowsFor, IsUnchanged}
 use Rattle.scc_common.specs.declared.errors.InsertError.{InsertError}
 use Rattle.scc_common.specs.declared.guard.Guard as guard
@@ -26,6 +27,11 @@ module _ {K V S : Type 0} where
   pub record IsGrownFor (hash : K → ℕ) (c : Contents (K × V) S) (k : K) (d : Contents (K × V) S) : Type 0 where
     pub grows : GrowsFor hash (λ p. p.0) c k d
     pub first : FirstArrayWhenDue c d
+
+  -- c, where an insertion was refused: nothing changed, and no bucket waits that an insertion doesn't leave waiting
+  pub record RestsRefused (c d : Contents (K × V) S) : Type 0 where
+    pub unchanged : IsUnchanged c d
+    pub relocates : Relocates c d
 
 module _ {G N K V S T : Type 0} {d : guard.Ghosts G (Contents (K × V) S)} {g : eq.Ghosts K} {h : hash.Ghosts K} {b : builder.Ghosts S T} {w : hasher.Ghosts T} where
   -- the index that the entry holds
@@ -106,6 +112,11 @@ module _ {G N K V S T : Type 0} {d : guard.Ghosts G (Contents (K × V) S)} {g : 
   GrowsThrough hash (Occupied p) o = ⊤
   GrowsThrough hash (Vacant e) o = IsGrownFor hash (d.kept e.guard) e.key (d.kept o.guard)
 
+  -- where a value was put in, those buckets wait that an insertion of the key leaves waiting; else the same as before
+  abbrev pub RelocatesThrough : (K → ℕ) → HeldPlace G N K V S T d g h b w → HeldEntry G N K V S T d g h b w → Type 0
+  RelocatesThrough hash (Occupied p) o = waiting_of (d.kept o.guard) ≡ waiting_of (d.kept p.guard)
+  RelocatesThrough hash (Vacant e) o = Relocates (d.kept e.guard) (d.kept o.guard) × RelocatesTwo (hash e.key) (d.kept e.guard) (d.kept o.guard)
+
   -- a refusal: the key comes back with a value of which P holds
   abbrev pub RefusesSome : HeldPlace G N K V S T d g h b w → (K → V → Type 0) → InsertError K V → Type 0
   RefusesSome e P r = (v : V) × P (entry_key e) v × (r ≡ Memory (entry_key e, v))
@@ -132,10 +143,10 @@ module _ (K V S T : RattleType) (key : HashMembers K.Denot) (build : builder.Gho
   abbrev pub Borrowed : (N : Type 0) → guard.Ghosts (MutBor (Contents (K.Denot × V.Denot) S.Denot)) (Contents (K.Denot × V.Denot) S.Denot) → eq.Ghosts K.Denot → hash.Ghosts K.Denot → builder.Ghosts S.Denot T.Denot → hasher.Ghosts T.Denot → Type 0
   Borrowed N d g h b w = HeldEntry (MutBor (Contents (K.Denot × V.Denot) S.Denot)) N K.Denot V.Denot S.Denot T.Denot d g h b w
 
-  -- where r has no entry, since an insertion was refused, the index behind m stays as it is
+  -- where r has no entry, since an insertion was refused, the index behind m stays as it is, but for what waits
   abbrev pub rests_if_refused : {E N : Type 0} {d : guard.Ghosts (MutBor (Contents (K.Denot × V.Denot) S.Denot)) (Contents (K.Denot × V.Denot) S.Denot)} {g : eq.Ghosts K.Denot} {h : hash.Ghosts K.Denot} {b : builder.Ghosts S.Denot T.Denot} {w : hasher.Ghosts T.Denot}
       → MutBor (Contents (K.Denot × V.Denot) S.Denot) → Result (Borrowed N d g h b w) E → Fml
-  rests_if_refused m r = RestsIfErr (index_row K V S T key build feed) m (λ o. o.guard.ghost_name) r (λ n. IsUnchanged m.now n)
+  rests_if_refused m r = RestsIfErr (index_row K V S T key build feed) m (λ o. o.guard.ghost_name) r (RestsRefused m.now)
 
   -- where r has no entry, the index behind m stays as it is
   abbrev pub rests_if_none : {N : Type 0} {d : guard.Ghosts (MutBor (Contents (K.Denot × V.Denot) S.Denot)) (Contents (K.Denot × V.Denot) S.Denot)} {g : eq.Ghosts K.Denot} {h : hash.Ghosts K.Denot} {b : builder.Ghosts S.Denot T.Denot} {w : hasher.Ghosts T.Denot}

@@ -7,17 +7,19 @@ use Rattle.std.specs.declared.cmp.PartialEq as eq
 use Rattle.std.specs.declared.hash.Hash as hash
 use Rattle.std.specs.declared.hash.Hasher as hasher
 use Rattle.std.specs.declared.hash.BuildHasher as builder
-use Rattle.scc_table.specs.Contents.{Contents, entries}
+use Rattle.scc_table.specs.Contents.{Contents, entries, waiting_of}
 use Rattle.scc_table.specs.Pairs.{with_pair_value}
 use Rattle.scc_table.specs.Placed as spots
 use Rattle.scc_incremental.specs.Placed.{entry_of}
 use Rattle.scc_incremental.specs.Places.{IsPlace, IsFoundAt, IsInsertedAt, index_of}
 use Rattle.scc_incremental.specs.Places.{with_write_at}
+use Rattle.scc_table.specs.declared.place.Place.{Place}
 use Rattle.scc_common.specs.declared.guard.Guard as guard
 use Rattle.scc_incremental.proofs.AtPlaces.{place-found}
 use Rattle.scc_table.proofs.PairSplits.{set_value-at, without-at}
 use Rattle.scc_table.proofs.PairWrites.{IsPlaceOf}
 use Rattle.scc_incremental.proofs.AtPlaces.{place-prop, entry_of-is, written-there, put-there}
+use Rattle.scc_incremental.proofs.Relocations.{waiting-write}
 use Rattle.scc_map.specs.Entries.{occupied_pair, occupied_front, occupied_back, IsOccupiedAt, IsWritten, IsInserted, written_map, still_within, with_value}
 use Rattle.scc_map.specs.declared.hash_map.held.HeldEntry.{HeldEntry}
 use Rattle.scc_map.specs.declared.hash_map.held.HeldVacant.{HeldVacant}
@@ -72,6 +74,14 @@ module _ {G N K V S T : Type 0} {d : guard.Ghosts G (Contents (K × V) S)} {g : 
 
   pub written-with : (o : HeldEntry G N K V S T d g h b w) (v : V) → IsWritten o v (with_value o v)
   written-with o v = written-after o (d.kept o.guard) (written_map o v) v refl refl (still_within o v)
+
+  -- the same buckets wait once a value was written
+  pub waiting-put : (m : Contents (K × V) S) (p : Place) (v : V) (n : Contents (K × V) S) → n ≡ with_write_at with_pair_value m p v → waiting_of n ≡ waiting_of m
+  waiting-put m p v n made = ap waiting_of made ∙ waiting-write with_pair_value m p v
+
+  -- and so in what a guard keeps
+  pub waiting-after : (o : HeldEntry G N K V S T d g h b w) (m n : Contents (K × V) S) (v : V) → m ≡ d.kept o.guard → n ≡ with_write_at with_pair_value m o.place v → waiting_of (d.kept (d.keeping o.guard n)) ≡ waiting_of (d.kept o.guard)
+  waiting-after o m n v is made = ap waiting_of (d.keeps o.guard n ∙ made) ∙ waiting-write with_pair_value m o.place v ∙ ap waiting_of is
 
   -- what was put in through the guard stands at the entry
   pub inserted-after : (e : HeldVacant G N K V S T d g h b w) (m n : Contents (K × V) S) (v : V) (o : HeldEntry G N K V S T d g h b w) → o.guard ≡ d.keeping e.guard n → o.rest ≡ e.rest → m ≡ d.kept e.guard → IsInsertedAt m (e.key, v) n o.place → IsInserted e v o

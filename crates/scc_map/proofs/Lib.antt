@@ -4,6 +4,5 @@ pub mod CallerLemmas
 pub mod Entries
 pub mod EntrySteps
 pub mod Filtering
-pub mod Relocations
 pub mod SpotVisits
 pub mod Visiting

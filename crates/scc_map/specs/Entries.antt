@@ -11,7 +11,7 @@ use Rattle.std.specs.declared.hash.Hash as hash
 use Rattle.std.specs.declared.hash.Hasher as hasher
 use Rattle.std.specs.declared.hash.BuildHasher as builder
 use Rattle.std.proofs.Common.{sym, subst}
-use Rattle.scc_table.specs.Contents.{Contents, entries, key_hash}
+use Rattle.scc_table.specs.Contents.{Contents, entries, key_hash, waiting_of}
 use Rattle.scc_table.specs.PairSteps.{SwapsKey}
 use Rattle.scc_table.specs.Pairs.{find, without, IsUnique, with_pair_value}
 use Rattle.scc_incremental.specs.Placed.{entry_of, front_of, back_of, IsWrittenAt, IsPutAt}
@@ -19,6 +19,7 @@ use Rattle.scc_incremental.specs.Places.{IsPlace}
 use Rattle.scc_table.specs.Steps.{FirstArrayWhenDue, GrowsFor, HoldsExactly, Rests}
 use Rattle.scc_incremental.specs.Placed.{IsPlace-with_write_at}
 use Rattle.scc_incremental.specs.Places.{with_write_at}
+use Rattle.scc_incremental.specs.Relocations.{Relocates, RelocatesTwo}
 use Rattle.scc_common.specs.declared.errors.InsertError.{InsertError}
 use Rattle.scc_common.specs.declared.guard.Guard as guard
 use Rattle.scc_map.specs.Lends.{map_row}
@@ -35,10 +36,11 @@ module _ {K V S : Type 0} where
     pub grows : GrowsFor hash (λ p. p.0) c k d
     pub first : FirstArrayWhenDue c d
 
-  -- c, where an insertion of the new key k was refused: it rests as it was, or resized once as it may and has to be, with distinct keys
+  -- c, where an insertion of the new key k was refused: it rests as it was, or resized once as it may and has to be, with distinct keys; no bucket waits that an insertion doesn't leave waiting
   pub record RestsRefused (same : K → K → Bool) (hash : K → ℕ) (c : Contents (K × V) S) (k : K) (d : Contents (K × V) S) : Type 0 where
     pub rests : Rests c d
     pub grows : GrowsFor hash (λ p. p.0) c k d
+    pub relocates : Relocates c d
     pub unique : IsUnique same d
 
 module _ {G N K V S T : Type 0} {d : guard.Ghosts G (Contents (K × V) S)} {g : eq.Ghosts K} {h : hash.Ghosts K} {b : builder.Ghosts S T} {w : hasher.Ghosts T} where
@@ -137,6 +139,11 @@ module _ {G N K V S T : Type 0} {d : guard.Ghosts G (Contents (K × V) S)} {g : 
   abbrev pub GrowsThrough : (K → ℕ) → HeldPlace G N K V S T d g h b w → HeldEntry G N K V S T d g h b w → Type 0
   GrowsThrough hash (Occupied p) o = ⊤
   GrowsThrough hash (Vacant e) o = IsGrownFor hash (d.kept e.guard) e.key (d.kept o.guard)
+
+  -- where a value was put in, those buckets wait that an insertion of the key leaves waiting; else the same as before
+  abbrev pub RelocatesThrough : (K → ℕ) → HeldPlace G N K V S T d g h b w → HeldEntry G N K V S T d g h b w → Type 0
+  RelocatesThrough hash (Occupied p) o = waiting_of (d.kept o.guard) ≡ waiting_of (d.kept p.guard)
+  RelocatesThrough hash (Vacant e) o = Relocates (d.kept e.guard) (d.kept o.guard) × RelocatesTwo (hash e.key) (d.kept e.guard) (d.kept o.guard)
 
   -- a refusal: the key comes back with a value of which P holds
   abbrev pub RefusesSome : HeldPlace G N K V S T d g h b w → (K → V → Type 0) → InsertError K V → Type 0

@@ -6,7 +6,7 @@ use Rattle.std.specs.declared.cmp.PartialEq as eq
 use Rattle.std.specs.declared.hash.Hash as hash
 use Rattle.std.specs.declared.hash.Hasher as hasher
 use Rattle.std.specs.declared.hash.BuildHasher as builder
-use Rattle.scc_table.specs.Contents.{Contents, refused_of}
+use Rattle.scc_table.specs.Contents.{Contents, refused_of, waiting_of}
 use Rattle.scc_table.specs.Pairs.{IsUnique}
 use Rattle.scc_incremental.specs.Placed.{SplitsAt, IsNextAt, IsNextPastRemovedAt}
 use Rattle.scc_table.specs.Steps.{HoldsExactly}
@@ -32,7 +32,7 @@ module _ {G N K V S T : Type 0} {d : guard.Ghosts G (Contents (K × V) S)} {g : 
     pub at : IsNextPastRemovedAt (d.kept o.guard) o.place (d.kept p.guard) p.place p.within
 
 module _ (K V S T : RattleType) (key : HashMembers K.Denot) (build : builder.Ghosts S.Denot T.Denot) (feed : hasher.Ghosts T.Denot) where
-  -- where r has no entry, the map behind o is left with the other pairs in their order, and the note of refused memory as it was
+  -- where r has no entry, the map behind o is left with the other pairs in their order, and the note of refused memory and what waits as they were
   abbrev pub rests_removed : {A B N : Type 0} {d : guard.Ghosts (MutBor (Contents (K.Denot × V.Denot) S.Denot)) (Contents (K.Denot × V.Denot) S.Denot)} {g : eq.Ghosts K.Denot} {h : hash.Ghosts K.Denot} {b : builder.Ghosts S.Denot T.Denot} {w : hasher.Ghosts T.Denot}
       → Borrowed K V S T key build feed N d g h b w → Result (A × Borrowed K V S T key build feed N d g h b w) B → Fml
-  rests_removed {d = d} o r = RestsIfErr (map_row K V S T key build feed) o.guard (λ p. p.1.guard.ghost_name) r (λ n. HoldsExactly (d.kept o.guard) (occupied_front o ++ occupied_back o) n × (refused_of n ≡ refused_of (d.kept o.guard)) × IsUnique key.eq n)
+  rests_removed {d = d} o r = RestsIfErr (map_row K V S T key build feed) o.guard (λ p. p.1.guard.ghost_name) r (λ n. HoldsExactly (d.kept o.guard) (occupied_front o ++ occupied_back o) n × (refused_of n ≡ refused_of (d.kept o.guard)) × IsUnique key.eq n × (waiting_of n ≡ waiting_of (d.kept o.guard)))

@@ -1,5 +1,7 @@
 pub use Rattle.scc_incremental.specs.Placed
 pub use Rattle.scc_incremental.specs.Places
+pub use Rattle.scc_incremental.specs.Relocates
+pub use Rattle.scc_incremental.specs.Relocations
 pub use Rattle.scc_table.specs.Clones
 pub use Rattle.scc_table.specs.Contents
 pub use Rattle.scc_table.specs.PairSteps
@@ -18,5 +20,4 @@ pub mod EntrySteps
 pub mod Lends
 pub mod MapSizes
 pub mod MapSteps
-pub mod Relocations
 pub mod Sinks

@@ -12,12 +12,14 @@ use Rattle.std.specs.Option.{option_map}
 use Rattle.std.specs.Set.{remove_key, swap_key}
 use Rattle.std.specs.declared.hash.Hasher as hasher
 use Rattle.std.specs.declared.hash.BuildHasher as builder
-use Rattle.scc_table.specs.Contents.{Contents, entries, bucket_count, settings_of, minimum_of, refused_of, pending_of, key_hash, bucket_of}
+use Rattle.scc_table.specs.Contents.{Contents, entries, bucket_count, settings_of, minimum_of, refused_of, pending_of, waiting_of, key_hash, bucket_of}
 use Rattle.scc_table.specs.Mapped.{mapped}
 use Rattle.scc_table.specs.Sizes.{IsSmaller}
 use Rattle.scc_table.specs.Steps.{Holds, HoldsExactly, IsUnchanged, GrowsWhenDue}
 use Rattle.scc_table.specs.Pairs.{find as find_pair, without as without_pair, FindsInstead as FindsPairInstead, HasRoom as HasRoomForPair, IsUnique as IsUniqueMap}
 use Rattle.scc_table.proofs.Mapped.{entries-mapped, bucket_count-mapped, settings_of-mapped, refused_of-mapped, pending_of-mapped, length-mapped, HoldsExactly-mapped, IsUnchanged-mapped, Holds-mapped, Rests-mapped, Reserves-mapped, Releases-mapped, HasRoomBy-mapped, HasRoomBy-from_mapped, GrowsWhenDue-mapped}
+use Rattle.scc_incremental.specs.Relocations.{RelocatesTwo}
+use Rattle.scc_incremental.proofs.MappedRelocations.{waiting_of-mapped, RelocatesTwo-mapped}
 use Rattle.scc_common.specs.declared.errors.InsertError.{InsertError}
 use Rattle.scc_common.specs.declared.errors.InsertError.TheVariants.{Exists, Memory}
 use Rattle.scc_map.specs.MapSizes.{ReservesOrRefuses, ReleasesOrRefuses}
@@ -154,6 +156,9 @@ module _ {K S T : Type 0} (eq : K → K → Bool) (build : builder.Ghosts S T) (
   pub grows-hashed : (d : Contents (K × Unit {0}) S) → GrowsWhenDue (key_hash build feed input c) (λ (p : K × Unit {0}). p.0) c k d → GrowsWhenDue (key_hash build feed input (of_map c)) (λ q. q) (of_map c) k (of_map d)
   grows-hashed d h = subst (λ (hash : K → ℕ). GrowsWhenDue hash (λ q. q) (of_map c) k (of_map d)) (sym (hash-same build feed input c)) (grows-keys eq (key_hash build feed input c) c k d h)
 
+  pub two-hashed : (d : Contents (K × Unit {0}) S) → RelocatesTwo (key_hash build feed input c k) c d → RelocatesTwo (key_hash build feed input (of_map c) k) (of_map c) (of_map d)
+  two-hashed d h = subst (λ (hash : K → ℕ). RelocatesTwo (hash k) (of_map c) (of_map d)) (sym (hash-same build feed input c)) (RelocatesTwo-mapped (λ p. p.0) (key_hash build feed input c k) c d h)
+
 pub smaller-keys : {K S : Type 0} (c d : Contents (K × Unit {0}) S)
     → (bucket_count d ≢ bucket_count c → IsSmaller (minimum_of c) (length (entries d)) (bucket_count c) (bucket_count d))
     → bucket_count (of_map d) ≢ bucket_count (of_map c) → IsSmaller (minimum_of (of_map c)) (length (entries (of_map d))) (bucket_count (of_map c)) (bucket_count (of_map d))
@@ -174,6 +179,10 @@ shows {K} c = let f : K × Unit {0} → K = λ p. p.0 in record { keys = entries
 -- the note of refused memory stays in the set where it stays in the map
 pub noted-keys : {K S : Type 0} (c d : Contents (K × Unit {0}) S) → refused_of d ≡ refused_of c → refused_of (of_map d) ≡ refused_of (of_map c)
 noted-keys c d h = (shows d).refused ∙ h ∙ sym (shows c).refused
+
+-- and so do the buckets that wait
+pub waiting-keys : {K S : Type 0} (c d : Contents (K × Unit {0}) S) → waiting_of d ≡ waiting_of c → waiting_of (of_map d) ≡ waiting_of (of_map c)
+waiting-keys {K} c d h = let f : K × Unit {0} → K = λ p. p.0 in waiting_of-mapped f d ∙ h ∙ sym (waiting_of-mapped f c)
 
 pub shown : {K S : Type 0} (c : Contents (K × Unit {0}) S) (s : Contents K S) → of_map c ≡ s → Shows c s
 shown c s e = subst (Shows c) e (shows c)

@@ -1,3 +1,7 @@
+pub use Rattle.scc_incremental.specs.Placed
+pub use Rattle.scc_incremental.specs.Places
+pub use Rattle.scc_incremental.specs.Relocates
+pub use Rattle.scc_incremental.specs.Relocations
 pub use Rattle.scc_map.specs.MapSizes
 pub use Rattle.scc_table.specs.Clones
 pub use Rattle.scc_table.specs.Contents

@@ -6,7 +6,7 @@ use Rattle.std.specs.declared.cmp.PartialEq as eq
 use Rattle.std.specs.declared.hash.Hash as hash
 use Rattle.std.specs.declared.hash.Hasher as hasher
 use Rattle.std.specs.declared.hash.BuildHasher as builder
-use Rattle.scc_table.specs.Contents.{Contents, refused_of}
+use Rattle.scc_table.specs.Contents.{Contents, refused_of, waiting_of}
 use Rattle.scc_incremental.specs.Placed.{entry_of, front_of, back_of, SplitsAt, IsNextAt, IsNextPastRemovedAt}
 use Rattle.scc_table.specs.Steps.{HoldsExactly}
 use Rattle.scc_table.specs.declared.place.Place.{Place}
@@ -50,7 +50,7 @@ module _ (K S T : RattleType) (key : HashMembers K.Denot) (build : builder.Ghost
       → MutBor (Contents K.Denot S.Denot) → Option (OccupiedEntry K.Denot S.Denot T.Denot g h b w) → Fml
   rests_if_none m r = RestsIfNone (set_row K S T key build feed) m (λ o. o.set.ghost_name) r (λ n. n ≡ m.now)
 
-  -- where r has no entry, the set behind o is left with the other keys in their order, and the note of refused memory as it was
+  -- where r has no entry, the set behind o is left with the other keys in their order, and the note of refused memory and what waits as they were
   abbrev pub rests_removed : {A B : Type 0} {g : eq.Ghosts K.Denot} {h : hash.Ghosts K.Denot} {b : builder.Ghosts S.Denot T.Denot} {w : hasher.Ghosts T.Denot}
       → OccupiedEntry K.Denot S.Denot T.Denot g h b w → Result (A × OccupiedEntry K.Denot S.Denot T.Denot g h b w) B → Fml
-  rests_removed o r = RestsIfErr (set_row K S T key build feed) o.set (λ d. d.1.set.ghost_name) r (λ n. HoldsExactly o.set.now (occupied_front o ++ occupied_back o) n × (refused_of n ≡ refused_of o.set.now) × IsUnique key.eq n)
+  rests_removed o r = RestsIfErr (set_row K S T key build feed) o.set (λ d. d.1.set.ghost_name) r (λ n. HoldsExactly o.set.now (occupied_front o ++ occupied_back o) n × (refused_of n ≡ refused_of o.set.now) × IsUnique key.eq n × (waiting_of n ≡ waiting_of o.set.now))

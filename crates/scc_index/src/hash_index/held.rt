@@ -2,7 +2,7 @@
 ghost use Rattle.std.specs.Prelude.{◌≡◌, None};
 ghost use Rattle.scc_table.specs.Contents.{entries, key_hash};
 ghost use Rattle.scc_table.specs.Pairs.{find};
-ghost use Rattle.scc_table.specs.Places.{IsPlace};
+ghost use Rattle.scc_incremental.specs.Places.{IsPlace};
 
 mod methods;
 

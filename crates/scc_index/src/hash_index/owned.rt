@@ -4,14 +4,14 @@ ghost use Rattle.std.specs.Arc.{arc_value};
 ghost use Rattle.std.specs.Borrow.{Bor};
 ghost use Rattle.std.specs.Fn.{FnOnceTakesAt};
 ghost use Rattle.std.specs.List.Sorted.{IsPermutation};
-ghost use Rattle.scc_table.specs.Contents.{entries, bucket_count, settings_of, minimum_of, refused_of, key_hash};
+ghost use Rattle.scc_table.specs.Contents.{entries, bucket_count, settings_of, minimum_of, refused_of, waiting_of, key_hash};
 ghost use Rattle.scc_table.specs.Pairs.{find, FindsInstead, HasRoom, IsUnique};
 ghost use Rattle.scc_table.specs.Sizes.{IsArraySize, IsSmaller};
 ghost use Rattle.scc_table.specs.Walks.{CalledOn, CallableWhile, Walks};
-ghost use Rattle.scc_table.specs.Places.{IsPlace, IsInsertedAt, index_of};
+ghost use Rattle.scc_incremental.specs.Places.{IsPlace, IsInsertedAt, index_of, with_write_at};
+ghost use Rattle.scc_incremental.specs.Relocations.{Relocates, RelocatesNone, RelocatesTwo};
 ghost use Rattle.scc_table.specs.Steps.{FirstArrayWhenDue, Grows, GrowsFor, GrowsWhenDue, Holds, IsUnchanged, RaisesWhenDue, ShrinksWhenDue};
 ghost use Rattle.scc_table.specs.ShelfWrites.{put_whole};
-ghost use Rattle.scc_table.specs.Writes.{with_write_at};
 ghost use Rattle.scc_index.specs.ClosureSteps.{RemovesIf};
 ghost use Rattle.scc_walks.specs.Closures.{Reads};
 ghost use Rattle.scc_index.specs.IndexSteps.{Inserts, Removes};
@@ -24,7 +24,8 @@ mod walks;
 mod whole;
 
 pub use entry::{Entry, OccupiedEntry, VacantEntry};
-use scc_table::{InsertError, Made, MakeError, Place, Shared, SharedVersion, Table, Version};
+use scc_incremental::Incremental;
+use scc_table::{InsertError, Made, MakeError, Place, Shared, SharedVersion, Version};
 pub use snapshots::Iter;
 use std::alloc::Global;
 use std::hash::{BuildHasher, BuildHasherDefault, FoldHasher, Hash};
@@ -36,7 +37,7 @@ use std::sync::Arc;
 /// The default hasher has a fixed seed. For keys that an attacker picks, write `Owned::with_hasher(alloc, RandomState::new(&rt)?)`.
 #[derive(Drop)]
 pub struct Owned<K: Eq + Hash, V, H: BuildHasher = BuildHasherDefault<FoldHasher>> {
-    pub(crate) table: Table<SharedVersion<K, V>, H>,
+    pub(crate) table: Incremental<SharedVersion<K, V>, H>,
 }
 
 impl<K: Eq + Hash, V, H: BuildHasher> Model for Owned<K, V, H> {
@@ -98,7 +99,7 @@ impl<K: Eq + Hash, V, H: BuildHasher> Owned<K, V, H> {
         ensures settings { settings_of result ≡ record { hasher = hasher; skipped = 0; asked = 0; reserved = 0 } }
     {
         Owned {
-            table: Table::new(alloc, 0, hasher),
+            table: Incremental::new(alloc, 0, hasher),
         }
     }
 
@@ -116,7 +117,7 @@ impl<K: Eq + Hash, V, H: BuildHasher> Owned<K, V, H> {
         ensures settings { IfOk result (λ m. settings_of m ≡ record { hasher = hasher; skipped = 0; asked = 32 * bucket_count m; reserved = 0 }) }
         ensures succeeds { capacity ≡ 0 → IsOk result }
     {
-        match Table::with_capacity(alloc, 0, capacity, hasher) {
+        match Incremental::with_capacity(alloc, 0, capacity, hasher) {
             Ok(table) => Ok(Owned { table }),
             Err(e) => Err(e),
         }
@@ -138,7 +139,7 @@ impl<K: Eq + Hash, V, H: BuildHasher> Owned<K, V, H> {
         ensures settings { IfOk result (λ m. settings_of m ≡ record { hasher = hasher; skipped = skipped; asked = 32 * bucket_count m; reserved = 0 }) }
         ensures succeeds { capacity ≡ 0 → IsOk result }
     {
-        match Table::with_capacity(alloc, skipped, capacity, hasher) {
+        match Incremental::with_capacity(alloc, skipped, capacity, hasher) {
             Ok(table) => Ok(Owned { table }),
             Err(e) => Err(e),
         }
@@ -246,6 +247,9 @@ impl<K: Eq + Hash, V, H: BuildHasher> Owned<K, V, H> {
         ensures raised { OnErr result (RaisesWhenDue (key_hash H.BuildHasher H.Hasher.Hasher K.hash_input self.old) (λ p. p.0) self.old k self.new) }
         ensures first { OnOk result (FirstArrayWhenDue self.old self.new) }
         ensures noted { IsSome (find K.eq (entries self.old) k) → refused_of self.new ≡ refused_of self.old }
+        ensures relocates { find K.eq (entries self.old) k ≡ None → Relocates self.old self.new }
+        ensures two { find K.eq (entries self.old) k ≡ None → OnOk result (RelocatesTwo (key_hash H.BuildHasher H.Hasher.Hasher K.hash_input self.old k) self.old self.new) }
+        ensures waiting { IsSome (find K.eq (entries self.old) k) → waiting_of self.new ≡ waiting_of self.old }
         ensures unique { IsUnique K.eq self.new }
     {
         let hash = self.table.hash(&k);
@@ -269,6 +273,8 @@ impl<K: Eq + Hash, V, H: BuildHasher> Owned<K, V, H> {
         ensures smaller { bucket_count self.new ≢ bucket_count self.old → IsSmaller (minimum_of self.old) (length (entries self.new)) (bucket_count self.old) (bucket_count self.new) }
         ensures due { IsTrue result → ShrinksWhenDue self.old self.new }
         ensures noted { (IsTrue result → ⊥) → refused_of self.new ≡ refused_of self.old }
+        ensures relocates { IsTrue result → RelocatesNone self.old self.new }
+        ensures waiting { (IsTrue result → ⊥) → waiting_of self.new ≡ waiting_of self.old }
         ensures unique { IsUnique K.eq self.new }
     {
         let hash = self.table.hash(k);
@@ -293,6 +299,8 @@ impl<K: Eq + Hash, V, H: BuildHasher> Owned<K, V, H> {
         ensures smaller { bucket_count self.new ≢ bucket_count self.old → IsSmaller (minimum_of self.old) (length (entries self.new)) (bucket_count self.old) (bucket_count self.new) }
         ensures due { IsTrue result → ShrinksWhenDue self.old self.new }
         ensures noted { (IsTrue result → ⊥) → refused_of self.new ≡ refused_of self.old }
+        ensures relocates { IsTrue result → RelocatesNone self.old self.new }
+        ensures waiting { (IsTrue result → ⊥) → waiting_of self.new ≡ waiting_of self.old }
         ensures unique { IsUnique K.eq self.new }
     {
         match self.table.search(self.table.hash(k), k) {
@@ -336,6 +344,7 @@ impl<K: Eq + Hash, V, H: BuildHasher> Owned<K, V, H> {
         ensures others { Holds self.old (remove (entries self.old) (index_of self.old place)) self.new }
         ensures smaller { bucket_count self.new ≢ bucket_count self.old → IsSmaller (minimum_of self.old) (length (entries self.new)) (bucket_count self.old) (bucket_count self.new) }
         ensures due { ShrinksWhenDue self.old self.new }
+        ensures relocates { RelocatesNone self.old self.new }
         ensures unique { IsUnique K.eq self.new }
     {
         let _version = self.table.remove_at(place);
@@ -350,6 +359,8 @@ impl<K: Eq + Hash, V, H: BuildHasher> Owned<K, V, H> {
         ensures unchanged { OnErr result (IsUnchanged self.old self.new) }
         ensures grows { OnOk result (GrowsFor (key_hash H.BuildHasher H.Hasher.Hasher K.hash_input self.old) (λ p. p.0) self.old k self.new) }
         ensures first { OnOk result (FirstArrayWhenDue self.old self.new) }
+        ensures relocates { Relocates self.old self.new }
+        ensures two { OnOk result (RelocatesTwo (key_hash H.BuildHasher H.Hasher.Hasher K.hash_input self.old k) self.old self.new) }
         ensures unique { IsUnique K.eq self.new }
     {
         self.table.insert_made(hash, (k, v))

@@ -15,7 +15,7 @@ ghost use Rattle.scc_map.specs.ClosureSteps.{UpdatesAt, RemovesIf};
 ghost use Rattle.scc_walks.specs.Closures.{Reads, WritesAt};
 ghost use Rattle.scc_map.specs.Lends.{lends_value};
 ghost use Rattle.scc_map.specs.MapSteps.{Inserts, Removes, Upserts};
-ghost use Rattle.scc_map.specs.Relocations.{Relocates, RelocatesNone, RelocatesTwo};
+ghost use Rattle.scc_incremental.specs.Relocations.{Relocates, RelocatesNone, RelocatesTwo};
 
 mod collecting;
 mod entry;
@@ -413,6 +413,8 @@ impl<K: Eq + Hash, V, H: BuildHasher> Owned<K, V, H> {
         ensures full { OnErr result (HasRoom (key_hash H.BuildHasher H.Hasher.Hasher K.hash_input self.old) self.old k → ⊥) }
         ensures grows { GrowsFor (key_hash H.BuildHasher H.Hasher.Hasher K.hash_input self.old) (λ p. p.0) self.old k self.new }
         ensures first { OnOk result (FirstArrayWhenDue self.old self.new) }
+        ensures relocates { Relocates self.old self.new }
+        ensures two { OnOk result (RelocatesTwo (key_hash H.BuildHasher H.Hasher.Hasher K.hash_input self.old k) self.old self.new) }
         ensures unique { IsUnique K.eq self.new }
     {
         self.table.insert_new(hash, (k, v))

@@ -2,10 +2,11 @@
 ghost use Rattle.std.specs.Prelude.{◌≡◌, ◌≢◌, ◌<◌, ◌≤◌, ◌*◌, ◌↔◌, [], length, Some, None, IsTrue, IsSome, IsOk, IfErr, IfNone, IfOk, OnErr, OnOk, OnSome};
 ghost use Rattle.std.specs.Arc.{arc_value};
 ghost use Rattle.std.specs.Fn.{FnOnceTakesAt, FnOnceReturnsAt};
-ghost use Rattle.scc_table.specs.Contents.{entries, bucket_count, settings_of, minimum_of, refused_of, key_hash};
+ghost use Rattle.scc_table.specs.Contents.{entries, bucket_count, settings_of, minimum_of, refused_of, waiting_of, key_hash};
 ghost use Rattle.scc_table.specs.Pairs.{find as find_pair, IsUnique as IsUniqueMap};
 ghost use Rattle.scc_table.specs.Sizes.{IsArraySize, IsSmaller};
 ghost use Rattle.scc_table.specs.Steps.{FirstArrayWhenDue, Grows, GrowsWhenDue, HoldsExactly, ShrinksWhenDue};
+ghost use Rattle.scc_incremental.specs.Relocations.{Relocates, RelocatesNone, RelocatesTwo};
 ghost use Rattle.scc_set.specs.Keys.{find, with_key, FindsInstead, HasRoom, IsUnique};
 ghost use Rattle.scc_set.specs.SetSteps.{key_answer as key_answer_of, Inserts, Reads, Removes, RemovesIf, Replaces};
 ghost use Rattle.std.specs.Map.{set_key};
@@ -217,6 +218,9 @@ impl<K: Eq + Hash, H: BuildHasher> Owned<K, H> {
         ensures due { find K.eq (entries self.old) k ≡ None → GrowsWhenDue (key_hash H.BuildHasher H.Hasher.Hasher K.hash_input self.old) (λ q. q) self.old k self.new }
         ensures first { OnOk result (FirstArrayWhenDue self.old self.new) }
         ensures noted { IsSome (find K.eq (entries self.old) k) → refused_of self.new ≡ refused_of self.old }
+        ensures relocates { find K.eq (entries self.old) k ≡ None → Relocates self.old self.new }
+        ensures two { find K.eq (entries self.old) k ≡ None → OnOk result (RelocatesTwo (key_hash H.BuildHasher H.Hasher.Hasher K.hash_input self.old k) self.old self.new) }
+        ensures waiting { IsSome (find K.eq (entries self.old) k) → waiting_of self.new ≡ waiting_of self.old }
         ensures unique { IsUnique K.eq self.new }
     {
         key_answer(self.map.insert_sync(k, ()))
@@ -235,6 +239,9 @@ impl<K: Eq + Hash, H: BuildHasher> Owned<K, H> {
         ensures due { find K.eq (entries self.old) k ≡ None → GrowsWhenDue (key_hash H.BuildHasher H.Hasher.Hasher K.hash_input self.old) (λ q. q) self.old k self.new }
         ensures first { find K.eq (entries self.old) k ≡ None → OnOk result (FirstArrayWhenDue self.old self.new) }
         ensures noted { IsSome (find K.eq (entries self.old) k) → refused_of self.new ≡ refused_of self.old }
+        ensures relocates { find K.eq (entries self.old) k ≡ None → Relocates self.old self.new }
+        ensures two { find K.eq (entries self.old) k ≡ None → OnOk result (RelocatesTwo (key_hash H.BuildHasher H.Hasher.Hasher K.hash_input self.old k) self.old self.new) }
+        ensures waiting { IsSome (find K.eq (entries self.old) k) → waiting_of self.new ≡ waiting_of self.old }
         ensures unique { IsUnique K.eq self.new }
     {
         match self.swap_key(k) {
@@ -250,6 +257,7 @@ impl<K: Eq + Hash, H: BuildHasher> Owned<K, H> {
     fn swap_key(&mut self, k: K) -> Result<K, K>
         ensures swapped { IfOk result (λ old. (find K.eq (entries self.old) k ≡ Some old) × HoldsExactly self.old (with_key K.eq (entries self.old) k) self.new × FindsInstead K.eq (entries self.old) k (Some k) (entries self.new)) }
         ensures noted { refused_of self.new ≡ refused_of self.old }
+        ensures waiting { waiting_of self.new ≡ waiting_of self.old }
         ensures missing { IfErr result (λ q. (q ≡ k) × (find K.eq (entries self.old) k ≡ None) × (self.new ≡ self.old)) }
         ensures unique { IsUnique K.eq self.new }
     {
@@ -265,6 +273,8 @@ impl<K: Eq + Hash, H: BuildHasher> Owned<K, H> {
         ensures smaller { bucket_count self.new ≢ bucket_count self.old → IsSmaller (minimum_of self.old) (length (entries self.new)) (bucket_count self.old) (bucket_count self.new) }
         ensures due { OnSome result (ShrinksWhenDue self.old self.new) }
         ensures noted { IfNone result (refused_of self.new ≡ refused_of self.old) }
+        ensures relocates { OnSome result (RelocatesNone self.old self.new) }
+        ensures waiting { IfNone result (waiting_of self.new ≡ waiting_of self.old) }
         ensures unique { IsUnique K.eq self.new }
     {
         key_alone(
@@ -286,6 +296,8 @@ impl<K: Eq + Hash, H: BuildHasher> Owned<K, H> {
         ensures smaller { bucket_count self.new ≢ bucket_count self.old → IsSmaller (minimum_of self.old) (length (entries self.new)) (bucket_count self.old) (bucket_count self.new) }
         ensures due { OnSome result (ShrinksWhenDue self.old self.new) }
         ensures noted { IfNone result (refused_of self.new ≡ refused_of self.old) }
+        ensures relocates { OnSome result (RelocatesNone self.old self.new) }
+        ensures waiting { IfNone result (waiting_of self.new ≡ waiting_of self.old) }
         ensures unique { IsUnique K.eq self.new }
     {
         key_alone(self.map.remove_sync(k))
@@ -311,6 +323,7 @@ fn swap_in_map<K: Eq + Hash, H: BuildHasher>(
 ) -> Result<K, K>
     ensures swapped { IfOk result (λ old. (find_pair K.eq (entries map.old) k ≡ Some (old, tt)) × HoldsExactly map.old (set_key (K.eq k) (entries map.old) k) map.new) }
     ensures noted { refused_of map.new ≡ refused_of map.old }
+    ensures waiting { waiting_of map.new ≡ waiting_of map.old }
     ensures missing { IfErr result (λ q. (q ≡ k) × (find_pair K.eq (entries map.old) k ≡ None) × (map.new ≡ map.old)) }
     ensures unique { IsUniqueMap K.eq map.new }
 {

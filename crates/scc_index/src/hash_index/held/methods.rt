@@ -1,5 +1,6 @@
 //! What an entry does while it keeps its guard, the same under each.
 ghost use Rattle.std.specs.Prelude.{◌≡◌, IfOk, IfErr, OnOk};
+ghost use Rattle.scc_table.specs.Contents.{waiting_of};
 ghost use Rattle.scc_table.specs.Pairs.{IsUnique};
 ghost use Rattle.scc_index.specs.Entries.{held_index, occupied_pair, entry_guard, entry_key, IsUpdated, TakesEntry, Modifies, RefusesModify};
 
@@ -30,6 +31,7 @@ impl<G: Guard<Kept = Owned<K, V, H>>, N, K: Eq + Hash, V, H: BuildHasher> HeldEn
         V: Drop,
         ensures updated { OnOk result (IsUpdated K.is_clone K.eq self.old value self.new) }
         ensures refused { IfErr result (λ v. (v ≡ value) × (self.new ≡ self.old)) }
+        ensures waiting { waiting_of (held_index self.new) ≡ waiting_of (held_index self.old) }
         ensures unique { IsUnique K.eq (held_index self.new) }
     {
         let place = self.place;
@@ -94,6 +96,7 @@ impl<G: Guard<Kept = Owned<K, V, H>>, N, K: Eq + Hash, V, H: BuildHasher> HeldPl
         requires { TakesEntry F.FnOnce f self }
         ensures modifies { IfOk result (Modifies F.FnOnce f K.is_clone K.eq self) }
         ensures refused { IfErr result (RefusesModify F.FnOnce f self) }
+        ensures waiting { IfOk result (λ e. waiting_of (G.kept (entry_guard e)) ≡ waiting_of (G.kept (entry_guard self))) }
         ensures unique { IfOk result (λ e. IsUnique K.eq (G.kept (entry_guard e))) }
     {
         match self {

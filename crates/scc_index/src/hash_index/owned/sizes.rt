@@ -1,8 +1,9 @@
 //! The calls about the size of a map: reservations, the range of the capacity, the bucket of a key.
 ghost use Rattle.std.specs.Prelude.{◌≡◌, ◌+◌, ◌≤◌, ◌<◌, ◌^◌, ◌↔◌, IsSome, IsOk, IfNone, OnErr, OnOk, OnSome};
-ghost use Rattle.scc_table.specs.Contents.{bucket_count, settings_of, minimum_of, pending_of, refused_of, key_hash, bucket_of};
+ghost use Rattle.scc_table.specs.Contents.{bucket_count, settings_of, minimum_of, pending_of, refused_of, waiting_of, key_hash, bucket_of};
 ghost use Rattle.scc_table.specs.Pairs.{IsUnique};
 ghost use Rattle.scc_table.specs.Steps.{ReachesMinimumWhenDue, ShrinksWhenDue};
+ghost use Rattle.scc_incremental.specs.Relocates.{IsGrowthDue, IsShrinkDue, Spreads};
 ghost use Rattle.scc_index.specs.IndexSizes.{ReservesOrRefuses, ReleasesOrRefuses};
 
 use super::Owned;
@@ -18,6 +19,8 @@ impl<K: Eq + Hash, V, H: BuildHasher> Owned<K, V, H> {
         ensures succeeds { IsSome result ↔ ((0 < additional) × (minimum_of self.old + additional ≤ 2 ^ 63)) }
         ensures due { OnSome result (ReachesMinimumWhenDue self.old self.new) }
         ensures noted { IfNone result (refused_of self.new ≡ refused_of self.old) }
+        ensures spreads { OnSome result (Spreads (IsGrowthDue (minimum_of self.new) self.old) self.old self.new) }
+        ensures waiting { IfNone result (waiting_of self.new ≡ waiting_of self.old) }
         ensures unique { IsUnique K.eq self.new }
     {
         if self.table.reserve(additional) {
@@ -33,6 +36,8 @@ impl<K: Eq + Hash, V, H: BuildHasher> Owned<K, V, H> {
         ensures succeeds { IsOk result ↔ (reservation ≤ (settings_of self.old).reserved) }
         ensures due { OnOk result (ShrinksWhenDue self.old self.new) }
         ensures noted { OnErr result (refused_of self.new ≡ refused_of self.old) }
+        ensures spreads { OnOk result (Spreads (IsShrinkDue (minimum_of self.new) self.old) self.old self.new) }
+        ensures waiting { OnErr result (waiting_of self.new ≡ waiting_of self.old) }
         ensures unique { IsUnique K.eq self.new }
     {
         if self.table.release(reservation.additional_capacity()) {
@@ -57,7 +62,7 @@ impl<K: Eq + Hash, V, H: BuildHasher> Owned<K, V, H> {
         self.table.bucket_index(k)
     }
 
-    /// How many buckets wait for their pairs to come from an old array: none, since every resize moves all pairs at once.
+    /// How many buckets wait for their pairs to come from an old array. Each insertion of a new key lets two of them take their pairs over.
     pub fn pending(&self) -> usize
         ensures { result ≡ pending_of self.now }
     {

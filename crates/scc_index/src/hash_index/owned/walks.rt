@@ -1,11 +1,11 @@
 //! Walks over the pairs of an index, from place to place.
 ghost use Rattle.std.specs.Prelude.{◌≡◌, ◌≢◌, suc, List, [], length, remove, MatchOption, false};
 ghost use Rattle.std.specs.List.Sorted.{IsPermutation};
-ghost use Rattle.scc_table.specs.Contents.{entries, bucket_count, minimum_of, refused_of};
+ghost use Rattle.scc_table.specs.Contents.{entries, bucket_count, minimum_of, refused_of, waiting_of};
 ghost use Rattle.scc_table.specs.Pairs.{IsUnique};
-ghost use Rattle.scc_table.specs.Places.{IsPlace, index_of};
+ghost use Rattle.scc_incremental.specs.Places.{IsPlace, StandsAt, index_of};
+ghost use Rattle.scc_incremental.specs.Relocations.{RelocatesNone};
 ghost use Rattle.scc_table.specs.Sizes.{IsSmaller};
-ghost use Rattle.scc_table.specs.Standing.{StandsAt};
 ghost use Rattle.scc_table.specs.Steps.{Holds, HoldsExactly, ShrinksWhenDue};
 ghost use Rattle.scc_table.specs.Walks.{CalledOn, CallableWhile};
 ghost use Rattle.scc_index.specs.IndexWalks.{CallableOnAll, Retains};
@@ -25,6 +25,7 @@ impl<K: Eq + Hash, V, H: BuildHasher> Owned<K, V, H> {
         ensures holds { Holds self.old [] self.new }
         ensures smaller { bucket_count self.new ≢ bucket_count self.old → IsSmaller (minimum_of self.old) 0 (bucket_count self.old) (bucket_count self.new) }
         ensures due { ShrinksWhenDue self.old self.new }
+        ensures relocates { RelocatesNone self.old self.new }
         ensures unique { IsUnique K.eq self.new }
     {
         self.take_all();
@@ -38,6 +39,7 @@ impl<K: Eq + Hash, V, H: BuildHasher> Owned<K, V, H> {
         V: Drop,
         ensures step { HoldsExactly self.old [] self.new }
         ensures noted { refused_of self.new ≡ refused_of self.old }
+        ensures waiting { waiting_of self.new ≡ waiting_of self.old }
     {
         let mut at = self.table.first_place();
         while let Some(place) = at {
@@ -54,6 +56,7 @@ impl<K: Eq + Hash, V, H: BuildHasher> Owned<K, V, H> {
         ensures step { (es : List (K × V)) × (stay : List (K × V)) × (last : F) × IsPermutation (entries self.old) es × Retains (CalledOn F.FnMut) f es stay last × Holds self.old stay self.new }
         ensures smaller { bucket_count self.new ≢ bucket_count self.old → IsSmaller (minimum_of self.old) (length (entries self.new)) (bucket_count self.old) (bucket_count self.new) }
         ensures due { ShrinksWhenDue self.old self.new }
+        ensures relocates { RelocatesNone self.old self.new }
         ensures unique { IsUnique K.eq self.new }
     {
         self.retain_all(f);
@@ -68,6 +71,7 @@ impl<K: Eq + Hash, V, H: BuildHasher> Owned<K, V, H> {
         requires { CallableOnAll F.FnMut f (entries self.old) }
         ensures step { (stay : List (K × V)) × (last : F) × Retains (CalledOn F.FnMut) f (entries self.old) stay last × HoldsExactly self.old stay self.new }
         ensures noted { refused_of self.new ≡ refused_of self.old }
+        ensures waiting { waiting_of self.new ≡ waiting_of self.old }
     {
         let mut at = self.table.first_place();
         while let Some(place) = at {
@@ -96,11 +100,12 @@ impl<K: Eq + Hash, V, H: BuildHasher> Owned<K, V, H> {
         requires { IsPlace self.old place }
         ensures others { HoldsExactly self.old (remove (entries self.old) (index_of self.old place)) self.new }
         ensures noted { refused_of self.new ≡ refused_of self.old }
+        ensures waiting { waiting_of self.new ≡ waiting_of self.old }
         ensures next { MatchOption result (suc (index_of self.old place) ≡ length (entries self.old)) (StandsAt self.new (index_of self.old place)) }
         ensures unique { IsUnique K.eq self.new }
     {
-        let _version = self.table.take_at(place);
-        self.table.place_from(place)
+        let (_version, next) = self.table.take_and_step(place);
+        next
     }
 
     /// The place of the first pair on which `p` answers true. It is called on the pairs in their order, up to that one.

@@ -1,6 +1,7 @@
 //! What an entry does while it keeps its guard, the same under each.
 ghost use Rattle.std.specs.Prelude.{◌≡◌};
 ghost use Rattle.std.specs.Borrow.{sem};
+ghost use Rattle.scc_table.specs.Contents.{waiting_of};
 ghost use Rattle.scc_table.specs.Pairs.{IsUnique};
 ghost use Rattle.scc_map.specs.Entries.{held_map, occupied_pair, occupied_lends, entry_guard, entry_key, IsWritten, with_value, TakesEntry, Modifies};
 
@@ -29,6 +30,7 @@ impl<G: Guard<Kept = Owned<K, V, H>>, N, K: Eq + Hash, V, H: BuildHasher> HeldEn
         ensures* writes_back { sem 𝓛 (occupied_lends G.row N.row K.row V.row H.row H.Hasher.row self.entry result) }
         ensures value { result.now ≡ (occupied_pair self.old).1 }
         ensures written { (v : V) → IsWritten self.old v (with_value self.old v) }
+        ensures waiting { (v : V) → waiting_of (held_map (with_value self.old v)) ≡ waiting_of (held_map self.old) }
     {
         let place = self.place;
         self.guard.lend().value_mut_at(place)
@@ -38,6 +40,7 @@ impl<G: Guard<Kept = Owned<K, V, H>>, N, K: Eq + Hash, V, H: BuildHasher> HeldEn
     pub fn insert(&mut self, value: V) -> V
         ensures old { result ≡ (occupied_pair self.old).1 }
         ensures written { IsWritten self.old value self.new }
+        ensures waiting { waiting_of (held_map self.new) ≡ waiting_of (held_map self.old) }
         ensures unique { IsUnique K.eq (held_map self.new) }
     {
         let place = self.place;
@@ -89,6 +92,7 @@ impl<G: Guard<Kept = Owned<K, V, H>>, N, K: Eq + Hash, V, H: BuildHasher> HeldPl
     pub fn and_modify<F: FnOnce(&mut V)>(self, f: F) -> Self
         requires { TakesEntry F.FnOnce f self }
         ensures modifies { Modifies F.FnOnce f self result }
+        ensures waiting { waiting_of (G.kept (entry_guard result)) ≡ waiting_of (G.kept (entry_guard self)) }
         ensures unique { IsUnique K.eq (G.kept (entry_guard result)) }
     {
         match self {

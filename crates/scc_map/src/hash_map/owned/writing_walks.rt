@@ -7,7 +7,7 @@ ghost use Rattle.scc_incremental.specs.Places.{IsPlace, index_of};
 ghost use Rattle.scc_table.specs.Sizes.{IsSmaller};
 ghost use Rattle.scc_table.specs.Steps.{Holds, HoldsExactly, ShrinksWhenDue};
 ghost use Rattle.scc_incremental.specs.Places.{with_write_at};
-ghost use Rattle.scc_map.specs.Relocations.{RelocatesNone};
+ghost use Rattle.scc_incremental.specs.Relocations.{RelocatesNone};
 ghost use Rattle.scc_walks.specs.PairWalks.{CallableToWrite, CalledToWrite, Retains, TakesToWrite};
 
 use super::Owned;

@@ -2,8 +2,9 @@
 ghost use Rattle.std.specs.Prelude.{◌≡◌, ◌≢◌, ◌++◌, [], length, IfErr, IfNone, IfOk, IfSome, false};
 ghost use Rattle.std.specs.Borrow.{sem};
 ghost use Rattle.std.specs.Fn.{CalledAt};
-ghost use Rattle.scc_table.specs.Contents.{entries, bucket_count, minimum_of};
+ghost use Rattle.scc_table.specs.Contents.{entries, bucket_count, minimum_of, waiting_of};
 ghost use Rattle.scc_incremental.specs.Places.{IsPlace};
+ghost use Rattle.scc_incremental.specs.Relocations.{RelocatesNone};
 ghost use Rattle.scc_table.specs.Sizes.{IsSmaller};
 ghost use Rattle.scc_table.specs.Steps.{Holds, ShrinksWhenDue};
 ghost use Rattle.scc_set.specs.Keys.{IsUnique};
@@ -88,6 +89,7 @@ impl<'a, K: Eq + Hash, H: BuildHasher> OccupiedEntry<'a, K, H> {
         ensures removed { Holds self.entry.set.now (occupied_front self.entry ++ occupied_back self.entry) self.exit.0.now }
         ensures smaller { bucket_count self.exit.0.now ≢ bucket_count self.entry.set.now → IsSmaller (minimum_of self.entry.set.now) (length (entries self.exit.0.now)) (bucket_count self.entry.set.now) (bucket_count self.exit.0.now) }
         ensures due { ShrinksWhenDue self.entry.set.now self.exit.0.now }
+        ensures relocates { RelocatesNone self.entry.set.now self.exit.0.now }
         ensures unique { IsUnique K.eq self.exit.0.now }
     {
         let bucket = self.bucket;
@@ -116,6 +118,7 @@ impl<'a, K: Eq + Hash, H: BuildHasher> OccupiedEntry<'a, K, H> {
     pub fn remove_and_sync(self) -> Result<(Removed<K>, OccupiedEntry<'a, K, H>), K>
         ensures key { IfOk result (λ r. r.0.key ≡ occupied_key self.entry) }
         ensures next { IfOk result (λ r. IsNextPastRemoved self.entry r.1) }
+        ensures waiting { IfOk result (λ r. waiting_of r.1.set.now ≡ waiting_of self.entry.set.now) }
         ensures unique { IfOk result (λ r. IsUnique K.eq r.1.set.now) }
         ensures last { IfErr result (λ q. (q ≡ occupied_key self.entry) × (occupied_back self.entry ≡ [])) }
         ensures* kept { sem 𝓛 (rests_removed K.row H.row H.Hasher.row K.Hash H.BuildHasher H.Hasher.Hasher self.entry result) }

@@ -1,11 +1,11 @@
 //! The places of keys, as an entry goes from one to the next.
 ghost use Rattle.std.specs.Prelude.{◌≡◌, ◌≢◌, [], suc, length, remove, slice_get, Some, MatchOption, false};
 ghost use Rattle.std.specs.Fn.{CalledAt, TakesAt};
-ghost use Rattle.scc_table.specs.Contents.{entries, bucket_count, minimum_of, refused_of};
+ghost use Rattle.scc_table.specs.Contents.{entries, bucket_count, minimum_of, refused_of, waiting_of};
 ghost use Rattle.scc_incremental.specs.Placed.{front_of};
-ghost use Rattle.scc_incremental.specs.Places.{IsPlace, index_of};
+ghost use Rattle.scc_incremental.specs.Places.{IsPlace, StandsAt, index_of};
+ghost use Rattle.scc_incremental.specs.Relocations.{RelocatesNone};
 ghost use Rattle.scc_table.specs.Sizes.{IsSmaller};
-ghost use Rattle.scc_incremental.specs.Places.{StandsAt};
 ghost use Rattle.scc_table.specs.Steps.{Holds, HoldsExactly, ShrinksWhenDue};
 ghost use Rattle.scc_set.specs.Keys.{IsUnique};
 ghost use Rattle.scc_set.specs.SetWalks.{CallableWhile, PassesAt, PassesNone};
@@ -58,6 +58,7 @@ impl<K: Eq + Hash, H: BuildHasher> Owned<K, H> {
         ensures others { Holds self.old (remove (entries self.old) (index_of self.old place)) self.new }
         ensures smaller { bucket_count self.new ≢ bucket_count self.old → IsSmaller (minimum_of self.old) (length (entries self.new)) (bucket_count self.old) (bucket_count self.new) }
         ensures due { ShrinksWhenDue self.old self.new }
+        ensures relocates { RelocatesNone self.old self.new }
         ensures unique { IsUnique K.eq self.new }
     {
         self.map.remove_at(place).0
@@ -69,6 +70,7 @@ impl<K: Eq + Hash, H: BuildHasher> Owned<K, H> {
         ensures key { slice_get (entries self.old) (index_of self.old place) ≡ Some result.0 }
         ensures others { HoldsExactly self.old (remove (entries self.old) (index_of self.old place)) self.new }
         ensures noted { refused_of self.new ≡ refused_of self.old }
+        ensures waiting { waiting_of self.new ≡ waiting_of self.old }
         ensures next { MatchOption result.1 (suc (index_of self.old place) ≡ length (entries self.old)) (StandsAt self.new (index_of self.old place)) }
         ensures unique { IsUnique K.eq self.new }
     {

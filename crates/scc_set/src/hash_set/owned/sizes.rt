@@ -1,7 +1,8 @@
 //! The calls about the size of a set: reservations, the range of the capacity, the bucket of a key.
 ghost use Rattle.std.specs.Prelude.{◌≡◌, ◌+◌, ◌≤◌, ◌<◌, ◌^◌, ◌↔◌, IsSome, IsOk, IfNone, OnErr, OnOk, OnSome};
-ghost use Rattle.scc_table.specs.Contents.{settings_of, minimum_of, pending_of, refused_of, key_hash, bucket_of};
+ghost use Rattle.scc_table.specs.Contents.{settings_of, minimum_of, pending_of, refused_of, waiting_of, key_hash, bucket_of};
 ghost use Rattle.scc_table.specs.Steps.{ReachesMinimumWhenDue, ShrinksWhenDue};
+ghost use Rattle.scc_incremental.specs.Relocates.{IsGrowthDue, IsShrinkDue, Spreads};
 ghost use Rattle.scc_map.specs.MapSizes.{ReservesOrRefuses, ReleasesOrRefuses};
 ghost use Rattle.scc_set.specs.Keys.{IsUnique};
 
@@ -17,6 +18,8 @@ impl<K: Eq + Hash, H: BuildHasher> Owned<K, H> {
         ensures succeeds { IsSome result ↔ ((0 < additional) × (minimum_of self.old + additional ≤ 2 ^ 63)) }
         ensures due { OnSome result (ReachesMinimumWhenDue self.old self.new) }
         ensures noted { IfNone result (refused_of self.new ≡ refused_of self.old) }
+        ensures spreads { OnSome result (Spreads (IsGrowthDue (minimum_of self.new) self.old) self.old self.new) }
+        ensures waiting { IfNone result (waiting_of self.new ≡ waiting_of self.old) }
         ensures unique { IsUnique K.eq self.new }
     {
         self.map.reserve(additional)
@@ -28,6 +31,8 @@ impl<K: Eq + Hash, H: BuildHasher> Owned<K, H> {
         ensures succeeds { IsOk result ↔ (reservation ≤ (settings_of self.old).reserved) }
         ensures due { OnOk result (ShrinksWhenDue self.old self.new) }
         ensures noted { OnErr result (refused_of self.new ≡ refused_of self.old) }
+        ensures spreads { OnOk result (Spreads (IsShrinkDue (minimum_of self.new) self.old) self.old self.new) }
+        ensures waiting { OnErr result (waiting_of self.new ≡ waiting_of self.old) }
         ensures unique { IsUnique K.eq self.new }
     {
         self.map.release(reservation)
@@ -48,7 +53,7 @@ impl<K: Eq + Hash, H: BuildHasher> Owned<K, H> {
         self.map.bucket_index(k)
     }
 
-    /// How many buckets wait for their keys to come from an old array: none, since every resize moves all keys at once.
+    /// How many buckets wait for their keys to come from an old array. Each insertion of a new key lets two of them take their keys over.
     pub fn pending(&self) -> usize
         ensures { result ≡ pending_of self.now }
     {

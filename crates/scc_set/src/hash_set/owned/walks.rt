@@ -6,6 +6,7 @@ ghost use Rattle.std.specs.Vec.{vec_len, vec_capacity};
 ghost use Rattle.scc_table.specs.Contents.{entries, bucket_count, minimum_of};
 ghost use Rattle.scc_table.specs.Sizes.{IsSmaller};
 ghost use Rattle.scc_table.specs.Steps.{Holds, ShrinksWhenDue};
+ghost use Rattle.scc_incremental.specs.Relocations.{RelocatesNone};
 ghost use Rattle.scc_set.specs.Keys.{IsUnique};
 ghost use Rattle.scc_set.specs.SetWalks.{CallableWhile, GoesOn, Retains, Takes, Walks};
 
@@ -36,6 +37,7 @@ impl<K: Eq + Hash, H: BuildHasher> Owned<K, H> {
         ensures step { (ks : List K) × (stay : List K) × (last : F) × IsPermutation (entries self.old) ks × Retains (CalledAt F.FnMut) f ks stay last × Holds self.old stay self.new }
         ensures smaller { bucket_count self.new ≢ bucket_count self.old → IsSmaller (minimum_of self.old) (length (entries self.new)) (bucket_count self.old) (bucket_count self.new) }
         ensures due { ShrinksWhenDue self.old self.new }
+        ensures relocates { RelocatesNone self.old self.new }
         ensures was_unique { IsUnique K.eq self.old }
         ensures unique { IsUnique K.eq self.new }
     {
@@ -60,6 +62,7 @@ impl<K: Eq + Hash, H: BuildHasher> Owned<K, H> {
         ensures full { OnErr result (vec_capacity taken.new ≤ vec_len taken.new) }
         ensures room { vec_capacity taken.old ≤ vec_capacity taken.new }
         ensures due { (taken.new.items ≡ taken.old.items → ⊥) → ShrinksWhenDue self.old self.new }
+        ensures relocates { RelocatesNone self.old self.new }
         ensures was_unique { IsUnique K.eq self.old }
         ensures unique { IsUnique K.eq self.new }
     {
@@ -80,6 +83,7 @@ impl<K: Eq + Hash, H: BuildHasher> Owned<K, H> {
         ensures holds { Holds self.old [] self.new }
         ensures smaller { bucket_count self.new ≢ bucket_count self.old → IsSmaller (minimum_of self.old) 0 (bucket_count self.old) (bucket_count self.new) }
         ensures due { ShrinksWhenDue self.old self.new }
+        ensures relocates { RelocatesNone self.old self.new }
         ensures unique { IsUnique K.eq self.new }
     {
         self.map.clear_sync();

@@ -4,7 +4,7 @@ ghost use Rattle.std.specs.Borrow.{sem};
 ghost use Rattle.std.specs.Fn.{FnOnceTakesAt, FnOnceReturnsAt};
 ghost use Rattle.scc_table.specs.Contents.{key_hash};
 ghost use Rattle.scc_table.specs.Pairs.{IsUnique};
-ghost use Rattle.scc_index.specs.Entries.{Memory, held_index, entry_guard, entry_key, GrowsThrough, IsVacant, OrInserts, OrInsertsSome, RefusesSome, rests_if_refused};
+ghost use Rattle.scc_index.specs.Entries.{Memory, held_index, entry_guard, entry_key, GrowsThrough, IsVacant, OrInserts, OrInsertsSome, RefusesSome, RelocatesThrough, rests_if_refused};
 
 use super::OccupiedEntry;
 use crate::hash_index::held::{HeldEntry, HeldPlace, HeldVacant};
@@ -22,6 +22,7 @@ impl<'a, K: Eq + Hash, V, H: BuildHasher> HeldPlace<&'a mut Owned<K, V, H>, (), 
         ensures refused { IfErr result (λ e. e ≡ Memory (entry_key self.entry, default)) }
         ensures vacant { OnErr result (IsVacant self.entry) }
         ensures growth { IfOk result (GrowsThrough (key_hash H.BuildHasher H.Hasher.Hasher K.hash_input (entry_guard self.entry).now) self.entry) }
+        ensures relocates { IfOk result (RelocatesThrough (key_hash H.BuildHasher H.Hasher.Hasher K.hash_input (entry_guard self.entry).now) self.entry) }
         ensures unique { IfOk result (λ o. IsUnique K.eq (held_index o)) }
         ensures* kept { sem 𝓛 (rests_if_refused K.row V.row H.row H.Hasher.row K.Hash H.BuildHasher H.Hasher.Hasher (entry_guard self.entry) result) }
     {
@@ -73,6 +74,7 @@ impl<'a, K: Eq + Hash, V, H: BuildHasher> HeldPlace<&'a mut Owned<K, V, H>, (), 
         ensures refused { IfErr result (RefusesSome self.entry (λ k v. F.post f v)) }
         ensures vacant { OnErr result (IsVacant self.entry) }
         ensures growth { IfOk result (GrowsThrough (key_hash H.BuildHasher H.Hasher.Hasher K.hash_input (entry_guard self.entry).now) self.entry) }
+        ensures relocates { IfOk result (RelocatesThrough (key_hash H.BuildHasher H.Hasher.Hasher K.hash_input (entry_guard self.entry).now) self.entry) }
         ensures unique { IfOk result (λ o. IsUnique K.eq (held_index o)) }
         ensures* kept { sem 𝓛 (rests_if_refused K.row V.row H.row H.Hasher.row K.Hash H.BuildHasher H.Hasher.Hasher (entry_guard self.entry) result) }
     {
@@ -124,6 +126,7 @@ impl<'a, K: Eq + Hash, V, H: BuildHasher> HeldPlace<&'a mut Owned<K, V, H>, (), 
         ensures refused { IfErr result (RefusesSome self.entry (FnOnceReturnsAt F.FnOnce f)) }
         ensures vacant { OnErr result (IsVacant self.entry) }
         ensures growth { IfOk result (GrowsThrough (key_hash H.BuildHasher H.Hasher.Hasher K.hash_input (entry_guard self.entry).now) self.entry) }
+        ensures relocates { IfOk result (RelocatesThrough (key_hash H.BuildHasher H.Hasher.Hasher K.hash_input (entry_guard self.entry).now) self.entry) }
         ensures unique { IfOk result (λ o. IsUnique K.eq (held_index o)) }
         ensures* kept { sem 𝓛 (rests_if_refused K.row V.row H.row H.Hasher.row K.Hash H.BuildHasher H.Hasher.Hasher (entry_guard self.entry) result) }
     {
@@ -173,6 +176,7 @@ impl<'a, K: Eq + Hash, V, H: BuildHasher> HeldPlace<&'a mut Owned<K, V, H>, (), 
         ensures refused { IfErr result (RefusesSome self.entry (λ k v. V.is_default v)) }
         ensures vacant { OnErr result (IsVacant self.entry) }
         ensures growth { IfOk result (GrowsThrough (key_hash H.BuildHasher H.Hasher.Hasher K.hash_input (entry_guard self.entry).now) self.entry) }
+        ensures relocates { IfOk result (RelocatesThrough (key_hash H.BuildHasher H.Hasher.Hasher K.hash_input (entry_guard self.entry).now) self.entry) }
         ensures unique { IfOk result (λ o. IsUnique K.eq (held_index o)) }
         ensures* kept { sem 𝓛 (rests_if_refused K.row V.row H.row H.Hasher.row K.Hash H.BuildHasher H.Hasher.Hasher (entry_guard self.entry) result) }
     {

@@ -4,6 +4,7 @@ ghost use Rattle.std.specs.Borrow.{sem};
 ghost use Rattle.scc_table.specs.Contents.{entries, key_hash};
 ghost use Rattle.scc_table.specs.Pairs.{find, IsUnique};
 ghost use Rattle.scc_table.specs.Steps.{Holds, ShrinksWhenDue};
+ghost use Rattle.scc_incremental.specs.Relocations.{Relocates, RelocatesNone, RelocatesTwo};
 ghost use Rattle.scc_index.specs.Entries.{Memory, held_index, occupied_front, occupied_back, entry_guard, IsOccupiedAt, IsEntryOf, IsGrownFor, IsInserted, rests_if_refused, rests_if_none};
 
 use super::{Entry, OccupiedEntry};
@@ -70,6 +71,7 @@ impl<'a, N, K: Eq + Hash, V, H: BuildHasher> HeldEntry<&'a mut Owned<K, V, H>, N
         V: Drop,
         ensures removed { Holds (held_index self.entry) (occupied_front self.entry ++ occupied_back self.entry) self.exit.0.now }
         ensures due { ShrinksWhenDue (held_index self.entry) self.exit.0.now }
+        ensures relocates { RelocatesNone (held_index self.entry) self.exit.0.now }
         ensures unique { IsUnique K.eq self.exit.0.now }
     {
         let place = self.place;
@@ -90,6 +92,8 @@ impl<'a, K: Eq + Hash, V, H: BuildHasher> HeldVacant<&'a mut Owned<K, V, H>, (),
     pub fn insert_entry(self, value: V) -> Result<OccupiedEntry<'a, K, V, H>, InsertError<K, V>>
         ensures inserted { IfOk result (IsInserted self.entry value) }
         ensures growth { IfOk result (λ o. IsGrownFor (key_hash H.BuildHasher H.Hasher.Hasher K.hash_input self.entry.guard.now) self.entry.guard.now self.entry.key (held_index o)) }
+        ensures relocates { IfOk result (λ o. Relocates self.entry.guard.now (held_index o)) }
+        ensures two { IfOk result (λ o. RelocatesTwo (key_hash H.BuildHasher H.Hasher.Hasher K.hash_input self.entry.guard.now self.entry.key) self.entry.guard.now (held_index o)) }
         ensures unique { IfOk result (λ o. IsUnique K.eq (held_index o)) }
         ensures refused { IfErr result (λ e. e ≡ Memory (self.entry.key, value)) }
         ensures* kept { sem 𝓛 (rests_if_refused K.row V.row H.row H.Hasher.row K.Hash H.BuildHasher H.Hasher.Hasher self.entry.guard result) }

@@ -1,7 +1,7 @@
 //! Entries in the order of the index's list.
 ghost use Rattle.std.specs.Prelude.{◌≡◌, [], IfSome, IfNone, false};
 ghost use Rattle.std.specs.Borrow.{sem};
-ghost use Rattle.scc_table.specs.Contents.{entries};
+ghost use Rattle.scc_table.specs.Contents.{entries, waiting_of};
 ghost use Rattle.scc_table.specs.Pairs.{IsUnique};
 ghost use Rattle.scc_table.specs.Walks.{CalledOn, CallableWhile};
 ghost use Rattle.scc_index.specs.Entries.{held_index, occupied_pair, occupied_front, occupied_back, rests_if_none};
@@ -84,6 +84,7 @@ impl<'a, K: Eq + Hash, V, H: BuildHasher> HeldEntry<&'a mut Owned<K, V, H>, (), 
         K: Drop,
         V: Drop,
         ensures next { IfSome result (IsNextPastRemoved self.entry) }
+        ensures waiting { IfSome result (λ o. waiting_of (held_index o) ≡ waiting_of (held_index self.entry)) }
         ensures unique { IfSome result (λ o. IsUnique K.eq (held_index o)) }
         ensures last { IfNone result (occupied_back self.entry ≡ []) }
         ensures* kept { sem 𝓛 (rests_removed K.row V.row H.row H.Hasher.row K.Hash H.BuildHasher H.Hasher.Hasher self.entry result) }

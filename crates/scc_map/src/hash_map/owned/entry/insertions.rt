@@ -4,7 +4,7 @@ ghost use Rattle.std.specs.Borrow.{sem};
 ghost use Rattle.std.specs.Fn.{FnOnceTakesAt, FnOnceReturnsAt};
 ghost use Rattle.scc_table.specs.Contents.{key_hash};
 ghost use Rattle.scc_table.specs.Pairs.{HasRoom, IsUnique};
-ghost use Rattle.scc_map.specs.Entries.{Memory, held_map, entry_guard, entry_key, GrowsThrough, IsVacant, OrInserts, OrInsertsSome, RefusesSome, SetsEntry, rests_if_refused};
+ghost use Rattle.scc_map.specs.Entries.{Memory, held_map, entry_guard, entry_key, GrowsThrough, IsVacant, OrInserts, OrInsertsSome, RefusesSome, RelocatesThrough, SetsEntry, rests_if_refused};
 
 use super::OccupiedEntry;
 use crate::hash_map::held::{HeldEntry, HeldPlace, HeldVacant};
@@ -23,6 +23,7 @@ impl<'a, K: Eq + Hash, V, H: BuildHasher> HeldPlace<&'a mut Owned<K, V, H>, (), 
         ensures vacant { OnErr result (IsVacant self.entry) }
         ensures full { OnErr result (HasRoom (key_hash H.BuildHasher H.Hasher.Hasher K.hash_input (entry_guard self.entry).now) (entry_guard self.entry).now (entry_key self.entry) → ⊥) }
         ensures growth { IfOk result (GrowsThrough (key_hash H.BuildHasher H.Hasher.Hasher K.hash_input (entry_guard self.entry).now) self.entry) }
+        ensures relocates { IfOk result (RelocatesThrough (key_hash H.BuildHasher H.Hasher.Hasher K.hash_input (entry_guard self.entry).now) self.entry) }
         ensures unique { IfOk result (λ o. IsUnique K.eq (held_map o)) }
         ensures* kept { sem 𝓛 (rests_if_refused K.row V.row H.row H.Hasher.row K.Hash H.BuildHasher H.Hasher.Hasher (entry_guard self.entry) (entry_key self.entry) result) }
     {
@@ -75,6 +76,7 @@ impl<'a, K: Eq + Hash, V, H: BuildHasher> HeldPlace<&'a mut Owned<K, V, H>, (), 
         ensures vacant { OnErr result (IsVacant self.entry) }
         ensures full { OnErr result (HasRoom (key_hash H.BuildHasher H.Hasher.Hasher K.hash_input (entry_guard self.entry).now) (entry_guard self.entry).now (entry_key self.entry) → ⊥) }
         ensures growth { IfOk result (GrowsThrough (key_hash H.BuildHasher H.Hasher.Hasher K.hash_input (entry_guard self.entry).now) self.entry) }
+        ensures relocates { IfOk result (RelocatesThrough (key_hash H.BuildHasher H.Hasher.Hasher K.hash_input (entry_guard self.entry).now) self.entry) }
         ensures unique { IfOk result (λ o. IsUnique K.eq (held_map o)) }
         ensures* kept { sem 𝓛 (rests_if_refused K.row V.row H.row H.Hasher.row K.Hash H.BuildHasher H.Hasher.Hasher (entry_guard self.entry) (entry_key self.entry) result) }
     {
@@ -127,6 +129,7 @@ impl<'a, K: Eq + Hash, V, H: BuildHasher> HeldPlace<&'a mut Owned<K, V, H>, (), 
         ensures vacant { OnErr result (IsVacant self.entry) }
         ensures full { OnErr result (HasRoom (key_hash H.BuildHasher H.Hasher.Hasher K.hash_input (entry_guard self.entry).now) (entry_guard self.entry).now (entry_key self.entry) → ⊥) }
         ensures growth { IfOk result (GrowsThrough (key_hash H.BuildHasher H.Hasher.Hasher K.hash_input (entry_guard self.entry).now) self.entry) }
+        ensures relocates { IfOk result (RelocatesThrough (key_hash H.BuildHasher H.Hasher.Hasher K.hash_input (entry_guard self.entry).now) self.entry) }
         ensures unique { IfOk result (λ o. IsUnique K.eq (held_map o)) }
         ensures* kept { sem 𝓛 (rests_if_refused K.row V.row H.row H.Hasher.row K.Hash H.BuildHasher H.Hasher.Hasher (entry_guard self.entry) (entry_key self.entry) result) }
     {
@@ -177,6 +180,7 @@ impl<'a, K: Eq + Hash, V, H: BuildHasher> HeldPlace<&'a mut Owned<K, V, H>, (), 
         ensures vacant { OnErr result (IsVacant self.entry) }
         ensures full { OnErr result (HasRoom (key_hash H.BuildHasher H.Hasher.Hasher K.hash_input (entry_guard self.entry).now) (entry_guard self.entry).now (entry_key self.entry) → ⊥) }
         ensures growth { IfOk result (GrowsThrough (key_hash H.BuildHasher H.Hasher.Hasher K.hash_input (entry_guard self.entry).now) self.entry) }
+        ensures relocates { IfOk result (RelocatesThrough (key_hash H.BuildHasher H.Hasher.Hasher K.hash_input (entry_guard self.entry).now) self.entry) }
         ensures unique { IfOk result (λ o. IsUnique K.eq (held_map o)) }
         ensures* kept { sem 𝓛 (rests_if_refused K.row V.row H.row H.Hasher.row K.Hash H.BuildHasher H.Hasher.Hasher (entry_guard self.entry) (entry_key self.entry) result) }
     {
@@ -227,6 +231,7 @@ impl<'a, K: Eq + Hash, V, H: BuildHasher> HeldPlace<&'a mut Owned<K, V, H>, (), 
         ensures vacant { OnErr result (IsVacant self.entry) }
         ensures full { OnErr result (HasRoom (key_hash H.BuildHasher H.Hasher.Hasher K.hash_input (entry_guard self.entry).now) (entry_guard self.entry).now (entry_key self.entry) → ⊥) }
         ensures growth { IfOk result (GrowsThrough (key_hash H.BuildHasher H.Hasher.Hasher K.hash_input (entry_guard self.entry).now) self.entry) }
+        ensures relocates { IfOk result (RelocatesThrough (key_hash H.BuildHasher H.Hasher.Hasher K.hash_input (entry_guard self.entry).now) self.entry) }
         ensures unique { IfOk result (λ o. IsUnique K.eq (held_map o)) }
         ensures* kept { sem 𝓛 (rests_if_refused K.row V.row H.row H.Hasher.row K.Hash H.BuildHasher H.Hasher.Hasher (entry_guard self.entry) (entry_key self.entry) result) }
     {

@@ -1,10 +1,11 @@
 //! What makes an entry of a borrowed map, and what lets the map go. The search is made once, and an entry holds its place.
 ghost use Rattle.std.specs.Prelude.{◌≡◌, ◌≢◌, ◌++◌, length, None, IfOk, OnErr, OnOk, IfErr, IfSome, IfNone};
 ghost use Rattle.std.specs.Borrow.{sem};
-ghost use Rattle.scc_table.specs.Contents.{entries, bucket_count, minimum_of, refused_of, key_hash};
+ghost use Rattle.scc_table.specs.Contents.{entries, bucket_count, minimum_of, refused_of, waiting_of, key_hash};
 ghost use Rattle.scc_table.specs.Pairs.{find, HasRoom, IsUnique};
 ghost use Rattle.scc_table.specs.Sizes.{IsSmaller};
 ghost use Rattle.scc_table.specs.Steps.{Holds, ShrinksWhenDue};
+ghost use Rattle.scc_incremental.specs.Relocations.{Relocates, RelocatesNone, RelocatesTwo};
 ghost use Rattle.scc_map.specs.Entries.{Memory, held_map, occupied_pair, occupied_front, occupied_back, entry_guard, IsOccupiedAt, IsEntryOf, IsGrownFor, IsInserted, rests_if_refused, rests_if_none, replaced_guard, Replaces};
 
 use super::{Entry, OccupiedEntry, ReplaceResult, VacantEntry};
@@ -66,6 +67,7 @@ impl<K: Eq + Hash, V, H: BuildHasher> Owned<K, V, H> {
         ensures same_map { (replaced_guard result).ghost_name ≡ self.entry.ghost_name }
         ensures step { Replaces K.eq self.old k result }
         ensures noted { refused_of (replaced_guard result).now ≡ refused_of self.old }
+        ensures waiting { waiting_of (replaced_guard result).now ≡ waiting_of self.old }
         ensures unique { IsUnique K.eq (replaced_guard result).now }
     {
         let hash = self.table.hash(&k);
@@ -103,6 +105,7 @@ impl<'a, N, K: Eq + Hash, V, H: BuildHasher> HeldEntry<&'a mut Owned<K, V, H>, N
         ensures removed { Holds (held_map self.entry) (occupied_front self.entry ++ occupied_back self.entry) self.exit.0.now }
         ensures smaller { bucket_count self.exit.0.now ≢ bucket_count (held_map self.entry) → IsSmaller (minimum_of (held_map self.entry)) (length (entries self.exit.0.now)) (bucket_count (held_map self.entry)) (bucket_count self.exit.0.now) }
         ensures due { ShrinksWhenDue (held_map self.entry) self.exit.0.now }
+        ensures relocates { RelocatesNone (held_map self.entry) self.exit.0.now }
         ensures unique { IsUnique K.eq self.exit.0.now }
     {
         let (_key, value) = self.remove_entry();
@@ -117,6 +120,7 @@ impl<'a, N, K: Eq + Hash, V, H: BuildHasher> HeldEntry<&'a mut Owned<K, V, H>, N
         ensures removed { Holds (held_map self.entry) (occupied_front self.entry ++ occupied_back self.entry) self.exit.0.now }
         ensures smaller { bucket_count self.exit.0.now ≢ bucket_count (held_map self.entry) → IsSmaller (minimum_of (held_map self.entry)) (length (entries self.exit.0.now)) (bucket_count (held_map self.entry)) (bucket_count self.exit.0.now) }
         ensures due { ShrinksWhenDue (held_map self.entry) self.exit.0.now }
+        ensures relocates { RelocatesNone (held_map self.entry) self.exit.0.now }
         ensures unique { IsUnique K.eq self.exit.0.now }
     {
         let place = self.place;
@@ -137,6 +141,8 @@ impl<'a, K: Eq + Hash, V, H: BuildHasher> HeldVacant<&'a mut Owned<K, V, H>, (),
     pub fn insert_entry(self, value: V) -> Result<OccupiedEntry<'a, K, V, H>, InsertError<K, V>>
         ensures inserted { IfOk result (IsInserted self.entry value) }
         ensures growth { IfOk result (λ o. IsGrownFor (key_hash H.BuildHasher H.Hasher.Hasher K.hash_input self.entry.guard.now) self.entry.guard.now self.entry.key (held_map o)) }
+        ensures relocates { IfOk result (λ o. Relocates self.entry.guard.now (held_map o)) }
+        ensures two { IfOk result (λ o. RelocatesTwo (key_hash H.BuildHasher H.Hasher.Hasher K.hash_input self.entry.guard.now self.entry.key) self.entry.guard.now (held_map o)) }
         ensures unique { IfOk result (λ o. IsUnique K.eq (held_map o)) }
         ensures refused { IfErr result (λ e. e ≡ Memory (self.entry.key, value)) }
         ensures full { OnErr result (HasRoom (key_hash H.BuildHasher H.Hasher.Hasher K.hash_input self.entry.guard.now) self.entry.guard.now self.entry.key → ⊥) }

@@ -1,4 +1,4 @@
-use Rattle.std.proofs.Common.{ap}
+use Rattle.std.proofs.Common.{ap, refl}
 use Rattle.scc_index.specs.Entries.{Occupied}
 use Rattle.scc_index.proofs.hash_index.held.HeldPlace.and_modify.Goals as goal
 
@@ -7,3 +7,9 @@ returns-in-Ok-clause-modifies g c = rw c.in-Occupied.is (c.f-value.result, (c.ge
 
 pub returns-in-Err-clause-refused : goal.returns-in-Err-clause-refused
 returns-in-Err-clause-refused g c = rw c.in-Occupied.is (ap Occupied c.in-Err.ensures.refused.1, rw c.in-Err.ensures.refused.0 (c.get.result, c.f-value.ensures, c.get.ensures))
+
+pub returns-in-Ok-clause-waiting : goal.returns-in-Ok-clause-waiting
+returns-in-Ok-clause-waiting g c = rw c.in-Occupied.is c.update.ensures.waiting
+
+pub returns-in-Vacant-clause-waiting : goal.returns-in-Vacant-clause-waiting
+returns-in-Vacant-clause-waiting g c = rw c.in-Vacant.is refl

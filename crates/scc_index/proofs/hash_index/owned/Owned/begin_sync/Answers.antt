@@ -1,6 +1,6 @@
 use Rattle.std.proofs.Common.{refl, sym, ap, ◌∙◌}
-use Rattle.scc_table.specs.Places.{index_of}
-use Rattle.scc_table.proofs.Placed.{front-none}
+use Rattle.scc_incremental.specs.Places.{index_of}
+use Rattle.scc_incremental.proofs.AtPlaces.{front-none}
 use Rattle.scc_index.proofs.EntrySteps.{stands-in}
 use Rattle.scc_index.proofs.hash_index.owned.Owned.begin_sync.Goals as goal
 

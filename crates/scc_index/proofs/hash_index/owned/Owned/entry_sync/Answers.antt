@@ -9,3 +9,6 @@ returns-in-Some-clause-entry g c =
 
 pub invariant_of-result-in-None : goal.invariant_of-result-in-None
 invariant_of-result-in-None g c = rw (← c.self.view_is) record { absent = find-position_none (g.K.PartialEq.eq c.args.k) (entries c.self.inside.table) c.in-None.ensures.place; hashed = c.hash-hash.ensures }
+
+pub invariant_of-result : goal.invariant_of-result
+invariant_of-result g c = let found = rw c.self.view_is at c.in-Some.ensures.place in record { within = found.within }

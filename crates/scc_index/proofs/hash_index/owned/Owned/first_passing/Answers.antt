@@ -1,10 +1,11 @@
 use Rattle.std.proofs.Common.{refl, length, take, suc}
 use Rattle.scc_table.specs.Contents.{entries}
-use Rattle.scc_table.specs.Places.{IsPlace, index_of}
+use Rattle.scc_incremental.specs.Places.{IsPlace, index_of}
 use Rattle.scc_table.proofs.WalkLemmas.{turn-first, turn-others}
 use Rattle.scc_walks.specs.PairWalks.{ended}
 use Rattle.scc_table.proofs.Placed.{drop-here, take-more}
-use Rattle.scc_walks.proofs.Reached.{declines-more, nearer, reached-at, reached-first, take-all}
+use Rattle.scc_walks.proofs.Reached.{declines-more, take-all}
+use Rattle.scc_incremental.proofs.Reached.{nearer, reached-at, reached-first}
 use Rattle.scc_index.proofs.hash_index.owned.Owned.first_passing.Goals as goal
 
 pub loop-at-init : goal.loop-at-init

@@ -1,9 +1,9 @@
 use Rattle.std.proofs.Common.{◌-◌, length, take, drop, IfSome, false}
 use Rattle.scc_table.specs.Contents.{entries}
-use Rattle.scc_table.specs.Places.{IsPlace}
+use Rattle.scc_incremental.specs.Places.{IsPlace}
 use Rattle.scc_table.specs.Walks.{CalledOn, CallableWhile}
 use Rattle.scc_walks.specs.PairWalks.{Declines}
-use Rattle.scc_walks.proofs.Reached.{reached}
+use Rattle.scc_incremental.proofs.Reached.{reached}
 use Rattle.scc_index.proofs.hash_index.owned.Owned.first_passing.Given as goal
 
 abbrev pub invariant-loop-at : goal.invariant-loop-at

@@ -18,3 +18,6 @@ returns-in-Some g c = (
 
 pub returns-in-None : goal.returns-in-None
 returns-in-None g c = ((refl, λ _. tt, refl), record { same_index = tt; entry = tt; unique = rw c.self.view_is at c.search.ensures.unique; missing = rw (← c.self.view_is) (find-position_none (g.K.PartialEq.eq c.args.k.now) (entries c.self.inside.table) c.in-None.ensures.place); kept = tt })
+
+pub invariant_of-self : goal.invariant_of-self
+invariant_of-self g c = let found = rw c.self.view_is at c.in-Some.ensures.place in record { within = found.within }

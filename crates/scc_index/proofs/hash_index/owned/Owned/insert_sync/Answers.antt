@@ -1,7 +1,8 @@
-use Rattle.std.proofs.Common.{◌≡◌, ◌∙◌, refl, sym, true, false, rules}
+use Rattle.std.proofs.Common.{◌≡◌, ◌∙◌, refl, sym, true, false, rules, subst}
 use Rattle.scc_table.specs.Contents.{entries}
 use Rattle.scc_index.proofs.AfterSteps.{finds-unchanged}
 use Rattle.scc_table.proofs.Lookups.{find-position, find-position_none, finds-added}
+use Rattle.scc_incremental.specs.Relocations.{RelocatesTwo}
 use Rattle.scc_index.proofs.hash_index.owned.Owned.insert_sync.Goals as goal
 use Rattle.scc_index.proofs.hash_index.owned.Owned.insert_sync.Goals.{in-Ok, in-Err}
 
@@ -64,3 +65,23 @@ pub returns-after-insert_made-clause-noted : goal.returns-after-insert_made-clau
 returns-after-insert_made-clause-noted g c =
     let none = find-position_none (g.K.PartialEq.eq c.args.k) (entries c.self.inside.table) c.in-None.ensures.place in
     rw (← c.self.view_is, none) (λ there. absurd (search rules))
+
+pub returns-after-insert_made-clause-relocates : goal.returns-after-insert_made-clause-relocates
+returns-after-insert_made-clause-relocates g c = λ _. rw (← c.self.view_is) record { fewer = c.insert_made.ensures.fewer; less = c.insert_made.ensures.less; most = c.insert_made.ensures.most; grown = c.insert_made.ensures.grown; array = c.insert_made.ensures.array }
+
+pub returns-after-insert_made-clause-two : goal.returns-after-insert_made-clause-two
+returns-after-insert_made-clause-two g c =
+    elim c.match-insert_made.branch [
+      | in-Ok w ↦ λ _. rw (w.result-is, ← c.self.view_is) (subst (λ h. RelocatesTwo h c.self.inside.table c.insert_made.new.self) c.hash-hash.ensures record { settled = w.in-Ok.ensures.settled; exact = w.in-Ok.ensures.exact })
+      | in-Err w ↦ λ _. rw w.result-is tt
+    ]
+
+pub returns-after-insert_made-clause-waiting : goal.returns-after-insert_made-clause-waiting
+returns-after-insert_made-clause-waiting g c =
+    let none = find-position_none (g.K.PartialEq.eq c.args.k) (entries c.self.inside.table) c.in-None.ensures.place in
+    rw (← c.self.view_is, none) (λ there. absurd (search rules))
+
+pub returns-in-Some-clause-relocates : goal.returns-in-Some-clause-relocates
+returns-in-Some-clause-relocates g c =
+    let f = find-position (g.K.PartialEq.eq c.args.k) (entries c.self.inside.table) _ c.in-Some.ensures.place.found in
+    λ none. let here = rw (← c.self.view_is, f.2) at none in cc

@@ -2,11 +2,24 @@ use Rattle.std.proofs.Common.{◌∙◌, suc, length, refl}
 use Rattle.std.specs.Arc.{arc_value}
 use Rattle.std.proofs.lemmas.List.{map-append}
 use Rattle.scc_table.specs.Contents.{entries}
-use Rattle.scc_table.specs.Places.{index_of}
+use Rattle.scc_incremental.specs.Places.{index_of}
 use Rattle.scc_table.proofs.Placed.{take-more}
-use Rattle.scc_walks.proofs.Reached.{reached-at, take-all}
+use Rattle.scc_walks.proofs.Reached.{take-all}
+use Rattle.scc_incremental.proofs.Reached.{nearer, reached-at, reached-first}
 use Rattle.scc_index.proofs.Snapshots.{turned-back}
 use Rattle.scc_index.proofs.hash_index.owned.Owned.iter.Goals as goal
+
+pub loop-at-init : goal.loop-at-init
+loop-at-init g c =
+    let start = reached-first c.args.self.now c.first_place-at.result (rw c.self.view_is at c.first_place-at.ensures) in
+    record { within = start.1; listed = rw (start.0, c.in-Ok.ensures.items) refl }
+
+pub loop-at-smaller : goal.loop-at-smaller
+loop-at-smaller g c =
+    let m = c.args.self.now in
+    let within = rw c.in-Some.is at c.loop-at.invariant.within in
+    let next = reached-at m (suc (index_of m c.in-Some.place)) c.next_place-at.result c.next_place-at.ensures in
+    rw c.in-Some.is (nearer m c.in-Some.place c.next_place-at.result within next.0)
 
 pub loop-at-preserved : goal.loop-at-preserved
 loop-at-preserved g c =

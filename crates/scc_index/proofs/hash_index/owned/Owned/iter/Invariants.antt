@@ -1,8 +1,8 @@
 use Rattle.std.proofs.Common.{◌≡◌, ◌-◌, length, map, take, IfSome}
 use Rattle.std.specs.Arc.{arc_value}
 use Rattle.scc_table.specs.Contents.{entries}
-use Rattle.scc_table.specs.Places.{IsPlace}
-use Rattle.scc_walks.proofs.Reached.{reached}
+use Rattle.scc_incremental.specs.Places.{IsPlace}
+use Rattle.scc_incremental.proofs.Reached.{reached}
 use Rattle.scc_index.proofs.hash_index.owned.Owned.iter.Given as goal
 
 abbrev pub invariant-loop-at : goal.invariant-loop-at

@@ -18,3 +18,6 @@ returns-in-Some g c =
 
 pub returns-in-None : goal.returns-in-None
 returns-in-None g c = rw (← c.self.view_is, find-position_none (g.K.PartialEq.eq c.args.k.now) (entries c.self.inside.table) c.in-None.ensures.place) record { answer = refl }
+
+pub pair_at-requires : goal.pair_at-requires
+pair_at-requires g c = let found = rw c.self.view_is at c.in-Some.ensures.place in found.within

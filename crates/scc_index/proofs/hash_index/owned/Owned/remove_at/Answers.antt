@@ -8,3 +8,6 @@ returns-clause-smaller g c = rw (← c.self.view_is) c.remove_at-version.ensures
 
 pub returns-clause-due : goal.returns-clause-due
 returns-clause-due g c = rw (← c.self.view_is) (c.remove_at-version.ensures.due)
+
+pub returns-clause-relocates : goal.returns-clause-relocates
+returns-clause-relocates g c = rw (← c.self.view_is) record { all = c.remove_at-version.ensures.all; less = c.remove_at-version.ensures.less; waiting = c.remove_at-version.ensures.waiting }

@@ -42,3 +42,6 @@ returns-in-None-clause-step g c = rw (← c.self.view_is, find-position_none (g.
 
 pub returns-then-f-clause-due : goal.returns-then-f-clause-due
 returns-then-f-clause-due g c = rw (← c.self.view_is) (λ _. c.remove_at-version.ensures.due)
+
+pub returns-then-f-clause-relocates : goal.returns-then-f-clause-relocates
+returns-then-f-clause-relocates g c = rw (← c.self.view_is) (λ _. record { all = c.remove_at-version.ensures.all; less = c.remove_at-version.ensures.less; waiting = c.remove_at-version.ensures.waiting })

@@ -29,3 +29,6 @@ returns-in-Some-clause-smaller g c = rw (← c.self.view_is) c.remove_at-removed
 
 pub returns-in-Some-clause-due : goal.returns-in-Some-clause-due
 returns-in-Some-clause-due g c = rw (← c.self.view_is) (λ _. c.remove_at-removed.ensures.due)
+
+pub returns-in-Some-clause-relocates : goal.returns-in-Some-clause-relocates
+returns-in-Some-clause-relocates g c = rw (← c.self.view_is) (λ _. record { all = c.remove_at-removed.ensures.all; less = c.remove_at-removed.ensures.less; waiting = c.remove_at-removed.ensures.waiting })

@@ -1,17 +1,18 @@
 use Rattle.std.proofs.Common.{◌≡◌, ◌∙◌, ◌++◌, [], refl, length, drop, take, subst, append-nil, suc}
 use Rattle.scc_table.specs.Contents.{entries}
-use Rattle.scc_table.specs.Places.{index_of}
+use Rattle.scc_incremental.specs.Places.{index_of}
 use Rattle.scc_table.specs.Walks.{CalledOn}
 use Rattle.scc_index.specs.IndexWalks.{Retains, ended}
 use Rattle.scc_table.proofs.Placed.{drop-all}
-use Rattle.scc_walks.proofs.Reached.{nearer, reached-at, reached-first, take-all}
+use Rattle.scc_walks.proofs.Reached.{take-all}
+use Rattle.scc_incremental.proofs.Reached.{nearer, reached-at, reached-first}
 use Rattle.scc_index.proofs.Visits.{took-next, took-nearer, retains-kept, retains-removed, turn-here, turn-kept, turn-removed}
 use Rattle.scc_index.proofs.hash_index.owned.Owned.retain_all.Goals as goal
 
 pub loop-at-init : goal.loop-at-init
 loop-at-init g c =
     let start = reached-first c.args.self.now c.first_place-at.result (rw c.self.view_is at c.first_place-at.ensures) in
-    record { callable = rw start.0 c.requires; within = start.1; buckets = refl; settings = refl; noted = refl; calls = λ stay last r. rw start.0 (rw start.0 at r) }
+    record { callable = rw start.0 c.requires; within = start.1; buckets = refl; settings = refl; noted = refl; waiting = refl; calls = λ stay last r. rw start.0 (rw start.0 at r) }
 
 pub f-requires : goal.f-requires
 f-requires g c =
@@ -36,6 +37,7 @@ loop-at-preserved-then-f g c =
       buckets = c.loop-at.invariant.buckets;
       settings = c.loop-at.invariant.settings;
       noted = c.loop-at.invariant.noted;
+      waiting = c.loop-at.invariant.waiting;
       calls = retains-kept m c.in-Some.place _ within got c.args.f (entries c.args.self.now) c.loop-at.f c.f.new.self (rw c.in-Some.is at c.loop-at.invariant.calls) record { key = _; value = _; shows = refl; called = c.if-f.ensures } c.next_place-at.result next.0;
     }
 
@@ -62,6 +64,7 @@ loop-at-preserved g c =
       buckets = others.buckets ∙ c.loop-at.invariant.buckets;
       settings = others.settings ∙ c.loop-at.invariant.settings;
       noted = c.take_and_step-at.ensures.noted ∙ c.loop-at.invariant.noted;
+      waiting = c.take_and_step-at.ensures.waiting ∙ c.loop-at.invariant.waiting;
       calls = retains-removed m c.in-Some.place _ within got c.args.f (entries c.args.self.now) c.loop-at.f c.f.new.self (rw c.in-Some.is at c.loop-at.invariant.calls) record { key = _; value = _; shows = refl; called = c.if-f.ensures } d others c.take_and_step-at.result next.0;
     }
 

@@ -1,7 +1,7 @@
 use Rattle.std.proofs.Common.{◌≡◌, length, IfSome}
-use Rattle.scc_table.specs.Contents.{entries, bucket_count, settings_of, refused_of}
-use Rattle.scc_table.specs.Places.{IsPlace}
-use Rattle.scc_walks.proofs.Reached.{reached}
+use Rattle.scc_table.specs.Contents.{entries, bucket_count, settings_of, refused_of, waiting_of}
+use Rattle.scc_incremental.specs.Places.{IsPlace}
+use Rattle.scc_incremental.proofs.Reached.{reached}
 use Rattle.scc_index.proofs.hash_index.owned.Owned.take_all.Given as goal
 
 abbrev pub invariant-loop-at : goal.invariant-loop-at
@@ -11,6 +11,7 @@ invariant-loop-at g l = record {
   buckets : bucket_count l.self ≡ bucket_count l.fn.self;
   settings : settings_of l.self ≡ settings_of l.fn.self;
   noted : refused_of l.self ≡ refused_of l.fn.self;
+  waiting : waiting_of l.self ≡ waiting_of l.fn.self;
 }
 
 abbrev pub decreases-loop-at : goal.decreases-loop-at

@@ -1,5 +1,5 @@
 use Rattle.std.proofs.Common.{ap, ◌∙◌}
-use Rattle.scc_map.proofs.Entries.{within-after, written-after, pair-is}
+use Rattle.scc_map.proofs.Entries.{within-after, written-after, waiting-after, pair-is}
 use Rattle.scc_map.proofs.hash_map.held.HeldEntry.insert.Goals as goal
 
 pub invariant_of-self : goal.invariant_of-self
@@ -12,3 +12,6 @@ returns-clause-old g c =
 
 pub returns-clause-written : goal.returns-clause-written
 returns-clause-written g c = written-after c.args.self.now c.lend.result.now c.write_at.new.self c.args.value c.lend.ensures.value c.write_at.ensures.new _
+
+pub returns-clause-waiting : goal.returns-clause-waiting
+returns-clause-waiting g c = waiting-after c.args.self.now c.lend.result.now c.write_at.new.self c.args.value c.lend.ensures.value c.write_at.ensures.new

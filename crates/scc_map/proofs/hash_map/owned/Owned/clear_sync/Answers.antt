@@ -5,7 +5,7 @@ use Rattle.std.proofs.lemmas.List.Sorted.{length_permutation}
 use Rattle.scc_table.proofs.Standing.{length-zero}
 use Rattle.scc_table.proofs.Resizes.{smaller-by, shrinks-after}
 use Rattle.scc_walks.proofs.Takings.{holds-after}
-use Rattle.scc_map.proofs.Relocations.{shrunk-after}
+use Rattle.scc_incremental.proofs.Relocations.{shrunk-after}
 use Rattle.scc_map.proofs.hash_map.owned.Owned.clear_sync.Goals as goal
 
 pub returns-clause-empty : goal.returns-clause-empty

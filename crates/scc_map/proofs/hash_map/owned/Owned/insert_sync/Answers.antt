@@ -2,7 +2,7 @@ use Rattle.std.proofs.Common.{refl, rules, subst}
 use Rattle.scc_table.specs.Contents.{entries}
 use Rattle.scc_table.proofs.Lookups.{find-position, find-position_none, finds-added}
 use Rattle.scc_map.proofs.CallerLemmas.{finds-rearranged}
-use Rattle.scc_map.specs.Relocations.{RelocatesTwo}
+use Rattle.scc_incremental.specs.Relocations.{RelocatesTwo}
 use Rattle.scc_map.proofs.hash_map.owned.Owned.insert_sync.Goals as goal
 use Rattle.scc_map.proofs.hash_map.owned.Owned.insert_sync.Goals.{in-Ok, in-Err}
 

@@ -3,7 +3,7 @@ use Rattle.std.proofs.lemmas.List.Sorted.{IsPermutation-refl}
 use Rattle.scc_table.specs.Contents.{entries, bucket_count, minimum_of}
 use Rattle.scc_table.proofs.Resizes.{smaller-by, shrinks-after}
 use Rattle.scc_walks.proofs.Takings.{appended-none, appended-some, holds-after, takes-count}
-use Rattle.scc_map.proofs.Relocations.{shrunk-after, kept-after}
+use Rattle.scc_incremental.proofs.Relocations.{shrunk-after, kept-after}
 use Rattle.scc_map.proofs.hash_map.owned.Owned.iter_mut_into.Goals as goal
 
 pub returns-then-len-before-clause-step : goal.returns-then-len-before-clause-step

@@ -7,7 +7,7 @@ use Rattle.scc_map.proofs.CallerLemmas.{finds-without}
 use Rattle.scc_table.proofs.Lookups.{find-position_none}
 use Rattle.scc_incremental.proofs.AtPlaces.{place-found, value-written, value-unique, written-taken_out, written-pair, noted-write}
 use Rattle.scc_table.proofs.Resizes.{shrinks-after}
-use Rattle.scc_map.proofs.Relocations.{removed-after, waiting-write}
+use Rattle.scc_incremental.proofs.Relocations.{removed-after, waiting-write}
 use Rattle.scc_map.proofs.hash_map.owned.Owned.remove_if_sync.Goals as goal
 
 pub returns-in_err-place-clause-step : goal.returns-in_err-place-clause-step

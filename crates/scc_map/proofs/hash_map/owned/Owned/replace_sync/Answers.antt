@@ -1,5 +1,5 @@
 use Rattle.std.proofs.Common.{◌≡◌, ◌∙◌, sym, ap, Some}
-use Rattle.scc_table.specs.Contents.{entries, refused_of}
+use Rattle.scc_table.specs.Contents.{entries, refused_of, waiting_of}
 use Rattle.std.specs.List.{slice_get}
 use Rattle.scc_table.specs.Pairs.{find}
 use Rattle.scc_incremental.specs.Places.{index_of}
@@ -8,6 +8,7 @@ use Rattle.scc_table.specs.Pairs.{with_pair_key}
 use Rattle.scc_incremental.proofs.AtPlaces.{entry_of-is}
 use Rattle.scc_table.proofs.Lookups.{find-position_none}
 use Rattle.scc_incremental.proofs.AtPlaces.{place-found, key-written, key-unique, key-got, noted-write}
+use Rattle.scc_incremental.proofs.Relocations.{waiting-write}
 use Rattle.scc_map.proofs.hash_map.owned.Owned.replace_sync.Goals as goal
 
 pub replace_key_at-old-requires-clause-same : goal.replace_key_at-old-requires-clause-same
@@ -56,3 +57,6 @@ returns-in-Some-clause-noted g c = ap refused_of c.replace_key_at-old.ensures.ne
 
 pub replace_key_at-old-requires-clause-within : goal.replace_key_at-old-requires-clause-within
 replace_key_at-old-requires-clause-within g c = let found = rw c.self.view_is at c.in-Some.ensures.place in found.within
+
+pub returns-in-Some-clause-waiting : goal.returns-in-Some-clause-waiting
+returns-in-Some-clause-waiting g c = ap waiting_of c.replace_key_at-old.ensures.new ∙ waiting-write with_pair_key c.args.self.now c.in-Some.place c.args.k

@@ -3,7 +3,7 @@ use Rattle.std.proofs.lemmas.List.Sorted.{IsPermutation-refl}
 use Rattle.scc_table.specs.Contents.{entries, bucket_count, minimum_of}
 use Rattle.scc_table.proofs.Resizes.{smaller-by, shrinks-after}
 use Rattle.scc_walks.proofs.Takings.{holds-after}
-use Rattle.scc_map.proofs.Relocations.{shrunk-after}
+use Rattle.scc_incremental.proofs.Relocations.{shrunk-after}
 use Rattle.scc_map.proofs.hash_map.owned.Owned.retain_sync.Goals as goal
 
 pub returns-clause-smaller : goal.returns-clause-smaller

@@ -4,7 +4,7 @@ use Rattle.scc_table.specs.Pairs.{find, with_pair_value}
 use Rattle.scc_table.proofs.Lookups.{find-position_none}
 use Rattle.scc_incremental.proofs.AtPlaces.{noted-write, place-found, value-written, value-unique}
 use Rattle.scc_map.proofs.CallerLemmas.{finds-set_value}
-use Rattle.scc_map.proofs.Relocations.{waiting-write}
+use Rattle.scc_incremental.proofs.Relocations.{waiting-write}
 use Rattle.scc_map.proofs.hash_map.owned.Owned.update_sync.Goals as goal
 
 pub u-requires : goal.u-requires

@@ -5,8 +5,8 @@ use Rattle.scc_map.proofs.CallerLemmas.{finds-rearranged, finds-set_value}
 use Rattle.scc_table.proofs.Lookups.{find-position_none, finds-added}
 use Rattle.scc_table.proofs.KeyWrites.{grows-same}
 use Rattle.scc_incremental.proofs.AtPlaces.{noted-write, place-found, value-written, value-unique}
-use Rattle.scc_map.specs.Relocations.{RelocatesTwo}
-use Rattle.scc_map.proofs.Relocations.{waiting-write}
+use Rattle.scc_incremental.specs.Relocations.{RelocatesTwo}
+use Rattle.scc_incremental.proofs.Relocations.{waiting-write}
 use Rattle.scc_map.proofs.hash_map.owned.Owned.upsert_sync.Goals as goal
 use Rattle.scc_map.proofs.hash_map.owned.Owned.upsert_sync.Goals.{in-Ok, in-Err}
 

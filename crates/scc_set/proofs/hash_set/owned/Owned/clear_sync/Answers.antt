@@ -1,6 +1,7 @@
 use Rattle.std.proofs.Common.{ap, ◌∙◌}
 use Rattle.std.specs.Map.{keys_of}
 use Rattle.scc_table.proofs.Mapped.{Holds-mapped, ShrinksWhenDue-mapped}
+use Rattle.scc_incremental.proofs.MappedRelocations.{RelocatesNone-mapped}
 use Rattle.scc_set.proofs.Sets.{shows, unique-keys}
 use Rattle.scc_set.proofs.hash_set.owned.Owned.clear_sync.Goals as goal
 
@@ -18,3 +19,6 @@ returns-clause-due g c = rw (← c.self.view_is) (ShrinksWhenDue-mapped _ _ _ c.
 
 pub returns-clause-unique : goal.returns-clause-unique
 returns-clause-unique g c = unique-keys _ _ c.clear_sync.ensures.unique
+
+pub returns-clause-relocates : goal.returns-clause-relocates
+returns-clause-relocates g c = rw (← c.self.view_is) (RelocatesNone-mapped _ _ _ c.clear_sync.ensures.relocates)

@@ -1,6 +1,7 @@
 use Rattle.std.proofs.Common.{sym, ◌∙◌}
 use Rattle.scc_table.proofs.Mapped.{Grows-mapped, FirstArrayWhenDue-mapped}
-use Rattle.scc_set.proofs.Sets.{found-is, noted-keys, on-refusal, same-keys, shows, on-answer, ok-answer, Inserts-hashed, roomy-hashed, grows-hashed, finds-keys, none-found, unique-keys}
+use Rattle.scc_incremental.proofs.MappedRelocations.{Relocates-mapped}
+use Rattle.scc_set.proofs.Sets.{waiting-keys, two-hashed, found-is, noted-keys, on-refusal, same-keys, shows, on-answer, ok-answer, Inserts-hashed, roomy-hashed, grows-hashed, finds-keys, none-found, unique-keys}
 use Rattle.scc_set.proofs.hash_set.owned.Owned.insert_sync.Goals as goal
 
 pub returns-clause-step : goal.returns-clause-step
@@ -32,3 +33,14 @@ returns-clause-unique g c = unique-keys _ _ c.insert_sync.ensures.unique
 
 pub returns-clause-noted : goal.returns-clause-noted
 returns-clause-noted g c = rw (← c.self.view_is) (λ there. noted-keys _ _ (c.insert_sync.ensures.noted (found-is g.K.PartialEq.eq c.self.inside.map c.args.k there)))
+
+pub returns-clause-relocates : goal.returns-clause-relocates
+returns-clause-relocates g c = rw (← c.self.view_is) (λ n. Relocates-mapped _ _ _ (c.insert_sync.ensures.relocates (none-found g.K.PartialEq.eq c.self.inside.map c.args.k n)))
+
+pub returns-clause-two : goal.returns-clause-two
+returns-clause-two g c =
+    rw (← c.self.view_is, c.key_answer.ensures)
+    (λ n. on-answer c.insert_sync.result (two-hashed g.K.PartialEq.eq g.H.BuildHasher g.H.Hasher.Hasher g.K.Hash.hash_input c.self.inside.map c.args.k c.insert_sync.new.self) (c.insert_sync.ensures.two (none-found g.K.PartialEq.eq c.self.inside.map c.args.k n)))
+
+pub returns-clause-waiting : goal.returns-clause-waiting
+returns-clause-waiting g c = rw (← c.self.view_is) (λ there. waiting-keys _ _ (c.insert_sync.ensures.waiting (found-is g.K.PartialEq.eq c.self.inside.map c.args.k there)))

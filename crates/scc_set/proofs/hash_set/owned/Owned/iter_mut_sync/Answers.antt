@@ -3,6 +3,7 @@ use Rattle.std.proofs.lemmas.List.{length-map}
 use Rattle.scc_walks.specs.PairWalks.{GoesOn}
 use Rattle.scc_map.specs.Sinks.{with_units}
 use Rattle.scc_table.proofs.Mapped.{Holds-mapped, ShrinksWhenDue-mapped}
+use Rattle.scc_incremental.proofs.MappedRelocations.{RelocatesNone-mapped}
 use Rattle.scc_set.proofs.Sets.{on-err, shows, smaller-keys, unique-keys}
 use Rattle.scc_set.proofs.Walks.{ordered-keys, callable-writes, to-key, Takes-keys, taken-keys, units-same}
 use Rattle.scc_set.proofs.hash_set.owned.Owned.iter_mut_sync.Goals as goal
@@ -33,3 +34,6 @@ returns-clause-was_unique g c = rw (← c.self.view_is) (unique-keys _ _ c.iter_
 
 pub returns-clause-unique : goal.returns-clause-unique
 returns-clause-unique g c = unique-keys _ _ c.iter_mut_into.ensures.unique
+
+pub returns-clause-relocates : goal.returns-clause-relocates
+returns-clause-relocates g c = rw (← c.self.view_is) (RelocatesNone-mapped _ _ _ c.iter_mut_into.ensures.relocates)

@@ -1,5 +1,6 @@
 use Rattle.scc_table.proofs.Mapped.{ShrinksWhenDue-mapped}
 use Rattle.scc_incremental.proofs.MappedPlaces.{IsPlace-from_mapped}
+use Rattle.scc_incremental.proofs.MappedRelocations.{RelocatesNone-mapped}
 use Rattle.scc_set.proofs.Sets.{smaller-keys, unique-keys}
 use Rattle.scc_set.proofs.Places.{get-key, holds-others}
 use Rattle.scc_set.proofs.hash_set.owned.Owned.remove_at.Goals as goal
@@ -21,3 +22,6 @@ returns-clause-due g c = rw (← c.self.view_is) (ShrinksWhenDue-mapped _ _ _ c.
 
 pub returns-clause-unique : goal.returns-clause-unique
 returns-clause-unique g c = unique-keys _ _ c.remove_at.ensures.unique
+
+pub returns-clause-relocates : goal.returns-clause-relocates
+returns-clause-relocates g c = rw (← c.self.view_is) (RelocatesNone-mapped _ _ _ c.remove_at.ensures.relocates)

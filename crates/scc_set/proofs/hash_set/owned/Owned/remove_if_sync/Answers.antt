@@ -2,7 +2,8 @@ use Rattle.std.proofs.Common.{refl}
 use Rattle.scc_table.proofs.Mapped.{ShrinksWhenDue-mapped}
 use Rattle.scc_table.specs.Pairs.{find as find_pair}
 use Rattle.scc_table.specs.Contents.{entries}
-use Rattle.scc_set.proofs.Sets.{found, is-found, noted-keys, on-key, on-no_key, RemovesIf-keys, finds-keys, smaller-keys, unique-keys}
+use Rattle.scc_incremental.proofs.MappedRelocations.{RelocatesNone-mapped}
+use Rattle.scc_set.proofs.Sets.{waiting-keys, found, is-found, noted-keys, on-key, on-no_key, RemovesIf-keys, finds-keys, smaller-keys, unique-keys}
 use Rattle.scc_set.proofs.hash_set.owned.Owned.remove_if_sync.Goals as goal
 
 pub remove_if_sync-requires : goal.remove_if_sync-requires
@@ -26,3 +27,9 @@ returns-clause-unique g c = unique-keys _ _ c.remove_if_sync.ensures.unique
 
 pub returns-clause-noted : goal.returns-clause-noted
 returns-clause-noted g c = rw (← c.self.view_is, c.key_alone.ensures) (on-no_key c.remove_if_sync.result (noted-keys _ _) c.remove_if_sync.ensures.noted)
+
+pub returns-clause-relocates : goal.returns-clause-relocates
+returns-clause-relocates g c = rw (← c.self.view_is, c.key_alone.ensures) (on-key c.remove_if_sync.result (RelocatesNone-mapped _ _ _) c.remove_if_sync.ensures.relocates)
+
+pub returns-clause-waiting : goal.returns-clause-waiting
+returns-clause-waiting g c = rw (← c.self.view_is, c.key_alone.ensures) (on-no_key c.remove_if_sync.result (waiting-keys _ _) c.remove_if_sync.ensures.waiting)

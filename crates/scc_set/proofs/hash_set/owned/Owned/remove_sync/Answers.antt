@@ -1,5 +1,6 @@
 use Rattle.scc_table.proofs.Mapped.{ShrinksWhenDue-mapped}
-use Rattle.scc_set.proofs.Sets.{noted-keys, on-key, on-no_key, Removes-keys, finds-keys, smaller-keys, unique-keys}
+use Rattle.scc_incremental.proofs.MappedRelocations.{RelocatesNone-mapped}
+use Rattle.scc_set.proofs.Sets.{waiting-keys, noted-keys, on-key, on-no_key, Removes-keys, finds-keys, smaller-keys, unique-keys}
 use Rattle.scc_set.proofs.hash_set.owned.Owned.remove_sync.Goals as goal
 
 pub returns-clause-step : goal.returns-clause-step
@@ -19,3 +20,9 @@ returns-clause-unique g c = unique-keys _ _ c.remove_sync.ensures.unique
 
 pub returns-clause-noted : goal.returns-clause-noted
 returns-clause-noted g c = rw (← c.self.view_is, c.key_alone.ensures) (on-no_key c.remove_sync.result (noted-keys _ _) c.remove_sync.ensures.noted)
+
+pub returns-clause-relocates : goal.returns-clause-relocates
+returns-clause-relocates g c = rw (← c.self.view_is, c.key_alone.ensures) (on-key c.remove_sync.result (RelocatesNone-mapped _ _ _) c.remove_sync.ensures.relocates)
+
+pub returns-clause-waiting : goal.returns-clause-waiting
+returns-clause-waiting g c = rw (← c.self.view_is, c.key_alone.ensures) (on-no_key c.remove_sync.result (waiting-keys _ _) c.remove_sync.ensures.waiting)

@@ -1,5 +1,6 @@
 use Rattle.scc_table.proofs.Mapped.{ReachesMinimumWhenDue-mapped}
-use Rattle.scc_set.proofs.Sets.{ReservesOrRefuses-keys, noted-keys, on-none, on-some, shows, unique-keys}
+use Rattle.scc_incremental.proofs.MappedRelocations.{grown-mapped}
+use Rattle.scc_set.proofs.Sets.{waiting-keys, ReservesOrRefuses-keys, noted-keys, on-none, on-some, shows, unique-keys}
 use Rattle.scc_set.proofs.hash_set.owned.Owned.reserve.Goals as goal
 
 pub returns-clause-step : goal.returns-clause-step
@@ -16,3 +17,9 @@ returns-clause-unique g c = unique-keys _ _ c.reserve.ensures.unique
 
 pub returns-clause-noted : goal.returns-clause-noted
 returns-clause-noted g c = rw (← c.self.view_is) (on-none c.reserve.result (noted-keys _ _) c.reserve.ensures.noted)
+
+pub returns-clause-spreads : goal.returns-clause-spreads
+returns-clause-spreads g c = rw (← c.self.view_is) (on-some c.reserve.result (λ h. rw (shows c.reserve.new.self).settings (grown-mapped _ _ c.self.inside.map c.reserve.new.self h)) c.reserve.ensures.spreads)
+
+pub returns-clause-waiting : goal.returns-clause-waiting
+returns-clause-waiting g c = rw (← c.self.view_is) (on-none c.reserve.result (waiting-keys _ _) c.reserve.ensures.waiting)

@@ -1,5 +1,6 @@
 use Rattle.std.specs.Prelude.{⊤}
 use Rattle.scc_table.proofs.Mapped.{Holds-mapped, ShrinksWhenDue-mapped}
+use Rattle.scc_incremental.proofs.MappedRelocations.{RelocatesNone-mapped}
 use Rattle.scc_set.proofs.Sets.{smaller-keys, unique-keys}
 use Rattle.scc_set.proofs.Walks.{ordered-keys, callable-writes, to-key, Retains-keys}
 use Rattle.scc_set.proofs.hash_set.owned.Owned.retain_sync.Goals as goal
@@ -23,3 +24,6 @@ returns-clause-was_unique g c = rw (← c.self.view_is) (unique-keys _ _ c.retai
 
 pub returns-clause-unique : goal.returns-clause-unique
 returns-clause-unique g c = unique-keys _ _ c.retain_sync.ensures.unique
+
+pub returns-clause-relocates : goal.returns-clause-relocates
+returns-clause-relocates g c = rw (← c.self.view_is) (RelocatesNone-mapped _ _ _ c.retain_sync.ensures.relocates)

@@ -1,4 +1,4 @@
-use Rattle.scc_set.proofs.Sets.{noted-keys, swapped-keys, missing-keys, unique-keys}
+use Rattle.scc_set.proofs.Sets.{waiting-keys, noted-keys, swapped-keys, missing-keys, unique-keys}
 use Rattle.scc_set.proofs.hash_set.owned.Owned.swap_key.Goals as goal
 
 pub returns-clause-swapped : goal.returns-clause-swapped
@@ -12,3 +12,6 @@ returns-clause-unique g c = unique-keys _ _ c.swap_in_map.ensures.unique
 
 pub returns-clause-noted : goal.returns-clause-noted
 returns-clause-noted g c = rw (← c.self.view_is) (noted-keys _ _ c.swap_in_map.ensures.noted)
+
+pub returns-clause-waiting : goal.returns-clause-waiting
+returns-clause-waiting g c = rw (← c.self.view_is) (waiting-keys _ _ c.swap_in_map.ensures.waiting)

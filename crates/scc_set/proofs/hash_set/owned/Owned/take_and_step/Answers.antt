@@ -1,5 +1,5 @@
 use Rattle.scc_incremental.proofs.MappedPlaces.{IsPlace-from_mapped}
-use Rattle.scc_set.proofs.Sets.{noted-keys, unique-keys}
+use Rattle.scc_set.proofs.Sets.{waiting-keys, noted-keys, unique-keys}
 use Rattle.scc_set.proofs.Places.{get-key, exactly-others, follows-taken}
 use Rattle.scc_set.proofs.hash_set.owned.Owned.take_and_step.Goals as goal
 
@@ -20,3 +20,6 @@ returns-clause-unique g c = unique-keys _ _ c.take_and_step-pair.ensures.unique
 
 pub returns-clause-noted : goal.returns-clause-noted
 returns-clause-noted g c = rw (← c.self.view_is) (noted-keys _ _ c.take_and_step-pair.ensures.noted)
+
+pub returns-clause-waiting : goal.returns-clause-waiting
+returns-clause-waiting g c = rw (← c.self.view_is) (waiting-keys _ _ c.take_and_step-pair.ensures.waiting)

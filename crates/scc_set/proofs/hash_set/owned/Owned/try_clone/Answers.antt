@@ -1,4 +1,6 @@
+use Rattle.std.proofs.Common.{◌∙◌}
 use Rattle.scc_set.proofs.Clones.{clones-keys, finds-clones-keys}
+use Rattle.scc_incremental.proofs.MappedRelocations.{waiting_of-mapped}
 use Rattle.scc_set.proofs.Sets.{unique-keys}
 use Rattle.scc_set.proofs.hash_set.owned.Owned.try_clone.Goals as goal
 
@@ -10,3 +12,6 @@ returns-in-Ok-clause-finds g c = rw (← c.self.view_is) (λ e. finds-clones-key
 
 pub returns-in-Ok-clause-unique : goal.returns-in-Ok-clause-unique
 returns-in-Ok-clause-unique g c = unique-keys _ _ c.in-Ok.ensures.unique
+
+pub returns-in-Ok-clause-waiting : goal.returns-in-Ok-clause-waiting
+returns-in-Ok-clause-waiting g c = waiting_of-mapped _ c.in-Ok.map ∙ c.in-Ok.ensures.waiting

@@ -1,5 +1,5 @@
 use Rattle.std.proofs.Common.{refl}
-use Rattle.scc_table.proofs.Placed.{back-none}
+use Rattle.scc_incremental.proofs.AtPlaces.{back-none}
 use Rattle.scc_index.proofs.EntrySteps.{next-at}
 use Rattle.scc_index.proofs.hash_index.owned.entry.steps.HeldEntry+mut+Owned+K+V+H+unit+K+V+H.next_sync.Goals as goal
 

@@ -1,5 +1,5 @@
 use Rattle.std.proofs.Common.{refl}
-use Rattle.scc_table.proofs.Placed.{back-none, left-there}
+use Rattle.scc_incremental.proofs.AtPlaces.{back-none, left-there}
 use Rattle.scc_index.proofs.EntrySteps.{next-past}
 use Rattle.scc_index.proofs.hash_index.owned.entry.steps.HeldEntry+mut+Owned+K+V+H+unit+K+V+H.remove_and_sync.Goals as goal
 
@@ -8,6 +8,7 @@ returns-in-Some g c = (
   (refl, λ w. refl, tt),
   record {
     next = next-past c.args.self _ refl c.in-Some.ensures.others c.in-Some.ensures.noted c.in-Some.ensures.next.index;
+    waiting = c.in-Some.ensures.waiting;
     unique = c.in-Some.ensures.unique;
     last = tt;
     kept = tt;
@@ -16,6 +17,6 @@ returns-in-Some g c = (
 
 pub returns-in-None : goal.returns-in-None
 returns-in-None g c = (
-  (refl, λ _. tt, (left-there _ _ _ c.in-None.ensures.others, c.in-None.ensures.noted, c.in-None.ensures.unique)),
-  record { next = tt; unique = tt; last = back-none _ _ c.in-None.ensures.next; kept = tt },
+  (refl, λ _. tt, (left-there _ _ _ c.in-None.ensures.others, c.in-None.ensures.noted, c.in-None.ensures.unique, c.in-None.ensures.waiting)),
+  record { next = tt; waiting = tt; unique = tt; last = back-none _ _ c.in-None.ensures.next; kept = tt },
 )

@@ -11,6 +11,7 @@ returns-in-Some g c =
       record {
         pair = pair-is c.args.self c.args.self.guard.now c.take_and_step-pair.result.0 refl c.take_and_step-pair.ensures.pair;
         next = next-past c.args.self _ refl c.take_and_step-pair.ensures.others c.take_and_step-pair.ensures.noted next.index;
+        waiting = c.take_and_step-pair.ensures.waiting;
         unique = c.take_and_step-pair.ensures.unique;
         last = tt;
         kept = tt;
@@ -20,10 +21,11 @@ returns-in-Some g c =
 pub returns-in-None : goal.returns-in-None
 returns-in-None g c =
     let none = rw c.in-None.is at c.take_and_step-pair.ensures.next in (
-      (refl, λ _. tt, (left-there _ _ _ c.take_and_step-pair.ensures.others, c.take_and_step-pair.ensures.noted, c.take_and_step-pair.ensures.unique)),
+      (refl, λ _. tt, (left-there _ _ _ c.take_and_step-pair.ensures.others, c.take_and_step-pair.ensures.noted, c.take_and_step-pair.ensures.unique, c.take_and_step-pair.ensures.waiting)),
       record {
         pair = tt;
         next = tt;
+        waiting = tt;
         unique = tt;
         last = (pair-is c.args.self c.args.self.guard.now c.take_and_step-pair.result.0 refl c.take_and_step-pair.ensures.pair, back-none _ _ none);
         kept = tt;
