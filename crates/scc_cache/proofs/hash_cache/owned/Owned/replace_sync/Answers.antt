@@ -1,6 +1,6 @@
 use Rattle.std.proofs.Common.{◌≡◌, ◌∙◌, sym, ap, subst, Some}
 use Rattle.scc_table.specs.Pairs.{with_pair_key}
-use Rattle.scc_table.specs.Writes.{IsPlace-with_write_at}
+use Rattle.scc_incremental.specs.Placed.{IsPlace-with_write_at}
 use Rattle.scc_table.specs.Contents.{key_hash}
 use Rattle.scc_cache.specs.CacheSteps.{Changes, number_in}
 use Rattle.scc_cache.specs.ListSteps.{Rewrites}
