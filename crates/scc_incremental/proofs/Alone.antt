@@ -4,6 +4,7 @@ use Rattle.std.specs.List.{flat_map, IsDistinct}
 use Rattle.std.proofs.lemmas.List.Sums.{sum_by-cons}
 use Rattle.scc_array.specs.Shelves.{shelf_of}
 use Rattle.scc_bucket.specs.Shelf.{Shelf, shelf_entries}
+use Rattle.scc_table.proofs.Bare.{nil-left}
 use Rattle.scc_table.specs.Contents.{Contents, entries, bucket_count, lists_of, settings_of, spilled_of, held_of}
 use Rattle.scc_table.specs.Pour.{bound_for}
 use Rattle.scc_table.specs.Routing.{bucket_number}
