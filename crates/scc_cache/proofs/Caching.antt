@@ -1,18 +1,22 @@
 -- What a step of the table is for a cache.
-use Rattle.std.proofs.Common.{◌≡◌, ℕ, zero, suc, ◌+◌, ◌*◌, ◌^◌, ◌<◌, ◌≤◌, Bool, true, List, [], ◌∷◌, ◌++◌, length, refl, sym, ap, ◌∙◌, subst, arith, length-set, length-append, Option, None, Some, MatchOption}
+use Rattle.std.proofs.Common.{◌≡◌, ℕ, zero, suc, ◌+◌, ◌*◌, ◌^◌, ◌<◌, ◌≤◌, Bool, true, false, List, [], ◌∷◌, ◌++◌, length, refl, sym, ap, ◌∙◌, subst, arith, length-set, length-append, Option, None, Some, MatchOption}
 use Rattle.std.specs.Int.{IsPowerOfTwo}
 use Rattle.std.specs.List.{IsDistinct, flat_map, remove, slice_get, slice_set, slice_index_or, position}
 use Rattle.std.specs.Option.{option_map}
 use native.Mathlib.Decide.{dec_lt}
 use lib.Pow.{pow_mono, pow-add}
-use Rattle.scc_table.specs.Bounded.{HasList, IsListedAt, IsUnlisted, PutsLast, GrowsBelow, makes, has_room, is_full, stays, denied, doubles, IsListed, ShrinksBounded, stays_wide, denied_narrow, narrows}
-use Rattle.scc_table.specs.Contents.{Contents, entries, bucket_count, settings_of, refused_of, minimum_of, list_of, lists_of}
+use Rattle.scc_table.specs.Bounded.{HasList, IsUnlisted, PutsLast, IsListed, ShrinksBounded, stays_wide, denied_narrow, narrows}
+use Rattle.scc_table.specs.Contents.{Contents, entries, bucket_count, settings_of, refused_of, minimum_of, list_of, lists_of, waiting_of, held_of}
 use Rattle.scc_table.specs.Pairs.{IsUnique}
 use Rattle.scc_table.proofs.Bounds.{absent-rest, has-list-of, keeps-count}
 use Rattle.scc_table.proofs.Finding.{position_hit, position_cons}
 use Rattle.scc_table.proofs.Inserts.{by_answer}
-use Rattle.scc_table.specs.Places.{IsPlace}
+use Rattle.scc_table.specs.Places as spots
 use Rattle.scc_table.specs.declared.place.Place.{Place}
+use Rattle.scc_incremental.specs.Bounded.{IsListedAt, GrowsBelow, makes, has_room, is_full, stays, denied, doubles}
+use Rattle.scc_incremental.specs.Places.{IsPlace, spot_of}
+use Rattle.scc_incremental.specs.TwoArrays.{waits_at}
+use Rattle.scc_incremental.proofs.OldSpots.{spot-own}
 use Rattle.scc_cache.specs.CacheSteps.{IsFound, IsLacking, IsPresent, TakesAt, TakesThen, number_in}
 use Rattle.scc_cache.specs.Caches.{Cached, IsCacheState}
 use Rattle.scc_cache.specs.ListSteps.{list_for, with_list, IsMissing, IsThere, PutsPair}
@@ -164,13 +168,14 @@ module _ {K V S : Type 0} (hash : K → ℕ) (eq : K → K → Bool) (c : Conten
 
   pub is-found : (i : ℕ) (p : Place) → i ≡ number_in hash c (bucket_count c) k → IsListedAt (λ q. eq k q.0) c i p → IsFound hash eq c k p
   is-found i p e h =
-      let q = there (list_of c p.bucket) p.slot h.within.slot in
-      let same : p.bucket ≡ number_in hash c (bucket_count c) k = h.bucket ∙ e in
+      let s = spot_of c p in
+      let q = there (list_of c s.bucket) s.slot h.within.slot in
+      let same : s.bucket ≡ number_in hash c (bucket_count c) k = h.bucket ∙ e in
       record {
         within = h.within;
         bucket = same;
         pair = q.0;
-        there = is-there eq (number_in hash c) c k p.bucket same p.slot q.0 (ap (λ j. position (λ (x : K × V). eq k x.0) (list_of c j)) h.bucket ∙ h.found) q.1;
+        there = is-there eq (number_in hash c) c k s.bucket same s.slot q.0 (ap (λ j. position (λ (x : K × V). eq k x.0) (list_of c j)) h.bucket ∙ h.found) q.1;
         here = q.1;
       }
 
@@ -190,7 +195,7 @@ module _ {E S : Type 0} (c d : Contents E S) (i : ℕ) (es : List E) (e : E) (h 
   last-length = let z = length-append es (e ∷ []) in ap length (has-list-of c d i (es ++ e ∷ []) h l) ∙ (let y : length (es ++ e ∷ []) ≡ suc (length es) = omega arith in y)
 
   -- the entry that was put last stands at the last place
-  pub last-place : (n : ℕ) → suc n ≡ length (list_of d i) → IsPlace d (record { bucket = i; slot = n }) × (slice_get (list_of d i) n ≡ Some e)
+  pub last-place : (n : ℕ) → suc n ≡ length (list_of d i) → spots.IsPlace d (record { bucket = i; slot = n }) × (slice_get (list_of d i) n ≡ Some e)
   last-place n s = (
     record { bucket = rw (list-count c d i (es ++ e ∷ []) h) l; slot = omega arith },
     rw (has-list-of c d i (es ++ e ∷ []) h l) (last-is es e n (s ∙ ap length (has-list-of c d i (es ++ e ∷ []) h l))),
@@ -200,9 +205,14 @@ pub put-length : {E S : Type 0} (c d : Contents E S) (i : ℕ) (e : E) (x : Opti
 put-length c d i e None h l = let z = last-length c d i _ e h.1 l in omega arith
 put-length c d i e (Some x) h l = let z = last-length c d i _ e h.1.2 l in omega arith
 
-pub put-place : {E S : Type 0} (c d : Contents E S) (i : ℕ) (e : E) (x : Option E) → PutsLast c i e x d → i < bucket_count c → (n : ℕ) → suc n ≡ length (list_of d i) → IsPlace d (record { bucket = i; slot = n }) × (slice_get (list_of d i) n ≡ Some e)
+pub put-place : {E S : Type 0} (c d : Contents E S) (i : ℕ) (e : E) (x : Option E) → PutsLast c i e x d → i < bucket_count c → (n : ℕ) → suc n ≡ length (list_of d i) → spots.IsPlace d (record { bucket = i; slot = n }) × (slice_get (list_of d i) n ≡ Some e)
 put-place c d i e None h l = last-place c d i _ e h.1 l
 put-place c d i e (Some x) h l = last-place c d i _ e h.1.2 l
+
+-- a place in a list of a bucket that doesn't wait is its own spot
+pub at-spot : {E S : Type 0} (d : Contents E S) (p : Place) (e : E) → spots.IsPlace d p × (slice_get (list_of d p.bucket) p.slot ≡ Some e) → waits_at (waiting_of d) p.bucket ≡ false
+    → IsPlace d p × (slice_get (list_of d (spot_of d p).bucket) (spot_of d p).slot ≡ Some e)
+at-spot d p e h down = subst (λ (q : Place). spots.IsPlace d q × (slice_get (list_of d q.bucket) q.slot ≡ Some e)) (sym (spot-own (waiting_of d) (held_of d) (bucket_count d) p h.0.bucket down)) h
 
 -- one list changed, seen in the lists
 pub lists-set : {E S : Type 0} (c d : Contents E S) (i : ℕ) (F : List E → List E) → HasList c i (F (list_of c i)) d → lists_of d ≡ slice_set (lists_of c) i (F (slice_index_or (lists_of c) i []))
@@ -210,14 +220,14 @@ unfolding list_of lists_of
 lists-set c d i F h = h.lists
 
 -- a removal at the place of a key
-pub takes-found : {K V S : Type 0} (hash : K → ℕ) (eq : K → K → Bool) (c d : Cached (K × V) S) (k : K) (p : Place) (x : K × V) → IsFound hash eq c.contents k p → slice_get (list_of c.contents p.bucket) p.slot ≡ Some x → TakesAt hash c p d → TakesThen hash eq c k x d
+pub takes-found : {K V S : Type 0} (hash : K → ℕ) (eq : K → K → Bool) (c d : Cached (K × V) S) (k : K) (p : Place) (x : K × V) → IsFound hash eq c.contents k p → slice_get (list_of c.contents (spot_of c.contents p).bucket) (spot_of c.contents p).slot ≡ Some x → TakesAt hash c p d → TakesThen hash eq c k x d
 unfolding bucket_count lists_of list_of
 takes-found hash eq c d k p x f got (left, change, shrinks) =
     let e = f.bucket in
     let t : (f.pair ≡ x) = let s : Some f.pair ≡ Some x = sym f.here ∙ got in cc in (
       left,
       record {
-        lists = (p.slot, subst (λ y. IsThere (number_in hash c.contents) eq (lists_of c.contents) k p.slot y) t f.there, change.lists ∙ ap (λ j. slice_set c.contents.lists j (remove (slice_index_or c.contents.lists j []) p.slot)) e);
+        lists = ((spot_of c.contents p).slot, subst (λ y. IsThere (number_in hash c.contents) eq (lists_of c.contents) k (spot_of c.contents p).slot y) t f.there, change.lists ∙ ap (λ j. slice_set c.contents.lists j (remove (slice_index_or c.contents.lists j []) (spot_of c.contents p).slot)) e);
         settings = change.settings;
         refused = change.refused;
         maximum = change.maximum;
@@ -226,11 +236,11 @@ takes-found hash eq c d k p x f got (left, change, shrinks) =
     )
 
 -- what stands at the place of a key is its pair
-pub shows-pair : {K V S : Type 0} (hash : K → ℕ) (eq : K → K → Bool) (c : Contents (K × V) S) (k : K) (p : Place) (x : K × V) → IsFound hash eq c k p → slice_get (list_of c p.bucket) p.slot ≡ Some x → IsPresent hash eq c k x
+pub shows-pair : {K V S : Type 0} (hash : K → ℕ) (eq : K → K → Bool) (c : Contents (K × V) S) (k : K) (p : Place) (x : K × V) → IsFound hash eq c k p → slice_get (list_of c (spot_of c p).bucket) (spot_of c p).slot ≡ Some x → IsPresent hash eq c k x
 shows-pair hash eq c k p x f got =
     let t : f.pair ≡ x = let s : Some f.pair ≡ Some x = sym f.here ∙ got in cc in
-    (p.slot, subst (λ y. IsThere (number_in hash c) eq (lists_of c) k p.slot y) t f.there)
+    ((spot_of c p).slot, subst (λ y. IsThere (number_in hash c) eq (lists_of c) k (spot_of c p).slot y) t f.there)
 
 -- the key of what stands at the place of a key equals it
-pub found-equal : {K V S : Type 0} (hash : K → ℕ) (eq : K → K → Bool) (c : Contents (K × V) S) (k : K) (p : Place) (x : K × V) → IsFound hash eq c k p → slice_get (list_of c p.bucket) p.slot ≡ Some x → eq k x.0 ≡ true
+pub found-equal : {K V S : Type 0} (hash : K → ℕ) (eq : K → K → Bool) (c : Contents (K × V) S) (k : K) (p : Place) (x : K × V) → IsFound hash eq c k p → slice_get (list_of c (spot_of c p).bucket) (spot_of c p).slot ≡ Some x → eq k x.0 ≡ true
 found-equal hash eq c k p x f got = let s = shows-pair hash eq c k p x f got in position-passes (λ q. eq k q.0) _ s.0 x s.1.first s.1.pair

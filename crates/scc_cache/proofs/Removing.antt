@@ -5,6 +5,8 @@ use Rattle.scc_table.specs.Contents.{Settings, bucket_count, list_of, lists_of, 
 use Rattle.scc_table.specs.Pairs.{with_pair_value}
 use Rattle.scc_table.specs.ShelfWrites.{write_at}
 use Rattle.scc_table.specs.Writes.{with_write_at}
+use Rattle.scc_incremental.specs.Placed.{spot-with_write_at}
+use Rattle.scc_incremental.specs.Places.{spot_of}
 use Rattle.scc_table.specs.declared.place.Place.{Place}
 use Rattle.scc_table.proofs.KeyWrites.{get-write_at}
 use Rattle.scc_cache.specs.CacheSteps.{IsFound, TakesAt, TakesThen}
@@ -25,14 +27,17 @@ remove-written put (e ∷ es) zero w = refl
 remove-written put (e ∷ es) (suc i) w = ap (λ z. e ∷ z) (remove-written put es i w)
 
 module _ {K V S : Type 0} {hash : K → ℕ} {eq : K → K → Bool} (c : Cached (K × V) S) (k : K) (p : Place) (f : IsFound hash eq c.contents k p) where
-  pub found-pair : (x : K × V) → slice_get (list_of c.contents p.bucket) p.slot ≡ Some x → x ≡ f.pair
+  pub found-pair : (x : K × V) → slice_get (list_of c.contents (spot_of c.contents p).bucket) (spot_of c.contents p).slot ≡ Some x → x ≡ f.pair
   found-pair x got = let s : Some x ≡ Some f.pair = sym got ∙ f.here in cc
 
   -- the pair that goes has what was written
-  pub removed-pair : (w : V) (x : K × V) → slice_get (list_of (with_value_at c p w).contents p.bucket) p.slot ≡ Some x → x ≡ (f.pair.0, w)
+  pub removed-pair : (w : V) (x : K × V) → slice_get (list_of (with_value_at c p w).contents (spot_of (with_value_at c p w).contents p).bucket) (spot_of (with_value_at c p w).contents p).slot ≡ Some x → x ≡ (f.pair.0, w)
   removed-pair w x got =
-      let here = ap (λ l. slice_get l p.slot) (written-list with_pair_value c.contents p f.within w) ∙ get-write_at with_pair_value (list_of c.contents p.bucket) p.slot f.pair w f.here in
-      let s : Some x ≡ Some (f.pair.0, w) = sym got ∙ here in
+      let d = (with_value_at c p w).contents in
+      let r = spot_of c.contents p in
+      let here = ap (λ l. slice_get l r.slot) (written-list with_pair_value c.contents r f.within w) ∙ get-write_at with_pair_value (list_of c.contents r.bucket) r.slot f.pair w f.here in
+      let there : slice_get (list_of d r.bucket) r.slot ≡ Some x = subst (λ (q : Place). slice_get (list_of d q.bucket) q.slot ≡ Some x) (spot-with_write_at with_pair_value c.contents r w p) got in
+      let s : Some x ≡ Some (f.pair.0, w) = sym there ∙ here in
       cc
 
 -- a removal of a pair that was written is one of the pair
@@ -41,14 +46,18 @@ pub takes-written : {K V S : Type 0} (hash : Settings S → K → ℕ) (eq : K �
 unfolding bucket_count lists_of list_of settings_of refused_of with_write_at
 takes-written hash eq c k p f w d (left, change, shrinks) =
     let ls = c.contents.lists in
-    let list = slice_index_or ls p.bucket [] in (
+    let r = spot_of c.contents p in
+    let b = spot_of (with_value_at c p w).contents p in
+    let same : b ≡ r = spot-with_write_at with_pair_value c.contents r w p in
+    let list = slice_index_or ls r.bucket [] in (
       left,
       record {
         lists = (
-          p.slot,
+          r.slot,
           f.there,
-          change.lists ∙ ap (λ z. slice_set (slice_set ls p.bucket (write_at with_pair_value list p.slot w)) p.bucket (remove z p.slot)) (written-list with_pair_value c.contents p f.within w)
-              ∙ set-twice ls p.bucket _ _ ∙ ap (slice_set ls p.bucket) (remove-written with_pair_value list p.slot w) ∙ ap (λ j. slice_set ls j (remove (slice_index_or ls j []) p.slot)) f.bucket,
+          change.lists ∙ ap (λ (q : Place). slice_set (slice_set ls r.bucket (write_at with_pair_value list r.slot w)) q.bucket (remove (slice_index_or (slice_set ls r.bucket (write_at with_pair_value list r.slot w)) q.bucket []) q.slot)) same
+              ∙ ap (λ z. slice_set (slice_set ls r.bucket (write_at with_pair_value list r.slot w)) r.bucket (remove z r.slot)) (written-list with_pair_value c.contents r f.within w)
+              ∙ set-twice ls r.bucket _ _ ∙ ap (slice_set ls r.bucket) (remove-written with_pair_value list r.slot w) ∙ ap (λ j. slice_set ls j (remove (slice_index_or ls j []) r.slot)) f.bucket,
         );
         settings = change.settings;
         refused = change.refused;

@@ -5,7 +5,7 @@ use Rattle.std.proofs.lemmas.List.{append-nil}
 use Rattle.std.proofs.lemmas.List.Elements.{filter-append}
 use Rattle.std.proofs.lemmas.List.Sorted.{IsPermutation-refl}
 use Rattle.scc_table.specs.Bounded.{IsListed}
-use Rattle.scc_table.specs.Contents.{Contents, Settings, entries, bucket_count, list_of, refused_of, settings_of}
+use Rattle.scc_table.specs.Contents.{Contents, Settings, entries, bucket_count, list_of, refused_of, settings_of, waiting_of}
 use Rattle.scc_table.specs.Pour.{bound_for}
 use Rattle.scc_table.specs.Routing.{bucket_number}
 use Rattle.scc_table.specs.Steps.{HoldsExactly}
@@ -13,8 +13,8 @@ use Rattle.scc_cache.specs.CacheWalks.{GoesOver, LeavesPairs, ShrinksIfTaken}
 use Rattle.scc_cache.specs.CacheSteps.{ShrinksTo}
 use Rattle.scc_cache.specs.Caches.{Cached}
 use Rattle.scc_cache.specs.Lends.{with_value_at}
-use Rattle.scc_table.specs.Places.{IsPlace, index_of}
 use Rattle.scc_table.specs.Writes.{with_write_at}
+use Rattle.scc_incremental.specs.Places.{IsPlace, index_of, spot_of}
 use Rattle.scc_table.specs.declared.place.Place.{Place}
 use Rattle.scc_walks.proofs.Visits.{Visited, visited}
 
@@ -86,16 +86,20 @@ module _ {K V S : Type 0} (hash : K → ℕ) where
 
 -- what a call at a place left
 pub record Stepped {K V S : Type 0} (c : Cached (K × V) S) (p : Place) (q : K × V) (w : V) (d : Cached (K × V) S) : Type 0 where
-  pub now : Visited c.contents p q w d.contents
+  pub now : Visited c.contents (spot_of c.contents p) q w d.contents
   pub refused : refused_of d.contents ≡ refused_of c.contents
   pub maximum : d.maximum ≡ c.maximum
+  pub made : d.contents ≡ (with_value_at c p w).contents
+  pub waiting : waiting_of d.contents ≡ waiting_of c.contents
 
 pub visits : {K V S : Type 0} (c : Cached (K × V) S) (p : Place) (q : K × V) (w : V) (d : Cached (K × V) S) → IsPlace c.contents p → slice_get (entries c.contents) (index_of c.contents p) ≡ Some q → d ≡ with_value_at c p w → Stepped c p q w d
-unfolding refused_of with_write_at
+unfolding refused_of waiting_of with_write_at
 visits c p q w d within got new = record {
-  now = visited c.contents p q w d.contents within got (ap (λ x. x.contents) new);
+  now = visited c.contents (spot_of c.contents p) q w d.contents within got (ap (λ x. x.contents) new);
   refused = ap (λ x. x.contents.refused) new;
   maximum = ap (λ x. x.maximum) new;
+  made = ap (λ x. x.contents) new;
+  waiting = ap (λ x. x.contents.waiting) new;
 }
 
 -- lists are lawful by a hasher, and so by that of a cache with the same settings

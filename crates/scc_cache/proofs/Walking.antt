@@ -6,20 +6,10 @@ use Rattle.std.proofs.lemmas.List.Edits.{length-remove}
 use Rattle.std.proofs.lemmas.List.Sorted.{length_permutation}
 use Rattle.std.proofs.lemmas.List.{nil_from_length}
 use Rattle.scc_table.specs.Contents.{Contents, entries, bucket_count, lists_of}
-use Rattle.scc_table.specs.Places.{IsPlace, index_of}
-use Rattle.scc_table.specs.Standing.{StandsAt}
+use Rattle.scc_incremental.specs.Places.{IsPlace, index_of, spot_of}
 use Rattle.scc_table.specs.Steps.{HoldsExactly}
 use Rattle.scc_table.proofs.Standing.{index-below}
 use Rattle.scc_table.specs.declared.place.Place.{Place}
-
--- how many pairs stand before the place of a walk, all where it is over
-abbrev pub reached : {E S : Type 0} → Contents E S → Option Place → ℕ
-reached c None = length (entries c)
-reached c (Some p) = index_of c p
-
-pub reached-first : {E S : Type 0} (c : Contents E S) (o : Option Place) → MatchOption o (entries c ≡ []) (StandsAt c 0) → (reached c o ≡ 0) × IfSome o (IsPlace c)
-reached-first c None e = (ap length e, tt)
-reached-first c (Some p) s = (s.index, s.within)
 
 -- lists that hold nothing together are empty
 empty-lists : {X : Type 0} (ls ms : List (List X)) → flat_map (λ l. l) ms ≡ [] → length ms ≡ length ls → ms ≡ map (λ _. []) ls
@@ -39,12 +29,7 @@ empties c d none e = empty-lists c.lists d.lists none e
 
 module _ {E S : Type 0} (c d : Contents E S) (p : Place) (within : IsPlace c p) (out : HoldsExactly c (remove (entries c) (index_of c p)) d) where
   pub left-shorter : length (entries d) < length (entries c)
-  left-shorter = let b = index-below c p within in omega (arith, length-remove (entries c) (index_of c p) b, ap length out.exact)
-
-pub next-after : {E S : Type 0} (c d : Contents E S) (p : Place) (o : Option Place) → IsPlace c p → index_of d p ≡ index_of c p → HoldsExactly c (remove (entries c) (index_of c p)) d → MatchOption o (index_of d p ≡ length (entries d)) (StandsAt d (index_of d p))
-    → MatchOption o (suc (index_of c p) ≡ length (entries c)) (StandsAt d (index_of c p))
-next-after c d p None within same out e = let b = index-below c p within in omega (arith, length-remove (entries c) (index_of c p) b, ap length out.exact)
-next-after c d p (Some q) within same out h = record { within = h.within; index = h.index ∙ same }
+  left-shorter = let b = index-below c (spot_of c p) within in omega (arith, length-remove (entries c) (index_of c p) b, ap length out.exact)
 
 pub none-permuted : {X : Type 0} (xs ys : List X) → IsPermutation xs ys → xs ≡ [] → ys ≡ []
 none-permuted xs ys h e = nil_from_length ys (let n = length_permutation xs ys h in let m : length xs ≡ 0 = ap length e in omega arith)

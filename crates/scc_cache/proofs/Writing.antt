@@ -10,6 +10,8 @@ use Rattle.scc_table.specs.Places.{IsPlace, index_of}
 use Rattle.scc_table.specs.ShelfWrites.{write_at, length-write_at}
 use Rattle.scc_table.specs.Writes.{with_write_at}
 use Rattle.scc_table.specs.declared.place.Place.{Place}
+use Rattle.scc_incremental.specs.Places as places
+use Rattle.scc_incremental.specs.Places.{spot_of}
 use Rattle.scc_table.proofs.Spots.{place-get}
 use Rattle.scc_cache.specs.Caches.{Cached, IsCacheState}
 use Rattle.scc_cache.specs.Lends.{with_value_at, with_key_at}
@@ -103,42 +105,42 @@ module _ {E S X : Type 0} (put : E → X → E) (c : Contents E S) (p : Place) (
         (λ ne. rw (written-settings, written-count) (h.routed i j e (ap (λ l. slice_get l j) (sym (other-list i ne)) ∙ got)));
   }
 
-module _ {K V S : Type 0} (eq : K → K → Bool) (hash : K → ℕ) (c : Cached (K × V) S) (p : Place) (within : IsPlace c.contents p) (h : IsCacheState eq hash c) where
-  value-unique : (v : V) → IsUnique eq (with_write_at with_pair_value c.contents p v)
+module _ {K V S : Type 0} (eq : K → K → Bool) (hash : K → ℕ) (c : Cached (K × V) S) (p : Place) (within : places.IsPlace c.contents p) (h : IsCacheState eq hash c) where
+  value-unique : (v : V) → IsUnique eq (with_write_at with_pair_value c.contents (spot_of c.contents p) v)
   unfolding entries with_write_at list_of
-  value-unique v = subst (λ ks. IsDistinct eq ks) (sym (keys-lists with_pair_value (λ (q : K × V). q.0) (λ e w. refl) c.contents.lists p.bucket p.slot v)) h.unique
+  value-unique v = subst (λ ks. IsDistinct eq ks) (sym (keys-lists with_pair_value (λ (q : K × V). q.0) (λ e w. refl) c.contents.lists (spot_of c.contents p).bucket (spot_of c.contents p).slot v)) h.unique
 
   -- a cache with a value written is one
   pub value-state : (v : V) → IsCacheState eq hash (with_value_at c p v)
   value-state v = record {
-    lists = listed-written with_pair_value c.contents p within v (λ q. hash q.0) (λ e got. refl) h.lists;
+    lists = listed-written with_pair_value c.contents (spot_of c.contents p) within v (λ q. hash q.0) (λ e got. refl) h.lists;
     unique = value-unique v;
-    within = rw (written-count with_pair_value c.contents p within v) h.within;
+    within = rw (written-count with_pair_value c.contents (spot_of c.contents p) within v) h.within;
     power = h.power;
     least = h.least;
     most = h.most;
-    minimum = rw (written-settings with_pair_value c.contents p within v) h.minimum;
+    minimum = rw (written-settings with_pair_value c.contents (spot_of c.contents p) within v) h.minimum;
   }
 
   -- so is one with a key in the place of its equal
-  pub key-state : (k : K) → ((q : K × V) → slice_get (list_of c.contents p.bucket) p.slot ≡ Some q → hash k ≡ hash q.0) → IsUnique eq (with_write_at with_pair_key c.contents p k) → IsCacheState eq hash (with_key_at c p k)
+  pub key-state : (k : K) → ((q : K × V) → slice_get (list_of c.contents (spot_of c.contents p).bucket) (spot_of c.contents p).slot ≡ Some q → hash k ≡ hash q.0) → IsUnique eq (with_write_at with_pair_key c.contents (spot_of c.contents p) k) → IsCacheState eq hash (with_key_at c p k)
   key-state k same unique = record {
-    lists = listed-written with_pair_key c.contents p within k (λ q. hash q.0) same h.lists;
+    lists = listed-written with_pair_key c.contents (spot_of c.contents p) within k (λ q. hash q.0) same h.lists;
     unique = unique;
-    within = rw (written-count with_pair_key c.contents p within k) h.within;
+    within = rw (written-count with_pair_key c.contents (spot_of c.contents p) within k) h.within;
     power = h.power;
     least = h.least;
     most = h.most;
-    minimum = rw (written-settings with_pair_key c.contents p within k) h.minimum;
+    minimum = rw (written-settings with_pair_key c.contents (spot_of c.contents p) within k) h.minimum;
   }
 
 -- the same, where the hash is that of the cache's own hasher
-module _ {K V S : Type 0} (eq : K → K → Bool) (hash : Settings S → K → ℕ) (c : Cached (K × V) S) (p : Place) (within : IsPlace c.contents p) (h : IsCacheState eq (hash (settings_of c.contents)) c) where
+module _ {K V S : Type 0} (eq : K → K → Bool) (hash : Settings S → K → ℕ) (c : Cached (K × V) S) (p : Place) (within : places.IsPlace c.contents p) (h : IsCacheState eq (hash (settings_of c.contents)) c) where
   pub value-state-by : (v : V) → IsCacheState eq (hash (settings_of (with_value_at c p v).contents)) (with_value_at c p v)
-  value-state-by v = rw (written-settings with_pair_value c.contents p within v) (value-state eq (hash (settings_of c.contents)) c p within h v)
+  value-state-by v = rw (written-settings with_pair_value c.contents (spot_of c.contents p) within v) (value-state eq (hash (settings_of c.contents)) c p within h v)
 
-  pub key-state-by : (k : K) (d : Contents (K × V) S) → d ≡ with_write_at with_pair_key c.contents p k → ((q : K × V) → slice_get (list_of c.contents p.bucket) p.slot ≡ Some q → hash (settings_of c.contents) k ≡ hash (settings_of c.contents) q.0) → IsUnique eq d
+  pub key-state-by : (k : K) (d : Contents (K × V) S) → d ≡ with_write_at with_pair_key c.contents (spot_of c.contents p) k → ((q : K × V) → slice_get (list_of c.contents (spot_of c.contents p).bucket) (spot_of c.contents p).slot ≡ Some q → hash (settings_of c.contents) k ≡ hash (settings_of c.contents) q.0) → IsUnique eq d
       → IsCacheState eq (hash (settings_of d)) (record { contents = d; maximum = c.maximum })
   key-state-by k d e same unique =
       let u = subst (λ z. IsUnique eq z) e unique in
-      subst (λ z. IsCacheState eq (hash (settings_of z)) (record { contents = z; maximum = c.maximum })) (sym e) (rw (written-settings with_pair_key c.contents p within k) (key-state eq (hash (settings_of c.contents)) c p within h k same u))
+      subst (λ z. IsCacheState eq (hash (settings_of z)) (record { contents = z; maximum = c.maximum })) (sym e) (rw (written-settings with_pair_key c.contents (spot_of c.contents p) within k) (key-state eq (hash (settings_of c.contents)) c p within h k same u))

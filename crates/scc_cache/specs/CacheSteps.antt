@@ -3,11 +3,12 @@ use Rattle.std.specs.Prelude.{◌≡◌, ℕ, Bool, List, [], Option, None, Some
 use Rattle.std.specs.List.{position, slice_index_or, slice_set}
 use Rattle.std.specs.Borrow.{Bor}
 use Rattle.std.specs.Fn.{Once}
-use Rattle.scc_table.specs.Bounded.{GrowsBelow, IsListed, ShrinksBounded}
+use Rattle.scc_table.specs.Bounded.{IsListed, ShrinksBounded}
 use Rattle.scc_table.specs.Contents.{Contents, entries, bucket_count, list_of, lists_of, refused_of, settings_of}
-use Rattle.scc_table.specs.Places.{IsPlace}
 use Rattle.scc_table.specs.Routing.{bucket_number}
 use Rattle.scc_table.specs.declared.place.Place.{Place}
+use Rattle.scc_incremental.specs.Bounded.{GrowsBelow}
+use Rattle.scc_incremental.specs.Places.{IsPlace, spot_of}
 use Rattle.scc_common.specs.declared.errors.InsertError.{InsertError}
 use Rattle.scc_common.specs.declared.errors.InsertError.TheVariants.{Exists, Memory}
 use Rattle.scc_cache.specs.Caches.{Cached}
@@ -35,7 +36,7 @@ module _ {E S : Type 0} where
 
   -- what stood at the place was taken out, the others of its list stay in their order; then the array may become smaller
   abbrev pub TakesAtBy : (E → ℕ) → Cached E S → Place → Cached E S → Type 0
-  TakesAtBy hash c p d = (left : Cached E S) × Changes (λ ls ms. ms ≡ slice_set ls p.bucket (remove (slice_index_or ls p.bucket []) p.slot)) c left × ShrinksTo hash left d
+  TakesAtBy hash c p d = (left : Cached E S) × Changes (λ ls ms. ms ≡ slice_set ls (spot_of c.contents p).bucket (remove (slice_index_or ls (spot_of c.contents p).bucket []) (spot_of c.contents p).slot)) c left × ShrinksTo hash left d
 
   -- all pairs were taken out; then the array may become smaller
   abbrev pub ClearsBy : (E → ℕ) → Cached E S → Cached E S → Type 0
@@ -73,10 +74,10 @@ module _ {K V S : Type 0} (hash : K → ℕ) where
     -- the pair of k stands at the place
     pub record IsFound (c : Contents (K × V) S) (k : K) (p : Place) : Type 0 where
       pub within : IsPlace c p
-      pub bucket : p.bucket ≡ number_in c (bucket_count c) k
+      pub bucket : (spot_of c p).bucket ≡ number_in c (bucket_count c) k
       pub pair : K × V
-      pub there : IsPresentAt c k p.slot pair
-      pub here : slice_get (list_of c p.bucket) p.slot ≡ Some pair
+      pub there : IsPresentAt c k (spot_of c p).slot pair
+      pub here : slice_get (list_of c (spot_of c p).bucket) (spot_of c p).slot ≡ Some pair
 
     -- the new pair p was put in after a growth, where that is due; x is what it drove out
     abbrev pub PutsNew : Cached (K × V) S → K × V → Option (K × V) → Cached (K × V) S → Type 0

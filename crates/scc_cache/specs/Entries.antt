@@ -11,17 +11,17 @@ use Rattle.std.specs.declared.hash.Hash as hash
 use Rattle.std.specs.declared.hash.Hasher as hasher
 use Rattle.std.specs.declared.hash.BuildHasher as builder
 use Rattle.std.proofs.Common.{sym, subst}
-use Rattle.scc_table.specs.Contents.{bucket_count, key_hash}
+use Rattle.scc_table.specs.Contents.{bucket_count, key_hash, waiting_of}
 use Rattle.scc_table.specs.Pairs.{with_pair_value}
-use Rattle.scc_table.specs.Placed.{entry_of}
-use Rattle.scc_table.specs.Places.{IsPlace}
-use Rattle.scc_table.specs.Writes.{IsPlace-with_write_at}
+use Rattle.scc_incremental.specs.Placed.{entry_of, IsPlace-with_write_at}
+use Rattle.scc_incremental.specs.Places.{IsPlace, spot_of}
 use Rattle.scc_common.specs.declared.errors.InsertError.{InsertError}
 use Rattle.scc_common.specs.declared.guard.Guard as guard
 use Rattle.scc_cache.specs.CacheSteps.{Changes, IsAbsent, IsPresentAt, PutsNew, number_in}
 use Rattle.scc_cache.specs.Caches.{Cached}
 use Rattle.scc_cache.specs.Lends.{cache_row, with_value_at}
 use Rattle.scc_cache.specs.ListSteps.{Refreshes, Rewrites}
+use Rattle.scc_cache.specs.Relocations.{RelocatesOne, RelocatesTwo}
 use Rattle.scc_cache.specs.contracts.hash_cache.held.HeldEntry.{the_row}
 use Rattle.scc_cache.specs.declared.hash_cache.held.HeldEntry.{HeldEntry}
 use Rattle.scc_cache.specs.declared.hash_cache.held.HeldPlace.{HeldPlace}
@@ -46,8 +46,8 @@ module _ {G N K V S T : Type 0} {d : guard.Ghosts G (Cached (K × V) S)} {g : eq
   -- the cache stays, and o stands at the pair of k
   pub record IsOccupiedAt (same : K → K → Bool) (c : Cached (K × V) S) (k : K) (o : HeldEntry G N K V S T d g h b w) : Type 0 where
     pub contents : d.kept o.guard ≡ c
-    pub bucket : o.place.bucket ≡ number_in (key_hash b w h.hash_input c.contents) c.contents (bucket_count c.contents) k
-    pub there : IsPresentAt (key_hash b w h.hash_input c.contents) same c.contents k o.place.slot (occupied_pair o)
+    pub bucket : (spot_of (d.kept o.guard).contents o.place).bucket ≡ number_in (key_hash b w h.hash_input c.contents) c.contents (bucket_count c.contents) k
+    pub there : IsPresentAt (key_hash b w h.hash_input c.contents) same c.contents k (spot_of (d.kept o.guard).contents o.place).slot (occupied_pair o)
 
   -- the cache stays, and e has the key k, which the cache lacks
   pub record IsVacantAt (same : K → K → Bool) (c : Cached (K × V) S) (k : K) (e : HeldVacant G N K V S T d g h b w) : Type 0 where
@@ -62,13 +62,15 @@ module _ {G N K V S T : Type 0} {d : guard.Ghosts G (Cached (K × V) S)} {g : eq
   -- the pair of k went to the end of its list, and o stands there
   pub record IsRefreshed (same : K → K → Bool) (c : Cached (K × V) S) (k : K) (o : HeldEntry G N K V S T d g h b w) : Type 0 where
     pub changes : Changes (Refreshes (number_in (key_hash b w h.hash_input c.contents) c.contents) same k (occupied_pair o)) c (d.kept o.guard)
+    pub relocates : RelocatesOne (key_hash b w h.hash_input c.contents k) c.contents (d.kept o.guard).contents
 
   -- p is the entry o, once v is its value: its pair stays where it stood, and so do all others
   pub record IsWritten (o : HeldEntry G N K V S T d g h b w) (v : V) (p : HeldEntry G N K V S T d g h b w) : Type 0 where
     pub same_guard : p.guard ≡ d.keeping o.guard (d.kept p.guard)
     pub rest : p.rest ≡ o.rest
     pub place : p.place ≡ o.place
-    pub changes : Changes (λ ls ms. ms ≡ slice_set ls o.place.bucket (slice_set (slice_index_or ls o.place.bucket []) o.place.slot ((occupied_pair o).0, v))) (d.kept o.guard) (d.kept p.guard)
+    pub changes : Changes (λ ls ms. ms ≡ slice_set ls (spot_of (d.kept o.guard).contents o.place).bucket (slice_set (slice_index_or ls (spot_of (d.kept o.guard).contents o.place).bucket []) (spot_of (d.kept o.guard).contents o.place).slot ((occupied_pair o).0, v))) (d.kept o.guard) (d.kept p.guard)
+    pub waiting : waiting_of (d.kept p.guard).contents ≡ waiting_of (d.kept o.guard).contents
     pub pair : occupied_pair p ≡ ((occupied_pair o).0, v)
 
   -- o stands at the pair that was put in through e, and x is what it drove out
@@ -76,6 +78,7 @@ module _ {G N K V S T : Type 0} {d : guard.Ghosts G (Cached (K × V) S)} {g : eq
     pub same_guard : o.guard ≡ d.keeping e.guard (d.kept o.guard)
     pub rest : o.rest ≡ e.rest
     pub step : PutsNew (key_hash b w h.hash_input (d.kept e.guard).contents) same (d.kept e.guard) (e.key, v) x (d.kept o.guard)
+    pub relocates : RelocatesTwo (key_hash b w h.hash_input (d.kept e.guard).contents e.key) (d.kept e.guard).contents (d.kept o.guard).contents
     pub pair : occupied_pair o ≡ (e.key, v)
 
   abbrev pub written_cache : HeldEntry G N K V S T d g h b w → V → Cached (K × V) S

@@ -4,8 +4,8 @@ use Rattle.std.specs.HashMap.Lent.{HashMembers}
 use Rattle.std.specs.declared.hash.Hasher as hasher
 use Rattle.std.specs.declared.hash.BuildHasher as builder
 use Rattle.scc_table.specs.Pairs.{with_pair_key, with_pair_value}
-use Rattle.scc_table.specs.Writes.{with_write_at}
 use Rattle.scc_table.specs.declared.place.Place.{Place}
+use Rattle.scc_incremental.specs.Places.{with_write_at}
 use Rattle.scc_cache.specs.Caches.{Cached}
 use Rattle.scc_cache.specs.contracts.hash_cache.owned.Owned.{the_row}
 

@@ -12,3 +12,4 @@ pub mod Collections
 pub mod Entries
 pub mod Lends
 pub mod ListSteps
+pub mod Relocations

@@ -5,3 +5,5 @@
 mod cache_cases;
 #[cfg(test)]
 mod random_cache_calls;
+#[cfg(test)]
+mod waiting_calls;

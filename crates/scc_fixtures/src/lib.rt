@@ -2,8 +2,10 @@
 #![tactic(auto)]
 
 pub mod alike;
+pub mod kept;
 pub mod maybe_equal;
 pub mod numbers;
 pub mod random_cache_calls;
 pub mod random_calls;
+pub mod waiting_calls;
 pub mod zero;

@@ -4,12 +4,12 @@ use Rattle.std.specs.List.{flat_map, IsDistinct}
 use Rattle.std.proofs.lemmas.List.Sums.{sum_by-cons}
 use Rattle.scc_array.specs.Shelves.{shelf_of}
 use Rattle.scc_bucket.specs.Shelf.{Shelf, shelf_entries}
+use Rattle.scc_table.proofs.Bare.{nil-left}
 use Rattle.scc_table.specs.Contents.{Contents, entries, bucket_count, lists_of, settings_of, spilled_of, held_of}
 use Rattle.scc_table.specs.Pour.{bound_for}
 use Rattle.scc_table.specs.Routing.{bucket_number}
 use Rattle.scc_table.specs.Tables.{spilled_in}
 use Rattle.scc_incremental.specs.TwoArrays.{held_in, target_by, together, TwoArrays, IsIncremental}
-use Rattle.scc_incremental.proofs.Arriving.{nil-left}
 
 equal : (a b : ℕ) → a ≡ b → (a == b) ≡ true
 equal a b h = search rules
@@ -21,12 +21,6 @@ bound-nowhere hash t n (e ∷ es) h =
     let i : ℕ = bucket_number t n (hash e) in
     let here : (bucket_number t n (hash e) == i) ≡ true = equal _ _ refl in
     absurd (let z = rw here at (h i) in cc)
-
--- buckets without entries
-pub all-bare : {E : Type 0} (olds : List (Shelf E)) → flat_map shelf_entries olds ≡ [] → (i : ℕ) → shelf_entries (shelf_of olds i) ≡ []
-all-bare [] h i = refl
-all-bare (b ∷ olds) h zero = (nil-left (shelf_entries b) (flat_map shelf_entries olds) h).0
-all-bare (b ∷ olds) h (suc i) = all-bare olds (nil-left (shelf_entries b) (flat_map shelf_entries olds) h).1 i
 
 module _ {E S : Type 0} (hash : E → ℕ) (c : Contents E S) (ws : List Bool) (olds : List (Shelf E)) (none : ws ≡ []) where
   -- nothing lies in the old array

@@ -5,6 +5,7 @@ use Rattle.std.specs.List.{flat_map, IsDistinct}
 use Rattle.std.proofs.lemmas.List.{map-set, length-map, get_or-map, set-get_or}
 use Rattle.std.proofs.lemmas.List.Elements.{filter_passes, All-get_or}
 use Rattle.scc_bucket.specs.Shelf.{Shelf, shelf_entries, empty_shelf}
+use Rattle.scc_table.proofs.Bare.{nil-left}
 use Rattle.scc_table.specs.Contents.{Contents, Settings, entries, bucket_count, list_of, lists_of, settings_of, refused_of, spilled_of, waiting_of, held_of, IsUniqueBy}
 use Rattle.scc_table.specs.Pour.{bound_for, Extends}
 use Rattle.scc_table.specs.Routing.{bucket_number, tag_of}
@@ -12,10 +13,6 @@ use Rattle.scc_table.specs.Tables.{IsOwn, IsTable}
 use Rattle.scc_table.proofs.Inserts.{table_set}
 use Rattle.scc_table.proofs.Views.{flat_lists}
 use Rattle.scc_incremental.specs.Moves.{Drains}
-
-pub nil-left : {X : Type 0} (xs ys : List X) → xs ++ ys ≡ [] → (xs ≡ []) × (ys ≡ [])
-nil-left [] ys h = (refl, h)
-nil-left (x ∷ xs) ys h = absurd (let z : x ∷ (xs ++ ys) ≡ [] = h in cc)
 
 pub by_result : {X Y : Type 0} {P Q : Type 0} (r : Result X Y) → OnOk r P → OnErr r Q → P ⊎ Q
 by_result (Ok x) p q = inl p

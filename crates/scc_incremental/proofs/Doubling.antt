@@ -10,7 +10,7 @@ use Rattle.scc_incremental.proofs.Listed.{listed-is}
 use Rattle.scc_incremental.proofs.Numbers.{number-div}
 
 -- those that pass both are those that pass the narrower
-filter-both : {E : Type 0} (p q : E → Bool) → ((e : E) → p e ≡ true → q e ≡ true) → (es : List E) → filter p (filter q es) ≡ filter p es
+pub filter-both : {E : Type 0} (p q : E → Bool) → ((e : E) → p e ≡ true → q e ≡ true) → (es : List E) → filter p (filter q es) ≡ filter p es
 filter-both p q h [] = refl
 filter-both p q h (e ∷ es) =
     let rest = filter-both p q h es in

@@ -1,9 +1,12 @@
 -- Buckets that take their entries over one after the other.
 use Rattle.std.proofs.Common.{◌≡◌, ◌==◌, ℕ, zero, suc, ◌+◌, Bool, true, false, List, [], ◌∷◌, set, refl, sym, ap, ◌∙◌, arith, rules}
 use Rattle.std.specs.List.{count_by}
+use Rattle.scc_table.specs.Bounded.{IsBounded}
 use Rattle.scc_table.specs.Contents.{Contents, lists_of, settings_of, refused_of, waiting_of, pending_of}
 use Rattle.scc_table.proofs.PairSplits.{by_answer}
+use Rattle.scc_incremental.specs.Relocates.{AreShort}
 use Rattle.scc_incremental.specs.TwoArrays.{IsRelocated, IsWaiting, waits_at, settle}
+use Rattle.scc_incremental.proofs.Short.{short-later}
 
 set-down : (ws : List Bool) (i k : ℕ) → waits_at (set ws i false) k ≡ true → waits_at ws k ≡ true
 set-down [] i k h = h
@@ -40,16 +43,18 @@ module _ {E S : Type 0} where
     pub fewer : (k : ℕ) → IsWaiting d k → IsWaiting c k
     pub left : pending_of d + n ≡ pending_of c
     pub none : pending_of d ≡ 0 → waiting_of d ≡ []
+    pub bounded : IsBounded c → AreShort c → IsBounded d
 
   pub finish-start : (c : Contents E S) → (pending_of c ≡ 0 → waiting_of c ≡ []) → Finishes c c 0
-  finish-start c none = record { lists = refl; settings = refl; refused = refl; fewer = λ k h. h; left = omega arith; none = none }
+  finish-start c none = record { lists = refl; settings = refl; refused = refl; fewer = λ k h. h; left = omega arith; none = none; bounded = λ b s. b }
 
-  pub finish-step : (c d e : Contents E S) (n i : ℕ) → Finishes c d n → IsRelocated i d e → Finishes c e (n + 1)
-  finish-step c d e n i f r = record {
+  pub finish-step : (c d e : Contents E S) (n i : ℕ) → Finishes c d n → IsRelocated i d e → (IsBounded d → AreShort d → IsBounded e) → Finishes c e (n + 1)
+  finish-step c d e n i f r bounded = record {
     lists = r.lists ∙ f.lists;
     settings = r.settings ∙ f.settings;
     refused = r.refused ∙ f.refused;
     fewer = λ k h. f.fewer k (settle-down (waiting_of d) i k (ap (λ ws. waits_at ws k) (sym r.waiting) ∙ h));
     left = omega (arith, f.left, r.pending);
     none = λ z. r.waiting ∙ settle-none (waiting_of d) i (ap (count_by (λ w. w)) (sym r.waiting) ∙ sym (pending-is e) ∙ z);
+    bounded = λ b s. bounded (f.bounded b s) (short-later c d f.lists f.fewer s);
   }

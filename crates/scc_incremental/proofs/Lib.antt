@@ -37,6 +37,7 @@ pub mod Searching
 pub mod Seen
 pub mod Settled
 pub mod Settling
+pub mod Short
 pub mod Spreading
 pub mod Starting
 pub mod Stepped

@@ -9,11 +9,11 @@ use Rattle.scc_table.specs.Routing.{bucket_number}
 use Rattle.scc_incremental.proofs.Relocating.{not_equal}
 
 module _ {E : Type 0} (f : E → ℕ) (i : ℕ) where
-  filter-all : (xs : List E) → ((m : ℕ) (e : E) → slice_get xs m ≡ Some e → f e ≡ i) → filter (λ e. f e == i) xs ≡ xs
+  pub filter-all : (xs : List E) → ((m : ℕ) (e : E) → slice_get xs m ≡ Some e → f e ≡ i) → filter (λ e. f e == i) xs ≡ xs
   filter-all [] h = refl
   filter-all (x ∷ xs) h = let t : (f x == i) ≡ true = eq-eqb (f x) i (h 0 x refl) in rw t (ap (λ z. x ∷ z) (filter-all xs (λ m. h (suc m))))
 
-  filter-no : (k : ℕ) → k ≢ i → (xs : List E) → ((m : ℕ) (e : E) → slice_get xs m ≡ Some e → f e ≡ k) → filter (λ e. f e == i) xs ≡ []
+  pub filter-no : (k : ℕ) → k ≢ i → (xs : List E) → ((m : ℕ) (e : E) → slice_get xs m ≡ Some e → f e ≡ k) → filter (λ e. f e == i) xs ≡ []
   filter-no k ne [] h = refl
   filter-no k ne (x ∷ xs) h = let t : (f x == i) ≡ false = not_equal (f x) i (λ z. ne (sym (h 0 x refl) ∙ z)) in rw t (filter-no k ne xs (λ m. h (suc m)))
 

@@ -137,6 +137,32 @@ listed-after hash c d i es l t listed short routed =
           ];
     }
 
+-- what stands in a list without one of its entries stood in the list
+get-removed : {X : Type 0} (xs : List X) (s j : ℕ) (e : X) → slice_get (remove xs s) j ≡ Some e → (k : ℕ) × (slice_get xs k ≡ Some e)
+get-removed [] zero j e got = (j, got)
+get-removed [] (suc s) j e got = (j, got)
+get-removed (x ∷ xs) zero j e got = (suc j, got)
+get-removed (x ∷ xs) (suc s) zero e got = (zero, got)
+get-removed (x ∷ xs) (suc s) (suc j) e got = let r = get-removed xs s j e got in (suc r.0, r.1)
+
+removed-less : {X : Type 0} (xs : List X) (s : ℕ) → length (remove xs s) ≤ length xs
+removed-less [] zero = omega arith
+removed-less [] (suc s) = omega arith
+removed-less (x ∷ xs) zero = omega arith
+removed-less (x ∷ xs) (suc s) = let r = removed-less xs s in omega arith
+
+-- what was listed stays so without one entry
+pub listed-removed : {E S : Type 0} (hash : E → ℕ) (c d : Contents E S) (i s : ℕ) → i < bucket_count c → HasList c i (remove (list_of c i) s) d → IsListed hash c → IsListed hash d
+listed-removed hash c d i s l t listed =
+    let es = remove (list_of c i) s in
+    let count = count-same c d i es t.lists in
+    let less = removed-less (list_of c i) s in
+    let short = listed.short i in
+    listed-after hash c d i es l t listed (omega arith)
+    (λ j e got.
+    let r = get-removed (list_of c i) s j e got in
+    ap (λ z. bucket_number z.skipped (bucket_count d) (hash e)) t.settings ∙ ap (λ m. bucket_number (settings_of c).skipped m (hash e)) count ∙ listed.routed i r.0 e r.1)
+
 module _ {X : Type 0} (p : X → Bool) where
   absent-first : (x : X) (xs : List X) → position p (x ∷ xs) ≡ None → (p x ≡ false) × (position p xs ≡ None)
   absent-first x xs n =

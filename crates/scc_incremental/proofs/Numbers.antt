@@ -26,7 +26,7 @@ pub multiples-flip : (m n : ℕ) → AreMultiples m n → AreMultiples n m
 multiples-flip m n (grown r pos e) = shrunk r pos e
 multiples-flip m n (shrunk r pos e) = grown r pos e
 
-some-quotient : (q m n : ℕ) → q * m ≡ n → 0 < n → 0 < q
+pub some-quotient : (q m n : ℕ) → q * m ≡ n → 0 < n → 0 < q
 some-quotient zero m n e some = absurd (let z : zero * m ≡ 0 = omega arith in omega arith)
 some-quotient (suc k) m n e some = omega arith
 

@@ -26,7 +26,7 @@ pub list-is : {E S : Type 0} (c : Contents E S) (i : ℕ) → list_of c i ≡ ge
 unfolding list_of lists_of
 list-is c i = refl
 
-spilled-le : {E : Type 0} (olds news : List (Shelf E)) → length news ≡ length olds → ((j : ℕ) → length (shelf_of news j).overflow ≤ length (shelf_of olds j).overflow) → spilled_in news ≤ spilled_in olds
+pub spilled-le : {E : Type 0} (olds news : List (Shelf E)) → length news ≡ length olds → ((j : ℕ) → length (shelf_of news j).overflow ≤ length (shelf_of olds j).overflow) → spilled_in news ≤ spilled_in olds
 spilled-le [] [] l h = omega arith
 spilled-le [] (b ∷ news) l h = absurd (omega arith)
 spilled-le (a ∷ olds) [] l h = absurd (omega arith)

@@ -1,11 +1,13 @@
 -- Some of the first buckets that wait take their entries over.
 use Rattle.std.proofs.Common.{◌≡◌, ℕ, zero, suc, ◌+◌, ◌<◌, ◌≤◌, List, [], ◌∷◌, length, drop, refl, sym, ap, ◌∙◌, arith}
 use Rattle.std.proofs.lemmas.List.{drop_all, nil_from_length}
+use Rattle.scc_table.specs.Bounded.{IsBounded}
 use Rattle.scc_table.specs.Contents.{Contents, list_of, lists_of, settings_of, refused_of, waiting_of, pending_of}
 use Rattle.scc_incremental.specs.Relocates.{AreShort}
 use Rattle.scc_incremental.specs.TwoArrays.{IsFirstWaiting, IsRelocated, IsWaiting, pending_targets, waits_at}
 use Rattle.scc_incremental.proofs.Finishing.{settle-down}
 use Rattle.scc_incremental.proofs.Same.{list-same}
+use Rattle.scc_incremental.proofs.Short.{short-later}
 use Rattle.scc_incremental.proofs.Targets.{targets-first, targets-length}
 
 drop-next : {X : Type 0} (n : ℕ) (xs : List X) → drop (n + 1) xs ≡ drop 1 (drop n xs)
@@ -23,12 +25,13 @@ module _ {E S : Type 0} where
     pub less : pending_of d ≤ pending_of c
     pub most : pending_of c ≤ pending_of d + n
     pub exact : AreShort c → pending_targets d ≡ drop n (pending_targets c)
+    pub bounded : IsBounded c → AreShort c → IsBounded d
 
   pub settles-start : (c : Contents E S) → SettlesFirst c c 0
-  settles-start c = record { lists = refl; settings = refl; refused = refl; fewer = λ k h. h; less = omega arith; most = omega arith; exact = λ s. refl }
+  settles-start c = record { lists = refl; settings = refl; refused = refl; fewer = λ k h. h; less = omega arith; most = omega arith; exact = λ s. refl; bounded = λ b s. b }
 
-  pub settles-one : (c d e : Contents E S) (n i : ℕ) → SettlesFirst c d n → IsFirstWaiting d i → IsRelocated i d e → SettlesFirst c e (n + 1)
-  settles-one c d e n i f first r = record {
+  pub settles-one : (c d e : Contents E S) (n i : ℕ) → SettlesFirst c d n → IsFirstWaiting d i → IsRelocated i d e → (IsBounded d → AreShort d → IsBounded e) → SettlesFirst c e (n + 1)
+  settles-one c d e n i f first r bounded = record {
     lists = r.lists ∙ f.lists;
     settings = r.settings ∙ f.settings;
     refused = r.refused ∙ f.refused;
@@ -36,6 +39,7 @@ module _ {E S : Type 0} where
     less = omega (arith, f.less, r.pending);
     most = omega (arith, f.most, r.pending);
     exact = λ s. targets-first i d e first r ∙ ap (drop 1) (f.exact s) ∙ sym (drop-next n (pending_targets c));
+    bounded = λ b s. bounded (f.bounded b s) (short-later c d f.lists f.fewer s);
   }
 
   pub settles-none : (c d : Contents E S) (n i : ℕ) → SettlesFirst c d n → IsFirstWaiting d i → 32 < length (list_of d i) → SettlesFirst c d (n + 1)
@@ -47,6 +51,7 @@ module _ {E S : Type 0} where
     less = f.less;
     most = omega (arith, f.most);
     exact = λ s. absurd (let z = s.short i (f.fewer i first.waits) in let same = ap length (list-same c d f.lists i) in omega arith);
+    bounded = f.bounded;
   }
 
   -- none is left

@@ -1,10 +1,31 @@
--- Where an entry of two arrays stands in its list: the table's word, at the spot of the place.
-use Rattle.std.specs.Prelude.{ℕ, Bool}
+-- Tables of two arrays whose lists hold at most 32 entries each. Where an entry of one stands in its list: the table's word, at the spot of the place.
+use Rattle.std.specs.Prelude.{◌≡◌, ℕ, ◌*◌, ◌<◌, ◌≤◌, Bool, false, true, length}
 use Rattle.scc_table.specs.Bounded as bounded
-use Rattle.scc_table.specs.Contents.{Contents}
+use Rattle.scc_table.specs.Bounded.{IsResized, KeepsLists}
+use Rattle.scc_table.specs.Contents.{Contents, entries, bucket_count, list_of, minimum_of, pending_of, refused_of}
+use Rattle.scc_table.specs.Sizes.{IsArraySize}
 use Rattle.scc_table.specs.declared.place.Place.{Place}
 use Rattle.scc_incremental.specs.Places.{spot_of}
 
 -- the first entry of list i that passes stands there
 abbrev pub IsListedAt : {E S : Type 0} → (E → Bool) → Contents E S → ℕ → Place → Type 0
 IsListedAt passes c i p = bounded.IsListedAt passes c i (spot_of c p)
+
+module _ {E S : Type 0} where
+  -- no bucket waits, at least half as many entries as slots are held, and the slots are below `most`
+  pub record IsDoublingDue (most : ℕ) (c : Contents E S) : Type 0 where
+    pub settled : pending_of c ≡ 0
+    pub half : 32 * bucket_count c ≤ 2 * length (entries c)
+    pub below : 32 * bucket_count c < most
+
+  -- the buckets are doubled where that is due; where memory for it is refused, that is noted and nothing else changes
+  pub data DoublesBelow (hash : E → ℕ) (most : ℕ) (c d : Contents E S) : Type 0 where
+    stays : (IsDoublingDue most c → ⊥) → d ≡ c → DoublesBelow hash most c d
+    denied : IsDoublingDue most c → refused_of d ≡ true → KeepsLists c d → DoublesBelow hash most c d
+    doubles : IsDoublingDue most c → refused_of d ≡ false → bucket_count d ≡ 2 * bucket_count c → IsResized hash c d → DoublesBelow hash most c d
+
+  -- what a new entry of list i lets happen first: an array of the size of the minimum is made where there is none, and the buckets are doubled where list i holds 32 and that is due
+  pub data GrowsBelow (hash : E → ℕ) (most i : ℕ) (c d : Contents E S) : Type 0 where
+    makes : bucket_count c ≡ 0 → IsArraySize (minimum_of c) (32 * bucket_count d) → IsResized hash c d → GrowsBelow hash most i c d
+    has_room : 0 < bucket_count c → length (list_of c i) < 32 → d ≡ c → GrowsBelow hash most i c d
+    is_full : 0 < bucket_count c → 32 ≤ length (list_of c i) → DoublesBelow hash most c d → GrowsBelow hash most i c d

@@ -4,6 +4,7 @@ ghost use Rattle.scc_table.specs.Contents.{bucket_count, pending_of, refused_of}
 ghost use Rattle.scc_table.specs.Sizes.{IsLawful};
 ghost use Rattle.scc_incremental.specs.TwoArrays.{IsWaiting};
 
+mod bounded;
 mod cloning;
 mod doubling;
 mod growing;
@@ -17,6 +18,7 @@ mod relocating;
 mod removing;
 mod reserving;
 mod searching;
+mod settling;
 mod shrinking;
 mod starting;
 mod steps;

@@ -172,6 +172,7 @@ where
     requires unique { IsDistinct E.Key.eq (map E.key_of (flat_map (λ l. l) (slice_set (lists_of current.old) target (bound_for (λ e. key_hash H.BuildHasher H.Hasher.Hasher E.Key.hash_input current.old (E.key_of e)) skipped (bucket_count current.old) target (flat_map shelf_entries old.old))))) }
     ensures ok { IfOk result (λ n. TakesOver (λ e. key_hash H.BuildHasher H.Hasher.Hasher E.Key.hash_input current.old (E.key_of e)) target n current.old old.old current.new old.new) }
     ensures few { OnOk result (spilled_of current.new + aside < 2 ^ 62) }
+    ensures short { OnOk result (coming ≤ 32 → spilled_of current.new ≤ spilled_of current.old) }
     ensures err { OnErr result (current.new ≡ current.old) }
     ensures stays { OnErr result (old.new ≡ old.old) }
     ensures refused { OnErr result (32 < coming) }

@@ -1,13 +1,12 @@
 pub use Rattle.scc_bucket.proofs.WalkLemmas
 pub mod Arrays
+pub mod Bare
 pub mod Bounds
 pub mod Cloning
 pub mod Counting
-pub mod Emptied
 pub mod Finding
 pub mod Inserts
 pub mod Fresh
-pub mod Growth
 pub mod KeyWrites
 pub mod Latest
 pub mod Lookups
@@ -19,12 +18,10 @@ pub mod PairWrites
 pub mod Placed
 pub mod Pours
 pub mod Powers
-pub mod Refill
 pub mod Removes
 pub mod Resizes
 pub mod Spots
 pub mod Standing
 pub mod SwapRemoves
-pub mod Tallies
 pub mod Views
 pub mod WritingTables

@@ -4,7 +4,6 @@ pub use Rattle.scc_bucket.specs.Walks
 pub mod Bounded
 pub mod Clones
 pub mod Contents
-pub mod Emptying
 pub mod Hashing
 pub mod LendsTable
 pub mod Mapped

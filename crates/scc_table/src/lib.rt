@@ -1,13 +1,10 @@
 //! The table of the hash containers: an array of buckets of 32 tagged slots with an overflow list each, found by the bits of a hash. It names the bucket's items, and what all containers share, again.
 #![tactic(auto)]
 
-pub mod pairs;
 pub mod place;
-mod pour;
 pub mod route;
 pub mod sizes;
 pub mod table;
-mod tally;
 pub mod versions;
 pub mod walks;
 

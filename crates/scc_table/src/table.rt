@@ -11,14 +11,10 @@ mod bounded;
 mod cloning;
 mod edits;
 mod exchange;
-mod growing;
 mod making;
 mod putting;
 mod removing;
 mod reserving;
-mod resizing;
-mod shrinking;
-mod steps;
 mod writes;
 
 use crate::place::Place;
@@ -120,18 +116,6 @@ where
         bucket_index(self.hash(key), self.skipped, self.buckets.len())
     }
 
-    /// Whether there is an array, and the bucket of the key holds fewer than 32 entries: then an insertion of the key takes no memory.
-    pub fn has_room(&self, key: &E::Key) -> bool
-        ensures { IsTrue result ↔ HasRoomBy (key_hash H.BuildHasher H.Hasher.Hasher E.Key.hash_input self.now) E.key_of self.now key.now }
-    {
-        let count = self.buckets.len();
-        if count == 0 {
-            return false;
-        }
-        let bucket = bucket_index(self.hash(key), self.skipped, count);
-        self.buckets.bucket_len(bucket) < 32
-    }
-
     /// Where the entry with that key stands. `hash` is the key's hash.
     #[inline(always)]
     pub fn search(&self, hash: u64, key: &E::Key) -> Option<Place>
@@ -157,14 +141,5 @@ where
         ensures few { (i : ℕ) → i < length result.now → length (shelf_entries (shelf_of result.now i)) < 2 ^ 63 }
     {
         &self.buckets
-    }
-
-    /// The entry at the place.
-    #[inline(always)]
-    pub fn entry_at(&self, place: Place) -> &E
-        requires { IsPlace self.now place }
-        ensures { slice_get (entries self.now) (index_of self.now place) ≡ Some result.now }
-    {
-        self.buckets.entry_at(place.bucket, place.slot)
     }
 }

@@ -1,4 +1,4 @@
-//! What a table of versions can do beside: lend a version, and walk over the pairs.
+//! What a table of versions can do beside: walk over the pairs.
 ghost use Rattle.std.specs.Prelude.{◌≡◌, ◌<◌, ◌^◌, length, Some, true, slice_get};
 ghost use Rattle.scc_array.specs.Shelves.{shelf_of};
 ghost use Rattle.scc_bucket.specs.Shelf.{shelf_entries};
@@ -35,15 +35,6 @@ fn walk_bucket<K, V, F: FnMut(&K, &V) -> bool>(
 }
 
 impl<K: Eq + Hash, V, H: BuildHasher> Table<SharedVersion<K, V>, H> {
-    /// The version at the place.
-    #[inline(always)]
-    pub fn version_at(&self, place: Place) -> &Version<K, V>
-        requires { IsPlace self.now place }
-        ensures { slice_get (entries self.now) (index_of self.now place) ≡ Some result.now }
-    {
-        self.entry_at(place).version()
-    }
-
     /// Calls `f` on all pairs in the table's order, until its first false.
     pub fn walk<F: FnMut(&K, &V) -> bool>(&self, mut f: F) -> bool
         requires { CallableWhile F.FnMut true f (entries self.now) }

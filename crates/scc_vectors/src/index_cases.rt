@@ -108,7 +108,7 @@ fn index_reserve_grows_and_gives_back(rt: HostRuntime) -> Result<(), Fail> {
     }
     assert!(rt; index.release(token).is_ok());
     assert_eq!(rt; index.capacity(), 1024);
-    assert_eq!(rt; index.pending(), 0);
+    assert_eq!(rt; index.pending(), 32);
     Ok(())
 }
 

@@ -12,11 +12,15 @@ mod map_cases;
 #[cfg(test)]
 mod random_calls;
 #[cfg(test)]
+mod relocation_cases;
+#[cfg(test)]
 mod set_cases;
 #[cfg(test)]
 mod size_cases;
 #[cfg(test)]
 mod tag_cases;
+#[cfg(test)]
+mod waiting_calls;
 #[cfg(test)]
 mod walk_cases;
 #[cfg(test)]

@@ -1,7 +1,7 @@
 //! An entry of a cache: a key's place, found once and held. It holds its cache by a guard, a `&mut` in the owned form, and is generic in it.
 ghost use Rattle.std.specs.Prelude.{◌≡◌};
 ghost use Rattle.scc_table.specs.Contents.{key_hash};
-ghost use Rattle.scc_table.specs.Places.{IsPlace};
+ghost use Rattle.scc_incremental.specs.Places.{IsPlace};
 ghost use Rattle.scc_cache.specs.CacheSteps.{IsLacking};
 
 mod methods;

@@ -1,5 +1,5 @@
 //! The cache for one owner: every call that changes it takes `&mut self`.
-ghost use Rattle.std.specs.Prelude.{◌≡◌, ◌≤◌, ◌<◌, ◌*◌, ◌↔◌, [], length, max, None, Some, IsTrue, IsOk, IfOk, MatchOption};
+ghost use Rattle.std.specs.Prelude.{◌≡◌, ◌≤◌, ◌<◌, ◌*◌, ◌↔◌, [], length, max, None, Some, IsTrue, IsOk, IfOk, OnOk, MatchOption};
 ghost use Rattle.std.specs.Borrow.{Bor};
 ghost use Rattle.scc_table.specs.Contents.{entries, bucket_count, settings_of, minimum_of, pending_of, key_hash};
 ghost use Rattle.scc_table.specs.Sizes.{IsArraySize};
@@ -7,6 +7,7 @@ ghost use Rattle.std.specs.Fn.{FnOnceTakesAtMut};
 ghost use Rattle.scc_cache.specs.CacheSteps.{AnswersOn, IsAbsent, IsPresent, Puts, Removes};
 ghost use Rattle.scc_cache.specs.CacheWalks.{RemovesIf};
 ghost use Rattle.scc_cache.specs.Caches.{IsCacheState};
+ghost use Rattle.scc_cache.specs.Relocations.{RelocatesNone, RelocatesTwo};
 
 mod collecting;
 mod entry;
@@ -19,7 +20,8 @@ mod writing_walks;
 
 use super::EvictedEntry;
 pub use entry::{Entry, OccupiedEntry, ReplaceResult, VacantEntry};
-use scc_table::{InsertError, Table};
+use scc_incremental::Incremental;
+use scc_table::InsertError;
 use std::hash::{BuildHasher, BuildHasherDefault, FoldHasher, Hash};
 use std::marker::Model;
 use std::ops::RangeInclusive;
@@ -29,7 +31,7 @@ use std::ops::RangeInclusive;
 /// The default hasher has a fixed seed. For keys that an attacker picks, write `Owned::with_hasher(alloc, RandomState::new(&rt)?)`.
 #[derive(Drop)]
 pub struct Owned<K: Eq + Hash, V, H: BuildHasher = BuildHasherDefault<FoldHasher>> {
-    pub(crate) table: Table<(K, V), H>,
+    pub(crate) table: Incremental<(K, V), H>,
     pub(crate) maximum: usize,
 }
 
@@ -84,7 +86,7 @@ impl<K: Eq + Hash, V, H: BuildHasher> Owned<K, V, H> {
         self.table.minimum()..=self.maximum
     }
 
-    /// How many buckets wait for their pairs to come from an old array: none, since every resize moves all pairs at once.
+    /// How many buckets wait for their pairs to come from an old array.
     pub fn pending(&self) -> usize
         ensures { result ≡ pending_of self.now.contents }
     {
@@ -120,12 +122,13 @@ impl<K: Eq + Hash, V, H: BuildHasher> Owned<K, V, H> {
         }
     }
 
-    /// Puts in the pair where no key equals `k`, as the most recent of its bucket. Where that holds 32 pairs, the array is doubled first if at least half its slots are in use and it is below the maximum; where the bucket of `k` then holds 32 pairs, the least recent of them is driven out and answered. Where a key equals `k` nothing changes, and the supplied pair comes back; so it does where there is no array and none can be had. With an array it can't be refused.
+    /// Puts in the pair where no key equals `k`, as the most recent of its bucket. Where that holds 32 pairs, the array is doubled first if at least half its slots are in use and it is below the maximum; where the bucket of `k` then holds 32 pairs, the least recent of them is driven out and answered. Where a key equals `k` nothing changes, and the supplied pair comes back; so it does where there is no array and none can be had. With an array it can't be refused. Where buckets wait, that of `k` takes its pairs over first, and then the first ones that wait, two in all; after a doubling all others wait.
     #[inline(always)]
     pub fn put_sync(&mut self, k: K, v: V) -> Result<EvictedEntry<K, V>, InsertError<K, V>>
         ensures step { Puts (key_hash H.BuildHasher H.Hasher.Hasher K.hash_input self.old.contents) K.eq self.old (k, v) result self.new }
         ensures succeeds { IsAbsent (key_hash H.BuildHasher H.Hasher.Hasher K.hash_input self.old.contents) K.eq self.old.contents k → 0 < bucket_count self.old.contents → IsOk result }
         ensures state { IsCacheState K.eq (key_hash H.BuildHasher H.Hasher.Hasher K.hash_input self.new.contents) self.new }
+        ensures relocates { OnOk result (RelocatesTwo (key_hash H.BuildHasher H.Hasher.Hasher K.hash_input self.old.contents k) self.old.contents self.new.contents) }
     {
         let hash = self.table.hash(&k);
         match self.find(hash, &k) {
@@ -137,11 +140,12 @@ impl<K: Eq + Hash, V, H: BuildHasher> Owned<K, V, H> {
         }
     }
 
-    /// Takes out the pair whose key equals `k`, and answers it. Where few pairs are left, the array may become smaller.
+    /// Takes out the pair whose key equals `k`, and answers it. Where few pairs are left, the array may become smaller, and then every bucket of the new one waits.
     #[inline(always)]
     pub fn remove_sync(&mut self, k: &K) -> Option<(K, V)>
         ensures step { Removes (key_hash H.BuildHasher H.Hasher.Hasher K.hash_input self.old.contents) K.eq self.old k.now result self.new }
         ensures state { IsCacheState K.eq (key_hash H.BuildHasher H.Hasher.Hasher K.hash_input self.new.contents) self.new }
+        ensures relocates { RelocatesNone (λ p. key_hash H.BuildHasher H.Hasher.Hasher K.hash_input self.old.contents p.0) self.old.contents self.new.contents }
     {
         let hash = self.table.hash(k);
         match self.find(hash, k) {
@@ -156,6 +160,7 @@ impl<K: Eq + Hash, V, H: BuildHasher> Owned<K, V, H> {
         requires { (p : K × V) → IsPresent (key_hash H.BuildHasher H.Hasher.Hasher K.hash_input self.old.contents) K.eq self.old.contents k.now p → FnOnceTakesAtMut F.FnOnce f p.1 }
         ensures step { RemovesIf (key_hash H.BuildHasher H.Hasher.Hasher K.hash_input self.old.contents) K.eq F.FnOnce f self.old k.now result self.new }
         ensures state { IsCacheState K.eq (key_hash H.BuildHasher H.Hasher.Hasher K.hash_input self.new.contents) self.new }
+        ensures relocates { RelocatesNone (λ p. key_hash H.BuildHasher H.Hasher.Hasher K.hash_input self.old.contents p.0) self.old.contents self.new.contents }
     {
         let hash = self.table.hash(k);
         let place = self.find(hash, k)?;

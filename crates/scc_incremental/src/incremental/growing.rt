@@ -1,5 +1,6 @@
 //! How a table of two arrays gets room for a new key.
 ghost use Rattle.std.specs.Prelude.{◌≡◌, ◌≢◌, ◌≤◌, ◌<◌, ◌*◌, ◌^◌, [], false, true, length, replicate, IfOk, OnOk, OnErr};
+ghost use Rattle.scc_table.specs.Bounded.{IsResized};
 ghost use Rattle.scc_table.specs.Contents.{entries, bucket_count, key_hash, lists_of, pending_of, refused_of, settings_of, waiting_of, HasRoomAt, IsUniqueBy};
 ghost use Rattle.scc_table.specs.Pour.{IsRegrouped};
 ghost use Rattle.scc_table.specs.Routing.{bucket_number};
@@ -77,7 +78,7 @@ where
     }
 
     /// Makes the first array, of the size of the minimum. None of its buckets waits.
-    fn make_array(&mut self) -> Result<(), AllocError>
+    pub(super) fn make_array(&mut self) -> Result<(), AllocError>
         requires { bucket_count self.old ≡ 0 }
         ensures rests { Rests self.old self.new }
         ensures growth { Grows self.old self.new }
@@ -87,6 +88,8 @@ where
         ensures bare { entries self.new ≡ [] }
         ensures waiting { waiting_of self.new ≡ [] }
         ensures refused { OnErr result (IsUnchanged self.old self.new) }
+        ensures resized { OnOk result (IsResized (λ e. key_hash H.BuildHasher H.Hasher.Hasher E.Key.hash_input self.old (E.key_of e)) self.old self.new) }
+        ensures same { OnErr result (self.new ≡ self.old) }
         ensures unique { IsUniqueBy E.Key.eq E.key_of self.new }
     {
         self.current.make_array()?;

@@ -1,6 +1,7 @@
 //! How new keys get into a table of two arrays.
 ghost use Rattle.std.specs.Prelude.{◌≡◌, ◌≢◌, ◌≤◌, ◌<◌, ◌+◌, ◌-◌, ◌^◌, ◌⊎◌, ℕ, false, None, drop, IsTrue, IfOk, IfErr, OnOk, OnErr};
 ghost use Rattle.std.specs.List.{position};
+ghost use Rattle.scc_table.specs.Bounded.{IsBounded};
 ghost use Rattle.scc_table.specs.Contents.{entries, bucket_count, held_of, key_hash, lists_of, pending_of, refused_of, settings_of, waiting_of, HasRoomBy, IsUniqueBy};
 ghost use Rattle.scc_table.specs.OneList.{HasSameLists, IsPutIn};
 ghost use Rattle.scc_table.specs.Routing.{bucket_number};
@@ -180,6 +181,7 @@ where
         ensures less { pending_of self.new ≤ pending_of self.old }
         ensures most { pending_of self.old ≤ pending_of self.new + most }
         ensures exact { AreShort self.old → pending_targets self.new ≡ drop most (pending_targets self.old) }
+        ensures bounded { IsBounded self.old → AreShort self.old → IsBounded self.new }
     {
         for _ in 0..most {
             if self.pending == 0 {

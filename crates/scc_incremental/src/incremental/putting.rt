@@ -68,7 +68,7 @@ where
         ensures unique { IsUniqueBy E.Key.eq E.key_of self.new }
     {
         self.held_overflow = 0;
-        let placed = self.current.insert_made(hash, parts);
+        let placed = self.current.insert_made_first(hash, parts);
         let _few = self.current.overflow_len();
         placed
     }

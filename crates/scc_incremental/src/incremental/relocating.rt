@@ -1,6 +1,8 @@
 //! How buckets take their entries over from the old array.
 ghost use Rattle.std.specs.Prelude.{◌≡◌, ◌<◌, ◌≤◌, ℕ, [], length, OnOk, OnErr};
+ghost use Rattle.scc_table.specs.Bounded.{IsBounded};
 ghost use Rattle.scc_table.specs.Contents.{held_of, list_of, lists_of, pending_of, refused_of, settings_of, spilled_of, waiting_of};
+ghost use Rattle.scc_incremental.specs.Relocates.{AreShort};
 ghost use Rattle.scc_incremental.specs.TwoArrays.{IsFirstWaiting, IsRelocated, IsWaiting};
 
 use super::Incremental;
@@ -20,6 +22,7 @@ where
         ensures ok { OnOk result (IsRelocated bucket self.old self.new) }
         ensures err { OnErr result (self.new ≡ self.old) }
         ensures refused { OnErr result (32 < length (list_of self.old bucket)) }
+        ensures bounded { IsBounded self.old → length (list_of self.old bucket) ≤ 32 → IsBounded self.new }
     {
         self.take_over(bucket)?;
         if self.pending == 0 {
@@ -51,6 +54,7 @@ where
         ensures ok { OnOk result (IsRelocated bucket self.old self.new) }
         ensures err { OnErr result (self.new ≡ self.old) }
         ensures refused { OnErr result (32 < length (list_of self.old bucket)) }
+        ensures bounded { IsBounded self.old → length (list_of self.old bucket) ≤ 32 → IsBounded self.new }
     {
         let count = self.current.bucket_count();
         let (first, last) = sources(self.draining.len(), count, bucket);
@@ -106,6 +110,7 @@ where
         ensures ok { OnOk result ((i : ℕ) × (IsFirstWaiting self.old i) × (IsRelocated i self.old self.new)) }
         ensures err { OnErr result (self.new ≡ self.old) }
         ensures refused { OnErr result ((i : ℕ) × (IsFirstWaiting self.old i) × (32 < length (list_of self.old i))) }
+        ensures bounded { IsBounded self.old → AreShort self.old → IsBounded self.new }
     {
         let bucket = self.first_waiting();
         self.next = bucket;
@@ -121,6 +126,7 @@ where
         ensures less { pending_of self.new ≤ pending_of self.old }
         ensures ok { OnOk result (waiting_of self.new ≡ []) }
         ensures refused { OnErr result ((i : ℕ) × (IsFirstWaiting self.new i) × (32 < length (list_of self.new i))) }
+        ensures bounded { IsBounded self.old → AreShort self.old → IsBounded self.new }
     {
         for _ in 0..self.pending {
             self.relocate_next()?;

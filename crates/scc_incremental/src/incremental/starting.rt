@@ -2,10 +2,12 @@
 ghost use Rattle.std.specs.Prelude.{◌≡◌, ◌≢◌, ◌≤◌, ◌<◌, ℕ, [], true, false, replicate, length, OnOk, OnErr};
 ghost use Rattle.std.specs.List.Sorted.{IsPermutation};
 ghost use Rattle.scc_bucket.specs.Shelf.{empty_shelf};
+ghost use Rattle.scc_table.specs.Bounded.{IsBounded};
 ghost use Rattle.scc_table.specs.Contents.{entries, bucket_count, held_of, key_hash, list_of, lists_of, pending_of, refused_of, settings_of, spilled_of, waiting_of, IsUniqueBy};
 ghost use Rattle.scc_table.specs.Pour.{IsRegrouped};
 ghost use Rattle.scc_table.specs.Sizes.{IsArray};
 ghost use Rattle.scc_table.specs.Steps.{IsUnchanged};
+ghost use Rattle.scc_incremental.specs.Relocates.{AreShort};
 ghost use Rattle.scc_incremental.specs.TwoArrays.{IsFirstWaiting, IsWaiting};
 
 use super::Incremental;
@@ -32,6 +34,9 @@ where
         ensures err { OnErr result (IsUnchanged self.old self.new) }
         ensures fewer { OnErr result ((i : ℕ) → IsWaiting self.new i → IsWaiting self.old i) }
         ensures less { OnErr result (pending_of self.new ≤ pending_of self.old) }
+        ensures still { OnErr result (lists_of self.new ≡ lists_of self.old) }
+        ensures settings { settings_of self.new ≡ settings_of self.old }
+        ensures bounded { IsBounded self.old → AreShort self.old → IsBounded self.new }
         ensures up { OnErr result (refused_of self.new ≡ true) }
         ensures unique { IsUniqueBy E.Key.eq E.key_of self.new }
     {
@@ -58,6 +63,7 @@ where
         ensures err { OnErr result (lists_of self.new ≡ lists_of self.old) }
         ensures settings { settings_of self.new ≡ settings_of self.old }
         ensures stays { OnErr result (waiting_of self.new ≡ waiting_of self.old) }
+        ensures bounded { IsBounded self.old → IsBounded self.new }
         ensures up { OnErr result (refused_of self.new ≡ true) }
         ensures unique { IsUniqueBy E.Key.eq E.key_of self.new }
     {
@@ -100,6 +106,7 @@ where
         ensures waiting { waiting_of self.new ≡ replicate count true }
         ensures pending { pending_of self.new ≡ count }
         ensures noted { refused_of self.new ≡ refused_of self.old }
+        ensures bounded { IsBounded self.old → IsBounded self.new }
     {
         let (old, held, held_overflow) = self.current.exchange(fresh, 0, 0);
         let bare = std::mem::replace(&mut self.draining, old);

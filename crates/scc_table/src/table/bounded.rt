@@ -48,25 +48,6 @@ where
         }
     }
 
-    /// Makes the array smaller where at most an eighth as many entries as slots are held, a smaller array has enough slots and each of its buckets gets at most 32 entries, unless memory is refused. Takes time by the number of entries and of buckets where it tries, else none to speak of.
-    #[inline(always)]
-    pub fn shrink_within(&mut self)
-        requires { IsBounded self.old }
-        ensures shrinks { ShrinksBounded (λ e. key_hash H.BuildHasher H.Hasher.Hasher E.Key.hash_input self.old (E.key_of e)) self.old self.new }
-        ensures listed { IsListed (λ e. key_hash H.BuildHasher H.Hasher.Hasher E.Key.hash_input self.new (E.key_of e)) self.new }
-        ensures same { IsPermutation (entries self.old) (entries self.new) }
-        ensures unique { IsUniqueBy E.Key.eq E.key_of self.new }
-    {
-        let present = self.bucket_count();
-        let length = self.len();
-        if present <= 2 || length > 4 * present {
-            self.keep_lists();
-            return;
-        }
-        self.narrow();
-        self.keep_lists();
-    }
-
     /// What every table keeps of its lists. It does nothing, and is there for its contract.
     #[inline(always)]
     pub fn keep_lists(&self)
@@ -75,23 +56,6 @@ where
         ensures unique { IsUniqueBy E.Key.eq E.key_of self.now }
     {
         let _ = self.buckets.len();
-    }
-
-    /// The same where so few entries are held.
-    #[cold]
-    fn narrow(&mut self)
-        requires bounded { IsBounded self.old }
-        requires few { length (entries self.old) ≤ 4 * bucket_count self.old }
-        ensures shrinks { ShrinksBounded (λ e. key_hash H.BuildHasher H.Hasher.Hasher E.Key.hash_input self.old (E.key_of e)) self.old self.new }
-        ensures bounded { IsBounded self.new }
-        ensures same { IsPermutation (entries self.old) (entries self.new) }
-    {
-        let present = self.bucket_count();
-        let count = buckets_for(self.minimum()).max(buckets_for(2 * self.len()));
-        if count >= present {
-            return;
-        }
-        self.resize_short(count);
     }
 
     /// The entry at the place, seen in the list of its bucket.
@@ -119,51 +83,6 @@ where
         ensures within { 0 < bucket_count self.now → result < bucket_count self.now }
     {
         bucket_index(hash, self.skipped, self.buckets.len())
-    }
-
-    /// The bucket for a new key of that hash. An array is made where there is none, and doubled where that bucket holds 32 entries, the table at least half as many entries as slots and fewer slots than `most`. Where memory for the doubling is refused the array stays.
-    #[inline(always)]
-    pub fn bucket_within(&mut self, hash: u64, most: usize) -> Result<usize, AllocError>
-        requires bounded { IsBounded self.old }
-        requires most { most ≤ 2 ^ 63 }
-        ensures grows { IfOk result (λ _. GrowsBelow (λ e. key_hash H.BuildHasher H.Hasher.Hasher E.Key.hash_input self.old (E.key_of e)) most (bucket_number (settings_of self.old).skipped (bucket_count self.old) hash) self.old self.new) }
-        ensures same { IsPermutation (entries self.old) (entries self.new) }
-        ensures settings { settings_of self.new ≡ settings_of self.old }
-        ensures bounded { IsBounded self.new }
-        ensures within { IfOk result (λ i. i < bucket_count self.new) }
-        ensures routed { IfOk result (λ i. i ≡ bucket_number (settings_of self.new).skipped (bucket_count self.new) hash) }
-        ensures none { OnErr result ((bucket_count self.old ≡ 0) × (self.new ≡ self.old)) }
-    {
-        if self.bucket_count() == 0 {
-            self.make_array()?;
-            return Ok(self.bucket_at(hash));
-        }
-        let bucket = self.bucket_at(hash);
-        if self.list_len(bucket) >= 32 {
-            self.double_within(most);
-            return Ok(self.bucket_at(hash));
-        }
-        Ok(bucket)
-    }
-
-    /// Doubles the number of buckets where at least half as many entries as slots are held, fewer slots than `most`, unless memory is refused. Takes time by the number of entries.
-    #[cold]
-    fn double_within(&mut self, most: usize)
-        requires array { 0 < bucket_count self.old }
-        requires bounded { IsBounded self.old }
-        requires most { most ≤ 2 ^ 63 }
-        ensures doubles { DoublesBelow (λ e. key_hash H.BuildHasher H.Hasher.Hasher E.Key.hash_input self.old (E.key_of e)) most self.old self.new }
-        ensures same { IsPermutation (entries self.old) (entries self.new) }
-        ensures settings { settings_of self.new ≡ settings_of self.old }
-        ensures bounded { IsBounded self.new }
-        ensures array { 0 < bucket_count self.new }
-    {
-        let count = self.bucket_count();
-        let length = self.len();
-        if length < 16 * count || 32 * count >= most || length >= OVERFLOW_LIMIT {
-            return;
-        }
-        self.resize_short(2 * count);
     }
 
     /// Puts an entry whose key is new at the end of the list of its bucket, which holds fewer than 32.

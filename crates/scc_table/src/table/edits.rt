@@ -39,27 +39,7 @@ impl<E: Keyed, H: BuildHasher> Table<E, H>
 where
     E::Key: Eq + Hash,
 {
-    /// Puts in an entry whose key is new, and answers its place. Where its bucket holds 32 entries or more and the table at least half as many entries as slots, the number of buckets is doubled first, if memory can be had: that insertion takes time by the number of entries. The entry is handed back where there is no array and none can be had, or where its bucket is full and the overflow list can't grow.
-    pub fn insert_new(&mut self, hash: u64, entry: E) -> Result<Place, E>
-        requires hashed { hash ≡ key_hash H.BuildHasher H.Hasher.Hasher E.Key.hash_input self.old (E.key_of entry) }
-        requires absent { position (λ e. E.Key.eq (E.key_of entry) (E.key_of e)) (entries self.old) ≡ None }
-        ensures ok { IfOk result (IsInsertedAt self.old entry self.new) }
-        ensures err { IfErr result (λ e. (e ≡ entry) × Rests self.old self.new) }
-        ensures full { OnErr result (HasRoomBy (key_hash H.BuildHasher H.Hasher.Hasher E.Key.hash_input self.old) E.key_of self.old (E.key_of entry) → ⊥) }
-        ensures growth { Grows self.old self.new }
-        ensures due { GrowsWhenDue (key_hash H.BuildHasher H.Hasher.Hasher E.Key.hash_input self.old) E.key_of self.old (E.key_of entry) self.new }
-        ensures first { OnOk result (FirstArrayWhenDue self.old self.new) }
-        ensures none { OnErr result (bucket_count self.old ≡ 0 → IsUnchanged self.old self.new) }
-        ensures kept { HasRoomBy (key_hash H.BuildHasher H.Hasher.Hasher E.Key.hash_input self.old) E.key_of self.old (E.key_of entry) → bucket_count self.new ≡ bucket_count self.old }
-        ensures unique { IsUniqueBy E.Key.eq E.key_of self.new }
-    {
-        match self.bucket_for_new(hash) {
-            Ok(bucket) => self.insert_in(bucket, hash, entry),
-            Err(_) => Err(entry),
-        }
-    }
-
-    /// The same into that bucket, the one of the hash.
+    /// Puts in an entry whose key is new, into that bucket, the one of the hash, and answers its place. The entry is handed back where the bucket is full and the overflow list can't grow.
     #[inline(always)]
     pub fn insert_in(&mut self, bucket: usize, hash: u64, entry: E) -> Result<Place, E>
         requires within { bucket < bucket_count self.old }
@@ -88,20 +68,7 @@ where
         }
     }
 
-    /// Takes the entry out of its place, with no resize: the others stay in their order, and the one after it has as many before it as it had.
-    pub fn take_at(&mut self, place: Place) -> E
-        requires { IsPlace self.old place }
-        ensures entry { slice_get (entries self.old) (index_of self.old place) ≡ Some result }
-        ensures follows { index_of self.new place ≡ index_of self.old place }
-        ensures list { place.slot ≤ length (list_of self.new place.bucket) }
-        ensures others { HoldsExactly self.old (remove (entries self.old) (index_of self.old place)) self.new }
-        ensures noted { refused_of self.new ≡ refused_of self.old }
-        ensures unique { IsUniqueBy E.Key.eq E.key_of self.new }
-    {
-        self.take_in(place)
-    }
-
-    /// The same as `take_at`, seen in the list of its bucket too.
+    /// Takes the entry out of its place: the others stay in their order, and the one after it has as many before it as it had.
     pub fn take_in(&mut self, place: Place) -> E
         requires { IsPlace self.old place }
         ensures entry { slice_get (entries self.old) (index_of self.old place) ≡ Some result }

@@ -12,10 +12,9 @@ use super::Table;
 use crate::sizes::buckets_for;
 use scc_array::Array;
 use scc_bucket::Keyed;
-use scc_common::{MakeError, Shared};
+use scc_common::MakeError;
 use std::alloc::{AllocError, Global};
 use std::hash::{BuildHasher, Hash};
-use std::sync::Arc;
 
 impl<E: Keyed, H: BuildHasher> Table<E, H>
 where
@@ -97,30 +96,20 @@ where
         old.destroy_empty();
         Ok(())
     }
-}
 
-impl<E: Keyed, H: BuildHasher> Table<E, Shared<H>>
-where
-    E::Key: Eq + Hash,
-{
-    /// An empty part: it skips so many bits of each hash, and hashes as each other part of that hasher does. Else as `with_capacity`.
-    pub fn part(
-        alloc: Global,
-        skipped: u32,
-        slots: usize,
-        hasher: Arc<H>,
-    ) -> Result<Table<E, Shared<H>>, MakeError>
-    where
-        H: Drop,
-        requires { skipped ≤ 4 }
-        ensures entries { IfOk result (λ t. entries t ≡ []) }
-        ensures listed { IfOk result (λ t. IsListed (λ e. key_hash H.BuildHasher H.Hasher.Hasher E.Key.hash_input t (E.key_of e)) t) }
-        ensures none { IfOk result (λ t. slots ≡ 0 → bucket_count t ≡ 0) }
-        ensures size { IfOk result (λ t. 0 < slots → IsArraySize slots (32 * bucket_count t)) }
-        ensures settings { IfOk result (λ t. settings_of t ≡ record { hasher = arc_value hasher; skipped = skipped; asked = 32 * bucket_count t; reserved = 0 }) }
-        ensures succeeds { slots ≡ 0 → IsOk result }
+    /// Gives the array back, in which no entry lies.
+    pub(crate) fn drop_array(&mut self)
+        requires { entries self.old ≡ [] }
+        ensures still { entries self.new ≡ [] }
+        ensures buckets { bucket_count self.new ≡ 0 }
+        ensures settings { settings_of self.new ≡ settings_of self.old }
+        ensures noted { refused_of self.new ≡ refused_of self.old }
     {
-        Table::with_capacity(alloc, skipped, slots, Shared::new(hasher))
+        self.length = 0;
+        self.overflowing = 0;
+        let none = Array::none(self.buckets.allocator());
+        let old = std::mem::replace(&mut self.buckets, none);
+        old.destroy_empty();
     }
 }
 
@@ -131,24 +120,4 @@ pub(crate) fn fresh_buckets<E>(alloc: Global, count: usize) -> Result<Array<E>, 
     ensures empty { IfOk result (λ a. AllEmpty a) }
 {
     Array::with_buckets(alloc, count)
-}
-
-/// An empty bucket for each count, with room for as many entries.
-pub(crate) fn roomy_buckets<E>(alloc: Global, counts: &[usize]) -> Result<Array<E>, AllocError>
-    requires { length counts.now ≤ 2 ^ 58 }
-    ensures count { IfOk result (λ a. length a ≡ length counts.now) }
-    ensures empty { IfOk result (λ a. AllEmpty a) }
-    ensures fits { IfOk result (λ a. Fits counts.now a) }
-{
-    let mut fresh = fresh_buckets(alloc, counts.len())?;
-    for bucket in 0..counts.len() {
-        match fresh.reserve_for(bucket, counts[bucket]) {
-            Ok(()) => {}
-            Err(refused) => {
-                fresh.destroy_empty();
-                return Err(refused);
-            }
-        }
-    }
-    Ok(fresh)
 }

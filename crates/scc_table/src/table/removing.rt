@@ -17,21 +17,7 @@ impl<E: Keyed, H: BuildHasher> Table<E, H>
 where
     E::Key: Eq + Hash,
 {
-    /// Takes the entry out of its place. The others stay, maybe in other places: where few are left, the array may become smaller.
-    pub fn remove_at(&mut self, place: Place) -> E
-        requires { IsPlace self.old place }
-        ensures entry { slice_get (entries self.old) (index_of self.old place) ≡ Some result }
-        ensures others { Holds self.old (remove (entries self.old) (index_of self.old place)) self.new }
-        ensures smaller { bucket_count self.new ≢ bucket_count self.old → IsSmaller (minimum_of self.old) (length (entries self.new)) (bucket_count self.old) (bucket_count self.new) }
-        ensures due { ShrinksWhenDue self.old self.new }
-        ensures unique { IsUniqueBy E.Key.eq E.key_of self.new }
-    {
-        let entry = self.swap_take_at(place);
-        self.shrink();
-        entry
-    }
-
-    /// Takes the entry out of its place, with no resize. The last entry of its bucket's slots, or of its overflow list, may take its place.
+    /// Takes the entry out of its place. The last entry of its bucket's slots, or of its overflow list, may take its place.
     #[inline(always)]
     pub fn swap_take_at(&mut self, place: Place) -> E
         requires { IsPlace self.old place }

@@ -1,13 +1,14 @@
 //! How a cache is made.
 ghost use Rattle.std.specs.Arc.{arc_value};
 ghost use Rattle.std.specs.Prelude.{◌≡◌, ◌≤◌, ◌<◌, ◌*◌, [], max, IsOk, IfOk};
-ghost use Rattle.scc_table.specs.Contents.{entries, bucket_count, settings_of, key_hash};
+ghost use Rattle.scc_table.specs.Contents.{entries, bucket_count, settings_of, waiting_of, key_hash};
 ghost use Rattle.scc_table.specs.Sizes.{IsArraySize};
 
 use super::Owned;
 use crate::hash_cache::DEFAULT_MAXIMUM_CAPACITY;
 use scc_table::sizes::slots_for;
-use scc_table::{MakeError, Shared, Table};
+use scc_incremental::Incremental;
+use scc_table::{MakeError, Shared};
 use std::alloc::Global;
 use std::hash::{BuildHasher, BuildHasherDefault, Hash};
 use std::sync::Arc;
@@ -19,6 +20,7 @@ impl<K: Eq + Hash, V> Owned<K, V> {
         ensures buckets { bucket_count result.contents ≡ 0 }
         ensures settings { settings_of result.contents ≡ record { hasher = (settings_of result.contents).hasher; skipped = 0; asked = 0; reserved = 0 } }
         ensures maximum { result.maximum ≡ 256 }
+        ensures waiting { waiting_of result.contents ≡ [] }
     {
         Owned::with_hasher(alloc, BuildHasherDefault::new())
     }
@@ -31,6 +33,7 @@ impl<K: Eq + Hash, V> Owned<K, V> {
         ensures settings { IfOk result (λ c. settings_of c.contents ≡ record { hasher = (settings_of c.contents).hasher; skipped = 0; asked = 32 * bucket_count c.contents; reserved = 0 }) }
         ensures maximum { IfOk result (λ c. IsArraySize (max maximum (32 * bucket_count c.contents)) c.maximum) }
         ensures succeeds { capacity ≡ 0 → IsOk result }
+        ensures waiting { IfOk result (λ c. waiting_of c.contents ≡ []) }
     {
         Owned::with_capacity_and_hasher(alloc, capacity, maximum, BuildHasherDefault::new())
     }
@@ -54,6 +57,7 @@ impl<K: Eq + Hash, V, H: BuildHasher> Owned<K, V, Shared<H>> {
         ensures settings { IfOk result (λ c. settings_of c.contents ≡ record { hasher = arc_value hasher; skipped = skipped; asked = 32 * bucket_count c.contents; reserved = 0 }) }
         ensures maximum { IfOk result (λ c. IsArraySize (max maximum (32 * bucket_count c.contents)) c.maximum) }
         ensures succeeds { capacity ≡ 0 → IsOk result }
+        ensures waiting { IfOk result (λ c. waiting_of c.contents ≡ []) }
     {
         Owned::skipping(alloc, skipped, capacity, maximum, Shared::new(hasher))
     }
@@ -66,9 +70,10 @@ impl<K: Eq + Hash, V, H: BuildHasher> Owned<K, V, H> {
         ensures buckets { bucket_count result.contents ≡ 0 }
         ensures settings { settings_of result.contents ≡ record { hasher = hasher; skipped = 0; asked = 0; reserved = 0 } }
         ensures maximum { result.maximum ≡ 256 }
+        ensures waiting { waiting_of result.contents ≡ [] }
     {
         Owned {
-            table: Table::new(alloc, 0, hasher),
+            table: Incremental::new(alloc, 0, hasher),
             maximum: DEFAULT_MAXIMUM_CAPACITY,
         }
     }
@@ -88,6 +93,7 @@ impl<K: Eq + Hash, V, H: BuildHasher> Owned<K, V, H> {
         ensures settings { IfOk result (λ c. settings_of c.contents ≡ record { hasher = hasher; skipped = 0; asked = 32 * bucket_count c.contents; reserved = 0 }) }
         ensures maximum { IfOk result (λ c. IsArraySize (max maximum (32 * bucket_count c.contents)) c.maximum) }
         ensures succeeds { capacity ≡ 0 → IsOk result }
+        ensures waiting { IfOk result (λ c. waiting_of c.contents ≡ []) }
     {
         Owned::skipping(alloc, 0, capacity, maximum, hasher)
     }
@@ -109,8 +115,9 @@ impl<K: Eq + Hash, V, H: BuildHasher> Owned<K, V, H> {
         ensures settings { IfOk result (λ c. settings_of c.contents ≡ record { hasher = hasher; skipped = skipped; asked = 32 * bucket_count c.contents; reserved = 0 }) }
         ensures maximum { IfOk result (λ c. IsArraySize (max maximum (32 * bucket_count c.contents)) c.maximum) }
         ensures succeeds { capacity ≡ 0 → IsOk result }
+        ensures waiting { IfOk result (λ c. waiting_of c.contents ≡ []) }
     {
-        match Table::with_capacity(alloc, skipped, capacity, hasher) {
+        match Incremental::with_capacity(alloc, skipped, capacity, hasher) {
             Ok(table) => {
                 let maximum = slots_for(maximum.max(32 * table.bucket_count()));
                 Ok(Owned { table, maximum })

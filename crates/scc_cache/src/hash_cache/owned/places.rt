@@ -1,12 +1,15 @@
 //! What is done at a place of a cache.
-ghost use Rattle.std.specs.Prelude.{◌≡◌, true, Some, IfOk, IfErr, MatchOption, slice_get};
+ghost use Rattle.std.specs.Prelude.{◌≡◌, ◌<◌, true, Some, IfOk, IfErr, OnOk, OnSome, MatchOption, slice_get};
 ghost use Rattle.std.specs.Borrow.{sem};
-ghost use Rattle.scc_table.specs.Contents.{entries, bucket_count, list_of, key_hash};
-ghost use Rattle.scc_table.specs.Places.{IsPlace, index_of};
+ghost use Rattle.scc_table.specs.Contents.{entries, bucket_count, list_of, key_hash, settings_of, waiting_of};
+ghost use Rattle.scc_table.specs.Routing.{bucket_number};
+ghost use Rattle.scc_incremental.specs.Places.{IsPlace, index_of, spot_of};
+ghost use Rattle.scc_incremental.specs.TwoArrays.{IsWaiting};
 ghost use Rattle.scc_cache.specs.CacheSteps.{Changes, IsFound, IsLacking, PutsNew, TakesAt, number_in};
 ghost use Rattle.scc_cache.specs.Caches.{IsCacheState};
 ghost use Rattle.scc_cache.specs.Lends.{lends_value, with_key_at, with_value_at};
 ghost use Rattle.scc_cache.specs.ListSteps.{Refreshes};
+ghost use Rattle.scc_cache.specs.Relocations.{RelocatesNone, RelocatesOne, RelocatesTwo};
 
 use super::Owned;
 use crate::hash_cache::EvictedEntry;
@@ -27,7 +30,7 @@ impl<K: Eq + Hash, V, H: BuildHasher> Owned<K, V, H> {
     #[inline(always)]
     pub(crate) fn pair_in(&self, place: Place) -> (&K, &V)
         requires { IsPlace self.now.contents place }
-        ensures { slice_get (list_of self.now.contents place.bucket) place.slot ≡ Some (result.0.now, result.1.now) }
+        ensures { slice_get (list_of self.now.contents (spot_of self.now.contents place).bucket) (spot_of self.now.contents place).slot ≡ Some (result.0.now, result.1.now) }
     {
         self.table.pair_in(place)
     }
@@ -43,14 +46,14 @@ impl<K: Eq + Hash, V, H: BuildHasher> Owned<K, V, H> {
         requires hashed { hash ≡ key_hash H.BuildHasher H.Hasher.Hasher K.hash_input self.old.contents k }
         requires lacking { IsLacking (key_hash H.BuildHasher H.Hasher.Hasher K.hash_input self.old.contents) K.eq self.old.contents k }
         ensures step { IfOk result (λ r. PutsNew (key_hash H.BuildHasher H.Hasher.Hasher K.hash_input self.old.contents) K.eq self.old (k, v) r.0 self.new) }
-        ensures here { IfOk result (λ r. IsPlace self.new.contents r.1 × (slice_get (list_of self.new.contents r.1.bucket) r.1.slot ≡ Some (k, v))) }
+        ensures here { IfOk result (λ r. IsPlace self.new.contents r.1 × (slice_get (list_of self.new.contents (spot_of self.new.contents r.1).bucket) (spot_of self.new.contents r.1).slot ≡ Some (k, v))) }
         ensures refused { IfErr result (λ p. (p ≡ (k, v)) × (bucket_count self.old.contents ≡ 0) × (self.new ≡ self.old)) }
         ensures state { IsCacheState K.eq (key_hash H.BuildHasher H.Hasher.Hasher K.hash_input self.new.contents) self.new }
+        ensures relocates { OnOk result (RelocatesTwo (key_hash H.BuildHasher H.Hasher.Hasher K.hash_input self.old.contents k) self.old.contents self.new.contents) }
     {
         match self.table.bucket_within(hash, self.maximum) {
             Ok(bucket) => {
-                self.table.keep_lists();
-                let evicted = self.table.put_last(bucket, hash, (k, v));
+                let evicted = self.table.put_within(bucket, hash, (k, v));
                 let slot = self.table.list_len(bucket) - 1;
                 Ok((evicted, Place { bucket, slot }))
             }
@@ -58,31 +61,65 @@ impl<K: Eq + Hash, V, H: BuildHasher> Owned<K, V, H> {
         }
     }
 
-    /// Makes the pair of `k` the most recent of its bucket, and answers where it then stands.
+    /// Makes the pair of `k` the most recent of its bucket, and answers where it then stands. Where the bucket waits, it takes its pairs over first.
     #[inline(always)]
     pub(crate) fn refresh(&mut self, k: &K) -> Option<Place>
-        ensures step { MatchOption result (IsLacking (key_hash H.BuildHasher H.Hasher.Hasher K.hash_input self.old.contents) K.eq self.old.contents k.now × (self.new ≡ self.old)) (λ place. IsPlace self.new.contents place × ((p : K × V) × (slice_get (list_of self.new.contents place.bucket) place.slot ≡ Some p) × Changes (Refreshes (number_in (key_hash H.BuildHasher H.Hasher.Hasher K.hash_input self.old.contents) self.old.contents) K.eq k.now p) self.old self.new)) }
+        ensures step { MatchOption result (IsLacking (key_hash H.BuildHasher H.Hasher.Hasher K.hash_input self.old.contents) K.eq self.old.contents k.now × (self.new ≡ self.old)) (λ place. IsPlace self.new.contents place × ((p : K × V) × (slice_get (list_of self.new.contents (spot_of self.new.contents place).bucket) (spot_of self.new.contents place).slot ≡ Some p) × Changes (Refreshes (number_in (key_hash H.BuildHasher H.Hasher.Hasher K.hash_input self.old.contents) self.old.contents) K.eq k.now p) self.old self.new)) }
         ensures state { IsCacheState K.eq (key_hash H.BuildHasher H.Hasher.Hasher K.hash_input self.new.contents) self.new }
+        ensures relocates { OnSome result (RelocatesOne (key_hash H.BuildHasher H.Hasher.Hasher K.hash_input self.old.contents k.now) self.old.contents self.new.contents) }
     {
         let hash = self.table.hash(k);
-        match self.table.find_in(hash, k) {
-            Some(place) => {
-                let bucket = place.bucket;
-                self.table.touch(bucket, place.slot, hash);
-                let slot = self.table.list_len(bucket) - 1;
-                Some(Place { bucket, slot })
-            }
-            None => None,
+        if self.table.bucket_count() == 0 {
+            return None;
         }
+        let bucket = self.table.bucket_at(hash);
+        if self.table.is_waiting(bucket) {
+            return self.refresh_waiting(bucket, hash, k);
+        }
+        self.refresh_settled(bucket, hash, k)
+    }
+
+    /// The same where the bucket of the hash, which is of that number, waits.
+    #[cold]
+    fn refresh_waiting(&mut self, bucket: usize, hash: u64, k: &K) -> Option<Place>
+        requires within { bucket < bucket_count self.old.contents }
+        requires routed { bucket ≡ bucket_number (settings_of self.old.contents).skipped (bucket_count self.old.contents) hash }
+        requires hashed { hash ≡ key_hash H.BuildHasher H.Hasher.Hasher K.hash_input self.old.contents k.now }
+        requires waits { IsWaiting self.old.contents bucket }
+        ensures step { MatchOption result (IsLacking (key_hash H.BuildHasher H.Hasher.Hasher K.hash_input self.old.contents) K.eq self.old.contents k.now × (self.new ≡ self.old)) (λ place. IsPlace self.new.contents place × ((p : K × V) × (slice_get (list_of self.new.contents (spot_of self.new.contents place).bucket) (spot_of self.new.contents place).slot ≡ Some p) × Changes (Refreshes (number_in (key_hash H.BuildHasher H.Hasher.Hasher K.hash_input self.old.contents) self.old.contents) K.eq k.now p) self.old self.new)) }
+        ensures state { IsCacheState K.eq (key_hash H.BuildHasher H.Hasher.Hasher K.hash_input self.new.contents) self.new }
+        ensures relocates { OnSome result (RelocatesOne (key_hash H.BuildHasher H.Hasher.Hasher K.hash_input self.old.contents k.now) self.old.contents self.new.contents) }
+    {
+        self.table.find_in(hash, k)?;
+        self.table.settle(bucket);
+        self.refresh_settled(bucket, hash, k)
+    }
+
+    /// The same where it doesn't wait.
+    #[inline(always)]
+    fn refresh_settled(&mut self, bucket: usize, hash: u64, k: &K) -> Option<Place>
+        requires within { bucket < bucket_count self.old.contents }
+        requires routed { bucket ≡ bucket_number (settings_of self.old.contents).skipped (bucket_count self.old.contents) hash }
+        requires hashed { hash ≡ key_hash H.BuildHasher H.Hasher.Hasher K.hash_input self.old.contents k.now }
+        requires settled { IsWaiting self.old.contents bucket → ⊥ }
+        ensures step { MatchOption result (IsLacking (key_hash H.BuildHasher H.Hasher.Hasher K.hash_input self.old.contents) K.eq self.old.contents k.now × (self.new ≡ self.old)) (λ place. IsPlace self.new.contents place × ((p : K × V) × (slice_get (list_of self.new.contents (spot_of self.new.contents place).bucket) (spot_of self.new.contents place).slot ≡ Some p) × Changes (Refreshes (number_in (key_hash H.BuildHasher H.Hasher.Hasher K.hash_input self.old.contents) self.old.contents) K.eq k.now p) self.old self.new)) }
+        ensures state { IsCacheState K.eq (key_hash H.BuildHasher H.Hasher.Hasher K.hash_input self.new.contents) self.new }
+        ensures waiting { waiting_of self.new.contents ≡ waiting_of self.old.contents }
+    {
+        let slot = self.table.search_in(bucket, hash, k)?;
+        self.table.touch(bucket, slot, hash);
+        let slot = self.table.list_len(bucket) - 1;
+        Some(Place { bucket, slot })
     }
 
     /// Takes the pair out of its place. The others of its list stay in their order; then the array may become smaller.
     #[inline(always)]
     pub(crate) fn remove_at(&mut self, place: Place) -> (K, V)
         requires { IsPlace self.old.contents place }
-        ensures pair { slice_get (list_of self.old.contents place.bucket) place.slot ≡ Some result }
+        ensures pair { slice_get (list_of self.old.contents (spot_of self.old.contents place).bucket) (spot_of self.old.contents place).slot ≡ Some result }
         ensures left { TakesAt (key_hash H.BuildHasher H.Hasher.Hasher K.hash_input self.old.contents) self.old place self.new }
         ensures state { IsCacheState K.eq (key_hash H.BuildHasher H.Hasher.Hasher K.hash_input self.new.contents) self.new }
+        ensures relocates { RelocatesNone (λ p. key_hash H.BuildHasher H.Hasher.Hasher K.hash_input self.old.contents p.0) self.old.contents self.new.contents }
     {
         let pair = self.table.take_in(place);
         self.table.shrink_within();
@@ -93,7 +130,7 @@ impl<K: Eq + Hash, V, H: BuildHasher> Owned<K, V, H> {
     pub(crate) fn value_mut_at(&mut self, place: Place) -> &mut V
         requires { IsPlace self.old.contents place }
         ensures* writes_back { sem 𝓛 (lends_value K.row V.row H.row H.Hasher.row K.Hash H.BuildHasher H.Hasher.Hasher self.entry place result) }
-        ensures value { (p : K × V) × (slice_get (list_of self.old.contents place.bucket) place.slot ≡ Some p) × (result.now ≡ p.1) }
+        ensures value { (p : K × V) × (slice_get (list_of self.old.contents (spot_of self.old.contents place).bucket) (spot_of self.old.contents place).slot ≡ Some p) × (result.now ≡ p.1) }
         ensures state { (v : V) → IsCacheState K.eq (key_hash H.BuildHasher H.Hasher.Hasher K.hash_input (with_value_at self.old place v).contents) (with_value_at self.old place v) }
     {
         self.table.value_mut_at(place)
@@ -111,7 +148,7 @@ impl<K: Eq + Hash, V, H: BuildHasher> Owned<K, V, H> {
     /// Writes the value at the place, and answers the old one.
     pub(crate) fn write_at(&mut self, place: Place, value: V) -> V
         requires { IsPlace self.old.contents place }
-        ensures old { (p : K × V) × (slice_get (list_of self.old.contents place.bucket) place.slot ≡ Some p) × (result ≡ p.1) }
+        ensures old { (p : K × V) × (slice_get (list_of self.old.contents (spot_of self.old.contents place).bucket) (spot_of self.old.contents place).slot ≡ Some p) × (result ≡ p.1) }
         ensures new { self.new ≡ with_value_at self.old place value }
         ensures state { IsCacheState K.eq (key_hash H.BuildHasher H.Hasher.Hasher K.hash_input self.new.contents) self.new }
     {
@@ -121,8 +158,8 @@ impl<K: Eq + Hash, V, H: BuildHasher> Owned<K, V, H> {
     /// Puts the key in the place of the one there, which it equals, and answers that one.
     pub(crate) fn replace_key_at(&mut self, place: Place, key: K) -> K
         requires within { IsPlace self.old.contents place }
-        requires same { (p : K × V) → slice_get (list_of self.old.contents place.bucket) place.slot ≡ Some p → K.eq key p.0 ≡ true }
-        ensures old { (p : K × V) × (slice_get (list_of self.old.contents place.bucket) place.slot ≡ Some p) × (result ≡ p.0) }
+        requires same { (p : K × V) → slice_get (list_of self.old.contents (spot_of self.old.contents place).bucket) (spot_of self.old.contents place).slot ≡ Some p → K.eq key p.0 ≡ true }
+        ensures old { (p : K × V) × (slice_get (list_of self.old.contents (spot_of self.old.contents place).bucket) (spot_of self.old.contents place).slot ≡ Some p) × (result ≡ p.0) }
         ensures new { self.new ≡ with_key_at self.old place key }
         ensures state { IsCacheState K.eq (key_hash H.BuildHasher H.Hasher.Hasher K.hash_input self.new.contents) self.new }
     {

@@ -2,21 +2,21 @@
 ghost use Rattle.std.specs.Prelude.{◌≡◌, ◌≤◌, ◌<◌, ◌++◌, suc, List, [], ◌∷◌, length, remove, Some, slice_get, OnErr, MatchOption};
 ghost use Rattle.std.specs.List.Sorted.{IsPermutation};
 ghost use Rattle.std.specs.Vec.{vec_len, vec_capacity};
-ghost use Rattle.scc_table.specs.Contents.{entries, key_hash, refused_of};
+ghost use Rattle.scc_table.specs.Contents.{entries, key_hash, refused_of, waiting_of};
 ghost use Rattle.scc_table.specs.Pairs.{IsUnique};
-ghost use Rattle.scc_table.specs.Places.{IsPlace, index_of};
-ghost use Rattle.scc_table.specs.Standing.{StandsAt};
 ghost use Rattle.scc_table.specs.Steps.{HoldsExactly};
+ghost use Rattle.scc_incremental.specs.Places.{IsPlace, StandsAt, index_of};
 ghost use Rattle.scc_walks.specs.PairWalks.{CallableToWrite, CalledToWrite, GoesOn, Takes};
 ghost use Rattle.scc_cache.specs.CacheWalks.{GoesOver, LeavesPairs, ShrinksIfTaken};
 ghost use Rattle.scc_cache.specs.Caches.{Cached, IsCacheState};
+ghost use Rattle.scc_cache.specs.Relocations.{RelocatesNone};
 
 use super::Owned;
 use scc_table::{Place, Verdict, WalkError};
 use std::hash::{BuildHasher, Hash};
 
 impl<K: Eq + Hash, V, H: BuildHasher> Owned<K, V, H> {
-    /// Calls `f` on the pairs in some order, each at most once, with the value to write, until it stops, and answers false where it stopped. A pair on which it answers `Take` or `TakeStop` goes to the end of `taken`; the others keep the order of their list. Room for one pair is made in `taken` before each call of `f`; where it can't be had, the walk ends with an error, and what it did so far stays. Where a pair was taken, the array may become smaller.
+    /// Calls `f` on the pairs in some order, each at most once, with the value to write, until it stops, and answers false where it stopped. A pair on which it answers `Take` or `TakeStop` goes to the end of `taken`; the others keep the order of their list. Room for one pair is made in `taken` before each call of `f`; where it can't be had, the walk ends with an error, and what it did so far stays. Where a pair was taken, the array may become smaller, and then every bucket of the new one waits.
     pub fn iter_mut_sync<F: FnMut(&K, &mut V) -> Verdict>(
         &mut self,
         f: F,
@@ -28,6 +28,8 @@ impl<K: Eq + Hash, V, H: BuildHasher> Owned<K, V, H> {
         ensures room { vec_capacity taken.old ≤ vec_capacity taken.new }
         ensures was_unique { IsUnique K.eq self.old.contents }
         ensures state { IsCacheState K.eq (key_hash H.BuildHasher H.Hasher.Hasher K.hash_input self.new.contents) self.new }
+        ensures relocates { RelocatesNone (λ p. key_hash H.BuildHasher H.Hasher.Hasher K.hash_input self.old.contents p.0) self.old.contents self.new.contents }
+        ensures rests { length (entries self.new.contents) ≡ length (entries self.old.contents) → waiting_of self.new.contents ≡ waiting_of self.old.contents }
     {
         let before = self.len();
         let result = self.take_walk(f, taken);
@@ -47,6 +49,7 @@ impl<K: Eq + Hash, V, H: BuildHasher> Owned<K, V, H> {
         ensures step { (stay : List (K × V)) × (more : List (K × V)) × (last : F) × Takes (CalledToWrite F.FnMut) f (entries self.old.contents) stay more result last × (taken.new.items ≡ taken.old.items ++ more) × HoldsExactly self.old.contents stay self.new.contents }
         ensures refused { refused_of self.new.contents ≡ refused_of self.old.contents }
         ensures maximum { self.new.maximum ≡ self.old.maximum }
+        ensures waiting { waiting_of self.new.contents ≡ waiting_of self.old.contents }
         ensures full { OnErr result (vec_capacity taken.new ≤ vec_len taken.new) }
         ensures room { vec_capacity taken.old ≤ vec_capacity taken.new }
     {
@@ -81,6 +84,7 @@ impl<K: Eq + Hash, V, H: BuildHasher> Owned<K, V, H> {
         ensures others { HoldsExactly self.old.contents (remove (entries self.old.contents) (index_of self.old.contents place)) self.new.contents }
         ensures refused { refused_of self.new.contents ≡ refused_of self.old.contents }
         ensures maximum { self.new.maximum ≡ self.old.maximum }
+        ensures waiting { waiting_of self.new.contents ≡ waiting_of self.old.contents }
         ensures next { MatchOption result (suc (index_of self.old.contents place) ≡ length (entries self.old.contents)) (StandsAt self.new.contents (index_of self.old.contents place)) }
         ensures capacity { vec_capacity taken.new ≡ vec_capacity taken.old }
     {

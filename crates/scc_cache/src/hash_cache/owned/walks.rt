@@ -1,13 +1,13 @@
 //! Walks over the pairs of a cache. No walk makes a pair more recent.
 ghost use Rattle.std.specs.Prelude.{◌≡◌, suc, List, [], length, remove, true, Some, slice_get, MatchOption};
 ghost use Rattle.std.specs.List.Sorted.{IsPermutation};
-ghost use Rattle.scc_table.specs.Contents.{entries, list_of, refused_of, key_hash};
-ghost use Rattle.scc_table.specs.Places.{IsPlace, index_of};
-ghost use Rattle.scc_table.specs.Standing.{StandsAt};
+ghost use Rattle.scc_table.specs.Contents.{entries, list_of, refused_of, waiting_of, key_hash};
 ghost use Rattle.scc_table.specs.Steps.{HoldsExactly};
 ghost use Rattle.scc_table.specs.Walks.{CalledOn, CallableWhile, Walks};
+ghost use Rattle.scc_incremental.specs.Places.{IsPlace, StandsAt, index_of};
 ghost use Rattle.scc_cache.specs.CacheSteps.{Clears};
 ghost use Rattle.scc_cache.specs.Caches.{IsCacheState};
+ghost use Rattle.scc_cache.specs.Relocations.{RelocatesNone};
 
 use super::Owned;
 use scc_table::Place;
@@ -23,7 +23,7 @@ impl<K: Eq + Hash, V, H: BuildHasher> Owned<K, V, H> {
         self.table.walk(f)
     }
 
-    /// Takes out all pairs. Then the array may become smaller.
+    /// Takes out all pairs. Then the array may become smaller, and every bucket of the new one waits.
     pub fn clear_sync(&mut self)
     where
         K: Drop,
@@ -31,6 +31,7 @@ impl<K: Eq + Hash, V, H: BuildHasher> Owned<K, V, H> {
         ensures empty { entries self.new.contents ≡ [] }
         ensures step { Clears (key_hash H.BuildHasher H.Hasher.Hasher K.hash_input self.old.contents) self.old self.new }
         ensures state { IsCacheState K.eq (key_hash H.BuildHasher H.Hasher.Hasher K.hash_input self.new.contents) self.new }
+        ensures relocates { RelocatesNone (λ p. key_hash H.BuildHasher H.Hasher.Hasher K.hash_input self.old.contents p.0) self.old.contents self.new.contents }
     {
         self.take_all();
         self.table.shrink_within();
@@ -44,6 +45,7 @@ impl<K: Eq + Hash, V, H: BuildHasher> Owned<K, V, H> {
         ensures empty { HoldsExactly self.old.contents [] self.new.contents }
         ensures refused { refused_of self.new.contents ≡ refused_of self.old.contents }
         ensures maximum { self.new.maximum ≡ self.old.maximum }
+        ensures waiting { waiting_of self.new.contents ≡ waiting_of self.old.contents }
         ensures state { IsCacheState K.eq (key_hash H.BuildHasher H.Hasher.Hasher K.hash_input self.new.contents) self.new }
     {
         let mut at = self.table.first_place();
@@ -69,11 +71,9 @@ impl<K: Eq + Hash, V, H: BuildHasher> Owned<K, V, H> {
         ensures others { HoldsExactly self.old.contents (remove (entries self.old.contents) (index_of self.old.contents place)) self.new.contents }
         ensures refused { refused_of self.new.contents ≡ refused_of self.old.contents }
         ensures maximum { self.new.maximum ≡ self.old.maximum }
+        ensures waiting { waiting_of self.new.contents ≡ waiting_of self.old.contents }
         ensures next { MatchOption result.1 (suc (index_of self.old.contents place) ≡ length (entries self.old.contents)) (StandsAt self.new.contents (index_of self.old.contents place)) }
     {
-        let pair = self.table.take_in(place);
-        let next = self.table.place_from(place);
-        self.table.keep_lists();
-        (pair, next)
+        self.table.take_and_step(place)
     }
 }

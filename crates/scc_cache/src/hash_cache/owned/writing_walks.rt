@@ -1,22 +1,23 @@
 //! Walks that write into the pairs of a cache, and take pairs out of it. No walk makes a pair more recent.
 ghost use Rattle.std.specs.Prelude.{◌≡◌, List, Some, slice_get, ⊤};
 ghost use Rattle.std.specs.List.Sorted.{IsPermutation};
-ghost use Rattle.scc_table.specs.Contents.{entries, key_hash, refused_of};
+ghost use Rattle.scc_table.specs.Contents.{entries, key_hash, refused_of, waiting_of};
 ghost use Rattle.scc_table.specs.Pairs.{IsUnique};
-ghost use Rattle.scc_table.specs.Places.{IsPlace, index_of};
 ghost use Rattle.scc_table.specs.Steps.{HoldsExactly};
+ghost use Rattle.scc_incremental.specs.Places.{IsPlace, index_of};
 ghost use Rattle.scc_walks.specs.PairWalks.{CallableToWrite, CalledToWrite, Retains, TakesToWrite};
 ghost use Rattle.scc_cache.specs.CacheSteps.{ShrinksTo};
 ghost use Rattle.scc_cache.specs.CacheWalks.{GoesOver, LeavesPairs};
 ghost use Rattle.scc_cache.specs.Caches.{Cached, IsCacheState};
 ghost use Rattle.scc_cache.specs.Lends.{with_value_at};
+ghost use Rattle.scc_cache.specs.Relocations.{RelocatesNone};
 
 use super::Owned;
 use scc_table::Place;
 use std::hash::{BuildHasher, Hash};
 
 impl<K: Eq + Hash, V, H: BuildHasher> Owned<K, V, H> {
-    /// Calls `f` on every pair once, in some order, with the value to write, and takes out the pairs on which it answers false. The others keep the order of their list. Then the array may become smaller.
+    /// Calls `f` on every pair once, in some order, with the value to write, and takes out the pairs on which it answers false. The others keep the order of their list. Then the array may become smaller, and every bucket of the new one waits.
     pub fn retain_sync<F: FnMut(&K, &mut V) -> bool>(&mut self, f: F)
     where
         K: Drop,
@@ -25,6 +26,7 @@ impl<K: Eq + Hash, V, H: BuildHasher> Owned<K, V, H> {
         ensures step { (es : List (K × V)) × (stay : List (K × V)) × (last : F) × (left : Cached (K × V) H) × GoesOver (key_hash H.BuildHasher H.Hasher.Hasher K.hash_input self.old.contents) self.old.contents es × Retains (CalledToWrite F.FnMut) f es stay last × LeavesPairs (key_hash H.BuildHasher H.Hasher.Hasher K.hash_input self.old.contents) self.old stay left × ShrinksTo (λ e. key_hash H.BuildHasher H.Hasher.Hasher K.hash_input self.old.contents e.0) left self.new }
         ensures was_unique { IsUnique K.eq self.old.contents }
         ensures state { IsCacheState K.eq (key_hash H.BuildHasher H.Hasher.Hasher K.hash_input self.new.contents) self.new }
+        ensures relocates { RelocatesNone (λ p. key_hash H.BuildHasher H.Hasher.Hasher K.hash_input self.old.contents p.0) self.old.contents self.new.contents }
     {
         let _ = self.len();
         self.retain_all(f);
@@ -40,6 +42,7 @@ impl<K: Eq + Hash, V, H: BuildHasher> Owned<K, V, H> {
         ensures step { (stay : List (K × V)) × (last : F) × Retains (CalledToWrite F.FnMut) f (entries self.old.contents) stay last × HoldsExactly self.old.contents stay self.new.contents }
         ensures refused { refused_of self.new.contents ≡ refused_of self.old.contents }
         ensures maximum { self.new.maximum ≡ self.old.maximum }
+        ensures waiting { waiting_of self.new.contents ≡ waiting_of self.old.contents }
     {
         let mut at = self.table.first_place();
         while let Some(place) = at {

@@ -10,6 +10,7 @@ use Rattle.scc_table.proofs.Arrays.{shelf-at}
 use Rattle.scc_table.proofs.Inserts.{table-bound, bucket-bound}
 use Rattle.scc_incremental.proofs.Buckets.{still-within}
 use Rattle.scc_incremental.proofs.Arriving.{count-were, list-were, is-bare, landed-from, landed-list, landed-spilled, landed-table, distinct-landed, IsDistinct-nil, lists-set, same-contents, same-lists}
+use Rattle.scc_incremental.proofs.Doubling.{any-ok}
 use Rattle.scc_incremental.proofs.moving.move_in.Goals as goal
 
 pub exchange-fresh-requires-clause-unique : goal.exchange-fresh-requires-clause-unique
@@ -306,3 +307,27 @@ destroy_empty-requires g c =
     let were : map shelf_entries none ≡ map shelf_entries c.none.result = sym c.exchange-none.ensures.were ∙ c.exchange-fresh.ensures.lists in
     let bare : length none ≡ 0 = sym (length-map none shelf_entries) ∙ ap length were ∙ ap (λ (z : List (Shelf g.row.E.Denot)). length (map shelf_entries z)) c.none.ensures in
     λ j l. absurd (omega arith)
+
+pub returns-in-Ok-clause-short : goal.returns-in-Ok-clause-short
+returns-in-Ok-clause-short g c =
+    let cur = c.args.current.now in
+    let bs = c.exchange-fresh.result.0 in
+    let i = c.args.target in
+    let hash = λ (e : g.row.E.Denot). key_hash g.H.BuildHasher g.H.Hasher.Hasher g.E.Key.Hash.hash_input cur (g.E.Keyed.key_of e) in
+    let were = c.exchange-fresh.ensures.were in
+    let counted = count-were cur bs were in
+    let l : i < length bs = omega (arith, c.requires.target) in
+    let b = shelf_of bs i in
+    let es = flat_map shelf_entries c.args.old.now in
+    let t = (settings_of cur).skipped in
+    let n = c.fill-filled.new.into in
+    let d = shelf_of n i in
+    let most : length (bound_for hash t (length bs) i es) ≤ c.args.coming = rw (c.requires.skips, counted) at c.requires.coming in
+    let ok = rw c.exchange-fresh.ensures.settings at c.fill-filled.ensures.ok in
+    let buckets : c.len-buckets.result ≡ length bs = search rules in
+    let spilled : c.overflow_len-spilled.result ≡ length d.overflow = c.overflow_len-spilled.ensures in
+    λ few.
+    let none : c.args.coming ≤ 32 + 0 = few in
+    let landed = landed-from hash t i bs c.args.old.now c.fill-filled.new.old d 0 c.args.coming c.args.skipped c.len-buckets.result c.requires.skips buckets most c.fill-filled.result ok (any-ok c.fill-filled.result none) c.fill-filled.ensures.stays in
+    let less = landed-spilled hash t i bs b es 0 d landed in
+    omega (arith, c.exchange-none.ensures.spilled, c.exchange-fresh.ensures.overflowing)

@@ -5,6 +5,7 @@ ghost use Rattle.scc_table.specs.Contents.{bucket_count, key_hash};
 ghost use Rattle.scc_cache.specs.CacheSteps.{IsAbsent, TakesAt};
 ghost use Rattle.scc_cache.specs.Caches.{IsCacheState};
 ghost use Rattle.scc_cache.specs.Entries.{Memory, held_cache, occupied_pair, entry_guard, IsEntryOf, IsRefreshed, IsPut, rests_if_refused, rests_if_none, replaced_guard, Replaces};
+ghost use Rattle.scc_cache.specs.Relocations.{RelocatesNone};
 
 use super::{Entry, OccupiedEntry, ReplaceResult};
 use crate::hash_cache::EvictedEntry;
@@ -40,7 +41,7 @@ impl<K: Eq + Hash, V, H: BuildHasher> Owned<K, V, H> {
         }
     }
 
-    /// The occupied entry of `k`, whose pair becomes the most recent of its bucket; None where no key equals it, and then nothing changes. It takes no memory.
+    /// The occupied entry of `k`, whose pair becomes the most recent of its bucket; None where no key equals it, and then nothing changes. It takes no memory. Where that bucket waits, it takes its pairs over first, and no other does.
     pub fn get_sync(&mut self, k: &K) -> Option<OccupiedEntry<'_, K, V, H>>
         ensures same_cache { IfSome result (λ o. o.guard.ghost_name ≡ self.entry.ghost_name) }
         ensures entry { IfSome result (IsRefreshed K.eq self.old k.now) }
@@ -97,6 +98,7 @@ impl<'a, N, K: Eq + Hash, V, H: BuildHasher> HeldEntry<&'a mut Owned<K, V, H>, N
         ensures value { result ≡ (occupied_pair self.entry).1 }
         ensures removed { TakesAt (key_hash H.BuildHasher H.Hasher.Hasher K.hash_input (held_cache self.entry).contents) (held_cache self.entry) self.entry.place self.exit.0.now }
         ensures state { IsCacheState K.eq (key_hash H.BuildHasher H.Hasher.Hasher K.hash_input self.exit.0.now.contents) self.exit.0.now }
+        ensures relocates { RelocatesNone (λ p. key_hash H.BuildHasher H.Hasher.Hasher K.hash_input (held_cache self.entry).contents p.0) (held_cache self.entry).contents self.exit.0.now.contents }
     {
         let (_key, value) = self.remove_entry();
         value
@@ -109,6 +111,7 @@ impl<'a, N, K: Eq + Hash, V, H: BuildHasher> HeldEntry<&'a mut Owned<K, V, H>, N
         ensures pair { result ≡ occupied_pair self.entry }
         ensures removed { TakesAt (key_hash H.BuildHasher H.Hasher.Hasher K.hash_input (held_cache self.entry).contents) (held_cache self.entry) self.entry.place self.exit.0.now }
         ensures state { IsCacheState K.eq (key_hash H.BuildHasher H.Hasher.Hasher K.hash_input self.exit.0.now.contents) self.exit.0.now }
+        ensures relocates { RelocatesNone (λ p. key_hash H.BuildHasher H.Hasher.Hasher K.hash_input (held_cache self.entry).contents p.0) (held_cache self.entry).contents self.exit.0.now.contents }
     {
         let place = self.place;
         self.guard.remove_at(place)

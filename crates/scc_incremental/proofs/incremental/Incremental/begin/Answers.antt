@@ -1,4 +1,4 @@
-use Rattle.std.proofs.Common.{◌≡◌, ◌≢◌, ◌∙◌, ◌<◌, ℕ, List, length, map, replicate, true, inl, inr, refl, sym, ap, subst, arith}
+use Rattle.std.proofs.Common.{◌≡◌, ◌≢◌, ◌∙◌, ◌+◌, ◌<◌, ℕ, List, length, map, replicate, true, inl, inr, refl, sym, ap, subst, arith}
 use Rattle.std.proofs.lemmas.List.{length-replicate, length-map}
 use Rattle.std.specs.List.{flat_map, count_by, IsDistinct}
 use Rattle.std.specs.List.Sorted.{IsPermutation}
@@ -6,16 +6,17 @@ use Rattle.scc_bucket.specs.Shelf.{Shelf, shelf_entries, empty_shelf}
 use Rattle.scc_table.specs.Contents.{bucket_count, entries, key_hash, lists_of, settings_of, spilled_of}
 use Rattle.scc_table.specs.Pour.{IsRegrouped}
 use Rattle.scc_table.specs.Sizes.{IsArray, IsLawful}
-use Rattle.scc_table.specs.Tables.{IsTable}
+use Rattle.scc_table.specs.Tables.{IsTable, spilled_in}
 use Rattle.scc_table.proofs.Fresh.{empty-replicate}
 use Rattle.scc_table.proofs.Making.{flat-empty, table-empty}
 use Rattle.scc_incremental.specs.TwoArrays.{IsIncremental, together}
-use Rattle.scc_incremental.proofs.Alone.{all-bare, count-alone, entries-alone, lists-alone, nothing-held}
+use Rattle.scc_table.proofs.Bare.{all-bare}
+use Rattle.scc_incremental.proofs.Alone.{count-alone, entries-alone, lists-alone, nothing-held, spilled-together}
 use Rattle.scc_incremental.proofs.Arriving.{count-were, entries-were, IsDistinct-nil}
 use Rattle.scc_incremental.proofs.Joining.{waiting-together, pending-together, refused-together}
 use Rattle.scc_incremental.proofs.Same.{hash-same}
 use Rattle.scc_incremental.proofs.Starting.{count-up, permuted-all, started-fields, started-lists}
-use Rattle.scc_incremental.proofs.Viewed.{count-seen, settled-flags, settings-seen, refused-seen}
+use Rattle.scc_incremental.proofs.Viewed.{count-seen, settled-flags, settings-seen, refused-seen, spilled-seen}
 use Rattle.scc_incremental.proofs.incremental.Incremental.begin.Goals as goal
 
 pub exchange-old-requires-clause-table : goal.exchange-old-requires-clause-table
@@ -135,3 +136,17 @@ pub returns-clause-noted : goal.returns-clause-noted
 returns-clause-noted g c =
     let t = c.self.inside in
     refused-together _ c.exchange-old.new.self c.args.flags.items c.replace-bare.new.dest ∙ c.exchange-old.ensures.noted ∙ sym (refused-seen _ t.current t.waiting.items t.draining c.args.self.now c.self.view_is)
+
+pub returns-clause-bounded : goal.returns-clause-bounded
+returns-clause-bounded g c =
+    let t = c.self.inside in
+    let cur = t.current in
+    let d = c.exchange-old.new.self in
+    let olds = c.exchange-old.result.0 in
+    let was = spilled-seen (λ (e : g.row.E.Denot). key_hash g.H.BuildHasher g.H.Hasher.Hasher g.E.Key.Hash.hash_input cur (g.E.Keyed.key_of e)) cur t.waiting.items t.draining c.args.self.now c.self.view_is in
+    let nothing : spilled_of d ≡ 0 = c.exchange-old.ensures.spilled in
+    let over : spilled_in olds ≡ spilled_of cur = sym c.exchange-old.ensures.table.spilled ∙ c.exchange-old.ensures.overflowing in
+    let now : spilled_in c.replace-bare.new.dest ≡ spilled_in olds = ap (λ (z : List (Shelf g.row.E.Denot)). spilled_in z) c.replace-bare.ensures.after in
+    λ none.
+    let zero : spilled_of d + spilled_in c.replace-bare.new.dest ≡ 0 = omega (arith, was, nothing, over, now, none) in
+    spilled-together (λ e. key_hash g.H.BuildHasher g.H.Hasher.Hasher g.E.Key.Hash.hash_input d (g.E.Keyed.key_of e)) d c.args.flags.items c.replace-bare.new.dest ∙ zero

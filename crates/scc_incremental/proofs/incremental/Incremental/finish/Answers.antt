@@ -20,7 +20,7 @@ relocate_next-requires g c =
 pub loop-preserved : goal.loop-preserved
 loop-preserved g c =
     let moved = c.in_ok-relocate_next.ensures.ok in
-    finish-step c.args.self.now c.loop.self c.relocate_next.new.self c.loop.counter moved.0 c.loop.invariant moved.2
+    finish-step c.args.self.now c.loop.self c.relocate_next.new.self c.loop.counter moved.0 c.loop.invariant moved.2 c.relocate_next.ensures.bounded
 
 pub returns-clause-ok : goal.returns-clause-ok
 returns-clause-ok g c =

@@ -2,7 +2,8 @@ use Rattle.std.proofs.Common.{◌≡◌, ◌∙◌, length, sym, ap, arith}
 use Rattle.std.proofs.lemmas.List.Concat.{length-flat_map}
 use Rattle.scc_bucket.specs.Shelf.{shelf_entries}
 use Rattle.scc_table.specs.Contents.{key_hash}
-use Rattle.scc_incremental.proofs.Alone.{all-bare, entries-alone, fields-alone, nothing-held, spilled-bare, spilled-alone, lists-alone, held-alone}
+use Rattle.scc_table.proofs.Bare.{all-bare}
+use Rattle.scc_incremental.proofs.Alone.{entries-alone, fields-alone, nothing-held, spilled-bare, spilled-alone, lists-alone, held-alone}
 use Rattle.scc_incremental.proofs.Joining.{settings-together, refused-together, waiting-together, pending-together}
 use Rattle.scc_incremental.proofs.Viewed.{settled-flags, settings-seen, refused-seen, waiting-seen, pending-seen, spilled-seen, lists-seen, held-seen}
 use Rattle.scc_incremental.proofs.incremental.Incremental.give_back.Goals as goal

@@ -12,8 +12,8 @@ use Rattle.scc_incremental.proofs.Settled.{either-answer, raises-some}
 use Rattle.scc_incremental.proofs.Viewed.{count-seen, lists-seen, refused-seen, settings-seen}
 use Rattle.scc_incremental.proofs.incremental.Incremental.insert_made_first.Goals as goal
 
-pub insert_made-placed-requires-clause-hashed : goal.insert_made-placed-requires-clause-hashed
-insert_made-placed-requires-clause-hashed g c =
+pub insert_made_first-placed-requires-clause-hashed : goal.insert_made_first-placed-requires-clause-hashed
+insert_made_first-placed-requires-clause-hashed g c =
     let t = c.self.inside in
     let cur = t.current in
     let ws = t.waiting.items in
@@ -28,8 +28,15 @@ insert_made-placed-requires-clause-hashed g c =
     let outer = hash-same g.H.BuildHasher g.H.Hasher.Hasher g.E.Key.Hash.hash_input cur a (settings-seen hash cur ws olds a view) in
     c.requires.hashed ∙ ap (λ (h : g.row.E-Key.Denot → ℕ). h (g.E.Keyed.key_of (g.E.Made.made_of c.args.parts))) outer
 
-pub insert_made-placed-requires-clause-absent : goal.insert_made-placed-requires-clause-absent
-insert_made-placed-requires-clause-absent g c =
+pub insert_made_first-placed-requires-clause-none : goal.insert_made_first-placed-requires-clause-none
+insert_made_first-placed-requires-clause-none g c =
+    let t = c.self.inside in
+    let cur = t.current in
+    let hash = λ (e : g.row.E.Denot). key_hash g.H.BuildHasher g.H.Hasher.Hasher g.E.Key.Hash.hash_input cur (g.E.Keyed.key_of e) in
+    sym (count-seen hash cur t.waiting.items t.draining c.args.self.now c.self.view_is c.self.invariant.arrays.flags) ∙ c.requires.none
+
+pub insert_made_first-placed-requires-clause-absent : goal.insert_made_first-placed-requires-clause-absent
+insert_made_first-placed-requires-clause-absent g c =
     let t = c.self.inside in
     let cur = t.current in
     let ws = t.waiting.items in
@@ -51,18 +58,18 @@ invariant_of-self g c =
     let ws = t.waiting.items in
     let olds = t.draining in
     let a = c.args.self.now in
-    let new = c.insert_made-placed.new.self in
+    let new = c.insert_made_first-placed.new.self in
     let inv = c.self.invariant in
     let hk = key_hash g.H.BuildHasher g.H.Hasher.Hasher g.E.Key.Hash.hash_input cur in
     let hash = λ (e : g.row.E.Denot). hk (g.E.Keyed.key_of e) in
     let view = c.self.view_is in
     let count = count-seen hash cur ws olds a view inv.arrays.flags in
     let none = no-flags ws (bucket_count cur) inv.arrays.flags (sym count ∙ c.requires.none) in
-    let kept : settings_of new ≡ settings_of cur = either-answer c.insert_made-placed.result c.insert_made-placed.ensures.ok c.insert_made-placed.ensures.err (λ p i. i.holds.settings) (λ p u. u.1.settings) in
+    let kept : settings_of new ≡ settings_of cur = either-answer c.insert_made_first-placed.result c.insert_made_first-placed.ensures.ok c.insert_made_first-placed.ensures.err (λ p i. i.holds.settings) (λ p u. u.1.settings) in
     let same = hash-same g.H.BuildHasher g.H.Hasher.Hasher g.E.Key.Hash.hash_input cur new kept in
     let few = c.overflow_len-few.ensures in
     subst (λ (h : g.row.E-Key.Denot → ℕ). IsIncremental g.E.Key.PartialEq.eq g.E.Keyed.key_of h new ws olds t.skipped t.pending t.next t.held 0) (sym same)
-    (fields-lone g.E.Key.PartialEq.eq g.E.Keyed.key_of hk cur new ws olds t.skipped t.pending t.next t.held t.held_overflow inv none kept (omega (arith, few.value, few.most)) c.insert_made-placed.ensures.unique)
+    (fields-lone g.E.Key.PartialEq.eq g.E.Keyed.key_of hk cur new ws olds t.skipped t.pending t.next t.held t.held_overflow inv none kept (omega (arith, few.value, few.most)) c.insert_made_first-placed.ensures.unique)
 
 pub returns-clause-ok : goal.returns-clause-ok
 returns-clause-ok g c =
@@ -71,7 +78,7 @@ returns-clause-ok g c =
     let ws = t.waiting.items in
     let olds = t.draining in
     let a = c.args.self.now in
-    let new = c.insert_made-placed.new.self in
+    let new = c.insert_made_first-placed.new.self in
     let inv = c.self.invariant in
     let hk = key_hash g.H.BuildHasher g.H.Hasher.Hasher g.E.Key.Hash.hash_input cur in
     let hash = λ (e : g.row.E.Denot). hk (g.E.Keyed.key_of e) in
@@ -84,7 +91,7 @@ returns-clause-ok g c =
     let had = settings-seen hash cur ws olds a view in
     let after = lists-alone later new ws olds none in
     let has = settings-together later new ws olds in
-    if-ok c.insert_made-placed.result (λ p i. over-inserted a cur new d before had after has (waiting-together later new ws olds ∙ none) (g.E.Made.made_of c.args.parts) p i) c.insert_made-placed.ensures.ok
+    if-ok c.insert_made_first-placed.result (λ p i. over-inserted a cur new d before had after has (waiting-together later new ws olds ∙ none) (g.E.Made.made_of c.args.parts) p i) c.insert_made_first-placed.ensures.ok
 
 pub returns-clause-err : goal.returns-clause-err
 returns-clause-err g c =
@@ -93,7 +100,7 @@ returns-clause-err g c =
     let ws = t.waiting.items in
     let olds = t.draining in
     let a = c.args.self.now in
-    let new = c.insert_made-placed.new.self in
+    let new = c.insert_made_first-placed.new.self in
     let inv = c.self.invariant in
     let hk = key_hash g.H.BuildHasher g.H.Hasher.Hasher g.E.Key.Hash.hash_input cur in
     let hash = λ (e : g.row.E.Denot). hk (g.E.Keyed.key_of e) in
@@ -106,7 +113,7 @@ returns-clause-err g c =
     let had = settings-seen hash cur ws olds a view in
     let after = lists-alone later new ws olds none in
     let has = settings-together later new ws olds in
-    if-err c.insert_made-placed.result (λ p u. (u.0, over-unchanged a cur new d before had after has u.1)) c.insert_made-placed.ensures.err
+    if-err c.insert_made_first-placed.result (λ p u. (u.0, over-unchanged a cur new d before had after has u.1)) c.insert_made_first-placed.ensures.err
 
 pub returns-clause-growth : goal.returns-clause-growth
 returns-clause-growth g c =
@@ -115,7 +122,7 @@ returns-clause-growth g c =
     let ws = t.waiting.items in
     let olds = t.draining in
     let a = c.args.self.now in
-    let new = c.insert_made-placed.new.self in
+    let new = c.insert_made_first-placed.new.self in
     let inv = c.self.invariant in
     let hk = key_hash g.H.BuildHasher g.H.Hasher.Hasher g.E.Key.Hash.hash_input cur in
     let hash = λ (e : g.row.E.Denot). hk (g.E.Keyed.key_of e) in
@@ -128,7 +135,7 @@ returns-clause-growth g c =
     let had = settings-seen hash cur ws olds a view in
     let after = lists-alone later new ws olds none in
     let has = settings-together later new ws olds in
-    over-grows a cur new d before had after has c.requires.none c.insert_made-placed.ensures.growth
+    over-grows a cur new d before had after has c.requires.none c.insert_made_first-placed.ensures.growth
 
 pub returns-clause-first : goal.returns-clause-first
 returns-clause-first g c =
@@ -137,7 +144,7 @@ returns-clause-first g c =
     let ws = t.waiting.items in
     let olds = t.draining in
     let a = c.args.self.now in
-    let new = c.insert_made-placed.new.self in
+    let new = c.insert_made_first-placed.new.self in
     let inv = c.self.invariant in
     let hk = key_hash g.H.BuildHasher g.H.Hasher.Hasher g.E.Key.Hash.hash_input cur in
     let hash = λ (e : g.row.E.Denot). hk (g.E.Keyed.key_of e) in
@@ -150,7 +157,7 @@ returns-clause-first g c =
     let had = settings-seen hash cur ws olds a view in
     let after = lists-alone later new ws olds none in
     let has = settings-together later new ws olds in
-    on-ok c.insert_made-placed.result (λ f. over-first a cur new d before had after has f) c.insert_made-placed.ensures.first
+    on-ok c.insert_made_first-placed.result (λ f. over-first a cur new d before had after has f) c.insert_made_first-placed.ensures.first
 
 pub returns-clause-waiting : goal.returns-clause-waiting
 returns-clause-waiting g c =
@@ -159,7 +166,7 @@ returns-clause-waiting g c =
     let ws = t.waiting.items in
     let olds = t.draining in
     let a = c.args.self.now in
-    let new = c.insert_made-placed.new.self in
+    let new = c.insert_made_first-placed.new.self in
     let inv = c.self.invariant in
     let hk = key_hash g.H.BuildHasher g.H.Hasher.Hasher g.E.Key.Hash.hash_input cur in
     let hash = λ (e : g.row.E.Denot). hk (g.E.Keyed.key_of e) in
@@ -181,24 +188,11 @@ returns-clause-raised g c =
     let ws = t.waiting.items in
     let olds = t.draining in
     let a = c.args.self.now in
-    let new = c.insert_made-placed.new.self in
-    let inv = c.self.invariant in
+    let new = c.insert_made_first-placed.new.self in
     let hk = key_hash g.H.BuildHasher g.H.Hasher.Hasher g.E.Key.Hash.hash_input cur in
     let hash = λ (e : g.row.E.Denot). hk (g.E.Keyed.key_of e) in
-    let view = c.self.view_is in
-    let count = count-seen hash cur ws olds a view inv.arrays.flags in
-    let none = no-flags ws (bucket_count cur) inv.arrays.flags (sym count ∙ c.requires.none) in
     let later = λ (e : g.row.E.Denot). key_hash g.H.BuildHasher g.H.Hasher.Hasher g.E.Key.Hash.hash_input new (g.E.Keyed.key_of e) in
-    let d = together later new ws olds in
-    let before = lists-seen hash cur ws olds a view none in
-    let had = settings-seen hash cur ws olds a view in
-    let after = lists-alone later new ws olds none in
-    let has = settings-together later new ws olds in
-    let low = refused-seen hash cur ws olds a view in
-    let up = refused-together later new ws olds in
-    λ down. up ∙ by_answer (refused_of new)
-    (λ q. absurd (let z = (raises-some _ _ cur _ new c.insert_made-placed.result c.insert_made-placed.ensures.due c.insert_made-placed.ensures.raised (sym low ∙ down) q).0 in omega (arith, count, c.requires.none)))
-    (λ q. q)
+    λ down. refused-together later new ws olds ∙ c.insert_made_first-placed.ensures.noted ∙ sym (refused-seen hash cur ws olds a c.self.view_is) ∙ down
 
 pub returns-clause-unique : goal.returns-clause-unique
 returns-clause-unique g c =
@@ -207,7 +201,7 @@ returns-clause-unique g c =
     let ws = t.waiting.items in
     let olds = t.draining in
     let a = c.args.self.now in
-    let new = c.insert_made-placed.new.self in
+    let new = c.insert_made_first-placed.new.self in
     let inv = c.self.invariant in
     let hk = key_hash g.H.BuildHasher g.H.Hasher.Hasher g.E.Key.Hash.hash_input cur in
     let hash = λ (e : g.row.E.Denot). hk (g.E.Keyed.key_of e) in
@@ -215,4 +209,4 @@ returns-clause-unique g c =
     let count = count-seen hash cur ws olds a view inv.arrays.flags in
     let none = no-flags ws (bucket_count cur) inv.arrays.flags (sym count ∙ c.requires.none) in
     let later = λ (e : g.row.E.Denot). key_hash g.H.BuildHasher g.H.Hasher.Hasher g.E.Key.Hash.hash_input new (g.E.Keyed.key_of e) in
-    subst (λ (es : List g.row.E.Denot). IsDistinct g.E.Key.PartialEq.eq (map g.E.Keyed.key_of es)) (sym (entries-alone later new ws olds none)) c.insert_made-placed.ensures.unique
+    subst (λ (es : List g.row.E.Denot). IsDistinct g.E.Key.PartialEq.eq (map g.E.Keyed.key_of es)) (sym (entries-alone later new ws olds none)) c.insert_made_first-placed.ensures.unique

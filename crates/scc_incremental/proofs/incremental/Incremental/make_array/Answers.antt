@@ -1,13 +1,15 @@
 use Rattle.std.specs.List.{IsDistinct}
 use Rattle.std.proofs.Common.{◌≡◌, ◌∙◌, ◌+◌, ◌*◌, ◌<◌, ℕ, List, [], map, inl, sym, ap, subst, arith}
-use Rattle.scc_table.specs.Contents.{bucket_count, entries, key_hash, minimum_of, waiting_of, refused_of}
+use Rattle.scc_table.specs.Contents.{bucket_count, entries, key_hash, minimum_of, spilled_of, waiting_of, refused_of}
 use Rattle.scc_table.specs.Sizes.{IsArray, IsArraySize}
+use Rattle.scc_table.specs.Tables.{spilled_in}
 use Rattle.scc_incremental.specs.TwoArrays.{IsIncremental, together}
-use Rattle.scc_incremental.proofs.Alone.{count-alone, entries-alone}
+use Rattle.scc_incremental.proofs.Alone.{count-alone, entries-alone, nothing-held, spilled-bare, spilled-together}
 use Rattle.scc_incremental.proofs.Arriving.{IsDistinct-nil}
 use Rattle.scc_incremental.proofs.Firsts.{fields-first, first-grows, first-rests, no-flags, same-rests}
 use Rattle.scc_incremental.proofs.Joining.{refused-together, settings-together, waiting-together}
 use Rattle.scc_incremental.proofs.Same.{any-err, hash-same}
+use Rattle.scc_incremental.proofs.Short.{first-resized}
 use Rattle.scc_incremental.proofs.Viewed.{count-seen, refused-seen, settings-seen, waiting-seen}
 use Rattle.scc_incremental.proofs.incremental.Incremental.make_array.Goals as goal
 
@@ -305,3 +307,37 @@ returns-in_err-make_array-clause-refused g c =
     let d = together (λ e. key_hash g.H.BuildHasher g.H.Hasher.Hasher g.E.Key.Hash.hash_input c.make_array.new.self (g.E.Keyed.key_of e)) c.make_array.new.self t.waiting.items t.draining in
     let same : d ≡ c.args.self.now = rw c.in_err-make_array.ensures.same c.self.view_is in
     any-err c.from_residual.result (same-rests c.args.self.now d same).0
+
+pub returns-clause-resized : goal.returns-clause-resized
+returns-clause-resized g c =
+    let t = c.self.inside in
+    let cur = t.current in
+    let ws = t.waiting.items in
+    let olds = t.draining in
+    let a = c.args.self.now in
+    let new = c.make_array.new.self in
+    let inv = c.self.invariant in
+    let hk = key_hash g.H.BuildHasher g.H.Hasher.Hasher g.E.Key.Hash.hash_input cur in
+    let hash = λ (e : g.row.E.Denot). hk (g.E.Keyed.key_of e) in
+    let view = c.self.view_is in
+    let count = count-seen hash cur ws olds a view inv.arrays.flags in
+    let none = no-flags ws (bucket_count cur) inv.arrays.flags (sym count ∙ c.requires) in
+    let later = λ (e : g.row.E.Denot). key_hash g.H.BuildHasher g.H.Hasher.Hasher g.E.Key.Hash.hash_input new (g.E.Keyed.key_of e) in
+    let d = together later new ws olds in
+    let still = entries-alone later new ws olds none ∙ c.make_array.ensures.still in
+    let bare = ap entries (sym view) ∙ entries-alone hash cur ws olds none ∙ c.make_array.ensures.entries in
+    let kept = settings-seen hash cur ws olds a view in
+    let settings = settings-together later new ws olds ∙ c.make_array.ensures.settings ∙ sym kept in
+    let buckets = count-alone later new ws olds none in
+    let array = subst IsArray (sym buckets) c.in_ok-make_array.ensures.array in
+    let low : spilled_of new ≡ 0 = c.in_ok-make_array.ensures.resized.bounded in
+    let nothing = spilled-bare olds (nothing-held hash cur ws olds none inv.arrays) in
+    let zero : spilled_of new + spilled_in olds ≡ 0 = omega (arith, low, nothing) in
+    first-resized _ a d bare still settings array (spilled-together later new ws olds ∙ zero)
+
+pub returns-in_err-make_array-clause-same : goal.returns-in_err-make_array-clause-same
+returns-in_err-make_array-clause-same g c =
+    let t = c.self.inside in
+    let d = together (λ e. key_hash g.H.BuildHasher g.H.Hasher.Hasher g.E.Key.Hash.hash_input c.make_array.new.self (g.E.Keyed.key_of e)) c.make_array.new.self t.waiting.items t.draining in
+    let same : d ≡ c.args.self.now = rw c.in_err-make_array.ensures.same c.self.view_is in
+    any-err c.from_residual.result same

@@ -21,3 +21,6 @@ returns-then-self-eq0-clause-ok g c =
       held = last.held ∙ moved.held ∙ ap (λ v. held_without v c.args.bucket (held_of c.args.self.now)) (sym last.waiting);
       pending = omega (arith, last.pending, moved.pending);
     }
+
+pub returns-then-self-eq0-clause-bounded : goal.returns-then-self-eq0-clause-bounded
+returns-then-self-eq0-clause-bounded g c = λ none few. c.give_back.ensures.spilled ∙ c.take_over.ensures.bounded none few

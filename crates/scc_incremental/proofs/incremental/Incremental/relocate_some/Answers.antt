@@ -21,6 +21,6 @@ returns-then-self-eq0-clause-exact g c =
 
 pub loop-preserved : goal.loop-preserved
 loop-preserved g c = elim c.match-relocate_next.branch [
-  | in-Ok w ↦ settles-one c.args.self.now c.loop.self c.relocate_next.new.self c.loop.counter w.in-Ok.ensures.ok.0 c.loop.invariant w.in-Ok.ensures.ok.1 w.in-Ok.ensures.ok.2
+  | in-Ok w ↦ settles-one c.args.self.now c.loop.self c.relocate_next.new.self c.loop.counter w.in-Ok.ensures.ok.0 c.loop.invariant w.in-Ok.ensures.ok.1 w.in-Ok.ensures.ok.2 c.relocate_next.ensures.bounded
   | in-Err w ↦ subst (λ z. SettlesFirst c.args.self.now z (c.loop.counter + 1)) (sym w.in-Err.ensures.err) (settles-none c.args.self.now c.loop.self c.loop.counter w.in-Err.ensures.refused.0 c.loop.invariant w.in-Err.ensures.refused.1 w.in-Err.ensures.refused.2)
 ]

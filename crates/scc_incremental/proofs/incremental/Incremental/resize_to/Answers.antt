@@ -42,3 +42,12 @@ returns-in-Err-clause-err g c = unchanged-same c.args.self.now c.note.new.self (
 
 pub returns-in-Err-clause-less : goal.returns-in-Err-clause-less
 returns-in-Err-clause-less g c = let n = pending-same c.finish.new.self c.note.new.self c.note.ensures.waiting in omega (arith, c.finish.ensures.less)
+
+pub returns-in-Ok-clause-still : goal.returns-in-Ok-clause-still
+returns-in-Ok-clause-still g c = on-err c.start.result (λ z. z ∙ c.finish.ensures.lists) c.start.ensures.err
+
+pub returns-in-Ok-clause-bounded : goal.returns-in-Ok-clause-bounded
+returns-in-Ok-clause-bounded g c = λ none short. c.start.ensures.bounded (c.finish.ensures.bounded none short)
+
+pub returns-in-Err-clause-bounded : goal.returns-in-Err-clause-bounded
+returns-in-Err-clause-bounded g c = λ none short. c.note.ensures.spilled ∙ c.finish.ensures.bounded none short

@@ -13,3 +13,9 @@ returns-in-Ok-clause-same g c = subst (λ es. IsPermutation (entries c.args.self
 
 pub returns-in-Ok-clause-pending : goal.returns-in-Ok-clause-pending
 returns-in-Ok-clause-pending g c = pending-same c.begin.new.self c.note.new.self c.note.ensures.waiting ∙ c.begin.ensures.pending
+
+pub returns-in-Ok-clause-bounded : goal.returns-in-Ok-clause-bounded
+returns-in-Ok-clause-bounded g c = λ none. c.note.ensures.spilled ∙ c.begin.ensures.bounded none
+
+pub returns-in-Err-clause-bounded : goal.returns-in-Err-clause-bounded
+returns-in-Err-clause-bounded g c = λ none. c.note-in-Err.ensures.spilled ∙ none

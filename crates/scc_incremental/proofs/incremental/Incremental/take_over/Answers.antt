@@ -1,16 +1,18 @@
-use Rattle.std.proofs.Common.{◌≡◌, ◌∙◌, ℕ, ◌-◌, ◌^◌, ◌<◌, true, false, length, set, refl, sym, ap, subst, arith, rules}
+use Rattle.std.proofs.Common.{◌≡◌, ◌∙◌, ℕ, ◌+◌, ◌-◌, ◌^◌, ◌<◌, true, false, length, set, refl, sym, ap, subst, arith, rules}
 use Rattle.std.specs.List.{flat_map}
 use Rattle.std.proofs.lemmas.List.Concat.{length-flat_map}
 use Rattle.scc_bucket.specs.Shelf.{shelf_entries}
-use Rattle.scc_table.specs.Contents.{bucket_count, key_hash, list_of, settings_of, waiting_of}
+use Rattle.scc_table.specs.Contents.{bucket_count, key_hash, list_of, settings_of, spilled_of, waiting_of}
 use Rattle.scc_table.specs.Tables.{spilled_in}
 use Rattle.scc_table.specs.Hashing.{hash_of}
 use Rattle.scc_incremental.specs.TwoArrays.{waits_at, together, IsIncremental, IsRelocated}
 use Rattle.scc_incremental.proofs.Joining.{waiting-together}
 use Rattle.scc_incremental.proofs.Preparing.{within-sources, few-each, unique-before, waiting-list, long-flags, most-held, multiple-flags, sized-flags}
 use Rattle.scc_incremental.proofs.Counted.{bound-le}
-use Rattle.scc_incremental.proofs.Relocated.{others, last, fields-after, relocated-after}
+use Rattle.scc_incremental.proofs.Alone.{spilled-together}
+use Rattle.scc_incremental.proofs.Relocated.{others, last, fields-after, relocated-after, spilled-le}
 use Rattle.scc_incremental.proofs.Relocating.{up-within, one-down}
+use Rattle.scc_incremental.proofs.Viewed.{spilled-seen}
 use Rattle.scc_incremental.proofs.incremental.Incremental.take_over.Goals as goal
 
 pub sources-first-requires-clause-some : goal.sources-first-requires-clause-some
@@ -441,3 +443,57 @@ returns-in-Err-clause-refused g c =
     let coming = rw (inv.skips, c.bucket_count-count.ensures.count) at c.count_all-coming.ensures in
     let same = coming ∙ ap length (sym list) in
     omega (arith, same, c.in-Err.ensures.refused)
+
+pub returns-then-self-eq0-clause-bounded : goal.returns-then-self-eq0-clause-bounded
+returns-then-self-eq0-clause-bounded g c =
+    let t = c.self.inside in
+    let cur = t.current in
+    let ws = t.waiting.items in
+    let olds = t.draining in
+    let i = c.args.bucket in
+    let inv = c.self.invariant in
+    let hk = key_hash g.H.BuildHasher g.H.Hasher.Hasher g.E.Key.Hash.hash_input cur in
+    let hash = λ (e : g.row.E.Denot). hk (g.E.Keyed.key_of e) in
+    let flags : waiting_of c.args.self.now ≡ ws = ap waiting_of (sym c.self.view_is) ∙ waiting-together hash cur ws olds in
+    let up : waits_at ws i ≡ true = ap (λ w. waits_at w i) (sym flags) ∙ c.requires in
+    let long = long-flags cur ws i inv.arrays.flags up in
+    let list = ap (λ z. list_of z i) (sym c.self.view_is) ∙ waiting-list hash cur ws olds inv.arrays i up long in
+    let coming = rw (inv.skips, c.bucket_count-count.ensures.count) at c.count_all-coming.ensures in
+    let same = coming ∙ ap length (sym list) in
+    let was = spilled-seen hash cur ws olds c.args.self.now c.self.view_is in
+    let takes = c.in-Ok.ensures.ok in
+    let held = spilled-le olds c.move_in.new.old takes.count takes.overflow in
+    λ none few.
+    let less = c.in-Ok.ensures.short (omega (arith, same, few)) in
+    let zero : spilled_of c.move_in.new.current + spilled_in c.move_in.new.old ≡ 0 = omega (arith, was, less, held, none) in
+    spilled-together (λ e. key_hash g.H.BuildHasher g.H.Hasher.Hasher g.E.Key.Hash.hash_input c.move_in.new.current (g.E.Keyed.key_of e)) c.move_in.new.current c.clear.new.self.items c.move_in.new.old ∙ zero
+
+pub returns-else-self-eq0-clause-bounded : goal.returns-else-self-eq0-clause-bounded
+returns-else-self-eq0-clause-bounded g c =
+    let t = c.self.inside in
+    let cur = t.current in
+    let ws = t.waiting.items in
+    let olds = t.draining in
+    let i = c.args.bucket in
+    let inv = c.self.invariant in
+    let hk = key_hash g.H.BuildHasher g.H.Hasher.Hasher g.E.Key.Hash.hash_input cur in
+    let hash = λ (e : g.row.E.Denot). hk (g.E.Keyed.key_of e) in
+    let flags : waiting_of c.args.self.now ≡ ws = ap waiting_of (sym c.self.view_is) ∙ waiting-together hash cur ws olds in
+    let up : waits_at ws i ≡ true = ap (λ w. waits_at w i) (sym flags) ∙ c.requires in
+    let long = long-flags cur ws i inv.arrays.flags up in
+    let list = ap (λ z. list_of z i) (sym c.self.view_is) ∙ waiting-list hash cur ws olds inv.arrays i up long in
+    let coming = rw (inv.skips, c.bucket_count-count.ensures.count) at c.count_all-coming.ensures in
+    let same = coming ∙ ap length (sym list) in
+    let was = spilled-seen hash cur ws olds c.args.self.now c.self.view_is in
+    let takes = c.in-Ok.ensures.ok in
+    let held = spilled-le olds c.move_in.new.old takes.count takes.overflow in
+    λ none few.
+    let less = c.in-Ok.ensures.short (omega (arith, same, few)) in
+    let zero : spilled_of c.move_in.new.current + spilled_in c.move_in.new.old ≡ 0 = omega (arith, was, less, held, none) in
+    spilled-together (λ e. key_hash g.H.BuildHasher g.H.Hasher.Hasher g.E.Key.Hash.hash_input c.move_in.new.current (g.E.Keyed.key_of e)) c.move_in.new.current (set ws i false) c.move_in.new.old ∙ zero
+
+pub returns-in-Err-clause-bounded : goal.returns-in-Err-clause-bounded
+returns-in-Err-clause-bounded g c =
+    let t = c.self.inside in
+    let same : together (λ e. key_hash g.H.BuildHasher g.H.Hasher.Hasher g.E.Key.Hash.hash_input c.move_in.new.current (g.E.Keyed.key_of e)) c.move_in.new.current t.waiting.items c.move_in.new.old ≡ c.args.self.now = rw (c.in-Err.ensures.err, c.in-Err.ensures.stays) c.self.view_is in
+    λ none few. ap spilled_of same ∙ none

@@ -1,11 +1,12 @@
 use Rattle.std.proofs.Common.{refl}
-use Rattle.scc_cache.proofs.Walking.{reached-first, left-shorter}
+use Rattle.scc_incremental.proofs.Reached.{reached-first}
+use Rattle.scc_cache.proofs.Walking.{left-shorter}
 use Rattle.scc_cache.proofs.hash_cache.owned.Owned.take_all.Goals as goal
 
 pub loop-at-init : goal.loop-at-init
 loop-at-init g c =
     let start = reached-first c.self.inside.table c.first_place-at.result c.first_place-at.ensures in
-    rw (← c.self.view_is) record { within = start.1; first = start.0; buckets = refl; settings = refl; refused = refl; maximum = refl }
+    rw (← c.self.view_is) record { within = start.1; first = start.0; buckets = refl; settings = refl; refused = refl; maximum = refl; waiting = refl }
 
 pub loop-at-smaller : goal.loop-at-smaller
 loop-at-smaller g c =

@@ -1,7 +1,7 @@
 use Rattle.std.proofs.Common.{◌≡◌, length, IfSome}
-use Rattle.scc_table.specs.Contents.{entries, bucket_count, settings_of, refused_of}
-use Rattle.scc_table.specs.Places.{IsPlace}
-use Rattle.scc_cache.proofs.Walking.{reached}
+use Rattle.scc_table.specs.Contents.{entries, bucket_count, settings_of, refused_of, waiting_of}
+use Rattle.scc_incremental.specs.Places.{IsPlace}
+use Rattle.scc_incremental.proofs.Reached.{reached}
 use Rattle.scc_cache.proofs.hash_cache.owned.Owned.take_all.Given as goal
 
 abbrev pub invariant-loop-at : goal.invariant-loop-at
@@ -12,6 +12,7 @@ invariant-loop-at g l = record {
   settings : settings_of l.self.contents ≡ settings_of l.fn.self.contents;
   refused : refused_of l.self.contents ≡ refused_of l.fn.self.contents;
   maximum : l.self.maximum ≡ l.fn.self.maximum;
+  waiting : waiting_of l.self.contents ≡ waiting_of l.fn.self.contents;
 }
 
 abbrev pub decreases-loop-at : goal.decreases-loop-at
