@@ -1,6 +1,10 @@
 pub use Rattle.scc_history.specs.Orders
 pub use Rattle.scc_history.specs.Receipts
 pub use Rattle.scc_history.specs.Stamps
+pub use Rattle.scc_incremental.specs.Placed
+pub use Rattle.scc_incremental.specs.Places
+pub use Rattle.scc_incremental.specs.Relocates
+pub use Rattle.scc_incremental.specs.Relocations
 pub use Rattle.scc_map.specs.ClosureSteps
 pub use Rattle.scc_map.specs.Closures
 pub use Rattle.scc_map.specs.Entries
@@ -28,7 +32,6 @@ pub use Rattle.scc_table.specs.Contents
 pub use Rattle.scc_table.specs.Hashing
 pub use Rattle.scc_table.specs.LendsTable
 pub use Rattle.scc_table.specs.Pairs
-pub use Rattle.scc_table.specs.Places
 pub use Rattle.scc_table.specs.Routing
 pub use Rattle.scc_table.specs.Shelf
 pub use Rattle.scc_table.specs.ShelfWrites

@@ -1,20 +1,27 @@
 -- Which buckets wait after a write, after a removal, and after a shrink that was tried.
-use Rattle.std.proofs.Common.{◌≡◌, ◌≢◌, ◌==◌, ℕ, ◌+◌, ◌<◌, ◌≤◌, false, not, refl, sym, ap, ◌∙◌, subst, arith}
-use Rattle.std.specs.List.{filter}
+use Rattle.std.proofs.Common.{◌≡◌, ◌≢◌, ◌==◌, ℕ, ◌+◌, ◌<◌, ◌≤◌, inl, inr, Bool, Option, None, Some, false, not, [], length, refl, sym, ap, ◌∙◌, subst, arith}
+use Rattle.std.specs.Prelude.{OnSome, MatchOption}
+use Rattle.std.specs.List.{count_by, filter, position, slice_get}
 use Rattle.scc_table.specs.Bounded.{KeepsLists, MayNarrow, ShrinksBounded, stays_wide, denied_narrow, narrows}
-use Rattle.scc_table.specs.Contents.{Contents, entries, bucket_count, minimum_of, pending_of, settings_of, waiting_of}
+use Rattle.scc_table.specs.Contents.{Contents, Settings, entries, bucket_count, list_of, lists_of, minimum_of, pending_of, refused_of, settings_of, waiting_of}
 use Rattle.scc_table.specs.Pairs.{with_pair_key, with_pair_value}
 use Rattle.scc_table.specs.Routing.{bucket_number}
+use Rattle.scc_table.specs.Sizes.{IsLawful}
 use Rattle.scc_table.specs.Writes as writes
 use Rattle.scc_table.specs.declared.place.Place.{Place}
 use Rattle.scc_table.proofs.Bounds.{keeps-count, keeps-entries}
-use Rattle.scc_incremental.specs.Relocates.{Spreads}
+use Rattle.scc_incremental.specs.Places.{IsPlace, spot_of}
+use Rattle.scc_incremental.specs.Relocates.{Spreads, left_after}
 use Rattle.scc_incremental.specs.TwoArrays.{pending_targets, waits_at}
+use Rattle.scc_incremental.proofs.Finishing.{pending-is}
+use Rattle.scc_incremental.proofs.Placing.{none-left}
 use Rattle.scc_incremental.proofs.Same.{pending-same}
-use Rattle.scc_incremental.proofs.Targets.{targets-same, targets-without}
+use Rattle.scc_incremental.proofs.Targets.{targets-length, targets-same, targets-without}
+use Rattle.scc_cache.specs.CacheSteps.{Changes, IsLacking, number_in}
 use Rattle.scc_cache.specs.Caches.{Cached}
 use Rattle.scc_cache.specs.Lends.{with_key_at, with_value_at}
-use Rattle.scc_cache.specs.Relocations.{RelocatesNone, RelocatesOne}
+use Rattle.scc_cache.specs.ListSteps.{Refreshes}
+use Rattle.scc_cache.specs.Relocations.{RelocatesNone, RelocatesOne, RelocatesTwo}
 
 module _ {K V S : Type 0} (c : Cached (K × V) S) (p : Place) where
   -- a write leaves the same buckets waiting
@@ -37,20 +44,27 @@ module _ {E S : Type 0} (hash : E → ℕ) where
 
   -- a change that kept the array and what waits, with no resize
   pub kept-none : (a b : Contents E S) → bucket_count b ≡ bucket_count a → waiting_of b ≡ waiting_of a → RelocatesNone hash a b
-  kept-none a b count waiting = record { all = λ ne. absurd (ne count); less = λ e. omega (arith, pending-same a b waiting); waiting = λ e no. waiting }
+  kept-none a b count waiting = record { all = λ ne. absurd (ne count); less = λ e. omega (arith, pending-same a b waiting); waiting = λ e undue. waiting }
+
+  pub none-after : (a b d : Contents E S) → bucket_count b ≡ bucket_count a → waiting_of b ≡ waiting_of a → RelocatesNone hash b d → RelocatesNone hash a d
+  none-after a b d count waiting r = record {
+    all = λ ne. r.all (λ e. ne (e ∙ count));
+    less = λ e. let z = r.less (e ∙ sym count) in omega (arith, pending-same a b waiting);
+    waiting = λ e undue. r.waiting (e ∙ sym count) undue ∙ waiting;
+  }
 
   -- a shrink that was tried after a change that kept the array and what waits
   pub shrunk-none : (a b d : Contents E S) → bucket_count b ≡ bucket_count a → waiting_of b ≡ waiting_of a → ShrinksBounded hash b d → Spreads ((n : ℕ) × MayNarrow hash b n) b d → RelocatesNone hash a d
   shrunk-none a b d count waiting shrinks s = record {
     all = λ ne. s.all (λ e. ne (e ∙ count));
     less = λ e. let z = s.less (e ∙ sym count) in omega (arith, pending-same a b waiting);
-    waiting = λ e no. waits shrinks (λ m. s.waiting m ∙ waiting) (e ∙ sym count) no;
+    waiting = λ e undue. waits shrinks (λ m. s.waiting m ∙ waiting) (e ∙ sym count) undue;
   }
     where
       waits : ShrinksBounded hash b d → ((((n : ℕ) × MayNarrow hash b n) → ⊥) → waiting_of d ≡ waiting_of a) → bucket_count d ≡ bucket_count b → ((n : ℕ) → MayNarrow hash d n → ⊥) → waiting_of d ≡ waiting_of a
-      waits (stays_wide none e) f same no = f (λ m. none m.0 m.1)
-      waits (denied_narrow n small up keeps) f same no = f (λ m. no m.0 (narrow-same b d m.0 (keeps-entries b d keeps) keeps.settings (keeps-count b d keeps) m.1))
-      waits (narrows small least down moved) f same no = absurd (let z = small.fewer in omega arith)
+      waits (stays_wide none e) f same undue = f (λ m. none m.0 m.1)
+      waits (denied_narrow n small up keeps) f same undue = f (λ m. undue m.0 (narrow-same b d m.0 (keeps-entries b d keeps) keeps.settings (keeps-count b d keeps) m.1))
+      waits (narrows small least down moved) f same undue = absurd (let z = small.fewer in omega arith)
 
 module _ {E S : Type 0} (h : ℕ) where
   -- what waits after a get in a bucket that doesn't wait
@@ -65,3 +79,48 @@ module _ {E S : Type 0} (h : ℕ) where
     settled = ap (λ j. waits_at (waiting_of d) j) (sym at) ∙ ap (λ w. waits_at w i) same ∙ down;
     targets = targets-same b d same ∙ targets ∙ ap (λ j. filter (λ t. not (t == j)) (pending_targets c)) at;
   }
+
+-- what waits after a put: m is the cache once it grew where that was due, and i the bucket of the key
+module _ {E S : Type 0} (hash i : ℕ) (c m d : Contents E S) (at : i ≡ bucket_number (settings_of c).skipped (bucket_count m) hash) (count : bucket_count d ≡ bucket_count m) (some : i < bucket_count m) (lawful : IsLawful (bucket_count m)) where
+  pub put-relocates : (bucket_count c ≡ 0 → waiting_of m ≡ []) → (0 < bucket_count c → bucket_count m ≡ bucket_count c → waiting_of m ≡ waiting_of c) → (0 < bucket_count c → bucket_count m ≢ bucket_count c → pending_of m ≡ bucket_count m)
+      → waits_at (waiting_of d) i ≡ false → pending_targets d ≡ left_after i (pending_targets m) → (2 ≤ pending_of m → pending_of d + 2 ≡ pending_of m) → RelocatesTwo hash c d
+  put-relocates first waiting all settled exact two = record {
+    settled = ap (waits_at (waiting_of d)) (sym (at ∙ ap (λ n. bucket_number (settings_of c).skipped n hash) (sym count))) ∙ settled;
+    exact = λ one same.
+        let stay : bucket_count m ≡ bucket_count c = sym count ∙ same in
+        exact ∙ ap (left_after i) (targets-same c m (waiting one stay)) ∙ ap (λ j. left_after j (pending_targets c)) (at ∙ ap (λ n. bucket_number (settings_of c).skipped n hash) stay);
+    grown = λ one other.
+        let pending = all one (λ e. other (count ∙ e)) in
+        let least : 2 ≤ bucket_count m = elim lawful [ inl z ↦ absurd (omega arith) | inr z ↦ z.least ] in
+        let both = two (omega arith) in
+        omega arith;
+    first = λ zero.
+        let none : pending_of m ≡ 0 = pending-is m ∙ ap (count_by (λ w. w)) (first zero) in
+        let same : pending_targets d ≡ pending_targets m = exact ∙ sym (none-left i m (pending_targets m) none refl) in
+        let l = ap length same in
+        omega (arith, targets-length d, targets-length m);
+  }
+
+pub any-some : {X P : Type 0} (o : Option X) → P → OnSome o P
+any-some None p = tt
+any-some (Some x) p = p
+
+-- what a get found in a bucket that took its pairs over first, seen from the cache before
+module _ {K V S : Type 0} (hash : Settings S → K → ℕ) (eq : K → K → Bool) (a b d : Cached (K × V) S) (k : K) (lists : lists_of b.contents ≡ lists_of a.contents) (settings : settings_of b.contents ≡ settings_of a.contents) (refused : refused_of b.contents ≡ refused_of a.contents) (maximum : b.maximum ≡ a.maximum) where
+  abbrev pub Refreshed : Cached (K × V) S → Place → Type 0
+  Refreshed c place = IsPlace d.contents place × ((p : K × V) × (slice_get (list_of d.contents (spot_of d.contents place).bucket) (spot_of d.contents place).slot ≡ Some p) × Changes (Refreshes (number_in (hash (settings_of c.contents)) c.contents) eq k p) c d)
+
+  changes-from : (p : K × V) → Changes (Refreshes (number_in (hash (settings_of b.contents)) b.contents) eq k p) b d → Changes (Refreshes (number_in (hash (settings_of a.contents)) a.contents) eq k p) a d
+  changes-from p c = record {
+    lists =
+        subst (λ s. Refreshes (λ n j. bucket_number s.skipped n (hash s j)) eq k p (lists_of a.contents) (lists_of d.contents)) settings
+        (subst (λ ls. Refreshes (λ n j. bucket_number (settings_of b.contents).skipped n (hash (settings_of b.contents) j)) eq k p ls (lists_of d.contents)) lists c.lists);
+    settings = c.settings ∙ settings;
+    refused = c.refused ∙ refused;
+    maximum = c.maximum ∙ maximum;
+  }
+
+  pub refreshed-from : (position (λ p. eq k p.0) (entries b.contents) ≡ None → ⊥) → (o : Option Place) → MatchOption o (IsLacking (hash (settings_of b.contents)) eq b.contents k × (d ≡ b)) (Refreshed b)
+      → MatchOption o (IsLacking (hash (settings_of a.contents)) eq a.contents k × (d ≡ a)) (Refreshed a)
+  refreshed-from there None h = absurd (there h.0.all)
+  refreshed-from there (Some place) h = (h.0, (h.1.0, h.1.1, changes-from h.1.0 h.1.2))

@@ -1,5 +1,5 @@
 -- Removals of a pair that a closure wrote.
-use Rattle.std.proofs.Common.{◌≡◌, ℕ, zero, suc, Bool, List, [], ◌∷◌, Some, refl, sym, ap, ◌∙◌}
+use Rattle.std.proofs.Common.{◌≡◌, ℕ, zero, suc, Bool, List, [], ◌∷◌, Some, refl, sym, ap, subst, ◌∙◌}
 use Rattle.std.specs.List.{remove, slice_get, slice_set, slice_index_or}
 use Rattle.scc_table.specs.Contents.{Settings, bucket_count, list_of, lists_of, settings_of, refused_of}
 use Rattle.scc_table.specs.Pairs.{with_pair_value}

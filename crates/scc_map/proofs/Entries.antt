@@ -24,6 +24,10 @@ use Rattle.scc_map.specs.Entries.{occupied_pair, occupied_front, occupied_back, 
 use Rattle.scc_map.specs.declared.hash_map.held.HeldEntry.{HeldEntry}
 use Rattle.scc_map.specs.declared.hash_map.held.HeldVacant.{HeldVacant}
 
+-- the same buckets wait once a value was written
+pub waiting-put : {K V S : Type 0} (m : Contents (K × V) S) (p : Place) (v : V) (n : Contents (K × V) S) → n ≡ with_write_at with_pair_value m p v → waiting_of n ≡ waiting_of m
+waiting-put m p v n made = ap waiting_of made ∙ waiting-write with_pair_value m p v
+
 module _ {G N K V S T : Type 0} {d : guard.Ghosts G (Contents (K × V) S)} {g : eq.Ghosts K} {h : hash.Ghosts K} {b : builder.Ghosts S T} {w : hasher.Ghosts T} where
   -- what the guard showed at the place is the pair
   pub pair-is : (o : HeldEntry G N K V S T d g h b w) (m : Contents (K × V) S) (p : K × V) → m ≡ d.kept o.guard → slice_get (entries m) (index_of m o.place) ≡ Some p → p ≡ occupied_pair o
@@ -75,11 +79,7 @@ module _ {G N K V S T : Type 0} {d : guard.Ghosts G (Contents (K × V) S)} {g : 
   pub written-with : (o : HeldEntry G N K V S T d g h b w) (v : V) → IsWritten o v (with_value o v)
   written-with o v = written-after o (d.kept o.guard) (written_map o v) v refl refl (still_within o v)
 
-  -- the same buckets wait once a value was written
-  pub waiting-put : (m : Contents (K × V) S) (p : Place) (v : V) (n : Contents (K × V) S) → n ≡ with_write_at with_pair_value m p v → waiting_of n ≡ waiting_of m
-  waiting-put m p v n made = ap waiting_of made ∙ waiting-write with_pair_value m p v
-
-  -- and so in what a guard keeps
+  -- the same buckets wait in what a guard keeps once a value was written
   pub waiting-after : (o : HeldEntry G N K V S T d g h b w) (m n : Contents (K × V) S) (v : V) → m ≡ d.kept o.guard → n ≡ with_write_at with_pair_value m o.place v → waiting_of (d.kept (d.keeping o.guard n)) ≡ waiting_of (d.kept o.guard)
   waiting-after o m n v is made = ap waiting_of (d.keeps o.guard n ∙ made) ∙ waiting-write with_pair_value m o.place v ∙ ap waiting_of is
 

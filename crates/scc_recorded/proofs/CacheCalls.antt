@@ -3,7 +3,8 @@ use Rattle.std.proofs.Common.{◌≡◌, ◌==◌, ◌∙◌, ℕ, ◌+◌, ◌*
 use Rattle.std.specs.List.{filter, flat_map, slice_index_or, slice_set}
 use Rattle.std.proofs.lemmas.List.{length-map}
 use Rattle.scc_table.specs.Routing.{bucket_number}
-use Rattle.scc_table.specs.Bounded.{GrowsBelow, makes, has_room, is_full, stays, denied, doubles, IsResized, KeepsLists, ShrinksBounded, stays_wide, denied_narrow, narrows}
+use Rattle.scc_table.specs.Bounded.{IsResized, KeepsLists, ShrinksBounded, stays_wide, denied_narrow, narrows}
+use Rattle.scc_incremental.specs.Bounded.{GrowsBelow, makes, has_room, is_full, stays, denied, doubles}
 use Rattle.scc_table.specs.Contents.{Contents, Settings, entries, bucket_count, settings_of, minimum_of, list_of, lists_of}
 use Rattle.scc_table.specs.Sizes.{IsArray}
 use Rattle.scc_cache.specs.CacheSteps.{AnswersOn, GrowsFor, IsAbsent, IsPresent, IsPresentAt, ShrinksTo, Puts, Removes, TakesThen, Clears, number_in}

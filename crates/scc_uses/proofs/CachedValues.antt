@@ -3,7 +3,8 @@ use Rattle.std.proofs.Common.{◌≡◌, ℕ, zero, suc, ◌<◌, Bool, List, []
 use Rattle.std.specs.List.{AllByRecursion, filter, flat_map, remove, slice_get, slice_set, slice_index_or}
 use Rattle.std.proofs.lemmas.Bool.{eqb-true}
 use Rattle.std.proofs.lemmas.List.{nil_from_length}
-use Rattle.scc_table.specs.Bounded.{GrowsBelow, makes, has_room, is_full, DoublesBelow, stays, denied, doubles, IsResized}
+use Rattle.scc_table.specs.Bounded.{IsResized}
+use Rattle.scc_incremental.specs.Bounded.{GrowsBelow, makes, has_room, is_full, DoublesBelow, stays, denied, doubles}
 use Rattle.scc_table.specs.Contents.{Contents, entries, bucket_count, list_of, lists_of}
 use Rattle.scc_common.specs.declared.errors.InsertError.{InsertError}
 use Rattle.scc_common.specs.declared.errors.InsertError.TheVariants.{Exists, Memory}

@@ -6,8 +6,8 @@ ghost use Rattle.scc_table.specs.Sizes.{IsArraySize};
 
 use super::Owned;
 use crate::hash_cache::DEFAULT_MAXIMUM_CAPACITY;
-use scc_table::sizes::slots_for;
 use scc_incremental::Incremental;
+use scc_table::sizes::slots_for;
 use scc_table::{MakeError, Shared};
 use std::alloc::Global;
 use std::hash::{BuildHasher, BuildHasherDefault, Hash};

@@ -1,7 +1,7 @@
 //! What makes an entry of a borrowed cache, and what lets the cache go. The search is made once, and an entry holds its place.
 ghost use Rattle.std.specs.Prelude.{◌≡◌, IfOk, IfErr, IfSome, IfNone};
 ghost use Rattle.std.specs.Borrow.{sem};
-ghost use Rattle.scc_table.specs.Contents.{bucket_count, key_hash};
+ghost use Rattle.scc_table.specs.Contents.{bucket_count, key_hash, waiting_of};
 ghost use Rattle.scc_cache.specs.CacheSteps.{IsAbsent, TakesAt};
 ghost use Rattle.scc_cache.specs.Caches.{IsCacheState};
 ghost use Rattle.scc_cache.specs.Entries.{Memory, held_cache, occupied_pair, entry_guard, IsEntryOf, IsRefreshed, IsPut, rests_if_refused, rests_if_none, replaced_guard, Replaces};
@@ -63,6 +63,7 @@ impl<K: Eq + Hash, V, H: BuildHasher> Owned<K, V, H> {
     pub fn replace_sync(&mut self, k: K) -> ReplaceResult<'_, K, V, H>
         ensures same_cache { (replaced_guard result).ghost_name ≡ self.entry.ghost_name }
         ensures step { Replaces K.eq self.old k result }
+        ensures waiting { waiting_of (replaced_guard result).now.contents ≡ waiting_of self.old.contents }
     {
         let hash = self.table.hash(&k);
         match self.find(hash, &k) {

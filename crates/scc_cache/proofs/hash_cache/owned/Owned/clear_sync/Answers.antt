@@ -1,6 +1,8 @@
-use Rattle.std.proofs.Common.{subst, refl, arith}
-use Rattle.scc_table.specs.Bounded.{ShrinksBounded}
+use Rattle.std.proofs.Common.{ℕ, subst, refl, arith}
+use Rattle.scc_table.specs.Bounded.{MayNarrow, ShrinksBounded}
 use Rattle.scc_table.specs.Hashing.{hash_of}
+use Rattle.scc_incremental.specs.Relocates.{Spreads}
+use Rattle.scc_cache.proofs.Relocations.{shrunk-none}
 use Rattle.scc_cache.proofs.Caching.{shrunk-within, state-after}
 use Rattle.scc_cache.proofs.Walking.{empties, none-permuted}
 use Rattle.scc_cache.proofs.hash_cache.owned.Owned.clear_sync.Goals as goal
@@ -36,3 +38,11 @@ returns-clause-step g c =
       },
       record { shrinks = shrinks; maximum = refl },
     )
+
+pub returns-clause-relocates : goal.returns-clause-relocates
+returns-clause-relocates g c =
+    let left = c.self.inside.table in
+    let held = rw (← c.self.view_is) at c.take_all.ensures.empty in
+    let shrinks = subst (λ s. ShrinksBounded (λ e. hash_of g.H.BuildHasher g.H.Hasher.Hasher s.hasher (g.K.Hash.hash_input e.0)) left c.shrink_within.new.self) held.settings c.shrink_within.ensures.shrinks in
+    let spreads = subst (λ s. Spreads ((n : ℕ) × MayNarrow (λ e. hash_of g.H.BuildHasher g.H.Hasher.Hasher s.hasher (g.K.Hash.hash_input e.0)) left n) left c.shrink_within.new.self) held.settings c.shrink_within.ensures.spreads in
+    shrunk-none _ c.args.self.now.contents left c.shrink_within.new.self held.buckets (rw (← c.self.view_is) at c.take_all.ensures.waiting) shrinks spreads

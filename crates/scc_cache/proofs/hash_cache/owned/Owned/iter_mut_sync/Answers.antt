@@ -1,9 +1,11 @@
-use Rattle.std.proofs.Common.{◌≡◌, ◌<◌, ◌≤◌, length, refl, ap, subst, arith, rules}
-use Rattle.std.proofs.lemmas.List.Sorted.{IsPermutation-refl}
-use Rattle.scc_table.specs.Bounded.{ShrinksBounded}
+use Rattle.std.proofs.Common.{ℕ, ◌≡◌, ◌<◌, ◌≤◌, length, refl, ap, subst, arith, rules}
+use Rattle.std.proofs.lemmas.List.Sorted.{IsPermutation-refl, length_permutation}
+use Rattle.scc_table.specs.Bounded.{MayNarrow, ShrinksBounded}
 use Rattle.scc_table.specs.Contents.{entries}
 use Rattle.scc_table.specs.Hashing.{hash_of}
 use Rattle.scc_walks.proofs.Takings.{takes-count}
+use Rattle.scc_incremental.specs.Relocates.{Spreads}
+use Rattle.scc_cache.proofs.Relocations.{kept-none, shrunk-none}
 use Rattle.scc_cache.proofs.Caching.{shrunk-within, state-after}
 use Rattle.scc_cache.proofs.Walked.{goes-over, leaves-pairs, listed-same, shrinks-taken, rests-untaken}
 use Rattle.scc_cache.proofs.hash_cache.owned.Owned.iter_mut_sync.Goals as goal
@@ -68,3 +70,24 @@ returns-else-len-before-clause-step g c =
       leaves-pairs _ m left step.0 listed held c.take_walk-result.ensures.refused c.take_walk-result.ensures.maximum,
       rests-untaken _ step.1 _ _ none refl,
     )
+
+pub returns-then-len-before-clause-relocates : goal.returns-then-len-before-clause-relocates
+returns-then-len-before-clause-relocates g c =
+    let left = c.self.inside.table in
+    let step = rw (← c.self.view_is) at c.take_walk-result.ensures.step in
+    let held = step.5 in
+    let shrinks = subst (λ s. ShrinksBounded (λ e. hash_of g.H.BuildHasher g.H.Hasher.Hasher s.hasher (g.K.Hash.hash_input e.0)) left c.shrink_within.new.self) held.settings c.shrink_within.ensures.shrinks in
+    let spreads = subst (λ s. Spreads ((n : ℕ) × MayNarrow (λ e. hash_of g.H.BuildHasher g.H.Hasher.Hasher s.hasher (g.K.Hash.hash_input e.0)) left n) left c.shrink_within.new.self) held.settings c.shrink_within.ensures.spreads in
+    shrunk-none _ c.args.self.now.contents left c.shrink_within.new.self held.buckets (rw (← c.self.view_is) at c.take_walk-result.ensures.waiting) shrinks spreads
+
+pub returns-else-len-before-clause-relocates : goal.returns-else-len-before-clause-relocates
+returns-else-len-before-clause-relocates g c =
+    let held = c.take_walk-result.ensures.step.5 in
+    kept-none _ c.args.self.now.contents c.take_walk-result.new.self.contents held.buckets c.take_walk-result.ensures.waiting
+
+pub returns-then-len-before-clause-rests : goal.returns-then-len-before-clause-rests
+returns-then-len-before-clause-rests g c =
+    let fewer : length (entries c.take_walk-result.new.self.contents) < length (entries c.args.self.now.contents) = search rules in
+    let less = rw (← c.self.view_is) at fewer in
+    let same = length_permutation (entries c.self.inside.table) (entries c.shrink_within.new.self) c.shrink_within.ensures.same in
+    λ equal. absurd (omega (arith, less, same, equal))

@@ -1,60 +1,63 @@
-use Rattle.std.proofs.Common.{◌∙◌, ℕ, ◌≤◌, ◌*◌, refl, sym, ap, subst, arith}
-use Rattle.scc_table.specs.Bounded.{GrowsBelow, IsListed}
+use Rattle.std.proofs.Common.{◌∙◌, ℕ, ◌≤◌, ◌*◌, ◌-◌, refl, sym, ap, subst, arith}
+use Rattle.scc_table.specs.Bounded.{IsListed}
+use Rattle.scc_incremental.specs.Bounded.{GrowsBelow}
 use Rattle.scc_table.specs.Contents.{entries, bucket_count, settings_of}
 use Rattle.scc_table.specs.Hashing.{hash_of}
 use Rattle.scc_table.specs.Routing.{bucket_number}
 use Rattle.scc_table.proofs.Resizes.{absent-permuted}
-use Rattle.scc_cache.proofs.Caching.{grown-within, missing-grown, put-length, put-place, puts-count, puts-pair, puts-refused, state-after}
+use Rattle.scc_cache.proofs.Caching.{at-spot, grown-within, missing-grown, put-length, put-place, puts-count, puts-pair, puts-refused, state-after}
 use Rattle.scc_cache.specs.Caches.{Cached, IsCacheState}
+use Rattle.scc_cache.proofs.Relocations.{put-relocates}
 use Rattle.scc_cache.proofs.hash_cache.owned.Owned.put_at.Goals as goal
 
-pub put_last-evicted-requires-clause-absent : goal.put_last-evicted-requires-clause-absent
-put_last-evicted-requires-clause-absent g c =
+pub put_within-evicted-requires-clause-absent : goal.put_within-evicted-requires-clause-absent
+put_within-evicted-requires-clause-absent g c =
     let lacking = rw (← c.self.view_is) at c.requires.lacking in
     absent-permuted (λ e. g.K.PartialEq.eq c.args.k e.0) (entries c.self.inside.table) (entries c.bucket_within.new.self) c.bucket_within.ensures.same lacking.all
 
 pub list_len-slot-requires : goal.list_len-slot-requires
 list_len-slot-requires g c =
-    let put = puts-count c.bucket_within.new.self c.put_last-evicted.new.self _ _ c.put_last-evicted.result c.put_last-evicted.ensures.step in
+    let put = puts-count c.bucket_within.new.self c.put_within-evicted.new.self _ _ c.put_within-evicted.result c.put_within-evicted.ensures.step in
     rw put.0 c.in-Ok.ensures.within
 
 pub overflow_sub-slot : goal.overflow_sub-slot
-overflow_sub-slot g c = omega (arith, c.list_len-slot.ensures, put-length c.bucket_within.new.self c.put_last-evicted.new.self _ _ c.put_last-evicted.result c.put_last-evicted.ensures.step c.in-Ok.ensures.within)
+overflow_sub-slot g c = omega (arith, c.list_len-slot.ensures, put-length c.bucket_within.new.self c.put_within-evicted.new.self _ _ c.put_within-evicted.result c.put_within-evicted.ensures.step c.in-Ok.ensures.within)
 
 pub returns-in-Ok-clause-here : goal.returns-in-Ok-clause-here
 returns-in-Ok-clause-here g c =
-    let some = put-length c.bucket_within.new.self c.put_last-evicted.new.self _ _ c.put_last-evicted.result c.put_last-evicted.ensures.step c.in-Ok.ensures.within in
-    put-place c.bucket_within.new.self c.put_last-evicted.new.self _ (c.args.k, c.args.v) c.put_last-evicted.result c.put_last-evicted.ensures.step c.in-Ok.ensures.within _ (omega (arith, c.list_len-slot.ensures))
+    let some = put-length c.bucket_within.new.self c.put_within-evicted.new.self _ _ c.put_within-evicted.result c.put_within-evicted.ensures.step c.in-Ok.ensures.within in
+    at-spot c.put_within-evicted.new.self (record { bucket = c.in-Ok.bucket; slot = c.list_len-slot.result - 1 }) (c.args.k, c.args.v)
+    (put-place c.bucket_within.new.self c.put_within-evicted.new.self c.in-Ok.bucket (c.args.k, c.args.v) c.put_within-evicted.result c.put_within-evicted.ensures.step c.in-Ok.ensures.within (c.list_len-slot.result - 1) (omega (arith, c.list_len-slot.ensures))) c.put_within-evicted.ensures.settled
 
 pub invariant_of-self : goal.invariant_of-self
 invariant_of-self g c =
     let h = c.self.invariant in
     let m = c.bucket_within.new.self in
-    let put = puts-count m c.put_last-evicted.new.self _ _ c.put_last-evicted.result c.put_last-evicted.ensures.step in
+    let put = puts-count m c.put_within-evicted.new.self _ _ c.put_within-evicted.result c.put_within-evicted.ensures.step in
     let within = grown-within _ c.self.inside.table m c.self.inside.maximum _ c.in-Ok.ensures.grows h.power h.least h.within h.minimum in
-    state-after g.K.PartialEq.eq _ _ c.self.inside.table c.put_last-evicted.new.self c.self.inside.maximum h c.put_last-evicted.ensures.listed c.put_last-evicted.ensures.unique (put.1 ∙ c.bucket_within.ensures.settings) (subst (λ n. 32 * n ≤ c.self.inside.maximum) (sym put.0) within)
+    state-after g.K.PartialEq.eq _ _ c.self.inside.table c.put_within-evicted.new.self c.self.inside.maximum h c.put_within-evicted.ensures.listed c.put_within-evicted.ensures.unique (put.1 ∙ c.bucket_within.ensures.settings) (subst (λ n. 32 * n ≤ c.self.inside.maximum) (sym put.0) within)
 
 pub returns-in-Ok-clause-step : goal.returns-in-Ok-clause-step
 returns-in-Ok-clause-step g c =
     let t = c.self.inside.table in
     let m = c.bucket_within.new.self in
-    let d = c.put_last-evicted.new.self in
+    let d = c.put_within-evicted.new.self in
     let f : g.row.K.Denot → ℕ = (λ k. hash_of g.H.BuildHasher g.H.Hasher.Hasher (settings_of t).hasher (g.K.Hash.hash_input k)) in
     let number : ℕ → g.row.K.Denot → ℕ = λ n k. bucket_number (settings_of t).skipped n (f k) in
     let hashed = rw (← c.self.view_is) at c.requires.hashed in
     let lacking = rw (← c.self.view_is) at c.requires.lacking in
     let grows = subst (λ h. GrowsBelow (λ e. f e.0) c.self.inside.maximum (bucket_number (settings_of t).skipped (bucket_count t) h) t m) hashed c.in-Ok.ensures.grows in
-    let listed = subst (λ s. IsListed (λ e. hash_of g.H.BuildHasher g.H.Hasher.Hasher s.hasher (g.K.Hash.hash_input e.0)) m) c.bucket_within.ensures.settings (c.keep_lists.ensures.listed c.bucket_within.ensures.bounded) in
+    let listed = subst (λ s. IsListed (λ e. hash_of g.H.BuildHasher g.H.Hasher.Hasher s.hasher (g.K.Hash.hash_input e.0)) m) c.bucket_within.ensures.settings (c.bucket_within.ensures.listed) in
     let later = missing-grown g.K.PartialEq.eq number m c.args.k (absent-permuted (λ e. g.K.PartialEq.eq c.args.k e.0) (entries t) (entries m) c.bucket_within.ensures.same lacking.all) in
     let routed = c.in-Ok.ensures.routed ∙ ap (λ s. bucket_number s.skipped (bucket_count m) c.args.hash) c.bucket_within.ensures.settings ∙ ap (bucket_number (settings_of t).skipped (bucket_count m)) hashed in
-    let put = puts-count m d _ _ c.put_last-evicted.result c.put_last-evicted.ensures.step in
+    let put = puts-count m d _ _ c.put_within-evicted.result c.put_within-evicted.ensures.step in
     rw (← c.self.view_is) (
       record { contents = m; maximum = c.self.inside.maximum },
       record { grows = grows; listed = listed; settings = c.bucket_within.ensures.settings; maximum = refl },
       record {
-        lists = puts-pair g.K.PartialEq.eq number m d _ (c.args.k, c.args.v) c.put_last-evicted.result later routed (omega (arith, c.in-Ok.ensures.within)) c.put_last-evicted.ensures.step;
+        lists = puts-pair g.K.PartialEq.eq number m d _ (c.args.k, c.args.v) c.put_within-evicted.result later routed (omega (arith, c.in-Ok.ensures.within)) c.put_within-evicted.ensures.step;
         settings = put.1;
-        refused = puts-refused g.K.PartialEq.eq m d _ _ c.put_last-evicted.result c.put_last-evicted.ensures.step;
+        refused = puts-refused g.K.PartialEq.eq m d _ _ c.put_within-evicted.result c.put_within-evicted.ensures.step;
         maximum = refl;
       },
     )
@@ -63,9 +66,9 @@ pub returns-in-Ok-clause-state : goal.returns-in-Ok-clause-state
 returns-in-Ok-clause-state g c =
     let h = c.self.invariant in
     let m = c.bucket_within.new.self in
-    let put = puts-count m c.put_last-evicted.new.self _ _ c.put_last-evicted.result c.put_last-evicted.ensures.step in
+    let put = puts-count m c.put_within-evicted.new.self _ _ c.put_within-evicted.result c.put_within-evicted.ensures.step in
     let within = grown-within _ c.self.inside.table m c.self.inside.maximum _ c.in-Ok.ensures.grows h.power h.least h.within h.minimum in
-    state-after g.K.PartialEq.eq _ _ c.self.inside.table c.put_last-evicted.new.self c.self.inside.maximum h c.put_last-evicted.ensures.listed c.put_last-evicted.ensures.unique (put.1 ∙ c.bucket_within.ensures.settings) (subst (λ n. 32 * n ≤ c.self.inside.maximum) (sym put.0) within)
+    state-after g.K.PartialEq.eq _ _ c.self.inside.table c.put_within-evicted.new.self c.self.inside.maximum h c.put_within-evicted.ensures.listed c.put_within-evicted.ensures.unique (put.1 ∙ c.bucket_within.ensures.settings) (subst (λ n. 32 * n ≤ c.self.inside.maximum) (sym put.0) within)
 
 pub returns-in-Err-clause-refused : goal.returns-in-Err-clause-refused
 returns-in-Err-clause-refused g c =
@@ -74,3 +77,15 @@ returns-in-Err-clause-refused g c =
 pub returns-in-Err-clause-state : goal.returns-in-Err-clause-state
 returns-in-Err-clause-state g c =
     subst (λ x. IsCacheState g.K.PartialEq.eq (λ k. hash_of g.H.BuildHasher g.H.Hasher.Hasher (settings_of x).hasher (g.K.Hash.hash_input k)) (record { contents = x; maximum = c.self.inside.maximum })) (sym c.in-Err.ensures.none.1) c.self.invariant
+
+pub returns-in-Ok-clause-relocates : goal.returns-in-Ok-clause-relocates
+returns-in-Ok-clause-relocates g c =
+    let t = c.self.inside.table in
+    let m = c.bucket_within.new.self in
+    let d = c.put_within-evicted.new.self in
+    let w = c.bucket_within.ensures in
+    let x = c.put_within-evicted.ensures in
+    let hashed = rw (← c.self.view_is) at c.requires.hashed in
+    let routed = c.in-Ok.ensures.routed ∙ ap (λ s. bucket_number s.skipped (bucket_count m) c.args.hash) w.settings ∙ ap (bucket_number (settings_of t).skipped (bucket_count m)) hashed in
+    let put = puts-count m d _ _ c.put_within-evicted.result x.step in
+    rw (← c.self.view_is) (put-relocates _ c.in-Ok.bucket t m d routed put.0 c.in-Ok.ensures.within w.listed.lawful w.first w.waiting w.all x.settled x.exact x.two)

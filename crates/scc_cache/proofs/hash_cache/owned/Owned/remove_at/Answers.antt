@@ -1,9 +1,25 @@
-use Rattle.std.proofs.Common.{◌∙◌, refl, subst, arith}
+use Rattle.std.proofs.Common.{◌≡◌, ◌∙◌, ℕ, refl, sym, subst, arith}
 use Rattle.std.specs.List.{remove}
-use Rattle.scc_table.specs.Bounded.{ShrinksBounded}
+use Rattle.scc_table.specs.Bounded.{IsListed, MayNarrow, ShrinksBounded}
 use Rattle.scc_table.specs.Hashing.{hash_of}
+use Rattle.scc_incremental.specs.Places.{IsPlace, spot_of}
+use Rattle.scc_incremental.specs.Relocates.{Spreads}
+use Rattle.scc_incremental.proofs.Listing.{listed-removed}
+use Rattle.scc_incremental.proofs.Short.{listed-anew}
 use Rattle.scc_cache.proofs.Caching.{list-count, lists-set, shrunk-within, state-after}
+use Rattle.scc_cache.proofs.Relocations.{shrunk-none}
 use Rattle.scc_cache.proofs.hash_cache.owned.Owned.remove_at.Goals as goal
+
+pub take_in-pair-requires : goal.take_in-pair-requires
+take_in-pair-requires g c = subst (λ z. IsPlace z.contents c.args.place) (sym c.self.view_is) c.requires
+
+pub shrink_within-requires : goal.shrink_within-requires
+shrink_within-requires g c =
+    let t = c.self.inside.table in
+    let h = c.self.invariant in
+    let within = subst (λ z. IsPlace z.contents c.args.place) (sym c.self.view_is) c.requires in
+    let list = c.take_in-pair.ensures.lists h.lists.bounded in
+    listed-anew (λ s (p : g.row.K.Denot × g.row.V.Denot). hash_of g.H.BuildHasher g.H.Hasher.Hasher s.hasher (g.K.Hash.hash_input p.0)) t c.take_in-pair.new.self list.settings (listed-removed _ t c.take_in-pair.new.self (spot_of t c.args.place).bucket (spot_of t c.args.place).slot within.bucket list h.lists)
 
 pub invariant_of-self : goal.invariant_of-self
 invariant_of-self g c =
@@ -31,6 +47,16 @@ returns-clause-left g c =
     let shrinks = subst (λ s. ShrinksBounded (λ e. hash_of g.H.BuildHasher g.H.Hasher.Hasher s.hasher (g.K.Hash.hash_input e.0)) left c.shrink_within.new.self) list.settings c.shrink_within.ensures.shrinks in
     rw (← c.self.view_is) (
       record { contents = left; maximum = c.self.inside.maximum },
-      record { lists = lists-set c.self.inside.table left _ (λ es. remove es c.args.place.slot) list; settings = list.settings; refused = list.refused; maximum = refl },
+      record { lists = lists-set c.self.inside.table left _ (λ es. remove es (spot_of c.self.inside.table c.args.place).slot) list; settings = list.settings; refused = list.refused; maximum = refl },
       record { shrinks = shrinks; maximum = refl },
     )
+
+pub returns-clause-relocates : goal.returns-clause-relocates
+returns-clause-relocates g c =
+    let t = c.self.inside.table in
+    let left = c.take_in-pair.new.self in
+    let list = c.take_in-pair.ensures.lists c.self.invariant.lists.bounded in
+    let same = list-count t left _ _ list in
+    let shrinks = subst (λ s. ShrinksBounded (λ e. hash_of g.H.BuildHasher g.H.Hasher.Hasher s.hasher (g.K.Hash.hash_input e.0)) left c.shrink_within.new.self) list.settings c.shrink_within.ensures.shrinks in
+    let spreads = subst (λ s. Spreads ((n : ℕ) × MayNarrow (λ e. hash_of g.H.BuildHasher g.H.Hasher.Hasher s.hasher (g.K.Hash.hash_input e.0)) left n) left c.shrink_within.new.self) list.settings c.shrink_within.ensures.spreads in
+    rw (← c.self.view_is) (shrunk-none _ t left c.shrink_within.new.self same c.take_in-pair.ensures.waiting shrinks spreads)

@@ -1,7 +1,12 @@
-use Rattle.std.proofs.Common.{Some, refl, ap, ◌∙◌}
+use Rattle.std.proofs.Common.{Some, refl, ap, subst, ◌∙◌}
 use Rattle.scc_table.specs.Hashing.{hash_of}
 use Rattle.scc_table.specs.Pairs.{with_pair_value}
-use Rattle.scc_table.specs.Writes.{IsPlace-with_write_at}
+use Rattle.scc_incremental.specs.Placed.{IsPlace-with_write_at}
+use Rattle.scc_incremental.specs.Places.{spot_of}
+use Rattle.scc_cache.specs.Lends.{with_value_at}
+use Rattle.scc_cache.specs.Relocations.{RelocatesNone}
+use Rattle.scc_cache.proofs.Relocations.{kept-none, none-after, waiting-written}
+use Rattle.scc_cache.proofs.Writing.{written-count, written-settings}
 use Rattle.scc_cache.specs.CacheWalks.{declined, removed}
 use Rattle.scc_cache.proofs.Caching.{shows-pair}
 use Rattle.scc_cache.proofs.Entries.{changes-value}
@@ -34,3 +39,19 @@ returns-else-f-clause-step g c =
     let w = c.f.new.arg2 in
     declined f.pair w (record { shown = c.value_mut_at.result; shows = v.2 ∙ ap (λ p. p.1) (found-pair m c.args.k.now c.in_ok-place.place f v.0 v.1); left = _; met = c.if-f.ensures; leaves = refl }) refl
     (changes-value _ g.K.PartialEq.eq m c.args.k.now c.in_ok-place.place f w)
+
+pub returns-then-f-clause-relocates : goal.returns-then-f-clause-relocates
+returns-then-f-clause-relocates g c =
+    let m = c.args.self.now in
+    let p = c.in_ok-place.place in
+    let w = c.f.new.arg2 in
+    let within = c.in_ok-place.ensures.within in
+    let moved = subst (λ s. RelocatesNone (λ q. hash_of g.H.BuildHasher g.H.Hasher.Hasher s.hasher (g.K.Hash.hash_input q.0)) (with_value_at m p w).contents c.remove_at.new.self.contents) (written-settings with_pair_value m.contents (spot_of m.contents p) within w) c.remove_at.ensures.relocates in
+    none-after _ m.contents (with_value_at m p w).contents c.remove_at.new.self.contents (written-count with_pair_value m.contents (spot_of m.contents p) within w) (waiting-written m p w) moved
+
+pub returns-else-f-clause-relocates : goal.returns-else-f-clause-relocates
+returns-else-f-clause-relocates g c =
+    let m = c.args.self.now in
+    let p = c.in_ok-place.place in
+    let w = c.f.new.arg2 in
+    kept-none _ m.contents (with_value_at m p w).contents (written-count with_pair_value m.contents (spot_of m.contents p) c.in_ok-place.ensures.within w) (waiting-written m p w)

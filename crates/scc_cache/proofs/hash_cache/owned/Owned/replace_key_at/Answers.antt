@@ -1,18 +1,22 @@
-use Rattle.std.proofs.Common.{ap}
+use Rattle.std.proofs.Common.{ap, sym, subst}
+use Rattle.scc_incremental.specs.Places.{IsPlace, spot_of}
 use Rattle.scc_table.specs.Contents.{settings_of}
 use Rattle.scc_table.specs.Hashing.{hash_of}
 use Rattle.scc_table.specs.Pairs.{with_pair_key}
 use Rattle.scc_cache.proofs.Writing.{get-listed, key-state-by}
 use Rattle.scc_cache.proofs.hash_cache.owned.Owned.replace_key_at.Goals as goal
 
+pub replace_key_at-old-requires-clause-within : goal.replace_key_at-old-requires-clause-within
+replace_key_at-old-requires-clause-within g c = subst (λ z. IsPlace z.contents c.args.place) (sym c.self.view_is) c.requires.within
+
 pub replace_key_at-old-requires-clause-same : goal.replace_key_at-old-requires-clause-same
 replace_key_at-old-requires-clause-same g c =
-    let within = rw (← c.self.view_is) at c.requires.within in
-    λ p got. c.requires.same p (rw (← c.self.view_is) (get-listed with_pair_key c.self.inside.table c.args.place within c.args.key p got))
+    let within = subst (λ z. IsPlace z.contents c.args.place) (sym c.self.view_is) c.requires.within in
+    λ p got. c.requires.same p (rw (← c.self.view_is) (get-listed with_pair_key c.self.inside.table (spot_of c.self.inside.table c.args.place) within c.args.key p got))
 
 pub invariant_of-self : goal.invariant_of-self
 invariant_of-self g c =
-    let within = rw (← c.self.view_is) at c.requires.within in
+    let within = subst (λ z. IsPlace z.contents c.args.place) (sym c.self.view_is) c.requires.within in
     let same = rw (← c.self.view_is) at c.requires.same in
     let s = settings_of c.self.inside.table in
     key-state-by g.K.PartialEq.eq (λ s k. hash_of g.H.BuildHasher g.H.Hasher.Hasher s.hasher (g.K.Hash.hash_input k)) (record { contents = c.self.inside.table; maximum = c.self.inside.maximum }) c.args.place within c.self.invariant c.args.key c.replace_key_at-old.new.self c.replace_key_at-old.ensures.new
@@ -21,13 +25,13 @@ invariant_of-self g c =
 
 pub returns-clause-old : goal.returns-clause-old
 returns-clause-old g c =
-    let within = rw (← c.self.view_is) at c.requires.within in
+    let within = subst (λ z. IsPlace z.contents c.args.place) (sym c.self.view_is) c.requires.within in
     let v = c.replace_key_at-old.ensures.old in
-    rw (← c.self.view_is) (v.0, get-listed with_pair_key c.self.inside.table c.args.place within c.args.key v.0 v.1, v.2)
+    rw (← c.self.view_is) (v.0, get-listed with_pair_key c.self.inside.table (spot_of c.self.inside.table c.args.place) within c.args.key v.0 v.1, v.2)
 
 pub returns-clause-state : goal.returns-clause-state
 returns-clause-state g c =
-    let within = rw (← c.self.view_is) at c.requires.within in
+    let within = subst (λ z. IsPlace z.contents c.args.place) (sym c.self.view_is) c.requires.within in
     let same = rw (← c.self.view_is) at c.requires.same in
     let s = settings_of c.self.inside.table in
     key-state-by g.K.PartialEq.eq (λ s k. hash_of g.H.BuildHasher g.H.Hasher.Hasher s.hasher (g.K.Hash.hash_input k)) (record { contents = c.self.inside.table; maximum = c.self.inside.maximum }) c.args.place within c.self.invariant c.args.key c.replace_key_at-old.new.self c.replace_key_at-old.ensures.new

@@ -1,11 +1,12 @@
 use Rattle.std.proofs.Common.{◌≡◌, ◌∙◌, sym, ap, subst, Some}
 use Rattle.scc_table.specs.Pairs.{with_pair_key}
-use Rattle.scc_table.specs.Writes.{IsPlace-with_write_at}
-use Rattle.scc_table.specs.Contents.{key_hash}
+use Rattle.scc_incremental.specs.Placed.{IsPlace-with_write_at}
+use Rattle.scc_table.specs.Contents.{key_hash, waiting_of}
 use Rattle.scc_cache.specs.CacheSteps.{Changes, number_in}
 use Rattle.scc_cache.specs.ListSteps.{Rewrites}
 use Rattle.scc_cache.proofs.Caching.{found-equal}
 use Rattle.scc_cache.proofs.Entries.{changes-key, pair-keyed}
+use Rattle.scc_cache.proofs.Relocations.{waiting-keyed}
 use Rattle.scc_cache.proofs.hash_cache.owned.Owned.replace_sync.Goals as goal
 
 pub replace_key_at-old-requires-clause-same : goal.replace_key_at-old-requires-clause-same
@@ -26,3 +27,6 @@ returns-in-Some-clause-step g c =
       pair-keyed m c.replace_key_at-old.new.self c.in-Some.place f.within f.pair c.args.k f.here c.replace_key_at-old.ensures.new _,
       subst (λ p. Changes (Rewrites (number_in (key_hash g.H.BuildHasher g.H.Hasher.Hasher g.K.Hash.hash_input m.contents) m.contents) g.K.PartialEq.eq c.args.k p (c.args.k, f.pair.1)) m c.replace_key_at-old.new.self) pair changes,
     )
+
+pub returns-in-Some-clause-waiting : goal.returns-in-Some-clause-waiting
+returns-in-Some-clause-waiting g c = ap (λ d. waiting_of d.contents) c.replace_key_at-old.ensures.new ∙ waiting-keyed c.args.self.now c.in-Some.place c.args.k

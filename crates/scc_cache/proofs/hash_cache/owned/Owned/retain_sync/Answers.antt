@@ -1,8 +1,10 @@
-use Rattle.std.proofs.Common.{refl, subst, arith}
+use Rattle.std.proofs.Common.{ℕ, refl, subst, arith}
 use Rattle.std.proofs.lemmas.List.Sorted.{IsPermutation-refl}
-use Rattle.scc_table.specs.Bounded.{ShrinksBounded}
+use Rattle.scc_table.specs.Bounded.{MayNarrow, ShrinksBounded}
 use Rattle.scc_table.specs.Contents.{entries}
 use Rattle.scc_table.specs.Hashing.{hash_of}
+use Rattle.scc_incremental.specs.Relocates.{Spreads}
+use Rattle.scc_cache.proofs.Relocations.{shrunk-none}
 use Rattle.scc_cache.proofs.Caching.{shrunk-within, state-after}
 use Rattle.scc_cache.proofs.Walked.{goes-over, leaves-pairs, listed-same}
 use Rattle.scc_cache.proofs.hash_cache.owned.Owned.retain_sync.Goals as goal
@@ -41,3 +43,12 @@ returns-clause-step g c =
       leaves-pairs _ m (record { contents = left; maximum = c.self.inside.maximum }) step.0 listed held refused maximum,
       record { shrinks = shrinks; maximum = refl },
     )
+
+pub returns-clause-relocates : goal.returns-clause-relocates
+returns-clause-relocates g c =
+    let left = c.self.inside.table in
+    let step = rw (← c.self.view_is) at c.retain_all.ensures.step in
+    let held = step.3 in
+    let shrinks = subst (λ s. ShrinksBounded (λ e. hash_of g.H.BuildHasher g.H.Hasher.Hasher s.hasher (g.K.Hash.hash_input e.0)) left c.shrink_within.new.self) held.settings c.shrink_within.ensures.shrinks in
+    let spreads = subst (λ s. Spreads ((n : ℕ) × MayNarrow (λ e. hash_of g.H.BuildHasher g.H.Hasher.Hasher s.hasher (g.K.Hash.hash_input e.0)) left n) left c.shrink_within.new.self) held.settings c.shrink_within.ensures.spreads in
+    shrunk-none _ c.args.self.now.contents left c.shrink_within.new.self held.buckets (rw (← c.self.view_is) at c.retain_all.ensures.waiting) shrinks spreads

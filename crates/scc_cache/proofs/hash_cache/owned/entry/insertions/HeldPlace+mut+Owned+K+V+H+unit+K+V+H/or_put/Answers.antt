@@ -8,7 +8,7 @@ returns-in-Occupied g c =
 
 pub returns-in-Ok : goal.returns-in-Ok
 returns-in-Ok g c =
-    ((refl, λ w. refl, tt), record { entry = rw c.in-Vacant.is (put-after g.K.PartialEq.eq c.in-Vacant.entry c.in-Vacant.entry.guard.now c.put_at.new.self c.args.default c.in-Ok.evicted _ refl refl refl c.in-Ok.ensures.step c.in-Ok.ensures.here.1); refused = tt; kept = tt })
+    ((refl, λ w. refl, tt), record { entry = rw c.in-Vacant.is (put-after g.K.PartialEq.eq c.in-Vacant.entry c.in-Vacant.entry.guard.now c.put_at.new.self c.args.default c.in-Ok.evicted _ refl refl refl c.in-Ok.ensures.step c.in-Ok.ensures.relocates c.in-Ok.ensures.here.1); refused = tt; kept = tt })
 
 pub returns-in-Err : goal.returns-in-Err
 returns-in-Err g c =
