@@ -20,7 +20,7 @@ impl<E: Keyed + Made, H: BuildHasher> Incremental<E, H>
 where
     E::Key: Eq + Hash,
 {
-    /// Puts in an entry of the parts, whose key is new, and answers its place. The array grows as for `insert_new`, but only where the key's bucket then has room; where it would have none, that counts as memory refused. All memory is asked for before anything is changed: that of a growth first, that of the entry last. The parts are handed back, and no list changed, where there is no array and none can be had, where memory for the entries that its bucket waits for is refused, where the bucket is full and the overflow list can't grow, and where the entry can't be made.
+    /// Puts in an entry of the parts, whose key is new, and answers its place. The array grows as for `insert_new`. Nothing that may refuse the call comes after the entry is made. The parts are handed back, and no list changed, where there is no array and none can be had, where memory for the entries that its bucket waits for is refused, where the bucket is full and the overflow list can't grow, and where the entry can't be made.
     pub fn insert_made(&mut self, hash: u64, parts: E::Parts) -> Result<Place, E::Parts>
         requires hashed { hash ≡ key_hash H.BuildHasher H.Hasher.Hasher E.Key.hash_input self.old (E.key_of (E.made_of parts)) }
         requires absent { position (λ e. E.Key.eq (E.key_of (E.made_of parts)) (E.key_of e)) (entries self.old) ≡ None }
@@ -77,7 +77,7 @@ where
         placed
     }
 
-    /// The same where no bucket waits, and that bucket, the one of the hash, holds 32 entries or more. Where the table holds at least half as many entries as slots, the number of buckets is doubled, unless the array is the greatest, memory for that is refused, or the bucket of the key would still hold 32 entries or more.
+    /// The same where no bucket waits, and that bucket, the one of the hash, holds 32 entries or more. Where the table holds at least half as many entries as slots, the number of buckets is doubled, unless the array is the greatest or memory for that is refused.
     #[cold]
     fn insert_made_full(
         &mut self,
