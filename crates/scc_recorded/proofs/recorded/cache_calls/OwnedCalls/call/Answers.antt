@@ -8,8 +8,8 @@ use Rattle.scc_cache.specs.CacheSteps.{IsPresentAt, Puts, number_in}
 use Rattle.scc_cache.specs.Entries.{occupied_pair}
 use Rattle.scc_recorded.specs.CacheCalls.{cache_setting, CacheMoves, CacheResizes}
 use Rattle.scc_recorded.specs.Changes.{Changes}
-use Rattle.scc_recorded.specs.declared.recorded.calls_as_values.CacheCall.TheVariants.{Write}
-use Rattle.scc_recorded.specs.declared.recorded.replies.Reply.TheVariants.{Old}
+use Rattle.scc_recorded.specs.declared.recorded.calls_as_values.CacheCall.TheVariants.{Get, Write}
+use Rattle.scc_recorded.specs.declared.recorded.replies.Reply.TheVariants.{Old, Value}
 use Rattle.scc_recorded.proofs.CacheCalls.{put-changes, exists-changes, memory-refused, remove-changes, clear-changes, contains-changes, read-changes, len-changes, get-changes, write-changes}
 use Rattle.scc_recorded.proofs.recorded.cache_calls.OwnedCalls.call.Goals as goal
 
@@ -47,7 +47,10 @@ returns-in-Read-clause-ok g c = rw c.in-Read.is (read-changes (key_hash g.H.Buil
 pub returns-in-Some-clause-ok : goal.returns-in-Some-clause-ok
 returns-in-Some-clause-ok g c =
     let o = c.in-Some.entry in
-    rw c.in-Get.is (get-changes (key_hash g.H.BuildHasher g.H.Hasher.Hasher g.K.Hash.hash_input c.args.self.now.contents) g.K.PartialEq.eq c.args.self.now o.guard.now c.in-Get.k (occupied_pair o) _ (search rules) c.in-Some.ensures.entry.changes)
+    let hash : g.row.K.Denot → ℕ = λ k. hash_of g.H.BuildHasher g.H.Hasher.Hasher (settings_of c.args.self.now.contents).hasher (g.K.Hash.hash_input k) in
+    let h : Changes length (CacheMoves g.K.PartialEq.eq (number_in hash c.args.self.now.contents)) (CacheResizes (cache_setting c.args.self.now) (number_in hash c.args.self.now.contents)) (lists_of c.args.self.now.contents) (Get c.in-Get.k) (Value (Some c.get.result.now)) (lists_of o.guard.now.contents) =
+    get-changes hash g.K.PartialEq.eq c.args.self.now o.guard.now c.in-Get.k (occupied_pair o) c.get.result.now c.get.ensures c.in-Some.ensures.entry.changes in
+    rw c.in-Get.is (search (rules, h))
 
 pub returns-in-Occupied-clause-ok : goal.returns-in-Occupied-clause-ok
 returns-in-Occupied-clause-ok g c =
