@@ -26,6 +26,14 @@ struct Outcome {
     count: u64,
 }
 
+/// What the workloads of a run took.
+#[derive(Clone, Copy, Drop)]
+struct Run {
+    stepped: Outcome,
+    got: Outcome,
+    evicted: Outcome,
+}
+
 fn out_of_memory() -> io::Error {
     io::Error::from(io::ErrorKind::OutOfMemory)
 }
@@ -138,6 +146,54 @@ fn make_lists(alloc: Global, streams: &Streams) -> Result<Lists, AllocError> {
     })
 }
 
+/// Goes through the warming keys, and then measures the ranked ones.
+fn step(clock: &impl Clock, alloc: Global, lists: &Lists) -> io::Result<Outcome> {
+    let mut cache = empty(alloc)?;
+    get_or_put_all(clock, &mut cache, lists.warming.as_slice())?;
+    get_or_put_all(clock, &mut cache, lists.ranked.as_slice())
+}
+
+/// Puts few keys, and then measures how they are got.
+fn look(clock: &impl Clock, alloc: Global, lists: &Lists) -> io::Result<Outcome> {
+    let mut cache = empty(alloc)?;
+    put_all(clock, &mut cache, lists.kept.as_slice())?;
+    get_all(clock, &mut cache, lists.accessed.as_slice())
+}
+
+/// Fills a cache, and then measures puts that evict.
+fn evict(clock: &impl Clock, alloc: Global, lists: &Lists) -> io::Result<Outcome> {
+    let mut cache = empty(alloc)?;
+    put_all(clock, &mut cache, lists.filling.as_slice())?;
+    put_all(clock, &mut cache, lists.evicting.as_slice())
+}
+
+fn run_once(clock: &impl Clock, alloc: Global, lists: &Lists) -> io::Result<Run> {
+    let stepped = step(clock, alloc, lists)?;
+    let got = look(clock, alloc, lists)?;
+    let evicted = evict(clock, alloc, lists)?;
+    Ok(Run {
+        stepped,
+        got,
+        evicted,
+    })
+}
+
+/// Prints the lines of a run of so many steps.
+fn print_lines(rt: &impl Print, peer: &str, run: Run, steps: u64) -> io::Result<()> {
+    let hits = run.stepped.count.saturating_mul(100);
+    line(rt, "cache_t1", peer, run.stepped.spent, steps)?;
+    line(rt, "cache_get", peer, run.got.spent, KEPT)?;
+    line(rt, "cache_evict", peer, run.evicted.spent, steps)?;
+    line(rt, "hitrate_t1", peer, hits, steps)
+}
+
+/// Prints the sums of a run.
+fn print_checks(rt: &impl Print, peer: &str, run: Run) -> io::Result<()> {
+    check(rt, "cache_t1", peer, run.stepped.sum)?;
+    check(rt, "cache_get", peer, run.got.sum)?;
+    check(rt, "cache_evict", peer, run.evicted.sum)
+}
+
 /// Goes through the workloads once to warm up and then `runs` times, and prints a line for each.
 pub fn measure<R: Clock + Print>(
     rt: &R,
@@ -147,34 +203,10 @@ pub fn measure<R: Clock + Print>(
     streams: &Streams,
 ) -> io::Result<()> {
     let lists = make_lists(alloc, streams)?;
-    let steps = streams.entries;
-    for run in 0..=runs {
-        let mut cache = empty(alloc)?;
-        get_or_put_all(rt, &mut cache, lists.warming.as_slice())?;
-        let stepped = get_or_put_all(rt, &mut cache, lists.ranked.as_slice())?;
-        let mut cache = empty(alloc)?;
-        put_all(rt, &mut cache, lists.kept.as_slice())?;
-        let got = get_all(rt, &mut cache, lists.accessed.as_slice())?;
-        let mut cache = empty(alloc)?;
-        put_all(rt, &mut cache, lists.filling.as_slice())?;
-        let evicted = put_all(rt, &mut cache, lists.evicting.as_slice())?;
-        if run > 0 {
-            line(rt, "cache_t1", peer, stepped.spent, steps)?;
-            line(rt, "cache_get", peer, got.spent, KEPT)?;
-            line(rt, "cache_evict", peer, evicted.spent, steps)?;
-            line(
-                rt,
-                "hitrate_t1",
-                peer,
-                stepped.count.saturating_mul(100),
-                steps,
-            )?;
-        }
-        if run == runs {
-            check(rt, "cache_t1", peer, stepped.sum)?;
-            check(rt, "cache_get", peer, got.sum)?;
-            check(rt, "cache_evict", peer, evicted.sum)?;
-        }
+    let mut last = run_once(rt, alloc, &lists)?;
+    for _ in 0..runs {
+        last = run_once(rt, alloc, &lists)?;
+        print_lines(rt, peer, last, streams.entries)?;
     }
-    Ok(())
+    print_checks(rt, peer, last)
 }
