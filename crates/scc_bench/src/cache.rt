@@ -26,14 +26,6 @@ struct Outcome {
     count: u64,
 }
 
-/// What the workloads of a run took.
-#[derive(Clone, Copy, Drop)]
-struct Run {
-    stepped: Outcome,
-    got: Outcome,
-    evicted: Outcome,
-}
-
 fn out_of_memory() -> io::Error {
     io::Error::from(io::ErrorKind::OutOfMemory)
 }
@@ -116,85 +108,114 @@ fn put_all(clock: &impl Clock, cache: &mut Cache, keys: &[u64]) -> io::Result<Ou
     })
 }
 
-/// The keys of the workloads, made before the clock starts.
+/// The keys of a workload, made before the clock starts.
 #[derive(Drop)]
-struct Lists {
-    warming: Vec<u64>,
-    ranked: Vec<u64>,
-    kept: Vec<u64>,
-    accessed: Vec<u64>,
-    filling: Vec<u64>,
-    evicting: Vec<u64>,
+struct Keys {
+    first: Vec<u64>,
+    measured: Vec<u64>,
 }
 
-fn make_lists(alloc: Global, streams: &Streams) -> Result<Lists, AllocError> {
+fn step_keys(alloc: Global, streams: &Streams) -> Result<Keys, AllocError> {
+    Ok(Keys {
+        first: streams.ranked(alloc, 0)?,
+        measured: streams.ranked(alloc, streams.entries)?,
+    })
+}
+
+fn get_keys(alloc: Global, seed: u64) -> Result<Keys, AllocError> {
     let few = Streams {
         entries: KEPT,
-        seed: streams.seed,
+        seed,
     };
+    Ok(Keys {
+        first: few.inserted(alloc)?,
+        measured: few.accessed(alloc)?,
+    })
+}
+
+fn eviction_keys(alloc: Global, streams: &Streams) -> Result<Keys, AllocError> {
     let filling = Streams {
         entries: FILLING,
         seed: streams.seed,
     };
-    Ok(Lists {
-        warming: streams.ranked(alloc, 0)?,
-        ranked: streams.ranked(alloc, streams.entries)?,
-        kept: few.inserted(alloc)?,
-        accessed: few.accessed(alloc)?,
-        filling: filling.inserted(alloc)?,
-        evicting: streams.missing(alloc)?,
+    Ok(Keys {
+        first: filling.inserted(alloc)?,
+        measured: streams.missing(alloc)?,
     })
 }
 
-/// Goes through the warming keys, and then measures the ranked ones.
-fn step(clock: &impl Clock, alloc: Global, lists: &Lists) -> io::Result<Outcome> {
+/// Goes through keys in an empty cache, and then measures further ones.
+fn step(clock: &impl Clock, alloc: Global, keys: &Keys) -> io::Result<Outcome> {
     let mut cache = empty(alloc)?;
-    get_or_put_all(clock, &mut cache, lists.warming.as_slice())?;
-    get_or_put_all(clock, &mut cache, lists.ranked.as_slice())
+    get_or_put_all(clock, &mut cache, keys.first.as_slice())?;
+    get_or_put_all(clock, &mut cache, keys.measured.as_slice())
 }
 
 /// Puts few keys, and then measures how they are got.
-fn look(clock: &impl Clock, alloc: Global, lists: &Lists) -> io::Result<Outcome> {
+fn look(clock: &impl Clock, alloc: Global, keys: &Keys) -> io::Result<Outcome> {
     let mut cache = empty(alloc)?;
-    put_all(clock, &mut cache, lists.kept.as_slice())?;
-    get_all(clock, &mut cache, lists.accessed.as_slice())
+    put_all(clock, &mut cache, keys.first.as_slice())?;
+    get_all(clock, &mut cache, keys.measured.as_slice())
 }
 
 /// Fills a cache, and then measures puts that evict.
-fn evict(clock: &impl Clock, alloc: Global, lists: &Lists) -> io::Result<Outcome> {
+fn evict(clock: &impl Clock, alloc: Global, keys: &Keys) -> io::Result<Outcome> {
     let mut cache = empty(alloc)?;
-    put_all(clock, &mut cache, lists.filling.as_slice())?;
-    put_all(clock, &mut cache, lists.evicting.as_slice())
+    put_all(clock, &mut cache, keys.first.as_slice())?;
+    put_all(clock, &mut cache, keys.measured.as_slice())
 }
 
-fn run_once(clock: &impl Clock, alloc: Global, lists: &Lists) -> io::Result<Run> {
-    let stepped = step(clock, alloc, lists)?;
-    let got = look(clock, alloc, lists)?;
-    let evicted = evict(clock, alloc, lists)?;
-    Ok(Run {
-        stepped,
-        got,
-        evicted,
-    })
+fn measure_steps<R: Clock + Print>(
+    rt: &R,
+    alloc: Global,
+    peer: &str,
+    runs: u64,
+    streams: &Streams,
+) -> io::Result<()> {
+    let keys = step_keys(alloc, streams)?;
+    let mut last = step(rt, alloc, &keys)?;
+    for _ in 0..runs {
+        last = step(rt, alloc, &keys)?;
+        line(rt, "cache_t1", peer, last.spent, streams.entries)?;
+        let hits = last.count.saturating_mul(100);
+        line(rt, "hitrate_t1", peer, hits, streams.entries)?;
+    }
+    check(rt, "cache_t1", peer, last.sum)
 }
 
-/// Prints the lines of a run of so many steps.
-fn print_lines(rt: &impl Print, peer: &str, run: Run, steps: u64) -> io::Result<()> {
-    let hits = run.stepped.count.saturating_mul(100);
-    line(rt, "cache_t1", peer, run.stepped.spent, steps)?;
-    line(rt, "cache_get", peer, run.got.spent, KEPT)?;
-    line(rt, "cache_evict", peer, run.evicted.spent, steps)?;
-    line(rt, "hitrate_t1", peer, hits, steps)
+fn measure_gets<R: Clock + Print>(
+    rt: &R,
+    alloc: Global,
+    peer: &str,
+    runs: u64,
+    seed: u64,
+) -> io::Result<()> {
+    let keys = get_keys(alloc, seed)?;
+    let mut last = look(rt, alloc, &keys)?;
+    for _ in 0..runs {
+        last = look(rt, alloc, &keys)?;
+        line(rt, "cache_get", peer, last.spent, KEPT)?;
+    }
+    check(rt, "cache_get", peer, last.sum)
 }
 
-/// Prints the sums of a run.
-fn print_checks(rt: &impl Print, peer: &str, run: Run) -> io::Result<()> {
-    check(rt, "cache_t1", peer, run.stepped.sum)?;
-    check(rt, "cache_get", peer, run.got.sum)?;
-    check(rt, "cache_evict", peer, run.evicted.sum)
+fn measure_evictions<R: Clock + Print>(
+    rt: &R,
+    alloc: Global,
+    peer: &str,
+    runs: u64,
+    streams: &Streams,
+) -> io::Result<()> {
+    let keys = eviction_keys(alloc, streams)?;
+    let mut last = evict(rt, alloc, &keys)?;
+    for _ in 0..runs {
+        last = evict(rt, alloc, &keys)?;
+        line(rt, "cache_evict", peer, last.spent, streams.entries)?;
+    }
+    check(rt, "cache_evict", peer, last.sum)
 }
 
-/// Goes through the workloads once to warm up and then `runs` times, and prints a line for each.
+/// Goes through each workload once to warm up and then `runs` times, and prints a line for each time.
 pub fn measure<R: Clock + Print>(
     rt: &R,
     alloc: Global,
@@ -202,11 +223,7 @@ pub fn measure<R: Clock + Print>(
     runs: u64,
     streams: &Streams,
 ) -> io::Result<()> {
-    let lists = make_lists(alloc, streams)?;
-    let mut last = run_once(rt, alloc, &lists)?;
-    for _ in 0..runs {
-        last = run_once(rt, alloc, &lists)?;
-        print_lines(rt, peer, last, streams.entries)?;
-    }
-    print_checks(rt, peer, last)
+    measure_steps(rt, alloc, peer, runs, streams)?;
+    measure_gets(rt, alloc, peer, runs, streams.seed)?;
+    measure_evictions(rt, alloc, peer, runs, streams)
 }
