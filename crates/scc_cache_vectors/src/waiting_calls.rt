@@ -9,7 +9,12 @@ use std::test::Fail;
 // All answers were right, and most calls were made while buckets waited.
 fn expect<R: Abort>(rt: &R, tally: Tally) {
     assert_eq!(rt; tally.wrong, 0);
-    assert!(rt; tally.holds(), "{} of {} calls waited", tally.waited, tally.calls);
+    assert!(rt;
+        tally.holds(),
+        "{} of {} calls waited",
+        tally.waited,
+        tally.calls
+    );
 }
 
 #[test]

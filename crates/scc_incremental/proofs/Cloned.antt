@@ -11,8 +11,8 @@ use Rattle.scc_bucket.specs.Shelf.{Shelf, empty_shelf, shelf_entries}
 use Rattle.scc_table.specs.Clones.{AddsClones, HasClones}
 use Rattle.scc_table.specs.Contents.{Contents, entries, bucket_count, settings_of}
 use Rattle.scc_table.specs.Tables.{spilled_in}
-use Rattle.scc_incremental.specs.Moves.{AreOwn}
-use Rattle.scc_incremental.proofs.Preparing.{few-each}
+use Rattle.scc_relocation.specs.Moves.{AreOwn}
+use Rattle.scc_relocation.proofs.FromBuckets.{few-each}
 
 zip-set : {E : Type 0} (R : E → E → Type 0) (xs cs : List E) (i : ℕ) (x c : E) → AllZip R xs cs → R x c → AllZip R (set xs i x) (set cs i c)
 zip-set R [] [] zero x c h r = tt

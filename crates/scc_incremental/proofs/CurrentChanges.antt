@@ -9,9 +9,9 @@ use Rattle.scc_table.specs.Routing.{bucket_number}
 use Rattle.scc_table.specs.Tables.{spilled_in}
 use Rattle.scc_table.specs.Writes.{with_write_at}
 use Rattle.scc_table.specs.declared.place.Place.{Place}
-use Rattle.scc_incremental.specs.Moves.{AreOwn}
-use Rattle.scc_incremental.specs.TwoArrays.{AreMultiples, joined, held_in, waits_at, target_by, together, TwoArrays, IsIncremental}
-use Rattle.scc_incremental.proofs.Arriving.{same-contents}
+use Rattle.scc_relocation.specs.Moves.{AreMultiples, AreOwn}
+use Rattle.scc_incremental.specs.TwoArrays.{joined, held_in, waits_at, target_by, together, TwoArrays, IsIncremental}
+use Rattle.scc_relocation.proofs.Arriving.{same-contents}
 use Rattle.scc_incremental.proofs.JoinedChanges.{joined-here, joined-set}
 use Rattle.scc_incremental.proofs.Joining.{lists-together, held-together, settings-together, refused-together, waiting-together}
 use Rattle.scc_incremental.proofs.Relocated.{count-is, list-is}

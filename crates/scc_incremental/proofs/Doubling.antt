@@ -1,13 +1,12 @@
 -- The entries of one bucket among twice as many buckets.
-use Rattle.std.proofs.Common.{◌≡◌, ◌==◌, ℕ, ◌*◌, ◌/◌, Bool, true, List, [], ◌∷◌, length, refl, sym, ap, ◌∙◌, arith, Result, Ok, Err, eqb-true, eq-eqb}
-use Rattle.std.specs.Prelude.{OnOk}
+use Rattle.std.proofs.Common.{◌≡◌, ◌==◌, ℕ, ◌*◌, ◌/◌, Bool, true, List, [], ◌∷◌, length, refl, sym, ap, ◌∙◌, arith, eqb-true, eq-eqb}
 use Rattle.std.specs.List.{filter}
 use Rattle.scc_table.specs.Contents.{Contents, entries, bucket_count, list_of, settings_of, IsRouted}
 use Rattle.scc_table.specs.Pour.{bound_for}
 use Rattle.scc_table.specs.Routing.{bucket_number}
 use Rattle.scc_table.proofs.PairSplits.{by_answer}
 use Rattle.scc_incremental.proofs.Listed.{listed-is}
-use Rattle.scc_incremental.proofs.Numbers.{number-div}
+use Rattle.scc_relocation.proofs.Numbers.{number-div}
 
 -- those that pass both are those that pass the narrower
 pub filter-both : {E : Type 0} (p q : E → Bool) → ((e : E) → p e ≡ true → q e ≡ true) → (es : List E) → filter p (filter q es) ≡ filter p es
@@ -19,7 +18,7 @@ filter-both p q h (e ∷ es) =
     (λ a. by_answer (q e) (λ b. rw b (rw a rest)) (λ b. rw b (rw a rest)))
 
 -- a bucket among twice as many has its entries from one
-bound-listed : {E S : Type 0} (hash : E → ℕ) (c : Contents E S) (h i : ℕ) → IsRouted hash c → i ≡ bucket_number (settings_of c).skipped (bucket_count c) h
+pub bound-listed : {E S : Type 0} (hash : E → ℕ) (c : Contents E S) (h i : ℕ) → IsRouted hash c → i ≡ bucket_number (settings_of c).skipped (bucket_count c) h
     → bound_for hash (settings_of c).skipped (2 * bucket_count c) (bucket_number (settings_of c).skipped (2 * bucket_count c) h) (list_of c i) ≡ bound_for hash (settings_of c).skipped (2 * bucket_count c) (bucket_number (settings_of c).skipped (2 * bucket_count c) h) (entries c)
 bound-listed {E} hash c h i routed at =
     let s = (settings_of c).skipped in
@@ -34,8 +33,3 @@ bound-listed {E} hash c h i routed at =
 pub bound-few : {E S : Type 0} (hash : E → ℕ) (c : Contents E S) (h i : ℕ) → IsRouted hash c → i ≡ bucket_number (settings_of c).skipped (bucket_count c) h
     → length (bound_for hash (settings_of c).skipped (2 * bucket_count c) (bucket_number (settings_of c).skipped (2 * bucket_count c) h) (list_of c i)) ≡ length (bound_for hash (settings_of c).skipped (2 * bucket_count c) (bucket_number (settings_of c).skipped (2 * bucket_count c) h) (entries c))
 bound-few hash c h i routed at = ap length (bound-listed hash c h i routed at)
-
--- what holds anyway holds of an acceptance
-pub any-ok : {X Y P : Type 0} (r : Result X Y) → P → OnOk r P
-any-ok (Ok x) p = p
-any-ok (Err y) p = tt

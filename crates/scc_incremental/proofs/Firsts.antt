@@ -9,10 +9,10 @@ use Rattle.scc_table.specs.Contents.{Contents, entries, bucket_count, minimum_of
 use Rattle.scc_table.specs.Routing.{bucket_number}
 use Rattle.scc_table.specs.Sizes.{IsArray, IsArraySize}
 use Rattle.scc_table.specs.Steps.{Grows, IsUnchanged, Rests}
-use Rattle.scc_incremental.specs.Moves.{AreOwn}
+use Rattle.scc_relocation.specs.Moves.{AreOwn}
 use Rattle.scc_incremental.specs.TwoArrays.{IsIncremental, together, TwoArrays, waits_at}
 use Rattle.scc_incremental.proofs.Alone.{entries-alone, nothing-held}
-use Rattle.scc_incremental.proofs.Arriving.{IsDistinct-nil}
+use Rattle.scc_relocation.proofs.Arriving.{IsDistinct-nil}
 
 -- without buckets there are no flags
 pub no-flags : (ws : List Bool) (n : ℕ) → (ws ≡ []) ⊎ (length ws ≡ n) → n ≡ 0 → ws ≡ []

@@ -14,8 +14,8 @@ use Rattle.scc_table.specs.Sizes.{IsArray, IsLawful}
 use Rattle.scc_table.specs.Tables.{spilled_in}
 use Rattle.scc_table.proofs.PairSplits.{by_answer}
 use Rattle.scc_table.proofs.Pours.{bound_append, bound_here}
-use Rattle.scc_incremental.specs.Moves.{AreOwn}
-use Rattle.scc_incremental.specs.TwoArrays.{AreMultiples, grown, shrunk, joined, target_by, together, TwoArrays, waits_at}
+use Rattle.scc_relocation.specs.Moves.{grown, shrunk, AreMultiples, AreOwn}
+use Rattle.scc_incremental.specs.TwoArrays.{joined, target_by, together, TwoArrays, waits_at}
 use Rattle.scc_incremental.proofs.Joining.{lists-together}
 use Rattle.scc_incremental.proofs.OldSpots.{split-list}
 use Rattle.scc_incremental.proofs.Relocated.{count-is, list-is}

@@ -16,7 +16,7 @@ use Rattle.scc_table.proofs.Finding.{position_hit, position_cons}
 use Rattle.scc_table.proofs.Inserts.{none_left}
 use Rattle.scc_table.proofs.PairSplits.{by_answer}
 use Rattle.scc_table.proofs.Spots.{place-get}
-use Rattle.scc_incremental.proofs.Sublists.{Sub, none, keep, skip, keep_all, skip_all}
+use Rattle.scc_relocation.proofs.Sublists.{Sub, none, keep, skip, keep_all, skip_all}
 
 -- what none of a list passes, none of a part does
 pub absent-sub : {X : Type 0} (p : X → Bool) {xs ys : List X} → Sub xs ys → position p ys ≡ None → position p xs ≡ None
@@ -102,10 +102,14 @@ module _ {E S : Type 0} (c : Contents E S) (i : ℕ) (e : E) (d : Contents E S) 
         omega (arith, put.slot);
   }
 
-  -- the entry stands where it was put
+  -- the entry stands where it was put in its list
+  pub put-here : slice_get (list_of d p.bucket) p.slot ≡ Some e
+  put-here = ap (λ k. slice_get (list_of d k) p.slot) put.bucket ∙ ap (λ z. slice_get z p.slot) put-list ∙ get-insert (list_of c i) p.slot e put.slot
+
+  -- and among all entries
   pub put-inserted : IsInsertedAt c e d p
   put-inserted = record {
     holds = put-holds;
     within = put-within;
-    here = place-get d p put-within e (ap (λ k. slice_get (list_of d k) p.slot) put.bucket ∙ ap (λ z. slice_get z p.slot) put-list ∙ get-insert (list_of c i) p.slot e put.slot);
+    here = place-get d p put-within e put-here;
   }

@@ -9,7 +9,7 @@ use Rattle.scc_table.specs.Routing.{bucket_number}
 use Rattle.scc_table.specs.Sizes.{IsArray, IsArraySize}
 use Rattle.scc_table.specs.Steps.{FirstArrayWhenDue, Grows, IsUnchanged}
 use Rattle.scc_table.specs.declared.place.Place.{Place}
-use Rattle.scc_incremental.specs.Moves.{AreOwn}
+use Rattle.scc_relocation.specs.Moves.{AreOwn}
 use Rattle.scc_incremental.specs.Places.{IsInsertedAt, spot_of}
 use Rattle.scc_incremental.specs.TwoArrays.{IsIncremental, waits_at}
 use Rattle.scc_incremental.proofs.Alone.{entries-alone, nothing-held, spilled-bare}

@@ -11,14 +11,15 @@ use Rattle.scc_table.specs.Pour.{bound_for}
 use Rattle.scc_table.specs.Tables.{spilled_in}
 use Rattle.scc_table.specs.declared.place.Place.{Place}
 use Rattle.scc_table.proofs.Standing.{index-after, index-below}
-use Rattle.scc_incremental.specs.Moves.{AreOwn, IsWithinSources}
+use Rattle.scc_relocation.specs.Moves.{AreOwn, IsWithinSources}
 use Rattle.scc_incremental.specs.Places.{held_before, index_of, spot_of, StandsAt}
 use Rattle.scc_incremental.specs.Stepping.{entries_before, index_on, own, old, rank_on, spot_on, IsStart, StandsNext}
 use Rattle.scc_incremental.specs.TwoArrays.{held_in, target_by, together, TwoArrays, waits_at}
-use Rattle.scc_incremental.proofs.Draining.{before-none, take-all_bound}
+use Rattle.scc_relocation.proofs.Draining.{before-none, take-all_bound}
 use Rattle.scc_incremental.proofs.Joining.{count-together, held-together, waiting-together}
 use Rattle.scc_incremental.proofs.OldSpots.{count-map, held-before, held-some, old-place, old-spot, old-waits, own-list, own-place, own-spot}
-use Rattle.scc_incremental.proofs.Preparing.{few-each, long-flags, waiting-list}
+use Rattle.scc_relocation.proofs.FromBuckets.{few-each}
+use Rattle.scc_incremental.proofs.Preparing.{long-flags, waiting-list}
 use Rattle.scc_incremental.proofs.Relocating.{up-within}
 use Rattle.scc_incremental.proofs.Stepped.{before-start, bound-count}
 

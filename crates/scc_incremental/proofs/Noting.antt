@@ -5,8 +5,8 @@ use Rattle.scc_bucket.specs.Shelf.{Shelf, shelf_entries}
 use Rattle.scc_table.specs.Contents.{Contents, entries, bucket_count, lists_of, settings_of, spilled_of, held_of}
 use Rattle.scc_table.specs.Routing.{bucket_number}
 use Rattle.scc_table.specs.Tables.{spilled_in}
-use Rattle.scc_incremental.specs.Moves.{AreOwn}
-use Rattle.scc_incremental.specs.TwoArrays.{AreMultiples, IsIncremental, held_in, joined, target_by, together, TwoArrays}
+use Rattle.scc_relocation.specs.Moves.{AreMultiples, AreOwn}
+use Rattle.scc_incremental.specs.TwoArrays.{IsIncremental, held_in, joined, target_by, together, TwoArrays}
 use Rattle.scc_incremental.proofs.Alone.{spilled-together}
 use Rattle.scc_incremental.proofs.Joining.{lists-together, held-together}
 use Rattle.scc_incremental.proofs.Same.{count-same, list-same, entries-same}

@@ -13,7 +13,8 @@ use Rattle.scc_table.specs.Sizes.{IsArray}
 use Rattle.scc_table.specs.Tables.{IsOwn, spilled_in}
 use Rattle.scc_table.proofs.Arrays.{drop-got}
 use Rattle.scc_incremental.specs.Stepping.{entries_before}
-use Rattle.scc_incremental.specs.TwoArrays.{AreMultiples, waits_at, target_by, together, TwoArrays, IsIncremental}
+use Rattle.scc_relocation.specs.Moves.{AreMultiples}
+use Rattle.scc_incremental.specs.TwoArrays.{waits_at, target_by, together, TwoArrays, IsIncremental}
 use Rattle.scc_incremental.proofs.JoinedChanges.{joined-changed}
 use Rattle.scc_incremental.proofs.Joining.{lists-together}
 use Rattle.scc_incremental.proofs.OldSpots.{old-waits, old-long, old-within}

@@ -19,7 +19,7 @@ use Rattle.scc_incremental.proofs.Inserted.{count-sub, count-whole, one-sub, put
 use Rattle.scc_incremental.proofs.OldSpots.{spot-own}
 use Rattle.scc_incremental.proofs.Relocated.{count-is, list-is}
 use Rattle.scc_incremental.proofs.Same.{count-same, entries-same, list-same, unchanged-same}
-use Rattle.scc_incremental.proofs.Sublists.{Sub}
+use Rattle.scc_relocation.proofs.Sublists.{Sub}
 use Rattle.scc_incremental.proofs.Targets.{targets-after, targets-length, targets-without}
 
 all-entries : {E S : Type 0} (c : Contents E S) → entries c ≡ flat_map (λ l. l) (lists_of c)

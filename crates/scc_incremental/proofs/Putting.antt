@@ -13,15 +13,15 @@ use Rattle.scc_table.specs.Tables.{spilled_in}
 use Rattle.scc_table.specs.declared.place.Place.{Place}
 use Rattle.scc_table.proofs.Inserts.{unique-inserted}
 use Rattle.scc_table.proofs.PairSplits.{by_answer}
-use Rattle.scc_incremental.specs.Moves.{AreOwn}
-use Rattle.scc_incremental.specs.TwoArrays.{AreMultiples, IsIncremental, held_in, joined, target_by, together, TwoArrays, waits_at}
+use Rattle.scc_relocation.specs.Moves.{AreMultiples, AreOwn}
+use Rattle.scc_incremental.specs.TwoArrays.{IsIncremental, held_in, joined, target_by, together, TwoArrays, waits_at}
 use Rattle.scc_incremental.proofs.Alone.{spilled-together}
 use Rattle.scc_incremental.proofs.Inserted.{absent-sub, count-sub, count-whole, one-sub, put-count, put-permuted}
 use Rattle.scc_incremental.proofs.Joining.{count-together, held-together, lists-together, refused-together, settings-together}
 use Rattle.scc_incremental.proofs.Noting.{lists-kept, target-kept}
 use Rattle.scc_incremental.proofs.OldSpots.{own-list}
 use Rattle.scc_incremental.proofs.Relocated.{count-is, list-is}
-use Rattle.scc_incremental.proofs.Sublists.{Sub, flat-sub}
+use Rattle.scc_relocation.proofs.Sublists.{Sub, flat-sub}
 use Rattle.scc_incremental.proofs.Viewed.{count-seen, refused-seen, settings-seen, spilled-seen}
 
 -- a bucket that doesn't wait has its own list, a new one too

@@ -13,8 +13,8 @@ use Rattle.scc_table.specs.Routing.{bucket_number}
 use Rattle.scc_table.specs.Sizes.{IsArray}
 use Rattle.scc_table.specs.Tables.{spilled_in}
 use Rattle.scc_table.proofs.PairSplits.{by_answer}
-use Rattle.scc_incremental.specs.Moves.{AreOwn, TakesOver, others_for}
-use Rattle.scc_incremental.specs.TwoArrays.{joined, waits_at, target_by, together, settle, held_in, held_without, AreMultiples, TwoArrays, IsIncremental, IsRelocated}
+use Rattle.scc_relocation.specs.Moves.{others_for, AreMultiples, AreOwn, TakesOver}
+use Rattle.scc_incremental.specs.TwoArrays.{joined, waits_at, target_by, together, settle, held_in, held_without, TwoArrays, IsIncremental, IsRelocated}
 use Rattle.scc_incremental.proofs.Joining.{lists-together, held-together, settings-together, refused-together, waiting-together, pending-together}
 use Rattle.scc_incremental.proofs.Relocating.{not_equal, bound-others_none, bound-others_same, flat-others, none-up, one-down, up-within, joined-none, joined-moved}
 

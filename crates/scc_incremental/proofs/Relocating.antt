@@ -10,7 +10,7 @@ use Rattle.scc_bucket.specs.Shelf.{Shelf, shelf_entries}
 use Rattle.scc_table.specs.Pour.{bound_for}
 use Rattle.scc_table.specs.Routing.{bucket_number}
 use Rattle.scc_table.proofs.PairSplits.{by_answer}
-use Rattle.scc_incremental.specs.Moves.{others_for}
+use Rattle.scc_relocation.specs.Moves.{others_for}
 use Rattle.scc_incremental.specs.TwoArrays.{joined, waits_at}
 use Rattle.scc_incremental.proofs.Joining.{get-joined, length-joined}
 

@@ -15,10 +15,10 @@ use Rattle.scc_table.proofs.Pours.{bound_append}
 use Rattle.scc_incremental.specs.Relocates.{AreShort}
 use Rattle.scc_incremental.specs.TwoArrays.{IsWaiting, settle, waits_at}
 use Rattle.scc_table.proofs.Bare.{nil-left}
-use Rattle.scc_incremental.proofs.Counted.{bound-le}
+use Rattle.scc_relocation.proofs.Counted.{bound-le}
 use Rattle.scc_incremental.proofs.Doubling.{filter-both}
 use Rattle.scc_incremental.proofs.Listed.{filter-all, filter-no, listed-is}
-use Rattle.scc_incremental.proofs.Numbers.{number-div, quotient, some-quotient}
+use Rattle.scc_relocation.proofs.Numbers.{number-div, quotient, some-quotient}
 use Rattle.scc_incremental.proofs.Relocated.{count-is, list-is}
 use Rattle.scc_incremental.proofs.Same.{list-same, listed-same}
 use Rattle.scc_incremental.proofs.Starting.{powers-multiples}

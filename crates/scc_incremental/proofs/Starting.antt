@@ -22,13 +22,14 @@ use Rattle.scc_table.specs.Sizes.{IsArray}
 use Rattle.scc_table.specs.Tables.{IsTable, spilled_in}
 use Rattle.scc_table.proofs.Arrays.{shelf-at}
 use Rattle.scc_table.proofs.PairSplits.{by_answer}
-use Rattle.scc_incremental.specs.TwoArrays.{AreMultiples, grown, shrunk, IsIncremental, joined, target_by, together, TwoArrays, waits_at}
-use Rattle.scc_incremental.proofs.Arriving.{count-were, list-were}
+use Rattle.scc_relocation.specs.Moves.{AreMultiples, grown, shrunk}
+use Rattle.scc_incremental.specs.TwoArrays.{IsIncremental, joined, target_by, together, TwoArrays, waits_at}
+use Rattle.scc_relocation.proofs.Arriving.{count-were, list-were}
 use Rattle.scc_incremental.proofs.Joining.{count-together, settings-together}
 use Rattle.scc_incremental.proofs.Preparing.{waiting-list}
 use Rattle.scc_incremental.proofs.Relocated.{count-is, list-is}
 use Rattle.scc_incremental.proofs.Relocating.{not_equal}
-use Rattle.scc_incremental.proofs.Sublists.{filter-none}
+use Rattle.scc_relocation.proofs.Sublists.{filter-none}
 
 greater : (a b m n : ℕ) → a < b → m ≡ 2 ^ a → n ≡ 2 ^ b → (1 < 2 ^ (b - a)) × (n ≡ 2 ^ (b - a) * m)
 greater a b m n less em en =

@@ -9,7 +9,7 @@ use Rattle.scc_table.specs.Routing.{bucket_number}
 use Rattle.scc_table.proofs.Arrays.{take-got}
 use Rattle.scc_table.proofs.Pours.{bound_append, bound_here, bound_other}
 use Rattle.scc_incremental.specs.Stepping.{entries_before}
-use Rattle.scc_incremental.proofs.Draining.{flat-more}
+use Rattle.scc_relocation.proofs.Draining.{flat-more}
 
 take-none : {X : Type 0} (xs : List X) → take 0 xs ≡ []
 take-none [] = refl

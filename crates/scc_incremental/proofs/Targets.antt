@@ -1,13 +1,15 @@
 -- The numbers of the buckets that wait.
-use Rattle.std.proofs.Common.{◌≡◌, ◌==◌, ◌≢◌, ℕ, zero, suc, ◌+◌, ◌<◌, ◌≤◌, Bool, true, false, not, cond, List, [], ◌∷◌, length, set, drop, refl, sym, ap, ◌∙◌, arith, rules, eqb-true}
+use Rattle.std.proofs.Common.{◌≡◌, ◌==◌, ◌≢◌, ℕ, zero, suc, ◌+◌, ◌-◌, ◌<◌, ◌≤◌, Bool, true, false, not, cond, List, [], ◌∷◌, length, set, drop, replicate, refl, sym, ap, ◌∙◌, arith, rules, eqb-true}
 use Rattle.std.specs.List.{filter, count_by, range_with_len}
-use Rattle.std.proofs.lemmas.List.{nil_from_length, set-get_or}
+use Rattle.std.proofs.lemmas.List.{length-drop, nil_from_length, set-get_or}
+use Rattle.std.proofs.lemmas.List.FromFn.{length-range_with_len}
 use Rattle.std.proofs.lemmas.List.Sums.{sum_by-cons}
 use Rattle.scc_table.specs.Contents.{Contents, pending_of, waiting_of}
 use Rattle.scc_table.proofs.PairSplits.{by_answer}
+use Rattle.scc_incremental.specs.Relocates.{left_after}
 use Rattle.scc_incremental.specs.TwoArrays.{IsFirstWaiting, IsRelocated, pending_targets, settle, waits_at}
 use Rattle.scc_incremental.proofs.Finishing.{pending-is}
-use Rattle.scc_incremental.proofs.Relocating.{not_equal}
+use Rattle.scc_incremental.proofs.Relocating.{not_equal, one-down, up-within}
 
 equal : (a b : ℕ) → a ≡ b → (a == b) ≡ true
 equal a b h = search rules
@@ -75,6 +77,28 @@ ups-first a (suc i) (w ∷ ws) up below =
     let q : w ≡ false = below 0 (omega arith) in
     rw q (ap (λ n. filter (λ t. not (t == n)) (ups (suc a) ws)) (sym near) ∙ ups-first (suc a) i ws up (λ j l. below (suc j) (omega arith)))
 
+ups-without : (i : ℕ) (ws : List Bool) → filter (λ t. not (t == i)) (ups 0 ws) ≡ ups 0 (set ws i false)
+ups-without i ws = let near : 0 + i ≡ i = omega arith in ap (λ n. filter (λ t. not (t == n)) (ups 0 ws)) (sym near) ∙ sym (ups-set 0 i ws)
+
+-- two fewer, or none
+ups-left : (i : ℕ) (ws : List Bool) → length (left_after i (ups 0 ws)) ≡ length (ups 0 ws) - 2
+ups-left i ws =
+    let ts = ups 0 ws in
+    let rest = filter (λ t. not (t == i)) ts in
+    let all = ups-length 0 ws in
+    let others : length rest ≡ count_by (λ w. w) (set ws i false) = ap length (ups-without i ws) ∙ ups-length 0 (set ws i false) in
+    let left = length-drop (length rest + 2 - length ts) rest in
+    by_answer (waits_at ws i)
+    (λ up. let one = one-down ws i (up-within ws i up) up in omega arith)
+    (λ down.
+    let same : set ws i false ≡ ws = ap (set ws i) (sym down) ∙ set-get_or ws i false in
+    let none = ap (count_by (λ w. w)) same in
+    omega arith)
+
+ups-all : (a n : ℕ) → ups a (replicate n true) ≡ range_with_len a n
+ups-all a zero = refl
+ups-all a (suc n) = let next : suc a ≡ a + 1 = omega arith in ap (λ z. a ∷ z) (ups-all (suc a) n ∙ ap (λ m. range_with_len m n) next)
+
 module _ {E S : Type 0} where
   targets-are : (c : Contents E S) → pending_targets c ≡ ups 0 (waiting_of c)
   targets-are c = ups-are (waits_at (waiting_of c)) 0 (waiting_of c) (λ k l. let z : 0 + k ≡ k = omega arith in ap (waits_at (waiting_of c)) z)
@@ -112,3 +136,28 @@ module _ {E S : Type 0} where
       let near : 0 + i ≡ i = omega arith in
       let same : set ws i false ≡ ws = ap (set ws i) (sym down) ∙ set-get_or ws i false in
       ap (filter (λ t. not (t == i))) (targets-are c) ∙ ap (λ n. filter (λ t. not (t == n)) (ups 0 ws)) (sym near) ∙ sym (ups-set 0 i ws) ∙ ap (ups 0) same ∙ sym (targets-are c)
+
+  -- two fewer wait, or none
+  pub by-two : (i : ℕ) (c d : Contents E S) → pending_targets d ≡ left_after i (pending_targets c) → pending_of d ≡ pending_of c - 2
+  by-two i c d h =
+      let few = ap length h ∙ ap (λ z. length (left_after i z)) (targets-are c) ∙ ups-left i (waiting_of c) in
+      let a = targets-length d in
+      let b = ap length (targets-are c) in
+      let m = targets-length c in
+      omega arith
+
+  -- of all n but two wait
+  pub all-but-two : (i n : ℕ) (d : Contents E S) → 2 ≤ n → pending_targets d ≡ left_after i (range_with_len 0 n) → pending_of d + 2 ≡ n
+  all-but-two i n d some h =
+      let few = ap length h ∙ ap (λ z. length (left_after i z)) (sym (ups-all 0 n)) ∙ ups-left i (replicate n true) in
+      let a = targets-length d in
+      let b = ap length (ups-all 0 n) ∙ length-range_with_len 0 n in
+      omega arith
+
+  -- all wait
+  pub targets-all : (n : ℕ) (c : Contents E S) → waiting_of c ≡ replicate n true → pending_targets c ≡ range_with_len 0 n
+  targets-all n c all = targets-are c ∙ ap (ups 0) all ∙ ups-all 0 n
+
+  -- all but one do
+  pub targets-but : (n k : ℕ) (c : Contents E S) → waiting_of c ≡ set (replicate n true) k false → pending_targets c ≡ filter (λ t. not (t == k)) (range_with_len 0 n)
+  targets-but n k c but = targets-are c ∙ ap (ups 0) but ∙ sym (ups-without k (replicate n true)) ∙ ap (filter (λ t. not (t == k))) (ups-all 0 n)

@@ -20,10 +20,10 @@ use Rattle.scc_table.proofs.KeyWrites.{write-parts}
 use Rattle.scc_table.proofs.Spots.{place-get}
 use Rattle.scc_table.proofs.Views.{view_of}
 use Rattle.scc_table.proofs.WritingTables.{distinct-write, entries-write, entries_write, written-table}
-use Rattle.scc_incremental.specs.Moves.{AreOwn}
+use Rattle.scc_relocation.specs.Moves.{AreOwn}
 use Rattle.scc_incremental.specs.Places.{IsPlace, index_of, spot_of, with_write_at}
 use Rattle.scc_incremental.specs.TwoArrays.{held_in, waits_at, target_by, together, TwoArrays, IsIncremental}
-use Rattle.scc_incremental.proofs.Arriving.{same-contents}
+use Rattle.scc_relocation.proofs.Arriving.{same-contents}
 use Rattle.scc_incremental.proofs.CurrentChanges.{own-fields, own-write, lists-write, settings-write, refused-write, spilled-write, waiting-write, held-write, spilled-together}
 use Rattle.scc_incremental.proofs.Joining.{held-together, refused-together, settings-together, waiting-together}
 use Rattle.scc_incremental.proofs.OldChanges.{list-split, list_back, list_front, old-arrays, old-fields, old-lists, write-middle}

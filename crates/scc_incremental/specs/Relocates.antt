@@ -1,7 +1,8 @@
 -- What a call does to the buckets that wait.
 use Rattle.std.specs.Prelude.{◌≡◌, ◌≢◌, ◌==◌, ℕ, ◌+◌, ◌-◌, ◌*◌, ◌<◌, ◌≤◌, List, length, drop, not}
 use Rattle.std.specs.List.{filter}
-use Rattle.scc_table.specs.Contents.{Contents, entries, bucket_count, list_of, waiting_of, held_of, pending_of}
+use Rattle.scc_table.specs.Contents.{Contents, entries, bucket_count, list_of, settings_of, waiting_of, held_of, pending_of}
+use Rattle.scc_table.specs.Pour.{bound_for}
 use Rattle.scc_table.specs.Sizes.{IsArraySize, IsSmaller}
 use Rattle.scc_incremental.specs.TwoArrays.{IsWaiting}
 
@@ -31,3 +32,11 @@ module _ {E S : Type 0} where
   -- no bucket that waits holds more than 32 entries
   pub record AreShort (c : Contents E S) : Type 0 where
     pub short : (i : ℕ) → IsWaiting c i → length (list_of c i) ≤ 32
+
+  -- no bucket among n would hold more than 32 of the entries
+  pub record AreShortAmong (hash : E → ℕ) (n : ℕ) (c : Contents E S) : Type 0 where
+    pub short : (i : ℕ) → i < n → length (bound_for hash (settings_of c).skipped n i (entries c)) ≤ 32
+
+  -- none but bucket k would
+  pub record AreShortBut (hash : E → ℕ) (n k : ℕ) (c : Contents E S) : Type 0 where
+    pub short : (i : ℕ) → i < n → i ≢ k → length (bound_for hash (settings_of c).skipped n i (entries c)) ≤ 32

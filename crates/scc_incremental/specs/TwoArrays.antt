@@ -7,7 +7,7 @@ use Rattle.scc_table.specs.Pour.{bound_for}
 use Rattle.scc_table.specs.Routing.{bucket_number}
 use Rattle.scc_table.specs.Sizes.{IsArray}
 use Rattle.scc_table.specs.Tables.{spilled_in}
-use Rattle.scc_incremental.specs.Moves.{AreOwn}
+use Rattle.scc_relocation.specs.Moves.{AreMultiples, AreOwn}
 
 -- whether bucket i waits
 abbrev pub waits_at : List Bool → ℕ → Bool
@@ -23,11 +23,6 @@ joined target i (w ∷ ws) (l ∷ ls) es = cond w (filter (λ e. target e == i) 
 abbrev pub held_in : {E : Type 0} → (E → ℕ) → List Bool → List (Shelf E) → List (List ℕ)
 held_in target [] olds = []
 held_in target (w ∷ ws) olds = map (λ b. map target (shelf_entries b)) olds
-
--- one number of buckets is a multiple of the other, and they differ
-pub data AreMultiples (m n : ℕ) : Type 0 where
-  grown : (r : ℕ) → 1 < r → n ≡ r * m → AreMultiples m n
-  shrunk : (r : ℕ) → 1 < r → m ≡ r * n → AreMultiples m n
 
 module _ {E S : Type 0} where
   -- the bucket of the new array that an entry belongs to

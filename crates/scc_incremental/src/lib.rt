@@ -1,9 +1,7 @@
 //! The table of the hash containers whose resizes are spread over insertions: the entries of an old array wait there until their bucket in the new one takes them over.
 #![tactic(auto)]
 
-mod fresh;
 pub mod incremental;
-mod moving;
 mod stepping;
 
 pub use incremental::Incremental;

@@ -9,7 +9,8 @@ use Rattle.scc_table.specs.Contents.{Contents, Settings, entries, bucket_count, 
 use Rattle.scc_table.specs.Sizes.{IsArray}
 use Rattle.scc_cache.specs.CacheSteps.{AnswersOn, GrowsFor, IsAbsent, IsPresent, IsPresentAt, ShrinksTo, Puts, Removes, TakesThen, Clears, number_in}
 use Rattle.scc_cache.specs.Caches.{Cached, IsCacheState}
-use Rattle.scc_cache.specs.ListSteps.{IsThere, PutsPair, TakesOut}
+use Rattle.scc_cache.specs.CacheSteps as steps
+use Rattle.scc_cache.specs.ListSteps.{IsThere, PutsPair, Refreshes, TakesOut}
 use Rattle.scc_table.specs.declared.place.Place.{Place}
 use Rattle.std.specs.Prelude.{IsTrue, MatchOption}
 use Rattle.std.specs.Borrow.{Bor}
@@ -18,7 +19,7 @@ use Rattle.scc_cache.proofs.Caching.{shrunk-within}
 use Rattle.scc_recorded.specs.CacheCalls.{cache_setting, CacheMayRefuse, CacheMoves, CacheResizes}
 use Rattle.scc_recorded.specs.Changes.{Changes, Stays}
 use Rattle.scc_recorded.specs.declared.recorded.calls_as_values.CacheCall.{CacheCall}
-use Rattle.scc_recorded.specs.declared.recorded.calls_as_values.CacheCall.TheVariants.{Put, Write, Remove, Read, Contains, Clear, Len}
+use Rattle.scc_recorded.specs.declared.recorded.calls_as_values.CacheCall.TheVariants.{Put, Get, Write, Remove, Read, Contains, Clear, Len}
 use Rattle.scc_recorded.specs.declared.recorded.fixed.Setting.{Setting}
 use Rattle.scc_recorded.specs.declared.recorded.replies.Reply.{Reply}
 use Rattle.scc_recorded.specs.declared.recorded.replies.Reply.TheVariants.{Evicted, Exists, Old, Pair, Value, Has, Cleared, Count}
@@ -177,6 +178,13 @@ module _ {K V H : Type 0} (hash : K → ℕ) where
         → Changes length (CacheMoves eq (number_in hash c.contents)) (CacheResizes (cache_setting c) (number_in hash c.contents)) (lists_of c.contents) Len (Count n) (lists_of c.contents)
     unfolding entries lists_of
     len-changes c n e = inl (refl, (e, refl))
+
+    -- a get that finds its key
+    pub get-changes : (c d : Cached (K × V) H) (k : K) (p : K × V) (v : V) → v ≡ p.1 → steps.Changes (Refreshes (number_in hash c.contents) eq k p) c d
+        → Changes length (CacheMoves eq (number_in hash c.contents)) (CacheResizes (cache_setting c) (number_in hash c.contents)) (lists_of c.contents) (Get k) (Value (Some v)) (lists_of d.contents)
+    get-changes c d k p v is h =
+        let r = h.lists in
+        inl (ap length r.2 ∙ length-set (lists_of c.contents) _ _, (p.0, subst (λ x. Refreshes (number_in hash c.contents) eq k (p.0, x) (lists_of c.contents) (lists_of d.contents)) (sym is) r))
 
     -- a write at the place of a key
     pub write-changes : (c m : Cached (K × V) H) (p : Place) (k l : K) (w v : V) → p.bucket ≡ number_in hash c.contents (bucket_count c.contents) k → IsPresentAt hash eq c.contents k p.slot (l, w)

@@ -225,3 +225,22 @@ fn index_walks_and_clones(rt: HostRuntime) -> Result<(), Fail> {
     assert!(rt; refused.is_err());
     Ok(())
 }
+
+#[test]
+fn index_grows_with_all_keys_in_one_bucket(rt: HostRuntime) -> Result<(), Fail> {
+    let mut index: Owned<u64, u64, Zero> = Owned::with_hasher(rt.alloc(), Zero);
+    for key in 0..32u64 {
+        index.insert_sync(key, key)?;
+    }
+    assert_eq!(rt; (index.capacity(), index.pending()), (64, 0));
+    index.insert_sync(32, 32)?;
+    assert_eq!(rt; (index.capacity(), index.pending()), (128, 2));
+    index.insert_sync(33, 33)?;
+    assert_eq!(rt; (index.capacity(), index.pending()), (128, 0));
+    for key in 34..65u64 {
+        index.insert_sync(key, key)?;
+    }
+    assert_eq!(rt; (index.capacity(), index.pending()), (256, 6));
+    assert!(rt; !index.is_resize_refused());
+    Ok(())
+}

@@ -12,7 +12,12 @@ use std::test::Fail;
 // All answers were right, and most calls were made while buckets waited.
 fn expect<R: Abort>(rt: &R, tally: Tally) {
     assert_eq!(rt; tally.wrong, 0);
-    assert!(rt; tally.holds(), "{} of {} calls waited", tally.waited, tally.calls);
+    assert!(rt;
+        tally.holds(),
+        "{} of {} calls waited",
+        tally.waited,
+        tally.calls
+    );
 }
 
 #[test]
@@ -35,8 +40,10 @@ fn set_random_calls_while_buckets_wait(rt: HostRuntime) -> Result<(), Fail> {
 
 #[test]
 fn index_random_calls_while_buckets_wait(rt: HostRuntime) -> Result<(), Fail> {
-    let mut index =
-        hash_index::Owned::with_hasher(rt.alloc(), BuildHasherDefault::<FoldHasher>::new());
+    let mut index = hash_index::Owned::with_hasher(
+        rt.alloc(),
+        BuildHasherDefault::<FoldHasher>::new(),
+    );
     expect(&rt, run_waiting(rt.alloc(), &mut index, 12, 1023)?);
     let mut index = hash_index::Owned::with_hasher(rt.alloc(), Same);
     expect(&rt, run_waiting(rt.alloc(), &mut index, 12, 1023)?);

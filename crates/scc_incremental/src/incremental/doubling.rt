@@ -1,36 +1,43 @@
-//! How an entry gets into twice as many buckets, in whose bucket it has room.
-ghost use Rattle.std.specs.Prelude.{◌≡◌, ◌≤◌, ◌<◌, ◌+◌, ◌*◌, ◌^◌, false, true, None, length, replicate, IfOk, IfErr, OnOk};
-ghost use Rattle.std.specs.List.{position};
+//! How an entry gets into twice as many buckets.
+ghost use Rattle.std.specs.Prelude.{◌≡◌, ◌≢◌, ◌≤◌, ◌<◌, ◌+◌, ◌*◌, ◌^◌, false, true, None, Some, length, replicate, slice_get, take, IfOk, IfErr, OnOk, OnErr};
+ghost use Rattle.std.specs.List.{position, range_with_len};
 ghost use Rattle.scc_bucket.specs.Shelf.{empty_shelf};
 ghost use Rattle.scc_table.specs.Contents.{entries, bucket_count, key_hash, list_of, pending_of, refused_of, settings_of, waiting_of, IsUniqueBy};
 ghost use Rattle.scc_table.specs.Pour.{bound_for};
 ghost use Rattle.scc_table.specs.Routing.{bucket_number};
 ghost use Rattle.scc_table.specs.Sizes.{IsArray};
+ghost use Rattle.scc_table.specs.Steps.{IsUnchanged, Rests};
 ghost use Rattle.scc_incremental.specs.Places.{IsInsertedAt};
-ghost use Rattle.scc_incremental.specs.TwoArrays.{waits_at};
+ghost use Rattle.scc_incremental.specs.Relocates.{left_after, AreShortAmong, AreShortBut};
+ghost use Rattle.scc_incremental.specs.TwoArrays.{pending_targets, waits_at};
 
 use super::Incremental;
-use crate::fresh::fresh_waiting;
 use scc_array::Array;
 use scc_table::route::bucket_index;
 use scc_table::{Keyed, Made, Place};
-use std::alloc::AllocError;
 use std::hash::{BuildHasher, Hash};
 
 impl<E: Keyed, H: BuildHasher> Incremental<E, H>
 where
     E::Key: Eq + Hash,
 {
-    /// How many entries of a bucket that doesn't wait belong to the target among so many buckets.
-    fn count_bound(&self, bucket: usize, target: usize, skipped: u32, count: usize) -> usize
+    /// How many of the first entries of a bucket that doesn't wait belong to the target among so many buckets.
+    fn count_bound(
+        &self,
+        bucket: usize,
+        first: usize,
+        target: usize,
+        skipped: u32,
+        count: usize,
+    ) -> usize
         requires within { bucket < bucket_count self.now }
         requires settled { waits_at (waiting_of self.now) bucket ≡ false }
+        requires first { first ≤ length (list_of self.now bucket) }
         requires bits { skipped < 64 }
-        ensures { result ≡ length (bound_for (λ e. key_hash H.BuildHasher H.Hasher.Hasher E.Key.hash_input self.now (E.key_of e)) skipped count target (list_of self.now bucket)) }
+        ensures { result ≡ length (bound_for (λ e. key_hash H.BuildHasher H.Hasher.Hasher E.Key.hash_input self.now (E.key_of e)) skipped count target (take first (list_of self.now bucket))) }
     {
-        let held = self.list_len(bucket);
         let mut found = 0;
-        for slot in 0..held {
+        for slot in 0..first {
             let hash = self.hash(self.entry_in(Place { bucket, slot }).key());
             if bucket_index(hash, skipped, count) == target {
                 found += 1;
@@ -39,27 +46,56 @@ where
         found
     }
 
-    /// Twice as many empty buckets, and a flag for each that is up. That bucket is the one of the hash, and doesn't wait. It is refused too where the bucket of the hash would get 32 entries or more.
-    pub(super) fn double_with_room(
-        &self,
-        bucket: usize,
-        hash: u64,
-    ) -> Result<(Array<E>, Vec<bool>), AllocError>
+    /// Whether the bucket of the hash would hold 32 entries or more among twice as many buckets. That bucket is the one of the hash now, and doesn't wait.
+    pub(super) fn is_crowded(&self, bucket: usize, hash: u64) -> bool
         requires within { bucket < bucket_count self.now }
         requires routed { bucket ≡ bucket_number (settings_of self.now).skipped (bucket_count self.now) hash }
         requires settled { waits_at (waiting_of self.now) bucket ≡ false }
         requires below { 32 * bucket_count self.now < 2 ^ 63 }
-        ensures buckets { IfOk result (λ r. r.0 ≡ replicate (2 * bucket_count self.now) empty_shelf) }
-        ensures flags { IfOk result (λ r. r.1.items ≡ replicate (2 * bucket_count self.now) true) }
-        ensures room { OnOk result (length (bound_for (λ e. key_hash H.BuildHasher H.Hasher.Hasher E.Key.hash_input self.now (E.key_of e)) (settings_of self.now).skipped (2 * bucket_count self.now) (bucket_number (settings_of self.now).skipped (2 * bucket_count self.now) hash) (entries self.now)) < 32) }
+        ensures { result ≡ false → length (bound_for (λ e. key_hash H.BuildHasher H.Hasher.Hasher E.Key.hash_input self.now (E.key_of e)) (settings_of self.now).skipped (2 * bucket_count self.now) (bucket_number (settings_of self.now).skipped (2 * bucket_count self.now) hash) (entries self.now)) < 32 }
     {
         self.keep_lists();
         let count = 2 * self.bucket_count();
         let target = bucket_index(hash, self.skipped, count);
-        if self.count_bound(bucket, target, self.skipped, count) >= 32 {
-            return Err(AllocError);
+        let held = self.list_len(bucket);
+        self.count_bound(bucket, held, target, self.skipped, count) >= 32
+    }
+
+    /// Doubles the number of buckets where memory isn't refused, and answers where the entry at the place stands then, whose hash that is. Its bucket of the new array takes its entries over at once, then the first one that waits does, and all others wait.
+    fn double_around(&mut self, place: Place, hash: u64) -> Place
+        requires within { place.bucket < bucket_count self.old }
+        requires slot { place.slot < length (list_of self.old place.bucket) }
+        requires hashed { (e : E) → slice_get (list_of self.old place.bucket) place.slot ≡ Some e → hash ≡ key_hash H.BuildHasher H.Hasher.Hasher E.Key.hash_input self.old (E.key_of e) }
+        requires pending { pending_of self.old ≡ 0 }
+        requires below { 32 * bucket_count self.old < 2 ^ 63 }
+        ensures rests { Rests self.old self.new }
+        ensures doubled { bucket_count self.new ≢ bucket_count self.old → bucket_count self.new ≡ 2 * bucket_count self.old }
+        ensures due { refused_of self.new ≡ false → bucket_count self.new ≢ bucket_count self.old }
+        ensures within { result.bucket < bucket_count self.new }
+        ensures here { slice_get (list_of self.new result.bucket) result.slot ≡ slice_get (list_of self.old place.bucket) place.slot }
+        ensures routed { result.bucket ≡ bucket_number (settings_of self.old).skipped (bucket_count self.new) hash }
+        ensures settled { waits_at (waiting_of self.new) result.bucket ≡ false }
+        ensures none { bucket_count self.new ≡ bucket_count self.old → pending_of self.new ≡ 0 }
+        ensures most { bucket_count self.new ≢ bucket_count self.old → bucket_count self.new ≤ pending_of self.new + 2 }
+        ensures spread { bucket_count self.new ≢ bucket_count self.old → AreShortBut (λ e. key_hash H.BuildHasher H.Hasher.Hasher E.Key.hash_input self.old (E.key_of e)) (bucket_count self.new) result.bucket self.old → pending_targets self.new ≡ left_after result.bucket (range_with_len 0 (bucket_count self.new)) }
+        ensures unique { IsUniqueBy E.Key.eq E.key_of self.new }
+    {
+        self.keep_lists();
+        let count = 2 * self.bucket_count();
+        let bucket = bucket_index(hash, self.skipped, count);
+        let slot = self.count_bound(place.bucket, place.slot, bucket, self.skipped, count);
+        match self.start_at(count, bucket) {
+            Ok(()) => {
+                self.note(false);
+                self.relocate_some(1);
+                self.keep_lists();
+                Place { bucket, slot }
+            }
+            Err(_) => {
+                self.note(true);
+                place
+            }
         }
-        fresh_waiting(self.current.allocator(), count)
     }
 
     /// Puts an entry whose key is new into empty buckets that take the place of the present ones, which drain from then on, and answers its place. Its bucket takes its own entries over, fewer than 32, and then the first one that waits does.
@@ -84,6 +120,7 @@ where
         ensures buckets { bucket_count self.new ≡ count }
         ensures down { refused_of self.new ≡ false }
         ensures most { count ≤ pending_of self.new + 2 }
+        ensures spread { AreShortAmong (λ e. key_hash H.BuildHasher H.Hasher.Hasher E.Key.hash_input self.old (E.key_of e)) count self.old → pending_targets self.new ≡ left_after (bucket_number (settings_of self.old).skipped count hash) (range_with_len 0 count) }
         ensures settled { waits_at (waiting_of self.new) (bucket_number (settings_of self.old).skipped count hash) ≡ false }
         ensures unique { IsUniqueBy E.Key.eq E.key_of self.new }
     {
@@ -124,6 +161,7 @@ where
         ensures buckets { OnOk result (bucket_count self.new ≡ count) }
         ensures down { OnOk result (refused_of self.new ≡ false) }
         ensures most { OnOk result (count ≤ pending_of self.new + 2) }
+        ensures spread { OnOk result (AreShortAmong (λ e. key_hash H.BuildHasher H.Hasher.Hasher E.Key.hash_input self.old (E.key_of e)) count self.old → pending_targets self.new ≡ left_after (bucket_number (settings_of self.old).skipped count hash) (range_with_len 0 count)) }
         ensures settled { OnOk result (waits_at (waiting_of self.new) (bucket_number (settings_of self.old).skipped count hash) ≡ false) }
         ensures err { IfErr result (λ p. (p ≡ parts) × (self.new ≡ self.old)) }
         ensures unique { IsUniqueBy E.Key.eq E.key_of self.new }
@@ -135,6 +173,37 @@ where
                 fresh.destroy_empty();
                 Err(back)
             }
+        }
+    }
+
+    /// The same into the present buckets, whose number is doubled afterwards, where memory isn't refused: that bucket, the one of the hash, has the entry first, and then the one of the hash among twice as many takes it over.
+    #[cold]
+    pub(super) fn insert_made_crowded(
+        &mut self,
+        bucket: usize,
+        hash: u64,
+        parts: E::Parts,
+    ) -> Result<Place, E::Parts>
+        requires within { bucket < bucket_count self.old }
+        requires routed { bucket ≡ bucket_number (settings_of self.old).skipped (bucket_count self.old) hash }
+        requires hashed { hash ≡ key_hash H.BuildHasher H.Hasher.Hasher E.Key.hash_input self.old (E.key_of (E.made_of parts)) }
+        requires absent { position (λ e. E.Key.eq (E.key_of (E.made_of parts)) (E.key_of e)) (entries self.old) ≡ None }
+        requires pending { pending_of self.old ≡ 0 }
+        requires below { 32 * bucket_count self.old < 2 ^ 63 }
+        ensures ok { IfOk result (IsInsertedAt self.old (E.made_of parts) self.new) }
+        ensures err { IfErr result (λ p. (p ≡ parts) × IsUnchanged self.old self.new) }
+        ensures noted { OnErr result (refused_of self.new ≡ refused_of self.old) }
+        ensures doubled { bucket_count self.new ≢ bucket_count self.old → bucket_count self.new ≡ 2 * bucket_count self.old }
+        ensures due { OnOk result (refused_of self.new ≡ false → bucket_count self.new ≡ 2 * bucket_count self.old) }
+        ensures none { bucket_count self.new ≡ bucket_count self.old → pending_of self.new ≡ 0 }
+        ensures most { bucket_count self.new ≢ bucket_count self.old → bucket_count self.new ≤ pending_of self.new + 2 }
+        ensures spread { OnOk result (bucket_count self.new ≢ bucket_count self.old → AreShortAmong (λ e. key_hash H.BuildHasher H.Hasher.Hasher E.Key.hash_input self.old (E.key_of e)) (bucket_count self.new) self.old → pending_targets self.new ≡ left_after (bucket_number (settings_of self.old).skipped (bucket_count self.new) hash) (range_with_len 0 (bucket_count self.new))) }
+        ensures settled { OnOk result (waits_at (waiting_of self.new) (bucket_number (settings_of self.old).skipped (bucket_count self.new) hash) ≡ false) }
+        ensures unique { IsUniqueBy E.Key.eq E.key_of self.new }
+    {
+        match self.put_made_in(bucket, hash, parts) {
+            Ok(place) => Ok(self.double_around(place, hash)),
+            Err(back) => Err(back),
         }
     }
 }

@@ -31,6 +31,7 @@ where
         ensures stays { 0 < bucket_count self.old → bucket_count self.new ≡ bucket_count self.old → lists_of self.new ≡ lists_of self.old }
         ensures waiting { 0 < bucket_count self.old → bucket_count self.new ≡ bucket_count self.old → waiting_of self.new ≡ waiting_of self.old }
         ensures all { 0 < bucket_count self.old → bucket_count self.new ≢ bucket_count self.old → waiting_of self.new ≡ replicate (bucket_count self.new) true }
+        ensures lists { 0 < bucket_count self.old → bucket_count self.new ≢ bucket_count self.old → IsRegrouped (λ e. key_hash H.BuildHasher H.Hasher.Hasher E.Key.hash_input self.old (E.key_of e)) (bucket_count self.new) self.old self.new }
         ensures none { OnErr result (bucket_count self.old ≡ 0) }
         ensures refused { OnErr result (IsUnchanged self.old self.new) }
         ensures unique { IsUniqueBy E.Key.eq E.key_of self.new }

@@ -1,17 +1,17 @@
 //! How new keys get into a table of two arrays.
 ghost use Rattle.std.specs.Prelude.{◌≡◌, ◌≢◌, ◌≤◌, ◌<◌, ◌+◌, ◌-◌, ◌^◌, ◌⊎◌, ℕ, false, None, drop, IsTrue, IfOk, IfErr, OnOk, OnErr};
-ghost use Rattle.std.specs.List.{position};
+ghost use Rattle.std.specs.List.{position, range_with_len};
 ghost use Rattle.scc_table.specs.Bounded.{IsBounded};
 ghost use Rattle.scc_table.specs.Contents.{entries, bucket_count, held_of, key_hash, lists_of, pending_of, refused_of, settings_of, waiting_of, HasRoomBy, IsUniqueBy};
 ghost use Rattle.scc_table.specs.OneList.{HasSameLists, IsPutIn};
 ghost use Rattle.scc_table.specs.Routing.{bucket_number};
 ghost use Rattle.scc_table.specs.Steps.{FirstArrayWhenDue, Grows, GrowsWhenDue, IsUnchanged, Rests};
 ghost use Rattle.scc_incremental.specs.Places.{IsInsertedAt};
-ghost use Rattle.scc_incremental.specs.Relocates.{AreShort, left_after};
+ghost use Rattle.scc_incremental.specs.Relocates.{left_after, AreShort, AreShortAmong};
 ghost use Rattle.scc_incremental.specs.TwoArrays.{IsWaiting, pending_targets, waits_at};
 
 use super::Incremental;
-use crate::moving::OVERFLOW_LIMIT;
+use scc_relocation::OVERFLOW_LIMIT;
 use scc_table::{Keyed, Place};
 use std::hash::{BuildHasher, Hash};
 
@@ -47,6 +47,9 @@ where
         ensures array { bucket_count self.old ≡ 0 → pending_of self.new ≡ 0 }
         ensures settled { OnOk result (waits_at (waiting_of self.new) (bucket_number (settings_of self.old).skipped (bucket_count self.new) hash) ≡ false) }
         ensures exact { OnOk result (0 < bucket_count self.old → bucket_count self.new ≡ bucket_count self.old → AreShort self.old → pending_targets self.new ≡ left_after (bucket_number (settings_of self.old).skipped (bucket_count self.old) hash) (pending_targets self.old)) }
+        ensures spread { OnOk result (0 < bucket_count self.old → bucket_count self.new ≢ bucket_count self.old → AreShortAmong (λ e. key_hash H.BuildHasher H.Hasher.Hasher E.Key.hash_input self.old (E.key_of e)) (bucket_count self.new) self.old → pending_targets self.new ≡ left_after (bucket_number (settings_of self.old).skipped (bucket_count self.new) hash) (range_with_len 0 (bucket_count self.new))) }
+        ensures all_but_two { OnOk result (0 < bucket_count self.old → bucket_count self.new ≢ bucket_count self.old → AreShortAmong (λ e. key_hash H.BuildHasher H.Hasher.Hasher E.Key.hash_input self.old (E.key_of e)) (bucket_count self.new) self.old → pending_of self.new + 2 ≡ bucket_count self.new) }
+        ensures by_two { OnOk result (0 < bucket_count self.old → bucket_count self.new ≡ bucket_count self.old → AreShort self.old → pending_of self.new ≡ pending_of self.old - 2) }
         ensures unique { IsUniqueBy E.Key.eq E.key_of self.new }
     {
         match self.bucket_for_new(hash) {

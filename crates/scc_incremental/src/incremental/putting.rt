@@ -1,16 +1,17 @@
 //! Entries that are made when they are put into a table of two arrays.
-ghost use Rattle.std.specs.Prelude.{◌≡◌, ◌≢◌, ◌≤◌, ◌<◌, ◌+◌, ◌*◌, ◌^◌, ℕ, [], false, true, None, drop, length, IfOk, IfErr, OnOk, OnErr};
-ghost use Rattle.std.specs.List.{position};
+ghost use Rattle.std.specs.Prelude.{◌≡◌, ◌≢◌, ◌≤◌, ◌<◌, ◌+◌, ◌-◌, ◌*◌, ◌^◌, ℕ, [], false, true, None, drop, length, IfOk, IfErr, OnOk, OnErr};
+ghost use Rattle.std.specs.List.{position, range_with_len};
 ghost use Rattle.scc_table.specs.Contents.{entries, bucket_count, held_of, key_hash, pending_of, refused_of, settings_of, waiting_of, HasRoomBy, IsUniqueBy};
 ghost use Rattle.scc_table.specs.OneList.{HasSameLists, IsPutIn};
 ghost use Rattle.scc_table.specs.Routing.{bucket_number};
 ghost use Rattle.scc_table.specs.Steps.{FirstArrayWhenDue, Grows, GrowsWhenDue, IsUnchanged, RaisesWhenDue};
 ghost use Rattle.scc_incremental.specs.Places.{IsInsertedAt};
-ghost use Rattle.scc_incremental.specs.Relocates.{AreShort, left_after};
+ghost use Rattle.scc_incremental.specs.Relocates.{left_after, AreShort, AreShortAmong};
 ghost use Rattle.scc_incremental.specs.TwoArrays.{IsWaiting, pending_targets, waits_at};
 
 use super::Incremental;
 use super::inserting::is_overflow_full;
+use scc_relocation::fresh_waiting;
 use scc_table::sizes::MOST_BUCKETS;
 use scc_table::{Keyed, Made, Place};
 use std::hash::{BuildHasher, Hash};
@@ -19,7 +20,7 @@ impl<E: Keyed + Made, H: BuildHasher> Incremental<E, H>
 where
     E::Key: Eq + Hash,
 {
-    /// Puts in an entry of the parts, whose key is new, and answers its place. The array grows as for `insert_new`, but only where the key's bucket then has room; where it would have none, that counts as memory refused. All memory is asked for before anything is changed: that of a growth first, that of the entry last. The parts are handed back, and no list changed, where there is no array and none can be had, where memory for the entries that its bucket waits for is refused, where the bucket is full and the overflow list can't grow, and where the entry can't be made.
+    /// Puts in an entry of the parts, whose key is new, and answers its place. The array grows as for `insert_new`. Nothing that may refuse the call comes after the entry is made. The parts are handed back, and no list changed, where there is no array and none can be had, where memory for the entries that its bucket waits for is refused, where the bucket is full and the overflow list can't grow, and where the entry can't be made.
     pub fn insert_made(&mut self, hash: u64, parts: E::Parts) -> Result<Place, E::Parts>
         requires hashed { hash ≡ key_hash H.BuildHasher H.Hasher.Hasher E.Key.hash_input self.old (E.key_of (E.made_of parts)) }
         requires absent { position (λ e. E.Key.eq (E.key_of (E.made_of parts)) (E.key_of e)) (entries self.old) ≡ None }
@@ -37,6 +38,9 @@ where
         ensures array { bucket_count self.old ≡ 0 → pending_of self.new ≡ 0 }
         ensures settled { OnOk result (waits_at (waiting_of self.new) (bucket_number (settings_of self.old).skipped (bucket_count self.new) hash) ≡ false) }
         ensures exact { OnOk result (0 < bucket_count self.old → bucket_count self.new ≡ bucket_count self.old → AreShort self.old → pending_targets self.new ≡ left_after (bucket_number (settings_of self.old).skipped (bucket_count self.old) hash) (pending_targets self.old)) }
+        ensures spread { OnOk result (0 < bucket_count self.old → bucket_count self.new ≢ bucket_count self.old → AreShortAmong (λ e. key_hash H.BuildHasher H.Hasher.Hasher E.Key.hash_input self.old (E.key_of e)) (bucket_count self.new) self.old → pending_targets self.new ≡ left_after (bucket_number (settings_of self.old).skipped (bucket_count self.new) hash) (range_with_len 0 (bucket_count self.new))) }
+        ensures all_but_two { OnOk result (0 < bucket_count self.old → bucket_count self.new ≢ bucket_count self.old → AreShortAmong (λ e. key_hash H.BuildHasher H.Hasher.Hasher E.Key.hash_input self.old (E.key_of e)) (bucket_count self.new) self.old → pending_of self.new + 2 ≡ bucket_count self.new) }
+        ensures by_two { OnOk result (0 < bucket_count self.old → bucket_count self.new ≡ bucket_count self.old → AreShort self.old → pending_of self.new ≡ pending_of self.old - 2) }
         ensures unique { IsUniqueBy E.Key.eq E.key_of self.new }
     {
         self.keep_lists();
@@ -73,7 +77,7 @@ where
         placed
     }
 
-    /// The same where no bucket waits, and that bucket, the one of the hash, holds 32 entries or more. Where the table holds at least half as many entries as slots, the number of buckets is doubled, unless the array is the greatest, memory for that is refused, or the bucket of the key would still hold 32 entries or more.
+    /// The same where no bucket waits, and that bucket, the one of the hash, holds 32 entries or more. Where the table holds at least half as many entries as slots, the number of buckets is doubled, unless the array is the greatest or memory for that is refused.
     #[cold]
     fn insert_made_full(
         &mut self,
@@ -94,6 +98,7 @@ where
         ensures fewer { bucket_count self.new ≡ bucket_count self.old → (i : ℕ) → IsWaiting self.new i → IsWaiting self.old i }
         ensures less { bucket_count self.new ≡ bucket_count self.old → pending_of self.new ≤ pending_of self.old }
         ensures grown { bucket_count self.new ≢ bucket_count self.old → bucket_count self.new ≤ pending_of self.new + 2 }
+        ensures spread { OnOk result (bucket_count self.new ≢ bucket_count self.old → AreShortAmong (λ e. key_hash H.BuildHasher H.Hasher.Hasher E.Key.hash_input self.old (E.key_of e)) (bucket_count self.new) self.old → pending_targets self.new ≡ left_after (bucket_number (settings_of self.old).skipped (bucket_count self.new) hash) (range_with_len 0 (bucket_count self.new))) }
         ensures settled { OnOk result (waits_at (waiting_of self.new) (bucket_number (settings_of self.old).skipped (bucket_count self.new) hash) ≡ false) }
         ensures unique { IsUniqueBy E.Key.eq E.key_of self.new }
     {
@@ -102,7 +107,10 @@ where
         if length < 16 * count || count >= MOST_BUCKETS {
             return self.insert_made_at(bucket, hash, parts);
         }
-        match self.double_with_room(bucket, hash) {
+        if self.is_crowded(bucket, hash) {
+            return self.insert_made_crowded(bucket, hash, parts);
+        }
+        match fresh_waiting(self.current.allocator(), 2 * count) {
             Ok((fresh, flags)) => self.insert_made_with(2 * count, fresh, flags, hash, parts),
             Err(_) => self.insert_made_noted(bucket, hash, parts),
         }

@@ -5,7 +5,7 @@ ghost use Rattle.scc_table.specs.Routing.{bucket_number};
 ghost use Rattle.scc_incremental.specs.Places.{IsPlace, index_of};
 
 use super::Incremental;
-use crate::moving::{count_all, sources};
+use scc_relocation::{count_all, sources};
 use scc_table::{Keyed, Place};
 use std::hash::{BuildHasher, Hash};
 

@@ -6,8 +6,8 @@ ghost use Rattle.scc_incremental.specs.Relocates.{AreShort};
 ghost use Rattle.scc_incremental.specs.TwoArrays.{IsFirstWaiting, IsRelocated, IsWaiting};
 
 use super::Incremental;
-use crate::moving::{count_all, move_in, sources};
 use scc_array::Array;
+use scc_relocation::take;
 use scc_table::Keyed;
 use std::alloc::AllocError;
 use std::hash::{BuildHasher, Hash};
@@ -56,25 +56,11 @@ where
         ensures refused { OnErr result (32 < length (list_of self.old bucket)) }
         ensures bounded { IsBounded self.old → length (list_of self.old bucket) ≤ 32 → IsBounded self.new }
     {
-        let count = self.current.bucket_count();
-        let (first, last) = sources(self.draining.len(), count, bucket);
-        let coming = count_all(
-            &self.draining,
-            first,
-            last,
-            bucket,
-            &self.current,
-            self.skipped,
-            count,
-        );
         let aside = self.held_overflow;
-        match move_in(
+        match take(
             &mut self.current,
             &mut self.draining,
             bucket,
-            first,
-            last,
-            coming,
             aside,
             self.skipped,
         ) {

@@ -8,11 +8,11 @@ ghost use Rattle.scc_table.specs.Pour.{IsRegrouped};
 ghost use Rattle.scc_table.specs.Sizes.{IsArray};
 ghost use Rattle.scc_table.specs.Steps.{IsUnchanged};
 ghost use Rattle.scc_incremental.specs.Relocates.{AreShort};
-ghost use Rattle.scc_incremental.specs.TwoArrays.{IsFirstWaiting, IsWaiting};
+ghost use Rattle.scc_incremental.specs.TwoArrays.{settle, IsFirstWaiting, IsWaiting};
 
 use super::Incremental;
-use crate::fresh::fresh_waiting;
 use scc_array::Array;
+use scc_relocation::{fresh_waiting, take};
 use scc_table::Keyed;
 use std::alloc::AllocError;
 use std::hash::{BuildHasher, Hash};
@@ -116,5 +116,41 @@ where
         self.next = 0;
         self.held = held;
         self.held_overflow = held_overflow;
+    }
+
+    /// Moves to an array of so many buckets, where none waits. That bucket of the new array takes its entries over at once, and every other one waits. Where memory is refused, for the array or for that bucket, all stays.
+    pub(super) fn start_at(&mut self, count: usize, bucket: usize) -> Result<(), AllocError>
+        requires settled { pending_of self.old ≡ 0 }
+        requires array { IsArray count }
+        requires some { 0 < bucket_count self.old }
+        requires other { count ≢ bucket_count self.old }
+        requires within { bucket < count }
+        ensures lists { OnOk result (IsRegrouped (λ e. key_hash H.BuildHasher H.Hasher.Hasher E.Key.hash_input self.old (E.key_of e)) count self.old self.new) }
+        ensures same { OnOk result (IsPermutation (entries self.old) (entries self.new)) }
+        ensures waiting { OnOk result (waiting_of self.new ≡ settle (replicate count true) bucket) }
+        ensures noted { OnOk result (refused_of self.new ≡ refused_of self.old) }
+        ensures err { OnErr result (self.new ≡ self.old) }
+        ensures unique { IsUniqueBy E.Key.eq E.key_of self.new }
+    {
+        let (fresh, mut flags) = fresh_waiting(self.current.allocator(), count)?;
+        let (mut old, held, overflow) = self.current.exchange(fresh, 0, 0);
+        match take(&mut self.current, &mut old, bucket, overflow, self.skipped) {
+            Ok(moved) => {
+                let bare = std::mem::replace(&mut self.draining, old);
+                bare.destroy_empty();
+                flags[bucket] = false;
+                self.waiting = flags;
+                self.pending = count - 1;
+                self.next = 0;
+                self.held = held - moved;
+                self.held_overflow = overflow;
+                Ok(())
+            }
+            Err(e) => {
+                let (bare, _, _) = self.current.exchange(old, held, overflow);
+                bare.destroy_empty();
+                Err(e)
+            }
+        }
     }
 }

@@ -7,8 +7,8 @@ ghost use Rattle.scc_incremental.specs.Stepping.{index_on, rank_on, IsStart};
 ghost use Rattle.scc_incremental.specs.TwoArrays.{IsWaiting};
 
 use super::Incremental;
-use crate::moving::sources;
 use crate::stepping::spot_from;
+use scc_relocation::sources;
 use scc_table::route::bucket_index;
 use scc_table::{Keyed, Place};
 use std::hash::{BuildHasher, Hash};

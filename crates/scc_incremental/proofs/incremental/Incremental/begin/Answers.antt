@@ -12,7 +12,7 @@ use Rattle.scc_table.proofs.Making.{flat-empty, table-empty}
 use Rattle.scc_incremental.specs.TwoArrays.{IsIncremental, together}
 use Rattle.scc_table.proofs.Bare.{all-bare}
 use Rattle.scc_incremental.proofs.Alone.{count-alone, entries-alone, lists-alone, nothing-held, spilled-together}
-use Rattle.scc_incremental.proofs.Arriving.{count-were, entries-were, IsDistinct-nil}
+use Rattle.scc_relocation.proofs.Arriving.{count-were, entries-were, IsDistinct-nil}
 use Rattle.scc_incremental.proofs.Joining.{waiting-together, pending-together, refused-together}
 use Rattle.scc_incremental.proofs.Same.{hash-same}
 use Rattle.scc_incremental.proofs.Starting.{count-up, permuted-all, started-fields, started-lists}

@@ -11,7 +11,8 @@ use Rattle.scc_incremental.specs.Stepping.{rank_on}
 use Rattle.scc_incremental.specs.TwoArrays.{waits_at}
 use Rattle.scc_incremental.proofs.Nexts.{bound-same, few-entries, held-count, list-past, next-same, own-stands, rank-end, rank-next, rank-start, sources-more}
 use Rattle.scc_incremental.proofs.OldSpots.{old-at, old-spot, own-at, own-list, own-spot}
-use Rattle.scc_incremental.proofs.Preparing.{few-each, long-flags, multiple-flags, sized-flags, within-sources}
+use Rattle.scc_relocation.proofs.FromBuckets.{few-each, within-sources}
+use Rattle.scc_incremental.proofs.Preparing.{long-flags, multiple-flags, sized-flags}
 use Rattle.scc_incremental.proofs.Relocating.{up-within}
 use Rattle.scc_incremental.proofs.Searching.{not_true}
 use Rattle.scc_incremental.proofs.Seen.{count-seen, settings-seen, waiting-seen}

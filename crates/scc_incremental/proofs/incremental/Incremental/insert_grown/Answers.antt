@@ -7,6 +7,7 @@ use Rattle.scc_table.specs.Routing.{bucket_number}
 use Rattle.scc_table.proofs.Resizes.{absent-permuted, regrouped-resizes, rests-inserted}
 use Rattle.scc_incremental.specs.Places.{spot_of}
 use Rattle.scc_incremental.specs.TwoArrays.{waits_at}
+use Rattle.scc_incremental.proofs.Grown.{grown-spread}
 use Rattle.scc_incremental.proofs.Listed.{count-listed}
 use Rattle.scc_incremental.proofs.Same.{entries-same, hash-same, pending-same, regrouped-same}
 use Rattle.scc_incremental.proofs.incremental.Incremental.insert_grown.Goals as goal
@@ -88,3 +89,12 @@ returns-clause-settled g c =
     let i = c.bucket_at-bucket.result in
     let at : i ≡ bucket_number (settings_of a).skipped c.args.count c.args.hash = c.bucket_at-bucket.ensures.value ∙ ap (λ s. bucket_number s.skipped (bucket_count d) c.args.hash) reg.settings ∙ ap (λ n. bucket_number (settings_of a).skipped n c.args.hash) reg.count in
     ap (waits_at (waiting_of c.insert_at.new.self)) (sym at) ∙ c.in-Ok.ensures.settled
+
+pub returns-clause-spread : goal.returns-clause-spread
+returns-clause-spread g c =
+    let a = c.args.self.now in
+    let b = c.begin.new.self in
+    let d = c.note.new.self in
+    let hash = λ (e : g.row.E.Denot). key_hash g.H.BuildHasher g.H.Hasher.Hasher g.E.Key.Hash.hash_input a (g.E.Keyed.key_of e) in
+    let reg = regrouped-same hash c.args.count a b d c.note.ensures.lists c.note.ensures.settings c.begin.ensures.lists in
+    grown-spread hash c.args.count a d c.insert_at.new.self c.args.hash c.bucket_at-bucket.result reg (c.note.ensures.waiting ∙ c.begin.ensures.waiting) c.bucket_at-bucket.ensures.value c.in-Ok.ensures.exact

@@ -4,12 +4,12 @@ use Rattle.std.proofs.lemmas.List.{nil_from_length}
 use Rattle.scc_table.specs.Contents.{HasRoomAt, bucket_count, entries, key_hash, list_of, pending_of, settings_of}
 use Rattle.scc_table.specs.Routing.{bucket_number}
 use Rattle.scc_incremental.specs.TwoArrays.{pending_targets}
-use Rattle.scc_incremental.proofs.Doubling.{any-ok}
+use Rattle.scc_relocation.proofs.Arriving.{any-ok}
 use Rattle.scc_incremental.proofs.Finishing.{pending-is}
 use Rattle.scc_incremental.proofs.Listed.{count-listed}
 use Rattle.scc_incremental.proofs.Placing.{none-left}
 use Rattle.scc_incremental.proofs.Same.{any-err, on-ok}
-use Rattle.scc_incremental.proofs.Targets.{targets-length}
+use Rattle.scc_incremental.proofs.Targets.{all-but-two, by-two, targets-length}
 use Rattle.scc_incremental.proofs.incremental.Incremental.insert_made.Goals as goal
 
 pub returns-then-bucket_count-eq0-clause-array : goal.returns-then-bucket_count-eq0-clause-array
@@ -80,3 +80,39 @@ returns-clause-exact g c =
     (λ some same short.
     let left : pending_of f ≡ 0 = let l = c.insert_made_full.ensures.less same in omega arith in
     none-left (bucket_number (settings_of a).skipped (bucket_count a) c.args.hash) a (pending_targets f) none (nil_from_length (pending_targets f) (targets-length f ∙ left) ∙ sym (nil_from_length (pending_targets a) (targets-length a ∙ none))))
+
+pub returns-then-pending-gt0-clause-spread : goal.returns-then-pending-gt0-clause-spread
+returns-then-pending-gt0-clause-spread g c = any-ok c.insert_made_at.result (λ some ne. absurd (ne c.insert_made_at.ensures.buckets))
+
+pub returns-then-pending-gt0-clause-all_but_two : goal.returns-then-pending-gt0-clause-all_but_two
+returns-then-pending-gt0-clause-all_but_two g c = any-ok c.insert_made_at.result (λ some ne. absurd (ne c.insert_made_at.ensures.buckets))
+
+pub returns-then-pending-gt0-clause-by_two : goal.returns-then-pending-gt0-clause-by_two
+returns-then-pending-gt0-clause-by_two g c = on-ok c.insert_made_at.result (λ h some same short. by-two c.bucket_at-bucket.result c.args.self.now c.insert_made_at.new.self (h short)) c.insert_made_at.ensures.exact
+
+pub returns-then-list_len-lt32-clause-spread : goal.returns-then-list_len-lt32-clause-spread
+returns-then-list_len-lt32-clause-spread g c = any-ok c.insert_made_at-then-list_len-lt32.result (λ some ne. absurd (ne c.insert_made_at-then-list_len-lt32.ensures.buckets))
+
+pub returns-then-list_len-lt32-clause-all_but_two : goal.returns-then-list_len-lt32-clause-all_but_two
+returns-then-list_len-lt32-clause-all_but_two g c = any-ok c.insert_made_at-then-list_len-lt32.result (λ some ne. absurd (ne c.insert_made_at-then-list_len-lt32.ensures.buckets))
+
+pub returns-then-list_len-lt32-clause-by_two : goal.returns-then-list_len-lt32-clause-by_two
+returns-then-list_len-lt32-clause-by_two g c = on-ok c.insert_made_at-then-list_len-lt32.result (λ h some same short. by-two c.bucket_at-bucket.result c.args.self.now c.insert_made_at-then-list_len-lt32.new.self (h short)) c.insert_made_at-then-list_len-lt32.ensures.exact
+
+pub returns-clause-spread : goal.returns-clause-spread
+returns-clause-spread g c = on-ok c.insert_made_full.result (λ h some ne. h ne) c.insert_made_full.ensures.spread
+
+pub returns-clause-all_but_two : goal.returns-clause-all_but_two
+returns-clause-all_but_two g c =
+    let f = c.insert_made_full.new.self in
+    on-ok c.insert_made_full.result
+    (λ h some ne short.
+    let twice = c.insert_made_full.ensures.growth.doubled some ne in
+    all-but-two _ (bucket_count f) f (omega arith) (h ne short))
+    c.insert_made_full.ensures.spread
+
+pub returns-clause-by_two : goal.returns-clause-by_two
+returns-clause-by_two g c =
+    let p = c.pending.ensures in
+    let q = c.if-pending-gt0.false in
+    any-ok c.insert_made_full.result (λ some same short. let l = c.insert_made_full.ensures.less same in omega arith)

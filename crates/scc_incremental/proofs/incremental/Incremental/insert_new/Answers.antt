@@ -1,15 +1,17 @@
-use Rattle.std.proofs.Common.{◌≡◌, ◌∙◌, ◌<◌, ◌≤◌, length, sym, ap, subst, arith}
+use Rattle.std.proofs.Common.{◌≡◌, ◌∙◌, ◌-◌, ◌<◌, ◌≤◌, length, replicate, true, sym, ap, subst, arith}
 use Rattle.std.specs.List.{count_by}
-use Rattle.scc_table.specs.Contents.{HasRoomAt, bucket_count, entries, key_hash, settings_of}
+use Rattle.scc_table.specs.Contents.{HasRoomAt, bucket_count, entries, key_hash, settings_of, waiting_of}
+use Rattle.scc_table.specs.Pour.{IsRegrouped}
 use Rattle.scc_table.specs.Routing.{bucket_number}
 use Rattle.scc_table.proofs.Resizes.{absent-permuted, rests-resizes, rests-inserted}
 use Rattle.scc_incremental.specs.Places.{spot_of}
 use Rattle.scc_incremental.specs.Relocates.{AreShort, left_after}
 use Rattle.scc_incremental.specs.TwoArrays.{pending_targets, waits_at}
 use Rattle.scc_incremental.proofs.Finishing.{pending-is}
+use Rattle.scc_incremental.proofs.Grown.{grown-spread}
 use Rattle.scc_incremental.proofs.Same.{if-ok, list-same, on-err, on-ok, pending-same}
 use Rattle.scc_incremental.proofs.Starting.{count-up}
-use Rattle.scc_incremental.proofs.Targets.{targets-same}
+use Rattle.scc_incremental.proofs.Targets.{all-but-two, by-two, targets-same}
 use Rattle.scc_incremental.proofs.incremental.Incremental.insert_new.Goals as goal
 
 pub insert_at-requires-clause-absent : goal.insert_at-requires-clause-absent
@@ -89,4 +91,56 @@ returns-in-Ok-clause-exact g c =
     let settings = (rests-resizes a b made.rests).settings in
     h after ∙ ap (left_after c.in-Ok.bucket) (targets-same a b w)
     ∙ ap (λ i. left_after i (pending_targets a)) (c.in-Ok.ensures.routed ∙ ap (λ s. bucket_number s.skipped (bucket_count b) c.args.hash) settings ∙ ap (λ m. bucket_number (settings_of a).skipped m c.args.hash) e))
+    c.insert_at.ensures.exact
+
+pub returns-in-Ok-clause-spread : goal.returns-in-Ok-clause-spread
+returns-in-Ok-clause-spread g c =
+    let a = c.args.self.now in
+    let b = c.bucket_for_new.new.self in
+    let f = c.insert_at.new.self in
+    let made = c.bucket_for_new.ensures in
+    let hash = λ (e : g.row.E.Denot). key_hash g.H.BuildHasher g.H.Hasher.Hasher g.E.Key.Hash.hash_input a (g.E.Keyed.key_of e) in
+    let n = bucket_count f in
+    let same : n ≡ bucket_count b = c.insert_at.ensures.buckets in
+    on-ok c.insert_at.result
+    (λ h some ne.
+    let other = λ (z : bucket_count b ≡ bucket_count a). ne (same ∙ z) in
+    let reg : IsRegrouped hash n a b = subst (λ m. IsRegrouped hash m a b) (sym same) (made.lists some other) in
+    let all : waiting_of b ≡ replicate n true = made.all some other ∙ ap (λ m. replicate m true) (sym same) in
+    grown-spread hash n a b f c.args.hash c.in-Ok.bucket reg all c.in-Ok.ensures.routed h)
+    c.insert_at.ensures.exact
+
+pub returns-in-Ok-clause-all_but_two : goal.returns-in-Ok-clause-all_but_two
+returns-in-Ok-clause-all_but_two g c =
+    let a = c.args.self.now in
+    let b = c.bucket_for_new.new.self in
+    let f = c.insert_at.new.self in
+    let made = c.bucket_for_new.ensures in
+    let hash = λ (e : g.row.E.Denot). key_hash g.H.BuildHasher g.H.Hasher.Hasher g.E.Key.Hash.hash_input a (g.E.Keyed.key_of e) in
+    let n = bucket_count f in
+    let same : n ≡ bucket_count b = c.insert_at.ensures.buckets in
+    on-ok c.insert_at.result
+    (λ h some ne short.
+    let other = λ (z : bucket_count b ≡ bucket_count a). ne (same ∙ z) in
+    let reg : IsRegrouped hash n a b = subst (λ m. IsRegrouped hash m a b) (sym same) (made.lists some other) in
+    let all : waiting_of b ≡ replicate n true = made.all some other ∙ ap (λ m. replicate m true) (sym same) in
+    let twice = made.growth.doubled some other in
+    all-but-two _ n f (omega arith) (grown-spread hash n a b f c.args.hash c.in-Ok.bucket reg all c.in-Ok.ensures.routed h short))
+    c.insert_at.ensures.exact
+
+pub returns-in-Ok-clause-by_two : goal.returns-in-Ok-clause-by_two
+returns-in-Ok-clause-by_two g c =
+    let a = c.args.self.now in
+    let b = c.bucket_for_new.new.self in
+    let f = c.insert_at.new.self in
+    let made = c.bucket_for_new.ensures in
+    let hash = λ (e : g.row.E.Denot). key_hash g.H.BuildHasher g.H.Hasher.Hasher g.E.Key.Hash.hash_input a (g.E.Keyed.key_of e) in
+    let n = bucket_count f in
+    let same : n ≡ bucket_count b = c.insert_at.ensures.buckets in
+    on-ok c.insert_at.result
+    (λ h some kept short.
+    let e : bucket_count b ≡ bucket_count a = sym same ∙ kept in
+    let w = made.waiting some e in
+    let after : AreShort b = record { short = λ k up. subst (λ z. length z ≤ 32) (sym (list-same a b (made.stays some e) k)) (short.short k (ap (λ v. waits_at v k) (sym w) ∙ up)) } in
+    by-two c.in-Ok.bucket b f (h after) ∙ ap (λ m. m - 2) (pending-same a b w))
     c.insert_at.ensures.exact

@@ -3,7 +3,7 @@ use Rattle.std.specs.List.{sum_by}
 use Rattle.scc_bucket.specs.Shelf.{Shelf, shelf_entries}
 use Rattle.scc_table.specs.Contents.{entries, bucket_count, key_hash, spilled_of}
 use Rattle.scc_table.specs.Tables.{spilled_in}
-use Rattle.scc_incremental.specs.TwoArrays.{AreMultiples}
+use Rattle.scc_relocation.specs.Moves.{AreMultiples}
 use Rattle.scc_incremental.proofs.Gathered.{held-most, len-fits, length-together, none-held}
 use Rattle.scc_incremental.proofs.incremental.Incremental.len.Goals as goal
 

@@ -5,7 +5,8 @@ use Rattle.scc_table.specs.Pour.{bound_for}
 use Rattle.scc_table.specs.Contents.{bucket_count, key_hash, list_of, settings_of}
 use Rattle.scc_incremental.specs.TwoArrays.{waits_at}
 use Rattle.scc_incremental.proofs.OldSpots.{own-list}
-use Rattle.scc_incremental.proofs.Preparing.{long-flags, most-held, waiting-list, multiple-flags, sized-flags, within-sources}
+use Rattle.scc_relocation.proofs.FromBuckets.{most-held, within-sources}
+use Rattle.scc_incremental.proofs.Preparing.{long-flags, waiting-list, multiple-flags, sized-flags}
 use Rattle.scc_incremental.proofs.Relocating.{up-within}
 use Rattle.scc_incremental.proofs.Searching.{not_true}
 use Rattle.scc_incremental.proofs.Seen.{count-seen, waiting-seen}

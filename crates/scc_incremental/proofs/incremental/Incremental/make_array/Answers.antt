@@ -5,7 +5,7 @@ use Rattle.scc_table.specs.Sizes.{IsArray, IsArraySize}
 use Rattle.scc_table.specs.Tables.{spilled_in}
 use Rattle.scc_incremental.specs.TwoArrays.{IsIncremental, together}
 use Rattle.scc_incremental.proofs.Alone.{count-alone, entries-alone, nothing-held, spilled-bare, spilled-together}
-use Rattle.scc_incremental.proofs.Arriving.{IsDistinct-nil}
+use Rattle.scc_relocation.proofs.Arriving.{IsDistinct-nil}
 use Rattle.scc_incremental.proofs.Firsts.{fields-first, first-grows, first-rests, no-flags, same-rests}
 use Rattle.scc_incremental.proofs.Joining.{refused-together, settings-together, waiting-together}
 use Rattle.scc_incremental.proofs.Same.{any-err, hash-same}

@@ -17,6 +17,9 @@ returns-clause-grows g c = rw (← c.self.view_is) record { growth = c.insert_ne
 pub returns-clause-ok : goal.returns-clause-ok
 returns-clause-ok g c = rw (← c.self.view_is) c.insert_new.ensures.ok
 
+pub returns-clause-first : goal.returns-clause-first
+returns-clause-first g c = rw (← c.self.view_is) c.insert_new.ensures.first
+
 pub returns-clause-relocates : goal.returns-clause-relocates
 returns-clause-relocates g c = rw (← c.self.view_is) record { fewer = c.insert_new.ensures.fewer; less = c.insert_new.ensures.less; most = c.insert_new.ensures.most; grown = c.insert_new.ensures.grown; array = c.insert_new.ensures.array }
 

@@ -78,3 +78,10 @@ pub returns-after-insert_new-clause-waiting : goal.returns-after-insert_new-clau
 returns-after-insert_new-clause-waiting g c =
     let none = find-position_none (g.K.PartialEq.eq c.args.k) (entries c.self.inside.table) c.in-None.ensures.place in
     rw (← c.self.view_is, none) (λ there. absurd (search rules))
+
+pub returns-after-insert_new-clause-first : goal.returns-after-insert_new-clause-first
+returns-after-insert_new-clause-first g c =
+    elim c.match-insert_new.branch [
+      | in-Ok w ↦ rw (w.result-is, ← c.self.view_is) w.in-Ok.ensures.first
+      | in-Err w ↦ rw w.result-is tt
+    ]

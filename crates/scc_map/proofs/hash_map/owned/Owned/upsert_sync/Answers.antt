@@ -132,3 +132,10 @@ returns-in-Some-clause-two g c =
 
 pub returns-in-Some-clause-waiting : goal.returns-in-Some-clause-waiting
 returns-in-Some-clause-waiting g c = λ _. waiting-write with_pair_value c.args.self.now c.in-Some.place c.replace.new.dest
+
+pub returns-after-insert_new-clause-first : goal.returns-after-insert_new-clause-first
+returns-after-insert_new-clause-first g c =
+    elim c.match-insert_new.branch [
+      | in-Ok w ↦ λ _. rw (w.result-is, ← c.self.view_is) w.in-Ok.ensures.first
+      | in-Err w ↦ λ _. rw w.result-is tt
+    ]

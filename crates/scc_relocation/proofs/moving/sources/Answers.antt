@@ -1,0 +1,14 @@
+use Rattle.std.proofs.Common.{◌<◌, ◌/◌, arith}
+use Rattle.scc_relocation.proofs.Numbers.{only-grown, only-shrunk, source-within}
+use Rattle.scc_relocation.proofs.moving.sources.Goals as goal
+
+pub returns-then-old-count-clause-only : goal.returns-then-old-count-clause-only
+returns-then-old-count-clause-only c =
+    λ t h at. let e = only-grown c.args.old c.args.count t h c.args.target c.requires.some c.if-old-count.true c.requires.target c.requires.multiples at in (omega arith, omega arith)
+
+pub returns-clause-only : goal.returns-clause-only
+returns-clause-only c =
+    λ t h at. only-shrunk c.args.old c.args.count t h c.args.target (let n = c.if-old-count.false in omega arith) c.requires.target c.requires.multiples at
+
+pub returns-then-old-count-clause-within : goal.returns-then-old-count-clause-within
+returns-then-old-count-clause-within c = let l = source-within c.args.old c.args.count c.args.target c.requires.some c.if-old-count.true c.requires.target c.requires.multiples in omega arith
