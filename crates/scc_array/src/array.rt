@@ -171,6 +171,7 @@ impl<E> Array<E> {
     }
 
     /// Takes an entry out. The entries after it in the places, or in the list past them, move up by one.
+    #[inline(always)]
     pub fn remove_at(&mut self, bucket: usize, place: usize) -> E
         requires bucket { bucket < length self.old }
         requires place { place < length (shelf_entries (shelf_of self.old bucket)) }

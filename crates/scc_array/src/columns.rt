@@ -7,7 +7,7 @@ ghost use Rattle.scc_array.specs.Apart.{AreColumns};
 ghost use Rattle.scc_array.specs.Windows.{empty_window, window_of, pushed, popped_over, shifted_out, IsColumns, IsTagged};
 ghost use Rattle.scc_slots.specs.Places.{IsDrained};
 
-use crate::shifts::{close_places, close_tags};
+use crate::shifts::close_gap;
 use scc_bucket::Keyed;
 use scc_bucket::tags::{lowest_bit, tag_mask, without_lowest_bit};
 use scc_slots::Slots;
@@ -163,8 +163,7 @@ impl<E> Columns<E> {
         let last = self.count(bucket) - 1;
         let base = 32 * bucket;
         let entry = self.slots.take(base + place);
-        close_places(&mut self.slots, base + place, base + last);
-        close_tags(&mut self.tags[bucket], place, last);
+        close_gap(&mut self.slots, &mut self.tags[bucket], base, place, last);
         entry
     }
 

@@ -108,37 +108,114 @@ fn put_all(clock: &impl Clock, cache: &mut Cache, keys: &[u64]) -> io::Result<Ou
     })
 }
 
-/// The keys of the workloads, made before the clock starts.
+/// The keys of a workload, made before the clock starts.
 #[derive(Drop)]
-struct Lists {
-    warming: Vec<u64>,
-    ranked: Vec<u64>,
-    kept: Vec<u64>,
-    accessed: Vec<u64>,
-    filling: Vec<u64>,
-    evicting: Vec<u64>,
+struct Keys {
+    first: Vec<u64>,
+    measured: Vec<u64>,
 }
 
-fn make_lists(alloc: Global, streams: &Streams) -> Result<Lists, AllocError> {
+fn step_keys(alloc: Global, streams: &Streams) -> Result<Keys, AllocError> {
+    Ok(Keys {
+        first: streams.ranked(alloc, 0)?,
+        measured: streams.ranked(alloc, streams.entries)?,
+    })
+}
+
+fn get_keys(alloc: Global, seed: u64) -> Result<Keys, AllocError> {
     let few = Streams {
         entries: KEPT,
-        seed: streams.seed,
+        seed,
     };
+    Ok(Keys {
+        first: few.inserted(alloc)?,
+        measured: few.accessed(alloc)?,
+    })
+}
+
+fn eviction_keys(alloc: Global, streams: &Streams) -> Result<Keys, AllocError> {
     let filling = Streams {
         entries: FILLING,
         seed: streams.seed,
     };
-    Ok(Lists {
-        warming: streams.ranked(alloc, 0)?,
-        ranked: streams.ranked(alloc, streams.entries)?,
-        kept: few.inserted(alloc)?,
-        accessed: few.accessed(alloc)?,
-        filling: filling.inserted(alloc)?,
-        evicting: streams.missing(alloc)?,
+    Ok(Keys {
+        first: filling.inserted(alloc)?,
+        measured: streams.missing(alloc)?,
     })
 }
 
-/// Goes through the workloads once to warm up and then `runs` times, and prints a line for each.
+/// Goes through keys in an empty cache, and then measures further ones.
+fn step(clock: &impl Clock, alloc: Global, keys: &Keys) -> io::Result<Outcome> {
+    let mut cache = empty(alloc)?;
+    get_or_put_all(clock, &mut cache, keys.first.as_slice())?;
+    get_or_put_all(clock, &mut cache, keys.measured.as_slice())
+}
+
+/// Puts few keys, and then measures how they are got.
+fn look(clock: &impl Clock, alloc: Global, keys: &Keys) -> io::Result<Outcome> {
+    let mut cache = empty(alloc)?;
+    put_all(clock, &mut cache, keys.first.as_slice())?;
+    get_all(clock, &mut cache, keys.measured.as_slice())
+}
+
+/// Fills a cache, and then measures puts that evict.
+fn evict(clock: &impl Clock, alloc: Global, keys: &Keys) -> io::Result<Outcome> {
+    let mut cache = empty(alloc)?;
+    put_all(clock, &mut cache, keys.first.as_slice())?;
+    put_all(clock, &mut cache, keys.measured.as_slice())
+}
+
+fn measure_steps<R: Clock + Print>(
+    rt: &R,
+    alloc: Global,
+    peer: &str,
+    runs: u64,
+    streams: &Streams,
+) -> io::Result<()> {
+    let keys = step_keys(alloc, streams)?;
+    let mut last = step(rt, alloc, &keys)?;
+    for _ in 0..runs {
+        last = step(rt, alloc, &keys)?;
+        line(rt, "cache_t1", peer, last.spent, streams.entries)?;
+        let hits = last.count.saturating_mul(100);
+        line(rt, "hitrate_t1", peer, hits, streams.entries)?;
+    }
+    check(rt, "cache_t1", peer, last.sum)
+}
+
+fn measure_gets<R: Clock + Print>(
+    rt: &R,
+    alloc: Global,
+    peer: &str,
+    runs: u64,
+    seed: u64,
+) -> io::Result<()> {
+    let keys = get_keys(alloc, seed)?;
+    let mut last = look(rt, alloc, &keys)?;
+    for _ in 0..runs {
+        last = look(rt, alloc, &keys)?;
+        line(rt, "cache_get", peer, last.spent, KEPT)?;
+    }
+    check(rt, "cache_get", peer, last.sum)
+}
+
+fn measure_evictions<R: Clock + Print>(
+    rt: &R,
+    alloc: Global,
+    peer: &str,
+    runs: u64,
+    streams: &Streams,
+) -> io::Result<()> {
+    let keys = eviction_keys(alloc, streams)?;
+    let mut last = evict(rt, alloc, &keys)?;
+    for _ in 0..runs {
+        last = evict(rt, alloc, &keys)?;
+        line(rt, "cache_evict", peer, last.spent, streams.entries)?;
+    }
+    check(rt, "cache_evict", peer, last.sum)
+}
+
+/// Goes through each workload once to warm up and then `runs` times, and prints a line for each time.
 pub fn measure<R: Clock + Print>(
     rt: &R,
     alloc: Global,
@@ -146,35 +223,7 @@ pub fn measure<R: Clock + Print>(
     runs: u64,
     streams: &Streams,
 ) -> io::Result<()> {
-    let lists = make_lists(alloc, streams)?;
-    let steps = streams.entries;
-    for run in 0..=runs {
-        let mut cache = empty(alloc)?;
-        get_or_put_all(rt, &mut cache, lists.warming.as_slice())?;
-        let stepped = get_or_put_all(rt, &mut cache, lists.ranked.as_slice())?;
-        let mut cache = empty(alloc)?;
-        put_all(rt, &mut cache, lists.kept.as_slice())?;
-        let got = get_all(rt, &mut cache, lists.accessed.as_slice())?;
-        let mut cache = empty(alloc)?;
-        put_all(rt, &mut cache, lists.filling.as_slice())?;
-        let evicted = put_all(rt, &mut cache, lists.evicting.as_slice())?;
-        if run > 0 {
-            line(rt, "cache_t1", peer, stepped.spent, steps)?;
-            line(rt, "cache_get", peer, got.spent, KEPT)?;
-            line(rt, "cache_evict", peer, evicted.spent, steps)?;
-            line(
-                rt,
-                "hitrate_t1",
-                peer,
-                stepped.count.saturating_mul(100),
-                steps,
-            )?;
-        }
-        if run == runs {
-            check(rt, "cache_t1", peer, stepped.sum)?;
-            check(rt, "cache_get", peer, got.sum)?;
-            check(rt, "cache_evict", peer, evicted.sum)?;
-        }
-    }
-    Ok(())
+    measure_steps(rt, alloc, peer, runs, streams)?;
+    measure_gets(rt, alloc, peer, runs, streams.seed)?;
+    measure_evictions(rt, alloc, peer, runs, streams)
 }

@@ -39,10 +39,7 @@ fn measure<M: Peer, R: Clock + Files + Print + Alloc>(
     let streams = request.streams;
     match request.group {
         Group::Own => own::measure::<M, R>(rt, alloc, name, request.runs, &streams),
-        Group::Tail => {
-            let keys = streams.inserted(alloc)?;
-            tail::measure::<M, R>(rt, alloc, name, request.runs, keys.as_slice())
-        }
+        Group::Tail => tail::measure::<M, R>(rt, alloc, name, request.runs, &streams),
         Group::Memory => memory::measure::<M, R>(rt, alloc, name, &streams),
         Group::Curve => memory::measure_curve::<M, R>(rt, alloc, name, &streams),
         Group::Beside => own::measure_beside::<Owned<u64, u64>, M, R>(
@@ -72,20 +69,31 @@ fn measure_cache<R: Clock + Print>(rt: &R, alloc: Global, request: Request) -> i
     }
 }
 
-fn main(rt: HostRuntime) -> io::Result<()> {
+/// The arguments, without the program's name.
+fn words(rt: &HostRuntime) -> io::Result<Vec<String>> {
     let mut words = Vec::new(rt.alloc());
-    for word in env::args(&rt)?.skip(1) {
+    for word in env::args(rt)?.skip(1) {
         words.push(word).map_err(AllocError::from)?;
     }
+    Ok(words)
+}
+
+fn measure_peer(rt: &HostRuntime, request: Request) -> io::Result<()> {
+    let alloc = rt.alloc();
+    match request.peer {
+        PeerName::Owned => measure::<Owned<u64, u64>, _>(rt, alloc, request),
+        PeerName::Kit => measure::<HashMap<u64, u64>, _>(rt, alloc, request),
+        PeerName::Set => measure::<hash_set::Owned<u64>, _>(rt, alloc, request),
+        PeerName::Index => measure::<hash_index::Owned<u64, u64>, _>(rt, alloc, request),
+        PeerName::Cache => measure_cache(rt, alloc, request),
+    }
+}
+
+fn main(rt: HostRuntime) -> io::Result<()> {
+    let words = words(&rt)?;
     if words.is_empty() {
         return list_peers(&rt);
     }
     let request = parse_request(words.as_slice())?;
-    match request.peer {
-        PeerName::Owned => measure::<Owned<u64, u64>, _>(&rt, rt.alloc(), request),
-        PeerName::Kit => measure::<HashMap<u64, u64>, _>(&rt, rt.alloc(), request),
-        PeerName::Set => measure::<hash_set::Owned<u64>, _>(&rt, rt.alloc(), request),
-        PeerName::Index => measure::<hash_index::Owned<u64, u64>, _>(&rt, rt.alloc(), request),
-        PeerName::Cache => measure_cache(&rt, rt.alloc(), request),
-    }
+    measure_peer(&rt, request)
 }

@@ -18,22 +18,59 @@ fn resident(rt: &(impl Files + Alloc)) -> io::Result<u64> {
     Ok(pages.saturating_mul(PAGE))
 }
 
+/// The number that a row begins with, after spaces.
+fn leading_number(row: &str) -> u64 {
+    match row.split_whitespace().next() {
+        Some(word) => word.parse::<u64>().unwrap_or(0),
+        None => 0,
+    }
+}
+
+/// What follows that name in the row that begins with it.
+fn row_after<'a>(text: &'a str, name: &str) -> Option<&'a str> {
+    for row in text.lines() {
+        if let Some(rest) = row.strip_prefix(name) {
+            return Some(rest);
+        }
+    }
+    None
+}
+
 /// The most bytes of memory that the process has held.
 fn most_resident(rt: &(impl Files + Alloc)) -> io::Result<u64> {
     let text = fs::read_to_string(rt, "/proc/self/status")?;
-    let mut most = 0u64;
-    for row in text.as_str().lines() {
-        if let Some(rest) = row.strip_prefix("VmHWM:") {
-            let number = rest.trim().split(' ').next().unwrap_or("");
-            most = number.parse::<u64>().unwrap_or(0).saturating_mul(1024);
-        }
-    }
-    Ok(most)
+    let kibibytes = match row_after(text.as_str(), "VmHWM:") {
+        Some(rest) => leading_number(rest),
+        None => 0,
+    };
+    Ok(kibibytes.saturating_mul(1024))
 }
 
 fn insert_at<M: Peer>(map: &mut M, streams: &Streams, place: u64) -> io::Result<()> {
     let key = streams.inserted_key(place);
     map.insert(key, value(key))
+}
+
+/// Inserts the keys from one place up to before another.
+fn insert_places<M: Peer>(map: &mut M, streams: &Streams, first: u64, last: u64) -> io::Result<()> {
+    for place in first..last {
+        insert_at(map, streams, place)?;
+    }
+    Ok(())
+}
+
+/// Fills a map, and answers the bytes that it holds then and that it held at most.
+fn fill<M: Peer, R: Files + Alloc>(
+    rt: &R,
+    map: &mut M,
+    streams: &Streams,
+) -> io::Result<(u64, u64)> {
+    insert_at(map, streams, 0)?;
+    let before = resident(rt)?;
+    insert_places(map, streams, 1, streams.entries)?;
+    let live = resident(rt)?.saturating_sub(before);
+    let most = most_resident(rt)?.saturating_sub(before);
+    Ok((live, most))
 }
 
 /// Fills a map, and prints the bytes a pair that it holds then and that it held at most.
@@ -44,16 +81,31 @@ pub fn measure<M: Peer, R: Files + Print + Alloc>(
     streams: &Streams,
 ) -> io::Result<()> {
     let mut map: M = Peer::make(alloc);
-    insert_at(&mut map, streams, 0)?;
-    let before = resident(rt)?;
-    for place in 1..streams.entries {
-        insert_at(&mut map, streams, place)?;
-    }
-    let live = resident(rt)?.saturating_sub(before);
-    let most = most_resident(rt)?.saturating_sub(before);
+    let (live, most) = fill(rt, &mut map, streams)?;
     line(rt, "mem_live", peer, live, streams.entries)?;
     line(rt, "mem_peak", peer, most, streams.entries)?;
     check(rt, "mem_live", peer, map.sum())
+}
+
+/// Fills a map to sixteen sizes, from just above the number of entries to twice as many, and answers the sum of the hundredths of bytes a pair.
+fn fill_curve<M: Peer, R: Files + Alloc>(
+    rt: &R,
+    map: &mut M,
+    streams: &Streams,
+) -> io::Result<u64> {
+    insert_at(map, streams, 0)?;
+    let before = resident(rt)?;
+    let step = (streams.entries / 16).max(1);
+    let mut hundredths = 0u64;
+    for place in 1..streams.entries.saturating_mul(2) {
+        insert_at(map, streams, place)?;
+        let size = place + 1;
+        if size > streams.entries && size % step == 0 {
+            let held = resident(rt)?.saturating_sub(before);
+            hundredths = hundredths.saturating_add(held.saturating_mul(100) / size);
+        }
+    }
+    Ok(hundredths)
 }
 
 /// Prints the mean of the bytes a pair at sixteen sizes, from just above the number of entries to twice as many.
@@ -64,18 +116,7 @@ pub fn measure_curve<M: Peer, R: Files + Print + Alloc>(
     streams: &Streams,
 ) -> io::Result<()> {
     let mut map: M = Peer::make(alloc);
-    insert_at(&mut map, streams, 0)?;
-    let before = resident(rt)?;
-    let step = (streams.entries / 16).max(1);
-    let mut hundredths = 0u64;
-    for place in 1..streams.entries.saturating_mul(2) {
-        insert_at(&mut map, streams, place)?;
-        let size = place + 1;
-        if size > streams.entries && size % step == 0 {
-            let held = resident(rt)?.saturating_sub(before);
-            hundredths = hundredths.saturating_add(held.saturating_mul(100) / size);
-        }
-    }
+    let hundredths = fill_curve(rt, &mut map, streams)?;
     line(rt, "mem_mean", peer, hundredths, 1600)?;
     check(rt, "mem_mean", peer, map.sum())
 }

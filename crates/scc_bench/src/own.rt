@@ -165,7 +165,13 @@ fn clear<M: Peer>(clock: &impl Clock, map: &mut M, lists: &Lists) -> io::Result<
     })
 }
 
-fn run_once<M: Peer>(clock: &impl Clock, mut map: M, lists: &Lists) -> io::Result<[Outcome; 6]> {
+/// Goes through the workloads once, on a new container.
+fn run_once<M: Peer, C: Clock>(
+    clock: &C,
+    alloc: Global,
+    lists: &Lists,
+) -> io::Result<[Outcome; 6]> {
+    let mut map: M = Peer::make(alloc);
     let filled = fill(clock, &mut map, lists)?;
     let [hits, misses] = look(clock, &map, lists)?;
     let written = write(clock, &mut map, lists)?;
@@ -182,19 +188,22 @@ fn print_lines(
     streams: &Streams,
 ) -> io::Result<()> {
     for outcome in outcomes {
-        line(
-            rt,
-            outcome.work.name(),
-            peer,
-            outcome.spent,
-            streams.entries,
-        )?;
+        let name = outcome.work.name();
+        line(rt, name, peer, outcome.spent, streams.entries)?;
+    }
+    Ok(())
+}
+
+/// Prints the sums of a run.
+fn print_checks(rt: &impl Print, peer: &str, outcomes: &[Outcome]) -> io::Result<()> {
+    for outcome in outcomes {
+        check(rt, outcome.work.name(), peer, outcome.sum)?;
     }
     Ok(())
 }
 
 /// Prints the sums of a run, but for the walk's, which comes after writes that a set can't keep.
-fn print_checks(rt: &impl Print, peer: &str, outcomes: &[Outcome]) -> io::Result<()> {
+fn print_shared_checks(rt: &impl Print, peer: &str, outcomes: &[Outcome]) -> io::Result<()> {
     for outcome in outcomes {
         match outcome.work {
             Work::Iterate => {}
@@ -214,21 +223,16 @@ pub fn measure_beside<M: Peer, N: Peer, R: Clock + Print>(
     streams: &Streams,
 ) -> io::Result<()> {
     let lists = make_lists(alloc, streams)?;
-    for run in 0..=runs {
-        let map: M = Peer::make(alloc);
-        let firsts = run_once(rt, map, &lists)?;
-        let other: N = Peer::make(alloc);
-        let seconds = run_once(rt, other, &lists)?;
-        if run > 0 {
-            print_lines(rt, first, &firsts, streams)?;
-            print_lines(rt, second, &seconds, streams)?;
-        }
-        if run == runs {
-            print_checks(rt, first, &firsts)?;
-            print_checks(rt, second, &seconds)?;
-        }
+    let mut firsts = run_once::<M, R>(rt, alloc, &lists)?;
+    let mut seconds = run_once::<N, R>(rt, alloc, &lists)?;
+    for _ in 0..runs {
+        firsts = run_once::<M, R>(rt, alloc, &lists)?;
+        seconds = run_once::<N, R>(rt, alloc, &lists)?;
+        print_lines(rt, first, &firsts, streams)?;
+        print_lines(rt, second, &seconds, streams)?;
     }
-    Ok(())
+    print_shared_checks(rt, first, &firsts)?;
+    print_shared_checks(rt, second, &seconds)
 }
 
 /// Goes through the workloads once to warm up and then `runs` times, and prints a line for each.
@@ -240,23 +244,10 @@ pub fn measure<M: Peer, R: Clock + Print>(
     streams: &Streams,
 ) -> io::Result<()> {
     let lists = make_lists(alloc, streams)?;
-    for run in 0..=runs {
-        let map: M = Peer::make(alloc);
-        let outcomes = run_once(rt, map, &lists)?;
-        for outcome in &outcomes {
-            if run > 0 {
-                line(
-                    rt,
-                    outcome.work.name(),
-                    peer,
-                    outcome.spent,
-                    streams.entries,
-                )?;
-            }
-            if run == runs {
-                check(rt, outcome.work.name(), peer, outcome.sum)?;
-            }
-        }
+    let mut outcomes = run_once::<M, R>(rt, alloc, &lists)?;
+    for _ in 0..runs {
+        outcomes = run_once::<M, R>(rt, alloc, &lists)?;
+        print_lines(rt, peer, &outcomes, streams)?;
     }
-    Ok(())
+    print_checks(rt, peer, &outcomes)
 }

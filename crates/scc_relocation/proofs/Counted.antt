@@ -41,6 +41,15 @@ module _ {E : Type 0} (hash : E → ℕ) (t n i first last : ℕ) (olds : List (
       let xs = flat_map shelf_entries (take m olds) in
       ap (λ z. length (bound_for hash t n i z)) (flat-more m olds l) ∙ ap length (bound_append hash t n i xs (shelf_entries (shelf_of olds m))) ∙ length-append (bound_for hash t n i xs) (bound_for hash t n i (shelf_entries (shelf_of olds m)))
 
+  -- one old bucket holds them all
+  pub one-source : first + 1 ≡ last → length (bound_for hash t n i (flat_map shelf_entries olds)) ≤ length (shelf_entries (shelf_of olds first))
+  one-source h =
+      let l : first < length olds = omega (arith, sources.within) in
+      let more = total-more first l in
+      let end = ap (λ z. length (bound_for hash t n i (flat_map shelf_entries (take z olds)))) h in
+      let few = bound-le hash t n i (shelf_entries (shelf_of olds first)) in
+      omega (arith, total-start, more, end, total-end, few)
+
 -- no bucket holds more than all
 pub part-le : {E : Type 0} (olds : List (Shelf E)) (m : ℕ) → m < length olds → length (flat_map shelf_entries (take m olds)) + length (shelf_entries (shelf_of olds m)) ≤ length (flat_map shelf_entries olds)
 part-le olds m l =

@@ -267,6 +267,32 @@ where
     found
 }
 
+/// No fewer than the entries of all old buckets that belong to the target, and just as many where it is more than 32. One old bucket that holds no more isn't looked through.
+fn count_coming<E: Keyed, H: BuildHasher>(
+    old: &Array<E>,
+    first: usize,
+    last: usize,
+    target: usize,
+    table: &Table<E, H>,
+    skipped: u32,
+    count: usize,
+) -> usize
+where
+    E::Key: Eq + Hash,
+    requires bits { skipped < 64 }
+    requires sources { IsWithinSources (λ e. key_hash H.BuildHasher H.Hasher.Hasher E.Key.hash_input table.now (E.key_of e)) skipped count target first last old.now }
+    requires few { (j : ℕ) → length (shelf_of old.now j).overflow < 2 ^ 62 }
+    requires own { AreOwn (λ e. key_hash H.BuildHasher H.Hasher.Hasher E.Key.hash_input table.now (E.key_of e)) skipped old.now }
+    requires most { length (flat_map shelf_entries old.now) < 2 ^ 64 }
+    ensures enough { length (bound_for (λ e. key_hash H.BuildHasher H.Hasher.Hasher E.Key.hash_input table.now (E.key_of e)) skipped count target (flat_map shelf_entries old.now)) ≤ result }
+    ensures exact { 32 < result → result ≡ length (bound_for (λ e. key_hash H.BuildHasher H.Hasher.Hasher E.Key.hash_input table.now (E.key_of e)) skipped count target (flat_map shelf_entries old.now)) }
+{
+    if last - first == 1 && old.bucket_len(first) <= 32 {
+        return 32;
+    }
+    count_all(old, first, last, target, table, skipped, count)
+}
+
 /// Moves the entries of all old buckets that belong to the target into the table's bucket of that number, which is empty, in order, and answers how many they are. `aside` entries, no fewer than lie in the overflow lists of the old array, are counted as if they lay in overflow lists too. Where memory is refused, all stays.
 pub fn take<E: Keyed, H: BuildHasher>(
     current: &mut Table<E, H>,
@@ -296,6 +322,6 @@ where
 {
     let count = current.bucket_count();
     let (first, last) = sources(old.len(), count, target);
-    let coming = count_all(old, first, last, target, current, skipped, count);
+    let coming = count_coming(old, first, last, target, current, skipped, count);
     move_in(current, old, target, first, last, coming, aside, skipped)
 }

@@ -16,8 +16,8 @@ sources-first-requires-clause-target g c = omega (arith, c.requires.target, c.bu
 pub sources-first-requires-clause-multiples : goal.sources-first-requires-clause-multiples
 sources-first-requires-clause-multiples g c = rw (c.len.ensures.count, c.bucket_count-count.ensures.count) c.requires.multiples
 
-pub count_all-coming-requires-clause-sources : goal.count_all-coming-requires-clause-sources
-count_all-coming-requires-clause-sources g c =
+pub count_coming-coming-requires-clause-sources : goal.count_coming-coming-requires-clause-sources
+count_coming-coming-requires-clause-sources g c =
     let cur = c.args.current.now in
     let olds = c.args.old.now in
     let hash = λ (e : g.row.E.Denot). key_hash g.H.BuildHasher g.H.Hasher.Hasher g.E.Key.Hash.hash_input cur (g.E.Keyed.key_of e) in
@@ -26,11 +26,11 @@ count_all-coming-requires-clause-sources g c =
     let sources = within-sources hash c.args.skipped (bucket_count cur) c.args.target c.sources-first.result.0 c.sources-first.result.1 olds c.requires.own c.sources-first.ensures.order last only in
     rw c.bucket_count-count.ensures.count sources
 
-pub count_all-coming-requires-clause-few : goal.count_all-coming-requires-clause-few
-count_all-coming-requires-clause-few g c = few-each c.args.old.now c.args.aside c.requires.spilled (let f = c.requires.aside in omega arith)
+pub count_coming-coming-requires-clause-few : goal.count_coming-coming-requires-clause-few
+count_coming-coming-requires-clause-few g c = few-each c.args.old.now c.args.aside c.requires.spilled (let f = c.requires.aside in omega arith)
 
-pub count_all-coming-requires-clause-most : goal.count_all-coming-requires-clause-most
-count_all-coming-requires-clause-most g c =
+pub count_coming-coming-requires-clause-most : goal.count_coming-coming-requires-clause-most
+count_coming-coming-requires-clause-most g c =
     let hash = λ (e : g.row.E.Denot). key_hash g.H.BuildHasher g.H.Hasher.Hasher g.E.Key.Hash.hash_input c.args.current.now (g.E.Keyed.key_of e) in
     let low : spilled_in c.args.old.now < 2 ^ 62 = omega (arith, c.requires.spilled, c.requires.aside) in
     let m = most-held hash c.args.skipped c.args.old.now c.requires.sized c.requires.own low in

@@ -21,8 +21,8 @@ overflow_add-base g c =
 pub take-entry-requires : goal.take-entry-requires
 take-entry-requires g c = filled-there c.self.inside.tags.items c.self.inside.slots c.self.invariant c.args.self.now c.self.view_is c.args.bucket c.requires.bucket c.args.place c.requires.place
 
-pub close_places-requires-clause-filled : goal.close_places-requires-clause-filled
-close_places-requires-clause-filled g c = λ q above below.
+pub close_gap-requires-clause-filled : goal.close_gap-requires-clause-filled
+close_gap-requires-clause-filled g c = λ q above below.
     let rows = c.self.inside.tags.items in let places = c.self.inside.slots in let ws = c.args.self.now in let b = c.args.bucket in let i = c.args.place in
     let kept = c.self.invariant in let view = c.self.view_is in
     let packed = packed-there rows places kept ws view b c.requires.bucket in let within = row-within rows places kept ws view b c.requires.bucket in
@@ -38,9 +38,9 @@ invariant_of-self g c =
     let packed = packed-there rows places kept ws view b c.requires.bucket in let within = row-within rows places kept ws view b c.requires.bucket in
     let last : c.count-last.result - 1 ≡ length (window_of ws b).slots - 1 = ap (λ n. n - 1) c.count-last.ensures.count in
     let row : get_or rows b [] ≡ c.index_mut.result.now = row-read rows b c.index_mut.result.now within c.index_mut.ensures.value in
-    let closed_row : Closes 0 (get_or rows b []) i (length (window_of ws b).slots - 1) c.close_tags.new.row = rw (← last, row) c.close_tags.ensures in
-    let closed : Closes None (set places (32 * b + i) None) (32 * b + i) (32 * b + (length (window_of ws b).slots - 1)) c.close_places.new.slots = rw (← last, ← c.take-entry.ensures.places) c.close_places.ensures in
-    columns-shifted rows places kept b within _ _ packed i c.requires.place c.close_places.new.slots c.close_tags.new.row closed closed_row
+    let closed_row : Closes 0 (get_or rows b []) i (length (window_of ws b).slots - 1) c.close_gap.new.row = rw (← last, row) c.close_gap.ensures.tags in
+    let closed : Closes None (set places (32 * b + i) None) (32 * b + i) (32 * b + (length (window_of ws b).slots - 1)) c.close_gap.new.slots = rw (← last, ← c.take-entry.ensures.places) c.close_gap.ensures.entries in
+    columns-shifted rows places kept b within _ _ packed i c.requires.place c.close_gap.new.slots c.close_gap.new.row closed closed_row
 
 pub returns-clause-entry : goal.returns-clause-entry
 returns-clause-entry g c = entry-there c.self.inside.tags.items c.self.inside.slots c.self.invariant c.args.self.now c.self.view_is c.args.bucket c.requires.bucket c.args.place c.requires.place c.take-entry.result c.take-entry.ensures.entry
@@ -52,6 +52,6 @@ returns-clause-others g c =
     let packed = packed-there rows places kept ws view b c.requires.bucket in let within = row-within rows places kept ws view b c.requires.bucket in
     let last : c.count-last.result - 1 ≡ length (window_of ws b).slots - 1 = ap (λ n. n - 1) c.count-last.ensures.count in
     let row : get_or rows b [] ≡ c.index_mut.result.now = row-read rows b c.index_mut.result.now within c.index_mut.ensures.value in
-    let closed_row : Closes 0 (get_or rows b []) i (length (window_of ws b).slots - 1) c.close_tags.new.row = rw (← last, row) c.close_tags.ensures in
-    let closed : Closes None (set places (32 * b + i) None) (32 * b + i) (32 * b + (length (window_of ws b).slots - 1)) c.close_places.new.slots = rw (← last, ← c.take-entry.ensures.places) c.close_places.ensures in
-    windows-shifted rows places kept b within _ _ packed i c.requires.place c.close_places.new.slots c.close_tags.new.row closed closed_row ∙ ap (λ v. set v b (shifted_out (window_of ws b) i)) view
+    let closed_row : Closes 0 (get_or rows b []) i (length (window_of ws b).slots - 1) c.close_gap.new.row = rw (← last, row) c.close_gap.ensures.tags in
+    let closed : Closes None (set places (32 * b + i) None) (32 * b + i) (32 * b + (length (window_of ws b).slots - 1)) c.close_gap.new.slots = rw (← last, ← c.take-entry.ensures.places) c.close_gap.ensures.entries in
+    windows-shifted rows places kept b within _ _ packed i c.requires.place c.close_gap.new.slots c.close_gap.new.row closed closed_row ∙ ap (λ v. set v b (shifted_out (window_of ws b) i)) view
