@@ -34,7 +34,7 @@ lane-within t row j e = elim (dec_lt j (length row)) [ yes l ↦ l | no h ↦ le
 pub lane-is : (t : ℕ) (row : List ℕ) (j : ℕ) → bit_at (same_mask t row) j ≡ 1 → get_or row j 0 ≡ t
 lane-is t row j e = eqb-true (get_or row j 0) t (cond-one _ (sym (lane-bit t row j (lane-within t row j e)) ∙ e))
 
-tag-some : (t u : ℕ) → tag_there t ≡ Some u → t ≡ u
+pub tag-some : (t u : ℕ) → tag_there t ≡ Some u → t ≡ u
 tag-some zero u e = absurd (let n : None ≡ Some u = e in cc)
 tag-some (suc t) u e = cc
 
@@ -42,7 +42,7 @@ tag-none : (t : ℕ) → tag_there t ≡ None → t ≡ 0
 tag-none zero e = refl
 tag-none (suc t) e = absurd (let n : Some (suc t) ≡ None = e in cc)
 
-some-positive : (t u : ℕ) → tag_there t ≡ Some u → 0 < t
+pub some-positive : (t u : ℕ) → tag_there t ≡ Some u → 0 < t
 some-positive zero u e = absurd (let n : None ≡ Some u = e in cc)
 some-positive (suc t) u e = omega arith
 

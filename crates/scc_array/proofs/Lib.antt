@@ -7,6 +7,7 @@ pub mod Gathering
 pub mod Gets
 pub mod Joined
 pub mod ListPushing
+pub mod Parting
 pub mod Pushing
 pub mod Reserving
 pub mod Shelves

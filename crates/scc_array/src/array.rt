@@ -7,6 +7,7 @@ ghost use Rattle.std.specs.List.{position};
 mod apart;
 mod reads;
 mod room;
+mod splitting;
 mod writes;
 
 use crate::columns::Columns;

@@ -1,13 +1,15 @@
 //! Two columns: a row of 32 tags for each bucket, and 32 places for entries. The entries of a bucket lie in the first of its places, and the tag of a free place is 0.
-ghost use Rattle.std.specs.Prelude.{◌≡◌, ◌^◌, ◌≤◌, ◌<◌, ◌↔◌, ℕ, Some, length, replicate, slice_set, IfOk, IsTrue, slice_get, slice_index, []};
+ghost use Rattle.std.specs.Prelude.{◌≡◌, ◌^◌, ◌≤◌, ◌<◌, ◌+◌, ◌↔◌, ℕ, Some, length, replicate, slice_set, IfOk, IsTrue, slice_get, slice_index, []};
 ghost use Rattle.std.specs.Borrow.{sem};
 ghost use Rattle.std.specs.Int.{bit_at};
 ghost use Rattle.std.specs.List.{position};
 ghost use Rattle.scc_array.specs.Apart.{AreColumns};
+ghost use Rattle.scc_array.specs.Sifts.{kept_of, picked_of, window_with};
 ghost use Rattle.scc_array.specs.Windows.{empty_window, window_of, pushed, popped_over, shifted_out, IsColumns, IsTagged};
 ghost use Rattle.scc_slots.specs.Places.{IsDrained};
 
 use crate::shifts::close_gap;
+use crate::sifting::sift;
 use scc_bucket::Keyed;
 use scc_bucket::tags::{lowest_bit, tag_mask, without_lowest_bit};
 use scc_slots::Slots;
@@ -123,9 +125,42 @@ impl<E> Columns<E> {
         ensures { self.new ≡ slice_set self.old bucket (pushed (window_of self.old bucket) entry tag) }
     {
         let place = self.count(bucket);
+        self.push_at(bucket, place, entry, tag);
+    }
+
+    /// The same where it is known which place is the next one.
+    #[inline(always)]
+    pub(crate) fn push_at(&mut self, bucket: usize, place: usize, entry: E, tag: u8)
+        requires bucket { bucket < length self.old }
+        requires place { place ≡ length (window_of self.old bucket).slots }
+        requires room { place < 32 }
+        requires tag { 0 < tag }
+        ensures { self.new ≡ slice_set self.old bucket (pushed (window_of self.old bucket) entry tag) }
+    {
         let row = &mut self.tags[bucket];
         row[place] = tag;
         self.slots.put(32 * bucket + place, entry);
+    }
+
+    /// Moves the entries whose flag is up to the end of a bucket of other columns, in order. The others stay in their order.
+    #[inline(always)]
+    pub fn split(
+        &mut self,
+        bucket: usize,
+        flags: &[bool; 32],
+        into: &mut Columns<E>,
+        target: usize,
+    )
+        requires bucket { bucket < length self.old }
+        requires target { target < length into.old }
+        requires room { length (window_of into.old target).slots + length (window_of self.old bucket).slots ≤ 32 }
+        ensures stays { self.new ≡ slice_set self.old bucket (kept_of flags.now (window_of self.old bucket)) }
+        ensures moved { into.new ≡ slice_set into.old target (window_with (window_of into.old target) (picked_of flags.now (window_of self.old bucket))) }
+    {
+        let held = self.count(bucket);
+        let first = into.count(target);
+        let base = 32 * bucket;
+        sift(&mut self.slots, &mut self.tags[bucket], base, held, flags, into, target, first);
     }
 }
 

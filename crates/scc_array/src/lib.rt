@@ -5,6 +5,7 @@ pub mod array;
 pub mod columns;
 mod lists;
 mod shifts;
+mod sifting;
 
 pub use array::Array;
 pub use columns::Columns;

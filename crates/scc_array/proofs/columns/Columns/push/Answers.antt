@@ -1,46 +1,5 @@
-use Rattle.std.proofs.Common.{◌≡◌, arith, set, length, ap, ◌∙◌}
-use Rattle.scc_array.proofs.Bucket.{packed-there, number-small, row-within, row-read, place-within}
-use Rattle.scc_array.proofs.Counting.{place-free}
-use Rattle.scc_array.proofs.Pushing.{windows-pushed, columns-pushed}
+use Rattle.std.proofs.Common.{arith}
 use Rattle.scc_array.proofs.columns.Columns.push.Goals as goal
-use Rattle.scc_array.specs.Windows.{window_of, pushed}
 
-pub index_mut-row-requires : goal.index_mut-row-requires
-index_mut-row-requires g c = let l = row-within c.self.inside.tags.items c.self.inside.slots c.self.invariant c.args.self.now c.self.view_is c.args.bucket c.requires.bucket in omega (arith, c.self.inside.tags.ok.0)
-
-pub overflow_mul-bucket : goal.overflow_mul-bucket
-overflow_mul-bucket g c = record { fits = let n = number-small c.self.inside.tags.items c.self.inside.slots c.self.invariant c.args.self.now c.self.view_is c.args.bucket c.requires.bucket in omega arith }
-
-pub overflow_add-bucket : goal.overflow_add-bucket
-overflow_add-bucket g c =
-    let n = number-small c.self.inside.tags.items c.self.inside.slots c.self.invariant c.args.self.now c.self.view_is c.args.bucket c.requires.bucket in
-    record { fits = omega (arith, c.count-place.ensures.most) }
-
-pub put-requires : goal.put-requires
-put-requires g c =
-    let rows = c.self.inside.tags.items in let places = c.self.inside.slots in let ws = c.args.self.now in let b = c.args.bucket in
-    let packed = packed-there rows places c.self.invariant ws c.self.view_is b c.requires.bucket in
-    let k : c.count-place.result ≡ length (window_of ws b).slots = c.count-place.ensures.count in (
-      place-within rows places c.self.invariant ws c.self.view_is b c.requires.bucket c.count-place.result (omega (arith, c.requires.room)),
-      place-free rows places b _ _ packed c.count-place.result (omega arith) (omega (arith, c.requires.room)),
-    )
-
-pub invariant_of-self : goal.invariant_of-self
-invariant_of-self g c =
-    let rows = c.self.inside.tags.items in let places = c.self.inside.slots in let ws = c.args.self.now in let b = c.args.bucket in
-    let within = row-within rows places c.self.invariant ws c.self.view_is b c.requires.bucket in
-    let packed = packed-there rows places c.self.invariant ws c.self.view_is b c.requires.bucket in
-    let row = row-read rows b c.index_mut-row.result.now within c.index_mut-row.ensures.value in
-    let k : c.count-place.result ≡ length (window_of ws b).slots = c.count-place.ensures.count in
-    let all = columns-pushed rows places c.self.invariant b within _ _ packed c.requires.room c.args.entry c.args.tag c.requires.tag in
-    rw (c.put.ensures, k, ← row) all
-
-pub returns : goal.returns
-returns g c =
-    let rows = c.self.inside.tags.items in let places = c.self.inside.slots in let ws = c.args.self.now in let b = c.args.bucket in
-    let within = row-within rows places c.self.invariant ws c.self.view_is b c.requires.bucket in
-    let packed = packed-there rows places c.self.invariant ws c.self.view_is b c.requires.bucket in
-    let row = row-read rows b c.index_mut-row.result.now within c.index_mut-row.ensures.value in
-    let k : c.count-place.result ≡ length (window_of ws b).slots = c.count-place.ensures.count in
-    let all = windows-pushed rows places c.self.invariant b within _ _ packed c.requires.room c.args.entry c.args.tag c.requires.tag in
-    rw (c.put.ensures, k, ← row) (all ∙ ap (λ v. set v b (pushed (window_of ws b) c.args.entry c.args.tag)) c.self.view_is)
+pub push_at-requires-clause-room : goal.push_at-requires-clause-room
+push_at-requires-clause-room g c = omega (arith, c.count-place.ensures.count, c.requires.room)

@@ -1,0 +1,51 @@
+-- A bucket whose entries are parted by flags, one a place.
+use Rattle.std.specs.Prelude.{◌≡◌, ◌≢◌, ℕ, ◌+◌, ◌<◌, ◌≤◌, List, [], ◌∷◌, ◌++◌, length, cond, slice_get, slice_index_or, Bool, Option, None}
+use Rattle.scc_array.specs.Windows.{Window, tag_there}
+use Rattle.scc_bucket.specs.Shelf.{Shelf}
+
+-- the elements whose flag is up, in their order
+abbrev pub picked : {X : Type 0} → List Bool → List X → List X
+picked [] xs = []
+picked (f ∷ fs) [] = []
+picked (f ∷ fs) (x ∷ xs) = cond f (x ∷ picked fs xs) (picked fs xs)
+
+-- the elements whose flag is down, in their order
+abbrev pub kept : {X : Type 0} → List Bool → List X → List X
+kept [] xs = []
+kept (f ∷ fs) [] = []
+kept (f ∷ fs) (x ∷ xs) = cond f (kept fs xs) (x ∷ kept fs xs)
+
+module _ {E : Type 0} where
+  -- the entries of a bucket whose flag is up, with their tags
+  abbrev pub picked_of : List Bool → Window E → Window E
+  picked_of fs w = record { slots = picked fs w.slots; tags = picked fs w.tags }
+
+  -- those whose flag is down
+  abbrev pub kept_of : List Bool → Window E → Window E
+  kept_of fs w = record { slots = kept fs w.slots; tags = kept fs w.tags }
+
+  -- the bucket v with the entries of w at its end
+  abbrev pub window_with : Window E → Window E → Window E
+  window_with v w = record { slots = v.slots ++ w.slots; tags = v.tags ++ w.tags }
+
+  -- the bucket s without the entries whose flag is up
+  abbrev pub shelf_kept : List Bool → Shelf E → Shelf E
+  shelf_kept fs s = record { slots = kept fs s.slots; tags = kept fs s.tags; overflow = s.overflow; room = s.room }
+
+  -- the bucket t with those entries of s in its next places
+  abbrev pub shelf_with : Shelf E → List Bool → Shelf E → Shelf E
+  shelf_with t fs s = record { slots = t.slots ++ picked fs s.slots; tags = t.tags ++ picked fs s.tags; overflow = t.overflow; room = t.room }
+
+  -- the 32 places from `base` on hold the entries of w, and the row their tags
+  pub record AreAt (places : List (Option E)) (row : List ℕ) (base : ℕ) (w : Window E) : Type 0 where
+    pub places_are : (j : ℕ) → j < 32 → slice_index_or places (base + j) None ≡ slice_get w.slots j
+    pub tags_are : (j : ℕ) → j < 32 → tag_there (slice_index_or row j 0) ≡ slice_get w.tags j
+    pub most : length w.slots ≤ 32
+    pub same : length w.tags ≡ length w.slots
+
+-- what stood at `from` stands at `to`; where they differ, d stands at `from`; the others are as they were
+pub record Moves {X : Type 0} (d : X) (xs : List X) (from to : ℕ) (ys : List X) : Type 0 where
+  pub count : length ys ≡ length xs
+  pub there : slice_index_or ys to d ≡ slice_index_or xs from d
+  pub gone : from ≢ to → slice_index_or ys from d ≡ d
+  pub others : (q : ℕ) → q ≢ from → q ≢ to → slice_index_or ys q d ≡ slice_index_or xs q d

@@ -1,0 +1,69 @@
+//! The entries of a bucket are parted: some go to other columns, and the others close their ranks.
+ghost use Rattle.std.specs.Prelude.{◌≡◌, ◌<◌, ◌≤◌, ◌+◌, ◌⊎◌, ◌^◌, ℕ, length, slice_index_or, slice_set, None};
+ghost use Rattle.scc_array.specs.Sifts.{kept_of, picked_of, window_with, AreAt, Moves};
+ghost use Rattle.scc_array.specs.Windows.{Window, window_of};
+ghost use Rattle.scc_slots.specs.Places.{IsFilled};
+
+use crate::columns::Columns;
+use scc_slots::Slots;
+
+/// Moves an entry and its tag to an earlier place, which is free, or leaves it where it is. The places of the row begin at `base`.
+#[inline(always)]
+fn keep_at<E>(slots: &mut Slots<E>, row: &mut [u8; 32], base: usize, from: usize, to: usize)
+    requires order { to ≤ from }
+    requires places { from < 32 }
+    requires small { base + from < 2 ^ 64 }
+    requires within { base + from < length slots.old }
+    requires filled { IsFilled slots.old (base + from) }
+    requires free { to < from → slice_index_or slots.old (base + to) None ≡ None }
+    ensures entries { Moves None slots.old (base + from) (base + to) slots.new }
+    ensures tags { Moves 0 row.old from to row.new }
+{
+    if to == from {
+        return;
+    }
+    slots.move_place(base + from, base + to);
+    let tag = row[from];
+    row[to] = tag;
+    row[from] = 0;
+}
+
+/// Moves the entries of a row whose flag is up to the end of a bucket of the columns, where `first` stand, and the others to the row's first places, both in order. The places of the row begin at `base`, and so many are in use. Each entry is looked at once.
+#[inline(always)]
+pub(crate) fn sift<E>(
+    slots: &mut Slots<E>,
+    row: &mut [u8; 32],
+    base: usize,
+    held: usize,
+    flags: &[bool; 32],
+    into: &mut Columns<E>,
+    target: usize,
+    first: usize,
+)
+    requires target { target < length into.old }
+    requires first { first ≡ length (window_of into.old target).slots }
+    requires room { first + held ≤ 32 }
+    requires small { base + 32 < 2 ^ 64 }
+    requires within { base + 32 ≤ length slots.old }
+    requires held { (w : Window E) × AreAt slots.old row.old base w × (held ≡ length w.slots) }
+    ensures stays { (w : Window E) → AreAt slots.old row.old base w → held ≡ length w.slots → AreAt slots.new row.new base (kept_of flags.now w) }
+    ensures moved { (w : Window E) → AreAt slots.old row.old base w → held ≡ length w.slots → into.new ≡ slice_set into.old target (window_with (window_of into.old target) (picked_of flags.now w)) }
+    ensures count { length slots.new ≡ length slots.old }
+    ensures wide { length row.new ≡ length row.old }
+    ensures others { (q : ℕ) → (q < base) ⊎ (base + 32 ≤ q) → slice_index_or slots.new q None ≡ slice_index_or slots.old q None }
+{
+    let mut stays = 0;
+    let mut next = first;
+    for p in 0..held {
+        if flags[p] {
+            let tag = row[p];
+            row[p] = 0;
+            let entry = slots.take(base + p);
+            into.push_at(target, next, entry, tag);
+            next += 1;
+        } else {
+            keep_at(slots, row, base, p, stays);
+            stays += 1;
+        }
+    }
+}
