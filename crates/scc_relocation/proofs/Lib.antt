@@ -4,5 +4,6 @@ pub mod Counted
 pub mod Draining
 pub mod FromBuckets
 pub mod Numbers
+pub mod Parted
 pub mod Pulling
 pub mod Sublists

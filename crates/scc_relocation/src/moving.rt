@@ -1,5 +1,5 @@
 //! How the entries of one bucket of the new array come out of the old one.
-ghost use Rattle.std.specs.Prelude.{◌≡◌, ◌<◌, ◌≤◌, ◌+◌, ◌^◌, ◌*◌, ℕ, [], length, map, slice_set, IfOk, OnOk, OnErr};
+ghost use Rattle.std.specs.Prelude.{◌≡◌, ◌==◌, ◌<◌, ◌≤◌, ◌+◌, ◌^◌, ◌*◌, ℕ, [], length, map, slice_get, slice_set, Some, IfOk, OnOk, OnErr};
 ghost use Rattle.std.specs.List.{flat_map, IsDistinct};
 ghost use Rattle.scc_array.specs.Shelves.{shelf_of};
 ghost use Rattle.scc_bucket.specs.Shelf.{empty_shelf, shelf_entries};
@@ -19,8 +19,34 @@ use std::hash::{BuildHasher, Hash};
 /// How many entries may lie in the overflow lists of both arrays: fewer than this.
 pub const OVERFLOW_LIMIT: usize = 1 << 62;
 
-/// Moves the entries of one old bucket that belong to the target to the end of the bucket of that number, in order. It has room for them, so no memory is taken. The others stay in their order. `table` has the hasher.
-fn pull<E: Keyed, H: BuildHasher>(
+/// Whether the entry in each place of an old bucket belongs to the target. `table` has the hasher.
+#[inline(always)]
+fn flags_of<E: Keyed, H: BuildHasher>(
+    old: &Array<E>,
+    source: usize,
+    target: usize,
+    table: &Table<E, H>,
+    skipped: u32,
+    count: usize,
+) -> [bool; 32]
+where
+    E::Key: Eq + Hash,
+    requires bits { skipped < 64 }
+    requires source { source < length old.now }
+    ensures { (j : ℕ) (e : E) → slice_get (shelf_of old.now source).slots j ≡ Some e → slice_get result j ≡ Some (bucket_number skipped count (key_hash H.BuildHasher H.Hasher.Hasher E.Key.hash_input table.now (E.key_of e)) == target) }
+{
+    let slots = old.slot_count(source);
+    let mut flags = [false; 32];
+    for place in 0..slots {
+        let hash = table.hash(old.entry_of(source, place, slots).key());
+        flags[place] = bucket_index(hash, skipped, count) == target;
+    }
+    flags
+}
+
+/// The same, entry by entry, for buckets with entries past their places.
+#[cold]
+fn pull_each<E: Keyed, H: BuildHasher>(
     into: &mut Array<E>,
     old: &mut Array<E>,
     source: usize,
@@ -52,6 +78,36 @@ where
             place += 1;
         }
     }
+}
+
+/// Moves the entries of one old bucket that belong to the target to the end of the bucket of that number, in order. It has room for them, so no memory is taken. The others stay in their order. `table` has the hasher.
+fn pull<E: Keyed, H: BuildHasher>(
+    into: &mut Array<E>,
+    old: &mut Array<E>,
+    source: usize,
+    target: usize,
+    table: &Table<E, H>,
+    skipped: u32,
+    count: usize,
+)
+where
+    E::Key: Eq + Hash,
+    requires bits { skipped < 64 }
+    requires source { source < length old.old }
+    requires few { length (shelf_of old.old source).overflow < 2 ^ 62 }
+    requires own { IsOwn (λ e. key_hash H.BuildHasher H.Hasher.Hasher E.Key.hash_input table.now (E.key_of e)) skipped (length old.old) source (shelf_of old.old source) }
+    requires target { target < length into.old }
+    requires packed { IsPacked (λ e. key_hash H.BuildHasher H.Hasher.Hasher E.Key.hash_input table.now (E.key_of e)) (shelf_of into.old target) }
+    requires room { length (shelf_entries (shelf_of into.old target)) + length (bound_for (λ e. key_hash H.BuildHasher H.Hasher.Hasher E.Key.hash_input table.now (E.key_of e)) skipped count target (shelf_entries (shelf_of old.old source))) ≤ 32 + (shelf_of into.old target).room }
+    ensures pulls { Pulls (λ e. key_hash H.BuildHasher H.Hasher.Hasher E.Key.hash_input table.now (E.key_of e)) skipped count target source old.old (shelf_of into.old target) old.new (shelf_of into.new target) }
+    ensures others { into.new ≡ slice_set into.old target (shelf_of into.new target) }
+{
+    if old.overflow_len(source) == 0 && into.slot_count(target) + old.slot_count(source) <= 32 {
+        let flags = flags_of(old, source, target, table, skipped, count);
+        old.split(source, &flags, into, target);
+        return;
+    }
+    pull_each(into, old, source, target, table, skipped, count);
 }
 
 /// Moves the entries of all old buckets that belong to the target to the end of the bucket of that number, in order, where only the old buckets from `first` up to before `last` hold such entries. It has room for them. The others stay in their order.

@@ -5,8 +5,8 @@ use Rattle.scc_table.specs.Contents.{key_hash}
 use Rattle.scc_table.specs.Routing.{bucket_number, tag_of}
 use Rattle.scc_relocation.proofs.Buckets.{still-within, later-is, later-own}
 use Rattle.scc_relocation.proofs.Pulling.{pull-below, pull-room, pull-move, pull-skip}
-use Rattle.scc_relocation.proofs.moving.pull.Goals as goal
-use Rattle.scc_relocation.proofs.moving.pull.Goals.{then-bucket_index-target, else-bucket_index-target}
+use Rattle.scc_relocation.proofs.moving.pull_each.Goals as goal
+use Rattle.scc_relocation.proofs.moving.pull_each.Goals.{then-bucket_index-target, else-bucket_index-target}
 
 pub insert_within-requires-clause-room : goal.insert_within-requires-clause-room
 insert_within-requires-clause-room g c =
