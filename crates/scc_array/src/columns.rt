@@ -7,6 +7,8 @@ ghost use Rattle.scc_array.specs.Apart.{AreColumns};
 ghost use Rattle.scc_array.specs.Windows.{empty_window, window_of, pushed, popped_over, shifted_out, IsColumns, IsTagged};
 ghost use Rattle.scc_slots.specs.Places.{IsDrained};
 
+mod finding;
+
 use crate::shifts::close_gap;
 use scc_bucket::Keyed;
 use scc_bucket::tags::{lowest_bit, tag_mask, without_lowest_bit};
