@@ -3,6 +3,7 @@ pub mod Bucket
 pub mod Counting
 pub mod Drained
 pub mod Empty
+pub mod Finds
 pub mod Gathering
 pub mod Gets
 pub mod Joined

@@ -5,6 +5,7 @@ ghost use Rattle.scc_bucket.specs.Shelf.{shelf_entries, empty_shelf, with_slot, 
 ghost use Rattle.std.specs.List.{position};
 
 mod apart;
+mod finding;
 mod reads;
 mod room;
 mod splitting;

@@ -8,6 +8,8 @@ ghost use Rattle.scc_array.specs.Sifts.{kept_of, picked_of, window_with};
 ghost use Rattle.scc_array.specs.Windows.{empty_window, window_of, pushed, popped_over, shifted_out, IsColumns, IsTagged};
 ghost use Rattle.scc_slots.specs.Places.{IsDrained};
 
+mod finding;
+
 use crate::shifts::close_gap;
 use crate::sifting::sift;
 use scc_bucket::Keyed;

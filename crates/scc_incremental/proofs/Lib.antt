@@ -4,6 +4,7 @@ pub mod Begun
 pub mod Cloned
 pub mod CurrentChanges
 pub mod Doubling
+pub mod Finds
 pub mod Finishing
 pub mod Firsts
 pub mod FoundInList

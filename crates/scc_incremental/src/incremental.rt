@@ -7,6 +7,7 @@ ghost use Rattle.scc_incremental.specs.TwoArrays.{IsWaiting};
 mod bounded;
 mod cloning;
 mod doubling;
+mod finding;
 mod growing;
 mod inserting;
 mod lasting;

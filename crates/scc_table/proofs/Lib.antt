@@ -5,6 +5,7 @@ pub mod Bounds
 pub mod Cloning
 pub mod Counting
 pub mod Finding
+pub mod Finds
 pub mod Inserts
 pub mod Fresh
 pub mod KeyWrites

@@ -11,6 +11,7 @@ mod bounded;
 mod cloning;
 mod edits;
 mod exchange;
+mod finding;
 mod making;
 mod putting;
 mod removing;

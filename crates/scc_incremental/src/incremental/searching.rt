@@ -38,6 +38,7 @@ where
     }
 
     /// The same where some bucket waits.
+    #[cold]
     fn search_both(&self, hash: u64, key: &E::Key) -> Option<Place>
         requires pending { 0 < pending_of self.now }
         requires hashed { hash ≡ key_hash H.BuildHasher H.Hasher.Hasher E.Key.hash_input self.now key.now }

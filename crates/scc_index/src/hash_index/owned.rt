@@ -204,8 +204,8 @@ impl<K: Eq + Hash, V, H: BuildHasher> Owned<K, V, H> {
         ensures { MatchOption result (find K.eq (entries self.now) k.now ≡ None) (λ v. find K.eq (entries self.now) k.now ≡ Some v.now) }
     {
         let hash = self.table.hash(k);
-        match self.table.search(hash, k) {
-            Some(place) => Some(self.table.version_at(place)),
+        match self.table.find(hash, k) {
+            Some(shared) => Some(shared.version()),
             None => None,
         }
     }
@@ -216,12 +216,8 @@ impl<K: Eq + Hash, V, H: BuildHasher> Owned<K, V, H> {
         requires { (a : Bor K) (b : Bor V) → find K.eq (entries self.now) k.now ≡ Some (a.now, b.now) → F.pre f a b }
         ensures answer { Reads F.FnOnce f (find K.eq (entries self.now) k.now) result }
     {
-        let hash = self.table.hash(k);
-        match self.table.search(hash, k) {
-            Some(place) => {
-                let (key, value) = self.pair_at(place);
-                Some(f(key, value))
-            }
+        match self.peek(k) {
+            Some(version) => Some(f(version.key(), version.value())),
             None => None,
         }
     }

@@ -206,11 +206,8 @@ impl<K: Eq + Hash, V, H: BuildHasher> Owned<K, V, H> {
         ensures answer { Reads F.FnOnce f (find K.eq (entries self.now) k.now) result }
     {
         let hash = self.table.hash(k);
-        match self.table.search(hash, k) {
-            Some(place) => {
-                let (key, value) = self.table.pair_at(place);
-                Some(f(key, value))
-            }
+        match self.table.find(hash, k) {
+            Some(pair) => Some(f(&pair.0, &pair.1)),
             None => None,
         }
     }

@@ -1,12 +1,10 @@
-use Rattle.std.proofs.Common.{sym, ◌∙◌}
+use Rattle.std.proofs.Common.{Some, sym, ap, ◌∙◌}
 use Rattle.scc_table.specs.Contents.{entries}
-use Rattle.scc_table.proofs.Lookups.{find-position, find-position_none}
+use Rattle.scc_table.proofs.Finds.{lookup-find}
 use Rattle.scc_index.proofs.hash_index.owned.Owned.peek.Goals as goal
 
 pub returns-in-Some : goal.returns-in-Some
-returns-in-Some g c =
-    let f = find-position (g.K.PartialEq.eq c.args.k.now) (entries c.self.inside.table) _ c.in-Some.ensures.place.found in
-    rw (← c.self.view_is) (f.2 ∙ sym f.1 ∙ c.version_at.ensures)
+returns-in-Some g c = rw (← c.self.view_is) (lookup-find (g.K.PartialEq.eq c.args.k.now) (entries c.self.inside.table) ∙ sym c.in-Some.ensures ∙ ap Some (sym c.version.ensures))
 
 pub returns-in-None : goal.returns-in-None
-returns-in-None g c = rw (← c.self.view_is) (find-position_none (g.K.PartialEq.eq c.args.k.now) (entries c.self.inside.table) c.in-None.ensures.place)
+returns-in-None g c = rw (← c.self.view_is) (lookup-find (g.K.PartialEq.eq c.args.k.now) (entries c.self.inside.table) ∙ sym c.in-None.ensures)

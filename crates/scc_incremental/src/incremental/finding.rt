@@ -1,0 +1,56 @@
+//! A search that lends the entry itself.
+ghost use Rattle.std.specs.Prelude.{◌≡◌, ◌<◌};
+ghost use Rattle.std.specs.List.{find};
+ghost use Rattle.std.specs.Option.{option_copied};
+ghost use Rattle.scc_table.specs.Contents.{entries, bucket_count, key_hash, pending_of, settings_of};
+ghost use Rattle.scc_table.specs.Routing.{bucket_number};
+ghost use Rattle.scc_incremental.specs.TwoArrays.{IsWaiting};
+
+use super::Incremental;
+use scc_table::Keyed;
+use scc_table::route::{bucket_index, tag};
+use std::hash::{BuildHasher, Hash};
+
+impl<E: Keyed, H: BuildHasher> Incremental<E, H>
+where
+    E::Key: Eq + Hash,
+{
+    /// The entry with that key. `hash` is the key's hash.
+    #[inline(always)]
+    pub fn find(&self, hash: u64, key: &E::Key) -> Option<&E>
+        requires { hash ≡ key_hash H.BuildHasher H.Hasher.Hasher E.Key.hash_input self.now key.now }
+        ensures { option_copied result ≡ find (λ e. E.Key.eq key.now (E.key_of e)) (entries self.now) }
+    {
+        if self.pending == 0 {
+            return self.current.find(hash, key);
+        }
+        self.find_both(hash, key)
+    }
+
+    /// The same where some bucket waits.
+    #[cold]
+    fn find_both(&self, hash: u64, key: &E::Key) -> Option<&E>
+        requires pending { 0 < pending_of self.now }
+        requires hashed { hash ≡ key_hash H.BuildHasher H.Hasher.Hasher E.Key.hash_input self.now key.now }
+        ensures { option_copied result ≡ find (λ e. E.Key.eq key.now (E.key_of e)) (entries self.now) }
+    {
+        let bucket = self.current.bucket_at(hash);
+        if self.waiting[bucket] {
+            return self.find_old(bucket, hash, key);
+        }
+        self.current.keep_lists();
+        self.current.find(hash, key)
+    }
+
+    /// The same where the bucket of the hash, which is of that number, waits.
+    fn find_old(&self, bucket: usize, hash: u64, key: &E::Key) -> Option<&E>
+        requires waits { IsWaiting self.now bucket }
+        requires routed { bucket ≡ bucket_number (settings_of self.now).skipped (bucket_count self.now) hash }
+        requires hashed { hash ≡ key_hash H.BuildHasher H.Hasher.Hasher E.Key.hash_input self.now key.now }
+        ensures { option_copied result ≡ find (λ e. E.Key.eq key.now (E.key_of e)) (entries self.now) }
+    {
+        self.current.keep_lists();
+        let source = bucket_index(hash, self.skipped, self.draining.len());
+        self.draining.find(source, key, tag(hash))
+    }
+}
