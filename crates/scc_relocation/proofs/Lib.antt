@@ -5,4 +5,5 @@ pub mod Draining
 pub mod FromBuckets
 pub mod Numbers
 pub mod Pulling
+pub mod Stepped
 pub mod Sublists
