@@ -15,7 +15,6 @@ pub mod Shelves
 pub mod Shifting
 pub mod Spent
 pub mod Swapping
-pub mod Taken
 pub mod Totals
 pub mod Windows
 pub mod WritingOver

@@ -1,6 +1,5 @@
 -- An entry at the end of the list past the places of a bucket.
 use Rattle.std.proofs.Common.{◌≡◌, ℕ, ◌+◌, ◌<◌, ◌≤◌, List, [], ◌∷◌, ◌++◌, length, set, Result, Ok, Err, refl, sym, ap, ◌∙◌, arith}
-use Rattle.std.proofs.lemmas.List.{set-get_or}
 use Rattle.std.specs.Prelude.{IfOk, IfErr, OnErr, slice_get}
 use Rattle.std.specs.Vec.{vec_capacity}
 use Rattle.std.specs.declared.vec.Vec.{Vec}
@@ -48,10 +47,6 @@ bare-refused ws os bs view b within none =
     let z : spare (slice_get os b) ≡ 0 = ap (λ l. spare (slice_get l b)) (empty-list os none) in
     let r : spare (slice_get os b) ≡ (shelf_of bs b).room = ap (λ (s : Shelf _). s.room) (sym (shelf-is ws os bs view b within)) in
     omega arith
-
--- nothing changed, so the room of the bucket is what it was
-pub same-room : {E : Type 0} (bs : List (Shelf E)) (b : ℕ) → bs ≡ set bs b (record (shelf_of bs b) { room = (shelf_of bs b).room })
-same-room bs b = sym (set-get_or bs b _)
 
 -- a fact beside two others
 pub and-third : {X Y : Type 0} (r : Result X Y) (A B : Y → Type 0) (C : Type 0) → C → IfErr r (λ y. A y × B y) → IfErr r (λ y. A y × B y × C)

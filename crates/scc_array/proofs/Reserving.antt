@@ -1,6 +1,6 @@
 -- Room in the list past the places of a bucket.
 use Rattle.std.proofs.Common.{◌≡◌, ℕ, zero, suc, ◌+◌, ◌<◌, ◌≤◌, List, ◌∷◌, ◌++◌, [], length, set, nat_lt, Result, Ok, Err, refl, sym, ap, ◌∙◌, inl, inr, arith}
-use Rattle.std.proofs.lemmas.List.{get_or-set_same, set-get_or}
+use Rattle.std.proofs.lemmas.List.{get_or-set_same}
 use Rattle.std.specs.Prelude.{OnOk, slice_get, Some}
 use Rattle.std.specs.Vec.{vec_capacity}
 use Rattle.std.specs.declared.vec.Vec.{Vec}
@@ -14,11 +14,6 @@ use Rattle.scc_bucket.specs.Shelf.{Shelf, empty_shelf, with_entry}
 -- the shelf that was put there
 pub shelf-put : {E : Type 0} (bs ds : List (Shelf E)) (b : ℕ) (s : Shelf E) → b < length bs → ds ≡ set bs b s → shelf_of ds b ≡ s
 shelf-put bs ds b s h e = ap (λ v. shelf_of v b) e ∙ get_or-set_same bs b s empty_shelf h
-
--- nothing changed
-pub same-shelves : {E : Type 0} (bs ds : List (Shelf E)) (b : ℕ) → ds ≡ bs → ds ≡ set bs b (record (shelf_of bs b) { room = (shelf_of ds b).room })
-same-shelves bs ds b e =
-    e ∙ sym (set-get_or bs b empty_shelf) ∙ ap (λ (v : List (Shelf _)). set bs b (record (shelf_of bs b) { room = (shelf_of v b).room })) (sym e)
 
 module _ {E A : Type 0} (ws : List (Window E)) (ds : List (Vec E A)) (bs : List (Shelf E)) (view : shelves ws ds ≡ bs) (b : ℕ) (within : b < length bs) (there : b < length ds) where
   module _ (u v : Vec E A) (held : slice_get ds b ≡ Some u) (items : v.items ≡ u.items) (es : List (Vec E A)) (changed : es ≡ set ds b v) where

@@ -108,9 +108,6 @@ shelves-empty E A n =
 pub no-list : {E A : Type 0} (os : List (Vec E A)) (b : ℕ) → os ≡ [] → spilled (slice_get os b) ≡ []
 no-list os b e = ap (λ l. spilled (slice_get l b)) e
 
-pub some-list : {E A : Type 0} (os : List (Vec E A)) → 0 < length os → os ≢ []
-some-list os h e = let z : length os ≡ 0 = ap length e in omega arith
-
 pub empty-list : {E A : Type 0} (os : List (Vec E A)) → length os ≡ 0 → os ≡ []
 empty-list [] e = refl
 empty-list (o ∷ os) e = absurd (omega arith)

@@ -1,4 +1,3 @@
-pub mod Apart
 pub mod LendsArray
 pub mod LendsColumns
 pub mod Lists

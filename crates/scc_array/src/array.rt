@@ -4,7 +4,7 @@ ghost use Rattle.scc_array.specs.Shelves.{shelf_of};
 ghost use Rattle.scc_bucket.specs.Shelf.{shelf_entries, empty_shelf, with_slot, with_overflow, with_entry, next_place, without_place, swapped_out, HasTag};
 ghost use Rattle.std.specs.List.{position};
 
-mod apart;
+mod ending;
 mod finding;
 mod reads;
 mod room;
@@ -13,7 +13,6 @@ mod writes;
 
 use crate::columns::Columns;
 use crate::lists::{open_lists, push_to};
-pub use apart::Parts;
 use scc_bucket::Keyed;
 use std::alloc::{AllocError, Global};
 use std::marker::Model;

@@ -3,7 +3,6 @@ ghost use Rattle.std.specs.Prelude.{◌≡◌, ◌^◌, ◌≤◌, ◌<◌, ◌+
 ghost use Rattle.std.specs.Borrow.{sem};
 ghost use Rattle.std.specs.Int.{bit_at};
 ghost use Rattle.std.specs.List.{position};
-ghost use Rattle.scc_array.specs.Apart.{AreColumns};
 ghost use Rattle.scc_array.specs.Sifts.{kept_of, picked_of, window_with};
 ghost use Rattle.scc_array.specs.Windows.{empty_window, window_of, pushed, popped_over, shifted_out, IsColumns, IsTagged};
 ghost use Rattle.scc_slots.specs.Places.{IsDrained};
@@ -213,14 +212,6 @@ impl<E> Columns<E> {
         ensures entry { slice_get (window_of self.old bucket).slots place ≡ Some result.now }
     {
         self.slots.get_mut(32 * bucket + place)
-    }
-
-    /// The tags of all buckets, and their places.
-    pub fn into_parts(self) -> (Vec<[u8; 32]>, Slots<E>)
-        ensures { AreColumns self result.0.items result.1 }
-    {
-        let Columns { tags, slots } = self;
-        (tags, slots)
     }
 
     /// Gives the columns back, which hold no entry.

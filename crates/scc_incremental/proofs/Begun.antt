@@ -7,22 +7,21 @@ use Rattle.std.proofs.lemmas.List.{length-replicate}
 use Rattle.std.proofs.lemmas.List.Concat.{length-flat_map}
 use Rattle.scc_array.specs.Shelves.{shelf_of}
 use Rattle.scc_bucket.specs.Shelf.{Shelf, shelf_entries, empty_shelf}
-use Rattle.scc_table.specs.Contents.{Contents, entries, bucket_count, lists_of, refused_of, settings_of, spilled_of, waiting_of, pending_of}
+use Rattle.scc_table.specs.Contents.{Contents, entries, bucket_count, lists_of, settings_of, spilled_of, pending_of}
 use Rattle.scc_table.specs.Pour.{IsRegrouped}
 use Rattle.scc_table.specs.Sizes.{IsArray}
 use Rattle.scc_table.specs.Tables.{IsTable}
 use Rattle.scc_table.proofs.Arrays.{shelf-at}
 use Rattle.scc_relocation.specs.Moves.{TakesOver}
-use Rattle.scc_incremental.specs.TwoArrays.{settle, together, waits_at, IsIncremental, IsRelocated}
+use Rattle.scc_incremental.specs.TwoArrays.{together, waits_at, IsIncremental, IsRelocated}
 use Rattle.scc_incremental.proofs.Alone.{entries-alone}
 use Rattle.scc_relocation.proofs.Arriving.{count-were, entries-were, list-were}
 use Rattle.scc_relocation.proofs.Counted.{bound-le}
 use Rattle.scc_incremental.proofs.Grown.{but-one}
-use Rattle.scc_incremental.proofs.Joining.{waiting-together, refused-together}
 use Rattle.scc_incremental.proofs.Relocated.{fields-after, others, relocated-after, Settles}
 use Rattle.scc_incremental.proofs.Same.{entries-same, regrouped-same}
 use Rattle.scc_incremental.proofs.Starting.{bare-lists, flags-up, permuted-all, started-fields, started-lists}
-use Rattle.scc_incremental.proofs.Viewed.{count-seen, refused-seen, settled-flags, settings-seen}
+use Rattle.scc_incremental.proofs.Viewed.{count-seen, settled-flags, settings-seen}
 
 -- the present array has the contents c, and nothing waits; then the contents are d, of n empty buckets
 module _ {E K S : Type 0} (eq : K → K → Bool) (laws : IsEquivalence eq) (key : E → K) (hash : K → ℕ) (c d : Contents E S) (ws : List Bool) (rest : List (Shelf E)) (skipped pending next aside spare : ℕ)
@@ -102,9 +101,3 @@ module _ {E K S : Type 0} (eq : K → K → Bool) (laws : IsEquivalence eq) (key
 
       pub taken-same : IsPermutation (entries a) (entries (together inner e vs news))
       taken-same = subst (λ es. IsPermutation (entries a) es) (sym (entries-same (together inner d (replicate n true) olds) (together inner e vs news) there.lists)) begun-same
-
-      pub taken-waiting : waiting_of (together inner e vs news) ≡ settle (replicate n true) k
-      taken-waiting = there.waiting ∙ ap (λ w. settle w k) (waiting-together inner d (replicate n true) olds)
-
-      pub taken-noted : refused_of d ≡ refused_of c → refused_of (together inner e vs news) ≡ refused_of a
-      taken-noted same = there.refused ∙ refused-together inner d (replicate n true) olds ∙ same ∙ sym (refused-seen inner c ws rest a view)

@@ -48,10 +48,6 @@ module _ {E S : Type 0} (hash : E → ℕ) (c : Contents E S) (ws : List Bool) (
   unfolding pending_of
   pending-together = refl
 
-  count-lists : bucket_count c ≡ length (lists_of c)
-  unfolding bucket_count lists_of
-  count-lists = refl
-
   pub count-together : (ws ≡ []) ⊎ (length ws ≡ bucket_count c) → bucket_count (together hash c ws olds) ≡ bucket_count c
   unfolding bucket_count lists_of
   count-together flags = length-joined (target_by hash c) (flat_map shelf_entries olds) 0 ws c.lists flags

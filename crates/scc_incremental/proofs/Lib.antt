@@ -37,7 +37,6 @@ pub mod Settling
 pub mod Short
 pub mod Spreading
 pub mod Starting
-pub mod Stepped
 pub mod TakeSteps
 pub mod Taken
 pub mod TakenFrom

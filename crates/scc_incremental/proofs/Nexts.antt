@@ -1,5 +1,5 @@
 -- Where steps in the old array lead.
-use Rattle.std.proofs.Common.{◌≡◌, ◌==◌, ℕ, suc, ◌+◌, ◌-◌, ◌^◌, ◌<◌, ◌≤◌, ◌⊎◌, inl, inr, Bool, true, false, cond, nat_lt, rules, add-one, Some, List, [], ◌∷◌, length, map, take, refl, sym, ap, ◌∙◌, subst, arith, length-append}
+use Rattle.std.proofs.Common.{◌≡◌, ◌==◌, ℕ, suc, ◌+◌, ◌-◌, ◌^◌, ◌<◌, ◌≤◌, inl, inr, Bool, true, false, cond, nat_lt, rules, add-one, Some, List, [], ◌∷◌, length, map, take, refl, sym, ap, ◌∙◌, subst, arith, length-append}
 use Rattle.std.proofs.lemmas.List.{get_or_past, length-map, take_all}
 use Rattle.std.specs.List.{count_by, flat_map, slice_get}
 use native.Mathlib.Decide.{dec_lt}
@@ -13,15 +13,16 @@ use Rattle.scc_table.specs.declared.place.Place.{Place}
 use Rattle.scc_table.proofs.Standing.{index-after, index-below}
 use Rattle.scc_relocation.specs.Moves.{AreOwn, IsWithinSources}
 use Rattle.scc_incremental.specs.Places.{held_before, index_of, spot_of, StandsAt}
-use Rattle.scc_incremental.specs.Stepping.{entries_before, index_on, own, old, rank_on, spot_on, IsStart, StandsNext}
-use Rattle.scc_incremental.specs.TwoArrays.{held_in, target_by, together, TwoArrays, waits_at}
+use Rattle.scc_incremental.specs.Stepping.{index_on, own, old, rank_on, spot_on, IsStart}
+use Rattle.scc_relocation.specs.Stepping.{entries_before, StandsNext}
+use Rattle.scc_incremental.specs.TwoArrays.{target_by, together, TwoArrays, waits_at}
 use Rattle.scc_relocation.proofs.Draining.{before-none, take-all_bound}
 use Rattle.scc_incremental.proofs.Joining.{count-together, held-together, waiting-together}
 use Rattle.scc_incremental.proofs.OldSpots.{count-map, held-before, held-some, old-place, old-spot, old-waits, own-list, own-place, own-spot}
 use Rattle.scc_relocation.proofs.FromBuckets.{few-each}
 use Rattle.scc_incremental.proofs.Preparing.{long-flags, waiting-list}
 use Rattle.scc_incremental.proofs.Relocating.{up-within}
-use Rattle.scc_incremental.proofs.Stepped.{before-start, bound-count}
+use Rattle.scc_relocation.proofs.Stepped.{before-start, bound-count}
 
 -- each old bucket holds fewer entries than a word counts
 pub few-entries : {E : Type 0} (hash : E → ℕ) (t : ℕ) (olds : List (Shelf E)) (aside : ℕ) → AreOwn hash t olds → spilled_in olds ≤ aside → aside < 2 ^ 62 → (j : ℕ) → length (shelf_entries (shelf_of olds j)) < 2 ^ 63

@@ -12,7 +12,7 @@ use Rattle.scc_table.specs.Pour.{bound_for}
 use Rattle.scc_table.specs.Sizes.{IsArray}
 use Rattle.scc_table.specs.Tables.{IsOwn, spilled_in}
 use Rattle.scc_table.proofs.Arrays.{drop-got}
-use Rattle.scc_incremental.specs.Stepping.{entries_before}
+use Rattle.scc_relocation.specs.Stepping.{entries_before}
 use Rattle.scc_relocation.specs.Moves.{AreMultiples}
 use Rattle.scc_incremental.specs.TwoArrays.{waits_at, target_by, together, TwoArrays, IsIncremental}
 use Rattle.scc_incremental.proofs.JoinedChanges.{joined-changed}

@@ -1,5 +1,5 @@
 -- Where an entry that waits stands, and one that doesn't.
-use Rattle.std.proofs.Common.{◌≡◌, ◌==◌, ℕ, zero, suc, ◌+◌, ◌-◌, ◌<◌, ◌≤◌, ◌⊎◌, inl, inr, Bool, true, false, cond, nat_lt, Option, Some, None, List, [], ◌∷◌, ◌++◌, length, map, take, get_or, refl, sym, ap, ◌∙◌, subst, arith, rules, append_assoc, length-append, eq-eqb}
+use Rattle.std.proofs.Common.{◌≡◌, ◌==◌, ℕ, zero, suc, ◌+◌, ◌-◌, ◌<◌, ◌≤◌, inl, inr, Bool, true, false, cond, nat_lt, Some, None, List, [], ◌∷◌, ◌++◌, length, map, take, get_or, refl, sym, ap, ◌∙◌, subst, arith, rules, append_assoc, length-append}
 use Rattle.std.specs.List.{filter, flat_map, count_by, slice_get}
 use Rattle.std.proofs.lemmas.List.{get_or-map, length-map, get_or_past}
 use Rattle.std.proofs.lemmas.List.Sums.{length-filter}
@@ -7,20 +7,19 @@ use native.Mathlib.Decide.{dec_lt}
 use Rattle.scc_array.specs.Shelves.{shelf_of}
 use Rattle.scc_bucket.specs.Shelf.{Shelf, shelf_entries, empty_shelf}
 use Rattle.scc_bucket.proofs.Lists.{get-below, get-right}
-use Rattle.scc_table.specs.Contents.{Contents, entries, bucket_count, list_of, lists_of, settings_of, waiting_of, held_of}
+use Rattle.scc_table.specs.Contents.{Contents, entries, bucket_count, list_of, lists_of, settings_of, held_of}
 use Rattle.scc_table.specs.Places as spots
 use Rattle.scc_table.specs.Pour.{bound_for}
-use Rattle.scc_table.specs.Routing.{bucket_number}
 use Rattle.scc_table.specs.declared.place.Place.{Place}
 use Rattle.scc_table.proofs.PairSplits.{by_answer}
 use Rattle.scc_table.proofs.Pours.{bound_append, bound_here}
 use Rattle.scc_table.proofs.Spots.{place-get}
 use Rattle.scc_incremental.specs.Places.{IsPlace, held_before, index_of, spot_by, spot_in, spot_of}
-use Rattle.scc_incremental.specs.Stepping.{entries_before}
+use Rattle.scc_relocation.specs.Stepping.{entries_before}
 use Rattle.scc_incremental.specs.TwoArrays.{held_in, joined, target_by, together, TwoArrays, waits_at}
 use Rattle.scc_incremental.proofs.Joining.{count-together, get-joined, held-together, waiting-together}
 use Rattle.scc_incremental.proofs.Preparing.{long-flags, waiting-list}
-use Rattle.scc_incremental.proofs.Relocated.{count-is, list-is}
+use Rattle.scc_incremental.proofs.Relocated.{count-is}
 use Rattle.scc_incremental.proofs.Relocating.{up-within}
 
 map-append : {X Y : Type 0} (f : X → Y) (xs ys : List X) → map f (xs ++ ys) ≡ map f xs ++ map f ys

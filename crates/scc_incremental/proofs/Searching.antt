@@ -19,7 +19,7 @@ use Rattle.scc_table.proofs.Finding.{HashOf, NoneOf, position_cons, position_fla
 use Rattle.scc_table.proofs.PairSplits.{by_answer}
 use Rattle.scc_table.proofs.Pours.{bound_append, bound_here}
 use Rattle.scc_incremental.specs.Places.{IsFoundAt, IsPlace, index_of, spot_of}
-use Rattle.scc_incremental.specs.Stepping.{entries_before}
+use Rattle.scc_relocation.specs.Stepping.{entries_before}
 use Rattle.scc_incremental.specs.TwoArrays.{target_by, together, TwoArrays, waits_at}
 use Rattle.scc_incremental.proofs.Joining.{count-together, lists-together, settings-together}
 use Rattle.scc_incremental.proofs.OldSpots.{old-spot, old-waits, own-list, own-spot, rank_of, split-old}

@@ -1,7 +1,7 @@
 -- Tables of two arrays whose lists hold at most 32 entries each.
 use Rattle.std.proofs.Common.{◌≡◌, ◌==◌, ◌≢◌, ℕ, zero, suc, ◌+◌, ◌*◌, ◌/◌, ◌<◌, ◌≤◌, ◌⊎◌, inl, inr, Bool, true, false, Option, None, Some, List, [], ◌∷◌, ◌++◌, length, set, get_or, take, drop, refl, sym, ap, ◌∙◌, subst, arith, div-lt_iff_lt-mul, eqb-true, eq-eqb, get_or-take, get_or-drop, length-append, length-take, mul_comm}
 use Rattle.std.specs.List.{count_by, filter, flat_map, slice_get}
-use Rattle.std.proofs.lemmas.List.{append-nil, get_or_past, nil_from_length, take_more, take-append-drop}
+use Rattle.std.proofs.lemmas.List.{append-nil, get_or_past, take_more, take-append-drop}
 use Rattle.std.proofs.lemmas.List.Concat.{flat_map-append}
 use native.Mathlib.Decide.{dec_lt}
 use Rattle.scc_table.specs.Bounded.{HasList, IsBounded, IsListed, IsResized, PutsLast}
@@ -63,10 +63,6 @@ module _ {E S : Type 0} where
   pub list-none : (d : Contents E S) → entries d ≡ [] → (i : ℕ) → list_of d i ≡ []
   unfolding entries list_of
   list-none d none i = none-in d.lists i none
-
-  pub entries-none : (c : Contents E S) → bucket_count c ≡ 0 → entries c ≡ []
-  unfolding entries bucket_count
-  entries-none c none = ap (flat_map (λ l. l)) (nil_from_length c.lists none)
 
   pub listed-none : (hash : E → ℕ) (d : Contents E S) → IsArray (bucket_count d) → IsBounded d → entries d ≡ [] → IsListed hash d
   listed-none hash d array bounded none = record {

@@ -1,18 +1,13 @@
 -- What waits after a resize was tried.
-use Rattle.std.proofs.Common.{◌≡◌, ◌≢◌, ℕ, ◌*◌, ◌<◌, ◌≤◌, length, max, refl, sym, ap, ◌∙◌, subst, arith}
+use Rattle.std.proofs.Common.{◌≡◌, ◌≢◌, ℕ, ◌*◌, ◌<◌, ◌≤◌, length, max, sym, ap, ◌∙◌, subst, arith}
 use Rattle.scc_table.specs.Contents.{Contents, entries, bucket_count, minimum_of, pending_of, waiting_of, held_of}
 use Rattle.scc_table.specs.Sizes.{IsArraySize, IsSmaller}
-use Rattle.scc_table.specs.Steps.{IsUnchanged}
 use Rattle.scc_table.proofs.Powers.{size-once}
 use Rattle.scc_incremental.specs.Relocates.{IsGrowthDue, IsShrinkDue, Spreads}
 use Rattle.scc_incremental.specs.TwoArrays.{IsWaiting, waits_at}
 use Rattle.scc_incremental.proofs.Same.{pending-same}
 
 module _ {E S : Type 0} {due : Type 0} (c d : Contents E S) where
-  -- it was none
-  pub spreads-same : Spreads due c c
-  spreads-same = record { all = λ ne. absurd (ne refl); fewer = λ e i w. w; less = λ e. omega arith; waiting = λ no. refl; held = λ no. refl }
-
   -- it came
   pub spreads-all : (n : ℕ) → bucket_count d ≡ n → n ≢ bucket_count c → pending_of d ≡ n → due → Spreads due c d
   spreads-all n count other pending is =

@@ -2,6 +2,5 @@
 #![tactic(auto)]
 
 pub mod incremental;
-mod stepping;
 
 pub use incremental::Incremental;

@@ -1,5 +1,5 @@
 -- A table one of whose buckets, which was empty, gets the entries that come from the old array.
-use Rattle.std.proofs.Common.{◌≡◌, ◌==◌, ℕ, ◌+◌, ◌^◌, ◌<◌, ◌≤◌, ◌⊎◌, inl, inr, Bool, true, List, [], ◌∷◌, ◌++◌, length, map, set, get_or, refl, sym, ap, ◌∙◌, subst, arith, length-append, Result, Ok, Err, eqb-true, lit<}
+use Rattle.std.proofs.Common.{◌≡◌, ◌==◌, ℕ, ◌+◌, ◌^◌, ◌<◌, ◌≤◌, ◌⊎◌, inl, inr, Bool, true, List, [], length, map, set, get_or, refl, sym, ap, ◌∙◌, subst, arith, length-append, Result, Ok, Err, eqb-true, lit<}
 use Rattle.std.specs.Prelude.{OnOk, OnErr}
 use Rattle.std.specs.List.{flat_map, IsDistinct}
 use Rattle.std.proofs.lemmas.List.{map-set, length-map, get_or-map, set-get_or}
@@ -13,10 +13,6 @@ use Rattle.scc_table.specs.Tables.{IsOwn, IsTable}
 use Rattle.scc_table.proofs.Inserts.{table_set}
 use Rattle.scc_table.proofs.Views.{flat_lists}
 use Rattle.scc_relocation.specs.Moves.{Drains}
-
-pub by_result : {X Y : Type 0} {P Q : Type 0} (r : Result X Y) → OnOk r P → OnErr r Q → P ⊎ Q
-by_result (Ok x) p q = inl p
-by_result (Err y) p q = inr q
 
 shelf_with : {E : Type 0} → List E → List ℕ → List E → ℕ → Shelf E
 shelf_with slots tags overflow room = record { slots = slots; tags = tags; overflow = overflow; room = room }
@@ -99,10 +95,6 @@ module _ {E S : Type 0} (c : Contents E S) (bs : List (Shelf E)) (were : lists_o
   pub entries-were : entries c ≡ flat_map shelf_entries bs
   unfolding entries lists_of
   entries-were = ap (flat_map (λ l. l)) were ∙ flat_lists bs
-
--- no bucket, and so a table
-pub no-table : {E : Type 0} (hash : E → ℕ) (t : ℕ) (bs : List (Shelf E)) → bs ≡ [] → IsTable hash t bs 0 0
-no-table hash t bs e = subst (λ (z : List (Shelf _)). IsTable hash t z 0 0) (sym e) (record { sized = inl refl; counted = refl; spilled = refl; few = lit< tt; own = λ i b l at. absurd (omega arith) })
 
 -- keys stay distinct where nothing came in, and are so where the new lists' keys are
 module _ {E K S : Type 0} (eq : K → K → Bool) (key : E → K) (c : Contents E S) (bs : List (Shelf E)) (were : lists_of c ≡ map shelf_entries bs) (i : ℕ) (d : Shelf E) where

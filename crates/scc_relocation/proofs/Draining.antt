@@ -1,5 +1,5 @@
 -- The old buckets, of which the entries of a target are taken out one bucket after the other.
-use Rattle.std.proofs.Common.{◌≡◌, ◌==◌, ℕ, suc, ◌+◌, ◌^◌, ◌<◌, ◌≤◌, ◌≢◌, inl, inr, List, [], ◌∷◌, ◌++◌, length, take, drop, refl, sym, ap, ◌∙◌, subst, arith, length-append, length-set, length-take, append_assoc, get_or-set_other, get_or-take, get_or-drop}
+use Rattle.std.proofs.Common.{◌≡◌, ◌==◌, ℕ, suc, ◌+◌, ◌<◌, ◌≤◌, ◌≢◌, inl, inr, List, [], ◌∷◌, ◌++◌, length, take, drop, refl, sym, ap, ◌∙◌, subst, arith, length-append, length-set, length-take, append_assoc, get_or-set_other, get_or-take, get_or-drop}
 use Rattle.std.specs.List.{flat_map}
 use Rattle.std.proofs.lemmas.List.{append-nil, drop_more, take_more, take-append-drop, get_or_past}
 use Rattle.std.proofs.lemmas.List.Concat.{flat_map-append}
@@ -91,12 +91,6 @@ module _ {E : Type 0} (hash : E → ℕ) (t n i first last : ℕ) (olds : List (
         }
 
     module _ (m : ℕ) (p : DrainsUntil hash t n i olds a news b m) (l : m < last) where
-      pub drain-within : m < length news
-      drain-within = omega (arith, p.count, sources.within)
-
-      pub drain-own : IsOwn hash t (length news) m (shelf_of news m)
-      drain-own = let q : m < length olds = omega (arith, sources.within) in subst (λ k. IsOwn hash t k m (shelf_of news m)) (sym p.count) (p.own m q)
-
       pub drain-room : length (shelf_entries a) + length (bound_for hash t n i (flat_map shelf_entries olds)) ≤ 32 + a.room → length (shelf_entries b) + length (bound_for hash t n i (shelf_entries (shelf_of news m))) ≤ 32 + b.room
       drain-room room =
           let q : m < length olds = omega (arith, sources.within) in
@@ -111,9 +105,6 @@ module _ {E : Type 0} (hash : E → ℕ) (t n i first last : ℕ) (olds : List (
           let n2 : length (ys ++ zs) ≡ length ys + length zs = length-append ys zs in
           let n3 : length (shelf_entries b) ≡ length (shelf_entries a) + length xs = ap length p.moved.entries_are ∙ length-append (shelf_entries a) xs in
           omega (arith, p.moved.room)
-
-      pub drain-few : ((j : ℕ) → length (shelf_of olds j).overflow < 2 ^ 62) → length (shelf_of news m).overflow < 2 ^ 62
-      drain-few few = let f = few m in let o = p.overflow m in omega arith
 
       module _ (later : List (Shelf E)) (c : Shelf E) (pulls : Pulls hash t n i m news b later c) where
         other : (j : ℕ) → j ≢ m → shelf_of later j ≡ shelf_of news j

@@ -6,4 +6,5 @@ pub mod FromBuckets
 pub mod Numbers
 pub mod Parted
 pub mod Pulling
+pub mod Stepped
 pub mod Sublists

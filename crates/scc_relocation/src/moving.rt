@@ -10,14 +10,12 @@ ghost use Rattle.scc_table.specs.Routing.{bucket_number};
 ghost use Rattle.scc_table.specs.Sizes.{IsArray};
 ghost use Rattle.scc_table.specs.Tables.{spilled_in, IsOwn};
 
+use crate::limit::left_of;
 use scc_array::Array;
 use scc_table::route::{bucket_index, tag};
 use scc_table::{Keyed, Table};
 use std::alloc::AllocError;
 use std::hash::{BuildHasher, Hash};
-
-/// How many entries may lie in the overflow lists of both arrays: fewer than this.
-pub const OVERFLOW_LIMIT: usize = 1 << 62;
 
 /// Whether the entry in each place of an old bucket belongs to the target. `table` has the hasher.
 #[inline(always)]
@@ -193,14 +191,6 @@ where
     make_ready(into, target, coming, left)?;
     drain(into, old, first, last, target, table, skipped, count);
     Ok(())
-}
-
-/// How many entries more may lie in overflow lists.
-fn left_of(overflowing: usize, aside: usize) -> usize
-    requires { overflowing + aside < 2 ^ 62 }
-    ensures { overflowing + aside + result + 1 ≡ 2 ^ 62 }
-{
-    OVERFLOW_LIMIT - 1 - overflowing - aside
 }
 
 /// Moves the entries of all old buckets that belong to the target into the table's bucket of that number, which is empty, in order, and answers how many they are. `coming` is no less; `aside` entries are counted as if they lay in overflow lists too. Where memory is refused, all stays.

@@ -1,29 +1,26 @@
 -- Tables without overflow, list by list.
-use Rattle.std.proofs.Common.{◌≡◌, ◌==◌, ◌%◌, ◌^◌, eq-eqb, eqb-true, ℕ, zero, suc, ◌+◌, ◌*◌, ◌/◌, ◌<◌, ◌≤◌, Bool, true, false, List, [], ◌∷◌, ◌++◌, length, map, set, get_or, refl, sym, ap, ◌∙◌, subst, arith, rules, nat_lt, length-append, length-set, get_or-set_same, Option, Some, None}
+use Rattle.std.proofs.Common.{◌≡◌, ℕ, zero, suc, ◌+◌, ◌<◌, ◌≤◌, Bool, true, false, List, [], ◌∷◌, ◌++◌, length, map, set, get_or, refl, sym, ap, ◌∙◌, arith, rules, nat_lt, get_or-set_same, Some, None}
 use Rattle.std.specs.Cmp.{IsEquivalence}
-use Rattle.std.specs.List.{filter, sum_by, flat_map, position, remove, slice_get, IsDistinct, AllByRecursion}
+use Rattle.std.specs.List.{flat_map, position, remove, slice_get, IsDistinct, AllByRecursion}
 use Rattle.std.specs.Option.{option_map}
-use Rattle.std.specs.List.Sorted.{IsPermutation}
 use Rattle.std.proofs.lemmas.List.{append-nil, get_or_default, get_or_past, length-map, map-set, nil_from_length}
 use Rattle.std.proofs.lemmas.List.Sums.{sum_by-set, get_or-le-sum_by}
 use Rattle.std.proofs.lemmas.List.Edits.{length-remove}
-use Rattle.std.proofs.lemmas.List.Sorted.{IsPermutation-refl, IsPermutation-remove, IsPermutation-map}
+use Rattle.std.proofs.lemmas.List.Sorted.{IsPermutation-remove, IsPermutation-map}
 use Rattle.std.proofs.lemmas.Map.Keys.{IsDistinct-head, IsDistinct-IsPermutation}
 use native.Mathlib.Decide.{dec_lt}
 use Rattle.scc_bucket.proofs.Lists.{get-below, get-is}
-use Rattle.scc_table.specs.Bounded.{IsBounded, IsListed, IsResized, IsUnlisted, HasList, KeepsLists, MovesShort, lacking}
-use Rattle.scc_table.specs.Pour.{bound_for}
+use Rattle.scc_table.specs.Bounded.{IsBounded, IsListed, IsResized, IsUnlisted, HasList, KeepsLists}
 use Rattle.scc_table.specs.Routing.{bucket_number}
 use Rattle.scc_table.specs.Sizes.{IsArray}
 use Rattle.scc_table.specs.Contents.{Contents, Settings, entries, bucket_count, settings_of, refused_of, list_of, lists_of, spilled_of, IsRouted}
 use Rattle.scc_table.specs.Tables.{AllEmpty, IsTable, spilled_in}
 use Rattle.scc_bucket.specs.Shelf.{Shelf, shelf_entries, empty_shelf, with_slot, with_entry, next_place, without_place}
-use Rattle.scc_table.proofs.Counting.{entries-of_bucket}
 use Rattle.scc_table.proofs.Finding.{position_hit, position_cons}
 use Rattle.scc_table.proofs.Inserts.{by_answer, none_left}
 use Rattle.scc_table.proofs.Making.{sums-empty}
 use Rattle.scc_table.proofs.Removes.{entries_without, overflow_without}
-use Rattle.scc_table.proofs.Views.{view_of, entries-view, count-view, list-view, lists-view, refused-view, settings-view, spilled-view}
+use Rattle.scc_table.proofs.Views.{view_of, count-view, list-view, lists-view, refused-view, settings-view, spilled-view}
 
 nowhere : {X : Type 0} (p : X → Bool) (i : ℕ) → position p (get_or [] i []) ≡ None
 nowhere p zero = refl
@@ -211,60 +208,3 @@ keeps-count c d k = ap length k.lists
 pub keeps-entries : {E S : Type 0} (c d : Contents E S) → KeepsLists c d → entries d ≡ entries c
 unfolding entries lists_of
 keeps-entries c d k = ap (flat_map (λ l. l)) k.lists
-
--- another flag changes no list
-pub keeps-view : {E S : Type 0} (bs : List (Shelf E)) (s : Settings S) (c : Contents E S) {f : Bool} (view : view_of f bs s ≡ c) (g : Bool) → KeepsLists c (view_of g bs s)
-unfolding lists_of settings_of spilled_of
-keeps-view bs s c view g = record {
-  lists = sym (lists-view bs s c view);
-  settings = sym (settings-view bs s c view);
-  spilled = sym (spilled-view bs s c view);
-}
-
-module _ {E S : Type 0} (hash : E → ℕ) (n : ℕ) (bs : List (Shelf E)) (s : Settings S) (c : Contents E S) {f : Bool} (view : view_of f bs s ≡ c) where
-  -- what is left where memory for a resize was refused
-  pub noted-moves : MovesShort hash n c (view_of true bs s)
-  noted-moves = lacking (refused-view bs s (view_of true bs s) refl) (keeps-view bs s c view true)
-
-  pub noted-same : IsPermutation (entries c) (entries (view_of true bs s))
-  noted-same = rw (entries-view bs s c view, entries-view bs s (view_of true bs s) refl) (IsPermutation-refl (flat_map shelf_entries bs))
-
-  pub noted-settings : settings_of (view_of true bs s) ≡ settings_of c
-  noted-settings = settings-view bs s (view_of true bs s) refl ∙ sym (settings-view bs s c view)
-
--- of twice as many buckets the number is the double or one more
-half-number : (x n i : ℕ) → x * (2 * n) / 2 ^ 64 ≡ i → x * n / 2 ^ 64 ≡ i / 2
-half-number x n i e = omega arith
-
-filter-less : {X : Type 0} (p q : X → Bool) (xs : List X) → ((x : X) → p x ≡ true → q x ≡ true) → length (filter p xs) ≤ length (filter q xs)
-filter-less p q [] h = omega arith
-filter-less p q (x ∷ xs) h =
-    let rest = filter-less p q xs h in
-    by_answer (p x)
-    (λ y. let z = h x y in rw (y, z) (omega arith))
-    (λ y. by_answer (q x) (λ z. rw (y, z) (omega arith)) (λ z. rw (y, z) rest))
-
--- a bucket of twice as many gets at most what the bucket that it comes from holds
-pub doubled-short : {E : Type 0} (hash : E → ℕ) (t n o : ℕ) (bs : List (Shelf E)) → IsTable hash t bs n o → spilled_in bs ≡ 0 → (i : ℕ) → i < 2 * length bs → length (bound_for hash t (2 * length bs) i (flat_map shelf_entries bs)) ≤ 32
-doubled-short {E} hash t n o bs h none i l =
-    let j : ℕ = i / 2 in
-    let lj : j < length bs = omega arith in
-    let b : Shelf E = get_or bs j empty_shelf in
-    let at : b ≡ get_or bs j b = get_or_default bs j empty_shelf b lj in
-    let fewer = filter-less (λ e. bucket_number t (2 * length bs) (hash e) == i) (λ e. bucket_number t (length bs) (hash e) == j) (flat_map shelf_entries bs)
-    (λ e y. eq-eqb (bucket_number t (length bs) (hash e)) j (half-number ((hash e * 2 ^ t) % 2 ^ 64) (length bs) i (eqb-true (bucket_number t (2 * length bs) (hash e)) i y))) in
-    let all = ap length (entries-of_bucket hash t n o j bs b h lj at) in
-    let over : Shelf E → ℕ = λ x. length x.overflow in
-    let m = get_or-le-sum_by over bs j b lj in
-    let e : over (get_or bs j b) ≡ over b = ap over (sym at) in
-    let own = (h.own j b lj at).within in
-    let both = length-append b.slots b.overflow in
-    omega arith
-
--- the same, of what a clause sees
-pub doubled-view : {E S : Type 0} (hash : E → ℕ) (n o k : ℕ) (bs : List (Shelf E)) (s : Settings S) (c : Contents E S) {f : Bool} (view : view_of f bs s ≡ c) → IsTable hash s.skipped bs n o → IsBounded c → k ≡ 2 * bucket_count c
-    → (i : ℕ) → i < k → length (bound_for hash (settings_of c).skipped k i (entries c)) ≤ 32
-doubled-view hash n o k bs s c view h bounded size i l =
-    let e : k ≡ 2 * length bs = size ∙ ap (λ z. 2 * z) (count-view bs s c view) in
-    let none : spilled_in bs ≡ 0 = sym (spilled-view bs s c view) ∙ bounded in
-    rw (settings-view bs s c view, entries-view bs s c view, e) (doubled-short hash s.skipped n o bs h none i (omega arith))

@@ -1,11 +1,10 @@
 -- Clones that are added one after another.
 use Rattle.std.proofs.Common.{◌≡◌, ℕ, suc, ◌*◌, ◌<◌, List, [], ◌∷◌, ◌++◌, length, take, get_or, add-one, zero, ◌+◌, arith, refl, sym, ap, subst, ◌∙◌, inl, inr}
-use Rattle.std.specs.List.{AllZip, flat_map}
+use Rattle.std.specs.List.{AllZip}
 use Rattle.std.specs.List.Sorted.{IsPermutation}
 use Rattle.std.proofs.lemmas.List.Sorted.{IsPermutation-append_comm, IsPermutation-append_left, IsPermutation-append_right, IsPermutation-trans, IsPermutation-refl}
 use Rattle.scc_table.specs.Clones.{AddsClones, HasClones}
 use Rattle.scc_table.specs.Contents.{Contents, entries, bucket_count, settings_of}
-use Rattle.scc_bucket.specs.Shelf.{Shelf, shelf_entries}
 use Rattle.scc_table.specs.Sizes.{IsLawful, IsArray}
 
 zip-append : {E : Type 0} (C : E → E → Type 0) (xs cs ys ds : List E) → AllZip C xs cs → AllZip C ys ds → AllZip C (xs ++ ys) (cs ++ ds)
@@ -66,21 +65,8 @@ take-next [] i x l e = absurd (omega arith)
 take-next (y ∷ xs) zero x l e = ap (λ z. z ∷ []) (sym e)
 take-next (y ∷ xs) (suc i) x l e = ap (λ l. y ∷ l) (take-next xs i x (omega arith) e)
 
-flat-append : {X Y : Type 0} (f : X → List Y) (xs : List X) (x : X) → flat_map f (xs ++ x ∷ []) ≡ flat_map f xs ++ f x
-flat-append f [] x = append-nil (f x)
-flat-append f (y ∷ xs) x = ap (λ l. f y ++ l) (flat-append f xs x) ∙ sym (append-assoc (f y) (flat_map f xs) (f x))
-
 module _ {E S : Type 0} (C : E → E → Type 0) where
   -- the clone of the next source
   pub adds-next : (xs : List E) (i : ℕ) (x : E) (c d e : Contents E S) → i < length xs → x ≡ get_or xs i x → AddsClones C (take i xs) c d → AddsClones C (x ∷ []) d e → AddsClones C (take (i + 1) xs) c e
   adds-next xs i x c d e l at a b =
       subst (λ ys. AddsClones C ys c e) (sym (ap (λ n. take n xs) (add-one i) ∙ take-next xs i x l at)) (adds-more C (take i xs) (x ∷ []) c d e a b)
-
-  -- the clones of the two lists of the next bucket
-  pub adds-bucket : (bs : List (Shelf E)) (i : ℕ) (b : Shelf E) (slots overflow : List E) (c d e f : Contents E S) → i < length bs → b ≡ get_or bs i b → slots ++ overflow ≡ shelf_entries b
-      → AddsClones C (flat_map shelf_entries (take i bs)) c d → AddsClones C slots d e → AddsClones C overflow e f → AddsClones C (flat_map shelf_entries (take (i + 1) bs)) c f
-  adds-bucket bs i b slots overflow c d e f l at parts a x y =
-      let front = flat_map shelf_entries (take i bs) in
-      let all : flat_map shelf_entries (take (i + 1) bs) ≡ front ++ (slots ++ overflow) =
-      ap (λ n. flat_map shelf_entries (take n bs)) (add-one i) ∙ ap (flat_map shelf_entries) (take-next bs i b l at) ∙ flat-append shelf_entries (take i bs) b ∙ ap (λ es. front ++ es) (sym parts) in
-      subst (λ ys. AddsClones C ys c f) (sym all) (adds-more C front (slots ++ overflow) c d f a (adds-more C slots overflow d e f x y))

@@ -174,13 +174,6 @@ module _ {E S : Type 0} (hash : E → ℕ) (t n o i : ℕ) (bs : List (Shelf E))
   unfolding entries
   entries-lists = ap (λ (x : Contents E S). flat_map (λ l. l) x.lists) (sym view)
 
-  pub bucket-small : length (shelf_entries b) ≤ n
-  bucket-small =
-      let f : Shelf E → ℕ = λ x. length (shelf_entries x) in
-      let m = get_or-le-sum_by f bs i b l in
-      let e : f (get_or bs i b) ≡ f b = ap f (sym at) in
-      omega (arith, h.counted)
-
   module _ (d : Shelf E) (e : E) (slot : ℕ) (new : d ≡ record (with_entry b e (tag_of (hash e))) { room = d.room }) (place : slot ≡ next_place b) where
     new-list : shelf_entries d ≡ insert (get_or (map shelf_entries bs) i []) slot e
     new-list = ap shelf_entries new ∙ entries_insert b e _ ∙ ap (λ k. insert (shelf_entries b) k e) (sym place) ∙ ap (λ z. insert z slot e) (sym list-here)

@@ -92,10 +92,6 @@ module _ {K V S : Type 0} {eq : K → K → Bool} (laws : IsEquivalence eq) (c :
   written : (w : V) → HoldsExactly c (write_at with_pair_value (entries c) (index_of c p) w) (with_write_at with_pair_value c p w)
   written w = exactly-write with_pair_value c p within (at (list_of c p.bucket) p.slot within.slot) (at-get (list_of c p.bucket) p.slot within.slot) w
 
-  -- the pair of k taken out
-  pub taken-out : (e : Contents (K × V) S) → Holds c (remove (entries c) (index_of c p)) e → Holds c (without eq (entries c) k) e
-  taken-out e h = record { same = rw (without-at laws k (entries c) (index_of c p) d f) h.same; size = h.size; settings = h.settings }
-
   -- the pair of k taken out once w was written into it
   pub written-taken_out : (w : V) (e : Contents (K × V) S) → Holds (with_write_at with_pair_value c p w) (remove (entries (with_write_at with_pair_value c p w)) (index_of (with_write_at with_pair_value c p w) p)) e
       → Holds c (without eq (entries c) k) e

@@ -1,10 +1,9 @@
 -- Tables that hold nothing.
-use Rattle.std.proofs.Common.{◌≡◌, ℕ, suc, ◌^◌, ◌-◌, ◌≤◌, Bool, List, [], ◌∷◌, ◌++◌, length, map, get_or, refl, sym, ap, ◌∙◌, inl, inr, arith, length-append}
+use Rattle.std.proofs.Common.{◌≡◌, ℕ, suc, ◌^◌, ◌-◌, ◌≤◌, Bool, List, [], ◌∷◌, ◌++◌, length, map, refl, sym, ap, ◌∙◌, inl, inr, arith, length-append}
 use Rattle.scc_table.specs.Contents.{Settings, entries}
 use Rattle.scc_table.proofs.Views.{view_of, entries-view}
 use Rattle.std.specs.List.{IsDistinct, flat_map, sum_by}
-use Rattle.std.proofs.lemmas.List.{nil_from_length, get_or_append_left, get_or-append_right}
-use native.Mathlib.Decide.{dec_lt}
+use Rattle.std.proofs.lemmas.List.{nil_from_length}
 use Rattle.std.proofs.lemmas.List.Sums.{sum_by-cons}
 use Rattle.scc_table.specs.Routing.{tag_of}
 use Rattle.scc_bucket.specs.Shelf.{Shelf, shelf_entries}
@@ -61,25 +60,6 @@ none-empty = record { empty = λ i b l at. absurd (omega arith) }
 
 pub kept-none : {E K : Type 0} (eq : K → K → Bool) (key : E → K) (hash : K → ℕ) (t minimum : ℕ) → t ≤ 4 → minimum ≤ 2 ^ 63 → IsKept eq key hash t minimum [] 0 0
 kept-none eq key hash t minimum few small = kept-empty eq key hash t minimum [] none-empty (inl refl) few small
-
--- one empty bucket more
-pub empty-push : {E : Type 0} (bs : List (Shelf E)) (b : Shelf E) → AllEmpty bs → (shelf_entries b ≡ []) × (b.tags ≡ []) → AllEmpty (bs ++ b ∷ [])
-empty-push bs b h e = record {
-  empty = λ i a l at. elim (dec_lt i (length bs)) [
-    | yes q ↦ h.empty i a q (at ∙ get_or_append_left bs (b ∷ []) a i q)
-    | no q ↦
-        let n : i - length bs ≡ 0 = omega (arith, length-append bs (b ∷ [])) in
-        let s : a ≡ b = at ∙ get_or-append_right bs (b ∷ []) (length bs) i a refl (omega arith) ∙ ap (λ k. get_or (b ∷ []) k a) n in
-        rw s e
-  ];
-}
-
--- the front of empty buckets
-pub empty-front : {E : Type 0} (bs : List (Shelf E)) (b : Shelf E) → AllEmpty (bs ++ b ∷ []) → AllEmpty bs × ((shelf_entries b ≡ []) × (b.tags ≡ []))
-empty-front bs b h = (
-  record { empty = λ i a l at. h.empty i a (omega (arith, length-append bs (b ∷ []))) (at ∙ sym (get_or_append_left bs (b ∷ []) a i l)) },
-  h.empty (length bs) b (omega (arith, length-append bs (b ∷ []))) (let n : length bs - length bs ≡ 0 = omega arith in sym (get_or-append_right bs (b ∷ []) (length bs) (length bs) b refl (omega arith) ∙ ap (λ k. get_or (b ∷ []) k b) n)),
-)
 
 -- without buckets nothing is counted
 pub counts-none : {E : Type 0} (hash : E → ℕ) (t n o : ℕ) (bs : List (Shelf E)) → length bs ≡ 0 → IsTable hash t bs n o → (n ≡ 0) × (o ≡ 0)

@@ -1,12 +1,10 @@
 -- What holds of contents holds of them seen through a function.
-use Rattle.std.proofs.Common.{◌≡◌, ◌≢◌, ℕ, zero, suc, Bool, ◌==◌, ◌+◌, ◌<◌, ◌⊎◌, inl, inr, cond, List, [], ◌∷◌, ◌++◌, length, map, take, refl, sym, ap, subst, ◌∙◌, arith}
+use Rattle.std.proofs.Common.{◌≡◌, ℕ, zero, suc, Bool, ◌==◌, ◌+◌, inl, inr, cond, List, [], ◌∷◌, ◌++◌, length, map, take, refl, sym, ap, ◌∙◌}
 use Rattle.std.specs.Prelude.{count_by}
 use Rattle.std.specs.List.{flat_map, fold, slice_index_or}
-use Rattle.std.specs.List.Sorted.{IsPermutation}
 use Rattle.std.proofs.lemmas.List.{length-map, map-append}
 use Rattle.std.proofs.lemmas.List.Sorted.{IsPermutation-map}
-use Rattle.std.proofs.lemmas.Simd.{map-map}
-use Rattle.scc_table.specs.Contents.{Contents, Settings, entries, bucket_count, settings_of, refused_of, pending_of, list_of, HasRoomBy, IsUniqueBy, bucket_of}
+use Rattle.scc_table.specs.Contents.{Contents, Settings, entries, bucket_count, settings_of, refused_of, pending_of, list_of, HasRoomBy, bucket_of}
 use Rattle.scc_table.specs.Mapped.{mapped}
 use Rattle.scc_table.specs.Places.{IsPlace, index_of}
 use Rattle.scc_table.specs.Standing.{StandsAt}
@@ -161,6 +159,3 @@ module _ {E F S : Type 0} (f : E → F) where
           let r = h.raised (rw (refused_of-mapped c) at low) (rw (refused_of-mapped d) at up) in
           (rw (bucket_count-mapped c) r.0, λ room. r.1 (HasRoomBy-from_mapped hash c k room), rw (bucket_count-mapped c, length-mapped c) r.2, rw (bucket_count-mapped c) r.3);
     }
-
-    pub IsUniqueBy-mapped : (eq : K → K → Bool) (c : Contents E S) → IsUniqueBy eq (λ e. key (f e)) c → IsUniqueBy eq key (mapped f c)
-    IsUniqueBy-mapped eq c h = rw (entries-mapped c, map-map key f (entries c)) h

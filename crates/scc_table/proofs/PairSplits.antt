@@ -3,10 +3,10 @@ use Rattle.std.proofs.Common.{◌≡◌, ℕ, zero, suc, ◌<◌, Bool, true, fa
 use Rattle.std.specs.Cmp.{IsEquivalence}
 use Rattle.scc_table.proofs.PairWrites.{set_value_at}
 use Rattle.scc_table.proofs.PairWrites.{IsPlaceOf}
-use Rattle.std.specs.List.{AllByRecursion, IsDistinct, slice_get, slice_set, list_any, remove}
+use Rattle.std.specs.List.{AllByRecursion, IsDistinct, slice_get, slice_set, remove}
 use Rattle.std.specs.Map.{keys_of, lookup_entry, remove_entry, set_value, set_key}
 use Rattle.std.proofs.lemmas.Map.{NonePasses}
-use Rattle.std.proofs.lemmas.Map.Keys.{IsDistinct-head, IsDistinct-tail, IsDistinct-cons, IsDistinct-push}
+use Rattle.std.proofs.lemmas.Map.Keys.{IsDistinct-head, IsDistinct-tail, IsDistinct-cons}
 use Rattle.std.proofs.lemmas.Bool.{false≢true}
 
 pub cond-true : {A : Type 0} {b : Bool} (x y : A) → b ≡ true → cond b x y ≡ x
@@ -36,10 +36,6 @@ module _ {K V : Type 0} (t : K → Bool) where
   set_key-split [] p back k n y = cond-true _ _ y
   set_key-split (x ∷ front) p back k n y = cond-false _ _ n.0 ∙ ap (λ l. x ∷ l) (set_key-split front p back k n.1 y)
 
-  pub find-none : (es : List (K × V)) → NonePasses t es → lookup_entry t es ≡ None
-  find-none [] n = refl
-  find-none (x ∷ es) n = cond-false _ _ n.0 ∙ find-none es n.1
-
   pub none-find : (es : List (K × V)) → lookup_entry t es ≡ None → NonePasses t es
   none-find [] n = tt
   none-find (x ∷ es) n = by_answer (t x.0) (λ y. let h : Some x ≡ None = sym (cond-true (Some x) (lookup_entry t es) y) ∙ n in cc) (λ y. (y, none-find es (sym (cond-false (Some x) (lookup_entry t es) y) ∙ n)))
@@ -47,11 +43,6 @@ module _ {K V : Type 0} (t : K → Bool) where
   pub apart-keys : (es : List (K × V)) → NonePasses t es → AllByRecursion (λ k. t k ≡ false) (keys_of es)
   apart-keys [] n = tt
   apart-keys (x ∷ es) n = (n.0, apart-keys es n.1)
-
-  pub NonePasses-more : (es : List (K × V)) (i : ℕ) (p : K × V) → slice_get es i ≡ Some p → t p.0 ≡ false → NonePasses t (take i es) → NonePasses t (take (suc i) es)
-  NonePasses-more [] i p at y n = tt
-  NonePasses-more (x ∷ es) zero p at y n = let e : x ≡ p = cc in (subst (λ (q : K × V). t q.0 ≡ false) (sym e) y, tt)
-  NonePasses-more (x ∷ es) (suc i) p at y n = (n.0, NonePasses-more es i p at y n.1)
 
 pub get-index : {X : Type 0} (es : List X) (i : ℕ) (x : X) → i < length es → x ≡ get_or es i x → slice_get es i ≡ Some x
 get-index [] i x h e = absurd (omega arith)
@@ -68,14 +59,6 @@ place-below [] i x e = absurd (let h : None ≡ Some x = e in cc)
 place-below (y ∷ es) zero x e = omega arith
 place-below (y ∷ es) (suc i) x e = omega (arith, place-below es i x e)
 
-keys-push : {K V : Type 0} (es : List (K × V)) (p : K × V) → keys_of (es ++ p ∷ []) ≡ keys_of es ++ p.0 ∷ []
-keys-push [] p = refl
-keys-push (x ∷ es) p = ap (λ l. x.0 ∷ l) (keys-push es p)
-
-none-any : {K V : Type 0} (t : K → Bool) (es : List (K × V)) → lookup_entry t es ≡ None → list_any t (keys_of es) ≡ false
-none-any t [] n = refl
-none-any t (x ∷ es) n = by_answer (t x.0) (λ y. absurd (let h : Some x ≡ None = sym (cond-true (Some x) (lookup_entry t es) y) ∙ n in cc)) (λ y. let rest : list_any t (keys_of es) ≡ false = none-any t es (sym (cond-false (Some x) (lookup_entry t es) y) ∙ n) in rw (y, rest))
-
 all-without : {K V : Type 0} (P : K → Type 0) (es : List (K × V)) (i : ℕ) → AllByRecursion P (keys_of es) → AllByRecursion P (keys_of (remove es i))
 all-without P [] zero h = h
 all-without P [] (suc i) h = h
@@ -86,11 +69,6 @@ pub keys-set_value : {K V : Type 0} (es : List (K × V)) (i : ℕ) (w : V) → k
 keys-set_value [] i w = refl
 keys-set_value (x ∷ es) zero w = refl
 keys-set_value (x ∷ es) (suc i) w = ap (λ l. x.0 ∷ l) (keys-set_value es i w)
-
-pub set-is_set_value : {K V : Type 0} (es : List (K × V)) (i : ℕ) (p : K × V) (w : V) → slice_get es i ≡ Some p → slice_set es i (p.0, w) ≡ set_value_at es i w
-set-is_set_value [] i p w e = refl
-set-is_set_value (x ∷ es) zero p w e = let h : x ≡ p = cc in ap (λ z. (z.0, w) ∷ es) (sym h)
-set-is_set_value (x ∷ es) (suc i) p w e = ap (λ l. x ∷ l) (set-is_set_value es i p w e)
 
 all_keys_at : {K V : Type 0} (P : K → Type 0) (front : List (K × V)) (p : K × V) (back : List (K × V)) → AllByRecursion P (keys_of (front ++ p ∷ back)) → P p.0
 all_keys_at P [] p back h = h.0
@@ -128,12 +106,6 @@ module _ {K V : Type 0} {eq : K → K → Bool} (laws : IsEquivalence eq) where
     pub set_key-at : (q : K) → set_key (eq k) es q ≡ take i es ++ (q, found.0.1) ∷ drop (suc i) es
     set_key-at q = ap (λ l. set_key (eq k) l q) parts-at ∙ set_key-split (eq k) (take i es) found.0 (drop (suc i) es) q apart-at found.3
 
-    pub pair-at : (p : K × V) → slice_get es i ≡ Some p → lookup_entry (eq k) es ≡ Some p
-    pair-at p e = let h : Some found.0 ≡ Some p = sym found.1 ∙ e in found.2 ∙ h
-
-  pub distinct-push : (es : List (K × V)) (p : K × V) → IsDistinct eq (keys_of es) → lookup_entry (eq p.0) es ≡ None → IsDistinct eq (keys_of (es ++ p ∷ []))
-  distinct-push es p d n = rw (keys-push es p) (IsDistinct-push laws (keys_of es) p.0 d (none-any (eq p.0) es n))
-
   -- a new pair before the others
   pub distinct-added : (es : List (K × V)) (p : K × V) → IsDistinct eq (keys_of es) → lookup_entry (eq p.0) es ≡ None → IsDistinct eq (keys_of (p ∷ es))
   distinct-added es p d n = IsDistinct-cons eq p.0 (keys_of es) (apart-keys (eq p.0) es (none-find (eq p.0) es n)) d
@@ -145,15 +117,6 @@ module _ {K V : Type 0} {eq : K → K → Bool} (laws : IsEquivalence eq) where
   distinct-without (x ∷ es) zero d = IsDistinct-tail eq x.0 (keys_of es) d
   distinct-without (x ∷ es) (suc i) d =
       IsDistinct-cons eq x.0 (keys_of (remove es i)) (all-without (λ y. eq x.0 y ≡ false) es i (IsDistinct-head eq x.0 (keys_of es) d)) (distinct-without es i (IsDistinct-tail eq x.0 (keys_of es) d))
-
-pub get-push : {X : Type 0} (es : List X) (x : X) → slice_get (es ++ x ∷ []) (length es) ≡ Some x
-get-push [] x = refl
-get-push (y ∷ es) x = get-push es x
-
-pub set-parts : {X : Type 0} (es : List X) (i : ℕ) (q : X) → i < length es → slice_set es i q ≡ take i es ++ q ∷ drop (suc i) es
-set-parts [] i q h = absurd (omega arith)
-set-parts (x ∷ es) zero q h = refl
-set-parts (x ∷ es) (suc i) q h = ap (λ l. x ∷ l) (set-parts es i q (omega arith))
 
 all-set : {K V : Type 0} (P : K → Type 0) (es : List (K × V)) (i : ℕ) (q : K × V) → P q.0 → AllByRecursion P (keys_of es) → AllByRecursion P (keys_of (slice_set es i q))
 all-set P [] i q y h = h
@@ -181,8 +144,3 @@ module _ {K V : Type 0} {eq : K → K → Bool} (laws : IsEquivalence eq) where
       let apart = IsDistinct-head eq x.0 (keys_of es) d in
       let away : eq x.0 q.0 ≡ false = laws.symm x.0 q.0 ∙ laws.congr q.0 p.0 x.0 y ∙ laws.symm p.0 x.0 ∙ all-get (λ k. eq x.0 k ≡ false) es i p e apart in
       IsDistinct-cons eq x.0 (keys_of (slice_set es i q)) (all-set (λ k. eq x.0 k ≡ false) es i q away apart) (distinct-set es i p q e y (IsDistinct-tail eq x.0 (keys_of es) d))
-
-pub get-parts : {X : Type 0} (es : List X) (i : ℕ) (p q : X) → slice_get es i ≡ Some p → slice_get (take i es ++ q ∷ drop (suc i) es) i ≡ Some q
-get-parts [] i p q e = absurd (let n : None ≡ Some p = e in cc)
-get-parts (x ∷ es) zero p q e = refl
-get-parts (x ∷ es) (suc i) p q e = get-parts es i p q e

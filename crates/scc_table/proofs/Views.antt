@@ -1,8 +1,8 @@
 -- A table's words, by its buckets.
 use Rattle.std.proofs.Common.{◌≡◌, ℕ, ◌<◌, Bool, List, [], ◌∷◌, ◌++◌, length, map, get_or, refl, sym, ap, ◌∙◌}
-use Rattle.std.specs.List.{flat_map, count_by}
+use Rattle.std.specs.List.{flat_map}
 use Rattle.std.proofs.lemmas.List.{get_or-map, length-map}
-use Rattle.scc_table.specs.Contents.{Contents, Settings, entries, bucket_count, settings_of, refused_of, list_of, lists_of, spilled_of, waiting_of, held_of, pending_of}
+use Rattle.scc_table.specs.Contents.{Contents, Settings, entries, bucket_count, settings_of, refused_of, list_of, lists_of, spilled_of, waiting_of, held_of}
 use Rattle.scc_table.specs.Tables.{spilled_in}
 use Rattle.scc_bucket.specs.Shelf.{Shelf, shelf_entries}
 
@@ -51,7 +51,3 @@ module _ {E S : Type 0} (bs : List (Shelf E)) (s : Settings S) {f : Bool} (c : C
   pub held-view : held_of c ≡ []
   unfolding held_of
   held-view = ap (λ (x : Contents E S). x.held) (sym view)
-
-  pub pending-view : pending_of c ≡ 0
-  unfolding pending_of
-  pending-view = ap (λ (x : Contents E S). count_by (λ w. w) x.waiting) (sym view)

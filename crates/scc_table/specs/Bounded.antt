@@ -1,11 +1,11 @@
 -- Tables whose buckets hold at most 32 entries each, none in an overflow list, in the order of their lists.
-use Rattle.std.specs.Prelude.{◌≡◌, ℕ, Bool, false, true, ◌*◌, ◌^◌, ◌<◌, ◌≤◌, List, [], ◌∷◌, ◌++◌, length, Option, None, Some}
+use Rattle.std.specs.Prelude.{◌≡◌, ℕ, Bool, false, true, ◌*◌, ◌<◌, ◌≤◌, List, [], ◌∷◌, ◌++◌, length, Option, None, Some}
 use Rattle.std.specs.List.{slice_get, slice_set, position}
 use Rattle.scc_table.specs.Contents.{Contents, entries, bucket_count, settings_of, minimum_of, refused_of, list_of, lists_of, spilled_of}
 use Rattle.scc_table.specs.Places.{IsPlace}
 use Rattle.scc_table.specs.Pour.{IsRegrouped, bound_for}
 use Rattle.scc_table.specs.Routing.{bucket_number}
-use Rattle.scc_table.specs.Sizes.{IsArray, IsArraySize, IsLawful, IsSmaller}
+use Rattle.scc_table.specs.Sizes.{IsArray, IsLawful, IsSmaller}
 use Rattle.scc_table.specs.declared.place.Place.{Place}
 
 module _ {E S : Type 0} where
@@ -54,30 +54,6 @@ module _ {E S : Type 0} where
     pub array : IsArray (bucket_count d)
     pub lists : IsRegrouped hash (bucket_count d) c d
     pub bounded : IsBounded d
-
-  -- all entries moved to n buckets where none gets more than 32; where one would, nothing changed; where memory was refused, that is noted and nothing else changed
-  pub data MovesShort (hash : E → ℕ) (n : ℕ) (c d : Contents E S) : Type 0 where
-    overfull : (((i : ℕ) → i < n → length (bound_for hash (settings_of c).skipped n i (entries c)) ≤ 32) → ⊥) → d ≡ c → MovesShort hash n c d
-    lacking : refused_of d ≡ true → KeepsLists c d → MovesShort hash n c d
-    moved : refused_of d ≡ false → bucket_count d ≡ n → IsResized hash c d → MovesShort hash n c d
-
-  -- at least half as many entries as slots are held, and the slots are below `most`; 2 ^ 62 entries are more than a table can hold
-  pub record IsDoublingDue (most : ℕ) (c : Contents E S) : Type 0 where
-    pub half : 32 * bucket_count c ≤ 2 * length (entries c)
-    pub below : 32 * bucket_count c < most
-    pub few : length (entries c) < 2 ^ 62
-
-  -- the buckets are doubled where that is due; where memory for it is refused, that is noted and nothing else changes
-  pub data DoublesBelow (hash : E → ℕ) (most : ℕ) (c d : Contents E S) : Type 0 where
-    stays : (IsDoublingDue most c → ⊥) → d ≡ c → DoublesBelow hash most c d
-    denied : IsDoublingDue most c → refused_of d ≡ true → KeepsLists c d → DoublesBelow hash most c d
-    doubles : IsDoublingDue most c → refused_of d ≡ false → bucket_count d ≡ 2 * bucket_count c → IsResized hash c d → DoublesBelow hash most c d
-
-  -- what a new entry of list i lets happen first: an array of the size of the minimum is made where there is none, and the buckets are doubled where list i holds 32 and that is due
-  pub data GrowsBelow (hash : E → ℕ) (most i : ℕ) (c d : Contents E S) : Type 0 where
-    makes : bucket_count c ≡ 0 → IsArraySize (minimum_of c) (32 * bucket_count d) → IsResized hash c d → GrowsBelow hash most i c d
-    has_room : 0 < bucket_count c → length (list_of c i) < 32 → d ≡ c → GrowsBelow hash most i c d
-    is_full : 0 < bucket_count c → 32 ≤ length (list_of c i) → DoublesBelow hash most c d → GrowsBelow hash most i c d
 
   -- the size of an array that the entries let become smaller: the number of buckets is the greater of those for the minimum and for twice the entries
   pub record MayNarrow (hash : E → ℕ) (c : Contents E S) (n : ℕ) : Type 0 where

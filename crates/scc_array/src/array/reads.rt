@@ -1,6 +1,5 @@
 //! Reads for walks, which go over a bucket's places and then over the list past them.
-ghost use Rattle.std.specs.Prelude.{◌≡◌, ◌≤◌, ◌<◌, ◌^◌, length, Some, slice_get};
-ghost use Rattle.std.specs.List.{sum_by};
+ghost use Rattle.std.specs.Prelude.{◌≡◌, ◌≤◌, ◌<◌, length, Some, slice_get};
 ghost use Rattle.scc_array.specs.Shelves.{shelf_of};
 ghost use Rattle.scc_bucket.specs.Shelf.{shelf_entries};
 
@@ -29,17 +28,5 @@ impl<E> Array<E> {
             return self.columns.entry_at(bucket, place);
         }
         &self.overflow[bucket][place - slots]
-    }
-
-    /// How many entries lie past the places, in all buckets.
-    pub fn overflow_total(&self) -> usize
-        requires { sum_by (λ b. length b.overflow) self.now < 2 ^ 64 }
-        ensures { result ≡ sum_by (λ b. length b.overflow) self.now }
-    {
-        let mut total = 0;
-        for bucket in 0..self.len() {
-            total += self.overflow_len(bucket);
-        }
-        total
     }
 }

@@ -59,19 +59,6 @@ impl<E> Array<E> {
         reserve_in(&mut self.overflow, bucket, additional)
     }
 
-    /// Room for so many entries in a bucket that has none. Memory is asked for where they are more than 32.
-    pub fn reserve_for(&mut self, bucket: usize, count: usize) -> Result<(), AllocError>
-        requires { bucket < length self.old }
-        ensures value { self.new ≡ slice_set self.old bucket (record (shelf_of self.old bucket) { room = (shelf_of self.new bucket).room }) }
-        ensures room { OnOk result (count ≤ 32 + (shelf_of self.new bucket).room) }
-        ensures refused { OnErr result (32 < count) }
-    {
-        if count <= 32 {
-            return Ok(());
-        }
-        self.reserve_overflow(bucket, count - 32)
-    }
-
     /// Room for one more entry: a free place, or one in the list past the places, which may grow.
     #[inline(always)]
     pub fn make_room(&mut self, bucket: usize) -> Result<(), AllocError>

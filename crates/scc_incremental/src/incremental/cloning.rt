@@ -1,14 +1,11 @@
 //! How a table is made that holds clones of the entries of both arrays.
-ghost use Rattle.std.specs.Prelude.{◌≡◌, ◌<◌, ◌^◌, ℕ, [], length, IfOk, OnOk};
-ghost use Rattle.std.specs.List.{flat_map};
-ghost use Rattle.scc_array.specs.Shelves.{shelf_of};
-ghost use Rattle.scc_bucket.specs.Shelf.{shelf_entries};
-ghost use Rattle.scc_table.specs.Clones.{AddsClones, HasClones};
+ghost use Rattle.std.specs.Prelude.{◌≡◌, [], IfOk};
+ghost use Rattle.scc_table.specs.Clones.{HasClones};
 ghost use Rattle.scc_table.specs.Contents.{waiting_of};
 
 use super::Incremental;
-use scc_array::Array;
-use scc_table::{Keyed, MakeError, Table};
+use scc_relocation::insert_clones_of;
+use scc_table::{Keyed, MakeError};
 use std::hash::{BuildHasher, Hash};
 
 impl<E: Keyed, H: BuildHasher> Incremental<E, H>
@@ -27,20 +24,4 @@ where
         insert_clones_of(&mut copy, &self.draining)?;
         Ok(Incremental::over(self.skipped, copy))
     }
-}
-
-/// Puts in a clone of each entry of those buckets, with no resize.
-fn insert_clones_of<E: Keyed + Clone, H: BuildHasher>(
-    table: &mut Table<E, H>,
-    old: &Array<E>,
-) -> Result<(), MakeError>
-where
-    E::Key: Eq + Hash,
-    requires few { (j : ℕ) → length (shelf_entries (shelf_of old.now j)) < 2 ^ 63 }
-    ensures { OnOk result (AddsClones E.is_clone (flat_map shelf_entries old.now) table.old table.new) }
-{
-    for bucket in 0..old.len() {
-        table.insert_clones(old, bucket)?;
-    }
-    Ok(())
 }

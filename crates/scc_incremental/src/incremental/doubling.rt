@@ -1,5 +1,5 @@
 //! How an entry gets into twice as many buckets.
-ghost use Rattle.std.specs.Prelude.{◌≡◌, ◌≢◌, ◌≤◌, ◌<◌, ◌+◌, ◌*◌, ◌^◌, false, true, None, Some, length, replicate, slice_get, take, IfOk, IfErr, OnOk, OnErr};
+ghost use Rattle.std.specs.Prelude.{◌≡◌, ◌≢◌, ◌≤◌, ◌<◌, ◌+◌, ◌*◌, ◌^◌, false, true, None, Some, length, replicate, slice_get, IfOk, IfErr, OnOk, OnErr};
 ghost use Rattle.std.specs.List.{position, range_with_len};
 ghost use Rattle.scc_bucket.specs.Shelf.{empty_shelf};
 ghost use Rattle.scc_table.specs.Contents.{entries, bucket_count, key_hash, list_of, pending_of, refused_of, settings_of, waiting_of, IsUniqueBy};
@@ -13,6 +13,7 @@ ghost use Rattle.scc_incremental.specs.TwoArrays.{pending_targets, waits_at};
 
 use super::Incremental;
 use scc_array::Array;
+use scc_relocation::count_bound;
 use scc_table::route::bucket_index;
 use scc_table::{Keyed, Made, Place};
 use std::hash::{BuildHasher, Hash};
@@ -21,31 +22,6 @@ impl<E: Keyed, H: BuildHasher> Incremental<E, H>
 where
     E::Key: Eq + Hash,
 {
-    /// How many of the first entries of a bucket that doesn't wait belong to the target among so many buckets.
-    fn count_bound(
-        &self,
-        bucket: usize,
-        first: usize,
-        target: usize,
-        skipped: u32,
-        count: usize,
-    ) -> usize
-        requires within { bucket < bucket_count self.now }
-        requires settled { waits_at (waiting_of self.now) bucket ≡ false }
-        requires first { first ≤ length (list_of self.now bucket) }
-        requires bits { skipped < 64 }
-        ensures { result ≡ length (bound_for (λ e. key_hash H.BuildHasher H.Hasher.Hasher E.Key.hash_input self.now (E.key_of e)) skipped count target (take first (list_of self.now bucket))) }
-    {
-        let mut found = 0;
-        for slot in 0..first {
-            let hash = self.hash(self.entry_in(Place { bucket, slot }).key());
-            if bucket_index(hash, skipped, count) == target {
-                found += 1;
-            }
-        }
-        found
-    }
-
     /// Whether the bucket of the hash would hold 32 entries or more among twice as many buckets. That bucket is the one of the hash now, and doesn't wait.
     pub(super) fn is_crowded(&self, bucket: usize, hash: u64) -> bool
         requires within { bucket < bucket_count self.now }
@@ -58,7 +34,7 @@ where
         let count = 2 * self.bucket_count();
         let target = bucket_index(hash, self.skipped, count);
         let held = self.list_len(bucket);
-        self.count_bound(bucket, held, target, self.skipped, count) >= 32
+        count_bound(&self.current, bucket, held, target, self.skipped, count) >= 32
     }
 
     /// Doubles the number of buckets where memory isn't refused, and answers where the entry at the place stands then, whose hash that is. Its bucket of the new array takes its entries over at once, then the first one that waits does, and all others wait.
@@ -83,7 +59,14 @@ where
         self.keep_lists();
         let count = 2 * self.bucket_count();
         let bucket = bucket_index(hash, self.skipped, count);
-        let slot = self.count_bound(place.bucket, place.slot, bucket, self.skipped, count);
+        let slot = count_bound(
+            &self.current,
+            place.bucket,
+            place.slot,
+            bucket,
+            self.skipped,
+            count,
+        );
         match self.start_at(count, bucket) {
             Ok(()) => {
                 self.note(false);

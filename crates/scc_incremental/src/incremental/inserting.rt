@@ -1,5 +1,5 @@
 //! How new keys get into a table of two arrays.
-ghost use Rattle.std.specs.Prelude.{◌≡◌, ◌≢◌, ◌≤◌, ◌<◌, ◌+◌, ◌-◌, ◌^◌, ◌⊎◌, ℕ, false, None, drop, IsTrue, IfOk, IfErr, OnOk, OnErr};
+ghost use Rattle.std.specs.Prelude.{◌≡◌, ◌≢◌, ◌≤◌, ◌<◌, ◌+◌, ◌-◌, ℕ, false, None, drop, IfOk, IfErr, OnOk, OnErr};
 ghost use Rattle.std.specs.List.{position, range_with_len};
 ghost use Rattle.scc_table.specs.Bounded.{IsBounded};
 ghost use Rattle.scc_table.specs.Contents.{entries, bucket_count, held_of, key_hash, lists_of, pending_of, refused_of, settings_of, waiting_of, HasRoomBy, IsUniqueBy};
@@ -11,18 +11,9 @@ ghost use Rattle.scc_incremental.specs.Relocates.{left_after, AreShort, AreShort
 ghost use Rattle.scc_incremental.specs.TwoArrays.{IsWaiting, pending_targets, waits_at};
 
 use super::Incremental;
-use scc_relocation::OVERFLOW_LIMIT;
+use scc_relocation::is_overflow_full;
 use scc_table::{Keyed, Place};
 use std::hash::{BuildHasher, Hash};
-
-/// Whether a bucket that holds so many entries can't take one more, since so many lie in overflow lists of the two arrays.
-pub(super) fn is_overflow_full(listed: usize, spilled: usize, aside: usize) -> bool
-    requires { spilled + aside < 2 ^ 62 }
-    ensures full { IsTrue result → 32 ≤ listed }
-    ensures room { (IsTrue result → ⊥) → (listed < 32) ⊎ (spilled + aside < 2 ^ 62 - 1) }
-{
-    listed >= 32 && spilled + aside >= OVERFLOW_LIMIT - 1
-}
 
 impl<E: Keyed, H: BuildHasher> Incremental<E, H>
 where

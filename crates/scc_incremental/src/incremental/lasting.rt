@@ -5,7 +5,6 @@ ghost use Rattle.scc_table.specs.Bounded.{HasList, IsBounded, IsListed, IsUnlist
 ghost use Rattle.scc_table.specs.Contents.{entries, bucket_count, list_of, settings_of, waiting_of, held_of, key_hash, IsUniqueBy};
 ghost use Rattle.scc_table.specs.Routing.{bucket_number};
 ghost use Rattle.scc_incremental.specs.Bounded.{IsListedAt};
-ghost use Rattle.scc_incremental.specs.Places.{IsPlace, spot_of};
 ghost use Rattle.scc_incremental.specs.TwoArrays.{IsWaiting};
 
 use super::Incremental;
@@ -76,14 +75,5 @@ where
         self.keep_lists();
         let _ = self.bucket_at(hash);
         self.search(hash, key)
-    }
-
-    /// The entry at the place, seen in the list of its bucket.
-    #[inline(always)]
-    pub fn entry_in(&self, place: Place) -> &E
-        requires { IsPlace self.now place }
-        ensures { slice_get (list_of self.now (spot_of self.now place).bucket) (spot_of self.now place).slot ≡ Some result.now }
-    {
-        self.entry_at(place)
     }
 }

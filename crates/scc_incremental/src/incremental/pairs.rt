@@ -26,7 +26,7 @@ impl<K: Eq + Hash, V, H: BuildHasher> Incremental<(K, V), H> {
         requires { IsPlace self.now place }
         ensures { slice_get (list_of self.now (spot_of self.now place).bucket) (spot_of self.now place).slot ≡ Some (result.0.now, result.1.now) }
     {
-        let pair = self.entry_in(place);
+        let pair = self.entry_at(place);
         (&pair.0, &pair.1)
     }
 }

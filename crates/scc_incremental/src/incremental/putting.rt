@@ -10,8 +10,7 @@ ghost use Rattle.scc_incremental.specs.Relocates.{left_after, AreShort, AreShort
 ghost use Rattle.scc_incremental.specs.TwoArrays.{IsWaiting, pending_targets, waits_at};
 
 use super::Incremental;
-use super::inserting::is_overflow_full;
-use scc_relocation::fresh_waiting;
+use scc_relocation::{fresh_waiting, is_overflow_full};
 use scc_table::sizes::MOST_BUCKETS;
 use scc_table::{Keyed, Made, Place};
 use std::hash::{BuildHasher, Hash};

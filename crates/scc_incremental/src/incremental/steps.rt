@@ -1,5 +1,5 @@
 //! Steps from place to place, in the order of the entries.
-ghost use Rattle.std.specs.Prelude.{◌≡◌, ◌≤◌, ◌<◌, ◌⊎◌, ◌^◌, ◌+◌, [], length, suc, MatchOption};
+ghost use Rattle.std.specs.Prelude.{◌≡◌, ◌≤◌, ◌<◌, ◌^◌, ◌+◌, [], length, suc, MatchOption};
 ghost use Rattle.scc_table.specs.Contents.{entries, bucket_count, held_of, list_of};
 ghost use Rattle.scc_table.specs.Places as spots;
 ghost use Rattle.scc_incremental.specs.Places.{IsPlace, index_of, spot_of, StandsAt};
@@ -7,21 +7,10 @@ ghost use Rattle.scc_incremental.specs.Stepping.{index_on, rank_on, IsStart};
 ghost use Rattle.scc_incremental.specs.TwoArrays.{IsWaiting};
 
 use super::Incremental;
-use crate::stepping::spot_from;
-use scc_relocation::sources;
+use scc_relocation::{end_past, sources, spot_from};
 use scc_table::route::bucket_index;
 use scc_table::{Keyed, Place};
 use std::hash::{BuildHasher, Hash};
-
-/// The end of a range, or the number after `first` where it would end before.
-fn end_past(end: usize, first: usize) -> usize
-    requires { first < 2 ^ 58 }
-    ensures least { end ≤ result }
-    ensures past { first < result }
-    ensures one { (result ≡ end) ⊎ (result ≡ first + 1) }
-{
-    if first < end { end } else { first + 1 }
-}
 
 impl<E: Keyed, H: BuildHasher> Incremental<E, H>
 where

@@ -17,19 +17,7 @@ impl<E: Keyed, H: BuildHasher> Incremental<E, H>
 where
     E::Key: Eq + Hash,
 {
-    /// Takes the entry out of its place, with no resize: the others stay in their order.
-    pub fn take_at(&mut self, place: Place) -> E
-        requires { IsPlace self.old place }
-        ensures entry { slice_get (entries self.old) (index_of self.old place) ≡ Some result }
-        ensures others { HoldsExactly self.old (remove (entries self.old) (index_of self.old place)) self.new }
-        ensures noted { refused_of self.new ≡ refused_of self.old }
-        ensures waiting { waiting_of self.new ≡ waiting_of self.old }
-        ensures unique { IsUniqueBy E.Key.eq E.key_of self.new }
-    {
-        self.take_in(place)
-    }
-
-    /// The same as `take_at`, seen in the list of its bucket too.
+    /// Takes the entry out of its place, with no resize: the others stay in their order. Seen in the list of its bucket too.
     pub fn take_in(&mut self, place: Place) -> E
         requires { IsPlace self.old place }
         ensures entry { slice_get (entries self.old) (index_of self.old place) ≡ Some result }

@@ -1,8 +1,7 @@
 //! Tables whose buckets hold at most 32 entries, each in the order of its list.
-ghost use Rattle.std.specs.Prelude.{◌≡◌, ◌≤◌, ◌<◌, ◌*◌, ◌^◌, ◌++◌, [], ◌∷◌, length, None, Some, IfOk, OnErr, MatchOption, slice_get, remove};
+ghost use Rattle.std.specs.Prelude.{◌≡◌, ◌<◌, ◌++◌, [], ◌∷◌, length, None, Some, MatchOption, slice_get, remove};
 ghost use Rattle.std.specs.List.{position};
-ghost use Rattle.std.specs.List.Sorted.{IsPermutation};
-ghost use Rattle.scc_table.specs.Bounded.{DoublesBelow, GrowsBelow, HasList, IsBounded, IsListed, IsListedAt, IsUnlisted, PutsLast, ShrinksBounded};
+ghost use Rattle.scc_table.specs.Bounded.{HasList, IsBounded, IsListed, IsListedAt, IsUnlisted, PutsLast};
 ghost use Rattle.scc_table.specs.Contents.{entries, bucket_count, list_of, settings_of, key_hash, IsUniqueBy, IsRouted};
 ghost use Rattle.scc_table.specs.Places.{IsPlace};
 ghost use Rattle.scc_table.specs.Routing.{bucket_number};

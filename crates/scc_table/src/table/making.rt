@@ -1,9 +1,7 @@
 //! How a table and its array are made.
-ghost use Rattle.std.specs.Arc.{arc_value};
-ghost use Rattle.std.specs.Prelude.{◌≡◌, ◌≢◌, ◌≤◌, ◌<◌, ◌+◌, ◌*◌, ◌^◌, [], length, IsOk, IfOk, OnOk, OnErr};
+ghost use Rattle.std.specs.Prelude.{◌≡◌, ◌≤◌, ◌<◌, ◌+◌, ◌*◌, ◌^◌, [], length, IsOk, IfOk, OnOk, OnErr};
 ghost use Rattle.scc_table.specs.Bounded.{IsListed, IsResized};
 ghost use Rattle.scc_table.specs.Contents.{entries, bucket_count, settings_of, refused_of, minimum_of, key_hash};
-ghost use Rattle.scc_table.specs.Pour.{Fits};
 ghost use Rattle.scc_table.specs.Sizes.{IsArray, IsArraySize};
 ghost use Rattle.scc_table.specs.Steps.{IsUnchanged};
 ghost use Rattle.scc_table.specs.Tables.{AllEmpty};

@@ -1,15 +1,12 @@
 //! Entries that are made when they are put in, and entries that take the place of others.
-ghost use Rattle.std.specs.Prelude.{◌≡◌, ◌<◌, ◌≤◌, ◌*◌, ◌^◌, ◌++◌, ◌∷◌, [], Some, None, true, false, length, IfOk, IfErr, OnOk, OnErr, slice_get};
+ghost use Rattle.std.specs.Prelude.{◌≡◌, ◌<◌, Some, None, true, length, IfOk, IfErr, OnOk, OnErr, slice_get};
 ghost use Rattle.std.specs.List.{position};
 ghost use Rattle.scc_bucket.specs.ShelfWrites.{put_whole};
-ghost use Rattle.scc_table.specs.Contents.{entries, bucket_count, settings_of, minimum_of, refused_of, key_hash, IsUniqueBy, HasRoomBy};
+ghost use Rattle.scc_table.specs.Contents.{entries, bucket_count, settings_of, refused_of, key_hash, IsUniqueBy};
 ghost use Rattle.scc_table.specs.OneList.{HasSameLists, IsPutIn};
 ghost use Rattle.scc_table.specs.Places.{IsPlace, IsInsertedAt, index_of};
-ghost use Rattle.scc_table.specs.Pour.{RoomFor};
 ghost use Rattle.scc_table.specs.Routing.{bucket_number};
-ghost use Rattle.scc_table.specs.Sizes.{IsArray, IsArraySize};
-ghost use Rattle.scc_table.specs.Steps.{FirstArrayWhenDue, Grows, GrowsWhenDue, IsUnchanged, RaisesWhenDue};
-ghost use Rattle.scc_table.specs.Tables.{AllEmpty};
+ghost use Rattle.scc_table.specs.Steps.{FirstArrayWhenDue, Grows, IsUnchanged};
 ghost use Rattle.scc_table.specs.Writes.{with_write_at};
 
 use super::Table;

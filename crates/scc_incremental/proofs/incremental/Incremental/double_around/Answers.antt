@@ -1,8 +1,9 @@
-use Rattle.std.proofs.Common.{◌≡◌, ◌∙◌, ◌*◌, ◌<◌, inl, inr, true, false, length, take, sym, ap, subst, arith}
+use Rattle.std.proofs.Common.{◌≡◌, ◌∙◌, ℕ, ◌*◌, ◌<◌, inl, inr, true, false, length, take, sym, ap, subst, arith}
 use Rattle.std.specs.List.{range_with_len, slice_get}
 use Rattle.std.specs.List.Sorted.{IsPermutation}
 use Rattle.scc_array.proofs.Gets.{get-some}
-use Rattle.scc_table.specs.Contents.{bucket_count, entries, key_hash, list_of, lists_of, settings_of, waiting_of}
+use Rattle.scc_table.specs.Contents.{bucket_count, entries, key_hash, list_of, lists_of, settings_of, waiting_of, Settings}
+use Rattle.scc_table.specs.Hashing.{hash_of}
 use Rattle.scc_table.specs.Pour.{bound_for, IsRegrouped}
 use Rattle.scc_table.specs.Routing.{bucket_number}
 use Rattle.scc_table.proofs.PairSplits.{by_answer}
@@ -13,12 +14,22 @@ use Rattle.scc_incremental.specs.TwoArrays.{pending_targets, waits_at}
 use Rattle.scc_incremental.proofs.Grown.{but-down, but-left, but-pending, but-short, stands-after, stands-routed}
 use Rattle.scc_incremental.proofs.Same.{count-same, entries-same, list-same, pending-same, regrouped-same, unchanged-same}
 use Rattle.scc_incremental.proofs.Settled.{settled-all}
-use Rattle.scc_incremental.proofs.Viewed.{settings-seen}
+use Rattle.scc_incremental.proofs.Viewed.{count-seen, lists-seen, settings-seen, settled-flags}
 use Rattle.scc_incremental.proofs.incremental.Incremental.double_around.Goals as goal
 
-pub count_bound-slot-requires-clause-settled : goal.count_bound-slot-requires-clause-settled
-count_bound-slot-requires-clause-settled g c =
-    settled-all c.args.self.now c.requires.pending c.args.place.bucket
+pub count_bound-slot-requires-clause-within : goal.count_bound-slot-requires-clause-within
+count_bound-slot-requires-clause-within g c =
+    let t = c.self.inside in
+    let count = count-seen _ t.current t.waiting.items t.draining c.args.self.now c.self.view_is c.self.invariant.arrays.flags in
+    omega (arith, count, c.requires.within)
+
+pub count_bound-slot-requires-clause-first : goal.count_bound-slot-requires-clause-first
+count_bound-slot-requires-clause-first g c =
+    let t = c.self.inside in
+    let a = c.args.self.now in
+    let lists = lists-seen _ t.current t.waiting.items t.draining a c.self.view_is (settled-flags a c.self.invariant c.self.view_is c.requires.pending) in
+    let own = ap length (list-same t.current a lists c.args.place.bucket) in
+    omega (arith, own, c.requires.slot)
 
 pub start_at-requires-clause-array : goal.start_at-requires-clause-array
 start_at-requires-clause-array g c =
@@ -141,7 +152,12 @@ returns-in-Ok-clause-here g c =
     let twice : 2 * n ≡ 2 * bucket_count a = ap (λ z. 2 * z) counted in
     let near : k ≡ bucket_number t (2 * bucket_count a) c.args.hash = at ∙ ap (λ z. bucket_number t z c.args.hash) twice in
     let list : list_of d k ≡ bound_for hash t (2 * bucket_count a) k (entries a) = reg.each k l ∙ ap (λ z. bound_for hash t z k (entries a)) twice in
-    let slot : c.count_bound-slot.result ≡ length (bound_for hash t (2 * bucket_count a) k (take c.args.place.slot es)) = c.count_bound-slot.ensures ∙ ap (λ z. length (bound_for hash z (2 * n) k (take c.args.place.slot es))) s ∙ ap (λ z. length (bound_for hash t z k (take c.args.place.slot es))) twice in
+    let lists-now = lists-seen _ c.self.inside.current c.self.inside.waiting.items c.self.inside.draining a c.self.view_is (settled-flags a c.self.invariant c.self.view_is c.requires.pending) in
+    let own : es ≡ list_of c.self.inside.current c.args.place.bucket = list-same c.self.inside.current a lists-now c.args.place.bucket in
+    let hashes = λ (s : Settings g.row.H.Denot). let h : g.row.E.Denot → ℕ = λ e. hash_of g.H.BuildHasher g.H.Hasher.Hasher s.hasher (g.E.Key.Hash.hash_input (g.E.Keyed.key_of e)) in h in
+    let few = c.count_bound-slot.ensures ∙ ap (λ xs. length (bound_for (hashes (settings_of c.self.inside.current)) c.self.inside.skipped (2 * n) k (take c.args.place.slot xs))) (sym own)
+    ∙ ap (λ s. length (bound_for (hashes s) c.self.inside.skipped (2 * n) k (take c.args.place.slot es))) (sym set) in
+    let slot : c.count_bound-slot.result ≡ length (bound_for hash t (2 * bucket_count a) k (take c.args.place.slot es)) = few ∙ ap (λ z. length (bound_for hash z (2 * n) k (take c.args.place.slot es))) s ∙ ap (λ z. length (bound_for hash t z k (take c.args.place.slot es))) twice in
     ap (slice_get (list_of d k)) slot ∙ stands-after hash a d c.keep_lists.ensures.routed c.args.place.bucket c.args.place.slot c.args.hash x.0 x.1 (c.requires.hashed x.0 x.1) k near list
 
 pub returns-in-Ok-clause-routed : goal.returns-in-Ok-clause-routed

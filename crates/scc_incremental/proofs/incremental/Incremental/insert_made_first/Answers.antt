@@ -1,14 +1,13 @@
 use Rattle.std.proofs.Common.{◌≡◌, ◌∙◌, ℕ, None, List, map, sym, ap, subst, arith}
 use Rattle.std.specs.List.{position, IsDistinct}
-use Rattle.scc_table.specs.Contents.{bucket_count, key_hash, refused_of, settings_of}
-use Rattle.scc_table.proofs.PairSplits.{by_answer}
+use Rattle.scc_table.specs.Contents.{bucket_count, key_hash, settings_of}
 use Rattle.scc_incremental.specs.TwoArrays.{IsIncremental, together}
 use Rattle.scc_incremental.proofs.Alone.{entries-alone, lists-alone}
 use Rattle.scc_incremental.proofs.Firsts.{no-flags}
 use Rattle.scc_incremental.proofs.Joining.{refused-together, settings-together, waiting-together}
 use Rattle.scc_incremental.proofs.Lone.{fields-lone, over-first, over-grows, over-inserted, over-unchanged}
 use Rattle.scc_incremental.proofs.Same.{entries-same, hash-same, if-err, if-ok, on-ok}
-use Rattle.scc_incremental.proofs.Settled.{either-answer, raises-some}
+use Rattle.scc_incremental.proofs.Settled.{either-answer}
 use Rattle.scc_incremental.proofs.Viewed.{count-seen, lists-seen, refused-seen, settings-seen}
 use Rattle.scc_incremental.proofs.incremental.Incremental.insert_made_first.Goals as goal
 

@@ -1,11 +1,11 @@
-use Rattle.std.proofs.Common.{◌<◌, ◌≤◌, ◌+◌, ◌∙◌, sym, ap, arith, length}
+use Rattle.std.proofs.Common.{◌≤◌, ◌∙◌, sym, ap, arith, length}
 use Rattle.scc_array.specs.Shelves.{shelf_of}
 use Rattle.scc_bucket.specs.Shelf.{shelf_entries}
 use Rattle.scc_table.specs.Contents.{key_hash}
 use Rattle.scc_table.specs.Routing.{bucket_number}
 use Rattle.scc_table.specs.Pour.{bound_for}
-use Rattle.scc_incremental.proofs.Stepped.{before-end, bound-skip}
-use Rattle.scc_incremental.proofs.stepping.slot_from.Goals as goal
+use Rattle.scc_relocation.proofs.Stepped.{before-end, bound-skip}
+use Rattle.scc_relocation.proofs.stepping.slot_from.Goals as goal
 
 pub returns-then-bucket_index-target : goal.returns-then-bucket_index-target
 returns-then-bucket_index-target g c =

@@ -1,8 +1,8 @@
 use Rattle.std.proofs.Common.{◌≡◌, ◌≤◌}
 use Rattle.scc_table.specs.Contents.{key_hash}
 use Rattle.scc_table.specs.Pour.{bound_for}
-use Rattle.scc_incremental.specs.Stepping.{entries_before}
-use Rattle.scc_incremental.proofs.stepping.slot_from.Given as goal
+use Rattle.scc_relocation.specs.Stepping.{entries_before}
+use Rattle.scc_relocation.proofs.stepping.slot_from.Given as goal
 
 abbrev pub invariant-loop-place : goal.invariant-loop-place
 invariant-loop-place g l = record {

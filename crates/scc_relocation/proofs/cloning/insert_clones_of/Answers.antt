@@ -6,7 +6,7 @@ use Rattle.scc_bucket.specs.Shelf.{shelf_entries}
 use Rattle.scc_table.specs.Clones.{AddsClones}
 use Rattle.scc_table.proofs.Arrays.{flat-next}
 use Rattle.scc_table.proofs.Cloning.{adds-none, adds-more}
-use Rattle.scc_incremental.proofs.incremental.cloning.insert_clones_of.Goals as goal
+use Rattle.scc_relocation.proofs.cloning.insert_clones_of.Goals as goal
 
 pub loop-bucket-init : goal.loop-bucket-init
 loop-bucket-init g c = adds-none g.E.Clone.is_clone c.args.table.now

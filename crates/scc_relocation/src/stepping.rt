@@ -1,16 +1,26 @@
 //! Steps from entry to entry of one target in the old array.
-ghost use Rattle.std.specs.Prelude.{◌≡◌, ◌<◌, ◌≤◌, ◌+◌, ◌^◌, ℕ, length, take, MatchOption};
+ghost use Rattle.std.specs.Prelude.{◌≡◌, ◌<◌, ◌≤◌, ◌⊎◌, ◌+◌, ◌^◌, ℕ, length, take, MatchOption};
 ghost use Rattle.std.specs.List.{flat_map};
 ghost use Rattle.scc_array.specs.Shelves.{shelf_of};
 ghost use Rattle.scc_bucket.specs.Shelf.{shelf_entries};
 ghost use Rattle.scc_table.specs.Contents.{key_hash};
 ghost use Rattle.scc_table.specs.Pour.{bound_for};
-ghost use Rattle.scc_incremental.specs.Stepping.{entries_before, StandsNext};
+ghost use Rattle.scc_relocation.specs.Stepping.{entries_before, StandsNext};
 
 use scc_array::Array;
 use scc_table::route::bucket_index;
 use scc_table::{Keyed, Table};
 use std::hash::{BuildHasher, Hash};
+
+/// The end of a range, or the number after `first` where it would end before.
+pub fn end_past(end: usize, first: usize) -> usize
+    requires { first < 2 ^ 58 }
+    ensures least { end ≤ result }
+    ensures past { first < result }
+    ensures one { (result ≡ end) ⊎ (result ≡ first + 1) }
+{
+    if first < end { end } else { first + 1 }
+}
 
 /// The number of the first entry of one old bucket, from number `slot` on, that belongs to the target. `table` has the hasher.
 fn slot_from<E: Keyed, H: BuildHasher>(
@@ -39,7 +49,7 @@ where
 }
 
 /// The old bucket, and the number in it, of the first entry from number `slot` of bucket `first` on, up to before bucket `last`, that belongs to the target.
-pub(crate) fn spot_from<E: Keyed, H: BuildHasher>(
+pub fn spot_from<E: Keyed, H: BuildHasher>(
     old: &Array<E>,
     first: usize,
     slot: usize,

@@ -3,8 +3,8 @@ use Rattle.std.specs.List.{flat_map}
 use Rattle.scc_bucket.specs.Shelf.{shelf_entries}
 use Rattle.scc_table.specs.Contents.{key_hash}
 use Rattle.scc_table.specs.Pour.{bound_for}
-use Rattle.scc_incremental.specs.Stepping.{entries_before}
-use Rattle.scc_incremental.proofs.stepping.spot_from.Given as goal
+use Rattle.scc_relocation.specs.Stepping.{entries_before}
+use Rattle.scc_relocation.proofs.stepping.spot_from.Given as goal
 
 abbrev pub invariant-loop-source : goal.invariant-loop-source
 invariant-loop-source g l = record {

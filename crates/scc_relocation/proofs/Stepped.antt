@@ -1,5 +1,5 @@
 -- The entries of the old array before one of its places, and one more.
-use Rattle.std.proofs.Common.{◌≡◌, ◌≢◌, ℕ, suc, ◌+◌, ◌<◌, ◌≤◌, Some, List, [], ◌∷◌, ◌++◌, length, take, refl, sym, ap, ◌∙◌, arith, add-one, append_assoc}
+use Rattle.std.proofs.Common.{◌≡◌, ◌≢◌, ℕ, ◌+◌, ◌<◌, ◌≤◌, Some, List, [], ◌∷◌, ◌++◌, length, take, refl, sym, ap, ◌∙◌, add-one, append_assoc}
 use Rattle.std.specs.List.{flat_map, slice_get}
 use Rattle.std.proofs.lemmas.List.{append-nil, take_all}
 use Rattle.scc_array.specs.Shelves.{shelf_of}
@@ -8,7 +8,7 @@ use Rattle.scc_table.specs.Pour.{bound_for}
 use Rattle.scc_table.specs.Routing.{bucket_number}
 use Rattle.scc_table.proofs.Arrays.{take-got}
 use Rattle.scc_table.proofs.Pours.{bound_append, bound_here, bound_other}
-use Rattle.scc_incremental.specs.Stepping.{entries_before}
+use Rattle.scc_relocation.specs.Stepping.{entries_before}
 use Rattle.scc_relocation.proofs.Draining.{flat-more}
 
 take-none : {X : Type 0} (xs : List X) → take 0 xs ≡ []
