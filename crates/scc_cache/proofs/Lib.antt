@@ -2,7 +2,6 @@ pub mod Caching
 pub mod Entries
 pub mod Relocations
 pub mod Removing
-pub mod SpotVisits
 pub mod Walked
 pub mod Walking
 pub mod Writing

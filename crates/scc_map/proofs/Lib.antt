@@ -4,5 +4,4 @@ pub mod CallerLemmas
 pub mod Entries
 pub mod EntrySteps
 pub mod Filtering
-pub mod SpotVisits
 pub mod Visiting

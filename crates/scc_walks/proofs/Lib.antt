@@ -1,4 +1,5 @@
 pub mod Comparing
 pub mod Reached
+pub mod SpotVisits
 pub mod Takings
 pub mod Visits

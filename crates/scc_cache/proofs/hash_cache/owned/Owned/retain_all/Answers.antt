@@ -5,7 +5,7 @@ use Rattle.scc_table.proofs.Placed.{drop-all}
 use Rattle.scc_walks.proofs.Reached.{take-all}
 use Rattle.scc_incremental.specs.Places.{spot_of}
 use Rattle.scc_incremental.proofs.Reached.{walk_spot}
-use Rattle.scc_cache.proofs.SpotVisits.{first-spot, place-after, kept-spot, others-out, pair-out, took-spot}
+use Rattle.scc_walks.proofs.SpotVisits.{first-spot, place-after, kept-spot, others-out, took-spot}
 use Rattle.scc_walks.proofs.Visits.{kept-nearer, took-nearer, retains-kept, retains-removed, turn-here, turn-kept, turn-removed}
 use Rattle.scc_cache.proofs.Walked.{visits}
 use Rattle.scc_cache.proofs.hash_cache.owned.Owned.retain_all.Goals as goal

@@ -8,7 +8,7 @@ use Rattle.scc_incremental.specs.Places.{spot_of}
 use Rattle.scc_incremental.proofs.Reached.{walk_spot}
 use Rattle.scc_walks.proofs.Visits.{visited, kept-nearer, took-nearer, retains-kept, retains-removed, turn-here, turn-kept, turn-removed}
 use Rattle.scc_incremental.proofs.Relocations.{waiting-write}
-use Rattle.scc_map.proofs.SpotVisits.{first-spot, place-after, kept-spot, others-out, took-spot}
+use Rattle.scc_walks.proofs.SpotVisits.{first-spot, place-after, kept-spot, others-out, took-spot}
 use Rattle.scc_map.proofs.hash_map.owned.Owned.retain_all.Goals as goal
 
 pub loop-at-init : goal.loop-at-init

@@ -9,7 +9,7 @@ use Rattle.scc_incremental.proofs.Reached.{walk_spot}
 use Rattle.scc_walks.proofs.Takings.{takes-refused, takes-kept, takes-kept_last, takes-took, takes-took_last}
 use Rattle.scc_walks.proofs.Visits.{visited, kept-nearer, took-nearer, turn-here, turn-kept, turn-removed}
 use Rattle.scc_incremental.proofs.Relocations.{waiting-write}
-use Rattle.scc_map.proofs.SpotVisits.{first-spot, place-after, kept-spot, pair-out, others-out, took-spot}
+use Rattle.scc_walks.proofs.SpotVisits.{first-spot, place-after, kept-spot, pair-out, others-out, took-spot}
 use Rattle.scc_map.proofs.hash_map.owned.Owned.take_walk.Goals as goal
 
 pub loop-at-init : goal.loop-at-init
