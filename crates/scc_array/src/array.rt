@@ -82,13 +82,30 @@ impl<E> Array<E> {
         self.columns.count(bucket) >= 32
     }
 
-    /// Whether the place is past the places in use.
+    /// Whether the entry at a place lies past the places in use.
     #[inline(always)]
     pub fn is_overflow(&self, bucket: usize, place: usize) -> bool
-        requires { bucket < length self.now }
+        requires bucket { bucket < length self.now }
+        requires place { place < length (shelf_entries (shelf_of self.now bucket)) }
         ensures { IsTrue result ↔ (length (shelf_of self.now bucket).slots ≤ place) }
     {
-        place >= self.columns.count_past(bucket, place)
+        place >= self.count_past(bucket, place)
+    }
+
+    /// How many places of the bucket are in use, where the entry at the place lies past them; where it doesn't, a number above that of the place. While no bucket has a list no tag is read.
+    #[inline(always)]
+    pub(crate) fn count_past(&self, bucket: usize, place: usize) -> usize
+        requires bucket { bucket < length self.now }
+        requires place { place < length (shelf_entries (shelf_of self.now bucket)) }
+        ensures within { place < result → place < length (shelf_of self.now bucket).slots }
+        ensures past { result ≤ place → result ≡ length (shelf_of self.now bucket).slots }
+    {
+        if self.overflow.len() == 0 {
+            // A bucket has few places, so the sum is small; the compiler drops the count.
+            let _few = self.columns.count(bucket);
+            return place + 1;
+        }
+        self.columns.count_past(bucket, place)
     }
 
     /// How many entries the bucket has past its places.
@@ -164,7 +181,7 @@ impl<E> Array<E> {
         requires place { place < length (shelf_entries (shelf_of self.now bucket)) }
         ensures { slice_get (shelf_entries (shelf_of self.now bucket)) place ≡ Some result.now }
     {
-        let count = self.columns.count_past(bucket, place);
+        let count = self.count_past(bucket, place);
         if place < count {
             return self.columns.entry_at(bucket, place);
         }
@@ -179,7 +196,7 @@ impl<E> Array<E> {
         ensures entry { slice_get (shelf_entries (shelf_of self.old bucket)) place ≡ Some result }
         ensures others { self.new ≡ slice_set self.old bucket (without_place (shelf_of self.old bucket) place) }
     {
-        let count = self.columns.count_past(bucket, place);
+        let count = self.count_past(bucket, place);
         if place < count {
             return self.columns.remove(bucket, place);
         }
@@ -195,7 +212,7 @@ impl<E> Array<E> {
         ensures entry { slice_get (shelf_entries (shelf_of self.old bucket)) place ≡ Some result }
         ensures others { self.new ≡ slice_set self.old bucket (swapped_out (shelf_of self.old bucket) place result) }
     {
-        let count = self.columns.count_past(bucket, place);
+        let count = self.count_past(bucket, place);
         if place < count {
             return self.columns.swap_remove(bucket, place);
         }

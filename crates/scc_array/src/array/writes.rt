@@ -19,7 +19,7 @@ impl<E: Valued> Array<E> {
         ensures* writes_back { sem 𝓛 (lends_array_value E.row E.Value.row E.with_value self.entry bucket place result) }
         ensures value { (e : E) × (slice_get (shelf_entries (shelf_of self.old bucket)) place ≡ Some e) × (result.now ≡ E.value_of e) }
     {
-        let count = self.columns.count_past(bucket, place);
+        let count = self.count_past(bucket, place);
         if place < count {
             let entry = self.columns.entry_mut(bucket, place);
             entry.value_mut()
@@ -38,7 +38,7 @@ impl<E: Valued> Array<E> {
         ensures* writes_back { sem 𝓛 (lends_array_value E.row E.Value.row E.with_value self.entry bucket place result.1) }
         ensures parts { (e : E) × (slice_get (shelf_entries (shelf_of self.old bucket)) place ≡ Some e) × (result.0.now ≡ E.Keyed.key_of e) × (result.1.now ≡ E.value_of e) }
     {
-        let count = self.columns.count_past(bucket, place);
+        let count = self.count_past(bucket, place);
         if place < count {
             let entry = self.columns.entry_mut(bucket, place);
             entry.parts_mut()
@@ -56,7 +56,7 @@ impl<E: Valued> Array<E> {
         ensures old { (e : E) × (slice_get (shelf_entries (shelf_of self.old bucket)) place ≡ Some e) × (result ≡ E.Keyed.key_of e) }
         ensures new { self.new ≡ slice_set self.old bucket (shelf_write_at E.with_key (shelf_of self.old bucket) place key) }
     {
-        let count = self.columns.count_past(bucket, place);
+        let count = self.count_past(bucket, place);
         if place < count {
             let entry = self.columns.entry_mut(bucket, place);
             return entry.replace_key(key);
@@ -75,7 +75,7 @@ impl<E> Array<E> {
         ensures old { slice_get (shelf_entries (shelf_of self.old bucket)) place ≡ Some result }
         ensures new { self.new ≡ slice_set self.old bucket (shelf_write_at put_whole (shelf_of self.old bucket) place entry) }
     {
-        let count = self.columns.count_past(bucket, place);
+        let count = self.count_past(bucket, place);
         if place < count {
             let there = self.columns.entry_mut(bucket, place);
             return mem::replace(there, entry);

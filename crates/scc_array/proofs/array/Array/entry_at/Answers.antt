@@ -7,11 +7,11 @@ use Rattle.scc_array.proofs.Shelves.{window-within, slots-are, spilled-there, li
 use Rattle.scc_array.specs.Shelves.{shelf_of}
 use Rattle.scc_array.proofs.array.Array.entry_at.Goals as goal
 
-pub count_past-count-requires : goal.count_past-count-requires
-count_past-count-requires g c =
-    let ws = c.self.inside.columns in let os = c.self.inside.overflow.items in let bs = c.args.self.now in let b = c.args.bucket in
-    let view = c.self.view_is in let within = window-within ws os bs view b c.requires.bucket in
-    within
+pub entry_at-requires-clause-bucket : goal.entry_at-requires-clause-bucket
+entry_at-requires-clause-bucket g c = window-within c.self.inside.columns c.self.inside.overflow.items c.args.self.now c.self.view_is c.args.bucket c.requires.bucket
+
+pub entry_at-requires-clause-place : goal.entry_at-requires-clause-place
+entry_at-requires-clause-place g c = omega (arith, c.count_past-count.ensures.within c.if-place-count.true, ap length (slots-are c.self.inside.columns c.self.inside.overflow.items c.args.self.now c.self.view_is c.args.bucket c.requires.bucket))
 
 pub returns-then-place-count : goal.returns-then-place-count
 returns-then-place-count g c =
@@ -25,7 +25,7 @@ index-requires g c =
     let ws = c.self.inside.columns in let os = c.self.inside.overflow.items in let bs = c.args.self.now in let b = c.args.bucket in
     let view = c.self.view_is in let within = window-within ws os bs view b c.requires.bucket in
     let slots = slots-are ws os bs view b c.requires.bucket in
-    let k : c.count_past-count.result ≡ length (shelf_of bs b).slots = (c.count_past-count.ensures.past (omega (arith, c.if-place-count.false))) ∙ ap length slots in
+    let k : c.count_past-count.result ≡ length (shelf_of bs b).slots = (c.count_past-count.ensures.past (omega (arith, c.if-place-count.false)) ∙ sym (ap length slots)) ∙ ap length slots in
     let far : length (shelf_of bs b).slots ≤ c.args.place = omega (arith, c.if-place-count.false) in
     let some : c.args.place - c.count_past-count.result < length (shelf_of bs b).overflow = omega (arith, c.requires.place, length-append (shelf_of bs b).slots (shelf_of bs b).overflow) in
     let there = spilled-there ws os bs view b c.requires.bucket c.self.invariant (omega arith) in
@@ -36,7 +36,7 @@ index-requires-2 g c =
     let ws = c.self.inside.columns in let os = c.self.inside.overflow.items in let bs = c.args.self.now in let b = c.args.bucket in
     let view = c.self.view_is in let within = window-within ws os bs view b c.requires.bucket in
     let slots = slots-are ws os bs view b c.requires.bucket in
-    let k : c.count_past-count.result ≡ length (shelf_of bs b).slots = (c.count_past-count.ensures.past (omega (arith, c.if-place-count.false))) ∙ ap length slots in
+    let k : c.count_past-count.result ≡ length (shelf_of bs b).slots = (c.count_past-count.ensures.past (omega (arith, c.if-place-count.false)) ∙ sym (ap length slots)) ∙ ap length slots in
     let far : length (shelf_of bs b).slots ≤ c.args.place = omega (arith, c.if-place-count.false) in
     let some : c.args.place - c.count_past-count.result < length (shelf_of bs b).overflow = omega (arith, c.requires.place, length-append (shelf_of bs b).slots (shelf_of bs b).overflow) in
     let there = spilled-there ws os bs view b c.requires.bucket c.self.invariant (omega arith) in
@@ -48,7 +48,7 @@ returns g c =
     let ws = c.self.inside.columns in let os = c.self.inside.overflow.items in let bs = c.args.self.now in let b = c.args.bucket in
     let view = c.self.view_is in let within = window-within ws os bs view b c.requires.bucket in
     let slots = slots-are ws os bs view b c.requires.bucket in
-    let k : c.count_past-count.result ≡ length (shelf_of bs b).slots = (c.count_past-count.ensures.past (omega (arith, c.if-place-count.false))) ∙ ap length slots in
+    let k : c.count_past-count.result ≡ length (shelf_of bs b).slots = (c.count_past-count.ensures.past (omega (arith, c.if-place-count.false)) ∙ sym (ap length slots)) ∙ ap length slots in
     let far : length (shelf_of bs b).slots ≤ c.args.place = omega (arith, c.if-place-count.false) in
     let some : c.args.place - c.count_past-count.result < length (shelf_of bs b).overflow = omega (arith, c.requires.place, length-append (shelf_of bs b).slots (shelf_of bs b).overflow) in
     let there = spilled-there ws os bs view b c.requires.bucket c.self.invariant (omega arith) in
