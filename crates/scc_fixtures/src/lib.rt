@@ -2,6 +2,7 @@
 #![tactic(auto)]
 
 pub mod alike;
+pub mod forgetful;
 pub mod kept;
 pub mod maybe_equal;
 pub mod numbers;

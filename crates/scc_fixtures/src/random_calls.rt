@@ -81,7 +81,17 @@ fn look<H: BuildHasher>(
     agrees && map.len() == model.len()
 }
 
-/// Whether so many calls on keys below a power of two, writes and removals half and half, answer as on a plain list, and the map has the pairs of the list at the end. The map has to be empty. It takes time by the calls times the keys.
+// Whether the map has just the pairs of the list.
+fn has_just<H: BuildHasher>(map: &Owned<u64, u64, H>, model: &[(u64, u64)]) -> bool {
+    let mut agrees = map.len() == model.len();
+    for pair in model {
+        let there = map.read_sync(&pair.0, |_, value| *value) == Some(pair.1);
+        agrees = agrees && there;
+    }
+    agrees
+}
+
+/// Whether so many calls on keys below a power of two, writes and removals half and half, answer as on a plain list, and the map has just the pairs of the list at the end. The map has to be empty. It takes time by the calls times the keys.
 pub fn agrees_with_a_list<H: BuildHasher>(
     alloc: Global,
     map: &mut Owned<u64, u64, H>,
@@ -89,22 +99,28 @@ pub fn agrees_with_a_list<H: BuildHasher>(
     mask: u64,
 ) -> Result<bool, AllocError> {
     let mut model: Vec<(u64, u64)> = Vec::new(alloc);
+    agrees_with(map, &mut model, calls, mask)
+}
+
+/// The same from the pairs of that list on. Where the map doesn't have just them, the answer is false.
+pub fn agrees_with<H: BuildHasher>(
+    map: &mut Owned<u64, u64, H>,
+    model: &mut Vec<(u64, u64)>,
+    calls: u64,
+    mask: u64,
+) -> Result<bool, AllocError> {
     let mut seed = mask;
-    let mut agrees = true;
+    let mut agrees = has_just(map, model.as_slice());
     for _ in 0..calls {
         let key = (next(&mut seed) & mask).wrapping_mul(0x9E37_79B9_7F4A_7C15);
         let kind = next(&mut seed) % 4;
         let call_agrees = if next(&mut seed) % 2 == 0 {
             let value = next(&mut seed);
-            write(map, &mut model, kind, (key, value))?
+            write(map, model, kind, (key, value))?
         } else {
-            look(map, &mut model, kind, key)
+            look(map, model, kind, key)
         };
         agrees = agrees && call_agrees;
     }
-    for pair in model.iter() {
-        let there = map.read_sync(&pair.0, |_, value| *value) == Some(pair.1);
-        agrees = agrees && there;
-    }
-    Ok(agrees)
+    Ok(agrees && has_just(map, model.as_slice()))
 }

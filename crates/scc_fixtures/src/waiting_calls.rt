@@ -1,4 +1,6 @@
 //! Random calls on a container most of whose buckets wait, and on a plain list of pairs: what it holds has to be the same. It is filled until it grows, looked at, emptied until it shrinks, and looked at again.
+ghost use Rattle.std.specs.Prelude.{◌≡◌, ◌<◌, ◌+◌, ◌/◌, ◌%◌, ◌^◌, ◌↔◌, IsTrue, cond};
+
 use crate::numbers::next;
 use std::alloc::{AllocError, Global};
 
@@ -39,7 +41,11 @@ pub struct Tally {
 
 impl Tally {
     // Counts one call.
-    fn note(&mut self, waited: bool, right: bool) {
+    fn note(&mut self, waited: bool, right: bool)
+        ensures calls { self.new.calls ≡ (self.old.calls + 1) % 2 ^ 64 }
+        ensures waited { self.new.waited ≡ cond waited ((self.old.waited + 1) % 2 ^ 64) self.old.waited }
+        ensures wrong { self.new.wrong ≡ cond right self.old.wrong ((self.old.wrong + 1) % 2 ^ 64) }
+    {
         self.calls = self.calls.wrapping_add(1);
         if waited {
             self.waited = self.waited.wrapping_add(1);
@@ -50,7 +56,9 @@ impl Tally {
     }
 
     /// Whether all answers were right, and most calls were made while buckets waited.
-    pub fn holds(&self) -> bool {
+    pub fn holds(&self) -> bool
+        ensures { IsTrue result ↔ ((self.now.wrong ≡ 0) × (self.now.calls / 2 < self.now.waited)) }
+    {
         self.wrong == 0 && self.waited > self.calls / 2
     }
 }

@@ -1,6 +1,6 @@
 // Random calls on a map, whose answers have to be those of a plain list.
 use scc::hash_map::Owned;
-use scc_fixtures::random_calls::agrees_with_a_list;
+use scc_fixtures::random_calls::{agrees_with, agrees_with_a_list};
 use scc_fixtures::zero::Zero;
 use scc_script::same::Same;
 use std::hash::{BuildHasherDefault, FoldHasher};
@@ -25,5 +25,16 @@ fn map_random_calls_under_their_own_hash(rt: HostRuntime) -> Result<(), Fail> {
 fn map_random_calls_in_one_bucket(rt: HostRuntime) -> Result<(), Fail> {
     let mut map = Owned::with_hasher(rt.alloc(), Zero);
     assert!(rt; agrees_with_a_list(rt.alloc(), &mut map, 10_000, 255)?);
+    Ok(())
+}
+
+#[test]
+fn a_lost_key_is_found_out(rt: HostRuntime) -> Result<(), Fail> {
+    let mut map = Owned::with_hasher(rt.alloc(), Same);
+    map.insert_sync(1, 10)?;
+    let mut whole = vec![in rt.alloc(); (1, 10)]?;
+    assert!(rt; agrees_with(&mut map, &mut whole, 0, 2047)?);
+    let mut more = vec![in rt.alloc(); (1, 10), (3, 30)]?;
+    assert!(rt; !agrees_with(&mut map, &mut more, 0, 2047)?);
     Ok(())
 }

@@ -1,6 +1,7 @@
 // Random calls on containers most of whose buckets wait for their entries.
 use scc::recorded::{MapCall, Reply, run};
 use scc::{hash_index, hash_map, hash_set};
+use scc_fixtures::forgetful::Forgetful;
 use scc_fixtures::numbers::next;
 use scc_fixtures::waiting_calls::{Tally, run_waiting};
 use scc_script::same::Same;
@@ -47,6 +48,14 @@ fn index_random_calls_while_buckets_wait(rt: HostRuntime) -> Result<(), Fail> {
     expect(&rt, run_waiting(rt.alloc(), &mut index, 12, 1023)?);
     let mut index = hash_index::Owned::with_hasher(rt.alloc(), Same);
     expect(&rt, run_waiting(rt.alloc(), &mut index, 12, 1023)?);
+    Ok(())
+}
+
+#[test]
+fn a_lost_key_is_found_out_while_buckets_wait(rt: HostRuntime) -> Result<(), Fail> {
+    let tally = run_waiting(rt.alloc(), &mut Forgetful::new(rt.alloc()), 12, 1023)?;
+    assert!(rt; tally.wrong > 0);
+    assert!(rt; !tally.holds());
     Ok(())
 }
 
