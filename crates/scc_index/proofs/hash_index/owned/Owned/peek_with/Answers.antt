@@ -1,6 +1,4 @@
 use Rattle.std.proofs.Common.{◌≡◌, Some, refl, sym, ap, ◌∙◌}
-use Rattle.scc_table.specs.Contents.{entries}
-use Rattle.scc_table.specs.Pairs.{find}
 use Rattle.scc_index.proofs.hash_index.owned.Owned.peek_with.Goals as goal
 
 pub f-requires : goal.f-requires
