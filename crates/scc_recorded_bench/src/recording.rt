@@ -30,12 +30,9 @@ fn record_all<L: Ledger, M: Site<Fold>, R: Wait>(
     ensures { IsTrue result → map (λ r. r.call) pass.new.log.receipts.items ≡ map (λ r. r.call) pass.old.log.receipts.items ++ map (λ p. MapCall.Upsert p.0 p.1) pairs.now }
 {
     for (key, value) in pairs {
-        if recorded
-            .call(rt, pass, MapCall::Upsert(*key, *value))
-            .is_err()
-        {
+        let Ok(_reply) = recorded.call(rt, pass, MapCall::Upsert(*key, *value)) else {
             return false;
-        }
+        };
     }
     true
 }
