@@ -1,0 +1,31 @@
+//! The keys and values that are upserted.
+ghost use Rattle.std.specs.Prelude.{◌≡◌, ◌<◌, IfOk, vec_len};
+
+use std::alloc::{AllocError, Global};
+
+// Scatters a number over 64 bits; different numbers give different ones.
+fn mix(x: u64) -> u64 {
+    let z = x.wrapping_add(0x9E37_79B9_7F4A_7C15);
+    let z = (z ^ (z >> 30)).wrapping_mul(0xBF58_476D_1CE4_E5B9);
+    let z = (z ^ (z >> 27)).wrapping_mul(0x94D0_49BB_1331_11EB);
+    z ^ (z >> 31)
+}
+
+// The key of the call with that number, one of so many.
+fn key_at(number: u64, keys: u64) -> u64
+    requires { 0 < keys }
+{
+    mix(mix(number) % keys)
+}
+
+/// For each of so many calls one of so many keys, in an order that nothing foretells, and its number.
+pub fn drawn_pairs(alloc: Global, calls: u64, keys: u64) -> Result<Vec<(u64, u64)>, AllocError>
+    requires { 0 < keys }
+    ensures { IfOk result (λ v. vec_len v ≡ calls) }
+{
+    let mut pairs = Vec::new(alloc);
+    for number in 0..calls {
+        pairs.push((key_at(number, keys), number))?;
+    }
+    Ok(pairs)
+}

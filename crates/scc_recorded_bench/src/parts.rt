@@ -1,0 +1,79 @@
+//! The maps that are measured, and what a measurement of them is.
+ghost use Rattle.std.specs.Prelude.{◌≤◌};
+
+use scc_map::hash_map::Owned;
+use scc_recorded::recorded::{Calls, MapCall};
+use scc_table::Shared;
+use std::alloc::{AllocError, Global};
+use std::hash::{BuildHasherDefault, FoldHasher};
+use std::io;
+use std::sync::{Arc, Mutex, Wait};
+use std::time::Duration;
+
+/// The map's own hasher, shared by all parts.
+pub type Fold = Shared<BuildHasherDefault<FoldHasher>>;
+
+pub type Map = Owned<u64, u64, Fold>;
+
+/// How many parts a map is divided into.
+pub const PARTS: usize = 16;
+
+/// What the calls took in nanoseconds, and the sum of the values that were there then.
+#[derive(Clone, Copy, Drop)]
+pub struct Outcome {
+    pub spent: u64,
+    pub sum: u64,
+}
+
+/// The error where memory is refused.
+pub fn out_of_memory() -> io::Error {
+    io::Error::from(io::ErrorKind::OutOfMemory)
+}
+
+/// A duration in nanoseconds, as long as they fit.
+pub fn nanos(spent: Duration) -> u64 {
+    spent
+        .as_secs()
+        .saturating_mul(1_000_000_000)
+        .saturating_add(u64::from(spent.subsec_nanos()))
+}
+
+/// One owner of a hasher.
+pub fn fold_hasher(alloc: Global) -> Result<Fold, AllocError> {
+    Ok(Shared::new(Arc::new(alloc, BuildHasherDefault::new())?))
+}
+
+/// An empty map behind a lock, which skips so many bits of each hash.
+pub fn locked_map(alloc: Global, skipped: u32, hasher: Fold) -> io::Result<Mutex<Map>>
+    requires { skipped ≤ 4 }
+{
+    match <Map as Calls>::make(alloc, skipped, 0, 0, hasher) {
+        Ok(map) => Ok(Mutex::new(map)),
+        Err(_) => Err(out_of_memory()),
+    }
+}
+
+/// Makes one call under the lock, and says whether it was made.
+#[inline(always)]
+pub fn upsert<R: Wait>(rt: &R, map: &Mutex<Map>, key: u64, value: u64) -> bool {
+    map.lock(rt).call(MapCall::Upsert(key, value)).is_ok()
+}
+
+/// The sum of all values of a map.
+pub fn sum_of(map: &Map) -> u64 {
+    let mut sum = 0u64;
+    map.iter_sync(|_, value| {
+        sum = sum.wrapping_add(*value);
+        true
+    });
+    sum
+}
+
+/// The sum of all values of several maps.
+pub fn sum_of_all(maps: &[Map]) -> u64 {
+    let mut sum = 0u64;
+    for map in maps {
+        sum = sum.wrapping_add(sum_of(map));
+    }
+    sum
+}
