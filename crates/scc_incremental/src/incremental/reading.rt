@@ -61,6 +61,7 @@ where
     }
 
     /// How many entries the bucket holds, wherever they lie. For one that waits it takes time by the number of entries in the old buckets that hold them.
+    #[inline(always)]
     pub fn list_len(&self, bucket: usize) -> usize
         requires { bucket < bucket_count self.now }
         ensures { result ≡ length (list_of self.now bucket) }

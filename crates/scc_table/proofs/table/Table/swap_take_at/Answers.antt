@@ -11,13 +11,23 @@ use Rattle.scc_array.specs.Shelves.{shelf_of}
 use Rattle.scc_table.proofs.Arrays.{shelf-at, put-is, put-own}
 use Rattle.scc_table.proofs.table.Table.swap_take_at.Goals as goal
 
-pub is_overflow-in_overflow-requires : goal.is_overflow-in_overflow-requires
-is_overflow-in_overflow-requires g c =
+pub is_overflow-in_overflow-requires-clause-bucket : goal.is_overflow-in_overflow-requires-clause-bucket
+is_overflow-in_overflow-requires-clause-bucket g c =
     let t = c.self.inside in
     let bs = t.buckets in
     let count = count-view bs _ c.args.self.now c.self.view_is in
     let l : c.args.place.bucket < length bs = rw count at c.requires.bucket in
     search rules
+
+pub is_overflow-in_overflow-requires-clause-place : goal.is_overflow-in_overflow-requires-clause-place
+is_overflow-in_overflow-requires-clause-place g c =
+    let t = c.self.inside in
+    let bs = t.buckets in
+    let count = count-view bs _ c.args.self.now c.self.view_is in
+    let l : c.args.place.bucket < length bs = rw count at c.requires.bucket in
+    let b = (shelf_of c.self.inside.buckets c.args.place.bucket) in
+    let lk : c.args.place.slot < length (shelf_entries b) = rw (list-view bs _ c.args.self.now c.self.view_is c.args.place.bucket b l (shelf-at c.self.inside.buckets c.args.place.bucket l)) at c.requires.slot in
+    lk
 
 pub swap_remove_at-entry-requires-clause-bucket : goal.swap_remove_at-entry-requires-clause-bucket
 swap_remove_at-entry-requires-clause-bucket g c =
