@@ -2,9 +2,7 @@
 ghost use Rattle.std.specs.Prelude.{◌≡◌, ◌<◌};
 ghost use Rattle.std.specs.List.{find};
 ghost use Rattle.std.specs.Option.{option_copied};
-ghost use Rattle.scc_table.specs.Contents.{entries, bucket_count, key_hash, pending_of, settings_of};
-ghost use Rattle.scc_table.specs.Routing.{bucket_number};
-ghost use Rattle.scc_incremental.specs.TwoArrays.{IsWaiting};
+ghost use Rattle.scc_table.specs.Contents.{entries, key_hash, pending_of};
 
 use super::Incremental;
 use scc_table::Keyed;
@@ -35,22 +33,11 @@ where
         ensures { option_copied result ≡ find (λ e. E.Key.eq key.now (E.key_of e)) (entries self.now) }
     {
         let bucket = self.current.bucket_at(hash);
+        self.current.keep_lists();
         if self.waiting[bucket] {
-            return self.find_old(bucket, hash, key);
+            let source = bucket_index(hash, self.skipped, self.draining.len());
+            return self.draining.find(source, key, tag(hash));
         }
-        self.current.keep_lists();
         self.current.find(hash, key)
-    }
-
-    /// The same where the bucket of the hash, which is of that number, waits.
-    fn find_old(&self, bucket: usize, hash: u64, key: &E::Key) -> Option<&E>
-        requires waits { IsWaiting self.now bucket }
-        requires routed { bucket ≡ bucket_number (settings_of self.now).skipped (bucket_count self.now) hash }
-        requires hashed { hash ≡ key_hash H.BuildHasher H.Hasher.Hasher E.Key.hash_input self.now key.now }
-        ensures { option_copied result ≡ find (λ e. E.Key.eq key.now (E.key_of e)) (entries self.now) }
-    {
-        self.current.keep_lists();
-        let source = bucket_index(hash, self.skipped, self.draining.len());
-        self.draining.find(source, key, tag(hash))
     }
 }

@@ -1,10 +1,8 @@
 //! The search for a key.
 ghost use Rattle.std.specs.Prelude.{◌≡◌, ◌<◌, None, MatchOption};
 ghost use Rattle.std.specs.List.{position};
-ghost use Rattle.scc_table.specs.Contents.{entries, bucket_count, key_hash, pending_of, settings_of, IsRouted, IsUniqueBy};
-ghost use Rattle.scc_table.specs.Routing.{bucket_number};
+ghost use Rattle.scc_table.specs.Contents.{entries, key_hash, pending_of, IsRouted, IsUniqueBy};
 ghost use Rattle.scc_incremental.specs.Places.{IsFoundAt};
-ghost use Rattle.scc_incremental.specs.TwoArrays.{IsWaiting};
 
 use super::Incremental;
 use scc_table::route::{bucket_index, tag};
@@ -45,28 +43,17 @@ where
         ensures { MatchOption result (position (λ e. E.Key.eq key.now (E.key_of e)) (entries self.now) ≡ None) (IsFoundAt (λ e. E.Key.eq key.now (E.key_of e)) self.now) }
     {
         let bucket = self.current.bucket_at(hash);
+        self.current.keep_lists();
         if self.waiting[bucket] {
-            return self.search_old(bucket, hash, key);
+            let source = bucket_index(hash, self.skipped, self.draining.len());
+            return match self.draining.search(source, key, tag(hash)) {
+                Some(slot) => Some(Place {
+                    bucket: self.current.bucket_count() + source,
+                    slot,
+                }),
+                None => None,
+            };
         }
-        self.current.keep_lists();
         self.current.find_in(hash, key)
-    }
-
-    /// The same where the bucket of the hash, which is of that number, waits.
-    fn search_old(&self, bucket: usize, hash: u64, key: &E::Key) -> Option<Place>
-        requires waits { IsWaiting self.now bucket }
-        requires routed { bucket ≡ bucket_number (settings_of self.now).skipped (bucket_count self.now) hash }
-        requires hashed { hash ≡ key_hash H.BuildHasher H.Hasher.Hasher E.Key.hash_input self.now key.now }
-        ensures { MatchOption result (position (λ e. E.Key.eq key.now (E.key_of e)) (entries self.now) ≡ None) (IsFoundAt (λ e. E.Key.eq key.now (E.key_of e)) self.now) }
-    {
-        self.current.keep_lists();
-        let source = bucket_index(hash, self.skipped, self.draining.len());
-        match self.draining.search(source, key, tag(hash)) {
-            Some(slot) => Some(Place {
-                bucket: self.current.bucket_count() + source,
-                slot,
-            }),
-            None => None,
-        }
     }
 }
