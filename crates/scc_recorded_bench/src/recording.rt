@@ -66,13 +66,13 @@ fn finish_run<L: Ledger, M: Site<Fold>>(
     }
 }
 
-// Finishes what was recorded: the nanoseconds since the start, and the sum of all values.
+// Finishes what was recorded: what that takes in nanoseconds, and the sum of all values.
 fn time_finish<L: Ledger, M: Site<Fold>, C: Clock>(
     clock: &C,
-    start: Instant,
     recorded: Recorded<Map, L, M>,
     passes: Vec<Pass<Map, L>>,
 ) -> io::Result<(u64, u64)> {
+    let start = Instant::now(clock)?;
     let finished = finish_run(recorded, passes)?;
     let spent = nanos(start.elapsed(clock)?);
     Ok((spent, sum_of_all(finished.parts.as_slice())))
@@ -89,8 +89,7 @@ fn record_and_finish<L: Ledger, M: Site<Fold>, R: Wait + Clock>(
 {
     let mut passes = passes;
     let spent = time_calls(rt, &recorded, &mut passes[0], pairs)?;
-    let start = Instant::now(rt)?;
-    let (finish, sum) = time_finish(rt, start, recorded, passes)?;
+    let (finish, sum) = time_finish(rt, recorded, passes)?;
     Ok(Recording {
         calls: Outcome { spent, sum },
         finish,
