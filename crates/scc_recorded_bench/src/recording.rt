@@ -1,5 +1,5 @@
 //! Recorded calls, and the end of what they recorded.
-ghost use Rattle.std.specs.Prelude.{◌≡◌, ◌++◌, IfOk, IsTrue, OnOk, Some, map, vec_len};
+ghost use Rattle.std.specs.Prelude.{◌≡◌, ◌<◌, ◌++◌, IfOk, IsTrue, OnOk, Some, map, vec_len};
 ghost use Rattle.scc_recorder.specs.Setups.{request_of};
 
 use crate::parts::{Fold, Map, Outcome, PARTS, fold_hasher, nanos, out_of_memory, sum_of_all};
@@ -66,16 +66,34 @@ fn finish_run<L: Ledger, M: Site<Fold>>(
     }
 }
 
-// Finishes what was recorded: the nanoseconds since the start, and the sum of all values.
+// Finishes what was recorded: what that takes in nanoseconds, and the sum of all values.
 fn time_finish<L: Ledger, M: Site<Fold>, C: Clock>(
     clock: &C,
-    start: Instant,
     recorded: Recorded<Map, L, M>,
     passes: Vec<Pass<Map, L>>,
 ) -> io::Result<(u64, u64)> {
+    let start = Instant::now(clock)?;
     let finished = finish_run(recorded, passes)?;
     let spent = nanos(start.elapsed(clock)?);
     Ok((spent, sum_of_all(finished.parts.as_slice())))
+}
+
+// Upserts all pairs by the first pass, and finishes.
+fn record_and_finish<L: Ledger, M: Site<Fold>, R: Wait + Clock>(
+    rt: &R,
+    recorded: Recorded<Map, L, M>,
+    passes: Vec<Pass<Map, L>>,
+    pairs: &[(u64, u64)],
+) -> io::Result<Recording>
+    requires { 0 < vec_len passes }
+{
+    let mut passes = passes;
+    let spent = time_calls(rt, &recorded, &mut passes[0], pairs)?;
+    let (finish, sum) = time_finish(rt, recorded, passes)?;
+    Ok(Recording {
+        calls: Outcome { spent, sum },
+        finish,
+    })
 }
 
 // Upserts all pairs by one pass under two ledgers, and finishes.
@@ -96,19 +114,10 @@ fn run_in<L: Ledger, M: Site<Fold>, R: Wait + Clock>(
         maximum: 0,
         hasher,
     };
-    let Ok((recorded, handed)) = Recorded::<Map, L, M>::open(
-        alloc, setup, PARTS, 1, receipts, records,
-    ) else {
-        return Err(out_of_memory());
-    };
-    let mut passes = handed;
-    let spent = time_calls(rt, &recorded, &mut passes[0], pairs)?;
-    let start = Instant::now(rt)?;
-    let (finish, sum) = time_finish(rt, start, recorded, passes)?;
-    Ok(Recording {
-        calls: Outcome { spent, sum },
-        finish,
-    })
+    match Recorded::<Map, L, M>::open(alloc, setup, PARTS, 1, receipts, records) {
+        Ok((recorded, passes)) => record_and_finish(rt, recorded, passes, pairs),
+        Err(_) => Err(out_of_memory()),
+    }
 }
 
 /// Upserts all pairs by one pass in an empty recorded map, and finishes it.
