@@ -37,20 +37,21 @@ fn record_all<L: Ledger, M: Site<Fold>, R: Wait>(
     true
 }
 
-// What the calls take in nanoseconds.
+// What the calls take in nanoseconds, and when they ended.
 fn time_calls<L: Ledger, M: Site<Fold>, R: Wait + Clock>(
     rt: &R,
     recorded: &Recorded<Map, L, M>,
     pass: &mut Pass<Map, L>,
     pairs: &[(u64, u64)],
-) -> io::Result<u64>
+) -> io::Result<(u64, Instant)>
     ensures { OnOk result (map (λ r. r.call) pass.new.log.receipts.items ≡ map (λ r. r.call) pass.old.log.receipts.items ++ map (λ p. MapCall.Upsert p.0 p.1) pairs.now) }
 {
     let start = Instant::now(rt)?;
     if !record_all(rt, recorded, pass, pairs) {
         return Err(out_of_memory());
     }
-    Ok(nanos(start.elapsed(rt)?))
+    let end = Instant::now(rt)?;
+    Ok((nanos(end.duration_since(start)), end))
 }
 
 // What was recorded, finished.
@@ -66,15 +67,15 @@ fn finish_run<L: Ledger, M: Site<Fold>>(
     }
 }
 
-// Finishes what was recorded: what that takes in nanoseconds, and the sum of all values.
+// Finishes what was recorded: the nanoseconds since the calls ended, and the sum of all values.
 fn time_finish<L: Ledger, M: Site<Fold>, C: Clock>(
     clock: &C,
+    ended: Instant,
     recorded: Recorded<Map, L, M>,
     passes: Vec<Pass<Map, L>>,
 ) -> io::Result<(u64, u64)> {
-    let start = Instant::now(clock)?;
     let finished = finish_run(recorded, passes)?;
-    let spent = nanos(start.elapsed(clock)?);
+    let spent = nanos(ended.elapsed(clock)?);
     Ok((spent, sum_of_all(finished.parts.as_slice())))
 }
 
@@ -88,8 +89,8 @@ fn record_and_finish<L: Ledger, M: Site<Fold>, R: Wait + Clock>(
     requires { 0 < vec_len passes }
 {
     let mut passes = passes;
-    let spent = time_calls(rt, &recorded, &mut passes[0], pairs)?;
-    let (finish, sum) = time_finish(rt, recorded, passes)?;
+    let (spent, ended) = time_calls(rt, &recorded, &mut passes[0], pairs)?;
+    let (finish, sum) = time_finish(rt, ended, recorded, passes)?;
     Ok(Recording {
         calls: Outcome { spent, sum },
         finish,
