@@ -200,7 +200,7 @@ module _ {E : Type 0} (fs : List Bool) (base target first : ℕ) (w : Window E) 
               (ap (λ n. tag_view row_left n) n2 ∙ ap tag_there mr.there) (λ h. ap tag_there (mr.gone (λ z. h (omega arith)))) (λ j a b. ap tag_there (mr.others j a (λ z. b (omega arith)))));
           stayed = let n = ap length k1 ∙ length-append (kept (take p fs) w.slots) (x ∷ []) in let f = s.stayed in omega arith;
           moved = s.moved ∙ ap (λ (z : List E). set ws target (let r : Window E = record { slots = (window_of ws target).slots ++ z; tags = (window_of ws target).tags ++ picked (take p fs) w.tags } in r)) (sym (q1 E w.slots))
-          ∙ ap (λ (z : List ℕ). set ws target (let r : Window E = record { slots = (window_of ws target).slots ++ picked (take (p + 1) fs) w.slots; tags = (window_of ws target).tags ++ z } in r)) (sym (q1 ℕ w.tags));
+              ∙ ap (λ (z : List ℕ). set ws target (let r : Window E = record { slots = (window_of ws target).slots ++ picked (take (p + 1) fs) w.slots; tags = (window_of ws target).tags ++ z } in r)) (sym (q1 ℕ w.tags));
           filled = s.filled ∙ ap (λ z. first + length z) (sym (q1 E w.slots));
           all = let a = s.all in omega arith;
         }

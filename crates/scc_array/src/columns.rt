@@ -145,13 +145,7 @@ impl<E> Columns<E> {
 
     /// Moves the entries whose flag is up to the end of a bucket of other columns, in order. The others stay in their order.
     #[inline(always)]
-    pub fn split(
-        &mut self,
-        bucket: usize,
-        flags: &[bool; 32],
-        into: &mut Columns<E>,
-        target: usize,
-    )
+    pub fn split(&mut self, bucket: usize, flags: &[bool; 32], into: &mut Columns<E>, target: usize)
         requires bucket { bucket < length self.old }
         requires target { target < length into.old }
         requires room { length (window_of into.old target).slots + length (window_of self.old bucket).slots ≤ 32 }
@@ -161,7 +155,16 @@ impl<E> Columns<E> {
         let held = self.count(bucket);
         let first = into.count(target);
         let base = 32 * bucket;
-        sift(&mut self.slots, &mut self.tags[bucket], base, held, flags, into, target, first);
+        sift(
+            &mut self.slots,
+            &mut self.tags[bucket],
+            base,
+            held,
+            flags,
+            into,
+            target,
+            first,
+        );
     }
 }
 

@@ -8,13 +8,7 @@ use super::Array;
 impl<E> Array<E> {
     /// Moves the entries in places whose flag is up to the next places of a bucket of another array, in order. The others stay in their order, and so does what lies past the places. Each entry is looked at once, and no memory is taken.
     #[inline(always)]
-    pub fn split(
-        &mut self,
-        bucket: usize,
-        flags: &[bool; 32],
-        into: &mut Array<E>,
-        target: usize,
-    )
+    pub fn split(&mut self, bucket: usize, flags: &[bool; 32], into: &mut Array<E>, target: usize)
         requires bucket { bucket < length self.old }
         requires target { target < length into.old }
         requires room { length (shelf_of into.old target).slots + length (shelf_of self.old bucket).slots ≤ 32 }

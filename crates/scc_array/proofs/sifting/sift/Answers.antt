@@ -35,7 +35,7 @@ loop-p-preserved g c =
                 let l : p < length v.slots = omega (arith, c.loop-p-test.true) in
                 let up : slice_get fs p ≡ Some true = get-here fs p false (omega (arith, c.told-flags)) ∙ ap Some w.if-flags-p.true in
                 let more = sifts-out fs c.args.base c.args.target c.args.first v c.args.into.now c.args.slots.now c.args.row.now at c.loop-p.slots c.loop-p.row c.loop-p.into p c.loop-p.stays c.loop-p.next s l up (omega arith) (omega arith) c.requires.target
-                    w.take-entry.result w.take-entry.ensures.entry w.push_at.new.self w.push_at.ensures in
+                w.take-entry.result w.take-entry.ensures.entry w.push_at.new.self w.push_at.ensures in
                 rw w.take-entry.ensures.places more;
             count = rw w.take-entry.ensures.places (length-set c.loop-p.slots (c.args.base + p) None ∙ c.loop-p.invariant.count);
             wide = length-set c.loop-p.row p 0 ∙ c.loop-p.invariant.wide;
@@ -48,7 +48,7 @@ loop-p-preserved g c =
                 let l : p < length v.slots = omega (arith, c.loop-p-test.true) in
                 let down : slice_get fs p ≡ Some false = get-here fs p false (omega (arith, c.told-flags)) ∙ ap Some w.if-flags-p.false in
                 sifts-stay fs c.args.base c.args.target c.args.first v c.args.into.now c.args.slots.now c.args.row.now at c.loop-p.slots c.loop-p.row c.loop-p.into p c.loop-p.stays c.loop-p.next s l down
-                    w.keep_at.new.slots w.keep_at.new.row w.keep_at.ensures.entries w.keep_at.ensures.tags;
+                w.keep_at.new.slots w.keep_at.new.row w.keep_at.ensures.entries w.keep_at.ensures.tags;
             count = w.keep_at.ensures.entries.count ∙ c.loop-p.invariant.count;
             wide = w.keep_at.ensures.tags.count ∙ c.loop-p.invariant.wide;
             others = λ q o. w.keep_at.ensures.entries.others q (λ z. elim o [ inl a ↦ omega arith | inr a ↦ omega arith ]) (λ z. let a = s0.all in let f = s0.filled in elim o [ inl b ↦ omega arith | inr b ↦ omega arith ]) ∙ c.loop-p.invariant.others q o;

@@ -33,6 +33,6 @@ returns-clause-moved g c =
     let vs = c.into.inside.columns in let ls = c.into.inside.overflow.items in let cs = c.args.into.now in let t = c.args.target in
     let fs = c.args.flags.now in
     rw c.split.ensures.moved (
-      seen-window vs ls cs c.into.view_is t c.requires.target (λ s. shelf_with s fs (shelf_at ws os b)) (window_with (window_of vs t) (picked_of fs (window_of ws b))) refl
-      ∙ ap (λ (s : Shelf g.row.E.Denot). set cs t (shelf_with (shelf_of cs t) fs s)) (sym (shelf-is ws os bs c.self.view_is b c.requires.bucket))
+    seen-window vs ls cs c.into.view_is t c.requires.target (λ s. shelf_with s fs (shelf_at ws os b)) (window_with (window_of vs t) (picked_of fs (window_of ws b))) refl
+    ∙ ap (λ (s : Shelf g.row.E.Denot). set cs t (shelf_with (shelf_of cs t) fs s)) (sym (shelf-is ws os bs c.self.view_is b c.requires.bucket))
     )
