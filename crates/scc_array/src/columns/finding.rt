@@ -6,7 +6,6 @@ ghost use Rattle.scc_array.specs.Windows.{window_of, IsTagged};
 
 use super::Columns;
 use scc_bucket::Keyed;
-use scc_bucket::tags::{lowest_bit, without_lowest_bit};
 
 impl<E: Keyed> Columns<E>
 where
@@ -20,14 +19,9 @@ where
         requires tagged { IsTagged (λ e. E.Key.eq key.now (E.key_of e)) tag (window_of self.now bucket) }
         ensures { option_copied result ≡ find (λ e. E.Key.eq key.now (E.key_of e)) (window_of self.now bucket).slots }
     {
-        let mut bits = self.hits(bucket, tag);
-        'hits: while bits != 0 {
-            let entry = self.entry_at(bucket, lowest_bit(bits));
-            if *key == *entry.key() {
-                return Some(entry);
-            }
-            bits = without_lowest_bit(bits);
+        match self.find(bucket, key, tag) {
+            Some(place) => Some(self.entry_at(bucket, place)),
+            None => None,
         }
-        None
     }
 }
