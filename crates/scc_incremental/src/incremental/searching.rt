@@ -1,5 +1,5 @@
 //! The search for a key.
-ghost use Rattle.std.specs.Prelude.{◌≡◌, ◌<◌, None, MatchOption};
+ghost use Rattle.std.specs.Prelude.{◌≡◌, ◌<◌, ◌≤◌, ◌^◌, None, MatchOption};
 ghost use Rattle.std.specs.List.{position};
 ghost use Rattle.scc_table.specs.Contents.{entries, key_hash, pending_of, IsRouted, IsUniqueBy};
 ghost use Rattle.scc_incremental.specs.Places.{IsFoundAt};
@@ -8,6 +8,9 @@ use super::Incremental;
 use scc_table::route::{bucket_index, tag};
 use scc_table::{Keyed, Place};
 use std::hash::{BuildHasher, Hash};
+
+/// No array has a bucket of that number.
+const NOWHERE: usize = 1 << 60;
 
 impl<E: Keyed, H: BuildHasher> Incremental<E, H>
 where
@@ -23,7 +26,12 @@ where
         if self.pending == 0 {
             return self.current.search(hash, key);
         }
-        self.search_both(hash, key)
+        let place = self.search_both(hash, key);
+        if place.bucket < NOWHERE {
+            Some(place)
+        } else {
+            None
+        }
     }
 
     /// What every table keeps of its lists. It does nothing, and is there for its contract.
@@ -35,25 +43,34 @@ where
         self.current.keep_lists();
     }
 
-    /// The same where some bucket waits.
+    /// The same where some bucket waits. There is no such entry where the answer's bucket is `NOWHERE`. A place comes back in two registers; an Option of one would lie in memory for the caller, on its way where no bucket waits too.
     #[cold]
-    fn search_both(&self, hash: u64, key: &E::Key) -> Option<Place>
+    fn search_both(&self, hash: u64, key: &E::Key) -> Place
         requires pending { 0 < pending_of self.now }
         requires hashed { hash ≡ key_hash H.BuildHasher H.Hasher.Hasher E.Key.hash_input self.now key.now }
-        ensures { MatchOption result (position (λ e. E.Key.eq key.now (E.key_of e)) (entries self.now) ≡ None) (IsFoundAt (λ e. E.Key.eq key.now (E.key_of e)) self.now) }
+        ensures found { result.bucket < 2 ^ 60 → IsFoundAt (λ e. E.Key.eq key.now (E.key_of e)) self.now result }
+        ensures missed { 2 ^ 60 ≤ result.bucket → position (λ e. E.Key.eq key.now (E.key_of e)) (entries self.now) ≡ None }
     {
+        let nowhere = Place {
+            bucket: NOWHERE,
+            slot: 0,
+        };
+        let count = self.current.bucket_count();
         let bucket = self.current.bucket_at(hash);
         self.current.keep_lists();
         if self.waiting[bucket] {
             let source = bucket_index(hash, self.skipped, self.draining.len());
             return match self.draining.search(source, key, tag(hash)) {
-                Some(slot) => Some(Place {
-                    bucket: self.current.bucket_count() + source,
+                Some(slot) => Place {
+                    bucket: count + source,
                     slot,
-                }),
-                None => None,
+                },
+                None => nowhere,
             };
         }
-        self.current.find_in(hash, key)
+        match self.current.find_in(hash, key) {
+            Some(place) => place,
+            None => nowhere,
+        }
     }
 }

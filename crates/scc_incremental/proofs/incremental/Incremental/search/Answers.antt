@@ -47,8 +47,8 @@ returns-then-self-eq0-clause-place g c =
     along c.search.result (λ n. ap (λ d. position passes (entries d)) (sym c.self.view_is) ∙ ap (position passes) (entries-settled hash cur olds ws none) ∙ n)
     (λ q f. subst (λ d. IsFoundAt passes d q) c.self.view_is (found-settled hash cur olds ws none passes q f)) c.search.ensures.place
 
-pub search_both-requires-clause-pending : goal.search_both-requires-clause-pending
-search_both-requires-clause-pending g c =
+pub search_both-place-requires-clause-pending : goal.search_both-place-requires-clause-pending
+search_both-place-requires-clause-pending g c =
     let t = c.self.inside in
     let cur = t.current in
     let ws = t.waiting.items in
