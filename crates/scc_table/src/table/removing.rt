@@ -30,8 +30,8 @@ where
         ensures unique { IsUniqueBy E.Key.eq E.key_of self.new }
     {
         let in_overflow = self.buckets.is_overflow(place.bucket, place.slot);
-        let entry = self.buckets.swap_remove_at(place.bucket, place.slot);
         self.length -= 1;
+        let entry = self.buckets.swap_remove_at(place.bucket, place.slot);
         self.overflowing -= one_if(in_overflow);
         entry
     }
