@@ -100,9 +100,8 @@ impl<E> Array<E> {
         ensures within { place < result → place < length (shelf_of self.now bucket).slots }
         ensures past { result ≤ place → result ≡ length (shelf_of self.now bucket).slots }
     {
-        if self.overflow.len() == 0 {
-            // The count says that a bucket has at most 32 places in use; the compiler drops it.
-            let _most = self.columns.count(bucket);
+        // The number comes first: a search that looked at tags has shown it.
+        if place < 32 && self.overflow.len() == 0 {
             return 32;
         }
         self.columns.count_past(bucket, place)
