@@ -251,6 +251,9 @@ pub fn sources(old: usize, count: usize, target: usize) -> (usize, usize)
     ensures within { result.1 ≤ old }
     ensures only { (skipped hash : ℕ) → bucket_number skipped count hash ≡ target → (result.0 ≤ bucket_number skipped old hash) × (bucket_number skipped old hash < result.1) }
 {
+    if count == 2 * old {
+        return (target / 2, target / 2 + 1);
+    }
     if old <= count {
         let targets = count / old;
         let source = target / targets;
