@@ -37,6 +37,10 @@ only-grown m n t h target some less within many at =
     let pos = some-quotient (n / m) m n e (omega arith) in
     sym (number-div t m (n / m) h pos) ∙ ap (λ z. bucket_number t z h / (n / m)) e ∙ ap (λ z. z / (n / m)) at
 
+-- the same where it has twice as many buckets as before
+pub only-doubled : (m n t h target : ℕ) → n ≡ 2 * m → bucket_number t n h ≡ target → bucket_number t m h ≡ target / 2
+only-doubled m n t h target twice at = sym (number-div t m 2 h (omega arith)) ∙ ap (λ z. bucket_number t z h / 2) (sym twice) ∙ ap (λ z. z / 2) at
+
 -- where it shrank, the old buckets of a target
 pub only-shrunk : (m n t h target : ℕ) → n < m → target < n → AreMultiples m n → bucket_number t n h ≡ target → (target * (m / n) ≤ bucket_number t m h) × (bucket_number t m h < target * (m / n) + m / n)
 only-shrunk m n t h target less within many at =

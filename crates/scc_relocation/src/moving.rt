@@ -17,7 +17,7 @@ use scc_table::{Keyed, Table};
 use std::alloc::AllocError;
 use std::hash::{BuildHasher, Hash};
 
-/// Whether the entry in each place of an old bucket belongs to the target. `table` has the hasher.
+/// Raises the flag of each place of an old bucket whose entry belongs to the target, and lowers that of each other entry. `table` has the hasher.
 #[inline(always)]
 fn flags_of<E: Keyed, H: BuildHasher>(
     old: &Array<E>,
@@ -26,20 +26,19 @@ fn flags_of<E: Keyed, H: BuildHasher>(
     table: &Table<E, H>,
     skipped: u32,
     count: usize,
-) -> [bool; 32]
+    flags: &mut [bool; 32],
+)
 where
     E::Key: Eq + Hash,
     requires bits { skipped < 64 }
     requires source { source < length old.now }
-    ensures { (j : ℕ) (e : E) → slice_get (shelf_of old.now source).slots j ≡ Some e → slice_get result j ≡ Some (bucket_number skipped count (key_hash H.BuildHasher H.Hasher.Hasher E.Key.hash_input table.now (E.key_of e)) == target) }
+    ensures { (j : ℕ) (e : E) → slice_get (shelf_of old.now source).slots j ≡ Some e → slice_get flags.new j ≡ Some (bucket_number skipped count (key_hash H.BuildHasher H.Hasher.Hasher E.Key.hash_input table.now (E.key_of e)) == target) }
 {
     let slots = old.slot_count(source);
-    let mut flags = [false; 32];
     for place in 0..slots {
         let hash = table.hash(old.entry_of(source, place, slots).key());
         flags[place] = bucket_index(hash, skipped, count) == target;
     }
-    flags
 }
 
 /// The same, entry by entry, for buckets with entries past their places.
@@ -101,7 +100,8 @@ where
     ensures others { into.new ≡ slice_set into.old target (shelf_of into.new target) }
 {
     if old.overflow_len(source) == 0 && into.slot_count(target) + old.slot_count(source) <= 32 {
-        let flags = flags_of(old, source, target, table, skipped, count);
+        let mut flags = [false; 32];
+        flags_of(old, source, target, table, skipped, count, &mut flags);
         old.split(source, &flags, into, target);
         return;
     }
@@ -251,6 +251,9 @@ pub fn sources(old: usize, count: usize, target: usize) -> (usize, usize)
     ensures within { result.1 ≤ old }
     ensures only { (skipped hash : ℕ) → bucket_number skipped count hash ≡ target → (result.0 ≤ bucket_number skipped old hash) × (bucket_number skipped old hash < result.1) }
 {
+    if count == 2 * old {
+        return (target / 2, target / 2 + 1);
+    }
     if old <= count {
         let targets = count / old;
         let source = target / targets;

@@ -13,5 +13,5 @@ returns-then-slot_count-le32-clause-pulls g c =
     let bare : s.overflow ≡ [] = no-elements s.overflow (omega (arith, c.overflow_len.ensures, c.if-overflow_len-eq0.true)) in
     let l1 : c.slot_count.result ≡ length (shelf_of c.args.into.now c.args.target).slots = c.slot_count.ensures.count in
     let l2 : c.slot_count-then-overflow_len-eq0.result ≡ length s.slots = c.slot_count-then-overflow_len-eq0.ensures.count in
-    parted-pulls hash c.args.skipped c.args.count c.args.target c.args.source c.args.old.now (shelf_of c.args.into.now c.args.target) c.flags_of-flags.result c.requires.source bare c.requires.own c.requires.packed
-    (omega (arith, c.if-slot_count-le32.true)) c.flags_of-flags.ensures c.split.new.self c.split.ensures.stays (shelf_of c.split.new.into c.args.target) (put-is c.args.into.now c.args.target c.requires.target c.split.new.into _ c.split.ensures.moved)
+    parted-pulls hash c.args.skipped c.args.count c.args.target c.args.source c.args.old.now (shelf_of c.args.into.now c.args.target) c.flags_of.new.flags c.requires.source bare c.requires.own c.requires.packed
+    (omega (arith, c.if-slot_count-le32.true)) c.flags_of.ensures c.split.new.self c.split.ensures.stays (shelf_of c.split.new.into c.args.target) (put-is c.args.into.now c.args.target c.requires.target c.split.new.into _ c.split.ensures.moved)

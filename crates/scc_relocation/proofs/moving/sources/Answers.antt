@@ -1,6 +1,10 @@
 use Rattle.std.proofs.Common.{◌<◌, ◌/◌, arith}
-use Rattle.scc_relocation.proofs.Numbers.{only-grown, only-shrunk, source-within}
+use Rattle.scc_relocation.proofs.Numbers.{only-doubled, only-grown, only-shrunk, source-within}
 use Rattle.scc_relocation.proofs.moving.sources.Goals as goal
+
+pub returns-then-count-old-clause-only : goal.returns-then-count-old-clause-only
+returns-then-count-old-clause-only c =
+    λ t h at. let e = only-doubled c.args.old c.args.count t h c.args.target c.if-count-old.true at in (omega arith, omega arith)
 
 pub returns-then-old-count-clause-only : goal.returns-then-old-count-clause-only
 returns-then-old-count-clause-only c =
