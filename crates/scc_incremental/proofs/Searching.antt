@@ -216,6 +216,12 @@ module _ {E S : Type 0} (hash : E → ℕ) (c : Contents E S) (olds : List (Shel
   found-settled [] z p q f = record { within = record { bucket = f.within.bucket; slot = f.within.slot }; found = f.found }
   found-settled (w ∷ ws) z p q f = absurd (let y : w ∷ ws ≡ [] = z in cc)
 
+  -- where none waits, an entry stands in the present array
+  pub near-settled : (ws : List Bool) → ws ≡ [] → (q : Place) → IsPlace (together hash c ws olds) q → q.bucket < bucket_count c
+  unfolding waiting_of held_of bucket_count list_of lists_of
+  near-settled [] z q w = w.bucket
+  near-settled (w ∷ ws) z q p = absurd (let y : w ∷ ws ≡ [] = z in cc)
+
   pub entries-settled : (ws : List Bool) → ws ≡ [] → entries (together hash c ws olds) ≡ entries c
   unfolding entries lists_of
   entries-settled [] z = refl

@@ -75,7 +75,7 @@ where
         ensures unique { IsUniqueBy E.Key.eq E.key_of self.new }
     {
         let count = self.current.bucket_count();
-        if place.bucket < count {
+        if self.pending == 0 || place.bucket < count {
             return self.current.swap_take_at(place);
         }
         let entry = self.draining.remove_at(place.bucket - count, place.slot);

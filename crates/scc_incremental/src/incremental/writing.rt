@@ -42,7 +42,7 @@ where
         ensures value { (e : E) × (slice_get (entries self.old) (index_of self.old place) ≡ Some e) × (result.now ≡ E.value_of e) }
     {
         let count = self.current.bucket_count();
-        if place.bucket < count {
+        if self.pending == 0 || place.bucket < count {
             return self.current.value_mut_at(place);
         }
         self.draining.value_mut_at(place.bucket - count, place.slot)
@@ -56,7 +56,7 @@ where
         ensures parts { (e : E) × (slice_get (entries self.old) (index_of self.old place) ≡ Some e) × (result.0.now ≡ E.Keyed.key_of e) × (result.1.now ≡ E.value_of e) }
     {
         let count = self.current.bucket_count();
-        if place.bucket < count {
+        if self.pending == 0 || place.bucket < count {
             return self.current.parts_mut_at(place);
         }
         self.draining.parts_mut_at(place.bucket - count, place.slot)

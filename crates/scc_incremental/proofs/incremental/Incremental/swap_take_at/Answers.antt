@@ -11,8 +11,10 @@ use Rattle.scc_incremental.specs.TwoArrays.{together, IsIncremental}
 use Rattle.scc_incremental.proofs.Joining.{waiting-together}
 use Rattle.scc_incremental.proofs.Taken.{own-held_kept, own-less, own-less_swapped, own-swapped, own-taken, old-held_taken, old-less, old-some, old-taken_at}
 use Rattle.scc_incremental.proofs.TakenFrom.{got-there, swapped-count, swapped-moved, swapped-unique, taken-exactly, taken-gone, taken-listed, taken-short, taken-swapped, taken-unique}
+use Rattle.scc_incremental.proofs.Searching.{near-settled}
 use Rattle.scc_incremental.proofs.Written.{own-got, own-is, old-got, old-is}
 use Rattle.scc_incremental.proofs.incremental.Incremental.swap_take_at.Goals as goal
+use Rattle.scc_incremental.proofs.incremental.Incremental.swap_take_at.Goals.{then-self-eq0-via-then-self-eq0, then-self-eq0-via-else-self-eq0+then-place-count}
 
 pub swap_take_at-requires : goal.swap_take_at-requires
 swap_take_at-requires g c =
@@ -28,7 +30,10 @@ swap_take_at-requires g c =
     let view = c.self.view_is in
     let within = subst (λ z. IsPlace z p) (sym view) c.requires in
     let count = c.bucket_count-count.ensures.count in
-    let near : p.bucket < bucket_count cur = omega (arith, count) in
+    let near : p.bucket < bucket_count cur = elim c.then-self-eq0.branch [
+      | then-self-eq0-via-then-self-eq0 w ↦ near-settled (λ e. hk (key e)) cur olds ws (inv.none w.if-self-eq0.true) p within
+      | then-self-eq0-via-else-self-eq0+then-place-count w ↦ omega (arith, count, w.if-place-count.true)
+    ] in
     (own-is laws key hk cur ws olds t.skipped t.pending t.next t.held t.held_overflow inv p within near).0
 
 pub invariant_of-self : goal.invariant_of-self
@@ -45,13 +50,16 @@ invariant_of-self g c =
     let view = c.self.view_is in
     let within = subst (λ z. IsPlace z p) (sym view) c.requires in
     let count = c.bucket_count-count.ensures.count in
-    let near : p.bucket < bucket_count cur = omega (arith, count) in
+    let near : p.bucket < bucket_count cur = elim c.then-self-eq0.branch [
+      | then-self-eq0-via-then-self-eq0 w ↦ near-settled (λ e. hk (key e)) cur olds ws (inv.none w.if-self-eq0.true) p within
+      | then-self-eq0-via-else-self-eq0+then-place-count w ↦ omega (arith, count, w.if-place-count.true)
+    ] in
     let d = c.swap_take_at.new.self in
     let same = ap (λ s. let h : g.row.E-Key.Denot → ℕ = λ k. hash_of g.H.BuildHasher g.H.Hasher.Hasher s.hasher (g.E.Key.Hash.hash_input k) in h) c.swap_take_at.ensures.exact.settings in
     subst (λ (h : g.row.E-Key.Denot → ℕ). IsIncremental g.E.Key.PartialEq.eq key h d ws olds t.skipped t.pending t.next t.held t.held_overflow) (sym same) (own-less_swapped laws key hk cur ws olds t.skipped t.pending t.next t.held t.held_overflow inv p within near d c.swap_take_at.result c.swap_take_at.ensures.entry c.swap_take_at.ensures.exact)
 
-pub returns-then-place-count-clause-entry : goal.returns-then-place-count-clause-entry
-returns-then-place-count-clause-entry g c =
+pub returns-then-self-eq0-clause-entry : goal.returns-then-self-eq0-clause-entry
+returns-then-self-eq0-clause-entry g c =
     let t = c.self.inside in
     let cur = t.current in
     let ws = t.waiting.items in
@@ -64,12 +72,15 @@ returns-then-place-count-clause-entry g c =
     let view = c.self.view_is in
     let within = subst (λ z. IsPlace z p) (sym view) c.requires in
     let count = c.bucket_count-count.ensures.count in
-    let near : p.bucket < bucket_count cur = omega (arith, count) in
+    let near : p.bucket < bucket_count cur = elim c.then-self-eq0.branch [
+      | then-self-eq0-via-then-self-eq0 w ↦ near-settled (λ e. hk (key e)) cur olds ws (inv.none w.if-self-eq0.true) p within
+      | then-self-eq0-via-else-self-eq0+then-place-count w ↦ omega (arith, count, w.if-place-count.true)
+    ] in
     let there = subst (λ (z : Contents g.row.E.Denot g.row.H.Denot). slice_get (entries z) (index_of z p) ≡ Some c.swap_take_at.result) view (own-got laws key hk cur ws olds t.skipped t.pending t.next t.held t.held_overflow inv p within near c.swap_take_at.result c.swap_take_at.ensures.entry) in
     there
 
-pub returns-then-place-count-clause-held : goal.returns-then-place-count-clause-held
-returns-then-place-count-clause-held g c =
+pub returns-then-self-eq0-clause-held : goal.returns-then-self-eq0-clause-held
+returns-then-self-eq0-clause-held g c =
     let t = c.self.inside in
     let cur = t.current in
     let ws = t.waiting.items in
@@ -82,13 +93,16 @@ returns-then-place-count-clause-held g c =
     let view = c.self.view_is in
     let within = subst (λ z. IsPlace z p) (sym view) c.requires in
     let count = c.bucket_count-count.ensures.count in
-    let near : p.bucket < bucket_count cur = omega (arith, count) in
+    let near : p.bucket < bucket_count cur = elim c.then-self-eq0.branch [
+      | then-self-eq0-via-then-self-eq0 w ↦ near-settled (λ e. hk (key e)) cur olds ws (inv.none w.if-self-eq0.true) p within
+      | then-self-eq0-via-else-self-eq0+then-place-count w ↦ omega (arith, count, w.if-place-count.true)
+    ] in
     let d = c.swap_take_at.new.self in
     let same = ap (λ s. let h : g.row.E-Key.Denot → ℕ = λ k. hash_of g.H.BuildHasher g.H.Hasher.Hasher s.hasher (g.E.Key.Hash.hash_input k) in h) c.swap_take_at.ensures.exact.settings in
     ap (λ (h : g.row.E-Key.Denot → ℕ). held_of (together (λ e. h (key e)) d ws olds)) same ∙ own-held_kept laws key hk cur ws olds t.skipped t.pending t.next t.held t.held_overflow inv p within near d c.swap_take_at.ensures.exact.left c.swap_take_at.ensures.exact.lists c.swap_take_at.ensures.exact.settings ∙ ap (λ (z : Contents g.row.E.Denot g.row.H.Denot). held_taken (bucket_count z) (held_of z) p) view
 
-pub returns-then-place-count-clause-others : goal.returns-then-place-count-clause-others
-returns-then-place-count-clause-others g c =
+pub returns-then-self-eq0-clause-others : goal.returns-then-self-eq0-clause-others
+returns-then-self-eq0-clause-others g c =
     let t = c.self.inside in
     let cur = t.current in
     let ws = t.waiting.items in
@@ -101,7 +115,10 @@ returns-then-place-count-clause-others g c =
     let view = c.self.view_is in
     let within = subst (λ z. IsPlace z p) (sym view) c.requires in
     let count = c.bucket_count-count.ensures.count in
-    let near : p.bucket < bucket_count cur = omega (arith, count) in
+    let near : p.bucket < bucket_count cur = elim c.then-self-eq0.branch [
+      | then-self-eq0-via-then-self-eq0 w ↦ near-settled (λ e. hk (key e)) cur olds ws (inv.none w.if-self-eq0.true) p within
+      | then-self-eq0-via-else-self-eq0+then-place-count w ↦ omega (arith, count, w.if-place-count.true)
+    ] in
     let now = c.args.self.now in
     let q = spot_of now p in
     let d = c.swap_take_at.new.self in
@@ -111,8 +128,8 @@ returns-then-place-count-clause-others g c =
     let taken = subst (λ (z : Contents g.row.E.Denot g.row.H.Denot). IsSwappedOutOf z (spot_of z p) after) view first in
     swapped-moved now after q c.requires taken
 
-pub returns-then-place-count-clause-buckets : goal.returns-then-place-count-clause-buckets
-returns-then-place-count-clause-buckets g c =
+pub returns-then-self-eq0-clause-buckets : goal.returns-then-self-eq0-clause-buckets
+returns-then-self-eq0-clause-buckets g c =
     let t = c.self.inside in
     let cur = t.current in
     let ws = t.waiting.items in
@@ -125,7 +142,10 @@ returns-then-place-count-clause-buckets g c =
     let view = c.self.view_is in
     let within = subst (λ z. IsPlace z p) (sym view) c.requires in
     let count = c.bucket_count-count.ensures.count in
-    let near : p.bucket < bucket_count cur = omega (arith, count) in
+    let near : p.bucket < bucket_count cur = elim c.then-self-eq0.branch [
+      | then-self-eq0-via-then-self-eq0 w ↦ near-settled (λ e. hk (key e)) cur olds ws (inv.none w.if-self-eq0.true) p within
+      | then-self-eq0-via-else-self-eq0+then-place-count w ↦ omega (arith, count, w.if-place-count.true)
+    ] in
     let now = c.args.self.now in
     let q = spot_of now p in
     let d = c.swap_take_at.new.self in
@@ -135,8 +155,8 @@ returns-then-place-count-clause-buckets g c =
     let taken = subst (λ (z : Contents g.row.E.Denot g.row.H.Denot). IsSwappedOutOf z (spot_of z p) after) view first in
     swapped-count now after q c.requires taken
 
-pub returns-then-place-count-clause-noted : goal.returns-then-place-count-clause-noted
-returns-then-place-count-clause-noted g c =
+pub returns-then-self-eq0-clause-noted : goal.returns-then-self-eq0-clause-noted
+returns-then-self-eq0-clause-noted g c =
     let t = c.self.inside in
     let cur = t.current in
     let ws = t.waiting.items in
@@ -149,7 +169,10 @@ returns-then-place-count-clause-noted g c =
     let view = c.self.view_is in
     let within = subst (λ z. IsPlace z p) (sym view) c.requires in
     let count = c.bucket_count-count.ensures.count in
-    let near : p.bucket < bucket_count cur = omega (arith, count) in
+    let near : p.bucket < bucket_count cur = elim c.then-self-eq0.branch [
+      | then-self-eq0-via-then-self-eq0 w ↦ near-settled (λ e. hk (key e)) cur olds ws (inv.none w.if-self-eq0.true) p within
+      | then-self-eq0-via-else-self-eq0+then-place-count w ↦ omega (arith, count, w.if-place-count.true)
+    ] in
     let d = c.swap_take_at.new.self in
     let same = ap (λ s. let h : g.row.E-Key.Denot → ℕ = λ k. hash_of g.H.BuildHasher g.H.Hasher.Hasher s.hasher (g.E.Key.Hash.hash_input k) in h) c.swap_take_at.ensures.exact.settings in
     let after = together (λ e. key_hash g.H.BuildHasher g.H.Hasher.Hasher g.E.Key.Hash.hash_input d (key e)) d ws olds in
@@ -157,8 +180,8 @@ returns-then-place-count-clause-noted g c =
     let taken = subst (λ (z : Contents g.row.E.Denot g.row.H.Denot). IsSwappedOutOf z (spot_of z p) after) view first in
     taken.refused
 
-pub returns-then-place-count-clause-settings : goal.returns-then-place-count-clause-settings
-returns-then-place-count-clause-settings g c =
+pub returns-then-self-eq0-clause-settings : goal.returns-then-self-eq0-clause-settings
+returns-then-self-eq0-clause-settings g c =
     let t = c.self.inside in
     let cur = t.current in
     let ws = t.waiting.items in
@@ -171,7 +194,10 @@ returns-then-place-count-clause-settings g c =
     let view = c.self.view_is in
     let within = subst (λ z. IsPlace z p) (sym view) c.requires in
     let count = c.bucket_count-count.ensures.count in
-    let near : p.bucket < bucket_count cur = omega (arith, count) in
+    let near : p.bucket < bucket_count cur = elim c.then-self-eq0.branch [
+      | then-self-eq0-via-then-self-eq0 w ↦ near-settled (λ e. hk (key e)) cur olds ws (inv.none w.if-self-eq0.true) p within
+      | then-self-eq0-via-else-self-eq0+then-place-count w ↦ omega (arith, count, w.if-place-count.true)
+    ] in
     let d = c.swap_take_at.new.self in
     let same = ap (λ s. let h : g.row.E-Key.Denot → ℕ = λ k. hash_of g.H.BuildHasher g.H.Hasher.Hasher s.hasher (g.E.Key.Hash.hash_input k) in h) c.swap_take_at.ensures.exact.settings in
     let after = together (λ e. key_hash g.H.BuildHasher g.H.Hasher.Hasher g.E.Key.Hash.hash_input d (key e)) d ws olds in
@@ -179,8 +205,8 @@ returns-then-place-count-clause-settings g c =
     let taken = subst (λ (z : Contents g.row.E.Denot g.row.H.Denot). IsSwappedOutOf z (spot_of z p) after) view first in
     taken.settings
 
-pub returns-then-place-count-clause-waiting : goal.returns-then-place-count-clause-waiting
-returns-then-place-count-clause-waiting g c =
+pub returns-then-self-eq0-clause-waiting : goal.returns-then-self-eq0-clause-waiting
+returns-then-self-eq0-clause-waiting g c =
     let t = c.self.inside in
     let cur = t.current in
     let ws = t.waiting.items in
@@ -192,8 +218,8 @@ returns-then-place-count-clause-waiting g c =
     let d = c.swap_take_at.new.self in
     waiting-together (λ e. key_hash g.H.BuildHasher g.H.Hasher.Hasher g.E.Key.Hash.hash_input d (key e)) d ws olds ∙ sym old_waiting
 
-pub returns-then-place-count-clause-exact : goal.returns-then-place-count-clause-exact
-returns-then-place-count-clause-exact g c =
+pub returns-then-self-eq0-clause-exact : goal.returns-then-self-eq0-clause-exact
+returns-then-self-eq0-clause-exact g c =
     let t = c.self.inside in
     let cur = t.current in
     let ws = t.waiting.items in
@@ -206,7 +232,10 @@ returns-then-place-count-clause-exact g c =
     let view = c.self.view_is in
     let within = subst (λ z. IsPlace z p) (sym view) c.requires in
     let count = c.bucket_count-count.ensures.count in
-    let near : p.bucket < bucket_count cur = omega (arith, count) in
+    let near : p.bucket < bucket_count cur = elim c.then-self-eq0.branch [
+      | then-self-eq0-via-then-self-eq0 w ↦ near-settled (λ e. hk (key e)) cur olds ws (inv.none w.if-self-eq0.true) p within
+      | then-self-eq0-via-else-self-eq0+then-place-count w ↦ omega (arith, count, w.if-place-count.true)
+    ] in
     let d = c.swap_take_at.new.self in
     let same = ap (λ s. let h : g.row.E-Key.Denot → ℕ = λ k. hash_of g.H.BuildHasher g.H.Hasher.Hasher s.hasher (g.E.Key.Hash.hash_input k) in h) c.swap_take_at.ensures.exact.settings in
     let after = together (λ e. key_hash g.H.BuildHasher g.H.Hasher.Hasher g.E.Key.Hash.hash_input d (key e)) d ws olds in
@@ -214,8 +243,8 @@ returns-then-place-count-clause-exact g c =
     let taken = subst (λ (z : Contents g.row.E.Denot g.row.H.Denot). IsSwappedOutOf z (spot_of z p) after) view first in
     taken
 
-pub returns-then-place-count-clause-unique : goal.returns-then-place-count-clause-unique
-returns-then-place-count-clause-unique g c =
+pub returns-then-self-eq0-clause-unique : goal.returns-then-self-eq0-clause-unique
+returns-then-self-eq0-clause-unique g c =
     let t = c.self.inside in
     let cur = t.current in
     let ws = t.waiting.items in
@@ -228,7 +257,10 @@ returns-then-place-count-clause-unique g c =
     let view = c.self.view_is in
     let within = subst (λ z. IsPlace z p) (sym view) c.requires in
     let count = c.bucket_count-count.ensures.count in
-    let near : p.bucket < bucket_count cur = omega (arith, count) in
+    let near : p.bucket < bucket_count cur = elim c.then-self-eq0.branch [
+      | then-self-eq0-via-then-self-eq0 w ↦ near-settled (λ e. hk (key e)) cur olds ws (inv.none w.if-self-eq0.true) p within
+      | then-self-eq0-via-else-self-eq0+then-place-count w ↦ omega (arith, count, w.if-place-count.true)
+    ] in
     let now = c.args.self.now in
     let q = spot_of now p in
     let unique = subst (λ (z : Contents g.row.E.Denot g.row.H.Denot). IsDistinct g.E.Key.PartialEq.eq (map key (entries z))) view inv.unique in

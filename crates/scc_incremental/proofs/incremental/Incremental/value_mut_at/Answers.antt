@@ -9,8 +9,10 @@ use Rattle.scc_table.specs.Writes as writes
 use Rattle.scc_incremental.specs.Places.{IsPlace, index_of, with_write_at}
 use Rattle.scc_incremental.specs.TwoArrays.{together, IsIncremental}
 use Rattle.scc_incremental.proofs.CurrentChanges.{settings-write}
+use Rattle.scc_incremental.proofs.Searching.{near-settled}
 use Rattle.scc_incremental.proofs.Written.{own-got, own-is, own-kept, own-written, old-got, old-is, old-kept, old-written}
 use Rattle.scc_incremental.proofs.incremental.Incremental.value_mut_at.Goals as goal
+use Rattle.scc_incremental.proofs.incremental.Incremental.value_mut_at.Goals.{then-self-eq0-via-then-self-eq0, then-self-eq0-via-else-self-eq0+then-place-count}
 
 pub value_mut_at-requires : goal.value_mut_at-requires
 value_mut_at-requires g c =
@@ -26,7 +28,10 @@ value_mut_at-requires g c =
     let view = c.self.view_is in
     let within = subst (λ z. IsPlace z p) (sym view) c.requires in
     let count = c.bucket_count-count.ensures.count in
-    let near : p.bucket < bucket_count cur = omega (arith, count) in
+    let near : p.bucket < bucket_count cur = elim c.then-self-eq0.branch [
+      | then-self-eq0-via-then-self-eq0 w ↦ near-settled (λ e. hk (key e)) cur olds ws (inv.none w.if-self-eq0.true) p within
+      | then-self-eq0-via-else-self-eq0+then-place-count w ↦ omega (arith, count, w.if-place-count.true)
+    ] in
     (own-is laws key hk cur ws olds t.skipped t.pending t.next t.held t.held_overflow inv p within near).0
 
 pub invariant_of-self-lent : goal.invariant_of-self-lent
@@ -43,15 +48,18 @@ invariant_of-self-lent g c = λ w.
     let view = c.self.view_is in
     let within = subst (λ z. IsPlace z p) (sym view) c.requires in
     let count = c.bucket_count-count.ensures.count in
-    let near : p.bucket < bucket_count cur = omega (arith, count) in
+    let near : p.bucket < bucket_count cur = elim c.then-self-eq0.branch [
+      | then-self-eq0-via-then-self-eq0 w ↦ near-settled (λ e. hk (key e)) cur olds ws (inv.none w.if-self-eq0.true) p within
+      | then-self-eq0-via-else-self-eq0+then-place-count w ↦ omega (arith, count, w.if-place-count.true)
+    ] in
     let x = c.value_mut_at.ensures.value in
     let kept = g.met.E.Valued.value_keeps_key x.0 in
     let same = λ (w : g.row.E-Value.Denot). ap (λ s. let h : g.row.E-Key.Denot → ℕ = λ k. hash_of g.H.BuildHasher g.H.Hasher.Hasher s.hasher (g.E.Key.Hash.hash_input k) in h) (settings-write g.E.Valued.with_value cur p w) in
     subst (λ (h : g.row.E-Key.Denot → ℕ). IsIncremental g.E.Key.PartialEq.eq key h (writes.with_write_at g.E.Valued.with_value cur p w) ws olds t.skipped t.pending t.next t.held t.held_overflow) (sym (same w))
     (own-kept laws key hk cur ws olds t.skipped t.pending t.next t.held t.held_overflow inv p within near g.E.Valued.with_value w x.0 x.1 (ap (λ k. g.E.Key.PartialEq.eq k (key x.0)) (kept w) ∙ laws.refl (key x.0)))
 
-pub returns-then-place-count : goal.returns-then-place-count
-returns-then-place-count g c =
+pub returns-then-self-eq0 : goal.returns-then-self-eq0
+returns-then-self-eq0 g c =
     let t = c.self.inside in
     let cur = t.current in
     let ws = t.waiting.items in
@@ -64,7 +72,10 @@ returns-then-place-count g c =
     let view = c.self.view_is in
     let within = subst (λ z. IsPlace z p) (sym view) c.requires in
     let count = c.bucket_count-count.ensures.count in
-    let near : p.bucket < bucket_count cur = omega (arith, count) in
+    let near : p.bucket < bucket_count cur = elim c.then-self-eq0.branch [
+      | then-self-eq0-via-then-self-eq0 w ↦ near-settled (λ e. hk (key e)) cur olds ws (inv.none w.if-self-eq0.true) p within
+      | then-self-eq0-via-else-self-eq0+then-place-count w ↦ omega (arith, count, w.if-place-count.true)
+    ] in
     let x = c.value_mut_at.ensures.value in
     let there = subst (λ (z : Contents g.row.E.Denot g.row.H.Denot). slice_get (entries z) (index_of z p) ≡ Some x.0) view (own-got laws key hk cur ws olds t.skipped t.pending t.next t.held t.held_overflow inv p within near x.0 x.1) in
     let same = λ (w : g.row.E-Value.Denot). ap (λ s. let h : g.row.E-Key.Denot → ℕ = λ k. hash_of g.H.BuildHasher g.H.Hasher.Hasher s.hasher (g.E.Key.Hash.hash_input k) in h) (settings-write g.E.Valued.with_value cur p w) in
