@@ -3,6 +3,7 @@ pub mod Buckets
 pub mod Counted
 pub mod Draining
 pub mod FromBuckets
+pub mod Joined
 pub mod Numbers
 pub mod Parted
 pub mod Pulling

@@ -1,6 +1,6 @@
 -- The buckets of a hash in two arrays, of which one has a multiple of the other's buckets.
 use Rattle.std.proofs.Common.{◌≡◌, ℕ, zero, suc, ◌+◌, ◌*◌, ◌/◌, ◌%◌, ◌^◌, ◌<◌, ◌≤◌, sym, ap, ◌∙◌, subst, arith, div-lt_iff_lt-mul, mul_comm}
-use Rattle.std.proofs.Math.Nat.{div-div-eq-div-mul, div-eq_of_eq-mul_left, div-mul-le_self, lt-div-mul-add, mul-div-mul_left}
+use Rattle.std.proofs.Math.Nat.{div-div-eq-div-mul, div-eq_of_eq-mul_left, div-eq_of_lt-le, div-mul-le_self, lt-div-mul-add, mul-div-mul_left}
 use Rattle.scc_table.specs.Routing.{bucket_number}
 use Rattle.scc_relocation.specs.Moves.{AreMultiples, grown, shrunk}
 
@@ -50,6 +50,15 @@ only-shrunk m n t h target less within many at =
     let low : target * (m / n) ≤ bucket_number t m h = subst (λ z. z * (m / n) ≤ bucket_number t m h) q (div-mul-le_self (bucket_number t m h) (m / n)) in
     let high : bucket_number t m h < target * (m / n) + m / n = subst (λ z. bucket_number t m h < z * (m / n) + m / n) q (lt-div-mul-add pos) in
     (low, high)
+
+-- and these hold no others
+pub joined-shrunk : (m n t h target : ℕ) → n < m → target < n → AreMultiples m n → target * (m / n) ≤ bucket_number t m h → bucket_number t m h < target * (m / n) + m / n → bucket_number t n h ≡ target
+joined-shrunk m n t h target less within many low high =
+    let e = quotient n m (omega arith) (omega arith) (multiples-flip m n many) in
+    let pos = some-quotient (m / n) n m e (omega arith) in
+    let q : bucket_number t m h / (m / n) ≡ bucket_number t n h = ap (λ z. bucket_number t z h / (m / n)) (sym e) ∙ number-div t n (m / n) h pos in
+    let more : (target + 1) * (m / n) ≡ target * (m / n) + m / n = omega arith in
+    sym q ∙ div-eq_of_lt-le {k = target} (m / n) low (subst (λ z. bucket_number t m h < z) (sym more) high)
 
 -- a target's number among more buckets names one of the fewer
 pub source-within : (m n target : ℕ) → 0 < m → m ≤ n → target < n → AreMultiples m n → target / (n / m) < m

@@ -1,5 +1,5 @@
 -- Lists of which some are left out.
-use Rattle.std.proofs.Common.{◌≡◌, ℕ, suc, ◌<◌, ◌⊎◌, inl, inr, Bool, false, List, [], ◌∷◌, ◌++◌, length, map, get_or, refl, sym, subst, arith}
+use Rattle.std.proofs.Common.{◌≡◌, ℕ, suc, ◌<◌, ◌⊎◌, inl, inr, Bool, true, false, List, [], ◌∷◌, ◌++◌, length, map, get_or, refl, sym, ap, subst, arith}
 use Rattle.std.specs.List.{filter, flat_map, IsDistinct, AllByRecursion}
 use Rattle.std.proofs.lemmas.Map.Keys.{IsDistinct-head, IsDistinct-tail, IsDistinct-cons}
 
@@ -43,3 +43,8 @@ distinct-sub eq key (skip {y} {xs} {ys} s) h = distinct-sub eq key s (IsDistinct
 pub filter-none : {X : Type 0} (p : X → Bool) (xs : List X) → ((j : ℕ) (d : X) → j < length xs → p (get_or xs j d) ≡ false) → filter p xs ≡ []
 filter-none p [] h = refl
 filter-none p (x ∷ xs) h = let z : p x ≡ false = h 0 x (omega arith) in rw z (filter-none p xs (λ j d l. h (suc j) d (omega arith)))
+
+-- all pass
+pub filter-each : {X : Type 0} (p : X → Bool) (xs : List X) → ((j : ℕ) (d : X) → j < length xs → p (get_or xs j d) ≡ true) → filter p xs ≡ xs
+filter-each p [] h = refl
+filter-each p (x ∷ xs) h = let z : p x ≡ true = h 0 x (omega arith) in rw z (ap (λ l. x ∷ l) (filter-each p xs (λ j d l. h (suc j) d (omega arith))))

@@ -35,6 +35,10 @@ pub record IsWithinSources {E : Type 0} (hash : E → ℕ) (t n i first last : �
   pub within : last ≤ length olds
   pub none : (j : ℕ) → (j < first) ⊎ (last ≤ j) → bound_for hash t n i (shelf_entries (shelf_of olds j)) ≡ []
 
+-- where n is less than the number of old buckets, those from `first` up to before `last` hold only entries that belong to bucket i of n
+pub record AreJoined {E : Type 0} (hash : E → ℕ) (t n i first last : ℕ) (olds : List (Shelf E)) : Type 0 where
+  pub all : n < length olds → (j : ℕ) → first ≤ j → j < last → bound_for hash t n i (shelf_entries (shelf_of olds j)) ≡ shelf_entries (shelf_of olds j)
+
 -- the entries of all old buckets that belong to bucket i of n moved to the end of a, which is b then; the others stay in their order
 pub record Drains {E : Type 0} (hash : E → ℕ) (t n i : ℕ) (olds : List (Shelf E)) (a : Shelf E) (news : List (Shelf E)) (b : Shelf E) : Type 0 where
   pub count : length news ≡ length olds

@@ -1,9 +1,9 @@
 //! How the entries of one bucket of the new array come out of the old one.
-ghost use Rattle.std.specs.Prelude.{◌≡◌, ◌==◌, ◌<◌, ◌≤◌, ◌+◌, ◌^◌, ◌*◌, ℕ, [], length, map, slice_get, slice_set, Some, IfOk, OnOk, OnErr};
+ghost use Rattle.std.specs.Prelude.{◌≡◌, ◌==◌, ◌<◌, ◌≤◌, ◌+◌, ◌^◌, ◌*◌, ℕ, [], length, map, take, slice_get, slice_set, Some, IfOk, OnOk, OnErr};
 ghost use Rattle.std.specs.List.{flat_map, IsDistinct};
 ghost use Rattle.scc_array.specs.Shelves.{shelf_of};
 ghost use Rattle.scc_bucket.specs.Shelf.{empty_shelf, shelf_entries};
-ghost use Rattle.scc_relocation.specs.Moves.{AreMultiples, AreOwn, Drains, IsWithinSources, Pulls, TakesOver};
+ghost use Rattle.scc_relocation.specs.Moves.{AreJoined, AreMultiples, AreOwn, Drains, IsWithinSources, Pulls, TakesOver};
 ghost use Rattle.scc_table.specs.Contents.{bucket_count, key_hash, list_of, lists_of, settings_of, spilled_of};
 ghost use Rattle.scc_table.specs.Pour.{IsPacked, bound_for};
 ghost use Rattle.scc_table.specs.Routing.{bucket_number};
@@ -17,7 +17,7 @@ use scc_table::{Keyed, Table};
 use std::alloc::AllocError;
 use std::hash::{BuildHasher, Hash};
 
-/// Raises the flag of each place of an old bucket whose entry belongs to the target, and lowers that of each other entry. `table` has the hasher.
+/// Raises the flag of each place of an old bucket whose entry belongs to the target, and lowers that of each other entry. Where there are fewer buckets than before, all belong to it, and none is hashed. `table` has the hasher.
 #[inline(always)]
 fn flags_of<E: Keyed, H: BuildHasher>(
     old: &Array<E>,
@@ -32,9 +32,14 @@ where
     E::Key: Eq + Hash,
     requires bits { skipped < 64 }
     requires source { source < length old.now }
+    requires joined { count < length old.now → bound_for (λ e. key_hash H.BuildHasher H.Hasher.Hasher E.Key.hash_input table.now (E.key_of e)) skipped count target (shelf_entries (shelf_of old.now source)) ≡ shelf_entries (shelf_of old.now source) }
     ensures { (j : ℕ) (e : E) → slice_get (shelf_of old.now source).slots j ≡ Some e → slice_get flags.new j ≡ Some (bucket_number skipped count (key_hash H.BuildHasher H.Hasher.Hasher E.Key.hash_input table.now (E.key_of e)) == target) }
 {
     let slots = old.slot_count(source);
+    if count < old.len() {
+        *flags = [true; 32];
+        return;
+    }
     for place in 0..slots {
         let hash = table.hash(old.entry_of(source, place, slots).key());
         flags[place] = bucket_index(hash, skipped, count) == target;
@@ -93,12 +98,16 @@ where
     requires source { source < length old.old }
     requires few { length (shelf_of old.old source).overflow < 2 ^ 62 }
     requires own { IsOwn (λ e. key_hash H.BuildHasher H.Hasher.Hasher E.Key.hash_input table.now (E.key_of e)) skipped (length old.old) source (shelf_of old.old source) }
+    requires joined { count < length old.old → bound_for (λ e. key_hash H.BuildHasher H.Hasher.Hasher E.Key.hash_input table.now (E.key_of e)) skipped count target (shelf_entries (shelf_of old.old source)) ≡ shelf_entries (shelf_of old.old source) }
     requires target { target < length into.old }
     requires packed { IsPacked (λ e. key_hash H.BuildHasher H.Hasher.Hasher E.Key.hash_input table.now (E.key_of e)) (shelf_of into.old target) }
     requires room { length (shelf_entries (shelf_of into.old target)) + length (bound_for (λ e. key_hash H.BuildHasher H.Hasher.Hasher E.Key.hash_input table.now (E.key_of e)) skipped count target (shelf_entries (shelf_of old.old source))) ≤ 32 + (shelf_of into.old target).room }
     ensures pulls { Pulls (λ e. key_hash H.BuildHasher H.Hasher.Hasher E.Key.hash_input table.now (E.key_of e)) skipped count target source old.old (shelf_of into.old target) old.new (shelf_of into.new target) }
     ensures others { into.new ≡ slice_set into.old target (shelf_of into.new target) }
 {
+    if old.bucket_len(source) == 0 {
+        return;
+    }
     if old.overflow_len(source) == 0 && into.slot_count(target) + old.slot_count(source) <= 32 {
         let mut flags = [false; 32];
         flags_of(old, source, target, table, skipped, count, &mut flags);
@@ -123,6 +132,7 @@ where
     E::Key: Eq + Hash,
     requires bits { skipped < 64 }
     requires sources { IsWithinSources (λ e. key_hash H.BuildHasher H.Hasher.Hasher E.Key.hash_input table.now (E.key_of e)) skipped count target first last old.old }
+    requires joined { AreJoined (λ e. key_hash H.BuildHasher H.Hasher.Hasher E.Key.hash_input table.now (E.key_of e)) skipped count target first last old.old }
     requires few { (j : ℕ) → length (shelf_of old.old j).overflow < 2 ^ 62 }
     requires own { AreOwn (λ e. key_hash H.BuildHasher H.Hasher.Hasher E.Key.hash_input table.now (E.key_of e)) skipped old.old }
     requires target { target < length into.old }
@@ -176,6 +186,7 @@ where
     E::Key: Eq + Hash,
     requires bits { skipped < 64 }
     requires sources { IsWithinSources (λ e. key_hash H.BuildHasher H.Hasher.Hasher E.Key.hash_input table.now (E.key_of e)) skipped count target first last old.old }
+    requires joined { AreJoined (λ e. key_hash H.BuildHasher H.Hasher.Hasher E.Key.hash_input table.now (E.key_of e)) skipped count target first last old.old }
     requires few { (j : ℕ) → length (shelf_of old.old j).overflow < 2 ^ 62 }
     requires own { AreOwn (λ e. key_hash H.BuildHasher H.Hasher.Hasher E.Key.hash_input table.now (E.key_of e)) skipped old.old }
     requires target { target < length into.old }
@@ -211,6 +222,7 @@ where
     requires target { target < bucket_count current.old }
     requires bare { list_of current.old target ≡ [] }
     requires sources { IsWithinSources (λ e. key_hash H.BuildHasher H.Hasher.Hasher E.Key.hash_input current.old (E.key_of e)) skipped (bucket_count current.old) target first last old.old }
+    requires joined { AreJoined (λ e. key_hash H.BuildHasher H.Hasher.Hasher E.Key.hash_input current.old (E.key_of e)) skipped (bucket_count current.old) target first last old.old }
     requires few { (j : ℕ) → length (shelf_of old.old j).overflow < 2 ^ 62 }
     requires own { AreOwn (λ e. key_hash H.BuildHasher H.Hasher.Hasher E.Key.hash_input current.old (E.key_of e)) skipped old.old }
     requires coming { length (bound_for (λ e. key_hash H.BuildHasher H.Hasher.Hasher E.Key.hash_input current.old (E.key_of e)) skipped (bucket_count current.old) target (flat_map shelf_entries old.old)) ≤ coming }
@@ -241,8 +253,8 @@ where
     }
 }
 
-/// The old buckets in which entries of the target lie: from the first answer up to before the second.
-pub fn sources(old: usize, count: usize, target: usize) -> (usize, usize)
+/// The old buckets in which entries of the target lie: from the first answer up to before the second. Where there are fewer buckets than before, they hold no others.
+fn source_row(old: usize, count: usize, target: usize) -> (usize, usize)
     requires some { 0 < old }
     requires most { old ≤ 2 ^ 58 }
     requires target { target < count }
@@ -250,6 +262,7 @@ pub fn sources(old: usize, count: usize, target: usize) -> (usize, usize)
     ensures order { result.0 ≤ result.1 }
     ensures within { result.1 ≤ old }
     ensures only { (skipped hash : ℕ) → bucket_number skipped count hash ≡ target → (result.0 ≤ bucket_number skipped old hash) × (bucket_number skipped old hash < result.1) }
+    ensures joined { count < old → (skipped hash : ℕ) → result.0 ≤ bucket_number skipped old hash → bucket_number skipped old hash < result.1 → bucket_number skipped count hash ≡ target }
 {
     if count == 2 * old {
         return (target / 2, target / 2 + 1);
@@ -261,6 +274,19 @@ pub fn sources(old: usize, count: usize, target: usize) -> (usize, usize)
     }
     let spread = old / count;
     (target * spread, target * spread + spread)
+}
+
+/// The old buckets in which entries of the target lie: from the first answer up to before the second.
+pub fn sources(old: usize, count: usize, target: usize) -> (usize, usize)
+    requires some { 0 < old }
+    requires most { old ≤ 2 ^ 58 }
+    requires target { target < count }
+    requires multiples { AreMultiples old count }
+    ensures order { result.0 ≤ result.1 }
+    ensures within { result.1 ≤ old }
+    ensures only { (skipped hash : ℕ) → bucket_number skipped count hash ≡ target → (result.0 ≤ bucket_number skipped old hash) × (bucket_number skipped old hash < result.1) }
+{
+    source_row(old, count, target)
 }
 
 /// How many entries of one old bucket belong to the target.
@@ -316,7 +342,22 @@ where
     found
 }
 
-/// No fewer than the entries of all old buckets that belong to the target, and just as many where it is more than 32. One old bucket that holds no more isn't looked through.
+/// How many entries the old buckets from `first` up to before `last` hold.
+fn len_between<E>(old: &Array<E>, first: usize, last: usize) -> usize
+    requires order { first ≤ last }
+    requires within { last ≤ length old.now }
+    requires few { (j : ℕ) → j < length old.now → length (shelf_entries (shelf_of old.now j)) < 2 ^ 63 }
+    requires most { length (flat_map shelf_entries old.now) < 2 ^ 64 }
+    ensures { length (flat_map shelf_entries (take first old.now)) + result ≡ length (flat_map shelf_entries (take last old.now)) }
+{
+    let mut held = 0;
+    for source in first..last {
+        held += old.bucket_len(source);
+    }
+    held
+}
+
+/// No fewer than the entries of all old buckets that belong to the target, and just as many where it is more than 32. One old bucket that holds no more isn't looked through, and where there are fewer buckets than before, all entries of the old ones belong to the target and none is hashed.
 fn count_coming<E: Keyed, H: BuildHasher>(
     old: &Array<E>,
     first: usize,
@@ -330,6 +371,7 @@ where
     E::Key: Eq + Hash,
     requires bits { skipped < 64 }
     requires sources { IsWithinSources (λ e. key_hash H.BuildHasher H.Hasher.Hasher E.Key.hash_input table.now (E.key_of e)) skipped count target first last old.now }
+    requires joined { AreJoined (λ e. key_hash H.BuildHasher H.Hasher.Hasher E.Key.hash_input table.now (E.key_of e)) skipped count target first last old.now }
     requires few { (j : ℕ) → length (shelf_of old.now j).overflow < 2 ^ 62 }
     requires own { AreOwn (λ e. key_hash H.BuildHasher H.Hasher.Hasher E.Key.hash_input table.now (E.key_of e)) skipped old.now }
     requires most { length (flat_map shelf_entries old.now) < 2 ^ 64 }
@@ -338,6 +380,9 @@ where
 {
     if last - first == 1 && old.bucket_len(first) <= 32 {
         return 32;
+    }
+    if count < old.len() {
+        return len_between(old, first, last);
     }
     count_all(old, first, last, target, table, skipped, count)
 }
@@ -370,7 +415,7 @@ where
     ensures refused { OnErr result (32 < length (bound_for (λ e. key_hash H.BuildHasher H.Hasher.Hasher E.Key.hash_input current.old (E.key_of e)) skipped (bucket_count current.old) target (flat_map shelf_entries old.old))) }
 {
     let count = current.bucket_count();
-    let (first, last) = sources(old.len(), count, target);
+    let (first, last) = source_row(old.len(), count, target);
     let coming = count_coming(old, first, last, target, current, skipped, count);
     move_in(current, old, target, first, last, coming, aside, skipped)
 }

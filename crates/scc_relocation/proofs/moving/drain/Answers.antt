@@ -1,6 +1,8 @@
 use Rattle.scc_table.specs.Contents.{key_hash}
-use Rattle.std.proofs.Common.{◌≡◌, arith, subst}
+use Rattle.std.proofs.Common.{◌≡◌, sym, arith, subst}
 use Rattle.scc_array.specs.Shelves.{shelf_of}
+use Rattle.scc_bucket.specs.Shelf.{shelf_entries}
+use Rattle.scc_table.specs.Pour.{bound_for}
 use Rattle.scc_relocation.proofs.Buckets.{first-own, still-within, later-own}
 use Rattle.scc_relocation.proofs.Draining.{DrainsUntil, drain-start, drain-end, drain-room, drain-step}
 use Rattle.scc_relocation.proofs.moving.drain.Goals as goal
@@ -14,6 +16,13 @@ pub pull-requires-clause-room : goal.pull-requires-clause-room
 pull-requires-clause-room g c =
     let hash = λ (e : g.row.E.Denot). key_hash g.H.BuildHasher g.H.Hasher.Hasher g.E.Key.Hash.hash_input c.args.table.now (g.E.Keyed.key_of e) in
     drain-room hash c.args.skipped c.args.count c.args.target c.args.first c.args.last c.args.old.now c.requires.sources (shelf_of c.args.into.now c.args.target) c.loop-source.old (shelf_of c.loop-source.into c.args.target) c.loop-source.source c.loop-source.invariant.0 c.loop-source-test.true c.requires.room
+
+pub pull-requires-clause-joined : goal.pull-requires-clause-joined
+pull-requires-clause-joined g c =
+    let hash = λ (e : g.row.E.Denot). key_hash g.H.BuildHasher g.H.Hasher.Hasher g.E.Key.Hash.hash_input c.args.table.now (g.E.Keyed.key_of e) in
+    let u = c.loop-source.invariant.0 in
+    λ less. subst (λ s. bound_for hash c.args.skipped c.args.count c.args.target (shelf_entries s) ≡ shelf_entries s) (sym (u.left c.loop-source.source (omega arith)))
+    (c.requires.joined.all (omega (arith, u.count)) c.loop-source.source c.loop-source.auto.source c.loop-source-test.true)
 
 pub loop-source-preserved : goal.loop-source-preserved
 loop-source-preserved g c =

@@ -28,6 +28,14 @@ fill-filled-requires-clause-sources g c =
     let buckets : c.len-buckets.result ≡ bucket_count cur = let z : c.len-buckets.result ≡ length bs = search rules in z ∙ sym counted in
     rw (c.exchange-fresh.ensures.settings, buckets) c.requires.sources
 
+pub fill-filled-requires-clause-joined : goal.fill-filled-requires-clause-joined
+fill-filled-requires-clause-joined g c =
+    let cur = c.args.current.now in
+    let bs = c.exchange-fresh.result.0 in
+    let counted = count-were cur bs c.exchange-fresh.ensures.were in
+    let buckets : c.len-buckets.result ≡ bucket_count cur = let z : c.len-buckets.result ≡ length bs = search rules in z ∙ sym counted in
+    rw (c.exchange-fresh.ensures.settings, buckets) c.requires.joined
+
 pub fill-filled-requires-clause-empty : goal.fill-filled-requires-clause-empty
 fill-filled-requires-clause-empty g c =
     let cur = c.args.current.now in

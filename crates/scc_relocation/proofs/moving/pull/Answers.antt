@@ -1,6 +1,5 @@
-use Rattle.std.proofs.Common.{◌≡◌, arith, [], length, set}
+use Rattle.std.proofs.Common.{◌≡◌, arith, [], length}
 use Rattle.scc_array.specs.Shelves.{shelf_of}
-use Rattle.scc_bucket.specs.Shelf.{Shelf}
 use Rattle.scc_table.proofs.Arrays.{put-is}
 use Rattle.scc_table.specs.Contents.{key_hash}
 use Rattle.scc_relocation.proofs.Parted.{no-elements, parted-pulls}

@@ -1,6 +1,6 @@
-use Rattle.std.proofs.Common.{◌<◌, ◌/◌, arith}
-use Rattle.scc_relocation.proofs.Numbers.{only-doubled, only-grown, only-shrunk, source-within}
-use Rattle.scc_relocation.proofs.moving.sources.Goals as goal
+use Rattle.std.proofs.Common.{arith}
+use Rattle.scc_relocation.proofs.Numbers.{joined-shrunk, only-doubled, only-grown, only-shrunk, source-within}
+use Rattle.scc_relocation.proofs.moving.source_row.Goals as goal
 
 pub returns-then-count-old-clause-only : goal.returns-then-count-old-clause-only
 returns-then-count-old-clause-only c =
@@ -16,3 +16,7 @@ returns-clause-only c =
 
 pub returns-then-old-count-clause-within : goal.returns-then-old-count-clause-within
 returns-then-old-count-clause-within c = let l = source-within c.args.old c.args.count c.args.target c.requires.some c.if-old-count.true c.requires.target c.requires.multiples in omega arith
+
+pub returns-clause-joined : goal.returns-clause-joined
+returns-clause-joined c =
+    λ less t h low high. joined-shrunk c.args.old c.args.count t h c.args.target less c.requires.target c.requires.multiples low high
