@@ -1,7 +1,5 @@
 -- Places of pairs with unit values as places of their keys.
 use Rattle.std.proofs.Common.{◌≡◌, ℕ, zero, suc, Bool, List, [], ◌∷◌, length, map, take, Option, None, Some, MatchOption, refl, sym, ap, subst, ◌∙◌}
-use Rattle.std.specs.Borrow.{Bor}
-use Rattle.std.specs.Fn.{Mut, Called, CalledAt, TakesAt, Takes as MayTake}
 use Rattle.std.specs.List.{slice_get, remove}
 use Rattle.std.specs.Map.{keys_of}
 use Rattle.std.specs.Option.{option_map}
@@ -11,24 +9,16 @@ use Rattle.scc_incremental.specs.Placed.{front_of}
 use Rattle.scc_incremental.specs.Places.{IsPlace, index_of}
 use Rattle.scc_incremental.specs.Places.{StandsAt}
 use Rattle.scc_table.specs.Steps.{Holds, HoldsExactly}
-use Rattle.scc_table.specs.Walks.{CalledOn}
 use Rattle.scc_table.specs.declared.place.Place.{Place}
 use Rattle.scc_table.proofs.Mapped.{entries-mapped, length-mapped, Holds-mapped, HoldsExactly-mapped}
 use Rattle.scc_incremental.proofs.MappedPlaces.{index_of-mapped, IsPlace-mapped, StandsAt-mapped}
-use Rattle.scc_walks.specs.PairWalks as writes
 use Rattle.scc_set.specs.Keys.{of_map}
-use Rattle.scc_set.specs.SetWalks.{PassesNone, PassesAt}
-use Rattle.scc_set.proofs.Walks.{PassesNone-keys, PassesAt-keys}
+use Rattle.scc_set.specs.SetWalks.{Declines}
 
 get-map : {E F : Type 0} (f : E → F) (es : List E) (i : ℕ) → slice_get (map f es) i ≡ option_map f (slice_get es i)
 get-map f [] i = refl
 get-map f (e ∷ es) zero = refl
 get-map f (e ∷ es) (suc i) = get-map f es i
-
-take-keys : {E F : Type 0} (f : E → F) (n : ℕ) (es : List E) → take n (map f es) ≡ map f (take n es)
-take-keys f zero es = refl
-take-keys f (suc n) [] = refl
-take-keys f (suc n) (e ∷ es) = ap (λ l. f e ∷ l) (take-keys f n es)
 
 remove-map : {E F : Type 0} (f : E → F) (es : List E) (i : ℕ) → remove (map f es) i ≡ map f (remove es i)
 remove-map f [] zero = refl
@@ -36,7 +26,7 @@ remove-map f [] (suc i) = refl
 remove-map f (e ∷ es) zero = refl
 remove-map f (e ∷ es) (suc i) = ap (λ l. f e ∷ l) (remove-map f es i)
 
-some-same : {X : Type 0} (x y : X) → Some x ≡ Some y → x ≡ y
+pub some-same : {X : Type 0} (x y : X) → Some x ≡ Some y → x ≡ y
 some-same x y e = cc
 
 module _ {K S : Type 0} (c : Contents (K × Unit {0}) S) where
@@ -70,21 +60,7 @@ module _ {K S : Type 0} (c : Contents (K × Unit {0}) S) where
   follows-taken place d None h = rw (index_of-mapped key_of c place, length-mapped key_of c) h
   follows-taken place d (Some q) h = rw (index_of-mapped key_of c place) (StandsAt-mapped key_of d (index_of c place) q h)
 
-  front-keys : (place : Place) → keys_of (take (index_of c place) (entries c)) ≡ front_of (of_map c) place
-  unfolding spots.front_of
-  front-keys place = sym (ap (λ i. take i (entries (of_map c))) (index_of-mapped key_of c place) ∙ ap (λ es. take (index_of c place) es) (entries-mapped key_of c) ∙ take-keys key_of (index_of c place) (entries c))
-
-  module _ {C F : Type 0} (gm : Mut C (Bor K × (Bor (Unit {0}) × Unit {0})) Bool) (gf : Mut F (Bor K × Unit {0}) Bool) (of : C → F)
-      (one : (s : C) (key : Bor K) (value : Bor (Unit {0})) (r : Bool) (t : C) → Called gm s (key, (value, tt)) r t → CalledAt gf (of s) key.now r (of t))
-      (may : (s : C) (key : Bor K) (value : Bor (Unit {0})) → TakesAt gf (of s) key.now → MayTake gm s (key, (value, tt))) where
-    -- the first key that passes stands where the first pair does
-    pub passing : (s : C) (r : Option Place) → MatchOption r (writes.PassesNone (CalledOn gm) s (entries c)) (λ place. IsPlace c place × writes.PassesFirst (CalledOn gm) s (entries c) (index_of c place))
-        → MatchOption r (PassesNone (CalledAt gf) (of s) (entries (of_map c))) (λ place. IsPlace (of_map c) place × ((k : K) → slice_get (entries (of_map c)) (index_of (of_map c) place) ≡ Some k → PassesAt (CalledAt gf) (of s) (front_of (of_map c) place) k))
-    passing s None h = rw (entries-mapped key_of c) (PassesNone-keys gm gf of one may s (entries c) h)
-    passing s (Some place) h = (
-      IsPlace-mapped key_of c place h.0,
-      λ k e.
-          let same : h.1.pair.0 ≡ k = some-same h.1.pair.0 k (sym (get-key place h.1.pair h.1.here) ∙ e) in
-          subst (PassesAt (CalledAt gf) (of s) (front_of (of_map c) place)) same
-          (subst (λ ks. PassesAt (CalledAt gf) (of s) ks h.1.pair.0) (front-keys place) (PassesAt-keys gm gf of one may s (take (index_of c place) (entries c)) h.1.pair h.1.first)),
-    )
+-- a closure that declined the keys before a place declined its front
+pub declines-front : {F K S : Type 0} {T : F → K → Bool → F → Type 0} {f t : F} (c : Contents K S) (place : Place) → Declines T f (take (index_of c place) (entries c)) t → Declines T f (front_of c place) t
+unfolding spots.front_of
+declines-front c place h = h

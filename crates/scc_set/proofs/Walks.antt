@@ -17,7 +17,7 @@ use Rattle.scc_walks.specs.PairWalks.{CalledToWrite, TakesToWrite, CallableToWri
 use Rattle.scc_walks.specs.PairWalks as writes
 use Rattle.scc_map.specs.Sinks.{with_units}
 use Rattle.scc_set.specs.Keys.{of_map}
-use Rattle.scc_set.specs.SetWalks.{CallableWhile, Walks, walked, stopped, went_on, Declines, declined_none, declined, PassesNone, PassesAt, Retains, retained, stayed, went, Takes, ended, refused, kept, took, kept_last, took_last}
+use Rattle.scc_set.specs.SetWalks.{CallableWhile, Walks, walked, stopped, went_on, Declines, declined_none, declined, Retains, retained, stayed, went, Takes, ended, refused, kept, took, kept_last, took_last}
 
 -- an order of the pairs is one of the keys
 pub ordered-keys : {K S : Type 0} (c : Contents (K × Unit {0}) S) (es : List (K × Unit {0})) → IsPermutation (entries c) es → IsPermutation (entries (of_map c)) (keys_of es)
@@ -51,15 +51,11 @@ module _ {C F K : Type 0} (gm : Mut C (Bor K × (Bor (Unit {0}) × Unit {0})) Bo
   Walks-keys s es b t (pairs.stopped {p = p} c) = stopped (on-key s p false t c)
   Walks-keys s es b t (pairs.went_on {f' = f'} {p = p} {es = rest} c w) = went_on (on-key s p true f' c) (Walks-keys f' rest b t w)
 
-  pub Declines-keys : (s : C) (es : List (K × Unit {0})) (t : C) → writes.Declines (CalledOn gm) s es t → Declines (CalledAt gf) (of s) (keys_of es) (of t)
-  Declines-keys s es t writes.ended = declined_none
-  Declines-keys s es t (writes.went_on {f' = f'} {p = p} {es = rest} c w) = declined (on-key s p false f' c) (Declines-keys f' rest t w)
-
-  pub PassesNone-keys : (s : C) (es : List (K × Unit {0})) → writes.PassesNone (CalledOn gm) s es → PassesNone (CalledAt gf) (of s) (keys_of es)
-  PassesNone-keys s es h = record { last = of h.last; declines = Declines-keys s es h.last h.declines }
-
-  pub PassesAt-keys : (s : C) (es : List (K × Unit {0})) (p : K × Unit {0}) → writes.PassesAt (CalledOn gm) s es p → PassesAt (CalledAt gf) (of s) (keys_of es) p.0
-  PassesAt-keys s es p h = record { before = of h.before; last = of h.last; declines = Declines-keys s es h.before h.declines; passes = on-key h.before p true h.last h.passes }
+module _ {F K : Type 0} {T : F → K → Bool → F → Type 0} where
+  -- one key more
+  pub declines-more : (ks : List K) {f f' f'' : F} {q : K} → Declines T f ks f' → T f' q false f'' → Declines T f (ks ++ q ∷ []) f''
+  declines-more [] declined_none t = declined t declined_none
+  declines-more (x ∷ ks) (declined s d) t = declined s (declines-more ks d t)
 
 module _ {C F K R : Type 0} (gm : Mut C (Bor K × (MutBor (Unit {0}) × Unit {0})) (R × (MutBor (Unit {0}) × Unit {0}))) (gf : Mut F (Bor K × Unit {0}) R) (of : C → F)
     (one : (s : C) (key : Bor K) (value left : MutBor (Unit {0})) (r : R) (t : C) → Called gm s (key, (value, tt)) (r, (left, tt)) t → CalledAt gf (of s) key.now r (of t))

@@ -277,15 +277,14 @@ impl<K: Eq + Hash, H: BuildHasher> Owned<K, H> {
         ensures waiting { IfNone result (waiting_of self.new ≡ waiting_of self.old) }
         ensures unique { IsUnique K.eq self.new }
     {
-        key_alone(
-            self.map.remove_if_sync(
-                k,
-                move |_value: &mut ()| -> bool
-                    requires { F.pre f }
-                    ensures { F.post f result }
-                { f() },
-            ),
-        )
+        let pair = self.map.remove_if_sync(
+            k,
+            move |_value: &mut ()| -> bool
+                requires { F.pre f }
+                ensures { F.post f result }
+            { f() },
+        );
+        key_alone(pair)
     }
 
     /// Takes out the key that equals `k`, and answers it.

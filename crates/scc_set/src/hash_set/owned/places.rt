@@ -1,6 +1,6 @@
 //! The places of keys, as an entry goes from one to the next.
 ghost use Rattle.std.specs.Prelude.{◌≡◌, ◌≢◌, [], suc, length, remove, slice_get, Some, MatchOption, false};
-ghost use Rattle.std.specs.Fn.{CalledAt, TakesAt};
+ghost use Rattle.std.specs.Fn.{CalledAt};
 ghost use Rattle.scc_table.specs.Contents.{entries, bucket_count, minimum_of, refused_of, waiting_of};
 ghost use Rattle.scc_incremental.specs.Placed.{front_of};
 ghost use Rattle.scc_incremental.specs.Places.{IsPlace, StandsAt, index_of};
@@ -43,12 +43,14 @@ impl<K: Eq + Hash, H: BuildHasher> Owned<K, H> {
         requires { CallableWhile P.FnMut (λ answer. answer ≡ false) p (entries self.now) }
         ensures { MatchOption result (PassesNone (CalledAt P.FnMut) p (entries self.now)) (λ place. IsPlace self.now place × ((k : K) → slice_get (entries self.now) (index_of self.now place) ≡ Some k → PassesAt (CalledAt P.FnMut) p (front_of self.now place) k)) }
     {
-        self.map.first_passing(
-            move |key: &K, _value: &()| -> bool
-                requires { TakesAt P.FnMut p key.now }
-                ensures { CalledAt P.FnMut p.entry key.entry.now result p.exit }
-            { p(key) },
-        )
+        let mut at = self.first_place();
+        while let Some(place) = at {
+            if p(self.key_at(place)) {
+                return Some(place);
+            }
+            at = self.next_place(place);
+        }
+        None
     }
 
     /// Takes the key out of its place. Then the array may become smaller.

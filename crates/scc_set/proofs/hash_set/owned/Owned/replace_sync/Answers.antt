@@ -2,6 +2,12 @@ use Rattle.std.proofs.Common.{IsOk, ap, ◌∙◌}
 use Rattle.scc_table.specs.Contents.{bucket_count}
 use Rattle.scc_set.proofs.hash_set.owned.Owned.replace_sync.Goals as goal
 
+pub returns-in-Ok-clause-step : goal.returns-in-Ok-clause-step
+returns-in-Ok-clause-step g c = let e = c.in-Ok.ensures.swapped in (e.0, e.1)
+
+pub returns-in-Ok-clause-finds : goal.returns-in-Ok-clause-finds
+returns-in-Ok-clause-finds g c = c.in-Ok.ensures.swapped.2
+
 pub returns-in-Err-insert_sync-clause-succeeds : goal.returns-in-Err-insert_sync-clause-succeeds
 returns-in-Err-insert_sync-clause-succeeds g c =
     λ r. let e = c.in-Err.ensures.missing in let h : IsOk c.insert_sync.result = c.insert_sync.ensures.succeeds (rw (e.2, e.0) e.1) (rw (e.2, e.0) r) in rw c.in-Err-insert_sync.is at h
