@@ -1,4 +1,9 @@
 //! Random calls on a map and on a plain list of pairs, whose answers have to be the same. The tests make some thousands of them.
+ghost use Rattle.std.specs.Prelude.{◌≡◌, ◌↔◌, IfOk, IsTrue, Some, nat_eq};
+ghost use Rattle.scc_table.specs.Contents.{entries};
+ghost use Rattle.scc_table.specs.Pairs.{find};
+ghost use Rattle.scc_fixtures.specs.HasJust.{HasJust};
+
 use crate::numbers::next;
 use scc::InsertError;
 use scc::hash_map::Owned;
@@ -81,11 +86,20 @@ fn look<H: BuildHasher>(
     agrees && map.len() == model.len()
 }
 
+// Whether the map has the pair.
+fn has_pair<H: BuildHasher>(map: &Owned<u64, u64, H>, pair: &(u64, u64)) -> bool
+    ensures { IsTrue result ↔ (find nat_eq (entries map.now) pair.now.0 ≡ Some pair.now) }
+{
+    map.read_sync(&pair.0, |_, value| *value) == Some(pair.1)
+}
+
 // Whether the map has just the pairs of the list.
-fn has_just<H: BuildHasher>(map: &Owned<u64, u64, H>, model: &[(u64, u64)]) -> bool {
+fn has_just<H: BuildHasher>(map: &Owned<u64, u64, H>, model: &[(u64, u64)]) -> bool
+    ensures { IsTrue result → HasJust map.now model.now }
+{
     let mut agrees = map.len() == model.len();
     for pair in model {
-        let there = map.read_sync(&pair.0, |_, value| *value) == Some(pair.1);
+        let there = has_pair(map, pair);
         agrees = agrees && there;
     }
     agrees
@@ -108,7 +122,9 @@ pub fn agrees_with<H: BuildHasher>(
     model: &mut Vec<(u64, u64)>,
     calls: u64,
     mask: u64,
-) -> Result<bool, AllocError> {
+) -> Result<bool, AllocError>
+    ensures { IfOk result (λ agrees. IsTrue agrees → HasJust map.new model.new.items) }
+{
     let mut seed = mask;
     let mut agrees = has_just(map, model.as_slice());
     for _ in 0..calls {
