@@ -254,7 +254,7 @@ where
 }
 
 /// The old buckets in which entries of the target lie: from the first answer up to before the second. Where there are fewer buckets than before, they hold no others.
-fn source_row(old: usize, count: usize, target: usize) -> (usize, usize)
+pub fn sources(old: usize, count: usize, target: usize) -> (usize, usize)
     requires some { 0 < old }
     requires most { old ≤ 2 ^ 58 }
     requires target { target < count }
@@ -274,19 +274,6 @@ fn source_row(old: usize, count: usize, target: usize) -> (usize, usize)
     }
     let spread = old / count;
     (target * spread, target * spread + spread)
-}
-
-/// The old buckets in which entries of the target lie: from the first answer up to before the second.
-pub fn sources(old: usize, count: usize, target: usize) -> (usize, usize)
-    requires some { 0 < old }
-    requires most { old ≤ 2 ^ 58 }
-    requires target { target < count }
-    requires multiples { AreMultiples old count }
-    ensures order { result.0 ≤ result.1 }
-    ensures within { result.1 ≤ old }
-    ensures only { (skipped hash : ℕ) → bucket_number skipped count hash ≡ target → (result.0 ≤ bucket_number skipped old hash) × (bucket_number skipped old hash < result.1) }
-{
-    source_row(old, count, target)
 }
 
 /// How many entries of one old bucket belong to the target.
@@ -415,7 +402,7 @@ where
     ensures refused { OnErr result (32 < length (bound_for (λ e. key_hash H.BuildHasher H.Hasher.Hasher E.Key.hash_input current.old (E.key_of e)) skipped (bucket_count current.old) target (flat_map shelf_entries old.old))) }
 {
     let count = current.bucket_count();
-    let (first, last) = source_row(old.len(), count, target);
+    let (first, last) = sources(old.len(), count, target);
     let coming = count_coming(old, first, last, target, current, skipped, count);
     move_in(current, old, target, first, last, coming, aside, skipped)
 }

@@ -43,7 +43,7 @@ where
         self.current.keep_lists();
     }
 
-    /// The same where some bucket waits. There is no such entry where the answer's bucket is `NOWHERE`. A place comes back in two registers; an Option of one would lie in memory for the caller, on its way where no bucket waits too.
+    /// The same where some bucket waits. There is no such entry where the answer's bucket is `NOWHERE`. A place comes back in two registers; an Option of one goes through the caller's memory, also where no bucket waits.
     #[cold]
     fn search_both(&self, hash: u64, key: &E::Key) -> Place
         requires pending { 0 < pending_of self.now }

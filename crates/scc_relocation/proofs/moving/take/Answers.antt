@@ -5,26 +5,26 @@ use Rattle.scc_relocation.proofs.FromBuckets.{within-sources, few-each, most-hel
 use Rattle.scc_relocation.proofs.Joined.{are-joined}
 use Rattle.scc_relocation.proofs.moving.take.Goals as goal
 
-pub source_row-first-requires-clause-some : goal.source_row-first-requires-clause-some
-source_row-first-requires-clause-some g c = let z = c.requires.sized in omega (arith, z.least, c.len.ensures.count)
+pub sources-first-requires-clause-some : goal.sources-first-requires-clause-some
+sources-first-requires-clause-some g c = let z = c.requires.sized in omega (arith, z.least, c.len.ensures.count)
 
-pub source_row-first-requires-clause-most : goal.source_row-first-requires-clause-most
-source_row-first-requires-clause-most g c = let z = c.requires.sized in omega (arith, z.most, c.len.ensures.count)
+pub sources-first-requires-clause-most : goal.sources-first-requires-clause-most
+sources-first-requires-clause-most g c = let z = c.requires.sized in omega (arith, z.most, c.len.ensures.count)
 
-pub source_row-first-requires-clause-target : goal.source_row-first-requires-clause-target
-source_row-first-requires-clause-target g c = omega (arith, c.requires.target, c.bucket_count-count.ensures.count)
+pub sources-first-requires-clause-target : goal.sources-first-requires-clause-target
+sources-first-requires-clause-target g c = omega (arith, c.requires.target, c.bucket_count-count.ensures.count)
 
-pub source_row-first-requires-clause-multiples : goal.source_row-first-requires-clause-multiples
-source_row-first-requires-clause-multiples g c = rw (c.len.ensures.count, c.bucket_count-count.ensures.count) c.requires.multiples
+pub sources-first-requires-clause-multiples : goal.sources-first-requires-clause-multiples
+sources-first-requires-clause-multiples g c = rw (c.len.ensures.count, c.bucket_count-count.ensures.count) c.requires.multiples
 
 pub count_coming-coming-requires-clause-sources : goal.count_coming-coming-requires-clause-sources
 count_coming-coming-requires-clause-sources g c =
     let cur = c.args.current.now in
     let olds = c.args.old.now in
     let hash = λ (e : g.row.E.Denot). key_hash g.H.BuildHasher g.H.Hasher.Hasher g.E.Key.Hash.hash_input cur (g.E.Keyed.key_of e) in
-    let only = rw (c.len.ensures.count, c.bucket_count-count.ensures.count) at c.source_row-first.ensures.only in
-    let last = rw c.len.ensures.count at c.source_row-first.ensures.within in
-    let sources = within-sources hash c.args.skipped (bucket_count cur) c.args.target c.source_row-first.result.0 c.source_row-first.result.1 olds c.requires.own c.source_row-first.ensures.order last only in
+    let only = rw (c.len.ensures.count, c.bucket_count-count.ensures.count) at c.sources-first.ensures.only in
+    let last = rw c.len.ensures.count at c.sources-first.ensures.within in
+    let sources = within-sources hash c.args.skipped (bucket_count cur) c.args.target c.sources-first.result.0 c.sources-first.result.1 olds c.requires.own c.sources-first.ensures.order last only in
     rw c.bucket_count-count.ensures.count sources
 
 pub count_coming-coming-requires-clause-few : goal.count_coming-coming-requires-clause-few
@@ -42,9 +42,9 @@ move_in-requires-clause-sources g c =
     let cur = c.args.current.now in
     let olds = c.args.old.now in
     let hash = λ (e : g.row.E.Denot). key_hash g.H.BuildHasher g.H.Hasher.Hasher g.E.Key.Hash.hash_input cur (g.E.Keyed.key_of e) in
-    let only = rw (c.len.ensures.count, c.bucket_count-count.ensures.count) at c.source_row-first.ensures.only in
-    let last = rw c.len.ensures.count at c.source_row-first.ensures.within in
-    within-sources hash c.args.skipped (bucket_count cur) c.args.target c.source_row-first.result.0 c.source_row-first.result.1 olds c.requires.own c.source_row-first.ensures.order last only
+    let only = rw (c.len.ensures.count, c.bucket_count-count.ensures.count) at c.sources-first.ensures.only in
+    let last = rw c.len.ensures.count at c.sources-first.ensures.within in
+    within-sources hash c.args.skipped (bucket_count cur) c.args.target c.sources-first.result.0 c.sources-first.result.1 olds c.requires.own c.sources-first.ensures.order last only
 
 pub move_in-requires-clause-few : goal.move_in-requires-clause-few
 move_in-requires-clause-few g c = few-each c.args.old.now c.args.aside c.requires.spilled (let f = c.requires.aside in omega arith)
@@ -54,9 +54,9 @@ count_coming-coming-requires-clause-joined g c =
     let cur = c.args.current.now in
     let olds = c.args.old.now in
     let hash = λ (e : g.row.E.Denot). key_hash g.H.BuildHasher g.H.Hasher.Hasher g.E.Key.Hash.hash_input cur (g.E.Keyed.key_of e) in
-    let all = rw (c.len.ensures.count, c.bucket_count-count.ensures.count) at c.source_row-first.ensures.joined in
-    let last = rw c.len.ensures.count at c.source_row-first.ensures.within in
-    let joined = are-joined hash c.args.skipped (bucket_count cur) c.args.target c.source_row-first.result.0 c.source_row-first.result.1 olds c.requires.own last all in
+    let all = rw (c.len.ensures.count, c.bucket_count-count.ensures.count) at c.sources-first.ensures.joined in
+    let last = rw c.len.ensures.count at c.sources-first.ensures.within in
+    let joined = are-joined hash c.args.skipped (bucket_count cur) c.args.target c.sources-first.result.0 c.sources-first.result.1 olds c.requires.own last all in
     rw c.bucket_count-count.ensures.count joined
 
 pub move_in-requires-clause-joined : goal.move_in-requires-clause-joined
@@ -64,7 +64,7 @@ move_in-requires-clause-joined g c =
     let cur = c.args.current.now in
     let olds = c.args.old.now in
     let hash = λ (e : g.row.E.Denot). key_hash g.H.BuildHasher g.H.Hasher.Hasher g.E.Key.Hash.hash_input cur (g.E.Keyed.key_of e) in
-    let all = rw (c.len.ensures.count, c.bucket_count-count.ensures.count) at c.source_row-first.ensures.joined in
-    let last = rw c.len.ensures.count at c.source_row-first.ensures.within in
-    let joined = are-joined hash c.args.skipped (bucket_count cur) c.args.target c.source_row-first.result.0 c.source_row-first.result.1 olds c.requires.own last all in
+    let all = rw (c.len.ensures.count, c.bucket_count-count.ensures.count) at c.sources-first.ensures.joined in
+    let last = rw c.len.ensures.count at c.sources-first.ensures.within in
+    let joined = are-joined hash c.args.skipped (bucket_count cur) c.args.target c.sources-first.result.0 c.sources-first.result.1 olds c.requires.own last all in
     joined

@@ -1,6 +1,6 @@
 use Rattle.std.proofs.Common.{arith}
 use Rattle.scc_relocation.proofs.Numbers.{joined-shrunk, only-doubled, only-grown, only-shrunk, source-within}
-use Rattle.scc_relocation.proofs.moving.source_row.Goals as goal
+use Rattle.scc_relocation.proofs.moving.sources.Goals as goal
 
 pub returns-then-count-old-clause-only : goal.returns-then-count-old-clause-only
 returns-then-count-old-clause-only c =
