@@ -1,5 +1,5 @@
 //! Walks over pairs, which lend a key and a value to a closure.
-ghost use Rattle.std.specs.Prelude.{◌<◌, ◌^◌, length, true};
+ghost use Rattle.std.specs.Prelude.{◌≡◌, ◌<◌, ◌^◌, drop, length, true};
 ghost use Rattle.scc_array.specs.Shelves.{shelf_of};
 ghost use Rattle.scc_bucket.specs.Shelf.{shelf_entries};
 ghost use Rattle.scc_bucket.specs.Walks.{CalledOn, CallableWhile, Walks};
@@ -9,7 +9,30 @@ use crate::table::Table;
 use scc_array::Array;
 use std::hash::{BuildHasher, Hash};
 
-/// Calls `f` on a bucket's pairs in turn, until its first false. The answer is false where it stopped.
+/// Calls `f` on the pairs of a bucket past its places in turn, until its first false. The answer is false where it stopped.
+#[inline(always)]
+fn walk_list<K, V, F: FnMut(&K, &V) -> bool>(
+    array: &Array<(K, V)>,
+    bucket: usize,
+    slots: usize,
+    f: &mut F,
+) -> bool
+    requires within { bucket < length array.now }
+    requires slots { slots ≡ length (shelf_of array.now bucket).slots }
+    requires few { length (shelf_entries (shelf_of array.now bucket)) < 2 ^ 63 }
+    requires callable { CallableWhile F.FnMut true f.old (drop slots (shelf_entries (shelf_of array.now bucket))) }
+    ensures { Walks (CalledOn F.FnMut) f.old (drop slots (shelf_entries (shelf_of array.now bucket))) result f.new }
+{
+    for place in slots..slots + array.overflow_len(bucket) {
+        let pair = array.entry_of(bucket, place, slots);
+        if !f(&pair.0, &pair.1) {
+            return false;
+        }
+    }
+    true
+}
+
+/// Calls `f` on a bucket's pairs in turn, until its first false. The answer is false where it stopped. The pairs in places have a loop of their own, which asks for no list.
 #[inline(always)]
 fn walk_bucket<K, V, F: FnMut(&K, &V) -> bool>(
     array: &Array<(K, V)>,
@@ -22,13 +45,13 @@ fn walk_bucket<K, V, F: FnMut(&K, &V) -> bool>(
     ensures { Walks (CalledOn F.FnMut) f.old (shelf_entries (shelf_of array.now bucket)) result f.new }
 {
     let slots = array.slot_count(bucket);
-    for place in 0..array.bucket_len(bucket) {
+    for place in 0..slots {
         let pair = array.entry_of(bucket, place, slots);
         if !f(&pair.0, &pair.1) {
             return false;
         }
     }
-    true
+    walk_list(array, bucket, slots, f)
 }
 
 impl<K: Eq + Hash, V, H: BuildHasher> Table<(K, V), H> {

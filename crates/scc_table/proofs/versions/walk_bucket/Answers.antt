@@ -29,6 +29,5 @@ loop-place-preserved g c =
 
 pub returns : goal.returns
 returns g c =
-    let xs = shelf_entries (shelf_of c.args.array.now c.args.bucket) in
-    let far : length xs ≤ c.loop-place.place = search rules in
-    c.loop-place.invariant.rest true c.loop-place.f (rw (drop-past xs c.loop-place.place far) ended)
+    let all : c.loop-place.place ≡ c.slot_count-slots.result = search rules in
+    c.loop-place.invariant.rest c.walk_list.result c.walk_list.new.f (rw all c.walk_list.ensures)
