@@ -20,7 +20,42 @@ where
     E::Key: Eq + Hash,
 {
     /// Puts in an entry whose key is new, and answers its place. Its bucket takes its own entries over first where it waits, and then the first ones that wait do, two in all. Where no bucket waits, that one holds 32 entries or more and the table at least half as many entries as slots, the number of buckets is doubled first, if memory can be had: every bucket of the new array waits then. The entry is handed back where there is no array and none can be had, where memory for its bucket's entries that waited is refused, or where its bucket is full and the overflow list can't grow.
+    #[inline(always)]
     pub fn insert_new(&mut self, hash: u64, entry: E) -> Result<Place, E>
+        requires hashed { hash ≡ key_hash H.BuildHasher H.Hasher.Hasher E.Key.hash_input self.old (E.key_of entry) }
+        requires absent { position (λ e. E.Key.eq (E.key_of entry) (E.key_of e)) (entries self.old) ≡ None }
+        ensures ok { IfOk result (IsInsertedAt self.old entry self.new) }
+        ensures err { IfErr result (λ e. (e ≡ entry) × Rests self.old self.new) }
+        ensures full { OnErr result (HasRoomBy (key_hash H.BuildHasher H.Hasher.Hasher E.Key.hash_input self.old) E.key_of self.old (E.key_of entry) → ⊥) }
+        ensures growth { Grows self.old self.new }
+        ensures due { GrowsWhenDue (key_hash H.BuildHasher H.Hasher.Hasher E.Key.hash_input self.old) E.key_of self.old (E.key_of entry) self.new }
+        ensures first { OnOk result (FirstArrayWhenDue self.old self.new) }
+        ensures none { OnErr result (bucket_count self.old ≡ 0 → IsUnchanged self.old self.new) }
+        ensures kept { HasRoomBy (key_hash H.BuildHasher H.Hasher.Hasher E.Key.hash_input self.old) E.key_of self.old (E.key_of entry) → bucket_count self.new ≡ bucket_count self.old }
+        ensures fewer { 0 < bucket_count self.old → bucket_count self.new ≡ bucket_count self.old → (i : ℕ) → IsWaiting self.new i → IsWaiting self.old i }
+        ensures less { 0 < bucket_count self.old → bucket_count self.new ≡ bucket_count self.old → pending_of self.new ≤ pending_of self.old }
+        ensures most { 0 < bucket_count self.old → bucket_count self.new ≡ bucket_count self.old → pending_of self.old ≤ pending_of self.new + 2 }
+        ensures grown { 0 < bucket_count self.old → bucket_count self.new ≢ bucket_count self.old → bucket_count self.new ≤ pending_of self.new + 2 }
+        ensures array { bucket_count self.old ≡ 0 → pending_of self.new ≡ 0 }
+        ensures settled { OnOk result (waits_at (waiting_of self.new) (bucket_number (settings_of self.old).skipped (bucket_count self.new) hash) ≡ false) }
+        ensures exact { OnOk result (0 < bucket_count self.old → bucket_count self.new ≡ bucket_count self.old → AreShort self.old → pending_targets self.new ≡ left_after (bucket_number (settings_of self.old).skipped (bucket_count self.old) hash) (pending_targets self.old)) }
+        ensures spread { OnOk result (0 < bucket_count self.old → bucket_count self.new ≢ bucket_count self.old → AreShortAmong (λ e. key_hash H.BuildHasher H.Hasher.Hasher E.Key.hash_input self.old (E.key_of e)) (bucket_count self.new) self.old → pending_targets self.new ≡ left_after (bucket_number (settings_of self.old).skipped (bucket_count self.new) hash) (range_with_len 0 (bucket_count self.new))) }
+        ensures all_but_two { OnOk result (0 < bucket_count self.old → bucket_count self.new ≢ bucket_count self.old → AreShortAmong (λ e. key_hash H.BuildHasher H.Hasher.Hasher E.Key.hash_input self.old (E.key_of e)) (bucket_count self.new) self.old → pending_of self.new + 2 ≡ bucket_count self.new) }
+        ensures by_two { OnOk result (0 < bucket_count self.old → bucket_count self.new ≡ bucket_count self.old → AreShort self.old → pending_of self.new ≡ pending_of self.old - 2) }
+        ensures unique { IsUniqueBy E.Key.eq E.key_of self.new }
+    {
+        self.keep_lists();
+        if self.pending == 0 && self.bucket_count() > 0 {
+            let bucket = self.bucket_at(hash);
+            if self.list_len(bucket) < 32 {
+                return self.insert_at(bucket, hash, entry);
+            }
+        }
+        self.insert_making_room(hash, entry)
+    }
+
+    /// The same, with a look whether the array has to be made or to grow.
+    fn insert_making_room(&mut self, hash: u64, entry: E) -> Result<Place, E>
         requires hashed { hash ≡ key_hash H.BuildHasher H.Hasher.Hasher E.Key.hash_input self.old (E.key_of entry) }
         requires absent { position (λ e. E.Key.eq (E.key_of entry) (E.key_of e)) (entries self.old) ≡ None }
         ensures ok { IfOk result (IsInsertedAt self.old entry self.new) }
@@ -50,6 +85,7 @@ where
     }
 
     /// Puts in an entry whose key is new, into that bucket, the one of the hash, and answers its place. Where that bucket waits, it takes its entries over first, and then the first ones that wait, two in all. The entry is handed back where memory for its own bucket is refused.
+    #[inline(always)]
     pub(super) fn insert_at(&mut self, bucket: usize, hash: u64, entry: E) -> Result<Place, E>
         requires within { bucket < bucket_count self.old }
         requires routed { bucket ≡ bucket_number (settings_of self.old).skipped (bucket_count self.old) hash }

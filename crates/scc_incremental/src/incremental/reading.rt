@@ -102,14 +102,4 @@ where
     {
         self.current.minimum()
     }
-
-    /// The slots reserved and not given back.
-    #[inline(always)]
-    pub fn reserved(&self) -> usize
-        ensures value { result ≡ (settings_of self.now).reserved }
-        ensures most { minimum_of self.now ≤ 2 ^ 63 }
-        ensures unique { IsUniqueBy E.Key.eq E.key_of self.now }
-    {
-        self.current.reserved()
-    }
 }

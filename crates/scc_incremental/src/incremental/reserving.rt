@@ -29,7 +29,7 @@ where
         if additional == 0 || additional > GREATEST_CAPACITY - minimum {
             return false;
         }
-        let reserved = self.reserved() + additional;
+        let reserved = self.current.reserved() + additional;
         self.set_reserved(reserved);
         self.grow_to_minimum();
         true
@@ -46,7 +46,8 @@ where
         ensures waiting { (IsTrue result → ⊥) → waiting_of self.new ≡ waiting_of self.old }
         ensures unique { IsUniqueBy E.Key.eq E.key_of self.new }
     {
-        let reserved = self.reserved();
+        self.keep_lists();
+        let reserved = self.current.reserved();
         if additional > reserved {
             return false;
         }

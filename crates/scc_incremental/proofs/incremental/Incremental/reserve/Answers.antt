@@ -1,5 +1,6 @@
-use Rattle.std.proofs.Common.{◌∙◌, ◌+◌, sym, ap, arith}
-use Rattle.scc_table.specs.Contents.{minimum_of}
+use Rattle.std.proofs.Common.{◌≡◌, ◌∙◌, ◌+◌, rules, sym, ap, arith}
+use Rattle.scc_table.specs.Contents.{key_hash, minimum_of, settings_of}
+use Rattle.scc_incremental.proofs.Seen.{settings-seen}
 use Rattle.scc_incremental.proofs.Spreading.{growth-due_after, spreads-after}
 use Rattle.scc_incremental.proofs.incremental.Incremental.reserve.Goals as goal
 
@@ -16,3 +17,30 @@ returns-clause-spreads g c =
     let e = c.set_reserved.ensures in
     let same = ap (λ s. s.asked + s.reserved) (sym c.grow_to_minimum.ensures.resizes.settings) in
     λ _. spreads-after a b d e.buckets e.waiting e.held (growth-due_after (minimum_of b) (minimum_of d) a b same e.buckets) c.grow_to_minimum.ensures.spreads
+
+pub overflow_add-reserved : goal.overflow_add-reserved
+overflow_add-reserved g c =
+    let t = c.self.inside in
+    let hk = key_hash g.H.BuildHasher g.H.Hasher.Hasher g.E.Key.Hash.hash_input t.current in
+    let hash = λ (e : g.row.E.Denot). hk (g.E.Keyed.key_of e) in
+    let set = settings-seen hash t.current t.waiting.items t.draining c.args.self.now c.self.view_is in
+    let held : c.reserved.result ≡ (settings_of c.args.self.now).reserved = c.reserved.ensures.value ∙ ap (λ s. s.reserved) set in
+    record { fits = let m = c.minimum-minimum.ensures in omega arith }
+
+pub set_reserved-requires : goal.set_reserved-requires
+set_reserved-requires g c =
+    let t = c.self.inside in
+    let hk = key_hash g.H.BuildHasher g.H.Hasher.Hasher g.E.Key.Hash.hash_input t.current in
+    let hash = λ (e : g.row.E.Denot). hk (g.E.Keyed.key_of e) in
+    let set = settings-seen hash t.current t.waiting.items t.draining c.args.self.now c.self.view_is in
+    let held : c.reserved.result ≡ (settings_of c.args.self.now).reserved = c.reserved.ensures.value ∙ ap (λ s. s.reserved) set in
+    omega arith
+
+pub returns-clause-yes : goal.returns-clause-yes
+returns-clause-yes g c =
+    let t = c.self.inside in
+    let hk = key_hash g.H.BuildHasher g.H.Hasher.Hasher g.E.Key.Hash.hash_input t.current in
+    let hash = λ (e : g.row.E.Denot). hk (g.E.Keyed.key_of e) in
+    let set = settings-seen hash t.current t.waiting.items t.draining c.args.self.now c.self.view_is in
+    let held : c.reserved.result ≡ (settings_of c.args.self.now).reserved = c.reserved.ensures.value ∙ ap (λ s. s.reserved) set in
+    search rules
