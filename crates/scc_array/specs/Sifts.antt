@@ -1,5 +1,5 @@
 -- A bucket whose entries are parted by flags, one a place.
-use Rattle.std.specs.Prelude.{◌≡◌, ◌≢◌, ℕ, ◌+◌, ◌<◌, ◌≤◌, List, [], ◌∷◌, ◌++◌, length, cond, slice_get, slice_index_or, Bool, Option, None}
+use Rattle.std.specs.Prelude.{◌≡◌, ◌≢◌, ℕ, ◌+◌, ◌<◌, ◌≤◌, List, [], ◌∷◌, ◌++◌, length, cond, slice_get, slice_index_or, Bool, true, Option, None, replicate}
 use Rattle.scc_array.specs.Windows.{Window, tag_there}
 use Rattle.scc_bucket.specs.Shelf.{Shelf}
 
@@ -14,6 +14,10 @@ abbrev pub kept : {X : Type 0} → List Bool → List X → List X
 kept [] xs = []
 kept (f ∷ fs) [] = []
 kept (f ∷ fs) (x ∷ xs) = cond f (kept fs xs) (x ∷ kept fs xs)
+
+-- a flag that is up for each of 32 places
+abbrev pub all_up : List Bool
+all_up = replicate 32 true
 
 module _ {E : Type 0} where
   -- the entries of a bucket whose flag is up, with their tags

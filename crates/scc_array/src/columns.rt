@@ -3,14 +3,14 @@ ghost use Rattle.std.specs.Prelude.{◌≡◌, ◌^◌, ◌≤◌, ◌<◌, ◌+
 ghost use Rattle.std.specs.Borrow.{sem};
 ghost use Rattle.std.specs.Int.{bit_at};
 ghost use Rattle.std.specs.List.{position};
-ghost use Rattle.scc_array.specs.Sifts.{kept_of, picked_of, window_with};
+ghost use Rattle.scc_array.specs.Sifts.{all_up, kept_of, picked_of, window_with};
 ghost use Rattle.scc_array.specs.Windows.{empty_window, window_of, pushed, popped_over, shifted_out, IsColumns, IsTagged};
 ghost use Rattle.scc_slots.specs.Places.{IsDrained};
 
 mod finding;
 
 use crate::shifts::close_gap;
-use crate::sifting::sift;
+use crate::sifting::{pour, sift};
 use scc_bucket::Keyed;
 use scc_bucket::tags::{lowest_bit, tag_mask, without_lowest_bit};
 use scc_slots::Slots;
@@ -161,6 +161,29 @@ impl<E> Columns<E> {
             base,
             held,
             flags,
+            into,
+            target,
+            first,
+        );
+    }
+
+    /// Moves all entries of a bucket to the end of a bucket of other columns, in order.
+    #[inline(always)]
+    pub fn pour(&mut self, bucket: usize, into: &mut Columns<E>, target: usize)
+        requires bucket { bucket < length self.old }
+        requires target { target < length into.old }
+        requires room { length (window_of into.old target).slots + length (window_of self.old bucket).slots ≤ 32 }
+        ensures stays { self.new ≡ slice_set self.old bucket (kept_of all_up (window_of self.old bucket)) }
+        ensures moved { into.new ≡ slice_set into.old target (window_with (window_of into.old target) (picked_of all_up (window_of self.old bucket))) }
+    {
+        let held = self.count(bucket);
+        let first = into.count(target);
+        let base = 32 * bucket;
+        pour(
+            &mut self.slots,
+            &mut self.tags[bucket],
+            base,
+            held,
             into,
             target,
             first,

@@ -1,6 +1,6 @@
 //! The entries of a bucket are parted: some go to other columns, and the others close their ranks.
 ghost use Rattle.std.specs.Prelude.{◌≡◌, ◌<◌, ◌≤◌, ◌+◌, ◌⊎◌, ◌^◌, ℕ, length, slice_index_or, slice_set, None};
-ghost use Rattle.scc_array.specs.Sifts.{kept_of, picked_of, window_with, AreAt, Moves};
+ghost use Rattle.scc_array.specs.Sifts.{all_up, kept_of, picked_of, window_with, AreAt, Moves};
 ghost use Rattle.scc_array.specs.Windows.{Window, window_of};
 ghost use Rattle.scc_slots.specs.Places.{IsFilled};
 
@@ -65,5 +65,38 @@ pub(crate) fn sift<E>(
             keep_at(slots, row, base, p, stays);
             stays += 1;
         }
+    }
+}
+
+/// Moves all entries of a row to the end of a bucket of the columns, where `first` stand, in order. The places of the row begin at `base`, and so many are in use.
+#[inline(always)]
+pub(crate) fn pour<E>(
+    slots: &mut Slots<E>,
+    row: &mut [u8; 32],
+    base: usize,
+    held: usize,
+    into: &mut Columns<E>,
+    target: usize,
+    first: usize,
+)
+    requires target { target < length into.old }
+    requires first { first ≡ length (window_of into.old target).slots }
+    requires room { first + held ≤ 32 }
+    requires small { base + 32 < 2 ^ 64 }
+    requires within { base + 32 ≤ length slots.old }
+    requires held { (w : Window E) × AreAt slots.old row.old base w × (held ≡ length w.slots) }
+    ensures stays { (w : Window E) → AreAt slots.old row.old base w → held ≡ length w.slots → AreAt slots.new row.new base (kept_of all_up w) }
+    ensures moved { (w : Window E) → AreAt slots.old row.old base w → held ≡ length w.slots → into.new ≡ slice_set into.old target (window_with (window_of into.old target) (picked_of all_up w)) }
+    ensures count { length slots.new ≡ length slots.old }
+    ensures wide { length row.new ≡ length row.old }
+    ensures others { (q : ℕ) → (q < base) ⊎ (base + 32 ≤ q) → slice_index_or slots.new q None ≡ slice_index_or slots.old q None }
+{
+    let mut next = first;
+    for p in 0..held {
+        let tag = row[p];
+        row[p] = 0;
+        let entry = slots.take(base + p);
+        into.push_at(target, next, entry, tag);
+        next += 1;
     }
 }

@@ -31,7 +31,7 @@ pub flat-more : {E : Type 0} (m : ℕ) (bs : List (Shelf E)) → m < length bs �
 flat-more m bs l =
     ap (flat_map shelf_entries) (take_more bs m empty_shelf l) ∙ flat_map-append shelf_entries (take m bs) (shelf_of bs m ∷ []) ∙ ap (λ z. flat_map shelf_entries (take m bs) ++ z) (append-nil (shelf_entries (shelf_of bs m)))
 
-flat-left : {E : Type 0} (m : ℕ) (bs : List (Shelf E)) → m < length bs → flat_map shelf_entries (drop m bs) ≡ shelf_entries (shelf_of bs m) ++ flat_map shelf_entries (drop (m + 1) bs)
+pub flat-left : {E : Type 0} (m : ℕ) (bs : List (Shelf E)) → m < length bs → flat_map shelf_entries (drop m bs) ≡ shelf_entries (shelf_of bs m) ++ flat_map shelf_entries (drop (m + 1) bs)
 flat-left m bs l = ap (flat_map shelf_entries) (drop_more bs m empty_shelf l)
 
 extends-both : {E : Type 0} (hash : E → ℕ) (a b c : Shelf E) (xs ys : List E) → Extends hash a b xs → Extends hash b c ys → Extends hash a c (xs ++ ys)

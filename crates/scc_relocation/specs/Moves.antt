@@ -1,5 +1,5 @@
 -- Entries of one bucket of a new array that are taken out of an old one.
-use Rattle.std.specs.Prelude.{◌≡◌, ◌==◌, ℕ, ◌*◌, ◌<◌, ◌≤◌, ◌⊎◌, not, List, [], length, slice_set}
+use Rattle.std.specs.Prelude.{◌≡◌, ◌==◌, ℕ, ◌+◌, ◌*◌, ◌<◌, ◌≤◌, ◌⊎◌, not, List, [], length, slice_set}
 use Rattle.std.specs.List.{filter, flat_map}
 use Rattle.scc_array.specs.Shelves.{shelf_of}
 use Rattle.scc_bucket.specs.Shelf.{Shelf, shelf_entries}
@@ -35,9 +35,13 @@ pub record IsWithinSources {E : Type 0} (hash : E → ℕ) (t n i first last : �
   pub within : last ≤ length olds
   pub none : (j : ℕ) → (j < first) ⊎ (last ≤ j) → bound_for hash t n i (shelf_entries (shelf_of olds j)) ≡ []
 
--- where n is less than the number of old buckets, those from `first` up to before `last` hold only entries that belong to bucket i of n
+-- the old buckets from `first` up to before `last` hold only entries that belong to bucket i of n
 pub record AreJoined {E : Type 0} (hash : E → ℕ) (t n i first last : ℕ) (olds : List (Shelf E)) : Type 0 where
-  pub all : n < length olds → (j : ℕ) → first ≤ j → j < last → bound_for hash t n i (shelf_entries (shelf_of olds j)) ≡ shelf_entries (shelf_of olds j)
+  pub all : (j : ℕ) → first ≤ j → j < last → bound_for hash t n i (shelf_entries (shelf_of olds j)) ≡ shelf_entries (shelf_of olds j)
+
+-- the two buckets between which the entries of one old bucket are parted where the array doubles
+abbrev pub AreSiblings : ℕ → ℕ → Type 0
+AreSiblings i k = (j : ℕ) × (((i ≡ 2 * j) × (k ≡ 2 * j + 1)) ⊎ ((i ≡ 2 * j + 1) × (k ≡ 2 * j)))
 
 -- the entries of all old buckets that belong to bucket i of n moved to the end of a, which is b then; the others stay in their order
 pub record Drains {E : Type 0} (hash : E → ℕ) (t n i : ℕ) (olds : List (Shelf E)) (a : Shelf E) (news : List (Shelf E)) (b : Shelf E) : Type 0 where

@@ -63,6 +63,7 @@ where
             bucket,
             aside,
             self.skipped,
+            self.waiting.as_slice(),
         ) {
             Ok(moved) => {
                 self.held -= moved;

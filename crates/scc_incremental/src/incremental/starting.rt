@@ -134,7 +134,14 @@ where
     {
         let (fresh, mut flags) = fresh_waiting(self.current.allocator(), count)?;
         let (mut old, held, overflow) = self.current.exchange(fresh, 0, 0);
-        match take(&mut self.current, &mut old, bucket, overflow, self.skipped) {
+        match take(
+            &mut self.current,
+            &mut old,
+            bucket,
+            overflow,
+            self.skipped,
+            flags.as_slice(),
+        ) {
             Ok(moved) => {
                 let bare = std::mem::replace(&mut self.draining, old);
                 bare.destroy_empty();

@@ -12,18 +12,18 @@ returns-then-bucket_len-le32-clause-enough g c =
     let most = one-source hash c.args.skipped c.args.count c.args.target c.args.first c.args.last c.args.old.now c.requires.sources next in
     omega (arith, most, c.bucket_len.ensures, c.if-bucket_len-le32.true)
 
-pub returns-then-count-len-clause-enough : goal.returns-then-count-len-clause-enough
-returns-then-count-len-clause-enough g c =
+pub returns-then-whole-clause-enough : goal.returns-then-whole-clause-enough
+returns-then-whole-clause-enough g c =
     let olds = c.args.old.now in
     let hash = λ (e : g.row.E.Denot). key_hash g.H.BuildHasher g.H.Hasher.Hasher g.E.Key.Hash.hash_input c.args.table.now (g.E.Keyed.key_of e) in
-    let all = total-row hash c.args.skipped c.args.count c.args.target c.args.first c.args.last olds c.requires.sources c.requires.joined (omega (arith, c.if-count-len.true, c.len.ensures.count)) in
+    let all = total-row hash c.args.skipped c.args.count c.args.target c.args.first c.args.last olds c.requires.sources (c.requires.joined c.if-whole.true) in
     omega (arith, all, c.len_between.ensures)
 
-pub returns-then-count-len-clause-exact : goal.returns-then-count-len-clause-exact
-returns-then-count-len-clause-exact g c =
+pub returns-then-whole-clause-exact : goal.returns-then-whole-clause-exact
+returns-then-whole-clause-exact g c =
     let olds = c.args.old.now in
     let hash = λ (e : g.row.E.Denot). key_hash g.H.BuildHasher g.H.Hasher.Hasher g.E.Key.Hash.hash_input c.args.table.now (g.E.Keyed.key_of e) in
-    let all = total-row hash c.args.skipped c.args.count c.args.target c.args.first c.args.last olds c.requires.sources c.requires.joined (omega (arith, c.if-count-len.true, c.len.ensures.count)) in
+    let all = total-row hash c.args.skipped c.args.count c.args.target c.args.first c.args.last olds c.requires.sources (c.requires.joined c.if-whole.true) in
     λ _. omega (arith, all, c.len_between.ensures)
 
 pub len_between-requires-clause-few : goal.len_between-requires-clause-few

@@ -21,8 +21,8 @@ pub pull-requires-clause-joined : goal.pull-requires-clause-joined
 pull-requires-clause-joined g c =
     let hash = λ (e : g.row.E.Denot). key_hash g.H.BuildHasher g.H.Hasher.Hasher g.E.Key.Hash.hash_input c.args.table.now (g.E.Keyed.key_of e) in
     let u = c.loop-source.invariant.0 in
-    λ less. subst (λ s. bound_for hash c.args.skipped c.args.count c.args.target (shelf_entries s) ≡ shelf_entries s) (sym (u.left c.loop-source.source (omega arith)))
-    (c.requires.joined.all (omega (arith, u.count)) c.loop-source.source c.loop-source.auto.source c.loop-source-test.true)
+    λ whole. subst (λ s. bound_for hash c.args.skipped c.args.count c.args.target (shelf_entries s) ≡ shelf_entries s) (sym (u.left c.loop-source.source (omega arith)))
+    ((c.requires.joined whole).all c.loop-source.source c.loop-source.auto.source c.loop-source-test.true)
 
 pub loop-source-preserved : goal.loop-source-preserved
 loop-source-preserved g c =

@@ -1,14 +1,11 @@
-use Rattle.std.proofs.Common.{◌≡◌, ◌==◌, ◌<◌, ◌++◌, Some, true, false, replicate, set, sym, ap, ◌∙◌, arith, inl, inr, length-set}
+use Rattle.std.proofs.Common.{◌≡◌, ◌==◌, ◌<◌, ◌++◌, Some, true, set, sym, ap, ◌∙◌, arith, inl, inr, length-set}
 use Rattle.std.specs.List.{slice_get}
-use Rattle.std.proofs.lemmas.List.{get_or-replicate}
-use Rattle.std.proofs.lemmas.Option.{slice_get-get_or}
 use Rattle.scc_array.proofs.Gets.{get-set, get-set_other, get-within}
 use Rattle.scc_array.proofs.Windows.{same_or_not}
 use Rattle.scc_array.specs.Shelves.{shelf_of}
 use Rattle.scc_bucket.proofs.Lists.{get-left}
 use Rattle.scc_table.specs.Contents.{key_hash}
 use Rattle.scc_table.specs.Routing.{bucket_number}
-use Rattle.scc_relocation.proofs.Joined.{joined-flag}
 use Rattle.scc_relocation.proofs.moving.flags_of.Goals as goal
 
 pub loop-place-preserved : goal.loop-place-preserved
@@ -31,15 +28,6 @@ loop-place-preserved g c =
         | inr d ↦ get-set_other bits p j (c.bucket_index.result == c.args.target) d ∙ c.loop-place.invariant.1 j e (omega arith) got
       ],
     )
-
-pub returns-then-count-len : goal.returns-then-count-len
-returns-then-count-len g c =
-    let hash = λ (e : g.row.E.Denot). key_hash g.H.BuildHasher g.H.Hasher.Hasher g.E.Key.Hash.hash_input c.args.table.now (g.E.Keyed.key_of e) in
-    let s = shelf_of c.args.old.now c.args.source in
-    let all = c.requires.joined (omega (arith, c.if-count-len.true, c.len.ensures.count)) in
-    λ j e got.
-    let l : j < 32 = let w = get-within s.slots j e got in let m = c.slot_count-slots.ensures.most in omega (arith, c.slot_count-slots.ensures.count) in
-    slice_get-get_or (replicate 32 true) j false l ∙ ap Some (get_or-replicate 32 j true false l ∙ joined-flag hash c.args.skipped c.args.count c.args.target s j e all got)
 
 pub returns : goal.returns
 returns g c = λ j e got. c.loop-place.invariant.1 j e (let l = get-within (shelf_of c.args.old.now c.args.source).slots j e got in omega (arith, c.loop-place-test.false, c.slot_count-slots.ensures.count)) got

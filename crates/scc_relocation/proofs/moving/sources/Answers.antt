@@ -1,4 +1,5 @@
-use Rattle.std.proofs.Common.{arith}
+use Rattle.std.proofs.Common.{◌%◌, arith, refl, inl, inr}
+use Rattle.scc_array.proofs.Windows.{same_or_not}
 use Rattle.scc_relocation.proofs.Numbers.{joined-shrunk, only-doubled, only-grown, only-shrunk, source-within}
 use Rattle.scc_relocation.proofs.moving.sources.Goals as goal
 
@@ -20,3 +21,15 @@ returns-then-old-count-clause-within c = let l = source-within c.args.old c.args
 pub returns-clause-joined : goal.returns-clause-joined
 returns-clause-joined c =
     λ less t h low high. joined-shrunk c.args.old c.args.count t h c.args.target less c.requires.target c.requires.multiples low high
+
+pub returns-then-count-old-clause-doubled : goal.returns-then-count-old-clause-doubled
+returns-then-count-old-clause-doubled c =
+    λ twice.
+    let m = c.args.target % 2 in
+    (refl, elim (same_or_not (c.args.target % 2) 0) [ inl z ↦ inl (omega arith) | inr z ↦ inr (omega arith) ])
+
+pub returns-then-old-count-clause-doubled : goal.returns-then-old-count-clause-doubled
+returns-then-old-count-clause-doubled c = λ twice. absurd (c.if-count-old.false twice)
+
+pub returns-clause-doubled : goal.returns-clause-doubled
+returns-clause-doubled c = λ twice. absurd (c.if-count-old.false twice)

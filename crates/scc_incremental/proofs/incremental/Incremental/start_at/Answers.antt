@@ -1,5 +1,5 @@
-use Rattle.std.proofs.Common.{◌≡◌, ◌∙◌, ℕ, ◌-◌, map, set, replicate, true, false, sym, ap, subst, arith}
-use Rattle.std.proofs.lemmas.List.{length-replicate}
+use Rattle.std.proofs.Common.{◌≡◌, ◌∙◌, ℕ, ◌-◌, ◌<◌, Bool, List, length, get_or, map, set, replicate, true, false, sym, ap, subst, arith}
+use Rattle.std.proofs.lemmas.List.{get_or-replicate, length-replicate}
 use Rattle.std.specs.List.Sorted.{IsPermutation}
 use Rattle.scc_bucket.specs.Shelf.{empty_shelf, shelf_entries}
 use Rattle.scc_table.specs.Contents.{entries, held_of, key_hash, lists_of, refused_of, settings_of, waiting_of}
@@ -446,3 +446,47 @@ returns-in-Err-clause-unique g c =
     let back = c.in-Err.ensures.err in
     let whole : e ≡ cur = same-contents cur e (y.lists ∙ ap (map shelf_entries) c.in-Err.ensures.stays ∙ sym x.were) (y.settings ∙ ap settings_of back ∙ x.settings) (y.noted ∙ ap refused_of back ∙ x.noted) (y.spilled ∙ x.overflowing) (y.waiting ∙ ap waiting_of back ∙ x.waiting) (y.held ∙ ap held_of back ∙ x.held) in
     rw whole c.self.invariant.unique
+
+pub take-requires-clause-flags : goal.take-requires-clause-flags
+take-requires-clause-flags g c =
+    let t = c.self.inside in
+    let cur = t.current in
+    let a = c.args.self.now in
+    let n = c.args.count in
+    let k = c.args.bucket in
+    let d = c.exchange-old.new.self in
+    let olds = c.exchange-old.result.0 in
+    let over = c.exchange-old.result.2 in
+    let x = c.exchange-old.ensures in
+    let r = c.requires in
+    let key = g.E.Keyed.key_of in
+    let hk = key_hash g.H.BuildHasher g.H.Hasher.Hasher g.E.Key.Hash.hash_input d in
+    let same : hk ≡ key_hash g.H.BuildHasher g.H.Hasher.Hasher g.E.Key.Hash.hash_input cur = hash-same g.H.BuildHasher g.H.Hasher.Hasher g.E.Key.Hash.hash_input cur d x.settings in
+    let inv : IsIncremental g.E.Key.PartialEq.eq key hk cur t.waiting.items t.draining t.skipped t.pending t.next t.held t.held_overflow = subst (λ (h : g.row.E-Key.Denot → ℕ). IsIncremental g.E.Key.PartialEq.eq key h cur t.waiting.items t.draining t.skipped t.pending t.next t.held t.held_overflow) (sym same) c.self.invariant in
+    let view : together (λ e. hk (key e)) cur t.waiting.items t.draining ≡ a = subst (λ (h : g.row.E-Key.Denot → ℕ). together (λ e. h (key e)) cur t.waiting.items t.draining ≡ a) (sym same) c.self.view_is in
+    let table : IsTable (λ e. hk (key e)) (settings_of cur).skipped olds c.exchange-old.result.1 over = subst (λ (h : g.row.E-Key.Denot → ℕ). IsTable (λ e. h (key e)) (settings_of cur).skipped olds c.exchange-old.result.1 over) (sym same) x.table in
+    let m = begun-count g.E.Key.PartialEq.eq g.met.E.Key.Eq.laws key hk cur d t.waiting.items t.draining t.skipped t.pending t.next t.held t.held_overflow inv a view r.settled n c.in_ok-fresh.fresh olds c.exchange-old.result.1 over c.in_ok-fresh.ensures.buckets r.array r.some r.other x.lists x.settings x.spilled x.were table in
+    ap length (c.as_slice.ensures.value ∙ c.in_ok-fresh.ensures.flags) ∙ length-replicate n true ∙ sym m
+
+pub take-requires-clause-settled : goal.take-requires-clause-settled
+take-requires-clause-settled g c =
+    let t = c.self.inside in
+    let cur = t.current in
+    let a = c.args.self.now in
+    let n = c.args.count in
+    let k = c.args.bucket in
+    let d = c.exchange-old.new.self in
+    let olds = c.exchange-old.result.0 in
+    let over = c.exchange-old.result.2 in
+    let x = c.exchange-old.ensures in
+    let r = c.requires in
+    let key = g.E.Keyed.key_of in
+    let hk = key_hash g.H.BuildHasher g.H.Hasher.Hasher g.E.Key.Hash.hash_input d in
+    let same : hk ≡ key_hash g.H.BuildHasher g.H.Hasher.Hasher g.E.Key.Hash.hash_input cur = hash-same g.H.BuildHasher g.H.Hasher.Hasher g.E.Key.Hash.hash_input cur d x.settings in
+    let inv : IsIncremental g.E.Key.PartialEq.eq key hk cur t.waiting.items t.draining t.skipped t.pending t.next t.held t.held_overflow = subst (λ (h : g.row.E-Key.Denot → ℕ). IsIncremental g.E.Key.PartialEq.eq key h cur t.waiting.items t.draining t.skipped t.pending t.next t.held t.held_overflow) (sym same) c.self.invariant in
+    let view : together (λ e. hk (key e)) cur t.waiting.items t.draining ≡ a = subst (λ (h : g.row.E-Key.Denot → ℕ). together (λ e. h (key e)) cur t.waiting.items t.draining ≡ a) (sym same) c.self.view_is in
+    let table : IsTable (λ e. hk (key e)) (settings_of cur).skipped olds c.exchange-old.result.1 over = subst (λ (h : g.row.E-Key.Denot → ℕ). IsTable (λ e. h (key e)) (settings_of cur).skipped olds c.exchange-old.result.1 over) (sym same) x.table in
+    let m = begun-count g.E.Key.PartialEq.eq g.met.E.Key.Eq.laws key hk cur d t.waiting.items t.draining t.skipped t.pending t.next t.held t.held_overflow inv a view r.settled n c.in_ok-fresh.fresh olds c.exchange-old.result.1 over c.in_ok-fresh.ensures.buckets r.array r.some r.other x.lists x.settings x.spilled x.were table in
+    λ i l low.
+    let up : get_or c.as_slice.result.now i false ≡ true = ap (λ (w : List Bool). get_or w i false) (c.as_slice.ensures.value ∙ c.in_ok-fresh.ensures.flags) ∙ get_or-replicate n i true false (omega (arith, l, m)) in
+    absurd (let z : true ≡ false = sym up ∙ low in cc)

@@ -363,3 +363,18 @@ returns-in-Err-clause-bounded g c =
     let t = c.self.inside in
     let same : together (λ e. key_hash g.H.BuildHasher g.H.Hasher.Hasher g.E.Key.Hash.hash_input c.take.new.current (g.E.Keyed.key_of e)) c.take.new.current t.waiting.items c.take.new.old ≡ c.args.self.now = rw (c.in-Err.ensures.err, c.in-Err.ensures.stays) c.self.view_is in
     λ none few. ap spilled_of same ∙ none
+
+pub take-requires-clause-flags : goal.take-requires-clause-flags
+take-requires-clause-flags g c =
+    let t = c.self.inside in
+    let cur = t.current in
+    let ws = t.waiting.items in
+    let olds = t.draining in
+    let i = c.args.bucket in
+    let inv = c.self.invariant in
+    let hk = key_hash g.H.BuildHasher g.H.Hasher.Hasher g.E.Key.Hash.hash_input cur in
+    let hash = λ (e : g.row.E.Denot). hk (g.E.Keyed.key_of e) in
+    let flags : waiting_of c.args.self.now ≡ ws = ap waiting_of (sym c.self.view_is) ∙ waiting-together hash cur ws olds in
+    let up : waits_at ws i ≡ true = ap (λ w. waits_at w i) (sym flags) ∙ c.requires in
+    let long : length ws ≡ bucket_count cur = long-flags cur ws i inv.arrays.flags up in
+    search rules
