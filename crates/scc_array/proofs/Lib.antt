@@ -1,6 +1,7 @@
 pub mod ArrayWriting
 pub mod Bucket
 pub mod Counting
+pub mod Crowded
 pub mod Drained
 pub mod Empty
 pub mod Finds

@@ -126,7 +126,7 @@ own-room seen bs b s h e =
 
 -- lists that were made are seen as none
 module _ {E A : Type 0} (ws : List (Window E)) (os ds : List (Vec E A)) (bs : List (Shelf E)) (view : shelves ws os ≡ bs) (kept : IsArray ws os) (n : ℕ) (count : n ≡ length ws) where
-  bare-spilled : AreBare ds → (i : ℕ) → (spilled (slice_get ds i) ≡ []) × (spare (slice_get ds i) ≡ 0)
+  pub bare-spilled : AreBare ds → (i : ℕ) → (spilled (slice_get ds i) ≡ []) × (spare (slice_get ds i) ≡ 0)
   bare-spilled h i = elim (dec_lt i (length ds)) [
     | yes l ↦
         let v = get-some ds i l in let k = h.bare i v.0 l (get-is ds i v.0 v.0 v.1) in

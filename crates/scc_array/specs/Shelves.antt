@@ -1,5 +1,5 @@
 -- The buckets of an array: their places, and the lists of the entries past them.
-use Rattle.std.specs.Prelude.{◌≡◌, ℕ, ◌⊎◌, List, [], length, map, slice_get, slice_index_or, Option, Some, None}
+use Rattle.std.specs.Prelude.{◌≡◌, ℕ, ◌⊎◌, Bool, false, List, [], length, map, slice_get, slice_index_or, Option, Some, None}
 use Rattle.std.specs.List.{range_with_len}
 use Rattle.std.specs.Vec.{vec_capacity}
 use Rattle.std.specs.declared.vec.Vec.{Vec}
@@ -30,3 +30,8 @@ module _ {E A : Type 0} where
     -- there are no lists yet, or one for each bucket
     pub record IsArray : Type 0 where
       pub lists : (os ≡ []) ⊎ (length os ≡ length ws)
+
+  -- of the flags of the buckets: there are none yet, or one for each; a bucket whose flag is down has no entry in a list, and no room there
+  pub record IsFlagged (ws : List (Window E)) (os : List (Vec E A)) (fs : List Bool) : Type 0 where
+    pub flags : (fs ≡ []) ⊎ (length fs ≡ length ws)
+    pub told : (b : ℕ) → slice_index_or fs b false ≡ false → (spilled (slice_get os b) ≡ []) × (spare (slice_get os b) ≡ 0)

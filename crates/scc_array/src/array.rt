@@ -1,5 +1,5 @@
 //! The array of buckets: 32 places a bucket in columns, and lists for the entries past them, which are made with the first such entry.
-ghost use Rattle.std.specs.Prelude.{◌≡◌, [], ◌+◌, ◌^◌, ◌≤◌, ◌<◌, ◌↔◌, length, replicate, slice_set, slice_index_or, IfOk, IfErr, OnErr, IsTrue, slice_get, Some, None};
+ghost use Rattle.std.specs.Prelude.{◌≡◌, [], ◌+◌, ◌^◌, ◌≤◌, ◌<◌, ◌↔◌, length, replicate, slice_set, slice_index_or, IfOk, IfErr, OnErr, IsFalse, IsTrue, slice_get, Some, None};
 ghost use Rattle.scc_array.specs.Shelves.{shelf_of};
 ghost use Rattle.scc_bucket.specs.Shelf.{shelf_entries, empty_shelf, with_slot, with_overflow, with_entry, next_place, without_place, swapped_out, HasTag};
 ghost use Rattle.std.specs.List.{position};
@@ -12,7 +12,7 @@ mod splitting;
 mod writes;
 
 use crate::columns::Columns;
-use crate::lists::{open_lists, push_to};
+use crate::lists::{open_lists, push_to, raise};
 use scc_bucket::Keyed;
 use std::alloc::{AllocError, Global};
 use std::marker::Model;
@@ -21,13 +21,15 @@ use std::marker::Model;
 pub struct Array<E> {
     columns: Columns<E>,
     overflow: Vec<Vec<E>>,
+    /// Which buckets may have entries past their places: no list of another one is looked at.
+    crowded: Vec<bool>,
     alloc: Global,
 }
 
 impl<E> Model for Array<E> {
     ghost use Rattle.std.specs.Prelude.{List};
     ghost use Rattle.std.specs.Coded.{coded_list};
-    ghost use Rattle.scc_array.specs.Shelves.{shelves, IsArray};
+    ghost use Rattle.scc_array.specs.Shelves.{shelves, IsArray, IsFlagged};
     ghost use Rattle.scc_bucket.specs.Shelf.{Shelf, shelf_code};
 
     ghost Value = { List (Shelf E) };
@@ -36,7 +38,7 @@ impl<E> Model for Array<E> {
 
     ghost view = { λ a. shelves a.columns a.overflow.items };
 
-    ghost invariant = { λ a. IsArray a.columns a.overflow.items };
+    ghost invariant = { λ a. IsArray a.columns a.overflow.items × IsFlagged a.columns a.overflow.items a.crowded.items };
 }
 
 impl<E> Array<E> {
@@ -47,6 +49,7 @@ impl<E> Array<E> {
         Array {
             columns: Columns::none(alloc),
             overflow: Vec::new(alloc),
+            crowded: Vec::new(alloc),
             alloc,
         }
     }
@@ -60,6 +63,7 @@ impl<E> Array<E> {
         Ok(Array {
             columns,
             overflow: Vec::new(alloc),
+            crowded: Vec::new(alloc),
             alloc,
         })
     }
@@ -107,12 +111,24 @@ impl<E> Array<E> {
         self.columns.count_past(bucket, place)
     }
 
+    /// Whether the bucket may have entries past its places.
+    #[inline(always)]
+    fn is_crowded(&self, bucket: usize) -> bool
+        requires { bucket < length self.now }
+        ensures { IsFalse result → (shelf_of self.now bucket).overflow ≡ [] }
+    {
+        bucket < self.crowded.len() && self.crowded[bucket]
+    }
+
     /// How many entries the bucket has past its places.
     #[inline(always)]
     pub fn overflow_len(&self, bucket: usize) -> usize
         requires { bucket < length self.now }
         ensures { result ≡ length (shelf_of self.now bucket).overflow }
     {
+        if !self.is_crowded(bucket) {
+            return 0;
+        }
         if self.overflow.len() == 0 {
             return 0;
         }
@@ -166,7 +182,12 @@ impl<E> Array<E> {
         ensures err { IfErr result (λ e. (e ≡ entry) × (self.new ≡ slice_set self.old bucket (record (shelf_of self.old bucket) { room = (shelf_of self.new bucket).room }))) }
         ensures refused { OnErr result ((shelf_of self.old bucket).room ≤ length (shelf_of self.old bucket).overflow) }
     {
-        match open_lists(&mut self.overflow, self.alloc, self.columns.len()) {
+        let count = self.columns.len();
+        match raise(&mut self.crowded, self.alloc, count, bucket) {
+            Ok(()) => {}
+            Err(_) => return Err(entry),
+        }
+        match open_lists(&mut self.overflow, self.alloc, count) {
             Ok(()) => {}
             Err(_) => return Err(entry),
         }
@@ -235,7 +256,7 @@ where
         match self.columns.find(bucket, key, tag) {
             Some(place) => Some(place),
             None => {
-                if self.overflow.len() == 0 {
+                if !self.is_crowded(bucket) {
                     return None;
                 }
                 self.search_list(bucket, key)
@@ -279,6 +300,7 @@ impl<E: Drop> Drop for Array<E> {
         let Array {
             columns,
             overflow,
+            crowded: _,
             alloc: _,
         } = self;
         drop(columns);

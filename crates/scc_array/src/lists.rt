@@ -1,5 +1,5 @@
 //! The lists of the entries past the places, one a bucket, which are made with the first such entry.
-ghost use Rattle.std.specs.Prelude.{◌≡◌, ◌<◌, length, IfOk, OnOk, OnErr};
+ghost use Rattle.std.specs.Prelude.{◌≡◌, ◌<◌, ◌⊎◌, ℕ, [], false, true, length, slice_index_or, IfOk, OnOk, OnErr};
 ghost use Rattle.scc_array.specs.Lists.{AreBare, AreSpent, Opens, Pushes, Reserves};
 
 use std::alloc::{AllocError, Global};
@@ -36,6 +36,29 @@ pub(crate) fn open_lists<E>(
     let fresh = bare_lists(alloc, count)?;
     let none = mem::replace(lists, fresh);
     none.destroy_empty();
+    Ok(())
+}
+
+/// Raises the flag of a bucket. Where there are no flags, so many are made, all others down.
+#[cold]
+pub(crate) fn raise(
+    flags: &mut Vec<bool>,
+    alloc: Global,
+    count: usize,
+    bucket: usize,
+) -> Result<(), AllocError>
+    requires bucket { bucket < count }
+    requires count { (flags.old.items ≡ []) ⊎ (length flags.old.items ≡ count) }
+    ensures up { OnOk result (slice_index_or flags.new.items bucket false ≡ true) }
+    ensures count { OnOk result (length flags.new.items ≡ count) }
+    ensures kept { OnOk result ((i : ℕ) → slice_index_or flags.new.items i false ≡ false → slice_index_or flags.old.items i false ≡ false) }
+    ensures err { OnErr result (flags.new.items ≡ flags.old.items) }
+    ensures none { OnErr result (flags.old.items ≡ []) }
+{
+    if flags.len() == 0 {
+        *flags = vec![in alloc; false; count]?;
+    }
+    flags[bucket] = true;
     Ok(())
 }
 

@@ -14,6 +14,7 @@ impl<E> Array<E> {
         let Array {
             columns,
             overflow,
+            crowded: _,
             alloc: _,
         } = self;
         columns.destroy_empty();

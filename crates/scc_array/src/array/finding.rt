@@ -23,7 +23,7 @@ where
         match self.columns.find_entry(bucket, key, tag) {
             Some(entry) => Some(entry),
             None => {
-                if self.overflow.len() == 0 {
+                if !self.is_crowded(bucket) {
                     return None;
                 }
                 self.find_past(bucket, key)

@@ -4,7 +4,7 @@ ghost use Rattle.scc_array.specs.Shelves.{shelf_of};
 ghost use Rattle.scc_bucket.specs.Shelf.{shelf_entries, with_entry, with_overflow, next_place, HasRoom};
 
 use super::Array;
-use crate::lists::{open_lists, push_to, reserve_in};
+use crate::lists::{open_lists, push_to, raise, reserve_in};
 use scc_bucket::Made;
 use std::alloc::{AllocError, Global};
 
@@ -52,7 +52,12 @@ impl<E> Array<E> {
         ensures more { (shelf_of self.old bucket).room ≤ (shelf_of self.new bucket).room }
         ensures room { OnOk result (length (shelf_of self.new bucket).overflow + additional ≤ (shelf_of self.new bucket).room) }
     {
-        match open_lists(&mut self.overflow, self.alloc, self.columns.len()) {
+        let count = self.columns.len();
+        match raise(&mut self.crowded, self.alloc, count, bucket) {
+            Ok(()) => {}
+            Err(refused) => return Err(refused),
+        }
+        match open_lists(&mut self.overflow, self.alloc, count) {
             Ok(()) => {}
             Err(refused) => return Err(refused),
         }

@@ -28,7 +28,7 @@ index-requires g c =
     let k : c.count_past-count.result ≡ length (shelf_of bs b).slots = (c.count_past-count.ensures.past (omega (arith, c.if-place-count.false)) ∙ sym (ap length slots)) ∙ ap length slots in
     let far : length (shelf_of bs b).slots ≤ c.args.place = omega (arith, c.if-place-count.false) in
     let some : c.args.place - c.count_past-count.result < length (shelf_of bs b).overflow = omega (arith, c.requires.place, length-append (shelf_of bs b).slots (shelf_of bs b).overflow) in
-    let there = spilled-there ws os bs view b c.requires.bucket c.self.invariant (omega arith) in
+    let there = spilled-there ws os bs view b c.requires.bucket c.self.invariant.0 (omega arith) in
     omega (arith, c.self.inside.overflow.ok.0)
 
 pub index-requires-2 : goal.index-requires-2
@@ -39,7 +39,7 @@ index-requires-2 g c =
     let k : c.count_past-count.result ≡ length (shelf_of bs b).slots = (c.count_past-count.ensures.past (omega (arith, c.if-place-count.false)) ∙ sym (ap length slots)) ∙ ap length slots in
     let far : length (shelf_of bs b).slots ≤ c.args.place = omega (arith, c.if-place-count.false) in
     let some : c.args.place - c.count_past-count.result < length (shelf_of bs b).overflow = omega (arith, c.requires.place, length-append (shelf_of bs b).slots (shelf_of bs b).overflow) in
-    let there = spilled-there ws os bs view b c.requires.bucket c.self.invariant (omega arith) in
+    let there = spilled-there ws os bs view b c.requires.bucket c.self.invariant.0 (omega arith) in
     let v = c.index.result.now in let items = list-is ws os bs view b c.requires.bucket v (list-read os b v there c.index.ensures) in
     omega (arith, v.ok.0, ap length items)
 
@@ -51,7 +51,7 @@ returns g c =
     let k : c.count_past-count.result ≡ length (shelf_of bs b).slots = (c.count_past-count.ensures.past (omega (arith, c.if-place-count.false)) ∙ sym (ap length slots)) ∙ ap length slots in
     let far : length (shelf_of bs b).slots ≤ c.args.place = omega (arith, c.if-place-count.false) in
     let some : c.args.place - c.count_past-count.result < length (shelf_of bs b).overflow = omega (arith, c.requires.place, length-append (shelf_of bs b).slots (shelf_of bs b).overflow) in
-    let there = spilled-there ws os bs view b c.requires.bucket c.self.invariant (omega arith) in
+    let there = spilled-there ws os bs view b c.requires.bucket c.self.invariant.0 (omega arith) in
     let v = c.index.result.now in let items = list-is ws os bs view b c.requires.bucket v (list-read os b v there c.index.ensures) in
     let x = c.index-2.result.now in let j = c.args.place - c.count_past-count.result in
     get-later (shelf_of bs b).slots (shelf_of bs b).overflow c.args.place j (omega arith) ∙ ap (λ l. slice_get l j) (sym items) ∙ get-here v.items j x (omega (arith, ap length items)) ∙ ap Some (sym c.index-2.ensures)

@@ -2,7 +2,7 @@ use Rattle.std.proofs.Common.{◌≡◌, [], Some, None, sym, ap, ◌∙◌, sub
 use Rattle.std.specs.List.{find}
 use Rattle.std.specs.Option.{option_or}
 use Rattle.std.proofs.lemmas.List.Folds.{find-append}
-use Rattle.scc_array.proofs.Shelves.{window-within, shelf-is, slots-are, overflow-is, no-list, empty-list}
+use Rattle.scc_array.proofs.Shelves.{window-within, shelf-is, slots-are}
 use Rattle.scc_array.specs.Shelves.{shelf_of}
 use Rattle.scc_bucket.specs.Shelf.{Shelf, HasTag}
 use Rattle.scc_array.proofs.array.Array.find.Goals as goal
@@ -24,18 +24,17 @@ returns-in-Some g c =
     let found : find p xs ≡ Some c.in-Some.entry.now = ap (find p) (sym (slots-are ws os bs c.self.view_is b c.requires.bucket)) ∙ sym c.in-Some.ensures in
     sym (find-append p xs ys ∙ ap (λ o. option_or o (find p ys)) found)
 
-pub returns-then-len-eq0 : goal.returns-then-len-eq0
-returns-then-len-eq0 g c =
+pub returns-then-not-is_crowded : goal.returns-then-not-is_crowded
+returns-then-not-is_crowded g c =
     let ws = c.self.inside.columns in let os = c.self.inside.overflow.items in let bs = c.args.self.now in let b = c.args.bucket in
     let p = λ (e : g.row.E.Denot). g.E.Key.PartialEq.eq c.args.key.now (g.E.Keyed.key_of e) in
     let xs = (shelf_of bs b).slots in let ys = (shelf_of bs b).overflow in
     let missed : find p xs ≡ None = ap (find p) (sym (slots-are ws os bs c.self.view_is b c.requires.bucket)) ∙ sym c.in-None.ensures in
-    let none = empty-list os (sym c.self.inside.overflow.ok.0 ∙ sym c.len.ensures ∙ c.if-len-eq0.true) in
-    let empty : ys ≡ [] = sym (overflow-is ws os bs c.self.view_is b c.requires.bucket) ∙ no-list os b none in
+    let empty : ys ≡ [] = c.is_crowded.ensures c.if-not-is_crowded.true in
     sym (find-append p xs ys ∙ ap (λ o. option_or o (find p ys)) missed ∙ ap (find p) empty)
 
-pub returns-else-len-eq0 : goal.returns-else-len-eq0
-returns-else-len-eq0 g c =
+pub returns-else-not-is_crowded : goal.returns-else-not-is_crowded
+returns-else-not-is_crowded g c =
     let ws = c.self.inside.columns in let os = c.self.inside.overflow.items in let bs = c.args.self.now in let b = c.args.bucket in
     let p = λ (e : g.row.E.Denot). g.E.Key.PartialEq.eq c.args.key.now (g.E.Keyed.key_of e) in
     let xs = (shelf_of bs b).slots in let ys = (shelf_of bs b).overflow in

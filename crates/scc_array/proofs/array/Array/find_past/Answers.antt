@@ -16,14 +16,14 @@ returns-then-len-eq0 g c =
 pub index-requires : goal.index-requires
 index-requires g c =
     let ws = c.self.inside.columns in let os = c.self.inside.overflow.items in let bs = c.args.self.now in let b = c.args.bucket in
-    let there = list-within ws os bs c.self.view_is b c.requires c.self.invariant (λ e. c.if-len-eq0.false (c.len.ensures ∙ c.self.inside.overflow.ok.0 ∙ ap length e)) in
+    let there = list-within ws os bs c.self.view_is b c.requires c.self.invariant.0 (λ e. c.if-len-eq0.false (c.len.ensures ∙ c.self.inside.overflow.ok.0 ∙ ap length e)) in
     omega (arith, c.self.inside.overflow.ok.0)
 
 pub returns-in-Some : goal.returns-in-Some
 returns-in-Some g c =
     let ws = c.self.inside.columns in let os = c.self.inside.overflow.items in let bs = c.args.self.now in let b = c.args.bucket in
     let p = λ (e : g.row.E.Denot). g.E.Key.PartialEq.eq c.args.key.now (g.E.Keyed.key_of e) in
-    let there = list-within ws os bs c.self.view_is b c.requires c.self.invariant (λ e. c.if-len-eq0.false (c.len.ensures ∙ c.self.inside.overflow.ok.0 ∙ ap length e)) in
+    let there = list-within ws os bs c.self.view_is b c.requires c.self.invariant.0 (λ e. c.if-len-eq0.false (c.len.ensures ∙ c.self.inside.overflow.ok.0 ∙ ap length e)) in
     let v = c.index.result.now in let items = list-is ws os bs c.self.view_is b c.requires v (list-read os b v there c.index.ensures) in
     let xs = c.as_slice-list.result.now in let i = c.in-Some.i in
     let same : xs ≡ (shelf_of bs b).overflow = c.as_slice-list.ensures.value ∙ items in
@@ -34,7 +34,7 @@ pub returns-in-None : goal.returns-in-None
 returns-in-None g c =
     let ws = c.self.inside.columns in let os = c.self.inside.overflow.items in let bs = c.args.self.now in let b = c.args.bucket in
     let p = λ (e : g.row.E.Denot). g.E.Key.PartialEq.eq c.args.key.now (g.E.Keyed.key_of e) in
-    let there = list-within ws os bs c.self.view_is b c.requires c.self.invariant (λ e. c.if-len-eq0.false (c.len.ensures ∙ c.self.inside.overflow.ok.0 ∙ ap length e)) in
+    let there = list-within ws os bs c.self.view_is b c.requires c.self.invariant.0 (λ e. c.if-len-eq0.false (c.len.ensures ∙ c.self.inside.overflow.ok.0 ∙ ap length e)) in
     let v = c.index.result.now in let items = list-is ws os bs c.self.view_is b c.requires v (list-read os b v there c.index.ensures) in
     let xs = c.as_slice-list.result.now in
     let same : xs ≡ (shelf_of bs b).overflow = c.as_slice-list.ensures.value ∙ items in

@@ -15,7 +15,7 @@ entry_mut-entry-requires-clause-place g c = omega (arith, c.count_past-count.ens
 pub returns-then-place-count : goal.returns-then-place-count
 returns-then-place-count g c =
     let ws = c.self.inside.columns in let os = c.self.inside.overflow.items in let bs = c.args.self.now in let b = c.args.bucket in
-    let view = c.self.view_is in let kept = c.self.invariant in let put = g.E.Valued.with_value in let i = c.args.place in
+    let view = c.self.view_is in let kept = c.self.invariant.0 in let put = g.E.Valued.with_value in let i = c.args.place in
     let e = c.entry_mut-entry.result.now in let l : i < length (window_of ws b).slots = omega (arith, c.count_past-count.ensures.within c.if-place-count.true, ap length (slots-are ws os (shelves ws os) refl b (omega (arith, ap length view, c.requires.bucket)))) in
     let got = place-got put ws os bs view kept b c.requires.bucket i e l c.entry_mut-entry.ensures.entry in
     ((refl, λ w. place-written put ws os bs view kept b c.requires.bucket i e l c.entry_mut-entry.ensures.entry w), record { writes_back = tt; parts = (e, got, c.parts_mut.ensures.key, c.parts_mut.ensures.value) })
@@ -23,7 +23,7 @@ returns-then-place-count g c =
 pub index_mut-list-requires : goal.index_mut-list-requires
 index_mut-list-requires g c =
     let ws = c.self.inside.columns in let os = c.self.inside.overflow.items in let bs = c.args.self.now in let b = c.args.bucket in
-    let view = c.self.view_is in let kept = c.self.invariant in let put = g.E.Valued.with_value in let i = c.args.place in
+    let view = c.self.view_is in let kept = c.self.invariant.0 in let put = g.E.Valued.with_value in let i = c.args.place in
     let k = c.count_past-count.result in let far : k ≤ i = omega (arith, c.if-place-count.false) in
     let there = list-there put ws os bs view kept b c.requires.bucket i c.requires.place k (c.count_past-count.ensures.past (omega (arith, c.if-place-count.false)) ∙ sym (ap length (slots-are ws os (shelves ws os) refl b (omega (arith, ap length view, c.requires.bucket))))) far in
     omega (arith, c.self.inside.overflow.ok.0)
@@ -31,7 +31,7 @@ index_mut-list-requires g c =
 pub index_mut-entry-requires : goal.index_mut-entry-requires
 index_mut-entry-requires g c =
     let ws = c.self.inside.columns in let os = c.self.inside.overflow.items in let bs = c.args.self.now in let b = c.args.bucket in
-    let view = c.self.view_is in let kept = c.self.invariant in let put = g.E.Valued.with_value in let i = c.args.place in
+    let view = c.self.view_is in let kept = c.self.invariant.0 in let put = g.E.Valued.with_value in let i = c.args.place in
     let k = c.count_past-count.result in let far : k ≤ i = omega (arith, c.if-place-count.false) in
     let there = list-there put ws os bs view kept b c.requires.bucket i c.requires.place k (c.count_past-count.ensures.past (omega (arith, c.if-place-count.false)) ∙ sym (ap length (slots-are ws os (shelves ws os) refl b (omega (arith, ap length view, c.requires.bucket))))) far in
     let v = c.index_mut-list.result.now in let held = list-read os b v there c.index_mut-list.ensures.value in
@@ -41,7 +41,7 @@ index_mut-entry-requires g c =
 pub returns-else-place-count : goal.returns-else-place-count
 returns-else-place-count g c =
     let ws = c.self.inside.columns in let os = c.self.inside.overflow.items in let bs = c.args.self.now in let b = c.args.bucket in
-    let view = c.self.view_is in let kept = c.self.invariant in let put = g.E.Valued.with_value in let i = c.args.place in
+    let view = c.self.view_is in let kept = c.self.invariant.0 in let put = g.E.Valued.with_value in let i = c.args.place in
     let k = c.count_past-count.result in let far : k ≤ i = omega (arith, c.if-place-count.false) in
     let there = list-there put ws os bs view kept b c.requires.bucket i c.requires.place k (c.count_past-count.ensures.past (omega (arith, c.if-place-count.false)) ∙ sym (ap length (slots-are ws os (shelves ws os) refl b (omega (arith, ap length view, c.requires.bucket))))) far in
     let v = c.index_mut-list.result.now in let held = list-read os b v there c.index_mut-list.ensures.value in

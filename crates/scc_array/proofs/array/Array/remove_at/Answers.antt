@@ -40,7 +40,7 @@ index_mut-list-requires g c =
     let k : c.count_past-count.result ≡ length (shelf_of bs b).slots = (c.count_past-count.ensures.past (omega (arith, c.if-place-count.false)) ∙ sym (ap length slots)) ∙ ap length slots in
     let far : length (shelf_of bs b).slots ≤ c.args.place = omega (arith, c.if-place-count.false) in
     let some : c.args.place - c.count_past-count.result < length (shelf_of bs b).overflow = omega (arith, c.requires.place, length-append (shelf_of bs b).slots (shelf_of bs b).overflow) in
-    let there = spilled-there ws os bs view b c.requires.bucket c.self.invariant (omega arith) in
+    let there = spilled-there ws os bs view b c.requires.bucket c.self.invariant.0 (omega arith) in
     omega (arith, c.self.inside.overflow.ok.0)
 
 pub remove-requires-2 : goal.remove-requires-2
@@ -51,7 +51,7 @@ remove-requires-2 g c =
     let k : c.count_past-count.result ≡ length (shelf_of bs b).slots = (c.count_past-count.ensures.past (omega (arith, c.if-place-count.false)) ∙ sym (ap length slots)) ∙ ap length slots in
     let far : length (shelf_of bs b).slots ≤ c.args.place = omega (arith, c.if-place-count.false) in
     let some : c.args.place - c.count_past-count.result < length (shelf_of bs b).overflow = omega (arith, c.requires.place, length-append (shelf_of bs b).slots (shelf_of bs b).overflow) in
-    let there = spilled-there ws os bs view b c.requires.bucket c.self.invariant (omega arith) in
+    let there = spilled-there ws os bs view b c.requires.bucket c.self.invariant.0 (omega arith) in
     let v = c.index_mut-list.result.now in let items = list-is ws os bs view b c.requires.bucket v (list-read os b v there c.index_mut-list.ensures.value) in
     omega (arith, v.ok.0, ap length items)
 
@@ -63,7 +63,7 @@ returns-clause-entry g c =
     let k : c.count_past-count.result ≡ length (shelf_of bs b).slots = (c.count_past-count.ensures.past (omega (arith, c.if-place-count.false)) ∙ sym (ap length slots)) ∙ ap length slots in
     let far : length (shelf_of bs b).slots ≤ c.args.place = omega (arith, c.if-place-count.false) in
     let some : c.args.place - c.count_past-count.result < length (shelf_of bs b).overflow = omega (arith, c.requires.place, length-append (shelf_of bs b).slots (shelf_of bs b).overflow) in
-    let there = spilled-there ws os bs view b c.requires.bucket c.self.invariant (omega arith) in
+    let there = spilled-there ws os bs view b c.requires.bucket c.self.invariant.0 (omega arith) in
     let v = c.index_mut-list.result.now in let items = list-is ws os bs view b c.requires.bucket v (list-read os b v there c.index_mut-list.ensures.value) in
     let x = c.remove-2.result in let j = c.args.place - c.count_past-count.result in
     get-later (shelf_of bs b).slots (shelf_of bs b).overflow c.args.place j (omega arith) ∙ ap (λ l. slice_get l j) (sym items) ∙ get-here v.items j x (omega (arith, ap length items)) ∙ ap Some (sym c.remove-2.ensures.value)
@@ -76,7 +76,7 @@ returns-clause-others g c =
     let k : c.count_past-count.result ≡ length (shelf_of bs b).slots = (c.count_past-count.ensures.past (omega (arith, c.if-place-count.false)) ∙ sym (ap length slots)) ∙ ap length slots in
     let far : length (shelf_of bs b).slots ≤ c.args.place = omega (arith, c.if-place-count.false) in
     let some : c.args.place - c.count_past-count.result < length (shelf_of bs b).overflow = omega (arith, c.requires.place, length-append (shelf_of bs b).slots (shelf_of bs b).overflow) in
-    let there = spilled-there ws os bs view b c.requires.bucket c.self.invariant (omega arith) in
+    let there = spilled-there ws os bs view b c.requires.bucket c.self.invariant.0 (omega arith) in
     let v = c.index_mut-list.result.now in let held = list-read os b v there c.index_mut-list.ensures.value in
     let x = c.remove-2.result in let count = (c.count_past-count.ensures.past (omega (arith, c.if-place-count.false)) ∙ sym (ap length slots)) in
     let t : nat_lt c.args.place (length (window_of ws b).slots) ≡ false = let l : length (window_of ws b).slots ≤ c.args.place = omega (arith, (c.count_past-count.ensures.past (omega (arith, c.if-place-count.false)) ∙ sym (ap length slots)), c.if-place-count.false) in search rules in

@@ -16,7 +16,7 @@ entry_mut-there-requires-clause-place g c = omega (arith, c.count_past-count.ens
 pub returns-then-place-count-clause-old : goal.returns-then-place-count-clause-old
 returns-then-place-count-clause-old g c =
     let ws = c.self.inside.columns in let os = c.self.inside.overflow.items in let bs = c.args.self.now in let b = c.args.bucket in
-    let view = c.self.view_is in let kept = c.self.invariant in let i = c.args.place in
+    let view = c.self.view_is in let kept = c.self.invariant.0 in let i = c.args.place in
     let e = c.entry_mut-there.result.now in let l : i < length (window_of ws b).slots = omega (arith, c.count_past-count.ensures.within c.if-place-count.true, ap length (slots-are ws os bs view b c.requires.bucket)) in
     let got = place-got put_whole ws os bs view kept b c.requires.bucket i e l c.entry_mut-there.ensures.entry in
     got ∙ ap Some (sym c.replace.ensures.value)
@@ -24,14 +24,14 @@ returns-then-place-count-clause-old g c =
 pub returns-then-place-count-clause-new : goal.returns-then-place-count-clause-new
 returns-then-place-count-clause-new g c =
     let ws = c.self.inside.columns in let os = c.self.inside.overflow.items in let bs = c.args.self.now in let b = c.args.bucket in
-    let view = c.self.view_is in let kept = c.self.invariant in let i = c.args.place in
+    let view = c.self.view_is in let kept = c.self.invariant.0 in let i = c.args.place in
     let e = c.entry_mut-there.result.now in let l : i < length (window_of ws b).slots = omega (arith, c.count_past-count.ensures.within c.if-place-count.true, ap length (slots-are ws os bs view b c.requires.bucket)) in
     ap (λ x. shelves (set ws b (written_over (window_of ws b) i x)) os) c.replace.ensures.after ∙ place-written put_whole ws os bs view kept b c.requires.bucket i e l c.entry_mut-there.ensures.entry c.args.entry
 
 pub index_mut-list-requires : goal.index_mut-list-requires
 index_mut-list-requires g c =
     let ws = c.self.inside.columns in let os = c.self.inside.overflow.items in let bs = c.args.self.now in let b = c.args.bucket in
-    let view = c.self.view_is in let kept = c.self.invariant in let i = c.args.place in
+    let view = c.self.view_is in let kept = c.self.invariant.0 in let i = c.args.place in
     let k = c.count_past-count.result in let far : k ≤ i = omega (arith, c.if-place-count.false) in
     let there = list-there put_whole ws os bs view kept b c.requires.bucket i c.requires.place k (c.count_past-count.ensures.past (omega (arith, c.if-place-count.false)) ∙ sym (ap length (slots-are ws os bs view b c.requires.bucket))) far in
     omega (arith, c.self.inside.overflow.ok.0)
@@ -39,7 +39,7 @@ index_mut-list-requires g c =
 pub index_mut-there-requires : goal.index_mut-there-requires
 index_mut-there-requires g c =
     let ws = c.self.inside.columns in let os = c.self.inside.overflow.items in let bs = c.args.self.now in let b = c.args.bucket in
-    let view = c.self.view_is in let kept = c.self.invariant in let i = c.args.place in
+    let view = c.self.view_is in let kept = c.self.invariant.0 in let i = c.args.place in
     let k = c.count_past-count.result in let far : k ≤ i = omega (arith, c.if-place-count.false) in
     let there = list-there put_whole ws os bs view kept b c.requires.bucket i c.requires.place k (c.count_past-count.ensures.past (omega (arith, c.if-place-count.false)) ∙ sym (ap length (slots-are ws os bs view b c.requires.bucket))) far in
     let v = c.index_mut-list.result.now in let held = list-read os b v there c.index_mut-list.ensures.value in
@@ -49,7 +49,7 @@ index_mut-there-requires g c =
 pub returns-clause-old : goal.returns-clause-old
 returns-clause-old g c =
     let ws = c.self.inside.columns in let os = c.self.inside.overflow.items in let bs = c.args.self.now in let b = c.args.bucket in
-    let view = c.self.view_is in let kept = c.self.invariant in let i = c.args.place in
+    let view = c.self.view_is in let kept = c.self.invariant.0 in let i = c.args.place in
     let k = c.count_past-count.result in let far : k ≤ i = omega (arith, c.if-place-count.false) in
     let there = list-there put_whole ws os bs view kept b c.requires.bucket i c.requires.place k (c.count_past-count.ensures.past (omega (arith, c.if-place-count.false)) ∙ sym (ap length (slots-are ws os bs view b c.requires.bucket))) far in
     let v = c.index_mut-list.result.now in let held = list-read os b v there c.index_mut-list.ensures.value in
@@ -60,7 +60,7 @@ returns-clause-old g c =
 pub returns-clause-new : goal.returns-clause-new
 returns-clause-new g c =
     let ws = c.self.inside.columns in let os = c.self.inside.overflow.items in let bs = c.args.self.now in let b = c.args.bucket in
-    let view = c.self.view_is in let kept = c.self.invariant in let i = c.args.place in
+    let view = c.self.view_is in let kept = c.self.invariant.0 in let i = c.args.place in
     let k = c.count_past-count.result in let far : k ≤ i = omega (arith, c.if-place-count.false) in
     let there = list-there put_whole ws os bs view kept b c.requires.bucket i c.requires.place k (c.count_past-count.ensures.past (omega (arith, c.if-place-count.false)) ∙ sym (ap length (slots-are ws os bs view b c.requires.bucket))) far in
     let v = c.index_mut-list.result.now in let held = list-read os b v there c.index_mut-list.ensures.value in

@@ -1,7 +1,7 @@
 use Rattle.std.proofs.Common.{◌≡◌, [], length, Some, None, Bool, sym, ap, ◌∙◌, subst}
 use Rattle.std.specs.List.{position}
 use Rattle.scc_array.proofs.Joined.{position-joined, or_later}
-use Rattle.scc_array.proofs.Shelves.{window-within, shelf-is, slots-are, overflow-is, no-list, empty-list}
+use Rattle.scc_array.proofs.Shelves.{window-within, shelf-is, slots-are}
 use Rattle.scc_array.specs.Shelves.{shelf_of}
 use Rattle.scc_bucket.specs.Shelf.{Shelf, HasTag}
 use Rattle.scc_array.proofs.array.Array.search.Goals as goal
@@ -32,15 +32,14 @@ returns-in-Some g c =
     let found : position p xs ≡ Some c.in-Some.place = ap (position p) (sym (slots-are ws os bs view b c.requires.bucket)) ∙ sym c.find.ensures ∙ c.in-Some.is in
     sym (position-joined p xs ys ∙ ap (λ o. or_later o (length xs) (position p ys)) found)
 
-pub returns-then-len-eq0 : goal.returns-then-len-eq0
-returns-then-len-eq0 g c =
+pub returns-then-not-is_crowded : goal.returns-then-not-is_crowded
+returns-then-not-is_crowded g c =
     let ws = c.self.inside.columns in let os = c.self.inside.overflow.items in let bs = c.args.self.now in let b = c.args.bucket in
     let view = c.self.view_is in let within = window-within ws os bs view b c.requires.bucket in
     let p : g.row.E.Denot → Bool = λ e. g.E.Key.PartialEq.eq c.args.key.now (g.E.Keyed.key_of e) in
     let xs = (shelf_of bs b).slots in let ys = (shelf_of bs b).overflow in
     let missed : position p xs ≡ None = ap (position p) (sym (slots-are ws os bs view b c.requires.bucket)) ∙ sym c.find.ensures ∙ c.in-None.is in
-    let none = empty-list os (sym c.self.inside.overflow.ok.0 ∙ sym c.len.ensures ∙ c.if-len-eq0.true) in
-    let empty : ys ≡ [] = sym (overflow-is ws os bs view b c.requires.bucket) ∙ no-list os b none in
+    let empty : ys ≡ [] = c.is_crowded.ensures c.if-not-is_crowded.true in
     sym (position-joined p xs ys ∙ ap (λ o. or_later o (length xs) (position p ys)) missed ∙ ap (λ l. or_later None (length xs) (position p l)) empty)
 
 pub search_list-requires-clause-missed : goal.search_list-requires-clause-missed

@@ -30,7 +30,7 @@ index-requires g c =
     let view = c.self.view_is in let within = window-within ws os bs view b c.requires.bucket in
     let p : g.row.E.Denot → Bool = λ e. g.E.Key.PartialEq.eq c.args.key.now (g.E.Keyed.key_of e) in
     let xs = (shelf_of bs b).slots in let ys = (shelf_of bs b).overflow in
-    let there = list-within ws os bs view b c.requires.bucket c.self.invariant (λ e. c.if-len-eq0.false (c.len.ensures ∙ c.self.inside.overflow.ok.0 ∙ ap length e)) in
+    let there = list-within ws os bs view b c.requires.bucket c.self.invariant.0 (λ e. c.if-len-eq0.false (c.len.ensures ∙ c.self.inside.overflow.ok.0 ∙ ap length e)) in
     omega (arith, c.self.inside.overflow.ok.0)
 
 pub returns-in-Some : goal.returns-in-Some
@@ -39,7 +39,7 @@ returns-in-Some g c =
     let view = c.self.view_is in let within = window-within ws os bs view b c.requires.bucket in
     let p : g.row.E.Denot → Bool = λ e. g.E.Key.PartialEq.eq c.args.key.now (g.E.Keyed.key_of e) in
     let xs = (shelf_of bs b).slots in let ys = (shelf_of bs b).overflow in
-    let there = list-within ws os bs view b c.requires.bucket c.self.invariant (λ e. c.if-len-eq0.false (c.len.ensures ∙ c.self.inside.overflow.ok.0 ∙ ap length e)) in
+    let there = list-within ws os bs view b c.requires.bucket c.self.invariant.0 (λ e. c.if-len-eq0.false (c.len.ensures ∙ c.self.inside.overflow.ok.0 ∙ ap length e)) in
     let v = c.index.result.now in let items = list-is ws os bs view b c.requires.bucket v (list-read os b v there c.index.ensures) in
     let in_list : c.find_in.result ≡ position p ys = c.find_in.ensures ∙ ap (position p) (c.as_slice.ensures.value ∙ items) in
     let whole : position p (shelf_entries (shelf_of bs b)) ≡ or_later None (length xs) c.find_in.result =
@@ -53,7 +53,7 @@ returns-in-None g c =
     let view = c.self.view_is in let within = window-within ws os bs view b c.requires.bucket in
     let p : g.row.E.Denot → Bool = λ e. g.E.Key.PartialEq.eq c.args.key.now (g.E.Keyed.key_of e) in
     let xs = (shelf_of bs b).slots in let ys = (shelf_of bs b).overflow in
-    let there = list-within ws os bs view b c.requires.bucket c.self.invariant (λ e. c.if-len-eq0.false (c.len.ensures ∙ c.self.inside.overflow.ok.0 ∙ ap length e)) in
+    let there = list-within ws os bs view b c.requires.bucket c.self.invariant.0 (λ e. c.if-len-eq0.false (c.len.ensures ∙ c.self.inside.overflow.ok.0 ∙ ap length e)) in
     let v = c.index.result.now in let items = list-is ws os bs view b c.requires.bucket v (list-read os b v there c.index.ensures) in
     let in_list : c.find_in.result ≡ position p ys = c.find_in.ensures ∙ ap (position p) (c.as_slice.ensures.value ∙ items) in
     let whole : position p (shelf_entries (shelf_of bs b)) ≡ or_later None (length xs) c.find_in.result =
