@@ -8,3 +8,6 @@ returns-in-Ok-clause-finds g c equal = clones-find g.met.K.Eq.laws g.K.Clone.is_
 pub prove-unreachable-requires : goal.prove-unreachable-requires
 prove-unreachable-requires g c =
     c.if-prove.true (c.len.ensures.len ∙ as-many-clones (λ p q. g.K.Clone.is_clone p.0 q.0 × g.V.Clone.is_clone p.1 q.1) g.H.Clone.is_clone c.args.self.now c.in-Ok.table (rw c.self.view_is at c.in-Ok.ensures.clones) ∙ sym c.len-in-Ok.ensures.len)
+
+pub returns-in-Ok-clause-clones : goal.returns-in-Ok-clause-clones
+returns-in-Ok-clause-clones g c = rw c.self.view_is at c.in-Ok.ensures.clones
