@@ -17,6 +17,7 @@ impl<E> Array<E> {
     {
         self.columns.split(bucket, flags, &mut into.columns, target);
     }
+
     /// Moves all entries in the places of a bucket to the next places of a bucket of another array, in order. What lies past the places stays, and no memory is taken.
     #[inline(always)]
     pub fn pour(&mut self, bucket: usize, into: &mut Array<E>, target: usize)
