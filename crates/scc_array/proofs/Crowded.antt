@@ -1,7 +1,5 @@
 -- The flags of the buckets that may have entries past their places.
-use Rattle.std.proofs.Common.{◌≡◌, ℕ, ◌<◌, ◌≤◌, Bool, true, false, List, [], length, set, get_or, Result, Ok, Err, refl, sym, ap, ◌∙◌, subst, inl, inr, arith, length-set}
-use Rattle.std.specs.List.{slice_get}
-use Rattle.std.specs.Vec.{vec_capacity}
+use Rattle.std.proofs.Common.{◌≡◌, ℕ, ◌+◌, ◌/◌, ◌<◌, Bool, true, false, List, [], length, set, get_or, Result, Ok, Err, refl, sym, ap, ◌∙◌, subst, inl, inr, arith, length-set}
 use Rattle.std.specs.declared.vec.Vec.{Vec}
 use Rattle.scc_array.proofs.Gets.{get-set_other}
 use Rattle.scc_array.proofs.Shelves.{bare-spilled, shelf-is, overflow-is, opened-count}
@@ -26,18 +24,18 @@ by_flag false p q = q refl
 
 module _ {E A : Type 0} (ws : List (Window E)) (os : List (Vec E A)) (fs : List Bool) (kept : IsFlagged ws os fs) where
   -- the list of a bucket whose flag is up changed
-  pub flagged-list : (b : ℕ) (v : Vec E A) → get_or fs b false ≡ true → IsFlagged ws (set os b v) fs
+  pub flagged-list : (b : ℕ) (v : Vec E A) → get_or fs (b / 16) false ≡ true → IsFlagged ws (set os b v) fs
   flagged-list b v up = record {
     flags = kept.flags;
     told = λ i down. elim (same_or_not i b) [
-      | inl e ↦ absurd (let z : true ≡ false = sym up ∙ ap (λ j. get_or fs j false) (sym e) ∙ down in cc)
+      | inl e ↦ absurd (let z : true ≡ false = sym up ∙ ap (λ j. get_or fs (j / 16) false) (sym e) ∙ down in cc)
       | inr e ↦ let k = kept.told i down in let g = get-set_other os b i v e in (ap spilled g ∙ k.0, ap spare g ∙ k.1)
     ];
   }
 
   -- flags were raised
-  pub flagged-more : (gs : List Bool) → length gs ≡ length ws → ((i : ℕ) → get_or gs i false ≡ false → get_or fs i false ≡ false) → IsFlagged ws os gs
-  flagged-more gs n more = record { flags = inr n; told = λ i down. kept.told i (more i down) }
+  pub flagged-more : (gs : List Bool) → length gs ≡ length ws / 16 + 1 → ((i : ℕ) → get_or gs i false ≡ false → get_or fs i false ≡ false) → IsFlagged ws os gs
+  flagged-more gs n more = record { flags = inr n; told = λ i down. kept.told i (more (i / 16) down) }
 
   -- lists were made
   pub flagged-opened : (ds : List (Vec E A)) (n : ℕ) → Opens os n ds → IsFlagged ws ds fs
@@ -46,25 +44,25 @@ module _ {E A : Type 0} (ws : List (Window E)) (os : List (Vec E A)) (fs : List 
 
   module _ (bs : List (Shelf E)) (view : shelves ws os ≡ bs) (b : ℕ) (within : b < length bs) where
     -- a bucket whose flag is down has no entry in a list
-    pub uncrowded : get_or fs b false ≡ false → (shelf_of bs b).overflow ≡ []
+    pub uncrowded : get_or fs (b / 16) false ≡ false → (shelf_of bs b).overflow ≡ []
     uncrowded down = sym (overflow-is ws os bs view b within) ∙ (kept.told b down).0
 
     -- and no room there
-    pub no-room : get_or fs b false ≡ false → (shelf_of bs b).room ≡ 0
+    pub no-room : get_or fs (b / 16) false ≡ false → (shelf_of bs b).room ≡ 0
     no-room down = ap (λ (s : Shelf E). s.room) (shelf-is ws os bs view b within) ∙ (kept.told b down).1
 
     -- so where there is room the flag is up
-    pub room-flag : 0 < (shelf_of bs b).room → get_or fs b false ≡ true
-    room-flag some = by_flag (get_or fs b false) (λ q. q) (λ q. absurd (let z = no-room q in omega arith))
+    pub room-flag : 0 < (shelf_of bs b).room → get_or fs (b / 16) false ≡ true
+    room-flag some = by_flag (get_or fs (b / 16) false) (λ q. q) (λ q. absurd (let z = no-room q in omega arith))
 
 -- an entry was pushed to a list, or handed back
-pub pushed-both : {E A : Type 0} (ws : List (Window E)) (os : List (Vec E A)) (fs : List Bool) (b : ℕ) (e : E) (r : Result ℕ E) (ds : List (Vec E A)) → IsArray ws os → IsFlagged ws os fs → get_or fs b false ≡ true → Pushes os b e r ds
+pub pushed-both : {E A : Type 0} (ws : List (Window E)) (os : List (Vec E A)) (fs : List Bool) (b : ℕ) (e : E) (r : Result ℕ E) (ds : List (Vec E A)) → IsArray ws os → IsFlagged ws os fs → get_or fs (b / 16) false ≡ true → Pushes os b e r ds
     → IsArray ws ds × IsFlagged ws ds fs
 pushed-both {E} {A} ws os fs b e (Ok p) ds kept told up (u, v, held, is, items, grown, changed) = subst (λ (l : List (Vec E A)). IsArray ws l × IsFlagged ws l fs) (sym changed) (array-set ws os b v kept, flagged-list ws os fs told b v up)
 pushed-both {E} {A} ws os fs b e (Err x) ds kept told up (same, (u, v, held, items, changed, full)) = subst (λ (l : List (Vec E A)). IsArray ws l × IsFlagged ws l fs) (sym changed) (array-set ws os b v kept, flagged-list ws os fs told b v up)
 
 -- room was made in a list, or refused
-pub reserved-both : {E A X : Type 0} (ws : List (Window E)) (os : List (Vec E A)) (fs : List Bool) (b n : ℕ) (r : Result (Unit {0}) X) (ds : List (Vec E A)) → IsArray ws os → IsFlagged ws os fs → get_or fs b false ≡ true → Reserves os b n r ds
+pub reserved-both : {E A X : Type 0} (ws : List (Window E)) (os : List (Vec E A)) (fs : List Bool) (b n : ℕ) (r : Result (Unit {0}) X) (ds : List (Vec E A)) → IsArray ws os → IsFlagged ws os fs → get_or fs (b / 16) false ≡ true → Reserves os b n r ds
     → IsArray ws ds × IsFlagged ws ds fs
 reserved-both {E} {A} ws os fs b n (Ok p) ds kept told up (u, v, held, items, grown, room, changed) = subst (λ (l : List (Vec E A)). IsArray ws l × IsFlagged ws l fs) (sym changed) (array-set ws os b v kept, flagged-list ws os fs told b v up)
 reserved-both {E} {A} ws os fs b n (Err x) ds kept told up (u, v, held, items, grown, changed) = subst (λ (l : List (Vec E A)). IsArray ws l × IsFlagged ws l fs) (sym changed) (array-set ws os b v kept, flagged-list ws os fs told b v up)

@@ -1,5 +1,5 @@
 -- A row whose entries are parted by flags: those that stay close their ranks, one after the other.
-use Rattle.std.proofs.Common.{◌≡◌, ◌≢◌, ℕ, zero, suc, ◌+◌, ◌<◌, ◌≤◌, Bool, true, false, cond, List, [], ◌∷◌, ◌++◌, length, set, take, get_or, ◌*◌, ◌⊎◌, Option, Some, None, refl, sym, ap, ◌∙◌, inl, inr, arith, length-append, length-set, append_assoc, subst}
+use Rattle.std.proofs.Common.{◌≡◌, ◌≢◌, ℕ, zero, suc, ◌+◌, ◌<◌, ◌≤◌, Bool, true, false, cond, List, [], ◌∷◌, ◌++◌, length, set, take, get_or, ◌*◌, ◌⊎◌, Option, Some, None, refl, sym, ap, ◌∙◌, inl, inr, arith, length-append, append_assoc, subst}
 use Rattle.std.proofs.lemmas.List.{get_or-set_same, get_or-set_other, set-set}
 use Rattle.std.specs.List.{slice_get}
 use native.Mathlib.Decide.{dec_lt}

@@ -4,4 +4,5 @@ pub mod Lists
 pub mod Shelves
 pub mod Shifts
 pub mod Sifts
+pub mod Updates
 pub mod Windows

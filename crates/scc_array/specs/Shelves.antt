@@ -1,5 +1,5 @@
 -- The buckets of an array: their places, and the lists of the entries past them.
-use Rattle.std.specs.Prelude.{◌≡◌, ℕ, ◌⊎◌, Bool, false, List, [], length, map, slice_get, slice_index_or, Option, Some, None}
+use Rattle.std.specs.Prelude.{◌≡◌, ℕ, ◌+◌, ◌/◌, ◌⊎◌, Bool, false, List, [], length, map, slice_get, slice_index_or, Option, Some, None}
 use Rattle.std.specs.List.{range_with_len}
 use Rattle.std.specs.Vec.{vec_capacity}
 use Rattle.std.specs.declared.vec.Vec.{Vec}
@@ -31,7 +31,7 @@ module _ {E A : Type 0} where
     pub record IsArray : Type 0 where
       pub lists : (os ≡ []) ⊎ (length os ≡ length ws)
 
-  -- of the flags of the buckets: there are none yet, or one for each; a bucket whose flag is down has no entry in a list, and no room there
+  -- of the flags of the buckets, one for 16 in a row: there are none yet, or one for each group; a bucket whose flag is down has no entry in a list, and no room there
   pub record IsFlagged (ws : List (Window E)) (os : List (Vec E A)) (fs : List Bool) : Type 0 where
-    pub flags : (fs ≡ []) ⊎ (length fs ≡ length ws)
-    pub told : (b : ℕ) → slice_index_or fs b false ≡ false → (spilled (slice_get os b) ≡ []) × (spare (slice_get os b) ≡ 0)
+    pub flags : (fs ≡ []) ⊎ (length fs ≡ length ws / 16 + 1)
+    pub told : (b : ℕ) → slice_index_or fs (b / 16) false ≡ false → (spilled (slice_get os b) ≡ []) × (spare (slice_get os b) ≡ 0)

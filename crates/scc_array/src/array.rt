@@ -9,10 +9,11 @@ mod finding;
 mod reads;
 mod room;
 mod splitting;
+mod updating;
 mod writes;
 
 use crate::columns::Columns;
-use crate::lists::{open_lists, push_to, raise};
+use crate::lists::{flag_of, open_lists, push_to, raise};
 use scc_bucket::Keyed;
 use std::alloc::{AllocError, Global};
 use std::marker::Model;
@@ -21,7 +22,7 @@ use std::marker::Model;
 pub struct Array<E> {
     columns: Columns<E>,
     overflow: Vec<Vec<E>>,
-    /// Which buckets may have entries past their places: no list of another one is looked at.
+    /// Which buckets may have entries past their places, a flag for 16 in a row: no list of another one is looked at.
     crowded: Vec<bool>,
     alloc: Global,
 }
@@ -117,7 +118,8 @@ impl<E> Array<E> {
         requires { bucket < length self.now }
         ensures { IsFalse result → (shelf_of self.now bucket).overflow ≡ [] }
     {
-        bucket < self.crowded.len() && self.crowded[bucket]
+        let flag = flag_of(bucket);
+        flag < self.crowded.len() && self.crowded[flag]
     }
 
     /// How many entries the bucket has past its places.

@@ -1,5 +1,5 @@
 //! The lists of the entries past the places, one a bucket, which are made with the first such entry.
-ghost use Rattle.std.specs.Prelude.{◌≡◌, ◌<◌, ◌⊎◌, ℕ, [], false, true, length, slice_index_or, IfOk, OnOk, OnErr};
+ghost use Rattle.std.specs.Prelude.{◌≡◌, ◌<◌, ◌≤◌, ◌+◌, ◌/◌, ◌^◌, ◌⊎◌, ℕ, [], false, true, length, slice_index_or, IfOk, OnOk, OnErr};
 ghost use Rattle.scc_array.specs.Lists.{AreBare, AreSpent, Opens, Pushes, Reserves};
 
 use std::alloc::{AllocError, Global};
@@ -39,7 +39,15 @@ pub(crate) fn open_lists<E>(
     Ok(())
 }
 
-/// Raises the flag of a bucket. Where there are no flags, so many are made, all others down.
+/// The number of the flag of a bucket, which 16 buckets in a row have in common.
+#[inline(always)]
+pub(crate) fn flag_of(bucket: usize) -> usize
+    ensures { result ≡ bucket / 16 }
+{
+    bucket / 16
+}
+
+/// Raises the flag of a bucket. Where there are no flags, those of so many buckets are made, all others down.
 #[cold]
 pub(crate) fn raise(
     flags: &mut Vec<bool>,
@@ -48,17 +56,18 @@ pub(crate) fn raise(
     bucket: usize,
 ) -> Result<(), AllocError>
     requires bucket { bucket < count }
-    requires count { (flags.old.items ≡ []) ⊎ (length flags.old.items ≡ count) }
-    ensures up { OnOk result (slice_index_or flags.new.items bucket false ≡ true) }
-    ensures count { OnOk result (length flags.new.items ≡ count) }
+    requires most { count ≤ 2 ^ 58 }
+    requires count { (flags.old.items ≡ []) ⊎ (length flags.old.items ≡ count / 16 + 1) }
+    ensures up { OnOk result (slice_index_or flags.new.items (bucket / 16) false ≡ true) }
+    ensures count { OnOk result (length flags.new.items ≡ count / 16 + 1) }
     ensures kept { OnOk result ((i : ℕ) → slice_index_or flags.new.items i false ≡ false → slice_index_or flags.old.items i false ≡ false) }
     ensures err { OnErr result (flags.new.items ≡ flags.old.items) }
     ensures none { OnErr result (flags.old.items ≡ []) }
 {
     if flags.len() == 0 {
-        *flags = vec![in alloc; false; count]?;
+        *flags = vec![in alloc; false; flag_of(count) + 1]?;
     }
-    flags[bucket] = true;
+    flags[flag_of(bucket)] = true;
     Ok(())
 }
 

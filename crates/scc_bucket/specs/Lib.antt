@@ -1,3 +1,4 @@
 pub mod Shelf
 pub mod ShelfWrites
+pub mod Updates
 pub mod Walks

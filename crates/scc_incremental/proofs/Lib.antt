@@ -41,5 +41,6 @@ pub mod TakeSteps
 pub mod Taken
 pub mod TakenFrom
 pub mod Targets
+pub mod Updating
 pub mod Viewed
 pub mod Written

@@ -24,6 +24,7 @@ mod shrinking;
 mod starting;
 mod steps;
 mod taking;
+mod updating;
 mod walking;
 mod writing;
 

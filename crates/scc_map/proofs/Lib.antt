@@ -4,4 +4,5 @@ pub mod CallerLemmas
 pub mod Entries
 pub mod EntrySteps
 pub mod Filtering
+pub mod Updating
 pub mod Visiting

@@ -24,5 +24,6 @@ pub mod Resizes
 pub mod Spots
 pub mod Standing
 pub mod SwapRemoves
+pub mod Updating
 pub mod Views
 pub mod WritingTables

@@ -18,4 +18,5 @@ pub mod Sizes
 pub mod Standing
 pub mod Steps
 pub mod Tables
+pub mod Updates
 pub mod Writes

@@ -16,6 +16,7 @@ mod making;
 mod putting;
 mod removing;
 mod reserving;
+mod updating;
 mod writes;
 
 use crate::place::Place;

@@ -2,8 +2,6 @@
 ghost use Rattle.std.specs.Prelude.{◌≡◌, Some, slice_get};
 ghost use Rattle.scc_table.specs.Contents.{entries};
 ghost use Rattle.scc_incremental.specs.Places.{IsPlace, index_of};
-ghost use Rattle.scc_table.specs.Contents.{entries, list_of};
-ghost use Rattle.scc_incremental.specs.Places.{IsPlace, index_of, spot_of};
 
 use super::Incremental;
 use scc_table::{Place, SharedVersion, Version};
@@ -15,16 +13,6 @@ impl<K: Eq + Hash, V, H: BuildHasher> Incremental<(K, V), H> {
     pub fn pair_at(&self, place: Place) -> (&K, &V)
         requires { IsPlace self.now place }
         ensures { slice_get (entries self.now) (index_of self.now place) ≡ Some (result.0.now, result.1.now) }
-    {
-        let pair = self.entry_at(place);
-        (&pair.0, &pair.1)
-    }
-
-    /// The key and the value at the place, seen in the list of its bucket.
-    #[inline(always)]
-    pub fn pair_in(&self, place: Place) -> (&K, &V)
-        requires { IsPlace self.now place }
-        ensures { slice_get (list_of self.now (spot_of self.now place).bucket) (spot_of self.now place).slot ≡ Some (result.0.now, result.1.now) }
     {
         let pair = self.entry_at(place);
         (&pair.0, &pair.1)

@@ -10,7 +10,7 @@ use scc_table::{Keyed, Place};
 use std::hash::{BuildHasher, Hash};
 
 /// No array has a bucket of that number.
-const NOWHERE: usize = 1 << 60;
+pub(super) const NOWHERE: usize = 1 << 60;
 
 impl<E: Keyed, H: BuildHasher> Incremental<E, H>
 where
@@ -45,7 +45,7 @@ where
 
     /// The same where some bucket waits. There is no such entry where the answer's bucket is `NOWHERE`. A place comes back in two registers; an Option of one goes through the caller's memory, also where no bucket waits.
     #[cold]
-    fn search_both(&self, hash: u64, key: &E::Key) -> Place
+    pub(super) fn search_both(&self, hash: u64, key: &E::Key) -> Place
         requires pending { 0 < pending_of self.now }
         requires hashed { hash ≡ key_hash H.BuildHasher H.Hasher.Hasher E.Key.hash_input self.now key.now }
         ensures found { result.bucket < 2 ^ 60 → IsFoundAt (λ e. E.Key.eq key.now (E.key_of e)) self.now result }

@@ -280,13 +280,7 @@ impl<K: Eq + Hash, V, H: BuildHasher> Owned<K, V, H> {
         ensures unique { IsUnique K.eq self.new }
     {
         let hash = self.table.hash(k);
-        match self.table.search(hash, k) {
-            Some(place) => {
-                let (key, value) = self.parts_mut_at(place);
-                Some(u(key, value))
-            }
-            None => None,
-        }
+        self.table.update(hash, k, u)
     }
 
     /// Takes out the pair of `k` where `f` answers true on its value. What `f` wrote goes with the pair, and stays where it answers false; then the answer is None.

@@ -32,7 +32,7 @@ impl<K: Eq + Hash, V, H: BuildHasher> Owned<K, V, H> {
         requires { IsPlace self.now.contents place }
         ensures { slice_get (list_of self.now.contents (spot_of self.now.contents place).bucket) (spot_of self.now.contents place).slot ≡ Some (result.0.now, result.1.now) }
     {
-        self.table.pair_in(place)
+        self.table.pair_at(place)
     }
 
     /// Puts in a pair whose key is new, and answers what it drove out, and its place.

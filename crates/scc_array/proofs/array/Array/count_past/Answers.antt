@@ -1,7 +1,6 @@
 use Rattle.std.proofs.Common.{◌≡◌, ◌<◌, arith, length, sym, ap, ◌∙◌, length-append}
 use Rattle.scc_array.proofs.Shelves.{window-within, slots-are, overflow-is, no-list, empty-list}
 use Rattle.scc_array.specs.Shelves.{shelf_of}
-use Rattle.scc_array.specs.Windows.{window_of}
 use Rattle.scc_array.proofs.array.Array.count_past.Goals as goal
 
 pub returns-then-len-eq0-clause-within : goal.returns-then-len-eq0-clause-within

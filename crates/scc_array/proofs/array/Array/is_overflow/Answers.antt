@@ -1,4 +1,4 @@
-use Rattle.std.proofs.Common.{◌≡◌, ◌≤◌, ◌<◌, length, arith}
+use Rattle.std.proofs.Common.{◌≤◌, arith}
 use Rattle.std.proofs.lemmas.Bool.{le-leb, leb-true}
 use native.Mathlib.Decide.{dec_lt}
 use Rattle.scc_array.proofs.array.Array.is_overflow.Goals as goal

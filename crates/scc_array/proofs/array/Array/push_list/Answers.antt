@@ -1,4 +1,4 @@
-use Rattle.std.proofs.Common.{Bool, List, false, get_or, ap, ◌∙◌, arith}
+use Rattle.std.proofs.Common.{◌+◌, ◌/◌, Bool, List, false, get_or, ap, ◌∙◌, arith}
 use Rattle.scc_array.proofs.Crowded.{flagged-more, flagged-opened, no-room, opened-array, pushed-both}
 use Rattle.scc_array.proofs.Shelves.{window-within}
 use Rattle.scc_array.proofs.ListPushing.{opened-within, list-pushed-ok, list-pushed-err, list-pushed-refused, bare-refused}
@@ -37,7 +37,7 @@ raise-requires-clause-count g c = rw c.len-count.ensures.count c.self.invariant.
 pub returns-in-Err-clause-refused : goal.returns-in-Err-clause-refused
 returns-in-Err-clause-refused g c =
     let ws = c.self.inside.columns in let os = c.self.inside.overflow.items in let bs = c.args.self.now in let b = c.args.bucket in
-    let none = no-room ws os c.self.inside.crowded.items c.self.invariant.1 bs c.self.view_is b c.requires.bucket (ap (λ (l : List Bool). get_or l b false) c.in-Err.ensures.none) in
+    let none = no-room ws os c.self.inside.crowded.items c.self.invariant.1 bs c.self.view_is b c.requires.bucket (ap (λ (l : List Bool). get_or l (b / 16) false) c.in-Err.ensures.none) in
     omega (arith, none)
 
 pub returns-in-Err-open_lists-clause-refused : goal.returns-in-Err-open_lists-clause-refused
@@ -50,7 +50,7 @@ pub invariant_of-self-2 : goal.invariant_of-self-2
 invariant_of-self-2 g c =
     let ws = c.self.inside.columns in let os = c.self.inside.overflow.items in let b = c.args.bucket in
     let ds = c.open_lists.new.lists.items in let gs = c.raise.new.flags.items in
-    let raised = flagged-more ws os c.self.inside.crowded.items c.self.invariant.1 gs (c.in-Ok.ensures.count ∙ c.len-count.ensures.count) c.in-Ok.ensures.kept in
+    let raised = flagged-more ws os c.self.inside.crowded.items c.self.invariant.1 gs (c.in-Ok.ensures.count ∙ ap (λ n. n / 16 + 1) c.len-count.ensures.count) c.in-Ok.ensures.kept in
     let opened = flagged-opened ws os gs raised ds _ c.in-Ok-open_lists.ensures.ok in
     let listed = opened-array ws os ds _ c.self.invariant.0 c.len-count.ensures.count c.in-Ok-open_lists.ensures.ok in
     pushed-both ws ds gs b c.args.entry c.push_to.result c.push_to.new.lists.items listed opened c.in-Ok.ensures.up c.push_to.ensures

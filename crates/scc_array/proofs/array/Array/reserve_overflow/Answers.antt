@@ -1,6 +1,6 @@
 use Rattle.scc_array.proofs.ListPushing.{opened-within}
 use Rattle.scc_array.proofs.Reserving.{reserved-value, reserved-more, reserved-room}
-use Rattle.std.proofs.Common.{◌∙◌}
+use Rattle.std.proofs.Common.{◌+◌, ◌/◌, ap, ◌∙◌}
 use Rattle.scc_array.proofs.Crowded.{flagged-more, flagged-opened, opened-array, reserved-both}
 use Rattle.scc_array.proofs.Shelves.{opened-view, window-within}
 use Rattle.scc_array.proofs.array.Array.reserve_overflow.Goals as goal
@@ -45,7 +45,7 @@ pub invariant_of-self-2 : goal.invariant_of-self-2
 invariant_of-self-2 g c =
     let ws = c.self.inside.columns in let os = c.self.inside.overflow.items in let b = c.args.bucket in
     let ds = c.open_lists.new.lists.items in let gs = c.raise.new.flags.items in
-    let raised = flagged-more ws os c.self.inside.crowded.items c.self.invariant.1 gs (c.in-Ok.ensures.count ∙ c.len-count.ensures.count) c.in-Ok.ensures.kept in
+    let raised = flagged-more ws os c.self.inside.crowded.items c.self.invariant.1 gs (c.in-Ok.ensures.count ∙ ap (λ n. n / 16 + 1) c.len-count.ensures.count) c.in-Ok.ensures.kept in
     let opened = flagged-opened ws os gs raised ds _ c.in-Ok-open_lists.ensures.ok in
     let listed = opened-array ws os ds _ c.self.invariant.0 c.len-count.ensures.count c.in-Ok-open_lists.ensures.ok in
     reserved-both ws ds gs b c.args.additional c.reserve_in.result c.reserve_in.new.lists.items listed opened c.in-Ok.ensures.up c.reserve_in.ensures

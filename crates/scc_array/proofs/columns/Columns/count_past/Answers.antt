@@ -1,4 +1,4 @@
-use Rattle.std.proofs.Common.{◌≡◌, ◌<◌, ◌≤◌, ap, sym, ◌∙◌, arith, [], get_or, length}
+use Rattle.std.proofs.Common.{◌≡◌, ap, sym, ◌∙◌, arith, [], get_or, length}
 use native.Mathlib.Decide.{dec_lt}
 use Rattle.scc_array.proofs.Bucket.{packed-there, row-within, row-read}
 use Rattle.scc_array.proofs.Counting.{tag-free}

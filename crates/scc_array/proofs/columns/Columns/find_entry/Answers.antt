@@ -1,5 +1,4 @@
-use Rattle.std.proofs.Common.{◌≡◌, Some, sym, ◌∙◌}
-use Rattle.std.specs.List.{position}
+use Rattle.std.proofs.Common.{sym, ◌∙◌}
 use Rattle.scc_array.proofs.Finds.{find-missed, find-position, place-below}
 use Rattle.scc_array.proofs.columns.Columns.find_entry.Goals as goal
 use Rattle.scc_array.specs.Windows.{window_of}

@@ -1,9 +1,13 @@
 use Rattle.std.proofs.Common.{sym, subst}
-use Rattle.scc_incremental.specs.Places.{IsPlace}
+use Rattle.scc_incremental.specs.Places.{IsPlace, spot_of}
+use Rattle.scc_incremental.proofs.TakenFrom.{got-there}
 use Rattle.scc_cache.proofs.hash_cache.owned.Owned.pair_in.Goals as goal
 
-pub pair_in-requires : goal.pair_in-requires
-pair_in-requires g c = subst (λ z. IsPlace z.contents c.args.place) (sym c.self.view_is) c.requires
+pub pair_at-requires : goal.pair_at-requires
+pair_at-requires g c = subst (λ z. IsPlace z.contents c.args.place) (sym c.self.view_is) c.requires
 
 pub returns : goal.returns
-returns g c = rw (← c.self.view_is) c.pair_in.ensures
+returns g c =
+    let m = c.self.inside.table in
+    let within = subst (λ z. IsPlace z.contents c.args.place) (sym c.self.view_is) c.requires in
+    rw (← c.self.view_is) (got-there m m (spot_of m c.args.place) within (c.pair_at.result.0.now, c.pair_at.result.1.now) c.pair_at.ensures)
