@@ -10,6 +10,7 @@ pub use Rattle.scc_map.specs.Closures
 pub use Rattle.scc_map.specs.Entries
 pub use Rattle.scc_map.specs.Lends
 pub use Rattle.scc_map.specs.MapSteps
+pub use Rattle.scc_memo.specs.Memos
 pub use Rattle.scc_recorded.specs.CacheCalls
 pub use Rattle.scc_recorded.specs.Changes
 pub use Rattle.scc_recorded.specs.Histories
@@ -40,3 +41,5 @@ pub use Rattle.scc_table.specs.Steps
 pub use Rattle.scc_table.specs.Tables
 pub use Rattle.scc_table.specs.Walks
 pub use Rattle.scc_table.specs.Writes
+pub use Rattle.scc_walks.specs.PairWalks
+pub use Rattle.scc_walks.specs.Replies

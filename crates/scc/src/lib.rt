@@ -1,12 +1,18 @@
-//! Concurrent hash containers, under their public paths: each container's module, recorded containers with calls as values, workers on threads, and what they share.
+//! Concurrent hash containers, under their public paths: each container's module, a memo, recorded containers with calls as values, workers on threads, and what they share.
 #![tactic(auto)]
 
+pub mod hash_cache;
+pub mod hash_index;
+pub mod hash_map;
+pub mod hash_set;
 pub mod hash_table;
 pub mod recorded;
 
-pub use scc_cache::hash_cache;
-pub use scc_index::hash_index;
-pub use scc_map::hash_map;
-pub use scc_set::hash_set;
-pub use scc_stripes::stripes;
-pub use scc_table::{InsertError, KeyError, MakeError, Reservation, Verdict, WalkError};
+pub use hash_cache::HashCache;
+pub use hash_index::HashIndex;
+pub use hash_map::HashMap;
+pub use hash_set::HashSet;
+pub use scc_incremental::Reservation;
+pub use scc_memo::memo;
+pub use scc_table::{InsertError, KeyError, MakeError, Verdict, WalkError};
+pub use scc_workers::stripes;

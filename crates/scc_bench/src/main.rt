@@ -7,9 +7,7 @@ mod cache;
 mod memory;
 mod own;
 mod peer;
-mod report;
 mod request;
-mod streams;
 mod tail;
 
 use peer::Peer;

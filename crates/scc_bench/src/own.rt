@@ -1,7 +1,7 @@
 //! The workloads of one owner: insertions, look-ups, writes, a walk and removals.
 use crate::peer::Peer;
-use crate::report::{check, line, nanos};
-use crate::streams::{Streams, value};
+use scc_measures::report::{check, line, nanos};
+use scc_measures::streams::{Streams, value};
 use std::alloc::{AllocError, Global};
 use std::io;
 use std::rt::Clock;

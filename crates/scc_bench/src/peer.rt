@@ -1,7 +1,7 @@
 //! What the benchmark asks of a map, and the maps that it measures. A set and an index answer to the same.
-use crate::streams::value as value_of;
 use scc_index::hash_index;
 use scc_map::hash_map::Owned;
+use scc_measures::streams::value as value_of;
 use scc_set::hash_set;
 use std::alloc::Global;
 use std::collections::HashMap;

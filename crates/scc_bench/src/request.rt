@@ -1,5 +1,5 @@
 //! What the arguments ask for.
-use crate::streams::Streams;
+use scc_measures::streams::Streams;
 use std::io;
 
 #[derive(Clone, Copy, Drop)]

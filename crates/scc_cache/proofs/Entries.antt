@@ -1,6 +1,7 @@
 -- What an entry shows, under any guard.
-use Rattle.std.proofs.Common.{◌≡◌, ℕ, [], Bool, Option, Some, refl, sym, ap, subst, ◌∙◌}
-use Rattle.std.specs.List.{slice_get, slice_set, slice_index_or}
+use Rattle.std.proofs.Common.{◌≡◌, ℕ, zero, suc, ◌+◌, ◌<◌, List, [], ◌∷◌, ◌++◌, length, Bool, Option, true, Some, Result, Ok, Err, refl, sym, ap, subst, ◌∙◌, arith, length-append, length-set, get_or-set_same}
+use Rattle.std.specs.Prelude.{IfOk, IfErr}
+use Rattle.std.specs.List.{remove, slice_get, slice_set, slice_index_or}
 use Rattle.std.specs.declared.cmp.PartialEq as eq
 use Rattle.std.specs.declared.hash.Hash as hash
 use Rattle.std.specs.declared.hash.Hasher as hasher
@@ -14,17 +15,20 @@ use Rattle.scc_incremental.specs.Placed.{entry_of, spot-with_write_at}
 use Rattle.scc_incremental.specs.Places.{IsPlace, spot_of}
 use Rattle.scc_common.specs.declared.guard.Guard as guard
 use Rattle.scc_table.specs.declared.place.Place.{Place}
+use Rattle.scc_table.specs.ShelfWrites.{length-write_at}
 use Rattle.scc_table.proofs.KeyWrites.{get-write_at}
 use Rattle.scc_incremental.proofs.AtPlaces.{place-prop}
-use Rattle.scc_cache.specs.CacheSteps.{Changes, IsFound, IsPresentAt, PutsNew, number_in}
+use Rattle.scc_cache.specs.CacheSteps.{Changes, IsFound, IsLastAt, PutsNew, number_in}
 use Rattle.scc_cache.specs.Caches.{Cached}
-use Rattle.scc_cache.specs.Entries.{occupied_pair, IsOccupiedAt, IsPut, IsRefreshed, IsWritten, written_cache, still_within, with_value}
+use Rattle.scc_cache.specs.Entries.{occupied_pair, IsMoved, IsPut, IsRefreshed, IsReplacedBy, IsWritten, written_cache, still_within, with_value}
 use Rattle.scc_cache.specs.Lends.{with_key_at, with_value_at}
-use Rattle.scc_cache.specs.ListSteps.{Refreshes, Rewrites}
+use Rattle.scc_cache.specs.ListSteps.{Refreshes, RefreshesAs, Rewrites}
 use Rattle.scc_cache.specs.Relocations.{RelocatesOne, RelocatesTwo}
 use Rattle.scc_cache.specs.declared.hash_cache.held.HeldEntry.{HeldEntry}
 use Rattle.scc_cache.specs.declared.hash_cache.held.HeldVacant.{HeldVacant}
-use Rattle.scc_cache.proofs.Relocations.{waiting-written}
+use Rattle.scc_cache.proofs.Caching.{position-passes}
+use Rattle.scc_cache.proofs.Relocations.{waiting-keyed, waiting-written, written-one}
+use Rattle.scc_cache.proofs.Removing.{set-twice}
 use Rattle.scc_cache.proofs.Writing.{write-set, written-list}
 
 module _ {E S : Type 0} (c : Contents E S) (p : Place) (h : IsPlace c p) where
@@ -54,15 +58,36 @@ module _ {K V S : Type 0} (c : Cached (K × V) S) (p : Place) (h : IsPlace c.con
       let there : slice_get (list_of d s.bucket) s.slot ≡ Some e = ap (λ l. slice_get l s.slot) (written-list with_pair_value c.contents s h v) ∙ get-write_at with_pair_value (list_of c.contents s.bucket) s.slot (entry_of c.contents p h) v (listed-entry c.contents p h) in
       sym (entry-listed d p q e (subst (λ (r : Place). slice_get (list_of d r.bucket) r.slot ≡ Some e) (sym (spot-with_write_at with_pair_value c.contents s v p)) there))
 
--- a key put in the place of its equal is one list changed
-pub changes-key : {K V S : Type 0} (hash : K → ℕ) (same : K → K → Bool) (c : Cached (K × V) S) (k : K) (p : Place) (f : IsFound hash same c.contents k p) → Changes (Rewrites (number_in hash c.contents) same k f.pair (k, f.pair.1)) c (with_key_at c p k)
+set-last : {X : Type 0} (es : List X) (p q : X) (s : ℕ) → s + 1 ≡ length (es ++ p ∷ []) → slice_set (es ++ p ∷ []) s q ≡ es ++ q ∷ []
+set-last [] p q zero e = refl
+set-last [] p q (suc s) e = absurd (omega arith)
+set-last (x ∷ es) p q zero e = absurd (let z = length-append es (p ∷ []) in omega arith)
+set-last (x ∷ es) p q (suc s) e = ap (λ l. x ∷ l) (set-last es p q s (omega arith))
+
+-- what was moved to the end of a list, and written there, was moved as it is written
+pub moved-last : {K V : Type 0} (number : ℕ → K → ℕ) (same : K → K → Bool) (k : K) (p q r : K × V) (ls ms ns : List (List (K × V))) (b s : ℕ) → RefreshesAs number same k p q ls ms → b ≡ number (length ls) k → b < length ms → s + 1 ≡ length (slice_index_or ms b []) → ns ≡ slice_set ms b (slice_set (slice_index_or ms b []) s r)
+    → RefreshesAs number same k p r ls ns
+moved-last number same k p q r ls ms ns b s (i, there, e) at within last made =
+    let es = remove (slice_index_or ls (number (length ls) k) []) i in
+    let moved : ms ≡ slice_set ls b (es ++ q ∷ []) = e ∙ ap (λ j. slice_set ls j (es ++ q ∷ [])) (sym at) in
+    let few = ap length moved ∙ length-set ls b (es ++ q ∷ []) in
+    let here : slice_index_or ms b [] ≡ es ++ q ∷ [] = ap (λ z. slice_index_or z b []) moved ∙ get_or-set_same ls b (es ++ q ∷ []) [] (omega arith) in (
+      i,
+      there,
+      made ∙ ap (λ z. slice_set ms b (slice_set z s r)) here ∙ ap (slice_set ms b) (set-last es q r s (last ∙ ap length here)) ∙ ap (λ z. slice_set z b (es ++ r ∷ [])) moved ∙ set-twice ls b (es ++ q ∷ []) (es ++ r ∷ []) ∙ ap (λ j. slice_set ls j (es ++ r ∷ [])) at,
+    )
+
+-- a key put in the place of its equal, which went to the end of its list
+pub moved-key : {K V S : Type 0} (hash : K → ℕ) (same : K → K → Bool) (c d : Cached (K × V) S) (k : K) (p : Place) (f : IsLastAt hash same c k d p) → Changes (RefreshesAs (number_in hash c.contents) same k f.pair (k, f.pair.1)) c (with_key_at d p k)
 unfolding writes.with_write_at lists_of list_of settings_of refused_of bucket_count
-changes-key hash same c k p f = record {
-  lists = ((spot_of c.contents p).slot, f.there, ap (slice_set c.contents.lists (spot_of c.contents p).bucket) (write-set with_pair_key (slice_index_or c.contents.lists (spot_of c.contents p).bucket []) (spot_of c.contents p).slot k f.pair f.here) ∙ ap (λ j. slice_set c.contents.lists j (slice_set (slice_index_or c.contents.lists j []) (spot_of c.contents p).slot (k, f.pair.1))) f.bucket);
-  settings = refl;
-  refused = refl;
-  maximum = refl;
-}
+moved-key hash same c d k p f =
+    let at = spot_of d.contents p in
+    record {
+      lists = moved-last (number_in hash c.contents) same k f.pair f.pair (k, f.pair.1) c.contents.lists d.contents.lists _ at.bucket at.slot f.changes.lists f.bucket f.within.bucket f.last (ap (slice_set d.contents.lists at.bucket) (write-set with_pair_key (slice_index_or d.contents.lists at.bucket []) at.slot k f.pair f.here));
+      settings = f.changes.settings;
+      refused = f.changes.refused;
+      maximum = f.changes.maximum;
+    }
 
 -- so is a value put in the place of the old one
 pub changes-value : {K V S : Type 0} (hash : K → ℕ) (same : K → K → Bool) (c : Cached (K × V) S) (k : K) (p : Place) (f : IsFound hash same c.contents k p) (v : V) → Changes (Rewrites (number_in hash c.contents) same k f.pair (f.pair.0, v)) c (with_value_at c p v)
@@ -82,23 +107,80 @@ pair-keyed {K} {V} c d p h e k got made q =
     let same : spot_of d.contents p ≡ s = ap (λ x. spot_of x.contents p) made ∙ spot-with_write_at with_pair_key c.contents s k p in
     sym (entry-listed d.contents p q n (subst (λ (r : Place). slice_get (list_of d.contents r.bucket) r.slot ≡ Some n) (sym same) there))
 
+-- what stands there then equals the old key, if the new one does
+pub alike-keyed : {K V S : Type 0} (same : K → K → Bool) (c : Cached (K × V) S) (p : Place) (h : IsPlace c.contents p) (e : K × V) (k : K) → slice_get (list_of c.contents (spot_of c.contents p).bucket) (spot_of c.contents p).slot ≡ Some e → same e.0 k ≡ true
+    → (x : K × V) → slice_get (list_of (with_key_at c p k).contents (spot_of (with_key_at c p k).contents p).bucket) (spot_of (with_key_at c p k).contents p).slot ≡ Some x → same e.0 x.0 ≡ true
+alike-keyed {K} {V} same c p h e k got equal x now =
+    let s = spot_of c.contents p in
+    let d = (with_key_at c p k).contents in
+    let n : K × V = (k, e.1) in
+    let there : slice_get (list_of d s.bucket) s.slot ≡ Some n = ap (λ l. slice_get l s.slot) (written-list with_pair_key c.contents s h k) ∙ get-write_at with_pair_key (list_of c.contents s.bucket) s.slot e k got in
+    let at : spot_of d p ≡ s = spot-with_write_at with_pair_key c.contents s k p in
+    let here : slice_get (list_of d (spot_of d p).bucket) (spot_of d p).slot ≡ Some n = subst (λ (r : Place). slice_get (list_of d r.bucket) r.slot ≡ Some n) (sym at) there in
+    let is : n ≡ x = let z : Some n ≡ Some x = sym here ∙ now in cc in
+    subst (λ (q : K × V). same e.0 q.0 ≡ true) is equal
+
+-- what stands where the pair of k went has an equal key
+pub last_alike : {K V S : Type 0} (hash : K → ℕ) (same : K → K → Bool) (c m : Cached (K × V) S) (k : K) (at : Place) (p : K × V) → IsLastAt hash same c k m at → slice_get (list_of m.contents (spot_of m.contents at).bucket) (spot_of m.contents at).slot ≡ Some p → same k p.0 ≡ true
+last_alike {K} {V} hash same c m k at p s got =
+    let there = s.changes.lists.1 in
+    let is : s.pair ≡ p = let z : Some s.pair ≡ Some p = sym s.here ∙ got in cc in
+    subst (λ (q : K × V). same k q.0 ≡ true) is (position-passes (λ q. same k q.0) _ s.changes.lists.0 s.pair there.first there.pair)
+
 module _ {G N K V S T : Type 0} {d : guard.Ghosts G (Cached (K × V) S)} {g : eq.Ghosts K} {h : hash.Ghosts K} {b : builder.Ghosts S T} {w : hasher.Ghosts T} where
   -- what the guard showed at the place is the pair
   pub pair-is : (o : HeldEntry G N K V S T d g h b w) (m : Cached (K × V) S) (p : K × V) → m ≡ d.kept o.guard → slice_get (list_of m.contents (spot_of m.contents o.place).bucket) (spot_of m.contents o.place).slot ≡ Some p → p ≡ occupied_pair o
   pair-is o m p is got = entry-listed (d.kept o.guard).contents o.place o.within p (subst (λ (x : Cached (K × V) S). slice_get (list_of x.contents (spot_of x.contents o.place).bucket) (spot_of x.contents o.place).slot ≡ Some p) is got)
 
-  -- the entry that a search found is that of the key
-  pub occupied-at : (same : K → K → Bool) (k : K) (o : HeldEntry G N K V S T d g h b w) → IsFound (key_hash b w h.hash_input (d.kept o.guard).contents) same (d.kept o.guard).contents k o.place → IsOccupiedAt same (d.kept o.guard) k o
-  occupied-at same k o f = record {
-    contents = refl;
-    bucket = f.bucket;
-    there = subst (λ p. IsPresentAt (key_hash b w h.hash_input (d.kept o.guard).contents) same (d.kept o.guard).contents k (spot_of (d.kept o.guard).contents o.place).slot p) (pair-is o (d.kept o.guard) f.pair refl f.here) f.there;
+  -- the entry of a key that was found stands at the pair that was moved
+  pub refreshed_at : (same : K → K → Bool) (c : Cached (K × V) S) (k : K) (o : HeldEntry G N K V S T d g h b w) → IsLastAt (key_hash b w h.hash_input c.contents) same c k (d.kept o.guard) o.place → RelocatesOne (key_hash b w h.hash_input c.contents k) c.contents (d.kept o.guard).contents → IsRefreshed same c k o
+  refreshed_at same c k o s r = record {
+    changes = subst (λ x. Changes (Refreshes (number_in (key_hash b w h.hash_input c.contents) c.contents) same k x) c (d.kept o.guard)) (pair-is o (d.kept o.guard) s.pair refl s.here) s.changes;
+    relocates = r;
+    bucket = s.bucket;
+    last = s.last;
   }
 
-  -- the entry that a get found stands at the pair that it moved
-  pub refreshed-at : (same : K → K → Bool) (c : Cached (K × V) S) (k : K) (o : HeldEntry G N K V S T d g h b w) (p : K × V) → slice_get (list_of (d.kept o.guard).contents (spot_of (d.kept o.guard).contents o.place).bucket) (spot_of (d.kept o.guard).contents o.place).slot ≡ Some p
-      → Changes (Refreshes (number_in (key_hash b w h.hash_input c.contents) c.contents) same k p) c (d.kept o.guard) → RelocatesOne (key_hash b w h.hash_input c.contents k) c.contents (d.kept o.guard).contents → IsRefreshed same c k o
-  refreshed-at same c k o p got s r = record { relocates = r; changes = subst (λ x. Changes (Refreshes (number_in (key_hash b w h.hash_input c.contents) c.contents) same k x) c (d.kept o.guard)) (pair-is o (d.kept o.guard) p refl got) s }
+  -- so it does once another key was put in there
+  pub replaced-at : (same : K → K → Bool) (c m : Cached (K × V) S) (k : K) (o : HeldEntry G N K V S T d g h b w) (s : IsLastAt (key_hash b w h.hash_input c.contents) same c k m o.place) → RelocatesOne (key_hash b w h.hash_input c.contents k) c.contents m.contents → d.kept o.guard ≡ with_key_at m o.place k
+      → (occupied_pair o ≡ (k, s.pair.1)) × IsMoved same c k s.pair o
+  replaced-at same c m k o s r made =
+      let n = with_key_at m o.place k in
+      let at = spot_of m.contents o.place in
+      let spot : spot_of n.contents o.place ≡ at = spot-with_write_at with_pair_key m.contents at k o.place in
+      let pair : occupied_pair o ≡ (k, s.pair.1) = pair-keyed m (d.kept o.guard) o.place s.within s.pair k s.here made o.within in
+      let long : length (list_of n.contents at.bucket) ≡ length (list_of m.contents at.bucket) = ap length (written-list with_pair_key m.contents at s.within k) ∙ length-write_at with_pair_key (list_of m.contents at.bucket) at.slot k in (
+        pair,
+        record {
+          changes =
+              subst (λ x. Changes (RefreshesAs (number_in (key_hash b w h.hash_input c.contents) c.contents) same k s.pair x) c (d.kept o.guard)) (sym pair)
+              (subst (λ x. Changes (RefreshesAs (number_in (key_hash b w h.hash_input c.contents) c.contents) same k s.pair (k, s.pair.1)) c x) (sym made) (moved-key (key_hash b w h.hash_input c.contents) same c m k o.place s));
+          relocates = written-one _ c.contents m.contents (d.kept o.guard).contents r (ap (λ x. waiting_of x.contents) made ∙ waiting-keyed m o.place k);
+          bucket = ap (λ x. (spot_of x.contents o.place).bucket) made ∙ ap (λ (q : Place). q.bucket) spot ∙ s.bucket;
+          last =
+              let Last : Cached (K × V) S → Place → Type 0 = λ x q. q.slot + 1 ≡ length (list_of x.contents q.bucket) in
+              subst (λ x. Last x (spot_of x.contents o.place)) (sym made) (subst (Last n) (sym spot) (s.last ∙ sym long));
+        },
+      )
+
+  -- the same of the old key that was answered
+  pub replaced_as : (same : K → K → Bool) (c m : Cached (K × V) S) (k old : K) (o : HeldEntry G N K V S T d g h b w) → IsLastAt (key_hash b w h.hash_input c.contents) same c k m o.place → RelocatesOne (key_hash b w h.hash_input c.contents k) c.contents m.contents
+      → (p : K × V) × (slice_get (list_of m.contents (spot_of m.contents o.place).bucket) (spot_of m.contents o.place).slot ≡ Some p) × (old ≡ p.0) → d.kept o.guard ≡ with_key_at m o.place k → IsReplacedBy same c k old o
+  replaced_as same c m k old o s r (p, got, is) made =
+      let moved = replaced-at same c m k o s r made in
+      let shown : p ≡ s.pair = let z : Some p ≡ Some s.pair = sym got ∙ s.here in cc in
+      let pair : s.pair ≡ (old, s.pair.1) = ap (λ x. (x, s.pair.1)) (sym (is ∙ ap (λ q. q.0) shown)) in
+      record { value = s.pair.1; pair = moved.0; moved = subst (λ q. IsMoved same c k q o) pair moved.1 }
+
+  -- a value written there later moves nothing further
+  pub moved-written : (same : K → K → Bool) (c : Cached (K × V) S) (k : K) (p : K × V) (o q : HeldEntry G N K V S T d g h b w) (v : V) → IsMoved same c k p o → IsWritten o v q → Changes (RefreshesAs (number_in (key_hash b w h.hash_input c.contents) c.contents) same k p ((occupied_pair o).0, v)) c (d.kept q.guard)
+  unfolding bucket_count lists_of list_of
+  moved-written same c k p o q v m e = record {
+    lists = moved-last (number_in (key_hash b w h.hash_input c.contents) c.contents) same k p (occupied_pair o) ((occupied_pair o).0, v) (lists_of c.contents) (lists_of (d.kept o.guard).contents) (lists_of (d.kept q.guard).contents) _ _ m.changes.lists m.bucket o.within.bucket m.last e.changes.lists;
+    settings = e.changes.settings ∙ m.changes.settings;
+    refused = e.changes.refused ∙ m.changes.refused;
+    maximum = e.changes.maximum ∙ m.changes.maximum;
+  }
 
   -- the place is one in what the guard then keeps
   pub within-written : (o : HeldEntry G N K V S T d g h b w) (m : Cached (K × V) S) (v : V) → m ≡ d.kept o.guard → IsPlace (d.kept (d.keeping o.guard (with_value_at m o.place v))).contents o.place
@@ -149,3 +231,19 @@ module _ {G N K V S T : Type 0} {d : guard.Ghosts G (Cached (K × V) S)} {g : eq
   -- an entry that is made anew of its parts
   pub same-entry : (o : HeldEntry G N K V S T d g h b w) (p : IsPlace (d.kept o.guard).contents o.place) → record o { within = p } ≡ o
   same-entry o p = ap (λ r. record o { within = r }) (place-prop (d.kept o.guard).contents o.place p o.within)
+
+  -- so does the entry that is made of what was lent, once the pair was moved through the loan
+  pub refreshed-under : (same : K → K → Bool) (s : G) (m n : Cached (K × V) S) (k : K) (o : HeldEntry G N K V S T d g h b w) → m ≡ d.kept s → o.guard ≡ d.keeping s n → IsLastAt (key_hash b w h.hash_input m.contents) same m k n o.place → RelocatesOne (key_hash b w h.hash_input m.contents k) m.contents n.contents → IsRefreshed same (d.kept s) k o
+  refreshed-under same s m n k o is guarded at r =
+      let kept : d.kept o.guard ≡ n = ap d.kept guarded ∙ d.keeps s n in
+      let Last : Cached (K × V) S → Cached (K × V) S → Type 0 = λ c x. IsLastAt (key_hash b w h.hash_input c.contents) same c k x o.place in
+      let One : Cached (K × V) S → Cached (K × V) S → Type 0 = λ c x. RelocatesOne (key_hash b w h.hash_input c.contents k) c.contents x.contents in
+      refreshed_at same (d.kept s) k o (subst (λ c. Last c (d.kept o.guard)) is (subst (Last m) (sym kept) at)) (subst (λ c. One c (d.kept o.guard)) is (subst (One m) (sym kept) r))
+
+pub map-ok : {A B : Type 0} (P Q : A → Type 0) (r : Result A B) → ((a : A) → P a → Q a) → IfOk r P → IfOk r Q
+map-ok P Q (Ok a) f p = f a p
+map-ok P Q (Err e) f p = tt
+
+pub map-err : {A B : Type 0} (P Q : B → Type 0) (r : Result A B) → ((e : B) → P e → Q e) → IfErr r P → IfErr r Q
+map-err P Q (Ok a) f p = tt
+map-err P Q (Err e) f p = f e p

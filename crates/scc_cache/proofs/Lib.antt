@@ -1,7 +1,9 @@
 pub mod Caching
+pub mod EachPair
 pub mod Entries
 pub mod Relocations
 pub mod Removing
+pub mod Replies
 pub mod Walked
 pub mod Walking
 pub mod Writing

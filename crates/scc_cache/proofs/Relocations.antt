@@ -1,23 +1,21 @@
 -- Which buckets wait after a write, after a removal, and after a shrink that was tried.
 use Rattle.std.proofs.Common.{◌≡◌, ◌≢◌, ◌==◌, ℕ, ◌+◌, ◌<◌, ◌≤◌, inl, inr, Bool, Option, None, Some, false, not, [], length, refl, sym, ap, ◌∙◌, subst, arith}
 use Rattle.std.specs.Prelude.{OnSome, MatchOption}
-use Rattle.std.specs.List.{count_by, filter, position, slice_get}
-use Rattle.scc_table.specs.Bounded.{KeepsLists, MayNarrow, ShrinksBounded, stays_wide, denied_narrow, narrows}
-use Rattle.scc_table.specs.Contents.{Contents, Settings, entries, bucket_count, list_of, lists_of, minimum_of, pending_of, refused_of, settings_of, waiting_of}
-use Rattle.scc_table.specs.Pairs.{with_pair_key, with_pair_value}
+use Rattle.std.specs.List.{count_by, filter, position}
+use Rattle.scc_table.specs.Bounded.{MayNarrow, ShrinksBounded, stays_wide, denied_narrow, narrows}
+use Rattle.scc_table.specs.Contents.{Contents, Settings, entries, bucket_count, lists_of, pending_of, refused_of, settings_of, waiting_of}
 use Rattle.scc_table.specs.Routing.{bucket_number}
 use Rattle.scc_table.specs.Sizes.{IsLawful}
 use Rattle.scc_table.specs.Writes as writes
 use Rattle.scc_table.specs.declared.place.Place.{Place}
 use Rattle.scc_table.proofs.Bounds.{keeps-count, keeps-entries}
-use Rattle.scc_incremental.specs.Places.{IsPlace, spot_of}
 use Rattle.scc_incremental.specs.Relocates.{Spreads, left_after}
 use Rattle.scc_incremental.specs.TwoArrays.{pending_targets, waits_at}
 use Rattle.scc_incremental.proofs.Finishing.{pending-is}
 use Rattle.scc_incremental.proofs.Placing.{none-left}
-use Rattle.scc_incremental.proofs.Same.{pending-same}
+use Rattle.scc_incremental.proofs.Same.{count-same, pending-same}
 use Rattle.scc_incremental.proofs.Targets.{targets-length, targets-same, targets-without}
-use Rattle.scc_cache.specs.CacheSteps.{Changes, IsLacking, number_in}
+use Rattle.scc_cache.specs.CacheSteps.{Changes, IsLacking, IsLastAt, number_in}
 use Rattle.scc_cache.specs.Caches.{Cached}
 use Rattle.scc_cache.specs.Lends.{with_key_at, with_value_at}
 use Rattle.scc_cache.specs.ListSteps.{Refreshes}
@@ -73,6 +71,10 @@ module _ {E S : Type 0} (h : ℕ) where
       let i = bucket_number (settings_of c).skipped (bucket_count c) h in
       record { settled = ap (λ w. waits_at w i) same ∙ down; targets = targets-same c d same ∙ sym (targets-without i c down) }
 
+  -- a write after it leaves that as it is
+  pub written-one : (c d w : Contents E S) → RelocatesOne h c d → waiting_of w ≡ waiting_of d → RelocatesOne h c w
+  written-one c d w r same = record { settled = ap (λ x. waits_at x (bucket_number (settings_of c).skipped (bucket_count c) h)) same ∙ r.settled; targets = targets-same d w same ∙ r.targets }
+
   -- and in one that took its pairs over first
   pub relocated-one : (c b d : Contents E S) (i : ℕ) → i ≡ bucket_number (settings_of c).skipped (bucket_count c) h → pending_targets b ≡ filter (λ t. not (t == i)) (pending_targets c) → waits_at (waiting_of b) i ≡ false → waiting_of d ≡ waiting_of b → RelocatesOne h c d
   relocated-one c b d i at targets down same = record {
@@ -107,9 +109,6 @@ any-some (Some x) p = p
 
 -- what a get found in a bucket that took its pairs over first, seen from the cache before
 module _ {K V S : Type 0} (hash : Settings S → K → ℕ) (eq : K → K → Bool) (a b d : Cached (K × V) S) (k : K) (lists : lists_of b.contents ≡ lists_of a.contents) (settings : settings_of b.contents ≡ settings_of a.contents) (refused : refused_of b.contents ≡ refused_of a.contents) (maximum : b.maximum ≡ a.maximum) where
-  abbrev pub Refreshed : Cached (K × V) S → Place → Type 0
-  Refreshed c place = IsPlace d.contents place × ((p : K × V) × (slice_get (list_of d.contents (spot_of d.contents place).bucket) (spot_of d.contents place).slot ≡ Some p) × Changes (Refreshes (number_in (hash (settings_of c.contents)) c.contents) eq k p) c d)
-
   changes-from : (p : K × V) → Changes (Refreshes (number_in (hash (settings_of b.contents)) b.contents) eq k p) b d → Changes (Refreshes (number_in (hash (settings_of a.contents)) a.contents) eq k p) a d
   changes-from p c = record {
     lists =
@@ -120,7 +119,14 @@ module _ {K V S : Type 0} (hash : Settings S → K → ℕ) (eq : K → K → Bo
     maximum = c.maximum ∙ maximum;
   }
 
-  pub refreshed-from : (position (λ p. eq k p.0) (entries b.contents) ≡ None → ⊥) → (o : Option Place) → MatchOption o (IsLacking (hash (settings_of b.contents)) eq b.contents k × (d ≡ b)) (Refreshed b)
-      → MatchOption o (IsLacking (hash (settings_of a.contents)) eq a.contents k × (d ≡ a)) (Refreshed a)
+  pub refreshed-from : (position (λ p. eq k p.0) (entries b.contents) ≡ None → ⊥) → (o : Option Place) → MatchOption o (IsLacking (hash (settings_of b.contents)) eq b.contents k × (d ≡ b)) (IsLastAt (hash (settings_of b.contents)) eq b k d)
+      → MatchOption o (IsLacking (hash (settings_of a.contents)) eq a.contents k × (d ≡ a)) (IsLastAt (hash (settings_of a.contents)) eq a k d)
   refreshed-from there None h = absurd (there h.0.all)
-  refreshed-from there (Some place) h = (h.0, (h.1.0, h.1.1, changes-from h.1.0 h.1.2))
+  refreshed-from there (Some place) h = record {
+    within = h.within;
+    pair = h.pair;
+    here = h.here;
+    changes = changes-from h.pair h.changes;
+    bucket = h.bucket ∙ ap (λ s. bucket_number s.skipped (bucket_count b.contents) (hash s k)) settings ∙ ap (λ n. bucket_number (settings_of a.contents).skipped n (hash (settings_of a.contents) k)) (count-same a.contents b.contents lists);
+    last = h.last;
+  }

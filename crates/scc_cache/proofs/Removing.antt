@@ -14,7 +14,7 @@ use Rattle.scc_cache.specs.Caches.{Cached}
 use Rattle.scc_cache.specs.Lends.{with_value_at}
 use Rattle.scc_cache.proofs.Writing.{written-list}
 
-set-twice : {X : Type 0} (xs : List X) (i : ℕ) (x y : X) → slice_set (slice_set xs i x) i y ≡ slice_set xs i y
+pub set-twice : {X : Type 0} (xs : List X) (i : ℕ) (x y : X) → slice_set (slice_set xs i x) i y ≡ slice_set xs i y
 set-twice [] zero x y = refl
 set-twice [] (suc i) x y = refl
 set-twice (z ∷ xs) zero x y = refl

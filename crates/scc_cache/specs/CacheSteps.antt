@@ -1,5 +1,5 @@
 -- What each call does to a cache. Each relation goes by the reply.
-use Rattle.std.specs.Prelude.{◌≡◌, ℕ, Bool, List, [], Option, None, Some, Result, Ok, Err, map, remove, slice_get}
+use Rattle.std.specs.Prelude.{◌≡◌, ℕ, ◌+◌, Bool, List, [], length, Option, None, Some, Result, Ok, Err, map, remove, slice_get}
 use Rattle.std.specs.List.{position, slice_index_or, slice_set}
 use Rattle.std.specs.Borrow.{Bor}
 use Rattle.std.specs.Fn.{Once}
@@ -12,7 +12,7 @@ use Rattle.scc_incremental.specs.Places.{IsPlace, spot_of}
 use Rattle.scc_common.specs.declared.errors.InsertError.{InsertError}
 use Rattle.scc_common.specs.declared.errors.InsertError.TheVariants.{Exists, Memory}
 use Rattle.scc_cache.specs.Caches.{Cached}
-use Rattle.scc_cache.specs.ListSteps.{IsMissing, IsThere, PutsPair, TakesOut}
+use Rattle.scc_cache.specs.ListSteps.{IsMissing, IsThere, PutsPair, Refreshes, TakesOut}
 
 module _ {E S : Type 0} where
   -- the lists change as R says; settings, maximum and whether memory was refused stay
@@ -78,6 +78,15 @@ module _ {K V S : Type 0} (hash : K → ℕ) where
       pub pair : K × V
       pub there : IsPresentAt c k (spot_of c p).slot pair
       pub here : slice_get (list_of c (spot_of c p).bucket) (spot_of c p).slot ≡ Some pair
+
+    -- the pair of k went to the end of its list, and stands there at the place
+    pub record IsLastAt (c : Cached (K × V) S) (k : K) (d : Cached (K × V) S) (at : Place) : Type 0 where
+      pub within : IsPlace d.contents at
+      pub pair : K × V
+      pub here : slice_get (list_of d.contents (spot_of d.contents at).bucket) (spot_of d.contents at).slot ≡ Some pair
+      pub changes : Changes (Refreshes (number_in c.contents) eq k pair) c d
+      pub bucket : (spot_of d.contents at).bucket ≡ number_in c.contents (bucket_count c.contents) k
+      pub last : (spot_of d.contents at).slot + 1 ≡ length (list_of d.contents (spot_of d.contents at).bucket)
 
     -- the new pair p was put in after a growth, where that is due; x is what it drove out
     abbrev pub PutsNew : Cached (K × V) S → K × V → Option (K × V) → Cached (K × V) S → Type 0

@@ -1,7 +1,7 @@
 -- What the contracts of an entry cite. An entry holds its cache by a guard: a `&mut` in the owned form.
 pub use Rattle.scc_cache.specs.declared.hash_cache.held.HeldPlace.TheVariants.{Occupied, Vacant}
 pub use Rattle.scc_common.specs.declared.errors.InsertError.TheVariants.{Exists, Memory}
-use Rattle.std.specs.Prelude.{◌≡◌, Bool, [], Option, None, Result, ⊤}
+use Rattle.std.specs.Prelude.{◌≡◌, ◌+◌, Bool, [], length, Option, None, Result, ⊤}
 use Rattle.std.specs.Borrow.{Fml, RattleType, MutBor, Lends, RestsIfErr, RestsIfNone}
 use Rattle.std.specs.HashMap.Lent.{HashMembers}
 use Rattle.std.specs.Fn.{Once, FnOnceTakesAtMut, FnOnceReturnsAtMut}
@@ -11,16 +11,16 @@ use Rattle.std.specs.declared.hash.Hash as hash
 use Rattle.std.specs.declared.hash.Hasher as hasher
 use Rattle.std.specs.declared.hash.BuildHasher as builder
 use Rattle.std.proofs.Common.{sym, subst}
-use Rattle.scc_table.specs.Contents.{bucket_count, key_hash, waiting_of}
+use Rattle.scc_table.specs.Contents.{bucket_count, key_hash, list_of, waiting_of}
 use Rattle.scc_table.specs.Pairs.{with_pair_value}
 use Rattle.scc_incremental.specs.Placed.{entry_of, IsPlace-with_write_at}
 use Rattle.scc_incremental.specs.Places.{IsPlace, spot_of}
 use Rattle.scc_common.specs.declared.errors.InsertError.{InsertError}
 use Rattle.scc_common.specs.declared.guard.Guard as guard
-use Rattle.scc_cache.specs.CacheSteps.{Changes, IsAbsent, IsPresentAt, PutsNew, number_in}
+use Rattle.scc_cache.specs.CacheSteps.{Changes, IsAbsent, PutsNew, number_in}
 use Rattle.scc_cache.specs.Caches.{Cached}
 use Rattle.scc_cache.specs.Lends.{cache_row, with_value_at}
-use Rattle.scc_cache.specs.ListSteps.{Refreshes, Rewrites}
+use Rattle.scc_cache.specs.ListSteps.{RefreshesAs}
 use Rattle.scc_cache.specs.Relocations.{RelocatesOne, RelocatesTwo}
 use Rattle.scc_cache.specs.contracts.hash_cache.held.HeldEntry.{the_row}
 use Rattle.scc_cache.specs.declared.hash_cache.held.HeldEntry.{HeldEntry}
@@ -43,11 +43,16 @@ module _ {G N K V S T : Type 0} {d : guard.Ghosts G (Cached (K × V) S)} {g : eq
   entry_guard (Occupied o) = o.guard
   entry_guard (Vacant e) = e.guard
 
-  -- the cache stays, and o stands at the pair of k
-  pub record IsOccupiedAt (same : K → K → Bool) (c : Cached (K × V) S) (k : K) (o : HeldEntry G N K V S T d g h b w) : Type 0 where
-    pub contents : d.kept o.guard ≡ c
+  -- p, the pair of k, was taken out of its list, and the pair of o stands last in it, where o is
+  pub record IsMoved (same : K → K → Bool) (c : Cached (K × V) S) (k : K) (p : K × V) (o : HeldEntry G N K V S T d g h b w) : Type 0 where
+    pub changes : Changes (RefreshesAs (number_in (key_hash b w h.hash_input c.contents) c.contents) same k p (occupied_pair o)) c (d.kept o.guard)
+    pub relocates : RelocatesOne (key_hash b w h.hash_input c.contents k) c.contents (d.kept o.guard).contents
     pub bucket : (spot_of (d.kept o.guard).contents o.place).bucket ≡ number_in (key_hash b w h.hash_input c.contents) c.contents (bucket_count c.contents) k
-    pub there : IsPresentAt (key_hash b w h.hash_input c.contents) same c.contents k (spot_of (d.kept o.guard).contents o.place).slot (occupied_pair o)
+    pub last : (spot_of (d.kept o.guard).contents o.place).slot + 1 ≡ length (list_of (d.kept o.guard).contents (spot_of (d.kept o.guard).contents o.place).bucket)
+
+  -- the pair of k went to the end of its list, and o stands there
+  abbrev pub IsRefreshed : (K → K → Bool) → Cached (K × V) S → K → HeldEntry G N K V S T d g h b w → Type 0
+  IsRefreshed same c k o = IsMoved same c k (occupied_pair o) o
 
   -- the cache stays, and e has the key k, which the cache lacks
   pub record IsVacantAt (same : K → K → Bool) (c : Cached (K × V) S) (k : K) (e : HeldVacant G N K V S T d g h b w) : Type 0 where
@@ -56,13 +61,8 @@ module _ {G N K V S T : Type 0} {d : guard.Ghosts G (Cached (K × V) S)} {g : eq
     pub key : e.key ≡ k
 
   abbrev pub IsEntryOf : (K → K → Bool) → Cached (K × V) S → K → HeldPlace G N K V S T d g h b w → Type 0
-  IsEntryOf same c k (Occupied o) = IsOccupiedAt same c k o
+  IsEntryOf same c k (Occupied o) = IsRefreshed same c k o
   IsEntryOf same c k (Vacant e) = IsVacantAt same c k e
-
-  -- the pair of k went to the end of its list, and o stands there
-  pub record IsRefreshed (same : K → K → Bool) (c : Cached (K × V) S) (k : K) (o : HeldEntry G N K V S T d g h b w) : Type 0 where
-    pub changes : Changes (Refreshes (number_in (key_hash b w h.hash_input c.contents) c.contents) same k (occupied_pair o)) c (d.kept o.guard)
-    pub relocates : RelocatesOne (key_hash b w h.hash_input c.contents k) c.contents (d.kept o.guard).contents
 
   -- p is the entry o, once v is its value: its pair stays where it stood, and so do all others
   pub record IsWritten (o : HeldEntry G N K V S T d g h b w) (v : V) (p : HeldEntry G N K V S T d g h b w) : Type 0 where
@@ -137,9 +137,15 @@ module _ {G N K V S T : Type 0} {d : guard.Ghosts G (Cached (K × V) S)} {g : eq
   replaced_guard (Replaced o k) = o.guard
   replaced_guard (NotReplaced e) = e.guard
 
-  -- k is put in the place of the key that equals it, at which o stands. Where there is none nothing changes
+  -- the pair of k, whose key was old, went to the end of its list with k in the place of that key, and o stands there
+  pub record IsReplacedBy (same : K → K → Bool) (c : Cached (K × V) S) (k old : K) (o : HeldEntry G N K V S T d g h b w) : Type 0 where
+    pub value : V
+    pub pair : occupied_pair o ≡ (k, value)
+    pub moved : IsMoved same c k (old, value) o
+
+  -- the key that equals k was replaced. Where there is none nothing changes
   abbrev pub Replaces : (K → K → Bool) → Cached (K × V) S → K → HeldReplace G N K V S T d g h b w → Type 0
-  Replaces same c k (Replaced o old) = (v : V) × (occupied_pair o ≡ (k, v)) × Changes (Rewrites (number_in (key_hash b w h.hash_input c.contents) c.contents) same k (old, v) (k, v)) c (d.kept o.guard)
+  Replaces same c k (Replaced o old) = IsReplacedBy same c k old o
   Replaces same c k (NotReplaced e) = IsVacantAt same c k e
 
   module _ {F : Type 0} (f : Once F (MutBor V × Unit {0}) (Unit {0} × (MutBor V × Unit {0}))) (x : F) where

@@ -26,9 +26,13 @@ module _ {K V : Type 0} (number : ℕ → K → ℕ) where
     PutsPair p None ls ms = IsMissing ls p.0 × (0 < length ls) × (length (list_for ls p.0) < 32) × (ms ≡ with_list ls p.0 (list_for ls p.0 ++ p ∷ []))
     PutsPair p (Some x) ls ms = IsMissing ls p.0 × (32 ≤ length (list_for ls p.0)) × ((rest : List (K × V)) × (list_for ls p.0 ≡ x ∷ rest) × (ms ≡ with_list ls p.0 (rest ++ p ∷ [])))
 
+    -- p, the pair of k, is taken out of its list, and q stands last in it
+    abbrev pub RefreshesAs : K → K × V → K × V → List (List (K × V)) → List (List (K × V)) → Type 0
+    RefreshesAs k p q ls ms = (i : ℕ) × IsThere ls k i p × (ms ≡ with_list ls k (remove (list_for ls k) i ++ q ∷ []))
+
     -- p, the pair of k, goes to the end of its list
     abbrev pub Refreshes : K → K × V → List (List (K × V)) → List (List (K × V)) → Type 0
-    Refreshes k p ls ms = (i : ℕ) × IsThere ls k i p × (ms ≡ with_list ls k (remove (list_for ls k) i ++ p ∷ []))
+    Refreshes k p = RefreshesAs k p p
 
     -- q stands where p, the pair of k, stood
     abbrev pub Rewrites : K → K × V → K × V → List (List (K × V)) → List (List (K × V)) → Type 0

@@ -1,5 +1,6 @@
 //! The cache: a map that keeps at most 32 pairs in a bucket, and drops the pair that was used least recently.
 pub mod held;
+pub mod locked;
 pub mod owned;
 
 pub use owned::Owned;

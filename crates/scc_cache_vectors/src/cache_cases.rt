@@ -33,7 +33,7 @@ fn put<R: AllocGlobal + Abort>(
 }
 
 #[test]
-fn cache_get_refreshes_put_entry_does_not(rt: HostRuntime) -> Result<(), Fail> {
+fn cache_get_refreshes(rt: HostRuntime) -> Result<(), Fail> {
     let mut cache = full(&rt, 64)?;
     match cache.get_sync(&0) {
         Some(entry) => assert_eq!(rt; (*entry.key(), *entry.get()), (0, 0)),
@@ -41,11 +41,39 @@ fn cache_get_refreshes_put_entry_does_not(rt: HostRuntime) -> Result<(), Fail> {
     }
     assert_eq!(rt; put(&rt, &mut cache, 32), Some((1, 1)));
     assert!(rt; cache.contains_sync(&0));
+    Ok(())
+}
 
+#[test]
+fn cache_put_entry_refreshes(rt: HostRuntime) -> Result<(), Fail> {
     let mut cache = full(&rt, 64)?;
     let (evicted, _) = cache.entry_sync(0).put_entry(7)?;
     assert!(rt; evicted.is_none());
-    assert_eq!(rt; put(&rt, &mut cache, 32), Some((0, 7)));
+    assert_eq!(rt; put(&rt, &mut cache, 32), Some((1, 1)));
+    assert_eq!(rt; cache.read_sync(&0, |_, value| *value), Some(7));
+    Ok(())
+}
+
+#[test]
+fn cache_which_calls_refresh(rt: HostRuntime) -> Result<(), Fail> {
+    let mut cache = full(&rt, 64)?;
+    match cache.replace_sync(0) {
+        ReplaceResult::Replaced(_, old) => assert_eq!(rt; old, 0),
+        ReplaceResult::NotReplaced(_) => assert!(rt; false),
+    }
+    assert_eq!(rt; put(&rt, &mut cache, 32), Some((1, 1)));
+
+    let mut cache = full(&rt, 64)?;
+    assert_eq!(rt; *cache.entry_sync(0).key(), 0);
+    assert_eq!(rt; put(&rt, &mut cache, 32), Some((1, 1)));
+
+    let mut cache = full(&rt, 64)?;
+    assert_eq!(rt; cache.read_sync(&0, |_, value| *value), Some(0));
+    assert_eq!(rt; put(&rt, &mut cache, 32), Some((0, 0)));
+
+    let mut cache = full(&rt, 64)?;
+    assert!(rt; cache.contains_sync(&0));
+    assert_eq!(rt; put(&rt, &mut cache, 32), Some((0, 0)));
     Ok(())
 }
 
@@ -104,8 +132,7 @@ fn cache_which_calls_leave_the_order(rt: HostRuntime) -> Result<(), Fail> {
         Err(InsertError::Exists(pair)) => assert_eq!(rt; pair, (0, 9)),
         _ => assert!(rt; false),
     }
-    drop(cache.entry_sync(0));
-    drop(cache.replace_sync(0));
+    assert!(rt; cache.remove_if_sync(&0, |_| false).is_none());
     assert_eq!(rt; put(&rt, &mut cache, 32), Some((0, 0)));
     Ok(())
 }

@@ -240,6 +240,7 @@ fn touch<H: BuildHasher>(
         Entry::Vacant(_) => None,
     };
     lists.write(hasher, key, value);
+    lists.refresh(hasher, key)?;
     Ok(old == there.map(|found| found.1))
 }
 

@@ -28,6 +28,7 @@ mod updating;
 mod walking;
 mod writing;
 
+pub use reserving::Reservation;
 use scc_array::Array;
 use scc_table::{Keyed, Table};
 use std::hash::{BuildHasher, Hash};

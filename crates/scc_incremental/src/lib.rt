@@ -3,4 +3,4 @@
 
 pub mod incremental;
 
-pub use incremental::Incremental;
+pub use incremental::{Incremental, Reservation};

@@ -25,6 +25,7 @@ use Rattle.scc_incremental.proofs.AtPlaces.{entry_of-get}
 use Rattle.scc_table.proofs.PairWrites.{IsPlaceOf}
 use Rattle.scc_table.proofs.Lookups.{along, apart-none, get-read, place-of_find, find-IsPermutation, find-without, distinct-IsPermutation, distinct-remove_entry, finds-added}
 pub use Rattle.scc_table.proofs.PairSplits.{by_answer, cond-true, cond-false}
+pub use Rattle.scc_walks.proofs.Replies.{find-key}
 use Rattle.scc_table.proofs.PairSplits.{found-place, without-at, distinct-without, place-below}
 use Rattle.std.proofs.lemmas.List.Sorted.{IsPermutation-refl, IsPermutation-sym, IsPermutation-cons, IsPermutation-trans, IsPermutation-remove}
 use Rattle.std.proofs.lemmas.Map.Keys.{IsDistinct-head, IsDistinct-tail}
@@ -186,10 +187,6 @@ module _ {G N K V S T : Type 0} {keep : guard.Ghosts G (Contents (K × V) S)} {g
         (through.at.here ∙ ap (λ z. (z, v)) at.key, finds-or_insert (Vacant e) v o at through u)
     finds-modify_or_insert (Occupied p) (Vacant d) v o at is ins u = absurd is
     finds-modify_or_insert (Vacant e) (Occupied d) v o at is ins u = absurd is
-
--- the pair that a look-up finds has an equal key
-pub find-key : {K V : Type 0} (eq : K → K → Bool) (es : List (K × V)) (k : K) (p : K × V) → find eq es k ≡ Some p → eq k p.0 ≡ true
-find-key eq es k p f = (place-of_find (eq k) es p f).2
 
 -- look-ups find the same in a rearrangement
 pub find-rearranged : {K V : Type 0} {eq : K → K → Bool} (laws : IsEquivalence eq) (xs ys : List (K × V)) (q : K) → IsPermutation xs ys → IsDistinct eq (keys_of xs) → find eq ys q ≡ find eq xs q

@@ -1,5 +1,6 @@
 -- What an entry shows, under any guard.
-use Rattle.std.proofs.Common.{◌≡◌, List, Bool, Some, refl, sym, ap, subst, ◌∙◌}
+use Rattle.std.proofs.Common.{◌≡◌, List, Bool, Some, Result, Ok, Err, refl, sym, ap, subst, ◌∙◌}
+use Rattle.std.specs.Prelude.{IfOk, IfErr}
 use Rattle.std.specs.Cmp.{IsEquivalence}
 use Rattle.std.specs.List.{IsDistinct, slice_get}
 use Rattle.std.specs.Map.{keys_of}
@@ -96,3 +97,15 @@ module _ {G N K V S T : Type 0} {d : guard.Ghosts G (Contents (K × V) S)} {g : 
   -- an entry that is made anew of its parts
   pub same-entry : (o : HeldEntry G N K V S T d g h b w) (p : IsPlace (d.kept o.guard) o.place) → record o { within = p } ≡ o
   same-entry o p = ap (λ r. record o { within = r }) (place-prop (d.kept o.guard) o.place p o.within)
+
+pub both-ok : {A B : Type 0} (P Q : A → Type 0) (r : Result A B) → IfOk r P → IfOk r Q → IfOk r (λ a. P a × Q a)
+both-ok P Q (Ok a) p q = (p, q)
+both-ok P Q (Err e) p q = tt
+
+pub map-ok : {A B : Type 0} (P Q : A → Type 0) (r : Result A B) → ((a : A) → P a → Q a) → IfOk r P → IfOk r Q
+map-ok P Q (Ok a) f p = f a p
+map-ok P Q (Err e) f p = tt
+
+pub map-err : {A B : Type 0} (P Q : B → Type 0) (r : Result A B) → ((e : B) → P e → Q e) → IfErr r P → IfErr r Q
+map-err P Q (Ok a) f p = tt
+map-err P Q (Err e) f p = f e p

@@ -1,12 +1,14 @@
 -- Entries that stand one after another, under any guard.
-use Rattle.std.proofs.Common.{◌≡◌, ℕ, suc, List, refl, ap}
+use Rattle.std.proofs.Common.{◌≡◌, ◌∙◌, ℕ, suc, List, [], ◌∷◌, refl, ap}
 use Rattle.std.specs.List.{remove}
 use Rattle.std.specs.declared.cmp.PartialEq as eq
 use Rattle.std.specs.declared.hash.Hash as hash
 use Rattle.std.specs.declared.hash.Hasher as hasher
 use Rattle.std.specs.declared.hash.BuildHasher as builder
 use Rattle.scc_table.specs.Contents.{Contents, entries, refused_of}
-use Rattle.scc_incremental.specs.Places.{index_of}
+use Rattle.scc_incremental.specs.Placed.{entry_of, back_of}
+use Rattle.scc_incremental.specs.Places.{IsPlace, index_of}
+use Rattle.scc_table.specs.declared.place.Place.{Place}
 use Rattle.scc_table.specs.Steps.{HoldsExactly}
 use Rattle.scc_common.specs.declared.guard.Guard as guard
 use Rattle.scc_incremental.proofs.AtPlaces.{splits-there, next-there, past-there}
@@ -26,3 +28,11 @@ module _ {G N K V S T : Type 0} {d : guard.Ghosts G (Contents (K × V) S)} {g : 
   pub next-past : (o p : HeldEntry G N K V S T d g h b w) → p.guard ≡ d.keeping o.guard (d.kept p.guard) → HoldsExactly (d.kept o.guard) (remove (entries (d.kept o.guard)) (index_of (d.kept o.guard) o.place)) (d.kept p.guard)
       → refused_of (d.kept p.guard) ≡ refused_of (d.kept o.guard) → index_of (d.kept p.guard) p.place ≡ index_of (d.kept o.guard) o.place → IsNextPastRemoved o p
   next-past o p same others noted index = record { same_guard = same; at = past-there (d.kept o.guard) o.place (d.kept p.guard) p.place p.within others noted index }
+
+module _ {K V S P : Type 0} (c : Contents (K × V) S) (p q : Place) where
+  -- where one stands next, the pairs after an entry aren't none
+  pub none-after : (h : IsPlace c p) (j : IsPlace c q) → index_of c q ≡ suc (index_of c p) → back_of c p ≡ [] → P
+  none-after h j index none = absurd (let e : entry_of c q j ∷ back_of c q ≡ [] = (next-there c p h c q j refl index).back ∙ none in cc)
+
+  pub none-past : (d : Contents (K × V) S) (j : IsPlace d q) → HoldsExactly c (remove (entries c) (index_of c p)) d → refused_of d ≡ refused_of c → index_of d q ≡ index_of c p → back_of c p ≡ [] → P
+  none-past d j others noted index none = absurd (let e : entry_of d q j ∷ back_of d q ≡ [] = (past-there c p d q j others noted index).back ∙ none in cc)

@@ -4,5 +4,6 @@ pub mod CallerLemmas
 pub mod Entries
 pub mod EntrySteps
 pub mod Filtering
+pub mod Replies
 pub mod Updating
 pub mod Visiting

@@ -13,6 +13,7 @@ pub use Rattle.scc_table.specs.Walks
 pub use Rattle.scc_walks.specs.Closures
 pub use Rattle.scc_walks.specs.Equality
 pub use Rattle.scc_walks.specs.PairWalks
+pub use Rattle.scc_walks.specs.Replies
 pub mod ClosureSteps
 pub mod Entries
 pub mod Collections

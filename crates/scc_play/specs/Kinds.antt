@@ -12,7 +12,7 @@ use Rattle.scc_recorded.specs.IndexWhole.{IndexWholeMoves}
 use Rattle.scc_recorded.specs.MapCalls.{map_key, MapMoves}
 use Rattle.scc_recorded.specs.MapWhole.{joined, MapWholeMoves}
 use Rattle.scc_recorded.specs.Parted.{PartMoves, PartResizes}
-use Rattle.scc_recorded.specs.Parts.{part_number}
+use Rattle.scc_table.specs.Routing.{stripe_number}
 use Rattle.scc_recorded.specs.SetCalls.{key_of_set, SetMoves}
 use Rattle.scc_recorded.specs.SetWhole.{SetWholeMoves}
 use Rattle.scc_recorded.specs.States.{State, state_of, ResizesTo}
@@ -43,7 +43,7 @@ script_request stripes = request_of 0 256 (record {}) stripes
 module _ (hash : ℕ → ℕ) where
   -- the stripe of a key
   abbrev pub route_by : ℕ → ℕ → ℕ
-  route_by stripes k = part_number stripes (hash k)
+  route_by stripes k = stripe_number stripes (hash k)
 
   abbrev pub map_machine : Machine (Contents (ℕ × ℕ) Same) Same (State (ℕ × ℕ)) (List (ℕ × ℕ)) (MapCall ℕ ℕ) (Reply ℕ ℕ) ℕ (ℕ × ℕ)
   map_machine = record {

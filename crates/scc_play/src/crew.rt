@@ -2,7 +2,7 @@
 
 use scc_print::printed::Printed;
 use scc_recorder::recorder::{Pass, Recorded, Site};
-use scc_stripes::stripes::Work;
+use scc_workers::stripes::Work;
 use std::alloc::{AllocError, Global};
 use std::sync::Wait;
 use std::sync::ledger::Ledger;

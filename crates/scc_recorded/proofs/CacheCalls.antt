@@ -10,7 +10,7 @@ use Rattle.scc_table.specs.Sizes.{IsArray}
 use Rattle.scc_cache.specs.CacheSteps.{AnswersOn, GrowsFor, IsAbsent, IsPresent, IsPresentAt, ShrinksTo, Puts, Removes, TakesThen, Clears, number_in}
 use Rattle.scc_cache.specs.Caches.{Cached, IsCacheState}
 use Rattle.scc_cache.specs.CacheSteps as steps
-use Rattle.scc_cache.specs.ListSteps.{IsThere, PutsPair, Refreshes, TakesOut}
+use Rattle.scc_cache.specs.ListSteps.{IsThere, PutsPair, Refreshes, RefreshesAs, TakesOut}
 use Rattle.scc_table.specs.declared.place.Place.{Place}
 use Rattle.std.specs.Prelude.{IsTrue, MatchOption}
 use Rattle.std.specs.Borrow.{Bor}
@@ -19,10 +19,10 @@ use Rattle.scc_cache.proofs.Caching.{shrunk-within}
 use Rattle.scc_recorded.specs.CacheCalls.{cache_setting, CacheMayRefuse, CacheMoves, CacheResizes}
 use Rattle.scc_recorded.specs.Changes.{Changes, Stays}
 use Rattle.scc_recorded.specs.declared.recorded.calls_as_values.CacheCall.{CacheCall}
-use Rattle.scc_recorded.specs.declared.recorded.calls_as_values.CacheCall.TheVariants.{Put, Get, Write, Remove, Read, Contains, Clear, Len}
+use Rattle.scc_recorded.specs.declared.recorded.calls_as_values.CacheCall.TheVariants.{Put, Get, Write, Replace, Remove, Read, Contains, Clear, Len}
 use Rattle.scc_recorded.specs.declared.recorded.fixed.Setting.{Setting}
 use Rattle.scc_recorded.specs.declared.recorded.replies.Reply.{Reply}
-use Rattle.scc_recorded.specs.declared.recorded.replies.Reply.TheVariants.{Evicted, Exists, Old, Pair, Value, Has, Cleared, Count}
+use Rattle.scc_recorded.specs.declared.recorded.replies.Reply.TheVariants.{Evicted, Exists, Old, Key, Pair, Value, Has, Cleared, Count}
 use Rattle.scc_common.specs.declared.errors.InsertError.TheVariants.{Memory}
 use Rattle.scc_common.specs.declared.errors.InsertError.TheVariants as error
 
@@ -186,10 +186,16 @@ module _ {K V H : Type 0} (hash : K → ℕ) where
         let r = h.lists in
         inl (ap length r.2 ∙ length-set (lists_of c.contents) _ _, (p.0, subst (λ x. Refreshes (number_in hash c.contents) eq k (p.0, x) (lists_of c.contents) (lists_of d.contents)) (sym is) r))
 
-    -- a write at the place of a key
-    pub write-changes : (c m : Cached (K × V) H) (p : Place) (k l : K) (w v : V) → p.bucket ≡ number_in hash c.contents (bucket_count c.contents) k → IsPresentAt hash eq c.contents k p.slot (l, w)
-        → lists_of m.contents ≡ slice_set (lists_of c.contents) p.bucket (slice_set (slice_index_or (lists_of c.contents) p.bucket []) p.slot (l, v))
-        → Changes length (CacheMoves eq (number_in hash c.contents)) (CacheResizes (cache_setting c) (number_in hash c.contents)) (lists_of c.contents) (Write k v) (Old (Some w)) (lists_of m.contents)
-    unfolding bucket_count lists_of
-    write-changes c m p k l w v e there made =
-        inl (ap length made ∙ length-set (lists_of c.contents) p.bucket _, (l, (p.slot, there, made ∙ ap (λ j. slice_set c.contents.lists j (slice_set (slice_index_or c.contents.lists j []) p.slot (l, v))) e)))
+    -- a write of a value
+    pub write-changes : (c d : Cached (K × V) H) (k : K) (p : K × V) (w v : V) → w ≡ p.1 → steps.Changes (RefreshesAs (number_in hash c.contents) eq k p (p.0, v)) c d
+        → Changes length (CacheMoves eq (number_in hash c.contents)) (CacheResizes (cache_setting c) (number_in hash c.contents)) (lists_of c.contents) (Write k v) (Old (Some w)) (lists_of d.contents)
+    write-changes c d k p w v is h =
+        let r = h.lists in
+        inl (ap length r.2 ∙ length-set (lists_of c.contents) _ _, (p.0, subst (λ x. RefreshesAs (number_in hash c.contents) eq k (p.0, x) (p.0, v) (lists_of c.contents) (lists_of d.contents)) (sym is) r))
+
+    -- a replacement of a key
+    pub replace-changes : (c d : Cached (K × V) H) (k l : K) (v : V) (q : K × V) → q ≡ (k, v) → steps.Changes (RefreshesAs (number_in hash c.contents) eq k (l, v) q) c d
+        → Changes length (CacheMoves eq (number_in hash c.contents)) (CacheResizes (cache_setting c) (number_in hash c.contents)) (lists_of c.contents) (Replace k) (Key (Some l)) (lists_of d.contents)
+    replace-changes c d k l v q is h =
+        let r = h.lists in
+        inl (ap length r.2 ∙ length-set (lists_of c.contents) _ _, (v, subst (λ x. RefreshesAs (number_in hash c.contents) eq k (l, v) x (lists_of c.contents) (lists_of d.contents)) is r))

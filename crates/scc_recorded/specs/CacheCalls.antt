@@ -6,7 +6,7 @@ use Rattle.scc_table.specs.Contents.{settings_of}
 use Rattle.scc_table.specs.Routing.{bucket_number}
 use Rattle.scc_table.specs.Sizes.{IsArray}
 use Rattle.scc_cache.specs.Caches.{Cached}
-use Rattle.scc_cache.specs.ListSteps.{IsMissing, IsThere, PutsPair, Refreshes, Rewrites, TakesOut}
+use Rattle.scc_cache.specs.ListSteps.{IsMissing, IsThere, PutsPair, Refreshes, RefreshesAs, TakesOut}
 use Rattle.scc_recorded.specs.declared.recorded.fixed.Setting.{Setting}
 use Rattle.scc_recorded.specs.declared.recorded.calls_as_values.CacheCall.{CacheCall}
 use Rattle.scc_recorded.specs.declared.recorded.calls_as_values.CacheCall.TheVariants.{Put, Get, Write, Replace, Remove, Read, Contains, Clear, Len}
@@ -55,9 +55,9 @@ module _ {K V : Type 0} where
     CacheMoves s (Get k) (Value None) t = IsMissing number eq s k × (t ≡ s)
     CacheMoves s (Get k) (Value (Some v)) t = (l : K) × Refreshes number eq k (l, v) s t
     CacheMoves s (Write k v) (Old None) t = IsMissing number eq s k × (t ≡ s)
-    CacheMoves s (Write k v) (Old (Some w)) t = (l : K) × Rewrites number eq k (l, w) (l, v) s t
+    CacheMoves s (Write k v) (Old (Some w)) t = (l : K) × RefreshesAs number eq k (l, w) (l, v) s t
     CacheMoves s (Replace k) (Key None) t = IsMissing number eq s k × (t ≡ s)
-    CacheMoves s (Replace k) (Key (Some l)) t = (v : V) × Rewrites number eq k (l, v) (k, v) s t
+    CacheMoves s (Replace k) (Key (Some l)) t = (v : V) × RefreshesAs number eq k (l, v) (k, v) s t
     CacheMoves s (Remove k) (Pair None) t = IsMissing number eq s k × (t ≡ s)
     CacheMoves s (Remove k) (Pair (Some p)) t = TakesOut number eq k p s t
     CacheMoves s (Read k) (Value None) t = IsMissing number eq s k × (t ≡ s)

@@ -4,7 +4,7 @@ use Rattle.std.specs.Prelude.{◌==◌, replicate, remove}
 use Rattle.std.specs.List.{AllByRecursion, filter, flat_map, slice_get, slice_index_or, slice_set}
 use Rattle.std.specs.Map.{keys_of}
 use Rattle.scc_table.specs.Sizes.{IsArraySize}
-use Rattle.scc_cache.specs.ListSteps.{list_for, IsThere, PutsPair, Refreshes, Rewrites, TakesOut}
+use Rattle.scc_cache.specs.ListSteps.{list_for, IsThere, PutsPair, RefreshesAs, TakesOut}
 use Rattle.scc_recorded.specs.CacheCalls.{cache_key, keys_in, CacheMoves, CacheResizes}
 use Rattle.scc_recorded.specs.Parts.{Routed, KeyRouted}
 use Rattle.scc_recorded.specs.declared.recorded.fixed.Setting.{Setting}
@@ -114,16 +114,12 @@ module _ {K V : Type 0} (P : K → Type 0) where
         let rest = subst All m.2.1 (each-at s (number (length s) p.0) a) in
         subst Each (sym m.2.2) (each-set s (number (length s) p.0) _ (both m.2.0 (p ∷ []) rest.1 (h, tt)) a)
 
-    refreshes-each : (k : K) (p : K × V) → Refreshes number eq k p s t → Each t
-    refreshes-each k p m =
-        let l = each-at s (number (length s) k) a in
-        subst Each (sym m.2) (each-set s (number (length s) k) _ (both (remove (list_for number s k) m.0) (p ∷ []) (all-remove (list_for number s k) m.0 l) (all-get (list_for number s k) m.0 p m.1.pair l, tt)) a)
+    moves-last : (k : K) (p q : K × V) → P q.0 → RefreshesAs number eq k p q s t → Each t
+    moves-last k p q h m = subst Each (sym m.2) (each-set s (number (length s) k) _ (both (remove (list_for number s k) m.0) (q ∷ []) (all-remove (list_for number s k) m.0 (each-at s (number (length s) k) a)) (h, tt)) a)
 
-    rewrites-each : (k : K) (p q : K × V) → P q.0 → Rewrites number eq k p q s t → Each t
-    rewrites-each k p q h m = subst Each (sym m.2) (each-set s (number (length s) k) _ (all-set (list_for number s k) m.0 q h (each-at s (number (length s) k) a)) a)
-
-    rewrites-same : (k l : K) (w v : V) → Rewrites number eq k (l, w) (l, v) s t → Each t
-    rewrites-same k l w v m = rewrites-each k (l, w) (l, v) (all-get (list_for number s k) m.0 (l, w) m.1.pair (each-at s (number (length s) k) a)) m
+    -- where the key stays
+    refreshes-each : (k l : K) (w v : V) → RefreshesAs number eq k (l, w) (l, v) s t → Each t
+    refreshes-each k l w v m = moves-last k (l, w) (l, v) (all-get (list_for number s k) m.0 (l, w) m.1.pair (each-at s (number (length s) k) a)) m
 
     takes-each : (k : K) (p : K × V) → TakesOut number eq k p s t → Each t
     takes-each k p m = subst Each (sym m.2) (each-set s (number (length s) k) _ (all-remove (list_for number s k) m.0 (each-at s (number (length s) k) a)) a)
@@ -133,11 +129,11 @@ module _ {K V : Type 0} (eq : K → K → Bool) (number : ℕ → K → ℕ) (ro
   moves-each s t (Put k v) (Evicted x) a h m = puts-each (λ k. route k ≡ i) eq number s t a (k, v) x h m
   moves-each s t (Put k v) (Exists l w) a h m = subst (Each (λ k. route k ≡ i)) (sym m.3) a
   moves-each s t (Get k) (Value None) a h m = subst (Each (λ k. route k ≡ i)) (sym m.1) a
-  moves-each s t (Get k) (Value (Some v)) a h m = refreshes-each (λ k. route k ≡ i) eq number s t a k (m.0, v) m.1
+  moves-each s t (Get k) (Value (Some v)) a h m = refreshes-each (λ k. route k ≡ i) eq number s t a k m.0 v v m.1
   moves-each s t (Write k v) (Old None) a h m = subst (Each (λ k. route k ≡ i)) (sym m.1) a
-  moves-each s t (Write k v) (Old (Some w)) a h m = rewrites-same (λ k. route k ≡ i) eq number s t a k m.0 w v m.1
+  moves-each s t (Write k v) (Old (Some w)) a h m = refreshes-each (λ k. route k ≡ i) eq number s t a k m.0 w v m.1
   moves-each s t (Replace k) (Key None) a h m = subst (Each (λ k. route k ≡ i)) (sym m.1) a
-  moves-each s t (Replace k) (Key (Some l)) a h m = rewrites-each (λ k. route k ≡ i) eq number s t a k (l, m.0) (k, m.0) h m.1
+  moves-each s t (Replace k) (Key (Some l)) a h m = moves-last (λ k. route k ≡ i) eq number s t a k (l, m.0) (k, m.0) h m.1
   moves-each s t (Remove k) (Pair None) a h m = subst (Each (λ k. route k ≡ i)) (sym m.1) a
   moves-each s t (Remove k) (Pair (Some p)) a h m = takes-each (λ k. route k ≡ i) eq number s t a k p m
   moves-each s t (Read k) (Value None) a h m = subst (Each (λ k. route k ≡ i)) (sym m.1) a

@@ -2,4 +2,4 @@
 
 pub mod owned;
 
-pub use owned::{OccupiedEntry, Owned, Removed};
+pub use owned::Owned;

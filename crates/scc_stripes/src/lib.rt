@@ -1,4 +1,9 @@
-//! Workers on threads of their own, who make turns and pass a gate before each.
+//! What the four containers that threads share have in common: stripes behind locks, the number of a key's stripe, and the book of what is reserved.
 #![tactic(auto)]
 
-pub mod stripes;
+pub mod book;
+pub mod shares;
+pub mod striped;
+
+pub use book::{Added, ReserveBook};
+pub use striped::{Follow, Part, Seat, Striped};

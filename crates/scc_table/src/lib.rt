@@ -11,7 +11,7 @@ pub mod walks;
 pub use place::Place;
 pub use scc_bucket::{Keyed, Made, Valued, keyed, made, tags, valued};
 pub use scc_common::{
-    Guard, InsertError, KeyError, MakeError, Reservation, Share, Shared, SharedVersion, Verdict,
-    Version, WalkError, errors, guard, reservation, shared, verdict, version,
+    Guard, InsertError, KeyError, MakeError, Share, Shared, SharedVersion, Verdict, Version,
+    WalkError, errors, guard, shared, verdict, version,
 };
 pub use table::Table;

@@ -1,7 +1,7 @@
 // Workers that share one recorded container, and the run of one thread that their records stand beside.
 use scc_recorded::recorded::{Step, WholeCalls, run};
 use scc_recorder::recorder::{Finished, Pass, Recorded, Site};
-use scc_stripes::stripes::Work;
+use scc_workers::stripes::Work;
 use std::alloc::{AllocError, Global};
 use std::sync::Wait;
 use std::sync::ledger::Ledger;

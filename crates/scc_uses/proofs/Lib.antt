@@ -1,5 +1,4 @@
 pub mod AuditLemmas
-pub mod CachedValues
 pub mod Counting
 pub mod Ends
 pub mod IndexIndependence

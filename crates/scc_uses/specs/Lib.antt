@@ -1,6 +1,5 @@
 pub mod Counts
 pub mod Memo
-pub mod CachedValues
 pub mod RequestCounts
 pub mod Sessions
 pub mod Interning

@@ -1,11 +1,14 @@
-//! A function whose values are kept in a cache.
-ghost use Rattle.std.specs.Prelude.{◌≡◌, ℕ};
-ghost use Rattle.scc_uses.specs.CachedValues.{HasValuesOf};
+//! A function that takes long to evaluate, whose values are kept in a memo.
+ghost use Rattle.std.specs.Prelude.{◌≡◌, ℕ, IfOk, IsOk};
 
-use scc_cache::hash_cache::Owned;
+use scc_memo::{Memo, Pure};
+use scc_table::MakeError;
 use std::alloc::Global;
-use std::hash::BuildHasher;
+use std::hash::{BuildHasherDefault, FoldHasher};
 use std::marker::Model;
+
+/// The slots that an evaluator's memo may have.
+const MOST_SLOTS: usize = 256;
 
 /// A function that takes long to evaluate.
 pub trait Function: Drop {
@@ -17,56 +20,60 @@ pub trait Function: Drop {
         ensures { result ≡ value self.now argument };
 }
 
-/// A function with a cache of some of its values. A contract sees the function alone.
+/// The function as one that a memo asks.
+#[derive(Drop)]
+pub struct Asked<F: Function>(F);
+
+impl<F: Function> Pure for Asked<F> {
+    ghost use Rattle.std.proofs.Common.{ap};
+    ghost use Rattle.std.proofs.lemmas.Bool.{eqb-true};
+
+    type Key = u64;
+
+    type Value = u64;
+
+    ghost value = { λ a k. F.value a.0 k };
+
+    ghost equal_alike = { λ a j k same. ap (F.value a.0) (eqb-true j k same) };
+
+    fn of(&self, k: &u64) -> u64 {
+        self.0.evaluate(*k)
+    }
+}
+
+/// A function with a memo of some of its values. A contract sees the function alone.
 #[derive(Drop)]
 pub struct Evaluator<F: Function> {
-    function: F,
-    values: Owned<u64, u64>,
+    memo: Memo<Asked<F>, BuildHasherDefault<FoldHasher>>,
 }
 
 impl<F: Function> Model for Evaluator<F> {
     ghost Value = { F };
 
-    ghost view = { λ e. e.function };
-
-    ghost invariant = { λ e. HasValuesOf (F.value e.function) e.values.contents };
+    ghost view = { λ e. e.memo.function.0 };
 }
 
 impl<F: Function> Evaluator<F> {
-    /// The function with an empty cache.
-    pub fn new(alloc: Global, function: F) -> Self
-        ensures { result ≡ function }
+    /// The function with an empty memo.
+    pub fn new(alloc: Global, function: F) -> Result<Self, MakeError>
+        ensures function { IfOk result (λ e. e ≡ function) }
+        ensures succeeds { IsOk result }
     {
-        Evaluator {
-            function,
-            values: Owned::new(alloc),
-        }
+        let memo = Memo::with_capacity_and_hasher(
+            alloc,
+            Asked(function),
+            0,
+            MOST_SLOTS,
+            BuildHasherDefault::new(),
+        )?;
+        Ok(Evaluator { memo })
     }
 
-    /// The value at the argument: the one in the cache, or else a new one, which is put there where memory can be had.
+    /// The value at the argument: the one in the memo, or else a new one, which is kept there where memory can be had.
     pub fn value_at(&mut self, argument: u64) -> u64
         ensures value { result ≡ F.value self.old argument }
         ensures function { self.new ≡ self.old }
     {
-        if let Some(entry) = self.values.get_sync(&argument) {
-            return *entry.get();
-        }
-        let value = self.function.evaluate(argument);
-        keep(&self.function, &mut self.values, argument, value);
-        value
+        self.memo.get(argument)
     }
-}
-
-// Puts the value at the argument into a cache of values, where memory can be had.
-fn keep<F: Function, H: BuildHasher>(
-    function: &F,
-    values: &mut Owned<u64, u64, H>,
-    argument: u64,
-    value: u64,
-)
-    requires values { HasValuesOf (F.value function.now) values.old.contents }
-    requires value { value ≡ F.value function.now argument }
-    ensures { HasValuesOf (F.value function.now) values.new.contents }
-{
-    let _ = values.put_sync(argument, value);
 }

@@ -1,3 +1,4 @@
 pub mod Closures
 pub mod Equality
 pub mod PairWalks
+pub mod Replies

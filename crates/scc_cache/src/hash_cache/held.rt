@@ -4,6 +4,7 @@ ghost use Rattle.scc_table.specs.Contents.{key_hash};
 ghost use Rattle.scc_incremental.specs.Places.{IsPlace};
 ghost use Rattle.scc_cache.specs.CacheSteps.{IsLacking};
 
+mod making;
 mod methods;
 
 use super::Owned;

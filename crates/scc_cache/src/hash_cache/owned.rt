@@ -12,6 +12,7 @@ ghost use Rattle.scc_cache.specs.Relocations.{RelocatesNone, RelocatesTwo};
 mod collecting;
 mod entry;
 mod making;
+mod parts;
 mod places;
 mod taking_walks;
 mod walks;

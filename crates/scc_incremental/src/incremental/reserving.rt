@@ -1,5 +1,5 @@
-//! How many slots a table of two arrays keeps at least.
-ghost use Rattle.std.specs.Prelude.{◌≡◌, ◌≢◌, ◌≤◌, ◌<◌, ◌+◌, ◌-◌, ◌*◌, ◌^◌, ◌↔◌, IsTrue};
+//! How many slots a table of two arrays keeps at least, and the tokens of reserved ones.
+ghost use Rattle.std.specs.Prelude.{◌≡◌, ◌≢◌, ◌≤◌, ◌<◌, ◌+◌, ◌-◌, ◌*◌, ◌^◌, ◌↔◌, IfNone, IfSome, IsSome, IsTrue, OnSome};
 ghost use Rattle.scc_table.specs.Contents.{entries, bucket_count, held_of, lists_of, settings_of, spilled_of, refused_of, minimum_of, waiting_of, IsUniqueBy};
 ghost use Rattle.scc_table.specs.Sizes.{IsArraySize};
 ghost use Rattle.scc_table.specs.Steps.{IsUnchanged, ReachesMinimumWhenDue, Releases, Reserves, Resizes, ShrinksWhenDue};
@@ -9,13 +9,59 @@ use super::Incremental;
 use scc_table::Keyed;
 use scc_table::sizes::{GREATEST_CAPACITY, buckets_for};
 use std::hash::{BuildHasher, Hash};
+use std::marker::Model;
+
+/// So many slots were reserved in a container. `release` of that container gives them back; a token that is merely
+/// dropped gives nothing back. Only `reserve` makes one.
+#[derive(Debug, Drop, PartialEq)]
+pub struct Reservation {
+    additional: usize,
+}
+
+impl Model for Reservation {
+    ghost use Rattle.std.specs.Prelude.{ℕ};
+
+    ghost Value = { ℕ };
+
+    ghost view = { λ r. r.additional };
+
+    ghost inverse = { λ n. record { additional = n } };
+}
+
+impl Reservation {
+    /// How many slots it stands for.
+    pub fn additional_capacity(&self) -> usize
+        ensures { result ≡ self.now }
+    {
+        self.additional
+    }
+}
 
 impl<E: Keyed, H: BuildHasher> Incremental<E, H>
 where
     E::Key: Eq + Hash,
 {
+    /// Raises the minimum by so many slots as `raise_minimum` does, and answers the token that stands for them.
+    pub fn reserve(&mut self, additional: usize) -> Option<Reservation>
+        ensures answer { IsSome result ↔ ((0 < additional) × (minimum_of self.old + additional ≤ 2 ^ 63)) }
+        ensures token { IfSome result (λ r. r ≡ additional) }
+        ensures yes { OnSome result (Reserves additional self.old self.new) }
+        ensures due { OnSome result (ReachesMinimumWhenDue self.old self.new) }
+        ensures spreads { OnSome result (Spreads (IsGrowthDue (minimum_of self.new) self.old) self.old self.new) }
+        ensures no { IfNone result (IsUnchanged self.old self.new) }
+        ensures noted { IfNone result (refused_of self.new ≡ refused_of self.old) }
+        ensures waiting { IfNone result (waiting_of self.new ≡ waiting_of self.old) }
+        ensures unique { IsUniqueBy E.Key.eq E.key_of self.new }
+    {
+        if self.raise_minimum(additional) {
+            Some(Reservation { additional })
+        } else {
+            None
+        }
+    }
+
     /// Raises the minimum by so many slots, and lets an array with fewer slots grow, unless memory is refused: then every bucket of the new array waits. Where the minimum can't be raised by that, it answers false and changes nothing.
-    pub fn reserve(&mut self, additional: usize) -> bool
+    pub fn raise_minimum(&mut self, additional: usize) -> bool
         ensures answer { IsTrue result ↔ ((0 < additional) × (minimum_of self.old + additional ≤ 2 ^ 63)) }
         ensures yes { IsTrue result → Reserves additional self.old self.new }
         ensures due { IsTrue result → ReachesMinimumWhenDue self.old self.new }
@@ -36,7 +82,7 @@ where
     }
 
     /// Lowers the minimum by so many reserved slots, and tries to make the array smaller. Where more than what is reserved is given back, it answers false and changes nothing.
-    pub fn release(&mut self, additional: usize) -> bool
+    pub fn lower_minimum(&mut self, additional: usize) -> bool
         ensures answer { IsTrue result ↔ (additional ≤ (settings_of self.old).reserved) }
         ensures yes { IsTrue result → Releases additional self.old self.new }
         ensures due { IsTrue result → ShrinksWhenDue self.old self.new }

@@ -4,6 +4,7 @@ ghost use Rattle.scc_table.specs.Contents.{entries, key_hash};
 ghost use Rattle.scc_table.specs.Pairs.{find};
 ghost use Rattle.scc_incremental.specs.Places.{IsPlace};
 
+mod making;
 mod methods;
 
 use super::Owned;

@@ -8,7 +8,7 @@ ghost use Rattle.scc_table.specs.Contents.{entries, bucket_count, settings_of, m
 ghost use Rattle.scc_table.specs.Pairs.{find, FindsInstead, HasRoom, IsUnique};
 ghost use Rattle.scc_table.specs.Sizes.{IsArraySize, IsSmaller};
 ghost use Rattle.scc_table.specs.Walks.{CalledOn, CallableWhile, Walks};
-ghost use Rattle.scc_incremental.specs.Places.{IsPlace, IsInsertedAt, index_of, with_write_at};
+ghost use Rattle.scc_incremental.specs.Places.{IsPlace, IsFoundAt, IsInsertedAt, index_of, with_write_at};
 ghost use Rattle.scc_incremental.specs.Relocations.{Relocates, RelocatesNone, RelocatesTwo};
 ghost use Rattle.scc_table.specs.Steps.{FirstArrayWhenDue, Grows, GrowsFor, GrowsWhenDue, Holds, IsUnchanged, RaisesWhenDue, ShrinksWhenDue};
 ghost use Rattle.scc_table.specs.ShelfWrites.{put_whole};
@@ -18,6 +18,7 @@ ghost use Rattle.scc_index.specs.IndexSteps.{Inserts, Removes};
 
 mod collecting;
 mod entry;
+mod following;
 mod sizes;
 mod snapshots;
 mod walks;
@@ -210,6 +211,21 @@ impl<K: Eq + Hash, V, H: BuildHasher> Owned<K, V, H> {
         }
     }
 
+    /// The version of `k` to keep, or None where there is none. The version stays what it is and lives as long as its holders. It takes no memory, and is refused where the version has 2^63 - 1 owners.
+    pub fn peek_shared(&self, k: &K) -> Result<Option<Arc<Version<K, V>>>, MakeError>
+        ensures version { IfOk result (λ o. MatchOption o (find K.eq (entries self.now) k.now ≡ None) (λ a. find K.eq (entries self.now) k.now ≡ Some (arc_value a))) }
+        ensures refused { OnErr result (IsSome (find K.eq (entries self.now) k.now)) }
+    {
+        let hash = self.table.hash(k);
+        match self.table.find(hash, k) {
+            Some(shared) => match shared.share() {
+                Ok(version) => Ok(Some(version)),
+                Err(_) => Err(MakeError),
+            },
+            None => Ok(None),
+        }
+    }
+
     /// The answer of `f` on the pair of `k`, or None where there is none; then `f` isn't called.
     #[inline(always)]
     pub fn peek_with<R, F: FnOnce(&K, &V) -> R>(&self, k: &K, f: F) -> Option<R>
@@ -319,6 +335,22 @@ impl<K: Eq + Hash, V, H: BuildHasher> Owned<K, V, H> {
         ensures { (es : List (K × V)) × (last : F) × IsPermutation (entries self.now) es × Walks (CalledOn F.FnMut) f es result last }
     {
         self.table.walk(f)
+    }
+
+    /// The hash of a key.
+    pub(crate) fn hash_of(&self, k: &K) -> u64
+        ensures { result ≡ key_hash H.BuildHasher H.Hasher.Hasher K.hash_input self.now k.now }
+    {
+        self.table.hash(k)
+    }
+
+    /// The place of the version of `k`, whose hash it is.
+    pub(crate) fn place_of(&self, hash: u64, k: &K) -> Option<Place>
+        requires { hash ≡ key_hash H.BuildHasher H.Hasher.Hasher K.hash_input self.now k.now }
+        ensures place { MatchOption result (find K.eq (entries self.now) k.now ≡ None) (IsFoundAt (λ e. K.eq k.now e.0) self.now) }
+        ensures unique { IsUnique K.eq self.now }
+    {
+        self.table.search(hash, k)
     }
 
     /// The key and the value at the place.

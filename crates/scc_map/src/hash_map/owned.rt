@@ -1,5 +1,5 @@
 //! The map for one owner: every call that changes it takes `&mut self`.
-ghost use Rattle.std.specs.Prelude.{◌≡◌, ◌≢◌, ◌<◌, ◌*◌, ◌≤◌, ◌↔◌, List, [], length, Some, None, IsTrue, IsSome, IsOk, IfOk, IfSome, IfNone, OnOk, OnSome, ◌==◌, ◌∷◌, true, IfErr, OnErr, slice_get, remove};
+ghost use Rattle.std.specs.Prelude.{◌≡◌, ◌≢◌, ◌<◌, ◌*◌, ◌≤◌, ◌↔◌, List, [], length, Some, None, IsTrue, IsSome, IsOk, IfOk, IfSome, IfNone, OnOk, OnSome, ◌==◌, ◌∷◌, true, IfErr, OnErr, MatchOption, slice_get, remove};
 ghost use Rattle.std.specs.Arc.{arc_value};
 ghost use Rattle.std.specs.Borrow.{Bor, MutBor, sem};
 ghost use Rattle.std.specs.Fn.{FnOnceTakesAtMut};
@@ -8,7 +8,7 @@ ghost use Rattle.scc_table.specs.Contents.{entries, bucket_count, settings_of, m
 ghost use Rattle.scc_table.specs.Pairs.{find, FindsInstead, HasRoom, IsUnique, with_pair_key, with_pair_value};
 ghost use Rattle.scc_table.specs.Sizes.{IsArraySize, IsSmaller};
 ghost use Rattle.scc_table.specs.Walks.{CalledOn, CallableWhile, Walks};
-ghost use Rattle.scc_incremental.specs.Places.{IsPlace, IsInsertedAt, index_of};
+ghost use Rattle.scc_incremental.specs.Places.{IsPlace, IsFoundAt, IsInsertedAt, index_of};
 ghost use Rattle.scc_table.specs.Steps.{FirstArrayWhenDue, Grows, GrowsFor, GrowsWhenDue, Holds, Rests, ShrinksWhenDue};
 ghost use Rattle.scc_incremental.specs.Places.{with_write_at};
 ghost use Rattle.scc_map.specs.ClosureSteps.{UpdatesAt, RemovesIf};
@@ -19,6 +19,7 @@ ghost use Rattle.scc_incremental.specs.Relocations.{Relocates, RelocatesNone, Re
 
 mod collecting;
 mod entry;
+mod following;
 mod sizes;
 mod taking_walks;
 mod walks;
@@ -331,6 +332,22 @@ impl<K: Eq + Hash, V, H: BuildHasher> Owned<K, V, H> {
         ensures { (es : List (K × V)) × (last : F) × IsPermutation (entries self.now) es × Walks (CalledOn F.FnMut) f es result last }
     {
         self.table.walk(f)
+    }
+
+    /// The hash of a key.
+    pub(crate) fn hash_of(&self, k: &K) -> u64
+        ensures { result ≡ key_hash H.BuildHasher H.Hasher.Hasher K.hash_input self.now k.now }
+    {
+        self.table.hash(k)
+    }
+
+    /// The place of the pair of `k`, whose hash it is.
+    pub(crate) fn place_of(&self, hash: u64, k: &K) -> Option<Place>
+        requires { hash ≡ key_hash H.BuildHasher H.Hasher.Hasher K.hash_input self.now k.now }
+        ensures place { MatchOption result (find K.eq (entries self.now) k.now ≡ None) (IsFoundAt (λ e. K.eq k.now e.0) self.now) }
+        ensures unique { IsUnique K.eq self.now }
+    {
+        self.table.search(hash, k)
     }
 
     /// The pair at the place.

@@ -24,7 +24,7 @@ impl<K: Eq + Hash + Copy, V: Copy + PartialEq, H: BuildHasher> Calls for Owned<K
     ghost use Rattle.scc_recorded.specs.CacheLaws.{one_size, cache_call_keeps, cache_resize_keeps, empty_keys};
     ghost use Rattle.scc_recorded.specs.MapLaws.{routes_alike};
     ghost use Rattle.scc_recorded.specs.Parted.{PartMoves, PartResizes, parted_call, parted_resize};
-    ghost use Rattle.scc_recorded.specs.Parts.{part_number};
+    ghost use Rattle.scc_table.specs.Routing.{stripe_number};
 
     ghost State = { List (List (K × V)) };
 
@@ -52,7 +52,7 @@ impl<K: Eq + Hash + Copy, V: Copy + PartialEq, H: BuildHasher> Calls for Owned<K
 
     ghost whole = { λ parts. parts };
 
-    ghost whole_moves = { λ g n i. PartMoves (CacheMoves K.eq (number_by (λ h k. hash_of H.BuildHasher H.Hasher.Hasher h (K.hash_input k)) g)) cache_key (λ k. part_number n (hash_of H.BuildHasher H.Hasher.Hasher g.hasher (K.hash_input k))) i };
+    ghost whole_moves = { λ g n i. PartMoves (CacheMoves K.eq (number_by (λ h k. hash_of H.BuildHasher H.Hasher.Hasher h (K.hash_input k)) g)) cache_key (λ k. stripe_number n (hash_of H.BuildHasher H.Hasher.Hasher g.hasher (K.hash_input k))) i };
 
     ghost whole_resizes = { λ g n i. PartResizes (CacheResizes g (number_by (λ h k. hash_of H.BuildHasher H.Hasher.Hasher h (K.hash_input k)) g)) i };
 
@@ -127,13 +127,13 @@ impl<K: Eq + Hash + Copy, V: Copy + PartialEq, H: BuildHasher> Calls for Owned<K
 
     ghost one_limit = { λ asked slots m n p q. one_size (max asked slots) m n p q };
 
-    ghost call_is_whole = { λ g n before after old new call reply routed key s. parted_call (CacheMoves K.eq (number_by (λ h k. hash_of H.BuildHasher H.Hasher.Hasher h (K.hash_input k)) g)) cache_key (λ k. part_number n (hash_of H.BuildHasher H.Hasher.Hasher g.hasher (K.hash_input k))) before after old new call reply key s };
+    ghost call_is_whole = { λ g n before after old new call reply routed key s. parted_call (CacheMoves K.eq (number_by (λ h k. hash_of H.BuildHasher H.Hasher.Hasher h (K.hash_input k)) g)) cache_key (λ k. stripe_number n (hash_of H.BuildHasher H.Hasher.Hasher g.hasher (K.hash_input k))) before after old new call reply key s };
 
     ghost resize_is_whole = { λ g n before after old new buckets routed s. parted_resize (CacheResizes g (number_by (λ h k. hash_of H.BuildHasher H.Hasher.Hasher h (K.hash_input k)) g)) before after old new buckets s };
 
-    ghost call_keeps = { λ g n i old new call reply routed key s. cache_call_keeps K.eq (number_by (λ h k. hash_of H.BuildHasher H.Hasher.Hasher h (K.hash_input k)) g) (λ k. part_number n (hash_of H.BuildHasher H.Hasher.Hasher g.hasher (K.hash_input k))) i old new call reply routed key s };
+    ghost call_keeps = { λ g n i old new call reply routed key s. cache_call_keeps K.eq (number_by (λ h k. hash_of H.BuildHasher H.Hasher.Hasher h (K.hash_input k)) g) (λ k. stripe_number n (hash_of H.BuildHasher H.Hasher.Hasher g.hasher (K.hash_input k))) i old new call reply routed key s };
 
-    ghost resize_keeps = { λ g n i old new buckets routed s. cache_resize_keeps g (number_by (λ h k. hash_of H.BuildHasher H.Hasher.Hasher h (K.hash_input k)) g) (λ k. part_number n (hash_of H.BuildHasher H.Hasher.Hasher g.hasher (K.hash_input k))) i old new buckets routed s };
+    ghost resize_keeps = { λ g n i old new buckets routed s. cache_resize_keeps g (number_by (λ h k. hash_of H.BuildHasher H.Hasher.Hasher h (K.hash_input k)) g) (λ k. stripe_number n (hash_of H.BuildHasher H.Hasher.Hasher g.hasher (K.hash_input k))) i old new buckets routed s };
 
-    ghost empty_keeps = { λ h n i b. empty_keys V (λ k. part_number n (hash_of H.BuildHasher H.Hasher.Hasher h (K.hash_input k))) i b };
+    ghost empty_keeps = { λ h n i b. empty_keys V (λ k. stripe_number n (hash_of H.BuildHasher H.Hasher.Hasher h (K.hash_input k))) i b };
 }

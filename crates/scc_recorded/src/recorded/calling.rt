@@ -2,7 +2,8 @@
 ghost use Rattle.std.specs.Prelude.{◌≡◌, ℕ, ◌*◌, ◌<◌, ◌≤◌, List, ◌∷◌, ◌++◌, length, Option, Some, None, IfOk, OnErr, MatchOption};
 ghost use Rattle.scc_recorded.specs.Changes.{Changes, Stays};
 ghost use Rattle.scc_recorded.specs.Made.{IsMadeFor};
-ghost use Rattle.scc_recorded.specs.Parts.{Routed, KeyRouted, RoutedFrom, part_of};
+ghost use Rattle.scc_recorded.specs.Parts.{Routed, KeyRouted, RoutedFrom};
+ghost use Rattle.scc_table.specs.Routing.{stripe_of};
 ghost use Rattle.scc_recorded.specs.declared.recorded.fixed.Setting.{Setting};
 
 use crate::recorded::Refused;
@@ -101,21 +102,21 @@ pub trait Calls: Sized {
 
     // Where every key of every part, and the call's, routes to its own part, a step of one part is a step of the whole.
     ghost call_is_whole: { (g : Setting Self.Hasher) (n : ℕ) (before after : List State) (old new : State) (call : Self.Call) (reply : Self.Reply)
-        → RoutedFrom (part_of Self.Hasher.BuildHasher Self.Hasher.Hasher.Hasher Self.Key.Hash.hash_input g.hasher n) keys 0 (before ++ old ∷ after) → KeyRouted (part_of Self.Hasher.BuildHasher Self.Hasher.Hasher.Hasher Self.Key.Hash.hash_input g.hasher n) (length before) (key_of call)
+        → RoutedFrom (stripe_of Self.Hasher.BuildHasher Self.Hasher.Hasher.Hasher Self.Key.Hash.hash_input g.hasher n) keys 0 (before ++ old ∷ after) → KeyRouted (stripe_of Self.Hasher.BuildHasher Self.Hasher.Hasher.Hasher Self.Key.Hash.hash_input g.hasher n) (length before) (key_of call)
         → moves g old call reply new
         → whole_moves g n (length before) (whole (before ++ old ∷ after)) call reply (whole (before ++ new ∷ after)) };
 
     ghost resize_is_whole: { (g : Setting Self.Hasher) (n : ℕ) (before after : List State) (old new : State) (buckets : ℕ)
-        → RoutedFrom (part_of Self.Hasher.BuildHasher Self.Hasher.Hasher.Hasher Self.Key.Hash.hash_input g.hasher n) keys 0 (before ++ old ∷ after)
+        → RoutedFrom (stripe_of Self.Hasher.BuildHasher Self.Hasher.Hasher.Hasher Self.Key.Hash.hash_input g.hasher n) keys 0 (before ++ old ∷ after)
         → resizes g old buckets new
         → whole_resizes g n (length before) (whole (before ++ old ∷ after)) buckets (whole (before ++ new ∷ after)) };
 
     // Keys stay in their parts: a call brings in no key but its own, a resize none.
     ghost call_keeps: { (g : Setting Self.Hasher) (n i : ℕ) (old new : State) (call : Self.Call) (reply : Self.Reply)
-        → Routed (part_of Self.Hasher.BuildHasher Self.Hasher.Hasher.Hasher Self.Key.Hash.hash_input g.hasher n) i (keys old) → KeyRouted (part_of Self.Hasher.BuildHasher Self.Hasher.Hasher.Hasher Self.Key.Hash.hash_input g.hasher n) i (key_of call) → moves g old call reply new → Routed (part_of Self.Hasher.BuildHasher Self.Hasher.Hasher.Hasher Self.Key.Hash.hash_input g.hasher n) i (keys new) };
+        → Routed (stripe_of Self.Hasher.BuildHasher Self.Hasher.Hasher.Hasher Self.Key.Hash.hash_input g.hasher n) i (keys old) → KeyRouted (stripe_of Self.Hasher.BuildHasher Self.Hasher.Hasher.Hasher Self.Key.Hash.hash_input g.hasher n) i (key_of call) → moves g old call reply new → Routed (stripe_of Self.Hasher.BuildHasher Self.Hasher.Hasher.Hasher Self.Key.Hash.hash_input g.hasher n) i (keys new) };
 
     ghost resize_keeps: { (g : Setting Self.Hasher) (n i : ℕ) (old new : State) (buckets : ℕ)
-        → Routed (part_of Self.Hasher.BuildHasher Self.Hasher.Hasher.Hasher Self.Key.Hash.hash_input g.hasher n) i (keys old) → resizes g old buckets new → Routed (part_of Self.Hasher.BuildHasher Self.Hasher.Hasher.Hasher Self.Key.Hash.hash_input g.hasher n) i (keys new) };
+        → Routed (stripe_of Self.Hasher.BuildHasher Self.Hasher.Hasher.Hasher Self.Key.Hash.hash_input g.hasher n) i (keys old) → resizes g old buckets new → Routed (stripe_of Self.Hasher.BuildHasher Self.Hasher.Hasher.Hasher Self.Key.Hash.hash_input g.hasher n) i (keys new) };
 
-    ghost empty_keeps: { (h : Self.Hasher) (n i buckets : ℕ) → Routed (part_of Self.Hasher.BuildHasher Self.Hasher.Hasher.Hasher Self.Key.Hash.hash_input h n) i (keys (empty buckets)) };
+    ghost empty_keeps: { (h : Self.Hasher) (n i buckets : ℕ) → Routed (stripe_of Self.Hasher.BuildHasher Self.Hasher.Hasher.Hasher Self.Key.Hash.hash_input h n) i (keys (empty buckets)) };
 }

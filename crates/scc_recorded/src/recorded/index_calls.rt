@@ -24,7 +24,7 @@ impl<K: Eq + Hash + Copy + Drop, V: Copy + PartialEq + Drop, H: BuildHasher> Cal
     ghost use Rattle.scc_recorded.specs.IndexLaws.{index_call_is_whole, index_call_keeps};
     ghost use Rattle.scc_recorded.specs.MapWhole.{joined};
     ghost use Rattle.scc_recorded.specs.IndexWhole.{IndexWholeMoves};
-    ghost use Rattle.scc_recorded.specs.Parts.{part_number};
+    ghost use Rattle.scc_table.specs.Routing.{stripe_number};
     ghost use Rattle.scc_recorded.specs.IndexCalls.{index_key, IndexMoves, IndexMayRefuse};
     ghost use Rattle.scc_recorded.specs.States.{State, state_of, setting_of, ResizesTo};
 
@@ -54,7 +54,7 @@ impl<K: Eq + Hash + Copy + Drop, V: Copy + PartialEq + Drop, H: BuildHasher> Cal
 
     ghost whole = { joined };
 
-    ghost whole_moves = { λ g n i. IndexWholeMoves K.eq (λ k. part_number n (hash_of H.BuildHasher H.Hasher.Hasher g.hasher (K.hash_input k)) == i) };
+    ghost whole_moves = { λ g n i. IndexWholeMoves K.eq (λ k. stripe_number n (hash_of H.BuildHasher H.Hasher.Hasher g.hasher (K.hash_input k)) == i) };
 
     ghost whole_resizes = { λ _ _ _ w _ v. IsPermutation w v };
 
@@ -114,13 +114,13 @@ impl<K: Eq + Hash + Copy + Drop, V: Copy + PartialEq + Drop, H: BuildHasher> Cal
 
     ghost one_limit = { λ _ _ m n p q. both_same m n 0 p q };
 
-    ghost call_is_whole = { λ g n before after old new call reply routed key s. index_call_is_whole K.eq (λ k. part_number n (hash_of H.BuildHasher H.Hasher.Hasher g.hasher (K.hash_input k))) (routes_alike K.eq K.hash_input (λ w. part_number n (hash_of H.BuildHasher H.Hasher.Hasher g.hasher w)) K.Hash.respects_eq) before after old new call reply routed key s };
+    ghost call_is_whole = { λ g n before after old new call reply routed key s. index_call_is_whole K.eq (λ k. stripe_number n (hash_of H.BuildHasher H.Hasher.Hasher g.hasher (K.hash_input k))) (routes_alike K.eq K.hash_input (λ w. stripe_number n (hash_of H.BuildHasher H.Hasher.Hasher g.hasher w)) K.Hash.respects_eq) before after old new call reply routed key s };
 
     ghost resize_is_whole = { λ g n before after old new buckets routed s. resize_joined g before after old new buckets s };
 
-    ghost call_keeps = { λ g n i old new call reply routed key s. index_call_keeps K.eq (λ k. part_number n (hash_of H.BuildHasher H.Hasher.Hasher g.hasher (K.hash_input k))) (routes_alike K.eq K.hash_input (λ w. part_number n (hash_of H.BuildHasher H.Hasher.Hasher g.hasher w)) K.Hash.respects_eq) i old new call reply routed key s };
+    ghost call_keeps = { λ g n i old new call reply routed key s. index_call_keeps K.eq (λ k. stripe_number n (hash_of H.BuildHasher H.Hasher.Hasher g.hasher (K.hash_input k))) (routes_alike K.eq K.hash_input (λ w. stripe_number n (hash_of H.BuildHasher H.Hasher.Hasher g.hasher w)) K.Hash.respects_eq) i old new call reply routed key s };
 
-    ghost resize_keeps = { λ g n i old new buckets routed s. map_resize_keeps g (λ k. part_number n (hash_of H.BuildHasher H.Hasher.Hasher g.hasher (K.hash_input k))) i old new buckets routed s };
+    ghost resize_keeps = { λ g n i old new buckets routed s. map_resize_keeps g (λ k. stripe_number n (hash_of H.BuildHasher H.Hasher.Hasher g.hasher (K.hash_input k))) i old new buckets routed s };
 
     ghost empty_keeps = { λ _ _ _ _. tt };
 }

@@ -20,7 +20,7 @@ impl<K: Eq + Hash + Copy, H: BuildHasher> Calls for Owned<K, H> {
     ghost use Rattle.scc_table.specs.Hashing.{hash_of};
     ghost use Rattle.scc_recorded.specs.MapLaws.{routes_alike, both_same, resize_joined};
     ghost use Rattle.scc_recorded.specs.MapWhole.{joined};
-    ghost use Rattle.scc_recorded.specs.Parts.{part_number};
+    ghost use Rattle.scc_table.specs.Routing.{stripe_number};
     ghost use Rattle.scc_recorded.specs.SetCalls.{key_of_set, SetMoves, SetMayRefuse};
     ghost use Rattle.scc_recorded.specs.SetLaws.{set_call_is_whole, set_call_keeps, set_resize_keeps};
     ghost use Rattle.scc_recorded.specs.SetWhole.{SetWholeMoves};
@@ -52,7 +52,7 @@ impl<K: Eq + Hash + Copy, H: BuildHasher> Calls for Owned<K, H> {
 
     ghost whole = { joined };
 
-    ghost whole_moves = { λ g n i. SetWholeMoves K.eq (λ k. part_number n (hash_of H.BuildHasher H.Hasher.Hasher g.hasher (K.hash_input k)) == i) };
+    ghost whole_moves = { λ g n i. SetWholeMoves K.eq (λ k. stripe_number n (hash_of H.BuildHasher H.Hasher.Hasher g.hasher (K.hash_input k)) == i) };
 
     ghost whole_resizes = { λ _ _ _ w _ v. IsPermutation w v };
 
@@ -109,13 +109,13 @@ impl<K: Eq + Hash + Copy, H: BuildHasher> Calls for Owned<K, H> {
 
     ghost one_limit = { λ _ _ m n p q. both_same m n 0 p q };
 
-    ghost call_is_whole = { λ g n before after old new call reply routed key s. set_call_is_whole K.eq (λ k. part_number n (hash_of H.BuildHasher H.Hasher.Hasher g.hasher (K.hash_input k))) (routes_alike K.eq K.hash_input (λ w. part_number n (hash_of H.BuildHasher H.Hasher.Hasher g.hasher w)) K.Hash.respects_eq) before after old new call reply routed key s };
+    ghost call_is_whole = { λ g n before after old new call reply routed key s. set_call_is_whole K.eq (λ k. stripe_number n (hash_of H.BuildHasher H.Hasher.Hasher g.hasher (K.hash_input k))) (routes_alike K.eq K.hash_input (λ w. stripe_number n (hash_of H.BuildHasher H.Hasher.Hasher g.hasher w)) K.Hash.respects_eq) before after old new call reply routed key s };
 
     ghost resize_is_whole = { λ g n before after old new buckets routed s. resize_joined g before after old new buckets s };
 
-    ghost call_keeps = { λ g n i old new call reply routed key s. set_call_keeps K.eq (λ k. part_number n (hash_of H.BuildHasher H.Hasher.Hasher g.hasher (K.hash_input k))) (routes_alike K.eq K.hash_input (λ w. part_number n (hash_of H.BuildHasher H.Hasher.Hasher g.hasher w)) K.Hash.respects_eq) i old new call reply routed key s };
+    ghost call_keeps = { λ g n i old new call reply routed key s. set_call_keeps K.eq (λ k. stripe_number n (hash_of H.BuildHasher H.Hasher.Hasher g.hasher (K.hash_input k))) (routes_alike K.eq K.hash_input (λ w. stripe_number n (hash_of H.BuildHasher H.Hasher.Hasher g.hasher w)) K.Hash.respects_eq) i old new call reply routed key s };
 
-    ghost resize_keeps = { λ g n i old new buckets routed s. set_resize_keeps g (λ k. part_number n (hash_of H.BuildHasher H.Hasher.Hasher g.hasher (K.hash_input k))) i old new buckets routed s };
+    ghost resize_keeps = { λ g n i old new buckets routed s. set_resize_keeps g (λ k. stripe_number n (hash_of H.BuildHasher H.Hasher.Hasher g.hasher (K.hash_input k))) i old new buckets routed s };
 
     ghost empty_keeps = { λ _ _ _ _. tt };
 }

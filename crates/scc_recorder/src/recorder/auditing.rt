@@ -16,6 +16,7 @@ impl<C: Calls, L: Ledger, M: Site<C::Hasher>> Closed<C, L, M> {
         ensures equal { sum_by (λ s. calls_in s.stripe.history.items) self.old.stripes.items ≡ sum_by (λ p. length p.log.receipts.items) passes.old }
         ensures stripes { map (λ s. s.stripe) self.new.stripes.items ≡ map (λ s. s.stripe) self.old.stripes.items }
         ensures passes { map (λ p. p.log) passes.new ≡ map (λ p. p.log) passes.old }
+        ensures same { (self.new.passes ≡ self.old.passes) × (self.new.hasher ≡ self.old.hasher) }
     {
         let Closed {
             stripes,

@@ -2,7 +2,7 @@
 ghost use Rattle.std.specs.Prelude.{◌≡◌, ℕ, ◌+◌, ◌<◌, ◌≤◌, ◌↔◌, List, [], length, map, take, IfOk, IfNone, IfSome, IsTrue, slice_get, slice_index_or};
 ghost use Rattle.std.specs.List.{AllByRecursion};
 ghost use Rattle.scc_recorded.specs.Histories.{CallsRouted, StepRouted, FirstMisrouted};
-ghost use Rattle.scc_recorded.specs.Parts.{part_of};
+ghost use Rattle.scc_table.specs.Routing.{stripe_of};
 ghost use Rattle.scc_history.specs.Receipts.{AreAll};
 
 use crate::recorder::{Guarded, Pass, Site};
@@ -39,8 +39,8 @@ pub(crate) fn misrouted<C: Calls, M: Site<C::Hasher>>(
     stripes: &[Guarded<C, M>],
 ) -> Option<(usize, usize)>
     requires { 0 < length stripes.now }
-    ensures none { IfNone result (CallsRouted C.key_of (part_of C.Hasher.BuildHasher C.Hasher.Hasher.Hasher C.Key.Hash.hash_input hasher.now (length stripes.now)) 0 (map (λ s. s.stripe.history.items) stripes.now)) }
-    ensures some { IfSome result (λ p. FirstMisrouted C.key_of (part_of C.Hasher.BuildHasher C.Hasher.Hasher.Hasher C.Key.Hash.hash_input hasher.now (length stripes.now)) (map (λ s. s.stripe.history.items) stripes.now) p.0 p.1) }
+    ensures none { IfNone result (CallsRouted C.key_of (stripe_of C.Hasher.BuildHasher C.Hasher.Hasher.Hasher C.Key.Hash.hash_input hasher.now (length stripes.now)) 0 (map (λ s. s.stripe.history.items) stripes.now)) }
+    ensures some { IfSome result (λ p. FirstMisrouted C.key_of (stripe_of C.Hasher.BuildHasher C.Hasher.Hasher.Hasher C.Key.Hash.hash_input hasher.now (length stripes.now)) (map (λ s. s.stripe.history.items) stripes.now) p.0 p.1) }
 {
     for i in 0..stripes.len() {
         let history = stripes[i].history();
@@ -59,8 +59,8 @@ fn misplaced<C: Calls>(
     history: &[Step<C::Call, C::Reply>],
 ) -> Option<usize>
     requires { 0 < count }
-    ensures none { IfNone result (AllByRecursion (StepRouted C.key_of (part_of C.Hasher.BuildHasher C.Hasher.Hasher.Hasher C.Key.Hash.hash_input hasher.now count) part) history.now) }
-    ensures some { IfSome result (λ j. AllByRecursion (StepRouted C.key_of (part_of C.Hasher.BuildHasher C.Hasher.Hasher.Hasher C.Key.Hash.hash_input hasher.now count) part) (take j history.now) × IfSome (slice_get history.now j) (λ step. ¬ StepRouted C.key_of (part_of C.Hasher.BuildHasher C.Hasher.Hasher.Hasher C.Key.Hash.hash_input hasher.now count) part step) × (j < length history.now)) }
+    ensures none { IfNone result (AllByRecursion (StepRouted C.key_of (stripe_of C.Hasher.BuildHasher C.Hasher.Hasher.Hasher C.Key.Hash.hash_input hasher.now count) part) history.now) }
+    ensures some { IfSome result (λ j. AllByRecursion (StepRouted C.key_of (stripe_of C.Hasher.BuildHasher C.Hasher.Hasher.Hasher C.Key.Hash.hash_input hasher.now count) part) (take j history.now) × IfSome (slice_get history.now j) (λ step. ¬ StepRouted C.key_of (stripe_of C.Hasher.BuildHasher C.Hasher.Hasher.Hasher C.Key.Hash.hash_input hasher.now count) part step) × (j < length history.now)) }
 {
     for j in 0..history.len() {
         if !is_placed::<C>(hasher, count, part, &history[j]) {
@@ -77,7 +77,7 @@ fn is_placed<C: Calls>(
     step: &Step<C::Call, C::Reply>,
 ) -> bool
     requires { 0 < count }
-    ensures { IsTrue result ↔ StepRouted C.key_of (part_of C.Hasher.BuildHasher C.Hasher.Hasher.Hasher C.Key.Hash.hash_input hasher.now count) part step.now }
+    ensures { IsTrue result ↔ StepRouted C.key_of (stripe_of C.Hasher.BuildHasher C.Hasher.Hasher.Hasher C.Key.Hash.hash_input hasher.now count) part step.now }
 {
     match step {
         Step::Call { call, .. } => match C::key(call) {

@@ -3,7 +3,7 @@ ghost use Rattle.std.specs.Prelude.{◌≡◌, ℕ, ◌+◌, ◌<◌, ◌≤◌,
 ghost use Rattle.std.specs.List.{AllByRecursion};
 ghost use Rattle.scc_recorded.specs.Histories.{Replays, CallsRouted, Run, FirstMisrouted};
 ghost use Rattle.scc_recorded.specs.Made.{IsMadeFor};
-ghost use Rattle.scc_recorded.specs.Parts.{part_of};
+ghost use Rattle.scc_table.specs.Routing.{stripe_of};
 ghost use Rattle.scc_recorded.specs.declared.recorded.fixed.Request.{Request};
 ghost use Rattle.scc_recorded.specs.declared.recorded.fixed.Setting.{Setting};
 ghost use Rattle.scc_history.specs.Orders.{IsMerge, IsOnlyStampOrder, StampsRise, steps_at};
@@ -50,7 +50,7 @@ where
         ensures parts { IfOk result (λ f. (f.parts.items ≡ map (λ s. s.stripe.container) self.stripes.items) × (map (λ h. h.items) f.histories.items ≡ map (λ s. s.stripe.history.items) self.stripes.items) × (f.opened.items ≡ map (λ s. s.stripe.opened) self.stripes.items)) }
         ensures alike { IfOk result (λ f. ∥ ((r : Request C.Hasher) × (M.chosen ≡ Some r) × (r.hasher ≡ self.hasher) × ((g : Setting C.Hasher) × IsMadeFor C.limits r g × AllByRecursion (λ c. C.setting c ≡ g) f.parts.items)) ∥₁) }
         ensures replays { IfOk result (λ f. (g : Setting C.Hasher) → AllByRecursion (λ c. C.setting c ≡ g) f.parts.items → ∥ Replays (C.moves g) (C.resizes g) (map C.empty f.opened.items) (map (λ h. h.items) f.histories.items) (map C.state f.parts.items) ∥₁) }
-        ensures routed { IfOk result (λ f. CallsRouted C.key_of (part_of C.Hasher.BuildHasher C.Hasher.Hasher.Hasher C.Key.Hash.hash_input self.hasher (length f.histories.items)) 0 (map (λ h. h.items) f.histories.items)) }
+        ensures routed { IfOk result (λ f. CallsRouted C.key_of (stripe_of C.Hasher.BuildHasher C.Hasher.Hasher.Hasher C.Key.Hash.hash_input self.hasher (length f.histories.items)) 0 (map (λ h. h.items) f.histories.items)) }
         ensures merges { IfOk result (λ f. (g : Setting C.Hasher) → AllByRecursion (λ c. C.setting c ≡ g) f.parts.items → (places : List (ℕ × ℕ)) → IsMerge (map (λ h. h.items) f.histories.items) places
             → ∥ Run (C.whole_moves g (length f.histories.items)) (C.whole_resizes g (length f.histories.items)) (C.whole (map C.empty f.opened.items)) (steps_at (map (λ h. h.items) f.histories.items) places) (C.whole (map C.state f.parts.items)) ∥₁) }
         ensures order { IfOk result (λ f. IsOnlyStampOrder (map (λ h. h.items) f.histories.items) f.order.items) }
@@ -59,7 +59,7 @@ where
         ensures receipts { IfOk result (λ f. AllMatch C.Call.eq C.Reply.eq (λ p. p.log.number) (λ p. p.log.receipts.items) passes.items (λ n. calls_of n (steps_at (map (λ h. h.items) f.histories.items) f.order.items))) }
         ensures back { IfErr result (λ u. (u.recorded ≡ self) × (u.passes ≡ passes)) }
         ensures missing { IfErr result (λ u. u.cause ≡ FinishError.Missing → ¬ AreAll self.passes (map (λ p. p.log.number) passes.items)) }
-        ensures misrouted { IfErr result (λ u. (i j : ℕ) → u.cause ≡ FinishError.Misrouted i j → FirstMisrouted C.key_of (part_of C.Hasher.BuildHasher C.Hasher.Hasher.Hasher C.Key.Hash.hash_input self.hasher (vec_len self.stripes)) (map (λ s. s.stripe.history.items) self.stripes.items) i j) }
+        ensures misrouted { IfErr result (λ u. (i j : ℕ) → u.cause ≡ FinishError.Misrouted i j → FirstMisrouted C.key_of (stripe_of C.Hasher.BuildHasher C.Hasher.Hasher.Hasher C.Key.Hash.hash_input self.hasher (vec_len self.stripes)) (map (λ s. s.stripe.history.items) self.stripes.items) i j) }
         ensures disagrees { IfErr result (λ u. (n k : ℕ) → u.cause ≡ FinishError.Disagrees n k → ∥ ((order : List (ℕ × ℕ)) × IsOnlyStampOrder (map (λ s. s.stripe.history.items) self.stripes.items) order
             × FirstDisagrees C.Call.eq C.Reply.eq (λ p. p.log.number) (λ p. p.log.receipts.items) passes.items (λ m. calls_of m (steps_at (map (λ s. s.stripe.history.items) self.stripes.items) order)) n k) ∥₁) }
     {
@@ -105,11 +105,11 @@ where
     // The stamp order, where nothing speaks against the run.
     fn order_of(&self, passes: &[Pass<C, L>]) -> Result<Vec<(usize, usize)>, FinishError>
         ensures complete { IfOk result (λ v. AreAll self.now.passes (map (λ p. p.log.number) passes.now)) }
-        ensures routed { IfOk result (λ v. CallsRouted C.key_of (part_of C.Hasher.BuildHasher C.Hasher.Hasher.Hasher C.Key.Hash.hash_input self.now.hasher (vec_len self.now.stripes)) 0 (map (λ s. s.stripe.history.items) self.now.stripes.items)) }
+        ensures routed { IfOk result (λ v. CallsRouted C.key_of (stripe_of C.Hasher.BuildHasher C.Hasher.Hasher.Hasher C.Key.Hash.hash_input self.now.hasher (vec_len self.now.stripes)) 0 (map (λ s. s.stripe.history.items) self.now.stripes.items)) }
         ensures order { IfOk result (λ v. IsOnlyStampOrder (map (λ s. s.stripe.history.items) self.now.stripes.items) v.items) }
         ensures receipts { IfOk result (λ v. AllMatch C.Call.eq C.Reply.eq (λ p. p.log.number) (λ p. p.log.receipts.items) passes.now (λ n. calls_of n (steps_at (map (λ s. s.stripe.history.items) self.now.stripes.items) v.items))) }
         ensures missing { result ≡ Err FinishError.Missing → ¬ AreAll self.now.passes (map (λ p. p.log.number) passes.now) }
-        ensures misrouted { (i j : ℕ) → result ≡ Err (FinishError.Misrouted i j) → FirstMisrouted C.key_of (part_of C.Hasher.BuildHasher C.Hasher.Hasher.Hasher C.Key.Hash.hash_input self.now.hasher (vec_len self.now.stripes)) (map (λ s. s.stripe.history.items) self.now.stripes.items) i j }
+        ensures misrouted { (i j : ℕ) → result ≡ Err (FinishError.Misrouted i j) → FirstMisrouted C.key_of (stripe_of C.Hasher.BuildHasher C.Hasher.Hasher.Hasher C.Key.Hash.hash_input self.now.hasher (vec_len self.now.stripes)) (map (λ s. s.stripe.history.items) self.now.stripes.items) i j }
         ensures disagrees { (n k : ℕ) → result ≡ Err (FinishError.Disagrees n k) → ∥ ((order : List (ℕ × ℕ)) × IsOnlyStampOrder (map (λ s. s.stripe.history.items) self.now.stripes.items) order
             × FirstDisagrees C.Call.eq C.Reply.eq (λ p. p.log.number) (λ p. p.log.receipts.items) passes.now (λ m. calls_of m (steps_at (map (λ s. s.stripe.history.items) self.now.stripes.items) order)) n k) ∥₁ }
     {
@@ -147,6 +147,12 @@ where
     /// [`Recorded::close`], and then [`Closed::finish`].
     pub fn finish(self, passes: Vec<Pass<C, L>>) -> Result<Finished<C>, Unfinished<C, L, M>>
         ensures complete { IfOk result (λ f. AreAll self.passes (map (λ p. p.log.number) passes.items)) }
+        ensures replays { IfOk result (λ f. (g : Setting C.Hasher) → AllByRecursion (λ c. C.setting c ≡ g) f.parts.items → ∥ Replays (C.moves g) (C.resizes g) (map C.empty f.opened.items) (map (λ h. h.items) f.histories.items) (map C.state f.parts.items) ∥₁) }
+        ensures merges { IfOk result (λ f. (g : Setting C.Hasher) → AllByRecursion (λ c. C.setting c ≡ g) f.parts.items → (places : List (ℕ × ℕ)) → IsMerge (map (λ h. h.items) f.histories.items) places
+            → ∥ Run (C.whole_moves g (length f.histories.items)) (C.whole_resizes g (length f.histories.items)) (C.whole (map C.empty f.opened.items)) (steps_at (map (λ h. h.items) f.histories.items) places) (C.whole (map C.state f.parts.items)) ∥₁) }
+        ensures order { IfOk result (λ f. IsOnlyStampOrder (map (λ h. h.items) f.histories.items) f.order.items) }
+        ensures stamps { IfOk result (λ f. StampsRise (map (λ h. h.items) f.histories.items) f.order.items) }
+        ensures receipts { IfOk result (λ f. AllMatch C.Call.eq C.Reply.eq (λ p. p.log.number) (λ p. p.log.receipts.items) passes.items (λ n. calls_of n (steps_at (map (λ h. h.items) f.histories.items) f.order.items))) }
         ensures stripes { IfOk result (λ f. vec_len f.parts ≡ self.stripes) }
         ensures passes { IfErr result (λ u. (u.passes ≡ passes) × (vec_len u.recorded.stripes ≡ self.stripes) × (u.recorded.passes ≡ self.passes)) }
         ensures missing { IfErr result (λ u. u.cause ≡ FinishError.Missing → ¬ AreAll self.passes (map (λ p. p.log.number) passes.items)) }

@@ -15,6 +15,7 @@ impl<C: WholeCalls, L: Ledger, M: Site<C::Hasher>> Recorded<C, L, M> {
     /// Where a stripe has no room for the record or the receipt, those before it are cleared and recorded.
     pub fn clear<R: Wait>(&self, rt: &R, pass: &mut Pass<C, L>) -> Result<(), CallError>
         ensures number { pass.new.log.number ≡ pass.old.log.number }
+        ensures clock { pass.old.log.clock ≤ pass.new.log.clock }
         ensures ok { OnOk result (Adds pass.old.log.clock C.clears self.now.stripes pass.old.log.receipts.items pass.new.log.receipts.items) }
         ensures err { OnErr result ((n : ℕ) × (n < self.now.stripes) × Adds pass.old.log.clock C.clears n pass.old.log.receipts.items pass.new.log.receipts.items) }
     {
@@ -26,6 +27,7 @@ impl<C: WholeCalls, L: Ledger, M: Site<C::Hasher>> Recorded<C, L, M> {
     /// Where a stripe has no room for the record or the receipt, those before it are counted and recorded.
     pub fn len<R: Wait>(&self, rt: &R, pass: &mut Pass<C, L>) -> Result<usize, CallError>
         ensures number { pass.new.log.number ≡ pass.old.log.number }
+        ensures clock { pass.old.log.clock ≤ pass.new.log.clock }
         ensures ok { IfOk result (λ n. Adds pass.old.log.clock C.counts self.now.stripes pass.old.log.receipts.items pass.new.log.receipts.items) }
         ensures err { OnErr result ((n : ℕ) × (n < self.now.stripes) × Adds pass.old.log.clock C.counts n pass.old.log.receipts.items pass.new.log.receipts.items) }
         ensures sum { IfOk result (λ n. n ≡ min 18446744073709551615 (sum_by (λ r. number_of (C.told r.reply)) (drop (length pass.old.log.receipts.items) pass.new.log.receipts.items))) }
@@ -51,6 +53,7 @@ impl<C: Calls, L: Ledger, M: Site<C::Hasher>> Recorded<C, L, M> {
     // One call of each stripe, stripe 0 first.
     fn each<R: Wait>(&self, rt: &R, pass: &mut Pass<C, L>, call: C::Call) -> Result<(), CallError>
         ensures number { pass.new.log.number ≡ pass.old.log.number }
+        ensures clock { pass.old.log.clock ≤ pass.new.log.clock }
         ensures ok { OnOk result (Adds pass.old.log.clock call self.now.stripes pass.old.log.receipts.items pass.new.log.receipts.items) }
         ensures err { OnErr result ((n : ℕ) × (n < self.now.stripes) × Adds pass.old.log.clock call n pass.old.log.receipts.items pass.new.log.receipts.items) }
     {

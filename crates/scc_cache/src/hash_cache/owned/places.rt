@@ -5,10 +5,9 @@ ghost use Rattle.scc_table.specs.Contents.{entries, bucket_count, list_of, key_h
 ghost use Rattle.scc_table.specs.Routing.{bucket_number};
 ghost use Rattle.scc_incremental.specs.Places.{IsPlace, index_of, spot_of};
 ghost use Rattle.scc_incremental.specs.TwoArrays.{IsWaiting};
-ghost use Rattle.scc_cache.specs.CacheSteps.{Changes, IsFound, IsLacking, PutsNew, TakesAt, number_in};
+ghost use Rattle.scc_cache.specs.CacheSteps.{IsFound, IsLacking, IsLastAt, PutsNew, TakesAt};
 ghost use Rattle.scc_cache.specs.Caches.{IsCacheState};
 ghost use Rattle.scc_cache.specs.Lends.{lends_value, with_key_at, with_value_at};
-ghost use Rattle.scc_cache.specs.ListSteps.{Refreshes};
 ghost use Rattle.scc_cache.specs.Relocations.{RelocatesNone, RelocatesOne, RelocatesTwo};
 
 use super::Owned;
@@ -17,6 +16,13 @@ use scc_table::Place;
 use std::hash::{BuildHasher, Hash};
 
 impl<K: Eq + Hash, V, H: BuildHasher> Owned<K, V, H> {
+    /// The hash of a key.
+    pub(crate) fn hash_of(&self, k: &K) -> u64
+        ensures { result ≡ key_hash H.BuildHasher H.Hasher.Hasher K.hash_input self.now.contents k.now }
+    {
+        self.table.hash(k)
+    }
+
     /// Where the pair of `k` stands. `hash` is the hash of `k`.
     #[inline(always)]
     pub(crate) fn find(&self, hash: u64, k: &K) -> Option<Place>
@@ -61,14 +67,14 @@ impl<K: Eq + Hash, V, H: BuildHasher> Owned<K, V, H> {
         }
     }
 
-    /// Makes the pair of `k` the most recent of its bucket, and answers where it then stands. Where the bucket waits, it takes its pairs over first.
+    /// Makes the pair of `k` the most recent of its bucket, and answers where it then stands. `hash` is the hash of `k`. Where the bucket waits, it takes its pairs over first.
     #[inline(always)]
-    pub(crate) fn refresh(&mut self, k: &K) -> Option<Place>
-        ensures step { MatchOption result (IsLacking (key_hash H.BuildHasher H.Hasher.Hasher K.hash_input self.old.contents) K.eq self.old.contents k.now × (self.new ≡ self.old)) (λ place. IsPlace self.new.contents place × ((p : K × V) × (slice_get (list_of self.new.contents (spot_of self.new.contents place).bucket) (spot_of self.new.contents place).slot ≡ Some p) × Changes (Refreshes (number_in (key_hash H.BuildHasher H.Hasher.Hasher K.hash_input self.old.contents) self.old.contents) K.eq k.now p) self.old self.new)) }
+    pub(crate) fn refresh(&mut self, hash: u64, k: &K) -> Option<Place>
+        requires { hash ≡ key_hash H.BuildHasher H.Hasher.Hasher K.hash_input self.old.contents k.now }
+        ensures step { MatchOption result (IsLacking (key_hash H.BuildHasher H.Hasher.Hasher K.hash_input self.old.contents) K.eq self.old.contents k.now × (self.new ≡ self.old)) (IsLastAt (key_hash H.BuildHasher H.Hasher.Hasher K.hash_input self.old.contents) K.eq self.old k.now self.new) }
         ensures state { IsCacheState K.eq (key_hash H.BuildHasher H.Hasher.Hasher K.hash_input self.new.contents) self.new }
         ensures relocates { OnSome result (RelocatesOne (key_hash H.BuildHasher H.Hasher.Hasher K.hash_input self.old.contents k.now) self.old.contents self.new.contents) }
     {
-        let hash = self.table.hash(k);
         if self.table.bucket_count() == 0 {
             return None;
         }
@@ -86,7 +92,7 @@ impl<K: Eq + Hash, V, H: BuildHasher> Owned<K, V, H> {
         requires routed { bucket ≡ bucket_number (settings_of self.old.contents).skipped (bucket_count self.old.contents) hash }
         requires hashed { hash ≡ key_hash H.BuildHasher H.Hasher.Hasher K.hash_input self.old.contents k.now }
         requires waits { IsWaiting self.old.contents bucket }
-        ensures step { MatchOption result (IsLacking (key_hash H.BuildHasher H.Hasher.Hasher K.hash_input self.old.contents) K.eq self.old.contents k.now × (self.new ≡ self.old)) (λ place. IsPlace self.new.contents place × ((p : K × V) × (slice_get (list_of self.new.contents (spot_of self.new.contents place).bucket) (spot_of self.new.contents place).slot ≡ Some p) × Changes (Refreshes (number_in (key_hash H.BuildHasher H.Hasher.Hasher K.hash_input self.old.contents) self.old.contents) K.eq k.now p) self.old self.new)) }
+        ensures step { MatchOption result (IsLacking (key_hash H.BuildHasher H.Hasher.Hasher K.hash_input self.old.contents) K.eq self.old.contents k.now × (self.new ≡ self.old)) (IsLastAt (key_hash H.BuildHasher H.Hasher.Hasher K.hash_input self.old.contents) K.eq self.old k.now self.new) }
         ensures state { IsCacheState K.eq (key_hash H.BuildHasher H.Hasher.Hasher K.hash_input self.new.contents) self.new }
         ensures relocates { OnSome result (RelocatesOne (key_hash H.BuildHasher H.Hasher.Hasher K.hash_input self.old.contents k.now) self.old.contents self.new.contents) }
     {
@@ -102,7 +108,7 @@ impl<K: Eq + Hash, V, H: BuildHasher> Owned<K, V, H> {
         requires routed { bucket ≡ bucket_number (settings_of self.old.contents).skipped (bucket_count self.old.contents) hash }
         requires hashed { hash ≡ key_hash H.BuildHasher H.Hasher.Hasher K.hash_input self.old.contents k.now }
         requires settled { IsWaiting self.old.contents bucket → ⊥ }
-        ensures step { MatchOption result (IsLacking (key_hash H.BuildHasher H.Hasher.Hasher K.hash_input self.old.contents) K.eq self.old.contents k.now × (self.new ≡ self.old)) (λ place. IsPlace self.new.contents place × ((p : K × V) × (slice_get (list_of self.new.contents (spot_of self.new.contents place).bucket) (spot_of self.new.contents place).slot ≡ Some p) × Changes (Refreshes (number_in (key_hash H.BuildHasher H.Hasher.Hasher K.hash_input self.old.contents) self.old.contents) K.eq k.now p) self.old self.new)) }
+        ensures step { MatchOption result (IsLacking (key_hash H.BuildHasher H.Hasher.Hasher K.hash_input self.old.contents) K.eq self.old.contents k.now × (self.new ≡ self.old)) (IsLastAt (key_hash H.BuildHasher H.Hasher.Hasher K.hash_input self.old.contents) K.eq self.old k.now self.new) }
         ensures state { IsCacheState K.eq (key_hash H.BuildHasher H.Hasher.Hasher K.hash_input self.new.contents) self.new }
         ensures waiting { waiting_of self.new.contents ≡ waiting_of self.old.contents }
     {
@@ -161,6 +167,8 @@ impl<K: Eq + Hash, V, H: BuildHasher> Owned<K, V, H> {
         requires same { (p : K × V) → slice_get (list_of self.old.contents (spot_of self.old.contents place).bucket) (spot_of self.old.contents place).slot ≡ Some p → K.eq key p.0 ≡ true }
         ensures old { (p : K × V) × (slice_get (list_of self.old.contents (spot_of self.old.contents place).bucket) (spot_of self.old.contents place).slot ≡ Some p) × (result ≡ p.0) }
         ensures new { self.new ≡ with_key_at self.old place key }
+        ensures within { IsPlace self.new.contents place }
+        ensures alike { (p : K × V) → slice_get (list_of self.new.contents (spot_of self.new.contents place).bucket) (spot_of self.new.contents place).slot ≡ Some p → K.eq result p.0 ≡ true }
         ensures state { IsCacheState K.eq (key_hash H.BuildHasher H.Hasher.Hasher K.hash_input self.new.contents) self.new }
     {
         let old = self.table.replace_key_at(place, key);

@@ -31,6 +31,25 @@ impl<K: Eq + Hash, V, H: BuildHasher> Owned<K, V, H> {
         ensures relocates { RelocatesNone (λ p. key_hash H.BuildHasher H.Hasher.Hasher K.hash_input self.old.contents p.0) self.old.contents self.new.contents }
         ensures rests { length (entries self.new.contents) ≡ length (entries self.old.contents) → waiting_of self.new.contents ≡ waiting_of self.old.contents }
     {
+        let mut f = f;
+        self.iter_mut_lent(&mut f, taken)
+    }
+
+    /// The same with a closure that is lent, and goes on to other caches.
+    pub fn iter_mut_lent<F: FnMut(&K, &mut V) -> Verdict>(
+        &mut self,
+        f: &mut F,
+        taken: &mut Vec<(K, V)>,
+    ) -> Result<bool, WalkError>
+        requires { (es : List (K × V)) → IsPermutation (entries self.old.contents) es → CallableToWrite F.FnMut GoesOn f.old es }
+        ensures step { (es : List (K × V)) × (stay : List (K × V)) × (more : List (K × V)) × (left : Cached (K × V) H) × GoesOver (key_hash H.BuildHasher H.Hasher.Hasher K.hash_input self.old.contents) self.old.contents es × Takes (CalledToWrite F.FnMut) f.old es stay more result f.new × (taken.new.items ≡ taken.old.items ++ more) × LeavesPairs (key_hash H.BuildHasher H.Hasher.Hasher K.hash_input self.old.contents) self.old stay left × ShrinksIfTaken (key_hash H.BuildHasher H.Hasher.Hasher K.hash_input self.old.contents) more left self.new }
+        ensures full { OnErr result (vec_capacity taken.new ≤ vec_len taken.new) }
+        ensures room { vec_capacity taken.old ≤ vec_capacity taken.new }
+        ensures was_unique { IsUnique K.eq self.old.contents }
+        ensures state { IsCacheState K.eq (key_hash H.BuildHasher H.Hasher.Hasher K.hash_input self.new.contents) self.new }
+        ensures relocates { RelocatesNone (λ p. key_hash H.BuildHasher H.Hasher.Hasher K.hash_input self.old.contents p.0) self.old.contents self.new.contents }
+        ensures rests { length (entries self.new.contents) ≡ length (entries self.old.contents) → waiting_of self.new.contents ≡ waiting_of self.old.contents }
+    {
         let before = self.len();
         let result = self.take_walk(f, taken);
         if self.len() < before {
@@ -42,11 +61,11 @@ impl<K: Eq + Hash, V, H: BuildHasher> Owned<K, V, H> {
     /// The same in the order of the list, with no resize.
     fn take_walk<F: FnMut(&K, &mut V) -> Verdict>(
         &mut self,
-        mut f: F,
+        f: &mut F,
         taken: &mut Vec<(K, V)>,
     ) -> Result<bool, WalkError>
-        requires { CallableToWrite F.FnMut GoesOn f (entries self.old.contents) }
-        ensures step { (stay : List (K × V)) × (more : List (K × V)) × (last : F) × Takes (CalledToWrite F.FnMut) f (entries self.old.contents) stay more result last × (taken.new.items ≡ taken.old.items ++ more) × HoldsExactly self.old.contents stay self.new.contents }
+        requires { CallableToWrite F.FnMut GoesOn f.old (entries self.old.contents) }
+        ensures step { (stay : List (K × V)) × (more : List (K × V)) × Takes (CalledToWrite F.FnMut) f.old (entries self.old.contents) stay more result f.new × (taken.new.items ≡ taken.old.items ++ more) × HoldsExactly self.old.contents stay self.new.contents }
         ensures refused { refused_of self.new.contents ≡ refused_of self.old.contents }
         ensures maximum { self.new.maximum ≡ self.old.maximum }
         ensures waiting { waiting_of self.new.contents ≡ waiting_of self.old.contents }
@@ -59,7 +78,7 @@ impl<K: Eq + Hash, V, H: BuildHasher> Owned<K, V, H> {
                 Ok(()) => {}
                 Err(_) => return Err(WalkError),
             }
-            match self.visit(place, &mut f) {
+            match self.visit(place, f) {
                 Verdict::Keep => {
                     at = self.next_place(place);
                 }

@@ -76,4 +76,21 @@ impl<K: Eq + Hash, V, H: BuildHasher> Owned<K, V, H> {
     {
         self.table.take_and_step(place)
     }
+
+    /// Calls `f` on the pairs in the order of the lists until its first false, and answers false where it stopped. The
+    /// closure is lent, and goes on to other caches.
+    pub fn iter_lent<F: FnMut(&K, &V) -> bool>(&self, f: &mut F) -> bool
+        requires { CallableWhile F.FnMut true f.old (entries self.now.contents) }
+        ensures { Walks (CalledOn F.FnMut) f.old (entries self.now.contents) result f.new }
+    {
+        let mut at = self.table.first_place();
+        while let Some(place) = at {
+            let (key, value) = self.table.pair_at(place);
+            if !f(key, value) {
+                return false;
+            }
+            at = self.next_place(place);
+        }
+        true
+    }
 }

@@ -28,25 +28,40 @@ impl<K: Eq + Hash, V, H: BuildHasher> Owned<K, V, H> {
         ensures state { IsCacheState K.eq (key_hash H.BuildHasher H.Hasher.Hasher K.hash_input self.new.contents) self.new }
         ensures relocates { RelocatesNone (λ p. key_hash H.BuildHasher H.Hasher.Hasher K.hash_input self.old.contents p.0) self.old.contents self.new.contents }
     {
+        let mut f = f;
+        self.retain_lent(&mut f);
+    }
+
+    /// The same with a closure that is lent, and goes on to other caches.
+    pub fn retain_lent<F: FnMut(&K, &mut V) -> bool>(&mut self, f: &mut F)
+    where
+        K: Drop,
+        V: Drop,
+        requires { (es : List (K × V)) → IsPermutation (entries self.old.contents) es → CallableToWrite F.FnMut (λ answer. ⊤) f.old es }
+        ensures step { (es : List (K × V)) × (stay : List (K × V)) × (left : Cached (K × V) H) × GoesOver (key_hash H.BuildHasher H.Hasher.Hasher K.hash_input self.old.contents) self.old.contents es × Retains (CalledToWrite F.FnMut) f.old es stay f.new × LeavesPairs (key_hash H.BuildHasher H.Hasher.Hasher K.hash_input self.old.contents) self.old stay left × ShrinksTo (λ e. key_hash H.BuildHasher H.Hasher.Hasher K.hash_input self.old.contents e.0) left self.new }
+        ensures was_unique { IsUnique K.eq self.old.contents }
+        ensures state { IsCacheState K.eq (key_hash H.BuildHasher H.Hasher.Hasher K.hash_input self.new.contents) self.new }
+        ensures relocates { RelocatesNone (λ p. key_hash H.BuildHasher H.Hasher.Hasher K.hash_input self.old.contents p.0) self.old.contents self.new.contents }
+    {
         let _ = self.len();
         self.retain_all(f);
         self.table.shrink_within();
     }
 
     /// The same in the order of the list, with no resize.
-    fn retain_all<F: FnMut(&K, &mut V) -> bool>(&mut self, mut f: F)
+    fn retain_all<F: FnMut(&K, &mut V) -> bool>(&mut self, f: &mut F)
     where
         K: Drop,
         V: Drop,
-        requires { CallableToWrite F.FnMut (λ answer. ⊤) f (entries self.old.contents) }
-        ensures step { (stay : List (K × V)) × (last : F) × Retains (CalledToWrite F.FnMut) f (entries self.old.contents) stay last × HoldsExactly self.old.contents stay self.new.contents }
+        requires { CallableToWrite F.FnMut (λ answer. ⊤) f.old (entries self.old.contents) }
+        ensures step { (stay : List (K × V)) × Retains (CalledToWrite F.FnMut) f.old (entries self.old.contents) stay f.new × HoldsExactly self.old.contents stay self.new.contents }
         ensures refused { refused_of self.new.contents ≡ refused_of self.old.contents }
         ensures maximum { self.new.maximum ≡ self.old.maximum }
         ensures waiting { waiting_of self.new.contents ≡ waiting_of self.old.contents }
     {
         let mut at = self.table.first_place();
         while let Some(place) = at {
-            if self.visit(place, &mut f) {
+            if self.visit(place, f) {
                 at = self.next_place(place);
             } else {
                 let (_pair, next) = self.take_and_step(place);

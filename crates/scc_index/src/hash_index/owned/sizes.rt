@@ -7,7 +7,7 @@ ghost use Rattle.scc_incremental.specs.Relocates.{IsGrowthDue, IsShrinkDue, Spre
 ghost use Rattle.scc_index.specs.IndexSizes.{ReservesOrRefuses, ReleasesOrRefuses};
 
 use super::Owned;
-use scc_table::Reservation;
+use scc_incremental::Reservation;
 use scc_table::sizes::GREATEST_CAPACITY;
 use std::hash::{BuildHasher, Hash};
 use std::ops::RangeInclusive;
@@ -23,11 +23,7 @@ impl<K: Eq + Hash, V, H: BuildHasher> Owned<K, V, H> {
         ensures waiting { IfNone result (waiting_of self.new ≡ waiting_of self.old) }
         ensures unique { IsUnique K.eq self.new }
     {
-        if self.table.reserve(additional) {
-            Some(Reservation::new(additional))
-        } else {
-            None
-        }
+        self.table.reserve(additional)
     }
 
     /// Gives reserved slots back, and tries to make the array smaller. A token for more slots than what is reserved here comes back, and nothing changes.
@@ -40,7 +36,7 @@ impl<K: Eq + Hash, V, H: BuildHasher> Owned<K, V, H> {
         ensures waiting { OnErr result (waiting_of self.new ≡ waiting_of self.old) }
         ensures unique { IsUnique K.eq self.new }
     {
-        if self.table.release(reservation.additional_capacity()) {
+        if self.table.lower_minimum(reservation.additional_capacity()) {
             Ok(())
         } else {
             Err(reservation)

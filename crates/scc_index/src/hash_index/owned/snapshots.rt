@@ -1,5 +1,5 @@
 //! Snapshots of an index: the versions that it had, whatever becomes of it.
-ghost use Rattle.std.specs.Prelude.{◌≡◌, IfOk};
+ghost use Rattle.std.specs.Prelude.{◌≡◌, ◌++◌, ℕ, IfOk, OnOk, OnErr, map, take};
 ghost use Rattle.std.specs.Arc.{arc_value};
 ghost use Rattle.std.specs.Iterator.{YieldsFirstBy, item_count};
 ghost use Rattle.scc_table.specs.Contents.{entries};
@@ -42,6 +42,15 @@ impl<K: Drop, V: Drop> Iterator for Iter<K, V> {
 impl<K: Drop, V: Drop> FusedIterator for Iter<K, V> {}
 
 impl<K: Drop, V: Drop> Iter<K, V> {
+    /// A snapshot that gives the versions of a list in their order.
+    pub fn of(versions: Vec<Arc<Version<K, V>>>) -> Self
+        ensures { result ≡ map arc_value versions.items }
+    {
+        let mut versions = versions;
+        versions.reverse();
+        Iter { versions }
+    }
+
     /// The same versions once more. It is refused for want of memory, and where a version has 2^63 - 1 owners.
     pub fn try_clone(&self) -> Result<Iter<K, V>, MakeError>
         ensures { IfOk result (λ s. s ≡ self.now) }
@@ -78,6 +87,20 @@ impl<K: Eq + Hash, V, H: BuildHasher> Owned<K, V, H> {
             Ok(versions) => versions,
             Err(_) => return Err(MakeError),
         };
+        match self.iter_into(&mut versions) {
+            Ok(()) => Ok(Iter::of(versions)),
+            Err(e) => Err(e),
+        }
+    }
+
+    /// Adds the versions to a list, in the index's own order. It is refused for want of memory, and where a version has 2^63 - 1 owners; then the first versions were added.
+    pub fn iter_into(&self, versions: &mut Vec<Arc<Version<K, V>>>) -> Result<(), MakeError>
+    where
+        K: Drop,
+        V: Drop,
+        ensures all { OnOk result (map arc_value versions.new.items ≡ map arc_value versions.old.items ++ entries self.now) }
+        ensures refused { OnErr result ((n : ℕ) × (map arc_value versions.new.items ≡ map arc_value versions.old.items ++ take n (entries self.now))) }
+    {
         let mut at = self.table.first_place();
         while let Some(place) = at {
             let Ok(version) = self.table.entry_at(place).share() else {
@@ -89,7 +112,6 @@ impl<K: Eq + Hash, V, H: BuildHasher> Owned<K, V, H> {
             }
             at = self.next_place(place);
         }
-        versions.reverse();
-        Ok(Iter { versions })
+        Ok(())
     }
 }

@@ -1,5 +1,5 @@
 //! Walks over the pairs of an index, from place to place.
-ghost use Rattle.std.specs.Prelude.{◌≡◌, ◌≢◌, suc, List, [], length, remove, MatchOption, false};
+ghost use Rattle.std.specs.Prelude.{◌≡◌, ◌≢◌, suc, List, [], length, remove, MatchOption, false, true};
 ghost use Rattle.std.specs.List.Sorted.{IsPermutation};
 ghost use Rattle.scc_table.specs.Contents.{entries, bucket_count, minimum_of, refused_of, waiting_of};
 ghost use Rattle.scc_table.specs.Pairs.{IsUnique};
@@ -7,9 +7,9 @@ ghost use Rattle.scc_incremental.specs.Places.{IsPlace, StandsAt, index_of};
 ghost use Rattle.scc_incremental.specs.Relocations.{RelocatesNone};
 ghost use Rattle.scc_table.specs.Sizes.{IsSmaller};
 ghost use Rattle.scc_table.specs.Steps.{Holds, HoldsExactly, ShrinksWhenDue};
-ghost use Rattle.scc_table.specs.Walks.{CalledOn, CallableWhile};
+ghost use Rattle.scc_table.specs.Walks.{CalledOn, CallableWhile, Walks};
 ghost use Rattle.scc_index.specs.IndexWalks.{CallableOnAll, Retains};
-ghost use Rattle.scc_walks.specs.PairWalks.{PassesNone, PassesFirst};
+ghost use Rattle.scc_walks.specs.PairWalks.{Declines, PassesFirst};
 
 use super::Owned;
 use scc_table::Place;
@@ -59,17 +59,33 @@ impl<K: Eq + Hash, V, H: BuildHasher> Owned<K, V, H> {
         ensures relocates { RelocatesNone self.old self.new }
         ensures unique { IsUnique K.eq self.new }
     {
+        let mut f = f;
+        self.retain_lent(&mut f);
+    }
+
+    /// The same with a closure that is lent, and goes on to other indexes.
+    pub fn retain_lent<F: FnMut(&K, &V) -> bool>(&mut self, f: &mut F)
+    where
+        K: Drop,
+        V: Drop,
+        requires { (es : List (K × V)) → IsPermutation (entries self.old) es → CallableOnAll F.FnMut f.old es }
+        ensures step { (es : List (K × V)) × (stay : List (K × V)) × IsPermutation (entries self.old) es × Retains (CalledOn F.FnMut) f.old es stay f.new × Holds self.old stay self.new }
+        ensures smaller { bucket_count self.new ≢ bucket_count self.old → IsSmaller (minimum_of self.old) (length (entries self.new)) (bucket_count self.old) (bucket_count self.new) }
+        ensures due { ShrinksWhenDue self.old self.new }
+        ensures relocates { RelocatesNone self.old self.new }
+        ensures unique { IsUnique K.eq self.new }
+    {
         self.retain_all(f);
         self.table.shrink();
     }
 
     /// The same in the order of the list, with no resize.
-    fn retain_all<F: FnMut(&K, &V) -> bool>(&mut self, mut f: F)
+    fn retain_all<F: FnMut(&K, &V) -> bool>(&mut self, f: &mut F)
     where
         K: Drop,
         V: Drop,
-        requires { CallableOnAll F.FnMut f (entries self.old) }
-        ensures step { (stay : List (K × V)) × (last : F) × Retains (CalledOn F.FnMut) f (entries self.old) stay last × HoldsExactly self.old stay self.new }
+        requires { CallableOnAll F.FnMut f.old (entries self.old) }
+        ensures step { (stay : List (K × V)) × Retains (CalledOn F.FnMut) f.old (entries self.old) stay f.new × HoldsExactly self.old stay self.new }
         ensures noted { refused_of self.new ≡ refused_of self.old }
         ensures waiting { waiting_of self.new ≡ waiting_of self.old }
     {
@@ -82,6 +98,13 @@ impl<K: Eq + Hash, V, H: BuildHasher> Owned<K, V, H> {
                 at = self.take_and_step(place);
             }
         }
+    }
+
+    /// The place of the first version of the list, or None where the index is empty.
+    pub(crate) fn first_place(&self) -> Option<Place>
+        ensures { MatchOption result (entries self.now ≡ []) (StandsAt self.now 0) }
+    {
+        self.table.first_place()
     }
 
     /// The place after that one, or None where it is the last.
@@ -109,9 +132,9 @@ impl<K: Eq + Hash, V, H: BuildHasher> Owned<K, V, H> {
     }
 
     /// The place of the first pair on which `p` answers true. It is called on the pairs in their order, up to that one.
-    pub(crate) fn first_passing<P: FnMut(&K, &V) -> bool>(&self, mut p: P) -> Option<Place>
-        requires { CallableWhile P.FnMut false p (entries self.now) }
-        ensures { MatchOption result (PassesNone (CalledOn P.FnMut) p (entries self.now)) (λ place. IsPlace self.now place × PassesFirst (CalledOn P.FnMut) p (entries self.now) (index_of self.now place)) }
+    pub(crate) fn first_passing<P: FnMut(&K, &V) -> bool>(&self, p: &mut P) -> Option<Place>
+        requires { CallableWhile P.FnMut false p.old (entries self.now) }
+        ensures { MatchOption result (Declines (CalledOn P.FnMut) p.old (entries self.now) p.new) (λ place. IsPlace self.now place × PassesFirst (CalledOn P.FnMut) p.old (entries self.now) (index_of self.now place)) }
     {
         let mut at = self.table.first_place();
         while let Some(place) = at {
@@ -122,5 +145,21 @@ impl<K: Eq + Hash, V, H: BuildHasher> Owned<K, V, H> {
             at = self.next_place(place);
         }
         None
+    }
+
+    /// Calls `f` on the pairs in the order of the list until its first false, and answers false where it stopped. The closure is lent, and goes on to other indexes.
+    pub fn iter_lent<F: FnMut(&K, &V) -> bool>(&self, f: &mut F) -> bool
+        requires { CallableWhile F.FnMut true f.old (entries self.now) }
+        ensures { Walks (CalledOn F.FnMut) f.old (entries self.now) result f.new }
+    {
+        let mut at = self.table.first_place();
+        while let Some(place) = at {
+            let (key, value) = self.pair_at(place);
+            if !f(key, value) {
+                return false;
+            }
+            at = self.next_place(place);
+        }
+        true
     }
 }

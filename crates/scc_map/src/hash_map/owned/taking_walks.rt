@@ -54,6 +54,27 @@ impl<K: Eq + Hash, V, H: BuildHasher> Owned<K, V, H> {
         ensures was_unique { IsUnique K.eq self.old }
         ensures unique { IsUnique K.eq self.new }
     {
+        let mut f = f;
+        self.iter_mut_lent(&mut f, taken)
+    }
+
+    /// The same with a closure that is lent, and goes on to other maps.
+    pub fn iter_mut_lent<F: FnMut(&K, &mut V) -> Verdict, L: Sink<K, V>>(
+        &mut self,
+        f: &mut F,
+        taken: &mut L,
+    ) -> Result<bool, WalkError>
+        requires { (es : List (K × V)) → IsPermutation (entries self.old) es → CallableToWrite F.FnMut GoesOn f.old es }
+        ensures step { (es : List (K × V)) × (stay : List (K × V)) × (more : List (K × V)) × IsPermutation (entries self.old) es × Takes (CalledToWrite F.FnMut) f.old es stay more result f.new × (L.pairs taken.new ≡ L.pairs taken.old ++ more) × Holds self.old stay self.new }
+        ensures still { L.pairs taken.new ≡ L.pairs taken.old → bucket_count self.new ≡ bucket_count self.old }
+        ensures smaller { bucket_count self.new ≢ bucket_count self.old → IsSmaller (minimum_of self.old) (length (entries self.new)) (bucket_count self.old) (bucket_count self.new) }
+        ensures full { OnErr result (L.capacity taken.new ≤ length (L.pairs taken.new)) }
+        ensures room { L.capacity taken.old ≤ L.capacity taken.new }
+        ensures due { (L.pairs taken.new ≡ L.pairs taken.old → ⊥) → ShrinksWhenDue self.old self.new }
+        ensures relocates { RelocatesNone self.old self.new }
+        ensures was_unique { IsUnique K.eq self.old }
+        ensures unique { IsUnique K.eq self.new }
+    {
         let before = self.len();
         let result = self.take_walk(f, taken);
         if self.len() < before {
@@ -65,11 +86,11 @@ impl<K: Eq + Hash, V, H: BuildHasher> Owned<K, V, H> {
     /// The same in the order of the list, with no resize.
     fn take_walk<F: FnMut(&K, &mut V) -> Verdict, L: Sink<K, V>>(
         &mut self,
-        mut f: F,
+        f: &mut F,
         taken: &mut L,
     ) -> Result<bool, WalkError>
-        requires { CallableToWrite F.FnMut GoesOn f (entries self.old) }
-        ensures step { (stay : List (K × V)) × (more : List (K × V)) × (last : F) × Takes (CalledToWrite F.FnMut) f (entries self.old) stay more result last × (L.pairs taken.new ≡ L.pairs taken.old ++ more) × HoldsExactly self.old stay self.new }
+        requires { CallableToWrite F.FnMut GoesOn f.old (entries self.old) }
+        ensures step { (stay : List (K × V)) × (more : List (K × V)) × Takes (CalledToWrite F.FnMut) f.old (entries self.old) stay more result f.new × (L.pairs taken.new ≡ L.pairs taken.old ++ more) × HoldsExactly self.old stay self.new }
         ensures noted { refused_of self.new ≡ refused_of self.old }
         ensures waiting { waiting_of self.new ≡ waiting_of self.old }
         ensures full { OnErr result (L.capacity taken.new ≤ length (L.pairs taken.new)) }
@@ -81,7 +102,7 @@ impl<K: Eq + Hash, V, H: BuildHasher> Owned<K, V, H> {
                 Ok(()) => {}
                 Err(_) => return Err(WalkError),
             }
-            match self.visit(place, &mut f) {
+            match self.visit(place, f) {
                 Verdict::Keep => {
                     at = self.next_place(place);
                 }

@@ -1,12 +1,12 @@
 //! Walks over the pairs of a map, from place to place.
-ghost use Rattle.std.specs.Prelude.{◌≡◌, [], suc, length, remove, slice_get, Some, MatchOption, false};
+ghost use Rattle.std.specs.Prelude.{◌≡◌, [], suc, length, remove, slice_get, Some, MatchOption, false, true};
 ghost use Rattle.scc_table.specs.Contents.{entries, refused_of, waiting_of};
 ghost use Rattle.scc_table.specs.Pairs.{IsUnique};
 ghost use Rattle.scc_incremental.specs.Places.{IsPlace, index_of};
 ghost use Rattle.scc_incremental.specs.Places.{StandsAt};
 ghost use Rattle.scc_table.specs.Steps.{HoldsExactly};
-ghost use Rattle.scc_table.specs.Walks.{CalledOn, CallableWhile};
-ghost use Rattle.scc_walks.specs.PairWalks.{PassesNone, PassesFirst};
+ghost use Rattle.scc_table.specs.Walks.{CalledOn, CallableWhile, Walks};
+ghost use Rattle.scc_walks.specs.PairWalks.{Declines, PassesFirst};
 
 use super::Owned;
 use scc_table::Place;
@@ -42,9 +42,9 @@ impl<K: Eq + Hash, V, H: BuildHasher> Owned<K, V, H> {
     }
 
     /// The place of the first pair on which `p` answers true. It is called on the pairs in their order, up to that one.
-    pub fn first_passing<P: FnMut(&K, &V) -> bool>(&self, mut p: P) -> Option<Place>
-        requires { CallableWhile P.FnMut false p (entries self.now) }
-        ensures { MatchOption result (PassesNone (CalledOn P.FnMut) p (entries self.now)) (λ place. IsPlace self.now place × PassesFirst (CalledOn P.FnMut) p (entries self.now) (index_of self.now place)) }
+    pub fn first_passing<P: FnMut(&K, &V) -> bool>(&self, p: &mut P) -> Option<Place>
+        requires { CallableWhile P.FnMut false p.old (entries self.now) }
+        ensures { MatchOption result (Declines (CalledOn P.FnMut) p.old (entries self.now) p.new) (λ place. IsPlace self.now place × PassesFirst (CalledOn P.FnMut) p.old (entries self.now) (index_of self.now place)) }
     {
         let mut at = self.table.first_place();
         while let Some(place) = at {
@@ -55,5 +55,21 @@ impl<K: Eq + Hash, V, H: BuildHasher> Owned<K, V, H> {
             at = self.next_place(place);
         }
         None
+    }
+
+    /// Calls `f` on the pairs in the order of the list until its first false, and answers false where it stopped. The closure is lent, and goes on to other maps.
+    pub fn iter_lent<F: FnMut(&K, &V) -> bool>(&self, f: &mut F) -> bool
+        requires { CallableWhile F.FnMut true f.old (entries self.now) }
+        ensures { Walks (CalledOn F.FnMut) f.old (entries self.now) result f.new }
+    {
+        let mut at = self.table.first_place();
+        while let Some(place) = at {
+            let (key, value) = self.table.pair_at(place);
+            if !f(key, value) {
+                return false;
+            }
+            at = self.next_place(place);
+        }
+        true
     }
 }

@@ -60,24 +60,41 @@ impl<K: Eq + Hash, V, H: BuildHasher> Owned<K, V, H> {
         ensures was_unique { IsUnique K.eq self.old }
         ensures unique { IsUnique K.eq self.new }
     {
+        let mut f = f;
+        self.retain_lent(&mut f);
+    }
+
+    /// The same with a closure that is lent, and goes on to other maps.
+    pub fn retain_lent<F: FnMut(&K, &mut V) -> bool>(&mut self, f: &mut F)
+    where
+        K: Drop,
+        V: Drop,
+        requires { (es : List (K × V)) → IsPermutation (entries self.old) es → CallableToWrite F.FnMut (λ answer. ⊤) f.old es }
+        ensures step { (es : List (K × V)) × (stay : List (K × V)) × IsPermutation (entries self.old) es × Retains (CalledToWrite F.FnMut) f.old es stay f.new × Holds self.old stay self.new }
+        ensures smaller { bucket_count self.new ≢ bucket_count self.old → IsSmaller (minimum_of self.old) (length (entries self.new)) (bucket_count self.old) (bucket_count self.new) }
+        ensures due { ShrinksWhenDue self.old self.new }
+        ensures relocates { RelocatesNone self.old self.new }
+        ensures was_unique { IsUnique K.eq self.old }
+        ensures unique { IsUnique K.eq self.new }
+    {
         let _ = self.len();
         self.retain_all(f);
         self.table.shrink();
     }
 
     /// The same in the order of the list, with no resize.
-    fn retain_all<F: FnMut(&K, &mut V) -> bool>(&mut self, mut f: F)
+    fn retain_all<F: FnMut(&K, &mut V) -> bool>(&mut self, f: &mut F)
     where
         K: Drop,
         V: Drop,
-        requires { CallableToWrite F.FnMut (λ answer. ⊤) f (entries self.old) }
-        ensures step { (stay : List (K × V)) × (last : F) × Retains (CalledToWrite F.FnMut) f (entries self.old) stay last × HoldsExactly self.old stay self.new }
+        requires { CallableToWrite F.FnMut (λ answer. ⊤) f.old (entries self.old) }
+        ensures step { (stay : List (K × V)) × Retains (CalledToWrite F.FnMut) f.old (entries self.old) stay f.new × HoldsExactly self.old stay self.new }
         ensures noted { refused_of self.new ≡ refused_of self.old }
         ensures waiting { waiting_of self.new ≡ waiting_of self.old }
     {
         let mut at = self.table.first_place();
         while let Some(place) = at {
-            if self.visit(place, &mut f) {
+            if self.visit(place, f) {
                 at = self.next_place(place);
             } else {
                 let (_pair, next) = self.take_and_step(place);

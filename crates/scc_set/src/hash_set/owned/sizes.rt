@@ -7,7 +7,7 @@ ghost use Rattle.scc_map.specs.MapSizes.{ReservesOrRefuses, ReleasesOrRefuses};
 ghost use Rattle.scc_set.specs.Keys.{IsUnique};
 
 use super::Owned;
-use scc_table::Reservation;
+use scc_incremental::Reservation;
 use std::hash::{BuildHasher, Hash};
 use std::ops::RangeInclusive;
 

@@ -1,11 +1,11 @@
 //! What makes an entry of a borrowed cache, and what lets the cache go. The search is made once, and an entry holds its place.
-ghost use Rattle.std.specs.Prelude.{◌≡◌, IfOk, IfErr, IfSome, IfNone};
+ghost use Rattle.std.specs.Prelude.{◌≡◌, IfOk, IfErr, OnOk, IfSome, IfNone};
 ghost use Rattle.std.specs.Borrow.{sem};
-ghost use Rattle.scc_table.specs.Contents.{bucket_count, key_hash, waiting_of};
-ghost use Rattle.scc_cache.specs.CacheSteps.{IsAbsent, TakesAt};
+ghost use Rattle.scc_table.specs.Contents.{bucket_count, key_hash};
+ghost use Rattle.scc_cache.specs.CacheSteps.{IsAbsent, Puts, TakesAt};
 ghost use Rattle.scc_cache.specs.Caches.{IsCacheState};
 ghost use Rattle.scc_cache.specs.Entries.{Memory, held_cache, occupied_pair, entry_guard, IsEntryOf, IsRefreshed, IsPut, rests_if_refused, rests_if_none, replaced_guard, Replaces};
-ghost use Rattle.scc_cache.specs.Relocations.{RelocatesNone};
+ghost use Rattle.scc_cache.specs.Relocations.{RelocatesNone, RelocatesTwo};
 
 use super::{Entry, OccupiedEntry, ReplaceResult};
 use crate::hash_cache::EvictedEntry;
@@ -16,7 +16,7 @@ use std::hash::{BuildHasher, Hash};
 use std::marker::PhantomData;
 
 impl<K: Eq + Hash, V, H: BuildHasher> Owned<K, V, H> {
-    /// The entry of `k`: occupied at the stored pair, or vacant with `k`. It takes no memory, makes no array and leaves the order of the pairs.
+    /// The entry of `k`: occupied at the stored pair, which becomes the most recent of its bucket, or vacant with `k`, and then nothing changes. It takes no memory and makes no array. Where the bucket of a stored pair waits, it takes its pairs over first, and no other does.
     pub fn entry_sync(&mut self, k: K) -> Entry<'_, K, V, H>
     where
         K: Drop,
@@ -24,7 +24,7 @@ impl<K: Eq + Hash, V, H: BuildHasher> Owned<K, V, H> {
         ensures entry { IsEntryOf K.eq self.old k result }
     {
         let hash = self.table.hash(&k);
-        match self.find(hash, &k) {
+        match self.refresh(hash, &k) {
             Some(place) => HeldPlace::Occupied(HeldEntry {
                 guard: self,
                 place,
@@ -48,7 +48,8 @@ impl<K: Eq + Hash, V, H: BuildHasher> Owned<K, V, H> {
         ensures missing { IfNone result (IsAbsent (key_hash H.BuildHasher H.Hasher.Hasher K.hash_input self.old.contents) K.eq self.old.contents k.now) }
         ensures* kept { sem 𝓛 (rests_if_none K.row V.row H.row H.Hasher.row K.Hash H.BuildHasher H.Hasher.Hasher self.entry result) }
     {
-        match self.refresh(k) {
+        let hash = self.table.hash(k);
+        match self.refresh(hash, k) {
             Some(place) => Some(HeldEntry {
                 guard: self,
                 place,
@@ -59,14 +60,13 @@ impl<K: Eq + Hash, V, H: BuildHasher> Owned<K, V, H> {
         }
     }
 
-    /// Puts `k` in the place of the key that equals it, keeps the value, and answers the entry with the old key. Where no key equals it, it inserts nothing and answers the vacant entry. It takes no memory and leaves the order of the pairs.
+    /// Puts `k` in the place of the key that equals it, keeps the value, makes the pair the most recent of its bucket, and answers the entry with the old key. Where no key equals it, nothing changes, and it answers the vacant entry. It takes no memory. Where the bucket of a stored pair waits, it takes its pairs over first, and no other does.
     pub fn replace_sync(&mut self, k: K) -> ReplaceResult<'_, K, V, H>
         ensures same_cache { (replaced_guard result).ghost_name ≡ self.entry.ghost_name }
         ensures step { Replaces K.eq self.old k result }
-        ensures waiting { waiting_of (replaced_guard result).now.contents ≡ waiting_of self.old.contents }
     {
         let hash = self.table.hash(&k);
-        match self.find(hash, &k) {
+        match self.refresh(hash, &k) {
             Some(place) => {
                 let old = self.replace_key_at(place, k);
                 HeldReplace::Replaced(
@@ -126,6 +126,20 @@ impl<'a, K: Eq + Hash, V, H: BuildHasher> HeldVacant<&'a mut Owned<K, V, H>, (),
         ensures unchanged { self.exit.0.now ≡ self.entry.guard.now }
     {
         self.key
+    }
+
+    /// Puts in the key with `value`, as `put_entry` does, and lets the cache go: the answer is the pair that it drove out.
+    pub fn put(self, value: V) -> Result<EvictedEntry<K, V>, InsertError<K, V>>
+        ensures step { Puts (key_hash H.BuildHasher H.Hasher.Hasher K.hash_input self.entry.guard.now.contents) K.eq self.entry.guard.now (self.entry.key, value) result self.exit.0.now }
+        ensures relocates { OnOk result (RelocatesTwo (key_hash H.BuildHasher H.Hasher.Hasher K.hash_input self.entry.guard.now.contents self.entry.key) self.entry.guard.now.contents self.exit.0.now.contents) }
+        ensures state { IsCacheState K.eq (key_hash H.BuildHasher H.Hasher.Hasher K.hash_input self.exit.0.now.contents) self.exit.0.now }
+    {
+        let hash = self.hash;
+        let key = self.key;
+        match self.guard.put_at(hash, key, value) {
+            Ok((evicted, _)) => Ok(evicted),
+            Err(pair) => Err(InsertError::Memory(pair)),
+        }
     }
 
     /// Puts in the key with `value` as the most recent pair of its bucket, by the rules of `put_sync`, and answers the pair that it drove out and its entry. Refused for want of memory, which comes only where there is no array, key and value come back and nothing changed.

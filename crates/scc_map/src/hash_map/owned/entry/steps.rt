@@ -42,7 +42,8 @@ impl<K: Eq + Hash, V, H: BuildHasher> Owned<K, V, H> {
         ensures none { IfNone result (PassesNone (CalledOn P.FnMut) p (entries self.old)) }
         ensures* kept { sem 𝓛 (rests_if_none K.row V.row H.row H.Hasher.row K.Hash H.BuildHasher H.Hasher.Hasher self.entry result) }
     {
-        match self.first_passing(p) {
+        let mut p = p;
+        match self.first_passing(&mut p) {
             Some(place) => Some(HeldEntry {
                 guard: self,
                 place,

@@ -1,4 +1,4 @@
-use Rattle.std.proofs.Common.{◌≡◌, ◌∙◌, ℕ, true, false, refl, sym, ap, arith}
+use Rattle.std.proofs.Common.{◌≡◌, ◌∙◌, true, false, refl, sym, ap, arith}
 use Rattle.scc_table.specs.Contents.{bucket_count, settings_of, waiting_of}
 use Rattle.scc_table.specs.Hashing.{hash_of}
 use Rattle.scc_table.specs.Routing.{bucket_number}
@@ -19,7 +19,7 @@ pub returns-clause-relocates : goal.returns-clause-relocates
 returns-clause-relocates g c =
     let t = c.self.inside.table in
     let i = c.bucket_at-bucket.result in
-    let at = c.bucket_at-bucket.ensures.value ∙ ap (bucket_number (settings_of t).skipped (bucket_count t)) c.hash-hash.ensures in
+    let at = c.bucket_at-bucket.ensures.value ∙ ap (bucket_number (settings_of t).skipped (bucket_count t)) (rw (← c.self.view_is) at c.requires) in
     let down : waits_at (waiting_of t) i ≡ false = not_true (waits_at (waiting_of t) i) (λ up. let z : true ≡ false = sym (c.is_waiting.ensures.1 up) ∙ c.if-is_waiting.false in cc) in
     let low = ap (waits_at (waiting_of t)) (sym at) ∙ down in
     any-some c.refresh_settled.result (rw (← c.self.view_is) (settled-one _ t c.refresh_settled.new.self.contents (rw (← c.self.view_is) at c.refresh_settled.ensures.waiting) low))

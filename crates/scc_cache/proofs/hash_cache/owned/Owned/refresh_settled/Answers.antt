@@ -1,9 +1,12 @@
-use Rattle.std.proofs.Common.{◌≡◌, ◌∙◌, ◌++◌, ◌-◌, ◌<◌, [], ◌∷◌, ℕ, None, false, refl, sym, ap, arith}
+use Rattle.std.proofs.Common.{◌≡◌, ◌∙◌, ◌++◌, ◌+◌, ◌-◌, [], ◌∷◌, ℕ, false, length, refl, sym, ap, subst, arith}
 use Rattle.std.specs.List.{remove}
-use Rattle.scc_table.specs.Contents.{bucket_count, settings_of, waiting_of}
+use Rattle.scc_table.specs.Contents.{bucket_count, held_of, list_of, settings_of, waiting_of}
 use Rattle.scc_table.specs.Hashing.{hash_of}
 use Rattle.scc_table.specs.Routing.{bucket_number}
+use Rattle.scc_table.specs.declared.place.Place.{Place}
+use Rattle.scc_incremental.specs.Places.{spot_of}
 use Rattle.scc_incremental.specs.TwoArrays.{waits_at}
+use Rattle.scc_incremental.proofs.OldSpots.{spot-own}
 use Rattle.scc_incremental.proofs.Searching.{not_true}
 use Rattle.scc_cache.proofs.Caching.{at-spot, is-missing, is-there, last-length, last-place, list-count, position-passes, sets-list, state-after}
 use Rattle.scc_cache.proofs.hash_cache.owned.Owned.refresh_settled.Goals as goal
@@ -72,17 +75,20 @@ returns-clause-step g c =
     let here = is-there g.K.PartialEq.eq number t c.args.k.now i at slot list.0 found list.1 in
     let some = last-length t d _ _ list.0 list.2 within in
     let n = c.list_len-slot.result - 1 in
-    let place = at-spot d (record { bucket = i; slot = n }) list.0 (last-place t d i _ list.0 list.2 within n (omega (arith, c.list_len-slot.ensures))) down in
-    rw (← c.self.view_is) (
-      place.0,
-      (
-        list.0,
-        place.1,
-        record {
-          lists = (slot, here, sets-list g.K.PartialEq.eq number t c.args.k.now i at (λ es. remove es slot ++ list.0 ∷ []) d list.2);
-          settings = list.2.settings;
-          refused = list.2.refused;
-          maximum = refl;
-        },
-      ),
-    )
+    let own : Place = record { bucket = i; slot = n } in
+    let after = last-place t d i _ list.0 list.2 within n (omega (arith, c.list_len-slot.ensures)) in
+    let place = at-spot d own list.0 after down in
+    let spot : spot_of d own ≡ own = spot-own (waiting_of d) (held_of d) (bucket_count d) own after.0.bucket down in
+    rw (← c.self.view_is) (record {
+      within = place.0;
+      pair = list.0;
+      here = place.1;
+      changes = record {
+        lists = (slot, here, sets-list g.K.PartialEq.eq number t c.args.k.now i at (λ es. remove es slot ++ list.0 ∷ []) d list.2);
+        settings = list.2.settings;
+        refused = list.2.refused;
+        maximum = refl;
+      };
+      bucket = ap (λ (q : Place). q.bucket) spot ∙ at;
+      last = subst (λ (q : Place). q.slot + 1 ≡ length (list_of d q.bucket)) (sym spot) (omega (arith, c.list_len-slot.ensures));
+    })

@@ -1,4 +1,4 @@
-use Rattle.std.proofs.Common.{◌≡◌, ◌∙◌, ◌<◌, ℕ, None, Some, refl, sym, ap, subst, arith}
+use Rattle.std.proofs.Common.{◌≡◌, ◌∙◌, None, Some, refl, sym, ap, arith}
 use Rattle.std.specs.List.{position}
 use Rattle.scc_table.specs.Contents.{bucket_count, settings_of}
 use Rattle.scc_table.specs.Hashing.{hash_of}

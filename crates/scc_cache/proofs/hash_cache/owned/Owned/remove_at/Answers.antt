@@ -1,6 +1,6 @@
-use Rattle.std.proofs.Common.{◌≡◌, ◌∙◌, ℕ, refl, sym, subst, arith}
+use Rattle.std.proofs.Common.{◌∙◌, ℕ, refl, sym, subst, arith}
 use Rattle.std.specs.List.{remove}
-use Rattle.scc_table.specs.Bounded.{IsListed, MayNarrow, ShrinksBounded}
+use Rattle.scc_table.specs.Bounded.{MayNarrow, ShrinksBounded}
 use Rattle.scc_table.specs.Hashing.{hash_of}
 use Rattle.scc_incremental.specs.Places.{IsPlace, spot_of}
 use Rattle.scc_incremental.specs.Relocates.{Spreads}

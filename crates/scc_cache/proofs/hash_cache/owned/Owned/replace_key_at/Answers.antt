@@ -1,8 +1,10 @@
-use Rattle.std.proofs.Common.{ap, sym, subst}
+use Rattle.std.proofs.Common.{◌∙◌, ap, sym, subst}
 use Rattle.scc_incremental.specs.Places.{IsPlace, spot_of}
+use Rattle.scc_incremental.specs.Placed.{IsPlace-with_write_at}
 use Rattle.scc_table.specs.Contents.{settings_of}
 use Rattle.scc_table.specs.Hashing.{hash_of}
 use Rattle.scc_table.specs.Pairs.{with_pair_key}
+use Rattle.scc_cache.proofs.Entries.{alike-keyed}
 use Rattle.scc_cache.proofs.Writing.{get-listed, key-state-by}
 use Rattle.scc_cache.proofs.hash_cache.owned.Owned.replace_key_at.Goals as goal
 
@@ -37,3 +39,19 @@ returns-clause-state g c =
     key-state-by g.K.PartialEq.eq (λ s k. hash_of g.H.BuildHasher g.H.Hasher.Hasher s.hasher (g.K.Hash.hash_input k)) (record { contents = c.self.inside.table; maximum = c.self.inside.maximum }) c.args.place within c.self.invariant c.args.key c.replace_key_at-old.new.self c.replace_key_at-old.ensures.new
     (λ q got. ap (hash_of g.H.BuildHasher g.H.Hasher.Hasher s.hasher) (g.met.K.Hash.respects_eq c.args.key q.0 (same q got)))
     c.len.ensures.unique
+
+pub returns-clause-within : goal.returns-clause-within
+returns-clause-within g c =
+    let within = subst (λ z. IsPlace z.contents c.args.place) (sym c.self.view_is) c.requires.within in
+    rw c.replace_key_at-old.ensures.new (IsPlace-with_write_at with_pair_key c.self.inside.table c.args.place c.args.key within)
+
+pub returns-clause-alike : goal.returns-clause-alike
+returns-clause-alike g c = λ p got.
+    let t = c.self.inside.table in
+    let within = subst (λ z. IsPlace z.contents c.args.place) (sym c.self.view_is) c.requires.within in
+    let same = rw (← c.self.view_is) at c.requires.same in
+    let v = c.replace_key_at-old.ensures.old in
+    let here = get-listed with_pair_key t (spot_of t c.args.place) within c.args.key v.0 v.1 in
+    let equal = g.met.K.Eq.laws.symm v.0.0 c.args.key ∙ same v.0 here in
+    let now = rw c.replace_key_at-old.ensures.new at got in
+    rw v.2 (alike-keyed g.K.PartialEq.eq (record { contents = t; maximum = c.self.inside.maximum }) c.args.place within v.0 c.args.key here equal p now)

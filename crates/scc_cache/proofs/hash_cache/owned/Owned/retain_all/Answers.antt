@@ -63,7 +63,7 @@ loop-at-preserved-then-visit g c =
       refused = s.refused ∙ c.loop-at.invariant.refused;
       maximum = s.maximum ∙ c.loop-at.invariant.maximum;
       waiting = s.waiting ∙ c.loop-at.invariant.waiting;
-      calls = retains-kept c.args.f (entries c.args.self.now.contents) m q c.loop-at.f c.visit.new.f x.0 x.1 n v (rw c.in-Some.is at c.loop-at.invariant.calls) x.3 (walk_spot n c.next_place-at.result) next.0;
+      calls = retains-kept c.args.f.now (entries c.args.self.now.contents) m q c.loop-at.f c.visit.new.f x.0 x.1 n v (rw c.in-Some.is at c.loop-at.invariant.calls) x.3 (walk_spot n c.next_place-at.result) next.0;
     }
 
 pub take_and_step-pair-requires : goal.take_and_step-pair-requires
@@ -116,7 +116,7 @@ loop-at-preserved g c =
       refused = out.refused ∙ s.refused ∙ c.loop-at.invariant.refused;
       maximum = out.maximum ∙ s.maximum ∙ c.loop-at.invariant.maximum;
       waiting = out.waiting ∙ s.waiting ∙ c.loop-at.invariant.waiting;
-      calls = retains-removed c.args.f (entries c.args.self.now.contents) m q c.loop-at.f c.visit.new.f x.0 x.1 n v (rw c.in-Some.is at c.loop-at.invariant.calls) x.3 d others (walk_spot d c.take_and_step-pair.result.1) next.0;
+      calls = retains-removed c.args.f.now (entries c.args.self.now.contents) m q c.loop-at.f c.visit.new.f x.0 x.1 n v (rw c.in-Some.is at c.loop-at.invariant.calls) x.3 d others (walk_spot d c.take_and_step-pair.result.1) next.0;
     }
 
 pub returns-clause-step : goal.returns-clause-step
@@ -125,4 +125,4 @@ returns-clause-step g c =
     let calls = rw c.in_default.is at c.loop-at.invariant.calls in
     let run : Retains (CalledToWrite g.F.FnMut) c.loop-at.f (drop (length es) es) [] c.loop-at.f = rw (drop-all es (length es) refl) ended in
     let front : take (length es) es ++ [] ≡ es = append-nil _ ∙ take-all es (length es) refl in
-    (es, c.loop-at.f, subst (λ z. Retains (CalledToWrite g.F.FnMut) c.args.f (entries c.args.self.now.contents) z c.loop-at.f) front (calls [] c.loop-at.f run), record { exact = refl; buckets = c.loop-at.invariant.buckets; settings = c.loop-at.invariant.settings })
+    (es, subst (λ z. Retains (CalledToWrite g.F.FnMut) c.args.f.now (entries c.args.self.now.contents) z c.loop-at.f) front (calls [] c.loop-at.f run), record { exact = refl; buckets = c.loop-at.invariant.buckets; settings = c.loop-at.invariant.settings })

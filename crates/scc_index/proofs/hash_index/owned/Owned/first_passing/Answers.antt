@@ -49,4 +49,4 @@ loop-at-preserved g c =
 pub returns : goal.returns
 returns g c =
     let declines = rw c.in_default.is at c.loop-at.invariant.declines in
-    record { last = c.loop-at.p; declines = rw (take-all (entries c.args.self.now) (length (entries c.args.self.now)) refl) at declines }
+    rw (take-all (entries c.args.self.now) (length (entries c.args.self.now)) refl) at declines

@@ -38,7 +38,7 @@ loop-at-preserved-then-f g c =
       settings = c.loop-at.invariant.settings;
       noted = c.loop-at.invariant.noted;
       waiting = c.loop-at.invariant.waiting;
-      calls = retains-kept m c.in-Some.place _ within got c.args.f (entries c.args.self.now) c.loop-at.f c.f.new.self (rw c.in-Some.is at c.loop-at.invariant.calls) record { key = _; value = _; shows = refl; called = c.if-f.ensures } c.next_place-at.result next.0;
+      calls = retains-kept m c.in-Some.place _ within got c.args.f.now (entries c.args.self.now) c.loop-at.f c.f.new.self (rw c.in-Some.is at c.loop-at.invariant.calls) record { key = _; value = _; shows = refl; called = c.if-f.ensures } c.next_place-at.result next.0;
     }
 
 pub loop-at-smaller : goal.loop-at-smaller
@@ -65,7 +65,7 @@ loop-at-preserved g c =
       settings = others.settings ∙ c.loop-at.invariant.settings;
       noted = c.take_and_step-at.ensures.noted ∙ c.loop-at.invariant.noted;
       waiting = c.take_and_step-at.ensures.waiting ∙ c.loop-at.invariant.waiting;
-      calls = retains-removed m c.in-Some.place _ within got c.args.f (entries c.args.self.now) c.loop-at.f c.f.new.self (rw c.in-Some.is at c.loop-at.invariant.calls) record { key = _; value = _; shows = refl; called = c.if-f.ensures } d others c.take_and_step-at.result next.0;
+      calls = retains-removed m c.in-Some.place _ within got c.args.f.now (entries c.args.self.now) c.loop-at.f c.f.new.self (rw c.in-Some.is at c.loop-at.invariant.calls) record { key = _; value = _; shows = refl; called = c.if-f.ensures } d others c.take_and_step-at.result next.0;
     }
 
 pub returns-clause-step : goal.returns-clause-step
@@ -74,4 +74,4 @@ returns-clause-step g c =
     let calls = rw c.in_default.is at c.loop-at.invariant.calls in
     let run : Retains (CalledOn g.F.FnMut) c.loop-at.f (drop (length es) es) [] c.loop-at.f = rw (drop-all es (length es) refl) ended in
     let front : take (length es) es ++ [] ≡ es = append-nil _ ∙ take-all es (length es) refl in
-    (es, c.loop-at.f, subst (λ z. Retains (CalledOn g.F.FnMut) c.args.f (entries c.args.self.now) z c.loop-at.f) front (calls [] c.loop-at.f run), record { exact = refl; buckets = c.loop-at.invariant.buckets; settings = c.loop-at.invariant.settings })
+    (es, subst (λ z. Retains (CalledOn g.F.FnMut) c.args.f.now (entries c.args.self.now) z c.loop-at.f) front (calls [] c.loop-at.f run), record { exact = refl; buckets = c.loop-at.invariant.buckets; settings = c.loop-at.invariant.settings })

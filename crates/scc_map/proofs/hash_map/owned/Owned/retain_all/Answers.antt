@@ -46,7 +46,7 @@ loop-at-preserved-then-visit g c =
       settings = v.settings ∙ c.loop-at.invariant.settings;
       noted = v.noted ∙ c.loop-at.invariant.noted;
       waiting = (ap waiting_of x.4 ∙ waiting-write with_pair_value c.loop-at.self c.in-Some.place x.1) ∙ c.loop-at.invariant.waiting;
-      calls = retains-kept c.args.f (entries c.args.self.now) c.loop-at.self (spot_of c.loop-at.self c.in-Some.place) c.loop-at.f c.visit.new.f x.0 x.1 c.visit.new.self v (rw c.in-Some.is at c.loop-at.invariant.calls) x.3 (walk_spot c.visit.new.self c.next_place-at.result) next.0;
+      calls = retains-kept c.args.f.now (entries c.args.self.now) c.loop-at.self (spot_of c.loop-at.self c.in-Some.place) c.loop-at.f c.visit.new.f x.0 x.1 c.visit.new.self v (rw c.in-Some.is at c.loop-at.invariant.calls) x.3 (walk_spot c.visit.new.self c.next_place-at.result) next.0;
     }
 
 pub take_and_step-pair-requires : goal.take_and_step-pair-requires
@@ -79,7 +79,7 @@ loop-at-preserved g c =
       settings = others.settings ∙ v.settings ∙ c.loop-at.invariant.settings;
       noted = c.take_and_step-pair.ensures.noted ∙ v.noted ∙ c.loop-at.invariant.noted;
       waiting = c.take_and_step-pair.ensures.waiting ∙ (ap waiting_of x.4 ∙ waiting-write with_pair_value c.loop-at.self c.in-Some.place x.1) ∙ c.loop-at.invariant.waiting;
-      calls = retains-removed c.args.f (entries c.args.self.now) c.loop-at.self (spot_of c.loop-at.self c.in-Some.place) c.loop-at.f c.visit.new.f x.0 x.1 c.visit.new.self v (rw c.in-Some.is at c.loop-at.invariant.calls) x.3 d others (walk_spot d c.take_and_step-pair.result.1) next.0;
+      calls = retains-removed c.args.f.now (entries c.args.self.now) c.loop-at.self (spot_of c.loop-at.self c.in-Some.place) c.loop-at.f c.visit.new.f x.0 x.1 c.visit.new.self v (rw c.in-Some.is at c.loop-at.invariant.calls) x.3 d others (walk_spot d c.take_and_step-pair.result.1) next.0;
     }
 
 pub returns-clause-step : goal.returns-clause-step
@@ -88,4 +88,4 @@ returns-clause-step g c =
     let calls = rw c.in_default.is at c.loop-at.invariant.calls in
     let run : Retains (CalledToWrite g.F.FnMut) c.loop-at.f (drop (length es) es) [] c.loop-at.f = rw (drop-all es (length es) refl) ended in
     let front : take (length es) es ++ [] ≡ es = append-nil _ ∙ take-all es (length es) refl in
-    (es, c.loop-at.f, subst (λ z. Retains (CalledToWrite g.F.FnMut) c.args.f (entries c.args.self.now) z c.loop-at.f) front (calls [] c.loop-at.f run), record { exact = refl; buckets = c.loop-at.invariant.buckets; settings = c.loop-at.invariant.settings })
+    (es, subst (λ z. Retains (CalledToWrite g.F.FnMut) c.args.f.now (entries c.args.self.now) z c.loop-at.f) front (calls [] c.loop-at.f run), record { exact = refl; buckets = c.loop-at.invariant.buckets; settings = c.loop-at.invariant.settings })

@@ -23,8 +23,7 @@ returns-in-Err-clause-step g c =
     let calls = rw c.in-Some.is at c.loop-at.invariant.calls in (
       entries c.loop-at.self,
       calls.0,
-      c.loop-at.f,
-      takes-refused c.args.f (entries c.args.self.now) c.loop-at.self (spot_of c.loop-at.self c.in-Some.place) c.loop-at.f calls.0 calls.2 within _,
+      takes-refused c.args.f.now (entries c.args.self.now) c.loop-at.self (spot_of c.loop-at.self c.in-Some.place) c.loop-at.f calls.0 calls.2 within _,
       c.in-Err.ensures.pairs ∙ calls.1,
       record { exact = refl; buckets = c.loop-at.invariant.buckets; settings = c.loop-at.invariant.settings },
     )
@@ -61,7 +60,7 @@ loop-at-preserved-in-Keep g c =
       noted = v.noted ∙ c.loop-at.invariant.noted;
       waiting = (ap waiting_of x.4 ∙ waiting-write with_pair_value c.loop-at.self c.in-Some.place x.1) ∙ c.loop-at.invariant.waiting;
       room = omega (arith, c.loop-at.invariant.room, c.reserve_one.ensures.capacity);
-      calls = (calls.0, c.reserve_one.ensures.pairs ∙ calls.1, takes-kept c.args.f (entries c.args.self.now) c.loop-at.self (spot_of c.loop-at.self c.in-Some.place) c.loop-at.f calls.0 calls.2 c.visit.new.f x.0 x.1 c.visit.new.self v x.3 (walk_spot c.visit.new.self c.next_place-at.result) next.0);
+      calls = (calls.0, c.reserve_one.ensures.pairs ∙ calls.1, takes-kept c.args.f.now (entries c.args.self.now) c.loop-at.self (spot_of c.loop-at.self c.in-Some.place) c.loop-at.f calls.0 calls.2 c.visit.new.f x.0 x.1 c.visit.new.self v x.3 (walk_spot c.visit.new.self c.next_place-at.result) next.0);
     }
 
 pub take_into-at-requires-clause-within : goal.take_into-at-requires-clause-within
@@ -102,7 +101,7 @@ loop-at-preserved g c =
       calls = (
         calls.0 ++ (x.0.0, x.1) ∷ [],
         out.2 ∙ ap (λ z. g.L.Sink.pairs c.reserve_one.new.self ++ z ∷ []) pair ∙ ap (λ z. z ++ (x.0.0, x.1) ∷ []) (c.reserve_one.ensures.pairs ∙ calls.1) ∙ append_assoc (g.L.Sink.pairs c.args.taken.now) calls.0 _,
-        takes-took c.args.f (entries c.args.self.now) c.loop-at.self (spot_of c.loop-at.self c.in-Some.place) c.loop-at.f calls.0 calls.2 c.visit.new.f x.0 x.1 c.visit.new.self v d others x.3 (walk_spot d c.take_into-at.result) next.0,
+        takes-took c.args.f.now (entries c.args.self.now) c.loop-at.self (spot_of c.loop-at.self c.in-Some.place) c.loop-at.f calls.0 calls.2 c.visit.new.f x.0 x.1 c.visit.new.self v d others x.3 (walk_spot d c.take_into-at.result) next.0,
       );
     }
 
@@ -114,8 +113,7 @@ returns-in-KeepStop-clause-step g c =
     let v = visited c.loop-at.self (spot_of c.loop-at.self c.in-Some.place) x.0 x.1 c.visit.new.self within x.2 x.4 in (
       entries c.visit.new.self,
       calls.0,
-      c.visit.new.f,
-      takes-kept_last c.args.f (entries c.args.self.now) c.loop-at.self (spot_of c.loop-at.self c.in-Some.place) c.loop-at.f calls.0 calls.2 c.visit.new.f x.0 x.1 c.visit.new.self v x.3,
+      takes-kept_last c.args.f.now (entries c.args.self.now) c.loop-at.self (spot_of c.loop-at.self c.in-Some.place) c.loop-at.f calls.0 calls.2 c.visit.new.f x.0 x.1 c.visit.new.self v x.3,
       c.reserve_one.ensures.pairs ∙ calls.1,
       record { exact = refl; buckets = v.buckets ∙ c.loop-at.invariant.buckets; settings = v.settings ∙ c.loop-at.invariant.settings },
     )
@@ -138,8 +136,7 @@ returns-in-TakeStop-clause-step g c =
     let pair = pair-out c.loop-at.self c.in-Some.place x.0 x.1 c.visit.new.self x.4 v out.0 out.1 in (
       entries d,
       calls.0 ++ (x.0.0, x.1) ∷ [],
-      c.visit.new.f,
-      takes-took_last c.args.f (entries c.args.self.now) c.loop-at.self (spot_of c.loop-at.self c.in-Some.place) c.loop-at.f calls.0 calls.2 c.visit.new.f x.0 x.1 c.visit.new.self v d others x.3,
+      takes-took_last c.args.f.now (entries c.args.self.now) c.loop-at.self (spot_of c.loop-at.self c.in-Some.place) c.loop-at.f calls.0 calls.2 c.visit.new.f x.0 x.1 c.visit.new.self v d others x.3,
       out.2 ∙ ap (λ z. g.L.Sink.pairs c.reserve_one.new.self ++ z ∷ []) pair ∙ ap (λ z. z ++ (x.0.0, x.1) ∷ []) (c.reserve_one.ensures.pairs ∙ calls.1) ∙ append_assoc (g.L.Sink.pairs c.args.taken.now) calls.0 _,
       record { exact = refl; buckets = others.buckets ∙ v.buckets ∙ c.loop-at.invariant.buckets; settings = others.settings ∙ v.settings ∙ c.loop-at.invariant.settings },
     )
@@ -150,8 +147,8 @@ returns-clause-step g c =
     let calls = rw c.in_default.is at c.loop-at.invariant.calls in
     let run : Takes (CalledToWrite g.F.FnMut) c.loop-at.f (drop (length es) es) [] [] (Ok true) c.loop-at.f = rw (drop-all es (length es) refl) ended in
     let front : take (length es) es ++ [] ≡ es = append-nil _ ∙ take-all es (length es) refl in
-    let all = subst (λ z. Takes (CalledToWrite g.F.FnMut) c.args.f (entries c.args.self.now) z (calls.0 ++ []) (Ok true) c.loop-at.f) front (calls.2 [] [] (Ok true) c.loop-at.f run) in
-    (es, calls.0, c.loop-at.f, subst (λ z. Takes (CalledToWrite g.F.FnMut) c.args.f (entries c.args.self.now) es z (Ok true) c.loop-at.f) (append-nil calls.0) all, calls.1, record { exact = refl; buckets = c.loop-at.invariant.buckets; settings = c.loop-at.invariant.settings })
+    let all = subst (λ z. Takes (CalledToWrite g.F.FnMut) c.args.f.now (entries c.args.self.now) z (calls.0 ++ []) (Ok true) c.loop-at.f) front (calls.2 [] [] (Ok true) c.loop-at.f run) in
+    (es, calls.0, subst (λ z. Takes (CalledToWrite g.F.FnMut) c.args.f.now (entries c.args.self.now) es z (Ok true) c.loop-at.f) (append-nil calls.0) all, calls.1, record { exact = refl; buckets = c.loop-at.invariant.buckets; settings = c.loop-at.invariant.settings })
 
 pub returns-in-KeepStop-clause-noted : goal.returns-in-KeepStop-clause-noted
 returns-in-KeepStop-clause-noted g c =

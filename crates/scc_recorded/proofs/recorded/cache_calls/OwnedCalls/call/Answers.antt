@@ -1,16 +1,15 @@
-use Rattle.std.proofs.Common.{◌≡◌, ◌∙◌, ℕ, [], length, Some, Err, inl, refl, sym, ap, subst, rules}
-use Rattle.std.specs.List.{slice_index_or, slice_set}
+use Rattle.std.proofs.Common.{ℕ, length, Some, Err, subst, rules}
 use Rattle.scc_table.specs.Contents.{key_hash, lists_of, settings_of}
 use Rattle.scc_table.specs.Hashing.{hash_of}
 use Rattle.scc_common.specs.declared.errors.InsertError.{InsertError}
-use Rattle.scc_incremental.specs.Places.{spot_of}
-use Rattle.scc_cache.specs.CacheSteps.{IsPresentAt, Puts, number_in}
+use Rattle.scc_cache.specs.CacheSteps.{Puts, number_in}
 use Rattle.scc_cache.specs.Entries.{occupied_pair}
+use Rattle.scc_cache.proofs.Entries.{moved-written}
 use Rattle.scc_recorded.specs.CacheCalls.{cache_setting, CacheMoves, CacheResizes}
 use Rattle.scc_recorded.specs.Changes.{Changes}
-use Rattle.scc_recorded.specs.declared.recorded.calls_as_values.CacheCall.TheVariants.{Get, Write}
-use Rattle.scc_recorded.specs.declared.recorded.replies.Reply.TheVariants.{Old, Value}
-use Rattle.scc_recorded.proofs.CacheCalls.{put-changes, exists-changes, memory-refused, remove-changes, clear-changes, contains-changes, read-changes, len-changes, get-changes, write-changes}
+use Rattle.scc_recorded.specs.declared.recorded.calls_as_values.CacheCall.TheVariants.{Get, Replace, Write}
+use Rattle.scc_recorded.specs.declared.recorded.replies.Reply.TheVariants.{Key, Old, Value}
+use Rattle.scc_recorded.proofs.CacheCalls.{put-changes, exists-changes, memory-refused, remove-changes, clear-changes, contains-changes, read-changes, len-changes, get-changes, write-changes, replace-changes}
 use Rattle.scc_recorded.proofs.recorded.cache_calls.OwnedCalls.call.Goals as goal
 
 pub returns-in-Ok-clause-ok : goal.returns-in-Ok-clause-ok
@@ -55,12 +54,16 @@ returns-in-Some-clause-ok g c =
 pub returns-in-Occupied-clause-ok : goal.returns-in-Occupied-clause-ok
 returns-in-Occupied-clause-ok g c =
     let o = c.in-Occupied.entry in
-    let at = c.in-Occupied.ensures.entry in
-    let spot = spot_of o.guard.now.contents o.place in
     let hash : g.row.K.Denot → ℕ = λ k. hash_of g.H.BuildHasher g.H.Hasher.Hasher (settings_of c.args.self.now.contents).hasher (g.K.Hash.hash_input k) in
-    let pair : occupied_pair o ≡ ((occupied_pair o).0, c.put.result) = ap (λ v. ((occupied_pair o).0, v)) (sym c.put.ensures.old) in
-    let there = subst (λ p. IsPresentAt hash g.K.PartialEq.eq c.args.self.now.contents c.in-Write.k spot.slot p) pair at.there in
-    let made = subst (λ x. lists_of c.put.new.self.guard.now.contents ≡ slice_set (lists_of x.contents) spot.bucket (slice_set (slice_index_or (lists_of x.contents) spot.bucket []) spot.slot ((occupied_pair o).0, c.in-Write.v))) at.contents c.put.ensures.written.changes.lists in
     let h : Changes length (CacheMoves g.K.PartialEq.eq (number_in hash c.args.self.now.contents)) (CacheResizes (cache_setting c.args.self.now) (number_in hash c.args.self.now.contents)) (lists_of c.args.self.now.contents) (Write c.in-Write.k c.in-Write.v) (Old (Some c.put.result)) (lists_of c.put.new.self.guard.now.contents) =
-    write-changes hash g.K.PartialEq.eq c.args.self.now c.put.new.self.guard.now spot c.in-Write.k (occupied_pair o).0 c.put.result c.in-Write.v at.bucket there made in
+    write-changes hash g.K.PartialEq.eq c.args.self.now c.put.new.self.guard.now c.in-Write.k (occupied_pair o) c.put.result c.in-Write.v c.put.ensures.old (moved-written g.K.PartialEq.eq c.args.self.now c.in-Write.k (occupied_pair o) o c.put.new.self c.in-Write.v c.in-Occupied.ensures.entry c.put.ensures.written) in
     rw c.in-Write.is (search (rules, h))
+
+pub returns-in-Replaced-clause-ok : goal.returns-in-Replaced-clause-ok
+returns-in-Replaced-clause-ok g c =
+    let o = c.in-Replaced._entry in
+    let step = c.in-Replaced.ensures.step in
+    let hash : g.row.K.Denot → ℕ = λ k. hash_of g.H.BuildHasher g.H.Hasher.Hasher (settings_of c.args.self.now.contents).hasher (g.K.Hash.hash_input k) in
+    let h : Changes length (CacheMoves g.K.PartialEq.eq (number_in hash c.args.self.now.contents)) (CacheResizes (cache_setting c.args.self.now) (number_in hash c.args.self.now.contents)) (lists_of c.args.self.now.contents) (Replace c.in-Replace.k) (Key (Some c.in-Replaced.old)) (lists_of o.guard.now.contents) =
+    replace-changes hash g.K.PartialEq.eq c.args.self.now o.guard.now c.in-Replace.k c.in-Replaced.old step.value (occupied_pair o) step.pair step.moved.changes in
+    rw c.in-Replace.is (search (rules, h))

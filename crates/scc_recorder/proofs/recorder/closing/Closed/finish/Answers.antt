@@ -2,7 +2,7 @@ use Rattle.std.proofs.Common.{◌≡◌, ◌<◌, Err, map, length, arith, sym, 
 use Rattle.std.proofs.Math.Logic.{∥∥₁_elim, ∥∥₁_map}
 use Rattle.std.proofs.lemmas.List.{length-map}
 use Rattle.scc_recorded.specs.Histories.{CallsRouted}
-use Rattle.scc_recorded.specs.Parts.{part_of}
+use Rattle.scc_table.specs.Routing.{stripe_of}
 use Rattle.scc_history.specs.Orders.{steps_at}
 use Rattle.scc_history.proofs.Along.{stamps_rise}
 use Rattle.scc_history.proofs.Places.{merge_of}
@@ -63,6 +63,6 @@ returns-clause-merges g c k all places merge =
     ∥∥₁_elim (returns-clause-alike g c) squash₁ (λ q.
     let same = same_of m.setting parts k q.3.0 some all q.3.2 in
     let hasher : self.hasher ≡ k.hasher = sym (ap (λ x. x.hasher) same ∙ q.3.1.hasher ∙ q.2) in
-    let placed = subst (λ h. CallsRouted m.key_of (part_of g.C.Hasher.BuildHasher g.C.Hasher.Hasher.Hasher g.C.Key.Hash.hash_input h (vec_len self.stripes)) 0 (map (λ s. s.stripe.history.items) self.stripes.items)) hasher routed in
+    let placed = subst (λ h. CallsRouted m.key_of (stripe_of g.C.Hasher.BuildHasher g.C.Hasher.Hasher.Hasher g.C.Key.Hash.hash_input h (vec_len self.stripes)) 0 (map (λ s. s.stripe.history.items) self.stripes.items)) hasher routed in
     ∥∥₁_map (returns-clause-replays g c k all) (λ r.
     c.every_merge_is_a_run.ensures k (length c.move_out.new.histories.items) c.move_out.new.opened.items hs (map m.state parts) (steps_at hs places) r (rw (n, e) placed) (merge_of _ hs places merge)))

@@ -1,0 +1,40 @@
+-- What the contracts of an entry cite: the key that it stands at, and where it stands in its stripe.
+use Rattle.std.specs.Prelude.{◌≡◌, List, []}
+use Rattle.std.specs.Map.{keys_of}
+use Rattle.std.specs.declared.cmp.PartialEq as eq
+use Rattle.std.specs.declared.hash.Hash as hash
+use Rattle.std.specs.declared.hash.Hasher as hasher
+use Rattle.std.specs.declared.hash.BuildHasher as builder
+use Rattle.scc_map.specs.Entries.{occupied_pair, occupied_front as pairs_before, occupied_back as pairs_after}
+use Rattle.scc_map.specs.EntrySteps as pairs
+use Rattle.scc_table.specs.Contents.{Contents}
+use Rattle.scc_common.specs.declared.guard.Guard as guard
+use Rattle.scc_map.specs.declared.hash_map.held.HeldEntry.{HeldEntry}
+use Rattle.scc_shared_set.specs.declared.hash_set.entries.HeldKey.{HeldKey}
+
+module _ {G N K S T : Type 0} {d : guard.Ghosts G (Contents (K × Unit {0}) S)} {g : eq.Ghosts K} {h : hash.Ghosts K} {b : builder.Ghosts S T} {w : hasher.Ghosts T} where
+  -- the key of the entry, and the keys before and after it in the list of its stripe
+  abbrev pub occupied_key : HeldKey (HeldEntry G N K (Unit {0}) S T d g h b w) → K
+  occupied_key o = (occupied_pair o.entry).0
+
+  abbrev pub occupied_front : HeldKey (HeldEntry G N K (Unit {0}) S T d g h b w) → List K
+  occupied_front o = keys_of (pairs_before o.entry)
+
+  abbrev pub occupied_back : HeldKey (HeldEntry G N K (Unit {0}) S T d g h b w) → List K
+  occupied_back o = keys_of (pairs_after o.entry)
+
+  -- p stands next after o in the list of the stripe, which stays
+  abbrev pub IsNext : HeldKey (HeldEntry G N K (Unit {0}) S T d g h b w) → HeldKey (HeldEntry G N K (Unit {0}) S T d g h b w) → Type 0
+  IsNext o p = pairs.IsNext o.entry p.entry
+
+  -- the key of o is out, the others of the stripe stay in their order, and p stands at the one that stood next after it
+  abbrev pub IsNextPastRemoved : HeldKey (HeldEntry G N K (Unit {0}) S T d g h b w) → HeldKey (HeldEntry G N K (Unit {0}) S T d g h b w) → Type 0
+  IsNextPastRemoved o p = pairs.IsNextPastRemoved o.entry p.entry
+
+  -- o is the last of its stripe
+  abbrev pub IsLastOfStripe : HeldKey (HeldEntry G N K (Unit {0}) S T d g h b w) → Type 0
+  IsLastOfStripe o = pairs_after o.entry ≡ []
+
+  -- o is the first of its stripe
+  abbrev pub IsFirstOfStripe : HeldKey (HeldEntry G N K (Unit {0}) S T d g h b w) → Type 0
+  IsFirstOfStripe o = pairs_before o.entry ≡ []

@@ -1,0 +1,272 @@
+//! Containers behind locks, and the one to which a key belongs.
+ghost use Rattle.std.specs.Prelude.{◌≡◌, ◌≤◌, ◌<◌, ◌^◌, IfOk, IfSome, vec_len};
+ghost use Rattle.std.specs.Arc.{arc_value};
+ghost use Rattle.scc_table.specs.Routing.{stripe_of};
+
+use crate::book::{Added, ReserveBook};
+use crate::shares::share;
+use scc_table::MakeError;
+use scc_table::route::bucket_index;
+use std::alloc::Global;
+use std::hash::{BuildHasher, Hash};
+use std::sync::{Arc, RwLock, RwLockReadGuard, RwLockWriteGuard, Wait};
+
+/// A container that keeps its share of what all stripes together are to keep at least.
+pub trait Follow {
+    /// How many elements it has.
+    fn count(&self) -> usize;
+
+    /// How many slots its array has; 0 without an array.
+    fn slots(&self) -> usize;
+
+    /// Keeps so many slots at least from now on.
+    fn follow(&mut self, share: usize)
+        requires { share ≤ 2 ^ 63 };
+}
+
+/// A container that can be made as one of several parts.
+pub trait Part<H>: Sized {
+    /// An empty container that skips so many bits of each hash and hashes as each other part of that hasher does, for so many slots; `maximum` counts for a cache alone.
+    fn make_part(
+        alloc: Global,
+        skipped: u32,
+        slots: usize,
+        maximum: usize,
+        owner: Arc<H>,
+    ) -> Result<Self, MakeError>
+    where
+        H: Drop,
+        requires { skipped ≤ 4 };
+}
+
+/// A fixed number of containers, each behind a lock, under one hasher, and the book of what they keep at least. Threads share it by reference.
+#[derive(Drop)]
+pub struct Striped<O, H> {
+    locks: Vec<RwLock<O>>,
+    hasher: Arc<H>,
+    bits: u32,
+    book: ReserveBook,
+    pub ghost few: { bits ≤ 4 },
+    pub ghost number: { vec_len locks ≡ 2 ^ bits },
+}
+
+impl<O, H> Striped<O, H> {
+    /// As many empty containers as so many bits can number, each with its share of the slots and of the maximum.
+    pub fn make(
+        alloc: Global,
+        bits: u32,
+        slots: usize,
+        maximum: usize,
+        hasher: Arc<H>,
+    ) -> Result<Self, MakeError>
+    where
+        O: Part<H> + Drop,
+        H: Drop,
+        requires few { bits ≤ 4 }
+        requires slots { slots ≤ 2 ^ 63 }
+        requires maximum { maximum ≤ 2 ^ 63 }
+        ensures bits { IfOk result (λ s. s.bits ≡ bits) }
+        ensures hasher { IfOk result (λ s. arc_value s.hasher ≡ arc_value hasher) }
+    {
+        let count = 1usize << bits;
+        let mut locks = Vec::new(alloc);
+        for made in 0..count {
+            prove!(locks.len() == made);
+            let Ok(owner) = Arc::try_clone(&hasher) else {
+                return Err(MakeError);
+            };
+            let part = O::make_part(alloc, bits, share(bits, slots), share(bits, maximum), owner)?;
+            if locks.push(RwLock::new(part)).is_err() {
+                return Err(MakeError);
+            }
+        }
+        Ok(Striped {
+            locks,
+            hasher,
+            bits,
+            book: ReserveBook::new(slots),
+        })
+    }
+
+    /// One more owner of the hasher.
+    pub fn owner(&self) -> Result<Arc<H>, MakeError>
+        ensures { IfOk result (λ h. arc_value h ≡ arc_value self.now.hasher) }
+    {
+        match Arc::try_clone(&self.hasher) {
+            Ok(owner) => Ok(owner),
+            Err(_) => Err(MakeError),
+        }
+    }
+
+    /// How many containers there are.
+    pub fn stripes(&self) -> usize
+        ensures { result ≡ vec_len self.now.locks }
+    {
+        self.locks.len()
+    }
+
+    /// How many first bits of a hash pick the stripe.
+    pub fn bits(&self) -> u32
+        ensures value { result ≡ self.now.bits }
+        ensures few { result ≤ 4 }
+    {
+        self.bits
+    }
+
+    /// The number of the stripe of a key: the one that routing names.
+    pub fn route<K: Hash>(&self, k: &K) -> usize
+    where
+        H: BuildHasher,
+        ensures value { result ≡ stripe_of H.BuildHasher H.Hasher.Hasher K.hash_input (arc_value self.now.hasher) (vec_len self.now.locks) k.now }
+        ensures within { result < vec_len self.now.locks }
+    {
+        bucket_index(self.hasher.hash_one(k), 0, self.locks.len())
+    }
+
+    /// Waits until nobody writes into the stripe, and keeps writers out.
+    pub fn read(&self, rt: &impl Wait, stripe: usize) -> RwLockReadGuard<'_, O>
+        requires { stripe < vec_len self.now.locks }
+    {
+        self.locks[stripe].read(rt)
+    }
+
+    /// Keeps writers out of the stripe; None where one has it or waits for it. It waits for nobody.
+    pub fn try_read(&self, stripe: usize) -> Option<RwLockReadGuard<'_, O>>
+        requires { stripe < vec_len self.now.locks }
+    {
+        self.locks[stripe].try_read()
+    }
+
+    /// Waits until nobody has the stripe, and keeps all others out.
+    pub fn write(&self, rt: &impl Wait, stripe: usize) -> RwLockWriteGuard<'_, O>
+        requires { stripe < vec_len self.now.locks }
+    {
+        self.locks[stripe].write(rt)
+    }
+
+    /// The same for a call that may insert: where the stripe has no array, it gets its share of the minimum first.
+    pub fn write_to_insert(&self, rt: &impl Wait, stripe: usize) -> RwLockWriteGuard<'_, O>
+    where
+        O: Follow,
+        requires { stripe < vec_len self.now.locks }
+    {
+        let mut guard = self.locks[stripe].write(rt);
+        if guard.slots() == 0 {
+            self.follow(&mut *guard);
+        }
+        guard
+    }
+
+    /// Gives a container its share of the minimum as it is now.
+    pub fn follow(&self, container: &mut O)
+    where
+        O: Follow,
+    {
+        container.follow(self.share());
+    }
+
+    /// The share of one stripe of the minimum as it is now, rounded up.
+    pub fn share(&self) -> usize
+        ensures { result ≤ 2 ^ 63 }
+    {
+        share(self.bits, self.book.minimum())
+    }
+
+    /// The minimum as it is now, cut at the greatest capacity.
+    pub fn minimum(&self) -> usize
+        ensures { result ≤ 2 ^ 63 }
+    {
+        self.book.minimum()
+    }
+
+    /// The number of elements of all stripes, looked at one after another, at most the greatest number.
+    pub fn count(&self, rt: &impl Wait) -> usize
+    where
+        O: Follow,
+    {
+        let mut sum = 0usize;
+        for stripe in 0..self.locks.len() {
+            sum = sum.saturating_add(self.locks[stripe].read(rt).count());
+        }
+        sum
+    }
+
+    /// Whether no stripe has an element, as each is looked at.
+    pub fn is_empty(&self, rt: &impl Wait) -> bool
+    where
+        O: Follow,
+    {
+        for stripe in 0..self.locks.len() {
+            if self.locks[stripe].read(rt).count() > 0 {
+                return false;
+            }
+        }
+        true
+    }
+
+    /// The slots of all stripes, one after another, at most the greatest number. Each gets its share of the minimum as it is then.
+    pub fn slots(&self, rt: &impl Wait) -> usize
+    where
+        O: Follow,
+    {
+        let mut sum = 0usize;
+        for stripe in 0..self.locks.len() {
+            let mut guard = self.locks[stripe].write(rt);
+            self.follow(&mut *guard);
+            sum = sum.saturating_add(guard.slots());
+        }
+        sum
+    }
+
+    /// Adds so many slots to the minimum, and lets the stripes follow one after another; None for 0, and where the minimum would pass the greatest capacity.
+    pub fn reserve(&self, rt: &impl Wait, additional: usize) -> Option<Added<'_>>
+    where
+        O: Follow,
+        ensures { IfSome result (λ r. (r.additional ≡ additional) × (0 < additional) × (additional ≤ 2 ^ 63)) }
+    {
+        let added = self.book.add(rt, additional)?;
+        for stripe in 0..self.locks.len() {
+            let mut guard = self.locks[stripe].write(rt);
+            self.follow(&mut *guard);
+        }
+        Some(added)
+    }
+}
+
+/// Which of the stripes is held, for those who go on to the later ones.
+#[derive(Drop)]
+pub struct Seat<'a, O, H> {
+    stripes: &'a Striped<O, H>,
+    stripe: usize,
+}
+
+impl<'a, O, H> Seat<'a, O, H> {
+    /// A seat in the stripe of that number.
+    pub fn new(stripes: &'a Striped<O, H>, stripe: usize) -> Self
+        ensures stripes { result.stripes.now ≡ stripes.now }
+        ensures stripe { result.stripe ≡ stripe }
+    {
+        Seat { stripes, stripe }
+    }
+
+    /// The stripe after this one, held for writing; None where this is the last.
+    pub fn later(self, rt: &impl Wait) -> Option<(RwLockWriteGuard<'a, O>, Self)>
+        ensures { IfSome result (λ r. self.entry.stripe < r.1.stripe) }
+    {
+        let Seat { stripes, stripe } = self;
+        if stripe >= stripes.locks.len() || stripes.locks.len() - stripe < 2 {
+            return None;
+        }
+        let stripe = stripe + 1;
+        let guard = stripes.locks[stripe].write(rt);
+        Some((guard, Seat { stripes, stripe }))
+    }
+
+    /// Gives the container that is held its share of the minimum as it is now.
+    pub fn follow(&self, container: &mut O)
+    where
+        O: Follow,
+    {
+        self.stripes.follow(container);
+    }
+}

@@ -1,0 +1,113 @@
+//! A routing table that threads share, over a shared index: a reader keeps a route while others offer better ones.
+ghost use Rattle.std.specs.Prelude.{◌≡◌, ◌≤◌, IfOk, IfErr, IfSome, length};
+ghost use Rattle.std.specs.Arc.{arc_value};
+ghost use Rattle.scc_index.specs.Entries.{Memory};
+
+use crate::routing::Route;
+use scc_shared_index::HashIndex;
+use scc_shared_index::hash_index::{Entry, Version};
+use scc_table::{InsertError, MakeError};
+use std::alloc::Global;
+use std::sync::{Arc, Wait};
+use std::thread::{Threads, join};
+
+/// The routes by destination. Threads offer, look up and withdraw by reference.
+#[derive(Drop)]
+pub struct SharedRoutes {
+    routes: HashIndex<u32, Route>,
+}
+
+impl SharedRoutes {
+    /// No route. It is refused for want of memory.
+    pub fn new(alloc: Global) -> Result<Self, MakeError> {
+        match HashIndex::new(alloc) {
+            Ok(routes) => Ok(SharedRoutes { routes }),
+            Err(e) => Err(e),
+        }
+    }
+
+    /// Takes a route where there is none to its destination, or where its metric is lower than that of the one that is
+    /// there, and answers whether it did. Refused for want of memory, destination and route come back.
+    pub fn offer(
+        &self,
+        rt: &impl Wait,
+        destination: u32,
+        route: Route,
+    ) -> Result<bool, InsertError<u32, Route>>
+        ensures refused { IfErr result (λ e. e ≡ Memory (destination, route)) }
+    {
+        match self.routes.entry_sync(rt, destination) {
+            Entry::Occupied(there) => {
+                let mut there = there;
+                if route.metric >= there.get().metric {
+                    return Ok(false);
+                }
+                match there.update(route) {
+                    Ok(()) => Ok(true),
+                    Err(back) => Err(InsertError::Memory((destination, back))),
+                }
+            }
+            Entry::Vacant(free) => match free.insert_entry(route) {
+                Ok(_entry) => Ok(true),
+                Err(e) => Err(e),
+            },
+        }
+    }
+
+    /// Hands out the route to a destination. It stays what it is, whatever is offered and withdrawn meanwhile.
+    pub fn look_up(
+        &self,
+        rt: &impl Wait,
+        destination: u32,
+    ) -> Result<Option<Arc<Version<u32, Route>>>, MakeError>
+        ensures to { IfOk result (λ o. IfSome o (λ a. (arc_value a).0 ≡ destination)) }
+    {
+        self.routes.peek(rt, &destination)
+    }
+
+    /// Withdraws all routes by a next hop. A route that was handed out stays.
+    pub fn withdraw(&self, rt: &impl Wait, next_hop: u32) {
+        self.routes
+            .retain_sync(rt, |_, route| route.next_hop != next_hop);
+    }
+
+    /// Offers the routes one after another, and answers how many were taken. A refusal ends it.
+    pub fn offer_all(
+        &self,
+        rt: &impl Wait,
+        offers: &[(u32, Route)],
+    ) -> Result<usize, InsertError<u32, Route>>
+        ensures most { IfOk result (λ n. n ≤ length offers.now) }
+    {
+        let mut taken = 0usize;
+        for i in 0..offers.len() {
+            let (destination, route) = offers[i];
+            match self.offer(rt, destination, route) {
+                Ok(true) => taken += 1,
+                Ok(false) => {}
+                Err(e) => return Err(e),
+            }
+        }
+        Ok(taken)
+    }
+
+    /// Two threads offer a list each. It answers how many routes of each were taken.
+    pub fn offer_both<R: Threads + Wait + Sync>(
+        &self,
+        rt: &R,
+        first: &[(u32, Route)],
+        second: &[(u32, Route)],
+    ) -> (
+        Result<usize, InsertError<u32, Route>>,
+        Result<usize, InsertError<u32, Route>>,
+    )
+        ensures first { IfOk result.0 (λ n. n ≤ length first.now) }
+        ensures second { IfOk result.1 (λ n. n ≤ length second.now) }
+    {
+        join(
+            rt,
+            || self.offer_all(rt, first),
+            || self.offer_all(rt, second),
+        )
+    }
+}
