@@ -8,6 +8,7 @@ mod crew;
 mod index;
 mod insertions;
 mod memory;
+mod memos;
 mod mixed;
 mod reads;
 mod request;
@@ -22,7 +23,8 @@ use std::{env, io};
 fn list_peers(rt: &impl Print) -> io::Result<()> {
     println!(rt; "scc-shared shared,tail4,mem")?;
     println!(rt; "scc-shared-index index")?;
-    println!(rt; "scc-shared-cache cache")
+    println!(rt; "scc-shared-cache cache")?;
+    println!(rt; "scc-memo memo")
 }
 
 /// The arguments, without the program's name.
@@ -61,6 +63,17 @@ fn measure_caches<R: Clock + Print + Threads + Wait + Sync>(
     Ok(())
 }
 
+fn measure_memos<R: Clock + Print + Threads + Wait + Sync>(
+    rt: &R,
+    alloc: Global,
+    request: Request,
+) -> io::Result<()> {
+    for threads in CREWS {
+        memos::measure(rt, alloc, threads, request)?;
+    }
+    Ok(())
+}
+
 fn measure<R: Clock + Files + Print + Alloc + Threads + Wait + Sync>(
     rt: &R,
     alloc: Global,
@@ -72,6 +85,7 @@ fn measure<R: Clock + Files + Print + Alloc + Threads + Wait + Sync>(
         Group::Memory => memory::measure(rt, alloc, request),
         Group::Index => index::measure(rt, alloc, request),
         Group::Cache => measure_caches(rt, alloc, request),
+        Group::Memos => measure_memos(rt, alloc, request),
     }
 }
 

@@ -9,6 +9,7 @@ pub enum Group {
     Memory,
     Index,
     Cache,
+    Memos,
 }
 
 /// A group of workloads, so many times.
@@ -34,6 +35,7 @@ fn parse_group(peer: &str, group: &str) -> io::Result<Group> {
         ("scc-shared", "mem") => Ok(Group::Memory),
         ("scc-shared-index", "index") => Ok(Group::Index),
         ("scc-shared-cache", "cache") => Ok(Group::Cache),
+        ("scc-memo", "memo") => Ok(Group::Memos),
         _ => Err(bad_argument()),
     }
 }

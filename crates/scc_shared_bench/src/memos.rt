@@ -1,0 +1,150 @@
+//! Steps over memos: one that all threads share behind a lock, or one for each thread.
+ghost use Rattle.std.specs.Prelude.{◌*◌};
+ghost use Rattle.std.proofs.Common.{ap};
+ghost use Rattle.std.proofs.lemmas.Bool.{eqb-true};
+
+use crate::crew::{out_of_memory, print_line, run};
+use crate::request::Request;
+use scc_memo::{Memo, Pure};
+use std::alloc::{AllocError, Global};
+use std::hash::{BuildHasherDefault, FoldHasher};
+use std::io;
+use std::rt::Clock;
+use std::sync::{Mutex, Wait};
+use std::thread::Threads;
+
+/// The most values of a memo.
+const MOST: usize = 65_536;
+
+const PEER: &str = "scc-memo";
+
+/// The function that is remembered.
+#[derive(Drop)]
+struct Square;
+
+impl Pure for Square {
+    type Key = u64;
+
+    type Value = u128;
+
+    ghost value = { λ _ k. k * k };
+
+    ghost equal_alike = { λ p j k same. ap (λ n. n * n) (eqb-true j k same) };
+
+    fn of(&self, k: &u64) -> u128 {
+        let k = u128::from(*k);
+        k * k
+    }
+}
+
+type Squares = Memo<Square, BuildHasherDefault<FoldHasher>>;
+
+fn empty(alloc: Global) -> Option<Squares> {
+    match Memo::with_capacity_and_hasher(alloc, Square, 0, MOST, BuildHasherDefault::default()) {
+        Ok(memo) => Some(memo),
+        Err(_) => None,
+    }
+}
+
+/// A number that is lost unless the value is looked at.
+fn folded(value: u128) -> u64 {
+    match u64::try_from(value) {
+        Ok(small) => small,
+        Err(_) => 1,
+    }
+}
+
+/// Gets each key of a memo that no other thread has.
+fn get_all(alloc: Global, keys: &[u64]) -> Option<u64> {
+    match empty(alloc) {
+        Some(mut memo) => {
+            let mut sum = 0u64;
+            for key in keys {
+                sum = sum.wrapping_add(folded(memo.get(*key)));
+            }
+            Some(sum)
+        }
+        None => None,
+    }
+}
+
+/// Gets each key of a memo that other threads have too, and lets the lock go after each.
+fn get_all_locked(rt: &impl Wait, memo: &Mutex<Squares>, keys: &[u64]) -> u64 {
+    let mut sum = 0u64;
+    for key in keys {
+        let value = memo.lock(rt).get(*key);
+        sum = sum.wrapping_add(folded(value));
+    }
+    sum
+}
+
+/// The keys of each of so many threads.
+fn crew_keys(alloc: Global, threads: u64, request: Request) -> Result<Vec<Vec<u64>>, AllocError> {
+    let mut all = Vec::new(alloc);
+    for thread in 0..threads {
+        let own = request.streams.ranked_of(alloc, thread, 0)?;
+        match all.push(own) {
+            Ok(()) => {}
+            Err(_) => return Err(AllocError),
+        }
+    }
+    Ok(all)
+}
+
+/// A memo for each thread.
+fn run_each<R: Threads + Clock + Sync>(
+    rt: &R,
+    alloc: Global,
+    keys: &[Vec<u64>],
+) -> io::Result<u64> {
+    let outcome = run(
+        rt,
+        alloc,
+        keys.len(),
+        &|thread| match keys.get(thread) {
+            Some(own) => get_all(alloc, own.as_slice()),
+            None => None,
+        },
+    )?;
+    Ok(outcome.spent)
+}
+
+/// One memo behind a lock.
+fn run_locked<R: Threads + Wait + Clock + Sync>(
+    rt: &R,
+    alloc: Global,
+    keys: &[Vec<u64>],
+) -> io::Result<u64> {
+    let Some(memo) = empty(alloc) else {
+        return Err(out_of_memory());
+    };
+    let memo = Mutex::new(memo);
+    let outcome = run(
+        rt,
+        alloc,
+        keys.len(),
+        &|thread| match keys.get(thread) {
+            Some(own) => Some(get_all_locked(rt, &memo, own.as_slice())),
+            None => None,
+        },
+    )?;
+    Ok(outcome.spent)
+}
+
+/// Measures both, `runs` times.
+pub fn measure<R: Threads + Wait + Clock + Print + Sync>(
+    rt: &R,
+    alloc: Global,
+    threads: u64,
+    request: Request,
+) -> io::Result<()> {
+    let keys = crew_keys(alloc, threads, request)?;
+    let count = request.streams.entries.saturating_mul(threads);
+    for _ in 0..request.runs {
+        let each = run_each(rt, alloc, keys.as_slice())?;
+        print_line(rt, "memo_each", PEER, threads, each, count, alloc)?;
+        let locked = run_locked(rt, alloc, keys.as_slice())?;
+        print_line(rt, "memo_locked", PEER, threads, locked, count, alloc)?;
+    }
+    Ok(())
+}
