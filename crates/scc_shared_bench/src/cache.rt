@@ -3,6 +3,7 @@ use crate::crew::{Outcome, out_of_memory, print_check, print_line, run};
 use crate::request::Request;
 use scc_measures::streams::{Streams, value};
 use scc_shared_cache::HashCache;
+use scc_table::InsertError;
 use std::alloc::{AllocError, Global};
 use std::io;
 use std::rt::Clock;
@@ -36,8 +37,11 @@ fn get_or_put_all(rt: &impl Wait, cache: &Cache, keys: &[u64], counted: bool) ->
                 hits = hits.wrapping_add(1);
             }
             None => {
-                if cache.put_sync(rt, *key, value(*key)).is_err() {
-                    return None;
+                match cache.put_sync(rt, *key, value(*key)) {
+                    Ok(_) => {}
+                    // Another thread has put it since.
+                    Err(InsertError::Exists(_)) => {}
+                    Err(InsertError::Memory(_)) => return None,
                 }
                 sum = sum.wrapping_add(value(*key));
             }
