@@ -1,5 +1,5 @@
 -- What a step of the table is for a cache.
-use Rattle.std.proofs.Common.{◌≡◌, ℕ, zero, suc, ◌+◌, ◌*◌, ◌^◌, ◌<◌, ◌≤◌, Bool, true, false, List, [], ◌∷◌, ◌++◌, length, refl, sym, ap, ◌∙◌, subst, arith, length-set, length-append, Option, None, Some, MatchOption}
+use Rattle.std.proofs.Common.{◌≡◌, ℕ, zero, suc, ◌+◌, ◌*◌, ◌^◌, ◌<◌, ◌≤◌, Bool, true, false, List, [], ◌∷◌, ◌++◌, length, refl, sym, ap, ◌∙◌, subst, arith, inl, inr, length-set, length-append, Option, None, Some, MatchOption}
 use Rattle.std.specs.Int.{IsPowerOfTwo}
 use Rattle.std.specs.List.{IsDistinct, flat_map, remove, slice_get, slice_set, slice_index_or, position}
 use Rattle.std.specs.Option.{option_map}
@@ -13,7 +13,7 @@ use Rattle.scc_table.proofs.Finding.{position_hit, position_cons}
 use Rattle.scc_table.proofs.Inserts.{by_answer}
 use Rattle.scc_table.specs.Places as spots
 use Rattle.scc_table.specs.declared.place.Place.{Place}
-use Rattle.scc_incremental.specs.Bounded.{IsListedAt, GrowsBelow, makes, has_room, is_full, stays, denied, doubles}
+use Rattle.scc_incremental.specs.Bounded.{IsListedAt, IsReadyBelow, GrowsBelow, makes, has_room, is_full, stays, denied, doubles}
 use Rattle.scc_incremental.specs.Places.{IsPlace, spot_of}
 use Rattle.scc_incremental.specs.TwoArrays.{waits_at}
 use Rattle.scc_incremental.proofs.OldSpots.{spot-own}
@@ -102,10 +102,24 @@ module _ {E S : Type 0} where
   grown-within hash c d m i (has_room some room e) w least within least_slots = subst (λ z. 32 * bucket_count z ≤ m) (sym e) within
   grown-within hash c d m i (is_full some full (stays due e)) w least within least_slots = subst (λ z. 32 * bucket_count z ≤ m) (sym e) within
   grown-within hash c d m i (is_full some full (denied due up k)) w least within least_slots = let e = keeps-count c d k in omega arith
-  grown-within hash c d m i (is_full some full (doubles due down twice r)) w least within least_slots =
+  grown-within hash c d m i (is_full some full (doubles due untried down twice r)) w least within least_slots =
       let p = r.array.power in
       let below = due.below in
       below-double (32 * bucket_count d) m (p.0 + 5) w.0 (slots-power (bucket_count d) p.0 p.1) w.1 (omega arith)
+
+  -- where all is made that a new entry wants, its growth leaves the number of buckets
+  pub once-grown : (hash : E → ℕ) (c d : Contents E S) (m i : ℕ) → GrowsBelow hash m i c d → IsReadyBelow m i c → bucket_count d ≡ bucket_count c
+  once-grown hash c d m i (makes none size r) ready = absurd (let some = ready.0 in omega arith)
+  once-grown hash c d m i (has_room some room e) ready = ap bucket_count e
+  once-grown hash c d m i (is_full some full (stays due e)) ready = ap bucket_count e
+  once-grown hash c d m i (is_full some full (denied due up k)) ready = keeps-count c d k
+  once-grown hash c d m i (is_full some full (doubles due untried down twice r)) ready = elim ready.1 as (λ _. bucket_count d ≡ bucket_count c) [
+    | inl room ↦ absurd (omega arith)
+    | inr q ↦ elim q as (λ _. bucket_count d ≡ bucket_count c) [
+      | inl undue ↦ absurd (undue due)
+      | inr tried ↦ absurd (let z : true ≡ false = sym tried ∙ untried in cc)
+    ]
+  ]
 
   pub shrunk-within : (hash : E → ℕ) (c d : Contents E S) → ShrinksBounded hash c d → (bucket_count d ≤ bucket_count c) × (settings_of d ≡ settings_of c)
   shrunk-within hash c d (stays_wide due e) = (subst (λ z. bucket_count z ≤ bucket_count c) (sym e) (omega arith), ap settings_of e)

@@ -74,7 +74,7 @@ module _ {X : Type 0} (P : X → Type 0) where
     each-doubled : (most : ℕ) (c d : Contents X S) → DoublesBelow hash most c d → Each (lists_of c) → Each (lists_of d)
     each-doubled most c d (stays due e) h = subst (λ z. Each (lists_of z)) (sym e) h
     each-doubled most c d (denied due up k) h = subst (λ z. Each z) (sym k.lists) h
-    each-doubled most c d (doubles due down twice r) h = each-resized c d r h
+    each-doubled most c d (doubles due untried down twice r) h = each-resized c d r h
 
     each-shrunk : (c d : Contents X S) → ShrinksBounded hash c d → Each (lists_of c) → Each (lists_of d)
     each-shrunk c d (stays_wide due e) h = subst (λ z. Each (lists_of z)) (sym e) h

@@ -1,6 +1,7 @@
 pub mod Caching
 pub mod EachPair
 pub mod Entries
+pub mod Found
 pub mod Relocations
 pub mod Removing
 pub mod Replies

@@ -1,18 +1,18 @@
 -- What each call does to a cache. Each relation goes by the reply.
-use Rattle.std.specs.Prelude.{◌≡◌, ℕ, ◌+◌, Bool, List, [], length, Option, None, Some, Result, Ok, Err, map, remove, slice_get}
+use Rattle.std.specs.Prelude.{◌≡◌, ◌≢◌, ℕ, ◌+◌, ◌<◌, ◌≤◌, ◌⊎◌, Bool, true, false, List, [], length, Option, None, Some, Result, Ok, Err, map, remove, slice_get}
 use Rattle.std.specs.List.{position, slice_index_or, slice_set}
 use Rattle.std.specs.Borrow.{Bor}
 use Rattle.std.specs.Fn.{Once}
 use Rattle.scc_table.specs.Bounded.{IsListed, ShrinksBounded}
-use Rattle.scc_table.specs.Contents.{Contents, entries, bucket_count, list_of, lists_of, refused_of, settings_of}
+use Rattle.scc_table.specs.Contents.{Contents, entries, bucket_count, list_of, lists_of, pending_of, refused_of, settings_of, waiting_of}
 use Rattle.scc_table.specs.Routing.{bucket_number}
 use Rattle.scc_table.specs.declared.place.Place.{Place}
-use Rattle.scc_incremental.specs.Bounded.{GrowsBelow}
+use Rattle.scc_incremental.specs.Bounded.{GrowsBelow, IsReadyBelow}
 use Rattle.scc_incremental.specs.Places.{IsPlace, spot_of}
 use Rattle.scc_common.specs.declared.errors.InsertError.{InsertError}
 use Rattle.scc_common.specs.declared.errors.InsertError.TheVariants.{Exists, Memory}
 use Rattle.scc_cache.specs.Caches.{Cached}
-use Rattle.scc_cache.specs.ListSteps.{IsMissing, IsThere, PutsPair, Refreshes, TakesOut}
+use Rattle.scc_cache.specs.ListSteps.{IsMissing, IsThere, PutsPair, Refreshes, TakesOut, pair_for}
 
 module _ {E S : Type 0} where
   -- the lists change as R says; settings, maximum and whether memory was refused stay
@@ -20,6 +20,13 @@ module _ {E S : Type 0} where
     pub lists : R (lists_of c.contents) (lists_of d.contents)
     pub settings : settings_of d.contents ≡ settings_of c.contents
     pub refused : refused_of d.contents ≡ refused_of c.contents
+    pub maximum : d.maximum ≡ c.maximum
+
+  -- the lists change as R says; settings, maximum and whether memory was refused stay, and no growth is marked as refused just before
+  pub record ChangesUnmarked (R : List (List E) → List (List E) → Type 0) (c d : Cached E S) : Type 0 where
+    pub lists : R (lists_of c.contents) (lists_of d.contents)
+    pub settings : settings_of d.contents ≡ settings_of c.contents
+    pub refused : refused_of d.contents ≡ ((refused_of c.contents).0, false)
     pub maximum : d.maximum ≡ c.maximum
 
   -- the growth that a new pair of list i lets happen first
@@ -53,6 +60,19 @@ module _ {K V S : Type 0} (hash : K → ℕ) where
   abbrev pub number_in : Contents (K × V) S → ℕ → K → ℕ
   number_in c n k = bucket_number (settings_of c).skipped n (hash k)
 
+  -- all is made that a put of the new key k wants: there is an array, and the key's list has room, no doubling is due, or it was refused just before
+  abbrev pub IsReadyFor : Cached (K × V) S → K → Type 0
+  IsReadyFor c k = IsReadyBelow c.maximum (number_in c.contents (bucket_count c.contents) k) c.contents
+
+  -- room was made for a put of the new key k: the growth that it lets happen was made, and no pair moved. A doubling that was refused is marked
+  pub record MakesRoom (c : Cached (K × V) S) (k : K) (d : Cached (K × V) S) : Type 0 where
+    pub grows : GrowsFor (λ e. hash e.0) (number_in c.contents (bucket_count c.contents) k) c d
+    pub ready : IsReadyFor d k
+    pub marked : (refused_of d.contents).1 ≡ true → ((refused_of c.contents).1 ≡ true) ⊎ ((refused_of d.contents).0 ≡ true)
+    pub first : bucket_count c.contents ≡ 0 → pending_of d.contents ≡ 0
+    pub waiting : 0 < bucket_count c.contents → bucket_count d.contents ≡ bucket_count c.contents → waiting_of d.contents ≡ waiting_of c.contents
+    pub all : 0 < bucket_count c.contents → bucket_count d.contents ≢ bucket_count c.contents → pending_of d.contents ≡ bucket_count d.contents
+
   module _ (eq : K → K → Bool) where
     -- no key equals k
     abbrev pub IsAbsent : Contents (K × V) S → K → Type 0
@@ -65,6 +85,20 @@ module _ {K V S : Type 0} (hash : K → ℕ) where
     -- p is the pair of k
     abbrev pub IsPresent : Contents (K × V) S → K → K × V → Type 0
     IsPresent c k p = (i : ℕ) × IsPresentAt c k i p
+
+    -- a put of k would drive nothing out without a growth: the key is there, or its list has room
+    abbrev pub DrivesNoneOut : Contents (K × V) S → K → Type 0
+    DrivesNoneOut c k = ((p : K × V) × IsPresent c k p) ⊎ (length (list_of c (number_in c (bucket_count c) k)) < 32)
+
+    -- a put of the new key k would drive p out without a growth: p is the least recent of a full list
+    pub record DrivesOut (c : Contents (K × V) S) (k : K) (p : K × V) : Type 0 where
+      pub absent : IsAbsent c k
+      pub full : 32 ≤ length (list_of c (number_in c (bucket_count c) k))
+      pub first : slice_get (list_of c (number_in c (bucket_count c) k)) 0 ≡ Some p
+
+    -- the pair of k, where there is one
+    abbrev pub pair_of : Contents (K × V) S → K → Option (K × V)
+    pair_of c k = pair_for (number_in c) eq (lists_of c) k
 
     -- no key equals k, in its list or in any
     pub record IsLacking (c : Contents (K × V) S) (k : K) : Type 0 where
@@ -90,7 +124,7 @@ module _ {K V S : Type 0} (hash : K → ℕ) where
 
     -- the new pair p was put in after a growth, where that is due; x is what it drove out
     abbrev pub PutsNew : Cached (K × V) S → K × V → Option (K × V) → Cached (K × V) S → Type 0
-    PutsNew c p x d = (grown : Cached (K × V) S) × GrowsFor (λ e. hash e.0) (number_in c.contents (bucket_count c.contents) p.0) c grown × Changes (PutsPair (number_in c.contents) eq p x) grown d
+    PutsNew c p x d = (grown : Cached (K × V) S) × GrowsFor (λ e. hash e.0) (number_in c.contents (bucket_count c.contents) p.0) c grown × ChangesUnmarked (PutsPair (number_in c.contents) eq p x) grown d
 
     -- a put of the pair p. A key that is there changes nothing, and p comes back; so it does where there is no array and none can be had
     abbrev pub Puts : Cached (K × V) S → K × V → Result (Option (K × V)) (InsertError K V) → Cached (K × V) S → Type 0

@@ -1,6 +1,7 @@
 -- What the calls of a cache do to its lists, each from the least to the most recent pair. `number n k` is the number of the list of k, of n lists.
 use Rattle.std.specs.Prelude.{◌≡◌, ℕ, ◌<◌, ◌≤◌, Bool, List, [], ◌∷◌, ◌++◌, length, Option, None, Some, slice_get, remove}
 use Rattle.std.specs.List.{position, slice_index_or, slice_set}
+use Rattle.scc_table.specs.Pairs.{find}
 
 module _ {K V : Type 0} (number : ℕ → K → ℕ) where
   -- the list that k belongs to; the empty one where there is none
@@ -20,6 +21,10 @@ module _ {K V : Type 0} (number : ℕ → K → ℕ) where
     pub record IsThere (ls : List (List (K × V))) (k : K) (i : ℕ) (p : K × V) : Type 0 where
       pub first : position (λ q. eq k q.0) (list_for ls k) ≡ Some i
       pub pair : slice_get (list_for ls k) i ≡ Some p
+
+    -- the pair of k in its list, where there is one
+    abbrev pub pair_for : List (List (K × V)) → K → Option (K × V)
+    pair_for ls k = find eq (list_for ls k) k
 
     -- the new pair p stands last in its key's list. Where that held 32 pairs, its first went and is the answer
     abbrev pub PutsPair : K × V → Option (K × V) → List (List (K × V)) → List (List (K × V)) → Type 0

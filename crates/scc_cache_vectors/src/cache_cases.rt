@@ -301,3 +301,27 @@ fn cache_replace_under_one_hash_keeps_values(rt: HostRuntime) -> Result<(), Fail
     assert_eq!(rt; cache.len(), 32);
     Ok(())
 }
+
+#[test]
+fn cache_room_is_made_before_a_put(rt: HostRuntime) -> Result<(), Fail> {
+    let mut cache = full(&rt, 128)?;
+    assert!(rt; cache.next_evicted(&31).is_none());
+    assert!(rt; cache.next_evicted(&32).is_some());
+    cache.make_room(&32)?;
+    assert_eq!(rt;
+        (cache.len(), cache.capacity(), cache.pending()),
+        (32, 128, 4)
+    );
+    match cache.next_evicted(&32) {
+        Some((key, value)) => assert_eq!(rt; (*key, *value), (0, 0)),
+        None => assert!(rt; false, "the list is full"),
+    }
+    cache.drop_room();
+    assert_eq!(rt; put(&rt, &mut cache, 32), Some((0, 0)));
+    assert_eq!(rt;
+        (cache.len(), cache.capacity(), cache.pending()),
+        (32, 128, 2)
+    );
+    assert!(rt; cache.next_evicted(&1).is_none());
+    Ok(())
+}

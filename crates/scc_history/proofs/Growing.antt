@@ -57,9 +57,9 @@ module _ (A R : Type 0) where
   pub Rises-resized : (last before after stamp : ℕ) (steps : List (Step A R)) → Rises 0 steps last → last ≤ stamp → Rises 0 (steps ++ resized before after stamp) last
   Rises-resized last before after stamp steps r h = Rises-append 0 last last steps _ r (resized_rises last after stamp (before == after) h)
 
-  pub RisesTo-push : (low clock stamp : ℕ) (call : A) (reply : R) (receipts : List (Receipt A R)) → RisesTo low receipts clock → clock < stamp → RisesTo low (receipts ++ receipt stamp call reply ∷ []) stamp
-  RisesTo-push low clock stamp call reply [] r h = (omega (arith, r), omega arith)
-  RisesTo-push low clock stamp call reply (x ∷ xs) r h = (r.0, RisesTo-push x.stamp clock stamp call reply xs r.1 h)
+  pub RisesTo-push : (low clock stripe stamp : ℕ) (call : A) (reply : R) (receipts : List (Receipt A R)) → RisesTo low receipts clock → clock < stamp → RisesTo low (receipts ++ receipt stripe stamp call reply ∷ []) stamp
+  RisesTo-push low clock stripe stamp call reply [] r h = (omega (arith, r), omega arith)
+  RisesTo-push low clock stripe stamp call reply (x ∷ xs) r h = (r.0, RisesTo-push x.stamp clock stripe stamp call reply xs r.1 h)
 
 -- the replay of a stripe whose history became longer
 pub grown : (G S A R : Type 0) (moves : G → S → A → R → S → Type 0) (resizes : G → S → ℕ → S → Type 0) (empty : ℕ → S) (opened : ℕ) (g h : G) (old new : S) (xs ys zs : List (Step A R))

@@ -1,3 +1,4 @@
+mod Readying
 pub mod Along
 pub mod Growing
 pub mod Ordering

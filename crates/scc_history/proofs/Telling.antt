@@ -22,22 +22,17 @@ either_way false x l m n e = e
 module _ {A R : Type 0} (number : ℕ) where
   calls_append : (xs ys : List (ℕ × Step A R)) → calls_of number (xs ++ ys) ≡ calls_of number xs ++ calls_of number ys
   calls_append [] ys = refl
-  calls_append ((i, Call stamp pass call reply) ∷ xs) ys = either_way (pass == number) (receipt stamp call reply) (calls_of number (xs ++ ys)) (calls_of number xs) (calls_of number ys) (calls_append xs ys)
+  calls_append ((i, Call stamp pass call reply) ∷ xs) ys = either_way (pass == number) (receipt i stamp call reply) (calls_of number (xs ++ ys)) (calls_of number xs) (calls_of number ys) (calls_append xs ys)
   calls_append ((i, Resize stamp buckets) ∷ xs) ys = calls_append xs ys
-
-  calls_one : (i : ℕ) (step : Step A R) → calls_of number ((i, step) ∷ []) ≡ calls_of number ((0, step) ∷ [])
-  calls_one i (Call stamp pass call reply) = refl
-  calls_one i (Resize stamp buckets) = refl
 
   one_at : (hs : List (List (Step A R))) (p : ℕ × ℕ) (h : List (Step A R)) (step : Step A R) → slice_get hs p.0 ≡ Some h → slice_get h p.1 ≡ Some step → steps_at hs (p ∷ []) ≡ (p.0, step) ∷ []
   one_at hs p h step e f = rw (e, f) refl
 
   pub calls_next : (hs : List (List (Step A R))) (places : List (ℕ × ℕ)) (k : ℕ) (p : ℕ × ℕ) (h : List (Step A R)) (step : Step A R) → k < length places → get_or places k (0, 0) ≡ p → slice_get hs p.0 ≡ Some h → slice_get h p.1 ≡ Some step
-      → calls_of number (steps_at hs (take (k + 1) places)) ≡ calls_of number (steps_at hs (take k places)) ++ calls_of number ((0, step) ∷ [])
+      → calls_of number (steps_at hs (take (k + 1) places)) ≡ calls_of number (steps_at hs (take k places)) ++ calls_of number ((p.0, step) ∷ [])
   calls_next hs places k p h step less is e f =
       ap (λ l. calls_of number (steps_at hs l)) (take_more places k (0, 0) less)
       ∙ ap (calls_of number) (filter_map-append (λ (p : ℕ × ℕ). at_list (slice_get hs p.0) p.0 p.1) (take k places) (get_or places k (0, 0) ∷ []))
       ∙ calls_append (steps_at hs (take k places)) (steps_at hs (get_or places k (0, 0) ∷ []))
       ∙ ap (λ q. calls_of number (steps_at hs (take k places)) ++ calls_of number (steps_at hs (q ∷ []))) is
       ∙ ap (λ l. calls_of number (steps_at hs (take k places)) ++ calls_of number l) (one_at hs p h step e f)
-      ∙ ap (λ l. calls_of number (steps_at hs (take k places)) ++ l) (calls_one p.0 step)

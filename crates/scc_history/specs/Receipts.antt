@@ -1,21 +1,26 @@
 -- A caller's receipts beside the records of its calls.
 use Rattle.std.specs.Prelude.{◌≡◌, ℕ, ◌<◌, List, [], ◌∷◌, Bool, true, Option, Some, None, slice_get, length, ◌==◌, if◌then◌else◌}
+use Rattle.std.specs.Borrow.{Bor}
 use Rattle.std.specs.List.{AllByRecursion, AllPairs}
 use Rattle.scc_recorded.specs.declared.recorded.steps.Step.{Step}
 use Rattle.scc_recorded.specs.declared.recorded.steps.Step.TheVariants.{Call, Resize}
 use Rattle.scc_history.specs.declared.history.receipts.Receipt.{Receipt}
 use Rattle.scc_history.specs.Stamps.{receipt}
 
--- the call records of the caller with that number, in this order, as receipts
+-- the call records of the caller with that number, each beside its stripe, in this order, as receipts
 abbrev pub calls_of : {A R : Type 0} → ℕ → List (ℕ × Step A R) → List (Receipt A R)
 calls_of number [] = []
-calls_of number ((i, Call stamp pass call reply) ∷ entries) = if pass == number then receipt stamp call reply ∷ calls_of number entries else calls_of number entries
+calls_of number ((i, Call stamp pass call reply) ∷ entries) = if pass == number then receipt i stamp call reply ∷ calls_of number entries else calls_of number entries
 calls_of number ((i, Resize stamp buckets) ∷ entries) = calls_of number entries
 
--- neither is there, or both are and agree: in stamp, call and reply
+-- the receipt of which the parts are lent
+abbrev pub seen : {A R : Type 0} → Receipt (Bor A) (Bor R) → Receipt A R
+seen r = record { stripe = r.stripe; stamp = r.stamp; call = r.call.now; reply = r.reply.now }
+
+-- neither is there, or both are and agree: in stripe, stamp, call and reply
 abbrev pub SameAt : {A R : Type 0} → (A → A → Bool) → (R → R → Bool) → Option (Receipt A R) → Option (Receipt A R) → Type 0
 SameAt calls replies None None = Unit {0}
-SameAt calls replies (Some r) (Some s) = (r.stamp ≡ s.stamp) × (calls r.call s.call ≡ true) × (replies r.reply s.reply ≡ true)
+SameAt calls replies (Some r) (Some s) = (r.stripe ≡ s.stripe) × (r.stamp ≡ s.stamp) × (calls r.call s.call ≡ true) × (replies r.reply s.reply ≡ true)
 SameAt calls replies None (Some s) = ⊥
 SameAt calls replies (Some r) None = ⊥
 

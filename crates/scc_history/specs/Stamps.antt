@@ -36,8 +36,8 @@ recorded before after stamp pass call reply =
 abbrev pub resized : {A R : Type 0} → ℕ → ℕ → ℕ → List (Step A R)
 resized before after stamp = if before == after then [] else Resize stamp after ∷ []
 
-abbrev pub receipt : {A R : Type 0} → ℕ → A → R → Receipt A R
-receipt stamp call reply = record { stamp = stamp; call = call; reply = reply }
+abbrev pub receipt : {A R : Type 0} → ℕ → ℕ → A → R → Receipt A R
+receipt stripe stamp call reply = record { stripe = stripe; stamp = stamp; call = call; reply = reply }
 
 -- the number of call records
 abbrev pub calls_in : {A R : Type 0} → List (Step A R) → ℕ

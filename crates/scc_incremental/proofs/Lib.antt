@@ -1,3 +1,4 @@
+mod Once
 pub mod Alone
 pub mod AtPlaces
 pub mod Begun

@@ -14,6 +14,7 @@ mod lasting;
 mod making;
 mod pairs;
 mod putting;
+mod putting_room;
 mod reading;
 mod relocating;
 mod removing;
@@ -91,9 +92,17 @@ where
     /// Whether memory was refused for the last resize that was due.
     #[inline(always)]
     pub fn is_resize_refused(&self) -> bool
-        ensures { result ≡ refused_of self.now }
+        ensures { result ≡ (refused_of self.now).0 }
     {
         self.current.is_resize_refused()
+    }
+
+    /// Whether the next insertion is not to try the growth that is due: it was refused just before.
+    #[inline(always)]
+    pub fn is_tried(&self) -> bool
+        ensures { result ≡ (refused_of self.now).1 }
+    {
+        self.current.is_tried()
     }
 
     /// Whether the bucket waits for its entries to come from the old array.

@@ -1,3 +1,4 @@
+pub use Rattle.scc_walks.specs.Copies
 pub use Rattle.scc_incremental.specs.Placed
 pub use Rattle.scc_incremental.specs.Places
 pub use Rattle.scc_incremental.specs.Relocates

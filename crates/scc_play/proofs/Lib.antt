@@ -3,4 +3,5 @@ pub mod Listing
 pub mod Telling
 pub mod Assembling
 pub mod Ending
+pub mod Exact
 pub mod Keys

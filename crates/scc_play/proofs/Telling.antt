@@ -14,10 +14,11 @@ some-is x y e = ap (λ o. elim o [ None ↦ x | Some z ↦ z ]) e
 module _ {A R : Type 0} (eq : A → A → Bool) (req : R → R → Bool) (exact : (a b : A) → eq a b ≡ true → a ≡ b) (rexact : (a b : R) → req a b ≡ true → a ≡ b) where
   same-receipt : (x y : Receipt A R) → SameAt eq req (Some x) (Some y) → x ≡ y
   same-receipt x y s =
-      let c = exact x.call y.call s.1 in
-      let r = rexact x.reply y.reply s.2 in
-      let t = s.0 in
-      λ i. record { stamp = t i; call = c i; reply = r i }
+      let c = exact x.call y.call s.2 in
+      let r = rexact x.reply y.reply s.3 in
+      let n = s.0 in
+      let t = s.1 in
+      λ i. record { stripe = n i; stamp = t i; call = c i; reply = r i }
 
   -- lists that match place by place are the same
   pub same-receipts : (xs ys : List (Receipt A R)) → Matches eq req xs ys → xs ≡ ys

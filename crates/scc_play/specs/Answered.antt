@@ -1,5 +1,5 @@
 -- What the calls of a script become over several stripes, and what is printed of each.
-use Rattle.std.specs.Prelude.{◌≡◌, ℕ, List, [], ◌∷◌, ◌++◌, length, map, min, Option, None, Some, ◌==◌, if◌then◌else◌}
+use Rattle.std.specs.Prelude.{◌≡◌, ℕ, List, [], ◌∷◌, ◌++◌, length, map, min, Option, None, Some, IfSome, slice_get, ◌==◌, if◌then◌else◌}
 use Rattle.std.specs.List.{AllByRecursion, sum_by}
 use Rattle.scc_history.specs.Stamps.{receipt}
 use Rattle.scc_history.specs.declared.history.receipts.Receipt.{Receipt}
@@ -9,6 +9,10 @@ use Rattle.scc_script.specs.declared.line.WorkerCall.{WorkerCall}
 abbrev pub calls_by : {A : Type 0} → ℕ → List (WorkerCall A) → List A
 calls_by worker [] = []
 calls_by worker (c ∷ calls) = if c.worker == worker then c.call ∷ calls_by worker calls else calls_by worker calls
+
+-- each receipt is of the stripe with the number of its place
+abbrev pub AreInOrder : {A R : Type 0} → List (Receipt A R) → Type 0
+AreInOrder records = (i : ℕ) → IfSome (slice_get records i) (λ r. r.stripe ≡ i)
 
 -- the number that a reply tells, 0 for one that tells none
 abbrev pub number_of : Option ℕ → ℕ
@@ -26,10 +30,10 @@ module _ {A R K : Type 0} (key_of : A → Option K) (told : R → Option ℕ) (c
   IsJoint [] reply = ⊥
   IsJoint (first ∷ more) reply = reply ≡ joint_by (told first) first (first ∷ more)
 
-  -- a call with a key is one record; one without is a record of each stripe, of that call
+  -- a call with a key is one record; one without is a record of that call in each stripe, stripe 0 first
   abbrev pub IsAnsweredBy : Option K → ℕ → A → List (Receipt A R) → R → Type 0
-  IsAnsweredBy (Some k) stripes call records reply = (stamp : ℕ) × (records ≡ receipt stamp call reply ∷ [])
-  IsAnsweredBy None stripes call records reply = (length records ≡ stripes) × AllByRecursion (λ r. r.call ≡ call) records × IsJoint (map (λ r. r.reply) records) reply
+  IsAnsweredBy (Some k) stripes call records reply = (stripe : ℕ) × (stamp : ℕ) × (records ≡ receipt stripe stamp call reply ∷ [])
+  IsAnsweredBy None stripes call records reply = (length records ≡ stripes) × AreInOrder records × AllByRecursion (λ r. r.call ≡ call) records × IsJoint (map (λ r. r.reply) records) reply
 
   -- these records are what a call of a script became, and this is the reply that is printed of it
   abbrev pub IsAnswered : ℕ → A → List (Receipt A R) → R → Type 0

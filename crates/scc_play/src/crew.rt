@@ -23,6 +23,8 @@ fn make_call<P: Printed, L: Ledger, M: Site<P::Hasher>, R: Wait>(
     pass: &mut Pass<P, L>,
     call: P::Call,
 ) -> bool {
+    P::equal_calls();
+    P::equal_replies();
     if let Some(_key) = P::key(&call) {
         recorded.call(rt, pass, call).is_ok()
     } else if call == P::clear_call() {
@@ -41,7 +43,10 @@ impl<P: Printed, L: Ledger, M: Site<P::Hasher>, R: Wait> Work for Worker<'_, P, 
 
     fn turn(&mut self, j: usize) -> bool {
         match self.calls.get(j) {
-            Some(call) => make_call(self.rt, self.recorded, &mut self.pass, *call),
+            Some(call) => match call.clone() {
+                Ok(copy) => make_call(self.rt, self.recorded, &mut self.pass, copy),
+                Err(_) => false,
+            },
             None => false,
         }
     }

@@ -11,6 +11,7 @@ use crate::stripes::{divided, finish_run};
 use scc_cache::hash_cache::Owned as OwnedCache;
 use scc_index::hash_index::Owned as OwnedIndex;
 use scc_map::hash_map::Owned as OwnedMap;
+use scc_print::printed::are_exact;
 use scc_recorded::recorded::{CacheCall, IndexCall, MapCall, SetCall};
 use scc_recorder::recorder::{Recorded, Setup, Site};
 use scc_script::line::WorkerCall;
@@ -61,7 +62,7 @@ where
     requires crew { IsCrew workers × IsDivision stripes }
     ensures { IfOk result (λ e. IfPlayed e (MapPlayedFor M.chosen workers stripes calls.now)) }
 {
-    let lists = divided(alloc, workers, calls)?;
+    let lists = divided::<OwnedMap<u64, u64, Shared<Same>>>(alloc, workers, calls)?;
     let Ok((recorded, handed)) = Recorded::<OwnedMap<u64, u64, Shared<Same>>, L, M>::open(
         alloc,
         setup_of(hasher),
@@ -77,6 +78,7 @@ where
         return Err(AllocError);
     }
     let passes = passes_of(alloc, crew)?;
+    are_exact::<OwnedMap<u64, u64, Shared<Same>>>();
     finish_run(alloc, workers, stripes, calls, recorded.close(), passes)
 }
 
@@ -124,7 +126,7 @@ where
     requires crew { IsCrew workers × IsDivision stripes }
     ensures { IfOk result (λ e. IfPlayed e (SetPlayedFor M.chosen workers stripes calls.now)) }
 {
-    let lists = divided(alloc, workers, calls)?;
+    let lists = divided::<OwnedSet<u64, Shared<Same>>>(alloc, workers, calls)?;
     let Ok((recorded, handed)) = Recorded::<OwnedSet<u64, Shared<Same>>, L, M>::open(
         alloc,
         setup_of(hasher),
@@ -140,6 +142,7 @@ where
         return Err(AllocError);
     }
     let passes = passes_of(alloc, crew)?;
+    are_exact::<OwnedSet<u64, Shared<Same>>>();
     finish_run(alloc, workers, stripes, calls, recorded.close(), passes)
 }
 
@@ -187,7 +190,7 @@ where
     requires crew { IsCrew workers × IsDivision stripes }
     ensures { IfOk result (λ e. IfPlayed e (IndexPlayedFor M.chosen workers stripes calls.now)) }
 {
-    let lists = divided(alloc, workers, calls)?;
+    let lists = divided::<OwnedIndex<u64, u64, Shared<Same>>>(alloc, workers, calls)?;
     let Ok((recorded, handed)) = Recorded::<OwnedIndex<u64, u64, Shared<Same>>, L, M>::open(
         alloc,
         setup_of(hasher),
@@ -203,6 +206,7 @@ where
         return Err(AllocError);
     }
     let passes = passes_of(alloc, crew)?;
+    are_exact::<OwnedIndex<u64, u64, Shared<Same>>>();
     finish_run(alloc, workers, stripes, calls, recorded.close(), passes)
 }
 
@@ -250,7 +254,7 @@ where
     requires crew { IsCrew workers × IsDivision stripes }
     ensures { IfOk result (λ e. IfPlayed e (CachePlayedFor M.chosen workers stripes calls.now)) }
 {
-    let lists = divided(alloc, workers, calls)?;
+    let lists = divided::<OwnedCache<u64, u64, Shared<Same>>>(alloc, workers, calls)?;
     let Ok((recorded, handed)) = Recorded::<OwnedCache<u64, u64, Shared<Same>>, L, M>::open(
         alloc,
         setup_of(hasher),
@@ -266,6 +270,7 @@ where
         return Err(AllocError);
     }
     let passes = passes_of(alloc, crew)?;
+    are_exact::<OwnedCache<u64, u64, Shared<Same>>>();
     finish_run(alloc, workers, stripes, calls, recorded.close(), passes)
 }
 

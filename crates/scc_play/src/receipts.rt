@@ -1,7 +1,7 @@
 //! What a worker's calls were answered, from the receipts of what they became.
 ghost use Rattle.std.specs.Prelude.{◌≡◌, ℕ, ◌<◌, length, map, min, IfOk, IfSome, true, drop};
 ghost use Rattle.std.specs.List.{AllByRecursion, sum_by};
-ghost use Rattle.scc_play.specs.Answered.{AreAnswered, IsAnswered, IsJoint, number_of, calls_by};
+ghost use Rattle.scc_play.specs.Answered.{AreAnswered, AreInOrder, IsAnswered, IsJoint, number_of, calls_by};
 
 use scc_history::history::Receipt;
 use scc_print::printed::Printed;
@@ -9,17 +9,17 @@ use scc_script::line::WorkerCall;
 use std::alloc::{AllocError, Global};
 
 // The calls of one worker, in their order.
-pub(crate) fn calls_of<A: Copy>(
+pub(crate) fn calls_of<P: Printed>(
     alloc: Global,
     worker: usize,
-    calls: &[WorkerCall<A>],
-) -> Result<Vec<A>, AllocError>
+    calls: &[WorkerCall<P::Call>],
+) -> Result<Vec<P::Call>, AllocError>
     ensures { IfOk result (λ v. v.items ≡ calls_by worker calls.now) }
 {
     let mut own = Vec::new(alloc);
     for call in calls {
         if call.worker == worker {
-            own.push(call.call)?;
+            own.push(P::same_call(&call.call))?;
         }
     }
     Ok(own)
@@ -32,6 +32,18 @@ fn are_all_of<P: Printed>(call: &P::Call, receipts: &[Receipt<P::Call, P::Reply>
     P::exact_calls();
     for receipt in receipts {
         if receipt.call != *call {
+            return false;
+        }
+    }
+    true
+}
+
+// Whether the receipts are of one stripe after another, stripe 0 first.
+fn are_in_order<A, R>(receipts: &[Receipt<A, R>]) -> bool
+    ensures { result ≡ true → AreInOrder receipts.now }
+{
+    for i in 0..receipts.len() {
+        if receipts[i].stripe != i {
             return false;
         }
     }
@@ -54,9 +66,8 @@ fn joint_reply<P: Printed>(receipts: &[Receipt<P::Call, P::Reply>]) -> P::Reply
     requires { 0 < length receipts.now }
     ensures { IsJoint P.key_of P.told P.count_reply (map (λ r. r.reply) receipts.now) result }
 {
-    let first = receipts[0].reply;
-    match P::told(&first) {
-        None => first,
+    match P::told(&receipts[0].reply) {
+        None => P::same_reply(&receipts[0].reply),
         Some(_) => P::count_reply(sum_of::<P>(receipts)),
     }
 }
@@ -76,13 +87,13 @@ fn reply_of<P: Printed>(
     match P::key(call) {
         Some(_) => {
             if receipts.len() == 1 {
-                Some(receipts[0].reply)
+                Some(P::same_reply(&receipts[0].reply))
             } else {
                 None
             }
         }
         None => {
-            if receipts.len() == stripes {
+            if receipts.len() == stripes && are_in_order(receipts) {
                 Some(joint_reply::<P>(receipts))
             } else {
                 None

@@ -1,8 +1,11 @@
 //! What workers were told, and the end of their run.
-ghost use Rattle.std.specs.Prelude.{◌≡◌, ℕ, ◌<◌, List, length, map, IfOk, IfSome, Some, vec_len};
+ghost use Rattle.std.specs.Prelude.{◌≡◌, ℕ, ◌<◌, List, length, map, IfOk, IfSome, Ok, Some, slice_get, vec_len};
 ghost use Rattle.std.specs.String.{string_bytes};
 ghost use Rattle.scc_table.specs.Routing.{stripe_of};
 ghost use Rattle.scc_recorded.specs.declared.recorded.fixed.Request.{Request};
+ghost use Rattle.scc_recorded.specs.Histories.{FirstMisrouted};
+ghost use Rattle.scc_history.specs.Receipts.{AreAll};
+ghost use Rattle.scc_play.specs.Answered.{calls_by};
 ghost use Rattle.scc_play.specs.Ended.{IfPlayed};
 ghost use Rattle.scc_play.specs.Played.{IsPlayed};
 ghost use Rattle.scc_play.specs.Telling.{AreTold};
@@ -32,7 +35,7 @@ fn told_by_all<P: Printed, L: Ledger>(
         if pass.number() != k {
             return Ok(None);
         }
-        let own = calls_of(alloc, k, calls)?;
+        let own = calls_of::<P>(alloc, k, calls)?;
         let Some(replies) = replies_of::<P>(alloc, stripes, own.as_slice(), pass.receipts())? else {
             return Ok(None);
         };
@@ -41,17 +44,33 @@ fn told_by_all<P: Printed, L: Ledger>(
     Ok(Some(told))
 }
 
-/// The calls of each worker.
-pub(crate) fn divided<A: Copy>(
+/// The calls of each worker, in its order.
+pub(crate) fn divided<P: Printed>(
     alloc: Global,
     workers: usize,
-    calls: &[WorkerCall<A>],
-) -> Result<Vec<Vec<A>>, AllocError> {
+    calls: &[WorkerCall<P::Call>],
+) -> Result<Vec<Vec<P::Call>>, AllocError>
+    ensures len { IfOk result (λ v. vec_len v ≡ workers) }
+    ensures each { IfOk result (λ v. (w : ℕ) → w < workers → IfSome (slice_get v.items w) (λ l. l.items ≡ calls_by w calls.now)) }
+{
     let mut lists = Vec::new(alloc);
     for worker in 0..workers {
-        lists.push(calls_of(alloc, worker, calls)?)?;
+        lists.push(calls_of::<P>(alloc, worker, calls)?)?;
     }
     Ok(lists)
+}
+
+// Why the script's run isn't finished, where it isn't for want of memory.
+fn cause_of(error: FinishError) -> Result<Cause, AllocError>
+    ensures missing { result ≡ Ok Cause.Missing → error ≡ FinishError.Missing }
+    ensures misrouted { result ≡ Ok Cause.Misrouted → (i : ℕ) × (j : ℕ) × (error ≡ FinishError.Misrouted i j) }
+{
+    match error {
+        FinishError::Missing => Ok(Cause::Missing),
+        FinishError::Misrouted { .. } => Ok(Cause::Misrouted),
+        FinishError::Disagrees { .. } => Ok(Cause::Disagrees),
+        FinishError::Memory => Err(AllocError),
+    }
 }
 
 /// The output of a run that is over, or why it isn't finished.
@@ -67,7 +86,9 @@ where
     P::Hasher: Drop,
     requires stripes { (vec_len closed.stripes ≡ stripes) × (0 < stripes) }
     requires workers { closed.passes ≡ workers }
-    ensures { IfOk result (λ e. IfPlayed e (λ text. ∥ ((r : Request P.Hasher) × (M.chosen ≡ Some r)
+    ensures missing { result ≡ Ok (End.Unfinished Cause.Missing) → ¬ AreAll closed.passes (map (λ p. p.log.number) passes.items) }
+    ensures misrouted { result ≡ Ok (End.Unfinished Cause.Misrouted) → (i : ℕ) × (j : ℕ) × FirstMisrouted P.key_of (stripe_of P.Hasher.BuildHasher P.Hasher.Hasher.Hasher P.Key.Hash.hash_input closed.hasher (vec_len closed.stripes)) (map (λ s. s.stripe.history.items) closed.stripes.items) i j }
+    ensures played { IfOk result (λ e. IfPlayed e (λ text. ∥ ((r : Request P.Hasher) × (M.chosen ≡ Some r)
         × IsPlayed (record { limits = P.limits; empty = P.empty; key_of = P.key_of; moves = P.moves; resizes = P.resizes; whole = P.whole; whole_moves = P.whole_moves; whole_resizes = P.whole_resizes; told = P.told; count = P.count_reply; state = P.state; shown = P.shown; order = P.Item.cmp; reply = P.reply_line; content = P.item_line })
         (stripe_of P.Hasher.BuildHasher P.Hasher.Hasher.Hasher P.Key.Hash.hash_input r.hasher) r workers stripes calls.now text) ∥₁)) }
 {
@@ -79,12 +100,8 @@ where
     let finished = match closed.finish(passes) {
         Ok(finished) => finished,
         Err(unfinished) => {
-            return match unfinished.cause {
-                FinishError::Missing => Ok(End::Unfinished(Cause::Missing)),
-                FinishError::Misrouted { .. } => Ok(End::Unfinished(Cause::Misrouted)),
-                FinishError::Disagrees { .. } => Ok(End::Unfinished(Cause::Disagrees)),
-                FinishError::Memory => Err(AllocError),
-            };
+            let cause = cause_of(unfinished.cause)?;
+            return Ok(End::Unfinished(cause));
         }
     };
     match whole_text::<P>(alloc, workers, told.as_slice(), finished)? {

@@ -14,7 +14,7 @@ use scc_recorder::recorder::Finished;
 use std::alloc::{AllocError, Global};
 
 // Whether each call of a history was made by one of so many workers.
-fn is_known<A: Copy, R: Copy>(workers: usize, history: &[Step<A, R>]) -> bool
+fn is_known<A, R>(workers: usize, history: &[Step<A, R>]) -> bool
     ensures { result ≡ true → AllByRecursion (IsMadeBy workers) history.now }
 {
     for step in history {
@@ -28,7 +28,7 @@ fn is_known<A: Copy, R: Copy>(workers: usize, history: &[Step<A, R>]) -> bool
 }
 
 // Whether each call of all histories was made by one of so many workers.
-fn are_known<A: Copy, R: Copy>(workers: usize, histories: &[Vec<Step<A, R>>]) -> bool
+fn are_known<A, R>(workers: usize, histories: &[Vec<Step<A, R>>]) -> bool
     ensures { result ≡ true → AllByRecursion (AllByRecursion (IsMadeBy workers)) (map (λ h. h.items) histories.now) }
 {
     for history in histories {
@@ -52,7 +52,7 @@ fn are_none(numbers: &[usize]) -> bool
 }
 
 // The number of call records of a history.
-fn count_of<A: Copy, R: Copy>(history: &[Step<A, R>]) -> usize
+fn count_of<A, R>(history: &[Step<A, R>]) -> usize
     ensures { result ≡ calls_in history.now }
 {
     let mut count: usize = 0;
@@ -65,7 +65,7 @@ fn count_of<A: Copy, R: Copy>(history: &[Step<A, R>]) -> usize
 }
 
 // The number of call records of all histories; None past the greatest number.
-fn records_in<A: Copy, R: Copy>(histories: &[Vec<Step<A, R>>]) -> Option<usize>
+fn records_in<A, R>(histories: &[Vec<Step<A, R>>]) -> Option<usize>
     ensures { IfSome result (λ n. n ≡ sum_by calls_in (map (λ h. h.items) histories.now)) }
 {
     let mut records: usize = 0;

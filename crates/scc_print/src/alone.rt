@@ -3,7 +3,7 @@ ghost use Rattle.std.specs.Prelude.{◌≡◌, IfOk};
 ghost use Rattle.std.specs.String.{string_bytes};
 ghost use Rattle.scc_print.specs.Finished.{IsOutputOf, MapOutput, SetOutput, IndexOutput, CacheOutput};
 
-use crate::printed::Printed;
+use crate::printed::{Printed, are_exact};
 use crate::texts::output_text;
 use scc_cache::hash_cache::Owned as OwnedCache;
 use scc_index::hash_index::Owned as OwnedIndex;
@@ -21,6 +21,8 @@ fn run_on<P: Printed>(
 ) -> Result<String, AllocError>
     ensures { IfOk result (λ text. IsOutputOf P.state P.shown (P.moves (P.setting container.old)) (P.resizes (P.setting container.old)) (P.state container.old) P.Item.cmp P.reply_line P.item_line calls.now (string_bytes text)) }
 {
+    P::equal_calls();
+    P::equal_replies();
     let mut replies = Vec::new(alloc);
     if run(container, calls, &mut replies).is_err() {
         return Err(AllocError);
@@ -38,6 +40,7 @@ pub fn run_map(alloc: Global, calls: &[MapCall<u64, u64>]) -> Result<String, All
     ensures { IfOk result (λ text. MapOutput calls.now (string_bytes text)) }
 {
     let mut map = OwnedMap::with_hasher(alloc, Same);
+    are_exact::<OwnedMap<u64, u64, Same>>();
     run_on(alloc, &mut map, calls)
 }
 
@@ -46,6 +49,7 @@ pub fn run_set(alloc: Global, calls: &[SetCall<u64>]) -> Result<String, AllocErr
     ensures { IfOk result (λ text. SetOutput calls.now (string_bytes text)) }
 {
     let mut set = OwnedSet::with_hasher(alloc, Same);
+    are_exact::<OwnedSet<u64, Same>>();
     run_on(alloc, &mut set, calls)
 }
 
@@ -54,6 +58,7 @@ pub fn run_index(alloc: Global, calls: &[IndexCall<u64, u64>]) -> Result<String,
     ensures { IfOk result (λ text. IndexOutput calls.now (string_bytes text)) }
 {
     let mut index = OwnedIndex::with_hasher(alloc, Same);
+    are_exact::<OwnedIndex<u64, u64, Same>>();
     run_on(alloc, &mut index, calls)
 }
 
@@ -62,5 +67,6 @@ pub fn run_cache(alloc: Global, calls: &[CacheCall<u64, u64>]) -> Result<String,
     ensures { IfOk result (λ text. CacheOutput calls.now (string_bytes text)) }
 {
     let mut cache = OwnedCache::with_hasher(alloc, Same);
+    are_exact::<OwnedCache<u64, u64, Same>>();
     run_on(alloc, &mut cache, calls)
 }

@@ -2,6 +2,7 @@
 ghost use Rattle.std.specs.Prelude.{◌≡◌, ℕ, List, ◌++◌, OnOk, true};
 ghost use Rattle.std.specs.List.Sorted.{IsPermutation};
 ghost use Rattle.std.specs.String.{string_bytes};
+ghost use Rattle.scc_recorded.specs.Copies.{AreSame, ClonesEqual};
 
 mod caches;
 mod indexes;
@@ -42,6 +43,22 @@ pub trait Printed: WholeCalls {
     fn count_reply(count: usize) -> Self::Reply
         ensures { result ≡ count_reply count };
 
+    /// The same call again.
+    fn same_call(call: &Self::Call) -> Self::Call
+        ensures { result ≡ call.now };
+
+    /// The same reply again.
+    fn same_reply(reply: &Self::Reply) -> Self::Reply
+        ensures { result ≡ reply.now };
+
+    /// A clone of a call equals it.
+    fn equal_calls()
+        ensures { ClonesEqual Self.Call.is_clone Self.Call.eq };
+
+    /// A clone of a reply equals it.
+    fn equal_replies()
+        ensures { ClonesEqual Self.Reply.is_clone Self.Reply.eq };
+
     /// Calls that compare as equal are the same.
     fn exact_calls()
         ensures { (a b : Self.Call) → Self.Call.eq a b ≡ true → a ≡ b };
@@ -49,4 +66,13 @@ pub trait Printed: WholeCalls {
     /// Replies that compare as equal are the same.
     fn exact_replies()
         ensures { (a b : Self.Reply) → Self.Reply.eq a b ≡ true → a ≡ b };
+}
+
+/// Calls that compare as equal are the same, and so are replies.
+pub fn are_exact<P: Printed>()
+    ensures calls { AreSame P.Call.eq }
+    ensures replies { AreSame P.Reply.eq }
+{
+    P::exact_calls();
+    P::exact_replies();
 }

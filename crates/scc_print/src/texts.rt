@@ -78,7 +78,7 @@ fn add_worker<P: Printed>(
 {
     writeln!(output, "worker {worker}")?;
     for reply in replies {
-        P::add_reply(output, *reply)?;
+        P::add_reply(output, P::same_reply(reply))?;
     }
     Ok(())
 }

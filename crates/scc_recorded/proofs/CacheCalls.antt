@@ -1,27 +1,23 @@
 -- The calls of a cache as calls on its lists.
-use Rattle.std.proofs.Common.{◌≡◌, ◌==◌, ◌∙◌, ℕ, ◌+◌, ◌*◌, ◌<◌, ◌≤◌, ◌⊎◌, inl, inr, Bool, true, false, List, [], ◌∷◌, length, map, Option, None, Some, Result, Ok, Err, refl, sym, ap, subst, arith, length-set, eq-eqb, rules}
-use Rattle.std.specs.List.{filter, flat_map, slice_index_or, slice_set}
+use Rattle.std.proofs.Common.{◌≡◌, ◌==◌, ◌∙◌, ℕ, ◌+◌, ◌*◌, ◌<◌, ◌≤◌, ◌⊎◌, inl, inr, Bool, true, false, List, [], length, Option, None, Some, Ok, Err, refl, sym, ap, subst, arith, length-set, eq-eqb, rules}
+use Rattle.std.specs.List.{filter, flat_map}
 use Rattle.std.proofs.lemmas.List.{length-map}
 use Rattle.scc_table.specs.Routing.{bucket_number}
-use Rattle.scc_table.specs.Bounded.{IsResized, KeepsLists, ShrinksBounded, stays_wide, denied_narrow, narrows}
-use Rattle.scc_incremental.specs.Bounded.{GrowsBelow, makes, has_room, is_full, stays, denied, doubles}
+use Rattle.scc_table.specs.Bounded.{IsResized, KeepsLists, stays_wide, denied_narrow, narrows}
+use Rattle.scc_incremental.specs.Bounded.{makes, has_room, is_full, stays, denied, doubles}
 use Rattle.scc_table.specs.Contents.{Contents, Settings, entries, bucket_count, settings_of, minimum_of, list_of, lists_of}
-use Rattle.scc_table.specs.Sizes.{IsArray}
 use Rattle.scc_cache.specs.CacheSteps.{AnswersOn, GrowsFor, IsAbsent, IsPresent, IsPresentAt, ShrinksTo, Puts, Removes, TakesThen, Clears, number_in}
-use Rattle.scc_cache.specs.Caches.{Cached, IsCacheState}
+use Rattle.scc_cache.specs.Caches.{Cached}
 use Rattle.scc_cache.specs.CacheSteps as steps
 use Rattle.scc_cache.specs.ListSteps.{IsThere, PutsPair, Refreshes, RefreshesAs, TakesOut}
-use Rattle.scc_table.specs.declared.place.Place.{Place}
 use Rattle.std.specs.Prelude.{IsTrue, MatchOption}
 use Rattle.std.specs.Borrow.{Bor}
 use Rattle.std.specs.Fn.{Once}
 use Rattle.scc_cache.proofs.Caching.{shrunk-within}
 use Rattle.scc_recorded.specs.CacheCalls.{cache_setting, CacheMayRefuse, CacheMoves, CacheResizes}
 use Rattle.scc_recorded.specs.Changes.{Changes, Stays}
-use Rattle.scc_recorded.specs.declared.recorded.calls_as_values.CacheCall.{CacheCall}
 use Rattle.scc_recorded.specs.declared.recorded.calls_as_values.CacheCall.TheVariants.{Put, Get, Write, Replace, Remove, Read, Contains, Clear, Len}
 use Rattle.scc_recorded.specs.declared.recorded.fixed.Setting.{Setting}
-use Rattle.scc_recorded.specs.declared.recorded.replies.Reply.{Reply}
 use Rattle.scc_recorded.specs.declared.recorded.replies.Reply.TheVariants.{Evicted, Exists, Old, Key, Pair, Value, Has, Cleared, Count}
 use Rattle.scc_common.specs.declared.errors.InsertError.TheVariants.{Memory}
 use Rattle.scc_common.specs.declared.errors.InsertError.TheVariants as error
@@ -40,14 +36,14 @@ module _ {E H : Type 0} where
   lists-same c d k = k.lists
 
   -- a growth for a new pair leaves the lists, or makes more of them
-  grown : (hash : E → ℕ) (i : ℕ) (c d : Cached E H) → GrowsFor hash i c d → (lists_of d.contents ≡ lists_of c.contents) ⊎ ((bucket_count c.contents < bucket_count d.contents) × IsResized hash c.contents d.contents)
+  pub grown : (hash : E → ℕ) (i : ℕ) (c d : Cached E H) → GrowsFor hash i c d → (lists_of d.contents ≡ lists_of c.contents) ⊎ ((bucket_count c.contents < bucket_count d.contents) × IsResized hash c.contents d.contents)
   grown hash i c d g = elim g.grows [
     | makes none size r ↦ inr (let l = r.array.least in omega arith, r)
     | has_room some room e ↦ inl (ap lists_of e)
     | is_full some full ds ↦ elim ds [
       | stays due e ↦ inl (ap lists_of e)
       | denied due up k ↦ inl (lists-same c.contents d.contents k)
-      | doubles due down twice r ↦ inr (omega arith, r)
+      | doubles due untried down twice r ↦ inr (omega arith, r)
     ]
   ]
 
@@ -60,16 +56,16 @@ module _ {E H : Type 0} where
   ]
 
 module _ {K V : Type 0} (eq : K → K → Bool) where
-  puts-length : (number : ℕ → K → ℕ) (p : K × V) (x : Option (K × V)) (s t : List (List (K × V))) → PutsPair number eq p x s t → length t ≡ length s
+  pub puts-length : (number : ℕ → K → ℕ) (p : K × V) (x : Option (K × V)) (s t : List (List (K × V))) → PutsPair number eq p x s t → length t ≡ length s
   puts-length number p None s t h = ap length h.3 ∙ length-set s (number (length s) p.0) _
   puts-length number p (Some x) s t h = ap length h.2.2 ∙ length-set s (number (length s) p.0) _
 
-  takes-length : (number : ℕ → K → ℕ) (k : K) (p : K × V) (s t : List (List (K × V))) → TakesOut number eq k p s t → length t ≡ length s
+  pub takes-length : (number : ℕ → K → ℕ) (k : K) (p : K × V) (s t : List (List (K × V))) → TakesOut number eq k p s t → length t ≡ length s
   takes-length number k p s t h = ap length h.2 ∙ length-set s (number (length s) k) _
 
 module _ {K V H : Type 0} (hash : K → ℕ) where
   -- a resize of the table is one of the lists, under the setting of the cache that the call began with
-  resized : (o c d : Cached (K × V) H) → settings_of c.contents ≡ settings_of o.contents → c.maximum ≡ o.maximum → IsResized (λ e. hash e.0) c.contents d.contents → ((i : ℕ) → length (list_of d.contents i) ≤ 32) → 32 * bucket_count d.contents ≤ c.maximum
+  pub resized : (o c d : Cached (K × V) H) → settings_of c.contents ≡ settings_of o.contents → c.maximum ≡ o.maximum → IsResized (λ e. hash e.0) c.contents d.contents → ((i : ℕ) → length (list_of d.contents i) ≤ 32) → 32 * bucket_count d.contents ≤ c.maximum
       → (bucket_count d.contents < bucket_count c.contents → minimum_of c.contents ≤ 32 * bucket_count d.contents)
       → CacheResizes (cache_setting o) (number_in hash o.contents) (lists_of c.contents) (bucket_count d.contents) (lists_of d.contents)
   unfolding bucket_count lists_of list_of entries
@@ -134,8 +130,8 @@ module _ {K V H : Type 0} (hash : K → ℕ) where
 
     -- a put of a key that is there
     pub exists-changes : (c d : Cached (K × V) H) (k : K) (v : V) (q : K × V) → Puts hash eq c (k, v) (Err (error.Exists q)) d
-        → Changes length (CacheMoves eq (number_in hash c.contents)) (CacheResizes (cache_setting c) (number_in hash c.contents)) (lists_of c.contents) (Put k v) (Exists k v) (lists_of d.contents)
-    exists-changes c d k v q h = let e = ap (λ x. lists_of x.contents) h.2 in inl (ap length e, (refl, refl, (h.1.0, h.1.1.0, h.1.1.1), e))
+        → Changes length (CacheMoves eq (number_in hash c.contents)) (CacheResizes (cache_setting c) (number_in hash c.contents)) (lists_of c.contents) (Put k v) (Exists q.0 q.1) (lists_of d.contents)
+    exists-changes c d k v q h = let e = ap (λ x. lists_of x.contents) h.2 in inl (ap length e, (ap (λ (p : K × V). p.0) h.0, ap (λ (p : K × V). p.1) h.0, (h.1.0, h.1.1.0, h.1.1.1), e))
 
     pub memory-refused : (c d : Cached (K × V) H) (k : K) (v : V) (q : K × V) → Puts hash eq c (k, v) (Err (Memory q)) d → CacheMayRefuse eq (number_in hash c.contents) (lists_of c.contents) (Put k v)
     unfolding bucket_count lists_of
@@ -180,22 +176,27 @@ module _ {K V H : Type 0} (hash : K → ℕ) where
     len-changes c n e = inl (refl, (e, refl))
 
     -- a get that finds its key
+    pub get-moves : (c d : Cached (K × V) H) (k : K) (p : K × V) (v : V) → v ≡ p.1 → steps.Changes (Refreshes (number_in hash c.contents) eq k p) c d → CacheMoves eq (number_in hash c.contents) (lists_of c.contents) (Get k) (Value (Some v)) (lists_of d.contents)
+    get-moves c d k p v is h = (p.0, subst (λ x. Refreshes (number_in hash c.contents) eq k (p.0, x) (lists_of c.contents) (lists_of d.contents)) (sym is) h.lists)
+
     pub get-changes : (c d : Cached (K × V) H) (k : K) (p : K × V) (v : V) → v ≡ p.1 → steps.Changes (Refreshes (number_in hash c.contents) eq k p) c d
         → Changes length (CacheMoves eq (number_in hash c.contents)) (CacheResizes (cache_setting c) (number_in hash c.contents)) (lists_of c.contents) (Get k) (Value (Some v)) (lists_of d.contents)
-    get-changes c d k p v is h =
-        let r = h.lists in
-        inl (ap length r.2 ∙ length-set (lists_of c.contents) _ _, (p.0, subst (λ x. Refreshes (number_in hash c.contents) eq k (p.0, x) (lists_of c.contents) (lists_of d.contents)) (sym is) r))
+    get-changes c d k p v is h = inl (ap length h.lists.2 ∙ length-set (lists_of c.contents) _ _, get-moves c d k p v is h)
 
     -- a write of a value
+    pub write-moves : (c d : Cached (K × V) H) (k : K) (p : K × V) (w v : V) → w ≡ p.1 → steps.Changes (RefreshesAs (number_in hash c.contents) eq k p (p.0, v)) c d
+        → CacheMoves eq (number_in hash c.contents) (lists_of c.contents) (Write k v) (Old (Some w)) (lists_of d.contents)
+    write-moves c d k p w v is h = (p.0, subst (λ x. RefreshesAs (number_in hash c.contents) eq k (p.0, x) (p.0, v) (lists_of c.contents) (lists_of d.contents)) (sym is) h.lists)
+
     pub write-changes : (c d : Cached (K × V) H) (k : K) (p : K × V) (w v : V) → w ≡ p.1 → steps.Changes (RefreshesAs (number_in hash c.contents) eq k p (p.0, v)) c d
         → Changes length (CacheMoves eq (number_in hash c.contents)) (CacheResizes (cache_setting c) (number_in hash c.contents)) (lists_of c.contents) (Write k v) (Old (Some w)) (lists_of d.contents)
-    write-changes c d k p w v is h =
-        let r = h.lists in
-        inl (ap length r.2 ∙ length-set (lists_of c.contents) _ _, (p.0, subst (λ x. RefreshesAs (number_in hash c.contents) eq k (p.0, x) (p.0, v) (lists_of c.contents) (lists_of d.contents)) (sym is) r))
+    write-changes c d k p w v is h = inl (ap length h.lists.2 ∙ length-set (lists_of c.contents) _ _, write-moves c d k p w v is h)
 
     -- a replacement of a key
+    pub replace-moves : (c d : Cached (K × V) H) (k l : K) (v : V) (q : K × V) → q ≡ (k, v) → steps.Changes (RefreshesAs (number_in hash c.contents) eq k (l, v) q) c d
+        → CacheMoves eq (number_in hash c.contents) (lists_of c.contents) (Replace k) (Key (Some l)) (lists_of d.contents)
+    replace-moves c d k l v q is h = (v, subst (λ x. RefreshesAs (number_in hash c.contents) eq k (l, v) x (lists_of c.contents) (lists_of d.contents)) is h.lists)
+
     pub replace-changes : (c d : Cached (K × V) H) (k l : K) (v : V) (q : K × V) → q ≡ (k, v) → steps.Changes (RefreshesAs (number_in hash c.contents) eq k (l, v) q) c d
         → Changes length (CacheMoves eq (number_in hash c.contents)) (CacheResizes (cache_setting c) (number_in hash c.contents)) (lists_of c.contents) (Replace k) (Key (Some l)) (lists_of d.contents)
-    replace-changes c d k l v q is h =
-        let r = h.lists in
-        inl (ap length r.2 ∙ length-set (lists_of c.contents) _ _, (v, subst (λ x. RefreshesAs (number_in hash c.contents) eq k (l, v) x (lists_of c.contents) (lists_of d.contents)) is r))
+    replace-changes c d k l v q is h = inl (ap length h.lists.2 ∙ length-set (lists_of c.contents) _ _, replace-moves c d k l v q is h)

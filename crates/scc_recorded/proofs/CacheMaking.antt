@@ -1,9 +1,9 @@
 -- What is said of a new cache, as a part.
-use Rattle.std.proofs.Common.{◌≡◌, ℕ, zero, suc, ◌+◌, ◌*◌, ◌<◌, List, [], ◌∷◌, ◌++◌, length, max, Ok, Err, refl, sym, ap, ◌∙◌, subst, arith, length-append}
+use Rattle.std.proofs.Common.{◌≡◌, ℕ, ◌+◌, ◌*◌, ◌<◌, List, [], ◌∷◌, ◌++◌, length, max, Ok, Err, refl, sym, ap, ◌∙◌, subst, arith, length-append}
 use Rattle.std.specs.Prelude.{Result, IfOk, replicate}
 use Rattle.std.specs.List.{flat_map}
 use Rattle.std.proofs.lemmas.List.{nil_from_length}
-use Rattle.scc_table.specs.Contents.{Contents, entries, bucket_count, settings_of, lists_of}
+use Rattle.scc_table.specs.Contents.{entries, bucket_count, settings_of, lists_of}
 use Rattle.scc_table.specs.Sizes.{IsArraySize}
 use Rattle.scc_cache.specs.Caches.{Cached}
 use Rattle.scc_recorded.specs.CacheCalls.{cache_setting}

@@ -1,5 +1,9 @@
 pub mod CacheCalls
 mod CacheMaking
+mod CacheReplies
+mod CacheRoom
+mod Copying
+pub mod Exact
 pub mod Independence
 mod IndexCalls
 mod MapCalls

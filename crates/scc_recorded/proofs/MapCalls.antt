@@ -44,3 +44,8 @@ module _ {K V H : Type 0} (eq : K → K → Bool) (c d : Contents (K × V) H) wh
   pub removed-setting : (k : K) (o : Option (K × V)) → Removes eq c k o d → setting_of d ≡ setting_of c
   removed-setting k None h = ap setting_by h.1.settings
   removed-setting k (Some p) h = ap setting_by h.1.settings
+
+-- by what was found
+pub by-find : {X : Type 0} {P : Type 0} (o : Option X) → ((x : X) → o ≡ Some x → P) → (o ≡ None → P) → P
+by-find (Some x) f n = f x refl
+by-find None f n = n refl

@@ -1,17 +1,17 @@
 -- Keys stay in their part of a cache.
-use Rattle.std.proofs.Common.{◌≡◌, ◌∙◌, ℕ, zero, suc, ◌+◌, ◌<◌, ◌≤◌, List, [], ◌∷◌, ◌++◌, length, map, Bool, true, false, cond, Option, None, Some, refl, sym, ap, subst, arith}
+use Rattle.std.proofs.Common.{◌≡◌, ℕ, zero, suc, ◌<◌, List, [], ◌∷◌, ◌++◌, length, map, Bool, true, false, cond, Option, None, Some, sym, subst, arith}
 use Rattle.std.specs.Prelude.{◌==◌, replicate, remove}
 use Rattle.std.specs.List.{AllByRecursion, filter, flat_map, slice_get, slice_index_or, slice_set}
 use Rattle.std.specs.Map.{keys_of}
 use Rattle.scc_table.specs.Sizes.{IsArraySize}
-use Rattle.scc_cache.specs.ListSteps.{list_for, IsThere, PutsPair, RefreshesAs, TakesOut}
+use Rattle.scc_cache.specs.ListSteps.{list_for, PutsPair, RefreshesAs, TakesOut}
 use Rattle.scc_recorded.specs.CacheCalls.{cache_key, keys_in, CacheMoves, CacheResizes}
 use Rattle.scc_recorded.specs.Parts.{Routed, KeyRouted}
 use Rattle.scc_recorded.specs.declared.recorded.fixed.Setting.{Setting}
 use Rattle.scc_recorded.specs.declared.recorded.calls_as_values.CacheCall.{CacheCall}
 use Rattle.scc_recorded.specs.declared.recorded.calls_as_values.CacheCall.TheVariants.{Put, Get, Write, Replace, Remove, Read, Contains, Clear, Len}
 use Rattle.scc_recorded.specs.declared.recorded.replies.Reply.{Reply}
-use Rattle.scc_recorded.specs.declared.recorded.replies.Reply.TheVariants.{Inserted, Evicted, Exists, Old, Key, Pair, Value, Has, Cleared, Count}
+use Rattle.scc_recorded.specs.declared.recorded.replies.Reply.TheVariants.{Evicted, Exists, Old, Key, Pair, Value, Has, Cleared, Count}
 
 -- there is one size of an array for so many slots
 pub one_size : (n p q : ℕ) → IsArraySize n p → IsArraySize n q → p ≡ q

@@ -1,13 +1,16 @@
 -- What the calls of an index do to its state, by the reply, in terms of the calls of a map.
-use Rattle.std.specs.Prelude.{◌≡◌, Bool, true, false, Option, None, Some, IsSome}
+use Rattle.std.specs.Prelude.{◌≡◌, ℕ, ◌⊎◌, Bool, true, false, cond, List, length, Option, None, Some, is_some, IsSome}
+use Rattle.std.specs.Option.{option_map}
+use Rattle.scc_table.specs.Contents.{Contents, entries}
 use Rattle.scc_table.specs.Pairs.{find}
+use Rattle.scc_table.specs.Steps.{IsReadyFor}
 use Rattle.scc_recorded.specs.MapCalls.{MapMoves}
 use Rattle.scc_recorded.specs.States.{State}
 use Rattle.scc_recorded.specs.declared.recorded.calls_as_values.IndexCall.{IndexCall}
 use Rattle.scc_recorded.specs.declared.recorded.calls_as_values.IndexCall.TheVariants.{Insert, Update, Remove, Read, Contains, Clear, Len}
 use Rattle.scc_recorded.specs.declared.recorded.calls_as_values.MapCall.TheVariants.{Insert as MapInsert, Upsert as MapUpsert, Replace as MapReplace, Remove as MapRemove, Read as MapRead, Contains as MapContains, Clear as MapClear, Len as MapLen}
 use Rattle.scc_recorded.specs.declared.recorded.replies.Reply.{Reply}
-use Rattle.scc_recorded.specs.declared.recorded.replies.Reply.TheVariants.{Old, Key, Pair, Has}
+use Rattle.scc_recorded.specs.declared.recorded.replies.Reply.TheVariants.{Inserted, Exists, Old, Key, Pair, Value, Has, Cleared, Count}
 
 module _ {K V : Type 0} where
   -- the key of a call, None where it concerns all keys
@@ -19,6 +22,11 @@ module _ {K V : Type 0} where
   index_key (Contains k) = Some k
   index_key Clear = None
   index_key Len = None
+
+  -- the call may bring in a key
+  abbrev pub index_adds : IndexCall K V → Type 0
+  index_adds (Insert k v) = Unit {0}
+  index_adds call = ⊥
 
   module _ (eq : K → K → Bool) where
     -- the call may give the reply and leave t, with no resize. An update of a present key is an upsert and then a replacement of the stored key by one that equals it, its clone
@@ -39,3 +47,27 @@ module _ {K V : Type 0} where
     IndexMayRefuse s (Insert k v) = find eq s.0 k ≡ None
     IndexMayRefuse s (Update k v) = IsSome (find eq s.0 k)
     IndexMayRefuse s call = ⊥
+
+    -- the reply that the call gives where an index has these pairs
+    abbrev pub index_answer : List (K × V) → IndexCall K V → Reply K V
+    index_answer es (Insert k v) = cond (is_some (find eq es k)) (Exists k v) Inserted
+    index_answer es (Update k v) = Has (is_some (find eq es k))
+    index_answer es (Remove k) = Has (is_some (find eq es k))
+    index_answer es (Read k) = Value (option_map (λ p. p.1) (find eq es k))
+    index_answer es (Contains k) = Has (is_some (find eq es k))
+    index_answer es Clear = Cleared
+    index_answer es Len = Count (length es)
+
+    module _ {S : Type 0} (hash : K → ℕ) (c : Contents (K × V) S) where
+      -- an insertion of k makes no resize: k is there, or all is made that it wants
+      abbrev pub IndexIsMadeFor : K → Type 0
+      IndexIsMadeFor k = IsSome (find eq (entries c) k) ⊎ IsReadyFor hash (λ p. p.0) c k
+
+      -- the call makes no growth
+      abbrev pub IndexIsMade : IndexCall K V → Type 0
+      IndexIsMade (Insert k v) = IndexIsMadeFor k
+      IndexIsMade call = Unit {0}
+
+      -- the call makes no growth, and the reply equals the one that it gives
+      abbrev pub IndexIsReady : (Reply K V → Reply K V → Bool) → IndexCall K V → Reply K V → Type 0
+      IndexIsReady same call copy = IndexIsMade call × (same (index_answer (entries c) call) copy ≡ true)

@@ -6,6 +6,8 @@ pub use Rattle.scc_table.specs.Sizes
 pub mod CacheCalls
 pub mod CacheLaws
 pub mod Changes
+pub mod Copies
+pub mod Means
 pub mod MapCalls
 pub mod Run
 pub mod States
@@ -22,3 +24,4 @@ pub mod SetCalls
 pub mod SetLaws
 pub mod SetWhole
 pub mod WholeLaws
+pub mod WholeKinds

@@ -1,9 +1,11 @@
 -- What the calls of a map do to its state, by the reply.
-use Rattle.std.specs.Prelude.{◌≡◌, ℕ, ◌<◌, ◌==◌, Bool, List, [], length, count_by, Option, None, Some, is_some}
+use Rattle.std.specs.Prelude.{◌≡◌, ℕ, ◌<◌, ◌==◌, ◌⊎◌, Bool, true, cond, List, [], length, count_by, Option, None, Some, is_some, IsSome}
 use Rattle.std.specs.Option.{option_map}
 use Rattle.std.specs.List.Sorted.{IsPermutation}
 use Rattle.scc_table.specs.PairSteps.{AddsPair, HandsBack, SetsValue, SwapsKey, LacksKey, TakesPair}
+use Rattle.scc_table.specs.Contents.{Contents, entries}
 use Rattle.scc_table.specs.Pairs.{find}
+use Rattle.scc_table.specs.Steps.{IsReadyFor}
 use Rattle.scc_table.specs.Routing.{bucket_number}
 use Rattle.scc_recorded.specs.States.{State}
 use Rattle.scc_recorded.specs.declared.recorded.fixed.Setting.{Setting}
@@ -23,6 +25,12 @@ module _ {K V : Type 0} where
   map_key (Remove k) = Some k
   map_key Clear = None
   map_key Len = None
+
+  -- the call may bring in a key
+  abbrev pub map_adds : MapCall K V → Type 0
+  map_adds (Insert k v) = Unit {0}
+  map_adds (Upsert k v) = Unit {0}
+  map_adds call = ⊥
 
   -- t has these pairs in some order, in as many buckets
   abbrev pub Rearranges : State (K × V) → State (K × V) → List (K × V) → Type 0
@@ -49,13 +57,43 @@ module _ {K V : Type 0} where
     MapMoves s Len (Count n) t = (n ≡ length s.0) × (t ≡ s)
     MapMoves s call reply t = ⊥
 
+    -- the reply that the call gives where a map has these pairs
+    abbrev pub map_answer : List (K × V) → MapCall K V → Reply K V
+    map_answer es (Insert k v) = cond (is_some (find eq es k)) (Exists k v) Inserted
+    map_answer es (Upsert k v) = Old (option_map (λ p. p.1) (find eq es k))
+    map_answer es (Replace k) = Key (option_map (λ p. p.0) (find eq es k))
+    map_answer es (Read k) = Value (option_map (λ p. p.1) (find eq es k))
+    map_answer es (Contains k) = Has (is_some (find eq es k))
+    map_answer es (Remove k) = Pair (find eq es k)
+    map_answer es Clear = Cleared
+    map_answer es Len = Count (length es)
+
+    module _ {S : Type 0} (hash : K → ℕ) (c : Contents (K × V) S) where
+      -- an insertion of k makes no resize: k is there, or all is made that it wants
+      abbrev pub MapIsMadeFor : K → Type 0
+      MapIsMadeFor k = IsSome (find eq (entries c) k) ⊎ IsReadyFor hash (λ p. p.0) c k
+
+      -- the call makes no growth
+      abbrev pub MapIsMade : MapCall K V → Type 0
+      MapIsMade (Insert k v) = MapIsMadeFor k
+      MapIsMade (Upsert k v) = MapIsMadeFor k
+      MapIsMade call = Unit {0}
+
+      -- the call makes no growth, and the reply equals the one that it gives
+      abbrev pub MapIsReady : (Reply K V → Reply K V → Bool) → MapCall K V → Reply K V → Type 0
+      MapIsReady same call copy = MapIsMade call × (same (map_answer (entries c) call) copy ≡ true)
+
     module _ {H : Type 0} (hash : H → K → ℕ) where
       -- there is an array, and the bucket of k holds fewer than 32 pairs
       abbrev pub MapHasRoom : Setting H → State (K × V) → K → Type 0
       MapHasRoom g s k = (0 < s.1) × (count_by (λ p. bucket_number g.skipped s.1 (hash g.hasher p.0) == bucket_number g.skipped s.1 (hash g.hasher k)) s.0 < 32)
 
+      -- k is new, and there is no room for it
+      abbrev pub MapRefuses : Setting H → State (K × V) → K → Type 0
+      MapRefuses g s k = (find eq s.0 k ≡ None) × (MapHasRoom g s k → ⊥)
+
       -- memory may be refused to an insertion and an upsert of a new key without room, and to no other call
       abbrev pub MapMayRefuse : Setting H → State (K × V) → MapCall K V → Type 0
-      MapMayRefuse g s (Insert k v) = (find eq s.0 k ≡ None) × (MapHasRoom g s k → ⊥)
-      MapMayRefuse g s (Upsert k v) = (find eq s.0 k ≡ None) × (MapHasRoom g s k → ⊥)
+      MapMayRefuse g s (Insert k v) = MapRefuses g s k
+      MapMayRefuse g s (Upsert k v) = MapRefuses g s k
       MapMayRefuse g s call = ⊥

@@ -15,6 +15,7 @@ mod running;
 mod set_calls;
 mod steps;
 mod whole_calls;
+mod whole_kinds;
 
 pub use calling::Calls;
 pub use calls_as_values::{CacheCall, IndexCall, MapCall, SetCall};

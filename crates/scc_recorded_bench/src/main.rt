@@ -11,6 +11,7 @@ mod report;
 mod request;
 mod routed;
 mod runs;
+mod texts;
 
 use request::parse_request;
 use runs::measure;

@@ -6,7 +6,7 @@ use crate::parts::Outcome;
 use crate::recording::Recording;
 use crate::report::{check, line};
 use crate::request::Request;
-use crate::{plain, recording, routed};
+use crate::{plain, recording, routed, texts};
 use std::alloc::Global;
 use std::io;
 use std::rt::Clock;
@@ -18,6 +18,8 @@ struct Run {
     plain: Outcome,
     routed: Outcome,
     recorded: Recording,
+    texts: Outcome,
+    recorded_texts: Recording,
 }
 
 fn run_once<R: Wait + Clock>(rt: &R, alloc: Global, pairs: &[(u64, u64)]) -> io::Result<Run> {
@@ -25,14 +27,18 @@ fn run_once<R: Wait + Clock>(rt: &R, alloc: Global, pairs: &[(u64, u64)]) -> io:
         plain: plain::run(rt, alloc, pairs)?,
         routed: routed::run(rt, alloc, pairs)?,
         recorded: recording::run(rt, alloc, pairs)?,
+        texts: texts::run_plain(rt, alloc, pairs)?,
+        recorded_texts: texts::run_recorded(rt, alloc, pairs)?,
     })
 }
 
 // Whether all hold the same at the end, by the sums.
 fn agree(run: &Run) -> bool
-    ensures { IsTrue result ↔ ((run.now.routed.sum ≡ run.now.plain.sum) × (run.now.recorded.calls.sum ≡ run.now.plain.sum)) }
+    ensures { IsTrue result ↔ ((run.now.routed.sum ≡ run.now.plain.sum) × (run.now.recorded.calls.sum ≡ run.now.plain.sum) × (run.now.recorded_texts.calls.sum ≡ run.now.texts.sum)) }
 {
-    run.routed.sum == run.plain.sum && run.recorded.calls.sum == run.plain.sum
+    run.routed.sum == run.plain.sum
+        && run.recorded.calls.sum == run.plain.sum
+        && run.recorded_texts.calls.sum == run.texts.sum
 }
 
 fn print_lines(rt: &impl Print, calls: u64, run: &Run) -> io::Result<()> {
@@ -40,13 +46,25 @@ fn print_lines(rt: &impl Print, calls: u64, run: &Run) -> io::Result<()> {
     line(rt, "plain", plain, calls, plain)?;
     line(rt, "routed", run.routed.spent, calls, plain)?;
     line(rt, "recorded", run.recorded.calls.spent, calls, plain)?;
-    line(rt, "finish", run.recorded.finish, calls, plain)
+    line(rt, "finish", run.recorded.finish, calls, plain)?;
+    let texts = run.texts.spent;
+    line(rt, "texts", texts, calls, texts)?;
+    line(
+        rt,
+        "recorded-texts",
+        run.recorded_texts.calls.spent,
+        calls,
+        texts,
+    )?;
+    line(rt, "finish-texts", run.recorded_texts.finish, calls, texts)
 }
 
 fn print_checks(rt: &impl Print, run: &Run) -> io::Result<()> {
     check(rt, "plain", run.plain.sum)?;
     check(rt, "routed", run.routed.sum)?;
-    check(rt, "recorded", run.recorded.calls.sum)
+    check(rt, "recorded", run.recorded.calls.sum)?;
+    check(rt, "texts", run.texts.sum)?;
+    check(rt, "recorded-texts", run.recorded_texts.calls.sum)
 }
 
 /// Goes through all measures once to warm up and then as often as asked, and prints a line for each measure of each time. Fails where the sums of one time differ.

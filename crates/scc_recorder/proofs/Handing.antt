@@ -1,5 +1,5 @@
 -- Lists that grow by one.
-use Rattle.std.proofs.Common.{◌≡◌, ℕ, zero, suc, ◌+◌, List, [], ◌∷◌, ◌++◌, map, refl, sym, ap, ◌∙◌, arith}
+use Rattle.std.proofs.Common.{◌≡◌, ℕ, zero, suc, ◌+◌, ◌<◌, List, [], ◌∷◌, ◌++◌, length, map, get_or, refl, sym, ap, ◌∙◌, arith}
 use Rattle.std.specs.List.{AllByRecursion, range_with_len}
 
 range_more : (a n : ℕ) → range_with_len a (suc n) ≡ range_with_len a n ++ (a + n) ∷ []
@@ -20,3 +20,15 @@ module _ {T : Type 0} where
       let z : 0 + n ≡ f t = omega (arith, is) in
       let s : suc n ≡ n + 1 = omega arith in
       map_push f ts t ∙ ap (λ l. l ++ f t ∷ []) e ∙ ap (λ k. range_with_len 0 n ++ k ∷ []) (sym z) ∙ sym (range_more 0 n) ∙ ap (range_with_len 0) s
+
+  pub number_there : (f : T → ℕ) (ts : List T) (a n i : ℕ) (t : T) → map f ts ≡ range_with_len a n → i < length ts → t ≡ get_or ts i t → f t ≡ a + i
+  number_there f [] a n i t e h is = absurd (omega arith)
+  number_there f (s ∷ ts) a zero i t e h is = cc
+  number_there f (s ∷ ts) a (suc n) zero t e h is = let first : f s ≡ a = cc in let z : a ≡ a + 0 = omega arith in ap f is ∙ first ∙ z
+  number_there f (s ∷ ts) a (suc n) (suc i) t e h is =
+      let rest : map f ts ≡ range_with_len (a + 1) n = cc in
+      let z : a + 1 + i ≡ a + suc i = omega arith in
+      number_there f ts (a + 1) n i t rest (omega arith) is ∙ z
+
+  pub numbered : (f : T → ℕ) (ts : List T) (n i : ℕ) (t : T) → map f ts ≡ range_with_len 0 n → i < length ts → t ≡ get_or ts i t → f t ≡ i
+  numbered f ts n i t e h is = let z : 0 + i ≡ i = omega arith in number_there f ts 0 n i t e h is ∙ z

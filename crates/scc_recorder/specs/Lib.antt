@@ -1,3 +1,4 @@
 pub mod Adds
 pub mod Setups
 pub mod Closing
+pub mod Finished

@@ -14,6 +14,10 @@ mod making;
 #[cfg(test)]
 mod recorded;
 #[cfg(test)]
+mod recorded_cache_texts;
+#[cfg(test)]
+mod recorded_texts;
+#[cfg(test)]
 mod removals;
 #[cfg(test)]
 mod reservations;

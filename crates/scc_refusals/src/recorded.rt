@@ -23,7 +23,7 @@ type Map = Owned<u64, u64, Shared<Zero>>;
 type Record = Step<MapCall<u64, u64>, Reply<u64, u64>>;
 
 // One owner of the hasher, asked for again where it was refused.
-fn shared<R: AllocGlobal + Abort + Print>(
+pub(crate) fn shared<R: AllocGlobal + Abort + Print>(
     rt: &R,
     refusal: &mut Refusal,
 ) -> Result<Shared<Zero>, Fail> {
@@ -95,6 +95,7 @@ fn expect_inserted<L: Ledger, M: Site<Shared<Zero>>, R: AllocGlobal + Abort + Pr
         }
     }
     let last = Receipt {
+        stripe: 0,
         stamp,
         call,
         reply: Reply::Inserted,

@@ -121,7 +121,7 @@ pub IsDistinct-nil : {K : Type 0} (eq : K → K → Bool) → IsDistinct eq []
 unfolding IsDistinct
 IsDistinct-nil eq = tt
 
-contents_with : {E S : Type 0} → List (List E) → Settings S → Bool → ℕ → List Bool → List (List ℕ) → Contents E S
+contents_with : {E S : Type 0} → List (List E) → Settings S → Bool × Bool → ℕ → List Bool → List (List ℕ) → Contents E S
 contents_with ls s r n ws hs = record { lists = ls; settings = s; refused = r; spilled = n; waiting = ws; held = hs }
 
 -- contents are the same where all their words are

@@ -1,5 +1,6 @@
 // Calls as values: a caller of a run that knows its clauses alone, and runs of other containers.
 ghost use Rattle.std.specs.Prelude.{◌≡◌, ℕ, [], ◌∷◌, length, OnOk};
+ghost use Rattle.scc_recorded.specs.Copies.{AreSame, ClonesEqual};
 ghost use Rattle.scc_table.specs.Contents.{entries};
 
 use scc::MakeError;
@@ -10,6 +11,12 @@ use std::alloc::Global;
 use std::hash::{BuildHasher, RandomState};
 use std::test::Fail;
 
+// Calls of numbers that are equal are the same, and so are replies.
+fn are_exact()
+    ensures calls { AreSame ⟦<MapCall<u64, u64> as PartialEq>⟧.eq }
+    ensures replies { AreSame ⟦<Reply<u64, u64> as PartialEq>⟧.eq }
+{}
+
 // The number of pairs by a run of one call.
 fn count<H: BuildHasher>(
     map: &mut Owned<u64, u64, H>,
@@ -18,6 +25,7 @@ fn count<H: BuildHasher>(
     requires { replies.old.items ≡ [] }
     ensures { OnOk result ((n : ℕ) × (replies.new.items ≡ Reply.Count n ∷ []) × (n ≡ length (entries map.old))) }
 {
+    are_exact();
     run(map, &[MapCall::Len], replies)
 }
 
@@ -31,8 +39,14 @@ fn counts_by_a_run(rt: HostRuntime) -> Result<(), Fail> {
     Ok(())
 }
 
+// Clones of replies equal them, also where keys are compared in part.
+fn replies_are_equal()
+    ensures { ClonesEqual ⟦<Reply<MaybeEqual, u64> as Clone>⟧.is_clone ⟦<Reply<MaybeEqual, u64> as PartialEq>⟧.eq }
+{}
+
 #[test]
 fn calls_keep_and_swap_the_stored_key(rt: HostRuntime) -> Result<(), Fail> {
+    replies_are_equal();
     let mut map = Owned::new(rt.alloc());
     assert!(rt; map.call(MapCall::Replace(MaybeEqual(11, 7)))? == Reply::Key(None));
     assert!(rt; map.call(MapCall::Upsert(MaybeEqual(11, 7), 17u64))? == Reply::Old(None));
@@ -66,7 +80,8 @@ impl Calls for Tally {
     type Reply = u8;
 
     ghost use Rattle.std.specs.Prelude.{◌≡◌, ℕ, ◌+◌, ◌<◌, List, [], None};
-    ghost use Rattle.std.proofs.Common.{◌∙◌, sym};
+    ghost use Rattle.std.proofs.Common.{◌∙◌, ap, rules, sym};
+    ghost use Rattle.scc_recorded.specs.Means.{the_very};
     ghost use Rattle.scc_recorded.specs.Parted.{PartMoves, PartResizes, parted_call, parted_resize};
 
     ghost State = { ℕ };
@@ -93,6 +108,10 @@ impl Calls for Tally {
 
     ghost may_refuse = { λ _ s c. 9 < s + c };
 
+    ghost adds = { λ _. ⊥ };
+
+    ghost is_ready = { λ t c r. r ≡ t.total + c };
+
     ghost whole = { λ p. p };
 
     ghost whole_moves = { λ _ _. PartMoves (λ s c r t. (t ≡ s + c) × (r ≡ t)) (λ _. None) (λ k. k) };
@@ -101,6 +120,14 @@ impl Calls for Tally {
 
     fn key(_call: &u8) -> Option<&u8> {
         None
+    }
+
+    fn ready(&mut self, call: &u8) -> Result<(u8, u8), Refused> {
+        if self.total > 9 || *call > 9 - self.total {
+            return Err(Refused);
+        }
+        let total = self.total + *call;
+        Ok((total, total))
     }
 
     fn call(&mut self, call: u8) -> Result<u8, Refused> {
@@ -127,6 +154,8 @@ impl Calls for Tally {
     }
 
     ghost one_limit = { λ _ _ m n p q. p ∙ sym q };
+
+    ghost moves_alike = { λ g old new call copy reply given pc pr c r m. let x : copy ≡ call = the_very ⟦<u8 as PartialEq>⟧.eq (Prim.search rules) call copy c in let y : given ≡ reply = the_very ⟦<u8 as PartialEq>⟧.eq (Prim.search rules) reply given r in (m.0 ∙ ap (λ z. old + z) (sym x), y ∙ m.1) };
 
     ghost call_is_whole = { λ _ _ before after old new call reply _ key s. parted_call (λ s c r t. (t ≡ s + c) × (r ≡ t)) (λ _. None) (λ k. k) before after old new call reply key s };
 

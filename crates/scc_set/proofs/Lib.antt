@@ -3,3 +3,4 @@ pub mod Collecting
 pub mod Places
 pub mod Sets
 pub mod Walks
+mod Room

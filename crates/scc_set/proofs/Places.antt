@@ -6,12 +6,12 @@ use Rattle.std.specs.Option.{option_map}
 use Rattle.scc_table.specs.Contents.{Contents, entries}
 use Rattle.scc_table.specs.Placed as spots
 use Rattle.scc_incremental.specs.Placed.{front_of}
-use Rattle.scc_incremental.specs.Places.{IsPlace, index_of}
+use Rattle.scc_incremental.specs.Places.{index_of}
 use Rattle.scc_incremental.specs.Places.{StandsAt}
 use Rattle.scc_table.specs.Steps.{Holds, HoldsExactly}
 use Rattle.scc_table.specs.declared.place.Place.{Place}
 use Rattle.scc_table.proofs.Mapped.{entries-mapped, length-mapped, Holds-mapped, HoldsExactly-mapped}
-use Rattle.scc_incremental.proofs.MappedPlaces.{index_of-mapped, IsPlace-mapped, StandsAt-mapped}
+use Rattle.scc_incremental.proofs.MappedPlaces.{index_of-mapped, StandsAt-mapped}
 use Rattle.scc_set.specs.Keys.{of_map}
 use Rattle.scc_set.specs.SetWalks.{Declines}
 

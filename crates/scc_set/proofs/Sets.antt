@@ -26,6 +26,7 @@ use Rattle.scc_map.specs.MapSizes.{ReservesOrRefuses, ReleasesOrRefuses}
 use Rattle.scc_map.specs.MapSteps as pairs
 use Rattle.scc_map.specs.ClosureSteps as steps
 use Rattle.scc_walks.specs.Closures as closures
+use Rattle.scc_walks.specs.Copies.{IsCopied}
 use Rattle.scc_walks.specs.Closures.{AnswersAt}
 use Rattle.scc_set.specs.Keys.{find, without, with_key, of_map, FindsInstead, IsUnique, HasRoom}
 use Rattle.scc_set.specs.SetSteps.{Inserts, Removes, Reads, RemovedIf, RemovesIf, key_answer}
@@ -288,3 +289,17 @@ module _ {K S : Type 0} {eq : K → K → Bool} (laws : IsEquivalence eq) (c : C
   pub missing-keys : (r : Result K K) → IfErr r (λ q. (q ≡ k) × (find_pair eq (entries c) k ≡ None) × (d ≡ c)) → IfErr r (λ q. (q ≡ k) × (find eq (entries (of_map c)) k ≡ None) × (of_map d ≡ of_map c))
   missing-keys (Ok old) h = tt
   missing-keys (Err q) h = (h.0, found-none eq c k h.1, ap of_map h.2)
+
+-- a clone of the pair's key is one of the set's
+copied-alone : {K : Type 0} (copy : K → K → Type 0) (o : Option (K × Unit {0})) (w : Option K) → IsCopied (λ p l. copy p.0 l) o w → IsCopied copy (key_alone o) w
+copied-alone copy None None h = h
+copied-alone copy (Some p) (Some l) h = h
+copied-alone copy None (Some l) h = h
+copied-alone copy (Some p) None h = h
+
+copied-answer : {K E : Type 0} (copy : K → K → Type 0) (o : Option (K × Unit {0})) (r : Result (Option K) E) → IfOk r (IsCopied (λ p l. copy p.0 l) o) → IfOk r (IsCopied copy (key_alone o))
+copied-answer copy o (Ok w) h = copied-alone copy o w h
+copied-answer copy o (Err e) h = tt
+
+pub copied-key : {K S E : Type 0} (eq : K → K → Bool) (copy : K → K → Type 0) (c : Contents (K × Unit {0}) S) (k : K) (r : Result (Option K) E) → IfOk r (IsCopied (λ p l. copy p.0 l) (find_pair eq (entries c) k)) → IfOk r (IsCopied copy (find eq (entries (of_map c)) k))
+copied-key eq copy c k r h = rw (found eq c k) (copied-answer copy (find_pair eq (entries c) k) r h)

@@ -80,7 +80,7 @@ module _ {E S : Type 0} (c d : Contents E S) (i : ℕ) (es : List E) (h : HasLis
     bounded = k.bounded;
   }
 
-module _ {E S : Type 0} (bs : List (Shelf E)) (s : Settings S) (c : Contents E S) {f : Bool} (view : view_of f bs s ≡ c) (i : ℕ) (b : Shelf E) (l : i < length bs) (at : b ≡ get_or bs i b) (bounded : IsBounded c) where
+module _ {E S : Type 0} (bs : List (Shelf E)) (s : Settings S) (c : Contents E S) {f : Bool × Bool} (view : view_of f bs s ≡ c) (i : ℕ) (b : Shelf E) (l : i < length bs) (at : b ≡ get_or bs i b) (bounded : IsBounded c) where
   pub overflow-less : length b.overflow ≡ 0
   overflow-less =
       let over : Shelf E → ℕ = λ x. length x.overflow in
@@ -129,11 +129,11 @@ module _ {E S : Type 0} (bs : List (Shelf E)) (s : Settings S) (c : Contents E S
       rw (has-list-of c (view_of f (set bs i d) s) i (remove (list_of c i) k) (removed-list d k lk w) il) (omega arith)
 
 -- an empty table is a resize of one without entries
-pub bounded-fresh : {E S : Type 0} (f : Bool) (bs : List (Shelf E)) (s : Settings S) → AllEmpty bs → IsBounded (view_of f bs s)
+pub bounded-fresh : {E S : Type 0} (f : Bool × Bool) (bs : List (Shelf E)) (s : Settings S) → AllEmpty bs → IsBounded (view_of f bs s)
 unfolding spilled_of
 bounded-fresh f bs s h = (sums-empty bs h).1
 
-pub resized-fresh : {E S : Type 0} (hash : E → ℕ) (f : Bool) (bs : List (Shelf E)) (s : Settings S) (c : Contents E S) → entries c ≡ [] → AllEmpty bs → IsArray (length bs) → s ≡ settings_of c → IsResized hash c (view_of f bs s)
+pub resized-fresh : {E S : Type 0} (hash : E → ℕ) (f : Bool × Bool) (bs : List (Shelf E)) (s : Settings S) (c : Contents E S) → entries c ≡ [] → AllEmpty bs → IsArray (length bs) → s ≡ settings_of c → IsResized hash c (view_of f bs s)
 unfolding list_of
 resized-fresh {E} {S} hash f bs s c none h a e =
     let d : Contents E S = view_of f bs s in
@@ -166,7 +166,7 @@ pub none-there : {X : Type 0} {C : Type 0} (xs : List X) (j : ℕ) (x : X) → x
 none-there xs j x none got = let l = get-below xs j x got in absurd (let n : length xs ≡ 0 = ap length none in omega arith)
 
 -- the lists of a table, with overflow or without
-module _ {E S : Type 0} (hash : E → ℕ) (n o : ℕ) (bs : List (Shelf E)) (s : Settings S) (c : Contents E S) {f : Bool} (view : view_of f bs s ≡ c) (h : IsTable hash s.skipped bs n o) where
+module _ {E S : Type 0} (hash : E → ℕ) (n o : ℕ) (bs : List (Shelf E)) (s : Settings S) (c : Contents E S) {f : Bool × Bool} (view : view_of f bs s ≡ c) (h : IsTable hash s.skipped bs n o) where
   past-list : (i : ℕ) → length bs ≤ i → list_of c i ≡ []
   unfolding list_of
   past-list i l = ap (λ (x : Contents E S). get_or x.lists i []) (sym view) ∙ get_or_past (map shelf_entries bs) i [] (omega (arith, length-map bs shelf_entries))

@@ -129,7 +129,7 @@ module _ {E : Type 0} (p : E → Bool) (hash : E → ℕ) (h t n o i : ℕ) (bs 
       ap (option_map (λ k. length (flat_map (λ x. x) (take i ls)) + k)) (here_found ∙ ap (position p) (sym here))
       ∙ sym (position_flat p ls i (shelf_entries b) (simp length-map l) (λ j d q ne. others j d q ne))
 
-  module _ {S : Type 0} (s : Settings S) {f : Bool} (c : Contents E S) (view : view_of f bs s ≡ c) (b : Shelf E) (l : i < length bs) (at : b ≡ get_or bs i b) where
+  module _ {S : Type 0} (s : Settings S) {f : Bool × Bool} (c : Contents E S) (view : view_of f bs s ≡ c) (b : Shelf E) (l : i < length bs) (at : b ≡ get_or bs i b) where
     -- where the bucket of the hash has it, it stands there in the table
     pub found_at : (slot : ℕ) → Some slot ≡ position p (shelf_entries b) → IsFoundAt p c (record { bucket = i; slot = slot })
     unfolding index_of entries
@@ -145,6 +145,6 @@ module _ {E : Type 0} (p : E → Bool) (hash : E → ℕ) (h t n o i : ℕ) (bs 
     missed_at missed = ap (λ (x : Contents E S). position p (flat_map (λ l. l) x.lists)) (sym view) ∙ sym (found_in_lists b None l at (sym missed))
 
 -- where there is no bucket there is no entry
-pub no-entries : {E S : Type 0} (bs : List (Shelf E)) (s : Settings S) {f : Bool} (c : Contents E S) → view_of f bs s ≡ c → length bs ≡ 0 → entries c ≡ []
+pub no-entries : {E S : Type 0} (bs : List (Shelf E)) (s : Settings S) {f : Bool × Bool} (c : Contents E S) → view_of f bs s ≡ c → length bs ≡ 0 → entries c ≡ []
 no-entries [] s c view n = entries-view [] s c view
 no-entries (b ∷ bs) s c view n = absurd (omega arith)

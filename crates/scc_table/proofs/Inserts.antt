@@ -166,7 +166,7 @@ pub unique-inserted : {E K : Type 0} {eq : K → K → Bool} (laws : IsEquivalen
 unique-inserted {eq = eq} laws key e es ds d n p =
     IsDistinct-IsPermutation eq laws.symm (key e ∷ map key es) (map key ds) (IsPermutation-map key (e ∷ es) ds p) (IsDistinct-cons eq (key e) (map key es) (none-apart eq key (key e) es n) d)
 
-module _ {E S : Type 0} (hash : E → ℕ) (t n o i : ℕ) (bs : List (Shelf E)) (h : IsTable hash t bs n o) (s : Settings S) {f : Bool} (c : Contents E S) (view : view_of f bs s ≡ c) (b : Shelf E) (l : i < length bs) (at : b ≡ get_or bs i b) where
+module _ {E S : Type 0} (hash : E → ℕ) (t n o i : ℕ) (bs : List (Shelf E)) (h : IsTable hash t bs n o) (s : Settings S) {f : Bool × Bool} (c : Contents E S) (view : view_of f bs s ≡ c) (b : Shelf E) (l : i < length bs) (at : b ≡ get_or bs i b) where
   list-here : get_or (map shelf_entries bs) i [] ≡ shelf_entries b
   list-here = get_or-map shelf_entries bs i b [] l ∙ ap shelf_entries (sym at)
 

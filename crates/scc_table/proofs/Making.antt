@@ -71,5 +71,5 @@ pub kept-fresh : {E K : Type 0} (eq : K → K → Bool) (key : E → K) (hash : 
 kept-fresh eq key hash t minimum count n o bs h e a few small en eo = rw (en, eo) (kept-empty eq key hash t minimum bs h (inr (rw e a)) few small)
 
 -- an empty table has no entries
-pub entries-fresh : {E S : Type 0} (bs : List (Shelf E)) (s : Settings S) (f : Bool) → AllEmpty bs → entries (view_of f bs s) ≡ []
+pub entries-fresh : {E S : Type 0} (bs : List (Shelf E)) (s : Settings S) (f : Bool × Bool) → AllEmpty bs → entries (view_of f bs s) ≡ []
 entries-fresh bs s f h = entries-view bs s (view_of f bs s) refl ∙ flat-empty bs h

@@ -158,4 +158,5 @@ module _ {E F S : Type 0} (f : E → F) where
       raised = λ low up.
           let r = h.raised (rw (refused_of-mapped c) at low) (rw (refused_of-mapped d) at up) in
           (rw (bucket_count-mapped c) r.0, λ room. r.1 (HasRoomBy-from_mapped hash c k room), rw (bucket_count-mapped c, length-mapped c) r.2, rw (bucket_count-mapped c) r.3);
+      unmarked = λ a z b half below. ap (λ x. x.1) (refused_of-mapped d) ∙ h.unmarked (rw (bucket_count-mapped c) at a) (sym (pending_of-mapped c) ∙ z) (λ r. b (HasRoomBy-mapped hash c k r)) (rw (bucket_count-mapped c, length-mapped c) at half) (rw (bucket_count-mapped c) at below);
     }

@@ -16,7 +16,7 @@ use Rattle.scc_table.proofs.Inserts.{entries_insert, overflow_push, place_le}
 use Rattle.scc_table.proofs.Removes.{entries_without, overflow_without}
 use Rattle.scc_table.proofs.Views.{view_of, list-view, lists-view, refused-view, settings-view, spilled-view}
 
-module _ {E S : Type 0} (bs : List (Shelf E)) (s : Settings S) {f : Bool} (c : Contents E S) (view : view_of f bs s ≡ c) (i : ℕ) (b : Shelf E) (l : i < length bs) (at : b ≡ get_or bs i b) where
+module _ {E S : Type 0} (bs : List (Shelf E)) (s : Settings S) {f : Bool × Bool} (c : Contents E S) (view : view_of f bs s ≡ c) (i : ℕ) (b : Shelf E) (l : i < length bs) (at : b ≡ get_or bs i b) where
   pub one-list : (d : Shelf E) (es : List E) → shelf_entries d ≡ es → lists_of (view_of f (set bs i d) s) ≡ set (lists_of c) i es
   unfolding lists_of
   one-list d es w = map-set shelf_entries bs i d ∙ ap (set (map shelf_entries bs) i) w ∙ ap (λ z. set z i es) (sym (lists-view bs s c view))

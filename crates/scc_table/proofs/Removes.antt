@@ -72,7 +72,7 @@ pub unique-removed : {E K : Type 0} {eq : K → K → Bool} (laws : IsEquivalenc
 unique-removed {eq = eq} laws key es i x l at d =
     IsDistinct-tail eq (key x) (map key (remove es i)) (IsDistinct-IsPermutation eq laws.symm (map key es) (key x ∷ map key (remove es i)) (IsPermutation-map key es (x ∷ remove es i) (IsPermutation-remove es i x l at)) d)
 
-module _ {E S : Type 0} (hash : E → ℕ) (t n o : ℕ) (p : Place) (bs : List (Shelf E)) (h : IsTable hash t bs n o) (s : Settings S) {f : Bool} (c : Contents E S) (view : view_of f bs s ≡ c) (b : Shelf E) (l : p.bucket < length bs) (at : b ≡ get_or bs p.bucket b)
+module _ {E S : Type 0} (hash : E → ℕ) (t n o : ℕ) (p : Place) (bs : List (Shelf E)) (h : IsTable hash t bs n o) (s : Settings S) {f : Bool × Bool} (c : Contents E S) (view : view_of f bs s ≡ c) (b : Shelf E) (l : p.bucket < length bs) (at : b ≡ get_or bs p.bucket b)
     (lk : p.slot < length (shelf_entries b)) (d : Shelf E) (new : d ≡ without_place b p.slot) where
   list-there : get_or (map shelf_entries bs) p.bucket [] ≡ shelf_entries b
   list-there = get_or-map shelf_entries bs p.bucket b [] l ∙ ap shelf_entries (sym at)

@@ -1,5 +1,5 @@
 -- Steps after a resize, and before one.
-use Rattle.std.proofs.Common.{◌≡◌, ◌≢◌, ℕ, ◌+◌, ◌*◌, ◌^◌, ◌<◌, ◌≤◌, inl, inr, Bool, false, true, List, [], ◌∷◌, length, sym, ap, ◌∙◌, subst, max, arith, Some, None}
+use Rattle.std.proofs.Common.{◌≡◌, ◌≢◌, ℕ, ◌+◌, ◌*◌, ◌^◌, ◌<◌, ◌≤◌, inl, inr, Bool, false, true, List, [], ◌∷◌, length, sym, ap, ◌∙◌, subst, max, arith, Some, None, ap, Bool}
 use Rattle.std.specs.List.{All, position}
 use Rattle.std.specs.List.Sorted.{IsPermutation}
 use Rattle.std.proofs.lemmas.List.Elements.{All-cons}
@@ -94,7 +94,7 @@ module _ {E S : Type 0} where
   }
 
   -- a try to shrink that goes by the two sizes does what is due
-  pub shrinks-due : (k l : ℕ) (a b : Contents E S) → IsArraySize (minimum_of b) (32 * k) → IsArraySize (2 * length (entries b)) (32 * l) → (max k l < bucket_count a → refused_of b ≡ false → bucket_count b ≡ max k l) → (refused_of a ≡ false → refused_of b ≡ true → (length (entries b) ≤ 4 * bucket_count a) × (max k l < bucket_count a))
+  pub shrinks-due : (k l : ℕ) (a b : Contents E S) → IsArraySize (minimum_of b) (32 * k) → IsArraySize (2 * length (entries b)) (32 * l) → (max k l < bucket_count a → (refused_of b).0 ≡ false → bucket_count b ≡ max k l) → ((refused_of a).0 ≡ false → (refused_of b).0 ≡ true → (length (entries b) ≤ 4 * bucket_count a) × (max k l < bucket_count a))
       → ShrinksWhenDue a b
   shrinks-due k l a b sm sl made rose = record {
     shrunk = λ m n am an few less down.
@@ -113,11 +113,11 @@ module _ {E S : Type 0} where
   pub shrinks-after : (a b c : Contents E S) → bucket_count b ≡ bucket_count a → refused_of b ≡ refused_of a → ShrinksWhenDue b c → ShrinksWhenDue a c
   shrinks-after a b c same noted h = record {
     shrunk = λ m n am an few less down. h.shrunk m n am an (omega (arith, same)) (omega (arith, same)) down;
-    raised = λ low up m n am an. let r = h.raised (noted ∙ low) up m n am an in (omega (arith, same, r.0), omega (arith, same, r.1));
+    raised = λ low up m n am an. let r = h.raised (ap (λ (x : Bool × Bool). x.0) noted ∙ low) up m n am an in (omega (arith, same, r.0), omega (arith, same, r.1));
   }
 
   -- a try to grow that goes by that size does what is due
-  pub reaches-due : (k : ℕ) (a b : Contents E S) → IsArraySize (minimum_of b) (32 * k) → (0 < bucket_count a → bucket_count a < k → length (entries a) < 2 ^ 62 → refused_of b ≡ false → bucket_count b ≡ k) → (refused_of a ≡ false → refused_of b ≡ true → (0 < bucket_count a) × (bucket_count a < k))
+  pub reaches-due : (k : ℕ) (a b : Contents E S) → IsArraySize (minimum_of b) (32 * k) → (0 < bucket_count a → bucket_count a < k → length (entries a) < 2 ^ 62 → (refused_of b).0 ≡ false → bucket_count b ≡ k) → ((refused_of a).0 ≡ false → (refused_of b).0 ≡ true → (0 < bucket_count a) × (bucket_count a < k))
       → ReachesMinimumWhenDue a b
   reaches-due k a b size made rose = record {
     reached = λ m am some less few down.

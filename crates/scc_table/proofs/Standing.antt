@@ -74,7 +74,7 @@ take-set [] (suc i) x = refl
 take-set (y ∷ xs) zero x = refl
 take-set (y ∷ xs) (suc i) x = ap (λ z. y ∷ z) (take-set xs i x)
 
-module _ {E S : Type 0} (p : Place) (bs : List (Shelf E)) (s : Settings S) {f : Bool} (c : Contents E S) (view : view_of f bs s ≡ c) (b : Shelf E) (l : p.bucket < length bs) (lk : p.slot < length (shelf_entries b)) (d : Shelf E) (new : d ≡ without_place b p.slot) where
+module _ {E S : Type 0} (p : Place) (bs : List (Shelf E)) (s : Settings S) {f : Bool × Bool} (c : Contents E S) (view : view_of f bs s ≡ c) (b : Shelf E) (l : p.bucket < length bs) (lk : p.slot < length (shelf_entries b)) (d : Shelf E) (new : d ≡ without_place b p.slot) where
   -- as many entries stand before a place once the one there is taken out
   pub taken-index : index_of (view_of f (set bs p.bucket d) s) p ≡ index_of c p
   unfolding index_of

@@ -31,7 +31,7 @@ flat-permuted [] i xs ys h p = absurd (omega arith)
 flat-permuted (l ∷ ls) zero xs ys h p = IsPermutation-append_left (flat_map (λ l. l) ls) xs ys p
 flat-permuted (l ∷ ls) (suc i) xs ys h p = IsPermutation-append_right l (flat_map (λ l. l) (set ls i xs)) (flat_map (λ l. l) (set ls i ys)) (flat-permuted ls i xs ys (omega arith) p)
 
-module _ {E S : Type 0} (hash : E → ℕ) (t n o : ℕ) (p : Place) (bs : List (Shelf E)) (h : IsTable hash t bs n o) (s : Settings S) {f : Bool} (c : Contents E S) (view : view_of f bs s ≡ c) (b : Shelf E) (l : p.bucket < length bs) (at : b ≡ get_or bs p.bucket b)
+module _ {E S : Type 0} (hash : E → ℕ) (t n o : ℕ) (p : Place) (bs : List (Shelf E)) (h : IsTable hash t bs n o) (s : Settings S) {f : Bool × Bool} (c : Contents E S) (view : view_of f bs s ≡ c) (b : Shelf E) (l : p.bucket < length bs) (at : b ≡ get_or bs p.bucket b)
     (lk : p.slot < length (shelf_entries b)) (x : E) (d : Shelf E) (new : d ≡ swapped_out b p.slot x) where
   -- the bucket, had the others moved up
   abbrev up : Shelf E

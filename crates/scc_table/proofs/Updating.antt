@@ -18,7 +18,7 @@ use Rattle.scc_table.proofs.Views.{view_of, list-view}
 use Rattle.scc_table.proofs.WritingTables.{written-table, written-view, written-unique}
 
 module _ {F E K V R S : Type 0} (g : Once F (Bor K × (MutBor V × Unit {0})) (R × (MutBor V × Unit {0}))) (f : F) (key_of : E → K) (value_of : E → V) (put : E → V → E) (p : E → Bool)
-    (hash : E → ℕ) (h t n o i : ℕ) (bs ds : List (Shelf E)) (own : IsTable hash t bs n o) (same : HashOf p hash h) (here : i ≡ bucket_number t (length bs) h) (l : i < length bs) (s : Settings S) {flag : Bool} (c : Contents E S) (view : view_of flag bs s ≡ c) where
+    (hash : E → ℕ) (h t n o i : ℕ) (bs ds : List (Shelf E)) (own : IsTable hash t bs n o) (same : HashOf p hash h) (here : i ≡ bucket_number t (length bs) h) (l : i < length bs) (s : Settings S) {flag : Bool × Bool} (c : Contents E S) (view : view_of flag bs s ≡ c) where
   -- it is a table still, if a written value keeps the hash
   pub updated-table : ((e : E) (w : V) → hash (put e w) ≡ hash e) → (r : Option R) → UpdatesShelf g f key_of value_of put p bs i ds r → IsTable hash t ds n o
   updated-table keeps None (missed, stays) = subst (λ z. IsTable hash t z n o) (sym stays) own

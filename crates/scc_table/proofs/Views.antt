@@ -11,10 +11,10 @@ flat_lists [] = refl
 flat_lists (b ∷ bs) = ap (λ z. shelf_entries b ++ z) (flat_lists bs)
 
 -- what a clause sees of this flag, these buckets and settings
-abbrev pub view_of : {E S : Type 0} → Bool → List (Shelf E) → Settings S → Contents E S
+abbrev pub view_of : {E S : Type 0} → Bool × Bool → List (Shelf E) → Settings S → Contents E S
 view_of f bs s = record { lists = map shelf_entries bs; settings = s; refused = f; spilled = spilled_in bs; waiting = []; held = [] }
 
-module _ {E S : Type 0} (bs : List (Shelf E)) (s : Settings S) {f : Bool} (c : Contents E S) (view : view_of f bs s ≡ c) where
+module _ {E S : Type 0} (bs : List (Shelf E)) (s : Settings S) {f : Bool × Bool} (c : Contents E S) (view : view_of f bs s ≡ c) where
   pub entries-view : entries c ≡ flat_map shelf_entries bs
   unfolding entries
   entries-view = ap (λ (x : Contents E S). flat_map (λ l. l) x.lists) (sym view) ∙ flat_lists bs

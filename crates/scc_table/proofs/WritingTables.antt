@@ -121,7 +121,7 @@ module _ {E S X : Type 0} (put : E → X → E) (c : Contents E S) (p : Place) (
   unfolding bucket_count settings_of with_write_at
   exactly-write = record { exact = entries-write; buckets = length-set c.lists p.bucket _; settings = refl }
 
-module _ {E S X : Type 0} (put : E → X → E) (hash : E → ℕ) (t n o : ℕ) (p : Place) (bs : List (Shelf E)) (h : IsTable hash t bs n o) (s : Settings S) {f : Bool} (c : Contents E S) (view : view_of f bs s ≡ c) (b : Shelf E) (l : p.bucket < length bs) (at : b ≡ get_or bs p.bucket b)
+module _ {E S X : Type 0} (put : E → X → E) (hash : E → ℕ) (t n o : ℕ) (p : Place) (bs : List (Shelf E)) (h : IsTable hash t bs n o) (s : Settings S) {f : Bool × Bool} (c : Contents E S) (view : view_of f bs s ≡ c) (b : Shelf E) (l : p.bucket < length bs) (at : b ≡ get_or bs p.bucket b)
     (e : E) (got : slice_get (shelf_entries b) p.slot ≡ Some e) (w : X) where
   pub written-table : hash (put e w) ≡ hash e → IsTable hash t (set bs p.bucket (shelf_write_at put b p.slot w)) n o
   written-table same =

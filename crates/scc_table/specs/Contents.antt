@@ -15,18 +15,18 @@ pub record Settings (S : Type 0) : Type 0 where
   pub asked : ℕ
   pub reserved : ℕ
 
--- the list of each bucket, the settings, whether the last resize that was due was refused, and how many entries lie in overflow lists; then of each bucket whether its entries wait in an old array, and of each bucket of that array the buckets that its entries belong to, in their order. No bucket is named in either where nothing waits
+-- the list of each bucket, the settings, whether the last resize that was due was refused and whether the next insertion is not to try it again, and how many entries lie in overflow lists; then of each bucket whether its entries wait in an old array, and of each bucket of that array the buckets that its entries belong to, in their order. No bucket is named in either where nothing waits
 pub record Contents (E S : Type 0) : Type 0 where
   pub lists : List (List E)
   pub settings : Settings S
-  pub refused : Bool
+  pub refused : Bool × Bool
   pub spilled : ℕ
   pub waiting : List Bool
   pub held : List (List ℕ)
 
 abbrev pub contents_code : {E S : Type 0} → Coded E → Coded S → Coded (Contents E S)
 contents_code {E} {S} e s =
-    code_by (List (List E) × (S × (ℕ × (ℕ × (ℕ × (Bool × (ℕ × (List Bool × List (List ℕ))))))))) (coded× (coded_list (coded_list e)) (coded× s (coded× coded_ℕ (coded× coded_ℕ (coded× coded_ℕ (coded× coded_bool (coded× coded_ℕ (coded× (coded_list coded_bool) (coded_list (coded_list coded_ℕ))))))))))
+    code_by (List (List E) × (S × (ℕ × (ℕ × (ℕ × ((Bool × Bool) × (ℕ × (List Bool × List (List ℕ))))))))) (coded× (coded_list (coded_list e)) (coded× s (coded× coded_ℕ (coded× coded_ℕ (coded× coded_ℕ (coded× (coded× coded_bool coded_bool) (coded× coded_ℕ (coded× (coded_list coded_bool) (coded_list (coded_list coded_ℕ))))))))))
     (λ c. (c.lists, (c.settings.hasher, (c.settings.skipped, (c.settings.asked, (c.settings.reserved, (c.refused, (c.spilled, (c.waiting, c.held)))))))))
     (λ p. record { lists = p.0; settings = record { hasher = p.1.0; skipped = p.1.1.0; asked = p.1.1.1.0; reserved = p.1.1.1.1.0 }; refused = p.1.1.1.1.1.0; spilled = p.1.1.1.1.1.1.0; waiting = p.1.1.1.1.1.1.1.0; held = p.1.1.1.1.1.1.1.1 })
     (λ _. refl)
@@ -44,8 +44,8 @@ module _ {E S : Type 0} where
   unfoldable pub settings_of : Contents E S → Settings S
   settings_of c = c.settings
 
-  -- whether memory was refused for the last resize that was due
-  unfoldable pub refused_of : Contents E S → Bool
+  -- whether memory was refused for the last resize that was due, and whether the next insertion is not to try it again
+  unfoldable pub refused_of : Contents E S → Bool × Bool
   refused_of c = c.refused
 
   -- the entries of one bucket, in order

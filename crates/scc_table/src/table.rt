@@ -39,6 +39,7 @@ where
     reserved: usize,
     skipped: u32,
     refused: bool,
+    tried: bool,
     hasher: H,
 }
 
@@ -57,7 +58,7 @@ where
     ghost use Rattle.scc_bucket.specs.Shelf.{shelf_entries};
     ghost use Rattle.scc_table.specs.Tables.{IsKept, spilled_in};
 
-    ghost view = { λ t. record { lists = map shelf_entries t.buckets; settings = record { hasher = t.hasher; skipped = t.skipped; asked = t.asked; reserved = t.reserved }; refused = t.refused; spilled = spilled_in t.buckets; waiting = []; held = [] } };
+    ghost view = { λ t. record { lists = map shelf_entries t.buckets; settings = record { hasher = t.hasher; skipped = t.skipped; asked = t.asked; reserved = t.reserved }; refused = (t.refused, t.tried); spilled = spilled_in t.buckets; waiting = []; held = [] } };
 
     ghost invariant = { λ t. IsKept E.Key.eq E.key_of (λ k. hash_of H.BuildHasher H.Hasher.Hasher t.hasher (E.Key.hash_input k)) t.skipped (t.asked + t.reserved) t.buckets t.length t.overflowing };
 }
@@ -98,7 +99,7 @@ where
     /// Whether memory was refused for the last resize that was due.
     #[inline(always)]
     pub fn is_resize_refused(&self) -> bool
-        ensures { result ≡ refused_of self.now }
+        ensures { result ≡ (refused_of self.now).0 }
     {
         self.refused
     }

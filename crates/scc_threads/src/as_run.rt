@@ -1,5 +1,6 @@
 // On one stripe a recorded container answers as a run of the same calls does, for each kind.
 ghost use Rattle.std.specs.Prelude.{◌≡◌, Some};
+ghost use Rattle.scc_recorded.specs.Copies.{ClonesEqual};
 ghost use Rattle.scc_recorder.specs.Setups.{request_of};
 
 use crate::cases::shared;
@@ -31,6 +32,8 @@ where
     requires receipts { (receipts.name ≡ L.name) × (receipts.parts ≡ L.parts) × (receipts.parts ≡ 1) }
     requires records { (records.name ≡ M.name) × (records.parts ≡ M.parts) × (records.parts ≡ 1) }
     requires site { (M.chosen ≡ Some (request_of 0 256 hasher 1)) × (M.all ≡ 1) }
+    requires calls { ClonesEqual C.Call.is_clone C.Call.eq }
+    requires replies { ClonesEqual C.Reply.is_clone C.Reply.eq }
 {
     let Ok(alone) = C::make(alloc, 0, 0, 256, hasher.share()?) else {
         return Err(AllocError);
@@ -51,8 +54,9 @@ where
     };
     let mut told = Vec::new(alloc);
     for call in calls {
-        if let Some(_key) = C::key(call) {
-            if let Ok(reply) = recorded.call(rt, &mut pass, *call) {
+        let copy = call.clone()?;
+        if let Some(_key) = C::key(&copy) {
+            if let Ok(reply) = recorded.call(rt, &mut pass, copy) {
                 told.push(reply)?;
             }
         }

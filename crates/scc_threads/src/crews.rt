@@ -51,6 +51,10 @@ impl Turns for Map {
     fn probe(key: u64) -> MapCall<u64, u64> {
         MapCall::Read(key)
     }
+
+    fn equal_calls() {}
+
+    fn equal_replies() {}
 }
 
 impl Turns for Set {
@@ -77,6 +81,10 @@ impl Turns for Set {
     fn probe(key: u64) -> SetCall<u64> {
         SetCall::Read(key)
     }
+
+    fn equal_calls() {}
+
+    fn equal_replies() {}
 }
 
 impl Turns for Index {
@@ -106,6 +114,10 @@ impl Turns for Index {
     fn probe(key: u64) -> IndexCall<u64, u64> {
         IndexCall::Read(key)
     }
+
+    fn equal_calls() {}
+
+    fn equal_replies() {}
 }
 
 // A cache may have lost a worker's key to another's.
@@ -132,6 +144,10 @@ impl Turns for Cache {
     fn probe(key: u64) -> CacheCall<u64, u64> {
         CacheCall::Read(key)
     }
+
+    fn equal_calls() {}
+
+    fn equal_replies() {}
 }
 
 // One stripe for eight passes, and a part that is made as it is.

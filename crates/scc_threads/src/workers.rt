@@ -1,4 +1,6 @@
 // Workers that share one recorded container, and the run of one thread that their records stand beside.
+ghost use Rattle.scc_recorded.specs.Copies.{ClonesEqual};
+
 use scc_recorded::recorded::{Step, WholeCalls, run};
 use scc_recorder::recorder::{Finished, Pass, Recorded, Site};
 use scc_workers::stripes::Work;
@@ -26,6 +28,12 @@ pub(crate) trait Turns: WholeCalls + Drop {
 
     // The call that tells what a key has.
     fn probe(key: u64) -> Self::Call;
+
+    fn equal_calls()
+        ensures { ClonesEqual Self.Call.is_clone Self.Call.eq };
+
+    fn equal_replies()
+        ensures { ClonesEqual Self.Reply.is_clone Self.Reply.eq };
 }
 
 // The keys of a worker lie in different buckets, one for each eight turns.
@@ -80,6 +88,14 @@ fn probes<C: Turns>(alloc: Global) -> Result<Vec<C::Call>, AllocError> {
     Ok(calls)
 }
 
+// Whether that was answered, if it can be known.
+fn matches_alone<A: PartialEq>(wanted: &Option<A>, answer: &A) -> bool {
+    match wanted {
+        Some(wanted) => wanted == answer,
+        None => true,
+    }
+}
+
 // One worker, with a pass of its own.
 #[derive(Drop)]
 pub(crate) struct Caller<'a, C: Turns, L: Ledger, M: Site<C::Hasher>, R: Wait> {
@@ -100,12 +116,17 @@ impl<C: Turns, L: Ledger, M: Site<C::Hasher>, R: Wait> Work for Caller<'_, C, L,
         let Some((call, alone)) = self.turns.get(j) else {
             return false;
         };
-        let Some(_key) = C::key(call) else {
+        let Ok(copy) = call.clone() else {
             return false;
         };
-        match self.recorded.call(self.rt, &mut self.pass, *call) {
+        let Some(_key) = C::key(&copy) else {
+            return false;
+        };
+        C::equal_calls();
+        C::equal_replies();
+        match self.recorded.call(self.rt, &mut self.pass, copy) {
             Ok(reply) => {
-                self.as_alone = self.as_alone && alone.is_none_or(|alone| alone == reply);
+                self.as_alone = self.as_alone && matches_alone(alone, &reply);
                 true
             }
             Err(_refused) => false,
@@ -165,8 +186,8 @@ fn records_of<C: Turns>(
     for place in finished.order.as_slice() {
         if let Some(history) = finished.histories.get(place.0) {
             if let Some(Step::Call { call, reply, .. }) = history.get(place.1) {
-                calls.push(*call)?;
-                replies.push(*reply)?;
+                calls.push(call.clone()?)?;
+                replies.push(reply.clone()?)?;
             }
         }
     }
@@ -189,6 +210,8 @@ fn records_as_run<C: Turns>(
     let mut wanted = Vec::new(alloc);
     let mut held = Vec::new(alloc);
     let asked = probes::<C>(alloc)?;
+    C::equal_calls();
+    C::equal_replies();
     let ran = run(&mut alone, calls.as_slice(), &mut answered).is_ok()
         && run(&mut alone, asked.as_slice(), &mut wanted).is_ok()
         && run(&mut part, asked.as_slice(), &mut held).is_ok();

@@ -24,43 +24,43 @@ use Rattle.scc_recorded.specs.declared.recorded.replies.Reply.TheVariants.{Inser
 use Rattle.scc_recorded.proofs.Independence.{Agrees, runs-agree, equally-many, first-replies, no-more}
 use Rattle.scc_recorded.proofs.MapIndependence.{moves-distinct}
 
-some-of : {X : Type 0} (o : Option X) → IsSome o → (x : X) × (o ≡ Some x)
+pub some-of : {X : Type 0} (o : Option X) → IsSome o → (x : X) × (o ≡ Some x)
 some-of None h = absurd (let z : false ≡ true = h in cc)
 some-of (Some x) h = (x, refl)
 
-is_some-map : {X Y : Type 0} (f : X → Y) (o : Option X) → is_some (option_map f o) ≡ is_some o
+pub is_some-map : {X Y : Type 0} (f : X → Y) (o : Option X) → is_some (option_map f o) ≡ is_some o
 is_some-map f None = refl
 is_some-map f (Some x) = refl
 
 module _ {K V : Type 0} where
   -- the value of a pair that was found
-  abbrev value : Option (K × V) → Option V
+  abbrev pub value : Option (K × V) → Option V
   value o = option_map (λ p. p.1) o
 
-  value-cond : (b : Bool) (o p : Option (K × V)) → value (cond b o p) ≡ cond b (value o) (value p)
+  pub value-cond : (b : Bool) (o p : Option (K × V)) → value (cond b o p) ≡ cond b (value o) (value p)
   value-cond true o p = refl
   value-cond false o p = refl
 
-  found-value : (t : K → Bool) (es : List (K × V)) → lookup t es ≡ value (lookup_entry t es)
+  pub found-value : (t : K → Bool) (es : List (K × V)) → lookup t es ≡ value (lookup_entry t es)
   found-value t [] = refl
   found-value t (x ∷ es) = by_answer (t x.0)
       (λ y. cond-true (Some x.1) (lookup t es) y ∙ sym (ap value (cond-true (Some x) (lookup_entry t es) y)))
       (λ y. cond-false (Some x.1) (lookup t es) y ∙ found-value t es ∙ sym (ap value (cond-false (Some x) (lookup_entry t es) y)))
 
-  found-some : (t : K → Bool) (es : List (K × V)) (w : V) → lookup t es ≡ Some w → (p : K × V) × (lookup_entry t es ≡ Some p)
+  pub found-some : (t : K → Bool) (es : List (K × V)) (w : V) → lookup t es ≡ Some w → (p : K × V) × (lookup_entry t es ≡ Some p)
   found-some t es w f = some-of (lookup_entry t es) (sym (is_some-map (λ p. p.1) (lookup_entry t es)) ∙ ap is_some (sym (found-value t es) ∙ f))
 
 module _ {K V : Type 0} (eq : K → K → Bool) where
   -- the values that look-ups find, from the pairs that they find
-  instead : (old new : List (K × V)) (k : K) (there : Option (K × V)) → ((q : K) → find eq new q ≡ cond (eq q k) there (find eq old q)) → (q : K) → lookup (eq q) new ≡ cond (eq q k) (value there) (lookup (eq q) old)
+  pub instead : (old new : List (K × V)) (k : K) (there : Option (K × V)) → ((q : K) → find eq new q ≡ cond (eq q k) there (find eq old q)) → (q : K) → lookup (eq q) new ≡ cond (eq q k) (value there) (lookup (eq q) old)
   instead old new k there f q = found-value (eq q) new ∙ ap value (f q) ∙ value-cond (eq q k) there (find eq old q) ∙ ap (cond (eq q k) (value there)) (sym (found-value (eq q) old))
 
 module _ {K V : Type 0} {eq : K → K → Bool} (laws : IsEquivalence eq) where
   -- the values of the other keys
-  others : (es : List (K × V)) (k q : K) → IsDistinct eq (keys_of es) → lookup (eq q) (without eq es k) ≡ cond (eq q k) None (lookup (eq q) es)
+  pub others : (es : List (K × V)) (k q : K) → IsDistinct eq (keys_of es) → lookup (eq q) (without eq es k) ≡ cond (eq q k) None (lookup (eq q) es)
   others es k q d = instead eq es (without eq es k) k None (λ q. find-without laws es k q d) q
 
-  tail-value : (x : K × V) (xs : List (K × V)) (q : K) → IsDistinct eq (keys_of (x ∷ xs)) → lookup (eq q) xs ≡ cond (eq q x.0) None (lookup (eq q) (x ∷ xs))
+  pub tail-value : (x : K × V) (xs : List (K × V)) (q : K) → IsDistinct eq (keys_of (x ∷ xs)) → lookup (eq q) xs ≡ cond (eq q x.0) None (lookup (eq q) (x ∷ xs))
   tail-value x xs q d = ap (lookup (eq q)) (sym (cond-true xs (x ∷ without eq xs x.0) (laws.refl x.0))) ∙ others (x ∷ xs) x.0 q d
 
   -- pairs with distinct keys are as many as others in which look-ups find the same values
@@ -78,11 +78,11 @@ module _ {K V : Type 0} {eq : K → K → Bool} (laws : IsEquivalence eq) where
       omega (arith, inner, length-remove ys at.0 (place-below ys at.0 p.0 at.1))
 
   -- the same pairs in another order
-  rearranged-values : (es ds : List (K × V)) (q : K) → IsPermutation es ds → IsDistinct eq (keys_of es) → lookup (eq q) ds ≡ lookup (eq q) es
+  pub rearranged-values : (es ds : List (K × V)) (q : K) → IsPermutation es ds → IsDistinct eq (keys_of es) → lookup (eq q) ds ≡ lookup (eq q) es
   rearranged-values es ds q perm d = found-value (eq q) ds ∙ ap value (find-IsPermutation laws es ds q perm d) ∙ sym (found-value (eq q) es)
 
   -- a key in the place of its equal changes no value that a look-up finds
-  value-set_key : (k q : K) (es : List (K × V)) → lookup (eq q) (set_key (eq k) es k) ≡ lookup (eq q) es
+  pub value-set_key : (k q : K) (es : List (K × V)) → lookup (eq q) (set_key (eq k) es k) ≡ lookup (eq q) es
   value-set_key k q [] = refl
   value-set_key k q (x ∷ es) = by_answer (eq k x.0)
       (λ y.
@@ -93,16 +93,16 @@ module _ {K V : Type 0} {eq : K → K → Bool} (laws : IsEquivalence eq) where
       ∙ ap (cond (eq q x.0) (Some x.1)) (value-set_key k q es))
 
 module _ {K V : Type 0} (eq : K → K → Bool) where
-  abbrev value-if : List (K × V) → Option K → Option V
+  abbrev pub value-if : List (K × V) → Option K → Option V
   value-if es None = None
   value-if es (Some k) = lookup (eq k) es
 
   -- the value of the call's key
-  abbrev there : List (K × V) → IndexCall K V → Option V
+  abbrev pub there : List (K × V) → IndexCall K V → Option V
   there es call = value-if es (index_key call)
 
   -- what the call answers where the key has that value, and there are so many pairs
-  abbrev answered : Option V → ℕ → IndexCall K V → Reply K V
+  abbrev pub answered : Option V → ℕ → IndexCall K V → Reply K V
   answered None n (Insert k v) = Inserted
   answered (Some w) n (Insert k v) = Exists k v
   answered o n (Update k v) = Has (is_some o)
@@ -113,7 +113,7 @@ module _ {K V : Type 0} (eq : K → K → Bool) where
   answered o n Len = Count n
 
   -- the value that it leaves at q, where there was b
-  abbrev left : Option V → Option V → K → IndexCall K V → Option V
+  abbrev pub left : Option V → Option V → K → IndexCall K V → Option V
   left None b q (Insert k v) = cond (eq q k) (Some v) b
   left (Some w) b q (Insert k v) = b
   left None b q (Update k v) = b
@@ -126,11 +126,11 @@ module _ {K V : Type 0} (eq : K → K → Bool) where
   left o b q Len = b
 
 module _ {K V : Type 0} {eq : K → K → Bool} (laws : IsEquivalence eq) where
-  kept : (s t : State (K × V)) → t ≡ s → (q : K) → lookup (eq q) t.0 ≡ lookup (eq q) s.0
+  pub kept : (s t : State (K × V)) → t ≡ s → (q : K) → lookup (eq q) t.0 ≡ lookup (eq q) s.0
   kept s t e q = ap (λ (z : State (K × V)). lookup (eq q) z.0) e
 
   -- a move answers and leaves just that
-  settled : (s : State (K × V)) (call : IndexCall K V) (reply : Reply K V) (t : State (K × V)) → IsDistinct eq (keys_of s.0) → IsDistinct eq (keys_of t.0) → IndexMoves eq s call reply t
+  pub settled : (s : State (K × V)) (call : IndexCall K V) (reply : Reply K V) (t : State (K × V)) → IsDistinct eq (keys_of s.0) → IsDistinct eq (keys_of t.0) → IndexMoves eq s call reply t
       → (o : Option V) × (there eq s.0 call ≡ o) × (reply ≡ answered eq o (length s.0) call) × ((q : K) → lookup (eq q) t.0 ≡ left eq o (lookup (eq q) s.0) q call)
   settled s (Insert k v) Inserted t d e m =
       (None, found-value (eq k) s.0 ∙ ap value m.0, refl, λ q. instead eq s.0 t.0 k (Some (k, v)) (λ q. (finds-added laws s.0 t.0 (k, v) m.1.0 e).finds q) q)
@@ -161,7 +161,7 @@ module _ {K V : Type 0} {eq : K → K → Bool} (laws : IsEquivalence eq) where
   settled s call reply t d e m = absurd m
 
   -- a move keeps the keys distinct
-  keeps-distinct : (s t : State (K × V)) (call : IndexCall K V) (reply : Reply K V) → IsDistinct eq (keys_of s.0) → IndexMoves eq s call reply t → IsDistinct eq (keys_of t.0)
+  pub keeps-distinct : (s t : State (K × V)) (call : IndexCall K V) (reply : Reply K V) → IsDistinct eq (keys_of s.0) → IndexMoves eq s call reply t → IsDistinct eq (keys_of t.0)
   keeps-distinct s t (Insert k v) r d m = moves-distinct laws s t (MapInsert k v) r d m
   keeps-distinct s t (Update k v) (Has false) d m = moves-distinct laws s t (MapReplace k) (Key None) d m
   keeps-distinct s t (Update k v) (Has true) d m =

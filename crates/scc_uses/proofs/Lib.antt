@@ -1,10 +1,14 @@
+pub mod AlikeRuns
 pub mod AuditLemmas
 pub mod Counting
 pub mod Ends
+pub mod IndexAlike
 pub mod IndexIndependence
 pub mod KeyLemmas
+pub mod MapAlike
 pub mod Replies
 pub mod RouteLemmas
+pub mod SetAlike
 pub mod SetIndependence
 pub mod WindowLemmas
 pub mod WordLemmas

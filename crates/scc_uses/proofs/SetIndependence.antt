@@ -52,7 +52,7 @@ module _ {K : Type 0} (eq : K → K → Bool) where
       (IsPermutation-trans (x ∷ swap_key (eq k) ks q) (x ∷ q ∷ without eq ks k) (q ∷ x ∷ without eq ks k) (IsPermutation-cons x (swap_key (eq k) ks q) (q ∷ without eq ks k) inner) (IsPermutation-middle (x ∷ []) q (without eq ks k)))))
 
   -- the found key equals the one that was looked up
-  found-equal : (ks : List K) (k p : K) → find eq ks k ≡ Some p → eq k p ≡ true
+  pub found-equal : (ks : List K) (k p : K) → find eq ks k ≡ Some p → eq k p ≡ true
   found-equal [] k p f = absurd (let h : None ≡ Some p = f in cc)
   found-equal (x ∷ ks) k p f = by_answer (eq k x)
       (λ y. let h : Some x ≡ Some p = sym (cond-true (Some x) (find eq ks k) y) ∙ f in let s : x ≡ p = cc in subst (λ (z : K). eq k z ≡ true) s y)
@@ -97,16 +97,16 @@ some-of None h = absurd (let z : false ≡ true = h in cc)
 some-of (Some x) h = (x, refl)
 
 module _ {K : Type 0} (eq : K → K → Bool) where
-  abbrev find-if : List K → Option K → Option K
+  abbrev pub find-if : List K → Option K → Option K
   find-if ks None = None
   find-if ks (Some k) = find eq ks k
 
   -- the key that the call's key equals
-  abbrev there : List K → SetCall K → Option K
+  abbrev pub there : List K → SetCall K → Option K
   there ks call = find-if ks (key_of_set call)
 
   -- what the call answers where that key is there
-  abbrev answered : Option K → List K → SetCall K → Reply K (Unit {0})
+  abbrev pub answered : Option K → List K → SetCall K → Reply K (Unit {0})
   answered None ks (Insert k) = Inserted
   answered (Some p) ks (Insert k) = Exists k tt
   answered o ks (Replace k) = Key o
@@ -117,7 +117,7 @@ module _ {K : Type 0} (eq : K → K → Bool) where
   answered o ks Len = Count (length ks)
 
   -- the keys that it leaves, in some order
-  abbrev left : Option K → List K → SetCall K → List K
+  abbrev pub left : Option K → List K → SetCall K → List K
   left None ks (Insert k) = k ∷ ks
   left (Some p) ks (Insert k) = ks
   left None ks (Replace k) = k ∷ ks
@@ -130,7 +130,7 @@ module _ {K : Type 0} (eq : K → K → Bool) where
   left o ks Len = ks
 
   -- a move answers and leaves just that
-  settled : (s : State K) (call : SetCall K) (reply : Reply K (Unit {0})) (t : State K) → SetMoves eq s call reply t
+  pub settled : (s : State K) (call : SetCall K) (reply : Reply K (Unit {0})) (t : State K) → SetMoves eq s call reply t
       → (o : Option K) × (there s.0 call ≡ o) × (reply ≡ answered o s.0 call) × IsPermutation (left o s.0 call) t.0
   settled s (Insert k) Inserted t m = (None, m.0, refl, m.1)
   settled s (Insert k) (Exists l u) t m =
@@ -169,7 +169,7 @@ module _ {K : Type 0} {eq : K → K → Bool} (laws : IsEquivalence eq) where
   left-alike o ks ls Clear f d perm = IsPermutation-refl []
   left-alike o ks ls Len f d perm = perm
 
-  left-distinct : (o : Option K) (ks : List K) (call : SetCall K) → there eq ks call ≡ o → IsDistinct eq ks → IsDistinct eq (left eq o ks call)
+  pub left-distinct : (o : Option K) (ks : List K) (call : SetCall K) → there eq ks call ≡ o → IsDistinct eq ks → IsDistinct eq (left eq o ks call)
   left-distinct None ks (Insert k) f d = added-distinct laws ks k f d
   left-distinct (Some p) ks (Insert k) f d = d
   left-distinct None ks (Replace k) f d = added-distinct laws ks k f d
@@ -182,7 +182,7 @@ module _ {K : Type 0} {eq : K → K → Bool} (laws : IsEquivalence eq) where
   left-distinct o ks Len f d = d
 
   -- a move keeps the keys distinct
-  moves-distinct : (s t : State K) (call : SetCall K) (reply : Reply K (Unit {0})) → IsDistinct eq s.0 → SetMoves eq s call reply t → IsDistinct eq t.0
+  pub moves-distinct : (s t : State K) (call : SetCall K) (reply : Reply K (Unit {0})) → IsDistinct eq s.0 → SetMoves eq s call reply t → IsDistinct eq t.0
   moves-distinct s t call reply d m =
       let a = settled eq s call reply t m in
       IsDistinct-IsPermutation eq laws.symm (left eq a.0 s.0 call) t.0 a.3 (left-distinct a.0 s.0 call a.1 d)

@@ -1,3 +1,6 @@
+pub mod AlikeIndexes
+pub mod AlikeSets
+pub mod Alikeness
 pub mod Counts
 pub mod Memo
 pub mod RequestCounts

@@ -3,6 +3,7 @@ ghost use Rattle.std.specs.Prelude.{◌≡◌, ℕ, ◌<◌, length, map, IfOk, 
 ghost use Rattle.scc_history.specs.Orders.{steps_at};
 ghost use Rattle.scc_recorder.specs.Setups.{request_of};
 ghost use Rattle.scc_history.specs.Receipts.{calls_of};
+ghost use Rattle.scc_recorded.specs.Copies.{ClonesEqual};
 
 use scc_history::history::{CallError, Log, Stripe};
 use scc_map::hash_map::Owned;
@@ -20,12 +21,15 @@ pub fn one_after_another<C: Calls>(
     first: &mut Log<C>,
     second: &mut Log<C>,
     call: C::Call,
+    later: C::Call,
 ) -> Result<(), CallError>
+    requires calls { ClonesEqual C.Call.is_clone C.Call.eq }
+    requires replies { ClonesEqual C.Reply.is_clone C.Reply.eq }
     ensures { OnOk result (first.new.clock < second.new.clock) }
 {
     stripe.step(first, call)?;
     second.told(first);
-    stripe.step(second, call)?;
+    stripe.step(second, later)?;
     Ok(())
 }
 

@@ -1,6 +1,7 @@
 //! Uses of the owned map, set, index and cache, as a caller writes them: each contract speaks of what a look-up finds or a run answers, and its proof cites nothing but the contracts of the containers and of runs, and their callers' lemmas.
 #![tactic(auto)]
 
+mod alike;
 pub mod audits;
 pub mod chain;
 pub mod configs;
@@ -14,7 +15,9 @@ pub mod memo;
 pub mod mirror;
 pub mod mirror_indexes;
 pub mod mirror_sets;
+pub mod named_sessions;
 pub mod parts;
+pub mod prepared;
 pub mod request_cache;
 pub mod requests;
 pub mod routing;

@@ -14,6 +14,8 @@ mod random_calls;
 #[cfg(test)]
 mod relocation_cases;
 #[cfg(test)]
+mod room_cases;
+#[cfg(test)]
 mod set_cases;
 #[cfg(test)]
 mod size_cases;

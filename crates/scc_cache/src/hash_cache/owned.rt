@@ -1,19 +1,21 @@
 //! The cache for one owner: every call that changes it takes `&mut self`.
-ghost use Rattle.std.specs.Prelude.{◌≡◌, ◌≤◌, ◌<◌, ◌*◌, ◌↔◌, [], length, max, None, Some, IsTrue, IsOk, IfOk, OnOk, MatchOption};
+ghost use Rattle.std.specs.Prelude.{◌≡◌, ◌≤◌, ◌<◌, ◌*◌, ◌↔◌, [], false, length, max, None, Some, IsTrue, IsOk, IfOk, OnOk, MatchOption};
 ghost use Rattle.std.specs.Borrow.{Bor};
-ghost use Rattle.scc_table.specs.Contents.{entries, bucket_count, settings_of, minimum_of, pending_of, key_hash};
+ghost use Rattle.scc_table.specs.Contents.{entries, bucket_count, settings_of, minimum_of, pending_of, refused_of, key_hash};
 ghost use Rattle.scc_table.specs.Sizes.{IsArraySize};
 ghost use Rattle.std.specs.Fn.{FnOnceTakesAtMut};
-ghost use Rattle.scc_cache.specs.CacheSteps.{AnswersOn, IsAbsent, IsPresent, Puts, Removes};
+ghost use Rattle.scc_cache.specs.CacheSteps.{AnswersOn, IsAbsent, IsPresent, IsReadyFor, Puts, Removes};
 ghost use Rattle.scc_cache.specs.CacheWalks.{RemovesIf};
 ghost use Rattle.scc_cache.specs.Caches.{IsCacheState};
 ghost use Rattle.scc_cache.specs.Relocations.{RelocatesNone, RelocatesTwo};
 
 mod collecting;
+mod copies;
 mod entry;
 mod making;
 mod parts;
 mod places;
+mod room;
 mod taking_walks;
 mod walks;
 mod whole;
@@ -123,13 +125,15 @@ impl<K: Eq + Hash, V, H: BuildHasher> Owned<K, V, H> {
         }
     }
 
-    /// Puts in the pair where no key equals `k`, as the most recent of its bucket. Where that holds 32 pairs, the array is doubled first if at least half its slots are in use and it is below the maximum; where the bucket of `k` then holds 32 pairs, the least recent of them is driven out and answered. Where a key equals `k` nothing changes, and the supplied pair comes back; so it does where there is no array and none can be had. With an array it can't be refused. Where buckets wait, that of `k` takes its pairs over first, and then the first ones that wait, two in all; after a doubling all others wait.
+    /// Puts in the pair where no key equals `k`, as the most recent of its bucket. Where that holds 32 pairs, the array is doubled first if at least half its slots are in use and it is below the maximum; where the bucket of `k` then holds 32 pairs, the least recent of them is driven out and answered. Where a key equals `k` nothing changes, and the supplied pair comes back; so it does where there is no array and none can be had. With an array it can't be refused. Where buckets wait, that of `k` takes its pairs over first, and then the first ones that wait, two in all; after a doubling all others wait. Where `make_room` was made for `k` just before, no array is made and none is doubled. The mark of a refused doubling goes.
     #[inline(always)]
     pub fn put_sync(&mut self, k: K, v: V) -> Result<EvictedEntry<K, V>, InsertError<K, V>>
         ensures step { Puts (key_hash H.BuildHasher H.Hasher.Hasher K.hash_input self.old.contents) K.eq self.old (k, v) result self.new }
         ensures succeeds { IsAbsent (key_hash H.BuildHasher H.Hasher.Hasher K.hash_input self.old.contents) K.eq self.old.contents k → 0 < bucket_count self.old.contents → IsOk result }
         ensures state { IsCacheState K.eq (key_hash H.BuildHasher H.Hasher.Hasher K.hash_input self.new.contents) self.new }
         ensures relocates { OnOk result (RelocatesTwo (key_hash H.BuildHasher H.Hasher.Hasher K.hash_input self.old.contents k) self.old.contents self.new.contents) }
+        ensures once { IsReadyFor (key_hash H.BuildHasher H.Hasher.Hasher K.hash_input self.old.contents) self.old k → bucket_count self.new.contents ≡ bucket_count self.old.contents }
+        ensures unmarked { OnOk result ((refused_of self.new.contents).1 ≡ false) }
     {
         let hash = self.table.hash(&k);
         match self.find(hash, &k) {

@@ -5,7 +5,7 @@ ghost use Rattle.scc_history.specs.Stamps.{recorded, resized};
 use scc_recorded::recorded::Step;
 
 // Notes a call, with a growth before it or a shrink after it.
-pub(crate) fn note<A: Copy, R: Copy>(
+pub(crate) fn note<A: Drop, R: Drop>(
     history: &mut Vec<Step<A, R>>,
     before: usize,
     after: usize,
@@ -39,7 +39,7 @@ pub(crate) fn note<A: Copy, R: Copy>(
 }
 
 // Notes what a refused call did.
-pub(crate) fn note_refused<A: Copy, R: Copy>(
+pub(crate) fn note_refused<A: Drop, R: Drop>(
     history: &mut Vec<Step<A, R>>,
     before: usize,
     after: usize,

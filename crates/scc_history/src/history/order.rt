@@ -14,9 +14,9 @@ use std::collections::BinaryHeap;
 
 /// What has the history of a stripe.
 pub trait Histories {
-    type Call: Copy;
+    type Call;
 
-    type Reply: Copy;
+    type Reply;
 
     ghost history: { Self → List (Step Self.Call Self.Reply) };
 
@@ -31,7 +31,7 @@ pub trait Histories {
 }
 
 // The least stamp from a place on. No step after a call has a lesser stamp than the call, so it looks no further than the next call.
-fn number_at<A: Copy, R: Copy>(history: &[Step<A, R>], from: usize) -> u64
+fn number_at<A, R>(history: &[Step<A, R>], from: usize) -> u64
     requires within { from < length history.now }
     requires rising { (last : ℕ) × Rises 0 history.now last × (last ≤ 18446744073709551615) }
     ensures { result ≡ least (drop from history.now) }
@@ -47,7 +47,7 @@ fn number_at<A: Copy, R: Copy>(history: &[Step<A, R>], from: usize) -> u64
 }
 
 // Puts the step at that place of a history among those that wait, if it is there.
-fn await_step<A: Copy, R: Copy>(
+fn await_step<A, R>(
     next: &mut BinaryHeap<Reverse<(u64, usize)>>,
     history: &[Step<A, R>],
     place: usize,

@@ -1,12 +1,12 @@
 //! Resizes of a table whose lists hold at most 32 entries each, none of them in an overflow list. Each of them keeps that.
-ghost use Rattle.std.specs.Prelude.{◌≡◌, ◌≢◌, ◌≤◌, ◌<◌, ◌*◌, ◌^◌, ◌↔◌, ℕ, [], length, IsTrue, IfOk, OnErr};
+ghost use Rattle.std.specs.Prelude.{◌≡◌, ◌≢◌, ◌≤◌, ◌<◌, ◌*◌, ◌^◌, ◌↔◌, ℕ, [], true, length, IsTrue, IfOk, OnErr};
 ghost use Rattle.std.specs.List.Sorted.{IsPermutation};
-ghost use Rattle.scc_table.specs.Bounded.{IsListed, MayNarrow, ShrinksBounded};
-ghost use Rattle.scc_table.specs.Contents.{entries, bucket_count, key_hash, list_of, pending_of, settings_of, waiting_of, IsUniqueBy};
+ghost use Rattle.scc_table.specs.Bounded.{IsListed, KeepsLists, MayNarrow, ShrinksBounded};
+ghost use Rattle.scc_table.specs.Contents.{entries, bucket_count, key_hash, list_of, pending_of, refused_of, settings_of, waiting_of, IsUniqueBy};
 ghost use Rattle.scc_table.specs.Pour.{bound_for};
 ghost use Rattle.scc_table.specs.Routing.{bucket_number};
 ghost use Rattle.scc_table.specs.Sizes.{IsArray};
-ghost use Rattle.scc_incremental.specs.Bounded.{DoublesBelow, GrowsBelow};
+ghost use Rattle.scc_incremental.specs.Bounded.{DoublesBelow, GrowsBelow, IsDoublingDue};
 ghost use Rattle.scc_incremental.specs.Relocates.{Spreads};
 
 use super::Incremental;
@@ -19,7 +19,7 @@ impl<E: Keyed, H: BuildHasher> Incremental<E, H>
 where
     E::Key: Eq + Hash,
 {
-    /// The bucket for a new key of that hash. An array is made where there is none, and doubled where no bucket waits, that one holds 32 entries, the table at least half as many entries as slots and fewer slots than `most`: then every bucket of the new array waits. Where memory for the doubling is refused the array stays.
+    /// The bucket for a new key of that hash. An array is made where there is none, and doubled where no bucket waits, that one holds 32 entries, the table at least half as many entries as slots and fewer slots than `most`: then every bucket of the new array waits. Where memory for the doubling is refused, or was just before, the array stays.
     #[inline(always)]
     pub fn bucket_within(&mut self, hash: u64, most: usize) -> Result<usize, AllocError>
         requires listed { IsListed (λ e. key_hash H.BuildHasher H.Hasher.Hasher E.Key.hash_input self.old (E.key_of e)) self.old }
@@ -45,13 +45,13 @@ where
         if self.list_len(bucket) < 32 {
             return Ok(bucket);
         }
-        self.double_within(most);
+        let _ = self.double_within(most);
         Ok(self.bucket_at(hash))
     }
 
-    /// Doubles the number of buckets where no bucket waits, at least half as many entries as slots are held and fewer slots than `most`, unless memory is refused: then every bucket of the new array waits. Takes time by the number of buckets.
+    /// Doubles the number of buckets where no bucket waits, at least half as many entries as slots are held and fewer slots than `most`, unless memory is refused or was just before: then every bucket of the new array waits. Answers whether it was due and was not made. Takes time by the number of buckets.
     #[cold]
-    fn double_within(&mut self, most: usize)
+    pub(super) fn double_within(&mut self, most: usize) -> bool
         requires array { 0 < bucket_count self.old }
         requires listed { IsListed (λ e. key_hash H.BuildHasher H.Hasher.Hasher E.Key.hash_input self.old (E.key_of e)) self.old }
         requires most { most ≤ 2 ^ 63 }
@@ -62,17 +62,27 @@ where
         ensures array { 0 < bucket_count self.new }
         ensures waiting { bucket_count self.new ≡ bucket_count self.old → waiting_of self.new ≡ waiting_of self.old }
         ensures all { bucket_count self.new ≢ bucket_count self.old → pending_of self.new ≡ bucket_count self.new }
+        ensures refused { IsTrue result → IsDoublingDue most self.old × KeepsLists self.old self.new }
+        ensures made { (IsTrue result → ⊥) → IsDoublingDue most self.new → ⊥ }
+        ensures marked { (refused_of self.new).1 ≡ true → self.new ≡ self.old }
         ensures unique { IsUniqueBy E.Key.eq E.key_of self.new }
     {
         self.keep_lists();
         let count = self.bucket_count();
         let length = self.len();
         if self.pending() > 0 || length < 16 * count || 32 * count >= most {
-            return;
+            return false;
+        }
+        if self.is_tried() {
+            self.note(true);
+            return true;
         }
         match self.start(2 * count) {
-            Ok(()) => self.keep_lists(),
-            Err(_) => {}
+            Ok(()) => {
+                self.keep_lists();
+                false
+            }
+            Err(_) => true,
         }
     }
 

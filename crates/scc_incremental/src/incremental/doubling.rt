@@ -37,16 +37,19 @@ where
         count_bound(&self.current, bucket, held, target, self.skipped, count) >= 32
     }
 
-    /// Doubles the number of buckets where memory isn't refused, and answers where the entry at the place stands then, whose hash that is. Its bucket of the new array takes its entries over at once, then the first one that waits does, and all others wait.
-    fn double_around(&mut self, place: Place, hash: u64) -> Place
+    /// Puts twice as many empty buckets in the place of the present ones, and answers where the entry at the place stands then, whose hash that is. Its bucket of the new array takes its entries over at once, then the first one that waits does, and all others wait. Where memory for that bucket is refused, the buckets stay.
+    fn double_around(&mut self, place: Place, fresh: Array<E>, flags: Vec<bool>, hash: u64) -> Place
         requires within { place.bucket < bucket_count self.old }
         requires slot { place.slot < length (list_of self.old place.bucket) }
         requires hashed { (e : E) → slice_get (list_of self.old place.bucket) place.slot ≡ Some e → hash ≡ key_hash H.BuildHasher H.Hasher.Hasher E.Key.hash_input self.old (E.key_of e) }
         requires pending { pending_of self.old ≡ 0 }
         requires below { 32 * bucket_count self.old < 2 ^ 63 }
+        requires empty { fresh ≡ replicate (2 * bucket_count self.old) empty_shelf }
+        requires flags { flags.items ≡ replicate (2 * bucket_count self.old) true }
         ensures rests { Rests self.old self.new }
         ensures doubled { bucket_count self.new ≢ bucket_count self.old → bucket_count self.new ≡ 2 * bucket_count self.old }
-        ensures due { refused_of self.new ≡ false → bucket_count self.new ≢ bucket_count self.old }
+        ensures due { (refused_of self.new).0 ≡ false → bucket_count self.new ≢ bucket_count self.old }
+        ensures unmarked { (refused_of self.new).1 ≡ false }
         ensures within { result.bucket < bucket_count self.new }
         ensures here { slice_get (list_of self.new result.bucket) result.slot ≡ slice_get (list_of self.old place.bucket) place.slot }
         ensures routed { result.bucket ≡ bucket_number (settings_of self.old).skipped (bucket_count self.new) hash }
@@ -67,7 +70,7 @@ where
             self.skipped,
             count,
         );
-        match self.start_at(count, bucket) {
+        match self.start_at(count, fresh, flags, bucket) {
             Ok(()) => {
                 self.note(false);
                 self.relocate_some(1);
@@ -101,7 +104,8 @@ where
         requires absent { position (λ e. E.Key.eq (E.key_of entry) (E.key_of e)) (entries self.old) ≡ None }
         ensures ok { IsInsertedAt self.old entry self.new result }
         ensures buckets { bucket_count self.new ≡ count }
-        ensures down { refused_of self.new ≡ false }
+        ensures down { (refused_of self.new).0 ≡ false }
+        ensures unmarked { (refused_of self.new).1 ≡ false }
         ensures most { count ≤ pending_of self.new + 2 }
         ensures spread { AreShortAmong (λ e. key_hash H.BuildHasher H.Hasher.Hasher E.Key.hash_input self.old (E.key_of e)) count self.old → pending_targets self.new ≡ left_after (bucket_number (settings_of self.old).skipped count hash) (range_with_len 0 count) }
         ensures settled { waits_at (waiting_of self.new) (bucket_number (settings_of self.old).skipped count hash) ≡ false }
@@ -142,7 +146,8 @@ where
         requires absent { position (λ e. E.Key.eq (E.key_of (E.made_of parts)) (E.key_of e)) (entries self.old) ≡ None }
         ensures ok { IfOk result (IsInsertedAt self.old (E.made_of parts) self.new) }
         ensures buckets { OnOk result (bucket_count self.new ≡ count) }
-        ensures down { OnOk result (refused_of self.new ≡ false) }
+        ensures down { OnOk result ((refused_of self.new).0 ≡ false) }
+        ensures unmarked { OnOk result ((refused_of self.new).1 ≡ false) }
         ensures most { OnOk result (count ≤ pending_of self.new + 2) }
         ensures spread { OnOk result (AreShortAmong (λ e. key_hash H.BuildHasher H.Hasher.Hasher E.Key.hash_input self.old (E.key_of e)) count self.old → pending_targets self.new ≡ left_after (bucket_number (settings_of self.old).skipped count hash) (range_with_len 0 count)) }
         ensures settled { OnOk result (waits_at (waiting_of self.new) (bucket_number (settings_of self.old).skipped count hash) ≡ false) }
@@ -159,11 +164,13 @@ where
         }
     }
 
-    /// The same into the present buckets, whose number is doubled afterwards, where memory isn't refused: that bucket, the one of the hash, has the entry first, and then the one of the hash among twice as many takes it over.
+    /// The same into the present buckets, in whose place twice as many empty ones come afterwards: that bucket, the one of the hash, has the entry first, and then the one of the hash among the new ones takes it over, where memory isn't refused.
     #[cold]
     pub(super) fn insert_made_crowded(
         &mut self,
         bucket: usize,
+        fresh: Array<E>,
+        flags: Vec<bool>,
         hash: u64,
         parts: E::Parts,
     ) -> Result<Place, E::Parts>
@@ -173,11 +180,14 @@ where
         requires absent { position (λ e. E.Key.eq (E.key_of (E.made_of parts)) (E.key_of e)) (entries self.old) ≡ None }
         requires pending { pending_of self.old ≡ 0 }
         requires below { 32 * bucket_count self.old < 2 ^ 63 }
+        requires empty { fresh ≡ replicate (2 * bucket_count self.old) empty_shelf }
+        requires flags { flags.items ≡ replicate (2 * bucket_count self.old) true }
         ensures ok { IfOk result (IsInsertedAt self.old (E.made_of parts) self.new) }
         ensures err { IfErr result (λ p. (p ≡ parts) × IsUnchanged self.old self.new) }
         ensures noted { OnErr result (refused_of self.new ≡ refused_of self.old) }
         ensures doubled { bucket_count self.new ≢ bucket_count self.old → bucket_count self.new ≡ 2 * bucket_count self.old }
-        ensures due { OnOk result (refused_of self.new ≡ false → bucket_count self.new ≡ 2 * bucket_count self.old) }
+        ensures due { OnOk result ((refused_of self.new).0 ≡ false → bucket_count self.new ≡ 2 * bucket_count self.old) }
+        ensures unmarked { OnOk result ((refused_of self.new).1 ≡ false) }
         ensures none { bucket_count self.new ≡ bucket_count self.old → pending_of self.new ≡ 0 }
         ensures most { bucket_count self.new ≢ bucket_count self.old → bucket_count self.new ≤ pending_of self.new + 2 }
         ensures spread { OnOk result (bucket_count self.new ≢ bucket_count self.old → AreShortAmong (λ e. key_hash H.BuildHasher H.Hasher.Hasher E.Key.hash_input self.old (E.key_of e)) (bucket_count self.new) self.old → pending_targets self.new ≡ left_after (bucket_number (settings_of self.old).skipped (bucket_count self.new) hash) (range_with_len 0 (bucket_count self.new))) }
@@ -185,8 +195,11 @@ where
         ensures unique { IsUniqueBy E.Key.eq E.key_of self.new }
     {
         match self.put_made_in(bucket, hash, parts) {
-            Ok(place) => Ok(self.double_around(place, hash)),
-            Err(back) => Err(back),
+            Ok(place) => Ok(self.double_around(place, fresh, flags, hash)),
+            Err(back) => {
+                fresh.destroy_empty();
+                Err(back)
+            }
         }
     }
 }

@@ -5,7 +5,7 @@ ghost use Rattle.scc_table.specs.Bounded.{IsBounded};
 ghost use Rattle.scc_table.specs.Contents.{entries, bucket_count, held_of, key_hash, lists_of, pending_of, refused_of, settings_of, waiting_of, HasRoomBy, IsUniqueBy};
 ghost use Rattle.scc_table.specs.OneList.{HasSameLists, IsPutIn};
 ghost use Rattle.scc_table.specs.Routing.{bucket_number};
-ghost use Rattle.scc_table.specs.Steps.{FirstArrayWhenDue, Grows, GrowsWhenDue, IsUnchanged, Rests};
+ghost use Rattle.scc_table.specs.Steps.{FirstArrayWhenDue, Grows, GrowsWhenDue, IsReadyFor, IsUnchanged, Rests};
 ghost use Rattle.scc_incremental.specs.Places.{IsInsertedAt};
 ghost use Rattle.scc_incremental.specs.Relocates.{left_after, AreShort, AreShortAmong};
 ghost use Rattle.scc_incremental.specs.TwoArrays.{IsWaiting, pending_targets, waits_at};
@@ -32,6 +32,7 @@ where
         ensures first { OnOk result (FirstArrayWhenDue self.old self.new) }
         ensures none { OnErr result (bucket_count self.old ≡ 0 → IsUnchanged self.old self.new) }
         ensures kept { HasRoomBy (key_hash H.BuildHasher H.Hasher.Hasher E.Key.hash_input self.old) E.key_of self.old (E.key_of entry) → bucket_count self.new ≡ bucket_count self.old }
+        ensures once { IsReadyFor (key_hash H.BuildHasher H.Hasher.Hasher E.Key.hash_input self.old) E.key_of self.old (E.key_of entry) → bucket_count self.new ≡ bucket_count self.old }
         ensures fewer { 0 < bucket_count self.old → bucket_count self.new ≡ bucket_count self.old → (i : ℕ) → IsWaiting self.new i → IsWaiting self.old i }
         ensures less { 0 < bucket_count self.old → bucket_count self.new ≡ bucket_count self.old → pending_of self.new ≤ pending_of self.old }
         ensures most { 0 < bucket_count self.old → bucket_count self.new ≡ bucket_count self.old → pending_of self.old ≤ pending_of self.new + 2 }
@@ -66,6 +67,7 @@ where
         ensures first { OnOk result (FirstArrayWhenDue self.old self.new) }
         ensures none { OnErr result (bucket_count self.old ≡ 0 → IsUnchanged self.old self.new) }
         ensures kept { HasRoomBy (key_hash H.BuildHasher H.Hasher.Hasher E.Key.hash_input self.old) E.key_of self.old (E.key_of entry) → bucket_count self.new ≡ bucket_count self.old }
+        ensures once { IsReadyFor (key_hash H.BuildHasher H.Hasher.Hasher E.Key.hash_input self.old) E.key_of self.old (E.key_of entry) → bucket_count self.new ≡ bucket_count self.old }
         ensures fewer { 0 < bucket_count self.old → bucket_count self.new ≡ bucket_count self.old → (i : ℕ) → IsWaiting self.new i → IsWaiting self.old i }
         ensures less { 0 < bucket_count self.old → bucket_count self.new ≡ bucket_count self.old → pending_of self.new ≤ pending_of self.old }
         ensures most { 0 < bucket_count self.old → bucket_count self.new ≡ bucket_count self.old → pending_of self.old ≤ pending_of self.new + 2 }

@@ -4,7 +4,7 @@ ghost use Rattle.std.specs.List.{position, range_with_len};
 ghost use Rattle.scc_table.specs.Contents.{entries, bucket_count, held_of, key_hash, pending_of, refused_of, settings_of, waiting_of, HasRoomBy, IsUniqueBy};
 ghost use Rattle.scc_table.specs.OneList.{HasSameLists, IsPutIn};
 ghost use Rattle.scc_table.specs.Routing.{bucket_number};
-ghost use Rattle.scc_table.specs.Steps.{FirstArrayWhenDue, Grows, GrowsWhenDue, IsUnchanged, RaisesWhenDue};
+ghost use Rattle.scc_table.specs.Steps.{FirstArrayWhenDue, Grows, GrowsWhenDue, IsReadyFor, IsUnchanged, RaisesWhenDue};
 ghost use Rattle.scc_incremental.specs.Places.{IsInsertedAt};
 ghost use Rattle.scc_incremental.specs.Relocates.{left_after, AreShort, AreShortAmong};
 ghost use Rattle.scc_incremental.specs.TwoArrays.{IsWaiting, pending_targets, waits_at};
@@ -30,6 +30,7 @@ where
         ensures raised { OnErr result (RaisesWhenDue (key_hash H.BuildHasher H.Hasher.Hasher E.Key.hash_input self.old) E.key_of self.old (E.key_of (E.made_of parts)) self.new) }
         ensures first { OnOk result (FirstArrayWhenDue self.old self.new) }
         ensures kept { HasRoomBy (key_hash H.BuildHasher H.Hasher.Hasher E.Key.hash_input self.old) E.key_of self.old (E.key_of (E.made_of parts)) → bucket_count self.new ≡ bucket_count self.old }
+        ensures once { IsReadyFor (key_hash H.BuildHasher H.Hasher.Hasher E.Key.hash_input self.old) E.key_of self.old (E.key_of (E.made_of parts)) → bucket_count self.new ≡ bucket_count self.old }
         ensures fewer { 0 < bucket_count self.old → bucket_count self.new ≡ bucket_count self.old → (i : ℕ) → IsWaiting self.new i → IsWaiting self.old i }
         ensures less { 0 < bucket_count self.old → bucket_count self.new ≡ bucket_count self.old → pending_of self.new ≤ pending_of self.old }
         ensures most { 0 < bucket_count self.old → bucket_count self.new ≡ bucket_count self.old → pending_of self.old ≤ pending_of self.new + 2 }
@@ -65,7 +66,7 @@ where
         ensures ok { IfOk result (IsInsertedAt self.old (E.made_of parts) self.new) }
         ensures err { IfErr result (λ p. (p ≡ parts) × IsUnchanged self.old self.new) }
         ensures growth { Grows self.old self.new }
-        ensures raised { refused_of self.old ≡ false → refused_of self.new ≡ false }
+        ensures raised { (refused_of self.old).0 ≡ false → (refused_of self.new).0 ≡ false }
         ensures first { OnOk result (FirstArrayWhenDue self.old self.new) }
         ensures waiting { waiting_of self.new ≡ [] }
         ensures unique { IsUniqueBy E.Key.eq E.key_of self.new }
@@ -76,7 +77,7 @@ where
         placed
     }
 
-    /// The same where no bucket waits, and that bucket, the one of the hash, holds 32 entries or more. Where the table holds at least half as many entries as slots, the number of buckets is doubled, unless the array is the greatest or memory for that is refused.
+    /// The same where no bucket waits, and that bucket, the one of the hash, holds 32 entries or more. Where the table holds at least half as many entries as slots, the number of buckets is doubled, unless the array is the greatest, memory for that is refused, or it was refused just before. Memory for the new buckets is asked for first, then the entry is made.
     #[cold]
     fn insert_made_full(
         &mut self,
@@ -92,8 +93,10 @@ where
         ensures ok { IfOk result (IsInsertedAt self.old (E.made_of parts) self.new) }
         ensures err { IfErr result (λ p. (p ≡ parts) × IsUnchanged self.old self.new) }
         ensures growth { Grows self.old self.new }
-        ensures due { OnOk result (32 * bucket_count self.old ≤ 2 * length (entries self.old) → 32 * bucket_count self.old < 2 ^ 63 → refused_of self.new ≡ false → bucket_count self.new ≡ 2 * bucket_count self.old) }
-        ensures raised { refused_of self.old ≡ false → refused_of self.new ≡ true → (32 * bucket_count self.old ≤ 2 * length (entries self.old)) × (32 * bucket_count self.old < 2 ^ 63) }
+        ensures due { OnOk result (32 * bucket_count self.old ≤ 2 * length (entries self.old) → 32 * bucket_count self.old < 2 ^ 63 → (refused_of self.new).0 ≡ false → bucket_count self.new ≡ 2 * bucket_count self.old) }
+        ensures raised { (refused_of self.old).0 ≡ false → (refused_of self.new).0 ≡ true → (32 * bucket_count self.old ≤ 2 * length (entries self.old)) × (32 * bucket_count self.old < 2 ^ 63) }
+        ensures once { (refused_of self.old).1 ≡ true → bucket_count self.new ≡ bucket_count self.old }
+        ensures unmarked { OnOk result (32 * bucket_count self.old ≤ 2 * length (entries self.old) → 32 * bucket_count self.old < 2 ^ 63 → (refused_of self.new).1 ≡ false) }
         ensures fewer { bucket_count self.new ≡ bucket_count self.old → (i : ℕ) → IsWaiting self.new i → IsWaiting self.old i }
         ensures less { bucket_count self.new ≡ bucket_count self.old → pending_of self.new ≤ pending_of self.old }
         ensures grown { bucket_count self.new ≢ bucket_count self.old → bucket_count self.new ≤ pending_of self.new + 2 }
@@ -106,11 +109,16 @@ where
         if length < 16 * count || count >= MOST_BUCKETS {
             return self.insert_made_at(bucket, hash, parts);
         }
-        if self.is_crowded(bucket, hash) {
-            return self.insert_made_crowded(bucket, hash, parts);
+        if self.is_tried() {
+            return self.insert_made_noted(bucket, hash, parts);
         }
         match fresh_waiting(self.current.allocator(), 2 * count) {
-            Ok((fresh, flags)) => self.insert_made_with(2 * count, fresh, flags, hash, parts),
+            Ok((fresh, flags)) => {
+                if self.is_crowded(bucket, hash) {
+                    return self.insert_made_crowded(bucket, fresh, flags, hash, parts);
+                }
+                self.insert_made_with(2 * count, fresh, flags, hash, parts)
+            }
             Err(_) => self.insert_made_noted(bucket, hash, parts),
         }
     }
@@ -129,7 +137,8 @@ where
         ensures ok { IfOk result (IsInsertedAt self.old (E.made_of parts) self.new) }
         ensures err { IfErr result (λ p. (p ≡ parts) × IsUnchanged self.old self.new) }
         ensures buckets { bucket_count self.new ≡ bucket_count self.old }
-        ensures up { refused_of self.new ≡ true }
+        ensures up { (refused_of self.new).0 ≡ true }
+        ensures unmarked { (refused_of self.new).1 ≡ false }
         ensures fewer { (i : ℕ) → IsWaiting self.new i → IsWaiting self.old i }
         ensures less { pending_of self.new ≤ pending_of self.old }
         ensures settled { OnOk result (waits_at (waiting_of self.new) bucket ≡ false) }

@@ -30,14 +30,14 @@ where
         ensures same { OnOk result (IsPermutation (entries self.old) (entries self.new)) }
         ensures waiting { OnOk result (waiting_of self.new ≡ replicate count true) }
         ensures pending { OnOk result (pending_of self.new ≡ count) }
-        ensures down { OnOk result (refused_of self.new ≡ false) }
+        ensures down { OnOk result ((refused_of self.new).0 ≡ false) }
         ensures err { OnErr result (IsUnchanged self.old self.new) }
         ensures fewer { OnErr result ((i : ℕ) → IsWaiting self.new i → IsWaiting self.old i) }
         ensures less { OnErr result (pending_of self.new ≤ pending_of self.old) }
         ensures still { OnErr result (lists_of self.new ≡ lists_of self.old) }
         ensures settings { settings_of self.new ≡ settings_of self.old }
         ensures bounded { IsBounded self.old → AreShort self.old → IsBounded self.new }
-        ensures up { OnErr result (refused_of self.new ≡ true) }
+        ensures up { OnErr result ((refused_of self.new).0 ≡ true) }
         ensures unique { IsUniqueBy E.Key.eq E.key_of self.new }
     {
         match self.finish() {
@@ -59,12 +59,13 @@ where
         ensures same { OnOk result (IsPermutation (entries self.old) (entries self.new)) }
         ensures waiting { OnOk result (waiting_of self.new ≡ replicate count true) }
         ensures pending { OnOk result (pending_of self.new ≡ count) }
-        ensures down { OnOk result (refused_of self.new ≡ false) }
+        ensures down { OnOk result ((refused_of self.new).0 ≡ false) }
         ensures err { OnErr result (lists_of self.new ≡ lists_of self.old) }
         ensures settings { settings_of self.new ≡ settings_of self.old }
         ensures stays { OnErr result (waiting_of self.new ≡ waiting_of self.old) }
         ensures bounded { IsBounded self.old → IsBounded self.new }
-        ensures up { OnErr result (refused_of self.new ≡ true) }
+        ensures up { OnErr result ((refused_of self.new).0 ≡ true) }
+        ensures unmarked { (refused_of self.new).1 ≡ false }
         ensures unique { IsUniqueBy E.Key.eq E.key_of self.new }
     {
         match fresh_waiting(self.current.allocator(), count) {
@@ -84,13 +85,26 @@ where
     pub(super) fn note(&mut self, refused: bool)
         ensures lists { lists_of self.new ≡ lists_of self.old }
         ensures settings { settings_of self.new ≡ settings_of self.old }
-        ensures noted { refused_of self.new ≡ refused }
+        ensures noted { refused_of self.new ≡ (refused, false) }
         ensures spilled { spilled_of self.new ≡ spilled_of self.old }
         ensures waiting { waiting_of self.new ≡ waiting_of self.old }
         ensures held { held_of self.new ≡ held_of self.old }
         ensures unique { IsUniqueBy E.Key.eq E.key_of self.new }
     {
         self.current.note(refused);
+    }
+
+    /// Sets the note of refused memory, and whether the next insertion is not to try the growth again.
+    pub(super) fn mark(&mut self, refused: bool, tried: bool)
+        ensures lists { lists_of self.new ≡ lists_of self.old }
+        ensures settings { settings_of self.new ≡ settings_of self.old }
+        ensures noted { refused_of self.new ≡ (refused, tried) }
+        ensures spilled { spilled_of self.new ≡ spilled_of self.old }
+        ensures waiting { waiting_of self.new ≡ waiting_of self.old }
+        ensures held { held_of self.new ≡ held_of self.old }
+        ensures unique { IsUniqueBy E.Key.eq E.key_of self.new }
+    {
+        self.current.mark(refused, tried);
     }
 
     /// Puts the empty buckets in the place of the present ones, which drain from then on: every one of the new buckets waits, as the flags say.
@@ -118,13 +132,21 @@ where
         self.held_overflow = held_overflow;
     }
 
-    /// Moves to an array of so many buckets, where none waits. That bucket of the new array takes its entries over at once, and every other one waits. Where memory is refused, for the array or for that bucket, all stays.
-    pub(super) fn start_at(&mut self, count: usize, bucket: usize) -> Result<(), AllocError>
+    /// Puts the empty buckets in the place of the present ones, where none waits. That bucket of the new array takes its entries over at once, and every other one waits, as the flags say. Where memory for that bucket is refused, all stays.
+    pub(super) fn start_at(
+        &mut self,
+        count: usize,
+        fresh: Array<E>,
+        mut flags: Vec<bool>,
+        bucket: usize,
+    ) -> Result<(), AllocError>
         requires settled { pending_of self.old ≡ 0 }
         requires array { IsArray count }
         requires some { 0 < bucket_count self.old }
         requires other { count ≢ bucket_count self.old }
         requires within { bucket < count }
+        requires empty { fresh ≡ replicate count empty_shelf }
+        requires flags { flags.items ≡ replicate count true }
         ensures lists { OnOk result (IsRegrouped (λ e. key_hash H.BuildHasher H.Hasher.Hasher E.Key.hash_input self.old (E.key_of e)) count self.old self.new) }
         ensures same { OnOk result (IsPermutation (entries self.old) (entries self.new)) }
         ensures waiting { OnOk result (waiting_of self.new ≡ settle (replicate count true) bucket) }
@@ -132,7 +154,6 @@ where
         ensures err { OnErr result (self.new ≡ self.old) }
         ensures unique { IsUniqueBy E.Key.eq E.key_of self.new }
     {
-        let (fresh, mut flags) = fresh_waiting(self.current.allocator(), count)?;
         let (mut old, held, overflow) = self.current.exchange(fresh, 0, 0);
         match take(
             &mut self.current,

@@ -83,7 +83,7 @@ where
     }
 
     /// The place of the first entry of the bucket.
-    fn first_in(&self, bucket: usize) -> Option<Place>
+    pub(super) fn first_in(&self, bucket: usize) -> Option<Place>
         requires { bucket < bucket_count self.now }
         ensures { MatchOption result (list_of self.now bucket ≡ []) (StandsAt self.now (spots.index_of self.now (record { bucket = bucket; slot = 0 }))) }
     {

@@ -1,5 +1,5 @@
 //! The map for one owner: every call that changes it takes `&mut self`.
-ghost use Rattle.std.specs.Prelude.{◌≡◌, ◌≢◌, ◌<◌, ◌*◌, ◌≤◌, ◌↔◌, List, [], length, Some, None, IsTrue, IsSome, IsOk, IfOk, IfSome, IfNone, OnOk, OnSome, ◌==◌, ◌∷◌, true, IfErr, OnErr, MatchOption, slice_get, remove};
+ghost use Rattle.std.specs.Prelude.{◌≡◌, ◌≢◌, ◌<◌, ◌*◌, ◌≤◌, ◌↔◌, List, [], length, Some, None, IsTrue, IsSome, IsOk, IfOk, IfSome, IfNone, OnOk, OnSome, ◌==◌, ◌∷◌, true, IfErr, OnErr, MatchOption, slice_get, remove, false};
 ghost use Rattle.std.specs.Arc.{arc_value};
 ghost use Rattle.std.specs.Borrow.{Bor, MutBor, sem};
 ghost use Rattle.std.specs.Fn.{FnOnceTakesAtMut};
@@ -9,7 +9,7 @@ ghost use Rattle.scc_table.specs.Pairs.{find, FindsInstead, HasRoom, IsUnique, w
 ghost use Rattle.scc_table.specs.Sizes.{IsArraySize, IsSmaller};
 ghost use Rattle.scc_table.specs.Walks.{CalledOn, CallableWhile, Walks};
 ghost use Rattle.scc_incremental.specs.Places.{IsPlace, IsFoundAt, IsInsertedAt, index_of};
-ghost use Rattle.scc_table.specs.Steps.{FirstArrayWhenDue, Grows, GrowsFor, GrowsWhenDue, Holds, Rests, ShrinksWhenDue};
+ghost use Rattle.scc_table.specs.Steps.{FirstArrayWhenDue, Grows, GrowsFor, GrowsWhenDue, Holds, IsReadyFor, IsUnchanged, MakesRoom, Rests, ShrinksWhenDue};
 ghost use Rattle.scc_incremental.specs.Places.{with_write_at};
 ghost use Rattle.scc_map.specs.ClosureSteps.{UpdatesAt, RemovesIf};
 ghost use Rattle.scc_walks.specs.Closures.{Reads, WritesAt};
@@ -18,6 +18,7 @@ ghost use Rattle.scc_map.specs.MapSteps.{Inserts, Removes, Upserts};
 ghost use Rattle.scc_incremental.specs.Relocations.{Relocates, RelocatesNone, RelocatesTwo};
 
 mod collecting;
+mod copies;
 mod entry;
 mod following;
 mod sizes;
@@ -167,7 +168,7 @@ impl<K: Eq + Hash, V, H: BuildHasher> Owned<K, V, H> {
     /// Whether memory was refused for the last resize that was due. The next one that is made lowers it. Where it is false after a call that had to resize, the map has the size that the rules ask for.
     #[inline(always)]
     pub fn is_resize_refused(&self) -> bool
-        ensures { result ≡ refused_of self.now }
+        ensures { result ≡ (refused_of self.now).0 }
     {
         self.table.is_resize_refused()
     }
@@ -222,6 +223,7 @@ impl<K: Eq + Hash, V, H: BuildHasher> Owned<K, V, H> {
         ensures same { OnErr result ((q : K) → find K.eq (entries self.new) q ≡ find K.eq (entries self.old) q) }
         ensures growth { Grows self.old self.new }
         ensures kept { find K.eq (entries self.old) k ≡ None → HasRoom (key_hash H.BuildHasher H.Hasher.Hasher K.hash_input self.old) self.old k → bucket_count self.new ≡ bucket_count self.old }
+        ensures once { IsReadyFor (key_hash H.BuildHasher H.Hasher.Hasher K.hash_input self.old) (λ p. p.0) self.old k → bucket_count self.new ≡ bucket_count self.old }
         ensures due { find K.eq (entries self.old) k ≡ None → GrowsWhenDue (key_hash H.BuildHasher H.Hasher.Hasher K.hash_input self.old) (λ p. p.0) self.old k self.new }
         ensures first { OnOk result (FirstArrayWhenDue self.old self.new) }
         ensures noted { IsSome (find K.eq (entries self.old) k) → refused_of self.new ≡ refused_of self.old }
@@ -240,6 +242,35 @@ impl<K: Eq + Hash, V, H: BuildHasher> Owned<K, V, H> {
         }
     }
 
+    /// Makes what an insertion of `k` wants, at most one resize: the first array, or twice as many buckets where that is due, all of which wait then. A key that is there wants nothing. A growth that is refused is not tried again by the insertion of `k` that follows, so that it makes no resize in any case; this fails only where the first array is refused.
+    pub fn make_room(&mut self, k: &K) -> Result<(), MakeError>
+        ensures present { IsSome (find K.eq (entries self.old) k.now) → IsOk result × (self.new ≡ self.old) }
+        ensures ok { find K.eq (entries self.old) k.now ≡ None → OnOk result (MakesRoom (key_hash H.BuildHasher H.Hasher.Hasher K.hash_input self.old) (λ p. p.0) self.old (key_hash H.BuildHasher H.Hasher.Hasher K.hash_input self.old k.now) self.new) }
+        ensures err { OnErr result ((find K.eq (entries self.old) k.now ≡ None) × (bucket_count self.old ≡ 0)) }
+        ensures same { OnErr result (IsUnchanged self.old self.new) }
+        ensures settings { settings_of self.new ≡ settings_of self.old }
+        ensures unique { IsUnique K.eq self.new }
+    {
+        let hash = self.table.hash(k);
+        match self.table.search(hash, k) {
+            Some(_) => Ok(()),
+            None => match self.table.make_room(hash) {
+                Ok(()) => Ok(()),
+                Err(_) => Err(MakeError),
+            },
+        }
+    }
+
+    /// An insertion tries a growth that is due, also where `make_room` was refused it.
+    pub fn drop_room(&mut self)
+        ensures same { IsUnchanged self.old self.new }
+        ensures waiting { waiting_of self.new ≡ waiting_of self.old }
+        ensures noted { refused_of self.new ≡ ((refused_of self.old).0, false) }
+        ensures unique { IsUnique K.eq self.new }
+    {
+        self.table.drop_room();
+    }
+
     /// Stores `v` at `k`. A key that is there stays the stored one, the supplied one is dropped, and the old value is answered; this takes no memory. A new key is inserted, and None is answered; refused, the pair comes back.
     #[inline(always)]
     pub fn upsert_sync(&mut self, k: K, v: V) -> Result<Option<V>, InsertError<K, V>>
@@ -251,6 +282,7 @@ impl<K: Eq + Hash, V, H: BuildHasher> Owned<K, V, H> {
         ensures same { OnErr result ((q : K) → find K.eq (entries self.new) q ≡ find K.eq (entries self.old) q) }
         ensures growth { Grows self.old self.new }
         ensures kept { find K.eq (entries self.old) k ≡ None → HasRoom (key_hash H.BuildHasher H.Hasher.Hasher K.hash_input self.old) self.old k → bucket_count self.new ≡ bucket_count self.old }
+        ensures once { IsReadyFor (key_hash H.BuildHasher H.Hasher.Hasher K.hash_input self.old) (λ p. p.0) self.old k → bucket_count self.new ≡ bucket_count self.old }
         ensures due { find K.eq (entries self.old) k ≡ None → GrowsWhenDue (key_hash H.BuildHasher H.Hasher.Hasher K.hash_input self.old) (λ p. p.0) self.old k self.new }
         ensures first { find K.eq (entries self.old) k ≡ None → OnOk result (FirstArrayWhenDue self.old self.new) }
         ensures noted { IsSome (find K.eq (entries self.old) k) → refused_of self.new ≡ refused_of self.old }

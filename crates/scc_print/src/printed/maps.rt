@@ -3,7 +3,7 @@
 use crate::printed::Printed;
 use crate::texts::add_reply_line;
 use scc_map::hash_map::Owned;
-use scc_recorded::recorded::Reply;
+use scc_recorded::recorded::{MapCall, Reply};
 use scc_table::Verdict;
 use std::alloc::AllocError;
 use std::fmt::Write;
@@ -44,6 +44,18 @@ impl<H: BuildHasher> Printed for Owned<u64, u64, H> {
     fn count_reply(count: usize) -> Reply<u64, u64> {
         Reply::Count(count)
     }
+
+    fn same_call(call: &MapCall<u64, u64>) -> MapCall<u64, u64> {
+        *call
+    }
+
+    fn same_reply(reply: &Reply<u64, u64>) -> Reply<u64, u64> {
+        *reply
+    }
+
+    fn equal_calls() {}
+
+    fn equal_replies() {}
 
     fn exact_calls() {}
 

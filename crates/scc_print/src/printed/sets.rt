@@ -2,7 +2,7 @@
 
 use crate::printed::Printed;
 use crate::texts::add_key_reply_line;
-use scc_recorded::recorded::Reply;
+use scc_recorded::recorded::{Reply, SetCall};
 use scc_set::hash_set::Owned;
 use scc_table::Verdict;
 use std::alloc::AllocError;
@@ -43,6 +43,18 @@ impl<H: BuildHasher> Printed for Owned<u64, H> {
     fn count_reply(count: usize) -> Reply<u64, ()> {
         Reply::Count(count)
     }
+
+    fn same_call(call: &SetCall<u64>) -> SetCall<u64> {
+        *call
+    }
+
+    fn same_reply(reply: &Reply<u64, ()>) -> Reply<u64, ()> {
+        *reply
+    }
+
+    fn equal_calls() {}
+
+    fn equal_replies() {}
 
     fn exact_calls() {}
 

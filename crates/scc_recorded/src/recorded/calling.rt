@@ -1,5 +1,7 @@
 //! Containers whose calls are values.
-ghost use Rattle.std.specs.Prelude.{◌≡◌, ℕ, ◌*◌, ◌<◌, ◌≤◌, List, ◌∷◌, ◌++◌, length, Option, Some, None, IfOk, OnErr, MatchOption};
+ghost use Rattle.std.specs.Prelude.{◌≡◌, ℕ, ◌*◌, ◌<◌, ◌≤◌, List, ◌∷◌, ◌++◌, ◌⊎◌, ◌≢◌, true, length, Option, Some, None, IfOk, IsSome, OnErr, MatchOption};
+ghost use Rattle.std.specs.Cmp.{IsPartialEquivalence};
+ghost use Rattle.scc_recorded.specs.Copies.{Alike, ClonesEqual, MayNotClone};
 ghost use Rattle.scc_recorded.specs.Changes.{Changes, Stays};
 ghost use Rattle.scc_recorded.specs.Made.{IsMadeFor};
 ghost use Rattle.scc_recorded.specs.Parts.{Routed, KeyRouted, RoutedFrom};
@@ -20,9 +22,9 @@ pub trait Calls: Sized {
 
     type Hasher: BuildHasher;
 
-    type Call: Copy + PartialEq;
+    type Call: Clone + PartialEq;
 
-    type Reply: Copy + PartialEq;
+    type Reply: Clone + PartialEq;
 
     // What calls read and change.
     ghost State: { Type 0 };
@@ -59,6 +61,12 @@ pub trait Calls: Sized {
     // Memory for the call may be refused in this state.
     ghost may_refuse: { Setting Self.Hasher → State → Self.Call → Type 0 };
 
+    // The call may bring in a key. Only such a call makes an array or a growth, and none of them makes the buckets fewer.
+    ghost adds: { Self.Call → Type 0 };
+
+    // All is made that the call wants: it makes no growth now, and its reply equals this one.
+    ghost is_ready: { Self → Self.Call → Self.Reply → Type 0 };
+
     ghost whole: { List State → Whole };
 
     // In a container of so many parts, the call of the part with that number may give the reply and lead from the first whole to the second.
@@ -71,12 +79,27 @@ pub trait Calls: Sized {
     fn key(call: &Self::Call) -> Option<&Self::Key>
         ensures { MatchOption result (key_of call.now ≡ None) (λ k. key_of call.now ≡ Some k.now) };
 
+    /// Makes the first array or the growth that the call wants, at most one resize, and answers two copies of the reply that the call gives next. Where it is refused, the contents are unchanged.
+    fn ready(&mut self, call: &Self::Call) -> Result<(Self::Reply, Self::Reply), Refused>
+        requires clones { ClonesEqual Self.Reply.is_clone Self.Reply.eq }
+        ensures setting { setting self.new ≡ setting self.old }
+        ensures stays { Stays size (resizes (setting self.old)) (state self.old) (state self.new) }
+        ensures grows { size (state self.old) ≤ size (state self.new) }
+        ensures adds { size (state self.new) ≢ size (state self.old) → adds call.now }
+        ensures ready { IfOk result (λ r. is_ready self.new call.now r.0 × is_ready self.new call.now r.1) }
+        ensures refused { OnErr result (may_refuse (setting self.old) (state self.old) call.now ⊎ (IsSome (key_of call.now) × MayNotClone Self.Reply.is_infallible)) }
+        ensures still { may_refuse (setting self.old) (state self.new) call.now → may_refuse (setting self.old) (state self.old) call.now };
+
     /// Makes the call.
     fn call(&mut self, call: Self::Call) -> Result<Self::Reply, Refused>
+        requires clones { ClonesEqual Self.Reply.is_clone Self.Reply.eq }
         ensures setting { setting self.new ≡ setting self.old }
         ensures ok { IfOk result (λ r. Changes size (moves (setting self.old)) (resizes (setting self.old)) (state self.old) call r (state self.new)) }
         ensures err { OnErr result (Stays size (resizes (setting self.old)) (state self.old) (state self.new)) }
-        ensures refused { OnErr result (may_refuse (setting self.old) (state self.old) call) };
+        ensures refused { OnErr result (may_refuse (setting self.old) (state self.old) call ⊎ (IsSome (key_of call) × MayNotClone Self.Reply.is_infallible)) }
+        ensures answer { (copy : Self.Reply) → is_ready self.old call copy → IfOk result (λ r. Self.Reply.eq r copy ≡ true) }
+        ensures made { (copy : Self.Reply) → is_ready self.old call copy → size (state self.new) ≤ size (state self.old) }
+        ensures kept { adds call → size (state self.old) ≤ size (state self.new) };
 
     /// The number of buckets, 0 where there is no array.
     fn buckets(&self) -> usize
@@ -99,6 +122,10 @@ pub trait Calls: Sized {
 
     // Parts that are made alike have one maximum.
     ghost one_limit: { (asked slots m n : ℕ) → limits asked slots m → limits asked slots n → m ≡ n };
+
+    // A call and a reply mean the same as those that equal them.
+    ghost moves_alike: { (g : Setting Self.Hasher) (old new : State) (call copy : Self.Call) (reply given : Self.Reply)
+        → IsPartialEquivalence Self.Call.eq → IsPartialEquivalence Self.Reply.eq → Alike Self.Call.eq call copy → Alike Self.Reply.eq reply given → moves g old call reply new → moves g old copy given new };
 
     // Where every key of every part, and the call's, routes to its own part, a step of one part is a step of the whole.
     ghost call_is_whole: { (g : Setting Self.Hasher) (n : ℕ) (before after : List State) (old new : State) (call : Self.Call) (reply : Self.Reply)

@@ -1,9 +1,9 @@
-//! The calls of each kind that concern a whole part.
+//! The calls that concern a whole part, and those of the map.
 ghost use Rattle.std.specs.Prelude.{◌≡◌, ℕ, List, [], length, Option, None, Some, MatchOption};
 ghost use Rattle.scc_recorded.specs.declared.recorded.fixed.Setting.{Setting};
 ghost use Rattle.scc_recorded.specs.WholeLaws.{told_by};
 
-use crate::recorded::{CacheCall, Calls, IndexCall, MapCall, Reply, SetCall};
+use crate::recorded::{Calls, MapCall, Reply};
 use std::hash::{BuildHasher, Hash};
 
 /// A container with a call that clears it and a call that counts its entries.
@@ -32,11 +32,16 @@ pub trait WholeCalls: Calls {
 
     // The count of a part is the number of its keys.
     ghost counts_all: { (Self.key_of counts ≡ None) × ((g : Setting Self.Hasher) (s t : Self.State) (r : Self.Reply) → Self.moves g s counts r t → told r ≡ Some (length (Self.keys s))) };
+
+    // Neither is ever refused for memory.
+    ghost never_refused: { (g : Setting Self.Hasher) (s : Self.State) → (Self.may_refuse g s clears → ⊥) × (Self.may_refuse g s counts → ⊥) };
 }
 
-impl<K: Eq + Hash + Copy, V: Copy + PartialEq, H: BuildHasher> WholeCalls
+impl<K: Eq + Hash + Clone, V: Clone + PartialEq, H: BuildHasher> WholeCalls
     for scc_map::hash_map::Owned<K, V, H> {
-    ghost use Rattle.std.specs.Prelude.{refl};
+    ghost use Rattle.std.proofs.Common.{refl, rules, ◌∙◌};
+    ghost use Rattle.scc_recorded.specs.Means.{means_of, told_alike};
+    ghost use Rattle.scc_recorded.specs.MapCalls.{MapMoves};
     ghost use Rattle.scc_recorded.specs.WholeLaws.{told_by, map_clears, map_counts};
     ghost use Rattle.scc_recorded.specs.declared.recorded.calls_as_values.MapCall.TheVariants.{Clear, Len};
 
@@ -58,101 +63,15 @@ impl<K: Eq + Hash + Copy, V: Copy + PartialEq, H: BuildHasher> WholeCalls
         count_of(reply)
     }
 
-    ghost clears_all = { (refl, λ g s t r m. map_clears K.eq s t r m) };
+    ghost clears_all = { (refl, λ g s t r m. means_of ⟦<MapCall<K, V> as PartialEq>⟧.eq ⟦<Reply<K, V> as PartialEq>⟧.eq (MapMoves K.eq) Clear (Prim.search rules) s t r (λ given a h. map_clears K.eq s t given h) m) };
 
-    ghost counts_all = { (refl, λ g s t r m. map_counts K.eq s t r m) };
-}
+    ghost counts_all = { (refl, λ g s t r m. means_of ⟦<MapCall<K, V> as PartialEq>⟧.eq ⟦<Reply<K, V> as PartialEq>⟧.eq (MapMoves K.eq) Len (Prim.search rules) s t r (λ given a h. told_alike ⟦<Reply<K, V> as PartialEq>⟧.eq told_by (Prim.search rules) given r a ∙ map_counts K.eq s t given h) m) };
 
-impl<K: Eq + Hash + Copy, H: BuildHasher> WholeCalls for scc_set::hash_set::Owned<K, H> {
-    ghost use Rattle.std.specs.Prelude.{refl};
-    ghost use Rattle.scc_recorded.specs.WholeLaws.{told_by, set_clears, set_counts};
-    ghost use Rattle.scc_recorded.specs.declared.recorded.calls_as_values.SetCall.TheVariants.{Clear, Len};
-
-    ghost clears = { Clear };
-
-    ghost counts = { Len };
-
-    ghost told = { told_by };
-
-    fn clear_call() -> SetCall<K> {
-        SetCall::Clear
-    }
-
-    fn len_call() -> SetCall<K> {
-        SetCall::Len
-    }
-
-    fn told(reply: &Reply<K, ()>) -> Option<usize> {
-        count_of(reply)
-    }
-
-    ghost clears_all = { (refl, λ g s t r m. set_clears K.eq s t r m) };
-
-    ghost counts_all = { (refl, λ g s t r m. set_counts K.eq s t r m) };
-}
-
-impl<K: Eq + Hash + Copy, V: Copy + PartialEq, H: BuildHasher> WholeCalls
-    for scc_index::hash_index::Owned<K, V, H> {
-    ghost use Rattle.std.specs.Prelude.{refl};
-    ghost use Rattle.scc_recorded.specs.WholeLaws.{told_by, map_clears, map_counts};
-    ghost use Rattle.scc_recorded.specs.declared.recorded.calls_as_values.IndexCall.TheVariants.{Clear, Len};
-
-    ghost clears = { Clear };
-
-    ghost counts = { Len };
-
-    ghost told = { told_by };
-
-    fn clear_call() -> IndexCall<K, V> {
-        IndexCall::Clear
-    }
-
-    fn len_call() -> IndexCall<K, V> {
-        IndexCall::Len
-    }
-
-    fn told(reply: &Reply<K, V>) -> Option<usize> {
-        count_of(reply)
-    }
-
-    ghost clears_all = { (refl, λ g s t r m. map_clears K.eq s t r m) };
-
-    ghost counts_all = { (refl, λ g s t r m. map_counts K.eq s t r m) };
-}
-
-impl<K: Eq + Hash + Copy, V: Copy + PartialEq, H: BuildHasher> WholeCalls
-    for scc_cache::hash_cache::Owned<K, V, H> {
-    ghost use Rattle.std.specs.Prelude.{refl};
-    ghost use Rattle.scc_table.specs.Hashing.{hash_of};
-    ghost use Rattle.scc_recorded.specs.CacheCalls.{number_by};
-    ghost use Rattle.scc_recorded.specs.WholeLaws.{told_by, cache_clears, cache_counts};
-    ghost use Rattle.scc_recorded.specs.declared.recorded.calls_as_values.CacheCall.TheVariants.{Clear, Len};
-
-    ghost clears = { Clear };
-
-    ghost counts = { Len };
-
-    ghost told = { told_by };
-
-    fn clear_call() -> CacheCall<K, V> {
-        CacheCall::Clear
-    }
-
-    fn len_call() -> CacheCall<K, V> {
-        CacheCall::Len
-    }
-
-    fn told(reply: &Reply<K, V>) -> Option<usize> {
-        count_of(reply)
-    }
-
-    ghost clears_all = { (refl, λ g s t r m. cache_clears K.eq (number_by (λ h k. hash_of H.BuildHasher H.Hasher.Hasher h (K.hash_input k)) g) s t r m) };
-
-    ghost counts_all = { (refl, λ g s t r m. cache_counts K.eq (number_by (λ h k. hash_of H.BuildHasher H.Hasher.Hasher h (K.hash_input k)) g) s t r m) };
+    ghost never_refused = { λ g s. (λ m. m, λ m. m) };
 }
 
 // The number that a reply tells, if it tells one.
-fn count_of<K: Copy, V: Copy>(reply: &Reply<K, V>) -> Option<usize>
+pub(super) fn count_of<K, V>(reply: &Reply<K, V>) -> Option<usize>
     ensures { result ≡ told_by reply.now }
 {
     match reply {

@@ -104,7 +104,7 @@ impl<C: Calls, M: Site<C::Hasher>> Guarded<C, M> {
 }
 
 // The number of call records.
-fn count_of<A: Copy, R: Copy>(history: &[Step<A, R>]) -> u64
+fn count_of<A, R>(history: &[Step<A, R>]) -> u64
     ensures { result ≡ calls_in history.now }
 {
     let mut count: u64 = 0;

@@ -4,6 +4,7 @@ ghost use Rattle.scc_recorded.specs.declared.recorded.fixed.Request.{Request};
 ghost use Rattle.scc_history.specs.Stamps.{Rises};
 
 use crate::recorder::counts::Count;
+use crate::recorder::locked::Locked;
 use crate::recorder::rooms::Room;
 use crate::recorder::{Guarded, Recorded, Site};
 use scc_history::history::{Histories, Stripe};
@@ -33,6 +34,7 @@ where
     pub fn close(self) -> Closed<C, L, M>
         ensures stripes { vec_len result.stripes ≡ self.stripes }
         ensures passes { result.passes ≡ self.passes }
+        ensures hasher { result.hasher ≡ self.hasher }
     {
         let Recorded {
             stripes: _,
@@ -47,7 +49,8 @@ where
         let Room { list } = room.into_inner();
         let mut stripes = list;
         while !locks.is_empty() {
-            stripes.push_reserved(locks.remove(0).into_inner());
+            let Locked { number: _, lock } = locks.remove(0);
+            stripes.push_reserved(lock.into_inner());
         }
         Closed {
             stripes,
@@ -95,6 +98,7 @@ impl<C: Calls, M: Site<C::Hasher>> Guarded<C, M> {
     {
         let Guarded { stripe, share: _ } = self;
         let Stripe {
+            number: _,
             container,
             history,
             last: _,

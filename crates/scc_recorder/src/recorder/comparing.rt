@@ -1,6 +1,7 @@
 //! The passes beside the call records of their numbers.
 ghost use Rattle.std.specs.Prelude.{◌≡◌, ℕ, ◌<◌, [], length, map, IfNone, IfSome, slice_index_or};
 ghost use Rattle.std.specs.List.{AllByRecursion};
+ghost use Rattle.scc_history.specs.Receipts.{seen};
 ghost use Rattle.scc_recorder.specs.Closing.{AllMatch, FirstDisagrees, lesser_of};
 
 use crate::recorder::Pass;
@@ -9,13 +10,13 @@ use scc_recorded::recorded::Calls;
 use std::sync::ledger::Ledger;
 
 // The least pass whose receipts aren't its records, with the first place.
-pub(crate) fn first_disagreement<C: Calls, L: Ledger>(
-    passes: &[Pass<C, L>],
-    records: &[Vec<Receipt<C::Call, C::Reply>>],
+pub(crate) fn first_disagreement<'b, 'a: 'b, C: Calls, L: Ledger>(
+    passes: &'b [Pass<C, L>],
+    records: &'b [Vec<Receipt<&'a C::Call, &'a C::Reply>>],
 ) -> Option<(usize, usize)>
     requires { AllByRecursion (λ n. n < length records.now) (map (λ p. p.log.number) passes.now) }
-    ensures none { IfNone result (AllMatch C.Call.eq C.Reply.eq (λ p. p.log.number) (λ p. p.log.receipts.items) passes.now (λ n. slice_index_or (map (λ v. v.items) records.now) n [])) }
-    ensures some { IfSome result (λ r. FirstDisagrees C.Call.eq C.Reply.eq (λ p. p.log.number) (λ p. p.log.receipts.items) passes.now (λ n. slice_index_or (map (λ v. v.items) records.now) n []) r.0 r.1) }
+    ensures none { IfNone result (AllMatch C.Call.eq C.Reply.eq (λ p. p.log.number) (λ p. p.log.receipts.items) passes.now (λ n. slice_index_or (map (λ v. map seen v.items) records.now) n [])) }
+    ensures some { IfSome result (λ r. FirstDisagrees C.Call.eq C.Reply.eq (λ p. p.log.number) (λ p. p.log.receipts.items) passes.now (λ n. slice_index_or (map (λ v. map seen v.items) records.now) n []) r.0 r.1) }
 {
     let mut first = None;
     for k in 0..passes.len() {

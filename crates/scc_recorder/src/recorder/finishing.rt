@@ -1,14 +1,11 @@
 //! What a run was.
 ghost use Rattle.std.specs.Prelude.{◌≡◌, ℕ, ◌+◌, ◌<◌, ◌≤◌, List, [], length, map, Err, IfOk, IfErr, Some, slice_get, vec_len, vec_capacity};
-ghost use Rattle.std.specs.List.{AllByRecursion};
-ghost use Rattle.scc_recorded.specs.Histories.{Replays, CallsRouted, Run, FirstMisrouted};
-ghost use Rattle.scc_recorded.specs.Made.{IsMadeFor};
+ghost use Rattle.scc_recorded.specs.Histories.{CallsRouted};
 ghost use Rattle.scc_table.specs.Routing.{stripe_of};
-ghost use Rattle.scc_recorded.specs.declared.recorded.fixed.Request.{Request};
-ghost use Rattle.scc_recorded.specs.declared.recorded.fixed.Setting.{Setting};
-ghost use Rattle.scc_history.specs.Orders.{IsMerge, IsOnlyStampOrder, StampsRise, steps_at};
+ghost use Rattle.scc_history.specs.Orders.{IsOnlyStampOrder, steps_at};
 ghost use Rattle.scc_history.specs.Receipts.{AreAll, calls_of};
-ghost use Rattle.scc_recorder.specs.Closing.{AllMatch, FirstDisagrees};
+ghost use Rattle.scc_recorder.specs.Closing.{AllMatch};
+ghost use Rattle.scc_recorder.specs.Finished.{IsFinished, IsRefused};
 
 use crate::recorder::checks::{are_all, misrouted};
 use crate::recorder::comparing::first_disagreement;
@@ -48,20 +45,11 @@ where
     /// It takes time by the number of records times the logarithm of the number of stripes. Where it is refused, all that was handed in comes back unchanged. `Missing` comes first, then `Misrouted`, then `Disagrees`; `Memory` only where memory for a list was refused.
     pub fn finish(self, passes: Vec<Pass<C, L>>) -> Result<Finished<C>, Unfinished<C, L, M>>
         ensures parts { IfOk result (λ f. (f.parts.items ≡ map (λ s. s.stripe.container) self.stripes.items) × (map (λ h. h.items) f.histories.items ≡ map (λ s. s.stripe.history.items) self.stripes.items) × (f.opened.items ≡ map (λ s. s.stripe.opened) self.stripes.items)) }
-        ensures alike { IfOk result (λ f. ∥ ((r : Request C.Hasher) × (M.chosen ≡ Some r) × (r.hasher ≡ self.hasher) × ((g : Setting C.Hasher) × IsMadeFor C.limits r g × AllByRecursion (λ c. C.setting c ≡ g) f.parts.items)) ∥₁) }
-        ensures replays { IfOk result (λ f. (g : Setting C.Hasher) → AllByRecursion (λ c. C.setting c ≡ g) f.parts.items → ∥ Replays (C.moves g) (C.resizes g) (map C.empty f.opened.items) (map (λ h. h.items) f.histories.items) (map C.state f.parts.items) ∥₁) }
-        ensures routed { IfOk result (λ f. CallsRouted C.key_of (stripe_of C.Hasher.BuildHasher C.Hasher.Hasher.Hasher C.Key.Hash.hash_input self.hasher (length f.histories.items)) 0 (map (λ h. h.items) f.histories.items)) }
-        ensures merges { IfOk result (λ f. (g : Setting C.Hasher) → AllByRecursion (λ c. C.setting c ≡ g) f.parts.items → (places : List (ℕ × ℕ)) → IsMerge (map (λ h. h.items) f.histories.items) places
-            → ∥ Run (C.whole_moves g (length f.histories.items)) (C.whole_resizes g (length f.histories.items)) (C.whole (map C.empty f.opened.items)) (steps_at (map (λ h. h.items) f.histories.items) places) (C.whole (map C.state f.parts.items)) ∥₁) }
-        ensures order { IfOk result (λ f. IsOnlyStampOrder (map (λ h. h.items) f.histories.items) f.order.items) }
-        ensures stamps { IfOk result (λ f. StampsRise (map (λ h. h.items) f.histories.items) f.order.items) }
-        ensures complete { IfOk result (λ f. AreAll self.passes (map (λ p. p.log.number) passes.items)) }
-        ensures receipts { IfOk result (λ f. AllMatch C.Call.eq C.Reply.eq (λ p. p.log.number) (λ p. p.log.receipts.items) passes.items (λ n. calls_of n (steps_at (map (λ h. h.items) f.histories.items) f.order.items))) }
+        ensures finished { IfOk result (λ f. IsFinished (record { limits = C.limits; empty = C.empty; key_of = C.key_of; moves = C.moves; resizes = C.resizes; whole = C.whole; whole_moves = C.whole_moves; whole_resizes = C.whole_resizes; setting = C.setting; state = C.state; calls = C.Call.eq; replies = C.Reply.eq; route = stripe_of C.Hasher.BuildHasher C.Hasher.Hasher.Hasher C.Key.Hash.hash_input })
+            (λ p. p.log.number) (λ p. p.log.receipts.items) self.hasher self.passes (map (λ h. h.items) f.histories.items) passes.items M.chosen f.parts.items f.opened.items f.order.items) }
         ensures back { IfErr result (λ u. (u.recorded ≡ self) × (u.passes ≡ passes)) }
-        ensures missing { IfErr result (λ u. u.cause ≡ FinishError.Missing → ¬ AreAll self.passes (map (λ p. p.log.number) passes.items)) }
-        ensures misrouted { IfErr result (λ u. (i j : ℕ) → u.cause ≡ FinishError.Misrouted i j → FirstMisrouted C.key_of (stripe_of C.Hasher.BuildHasher C.Hasher.Hasher.Hasher C.Key.Hash.hash_input self.hasher (vec_len self.stripes)) (map (λ s. s.stripe.history.items) self.stripes.items) i j) }
-        ensures disagrees { IfErr result (λ u. (n k : ℕ) → u.cause ≡ FinishError.Disagrees n k → ∥ ((order : List (ℕ × ℕ)) × IsOnlyStampOrder (map (λ s. s.stripe.history.items) self.stripes.items) order
-            × FirstDisagrees C.Call.eq C.Reply.eq (λ p. p.log.number) (λ p. p.log.receipts.items) passes.items (λ m. calls_of m (steps_at (map (λ s. s.stripe.history.items) self.stripes.items) order)) n k) ∥₁) }
+        ensures refused { IfErr result (λ u. IsRefused (record { limits = C.limits; empty = C.empty; key_of = C.key_of; moves = C.moves; resizes = C.resizes; whole = C.whole; whole_moves = C.whole_moves; whole_resizes = C.whole_resizes; setting = C.setting; state = C.state; calls = C.Call.eq; replies = C.Reply.eq; route = stripe_of C.Hasher.BuildHasher C.Hasher.Hasher.Hasher C.Key.Hash.hash_input })
+            (λ p. p.log.number) (λ p. p.log.receipts.items) u.recorded.hasher u.recorded.passes (map (λ s. s.stripe.history.items) u.recorded.stripes.items) u.passes.items u.cause) }
     {
         let order = match self.order_of(passes.as_slice()) {
             Ok(order) => order,
@@ -108,10 +96,8 @@ where
         ensures routed { IfOk result (λ v. CallsRouted C.key_of (stripe_of C.Hasher.BuildHasher C.Hasher.Hasher.Hasher C.Key.Hash.hash_input self.now.hasher (vec_len self.now.stripes)) 0 (map (λ s. s.stripe.history.items) self.now.stripes.items)) }
         ensures order { IfOk result (λ v. IsOnlyStampOrder (map (λ s. s.stripe.history.items) self.now.stripes.items) v.items) }
         ensures receipts { IfOk result (λ v. AllMatch C.Call.eq C.Reply.eq (λ p. p.log.number) (λ p. p.log.receipts.items) passes.now (λ n. calls_of n (steps_at (map (λ s. s.stripe.history.items) self.now.stripes.items) v.items))) }
-        ensures missing { result ≡ Err FinishError.Missing → ¬ AreAll self.now.passes (map (λ p. p.log.number) passes.now) }
-        ensures misrouted { (i j : ℕ) → result ≡ Err (FinishError.Misrouted i j) → FirstMisrouted C.key_of (stripe_of C.Hasher.BuildHasher C.Hasher.Hasher.Hasher C.Key.Hash.hash_input self.now.hasher (vec_len self.now.stripes)) (map (λ s. s.stripe.history.items) self.now.stripes.items) i j }
-        ensures disagrees { (n k : ℕ) → result ≡ Err (FinishError.Disagrees n k) → ∥ ((order : List (ℕ × ℕ)) × IsOnlyStampOrder (map (λ s. s.stripe.history.items) self.now.stripes.items) order
-            × FirstDisagrees C.Call.eq C.Reply.eq (λ p. p.log.number) (λ p. p.log.receipts.items) passes.now (λ m. calls_of m (steps_at (map (λ s. s.stripe.history.items) self.now.stripes.items) order)) n k) ∥₁ }
+        ensures refused { IfErr result (λ cause. IsRefused (record { limits = C.limits; empty = C.empty; key_of = C.key_of; moves = C.moves; resizes = C.resizes; whole = C.whole; whole_moves = C.whole_moves; whole_resizes = C.whole_resizes; setting = C.setting; state = C.state; calls = C.Call.eq; replies = C.Reply.eq; route = stripe_of C.Hasher.BuildHasher C.Hasher.Hasher.Hasher C.Key.Hash.hash_input })
+            (λ p. p.log.number) (λ p. p.log.receipts.items) self.now.hasher self.now.passes (map (λ s. s.stripe.history.items) self.now.stripes.items) passes.now cause) }
     {
         let Ok(complete) = are_all(self.alloc, passes, self.passes) else {
             return Err(FinishError::Memory);
@@ -144,18 +130,14 @@ impl<C: Calls + Drop, L: Ledger, M: Site<C::Hasher>> Recorded<C, L, M>
 where
     C::Hasher: Drop,
 {
-    /// [`Recorded::close`], and then [`Closed::finish`].
+    /// What the run was: [`Recorded::close`], and then [`Closed::finish`], with its costs and its refusals. Where it is refused, the stripes come back out of their locks, so a further try is [`Closed::finish`].
     pub fn finish(self, passes: Vec<Pass<C, L>>) -> Result<Finished<C>, Unfinished<C, L, M>>
-        ensures complete { IfOk result (λ f. AreAll self.passes (map (λ p. p.log.number) passes.items)) }
-        ensures replays { IfOk result (λ f. (g : Setting C.Hasher) → AllByRecursion (λ c. C.setting c ≡ g) f.parts.items → ∥ Replays (C.moves g) (C.resizes g) (map C.empty f.opened.items) (map (λ h. h.items) f.histories.items) (map C.state f.parts.items) ∥₁) }
-        ensures merges { IfOk result (λ f. (g : Setting C.Hasher) → AllByRecursion (λ c. C.setting c ≡ g) f.parts.items → (places : List (ℕ × ℕ)) → IsMerge (map (λ h. h.items) f.histories.items) places
-            → ∥ Run (C.whole_moves g (length f.histories.items)) (C.whole_resizes g (length f.histories.items)) (C.whole (map C.empty f.opened.items)) (steps_at (map (λ h. h.items) f.histories.items) places) (C.whole (map C.state f.parts.items)) ∥₁) }
-        ensures order { IfOk result (λ f. IsOnlyStampOrder (map (λ h. h.items) f.histories.items) f.order.items) }
-        ensures stamps { IfOk result (λ f. StampsRise (map (λ h. h.items) f.histories.items) f.order.items) }
-        ensures receipts { IfOk result (λ f. AllMatch C.Call.eq C.Reply.eq (λ p. p.log.number) (λ p. p.log.receipts.items) passes.items (λ n. calls_of n (steps_at (map (λ h. h.items) f.histories.items) f.order.items))) }
+        ensures finished { IfOk result (λ f. IsFinished (record { limits = C.limits; empty = C.empty; key_of = C.key_of; moves = C.moves; resizes = C.resizes; whole = C.whole; whole_moves = C.whole_moves; whole_resizes = C.whole_resizes; setting = C.setting; state = C.state; calls = C.Call.eq; replies = C.Reply.eq; route = stripe_of C.Hasher.BuildHasher C.Hasher.Hasher.Hasher C.Key.Hash.hash_input })
+            (λ p. p.log.number) (λ p. p.log.receipts.items) self.hasher self.passes (map (λ h. h.items) f.histories.items) passes.items M.chosen f.parts.items f.opened.items f.order.items) }
         ensures stripes { IfOk result (λ f. vec_len f.parts ≡ self.stripes) }
-        ensures passes { IfErr result (λ u. (u.passes ≡ passes) × (vec_len u.recorded.stripes ≡ self.stripes) × (u.recorded.passes ≡ self.passes)) }
-        ensures missing { IfErr result (λ u. u.cause ≡ FinishError.Missing → ¬ AreAll self.passes (map (λ p. p.log.number) passes.items)) }
+        ensures back { IfErr result (λ u. (u.passes ≡ passes) × (vec_len u.recorded.stripes ≡ self.stripes) × (u.recorded.passes ≡ self.passes) × (u.recorded.hasher ≡ self.hasher)) }
+        ensures refused { IfErr result (λ u. IsRefused (record { limits = C.limits; empty = C.empty; key_of = C.key_of; moves = C.moves; resizes = C.resizes; whole = C.whole; whole_moves = C.whole_moves; whole_resizes = C.whole_resizes; setting = C.setting; state = C.state; calls = C.Call.eq; replies = C.Reply.eq; route = stripe_of C.Hasher.BuildHasher C.Hasher.Hasher.Hasher C.Key.Hash.hash_input })
+            (λ p. p.log.number) (λ p. p.log.receipts.items) u.recorded.hasher u.recorded.passes (map (λ s. s.stripe.history.items) u.recorded.stripes.items) u.passes.items u.cause) }
     {
         self.close().finish(passes)
     }

@@ -1,8 +1,11 @@
 //! What a lock guards.
-ghost use Rattle.std.specs.Prelude.{◌≡◌, ℕ, ◌+◌, ◌*◌, ◌<◌, ◌≤◌, List, [], ◌∷◌, ◌++◌, Err, length, IfOk, OnOk, OnErr, Option, Some};
+ghost use Rattle.std.specs.Prelude.{◌≡◌, ℕ, ◌+◌, ◌*◌, ◌<◌, ◌≤◌, ◌⊎◌, List, [], ◌∷◌, ◌++◌, Err, IsSome, length, IfOk, OnOk, OnErr, Option, Some};
 ghost use Rattle.scc_recorded.specs.Made.{IsMadeFor};
 ghost use Rattle.scc_recorded.specs.declared.recorded.fixed.Request.{Request};
-ghost use Rattle.scc_history.specs.Stamps.{receipt, calls_in};
+ghost use Rattle.scc_history.specs.Stamps.{calls_in};
+ghost use Rattle.scc_history.specs.Kept.{AddsReceipt};
+ghost use Rattle.scc_recorded.specs.Copies.{ClonesEqual, MayNotClone};
+ghost use Rattle.scc_recorder.specs.Adds.{MayAnswer};
 
 use crate::recorder::counts::Count;
 use crate::recorder::{Pass, Site};
@@ -27,6 +30,7 @@ impl<C: Calls, M: Site<C::Hasher>> Guarded<C, M> {
     // An empty stripe, which takes one part of the ledger.
     pub(crate) fn open(
         alloc: Global,
+        number: usize,
         skipped: u32,
         slots: usize,
         maximum: usize,
@@ -40,23 +44,27 @@ impl<C: Calls, M: Site<C::Hasher>> Guarded<C, M> {
         requires part { (0 < all.old.parts) × (all.old.amount ≡ 0) }
         ensures { OnOk result ((all.new.parts + 1 ≡ all.old.parts) × (all.new.amount ≡ 0)) }
     {
-        let stripe = Stripe::open(alloc, skipped, slots, maximum, hasher)?;
+        let stripe = Stripe::open(alloc, number, skipped, slots, maximum, hasher)?;
         let share = all.split_off(1, 0);
         Ok(Guarded { stripe, share })
     }
 
-    // One step, counted in both books.
+    // One step of the stripe of that number, counted in both books.
     pub(crate) fn step<L: Ledger, R: Wait>(
         &mut self,
         rt: &R,
+        number: usize,
         pass: &mut Pass<C, L>,
         count: &Mutex<Count<L, M>>,
         call: C::Call,
     ) -> Result<C::Reply, CallError>
+        requires calls { ClonesEqual C.Call.is_clone C.Call.eq }
+        requires replies { ClonesEqual C.Reply.is_clone C.Reply.eq }
         ensures number { pass.new.log.number ≡ pass.old.log.number }
-        ensures ok { IfOk result (λ r. (pass.old.log.clock < pass.new.log.clock) × (pass.new.log.receipts.items ≡ pass.old.log.receipts.items ++ receipt pass.new.log.clock call r ∷ [])) }
+        ensures ok { IfOk result (λ r. (pass.old.log.clock < pass.new.log.clock) × AddsReceipt C.Call.is_clone C.Reply.eq number pass.new.log.clock call r pass.old.log.receipts.items pass.new.log.receipts.items) }
         ensures err { OnErr result ((pass.new.log.clock ≡ pass.old.log.clock) × (pass.new.log.receipts.items ≡ pass.old.log.receipts.items)) }
-        ensures refused { result ≡ Err CallError.Container → C.may_refuse (C.setting self.old.stripe.container) (C.state self.old.stripe.container) call }
+        ensures answers { IfOk result (λ r. MayAnswer C.moves call r) }
+        ensures refused { result ≡ Err CallError.Container → C.may_refuse (C.setting self.old.stripe.container) (C.state self.old.stripe.container) call ⊎ (IsSome (C.key_of call) × MayNotClone C.Reply.is_infallible) }
     {
         let Guarded {
             stripe,
@@ -66,6 +74,7 @@ impl<C: Calls, M: Site<C::Hasher>> Guarded<C, M> {
             log,
             share: receipts,
         } = pass;
+        stripe.number = number;
         let reply = stripe.step(log, call)?;
         count.lock(rt).add(receipts, records);
         Ok(reply)

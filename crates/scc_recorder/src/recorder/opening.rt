@@ -5,6 +5,7 @@ ghost use Rattle.scc_recorder.specs.Setups.{IsStripes, request_of, share_of, ski
 
 use crate::recorder::counts::Count;
 use crate::recorder::lists::list_for;
+use crate::recorder::locked::Locked;
 use crate::recorder::rooms::Room;
 use crate::recorder::setups::{bits_for, slots_for};
 use crate::recorder::{Guarded, Pass, Recorded, Setup, Site};
@@ -35,7 +36,7 @@ where
         requires all { M.all ≡ stripes }
         requires stripes { IsStripes stripes }
         requires passes { 0 < passes }
-        ensures stripes { IfOk result (λ r. (r.0.stripes ≡ stripes) × (r.0.passes ≡ passes)) }
+        ensures stripes { IfOk result (λ r. (r.0.stripes ≡ stripes) × (r.0.passes ≡ passes) × (r.0.hasher ≡ setup.hasher)) }
         ensures numbers { IfOk result (λ r. map (λ p. p.log.number) r.1.items ≡ range_with_len 0 passes) }
         ensures new { IfOk result (λ r. AllByRecursion (λ p. (p.log.clock ≡ 0) × (p.log.receipts.items ≡ [])) r.1.items) }
     {
@@ -100,22 +101,24 @@ fn lock_all<C: Calls + Drop, M: Site<C::Hasher>>(
     stripes: usize,
     hasher: &C::Hasher,
     rest: Part<M>,
-) -> Result<Vec<Mutex<Guarded<C, M>>>, MakeError>
+) -> Result<Vec<Locked<C, M>>, MakeError>
 where
     C::Hasher: Share + Drop,
     requires site { M.chosen ≡ Some (record { hasher = hasher.now; skipped = skipped; slots = slots; maximum = maximum }) }
     requires skipped { skipped ≤ 4 }
     requires part { (rest.parts ≡ stripes) × (rest.amount ≡ 0) }
-    ensures { IfOk result (λ v. vec_len v ≡ stripes) }
+    ensures len { IfOk result (λ v. vec_len v ≡ stripes) }
+    ensures numbers { IfOk result (λ v. map (λ l. l.number) v.items ≡ range_with_len 0 stripes) }
 {
     let mut rest = rest;
     let mut locks = Vec::new(alloc);
-    for _i in 0..stripes {
+    for number in 0..stripes {
         let Ok(shared) = hasher.share() else {
             return Err(MakeError);
         };
-        let guarded = Guarded::open(alloc, skipped, slots, maximum, shared, &mut rest)?;
-        if locks.push(Mutex::new(guarded)).is_err() {
+        let guarded = Guarded::open(alloc, number, skipped, slots, maximum, shared, &mut rest)?;
+        let lock = Mutex::new(guarded);
+        if locks.push(Locked { number, lock }).is_err() {
             return Err(MakeError);
         }
     }

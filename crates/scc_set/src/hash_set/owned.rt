@@ -1,11 +1,11 @@
 //! The set for one owner: every call that changes it takes `&mut self`.
-ghost use Rattle.std.specs.Prelude.{◌≡◌, ◌≢◌, ◌<◌, ◌≤◌, ◌*◌, ◌↔◌, [], length, Some, None, IsTrue, IsSome, IsOk, IfErr, IfNone, IfOk, OnErr, OnOk, OnSome};
+ghost use Rattle.std.specs.Prelude.{◌≡◌, ◌≢◌, ◌<◌, ◌≤◌, ◌*◌, ◌↔◌, [], length, Some, None, IsTrue, IsSome, IsOk, IfErr, IfNone, IfOk, OnErr, OnOk, OnSome, false};
 ghost use Rattle.std.specs.Arc.{arc_value};
 ghost use Rattle.std.specs.Fn.{FnOnceTakesAt, FnOnceReturnsAt};
 ghost use Rattle.scc_table.specs.Contents.{entries, bucket_count, settings_of, minimum_of, refused_of, waiting_of, key_hash};
 ghost use Rattle.scc_table.specs.Pairs.{find as find_pair, IsUnique as IsUniqueMap};
 ghost use Rattle.scc_table.specs.Sizes.{IsArraySize, IsSmaller};
-ghost use Rattle.scc_table.specs.Steps.{FirstArrayWhenDue, Grows, GrowsWhenDue, HoldsExactly, ShrinksWhenDue};
+ghost use Rattle.scc_table.specs.Steps.{FirstArrayWhenDue, Grows, GrowsWhenDue, HoldsExactly, IsReadyFor, IsUnchanged, MakesRoom, ShrinksWhenDue};
 ghost use Rattle.scc_incremental.specs.Relocations.{Relocates, RelocatesNone, RelocatesTwo};
 ghost use Rattle.scc_set.specs.Keys.{find, with_key, FindsInstead, HasRoom, IsUnique};
 ghost use Rattle.scc_set.specs.SetSteps.{key_answer as key_answer_of, Inserts, Reads, Removes, RemovesIf, Replaces};
@@ -13,6 +13,7 @@ ghost use Rattle.std.specs.Map.{set_key};
 ghost use Rattle.std.specs.Option.{option_map};
 
 mod collecting;
+mod copies;
 mod entry;
 mod places;
 mod sizes;
@@ -170,7 +171,7 @@ impl<K: Eq + Hash, H: BuildHasher> Owned<K, H> {
     /// Whether memory was refused for the last resize that was due. The next one that is made lowers it. Where it is false after a call that had to resize, the set has the size that the rules ask for.
     #[inline(always)]
     pub fn is_resize_refused(&self) -> bool
-        ensures { result ≡ refused_of self.now }
+        ensures { result ≡ (refused_of self.now).0 }
     {
         self.map.is_resize_refused()
     }
@@ -214,6 +215,7 @@ impl<K: Eq + Hash, H: BuildHasher> Owned<K, H> {
         ensures finds { OnOk result (FindsInstead K.eq (entries self.old) k (Some k) (entries self.new)) }
         ensures same { OnErr result ((q : K) → find K.eq (entries self.new) q ≡ find K.eq (entries self.old) q) }
         ensures kept { find K.eq (entries self.old) k ≡ None → HasRoom (key_hash H.BuildHasher H.Hasher.Hasher K.hash_input self.old) self.old k → bucket_count self.new ≡ bucket_count self.old }
+        ensures once { IsReadyFor (key_hash H.BuildHasher H.Hasher.Hasher K.hash_input self.old) (λ q. q) self.old k → bucket_count self.new ≡ bucket_count self.old }
         ensures growth { Grows self.old self.new }
         ensures due { find K.eq (entries self.old) k ≡ None → GrowsWhenDue (key_hash H.BuildHasher H.Hasher.Hasher K.hash_input self.old) (λ q. q) self.old k self.new }
         ensures first { OnOk result (FirstArrayWhenDue self.old self.new) }
@@ -226,6 +228,28 @@ impl<K: Eq + Hash, H: BuildHasher> Owned<K, H> {
         key_answer(self.map.insert_sync(k, ()))
     }
 
+    /// Makes what an insertion of `k` wants, at most one resize: the first array, or twice as many buckets where that is due, all of which wait then. A key that is there wants nothing. A growth that is refused is not tried again by the insertion of `k` that follows, so that it makes no resize in any case; this fails only where the first array is refused.
+    pub fn make_room(&mut self, k: &K) -> Result<(), MakeError>
+        ensures present { IsSome (find K.eq (entries self.old) k.now) → IsOk result × (self.new ≡ self.old) }
+        ensures ok { find K.eq (entries self.old) k.now ≡ None → OnOk result (MakesRoom (key_hash H.BuildHasher H.Hasher.Hasher K.hash_input self.old) (λ q. q) self.old (key_hash H.BuildHasher H.Hasher.Hasher K.hash_input self.old k.now) self.new) }
+        ensures err { OnErr result ((find K.eq (entries self.old) k.now ≡ None) × (bucket_count self.old ≡ 0)) }
+        ensures same { OnErr result (IsUnchanged self.old self.new) }
+        ensures settings { settings_of self.new ≡ settings_of self.old }
+        ensures unique { IsUnique K.eq self.new }
+    {
+        self.map.make_room(k)
+    }
+
+    /// An insertion tries a growth that is due, also where `make_room` was refused it.
+    pub fn drop_room(&mut self)
+        ensures same { IsUnchanged self.old self.new }
+        ensures waiting { waiting_of self.new ≡ waiting_of self.old }
+        ensures noted { refused_of self.new ≡ ((refused_of self.old).0, false) }
+        ensures unique { IsUnique K.eq self.new }
+    {
+        self.map.drop_room();
+    }
+
     /// Puts `k` in the place of the key that equals it, and answers the old one; this takes no memory. Where no key equals it, it is inserted, and None is answered; refused, it comes back.
     #[inline(always)]
     pub fn replace_sync(&mut self, k: K) -> Result<Option<K>, KeyError<K>>
@@ -235,6 +259,7 @@ impl<K: Eq + Hash, H: BuildHasher> Owned<K, H> {
         ensures finds { OnOk result (FindsInstead K.eq (entries self.old) k (Some k) (entries self.new)) }
         ensures same { OnErr result ((q : K) → find K.eq (entries self.new) q ≡ find K.eq (entries self.old) q) }
         ensures kept { find K.eq (entries self.old) k ≡ None → HasRoom (key_hash H.BuildHasher H.Hasher.Hasher K.hash_input self.old) self.old k → bucket_count self.new ≡ bucket_count self.old }
+        ensures once { IsReadyFor (key_hash H.BuildHasher H.Hasher.Hasher K.hash_input self.old) (λ q. q) self.old k → bucket_count self.new ≡ bucket_count self.old }
         ensures growth { Grows self.old self.new }
         ensures due { find K.eq (entries self.old) k ≡ None → GrowsWhenDue (key_hash H.BuildHasher H.Hasher.Hasher K.hash_input self.old) (λ q. q) self.old k self.new }
         ensures first { find K.eq (entries self.old) k ≡ None → OnOk result (FirstArrayWhenDue self.old self.new) }

@@ -54,6 +54,7 @@ where
                 reserved: 0,
                 skipped: self.skipped,
                 refused: false,
+                tried: false,
                 hasher,
             }),
             Err(_) => Err(MakeError),

@@ -34,6 +34,7 @@ where
             reserved: 0,
             skipped,
             refused: false,
+            tried: false,
             hasher,
         }
     }
@@ -68,6 +69,7 @@ where
                 reserved: 0,
                 skipped,
                 refused: false,
+                tried: false,
                 hasher,
             }),
             Err(_) => Err(MakeError),

@@ -1,5 +1,5 @@
 //! How many slots a table keeps at least, and the note of a resize that was refused.
-ghost use Rattle.std.specs.Prelude.{◌≡◌, ◌≢◌, ◌≤◌, ◌<◌, ◌+◌, ◌-◌, ◌*◌, ◌^◌, ◌↔◌, IsTrue};
+ghost use Rattle.std.specs.Prelude.{◌≡◌, ◌≢◌, ◌≤◌, ◌<◌, ◌+◌, ◌-◌, ◌*◌, ◌^◌, ◌↔◌, IsTrue, false, true};
 ghost use Rattle.scc_table.specs.Contents.{entries, bucket_count, settings_of, refused_of, minimum_of, pending_of, lists_of, spilled_of, IsUniqueBy};
 ghost use Rattle.scc_table.specs.Sizes.{IsArraySize};
 ghost use Rattle.scc_table.specs.Steps.{IsUnchanged, ReachesMinimumWhenDue, Releases, Reserves, Resizes, ShrinksWhenDue};
@@ -40,9 +40,30 @@ where
         ensures lists { lists_of self.new ≡ lists_of self.old }
         ensures settings { settings_of self.new ≡ settings_of self.old }
         ensures spilled { spilled_of self.new ≡ spilled_of self.old }
-        ensures noted { refused_of self.new ≡ refused }
+        ensures noted { refused_of self.new ≡ (refused, false) }
     {
         self.refused = refused;
+        self.tried = false;
+    }
+
+    /// Whether the next insertion is not to try the growth that is due: it was refused just before.
+    #[inline(always)]
+    pub fn is_tried(&self) -> bool
+        ensures { result ≡ (refused_of self.now).1 }
+    {
+        self.tried
+    }
+
+    /// Notes that memory was refused, and whether the next insertion is not to try the growth again.
+    pub fn mark(&mut self, refused: bool, tried: bool)
+        ensures unchanged { IsUnchanged self.old self.new }
+        ensures lists { lists_of self.new ≡ lists_of self.old }
+        ensures settings { settings_of self.new ≡ settings_of self.old }
+        ensures spilled { spilled_of self.new ≡ spilled_of self.old }
+        ensures noted { refused_of self.new ≡ (refused, tried) }
+    {
+        self.refused = refused;
+        self.tried = tried;
     }
 
     /// Sets the number of reserved slots alone.

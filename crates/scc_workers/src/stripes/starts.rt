@@ -91,7 +91,7 @@ impl Gate for GivesUp {
 }
 
 #[test]
-fn gate_gives_up_one_worker(rt: HostRuntime) -> Result<(), Fail> {
+fn workers_gate_gives_up(rt: HostRuntime) -> Result<(), Fail> {
     let mut work = [all(), all()];
     let ended = run(&rt, rt.alloc(), &mut work, &GivesUp);
     assert!(rt; matches!(ended, Err(RunError::Gate)));
@@ -101,7 +101,7 @@ fn gate_gives_up_one_worker(rt: HostRuntime) -> Result<(), Fail> {
 }
 
 #[test]
-fn gate_comes_before_a_stopped_worker(rt: HostRuntime) -> Result<(), Fail> {
+fn workers_false_turn_and_gate(rt: HostRuntime) -> Result<(), Fail> {
     let mut work = [up_to(2), all()];
     let ended = run(&rt, rt.alloc(), &mut work, &GivesUp);
     assert!(rt; matches!(ended, Err(RunError::Gate)));
@@ -111,7 +111,7 @@ fn gate_comes_before_a_stopped_worker(rt: HostRuntime) -> Result<(), Fail> {
 }
 
 #[test]
-fn worker_stops(rt: HostRuntime) -> Result<(), Fail> {
+fn workers_false_turn_alone(rt: HostRuntime) -> Result<(), Fail> {
     let mut work = [all(), all(), up_to(0)];
     let ended = run(&rt, rt.alloc(), &mut work, &Open);
     assert!(rt; matches!(ended, Err(RunError::Stopped)));
@@ -121,35 +121,61 @@ fn worker_stops(rt: HostRuntime) -> Result<(), Fail> {
     Ok(())
 }
 
-// Counts what comes to the gate.
+// Notes what comes to the gate: each turn of each worker has a digit of its own, which counts how often it came.
 #[derive(Drop)]
-struct Counts {
+struct Notes {
     before: AtomicU64,
     after: AtomicU64,
 }
 
-impl Gate for Counts {
-    fn before(&self, _worker: usize, _j: usize) -> bool {
-        self.before.fetch_add(1, Ordering::SeqCst);
+// The digit of a turn, to base 16.
+fn digit(worker: usize, j: usize) -> u64 {
+    match u32::try_from(worker.wrapping_mul(5).wrapping_add(j)) {
+        Ok(place) => 1u64.wrapping_shl(place.wrapping_mul(4)),
+        Err(_) => 0,
+    }
+}
+
+impl Gate for Notes {
+    fn before(&self, worker: usize, j: usize) -> bool {
+        self.before.fetch_add(digit(worker, j), Ordering::SeqCst);
         true
     }
 
-    fn after(&self, _worker: usize, _j: usize) {
-        self.after.fetch_add(1, Ordering::SeqCst);
+    fn after(&self, worker: usize, j: usize) {
+        self.after.fetch_add(digit(worker, j), Ordering::SeqCst);
     }
 }
 
 #[test]
 fn gate_is_passed_before_and_after_each_turn(rt: HostRuntime) -> Result<(), Fail> {
-    let gate = Counts {
+    let gate = Notes {
         before: AtomicU64::new(0),
         after: AtomicU64::new(0),
     };
     let mut work = [all(), up_to(1)];
     let ended = run(&rt, rt.alloc(), &mut work, &gate);
     assert!(rt; matches!(ended, Err(RunError::Stopped)));
-    assert_eq!(rt; gate.before.load(Ordering::SeqCst), 7);
-    assert_eq!(rt; gate.after.load(Ordering::SeqCst), 7);
+    assert_eq!(rt; gate.before.load(Ordering::SeqCst), 0x0111_1111);
+    assert_eq!(rt; gate.after.load(Ordering::SeqCst), 0x0111_1111);
+    Ok(())
+}
+
+#[test]
+fn more_workers_than_bits_of_a_word(rt: HostRuntime) -> Result<(), Fail> {
+    let mut work = Vec::new(rt.alloc());
+    for _ in 0..70u8 {
+        work.push(all())?;
+    }
+    work.push(up_to(1))?;
+    work.push(all())?;
+    let ended = run(&rt, rt.alloc(), work.as_mut_slice(), &Open);
+    assert!(rt; matches!(ended, Err(RunError::Stopped)));
+    let mut made = 0usize;
+    for turns in work.iter() {
+        made = made.saturating_add(turns.made);
+    }
+    assert_eq!(rt; made, 71 * 5 + 2);
     Ok(())
 }
 

@@ -1,5 +1,5 @@
 //! A thread for each worker.
-ghost use Rattle.std.specs.Prelude.{◌≡◌, Ok, Err, true, false};
+ghost use Rattle.std.specs.Prelude.{◌≡◌, ◌↔◌, ◌⊎◌, IsTrue, Ok, Err, true, false};
 
 use crate::stripes::{Gate, RunError, Work};
 use std::alloc::Global;
@@ -70,18 +70,26 @@ fn start_all<'s, E, S: Starter, W: Work + Send, G: Gate + Sync>(
     true
 }
 
+// What is known of the workers once one more has ended: whether the gate gave up one of them, and whether a turn of one answered false.
+fn with_end(known: (bool, bool), end: End) -> (bool, bool)
+    ensures gave_up { IsTrue result.0 ↔ (IsTrue known.0 ⊎ (end ≡ End.Gate)) }
+    ensures stopped { IsTrue result.1 ↔ (IsTrue known.1 ⊎ (end ≡ End.Stopped)) }
+{
+    let (gave_up, stopped) = known;
+    match end {
+        End::Done => (gave_up, stopped),
+        End::Gate => (true, stopped),
+        End::Stopped => (gave_up, true),
+    }
+}
+
 // Waits for each of the threads: whether the gate gave up one of them, and whether a turn of one answered false.
 fn join_all<R: Threads + Wait>(rt: &R, handles: Vec<JoinHandle<End>>) -> (bool, bool) {
-    let mut gave_up = false;
-    let mut stopped = false;
+    let mut known = (false, false);
     for handle in handles {
-        match handle.join(rt) {
-            End::Done => {}
-            End::Gate => gave_up = true,
-            End::Stopped => stopped = true,
-        }
+        known = with_end(known, handle.join(rt));
     }
-    (gave_up, stopped)
+    known
 }
 
 // The first cause in their order.

@@ -1,11 +1,11 @@
 //! What is done at a place of a cache.
-ghost use Rattle.std.specs.Prelude.{◌≡◌, ◌<◌, true, Some, IfOk, IfErr, OnOk, OnSome, MatchOption, slice_get};
+ghost use Rattle.std.specs.Prelude.{◌≡◌, ◌<◌, false, true, Some, IfOk, IfErr, OnOk, OnSome, MatchOption, slice_get};
 ghost use Rattle.std.specs.Borrow.{sem};
-ghost use Rattle.scc_table.specs.Contents.{entries, bucket_count, list_of, key_hash, settings_of, waiting_of};
+ghost use Rattle.scc_table.specs.Contents.{entries, bucket_count, list_of, key_hash, refused_of, settings_of, waiting_of};
 ghost use Rattle.scc_table.specs.Routing.{bucket_number};
 ghost use Rattle.scc_incremental.specs.Places.{IsPlace, index_of, spot_of};
 ghost use Rattle.scc_incremental.specs.TwoArrays.{IsWaiting};
-ghost use Rattle.scc_cache.specs.CacheSteps.{IsFound, IsLacking, IsLastAt, PutsNew, TakesAt};
+ghost use Rattle.scc_cache.specs.CacheSteps.{IsFound, IsLacking, IsLastAt, IsReadyFor, PutsNew, TakesAt};
 ghost use Rattle.scc_cache.specs.Caches.{IsCacheState};
 ghost use Rattle.scc_cache.specs.Lends.{lends_value, with_key_at, with_value_at};
 ghost use Rattle.scc_cache.specs.Relocations.{RelocatesNone, RelocatesOne, RelocatesTwo};
@@ -41,7 +41,7 @@ impl<K: Eq + Hash, V, H: BuildHasher> Owned<K, V, H> {
         self.table.pair_at(place)
     }
 
-    /// Puts in a pair whose key is new, and answers what it drove out, and its place.
+    /// Puts in a pair whose key is new, and answers what it drove out, and its place. The mark of a refused growth goes.
     #[inline(always)]
     pub(crate) fn put_at(
         &mut self,
@@ -56,9 +56,12 @@ impl<K: Eq + Hash, V, H: BuildHasher> Owned<K, V, H> {
         ensures refused { IfErr result (λ p. (p ≡ (k, v)) × (bucket_count self.old.contents ≡ 0) × (self.new ≡ self.old)) }
         ensures state { IsCacheState K.eq (key_hash H.BuildHasher H.Hasher.Hasher K.hash_input self.new.contents) self.new }
         ensures relocates { OnOk result (RelocatesTwo (key_hash H.BuildHasher H.Hasher.Hasher K.hash_input self.old.contents k) self.old.contents self.new.contents) }
+        ensures once { IsReadyFor (key_hash H.BuildHasher H.Hasher.Hasher K.hash_input self.old.contents) self.old k → bucket_count self.new.contents ≡ bucket_count self.old.contents }
+        ensures unmarked { OnOk result ((refused_of self.new.contents).1 ≡ false) }
     {
         match self.table.bucket_within(hash, self.maximum) {
             Ok(bucket) => {
+                self.table.drop_room_within();
                 let evicted = self.table.put_within(bucket, hash, (k, v));
                 let slot = self.table.list_len(bucket) - 1;
                 Ok((evicted, Place { bucket, slot }))

@@ -14,6 +14,8 @@ use Rattle.scc_script.specs.Hashes.{same_write}
 use Rattle.scc_script.specs.declared.same.Same.{Same}
 use Rattle.scc_print.specs.Finished.{script_setting, key_number}
 use Rattle.scc_print.proofs.Drained.{all-entries}
+use Rattle.scc_recorded.specs.Means.{means_same}
+use Rattle.scc_recorded.proofs.Runs.{run-as}
 use Rattle.scc_print.proofs.Results.{if_ok}
 use Rattle.scc_print.proofs.alone.run_cache.Goals as goal
 
@@ -37,7 +39,7 @@ returns c = if_ok c.run_on.result c.run_on.ensures (λ text o.
     let made = c.with_hasher-cache.result in
     let Run : (ℕ → ℕ → ℕ) → Setting Same → List (List (ℕ × ℕ)) → Type 0 = λ number g s. IsRun (CacheMoves nat_eq number) (CacheResizes g number) s c.args.calls.now o.replies (lists_of o.last.contents) in
     let setting = setting-is made c.with_hasher-cache.ensures.settings c.with_hasher-cache.ensures.maximum in
-    let fixed = subst (λ g. Run (number_by hash_of_key g) g (lists_of made.contents)) setting o.run in
+    let fixed = subst (λ g. Run (number_by hash_of_key g) g (lists_of made.contents)) setting (run-as (λ s call reply t. means_same _ _ (CacheMoves nat_eq (number_by hash_of_key (cache_setting made))) c.are_exact.ensures.calls c.are_exact.ensures.replies s t call reply) o.run) in
     let started = subst (λ s. Run (number_by hash_of_key script_setting) script_setting s) (no-lists made.contents c.with_hasher-cache.ensures.buckets) fixed in
     let numbers : number_by hash_of_key script_setting ≡ key_number = λ i n k. own-number n k i in
     record {

@@ -1,4 +1,4 @@
-use Rattle.std.proofs.Common.{rules, Some, subst, nat_eq}
+use Rattle.std.proofs.Common.{rules, Some, subst, sym, nat_eq}
 use Rattle.std.specs.Cmp.{nat_eq_equiv}
 use Rattle.scc_table.specs.Contents.{entries}
 use Rattle.scc_table.specs.Pairs.{find, FindsInstead}
@@ -16,4 +16,5 @@ returns-clause-counted c =
     let pair = counted c.args.counts.now c.args.word _ _ (λ m n says. search rules) c.entry_sync.result (occupied_pair o) c.entry_sync.ensures.entry h.0 in
     let finds : FindsInstead nat_eq (entries c.args.counts.now) c.args.word (Some (c.args.word, one_more (find nat_eq (entries c.args.counts.now) c.args.word))) (entries o.guard.now) =
     subst (λ q. FindsInstead nat_eq (entries c.args.counts.now) c.args.word (Some q) (entries o.guard.now)) pair h.1 in
-    search (rules, finds)
+    let last = c.counts-in_ok-counts-1.given.1 (search rules) in
+    subst (λ e. FindsInstead nat_eq (entries c.args.counts.now) c.args.word (Some (c.args.word, one_more (find nat_eq (entries c.args.counts.now) c.args.word))) (entries e)) (sym last) finds

@@ -7,6 +7,7 @@ use Rattle.scc_map.specs.Entries.{occupied_pair}
 use Rattle.scc_uses.proofs.memo.get_or_insert.Goals as goal
 
 pub returns-clause-stored : goal.returns-clause-stored
+unfolding entries
 returns-clause-stored c =
     let o = c.in_ok-entry.entry in
     let h : FindsInstead nat_eq (entries c.args.values.now) c.args.key (Some (occupied_pair o)) (entries o.guard.now) =

@@ -38,5 +38,5 @@ loop-place-preserved g c =
     let step = item_at c.history.result.now p.1 c.index-history-place.result (omega (arith, stand.1, long)) c.index-history-place.is in
     record {
       len = search rules;
-      records = λ n d h. c.in_ok-tell.ensures.told n d (omega (arith, h, c.loop-place.invariant.len)) ∙ ap (λ l. l ++ calls_of n ((0, c.index-history-place.result) ∷ [])) (c.loop-place.invariant.records n d h) ∙ sym (calls_next n hs c.args.order.now c.loop-place.place-index p c.history.result.now c.index-history-place.result c.loop-place-test.true refl at step);
+      records = λ n d h. c.in_ok-tell.ensures.told n d (omega (arith, h, c.loop-place.invariant.len)) ∙ ap (λ l. l ++ calls_of n ((p.0, c.index-history-place.result) ∷ [])) (c.loop-place.invariant.records n d h) ∙ sym (calls_next n hs c.args.order.now c.loop-place.place-index p c.history.result.now c.index-history-place.result c.loop-place-test.true refl at step);
     }

@@ -1,4 +1,4 @@
-use Rattle.std.proofs.Common.{◌≡◌, ◌∙◌, ℕ, ◌*◌, ◌<◌, inl, inr, true, false, length, take, sym, ap, subst, arith}
+use Rattle.std.proofs.Common.{◌≡◌, ◌∙◌, ℕ, ◌*◌, ◌<◌, inl, inr, true, false, length, take, sym, ap, subst, arith, Bool}
 use Rattle.std.specs.List.{range_with_len, slice_get}
 use Rattle.std.specs.List.Sorted.{IsPermutation}
 use Rattle.scc_array.proofs.Gets.{get-some}
@@ -297,7 +297,7 @@ returns-in-Err-clause-due g c =
     let lists = c.note-in-Err.ensures.lists ∙ ap lists_of same in
     let settings = c.note-in-Err.ensures.settings ∙ ap settings_of same in
     let count = count-same a d lists in
-    λ down. absurd (let z : true ≡ false = sym c.note-in-Err.ensures.noted ∙ down in cc)
+    λ down. absurd (let z : true ≡ false = sym (ap (λ (x : Bool × Bool). x.0) c.note-in-Err.ensures.noted) ∙ down in cc)
 
 pub returns-in-Err-clause-within : goal.returns-in-Err-clause-within
 returns-in-Err-clause-within g c =

@@ -29,7 +29,7 @@ returns-in-Ok-clause-doubles g c =
       bounded = c.start.ensures.bounded c.requires.listed.bounded;
     } in
     let due : IsDoublingDue c.args.most a = record { settled = omega arith; half = omega arith; below = omega arith } in
-    doubles due r.down size resized
+    doubles due (sym c.is_tried.ensures ∙ c.if-is_tried.false) r.down size resized
 
 pub returns-in-Ok-clause-listed : goal.returns-in-Ok-clause-listed
 returns-in-Ok-clause-listed g c =
@@ -62,3 +62,17 @@ returns-in-Err-clause-array g c = let n = count-same c.args.self.now c.start.new
 
 pub returns-in-Err-clause-all : goal.returns-in-Err-clause-all
 returns-in-Err-clause-all g c = λ ne. absurd (ne (count-same c.args.self.now c.start.new.self c.in-Err.ensures.err))
+
+pub returns-then-is_tried-clause-same : goal.returns-then-is_tried-clause-same
+returns-then-is_tried-clause-same g c =
+    let a = c.args.self.now in
+    subst (λ es. IsPermutation (entries a) es) (sym (entries-same a c.note.new.self c.note.ensures.lists)) (IsPermutation-refl (entries a))
+
+pub returns-then-is_tried-clause-listed : goal.returns-then-is_tried-clause-listed
+returns-then-is_tried-clause-listed g c = listed-later (λ s (e : g.row.E.Denot). hash_of g.H.BuildHasher g.H.Hasher.Hasher s.hasher (g.E.Key.Hash.hash_input (g.E.Keyed.key_of e))) c.args.self.now c.note.new.self c.note.ensures.lists c.note.ensures.settings (c.note.ensures.spilled ∙ c.requires.listed.bounded) c.requires.listed
+
+pub returns-then-is_tried-clause-array : goal.returns-then-is_tried-clause-array
+returns-then-is_tried-clause-array g c = let n = count-same c.args.self.now c.note.new.self c.note.ensures.lists in omega (arith, c.requires.array)
+
+pub returns-then-is_tried-clause-all : goal.returns-then-is_tried-clause-all
+returns-then-is_tried-clause-all g c = λ ne. absurd (ne (count-same c.args.self.now c.note.new.self c.note.ensures.lists))

@@ -50,3 +50,23 @@ returns-in-Err-clause-array g c = let same = count-same c.args.self.now c.start.
 
 pub returns-in-Ok-clause-stays : goal.returns-in-Ok-clause-stays
 returns-in-Ok-clause-stays g c = let n = c.in-Ok.ensures.lists.count in λ z. absurd (omega (arith, c.requires.some, c.bucket_count-count.ensures.count))
+
+pub returns-then-is_tried-clause-rests : goal.returns-then-is_tried-clause-rests
+returns-then-is_tried-clause-rests g c = inl (unchanged-same c.args.self.now c.note.new.self c.note.ensures.lists c.note.ensures.settings)
+
+pub returns-then-is_tried-clause-growth : goal.returns-then-is_tried-clause-growth
+returns-then-is_tried-clause-growth g c =
+    let same = count-same c.args.self.now c.note.new.self c.note.ensures.lists in
+    record { first = λ z ne. absurd (ne same); half = λ z ne. absurd (ne same); below = λ z ne. absurd (ne same); doubled = λ z ne. absurd (ne same) }
+
+pub returns-then-is_tried-clause-all : goal.returns-then-is_tried-clause-all
+returns-then-is_tried-clause-all g c = λ ne. absurd (ne (count-same c.args.self.now c.note.new.self c.note.ensures.lists))
+
+pub returns-then-is_tried-clause-lists : goal.returns-then-is_tried-clause-lists
+returns-then-is_tried-clause-lists g c = λ ne. absurd (ne (count-same c.args.self.now c.note.new.self c.note.ensures.lists))
+
+pub returns-then-is_tried-clause-array : goal.returns-then-is_tried-clause-array
+returns-then-is_tried-clause-array g c = let same = count-same c.args.self.now c.note.new.self c.note.ensures.lists in omega (arith, c.requires.some)
+
+pub returns-then-is_tried-clause-once : goal.returns-then-is_tried-clause-once
+returns-then-is_tried-clause-once g c = λ tried. count-same c.args.self.now c.note.new.self c.note.ensures.lists

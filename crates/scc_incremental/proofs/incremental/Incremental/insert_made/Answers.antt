@@ -1,4 +1,4 @@
-use Rattle.std.proofs.Common.{◌≡◌, ◌==◌, ◌∙◌, ◌<◌, true, false, length, sym, ap, arith}
+use Rattle.std.proofs.Common.{◌≡◌, ◌==◌, ◌∙◌, ◌<◌, inl, inr, true, false, length, sym, ap, arith, Bool}
 use Rattle.std.specs.List.{count_by}
 use Rattle.std.proofs.lemmas.List.{nil_from_length}
 use Rattle.scc_table.specs.Contents.{HasRoomAt, bucket_count, entries, key_hash, list_of, pending_of, settings_of}
@@ -6,7 +6,9 @@ use Rattle.scc_table.specs.Routing.{bucket_number}
 use Rattle.scc_incremental.specs.TwoArrays.{pending_targets}
 use Rattle.scc_relocation.proofs.Arriving.{any-ok}
 use Rattle.scc_incremental.proofs.Finishing.{pending-is}
+use Rattle.scc_incremental.proofs.Grown.{on-both}
 use Rattle.scc_incremental.proofs.Listed.{count-listed}
+use Rattle.scc_incremental.proofs.Once.{once-made}
 use Rattle.scc_incremental.proofs.Placing.{none-left}
 use Rattle.scc_incremental.proofs.Same.{any-err, on-ok}
 use Rattle.scc_incremental.proofs.Targets.{all-but-two, by-two, targets-length}
@@ -19,7 +21,7 @@ returns-then-bucket_count-eq0-clause-array g c =
 pub returns-then-pending-gt0-clause-due : goal.returns-then-pending-gt0-clause-due
 returns-then-pending-gt0-clause-due g c =
     let p = c.pending.ensures in
-    any-ok c.insert_made_at.result (record { doubled = λ some none. absurd (let q = c.if-pending-gt0.true in omega arith); raised = λ low up. absurd (let z : true ≡ false = sym up ∙ c.insert_made_at.ensures.refused ∙ low in cc) })
+    any-ok c.insert_made_at.result (record { doubled = λ some none. absurd (let q = c.if-pending-gt0.true in omega arith); raised = λ low up. absurd (let z : true ≡ false = sym up ∙ ap (λ (x : Bool × Bool). x.0) c.insert_made_at.ensures.refused ∙ low in cc); unmarked = λ some none. absurd (let q = c.if-pending-gt0.true in omega arith) })
 
 pub returns-then-list_len-lt32-clause-due : goal.returns-then-list_len-lt32-clause-due
 returns-then-list_len-lt32-clause-due g c =
@@ -30,7 +32,7 @@ returns-then-list_len-lt32-clause-due g c =
     let held : count_by (λ (e : g.row.E.Denot). bucket_number (settings_of a).skipped (bucket_count a) (hk (g.E.Keyed.key_of e)) == n) (entries a) ≡ length (list_of a i) =
     ap (λ m. count_by (λ (e : g.row.E.Denot). bucket_number (settings_of a).skipped (bucket_count a) (hk (g.E.Keyed.key_of e)) == m) (entries a)) (sym c.bucket_at-bucket.ensures.value) ∙ count-listed (λ (e : g.row.E.Denot). hk (g.E.Keyed.key_of e)) a i c.keep_lists.ensures.routed in
     let long = c.list_len.ensures in
-    any-ok c.insert_made_at-then-list_len-lt32.result (record { doubled = λ some none full. absurd (let room : HasRoomAt hk g.E.Keyed.key_of a c.args.hash = (some, omega arith) in full (rw c.requires.hashed at room)); raised = λ low up. absurd (let z : true ≡ false = sym up ∙ c.insert_made_at-then-list_len-lt32.ensures.refused ∙ low in cc) })
+    any-ok c.insert_made_at-then-list_len-lt32.result (record { doubled = λ some none full. absurd (let room : HasRoomAt hk g.E.Keyed.key_of a c.args.hash = (some, omega arith) in full (rw c.requires.hashed at room)); raised = λ low up. absurd (let z : true ≡ false = sym up ∙ ap (λ (x : Bool × Bool). x.0) c.insert_made_at-then-list_len-lt32.ensures.refused ∙ low in cc); unmarked = λ some none full. absurd (let room : HasRoomAt hk g.E.Keyed.key_of a c.args.hash = (some, omega arith) in full (rw c.requires.hashed at room)) })
 
 pub returns-clause-due : goal.returns-clause-due
 returns-clause-due g c =
@@ -43,7 +45,7 @@ returns-clause-due g c =
     let long = c.list_len.ensures in
     let full : HasRoomAt hk g.E.Keyed.key_of a c.args.hash → ⊥ = λ room. absurd (let r = room.1 in omega arith) in
     let some : 0 < bucket_count a = let z = c.if-bucket_count-eq0.false in let m = c.bucket_count.ensures.count in omega arith in
-    on-ok c.insert_made_full.result (λ due. record { doubled = λ _ _ _ half below few down. due half below down; raised = λ low up. let r = c.insert_made_full.ensures.raised low up in (some, λ room. full (rw c.requires.hashed room), r.0, r.1) }) c.insert_made_full.ensures.due
+    on-both c.insert_made_full.result (λ due unmarked. record { doubled = λ _ _ _ half below few down. due half below down; raised = λ low up. let r = c.insert_made_full.ensures.raised low up in (some, λ room. full (rw c.requires.hashed room), r.0, r.1); unmarked = λ _ _ _ half below. unmarked half below }) c.insert_made_full.ensures.due c.insert_made_full.ensures.unmarked
 
 pub returns-clause-raised : goal.returns-clause-raised
 returns-clause-raised g c =
@@ -116,3 +118,20 @@ returns-clause-by_two g c =
     let p = c.pending.ensures in
     let q = c.if-pending-gt0.false in
     any-ok c.insert_made_full.result (λ some same short. let l = c.insert_made_full.ensures.less same in omega arith)
+
+pub returns-then-bucket_count-eq0-clause-once : goal.returns-then-bucket_count-eq0-clause-once
+returns-then-bucket_count-eq0-clause-once g c = λ ready. absurd (let r = ready.0 in let z = c.requires in let m = c.bucket_count.ensures.count in let e = c.if-bucket_count-eq0.true in omega arith)
+
+pub returns-clause-once : goal.returns-clause-once
+returns-clause-once g c =
+    let a = c.args.self.now in
+    let i = c.bucket_at-bucket.result in
+    let hk = key_hash g.H.BuildHasher g.H.Hasher.Hasher g.E.Key.Hash.hash_input a in
+    let n = bucket_number (settings_of a).skipped (bucket_count a) c.args.hash in
+    let held : count_by (λ (e : g.row.E.Denot). bucket_number (settings_of a).skipped (bucket_count a) (hk (g.E.Keyed.key_of e)) == n) (entries a) ≡ length (list_of a i) =
+    ap (λ m. count_by (λ (e : g.row.E.Denot). bucket_number (settings_of a).skipped (bucket_count a) (hk (g.E.Keyed.key_of e)) == m) (entries a)) (sym c.bucket_at-bucket.ensures.value) ∙ count-listed (λ (e : g.row.E.Denot). hk (g.E.Keyed.key_of e)) a i c.keep_lists.ensures.routed in
+    let long = c.list_len.ensures in
+    let full : HasRoomAt hk g.E.Keyed.key_of a c.args.hash → ⊥ = λ room. absurd (let r = room.1 in omega arith) in
+    let none : pending_of a ≡ 0 = let p = c.pending.ensures in let q = c.if-pending-gt0.false in omega arith in
+    λ ready. once-made hk g.E.Keyed.key_of a c.insert_made_full.new.self c.args.hash c.insert_made_full.ensures.growth (λ room. absurd (full room))
+    (λ some w. elim w as (λ _. bucket_count c.insert_made_full.new.self ≡ bucket_count a) [ inl up ↦ absurd (omega arith) | inr tried ↦ c.insert_made_full.ensures.once tried ]) (rw c.requires.hashed ready)

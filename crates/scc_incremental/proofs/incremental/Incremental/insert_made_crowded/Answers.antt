@@ -207,3 +207,13 @@ returns-in-Err-clause-most g c =
 
 pub put_made_in-requires-clause-settled : goal.put_made_in-requires-clause-settled
 put_made_in-requires-clause-settled g c = settled-all c.args.self.now c.requires.pending c.args.bucket
+
+pub double_around-requires-clause-empty : goal.double_around-requires-clause-empty
+double_around-requires-clause-empty g c =
+    let counted = put-count c.args.self.now c.args.bucket (g.E.Made.made_of c.args.parts) c.put_made_in.new.self c.in-Ok.place c.in-Ok.ensures.exact c.requires.within in
+    rw counted c.requires.empty
+
+pub double_around-requires-clause-flags : goal.double_around-requires-clause-flags
+double_around-requires-clause-flags g c =
+    let counted = put-count c.args.self.now c.args.bucket (g.E.Made.made_of c.args.parts) c.put_made_in.new.self c.in-Ok.place c.in-Ok.ensures.exact c.requires.within in
+    rw counted c.requires.flags

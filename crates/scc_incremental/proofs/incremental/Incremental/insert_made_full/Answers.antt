@@ -39,8 +39,8 @@ pub fresh_waiting-requires : goal.fresh_waiting-requires
 fresh_waiting-requires g c =
     (double-array c.bucket_count-count.result c.bucket_count-count.ensures.lawful (omega (arith, c.requires.within, c.bucket_count-count.ensures.count)) (omega arith)).most
 
-pub returns-in-Ok-clause-spread : goal.returns-in-Ok-clause-spread
-returns-in-Ok-clause-spread g c =
+pub returns-else-is_crowded-clause-spread : goal.returns-else-is_crowded-clause-spread
+returns-else-is_crowded-clause-spread g c =
     let a = c.args.self.now in
     let f = c.insert_made_with.new.self in
     let n = 2 * c.bucket_count-count.result in

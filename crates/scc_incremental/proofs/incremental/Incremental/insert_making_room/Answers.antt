@@ -1,4 +1,4 @@
-use Rattle.std.proofs.Common.{◌≡◌, ◌∙◌, ◌-◌, ◌<◌, ◌≤◌, length, replicate, true, sym, ap, subst, arith}
+use Rattle.std.proofs.Common.{◌≡◌, ◌∙◌, ◌-◌, ◌<◌, ◌≤◌, length, replicate, true, sym, ap, subst, arith, Bool}
 use Rattle.std.specs.List.{count_by}
 use Rattle.scc_table.specs.Contents.{HasRoomAt, bucket_count, entries, key_hash, settings_of, waiting_of}
 use Rattle.scc_table.specs.Pour.{IsRegrouped}
@@ -10,6 +10,7 @@ use Rattle.scc_incremental.specs.TwoArrays.{pending_targets, waits_at}
 use Rattle.scc_incremental.proofs.Finishing.{pending-is}
 use Rattle.scc_incremental.proofs.Grown.{grown-spread}
 use Rattle.scc_incremental.proofs.Same.{if-ok, list-same, on-err, on-ok, pending-same}
+use Rattle.scc_incremental.proofs.Once.{once-made}
 use Rattle.scc_incremental.proofs.Starting.{count-up}
 use Rattle.scc_incremental.proofs.Targets.{all-but-two, by-two, targets-same}
 use Rattle.scc_incremental.proofs.incremental.Incremental.insert_making_room.Goals as goal
@@ -46,10 +47,11 @@ returns-in-Ok-clause-none g c =
 
 pub returns-in-Ok-clause-due : goal.returns-in-Ok-clause-due
 returns-in-Ok-clause-due g c = record {
-  doubled = λ some settled full half below few down. c.insert_at.ensures.buckets ∙ c.bucket_for_new.ensures.due some settled (λ room. full (rw c.requires.hashed at room)) half below (sym c.insert_at.ensures.refused ∙ down);
+  doubled = λ some settled full half below few down. c.insert_at.ensures.buckets ∙ c.bucket_for_new.ensures.due some settled (λ room. full (rw c.requires.hashed at room)) half below (sym (ap (λ (x : Bool × Bool). x.0) c.insert_at.ensures.refused) ∙ down);
   raised = λ low up.
-      let r = c.bucket_for_new.ensures.raised low (sym c.insert_at.ensures.refused ∙ up) in
+      let r = c.bucket_for_new.ensures.raised low (sym (ap (λ (x : Bool × Bool). x.0) c.insert_at.ensures.refused) ∙ up) in
       (r.0, λ room. r.1 (rw c.requires.hashed room), r.2, r.3);
+  unmarked = λ some settled full half below. ap (λ (x : Bool × Bool). x.1) c.insert_at.ensures.refused ∙ c.bucket_for_new.ensures.unmarked some settled (λ room. full (rw c.requires.hashed at room)) half below;
 }
 
 pub returns-in-Ok-clause-less : goal.returns-in-Ok-clause-less
@@ -144,3 +146,11 @@ returns-in-Ok-clause-by_two g c =
     let after : AreShort b = record { short = λ k up. subst (λ z. length z ≤ 32) (sym (list-same a b (made.stays some e) k)) (short.short k (ap (λ v. waits_at v k) (sym w) ∙ up)) } in
     by-two c.in-Ok.bucket b f (h after) ∙ ap (λ m. m - 2) (pending-same a b w))
     c.insert_at.ensures.exact
+
+pub returns-in-Ok-clause-once : goal.returns-in-Ok-clause-once
+returns-in-Ok-clause-once g c =
+    let a = c.args.self.now in
+    let b = c.bucket_for_new.new.self in
+    let made = c.bucket_for_new.ensures in
+    let hk = key_hash g.H.BuildHasher g.H.Hasher.Hasher g.E.Key.Hash.hash_input a in
+    λ ready. c.insert_at.ensures.buckets ∙ once-made hk g.E.Keyed.key_of a b c.args.hash made.growth (λ had. ap bucket_count (made.still had)) (λ some why. made.once some why) (rw (← c.requires.hashed) at ready)

@@ -1,4 +1,4 @@
-use Rattle.std.proofs.Common.{◌≡◌, ◌==◌, ◌∙◌, ◌<◌, length, true, false, sym, ap, arith}
+use Rattle.std.proofs.Common.{◌≡◌, ◌==◌, ◌∙◌, ◌<◌, length, true, false, sym, ap, arith, Bool}
 use Rattle.std.specs.List.{count_by}
 use Rattle.scc_table.specs.Contents.{HasRoomAt, bucket_count, entries, key_hash, list_of, settings_of}
 use Rattle.scc_table.specs.Routing.{bucket_number}
@@ -20,7 +20,10 @@ returns-then-list_len-lt32-clause-due g c =
       doubled = λ some settled full half below few down.
           let had : HasRoomAt hk g.E.Keyed.key_of a c.args.hash = (some, omega arith) in
           absurd (full (rw c.requires.hashed at had));
-      raised = λ low up. absurd (let z : false ≡ true = sym low ∙ sym c.insert_at.ensures.refused ∙ up in cc);
+      raised = λ low up. absurd (let z : false ≡ true = sym low ∙ sym (ap (λ (x : Bool × Bool). x.0) c.insert_at.ensures.refused) ∙ up in cc);
+      unmarked = λ some settled full half below.
+          let had : HasRoomAt hk g.E.Keyed.key_of a c.args.hash = (some, omega arith) in
+          absurd (full (rw c.requires.hashed at had));
     }
 
 pub returns-then-list_len-lt32-clause-by_two : goal.returns-then-list_len-lt32-clause-by_two

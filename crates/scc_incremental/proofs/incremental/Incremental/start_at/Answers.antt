@@ -22,7 +22,7 @@ use Rattle.scc_incremental.proofs.incremental.Incremental.start_at.Goals as goal
 pub exchange-old-requires-clause-unique : goal.exchange-old-requires-clause-unique
 exchange-old-requires-clause-unique g c =
     let none = flat-empty (replicate c.args.count (empty_shelf {E = g.row.E.Denot})) (empty-replicate g.row.E.Denot c.args.count) in
-    rw (c.in_ok-fresh.ensures.buckets, none) (IsDistinct-nil g.E.Key.PartialEq.eq)
+    rw (c.requires.empty, none) (IsDistinct-nil g.E.Key.PartialEq.eq)
 
 pub take-requires-clause-target : goal.take-requires-clause-target
 take-requires-clause-target g c =
@@ -42,7 +42,7 @@ take-requires-clause-target g c =
     let inv : IsIncremental g.E.Key.PartialEq.eq key hk cur t.waiting.items t.draining t.skipped t.pending t.next t.held t.held_overflow = subst (λ (h : g.row.E-Key.Denot → ℕ). IsIncremental g.E.Key.PartialEq.eq key h cur t.waiting.items t.draining t.skipped t.pending t.next t.held t.held_overflow) (sym same) c.self.invariant in
     let view : together (λ e. hk (key e)) cur t.waiting.items t.draining ≡ a = subst (λ (h : g.row.E-Key.Denot → ℕ). together (λ e. h (key e)) cur t.waiting.items t.draining ≡ a) (sym same) c.self.view_is in
     let table : IsTable (λ e. hk (key e)) (settings_of cur).skipped olds c.exchange-old.result.1 over = subst (λ (h : g.row.E-Key.Denot → ℕ). IsTable (λ e. h (key e)) (settings_of cur).skipped olds c.exchange-old.result.1 over) (sym same) x.table in
-    let m = begun-count g.E.Key.PartialEq.eq g.met.E.Key.Eq.laws key hk cur d t.waiting.items t.draining t.skipped t.pending t.next t.held t.held_overflow inv a view r.settled n c.in_ok-fresh.fresh olds c.exchange-old.result.1 over c.in_ok-fresh.ensures.buckets r.array r.some r.other x.lists x.settings x.spilled x.were table in
+    let m = begun-count g.E.Key.PartialEq.eq g.met.E.Key.Eq.laws key hk cur d t.waiting.items t.draining t.skipped t.pending t.next t.held t.held_overflow inv a view r.settled n c.args.fresh olds c.exchange-old.result.1 over c.requires.empty r.array r.some r.other x.lists x.settings x.spilled x.were table in
     omega (arith, r.within)
 
 pub take-requires-clause-bare : goal.take-requires-clause-bare
@@ -63,8 +63,8 @@ take-requires-clause-bare g c =
     let inv : IsIncremental g.E.Key.PartialEq.eq key hk cur t.waiting.items t.draining t.skipped t.pending t.next t.held t.held_overflow = subst (λ (h : g.row.E-Key.Denot → ℕ). IsIncremental g.E.Key.PartialEq.eq key h cur t.waiting.items t.draining t.skipped t.pending t.next t.held t.held_overflow) (sym same) c.self.invariant in
     let view : together (λ e. hk (key e)) cur t.waiting.items t.draining ≡ a = subst (λ (h : g.row.E-Key.Denot → ℕ). together (λ e. h (key e)) cur t.waiting.items t.draining ≡ a) (sym same) c.self.view_is in
     let table : IsTable (λ e. hk (key e)) (settings_of cur).skipped olds c.exchange-old.result.1 over = subst (λ (h : g.row.E-Key.Denot → ℕ). IsTable (λ e. h (key e)) (settings_of cur).skipped olds c.exchange-old.result.1 over) (sym same) x.table in
-    let s = begun g.E.Key.PartialEq.eq g.met.E.Key.Eq.laws key hk cur d t.waiting.items t.draining t.skipped t.pending t.next t.held t.held_overflow inv a view r.settled n c.in_ok-fresh.fresh olds c.exchange-old.result.1 over c.in_ok-fresh.ensures.buckets r.array r.some r.other x.lists x.settings x.spilled x.were table in
-    let up = begun-up g.E.Key.PartialEq.eq g.met.E.Key.Eq.laws key hk cur d t.waiting.items t.draining t.skipped t.pending t.next t.held t.held_overflow inv a view r.settled n c.in_ok-fresh.fresh olds c.exchange-old.result.1 over c.in_ok-fresh.ensures.buckets r.array r.some r.other x.lists x.settings x.spilled x.were table k r.within in
+    let s = begun g.E.Key.PartialEq.eq g.met.E.Key.Eq.laws key hk cur d t.waiting.items t.draining t.skipped t.pending t.next t.held t.held_overflow inv a view r.settled n c.args.fresh olds c.exchange-old.result.1 over c.requires.empty r.array r.some r.other x.lists x.settings x.spilled x.were table in
+    let up = begun-up g.E.Key.PartialEq.eq g.met.E.Key.Eq.laws key hk cur d t.waiting.items t.draining t.skipped t.pending t.next t.held t.held_overflow inv a view r.settled n c.args.fresh olds c.exchange-old.result.1 over c.requires.empty r.array r.some r.other x.lists x.settings x.spilled x.were table k r.within in
     s.arrays.bare k up
 
 pub take-requires-clause-sized : goal.take-requires-clause-sized
@@ -85,8 +85,8 @@ take-requires-clause-sized g c =
     let inv : IsIncremental g.E.Key.PartialEq.eq key hk cur t.waiting.items t.draining t.skipped t.pending t.next t.held t.held_overflow = subst (λ (h : g.row.E-Key.Denot → ℕ). IsIncremental g.E.Key.PartialEq.eq key h cur t.waiting.items t.draining t.skipped t.pending t.next t.held t.held_overflow) (sym same) c.self.invariant in
     let view : together (λ e. hk (key e)) cur t.waiting.items t.draining ≡ a = subst (λ (h : g.row.E-Key.Denot → ℕ). together (λ e. h (key e)) cur t.waiting.items t.draining ≡ a) (sym same) c.self.view_is in
     let table : IsTable (λ e. hk (key e)) (settings_of cur).skipped olds c.exchange-old.result.1 over = subst (λ (h : g.row.E-Key.Denot → ℕ). IsTable (λ e. h (key e)) (settings_of cur).skipped olds c.exchange-old.result.1 over) (sym same) x.table in
-    let s = begun g.E.Key.PartialEq.eq g.met.E.Key.Eq.laws key hk cur d t.waiting.items t.draining t.skipped t.pending t.next t.held t.held_overflow inv a view r.settled n c.in_ok-fresh.fresh olds c.exchange-old.result.1 over c.in_ok-fresh.ensures.buckets r.array r.some r.other x.lists x.settings x.spilled x.were table in
-    let up = begun-up g.E.Key.PartialEq.eq g.met.E.Key.Eq.laws key hk cur d t.waiting.items t.draining t.skipped t.pending t.next t.held t.held_overflow inv a view r.settled n c.in_ok-fresh.fresh olds c.exchange-old.result.1 over c.in_ok-fresh.ensures.buckets r.array r.some r.other x.lists x.settings x.spilled x.were table k r.within in
+    let s = begun g.E.Key.PartialEq.eq g.met.E.Key.Eq.laws key hk cur d t.waiting.items t.draining t.skipped t.pending t.next t.held t.held_overflow inv a view r.settled n c.args.fresh olds c.exchange-old.result.1 over c.requires.empty r.array r.some r.other x.lists x.settings x.spilled x.were table in
+    let up = begun-up g.E.Key.PartialEq.eq g.met.E.Key.Eq.laws key hk cur d t.waiting.items t.draining t.skipped t.pending t.next t.held t.held_overflow inv a view r.settled n c.args.fresh olds c.exchange-old.result.1 over c.requires.empty r.array r.some r.other x.lists x.settings x.spilled x.were table k r.within in
     sized-flags d (replicate n true) olds k s.arrays.sized up
 
 pub take-requires-clause-multiples : goal.take-requires-clause-multiples
@@ -107,8 +107,8 @@ take-requires-clause-multiples g c =
     let inv : IsIncremental g.E.Key.PartialEq.eq key hk cur t.waiting.items t.draining t.skipped t.pending t.next t.held t.held_overflow = subst (λ (h : g.row.E-Key.Denot → ℕ). IsIncremental g.E.Key.PartialEq.eq key h cur t.waiting.items t.draining t.skipped t.pending t.next t.held t.held_overflow) (sym same) c.self.invariant in
     let view : together (λ e. hk (key e)) cur t.waiting.items t.draining ≡ a = subst (λ (h : g.row.E-Key.Denot → ℕ). together (λ e. h (key e)) cur t.waiting.items t.draining ≡ a) (sym same) c.self.view_is in
     let table : IsTable (λ e. hk (key e)) (settings_of cur).skipped olds c.exchange-old.result.1 over = subst (λ (h : g.row.E-Key.Denot → ℕ). IsTable (λ e. h (key e)) (settings_of cur).skipped olds c.exchange-old.result.1 over) (sym same) x.table in
-    let s = begun g.E.Key.PartialEq.eq g.met.E.Key.Eq.laws key hk cur d t.waiting.items t.draining t.skipped t.pending t.next t.held t.held_overflow inv a view r.settled n c.in_ok-fresh.fresh olds c.exchange-old.result.1 over c.in_ok-fresh.ensures.buckets r.array r.some r.other x.lists x.settings x.spilled x.were table in
-    let up = begun-up g.E.Key.PartialEq.eq g.met.E.Key.Eq.laws key hk cur d t.waiting.items t.draining t.skipped t.pending t.next t.held t.held_overflow inv a view r.settled n c.in_ok-fresh.fresh olds c.exchange-old.result.1 over c.in_ok-fresh.ensures.buckets r.array r.some r.other x.lists x.settings x.spilled x.were table k r.within in
+    let s = begun g.E.Key.PartialEq.eq g.met.E.Key.Eq.laws key hk cur d t.waiting.items t.draining t.skipped t.pending t.next t.held t.held_overflow inv a view r.settled n c.args.fresh olds c.exchange-old.result.1 over c.requires.empty r.array r.some r.other x.lists x.settings x.spilled x.were table in
+    let up = begun-up g.E.Key.PartialEq.eq g.met.E.Key.Eq.laws key hk cur d t.waiting.items t.draining t.skipped t.pending t.next t.held t.held_overflow inv a view r.settled n c.args.fresh olds c.exchange-old.result.1 over c.requires.empty r.array r.some r.other x.lists x.settings x.spilled x.were table k r.within in
     multiple-flags d (replicate n true) olds k s.arrays.multiples up
 
 pub take-requires-clause-own : goal.take-requires-clause-own
@@ -129,7 +129,7 @@ take-requires-clause-own g c =
     let inv : IsIncremental g.E.Key.PartialEq.eq key hk cur t.waiting.items t.draining t.skipped t.pending t.next t.held t.held_overflow = subst (λ (h : g.row.E-Key.Denot → ℕ). IsIncremental g.E.Key.PartialEq.eq key h cur t.waiting.items t.draining t.skipped t.pending t.next t.held t.held_overflow) (sym same) c.self.invariant in
     let view : together (λ e. hk (key e)) cur t.waiting.items t.draining ≡ a = subst (λ (h : g.row.E-Key.Denot → ℕ). together (λ e. h (key e)) cur t.waiting.items t.draining ≡ a) (sym same) c.self.view_is in
     let table : IsTable (λ e. hk (key e)) (settings_of cur).skipped olds c.exchange-old.result.1 over = subst (λ (h : g.row.E-Key.Denot → ℕ). IsTable (λ e. h (key e)) (settings_of cur).skipped olds c.exchange-old.result.1 over) (sym same) x.table in
-    let s = begun g.E.Key.PartialEq.eq g.met.E.Key.Eq.laws key hk cur d t.waiting.items t.draining t.skipped t.pending t.next t.held t.held_overflow inv a view r.settled n c.in_ok-fresh.fresh olds c.exchange-old.result.1 over c.in_ok-fresh.ensures.buckets r.array r.some r.other x.lists x.settings x.spilled x.were table in
+    let s = begun g.E.Key.PartialEq.eq g.met.E.Key.Eq.laws key hk cur d t.waiting.items t.draining t.skipped t.pending t.next t.held t.held_overflow inv a view r.settled n c.args.fresh olds c.exchange-old.result.1 over c.requires.empty r.array r.some r.other x.lists x.settings x.spilled x.were table in
     rw s.skips s.arrays.own
 
 pub take-requires-clause-unique : goal.take-requires-clause-unique
@@ -150,9 +150,9 @@ take-requires-clause-unique g c =
     let inv : IsIncremental g.E.Key.PartialEq.eq key hk cur t.waiting.items t.draining t.skipped t.pending t.next t.held t.held_overflow = subst (λ (h : g.row.E-Key.Denot → ℕ). IsIncremental g.E.Key.PartialEq.eq key h cur t.waiting.items t.draining t.skipped t.pending t.next t.held t.held_overflow) (sym same) c.self.invariant in
     let view : together (λ e. hk (key e)) cur t.waiting.items t.draining ≡ a = subst (λ (h : g.row.E-Key.Denot → ℕ). together (λ e. h (key e)) cur t.waiting.items t.draining ≡ a) (sym same) c.self.view_is in
     let table : IsTable (λ e. hk (key e)) (settings_of cur).skipped olds c.exchange-old.result.1 over = subst (λ (h : g.row.E-Key.Denot → ℕ). IsTable (λ e. h (key e)) (settings_of cur).skipped olds c.exchange-old.result.1 over) (sym same) x.table in
-    let s = begun g.E.Key.PartialEq.eq g.met.E.Key.Eq.laws key hk cur d t.waiting.items t.draining t.skipped t.pending t.next t.held t.held_overflow inv a view r.settled n c.in_ok-fresh.fresh olds c.exchange-old.result.1 over c.in_ok-fresh.ensures.buckets r.array r.some r.other x.lists x.settings x.spilled x.were table in
-    let up = begun-up g.E.Key.PartialEq.eq g.met.E.Key.Eq.laws key hk cur d t.waiting.items t.draining t.skipped t.pending t.next t.held t.held_overflow inv a view r.settled n c.in_ok-fresh.fresh olds c.exchange-old.result.1 over c.in_ok-fresh.ensures.buckets r.array r.some r.other x.lists x.settings x.spilled x.were table k r.within in
-    let m = begun-count g.E.Key.PartialEq.eq g.met.E.Key.Eq.laws key hk cur d t.waiting.items t.draining t.skipped t.pending t.next t.held t.held_overflow inv a view r.settled n c.in_ok-fresh.fresh olds c.exchange-old.result.1 over c.in_ok-fresh.ensures.buckets r.array r.some r.other x.lists x.settings x.spilled x.were table in
+    let s = begun g.E.Key.PartialEq.eq g.met.E.Key.Eq.laws key hk cur d t.waiting.items t.draining t.skipped t.pending t.next t.held t.held_overflow inv a view r.settled n c.args.fresh olds c.exchange-old.result.1 over c.requires.empty r.array r.some r.other x.lists x.settings x.spilled x.were table in
+    let up = begun-up g.E.Key.PartialEq.eq g.met.E.Key.Eq.laws key hk cur d t.waiting.items t.draining t.skipped t.pending t.next t.held t.held_overflow inv a view r.settled n c.args.fresh olds c.exchange-old.result.1 over c.requires.empty r.array r.some r.other x.lists x.settings x.spilled x.were table k r.within in
+    let m = begun-count g.E.Key.PartialEq.eq g.met.E.Key.Eq.laws key hk cur d t.waiting.items t.draining t.skipped t.pending t.next t.held t.held_overflow inv a view r.settled n c.args.fresh olds c.exchange-old.result.1 over c.requires.empty r.array r.some r.other x.lists x.settings x.spilled x.were table in
     rw s.skips (unique-before (λ e. hk (key e)) d (replicate n true) olds s.arrays k up (length-replicate n true ∙ sym m) g.E.Key.PartialEq.eq key s.unique)
 
 pub destroy_empty-requires : goal.destroy_empty-requires
@@ -184,10 +184,10 @@ overflow_sub-self-in-Ok g c =
     let e = c.take.new.current in
     let news = c.take.new.old in
     let takes = c.in-Ok.ensures.ok in
-    let vs = set c.in_ok-fresh.flags.items k false in
-    let down : vs ≡ set (replicate n true) k false = ap (λ w. set w k false) c.in_ok-fresh.ensures.flags in
+    let vs = set c.args.flags.items k false in
+    let down : vs ≡ set (replicate n true) k false = ap (λ w. set w k false) c.requires.flags in
     let later : key_hash g.H.BuildHasher g.H.Hasher.Hasher g.E.Key.Hash.hash_input e ≡ hk = hash-same g.H.BuildHasher g.H.Hasher.Hasher g.E.Key.Hash.hash_input d e takes.settings in
-    taken-less g.E.Key.PartialEq.eq g.met.E.Key.Eq.laws key hk cur d t.waiting.items t.draining t.skipped t.pending t.next t.held t.held_overflow inv a view r.settled n c.in_ok-fresh.fresh olds c.exchange-old.result.1 over c.in_ok-fresh.ensures.buckets r.array r.some r.other x.lists x.settings x.spilled x.were table k r.within c.in-Ok.moved e vs news takes down
+    taken-less g.E.Key.PartialEq.eq g.met.E.Key.Eq.laws key hk cur d t.waiting.items t.draining t.skipped t.pending t.next t.held t.held_overflow inv a view r.settled n c.args.fresh olds c.exchange-old.result.1 over c.requires.empty r.array r.some r.other x.lists x.settings x.spilled x.were table k r.within c.in-Ok.moved e vs news takes down
 
 pub invariant_of-self : goal.invariant_of-self
 invariant_of-self g c =
@@ -210,10 +210,10 @@ invariant_of-self g c =
     let e = c.take.new.current in
     let news = c.take.new.old in
     let takes = c.in-Ok.ensures.ok in
-    let vs = set c.in_ok-fresh.flags.items k false in
-    let down : vs ≡ set (replicate n true) k false = ap (λ w. set w k false) c.in_ok-fresh.ensures.flags in
+    let vs = set c.args.flags.items k false in
+    let down : vs ≡ set (replicate n true) k false = ap (λ w. set w k false) c.requires.flags in
     let later : key_hash g.H.BuildHasher g.H.Hasher.Hasher g.E.Key.Hash.hash_input e ≡ hk = hash-same g.H.BuildHasher g.H.Hasher.Hasher g.E.Key.Hash.hash_input d e takes.settings in
-    rw c.replace-bare.ensures.after (subst (λ (h : g.row.E-Key.Denot → ℕ). IsIncremental g.E.Key.PartialEq.eq key h e vs news t.skipped (n - 1) 0 (c.exchange-old.result.1 - c.in-Ok.moved) over) (sym later) (taken-fields g.E.Key.PartialEq.eq g.met.E.Key.Eq.laws key hk cur d t.waiting.items t.draining t.skipped t.pending t.next t.held t.held_overflow inv a view r.settled n c.in_ok-fresh.fresh olds c.exchange-old.result.1 over c.in_ok-fresh.ensures.buckets r.array r.some r.other x.lists x.settings x.spilled x.were table k r.within c.in-Ok.moved e vs news takes down c.in-Ok.ensures.few))
+    rw c.replace-bare.ensures.after (subst (λ (h : g.row.E-Key.Denot → ℕ). IsIncremental g.E.Key.PartialEq.eq key h e vs news t.skipped (n - 1) 0 (c.exchange-old.result.1 - c.in-Ok.moved) over) (sym later) (taken-fields g.E.Key.PartialEq.eq g.met.E.Key.Eq.laws key hk cur d t.waiting.items t.draining t.skipped t.pending t.next t.held t.held_overflow inv a view r.settled n c.args.fresh olds c.exchange-old.result.1 over c.requires.empty r.array r.some r.other x.lists x.settings x.spilled x.were table k r.within c.in-Ok.moved e vs news takes down c.in-Ok.ensures.few))
 
 pub returns-in-Ok-clause-lists : goal.returns-in-Ok-clause-lists
 returns-in-Ok-clause-lists g c =
@@ -236,11 +236,11 @@ returns-in-Ok-clause-lists g c =
     let e = c.take.new.current in
     let news = c.take.new.old in
     let takes = c.in-Ok.ensures.ok in
-    let vs = set c.in_ok-fresh.flags.items k false in
-    let down : vs ≡ set (replicate n true) k false = ap (λ w. set w k false) c.in_ok-fresh.ensures.flags in
+    let vs = set c.args.flags.items k false in
+    let down : vs ≡ set (replicate n true) k false = ap (λ w. set w k false) c.requires.flags in
     let later : key_hash g.H.BuildHasher g.H.Hasher.Hasher g.E.Key.Hash.hash_input e ≡ hk = hash-same g.H.BuildHasher g.H.Hasher.Hasher g.E.Key.Hash.hash_input d e takes.settings in
     let outer : key_hash g.H.BuildHasher g.H.Hasher.Hasher g.E.Key.Hash.hash_input a ≡ hk = hash-same g.H.BuildHasher g.H.Hasher.Hasher g.E.Key.Hash.hash_input d a (settings-seen _ cur t.waiting.items t.draining a view ∙ sym x.settings) in
-    let there = subst (λ (h : g.row.E-Key.Denot → ℕ). IsRegrouped (λ z. hk (key z)) n a (together (λ z. h (key z)) e vs news)) (sym later) (taken-lists g.E.Key.PartialEq.eq g.met.E.Key.Eq.laws key hk cur d t.waiting.items t.draining t.skipped t.pending t.next t.held t.held_overflow inv a view r.settled n c.in_ok-fresh.fresh olds c.exchange-old.result.1 over c.in_ok-fresh.ensures.buckets r.array r.some r.other x.lists x.settings x.spilled x.were table k r.within c.in-Ok.moved e vs news takes down) in
+    let there = subst (λ (h : g.row.E-Key.Denot → ℕ). IsRegrouped (λ z. hk (key z)) n a (together (λ z. h (key z)) e vs news)) (sym later) (taken-lists g.E.Key.PartialEq.eq g.met.E.Key.Eq.laws key hk cur d t.waiting.items t.draining t.skipped t.pending t.next t.held t.held_overflow inv a view r.settled n c.args.fresh olds c.exchange-old.result.1 over c.requires.empty r.array r.some r.other x.lists x.settings x.spilled x.were table k r.within c.in-Ok.moved e vs news takes down) in
     rw c.replace-bare.ensures.after (subst (λ (h : g.row.E-Key.Denot → ℕ). IsRegrouped (λ z. h (key z)) n a (together (λ z. key_hash g.H.BuildHasher g.H.Hasher.Hasher g.E.Key.Hash.hash_input e (key z)) e vs news)) (sym outer) there)
 
 pub returns-in-Ok-clause-same : goal.returns-in-Ok-clause-same
@@ -264,10 +264,10 @@ returns-in-Ok-clause-same g c =
     let e = c.take.new.current in
     let news = c.take.new.old in
     let takes = c.in-Ok.ensures.ok in
-    let vs = set c.in_ok-fresh.flags.items k false in
-    let down : vs ≡ set (replicate n true) k false = ap (λ w. set w k false) c.in_ok-fresh.ensures.flags in
+    let vs = set c.args.flags.items k false in
+    let down : vs ≡ set (replicate n true) k false = ap (λ w. set w k false) c.requires.flags in
     let later : key_hash g.H.BuildHasher g.H.Hasher.Hasher g.E.Key.Hash.hash_input e ≡ hk = hash-same g.H.BuildHasher g.H.Hasher.Hasher g.E.Key.Hash.hash_input d e takes.settings in
-    rw c.replace-bare.ensures.after (subst (λ (h : g.row.E-Key.Denot → ℕ). IsPermutation (entries a) (entries (together (λ z. h (key z)) e vs news))) (sym later) (taken-same g.E.Key.PartialEq.eq g.met.E.Key.Eq.laws key hk cur d t.waiting.items t.draining t.skipped t.pending t.next t.held t.held_overflow inv a view r.settled n c.in_ok-fresh.fresh olds c.exchange-old.result.1 over c.in_ok-fresh.ensures.buckets r.array r.some r.other x.lists x.settings x.spilled x.were table k r.within c.in-Ok.moved e vs news takes down))
+    rw c.replace-bare.ensures.after (subst (λ (h : g.row.E-Key.Denot → ℕ). IsPermutation (entries a) (entries (together (λ z. h (key z)) e vs news))) (sym later) (taken-same g.E.Key.PartialEq.eq g.met.E.Key.Eq.laws key hk cur d t.waiting.items t.draining t.skipped t.pending t.next t.held t.held_overflow inv a view r.settled n c.args.fresh olds c.exchange-old.result.1 over c.requires.empty r.array r.some r.other x.lists x.settings x.spilled x.were table k r.within c.in-Ok.moved e vs news takes down))
 
 pub returns-in-Ok-clause-waiting : goal.returns-in-Ok-clause-waiting
 returns-in-Ok-clause-waiting g c =
@@ -283,8 +283,8 @@ returns-in-Ok-clause-waiting g c =
     let r = c.requires in
     let key = g.E.Keyed.key_of in
     let e = c.take.new.current in
-    let vs = set c.in_ok-fresh.flags.items k false in
-    waiting-together _ e vs c.replace-bare.new.dest ∙ ap (λ w. set w k false) c.in_ok-fresh.ensures.flags ∙ sym (settle-all n k r.array.least r.within)
+    let vs = set c.args.flags.items k false in
+    waiting-together _ e vs c.replace-bare.new.dest ∙ ap (λ w. set w k false) c.requires.flags ∙ sym (settle-all n k r.array.least r.within)
 
 pub returns-in-Ok-clause-noted : goal.returns-in-Ok-clause-noted
 returns-in-Ok-clause-noted g c =
@@ -300,7 +300,7 @@ returns-in-Ok-clause-noted g c =
     let r = c.requires in
     let key = g.E.Keyed.key_of in
     let e = c.take.new.current in
-    let vs = set c.in_ok-fresh.flags.items k false in
+    let vs = set c.args.flags.items k false in
     refused-together _ e vs c.replace-bare.new.dest ∙ c.in-Ok.ensures.ok.refused ∙ x.noted ∙ sym (refused-seen _ cur t.waiting.items t.draining a c.self.view_is)
 
 pub returns-in-Ok-clause-unique : goal.returns-in-Ok-clause-unique
@@ -324,10 +324,10 @@ returns-in-Ok-clause-unique g c =
     let e = c.take.new.current in
     let news = c.take.new.old in
     let takes = c.in-Ok.ensures.ok in
-    let vs = set c.in_ok-fresh.flags.items k false in
-    let down : vs ≡ set (replicate n true) k false = ap (λ w. set w k false) c.in_ok-fresh.ensures.flags in
+    let vs = set c.args.flags.items k false in
+    let down : vs ≡ set (replicate n true) k false = ap (λ w. set w k false) c.requires.flags in
     let later : key_hash g.H.BuildHasher g.H.Hasher.Hasher g.E.Key.Hash.hash_input e ≡ hk = hash-same g.H.BuildHasher g.H.Hasher.Hasher g.E.Key.Hash.hash_input d e takes.settings in
-    let there = subst (λ (h : g.row.E-Key.Denot → ℕ). IsIncremental g.E.Key.PartialEq.eq key h e vs news t.skipped (n - 1) 0 (c.exchange-old.result.1 - c.in-Ok.moved) over) (sym later) (taken-fields g.E.Key.PartialEq.eq g.met.E.Key.Eq.laws key hk cur d t.waiting.items t.draining t.skipped t.pending t.next t.held t.held_overflow inv a view r.settled n c.in_ok-fresh.fresh olds c.exchange-old.result.1 over c.in_ok-fresh.ensures.buckets r.array r.some r.other x.lists x.settings x.spilled x.were table k r.within c.in-Ok.moved e vs news takes down c.in-Ok.ensures.few) in
+    let there = subst (λ (h : g.row.E-Key.Denot → ℕ). IsIncremental g.E.Key.PartialEq.eq key h e vs news t.skipped (n - 1) 0 (c.exchange-old.result.1 - c.in-Ok.moved) over) (sym later) (taken-fields g.E.Key.PartialEq.eq g.met.E.Key.Eq.laws key hk cur d t.waiting.items t.draining t.skipped t.pending t.next t.held t.held_overflow inv a view r.settled n c.args.fresh olds c.exchange-old.result.1 over c.requires.empty r.array r.some r.other x.lists x.settings x.spilled x.were table k r.within c.in-Ok.moved e vs news takes down c.in-Ok.ensures.few) in
     rw c.replace-bare.ensures.after there.unique
 
 pub exchange-bare-requires-clause-table : goal.exchange-bare-requires-clause-table
@@ -368,7 +368,7 @@ exchange-bare-requires-clause-unique g c =
     let inv : IsIncremental g.E.Key.PartialEq.eq key hk cur t.waiting.items t.draining t.skipped t.pending t.next t.held t.held_overflow = subst (λ (h : g.row.E-Key.Denot → ℕ). IsIncremental g.E.Key.PartialEq.eq key h cur t.waiting.items t.draining t.skipped t.pending t.next t.held t.held_overflow) (sym same) c.self.invariant in
     let view : together (λ e. hk (key e)) cur t.waiting.items t.draining ≡ a = subst (λ (h : g.row.E-Key.Denot → ℕ). together (λ e. h (key e)) cur t.waiting.items t.draining ≡ a) (sym same) c.self.view_is in
     let table : IsTable (λ e. hk (key e)) (settings_of cur).skipped olds c.exchange-old.result.1 over = subst (λ (h : g.row.E-Key.Denot → ℕ). IsTable (λ e. h (key e)) (settings_of cur).skipped olds c.exchange-old.result.1 over) (sym same) x.table in
-    rw c.in-Err.ensures.stays (begun-unique g.E.Key.PartialEq.eq g.met.E.Key.Eq.laws key hk cur d t.waiting.items t.draining t.skipped t.pending t.next t.held t.held_overflow inv a view r.settled n c.in_ok-fresh.fresh olds c.exchange-old.result.1 over c.in_ok-fresh.ensures.buckets r.array r.some r.other x.lists x.settings x.spilled x.were table)
+    rw c.in-Err.ensures.stays (begun-unique g.E.Key.PartialEq.eq g.met.E.Key.Eq.laws key hk cur d t.waiting.items t.draining t.skipped t.pending t.next t.held t.held_overflow inv a view r.settled n c.args.fresh olds c.exchange-old.result.1 over c.requires.empty r.array r.some r.other x.lists x.settings x.spilled x.were table)
 
 pub destroy_empty-requires-in-Err : goal.destroy_empty-requires-in-Err
 destroy_empty-requires-in-Err g c =
@@ -388,7 +388,7 @@ destroy_empty-requires-in-Err g c =
     let inv : IsIncremental g.E.Key.PartialEq.eq key hk cur t.waiting.items t.draining t.skipped t.pending t.next t.held t.held_overflow = subst (λ (h : g.row.E-Key.Denot → ℕ). IsIncremental g.E.Key.PartialEq.eq key h cur t.waiting.items t.draining t.skipped t.pending t.next t.held t.held_overflow) (sym same) c.self.invariant in
     let view : together (λ e. hk (key e)) cur t.waiting.items t.draining ≡ a = subst (λ (h : g.row.E-Key.Denot → ℕ). together (λ e. h (key e)) cur t.waiting.items t.draining ≡ a) (sym same) c.self.view_is in
     let table : IsTable (λ e. hk (key e)) (settings_of cur).skipped olds c.exchange-old.result.1 over = subst (λ (h : g.row.E-Key.Denot → ℕ). IsTable (λ e. h (key e)) (settings_of cur).skipped olds c.exchange-old.result.1 over) (sym same) x.table in
-    λ i l. begun-bare g.E.Key.PartialEq.eq g.met.E.Key.Eq.laws key hk cur d t.waiting.items t.draining t.skipped t.pending t.next t.held t.held_overflow inv a view r.settled n c.in_ok-fresh.fresh olds c.exchange-old.result.1 over c.in_ok-fresh.ensures.buckets r.array r.some r.other x.lists x.settings x.spilled x.were table c.exchange-bare.result.0 (ap lists_of (sym c.in-Err.ensures.err) ∙ c.exchange-bare.ensures.were) i l
+    λ i l. begun-bare g.E.Key.PartialEq.eq g.met.E.Key.Eq.laws key hk cur d t.waiting.items t.draining t.skipped t.pending t.next t.held t.held_overflow inv a view r.settled n c.args.fresh olds c.exchange-old.result.1 over c.requires.empty r.array r.some r.other x.lists x.settings x.spilled x.were table c.exchange-bare.result.0 (ap lists_of (sym c.in-Err.ensures.err) ∙ c.exchange-bare.ensures.were) i l
 
 pub invariant_of-self-in-Err-1 : goal.invariant_of-self-in-Err-1
 invariant_of-self-in-Err-1 g c =
@@ -465,8 +465,8 @@ take-requires-clause-flags g c =
     let inv : IsIncremental g.E.Key.PartialEq.eq key hk cur t.waiting.items t.draining t.skipped t.pending t.next t.held t.held_overflow = subst (λ (h : g.row.E-Key.Denot → ℕ). IsIncremental g.E.Key.PartialEq.eq key h cur t.waiting.items t.draining t.skipped t.pending t.next t.held t.held_overflow) (sym same) c.self.invariant in
     let view : together (λ e. hk (key e)) cur t.waiting.items t.draining ≡ a = subst (λ (h : g.row.E-Key.Denot → ℕ). together (λ e. h (key e)) cur t.waiting.items t.draining ≡ a) (sym same) c.self.view_is in
     let table : IsTable (λ e. hk (key e)) (settings_of cur).skipped olds c.exchange-old.result.1 over = subst (λ (h : g.row.E-Key.Denot → ℕ). IsTable (λ e. h (key e)) (settings_of cur).skipped olds c.exchange-old.result.1 over) (sym same) x.table in
-    let m = begun-count g.E.Key.PartialEq.eq g.met.E.Key.Eq.laws key hk cur d t.waiting.items t.draining t.skipped t.pending t.next t.held t.held_overflow inv a view r.settled n c.in_ok-fresh.fresh olds c.exchange-old.result.1 over c.in_ok-fresh.ensures.buckets r.array r.some r.other x.lists x.settings x.spilled x.were table in
-    ap length (c.as_slice.ensures.value ∙ c.in_ok-fresh.ensures.flags) ∙ length-replicate n true ∙ sym m
+    let m = begun-count g.E.Key.PartialEq.eq g.met.E.Key.Eq.laws key hk cur d t.waiting.items t.draining t.skipped t.pending t.next t.held t.held_overflow inv a view r.settled n c.args.fresh olds c.exchange-old.result.1 over c.requires.empty r.array r.some r.other x.lists x.settings x.spilled x.were table in
+    ap length (c.as_slice.ensures.value ∙ c.requires.flags) ∙ length-replicate n true ∙ sym m
 
 pub take-requires-clause-settled : goal.take-requires-clause-settled
 take-requires-clause-settled g c =
@@ -486,7 +486,7 @@ take-requires-clause-settled g c =
     let inv : IsIncremental g.E.Key.PartialEq.eq key hk cur t.waiting.items t.draining t.skipped t.pending t.next t.held t.held_overflow = subst (λ (h : g.row.E-Key.Denot → ℕ). IsIncremental g.E.Key.PartialEq.eq key h cur t.waiting.items t.draining t.skipped t.pending t.next t.held t.held_overflow) (sym same) c.self.invariant in
     let view : together (λ e. hk (key e)) cur t.waiting.items t.draining ≡ a = subst (λ (h : g.row.E-Key.Denot → ℕ). together (λ e. h (key e)) cur t.waiting.items t.draining ≡ a) (sym same) c.self.view_is in
     let table : IsTable (λ e. hk (key e)) (settings_of cur).skipped olds c.exchange-old.result.1 over = subst (λ (h : g.row.E-Key.Denot → ℕ). IsTable (λ e. h (key e)) (settings_of cur).skipped olds c.exchange-old.result.1 over) (sym same) x.table in
-    let m = begun-count g.E.Key.PartialEq.eq g.met.E.Key.Eq.laws key hk cur d t.waiting.items t.draining t.skipped t.pending t.next t.held t.held_overflow inv a view r.settled n c.in_ok-fresh.fresh olds c.exchange-old.result.1 over c.in_ok-fresh.ensures.buckets r.array r.some r.other x.lists x.settings x.spilled x.were table in
+    let m = begun-count g.E.Key.PartialEq.eq g.met.E.Key.Eq.laws key hk cur d t.waiting.items t.draining t.skipped t.pending t.next t.held t.held_overflow inv a view r.settled n c.args.fresh olds c.exchange-old.result.1 over c.requires.empty r.array r.some r.other x.lists x.settings x.spilled x.were table in
     λ i l low.
-    let up : get_or c.as_slice.result.now i false ≡ true = ap (λ (w : List Bool). get_or w i false) (c.as_slice.ensures.value ∙ c.in_ok-fresh.ensures.flags) ∙ get_or-replicate n i true false (omega (arith, l, m)) in
+    let up : get_or c.as_slice.result.now i false ≡ true = ap (λ (w : List Bool). get_or w i false) (c.as_slice.ensures.value ∙ c.requires.flags) ∙ get_or-replicate n i true false (omega (arith, l, m)) in
     absurd (let z : true ≡ false = sym up ∙ low in cc)

@@ -3,6 +3,7 @@ use Rattle.std.specs.Prelude.{slice_index_or}
 use Rattle.std.proofs.lemmas.List.{length-map, get_or-map}
 use Rattle.scc_history.proofs.Items.{item_at}
 use Rattle.scc_history.proofs.Telling.{all_at}
+use Rattle.scc_history.specs.Receipts.{seen}
 use Rattle.scc_recorder.proofs.Comparing.{least_more, least_all, least_first, found_is}
 use Rattle.scc_recorder.proofs.Seen.{number_at}
 use Rattle.scc_recorder.proofs.recorder.comparing.first_disagreement.Goals as goal
@@ -38,14 +39,14 @@ loop-k-preserved g c =
     let within : q.log.number < length records = omega (arith, b, number_at (λ p. p.log.number) passes k 0 c.index-passes-k.result c.loop-k-test.true) in
     let at = item_at passes k c.index-passes-k.result c.loop-k-test.true c.index-passes-k.is ∙ ap Some c.index-passes-k.is in
     let e = c.as_slice.ensures.value in
-    let f = c.as_slice-in-loop-k.ensures.value ∙ ap (λ v. v.items) c.index-records-log.is ∙ sym (get_or-map (λ v. v.items) records q.log.number c.index-records-log.result [] within) in
+    let f = ap (map seen) c.as_slice-in-loop-k.ensures.value ∙ ap (λ v. map seen v.items) c.index-records-log.is ∙ sym (get_or-map (λ v. map seen v.items) records q.log.number c.index-records-log.result [] within) in
     let found = c.first_difference-found in
-    let m = found_is g.C.Call.PartialEq.eq g.C.Reply.PartialEq.eq _ _ q.log.receipts.items (slice_index_or (map (λ v. v.items) records) q.log.number []) e f found.result found.ensures.none found.ensures.some in
+    let m = found_is g.C.Call.PartialEq.eq g.C.Reply.PartialEq.eq _ _ q.log.receipts.items (slice_index_or (map (λ v. map seen v.items) records) q.log.number []) e f found.result found.ensures.none found.ensures.some in
     rw c.lesser-first.ensures
-    (least_more g.C.Call.PartialEq.eq g.C.Reply.PartialEq.eq (λ p. p.log.number) (λ p. p.log.receipts.items) passes (λ n. slice_index_or (map (λ v. v.items) records) n []) k q at c.loop-k.first found.result c.loop-k.invariant m)
+    (least_more g.C.Call.PartialEq.eq g.C.Reply.PartialEq.eq (λ p. p.log.number) (λ p. p.log.receipts.items) passes (λ n. slice_index_or (map (λ v. map seen v.items) records) n []) k q at c.loop-k.first found.result c.loop-k.invariant m)
 
 pub returns-clause-none : goal.returns-clause-none
-returns-clause-none g c = least_all g.C.Call.PartialEq.eq g.C.Reply.PartialEq.eq (λ p. p.log.number) (λ p. p.log.receipts.items) c.args.passes.now (λ n. slice_index_or (map (λ v. v.items) c.args.records.now) n []) c.loop-k.k c.loop-k.first (omega arith) c.loop-k.invariant
+returns-clause-none g c = least_all g.C.Call.PartialEq.eq g.C.Reply.PartialEq.eq (λ p. p.log.number) (λ p. p.log.receipts.items) c.args.passes.now (λ n. slice_index_or (map (λ v. map seen v.items) c.args.records.now) n []) c.loop-k.k c.loop-k.first (omega arith) c.loop-k.invariant
 
 pub returns-clause-some : goal.returns-clause-some
-returns-clause-some g c = least_first g.C.Call.PartialEq.eq g.C.Reply.PartialEq.eq (λ p. p.log.number) (λ p. p.log.receipts.items) c.args.passes.now (λ n. slice_index_or (map (λ v. v.items) c.args.records.now) n []) c.loop-k.k c.loop-k.first (omega arith) c.loop-k.invariant
+returns-clause-some g c = least_first g.C.Call.PartialEq.eq g.C.Reply.PartialEq.eq (λ p. p.log.number) (λ p. p.log.receipts.items) c.args.passes.now (λ n. slice_index_or (map (λ v. map seen v.items) c.args.records.now) n []) c.loop-k.k c.loop-k.first (omega arith) c.loop-k.invariant

@@ -1,5 +1,11 @@
-use Rattle.std.proofs.Common.{◌≡◌, ◌+◌, vec_len}
+use Rattle.std.proofs.Common.{◌≡◌, ◌+◌, map, vec_len}
+use Rattle.std.specs.List.{range_with_len}
 use Rattle.scc_recorder.proofs.recorder.opening.lock_all.Given as goal
 
-abbrev pub invariant-loop-i : goal.invariant-loop-i
-invariant-loop-i g l = (l.rest.parts + l._i ≡ l.stripes) × (l.rest.amount ≡ 0) × (vec_len l.locks ≡ l._i)
+abbrev pub invariant-loop-number : goal.invariant-loop-number
+invariant-loop-number g l = record {
+  parts : l.rest.parts + l.number ≡ l.stripes;
+  none : l.rest.amount ≡ 0;
+  len : vec_len l.locks ≡ l.number;
+  numbers : map (λ x. x.number) l.locks.items ≡ range_with_len 0 l.number;
+}

@@ -85,3 +85,6 @@ pub returns-in-Some-clause-relocates : goal.returns-in-Some-clause-relocates
 returns-in-Some-clause-relocates g c =
     let f = find-position (g.K.PartialEq.eq c.args.k) (entries c.self.inside.table) _ c.in-Some.ensures.place.found in
     λ none. let here = rw (← c.self.view_is, f.2) at none in cc
+
+pub returns-after-insert_made-clause-once : goal.returns-after-insert_made-clause-once
+returns-after-insert_made-clause-once g c = rw (← c.self.view_is) c.insert_made.ensures.once

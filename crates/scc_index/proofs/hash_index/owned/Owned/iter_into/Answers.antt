@@ -35,3 +35,6 @@ pub returns-clause-all : goal.returns-clause-all
 returns-clause-all g c =
     let listed = rw c.in_default.is at c.loop-at.invariant.listed in
     listed ∙ ap (λ z. map arc_value c.args.versions.now.items ++ z) (take-all (entries c.args.self.now) (length (entries c.args.self.now)) refl)
+
+pub entry_at-requires : goal.entry_at-requires
+entry_at-requires g c = rw c.self.view_is (rw c.in-Some.is at c.loop-at.invariant.within)

@@ -85,3 +85,6 @@ returns-after-insert_new-clause-first g c =
       | in-Ok w ↦ rw (w.result-is, ← c.self.view_is) w.in-Ok.ensures.first
       | in-Err w ↦ rw w.result-is tt
     ]
+
+pub returns-after-insert_new-clause-once : goal.returns-after-insert_new-clause-once
+returns-after-insert_new-clause-once g c = rw (← c.self.view_is) c.insert_new.ensures.once

@@ -139,3 +139,15 @@ returns-after-insert_new-clause-first g c =
       | in-Ok w ↦ λ _. rw (w.result-is, ← c.self.view_is) w.in-Ok.ensures.first
       | in-Err w ↦ λ _. rw w.result-is tt
     ]
+
+pub returns-after-insert_new-clause-once : goal.returns-after-insert_new-clause-once
+returns-after-insert_new-clause-once g c = rw (← c.self.view_is) c.insert_new.ensures.once
+
+pub returns-in-Some-clause-once : goal.returns-in-Some-clause-once
+returns-in-Some-clause-once g c =
+    let laws = g.met.K.Eq.laws in
+    let m = c.args.self.now in
+    let found = rw c.self.view_is at c.in-Some.ensures.place in
+    let unique = rw c.self.view_is at c.in-Some.ensures.unique in
+    let f = place-found g.K.PartialEq.eq m c.args.k c.in-Some.place found in
+    λ _. (value-written laws m c.in-Some.place found.within c.args.k unique f c.replace.new.dest).buckets

@@ -1,4 +1,3 @@
-use Rattle.std.proofs.Common.{◌≡◌, refl}
 use Rattle.scc_recorded.proofs.CacheMaking.{made-for-cache, made-empty, made-size}
 use Rattle.scc_recorded.proofs.recorded.cache_calls.OwnedCalls.make.Goals as goal
 

@@ -1,6 +1,7 @@
 use Rattle.std.proofs.Common.{sym, ◌∙◌}
 use Rattle.scc_table.proofs.Mapped.{Grows-mapped, FirstArrayWhenDue-mapped}
 use Rattle.scc_incremental.proofs.MappedRelocations.{Relocates-mapped}
+use Rattle.scc_set.proofs.Room.{ready-hashed}
 use Rattle.scc_set.proofs.Sets.{waiting-keys, two-hashed, found-is, noted-keys, on-refusal, same-keys, shows, on-answer, ok-answer, Inserts-hashed, roomy-hashed, grows-hashed, finds-keys, none-found, unique-keys}
 use Rattle.scc_set.proofs.hash_set.owned.Owned.insert_sync.Goals as goal
 
@@ -44,3 +45,8 @@ returns-clause-two g c =
 
 pub returns-clause-waiting : goal.returns-clause-waiting
 returns-clause-waiting g c = rw (← c.self.view_is) (λ there. waiting-keys _ _ (c.insert_sync.ensures.waiting (found-is g.K.PartialEq.eq c.self.inside.map c.args.k there)))
+
+pub returns-clause-once : goal.returns-clause-once
+returns-clause-once g c =
+    rw (← c.self.view_is)
+    (λ r. (shows c.insert_sync.new.self).buckets ∙ c.insert_sync.ensures.once (ready-hashed g.H.BuildHasher g.H.Hasher.Hasher g.K.Hash.hash_input c.self.inside.map c.args.k r) ∙ sym (shows c.self.inside.map).buckets)

@@ -17,3 +17,12 @@ returns-in-Ok-insert_sync-clause-kept g c = λ n r. let e = c.in-Err.ensures.mis
 
 pub returns-in-Err-insert_sync-clause-kept : goal.returns-in-Err-insert_sync-clause-kept
 returns-in-Err-insert_sync-clause-kept g c = λ n r. let e = c.in-Err.ensures.missing in c.insert_sync.ensures.kept (rw (e.2, e.0) n) (rw (e.2, e.0) r) ∙ ap bucket_count e.2
+
+pub returns-in-Ok-clause-once : goal.returns-in-Ok-clause-once
+returns-in-Ok-clause-once g c = λ _. c.in-Ok.ensures.swapped.1.buckets
+
+pub returns-in-Ok-insert_sync-clause-once : goal.returns-in-Ok-insert_sync-clause-once
+returns-in-Ok-insert_sync-clause-once g c = λ r. let e = c.in-Err.ensures.missing in c.insert_sync.ensures.once (rw (e.2, e.0) r) ∙ ap bucket_count e.2
+
+pub returns-in-Err-insert_sync-clause-once : goal.returns-in-Err-insert_sync-clause-once
+returns-in-Err-insert_sync-clause-once g c = λ r. let e = c.in-Err.ensures.missing in c.insert_sync.ensures.once (rw (e.2, e.0) r) ∙ ap bucket_count e.2

@@ -1,0 +1,54 @@
+-- What was played by one meaning of the calls was played by another that each step has too.
+use Rattle.std.proofs.Common.{ℕ, List}
+use Rattle.std.proofs.Math.Logic.{∥∥₁_map}
+use Rattle.scc_recorded.proofs.Exact.{merged-as, replays-as}
+use Rattle.scc_recorded.specs.declared.recorded.fixed.Request.{Request}
+use Rattle.scc_recorded.specs.declared.recorded.fixed.Setting.{Setting}
+use Rattle.scc_script.specs.declared.line.WorkerCall.{WorkerCall}
+use Rattle.scc_play.specs.Played.{IsPlayed, Machine}
+
+module _ {C H S W A R K X : Type 0} (machine : Machine C H S W A R K X) (moves : Setting H → S → A → R → S → Type 0) (whole_moves : Setting H → ℕ → ℕ → W → A → R → W → Type 0) where
+  -- the machine with another meaning of the calls
+  abbrev pub meaning : Machine C H S W A R K X
+  meaning = record {
+    limits = machine.limits;
+    empty = machine.empty;
+    key_of = machine.key_of;
+    moves = moves;
+    resizes = machine.resizes;
+    whole = machine.whole;
+    whole_moves = whole_moves;
+    whole_resizes = machine.whole_resizes;
+    told = machine.told;
+    count = machine.count;
+    state = machine.state;
+    shown = machine.shown;
+    order = machine.order;
+    reply = machine.reply;
+    content = machine.content;
+  }
+
+  pub exactly : ((g : Setting H) (s : S) (call : A) (reply : R) (t : S) → machine.moves g s call reply t → moves g s call reply t)
+      → ((g : Setting H) (n i : ℕ) (w : W) (call : A) (reply : R) (v : W) → machine.whole_moves g n i w call reply v → whole_moves g n i w call reply v)
+      → (route : ℕ → K → ℕ) (request : Request H) (workers stripes : ℕ) (calls : List (WorkerCall A)) (text : List ℕ) → IsPlayed machine route request workers stripes calls text → IsPlayed meaning route request workers stripes calls text
+  exactly one all route request workers stripes calls text p = record {
+    setting = p.setting;
+    histories = p.histories;
+    ends = p.ends;
+    places = p.places;
+    replies = p.replies;
+    items = p.items;
+    made = p.made;
+    divided = p.divided;
+    replays = replays-as (machine.resizes p.setting) (one p.setting) _ _ _ p.replays;
+    routed = p.routed;
+    merges = λ order m. ∥∥₁_map (p.merges order m) (λ r. merged-as (machine.whole_resizes p.setting stripes) (all p.setting stripes) _ _ _ r);
+    known = p.known;
+    order = p.order;
+    stamps = p.stamps;
+    crew = p.crew;
+    answered = p.answered;
+    same = p.same;
+    rising = p.rising;
+    whole = p.whole;
+  }

@@ -1,0 +1,18 @@
+use Rattle.std.specs.Prelude.{nat_eq, ◌==◌}
+use Rattle.std.proofs.Math.Logic.{∥∥₁_map}
+use Rattle.scc_recorded.specs.MapCalls.{MapMoves}
+use Rattle.scc_recorded.specs.MapWhole.{MapWholeMoves}
+use Rattle.scc_recorded.specs.Means.{means_same}
+use Rattle.scc_play.specs.Kinds.{finished_hash, route_by}
+use Rattle.scc_play.proofs.Exact.{exactly}
+use Rattle.scc_play.proofs.Keys.{if-played}
+use Rattle.scc_play.proofs.kinds.play_map_in.Goals as goal
+
+pub returns : goal.returns
+returns g c = if-played c.finish_run.result c.finish_run.ensures.played (λ text p. ∥∥₁_map p (λ a. (
+  a.0,
+  a.1,
+  exactly _ (λ _. MapMoves nat_eq) (λ g n i. MapWholeMoves nat_eq (λ k. route_by finished_hash n k == i))
+      (λ g s call reply t. means_same _ _ (MapMoves nat_eq) c.are_exact.ensures.calls c.are_exact.ensures.replies s t call reply)
+      (λ g n i w call reply v. means_same _ _ (MapWholeMoves nat_eq (λ k. route_by finished_hash n k == i)) c.are_exact.ensures.calls c.are_exact.ensures.replies w v call reply) _ a.0 _ _ _ text a.2,
+)))

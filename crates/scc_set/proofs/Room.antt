@@ -1,0 +1,62 @@
+-- What the map's words of room say of pairs, the set's say of keys.
+use Rattle.std.proofs.Common.{◌≡◌, ℕ, inl, inr, map, sym, ap, subst, ◌∙◌}
+use Rattle.std.specs.Hash.{HashWrites}
+use Rattle.std.specs.declared.hash.Hasher as hasher
+use Rattle.std.specs.declared.hash.BuildHasher as builder
+use Rattle.scc_table.specs.Contents.{Contents, lists_of, key_hash}
+use Rattle.scc_table.specs.Mapped.{mapped}
+use Rattle.scc_table.specs.Steps.{IsReadyFor, MakesRoom}
+use Rattle.scc_table.proofs.Mapped.{Rests-mapped, Grows-mapped, HasRoomBy-mapped, HasRoomBy-from_mapped}
+use Rattle.scc_set.specs.Keys.{of_map}
+use Rattle.scc_set.proofs.Sets.{hash-same, shows, waiting-keys}
+
+lists-keys : {K S : Type 0} (c d : Contents (K × Unit {0}) S) → lists_of d ≡ lists_of c → lists_of (of_map d) ≡ lists_of (of_map c)
+unfolding mapped lists_of
+lists-keys c d e = ap (λ ls. map (λ l. map (λ p. p.0) l) ls) e
+
+module _ {K S : Type 0} (hash : K → ℕ) (k : K) where
+  -- all is made in the set that is made in the map
+  ready-keys : (c : Contents (K × Unit {0}) S) → IsReadyFor hash (λ p. p.0) c k → IsReadyFor hash (λ q. q) (of_map c) k
+  ready-keys c h =
+      let s = shows c in (
+        rw s.buckets h.0,
+        elim h.1 [
+          | inl room ↦ inl (HasRoomBy-mapped (λ (p : K × Unit {0}). p.0) (λ q. q) hash c k room)
+          | inr rest ↦ inr (rw (s.pending, s.length, s.buckets, s.refused) rest)
+        ],
+      )
+
+  -- and in the map what is made in the set
+  pub ready-pairs : (c : Contents (K × Unit {0}) S) → IsReadyFor hash (λ q. q) (of_map c) k → IsReadyFor hash (λ (p : K × Unit {0}). p.0) c k
+  ready-pairs c h =
+      let s = shows c in (
+        rw s.buckets at h.0,
+        elim h.1 [
+          | inl room ↦ inl (HasRoomBy-from_mapped (λ (p : K × Unit {0}). p.0) (λ q. q) hash c k room)
+          | inr rest ↦ inr (rw (s.pending, s.length, s.buckets, s.refused) at rest)
+        ],
+      )
+
+  -- room that was made in the map was made in the set
+  pub room-keys : (c d : Contents (K × Unit {0}) S) → MakesRoom hash (λ p. p.0) c (hash k) d → MakesRoom hash (λ q. q) (of_map c) (hash k) (of_map d)
+  room-keys c d h =
+      let f : K × Unit {0} → K = λ p. p.0 in
+      let s = shows c in
+      let t = shows d in
+      record {
+        rests = Rests-mapped f c d h.rests;
+        growth = Grows-mapped f c d h.growth;
+        made = ready-keys d h.made;
+        due = λ ne room. h.due (λ e. ne (t.buckets ∙ e ∙ sym s.buckets)) (HasRoomBy-from_mapped f (λ q. q) hash c k room);
+        all = rw (s.buckets, t.buckets, t.pending) h.all;
+        first = rw (s.buckets, t.pending) h.first;
+        same = λ some e. let r = h.same (rw s.buckets at some) (sym t.buckets ∙ e ∙ s.buckets) in (lists-keys c d r.0, waiting-keys c d r.1);
+      }
+
+module _ {K S T : Type 0} (build : builder.Ghosts S T) (feed : hasher.Ghosts T) (input : K → HashWrites) (c : Contents (K × Unit {0}) S) (k : K) where
+  pub ready-hashed : IsReadyFor (key_hash build feed input (of_map c)) (λ q. q) (of_map c) k → IsReadyFor (key_hash build feed input c) (λ (p : K × Unit {0}). p.0) c k
+  ready-hashed h = ready-pairs (key_hash build feed input c) k c (subst (λ (hash : K → ℕ). IsReadyFor hash (λ q. q) (of_map c) k) (hash-same build feed input c) h)
+
+  pub room-hashed : (d : Contents (K × Unit {0}) S) → MakesRoom (key_hash build feed input c) (λ (p : K × Unit {0}). p.0) c (key_hash build feed input c k) d
+      → MakesRoom (key_hash build feed input (of_map c)) (λ q. q) (of_map c) (key_hash build feed input (of_map c) k) (of_map d)
+  room-hashed d h = subst (λ (hash : K → ℕ). MakesRoom hash (λ q. q) (of_map c) (hash k) (of_map d)) (sym (hash-same build feed input c)) (room-keys (key_hash build feed input c) k c d h)

@@ -1,0 +1,9 @@
+-- Clones of what was found.
+use Rattle.std.specs.Prelude.{Option, None, Some}
+
+-- a clone of what is there, and nothing where nothing is
+abbrev pub IsCopied : {X Y : Type 0} → (X → Y → Type 0) → Option X → Option Y → Type 0
+IsCopied is_clone None None = Unit {0}
+IsCopied is_clone (Some x) (Some y) = is_clone x y
+IsCopied is_clone None (Some y) = ⊥
+IsCopied is_clone (Some x) None = ⊥
