@@ -6,9 +6,13 @@ mod caches;
 #[cfg(test)]
 mod fixtures;
 #[cfg(test)]
+mod index_growths;
+#[cfg(test)]
 mod indexes;
 #[cfg(test)]
 mod insertions;
+#[cfg(test)]
+mod kinds_of_runs;
 #[cfg(test)]
 mod making;
 #[cfg(test)]
