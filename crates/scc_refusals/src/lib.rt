@@ -30,6 +30,8 @@ mod runs;
 #[cfg(test)]
 mod scripts;
 #[cfg(test)]
+mod scripts_of_workers;
+#[cfg(test)]
 mod sets;
 #[cfg(test)]
 mod walks;

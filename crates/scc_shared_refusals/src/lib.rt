@@ -1,4 +1,4 @@
-//! Tests of containers that threads share, and of workers and scripts, which hold whichever request for memory is refused, one request in a run: `rt try --test --fail-alloc N` refuses the Nth of each test.
+//! Tests of containers that threads share, and of workers, which hold whichever request for memory is refused, one request in a run: `rt try --test --fail-alloc N` refuses the Nth of each test.
 #![tactic(auto)]
 
 #[cfg(test)]
@@ -17,8 +17,6 @@ mod making;
 mod maps;
 #[cfg(test)]
 mod reservations;
-#[cfg(test)]
-mod scripts;
 #[cfg(test)]
 mod sets;
 #[cfg(test)]
