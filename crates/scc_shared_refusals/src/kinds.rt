@@ -101,3 +101,6 @@ pub(crate) trait Kind: Makes {
 
 // The items of which containers are made.
 pub(crate) const ITEMS: [(u64, u64); 4] = [(0, !0), (1, !1), (2, !2), (1, !1)];
+
+// The items of which sets are made.
+pub(crate) const KEYS: [u64; 4] = [0, 1, 2, 1];

@@ -1,6 +1,6 @@
 // The set that threads share, as the tests call it.
 use crate::fixtures::Refusal;
-use crate::kinds::{Added, ITEMS, Kind, Makes, Way, What};
+use crate::kinds::{Added, KEYS, Kind, Makes, Way, What};
 use scc::hash_set::HashSet;
 use scc::{KeyError, MakeError};
 use scc_fixtures::zero::Zero;
@@ -92,6 +92,6 @@ impl Kind for Set {
     }
 
     fn of_items<R: Wait>(rt: &R, alloc: Global) -> Result<Self, MakeError> {
-        HashSet::try_from_iter(rt, alloc, ITEMS.map(|item| item.0))
+        HashSet::try_from_iter(rt, alloc, KEYS)
     }
 }

@@ -152,10 +152,10 @@ fn shared_cache_clear_refused_its_shrink(rt: HostRuntime) -> Result<(), Fail> {
 fn shared_cache_remove_refused_its_shrink(rt: HostRuntime) -> Result<(), Fail> {
     let mut refusal = Refusal::new();
     let cache = doubled::<Cache, HostRuntime>(&rt, &mut refusal)?;
-    let mut key = 0u64;
-    while key < 34 && cache.len(&rt) > 16 {
-        let _there = cache.remove(&rt, key);
-        key = key.wrapping_add(1);
+    for key in 0..34u64 {
+        if cache.len(&rt) > 16 {
+            let _there = cache.remove(&rt, key);
+        }
     }
     assert_eq!(rt; cache.len(&rt), 16);
     if !expect_smaller(&rt, &mut refusal, &cache) {

@@ -14,6 +14,7 @@ pub enum Way {
 }
 
 /// A first key, and the first one of a full bucket.
+#[derive(Clone, Copy)]
 pub struct Insertions {
     pub way: Way,
     pub is_hungry: bool,

@@ -93,7 +93,7 @@ fn run_records<R: Wait + AllocGlobal + Print>(rt: &R, is_hungry: bool) -> u8 {
 }
 
 // Whether memory is to be taken.
-fn is_hungry(rt: &HostRuntime) -> bool {
+fn asks_for_hunger(rt: &HostRuntime) -> bool {
     match env::args(rt) {
         Ok(words) => words.skip(1).next().is_some(),
         Err(_) => false,
@@ -101,7 +101,7 @@ fn is_hungry(rt: &HostRuntime) -> bool {
 }
 
 fn main(rt: HostRuntime) -> ExitCode {
-    let is_hungry = is_hungry(&rt);
+    let is_hungry = asks_for_hunger(&rt);
     let worst = run_insertions(&rt, is_hungry)
         .max(run_pairs(&rt, is_hungry))
         .max(run_making(&rt, is_hungry))
