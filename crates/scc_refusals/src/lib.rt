@@ -20,6 +20,8 @@ mod recorded;
 #[cfg(test)]
 mod recorded_cache_texts;
 #[cfg(test)]
+mod recorded_kinds;
+#[cfg(test)]
 mod recorded_texts;
 #[cfg(test)]
 mod removals;
