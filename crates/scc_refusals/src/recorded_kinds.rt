@@ -11,7 +11,7 @@ use scc::recorded::{
 };
 use scc::{MakeError, hash_cache, hash_index, hash_set};
 use scc_fixtures::zero::Zero;
-use scc_table::Shared;
+use scc_table::{Share, Shared};
 use std::io::Print;
 use std::marker::Brand;
 use std::process::Abort;
@@ -203,7 +203,7 @@ fn call_and_finish<C: Tried, L: Ledger, M: Site<C::Hasher>, R: AllocGlobal + Abo
     records: Blank,
 ) -> bool
 where
-    C::Hasher: Drop,
+    C::Hasher: Share + Drop,
     requires receipts { (receipts.name ≡ L.name) × (receipts.parts ≡ L.parts) × (receipts.parts ≡ 1) }
     requires records { (records.name ≡ M.name) × (records.parts ≡ M.parts) × (records.parts ≡ 1) }
     requires site { (M.chosen ≡ Some (request_of 0 64 hasher 1)) × (M.all ≡ 1) }
