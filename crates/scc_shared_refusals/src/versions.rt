@@ -76,13 +76,19 @@ fn expect_modified<R: Abort + Print + Wait>(
     let before = index.read(rt, key);
     match index.entry_sync(rt, key).and_modify(|value| *value ^ 1) {
         Ok(entry) => assert_eq!(rt; *entry.key(), key),
-        Err((Entry::Occupied(mut entry), value)) => {
+        Err(back) => {
             refusal.meet(rt, "a modification in a shared index");
+            let value = back.1;
             assert_eq!(rt; before, Some(value ^ 1));
-            assert_eq!(rt; (*entry.key(), *entry.get()), (key, value ^ 1));
-            assert_eq!(rt; entry.update(value), Ok(()));
+            let back = back.0;
+            match back {
+                Entry::Occupied(mut entry) => {
+                    assert_eq!(rt; (*entry.key(), *entry.get()), (key, value ^ 1));
+                    assert_eq!(rt; entry.update(value), Ok(()));
+                }
+                Entry::Vacant(_) => assert!(rt; false, "the key is there"),
+            }
         }
-        Err((Entry::Vacant(_), _)) => assert!(rt; false, "the key is there"),
     }
     assert_eq!(rt; index.read(rt, key).map(|value| value ^ 1), before);
 }

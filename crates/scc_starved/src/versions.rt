@@ -52,8 +52,14 @@ fn modify(index: &mut Index, hunger: &mut Hunger) -> Option<bool> {
     hunger.end();
     match answer {
         Ok(_) => None,
-        Err((Entry::Occupied(entry), value)) => Some(*entry.get() == 10 && value == 11),
-        Err((Entry::Vacant(_), _)) => Some(false),
+        Err(back) => {
+            let value = back.1;
+            let back = back.0;
+            match back {
+                Entry::Occupied(entry) => Some(*entry.get() == 10 && value == 11),
+                Entry::Vacant(_) => Some(false),
+            }
+        }
     }
 }
 
