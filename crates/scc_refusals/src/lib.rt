@@ -6,15 +6,21 @@ mod caches;
 #[cfg(test)]
 mod fixtures;
 #[cfg(test)]
+mod index_growths;
+#[cfg(test)]
 mod indexes;
 #[cfg(test)]
 mod insertions;
+#[cfg(test)]
+mod kinds_of_runs;
 #[cfg(test)]
 mod making;
 #[cfg(test)]
 mod recorded;
 #[cfg(test)]
 mod recorded_cache_texts;
+#[cfg(test)]
+mod recorded_kinds;
 #[cfg(test)]
 mod recorded_texts;
 #[cfg(test)]
@@ -25,6 +31,8 @@ mod reservations;
 mod runs;
 #[cfg(test)]
 mod scripts;
+#[cfg(test)]
+mod scripts_of_workers;
 #[cfg(test)]
 mod sets;
 #[cfg(test)]

@@ -1,6 +1,13 @@
-// Streams that fail while a script is read or its output is written.
-use scc_play::play::{NO_MEMORY, STREAM_FAILED, play};
+// Streams that fail while a script is read or its output is written, at each byte in turn.
+use scc_play::play::{BAD_CALL, FINISHED, NO_MEMORY, STREAM_FAILED, play};
 use std::io::{Error, ErrorKind, Read, Result, Write};
+use std::process::Abort;
+use std::sync::Wait;
+use std::thread::Threads;
+
+const GOOD: &[u8] = b"map 1 1\n0 len\n";
+
+const BAD: &[u8] = b"cache 1 8\n";
 
 // Gives the bytes of `first`, and then fails.
 #[derive(Drop)]
@@ -18,48 +25,78 @@ impl Read for FailingReader<'_> {
     }
 }
 
-#[test]
-fn run_failing_reader(rt: HostRuntime) {
-    let good = b"map 1 1\n0 len\n".as_slice();
-    for first in [b"".as_slice(), good, b"cache 1 8\n".as_slice()] {
-        let mut output = Vec::new(rt.alloc());
+// Plays the script from a reader that fails in that way after each number of its bytes: each time the text alone is written.
+fn expect_reader<R: AllocGlobal + Abort + Threads + Wait + Sync>(
+    rt: &R,
+    script: &[u8],
+    kind: ErrorKind,
+    text: &[u8],
+    status: u8,
+) {
+    for given in 0..=script.len() {
+        let mut place = [0u8; 64];
         let mut reader = FailingReader {
-            first,
-            kind: ErrorKind::Other,
+            first: &script[..given],
+            kind,
         };
-        let status = play(&rt, rt.alloc(), &mut reader, &mut output);
-        assert_eq!(rt; status, STREAM_FAILED);
-        assert_eq!(rt; output.len(), 0);
+        let mut writer = place.as_mut_slice();
+        assert_eq!(rt; play(rt, rt.alloc(), &mut reader, &mut writer), status);
+        let written = 64usize.saturating_sub(writer.len());
+        assert_eq!(rt; place.get(..written), Some(text));
     }
 }
 
 #[test]
-fn run_reader_without_memory(rt: HostRuntime) {
-    let mut output = Vec::new(rt.alloc());
-    let mut reader = FailingReader {
-        first: b"cache 1 8\n".as_slice(),
-        kind: ErrorKind::OutOfMemory,
-    };
-    let status = play(&rt, rt.alloc(), &mut reader, &mut output);
-    assert_eq!(rt; output.as_slice(), b"out of memory\n".as_slice());
-    assert_eq!(rt; status, NO_MEMORY);
+fn run_failing_reader(rt: HostRuntime) {
+    expect_reader(&rt, GOOD, ErrorKind::Other, b"", STREAM_FAILED);
+    expect_reader(&rt, BAD, ErrorKind::Other, b"", STREAM_FAILED);
 }
 
-// Takes `room` bytes, and then fails; fails at a flush where it is told to.
+#[test]
+fn run_reader_without_memory(rt: HostRuntime) {
+    let text = b"out of memory\n".as_slice();
+    expect_reader(&rt, GOOD, ErrorKind::OutOfMemory, text, NO_MEMORY);
+    expect_reader(&rt, BAD, ErrorKind::OutOfMemory, text, NO_MEMORY);
+}
+
+// Takes `room` bytes, which it keeps, and then fails; fails at a flush where it is told to.
 #[derive(Drop)]
 struct FailingWriter {
+    place: [u8; 64],
+    taken: usize,
     room: usize,
     fails_at_flush: bool,
 }
 
+impl FailingWriter {
+    fn new(room: usize, fails_at_flush: bool) -> FailingWriter {
+        FailingWriter {
+            place: [0u8; 64],
+            taken: 0,
+            room,
+            fails_at_flush,
+        }
+    }
+}
+
 impl Write for FailingWriter {
     fn write(&mut self, buf: &[u8]) -> Result<usize> {
-        let taken = self.room.min(buf.len());
-        if taken == 0 {
+        let mut given = 0usize;
+        for byte in buf {
+            if self.taken >= self.room {
+                break;
+            }
+            match self.place.get_mut(self.taken) {
+                Some(here) => *here = *byte,
+                None => break,
+            }
+            self.taken = self.taken.saturating_add(1);
+            given = given.saturating_add(1);
+        }
+        if given == 0 {
             return Err(Error::from(ErrorKind::StorageFull));
         }
-        self.room -= taken;
-        Ok(taken)
+        Ok(given)
     }
 
     fn flush(&mut self) -> Result<()> {
@@ -70,24 +107,35 @@ impl Write for FailingWriter {
     }
 }
 
+// Plays the script to a writer that fails after each number of bytes that is too small for the text, and at the flush: each time it got the text's first bytes. One with room gets the text.
+fn expect_writer<R: AllocGlobal + Abort + Threads + Wait + Sync>(
+    rt: &R,
+    script: &[u8],
+    text: &[u8],
+    status: u8,
+) {
+    for room in 0..=text.len() {
+        for fails_at_flush in [false, true] {
+            let mut reader = script;
+            let mut writer = FailingWriter::new(room, fails_at_flush);
+            let whole = room == text.len() && !fails_at_flush;
+            assert_eq!(rt;
+                play(rt, rt.alloc(), &mut reader, &mut writer),
+                if whole { status } else { STREAM_FAILED }
+            );
+            assert_eq!(rt; writer.taken, room);
+            assert_eq!(rt; writer.place.get(..room), text.get(..room));
+        }
+    }
+}
+
 #[test]
 fn run_failing_writer(rt: HostRuntime) {
-    for script in [b"map 1 1\n0 len\n".as_slice(), b"".as_slice()] {
-        for (room, fails_at_flush) in [(0, false), (1, false), (10, false), (1000, true)] {
-            let mut reader = script;
-            let mut writer = FailingWriter {
-                room,
-                fails_at_flush,
-            };
-            let status = play(&rt, rt.alloc(), &mut reader, &mut writer);
-            assert_eq!(rt; status, STREAM_FAILED);
-        }
-        let mut reader = script;
-        let mut writer = FailingWriter {
-            room: 1000,
-            fails_at_flush: false,
-        };
-        let status = play(&rt, rt.alloc(), &mut reader, &mut writer);
-        assert_ne!(rt; status, STREAM_FAILED);
-    }
+    expect_writer(
+        &rt,
+        GOOD,
+        b"worker 0\ncount 0\ncontents 0\nrecords 1\n",
+        FINISHED,
+    );
+    expect_writer(&rt, b"", b"line 1: bad call\n", BAD_CALL);
 }
