@@ -107,7 +107,9 @@ fn is_receipt<C: Turns>(
 ) -> bool {
     match receipts.get(place) {
         Some(receipt) => {
-            (receipt.stripe, receipt.stamp) == at && receipt.call == *call && receipt.reply == *reply
+            (receipt.stripe, receipt.stamp) == at
+                && receipt.call == *call
+                && receipt.reply == *reply
         }
         None => false,
     }
@@ -123,12 +125,14 @@ fn count_receipted<C: Turns>(
     let mut right = true;
     let mut count = 0usize;
     for place in finished.order.iter() {
-        let Some(Step::Call {
-            stamp,
-            pass,
-            call,
-            reply,
-        }) = step_at(finished, *place)
+        let Some(
+            Step::Call {
+                stamp,
+                pass,
+                call,
+                reply,
+            },
+        ) = step_at(finished, *place)
         else {
             continue;
         };

@@ -103,7 +103,11 @@ fn wanted(gate: &Notes, stops: (usize, usize), worker: usize, j: usize) -> u64 {
             digits = if place.1 == j { 0x1 } else { 0 };
         }
     }
-    if stops.0 == worker && stops.1 < j { 0 } else { digits }
+    if stops.0 == worker && stops.1 < j {
+        0
+    } else {
+        digits
+    }
 }
 
 // Whether just what had to come to the gate came to it.
@@ -144,8 +148,10 @@ fn all_go_on<R: Threads + Wait + Sync>(rt: &R, alloc: Global) -> Result<bool, Al
 fn one_stops<R: Threads + Wait + Sync>(rt: &R, alloc: Global) -> Result<bool, AllocError> {
     let early = end_of(rt, alloc, [NOBODY, NOBODY], (0, 2))?;
     let late = end_of(rt, alloc, [NOBODY, NOBODY], (66, 0))?;
-    Ok(matches!(early, Some(Err(RunError::Stopped)))
-        && matches!(late, Some(Err(RunError::Stopped))))
+    Ok(
+        matches!(early, Some(Err(RunError::Stopped)))
+            && matches!(late, Some(Err(RunError::Stopped))),
+    )
 }
 
 fn two_are_given_up<R: Threads + Wait + Sync>(rt: &R, alloc: Global) -> Result<bool, AllocError> {
@@ -170,5 +176,7 @@ pub(crate) fn run_gates<R: Threads + Wait + Sync + AllocGlobal + Print>(rt: &R) 
     let one = say(rt, who, "one stops", one_stops(rt, alloc));
     let two = say(rt, who, "two are given up", two_are_given_up(rt, alloc));
     let both = two_are_given_up_and_one_stops(rt, alloc);
-    all.max(one).max(two).max(say(rt, who, "two are given up, one stops", both))
+    all.max(one)
+        .max(two)
+        .max(say(rt, who, "two are given up, one stops", both))
 }

@@ -135,16 +135,15 @@ fn work_in_phases<
 }
 
 fn in_phases<R: Threads + Wait + Sync>(rt: &R, alloc: Global) -> Result<bool, AllocError> {
-    work_in_phases::<Brand, Brand, _>(
-        rt,
-        alloc,
-        shared(alloc)?,
-        Blank::new(2),
-        Blank::new(2),
-    )
+    work_in_phases::<Brand, Brand, _>(rt, alloc, shared(alloc)?, Blank::new(2), Blank::new(2))
 }
 
 /// A line for the two phases, and its status.
 pub(crate) fn run_phases<R: Threads + Wait + Sync + AllocGlobal + Print>(rt: &R) -> u8 {
-    say(rt, "recorded map", "two phases, one told of the other", in_phases(rt, rt.alloc()))
+    say(
+        rt,
+        "recorded map",
+        "two phases, one told of the other",
+        in_phases(rt, rt.alloc()),
+    )
 }

@@ -35,7 +35,10 @@ impl Plain {
 
     /// The value of the key, where it is there.
     pub fn value(&self, key: u64) -> Option<u64> {
-        self.pairs.iter().find(|pair| pair.0 == key).map(|pair| pair.1)
+        self.pairs
+            .iter()
+            .find(|pair| pair.0 == key)
+            .map(|pair| pair.1)
     }
 
     /// The key, where it is there.
@@ -120,10 +123,7 @@ impl Plain {
     /// Whether a walk that met those pairs met just these.
     pub fn is_met_by(&self, met: &[Seen]) -> bool {
         self.pairs.len() == met.len()
-            && self
-                .pairs
-                .iter()
-                .all(|pair| met.iter().any(|other| *other == (pair.0, 0, pair.1)))
+            && self.pairs.iter().all(|pair| met.iter().any(|other| *other == (pair.0, 0, pair.1)))
     }
 
     /// Whether it met them bucket by bucket, in their order.

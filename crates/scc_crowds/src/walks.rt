@@ -133,7 +133,11 @@ fn come_and_go<C: Walked, R: Wait>(rt: &R, container: &C, writer: u64) -> bool {
 }
 
 // Whether each walk meets each of the kept keys once.
-fn walk_often<C: Walked, R: Wait>(rt: &R, alloc: Global, container: &C) -> Result<bool, AllocError> {
+fn walk_often<C: Walked, R: Wait>(
+    rt: &R,
+    alloc: Global,
+    container: &C,
+) -> Result<bool, AllocError> {
     let mut once = true;
     for _ in 0..ROUNDS {
         let mut met = vec![in alloc; 0u64; KEPT as usize]?;
@@ -203,12 +207,8 @@ fn of_index<R: Threads + Wait + Sync>(rt: &R, alloc: Global) -> Result<bool, All
 }
 
 fn of_cache<R: Threads + Wait + Sync>(rt: &R, alloc: Global) -> Result<bool, AllocError> {
-    let Ok(cache) = HashCache::<u64, u64, Same>::with_capacity_and_hasher(
-        alloc,
-        SLOTS,
-        SLOTS,
-        Same,
-    ) else {
+    let Ok(cache) = HashCache::<u64, u64, Same>::with_capacity_and_hasher(alloc, SLOTS, SLOTS, Same)
+    else {
         return Err(AllocError);
     };
     let filled = fills(rt, &cache);

@@ -116,7 +116,7 @@ fn evicts<F: Form<u64, u64>>(form: &mut F, from: u64, to: u64) -> bool {
     let mut evicted = true;
     for number in from..to {
         let key = number.reverse_bits();
-        let least = number - MAXIMUM;
+        let least = number.wrapping_sub(MAXIMUM);
         let gone = (least.reverse_bits(), 0, value_of(least));
         evicted &= form.insert(key, value_of(number)) == Answer::Added(Some(gone));
     }
@@ -151,7 +151,7 @@ fn has_each_once(alloc: Global, versions: hash_index::Iter<u64, u64>) -> Result<
         let Some(version) = versions.next() else {
             break;
         };
-        let number = (*version.key() * 2).reverse_bits();
+        let number = version.key().wrapping_mul(2).reverse_bits();
         let place = number as usize;
         if let Some(is_met) = met.get_mut(place) {
             right &= !*is_met && *version.value() == value_of(number);
