@@ -1,32 +1,46 @@
-//! Makes long runs of random calls on a map and on a plain list of pairs, and says whether all answers were the same.
+//! Makes long runs of random calls on a container of each kind and form and on a plain list of pairs, and prints for each run whether all answers and all contents were the same.
 //!
-//! The argument is the number of calls of each run; with none a run has a thousand. There are three runs: under a good hasher, under one whose hash is the key, and with all keys in one bucket. It takes time by the calls. The status is 0 where the answers were the same, 1 where one differed, 2 where the argument is no number, and 3 where memory was refused.
+//! The argument is the number of calls of each run; with none a run has a thousand. There are runs under a good hasher, under one whose hash is the key, under one that differs above the lowest 7 bits alone, and with all hashes 0. They take time by the calls times the pairs. The status is 0 where all were the same, 1 where one differed, 2 where the argument is no number, and 3 where memory was refused or a line could not be written.
 #![tactic(auto)]
 
-use scc::hash_map::Owned;
-use scc_fixtures::random_calls::agrees_with_a_list;
+mod answers;
+mod calls;
+mod crowded;
+mod list;
+mod run;
+mod sizes;
+
+use crowded::run_crowded;
+use run::Run;
+use scc_fixtures::alike::Alike;
 use scc_fixtures::zero::Zero;
 use scc_script::number::parse_number;
 use scc_script::same::Same;
-use std::alloc::{AllocError, Global};
+use scc_shared_forms::every::in_every_form;
+use sizes::run_sizes;
 use std::env;
-use std::hash::{BuildHasherDefault, FoldHasher};
 use std::process::ExitCode;
 use std::rt::Env;
+use std::sync::Wait;
 
 /// The calls of a run where no number is asked for.
 const USUAL_CALLS: u64 = 1000;
 
-// Whether the three runs agree with the list.
-fn all_agree(alloc: Global, calls: u64) -> Result<bool, AllocError> {
-    let mut good = Owned::with_hasher(alloc, BuildHasherDefault::<FoldHasher>::new());
-    let mut own = Owned::with_hasher(alloc, Same);
-    let mut one = Owned::with_hasher(alloc, Zero);
-    Ok(
-        agrees_with_a_list(alloc, &mut good, calls, 2047)?
-            && agrees_with_a_list(alloc, &mut own, calls, 511)?
-            && agrees_with_a_list(alloc, &mut one, calls, 255)?,
-    )
+// Runs of so many calls under each hasher, in each kind and form.
+fn run_all<R: Wait + AllocGlobal + Print>(rt: &R, calls: u64) -> u8 {
+    let one = Run {
+        calls,
+        mask: 1023,
+        has_one_bucket: true,
+    };
+    let many = Run {
+        calls,
+        mask: 4095,
+        has_one_bucket: false,
+    };
+    let mut worst = in_every_form(rt, &one, "all hashes 0", Zero);
+    worst = worst.max(in_every_form(rt, &many, "one tag", Alike));
+    worst.max(in_every_form(rt, &many, "hashes of their own", Same))
 }
 
 // The number in the argument, the usual one where there is none.
@@ -41,13 +55,11 @@ fn calls_asked<R: Env + Alloc>(rt: &R) -> Option<u64> {
 }
 
 fn main(rt: HostRuntime) -> ExitCode {
-    let Some(calls) = calls_asked(&rt) else {
-        return ExitCode::from(2);
-    };
-    let status = match all_agree(rt.alloc(), calls) {
-        Ok(true) => 0,
-        Ok(false) => 1,
-        Err(_) => 3,
-    };
-    ExitCode::from(status)
+    match calls_asked(&rt) {
+        Some(calls) => {
+            let worst = run_all(&rt, calls);
+            ExitCode::from(worst.max(run_sizes(&rt)).max(run_crowded(&rt)))
+        }
+        None => ExitCode::from(2),
+    }
 }

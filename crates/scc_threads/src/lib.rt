@@ -1,4 +1,4 @@
-//! Recorded containers as their callers use them, in one thread and in several, each case under its plain name.
+//! Recorded containers as their callers use them, each case under its plain name.
 #![tactic(auto)]
 
 #[cfg(test)]
@@ -6,8 +6,4 @@ mod as_run;
 #[cfg(test)]
 mod cases;
 #[cfg(test)]
-mod crews;
-#[cfg(test)]
 mod scripts;
-#[cfg(test)]
-mod workers;

@@ -1,8 +1,10 @@
-// Workers that share one recorded container, and the run of one thread that their records stand beside.
+//! What workers do on one recorded container, and the workers themselves.
 ghost use Rattle.scc_recorded.specs.Copies.{ClonesEqual};
 
-use scc_recorded::recorded::{Step, WholeCalls, run};
-use scc_recorder::recorder::{Finished, Pass, Recorded, Site};
+use crate::plain::Plain;
+use scc_forms::form::Form;
+use scc_recorded::recorded::Calls;
+use scc_recorder::recorder::{Pass, Recorded, Site};
 use scc_workers::stripes::Work;
 use std::alloc::{AllocError, Global};
 use std::sync::Wait;
@@ -12,22 +14,27 @@ pub(crate) const WORKERS: u64 = 8;
 
 const TURNS: u64 = 200;
 
-// How many keys each worker has to itself.
-const OWN: u64 = 25;
-
 // How many keys all share.
 const SHARED: u64 = 8;
 
 // What workers do on a container of each kind.
-pub(crate) trait Turns: WholeCalls + Drop {
+pub(crate) trait Turns: Calls + Drop + Form<u64, u64> {
     // The call of a turn on a key of the worker's own, and what it is answered where nobody else is there, if that can be known.
     fn own_turn(key: u64, j: u64) -> (Self::Call, Option<Self::Reply>);
 
     // The call of a turn on a key that all share.
     fn shared_turn(key: u64, j: u64) -> Self::Call;
 
-    // The call that tells what a key has.
-    fn probe(key: u64) -> Self::Call;
+    // Makes a call on a plain list, and says whether its reply is the right one.
+    fn plays(
+        alloc: Global,
+        plain: &mut Plain,
+        call: &Self::Call,
+        reply: &Self::Reply,
+    ) -> Result<bool, AllocError>;
+
+    // Whether a walk meets pairs bucket by bucket, each bucket's by recency.
+    fn is_ordered() -> bool;
 
     fn equal_calls()
         ensures { ClonesEqual Self.Call.is_clone Self.Call.eq };
@@ -71,21 +78,6 @@ pub(crate) fn all_turns<C: Turns>(
         lists.push(turns_of::<C>(alloc, worker)?)?;
     }
     Ok(lists)
-}
-
-// What is asked of each key in the end.
-fn probes<C: Turns>(alloc: Global) -> Result<Vec<C::Call>, AllocError> {
-    let mut calls = Vec::new(alloc);
-    for n in 0..SHARED + WORKERS * OWN {
-        let key = if n < SHARED {
-            n
-        } else {
-            own_key((n - SHARED) / OWN, (n - SHARED) % OWN)
-        };
-        calls.push(C::probe(key))?;
-    }
-    calls.push(C::len_call())?;
-    Ok(calls)
 }
 
 // Whether that was answered, if it can be known.
@@ -174,65 +166,4 @@ pub(crate) fn passes_of<C: Turns, L: Ledger, M: Site<C::Hasher>, R: Wait>(
         passes.push(pass)?;
     }
     Ok(if alone { Some(passes) } else { None })
-}
-
-// The calls along the order of steps, and what they were answered.
-fn records_of<C: Turns>(
-    alloc: Global,
-    finished: &Finished<C>,
-) -> Result<(Vec<C::Call>, Vec<C::Reply>), AllocError> {
-    let mut calls = Vec::new(alloc);
-    let mut replies = Vec::new(alloc);
-    for place in finished.order.as_slice() {
-        if let Some(history) = finished.histories.get(place.0) {
-            if let Some(Step::Call { call, reply, .. }) = history.get(place.1) {
-                calls.push(call.clone()?)?;
-                replies.push(reply.clone()?)?;
-            }
-        }
-    }
-    Ok((calls, replies))
-}
-
-// How many call records there are, where a run of them on that part gives the recorded replies and the recorded contents.
-fn records_as_run<C: Turns>(
-    alloc: Global,
-    finished: Finished<C>,
-    alone: C,
-) -> Result<Option<usize>, AllocError> {
-    let (calls, replies) = records_of(alloc, &finished)?;
-    let mut parts = finished.parts;
-    let Some(mut part) = parts.pop() else {
-        return Ok(None);
-    };
-    let mut alone = alone;
-    let mut answered = Vec::new(alloc);
-    let mut wanted = Vec::new(alloc);
-    let mut held = Vec::new(alloc);
-    let asked = probes::<C>(alloc)?;
-    C::equal_calls();
-    C::equal_replies();
-    let ran = run(&mut alone, calls.as_slice(), &mut answered).is_ok()
-        && run(&mut alone, asked.as_slice(), &mut wanted).is_ok()
-        && run(&mut part, asked.as_slice(), &mut held).is_ok();
-    let same = answered.as_slice() == replies.as_slice() && wanted.as_slice() == held.as_slice();
-    Ok(if ran && same { Some(calls.len()) } else { None })
-}
-
-// Finishes a run on one stripe, with the passes in reverse order, and puts it beside one on that part.
-pub(crate) fn finish_as_run<C: Turns, L: Ledger, M: Site<C::Hasher>>(
-    alloc: Global,
-    recorded: Recorded<C, L, M>,
-    passes: Vec<Pass<C, L>>,
-    alone: C,
-) -> Result<Option<usize>, AllocError>
-where
-    C::Hasher: Drop,
-{
-    let mut passes = passes;
-    passes.reverse();
-    match recorded.finish(passes) {
-        Ok(finished) => records_as_run(alloc, finished, alone),
-        Err(_unfinished) => Ok(None),
-    }
 }
