@@ -8,13 +8,13 @@ use std::hash::BuildHasher;
 /// Where a walk starts, and its number of steps.
 pub type Walk = (u64, u64);
 
-/// Where a walk ends: each step takes a number to the rest of its square and one more, by 1,000,003.
+/// Where a walk ends: each step takes a number to the rest of 48,271 times it and eleven, by 1,000,003.
 pub fn end_of_walk(start: u64, steps: u64) -> u64
     ensures { result ≡ end_of start steps }
 {
     let mut at = start % 1_000_003;
     for _ in 0..steps {
-        at = (at * at + 1) % 1_000_003;
+        at = (at * 48_271 + 11) % 1_000_003;
     }
     at
 }
@@ -25,7 +25,7 @@ pub struct EndOfWalk;
 
 impl Pure for EndOfWalk {
     ghost use Rattle.std.proofs.Common.{ap};
-    ghost use Rattle.example_memo.proofs.Pairs.{pairs-equal};
+    ghost use Rattle.example_memo.specs.Pairs.{pairs-equal};
 
     type Key = Walk;
 
