@@ -2,7 +2,7 @@
 use Rattle.std.specs.Prelude.{ℕ, zero, suc, ◌+◌, ◌*◌, ◌%◌}
 
 -- where a walk of so many steps ends that begins there: each step takes a number to the rest of 48271 times it and eleven
-pub walked : ℕ → ℕ → ℕ
+abbrev pub walked : ℕ → ℕ → ℕ
 walked zero at = at
 walked (suc n) at = (walked n at * 48271 + 11) % 1000003
 
