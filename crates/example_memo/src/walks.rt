@@ -1,0 +1,48 @@
+//! A function of two arguments that takes long: where a walk of so many steps ends.
+ghost use Rattle.std.specs.Prelude.{◌≡◌, ◌*◌, ◌+◌, ◌%◌};
+ghost use Rattle.example_memo.specs.Walks.{end_of};
+
+use scc::memo::{Memo, Pure};
+use std::hash::BuildHasher;
+
+/// Where a walk starts, and its number of steps.
+pub type Walk = (u64, u64);
+
+/// Where a walk ends: each step takes a number to the rest of 48,271 times it and eleven, by 1,000,003.
+pub fn end_of_walk(start: u64, steps: u64) -> u64
+    ensures { result ≡ end_of start steps }
+{
+    let mut at = start % 1_000_003;
+    for _ in 0..steps {
+        at = (at * 48_271 + 11) % 1_000_003;
+    }
+    at
+}
+
+/// The function as one that a memo asks.
+#[derive(Drop)]
+pub struct EndOfWalk;
+
+impl Pure for EndOfWalk {
+    ghost use Rattle.std.proofs.Common.{ap};
+    ghost use Rattle.example_memo.specs.Pairs.{pairs-equal};
+
+    type Key = Walk;
+
+    type Value = u64;
+
+    ghost value = { λ _ w. end_of w.0 w.1 };
+
+    ghost equal_alike = { λ p j k same. ap (λ w. end_of w.0 w.1) (pairs-equal j k same) };
+
+    fn of(&self, walk: &Walk) -> u64 {
+        end_of_walk(walk.0, walk.1)
+    }
+}
+
+/// Where the walk ends, by the memo or anew: the same as by the function.
+pub fn end_by_memo<H: BuildHasher>(memo: &mut Memo<EndOfWalk, H>, walk: Walk) -> u64
+    ensures { result ≡ end_of walk.0 walk.1 }
+{
+    memo.get(walk)
+}

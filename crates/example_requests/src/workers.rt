@@ -1,0 +1,62 @@
+//! Workers, each with the cache of the requests that leave the same rest by their number.
+use crate::serving::{Answers, Tally, serve};
+use std::alloc::Global;
+use std::hash::BuildHasherDefault;
+use std::io;
+use std::thread::{Threads, map_indices};
+
+/// How many workers there are.
+const WORKERS: u64 = 4;
+
+/// No request yet.
+const NONE: Tally = Tally {
+    hits: 0,
+    misses: 0,
+    evictions: 0,
+};
+
+// What the worker's cache does with the requests that are its own; nothing where memory is refused.
+fn serve_part(alloc: Global, bound: usize, requests: &[u64], worker: u64) -> Option<Tally> {
+    let mut answers = Answers::with_capacity_and_hasher(
+        alloc,
+        0,
+        bound,
+        BuildHasherDefault::new(),
+    ).ok()?;
+    let mut tally = NONE;
+    for request in requests {
+        if request % WORKERS == worker {
+            tally = serve(&mut answers, tally, *request);
+        }
+    }
+    if tally.misses.wrapping_sub(tally.evictions) == answers.len() as u64 {
+        Some(tally)
+    } else {
+        None
+    }
+}
+
+/// What the caches of all workers do with the requests.
+pub fn serve_all<R: Threads + Sync>(
+    rt: &R,
+    alloc: Global,
+    bound: usize,
+    requests: &[u64],
+) -> io::Result<Tally> {
+    let parts = map_indices(
+        rt,
+        alloc,
+        WORKERS as usize,
+        &|worker| { serve_part(alloc, bound, requests, worker as u64) },
+    )?;
+    let mut all = NONE;
+    for part in parts {
+        let Some(tally) = part else {
+            return Err(io::Error::from(io::ErrorKind::OutOfMemory));
+        };
+        all.hits = all.hits.saturating_add(tally.hits);
+        all.misses = all.misses.saturating_add(tally.misses);
+        all.evictions = all.evictions.saturating_add(tally.evictions);
+    }
+    Ok(all)
+}

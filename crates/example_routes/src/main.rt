@@ -1,0 +1,70 @@
+//! Publishes the routes of standard input, lines `DESTINATION HOP`, in an index that four workers share, while they keep the versions that went; and makes the same calls on a recorded index, whose audit says that every merge of its histories is a run.
+//!
+//! The status is 2 where a line isn't two numbers, which is named, 3 where memory is refused, 4 where a stream fails, and 5 where the recorded run can't be finished.
+#![tactic(auto)]
+
+mod input;
+mod recorded;
+mod routes;
+mod workers;
+
+use input::{Input, Line, read_lines};
+use recorded::record;
+use std::alloc::Global;
+use std::io::{self, Read};
+use std::process::ExitCode;
+use std::sync::Wait;
+use std::thread::Threads;
+use workers::{listed, publish_all};
+
+// The routes as they are in the end, by destination.
+fn print_routes<R: Print>(rt: &R, routes: &[Line]) -> io::Result<()> {
+    for (destination, hop) in routes {
+        println!(rt; "{destination} {hop}")?;
+    }
+    Ok(())
+}
+
+// Publishes and records the lines, and prints what came of it.
+fn print_all<R: Threads + Sync + Wait + Print>(
+    rt: &R,
+    alloc: Global,
+    lines: &[Line],
+) -> io::Result<()> {
+    let published = publish_all(rt, alloc, lines)?;
+    let routes = listed(rt, alloc, &published.routes)?;
+    print_routes(rt, routes.as_slice())?;
+    let kept = published.kept;
+    println!(rt; "{kept} versions that went were kept")?;
+    let calls = record(rt, alloc, lines)?;
+    println!(rt; "{calls} recorded calls: every merge is a run")?;
+    Ok(())
+}
+
+// What standard input asks for, and the status.
+fn run<R: Threads + Sync + Wait + Print, I: Read + Drop>(
+    rt: &R,
+    alloc: Global,
+    reader: I,
+) -> io::Result<u8> {
+    match read_lines(alloc, reader)? {
+        Input::Lines(lines) => {
+            print_all(rt, alloc, lines.as_slice())?;
+            Ok(0)
+        }
+        Input::BadLine(number) => {
+            println!(rt; "line {number}: not two numbers")?;
+            Ok(2)
+        }
+    }
+}
+
+fn main(rt: HostRuntime) -> ExitCode {
+    let status = match run(&rt, rt.alloc(), rt.reader()) {
+        Ok(status) => status,
+        Err(error) if error.kind() == io::ErrorKind::OutOfMemory => 3,
+        Err(error) if error.kind() == io::ErrorKind::InvalidData => 5,
+        Err(_) => 4,
+    };
+    ExitCode::from(status)
+}

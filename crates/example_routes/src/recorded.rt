@@ -1,0 +1,138 @@
+//! A recorded index, and the audit of its run.
+ghost use Rattle.std.specs.Prelude.{◌≡◌, IfOk, Some, map};
+ghost use Rattle.scc_recorder.specs.Finished.{IsFinished};
+ghost use Rattle.scc_recorder.specs.Setups.{request_of};
+ghost use Rattle.scc_table.specs.Routing.{stripe_of};
+
+use crate::input::Line;
+use crate::routes::out_of_memory;
+use scc::hash_index::Owned;
+use scc::recorded::{
+    Calls, FinishError, Finished, IndexCall, Pass, Recorded, Reply, Setup, Site, Step,
+};
+use scc_table::Shared;
+use std::alloc::Global;
+use std::hash::{BuildHasherDefault, FoldHasher};
+use std::io;
+use std::marker::Brand;
+use std::sync::ledger::{Blank, Ledger};
+use std::sync::{Arc, Wait};
+
+type Fold = Shared<BuildHasherDefault<FoldHasher>>;
+
+type Routes = Owned<u64, u64, Fold>;
+
+/// The stripes of the recorded index.
+const STRIPES: usize = 4;
+
+/// The passes, of which every line takes the next.
+const PASSES: usize = 2;
+
+/// Finishes a run. By contract every merge of the histories is then a run of the whole, from no entries to what is there, and the records of each pass are its receipts.
+fn audit<C: Calls + Drop, L: Ledger, M: Site<C::Hasher>>(
+    recorded: Recorded<C, L, M>,
+    passes: Vec<Pass<C, L>>,
+) -> io::Result<Finished<C>>
+where
+    C::Hasher: Drop,
+    ensures { IfOk result (λ f. IsFinished (record { limits = C.limits; empty = C.empty; key_of = C.key_of; moves = C.moves; resizes = C.resizes; whole = C.whole; whole_moves = C.whole_moves; whole_resizes = C.whole_resizes; setting = C.setting; state = C.state; calls = C.Call.eq; replies = C.Reply.eq; route = stripe_of C.Hasher.BuildHasher C.Hasher.Hasher.Hasher C.Key.Hash.hash_input })
+        (λ p. p.log.number) (λ p. p.log.receipts.items) recorded.hasher recorded.passes (map (λ h. h.items) f.histories.items) passes.items M.chosen f.parts.items f.opened.items f.order.items) }
+{
+    match recorded.finish(passes) {
+        Ok(finished) => Ok(finished),
+        Err(unfinished) => match unfinished.cause {
+            FinishError::Memory => Err(out_of_memory()),
+            _ => Err(io::Error::from(io::ErrorKind::InvalidData)),
+        },
+    }
+}
+
+// Publishes a route by the pass: a first one is inserted, a later one is updated.
+fn publish<L: Ledger, M: Site<Fold>, R: Wait>(
+    rt: &R,
+    recorded: &Recorded<Routes, L, M>,
+    pass: &mut Pass<Routes, L>,
+    line: Line,
+) -> bool {
+    match recorded.call(rt, pass, IndexCall::Insert(line.0, line.1)) {
+        Ok(Reply::Exists(_, _)) => recorded
+            .call(rt, pass, IndexCall::Update(line.0, line.1))
+            .is_ok(),
+        Ok(_) => true,
+        Err(_) => false,
+    }
+}
+
+// Publishes every other line from that of the pass on.
+fn publish_part<L: Ledger, M: Site<Fold>, R: Wait>(
+    rt: &R,
+    recorded: &Recorded<Routes, L, M>,
+    pass: &mut Pass<Routes, L>,
+    lines: &[Line],
+    number: usize,
+) -> bool {
+    for line in lines.iter().skip(number).step_by(PASSES) {
+        if !publish(rt, recorded, pass, *line) {
+            return false;
+        }
+    }
+    true
+}
+
+// How many call records there are.
+fn calls_of(finished: &Finished<Routes>) -> u64 {
+    let mut calls = 0u64;
+    for history in finished.histories.as_slice() {
+        for step in history.as_slice() {
+            if let Step::Call { .. } = step {
+                calls = calls.saturating_add(1);
+            }
+        }
+    }
+    calls
+}
+
+// Makes the calls on four stripes by two passes, and audits them.
+fn record_in<L: Ledger, M: Site<Fold>, R: Wait>(
+    rt: &R,
+    alloc: Global,
+    hasher: Fold,
+    receipts: Blank,
+    records: Blank,
+    lines: &[Line],
+) -> io::Result<u64>
+    requires receipts { (receipts.name ≡ L.name) × (receipts.parts ≡ L.parts) × (receipts.parts ≡ 2) }
+    requires records { (records.name ≡ M.name) × (records.parts ≡ M.parts) × (records.parts ≡ 4) }
+    requires site { (M.chosen ≡ Some (request_of 0 0 hasher 4)) × (M.all ≡ 4) }
+{
+    let setup = Setup {
+        capacity: 0,
+        maximum: 0,
+        hasher,
+    };
+    let opened = Recorded::<Routes, L, M>::open(alloc, setup, STRIPES, PASSES, receipts, records);
+    let Ok((recorded, mut passes)) = opened else {
+        return Err(out_of_memory());
+    };
+    for (number, pass) in passes.as_mut_slice().iter_mut().enumerate() {
+        if !publish_part(rt, &recorded, pass, lines, number) {
+            return Err(out_of_memory());
+        }
+    }
+    Ok(calls_of(&audit(recorded, passes)?))
+}
+
+/// Publishes the routes in a recorded index, and answers how many calls were recorded once the audit has held.
+pub fn record<R: Wait>(rt: &R, alloc: Global, lines: &[Line]) -> io::Result<u64> {
+    let Ok(owner) = Arc::new(alloc, BuildHasherDefault::new()) else {
+        return Err(out_of_memory());
+    };
+    record_in::<Brand, Brand, R>(
+        rt,
+        alloc,
+        Shared::new(owner),
+        Blank::new(2),
+        Blank::new(4),
+        lines,
+    )
+}

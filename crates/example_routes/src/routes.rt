@@ -1,0 +1,41 @@
+//! Routes that workers share.
+ghost use Rattle.std.specs.Arc.{arc_value};
+ghost use Rattle.std.specs.Prelude.{◌≡◌, IfOk, IfSome};
+
+use scc::HashIndex;
+use scc::hash_index::{Entry, Version};
+use std::io;
+use std::sync::{Arc, Wait};
+
+/// The next hops, by their destinations.
+pub type Routes = HashIndex<u64, u64>;
+
+/// A route that a reader keeps.
+pub type Kept = Arc<Version<u64, u64>>;
+
+pub fn out_of_memory() -> io::Error {
+    io::Error::from(io::ErrorKind::OutOfMemory)
+}
+
+/// Publishes a hop, and answers the route that was there before, for its reader to keep: of that destination, and it stays what it was.
+pub fn publish<R: Wait>(
+    rt: &R,
+    routes: &Routes,
+    destination: u64,
+    hop: u64,
+) -> io::Result<Option<Kept>>
+    ensures { IfOk result (λ old. IfSome old (λ a. (arc_value a).0 ≡ destination)) }
+{
+    let Ok(old) = routes.peek(rt, &destination) else {
+        return Err(out_of_memory());
+    };
+    let is_published = match routes.entry_sync(rt, destination) {
+        Entry::Occupied(mut entry) => entry.update(hop).is_ok(),
+        Entry::Vacant(entry) => entry.insert_entry(hop).is_ok(),
+    };
+    if is_published {
+        Ok(old)
+    } else {
+        Err(out_of_memory())
+    }
+}

@@ -1,0 +1,64 @@
+//! What is known of each word, in a map that workers share.
+ghost use Rattle.std.specs.Prelude.{◌≡◌, ◌≤◌, ◌<◌, IfOk};
+
+use scc::hash_map::Entry;
+use scc::{HashMap, InsertError};
+use std::sync::Wait;
+
+/// Where a word was met first, and how often it was met.
+#[derive(Clone, Copy, Debug, Drop)]
+pub struct Count {
+    pub first: u64,
+    pub times: u64,
+}
+
+/// What is known of the words that were met.
+pub type Counts<'a> = HashMap<&'a str, Count>;
+
+impl Count {
+    // Met once, there.
+    fn new(place: u64) -> Count
+        ensures { result.first ≡ place }
+    {
+        Count {
+            first: place,
+            times: 1,
+        }
+    }
+
+    // Met once more, there.
+    fn more(self, place: u64) -> Count
+        ensures { (result.first ≤ place) × (result.first ≤ self.first) }
+    {
+        Count {
+            first: if place < self.first {
+                place
+            } else {
+                self.first
+            },
+            times: self.times.saturating_add(1),
+        }
+    }
+}
+
+/// Notes that a word stands there, and answers what is known of it then: it was met there or before.
+pub fn note<'a, R: Wait>(
+    rt: &R,
+    counts: &Counts<'a>,
+    word: &'a str,
+    place: u64,
+) -> Result<Count, InsertError<&'a str, Count>>
+    ensures { IfOk result (λ count. count.first ≤ place) }
+{
+    match counts.entry_sync(rt, word) {
+        Entry::Occupied(mut entry) => {
+            let count = entry.get().more(place);
+            let _old = entry.insert(count);
+            Ok(*entry.get())
+        }
+        Entry::Vacant(entry) => {
+            let entry = entry.insert_entry(Count::new(place))?;
+            Ok(*entry.get())
+        }
+    }
+}
