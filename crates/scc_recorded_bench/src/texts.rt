@@ -17,22 +17,22 @@ use std::time::Instant;
 
 type Names = Owned<String, String, Fold>;
 
-type TextCall = MapCall<String, String>;
+type TextPair = (String, String);
 
-// An upsert of the texts of two numbers.
-fn text_call(alloc: Global, key: u64, value: u64) -> Result<TextCall, AllocError> {
+// The texts of two numbers.
+fn text_pair(alloc: Global, key: u64, value: u64) -> Result<TextPair, AllocError> {
     let key = format!(in alloc; "{key}")?;
     let value = format!(in alloc; "{value}")?;
-    Ok(MapCall::Upsert(key, value))
+    Ok((key, value))
 }
 
-// An upsert of the texts of each pair.
-fn text_calls(alloc: Global, pairs: &[(u64, u64)]) -> Result<Vec<TextCall>, AllocError> {
-    let mut calls = Vec::new(alloc);
+// The texts of each pair.
+fn text_pairs(alloc: Global, pairs: &[(u64, u64)]) -> Result<Vec<TextPair>, AllocError> {
+    let mut texts = Vec::new(alloc);
     for (key, value) in pairs {
-        calls.push(text_call(alloc, *key, *value)?)?;
+        texts.push(text_pair(alloc, *key, *value)?)?;
     }
-    Ok(calls)
+    Ok(texts)
 }
 
 // The sum of the lengths of all values.
@@ -53,10 +53,10 @@ fn sum_of_all(parts: &[Names]) -> u64 {
     sum
 }
 
-// Makes the calls under the lock, and says whether all were made.
-fn make_all<R: Wait>(rt: &R, names: &Mutex<Names>, calls: Vec<TextCall>) -> bool {
-    for call in calls {
-        if names.lock(rt).call(call).is_err() {
+// Upserts the pairs under the lock, and says whether all calls were made.
+fn make_all<R: Wait>(rt: &R, names: &Mutex<Names>, pairs: Vec<TextPair>) -> bool {
+    for (key, value) in pairs {
+        if names.lock(rt).call(MapCall::Upsert(key, value)).is_err() {
             return false;
         }
     }
@@ -67,10 +67,10 @@ fn make_all<R: Wait>(rt: &R, names: &Mutex<Names>, calls: Vec<TextCall>) -> bool
 fn time_plain<R: Wait + Clock>(
     rt: &R,
     names: &Mutex<Names>,
-    calls: Vec<TextCall>,
+    pairs: Vec<TextPair>,
 ) -> io::Result<u64> {
     let start = Instant::now(rt)?;
-    if !make_all(rt, names, calls) {
+    if !make_all(rt, names, pairs) {
         return Err(out_of_memory());
     }
     Ok(nanos(start.elapsed(rt)?))
@@ -90,21 +90,24 @@ pub fn run_plain<R: Wait + Clock>(
     pairs: &[(u64, u64)],
 ) -> io::Result<Outcome> {
     let names = locked_names(alloc, fold_hasher(alloc)?)?;
-    let calls = text_calls(alloc, pairs)?;
-    let spent = time_plain(rt, &names, calls)?;
+    let texts = text_pairs(alloc, pairs)?;
+    let spent = time_plain(rt, &names, texts)?;
     let sum = sum_of(&names.into_inner());
     Ok(Outcome { spent, sum })
 }
 
-// Makes the calls by the pass, and says whether all were made.
+// Upserts the pairs by the pass, and says whether all calls were made.
 fn record_all<L: Ledger, M: Site<Fold>, R: Wait>(
     rt: &R,
     recorded: &Recorded<Names, L, M>,
     pass: &mut Pass<Names, L>,
-    calls: Vec<TextCall>,
+    pairs: Vec<TextPair>,
 ) -> bool {
-    for call in calls {
-        if recorded.call(rt, pass, call).is_err() {
+    for (key, value) in pairs {
+        if recorded
+            .call(rt, pass, MapCall::Upsert(key, value))
+            .is_err()
+        {
             return false;
         }
     }
@@ -116,10 +119,10 @@ fn time_calls<L: Ledger, M: Site<Fold>, R: Wait + Clock>(
     rt: &R,
     recorded: &Recorded<Names, L, M>,
     pass: &mut Pass<Names, L>,
-    calls: Vec<TextCall>,
+    pairs: Vec<TextPair>,
 ) -> io::Result<(u64, Instant)> {
     let start = Instant::now(rt)?;
-    if !record_all(rt, recorded, pass, calls) {
+    if !record_all(rt, recorded, pass, pairs) {
         return Err(out_of_memory());
     }
     let end = Instant::now(rt)?;
@@ -153,12 +156,12 @@ fn record_and_finish<L: Ledger, M: Site<Fold>, R: Wait + Clock>(
     rt: &R,
     recorded: Recorded<Names, L, M>,
     passes: Vec<Pass<Names, L>>,
-    calls: Vec<TextCall>,
+    pairs: Vec<TextPair>,
 ) -> io::Result<Recording>
     requires { 0 < vec_len passes }
 {
     let mut passes = passes;
-    let (spent, ended) = time_calls(rt, &recorded, &mut passes[0], calls)?;
+    let (spent, ended) = time_calls(rt, &recorded, &mut passes[0], pairs)?;
     let (finish, sum) = time_finish(rt, ended, recorded, passes)?;
     Ok(Recording {
         calls: Outcome { spent, sum },
@@ -173,7 +176,7 @@ fn run_in<L: Ledger, M: Site<Fold>, R: Wait + Clock>(
     hasher: Fold,
     receipts: Blank,
     records: Blank,
-    calls: Vec<TextCall>,
+    pairs: Vec<TextPair>,
 ) -> io::Result<Recording>
     requires receipts { (receipts.name ≡ L.name) × (receipts.parts ≡ L.parts) × (receipts.parts ≡ 1) }
     requires records { (records.name ≡ M.name) × (records.parts ≡ M.parts) × (records.parts ≡ 16) }
@@ -185,7 +188,7 @@ fn run_in<L: Ledger, M: Site<Fold>, R: Wait + Clock>(
         hasher,
     };
     match Recorded::<Names, L, M>::open(alloc, setup, PARTS, 1, receipts, records) {
-        Ok((recorded, passes)) => record_and_finish(rt, recorded, passes, calls),
+        Ok((recorded, passes)) => record_and_finish(rt, recorded, passes, pairs),
         Err(_) => Err(out_of_memory()),
     }
 }
@@ -197,6 +200,6 @@ pub fn run_recorded<R: Wait + Clock>(
     pairs: &[(u64, u64)],
 ) -> io::Result<Recording> {
     let hasher = fold_hasher(alloc)?;
-    let calls = text_calls(alloc, pairs)?;
-    run_in::<Brand, Brand, R>(rt, alloc, hasher, Blank::new(1), Blank::new(16), calls)
+    let texts = text_pairs(alloc, pairs)?;
+    run_in::<Brand, Brand, R>(rt, alloc, hasher, Blank::new(1), Blank::new(16), texts)
 }
