@@ -20,10 +20,6 @@ impl Refusal {
         Refusal { met: false }
     }
 
-    pub(crate) fn is_met(&self) -> bool {
-        self.met
-    }
-
     // Says on standard output what was refused; a run refuses one request, so a second refusal is wrong.
     pub(crate) fn meet<R: Abort + Print>(&mut self, rt: &R, what: &str) {
         assert!(rt; !self.met, "refused again: {what}");

@@ -6,8 +6,6 @@ mod caches;
 #[cfg(test)]
 mod fixtures;
 #[cfg(test)]
-mod index_growths;
-#[cfg(test)]
 mod indexes;
 #[cfg(test)]
 mod insertions;
@@ -16,14 +14,6 @@ mod kinds_of_runs;
 #[cfg(test)]
 mod making;
 #[cfg(test)]
-mod recorded;
-#[cfg(test)]
-mod recorded_cache_texts;
-#[cfg(test)]
-mod recorded_kinds;
-#[cfg(test)]
-mod recorded_texts;
-#[cfg(test)]
 mod removals;
 #[cfg(test)]
 mod reservations;
@@ -31,8 +21,6 @@ mod reservations;
 mod runs;
 #[cfg(test)]
 mod scripts;
-#[cfg(test)]
-mod scripts_of_workers;
 #[cfg(test)]
 mod sets;
 #[cfg(test)]

@@ -81,20 +81,15 @@ impl FailingWriter {
 
 impl Write for FailingWriter {
     fn write(&mut self, buf: &[u8]) -> Result<usize> {
-        let mut given = 0usize;
-        for byte in buf {
-            if self.taken >= self.room {
-                break;
-            }
-            match self.place.get_mut(self.taken) {
-                Some(here) => *here = *byte,
-                None => break,
-            }
-            self.taken = self.taken.saturating_add(1);
-            given = given.saturating_add(1);
-        }
+        let given = buf.len().min(self.room.saturating_sub(self.taken));
         if given == 0 {
             return Err(Error::from(ErrorKind::StorageFull));
+        }
+        for byte in buf.iter().take(given) {
+            if let Some(here) = self.place.get_mut(self.taken) {
+                *here = *byte;
+            }
+            self.taken = self.taken.saturating_add(1);
         }
         Ok(given)
     }

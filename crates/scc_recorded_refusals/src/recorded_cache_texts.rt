@@ -104,6 +104,20 @@ fn put_all<L: Ledger, M: Site<Shared<Zero>>, R: AllocGlobal + Abort + Print + Wa
     Ok(())
 }
 
+// The puts by the one pass.
+fn put_by_pass<L: Ledger, M: Site<Shared<Zero>>, R: AllocGlobal + Abort + Print + Wait>(
+    rt: &R,
+    refusal: &mut Refusal,
+    recorded: Recorded<Names, L, M>,
+    passes: Vec<Pass<Names, L>>,
+) -> Result<(), Fail> {
+    let mut passes = passes;
+    for pass in passes.as_mut_slice() {
+        put_all(rt, refusal, &recorded, pass)?;
+    }
+    Ok(())
+}
+
 // The puts on one stripe of 64 slots. False where the container was refused.
 fn puts<L: Ledger, M: Site<Shared<Zero>>, R: AllocGlobal + Abort + Print + Wait>(
     rt: &R,
@@ -122,17 +136,16 @@ fn puts<L: Ledger, M: Site<Shared<Zero>>, R: AllocGlobal + Abort + Print + Wait>
         hasher,
     };
     let opened = Recorded::<Names, L, M>::open(rt.alloc(), setup, 1, 1, receipts, records);
-    let (recorded, mut passes) = match opened {
-        Ok(made) => made,
+    match opened {
+        Ok((recorded, passes)) => {
+            put_by_pass(rt, refusal, recorded, passes)?;
+            Ok(true)
+        }
         Err(MakeError) => {
             refusal.meet(rt, "a recorded cache of texts");
-            return Ok(false);
+            Ok(false)
         }
-    };
-    for pass in passes.as_mut_slice() {
-        put_all(rt, refusal, &recorded, pass)?;
     }
-    Ok(true)
 }
 
 fn try_puts<R: AllocGlobal + Abort + Print + Wait>(

@@ -1,6 +1,6 @@
 use Rattle.std.proofs.Common.{Some}
 use Rattle.scc_recorder.specs.Setups.{request_of}
-use Rattle.scc_refusals.proofs.recorded_cache_texts.try_puts.Given as goal
+use Rattle.scc_recorded_refusals.proofs.recorded_cache_texts.try_puts.Given as goal
 
 abbrev pub ghosts-puts-L-Ledger : goal.ghosts-puts-L-Ledger
 ghosts-puts-L-Ledger g a = record { name = a.receipts.name; parts = a.receipts.parts }

@@ -1,6 +1,6 @@
 use Rattle.std.proofs.Common.{Some}
 use Rattle.scc_recorder.specs.Setups.{request_of}
-use Rattle.scc_refusals.proofs.recorded_kinds.try_index.Given as goal
+use Rattle.scc_recorded_refusals.proofs.recorded_kinds.try_cache.Given as goal
 
 abbrev pub ghosts-call_and_finish-L-Ledger : goal.ghosts-call_and_finish-L-Ledger
 ghosts-call_and_finish-L-Ledger g a = record { name = a.receipts.name; parts = a.receipts.parts }

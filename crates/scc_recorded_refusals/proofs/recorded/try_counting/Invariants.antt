@@ -1,6 +1,6 @@
 use Rattle.std.proofs.Common.{Some}
 use Rattle.scc_recorder.specs.Setups.{request_of}
-use Rattle.scc_refusals.proofs.recorded.try_counting.Given as goal
+use Rattle.scc_recorded_refusals.proofs.recorded.try_counting.Given as goal
 
 abbrev pub ghosts-count_and_clear-L-Ledger : goal.ghosts-count_and_clear-L-Ledger
 ghosts-count_and_clear-L-Ledger g a = record { name = a.receipts.name; parts = a.receipts.parts }

@@ -1,6 +1,6 @@
 use Rattle.std.proofs.Common.{Some}
 use Rattle.scc_recorder.specs.Setups.{request_of}
-use Rattle.scc_refusals.proofs.recorded_texts.try_three.Given as goal
+use Rattle.scc_recorded_refusals.proofs.recorded_texts.try_three.Given as goal
 
 abbrev pub ghosts-three_calls-L-Ledger : goal.ghosts-three_calls-L-Ledger
 ghosts-three_calls-L-Ledger g a = record { name = a.receipts.name; parts = a.receipts.parts }

@@ -7,7 +7,7 @@ use crate::fixtures::Refusal;
 use crate::recorded::shared;
 use scc::recorded::{
     CacheCall, CallError, Closed, FinishError, IndexCall, Pass, Recorded, Reply, SetCall, Setup,
-    Site, WholeCalls,
+    Site, Unfinished, WholeCalls,
 };
 use scc::{MakeError, hash_cache, hash_index, hash_set};
 use scc_fixtures::zero::Zero;
@@ -169,6 +169,15 @@ fn expect_whole<C: Tried, L: Ledger, M: Site<C::Hasher>, R: Abort + Print + Wait
     assert_eq!(rt; (pass.clock(), pass.receipts().len()), (4, 4));
 }
 
+// For want of memory all came back: the one stripe and the one pass.
+fn expect_all_back<C: Tried, L: Ledger, M: Site<C::Hasher>, R: Abort>(
+    rt: &R,
+    back: &Unfinished<C, L, M>,
+) {
+    assert_eq!(rt; back.cause, FinishError::Memory);
+    assert_eq!(rt; (back.recorded.stripes.len(), back.passes.len()), (1, 1));
+}
+
 // Finishes a run of four calls of one pass. Refused, everything comes back, and the next finish is right.
 fn expect_finished<C: Tried, L: Ledger, M: Site<C::Hasher>, R: Abort + Print>(
     rt: &R,
@@ -183,8 +192,7 @@ where
         Ok(finished) => Some(finished),
         Err(back) => {
             C::meet(rt, refusal);
-            assert_eq!(rt; back.cause, FinishError::Memory);
-            assert_eq!(rt; (back.recorded.stripes.len(), back.passes.len()), (1, 1));
+            expect_all_back(rt, &back);
             back.recorded.finish(back.passes).ok()
         }
     };
