@@ -90,7 +90,21 @@ fn expect_kept<L: Ledger, M: Site<Shared<Zero>>, R: AllocGlobal + Abort + Print 
     }
 }
 
-// The puts of the keys 0 to 32 on one stripe of 64 slots. False where the container was refused.
+// The puts of the keys 0 to 32 in a bucket of 32 slots.
+fn put_all<L: Ledger, M: Site<Shared<Zero>>, R: AllocGlobal + Abort + Print + Wait>(
+    rt: &R,
+    refusal: &mut Refusal,
+    recorded: &Recorded<Names, L, M>,
+    pass: &mut Pass<Names, L>,
+) -> Result<(), Fail> {
+    for key in 0..33 {
+        expect_put(rt, refusal, recorded, pass, key)?;
+    }
+    assert_eq!(rt; recorded.len(rt, pass), Ok(32));
+    Ok(())
+}
+
+// The puts on one stripe of 64 slots. False where the container was refused.
 fn puts<L: Ledger, M: Site<Shared<Zero>>, R: AllocGlobal + Abort + Print + Wait>(
     rt: &R,
     refusal: &mut Refusal,
@@ -116,10 +130,7 @@ fn puts<L: Ledger, M: Site<Shared<Zero>>, R: AllocGlobal + Abort + Print + Wait>
         }
     };
     for pass in passes.as_mut_slice() {
-        for key in 0..33 {
-            expect_put(rt, refusal, &recorded, pass, key)?;
-        }
-        assert_eq!(rt; recorded.len(rt, pass), Ok(32));
+        put_all(rt, refusal, &recorded, pass)?;
     }
     Ok(true)
 }

@@ -50,8 +50,8 @@ impl Makes for Index {
 impl Kind for Index {
     fn meet<R: Abort + Print>(rt: &R, refusal: &mut Refusal, what: What) {
         match what {
-            What::Insertion => refusal.meet(rt, "an insertion into a shared index"),
-            What::Growth => refusal.meet(rt, "a growth of a shared index"),
+            // An index of more than 32 keys makes too many requests for these tests.
+            What::Insertion | What::Growth => refusal.meet(rt, "an insertion into a shared index"),
             What::Shrink => refusal.meet(rt, "a shrink of a shared index"),
             What::Items => refusal.meet(rt, "a shared index of items"),
         }
