@@ -84,7 +84,7 @@ fn run_versions<R: AllocGlobal + Print>(rt: &R, is_hungry: bool) -> u8 {
 }
 
 fn run_records<R: Wait + AllocGlobal + Print>(rt: &R, is_hungry: bool) -> u8 {
-    let opens = records::opens(rt.alloc(), is_hungry);
+    let opens = records::opens(rt, is_hungry);
     let calls = records::finishes_calls(rt, is_hungry);
     let runs = records::runs(rt.alloc(), is_hungry);
     say(rt, "recorded map", "opening", opens)

@@ -192,8 +192,8 @@ pub fn finishes_calls<R: AllocGlobal + Wait>(rt: &R, is_hungry: bool) -> Result<
 }
 
 // Whether a recorded map is opened; without memory, where memory is taken.
-fn is_opened<L: Ledger, M: Site<Shared<Zero>>>(
-    alloc: Global,
+fn is_opened<L: Ledger, M: Site<Shared<Zero>>, R: AllocGlobal>(
+    rt: &R,
     hunger: &mut Hunger,
     hasher: Shared<Zero>,
     receipts: Blank,
@@ -204,17 +204,17 @@ fn is_opened<L: Ledger, M: Site<Shared<Zero>>>(
     requires site { (M.chosen ≡ Some (request_of 0 0 hasher 1)) × (M.all ≡ 1) }
 {
     hunger.begin();
-    let answer = Recorded::<Map, L, M>::open(alloc, setup_of(hasher), 1, 1, receipts, records);
+    let answer = Recorded::<Map, L, M>::open(rt.alloc(), setup_of(hasher), 1, 1, receipts, records);
     hunger.end();
     answer.is_ok()
 }
 
 /// Whether no recorded map is opened without memory.
-pub fn opens(alloc: Global, is_hungry: bool) -> Result<bool, AllocError> {
-    let mut hunger = Hunger::new(alloc, is_hungry)?;
-    let hasher = shared(alloc)?;
-    let opened = is_opened::<Brand, Brand>(
-        alloc,
+pub fn opens<R: AllocGlobal>(rt: &R, is_hungry: bool) -> Result<bool, AllocError> {
+    let mut hunger = Hunger::new(rt.alloc(), is_hungry)?;
+    let hasher = shared(rt.alloc())?;
+    let opened = is_opened::<Brand, Brand, R>(
+        rt,
         &mut hunger,
         hasher,
         Blank::new(1),
