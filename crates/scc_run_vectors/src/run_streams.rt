@@ -77,25 +77,26 @@ impl FailingWriter {
             fails_at_flush,
         }
     }
+
+    // Keeps bytes after those that it has.
+    fn keep(&mut self, bytes: &[u8]) {
+        for byte in bytes {
+            if let Some(here) = self.place.get_mut(self.taken) {
+                *here = *byte;
+            }
+            self.taken = self.taken.saturating_add(1);
+        }
+    }
 }
 
 impl Write for FailingWriter {
     fn write(&mut self, buf: &[u8]) -> Result<usize> {
-        let mut given = 0usize;
-        for byte in buf {
-            if self.taken >= self.room {
-                break;
-            }
-            match self.place.get_mut(self.taken) {
-                Some(here) => *here = *byte,
-                None => break,
-            }
-            self.taken = self.taken.saturating_add(1);
-            given = given.saturating_add(1);
-        }
+        let left = self.room.saturating_sub(self.taken);
+        let given = left.min(buf.len());
         if given == 0 {
             return Err(Error::from(ErrorKind::StorageFull));
         }
+        self.keep(&buf[..given]);
         Ok(given)
     }
 
