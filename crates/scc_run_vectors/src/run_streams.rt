@@ -77,26 +77,20 @@ impl FailingWriter {
             fails_at_flush,
         }
     }
+}
 
-    // Keeps bytes after those that it has.
-    fn keep(&mut self, bytes: &[u8]) {
-        for byte in bytes {
+impl Write for FailingWriter {
+    fn write(&mut self, buf: &[u8]) -> Result<usize> {
+        let given = buf.len().min(self.room.saturating_sub(self.taken));
+        if given == 0 {
+            return Err(Error::from(ErrorKind::StorageFull));
+        }
+        for byte in buf.iter().take(given) {
             if let Some(here) = self.place.get_mut(self.taken) {
                 *here = *byte;
             }
             self.taken = self.taken.saturating_add(1);
         }
-    }
-}
-
-impl Write for FailingWriter {
-    fn write(&mut self, buf: &[u8]) -> Result<usize> {
-        let left = self.room.saturating_sub(self.taken);
-        let given = left.min(buf.len());
-        if given == 0 {
-            return Err(Error::from(ErrorKind::StorageFull));
-        }
-        self.keep(&buf[..given]);
         Ok(given)
     }
 
