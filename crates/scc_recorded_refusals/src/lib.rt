@@ -8,10 +8,6 @@ mod index_growths;
 #[cfg(test)]
 mod recorded;
 #[cfg(test)]
-mod recorded_cache_texts;
-#[cfg(test)]
-mod recorded_kinds;
-#[cfg(test)]
 mod recorded_texts;
 #[cfg(test)]
 mod scripts_of_workers;
