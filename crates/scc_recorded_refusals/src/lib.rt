@@ -8,6 +8,8 @@ mod index_growths;
 #[cfg(test)]
 mod recorded;
 #[cfg(test)]
+mod recorded_cache_texts;
+#[cfg(test)]
 mod recorded_texts;
 #[cfg(test)]
 mod scripts_of_workers;
