@@ -1,15 +1,13 @@
-//! Publishes the routes of standard input, lines `DESTINATION HOP`, in an index that four workers share, while they keep the versions that went; and makes the same calls on a recorded index, whose audit says that every merge of its histories is a run.
+//! Publishes the routes of standard input, lines `DESTINATION HOP`, in an index that four workers share, while they keep the versions that went.
 //!
-//! The status is 2 where a line isn't two numbers, which is named, 3 where memory is refused, 4 where a stream fails, and 5 where the recorded run can't be finished.
+//! The status is 2 where a line isn't two numbers, which is named, 3 where memory is refused, and 4 where a stream fails.
 #![tactic(auto)]
 
 mod input;
-mod recorded;
 mod routes;
 mod workers;
 
 use input::{Input, Line, read_lines};
-use recorded::record;
 use std::alloc::Global;
 use std::io::{self, Read};
 use std::process::ExitCode;
@@ -25,7 +23,7 @@ fn print_routes<R: Print>(rt: &R, routes: &[Line]) -> io::Result<()> {
     Ok(())
 }
 
-// Publishes and records the lines, and prints what came of it.
+// Publishes the lines, and prints what came of it.
 fn print_all<R: Threads + Sync + Wait + Print>(
     rt: &R,
     alloc: Global,
@@ -36,8 +34,6 @@ fn print_all<R: Threads + Sync + Wait + Print>(
     print_routes(rt, routes.as_slice())?;
     let kept = published.kept;
     println!(rt; "{kept} versions that went were kept")?;
-    let calls = record(rt, alloc, lines)?;
-    println!(rt; "{calls} recorded calls: every merge is a run")?;
     Ok(())
 }
 
@@ -63,7 +59,6 @@ fn main(rt: HostRuntime) -> ExitCode {
     let status = match run(&rt, rt.alloc(), rt.reader()) {
         Ok(status) => status,
         Err(error) if error.kind() == io::ErrorKind::OutOfMemory => 3,
-        Err(error) if error.kind() == io::ErrorKind::InvalidData => 5,
         Err(_) => 4,
     };
     ExitCode::from(status)

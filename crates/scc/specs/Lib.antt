@@ -23,6 +23,7 @@ pub use Rattle.scc_recorded.specs.SetCalls
 pub use Rattle.scc_recorded.specs.States
 pub use Rattle.scc_recorder.specs.Adds
 pub use Rattle.scc_recorder.specs.Closing
+pub use Rattle.scc_recorder.specs.Finished
 pub use Rattle.scc_recorder.specs.Setups
 pub use Rattle.scc_set.specs.Collections
 pub use Rattle.scc_set.specs.Keys

@@ -1,4 +1,4 @@
-//! Calls as values and their runs; containers that threads share and that record their calls, the passes of those who call them, and what a finished run was.
+//! Calls as values and their runs; containers that threads share and that record their calls, the passes of those who call them, and what a finished run was; a hasher with several owners.
 
 pub use scc_history::history::{CallError, Log, Receipt, Stripe};
 pub use scc_recorded::recorded::{
@@ -8,3 +8,4 @@ pub use scc_recorded::recorded::{
 pub use scc_recorder::recorder::{
     Closed, FinishError, Finished, Guarded, Pass, Recorded, Setup, Site, Unfinished,
 };
+pub use scc_table::{Share, Shared};

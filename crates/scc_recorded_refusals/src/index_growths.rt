@@ -1,7 +1,7 @@
 // Indexes of 33 keys and more in one bucket, whose growth is refused, with more than 32 of them waiting and without: the pair comes back, the others stay, and the next insertion is right.
-use crate::fixtures::Refusal;
 use scc::hash_index::{HashIndex, Owned};
 use scc::{InsertError, MakeError};
+use scc_fixtures::refusals::Refusal;
 use scc_fixtures::zero::Zero;
 use std::io::Print;
 use std::process::Abort;

@@ -2,13 +2,13 @@
 #![tactic(auto)]
 
 #[cfg(test)]
-mod fixtures;
-#[cfg(test)]
 mod index_growths;
 #[cfg(test)]
 mod recorded;
 #[cfg(test)]
 mod recorded_cache_texts;
+#[cfg(test)]
+mod recorded_kinds;
 #[cfg(test)]
 mod recorded_texts;
 #[cfg(test)]

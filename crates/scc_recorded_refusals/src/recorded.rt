@@ -2,13 +2,13 @@
 ghost use Rattle.std.specs.Prelude.{◌≡◌, Some};
 ghost use Rattle.scc_recorder.specs.Setups.{IsStripes, request_of};
 
-use crate::fixtures::Refusal;
 use scc::MakeError;
 use scc::hash_map::Owned;
 use scc::recorded::{
     CallError, Closed, FinishError, Finished, MapCall, Pass, Receipt, Recorded, Reply, Setup, Site,
     Step, Unfinished,
 };
+use scc_fixtures::refusals::Refusal;
 use scc_fixtures::zero::Zero;
 use scc_table::Shared;
 use std::io::Print;

@@ -3,12 +3,12 @@ ghost use Rattle.std.specs.Prelude.{◌≡◌, IfOk, IsSome, Some};
 ghost use Rattle.scc_recorded.specs.CacheCalls.{cache_key};
 ghost use Rattle.scc_recorder.specs.Setups.{request_of};
 
-use crate::fixtures::Refusal;
 use crate::recorded::shared;
 use crate::recorded_texts::text;
 use scc::MakeError;
 use scc::hash_cache::Owned;
 use scc::recorded::{CacheCall, CallError, Pass, Recorded, Reply, Setup, Site};
+use scc_fixtures::refusals::Refusal;
 use scc_fixtures::zero::Zero;
 use scc_table::Shared;
 use std::io::Print;

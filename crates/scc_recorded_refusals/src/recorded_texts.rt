@@ -3,11 +3,11 @@ ghost use Rattle.std.specs.Prelude.{◌≡◌, IfOk, IsSome, Some};
 ghost use Rattle.scc_recorded.specs.MapCalls.{map_key};
 ghost use Rattle.scc_recorder.specs.Setups.{request_of};
 
-use crate::fixtures::Refusal;
 use crate::recorded::shared;
 use scc::MakeError;
 use scc::hash_map::Owned;
 use scc::recorded::{Closed, Finished, MapCall, Pass, Recorded, Reply, Setup, Site, Step};
+use scc_fixtures::refusals::Refusal;
 use scc_fixtures::zero::Zero;
 use scc_table::Shared;
 use std::io::Print;

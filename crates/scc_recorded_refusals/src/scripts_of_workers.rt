@@ -1,5 +1,5 @@
 // Scripts of two workers on two stripes that are refused memory: the one text and the status, never that of a run that isn't finished, and the next run is right.
-use crate::fixtures::Refusal;
+use scc_fixtures::refusals::Refusal;
 use scc_play::play::{FINISHED, NO_MEMORY, play};
 use std::io::Print;
 use std::process::Abort;

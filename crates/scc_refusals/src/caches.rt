@@ -1,7 +1,8 @@
 // Calls of a cache that are refused: what they hand back, what they leave, and the next one is right.
-use crate::fixtures::{Refusal, listed};
+use crate::fixtures::listed;
 use scc::hash_cache::Owned;
 use scc::{InsertError, MakeError, Verdict, WalkError};
+use scc_fixtures::refusals::Refusal;
 use scc_fixtures::zero::Zero;
 use std::io::Print;
 use std::process::Abort;

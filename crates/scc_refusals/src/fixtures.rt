@@ -1,6 +1,7 @@
-// What every test here stands on: the one refusal of a run, and maps in which all keys share a bucket.
+// What every test here stands on: maps in which all keys share a bucket.
 use scc::MakeError;
 use scc::hash_map::Owned;
+use scc_fixtures::refusals::Refusal;
 use scc_fixtures::zero::Zero;
 use std::alloc::AllocError;
 use std::io::Print;
@@ -8,25 +9,6 @@ use std::process::Abort;
 use std::test::Fail;
 
 pub(crate) type Map = Owned<u64, u64, Zero>;
-
-// Whether the one request that a run refuses was met.
-#[derive(Drop)]
-pub(crate) struct Refusal {
-    met: bool,
-}
-
-impl Refusal {
-    pub(crate) fn new() -> Refusal {
-        Refusal { met: false }
-    }
-
-    // Says on standard output what was refused; a run refuses one request, so a second refusal is wrong.
-    pub(crate) fn meet<R: Abort + Print>(&mut self, rt: &R, what: &str) {
-        assert!(rt; !self.met, "refused again: {what}");
-        self.met = true;
-        assert!(rt; println!(rt; "refused: {what}").is_ok());
-    }
-}
 
 // A map with an array for so many slots, asked for again where it was refused.
 pub(crate) fn made<R: AllocGlobal + Abort + Print>(

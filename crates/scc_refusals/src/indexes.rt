@@ -1,8 +1,8 @@
 // Calls of an index that are refused: what they hand back, what they leave, and the next one is right.
-use crate::fixtures::Refusal;
 use scc::hash_index::Owned;
 use scc::hash_index::owned::{Entry, Iter};
 use scc::{InsertError, MakeError};
+use scc_fixtures::refusals::Refusal;
 use scc_fixtures::zero::Zero;
 use std::io::Print;
 use std::process::Abort;

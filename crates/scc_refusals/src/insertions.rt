@@ -1,8 +1,9 @@
 // Insertions that are refused: the pair comes back, the others stay, and the next one is right.
-use crate::fixtures::{Map, Refusal, expect_keys_below, made};
+use crate::fixtures::{Map, expect_keys_below, made};
 use scc::InsertError;
 use scc::hash_map::Owned;
 use scc::hash_map::owned::Entry;
+use scc_fixtures::refusals::Refusal;
 use scc_fixtures::zero::Zero;
 use std::io::Print;
 use std::process::Abort;

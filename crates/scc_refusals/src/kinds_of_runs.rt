@@ -1,7 +1,7 @@
 // Runs of calls as values on a set, an index and a cache that are refused: nothing is touched, or the calls before the refused one are made.
-use crate::fixtures::Refusal;
 use scc::recorded::{CacheCall, IndexCall, Reply, SetCall, run};
 use scc::{hash_cache, hash_index, hash_set};
+use scc_fixtures::refusals::Refusal;
 use scc_fixtures::zero::Zero;
 
 #[test]

@@ -1,8 +1,9 @@
 // Constructors, clones and collections that are refused: nothing is made, and the next one is right.
-use crate::fixtures::{Map, Refusal, expect_keys_below, made};
+use crate::fixtures::{Map, expect_keys_below, made};
 use crate::insertions::{Way, expect_added};
 use scc::MakeError;
 use scc::hash_map::Owned;
+use scc_fixtures::refusals::Refusal;
 use std::test::Fail;
 
 #[test]

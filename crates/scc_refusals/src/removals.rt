@@ -1,8 +1,9 @@
 // Shrinks that are refused: the removal is made, the array stays, and the next removal shrinks it.
-use crate::fixtures::{Map, Refusal, expect_keys_below, listed};
+use crate::fixtures::{Map, expect_keys_below, listed};
 use crate::insertions::{Way, expect_added};
 use scc::Verdict;
 use scc::hash_map::Owned;
+use scc_fixtures::refusals::Refusal;
 use scc_fixtures::zero::Zero;
 use std::io::Print;
 use std::process::Abort;

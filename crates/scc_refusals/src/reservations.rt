@@ -1,8 +1,9 @@
 // Resizes of a reservation and of a release that are refused: the token is given or taken all the same, and a later call resizes.
-use crate::fixtures::{Map, Refusal, expect_keys_below};
+use crate::fixtures::{Map, expect_keys_below};
 use crate::insertions::{WAYS, Way, add, expect_added};
 use scc::InsertError;
 use scc::hash_map::Owned;
+use scc_fixtures::refusals::Refusal;
 use scc_fixtures::zero::Zero;
 use std::process::Abort;
 

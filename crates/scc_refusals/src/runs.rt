@@ -1,8 +1,9 @@
 // Runs of calls as values that are refused: nothing is touched, or the calls before the refused one are made.
-use crate::fixtures::{Refusal, expect_keys_below, made};
+use crate::fixtures::{expect_keys_below, made};
 use crate::insertions::{Way, expect_added};
 use scc::hash_map::Owned;
 use scc::recorded::{Calls, MapCall, Refused, Reply, run};
+use scc_fixtures::refusals::Refusal;
 use scc_fixtures::zero::Zero;
 use std::test::Fail;
 

@@ -1,5 +1,5 @@
 // Scripts that are refused memory: the one text and the status, and the next run is right.
-use crate::fixtures::Refusal;
+use scc_fixtures::refusals::Refusal;
 use scc_play::play::{BAD_CALL, FINISHED, NO_MEMORY, play};
 use std::io::Print;
 use std::process::Abort;

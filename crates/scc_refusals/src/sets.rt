@@ -1,7 +1,7 @@
 // Calls of a set that are refused: what they hand back, what they leave, and the next one is right.
-use crate::fixtures::Refusal;
 use scc::hash_set::Owned;
 use scc::{KeyError, MakeError, Verdict, WalkError};
+use scc_fixtures::refusals::Refusal;
 use scc_fixtures::zero::Zero;
 use std::io::Print;
 use std::process::Abort;

@@ -1,7 +1,8 @@
 // A walk whose list of taken pairs finds no room: it ends before the closure is called on the next pair.
-use crate::fixtures::{Refusal, expect_keys_below, listed, made};
+use crate::fixtures::{expect_keys_below, listed, made};
 use crate::insertions::{Way, expect_added};
 use scc::{Verdict, WalkError};
+use scc_fixtures::refusals::Refusal;
 use std::io::Print;
 use std::process::Abort;
 use std::test::Fail;

@@ -1,8 +1,8 @@
 // The index that threads share, as the tests call it.
-use crate::fixtures::Refusal;
 use crate::kinds::{Added, ITEMS, Kind, Makes, Way, What, entered, refused};
 use scc::MakeError;
 use scc::hash_index::{Entry, HashIndex};
+use scc_fixtures::refusals::Refusal;
 use scc_fixtures::zero::Zero;
 use std::alloc::Global;
 use std::io::Print;

@@ -1,10 +1,11 @@
 // Insertions and puts that are refused: what was supplied comes back, the stripe is let go, the others stay, and the next one is right.
 use crate::caches::Cache;
-use crate::fixtures::{Refusal, made};
+use crate::fixtures::made;
 use crate::indexes::Index;
 use crate::kinds::{Added, Kind, Way, What};
 use crate::maps::Map;
 use crate::sets::Set;
+use scc_fixtures::refusals::Refusal;
 use std::io::Print;
 use std::process::Abort;
 use std::sync::Wait;

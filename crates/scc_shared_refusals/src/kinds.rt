@@ -1,6 +1,6 @@
 // What the tests ask of a shared container, whatever its kind.
-use crate::fixtures::Refusal;
 use scc::{InsertError, MakeError};
+use scc_fixtures::refusals::Refusal;
 use std::alloc::Global;
 use std::io::Print;
 use std::process::Abort;

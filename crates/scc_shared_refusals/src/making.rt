@@ -1,12 +1,13 @@
 // Constructors, clones and collections that are refused: nothing is made, and the next one is right.
 use crate::caches::Cache;
-use crate::fixtures::{Refusal, made};
+use crate::fixtures::made;
 use crate::indexes::Index;
 use crate::insertions::{expect_added, expect_keys};
 use crate::kinds::{Kind, Makes, Way, What};
 use crate::maps::Map;
 use crate::sets::Set;
 use scc::{HashCache, HashIndex, HashMap, HashSet, MakeError};
+use scc_fixtures::refusals::Refusal;
 use std::io::Print;
 use std::process::Abort;
 use std::sync::Wait;

@@ -1,11 +1,12 @@
 // Reservations whose growth is refused: they are given all the same, and a later one grows. What they leave when they are given back may be refused its shrink: the array stays, and the next removal shrinks it.
-use crate::fixtures::{Refusal, made};
+use crate::fixtures::made;
 use crate::indexes::Index;
 use crate::insertions::{expect_added, expect_keys};
 use crate::kinds::{Kind, Way, What};
 use crate::maps::Map;
 use crate::sets::Set;
 use scc::{hash_index, hash_map};
+use scc_fixtures::refusals::Refusal;
 use scc_fixtures::zero::Zero;
 use std::io::Print;
 use std::process::Abort;

@@ -1,8 +1,8 @@
 // The set that threads share, as the tests call it.
-use crate::fixtures::Refusal;
 use crate::kinds::{Added, KEYS, Kind, Makes, Way, What};
 use scc::hash_set::HashSet;
 use scc::{KeyError, MakeError};
+use scc_fixtures::refusals::Refusal;
 use scc_fixtures::zero::Zero;
 use std::alloc::Global;
 use std::io::Print;

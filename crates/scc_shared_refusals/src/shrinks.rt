@@ -1,10 +1,11 @@
 // Shrinks that are refused: what was to go is gone, the array stays, and the next call shrinks it.
 use crate::caches::Cache;
-use crate::fixtures::{Refusal, made};
+use crate::fixtures::made;
 use crate::insertions::{expect_added, expect_between, expect_keys};
 use crate::kinds::{Kind, Way, What};
 use crate::maps::Map;
 use crate::sets::Set;
+use scc_fixtures::refusals::Refusal;
 use std::io::Print;
 use std::process::Abort;
 use std::sync::Wait;

@@ -1,10 +1,11 @@
 // Versions, updates and snapshots of a shared index that are refused: what was supplied comes back, the versions stay, and the next call is right.
-use crate::fixtures::{Refusal, made};
+use crate::fixtures::made;
 use crate::indexes::Index;
 use crate::insertions::{expect_added, expect_keys};
 use crate::kinds::{Kind, Way};
 use scc::MakeError;
 use scc::hash_index::{Entry, Iter};
+use scc_fixtures::refusals::Refusal;
 use std::io::Print;
 use std::process::Abort;
 use std::sync::Wait;

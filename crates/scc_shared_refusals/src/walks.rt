@@ -1,11 +1,12 @@
 // Walks whose list of taken pairs finds no room: they end before the closure is called on the next pair, and the next walk takes the rest.
 use crate::caches::Cache;
-use crate::fixtures::{Refusal, listed, made};
+use crate::fixtures::{listed, made};
 use crate::insertions::{expect_added, expect_keys};
 use crate::kinds::{Kind, Way};
 use crate::maps::Map;
 use crate::sets::Set;
 use scc::{Verdict, WalkError};
+use scc_fixtures::refusals::Refusal;
 use std::io::Print;
 use std::process::Abort;
 use std::sync::Wait;

@@ -1,6 +1,6 @@
 // Workers whose run is refused: no turn is made, and the next run makes all.
-use crate::fixtures::Refusal;
 use scc::stripes::{Open, RunError, Work, run};
+use scc_fixtures::refusals::Refusal;
 use std::process::Abort;
 
 // Three turns, which all answer true.

@@ -1,6 +1,6 @@
 use Rattle.std.proofs.Common.{Some}
-use Rattle.scc_recorder.specs.Setups.{request_of}
-use Rattle.example_routes.proofs.recorded.record.Given as goal
+use Rattle.scc.specs.Setups.{request_of}
+use Rattle.example_audit.proofs.recorded.record.Given as goal
 
 abbrev pub ghosts-record_in-L-Ledger : goal.ghosts-record_in-L-Ledger
 ghosts-record_in-L-Ledger g a = record { name = a.receipts.name; parts = a.receipts.parts }

@@ -1,16 +1,14 @@
 //! A recorded index, and the audit of its run.
 ghost use Rattle.std.specs.Prelude.{◌≡◌, IfOk, Some, map};
-ghost use Rattle.scc_recorder.specs.Finished.{IsFinished};
-ghost use Rattle.scc_recorder.specs.Setups.{request_of};
-ghost use Rattle.scc_table.specs.Routing.{stripe_of};
+ghost use Rattle.scc.specs.Finished.{IsFinished};
+ghost use Rattle.scc.specs.Setups.{request_of};
+ghost use Rattle.scc.specs.Routing.{stripe_of};
 
 use crate::input::Line;
-use crate::routes::out_of_memory;
 use scc::hash_index::Owned;
 use scc::recorded::{
-    Calls, FinishError, Finished, IndexCall, Pass, Recorded, Reply, Setup, Site, Step,
+    Calls, FinishError, Finished, IndexCall, Pass, Recorded, Reply, Setup, Shared, Site, Step,
 };
-use scc_table::Shared;
 use std::alloc::Global;
 use std::hash::{BuildHasherDefault, FoldHasher};
 use std::io;
@@ -27,6 +25,10 @@ const STRIPES: usize = 4;
 
 /// The passes, of which every line takes the next.
 const PASSES: usize = 2;
+
+fn out_of_memory() -> io::Error {
+    io::Error::from(io::ErrorKind::OutOfMemory)
+}
 
 /// Finishes a run. By contract every merge of the histories is then a run of the whole, from no entries to what is there, and the records of each pass are its receipts.
 fn audit<C: Calls + Drop, L: Ledger, M: Site<C::Hasher>>(

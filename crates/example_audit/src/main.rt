@@ -1,0 +1,39 @@
+//! Publishes the routes of standard input, lines `DESTINATION HOP`, in a recorded index of four stripes, by two passes, and audits the run: by contract every merge of its histories is then a run of the whole index.
+//!
+//! The status is 2 where a line isn't two numbers, which is named, 3 where memory is refused, 4 where a stream fails, and 5 where the recorded run can't be finished.
+#![tactic(auto)]
+
+mod input;
+mod recorded;
+
+use input::{Input, read_lines};
+use recorded::record;
+use std::alloc::Global;
+use std::io::{self, Read};
+use std::process::ExitCode;
+use std::sync::Wait;
+
+// What standard input asks for, and the status.
+fn run<R: Wait + Print, I: Read + Drop>(rt: &R, alloc: Global, reader: I) -> io::Result<u8> {
+    match read_lines(alloc, reader)? {
+        Input::Lines(lines) => {
+            let calls = record(rt, alloc, lines.as_slice())?;
+            println!(rt; "{calls} recorded calls: every merge is a run")?;
+            Ok(0)
+        }
+        Input::BadLine(number) => {
+            println!(rt; "line {number}: not two numbers")?;
+            Ok(2)
+        }
+    }
+}
+
+fn main(rt: HostRuntime) -> ExitCode {
+    let status = match run(&rt, rt.alloc(), rt.reader()) {
+        Ok(status) => status,
+        Err(error) if error.kind() == io::ErrorKind::OutOfMemory => 3,
+        Err(error) if error.kind() == io::ErrorKind::InvalidData => 5,
+        Err(_) => 4,
+    };
+    ExitCode::from(status)
+}
