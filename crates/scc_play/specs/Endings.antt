@@ -7,7 +7,7 @@ use Rattle.scc_script.specs.Grammar.{Meaning, map_calls, set_calls, index_calls,
 use Rattle.scc_script.specs.declared.line.WorkerCall.{WorkerCall}
 use Rattle.scc_play.specs.Kinds.{MapPlayed, SetPlayed, IndexPlayed, CachePlayed}
 use Rattle.scc_play.specs.declared.ends.Cause.{Cause}
-use Rattle.scc_play.specs.declared.ends.Cause.TheVariants.{Missing, Misrouted, Disagrees}
+use Rattle.scc_play.specs.declared.ends.Cause.TheVariants.{Missing, Misrouted, Disagrees, Differs}
 
 -- the text of a script whose first bad line has this number
 abbrev pub bad_line_text : ℕ → List ℕ
@@ -18,6 +18,7 @@ abbrev pub finish_text : Cause → List ℕ
 finish_text Missing = codes "finish 7\n"
 finish_text Misrouted = codes "finish 8\n"
 finish_text Disagrees = codes "finish 9\n"
+finish_text Differs = codes "finish 9\n"
 
 -- the calls of all workers, in their order
 abbrev pub all_calls : {A : Type 0} → List (WorkerCall A) → List A

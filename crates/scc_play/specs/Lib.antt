@@ -4,3 +4,4 @@ pub mod Answered
 pub mod Telling
 pub mod Played
 pub mod Kinds
+pub mod Making

@@ -1,4 +1,7 @@
 //! One worker of a script.
+ghost use Rattle.std.specs.Prelude.{◌≡◌, length, map, true, IfOk, IsSomeAnd, slice_get};
+ghost use Rattle.scc_table.specs.Routing.{stripe_of};
+ghost use Rattle.scc_play.specs.Making.{AddsCall};
 
 use scc_print::printed::Printed;
 use scc_recorder::recorder::{Pass, Recorded, Site};
@@ -22,9 +25,13 @@ fn make_call<P: Printed, L: Ledger, M: Site<P::Hasher>, R: Wait>(
     recorded: &Recorded<P, L, M>,
     pass: &mut Pass<P, L>,
     call: P::Call,
-) -> bool {
+) -> bool
+    ensures made { result ≡ true → AddsCall P.key_of P.Call.is_clone P.Reply.eq P.moves (stripe_of P.Hasher.BuildHasher P.Hasher.Hasher.Hasher P.Key.Hash.hash_input recorded.now.hasher recorded.now.stripes) recorded.now.stripes call pass.old.log.clock pass.new.log.clock pass.old.log.receipts.items pass.new.log.receipts.items }
+    ensures number { pass.new.log.number ≡ pass.old.log.number }
+{
     P::equal_calls();
     P::equal_replies();
+    P::exact_calls();
     if let Some(_key) = P::key(&call) {
         recorded.call(rt, pass, call).is_ok()
     } else if call == P::clear_call() {
@@ -37,31 +44,41 @@ fn make_call<P: Printed, L: Ledger, M: Site<P::Hasher>, R: Wait>(
 }
 
 impl<P: Printed, L: Ledger, M: Site<P::Hasher>, R: Wait> Work for Worker<'_, P, L, M, R> {
-    fn turns(&self) -> usize {
+    fn turns(&self) -> usize
+        ensures { result ≡ length self.now.calls.now }
+    {
         self.calls.len()
     }
 
-    fn turn(&mut self, j: usize) -> bool {
+    fn turn(&mut self, j: usize) -> bool
+        ensures made { result ≡ true → IsSomeAnd (slice_get self.old.calls.now j) (λ call. AddsCall P.key_of P.Call.is_clone P.Reply.eq P.moves (stripe_of P.Hasher.BuildHasher P.Hasher.Hasher.Hasher P.Key.Hash.hash_input self.old.recorded.now.hasher self.old.recorded.now.stripes) self.old.recorded.now.stripes call self.old.pass.log.clock self.new.pass.log.clock self.old.pass.log.receipts.items self.new.pass.log.receipts.items) }
+        ensures number { self.new.pass.log.number ≡ self.old.pass.log.number }
+    {
         match self.calls.get(j) {
-            Some(call) => match call.clone() {
-                Ok(copy) => make_call(self.rt, self.recorded, &mut self.pass, copy),
-                Err(_) => false,
-            },
+            Some(call) => make_call(self.rt, self.recorded, &mut self.pass, P::same_call(call)),
             None => false,
         }
     }
 }
 
-/// A worker for each pass, with the calls of its number.
+/// A worker for each pass, with the calls of its number. Refused where there aren't as many passes as lists.
 pub(crate) fn workers_of<'a, P: Printed, L: Ledger, M: Site<P::Hasher>, R: Wait>(
     rt: &'a R,
     alloc: Global,
     recorded: &'a Recorded<P, L, M>,
     passes: Vec<Pass<P, L>>,
     lists: &'a [Vec<P::Call>],
-) -> Result<Vec<Worker<'a, P, L, M, R>>, AllocError> {
+) -> Result<Vec<Worker<'a, P, L, M, R>>, AllocError>
+    ensures passes { IfOk result (λ v. map (λ w. w.pass) v.items ≡ passes.items) }
+    ensures calls { IfOk result (λ v. map (λ w. w.calls.now) v.items ≡ map (λ l. l.items) lists.now) }
+{
+    if passes.len() != lists.len() {
+        return Err(AllocError);
+    }
     let mut workers = Vec::with_capacity(alloc, passes.len())?;
-    for (pass, calls) in passes.into_iter().zip(lists) {
+    let mut passes = passes;
+    for calls in lists {
+        let pass = passes.remove(0);
         workers.push(Worker {
             rt,
             recorded,
@@ -76,7 +93,9 @@ pub(crate) fn workers_of<'a, P: Printed, L: Ledger, M: Site<P::Hasher>, R: Wait>
 pub(crate) fn passes_of<P: Printed, L: Ledger, M: Site<P::Hasher>, R: Wait>(
     alloc: Global,
     workers: Vec<Worker<'_, P, L, M, R>>,
-) -> Result<Vec<Pass<P, L>>, AllocError> {
+) -> Result<Vec<Pass<P, L>>, AllocError>
+    ensures { IfOk result (λ v. v.items ≡ map (λ w. w.pass) workers.entry.items) }
+{
     let mut passes = Vec::with_capacity(alloc, workers.len())?;
     for worker in workers {
         let Worker {

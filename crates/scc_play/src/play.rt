@@ -60,6 +60,7 @@ fn unfinished_text(alloc: Global, cause: Cause) -> Result<String, AllocError>
         Cause::Missing => String::from_str(alloc, "finish 7\n"),
         Cause::Misrouted => String::from_str(alloc, "finish 8\n"),
         Cause::Disagrees => String::from_str(alloc, "finish 9\n"),
+        Cause::Differs => String::from_str(alloc, "finish 9\n"),
     }
 }
 

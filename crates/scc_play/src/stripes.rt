@@ -3,8 +3,10 @@ ghost use Rattle.std.specs.Prelude.{◌≡◌, ℕ, ◌<◌, List, length, map, 
 ghost use Rattle.std.specs.String.{string_bytes};
 ghost use Rattle.scc_table.specs.Routing.{stripe_of};
 ghost use Rattle.scc_recorded.specs.declared.recorded.fixed.Request.{Request};
-ghost use Rattle.scc_recorded.specs.Histories.{FirstMisrouted};
-ghost use Rattle.scc_history.specs.Receipts.{AreAll};
+ghost use Rattle.scc_recorded.specs.Histories.{CallsRouted, FirstMisrouted};
+ghost use Rattle.scc_history.specs.Orders.{IsOnlyStampOrder, steps_at};
+ghost use Rattle.scc_history.specs.Receipts.{AreAll, calls_of as records_of};
+ghost use Rattle.scc_recorder.specs.Closing.{FirstDisagrees};
 ghost use Rattle.scc_play.specs.Answered.{calls_by};
 ghost use Rattle.scc_play.specs.Ended.{IfPlayed};
 ghost use Rattle.scc_play.specs.Played.{IsPlayed};
@@ -64,6 +66,8 @@ pub(crate) fn divided<P: Printed>(
 fn cause_of(error: FinishError) -> Result<Cause, AllocError>
     ensures missing { result ≡ Ok Cause.Missing → error ≡ FinishError.Missing }
     ensures misrouted { result ≡ Ok Cause.Misrouted → (i : ℕ) × (j : ℕ) × (error ≡ FinishError.Misrouted i j) }
+    ensures disagrees { result ≡ Ok Cause.Disagrees → (n : ℕ) × (k : ℕ) × (error ≡ FinishError.Disagrees n k) }
+    ensures differs { result ≡ Ok Cause.Differs → ⊥ }
 {
     match error {
         FinishError::Missing => Ok(Cause::Missing),
@@ -88,15 +92,15 @@ where
     requires workers { closed.passes ≡ workers }
     ensures missing { result ≡ Ok (End.Unfinished Cause.Missing) → ¬ AreAll closed.passes (map (λ p. p.log.number) passes.items) }
     ensures misrouted { result ≡ Ok (End.Unfinished Cause.Misrouted) → (i : ℕ) × (j : ℕ) × FirstMisrouted P.key_of (stripe_of P.Hasher.BuildHasher P.Hasher.Hasher.Hasher P.Key.Hash.hash_input closed.hasher (vec_len closed.stripes)) (map (λ s. s.stripe.history.items) closed.stripes.items) i j }
+    ensures disagrees { result ≡ Ok (End.Unfinished Cause.Disagrees) → (n : ℕ) × (k : ℕ) × ∥ ((places : List (ℕ × ℕ)) × IsOnlyStampOrder (map (λ s. s.stripe.history.items) closed.stripes.items) places × FirstDisagrees P.Call.eq P.Reply.eq (λ p. p.log.number) (λ p. p.log.receipts.items) passes.items (λ m. records_of m (steps_at (map (λ s. s.stripe.history.items) closed.stripes.items) places)) n k) ∥₁ }
+    ensures differs { result ≡ Ok (End.Unfinished Cause.Differs) → AreAll closed.passes (map (λ p. p.log.number) passes.items) × CallsRouted P.key_of (stripe_of P.Hasher.BuildHasher P.Hasher.Hasher.Hasher P.Key.Hash.hash_input closed.hasher (vec_len closed.stripes)) 0 (map (λ s. s.stripe.history.items) closed.stripes.items) }
     ensures played { IfOk result (λ e. IfPlayed e (λ text. ∥ ((r : Request P.Hasher) × (M.chosen ≡ Some r)
         × IsPlayed (record { limits = P.limits; empty = P.empty; key_of = P.key_of; moves = P.moves; resizes = P.resizes; whole = P.whole; whole_moves = P.whole_moves; whole_resizes = P.whole_resizes; told = P.told; count = P.count_reply; state = P.state; shown = P.shown; order = P.Item.cmp; reply = P.reply_line; content = P.item_line })
         (stripe_of P.Hasher.BuildHasher P.Hasher.Hasher.Hasher P.Key.Hash.hash_input r.hasher) r workers stripes calls.now text) ∥₁)) }
 {
     P::exact_calls();
     P::exact_replies();
-    let Some(told) = told_by_all::<P, L>(alloc, stripes, calls, passes.as_slice())? else {
-        return Ok(End::Unfinished(Cause::Disagrees));
-    };
+    let listed = told_by_all::<P, L>(alloc, stripes, calls, passes.as_slice())?;
     let finished = match closed.finish(passes) {
         Ok(finished) => finished,
         Err(unfinished) => {
@@ -104,8 +108,11 @@ where
             return Ok(End::Unfinished(cause));
         }
     };
+    let Some(told) = listed else {
+        return Ok(End::Unfinished(Cause::Differs));
+    };
     match whole_text::<P>(alloc, workers, told.as_slice(), finished)? {
         Some(text) => Ok(End::Played(text)),
-        None => Ok(End::Unfinished(Cause::Disagrees)),
+        None => Ok(End::Unfinished(Cause::Differs)),
     }
 }

@@ -1,6 +1,6 @@
 use Rattle.std.proofs.Common.{◌≡◌, ◌∙◌, Ok, map, length, vec_len, string_bytes, ap, sym, arith}
 use Rattle.std.proofs.lemmas.List.{length-map}
-use Rattle.scc_play.specs.declared.ends.Cause.TheVariants.{Misrouted}
+use Rattle.scc_play.specs.declared.ends.Cause.TheVariants.{Misrouted, Disagrees}
 use Rattle.scc_play.proofs.Assembling.{assembled}
 use Rattle.scc_play.proofs.stripes.finish_run.Goals as goal
 
@@ -10,7 +10,7 @@ returns-in-Some-2-clause-played g c =
     let e = c.in-Ok.ensures in
     let run = e.finished in
     let closed = c.args.closed in
-    let tells = rw c.as_slice.ensures.value at (rw c.in-Some.is at c.in_ok-told.ensures) in
+    let tells = rw c.as_slice.ensures.value at (rw c.in-Some.is at c.in_ok-listed.ensures) in
     let known = rw c.in-Some-2.is at c.in_ok-text.ensures.known in
     let zeros = rw c.in-Some-2.is at c.in_ok-text.ensures.opened in
     let shows = rw c.as_slice-2.ensures.value at (rw c.in-Some-2.is at c.in_ok-text.ensures.text) in
@@ -33,3 +33,10 @@ returns-in-Err-clause-misrouted g c e =
     let as-many : length (map (λ s. s.stripe.history.items) c.args.closed.stripes.items) ≡ length c.args.closed.stripes.items = simp length-map in
     let n : length (map (λ s. s.stripe.history.items) c.args.closed.stripes.items) ≡ vec_len c.args.closed.stripes = omega (arith, as-many, c.args.closed.stripes.ok.0) in
     (at.0, at.1, rw n at (rw c.in-Err.ensures.back.0 at found))
+
+pub returns-in-Err-clause-disagrees : goal.returns-in-Err-clause-disagrees
+returns-in-Err-clause-disagrees g c e =
+    let same : c.in_ok-cause-in-Err.cause ≡ Disagrees = cc in
+    let at = c.in_ok-cause-in-Err.ensures.disagrees (ap Ok same) in
+    let found = (c.in-Err.ensures.refused.disagrees at.0 at.1 at.2).2 in
+    (at.0, at.1, rw c.in-Err.ensures.back.1 at (rw c.in-Err.ensures.back.0 at found))
