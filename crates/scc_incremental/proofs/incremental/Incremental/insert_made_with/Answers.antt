@@ -10,7 +10,7 @@ pub returns-in-Ok-clause-fallen : goal.returns-in-Ok-clause-fallen
 returns-in-Ok-clause-fallen g c = λ _. c.insert_grown.ensures.down
 
 pub returns-in-Err-clause-err : goal.returns-in-Err-clause-err
-returns-in-Err-clause-err g c = (c.in-Err.ensures, unchanged-same c.args.self.now c.note.new.self c.note.ensures.lists c.note.ensures.settings)
+returns-in-Err-clause-err g c = (c.in-Err.ensures.err, unchanged-same c.args.self.now c.note.new.self c.note.ensures.lists c.note.ensures.settings)
 
 pub returns-in-Err-clause-lowered : goal.returns-in-Err-clause-lowered
 returns-in-Err-clause-lowered g c = λ _ low. absurd (let z : true ≡ false = sym (ap (λ (x : Bool × Bool). x.0) c.note.ensures.noted) ∙ low in cc)
