@@ -61,6 +61,7 @@ pub(crate) fn raise(
     ensures up { OnOk result (slice_index_or flags.new.items (bucket / 16) false ≡ true) }
     ensures count { OnOk result (length flags.new.items ≡ count / 16 + 1) }
     ensures kept { OnOk result ((i : ℕ) → slice_index_or flags.new.items i false ≡ false → slice_index_or flags.old.items i false ≡ false) }
+    ensures only { OnOk result ((i : ℕ) → slice_index_or flags.new.items i false ≡ true → (i ≡ bucket / 16) ⊎ (slice_index_or flags.old.items i false ≡ true)) }
     ensures err { OnErr result (flags.new.items ≡ flags.old.items) }
     ensures none { OnErr result (flags.old.items ≡ []) }
 {

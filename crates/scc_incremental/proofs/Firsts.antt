@@ -30,10 +30,10 @@ module _ {E S : Type 0} (a d : Contents E S) where
   )
 
   pub first-grows : bucket_count a ≡ 0 → IsArraySize (minimum_of a) (32 * bucket_count d) → Grows a d
-  first-grows none size = record { first = λ z ne. size; half = λ some ne. absurd (omega arith); below = λ some ne. absurd (omega arith); doubled = λ some ne. absurd (omega arith) }
+  first-grows none size = record { first = λ z ne. size; half = λ some ne. absurd (omega arith); below = λ some ne. absurd (omega arith); doubled = λ some ne. absurd (omega arith); settled = λ some ne. absurd (omega arith) }
 
 pub same-rests : {E S : Type 0} (a d : Contents E S) → d ≡ a → IsUnchanged a d × Grows a d
-same-rests a d same = (record { exact = ap entries same; buckets = ap bucket_count same; settings = ap settings_of same }, record { first = λ z ne. absurd (ne (ap bucket_count same)); half = λ z ne. absurd (ne (ap bucket_count same)); below = λ z ne. absurd (ne (ap bucket_count same)); doubled = λ z ne. absurd (ne (ap bucket_count same)) })
+same-rests a d same = (record { exact = ap entries same; buckets = ap bucket_count same; settings = ap settings_of same }, record { first = λ z ne. absurd (ne (ap bucket_count same)); half = λ z ne. absurd (ne (ap bucket_count same)); below = λ z ne. absurd (ne (ap bucket_count same)); doubled = λ z ne. absurd (ne (ap bucket_count same)); settled = λ z ne. absurd (ne (ap bucket_count same)) })
 
 -- of all fields then
 pub fields-first : {E K S : Type 0} (eq : K → K → Bool) (key : E → K) (hash : K → ℕ) (c d : Contents E S) (ws : List Bool) (olds : List (Shelf E)) (skipped pending next held aside : ℕ) → IsIncremental eq key hash c ws olds skipped pending next held aside → ws ≡ [] → settings_of d ≡ settings_of c → entries d ≡ [] → spilled_of d ≡ 0

@@ -61,6 +61,7 @@ module _ {E S : Type 0} (a c d f : Contents E S) (before : lists_of a ≡ lists_
     half = λ some ne. absurd (omega arith);
     below = λ some ne. absurd (omega arith);
     doubled = λ some ne. absurd (omega arith);
+    settled = λ some ne. absurd (omega arith);
   }
 
   pub over-first : FirstArrayWhenDue c d → FirstArrayWhenDue a f

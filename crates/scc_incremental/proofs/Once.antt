@@ -52,7 +52,7 @@ module _ {E S : Type 0} (a b d : Contents E S) (lists : lists_of d ≡ lists_of 
       ]
 
   grows-lists : Grows a b → Grows a d
-  grows-lists g = let n = count-same b d lists in record { first = rw n g.first; half = rw n g.half; below = rw n g.below; doubled = rw n g.doubled }
+  grows-lists g = let n = count-same b d lists in record { first = rw n g.first; half = rw n g.half; below = rw n g.below; doubled = rw n g.doubled; settled = rw n g.settled }
 
   -- what is made of room: the same where a mark is set afterwards
   pub room-marked : {K : Type 0} (hash : K → ℕ) (key : E → K) (h : ℕ) → waiting_of d ≡ waiting_of b

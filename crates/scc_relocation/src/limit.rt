@@ -16,6 +16,7 @@ pub(crate) fn left_of(overflowing: usize, aside: usize) -> usize
 pub fn is_overflow_full(listed: usize, spilled: usize, aside: usize) -> bool
     requires { spilled + aside < 2 ^ 62 }
     ensures full { IsTrue result → 32 ≤ listed }
+    ensures past { IsTrue result → 2 ^ 62 - 1 ≤ spilled + aside }
     ensures room { (IsTrue result → ⊥) → (listed < 32) ⊎ (spilled + aside < 2 ^ 62 - 1) }
 {
     listed >= 32 && spilled + aside >= OVERFLOW_LIMIT - 1

@@ -23,7 +23,7 @@ append-assoc (x ∷ xs) ys zs = ap (λ l. x ∷ l) (append-assoc xs ys zs)
 
 module _ {E S : Type 0} (C : E → E → Type 0) where
   pub adds-none : (c : Contents E S) → AddsClones C [] c c
-  adds-none c = record { copies = []; cloned = tt; same = IsPermutation-refl (entries c); buckets = refl; settings = refl }
+  adds-none c = record { copies = []; cloned = tt; same = IsPermutation-refl (entries c); buckets = refl; settings = refl; noted = refl }
 
   pub adds-more : (xs ys : List E) (c d e : Contents E S) → AddsClones C xs c d → AddsClones C ys d e → AddsClones C (xs ++ ys) c e
   adds-more xs ys c d e a b =
@@ -37,6 +37,7 @@ module _ {E S : Type 0} (C : E → E → Type 0) where
             b.same;
         buckets = b.buckets ∙ a.buckets;
         settings = b.settings ∙ a.settings;
+        noted = b.noted ∙ a.noted;
       }
 
   -- clones that were added to nothing

@@ -111,16 +111,17 @@ module _ {E F S : Type 0} (f : E → F) where
     half = rw (bucket_count-mapped c, bucket_count-mapped d, length-mapped c) h.half;
     below = rw (bucket_count-mapped c, bucket_count-mapped d) h.below;
     doubled = rw (bucket_count-mapped c, bucket_count-mapped d) h.doubled;
+    settled = λ some ne. pending_of-mapped c ∙ h.settled (rw (bucket_count-mapped c) at some) (rw (bucket_count-mapped c, bucket_count-mapped d) at ne);
   }
 
   pub FirstArrayWhenDue-mapped : (c d : Contents E S) → FirstArrayWhenDue c d → FirstArrayWhenDue (mapped f c) (mapped f d)
   FirstArrayWhenDue-mapped c d h = record { made = rw (bucket_count-mapped c, bucket_count-mapped d, settings_of-mapped c) h.made }
 
   pub ShrinksWhenDue-mapped : (c d : Contents E S) → ShrinksWhenDue c d → ShrinksWhenDue (mapped f c) (mapped f d)
-  ShrinksWhenDue-mapped c d h = record { shrunk = rw (bucket_count-mapped c, bucket_count-mapped d, settings_of-mapped d, length-mapped d, refused_of-mapped d) h.shrunk; raised = rw (bucket_count-mapped c, settings_of-mapped d, length-mapped d, refused_of-mapped c, refused_of-mapped d) h.raised }
+  ShrinksWhenDue-mapped c d h = record { shrunk = rw (bucket_count-mapped c, bucket_count-mapped d, settings_of-mapped d, length-mapped d, refused_of-mapped d) h.shrunk; raised = rw (bucket_count-mapped c, settings_of-mapped d, length-mapped d, refused_of-mapped c, refused_of-mapped d) h.raised; lowered = rw (bucket_count-mapped c, bucket_count-mapped d, refused_of-mapped c, refused_of-mapped d) h.lowered; down = rw (bucket_count-mapped c, bucket_count-mapped d, refused_of-mapped d) h.down }
 
   pub ReachesMinimumWhenDue-mapped : (c d : Contents E S) → ReachesMinimumWhenDue c d → ReachesMinimumWhenDue (mapped f c) (mapped f d)
-  ReachesMinimumWhenDue-mapped c d h = record { reached = rw (bucket_count-mapped c, bucket_count-mapped d, settings_of-mapped d, length-mapped c, refused_of-mapped d) h.reached; raised = rw (bucket_count-mapped c, settings_of-mapped d, refused_of-mapped c, refused_of-mapped d) h.raised }
+  ReachesMinimumWhenDue-mapped c d h = record { reached = rw (bucket_count-mapped c, bucket_count-mapped d, settings_of-mapped d, length-mapped c, refused_of-mapped d) h.reached; raised = rw (bucket_count-mapped c, settings_of-mapped d, refused_of-mapped c, refused_of-mapped d) h.raised; lowered = rw (bucket_count-mapped c, bucket_count-mapped d, refused_of-mapped c, refused_of-mapped d) h.lowered; down = rw (bucket_count-mapped c, bucket_count-mapped d, refused_of-mapped d) h.down }
 
   HoldsWith-mapped : (c : Contents E S) (s : Settings S) (d : Contents E S) → HoldsWith c s d → HoldsWith (mapped f c) s (mapped f d)
   HoldsWith-mapped c s d h = record {
@@ -159,4 +160,6 @@ module _ {E F S : Type 0} (f : E → F) where
           let r = h.raised (rw (refused_of-mapped c) at low) (rw (refused_of-mapped d) at up) in
           (rw (bucket_count-mapped c) r.0, λ room. r.1 (HasRoomBy-from_mapped hash c k room), rw (bucket_count-mapped c, length-mapped c) r.2, rw (bucket_count-mapped c) r.3);
       unmarked = λ a z b half below. ap (λ x. x.1) (refused_of-mapped d) ∙ h.unmarked (rw (bucket_count-mapped c) at a) (sym (pending_of-mapped c) ∙ z) (λ r. b (HasRoomBy-mapped hash c k r)) (rw (bucket_count-mapped c, length-mapped c) at half) (rw (bucket_count-mapped c) at below);
+      lowered = rw (bucket_count-mapped c, bucket_count-mapped d, refused_of-mapped c, refused_of-mapped d) h.lowered;
+      down = rw (bucket_count-mapped c, bucket_count-mapped d, refused_of-mapped d) h.down;
     }

@@ -95,8 +95,8 @@ module _ {E S : Type 0} where
 
   -- a try to shrink that goes by the two sizes does what is due
   pub shrinks-due : (k l : ℕ) (a b : Contents E S) → IsArraySize (minimum_of b) (32 * k) → IsArraySize (2 * length (entries b)) (32 * l) → (max k l < bucket_count a → (refused_of b).0 ≡ false → bucket_count b ≡ max k l) → ((refused_of a).0 ≡ false → (refused_of b).0 ≡ true → (length (entries b) ≤ 4 * bucket_count a) × (max k l < bucket_count a))
-      → ShrinksWhenDue a b
-  shrinks-due k l a b sm sl made rose = record {
+      → ((refused_of a).0 ≡ true → (refused_of b).0 ≡ false → bucket_count b ≢ bucket_count a) → (bucket_count b ≢ bucket_count a → (refused_of b).0 ≡ false) → ShrinksWhenDue a b
+  shrinks-due k l a b sm sl made rose fell low = record {
     shrunk = λ m n am an few less down.
         let em = size-once _ _ _ sm am in
         let en = size-once _ _ _ sl an in
@@ -107,6 +107,8 @@ module _ {E S : Type 0} where
         let en = size-once _ _ _ sl an in
         let r = rose low up in
         (omega (arith, r.0), omega (arith, r.1));
+    lowered = fell;
+    down = low;
   }
 
   -- what a try to shrink did after a change that kept the buckets and the note of refused memory
@@ -114,12 +116,14 @@ module _ {E S : Type 0} where
   shrinks-after a b c same noted h = record {
     shrunk = λ m n am an few less down. h.shrunk m n am an (omega (arith, same)) (omega (arith, same)) down;
     raised = λ low up m n am an. let r = h.raised (ap (λ (x : Bool × Bool). x.0) noted ∙ low) up m n am an in (omega (arith, same, r.0), omega (arith, same, r.1));
+    lowered = λ up low e. h.lowered (ap (λ (x : Bool × Bool). x.0) noted ∙ up) low (e ∙ sym same);
+    down = λ ne. h.down (λ e. ne (e ∙ same));
   }
 
   -- a try to grow that goes by that size does what is due
   pub reaches-due : (k : ℕ) (a b : Contents E S) → IsArraySize (minimum_of b) (32 * k) → (0 < bucket_count a → bucket_count a < k → length (entries a) < 2 ^ 62 → (refused_of b).0 ≡ false → bucket_count b ≡ k) → ((refused_of a).0 ≡ false → (refused_of b).0 ≡ true → (0 < bucket_count a) × (bucket_count a < k))
-      → ReachesMinimumWhenDue a b
-  reaches-due k a b size made rose = record {
+      → ((refused_of a).0 ≡ true → (refused_of b).0 ≡ false → bucket_count b ≢ bucket_count a) → (bucket_count b ≢ bucket_count a → (refused_of b).0 ≡ false) → ReachesMinimumWhenDue a b
+  reaches-due k a b size made rose fell low = record {
     reached = λ m am some less few down.
         let e = size-once _ _ _ size am in
         let z = made some (omega arith) few down in
@@ -128,6 +132,8 @@ module _ {E S : Type 0} where
         let e = size-once _ _ _ size am in
         let r = rose low up in
         (r.0, omega (arith, r.1));
+    lowered = fell;
+    down = low;
   }
 
   -- what a try to shrink did to the number of buckets

@@ -61,8 +61,8 @@ module _ {E S : Type 0} where
     pub smaller : IsSmaller (minimum_of c) (length (entries c)) (bucket_count c) n
     pub short : (i : ℕ) → i < n → length (bound_for hash (settings_of c).skipped n i (entries c)) ≤ 32
 
-  -- the array becomes smaller, not below the minimum, where that is due, which it isn't where a bucket would get more than 32 entries; where memory for it is refused, that is noted and nothing else changes
+  -- the array becomes smaller, not below the minimum, where that is due, which it isn't where a bucket would get more than 32 entries; where it is due and memory for it is refused, that is noted and nothing else changes
   pub data ShrinksBounded (hash : E → ℕ) (c d : Contents E S) : Type 0 where
     stays_wide : ((n : ℕ) → MayNarrow hash c n → ⊥) → d ≡ c → ShrinksBounded hash c d
-    denied_narrow : (n : ℕ) → IsSmaller (minimum_of c) (length (entries c)) (bucket_count c) n → (refused_of d).0 ≡ true → KeepsLists c d → ShrinksBounded hash c d
+    denied_narrow : (n : ℕ) → MayNarrow hash c n → (refused_of d).0 ≡ true → KeepsLists c d → ShrinksBounded hash c d
     narrows : IsSmaller (minimum_of c) (length (entries c)) (bucket_count c) (bucket_count d) → minimum_of c ≤ 32 * bucket_count d → (refused_of d).0 ≡ false → IsResized hash c d → ShrinksBounded hash c d

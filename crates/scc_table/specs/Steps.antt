@@ -34,12 +34,13 @@ module _ {E S : Type 0} where
   abbrev pub Rests : Contents E S → Contents E S → Type 0
   Rests c d = IsUnchanged c d ⊎ ((bucket_count d ≢ bucket_count c) × Resizes c d)
 
-  -- where the number of buckets changed, there was no array and one of the size of the minimum was made, or at least half as many entries as slots were held and the slots, below the greatest number, were doubled
+  -- where the number of buckets changed, there was no array and one of the size of the minimum was made, or no bucket waited, at least half as many entries as slots were held and the slots, below the greatest number, were doubled
   pub record Grows (c d : Contents E S) : Type 0 where
     pub first : bucket_count c ≡ 0 → bucket_count d ≢ bucket_count c → IsArraySize (minimum_of c) (32 * bucket_count d)
     pub half : 0 < bucket_count c → bucket_count d ≢ bucket_count c → 32 * bucket_count c ≤ 2 * length (entries c)
     pub below : 0 < bucket_count c → bucket_count d ≢ bucket_count c → 32 * bucket_count c < 2 ^ 63
     pub doubled : 0 < bucket_count c → bucket_count d ≢ bucket_count c → bucket_count d ≡ 2 * bucket_count c
+    pub settled : 0 < bucket_count c → bucket_count d ≢ bucket_count c → pending_of c ≡ 0
 
   -- the entries moved to fewer buckets
   pub record IsShrunk (c d : Contents E S) : Type 0 where
@@ -72,25 +73,31 @@ module _ {E S : Type 0} where
   pub record FirstArrayWhenDue (c d : Contents E S) : Type 0 where
     pub made : bucket_count c ≡ 0 → IsArraySize (minimum_of c) (32 * bucket_count d)
 
-  -- for a new key k whose bucket has no room, the slots were doubled where no bucket waited, at least half as many entries as slots were held and the slots were below the greatest number, unless memory was refused; the note of refused memory rises only there, and no mark of a growth that was tried is left there; 2 ^ 62 entries are more than a table can hold
+  -- for a new key k whose bucket has no room, the slots were doubled where no bucket waited, at least half as many entries as slots were held and the slots were below the greatest number, unless memory was refused; the note of refused memory rises only there, is down where the slots were doubled, and falls only where they were, and no mark of a growth that was tried is left there; 2 ^ 62 entries are more than a table can hold
   pub record GrowsWhenDue {K : Type 0} (hash : K → ℕ) (key : E → K) (c : Contents E S) (k : K) (d : Contents E S) : Type 0 where
     pub doubled : 0 < bucket_count c → pending_of c ≡ 0 → (HasRoomBy hash key c k → ⊥) → 32 * bucket_count c ≤ 2 * length (entries c) → 32 * bucket_count c < 2 ^ 63 → length (entries c) < 2 ^ 62 → (refused_of d).0 ≡ false → bucket_count d ≡ 2 * bucket_count c
     pub raised : (refused_of c).0 ≡ false → (refused_of d).0 ≡ true → (0 < bucket_count c) × (HasRoomBy hash key c k → ⊥) × (32 * bucket_count c ≤ 2 * length (entries c)) × (32 * bucket_count c < 2 ^ 63)
     pub unmarked : 0 < bucket_count c → pending_of c ≡ 0 → (HasRoomBy hash key c k → ⊥) → 32 * bucket_count c ≤ 2 * length (entries c) → 32 * bucket_count c < 2 ^ 63 → (refused_of d).1 ≡ false
+    pub lowered : (refused_of c).0 ≡ true → (refused_of d).0 ≡ false → (0 < bucket_count c) × (bucket_count d ≢ bucket_count c)
+    pub down : 0 < bucket_count c → bucket_count d ≢ bucket_count c → (refused_of d).0 ≡ false
 
   -- the note of refused memory rises only where a new key k asked for a growth that was due
   pub record RaisesWhenDue {K : Type 0} (hash : K → ℕ) (key : E → K) (c : Contents E S) (k : K) (d : Contents E S) : Type 0 where
     pub raised : (refused_of c).0 ≡ false → (refused_of d).0 ≡ true → (0 < bucket_count c) × (HasRoomBy hash key c k → ⊥) × (32 * bucket_count c ≤ 2 * length (entries c)) × (32 * bucket_count c < 2 ^ 63)
 
-  -- where the entries that are left are at most an eighth of the slots, and the greater of the sizes for the minimum and for twice these entries is smaller, the array got that size, unless memory was refused; the note of refused memory rises only there
+  -- where the entries that are left are at most an eighth of the slots, and the greater of the sizes for the minimum and for twice these entries is smaller, the array got that size, unless memory was refused; the note of refused memory rises only there, is down where the number of buckets changed, and falls only where it did
   pub record ShrinksWhenDue (c d : Contents E S) : Type 0 where
     pub shrunk : (m n : ℕ) → IsArraySize (minimum_of d) m → IsArraySize (2 * length (entries d)) n → 8 * length (entries d) ≤ 32 * bucket_count c → max m n < 32 * bucket_count c → (refused_of d).0 ≡ false → 32 * bucket_count d ≡ max m n
     pub raised : (refused_of c).0 ≡ false → (refused_of d).0 ≡ true → (m n : ℕ) → IsArraySize (minimum_of d) m → IsArraySize (2 * length (entries d)) n → (8 * length (entries d) ≤ 32 * bucket_count c) × (max m n < 32 * bucket_count c)
+    pub lowered : (refused_of c).0 ≡ true → (refused_of d).0 ≡ false → bucket_count d ≢ bucket_count c
+    pub down : bucket_count d ≢ bucket_count c → (refused_of d).0 ≡ false
 
-  -- an array with fewer slots than the minimum, as it is now, got the size of it, unless memory was refused; the note of refused memory rises only there
+  -- an array with fewer slots than the minimum, as it is now, got the size of it, unless memory was refused; the note of refused memory rises only there, is down where the number of buckets changed, and falls only where it did
   pub record ReachesMinimumWhenDue (c d : Contents E S) : Type 0 where
     pub reached : (m : ℕ) → IsArraySize (minimum_of d) m → 0 < bucket_count c → 32 * bucket_count c < m → length (entries c) < 2 ^ 62 → (refused_of d).0 ≡ false → 32 * bucket_count d ≡ m
     pub raised : (refused_of c).0 ≡ false → (refused_of d).0 ≡ true → (m : ℕ) → IsArraySize (minimum_of d) m → (0 < bucket_count c) × (32 * bucket_count c < m)
+    pub lowered : (refused_of c).0 ≡ true → (refused_of d).0 ≡ false → bucket_count d ≢ bucket_count c
+    pub down : bucket_count d ≢ bucket_count c → (refused_of d).0 ≡ false
 
   -- all is made that an insertion of a new key of hash h wants: there is an array, and the key's bucket has room, some bucket waits, fewer than half as many entries as slots are held, the array is the greatest, or the growth was tried just before
   abbrev pub IsReadyAt : {K : Type 0} → (K → ℕ) → (E → K) → Contents E S → ℕ → Type 0

@@ -1,7 +1,7 @@
 //! How a table is made that holds clones of the entries of both arrays.
-ghost use Rattle.std.specs.Prelude.{◌≡◌, [], IfOk};
+ghost use Rattle.std.specs.Prelude.{◌≡◌, [], false, IfOk};
 ghost use Rattle.scc_table.specs.Clones.{HasClones};
-ghost use Rattle.scc_table.specs.Contents.{waiting_of};
+ghost use Rattle.scc_table.specs.Contents.{refused_of, waiting_of};
 
 use super::Incremental;
 use scc_relocation::insert_clones_of;
@@ -12,12 +12,13 @@ impl<E: Keyed, H: BuildHasher> Incremental<E, H>
 where
     E::Key: Eq + Hash,
 {
-    /// A table with clones of all entries under a clone of the hasher, where no bucket waits. It has as many buckets, and their slots are those that it was asked for. It is refused for want of memory, and where a clone can't be had or equals another.
+    /// A table with clones of all entries under a clone of the hasher, where no bucket waits and no resize was refused. It has as many buckets, and their slots are those that it was asked for. It is refused for want of memory, and where a clone can't be had or equals another.
     pub fn try_clone(&self) -> Result<Incremental<E, H>, MakeError>
     where
         E: Clone,
         H: Clone,
         ensures clones { IfOk result (HasClones E.is_clone H.is_clone self.now) }
+        ensures noted { IfOk result (λ t. refused_of t ≡ (false, false)) }
         ensures waiting { IfOk result (λ t. waiting_of t ≡ []) }
     {
         let mut copy = self.current.try_clone()?;

@@ -49,6 +49,7 @@ where
         ensures rests { Rests self.old self.new }
         ensures doubled { bucket_count self.new ≢ bucket_count self.old → bucket_count self.new ≡ 2 * bucket_count self.old }
         ensures due { (refused_of self.new).0 ≡ false → bucket_count self.new ≢ bucket_count self.old }
+        ensures down { bucket_count self.new ≢ bucket_count self.old → (refused_of self.new).0 ≡ false }
         ensures unmarked { (refused_of self.new).1 ≡ false }
         ensures within { result.bucket < bucket_count self.new }
         ensures here { slice_get (list_of self.new result.bucket) result.slot ≡ slice_get (list_of self.old place.bucket) place.slot }
@@ -126,7 +127,7 @@ impl<E: Keyed + Made, H: BuildHasher> Incremental<E, H>
 where
     E::Key: Eq + Hash,
 {
-    /// The same with an entry of the parts, which is made first. Where it can't be, the parts are handed back, and nothing changed.
+    /// The same with an entry of the parts, which is made first. Where it can't be, the parts are handed back, that the growth wasn't made is noted, and nothing else changed.
     pub(super) fn insert_made_with(
         &mut self,
         count: usize,
@@ -147,11 +148,18 @@ where
         ensures ok { IfOk result (IsInsertedAt self.old (E.made_of parts) self.new) }
         ensures buckets { OnOk result (bucket_count self.new ≡ count) }
         ensures down { OnOk result ((refused_of self.new).0 ≡ false) }
-        ensures unmarked { OnOk result ((refused_of self.new).1 ≡ false) }
+        ensures doubled { bucket_count self.new ≢ bucket_count self.old → bucket_count self.new ≡ count }
+        ensures due { (refused_of self.new).0 ≡ false → bucket_count self.new ≡ count }
+        ensures same { bucket_count self.new ≡ bucket_count self.old → waiting_of self.new ≡ waiting_of self.old }
+        ensures grown { bucket_count self.new ≢ bucket_count self.old → count ≤ pending_of self.new + 2 }
+        ensures lowered { (refused_of self.old).0 ≡ true → (refused_of self.new).0 ≡ false → bucket_count self.new ≢ bucket_count self.old }
+        ensures fallen { bucket_count self.new ≢ bucket_count self.old → (refused_of self.new).0 ≡ false }
+        ensures unmarked { (refused_of self.new).1 ≡ false }
         ensures most { OnOk result (count ≤ pending_of self.new + 2) }
         ensures spread { OnOk result (AreShortAmong (λ e. key_hash H.BuildHasher H.Hasher.Hasher E.Key.hash_input self.old (E.key_of e)) count self.old → pending_targets self.new ≡ left_after (bucket_number (settings_of self.old).skipped count hash) (range_with_len 0 count)) }
         ensures settled { OnOk result (waits_at (waiting_of self.new) (bucket_number (settings_of self.old).skipped count hash) ≡ false) }
-        ensures err { IfErr result (λ p. (p ≡ parts) × (self.new ≡ self.old)) }
+        ensures err { IfErr result (λ p. (p ≡ parts) × IsUnchanged self.old self.new) }
+        ensures up { OnErr result ((refused_of self.new).0 ≡ true) }
         ensures unique { IsUniqueBy E.Key.eq E.key_of self.new }
     {
         self.keep_lists();
@@ -159,12 +167,13 @@ where
             Ok(entry) => Ok(self.insert_grown(count, fresh, flags, hash, entry)),
             Err(back) => {
                 fresh.destroy_empty();
+                self.note(true);
                 Err(back)
             }
         }
     }
 
-    /// The same into the present buckets, in whose place twice as many empty ones come afterwards: that bucket, the one of the hash, has the entry first, and then the one of the hash among the new ones takes it over, where memory isn't refused.
+    /// The same into the present buckets, in whose place twice as many empty ones come afterwards: that bucket, the one of the hash, has the entry first, and then the one of the hash among the new ones takes it over, where memory isn't refused. Where the entry can't be put in, that the growth wasn't made is noted, and nothing else changed.
     #[cold]
     pub(super) fn insert_made_crowded(
         &mut self,
@@ -184,10 +193,12 @@ where
         requires flags { flags.items ≡ replicate (2 * bucket_count self.old) true }
         ensures ok { IfOk result (IsInsertedAt self.old (E.made_of parts) self.new) }
         ensures err { IfErr result (λ p. (p ≡ parts) × IsUnchanged self.old self.new) }
-        ensures noted { OnErr result (refused_of self.new ≡ refused_of self.old) }
+        ensures up { OnErr result ((refused_of self.new).0 ≡ true) }
         ensures doubled { bucket_count self.new ≢ bucket_count self.old → bucket_count self.new ≡ 2 * bucket_count self.old }
-        ensures due { OnOk result ((refused_of self.new).0 ≡ false → bucket_count self.new ≡ 2 * bucket_count self.old) }
-        ensures unmarked { OnOk result ((refused_of self.new).1 ≡ false) }
+        ensures due { (refused_of self.new).0 ≡ false → bucket_count self.new ≡ 2 * bucket_count self.old }
+        ensures lowered { (refused_of self.old).0 ≡ true → (refused_of self.new).0 ≡ false → bucket_count self.new ≢ bucket_count self.old }
+        ensures fallen { bucket_count self.new ≢ bucket_count self.old → (refused_of self.new).0 ≡ false }
+        ensures unmarked { (refused_of self.new).1 ≡ false }
         ensures none { bucket_count self.new ≡ bucket_count self.old → pending_of self.new ≡ 0 }
         ensures most { bucket_count self.new ≢ bucket_count self.old → bucket_count self.new ≤ pending_of self.new + 2 }
         ensures spread { OnOk result (bucket_count self.new ≢ bucket_count self.old → AreShortAmong (λ e. key_hash H.BuildHasher H.Hasher.Hasher E.Key.hash_input self.old (E.key_of e)) (bucket_count self.new) self.old → pending_targets self.new ≡ left_after (bucket_number (settings_of self.old).skipped (bucket_count self.new) hash) (range_with_len 0 (bucket_count self.new))) }
@@ -198,6 +209,7 @@ where
             Ok(place) => Ok(self.double_around(place, fresh, flags, hash)),
             Err(back) => {
                 fresh.destroy_empty();
+                self.note(true);
                 Err(back)
             }
         }

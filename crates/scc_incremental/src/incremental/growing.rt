@@ -25,6 +25,8 @@ where
         ensures still { HasRoomAt (key_hash H.BuildHasher H.Hasher.Hasher E.Key.hash_input self.old) E.key_of self.old hash → self.new ≡ self.old }
         ensures due { 0 < bucket_count self.old → pending_of self.old ≡ 0 → (HasRoomAt (key_hash H.BuildHasher H.Hasher.Hasher E.Key.hash_input self.old) E.key_of self.old hash → ⊥) → 32 * bucket_count self.old ≤ 2 * length (entries self.old) → 32 * bucket_count self.old < 2 ^ 63 → (refused_of self.new).0 ≡ false → bucket_count self.new ≡ 2 * bucket_count self.old }
         ensures raised { (refused_of self.old).0 ≡ false → (refused_of self.new).0 ≡ true → (0 < bucket_count self.old) × (HasRoomAt (key_hash H.BuildHasher H.Hasher.Hasher E.Key.hash_input self.old) E.key_of self.old hash → ⊥) × (32 * bucket_count self.old ≤ 2 * length (entries self.old)) × (32 * bucket_count self.old < 2 ^ 63) }
+        ensures lowered { (refused_of self.old).0 ≡ true → (refused_of self.new).0 ≡ false → (0 < bucket_count self.old) × (bucket_count self.new ≢ bucket_count self.old) }
+        ensures down { 0 < bucket_count self.old → bucket_count self.new ≢ bucket_count self.old → (refused_of self.new).0 ≡ false }
         ensures first { OnOk result (FirstArrayWhenDue self.old self.new) }
         ensures bare { bucket_count self.old ≡ 0 → entries self.new ≡ [] }
         ensures settled { bucket_count self.old ≡ 0 → waiting_of self.new ≡ [] }
@@ -101,6 +103,8 @@ where
         ensures growth { Grows self.old self.new }
         ensures due { 32 * bucket_count self.old ≤ 2 * length (entries self.old) → 32 * bucket_count self.old < 2 ^ 63 → (refused_of self.new).0 ≡ false → bucket_count self.new ≡ 2 * bucket_count self.old }
         ensures raised { (refused_of self.old).0 ≡ false → (refused_of self.new).0 ≡ true → (32 * bucket_count self.old ≤ 2 * length (entries self.old)) × (32 * bucket_count self.old < 2 ^ 63) }
+        ensures lowered { (refused_of self.old).0 ≡ true → (refused_of self.new).0 ≡ false → bucket_count self.new ≢ bucket_count self.old }
+        ensures down { bucket_count self.new ≢ bucket_count self.old → (refused_of self.new).0 ≡ false }
         ensures stays { bucket_count self.new ≡ bucket_count self.old → lists_of self.new ≡ lists_of self.old }
         ensures waiting { bucket_count self.new ≡ bucket_count self.old → waiting_of self.new ≡ waiting_of self.old }
         ensures all { bucket_count self.new ≢ bucket_count self.old → waiting_of self.new ≡ replicate (bucket_count self.new) true }

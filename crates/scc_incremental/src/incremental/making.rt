@@ -1,6 +1,6 @@
 //! How a table of two arrays is made: with one.
 ghost use Rattle.std.specs.Arc.{arc_value};
-ghost use Rattle.std.specs.Prelude.{◌≡◌, ◌≤◌, ◌<◌, ◌*◌, [], IsOk, IfOk};
+ghost use Rattle.std.specs.Prelude.{◌≡◌, ◌≤◌, ◌<◌, ◌*◌, [], false, IsOk, IfOk};
 ghost use Rattle.scc_table.specs.Bounded.{IsListed};
 ghost use Rattle.scc_table.specs.Contents.{entries, bucket_count, key_hash, lists_of, refused_of, settings_of, spilled_of, waiting_of};
 ghost use Rattle.scc_table.specs.Sizes.{IsArraySize};
@@ -16,13 +16,14 @@ impl<E: Keyed, H: BuildHasher> Incremental<E, H>
 where
     E::Key: Eq + Hash,
 {
-    /// An empty table without an array, that skips so many bits of each hash.
+    /// An empty table without an array, that skips so many bits of each hash. No resize of it was refused, and nothing waits.
     pub fn new(alloc: Global, skipped: u32, hasher: H) -> Incremental<E, H>
         requires { skipped ≤ 4 }
         ensures entries { entries result ≡ [] }
         ensures listed { IsListed (λ e. key_hash H.BuildHasher H.Hasher.Hasher E.Key.hash_input result (E.key_of e)) result }
         ensures buckets { bucket_count result ≡ 0 }
         ensures settings { settings_of result ≡ record { hasher = hasher; skipped = skipped; asked = 0; reserved = 0 } }
+        ensures noted { refused_of result ≡ (false, false) }
         ensures waiting { waiting_of result ≡ [] }
     {
         Incremental::over(skipped, Table::new(alloc, skipped, hasher))
@@ -44,6 +45,7 @@ where
         ensures size { IfOk result (λ t. 0 < slots → IsArraySize slots (32 * bucket_count t)) }
         ensures settings { IfOk result (λ t. settings_of t ≡ record { hasher = hasher; skipped = skipped; asked = 32 * bucket_count t; reserved = 0 }) }
         ensures succeeds { slots ≡ 0 → IsOk result }
+        ensures noted { IfOk result (λ t. refused_of t ≡ (false, false)) }
         ensures waiting { IfOk result (λ t. waiting_of t ≡ []) }
     {
         match Table::with_capacity(alloc, skipped, slots, hasher) {
@@ -103,6 +105,7 @@ where
         ensures size { IfOk result (λ t. 0 < slots → IsArraySize slots (32 * bucket_count t)) }
         ensures settings { IfOk result (λ t. settings_of t ≡ record { hasher = arc_value hasher; skipped = skipped; asked = 32 * bucket_count t; reserved = 0 }) }
         ensures succeeds { slots ≡ 0 → IsOk result }
+        ensures noted { IfOk result (λ t. refused_of t ≡ (false, false)) }
         ensures waiting { IfOk result (λ t. waiting_of t ≡ []) }
     {
         Incremental::with_capacity(alloc, skipped, slots, Shared::new(hasher))

@@ -28,6 +28,7 @@ where
         ensures growth { Grows self.old self.new }
         ensures due { OnOk result (GrowsWhenDue (key_hash H.BuildHasher H.Hasher.Hasher E.Key.hash_input self.old) E.key_of self.old (E.key_of (E.made_of parts)) self.new) }
         ensures raised { OnErr result (RaisesWhenDue (key_hash H.BuildHasher H.Hasher.Hasher E.Key.hash_input self.old) E.key_of self.old (E.key_of (E.made_of parts)) self.new) }
+        ensures undone { OnErr result (GrowsWhenDue (key_hash H.BuildHasher H.Hasher.Hasher E.Key.hash_input self.old) E.key_of self.old (E.key_of (E.made_of parts)) self.new) }
         ensures first { OnOk result (FirstArrayWhenDue self.old self.new) }
         ensures kept { HasRoomBy (key_hash H.BuildHasher H.Hasher.Hasher E.Key.hash_input self.old) E.key_of self.old (E.key_of (E.made_of parts)) → bucket_count self.new ≡ bucket_count self.old }
         ensures once { IsReadyFor (key_hash H.BuildHasher H.Hasher.Hasher E.Key.hash_input self.old) E.key_of self.old (E.key_of (E.made_of parts)) → bucket_count self.new ≡ bucket_count self.old }
@@ -66,7 +67,7 @@ where
         ensures ok { IfOk result (IsInsertedAt self.old (E.made_of parts) self.new) }
         ensures err { IfErr result (λ p. (p ≡ parts) × IsUnchanged self.old self.new) }
         ensures growth { Grows self.old self.new }
-        ensures raised { (refused_of self.old).0 ≡ false → (refused_of self.new).0 ≡ false }
+        ensures noted { refused_of self.new ≡ refused_of self.old }
         ensures first { OnOk result (FirstArrayWhenDue self.old self.new) }
         ensures waiting { waiting_of self.new ≡ [] }
         ensures unique { IsUniqueBy E.Key.eq E.key_of self.new }
@@ -77,7 +78,7 @@ where
         placed
     }
 
-    /// The same where no bucket waits, and that bucket, the one of the hash, holds 32 entries or more. Where the table holds at least half as many entries as slots, the number of buckets is doubled, unless the array is the greatest, memory for that is refused, or it was refused just before. Memory for the new buckets is asked for first, then the entry is made.
+    /// The same where no bucket waits, and that bucket, the one of the hash, holds 32 entries or more. Where the table holds at least half as many entries as slots, the number of buckets is doubled, unless the array is the greatest, memory for that is refused, or it was refused just before. Memory for the new buckets is asked for first, then the entry is made. Where a growth that is due isn't made, that is noted, whether the entry gets in or not.
     #[cold]
     fn insert_made_full(
         &mut self,
@@ -93,10 +94,12 @@ where
         ensures ok { IfOk result (IsInsertedAt self.old (E.made_of parts) self.new) }
         ensures err { IfErr result (λ p. (p ≡ parts) × IsUnchanged self.old self.new) }
         ensures growth { Grows self.old self.new }
-        ensures due { OnOk result (32 * bucket_count self.old ≤ 2 * length (entries self.old) → 32 * bucket_count self.old < 2 ^ 63 → (refused_of self.new).0 ≡ false → bucket_count self.new ≡ 2 * bucket_count self.old) }
+        ensures due { 32 * bucket_count self.old ≤ 2 * length (entries self.old) → 32 * bucket_count self.old < 2 ^ 63 → (refused_of self.new).0 ≡ false → bucket_count self.new ≡ 2 * bucket_count self.old }
         ensures raised { (refused_of self.old).0 ≡ false → (refused_of self.new).0 ≡ true → (32 * bucket_count self.old ≤ 2 * length (entries self.old)) × (32 * bucket_count self.old < 2 ^ 63) }
+        ensures lowered { (refused_of self.old).0 ≡ true → (refused_of self.new).0 ≡ false → bucket_count self.new ≢ bucket_count self.old }
+        ensures down { bucket_count self.new ≢ bucket_count self.old → (refused_of self.new).0 ≡ false }
         ensures once { (refused_of self.old).1 ≡ true → bucket_count self.new ≡ bucket_count self.old }
-        ensures unmarked { OnOk result (32 * bucket_count self.old ≤ 2 * length (entries self.old) → 32 * bucket_count self.old < 2 ^ 63 → (refused_of self.new).1 ≡ false) }
+        ensures unmarked { 32 * bucket_count self.old ≤ 2 * length (entries self.old) → 32 * bucket_count self.old < 2 ^ 63 → (refused_of self.new).1 ≡ false }
         ensures fewer { bucket_count self.new ≡ bucket_count self.old → (i : ℕ) → IsWaiting self.new i → IsWaiting self.old i }
         ensures less { bucket_count self.new ≡ bucket_count self.old → pending_of self.new ≤ pending_of self.old }
         ensures grown { bucket_count self.new ≢ bucket_count self.old → bucket_count self.new ≤ pending_of self.new + 2 }

@@ -1,9 +1,9 @@
 //! How a table is made that holds clones of another's entries.
-ghost use Rattle.std.specs.Prelude.{◌≡◌, ◌*◌, ◌^◌, ◌<◌, [], ◌∷◌, length, IfOk, OnOk};
+ghost use Rattle.std.specs.Prelude.{◌≡◌, ◌*◌, ◌^◌, ◌<◌, [], ◌∷◌, false, length, IfOk, OnOk};
 ghost use Rattle.scc_array.specs.Shelves.{shelf_of};
 ghost use Rattle.scc_bucket.specs.Shelf.{shelf_entries};
 ghost use Rattle.scc_table.specs.Clones.{AddsClones, HasClones};
-ghost use Rattle.scc_table.specs.Contents.{entries, bucket_count, settings_of};
+ghost use Rattle.scc_table.specs.Contents.{entries, bucket_count, refused_of, settings_of, waiting_of};
 
 use super::Table;
 use super::making::fresh_buckets;
@@ -22,7 +22,9 @@ where
     where
         E: Clone,
         H: Clone,
-        ensures { IfOk result (HasClones E.is_clone H.is_clone self.now) }
+        ensures clones { IfOk result (HasClones E.is_clone H.is_clone self.now) }
+        ensures noted { IfOk result (λ t. refused_of t ≡ (false, false)) }
+        ensures waiting { IfOk result (λ t. waiting_of t ≡ []) }
     {
         let Ok(hasher) = self.hasher.clone() else {
             return Err(MakeError);
@@ -39,6 +41,8 @@ where
         ensures entries { IfOk result (λ t. entries t ≡ []) }
         ensures buckets { IfOk result (λ t. bucket_count t ≡ bucket_count self.now) }
         ensures settings { IfOk result (λ t. settings_of t ≡ record { hasher = hasher; skipped = (settings_of self.now).skipped; asked = 32 * bucket_count self.now; reserved = 0 }) }
+        ensures noted { IfOk result (λ t. refused_of t ≡ (false, false)) }
+        ensures waiting { IfOk result (λ t. waiting_of t ≡ []) }
     {
         let alloc = self.buckets.allocator();
         let count = self.buckets.len();

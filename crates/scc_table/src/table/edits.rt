@@ -28,7 +28,7 @@ pub(super) fn one_if(holds: bool) -> usize
 
 /// Whether so many entries in overflow lists are the most that one table may have.
 #[inline(always)]
-fn is_overflow_full(overflowing: usize) -> bool
+pub(super) fn is_overflow_full(overflowing: usize) -> bool
     ensures full { IsTrue result → 2 ^ 62 - 1 ≤ overflowing }
     ensures room { (IsTrue result → ⊥) → overflowing < 2 ^ 62 - 1 }
 {

@@ -1,7 +1,7 @@
 //! How a table and its array are made.
-ghost use Rattle.std.specs.Prelude.{◌≡◌, ◌≤◌, ◌<◌, ◌+◌, ◌*◌, ◌^◌, [], length, IsOk, IfOk, OnOk, OnErr};
+ghost use Rattle.std.specs.Prelude.{◌≡◌, ◌≤◌, ◌<◌, ◌+◌, ◌*◌, ◌^◌, [], false, length, IsOk, IfOk, OnOk, OnErr};
 ghost use Rattle.scc_table.specs.Bounded.{IsListed, IsResized};
-ghost use Rattle.scc_table.specs.Contents.{entries, bucket_count, settings_of, refused_of, minimum_of, key_hash};
+ghost use Rattle.scc_table.specs.Contents.{entries, bucket_count, settings_of, refused_of, waiting_of, minimum_of, key_hash};
 ghost use Rattle.scc_table.specs.Sizes.{IsArray, IsArraySize};
 ghost use Rattle.scc_table.specs.Steps.{IsUnchanged};
 ghost use Rattle.scc_table.specs.Tables.{AllEmpty};
@@ -18,13 +18,15 @@ impl<E: Keyed, H: BuildHasher> Table<E, H>
 where
     E::Key: Eq + Hash,
 {
-    /// An empty table without an array, that skips so many bits of each hash.
+    /// An empty table without an array, that skips so many bits of each hash. No resize of it was refused, and nothing waits.
     pub fn new(alloc: Global, skipped: u32, hasher: H) -> Table<E, H>
         requires { skipped ≤ 4 }
         ensures entries { entries result ≡ [] }
         ensures listed { IsListed (λ e. key_hash H.BuildHasher H.Hasher.Hasher E.Key.hash_input result (E.key_of e)) result }
         ensures buckets { bucket_count result ≡ 0 }
         ensures settings { settings_of result ≡ record { hasher = hasher; skipped = skipped; asked = 0; reserved = 0 } }
+        ensures noted { refused_of result ≡ (false, false) }
+        ensures waiting { waiting_of result ≡ [] }
     {
         Table {
             buckets: Array::none(alloc),
@@ -55,6 +57,8 @@ where
         ensures size { IfOk result (λ t. 0 < slots → IsArraySize slots (32 * bucket_count t)) }
         ensures settings { IfOk result (λ t. settings_of t ≡ record { hasher = hasher; skipped = skipped; asked = 32 * bucket_count t; reserved = 0 }) }
         ensures succeeds { slots ≡ 0 → IsOk result }
+        ensures noted { IfOk result (λ t. refused_of t ≡ (false, false)) }
+        ensures waiting { IfOk result (λ t. waiting_of t ≡ []) }
     {
         if slots == 0 {
             return Ok(Table::new(alloc, skipped, hasher));

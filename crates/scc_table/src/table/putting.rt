@@ -10,7 +10,7 @@ ghost use Rattle.scc_table.specs.Steps.{FirstArrayWhenDue, Grows, IsUnchanged};
 ghost use Rattle.scc_table.specs.Writes.{with_write_at};
 
 use super::Table;
-use super::edits::{OVERFLOW_LIMIT, one_if};
+use super::edits::{is_overflow_full, one_if};
 use crate::place::Place;
 use crate::route::tag;
 use scc_bucket::{Keyed, Made};
@@ -88,7 +88,7 @@ where
         ensures refused { refused_of self.new ≡ refused_of self.old }
         ensures unique { IsUniqueBy E.Key.eq E.key_of self.new }
     {
-        if self.buckets.is_full(bucket) && self.overflowing >= OVERFLOW_LIMIT - 1 {
+        if self.buckets.is_full(bucket) && is_overflow_full(self.overflowing) {
             return Err(parts);
         }
         match self.buckets.insert_made(bucket, parts, tag(hash)) {

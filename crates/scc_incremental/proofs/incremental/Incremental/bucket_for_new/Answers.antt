@@ -50,3 +50,8 @@ returns-clause-raised g c =
     let full : HasRoomAt hk g.E.Keyed.key_of a c.args.hash → ⊥ = λ room. absurd (let r = room.1 in omega arith) in
     let some : 0 < bucket_count a = let z = c.if-bucket_count-eq0.false in let m = c.bucket_count.ensures.count in omega arith in
     λ low up. let r = c.grow.ensures.raised low up in (some, full, r.0, r.1)
+
+pub returns-clause-lowered : goal.returns-clause-lowered
+returns-clause-lowered g c =
+    let some : 0 < bucket_count c.args.self.now = let z = c.if-bucket_count-eq0.false in let m = c.bucket_count.ensures.count in omega arith in
+    λ up low. (some, c.grow.ensures.lowered up low)

@@ -377,3 +377,11 @@ returns-in-Err-clause-spread g c =
     let settings = c.note-in-Err.ensures.settings ∙ ap settings_of same in
     let count = count-same a d lists in
     λ ne. absurd (ne count)
+
+pub returns-in-Ok-clause-down : goal.returns-in-Ok-clause-down
+returns-in-Ok-clause-down g c = λ _. ap (λ (x : Bool × Bool). x.0) (c.relocate_some.ensures.noted ∙ c.note.ensures.noted)
+
+pub returns-in-Err-clause-down : goal.returns-in-Err-clause-down
+returns-in-Err-clause-down g c =
+    let same : c.start_at.new.self ≡ c.args.self.now = c.in-Err.ensures.err in
+    λ ne. absurd (ne (count-same c.args.self.now c.note-in-Err.new.self (c.note-in-Err.ensures.lists ∙ ap lists_of same)))

@@ -37,7 +37,7 @@ returns-in-Err-clause-rests g c = inl (unchanged-same c.args.self.now c.start.ne
 pub returns-in-Err-clause-growth : goal.returns-in-Err-clause-growth
 returns-in-Err-clause-growth g c =
     let same = count-same c.args.self.now c.start.new.self c.in-Err.ensures.err in
-    record { first = λ z ne. absurd (ne same); half = λ z ne. absurd (ne same); below = λ z ne. absurd (ne same); doubled = λ z ne. absurd (ne same) }
+    record { first = λ z ne. absurd (ne same); half = λ z ne. absurd (ne same); below = λ z ne. absurd (ne same); doubled = λ z ne. absurd (ne same); settled = λ z ne. c.requires.settled }
 
 pub returns-in-Err-clause-all : goal.returns-in-Err-clause-all
 returns-in-Err-clause-all g c = λ ne. absurd (ne (count-same c.args.self.now c.start.new.self c.in-Err.ensures.err))
@@ -57,7 +57,7 @@ returns-then-is_tried-clause-rests g c = inl (unchanged-same c.args.self.now c.n
 pub returns-then-is_tried-clause-growth : goal.returns-then-is_tried-clause-growth
 returns-then-is_tried-clause-growth g c =
     let same = count-same c.args.self.now c.note.new.self c.note.ensures.lists in
-    record { first = λ z ne. absurd (ne same); half = λ z ne. absurd (ne same); below = λ z ne. absurd (ne same); doubled = λ z ne. absurd (ne same) }
+    record { first = λ z ne. absurd (ne same); half = λ z ne. absurd (ne same); below = λ z ne. absurd (ne same); doubled = λ z ne. absurd (ne same); settled = λ z ne. c.requires.settled }
 
 pub returns-then-is_tried-clause-all : goal.returns-then-is_tried-clause-all
 returns-then-is_tried-clause-all g c = λ ne. absurd (ne (count-same c.args.self.now c.note.new.self c.note.ensures.lists))
@@ -70,3 +70,12 @@ returns-then-is_tried-clause-array g c = let same = count-same c.args.self.now c
 
 pub returns-then-is_tried-clause-once : goal.returns-then-is_tried-clause-once
 returns-then-is_tried-clause-once g c = λ tried. count-same c.args.self.now c.note.new.self c.note.ensures.lists
+
+pub returns-in-Err-clause-down : goal.returns-in-Err-clause-down
+returns-in-Err-clause-down g c = λ ne. absurd (ne (count-same c.args.self.now c.start.new.self c.in-Err.ensures.err))
+
+pub returns-then-is_tried-clause-down : goal.returns-then-is_tried-clause-down
+returns-then-is_tried-clause-down g c = λ ne. absurd (ne (count-same c.args.self.now c.note.new.self c.note.ensures.lists))
+
+pub returns-in-Ok-clause-lowered : goal.returns-in-Ok-clause-lowered
+returns-in-Ok-clause-lowered g c = let n = c.in-Ok.ensures.lists.count in λ _ _ z. absurd (omega (arith, c.requires.some, c.bucket_count-count.ensures.count))

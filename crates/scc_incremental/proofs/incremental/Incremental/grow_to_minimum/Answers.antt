@@ -1,4 +1,4 @@
-use Rattle.std.proofs.Common.{◌≡◌, ◌∙◌, ◌<◌, sym, arith}
+use Rattle.std.proofs.Common.{◌≡◌, ◌∙◌, ◌<◌, refl, sym, arith}
 use Rattle.std.proofs.lemmas.Bool.{true≢false}
 use Rattle.scc_table.specs.Contents.{bucket_count}
 use Rattle.scc_table.proofs.Resizes.{reaches-due}
@@ -15,12 +15,13 @@ returns-then-count-eq0-clause-due g c =
       | then-count-eq0-via-then-count-eq0 w ↦ absurd (omega (arith, c.bucket_count-count.ensures.count))
       | then-count-eq0-via-else-count-eq0+then-count-wanted w ↦ absurd (omega (arith, c.bucket_count-count.ensures.count))
     ])
-    (λ low up. absurd (true≢false (sym up ∙ low)))
+    (λ low up. absurd (true≢false (sym up ∙ low))) (λ up low. absurd (true≢false (sym up ∙ low))) (λ ne. absurd (ne refl))
 
 pub returns-in-Ok-clause-due : goal.returns-in-Ok-clause-due
 returns-in-Ok-clause-due g c =
     let size = rw (c.minimum.ensures.value, ← c.in-Ok.ensures.lists.settings) at c.buckets_for-wanted.ensures.size in
     reaches-due c.buckets_for-wanted.result c.args.self.now c.resize_to.new.self size (λ _ _ _ _. c.in-Ok.ensures.lists.count) (λ low up. absurd (true≢false (sym up ∙ c.in-Ok.ensures.down)))
+    (λ _ _ e. let n = c.in-Ok.ensures.lists.count in let p = c.bucket_count-count.ensures.count in absurd (omega arith)) (λ _. c.in-Ok.ensures.down)
 
 pub returns-in-Err-clause-due : goal.returns-in-Err-clause-due
 returns-in-Err-clause-due g c =
@@ -28,7 +29,7 @@ returns-in-Err-clause-due g c =
     let z = c.if-count-eq0.false in
     let n = c.bucket_count-count.ensures.count in
     reaches-due c.buckets_for-wanted.result c.args.self.now c.resize_to.new.self size (λ _ _ _ down. absurd (true≢false (sym c.in-Err.ensures.up ∙ down)))
-    (λ low up. (omega arith, omega arith))
+    (λ low up. (omega arith, omega arith)) (λ _ down. absurd (true≢false (sym c.in-Err.ensures.up ∙ down))) (λ ne. absurd (ne c.in-Err.ensures.err.buckets))
 
 pub returns-in-Ok-clause-spreads : goal.returns-in-Ok-clause-spreads
 returns-in-Ok-clause-spreads g c =

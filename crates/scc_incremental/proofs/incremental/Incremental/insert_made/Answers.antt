@@ -6,7 +6,6 @@ use Rattle.scc_table.specs.Routing.{bucket_number}
 use Rattle.scc_incremental.specs.TwoArrays.{pending_targets}
 use Rattle.scc_relocation.proofs.Arriving.{any-ok}
 use Rattle.scc_incremental.proofs.Finishing.{pending-is}
-use Rattle.scc_incremental.proofs.Grown.{on-both}
 use Rattle.scc_incremental.proofs.Listed.{count-listed}
 use Rattle.scc_incremental.proofs.Once.{once-made}
 use Rattle.scc_incremental.proofs.Placing.{none-left}
@@ -21,7 +20,7 @@ returns-then-bucket_count-eq0-clause-array g c =
 pub returns-then-pending-gt0-clause-due : goal.returns-then-pending-gt0-clause-due
 returns-then-pending-gt0-clause-due g c =
     let p = c.pending.ensures in
-    any-ok c.insert_made_at.result (record { doubled = λ some none. absurd (let q = c.if-pending-gt0.true in omega arith); raised = λ low up. absurd (let z : true ≡ false = sym up ∙ ap (λ (x : Bool × Bool). x.0) c.insert_made_at.ensures.refused ∙ low in cc); unmarked = λ some none. absurd (let q = c.if-pending-gt0.true in omega arith) })
+    any-ok c.insert_made_at.result (record { doubled = λ some none. absurd (let q = c.if-pending-gt0.true in omega arith); raised = λ low up. absurd (let z : true ≡ false = sym up ∙ ap (λ (x : Bool × Bool). x.0) c.insert_made_at.ensures.refused ∙ low in cc); unmarked = λ some none. absurd (let q = c.if-pending-gt0.true in omega arith); lowered = λ up low. absurd (let z : true ≡ false = sym up ∙ sym (ap (λ (x : Bool × Bool). x.0) c.insert_made_at.ensures.refused) ∙ low in cc); down = λ some ne. absurd (ne c.insert_made_at.ensures.buckets) })
 
 pub returns-then-list_len-lt32-clause-due : goal.returns-then-list_len-lt32-clause-due
 returns-then-list_len-lt32-clause-due g c =
@@ -32,7 +31,7 @@ returns-then-list_len-lt32-clause-due g c =
     let held : count_by (λ (e : g.row.E.Denot). bucket_number (settings_of a).skipped (bucket_count a) (hk (g.E.Keyed.key_of e)) == n) (entries a) ≡ length (list_of a i) =
     ap (λ m. count_by (λ (e : g.row.E.Denot). bucket_number (settings_of a).skipped (bucket_count a) (hk (g.E.Keyed.key_of e)) == m) (entries a)) (sym c.bucket_at-bucket.ensures.value) ∙ count-listed (λ (e : g.row.E.Denot). hk (g.E.Keyed.key_of e)) a i c.keep_lists.ensures.routed in
     let long = c.list_len.ensures in
-    any-ok c.insert_made_at-then-list_len-lt32.result (record { doubled = λ some none full. absurd (let room : HasRoomAt hk g.E.Keyed.key_of a c.args.hash = (some, omega arith) in full (rw c.requires.hashed at room)); raised = λ low up. absurd (let z : true ≡ false = sym up ∙ ap (λ (x : Bool × Bool). x.0) c.insert_made_at-then-list_len-lt32.ensures.refused ∙ low in cc); unmarked = λ some none full. absurd (let room : HasRoomAt hk g.E.Keyed.key_of a c.args.hash = (some, omega arith) in full (rw c.requires.hashed at room)) })
+    any-ok c.insert_made_at-then-list_len-lt32.result (record { doubled = λ some none full. absurd (let room : HasRoomAt hk g.E.Keyed.key_of a c.args.hash = (some, omega arith) in full (rw c.requires.hashed at room)); raised = λ low up. absurd (let z : true ≡ false = sym up ∙ ap (λ (x : Bool × Bool). x.0) c.insert_made_at-then-list_len-lt32.ensures.refused ∙ low in cc); unmarked = λ some none full. absurd (let room : HasRoomAt hk g.E.Keyed.key_of a c.args.hash = (some, omega arith) in full (rw c.requires.hashed at room)); lowered = λ up low. absurd (let z : true ≡ false = sym up ∙ sym (ap (λ (x : Bool × Bool). x.0) c.insert_made_at-then-list_len-lt32.ensures.refused) ∙ low in cc); down = λ some ne. absurd (ne c.insert_made_at-then-list_len-lt32.ensures.buckets) })
 
 pub returns-clause-due : goal.returns-clause-due
 returns-clause-due g c =
@@ -45,7 +44,7 @@ returns-clause-due g c =
     let long = c.list_len.ensures in
     let full : HasRoomAt hk g.E.Keyed.key_of a c.args.hash → ⊥ = λ room. absurd (let r = room.1 in omega arith) in
     let some : 0 < bucket_count a = let z = c.if-bucket_count-eq0.false in let m = c.bucket_count.ensures.count in omega arith in
-    on-both c.insert_made_full.result (λ due unmarked. record { doubled = λ _ _ _ half below few down. due half below down; raised = λ low up. let r = c.insert_made_full.ensures.raised low up in (some, λ room. full (rw c.requires.hashed room), r.0, r.1); unmarked = λ _ _ _ half below. unmarked half below }) c.insert_made_full.ensures.due c.insert_made_full.ensures.unmarked
+    any-ok c.insert_made_full.result (record { doubled = λ _ _ _ half below few down. c.insert_made_full.ensures.due half below down; raised = λ low up. let r = c.insert_made_full.ensures.raised low up in (some, λ room. full (rw c.requires.hashed room), r.0, r.1); unmarked = λ _ _ _ half below. c.insert_made_full.ensures.unmarked half below; lowered = λ up low. (some, c.insert_made_full.ensures.lowered up low); down = λ _ ne. c.insert_made_full.ensures.down ne })
 
 pub returns-clause-raised : goal.returns-clause-raised
 returns-clause-raised g c =
@@ -135,3 +134,32 @@ returns-clause-once g c =
     let none : pending_of a ≡ 0 = let p = c.pending.ensures in let q = c.if-pending-gt0.false in omega arith in
     λ ready. once-made hk g.E.Keyed.key_of a c.insert_made_full.new.self c.args.hash c.insert_made_full.ensures.growth (λ room. absurd (full room))
     (λ some w. elim w as (λ _. bucket_count c.insert_made_full.new.self ≡ bucket_count a) [ inl up ↦ absurd (omega arith) | inr tried ↦ c.insert_made_full.ensures.once tried ]) (rw c.requires.hashed ready)
+
+pub returns-then-pending-gt0-clause-undone : goal.returns-then-pending-gt0-clause-undone
+returns-then-pending-gt0-clause-undone g c =
+    let p = c.pending.ensures in
+    any-err c.insert_made_at.result (record { doubled = λ some none. absurd (let q = c.if-pending-gt0.true in omega arith); raised = λ low up. absurd (let z : true ≡ false = sym up ∙ ap (λ (x : Bool × Bool). x.0) c.insert_made_at.ensures.refused ∙ low in cc); unmarked = λ some none. absurd (let q = c.if-pending-gt0.true in omega arith); lowered = λ up low. absurd (let z : true ≡ false = sym up ∙ sym (ap (λ (x : Bool × Bool). x.0) c.insert_made_at.ensures.refused) ∙ low in cc); down = λ some ne. absurd (ne c.insert_made_at.ensures.buckets) })
+
+pub returns-then-list_len-lt32-clause-undone : goal.returns-then-list_len-lt32-clause-undone
+returns-then-list_len-lt32-clause-undone g c =
+    let a = c.args.self.now in
+    let i = c.bucket_at-bucket.result in
+    let hk = key_hash g.H.BuildHasher g.H.Hasher.Hasher g.E.Key.Hash.hash_input a in
+    let n = bucket_number (settings_of a).skipped (bucket_count a) c.args.hash in
+    let held : count_by (λ (e : g.row.E.Denot). bucket_number (settings_of a).skipped (bucket_count a) (hk (g.E.Keyed.key_of e)) == n) (entries a) ≡ length (list_of a i) =
+    ap (λ m. count_by (λ (e : g.row.E.Denot). bucket_number (settings_of a).skipped (bucket_count a) (hk (g.E.Keyed.key_of e)) == m) (entries a)) (sym c.bucket_at-bucket.ensures.value) ∙ count-listed (λ (e : g.row.E.Denot). hk (g.E.Keyed.key_of e)) a i c.keep_lists.ensures.routed in
+    let long = c.list_len.ensures in
+    any-err c.insert_made_at-then-list_len-lt32.result (record { doubled = λ some none full. absurd (let room : HasRoomAt hk g.E.Keyed.key_of a c.args.hash = (some, omega arith) in full (rw c.requires.hashed at room)); raised = λ low up. absurd (let z : true ≡ false = sym up ∙ ap (λ (x : Bool × Bool). x.0) c.insert_made_at-then-list_len-lt32.ensures.refused ∙ low in cc); unmarked = λ some none full. absurd (let room : HasRoomAt hk g.E.Keyed.key_of a c.args.hash = (some, omega arith) in full (rw c.requires.hashed at room)); lowered = λ up low. absurd (let z : true ≡ false = sym up ∙ sym (ap (λ (x : Bool × Bool). x.0) c.insert_made_at-then-list_len-lt32.ensures.refused) ∙ low in cc); down = λ some ne. absurd (ne c.insert_made_at-then-list_len-lt32.ensures.buckets) })
+
+pub returns-clause-undone : goal.returns-clause-undone
+returns-clause-undone g c =
+    let a = c.args.self.now in
+    let i = c.bucket_at-bucket.result in
+    let hk = key_hash g.H.BuildHasher g.H.Hasher.Hasher g.E.Key.Hash.hash_input a in
+    let n = bucket_number (settings_of a).skipped (bucket_count a) c.args.hash in
+    let held : count_by (λ (e : g.row.E.Denot). bucket_number (settings_of a).skipped (bucket_count a) (hk (g.E.Keyed.key_of e)) == n) (entries a) ≡ length (list_of a i) =
+    ap (λ m. count_by (λ (e : g.row.E.Denot). bucket_number (settings_of a).skipped (bucket_count a) (hk (g.E.Keyed.key_of e)) == m) (entries a)) (sym c.bucket_at-bucket.ensures.value) ∙ count-listed (λ (e : g.row.E.Denot). hk (g.E.Keyed.key_of e)) a i c.keep_lists.ensures.routed in
+    let long = c.list_len.ensures in
+    let full : HasRoomAt hk g.E.Keyed.key_of a c.args.hash → ⊥ = λ room. absurd (let r = room.1 in omega arith) in
+    let some : 0 < bucket_count a = let z = c.if-bucket_count-eq0.false in let m = c.bucket_count.ensures.count in omega arith in
+    any-err c.insert_made_full.result (record { doubled = λ _ _ _ half below few down. c.insert_made_full.ensures.due half below down; raised = λ low up. let r = c.insert_made_full.ensures.raised low up in (some, λ room. full (rw c.requires.hashed room), r.0, r.1); unmarked = λ _ _ _ half below. c.insert_made_full.ensures.unmarked half below; lowered = λ up low. (some, c.insert_made_full.ensures.lowered up low); down = λ _ ne. c.insert_made_full.ensures.down ne })

@@ -1,4 +1,4 @@
-use Rattle.std.proofs.Common.{◌≡◌, ◌∙◌, ◌*◌, ℕ, Some, sym, ap, subst, arith}
+use Rattle.std.proofs.Common.{◌≡◌, ◌∙◌, ◌*◌, ℕ, Bool, true, false, Some, sym, ap, subst, arith}
 use Rattle.std.specs.List.{range_with_len}
 use Rattle.scc_table.specs.Contents.{bucket_count, key_hash, settings_of, waiting_of}
 use Rattle.scc_table.specs.Routing.{bucket_number}
@@ -179,31 +179,21 @@ returns-in-Ok-clause-settled g c =
 
 pub returns-in-Err-clause-err : goal.returns-in-Err-clause-err
 returns-in-Err-clause-err g c =
-    let a = c.args.self.now in
-    let m = c.put_made_in.new.self in
     let z = c.in-Err.ensures.stays in
-    (c.in-Err.ensures.err, unchanged-same a m z.lists z.settings)
+    let lists = c.note.ensures.lists ∙ z.lists in
+    (c.in-Err.ensures.err, unchanged-same c.args.self.now c.note.new.self lists (c.note.ensures.settings ∙ z.settings))
 
 pub returns-in-Err-clause-doubled : goal.returns-in-Err-clause-doubled
-returns-in-Err-clause-doubled g c =
-    let a = c.args.self.now in
-    let m = c.put_made_in.new.self in
-    let z = c.in-Err.ensures.stays in
-    λ ne. absurd (ne (count-same a m z.lists))
+returns-in-Err-clause-doubled g c = λ ne. absurd (ne (count-same c.args.self.now c.note.new.self (c.note.ensures.lists ∙ c.in-Err.ensures.stays.lists)))
+
+pub returns-in-Err-clause-due : goal.returns-in-Err-clause-due
+returns-in-Err-clause-due g c = λ down. absurd (let z : true ≡ false = sym (ap (λ (x : Bool × Bool). x.0) c.note.ensures.noted) ∙ down in cc)
 
 pub returns-in-Err-clause-none : goal.returns-in-Err-clause-none
-returns-in-Err-clause-none g c =
-    let a = c.args.self.now in
-    let m = c.put_made_in.new.self in
-    let z = c.in-Err.ensures.stays in
-    λ same. pending-same a m c.put_made_in.ensures.waiting ∙ c.requires.pending
+returns-in-Err-clause-none g c = λ same. pending-same c.args.self.now c.note.new.self (c.note.ensures.waiting ∙ c.put_made_in.ensures.waiting) ∙ c.requires.pending
 
 pub returns-in-Err-clause-most : goal.returns-in-Err-clause-most
-returns-in-Err-clause-most g c =
-    let a = c.args.self.now in
-    let m = c.put_made_in.new.self in
-    let z = c.in-Err.ensures.stays in
-    λ ne. absurd (ne (count-same a m z.lists))
+returns-in-Err-clause-most g c = λ ne. absurd (ne (count-same c.args.self.now c.note.new.self (c.note.ensures.lists ∙ c.in-Err.ensures.stays.lists)))
 
 pub put_made_in-requires-clause-settled : goal.put_made_in-requires-clause-settled
 put_made_in-requires-clause-settled g c = settled-all c.args.self.now c.requires.pending c.args.bucket
@@ -217,3 +207,19 @@ pub double_around-requires-clause-flags : goal.double_around-requires-clause-fla
 double_around-requires-clause-flags g c =
     let counted = put-count c.args.self.now c.args.bucket (g.E.Made.made_of c.args.parts) c.put_made_in.new.self c.in-Ok.place c.in-Ok.ensures.exact c.requires.within in
     rw counted c.requires.flags
+
+pub returns-in-Ok-clause-lowered : goal.returns-in-Ok-clause-lowered
+returns-in-Ok-clause-lowered g c =
+    let counted = put-count c.args.self.now c.args.bucket (g.E.Made.made_of c.args.parts) c.put_made_in.new.self c.in-Ok.place c.in-Ok.ensures.exact c.requires.within in
+    λ up low z. c.double_around.ensures.due low (z ∙ sym counted)
+
+pub returns-in-Ok-clause-fallen : goal.returns-in-Ok-clause-fallen
+returns-in-Ok-clause-fallen g c =
+    let counted = put-count c.args.self.now c.args.bucket (g.E.Made.made_of c.args.parts) c.put_made_in.new.self c.in-Ok.place c.in-Ok.ensures.exact c.requires.within in
+    λ ne. c.double_around.ensures.down (λ z. ne (z ∙ counted))
+
+pub returns-in-Err-clause-lowered : goal.returns-in-Err-clause-lowered
+returns-in-Err-clause-lowered g c = λ up low. absurd (let z : true ≡ false = sym (ap (λ (x : Bool × Bool). x.0) c.note.ensures.noted) ∙ low in cc)
+
+pub returns-in-Err-clause-fallen : goal.returns-in-Err-clause-fallen
+returns-in-Err-clause-fallen g c = λ ne. absurd (ne (count-same c.args.self.now c.note.new.self (c.note.ensures.lists ∙ c.in-Err.ensures.stays.lists)))

@@ -1,4 +1,4 @@
-use Rattle.std.proofs.Common.{◌≡◌, ◌∙◌, ℕ, None, List, map, sym, ap, subst, arith, Bool}
+use Rattle.std.proofs.Common.{◌≡◌, ◌∙◌, ℕ, None, List, map, sym, ap, subst, arith}
 use Rattle.std.specs.List.{position, IsDistinct}
 use Rattle.scc_table.specs.Contents.{bucket_count, key_hash, settings_of}
 use Rattle.scc_incremental.specs.TwoArrays.{IsIncremental, together}
@@ -180,8 +180,8 @@ returns-clause-waiting g c =
     let has = settings-together later new ws olds in
     waiting-together later new ws olds ∙ none
 
-pub returns-clause-raised : goal.returns-clause-raised
-returns-clause-raised g c =
+pub returns-clause-noted : goal.returns-clause-noted
+returns-clause-noted g c =
     let t = c.self.inside in
     let cur = t.current in
     let ws = t.waiting.items in
@@ -191,7 +191,7 @@ returns-clause-raised g c =
     let hk = key_hash g.H.BuildHasher g.H.Hasher.Hasher g.E.Key.Hash.hash_input cur in
     let hash = λ (e : g.row.E.Denot). hk (g.E.Keyed.key_of e) in
     let later = λ (e : g.row.E.Denot). key_hash g.H.BuildHasher g.H.Hasher.Hasher g.E.Key.Hash.hash_input new (g.E.Keyed.key_of e) in
-    λ down. ap (λ (x : Bool × Bool). x.0) (refused-together later new ws olds ∙ c.insert_made_first-placed.ensures.noted ∙ sym (refused-seen hash cur ws olds a c.self.view_is)) ∙ down
+    refused-together later new ws olds ∙ c.insert_made_first-placed.ensures.noted ∙ sym (refused-seen hash cur ws olds a c.self.view_is)
 
 pub returns-clause-unique : goal.returns-clause-unique
 returns-clause-unique g c =

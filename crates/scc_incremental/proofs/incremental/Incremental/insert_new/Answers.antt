@@ -24,6 +24,8 @@ returns-then-list_len-lt32-clause-due g c =
       unmarked = λ some settled full half below.
           let had : HasRoomAt hk g.E.Keyed.key_of a c.args.hash = (some, omega arith) in
           absurd (full (rw c.requires.hashed at had));
+      lowered = λ up low. absurd (let z : true ≡ false = sym up ∙ sym (ap (λ (x : Bool × Bool). x.0) c.insert_at.ensures.refused) ∙ low in cc);
+      down = λ some ne. absurd (ne c.insert_at.ensures.buckets);
     }
 
 pub returns-then-list_len-lt32-clause-by_two : goal.returns-then-list_len-lt32-clause-by_two

@@ -94,7 +94,7 @@ returns-in-Err-clause-shrinks g c =
     let may : MayNarrow hash a n = record { array = array; smaller = made; short = short } in
     let r = c.in-Err.ensures in
     let bounded = c.resize_to.ensures.bounded c.requires.listed.bounded (short-listed hash a c.requires.listed) in
-    denied_narrow n made r.up (record { lists = r.still; settings = c.resize_to.ensures.settings; spilled = bounded ∙ sym c.requires.listed.bounded })
+    denied_narrow n may r.up (record { lists = r.still; settings = c.resize_to.ensures.settings; spilled = bounded ∙ sym c.requires.listed.bounded })
 
 pub returns-in-Err-clause-listed : goal.returns-in-Err-clause-listed
 returns-in-Err-clause-listed g c =

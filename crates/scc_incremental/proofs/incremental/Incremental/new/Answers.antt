@@ -21,3 +21,6 @@ returns-clause-listed g c =
     let hash = hash-same g.H.BuildHasher g.H.Hasher.Hasher g.E.Key.Hash.hash_input c.new.result c.over.result c.over.ensures.settings in
     subst (λ (h : g.row.E-Key.Denot → ℕ). IsListed (λ e. h (g.E.Keyed.key_of e)) c.over.result) (sym hash)
     (listed-same c.new.result c.over.result c.over.ensures.lists (λ e. key_hash g.H.BuildHasher g.H.Hasher.Hasher g.E.Key.Hash.hash_input c.new.result (g.E.Keyed.key_of e)) c.over.ensures.settings c.over.ensures.spilled c.new.ensures.listed)
+
+pub returns-clause-noted : goal.returns-clause-noted
+returns-clause-noted g c = c.over.ensures.noted ∙ c.new.ensures.noted

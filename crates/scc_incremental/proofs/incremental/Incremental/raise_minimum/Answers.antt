@@ -7,7 +7,7 @@ use Rattle.scc_incremental.proofs.incremental.Incremental.raise_minimum.Goals as
 pub returns-clause-due : goal.returns-clause-due
 returns-clause-due g c =
     let r = c.grow_to_minimum.ensures.due in
-    λ _. record { reached = λ m am some less few down. r.reached m am (omega (arith, c.set_reserved.ensures.buckets)) (omega (arith, c.set_reserved.ensures.buckets)) (rw c.set_reserved.ensures.entries few) down; raised = λ low up m am. let z = r.raised (ap (λ (x : Bool × Bool). x.0) c.set_reserved.ensures.noted ∙ low) up m am in (omega (arith, z.0, c.set_reserved.ensures.buckets), omega (arith, z.1, c.set_reserved.ensures.buckets)) }
+    λ _. record { reached = λ m am some less few down. r.reached m am (omega (arith, c.set_reserved.ensures.buckets)) (omega (arith, c.set_reserved.ensures.buckets)) (rw c.set_reserved.ensures.entries few) down; raised = λ low up m am. let z = r.raised (ap (λ (x : Bool × Bool). x.0) c.set_reserved.ensures.noted ∙ low) up m am in (omega (arith, z.0, c.set_reserved.ensures.buckets), omega (arith, z.1, c.set_reserved.ensures.buckets)); lowered = λ up low e. r.lowered (ap (λ (x : Bool × Bool). x.0) c.set_reserved.ensures.noted ∙ up) low (e ∙ sym c.set_reserved.ensures.buckets); down = λ ne. r.down (λ e. ne (e ∙ c.set_reserved.ensures.buckets)) }
 
 pub returns-clause-spreads : goal.returns-clause-spreads
 returns-clause-spreads g c =

@@ -1,4 +1,4 @@
-use Rattle.std.proofs.Common.{◌∙◌, sym, inr, arith}
+use Rattle.std.proofs.Common.{◌∙◌, refl, sym, inr, arith}
 use Rattle.std.proofs.lemmas.Bool.{true≢false}
 use Rattle.std.proofs.lemmas.List.Sorted.{length_permutation}
 use Rattle.scc_table.specs.Contents.{entries}
@@ -34,7 +34,7 @@ returns-then-count-present-clause-due g c =
     let least = rw c.minimum.ensures.value at c.buckets_for.ensures.size in
     let fitting = rw c.len.ensures.len at c.buckets_for-2.ensures.size in
     shrinks-due c.buckets_for.result c.buckets_for-2.result c.args.self.now c.args.self.now least fitting (λ less _. absurd (omega (arith, c.max-count.ensures, c.bucket_count-present.ensures.count)))
-    (λ low up. absurd (true≢false (sym up ∙ low)))
+    (λ low up. absurd (true≢false (sym up ∙ low))) (λ up low. absurd (true≢false (sym up ∙ low))) (λ ne. absurd (ne refl))
 
 pub returns-in-Ok-clause-due : goal.returns-in-Ok-clause-due
 returns-in-Ok-clause-due g c =
@@ -42,6 +42,7 @@ returns-in-Ok-clause-due g c =
     let fitting = rw (c.len.ensures.len, ← length_permutation (entries c.args.self.now) (entries c.resize_to.new.self) c.in-Ok.ensures.same) at c.buckets_for-2.ensures.size in
     shrinks-due c.buckets_for.result c.buckets_for-2.result c.args.self.now c.resize_to.new.self least fitting (λ _ _. c.in-Ok.ensures.lists.count ∙ c.max-count.ensures)
     (λ low up. absurd (true≢false (sym up ∙ c.in-Ok.ensures.down)))
+    (λ _ _ e. let n = c.in-Ok.ensures.lists.count in absurd (omega (arith, c.bucket_count-present.ensures.count))) (λ _. c.in-Ok.ensures.down)
 
 pub returns-in-Err-clause-due : goal.returns-in-Err-clause-due
 returns-in-Err-clause-due g c =
@@ -50,6 +51,7 @@ returns-in-Err-clause-due g c =
     let fitting = rw (c.len.ensures.len, ← still.exact) at c.buckets_for-2.ensures.size in
     shrinks-due c.buckets_for.result c.buckets_for-2.result c.args.self.now c.resize_to.new.self least fitting (λ _ down. absurd (true≢false (sym c.in-Err.ensures.up ∙ down)))
     (λ _ _. (rw still.exact c.requires, omega (arith, c.max-count.ensures, c.bucket_count-present.ensures.count)))
+    (λ _ down. absurd (true≢false (sym c.in-Err.ensures.up ∙ down))) (λ ne. absurd (ne still.buckets))
 
 pub returns-in-Ok-clause-spreads : goal.returns-in-Ok-clause-spreads
 returns-in-Ok-clause-spreads g c =

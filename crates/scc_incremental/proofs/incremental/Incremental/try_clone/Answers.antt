@@ -27,4 +27,7 @@ returns-clause-clones g c =
     let made = c.insert_clones_of.new.table in
     subst (λ z. HasClones g.E.Clone.is_clone g.H.Clone.is_clone z c.over.result) c.self.view_is
     (clones-together g.E.Clone.is_clone g.H.Clone.is_clone all t.current c.in_ok-copy.copy made c.over.result t.draining (gathered hash t.current t.waiting.items t.draining inv.arrays) (count-together hash t.current t.waiting.items t.draining inv.arrays.flags) (settings-together hash t.current t.waiting.items t.draining)
-    c.in_ok-copy.ensures c.in_ok-insert_clones_of.ensures (entries-same made c.over.result c.over.ensures.lists) (count-same made c.over.result c.over.ensures.lists) c.over.ensures.settings)
+    c.in_ok-copy.ensures.clones c.in_ok-insert_clones_of.ensures (entries-same made c.over.result c.over.ensures.lists) (count-same made c.over.result c.over.ensures.lists) c.over.ensures.settings)
+
+pub returns-clause-noted : goal.returns-clause-noted
+returns-clause-noted g c = c.over.ensures.noted ∙ c.in_ok-insert_clones_of.ensures.noted ∙ c.in_ok-copy.ensures.noted

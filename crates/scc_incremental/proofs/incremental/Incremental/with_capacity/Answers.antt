@@ -24,3 +24,6 @@ returns-in-Ok-clause-listed g c =
     let hash = hash-same g.H.BuildHasher g.H.Hasher.Hasher g.E.Key.Hash.hash_input c.in-Ok.current c.over.result c.over.ensures.settings in
     subst (λ (h : g.row.E-Key.Denot → ℕ). IsListed (λ e. h (g.E.Keyed.key_of e)) c.over.result) (sym hash)
     (listed-same c.in-Ok.current c.over.result c.over.ensures.lists (λ e. key_hash g.H.BuildHasher g.H.Hasher.Hasher g.E.Key.Hash.hash_input c.in-Ok.current (g.E.Keyed.key_of e)) c.over.ensures.settings c.over.ensures.spilled c.in-Ok.ensures.listed)
+
+pub returns-in-Ok-clause-noted : goal.returns-in-Ok-clause-noted
+returns-in-Ok-clause-noted g c = c.over.ensures.noted ∙ c.in-Ok.ensures.noted

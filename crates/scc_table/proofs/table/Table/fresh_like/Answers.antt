@@ -1,4 +1,5 @@
 use Rattle.std.proofs.Common.{◌≡◌, length, refl, sym, ◌∙◌, arith, rules}
+use Rattle.scc_table.specs.Contents.{refused_of, waiting_of}
 use Rattle.scc_table.proofs.Cloning.{array-of_some}
 use Rattle.scc_table.proofs.Making.{kept-fresh, entries-fresh}
 use Rattle.scc_table.proofs.Views.{count-view, settings-view}
@@ -38,3 +39,11 @@ returns-in-Ok-clause-settings g c =
     let bs = c.self.inside.buckets in
     let len : c.len-count.result ≡ length bs = search rules in
     rw (settings-view c.in-Ok.buckets _ _ refl, settings-view bs _ c.args.self.now c.self.view_is, count-view bs _ c.args.self.now c.self.view_is, len) refl
+
+pub returns-in-Ok-clause-noted : goal.returns-in-Ok-clause-noted
+unfolding refused_of
+returns-in-Ok-clause-noted g c = refl
+
+pub returns-in-Ok-clause-waiting : goal.returns-in-Ok-clause-waiting
+unfolding waiting_of
+returns-in-Ok-clause-waiting g c = refl

@@ -22,4 +22,5 @@ returns-in-Ok-insert_in g c = record {
   same = c.in-Ok-insert_in.ensures.ok.holds.same;
   buckets = c.insert_in.ensures.buckets;
   settings = c.in-Ok-insert_in.ensures.ok.holds.settings;
+  noted = c.insert_in.ensures.refused;
 }

@@ -1,4 +1,4 @@
-use Rattle.std.proofs.Common.{◌≡◌, ◌+◌, ◌^◌, ◌<◌, ◌≤◌, ◌∙◌, sym, ap, rules, arith, length, refl, set, length-append, length-set}
+use Rattle.std.proofs.Common.{◌≡◌, ◌+◌, ◌-◌, ◌^◌, ◌<◌, ◌≤◌, ◌∙◌, sym, ap, rules, arith, length, refl, set, length-append, length-set}
 use Rattle.scc_table.specs.Hashing.{hash_of}
 use Rattle.scc_table.specs.Routing.{bucket_number, tag_of}
 use Rattle.scc_bucket.specs.Shelf.{Shelf, with_entry}
@@ -11,10 +11,10 @@ use Rattle.scc_table.proofs.Views.{entries-view, count-view, settings-view, refu
 use Rattle.scc_array.specs.Shelves.{shelf_of}
 use Rattle.scc_table.proofs.Arrays.{shelf-at, put-is, put-own}
 use Rattle.scc_table.proofs.table.Table.insert_made_in.Goals as goal
-use Rattle.scc_table.proofs.table.Table.insert_made_in.Goals.{else-is_full-via-then-is_full+else-self, else-is_full-via-else-is_full}
+use Rattle.scc_table.proofs.table.Table.insert_made_in.Goals.{else-is_full-via-then-is_full+else-is_overflow_full, else-is_full-via-else-is_full}
 
-pub returns-then-self-clause-unique : goal.returns-then-self-clause-unique
-returns-then-self-clause-unique g c =
+pub returns-then-is_overflow_full-clause-unique : goal.returns-then-is_overflow_full-clause-unique
+returns-then-is_overflow_full-clause-unique g c =
     rw (entries-view c.self.inside.buckets _ c.args.self.now c.self.view_is) c.self.invariant.unique
 
 pub is_full-requires : goal.is_full-requires
@@ -67,7 +67,7 @@ invariant_of-self g c =
                 let same : (shelf_of c.self.inside.buckets c.args.bucket) ≡ b = read-again bs i (shelf_of c.self.inside.buckets c.args.bucket) b l (shelf-at c.self.inside.buckets c.args.bucket l) (shelf-at c.self.inside.buckets c.args.bucket l) in
                 let full : 32 ≤ length (shelf_of c.self.inside.buckets c.args.bucket).slots = rw same (overflow-full (λ e. hash_of g.H.BuildHasher g.H.Hasher.Hasher c.self.inside.hasher (g.E.Key.Hash.hash_input (g.E.Keyed.key_of e))) t.skipped t.length t.overflowing i bs c.self.invariant.table _ c.args.self.now c.self.view_is b l (shelf-at c.self.inside.buckets c.args.bucket l) (shelf_of c.insert_made.new.self c.args.bucket) (g.E.Made.made_of c.args.parts) c.in-Ok.slot stored c.in-Ok.ensures.ok.0 (omega arith)) in
                 absurd (search rules)
-            | else-is_full-via-then-is_full+else-self w ↦ omega arith
+            | else-is_full-via-then-is_full+else-is_overflow_full w ↦ let less : t.overflowing < 2 ^ 62 - 1 = search rules in omega arith
           ]
     ] in
     rw (put-own c.self.inside.buckets c.args.bucket l c.insert_made.new.self _ c.in-Ok.ensures.ok.1) record {

@@ -1,5 +1,5 @@
 use Rattle.std.proofs.Common.{refl, arith, inl, []}
-use Rattle.scc_table.specs.Contents.{entries, bucket_count, settings_of}
+use Rattle.scc_table.specs.Contents.{entries, bucket_count, refused_of, settings_of, waiting_of}
 use Rattle.scc_table.specs.Hashing.{hash_of}
 use Rattle.scc_table.proofs.Bounds.{bounded-fresh, listed-view}
 use Rattle.scc_table.proofs.Views.{settings-view}
@@ -24,3 +24,11 @@ returns-clause-settings g c = refl
 pub returns-clause-listed : goal.returns-clause-listed
 returns-clause-listed g c =
     rw c.none.ensures (rw (settings-view [] _ _ refl) (listed-view _ 0 0 [] _ _ refl (table-empty (λ e. hash_of g.H.BuildHasher g.H.Hasher.Hasher c.args.hasher (g.E.Key.Hash.hash_input (g.E.Keyed.key_of e))) c.args.skipped [] none-empty (inl refl)) (bounded-fresh _ [] _ none-empty)))
+
+pub returns-clause-noted : goal.returns-clause-noted
+unfolding refused_of
+returns-clause-noted g c = refl
+
+pub returns-clause-waiting : goal.returns-clause-waiting
+unfolding waiting_of
+returns-clause-waiting g c = refl

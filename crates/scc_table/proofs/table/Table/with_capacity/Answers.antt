@@ -1,7 +1,7 @@
 use Rattle.std.proofs.Common.{refl, arith, inr, length}
 use Rattle.scc_table.specs.Hashing.{hash_of}
 use Rattle.scc_table.specs.Sizes.{IsLawful}
-use Rattle.scc_table.specs.Contents.{settings_of}
+use Rattle.scc_table.specs.Contents.{refused_of, settings_of, waiting_of}
 use Rattle.scc_table.proofs.Bounds.{bounded-fresh, listed-view}
 use Rattle.scc_table.proofs.Making.{kept-fresh, entries-fresh, table-empty}
 use Rattle.scc_table.proofs.Views.{count-view, settings-view}
@@ -26,3 +26,11 @@ returns-in-Ok-clause-listed g c =
     let bs = c.in-Ok.buckets in
     let lawful : IsLawful (length bs) = inr (rw c.in-Ok.ensures.count c.buckets_for-count.ensures.array) in
     rw (settings-view bs _ _ refl) (listed-view _ 0 0 bs _ _ refl (table-empty (λ e. hash_of g.H.BuildHasher g.H.Hasher.Hasher c.args.hasher (g.E.Key.Hash.hash_input (g.E.Keyed.key_of e))) c.args.skipped bs c.in-Ok.ensures.empty lawful) (bounded-fresh _ bs _ c.in-Ok.ensures.empty))
+
+pub returns-in-Ok-clause-noted : goal.returns-in-Ok-clause-noted
+unfolding refused_of
+returns-in-Ok-clause-noted g c = refl
+
+pub returns-in-Ok-clause-waiting : goal.returns-in-Ok-clause-waiting
+unfolding waiting_of
+returns-in-Ok-clause-waiting g c = refl
