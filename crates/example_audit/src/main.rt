@@ -1,6 +1,8 @@
-//! Publishes the routes of standard input, lines `DESTINATION HOP`, in a recorded index of four stripes, by two passes, and audits the run: by contract every merge of its histories is then a run of the whole index.
+//! Publishes the routes of standard input, lines `DESTINATION HOP`, in a recorded index of four stripes, by two passes,
+//! and audits the run: by contract every merge of its histories is then a run of the whole index.
 //!
-//! The status is 2 where a line isn't two numbers, which is named, 3 where memory is refused, 4 where a stream fails, and 5 where the recorded run can't be finished.
+//! The status is 2 where a line isn't two numbers, which is named, 3 where memory is refused, 4 where a stream fails,
+//! and 5 where the recorded run can't be finished.
 #![tactic(auto)]
 
 mod input;

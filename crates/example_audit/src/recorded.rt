@@ -30,7 +30,8 @@ fn out_of_memory() -> io::Error {
     io::Error::from(io::ErrorKind::OutOfMemory)
 }
 
-/// Finishes a run. By contract every merge of the histories is then a run of the whole, from no entries to what is there, and the records of each pass are its receipts.
+/// Finishes a run. By contract every merge of the histories is then a run of the whole, from no entries to what is
+/// there, and the records of each pass are its receipts.
 fn audit<C: Calls + Drop, L: Ledger, M: Site<C::Hasher>>(
     recorded: Recorded<C, L, M>,
     passes: Vec<Pass<C, L>>,

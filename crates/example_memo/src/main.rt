@@ -1,6 +1,8 @@
-//! Evaluates a function that takes long, for each line `START STEPS` of standard input, by four workers with a memo each.
+//! Evaluates a function that takes long, for each line `START STEPS` of standard input, by four workers with a memo
+//! each.
 //!
-//! It prints the value for each line, in their order, and then how many were known. The status is 2 where a line isn't two numbers, which is named, 3 where memory is refused, and 4 where a stream fails.
+//! It prints the value for each line, in their order, and then how many were known. The status is 2 where a line isn't
+//! two numbers, which is named, 3 where memory is refused, and 4 where a stream fails.
 #![tactic(auto)]
 
 mod answers;

@@ -1,6 +1,8 @@
-//! Serves the requests of standard input, numbers between spaces, by four workers with a cache each before a slow reader, and prints a table of hits, misses and evictions as the bound of the caches varies.
+//! Serves the requests of standard input, numbers between spaces, by four workers with a cache each before a slow
+//! reader, and prints a table of hits, misses and evictions as the bound of the caches varies.
 //!
-//! The status is 2 where a line has a word that is no number, which is named, 3 where memory is refused, and 4 where a stream fails.
+//! The status is 2 where a line has a word that is no number, which is named, 3 where memory is refused, and 4 where a
+//! stream fails.
 #![tactic(auto)]
 
 mod input;

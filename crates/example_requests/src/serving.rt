@@ -28,7 +28,8 @@ fn read(request: u64) -> u64 {
 
 // A miss reads the answer and keeps it, where memory can be had.
 fn serve_missing(answers: &mut Answers, tally: Tally, request: u64) -> Tally
-    ensures { Serves (record { hits = tally.hits; misses = tally.misses; evictions = tally.evictions }) (record { hits = result.hits; misses = result.misses; evictions = result.evictions }) }
+    ensures { Serves (record { hits = tally.hits; misses = tally.misses; evictions = tally.evictions })
+        (record { hits = result.hits; misses = result.misses; evictions = result.evictions }) }
 {
     let evicted = match answers.put_sync(request, read(request)) {
         Ok(Some(_)) => 1u64,
@@ -41,9 +42,11 @@ fn serve_missing(answers: &mut Answers, tally: Tally, request: u64) -> Tally
     }
 }
 
-/// Serves a request, by the cache or else by the reader: it is one hit or one miss more, and an answer goes at a miss alone.
+/// Serves a request, by the cache or else by the reader: it is one hit or one miss more, and an answer goes at a miss
+/// alone.
 pub fn serve(answers: &mut Answers, tally: Tally, request: u64) -> Tally
-    ensures { Serves (record { hits = tally.hits; misses = tally.misses; evictions = tally.evictions }) (record { hits = result.hits; misses = result.misses; evictions = result.evictions }) }
+    ensures { Serves (record { hits = tally.hits; misses = tally.misses; evictions = tally.evictions })
+        (record { hits = result.hits; misses = result.misses; evictions = result.evictions }) }
 {
     if answers.get_sync(&request).is_some() {
         Tally {

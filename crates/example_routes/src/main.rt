@@ -1,6 +1,8 @@
-//! Publishes the routes of standard input, lines `DESTINATION HOP`, in an index that four workers share, while they keep the versions that went.
+//! Publishes the routes of standard input, lines `DESTINATION HOP`, in an index that four workers share, while they
+//! keep the versions that went.
 //!
-//! The status is 2 where a line isn't two numbers, which is named, 3 where memory is refused, and 4 where a stream fails.
+//! The status is 2 where a line isn't two numbers, which is named, 3 where memory is refused, and 4 where a stream
+//! fails.
 #![tactic(auto)]
 
 mod input;

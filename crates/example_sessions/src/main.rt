@@ -1,6 +1,8 @@
-//! Lets four workers open, touch, expire and count sessions in a map that they share, as the lines of standard input say.
+//! Lets four workers open, touch, expire and count sessions in a map that they share, as the lines of standard input
+//! say.
 //!
-//! Each line is a step that all workers make at once, and prints how many sessions it met. The status is 2 where a line is no step, which is named, 3 where memory is refused, and 4 where a stream fails.
+//! Each line is a step that all workers make at once, and prints how many sessions it met. The status is 2 where a line
+//! is no step, which is named, 3 where memory is refused, and 4 where a stream fails.
 #![tactic(auto)]
 
 mod sessions;

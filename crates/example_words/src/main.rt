@@ -1,6 +1,8 @@
-//! Numbers the words of standard input in the order in which they come first, by four workers that share a set and a map, and prints how many there are and the ten most frequent.
+//! Numbers the words of standard input in the order in which they come first, by four workers that share a set and a
+//! map, and prints how many there are and the ten most frequent.
 //!
-//! A line has the number of a word, how often it was met, and the word; of words as frequent the earlier one comes first. The status is 3 where memory is refused, and 4 where a stream fails or isn't text.
+//! A line has the number of a word, how often it was met, and the word; of words as frequent the earlier one comes
+//! first. The status is 3 where memory is refused, and 4 where a stream fails or isn't text.
 #![tactic(auto)]
 
 mod counts;

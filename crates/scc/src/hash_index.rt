@@ -1,3 +1,5 @@
 //! The hash index: `HashIndex`, which threads share, and `Owned`, for one owner.
-pub use scc_index::hash_index::{Iter, Owned, Version, owned};
-pub use scc_shared_index::hash_index::{Entry, HashIndex, OccupiedEntry, Reserve, VacantEntry};
+pub use scc_entry::Version;
+pub use scc_index::locked::{Entry, OccupiedEntry, VacantEntry};
+pub use scc_index::{Iter, Owned, owned};
+pub use scc_shared_index::{HashIndex, Reserve};

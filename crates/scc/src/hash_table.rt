@@ -1,4 +1,6 @@
 //! The table of the containers, and what an entry of a table is.
 
-pub use scc_incremental::Incremental;
-pub use scc_table::{Keyed, Made, Place, SharedVersion, Valued, Version, tags};
+pub use scc_array::tags;
+pub use scc_buckets::Place;
+pub use scc_entry::{Keyed, Made, SharedVersion, Valued, Version};
+pub use scc_table::Table;

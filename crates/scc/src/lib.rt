@@ -1,4 +1,5 @@
-//! Concurrent hash containers, under their public paths: each container's module, a memo, recorded containers with calls as values, workers on threads, and what they share.
+//! Concurrent hash containers, under their public paths: each container's module, a memo, recorded containers with
+//! calls as values, workers on threads, and what they share.
 #![tactic(auto)]
 
 pub mod hash_cache;
@@ -6,13 +7,13 @@ pub mod hash_index;
 pub mod hash_map;
 pub mod hash_set;
 pub mod hash_table;
+pub mod memo;
 pub mod recorded;
+pub mod stripes;
 
 pub use hash_cache::HashCache;
 pub use hash_index::HashIndex;
 pub use hash_map::HashMap;
 pub use hash_set::HashSet;
-pub use scc_incremental::Reservation;
-pub use scc_memo::memo;
-pub use scc_table::{InsertError, KeyError, MakeError, Verdict, WalkError};
-pub use scc_workers::stripes;
+pub use scc_common::{InsertError, KeyError, MakeError, Verdict, WalkError};
+pub use scc_table::Reservation;

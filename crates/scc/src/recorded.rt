@@ -1,11 +1,12 @@
-//! Calls as values and their runs; containers that threads share and that record their calls, the passes of those who call them, and what a finished run was; a hasher with several owners.
+//! Calls as values and their runs; containers that threads share and that record their calls, the passes of those who
+//! call them, and what a finished run was; a hasher with several owners.
 
-pub use scc_history::history::{CallError, Log, Receipt, Stripe};
-pub use scc_recorded::recorded::{
+pub use scc_calls::{
     CacheCall, Calls, IndexCall, MapCall, Refused, Reply, Request, SetCall, Setting, Step,
     WholeCalls, every_merge_is_a_run, route, run,
 };
-pub use scc_recorder::recorder::{
+pub use scc_common::{Shared, TryShare};
+pub use scc_history::{CallError, Log, Receipt, Stripe};
+pub use scc_recorded::{
     Closed, FinishError, Finished, Guarded, Pass, Recorded, Setup, Site, Unfinished,
 };
-pub use scc_table::{Share, Shared};

@@ -8,10 +8,10 @@ use Rattle.scc_array.proofs.Joined.{get-later}
 use Rattle.scc_array.proofs.Shelves.{slots-are, spilled-there, list-is, seen-window, seen-list}
 use Rattle.scc_array.specs.Shelves.{shelf_of, shelves, IsArray}
 use Rattle.scc_array.specs.Windows.{Window, window_of, written_over}
-use Rattle.scc_bucket.proofs.Lists.{get-left}
-use Rattle.scc_bucket.proofs.Writing.{set-write_at}
-use Rattle.scc_bucket.specs.Shelf.{Shelf, shelf_entries}
-use Rattle.scc_bucket.specs.ShelfWrites.{shelf_write_at}
+use Rattle.scc_array.proofs.ListsLemmas.{get-left}
+use Rattle.scc_array.proofs.Writing.{set-write_at}
+use Rattle.scc_array.specs.Shelf.{Shelf, shelf_entries}
+use Rattle.scc_array.specs.ShelfWrites.{shelf_write_at}
 
 module _ {E A X : Type 0} (put : E → X → E) (ws : List (Window E)) (os : List (Vec E A)) (bs : List (Shelf E)) (view : shelves ws os ≡ bs) (kept : IsArray ws os) (b : ℕ) (within : b < length bs) (i : ℕ) where
   module _ (e : E) (there : i < length (window_of ws b).slots) (held : slice_get (window_of ws b).slots i ≡ Some e) where

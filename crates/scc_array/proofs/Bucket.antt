@@ -3,7 +3,7 @@ use Rattle.std.proofs.Common.{◌≡◌, ℕ, zero, suc, ◌+◌, ◌*◌, ◌^�
 use Rattle.std.specs.List.{slice_get}
 use Rattle.scc_array.proofs.Counting.{place-used}
 use Rattle.scc_array.proofs.Windows.{length-windows, window-there}
-use Rattle.scc_array.specs.Windows.{Window, window_of, windows, IsPacked, IsColumns}
+use Rattle.scc_array.specs.Windows.{Window, window_of, windows, IsPackedWindow, IsColumns}
 
 -- the columns are seen as ws, and i is the number of a bucket
 module _ {E : Type 0} (rows : List (List ℕ)) (places : List (Option E)) (kept : IsColumns rows places) (ws : List (Window E)) (view : windows rows places ≡ ws) (i : ℕ) (within : i < length ws) where
@@ -13,8 +13,8 @@ module _ {E : Type 0} (rows : List (List ℕ)) (places : List (Option E)) (kept 
   pub row-within : i < length rows
   row-within = let n = length-windows rows places in let m = ap length view in omega arith
 
-  pub packed-there : IsPacked rows places i (window_of ws i).slots (window_of ws i).tags
-  packed-there = subst (λ (w : Window E). IsPacked rows places i w.slots w.tags) (sym (window-there rows places i row-within) ∙ ap (λ v. window_of v i) view) (kept.packed i row-within)
+  pub packed-there : IsPackedWindow rows places i (window_of ws i).slots (window_of ws i).tags
+  packed-there = subst (λ (w : Window E). IsPackedWindow rows places i w.slots w.tags) (sym (window-there rows places i row-within) ∙ ap (λ v. window_of v i) view) (kept.packed i row-within)
 
   pub row-wide : length (get_or rows i []) ≡ 32
   row-wide = kept.lanes i row-within

@@ -9,7 +9,7 @@ use Rattle.std.specs.List.{slice_get}
 use lib.Lanes.{mask_l}
 use native.Mathlib.Decide.{dec_lt}
 use Rattle.scc_array.proofs.Gets.{get-past, get-some}
-use Rattle.scc_array.specs.Windows.{tag_there, IsPacked}
+use Rattle.scc_array.specs.Windows.{tag_there, IsPackedWindow}
 
 abbrev pub same_mask : ℕ → List ℕ → ℕ
 same_mask t row = mask_l (map (λ x. x == t) row)
@@ -50,7 +50,7 @@ pub tag-there : (t : ℕ) → 0 < t → tag_there t ≡ Some t
 tag-there zero h = absurd (omega arith)
 tag-there (suc t) h = refl
 
-module _ {E : Type 0} (rows : List (List ℕ)) (places : List (Option E)) (i : ℕ) (xs : List E) (ts : List ℕ) (p : IsPacked rows places i xs ts) where
+module _ {E : Type 0} (rows : List (List ℕ)) (places : List (Option E)) (i : ℕ) (xs : List E) (ts : List ℕ) (p : IsPackedWindow rows places i xs ts) where
   abbrev row : List ℕ
   row = get_or rows i []
 

@@ -4,10 +4,10 @@ use Rattle.std.specs.declared.vec.Vec.{Vec}
 use Rattle.scc_array.proofs.Gets.{get-set_other}
 use Rattle.scc_array.proofs.Shelves.{bare-spilled, shelf-is, overflow-is, opened-count}
 use Rattle.scc_array.proofs.Windows.{same_or_not}
-use Rattle.scc_array.specs.Lists.{Opens, Pushes, Reserves, were_there, were_made}
+use Rattle.scc_array.specs.Lists.{Opens, Pushes, ReservesList, were_there, were_made}
 use Rattle.scc_array.specs.Shelves.{shelf_of, spilled, spare, shelves, IsArray, IsFlagged}
 use Rattle.scc_array.specs.Windows.{Window}
-use Rattle.scc_bucket.specs.Shelf.{Shelf}
+use Rattle.scc_array.specs.Shelf.{Shelf}
 
 -- no lists, or as many as before
 pub array-set : {E A : Type 0} (ws : List (Window E)) (os : List (Vec E A)) (b : ℕ) (v : Vec E A) → IsArray ws os → IsArray ws (set os b v)
@@ -62,7 +62,7 @@ pushed-both {E} {A} ws os fs b e (Ok p) ds kept told up (u, v, held, is, items, 
 pushed-both {E} {A} ws os fs b e (Err x) ds kept told up (same, (u, v, held, items, changed, full)) = subst (λ (l : List (Vec E A)). IsArray ws l × IsFlagged ws l fs) (sym changed) (array-set ws os b v kept, flagged-list ws os fs told b v up)
 
 -- room was made in a list, or refused
-pub reserved-both : {E A X : Type 0} (ws : List (Window E)) (os : List (Vec E A)) (fs : List Bool) (b n : ℕ) (r : Result (Unit {0}) X) (ds : List (Vec E A)) → IsArray ws os → IsFlagged ws os fs → get_or fs (b / 16) false ≡ true → Reserves os b n r ds
+pub reserved-both : {E A X : Type 0} (ws : List (Window E)) (os : List (Vec E A)) (fs : List Bool) (b n : ℕ) (r : Result (Unit {0}) X) (ds : List (Vec E A)) → IsArray ws os → IsFlagged ws os fs → get_or fs (b / 16) false ≡ true → ReservesList os b n r ds
     → IsArray ws ds × IsFlagged ws ds fs
 reserved-both {E} {A} ws os fs b n (Ok p) ds kept told up (u, v, held, items, grown, room, changed) = subst (λ (l : List (Vec E A)). IsArray ws l × IsFlagged ws l fs) (sym changed) (array-set ws os b v kept, flagged-list ws os fs told b v up)
 reserved-both {E} {A} ws os fs b n (Err x) ds kept told up (u, v, held, items, grown, changed) = subst (λ (l : List (Vec E A)). IsArray ws l × IsFlagged ws l fs) (sym changed) (array-set ws os b v kept, flagged-list ws os fs told b v up)

@@ -6,7 +6,7 @@ use native.Mathlib.Decide.{dec_lt}
 use Rattle.scc_array.proofs.Bucket.{packed-there}
 use Rattle.scc_array.proofs.Gets.{get-past, get-none, get-some, get-within}
 use Rattle.scc_array.proofs.Windows.{length-windows}
-use Rattle.scc_array.specs.Windows.{Window, window_of, windows, window_at, tag_there, IsPacked, IsColumns}
+use Rattle.scc_array.specs.Windows.{Window, window_of, windows, window_at, tag_there, IsPackedWindow, IsColumns}
 
 pub split-place : (p : ℕ) → p ≡ 32 * (p / 32) + p % 32
 split-place p = omega arith
@@ -40,7 +40,7 @@ module _ {E : Type 0} (rows : List (List ℕ)) (places : List (Option E)) (kept 
   abbrev tag : ℕ
   tag = get_or (get_or rows i []) j 0
 
-  packed : IsPacked rows places i (window_at rows places i).slots (window_at rows places i).tags
+  packed : IsPackedWindow rows places i (window_at rows places i).slots (window_at rows places i).tags
   packed = let s = kept.sized in let e = split-place p in kept.packed i (omega arith)
 
   -- a place whose tag isn't 0 holds an entry, any other nothing

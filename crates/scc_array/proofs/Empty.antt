@@ -2,7 +2,7 @@
 use Rattle.std.proofs.Common.{◌≡◌, ℕ, ◌+◌, ◌*◌, ◌^◌, ◌<◌, ◌≤◌, List, [], length, get_or, replicate, Option, None, refl, sym, ap, ◌∙◌, subst, arith}
 use Rattle.std.proofs.lemmas.List.{ext_get_or, get_or-replicate, length-replicate}
 use Rattle.scc_array.proofs.Windows.{windows-are, columns-are}
-use Rattle.scc_array.specs.Windows.{Window, empty_window, window_of, windows, tag_there, IsPacked, IsColumns}
+use Rattle.scc_array.specs.Windows.{Window, empty_window, window_of, windows, tag_there, IsPackedWindow, IsColumns}
 
 abbrev pub blank : List ℕ
 blank = replicate 32 0
@@ -21,10 +21,10 @@ module _ {E : Type 0} (n : ℕ) where
   abbrev pub ws : List (Window E)
   ws = replicate n empty_window
 
-  each : (i : ℕ) → i < length (rows n) → IsPacked (rows n) places i (window_of ws i).slots (window_of ws i).tags
+  each : (i : ℕ) → i < length (rows n) → IsPackedWindow (rows n) places i (window_of ws i).slots (window_of ws i).tags
   each i h =
       let l : i < n = let m = length-replicate n blank in omega arith in
-      subst (λ (w : Window E). IsPacked (rows n) places i w.slots w.tags) (sym (get_or-replicate n i empty_window empty_window l)) (record {
+      subst (λ (w : Window E). IsPackedWindow (rows n) places i w.slots w.tags) (sym (get_or-replicate n i empty_window empty_window l)) (record {
         places_are = λ j k. get_or-replicate (32 * n) (32 * i + j) None None (omega arith);
         tags_are = λ j k. ap (λ (r : List ℕ). tag_there (get_or r j 0)) (get_or-replicate n i blank [] l) ∙ ap tag_there (get_or-replicate 32 j 0 0 k);
         most = omega arith;

@@ -6,7 +6,7 @@ use Rattle.std.proofs.lemmas.List.Folds.{find-append, find_at}
 use native.Mathlib.Decide.{dec_lt}
 use Rattle.scc_array.proofs.Gets.{get-past}
 use Rattle.scc_array.proofs.Joined.{true-or-false}
-use Rattle.scc_bucket.proofs.Search.{found, none_by}
+use Rattle.scc_array.proofs.Search.{found, none_by}
 
 module _ {X : Type 0} (p : X → Bool) where
   first-below : (xs : List X) (i : ℕ) → position p xs ≡ Some i → position_or_len p xs < length xs

@@ -3,8 +3,8 @@ use Rattle.std.proofs.Common.{◌≡◌, ℕ, suc, ◌+◌, ◌≤◌, ◌⊎◌
 use Rattle.std.specs.List.{slice_get, position, position_or_len}
 use Rattle.std.specs.Option.{option_map}
 use native.Mathlib.Decide.{dec_lt}
-use Rattle.scc_bucket.proofs.Lists.{get-right}
-use Rattle.scc_bucket.proofs.Search.{position_is, found, none_by}
+use Rattle.scc_array.proofs.ListsLemmas.{get-right}
+use Rattle.scc_array.proofs.Search.{position_is, found, none_by}
 
 -- the place in the first list, or the one in the second list, n further on
 abbrev pub or_later : Option ℕ → ℕ → Option ℕ → Option ℕ

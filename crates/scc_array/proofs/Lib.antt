@@ -9,13 +9,17 @@ pub mod Gathering
 pub mod Gets
 pub mod Joined
 pub mod ListPushing
+pub mod ListsLemmas
 pub mod Parting
 pub mod Pushing
 pub mod Reserving
+pub mod Search
 pub mod Shelves
 pub mod Shifting
 pub mod Spent
 pub mod Swapping
+pub mod Swaps
 pub mod Totals
 pub mod Windows
+pub mod Writing
 pub mod WritingOver

@@ -7,7 +7,7 @@ use Rattle.scc_array.proofs.Shelves.{window-within, list-is, room-is, shelf-is, 
 use Rattle.scc_array.specs.Lists.{Opens, Pushes}
 use Rattle.scc_array.specs.Shelves.{shelf_of, spilled, spare, shelves, IsArray}
 use Rattle.scc_array.specs.Windows.{Window, window_of}
-use Rattle.scc_bucket.specs.Shelf.{Shelf, with_overflow}
+use Rattle.scc_array.specs.Shelf.{Shelf, with_overflow}
 
 module _ {E A : Type 0} (ws : List (Window E)) (os ds : List (Vec E A)) (bs : List (Shelf E)) (view : shelves ws os ≡ bs) (kept : IsArray ws os) (n : ℕ) (count : n ≡ length ws) (opens : Opens os n ds)
     (b : ℕ) (within : b < length bs) where

@@ -7,7 +7,7 @@ use Rattle.scc_array.proofs.Counting.{tag-some, some-positive}
 use Rattle.scc_array.proofs.Gets.{get-past, get-some, get-end, get-before_end}
 use Rattle.scc_array.proofs.Windows.{same_or_not, windows-changed, columns-changed}
 use Rattle.scc_array.specs.Sifts.{picked, kept, picked_of, kept_of, window_with, AreAt, Moves}
-use Rattle.scc_array.specs.Windows.{Window, empty_window, window_of, windows, pushed, tag_there, IsPacked, IsColumns}
+use Rattle.scc_array.specs.Windows.{Window, empty_window, window_of, windows, pushed, tag_there, IsPackedWindow, IsColumns}
 
 module _ {X : Type 0} where
   -- the flags up to one more place, whose flag is up
@@ -232,10 +232,10 @@ module _ {E : Type 0} (fs : List Bool) (base target first : ℕ) (w : Window E) 
         ∙ ap (λ (z : List ℕ). set ws target (let r : Window E = record { slots = (window_of ws target).slots ++ picked fs w.slots; tags = (window_of ws target).tags ++ z } in r)) (picked-all fs w.tags p (omega arith))
 
 -- the bucket b of columns is seen in its places and its row
-pub packed-at : {E : Type 0} (rows : List (List ℕ)) (places : List (Option E)) (b : ℕ) (w : Window E) (row : List ℕ) → IsPacked rows places b w.slots w.tags → get_or rows b [] ≡ row → AreAt places row (32 * b) w
+pub packed-at : {E : Type 0} (rows : List (List ℕ)) (places : List (Option E)) (b : ℕ) (w : Window E) (row : List ℕ) → IsPackedWindow rows places b w.slots w.tags → get_or rows b [] ≡ row → AreAt places row (32 * b) w
 packed-at rows places b w row p e = record { places_are = p.places_are; tags_are = λ j h. ap (λ (r : List ℕ). tag_view r j) (sym e) ∙ p.tags_are j h; most = p.most; same = p.same }
 
-at-packed : {E : Type 0} (rows : List (List ℕ)) (new : List (Option E)) (b : ℕ) (w : Window E) (row : List ℕ) → b < length rows → AreAt new row (32 * b) w → IsPacked (set rows b row) new b w.slots w.tags
+at-packed : {E : Type 0} (rows : List (List ℕ)) (new : List (Option E)) (b : ℕ) (w : Window E) (row : List ℕ) → b < length rows → AreAt new row (32 * b) w → IsPackedWindow (set rows b row) new b w.slots w.tags
 at-packed rows new b w row l a = record { places_are = a.places_are; tags_are = λ j h. ap (λ (r : List ℕ). tag_view r j) (get_or-set_same rows b row [] l) ∙ a.tags_are j h; most = a.most; same = a.same }
 
 module _ {E : Type 0} (rows : List (List ℕ)) (places : List (Option E)) (kept_there : IsColumns rows places) (b : ℕ) (within : b < length rows) (new : List (Option E)) (row : List ℕ) (wide : length row ≡ 32) (count : length new ≡ length places)

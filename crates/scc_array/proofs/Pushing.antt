@@ -4,10 +4,10 @@ use Rattle.std.proofs.lemmas.List.{get_or-set_same, get_or-set_other}
 use Rattle.scc_array.proofs.Counting.{tag-there}
 use Rattle.scc_array.proofs.Gets.{get-end, get-before_end}
 use Rattle.scc_array.proofs.Windows.{windows-changed, columns-changed, same_or_not}
-use Rattle.scc_array.specs.Windows.{Window, windows, tag_there, IsPacked, IsColumns}
+use Rattle.scc_array.specs.Windows.{Window, windows, tag_there, IsPackedWindow, IsColumns}
 
 module _ {E : Type 0} (rows : List (List ℕ)) (places : List (Option E)) (kept : IsColumns rows places) (b : ℕ) (within : b < length rows)
-    (xs : List E) (ts : List ℕ) (packed : IsPacked rows places b xs ts) (short : length xs < 32) (e : E) (t : ℕ) (some : 0 < t) where
+    (xs : List E) (ts : List ℕ) (packed : IsPackedWindow rows places b xs ts) (short : length xs < 32) (e : E) (t : ℕ) (some : 0 < t) where
   abbrev k : ℕ
   k = length xs
 
@@ -26,7 +26,7 @@ module _ {E : Type 0} (rows : List (List ℕ)) (places : List (Option E)) (kept 
   outside : (p : ℕ) → (p < 32 * b) ⊎ (32 * b + 32 ≤ p) → get_or new_places p None ≡ get_or places p None
   outside p o = get_or-set_other places (32 * b + k) p (Some e) None (λ same. elim o [ inl l ↦ omega arith | inr l ↦ omega arith ])
 
-  packed-pushed : IsPacked new_rows new_places b (xs ++ e ∷ []) (ts ++ t ∷ [])
+  packed-pushed : IsPackedWindow new_rows new_places b (xs ++ e ∷ []) (ts ++ t ∷ [])
   packed-pushed =
       let n = kept.sized in let same = packed.same in let lanes = kept.lanes b within in
       record {

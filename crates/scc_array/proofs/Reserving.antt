@@ -5,11 +5,11 @@ use Rattle.std.specs.Prelude.{OnOk, slice_get, Some}
 use Rattle.std.specs.Vec.{vec_capacity}
 use Rattle.std.specs.declared.vec.Vec.{Vec}
 use Rattle.scc_array.proofs.Shelves.{list-is, list-within, room-is, seen-list, shelf-is, own-room}
-use Rattle.scc_array.specs.Lists.{Pushes, Reserves}
+use Rattle.scc_array.specs.Lists.{Pushes, ReservesList}
 use Rattle.scc_array.specs.Shelves.{shelf_of, spilled, spare, shelves, IsArray}
 use Rattle.scc_array.specs.Windows.{Window, window_of}
 use Rattle.scc_array.proofs.Joined.{true-or-false}
-use Rattle.scc_bucket.specs.Shelf.{Shelf, empty_shelf, with_entry}
+use Rattle.scc_array.specs.Shelf.{Shelf, empty_shelf, with_entry}
 
 -- the shelf that was put there
 pub shelf-put : {E : Type 0} (bs ds : List (Shelf E)) (b : ℕ) (s : Shelf E) → b < length bs → ds ≡ set bs b s → shelf_of ds b ≡ s
@@ -33,15 +33,15 @@ module _ {E A : Type 0} (ws : List (Window E)) (ds : List (Vec E A)) (bs : List 
     grown-list = ap (λ (s : Shelf E). length s.overflow) (shelf-put bs (shelves ws es) b (record (shelf_of bs b) { room = vec_capacity v }) within grown) ∙ ap length (sym (list-is ws ds bs view b within u held))
 
   module _ {X : Type 0} (n : ℕ) (es : List (Vec E A)) where
-    pub reserved-value : (r : Result (Unit {0}) X) → Reserves ds b n r es → shelves ws es ≡ set bs b (record (shelf_of bs b) { room = (shelf_of (shelves ws es) b).room })
+    pub reserved-value : (r : Result (Unit {0}) X) → ReservesList ds b n r es → shelves ws es ≡ set bs b (record (shelf_of bs b) { room = (shelf_of (shelves ws es) b).room })
     reserved-value (Ok _) (u, v, held, items, more, room, changed) = grown-value u v held items es changed
     reserved-value (Err _) (u, v, held, items, more, changed) = grown-value u v held items es changed
 
-    pub reserved-more : (r : Result (Unit {0}) X) → Reserves ds b n r es → (shelf_of bs b).room ≤ (shelf_of (shelves ws es) b).room
+    pub reserved-more : (r : Result (Unit {0}) X) → ReservesList ds b n r es → (shelf_of bs b).room ≤ (shelf_of (shelves ws es) b).room
     reserved-more (Ok _) (u, v, held, items, more, room, changed) = let r = grown-room u v held items es changed in let o = room-is ws ds bs view b within u held in omega arith
     reserved-more (Err _) (u, v, held, items, more, changed) = let r = grown-room u v held items es changed in let o = room-is ws ds bs view b within u held in omega arith
 
-    pub reserved-room : (r : Result (Unit {0}) X) → Reserves ds b n r es → OnOk r (length (shelf_of (shelves ws es) b).overflow + n ≤ (shelf_of (shelves ws es) b).room)
+    pub reserved-room : (r : Result (Unit {0}) X) → ReservesList ds b n r es → OnOk r (length (shelf_of (shelves ws es) b).overflow + n ≤ (shelf_of (shelves ws es) b).room)
     reserved-room (Ok _) (u, v, held, items, more, room, changed) = let r = grown-room u v held items es changed in let l = grown-list u v held items es changed in omega arith
     reserved-room (Err _) h = tt
 

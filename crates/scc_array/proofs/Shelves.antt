@@ -11,7 +11,7 @@ use Rattle.scc_array.specs.Lists.{AreBare, Opens, were_there, were_made}
 use Rattle.scc_array.proofs.Windows.{same_or_not}
 use Rattle.scc_array.specs.Shelves.{shelf_of, spilled, spare, shelf_at, shelves, IsArray}
 use Rattle.scc_array.specs.Windows.{Window, empty_window, window_of}
-use Rattle.scc_bucket.specs.Shelf.{Shelf, empty_shelf}
+use Rattle.scc_array.specs.Shelf.{Shelf, empty_shelf}
 
 module _ {E A : Type 0} (ws : List (Window E)) (os : List (Vec E A)) where
   pub length-shelves : length (shelves ws os) ≡ length ws

@@ -6,10 +6,10 @@ use native.Mathlib.Decide.{dec_lt}
 use Rattle.scc_array.proofs.Gets.{get-past, get-removed_before, get-removed_after, length-removed}
 use Rattle.scc_array.proofs.Windows.{windows-changed, columns-changed, same_or_not}
 use Rattle.scc_array.specs.Shifts.{Closes}
-use Rattle.scc_array.specs.Windows.{Window, windows, tag_there, IsPacked, IsColumns}
+use Rattle.scc_array.specs.Windows.{Window, windows, tag_there, IsPackedWindow, IsColumns}
 
 module _ {E : Type 0} (rows : List (List ℕ)) (places : List (Option E)) (kept : IsColumns rows places) (b : ℕ) (within : b < length rows)
-    (xs : List E) (ts : List ℕ) (packed : IsPacked rows places b xs ts) (i : ℕ) (there : i < length xs)
+    (xs : List E) (ts : List ℕ) (packed : IsPackedWindow rows places b xs ts) (i : ℕ) (there : i < length xs)
     (new : List (Option E)) (row_left : List ℕ) (closed : Closes None (set places (32 * b + i) None) (32 * b + i) (32 * b + (length xs - 1)) new) (closed_row : Closes 0 (get_or rows b []) i (length xs - 1) row_left) where
   abbrev last : ℕ
   last = length xs - 1
@@ -63,7 +63,7 @@ module _ {E : Type 0} (rows : List (List ℕ)) (places : List (Option E)) (kept 
         ]
       ]
 
-  packed-left : IsPacked (set rows b row_left) new b (remove xs i) (remove ts i)
+  packed-left : IsPackedWindow (set rows b row_left) new b (remove xs i) (remove ts i)
   packed-left = record {
     places_are = place-left;
     tags_are = λ j h. ap (λ (r : List ℕ). tag_there (get_or r j 0)) (get_or-set_same rows b row_left [] within) ∙ tag-left j h;

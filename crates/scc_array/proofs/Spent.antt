@@ -5,7 +5,7 @@ use Rattle.scc_array.proofs.Shelves.{length-shelves, slots-are, list-is, list-re
 use Rattle.scc_array.specs.Lists.{AreSpent}
 use Rattle.scc_array.specs.Shelves.{shelf_of, shelves, IsArray}
 use Rattle.scc_array.specs.Windows.{Window, window_of}
-use Rattle.scc_bucket.specs.Shelf.{Shelf, shelf_entries}
+use Rattle.scc_array.specs.Shelf.{Shelf, shelf_entries}
 
 none-left : {X : Type 0} (xs ys : List X) → xs ++ ys ≡ [] → xs ≡ []
 none-left [] ys e = refl

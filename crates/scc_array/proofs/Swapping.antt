@@ -5,10 +5,10 @@ use Rattle.std.specs.List.{slice_get, swap_remove}
 use native.Mathlib.Decide.{dec_lt}
 use Rattle.scc_array.proofs.Gets.{get-past, get-swapped_here, get-swapped_other, get-swapped_past, length-swapped}
 use Rattle.scc_array.proofs.Windows.{windows-changed, columns-changed, same_or_not}
-use Rattle.scc_array.specs.Windows.{Window, windows, tag_there, IsPacked, IsColumns}
+use Rattle.scc_array.specs.Windows.{Window, windows, tag_there, IsPackedWindow, IsColumns}
 
 module _ {E : Type 0} (rows : List (List ℕ)) (places : List (Option E)) (kept : IsColumns rows places) (b : ℕ) (within : b < length rows)
-    (xs : List E) (ts : List ℕ) (packed : IsPacked rows places b xs ts) (i : ℕ) (there : i < length xs) (x : E) where
+    (xs : List E) (ts : List ℕ) (packed : IsPackedWindow rows places b xs ts) (i : ℕ) (there : i < length xs) (x : E) where
   abbrev pub last : ℕ
   last = length xs - 1
 
@@ -57,7 +57,7 @@ module _ {E : Type 0} (rows : List (List ℕ)) (places : List (Option E)) (kept 
           ]
         ]
 
-    packed-left : IsPacked (set rows b row_left) new b (swap_remove xs i x) (swap_remove ts i 0)
+    packed-left : IsPackedWindow (set rows b row_left) new b (swap_remove xs i x) (swap_remove ts i 0)
     packed-left =
         let m = packed.most in let n = length-swapped xs i x there in
         record {

@@ -4,10 +4,10 @@ use Rattle.std.proofs.lemmas.List.{get_or-set_same, get_or-set_other, set-get_or
 use Rattle.std.specs.List.{slice_get}
 use Rattle.scc_array.proofs.Gets.{get-set, get-set_other}
 use Rattle.scc_array.proofs.Windows.{windows-changed, columns-changed, same_or_not}
-use Rattle.scc_array.specs.Windows.{Window, windows, tag_there, IsPacked, IsColumns}
+use Rattle.scc_array.specs.Windows.{Window, windows, tag_there, IsPackedWindow, IsColumns}
 
 module _ {E : Type 0} (rows : List (List ℕ)) (places : List (Option E)) (kept : IsColumns rows places) (b : ℕ) (within : b < length rows)
-    (xs : List E) (ts : List ℕ) (packed : IsPacked rows places b xs ts) (i : ℕ) (there : i < length xs) (x : E) where
+    (xs : List E) (ts : List ℕ) (packed : IsPackedWindow rows places b xs ts) (i : ℕ) (there : i < length xs) (x : E) where
   abbrev new : List (Option E)
   new = set places (32 * b + i) (Some x)
 
@@ -17,7 +17,7 @@ module _ {E : Type 0} (rows : List (List ℕ)) (places : List (Option E)) (kept 
   outside : (p : ℕ) → (p < 32 * b) ⊎ (32 * b + 32 ≤ p) → get_or new p None ≡ get_or places p None
   outside p o = let m = packed.most in get_or-set_other places (32 * b + i) p (Some x) None (λ e. elim o [ inl l ↦ omega arith | inr l ↦ omega arith ])
 
-  packed-over : IsPacked (set rows b (get_or rows b [])) new b (set xs i x) ts
+  packed-over : IsPackedWindow (set rows b (get_or rows b [])) new b (set xs i x) ts
   packed-over =
       let s = kept.sized in let m = packed.most in
       record {

@@ -2,9 +2,9 @@
 use Rattle.std.specs.Prelude.{ℕ, List, slice_set}
 use Rattle.std.specs.Borrow.{Fml, RattleType, MutBor, Lends}
 use Rattle.scc_array.specs.Shelves.{shelf_of}
-use Rattle.scc_array.specs.contracts.array.Array.{the_row}
-use Rattle.scc_bucket.specs.Shelf.{Shelf}
-use Rattle.scc_bucket.specs.ShelfWrites.{shelf_write_at}
+use Rattle.scc_array.specs.contracts.Array.{the_row}
+use Rattle.scc_array.specs.Shelf.{Shelf}
+use Rattle.scc_array.specs.ShelfWrites.{shelf_write_at}
 
 module _ (E V : RattleType) (put : E.Denot → V.Denot → E.Denot) where
   -- the entry at the place has the last value written through r

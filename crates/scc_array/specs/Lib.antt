@@ -1,6 +1,8 @@
 pub mod LendsArray
 pub mod LendsColumns
 pub mod Lists
+pub mod Shelf
+pub mod ShelfWrites
 pub mod Shelves
 pub mod Shifts
 pub mod Sifts

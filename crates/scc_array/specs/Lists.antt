@@ -23,6 +23,6 @@ module _ {E A : Type 0} where
     pub spent : (i : ℕ) (v : Vec E A) → i < length os → v ≡ slice_index_or os i v → v.items ≡ []
 
   -- list b has what it had, and no less room; on success room for n more
-  abbrev pub Reserves : {X : Type 0} → List (Vec E A) → ℕ → ℕ → Result (Unit {0}) X → List (Vec E A) → Type 0
-  Reserves os b n (Ok _) ds = (u : Vec E A) × (v : Vec E A) × (slice_get os b ≡ Some u) × (v.items ≡ u.items) × (vec_capacity u ≤ vec_capacity v) × (length u.items + n ≤ vec_capacity v) × (ds ≡ slice_set os b v)
-  Reserves os b n (Err _) ds = (u : Vec E A) × (v : Vec E A) × (slice_get os b ≡ Some u) × (v.items ≡ u.items) × (vec_capacity u ≤ vec_capacity v) × (ds ≡ slice_set os b v)
+  abbrev pub ReservesList : {X : Type 0} → List (Vec E A) → ℕ → ℕ → Result (Unit {0}) X → List (Vec E A) → Type 0
+  ReservesList os b n (Ok _) ds = (u : Vec E A) × (v : Vec E A) × (slice_get os b ≡ Some u) × (v.items ≡ u.items) × (vec_capacity u ≤ vec_capacity v) × (length u.items + n ≤ vec_capacity v) × (ds ≡ slice_set os b v)
+  ReservesList os b n (Err _) ds = (u : Vec E A) × (v : Vec E A) × (slice_get os b ≡ Some u) × (v.items ≡ u.items) × (vec_capacity u ≤ vec_capacity v) × (ds ≡ slice_set os b v)

@@ -4,7 +4,7 @@ use Rattle.std.specs.List.{range_with_len}
 use Rattle.std.specs.Vec.{vec_capacity}
 use Rattle.std.specs.declared.vec.Vec.{Vec}
 use Rattle.scc_array.specs.Windows.{Window, window_of}
-use Rattle.scc_bucket.specs.Shelf.{Shelf, empty_shelf}
+use Rattle.scc_array.specs.Shelf.{Shelf, empty_shelf}
 
 -- the bucket of that number
 abbrev pub shelf_of : {E : Type 0} → List (Shelf E) → ℕ → Shelf E
@@ -16,14 +16,17 @@ module _ {E A : Type 0} where
   spilled None = []
   spilled (Some v) = v.items
 
+  -- how many entries the list of a bucket has room for; 0 without one
   abbrev pub spare : Option (Vec E A) → ℕ
   spare None = 0
   spare (Some v) = vec_capacity v
 
   module _ (ws : List (Window E)) (os : List (Vec E A)) where
+    -- bucket i, by its places and its overflow list
     abbrev pub shelf_at : ℕ → Shelf E
     shelf_at i = record { slots = (window_of ws i).slots; tags = (window_of ws i).tags; overflow = spilled (slice_get os i); room = spare (slice_get os i) }
 
+    -- all buckets, in their order
     abbrev pub shelves : List (Shelf E)
     shelves = map shelf_at (range_with_len 0 (length ws))
 

@@ -1,7 +1,7 @@
 -- A bucket whose entries are parted by flags, one a place.
 use Rattle.std.specs.Prelude.{◌≡◌, ◌≢◌, ℕ, ◌+◌, ◌<◌, ◌≤◌, List, [], ◌∷◌, ◌++◌, length, cond, slice_get, slice_index_or, Bool, true, Option, None, replicate}
 use Rattle.scc_array.specs.Windows.{Window, tag_there}
-use Rattle.scc_bucket.specs.Shelf.{Shelf}
+use Rattle.scc_array.specs.Shelf.{Shelf}
 
 -- the elements whose flag is up, in their order
 abbrev pub picked : {X : Type 0} → List Bool → List X → List X

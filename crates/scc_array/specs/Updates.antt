@@ -4,9 +4,9 @@ use Rattle.std.specs.Borrow.{Bor, MutBor}
 use Rattle.std.specs.Fn.{Once}
 use Rattle.std.specs.List.{position}
 use Rattle.scc_array.specs.Shelves.{shelf_of}
-use Rattle.scc_bucket.specs.Shelf.{Shelf, shelf_entries}
-use Rattle.scc_bucket.specs.ShelfWrites.{shelf_write_at}
-use Rattle.scc_bucket.specs.Updates.{WritesInto}
+use Rattle.scc_array.specs.Shelf.{Shelf, shelf_entries}
+use Rattle.scc_array.specs.ShelfWrites.{shelf_write_at}
+use Rattle.scc_contents.specs.Updates.{WritesInto}
 
 module _ {F E K V R : Type 0} (g : Once F (Bor K × (MutBor V × Unit {0})) (R × (MutBor V × Unit {0}))) (f : F) (key_of : E → K) (value_of : E → V) (put : E → V → E) (p : E → Bool) (bs : List (Shelf E)) (b : ℕ) (ds : List (Shelf E)) where
   -- f was called at the first entry of the bucket b that passes p, and what it left is the value there; where none passes, nothing changed

@@ -8,9 +8,11 @@ pub record Window (E : Type 0) : Type 0 where
   pub slots : List E
   pub tags : List ℕ
 
+-- the places of a bucket as the logic holds them
 abbrev pub window_code : {E : Type 0} → Coded E → Coded (Window E)
 window_code {E} c = code_by (List E × List ℕ) (coded× (coded_list c) (coded_list coded_ℕ)) (λ w. (w.slots, w.tags)) (λ p. record { slots = p.0; tags = p.1 }) (λ _. refl)
 
+-- places of which none is in use
 abbrev pub empty_window : {E : Type 0} → Window E
 empty_window = record { slots = []; tags = [] }
 
@@ -53,9 +55,11 @@ module _ {E : Type 0} (rows : List (List ℕ)) (places : List (Option E)) where
   abbrev pub place_at : ℕ → ℕ → Option E
   place_at i j = slice_index_or places (32 * i + j) None
 
+  -- the tag at place j of bucket i; none where the place is free
   abbrev pub tag_at : ℕ → ℕ → Option ℕ
   tag_at i j = tag_there (slice_index_or (slice_index_or rows i []) j 0)
 
+  -- the places of bucket i that are in use, with their tags
   abbrev pub window_at : ℕ → Window E
   window_at i = record { slots = gather (place_at i) 32; tags = gather (tag_at i) 32 }
 
@@ -64,7 +68,7 @@ module _ {E : Type 0} (rows : List (List ℕ)) (places : List (Option E)) where
   windows = map window_at (range_with_len 0 (length rows))
 
   -- the bucket i has the entries xs with the tags ts, and its other places are free
-  pub record IsPacked (i : ℕ) (xs : List E) (ts : List ℕ) : Type 0 where
+  pub record IsPackedWindow (i : ℕ) (xs : List E) (ts : List ℕ) : Type 0 where
     pub places_are : (j : ℕ) → j < 32 → place_at i j ≡ slice_get xs j
     pub tags_are : (j : ℕ) → j < 32 → tag_at i j ≡ slice_get ts j
     pub most : length xs ≤ 32
@@ -75,4 +79,4 @@ module _ {E : Type 0} (rows : List (List ℕ)) (places : List (Option E)) where
     pub few : length rows ≤ 2 ^ 58
     pub sized : length places ≡ 32 * length rows
     pub lanes : (i : ℕ) → i < length rows → length (slice_index_or rows i []) ≡ 32
-    pub packed : (i : ℕ) → i < length rows → IsPacked i (window_at i).slots (window_at i).tags
+    pub packed : (i : ℕ) → i < length rows → IsPackedWindow i (window_at i).slots (window_at i).tags

@@ -1,4 +1,5 @@
-//! Two columns: a row of 32 tags for each bucket, and 32 places for entries. The entries of a bucket lie in the first of its places, and the tag of a free place is 0.
+//! Two columns: a row of 32 tags for each bucket, and 32 places for entries. The entries of a bucket lie in the first
+//! of its places, and the tag of a free place is 0.
 ghost use Rattle.std.specs.Prelude.{◌≡◌, ◌^◌, ◌≤◌, ◌<◌, ◌+◌, ◌↔◌, ℕ, Some, length, replicate, slice_set, IfOk, IsTrue, slice_get, slice_index, []};
 ghost use Rattle.std.specs.Borrow.{sem};
 ghost use Rattle.std.specs.Int.{bit_at};
@@ -11,8 +12,8 @@ mod finding;
 
 use crate::shifts::close_gap;
 use crate::sifting::{pour, sift};
-use scc_bucket::Keyed;
-use scc_bucket::tags::{lowest_bit, tag_mask, without_lowest_bit};
+use crate::tags::{lowest_bit, tag_mask, without_lowest_bit};
+use scc_entry::Keyed;
 use scc_slots::Slots;
 use std::alloc::{AllocError, Global};
 use std::marker::Model;
@@ -83,9 +84,10 @@ impl<E> Columns<E> {
         if free == 0 { 32 } else { lowest_bit(free) }
     }
 
-    /// How many entries the bucket has, where none stands at the place; where one does, a number above that of the place. It looks at one tag first.
+    /// How many entries the bucket has, where none stands at the place; where one does, a number above that of the
+    /// place. It looks at one tag first.
     #[inline(always)]
-    pub fn count_past(&self, bucket: usize, place: usize) -> usize
+    pub(crate) fn count_past(&self, bucket: usize, place: usize) -> usize
         requires { bucket < length self.now }
         ensures within { place < result → place < length (window_of self.now bucket).slots }
         ensures past { result ≤ place → result ≡ length (window_of self.now bucket).slots }
@@ -111,7 +113,8 @@ impl<E> Columns<E> {
     fn hits(&self, bucket: usize, tag: u8) -> u32
         requires bucket { bucket < length self.now }
         requires tag { 0 < tag }
-        ensures all { (j : ℕ) → j < length (window_of self.now bucket).slots → slice_index (window_of self.now bucket).tags j ≡ tag → bit_at result j ≡ 1 }
+        ensures all { (j : ℕ) → j < length (window_of self.now bucket).slots
+            → slice_index (window_of self.now bucket).tags j ≡ tag → bit_at result j ≡ 1 }
         ensures only { (j : ℕ) → bit_at result j ≡ 1 → j < length (window_of self.now bucket).slots }
     {
         tag_mask(&self.tags[bucket], tag)
@@ -143,14 +146,16 @@ impl<E> Columns<E> {
         self.slots.put(32 * bucket + place, entry);
     }
 
-    /// Moves the entries whose flag is up to the end of a bucket of other columns, in order. The others stay in their order.
+    /// Moves the entries whose flag is up to the end of a bucket of other columns, in order. The others stay in their
+    /// order.
     #[inline(always)]
     pub fn split(&mut self, bucket: usize, flags: &[bool; 32], into: &mut Columns<E>, target: usize)
         requires bucket { bucket < length self.old }
         requires target { target < length into.old }
         requires room { length (window_of into.old target).slots + length (window_of self.old bucket).slots ≤ 32 }
         ensures stays { self.new ≡ slice_set self.old bucket (kept_of flags.now (window_of self.old bucket)) }
-        ensures moved { into.new ≡ slice_set into.old target (window_with (window_of into.old target) (picked_of flags.now (window_of self.old bucket))) }
+        ensures moved { into.new ≡ slice_set into.old target
+            (window_with (window_of into.old target) (picked_of flags.now (window_of self.old bucket))) }
     {
         let held = self.count(bucket);
         let first = into.count(target);
@@ -174,7 +179,8 @@ impl<E> Columns<E> {
         requires target { target < length into.old }
         requires room { length (window_of into.old target).slots + length (window_of self.old bucket).slots ≤ 32 }
         ensures stays { self.new ≡ slice_set self.old bucket (kept_of all_up (window_of self.old bucket)) }
-        ensures moved { into.new ≡ slice_set into.old target (window_with (window_of into.old target) (picked_of all_up (window_of self.old bucket))) }
+        ensures moved { into.new ≡ slice_set into.old target
+            (window_with (window_of into.old target) (picked_of all_up (window_of self.old bucket))) }
     {
         let held = self.count(bucket);
         let first = into.count(target);
@@ -231,7 +237,7 @@ impl<E> Columns<E> {
 
     /// The entry at a place, to write to.
     #[inline(always)]
-    pub fn entry_mut(&mut self, bucket: usize, place: usize) -> &mut E
+    pub(crate) fn entry_mut(&mut self, bucket: usize, place: usize) -> &mut E
         requires bucket { bucket < length self.old }
         requires place { place < length (window_of self.old bucket).slots }
         ensures* writes_back { sem 𝓛 (lends_slot E.row self.entry bucket place result) }
@@ -253,7 +259,8 @@ impl<E: Keyed> Columns<E>
 where
     E::Key: Eq,
 {
-    /// The place of the first entry of the bucket with that key. Only places with the tag are compared, in rising order.
+    /// The place of the first entry of the bucket with that key. Only places with the tag are compared, in rising
+    /// order.
     #[inline(always)]
     pub fn find(&self, bucket: usize, key: &E::Key, tag: u8) -> Option<usize>
         requires bucket { bucket < length self.now }

@@ -1,11 +1,331 @@
 //! The array of buckets of the hash containers, in two columns: 32 tags a bucket, and 32 places for entries a bucket.
 #![tactic(auto)]
 
-pub mod array;
+ghost use Rattle.std.specs.Prelude.{◌≡◌, [], ◌+◌, ◌^◌, ◌≤◌, ◌<◌, ◌↔◌, length, replicate, slice_set, slice_index_or, IfOk, IfErr, OnErr, IsFalse, IsTrue, slice_get, Some, None};
+ghost use Rattle.scc_array.specs.Shelves.{shelf_of};
+ghost use Rattle.scc_array.specs.Shelf.{shelf_entries, empty_shelf, with_slot, with_overflow, with_entry, next_place, without_place, swapped_out, HasTag};
+ghost use Rattle.std.specs.List.{position};
+
 pub mod columns;
+mod ending;
+mod finding;
 mod lists;
+mod reads;
+mod room;
 mod shifts;
 mod sifting;
+mod splitting;
+pub mod tags;
+mod updating;
+mod writes;
 
-pub use array::Array;
+use crate::lists::{flag_of, open_lists, push_to, raise};
 pub use columns::Columns;
+use scc_entry::Keyed;
+use std::alloc::{AllocError, Global};
+use std::marker::Model;
+
+/// Buckets, each with at most 32 entries in places with a tag each, and further ones in a list of its own. A bucket's
+/// list is the entries of its places and then the others.
+pub struct Array<E> {
+    columns: Columns<E>,
+    overflow: Vec<Vec<E>>,
+    /// Which buckets may have entries past their places, a flag for 16 in a row: no list of another one is looked at.
+    crowded: Vec<bool>,
+    alloc: Global,
+}
+
+impl<E> Model for Array<E> {
+    ghost use Rattle.std.specs.Prelude.{List};
+    ghost use Rattle.std.specs.Coded.{coded_list};
+    ghost use Rattle.scc_array.specs.Shelves.{shelves, IsArray, IsFlagged};
+    ghost use Rattle.scc_array.specs.Shelf.{Shelf, shelf_code};
+
+    ghost Value = { List (Shelf E) };
+
+    ghost coded = { coded_list (shelf_code E.code) };
+
+    ghost view = { λ a. shelves a.columns a.overflow.items };
+
+    ghost invariant = { λ a. IsArray a.columns a.overflow.items × IsFlagged a.columns a.overflow.items a.crowded.items };
+}
+
+impl<E> Array<E> {
+    /// An array without buckets, which asks for no memory.
+    pub fn none(alloc: Global) -> Array<E>
+        ensures { result ≡ [] }
+    {
+        Array {
+            columns: Columns::none(alloc),
+            overflow: Vec::new(alloc),
+            crowded: Vec::new(alloc),
+            alloc,
+        }
+    }
+
+    /// So many empty buckets.
+    pub fn with_buckets(alloc: Global, count: usize) -> Result<Array<E>, AllocError>
+        requires { count ≤ 2 ^ 58 }
+        ensures { IfOk result (λ a. a ≡ replicate count empty_shelf) }
+    {
+        let columns = Columns::with_buckets(alloc, count)?;
+        Ok(Array {
+            columns,
+            overflow: Vec::new(alloc),
+            crowded: Vec::new(alloc),
+            alloc,
+        })
+    }
+
+    /// The number of buckets.
+    #[inline(always)]
+    pub fn len(&self) -> usize
+        ensures count { result ≡ length self.now }
+        ensures most { result ≤ 2 ^ 58 }
+    {
+        self.columns.len()
+    }
+
+    /// Whether all places of the bucket are in use.
+    #[inline(always)]
+    pub fn is_full(&self, bucket: usize) -> bool
+        requires { bucket < length self.now }
+        ensures { IsTrue result ↔ (32 ≤ length (shelf_of self.now bucket).slots) }
+    {
+        self.columns.count(bucket) >= 32
+    }
+
+    /// Whether the entry at a place lies past the places in use.
+    #[inline(always)]
+    pub fn is_overflow(&self, bucket: usize, place: usize) -> bool
+        requires bucket { bucket < length self.now }
+        requires place { place < length (shelf_entries (shelf_of self.now bucket)) }
+        ensures { IsTrue result ↔ (length (shelf_of self.now bucket).slots ≤ place) }
+    {
+        place >= self.count_past(bucket, place)
+    }
+
+    /// How many places of the bucket are in use, where the entry at the place lies past them; where it doesn't, a
+    /// number above that of the place. While no bucket has a list no tag is read.
+    #[inline(always)]
+    pub(crate) fn count_past(&self, bucket: usize, place: usize) -> usize
+        requires bucket { bucket < length self.now }
+        requires place { place < length (shelf_entries (shelf_of self.now bucket)) }
+        ensures within { place < result → place < length (shelf_of self.now bucket).slots }
+        ensures past { result ≤ place → result ≡ length (shelf_of self.now bucket).slots }
+    {
+        // The number comes first: a search that looked at tags has shown it.
+        if place < 32 && self.overflow.len() == 0 {
+            return 32;
+        }
+        self.columns.count_past(bucket, place)
+    }
+
+    /// Whether the bucket may have entries past its places.
+    #[inline(always)]
+    fn is_crowded(&self, bucket: usize) -> bool
+        requires { bucket < length self.now }
+        ensures { IsFalse result → (shelf_of self.now bucket).overflow ≡ [] }
+    {
+        let flag = flag_of(bucket);
+        flag < self.crowded.len() && self.crowded[flag]
+    }
+
+    /// How many entries the bucket has past its places.
+    #[inline(always)]
+    pub fn overflow_len(&self, bucket: usize) -> usize
+        requires { bucket < length self.now }
+        ensures { result ≡ length (shelf_of self.now bucket).overflow }
+    {
+        if !self.is_crowded(bucket) {
+            return 0;
+        }
+        if self.overflow.len() == 0 {
+            return 0;
+        }
+        self.overflow[bucket].len()
+    }
+
+    /// How many entries the bucket has.
+    #[inline(always)]
+    pub fn bucket_len(&self, bucket: usize) -> usize
+        requires bucket { bucket < length self.now }
+        requires few { length (shelf_entries (shelf_of self.now bucket)) < 2 ^ 63 }
+        ensures { result ≡ length (shelf_entries (shelf_of self.now bucket)) }
+    {
+        self.columns.count(bucket) + self.overflow_len(bucket)
+    }
+
+    /// The entry stands in the next place of the bucket, which is free.
+    #[inline(always)]
+    pub fn insert_reserved(&mut self, bucket: usize, entry: E, tag: u8)
+        requires bucket { bucket < length self.old }
+        requires room { length (shelf_of self.old bucket).slots < 32 }
+        requires tag { 0 < tag }
+        ensures { self.new ≡ slice_set self.old bucket (with_slot (shelf_of self.old bucket) entry tag) }
+    {
+        self.columns.push(bucket, entry, tag);
+    }
+
+    /// The entry stands in the next place of the bucket, or at the end of the list past its places. It is handed back,
+    /// and the bucket is as it was, only where all places are in use and the list can't grow.
+    #[inline(always)]
+    pub fn insert(&mut self, bucket: usize, entry: E, tag: u8) -> Result<usize, E>
+        requires bucket { bucket < length self.old }
+        requires few { length (shelf_entries (shelf_of self.old bucket)) < 2 ^ 63 }
+        requires tag { 0 < tag }
+        ensures ok { IfOk result (λ p. (p ≡ next_place (shelf_of self.old bucket))
+            × (self.new ≡ slice_set self.old bucket
+            (record (with_entry (shelf_of self.old bucket) entry tag) { room = (shelf_of self.new bucket).room }))) }
+        ensures err { IfErr result (λ e. (e ≡ entry)
+            × (self.new ≡ slice_set self.old bucket
+            (record (shelf_of self.old bucket) { room = (shelf_of self.new bucket).room }))
+            × (32 ≤ length (shelf_of self.old bucket).slots)) }
+        ensures refused { OnErr result ((shelf_of self.old bucket).room ≤ length (shelf_of self.old bucket).overflow) }
+    {
+        let count = self.columns.count(bucket);
+        if count < 32 {
+            self.columns.push(bucket, entry, tag);
+            return Ok(count);
+        }
+        self.push_list(bucket, entry)
+    }
+
+    /// The entry stands at the end of the list past the places of the bucket.
+    #[cold]
+    fn push_list(&mut self, bucket: usize, entry: E) -> Result<usize, E>
+        requires bucket { bucket < length self.old }
+        ensures ok { IfOk result (λ p. (p ≡ 32 + length (shelf_of self.old bucket).overflow)
+            × (self.new ≡ slice_set self.old bucket
+            (record (with_overflow (shelf_of self.old bucket) entry) { room = (shelf_of self.new bucket).room }))) }
+        ensures err { IfErr result (λ e. (e ≡ entry)
+            × (self.new ≡ slice_set self.old bucket
+            (record (shelf_of self.old bucket) { room = (shelf_of self.new bucket).room }))) }
+        ensures refused { OnErr result ((shelf_of self.old bucket).room ≤ length (shelf_of self.old bucket).overflow) }
+    {
+        let count = self.columns.len();
+        match raise(&mut self.crowded, self.alloc, count, bucket) {
+            Ok(()) => {}
+            Err(_) => return Err(entry),
+        }
+        match open_lists(&mut self.overflow, self.alloc, count) {
+            Ok(()) => {}
+            Err(_) => return Err(entry),
+        }
+        push_to(&mut self.overflow, bucket, entry)
+    }
+
+    /// The entry at a place.
+    #[inline(always)]
+    pub fn entry_at(&self, bucket: usize, place: usize) -> &E
+        requires bucket { bucket < length self.now }
+        requires place { place < length (shelf_entries (shelf_of self.now bucket)) }
+        ensures { slice_get (shelf_entries (shelf_of self.now bucket)) place ≡ Some result.now }
+    {
+        let count = self.count_past(bucket, place);
+        if place < count {
+            return self.columns.entry_at(bucket, place);
+        }
+        &self.overflow[bucket][place - count]
+    }
+
+    /// Takes an entry out. The entries after it in the places, or in the list past them, move up by one.
+    #[inline(always)]
+    pub fn remove_at(&mut self, bucket: usize, place: usize) -> E
+        requires bucket { bucket < length self.old }
+        requires place { place < length (shelf_entries (shelf_of self.old bucket)) }
+        ensures entry { slice_get (shelf_entries (shelf_of self.old bucket)) place ≡ Some result }
+        ensures others { self.new ≡ slice_set self.old bucket (without_place (shelf_of self.old bucket) place) }
+    {
+        let count = self.count_past(bucket, place);
+        if place < count {
+            return self.columns.remove(bucket, place);
+        }
+        let list = &mut self.overflow[bucket];
+        list.remove(place - count)
+    }
+
+    /// Takes an entry out. The last entry of the places, or of the list past them, takes its place.
+    #[inline(always)]
+    pub fn swap_remove_at(&mut self, bucket: usize, place: usize) -> E
+        requires bucket { bucket < length self.old }
+        requires place { place < length (shelf_entries (shelf_of self.old bucket)) }
+        ensures entry { slice_get (shelf_entries (shelf_of self.old bucket)) place ≡ Some result }
+        ensures others { self.new ≡ slice_set self.old bucket (swapped_out (shelf_of self.old bucket) place result) }
+    {
+        let count = self.count_past(bucket, place);
+        if place < count {
+            return self.columns.swap_remove(bucket, place);
+        }
+        let list = &mut self.overflow[bucket];
+        list.swap_remove(place - count)
+    }
+}
+
+impl<E: Keyed> Array<E>
+where
+    E::Key: Eq,
+{
+    /// The place of the first entry of the bucket with that key. Only places with the tag are compared, in rising
+    /// order, and then the entries past them.
+    #[inline(always)]
+    pub fn search(&self, bucket: usize, key: &E::Key, tag: u8) -> Option<usize>
+        requires bucket { bucket < length self.now }
+        requires tag { 0 < tag }
+        requires tagged { HasTag (λ e. E.Key.eq key.now (E.key_of e)) tag (shelf_of self.now bucket) }
+        ensures { result ≡ position (λ e. E.Key.eq key.now (E.key_of e)) (shelf_entries (shelf_of self.now bucket)) }
+    {
+        match self.columns.find(bucket, key, tag) {
+            Some(place) => Some(place),
+            None => {
+                if !self.is_crowded(bucket) {
+                    return None;
+                }
+                self.search_list(bucket, key)
+            }
+        }
+    }
+
+    /// The same past the places, where none of them has the key.
+    fn search_list(&self, bucket: usize, key: &E::Key) -> Option<usize>
+        requires bucket { bucket < length self.now }
+        requires missed { position (λ e. E.Key.eq key.now (E.key_of e)) (shelf_of self.now bucket).slots ≡ None }
+        ensures { result ≡ position (λ e. E.Key.eq key.now (E.key_of e)) (shelf_entries (shelf_of self.now bucket)) }
+    {
+        if self.overflow.len() == 0 {
+            return None;
+        }
+        let count = self.columns.count(bucket);
+        match find_in(self.overflow[bucket].as_slice(), key) {
+            Some(i) => Some(count + i),
+            None => None,
+        }
+    }
+}
+
+/// The place of the first entry with that key.
+fn find_in<E: Keyed>(entries: &[E], key: &E::Key) -> Option<usize>
+where
+    E::Key: Eq,
+    ensures { result ≡ position (λ e. E.Key.eq key.now (E.key_of e)) entries.now }
+{
+    for (i, entry) in entries.iter().enumerate() {
+        if *key == *entry.key() {
+            return Some(i);
+        }
+    }
+    None
+}
+
+impl<E: Drop> Drop for Array<E> {
+    fn drop(self) {
+        let Array {
+            columns,
+            overflow,
+            crowded: _,
+            alloc: _,
+        } = self;
+        drop(columns);
+        drop(overflow);
+    }
+}

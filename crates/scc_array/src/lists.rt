@@ -1,6 +1,6 @@
 //! The lists of the entries past the places, one a bucket, which are made with the first such entry.
 ghost use Rattle.std.specs.Prelude.{◌≡◌, ◌<◌, ◌≤◌, ◌+◌, ◌/◌, ◌^◌, ◌⊎◌, ℕ, [], false, true, length, slice_index_or, IfOk, OnOk, OnErr};
-ghost use Rattle.scc_array.specs.Lists.{AreBare, AreSpent, Opens, Pushes, Reserves};
+ghost use Rattle.scc_array.specs.Lists.{AreBare, AreSpent, Opens, Pushes, ReservesList};
 
 use std::alloc::{AllocError, Global};
 use std::mem;
@@ -60,8 +60,10 @@ pub(crate) fn raise(
     requires count { (flags.old.items ≡ []) ⊎ (length flags.old.items ≡ count / 16 + 1) }
     ensures up { OnOk result (slice_index_or flags.new.items (bucket / 16) false ≡ true) }
     ensures count { OnOk result (length flags.new.items ≡ count / 16 + 1) }
-    ensures kept { OnOk result ((i : ℕ) → slice_index_or flags.new.items i false ≡ false → slice_index_or flags.old.items i false ≡ false) }
-    ensures only { OnOk result ((i : ℕ) → slice_index_or flags.new.items i false ≡ true → (i ≡ bucket / 16) ⊎ (slice_index_or flags.old.items i false ≡ true)) }
+    ensures kept { OnOk result ((i : ℕ) → slice_index_or flags.new.items i false ≡ false
+        → slice_index_or flags.old.items i false ≡ false) }
+    ensures only { OnOk result ((i : ℕ) → slice_index_or flags.new.items i false ≡ true
+        → (i ≡ bucket / 16) ⊎ (slice_index_or flags.old.items i false ≡ true)) }
     ensures err { OnErr result (flags.new.items ≡ flags.old.items) }
     ensures none { OnErr result (flags.old.items ≡ []) }
 {
@@ -72,7 +74,8 @@ pub(crate) fn raise(
     Ok(())
 }
 
-/// Puts the entry at the end of a list, and answers its place there after 32 others. It is handed back where memory is refused.
+/// Puts the entry at the end of a list, and answers its place there after 32 others. It is handed back where memory is
+/// refused.
 pub(crate) fn push_to<E>(lists: &mut Vec<Vec<E>>, bucket: usize, entry: E) -> Result<usize, E>
     requires { bucket < length lists.old.items }
     ensures { Pushes lists.old.items bucket entry result lists.new.items }
@@ -92,7 +95,7 @@ pub(crate) fn reserve_in<E>(
     additional: usize,
 ) -> Result<(), AllocError>
     requires { bucket < length lists.old.items }
-    ensures { Reserves lists.old.items bucket additional result lists.new.items }
+    ensures { ReservesList lists.old.items bucket additional result lists.new.items }
 {
     let list = &mut lists[bucket];
     match list.reserve(additional) {

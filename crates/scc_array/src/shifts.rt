@@ -5,7 +5,8 @@ ghost use Rattle.scc_slots.specs.Places.{IsFilled};
 
 use scc_slots::Slots;
 
-/// Moves the entries after the free place up by one, to the last one, and their tags in the row, where the last one is 0 then. The places of the row begin at `base`. One loop does both, since its end is as good as random.
+/// Moves the entries after the free place up by one, to the last one, and their tags in the row, where the last one is
+/// 0 then. The places of the row begin at `base`. One loop does both, since its end is as good as random.
 #[inline(always)]
 pub(crate) fn close_gap<E>(
     slots: &mut Slots<E>,

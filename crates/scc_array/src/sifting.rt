@@ -7,7 +7,8 @@ ghost use Rattle.scc_slots.specs.Places.{IsFilled};
 use crate::columns::Columns;
 use scc_slots::Slots;
 
-/// Moves an entry and its tag to an earlier place, which is free, or leaves it where it is. The places of the row begin at `base`.
+/// Moves an entry and its tag to an earlier place, which is free, or leaves it where it is. The places of the row begin
+/// at `base`.
 #[inline(always)]
 fn keep_at<E>(slots: &mut Slots<E>, row: &mut [u8; 32], base: usize, from: usize, to: usize)
     requires order { to ≤ from }
@@ -28,7 +29,9 @@ fn keep_at<E>(slots: &mut Slots<E>, row: &mut [u8; 32], base: usize, from: usize
     row[from] = 0;
 }
 
-/// Moves the entries of a row whose flag is up to the end of a bucket of the columns, where `first` stand, and the others to the row's first places, both in order. The places of the row begin at `base`, and so many are in use. Each entry is looked at once.
+/// Moves the entries of a row whose flag is up to the end of a bucket of the columns, where `first` stand, and the
+/// others to the row's first places, both in order. The places of the row begin at `base`, and so many are in use. Each
+/// entry is looked at once.
 #[inline(always)]
 pub(crate) fn sift<E>(
     slots: &mut Slots<E>,
@@ -46,11 +49,14 @@ pub(crate) fn sift<E>(
     requires small { base + 32 < 2 ^ 64 }
     requires within { base + 32 ≤ length slots.old }
     requires held { (w : Window E) × AreAt slots.old row.old base w × (held ≡ length w.slots) }
-    ensures stays { (w : Window E) → AreAt slots.old row.old base w → held ≡ length w.slots → AreAt slots.new row.new base (kept_of flags.now w) }
-    ensures moved { (w : Window E) → AreAt slots.old row.old base w → held ≡ length w.slots → into.new ≡ slice_set into.old target (window_with (window_of into.old target) (picked_of flags.now w)) }
+    ensures stays { (w : Window E) → AreAt slots.old row.old base w → held ≡ length w.slots
+        → AreAt slots.new row.new base (kept_of flags.now w) }
+    ensures moved { (w : Window E) → AreAt slots.old row.old base w → held ≡ length w.slots
+        → into.new ≡ slice_set into.old target (window_with (window_of into.old target) (picked_of flags.now w)) }
     ensures count { length slots.new ≡ length slots.old }
     ensures wide { length row.new ≡ length row.old }
-    ensures others { (q : ℕ) → (q < base) ⊎ (base + 32 ≤ q) → slice_index_or slots.new q None ≡ slice_index_or slots.old q None }
+    ensures others { (q : ℕ) → (q < base) ⊎ (base + 32 ≤ q)
+        → slice_index_or slots.new q None ≡ slice_index_or slots.old q None }
 {
     let mut stays = 0;
     let mut next = first;
@@ -68,7 +74,8 @@ pub(crate) fn sift<E>(
     }
 }
 
-/// Moves all entries of a row to the end of a bucket of the columns, where `first` stand, in order. The places of the row begin at `base`, and so many are in use.
+/// Moves all entries of a row to the end of a bucket of the columns, where `first` stand, in order. The places of the
+/// row begin at `base`, and so many are in use.
 #[inline(always)]
 pub(crate) fn pour<E>(
     slots: &mut Slots<E>,
@@ -85,11 +92,14 @@ pub(crate) fn pour<E>(
     requires small { base + 32 < 2 ^ 64 }
     requires within { base + 32 ≤ length slots.old }
     requires held { (w : Window E) × AreAt slots.old row.old base w × (held ≡ length w.slots) }
-    ensures stays { (w : Window E) → AreAt slots.old row.old base w → held ≡ length w.slots → AreAt slots.new row.new base (kept_of all_up w) }
-    ensures moved { (w : Window E) → AreAt slots.old row.old base w → held ≡ length w.slots → into.new ≡ slice_set into.old target (window_with (window_of into.old target) (picked_of all_up w)) }
+    ensures stays { (w : Window E) → AreAt slots.old row.old base w → held ≡ length w.slots
+        → AreAt slots.new row.new base (kept_of all_up w) }
+    ensures moved { (w : Window E) → AreAt slots.old row.old base w → held ≡ length w.slots
+        → into.new ≡ slice_set into.old target (window_with (window_of into.old target) (picked_of all_up w)) }
     ensures count { length slots.new ≡ length slots.old }
     ensures wide { length row.new ≡ length row.old }
-    ensures others { (q : ℕ) → (q < base) ⊎ (base + 32 ≤ q) → slice_index_or slots.new q None ≡ slice_index_or slots.old q None }
+    ensures others { (q : ℕ) → (q < base) ⊎ (base + 32 ≤ q)
+        → slice_index_or slots.new q None ≡ slice_index_or slots.old q None }
 {
     let mut next = first;
     for p in 0..held {

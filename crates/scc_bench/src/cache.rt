@@ -1,5 +1,6 @@
-//! The workloads of a cache of 65,536 pairs at most: steps that get a key or else put it, gets of keys that are there, and puts that evict.
-use scc_cache::hash_cache::Owned;
+//! The workloads of a cache of 65,536 pairs at most: steps that get a key or else put it, gets of keys that are there,
+//! and puts that evict.
+use scc_cache::Owned;
 use scc_measures::report::{check, line, nanos};
 use scc_measures::streams::{Streams, value};
 use std::alloc::{AllocError, Global};

@@ -1,4 +1,5 @@
-//! Measures the owned map beside the standard library's map, the owned set and index beside the owned map, and the owned cache, in the lines that the table of peers reads.
+//! Measures the owned map beside the standard library's map, the owned set and index beside the owned map, and the
+//! owned cache, in the lines that the table of peers reads.
 //!
 //! With no argument it prints its peers and their groups; `NAME GROUP RUNS ENTRIES SEED` measures one group.
 #![tactic(auto)]
@@ -12,9 +13,7 @@ mod tail;
 
 use peer::Peer;
 use request::{Group, PeerName, Request, bad_argument, parse_request};
-use scc_index::hash_index;
-use scc_map::hash_map::Owned;
-use scc_set::hash_set;
+use scc_map::Owned;
 use std::alloc::{AllocError, Global};
 use std::collections::HashMap;
 use std::rt::{Clock, Files};
@@ -81,8 +80,8 @@ fn measure_peer(rt: &HostRuntime, request: Request) -> io::Result<()> {
     match request.peer {
         PeerName::Owned => measure::<Owned<u64, u64>, _>(rt, alloc, request),
         PeerName::Kit => measure::<HashMap<u64, u64>, _>(rt, alloc, request),
-        PeerName::Set => measure::<hash_set::Owned<u64>, _>(rt, alloc, request),
-        PeerName::Index => measure::<hash_index::Owned<u64, u64>, _>(rt, alloc, request),
+        PeerName::Set => measure::<scc_set::Owned<u64>, _>(rt, alloc, request),
+        PeerName::Index => measure::<scc_index::Owned<u64, u64>, _>(rt, alloc, request),
         PeerName::Cache => measure_cache(rt, alloc, request),
     }
 }

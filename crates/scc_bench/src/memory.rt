@@ -48,7 +48,8 @@ pub fn measure<M: Peer, R: Files + Print + Alloc>(
     check(rt, "mem_live", peer, map.sum())
 }
 
-/// Fills a map to sixteen sizes, from just above the number of entries to twice as many, and answers the sum of the hundredths of bytes a pair.
+/// Fills a map to sixteen sizes, from just above the number of entries to twice as many, and answers the sum of the
+/// hundredths of bytes a pair.
 fn fill_curve<M: Peer, R: Files + Alloc>(
     rt: &R,
     map: &mut M,

@@ -213,7 +213,8 @@ fn print_shared_checks(rt: &impl Print, peer: &str, outcomes: &[Outcome]) -> io:
     Ok(())
 }
 
-/// Goes through the workloads on a container and on another beside it, in turn: once to warm up and then `runs` times. Prints a line for each.
+/// Goes through the workloads on a container and on another beside it, in turn: once to warm up and then `runs` times.
+/// Prints a line for each.
 pub fn measure_beside<M: Peer, N: Peer, R: Clock + Print>(
     rt: &R,
     alloc: Global,

@@ -1,8 +1,6 @@
 //! What the benchmark asks of a map, and the maps that it measures. A set and an index answer to the same.
-use scc_index::hash_index;
-use scc_map::hash_map::Owned;
+use scc_map::Owned;
 use scc_measures::streams::value as value_of;
-use scc_set::hash_set;
 use std::alloc::Global;
 use std::collections::HashMap;
 use std::io;
@@ -112,9 +110,9 @@ impl Peer for HashMap<u64, u64> {
 }
 
 /// A set stands for a map in which each key has the value of the streams; a write swaps the key.
-impl Peer for hash_set::Owned<u64> {
+impl Peer for scc_set::Owned<u64> {
     fn make(alloc: Global) -> Self {
-        hash_set::Owned::new(alloc)
+        scc_set::Owned::new(alloc)
     }
 
     #[inline(always)]
@@ -154,9 +152,9 @@ impl Peer for hash_set::Owned<u64> {
 }
 
 /// A look-up peeks, and a write publishes a new version.
-impl Peer for hash_index::Owned<u64, u64> {
+impl Peer for scc_index::Owned<u64, u64> {
     fn make(alloc: Global) -> Self {
-        hash_index::Owned::new(alloc)
+        scc_index::Owned::new(alloc)
     }
 
     #[inline(always)]

@@ -5,18 +5,18 @@ use Rattle.std.specs.List.{IsDistinct, flat_map, remove, slice_get, slice_set, s
 use Rattle.std.specs.Option.{option_map}
 use native.Mathlib.Decide.{dec_lt}
 use lib.Pow.{pow_mono, pow-add}
-use Rattle.scc_table.specs.Bounded.{HasList, IsUnlisted, PutsLast, IsListed, ShrinksBounded, stays_wide, denied_narrow, narrows}
-use Rattle.scc_table.specs.Contents.{Contents, entries, bucket_count, settings_of, refused_of, minimum_of, list_of, lists_of, waiting_of, held_of}
-use Rattle.scc_table.specs.Pairs.{IsUnique}
-use Rattle.scc_table.proofs.Bounds.{absent-rest, has-list-of, keeps-count}
-use Rattle.scc_table.proofs.Finding.{position_hit, position_cons}
-use Rattle.scc_table.proofs.Inserts.{by_answer}
-use Rattle.scc_table.specs.Places as spots
-use Rattle.scc_table.specs.declared.place.Place.{Place}
-use Rattle.scc_incremental.specs.Bounded.{IsListedAt, IsReadyBelow, GrowsBelow, makes, has_room, is_full, stays, denied, doubles}
-use Rattle.scc_incremental.specs.Places.{IsPlace, spot_of}
-use Rattle.scc_incremental.specs.TwoArrays.{waits_at}
-use Rattle.scc_incremental.proofs.OldSpots.{spot-own}
+use Rattle.scc_buckets.specs.Bounded.{HasList, IsUnlisted, PutsLast, IsListed, ShrinksBounded, stays_wide, denied_narrow, narrows}
+use Rattle.scc_contents.specs.Contents.{Contents, entries, bucket_count, settings_of, refused_of, minimum_of, list_of, lists_of, waiting_of, held_of}
+use Rattle.scc_contents.specs.Pairs.{IsUnique}
+use Rattle.scc_buckets.proofs.Bounds.{absent-rest, has-list-of, keeps-count}
+use Rattle.scc_buckets.proofs.FindingLemmas.{position_hit, position_cons}
+use Rattle.scc_buckets.proofs.Inserts.{by_answer}
+use Rattle.scc_buckets.specs.Places as spots
+use Rattle.scc_buckets.specs.declared.place.Place.{Place}
+use Rattle.scc_table.specs.Bounded.{IsListedAt, IsReadyBelow, GrowsBelow, makes, has_room, is_full, stays, denied, doubles}
+use Rattle.scc_table.specs.Places.{IsPlace, spot_of}
+use Rattle.scc_table.specs.TwoArrays.{waits_at}
+use Rattle.scc_table.proofs.OldSpots.{spot-own}
 use Rattle.scc_cache.specs.CacheSteps.{IsFound, IsLacking, IsPresent, TakesAt, TakesThen, number_in}
 use Rattle.scc_cache.specs.Caches.{Cached, IsCacheState}
 use Rattle.scc_cache.specs.ListSteps.{list_for, with_list, IsMissing, IsThere, PutsPair}
@@ -209,7 +209,7 @@ module _ {E S : Type 0} (c d : Contents E S) (i : ℕ) (es : List E) (e : E) (h 
   last-length = let z = length-append es (e ∷ []) in ap length (has-list-of c d i (es ++ e ∷ []) h l) ∙ (let y : length (es ++ e ∷ []) ≡ suc (length es) = omega arith in y)
 
   -- the entry that was put last stands at the last place
-  pub last-place : (n : ℕ) → suc n ≡ length (list_of d i) → spots.IsPlace d (record { bucket = i; slot = n }) × (slice_get (list_of d i) n ≡ Some e)
+  pub last-place : (n : ℕ) → suc n ≡ length (list_of d i) → spots.IsSpot d (record { bucket = i; slot = n }) × (slice_get (list_of d i) n ≡ Some e)
   last-place n s = (
     record { bucket = rw (list-count c d i (es ++ e ∷ []) h) l; slot = omega arith },
     rw (has-list-of c d i (es ++ e ∷ []) h l) (last-is es e n (s ∙ ap length (has-list-of c d i (es ++ e ∷ []) h l))),
@@ -219,14 +219,14 @@ pub put-length : {E S : Type 0} (c d : Contents E S) (i : ℕ) (e : E) (x : Opti
 put-length c d i e None h l = let z = last-length c d i _ e h.1 l in omega arith
 put-length c d i e (Some x) h l = let z = last-length c d i _ e h.1.2 l in omega arith
 
-pub put-place : {E S : Type 0} (c d : Contents E S) (i : ℕ) (e : E) (x : Option E) → PutsLast c i e x d → i < bucket_count c → (n : ℕ) → suc n ≡ length (list_of d i) → spots.IsPlace d (record { bucket = i; slot = n }) × (slice_get (list_of d i) n ≡ Some e)
+pub put-place : {E S : Type 0} (c d : Contents E S) (i : ℕ) (e : E) (x : Option E) → PutsLast c i e x d → i < bucket_count c → (n : ℕ) → suc n ≡ length (list_of d i) → spots.IsSpot d (record { bucket = i; slot = n }) × (slice_get (list_of d i) n ≡ Some e)
 put-place c d i e None h l = last-place c d i _ e h.1 l
 put-place c d i e (Some x) h l = last-place c d i _ e h.1.2 l
 
 -- a place in a list of a bucket that doesn't wait is its own spot
-pub at-spot : {E S : Type 0} (d : Contents E S) (p : Place) (e : E) → spots.IsPlace d p × (slice_get (list_of d p.bucket) p.slot ≡ Some e) → waits_at (waiting_of d) p.bucket ≡ false
+pub at-spot : {E S : Type 0} (d : Contents E S) (p : Place) (e : E) → spots.IsSpot d p × (slice_get (list_of d p.bucket) p.slot ≡ Some e) → waits_at (waiting_of d) p.bucket ≡ false
     → IsPlace d p × (slice_get (list_of d (spot_of d p).bucket) (spot_of d p).slot ≡ Some e)
-at-spot d p e h down = subst (λ (q : Place). spots.IsPlace d q × (slice_get (list_of d q.bucket) q.slot ≡ Some e)) (sym (spot-own (waiting_of d) (held_of d) (bucket_count d) p h.0.bucket down)) h
+at-spot d p e h down = subst (λ (q : Place). spots.IsSpot d q × (slice_get (list_of d q.bucket) q.slot ≡ Some e)) (sym (spot-own (waiting_of d) (held_of d) (bucket_count d) p h.0.bucket down)) h
 
 -- one list changed, seen in the lists
 pub lists-set : {E S : Type 0} (c d : Contents E S) (i : ℕ) (F : List E → List E) → HasList c i (F (list_of c i)) d → lists_of d ≡ slice_set (lists_of c) i (F (slice_index_or (lists_of c) i []))

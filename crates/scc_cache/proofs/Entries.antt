@@ -6,26 +6,26 @@ use Rattle.std.specs.declared.cmp.PartialEq as eq
 use Rattle.std.specs.declared.hash.Hash as hash
 use Rattle.std.specs.declared.hash.Hasher as hasher
 use Rattle.std.specs.declared.hash.BuildHasher as builder
-use Rattle.scc_table.specs.Contents.{Contents, bucket_count, settings_of, refused_of, list_of, lists_of, waiting_of, key_hash}
-use Rattle.scc_table.specs.Pairs.{with_pair_key, with_pair_value}
-use Rattle.scc_table.specs.Placed as spots
-use Rattle.scc_table.specs.Placed.{at-get}
-use Rattle.scc_table.specs.Writes as writes
-use Rattle.scc_incremental.specs.Placed.{entry_of, spot-with_write_at}
-use Rattle.scc_incremental.specs.Places.{IsPlace, spot_of}
+use Rattle.scc_contents.specs.Contents.{Contents, bucket_count, settings_of, refused_of, list_of, lists_of, waiting_of, key_hash}
+use Rattle.scc_contents.specs.Pairs.{with_pair_key, with_pair_value}
+use Rattle.scc_buckets.specs.Placed as spots
+use Rattle.scc_buckets.specs.Placed.{at-get}
+use Rattle.scc_buckets.specs.Writes as writes
+use Rattle.scc_table.specs.Placed.{entry_of, spot-with_write_at}
+use Rattle.scc_table.specs.Places.{IsPlace, spot_of}
 use Rattle.scc_common.specs.declared.guard.Guard as guard
-use Rattle.scc_table.specs.declared.place.Place.{Place}
-use Rattle.scc_table.specs.ShelfWrites.{length-write_at}
-use Rattle.scc_table.proofs.KeyWrites.{get-write_at}
-use Rattle.scc_incremental.proofs.AtPlaces.{place-prop}
+use Rattle.scc_buckets.specs.declared.place.Place.{Place}
+use Rattle.scc_array.specs.ShelfWrites.{length-write_at}
+use Rattle.scc_buckets.proofs.KeyWrites.{get-write_at}
+use Rattle.scc_table.proofs.AtPlaces.{place-prop}
 use Rattle.scc_cache.specs.CacheSteps.{Changes, IsFound, IsLastAt, PutsNew, number_in}
 use Rattle.scc_cache.specs.Caches.{Cached}
 use Rattle.scc_cache.specs.Entries.{occupied_pair, IsMoved, IsPut, IsRefreshed, IsReplacedBy, IsWritten, written_cache, still_within, with_value}
 use Rattle.scc_cache.specs.Lends.{with_key_at, with_value_at}
 use Rattle.scc_cache.specs.ListSteps.{Refreshes, RefreshesAs, Rewrites}
 use Rattle.scc_cache.specs.Relocations.{RelocatesOne, RelocatesTwo}
-use Rattle.scc_cache.specs.declared.hash_cache.held.HeldEntry.{HeldEntry}
-use Rattle.scc_cache.specs.declared.hash_cache.held.HeldVacant.{HeldVacant}
+use Rattle.scc_cache.specs.declared.held.HeldEntry.{HeldEntry}
+use Rattle.scc_cache.specs.declared.held.HeldVacant.{HeldVacant}
 use Rattle.scc_cache.proofs.Caching.{position-passes}
 use Rattle.scc_cache.proofs.Relocations.{waiting-keyed, waiting-written, written-one}
 use Rattle.scc_cache.proofs.Removing.{set-twice}
@@ -33,7 +33,7 @@ use Rattle.scc_cache.proofs.Writing.{write-set, written-list}
 
 module _ {E S : Type 0} (c : Contents E S) (p : Place) (h : IsPlace c p) where
   pub listed-entry : slice_get (list_of c (spot_of c p).bucket) (spot_of c p).slot ≡ Some (entry_of c p h)
-  unfolding spots.entry_of
+  unfolding spots.entry_of_spot
   listed-entry = at-get (list_of c (spot_of c p).bucket) (spot_of c p).slot h.slot
 
   pub entry-listed : (e : E) → slice_get (list_of c (spot_of c p).bucket) (spot_of c p).slot ≡ Some e → e ≡ entry_of c p h
@@ -42,7 +42,7 @@ module _ {E S : Type 0} (c : Contents E S) (p : Place) (h : IsPlace c p) where
 module _ {K V S : Type 0} (c : Cached (K × V) S) (p : Place) (h : IsPlace c.contents p) where
   -- a value written is one list changed
   pub changes-written : (v : V) → Changes (λ ls ms. ms ≡ slice_set ls (spot_of c.contents p).bucket (slice_set (slice_index_or ls (spot_of c.contents p).bucket []) (spot_of c.contents p).slot ((entry_of c.contents p h).0, v))) c (with_value_at c p v)
-  unfolding writes.with_write_at lists_of list_of settings_of refused_of
+  unfolding writes.with_write_at_spot lists_of list_of settings_of refused_of
   changes-written v = record {
     lists = ap (slice_set c.contents.lists (spot_of c.contents p).bucket) (write-set with_pair_value (slice_index_or c.contents.lists (spot_of c.contents p).bucket []) (spot_of c.contents p).slot v (entry_of c.contents p h) (listed-entry c.contents p h));
     settings = refl;
@@ -79,7 +79,7 @@ moved-last number same k p q r ls ms ns b s (i, there, e) at within last made =
 
 -- a key put in the place of its equal, which went to the end of its list
 pub moved-key : {K V S : Type 0} (hash : K → ℕ) (same : K → K → Bool) (c d : Cached (K × V) S) (k : K) (p : Place) (f : IsLastAt hash same c k d p) → Changes (RefreshesAs (number_in hash c.contents) same k f.pair (k, f.pair.1)) c (with_key_at d p k)
-unfolding writes.with_write_at lists_of list_of settings_of refused_of bucket_count
+unfolding writes.with_write_at_spot lists_of list_of settings_of refused_of bucket_count
 moved-key hash same c d k p f =
     let at = spot_of d.contents p in
     record {
@@ -91,7 +91,7 @@ moved-key hash same c d k p f =
 
 -- so is a value put in the place of the old one
 pub changes-value : {K V S : Type 0} (hash : K → ℕ) (same : K → K → Bool) (c : Cached (K × V) S) (k : K) (p : Place) (f : IsFound hash same c.contents k p) (v : V) → Changes (Rewrites (number_in hash c.contents) same k f.pair (f.pair.0, v)) c (with_value_at c p v)
-unfolding writes.with_write_at lists_of list_of settings_of refused_of bucket_count
+unfolding writes.with_write_at_spot lists_of list_of settings_of refused_of bucket_count
 changes-value hash same c k p f v = record {
   lists = ((spot_of c.contents p).slot, f.there, ap (slice_set c.contents.lists (spot_of c.contents p).bucket) (write-set with_pair_value (slice_index_or c.contents.lists (spot_of c.contents p).bucket []) (spot_of c.contents p).slot v f.pair f.here) ∙ ap (λ j. slice_set c.contents.lists j (slice_set (slice_index_or c.contents.lists j []) (spot_of c.contents p).slot (f.pair.0, v))) f.bucket);
   settings = refl;

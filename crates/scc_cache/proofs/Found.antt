@@ -1,6 +1,6 @@
 -- What a search in one list finds, as the first pair whose key equals it.
 use Rattle.std.proofs.Common.{◌≡◌, ◌∙◌, ℕ, Bool, List, None, Some, sym}
-use Rattle.scc_table.proofs.Lookups.{find-position, find-position_none}
+use Rattle.scc_buckets.proofs.Lookups.{find-position, find-position_none}
 use Rattle.scc_cache.specs.ListSteps.{list_for, pair_for, IsMissing, IsThere}
 
 module _ {K V : Type 0} (number : ℕ → K → ℕ) (eq : K → K → Bool) (ls : List (List (K × V))) (k : K) where

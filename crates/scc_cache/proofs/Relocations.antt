@@ -2,19 +2,19 @@
 use Rattle.std.proofs.Common.{◌≡◌, ◌≢◌, ◌==◌, ℕ, ◌+◌, ◌<◌, ◌≤◌, inl, inr, Bool, Option, None, Some, false, not, [], length, refl, sym, ap, ◌∙◌, subst, arith}
 use Rattle.std.specs.Prelude.{OnSome, MatchOption}
 use Rattle.std.specs.List.{count_by, filter, position}
-use Rattle.scc_table.specs.Bounded.{MayNarrow, ShrinksBounded, stays_wide, denied_narrow, narrows}
-use Rattle.scc_table.specs.Contents.{Contents, Settings, entries, bucket_count, lists_of, pending_of, refused_of, settings_of, waiting_of}
-use Rattle.scc_table.specs.Routing.{bucket_number}
-use Rattle.scc_table.specs.Sizes.{IsLawful}
-use Rattle.scc_table.specs.Writes as writes
-use Rattle.scc_table.specs.declared.place.Place.{Place}
-use Rattle.scc_table.proofs.Bounds.{keeps-count, keeps-entries}
-use Rattle.scc_incremental.specs.Relocates.{Spreads, left_after}
-use Rattle.scc_incremental.specs.TwoArrays.{pending_targets, waits_at}
-use Rattle.scc_incremental.proofs.Finishing.{pending-is}
-use Rattle.scc_incremental.proofs.Placing.{none-left}
-use Rattle.scc_incremental.proofs.Same.{count-same, pending-same}
-use Rattle.scc_incremental.proofs.Targets.{targets-length, targets-same, targets-without}
+use Rattle.scc_buckets.specs.Bounded.{MayNarrow, ShrinksBounded, stays_wide, denied_narrow, narrows}
+use Rattle.scc_contents.specs.Contents.{Contents, Settings, entries, bucket_count, lists_of, pending_of, refused_of, settings_of, waiting_of}
+use Rattle.scc_contents.specs.Routing.{bucket_number}
+use Rattle.scc_contents.specs.Sizes.{IsLawful}
+use Rattle.scc_buckets.specs.Writes as writes
+use Rattle.scc_buckets.specs.declared.place.Place.{Place}
+use Rattle.scc_buckets.proofs.Bounds.{keeps-count, keeps-entries}
+use Rattle.scc_table.specs.Relocates.{Spreads, left_after}
+use Rattle.scc_table.specs.TwoArrays.{pending_targets, waits_at}
+use Rattle.scc_table.proofs.Finishing.{pending-is}
+use Rattle.scc_table.proofs.Placing.{none-left}
+use Rattle.scc_table.proofs.Same.{count-same, pending-same}
+use Rattle.scc_table.proofs.Targets.{targets-length, targets-same, targets-without}
 use Rattle.scc_cache.specs.CacheSteps.{Changes, IsLacking, IsLastAt, number_in}
 use Rattle.scc_cache.specs.Caches.{Cached}
 use Rattle.scc_cache.specs.Lends.{with_key_at, with_value_at}
@@ -24,11 +24,11 @@ use Rattle.scc_cache.specs.Relocations.{RelocatesNone, RelocatesOne, RelocatesTw
 module _ {K V S : Type 0} (c : Cached (K × V) S) (p : Place) where
   -- a write leaves the same buckets waiting
   pub waiting-written : (v : V) → waiting_of (with_value_at c p v).contents ≡ waiting_of c.contents
-  unfolding writes.with_write_at waiting_of
+  unfolding writes.with_write_at_spot waiting_of
   waiting-written v = refl
 
   pub waiting-keyed : (k : K) → waiting_of (with_key_at c p k).contents ≡ waiting_of c.contents
-  unfolding writes.with_write_at waiting_of
+  unfolding writes.with_write_at_spot waiting_of
   waiting-keyed k = refl
 
 module _ {E S : Type 0} (hash : E → ℕ) where

@@ -1,14 +1,14 @@
 -- Removals of a pair that a closure wrote.
 use Rattle.std.proofs.Common.{◌≡◌, ℕ, zero, suc, Bool, List, [], ◌∷◌, Some, refl, sym, ap, subst, ◌∙◌}
 use Rattle.std.specs.List.{remove, slice_get, slice_set, slice_index_or}
-use Rattle.scc_table.specs.Contents.{Settings, bucket_count, list_of, lists_of, settings_of, refused_of}
-use Rattle.scc_table.specs.Pairs.{with_pair_value}
-use Rattle.scc_table.specs.ShelfWrites.{write_at}
-use Rattle.scc_table.specs.Writes.{with_write_at}
-use Rattle.scc_incremental.specs.Placed.{spot-with_write_at}
-use Rattle.scc_incremental.specs.Places.{spot_of}
-use Rattle.scc_table.specs.declared.place.Place.{Place}
-use Rattle.scc_table.proofs.KeyWrites.{get-write_at}
+use Rattle.scc_contents.specs.Contents.{Settings, bucket_count, list_of, lists_of, settings_of, refused_of}
+use Rattle.scc_contents.specs.Pairs.{with_pair_value}
+use Rattle.scc_array.specs.ShelfWrites.{write_at}
+use Rattle.scc_buckets.specs.Writes.{with_write_at_spot}
+use Rattle.scc_table.specs.Placed.{spot-with_write_at}
+use Rattle.scc_table.specs.Places.{spot_of}
+use Rattle.scc_buckets.specs.declared.place.Place.{Place}
+use Rattle.scc_buckets.proofs.KeyWrites.{get-write_at}
 use Rattle.scc_cache.specs.CacheSteps.{IsFound, TakesAt, TakesThen}
 use Rattle.scc_cache.specs.Caches.{Cached}
 use Rattle.scc_cache.specs.Lends.{with_value_at}
@@ -43,7 +43,7 @@ module _ {K V S : Type 0} {hash : K → ℕ} {eq : K → K → Bool} (c : Cached
 -- a removal of a pair that was written is one of the pair
 pub takes-written : {K V S : Type 0} (hash : Settings S → K → ℕ) (eq : K → K → Bool) (c : Cached (K × V) S) (k : K) (p : Place) (f : IsFound (hash (settings_of c.contents)) eq c.contents k p) (w : V) (d : Cached (K × V) S)
     → TakesAt (hash (settings_of (with_value_at c p w).contents)) (with_value_at c p w) p d → TakesThen (hash (settings_of c.contents)) eq c k f.pair d
-unfolding bucket_count lists_of list_of settings_of refused_of with_write_at
+unfolding bucket_count lists_of list_of settings_of refused_of with_write_at_spot
 takes-written hash eq c k p f w d (left, change, shrinks) =
     let ls = c.contents.lists in
     let r = spot_of c.contents p in

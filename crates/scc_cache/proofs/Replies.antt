@@ -7,18 +7,18 @@ use Rattle.std.specs.declared.cmp.PartialEq as eq
 use Rattle.std.specs.declared.hash.Hash as hash
 use Rattle.std.specs.declared.hash.Hasher as hasher
 use Rattle.std.specs.declared.hash.BuildHasher as builder
-use Rattle.scc_table.specs.Contents.{lists_of}
+use Rattle.scc_contents.specs.Contents.{lists_of}
 use Rattle.scc_common.specs.declared.errors.InsertError.{InsertError}
 use Rattle.scc_common.specs.declared.guard.Guard as guard
-use Rattle.scc_walks.specs.Closures.{AnswersAt}
+use Rattle.scc_contents.specs.Closures.{AnswersAt}
 use Rattle.scc_cache.specs.Caches.{Cached}
 use Rattle.scc_cache.specs.CacheSteps.{AnswersOn, IsAbsent, Puts, Removes, number_in}
 use Rattle.scc_cache.specs.CacheWalks.{RemovesIf}
 use Rattle.scc_cache.specs.CacheWalks as walks
 use Rattle.scc_cache.specs.Entries.{Exists, Memory, Occupied, Vacant, entry_key, occupied_pair, IsEntryOf, IsRefreshed}
 use Rattle.scc_cache.specs.ListSteps.{IsThere}
-use Rattle.scc_cache.specs.declared.hash_cache.held.HeldEntry.{HeldEntry}
-use Rattle.scc_cache.specs.declared.hash_cache.held.HeldPlace.{HeldPlace}
+use Rattle.scc_cache.specs.declared.held.HeldEntry.{HeldEntry}
+use Rattle.scc_cache.specs.declared.held.HeldPlace.{HeldPlace}
 use Rattle.scc_cache.proofs.Caching.{position-passes}
 
 -- the key of the pair of k equals k

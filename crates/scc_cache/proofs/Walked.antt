@@ -4,19 +4,19 @@ use Rattle.std.specs.List.{filter, flat_map, slice_get, slice_index_or}
 use Rattle.std.proofs.lemmas.List.{append-nil}
 use Rattle.std.proofs.lemmas.List.Elements.{filter-append}
 use Rattle.std.proofs.lemmas.List.Sorted.{IsPermutation-refl}
-use Rattle.scc_table.specs.Bounded.{IsListed}
-use Rattle.scc_table.specs.Contents.{Contents, Settings, entries, bucket_count, list_of, refused_of, settings_of, waiting_of}
-use Rattle.scc_table.specs.Pour.{bound_for}
-use Rattle.scc_table.specs.Routing.{bucket_number}
-use Rattle.scc_table.specs.Steps.{HoldsExactly}
+use Rattle.scc_buckets.specs.Bounded.{IsListed}
+use Rattle.scc_contents.specs.Contents.{Contents, Settings, entries, bucket_count, list_of, refused_of, settings_of, waiting_of}
+use Rattle.scc_buckets.specs.Pour.{bound_for}
+use Rattle.scc_contents.specs.Routing.{bucket_number}
+use Rattle.scc_contents.specs.Steps.{HoldsExactly}
 use Rattle.scc_cache.specs.CacheWalks.{GoesOver, LeavesPairs, ShrinksIfTaken}
 use Rattle.scc_cache.specs.CacheSteps.{ShrinksTo}
 use Rattle.scc_cache.specs.Caches.{Cached}
 use Rattle.scc_cache.specs.Lends.{with_value_at}
-use Rattle.scc_table.specs.Writes.{with_write_at}
-use Rattle.scc_incremental.specs.Places.{IsPlace, index_of, spot_of}
-use Rattle.scc_table.specs.declared.place.Place.{Place}
-use Rattle.scc_walks.proofs.Visits.{Visited, visited}
+use Rattle.scc_buckets.specs.Writes.{with_write_at_spot}
+use Rattle.scc_table.specs.Places.{IsPlace, index_of, spot_of}
+use Rattle.scc_buckets.specs.declared.place.Place.{Place}
+use Rattle.scc_table.proofs.Visits.{Visited, visited}
 
 not_equal : (a b : ℕ) → a ≢ b → (a == b) ≡ false
 not_equal a b h = search rules
@@ -93,7 +93,7 @@ pub record Stepped {K V S : Type 0} (c : Cached (K × V) S) (p : Place) (q : K �
   pub waiting : waiting_of d.contents ≡ waiting_of c.contents
 
 pub visits : {K V S : Type 0} (c : Cached (K × V) S) (p : Place) (q : K × V) (w : V) (d : Cached (K × V) S) → IsPlace c.contents p → slice_get (entries c.contents) (index_of c.contents p) ≡ Some q → d ≡ with_value_at c p w → Stepped c p q w d
-unfolding refused_of waiting_of with_write_at
+unfolding refused_of waiting_of with_write_at_spot
 visits c p q w d within got new = record {
   now = visited c.contents (spot_of c.contents p) q w d.contents within got (ap (λ x. x.contents) new);
   refused = ap (λ x. x.contents.refused) new;

@@ -5,11 +5,11 @@ use Rattle.std.specs.List.Sorted.{IsPermutation}
 use Rattle.std.proofs.lemmas.List.Edits.{length-remove}
 use Rattle.std.proofs.lemmas.List.Sorted.{length_permutation}
 use Rattle.std.proofs.lemmas.List.{nil_from_length}
-use Rattle.scc_table.specs.Contents.{Contents, entries, bucket_count, lists_of}
-use Rattle.scc_incremental.specs.Places.{IsPlace, index_of, spot_of}
-use Rattle.scc_table.specs.Steps.{HoldsExactly}
-use Rattle.scc_table.proofs.Standing.{index-below}
-use Rattle.scc_table.specs.declared.place.Place.{Place}
+use Rattle.scc_contents.specs.Contents.{Contents, entries, bucket_count, lists_of}
+use Rattle.scc_table.specs.Places.{IsPlace, index_of, spot_of}
+use Rattle.scc_contents.specs.Steps.{HoldsExactly}
+use Rattle.scc_buckets.proofs.Standing.{index-below}
+use Rattle.scc_buckets.specs.declared.place.Place.{Place}
 
 -- lists that hold nothing together are empty
 empty-lists : {X : Type 0} (ls ms : List (List X)) → flat_map (λ l. l) ms ≡ [] → length ms ≡ length ls → ms ≡ map (λ _. []) ls

@@ -3,16 +3,16 @@ use Rattle.std.proofs.Common.{◌≡◌, ◌≢◌, ℕ, zero, suc, ◌⊎◌, i
 use Rattle.std.specs.List.{IsDistinct, flat_map, slice_get}
 use Rattle.std.proofs.lemmas.List.{map-append}
 use native.Mathlib.Decide.{dec_lt}
-use Rattle.scc_table.specs.Bounded.{IsListed}
-use Rattle.scc_table.specs.Contents.{Contents, Settings, entries, bucket_count, settings_of, spilled_of, list_of}
-use Rattle.scc_table.specs.Pairs.{IsUnique, with_pair_key, with_pair_value}
-use Rattle.scc_table.specs.Places.{IsPlace, index_of}
-use Rattle.scc_table.specs.ShelfWrites.{write_at, length-write_at}
-use Rattle.scc_table.specs.Writes.{with_write_at}
-use Rattle.scc_table.specs.declared.place.Place.{Place}
-use Rattle.scc_incremental.specs.Places as places
-use Rattle.scc_incremental.specs.Places.{spot_of}
-use Rattle.scc_table.proofs.Spots.{place-get}
+use Rattle.scc_buckets.specs.Bounded.{IsListed}
+use Rattle.scc_contents.specs.Contents.{Contents, Settings, entries, bucket_count, settings_of, spilled_of, list_of}
+use Rattle.scc_contents.specs.Pairs.{IsUnique, with_pair_key, with_pair_value}
+use Rattle.scc_buckets.specs.Places.{IsSpot, index_of_spot}
+use Rattle.scc_array.specs.ShelfWrites.{write_at, length-write_at}
+use Rattle.scc_buckets.specs.Writes.{with_write_at_spot}
+use Rattle.scc_buckets.specs.declared.place.Place.{Place}
+use Rattle.scc_table.specs.Places as places
+use Rattle.scc_table.specs.Places.{spot_of}
+use Rattle.scc_buckets.proofs.Spots.{place-get}
 use Rattle.scc_cache.specs.Caches.{Cached, IsCacheState}
 use Rattle.scc_cache.specs.Lends.{with_value_at, with_key_at}
 use Rattle.scc_cache.proofs.Caching.{there}
@@ -58,46 +58,46 @@ keys-lists put key h (l ∷ ls) zero i w = map-append key (write_at put l i w) (
 keys-lists put key h (l ∷ ls) (suc b) i w =
     map-append key l (flat_map (λ l. l) (set ls b (write_at put (get_or ls b []) i w))) ∙ ap (λ z. map key l ++ z) (keys-lists put key h ls b i w) ∙ sym (map-append key l (flat_map (λ l. l) ls))
 
-module _ {E S X : Type 0} (put : E → X → E) (c : Contents E S) (p : Place) (within : IsPlace c p) (w : X) where
-  pub get-listed : (e : E) → slice_get (entries c) (index_of c p) ≡ Some e → slice_get (list_of c p.bucket) p.slot ≡ Some e
+module _ {E S X : Type 0} (put : E → X → E) (c : Contents E S) (p : Place) (within : IsSpot c p) (w : X) where
+  pub get-listed : (e : E) → slice_get (entries c) (index_of_spot c p) ≡ Some e → slice_get (list_of c p.bucket) p.slot ≡ Some e
   get-listed e got =
       let t = there (list_of c p.bucket) p.slot within.slot in
       let s : Some t.0 ≡ Some e = sym (place-get c p within t.0 t.1) ∙ got in
       t.1 ∙ s
 
-  pub written-list : list_of (with_write_at put c p w) p.bucket ≡ write_at put (list_of c p.bucket) p.slot w
-  unfolding list_of with_write_at bucket_count
+  pub written-list : list_of (with_write_at_spot put c p w) p.bucket ≡ write_at put (list_of c p.bucket) p.slot w
+  unfolding list_of with_write_at_spot bucket_count
   written-list = get_or-set_same c.lists p.bucket (write_at put (get_or c.lists p.bucket []) p.slot w) [] within.bucket
 
-  pub other-list : (i : ℕ) → i ≢ p.bucket → list_of (with_write_at put c p w) i ≡ list_of c i
-  unfolding list_of with_write_at
+  pub other-list : (i : ℕ) → i ≢ p.bucket → list_of (with_write_at_spot put c p w) i ≡ list_of c i
+  unfolding list_of with_write_at_spot
   other-list i ne = get_or-set_other c.lists p.bucket i (write_at put (get_or c.lists p.bucket []) p.slot w) [] ne
 
-  pub written-count : bucket_count (with_write_at put c p w) ≡ bucket_count c
-  unfolding bucket_count with_write_at
+  pub written-count : bucket_count (with_write_at_spot put c p w) ≡ bucket_count c
+  unfolding bucket_count with_write_at_spot
   written-count = length-set c.lists p.bucket (write_at put (list_of c p.bucket) p.slot w)
 
-  pub written-settings : settings_of (with_write_at put c p w) ≡ settings_of c
-  unfolding settings_of with_write_at
+  pub written-settings : settings_of (with_write_at_spot put c p w) ≡ settings_of c
+  unfolding settings_of with_write_at_spot
   written-settings = refl
 
-  pub written-spilled : spilled_of (with_write_at put c p w) ≡ spilled_of c
-  unfolding spilled_of with_write_at
+  pub written-spilled : spilled_of (with_write_at_spot put c p w) ≡ spilled_of c
+  unfolding spilled_of with_write_at_spot
   written-spilled = refl
 
-  pub listed-written : (hash : E → ℕ) → ((e : E) → slice_get (list_of c p.bucket) p.slot ≡ Some e → hash (put e w) ≡ hash e) → IsListed hash c → IsListed hash (with_write_at put c p w)
+  pub listed-written : (hash : E → ℕ) → ((e : E) → slice_get (list_of c p.bucket) p.slot ≡ Some e → hash (put e w) ≡ hash e) → IsListed hash c → IsListed hash (with_write_at_spot put c p w)
   listed-written hash same h = record {
     lawful = rw written-count h.lawful;
     bounded = written-spilled ∙ h.bounded;
     short = λ i. by_same i p.bucket
         (λ e.
-        let n : length (list_of (with_write_at put c p w) i) ≡ length (list_of c p.bucket) = ap (λ j. length (list_of (with_write_at put c p w) j)) e ∙ ap length written-list ∙ length-write_at put (list_of c p.bucket) p.slot w in
+        let n : length (list_of (with_write_at_spot put c p w) i) ≡ length (list_of c p.bucket) = ap (λ j. length (list_of (with_write_at_spot put c p w) j)) e ∙ ap length written-list ∙ length-write_at put (list_of c p.bucket) p.slot w in
         let s = h.short p.bucket in
         omega arith)
         (λ ne. rw (other-list i ne) (h.short i));
     routed = λ i j e got. by_same i p.bucket
         (λ s.
-        let here : slice_get (write_at put (list_of c p.bucket) p.slot w) j ≡ Some e = ap (λ l. slice_get l j) (sym written-list) ∙ ap (λ k. slice_get (list_of (with_write_at put c p w) k) j) (sym s) ∙ got in
+        let here : slice_get (write_at put (list_of c p.bucket) p.slot w) j ≡ Some e = ap (λ l. slice_get l j) (sym written-list) ∙ ap (λ k. slice_get (list_of (with_write_at_spot put c p w) k) j) (sym s) ∙ got in
         let o = written-from put (list_of c p.bucket) p.slot j w e here in
         let before = h.routed p.bucket j o.0 o.1 in
         let alike : hash e ≡ hash o.0 = elim o.2 [ inl q ↦ ap hash q | inr q ↦ ap hash q.0 ∙ same o.0 (ap (slice_get (list_of c p.bucket)) (sym q.1) ∙ o.1) ] in
@@ -105,9 +105,9 @@ module _ {E S X : Type 0} (put : E → X → E) (c : Contents E S) (p : Place) (
         (λ ne. rw (written-settings, written-count) (h.routed i j e (ap (λ l. slice_get l j) (sym (other-list i ne)) ∙ got)));
   }
 
-module _ {K V S : Type 0} (eq : K → K → Bool) (hash : K → ℕ) (c : Cached (K × V) S) (p : Place) (within : places.IsPlace c.contents p) (h : IsCacheState eq hash c) where
-  value-unique : (v : V) → IsUnique eq (with_write_at with_pair_value c.contents (spot_of c.contents p) v)
-  unfolding entries with_write_at list_of
+module _ {K V S : Type 0} (eq : K → K → Bool) (hash : K → ℕ) (c : Cached (K × V) S) (p : Place) (within : places.IsSpot c.contents p) (h : IsCacheState eq hash c) where
+  value-unique : (v : V) → IsUnique eq (with_write_at_spot with_pair_value c.contents (spot_of c.contents p) v)
+  unfolding entries with_write_at_spot list_of
   value-unique v = subst (λ ks. IsDistinct eq ks) (sym (keys-lists with_pair_value (λ (q : K × V). q.0) (λ e w. refl) c.contents.lists (spot_of c.contents p).bucket (spot_of c.contents p).slot v)) h.unique
 
   -- a cache with a value written is one
@@ -123,7 +123,7 @@ module _ {K V S : Type 0} (eq : K → K → Bool) (hash : K → ℕ) (c : Cached
   }
 
   -- so is one with a key in the place of its equal
-  pub key-state : (k : K) → ((q : K × V) → slice_get (list_of c.contents (spot_of c.contents p).bucket) (spot_of c.contents p).slot ≡ Some q → hash k ≡ hash q.0) → IsUnique eq (with_write_at with_pair_key c.contents (spot_of c.contents p) k) → IsCacheState eq hash (with_key_at c p k)
+  pub key-state : (k : K) → ((q : K × V) → slice_get (list_of c.contents (spot_of c.contents p).bucket) (spot_of c.contents p).slot ≡ Some q → hash k ≡ hash q.0) → IsUnique eq (with_write_at_spot with_pair_key c.contents (spot_of c.contents p) k) → IsCacheState eq hash (with_key_at c p k)
   key-state k same unique = record {
     lists = listed-written with_pair_key c.contents (spot_of c.contents p) within k (λ q. hash q.0) same h.lists;
     unique = unique;
@@ -135,11 +135,11 @@ module _ {K V S : Type 0} (eq : K → K → Bool) (hash : K → ℕ) (c : Cached
   }
 
 -- the same, where the hash is that of the cache's own hasher
-module _ {K V S : Type 0} (eq : K → K → Bool) (hash : Settings S → K → ℕ) (c : Cached (K × V) S) (p : Place) (within : places.IsPlace c.contents p) (h : IsCacheState eq (hash (settings_of c.contents)) c) where
+module _ {K V S : Type 0} (eq : K → K → Bool) (hash : Settings S → K → ℕ) (c : Cached (K × V) S) (p : Place) (within : places.IsSpot c.contents p) (h : IsCacheState eq (hash (settings_of c.contents)) c) where
   pub value-state-by : (v : V) → IsCacheState eq (hash (settings_of (with_value_at c p v).contents)) (with_value_at c p v)
   value-state-by v = rw (written-settings with_pair_value c.contents (spot_of c.contents p) within v) (value-state eq (hash (settings_of c.contents)) c p within h v)
 
-  pub key-state-by : (k : K) (d : Contents (K × V) S) → d ≡ with_write_at with_pair_key c.contents (spot_of c.contents p) k → ((q : K × V) → slice_get (list_of c.contents (spot_of c.contents p).bucket) (spot_of c.contents p).slot ≡ Some q → hash (settings_of c.contents) k ≡ hash (settings_of c.contents) q.0) → IsUnique eq d
+  pub key-state-by : (k : K) (d : Contents (K × V) S) → d ≡ with_write_at_spot with_pair_key c.contents (spot_of c.contents p) k → ((q : K × V) → slice_get (list_of c.contents (spot_of c.contents p).bucket) (spot_of c.contents p).slot ≡ Some q → hash (settings_of c.contents) k ≡ hash (settings_of c.contents) q.0) → IsUnique eq d
       → IsCacheState eq (hash (settings_of d)) (record { contents = d; maximum = c.maximum })
   key-state-by k d e same unique =
       let u = subst (λ z. IsUnique eq z) e unique in

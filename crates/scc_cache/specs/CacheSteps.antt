@@ -3,12 +3,12 @@ use Rattle.std.specs.Prelude.{◌≡◌, ◌≢◌, ℕ, ◌+◌, ◌<◌, ◌�
 use Rattle.std.specs.List.{position, slice_index_or, slice_set}
 use Rattle.std.specs.Borrow.{Bor}
 use Rattle.std.specs.Fn.{Once}
-use Rattle.scc_table.specs.Bounded.{IsListed, ShrinksBounded}
-use Rattle.scc_table.specs.Contents.{Contents, entries, bucket_count, list_of, lists_of, pending_of, refused_of, settings_of, waiting_of}
-use Rattle.scc_table.specs.Routing.{bucket_number}
-use Rattle.scc_table.specs.declared.place.Place.{Place}
-use Rattle.scc_incremental.specs.Bounded.{GrowsBelow, IsReadyBelow}
-use Rattle.scc_incremental.specs.Places.{IsPlace, spot_of}
+use Rattle.scc_buckets.specs.Bounded.{IsListed, ShrinksBounded}
+use Rattle.scc_contents.specs.Contents.{Contents, entries, bucket_count, list_of, lists_of, pending_of, refused_of, settings_of, waiting_of}
+use Rattle.scc_contents.specs.Routing.{bucket_number}
+use Rattle.scc_buckets.specs.declared.place.Place.{Place}
+use Rattle.scc_table.specs.Bounded.{GrowsBelow, IsReadyBelow}
+use Rattle.scc_table.specs.Places.{IsPlace, spot_of}
 use Rattle.scc_common.specs.declared.errors.InsertError.{InsertError}
 use Rattle.scc_common.specs.declared.errors.InsertError.TheVariants.{Exists, Memory}
 use Rattle.scc_cache.specs.Caches.{Cached}
@@ -50,9 +50,11 @@ module _ {E S : Type 0} where
   ClearsBy hash c d = (left : Cached E S) × Changes (λ ls ms. ms ≡ map (λ _. []) ls) c left × ShrinksTo hash left d
 
 module _ {K V S : Type 0} (hash : K → ℕ) where
+  -- each bucket keeps no pair, by the hash of the pairs' keys
   abbrev pub Clears : Cached (K × V) S → Cached (K × V) S → Type 0
   Clears = ClearsBy (λ p. hash p.0)
 
+  -- the pair at the place is taken, by the hash of the pairs' keys
   abbrev pub TakesAt : Cached (K × V) S → Place → Cached (K × V) S → Type 0
   TakesAt = TakesAtBy (λ p. hash p.0)
 

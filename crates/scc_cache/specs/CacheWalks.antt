@@ -3,8 +3,8 @@ use Rattle.std.specs.Prelude.{◌≡◌, ℕ, ◌<◌, Bool, true, false, List, 
 use Rattle.std.specs.Borrow.{MutBor}
 use Rattle.std.specs.Fn.{Once, FnOnceReturnsAtMut}
 use Rattle.std.specs.List.Sorted.{IsPermutation}
-use Rattle.scc_table.specs.Contents.{Contents, entries, bucket_count, list_of, refused_of, settings_of}
-use Rattle.scc_table.specs.Pour.{bound_for}
+use Rattle.scc_contents.specs.Contents.{Contents, entries, bucket_count, list_of, refused_of, settings_of}
+use Rattle.scc_buckets.specs.Pour.{bound_for}
 use Rattle.scc_cache.specs.CacheSteps.{Changes, IsAbsent, ShrinksTo, TakesThen, number_in}
 use Rattle.scc_cache.specs.Caches.{Cached}
 use Rattle.scc_cache.specs.ListSteps.{Rewrites}
@@ -30,6 +30,7 @@ module _ {K V S : Type 0} (hash : K → ℕ) where
 
   -- a removal of the pair of k where f answers true on its value; what f left goes with the pair, and stays where it answers false
   module _ (eq : K → K → Bool) {F : Type 0} (g : Once F (MutBor V × Unit {0}) (Bool × (MutBor V × Unit {0}))) (f : F) (c : Cached (K × V) S) (k : K) where
+    -- a missing key changes nothing; a pair on which the closure answered false stays with what that wrote; one on which it answered true goes and is the answer
     pub data RemovesIf (r : Option (K × V)) (d : Cached (K × V) S) : Type 0 where
       missing : IsAbsent hash eq c.contents k → r ≡ None → d ≡ c → RemovesIf r d
       declined : (p : K × V) (w : V) → FnOnceReturnsAtMut g f p.1 false w → r ≡ None → Changes (Rewrites (number_in hash c.contents) eq k p (p.0, w)) c d → RemovesIf r d

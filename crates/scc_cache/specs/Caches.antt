@@ -2,15 +2,16 @@
 use Rattle.std.specs.Prelude.{ℕ, Bool, ◌*◌, ◌^◌, ◌≤◌, refl}
 use Rattle.std.specs.Coded.{Coded, code_by, coded×, coded_ℕ}
 use Rattle.std.specs.Int.{IsPowerOfTwo}
-use Rattle.scc_table.specs.Bounded.{IsListed}
-use Rattle.scc_table.specs.Contents.{Contents, contents_code, bucket_count, minimum_of}
-use Rattle.scc_table.specs.Pairs.{IsUnique}
+use Rattle.scc_buckets.specs.Bounded.{IsListed}
+use Rattle.scc_contents.specs.Contents.{Contents, contents_code, bucket_count, minimum_of}
+use Rattle.scc_contents.specs.Pairs.{IsUnique}
 
 -- the lists of the buckets with the settings, and the most slots that the cache may have
 pub record Cached (E S : Type 0) : Type 0 where
   pub contents : Contents E S
   pub maximum : ℕ
 
+-- a cache as the logic holds it
 abbrev pub cached_code : {E S : Type 0} → Coded E → Coded S → Coded (Cached E S)
 cached_code {E} {S} e s = code_by (Contents E S × ℕ) (coded× (contents_code e s) coded_ℕ) (λ c. (c.contents, c.maximum)) (λ p. record { contents = p.0; maximum = p.1 }) (λ _. refl)
 

@@ -1,5 +1,5 @@
 -- What the contracts of an entry cite. An entry holds its cache by a guard: a `&mut` in the owned form.
-pub use Rattle.scc_cache.specs.declared.hash_cache.held.HeldPlace.TheVariants.{Occupied, Vacant}
+pub use Rattle.scc_cache.specs.declared.held.HeldPlace.TheVariants.{Occupied, Vacant}
 pub use Rattle.scc_common.specs.declared.errors.InsertError.TheVariants.{Exists, Memory}
 use Rattle.std.specs.Prelude.{◌≡◌, ◌+◌, Bool, [], length, Option, None, Result, ⊤}
 use Rattle.std.specs.Borrow.{Fml, RattleType, MutBor, Lends, RestsIfErr, RestsIfNone}
@@ -11,10 +11,10 @@ use Rattle.std.specs.declared.hash.Hash as hash
 use Rattle.std.specs.declared.hash.Hasher as hasher
 use Rattle.std.specs.declared.hash.BuildHasher as builder
 use Rattle.std.proofs.Common.{sym, subst}
-use Rattle.scc_table.specs.Contents.{bucket_count, key_hash, list_of, waiting_of}
-use Rattle.scc_table.specs.Pairs.{with_pair_value}
-use Rattle.scc_incremental.specs.Placed.{entry_of, IsPlace-with_write_at}
-use Rattle.scc_incremental.specs.Places.{IsPlace, spot_of}
+use Rattle.scc_contents.specs.Contents.{bucket_count, key_hash, list_of, waiting_of}
+use Rattle.scc_contents.specs.Pairs.{with_pair_value}
+use Rattle.scc_table.specs.Placed.{entry_of, IsPlace-with_write_at}
+use Rattle.scc_table.specs.Places.{IsPlace, spot_of}
 use Rattle.scc_common.specs.declared.errors.InsertError.{InsertError}
 use Rattle.scc_common.specs.declared.guard.Guard as guard
 use Rattle.scc_cache.specs.CacheSteps.{Changes, IsAbsent, PutsNew, number_in}
@@ -22,12 +22,12 @@ use Rattle.scc_cache.specs.Caches.{Cached}
 use Rattle.scc_cache.specs.Lends.{cache_row, with_value_at}
 use Rattle.scc_cache.specs.ListSteps.{RefreshesAs}
 use Rattle.scc_cache.specs.Relocations.{RelocatesOne, RelocatesTwo}
-use Rattle.scc_cache.specs.contracts.hash_cache.held.HeldEntry.{the_row}
-use Rattle.scc_cache.specs.declared.hash_cache.held.HeldEntry.{HeldEntry}
-use Rattle.scc_cache.specs.declared.hash_cache.held.HeldPlace.{HeldPlace}
-use Rattle.scc_cache.specs.declared.hash_cache.held.HeldReplace.{HeldReplace}
-use Rattle.scc_cache.specs.declared.hash_cache.held.HeldReplace.TheVariants.{Replaced, NotReplaced}
-use Rattle.scc_cache.specs.declared.hash_cache.held.HeldVacant.{HeldVacant}
+use Rattle.scc_cache.specs.contracts.held.HeldEntry.{the_row}
+use Rattle.scc_cache.specs.declared.held.HeldEntry.{HeldEntry}
+use Rattle.scc_cache.specs.declared.held.HeldPlace.{HeldPlace}
+use Rattle.scc_cache.specs.declared.held.HeldReplace.{HeldReplace}
+use Rattle.scc_cache.specs.declared.held.HeldReplace.TheVariants.{Replaced, NotReplaced}
+use Rattle.scc_cache.specs.declared.held.HeldVacant.{HeldVacant}
 
 module _ {G N K V S T : Type 0} {d : guard.Ghosts G (Cached (K × V) S)} {g : eq.Ghosts K} {h : hash.Ghosts K} {b : builder.Ghosts S T} {w : hasher.Ghosts T} where
   -- the cache that the entry holds
@@ -60,6 +60,7 @@ module _ {G N K V S T : Type 0} {d : guard.Ghosts G (Cached (K × V) S)} {g : eq
     pub absent : IsAbsent (key_hash b w h.hash_input c.contents) same c.contents k
     pub key : e.key ≡ k
 
+  -- the entry is that of the key: refreshed where the cache has it, and vacant where not
   abbrev pub IsEntryOf : (K → K → Bool) → Cached (K × V) S → K → HeldPlace G N K V S T d g h b w → Type 0
   IsEntryOf same c k (Occupied o) = IsRefreshed same c k o
   IsEntryOf same c k (Vacant e) = IsVacantAt same c k e
@@ -81,9 +82,11 @@ module _ {G N K V S T : Type 0} {d : guard.Ghosts G (Cached (K × V) S)} {g : eq
     pub relocates : RelocatesTwo (key_hash b w h.hash_input (d.kept e.guard).contents e.key) (d.kept e.guard).contents (d.kept o.guard).contents
     pub pair : occupied_pair o ≡ (e.key, v)
 
+  -- the cache with the value of the entry's pair replaced by v
   abbrev pub written_cache : HeldEntry G N K V S T d g h b w → V → Cached (K × V) S
   written_cache o v = with_value_at (d.kept o.guard) o.place v
 
+  -- an entry's place is still one after a write at it
   pub still_within : (o : HeldEntry G N K V S T d g h b w) (v : V) → IsPlace (d.kept (d.keeping o.guard (written_cache o v))).contents o.place
   still_within o v =
       let P : Cached (K × V) S → Type 0 = λ c. IsPlace c.contents o.place in
@@ -104,6 +107,7 @@ module _ {G N K V S T : Type 0} {d : guard.Ghosts G (Cached (K × V) S)} {g : eq
   entry_key (Occupied o) = (occupied_pair o).0
   entry_key (Vacant e) = e.key
 
+  -- the cache lacks the entry's key
   abbrev pub IsVacant : HeldPlace G N K V S T d g h b w → Type 0
   IsVacant (Occupied o) = ⊥
   IsVacant (Vacant e) = ⊤
@@ -128,6 +132,7 @@ module _ {G N K V S T : Type 0} {d : guard.Ghosts G (Cached (K × V) S)} {g : eq
   RefusesSome (Occupied o) P r = ⊥
   RefusesSome (Vacant e) P r = (bucket_count (d.kept e.guard).contents ≡ 0) × ((v : V) × P e.key v × (r ≡ Memory (e.key, v)))
 
+  -- memory was refused for the first array, and key and value come back
   abbrev pub Refuses : HeldPlace G N K V S T d g h b w → V → InsertError K V → Type 0
   Refuses (Occupied o) v r = ⊥
   Refuses (Vacant e) v r = (bucket_count (d.kept e.guard).contents ≡ 0) × (r ≡ Memory (e.key, v))
@@ -175,6 +180,7 @@ module _ (K V S T : RattleType) (key : HashMembers K.Denot) (build : builder.Gho
       → MutBor (Cached (K.Denot × V.Denot) S.Denot) → Result (A × Borrowed N d g h b w) E → Fml
   rests_if_refused m r = RestsIfErr (cache_row K V S T key build feed) m (λ o. o.1.guard.ghost_name) r (λ n. n ≡ m.now)
 
+  -- where there is no entry, the cache that was lent stays as it is
   abbrev pub rests_if_none : {N : Type 0} {d : guard.Ghosts (MutBor (Cached (K.Denot × V.Denot) S.Denot)) (Cached (K.Denot × V.Denot) S.Denot)} {g : eq.Ghosts K.Denot} {h : hash.Ghosts K.Denot} {b : builder.Ghosts S.Denot T.Denot} {w : hasher.Ghosts T.Denot}
       → MutBor (Cached (K.Denot × V.Denot) S.Denot) → Option (Borrowed N d g h b w) → Fml
   rests_if_none m r = RestsIfNone (cache_row K V S T key build feed) m (λ o. o.guard.ghost_name) r (λ n. n ≡ m.now)

@@ -3,11 +3,11 @@ use Rattle.std.specs.Borrow.{Fml, RattleType, MutBor, Lends}
 use Rattle.std.specs.HashMap.Lent.{HashMembers}
 use Rattle.std.specs.declared.hash.Hasher as hasher
 use Rattle.std.specs.declared.hash.BuildHasher as builder
-use Rattle.scc_table.specs.Pairs.{with_pair_key, with_pair_value}
-use Rattle.scc_table.specs.declared.place.Place.{Place}
-use Rattle.scc_incremental.specs.Places.{with_write_at}
+use Rattle.scc_contents.specs.Pairs.{with_pair_key, with_pair_value}
+use Rattle.scc_buckets.specs.declared.place.Place.{Place}
+use Rattle.scc_table.specs.Places.{with_write_at}
 use Rattle.scc_cache.specs.Caches.{Cached}
-use Rattle.scc_cache.specs.contracts.hash_cache.owned.Owned.{the_row}
+use Rattle.scc_cache.specs.contracts.owned.Owned.{the_row}
 
 module _ {K V S : Type 0} where
   -- the cache, with v as the value at the place

@@ -1,11 +1,3 @@
-pub use Rattle.scc_table.specs.Bounded
-pub use Rattle.scc_table.specs.Contents
-pub use Rattle.scc_table.specs.Pairs
-pub use Rattle.scc_table.specs.Pour
-pub use Rattle.scc_table.specs.Sizes
-pub use Rattle.scc_walks.specs.Copies
-pub use Rattle.scc_walks.specs.Equality
-pub use Rattle.scc_walks.specs.PairWalks
 pub mod CacheSteps
 pub mod CacheWalks
 pub mod Caches

@@ -1,7 +1,7 @@
 -- What the calls of a cache do to its lists, each from the least to the most recent pair. `number n k` is the number of the list of k, of n lists.
 use Rattle.std.specs.Prelude.{◌≡◌, ℕ, ◌<◌, ◌≤◌, Bool, List, [], ◌∷◌, ◌++◌, length, Option, None, Some, slice_get, remove}
 use Rattle.std.specs.List.{position, slice_index_or, slice_set}
-use Rattle.scc_table.specs.Pairs.{find}
+use Rattle.scc_contents.specs.Pairs.{find}
 
 module _ {K V : Type 0} (number : ℕ → K → ℕ) where
   -- the list that k belongs to; the empty one where there is none

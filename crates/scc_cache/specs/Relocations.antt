@@ -1,11 +1,11 @@
 -- What the calls of a cache do to the buckets that wait for their pairs to come from an old array.
 use Rattle.std.specs.Prelude.{◌≡◌, ◌≢◌, ◌==◌, ℕ, ◌+◌, ◌<◌, ◌≤◌, false, not}
 use Rattle.std.specs.List.{filter}
-use Rattle.scc_table.specs.Bounded.{MayNarrow}
-use Rattle.scc_table.specs.Contents.{Contents, bucket_count, pending_of, settings_of, waiting_of}
-use Rattle.scc_table.specs.Routing.{bucket_number}
-use Rattle.scc_incremental.specs.Relocates.{left_after}
-use Rattle.scc_incremental.specs.TwoArrays.{pending_targets, waits_at}
+use Rattle.scc_buckets.specs.Bounded.{MayNarrow}
+use Rattle.scc_contents.specs.Contents.{Contents, bucket_count, pending_of, settings_of, waiting_of}
+use Rattle.scc_contents.specs.Routing.{bucket_number}
+use Rattle.scc_table.specs.Relocates.{left_after}
+use Rattle.scc_table.specs.TwoArrays.{pending_targets, waits_at}
 
 module _ {E S : Type 0} where
   -- a new key of that hash is in, and its bucket doesn't wait. Of the same array that one and then the first ones wait no more, two in all or as many as waited; of a larger one all but two wait, of a first one none

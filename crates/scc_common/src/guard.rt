@@ -5,7 +5,8 @@ ghost use Rattle.std.specs.Sync.RwLock.{write_guard_value, write_guard_with_valu
 
 use std::sync::RwLockWriteGuard;
 
-/// What holds a value for writing: a `&mut`, or the guard of a lock. An entry is generic in it, so that one held through a borrow and one held under a lock share code.
+/// What holds a value for writing: a `&mut`, or the guard of a lock. An entry is generic in it, so that one held
+/// through a borrow and one held under a lock share code.
 pub trait Guard {
     /// The value that is held.
     type Kept;

@@ -1,14 +1,13 @@
-//! What all containers share: errors, verdicts, what holds a container for writing, hashers and versions with several owners.
+//! What all containers share: errors, verdicts, what holds a container for writing, hashers and versions with several
+//! owners.
 #![tactic(auto)]
 
 pub mod errors;
 pub mod guard;
 pub mod shared;
 pub mod verdict;
-pub mod version;
 
 pub use errors::{InsertError, KeyError, MakeError, WalkError};
 pub use guard::Guard;
-pub use shared::{Share, Shared};
+pub use shared::{Shared, TryShare};
 pub use verdict::Verdict;
-pub use version::{SharedVersion, Version};

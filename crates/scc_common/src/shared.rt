@@ -7,7 +7,8 @@ use std::hash::BuildHasher;
 use std::marker::Model;
 use std::sync::Arc;
 
-/// One of several owners of a hasher. Containers that are made with owners of one hasher hash alike, and no clone of the hasher is asked for. A contract sees the hasher itself.
+/// One of several owners of a hasher. Containers that are made with owners of one hasher hash alike, and no clone of
+/// the hasher is asked for. A contract sees the hasher itself.
 #[derive(Drop)]
 pub struct Shared<H> {
     owner: Arc<H>,
@@ -33,13 +34,13 @@ impl<H> Shared<H> {
 }
 
 /// What can be handed out once more, the same.
-pub trait Share: Sized {
+pub trait TryShare: Sized {
     /// The same once more.
     fn share(&self) -> Result<Self, AllocError>
         ensures { IfOk result (λ s. s ≡ self.now) };
 }
 
-impl<H> Share for Shared<H> {
+impl<H> TryShare for Shared<H> {
     /// One more owner of the same hasher. It is refused where there are 2^63 - 1 of them.
     fn share(&self) -> Result<Shared<H>, AllocError> {
         Ok(Shared {

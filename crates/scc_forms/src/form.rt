@@ -1,7 +1,7 @@
 //! What a driver of a test asks of a container, and what it is answered.
 
 use scc::{InsertError, KeyError, Verdict};
-use scc_fixtures::maybe_equal::MaybeEqual;
+use scc_test_kit::maybe_equal::MaybeEqual;
 use std::alloc::Global;
 
 /// A key or a value that tests know by numbers.
@@ -202,7 +202,8 @@ pub trait Form<K, V> {
     /// Inserts or puts the pair where no equal key is there.
     fn insert(&mut self, key: K, value: V) -> Answer;
 
-    /// Sets the value of a key: an upsert of a map, an update of an index where the key is there, and a put through a cache's entry.
+    /// Sets the value of a key: an upsert of a map, an update of an index where the key is there, and a put through a
+    /// cache's entry.
     fn upsert(&mut self, _key: K, _value: V) -> Answer
     where
         K: Drop,
@@ -231,7 +232,8 @@ pub trait Form<K, V> {
     /// Takes the key out.
     fn remove(&mut self, key: &K) -> Answer;
 
-    /// Adds 1 to the value, and takes the pair out if that is even. An index writes nothing, and a set asks only whether the key's number is even.
+    /// Adds 1 to the value, and takes the pair out if that is even. An index writes nothing, and a set asks only
+    /// whether the key's number is even.
     fn remove_if(&mut self, key: &K) -> Answer;
 
     /// The pair of the key, and `Absent` where the look-up for the key alone says otherwise.

@@ -3,10 +3,10 @@ use Rattle.std.proofs.Common.{◌≡◌, ℕ, zero, suc, ◌+◌, ◌<◌, ◌�
 use Rattle.std.specs.Prelude.{slice_get, slice_set, slice_index}
 use Rattle.std.specs.List.{AllPairs}
 use Rattle.std.proofs.lemmas.List.{length-map}
-use Rattle.scc_recorded.specs.declared.recorded.steps.Step.{Step}
-use Rattle.scc_recorded.specs.declared.recorded.steps.Step.TheVariants.{Call, Resize}
+use Rattle.scc_calls.specs.declared.steps.Step.{Step}
+use Rattle.scc_calls.specs.declared.steps.Step.TheVariants.{Call, Resize}
 use Rattle.scc_history.specs.Stamps.{Rises}
-use Rattle.scc_history.specs.Orders.{MergeFrom, IsMerge, AllStand, Comes, StampsComeAt, StampsRise, order_number, number_in, step_at}
+use Rattle.scc_history.specs.Orders.{MergeFrom, IsMergeOrder, AllStand, Comes, StampsComeAt, StampsRise, order_number, number_in, step_at}
 use Rattle.scc_history.proofs.Numbers.{call_number}
 
 module _ {X : Type 0} (hs : List (List X)) where
@@ -22,7 +22,7 @@ module _ {X : Type 0} (hs : List (List X)) where
       ((omega (arith, index_bound (map length hs) place.0 place.1 m.1, n), m.1), stands_from (slice_set done place.0 (place.1 + 1)) places m.2)
 
   -- at each place of a merge a step stands
-  pub stands : (places : List (ℕ × ℕ)) → IsMerge hs places → AllStand hs places
+  pub stands : (places : List (ℕ × ℕ)) → IsMergeOrder hs places → AllStand hs places
   stands places m = stands_from (map (λ _. 0) hs) places m
 
 module _ {A R : Type 0} (hs : List (List (Step A R))) (rising : (i : ℕ) (h : List (Step A R)) → slice_get hs i ≡ Some h → (last : ℕ) × Rises 0 h last × (last ≤ 18446744073709551615)) where

@@ -3,11 +3,11 @@ use Rattle.std.proofs.Common.{◌≡◌, ℕ, ◌+◌, ◌<◌, ◌≤◌, List,
 use Rattle.std.specs.Prelude.{nat_lt, ◌==◌, if◌then◌else◌, MatchBool}
 use Rattle.std.proofs.lemmas.Bool.Decides.{nat_tests}
 use Rattle.std.proofs.Math.Logic.{∥∥₁_map}
-use Rattle.scc_recorded.specs.declared.recorded.steps.Step.{Step}
-use Rattle.scc_recorded.specs.declared.recorded.steps.Step.TheVariants.{Call, Resize}
-use Rattle.scc_history.specs.declared.history.receipts.Receipt.{Receipt}
-use Rattle.scc_recorded.specs.Changes.{Changes, Stays}
-use Rattle.scc_recorded.specs.Histories.{Replay}
+use Rattle.scc_calls.specs.declared.steps.Step.{Step}
+use Rattle.scc_calls.specs.declared.steps.Step.TheVariants.{Call, Resize}
+use Rattle.scc_history.specs.declared.receipts.Receipt.{Receipt}
+use Rattle.scc_calls.specs.Changes.{Changes, Stays}
+use Rattle.scc_calls.specs.Histories.{Replay}
 use Rattle.scc_history.specs.Stamps.{Rises, RisesTo, recorded, resized, receipt, calls_in}
 
 module _ (S A R : Type 0) (moves : S → A → R → S → Type 0) (resizes : S → ℕ → S → Type 0) (size : S → ℕ) where

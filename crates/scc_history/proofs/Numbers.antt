@@ -1,8 +1,8 @@
 -- A call stands in the stamp order by the stamp that it was given.
 use Rattle.std.proofs.Common.{◌≡◌, ℕ, zero, suc, ◌≤◌, List, [], ◌∷◌, drop, Some, arith}
 use Rattle.std.specs.Prelude.{slice_get}
-use Rattle.scc_recorded.specs.declared.recorded.steps.Step.{Step}
-use Rattle.scc_recorded.specs.declared.recorded.steps.Step.TheVariants.{Call, Resize}
+use Rattle.scc_calls.specs.declared.steps.Step.{Step}
+use Rattle.scc_calls.specs.declared.steps.Step.TheVariants.{Call, Resize}
 use Rattle.scc_history.specs.Stamps.{Rises}
 use Rattle.scc_history.specs.Orders.{least}
 

@@ -6,7 +6,7 @@ use Rattle.std.proofs.lemmas.Bool.{cases_lt, cases_eq}
 use Rattle.std.proofs.lemmas.List.{append-nil, get_or-set_same, get_or-set_other, length-map, get_or_append_left, get_or_push, length-append}
 use Rattle.std.proofs.lemmas.Grind.{same_number_lists}
 use Rattle.std.proofs.lemmas.List.Quantifiers.{all_pairs_push}
-use Rattle.scc_recorded.specs.declared.recorded.steps.Step.{Step}
+use Rattle.scc_calls.specs.declared.steps.Step.{Step}
 use Rattle.scc_history.specs.Orders.{MergeFrom, IsStampOrder, stamp_of, least, number_in, order_number, Comes}
 
 pub get_at : (xs : List ℕ) (i : ℕ) → i < length xs → slice_get xs i ≡ Some (slice_index xs i)

@@ -2,8 +2,8 @@
 use Rattle.std.proofs.Common.{◌≡◌, ℕ, zero, suc, ◌+◌, ◌<◌, List, [], ◌∷◌, length, map, drop, Some, refl, ap, ◌∙◌, arith, add-one}
 use Rattle.std.specs.Prelude.{slice_get, slice_set, slice_index}
 use Rattle.std.specs.List.{AllByRecursion}
-use Rattle.scc_recorded.specs.Histories.{Merge}
-use Rattle.scc_history.specs.Orders.{MergeFrom, IsMerge, steps_at}
+use Rattle.scc_calls.specs.Histories.{Merge}
+use Rattle.scc_history.specs.Orders.{MergeFrom, IsMergeOrder, steps_at}
 
 module _ (X : Type 0) where
   abbrev rests : List (List X) → List ℕ → List (List X)
@@ -55,5 +55,5 @@ module _ (X : Type 0) where
       let set = rests_set hs done place.0 h.0 place.1 (place.1 + 1) h.1 m.0 in
       rw (h.1, x.1) (drop (place.1 + 1) h.0, get ∙ ap Some x.2, rw set next)
 
-  pub merge_of : (hs : List (List X)) (places : List (ℕ × ℕ)) → IsMerge hs places → Merge hs (steps_at hs places)
+  pub merge_of : (hs : List (List X)) (places : List (ℕ × ℕ)) → IsMergeOrder hs places → Merge hs (steps_at hs places)
   merge_of hs places m = rw (rests_start hs) at (merge_from hs (map (λ _. 0) hs) places m)

@@ -2,7 +2,7 @@
 use Rattle.std.proofs.Common.{◌≡◌, ◌≢◌, ℕ, ◌<◌, ◌≤◌, Bool, true, false, refl, sym, ap, ◌∙◌, subst, arith, inl, inr, ◌⊎◌}
 use Rattle.std.specs.Prelude.{◌==◌, MatchBool}
 use Rattle.std.proofs.lemmas.Bool.Decides.{nat_tests}
-use Rattle.scc_recorded.specs.Changes.{Changes, Stays}
+use Rattle.scc_calls.specs.Changes.{Changes, Stays}
 
 module _ {S : Type 0} (size : S → ℕ) (resizes : S → ℕ → S → Type 0) where
   split : (old new : S) (b : Bool) → (size old == size new) ≡ b → MatchBool b (new ≡ old) (resizes old (size new) new)

@@ -10,7 +10,7 @@ use Rattle.std.proofs.lemmas.List.{get_or-set_other}
 use Rattle.std.proofs.lemmas.List.Elements.{All-cons, All-head, All-tail, All-nil}
 use Rattle.std.proofs.lemmas.List.Sums.{sum_by-cons}
 use Rattle.std.proofs.lemmas.List.Sorted.{All-permutation, sum_by_pushed, sum_by_popped}
-use Rattle.scc_recorded.specs.declared.recorded.steps.Step.{Step}
+use Rattle.scc_calls.specs.declared.steps.Step.{Step}
 use Rattle.scc_history.specs.Orders.{order_number, Comes, least}
 use Rattle.scc_history.proofs.Ordering.{length_at, number_at}
 use Rattle.scc_history.specs.Waiting as words

@@ -1,8 +1,8 @@
 -- What a caller gets of one call.
 use Rattle.std.specs.Prelude.{◌≡◌, ℕ, Bool, List, [], ◌∷◌, ◌++◌}
-use Rattle.scc_history.specs.declared.history.receipts.Receipt.{Receipt}
+use Rattle.scc_history.specs.declared.receipts.Receipt.{Receipt}
 use Rattle.scc_history.specs.Stamps.{receipt}
-use Rattle.scc_recorded.specs.Copies.{AreCopies}
+use Rattle.scc_calls.specs.Copies.{AreCopies}
 
 -- a receipt of that stripe and stamp was added, with copies of the call and of the reply
 abbrev pub AddsReceipt : {A R : Type 0} → (A → A → Type 0) → (R → R → Bool) → ℕ → ℕ → A → R → List (Receipt A R) → List (Receipt A R) → Type 0

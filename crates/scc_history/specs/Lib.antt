@@ -1,5 +1,5 @@
-pub mod Stamps
+pub mod Kept
 pub mod Orders
 pub mod Receipts
+pub mod Stamps
 pub mod Waiting
-pub mod Kept

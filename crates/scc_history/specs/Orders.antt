@@ -1,8 +1,8 @@
 -- Merges of histories, as lists of places, and the one in stamp order.
 use Rattle.std.specs.Prelude.{◌≡◌, ℕ, ◌+◌, ◌<◌, ◌≤◌, List, [], ◌∷◌, length, map, min, Option, Some, None, slice_get, slice_set, slice_index, ◌⊎◌, drop}
 use Rattle.std.specs.List.{AllByRecursion, AllPairs, filter_map}
-use Rattle.scc_recorded.specs.declared.recorded.steps.Step.{Step}
-use Rattle.scc_recorded.specs.declared.recorded.steps.Step.TheVariants.{Call, Resize}
+use Rattle.scc_calls.specs.declared.steps.Step.{Step}
+use Rattle.scc_calls.specs.declared.steps.Step.TheVariants.{Call, Resize}
 
 -- where so many steps of each list are done, each place is the next one of its list, and at the end no step is left
 abbrev pub MergeFrom : List ℕ → List ℕ → List (ℕ × ℕ) → Type 0
@@ -10,9 +10,10 @@ MergeFrom lengths done [] = done ≡ lengths
 MergeFrom lengths done (place ∷ places) = (slice_get done place.0 ≡ Some place.1) × (place.1 < slice_index lengths place.0) × MergeFrom lengths (slice_set done place.0 (place.1 + 1)) places
 
 -- all places (stripe, index) of the lists, each list's in its order
-abbrev pub IsMerge : {X : Type 0} → List (List X) → List (ℕ × ℕ) → Type 0
-IsMerge histories places = MergeFrom (map length histories) (map (λ _. 0) histories) places
+abbrev pub IsMergeOrder : {X : Type 0} → List (List X) → List (ℕ × ℕ) → Type 0
+IsMergeOrder histories places = MergeFrom (map length histories) (map (λ _. 0) histories) places
 
+-- item j of a list that may not be there, with the number i of the list
 abbrev pub at_list : {X : Type 0} → Option (List X) → ℕ → ℕ → Option (ℕ × X)
 at_list None i j = None
 at_list (Some xs) i j = at_item (slice_get xs j) i
@@ -25,6 +26,7 @@ at_list (Some xs) i j = at_item (slice_get xs j) i
 abbrev pub steps_at : {X : Type 0} → List (List X) → List (ℕ × ℕ) → List (ℕ × X)
 steps_at histories places = filter_map (λ (p : ℕ × ℕ). at_list (slice_get histories p.0) p.0 p.1) places
 
+-- the stamp of a step
 abbrev pub stamp_of : {A R : Type 0} → Step A R → ℕ
 stamp_of (Call stamp pass call reply) = stamp
 stamp_of (Resize stamp buckets) = stamp
@@ -34,6 +36,7 @@ abbrev pub least : {A R : Type 0} → List (Step A R) → ℕ
 least [] = 18446744073709551615
 least (step ∷ steps) = min (stamp_of step) (least steps)
 
+-- the least stamp of a history from step j on; 0 where there is no history
 abbrev pub number_in : {A R : Type 0} → Option (List (Step A R)) → ℕ → ℕ
 number_in None j = 0
 number_in (Some history) j = least (drop j history)
@@ -48,7 +51,7 @@ Comes histories p q = (order_number histories p < order_number histories q) ⊎ 
 
 -- a merge along which no place comes after a later one
 abbrev pub IsStampOrder : {A R : Type 0} → List (List (Step A R)) → List (ℕ × ℕ) → Type 0
-IsStampOrder histories places = IsMerge histories places × AllPairs (Comes histories) places
+IsStampOrder histories places = IsMergeOrder histories places × AllPairs (Comes histories) places
 
 -- a stamp order, and any other is the same
 abbrev pub IsOnlyStampOrder : {A R : Type 0} → List (List (Step A R)) → List (ℕ × ℕ) → Type 0

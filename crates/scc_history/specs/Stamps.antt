@@ -1,9 +1,9 @@
 -- How stamps rise, and what one call adds to a history.
 use Rattle.std.specs.Prelude.{ℕ, ◌+◌, ◌<◌, ◌≤◌, List, [], ◌∷◌, nat_lt, if◌then◌else◌, ◌==◌}
 use Rattle.std.specs.Coded.{×_prop, le_prop}
-use Rattle.scc_recorded.specs.declared.recorded.steps.Step.{Step}
-use Rattle.scc_recorded.specs.declared.recorded.steps.Step.TheVariants.{Call, Resize}
-use Rattle.scc_history.specs.declared.history.receipts.Receipt.{Receipt}
+use Rattle.scc_calls.specs.declared.steps.Step.{Step}
+use Rattle.scc_calls.specs.declared.steps.Step.TheVariants.{Call, Resize}
+use Rattle.scc_history.specs.declared.receipts.Receipt.{Receipt}
 
 -- From low on, each call has a greater stamp than the call before it, the last call has the stamp last, and a resize has at least the stamp of the call before it
 abbrev pub Rises : {A R : Type 0} → ℕ → List (Step A R) → ℕ → Type 0
@@ -11,6 +11,7 @@ Rises low [] last = (low ≤ last) × (last ≤ low)
 Rises low (Call stamp pass call reply ∷ steps) last = (low < stamp) × Rises stamp steps last
 Rises low (Resize stamp buckets ∷ steps) last = (low ≤ stamp) × Rises low steps last
 
+-- that stamps rise holds in one way
 pub Rises-prop : {A R : Type 0} (low : ℕ) (steps : List (Step A R)) (last : ℕ) → IsProp (Rises low steps last)
 Rises-prop low [] last = ×_prop le_prop le_prop
 Rises-prop low (Call stamp pass call reply ∷ steps) last = ×_prop le_prop (Rises-prop stamp steps last)
@@ -21,6 +22,7 @@ abbrev pub RisesTo : {A R : Type 0} → ℕ → List (Receipt A R) → ℕ → T
 RisesTo low [] clock = low ≤ clock
 RisesTo low (receipt ∷ receipts) clock = (low < receipt.stamp) × RisesTo receipt.stamp receipts clock
 
+-- that receipts rise to a clock holds in one way
 pub RisesTo-prop : {A R : Type 0} (low : ℕ) (receipts : List (Receipt A R)) (clock : ℕ) → IsProp (RisesTo low receipts clock)
 RisesTo-prop low [] clock = le_prop
 RisesTo-prop low (receipt ∷ receipts) clock = ×_prop le_prop (RisesTo-prop receipt.stamp receipts clock)
@@ -36,6 +38,7 @@ recorded before after stamp pass call reply =
 abbrev pub resized : {A R : Type 0} → ℕ → ℕ → ℕ → List (Step A R)
 resized before after stamp = if before == after then [] else Resize stamp after ∷ []
 
+-- a receipt of its four parts
 abbrev pub receipt : {A R : Type 0} → ℕ → ℕ → A → R → Receipt A R
 receipt stripe stamp call reply = record { stripe = stripe; stamp = stamp; call = call; reply = reply }
 

@@ -2,7 +2,7 @@
 use Rattle.std.specs.Prelude.{◌≡◌, ℕ, ◌<◌, List, length, map, slice_index, nat_lt, if◌then◌else◌, ◌==◌, All, ◌∷◌, MatchBool, drop}
 use Rattle.std.specs.List.{sum_by}
 use Rattle.std.specs.List.Sorted.{IsPermutation}
-use Rattle.scc_recorded.specs.declared.recorded.steps.Step.{Step}
+use Rattle.scc_calls.specs.declared.steps.Step.{Step}
 use Rattle.scc_history.specs.Orders.{least, order_number}
 
 module _ {X A R : Type 0} (key : X → ℕ × ℕ) (hs : List (List (Step A R))) where

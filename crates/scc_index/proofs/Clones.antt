@@ -6,11 +6,11 @@ use Rattle.std.specs.Option.{MatchOption, IsSomeAnd}
 use Rattle.std.proofs.lemmas.Bool.{false≢true}
 use Rattle.std.proofs.lemmas.List.Elements.{length_all_zip}
 use Rattle.std.proofs.lemmas.List.Sorted.{IsPermutation-sym, length_permutation}
-use Rattle.scc_table.specs.Clones.{HasClones}
-use Rattle.scc_table.specs.Contents.{Contents, entries}
-use Rattle.scc_table.specs.Pairs.{find, IsUnique}
+use Rattle.scc_contents.specs.Clones.{HasClones}
+use Rattle.scc_contents.specs.Contents.{Contents, entries}
+use Rattle.scc_contents.specs.Pairs.{find, IsUnique}
 use Rattle.scc_index.specs.Collections.{FindsClones}
-use Rattle.scc_table.proofs.Lookups.{find-IsPermutation, distinct-IsPermutation}
+use Rattle.scc_buckets.proofs.Lookups.{find-IsPermutation, distinct-IsPermutation}
 
 -- as many clones as entries
 pub as-many-clones : {E S : Type 0} (C : E → E → Type 0) (B : S → S → Type 0) (c d : Contents E S) → HasClones C B c d → length (entries d) ≡ length (entries c)

@@ -4,15 +4,15 @@ use Rattle.std.specs.Cmp.{IsEquivalence}
 use Rattle.std.specs.List.{IsDistinct}
 use Rattle.std.specs.Map.{keys_of}
 use Rattle.std.specs.Option.{option_or, IsSome}
-use Rattle.scc_table.specs.Contents.{Contents, entries, settings_of}
-use Rattle.scc_table.specs.Pairs.{find, IsUnique}
+use Rattle.scc_contents.specs.Contents.{Contents, entries, settings_of}
+use Rattle.scc_contents.specs.Pairs.{find, IsUnique}
 use Rattle.scc_common.specs.declared.errors.InsertError.{InsertError}
 use Rattle.scc_common.specs.declared.errors.InsertError.TheVariants.{Exists, Memory}
 use Rattle.scc_index.specs.Collections.{FindsFirst, InsertsAll, IsAnswered}
 use Rattle.scc_index.specs.IndexSteps.{Inserts}
 use Rattle.scc_index.proofs.AfterSteps.{finds-inserted, finds-unchanged, find-equal}
-use Rattle.scc_table.proofs.Lookups.{distinct-IsPermutation}
-use Rattle.scc_table.proofs.PairSplits.{by_answer, cond-true, cond-false, distinct-added}
+use Rattle.scc_buckets.proofs.Lookups.{distinct-IsPermutation}
+use Rattle.scc_buckets.proofs.PairSplits.{by_answer, cond-true, cond-false, distinct-added}
 
 or-none : {X : Type 0} (o : Option X) → option_or o None ≡ o
 or-none None = refl

@@ -8,19 +8,19 @@ use Rattle.std.specs.declared.cmp.PartialEq as eq
 use Rattle.std.specs.declared.hash.Hash as hash
 use Rattle.std.specs.declared.hash.Hasher as hasher
 use Rattle.std.specs.declared.hash.BuildHasher as builder
-use Rattle.scc_table.specs.Contents.{Contents, entries, waiting_of}
-use Rattle.scc_table.specs.ShelfWrites.{put_whole}
-use Rattle.scc_table.specs.Placed as spots
-use Rattle.scc_incremental.specs.Placed.{front_of, back_of, IsPlace-with_write_at}
-use Rattle.scc_incremental.specs.Places.{IsPlace, IsFoundAt, IsInsertedAt, index_of, with_write_at}
+use Rattle.scc_contents.specs.Contents.{Contents, entries, waiting_of}
+use Rattle.scc_array.specs.ShelfWrites.{put_whole}
+use Rattle.scc_buckets.specs.Placed as spots
+use Rattle.scc_table.specs.Placed.{front_of, back_of, IsPlace-with_write_at}
+use Rattle.scc_table.specs.Places.{IsPlace, IsFoundAt, IsInsertedAt, index_of, with_write_at}
 use Rattle.scc_common.specs.declared.guard.Guard as guard
-use Rattle.scc_table.proofs.PairSplits.{set_value-at, set_key-split, apart-at, without-at}
-use Rattle.scc_incremental.proofs.AtPlaces.{place-found, place-prop, entry_of-is, splits-there, written-there, put-there}
+use Rattle.scc_buckets.proofs.PairSplits.{set_value-at, set_key-split, apart-at, without-at}
+use Rattle.scc_table.proofs.AtPlaces.{place-found, place-prop, entry_of-is, splits-there, written-there, put-there}
 use Rattle.scc_index.specs.Entries.{occupied_pair, IsOccupiedAt, IsUpdated, IsInserted}
-use Rattle.scc_incremental.proofs.Relocations.{waiting-write}
+use Rattle.scc_table.proofs.Relocations.{waiting-write}
 use Rattle.scc_index.proofs.Updates.{finds-replaced}
-use Rattle.scc_index.specs.declared.hash_index.held.HeldEntry.{HeldEntry}
-use Rattle.scc_index.specs.declared.hash_index.held.HeldVacant.{HeldVacant}
+use Rattle.scc_index.specs.declared.held.HeldEntry.{HeldEntry}
+use Rattle.scc_index.specs.declared.held.HeldVacant.{HeldVacant}
 
 module _ {G N K V S T : Type 0} {d : guard.Ghosts G (Contents (K × V) S)} {g : eq.Ghosts K} {h : hash.Ghosts K} {b : builder.Ghosts S T} {w : hasher.Ghosts T} where
   -- what the guard showed at the place is the pair
@@ -30,7 +30,7 @@ module _ {G N K V S T : Type 0} {d : guard.Ghosts G (Contents (K × V) S)} {g : 
   -- the entry that a search found is that of the key
   pub occupied-at : {same : K → K → Bool} (laws : IsEquivalence same) (k : K) (o : HeldEntry G N K V S T d g h b w) → IsDistinct same (keys_of (entries (d.kept o.guard))) → IsFoundAt (λ e. same k e.0) (d.kept o.guard) o.place
       → IsOccupiedAt same (d.kept o.guard) k o
-  unfolding spots.front_of spots.back_of
+  unfolding spots.front_of_spot spots.back_of_spot
   occupied-at {same = same} laws k o u found =
       let c : Contents (K × V) S = d.kept o.guard in
       let f = place-found same c k o.place found in

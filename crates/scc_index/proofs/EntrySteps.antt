@@ -5,15 +5,15 @@ use Rattle.std.specs.declared.cmp.PartialEq as eq
 use Rattle.std.specs.declared.hash.Hash as hash
 use Rattle.std.specs.declared.hash.Hasher as hasher
 use Rattle.std.specs.declared.hash.BuildHasher as builder
-use Rattle.scc_table.specs.Contents.{Contents, entries, refused_of}
-use Rattle.scc_incremental.specs.Placed.{entry_of, back_of}
-use Rattle.scc_incremental.specs.Places.{IsPlace, index_of}
-use Rattle.scc_table.specs.declared.place.Place.{Place}
-use Rattle.scc_table.specs.Steps.{HoldsExactly}
+use Rattle.scc_contents.specs.Contents.{Contents, entries, refused_of}
+use Rattle.scc_table.specs.Placed.{entry_of, back_of}
+use Rattle.scc_table.specs.Places.{IsPlace, index_of}
+use Rattle.scc_buckets.specs.declared.place.Place.{Place}
+use Rattle.scc_contents.specs.Steps.{HoldsExactly}
 use Rattle.scc_common.specs.declared.guard.Guard as guard
-use Rattle.scc_incremental.proofs.AtPlaces.{splits-there, next-there, past-there}
+use Rattle.scc_table.proofs.AtPlaces.{splits-there, next-there, past-there}
 use Rattle.scc_index.specs.EntrySteps.{StandsIn, IsNext, IsNextPastRemoved}
-use Rattle.scc_index.specs.declared.hash_index.held.HeldEntry.{HeldEntry}
+use Rattle.scc_index.specs.declared.held.HeldEntry.{HeldEntry}
 
 module _ {G N K V S T : Type 0} {d : guard.Ghosts G (Contents (K × V) S)} {g : eq.Ghosts K} {h : hash.Ghosts K} {b : builder.Ghosts S T} {w : hasher.Ghosts T} where
   -- the list is the pairs before an entry, its own, and those after it

@@ -3,8 +3,8 @@ use Rattle.std.proofs.Common.{◌≡◌, ◌∙◌, Bool, true, false, cond, Lis
 use Rattle.std.specs.Cmp.{IsEquivalence}
 use Rattle.std.specs.List.{IsDistinct}
 use Rattle.std.specs.Map.{keys_of, lookup_entry}
-use Rattle.scc_table.specs.Pairs.{find, FindsInstead}
-use Rattle.scc_table.proofs.PairSplits.{by_answer, cond-true, cond-false, find-split, front_apart}
+use Rattle.scc_contents.specs.Pairs.{find, FindsInstead}
+use Rattle.scc_buckets.proofs.PairSplits.{by_answer, cond-true, cond-false, find-split, front_apart}
 
 -- pairs that don't pass may stand for one another
 pass-over : {K V : Type 0} (t : K → Bool) (front back : List (K × V)) (p q : K × V) → t p.0 ≡ false → t q.0 ≡ false → lookup_entry t (front ++ q ∷ back) ≡ lookup_entry t (front ++ p ∷ back)

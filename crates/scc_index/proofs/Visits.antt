@@ -1,17 +1,17 @@
 -- A pair that was visited in a walk: it stays, or is taken out.
 use Rattle.std.proofs.Common.{◌≡◌, suc, ◌<◌, ◌-◌, List, [], ◌∷◌, ◌++◌, length, take, drop, Bool, true, false, Option, None, Some, MatchOption, IfSome, sym, ap, ◌∙◌, arith, subst, append_assoc}
 use Rattle.std.specs.List.{slice_get, remove}
-use Rattle.scc_table.specs.Contents.{Contents, entries}
-use Rattle.scc_incremental.specs.Places.{IsPlace, StandsAt, index_of, spot_of}
-use Rattle.scc_table.specs.Steps.{HoldsExactly}
-use Rattle.scc_table.specs.Walks.{HoldsInTurn}
-use Rattle.scc_table.specs.declared.place.Place.{Place}
-use Rattle.scc_table.proofs.Placed.{take-more, drop-here, take-removed, drop-removed}
-use Rattle.scc_table.proofs.Standing.{index-below}
-use Rattle.scc_table.proofs.WalkLemmas.{turn-first, turn-others}
+use Rattle.scc_contents.specs.Contents.{Contents, entries}
+use Rattle.scc_table.specs.Places.{IsPlace, StandsAt, index_of, spot_of}
+use Rattle.scc_contents.specs.Steps.{HoldsExactly}
+use Rattle.scc_contents.specs.Walks.{HoldsInTurn}
+use Rattle.scc_buckets.specs.declared.place.Place.{Place}
+use Rattle.scc_buckets.proofs.Placed.{take-more, drop-here, take-removed, drop-removed}
+use Rattle.scc_buckets.proofs.Standing.{index-below}
+use Rattle.scc_buckets.proofs.WalkLemmas.{turn-first, turn-others}
 use Rattle.scc_index.specs.IndexWalks.{Retains, kept, removed}
-use Rattle.scc_incremental.proofs.Reached.{reached}
-use Rattle.scc_walks.proofs.Visits.{shorter}
+use Rattle.scc_table.proofs.Reached.{reached}
+use Rattle.scc_table.proofs.Visits.{shorter}
 
 module _ {K V S : Type 0} (m : Contents (K × V) S) (p : Place) (q : K × V) (within : IsPlace m p) (got : slice_get (entries m) (index_of m p) ≡ Some q) where
   here : drop (index_of m p) (entries m) ≡ q ∷ drop (suc (index_of m p)) (entries m)

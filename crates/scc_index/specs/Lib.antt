@@ -1,17 +1,3 @@
-pub use Rattle.scc_incremental.specs.Placed
-pub use Rattle.scc_incremental.specs.Places
-pub use Rattle.scc_incremental.specs.Relocates
-pub use Rattle.scc_incremental.specs.Relocations
-pub use Rattle.scc_table.specs.Clones
-pub use Rattle.scc_table.specs.Contents
-pub use Rattle.scc_table.specs.Pairs
-pub use Rattle.scc_table.specs.ShelfWrites
-pub use Rattle.scc_table.specs.Sizes
-pub use Rattle.scc_table.specs.Steps
-pub use Rattle.scc_table.specs.Walks
-pub use Rattle.scc_walks.specs.Closures
-pub use Rattle.scc_walks.specs.Equality
-pub use Rattle.scc_walks.specs.PairWalks
 pub mod ClosureSteps
 pub mod Collections
 pub mod Entries
@@ -19,4 +5,6 @@ pub mod EntrySteps
 pub mod IndexSizes
 pub mod IndexSteps
 pub mod IndexWalks
+pub mod Insertions
 pub mod Lends
+pub mod Removals

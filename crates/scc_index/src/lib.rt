@@ -1,4 +1,10 @@
-//! A hash index over the versions of `scc_table`, for one owner: a map whose entries are immutable versions that readers keep.
+//! A hash index over the versions of `scc_buckets`, for one owner: a map whose entries are immutable versions that
+//! readers keep.
 #![tactic(auto)]
 
-pub mod hash_index;
+pub mod held;
+pub mod locked;
+pub mod owned;
+
+pub use owned::{Iter, Owned};
+use scc_entry::Version;

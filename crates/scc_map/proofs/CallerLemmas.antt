@@ -6,27 +6,27 @@ use Rattle.std.specs.Fn.{Once, FnOnceReturnsAtMut}
 use Rattle.std.specs.List.{IsDistinct, remove}
 use Rattle.std.specs.List.Sorted.{IsPermutation}
 use Rattle.std.specs.Map.{keys_of, lookup_entry, set_value}
-use Rattle.scc_table.specs.Contents.{Contents, entries}
-use Rattle.scc_table.specs.Pairs.{find, without, FindsInstead, IsUnique}
-use Rattle.scc_incremental.specs.Places.{index_of}
-use Rattle.scc_table.specs.Steps.{Holds, HoldsExactly, Rests}
+use Rattle.scc_contents.specs.Contents.{Contents, entries}
+use Rattle.scc_contents.specs.Pairs.{find, without, FindsInstead, IsUnique}
+use Rattle.scc_table.specs.Places.{index_of}
+use Rattle.scc_contents.specs.Steps.{Holds, HoldsExactly, Rests}
 use Rattle.std.specs.declared.cmp.PartialEq as equality
 use Rattle.std.specs.declared.hash.Hash as hash
 use Rattle.std.specs.declared.hash.Hasher as hasher
 use Rattle.std.specs.declared.hash.BuildHasher as builder
 use Rattle.scc_common.specs.declared.guard.Guard as guard
 use Rattle.scc_map.specs.Entries.{Occupied, Vacant, occupied_pair, IsOccupiedAt, IsVacantAt, IsEntryOf, IsWritten, IsInserted, OrInserts, Modifies}
-use Rattle.scc_map.specs.declared.hash_map.held.HeldEntry.{HeldEntry}
-use Rattle.scc_map.specs.declared.hash_map.held.HeldPlace.{HeldPlace}
-use Rattle.scc_map.specs.declared.hash_map.held.HeldVacant.{HeldVacant}
+use Rattle.scc_map.specs.declared.held.HeldEntry.{HeldEntry}
+use Rattle.scc_map.specs.declared.held.HeldPlace.{HeldPlace}
+use Rattle.scc_map.specs.declared.held.HeldVacant.{HeldVacant}
 use Rattle.scc_map.specs.MapSteps.{Removes}
 use Rattle.scc_map.proofs.Entries.{occupied-by}
-use Rattle.scc_incremental.proofs.AtPlaces.{entry_of-get}
-use Rattle.scc_table.proofs.PairWrites.{IsPlaceOf}
-use Rattle.scc_table.proofs.Lookups.{along, apart-none, get-read, place-of_find, find-IsPermutation, find-without, distinct-IsPermutation, distinct-remove_entry, finds-added}
-pub use Rattle.scc_table.proofs.PairSplits.{by_answer, cond-true, cond-false}
-pub use Rattle.scc_walks.proofs.Replies.{find-key}
-use Rattle.scc_table.proofs.PairSplits.{found-place, without-at, distinct-without, place-below}
+use Rattle.scc_table.proofs.AtPlaces.{entry_of-get}
+use Rattle.scc_buckets.proofs.PairWrites.{IsPlaceOf}
+use Rattle.scc_buckets.proofs.Lookups.{along, apart-none, get-read, place-of_find, find-IsPermutation, find-without, distinct-IsPermutation, distinct-remove_entry, finds-added}
+pub use Rattle.scc_buckets.proofs.PairSplits.{by_answer, cond-true, cond-false}
+pub use Rattle.scc_table.proofs.Replies.{find-key}
+use Rattle.scc_buckets.proofs.PairSplits.{found-place, without-at, distinct-without, place-below}
 use Rattle.std.proofs.lemmas.List.Sorted.{IsPermutation-refl, IsPermutation-sym, IsPermutation-cons, IsPermutation-trans, IsPermutation-remove}
 use Rattle.std.proofs.lemmas.Map.Keys.{IsDistinct-head, IsDistinct-tail}
 

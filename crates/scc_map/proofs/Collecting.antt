@@ -6,13 +6,13 @@ use Rattle.std.specs.List.{IsDistinct, fold}
 use Rattle.std.specs.Map.{keys_of, lookup_entry}
 use Rattle.std.specs.Option.{option_or}
 use Rattle.std.proofs.lemmas.Map.{keys-set_value}
-use Rattle.scc_table.specs.Contents.{Contents, entries, settings_of}
-use Rattle.scc_table.specs.Pairs.{find, IsUnique}
+use Rattle.scc_contents.specs.Contents.{Contents, entries, settings_of}
+use Rattle.scc_contents.specs.Pairs.{find, IsUnique}
 use Rattle.scc_map.specs.Collections.{UpsertsAll, key_and_value, FindsItems}
 use Rattle.scc_map.specs.MapSteps.{Upserts}
 use Rattle.scc_map.proofs.CallerLemmas.{finds-inserted, finds-set_value, find-equal}
-use Rattle.scc_table.proofs.Lookups.{distinct-IsPermutation}
-use Rattle.scc_table.proofs.PairSplits.{by_answer, cond-true, cond-false, distinct-added}
+use Rattle.scc_buckets.proofs.Lookups.{distinct-IsPermutation}
+use Rattle.scc_buckets.proofs.PairSplits.{by_answer, cond-true, cond-false, distinct-added}
 
 -- which hash decides about memory is no matter then
 pub upsert-any_hash : {K V S : Type 0} (eq : K → K → Bool) (h i : K → ℕ) (c : Contents (K × V) S) (p : K × V) (r : Option V) (d : Contents (K × V) S) → Upserts eq h c p (Ok r) d → Upserts eq i c p (Ok r) d

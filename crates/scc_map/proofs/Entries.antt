@@ -8,22 +8,22 @@ use Rattle.std.specs.declared.cmp.PartialEq as eq
 use Rattle.std.specs.declared.hash.Hash as hash
 use Rattle.std.specs.declared.hash.Hasher as hasher
 use Rattle.std.specs.declared.hash.BuildHasher as builder
-use Rattle.scc_table.specs.Contents.{Contents, entries, waiting_of}
-use Rattle.scc_table.specs.Pairs.{with_pair_value}
-use Rattle.scc_table.specs.Placed as spots
-use Rattle.scc_incremental.specs.Placed.{entry_of}
-use Rattle.scc_incremental.specs.Places.{IsPlace, IsFoundAt, IsInsertedAt, index_of}
-use Rattle.scc_incremental.specs.Places.{with_write_at}
-use Rattle.scc_table.specs.declared.place.Place.{Place}
+use Rattle.scc_contents.specs.Contents.{Contents, entries, waiting_of}
+use Rattle.scc_contents.specs.Pairs.{with_pair_value}
+use Rattle.scc_buckets.specs.Placed as spots
+use Rattle.scc_table.specs.Placed.{entry_of}
+use Rattle.scc_table.specs.Places.{IsPlace, IsFoundAt, IsInsertedAt, index_of}
+use Rattle.scc_table.specs.Places.{with_write_at}
+use Rattle.scc_buckets.specs.declared.place.Place.{Place}
 use Rattle.scc_common.specs.declared.guard.Guard as guard
-use Rattle.scc_incremental.proofs.AtPlaces.{place-found}
-use Rattle.scc_table.proofs.PairSplits.{set_value-at, without-at}
-use Rattle.scc_table.proofs.PairWrites.{IsPlaceOf}
-use Rattle.scc_incremental.proofs.AtPlaces.{place-prop, entry_of-is, written-there, put-there}
-use Rattle.scc_incremental.proofs.Relocations.{waiting-write}
+use Rattle.scc_table.proofs.AtPlaces.{place-found}
+use Rattle.scc_buckets.proofs.PairSplits.{set_value-at, without-at}
+use Rattle.scc_buckets.proofs.PairWrites.{IsPlaceOf}
+use Rattle.scc_table.proofs.AtPlaces.{place-prop, entry_of-is, written-there, put-there}
+use Rattle.scc_table.proofs.Relocations.{waiting-write}
 use Rattle.scc_map.specs.Entries.{occupied_pair, occupied_front, occupied_back, IsOccupiedAt, IsWritten, IsInserted, written_map, still_within, with_value}
-use Rattle.scc_map.specs.declared.hash_map.held.HeldEntry.{HeldEntry}
-use Rattle.scc_map.specs.declared.hash_map.held.HeldVacant.{HeldVacant}
+use Rattle.scc_map.specs.declared.held.HeldEntry.{HeldEntry}
+use Rattle.scc_map.specs.declared.held.HeldVacant.{HeldVacant}
 
 -- the same buckets wait once a value was written
 pub waiting-put : {K V S : Type 0} (m : Contents (K × V) S) (p : Place) (v : V) (n : Contents (K × V) S) → n ≡ with_write_at with_pair_value m p v → waiting_of n ≡ waiting_of m
@@ -37,7 +37,7 @@ module _ {G N K V S T : Type 0} {d : guard.Ghosts G (Contents (K × V) S)} {g : 
   -- an entry at the place of a key is that of the key
   pub occupied-by : {same : K → K → Bool} (laws : IsEquivalence same) (k : K) (o : HeldEntry G N K V S T d g h b w) → IsDistinct same (keys_of (entries (d.kept o.guard))) → IsPlaceOf same (entries (d.kept o.guard)) k (index_of (d.kept o.guard) o.place)
       → IsOccupiedAt same (d.kept o.guard) k o
-  unfolding spots.front_of spots.back_of
+  unfolding spots.front_of_spot spots.back_of_spot
   occupied-by {same = same} laws k o u f =
       let c : Contents (K × V) S = d.kept o.guard in
       let e : occupied_pair o ≡ f.0 = entry_of-is c o.place o.within f.0 f.1 in

@@ -7,16 +7,16 @@ use Rattle.std.specs.Map.{keys_of}
 use Rattle.std.specs.Result.{OnOk}
 use Rattle.std.proofs.lemmas.List.Sorted.{IsPermutation-refl, IsPermutation-sym, IsPermutation-cons, IsPermutation-trans, IsPermutation-middle}
 use Rattle.std.proofs.lemmas.Map.Keys.{IsDistinct-head, IsDistinct-tail}
-use Rattle.scc_table.specs.Contents.{Contents, entries}
-use Rattle.scc_table.specs.Pairs.{find, IsUnique}
-use Rattle.scc_table.specs.Steps.{Holds}
+use Rattle.scc_contents.specs.Contents.{Contents, entries}
+use Rattle.scc_contents.specs.Pairs.{find, IsUnique}
+use Rattle.scc_contents.specs.Steps.{Holds}
 use Rattle.scc_common.specs.declared.errors.WalkError.{WalkError}
 use Rattle.scc_common.specs.declared.verdict.Verdict.{Verdict}
 use Rattle.scc_common.specs.declared.verdict.Verdict.TheVariants.{Keep, Take, KeepStop, TakeStop}
-use Rattle.scc_walks.specs.PairWalks.{Retains, Takes}
-use Rattle.scc_walks.specs.PairWalks as walks
+use Rattle.scc_contents.specs.PairWalks.{Retains, Takes}
+use Rattle.scc_contents.specs.PairWalks as walks
 use Rattle.scc_map.proofs.CallerLemmas.{by_answer, cond-true, cond-false}
-use Rattle.scc_table.proofs.Lookups.{along, apart-none, find-IsPermutation, distinct-IsPermutation}
+use Rattle.scc_buckets.proofs.Lookups.{along, apart-none, find-IsPermutation, distinct-IsPermutation}
 
 module _ {F K V : Type 0} (T : F → K × V → Bool → V → F → Type 0) (test : K × V → Bool) (f : F) (says : (p : K × V) (b : Bool) (w : V) (f' : F) → T f p b w f' → (b ≡ test p) × (w ≡ p.1) × (f' ≡ f)) where
   said : (g : F) (p : K × V) (b : Bool) (w : V) (g' : F) → g ≡ f → T g p b w g' → (b ≡ test p) × (w ≡ p.1) × (g' ≡ f)

@@ -1,6 +1,6 @@
+pub mod CallerLemmas
 pub mod Clones
 pub mod Collecting
-pub mod CallerLemmas
 pub mod Entries
 pub mod EntrySteps
 pub mod Filtering

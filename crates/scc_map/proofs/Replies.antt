@@ -3,15 +3,15 @@ use Rattle.std.proofs.Common.{◌≡◌, ◌⊎◌, ℕ, Bool, true, false, Opti
 use Rattle.std.specs.Prelude.{IfErr, IfSome}
 use Rattle.std.specs.Borrow.{MutBor}
 use Rattle.std.specs.Fn.{Once}
-use Rattle.scc_table.specs.Contents.{Contents, entries}
-use Rattle.scc_table.specs.Pairs.{find}
-use Rattle.scc_table.proofs.Lookups.{by_option}
+use Rattle.scc_contents.specs.Contents.{Contents, entries}
+use Rattle.scc_contents.specs.Pairs.{find}
+use Rattle.scc_buckets.proofs.Lookups.{by_option}
 use Rattle.scc_common.specs.declared.errors.InsertError.{InsertError}
 use Rattle.scc_map.specs.Entries.{Exists, Memory}
 use Rattle.scc_map.specs.ClosureSteps.{RemovesIf}
 use Rattle.scc_map.specs.MapSteps.{Inserts, Upserts, Removes}
-use Rattle.scc_walks.specs.Replies.{HasKey, PassesWith}
-pub use Rattle.scc_walks.proofs.Replies.{find-key, if-map, reads-equal}
+use Rattle.scc_contents.specs.Replies.{HasKey, PassesWith}
+pub use Rattle.scc_table.proofs.Replies.{find-key, if-map, reads-equal}
 
 module _ {K V S : Type 0} (eq : K → K → Bool) where
   pub inserts-back : (hash : K → ℕ) (c : Contents (K × V) S) (p : K × V) (r : Result (Unit {0}) (InsertError K V)) (d : Contents (K × V) S) → Inserts eq hash c p r d → IfErr r (λ e. (e ≡ Exists p) ⊎ (e ≡ Memory p))

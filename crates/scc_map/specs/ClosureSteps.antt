@@ -3,13 +3,14 @@ use Rattle.std.specs.Prelude.{◌≡◌, Bool, true, false, Option, None, Some}
 use Rattle.std.specs.Borrow.{Bor, MutBor}
 use Rattle.std.specs.Fn.{Once, FnOnceReturnsAtMut}
 use Rattle.std.specs.Map.{set_value}
-use Rattle.scc_table.specs.Contents.{Contents, entries}
-use Rattle.scc_table.specs.Pairs.{without}
-use Rattle.scc_table.specs.Steps.{Holds, HoldsExactly, IsUnchanged}
-use Rattle.scc_walks.specs.Closures.{WritesAt}
+use Rattle.scc_contents.specs.Contents.{Contents, entries}
+use Rattle.scc_contents.specs.Pairs.{without}
+use Rattle.scc_contents.specs.Steps.{Holds, HoldsExactly, IsUnchanged}
+use Rattle.scc_contents.specs.Closures.{WritesAt}
 
 -- f was called at the pair of k, where there is one, and what it left is the value
 module _ {F K V R : Type 0} (g : Once F (Bor K × (MutBor V × Unit {0})) (R × (MutBor V × Unit {0}))) (f : F) {S : Type 0} (eq : K → K → Bool) (c : Contents (K × V) S) (k : K) (d : Contents (K × V) S) where
+  -- a missing key changes nothing; else the closure was called on the pair, and its value is what that wrote
   abbrev pub UpdatesAt : Option (K × V) → Option R → Type 0
   UpdatesAt None r = (r ≡ None) × IsUnchanged c d
   UpdatesAt (Some p) r = (x : R) × (w : V) × (r ≡ Some x) × WritesAt g f p x w × HoldsExactly c (set_value (eq k) (entries c) w) d
@@ -20,6 +21,7 @@ module _ {F K V S : Type 0} (g : Once F (MutBor V × Unit {0}) (Bool × (MutBor 
   RemovedIf p w true = (r ≡ Some (p.0, w)) × Holds c (without eq (entries c) k) d
   RemovedIf p w false = (r ≡ None) × HoldsExactly c (set_value (eq k) (entries c) w) d
 
+  -- a missing key changes nothing; else the closure was asked about the pair, which goes where it answered true
   abbrev pub RemovesIf : Option (K × V) → Type 0
   RemovesIf None = (r ≡ None) × IsUnchanged c d
   RemovesIf (Some p) = (b : Bool) × (w : V) × FnOnceReturnsAtMut g f p.1 b w × RemovedIf p w b

@@ -1,5 +1,5 @@
 -- What the contracts of an entry cite. An entry holds its map by a guard: a `&mut` in the owned form.
-pub use Rattle.scc_map.specs.declared.hash_map.held.HeldPlace.TheVariants.{Occupied, Vacant}
+pub use Rattle.scc_map.specs.declared.held.HeldPlace.TheVariants.{Occupied, Vacant}
 pub use Rattle.scc_common.specs.declared.errors.InsertError.TheVariants.{Exists, Memory}
 use Rattle.std.specs.Prelude.{◌≡◌, ℕ, Bool, true, List, ◌∷◌, ◌++◌, Option, None, Some, Result, ⊤}
 use Rattle.std.specs.Borrow.{Fml, RattleType, MutBor, Lends, RestsIfErr, RestsIfNone}
@@ -11,24 +11,24 @@ use Rattle.std.specs.declared.hash.Hash as hash
 use Rattle.std.specs.declared.hash.Hasher as hasher
 use Rattle.std.specs.declared.hash.BuildHasher as builder
 use Rattle.std.proofs.Common.{sym, subst}
-use Rattle.scc_table.specs.Contents.{Contents, entries, key_hash, waiting_of}
-use Rattle.scc_table.specs.PairSteps.{SwapsKey}
-use Rattle.scc_table.specs.Pairs.{find, without, IsUnique, with_pair_value}
-use Rattle.scc_incremental.specs.Placed.{entry_of, front_of, back_of, IsWrittenAt, IsPutAt}
-use Rattle.scc_incremental.specs.Places.{IsPlace}
-use Rattle.scc_table.specs.Steps.{FirstArrayWhenDue, GrowsFor, HoldsExactly, Rests}
-use Rattle.scc_incremental.specs.Placed.{IsPlace-with_write_at}
-use Rattle.scc_incremental.specs.Places.{with_write_at}
-use Rattle.scc_incremental.specs.Relocations.{Relocates, RelocatesTwo}
+use Rattle.scc_contents.specs.Contents.{Contents, entries, key_hash, waiting_of}
+use Rattle.scc_contents.specs.PairSteps.{SwapsKey}
+use Rattle.scc_contents.specs.Pairs.{find, without, IsUnique, with_pair_value}
+use Rattle.scc_table.specs.Placed.{entry_of, front_of, back_of, IsWrittenAt, IsPutAt}
+use Rattle.scc_table.specs.Places.{IsPlace}
+use Rattle.scc_contents.specs.Steps.{FirstArrayWhenDue, GrowsFor, HoldsExactly, Rests}
+use Rattle.scc_table.specs.Placed.{IsPlace-with_write_at}
+use Rattle.scc_table.specs.Places.{with_write_at}
+use Rattle.scc_table.specs.Relocations.{Relocates, RelocatesTwo}
 use Rattle.scc_common.specs.declared.errors.InsertError.{InsertError}
 use Rattle.scc_common.specs.declared.guard.Guard as guard
 use Rattle.scc_map.specs.Lends.{map_row}
-use Rattle.scc_map.specs.contracts.hash_map.held.HeldEntry.{the_row}
-use Rattle.scc_map.specs.declared.hash_map.held.HeldEntry.{HeldEntry}
-use Rattle.scc_map.specs.declared.hash_map.held.HeldPlace.{HeldPlace}
-use Rattle.scc_map.specs.declared.hash_map.held.HeldReplace.{HeldReplace}
-use Rattle.scc_map.specs.declared.hash_map.held.HeldReplace.TheVariants.{Replaced, NotReplaced}
-use Rattle.scc_map.specs.declared.hash_map.held.HeldVacant.{HeldVacant}
+use Rattle.scc_map.specs.contracts.held.HeldEntry.{the_row}
+use Rattle.scc_map.specs.declared.held.HeldEntry.{HeldEntry}
+use Rattle.scc_map.specs.declared.held.HeldPlace.{HeldPlace}
+use Rattle.scc_map.specs.declared.held.HeldReplace.{HeldReplace}
+use Rattle.scc_map.specs.declared.held.HeldReplace.TheVariants.{Replaced, NotReplaced}
+use Rattle.scc_map.specs.declared.held.HeldVacant.{HeldVacant}
 
 module _ {K V S : Type 0} where
   -- d is c once the new key k was put in: the array is one that had to be made, or grew as it may and has to
@@ -52,9 +52,11 @@ module _ {G N K V S T : Type 0} {d : guard.Ghosts G (Contents (K × V) S)} {g : 
   abbrev pub occupied_pair : HeldEntry G N K V S T d g h b w → K × V
   occupied_pair o = entry_of (d.kept o.guard) o.place o.within
 
+  -- the pairs before the entry
   abbrev pub occupied_front : HeldEntry G N K V S T d g h b w → List (K × V)
   occupied_front o = front_of (d.kept o.guard) o.place
 
+  -- the pairs after the entry
   abbrev pub occupied_back : HeldEntry G N K V S T d g h b w → List (K × V)
   occupied_back o = back_of (d.kept o.guard) o.place
 
@@ -77,6 +79,7 @@ module _ {G N K V S T : Type 0} {d : guard.Ghosts G (Contents (K × V) S)} {g : 
     pub found : find same (entries c) k ≡ None
     pub key : e.key ≡ k
 
+  -- the entry is that of the key: occupied where the map has it, and vacant where not
   abbrev pub IsEntryOf : (K → K → Bool) → Contents (K × V) S → K → HeldPlace G N K V S T d g h b w → Type 0
   IsEntryOf same c k (Occupied o) = IsOccupiedAt same c k o
   IsEntryOf same c k (Vacant e) = IsVacantAt same c k e
@@ -93,9 +96,11 @@ module _ {G N K V S T : Type 0} {d : guard.Ghosts G (Contents (K × V) S)} {g : 
     pub rest : o.rest ≡ e.rest
     pub at : IsPutAt (d.kept e.guard) (e.key, v) (d.kept o.guard) o.place o.within
 
+  -- the map with the value of the entry's pair replaced by v
   abbrev pub written_map : HeldEntry G N K V S T d g h b w → V → Contents (K × V) S
   written_map o v = with_write_at with_pair_value (d.kept o.guard) o.place v
 
+  -- an entry's place is still one after a write at it
   pub still_within : (o : HeldEntry G N K V S T d g h b w) (v : V) → IsPlace (d.kept (d.keeping o.guard (written_map o v))) o.place
   still_within o v =
       let P : Contents (K × V) S → Type 0 = λ c. IsPlace c o.place in
@@ -116,6 +121,7 @@ module _ {G N K V S T : Type 0} {d : guard.Ghosts G (Contents (K × V) S)} {g : 
   entry_key (Occupied o) = (occupied_pair o).0
   entry_key (Vacant e) = e.key
 
+  -- the map lacks the entry's key
   abbrev pub IsVacant : HeldPlace G N K V S T d g h b w → Type 0
   IsVacant (Occupied o) = ⊥
   IsVacant (Vacant e) = ⊤

@@ -6,14 +6,14 @@ use Rattle.std.specs.declared.cmp.PartialEq as eq
 use Rattle.std.specs.declared.hash.Hash as hash
 use Rattle.std.specs.declared.hash.Hasher as hasher
 use Rattle.std.specs.declared.hash.BuildHasher as builder
-use Rattle.scc_table.specs.Contents.{Contents, refused_of, waiting_of}
-use Rattle.scc_table.specs.Pairs.{IsUnique}
-use Rattle.scc_incremental.specs.Placed.{SplitsAt, IsNextAt, IsNextPastRemovedAt}
-use Rattle.scc_table.specs.Steps.{HoldsExactly}
+use Rattle.scc_contents.specs.Contents.{Contents, refused_of, waiting_of}
+use Rattle.scc_contents.specs.Pairs.{IsUnique}
+use Rattle.scc_table.specs.Placed.{SplitsAt, IsNextAt, IsNextPastRemovedAt}
+use Rattle.scc_contents.specs.Steps.{HoldsExactly}
 use Rattle.scc_common.specs.declared.guard.Guard as guard
 use Rattle.scc_map.specs.Entries.{occupied_front, occupied_back, Borrowed}
 use Rattle.scc_map.specs.Lends.{map_row}
-use Rattle.scc_map.specs.declared.hash_map.held.HeldEntry.{HeldEntry}
+use Rattle.scc_map.specs.declared.held.HeldEntry.{HeldEntry}
 
 module _ {G N K V S T : Type 0} {d : guard.Ghosts G (Contents (K × V) S)} {g : eq.Ghosts K} {h : hash.Ghosts K} {b : builder.Ghosts S T} {w : hasher.Ghosts T} where
   -- the map stays, and its list is the pairs before o, that of o, and those after it

@@ -1,7 +1,7 @@
 -- What the calls about sizes do to a container. Each relation goes by the reply.
 use Rattle.std.specs.Prelude.{◌≡◌, ℕ, ◌+◌, ◌^◌, ◌<◌, ◌≤◌, Option, None, Some, Result, Ok, Err}
-use Rattle.scc_table.specs.Contents.{Contents, settings_of, minimum_of}
-use Rattle.scc_table.specs.Steps.{IsUnchanged, Releases, Reserves}
+use Rattle.scc_contents.specs.Contents.{Contents, settings_of, minimum_of}
+use Rattle.scc_contents.specs.Steps.{IsUnchanged, Releases, Reserves}
 
 module _ {E S : Type 0} where
   -- a reservation of n slots: the token stands for n; it is refused where n is 0 or the minimum would pass the greatest capacity

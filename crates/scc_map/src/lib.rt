@@ -1,4 +1,10 @@
-//! A hash map over the buckets of `scc_table`, for one owner, and the entries of one that stands behind a lock.
+//! A hash map over the buckets of `scc_buckets`, for one owner, and the entries of one that stands behind a lock.
 #![tactic(auto)]
 
-pub mod hash_map;
+pub mod held;
+pub mod locked;
+pub mod owned;
+pub mod sink;
+
+pub use owned::Owned;
+pub use sink::Sink;

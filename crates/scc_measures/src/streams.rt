@@ -73,7 +73,8 @@ impl Streams {
         Ok(keys)
     }
 
-    /// As many keys from that step on, by a law of Zipf: of 21 levels each is equally likely, and a level has twice as many keys as the one before it.
+    /// As many keys from that step on, by a law of Zipf: of 21 levels each is equally likely, and a level has twice as
+    /// many keys as the one before it.
     pub fn ranked(&self, alloc: Global, from: u64) -> Result<Vec<u64>, AllocError> {
         self.ranked_of(alloc, 0, from)
     }

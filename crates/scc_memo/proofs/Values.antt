@@ -7,7 +7,7 @@ use Rattle.scc_common.specs.declared.errors.InsertError.{InsertError}
 use Rattle.scc_common.specs.declared.errors.InsertError.TheVariants.{Exists, Memory}
 use Rattle.std.specs.Borrow.{Bor}
 use Rattle.std.specs.Fn.{Once}
-use Rattle.scc_table.specs.Contents.{Contents, entries, bucket_count, lists_of}
+use Rattle.scc_contents.specs.Contents.{Contents, entries, bucket_count, lists_of}
 use Rattle.scc_cache.specs.CacheSteps.{AnswersOn, Changes, IsAbsent, IsPresent, Puts, PutsNew, Removes, number_in}
 use Rattle.scc_cache.specs.Caches.{Cached}
 use Rattle.scc_cache.specs.ListSteps.{IsThere, Refreshes}

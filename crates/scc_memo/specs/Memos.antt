@@ -2,7 +2,7 @@
 use Rattle.std.specs.Prelude.{◌≡◌, ℕ, Bool, Option, refl}
 use Rattle.std.specs.Coded.{Coded, code_by, coded×}
 use Rattle.std.specs.List.{AllByRecursion}
-use Rattle.scc_table.specs.Contents.{Contents, bucket_count, lists_of}
+use Rattle.scc_contents.specs.Contents.{Contents, bucket_count, lists_of}
 use Rattle.scc_cache.specs.CacheSteps.{Changes, IsAbsent, PutsNew, number_in}
 use Rattle.scc_cache.specs.Caches.{Cached, cached_code}
 use Rattle.scc_cache.specs.ListSteps.{Refreshes}
@@ -13,6 +13,7 @@ pub record Memoized (P E S : Type 0) : Type 0 where
   pub function : P
   pub cache : Cached E S
 
+-- a memo as the logic holds it
 abbrev pub memo_code : {P E S : Type 0} → Coded P → Coded E → Coded S → Coded (Memoized P E S)
 memo_code {P} {E} {S} p e s = code_by (P × Cached E S) (coded× p (cached_code e s)) (λ m. (m.function, m.cache)) (λ q. record { function = q.0; cache = q.1 }) (λ _. refl)
 

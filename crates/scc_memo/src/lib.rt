@@ -1,6 +1,173 @@
 //! A memo: a pure function with a cache of its values.
 #![tactic(auto)]
 
-pub mod memo;
+ghost use Rattle.std.specs.Prelude.{◌≡◌, ◌<◌, ◌*◌, ◌↔◌, true, [], length, max, Option, IfOk, IsOk, IsSome, IsTrue, MatchOption};
+ghost use Rattle.scc_contents.specs.Contents.{bucket_count, entries, key_hash, settings_of, waiting_of};
+ghost use Rattle.scc_contents.specs.Sizes.{IsArraySize};
+ghost use Rattle.scc_cache.specs.CacheSteps.{IsAbsent, IsPresent, Removes};
+ghost use Rattle.scc_cache.specs.Caches.{IsCacheState};
+ghost use Rattle.scc_cache.specs.Relocations.{RelocatesNone};
+ghost use Rattle.scc_memo.specs.Memos.{HasValues, Remembers};
 
-pub use memo::{Memo, Pure};
+use scc_cache::Owned;
+use scc_cache::owned::Entry;
+use scc_common::MakeError;
+use std::alloc::Global;
+use std::hash::{BuildHasher, Hash};
+use std::marker::Model;
+
+/// A function that has one value for each key, the same for equal keys.
+pub trait Pure {
+    type Key: Eq + Hash;
+
+    type Value: Copy;
+
+    // The value of a key.
+    ghost value: { Self → Self.Key → Self.Value };
+
+    /// The value of the key.
+    fn of(&self, k: &Self::Key) -> Self::Value
+        ensures { result ≡ value self.now k.now };
+
+    // Equal keys have the same value.
+    ghost equal_alike: { (p : Self) (j k : Self.Key) → Self.Key.eq j k ≡ true → value p j ≡ value p k };
+}
+
+/// A pure function with a cache of its values. A contract sees the function and the cache, and every pair of the cache
+/// is a key with its value.
+#[derive(Drop)]
+pub struct Memo<P: Pure, H: BuildHasher> {
+    function: P,
+    cache: Owned<P::Key, P::Value, H>,
+}
+
+impl<P: Pure, H: BuildHasher> Model for Memo<P, H> {
+    ghost use Rattle.scc_memo.specs.Memos.{Memoized, memo_code, HasValues};
+    ghost use Rattle.std.specs.Coded.{coded×};
+
+    ghost Value = { Memoized P (P.Key × P.Value) H };
+
+    ghost coded = { memo_code P.code (coded× P.Key.code P.Value.code) H.code };
+
+    ghost view = { λ m. record { function = m.function; cache = m.cache } };
+
+    ghost invariant = { λ m. HasValues (P.value m.function) m.cache.contents };
+}
+
+impl<P: Pure, H: BuildHasher> Memo<P, H> {
+    /// The function with an empty cache: `minimum` and `maximum` are its slots, as of a cache.
+    pub fn with_capacity_and_hasher(
+        alloc: Global,
+        function: P,
+        minimum: usize,
+        maximum: usize,
+        hasher: H,
+    ) -> Result<Self, MakeError>
+    where
+        P: Drop,
+        H: Drop,
+        ensures function { IfOk result (λ m. m.function ≡ function) }
+        ensures entries { IfOk result (λ m. entries m.cache.contents ≡ []) }
+        ensures none { IfOk result (λ m. minimum ≡ 0 → bucket_count m.cache.contents ≡ 0) }
+        ensures size { IfOk result (λ m. 0 < minimum → IsArraySize minimum (32 * bucket_count m.cache.contents)) }
+        ensures settings { IfOk result (λ m. settings_of m.cache.contents
+            ≡ record { hasher = hasher; skipped = 0; asked = 32 * bucket_count m.cache.contents; reserved = 0 }) }
+        ensures maximum { IfOk result (λ m. IsArraySize (max maximum (32 * bucket_count m.cache.contents))
+            m.cache.maximum) }
+        ensures succeeds { minimum ≡ 0 → IsOk result }
+        ensures waiting { IfOk result (λ m. waiting_of m.cache.contents ≡ []) }
+    {
+        match Owned::with_capacity_and_hasher(alloc, minimum, maximum, hasher) {
+            Ok(cache) => Ok(Memo { function, cache }),
+            Err(e) => Err(e),
+        }
+    }
+
+    /// The value of `k`, from the cache or else from the function. Its pair is then the most recent of its bucket: the
+    /// one that was there, or a new one, put in by the rules of a cache's `put_sync`. Only where there is no array, and
+    /// memory for one is refused, nothing is kept.
+    pub fn get(&mut self, k: P::Key) -> P::Value
+    where
+        P::Key: Drop,
+        ensures value { result ≡ P.value self.old.function k }
+        ensures function { self.new.function ≡ self.old.function }
+        ensures step { Remembers (key_hash H.BuildHasher H.Hasher.Hasher P.Key.hash_input self.old.cache.contents)
+            P.Key.eq self.old.cache k (P.value self.old.function k) self.new.cache }
+        ensures state { IsCacheState P.Key.eq (key_hash H.BuildHasher H.Hasher.Hasher P.Key.hash_input
+            self.new.cache.contents) self.new.cache }
+        ensures values { HasValues (P.value self.new.function) self.new.cache.contents }
+    {
+        let value = recall(&self.function, &mut self.cache, k);
+        let _ = self.cache.len();
+        value
+    }
+
+    /// The value of `k` where the cache has it. Nothing moves, and the function isn't asked.
+    pub fn known(&self, k: &P::Key) -> Option<P::Value>
+        ensures { MatchOption result (IsAbsent
+            (key_hash H.BuildHasher H.Hasher.Hasher P.Key.hash_input self.now.cache.contents) P.Key.eq
+            self.now.cache.contents k.now)
+            (λ v. (v ≡ P.value self.now.function k.now)
+            × ((p : P.Key × P.Value) × IsPresent
+            (key_hash H.BuildHasher H.Hasher.Hasher P.Key.hash_input self.now.cache.contents) P.Key.eq
+            self.now.cache.contents k.now p)) }
+    {
+        self.cache.read_sync(k, |_, v| *v)
+    }
+
+    /// Takes the pair of `k` out of the cache, and answers whether there was one. Where few pairs are left, the array
+    /// may become smaller.
+    pub fn forget(&mut self, k: &P::Key) -> bool
+    where
+        P::Key: Drop,
+        ensures step { (r : Option (P.Key × P.Value))
+            × Removes (key_hash H.BuildHasher H.Hasher.Hasher P.Key.hash_input self.old.cache.contents) P.Key.eq
+            self.old.cache k.now r self.new.cache × (IsTrue result ↔ IsSome r) }
+        ensures function { self.new.function ≡ self.old.function }
+        ensures state { IsCacheState P.Key.eq (key_hash H.BuildHasher H.Hasher.Hasher P.Key.hash_input
+            self.new.cache.contents) self.new.cache }
+        ensures values { HasValues (P.value self.new.function) self.new.cache.contents }
+        ensures relocates { RelocatesNone (λ p. key_hash H.BuildHasher H.Hasher.Hasher P.Key.hash_input
+            self.old.cache.contents p.0) self.old.cache.contents self.new.cache.contents }
+    {
+        self.cache.remove_sync(k).is_some()
+    }
+
+    /// The number of values that are kept.
+    pub fn len(&self) -> usize
+        ensures { result ≡ length (entries self.now.cache.contents) }
+    {
+        self.cache.len()
+    }
+
+    /// The slots of the cache's array, 0 without one.
+    pub fn capacity(&self) -> usize
+        ensures { result ≡ 32 * bucket_count self.now.cache.contents }
+    {
+        self.cache.capacity()
+    }
+}
+
+/// The value of `k`, with a cache of values.
+fn recall<P: Pure, H: BuildHasher>(
+    function: &P,
+    cache: &mut Owned<P::Key, P::Value, H>,
+    k: P::Key,
+) -> P::Value
+where
+    P::Key: Drop,
+    requires { HasValues (P.value function.now) cache.old.contents }
+    ensures value { result ≡ P.value function.now k }
+    ensures values { HasValues (P.value function.now) cache.new.contents }
+    ensures step { Remembers (key_hash H.BuildHasher H.Hasher.Hasher P.Key.hash_input cache.old.contents) P.Key.eq
+        cache.old k (P.value function.now k) cache.new }
+{
+    match cache.entry_sync(k) {
+        Entry::Occupied(entry) => *entry.get(),
+        Entry::Vacant(entry) => {
+            let value = function.of(entry.key());
+            let _ = entry.put(value);
+            value
+        }
+    }
+}

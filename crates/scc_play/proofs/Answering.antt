@@ -1,7 +1,7 @@
 -- What calls become, one call after another.
 use Rattle.std.proofs.Common.{◌≡◌, ℕ, ◌+◌, ◌<◌, ◌≤◌, List, [], ◌∷◌, ◌++◌, length, drop, Option, get_or, refl, sym, subst, ap, ◌∙◌}
 use Rattle.std.proofs.lemmas.List.{drop_more, drop_all, append_assoc}
-use Rattle.scc_history.specs.declared.history.receipts.Receipt.{Receipt}
+use Rattle.scc_history.specs.declared.receipts.Receipt.{Receipt}
 use Rattle.scc_play.specs.Answered.{AreAnswered, IsAnswered}
 
 module _ {A R K : Type 0} (key_of : A → Option K) (told : R → Option ℕ) (count : ℕ → R) (stripes : ℕ) where

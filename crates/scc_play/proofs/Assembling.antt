@@ -4,16 +4,16 @@ use Rattle.std.specs.List.{AllByRecursion, flat_map, sum_by}
 use Rattle.std.specs.List.Sorted.{IsPermutation, IsSorted}
 use Rattle.std.proofs.Math.Logic.{∥∥₁_elim, ∥∥₁_map}
 use Rattle.std.proofs.lemmas.List.{length-map}
-use Rattle.scc_recorded.specs.Histories.{Replays, CallsRouted, Run}
-use Rattle.scc_recorded.specs.Made.{IsMadeFor}
-use Rattle.scc_recorded.specs.declared.recorded.fixed.Request.{Request}
-use Rattle.scc_recorded.specs.declared.recorded.fixed.Setting.{Setting}
-use Rattle.scc_recorded.specs.declared.recorded.steps.Step.{Step}
-use Rattle.scc_history.specs.Orders.{IsMerge, IsStampOrder, StampsRise, steps_at}
+use Rattle.scc_calls.specs.Histories.{Replays, CallsRouted, Run}
+use Rattle.scc_calls.specs.Made.{IsMadeFor}
+use Rattle.scc_calls.specs.declared.fixed.Request.{Request}
+use Rattle.scc_calls.specs.declared.fixed.Setting.{Setting}
+use Rattle.scc_calls.specs.declared.steps.Step.{Step}
+use Rattle.scc_history.specs.Orders.{IsMergeOrder, IsStampOrder, StampsRise, steps_at}
 use Rattle.scc_history.specs.Receipts.{calls_of}
 use Rattle.scc_history.specs.Stamps.{calls_in}
-use Rattle.scc_history.specs.declared.history.receipts.Receipt.{Receipt}
-use Rattle.scc_recorder.specs.Closing.{AllMatch}
+use Rattle.scc_history.specs.declared.receipts.Receipt.{Receipt}
+use Rattle.scc_recorded.specs.Closing.{AllMatch}
 use Rattle.scc_print.specs.Output.{output_of}
 use Rattle.scc_script.specs.declared.line.WorkerCall.{WorkerCall}
 use Rattle.scc_play.specs.Answered.{AreAnswered, calls_by}
@@ -39,7 +39,7 @@ module _ {H S W A R K X C Q V : Type 0} (machine : Machine C H S W A R K X) (rou
         → ∥ ((r : Request H) × (chosen ≡ Some r) × (r.hasher ≡ hasher) × ((g : Setting H) × IsMadeFor machine.limits r g × AllByRecursion (λ c. setting c ≡ g) parts)) ∥₁
         → ((g : Setting H) → AllByRecursion (λ c. setting c ≡ g) parts → ∥ Replays (machine.moves g) (machine.resizes g) (map machine.empty opened) histories (map machine.state parts) ∥₁)
         → CallsRouted machine.key_of (route hasher count) 0 histories
-        → ((g : Setting H) → AllByRecursion (λ c. setting c ≡ g) parts → (places : List (ℕ × ℕ)) → IsMerge histories places → ∥ Run (machine.whole_moves g count) (machine.whole_resizes g count) (machine.whole (map machine.empty opened)) (steps_at histories places) (machine.whole (map machine.state parts)) ∥₁)
+        → ((g : Setting H) → AllByRecursion (λ c. setting c ≡ g) parts → (places : List (ℕ × ℕ)) → IsMergeOrder histories places → ∥ Run (machine.whole_moves g count) (machine.whole_resizes g count) (machine.whole (map machine.empty opened)) (steps_at histories places) (machine.whole (map machine.state parts)) ∥₁)
         → IsStampOrder histories order → StampsRise histories order
         → AllMatch eq req number receipts passes (λ n. calls_of n (steps_at histories order))
         → AllByRecursion (λ n. n ≡ 0) opened → AllByRecursion (AllByRecursion (IsMadeBy workers)) histories

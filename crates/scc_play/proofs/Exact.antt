@@ -1,9 +1,9 @@
 -- What was played by one meaning of the calls was played by another that each step has too.
 use Rattle.std.proofs.Common.{ℕ, List}
 use Rattle.std.proofs.Math.Logic.{∥∥₁_map}
-use Rattle.scc_recorded.proofs.Exact.{merged-as, replays-as}
-use Rattle.scc_recorded.specs.declared.recorded.fixed.Request.{Request}
-use Rattle.scc_recorded.specs.declared.recorded.fixed.Setting.{Setting}
+use Rattle.scc_calls.proofs.Exact.{merged-as, replays-as}
+use Rattle.scc_calls.specs.declared.fixed.Request.{Request}
+use Rattle.scc_calls.specs.declared.fixed.Setting.{Setting}
 use Rattle.scc_script.specs.declared.line.WorkerCall.{WorkerCall}
 use Rattle.scc_play.specs.Played.{IsPlayed, Machine}
 

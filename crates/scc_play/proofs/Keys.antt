@@ -2,8 +2,8 @@
 use Rattle.std.proofs.Common.{◌≡◌, ℕ, List, Option, None, Some, Result, Ok, Err, sym, ap, subst}
 use Rattle.std.proofs.Math.Logic.{∥∥₁_map}
 use Rattle.std.specs.Result.{IfOk}
-use Rattle.scc_recorded.specs.declared.recorded.fixed.Request.{Request}
-use Rattle.scc_recorder.specs.Setups.{request_of}
+use Rattle.scc_calls.specs.declared.fixed.Request.{Request}
+use Rattle.scc_recorded.specs.Setups.{request_of}
 use Rattle.scc_script.proofs.OwnHash.{own-hash}
 use Rattle.scc_script.specs.declared.line.WorkerCall.{WorkerCall}
 use Rattle.scc_script.specs.declared.same.Same.{Same}

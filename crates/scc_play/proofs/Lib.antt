@@ -1,7 +1,7 @@
 pub mod Answering
-pub mod Listing
-pub mod Telling
 pub mod Assembling
 pub mod Ending
 pub mod Exact
 pub mod Keys
+pub mod Listing
+pub mod Telling

@@ -3,28 +3,28 @@ use Rattle.std.specs.Prelude.{Option, Some, ◌≡◌, ℕ, ◌%◌, ◌^◌, �
 use Rattle.std.specs.Hash.{le_bytes}
 use Rattle.std.specs.List.Sorted.{IsPermutation}
 use Rattle.std.specs.Ordering.{nat_cmp}
-use Rattle.scc_table.specs.Contents.{Contents, entries, lists_of}
-use Rattle.scc_table.specs.Sizes.{IsArraySize}
+use Rattle.scc_contents.specs.Contents.{Contents, entries, lists_of}
+use Rattle.scc_contents.specs.Sizes.{IsArraySize}
 use Rattle.scc_cache.specs.Caches.{Cached}
-use Rattle.scc_recorded.specs.CacheCalls.{cache_key, number_by, CacheMoves, CacheResizes}
-use Rattle.scc_recorded.specs.IndexCalls.{index_key, IndexMoves}
-use Rattle.scc_recorded.specs.IndexWhole.{IndexWholeMoves}
-use Rattle.scc_recorded.specs.MapCalls.{map_key, MapMoves}
-use Rattle.scc_recorded.specs.MapWhole.{joined, MapWholeMoves}
-use Rattle.scc_recorded.specs.Parted.{PartMoves, PartResizes}
-use Rattle.scc_table.specs.Routing.{stripe_number}
-use Rattle.scc_recorded.specs.SetCalls.{key_of_set, SetMoves}
-use Rattle.scc_recorded.specs.SetWhole.{SetWholeMoves}
-use Rattle.scc_recorded.specs.States.{State, state_of, ResizesTo}
-use Rattle.scc_recorded.specs.WholeLaws.{told_by}
-use Rattle.scc_recorded.specs.declared.recorded.calls_as_values.CacheCall.{CacheCall}
-use Rattle.scc_recorded.specs.declared.recorded.calls_as_values.IndexCall.{IndexCall}
-use Rattle.scc_recorded.specs.declared.recorded.calls_as_values.MapCall.{MapCall}
-use Rattle.scc_recorded.specs.declared.recorded.calls_as_values.SetCall.{SetCall}
-use Rattle.scc_recorded.specs.declared.recorded.fixed.Request.{Request}
-use Rattle.scc_recorded.specs.declared.recorded.replies.Reply.{Reply}
-use Rattle.scc_recorded.specs.declared.recorded.replies.Reply.TheVariants.{Count}
-use Rattle.scc_recorder.specs.Setups.{request_of}
+use Rattle.scc_calls.specs.CacheCalls.{cache_key, number_by, CacheMoves, CacheResizes}
+use Rattle.scc_calls.specs.IndexCalls.{index_key, IndexMoves}
+use Rattle.scc_calls.specs.IndexWhole.{IndexWholeMoves}
+use Rattle.scc_calls.specs.MapCalls.{map_key, MapMoves}
+use Rattle.scc_calls.specs.MapWhole.{joined, MapWholeMoves}
+use Rattle.scc_calls.specs.Parted.{PartMoves, PartResizes}
+use Rattle.scc_contents.specs.Routing.{stripe_number}
+use Rattle.scc_calls.specs.SetCalls.{key_of_set, SetMoves}
+use Rattle.scc_calls.specs.SetWhole.{SetWholeMoves}
+use Rattle.scc_calls.specs.States.{State, state_of, ResizesTo}
+use Rattle.scc_calls.specs.WholeLaws.{told_by}
+use Rattle.scc_calls.specs.declared.calls_as_values.CacheCall.{CacheCall}
+use Rattle.scc_calls.specs.declared.calls_as_values.IndexCall.{IndexCall}
+use Rattle.scc_calls.specs.declared.calls_as_values.MapCall.{MapCall}
+use Rattle.scc_calls.specs.declared.calls_as_values.SetCall.{SetCall}
+use Rattle.scc_calls.specs.declared.fixed.Request.{Request}
+use Rattle.scc_calls.specs.declared.replies.Reply.{Reply}
+use Rattle.scc_calls.specs.declared.replies.Reply.TheVariants.{Count}
+use Rattle.scc_recorded.specs.Setups.{request_of}
 use Rattle.scc_print.specs.Finished.{pair_cmp}
 use Rattle.scc_print.specs.Output.{reply_line, content_line, key_reply_line, key_line}
 use Rattle.scc_script.specs.Hashes.{same_write}
@@ -45,6 +45,7 @@ module _ (hash : ℕ → ℕ) where
   abbrev pub route_by : ℕ → ℕ → ℕ
   route_by stripes k = stripe_number stripes (hash k)
 
+  -- how a script of a map is played
   abbrev pub map_machine : Machine (Contents (ℕ × ℕ) Same) Same (State (ℕ × ℕ)) (List (ℕ × ℕ)) (MapCall ℕ ℕ) (Reply ℕ ℕ) ℕ (ℕ × ℕ)
   map_machine = record {
     limits = λ _ _ m. m ≡ 0;
@@ -64,6 +65,7 @@ module _ (hash : ℕ → ℕ) where
     content = content_line;
   }
 
+  -- how a script of a set is played
   abbrev pub set_machine : Machine (Contents ℕ Same) Same (State ℕ) (List ℕ) (SetCall ℕ) (Reply ℕ (Unit {0})) ℕ ℕ
   set_machine = record {
     limits = λ _ _ m. m ≡ 0;
@@ -83,6 +85,7 @@ module _ (hash : ℕ → ℕ) where
     content = key_line;
   }
 
+  -- how a script of an index is played
   abbrev pub index_machine : Machine (Contents (ℕ × ℕ) Same) Same (State (ℕ × ℕ)) (List (ℕ × ℕ)) (IndexCall ℕ ℕ) (Reply ℕ ℕ) ℕ (ℕ × ℕ)
   index_machine = record {
     limits = λ _ _ m. m ≡ 0;
@@ -102,6 +105,7 @@ module _ (hash : ℕ → ℕ) where
     content = content_line;
   }
 
+  -- how a script of a cache is played
   abbrev pub cache_machine : Machine (Cached (ℕ × ℕ) Same) Same (List (List (ℕ × ℕ))) (List (List (List (ℕ × ℕ)))) (CacheCall ℕ ℕ) (Reply ℕ ℕ) ℕ (ℕ × ℕ)
   cache_machine = record {
     limits = λ asked slots m. IsArraySize (max asked slots) m;
@@ -127,18 +131,23 @@ finished_hash k = (same_write (record { last = 0 }) (le_bytes 8 k)).last
 
 -- what was played for the request that was chosen
 module _ {C S W A R X : Type 0} (machine : (ℕ → ℕ) → Machine C Same S W A R ℕ X) where
+  -- where there was a request for such a script, the text is that of a play of it
   abbrev pub PlayedFor : Option (Request Same) → ℕ → ℕ → List (WorkerCall A) → List ℕ → Type 0
   PlayedFor chosen workers stripes calls text = ∥ ((r : Request Same) × (chosen ≡ Some r) × IsPlayed (machine finished_hash) (route_by finished_hash) r workers stripes calls text) ∥₁
 
+-- the same of a map
 abbrev pub MapPlayedFor : Option (Request Same) → ℕ → ℕ → List (WorkerCall (MapCall ℕ ℕ)) → List ℕ → Type 0
 MapPlayedFor chosen workers stripes calls text = PlayedFor map_machine chosen workers stripes calls text
 
+-- the same of a set
 abbrev pub SetPlayedFor : Option (Request Same) → ℕ → ℕ → List (WorkerCall (SetCall ℕ)) → List ℕ → Type 0
 SetPlayedFor chosen workers stripes calls text = PlayedFor set_machine chosen workers stripes calls text
 
+-- the same of an index
 abbrev pub IndexPlayedFor : Option (Request Same) → ℕ → ℕ → List (WorkerCall (IndexCall ℕ ℕ)) → List ℕ → Type 0
 IndexPlayedFor chosen workers stripes calls text = PlayedFor index_machine chosen workers stripes calls text
 
+-- the same of a cache
 abbrev pub CachePlayedFor : Option (Request Same) → ℕ → ℕ → List (WorkerCall (CacheCall ℕ ℕ)) → List ℕ → Type 0
 CachePlayedFor chosen workers stripes calls text = PlayedFor cache_machine chosen workers stripes calls text
 
@@ -146,11 +155,14 @@ CachePlayedFor chosen workers stripes calls text = PlayedFor cache_machine chose
 abbrev pub MapPlayed : ℕ → ℕ → List (WorkerCall (MapCall ℕ ℕ)) → List ℕ → Type 0
 MapPlayed workers stripes calls text = ∥ IsPlayed (map_machine own_hash) (route_by own_hash) (script_request stripes) workers stripes calls text ∥₁
 
+-- the text is that of a play of a set's script
 abbrev pub SetPlayed : ℕ → ℕ → List (WorkerCall (SetCall ℕ)) → List ℕ → Type 0
 SetPlayed workers stripes calls text = ∥ IsPlayed (set_machine own_hash) (route_by own_hash) (script_request stripes) workers stripes calls text ∥₁
 
+-- the text is that of a play of an index's script
 abbrev pub IndexPlayed : ℕ → ℕ → List (WorkerCall (IndexCall ℕ ℕ)) → List ℕ → Type 0
 IndexPlayed workers stripes calls text = ∥ IsPlayed (index_machine own_hash) (route_by own_hash) (script_request stripes) workers stripes calls text ∥₁
 
+-- the text is that of a play of a cache's script
 abbrev pub CachePlayed : ℕ → ℕ → List (WorkerCall (CacheCall ℕ ℕ)) → List ℕ → Type 0
 CachePlayed workers stripes calls text = ∥ IsPlayed (cache_machine own_hash) (route_by own_hash) (script_request stripes) workers stripes calls text ∥₁

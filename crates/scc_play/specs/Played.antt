@@ -4,14 +4,14 @@ use Rattle.std.specs.List.{AllByRecursion, flat_map, sum_by}
 use Rattle.std.specs.List.Sorted.{IsPermutation, IsSorted}
 use Rattle.std.specs.Ordering.{nat_cmp}
 use Rattle.std.specs.declared.cmp.Ordering.{Ordering}
-use Rattle.scc_table.specs.Sizes.{IsArraySize}
-use Rattle.scc_recorded.specs.Histories.{Replays, CallsRouted, Run}
-use Rattle.scc_recorded.specs.Made.{IsMadeFor}
-use Rattle.scc_recorded.specs.declared.recorded.fixed.Request.{Request}
-use Rattle.scc_recorded.specs.declared.recorded.fixed.Setting.{Setting}
-use Rattle.scc_recorded.specs.declared.recorded.steps.Step.{Step}
-use Rattle.scc_recorded.specs.declared.recorded.steps.Step.TheVariants.{Call, Resize}
-use Rattle.scc_history.specs.Orders.{IsMerge, IsStampOrder, StampsRise, steps_at}
+use Rattle.scc_contents.specs.Sizes.{IsArraySize}
+use Rattle.scc_calls.specs.Histories.{Replays, CallsRouted, Run}
+use Rattle.scc_calls.specs.Made.{IsMadeFor}
+use Rattle.scc_calls.specs.declared.fixed.Request.{Request}
+use Rattle.scc_calls.specs.declared.fixed.Setting.{Setting}
+use Rattle.scc_calls.specs.declared.steps.Step.{Step}
+use Rattle.scc_calls.specs.declared.steps.Step.TheVariants.{Call, Resize}
+use Rattle.scc_history.specs.Orders.{IsMergeOrder, IsStampOrder, StampsRise, steps_at}
 use Rattle.scc_history.specs.Receipts.{calls_of}
 use Rattle.scc_history.specs.Stamps.{calls_in}
 use Rattle.scc_print.specs.Output.{output_of}
@@ -54,7 +54,7 @@ pub record IsPlayed {C H S W A R K X : Type 0} (machine : Machine C H S W A R K 
   pub divided : length histories ≡ stripes
   pub replays : Replays (machine.moves setting) (machine.resizes setting) (replicate stripes (machine.empty 0)) histories (map machine.state ends)
   pub routed : CallsRouted machine.key_of (route stripes) 0 histories
-  pub merges : (order : List (ℕ × ℕ)) → IsMerge histories order → ∥ Run (machine.whole_moves setting stripes) (machine.whole_resizes setting stripes) (machine.whole (replicate stripes (machine.empty 0))) (steps_at histories order) (machine.whole (map machine.state ends)) ∥₁
+  pub merges : (order : List (ℕ × ℕ)) → IsMergeOrder histories order → ∥ Run (machine.whole_moves setting stripes) (machine.whole_resizes setting stripes) (machine.whole (replicate stripes (machine.empty 0))) (steps_at histories order) (machine.whole (map machine.state ends)) ∥₁
   pub known : AllByRecursion (AllByRecursion (IsMadeBy workers)) histories
   pub order : IsStampOrder histories places
   pub stamps : StampsRise histories places

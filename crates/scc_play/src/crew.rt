@@ -1,11 +1,11 @@
 //! One worker of a script.
 ghost use Rattle.std.specs.Prelude.{◌≡◌, length, map, true, IfOk, IsSomeAnd, slice_get};
-ghost use Rattle.scc_table.specs.Routing.{stripe_of};
+ghost use Rattle.scc_contents.specs.Routing.{stripe_of};
 ghost use Rattle.scc_play.specs.Making.{AddsCall};
 
 use scc_print::printed::Printed;
-use scc_recorder::recorder::{Pass, Recorded, Site};
-use scc_workers::stripes::Work;
+use scc_recorded::{Pass, Recorded, Site};
+use scc_workers::Work;
 use std::alloc::{AllocError, Global};
 use std::sync::Wait;
 use std::sync::ledger::Ledger;
@@ -26,7 +26,10 @@ fn make_call<P: Printed, L: Ledger, M: Site<P::Hasher>, R: Wait>(
     pass: &mut Pass<P, L>,
     call: P::Call,
 ) -> bool
-    ensures made { result ≡ true → AddsCall P.key_of P.Call.is_clone P.Reply.eq P.moves (stripe_of P.Hasher.BuildHasher P.Hasher.Hasher.Hasher P.Key.Hash.hash_input recorded.now.hasher recorded.now.stripes) recorded.now.stripes call pass.old.log.clock pass.new.log.clock pass.old.log.receipts.items pass.new.log.receipts.items }
+    ensures made { result ≡ true → AddsCall P.key_of P.Call.is_clone P.Reply.eq P.moves
+        (stripe_of P.Hasher.BuildHasher P.Hasher.Hasher.Hasher P.Key.Hash.hash_input recorded.now.hasher
+        recorded.now.stripes) recorded.now.stripes call pass.old.log.clock pass.new.log.clock
+        pass.old.log.receipts.items pass.new.log.receipts.items }
     ensures number { pass.new.log.number ≡ pass.old.log.number }
 {
     P::equal_calls();
@@ -51,7 +54,11 @@ impl<P: Printed, L: Ledger, M: Site<P::Hasher>, R: Wait> Work for Worker<'_, P, 
     }
 
     fn turn(&mut self, j: usize) -> bool
-        ensures made { result ≡ true → IsSomeAnd (slice_get self.old.calls.now j) (λ call. AddsCall P.key_of P.Call.is_clone P.Reply.eq P.moves (stripe_of P.Hasher.BuildHasher P.Hasher.Hasher.Hasher P.Key.Hash.hash_input self.old.recorded.now.hasher self.old.recorded.now.stripes) self.old.recorded.now.stripes call self.old.pass.log.clock self.new.pass.log.clock self.old.pass.log.receipts.items self.new.pass.log.receipts.items) }
+        ensures made { result ≡ true → IsSomeAnd (slice_get self.old.calls.now j)
+            (λ call. AddsCall P.key_of P.Call.is_clone P.Reply.eq P.moves
+            (stripe_of P.Hasher.BuildHasher P.Hasher.Hasher.Hasher P.Key.Hash.hash_input self.old.recorded.now.hasher
+            self.old.recorded.now.stripes) self.old.recorded.now.stripes call self.old.pass.log.clock
+            self.new.pass.log.clock self.old.pass.log.receipts.items self.new.pass.log.receipts.items) }
         ensures number { self.new.pass.log.number ≡ self.old.pass.log.number }
     {
         match self.calls.get(j) {

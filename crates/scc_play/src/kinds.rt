@@ -1,6 +1,7 @@
-//! Plays a script of each kind on several stripes: a thread may be handed only what is known of in full, so the threads of each kind are started here.
+//! Plays a script of each kind on several stripes: a thread may be handed only what is known of in full, so the threads
+//! of each kind are started here.
 ghost use Rattle.std.specs.Prelude.{◌≡◌, IfOk, Some};
-ghost use Rattle.scc_recorder.specs.Setups.{request_of};
+ghost use Rattle.scc_recorded.specs.Setups.{request_of};
 ghost use Rattle.scc_script.specs.Grammar.{IsCrew, IsDivision};
 ghost use Rattle.scc_play.specs.Ended.{IfPlayed};
 ghost use Rattle.scc_play.specs.Kinds.{MapPlayed, SetPlayed, IndexPlayed, CachePlayed, MapPlayedFor, SetPlayedFor, IndexPlayedFor, CachePlayedFor};
@@ -8,17 +9,17 @@ ghost use Rattle.scc_play.specs.Kinds.{MapPlayed, SetPlayed, IndexPlayed, CacheP
 use crate::crew::{passes_of, workers_of};
 use crate::ends::End;
 use crate::stripes::{divided, finish_run};
-use scc_cache::hash_cache::Owned as OwnedCache;
-use scc_index::hash_index::Owned as OwnedIndex;
-use scc_map::hash_map::Owned as OwnedMap;
+use scc_cache::Owned as OwnedCache;
+use scc_calls::{CacheCall, IndexCall, MapCall, SetCall};
+use scc_common::Shared;
+use scc_index::Owned as OwnedIndex;
+use scc_map::Owned as OwnedMap;
 use scc_print::printed::are_exact;
-use scc_recorded::recorded::{CacheCall, IndexCall, MapCall, SetCall};
-use scc_recorder::recorder::{Recorded, Setup, Site};
+use scc_recorded::{Recorded, Setup, Site};
 use scc_script::line::WorkerCall;
 use scc_script::same::Same;
-use scc_set::hash_set::Owned as OwnedSet;
-use scc_table::Shared;
-use scc_workers::stripes::{Open, run};
+use scc_set::Owned as OwnedSet;
+use scc_workers::{Open, run};
 use std::alloc::{AllocError, Global};
 use std::marker::Brand;
 use std::sync::ledger::{Blank, Ledger};

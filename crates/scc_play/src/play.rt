@@ -11,8 +11,8 @@ ghost use Rattle.scc_play.specs.Kinds.{MapPlayed, SetPlayed, IndexPlayed, CacheP
 
 use crate::ends::{Cause, End};
 use crate::kinds::{play_cache, play_index, play_map, play_set};
+use scc_calls::{CacheCall, IndexCall, MapCall, SetCall};
 use scc_print::alone::{run_cache, run_index, run_map, run_set};
-use scc_recorded::recorded::{CacheCall, IndexCall, MapCall, SetCall};
 use scc_script::line::WorkerCall;
 use scc_script::script::{Script, parse_script};
 use std::alloc::{AllocError, Global};
@@ -76,7 +76,8 @@ fn answer_alone(text: String) -> Answer
 
 // The answer of several workers or stripes.
 fn answer_among(alloc: Global, end: End) -> Result<Answer, AllocError>
-    ensures played { IfOk result (λ a. MatchEnd end (λ text. (a.status ≡ 0) × (string_bytes a.text ≡ text)) (λ cause. (a.status ≡ 5) × (string_bytes a.text ≡ finish_text cause))) }
+    ensures played { IfOk result (λ a. MatchEnd end (λ text. (a.status ≡ 0) × (string_bytes a.text ≡ text))
+        (λ cause. (a.status ≡ 5) × (string_bytes a.text ≡ finish_text cause))) }
 {
     match end {
         End::Played(text) => Ok(answer_alone(text)),
@@ -107,7 +108,8 @@ fn answer_map<R: Threads + Wait + Sync>(
     calls: &[WorkerCall<MapCall<u64, u64>>],
 ) -> Result<Answer, AllocError>
     requires { IsCrew workers × IsDivision stripes }
-    ensures { IfOk result (λ a. AnswersBy (MapOutput (all_calls calls.now)) (MapPlayed workers stripes calls.now) workers stripes a.status (string_bytes a.text)) }
+    ensures { IfOk result (λ a. AnswersBy (MapOutput (all_calls calls.now)) (MapPlayed workers stripes calls.now)
+        workers stripes a.status (string_bytes a.text)) }
 {
     if workers == 1 && stripes == 1 {
         let all = calls_alone(alloc, calls)?;
@@ -126,7 +128,8 @@ fn answer_set<R: Threads + Wait + Sync>(
     calls: &[WorkerCall<SetCall<u64>>],
 ) -> Result<Answer, AllocError>
     requires { IsCrew workers × IsDivision stripes }
-    ensures { IfOk result (λ a. AnswersBy (SetOutput (all_calls calls.now)) (SetPlayed workers stripes calls.now) workers stripes a.status (string_bytes a.text)) }
+    ensures { IfOk result (λ a. AnswersBy (SetOutput (all_calls calls.now)) (SetPlayed workers stripes calls.now)
+        workers stripes a.status (string_bytes a.text)) }
 {
     if workers == 1 && stripes == 1 {
         let all = calls_alone(alloc, calls)?;
@@ -145,7 +148,8 @@ fn answer_index<R: Threads + Wait + Sync>(
     calls: &[WorkerCall<IndexCall<u64, u64>>],
 ) -> Result<Answer, AllocError>
     requires { IsCrew workers × IsDivision stripes }
-    ensures { IfOk result (λ a. AnswersBy (IndexOutput (all_calls calls.now)) (IndexPlayed workers stripes calls.now) workers stripes a.status (string_bytes a.text)) }
+    ensures { IfOk result (λ a. AnswersBy (IndexOutput (all_calls calls.now)) (IndexPlayed workers stripes calls.now)
+        workers stripes a.status (string_bytes a.text)) }
 {
     if workers == 1 && stripes == 1 {
         let all = calls_alone(alloc, calls)?;
@@ -164,7 +168,8 @@ fn answer_cache<R: Threads + Wait + Sync>(
     calls: &[WorkerCall<CacheCall<u64, u64>>],
 ) -> Result<Answer, AllocError>
     requires { IsCrew workers × IsDivision stripes }
-    ensures { IfOk result (λ a. AnswersBy (CacheOutput (all_calls calls.now)) (CachePlayed workers stripes calls.now) workers stripes a.status (string_bytes a.text)) }
+    ensures { IfOk result (λ a. AnswersBy (CacheOutput (all_calls calls.now)) (CachePlayed workers stripes calls.now)
+        workers stripes a.status (string_bytes a.text)) }
 {
     if workers == 1 && stripes == 1 {
         let all = calls_alone(alloc, calls)?;
@@ -226,7 +231,8 @@ fn finish<W: Write>(writer: &mut W, text: &str, status: u8) -> u8
     status
 }
 
-/// Reads a script, makes its calls on a new container of the kind that it names, and writes what they answered. The answer is the exit status.
+/// Reads a script, makes its calls on a new container of the kind that it names, and writes what they answered. The
+/// answer is the exit status.
 ///
 /// The script is read whole before any line is checked, every line is checked before any call is made, and the whole
 /// output is written last. Each worker makes its calls on a thread of its own, on a recorded container in as many
@@ -247,8 +253,10 @@ pub fn play<T: Threads + Wait + Sync, R: Read, W: Write>(
     reader: &mut R,
     writer: &mut W,
 ) -> u8
-    ensures ends { IfSome (R.remaining reader.old) (λ script. Ends (W.contents writer.old) (W.contents writer.new) (script_of script) result) }
-    ensures status { (result ≡ FINISHED) ⊎ ((result ≡ BAD_CALL) ⊎ ((result ≡ NO_MEMORY) ⊎ ((result ≡ STREAM_FAILED) ⊎ (result ≡ UNFINISHED)))) }
+    ensures ends { IfSome (R.remaining reader.old)
+        (λ script. Ends (W.contents writer.old) (W.contents writer.new) (script_of script) result) }
+    ensures status { (result ≡ FINISHED) ⊎ ((result ≡ BAD_CALL)
+        ⊎ ((result ≡ NO_MEMORY) ⊎ ((result ≡ STREAM_FAILED) ⊎ (result ≡ UNFINISHED)))) }
 {
     let mut script = Vec::new(alloc);
     if let Err(error) = reader.read_to_end(&mut script) {

@@ -3,7 +3,7 @@ ghost use Rattle.std.specs.Prelude.{◌≡◌, ℕ, ◌<◌, length, map, min, I
 ghost use Rattle.std.specs.List.{AllByRecursion, sum_by};
 ghost use Rattle.scc_play.specs.Answered.{AreAnswered, AreInOrder, IsAnswered, IsJoint, number_of, calls_by};
 
-use scc_history::history::Receipt;
+use scc_history::Receipt;
 use scc_print::printed::Printed;
 use scc_script::line::WorkerCall;
 use std::alloc::{AllocError, Global};
@@ -118,7 +118,8 @@ pub(crate) fn replies_of<P: Printed>(
     receipts: &[Receipt<P::Call, P::Reply>],
 ) -> Result<Option<Vec<P::Reply>>, AllocError>
     requires { 0 < stripes }
-    ensures { IfOk result (λ o. IfSome o (λ replies. AreAnswered P.key_of P.told P.count_reply stripes calls.now receipts.now replies.items)) }
+    ensures { IfOk result (λ o. IfSome o
+        (λ replies. AreAnswered P.key_of P.told P.count_reply stripes calls.now receipts.now replies.items)) }
 {
     let mut replies = Vec::new(alloc);
     let mut rest = receipts;

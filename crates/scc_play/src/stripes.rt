@@ -1,12 +1,12 @@
 //! What workers were told, and the end of their run.
 ghost use Rattle.std.specs.Prelude.{◌≡◌, ℕ, ◌<◌, List, length, map, IfOk, IfSome, Ok, Some, slice_get, vec_len};
 ghost use Rattle.std.specs.String.{string_bytes};
-ghost use Rattle.scc_table.specs.Routing.{stripe_of};
-ghost use Rattle.scc_recorded.specs.declared.recorded.fixed.Request.{Request};
-ghost use Rattle.scc_recorded.specs.Histories.{CallsRouted, FirstMisrouted};
+ghost use Rattle.scc_contents.specs.Routing.{stripe_of};
+ghost use Rattle.scc_calls.specs.declared.fixed.Request.{Request};
+ghost use Rattle.scc_calls.specs.Histories.{CallsRouted, FirstMisrouted};
 ghost use Rattle.scc_history.specs.Orders.{IsOnlyStampOrder, steps_at};
 ghost use Rattle.scc_history.specs.Receipts.{AreAll, calls_of as records_of};
-ghost use Rattle.scc_recorder.specs.Closing.{FirstDisagrees};
+ghost use Rattle.scc_recorded.specs.Closing.{FirstDisagrees};
 ghost use Rattle.scc_play.specs.Answered.{calls_by};
 ghost use Rattle.scc_play.specs.Ended.{IfPlayed};
 ghost use Rattle.scc_play.specs.Played.{IsPlayed};
@@ -16,7 +16,7 @@ use crate::ends::{Cause, End};
 use crate::receipts::{calls_of, replies_of};
 use crate::whole::whole_text;
 use scc_print::printed::Printed;
-use scc_recorder::recorder::{Closed, FinishError, Pass, Site};
+use scc_recorded::{Closed, FinishError, Pass, Site};
 use scc_script::line::WorkerCall;
 use std::alloc::{AllocError, Global};
 use std::sync::ledger::Ledger;
@@ -29,7 +29,9 @@ fn told_by_all<P: Printed, L: Ledger>(
     passes: &[Pass<P, L>],
 ) -> Result<Option<Vec<Vec<P::Reply>>>, AllocError>
     requires { 0 < stripes }
-    ensures { IfOk result (λ o. IfSome o (λ told. AreTold P.key_of P.told P.count_reply stripes calls.now (λ p. p.log.number) (λ p. p.log.receipts.items) (λ v. v.items) 0 passes.now told.items)) }
+    ensures { IfOk result (λ o. IfSome o
+        (λ told. AreTold P.key_of P.told P.count_reply stripes calls.now (λ p. p.log.number)
+        (λ p. p.log.receipts.items) (λ v. v.items) 0 passes.now told.items)) }
 {
     let mut told = Vec::new(alloc);
     for k in 0..passes.len() {
@@ -53,7 +55,8 @@ pub(crate) fn divided<P: Printed>(
     calls: &[WorkerCall<P::Call>],
 ) -> Result<Vec<Vec<P::Call>>, AllocError>
     ensures len { IfOk result (λ v. vec_len v ≡ workers) }
-    ensures each { IfOk result (λ v. (w : ℕ) → w < workers → IfSome (slice_get v.items w) (λ l. l.items ≡ calls_by w calls.now)) }
+    ensures each { IfOk result (λ v. (w : ℕ) → w < workers
+        → IfSome (slice_get v.items w) (λ l. l.items ≡ calls_by w calls.now)) }
 {
     let mut lists = Vec::new(alloc);
     for worker in 0..workers {
@@ -90,10 +93,21 @@ where
     P::Hasher: Drop,
     requires stripes { (vec_len closed.stripes ≡ stripes) × (0 < stripes) }
     requires workers { closed.passes ≡ workers }
-    ensures missing { result ≡ Ok (End.Unfinished Cause.Missing) → ¬ AreAll closed.passes (map (λ p. p.log.number) passes.items) }
-    ensures misrouted { result ≡ Ok (End.Unfinished Cause.Misrouted) → (i : ℕ) × (j : ℕ) × FirstMisrouted P.key_of (stripe_of P.Hasher.BuildHasher P.Hasher.Hasher.Hasher P.Key.Hash.hash_input closed.hasher (vec_len closed.stripes)) (map (λ s. s.stripe.history.items) closed.stripes.items) i j }
-    ensures disagrees { result ≡ Ok (End.Unfinished Cause.Disagrees) → (n : ℕ) × (k : ℕ) × ∥ ((places : List (ℕ × ℕ)) × IsOnlyStampOrder (map (λ s. s.stripe.history.items) closed.stripes.items) places × FirstDisagrees P.Call.eq P.Reply.eq (λ p. p.log.number) (λ p. p.log.receipts.items) passes.items (λ m. records_of m (steps_at (map (λ s. s.stripe.history.items) closed.stripes.items) places)) n k) ∥₁ }
-    ensures differs { result ≡ Ok (End.Unfinished Cause.Differs) → AreAll closed.passes (map (λ p. p.log.number) passes.items) × CallsRouted P.key_of (stripe_of P.Hasher.BuildHasher P.Hasher.Hasher.Hasher P.Key.Hash.hash_input closed.hasher (vec_len closed.stripes)) 0 (map (λ s. s.stripe.history.items) closed.stripes.items) }
+    ensures missing { result ≡ Ok (End.Unfinished Cause.Missing)
+        → ¬ AreAll closed.passes (map (λ p. p.log.number) passes.items) }
+    ensures misrouted { result ≡ Ok (End.Unfinished Cause.Misrouted)
+        → (i : ℕ) × (j : ℕ) × FirstMisrouted P.key_of
+        (stripe_of P.Hasher.BuildHasher P.Hasher.Hasher.Hasher P.Key.Hash.hash_input closed.hasher
+        (vec_len closed.stripes)) (map (λ s. s.stripe.history.items) closed.stripes.items) i j }
+    ensures disagrees { result ≡ Ok (End.Unfinished Cause.Disagrees)
+        → (n : ℕ) × (k : ℕ) × ∥ ((places : List (ℕ × ℕ))
+        × IsOnlyStampOrder (map (λ s. s.stripe.history.items) closed.stripes.items) places
+        × FirstDisagrees P.Call.eq P.Reply.eq (λ p. p.log.number) (λ p. p.log.receipts.items) passes.items
+        (λ m. records_of m (steps_at (map (λ s. s.stripe.history.items) closed.stripes.items) places)) n k) ∥₁ }
+    ensures differs { result ≡ Ok (End.Unfinished Cause.Differs)
+        → AreAll closed.passes (map (λ p. p.log.number) passes.items)
+        × CallsRouted P.key_of (stripe_of P.Hasher.BuildHasher P.Hasher.Hasher.Hasher P.Key.Hash.hash_input
+        closed.hasher (vec_len closed.stripes)) 0 (map (λ s. s.stripe.history.items) closed.stripes.items) }
     ensures played { IfOk result (λ e. IfPlayed e (λ text. ∥ ((r : Request P.Hasher) × (M.chosen ≡ Some r)
         × IsPlayed (record { limits = P.limits; empty = P.empty; key_of = P.key_of; moves = P.moves; resizes = P.resizes; whole = P.whole; whole_moves = P.whole_moves; whole_resizes = P.whole_resizes; told = P.told; count = P.count_reply; state = P.state; shown = P.shown; order = P.Item.cmp; reply = P.reply_line; content = P.item_line })
         (stripe_of P.Hasher.BuildHasher P.Hasher.Hasher.Hasher P.Key.Hash.hash_input r.hasher) r workers stripes calls.now text) ∥₁)) }

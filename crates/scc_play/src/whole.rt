@@ -7,10 +7,10 @@ ghost use Rattle.scc_history.specs.Stamps.{calls_in};
 ghost use Rattle.scc_print.specs.Output.{output_of};
 ghost use Rattle.scc_play.specs.Played.{IsMadeBy};
 
+use scc_calls::Step;
 use scc_print::printed::Printed;
 use scc_print::texts::output_text;
-use scc_recorded::recorded::Step;
-use scc_recorder::recorder::Finished;
+use scc_recorded::Finished;
 use std::alloc::{AllocError, Global};
 
 // Whether each call of a history was made by one of so many workers.
@@ -97,7 +97,8 @@ pub(crate) fn whole_text<P: Printed + Drop>(
     replies: &[Vec<P::Reply>],
     finished: Finished<P>,
 ) -> Result<Option<String>, AllocError>
-    ensures known { IfOk result (λ o. IfSome o (λ text. AllByRecursion (AllByRecursion (IsMadeBy workers)) (map (λ h. h.items) finished.histories.items))) }
+    ensures known { IfOk result (λ o. IfSome o
+        (λ text. AllByRecursion (AllByRecursion (IsMadeBy workers)) (map (λ h. h.items) finished.histories.items))) }
     ensures opened { IfOk result (λ o. IfSome o (λ text. AllByRecursion (λ n. n ≡ 0) finished.opened.items)) }
     ensures text { IfOk result (λ o. IfSome o (λ text. (items : List P.Item) × IsPermutation (flat_map P.shown finished.parts.items) items × IsSorted P.Item.cmp items
         × (string_bytes text ≡ output_of P.reply_line P.item_line (map (λ v. v.items) replies.now) items (sum_by calls_in (map (λ h. h.items) finished.histories.items))))) }

@@ -4,18 +4,18 @@ use Rattle.std.specs.List.{flat_map}
 use Rattle.std.specs.List.Sorted.{IsPermutation, IsSorted}
 use Rattle.std.specs.Ordering.{nat_cmp, ordering_then}
 use Rattle.std.specs.declared.cmp.Ordering.{Ordering}
-use Rattle.scc_table.specs.Routing.{bucket_number}
-use Rattle.scc_recorded.specs.Run.{IsRun}
-use Rattle.scc_recorded.specs.States.{ResizesTo}
-use Rattle.scc_recorded.specs.CacheCalls.{CacheMoves, CacheResizes}
-use Rattle.scc_recorded.specs.IndexCalls.{IndexMoves}
-use Rattle.scc_recorded.specs.MapCalls.{MapMoves}
-use Rattle.scc_recorded.specs.SetCalls.{SetMoves}
-use Rattle.scc_recorded.specs.declared.recorded.calls_as_values.CacheCall.{CacheCall}
-use Rattle.scc_recorded.specs.declared.recorded.calls_as_values.IndexCall.{IndexCall}
-use Rattle.scc_recorded.specs.declared.recorded.calls_as_values.MapCall.{MapCall}
-use Rattle.scc_recorded.specs.declared.recorded.calls_as_values.SetCall.{SetCall}
-use Rattle.scc_recorded.specs.declared.recorded.fixed.Setting.{Setting}
+use Rattle.scc_contents.specs.Routing.{bucket_number}
+use Rattle.scc_calls.specs.Run.{IsRun}
+use Rattle.scc_calls.specs.States.{ResizesTo}
+use Rattle.scc_calls.specs.CacheCalls.{CacheMoves, CacheResizes}
+use Rattle.scc_calls.specs.IndexCalls.{IndexMoves}
+use Rattle.scc_calls.specs.MapCalls.{MapMoves}
+use Rattle.scc_calls.specs.SetCalls.{SetMoves}
+use Rattle.scc_calls.specs.declared.calls_as_values.CacheCall.{CacheCall}
+use Rattle.scc_calls.specs.declared.calls_as_values.IndexCall.{IndexCall}
+use Rattle.scc_calls.specs.declared.calls_as_values.MapCall.{MapCall}
+use Rattle.scc_calls.specs.declared.calls_as_values.SetCall.{SetCall}
+use Rattle.scc_calls.specs.declared.fixed.Setting.{Setting}
 use Rattle.scc_script.specs.declared.same.Same.{Same}
 use Rattle.scc_print.specs.Output.{reply_line, content_line, key_reply_line, key_line, output_of}
 
@@ -49,9 +49,11 @@ pub record IsOutputOf {P S C R X : Type 0} (state : P → S) (items : P → List
 abbrev pub MapOutput : List (MapCall ℕ ℕ) → List ℕ → Type 0
 MapOutput calls text = (setting : Setting Same) × IsOutput (MapMoves nat_eq) (ResizesTo setting) ([], 0) (λ s. s.0) pair_cmp reply_line content_line calls text
 
+-- the text is that of a run of the calls on an empty set
 abbrev pub SetOutput : List (SetCall ℕ) → List ℕ → Type 0
 SetOutput calls text = (setting : Setting Same) × IsOutput (SetMoves nat_eq) (ResizesTo setting) ([], 0) (λ s. s.0) nat_cmp key_reply_line key_line calls text
 
+-- the text is that of a run of the calls on an empty index
 abbrev pub IndexOutput : List (IndexCall ℕ ℕ) → List ℕ → Type 0
 IndexOutput calls text = (setting : Setting Same) × IsOutput (IndexMoves nat_eq) (ResizesTo setting) ([], 0) (λ s. s.0) pair_cmp reply_line content_line calls text
 

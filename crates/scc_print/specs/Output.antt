@@ -2,8 +2,8 @@
 use Rattle.std.specs.Prelude.{ℕ, ◌+◌, true, false, List, [], ◌∷◌, ◌++◌, length, Option, Some, None, codes}
 use Rattle.std.specs.List.{flat_map}
 use Rattle.std.specs.Fmt.{decimal}
-use Rattle.scc_recorded.specs.declared.recorded.replies.Reply.{Reply}
-use Rattle.scc_recorded.specs.declared.recorded.replies.Reply.TheVariants.{Inserted, Exists, Old, Key, Pair, Value, Has, Evicted, Cleared, Count}
+use Rattle.scc_calls.specs.declared.replies.Reply.{Reply}
+use Rattle.scc_calls.specs.declared.replies.Reply.TheVariants.{Inserted, Exists, Old, Key, Pair, Value, Has, Evicted, Cleared, Count}
 
 -- a word and a number, or `none`
 abbrev pub value_line : List ℕ → Option ℕ → List ℕ

@@ -5,12 +5,12 @@ ghost use Rattle.scc_print.specs.Finished.{IsOutputOf, MapOutput, SetOutput, Ind
 
 use crate::printed::{Printed, are_exact};
 use crate::texts::output_text;
-use scc_cache::hash_cache::Owned as OwnedCache;
-use scc_index::hash_index::Owned as OwnedIndex;
-use scc_map::hash_map::Owned as OwnedMap;
-use scc_recorded::recorded::{CacheCall, IndexCall, MapCall, SetCall, run};
+use scc_cache::Owned as OwnedCache;
+use scc_calls::{CacheCall, IndexCall, MapCall, SetCall, run};
+use scc_index::Owned as OwnedIndex;
+use scc_map::Owned as OwnedMap;
 use scc_script::same::Same;
-use scc_set::hash_set::Owned as OwnedSet;
+use scc_set::Owned as OwnedSet;
 use std::alloc::{AllocError, Global};
 
 // Makes the calls on a container, and prints their replies and the contents that they leave.
@@ -19,7 +19,9 @@ fn run_on<P: Printed>(
     container: &mut P,
     calls: &[P::Call],
 ) -> Result<String, AllocError>
-    ensures { IfOk result (λ text. IsOutputOf P.state P.shown (P.moves (P.setting container.old)) (P.resizes (P.setting container.old)) (P.state container.old) P.Item.cmp P.reply_line P.item_line calls.now (string_bytes text)) }
+    ensures { IfOk result (λ text. IsOutputOf P.state P.shown (P.moves (P.setting container.old))
+        (P.resizes (P.setting container.old)) (P.state container.old) P.Item.cmp P.reply_line P.item_line calls.now
+        (string_bytes text)) }
 {
     P::equal_calls();
     P::equal_replies();

@@ -2,14 +2,14 @@
 ghost use Rattle.std.specs.Prelude.{◌≡◌, ℕ, List, ◌++◌, OnOk, true};
 ghost use Rattle.std.specs.List.Sorted.{IsPermutation};
 ghost use Rattle.std.specs.String.{string_bytes};
-ghost use Rattle.scc_recorded.specs.Copies.{AreSame, ClonesEqual};
+ghost use Rattle.scc_calls.specs.Copies.{AreSame, ClonesEqual};
 
 mod caches;
 mod indexes;
 mod maps;
 mod sets;
 
-use scc_recorded::recorded::WholeCalls;
+use scc_calls::WholeCalls;
 use std::alloc::AllocError;
 
 /// A container whose replies and contents are printed.

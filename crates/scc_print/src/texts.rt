@@ -5,7 +5,7 @@ ghost use Rattle.std.specs.String.{string_bytes};
 ghost use Rattle.scc_print.specs.Output.{value_line, pair_line, reply_line, key_reply_line, lines_of_all, worker_text, workers_text, contents_text, output_of};
 
 use crate::printed::Printed;
-use scc_recorded::recorded::Reply;
+use scc_calls::Reply;
 use std::alloc::{AllocError, Global};
 use std::fmt::Write;
 
@@ -74,7 +74,8 @@ fn add_worker<P: Printed>(
     worker: usize,
     replies: &[P::Reply],
 ) -> Result<(), AllocError>
-    ensures { OnOk result (string_bytes output.new ≡ string_bytes output.old ++ worker_text P.reply_line worker replies.now) }
+    ensures { OnOk result (string_bytes output.new
+        ≡ string_bytes output.old ++ worker_text P.reply_line worker replies.now) }
 {
     writeln!(output, "worker {worker}")?;
     for reply in replies {
@@ -85,7 +86,8 @@ fn add_worker<P: Printed>(
 
 // Adds the lines of all workers, from worker 0 on.
 fn add_workers<P: Printed>(output: &mut String, replies: &[Vec<P::Reply>]) -> Result<(), AllocError>
-    ensures { OnOk result (string_bytes output.new ≡ string_bytes output.old ++ workers_text P.reply_line 0 (map (λ v. v.items) replies.now)) }
+    ensures { OnOk result (string_bytes output.new
+        ≡ string_bytes output.old ++ workers_text P.reply_line 0 (map (λ v. v.items) replies.now)) }
 {
     for worker in 0..replies.len() {
         add_worker::<P>(output, worker, replies[worker].as_slice())?;
@@ -113,7 +115,8 @@ pub fn output_text<P: Printed>(
     items: &[P::Item],
     records: usize,
 ) -> Result<String, AllocError>
-    ensures { IfOk result (λ text. string_bytes text ≡ output_of P.reply_line P.item_line (map (λ v. v.items) replies.now) items.now records) }
+    ensures { IfOk result (λ text. string_bytes text
+        ≡ output_of P.reply_line P.item_line (map (λ v. v.items) replies.now) items.now records) }
 {
     let mut output = String::new(alloc);
     add_workers::<P>(&mut output, replies)?;

@@ -1,16 +1,7 @@
-pub mod CacheCalls
-mod CacheMaking
-mod CacheReplies
-mod CacheRoom
-mod Copying
-pub mod Exact
-pub mod Independence
-mod IndexCalls
-mod MapCalls
-mod SetCalls
-pub mod MapIndependence
-pub mod MapRuns
-pub mod Runs
-mod States
-pub mod Merges
-mod Making
+pub mod Adding
+pub mod Alike
+pub mod Causes
+pub mod ComparingLemmas
+pub mod Handing
+pub mod Placed
+pub mod Seen

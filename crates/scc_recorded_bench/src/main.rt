@@ -1,6 +1,8 @@
-//! Measures recorded calls beside plain ones under the same kind of lock, and how long it takes to finish what was recorded.
+//! Measures recorded calls beside plain ones under the same kind of lock, and how long it takes to finish what was
+//! recorded.
 //!
-//! The arguments are `CALLS KEYS RUNS`; where one is left out, the usual number stands for it. The status is 1 where the contents differ at the end, where an argument is no number, and where memory is refused.
+//! The arguments are `CALLS KEYS RUNS`; where one is left out, the usual number stands for it. The status is 1 where
+//! the contents differ at the end, where an argument is no number, and where memory is refused.
 #![tactic(auto)]
 
 mod pairs;

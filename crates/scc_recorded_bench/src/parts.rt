@@ -1,9 +1,9 @@
 //! The maps that are measured, and what a measurement of them is.
 ghost use Rattle.std.specs.Prelude.{◌≤◌};
 
-use scc_map::hash_map::Owned;
-use scc_recorded::recorded::{Calls, MapCall};
-use scc_table::Shared;
+use scc_calls::{Calls, MapCall};
+use scc_common::Shared;
+use scc_map::Owned;
 use std::alloc::{AllocError, Global};
 use std::hash::{BuildHasherDefault, FoldHasher};
 use std::io;

@@ -1,10 +1,10 @@
 //! Recorded calls, and the end of what they recorded.
 ghost use Rattle.std.specs.Prelude.{◌≡◌, ◌<◌, ◌++◌, IfOk, IsTrue, OnOk, Some, map, vec_len};
-ghost use Rattle.scc_recorder.specs.Setups.{request_of};
+ghost use Rattle.scc_recorded.specs.Setups.{request_of};
 
 use crate::parts::{Fold, Map, Outcome, PARTS, fold_hasher, nanos, out_of_memory, sum_of_all};
-use scc_recorded::recorded::MapCall;
-use scc_recorder::recorder::{Finished, Pass, Recorded, Setup, Site};
+use scc_calls::MapCall;
+use scc_recorded::{Finished, Pass, Recorded, Setup, Site};
 use std::alloc::Global;
 use std::io;
 use std::marker::Brand;
@@ -27,7 +27,8 @@ fn record_all<L: Ledger, M: Site<Fold>, R: Wait>(
     pass: &mut Pass<Map, L>,
     pairs: &[(u64, u64)],
 ) -> bool
-    ensures { IsTrue result → map (λ r. r.call) pass.new.log.receipts.items ≡ map (λ r. r.call) pass.old.log.receipts.items ++ map (λ p. MapCall.Upsert p.0 p.1) pairs.now }
+    ensures { IsTrue result → map (λ r. r.call) pass.new.log.receipts.items
+        ≡ map (λ r. r.call) pass.old.log.receipts.items ++ map (λ p. MapCall.Upsert p.0 p.1) pairs.now }
 {
     for (key, value) in pairs {
         let Ok(_reply) = recorded.call(rt, pass, MapCall::Upsert(*key, *value)) else {
@@ -44,7 +45,8 @@ fn time_calls<L: Ledger, M: Site<Fold>, R: Wait + Clock>(
     pass: &mut Pass<Map, L>,
     pairs: &[(u64, u64)],
 ) -> io::Result<(u64, Instant)>
-    ensures { OnOk result (map (λ r. r.call) pass.new.log.receipts.items ≡ map (λ r. r.call) pass.old.log.receipts.items ++ map (λ p. MapCall.Upsert p.0 p.1) pairs.now) }
+    ensures { OnOk result (map (λ r. r.call) pass.new.log.receipts.items
+        ≡ map (λ r. r.call) pass.old.log.receipts.items ++ map (λ p. MapCall.Upsert p.0 p.1) pairs.now) }
 {
     let start = Instant::now(rt)?;
     if !record_all(rt, recorded, pass, pairs) {

@@ -4,8 +4,8 @@ ghost use Rattle.std.specs.Prelude.{◌≡◌, ◌<◌, ◌≤◌, IfOk, length,
 use crate::parts::{
     Fold, Map, Outcome, PARTS, fold_hasher, locked_map, nanos, out_of_memory, sum_of, upsert,
 };
-use scc_recorded::recorded::route;
-use scc_table::Share;
+use scc_calls::route;
+use scc_common::TryShare;
 use std::alloc::{AllocError, Global};
 use std::io;
 use std::rt::Clock;

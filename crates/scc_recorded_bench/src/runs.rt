@@ -34,7 +34,8 @@ fn run_once<R: Wait + Clock>(rt: &R, alloc: Global, pairs: &[(u64, u64)]) -> io:
 
 // Whether all hold the same at the end, by the sums.
 fn agree(run: &Run) -> bool
-    ensures { IsTrue result ↔ ((run.now.routed.sum ≡ run.now.plain.sum) × (run.now.recorded.calls.sum ≡ run.now.plain.sum) × (run.now.recorded_texts.calls.sum ≡ run.now.texts.sum)) }
+    ensures { IsTrue result ↔ ((run.now.routed.sum ≡ run.now.plain.sum)
+        × (run.now.recorded.calls.sum ≡ run.now.plain.sum) × (run.now.recorded_texts.calls.sum ≡ run.now.texts.sum)) }
 {
     run.routed.sum == run.plain.sum
         && run.recorded.calls.sum == run.plain.sum
@@ -67,7 +68,8 @@ fn print_checks(rt: &impl Print, run: &Run) -> io::Result<()> {
     check(rt, "recorded-texts", run.recorded_texts.calls.sum)
 }
 
-/// Goes through all measures once to warm up and then as often as asked, and prints a line for each measure of each time. Fails where the sums of one time differ.
+/// Goes through all measures once to warm up and then as often as asked, and prints a line for each measure of each
+/// time. Fails where the sums of one time differ.
 pub fn measure<R: Wait + Clock + Print>(rt: &R, alloc: Global, request: Request) -> io::Result<()>
     requires { 0 < request.keys }
 {

@@ -1,12 +1,12 @@
 //! Plain and recorded calls on a map of texts, whose keys and values are cloned into memory of their own.
 ghost use Rattle.std.specs.Prelude.{◌≡◌, ◌<◌, Some, vec_len};
-ghost use Rattle.scc_recorder.specs.Setups.{request_of};
+ghost use Rattle.scc_recorded.specs.Setups.{request_of};
 
 use crate::parts::{Fold, Outcome, PARTS, fold_hasher, nanos, out_of_memory};
 use crate::recording::Recording;
-use scc_map::hash_map::Owned;
-use scc_recorded::recorded::{Calls, MapCall};
-use scc_recorder::recorder::{Finished, Pass, Recorded, Setup, Site};
+use scc_calls::{Calls, MapCall};
+use scc_map::Owned;
+use scc_recorded::{Finished, Pass, Recorded, Setup, Site};
 use std::alloc::{AllocError, Global};
 use std::io;
 use std::marker::Brand;

@@ -1,6 +1,6 @@
-pub mod Parts
-pub mod Numbers
-pub mod Extras
 pub mod Cuts
-pub mod Steps
+pub mod Extras
+pub mod Numbers
 pub mod OwnHash
+pub mod Parts
+pub mod Steps

@@ -6,14 +6,14 @@ use Rattle.std.specs.Char.{is_ascii_digit}
 use Rattle.std.specs.Str.{bytes_eq}
 use Rattle.std.specs.Str.Lines.{strip_carriage_return}
 use Rattle.std.specs.Str.Parse.{digits_value}
-use Rattle.scc_recorded.specs.declared.recorded.calls_as_values.MapCall.{MapCall}
-use Rattle.scc_recorded.specs.declared.recorded.calls_as_values.MapCall.TheVariants as map_call
-use Rattle.scc_recorded.specs.declared.recorded.calls_as_values.SetCall.{SetCall}
-use Rattle.scc_recorded.specs.declared.recorded.calls_as_values.SetCall.TheVariants as set_call
-use Rattle.scc_recorded.specs.declared.recorded.calls_as_values.IndexCall.{IndexCall}
-use Rattle.scc_recorded.specs.declared.recorded.calls_as_values.IndexCall.TheVariants as index_call
-use Rattle.scc_recorded.specs.declared.recorded.calls_as_values.CacheCall.{CacheCall}
-use Rattle.scc_recorded.specs.declared.recorded.calls_as_values.CacheCall.TheVariants as cache_call
+use Rattle.scc_calls.specs.declared.calls_as_values.MapCall.{MapCall}
+use Rattle.scc_calls.specs.declared.calls_as_values.MapCall.TheVariants as map_call
+use Rattle.scc_calls.specs.declared.calls_as_values.SetCall.{SetCall}
+use Rattle.scc_calls.specs.declared.calls_as_values.SetCall.TheVariants as set_call
+use Rattle.scc_calls.specs.declared.calls_as_values.IndexCall.{IndexCall}
+use Rattle.scc_calls.specs.declared.calls_as_values.IndexCall.TheVariants as index_call
+use Rattle.scc_calls.specs.declared.calls_as_values.CacheCall.{CacheCall}
+use Rattle.scc_calls.specs.declared.calls_as_values.CacheCall.TheVariants as cache_call
 use Rattle.scc_script.specs.declared.line.Header.{Header}
 use Rattle.scc_script.specs.declared.line.Kind.{Kind}
 use Rattle.scc_script.specs.declared.line.Kind.TheVariants.{Map, Set, Index, Cache}
@@ -53,6 +53,7 @@ either len clear name =
     (cond (bytes_eq name (codes "clear")) (Some clear)
     None)
 
+-- a map's call of that name with a key
 abbrev pub map_keyed : List ℕ → ℕ → Option (MapCall ℕ ℕ)
 map_keyed name key =
     cond (bytes_eq name (codes "read")) (Some (map_call.Read key))
@@ -61,15 +62,18 @@ map_keyed name key =
     (cond (bytes_eq name (codes "replace")) (Some (map_call.Replace key))
     None)))
 
+-- a map's call of that name with a key and a value
 abbrev pub map_paired : List ℕ → ℕ → ℕ → Option (MapCall ℕ ℕ)
 map_paired name key value =
     cond (bytes_eq name (codes "insert")) (Some (map_call.Insert key value))
     (cond (bytes_eq name (codes "upsert")) (Some (map_call.Upsert key value))
     None)
 
+-- the names of a map's calls
 abbrev pub map_names : Names (MapCall ℕ ℕ)
 map_names = record { bare = either map_call.Len map_call.Clear; keyed = map_keyed; paired = map_paired }
 
+-- a set's call of that name with a key
 abbrev pub set_keyed : List ℕ → ℕ → Option (SetCall ℕ)
 set_keyed name key =
     cond (bytes_eq name (codes "insert")) (Some (set_call.Insert key))
@@ -79,9 +83,11 @@ set_keyed name key =
     (cond (bytes_eq name (codes "contains")) (Some (set_call.Contains key))
     None))))
 
+-- the names of a set's calls
 abbrev pub set_names : Names (SetCall ℕ)
 set_names = record { bare = either set_call.Len set_call.Clear; keyed = set_keyed; paired = λ name key value. None }
 
+-- an index's call of that name with a key
 abbrev pub index_keyed : List ℕ → ℕ → Option (IndexCall ℕ ℕ)
 index_keyed name key =
     cond (bytes_eq name (codes "read")) (Some (index_call.Read key))
@@ -89,15 +95,18 @@ index_keyed name key =
     (cond (bytes_eq name (codes "remove")) (Some (index_call.Remove key))
     None))
 
+-- an index's call of that name with a key and a value
 abbrev pub index_paired : List ℕ → ℕ → ℕ → Option (IndexCall ℕ ℕ)
 index_paired name key value =
     cond (bytes_eq name (codes "insert")) (Some (index_call.Insert key value))
     (cond (bytes_eq name (codes "update")) (Some (index_call.Update key value))
     None)
 
+-- the names of an index's calls
 abbrev pub index_names : Names (IndexCall ℕ ℕ)
 index_names = record { bare = either index_call.Len index_call.Clear; keyed = index_keyed; paired = index_paired }
 
+-- a cache's call of that name with a key
 abbrev pub cache_keyed : List ℕ → ℕ → Option (CacheCall ℕ ℕ)
 cache_keyed name key =
     cond (bytes_eq name (codes "get")) (Some (cache_call.Get key))
@@ -107,12 +116,14 @@ cache_keyed name key =
     (cond (bytes_eq name (codes "replace")) (Some (cache_call.Replace key))
     None))))
 
+-- a cache's call of that name with a key and a value
 abbrev pub cache_paired : List ℕ → ℕ → ℕ → Option (CacheCall ℕ ℕ)
 cache_paired name key value =
     cond (bytes_eq name (codes "put")) (Some (cache_call.Put key value))
     (cond (bytes_eq name (codes "write")) (Some (cache_call.Write key value))
     None)
 
+-- the names of a cache's calls
 abbrev pub cache_names : Names (CacheCall ℕ ℕ)
 cache_names = record { bare = either cache_call.Len cache_call.Clear; keyed = cache_keyed; paired = cache_paired }
 
@@ -166,9 +177,11 @@ is_division kind stripes = (stripes == 1) || ((stripes == 2) || ((stripes == 4) 
 abbrev pub IsCrew : ℕ → Type 0
 IsCrew workers = (0 < workers) × (workers ≤ 16)
 
+-- into how many stripes a container may be divided
 abbrev pub IsDivision : ℕ → Type 0
 IsDivision stripes = (stripes ≡ 1) ⊎ (stripes ≡ 2) ⊎ (stripes ≡ 4) ⊎ (stripes ≡ 8) ⊎ (stripes ≡ 16)
 
+-- the first line of a script, where its numbers are allowed
 abbrev pub header_of_numbers : Kind → ℕ → ℕ → Option Header
 header_of_numbers kind workers stripes = cond (is_crew workers && is_division kind stripes) (Some (record { kind = kind; workers = workers; stripes = stripes })) None
 
@@ -180,6 +193,7 @@ header_of_fields (kind ∷ workers ∷ []) = None
 header_of_fields (kind ∷ workers ∷ stripes ∷ []) = if_there (kind_of_name kind) (λ k. if_there (number_of workers) (λ w. if_there (number_of stripes) (λ s. header_of_numbers k w s)))
 header_of_fields (kind ∷ workers ∷ stripes ∷ extra ∷ more) = None
 
+-- the first line of a script, where it is one
 abbrev pub header_of_line : List ℕ → Option Header
 header_of_line line = header_of_fields (parts 32 line)
 
@@ -234,6 +248,7 @@ meaning_of_kind Set workers stripes lines = meaning_by (set_calls workers stripe
 meaning_of_kind Index workers stripes lines = meaning_by (index_calls workers stripes) (calls_of_lines index_names workers 2 lines)
 meaning_of_kind Cache workers stripes lines = meaning_by (cache_calls workers stripes) (calls_of_lines cache_names workers 2 lines)
 
+-- what the lines after the first mean, where that was one
 abbrev pub meaning_of_lines : Option Header → List (List ℕ) → Meaning
 meaning_of_lines None lines = bad_line 1
 meaning_of_lines (Some h) lines = meaning_of_kind h.kind h.workers h.stripes lines

@@ -1,3 +1,3 @@
 pub mod Grammar
-pub mod Scripts
 pub mod Hashes
+pub mod Scripts

@@ -7,10 +7,12 @@ use Rattle.scc_script.specs.declared.script.Lines.TheVariants as lines
 use Rattle.scc_script.specs.declared.script.Script.{Script}
 use Rattle.scc_script.specs.declared.script.Script.TheVariants.{Map, Set, Index, Cache, BadLine}
 
+-- the calls that were read, or the number of the line that is no call
 abbrev pub calls_or_line : {C : Type 0} → Lines C → Result (List (WorkerCall C)) ℕ
 calls_or_line (lines.Calls calls) = Ok calls.items
 calls_or_line (lines.BadLine number) = Err number
 
+-- what a script means
 abbrev pub meaning_of : Script → Meaning
 meaning_of (Map workers stripes calls) = map_calls workers stripes calls.items
 meaning_of (Set workers stripes calls) = set_calls workers stripes calls.items

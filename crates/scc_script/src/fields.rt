@@ -6,8 +6,10 @@ ghost use Rattle.scc_script.specs.Grammar.{parts};
 ///
 /// The parts of `text` are then the first of the two and the parts of the second, or `text` alone.
 pub fn cut_at(text: &[u8], byte: u8) -> Option<(&[u8], &[u8])>
-    ensures parts { MatchOption result (parts byte text.now ≡ text.now ∷ []) (λ cut. parts byte text.now ≡ cut.0.now ∷ parts byte cut.1.now) }
-    ensures shorter { MatchOption result (length text.now ≡ length text.now) (λ cut. length cut.1.now < length text.now) }
+    ensures parts { MatchOption result (parts byte text.now ≡ text.now ∷ [])
+        (λ cut. parts byte text.now ≡ cut.0.now ∷ parts byte cut.1.now) }
+    ensures shorter { MatchOption result (length text.now ≡ length text.now)
+        (λ cut. length cut.1.now < length text.now) }
 {
     for (place, b) in text.iter().enumerate() {
         if *b == byte {

@@ -53,7 +53,8 @@ fn named_call<C: Named>(text: &[u8]) -> Option<C>
     }
 }
 
-/// The call that a line means: one of so many workers, a call's name and exactly its arguments, one space between two fields.
+/// The call that a line means: one of so many workers, a call's name and exactly its arguments, one space between two
+/// fields.
 ///
 /// `None` where the line is no such call. The line has neither its line feed nor the carriage return before that.
 pub fn parse_line<C: Named>(line: &[u8], workers: usize) -> Option<WorkerCall<C>>
@@ -115,7 +116,8 @@ fn header_with(kind: Kind, workers: usize, stripes: usize) -> Option<Header>
     }
 }
 
-/// The kind that a script's first line names, with its numbers of workers and of stripes; `None` where it is no such line.
+/// The kind that a script's first line names, with its numbers of workers and of stripes; `None` where it is no such
+/// line.
 pub fn parse_header(line: &[u8]) -> Option<Header>
     ensures value { result ≡ header_of_line line.now }
     ensures crew { IfSome result (λ h. IsCrew h.workers × IsDivision h.stripes) }

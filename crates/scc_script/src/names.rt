@@ -2,7 +2,7 @@
 ghost use Rattle.std.specs.Prelude.{◌≡◌, ℕ};
 ghost use Rattle.scc_script.specs.Grammar.{Names, either, map_keyed, map_paired, set_keyed, index_keyed, index_paired, cache_keyed, cache_paired};
 
-use scc_recorded::recorded::{CacheCall, IndexCall, MapCall, SetCall};
+use scc_calls::{CacheCall, IndexCall, MapCall, SetCall};
 
 /// Calls that a script may name.
 pub trait Named: Copy {

@@ -6,7 +6,7 @@ ghost use Rattle.scc_script.specs.Scripts.{meaning_of, calls_or_line, HasCrew};
 use crate::line::{Header, Kind, WorkerCall, parse_header, parse_line};
 use crate::lines::first_line;
 use crate::names::Named;
-use scc_recorded::recorded::{CacheCall, IndexCall, MapCall, SetCall};
+use scc_calls::{CacheCall, IndexCall, MapCall, SetCall};
 use std::alloc::{AllocError, Global};
 
 /// What a script is.
@@ -55,7 +55,8 @@ fn parse_calls<C: Named>(alloc: Global, workers: usize, text: &[u8]) -> Result<L
 // What the lines behind the header are.
 fn parse_rest(alloc: Global, header: Header, rest: &[u8]) -> Result<Script, AllocError>
     requires { IsCrew header.workers × IsDivision header.stripes }
-    ensures value { IfOk result (λ script. meaning_of script ≡ meaning_of_kind header.kind header.workers header.stripes (lines_of rest.now)) }
+    ensures value { IfOk result (λ script. meaning_of script
+        ≡ meaning_of_kind header.kind header.workers header.stripes (lines_of rest.now)) }
     ensures crew { IfOk result HasCrew }
 {
     let workers = header.workers;

@@ -4,10 +4,10 @@ use Rattle.std.specs.List.{AllZip}
 use Rattle.std.specs.Map.{keys_of}
 use Rattle.std.specs.Option.{IsSomeAnd}
 use Rattle.std.proofs.lemmas.List.Sorted.{IsPermutation-map}
-use Rattle.scc_table.specs.Clones.{HasClones}
-use Rattle.scc_table.specs.Contents.{Contents, entries}
-use Rattle.scc_table.specs.Pairs.{find as find_pair}
-use Rattle.scc_table.proofs.Mapped.{entries-mapped, bucket_count-mapped, settings_of-mapped}
+use Rattle.scc_contents.specs.Clones.{HasClones}
+use Rattle.scc_contents.specs.Contents.{Contents, entries}
+use Rattle.scc_contents.specs.Pairs.{find as find_pair}
+use Rattle.scc_buckets.proofs.Mapped.{entries-mapped, bucket_count-mapped, settings_of-mapped}
 use Rattle.scc_map.specs.Collections as pairs
 use Rattle.scc_set.specs.Collections.{FindsClones}
 use Rattle.scc_set.specs.Keys.{of_map}

@@ -1,6 +1,6 @@
 pub mod Clones
 pub mod Collecting
 pub mod Places
+mod Room
 pub mod Sets
 pub mod Walks
-mod Room

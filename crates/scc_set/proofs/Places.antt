@@ -3,15 +3,15 @@ use Rattle.std.proofs.Common.{◌≡◌, ℕ, zero, suc, Bool, List, [], ◌∷�
 use Rattle.std.specs.List.{slice_get, remove}
 use Rattle.std.specs.Map.{keys_of}
 use Rattle.std.specs.Option.{option_map}
-use Rattle.scc_table.specs.Contents.{Contents, entries}
-use Rattle.scc_table.specs.Placed as spots
-use Rattle.scc_incremental.specs.Placed.{front_of}
-use Rattle.scc_incremental.specs.Places.{index_of}
-use Rattle.scc_incremental.specs.Places.{StandsAt}
-use Rattle.scc_table.specs.Steps.{Holds, HoldsExactly}
-use Rattle.scc_table.specs.declared.place.Place.{Place}
-use Rattle.scc_table.proofs.Mapped.{entries-mapped, length-mapped, Holds-mapped, HoldsExactly-mapped}
-use Rattle.scc_incremental.proofs.MappedPlaces.{index_of-mapped, StandsAt-mapped}
+use Rattle.scc_contents.specs.Contents.{Contents, entries}
+use Rattle.scc_buckets.specs.Placed as spots
+use Rattle.scc_table.specs.Placed.{front_of}
+use Rattle.scc_table.specs.Places.{index_of}
+use Rattle.scc_table.specs.Places.{StandsAt}
+use Rattle.scc_contents.specs.Steps.{Holds, HoldsExactly}
+use Rattle.scc_buckets.specs.declared.place.Place.{Place}
+use Rattle.scc_buckets.proofs.Mapped.{entries-mapped, length-mapped, Holds-mapped, HoldsExactly-mapped}
+use Rattle.scc_table.proofs.MappedPlaces.{index_of-mapped, StandsAt-mapped}
 use Rattle.scc_set.specs.Keys.{of_map}
 use Rattle.scc_set.specs.SetWalks.{Declines}
 
@@ -62,5 +62,5 @@ module _ {K S : Type 0} (c : Contents (K × Unit {0}) S) where
 
 -- a closure that declined the keys before a place declined its front
 pub declines-front : {F K S : Type 0} {T : F → K → Bool → F → Type 0} {f t : F} (c : Contents K S) (place : Place) → Declines T f (take (index_of c place) (entries c)) t → Declines T f (front_of c place) t
-unfolding spots.front_of
+unfolding spots.front_of_spot
 declines-front c place h = h

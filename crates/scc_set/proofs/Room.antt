@@ -3,10 +3,10 @@ use Rattle.std.proofs.Common.{◌≡◌, ℕ, inl, inr, map, sym, ap, subst, ◌
 use Rattle.std.specs.Hash.{HashWrites}
 use Rattle.std.specs.declared.hash.Hasher as hasher
 use Rattle.std.specs.declared.hash.BuildHasher as builder
-use Rattle.scc_table.specs.Contents.{Contents, lists_of, key_hash}
-use Rattle.scc_table.specs.Mapped.{mapped}
-use Rattle.scc_table.specs.Steps.{IsReadyFor, MakesRoom}
-use Rattle.scc_table.proofs.Mapped.{Rests-mapped, Grows-mapped, HasRoomBy-mapped, HasRoomBy-from_mapped}
+use Rattle.scc_contents.specs.Contents.{Contents, lists_of, key_hash}
+use Rattle.scc_contents.specs.Mapped.{mapped}
+use Rattle.scc_contents.specs.Steps.{IsReadyFor, MakesRoom}
+use Rattle.scc_buckets.proofs.Mapped.{Rests-mapped, Grows-mapped, HasRoomBy-mapped, HasRoomBy-from_mapped}
 use Rattle.scc_set.specs.Keys.{of_map}
 use Rattle.scc_set.proofs.Sets.{hash-same, shows, waiting-keys}
 

@@ -57,6 +57,7 @@ second-some None (Some y) h = refl
 second-some (Some x) (Some y) h = refl
 
 module _ {K : Type 0} (eq : K → K → Bool) where
+  -- equality of sets goes both ways
   pub keys_eq-symm : (ks ls : List K) → keys_eq eq ks ls ≡ keys_eq eq ls ks
   unfolding keys_eq
   keys_eq-symm ks ls = and-comm (list_all (is_member eq ls) ks) (list_all (is_member eq ks) ls)
@@ -71,6 +72,7 @@ module _ {K : Type 0} (eq : K → K → Bool) where
     all-through (k ∷ ks) ls ms a b =
         both (all-any (is_member eq ms) (eq k) (is_member eq ms k) (λ l p q. any-alike k l q ms ∙ p) ls b (first_so (is_member eq ls k) (list_all (is_member eq ls) ks) a)) (all-through ks ls ms (second_so (is_member eq ls k) (list_all (is_member eq ls) ks) a) b)
 
+    -- what equals the same set is equal
     pub keys_eq-trans : (ks ls ms : List K) → keys_eq eq ks ls ≡ true → keys_eq eq ls ms ≡ true → keys_eq eq ks ms ≡ true
     unfolding keys_eq
     keys_eq-trans ks ls ms a b =
@@ -88,6 +90,7 @@ module _ {K : Type 0} (eq : K → K → Bool) where
     all-own : (ks : List K) → list_all (is_member eq ks) ks ≡ true
     all-own ks = all-own-from [] ks
 
+    -- a set equals itself
     pub keys_eq-refl : (ks : List K) → keys_eq eq ks ks ≡ true
     unfolding keys_eq
     keys_eq-refl ks = both (all-own ks) (all-own ks)

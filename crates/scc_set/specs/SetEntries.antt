@@ -6,13 +6,13 @@ use Rattle.std.specs.declared.cmp.PartialEq as eq
 use Rattle.std.specs.declared.hash.Hash as hash
 use Rattle.std.specs.declared.hash.Hasher as hasher
 use Rattle.std.specs.declared.hash.BuildHasher as builder
-use Rattle.scc_table.specs.Contents.{Contents, refused_of, waiting_of}
-use Rattle.scc_incremental.specs.Placed.{entry_of, front_of, back_of, SplitsAt, IsNextAt, IsNextPastRemovedAt}
-use Rattle.scc_table.specs.Steps.{HoldsExactly}
-use Rattle.scc_table.specs.declared.place.Place.{Place}
+use Rattle.scc_contents.specs.Contents.{Contents, refused_of, waiting_of}
+use Rattle.scc_table.specs.Placed.{entry_of, front_of, back_of, SplitsAt, IsNextAt, IsNextPastRemovedAt}
+use Rattle.scc_contents.specs.Steps.{HoldsExactly}
+use Rattle.scc_buckets.specs.declared.place.Place.{Place}
 use Rattle.scc_set.specs.Keys.{IsUnique}
 use Rattle.scc_set.specs.Lends.{set_row}
-use Rattle.scc_set.specs.declared.hash_set.owned.entry.OccupiedEntry.{OccupiedEntry}
+use Rattle.scc_set.specs.declared.owned.entry.OccupiedEntry.{OccupiedEntry}
 
 module _ {K S T : Type 0} {g : eq.Ghosts K} {h : hash.Ghosts K} {b : builder.Ghosts S T} {w : hasher.Ghosts T} where
   -- where the entry stands
@@ -23,9 +23,11 @@ module _ {K S T : Type 0} {g : eq.Ghosts K} {h : hash.Ghosts K} {b : builder.Gho
   abbrev pub occupied_key : OccupiedEntry K S T g h b w → K
   occupied_key o = entry_of o.set.now (place_of o) o.within
 
+  -- the keys before the entry
   abbrev pub occupied_front : OccupiedEntry K S T g h b w → List K
   occupied_front o = front_of o.set.now (place_of o)
 
+  -- the keys after the entry
   abbrev pub occupied_back : OccupiedEntry K S T g h b w → List K
   occupied_back o = back_of o.set.now (place_of o)
 

@@ -2,8 +2,8 @@
 use Rattle.std.specs.Prelude.{◌≡◌, ℕ, Bool, true, false, ◌∷◌, Option, None, Some, Result, Ok, Err, IsSome, IsSomeAnd}
 use Rattle.std.specs.Borrow.{Bor}
 use Rattle.std.specs.Fn.{Once, FnOnceReturnsAt}
-use Rattle.scc_table.specs.Contents.{Contents, entries}
-use Rattle.scc_table.specs.Steps.{Holds, HoldsExactly, IsUnchanged, Rests}
+use Rattle.scc_contents.specs.Contents.{Contents, entries}
+use Rattle.scc_contents.specs.Steps.{Holds, HoldsExactly, IsUnchanged, Rests}
 use Rattle.scc_common.specs.declared.errors.InsertError.{InsertError}
 use Rattle.scc_common.specs.declared.errors.InsertError.TheVariants.{Exists as PairExists, Memory as PairMemory}
 use Rattle.scc_common.specs.declared.errors.KeyError.{KeyError}
@@ -48,6 +48,7 @@ module _ {F K S : Type 0} (g : Once F (Unit {0}) Bool) (f : F) (eq : K → K →
   RemovedIf q true = (r ≡ Some q) × Holds c (without eq (entries c) k) d
   RemovedIf q false = (r ≡ None) × IsUnchanged c d
 
+  -- a missing key changes nothing; else the closure was asked, and the key goes where it answered true
   abbrev pub RemovesIf : Option K → Type 0
   RemovesIf None = (r ≡ None) × IsUnchanged c d
   RemovesIf (Some q) = (b : Bool) × g.post f tt b × RemovedIf q b

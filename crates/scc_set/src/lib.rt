@@ -1,4 +1,6 @@
 //! A hash set over the map of `scc_map`, for one owner.
 #![tactic(auto)]
 
-pub mod hash_set;
+pub mod owned;
+
+pub use owned::Owned;

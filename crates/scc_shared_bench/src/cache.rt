@@ -1,9 +1,9 @@
 //! Steps over a cache that get a key, and put it where it is missing.
 use crate::crew::{Outcome, out_of_memory, print_check, print_line, run};
 use crate::request::Request;
+use scc_common::InsertError;
 use scc_measures::streams::{Streams, value};
 use scc_shared_cache::HashCache;
-use scc_table::InsertError;
 use std::alloc::{AllocError, Global};
 use std::io;
 use std::rt::Clock;

@@ -2,9 +2,9 @@
 use crate::crew::{Outcome, print_check, print_line, run};
 use crate::reads::{Map, PEER, filled, read, sum_of_values};
 use crate::request::Request;
+use scc_common::InsertError;
 use scc_measures::steps::{Spread, Step, crew_steps};
 use scc_measures::streams::value;
-use scc_table::InsertError;
 use std::alloc::Global;
 use std::io;
 use std::rt::Clock;

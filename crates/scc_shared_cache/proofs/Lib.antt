@@ -1,2 +1,2 @@
 mod Replies
-mod Sizes
+pub mod SizesLemmas

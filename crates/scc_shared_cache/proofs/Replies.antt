@@ -4,12 +4,12 @@ use Rattle.std.specs.declared.cmp.PartialEq as eq
 use Rattle.std.specs.declared.hash.Hash as hash
 use Rattle.std.specs.declared.hash.Hasher as hasher
 use Rattle.std.specs.declared.hash.BuildHasher as builder
-use Rattle.scc_table.specs.Contents.{lists_of}
+use Rattle.scc_contents.specs.Contents.{lists_of}
 use Rattle.scc_common.specs.declared.guard.Guard as guard
 use Rattle.scc_cache.specs.Caches.{Cached}
 use Rattle.scc_cache.specs.Entries.{Replaces}
-use Rattle.scc_cache.specs.declared.hash_cache.held.HeldReplace.{HeldReplace}
-use Rattle.scc_cache.specs.declared.hash_cache.held.HeldReplace.TheVariants.{Replaced, NotReplaced}
+use Rattle.scc_cache.specs.declared.held.HeldReplace.{HeldReplace}
+use Rattle.scc_cache.specs.declared.held.HeldReplace.TheVariants.{Replaced, NotReplaced}
 use Rattle.scc_cache.proofs.Replies.{there-equal}
 use Rattle.scc_shared_cache.specs.Replies.{ReplacesEqual}
 

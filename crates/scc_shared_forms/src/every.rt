@@ -244,7 +244,8 @@ fn in_shared_forms<
     map.max(set).max(index).max(cache)
 }
 
-/// Tries a case in each kind: for one owner, shared on one stripe, and shared on several. A line is printed for each, and the answer is the worst status.
+/// Tries a case in each kind: for one owner, shared on one stripe, and shared on several. A line is printed for each,
+/// and the answer is the worst status.
 pub fn in_every_form<
     R: Wait + AllocGlobal + Print,
     K: Eq + Hash + Clone + Drop + Numbered,

@@ -1,6 +1,117 @@
 //! A hash map that threads share: a fixed number of stripes, each an owned map behind a lock.
 #![tactic(auto)]
 
-pub mod hash_map;
+ghost use Rattle.std.specs.Prelude.{◌≤◌, ◌^◌};
 
-pub use hash_map::HashMap;
+mod calls;
+mod entries;
+mod sizes;
+mod walks;
+mod whole;
+
+use scc_buckets::sizes::slots_for;
+use scc_common::{MakeError, Shared};
+use scc_map::Owned;
+use scc_map::locked::{Entry, OccupiedEntry, ReplaceResult, VacantEntry};
+use scc_stripes::Striped;
+use scc_stripes::shares::bits_for;
+pub use sizes::Reserve;
+use std::alloc::Global;
+use std::hash::{BuildHasher, BuildHasherDefault, FoldHasher, Hash};
+use std::sync::Arc;
+
+/// A map from keys to values that threads share by reference. Each of its stripes is an owned map behind a lock, and a
+/// call takes the lock of the stripe of its key.
+///
+/// A thread that holds an entry and calls into the same stripe waits for itself.
+#[derive(Drop)]
+pub struct HashMap<K: Eq + Hash, V, H: BuildHasher = BuildHasherDefault<FoldHasher>> {
+    stripes: Striped<Owned<K, V, Shared<H>>, H>,
+    alloc: Global,
+}
+
+impl<K: Eq + Hash + Drop, V: Drop> HashMap<K, V> {
+    /// An empty map of 16 stripes without arrays.
+    pub fn new(alloc: Global) -> Result<Self, MakeError> {
+        HashMap::with_hasher(alloc, BuildHasherDefault::new())
+    }
+
+    /// An empty map with at least so many slots in all stripes together.
+    pub fn with_capacity(alloc: Global, capacity: usize) -> Result<Self, MakeError> {
+        HashMap::with_capacity_and_hasher(alloc, capacity, BuildHasherDefault::new())
+    }
+}
+
+impl<K: Eq + Hash, V, H: BuildHasher> HashMap<K, V, H> {
+    /// An empty map of 16 stripes without arrays.
+    pub fn with_hasher(alloc: Global, hasher: H) -> Result<Self, MakeError>
+    where
+        K: Drop,
+        V: Drop,
+        H: Drop,
+    {
+        HashMap::with_capacity_and_hasher(alloc, 0, hasher)
+    }
+
+    /// An empty map with at least so many slots in all stripes together. They are divided evenly among as many stripes
+    /// as get 64 slots each, 16 at most; 16 stripes without arrays for 0.
+    pub fn with_capacity_and_hasher(
+        alloc: Global,
+        capacity: usize,
+        hasher: H,
+    ) -> Result<Self, MakeError>
+    where
+        K: Drop,
+        V: Drop,
+        H: Drop,
+    {
+        if capacity == 0 {
+            return HashMap::in_stripes(alloc, 4, 0, hasher);
+        }
+        let slots = slots_for(capacity);
+        HashMap::in_stripes(alloc, bits_for(slots), slots, hasher)
+    }
+
+    /// As many stripes as so many bits can number, each with its share of the slots.
+    fn in_stripes(alloc: Global, bits: u32, slots: usize, hasher: H) -> Result<Self, MakeError>
+    where
+        K: Drop,
+        V: Drop,
+        H: Drop,
+        requires bits { bits ≤ 4 }
+        requires most { slots ≤ 2 ^ 63 }
+    {
+        let Ok(owner) = Arc::new(alloc, hasher) else {
+            return Err(MakeError);
+        };
+        HashMap::under(alloc, bits, slots, owner)
+    }
+
+    /// The same under a hasher that others may own too.
+    fn under(alloc: Global, bits: u32, slots: usize, owner: Arc<H>) -> Result<Self, MakeError>
+    where
+        K: Drop,
+        V: Drop,
+        H: Drop,
+        requires bits { bits ≤ 4 }
+        requires most { slots ≤ 2 ^ 63 }
+    {
+        let stripes = Striped::make(alloc, bits, slots, 0, owner)?;
+        Ok(HashMap { stripes, alloc })
+    }
+
+    /// An empty map under the same hasher.
+    fn alike(&self, capacity: usize) -> Result<Self, MakeError>
+    where
+        K: Drop,
+        V: Drop,
+        H: Drop,
+    {
+        let owner = self.stripes.owner()?;
+        if capacity == 0 {
+            return HashMap::under(self.alloc, 4, 0, owner);
+        }
+        let slots = slots_for(capacity);
+        HashMap::under(self.alloc, bits_for(slots), slots, owner)
+    }
+}

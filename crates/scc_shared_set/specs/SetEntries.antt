@@ -7,19 +7,21 @@ use Rattle.std.specs.declared.hash.Hasher as hasher
 use Rattle.std.specs.declared.hash.BuildHasher as builder
 use Rattle.scc_map.specs.Entries.{occupied_pair, occupied_front as pairs_before, occupied_back as pairs_after}
 use Rattle.scc_map.specs.EntrySteps as pairs
-use Rattle.scc_table.specs.Contents.{Contents}
+use Rattle.scc_contents.specs.Contents.{Contents}
 use Rattle.scc_common.specs.declared.guard.Guard as guard
-use Rattle.scc_map.specs.declared.hash_map.held.HeldEntry.{HeldEntry}
-use Rattle.scc_shared_set.specs.declared.hash_set.entries.HeldKey.{HeldKey}
+use Rattle.scc_map.specs.declared.held.HeldEntry.{HeldEntry}
+use Rattle.scc_shared_set.specs.declared.entries.HeldKey.{HeldKey}
 
 module _ {G N K S T : Type 0} {d : guard.Ghosts G (Contents (K × Unit {0}) S)} {g : eq.Ghosts K} {h : hash.Ghosts K} {b : builder.Ghosts S T} {w : hasher.Ghosts T} where
   -- the key of the entry, and the keys before and after it in the list of its stripe
   abbrev pub occupied_key : HeldKey (HeldEntry G N K (Unit {0}) S T d g h b w) → K
   occupied_key o = (occupied_pair o.entry).0
 
+  -- the keys of the stripe before the entry
   abbrev pub occupied_front : HeldKey (HeldEntry G N K (Unit {0}) S T d g h b w) → List K
   occupied_front o = keys_of (pairs_before o.entry)
 
+  -- the keys of the stripe after the entry
   abbrev pub occupied_back : HeldKey (HeldEntry G N K (Unit {0}) S T d g h b w) → List K
   occupied_back o = keys_of (pairs_after o.entry)
 

@@ -1,12 +1,12 @@
 // Tests of the cache that threads share: worked cases, and eviction under four threads.
 mod as_owned;
 
-use scc_fixtures::numbers::next;
-use scc_fixtures::zero::Zero;
+use scc_cache::DEFAULT_MAXIMUM_CAPACITY;
+use scc_common::InsertError;
 use scc_script::same::Same;
 use scc_shared_cache::HashCache;
-use scc_shared_cache::hash_cache::DEFAULT_MAXIMUM_CAPACITY;
-use scc_table::InsertError;
+use scc_test_kit::numbers::next;
+use scc_test_kit::zero::Zero;
 use std::process::Abort;
 use std::sync::Wait;
 use std::test::Fail;
@@ -112,7 +112,8 @@ const THREADS: usize = 4;
 
 const CALLS: u64 = 3000;
 
-// What a thread put in less what it was told went out, as a number of pairs, a sum of keys and one of values, and whether the cache was always within its maximum.
+// What a thread put in less what it was told went out, as a number of pairs, a sum of keys and one of values, and
+// whether the cache was always within its maximum.
 #[derive(Clone, Copy)]
 struct Balance {
     pairs: u64,

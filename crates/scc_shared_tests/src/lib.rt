@@ -1,4 +1,5 @@
-//! Containers that threads share as their callers use them, in one thread and in several, each case under its plain name.
+//! Containers that threads share as their callers use them, in one thread and in several, each case under its plain
+//! name.
 #![tactic(auto)]
 
 #[cfg(test)]

@@ -21,10 +21,12 @@ module _ (R : RattleType) (b : ℕ) where
   places_own o [] = ftrue
   places_own o (c ∷ cs) = fsep (place_owns o c) (places_own (o + type_size R) cs)
 
+  -- what a place shows while it is lent to be read
   abbrev pub place_shows : ℕ → Option R.Denot → Lft → Fml
   place_shows o None = nothing
   place_shows o (Some x) = shared_of R x b o
 
+  -- what places in a row show while they are lent to be read
   abbrev pub places_show : ℕ → List (Option R.Denot) → Lft → Fml
   places_show o [] = nothing
   places_show o (c ∷ cs) = beside (place_shows o c) (places_show (o + type_size R) cs)
@@ -34,10 +36,12 @@ module _ (R : RattleType) where
   abbrev pub bounded : List (Option R.Denot) → Fml
   bounded cs = flt (length cs * type_size R) (2 ^ 63)
 
+  -- a row owns its places
   abbrev pub row_owns : Ptr → List (Option R.Denot) → Fml
   row_owns null_ptr cs = ffalse
   row_owns (block_ptr b o) cs = fsep (places_own R b o cs) (bounded cs)
 
+  -- what a row shows while it is lent to be read
   abbrev pub row_shows : Ptr → List (Option R.Denot) → Lft → Fml
   row_shows null_ptr cs = said ffalse
   row_shows (block_ptr b o) cs = beside (places_show R b o cs) (said (bounded cs))

@@ -3,5 +3,6 @@ use Rattle.std.specs.Prelude.{ℕ, List, slice_set, Option, Some}
 use Rattle.std.specs.Borrow.{Fml, RattleType, MutBor, Lends}
 use Rattle.scc_slots.specs.contracts.slots.Slots.{the_row}
 
+-- the entry at place i is lent: once it is given back, the place holds what was written
 abbrev pub lends_slot : (R : RattleType) → MutBor (List (Option R.Denot)) → ℕ → MutBor R.Denot → Fml
 lends_slot R slots i entry = Lends (the_row R) R slots entry (λ w. slice_set slots.now i (Some w))

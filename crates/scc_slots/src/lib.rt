@@ -1,4 +1,5 @@
-//! One block of places for entries, seen as a list of options. A place doesn't say whether it is in use: its owner has to know.
+//! One block of places for entries, seen as a list of options. A place doesn't say whether it is in use: its owner has
+//! to know.
 #![tactic(auto)]
 
 mod block;

@@ -1,4 +1,5 @@
-//! The places themselves, behind a pointer, and the right to give their block back. The only code of the containers that goes by a raw pointer.
+//! The places themselves, behind a pointer, and the right to give their block back. The only code of the containers
+//! that goes by a raw pointer.
 ghost use Rattle.std.specs.Prelude.{◌≡◌, ℕ, ◌<◌, List, Option, Some, None, length, replicate, slice_index_or, slice_set, IfOk};
 ghost use Rattle.std.specs.Borrow.{sem};
 ghost use Rattle.std.specs.Vec.Ownership.{FitsInBlock};
@@ -74,7 +75,8 @@ pub(crate) fn obtain<E, A: Allocator>(
     count: usize,
 ) -> Result<(Start<E>, (Row<E>, Right<E, A>)), AllocError>
     requires { FitsInBlock E.row count }
-    ensures { IfOk result (λ made. (made.1.0.start ≡ made.0.first) × (made.1.0.places ≡ replicate count None) × (made.1.1.start ≡ made.0.first) × (made.1.1.count ≡ count) × (made.1.1.alloc ≡ alloc.now)) }
+    ensures { IfOk result (λ made. (made.1.0.start ≡ made.0.first) × (made.1.0.places ≡ replicate count None)
+        × (made.1.1.start ≡ made.0.first) × (made.1.1.count ≡ count) × (made.1.1.alloc ≡ alloc.now)) }
 {
     match alloc.allocate(count * size_of::<E>(), align_of::<E>()) {
         Err(refused) => Err(refused),
@@ -95,7 +97,8 @@ pub(crate) fn give_back<E, A: Allocator>(
     row: Row<E>,
     right: Right<E, A>,
 )
-    requires { (row.start ≡ start.first) × (row.places ≡ replicate count None) × (right.start ≡ start.first) × (right.count ≡ count) × (right.alloc ≡ alloc.now) }
+    requires { (row.start ≡ start.first) × (row.places ≡ replicate count None) × (right.start ≡ start.first)
+        × (right.count ≡ count) × (right.alloc ≡ alloc.now) }
 {
     let Row { of: _ } = row;
     let Right { of: _ } = right;

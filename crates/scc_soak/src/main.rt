@@ -1,6 +1,7 @@
 //! Lets threads call each container that they share, round after round, and adds up what they were told.
 //!
-//! The arguments are `SECONDS THREADS CALLS`; where one is left out, the usual number stands for it. The status is 1 where counts don't add up, where an argument is no number, and where memory is refused.
+//! The arguments are `SECONDS THREADS CALLS`; where one is left out, the usual number stands for it. The status is 1
+//! where counts don't add up, where an argument is no number, and where memory is refused.
 #![tactic(auto)]
 
 mod caches;

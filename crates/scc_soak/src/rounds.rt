@@ -68,7 +68,8 @@ fn rounds<R: Wait + Threads + Sync + Print>(
     expect(rt, "cache", caches::adds_up(rt, alloc, request)?)
 }
 
-/// Goes on with rounds until the time is over, and prints how many there were. Fails at the first whose counts don't add up.
+/// Goes on with rounds until the time is over, and prints how many there were. Fails at the first whose counts don't
+/// add up.
 pub fn soak<R: Wait + Threads + Sync + Print + Clock>(
     rt: &R,
     alloc: Global,

@@ -1,7 +1,7 @@
 //! The slots that callers of a shared container have reserved.
 ghost use Rattle.std.specs.Prelude.{◌≡◌, ◌≤◌, ◌<◌, ◌^◌, IfSome};
 
-use scc_table::sizes::GREATEST_CAPACITY;
+use scc_buckets::sizes::GREATEST_CAPACITY;
 use std::sync::atomic::{AtomicU64, Ordering};
 use std::sync::{Mutex, Wait};
 

@@ -1,4 +1,5 @@
-//! What the four containers that threads share have in common: stripes behind locks, the number of a key's stripe, and the book of what is reserved.
+//! What the four containers that threads share have in common: stripes behind locks, the number of a key's stripe, and
+//! the book of what is reserved.
 #![tactic(auto)]
 
 pub mod book;

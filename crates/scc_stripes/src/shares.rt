@@ -2,7 +2,8 @@
 ghost use Rattle.std.specs.Prelude.{◌≡◌, ◌≤◌, ◌<◌, ◌+◌, ◌*◌, ◌^◌, ◌⊎◌};
 ghost use Rattle.scc_stripes.specs.Stripes.{share_of};
 
-/// How many first bits of a hash pick a stripe where all stripes together have at least so many slots: as many stripes as are left 64 slots each, 16 at most.
+/// How many first bits of a hash pick a stripe where all stripes together have at least so many slots: as many stripes
+/// as are left 64 slots each, 16 at most.
 pub fn bits_for(slots: usize) -> u32
     ensures few { result ≤ 4 }
     ensures room { 64 ≤ slots → 64 * 2 ^ result ≤ slots }

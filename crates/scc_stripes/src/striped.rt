@@ -1,12 +1,12 @@
 //! Containers behind locks, and the one to which a key belongs.
 ghost use Rattle.std.specs.Prelude.{◌≡◌, ◌≤◌, ◌<◌, ◌^◌, IfOk, IfSome, vec_len};
 ghost use Rattle.std.specs.Arc.{arc_value};
-ghost use Rattle.scc_table.specs.Routing.{stripe_of};
+ghost use Rattle.scc_contents.specs.Routing.{stripe_of};
 
 use crate::book::{Added, ReserveBook};
 use crate::shares::share;
-use scc_table::MakeError;
-use scc_table::route::bucket_index;
+use scc_buckets::route::bucket_index;
+use scc_common::MakeError;
 use std::alloc::Global;
 use std::hash::{BuildHasher, Hash};
 use std::sync::{Arc, RwLock, RwLockReadGuard, RwLockWriteGuard, Wait};
@@ -26,7 +26,8 @@ pub trait Follow {
 
 /// A container that can be made as one of several parts.
 pub trait Part<H>: Sized {
-    /// An empty container that skips so many bits of each hash and hashes as each other part of that hasher does, for so many slots; `maximum` counts for a cache alone.
+    /// An empty container that skips so many bits of each hash and hashes as each other part of that hasher does, for
+    /// so many slots; `maximum` counts for a cache alone.
     fn make_part(
         alloc: Global,
         skipped: u32,
@@ -39,7 +40,8 @@ pub trait Part<H>: Sized {
         requires { skipped ≤ 4 };
 }
 
-/// A fixed number of containers, each behind a lock, under one hasher, and the book of what they keep at least. Threads share it by reference.
+/// A fixed number of containers, each behind a lock, under one hasher, and the book of what they keep at least. Threads
+/// share it by reference.
 #[derive(Drop)]
 pub struct Striped<O, H> {
     locks: Vec<RwLock<O>>,
@@ -117,7 +119,8 @@ impl<O, H> Striped<O, H> {
     pub fn route<K: Hash>(&self, k: &K) -> usize
     where
         H: BuildHasher,
-        ensures value { result ≡ stripe_of H.BuildHasher H.Hasher.Hasher K.hash_input (arc_value self.now.hasher) (vec_len self.now.locks) k.now }
+        ensures value { result ≡ stripe_of H.BuildHasher H.Hasher.Hasher K.hash_input (arc_value self.now.hasher)
+            (vec_len self.now.locks) k.now }
         ensures within { result < vec_len self.now.locks }
     {
         bucket_index(self.hasher.hash_one(k), 0, self.locks.len())
@@ -204,7 +207,8 @@ impl<O, H> Striped<O, H> {
         true
     }
 
-    /// The slots of all stripes, one after another, at most the greatest number. Each gets its share of the minimum as it is then.
+    /// The slots of all stripes, one after another, at most the greatest number. Each gets its share of the minimum as
+    /// it is then.
     pub fn slots(&self, rt: &impl Wait) -> usize
     where
         O: Follow,
@@ -218,7 +222,8 @@ impl<O, H> Striped<O, H> {
         sum
     }
 
-    /// Adds so many slots to the minimum, and lets the stripes follow one after another; None for 0, and where the minimum would pass the greatest capacity.
+    /// Adds so many slots to the minimum, and lets the stripes follow one after another; None for 0, and where the
+    /// minimum would pass the greatest capacity.
     pub fn reserve(&self, rt: &impl Wait, additional: usize) -> Option<Added<'_>>
     where
         O: Follow,

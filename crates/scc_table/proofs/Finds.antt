@@ -1,41 +1,37 @@
--- The first entry that passes, among all and in the bucket of its hash.
-use Rattle.std.proofs.Common.{◌≡◌, ◌≢◌, ℕ, ◌<◌, Bool, cond, List, [], ◌∷◌, length, None, Some, refl, sym, ap, ◌∙◌}
+-- The first entry of both arrays that passes.
+use Rattle.std.proofs.Common.{◌≡◌, ◌==◌, ℕ, ◌<◌, Bool, true, false, List, length, sym, ap, ◌∙◌, arith, eq-eqb}
 use Rattle.std.specs.List.{find, flat_map}
-use Rattle.std.specs.Map.{lookup_entry}
-use Rattle.scc_array.proofs.Finds.{find-flat, find-none}
+use Rattle.scc_array.proofs.Finds.{find-filter}
 use Rattle.scc_array.specs.Shelves.{shelf_of}
-use Rattle.scc_bucket.specs.Shelf.{Shelf, empty_shelf, shelf_entries}
-use Rattle.scc_bucket.proofs.Lists.{get-below, get-is}
-use Rattle.scc_table.specs.Contents.{Contents, entries, bucket_count, list_of, settings_of, IsRouted}
-use Rattle.scc_table.specs.Routing.{bucket_number}
-use Rattle.scc_table.specs.Tables.{IsOwn}
-use Rattle.scc_table.proofs.Finding.{HashOf}
+use Rattle.scc_array.specs.Shelf.{Shelf, shelf_entries}
+use Rattle.scc_contents.specs.Contents.{Contents, entries, bucket_count, list_of, settings_of, IsRouted}
+use Rattle.scc_contents.specs.Routing.{bucket_number}
+use Rattle.scc_buckets.proofs.FindingLemmas.{HashOf}
+use Rattle.scc_buckets.proofs.Finds as table
+use Rattle.scc_table.specs.TwoArrays.{together, TwoArrays, waits_at}
+use Rattle.scc_table.proofs.Joining.{count-together, settings-together}
+use Rattle.scc_table.proofs.OldSpots.{own-list}
+use Rattle.scc_table.proofs.Preparing.{long-flags, waiting-list}
+use Rattle.scc_table.proofs.SearchingLemmas.{routed-together}
 
-module _ {E : Type 0} (p : E → Bool) (hash : E → ℕ) (h : ℕ) (a : HashOf p hash h) where
-  -- where each entry lies in the bucket of its hash
-  module _ (t : ℕ) (bs : List (Shelf E)) (own : (j : ℕ) → j < length bs → IsOwn hash t (length bs) j (shelf_of bs j)) (i : ℕ) (at : i ≡ bucket_number t (length bs) h) (l : i < length bs) where
-    own-none : (j : ℕ) → j < length bs → j ≢ i → find p (shelf_entries (shelf_of bs j)) ≡ None
-    own-none j lj ne =
-        find-none p (shelf_entries (shelf_of bs j))
-        (λ k x got y.
-        let es = shelf_entries (shelf_of bs j) in
-        let here : bucket_number t (length bs) (hash x) ≡ j = ap (λ z. bucket_number t (length bs) (hash z)) (get-is es k x x got) ∙ (own j lj).routed k x (get-below es k x got) in
-        ne (sym here ∙ ap (bucket_number t (length bs)) (a.same x y) ∙ sym at))
+-- each entry that passes p has the hash h, and bucket i of the new array is that of the hash
+module _ {E S : Type 0} (hash : E → ℕ) (c : Contents E S) (ws : List Bool) (olds : List (Shelf E)) (arrays : TwoArrays hash c ws olds) (routed : IsRouted hash c) (p : E → Bool) (h i : ℕ) (a : HashOf p hash h) (at : i ≡ bucket_number (settings_of c).skipped (bucket_count c) h) (l : i < bucket_count c) where
+  find-listed : find p (entries (together hash c ws olds)) ≡ find p (list_of (together hash c ws olds) i)
+  find-listed =
+      let d = together hash c ws olds in
+      let there : i ≡ bucket_number (settings_of d).skipped (bucket_count d) h =
+      at ∙ ap (λ s. bucket_number s.skipped (bucket_count c) h) (sym (settings-together hash c ws olds)) ∙ ap (λ m. bucket_number (settings_of d).skipped m h) (sym (count-together hash c ws olds arrays.flags)) in
+      table.find-routed p hash h a d (routed-together hash c ws olds arrays routed) i there (omega (arith, l, count-together hash c ws olds arrays.flags))
 
-    pub find-own : find p (flat_map shelf_entries bs) ≡ find p (shelf_entries (shelf_of bs i))
-    find-own = find-flat p shelf_entries empty_shelf bs i l own-none
+  -- where that bucket doesn't wait, it is the first of the new array
+  pub find-current : waits_at ws i ≡ false → find p (entries (together hash c ws olds)) ≡ find p (entries c)
+  find-current down = find-listed ∙ ap (find p) (own-list hash c ws olds arrays i l down) ∙ sym (table.find-routed p hash h a c routed i at l)
 
-  -- where each entry stands in the list of its hash
-  module _ {S : Type 0} (c : Contents E S) (routed : IsRouted hash c) (i : ℕ) (at : i ≡ bucket_number (settings_of c).skipped (bucket_count c) h) (l : i < bucket_count c) where
-    routed-none : (j : ℕ) → j ≢ i → find p (list_of c j) ≡ None
-    routed-none j ne =
-        find-none p (list_of c j) (λ k x got y. ne (sym (routed.routed j k x got) ∙ ap (bucket_number (settings_of c).skipped (bucket_count c)) (a.same x y) ∙ sym at))
-
-    pub find-routed : find p (entries c) ≡ find p (list_of c i)
-    unfolding entries bucket_count list_of
-    find-routed = find-flat p (λ l. l) [] c.lists i l (λ j lj ne. routed-none j ne)
-
--- a look-up of a pair
-pub lookup-find : {K V : Type 0} (t : K → Bool) (es : List (K × V)) → lookup_entry t es ≡ find (λ e. t e.0) es
-lookup-find t [] = refl
-lookup-find t (x ∷ es) = ap (λ o. cond (t x.0) (Some x) o) (lookup-find t es)
+  -- where it waits, it is the first of the old bucket of the hash
+  pub find-draining : waits_at ws i ≡ true → (j : ℕ) → j < length olds → j ≡ bucket_number (settings_of c).skipped (length olds) h → find p (entries (together hash c ws olds)) ≡ find p (shelf_entries (shelf_of olds j))
+  find-draining up j lj source =
+      let t = (settings_of c).skipped in
+      let n = bucket_count c in
+      find-listed ∙ ap (find p) (waiting-list hash c ws olds arrays i up (long-flags c ws i arrays.flags up))
+      ∙ find-filter p (λ e. bucket_number t n (hash e) == i) (λ e y. eq-eqb _ _ (ap (bucket_number t n) (a.same e y) ∙ sym at)) (flat_map shelf_entries olds)
+      ∙ table.find-own p hash h a t olds arrays.own.own j source lj

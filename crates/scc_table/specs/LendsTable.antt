@@ -1,16 +1,16 @@
--- What a table ends as, once a `&mut` into it has ended.
+-- What a table of two arrays ends as, once a `&mut` into it has ended.
 use Rattle.std.specs.Borrow.{Fml, RattleType, MutBor, Lends}
 use Rattle.std.specs.HashMap.Lent.{HashMembers}
 use Rattle.std.specs.declared.hash.Hasher as hasher
 use Rattle.std.specs.declared.hash.BuildHasher as builder
-use Rattle.scc_table.specs.Contents.{Contents}
-use Rattle.scc_table.specs.Writes.{with_write_at}
-use Rattle.scc_table.specs.contracts.table.Table.{the_row}
-use Rattle.scc_bucket.specs.declared.keyed.Keyed as keyed
-use Rattle.scc_table.specs.declared.place.Place.{Place}
+use Rattle.scc_contents.specs.Contents.{Contents}
+use Rattle.scc_buckets.specs.declared.place.Place.{Place}
+use Rattle.scc_entry.specs.declared.keyed.Keyed as keyed
+use Rattle.scc_table.specs.Places.{with_write_at}
+use Rattle.scc_table.specs.contracts.Table.{the_row}
 
 module _ (E H K T V : RattleType) (by : keyed.Ghosts E.Denot K.Denot) (key : HashMembers K.Denot) (build : builder.Ghosts H.Denot T.Denot) (feed : hasher.Ghosts T.Denot) (put : E.Denot → V.Denot → E.Denot) where
-  -- the table's type, as the logic holds it
+  -- the type of the table of two arrays, as the logic holds it
   abbrev pub table_row : RattleType
   table_row = the_row E H K T by build feed (record { eq = key.eq }) (record { hash_input = key.hash_input })
 

@@ -3,11 +3,10 @@ use Rattle.std.specs.Prelude.{◌≡◌, Bool, Option, None, Some, slice_get}
 use Rattle.std.specs.Borrow.{Bor, MutBor}
 use Rattle.std.specs.Fn.{Once}
 use Rattle.std.specs.List.{position}
-use Rattle.scc_bucket.specs.Updates.{WritesInto}
-use Rattle.scc_table.specs.Contents.{Contents, entries}
-use Rattle.scc_table.specs.Places.{IsFoundAt, index_of}
-use Rattle.scc_table.specs.Writes.{with_write_at}
-use Rattle.scc_table.specs.declared.place.Place.{Place}
+use Rattle.scc_contents.specs.Updates.{WritesInto}
+use Rattle.scc_contents.specs.Contents.{Contents, entries}
+use Rattle.scc_buckets.specs.declared.place.Place.{Place}
+use Rattle.scc_table.specs.Places.{IsFoundAt, index_of, with_write_at}
 
 module _ {F E K V R S : Type 0} (g : Once F (Bor K × (MutBor V × Unit {0})) (R × (MutBor V × Unit {0}))) (f : F) (key_of : E → K) (value_of : E → V) (put : E → V → E) (p : E → Bool) (c d : Contents E S) where
   -- f was called at the first entry that passes p, and what it left is the value there; where none passes, nothing changed

@@ -1,17 +1,124 @@
-//! The table of the hash containers: an array of buckets of 32 tagged slots with an overflow list each, found by the bits of a hash. It names the bucket's items, and what all containers share, again.
+//! The table of the hash containers whose resizes are spread over insertions: the entries of an old array wait there
+//! until their bucket in the new one takes them over.
 #![tactic(auto)]
 
-pub mod place;
-pub mod route;
-pub mod sizes;
-pub mod table;
-pub mod versions;
-pub mod walks;
+ghost use Rattle.std.specs.Prelude.{◌≡◌, ◌<◌, ◌≤◌, ◌^◌, ◌↔◌, true, IsTrue};
+ghost use Rattle.scc_contents.specs.Contents.{bucket_count, pending_of, refused_of};
+ghost use Rattle.scc_contents.specs.Sizes.{IsLawful};
+ghost use Rattle.scc_table.specs.TwoArrays.{IsWaiting};
 
-pub use place::Place;
-pub use scc_bucket::{Keyed, Made, Valued, keyed, made, tags, valued};
-pub use scc_common::{
-    Guard, InsertError, KeyError, MakeError, Share, Shared, SharedVersion, Verdict, Version,
-    WalkError, errors, guard, shared, verdict, version,
-};
-pub use table::Table;
+mod bounded;
+mod cloning;
+mod doubling;
+mod finding;
+mod growing;
+mod inserting;
+mod lasting;
+mod making;
+mod pairs;
+mod putting;
+mod putting_room;
+mod reading;
+mod relocating;
+mod removing;
+mod reserving;
+mod searching;
+mod settling;
+mod shrinking;
+mod starting;
+mod steps;
+mod taking;
+mod updating;
+mod walking;
+mod writing;
+
+pub use reserving::Reservation;
+use scc_array::Array;
+use scc_buckets::Buckets;
+use scc_entry::Keyed;
+use std::hash::{BuildHasher, Hash};
+use std::marker::Model;
+
+/// Entries with distinct keys, in the buckets of an array, or of an old one where their bucket waits for them. A
+/// container sees one list for each bucket, wherever its entries lie.
+#[derive(Drop)]
+pub struct Table<E: Keyed, H: BuildHasher>
+where
+    E::Key: Eq + Hash,
+{
+    current: Buckets<E, H>,
+    draining: Array<E>,
+    waiting: Vec<bool>,
+    pending: usize,
+    next: usize,
+    held: usize,
+    held_overflow: usize,
+    skipped: u32,
+}
+
+impl<E: Keyed, H: BuildHasher> Model for Table<E, H>
+where
+    E::Key: Eq + Hash,
+{
+    ghost use Rattle.scc_contents.specs.Contents.{Contents, contents_code, key_hash};
+    ghost use Rattle.scc_table.specs.TwoArrays.{together, IsTable};
+
+    ghost Value = { Contents E H };
+
+    ghost coded = { contents_code E.code H.code };
+
+    ghost view = { λ t. together (λ e. key_hash H.BuildHasher H.Hasher.Hasher E.Key.hash_input t.current (E.key_of e)) t.current t.waiting.items t.draining };
+
+    ghost invariant = { λ t. IsTable E.Key.eq E.key_of (key_hash H.BuildHasher H.Hasher.Hasher E.Key.hash_input t.current) t.current t.waiting.items t.draining t.skipped t.pending t.next t.held t.held_overflow };
+}
+
+impl<E: Keyed, H: BuildHasher> Table<E, H>
+where
+    E::Key: Eq + Hash,
+{
+    /// The number of buckets, 0 where there is no array.
+    #[inline(always)]
+    pub fn bucket_count(&self) -> usize
+        ensures count { result ≡ bucket_count self.now }
+        ensures most { result ≤ 2 ^ 58 }
+        ensures lawful { IsLawful result }
+    {
+        self.current.bucket_count()
+    }
+
+    /// How many buckets wait for their entries to come from the old array.
+    #[inline(always)]
+    pub fn pending(&self) -> usize
+        ensures { result ≡ pending_of self.now }
+    {
+        self.pending
+    }
+
+    /// Whether memory was refused for the last resize that was due.
+    #[inline(always)]
+    pub fn is_resize_refused(&self) -> bool
+        ensures { result ≡ (refused_of self.now).0 }
+    {
+        self.current.is_resize_refused()
+    }
+
+    /// Whether the next insertion is not to try the growth that is due: it was refused just before.
+    #[inline(always)]
+    pub fn is_tried(&self) -> bool
+        ensures { result ≡ (refused_of self.now).1 }
+    {
+        self.current.is_tried()
+    }
+
+    /// Whether the bucket waits for its entries to come from the old array.
+    #[inline(always)]
+    pub fn is_waiting(&self, bucket: usize) -> bool
+        requires { bucket < bucket_count self.now }
+        ensures { IsTrue result ↔ IsWaiting self.now bucket }
+    {
+        if self.pending == 0 {
+            return false;
+        }
+        self.waiting[bucket]
+    }
+}

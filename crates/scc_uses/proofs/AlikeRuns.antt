@@ -1,10 +1,10 @@
 -- Two runs of the same calls, where alike states give alike replies.
 use Rattle.std.proofs.Common.{◌≡◌, ◌∙◌, ℕ, Bool, true, false, List, [], ◌∷◌, length, Option, None, Some, refl, sym, ap, subst, arith, inl, inr}
 use Rattle.std.specs.Cmp.{IsEquivalence, IsPartialEquivalence}
-use Rattle.scc_recorded.specs.Copies.{Alike}
-use Rattle.scc_recorded.specs.Run.{IsRun, done, resize, answer}
-use Rattle.scc_recorded.specs.declared.recorded.replies.Reply.{Reply}
-use Rattle.scc_recorded.specs.declared.recorded.replies.Reply.TheVariants.{Inserted, Exists, Old, Key, Pair, Value, Has, Evicted, Cleared, Count}
+use Rattle.scc_calls.specs.Copies.{Alike}
+use Rattle.scc_calls.specs.Run.{IsRun, done, resize, answer}
+use Rattle.scc_calls.specs.declared.replies.Reply.{Reply}
+use Rattle.scc_calls.specs.declared.replies.Reply.TheVariants.{Inserted, Exists, Old, Key, Pair, Value, Has, Evicted, Cleared, Count}
 use Rattle.scc_uses.specs.Alikeness.{AgreeAlong, Both, PairsAlike, RepliesAlike}
 
 module _ {S R : Type 0} (Like : S → S → Type 0) (like : R → R → Type 0) where

@@ -6,11 +6,11 @@ use Rattle.std.specs.declared.cmp.PartialEq as equality
 use Rattle.std.specs.declared.hash.Hash as hash
 use Rattle.std.specs.declared.hash.Hasher as hasher
 use Rattle.std.specs.declared.hash.BuildHasher as builder
-use Rattle.scc_table.specs.Contents.{Contents, entries}
-use Rattle.scc_table.specs.Pairs.{find}
+use Rattle.scc_contents.specs.Contents.{Contents, entries}
+use Rattle.scc_contents.specs.Pairs.{find}
 use Rattle.scc_map.specs.Entries.{occupied_pair, IsEntryOf}
-use Rattle.scc_map.specs.declared.hash_map.held.HeldPlace.TheVariants.{Occupied, Vacant}
-use Rattle.scc_map.specs.declared.hash_map.held.HeldPlace.{HeldPlace}
+use Rattle.scc_map.specs.declared.held.HeldPlace.TheVariants.{Occupied, Vacant}
+use Rattle.scc_map.specs.declared.held.HeldPlace.{HeldPlace}
 use Rattle.scc_common.specs.declared.guard.Guard as guard
 use Rattle.scc_map.proofs.CallerLemmas.{ModifiedOr}
 use Rattle.scc_uses.specs.Counts.{one_more}

@@ -3,15 +3,15 @@ use Rattle.std.proofs.Common.{◌≡◌, ◌∙◌, ℕ, Bool, true, cond, List,
 use Rattle.std.specs.Cmp.{IsEquivalence, IsPartialEquivalence}
 use Rattle.std.specs.Map.{keys_of, lookup}
 use Rattle.std.specs.Option.{is_some}
-use Rattle.scc_table.proofs.Lookups.{distinct-IsPermutation}
-use Rattle.scc_recorded.specs.Copies.{Alike, Means}
-use Rattle.scc_recorded.specs.IndexCalls.{IndexMoves}
-use Rattle.scc_recorded.specs.Run.{IsRun}
-use Rattle.scc_recorded.specs.States.{State, ResizesTo}
-use Rattle.scc_recorded.specs.declared.recorded.fixed.Setting.{Setting}
-use Rattle.scc_recorded.specs.declared.recorded.calls_as_values.IndexCall.{IndexCall}
-use Rattle.scc_recorded.specs.declared.recorded.calls_as_values.IndexCall.TheVariants.{Insert, Update, Remove, Read, Contains, Clear, Len}
-use Rattle.scc_recorded.specs.declared.recorded.replies.Reply.{Reply}
+use Rattle.scc_buckets.proofs.Lookups.{distinct-IsPermutation}
+use Rattle.scc_calls.specs.Copies.{Alike, Means}
+use Rattle.scc_calls.specs.IndexCalls.{IndexMoves}
+use Rattle.scc_calls.specs.Run.{IsRun}
+use Rattle.scc_calls.specs.States.{State, ResizesTo}
+use Rattle.scc_calls.specs.declared.fixed.Setting.{Setting}
+use Rattle.scc_calls.specs.declared.calls_as_values.IndexCall.{IndexCall}
+use Rattle.scc_calls.specs.declared.calls_as_values.IndexCall.TheVariants.{Insert, Update, Remove, Read, Contains, Clear, Len}
+use Rattle.scc_calls.specs.declared.replies.Reply.{Reply}
 use Rattle.scc_uses.specs.Alikeness.{Both, FindsAlike, RepliesAlike}
 use Rattle.scc_uses.specs.AlikeIndexes.{IndexCallsAlike}
 use Rattle.scc_uses.proofs.AlikeRuns.{Agrees, runs-alike, alike-symm, alike-trans, equal-symm, equal-trans, replies-given, replies-refl, replies-symm, replies-trans}

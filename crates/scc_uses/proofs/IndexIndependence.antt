@@ -9,20 +9,20 @@ use Rattle.std.proofs.lemmas.List.Edits.{length-remove}
 use Rattle.std.proofs.lemmas.List.Sorted.{IsPermutation-sym}
 use Rattle.std.proofs.lemmas.Map.{lookup-set_value}
 use Rattle.std.proofs.lemmas.Map.Keys.{IsDistinct-tail}
-use Rattle.scc_table.specs.Pairs.{find, without}
-use Rattle.scc_table.proofs.Lookups.{place-of_find, find-IsPermutation, find-without, finds-added, distinct-IsPermutation}
-use Rattle.scc_table.proofs.PairSplits.{by_answer, cond-true, cond-false, found-place, without-at, distinct-without, place-below}
-use Rattle.scc_recorded.specs.IndexCalls.{IndexMoves, index_key}
-use Rattle.scc_recorded.specs.Run.{IsRun}
-use Rattle.scc_recorded.specs.States.{State, ResizesTo}
-use Rattle.scc_recorded.specs.declared.recorded.fixed.Setting.{Setting}
-use Rattle.scc_recorded.specs.declared.recorded.calls_as_values.IndexCall.{IndexCall}
-use Rattle.scc_recorded.specs.declared.recorded.calls_as_values.IndexCall.TheVariants.{Insert, Update, Remove, Read, Contains, Clear, Len}
-use Rattle.scc_recorded.specs.declared.recorded.calls_as_values.MapCall.TheVariants.{Insert as MapInsert, Upsert as MapUpsert, Replace as MapReplace, Remove as MapRemove, Read as MapRead, Contains as MapContains, Clear as MapClear, Len as MapLen}
-use Rattle.scc_recorded.specs.declared.recorded.replies.Reply.{Reply}
-use Rattle.scc_recorded.specs.declared.recorded.replies.Reply.TheVariants.{Inserted, Exists, Old, Key, Pair, Value, Has, Cleared, Count}
-use Rattle.scc_recorded.proofs.Independence.{Agrees, runs-agree, equally-many, first-replies, no-more}
-use Rattle.scc_recorded.proofs.MapIndependence.{moves-distinct}
+use Rattle.scc_contents.specs.Pairs.{find, without}
+use Rattle.scc_buckets.proofs.Lookups.{place-of_find, find-IsPermutation, find-without, finds-added, distinct-IsPermutation}
+use Rattle.scc_buckets.proofs.PairSplits.{by_answer, cond-true, cond-false, found-place, without-at, distinct-without, place-below}
+use Rattle.scc_calls.specs.IndexCalls.{IndexMoves, index_key}
+use Rattle.scc_calls.specs.Run.{IsRun}
+use Rattle.scc_calls.specs.States.{State, ResizesTo}
+use Rattle.scc_calls.specs.declared.fixed.Setting.{Setting}
+use Rattle.scc_calls.specs.declared.calls_as_values.IndexCall.{IndexCall}
+use Rattle.scc_calls.specs.declared.calls_as_values.IndexCall.TheVariants.{Insert, Update, Remove, Read, Contains, Clear, Len}
+use Rattle.scc_calls.specs.declared.calls_as_values.MapCall.TheVariants.{Insert as MapInsert, Upsert as MapUpsert, Replace as MapReplace, Remove as MapRemove, Read as MapRead, Contains as MapContains, Clear as MapClear, Len as MapLen}
+use Rattle.scc_calls.specs.declared.replies.Reply.{Reply}
+use Rattle.scc_calls.specs.declared.replies.Reply.TheVariants.{Inserted, Exists, Old, Key, Pair, Value, Has, Cleared, Count}
+use Rattle.scc_calls.proofs.Independence.{Agrees, runs-agree, equally-many, first-replies, no-more}
+use Rattle.scc_calls.proofs.MapIndependence.{moves-distinct}
 
 pub some-of : {X : Type 0} (o : Option X) → IsSome o → (x : X) × (o ≡ Some x)
 some-of None h = absurd (let z : false ≡ true = h in cc)

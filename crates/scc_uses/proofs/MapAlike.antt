@@ -9,19 +9,19 @@ use Rattle.std.proofs.lemmas.List.Edits.{length-remove}
 use Rattle.std.proofs.lemmas.List.Sorted.{IsPermutation-sym}
 use Rattle.std.proofs.lemmas.Map.{lookup-set_value}
 use Rattle.std.proofs.lemmas.Map.Keys.{IsDistinct-tail}
-use Rattle.scc_table.specs.Pairs.{find, without}
-use Rattle.scc_table.proofs.Lookups.{place-of_find, find-without, finds-added, distinct-IsPermutation}
-use Rattle.scc_table.proofs.PairSplits.{by_answer, cond-true, cond-false, found-place, without-at, distinct-without, place-below}
-use Rattle.scc_recorded.specs.Copies.{Alike, Means}
-use Rattle.scc_recorded.specs.MapCalls.{MapMoves, map_key}
-use Rattle.scc_recorded.specs.Run.{IsRun}
-use Rattle.scc_recorded.specs.States.{State, ResizesTo}
-use Rattle.scc_recorded.specs.declared.recorded.fixed.Setting.{Setting}
-use Rattle.scc_recorded.specs.declared.recorded.calls_as_values.MapCall.{MapCall}
-use Rattle.scc_recorded.specs.declared.recorded.calls_as_values.MapCall.TheVariants.{Insert, Upsert, Replace, Read, Contains, Remove, Clear, Len}
-use Rattle.scc_recorded.specs.declared.recorded.replies.Reply.{Reply}
-use Rattle.scc_recorded.specs.declared.recorded.replies.Reply.TheVariants.{Inserted, Exists, Old, Key, Pair, Value, Has, Cleared, Count}
-use Rattle.scc_recorded.proofs.MapIndependence.{moves-distinct}
+use Rattle.scc_contents.specs.Pairs.{find, without}
+use Rattle.scc_buckets.proofs.Lookups.{place-of_find, find-without, finds-added, distinct-IsPermutation}
+use Rattle.scc_buckets.proofs.PairSplits.{by_answer, cond-true, cond-false, found-place, without-at, distinct-without, place-below}
+use Rattle.scc_calls.specs.Copies.{Alike, Means}
+use Rattle.scc_calls.specs.MapCalls.{MapMoves, map_key}
+use Rattle.scc_calls.specs.Run.{IsRun}
+use Rattle.scc_calls.specs.States.{State, ResizesTo}
+use Rattle.scc_calls.specs.declared.fixed.Setting.{Setting}
+use Rattle.scc_calls.specs.declared.calls_as_values.MapCall.{MapCall}
+use Rattle.scc_calls.specs.declared.calls_as_values.MapCall.TheVariants.{Insert, Upsert, Replace, Read, Contains, Remove, Clear, Len}
+use Rattle.scc_calls.specs.declared.replies.Reply.{Reply}
+use Rattle.scc_calls.specs.declared.replies.Reply.TheVariants.{Inserted, Exists, Old, Key, Pair, Value, Has, Cleared, Count}
+use Rattle.scc_calls.proofs.MapIndependence.{moves-distinct}
 use Rattle.scc_uses.specs.Alikeness.{Both, FindsAlike, MapCallsAlike, RepliesAlike}
 use Rattle.scc_uses.proofs.AlikeRuns.{Agrees, runs-alike, both-refl, both-symm, both-trans, both-same, alike-symm, alike-trans, equal-symm, equal-trans, replies-given, replies-symm, replies-trans}
 use Rattle.scc_uses.proofs.IndexIndependence.{some-of, is_some-map, value, found-value, found-some, instead, others, tail-value, rearranged-values, value-set_key, kept, value-if}

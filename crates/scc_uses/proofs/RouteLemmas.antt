@@ -7,12 +7,12 @@ use Rattle.std.specs.declared.hash.Hash as hash
 use Rattle.std.specs.declared.hash.Hasher as hasher
 use Rattle.std.specs.declared.hash.BuildHasher as builder
 use Rattle.scc_map.specs.Entries.{RestsRefused, occupied_pair, IsOccupiedAt, IsVacantAt, IsWritten, IsInserted}
-use Rattle.scc_map.specs.declared.hash_map.held.HeldEntry.{HeldEntry}
-use Rattle.scc_map.specs.declared.hash_map.held.HeldVacant.{HeldVacant}
+use Rattle.scc_map.specs.declared.held.HeldEntry.{HeldEntry}
+use Rattle.scc_map.specs.declared.held.HeldVacant.{HeldVacant}
 use Rattle.scc_common.specs.declared.guard.Guard as guard
 use Rattle.scc_map.proofs.CallerLemmas.{finds-rearranged, finds-written, finds-put}
-use Rattle.scc_table.specs.Contents.{Contents, entries}
-use Rattle.scc_table.specs.Pairs.{find, FindsInstead, IsUnique}
+use Rattle.scc_contents.specs.Contents.{Contents, entries}
+use Rattle.scc_contents.specs.Pairs.{find, FindsInstead, IsUnique}
 use Rattle.scc_uses.specs.declared.routing.Route.{Route}
 use Rattle.scc_uses.specs.Routing.{route_to, Sets, IsAsBefore, Offers, not_by}
 use Rattle.scc_map.proofs.Filtering.{passing}

@@ -9,15 +9,15 @@ use Rattle.std.proofs.lemmas.List.Sorted.{IsPermutation-sym}
 use Rattle.std.proofs.lemmas.Map.Keys.{IsDistinct-IsPermutation}
 use Rattle.scc_map.specs.Sinks.{with_units}
 use Rattle.scc_set.specs.Keys.{find, without}
-use Rattle.scc_table.proofs.Lookups.{find-without}
-use Rattle.scc_recorded.specs.Copies.{Alike, Means}
-use Rattle.scc_recorded.specs.SetCalls.{SetMoves}
-use Rattle.scc_recorded.specs.Run.{IsRun}
-use Rattle.scc_recorded.specs.States.{State, ResizesTo}
-use Rattle.scc_recorded.specs.declared.recorded.fixed.Setting.{Setting}
-use Rattle.scc_recorded.specs.declared.recorded.calls_as_values.SetCall.{SetCall}
-use Rattle.scc_recorded.specs.declared.recorded.calls_as_values.SetCall.TheVariants.{Insert, Replace, Remove, Read, Contains, Clear, Len}
-use Rattle.scc_recorded.specs.declared.recorded.replies.Reply.{Reply}
+use Rattle.scc_buckets.proofs.Lookups.{find-without}
+use Rattle.scc_calls.specs.Copies.{Alike, Means}
+use Rattle.scc_calls.specs.SetCalls.{SetMoves}
+use Rattle.scc_calls.specs.Run.{IsRun}
+use Rattle.scc_calls.specs.States.{State, ResizesTo}
+use Rattle.scc_calls.specs.declared.fixed.Setting.{Setting}
+use Rattle.scc_calls.specs.declared.calls_as_values.SetCall.{SetCall}
+use Rattle.scc_calls.specs.declared.calls_as_values.SetCall.TheVariants.{Insert, Replace, Remove, Read, Contains, Clear, Len}
+use Rattle.scc_calls.specs.declared.replies.Reply.{Reply}
 use Rattle.scc_uses.specs.Alikeness.{Both, HaveEqual, RepliesAlike}
 use Rattle.scc_uses.specs.AlikeSets.{SetCallsAlike}
 use Rattle.scc_uses.proofs.AlikeRuns.{Agrees, runs-alike, replies-given, replies-symm, replies-trans}

@@ -9,19 +9,19 @@ use Rattle.std.proofs.lemmas.List.Sorted.{IsPermutation-refl, IsPermutation-sym,
 use Rattle.std.proofs.lemmas.Map.Keys.{IsDistinct-head, IsDistinct-tail, IsDistinct-cons, IsDistinct-IsPermutation}
 use Rattle.scc_map.specs.Sinks.{with_units}
 use Rattle.scc_set.specs.Keys.{find, without, with_key}
-use Rattle.scc_table.proofs.Lookups.{along}
-use Rattle.scc_table.proofs.PairSplits.{by_answer, cond-true, cond-false, distinct-added}
-use Rattle.scc_recorded.specs.SetCalls.{SetMoves, key_of_set}
-use Rattle.scc_recorded.specs.Run.{IsRun}
-use Rattle.scc_recorded.specs.States.{State, ResizesTo}
-use Rattle.scc_recorded.specs.declared.recorded.fixed.Setting.{Setting}
-use Rattle.scc_recorded.specs.declared.recorded.calls_as_values.MapCall.TheVariants.{Remove as RemovePair}
-use Rattle.scc_recorded.specs.declared.recorded.calls_as_values.SetCall.{SetCall}
-use Rattle.scc_recorded.specs.declared.recorded.calls_as_values.SetCall.TheVariants.{Insert, Replace, Read, Contains, Remove, Clear, Len}
-use Rattle.scc_recorded.specs.declared.recorded.replies.Reply.{Reply}
-use Rattle.scc_recorded.specs.declared.recorded.replies.Reply.TheVariants.{Inserted, Exists, Key, Pair, Has, Cleared, Count}
-use Rattle.scc_recorded.proofs.Independence.{Agrees, runs-agree, equally-many, first-replies, no-more}
-use Rattle.scc_recorded.proofs.MapIndependence.{moves-alike as pair-moves-alike}
+use Rattle.scc_buckets.proofs.Lookups.{along}
+use Rattle.scc_buckets.proofs.PairSplits.{by_answer, cond-true, cond-false, distinct-added}
+use Rattle.scc_calls.specs.SetCalls.{SetMoves, key_of_set}
+use Rattle.scc_calls.specs.Run.{IsRun}
+use Rattle.scc_calls.specs.States.{State, ResizesTo}
+use Rattle.scc_calls.specs.declared.fixed.Setting.{Setting}
+use Rattle.scc_calls.specs.declared.calls_as_values.MapCall.TheVariants.{Remove as RemovePair}
+use Rattle.scc_calls.specs.declared.calls_as_values.SetCall.{SetCall}
+use Rattle.scc_calls.specs.declared.calls_as_values.SetCall.TheVariants.{Insert, Replace, Read, Contains, Remove, Clear, Len}
+use Rattle.scc_calls.specs.declared.replies.Reply.{Reply}
+use Rattle.scc_calls.specs.declared.replies.Reply.TheVariants.{Inserted, Exists, Key, Pair, Has, Cleared, Count}
+use Rattle.scc_calls.proofs.Independence.{Agrees, runs-agree, equally-many, first-replies, no-more}
+use Rattle.scc_calls.proofs.MapIndependence.{moves-alike as pair-moves-alike}
 use Rattle.scc_uses.proofs.KeyLemmas.{paired, none-distinct, find-units, without-units, to-units, from-units, units-back, units-distinct, find-rearranged}
 
 module _ {K : Type 0} (eq : K → K → Bool) where

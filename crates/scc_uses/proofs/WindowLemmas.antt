@@ -8,20 +8,20 @@ use Rattle.std.specs.List.Sorted.{IsPermutation}
 use Rattle.std.specs.Result.{OnOk}
 use Rattle.std.proofs.lemmas.List.Elements.{All-from_recursion, filter_passes}
 use Rattle.std.proofs.lemmas.List.Sorted.{IsPermutation-trans, IsPermutation-append_left, All-permutation}
-use Rattle.scc_table.specs.Contents.{Contents, entries}
-use Rattle.scc_table.specs.Pairs.{find, FindsInstead, IsUnique}
-use Rattle.scc_table.specs.Steps.{Holds}
+use Rattle.scc_contents.specs.Contents.{Contents, entries}
+use Rattle.scc_contents.specs.Pairs.{find, FindsInstead, IsUnique}
+use Rattle.scc_contents.specs.Steps.{Holds}
 use Rattle.scc_common.specs.declared.errors.InsertError.{InsertError}
 use Rattle.scc_common.specs.declared.errors.InsertError.TheVariants.{Exists, Memory}
 use Rattle.scc_map.specs.ClosureSteps.{UpdatesAt}
-use Rattle.scc_walks.specs.Closures.{WritesAt}
+use Rattle.scc_contents.specs.Closures.{WritesAt}
 use Rattle.scc_map.specs.MapSteps.{Inserts}
 use Rattle.scc_map.proofs.CallerLemmas.{finds-set_value, finds-rearranged, finds-unchanged}
 use Rattle.scc_uses.specs.declared.requests.Window.{Window}
 use Rattle.scc_uses.specs.Windows.{after_hit, IsExpired, IsLive, live_at}
 use Rattle.scc_map.proofs.Filtering.{Sorts, passing, finds-filtered}
 use Rattle.std.proofs.lemmas.Bool.{leb-true, leb-false}
-use Rattle.scc_table.proofs.Lookups.{along, place-of_find}
+use Rattle.scc_buckets.proofs.Lookups.{along, place-of_find}
 use borrow.Author.Tests.{eqb-true}
 
 module _ {S : Type 0} (c d : Contents (ℕ × Window) S) where

@@ -1,7 +1,7 @@
 -- Calls of a set over keys of which equal ones need not be the same.
 use Rattle.std.specs.Prelude.{◌≡◌, Bool, true}
-use Rattle.scc_recorded.specs.declared.recorded.calls_as_values.SetCall.{SetCall}
-use Rattle.scc_recorded.specs.declared.recorded.calls_as_values.SetCall.TheVariants.{Insert, Replace, Remove, Read, Contains, Clear, Len}
+use Rattle.scc_calls.specs.declared.calls_as_values.SetCall.{SetCall}
+use Rattle.scc_calls.specs.declared.calls_as_values.SetCall.TheVariants.{Insert, Replace, Remove, Read, Contains, Clear, Len}
 
 module _ {K : Type 0} (keys : K → K → Bool) where
   -- the same call of a set, with equal keys

@@ -2,11 +2,11 @@
 use Rattle.std.specs.Prelude.{◌≡◌, ℕ, Bool, true, List, [], ◌∷◌, Option, None, Some, is_some}
 use Rattle.std.specs.Map.{lookup}
 use Rattle.scc_set.specs.Keys.{find}
-use Rattle.scc_recorded.specs.Copies.{Alike, AreSame}
-use Rattle.scc_recorded.specs.declared.recorded.calls_as_values.MapCall.{MapCall}
-use Rattle.scc_recorded.specs.declared.recorded.calls_as_values.MapCall.TheVariants.{Insert, Upsert, Replace, Read, Contains, Remove, Clear, Len}
-use Rattle.scc_recorded.specs.declared.recorded.replies.Reply.{Reply}
-use Rattle.scc_recorded.specs.declared.recorded.replies.Reply.TheVariants.{Inserted, Exists, Old, Key, Pair, Value, Has, Evicted, Cleared, Count}
+use Rattle.scc_calls.specs.Copies.{Alike, AreSame}
+use Rattle.scc_calls.specs.declared.calls_as_values.MapCall.{MapCall}
+use Rattle.scc_calls.specs.declared.calls_as_values.MapCall.TheVariants.{Insert, Upsert, Replace, Read, Contains, Remove, Clear, Len}
+use Rattle.scc_calls.specs.declared.replies.Reply.{Reply}
+use Rattle.scc_calls.specs.declared.replies.Reply.TheVariants.{Inserted, Exists, Old, Key, Pair, Value, Has, Evicted, Cleared, Count}
 
 -- both have nothing, or what both have is related
 abbrev pub Both : {X : Type 0} → (X → X → Type 0) → Option X → Option X → Type 0

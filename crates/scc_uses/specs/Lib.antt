@@ -2,10 +2,10 @@ pub mod AlikeIndexes
 pub mod AlikeSets
 pub mod Alikeness
 pub mod Counts
+pub mod Interning
 pub mod Memo
 pub mod RequestCounts
-pub mod Sessions
-pub mod Interning
 pub mod Routing
-pub mod Windows
+pub mod Sessions
 pub mod Sums
+pub mod Windows

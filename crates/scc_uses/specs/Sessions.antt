@@ -1,8 +1,8 @@
 -- What a table of sessions means: the end of each.
 use Rattle.std.specs.Prelude.{◌≡◌, ◌≤◌, ◌<◌, ℕ, Bool, true, false, cond, max, Option, None, Some, nat_eq}
 use Rattle.std.specs.Option.{option_map}
-use Rattle.scc_table.specs.Contents.{Contents, entries}
-use Rattle.scc_table.specs.Pairs.{find}
+use Rattle.scc_contents.specs.Contents.{Contents, entries}
+use Rattle.scc_contents.specs.Pairs.{find}
 
 module _ {S : Type 0} where
   -- when the session ends, where there is one

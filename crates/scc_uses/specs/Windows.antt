@@ -6,6 +6,7 @@ use Rattle.scc_uses.specs.declared.requests.Window.{Window}
 abbrev pub IsExpired : ℕ → ℕ → ℕ × Window → Type 0
 IsExpired width now p = width ≤ now - p.1.since
 
+-- the window of the pair isn't over yet
 abbrev pub IsLive : ℕ → ℕ → ℕ × Window → Type 0
 IsLive width now p = now - p.1.since < width
 

@@ -4,26 +4,30 @@ ghost use Rattle.scc_uses.specs.Alikeness.{MapCallsAlike, RepliesAlike};
 ghost use Rattle.scc_uses.specs.AlikeIndexes.{IndexCallsAlike};
 ghost use Rattle.scc_uses.specs.AlikeSets.{SetCallsAlike};
 
-use scc_recorded::recorded::{IndexCall, MapCall, Reply, SetCall};
+use scc_calls::{IndexCall, MapCall, Reply, SetCall};
 
 /// Equal replies are alike.
 pub fn equal_replies<K: PartialEq, V: PartialEq>()
-    ensures { (a : Reply K V) → (b : Reply K V) → ⟦<Reply<K, V> as PartialEq>⟧.eq a b ≡ true → RepliesAlike K.eq V.eq a b }
+    ensures { (a : Reply K V) → (b : Reply K V) → ⟦<Reply<K, V> as PartialEq>⟧.eq a b ≡ true
+        → RepliesAlike K.eq V.eq a b }
 {}
 
 /// Equal replies of a set are alike.
 pub fn equal_key_replies<K: PartialEq>()
-    ensures { (a : Reply K (Unit {0})) → (b : Reply K (Unit {0})) → ⟦<Reply<K, ()> as PartialEq>⟧.eq a b ≡ true → RepliesAlike K.eq (λ _ _. true) a b }
+    ensures { (a : Reply K (Unit {0})) → (b : Reply K (Unit {0})) → ⟦<Reply<K, ()> as PartialEq>⟧.eq a b ≡ true
+        → RepliesAlike K.eq (λ _ _. true) a b }
 {}
 
 /// Equal calls of a map are alike.
 pub fn equal_map_calls<K: PartialEq, V: PartialEq>()
-    ensures { (a : MapCall K V) → (b : MapCall K V) → ⟦<MapCall<K, V> as PartialEq>⟧.eq a b ≡ true → MapCallsAlike K.eq V.eq a b }
+    ensures { (a : MapCall K V) → (b : MapCall K V) → ⟦<MapCall<K, V> as PartialEq>⟧.eq a b ≡ true
+        → MapCallsAlike K.eq V.eq a b }
 {}
 
 /// Equal calls of an index are alike.
 pub fn equal_index_calls<K: PartialEq, V: PartialEq>()
-    ensures { (a : IndexCall K V) → (b : IndexCall K V) → ⟦<IndexCall<K, V> as PartialEq>⟧.eq a b ≡ true → IndexCallsAlike K.eq V.eq a b }
+    ensures { (a : IndexCall K V) → (b : IndexCall K V) → ⟦<IndexCall<K, V> as PartialEq>⟧.eq a b ≡ true
+        → IndexCallsAlike K.eq V.eq a b }
 {}
 
 /// Equal calls of a set are alike.

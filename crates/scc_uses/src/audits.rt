@@ -1,15 +1,15 @@
 //! What an auditor of recorded containers may rely on.
 ghost use Rattle.std.specs.Prelude.{◌≡◌, ℕ, ◌<◌, length, map, IfOk, OnOk, Some, slice_get};
 ghost use Rattle.scc_history.specs.Orders.{steps_at};
-ghost use Rattle.scc_recorder.specs.Setups.{request_of};
+ghost use Rattle.scc_recorded.specs.Setups.{request_of};
 ghost use Rattle.scc_history.specs.Receipts.{calls_of};
-ghost use Rattle.scc_recorded.specs.Copies.{ClonesEqual};
+ghost use Rattle.scc_calls.specs.Copies.{ClonesEqual};
 
-use scc_history::history::{CallError, Log, Stripe};
-use scc_map::hash_map::Owned;
-use scc_recorded::recorded::{Calls, MapCall, Reply};
-use scc_recorder::recorder::{Closed, Finished, Pass, Recorded, Setup, Site, Unfinished};
-use scc_table::Shared;
+use scc_calls::{Calls, MapCall, Reply};
+use scc_common::Shared;
+use scc_history::{CallError, Log, Stripe};
+use scc_map::Owned;
+use scc_recorded::{Closed, Finished, Pass, Recorded, Setup, Site, Unfinished};
 use std::alloc::Global;
 use std::hash::BuildHasher;
 use std::sync::Wait;
@@ -33,14 +33,17 @@ pub fn one_after_another<C: Calls>(
     Ok(())
 }
 
-/// Finishes a run. Each pass then has as many receipts as there are call records with its number: no call went unanswered, and none was answered that isn't recorded.
+/// Finishes a run. Each pass then has as many receipts as there are call records with its number: no call went
+/// unanswered, and none was answered that isn't recorded.
 pub fn audit<C: Calls + Drop, L: Ledger, M: Site<C::Hasher>>(
     closed: Closed<C, L, M>,
     passes: Vec<Pass<C, L>>,
 ) -> Result<Finished<C>, Unfinished<C, L, M>>
 where
     C::Hasher: Drop,
-    ensures { IfOk result (λ f. (k : ℕ) (p : _) → slice_get passes.items k ≡ Some p → length p.log.receipts.items ≡ length (calls_of p.log.number (steps_at (map (λ h. h.items) f.histories.items) f.order.items))) }
+    ensures { IfOk result (λ f. (k : ℕ) (p : _) → slice_get passes.items k ≡ Some p
+        → length p.log.receipts.items
+        ≡ length (calls_of p.log.number (steps_at (map (λ h. h.items) f.histories.items) f.order.items))) }
 {
     closed.finish(passes)
 }

@@ -1,12 +1,13 @@
 //! An insertion, a look-up and a removal, one after another.
 ghost use Rattle.std.specs.Prelude.{◌≡◌, IfOk, Some, OnOk};
 ghost use Rattle.std.specs.List.Sorted.{IsPermutation};
-ghost use Rattle.scc_table.specs.Contents.{entries};
+ghost use Rattle.scc_contents.specs.Contents.{entries};
 
-use scc_map::hash_map::Owned;
-use scc_table::InsertError;
+use scc_common::InsertError;
+use scc_map::Owned;
 
-/// Inserts a pair, looks it up and takes it out again: the look-up finds the value, and the old pairs are left in some order.
+/// Inserts a pair, looks it up and takes it out again: the look-up finds the value, and the old pairs are left in some
+/// order.
 pub fn insert_read_remove(
     map: &mut Owned<u64, u64>,
     key: u64,

@@ -1,13 +1,15 @@
 //! Configurations in an index: a value is published anew while a reader keeps the version that it has.
 ghost use Rattle.std.specs.Arc.{arc_value};
 ghost use Rattle.std.specs.Prelude.{◌≡◌, nat_eq, Some, IfOk, IfErr, OnOk, OnErr};
-ghost use Rattle.scc_table.specs.Contents.{entries};
-ghost use Rattle.scc_table.specs.Pairs.{find, FindsInstead};
+ghost use Rattle.scc_contents.specs.Contents.{entries};
+ghost use Rattle.scc_contents.specs.Pairs.{find, FindsInstead};
 
-use scc_index::hash_index::{Owned, Version};
+use scc_entry::Version;
+use scc_index::Owned;
 use std::sync::Arc;
 
-/// Publishes `value` under the key of a version that a reader keeps, and answers the value that the reader has, which stays what it was. Refused for want of memory, it hands `value` back, and look-ups find what they found.
+/// Publishes `value` under the key of a version that a reader keeps, and answers the value that the reader has, which
+/// stays what it was. Refused for want of memory, it hands `value` back, and look-ups find what they found.
 pub fn republish(
     configs: &mut Owned<u64, u64>,
     kept: &Arc<Version<u64, u64>>,
@@ -15,7 +17,8 @@ pub fn republish(
 ) -> Result<u64, u64>
     requires { find nat_eq (entries configs.old) (arc_value kept.now).0 ≡ Some (arc_value kept.now) }
     ensures kept { IfOk result (λ v. v ≡ (arc_value kept.now).1) }
-    ensures published { OnOk result (FindsInstead nat_eq (entries configs.old) (arc_value kept.now).0 (Some ((arc_value kept.now).0, value)) (entries configs.new)) }
+    ensures published { OnOk result (FindsInstead nat_eq (entries configs.old) (arc_value kept.now).0
+        (Some ((arc_value kept.now).0, value)) (entries configs.new)) }
     ensures refused { IfErr result (λ v. v ≡ value) }
     ensures unchanged { OnErr result (configs.new ≡ configs.old) }
 {

@@ -1,16 +1,17 @@
 //! Counting by entries: one search for each word.
 ghost use Rattle.std.specs.Prelude.{nat_eq, Some, OnOk, OnErr};
-ghost use Rattle.scc_table.specs.Contents.{entries};
-ghost use Rattle.scc_table.specs.Pairs.{find, FindsInstead};
-ghost use Rattle.scc_table.specs.Steps.{Rests};
+ghost use Rattle.scc_contents.specs.Contents.{entries};
+ghost use Rattle.scc_contents.specs.Pairs.{find, FindsInstead};
+ghost use Rattle.scc_contents.specs.Steps.{Rests};
 ghost use Rattle.scc_uses.specs.Counts.{one_more};
 
-use scc_map::hash_map::Owned;
-use scc_table::InsertError;
+use scc_common::InsertError;
+use scc_map::Owned;
 
 /// Counts a word once more. A count stays at the greatest number once it is there.
 pub fn count_word(counts: &mut Owned<u64, u64>, word: u64) -> Result<(), InsertError<u64, u64>>
-    ensures counted { OnOk result (FindsInstead nat_eq (entries counts.old) word (Some (word, one_more (find nat_eq (entries counts.old) word))) (entries counts.new)) }
+    ensures counted { OnOk result (FindsInstead nat_eq (entries counts.old) word
+        (Some (word, one_more (find nat_eq (entries counts.old) word))) (entries counts.new)) }
     ensures refused { OnErr result (Rests counts.old counts.new) }
 {
     counts

@@ -1,9 +1,9 @@
 //! The difference of two sets.
 ghost use Rattle.std.specs.Prelude.{◌≡◌, cond, None, is_some};
-ghost use Rattle.scc_table.specs.Contents.{entries};
+ghost use Rattle.scc_contents.specs.Contents.{entries};
 ghost use Rattle.scc_set.specs.Keys.{find};
 
-use scc_set::hash_set::Owned;
+use scc_set::Owned;
 use std::hash::{BuildHasher, Hash};
 
 /// Takes out of the first set the keys that the second has.
@@ -11,7 +11,8 @@ pub fn subtract<K: Eq + Hash + Drop, H: BuildHasher, I: BuildHasher>(
     first: &mut Owned<K, H>,
     second: &Owned<K, I>,
 )
-    ensures { (q : K) → find K.eq (entries first.new) q ≡ cond (is_some (find K.eq (entries second.now) q)) None (find K.eq (entries first.old) q) }
+    ensures { (q : K) → find K.eq (entries first.new) q
+        ≡ cond (is_some (find K.eq (entries second.now) q)) None (find K.eq (entries first.old) q) }
 {
     first.retain_sync(|key| !second.contains_sync(key));
 }

@@ -3,8 +3,8 @@ ghost use Rattle.std.specs.Prelude.{ℕ, ◌≡◌, IfOk, nat_eq};
 ghost use Rattle.std.specs.List.{IsDistinct};
 ghost use Rattle.std.specs.Set.{is_member};
 
-use scc_set::hash_set::Owned;
-use scc_table::{KeyError, MakeError};
+use scc_common::{KeyError, MakeError};
+use scc_set::Owned;
 use std::alloc::Global;
 
 /// The words of a list, each once, however often it stands there. It is refused for want of memory.

@@ -1,8 +1,8 @@
 //! A function that takes long to evaluate, whose values are kept in a memo.
 ghost use Rattle.std.specs.Prelude.{◌≡◌, ℕ, IfOk, IsOk};
 
+use scc_common::MakeError;
 use scc_memo::{Memo, Pure};
-use scc_table::MakeError;
 use std::alloc::Global;
 use std::hash::{BuildHasherDefault, FoldHasher};
 use std::marker::Model;

@@ -2,7 +2,7 @@
 ghost use Rattle.std.specs.Prelude.{◌≡◌, ◌⊎◌, ◌++◌, ◌∷◌, ◌^◌, ◌≤◌, [], length, slice_get, IfOk, OnErr, IfErr};
 ghost use Rattle.scc_uses.specs.Interning.{IsNumberOf};
 
-use scc_map::hash_map::Owned;
+use scc_map::Owned;
 use std::alloc::Global;
 use std::marker::Model;
 
@@ -47,7 +47,8 @@ impl Interner {
     /// The number of a word: the one that it has, or the next one.
     pub fn intern(&mut self, word: u64) -> Result<u32, InternError>
         ensures number { IfOk result (IsNumberOf self.new word) }
-        ensures words { IfOk result (λ n. (self.new ≡ self.old) ⊎ ((n ≡ length self.old) × (self.new ≡ self.old ++ word ∷ []))) }
+        ensures words { IfOk result (λ n. (self.new ≡ self.old)
+            ⊎ ((n ≡ length self.old) × (self.new ≡ self.old ++ word ∷ []))) }
         ensures refused { OnErr result (self.new ≡ self.old) }
         ensures full { IfErr result (λ e. e ≡ InternError.Full → 2 ^ 32 ≤ length self.old) }
     {

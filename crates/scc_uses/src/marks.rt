@@ -1,10 +1,10 @@
 //! Keys that were seen, marked in a set.
 ghost use Rattle.std.specs.Prelude.{◌≡◌, ◌↔◌, nat_eq, None, IfOk, OnOk, IsSome, IsTrue};
-ghost use Rattle.scc_table.specs.Contents.{entries};
+ghost use Rattle.scc_contents.specs.Contents.{entries};
 ghost use Rattle.scc_set.specs.Keys.{find};
 
-use scc_set::hash_set::Owned;
-use scc_table::KeyError;
+use scc_common::KeyError;
+use scc_set::Owned;
 
 /// Whether the key is new; it is in the set then.
 pub fn mark(seen: &mut Owned<u64>, key: u64) -> Result<bool, KeyError<u64>>

@@ -1,11 +1,11 @@
 //! A memo: a value is stored once, and then handed out.
 ghost use Rattle.std.specs.Prelude.{◌≡◌, nat_eq, None, Some, OnErr, IfOk};
-ghost use Rattle.scc_table.specs.Contents.{entries};
-ghost use Rattle.scc_table.specs.Pairs.{find, FindsInstead};
+ghost use Rattle.scc_contents.specs.Contents.{entries};
+ghost use Rattle.scc_contents.specs.Pairs.{find, FindsInstead};
 ghost use Rattle.scc_uses.specs.Memo.{stored_or};
 
-use scc_map::hash_map::Owned;
-use scc_table::InsertError;
+use scc_common::InsertError;
+use scc_map::Owned;
 
 /// The value of a key; a default is stored where there is none.
 pub fn get_or_insert(
@@ -14,7 +14,8 @@ pub fn get_or_insert(
     default: u64,
 ) -> Result<u64, InsertError<u64, u64>>
     ensures answer { IfOk result (λ v. v ≡ stored_or default (find nat_eq (entries values.old) key)) }
-    ensures stored { IfOk result (λ v. FindsInstead nat_eq (entries values.old) key (Some (key, v)) (entries values.new)) }
+    ensures stored { IfOk result (λ v. FindsInstead nat_eq (entries values.old) key (Some (key, v))
+        (entries values.new)) }
     ensures missing { OnErr result (find nat_eq (entries values.old) key ≡ None) }
 {
     let entry = values.entry_sync(key).or_insert(default)?;

@@ -3,11 +3,11 @@ ghost use Rattle.std.specs.Prelude.{◌≡◌, ℕ, ◌+◌, ◌<◌, length, ma
 ghost use Rattle.scc_history.specs.Orders.{StampsRise, steps_at};
 ghost use Rattle.scc_history.specs.Receipts.{calls_of};
 
-use scc_history::history::CallError;
-use scc_map::hash_map::Owned;
-use scc_recorded::recorded::{MapCall, Reply};
-use scc_recorder::recorder::{Finished, Pass, Recorded, Site, Unfinished};
-use scc_table::Shared;
+use scc_calls::{MapCall, Reply};
+use scc_common::Shared;
+use scc_history::CallError;
+use scc_map::Owned;
+use scc_recorded::{Finished, Pass, Recorded, Site, Unfinished};
 use std::hash::BuildHasher;
 use std::sync::Wait;
 use std::sync::ledger::Ledger;
@@ -15,7 +15,8 @@ use std::sync::ledger::Ledger;
 /// When the session of each name ends, by names.
 pub type Ends<H> = Owned<String, u64, Shared<H>>;
 
-/// Lets the session of that name end at that time, and answers when it was to end. The call has a receipt more and a later stamp than all that the pass had.
+/// Lets the session of that name end at that time, and answers when it was to end. The call has a receipt more and a
+/// later stamp than all that the pass had.
 pub fn renew<H: BuildHasher, L: Ledger, M: Site<Shared<H>>, R: Wait>(
     rt: &R,
     store: &Recorded<Ends<H>, L, M>,
@@ -29,12 +30,15 @@ pub fn renew<H: BuildHasher, L: Ledger, M: Site<Shared<H>>, R: Wait>(
     store.call(rt, pass, MapCall::Upsert(name, end))
 }
 
-/// Finishes the run. Each pass then has as many receipts as there are call records with its number: no renewal went unanswered, and none was answered that isn't recorded. Along the order the stamps of calls don't fall.
+/// Finishes the run. Each pass then has as many receipts as there are call records with its number: no renewal went
+/// unanswered, and none was answered that isn't recorded. Along the order the stamps of calls don't fall.
 pub fn audit_sessions<H: BuildHasher + Drop, L: Ledger, M: Site<Shared<H>>>(
     store: Recorded<Ends<H>, L, M>,
     passes: Vec<Pass<Ends<H>, L>>,
 ) -> Result<Finished<Ends<H>>, Unfinished<Ends<H>, L, M>>
-    ensures answered { IfOk result (λ f. (k : ℕ) (p : _) → slice_get passes.items k ≡ Some p → length p.log.receipts.items ≡ length (calls_of p.log.number (steps_at (map (λ h. h.items) f.histories.items) f.order.items))) }
+    ensures answered { IfOk result (λ f. (k : ℕ) (p : _) → slice_get passes.items k ≡ Some p
+        → length p.log.receipts.items
+        ≡ length (calls_of p.log.number (steps_at (map (λ h. h.items) f.histories.items) f.order.items))) }
     ensures stamps { IfOk result (λ f. StampsRise (map (λ h. h.items) f.histories.items) f.order.items) }
 {
     store.finish(passes)

@@ -1,23 +1,28 @@
 //! Two parts that share one hasher.
 ghost use Rattle.std.specs.Prelude.{◌≡◌, ◌<◌, true, IfOk};
 ghost use Rattle.std.specs.Arc.{arc_value};
-ghost use Rattle.scc_table.specs.Contents.{settings_of, bucket_count, key_hash, bucket_of};
+ghost use Rattle.scc_contents.specs.Contents.{settings_of, bucket_count, key_hash, bucket_of};
 
-use scc_map::hash_map::Owned;
-use scc_recorded::recorded::{MapCall, Refused, Reply, route, run};
-use scc_table::{MakeError, Shared};
+use scc_calls::{MapCall, Refused, Reply, route, run};
+use scc_common::{MakeError, Shared};
+use scc_map::Owned;
 use std::alloc::Global;
 use std::hash::{BuildHasher, BuildHasherDefault, FoldHasher, Hash};
 use std::sync::Arc;
 
-/// Two empty parts that skip one bit of each hash. They hash alike, under the hasher of the owner, and with as many buckets they route alike.
+/// Two empty parts that skip one bit of each hash. They hash alike, under the hasher of the owner, and with as many
+/// buckets they route alike.
 pub fn two_parts<K: Eq + Hash + Drop, V: Drop, H: BuildHasher + Drop>(
     alloc: Global,
     owner: Arc<H>,
 ) -> Result<(Owned<K, V, Shared<H>>, Owned<K, V, Shared<H>>), MakeError>
     ensures hasher { IfOk result (λ p. (settings_of p.0).hasher ≡ arc_value owner) }
-    ensures hash { IfOk result (λ p. (k : K) → key_hash H.BuildHasher H.Hasher.Hasher K.hash_input p.0 k ≡ key_hash H.BuildHasher H.Hasher.Hasher K.hash_input p.1 k) }
-    ensures route { IfOk result (λ p. (k : K) → bucket_count p.0 ≡ bucket_count p.1 → bucket_of (key_hash H.BuildHasher H.Hasher.Hasher K.hash_input p.0) p.0 k ≡ bucket_of (key_hash H.BuildHasher H.Hasher.Hasher K.hash_input p.1) p.1 k) }
+    ensures hash { IfOk result (λ p. (k : K)
+        → key_hash H.BuildHasher H.Hasher.Hasher K.hash_input p.0 k
+        ≡ key_hash H.BuildHasher H.Hasher.Hasher K.hash_input p.1 k) }
+    ensures route { IfOk result (λ p. (k : K) → bucket_count p.0 ≡ bucket_count p.1
+        → bucket_of (key_hash H.BuildHasher H.Hasher.Hasher K.hash_input p.0) p.0 k
+        ≡ bucket_of (key_hash H.BuildHasher H.Hasher.Hasher K.hash_input p.1) p.1 k) }
 {
     let Ok(another) = Arc::try_clone(&owner) else {
         return Err(MakeError);
@@ -55,7 +60,7 @@ pub fn run_in_parts(
     ensures skipped { IfOk result (λ p. (settings_of p).skipped ≡ 1) }
 {
     let number = route::<Part>(&owner, 2, &key);
-    let (first, second) = scc_recorded::recorded::two_parts::<Part>(alloc, 64, 0, owner)?;
+    let (first, second) = scc_calls::two_parts::<Part>(alloc, 64, 0, owner)?;
     let mut part = if number == 0 { first } else { second };
     match run(&mut part, &[MapCall::Insert(key, 1), MapCall::Len], replies) {
         Ok(()) => Ok(part),

@@ -1,11 +1,12 @@
 //! Room that is made before an insertion.
 ghost use Rattle.std.specs.Prelude.{◌≡◌, IfErr};
 
-use scc_map::hash_map::Owned;
-use scc_table::InsertError;
+use scc_common::InsertError;
+use scc_map::Owned;
 use std::hash::{BuildHasher, Hash};
 
-/// Inserts the pair where its key is new and room for it can be had, which is made first: the insertion itself then asks for no memory and can't be refused. Else the pair comes back.
+/// Inserts the pair where its key is new and room for it can be had, which is made first: the insertion itself then
+/// asks for no memory and can't be refused. Else the pair comes back.
 pub fn insert_prepared<K: Eq + Hash, V, H: BuildHasher>(
     map: &mut Owned<K, V, H>,
     k: K,

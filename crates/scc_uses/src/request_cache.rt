@@ -1,12 +1,12 @@
 //! A cache of answers to requests, which counts those that it could answer and those that it could not.
 ghost use Rattle.std.specs.Prelude.{◌≡◌, ℕ, ◌≤◌, [], nat_eq, length, IfOk};
 ghost use Rattle.std.specs.Hash as fed;
-ghost use Rattle.scc_table.specs.Contents.{entries, key_hash};
-ghost use Rattle.scc_table.specs.Sizes.{IsArraySize};
+ghost use Rattle.scc_contents.specs.Contents.{entries, key_hash};
+ghost use Rattle.scc_contents.specs.Sizes.{IsArraySize};
 ghost use Rattle.scc_cache.specs.CacheSteps.{IsAbsent, IsPresent};
 
-use scc_cache::hash_cache::Owned;
-use scc_table::MakeError;
+use scc_cache::Owned;
+use scc_common::MakeError;
 use std::alloc::Global;
 use std::hash::BuildHasher;
 
@@ -25,7 +25,8 @@ impl<H: BuildHasher> RequestCache<H> {
     pub fn new(alloc: Global, bound: usize, hasher: H) -> Result<Self, MakeError>
     where
         H: Drop,
-        ensures { IfOk result (λ c. (entries c.answers.contents ≡ []) × IsArraySize bound c.answers.maximum × (c.hits ≡ 0) × (c.misses ≡ 0)) }
+        ensures { IfOk result (λ c. (entries c.answers.contents ≡ []) × IsArraySize bound c.answers.maximum
+            × (c.hits ≡ 0) × (c.misses ≡ 0)) }
     {
         let answers = Owned::with_capacity_and_hasher(alloc, 0, bound, hasher)?;
         Ok(RequestCache {
@@ -35,11 +36,18 @@ impl<H: BuildHasher> RequestCache<H> {
         })
     }
 
-    /// The answer of `ask` to the request, which is called only where the cache has none. There are never more answers than the bound; what was asked for is kept in the place of the answer that wasn't looked at for longest in its bucket. A count stays at the greatest number once it is there.
+    /// The answer of `ask` to the request, which is called only where the cache has none. There are never more answers
+    /// than the bound; what was asked for is kept in the place of the answer that wasn't looked at for longest in its
+    /// bucket. A count stays at the greatest number once it is there.
     pub fn answer<F: FnOnce(u64) -> u64>(&mut self, request: u64, ask: F) -> u64
         requires { F.pre ask request }
-        ensures hit { (p : ℕ × ℕ) → IsPresent (key_hash H.BuildHasher H.Hasher.Hasher fed.u64 self.old.answers.contents) nat_eq self.old.answers.contents request p → (result ≡ p.1) × (self.new.hits ≡ one_more self.old.hits) × (self.new.misses ≡ self.old.misses) }
-        ensures miss { IsAbsent (key_hash H.BuildHasher H.Hasher.Hasher fed.u64 self.old.answers.contents) nat_eq self.old.answers.contents request → F.post ask request result × (self.new.hits ≡ self.old.hits) × (self.new.misses ≡ one_more self.old.misses) }
+        ensures hit { (p : ℕ × ℕ) → IsPresent (key_hash H.BuildHasher H.Hasher.Hasher fed.u64
+            self.old.answers.contents) nat_eq self.old.answers.contents request p
+            → (result ≡ p.1) × (self.new.hits ≡ one_more self.old.hits) × (self.new.misses ≡ self.old.misses) }
+        ensures miss { IsAbsent (key_hash H.BuildHasher H.Hasher.Hasher fed.u64 self.old.answers.contents) nat_eq
+            self.old.answers.contents request
+            → F.post ask request result × (self.new.hits ≡ self.old.hits)
+            × (self.new.misses ≡ one_more self.old.misses) }
         ensures bound { length (entries self.new.answers.contents) ≤ self.new.answers.maximum }
         ensures same_bound { self.new.answers.maximum ≡ self.old.answers.maximum }
     {

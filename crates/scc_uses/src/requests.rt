@@ -1,11 +1,11 @@
 //! Requests counted by user, in windows of time.
 ghost use Rattle.std.specs.Prelude.{ℕ, ◌≡◌, List, ◌++◌, [], All, Some, OnOk, OnErr, IfOk, nat_eq, None};
 ghost use Rattle.std.specs.List.Sorted.{IsPermutation};
-ghost use Rattle.scc_table.specs.Contents.{entries};
-ghost use Rattle.scc_table.specs.Pairs.{find, FindsInstead};
+ghost use Rattle.scc_contents.specs.Contents.{entries};
+ghost use Rattle.scc_contents.specs.Pairs.{find, FindsInstead};
 
-use scc_map::hash_map::Owned;
-use scc_table::{InsertError, Verdict, WalkError};
+use scc_common::{InsertError, Verdict, WalkError};
+use scc_map::Owned;
 use std::alloc::Global;
 
 /// When a window began, and the requests in it.
@@ -39,9 +39,13 @@ impl Requests {
     /// Counts a request of a user, in a new window where the old one has expired, and answers how many there are in it.
     pub fn hit(&mut self, user: u64, now: u64) -> Result<u64, InsertError<u64, Window>>
         ensures width { self.new.width ≡ self.old.width }
-        ensures answer { IfOk result (λ n. n ≡ (after_hit self.old.width now (find nat_eq (entries self.old.windows) user)).hits) }
-        ensures hit { OnOk result (FindsInstead nat_eq (entries self.old.windows) user (Some (user, after_hit self.old.width now (find nat_eq (entries self.old.windows) user))) (entries self.new.windows)) }
-        ensures refused { OnErr result ((q : ℕ) → find nat_eq (entries self.new.windows) q ≡ find nat_eq (entries self.old.windows) q) }
+        ensures answer { IfOk result (λ n. n ≡ (after_hit self.old.width now
+            (find nat_eq (entries self.old.windows) user)).hits) }
+        ensures hit { OnOk result (FindsInstead nat_eq (entries self.old.windows) user
+            (Some (user, after_hit self.old.width now (find nat_eq (entries self.old.windows) user)))
+            (entries self.new.windows)) }
+        ensures refused { OnErr result ((q : ℕ) → find nat_eq (entries self.new.windows) q
+            ≡ find nat_eq (entries self.old.windows) q) }
     {
         let width = self.width;
         let counted = self.windows.update_sync(&user, |_, window| {
@@ -71,9 +75,12 @@ impl Requests {
     /// Takes the users whose windows have expired. Where there is no memory for all, some of them stay.
     pub fn sweep(&mut self, now: u64, taken: &mut Vec<(u64, Window)>) -> Result<(), WalkError>
         ensures width { self.new.width ≡ self.old.width }
-        ensures taken { (more : List (ℕ × Window)) × (taken.new.items ≡ taken.old.items ++ more) × All (IsExpired self.old.width now) more × IsPermutation (entries self.old.windows) (entries self.new.windows ++ more) }
+        ensures taken { (more : List (ℕ × Window)) × (taken.new.items ≡ taken.old.items ++ more)
+            × All (IsExpired self.old.width now) more
+            × IsPermutation (entries self.old.windows) (entries self.new.windows ++ more) }
         ensures live { OnOk result (All (IsLive self.old.width now) (entries self.new.windows)) }
-        ensures finds { OnOk result ((q : ℕ) → find nat_eq (entries self.new.windows) q ≡ live_at self.old.width now (find nat_eq (entries self.old.windows) q)) }
+        ensures finds { OnOk result ((q : ℕ) → find nat_eq (entries self.new.windows) q
+            ≡ live_at self.old.width now (find nat_eq (entries self.old.windows) q)) }
     {
         let width = self.width;
         self.windows.iter_mut_sync(

@@ -1,9 +1,9 @@
 //! A routing table: the best route to each destination.
 ghost use Rattle.std.specs.Prelude.{ℕ, ◌≡◌, None, OnOk, OnErr, IfOk};
 
-use scc_map::hash_map::Owned;
-use scc_map::hash_map::owned::Entry;
-use scc_table::InsertError;
+use scc_common::InsertError;
+use scc_map::Owned;
+use scc_map::owned::Entry;
 use std::alloc::Global;
 use std::marker::Model;
 
@@ -24,7 +24,7 @@ impl Model for Routes {
     ghost use Rattle.std.specs.Prelude.{ℕ};
     ghost use Rattle.std.specs.declared.hash.BuildHasherDefault.{BuildHasherDefault};
     ghost use Rattle.std.specs.declared.hash.FoldHasher.{FoldHasher};
-    ghost use Rattle.scc_table.specs.Contents.{Contents};
+    ghost use Rattle.scc_contents.specs.Contents.{Contents};
     ghost use Rattle.scc_uses.specs.declared.routing.Route.{Route};
 
     ghost Value = { Contents (ℕ × Route) (BuildHasherDefault FoldHasher) };
@@ -44,7 +44,8 @@ impl Routes {
         }
     }
 
-    /// Takes a route where there is none to its destination, or where its metric is lower than that of the one that is there, and answers whether it did.
+    /// Takes a route where there is none to its destination, or where its metric is lower than that of the one that is
+    /// there, and answers whether it did.
     pub fn offer(&mut self, destination: u32, route: Route) -> Result<bool, InsertError<u32, Route>>
         ensures offered { IfOk result (Offers (route_to self.old destination) self.old destination route self.new) }
         ensures refused { OnErr result (IsAsBefore self.old self.new) }

@@ -2,8 +2,8 @@
 ghost use Rattle.std.specs.Prelude.{◌≡◌, ◌≤◌, ◌⊎◌, IfErr, IfSome};
 ghost use Rattle.scc_map.specs.Entries.{Exists, Memory};
 
+use scc_common::{InsertError, MakeError};
 use scc_shared_map::HashMap;
-use scc_table::{InsertError, MakeError};
 use std::alloc::Global;
 use std::sync::Wait;
 

@@ -2,8 +2,8 @@
 ghost use Rattle.std.specs.Prelude.{ℕ, ◌≡◌, Some, None, OnOk, OnErr};
 ghost use Rattle.scc_uses.specs.Sessions.{end_of, Sets, IsAsBefore, Renews, Expires};
 
-use scc_map::hash_map::Owned;
-use scc_table::InsertError;
+use scc_common::InsertError;
+use scc_map::Owned;
 use std::alloc::Global;
 use std::hash::{BuildHasherDefault, FoldHasher};
 use std::marker::Model;
@@ -17,7 +17,7 @@ impl Model for Sessions {
     ghost use Rattle.std.specs.Prelude.{ℕ};
     ghost use Rattle.std.specs.declared.hash.BuildHasherDefault.{BuildHasherDefault};
     ghost use Rattle.std.specs.declared.hash.FoldHasher.{FoldHasher};
-    ghost use Rattle.scc_table.specs.Contents.{Contents};
+    ghost use Rattle.scc_contents.specs.Contents.{Contents};
 
     ghost Value = { Contents (ℕ × ℕ) (BuildHasherDefault FoldHasher) };
 

@@ -2,8 +2,8 @@
 ghost use Rattle.std.specs.Prelude.{◌≡◌, true, IfErr, IfOk, IfSome};
 ghost use Rattle.scc_shared_set.specs.Answers.{Memory};
 
+use scc_common::{KeyError, MakeError};
 use scc_shared_set::HashSet;
-use scc_table::{KeyError, MakeError};
 use std::alloc::Global;
 use std::hash::Hash;
 use std::sync::Wait;

@@ -1,8 +1,8 @@
 //! Answers of a service that threads share: whatever others put in and drive out meanwhile, a request gets its answer.
 ghost use Rattle.std.specs.Prelude.{◌≡◌, ℕ, ◌<◌, IfOk, IfSome, length, slice_index, slice_index_or};
 
+use scc_common::MakeError;
 use scc_shared_cache::HashCache;
-use scc_table::MakeError;
 use std::alloc::{AllocError, Global};
 use std::marker::PhantomData;
 use std::sync::Wait;
@@ -45,7 +45,8 @@ impl<S: Service> SharedRequests<S> {
         Ok(SharedRequests { service, answers })
     }
 
-    /// The answer to the request. The service is asked only where no answer is kept, and while it is asked no stripe is held.
+    /// The answer to the request. The service is asked only where no answer is kept, and while it is asked no stripe is
+    /// held.
     pub fn answer(&self, rt: &impl Wait, request: u64) -> u64
         ensures { result ≡ S.answer_to request }
     {
@@ -85,7 +86,8 @@ pub fn answer_all<S: Service + Send + Sync, R: Threads + Wait + Sync>(
     shared: &SharedRequests<S>,
     requests: &[u64],
 ) -> Result<Vec<u64>, AllocError>
-    ensures { IfOk result (λ answers. (i : ℕ) (d : _) → i < length requests.now → slice_index answers.items i ≡ S.answer_to (slice_index_or requests.now i d)) }
+    ensures { IfOk result (λ answers. (i : ℕ) (d : _) → i < length requests.now
+        → slice_index answers.items i ≡ S.answer_to (slice_index_or requests.now i d)) }
 {
     map_indices(
         rt,

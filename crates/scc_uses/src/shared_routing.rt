@@ -4,9 +4,10 @@ ghost use Rattle.std.specs.Arc.{arc_value};
 ghost use Rattle.scc_index.specs.Entries.{Memory};
 
 use crate::routing::Route;
+use scc_common::{InsertError, MakeError};
+use scc_entry::Version;
+use scc_index::locked::Entry;
 use scc_shared_index::HashIndex;
-use scc_shared_index::hash_index::{Entry, Version};
-use scc_table::{InsertError, MakeError};
 use std::alloc::Global;
 use std::sync::{Arc, Wait};
 use std::thread::{Threads, join};

@@ -1,13 +1,14 @@
 //! Sums over snapshots of an index, whatever was changed since.
 ghost use Rattle.std.specs.Prelude.{◌≡◌, [], IfOk};
-ghost use Rattle.scc_table.specs.Contents.{entries};
+ghost use Rattle.scc_contents.specs.Contents.{entries};
 ghost use Rattle.scc_uses.specs.Sums.{sum_from};
 
-use scc_index::hash_index::Owned;
-use scc_index::hash_index::owned::Iter;
-use scc_table::MakeError;
+use scc_common::MakeError;
+use scc_index::Owned;
+use scc_index::owned::Iter;
 
-/// The sum of the values of a snapshot, modulo 2^64. It is that of the pairs when the snapshot was taken, since their versions never change.
+/// The sum of the values of a snapshot, modulo 2^64. It is that of the pairs when the snapshot was taken, since their
+/// versions never change.
 pub fn sum(versions: Iter<u64, u64>) -> u64
     ensures { result ≡ sum_from 0 versions }
 {

@@ -5,7 +5,7 @@ ghost use Rattle.std.specs.Option.{option_copied};
 ghost use Rattle.scc_array.specs.Windows.{window_of, IsTagged};
 
 use super::Columns;
-use scc_bucket::Keyed;
+use scc_entry::Keyed;
 
 impl<E: Keyed> Columns<E>
 where
@@ -13,7 +13,7 @@ where
 {
     /// The first entry of the bucket with that key. Only places with the tag are compared, in rising order.
     #[inline(always)]
-    pub fn find_entry(&self, bucket: usize, key: &E::Key, tag: u8) -> Option<&E>
+    pub(crate) fn find_entry(&self, bucket: usize, key: &E::Key, tag: u8) -> Option<&E>
         requires bucket { bucket < length self.now }
         requires tag { 0 < tag }
         requires tagged { IsTagged (λ e. E.Key.eq key.now (E.key_of e)) tag (window_of self.now bucket) }

@@ -2,9 +2,9 @@
 
 use crate::printed::Printed;
 use crate::texts::add_reply_line;
-use scc_cache::hash_cache::Owned;
-use scc_recorded::recorded::{CacheCall, Reply};
-use scc_table::Verdict;
+use scc_cache::Owned;
+use scc_calls::{CacheCall, Reply};
+use scc_common::Verdict;
 use std::alloc::AllocError;
 use std::fmt::Write;
 use std::hash::BuildHasher;
@@ -12,9 +12,9 @@ use std::hash::BuildHasher;
 impl<H: BuildHasher> Printed for Owned<u64, u64, H> {
     type Item = (u64, u64);
 
-    ghost use Rattle.scc_table.specs.Contents.{entries};
+    ghost use Rattle.scc_contents.specs.Contents.{entries};
     ghost use Rattle.scc_print.specs.Output.{content_line, reply_line};
-    ghost use Rattle.scc_recorded.specs.declared.recorded.replies.Reply.TheVariants.{Count};
+    ghost use Rattle.scc_calls.specs.declared.replies.Reply.TheVariants.{Count};
 
     ghost shown = { λ c. entries c.contents };
 

@@ -2,8 +2,8 @@
 
 use crate::printed::Printed;
 use crate::texts::add_reply_line;
-use scc_index::hash_index::Owned;
-use scc_recorded::recorded::{IndexCall, Reply};
+use scc_calls::{IndexCall, Reply};
+use scc_index::Owned;
 use std::alloc::AllocError;
 use std::fmt::Write;
 use std::hash::BuildHasher;
@@ -12,8 +12,8 @@ impl<H: BuildHasher> Printed for Owned<u64, u64, H> {
     type Item = (u64, u64);
 
     ghost use Rattle.scc_print.specs.Output.{content_line, reply_line};
-    ghost use Rattle.scc_table.specs.Contents.{entries};
-    ghost use Rattle.scc_recorded.specs.declared.recorded.replies.Reply.TheVariants.{Count};
+    ghost use Rattle.scc_contents.specs.Contents.{entries};
+    ghost use Rattle.scc_calls.specs.declared.replies.Reply.TheVariants.{Count};
 
     ghost shown = { entries };
 

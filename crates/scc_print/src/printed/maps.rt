@@ -2,9 +2,9 @@
 
 use crate::printed::Printed;
 use crate::texts::add_reply_line;
-use scc_map::hash_map::Owned;
-use scc_recorded::recorded::{MapCall, Reply};
-use scc_table::Verdict;
+use scc_calls::{MapCall, Reply};
+use scc_common::Verdict;
+use scc_map::Owned;
 use std::alloc::AllocError;
 use std::fmt::Write;
 use std::hash::BuildHasher;
@@ -13,8 +13,8 @@ impl<H: BuildHasher> Printed for Owned<u64, u64, H> {
     type Item = (u64, u64);
 
     ghost use Rattle.scc_print.specs.Output.{content_line, reply_line};
-    ghost use Rattle.scc_table.specs.Contents.{entries};
-    ghost use Rattle.scc_recorded.specs.declared.recorded.replies.Reply.TheVariants.{Count};
+    ghost use Rattle.scc_contents.specs.Contents.{entries};
+    ghost use Rattle.scc_calls.specs.declared.replies.Reply.TheVariants.{Count};
 
     ghost shown = { entries };
 

@@ -1,9 +1,10 @@
-// The same random calls on a shared cache of one stripe and on an owned cache: each answers as the other, and both then have the same pairs in as many slots.
-use scc_cache::hash_cache::{Owned, owned};
-use scc_fixtures::numbers::next;
+// The same random calls on a shared cache of one stripe and on an owned cache: each answers as the other, and both then
+// have the same pairs in as many slots.
+use scc_cache::{Owned, owned};
+use scc_common::{InsertError, Verdict};
 use scc_script::same::Same;
-use scc_shared_cache::{HashCache, hash_cache};
-use scc_table::{InsertError, Verdict};
+use scc_shared_cache::HashCache;
+use scc_test_kit::numbers::next;
 use std::process::Abort;
 use std::sync::Wait;
 use std::test::Fail;
@@ -198,20 +199,20 @@ fn on_shared(
         5 => Reply::Pair(cache.read_sync(rt, &key, |k, v| (*k, *v))),
         6 => Reply::Yes(cache.contains_sync(rt, &key)),
         7 => match cache.replace_sync(rt, key) {
-            hash_cache::ReplaceResult::Replaced(entry, old) => Reply::Entry(
+            scc_cache::locked::ReplaceResult::Replaced(entry, old) => Reply::Entry(
                 Some((old, old)),
                 (*entry.key(), *entry.get()),
             ),
-            hash_cache::ReplaceResult::NotReplaced(entry) => match entry.put_entry(value) {
+            scc_cache::locked::ReplaceResult::NotReplaced(entry) => match entry.put_entry(value) {
                 Ok((evicted, entry)) => Reply::Entry(evicted, (*entry.key(), *entry.get())),
                 Err(error) => refused(error),
             },
         },
         8 => match cache.replace_sync(rt, key) {
-            hash_cache::ReplaceResult::Replaced(entry, _) => Reply::Pair(Some(
+            scc_cache::locked::ReplaceResult::Replaced(entry, _) => Reply::Pair(Some(
                 entry.remove_entry(),
             )),
-            hash_cache::ReplaceResult::NotReplaced(entry) => Reply::Pair(Some((
+            scc_cache::locked::ReplaceResult::NotReplaced(entry) => Reply::Pair(Some((
                 entry.into_key(),
                 0,
             ))),
@@ -261,8 +262,14 @@ fn on_shared(
                 .and_modify(|v| *v = v.wrapping_mul(3));
             let stored = *entry.key();
             match entry {
-                hash_cache::Entry::Occupied(entry) => Reply::Entry(None, (stored, *entry.get())),
-                hash_cache::Entry::Vacant(entry) => Reply::Pair(Some((stored, entry.into_key()))),
+                scc_cache::locked::Entry::Occupied(entry) => Reply::Entry(
+                    None,
+                    (stored, *entry.get()),
+                ),
+                scc_cache::locked::Entry::Vacant(entry) => Reply::Pair(Some((
+                    stored,
+                    entry.into_key(),
+                ))),
             }
         }
         18 => {

@@ -3,7 +3,7 @@ use super::calls::{
     KEYS, Reply, owned_change, owned_insert, owned_look, owned_remove, owned_walk, shared_change,
     shared_insert, shared_look, shared_remove, shared_walk,
 };
-use scc_index::hash_index::Owned;
+use scc_index::Owned;
 use scc_shared_index::HashIndex;
 use std::process::Abort;
 use std::sync::Wait;

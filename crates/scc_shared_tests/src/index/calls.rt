@@ -1,9 +1,9 @@
 // One call after another on a shared index and on an owned one, and what each answers.
-use scc_index::hash_index::Owned;
-use scc_index::hash_index::owned::Entry;
+use scc_common::{InsertError, MakeError};
+use scc_index::Owned;
+use scc_index::locked::Entry as SharedEntry;
+use scc_index::owned::Entry;
 use scc_shared_index::HashIndex;
-use scc_shared_index::hash_index::Entry as SharedEntry;
-use scc_table::{InsertError, MakeError};
 use std::sync::Wait;
 
 /// The number of distinct keys.

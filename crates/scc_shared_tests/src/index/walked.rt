@@ -23,7 +23,8 @@ fn write(rt: &impl Wait, index: &HashIndex<u64, u64>, first: u64) -> bool {
     true
 }
 
-// Whether a walk meets each untouched key exactly once: as many as there are, with their sum and the sum of their squares.
+// Whether a walk meets each untouched key exactly once: as many as there are, with their sum and the sum of their
+// squares.
 fn meets_each(rt: &impl Wait, index: &HashIndex<u64, u64>) -> bool {
     let mut met = 0u64;
     let mut sum = 0u64;

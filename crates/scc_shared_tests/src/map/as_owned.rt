@@ -1,11 +1,11 @@
 // A shared map of one stripe answers as an owned one, call by call, and has the same pairs and capacity after each.
-use scc_fixtures::maybe_equal::MaybeEqual;
-use scc_fixtures::numbers::next;
-use scc_map::hash_map::Owned;
-use scc_map::hash_map::held::{HeldPlace, HeldReplace};
+use scc_common::{InsertError, Verdict};
+use scc_map::Owned;
+use scc_map::held::{HeldPlace, HeldReplace};
 use scc_script::same::Same;
 use scc_shared_map::HashMap;
-use scc_table::{InsertError, Verdict};
+use scc_test_kit::maybe_equal::MaybeEqual;
+use scc_test_kit::numbers::next;
 use std::alloc::Global;
 use std::process::Abort;
 use std::sync::Wait;

@@ -1,5 +1,5 @@
 // An entry that is let go lets its lock go, in whatever state it is: the next call on its stripe comes through.
-use scc_map::hash_map::held::{HeldPlace, HeldReplace};
+use scc_map::held::{HeldPlace, HeldReplace};
 use scc_script::same::Same;
 use scc_shared_map::HashMap;
 use std::process::Abort;

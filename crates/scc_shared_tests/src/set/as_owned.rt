@@ -1,10 +1,10 @@
 // A shared set of one stripe answers as an owned one, call by call, and has the same keys and capacity after each.
-use scc_fixtures::maybe_equal::MaybeEqual;
-use scc_fixtures::numbers::next;
+use scc_common::{KeyError, Verdict};
 use scc_script::same::Same;
-use scc_set::hash_set::Owned;
+use scc_set::Owned;
 use scc_shared_set::HashSet;
-use scc_table::{KeyError, Verdict};
+use scc_test_kit::maybe_equal::MaybeEqual;
+use scc_test_kit::numbers::next;
 use std::alloc::Global;
 use std::process::Abort;
 use std::sync::Wait;

@@ -1,6 +1,7 @@
-// Keys of a shared set under several threads: an interner keeps one of equal words, and a walk beside writers meets each key that nobody touches once.
-use scc_fixtures::maybe_equal::MaybeEqual;
+// Keys of a shared set under several threads: an interner keeps one of equal words, and a walk beside writers meets
+// each key that nobody touches once.
 use scc_shared_set::HashSet;
+use scc_test_kit::maybe_equal::MaybeEqual;
 use scc_uses::shared_interner::SharedInterner;
 use std::process::Abort;
 use std::sync::Wait;

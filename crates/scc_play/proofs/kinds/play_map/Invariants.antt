@@ -1,5 +1,5 @@
 use Rattle.std.proofs.Common.{Some}
-use Rattle.scc_recorder.specs.Setups.{request_of}
+use Rattle.scc_recorded.specs.Setups.{request_of}
 use Rattle.scc_play.proofs.kinds.play_map.Given as goal
 
 abbrev pub ghosts-play_map_in-L-Ledger : goal.ghosts-play_map_in-L-Ledger

@@ -1,8 +1,8 @@
 use Rattle.std.specs.Prelude.{nat_eq, ◌==◌}
 use Rattle.std.proofs.Math.Logic.{∥∥₁_map}
-use Rattle.scc_recorded.specs.MapCalls.{MapMoves}
-use Rattle.scc_recorded.specs.MapWhole.{MapWholeMoves}
-use Rattle.scc_recorded.specs.Means.{means_same}
+use Rattle.scc_calls.specs.MapCalls.{MapMoves}
+use Rattle.scc_calls.specs.MapWhole.{MapWholeMoves}
+use Rattle.scc_calls.specs.Means.{means_same}
 use Rattle.scc_play.specs.Kinds.{finished_hash, route_by}
 use Rattle.scc_play.proofs.Exact.{exactly}
 use Rattle.scc_play.proofs.Keys.{if-played}

@@ -3,19 +3,19 @@ use Rattle.std.specs.Hash.{le_bytes}
 use Rattle.std.specs.List.{flat_map}
 use Rattle.std.specs.Prelude.{nat_eq}
 use Rattle.std.proofs.lemmas.List.{nil_from_length}
-use Rattle.scc_table.specs.Contents.{Contents, bucket_count, lists_of, settings_of}
-use Rattle.scc_table.specs.Routing.{bucket_number}
+use Rattle.scc_contents.specs.Contents.{Contents, bucket_count, lists_of, settings_of}
+use Rattle.scc_contents.specs.Routing.{bucket_number}
 use Rattle.scc_cache.specs.Caches.{Cached}
-use Rattle.scc_recorded.specs.CacheCalls.{CacheMoves, CacheResizes, cache_setting, number_by}
-use Rattle.scc_recorded.specs.Run.{IsRun}
-use Rattle.scc_recorded.specs.declared.recorded.fixed.Setting.{Setting}
+use Rattle.scc_calls.specs.CacheCalls.{CacheMoves, CacheResizes, cache_setting, number_by}
+use Rattle.scc_calls.specs.Run.{IsRun}
+use Rattle.scc_calls.specs.declared.fixed.Setting.{Setting}
 use Rattle.scc_script.proofs.OwnHash.{own-hash}
 use Rattle.scc_script.specs.Hashes.{same_write}
 use Rattle.scc_script.specs.declared.same.Same.{Same}
 use Rattle.scc_print.specs.Finished.{script_setting, key_number}
 use Rattle.scc_print.proofs.Drained.{all-entries}
-use Rattle.scc_recorded.specs.Means.{means_same}
-use Rattle.scc_recorded.proofs.Runs.{run-as}
+use Rattle.scc_calls.specs.Means.{means_same}
+use Rattle.scc_calls.proofs.Runs.{run-as}
 use Rattle.scc_print.proofs.Results.{if_ok}
 use Rattle.scc_print.proofs.alone.run_cache.Goals as goal
 

@@ -1,9 +1,9 @@
 use Rattle.std.proofs.Common.{◌≡◌, [], rules}
-use Rattle.scc_recorded.specs.States.{setting_of, state_of}
+use Rattle.scc_calls.specs.States.{setting_of, state_of}
 use Rattle.std.specs.Prelude.{nat_eq}
-use Rattle.scc_recorded.specs.MapCalls.{MapMoves}
-use Rattle.scc_recorded.specs.Means.{means_same}
-use Rattle.scc_recorded.proofs.Runs.{run-as}
+use Rattle.scc_calls.specs.MapCalls.{MapMoves}
+use Rattle.scc_calls.specs.Means.{means_same}
+use Rattle.scc_calls.proofs.Runs.{run-as}
 use Rattle.scc_print.proofs.Results.{if_ok}
 use Rattle.scc_print.proofs.alone.run_map.Goals as goal
 

@@ -1,6 +1,6 @@
 -- So far the pass has a receipt for each pair.
 use Rattle.std.proofs.Common.{◌≡◌, ◌++◌, take, map}
-use Rattle.scc_recorded.specs.declared.recorded.calls_as_values.MapCall.TheVariants.{Upsert}
+use Rattle.scc_calls.specs.declared.calls_as_values.MapCall.TheVariants.{Upsert}
 use Rattle.scc_recorded_bench.proofs.recording.record_all.Given as goal
 
 abbrev pub invariant-loop-key : goal.invariant-loop-key

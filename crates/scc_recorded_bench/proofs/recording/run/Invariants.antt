@@ -1,5 +1,5 @@
 use Rattle.std.proofs.Common.{Some}
-use Rattle.scc_recorder.specs.Setups.{request_of}
+use Rattle.scc_recorded.specs.Setups.{request_of}
 use Rattle.scc_recorded_bench.proofs.recording.run.Given as goal
 
 abbrev pub ghosts-run_in-L-Ledger : goal.ghosts-run_in-L-Ledger

@@ -1,10 +1,10 @@
 use Rattle.std.proofs.Common.{◌∙◌, ◌++◌, [], length, inl, inr, sym, ap, append-nil}
-use Rattle.scc_recorded.specs.SetCalls.{SetMoves}
-use Rattle.scc_recorded.specs.Means.{means_same}
-use Rattle.scc_recorded.specs.Run.{done}
-use Rattle.scc_recorded.specs.States.{setting_of}
+use Rattle.scc_calls.specs.SetCalls.{SetMoves}
+use Rattle.scc_calls.specs.Means.{means_same}
+use Rattle.scc_calls.specs.Run.{done}
+use Rattle.scc_calls.specs.States.{setting_of}
 use Rattle.scc_uses.proofs.SetIndependence.{set-runs-same, set-runs-first}
-use Rattle.scc_recorded.proofs.Runs.{run-as, when_err}
+use Rattle.scc_calls.proofs.Runs.{run-as, when_err}
 use Rattle.scc_uses.proofs.SetAlike.{as-many as keys-as-many, set-runs-alike}
 use Rattle.scc_uses.proofs.Replies.{as-many}
 use Rattle.scc_uses.proofs.mirror_sets.run_on_both_sets.Goals as goal

@@ -2,7 +2,7 @@ use Rattle.std.proofs.Common.{◌≡◌, rules, sym, ap, ◌∙◌, subst, true,
 use Rattle.scc_array.proofs.Gets.{get-is}
 use Rattle.scc_array.proofs.columns.Columns.find.Goals as goal
 use Rattle.scc_array.specs.Windows.{window_of}
-use Rattle.scc_bucket.proofs.Search.{hits_next, missed_slots, found_slot, none_is}
+use Rattle.scc_array.proofs.Search.{hits_next, missed_slots, found_slot, none_is}
 
 pub returns-then-eq : goal.returns-then-eq
 returns-then-eq g c =

@@ -1,5 +1,0 @@
-use Rattle.scc_array.proofs.array.find_in.Given as goal
-use Rattle.scc_bucket.proofs.Search.{MissedBelow}
-
-abbrev pub invariant-loop-i : goal.invariant-loop-i
-invariant-loop-i g l = MissedBelow (λ e. g.E.Key.PartialEq.eq l.key (g.E.Keyed.key_of e)) l.entries l.i

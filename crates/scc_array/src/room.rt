@@ -1,0 +1,136 @@
+//! Room that is made before an entry is there.
+ghost use Rattle.std.specs.Prelude.{◌≡◌, ◌≤◌, ◌<◌, ◌+◌, ◌^◌, length, slice_set, IfOk, IfErr, OnOk, OnErr};
+ghost use Rattle.scc_array.specs.Shelves.{shelf_of};
+ghost use Rattle.scc_array.specs.Shelf.{shelf_entries, with_entry, with_overflow, next_place, ShelfHasRoom};
+
+use super::Array;
+use crate::lists::{open_lists, push_to, raise, reserve_in};
+use scc_entry::Made;
+use std::alloc::{AllocError, Global};
+
+impl<E> Array<E> {
+    /// What the array takes its memory from.
+    #[inline(always)]
+    pub fn allocator(&self) -> Global {
+        self.alloc
+    }
+
+    /// The entry stands in the next place of the bucket, or at the end of the list past its places, which has room.
+    #[inline(always)]
+    pub fn insert_within(&mut self, bucket: usize, entry: E, tag: u8)
+        requires bucket { bucket < length self.old }
+        requires room { ShelfHasRoom (shelf_of self.old bucket) }
+        requires tag { 0 < tag }
+        ensures value { self.new ≡ slice_set self.old bucket
+            (record (with_entry (shelf_of self.old bucket) entry tag) { room = (shelf_of self.new bucket).room }) }
+        ensures room { (shelf_of self.old bucket).room ≤ (shelf_of self.new bucket).room }
+    {
+        if self.columns.count(bucket) < 32 {
+            self.columns.push(bucket, entry, tag);
+        } else {
+            self.push_within(bucket, entry);
+        }
+    }
+
+    /// The entry stands at the end of the list past the places of the bucket, which has room.
+    #[cold]
+    fn push_within(&mut self, bucket: usize, entry: E)
+        requires bucket { bucket < length self.old }
+        requires room { length (shelf_of self.old bucket).overflow < (shelf_of self.old bucket).room }
+        ensures value { self.new ≡ slice_set self.old bucket
+            (record (with_overflow (shelf_of self.old bucket) entry) { room = (shelf_of self.new bucket).room }) }
+        ensures room { (shelf_of self.old bucket).room ≤ (shelf_of self.new bucket).room }
+    {
+        match push_to(&mut self.overflow, bucket, entry) {
+            Ok(_place) => {}
+            Err(_back) => unreachable!(),
+        }
+    }
+
+    /// Room for so many more entries at the end of the list past the places of the bucket.
+    pub fn reserve_overflow(&mut self, bucket: usize, additional: usize) -> Result<(), AllocError>
+        requires { bucket < length self.old }
+        ensures value { self.new ≡ slice_set self.old bucket
+            (record (shelf_of self.old bucket) { room = (shelf_of self.new bucket).room }) }
+        ensures more { (shelf_of self.old bucket).room ≤ (shelf_of self.new bucket).room }
+        ensures room { OnOk result (length (shelf_of self.new bucket).overflow + additional
+            ≤ (shelf_of self.new bucket).room) }
+    {
+        let count = self.columns.len();
+        match raise(&mut self.crowded, self.alloc, count, bucket) {
+            Ok(()) => {}
+            Err(refused) => return Err(refused),
+        }
+        match open_lists(&mut self.overflow, self.alloc, count) {
+            Ok(()) => {}
+            Err(refused) => return Err(refused),
+        }
+        reserve_in(&mut self.overflow, bucket, additional)
+    }
+
+    /// Room for one more entry: a free place, or one in the list past the places, which may grow.
+    #[inline(always)]
+    pub fn make_room(&mut self, bucket: usize) -> Result<(), AllocError>
+        requires { bucket < length self.old }
+        ensures value { self.new ≡ slice_set self.old bucket
+            (record (shelf_of self.old bucket) { room = (shelf_of self.new bucket).room }) }
+        ensures room { OnOk result (ShelfHasRoom (shelf_of self.new bucket)) }
+        ensures refused { OnErr result (32 ≤ length (shelf_of self.old bucket).slots) }
+    {
+        if self.columns.count(bucket) < 32 {
+            return Ok(());
+        }
+        self.reserve_overflow(bucket, 1)
+    }
+
+    /// Where the next entry of the bucket will stand.
+    #[inline(always)]
+    fn next_place(&self, bucket: usize) -> usize
+        requires bucket { bucket < length self.now }
+        requires few { length (shelf_entries (shelf_of self.now bucket)) < 2 ^ 63 }
+        ensures { result ≡ next_place (shelf_of self.now bucket) }
+    {
+        let count = self.columns.count(bucket);
+        if count < 32 {
+            return count;
+        }
+        count + self.overflow_len(bucket)
+    }
+}
+
+impl<E: Made> Array<E> {
+    /// Makes an entry of the parts, which stands in the next place of the bucket or at the end of the list past its
+    /// places. Room for it is made first. Where memory is refused, the parts are handed back, and the bucket is as it
+    /// was.
+    #[inline(always)]
+    pub fn insert_made(
+        &mut self,
+        bucket: usize,
+        parts: E::Parts,
+        tag: u8,
+    ) -> Result<usize, E::Parts>
+        requires bucket { bucket < length self.old }
+        requires few { length (shelf_entries (shelf_of self.old bucket)) < 2 ^ 63 }
+        requires tag { 0 < tag }
+        ensures ok { IfOk result (λ p. (p ≡ next_place (shelf_of self.old bucket))
+            × (self.new ≡ slice_set self.old bucket
+            (record (with_entry (shelf_of self.old bucket) (E.made_of parts) tag)
+            { room = (shelf_of self.new bucket).room }))) }
+        ensures err { IfErr result (λ x. (x ≡ parts)
+            × (self.new ≡ slice_set self.old bucket
+            (record (shelf_of self.old bucket) { room = (shelf_of self.new bucket).room }))) }
+    {
+        match self.make_room(bucket) {
+            Ok(()) => {}
+            Err(_) => return Err(parts),
+        }
+        let place = self.next_place(bucket);
+        match E::make(self.alloc, parts) {
+            Ok(entry) => {
+                self.insert_within(bucket, entry, tag);
+                Ok(place)
+            }
+            Err(parts) => Err(parts),
+        }
+    }
+}

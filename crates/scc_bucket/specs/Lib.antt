@@ -1,4 +1,0 @@
-pub mod Shelf
-pub mod ShelfWrites
-pub mod Updates
-pub mod Walks

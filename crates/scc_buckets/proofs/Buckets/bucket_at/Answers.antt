@@ -1,0 +1,14 @@
+use Rattle.std.proofs.Common.{◌≡◌, ap, ◌∙◌, length, rules}
+use Rattle.scc_contents.specs.Routing.{bucket_number}
+use Rattle.scc_buckets.proofs.Views.{count-view, settings-view}
+use Rattle.scc_buckets.proofs.Buckets.bucket_at.Goals as goal
+
+pub returns-clause-value : goal.returns-clause-value
+returns-clause-value g c =
+    let bs = c.self.inside.buckets in
+    let len : c.len.result ≡ length bs = search rules in
+    rw (settings-view bs _ c.args.self.now c.self.view_is, count-view bs _ c.args.self.now c.self.view_is) (c.bucket_index.ensures.value ∙ ap (λ n. bucket_number c.self.inside.skipped n c.args.hash) len)
+
+pub returns-clause-within : goal.returns-clause-within
+returns-clause-within g c =
+    rw (count-view c.self.inside.buckets _ c.args.self.now c.self.view_is) (λ some. search rules)

@@ -1,0 +1,24 @@
+use Rattle.std.proofs.Common.{◌<◌, rules, length}
+use Rattle.scc_contents.specs.Hashing.{hash_of}
+use Rattle.scc_buckets.proofs.Inserts.{bucket-bound}
+use Rattle.scc_buckets.proofs.Views.{count-view, list-view}
+use Rattle.scc_array.specs.Shelves.{shelf_of}
+use Rattle.scc_buckets.proofs.Arrays.{shelf-at, put-is, put-own}
+use Rattle.scc_buckets.proofs.Buckets.list_len.Goals as goal
+
+pub bucket_len-requires-clause-bucket : goal.bucket_len-requires-clause-bucket
+bucket_len-requires-clause-bucket g c =
+    let l = rw (count-view c.self.inside.buckets _ c.args.self.now c.self.view_is) at c.requires in
+    search rules
+
+pub bucket_len-requires-clause-few : goal.bucket_len-requires-clause-few
+bucket_len-requires-clause-few g c =
+    let bs = c.self.inside.buckets in
+    let l : c.args.bucket < length bs = rw (count-view bs _ c.args.self.now c.self.view_is) at c.requires in
+    bucket-bound (λ e. hash_of g.H.BuildHasher g.H.Hasher.Hasher c.self.inside.hasher (g.E.Key.Hash.hash_input (g.E.Keyed.key_of e))) c.self.inside.skipped c.self.inside.length c.self.inside.overflowing c.args.bucket bs (shelf_of c.self.inside.buckets c.args.bucket) c.self.invariant.table l (shelf-at c.self.inside.buckets c.args.bucket l)
+
+pub returns : goal.returns
+returns g c =
+    let bs = c.self.inside.buckets in
+    let l : c.args.bucket < length bs = rw (count-view bs _ c.args.self.now c.self.view_is) at c.requires in
+    rw (list-view bs _ c.args.self.now c.self.view_is c.args.bucket (shelf_of c.self.inside.buckets c.args.bucket) l (shelf-at c.self.inside.buckets c.args.bucket l)) c.bucket_len.ensures

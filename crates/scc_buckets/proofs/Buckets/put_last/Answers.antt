@@ -1,0 +1,27 @@
+use Rattle.std.proofs.Common.{◌≡◌, ◌∙◌, Bool, ◌≤◌, ◌++◌, [], ◌∷◌, rules, arith, ap, length, subst}
+use Rattle.std.specs.List.{remove, position}
+use Rattle.scc_buckets.specs.Bounded.{HasList}
+use Rattle.scc_contents.specs.Contents.{entries, list_of}
+use Rattle.scc_buckets.proofs.Bounds.{absent-removed, first-is, has-list-of, has-list-then}
+use Rattle.scc_buckets.proofs.Buckets.put_last.Goals as goal
+
+pub push_last-requires-2-clause-absent : goal.push_last-requires-2-clause-absent
+push_last-requires-2-clause-absent g c =
+    let p : g.row.E.Denot → Bool = λ e. g.E.Key.PartialEq.eq (g.E.Keyed.key_of c.args.entry) (g.E.Keyed.key_of e) in
+    ap (position p) c.take_in-first.ensures.others.exact ∙ absent-removed p (entries c.args.self.now) _ c.requires.absent
+
+pub push_last-requires-2-clause-short : goal.push_last-requires-2-clause-short
+push_last-requires-2-clause-short g c = c.take_in-first.ensures.short c.requires.bounded
+
+pub returns-clause-step : goal.returns-clause-step
+returns-clause-step g c =
+    let taken = c.take_in-first.ensures.lists c.requires.bounded in
+    let full : 32 ≤ length (list_of c.args.self.now c.args.bucket) = search rules in
+    let here = has-list-of c.args.self.now c.take_in-first.new.self c.args.bucket _ taken c.requires.within in (
+      full,
+      (
+        remove (list_of c.args.self.now c.args.bucket) 0,
+        first-is _ _ c.take_in-first.ensures.listed,
+        subst (λ es. HasList c.args.self.now c.args.bucket (es ++ c.args.entry ∷ []) c.push_last-2.new.self) here (has-list-then c.args.self.now c.take_in-first.new.self c.args.bucket _ taken c.push_last-2.new.self _ c.push_last-2.ensures.list),
+      ),
+    )

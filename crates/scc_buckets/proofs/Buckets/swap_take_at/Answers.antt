@@ -1,0 +1,158 @@
+use Rattle.std.proofs.Common.{refl, sym, ◌∙◌, ◌≡◌, ◌<◌, ◌≤◌, ap, rules, arith, length}
+use Rattle.scc_contents.specs.Hashing.{hash_of}
+use Rattle.scc_array.specs.Shelf.{shelf_entries, without_place}
+use Rattle.scc_buckets.proofs.Inserts.{read-again}
+use Rattle.scc_buckets.proofs.Removes.{at-least-one}
+use Rattle.scc_buckets.proofs.OneList.{swapped-out-of-list}
+use Rattle.scc_buckets.proofs.SwapRemoves.{swapped-table, swapped-holds, swapped-count, swapped-settings, swapped-unique, swapped-unique-flat}
+use Rattle.scc_buckets.proofs.Spots.{place-get}
+use Rattle.scc_buckets.proofs.Views.{count-view, list-view, refused-view}
+use Rattle.scc_array.specs.Shelves.{shelf_of}
+use Rattle.scc_buckets.proofs.Arrays.{shelf-at, put-is, put-own}
+use Rattle.scc_buckets.proofs.Buckets.swap_take_at.Goals as goal
+
+pub is_overflow-in_overflow-requires-clause-bucket : goal.is_overflow-in_overflow-requires-clause-bucket
+is_overflow-in_overflow-requires-clause-bucket g c =
+    let t = c.self.inside in
+    let bs = t.buckets in
+    let count = count-view bs _ c.args.self.now c.self.view_is in
+    let l : c.args.place.bucket < length bs = rw count at c.requires.bucket in
+    search rules
+
+pub is_overflow-in_overflow-requires-clause-place : goal.is_overflow-in_overflow-requires-clause-place
+is_overflow-in_overflow-requires-clause-place g c =
+    let t = c.self.inside in
+    let bs = t.buckets in
+    let count = count-view bs _ c.args.self.now c.self.view_is in
+    let l : c.args.place.bucket < length bs = rw count at c.requires.bucket in
+    let b = (shelf_of c.self.inside.buckets c.args.place.bucket) in
+    let lk : c.args.place.slot < length (shelf_entries b) = rw (list-view bs _ c.args.self.now c.self.view_is c.args.place.bucket b l (shelf-at c.self.inside.buckets c.args.place.bucket l)) at c.requires.slot in
+    lk
+
+pub swap_remove_at-entry-requires-clause-bucket : goal.swap_remove_at-entry-requires-clause-bucket
+swap_remove_at-entry-requires-clause-bucket g c =
+    let t = c.self.inside in
+    let bs = t.buckets in
+    let count = count-view bs _ c.args.self.now c.self.view_is in
+    let l : c.args.place.bucket < length bs = rw count at c.requires.bucket in
+    search rules
+
+pub swap_remove_at-entry-requires-clause-place : goal.swap_remove_at-entry-requires-clause-place
+swap_remove_at-entry-requires-clause-place g c =
+    let t = c.self.inside in
+    let bs = t.buckets in
+    let count = count-view bs _ c.args.self.now c.self.view_is in
+    let l : c.args.place.bucket < length bs = rw count at c.requires.bucket in
+    let b = (shelf_of c.self.inside.buckets c.args.place.bucket) in
+    let lk : c.args.place.slot < length (shelf_entries b) = rw (list-view bs _ c.args.self.now c.self.view_is c.args.place.bucket b l (shelf-at c.self.inside.buckets c.args.place.bucket l)) at c.requires.slot in
+    lk
+
+pub overflow_sub-self : goal.overflow_sub-self
+overflow_sub-self g c =
+    let t = c.self.inside in
+    let bs = t.buckets in
+    let count = count-view bs _ c.args.self.now c.self.view_is in
+    let l : c.args.place.bucket < length bs = rw count at c.requires.bucket in
+    let b = (shelf_of c.self.inside.buckets c.args.place.bucket) in
+    let lk : c.args.place.slot < length (shelf_entries b) = rw (list-view bs _ c.args.self.now c.self.view_is c.args.place.bucket b l (shelf-at c.self.inside.buckets c.args.place.bucket l)) at c.requires.slot in
+    at-least-one (λ e. hash_of g.H.BuildHasher g.H.Hasher.Hasher c.self.inside.hasher (g.E.Key.Hash.hash_input (g.E.Keyed.key_of e))) t.skipped t.length t.overflowing c.args.place bs c.self.invariant.table _ c.args.self.now c.self.view_is b l (shelf-at c.self.inside.buckets c.args.place.bucket l) lk (without_place b c.args.place.slot) refl
+
+pub overflow_sub-self-2 : goal.overflow_sub-self-2
+overflow_sub-self-2 g c =
+    let t = c.self.inside in
+    let bs = t.buckets in
+    let count = count-view bs _ c.args.self.now c.self.view_is in
+    let l : c.args.place.bucket < length bs = rw count at c.requires.bucket in
+    let b = (shelf_of c.self.inside.buckets c.args.place.bucket) in
+    let lk : c.args.place.slot < length (shelf_entries b) = rw (list-view bs _ c.args.self.now c.self.view_is c.args.place.bucket b l (shelf-at c.self.inside.buckets c.args.place.bucket l)) at c.requires.slot in
+    let same : (shelf_of c.self.inside.buckets c.args.place.bucket) ≡ b = read-again bs c.args.place.bucket (shelf_of c.self.inside.buckets c.args.place.bucket) b l (shelf-at c.self.inside.buckets c.args.place.bucket l) (shelf-at c.self.inside.buckets c.args.place.bucket l) in
+    let slots : length (shelf_of c.self.inside.buckets c.args.place.bucket).slots ≡ length b.slots = ap (λ x. length x.slots) same in
+    let lower : c.args.place.slot < length b.slots → c.one_if.result ≡ 0 = λ q. let r : c.args.place.slot < length (shelf_of c.self.inside.buckets c.args.place.bucket).slots = omega arith in search rules in
+    let upper : length b.slots ≤ c.args.place.slot → c.one_if.result ≡ 1 = λ q. let r : length (shelf_of c.self.inside.buckets c.args.place.bucket).slots ≤ c.args.place.slot = omega arith in search rules in
+    (swapped-table (λ e. hash_of g.H.BuildHasher g.H.Hasher.Hasher c.self.inside.hasher (g.E.Key.Hash.hash_input (g.E.Keyed.key_of e))) t.skipped t.length t.overflowing c.args.place bs c.self.invariant.table _ c.args.self.now c.self.view_is b l (shelf-at c.self.inside.buckets c.args.place.bucket l) lk c.swap_remove_at-entry.result (shelf_of c.swap_remove_at-entry.new.self c.args.place.bucket) (put-is c.self.inside.buckets c.args.place.bucket l c.swap_remove_at-entry.new.self _ c.swap_remove_at-entry.ensures.others) c.one_if.result lower upper).1
+
+pub invariant_of-self : goal.invariant_of-self
+invariant_of-self g c =
+    let t = c.self.inside in
+    let bs = t.buckets in
+    let count = count-view bs _ c.args.self.now c.self.view_is in
+    let l : c.args.place.bucket < length bs = rw count at c.requires.bucket in
+    let b = (shelf_of c.self.inside.buckets c.args.place.bucket) in
+    let lk : c.args.place.slot < length (shelf_entries b) = rw (list-view bs _ c.args.self.now c.self.view_is c.args.place.bucket b l (shelf-at c.self.inside.buckets c.args.place.bucket l)) at c.requires.slot in
+    let same : (shelf_of c.self.inside.buckets c.args.place.bucket) ≡ b = read-again bs c.args.place.bucket (shelf_of c.self.inside.buckets c.args.place.bucket) b l (shelf-at c.self.inside.buckets c.args.place.bucket l) (shelf-at c.self.inside.buckets c.args.place.bucket l) in
+    let slots : length (shelf_of c.self.inside.buckets c.args.place.bucket).slots ≡ length b.slots = ap (λ x. length x.slots) same in
+    let lower : c.args.place.slot < length b.slots → c.one_if.result ≡ 0 = λ q. let r : c.args.place.slot < length (shelf_of c.self.inside.buckets c.args.place.bucket).slots = omega arith in search rules in
+    let upper : length b.slots ≤ c.args.place.slot → c.one_if.result ≡ 1 = λ q. let r : length (shelf_of c.self.inside.buckets c.args.place.bucket).slots ≤ c.args.place.slot = omega arith in search rules in
+    let got = place-get c.args.self.now c.args.place c.requires c.swap_remove_at-entry.result
+    (rw (list-view bs _ c.args.self.now c.self.view_is c.args.place.bucket b l (shelf-at c.self.inside.buckets c.args.place.bucket l)) c.swap_remove_at-entry.ensures.entry) in
+    rw (put-own c.self.inside.buckets c.args.place.bucket l c.swap_remove_at-entry.new.self _ c.swap_remove_at-entry.ensures.others) record {
+      table = (swapped-table (λ e. hash_of g.H.BuildHasher g.H.Hasher.Hasher c.self.inside.hasher (g.E.Key.Hash.hash_input (g.E.Keyed.key_of e))) t.skipped t.length t.overflowing c.args.place bs c.self.invariant.table _ c.args.self.now c.self.view_is b l (shelf-at c.self.inside.buckets c.args.place.bucket l) lk c.swap_remove_at-entry.result (shelf_of c.swap_remove_at-entry.new.self c.args.place.bucket) (put-is c.self.inside.buckets c.args.place.bucket l c.swap_remove_at-entry.new.self _ c.swap_remove_at-entry.ensures.others) c.one_if.result lower upper).0;
+      few_bits = c.self.invariant.few_bits;
+      small_minimum = c.self.invariant.small_minimum;
+      unique = swapped-unique-flat (λ e. hash_of g.H.BuildHasher g.H.Hasher.Hasher c.self.inside.hasher (g.E.Key.Hash.hash_input (g.E.Keyed.key_of e))) t.skipped t.length t.overflowing c.args.place bs c.self.invariant.table _ c.args.self.now c.self.view_is b l (shelf-at c.self.inside.buckets c.args.place.bucket l) lk c.swap_remove_at-entry.result (shelf_of c.swap_remove_at-entry.new.self c.args.place.bucket) (put-is c.self.inside.buckets c.args.place.bucket l c.swap_remove_at-entry.new.self _ c.swap_remove_at-entry.ensures.others) g.met.E.Key.Eq.laws g.E.Keyed.key_of c.swap_remove_at-entry.result got c.self.invariant.unique;
+    }
+
+pub returns-clause-entry : goal.returns-clause-entry
+returns-clause-entry g c =
+    let t = c.self.inside in
+    let bs = t.buckets in
+    let count = count-view bs _ c.args.self.now c.self.view_is in
+    let l : c.args.place.bucket < length bs = rw count at c.requires.bucket in
+    let b = (shelf_of c.self.inside.buckets c.args.place.bucket) in
+    let lk : c.args.place.slot < length (shelf_entries b) = rw (list-view bs _ c.args.self.now c.self.view_is c.args.place.bucket b l (shelf-at c.self.inside.buckets c.args.place.bucket l)) at c.requires.slot in
+    let got = place-get c.args.self.now c.args.place c.requires c.swap_remove_at-entry.result
+    (rw (list-view bs _ c.args.self.now c.self.view_is c.args.place.bucket b l (shelf-at c.self.inside.buckets c.args.place.bucket l)) c.swap_remove_at-entry.ensures.entry) in
+    got
+
+pub returns-clause-others : goal.returns-clause-others
+returns-clause-others g c =
+    let t = c.self.inside in
+    let bs = t.buckets in
+    let count = count-view bs _ c.args.self.now c.self.view_is in
+    let l : c.args.place.bucket < length bs = rw count at c.requires.bucket in
+    let b = (shelf_of c.self.inside.buckets c.args.place.bucket) in
+    let lk : c.args.place.slot < length (shelf_entries b) = rw (list-view bs _ c.args.self.now c.self.view_is c.args.place.bucket b l (shelf-at c.self.inside.buckets c.args.place.bucket l)) at c.requires.slot in
+    rw (put-own c.self.inside.buckets c.args.place.bucket l c.swap_remove_at-entry.new.self _ c.swap_remove_at-entry.ensures.others) (swapped-holds (λ e. hash_of g.H.BuildHasher g.H.Hasher.Hasher c.self.inside.hasher (g.E.Key.Hash.hash_input (g.E.Keyed.key_of e))) t.skipped t.length t.overflowing c.args.place bs c.self.invariant.table _ c.args.self.now c.self.view_is b l (shelf-at c.self.inside.buckets c.args.place.bucket l) lk c.swap_remove_at-entry.result (shelf_of c.swap_remove_at-entry.new.self c.args.place.bucket) (put-is c.self.inside.buckets c.args.place.bucket l c.swap_remove_at-entry.new.self _ c.swap_remove_at-entry.ensures.others))
+
+pub returns-clause-buckets : goal.returns-clause-buckets
+returns-clause-buckets g c =
+    let t = c.self.inside in
+    let bs = t.buckets in
+    let count = count-view bs _ c.args.self.now c.self.view_is in
+    let l : c.args.place.bucket < length bs = rw count at c.requires.bucket in
+    let b = (shelf_of c.self.inside.buckets c.args.place.bucket) in
+    let lk : c.args.place.slot < length (shelf_entries b) = rw (list-view bs _ c.args.self.now c.self.view_is c.args.place.bucket b l (shelf-at c.self.inside.buckets c.args.place.bucket l)) at c.requires.slot in
+    rw (put-own c.self.inside.buckets c.args.place.bucket l c.swap_remove_at-entry.new.self _ c.swap_remove_at-entry.ensures.others) (swapped-count (λ e. hash_of g.H.BuildHasher g.H.Hasher.Hasher c.self.inside.hasher (g.E.Key.Hash.hash_input (g.E.Keyed.key_of e))) t.skipped t.length t.overflowing c.args.place bs c.self.invariant.table _ c.args.self.now c.self.view_is b l (shelf-at c.self.inside.buckets c.args.place.bucket l) lk c.swap_remove_at-entry.result (shelf_of c.swap_remove_at-entry.new.self c.args.place.bucket) (put-is c.self.inside.buckets c.args.place.bucket l c.swap_remove_at-entry.new.self _ c.swap_remove_at-entry.ensures.others))
+
+pub returns-clause-settings : goal.returns-clause-settings
+returns-clause-settings g c =
+    let t = c.self.inside in
+    let bs = t.buckets in
+    let count = count-view bs _ c.args.self.now c.self.view_is in
+    let l : c.args.place.bucket < length bs = rw count at c.requires.bucket in
+    let b = (shelf_of c.self.inside.buckets c.args.place.bucket) in
+    let lk : c.args.place.slot < length (shelf_entries b) = rw (list-view bs _ c.args.self.now c.self.view_is c.args.place.bucket b l (shelf-at c.self.inside.buckets c.args.place.bucket l)) at c.requires.slot in
+    rw (put-own c.self.inside.buckets c.args.place.bucket l c.swap_remove_at-entry.new.self _ c.swap_remove_at-entry.ensures.others) (swapped-settings (λ e. hash_of g.H.BuildHasher g.H.Hasher.Hasher c.self.inside.hasher (g.E.Key.Hash.hash_input (g.E.Keyed.key_of e))) t.skipped t.length t.overflowing c.args.place bs c.self.invariant.table _ c.args.self.now c.self.view_is b l (shelf-at c.self.inside.buckets c.args.place.bucket l) lk c.swap_remove_at-entry.result (shelf_of c.swap_remove_at-entry.new.self c.args.place.bucket) (put-is c.self.inside.buckets c.args.place.bucket l c.swap_remove_at-entry.new.self _ c.swap_remove_at-entry.ensures.others))
+
+pub returns-clause-unique : goal.returns-clause-unique
+returns-clause-unique g c =
+    let t = c.self.inside in
+    let bs = t.buckets in
+    let count = count-view bs _ c.args.self.now c.self.view_is in
+    let l : c.args.place.bucket < length bs = rw count at c.requires.bucket in
+    let b = (shelf_of c.self.inside.buckets c.args.place.bucket) in
+    let lk : c.args.place.slot < length (shelf_entries b) = rw (list-view bs _ c.args.self.now c.self.view_is c.args.place.bucket b l (shelf-at c.self.inside.buckets c.args.place.bucket l)) at c.requires.slot in
+    let got = place-get c.args.self.now c.args.place c.requires c.swap_remove_at-entry.result
+    (rw (list-view bs _ c.args.self.now c.self.view_is c.args.place.bucket b l (shelf-at c.self.inside.buckets c.args.place.bucket l)) c.swap_remove_at-entry.ensures.entry) in
+    rw (put-own c.self.inside.buckets c.args.place.bucket l c.swap_remove_at-entry.new.self _ c.swap_remove_at-entry.ensures.others) (swapped-unique (λ e. hash_of g.H.BuildHasher g.H.Hasher.Hasher c.self.inside.hasher (g.E.Key.Hash.hash_input (g.E.Keyed.key_of e))) t.skipped t.length t.overflowing c.args.place bs c.self.invariant.table _ c.args.self.now c.self.view_is b l (shelf-at c.self.inside.buckets c.args.place.bucket l) lk c.swap_remove_at-entry.result (shelf_of c.swap_remove_at-entry.new.self c.args.place.bucket) (put-is c.self.inside.buckets c.args.place.bucket l c.swap_remove_at-entry.new.self _ c.swap_remove_at-entry.ensures.others) g.met.E.Key.Eq.laws g.E.Keyed.key_of c.swap_remove_at-entry.result got c.self.invariant.unique)
+
+pub returns-clause-noted : goal.returns-clause-noted
+returns-clause-noted g c = refused-view _ _ _ refl ∙ sym (refused-view c.self.inside.buckets _ c.args.self.now c.self.view_is)
+
+pub returns-clause-exact : goal.returns-clause-exact
+returns-clause-exact g c =
+    let bs = c.self.inside.buckets in
+    let l : c.args.place.bucket < length bs = rw (count-view bs _ c.args.self.now c.self.view_is) at c.requires.bucket in
+    let b = (shelf_of c.self.inside.buckets c.args.place.bucket) in
+    let lk : c.args.place.slot < length (shelf_entries b) = rw (list-view bs _ c.args.self.now c.self.view_is c.args.place.bucket b l (shelf-at c.self.inside.buckets c.args.place.bucket l)) at c.requires.slot in
+    rw (put-own c.self.inside.buckets c.args.place.bucket l c.swap_remove_at-entry.new.self _ c.swap_remove_at-entry.ensures.others) (swapped-out-of-list bs _ c.args.self.now c.self.view_is c.args.place.bucket b l (shelf-at c.self.inside.buckets c.args.place.bucket l) (shelf_of c.swap_remove_at-entry.new.self c.args.place.bucket) c.args.place.slot c.swap_remove_at-entry.result lk (put-is c.self.inside.buckets c.args.place.bucket l c.swap_remove_at-entry.new.self _ c.swap_remove_at-entry.ensures.others))

@@ -1,0 +1,54 @@
+use Rattle.std.proofs.Common.{◌<◌, length, refl, ap, ◌∙◌, rules}
+use Rattle.scc_contents.specs.Hashing.{hash_of}
+use Rattle.scc_buckets.proofs.Spots.{place-get}
+use Rattle.scc_buckets.proofs.Views.{count-view, list-view}
+use Rattle.scc_buckets.proofs.WritingTables.{written-table, written-view, written-unique}
+use Rattle.scc_array.specs.Shelves.{shelf_of}
+use Rattle.scc_buckets.proofs.Arrays.{shelf-at, put-is, put-own}
+use Rattle.scc_buckets.proofs.Buckets.value_mut_at.Goals as goal
+
+pub value_mut_at-requires-clause-bucket : goal.value_mut_at-requires-clause-bucket
+value_mut_at-requires-clause-bucket g c =
+    let t = c.self.inside in
+    let bs = t.buckets in
+    let count = count-view bs _ c.args.self.now c.self.view_is in
+    let l : c.args.place.bucket < length bs = rw count at c.requires.bucket in
+    search rules
+
+pub value_mut_at-requires-clause-place : goal.value_mut_at-requires-clause-place
+value_mut_at-requires-clause-place g c =
+    let t = c.self.inside in
+    let bs = t.buckets in
+    let count = count-view bs _ c.args.self.now c.self.view_is in
+    let l : c.args.place.bucket < length bs = rw count at c.requires.bucket in
+    let b = (shelf_of c.self.inside.buckets c.args.place.bucket) in
+    let here = list-view bs _ c.args.self.now c.self.view_is c.args.place.bucket b l (shelf-at c.self.inside.buckets c.args.place.bucket l) in
+    rw here at c.requires.slot
+
+pub invariant_of-self-lent : goal.invariant_of-self-lent
+invariant_of-self-lent g c = λ w.
+    let t = c.self.inside in
+    let bs = t.buckets in
+    let count = count-view bs _ c.args.self.now c.self.view_is in
+    let l : c.args.place.bucket < length bs = rw count at c.requires.bucket in
+    let b = (shelf_of c.self.inside.buckets c.args.place.bucket) in
+    let here = list-view bs _ c.args.self.now c.self.view_is c.args.place.bucket b l (shelf-at c.self.inside.buckets c.args.place.bucket l) in
+    let x = c.value_mut_at.ensures.value in
+    let same = g.met.E.Valued.value_keeps_key x.0 w in
+    record {
+      table = written-table g.E.Valued.with_value (λ e. hash_of g.H.BuildHasher g.H.Hasher.Hasher c.self.inside.hasher (g.E.Key.Hash.hash_input (g.E.Keyed.key_of e))) t.skipped t.length t.overflowing c.args.place bs c.self.invariant.table _ c.args.self.now c.self.view_is b l (shelf-at c.self.inside.buckets c.args.place.bucket l) x.0 x.1 w (ap (λ k. hash_of g.H.BuildHasher g.H.Hasher.Hasher t.hasher (g.E.Key.Hash.hash_input k)) same);
+      few_bits = c.self.invariant.few_bits;
+      small_minimum = c.self.invariant.small_minimum;
+      unique = written-unique g.E.Valued.with_value (λ e. hash_of g.H.BuildHasher g.H.Hasher.Hasher c.self.inside.hasher (g.E.Key.Hash.hash_input (g.E.Keyed.key_of e))) t.skipped t.length t.overflowing c.args.place bs c.self.invariant.table _ c.args.self.now c.self.view_is b l (shelf-at c.self.inside.buckets c.args.place.bucket l) x.0 x.1 w c.requires (rw here x.1) g.met.E.Key.Eq.laws g.E.Keyed.key_of (ap (λ k. g.E.Key.PartialEq.eq k (g.E.Keyed.key_of x.0)) same ∙ g.met.E.Key.Eq.laws.refl (g.E.Keyed.key_of x.0)) c.self.invariant.unique;
+    }
+
+pub returns : goal.returns
+returns g c =
+    let t = c.self.inside in
+    let bs = t.buckets in
+    let count = count-view bs _ c.args.self.now c.self.view_is in
+    let l : c.args.place.bucket < length bs = rw count at c.requires.bucket in
+    let b = (shelf_of c.self.inside.buckets c.args.place.bucket) in
+    let here = list-view bs _ c.args.self.now c.self.view_is c.args.place.bucket b l (shelf-at c.self.inside.buckets c.args.place.bucket l) in
+    let x = c.value_mut_at.ensures.value in
+    ((refl, λ w. written-view g.E.Valued.with_value (λ e. hash_of g.H.BuildHasher g.H.Hasher.Hasher c.self.inside.hasher (g.E.Key.Hash.hash_input (g.E.Keyed.key_of e))) t.skipped t.length t.overflowing c.args.place bs c.self.invariant.table _ c.args.self.now c.self.view_is b l (shelf-at c.self.inside.buckets c.args.place.bucket l) x.0 x.1 w), record { writes_back = tt; value = (x.0, place-get c.args.self.now c.args.place c.requires x.0 (rw here x.1), c.value_mut_at.ensures.value.2) })

@@ -1,0 +1,19 @@
+-- What a table ends as, once a `&mut` into it has ended.
+use Rattle.std.specs.Borrow.{Fml, RattleType, MutBor, Lends}
+use Rattle.std.specs.HashMap.Lent.{HashMembers}
+use Rattle.std.specs.declared.hash.Hasher as hasher
+use Rattle.std.specs.declared.hash.BuildHasher as builder
+use Rattle.scc_contents.specs.Contents.{Contents}
+use Rattle.scc_buckets.specs.Writes.{with_write_at_spot}
+use Rattle.scc_buckets.specs.contracts.Buckets.{the_row}
+use Rattle.scc_entry.specs.declared.keyed.Keyed as keyed
+use Rattle.scc_buckets.specs.declared.place.Place.{Place}
+
+module _ (E H K T V : RattleType) (by : keyed.Ghosts E.Denot K.Denot) (key : HashMembers K.Denot) (build : builder.Ghosts H.Denot T.Denot) (feed : hasher.Ghosts T.Denot) (put : E.Denot → V.Denot → E.Denot) where
+  -- the table's type, as the logic holds it
+  abbrev pub buckets_row : RattleType
+  buckets_row = the_row E H K T by build feed (record { eq = key.eq }) (record { hash_input = key.hash_input })
+
+  -- the entry at the place has the last value written through r
+  abbrev pub lends_value : MutBor (Contents E.Denot H.Denot) → Place → MutBor V.Denot → Fml
+  lends_value m p r = Lends buckets_row V m r (with_write_at_spot put m.now p)

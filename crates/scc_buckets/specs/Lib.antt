@@ -1,0 +1,10 @@
+pub mod Bounded
+pub mod LendsBuckets
+pub mod OneList
+pub mod Placed
+pub mod Places
+pub mod Pour
+pub mod Standing
+pub mod Tables
+pub mod Updates
+pub mod Writes

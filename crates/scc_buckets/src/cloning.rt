@@ -1,0 +1,123 @@
+//! How a table is made that holds clones of another's entries.
+ghost use Rattle.std.specs.Prelude.{◌≡◌, ◌*◌, ◌^◌, ◌<◌, [], ◌∷◌, false, length, IfOk, OnOk};
+ghost use Rattle.scc_array.specs.Shelves.{shelf_of};
+ghost use Rattle.scc_array.specs.Shelf.{shelf_entries};
+ghost use Rattle.scc_contents.specs.Clones.{AddsClones, HasClones};
+ghost use Rattle.scc_contents.specs.Contents.{entries, bucket_count, refused_of, settings_of, waiting_of};
+
+use super::Buckets;
+use super::making::fresh_buckets;
+use crate::route::bucket_index;
+use scc_array::Array;
+use scc_common::MakeError;
+use scc_entry::Keyed;
+use std::hash::{BuildHasher, Hash};
+
+impl<E: Keyed, H: BuildHasher> Buckets<E, H>
+where
+    E::Key: Eq + Hash,
+{
+    /// A table with clones of all entries under a clone of the hasher. It has as many buckets, and their slots are
+    /// those that it was asked for. It is refused for want of memory, and where a clone can't be had or equals another.
+    pub fn try_clone(&self) -> Result<Buckets<E, H>, MakeError>
+    where
+        E: Clone,
+        H: Clone,
+        ensures clones { IfOk result (HasClones E.is_clone H.is_clone self.now) }
+        ensures noted { IfOk result (λ t. refused_of t ≡ (false, false)) }
+        ensures waiting { IfOk result (λ t. waiting_of t ≡ []) }
+    {
+        let Ok(hasher) = self.hasher.clone() else {
+            return Err(MakeError);
+        };
+        let mut copy = self.fresh_like(hasher)?;
+        copy.insert_clones_of(self)?;
+        Ok(copy)
+    }
+
+    /// An empty table of as many buckets, which skips as many bits, under that hasher.
+    pub(crate) fn fresh_like(&self, hasher: H) -> Result<Buckets<E, H>, MakeError>
+    where
+        H: Drop,
+        ensures entries { IfOk result (λ t. entries t ≡ []) }
+        ensures buckets { IfOk result (λ t. bucket_count t ≡ bucket_count self.now) }
+        ensures settings { IfOk result (λ t. settings_of t
+            ≡ record {
+              hasher = hasher;
+              skipped = (settings_of self.now).skipped;
+              asked = 32 * bucket_count self.now;
+              reserved = 0;
+            }) }
+        ensures noted { IfOk result (λ t. refused_of t ≡ (false, false)) }
+        ensures waiting { IfOk result (λ t. waiting_of t ≡ []) }
+    {
+        let alloc = self.buckets.allocator();
+        let count = self.buckets.len();
+        if count == 0 {
+            return Ok(Buckets::new(alloc, self.skipped, hasher));
+        }
+        match fresh_buckets(alloc, count) {
+            Ok(buckets) => Ok(Buckets {
+                buckets,
+                length: 0,
+                overflowing: 0,
+                asked: 32 * count,
+                reserved: 0,
+                skipped: self.skipped,
+                refused: false,
+                tried: false,
+                hasher,
+            }),
+            Err(_) => Err(MakeError),
+        }
+    }
+
+    /// Puts in a clone of each entry of the other table, with no resize.
+    pub fn insert_clones_of(&mut self, other: &Buckets<E, H>) -> Result<(), MakeError>
+    where
+        E: Clone,
+        ensures { OnOk result (AddsClones E.is_clone (entries other.now) self.old self.new) }
+    {
+        let array = other.array();
+        for bucket in 0..array.len() {
+            self.insert_clones(array, bucket)?;
+        }
+        Ok(())
+    }
+
+    /// Puts in a clone of each entry of that bucket, with no resize.
+    pub fn insert_clones(&mut self, array: &Array<E>, bucket: usize) -> Result<(), MakeError>
+    where
+        E: Clone,
+        requires within { bucket < length array.now }
+        requires few { length (shelf_entries (shelf_of array.now bucket)) < 2 ^ 63 }
+        ensures { OnOk result (AddsClones E.is_clone (shelf_entries (shelf_of array.now bucket)) self.old self.new) }
+    {
+        for place in 0..array.bucket_len(bucket) {
+            self.insert_clone(array.entry_at(bucket, place))?;
+        }
+        Ok(())
+    }
+
+    /// Puts in a clone of the entry, with no resize. It is refused for want of memory, and where there is no array or
+    /// the clone's key is there.
+    fn insert_clone(&mut self, source: &E) -> Result<(), MakeError>
+    where
+        E: Clone,
+        ensures { OnOk result (AddsClones E.is_clone (source.now ∷ []) self.old self.new) }
+    {
+        let Ok(copy) = source.clone() else {
+            return Err(MakeError);
+        };
+        let count = self.buckets.len();
+        let hash = self.hash(copy.key());
+        if count == 0 || self.search(hash, copy.key()).is_some() {
+            return Err(MakeError);
+        }
+        let bucket = bucket_index(hash, self.skipped, count);
+        match self.insert_in(bucket, hash, copy) {
+            Ok(_) => Ok(()),
+            Err(_back) => Err(MakeError),
+        }
+    }
+}

@@ -1,0 +1,96 @@
+//! How entries get into a table and out of it.
+ghost use Rattle.std.specs.Prelude.{◌≡◌, ◌≤◌, ◌<◌, ◌+◌, ◌-◌, ◌*◌, ◌^◌, [], ◌∷◌, length, Some, None, IsTrue, IfOk, IfErr, OnOk, OnErr, slice_get, remove};
+ghost use Rattle.std.specs.List.{position};
+ghost use Rattle.scc_buckets.specs.Bounded.{HasList, IsBounded};
+ghost use Rattle.scc_contents.specs.Contents.{entries, bucket_count, list_of, settings_of, refused_of, key_hash, bucket_of, IsUniqueBy, HasRoomBy};
+ghost use Rattle.scc_buckets.specs.OneList.{HasSameLists, IsPutIn, IsTakenFrom};
+ghost use Rattle.scc_buckets.specs.Places.{IsSpot, IsInsertedAtSpot, index_of_spot};
+ghost use Rattle.scc_contents.specs.Routing.{bucket_number};
+ghost use Rattle.scc_contents.specs.Steps.{FirstArrayWhenDue, Grows, GrowsWhenDue, HoldsExactly, IsUnchanged, Rests};
+
+use super::Buckets;
+use crate::place::Place;
+use crate::route::tag;
+use scc_entry::Keyed;
+use std::hash::{BuildHasher, Hash};
+
+/// How many entries may lie in the overflow lists of one table: fewer than this.
+pub const OVERFLOW_LIMIT: usize = 1 << 62;
+
+/// 1 where it holds, else 0.
+#[inline(always)]
+pub(super) fn one_if(holds: bool) -> usize
+    ensures yes { IsTrue holds → result ≡ 1 }
+    ensures no { (IsTrue holds → ⊥) → result ≡ 0 }
+{
+    if holds { 1 } else { 0 }
+}
+
+/// Whether so many entries in overflow lists are the most that one table may have.
+#[inline(always)]
+pub(super) fn is_overflow_full(overflowing: usize) -> bool
+    ensures full { IsTrue result → 2 ^ 62 - 1 ≤ overflowing }
+    ensures room { (IsTrue result → ⊥) → overflowing < 2 ^ 62 - 1 }
+{
+    overflowing >= OVERFLOW_LIMIT - 1
+}
+
+impl<E: Keyed, H: BuildHasher> Buckets<E, H>
+where
+    E::Key: Eq + Hash,
+{
+    /// Puts in an entry whose key is new, into that bucket, the one of the hash, and answers its place. The entry is
+    /// handed back where the bucket is full and the overflow list can't grow.
+    #[inline(always)]
+    pub fn insert_in(&mut self, bucket: usize, hash: u64, entry: E) -> Result<Place, E>
+        requires within { bucket < bucket_count self.old }
+        requires routed { bucket ≡ bucket_number (settings_of self.old).skipped (bucket_count self.old) hash }
+        requires hashed { hash ≡ key_hash H.BuildHasher H.Hasher.Hasher E.Key.hash_input self.old (E.key_of entry) }
+        requires absent { position (λ e. E.Key.eq (E.key_of entry) (E.key_of e)) (entries self.old) ≡ None }
+        ensures ok { IfOk result (IsInsertedAtSpot self.old entry self.new) }
+        ensures exact { IfOk result (IsPutIn self.old bucket entry self.new) }
+        ensures err { IfErr result (λ e. (e ≡ entry) × IsUnchanged self.old self.new) }
+        ensures stays { OnErr result (HasSameLists self.old self.new) }
+        ensures full { OnErr result (HasRoomBy (key_hash H.BuildHasher H.Hasher.Hasher E.Key.hash_input self.old)
+            E.key_of self.old (E.key_of entry) → ⊥) }
+        ensures buckets { bucket_count self.new ≡ bucket_count self.old }
+        ensures refused { refused_of self.new ≡ refused_of self.old }
+        ensures unique { IsUniqueBy E.Key.eq E.key_of self.new }
+    {
+        if self.buckets.is_full(bucket) && is_overflow_full(self.overflowing) {
+            return Err(entry);
+        }
+        match self.buckets.insert(bucket, entry, tag(hash)) {
+            Ok(slot) => {
+                self.length += 1;
+                self.overflowing += one_if(slot >= 32);
+                Ok(Place { bucket, slot })
+            }
+            Err(back) => Err(back),
+        }
+    }
+
+    /// Takes the entry out of its place: the others stay in their order, and the one after it has as many before it as
+    /// it had.
+    pub fn take_in(&mut self, place: Place) -> E
+        requires { IsSpot self.old place }
+        ensures entry { slice_get (entries self.old) (index_of_spot self.old place) ≡ Some result }
+        ensures follows { index_of_spot self.new place ≡ index_of_spot self.old place }
+        ensures list { place.slot ≤ length (list_of self.new place.bucket) }
+        ensures others { HoldsExactly self.old (remove (entries self.old) (index_of_spot self.old place)) self.new }
+        ensures noted { refused_of self.new ≡ refused_of self.old }
+        ensures listed { slice_get (list_of self.old place.bucket) place.slot ≡ Some result }
+        ensures gone { position (λ e. E.Key.eq (E.key_of result) (E.key_of e)) (entries self.new) ≡ None }
+        ensures short { IsBounded self.old → length (list_of self.new place.bucket) < 32 }
+        ensures lists { IsBounded self.old → HasList self.old place.bucket
+            (remove (list_of self.old place.bucket) place.slot) self.new }
+        ensures exact { IsTakenFrom self.old place self.new }
+        ensures unique { IsUniqueBy E.Key.eq E.key_of self.new }
+    {
+        let in_overflow = self.buckets.is_overflow(place.bucket, place.slot);
+        let entry = self.buckets.remove_at(place.bucket, place.slot);
+        self.length -= 1;
+        self.overflowing -= one_if(in_overflow);
+        entry
+    }
+}

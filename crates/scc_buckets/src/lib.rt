@@ -1,0 +1,159 @@
+//! The table of the hash containers: an array of buckets of 32 tagged slots with an overflow list each, found by the
+//! bits of a hash. It names the bucket's items, and what all containers share, again.
+#![tactic(auto)]
+
+ghost use Rattle.std.specs.Prelude.{◌≡◌, ◌≤◌, ◌<◌, ◌+◌, ◌*◌, ◌^◌, ℕ, [], ◌∷◌, ◌↔◌, length, Some, None, IsTrue, IfOk, OnOk, IfErr, OnErr, MatchOption, slice_get};
+ghost use Rattle.std.specs.List.{flat_map, position};
+ghost use Rattle.scc_contents.specs.Contents.{entries, bucket_count, settings_of, minimum_of, refused_of, spilled_of, key_hash, bucket_of, IsUniqueBy, HasRoomBy};
+ghost use Rattle.scc_buckets.specs.Places.{IsSpot, IsFoundAtSpot, index_of_spot};
+ghost use Rattle.scc_array.specs.Shelves.{shelf_of};
+ghost use Rattle.scc_array.specs.Shelf.{shelf_entries};
+ghost use Rattle.scc_contents.specs.Sizes.{IsLawful};
+
+mod bounded;
+mod cloning;
+mod edits;
+mod exchange;
+mod finding;
+mod making;
+pub mod place;
+mod putting;
+mod removing;
+mod reserving;
+pub mod route;
+pub mod sizes;
+mod updating;
+pub mod versions;
+pub mod walks;
+mod writes;
+
+use crate::route::{bucket_index, tag};
+pub use place::Place;
+use scc_array::Array;
+use scc_entry::Keyed;
+use std::hash::{BuildHasher, Hash};
+use std::marker::Model;
+
+/// Entries with distinct keys, in buckets. A container sees the list of each bucket, the number of buckets and the
+/// settings, by the words of `specs/Contents.antt`.
+#[derive(Drop)]
+pub struct Buckets<E: Keyed, H: BuildHasher>
+where
+    E::Key: Eq + Hash,
+{
+    buckets: Array<E>,
+    length: usize,
+    overflowing: usize,
+    asked: usize,
+    reserved: usize,
+    skipped: u32,
+    refused: bool,
+    tried: bool,
+    hasher: H,
+}
+
+impl<E: Keyed, H: BuildHasher> Model for Buckets<E, H>
+where
+    E::Key: Eq + Hash,
+{
+    ghost use Rattle.std.specs.Prelude.{map, ◌+◌, []};
+    ghost use Rattle.scc_contents.specs.Contents.{Contents, contents_code};
+
+    ghost Value = { Contents E H };
+
+    ghost coded = { contents_code E.code H.code };
+
+    ghost use Rattle.scc_contents.specs.Hashing.{hash_of};
+    ghost use Rattle.scc_array.specs.Shelf.{shelf_entries};
+    ghost use Rattle.scc_buckets.specs.Tables.{IsKept, spilled_in};
+
+    ghost view = { λ t. record { lists = map shelf_entries t.buckets; settings = record { hasher = t.hasher; skipped = t.skipped; asked = t.asked; reserved = t.reserved }; refused = (t.refused, t.tried); spilled = spilled_in t.buckets; waiting = []; held = [] } };
+
+    ghost invariant = { λ t. IsKept E.Key.eq E.key_of (λ k. hash_of H.BuildHasher H.Hasher.Hasher t.hasher (E.Key.hash_input k)) t.skipped (t.asked + t.reserved) t.buckets t.length t.overflowing };
+}
+
+impl<E: Keyed, H: BuildHasher> Buckets<E, H>
+where
+    E::Key: Eq + Hash,
+{
+    /// The number of entries.
+    #[inline(always)]
+    pub fn len(&self) -> usize
+        ensures len { result ≡ length (entries self.now) }
+        ensures most { result ≤ 32 * bucket_count self.now + spilled_of self.now }
+        ensures unique { IsUniqueBy E.Key.eq E.key_of self.now }
+    {
+        self.length
+    }
+
+    /// How many entries lie in overflow lists.
+    #[inline(always)]
+    pub fn overflow_len(&self) -> usize
+        ensures value { result ≡ spilled_of self.now }
+        ensures most { result < 2 ^ 62 }
+    {
+        self.overflowing
+    }
+
+    /// The number of buckets, 0 where there is no array.
+    #[inline(always)]
+    pub fn bucket_count(&self) -> usize
+        ensures count { result ≡ bucket_count self.now }
+        ensures most { result ≤ 2 ^ 58 }
+        ensures lawful { IsLawful result }
+    {
+        self.buckets.len()
+    }
+
+    /// Whether memory was refused for the last resize that was due.
+    #[inline(always)]
+    pub fn is_resize_refused(&self) -> bool
+        ensures { result ≡ (refused_of self.now).0 }
+    {
+        self.refused
+    }
+
+    /// The hash of a key under the table's hasher.
+    #[inline(always)]
+    pub fn hash(&self, key: &E::Key) -> u64
+        ensures { result ≡ key_hash H.BuildHasher H.Hasher.Hasher E.Key.hash_input self.now key.now }
+    {
+        self.hasher.hash_one(key)
+    }
+
+    /// The number of the bucket of a key, 0 where there is no array.
+    pub fn bucket_index(&self, key: &E::Key) -> usize
+        ensures { result ≡ bucket_of (key_hash H.BuildHasher H.Hasher.Hasher E.Key.hash_input self.now) self.now
+            key.now }
+    {
+        bucket_index(self.hash(key), self.skipped, self.buckets.len())
+    }
+
+    /// Where the entry with that key stands. `hash` is the key's hash.
+    #[inline(always)]
+    pub fn search(&self, hash: u64, key: &E::Key) -> Option<Place>
+        requires { hash ≡ key_hash H.BuildHasher H.Hasher.Hasher E.Key.hash_input self.now key.now }
+        ensures place { MatchOption result (position (λ e. E.Key.eq key.now (E.key_of e)) (entries self.now) ≡ None)
+            (IsFoundAtSpot (λ e. E.Key.eq key.now (E.key_of e)) self.now) }
+        ensures unique { IsUniqueBy E.Key.eq E.key_of self.now }
+    {
+        let count = self.buckets.len();
+        if count == 0 {
+            return None;
+        }
+        let bucket = bucket_index(hash, self.skipped, count);
+        match self.buckets.search(bucket, key, tag(hash)) {
+            Some(slot) => Some(Place { bucket, slot }),
+            None => None,
+        }
+    }
+
+    /// The buckets, to look at.
+    #[inline(always)]
+    pub(crate) fn array(&self) -> &Array<E>
+        ensures all { entries self.now ≡ flat_map shelf_entries result.now }
+        ensures few { (i : ℕ) → i < length result.now → length (shelf_entries (shelf_of result.now i)) < 2 ^ 63 }
+    {
+        &self.buckets
+    }
+}

@@ -1,0 +1,133 @@
+//! How a table and its array are made.
+ghost use Rattle.std.specs.Prelude.{◌≡◌, ◌≤◌, ◌<◌, ◌+◌, ◌*◌, ◌^◌, [], false, length, IsOk, IfOk, OnOk, OnErr};
+ghost use Rattle.scc_buckets.specs.Bounded.{IsListed, IsResized};
+ghost use Rattle.scc_contents.specs.Contents.{entries, bucket_count, settings_of, refused_of, waiting_of, minimum_of, key_hash};
+ghost use Rattle.scc_contents.specs.Sizes.{IsArray, IsArraySize};
+ghost use Rattle.scc_contents.specs.Steps.{IsUnchanged};
+ghost use Rattle.scc_buckets.specs.Tables.{AllEmpty};
+
+use super::Buckets;
+use crate::sizes::buckets_for;
+use scc_array::Array;
+use scc_common::MakeError;
+use scc_entry::Keyed;
+use std::alloc::{AllocError, Global};
+use std::hash::{BuildHasher, Hash};
+
+impl<E: Keyed, H: BuildHasher> Buckets<E, H>
+where
+    E::Key: Eq + Hash,
+{
+    /// An empty table without an array, that skips so many bits of each hash. No resize of it was refused, and nothing
+    /// waits.
+    pub fn new(alloc: Global, skipped: u32, hasher: H) -> Buckets<E, H>
+        requires { skipped ≤ 4 }
+        ensures entries { entries result ≡ [] }
+        ensures listed { IsListed (λ e. key_hash H.BuildHasher H.Hasher.Hasher E.Key.hash_input result (E.key_of e))
+            result }
+        ensures buckets { bucket_count result ≡ 0 }
+        ensures settings { settings_of result ≡ record { hasher = hasher; skipped = skipped; asked = 0; reserved = 0 } }
+        ensures noted { refused_of result ≡ (false, false) }
+        ensures waiting { waiting_of result ≡ [] }
+    {
+        Buckets {
+            buckets: Array::none(alloc),
+            length: 0,
+            overflowing: 0,
+            asked: 0,
+            reserved: 0,
+            skipped,
+            refused: false,
+            tried: false,
+            hasher,
+        }
+    }
+
+    /// An empty table with an array of the size of so many slots, which are then the slots asked for; without an array
+    /// for 0. A size that can't be had is refused.
+    pub fn with_capacity(
+        alloc: Global,
+        skipped: u32,
+        slots: usize,
+        hasher: H,
+    ) -> Result<Buckets<E, H>, MakeError>
+    where
+        H: Drop,
+        requires { skipped ≤ 4 }
+        ensures entries { IfOk result (λ t. entries t ≡ []) }
+        ensures listed { IfOk result (λ t. IsListed
+            (λ e. key_hash H.BuildHasher H.Hasher.Hasher E.Key.hash_input t (E.key_of e)) t) }
+        ensures none { IfOk result (λ t. slots ≡ 0 → bucket_count t ≡ 0) }
+        ensures size { IfOk result (λ t. 0 < slots → IsArraySize slots (32 * bucket_count t)) }
+        ensures settings { IfOk result (λ t. settings_of t
+            ≡ record { hasher = hasher; skipped = skipped; asked = 32 * bucket_count t; reserved = 0 }) }
+        ensures succeeds { slots ≡ 0 → IsOk result }
+        ensures noted { IfOk result (λ t. refused_of t ≡ (false, false)) }
+        ensures waiting { IfOk result (λ t. waiting_of t ≡ []) }
+    {
+        if slots == 0 {
+            return Ok(Buckets::new(alloc, skipped, hasher));
+        }
+        let count = buckets_for(slots);
+        match fresh_buckets(alloc, count) {
+            Ok(buckets) => Ok(Buckets {
+                buckets,
+                length: 0,
+                overflowing: 0,
+                asked: 32 * count,
+                reserved: 0,
+                skipped,
+                refused: false,
+                tried: false,
+                hasher,
+            }),
+            Err(_) => Err(MakeError),
+        }
+    }
+
+    /// Makes the first array, of the size of the minimum.
+    pub fn make_array(&mut self) -> Result<(), AllocError>
+        requires { bucket_count self.old ≡ 0 }
+        ensures entries { entries self.old ≡ [] }
+        ensures still { entries self.new ≡ [] }
+        ensures size { OnOk result (IsArraySize (minimum_of self.old) (32 * bucket_count self.new)) }
+        ensures array { OnOk result (IsArray (bucket_count self.new)) }
+        ensures settings { settings_of self.new ≡ settings_of self.old }
+        ensures noted { refused_of self.new ≡ refused_of self.old }
+        ensures refused { OnErr result (IsUnchanged self.old self.new) }
+        ensures resized { OnOk result (IsResized (λ e. key_hash H.BuildHasher H.Hasher.Hasher E.Key.hash_input
+            self.old (E.key_of e)) self.old self.new) }
+        ensures same { OnErr result (self.new ≡ self.old) }
+    {
+        let count = buckets_for(self.asked + self.reserved);
+        let alloc = self.buckets.allocator();
+        let buckets = fresh_buckets(alloc, count)?;
+        let old = std::mem::replace(&mut self.buckets, buckets);
+        old.destroy_empty();
+        Ok(())
+    }
+
+    /// Gives the array back, in which no entry lies.
+    pub(crate) fn drop_array(&mut self)
+        requires { entries self.old ≡ [] }
+        ensures still { entries self.new ≡ [] }
+        ensures buckets { bucket_count self.new ≡ 0 }
+        ensures settings { settings_of self.new ≡ settings_of self.old }
+        ensures noted { refused_of self.new ≡ refused_of self.old }
+    {
+        self.length = 0;
+        self.overflowing = 0;
+        let none = Array::none(self.buckets.allocator());
+        let old = std::mem::replace(&mut self.buckets, none);
+        old.destroy_empty();
+    }
+}
+
+/// So many empty buckets.
+pub(crate) fn fresh_buckets<E>(alloc: Global, count: usize) -> Result<Array<E>, AllocError>
+    requires { count ≤ 2 ^ 58 }
+    ensures count { IfOk result (λ a. length a ≡ count) }
+    ensures empty { IfOk result (λ a. AllEmpty a) }
+{
+    Array::with_buckets(alloc, count)
+}

@@ -1,0 +1,39 @@
+//! How entries get out of a table where the order of the others is free.
+ghost use Rattle.std.specs.Prelude.{◌≡◌, ◌≢◌, Some, length, slice_get, remove};
+ghost use Rattle.std.specs.List.Sorted.{IsPermutation};
+ghost use Rattle.scc_contents.specs.Contents.{entries, bucket_count, settings_of, refused_of, minimum_of, IsUniqueBy};
+ghost use Rattle.scc_buckets.specs.OneList.{IsSwappedOutOf};
+ghost use Rattle.scc_buckets.specs.Places.{IsSpot, index_of_spot};
+ghost use Rattle.scc_contents.specs.Sizes.{IsSmaller};
+ghost use Rattle.scc_contents.specs.Steps.{Holds, ShrinksWhenDue};
+
+use super::Buckets;
+use super::edits::one_if;
+use crate::place::Place;
+use scc_entry::keyed::Keyed;
+use std::hash::{BuildHasher, Hash};
+
+impl<E: Keyed, H: BuildHasher> Buckets<E, H>
+where
+    E::Key: Eq + Hash,
+{
+    /// Takes the entry out of its place. The last entry of its bucket's slots, or of its overflow list, may take its
+    /// place.
+    #[inline(always)]
+    pub fn swap_take_at(&mut self, place: Place) -> E
+        requires { IsSpot self.old place }
+        ensures entry { slice_get (entries self.old) (index_of_spot self.old place) ≡ Some result }
+        ensures others { IsPermutation (remove (entries self.old) (index_of_spot self.old place)) (entries self.new) }
+        ensures exact { IsSwappedOutOf self.old place self.new }
+        ensures buckets { bucket_count self.new ≡ bucket_count self.old }
+        ensures noted { refused_of self.new ≡ refused_of self.old }
+        ensures settings { settings_of self.new ≡ settings_of self.old }
+        ensures unique { IsUniqueBy E.Key.eq E.key_of self.new }
+    {
+        let in_overflow = self.buckets.is_overflow(place.bucket, place.slot);
+        self.length -= 1;
+        let entry = self.buckets.swap_remove_at(place.bucket, place.slot);
+        self.overflowing -= one_if(in_overflow);
+        entry
+    }
+}

@@ -1,5 +1,0 @@
-use Rattle.std.proofs.Common.{refl}
-use Rattle.scc_cache.proofs.hash_cache.owned.Owned.put_sync.Goals as goal
-
-pub returns-in-Some-clause-step : goal.returns-in-Some-clause-step
-returns-in-Some-clause-step g c = (refl, (c.in-Some.ensures.pair, (_, c.in-Some.ensures.there)), refl)

@@ -1,0 +1,51 @@
+//! An entry of a cache: a key's place, found once and held. It holds its cache by a guard, a `&mut` in the owned form,
+//! and is generic in it.
+ghost use Rattle.std.specs.Prelude.{◌≡◌};
+ghost use Rattle.scc_contents.specs.Contents.{key_hash};
+ghost use Rattle.scc_table.specs.Places.{IsPlace};
+ghost use Rattle.scc_cache.specs.CacheSteps.{IsLacking};
+
+mod making;
+mod methods;
+
+use super::Owned;
+use scc_buckets::Place;
+use scc_common::Guard;
+use std::hash::{BuildHasher, Hash};
+use std::marker::PhantomData;
+
+/// An entry that the cache has, at its place.
+#[derive(Drop)]
+pub struct HeldEntry<G: Guard<Kept = Owned<K, V, H>>, N, K: Eq + Hash, V, H: BuildHasher> {
+    pub(crate) guard: G,
+    pub(crate) place: Place,
+    pub(crate) rest: N,
+    pub(crate) of: PhantomData<(K, V, H)>,
+    ghost within: { IsPlace (G.kept guard).contents place },
+}
+
+/// A key that the cache lacks, with its hash.
+#[derive(Drop)]
+pub struct HeldVacant<G: Guard<Kept = Owned<K, V, H>>, N, K: Eq + Hash, V, H: BuildHasher> {
+    pub(crate) guard: G,
+    pub(crate) key: K,
+    pub(crate) hash: u64,
+    pub(crate) rest: N,
+    pub(crate) of: PhantomData<(V, H)>,
+    ghost lacking: { IsLacking (key_hash H.BuildHasher H.Hasher.Hasher K.hash_input (G.kept guard).contents) K.eq (G.kept guard).contents key },
+    ghost hashed: { hash ≡ key_hash H.BuildHasher H.Hasher.Hasher K.hash_input (G.kept guard).contents key },
+}
+
+/// The entry of a key.
+#[derive(Drop)]
+pub enum HeldPlace<G: Guard<Kept = Owned<K, V, H>>, N, K: Eq + Hash, V, H: BuildHasher> {
+    Occupied(HeldEntry<G, N, K, V, H>),
+    Vacant(HeldVacant<G, N, K, V, H>),
+}
+
+/// The answer of `replace_sync`: the entry with its new key and the old key, or the key that the cache lacks.
+#[derive(Drop)]
+pub enum HeldReplace<G: Guard<Kept = Owned<K, V, H>>, N, K: Eq + Hash, V, H: BuildHasher> {
+    Replaced(HeldEntry<G, N, K, V, H>, K),
+    NotReplaced(HeldVacant<G, N, K, V, H>),
+}

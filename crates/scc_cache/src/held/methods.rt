@@ -1,0 +1,86 @@
+//! What an entry does while it keeps its guard, the same under each.
+ghost use Rattle.std.specs.Prelude.{◌≡◌};
+ghost use Rattle.std.specs.Borrow.{sem};
+ghost use Rattle.scc_cache.specs.Entries.{occupied_pair, occupied_lends, entry_key, IsWritten, with_value, TakesEntry, Modifies};
+
+use super::{HeldEntry, HeldPlace, HeldVacant};
+use crate::owned::Owned;
+use scc_common::Guard;
+use std::hash::{BuildHasher, Hash};
+
+impl<G: Guard<Kept = Owned<K, V, H>>, N, K: Eq + Hash, V, H: BuildHasher> HeldEntry<G, N, K, V, H> {
+    /// The stored key.
+    pub fn key(&self) -> &K
+        ensures { result.now ≡ (occupied_pair self.now).0 }
+    {
+        self.guard.look().pair_in(self.place).0
+    }
+
+    /// The value.
+    pub fn get(&self) -> &V
+        ensures { result.now ≡ (occupied_pair self.now).1 }
+    {
+        self.guard.look().pair_in(self.place).1
+    }
+
+    /// The value, to write. The order of the pairs stays.
+    pub fn get_mut(&mut self) -> &mut V
+        ensures* writes_back { sem 𝓛 (occupied_lends G.row N.row K.row V.row H.row H.Hasher.row self.entry result) }
+        ensures value { result.now ≡ (occupied_pair self.old).1 }
+        ensures written { (v : V) → IsWritten self.old v (with_value self.old v) }
+    {
+        let place = self.place;
+        self.guard.lend().value_mut_at(place)
+    }
+
+    /// Sets the value, and answers the old one. It drives nothing out, takes no memory, and leaves the order of the
+    /// pairs.
+    pub fn put(&mut self, value: V) -> V
+        ensures old { result ≡ (occupied_pair self.old).1 }
+        ensures written { IsWritten self.old value self.new }
+    {
+        let place = self.place;
+        self.guard.lend().write_at(place, value)
+    }
+}
+
+impl<G: Guard<Kept = Owned<K, V, H>>, N, K: Eq + Hash, V, H: BuildHasher> HeldVacant<
+    G,
+    N,
+    K,
+    V,
+    H,
+> {
+    /// The key that would go in.
+    pub fn key(&self) -> &K
+        ensures { result.now ≡ self.now.key }
+    {
+        &self.key
+    }
+}
+
+impl<G: Guard<Kept = Owned<K, V, H>>, N, K: Eq + Hash, V, H: BuildHasher> HeldPlace<G, N, K, V, H> {
+    /// The stored key, or the one that was asked for.
+    pub fn key(&self) -> &K
+        ensures { result.now ≡ entry_key self.now }
+    {
+        match self {
+            HeldPlace::Occupied(entry) => entry.key(),
+            HeldPlace::Vacant(entry) => entry.key(),
+        }
+    }
+
+    /// Calls `f` on the value of an occupied entry, and answers the entry. `f` isn't called on a vacant one.
+    pub fn and_modify<F: FnOnce(&mut V)>(self, f: F) -> Self
+        requires { TakesEntry F.FnOnce f self }
+        ensures { Modifies F.FnOnce f self result }
+    {
+        match self {
+            HeldPlace::Occupied(mut entry) => {
+                f(entry.get_mut());
+                HeldPlace::Occupied(entry)
+            }
+            HeldPlace::Vacant(entry) => HeldPlace::Vacant(entry),
+        }
+    }
+}

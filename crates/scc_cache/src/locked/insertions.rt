@@ -1,0 +1,116 @@
+//! The insertions of an entry of a locked stripe.
+ghost use Rattle.std.specs.Prelude.{IfOk, IfErr};
+ghost use Rattle.std.specs.Fn.{FnOnceTakesAt, FnOnceReturnsAt};
+ghost use Rattle.scc_cache.specs.Entries.{entry_key, IsVacant, OrPuts, OrPutsSome, Refuses, RefusesSome, SetsEntry};
+
+use super::OccupiedEntry;
+use crate::EvictedEntry;
+use crate::held::HeldPlace;
+use crate::owned::Owned;
+use scc_common::{InsertError, Shared};
+use std::hash::{BuildHasher, Hash};
+use std::sync::RwLockWriteGuard;
+
+impl<'a, K: Eq + Hash, V, H: BuildHasher> HeldPlace<
+    RwLockWriteGuard<'a, Owned<K, V, Shared<H>>>,
+    (),
+    K,
+    V,
+    Shared<H>,
+> {
+    /// Puts in `default` where the entry is vacant, by the rules of `put_sync`, and answers the pair that it drove out
+    /// and the
+    /// occupied entry. An occupied one stays as it is, and can't be refused.
+    pub fn or_put(
+        self,
+        default: V,
+    ) -> Result<(EvictedEntry<K, V>, OccupiedEntry<'a, K, V, H>), InsertError<K, V>>
+    where
+        V: Drop,
+        ensures entry { IfOk result (λ r. OrPuts K.eq self.entry default r.0 r.1) }
+        ensures refused { IfErr result (Refuses self.entry default) }
+    {
+        match self {
+            HeldPlace::Occupied(entry) => {
+                drop(default);
+                Ok((None, entry))
+            }
+            HeldPlace::Vacant(entry) => entry.put_entry(default),
+        }
+    }
+
+    /// Puts in the answer of `f` where the entry is vacant, as `or_put`. `f` isn't called on an occupied one.
+    pub fn or_put_with<F: FnOnce() -> V>(
+        self,
+        f: F,
+    ) -> Result<(EvictedEntry<K, V>, OccupiedEntry<'a, K, V, H>), InsertError<K, V>>
+        requires { IsVacant self → F.pre f }
+        ensures entry { IfOk result (λ r. OrPutsSome K.eq self.entry (λ k v. F.post f v) r.0 r.1) }
+        ensures refused { IfErr result (RefusesSome self.entry (λ k v. F.post f v)) }
+    {
+        match self {
+            HeldPlace::Occupied(entry) => Ok((None, entry)),
+            HeldPlace::Vacant(entry) => {
+                let value = f();
+                entry.put_entry(value)
+            }
+        }
+    }
+
+    /// Puts in the answer of `f` on the key where the entry is vacant, as `or_put`. `f` isn't called on an occupied
+    /// one.
+    pub fn or_put_with_key<F: FnOnce(&K) -> V>(
+        self,
+        f: F,
+    ) -> Result<(EvictedEntry<K, V>, OccupiedEntry<'a, K, V, H>), InsertError<K, V>>
+        requires { IsVacant self → FnOnceTakesAt F.FnOnce f (entry_key self) }
+        ensures entry { IfOk result (λ r. OrPutsSome K.eq self.entry (FnOnceReturnsAt F.FnOnce f) r.0 r.1) }
+        ensures refused { IfErr result (RefusesSome self.entry (FnOnceReturnsAt F.FnOnce f)) }
+    {
+        match self {
+            HeldPlace::Occupied(entry) => Ok((None, entry)),
+            HeldPlace::Vacant(entry) => {
+                let value = f(&entry.key);
+                entry.put_entry(value)
+            }
+        }
+    }
+
+    /// Puts in the default value where the entry is vacant, as `or_put`.
+    pub fn or_default(
+        self,
+    ) -> Result<(EvictedEntry<K, V>, OccupiedEntry<'a, K, V, H>), InsertError<K, V>>
+    where
+        V: Default,
+        ensures entry { IfOk result (λ r. OrPutsSome K.eq self.entry (λ k v. V.is_default v) r.0 r.1) }
+        ensures refused { IfErr result (RefusesSome self.entry (λ k v. V.is_default v)) }
+    {
+        match self {
+            HeldPlace::Occupied(entry) => Ok((None, entry)),
+            HeldPlace::Vacant(entry) => {
+                let value = V::default();
+                entry.put_entry(value)
+            }
+        }
+    }
+
+    /// Sets the value of an occupied entry, which keeps its key and its place; puts it in at a vacant one, as `or_put`.
+    pub fn put_entry(
+        self,
+        value: V,
+    ) -> Result<(EvictedEntry<K, V>, OccupiedEntry<'a, K, V, H>), InsertError<K, V>>
+    where
+        V: Drop,
+        ensures entry { IfOk result (λ r. SetsEntry K.eq self.entry value r.0 r.1) }
+        ensures refused { IfErr result (Refuses self.entry value) }
+    {
+        match self {
+            HeldPlace::Occupied(entry) => {
+                let mut entry = entry;
+                let _old = entry.put(value);
+                Ok((None, entry))
+            }
+            HeldPlace::Vacant(entry) => entry.put_entry(value),
+        }
+    }
+}

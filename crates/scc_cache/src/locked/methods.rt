@@ -1,0 +1,101 @@
+//! What lets a locked stripe go, and what puts a pair into it.
+ghost use Rattle.std.specs.Prelude.{◌≡◌, IfOk, IfErr};
+ghost use Rattle.std.specs.Sync.RwLock.{write_guard_value};
+ghost use Rattle.scc_contents.specs.Contents.{bucket_count};
+ghost use Rattle.scc_cache.specs.Entries.{Memory, occupied_pair, IsPut};
+
+use super::OccupiedEntry;
+use crate::EvictedEntry;
+use crate::held::{HeldEntry, HeldVacant};
+use crate::owned::Owned;
+use scc_common::{InsertError, Shared};
+use std::hash::{BuildHasher, Hash};
+use std::marker::PhantomData;
+use std::sync::RwLockWriteGuard;
+
+impl<'a, K: Eq + Hash, V, H: BuildHasher> HeldEntry<
+    RwLockWriteGuard<'a, Owned<K, V, Shared<H>>>,
+    (),
+    K,
+    V,
+    Shared<H>,
+> {
+    /// Removes the pair, answers its value, and lets the stripe go. The array may become smaller.
+    pub fn remove(self) -> V
+    where
+        K: Drop,
+        ensures value { result ≡ (occupied_pair self.entry).1 }
+    {
+        let (_key, value) = self.remove_entry();
+        value
+    }
+
+    /// Removes the pair, answers it, and lets the stripe go. The array may become smaller.
+    pub fn remove_entry(self) -> (K, V)
+        ensures pair { result ≡ occupied_pair self.entry }
+    {
+        let HeldEntry {
+            mut guard,
+            place,
+            rest: _,
+            of: _,
+        } = self;
+        guard.remove_at(place)
+    }
+}
+
+impl<'a, K: Eq + Hash, V, H: BuildHasher> HeldVacant<
+    RwLockWriteGuard<'a, Owned<K, V, Shared<H>>>,
+    (),
+    K,
+    V,
+    Shared<H>,
+> {
+    /// Gives the key back, and lets the stripe go.
+    pub fn into_key(self) -> K
+        ensures key { result ≡ self.entry.key }
+    {
+        let HeldVacant {
+            guard: _,
+            key,
+            hash: _,
+            rest: _,
+            of: _,
+        } = self;
+        key
+    }
+
+    /// Puts in the key with `value` as the most recent pair of its bucket, and answers the pair that it drove out and
+    /// its
+    /// entry. Refused for want of memory, which comes only where the stripe has no array, key and value come back, and
+    /// the
+    /// stripe is let go.
+    pub fn put_entry(
+        self,
+        value: V,
+    ) -> Result<(EvictedEntry<K, V>, OccupiedEntry<'a, K, V, H>), InsertError<K, V>>
+        ensures put { IfOk result (λ r. IsPut K.eq self.entry value r.0 r.1) }
+        ensures refused { IfErr result (λ e. (bucket_count (write_guard_value self.entry.guard).contents ≡ 0)
+            × (e ≡ Memory (self.entry.key, value))) }
+    {
+        let HeldVacant {
+            mut guard,
+            key,
+            hash,
+            rest,
+            of: _,
+        } = self;
+        match guard.put_at(hash, key, value) {
+            Ok((evicted, place)) => Ok((
+                evicted,
+                HeldEntry {
+                    guard,
+                    place,
+                    rest,
+                    of: PhantomData,
+                },
+            )),
+            Err(pair) => Err(InsertError::Memory(pair)),
+        }
+    }
+}

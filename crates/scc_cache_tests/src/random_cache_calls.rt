@@ -1,0 +1,43 @@
+// Random calls on a cache, whose answers and whose order have to be those of plain lists.
+use scc::hash_cache::Owned;
+use scc_script::same::Same;
+use scc_test_kit::alike::Alike;
+use scc_test_kit::random_cache_calls::agrees_with_lists;
+use scc_test_kit::zero::Zero;
+use std::hash::{BuildHasherDefault, FoldHasher};
+use std::process::Abort;
+use std::test::Fail;
+
+#[test]
+fn cache_random_calls_in_one_bucket(rt: HostRuntime) -> Result<(), Fail> {
+    let mut cache = Owned::with_capacity_and_hasher(rt.alloc(), 0, 256, Zero)?;
+    assert!(rt; agrees_with_lists(rt.alloc(), &Zero, &mut cache, 35_000, 63)?);
+    Ok(())
+}
+
+#[test]
+fn cache_random_calls_under_one_tag(rt: HostRuntime) -> Result<(), Fail> {
+    let mut cache = Owned::with_capacity_and_hasher(rt.alloc(), 0, 512, Alike)?;
+    assert!(rt; agrees_with_lists(rt.alloc(), &Alike, &mut cache, 35_000, 511)?);
+    Ok(())
+}
+
+#[test]
+fn cache_random_calls_under_a_good_hasher(rt: HostRuntime) -> Result<(), Fail> {
+    let hasher = BuildHasherDefault::<FoldHasher>::new();
+    let mut cache = Owned::with_capacity_and_hasher(
+        rt.alloc(),
+        0,
+        1024,
+        BuildHasherDefault::new(),
+    )?;
+    assert!(rt; agrees_with_lists(rt.alloc(), &hasher, &mut cache, 35_000, 1023)?);
+    Ok(())
+}
+
+#[test]
+fn cache_random_calls_under_their_own_hash(rt: HostRuntime) -> Result<(), Fail> {
+    let mut cache = Owned::with_capacity_and_hasher(rt.alloc(), 0, 512, Same)?;
+    assert!(rt; agrees_with_lists(rt.alloc(), &Same, &mut cache, 35_000, 511)?);
+    Ok(())
+}

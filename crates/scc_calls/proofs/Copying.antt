@@ -1,0 +1,21 @@
+-- Copies of what was found equal it.
+use Rattle.std.proofs.Common.{◌≡◌, Bool, true, Option, None, Some}
+use Rattle.std.specs.Option.{option_map}
+use Rattle.scc_contents.specs.Copies.{IsCopied}
+use Rattle.scc_calls.specs.Copies.{ClonesEqual}
+
+module _ {X Y Z : Type 0} {clone : Z → Z → Type 0} {same : Z → Z → Bool} (clones : ClonesEqual clone same) (wrap : Option Y → Z) (copy : X → Y → Type 0) (get : X → Y)
+    (none : same (wrap None) (wrap None) ≡ true) (some : (x : X) (y : Y) → copy x y → clone (wrap (Some (get x))) (wrap (Some y))) where
+  pub copied : (o : Option X) (w : Option Y) → IsCopied copy o w → same (wrap (option_map get o)) (wrap w) ≡ true
+  copied None None h = none
+  copied (Some x) (Some y) h = clones (wrap (Some (get x))) (wrap (Some y)) (some x y h)
+  copied None (Some y) h = absurd h
+  copied (Some x) None h = absurd h
+
+module _ {X Z : Type 0} {clone : Z → Z → Type 0} {same : Z → Z → Bool} (clones : ClonesEqual clone same) (wrap : Option X → Z) (copy : X → X → Type 0)
+    (none : same (wrap None) (wrap None) ≡ true) (some : (x y : X) → copy x y → clone (wrap (Some x)) (wrap (Some y))) where
+  pub copied_whole : (o w : Option X) → IsCopied copy o w → same (wrap o) (wrap w) ≡ true
+  copied_whole None None h = none
+  copied_whole (Some x) (Some y) h = clones (wrap (Some x)) (wrap (Some y)) (some x y h)
+  copied_whole None (Some y) h = absurd h
+  copied_whole (Some x) None h = absurd h

@@ -1,0 +1,52 @@
+-- A call and a refusal as parts of a run.
+use Rattle.std.proofs.Common.{◌≡◌, ℕ, Bool, true, false, List, ◌∷◌, ◌⊎◌, inl, inr, subst, refl, arith}
+use Rattle.std.proofs.lemmas.Bool.Decides.{nat_tests}
+use Rattle.std.specs.Prelude.{MatchBool, ◌==◌, Result, Ok, Err, OnErr}
+use Rattle.scc_calls.specs.Changes.{Changes, Stays}
+use Rattle.scc_calls.specs.Run.{IsRun, done, resize, answer}
+
+either : {P Q : Type 0} (b : Bool) → MatchBool b P Q → P ⊎ Q
+either true p = inl p
+either false q = inr q
+
+pub when_err : {A E P : Type 0} (r : Result A E) → P → OnErr r P
+when_err (Ok x) p = tt
+when_err (Err e) p = p
+
+module _ {S C R : Type 0} (size : S → ℕ) {moves : S → C → R → S → Type 0} {resizes : S → ℕ → S → Type 0} where
+  -- a call with at most one resize, and then a run
+  pub changes : {s t u : S} {call : C} {calls : List C} {reply : R} {replies : List R} → Changes size moves resizes s call reply t → IsRun moves resizes t calls replies u → IsRun moves resizes s (call ∷ calls) (reply ∷ replies) u
+  changes {s} {t} {u} {call} {calls} {reply} {replies} h r =
+      elim h as (λ _. IsRun moves resizes s (call ∷ calls) (reply ∷ replies) u) [
+        | inl kept ↦ answer kept.1 r
+        | inr resized ↦ elim resized as (λ _. IsRun moves resizes s (call ∷ calls) (reply ∷ replies) u) [
+          | inl grown ↦ resize grown.1.1 (answer grown.1.2 r)
+          | inr shrunk ↦ answer shrunk.1.1 (resize shrunk.1.2 r)
+        ]
+      ]
+
+  -- no call and at most one resize, and then a run
+  pub rests : {s t u : S} {calls : List C} {replies : List R} → Stays size resizes s t → IsRun moves resizes t calls replies u → IsRun moves resizes s calls replies u
+  rests {s} {t} {u} {calls} {replies} h r =
+      elim (either (size s == size t) h) as (λ _. IsRun moves resizes s calls replies u) [
+        | inl same ↦ let P : S → Type 0 = λ x. IsRun moves resizes x calls replies u in subst P same r
+        | inr resized ↦ resize resized r
+      ]
+
+-- a run by one meaning is a run by another that each step has too
+pub run-as : {S C R : Type 0} {moves others : S → C → R → S → Type 0} {resizes : S → ℕ → S → Type 0} → ((s : S) (call : C) (reply : R) (t : S) → moves s call reply t → others s call reply t)
+    → {s u : S} {calls : List C} {replies : List R} → IsRun moves resizes s calls replies u → IsRun others resizes s calls replies u
+run-as as-other done = done
+run-as as-other (resize h r) = resize h (run-as as-other r)
+run-as as-other (answer {s} {t} {call} {reply} m r) = answer (as-other s call reply t m) (run-as as-other r)
+
+-- what holds of each step of a call holds of the call with its resize
+pub changes-as : {S C R : Type 0} (size : S → ℕ) (resizes : S → ℕ → S → Type 0) (moves : S → C → R → S → Type 0) (call copy : C) (reply given : R) (old new : S) → ((s t : S) → moves s call reply t → moves s copy given t)
+    → Changes size moves resizes old call reply new → Changes size moves resizes old copy given new
+changes-as size resizes moves call copy reply given old new f (inl c) = inl (c.0, f old new c.1)
+changes-as size resizes moves call copy reply given old new f (inr (inl c)) = inr (inl (c.0, (c.1.0, c.1.1, f c.1.0 new c.1.2)))
+changes-as size resizes moves call copy reply given old new f (inr (inr c)) = inr (inr (c.0, (c.1.0, f old c.1.0 c.1.1, c.1.2)))
+
+-- what stays stays
+pub stays-same : {S : Type 0} (size : S → ℕ) (resizes : S → ℕ → S → Type 0) (s : S) → Stays size resizes s s
+stays-same size resizes s = let t : (size s == size s) ≡ true = grind (arith, nat_tests) in rw t refl

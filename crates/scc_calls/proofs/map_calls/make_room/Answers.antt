@@ -1,0 +1,7 @@
+use Rattle.scc_calls.proofs.map_calls.make_room.Goals as goal
+
+pub returns-in-Insert-clause-made : goal.returns-in-Insert-clause-made
+returns-in-Insert-clause-made g c = rw c.in-Insert.is c.make_room_for.ensures.made
+
+pub returns-in-Upsert-clause-made : goal.returns-in-Upsert-clause-made
+returns-in-Upsert-clause-made g c = rw c.in-Upsert.is c.make_room_for-in-Upsert.ensures.made

@@ -1,0 +1,73 @@
+-- What the calls of an index do to its state, by the reply, in terms of the calls of a map.
+use Rattle.std.specs.Prelude.{◌≡◌, ℕ, ◌⊎◌, Bool, true, false, cond, List, length, Option, None, Some, is_some, IsSome}
+use Rattle.std.specs.Option.{option_map}
+use Rattle.scc_contents.specs.Contents.{Contents, entries}
+use Rattle.scc_contents.specs.Pairs.{find}
+use Rattle.scc_contents.specs.Steps.{IsReadyFor}
+use Rattle.scc_calls.specs.MapCalls.{MapMoves}
+use Rattle.scc_calls.specs.States.{State}
+use Rattle.scc_calls.specs.declared.calls_as_values.IndexCall.{IndexCall}
+use Rattle.scc_calls.specs.declared.calls_as_values.IndexCall.TheVariants.{Insert, Update, Remove, Read, Contains, Clear, Len}
+use Rattle.scc_calls.specs.declared.calls_as_values.MapCall.TheVariants.{Insert as MapInsert, Upsert as MapUpsert, Replace as MapReplace, Remove as MapRemove, Read as MapRead, Contains as MapContains, Clear as MapClear, Len as MapLen}
+use Rattle.scc_calls.specs.declared.replies.Reply.{Reply}
+use Rattle.scc_calls.specs.declared.replies.Reply.TheVariants.{Inserted, Exists, Old, Key, Pair, Value, Has, Cleared, Count}
+
+module _ {K V : Type 0} where
+  -- the key of a call, None where it concerns all keys
+  abbrev pub index_key : IndexCall K V → Option K
+  index_key (Insert k v) = Some k
+  index_key (Update k v) = Some k
+  index_key (Remove k) = Some k
+  index_key (Read k) = Some k
+  index_key (Contains k) = Some k
+  index_key Clear = None
+  index_key Len = None
+
+  -- the call may bring in a key
+  abbrev pub index_adds : IndexCall K V → Type 0
+  index_adds (Insert k v) = Unit {0}
+  index_adds call = ⊥
+
+  module _ (eq : K → K → Bool) where
+    -- the call may give the reply and leave t, with no resize. An update of a present key is an upsert and then a replacement of the stored key by one that equals it, its clone
+    abbrev pub IndexMoves : State (K × V) → IndexCall K V → Reply K V → State (K × V) → Type 0
+    IndexMoves s (Insert k v) r t = MapMoves eq s (MapInsert k v) r t
+    IndexMoves s (Update k v) (Has false) t = MapMoves eq s (MapReplace k) (Key None) t
+    IndexMoves s (Update k v) (Has true) t = (u : State (K × V)) × (q : K) × (l : K) × (w : V) × (eq k q ≡ true) × MapMoves eq s (MapUpsert k v) (Old (Some w)) u × MapMoves eq u (MapReplace q) (Key (Some l)) t
+    IndexMoves s (Remove k) (Has false) t = MapMoves eq s (MapRemove k) (Pair None) t
+    IndexMoves s (Remove k) (Has true) t = (p : K × V) × MapMoves eq s (MapRemove k) (Pair (Some p)) t
+    IndexMoves s (Read k) r t = MapMoves eq s (MapRead k) r t
+    IndexMoves s (Contains k) r t = MapMoves eq s (MapContains k) r t
+    IndexMoves s Clear r t = MapMoves eq s MapClear r t
+    IndexMoves s Len r t = MapMoves eq s MapLen r t
+    IndexMoves s call reply t = ⊥
+
+    -- memory may be refused to an insertion of a new key and to an update of a present one, each of which makes a version, and to no other call
+    abbrev pub IndexMayRefuse : State (K × V) → IndexCall K V → Type 0
+    IndexMayRefuse s (Insert k v) = find eq s.0 k ≡ None
+    IndexMayRefuse s (Update k v) = IsSome (find eq s.0 k)
+    IndexMayRefuse s call = ⊥
+
+    -- the reply that the call gives where an index has these pairs
+    abbrev pub index_answer : List (K × V) → IndexCall K V → Reply K V
+    index_answer es (Insert k v) = cond (is_some (find eq es k)) (Exists k v) Inserted
+    index_answer es (Update k v) = Has (is_some (find eq es k))
+    index_answer es (Remove k) = Has (is_some (find eq es k))
+    index_answer es (Read k) = Value (option_map (λ p. p.1) (find eq es k))
+    index_answer es (Contains k) = Has (is_some (find eq es k))
+    index_answer es Clear = Cleared
+    index_answer es Len = Count (length es)
+
+    module _ {S : Type 0} (hash : K → ℕ) (c : Contents (K × V) S) where
+      -- an insertion of k makes no resize: k is there, or all is made that it wants
+      abbrev pub IndexIsMadeFor : K → Type 0
+      IndexIsMadeFor k = IsSome (find eq (entries c) k) ⊎ IsReadyFor hash (λ p. p.0) c k
+
+      -- the call makes no growth
+      abbrev pub IndexIsMade : IndexCall K V → Type 0
+      IndexIsMade (Insert k v) = IndexIsMadeFor k
+      IndexIsMade call = Unit {0}
+
+      -- the call makes no growth, and the reply equals the one that it gives
+      abbrev pub IndexIsReady : (Reply K V → Reply K V → Bool) → IndexCall K V → Reply K V → Type 0
+      IndexIsReady same call copy = IndexIsMade call × (same (index_answer (entries c) call) copy ≡ true)

@@ -1,0 +1,81 @@
+-- A call and a reply, and those that equal them.
+use Rattle.std.proofs.Common.{◌≡◌, ℕ, Bool, true, Option, None, Some, refl, sym, ap, ◌∙◌, subst, inl, inr}
+use Rattle.std.specs.Cmp.{IsPartialEquivalence}
+use Rattle.scc_calls.specs.Changes.{Changes}
+use Rattle.scc_calls.specs.Copies.{Alike, Means}
+use Rattle.scc_calls.specs.Parts.{KeyRouted}
+
+-- both have no key, or equal ones
+abbrev pub KeysAlike : {K : Type 0} → (K → K → Bool) → Option K → Option K → Type 0
+KeysAlike eq None None = Unit {0}
+KeysAlike eq (Some a) (Some b) = eq a b ≡ true
+KeysAlike eq None (Some b) = ⊥
+KeysAlike eq (Some a) None = ⊥
+
+alike_after : {X : Type 0} (eq : X → X → Bool) → IsPartialEquivalence eq → (x y z : X) → Alike eq x y → Alike eq y z → Alike eq x z
+alike_after eq p x y z one (inl same) = subst (λ w. Alike eq x w) (sym same) one
+alike_after eq p x y z (inl same) (inr e) = inr (subst (λ w. eq w z ≡ true) same e)
+alike_after eq p x y z (inr equal) (inr e) = inr (p.trans x y z equal e)
+
+alike_routed : {K : Type 0} (eq : K → K → Bool) (route : K → ℕ) → ((a b : K) → eq a b ≡ true → route a ≡ route b) → (i : ℕ) (a b : Option K) → KeysAlike eq a b → KeyRouted route i b → KeyRouted route i a
+alike_routed eq route like i None None same routed = tt
+alike_routed eq route like i (Some a) (Some b) same routed = like a b same ∙ routed
+alike_routed eq route like i None (Some b) same routed = absurd same
+alike_routed eq route like i (Some a) None same routed = absurd same
+
+-- what a reply tells, those that equal it tell too
+pub told_alike : {R T : Type 0} (replies : R → R → Bool) (told : R → T) → ((a b : R) → replies a b ≡ true → told b ≡ told a) → (given reply : R) → Alike replies given reply → told reply ≡ told given
+told_alike replies told tells given reply (inl same) = ap told same
+told_alike replies told tells given reply (inr equal) = tells given reply equal
+
+the_same : {C : Type 0} (calls : C → C → Bool) (call : C) → ((made : C) → calls made call ≡ true → made ≡ call) → (made : C) → Alike calls made call → made ≡ call
+the_same calls call only made (inl same) = sym same
+the_same calls call only made (inr equal) = only made equal
+
+-- where equal values are the same, what is alike is the same
+pub the_very : {X : Type 0} (eq : X → X → Bool) → ((a b : X) → eq a b ≡ true → b ≡ a) → (a b : X) → Alike eq a b → b ≡ a
+the_very eq only a b (inl same) = same
+the_very eq only a b (inr equal) = only a b equal
+
+module _ {S C R : Type 0} (calls : C → C → Bool) (replies : R → R → Bool) (moves : S → C → R → S → Type 0) where
+  -- what is meant by a call and a reply is meant by those that equal them
+  pub means_alike : IsPartialEquivalence calls → IsPartialEquivalence replies → (old new : S) (call copy : C) (reply given : R) → Alike calls call copy → Alike replies reply given → Means calls replies moves old call reply new → Means calls replies moves old copy given new
+  means_alike pc pr old new call copy reply given c r m = (m.0, m.1, alike_after calls pc m.0 call copy m.2 c, alike_after replies pr m.1 reply given m.3 r, m.4)
+
+  -- a step is meant by itself, and by a reply that equals its own
+  pub means_own : (old new : S) (call : C) (made given : R) → Alike replies made given → moves old call made new → Means calls replies moves old call given new
+  means_own old new call made given same m = (call, made, inl refl, same, m)
+
+  -- what a call with this reply changes, it means with a reply that is alike
+  pub meant : (size : S → ℕ) (resizes : S → ℕ → S → Type 0) (old new : S) (call : C) (made given : R) → Alike replies made given → Changes size moves resizes old call made new → Changes size (Means calls replies moves) resizes old call given new
+  meant size resizes old new call made given same (inl c) = inl (c.0, means_own old new call made given same c.1)
+  meant size resizes old new call made given same (inr (inl c)) = inr (inl (c.0, (c.1.0, c.1.1, means_own c.1.0 new call made given same c.1.2)))
+  meant size resizes old new call made given same (inr (inr c)) = inr (inr (c.0, (c.1.0, means_own old c.1.0 call made given same c.1.1, c.1.2)))
+
+  -- where equal calls are the same, and equal replies too, what is meant is what is made
+  pub means_same : ((a b : C) → calls a b ≡ true → b ≡ a) → ((a b : R) → replies a b ≡ true → b ≡ a) → (old new : S) (call : C) (reply : R) → Means calls replies moves old call reply new → moves old call reply new
+  means_same one other old new call reply m =
+      let c : call ≡ m.0 = the_very calls one m.0 call m.2 in
+      let r : reply ≡ m.1 = the_very replies other m.1 reply m.3 in
+      rw (c, r) m.4
+
+  -- a call that equals no other is the one that was made
+  pub means_of : {P : Type 0} (call : C) → ((made : C) → calls made call ≡ true → made ≡ call) → (old new : S) (reply : R) → ((given : R) → Alike replies given reply → moves old call given new → P) → Means calls replies moves old call reply new → P
+  means_of call only old new reply f m = f m.1 m.3 (subst (λ c. moves old c m.1 new) (the_same calls call only m.0 m.2) m.4)
+
+  module _ {K : Type 0} (eq : K → K → Bool) (key_of : C → Option K) (keys : (a b : C) → calls a b ≡ true → KeysAlike eq (key_of a) (key_of b)) (route : K → ℕ) (like : (a b : K) → eq a b ≡ true → route a ≡ route b) where
+    made_routed : (i : ℕ) (made call : C) → Alike calls made call → KeyRouted route i (key_of call) → KeyRouted route i (key_of made)
+    made_routed i made call (inl same) routed = subst (λ c. KeyRouted route i (key_of c)) same routed
+    made_routed i made call (inr equal) routed = alike_routed eq route like i (key_of made) (key_of call) (keys made call equal) routed
+
+    -- the call that was made routes as the one that stands for it
+    pub means_whole : {W : Type 0} (whole : W → C → R → W → Type 0) (i : ℕ) (old new : S) (before after : W) (call : C) (reply : R) → KeyRouted route i (key_of call)
+        → ((made : C) (given : R) → KeyRouted route i (key_of made) → moves old made given new → whole before made given after)
+        → Means calls replies moves old call reply new → Means calls replies whole before call reply after
+    means_whole whole i old new before after call reply key f m = (m.0, m.1, m.2, m.3, f m.0 m.1 (made_routed i m.0 call m.2 key) m.4)
+
+    -- what holds after each call of an equal key holds after one that means the same
+    pub means_keeps : {P : Type 0} (i : ℕ) (old new : S) (call : C) (reply : R) → KeyRouted route i (key_of call)
+        → ((made : C) (given : R) → KeyRouted route i (key_of made) → moves old made given new → P)
+        → Means calls replies moves old call reply new → P
+    means_keeps i old new call reply key f m = f m.0 m.1 (made_routed i m.0 call m.2 key) m.4

@@ -1,0 +1,307 @@
+//! The calls of the owned cache as values.
+ghost use Rattle.std.specs.Prelude.{◌≡◌, ◌≢◌, ◌≤◌, ◌⊎◌, true, length, None, Some, IfOk, IsSome, OnOk, OnErr};
+ghost use Rattle.std.specs.Cmp.{IsPartialEquivalence};
+ghost use Rattle.scc_contents.specs.Contents.{bucket_count, list_of, lists_of, key_hash};
+ghost use Rattle.scc_contents.specs.Hashing.{hash_of};
+ghost use Rattle.scc_cache.specs.CacheSteps.{number_in, IsAbsent};
+ghost use Rattle.scc_calls.specs.CacheCalls.{cache_adds, cache_answer, cache_key, cache_setting, first_of_full, number_by, CacheIsMade, CacheMayRefuse, CacheResizes};
+ghost use Rattle.scc_calls.specs.Changes.{Stays};
+ghost use Rattle.scc_calls.specs.Copies.{ClonesEqual, MayNotClone};
+ghost use Rattle.scc_calls.specs.declared.replies.Reply.TheVariants.{Evicted};
+
+use crate::{CacheCall, Calls, Refused, Reply};
+use scc_cache::Owned;
+use scc_cache::owned::{Entry, ReplaceResult};
+use scc_common::{InsertError, MakeError};
+use std::alloc::Global;
+use std::hash::{BuildHasher, Hash};
+
+impl<K: Eq + Hash + Clone, V: Clone + PartialEq, H: BuildHasher> Calls for Owned<K, V, H> {
+    type Key = K;
+
+    type Hasher = H;
+
+    type Call = CacheCall<K, V>;
+
+    type Reply = Reply<K, V>;
+
+    ghost use Rattle.std.specs.Prelude.{List, [], length, max, replicate};
+    ghost use Rattle.scc_contents.specs.Contents.{lists_of};
+    ghost use Rattle.scc_contents.specs.Hashing.{hash_of};
+    ghost use Rattle.scc_contents.specs.Sizes.{IsArraySize};
+    ghost use Rattle.scc_contents.specs.Contents.{key_hash};
+    ghost use Rattle.scc_calls.specs.CacheCalls.{cache_adds, cache_key, cache_setting, keys_in, number_by, CacheIsReady, CacheMoves, CacheMayRefuse, CacheResizes};
+    ghost use Rattle.scc_calls.specs.Copies.{Means};
+    ghost use Rattle.scc_calls.specs.Means.{means_alike, means_keeps, means_whole};
+    ghost use Rattle.std.proofs.Common.{rules};
+    ghost use Rattle.scc_calls.specs.CacheLaws.{one_size, cache_call_keeps, cache_resize_keeps, empty_keys};
+    ghost use Rattle.scc_calls.specs.MapLaws.{routes_alike};
+    ghost use Rattle.scc_calls.specs.Parted.{PartMoves, PartResizes, parted_call, parted_resize};
+    ghost use Rattle.scc_contents.specs.Routing.{stripe_number};
+
+    ghost State = { List (List (K × V)) };
+
+    ghost Whole = { List (List (List (K × V))) };
+
+    ghost setting = { cache_setting };
+
+    ghost state = { λ c. lists_of c.contents };
+
+    ghost size = { length };
+
+    ghost empty = { λ b. replicate b [] };
+
+    ghost limits = { λ asked slots m. IsArraySize (max asked slots) m };
+
+    ghost keys = { keys_in };
+
+    ghost key_of = { cache_key };
+
+    ghost moves = { λ g. Means ⟦<CacheCall<K, V> as PartialEq>⟧.eq ⟦<Reply<K, V> as PartialEq>⟧.eq (CacheMoves K.eq (number_by (λ h k. hash_of H.BuildHasher H.Hasher.Hasher h (K.hash_input k)) g)) };
+
+    ghost resizes = { λ g. CacheResizes g (number_by (λ h k. hash_of H.BuildHasher H.Hasher.Hasher h (K.hash_input k)) g) };
+
+    ghost may_refuse = { λ g. CacheMayRefuse K.eq (number_by (λ h k. hash_of H.BuildHasher H.Hasher.Hasher h (K.hash_input k)) g) };
+
+    ghost adds = { cache_adds };
+
+    ghost is_ready = { λ c. CacheIsReady K.eq (key_hash H.BuildHasher H.Hasher.Hasher K.hash_input c.contents) c ⟦<Reply<K, V> as PartialEq>⟧.eq };
+
+    ghost whole = { λ parts. parts };
+
+    ghost whole_moves = { λ g n i. PartMoves (Means ⟦<CacheCall<K, V> as PartialEq>⟧.eq ⟦<Reply<K, V> as PartialEq>⟧.eq (CacheMoves K.eq (number_by (λ h k. hash_of H.BuildHasher H.Hasher.Hasher h (K.hash_input k)) g))) cache_key (λ k. stripe_number n (hash_of H.BuildHasher H.Hasher.Hasher g.hasher (K.hash_input k))) i };
+
+    ghost whole_resizes = { λ g n i. PartResizes (CacheResizes g (number_by (λ h k. hash_of H.BuildHasher H.Hasher.Hasher h (K.hash_input k)) g)) i };
+
+    fn key(call: &CacheCall<K, V>) -> Option<&K> {
+        match call {
+            CacheCall::Put(k, _) => Some(k),
+            CacheCall::Get(k) => Some(k),
+            CacheCall::Write(k, _) => Some(k),
+            CacheCall::Replace(k) => Some(k),
+            CacheCall::Remove(k) => Some(k),
+            CacheCall::Read(k) => Some(k),
+            CacheCall::Contains(k) => Some(k),
+            CacheCall::Clear => None,
+            CacheCall::Len => None,
+        }
+    }
+
+    fn ready(&mut self, call: &CacheCall<K, V>) -> Result<(Reply<K, V>, Reply<K, V>), Refused> {
+        make_room(self, call)?;
+        match copies(self, call) {
+            Ok(both) => Ok(both),
+            Err(Refused) => {
+                self.drop_room();
+                Err(Refused)
+            }
+        }
+    }
+
+    fn call(&mut self, call: CacheCall<K, V>) -> Result<Reply<K, V>, Refused> {
+        equals::<CacheCall<K, V>>();
+        equals::<Reply<K, V>>();
+        match call {
+            CacheCall::Put(k, v) => match self.put_sync(k, v) {
+                Ok(evicted) => Ok(Reply::Evicted(evicted)),
+                Err(InsertError::Exists((k, v))) => Ok(Reply::Exists(k, v)),
+                Err(InsertError::Memory(_)) => Err(Refused),
+            },
+            CacheCall::Get(k) => match self.cloned_value(&k) {
+                Ok(value) => match self.get_sync(&k) {
+                    Some(_entry) => Ok(Reply::Value(value)),
+                    None => Ok(Reply::Value(None)),
+                },
+                Err(_) => Err(Refused),
+            },
+            CacheCall::Write(k, v) => match self.entry_sync(k) {
+                Entry::Occupied(mut entry) => Ok(Reply::Old(Some(entry.put(v)))),
+                Entry::Vacant(entry) => {
+                    entry.into_key();
+                    Ok(Reply::Old(None))
+                }
+            },
+            CacheCall::Replace(k) => match self.replace_sync(k) {
+                ReplaceResult::Replaced(_entry, old) => Ok(Reply::Key(Some(old))),
+                ReplaceResult::NotReplaced(entry) => {
+                    entry.into_key();
+                    Ok(Reply::Key(None))
+                }
+            },
+            CacheCall::Remove(k) => Ok(Reply::Pair(self.remove_sync(&k))),
+            CacheCall::Read(k) => match self.cloned_value(&k) {
+                Ok(value) => Ok(Reply::Value(value)),
+                Err(_) => Err(Refused),
+            },
+            CacheCall::Contains(k) => Ok(Reply::Has(self.contains_sync(&k))),
+            CacheCall::Clear => {
+                self.clear_sync();
+                Ok(Reply::Cleared)
+            }
+            CacheCall::Len => Ok(Reply::Count(self.len())),
+        }
+    }
+
+    fn buckets(&self) -> usize {
+        self.capacity() / 32
+    }
+
+    fn make(
+        alloc: Global,
+        skipped: u32,
+        slots: usize,
+        maximum: usize,
+        hasher: H,
+    ) -> Result<Self, MakeError>
+    where
+        H: Drop,
+    {
+        Owned::skipping(alloc, skipped, slots, maximum, hasher)
+    }
+
+    ghost one_limit = { λ asked slots m n p q. one_size (max asked slots) m n p q };
+
+    ghost moves_alike = { λ g old new call copy reply given pc pr c r m. means_alike ⟦<CacheCall<K, V> as PartialEq>⟧.eq ⟦<Reply<K, V> as PartialEq>⟧.eq (CacheMoves K.eq (number_by (λ h k. hash_of H.BuildHasher H.Hasher.Hasher h (K.hash_input k)) g)) pc pr old new call copy reply given c r m };
+
+    ghost call_is_whole = { λ g n before after old new call reply routed key s. parted_call (Means ⟦<CacheCall<K, V> as PartialEq>⟧.eq ⟦<Reply<K, V> as PartialEq>⟧.eq (CacheMoves K.eq (number_by (λ h k. hash_of H.BuildHasher H.Hasher.Hasher h (K.hash_input k)) g))) cache_key (λ k. stripe_number n (hash_of H.BuildHasher H.Hasher.Hasher g.hasher (K.hash_input k))) before after old new call reply key s };
+
+    ghost resize_is_whole = { λ g n before after old new buckets routed s. parted_resize (CacheResizes g (number_by (λ h k. hash_of H.BuildHasher H.Hasher.Hasher h (K.hash_input k)) g)) before after old new buckets s };
+
+    ghost call_keeps = { λ g n i old new call reply routed key s. means_keeps ⟦<CacheCall<K, V> as PartialEq>⟧.eq ⟦<Reply<K, V> as PartialEq>⟧.eq (CacheMoves K.eq (number_by (λ h k. hash_of H.BuildHasher H.Hasher.Hasher h (K.hash_input k)) g)) K.eq cache_key (Prim.search rules) (λ k. stripe_number n (hash_of H.BuildHasher H.Hasher.Hasher g.hasher (K.hash_input k))) (routes_alike K.eq K.hash_input (λ w. stripe_number n (hash_of H.BuildHasher H.Hasher.Hasher g.hasher w)) K.Hash.respects_eq) i old new call reply key (λ made given k m. cache_call_keeps K.eq (number_by (λ h k. hash_of H.BuildHasher H.Hasher.Hasher h (K.hash_input k)) g) (λ k. stripe_number n (hash_of H.BuildHasher H.Hasher.Hasher g.hasher (K.hash_input k))) i old new made given routed k m) s };
+
+    ghost resize_keeps = { λ g n i old new buckets routed s. cache_resize_keeps g (number_by (λ h k. hash_of H.BuildHasher H.Hasher.Hasher h (K.hash_input k)) g) (λ k. stripe_number n (hash_of H.BuildHasher H.Hasher.Hasher g.hasher (K.hash_input k))) i old new buckets routed s };
+
+    ghost empty_keeps = { λ h n i b. empty_keys V (λ k. stripe_number n (hash_of H.BuildHasher H.Hasher.Hasher h (K.hash_input k))) i b };
+}
+
+// What `==` is. It does nothing.
+fn equals<X: PartialEq>()
+    ensures { IsPartialEquivalence X.eq }
+{}
+
+// Makes what the call wants, if it may bring in a key.
+fn make_room<K: Eq + Hash, V, H: BuildHasher>(
+    cache: &mut Owned<K, V, H>,
+    call: &CacheCall<K, V>,
+) -> Result<(), Refused>
+    ensures made { OnOk result (CacheIsMade K.eq
+        (key_hash H.BuildHasher H.Hasher.Hasher K.hash_input cache.new.contents) cache.new call.now) }
+    ensures stays { Stays length (CacheResizes (cache_setting cache.old)
+        (number_by (λ h k. hash_of H.BuildHasher H.Hasher.Hasher h (K.hash_input k)) (cache_setting cache.old)))
+        (lists_of cache.old.contents) (lists_of cache.new.contents) }
+    ensures setting { cache_setting cache.new ≡ cache_setting cache.old }
+    ensures grows { length (lists_of cache.old.contents) ≤ length (lists_of cache.new.contents) }
+    ensures adds { length (lists_of cache.new.contents) ≢ length (lists_of cache.old.contents) → cache_adds call.now }
+    ensures refused { OnErr result (CacheMayRefuse K.eq
+        (number_by (λ h k. hash_of H.BuildHasher H.Hasher.Hasher h (K.hash_input k)) (cache_setting cache.old))
+        (lists_of cache.old.contents) call.now) }
+    ensures still { CacheMayRefuse K.eq (number_by (λ h k. hash_of H.BuildHasher H.Hasher.Hasher h (K.hash_input k))
+        (cache_setting cache.old)) (lists_of cache.new.contents) call.now
+        → CacheMayRefuse K.eq (number_by (λ h k. hash_of H.BuildHasher H.Hasher.Hasher h (K.hash_input k))
+        (cache_setting cache.old)) (lists_of cache.old.contents) call.now }
+{
+    match call {
+        CacheCall::Put(k, _) => match cache.make_room(k) {
+            Ok(()) => Ok(()),
+            Err(_) => Err(Refused),
+        },
+        _ => Ok(()),
+    }
+}
+
+// Two copies of the reply that the call gives next.
+fn copies<K: Eq + Hash + Clone, V: Clone + PartialEq, H: BuildHasher>(
+    cache: &Owned<K, V, H>,
+    call: &CacheCall<K, V>,
+) -> Result<(Reply<K, V>, Reply<K, V>), Refused>
+    requires clones { ClonesEqual ⟦<Reply<K, V> as Clone>⟧.is_clone ⟦<Reply<K, V> as PartialEq>⟧.eq }
+    ensures ok { IfOk result (λ r. (⟦<Reply<K, V> as PartialEq>⟧.eq
+        (cache_answer K.eq (number_in (key_hash H.BuildHasher H.Hasher.Hasher K.hash_input cache.now.contents)
+        cache.now.contents) (lists_of cache.now.contents) call.now) r.0 ≡ true)
+        × (⟦<Reply<K, V> as PartialEq>⟧.eq
+        (cache_answer K.eq (number_in (key_hash H.BuildHasher H.Hasher.Hasher K.hash_input cache.now.contents)
+        cache.now.contents) (lists_of cache.now.contents) call.now) r.1 ≡ true)) }
+    ensures refused { OnErr result (IsSome (cache_key call.now) × MayNotClone ⟦<Reply<K, V> as Clone>⟧.is_infallible) }
+{
+    let first = copy(cache, call)?;
+    let second = copy(cache, call)?;
+    Ok((first, second))
+}
+
+// A copy of the reply that the call gives next.
+fn copy<K: Eq + Hash + Clone, V: Clone + PartialEq, H: BuildHasher>(
+    cache: &Owned<K, V, H>,
+    call: &CacheCall<K, V>,
+) -> Result<Reply<K, V>, Refused>
+    requires clones { ClonesEqual ⟦<Reply<K, V> as Clone>⟧.is_clone ⟦<Reply<K, V> as PartialEq>⟧.eq }
+    ensures ok { IfOk result (λ r. ⟦<Reply<K, V> as PartialEq>⟧.eq
+        (cache_answer K.eq (number_in (key_hash H.BuildHasher H.Hasher.Hasher K.hash_input cache.now.contents)
+        cache.now.contents) (lists_of cache.now.contents) call.now) r ≡ true) }
+    ensures refused { OnErr result (IsSome (cache_key call.now) × MayNotClone ⟦<Reply<K, V> as Clone>⟧.is_infallible) }
+{
+    match call {
+        CacheCall::Put(k, v) => {
+            if !cache.contains_sync(k) {
+                return copy_evicted(cache, k);
+            }
+            let Ok(key) = k.clone() else {
+                return Err(Refused);
+            };
+            let Ok(value) = v.clone() else {
+                return Err(Refused);
+            };
+            Ok(Reply::Exists(key, value))
+        }
+        CacheCall::Get(k) => match cache.cloned_value(k) {
+            Ok(value) => Ok(Reply::Value(value)),
+            Err(_) => Err(Refused),
+        },
+        CacheCall::Write(k, _) => match cache.cloned_value(k) {
+            Ok(value) => Ok(Reply::Old(value)),
+            Err(_) => Err(Refused),
+        },
+        CacheCall::Replace(k) => match cache.cloned_key(k) {
+            Ok(key) => Ok(Reply::Key(key)),
+            Err(_) => Err(Refused),
+        },
+        CacheCall::Remove(k) => match cache.cloned_pair(k) {
+            Ok(pair) => Ok(Reply::Pair(pair)),
+            Err(_) => Err(Refused),
+        },
+        CacheCall::Read(k) => match cache.cloned_value(k) {
+            Ok(value) => Ok(Reply::Value(value)),
+            Err(_) => Err(Refused),
+        },
+        CacheCall::Contains(k) => Ok(Reply::Has(cache.contains_sync(k))),
+        CacheCall::Clear => Ok(Reply::Cleared),
+        CacheCall::Len => Ok(Reply::Count(cache.len())),
+    }
+}
+
+// A copy of what a put of a key that is not there answers, where it makes no resize.
+fn copy_evicted<K: Eq + Hash + Clone, V: Clone + PartialEq, H: BuildHasher>(
+    cache: &Owned<K, V, H>,
+    k: &K,
+) -> Result<Reply<K, V>, Refused>
+    requires clones { ClonesEqual ⟦<Reply<K, V> as Clone>⟧.is_clone ⟦<Reply<K, V> as PartialEq>⟧.eq }
+    requires absent { IsAbsent (key_hash H.BuildHasher H.Hasher.Hasher K.hash_input cache.now.contents) K.eq
+        cache.now.contents k.now }
+    ensures ok { IfOk result (λ r. ⟦<Reply<K, V> as PartialEq>⟧.eq
+        (Evicted (first_of_full (list_of cache.now.contents
+        (number_in (key_hash H.BuildHasher H.Hasher.Hasher K.hash_input cache.now.contents) cache.now.contents
+        (bucket_count cache.now.contents) k.now)))) r ≡ true) }
+    ensures refused { OnErr result (MayNotClone ⟦<Reply<K, V> as Clone>⟧.is_infallible) }
+{
+    match cache.next_evicted(k) {
+        Some((key, value)) => {
+            let Ok(key) = key.clone() else {
+                return Err(Refused);
+            };
+            let Ok(value) = value.clone() else {
+                return Err(Refused);
+            };
+            Ok(Reply::Evicted(Some((key, value))))
+        }
+        None => Ok(Reply::Evicted(None)),
+    }
+}

@@ -1,0 +1,253 @@
+//! The calls of the owned index as values.
+ghost use Rattle.std.specs.Prelude.{◌≡◌, ◌≢◌, ◌≤◌, ◌⊎◌, true, None, Some, IfOk, IsSome, OnOk, OnErr};
+ghost use Rattle.std.specs.Cmp.{IsPartialEquivalence};
+ghost use Rattle.scc_contents.specs.Contents.{entries, bucket_count, settings_of, key_hash};
+ghost use Rattle.scc_contents.specs.Pairs.{find};
+ghost use Rattle.scc_calls.specs.Changes.{Stays};
+ghost use Rattle.scc_calls.specs.Copies.{ClonesEqual, MayNotClone};
+ghost use Rattle.scc_calls.specs.IndexCalls.{index_adds, index_answer, index_key, IndexIsMade, IndexIsMadeFor, IndexMayRefuse};
+ghost use Rattle.scc_calls.specs.States.{ResizesTo, setting_of, state_of};
+
+use crate::{Calls, IndexCall, Refused, Reply};
+use scc_common::{InsertError, MakeError};
+use scc_index::Owned;
+use std::alloc::Global;
+use std::hash::{BuildHasher, Hash};
+
+impl<K: Eq + Hash + Clone, V: Clone + PartialEq, H: BuildHasher> Calls for Owned<K, V, H> {
+    type Key = K;
+
+    type Hasher = H;
+
+    type Call = IndexCall<K, V>;
+
+    type Reply = Reply<K, V>;
+
+    ghost use Rattle.std.specs.Prelude.{◌≡◌, ◌==◌, [], ◌∷◌, ◌++◌, List, length};
+    ghost use Rattle.std.specs.List.Sorted.{IsPermutation};
+    ghost use Rattle.std.specs.Map.{keys_of};
+    ghost use Rattle.scc_contents.specs.Hashing.{hash_of};
+    ghost use Rattle.scc_calls.specs.MapLaws.{routes_alike, both_same, map_resize_keeps, resize_joined};
+    ghost use Rattle.scc_calls.specs.IndexLaws.{index_call_is_whole, index_call_keeps};
+    ghost use Rattle.scc_calls.specs.MapWhole.{joined};
+    ghost use Rattle.scc_calls.specs.IndexWhole.{IndexWholeMoves};
+    ghost use Rattle.scc_contents.specs.Routing.{stripe_number};
+    ghost use Rattle.scc_calls.specs.IndexCalls.{index_adds, index_key, IndexIsReady, IndexMoves, IndexMayRefuse};
+    ghost use Rattle.scc_calls.specs.Copies.{Means};
+    ghost use Rattle.scc_calls.specs.Means.{means_alike, means_keeps, means_whole};
+    ghost use Rattle.std.proofs.Common.{rules};
+    ghost use Rattle.scc_contents.specs.Contents.{key_hash};
+    ghost use Rattle.scc_calls.specs.States.{State, state_of, setting_of, ResizesTo};
+
+    ghost State = { State (K × V) };
+
+    ghost Whole = { List (K × V) };
+
+    ghost setting = { setting_of };
+
+    ghost state = { state_of };
+
+    ghost size = { λ s. s.1 };
+
+    ghost empty = { λ b. ([], b) };
+
+    ghost limits = { λ _ _ m. m ≡ 0 };
+
+    ghost keys = { λ s. keys_of s.0 };
+
+    ghost key_of = { index_key };
+
+    ghost moves = { λ _. Means ⟦<IndexCall<K, V> as PartialEq>⟧.eq ⟦<Reply<K, V> as PartialEq>⟧.eq (IndexMoves K.eq) };
+
+    ghost resizes = { ResizesTo };
+
+    ghost may_refuse = { λ _. IndexMayRefuse K.eq };
+
+    ghost adds = { index_adds };
+
+    ghost is_ready = { λ m. IndexIsReady K.eq (key_hash H.BuildHasher H.Hasher.Hasher K.hash_input m) m ⟦<Reply<K, V> as PartialEq>⟧.eq };
+
+    ghost whole = { joined };
+
+    ghost whole_moves = { λ g n i. Means ⟦<IndexCall<K, V> as PartialEq>⟧.eq ⟦<Reply<K, V> as PartialEq>⟧.eq (IndexWholeMoves K.eq (λ k. stripe_number n (hash_of H.BuildHasher H.Hasher.Hasher g.hasher (K.hash_input k)) == i)) };
+
+    ghost whole_resizes = { λ _ _ _ w _ v. IsPermutation w v };
+
+    fn key(call: &IndexCall<K, V>) -> Option<&K> {
+        match call {
+            IndexCall::Insert(k, _) => Some(k),
+            IndexCall::Update(k, _) => Some(k),
+            IndexCall::Remove(k) => Some(k),
+            IndexCall::Read(k) => Some(k),
+            IndexCall::Contains(k) => Some(k),
+            IndexCall::Clear => None,
+            IndexCall::Len => None,
+        }
+    }
+
+    fn ready(&mut self, call: &IndexCall<K, V>) -> Result<(Reply<K, V>, Reply<K, V>), Refused> {
+        make_room(self, call)?;
+        match copies(self, call) {
+            Ok(both) => Ok(both),
+            Err(Refused) => {
+                self.drop_room();
+                Err(Refused)
+            }
+        }
+    }
+
+    fn call(&mut self, call: IndexCall<K, V>) -> Result<Reply<K, V>, Refused> {
+        equal_replies::<Reply<K, V>>();
+        match call {
+            IndexCall::Insert(k, v) => match self.insert_sync(k, v) {
+                Ok(()) => Ok(Reply::Inserted),
+                Err(InsertError::Exists((k, v))) => Ok(Reply::Exists(k, v)),
+                Err(InsertError::Memory(_)) => Err(Refused),
+            },
+            IndexCall::Update(k, v) => match self.get_sync(&k) {
+                Some(mut entry) => match entry.update(v) {
+                    Ok(()) => Ok(Reply::Has(true)),
+                    Err(_) => Err(Refused),
+                },
+                None => Ok(Reply::Has(false)),
+            },
+            IndexCall::Remove(k) => Ok(Reply::Has(self.remove_sync(&k))),
+            IndexCall::Read(k) => match self.cloned_value(&k) {
+                Ok(value) => Ok(Reply::Value(value)),
+                Err(_) => Err(Refused),
+            },
+            IndexCall::Contains(k) => Ok(Reply::Has(self.contains(&k))),
+            IndexCall::Clear => {
+                self.clear_sync();
+                Ok(Reply::Cleared)
+            }
+            IndexCall::Len => Ok(Reply::Count(self.len())),
+        }
+    }
+
+    fn buckets(&self) -> usize {
+        self.capacity() / 32
+    }
+
+    fn make(
+        alloc: Global,
+        skipped: u32,
+        slots: usize,
+        maximum: usize,
+        hasher: H,
+    ) -> Result<Self, MakeError>
+    where
+        H: Drop,
+    {
+        Owned::skipping(alloc, skipped, slots, hasher)
+    }
+
+    ghost one_limit = { λ _ _ m n p q. both_same m n 0 p q };
+
+    ghost moves_alike = { λ g old new call copy reply given pc pr c r m. means_alike ⟦<IndexCall<K, V> as PartialEq>⟧.eq ⟦<Reply<K, V> as PartialEq>⟧.eq (IndexMoves K.eq) pc pr old new call copy reply given c r m };
+
+    ghost call_is_whole = { λ g n before after old new call reply routed key s. means_whole ⟦<IndexCall<K, V> as PartialEq>⟧.eq ⟦<Reply<K, V> as PartialEq>⟧.eq (IndexMoves K.eq) K.eq index_key (Prim.search rules) (λ k. stripe_number n (hash_of H.BuildHasher H.Hasher.Hasher g.hasher (K.hash_input k))) (routes_alike K.eq K.hash_input (λ w. stripe_number n (hash_of H.BuildHasher H.Hasher.Hasher g.hasher w)) K.Hash.respects_eq) (IndexWholeMoves K.eq (λ k. stripe_number n (hash_of H.BuildHasher H.Hasher.Hasher g.hasher (K.hash_input k)) == length before)) (length before) old new (joined (before ++ old ∷ after)) (joined (before ++ new ∷ after)) call reply key (λ made given k m. index_call_is_whole K.eq (λ k. stripe_number n (hash_of H.BuildHasher H.Hasher.Hasher g.hasher (K.hash_input k))) (routes_alike K.eq K.hash_input (λ w. stripe_number n (hash_of H.BuildHasher H.Hasher.Hasher g.hasher w)) K.Hash.respects_eq) before after old new made given routed k m) s };
+
+    ghost resize_is_whole = { λ g n before after old new buckets routed s. resize_joined g before after old new buckets s };
+
+    ghost call_keeps = { λ g n i old new call reply routed key s. means_keeps ⟦<IndexCall<K, V> as PartialEq>⟧.eq ⟦<Reply<K, V> as PartialEq>⟧.eq (IndexMoves K.eq) K.eq index_key (Prim.search rules) (λ k. stripe_number n (hash_of H.BuildHasher H.Hasher.Hasher g.hasher (K.hash_input k))) (routes_alike K.eq K.hash_input (λ w. stripe_number n (hash_of H.BuildHasher H.Hasher.Hasher g.hasher w)) K.Hash.respects_eq) i old new call reply key (λ made given k m. index_call_keeps K.eq (λ k. stripe_number n (hash_of H.BuildHasher H.Hasher.Hasher g.hasher (K.hash_input k))) (routes_alike K.eq K.hash_input (λ w. stripe_number n (hash_of H.BuildHasher H.Hasher.Hasher g.hasher w)) K.Hash.respects_eq) i old new made given routed k m) s };
+
+    ghost resize_keeps = { λ g n i old new buckets routed s. map_resize_keeps g (λ k. stripe_number n (hash_of H.BuildHasher H.Hasher.Hasher g.hasher (K.hash_input k))) i old new buckets routed s };
+
+    ghost empty_keeps = { λ _ _ _ _. tt };
+}
+
+// What `==` of replies is. It does nothing.
+fn equal_replies<R: PartialEq>()
+    ensures { IsPartialEquivalence R.eq }
+{}
+
+// Makes what the call wants but its version, if it may bring in a key.
+fn make_room<K: Eq + Hash, V, H: BuildHasher>(
+    index: &mut Owned<K, V, H>,
+    call: &IndexCall<K, V>,
+) -> Result<(), Refused>
+    ensures made { OnOk result (IndexIsMade K.eq (key_hash H.BuildHasher H.Hasher.Hasher K.hash_input index.new)
+        index.new call.now) }
+    ensures stays { Stays (λ s. s.1) (ResizesTo (setting_of index.old)) (state_of index.old) (state_of index.new) }
+    ensures settings { settings_of index.new ≡ settings_of index.old }
+    ensures grows { bucket_count index.old ≤ bucket_count index.new }
+    ensures adds { bucket_count index.new ≢ bucket_count index.old → index_adds call.now }
+    ensures refused { OnErr result (IndexMayRefuse K.eq (state_of index.old) call.now) }
+    ensures still { IndexMayRefuse K.eq (state_of index.new) call.now
+        → IndexMayRefuse K.eq (state_of index.old) call.now }
+{
+    match call {
+        IndexCall::Insert(k, _) => make_room_for(index, k),
+        _ => Ok(()),
+    }
+}
+
+// Makes what an insertion of the key wants but its version.
+fn make_room_for<K: Eq + Hash, V, H: BuildHasher>(
+    index: &mut Owned<K, V, H>,
+    k: &K,
+) -> Result<(), Refused>
+    ensures made { OnOk result (IndexIsMadeFor K.eq (key_hash H.BuildHasher H.Hasher.Hasher K.hash_input index.new)
+        index.new k.now) }
+    ensures stays { Stays (λ s. s.1) (ResizesTo (setting_of index.old)) (state_of index.old) (state_of index.new) }
+    ensures settings { settings_of index.new ≡ settings_of index.old }
+    ensures grows { bucket_count index.old ≤ bucket_count index.new }
+    ensures refused { OnErr result (find K.eq (entries index.old) k.now ≡ None) }
+    ensures still { find K.eq (entries index.new) k.now ≡ None → find K.eq (entries index.old) k.now ≡ None }
+{
+    match index.make_room(k) {
+        Ok(()) => Ok(()),
+        Err(_) => Err(Refused),
+    }
+}
+
+// Two copies of the reply that the call gives next.
+fn copies<K: Eq + Hash + Clone, V: Clone + PartialEq, H: BuildHasher>(
+    index: &Owned<K, V, H>,
+    call: &IndexCall<K, V>,
+) -> Result<(Reply<K, V>, Reply<K, V>), Refused>
+    requires clones { ClonesEqual ⟦<Reply<K, V> as Clone>⟧.is_clone ⟦<Reply<K, V> as PartialEq>⟧.eq }
+    ensures ok { IfOk result (λ r. (⟦<Reply<K, V> as PartialEq>⟧.eq (index_answer K.eq (entries index.now) call.now)
+        r.0 ≡ true) × (⟦<Reply<K, V> as PartialEq>⟧.eq (index_answer K.eq (entries index.now) call.now) r.1 ≡ true)) }
+    ensures refused { OnErr result (IsSome (index_key call.now) × MayNotClone ⟦<Reply<K, V> as Clone>⟧.is_infallible) }
+{
+    let first = copy(index, call)?;
+    let second = copy(index, call)?;
+    Ok((first, second))
+}
+
+// A copy of the reply that the call gives next.
+fn copy<K: Eq + Hash + Clone, V: Clone + PartialEq, H: BuildHasher>(
+    index: &Owned<K, V, H>,
+    call: &IndexCall<K, V>,
+) -> Result<Reply<K, V>, Refused>
+    requires clones { ClonesEqual ⟦<Reply<K, V> as Clone>⟧.is_clone ⟦<Reply<K, V> as PartialEq>⟧.eq }
+    ensures ok { IfOk result (λ r. ⟦<Reply<K, V> as PartialEq>⟧.eq (index_answer K.eq (entries index.now) call.now) r
+        ≡ true) }
+    ensures refused { OnErr result (IsSome (index_key call.now) × MayNotClone ⟦<Reply<K, V> as Clone>⟧.is_infallible) }
+{
+    match call {
+        IndexCall::Insert(k, v) => {
+            if !index.contains(k) {
+                return Ok(Reply::Inserted);
+            }
+            let Ok(key) = k.clone() else {
+                return Err(Refused);
+            };
+            let Ok(value) = v.clone() else {
+                return Err(Refused);
+            };
+            Ok(Reply::Exists(key, value))
+        }
+        IndexCall::Update(k, _) => Ok(Reply::Has(index.contains(k))),
+        IndexCall::Remove(k) => Ok(Reply::Has(index.contains(k))),
+        IndexCall::Read(k) => match index.cloned_value(k) {
+            Ok(value) => Ok(Reply::Value(value)),
+            Err(_) => Err(Refused),
+        },
+        IndexCall::Contains(k) => Ok(Reply::Has(index.contains(k))),
+        IndexCall::Clear => Ok(Reply::Cleared),
+        IndexCall::Len => Ok(Reply::Count(index.len())),
+    }
+}

@@ -1,0 +1,277 @@
+//! The calls of the owned map as values.
+ghost use Rattle.std.specs.Prelude.{◌≡◌, ◌≢◌, ◌≤◌, ◌⊎◌, true, None, Some, IfOk, IsSome, OnOk, OnErr};
+ghost use Rattle.std.specs.Cmp.{IsPartialEquivalence};
+ghost use Rattle.scc_contents.specs.Contents.{entries, bucket_count, settings_of, key_hash};
+ghost use Rattle.scc_contents.specs.Hashing.{hash_of};
+ghost use Rattle.scc_contents.specs.Pairs.{find};
+ghost use Rattle.scc_calls.specs.Changes.{Stays};
+ghost use Rattle.scc_calls.specs.Copies.{ClonesEqual, MayNotClone};
+ghost use Rattle.scc_calls.specs.MapCalls.{map_adds, map_answer, map_key, MapIsMade, MapIsMadeFor, MapMayRefuse, MapRefuses};
+ghost use Rattle.scc_calls.specs.States.{ResizesTo, setting_of, state_of};
+
+use crate::{Calls, MapCall, Refused, Reply};
+use scc_common::{InsertError, MakeError};
+use scc_map::Owned;
+use scc_map::owned::ReplaceResult;
+use std::alloc::Global;
+use std::hash::{BuildHasher, Hash};
+
+impl<K: Eq + Hash + Clone, V: Clone + PartialEq, H: BuildHasher> Calls for Owned<K, V, H> {
+    type Key = K;
+
+    type Hasher = H;
+
+    type Call = MapCall<K, V>;
+
+    type Reply = Reply<K, V>;
+
+    ghost use Rattle.std.specs.Prelude.{◌≡◌, ◌==◌, [], ◌∷◌, ◌++◌, List, length};
+    ghost use Rattle.std.specs.List.Sorted.{IsPermutation};
+    ghost use Rattle.std.specs.Map.{keys_of};
+    ghost use Rattle.scc_contents.specs.Hashing.{hash_of};
+    ghost use Rattle.scc_calls.specs.MapLaws.{routes_alike, both_same, map_call_is_whole, map_call_keeps, map_resize_keeps, resize_joined};
+    ghost use Rattle.scc_calls.specs.MapWhole.{joined, MapWholeMoves};
+    ghost use Rattle.scc_contents.specs.Routing.{stripe_number};
+    ghost use Rattle.scc_calls.specs.MapCalls.{map_adds, map_key, MapIsReady, MapMoves, MapMayRefuse};
+    ghost use Rattle.scc_calls.specs.Copies.{Means};
+    ghost use Rattle.scc_calls.specs.Means.{means_alike, means_keeps, means_whole};
+    ghost use Rattle.std.proofs.Common.{rules};
+    ghost use Rattle.scc_contents.specs.Contents.{key_hash};
+    ghost use Rattle.scc_calls.specs.States.{State, state_of, setting_of, ResizesTo};
+
+    ghost State = { State (K × V) };
+
+    ghost Whole = { List (K × V) };
+
+    ghost setting = { setting_of };
+
+    ghost state = { state_of };
+
+    ghost size = { λ s. s.1 };
+
+    ghost empty = { λ b. ([], b) };
+
+    ghost limits = { λ _ _ m. m ≡ 0 };
+
+    ghost keys = { λ s. keys_of s.0 };
+
+    ghost key_of = { map_key };
+
+    ghost moves = { λ _. Means ⟦<MapCall<K, V> as PartialEq>⟧.eq ⟦<Reply<K, V> as PartialEq>⟧.eq (MapMoves K.eq) };
+
+    ghost resizes = { ResizesTo };
+
+    ghost may_refuse = { MapMayRefuse K.eq (λ h k. hash_of H.BuildHasher H.Hasher.Hasher h (K.hash_input k)) };
+
+    ghost adds = { map_adds };
+
+    ghost is_ready = { λ m. MapIsReady K.eq (key_hash H.BuildHasher H.Hasher.Hasher K.hash_input m) m ⟦<Reply<K, V> as PartialEq>⟧.eq };
+
+    ghost whole = { joined };
+
+    ghost whole_moves = { λ g n i. Means ⟦<MapCall<K, V> as PartialEq>⟧.eq ⟦<Reply<K, V> as PartialEq>⟧.eq (MapWholeMoves K.eq (λ k. stripe_number n (hash_of H.BuildHasher H.Hasher.Hasher g.hasher (K.hash_input k)) == i)) };
+
+    ghost whole_resizes = { λ _ _ _ w _ v. IsPermutation w v };
+
+    fn key(call: &MapCall<K, V>) -> Option<&K> {
+        match call {
+            MapCall::Insert(k, _) => Some(k),
+            MapCall::Upsert(k, _) => Some(k),
+            MapCall::Replace(k) => Some(k),
+            MapCall::Read(k) => Some(k),
+            MapCall::Contains(k) => Some(k),
+            MapCall::Remove(k) => Some(k),
+            MapCall::Clear => None,
+            MapCall::Len => None,
+        }
+    }
+
+    fn ready(&mut self, call: &MapCall<K, V>) -> Result<(Reply<K, V>, Reply<K, V>), Refused> {
+        make_room(self, call)?;
+        match copies(self, call) {
+            Ok(both) => Ok(both),
+            Err(Refused) => {
+                self.drop_room();
+                Err(Refused)
+            }
+        }
+    }
+
+    fn call(&mut self, call: MapCall<K, V>) -> Result<Reply<K, V>, Refused> {
+        equal_replies::<Reply<K, V>>();
+        match call {
+            MapCall::Insert(k, v) => match self.insert_sync(k, v) {
+                Ok(()) => Ok(Reply::Inserted),
+                Err(InsertError::Exists((k, v))) => Ok(Reply::Exists(k, v)),
+                Err(InsertError::Memory(_)) => Err(Refused),
+            },
+            MapCall::Upsert(k, v) => match self.upsert_sync(k, v) {
+                Ok(old) => Ok(Reply::Old(old)),
+                Err(_) => Err(Refused),
+            },
+            MapCall::Replace(k) => match self.replace_sync(k) {
+                ReplaceResult::Replaced(_entry, old) => Ok(Reply::Key(Some(old))),
+                ReplaceResult::NotReplaced(entry) => {
+                    entry.into_key();
+                    Ok(Reply::Key(None))
+                }
+            },
+            MapCall::Read(k) => match self.cloned_value(&k) {
+                Ok(value) => Ok(Reply::Value(value)),
+                Err(_) => Err(Refused),
+            },
+            MapCall::Contains(k) => Ok(Reply::Has(self.contains_sync(&k))),
+            MapCall::Remove(k) => Ok(Reply::Pair(self.remove_sync(&k))),
+            MapCall::Clear => {
+                self.clear_sync();
+                Ok(Reply::Cleared)
+            }
+            MapCall::Len => Ok(Reply::Count(self.len())),
+        }
+    }
+
+    fn buckets(&self) -> usize {
+        self.capacity() / 32
+    }
+
+    fn make(
+        alloc: Global,
+        skipped: u32,
+        slots: usize,
+        maximum: usize,
+        hasher: H,
+    ) -> Result<Self, MakeError>
+    where
+        H: Drop,
+    {
+        Owned::skipping(alloc, skipped, slots, hasher)
+    }
+
+    ghost one_limit = { λ _ _ m n p q. both_same m n 0 p q };
+
+    ghost moves_alike = { λ g old new call copy reply given pc pr c r m. means_alike ⟦<MapCall<K, V> as PartialEq>⟧.eq ⟦<Reply<K, V> as PartialEq>⟧.eq (MapMoves K.eq) pc pr old new call copy reply given c r m };
+
+    ghost call_is_whole = { λ g n before after old new call reply routed key s. means_whole ⟦<MapCall<K, V> as PartialEq>⟧.eq ⟦<Reply<K, V> as PartialEq>⟧.eq (MapMoves K.eq) K.eq map_key (Prim.search rules) (λ k. stripe_number n (hash_of H.BuildHasher H.Hasher.Hasher g.hasher (K.hash_input k))) (routes_alike K.eq K.hash_input (λ w. stripe_number n (hash_of H.BuildHasher H.Hasher.Hasher g.hasher w)) K.Hash.respects_eq) (MapWholeMoves K.eq (λ k. stripe_number n (hash_of H.BuildHasher H.Hasher.Hasher g.hasher (K.hash_input k)) == length before)) (length before) old new (joined (before ++ old ∷ after)) (joined (before ++ new ∷ after)) call reply key (λ made given k m. map_call_is_whole K.eq (λ k. stripe_number n (hash_of H.BuildHasher H.Hasher.Hasher g.hasher (K.hash_input k))) (routes_alike K.eq K.hash_input (λ w. stripe_number n (hash_of H.BuildHasher H.Hasher.Hasher g.hasher w)) K.Hash.respects_eq) before after old new made given routed k m) s };
+
+    ghost resize_is_whole = { λ g n before after old new buckets routed s. resize_joined g before after old new buckets s };
+
+    ghost call_keeps = { λ g n i old new call reply routed key s. means_keeps ⟦<MapCall<K, V> as PartialEq>⟧.eq ⟦<Reply<K, V> as PartialEq>⟧.eq (MapMoves K.eq) K.eq map_key (Prim.search rules) (λ k. stripe_number n (hash_of H.BuildHasher H.Hasher.Hasher g.hasher (K.hash_input k))) (routes_alike K.eq K.hash_input (λ w. stripe_number n (hash_of H.BuildHasher H.Hasher.Hasher g.hasher w)) K.Hash.respects_eq) i old new call reply key (λ made given k m. map_call_keeps K.eq (λ k. stripe_number n (hash_of H.BuildHasher H.Hasher.Hasher g.hasher (K.hash_input k))) (routes_alike K.eq K.hash_input (λ w. stripe_number n (hash_of H.BuildHasher H.Hasher.Hasher g.hasher w)) K.Hash.respects_eq) i old new made given routed k m) s };
+
+    ghost resize_keeps = { λ g n i old new buckets routed s. map_resize_keeps g (λ k. stripe_number n (hash_of H.BuildHasher H.Hasher.Hasher g.hasher (K.hash_input k))) i old new buckets routed s };
+
+    ghost empty_keeps = { λ _ _ _ _. tt };
+}
+
+// What `==` of replies is. It does nothing.
+fn equal_replies<R: PartialEq>()
+    ensures { IsPartialEquivalence R.eq }
+{}
+
+// Makes what the call wants, if it may bring in a key.
+fn make_room<K: Eq + Hash, V, H: BuildHasher>(
+    map: &mut Owned<K, V, H>,
+    call: &MapCall<K, V>,
+) -> Result<(), Refused>
+    ensures made { OnOk result (MapIsMade K.eq (key_hash H.BuildHasher H.Hasher.Hasher K.hash_input map.new) map.new
+        call.now) }
+    ensures stays { Stays (λ s. s.1) (ResizesTo (setting_of map.old)) (state_of map.old) (state_of map.new) }
+    ensures settings { settings_of map.new ≡ settings_of map.old }
+    ensures grows { bucket_count map.old ≤ bucket_count map.new }
+    ensures adds { bucket_count map.new ≢ bucket_count map.old → map_adds call.now }
+    ensures refused { OnErr result (MapMayRefuse K.eq
+        (λ h k. hash_of H.BuildHasher H.Hasher.Hasher h (K.hash_input k)) (setting_of map.old) (state_of map.old)
+        call.now) }
+    ensures still { MapMayRefuse K.eq (λ h k. hash_of H.BuildHasher H.Hasher.Hasher h (K.hash_input k))
+        (setting_of map.old) (state_of map.new) call.now
+        → MapMayRefuse K.eq (λ h k. hash_of H.BuildHasher H.Hasher.Hasher h (K.hash_input k)) (setting_of map.old)
+        (state_of map.old) call.now }
+{
+    match call {
+        MapCall::Insert(k, _) => make_room_for(map, k),
+        MapCall::Upsert(k, _) => make_room_for(map, k),
+        _ => Ok(()),
+    }
+}
+
+// Makes what an insertion of the key wants.
+fn make_room_for<K: Eq + Hash, V, H: BuildHasher>(
+    map: &mut Owned<K, V, H>,
+    k: &K,
+) -> Result<(), Refused>
+    ensures made { OnOk result (MapIsMadeFor K.eq (key_hash H.BuildHasher H.Hasher.Hasher K.hash_input map.new)
+        map.new k.now) }
+    ensures stays { Stays (λ s. s.1) (ResizesTo (setting_of map.old)) (state_of map.old) (state_of map.new) }
+    ensures settings { settings_of map.new ≡ settings_of map.old }
+    ensures grows { bucket_count map.old ≤ bucket_count map.new }
+    ensures refused { OnErr result (MapRefuses K.eq (λ h k. hash_of H.BuildHasher H.Hasher.Hasher h (K.hash_input k))
+        (setting_of map.old) (state_of map.old) k.now) }
+    ensures still { MapRefuses K.eq (λ h k. hash_of H.BuildHasher H.Hasher.Hasher h (K.hash_input k))
+        (setting_of map.old) (state_of map.new) k.now
+        → MapRefuses K.eq (λ h k. hash_of H.BuildHasher H.Hasher.Hasher h (K.hash_input k)) (setting_of map.old)
+        (state_of map.old) k.now }
+{
+    match map.make_room(k) {
+        Ok(()) => Ok(()),
+        Err(_) => Err(Refused),
+    }
+}
+
+// Two copies of the reply that the call gives next.
+fn copies<K: Eq + Hash + Clone, V: Clone + PartialEq, H: BuildHasher>(
+    map: &Owned<K, V, H>,
+    call: &MapCall<K, V>,
+) -> Result<(Reply<K, V>, Reply<K, V>), Refused>
+    requires clones { ClonesEqual ⟦<Reply<K, V> as Clone>⟧.is_clone ⟦<Reply<K, V> as PartialEq>⟧.eq }
+    ensures ok { IfOk result (λ r. (⟦<Reply<K, V> as PartialEq>⟧.eq (map_answer K.eq (entries map.now) call.now) r.0
+        ≡ true) × (⟦<Reply<K, V> as PartialEq>⟧.eq (map_answer K.eq (entries map.now) call.now) r.1 ≡ true)) }
+    ensures refused { OnErr result (IsSome (map_key call.now) × MayNotClone ⟦<Reply<K, V> as Clone>⟧.is_infallible) }
+{
+    let first = copy(map, call)?;
+    let second = copy(map, call)?;
+    Ok((first, second))
+}
+
+// A copy of the reply that the call gives next.
+fn copy<K: Eq + Hash + Clone, V: Clone + PartialEq, H: BuildHasher>(
+    map: &Owned<K, V, H>,
+    call: &MapCall<K, V>,
+) -> Result<Reply<K, V>, Refused>
+    requires clones { ClonesEqual ⟦<Reply<K, V> as Clone>⟧.is_clone ⟦<Reply<K, V> as PartialEq>⟧.eq }
+    ensures ok { IfOk result (λ r. ⟦<Reply<K, V> as PartialEq>⟧.eq (map_answer K.eq (entries map.now) call.now) r
+        ≡ true) }
+    ensures refused { OnErr result (IsSome (map_key call.now) × MayNotClone ⟦<Reply<K, V> as Clone>⟧.is_infallible) }
+{
+    match call {
+        MapCall::Insert(k, v) => {
+            if !map.contains_sync(k) {
+                return Ok(Reply::Inserted);
+            }
+            let Ok(key) = k.clone() else {
+                return Err(Refused);
+            };
+            let Ok(value) = v.clone() else {
+                return Err(Refused);
+            };
+            Ok(Reply::Exists(key, value))
+        }
+        MapCall::Upsert(k, _) => match map.cloned_value(k) {
+            Ok(value) => Ok(Reply::Old(value)),
+            Err(_) => Err(Refused),
+        },
+        MapCall::Replace(k) => match map.cloned_key(k) {
+            Ok(key) => Ok(Reply::Key(key)),
+            Err(_) => Err(Refused),
+        },
+        MapCall::Read(k) => match map.cloned_value(k) {
+            Ok(value) => Ok(Reply::Value(value)),
+            Err(_) => Err(Refused),
+        },
+        MapCall::Contains(k) => Ok(Reply::Has(map.contains_sync(k))),
+        MapCall::Remove(k) => match map.cloned_pair(k) {
+            Ok(pair) => Ok(Reply::Pair(pair)),
+            Err(_) => Err(Refused),
+        },
+        MapCall::Clear => Ok(Reply::Cleared),
+        MapCall::Len => Ok(Reply::Count(map.len())),
+    }
+}

@@ -1,0 +1,28 @@
+//! Parts that are made alike.
+ghost use Rattle.std.specs.Prelude.{◌≡◌, IfOk};
+
+use crate::Calls;
+use scc_common::{MakeError, TryShare};
+use std::alloc::Global;
+
+/// Two empty parts under one hasher. Nothing tells them apart.
+pub fn two_parts<C: Calls + Drop>(
+    alloc: Global,
+    slots: usize,
+    maximum: usize,
+    hasher: C::Hasher,
+) -> Result<(C, C), MakeError>
+where
+    C::Hasher: TryShare + Drop,
+    ensures setting { IfOk result (λ p. C.setting p.0 ≡ C.setting p.1) }
+    ensures state { IfOk result (λ p. C.state p.0 ≡ C.state p.1) }
+    ensures skipped { IfOk result (λ p. (C.setting p.0).skipped ≡ 1) }
+    ensures hasher { IfOk result (λ p. (C.setting p.0).hasher ≡ hasher) }
+{
+    let Ok(another) = hasher.share() else {
+        return Err(MakeError);
+    };
+    let first = C::make(alloc, 1, slots, maximum, hasher)?;
+    let second = C::make(alloc, 1, slots, maximum, another)?;
+    Ok((first, second))
+}

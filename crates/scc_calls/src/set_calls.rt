@@ -1,0 +1,269 @@
+//! The calls of the owned set as values.
+ghost use Rattle.std.specs.Prelude.{◌≡◌, ◌≢◌, ◌≤◌, ◌⊎◌, true, None, Some, IfOk, IsSome, OnOk, OnErr};
+ghost use Rattle.std.specs.Cmp.{IsPartialEquivalence};
+ghost use Rattle.scc_contents.specs.Contents.{entries, bucket_count, settings_of, key_hash};
+ghost use Rattle.scc_contents.specs.Hashing.{hash_of};
+ghost use Rattle.scc_set.specs.Keys.{find};
+ghost use Rattle.scc_calls.specs.Changes.{Stays};
+ghost use Rattle.scc_calls.specs.Copies.{ClonesEqual, MayNotClone};
+ghost use Rattle.scc_calls.specs.SetCalls.{key_of_set, set_adds, set_answer, SetIsMade, SetIsMadeFor, SetMayRefuse, SetRefuses};
+ghost use Rattle.scc_calls.specs.States.{ResizesTo, setting_of, state_of};
+ghost use Rattle.scc_calls.specs.declared.replies.Reply.TheVariants.{Key};
+
+use crate::{Calls, Refused, Reply, SetCall};
+use scc_common::{KeyError, MakeError};
+use scc_set::Owned;
+use std::alloc::Global;
+use std::hash::{BuildHasher, Hash};
+
+impl<K: Eq + Hash + Clone, H: BuildHasher> Calls for Owned<K, H> {
+    type Key = K;
+
+    type Hasher = H;
+
+    type Call = SetCall<K>;
+
+    type Reply = Reply<K, ()>;
+
+    ghost use Rattle.std.specs.Prelude.{◌≡◌, ◌==◌, [], ◌∷◌, ◌++◌, List, length};
+    ghost use Rattle.std.specs.List.Sorted.{IsPermutation};
+    ghost use Rattle.scc_contents.specs.Hashing.{hash_of};
+    ghost use Rattle.scc_calls.specs.MapLaws.{routes_alike, both_same, resize_joined};
+    ghost use Rattle.scc_calls.specs.MapWhole.{joined};
+    ghost use Rattle.scc_contents.specs.Routing.{stripe_number};
+    ghost use Rattle.scc_calls.specs.SetCalls.{key_of_set, set_adds, SetIsReady, SetMoves, SetMayRefuse};
+    ghost use Rattle.scc_calls.specs.Copies.{Means};
+    ghost use Rattle.scc_calls.specs.Means.{means_alike, means_keeps, means_whole};
+    ghost use Rattle.std.proofs.Common.{rules};
+    ghost use Rattle.scc_contents.specs.Contents.{key_hash};
+    ghost use Rattle.scc_calls.specs.SetLaws.{set_call_is_whole, set_call_keeps, set_resize_keeps};
+    ghost use Rattle.scc_calls.specs.SetWhole.{SetWholeMoves};
+    ghost use Rattle.scc_calls.specs.States.{State, state_of, setting_of, ResizesTo};
+
+    ghost State = { State K };
+
+    ghost Whole = { List K };
+
+    ghost setting = { setting_of };
+
+    ghost state = { state_of };
+
+    ghost size = { λ s. s.1 };
+
+    ghost empty = { λ b. ([], b) };
+
+    ghost limits = { λ _ _ m. m ≡ 0 };
+
+    ghost keys = { λ s. s.0 };
+
+    ghost key_of = { key_of_set };
+
+    ghost moves = { λ _. Means ⟦<SetCall<K> as PartialEq>⟧.eq ⟦<Reply<K, ()> as PartialEq>⟧.eq (SetMoves K.eq) };
+
+    ghost resizes = { ResizesTo };
+
+    ghost may_refuse = { SetMayRefuse K.eq (λ h k. hash_of H.BuildHasher H.Hasher.Hasher h (K.hash_input k)) };
+
+    ghost adds = { set_adds };
+
+    ghost is_ready = { λ m. SetIsReady K.eq (key_hash H.BuildHasher H.Hasher.Hasher K.hash_input m) m ⟦<Reply<K, ()> as PartialEq>⟧.eq };
+
+    ghost whole = { joined };
+
+    ghost whole_moves = { λ g n i. Means ⟦<SetCall<K> as PartialEq>⟧.eq ⟦<Reply<K, ()> as PartialEq>⟧.eq (SetWholeMoves K.eq (λ k. stripe_number n (hash_of H.BuildHasher H.Hasher.Hasher g.hasher (K.hash_input k)) == i)) };
+
+    ghost whole_resizes = { λ _ _ _ w _ v. IsPermutation w v };
+
+    fn key(call: &SetCall<K>) -> Option<&K> {
+        match call {
+            SetCall::Insert(k) => Some(k),
+            SetCall::Replace(k) => Some(k),
+            SetCall::Remove(k) => Some(k),
+            SetCall::Read(k) => Some(k),
+            SetCall::Contains(k) => Some(k),
+            SetCall::Clear => None,
+            SetCall::Len => None,
+        }
+    }
+
+    fn ready(&mut self, call: &SetCall<K>) -> Result<(Reply<K, ()>, Reply<K, ()>), Refused> {
+        make_room(self, call)?;
+        match copies(self, call) {
+            Ok(both) => Ok(both),
+            Err(Refused) => {
+                self.drop_room();
+                Err(Refused)
+            }
+        }
+    }
+
+    fn call(&mut self, call: SetCall<K>) -> Result<Reply<K, ()>, Refused> {
+        equal_replies::<Reply<K, ()>>();
+        match call {
+            SetCall::Insert(k) => match self.insert_sync(k) {
+                Ok(()) => Ok(Reply::Inserted),
+                Err(KeyError::Exists(k)) => Ok(Reply::Exists(k, ())),
+                Err(KeyError::Memory(_)) => Err(Refused),
+            },
+            SetCall::Replace(k) => match self.replace_sync(k) {
+                Ok(old) => Ok(Reply::Key(old)),
+                Err(_) => Err(Refused),
+            },
+            SetCall::Remove(k) => Ok(Reply::Key(self.remove_sync(&k))),
+            SetCall::Read(k) => match self.cloned_key(&k) {
+                Ok(key) => Ok(Reply::Key(key)),
+                Err(_) => Err(Refused),
+            },
+            SetCall::Contains(k) => Ok(Reply::Has(self.contains_sync(&k))),
+            SetCall::Clear => {
+                self.clear_sync();
+                Ok(Reply::Cleared)
+            }
+            SetCall::Len => Ok(Reply::Count(self.len())),
+        }
+    }
+
+    fn buckets(&self) -> usize {
+        self.capacity() / 32
+    }
+
+    fn make(
+        alloc: Global,
+        skipped: u32,
+        slots: usize,
+        maximum: usize,
+        hasher: H,
+    ) -> Result<Self, MakeError>
+    where
+        H: Drop,
+    {
+        Owned::skipping(alloc, skipped, slots, hasher)
+    }
+
+    ghost one_limit = { λ _ _ m n p q. both_same m n 0 p q };
+
+    ghost moves_alike = { λ g old new call copy reply given pc pr c r m. means_alike ⟦<SetCall<K> as PartialEq>⟧.eq ⟦<Reply<K, ()> as PartialEq>⟧.eq (SetMoves K.eq) pc pr old new call copy reply given c r m };
+
+    ghost call_is_whole = { λ g n before after old new call reply routed key s. means_whole ⟦<SetCall<K> as PartialEq>⟧.eq ⟦<Reply<K, ()> as PartialEq>⟧.eq (SetMoves K.eq) K.eq key_of_set (Prim.search rules) (λ k. stripe_number n (hash_of H.BuildHasher H.Hasher.Hasher g.hasher (K.hash_input k))) (routes_alike K.eq K.hash_input (λ w. stripe_number n (hash_of H.BuildHasher H.Hasher.Hasher g.hasher w)) K.Hash.respects_eq) (SetWholeMoves K.eq (λ k. stripe_number n (hash_of H.BuildHasher H.Hasher.Hasher g.hasher (K.hash_input k)) == length before)) (length before) old new (joined (before ++ old ∷ after)) (joined (before ++ new ∷ after)) call reply key (λ made given k m. set_call_is_whole K.eq (λ k. stripe_number n (hash_of H.BuildHasher H.Hasher.Hasher g.hasher (K.hash_input k))) (routes_alike K.eq K.hash_input (λ w. stripe_number n (hash_of H.BuildHasher H.Hasher.Hasher g.hasher w)) K.Hash.respects_eq) before after old new made given routed k m) s };
+
+    ghost resize_is_whole = { λ g n before after old new buckets routed s. resize_joined g before after old new buckets s };
+
+    ghost call_keeps = { λ g n i old new call reply routed key s. means_keeps ⟦<SetCall<K> as PartialEq>⟧.eq ⟦<Reply<K, ()> as PartialEq>⟧.eq (SetMoves K.eq) K.eq key_of_set (Prim.search rules) (λ k. stripe_number n (hash_of H.BuildHasher H.Hasher.Hasher g.hasher (K.hash_input k))) (routes_alike K.eq K.hash_input (λ w. stripe_number n (hash_of H.BuildHasher H.Hasher.Hasher g.hasher w)) K.Hash.respects_eq) i old new call reply key (λ made given k m. set_call_keeps K.eq (λ k. stripe_number n (hash_of H.BuildHasher H.Hasher.Hasher g.hasher (K.hash_input k))) (routes_alike K.eq K.hash_input (λ w. stripe_number n (hash_of H.BuildHasher H.Hasher.Hasher g.hasher w)) K.Hash.respects_eq) i old new made given routed k m) s };
+
+    ghost resize_keeps = { λ g n i old new buckets routed s. set_resize_keeps g (λ k. stripe_number n (hash_of H.BuildHasher H.Hasher.Hasher g.hasher (K.hash_input k))) i old new buckets routed s };
+
+    ghost empty_keeps = { λ _ _ _ _. tt };
+}
+
+// What `==` of replies is. It does nothing.
+fn equal_replies<R: PartialEq>()
+    ensures { IsPartialEquivalence R.eq }
+{}
+
+// Makes what the call wants, if it may bring in a key.
+fn make_room<K: Eq + Hash, H: BuildHasher>(
+    set: &mut Owned<K, H>,
+    call: &SetCall<K>,
+) -> Result<(), Refused>
+    ensures made { OnOk result (SetIsMade K.eq (key_hash H.BuildHasher H.Hasher.Hasher K.hash_input set.new) set.new
+        call.now) }
+    ensures stays { Stays (λ s. s.1) (ResizesTo (setting_of set.old)) (state_of set.old) (state_of set.new) }
+    ensures settings { settings_of set.new ≡ settings_of set.old }
+    ensures grows { bucket_count set.old ≤ bucket_count set.new }
+    ensures adds { bucket_count set.new ≢ bucket_count set.old → set_adds call.now }
+    ensures refused { OnErr result (SetMayRefuse K.eq
+        (λ h k. hash_of H.BuildHasher H.Hasher.Hasher h (K.hash_input k)) (setting_of set.old) (state_of set.old)
+        call.now) }
+    ensures still { SetMayRefuse K.eq (λ h k. hash_of H.BuildHasher H.Hasher.Hasher h (K.hash_input k))
+        (setting_of set.old) (state_of set.new) call.now
+        → SetMayRefuse K.eq (λ h k. hash_of H.BuildHasher H.Hasher.Hasher h (K.hash_input k)) (setting_of set.old)
+        (state_of set.old) call.now }
+{
+    match call {
+        SetCall::Insert(k) => make_room_for(set, k),
+        SetCall::Replace(k) => make_room_for(set, k),
+        _ => Ok(()),
+    }
+}
+
+// Makes what an insertion of the key wants.
+fn make_room_for<K: Eq + Hash, H: BuildHasher>(set: &mut Owned<K, H>, k: &K) -> Result<(), Refused>
+    ensures made { OnOk result (SetIsMadeFor K.eq (key_hash H.BuildHasher H.Hasher.Hasher K.hash_input set.new)
+        set.new k.now) }
+    ensures stays { Stays (λ s. s.1) (ResizesTo (setting_of set.old)) (state_of set.old) (state_of set.new) }
+    ensures settings { settings_of set.new ≡ settings_of set.old }
+    ensures grows { bucket_count set.old ≤ bucket_count set.new }
+    ensures refused { OnErr result (SetRefuses K.eq (λ h k. hash_of H.BuildHasher H.Hasher.Hasher h (K.hash_input k))
+        (setting_of set.old) (state_of set.old) k.now) }
+    ensures still { SetRefuses K.eq (λ h k. hash_of H.BuildHasher H.Hasher.Hasher h (K.hash_input k))
+        (setting_of set.old) (state_of set.new) k.now
+        → SetRefuses K.eq (λ h k. hash_of H.BuildHasher H.Hasher.Hasher h (K.hash_input k)) (setting_of set.old)
+        (state_of set.old) k.now }
+{
+    match set.make_room(k) {
+        Ok(()) => Ok(()),
+        Err(_) => Err(Refused),
+    }
+}
+
+// Two copies of the reply that the call gives next.
+fn copies<K: Eq + Hash + Clone, H: BuildHasher>(
+    set: &Owned<K, H>,
+    call: &SetCall<K>,
+) -> Result<(Reply<K, ()>, Reply<K, ()>), Refused>
+    requires clones { ClonesEqual ⟦<Reply<K, ()> as Clone>⟧.is_clone ⟦<Reply<K, ()> as PartialEq>⟧.eq }
+    ensures ok { IfOk result (λ r. (⟦<Reply<K, ()> as PartialEq>⟧.eq (set_answer K.eq (entries set.now) call.now) r.0
+        ≡ true) × (⟦<Reply<K, ()> as PartialEq>⟧.eq (set_answer K.eq (entries set.now) call.now) r.1 ≡ true)) }
+    ensures refused { OnErr result (IsSome (key_of_set call.now)
+        × MayNotClone ⟦<Reply<K, ()> as Clone>⟧.is_infallible) }
+{
+    let first = copy(set, call)?;
+    let second = copy(set, call)?;
+    Ok((first, second))
+}
+
+// A copy of the reply that the call gives next.
+fn copy<K: Eq + Hash + Clone, H: BuildHasher>(
+    set: &Owned<K, H>,
+    call: &SetCall<K>,
+) -> Result<Reply<K, ()>, Refused>
+    requires clones { ClonesEqual ⟦<Reply<K, ()> as Clone>⟧.is_clone ⟦<Reply<K, ()> as PartialEq>⟧.eq }
+    ensures ok { IfOk result (λ r. ⟦<Reply<K, ()> as PartialEq>⟧.eq (set_answer K.eq (entries set.now) call.now) r
+        ≡ true) }
+    ensures refused { OnErr result (IsSome (key_of_set call.now)
+        × MayNotClone ⟦<Reply<K, ()> as Clone>⟧.is_infallible) }
+{
+    match call {
+        SetCall::Insert(k) => {
+            if !set.contains_sync(k) {
+                return Ok(Reply::Inserted);
+            }
+            match k.clone() {
+                Ok(key) => Ok(Reply::Exists(key, ())),
+                Err(_) => Err(Refused),
+            }
+        }
+        SetCall::Replace(k) => copy_key(set, k),
+        SetCall::Remove(k) => copy_key(set, k),
+        SetCall::Read(k) => copy_key(set, k),
+        SetCall::Contains(k) => Ok(Reply::Has(set.contains_sync(k))),
+        SetCall::Clear => Ok(Reply::Cleared),
+        SetCall::Len => Ok(Reply::Count(set.len())),
+    }
+}
+
+// A reply with a copy of the stored key.
+fn copy_key<K: Eq + Hash + Clone, H: BuildHasher>(
+    set: &Owned<K, H>,
+    k: &K,
+) -> Result<Reply<K, ()>, Refused>
+    requires clones { ClonesEqual ⟦<Reply<K, ()> as Clone>⟧.is_clone ⟦<Reply<K, ()> as PartialEq>⟧.eq }
+    ensures ok { IfOk result (λ r. ⟦<Reply<K, ()> as PartialEq>⟧.eq (Key (find K.eq (entries set.now) k.now)) r
+        ≡ true) }
+    ensures refused { OnErr result (MayNotClone ⟦<Reply<K, ()> as Clone>⟧.is_infallible) }
+{
+    match set.cloned_key(k) {
+        Ok(key) => Ok(Reply::Key(key)),
+        Err(_) => Err(Refused),
+    }
+}

@@ -1,0 +1,108 @@
+-- What a table holds, and the words by which containers see it.
+use Rattle.std.specs.Prelude.{◌≡◌, ℕ, Some, ◌+◌, ◌<◌, ◌==◌, Bool, List, [], length, map, count_by, refl}
+use Rattle.std.specs.Hash.{HashWrites}
+use Rattle.std.specs.List.{flat_map, IsDistinct, slice_get, slice_index_or}
+use Rattle.std.specs.Coded.{Coded, code_by, coded×, coded_ℕ, coded_bool, coded_list}
+use Rattle.std.specs.declared.hash.Hasher as hasher
+use Rattle.std.specs.declared.hash.BuildHasher as builder
+use Rattle.scc_contents.specs.Hashing.{hash_of}
+use Rattle.scc_contents.specs.Routing.{bucket_number}
+
+-- what is fixed at making, and what is reserved: the hasher, how many bits of a hash are skipped, the slots asked for, the slots reserved
+pub record Settings (S : Type 0) : Type 0 where
+  pub hasher : S
+  pub skipped : ℕ
+  pub asked : ℕ
+  pub reserved : ℕ
+
+-- the list of each bucket, the settings, whether the last resize that was due was refused and whether the next insertion is not to try it again, and how many entries lie in overflow lists; then of each bucket whether its entries wait in an old array, and of each bucket of that array the buckets that its entries belong to, in their order. No bucket is named in either where nothing waits
+pub record Contents (E S : Type 0) : Type 0 where
+  pub lists : List (List E)
+  pub settings : Settings S
+  pub refused : Bool × Bool
+  pub spilled : ℕ
+  pub waiting : List Bool
+  pub held : List (List ℕ)
+
+-- contents as the logic holds them
+abbrev pub contents_code : {E S : Type 0} → Coded E → Coded S → Coded (Contents E S)
+contents_code {E} {S} e s =
+    code_by (List (List E) × (S × (ℕ × (ℕ × (ℕ × ((Bool × Bool) × (ℕ × (List Bool × List (List ℕ))))))))) (coded× (coded_list (coded_list e)) (coded× s (coded× coded_ℕ (coded× coded_ℕ (coded× coded_ℕ (coded× (coded× coded_bool coded_bool) (coded× coded_ℕ (coded× (coded_list coded_bool) (coded_list (coded_list coded_ℕ))))))))))
+    (λ c. (c.lists, (c.settings.hasher, (c.settings.skipped, (c.settings.asked, (c.settings.reserved, (c.refused, (c.spilled, (c.waiting, c.held)))))))))
+    (λ p. record { lists = p.0; settings = record { hasher = p.1.0; skipped = p.1.1.0; asked = p.1.1.1.0; reserved = p.1.1.1.1.0 }; refused = p.1.1.1.1.1.0; spilled = p.1.1.1.1.1.1.0; waiting = p.1.1.1.1.1.1.1.0; held = p.1.1.1.1.1.1.1.1 })
+    (λ _. refl)
+
+module _ {E S : Type 0} where
+  -- all entries: the buckets' lists joined, in the order of the buckets
+  unfoldable pub entries : Contents E S → List E
+  entries c = flat_map (λ l. l) c.lists
+
+  -- how many buckets the array has, 0 where there is none
+  unfoldable pub bucket_count : Contents E S → ℕ
+  bucket_count c = length c.lists
+
+  -- what is fixed, and what is reserved
+  unfoldable pub settings_of : Contents E S → Settings S
+  settings_of c = c.settings
+
+  -- whether memory was refused for the last resize that was due, and whether the next insertion is not to try it again
+  unfoldable pub refused_of : Contents E S → Bool × Bool
+  refused_of c = c.refused
+
+  -- the entries of one bucket, in order
+  unfoldable pub list_of : Contents E S → ℕ → List E
+  list_of c i = slice_index_or c.lists i []
+
+  -- the lists of all buckets, in the order of the buckets
+  unfoldable pub lists_of : Contents E S → List (List E)
+  lists_of c = c.lists
+
+  -- how many entries lie in overflow lists
+  unfoldable pub spilled_of : Contents E S → ℕ
+  spilled_of c = c.spilled
+
+  -- of each bucket whether its entries wait in an old array; empty where none does
+  unfoldable pub waiting_of : Contents E S → List Bool
+  waiting_of c = c.waiting
+
+  -- of each bucket of the old array the buckets that its entries belong to, in their order; empty where there is none
+  unfoldable pub held_of : Contents E S → List (List ℕ)
+  held_of c = c.held
+
+  -- how many buckets still have their entries in an old array
+  unfoldable pub pending_of : Contents E S → ℕ
+  pending_of c = count_by (λ w. w) c.waiting
+
+  -- the slots that the array keeps at least: those asked for at making, and those reserved
+  abbrev pub minimum_of : Contents E S → ℕ
+  minimum_of c = (settings_of c).asked + (settings_of c).reserved
+
+  -- each entry stands in the list of the bucket that its hash names
+  pub record IsRouted (hash : E → ℕ) (c : Contents E S) : Type 0 where
+    pub routed : (i j : ℕ) (e : E) → slice_get (list_of c i) j ≡ Some e → bucket_number (settings_of c).skipped (bucket_count c) (hash e) ≡ i
+
+  -- no two entries have equal keys
+  abbrev pub IsUniqueBy : {K : Type 0} → (K → K → Bool) → (E → K) → Contents E S → Type 0
+  IsUniqueBy eq key c = IsDistinct eq (map key (entries c))
+
+  module _ {T : Type 0} (build : builder.Ghosts S T) (feed : hasher.Ghosts T) {K : Type 0} (input : K → HashWrites) where
+    -- the hash of a key under the container's hasher
+    abbrev pub key_hash : Contents E S → K → ℕ
+    key_hash c k = hash_of build feed (settings_of c).hasher (input k)
+
+  -- the hash of a key under the container's hasher, by what hashers of that type make of a key
+  abbrev pub hash_in : {K : Type 0} → (S → K → ℕ) → Contents E S → K → ℕ
+  hash_in hash c k = hash (settings_of c).hasher k
+
+  module _ {K : Type 0} (hash : K → ℕ) where
+    -- the number of the bucket of a key
+    abbrev pub bucket_of : Contents E S → K → ℕ
+    bucket_of c k = bucket_number (settings_of c).skipped (bucket_count c) (hash k)
+
+    -- there is an array, and the bucket of that hash holds fewer than 32 entries
+    abbrev pub HasRoomAt : (E → K) → Contents E S → ℕ → Type 0
+    HasRoomAt key c h = (0 < bucket_count c) × (count_by (λ e. bucket_of c (key e) == bucket_number (settings_of c).skipped (bucket_count c) h) (entries c) < 32)
+
+    -- there is an array, and the bucket of k holds fewer than 32 entries
+    abbrev pub HasRoomBy : (E → K) → Contents E S → K → Type 0
+    HasRoomBy key c k = (0 < bucket_count c) × (count_by (λ e. bucket_of c (key e) == bucket_of c k) (entries c) < 32)

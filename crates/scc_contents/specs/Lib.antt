@@ -1,0 +1,16 @@
+pub mod Clones
+pub mod Closures
+pub mod Contents
+pub mod Copies
+pub mod Equality
+pub mod Hashing
+pub mod Mapped
+pub mod PairSteps
+pub mod PairWalks
+pub mod Pairs
+pub mod Replies
+pub mod Routing
+pub mod Sizes
+pub mod Steps
+pub mod Updates
+pub mod Walks

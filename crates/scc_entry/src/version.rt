@@ -1,0 +1,135 @@
+//! A pair that several owners share, and that never changes.
+ghost use Rattle.std.specs.Prelude.{◌≡◌, IfOk, IfErr};
+ghost use Rattle.std.specs.Arc.{arc_value};
+
+use crate::{Keyed, Made};
+use std::alloc::{AllocError, Global};
+use std::marker::Model;
+use std::sync::Arc;
+
+/// A key and a value that stay what they were made of. A contract sees the pair of them.
+#[derive(Drop)]
+pub struct Version<K, V> {
+    key: K,
+    value: V,
+}
+
+impl<K, V> Model for Version<K, V> {
+    ghost Value = { K × V };
+
+    ghost view = { λ v. (v.key, v.value) };
+}
+
+impl<K, V> Version<K, V> {
+    /// A version of the key with that value.
+    #[inline(always)]
+    pub fn new(key: K, value: V) -> Version<K, V>
+        ensures { result ≡ (key, value) }
+    {
+        Version { key, value }
+    }
+
+    /// The key.
+    #[inline(always)]
+    pub fn key(&self) -> &K
+        ensures { result.now ≡ self.now.0 }
+    {
+        &self.key
+    }
+
+    /// The value.
+    #[inline(always)]
+    pub fn value(&self) -> &V
+        ensures { result.now ≡ self.now.1 }
+    {
+        &self.value
+    }
+
+    /// The key and the value, out of a version that no one shares.
+    #[inline(always)]
+    pub(crate) fn into_pair(self) -> (K, V)
+        ensures { result ≡ self }
+    {
+        let Version { key, value } = self;
+        (key, value)
+    }
+}
+
+/// One of the owners of a version, as the entry of a table. A contract sees the version's pair, and so does the table:
+/// two owners of one version are alike.
+#[derive(Drop)]
+pub struct SharedVersion<K, V> {
+    owner: Arc<Version<K, V>>,
+    alloc: Global,
+}
+
+impl<K, V> Model for SharedVersion<K, V> {
+    ghost use Rattle.std.specs.Arc.{arc_value};
+    ghost use Rattle.std.specs.Coded.{coded×};
+
+    ghost Value = { K × V };
+
+    ghost coded = { coded× K.code V.code };
+
+    ghost view = { λ s. arc_value s.owner };
+}
+
+impl<K, V> SharedVersion<K, V> {
+    /// The version.
+    #[inline(always)]
+    pub fn version(&self) -> &Version<K, V>
+        ensures { result.now ≡ self.now }
+    {
+        &self.owner
+    }
+
+    /// One more owner of the version. It is refused where there are 2^63 - 1 of them.
+    #[inline(always)]
+    pub fn share(&self) -> Result<Arc<Version<K, V>>, AllocError>
+        ensures { IfOk result (λ a. arc_value a ≡ self.now) }
+    {
+        Arc::try_clone(&self.owner)
+    }
+}
+
+impl<K, V> Keyed for SharedVersion<K, V> {
+    type Key = K;
+
+    ghost key_of = { λ e. e.0 };
+
+    #[inline(always)]
+    fn key(&self) -> &K {
+        self.version().key()
+    }
+}
+
+impl<K, V> Made for SharedVersion<K, V> {
+    type Parts = (K, V);
+
+    ghost made_of = { λ p. p };
+
+    /// The first owner of a version of the pair, which takes one allocation.
+    #[inline(always)]
+    fn make(alloc: Global, parts: (K, V)) -> Result<SharedVersion<K, V>, (K, V)> {
+        let (key, value) = parts;
+        match Arc::new(alloc, Version::new(key, value)) {
+            Ok(owner) => Ok(SharedVersion { owner, alloc }),
+            Err(refused) => Err(refused.value.into_pair()),
+        }
+    }
+}
+
+impl<K: Clone, V: Clone> Clone for SharedVersion<K, V> {
+    ghost is_clone = { λ p q. K.is_clone p.0 q.0 × V.is_clone p.1 q.1 };
+
+    /// The owner of a new version, of clones of the key and the value.
+    fn clone(&self) -> Result<SharedVersion<K, V>, AllocError> {
+        let version = self.version();
+        let key = version.key().clone()?;
+        let value = version.value().clone()?;
+        match SharedVersion::make(self.alloc, (key, value)) {
+            Ok(copy) => Ok(copy),
+            Err(_) => Err(AllocError),
+        }
+    }
+}

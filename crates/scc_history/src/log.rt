@@ -1,0 +1,42 @@
+//! What a caller keeps of all its calls.
+ghost use Rattle.std.specs.Prelude.{◌≡◌, max, []};
+ghost use Rattle.scc_history.specs.Stamps.{RisesTo, RisesTo-prop};
+
+use crate::Receipt;
+use scc_calls::Calls;
+use std::alloc::Global;
+
+/// The number of a caller, the greatest stamp that it knows of, and its receipts in the order of its calls.
+#[derive(Drop)]
+pub struct Log<C: Calls> {
+    pub number: usize,
+    /// No stamp of a receipt is above it.
+    pub clock: u64,
+    pub receipts: Vec<Receipt<C::Call, C::Reply>>,
+    pub ghost rising: { RisesTo 0 receipts.items clock } by { RisesTo-prop 0 receipts.items clock },
+}
+
+impl<C: Calls> Log<C> {
+    /// No receipts, at clock 0.
+    pub fn new(alloc: Global, number: usize) -> Log<C>
+        ensures number { result.number ≡ number }
+        ensures clock { result.clock ≡ 0 }
+        ensures receipts { result.receipts.items ≡ [] }
+    {
+        Log {
+            number,
+            clock: 0,
+            receipts: Vec::new(alloc),
+        }
+    }
+
+    /// The clock becomes the greater of the two, so that later stamps are above all of the other's.
+    pub fn told(&mut self, other: &Log<C>)
+        ensures clock { self.new.clock ≡ max self.old.clock other.now.clock }
+        ensures same { (self.new.number ≡ self.old.number) × (self.new.receipts.items ≡ self.old.receipts.items) }
+    {
+        if self.clock < other.clock {
+            self.clock = other.clock;
+        }
+    }
+}

@@ -1,7 +1,0 @@
-use Rattle.scc_incremental.proofs.Short.{listed-none}
-use Rattle.scc_incremental.proofs.incremental.Incremental.bucket_within.Goals as goal
-
-pub returns-then-bucket_count-eq0-clause-listed : goal.returns-then-bucket_count-eq0-clause-listed
-returns-then-bucket_count-eq0-clause-listed g c =
-    let r = c.in_ok-make_array.ensures.resized in
-    listed-none _ c.make_array.new.self r.array r.bounded c.make_array.ensures.bare

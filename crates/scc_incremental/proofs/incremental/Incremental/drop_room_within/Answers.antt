@@ -1,8 +1,0 @@
-use Rattle.std.proofs.Common.{◌∙◌}
-use Rattle.scc_table.specs.Hashing.{hash_of}
-use Rattle.scc_incremental.proofs.Short.{listed-later}
-use Rattle.scc_incremental.proofs.incremental.Incremental.drop_room_within.Goals as goal
-
-pub returns-then-is_tried-clause-listed : goal.returns-then-is_tried-clause-listed
-returns-then-is_tried-clause-listed g c =
-    listed-later (λ s (e : g.row.E.Denot). hash_of g.H.BuildHasher g.H.Hasher.Hasher s.hasher (g.E.Key.Hash.hash_input (g.E.Keyed.key_of e))) c.args.self.now c.mark.new.self c.mark.ensures.lists c.mark.ensures.settings (c.mark.ensures.spilled ∙ c.requires.bounded) c.requires

@@ -1,7 +1,0 @@
-use Rattle.std.proofs.Common.{Bool, sym, ap, ◌∙◌}
-use Rattle.scc_table.specs.Contents.{refused_of}
-use Rattle.scc_incremental.proofs.Joining.{refused-together}
-use Rattle.scc_incremental.proofs.incremental.Incremental.is_resize_refused.Goals as goal
-
-pub returns : goal.returns
-returns g c = c.is_resize_refused.ensures ∙ ap (λ (x : Bool × Bool). x.0) (sym (refused-together _ c.self.inside.current c.self.inside.waiting.items c.self.inside.draining) ∙ ap refused_of c.self.view_is)

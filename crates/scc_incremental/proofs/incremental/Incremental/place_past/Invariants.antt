@@ -1,6 +1,0 @@
-use Rattle.std.proofs.Common.{◌≡◌, ◌≤◌}
-use Rattle.scc_table.specs.Places as spots
-use Rattle.scc_incremental.proofs.incremental.Incremental.place_past.Given as goal
-
-abbrev pub invariant-loop-next : goal.invariant-loop-next
-invariant-loop-next g l = spots.index_of l.self (record { bucket = l.next; slot = 0 }) ≡ spots.index_of l.self (record { bucket = l.bucket; slot = 0 })

@@ -1,0 +1,7 @@
+use Rattle.scc_index.proofs.owned.Owned.cloned_value.Goals as goal
+
+pub returns-in_ok-clone-in-Some-clause-ok : goal.returns-in_ok-clone-in-Some-clause-ok
+returns-in_ok-clone-in-Some-clause-ok g c = rw (c.in-Some.ensures, ← c.value.ensures) c.in_ok-clone-in-Some.ensures.cases
+
+pub returns-in-None-clause-ok : goal.returns-in-None-clause-ok
+returns-in-None-clause-ok g c = rw c.in-None.ensures tt

@@ -1,0 +1,111 @@
+//! How an entry is made of what holds an index, the same under each.
+ghost use Rattle.std.specs.Prelude.{◌≡◌, [], None, false, IfOk, IfErr, IfSome, IfNone};
+ghost use Rattle.scc_contents.specs.Contents.{entries};
+ghost use Rattle.scc_contents.specs.Pairs.{find, IsUnique};
+ghost use Rattle.scc_index.specs.Entries.{entry_guard, occupied_pair, occupied_front, IsOccupiedAt, IsEntryOf};
+ghost use Rattle.scc_index.specs.EntrySteps.{StandsIn};
+ghost use Rattle.scc_contents.specs.Walks.{CalledOn, CallableWhile};
+ghost use Rattle.scc_contents.specs.PairWalks.{Declines, PassesAt};
+
+use super::{HeldEntry, HeldPlace, HeldVacant};
+use crate::owned::Owned;
+use scc_common::Guard;
+use std::hash::{BuildHasher, Hash};
+use std::marker::PhantomData;
+
+impl<G: Guard<Kept = Owned<K, V, H>>, N, K: Eq + Hash, V, H: BuildHasher> HeldPlace<G, N, K, V, H> {
+    /// The entry of `k` in the index that is held: occupied at the stored pair, or vacant with `k`. It takes no memory
+    /// and makes no array.
+    pub fn of(guard: G, k: K, rest: N) -> Self
+    where
+        K: Drop,
+        ensures guard { entry_guard result ≡ guard }
+        ensures entry { IsEntryOf K.eq (G.kept guard) k result }
+        ensures unique { IsUnique K.eq (G.kept guard) }
+    {
+        let hash = guard.look().hash_of(&k);
+        match guard.look().place_of(hash, &k) {
+            Some(place) => HeldPlace::Occupied(HeldEntry {
+                guard,
+                place,
+                rest,
+                of: PhantomData,
+            }),
+            None => HeldPlace::Vacant(HeldVacant {
+                guard,
+                key: k,
+                hash,
+                rest,
+                of: PhantomData,
+            }),
+        }
+    }
+}
+
+impl<G: Guard<Kept = Owned<K, V, H>>, N, K: Eq + Hash, V, H: BuildHasher> HeldEntry<G, N, K, V, H> {
+    /// The occupied entry of `k`, or None where no key equals it; then the index is let go.
+    pub fn of(guard: G, k: &K, rest: N) -> Option<Self>
+    where
+        G: Drop,
+        N: Drop,
+        ensures guard { IfSome result (λ o. o.guard ≡ guard) }
+        ensures entry { IfSome result (IsOccupiedAt K.eq (G.kept guard) k.now) }
+        ensures missing { IfNone result (find K.eq (entries (G.kept guard)) k.now ≡ None) }
+        ensures unique { IsUnique K.eq (G.kept guard) }
+    {
+        let hash = guard.look().hash_of(k);
+        match guard.look().place_of(hash, k) {
+            Some(place) => Some(HeldEntry {
+                guard,
+                place,
+                rest,
+                of: PhantomData,
+            }),
+            None => None,
+        }
+    }
+
+    /// The first entry of the index that is held; where it is empty, the index is let go, and what is kept for going on
+    /// comes back.
+    pub fn first(guard: G, rest: N) -> Result<Self, N>
+    where
+        G: Drop,
+        ensures guard { IfOk result (λ o. o.guard ≡ guard) }
+        ensures first { IfOk result (λ o. StandsIn (G.kept guard) o × (occupied_front o ≡ [])) }
+        ensures empty { IfErr result (λ n. (n ≡ rest) × (entries (G.kept guard) ≡ [])) }
+    {
+        match guard.look().first_place() {
+            Some(place) => Ok(HeldEntry {
+                guard,
+                place,
+                rest,
+                of: PhantomData,
+            }),
+            None => Err(rest),
+        }
+    }
+}
+
+impl<G: Guard<Kept = Owned<K, V, H>>, N, K: Eq + Hash, V, H: BuildHasher> HeldEntry<G, N, K, V, H> {
+    /// The first entry of the index that is held on whose pair `p` answers true; where there is none, the index is let
+    /// go, and what is kept for going on comes back.
+    pub fn passing<P: FnMut(&K, &V) -> bool>(guard: G, p: &mut P, rest: N) -> Result<Self, N>
+    where
+        G: Drop,
+        requires { CallableWhile P.FnMut false p.old (entries (G.kept guard)) }
+        ensures here { IfOk result (StandsIn (G.kept guard)) }
+        ensures first { IfOk result (λ o. PassesAt (CalledOn P.FnMut) p.old (occupied_front o) (occupied_pair o)) }
+        ensures none { IfErr result (λ n. (n ≡ rest)
+            × Declines (CalledOn P.FnMut) p.old (entries (G.kept guard)) p.new) }
+    {
+        match guard.look().first_passing(p) {
+            Some(place) => Ok(HeldEntry {
+                guard,
+                place,
+                rest,
+                of: PhantomData,
+            }),
+            None => Err(rest),
+        }
+    }
+}

@@ -1,0 +1,120 @@
+//! What an entry does while it keeps its guard, the same under each.
+ghost use Rattle.std.specs.Prelude.{◌≡◌, IfOk, IfErr, OnOk};
+ghost use Rattle.scc_contents.specs.Contents.{waiting_of};
+ghost use Rattle.scc_contents.specs.Pairs.{IsUnique};
+ghost use Rattle.scc_index.specs.Entries.{held_index, occupied_pair, entry_guard, entry_key, IsUpdated, TakesEntry, Modifies, RefusesModify};
+
+use super::{HeldEntry, HeldPlace, HeldVacant};
+use crate::owned::Owned;
+use scc_common::Guard;
+use std::hash::{BuildHasher, Hash};
+
+impl<G: Guard<Kept = Owned<K, V, H>>, N, K: Eq + Hash, V, H: BuildHasher> HeldEntry<G, N, K, V, H> {
+    /// The stored key.
+    pub fn key(&self) -> &K
+        ensures { result.now ≡ (occupied_pair self.now).0 }
+    {
+        self.guard.look().pair_at(self.place).0
+    }
+
+    /// The value.
+    pub fn get(&self) -> &V
+        ensures { result.now ≡ (occupied_pair self.now).1 }
+    {
+        self.guard.look().pair_at(self.place).1
+    }
+
+    /// Puts a new version of the key's clone and `value` in the place of the stored one, which lives on with whoever
+    /// kept it. Refused for want of memory, and where the clone of the key can't be had or differs from the key, it
+    /// hands `value` back, and nothing changed.
+    pub fn update(&mut self, value: V) -> Result<(), V>
+    where
+        K: Clone + Drop,
+        V: Drop,
+        ensures updated { OnOk result (IsUpdated K.is_clone K.eq self.old value self.new) }
+        ensures refused { IfErr result (λ v. (v ≡ value) × (self.new ≡ self.old)) }
+        ensures waiting { waiting_of (held_index self.new) ≡ waiting_of (held_index self.old) }
+        ensures unique { IsUnique K.eq (held_index self.new) }
+    {
+        let place = self.place;
+        match self.guard.look().next_version(place, value) {
+            Ok(version) => {
+                self.guard.lend().put_at(place, version);
+                Ok(())
+            }
+            Err(value) => {
+                self.look_at_index();
+                Err(value)
+            }
+        }
+    }
+
+    /// A look at the index, for what its type says: no two keys are equal.
+    pub(crate) fn look_at_index(&self)
+        ensures { IsUnique K.eq (held_index self.now) }
+    {
+        let _ = self.guard.look().len();
+    }
+}
+
+impl<G: Guard<Kept = Owned<K, V, H>>, N, K: Eq + Hash, V, H: BuildHasher> HeldVacant<
+    G,
+    N,
+    K,
+    V,
+    H,
+> {
+    /// The key that would go in.
+    pub fn key(&self) -> &K
+        ensures { result.now ≡ self.now.key }
+    {
+        &self.key
+    }
+
+    /// A look at the index, for what its type says: no two keys are equal.
+    pub(crate) fn look_at_index(&self)
+        ensures { IsUnique K.eq (G.kept self.now.guard) }
+    {
+        let _ = self.guard.look().len();
+    }
+}
+
+impl<G: Guard<Kept = Owned<K, V, H>>, N, K: Eq + Hash, V, H: BuildHasher> HeldPlace<G, N, K, V, H> {
+    /// The stored key, or the one that was asked for.
+    pub fn key(&self) -> &K
+        ensures { result.now ≡ entry_key self.now }
+    {
+        match self {
+            HeldPlace::Occupied(entry) => entry.key(),
+            HeldPlace::Vacant(entry) => entry.key(),
+        }
+    }
+
+    /// Publishes a new version with the answer of `f` on the value of an occupied entry, and answers the entry; `f`
+    /// isn't called on a vacant one. Where `update` refuses, it answers the unchanged entry and what `f` answered.
+    pub fn and_modify<F: FnOnce(&V) -> V>(self, f: F) -> Result<Self, (Self, V)>
+    where
+        K: Clone + Drop,
+        V: Drop,
+        requires { TakesEntry F.FnOnce f self }
+        ensures modifies { IfOk result (Modifies F.FnOnce f K.is_clone K.eq self) }
+        ensures refused { IfErr result (RefusesModify F.FnOnce f self) }
+        ensures waiting { IfOk result (λ e. waiting_of (G.kept (entry_guard e))
+            ≡ waiting_of (G.kept (entry_guard self))) }
+        ensures unique { IfOk result (λ e. IsUnique K.eq (G.kept (entry_guard e))) }
+    {
+        match self {
+            HeldPlace::Occupied(mut entry) => {
+                let value = f(entry.get());
+                match entry.update(value) {
+                    Ok(()) => Ok(HeldPlace::Occupied(entry)),
+                    Err(value) => Err((HeldPlace::Occupied(entry), value)),
+                }
+            }
+            HeldPlace::Vacant(entry) => {
+                entry.look_at_index();
+                Ok(HeldPlace::Vacant(entry))
+            }
+        }
+    }
+}

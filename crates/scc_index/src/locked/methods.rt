@@ -1,0 +1,95 @@
+//! What lets a locked stripe go, and what inserts into it.
+ghost use Rattle.std.specs.Prelude.{◌≡◌, IfOk, IfErr};
+ghost use Rattle.std.specs.Sync.RwLock.{write_guard_value};
+ghost use Rattle.scc_contents.specs.Contents.{hash_in};
+ghost use Rattle.scc_contents.specs.Pairs.{IsUnique};
+ghost use Rattle.scc_table.specs.Relocations.{Relocates, RelocatesTwo};
+ghost use Rattle.scc_index.specs.Entries.{Memory, held_index, IsGrownFor, IsInserted};
+
+use super::{OccupiedEntry, VacantEntry};
+use crate::held::{HeldEntry, HeldVacant};
+use crate::owned::Owned;
+use scc_common::{InsertError, Shared};
+use scc_contents::Hashes;
+use scc_stripes::Seat;
+use std::hash::{BuildHasher, Hash};
+use std::marker::PhantomData;
+use std::sync::RwLockWriteGuard;
+
+impl<'a, K: Eq + Hash, V, H: BuildHasher> HeldEntry<
+    RwLockWriteGuard<'a, Owned<K, V, Shared<H>>>,
+    Seat<'a, Owned<K, V, Shared<H>>, H>,
+    K,
+    V,
+    Shared<H>,
+> {
+    /// Removes the version, and lets the stripe go. Who kept the version keeps it. The array may become smaller.
+    pub fn remove_entry(self)
+    where
+        K: Drop,
+        V: Drop,
+    {
+        let HeldEntry {
+            mut guard,
+            place,
+            rest,
+            of: _,
+        } = self;
+        guard.remove_at(place);
+        rest.follow(&mut *guard);
+    }
+}
+
+impl<'a, K: Eq + Hash, V, H: BuildHasher> HeldVacant<
+    RwLockWriteGuard<'a, Owned<K, V, Shared<H>>>,
+    Seat<'a, Owned<K, V, Shared<H>>, H>,
+    K,
+    V,
+    Shared<H>,
+> {
+    /// Gives the key back, and lets the stripe go.
+    pub fn into_key(self) -> K
+        ensures key { result ≡ self.entry.key }
+    {
+        let HeldVacant {
+            guard: _,
+            key,
+            hash: _,
+            rest: _,
+            of: _,
+        } = self;
+        key
+    }
+
+    /// Inserts the key with `value`, and answers its entry. Refused for want of memory, key and value come back, and
+    /// the stripe is let go.
+    pub fn insert_entry(self, value: V) -> Result<OccupiedEntry<'a, K, V, H>, InsertError<K, V>>
+        ensures inserted { IfOk result (IsInserted self.entry value) }
+        ensures growth { IfOk result (λ o. IsGrownFor
+            (hash_in ⟦<H as Hashes<K>>⟧.hash_of (write_guard_value self.entry.guard))
+            (write_guard_value self.entry.guard) self.entry.key (held_index o)) }
+        ensures relocates { IfOk result (λ o. Relocates (write_guard_value self.entry.guard) (held_index o)) }
+        ensures two { IfOk result (λ o. RelocatesTwo
+            (hash_in ⟦<H as Hashes<K>>⟧.hash_of (write_guard_value self.entry.guard) self.entry.key)
+            (write_guard_value self.entry.guard) (held_index o)) }
+        ensures unique { IfOk result (λ o. IsUnique K.eq (held_index o)) }
+        ensures refused { IfErr result (λ e. e ≡ Memory (self.entry.key, value)) }
+    {
+        let HeldVacant {
+            mut guard,
+            key,
+            hash,
+            rest,
+            of: _,
+        } = self;
+        match guard.insert_new(hash, key, value) {
+            Ok(place) => Ok(HeldEntry {
+                guard,
+                place,
+                rest,
+                of: PhantomData,
+            }),
+            Err(pair) => Err(InsertError::Memory(pair)),
+        }
+    }
+}

@@ -1,0 +1,477 @@
+//! The index for one owner: every call that changes it takes `&mut self`.
+ghost use Rattle.std.specs.Prelude.{◌≡◌, ◌≢◌, ◌<◌, ◌*◌, ◌≤◌, ◌↔◌, List, [], length, Some, None, IsTrue, IsSome, IsOk, IfOk, OnOk, ◌==◌, ◌∷◌, true, IfErr, OnErr, MatchOption, slice_get, remove, false};
+ghost use Rattle.std.specs.Arc.{arc_value};
+ghost use Rattle.std.specs.Borrow.{Bor};
+ghost use Rattle.std.specs.Fn.{FnOnceTakesAt};
+ghost use Rattle.std.specs.List.Sorted.{IsPermutation};
+ghost use Rattle.scc_contents.specs.Contents.{entries, bucket_count, settings_of, minimum_of, refused_of, waiting_of, hash_in};
+ghost use Rattle.scc_contents.specs.Pairs.{find, HasRoom, IsUnique};
+ghost use Rattle.scc_contents.specs.Sizes.{IsArraySize, IsSmaller};
+ghost use Rattle.scc_contents.specs.Walks.{CalledOn, CallableWhile, Walks};
+ghost use Rattle.scc_table.specs.Places.{IsPlace, IsFoundAt, IsInsertedAt, index_of, with_write_at};
+ghost use Rattle.scc_table.specs.Relocations.{Relocates, RelocatesNone, RelocatesTwo};
+ghost use Rattle.scc_contents.specs.Steps.{FirstArrayWhenDue, GrowsFor, Holds, IsUnchanged, MakesRoom, ShrinksWhenDue};
+ghost use Rattle.scc_array.specs.ShelfWrites.{put_whole};
+ghost use Rattle.scc_index.specs.ClosureSteps.{RemovesIf};
+ghost use Rattle.scc_contents.specs.Closures.{Reads};
+ghost use Rattle.scc_index.specs.IndexSteps.{Inserts, Removes};
+ghost use Rattle.scc_index.specs.Insertions.{InsertsByRule};
+ghost use Rattle.scc_index.specs.Removals.{RemovesByRule};
+
+mod collecting;
+mod copies;
+mod entry;
+mod following;
+mod sizes;
+mod snapshots;
+mod walks;
+mod whole;
+
+pub use entry::{Entry, OccupiedEntry, VacantEntry};
+use scc_buckets::Place;
+use scc_common::{InsertError, MakeError, Shared};
+use scc_contents::Hashes;
+use scc_entry::{Made, SharedVersion, Version};
+use scc_table::Table;
+pub use snapshots::Iter;
+use std::alloc::Global;
+use std::hash::{BuildHasher, BuildHasherDefault, FoldHasher, Hash};
+use std::marker::Model;
+use std::sync::Arc;
+
+/// An index from keys to versions, no two keys equal. An entry is a version of a key and a value that never changes,
+/// and that readers may keep. A contract sees the pairs of the versions in the index's own order as `entries m`, the
+/// number of its buckets as `bucket_count m`, and its hasher and sizes as `settings_of m`.
+///
+/// The default hasher has a fixed seed. For keys that an attacker picks, write `Owned::with_hasher(alloc,
+/// RandomState::new(&rt)?)`.
+#[derive(Drop)]
+pub struct Owned<K: Eq + Hash, V, H: BuildHasher = BuildHasherDefault<FoldHasher>> {
+    pub(crate) table: Table<SharedVersion<K, V>, H>,
+}
+
+impl<K: Eq + Hash, V, H: BuildHasher> Model for Owned<K, V, H> {
+    ghost use Rattle.scc_contents.specs.Contents.{Contents};
+
+    ghost Value = { Contents (K × V) H };
+
+    ghost view = { λ m. m.table };
+}
+
+impl<K: Eq + Hash, V> Owned<K, V> {
+    /// An empty index without an array. It takes no memory.
+    pub fn new(alloc: Global) -> Self
+        ensures entries { entries result ≡ [] }
+        ensures buckets { bucket_count result ≡ 0 }
+        ensures settings { settings_of result ≡ record
+            { hasher = (settings_of result).hasher; skipped = 0; asked = 0; reserved = 0 } }
+    {
+        Owned::with_hasher(alloc, BuildHasherDefault::new())
+    }
+
+    /// An empty index with an array for at least so many pairs at one a slot, by the rules of
+    /// `with_capacity_and_hasher`.
+    pub fn with_capacity(alloc: Global, capacity: usize) -> Result<Self, MakeError>
+        ensures entries { IfOk result (λ m. entries m ≡ []) }
+        ensures none { IfOk result (λ m. capacity ≡ 0 → bucket_count m ≡ 0) }
+        ensures size { IfOk result (λ m. 0 < capacity → IsArraySize capacity (32 * bucket_count m)) }
+        ensures settings { IfOk result (λ m. settings_of m
+            ≡ record { hasher = (settings_of m).hasher; skipped = 0; asked = 32 * bucket_count m; reserved = 0 }) }
+        ensures succeeds { capacity ≡ 0 → IsOk result }
+    {
+        Owned::with_capacity_and_hasher(alloc, capacity, BuildHasherDefault::new())
+    }
+}
+
+impl<K: Eq + Hash, V, H: BuildHasher> Owned<K, V, Shared<H>> {
+    /// An empty index that skips so many bits of each hash, and hashes as each other part of that hasher does. Else as
+    /// `with_capacity_and_hasher`.
+    pub fn part(
+        alloc: Global,
+        skipped: u32,
+        capacity: usize,
+        hasher: Arc<H>,
+    ) -> Result<Self, MakeError>
+    where
+        H: Drop,
+        requires { skipped ≤ 4 }
+        ensures entries { IfOk result (λ m. entries m ≡ []) }
+        ensures none { IfOk result (λ m. capacity ≡ 0 → bucket_count m ≡ 0) }
+        ensures size { IfOk result (λ m. 0 < capacity → IsArraySize capacity (32 * bucket_count m)) }
+        ensures settings { IfOk result (λ m. settings_of m
+            ≡ record { hasher = arc_value hasher; skipped = skipped; asked = 32 * bucket_count m; reserved = 0 }) }
+        ensures succeeds { capacity ≡ 0 → IsOk result }
+    {
+        Owned::skipping(alloc, skipped, capacity, Shared::new(hasher))
+    }
+}
+
+impl<K: Eq + Hash, V, H: BuildHasher> Owned<K, V, H> {
+    /// An empty index without an array. It takes no memory.
+    pub fn with_hasher(alloc: Global, hasher: H) -> Self
+        ensures entries { entries result ≡ [] }
+        ensures buckets { bucket_count result ≡ 0 }
+        ensures settings { settings_of result ≡ record { hasher = hasher; skipped = 0; asked = 0; reserved = 0 } }
+    {
+        Owned {
+            table: Table::new(alloc, 0, hasher),
+        }
+    }
+
+    /// An empty index with an array of the least power of two of slots that is at least `capacity` and at least 64;
+    /// without an array for 0. These slots are then its minimum. A size that can't be had is refused.
+    pub fn with_capacity_and_hasher(
+        alloc: Global,
+        capacity: usize,
+        hasher: H,
+    ) -> Result<Self, MakeError>
+    where
+        H: Drop,
+        ensures entries { IfOk result (λ m. entries m ≡ []) }
+        ensures none { IfOk result (λ m. capacity ≡ 0 → bucket_count m ≡ 0) }
+        ensures size { IfOk result (λ m. 0 < capacity → IsArraySize capacity (32 * bucket_count m)) }
+        ensures settings { IfOk result (λ m. settings_of m
+            ≡ record { hasher = hasher; skipped = 0; asked = 32 * bucket_count m; reserved = 0 }) }
+        ensures succeeds { capacity ≡ 0 → IsOk result }
+    {
+        match Table::with_capacity(alloc, 0, capacity, hasher) {
+            Ok(table) => Ok(Owned { table }),
+            Err(e) => Err(e),
+        }
+    }
+
+    /// As `with_capacity_and_hasher`, but skips so many bits of each hash.
+    pub fn skipping(
+        alloc: Global,
+        skipped: u32,
+        capacity: usize,
+        hasher: H,
+    ) -> Result<Self, MakeError>
+    where
+        H: Drop,
+        requires { skipped ≤ 4 }
+        ensures entries { IfOk result (λ m. entries m ≡ []) }
+        ensures none { IfOk result (λ m. capacity ≡ 0 → bucket_count m ≡ 0) }
+        ensures size { IfOk result (λ m. 0 < capacity → IsArraySize capacity (32 * bucket_count m)) }
+        ensures settings { IfOk result (λ m. settings_of m
+            ≡ record { hasher = hasher; skipped = skipped; asked = 32 * bucket_count m; reserved = 0 }) }
+        ensures succeeds { capacity ≡ 0 → IsOk result }
+    {
+        match Table::with_capacity(alloc, skipped, capacity, hasher) {
+            Ok(table) => Ok(Owned { table }),
+            Err(e) => Err(e),
+        }
+    }
+
+    /// The number of pairs.
+    #[inline(always)]
+    pub fn len(&self) -> usize
+        ensures len { result ≡ length (entries self.now) }
+        ensures unique { IsUnique K.eq self.now }
+    {
+        self.table.len()
+    }
+
+    /// Whether there is no pair.
+    #[inline(always)]
+    pub fn is_empty(&self) -> bool
+        ensures { IsTrue result ↔ (entries self.now ≡ []) }
+    {
+        self.table.len() == 0
+    }
+
+    /// The slots of the array, 32 a bucket; 0 without an array. It is no bound on the number of pairs.
+    #[inline(always)]
+    pub fn capacity(&self) -> usize
+        ensures { result ≡ 32 * bucket_count self.now }
+    {
+        32 * self.table.bucket_count()
+    }
+
+    /// Whether memory was refused for the last resize that was due. The next one that is made lowers it. Where it is
+    /// false after a call that had to resize, the index has the size that the rules ask for.
+    #[inline(always)]
+    pub fn is_resize_refused(&self) -> bool
+        ensures { result ≡ (refused_of self.now).0 }
+    {
+        self.table.is_resize_refused()
+    }
+
+    /// Whether there is an array and the bucket of `k` holds fewer than 32 pairs. An insertion of `k` then makes its
+    /// version, and no other memory is asked for.
+    #[inline(always)]
+    pub fn has_room(&self, k: &K) -> bool
+        ensures { IsTrue result ↔ HasRoom (hash_in ⟦<H as Hashes<K>>⟧.hash_of self.now) self.now k.now }
+    {
+        self.table.has_room(k)
+    }
+
+    /// Whether a key equals `k`.
+    #[inline(always)]
+    pub fn contains(&self, k: &K) -> bool
+        ensures { IsTrue result ↔ IsSome (find K.eq (entries self.now) k.now) }
+    {
+        let hash = self.table.hash(k);
+        match self.table.search(hash, k) {
+            Some(_) => true,
+            None => false,
+        }
+    }
+
+    /// The version of `k`, or None where there is none. It takes no memory, counts no owner and takes no lock.
+    #[inline(always)]
+    pub fn peek(&self, k: &K) -> Option<&Version<K, V>>
+        ensures { MatchOption result (find K.eq (entries self.now) k.now ≡ None)
+            (λ v. find K.eq (entries self.now) k.now ≡ Some v.now) }
+    {
+        let hash = self.table.hash(k);
+        match self.table.find(hash, k) {
+            Some(shared) => Some(shared.version()),
+            None => None,
+        }
+    }
+
+    /// The version of `k` to keep, or None where there is none. The version stays what it is and lives as long as its
+    /// holders. It takes no memory, and is refused where the version has 2^63 - 1 owners.
+    pub fn peek_shared(&self, k: &K) -> Result<Option<Arc<Version<K, V>>>, MakeError>
+        ensures version { IfOk result (λ o. MatchOption o (find K.eq (entries self.now) k.now ≡ None)
+            (λ a. find K.eq (entries self.now) k.now ≡ Some (arc_value a))) }
+        ensures refused { OnErr result (IsSome (find K.eq (entries self.now) k.now)) }
+    {
+        let hash = self.table.hash(k);
+        match self.table.find(hash, k) {
+            Some(shared) => match shared.share() {
+                Ok(version) => Ok(Some(version)),
+                Err(_) => Err(MakeError),
+            },
+            None => Ok(None),
+        }
+    }
+
+    /// The answer of `f` on the pair of `k`, or None where there is none; then `f` isn't called.
+    #[inline(always)]
+    pub fn peek_with<R, F: FnOnce(&K, &V) -> R>(&self, k: &K, f: F) -> Option<R>
+        requires { (a : Bor K) (b : Bor V) → find K.eq (entries self.now) k.now ≡ Some (a.now, b.now) → F.pre f a b }
+        ensures answer { Reads F.FnOnce f (find K.eq (entries self.now) k.now) result }
+    {
+        match self.peek(k) {
+            Some(version) => Some(f(version.key(), version.value())),
+            None => None,
+        }
+    }
+
+    /// The same as `peek_with`.
+    #[inline(always)]
+    pub fn read_sync<R, F: FnOnce(&K, &V) -> R>(&self, k: &K, f: F) -> Option<R>
+        requires { (a : Bor K) (b : Bor V) → find K.eq (entries self.now) k.now ≡ Some (a.now, b.now) → F.pre f a b }
+        ensures answer { Reads F.FnOnce f (find K.eq (entries self.now) k.now) result }
+    {
+        self.peek_with(k, f)
+    }
+
+    /// Inserts a version of the pair where no key equals `k`. Where one does, the index stays as it is, and the
+    /// supplied pair comes back; so it does where memory for the version, or for room that the insertion needs, is
+    /// refused, since all memory is asked for before anything is changed.
+    #[inline(always)]
+    pub fn insert_sync(&mut self, k: K, v: V) -> Result<(), InsertError<K, V>>
+        ensures { InsertsByRule K.eq ⟦<H as Hashes<K>>⟧.hash_of self.old (k, v) result self.new }
+    {
+        let hash = self.table.hash(&k);
+        match self.table.search(hash, &k) {
+            Some(_) => Err(InsertError::Exists((k, v))),
+            None => match self.table.insert_made(hash, (k, v)) {
+                Ok(_) => Ok(()),
+                Err(pair) => Err(InsertError::Memory(pair)),
+            },
+        }
+    }
+
+    /// Makes what an insertion of `k` wants but its version, at most one resize: the first array, or twice as many
+    /// buckets where that is due, all of which wait then. A key that is there wants nothing. A growth that is refused
+    /// is not tried again by the insertion of `k` that follows, so that it makes no resize in any case; this fails only
+    /// where the first array is refused.
+    pub fn make_room(&mut self, k: &K) -> Result<(), MakeError>
+        ensures present { IsSome (find K.eq (entries self.old) k.now) → IsOk result × (self.new ≡ self.old) }
+        ensures ok { find K.eq (entries self.old) k.now ≡ None
+            → OnOk result (MakesRoom (hash_in ⟦<H as Hashes<K>>⟧.hash_of self.old) (λ p. p.0) self.old
+            (hash_in ⟦<H as Hashes<K>>⟧.hash_of self.old k.now) self.new) }
+        ensures err { OnErr result ((find K.eq (entries self.old) k.now ≡ None) × (bucket_count self.old ≡ 0)) }
+        ensures same { OnErr result (IsUnchanged self.old self.new) }
+        ensures settings { settings_of self.new ≡ settings_of self.old }
+        ensures unique { IsUnique K.eq self.new }
+    {
+        let hash = self.table.hash(k);
+        match self.table.search(hash, k) {
+            Some(_) => Ok(()),
+            None => match self.table.make_room(hash) {
+                Ok(()) => Ok(()),
+                Err(_) => Err(MakeError),
+            },
+        }
+    }
+
+    /// An insertion tries a growth that is due, also where `make_room` was refused it.
+    pub fn drop_room(&mut self)
+        ensures same { IsUnchanged self.old self.new }
+        ensures waiting { waiting_of self.new ≡ waiting_of self.old }
+        ensures noted { refused_of self.new ≡ ((refused_of self.old).0, false) }
+        ensures unique { IsUnique K.eq self.new }
+    {
+        self.table.drop_room();
+    }
+
+    /// Takes out the version whose key equals `k`, and answers whether there was one. Who kept the version keeps it.
+    #[inline(always)]
+    pub fn remove_sync(&mut self, k: &K) -> bool
+    where
+        K: Drop,
+        V: Drop,
+        ensures { RemovesByRule K.eq (Removes K.eq self.old k.now result self.new) self.old k.now result self.new }
+    {
+        let hash = self.table.hash(k);
+        match self.table.search(hash, k) {
+            Some(place) => {
+                let _removed = self.table.remove_at(place);
+                true
+            }
+            None => false,
+        }
+    }
+
+    /// Takes out the version of `k` where `f` answers true on its value, and answers whether it did. `f` isn't called
+    /// where no key equals `k`.
+    #[inline(always)]
+    pub fn remove_if_sync<F: FnOnce(&V) -> bool>(&mut self, k: &K, f: F) -> bool
+    where
+        K: Drop,
+        V: Drop,
+        requires { (p : K × V) → find K.eq (entries self.old) k.now ≡ Some p → FnOnceTakesAt F.FnOnce f p.1 }
+        ensures { RemovesByRule K.eq (RemovesIf F.FnOnce f K.eq self.old k.now result self.new
+            (find K.eq (entries self.old) k.now)) self.old k.now result self.new }
+    {
+        match self.table.search(self.table.hash(k), k) {
+            Some(place) => {
+                if f(self.table.version_at(place).value()) {
+                    let _version = self.table.remove_at(place);
+                    true
+                } else {
+                    false
+                }
+            }
+            None => false,
+        }
+    }
+
+    /// Calls `f` on the pairs in some order, each at most once, until its first false, and answers false where it
+    /// stopped.
+    #[inline(always)]
+    pub fn iter_sync<F: FnMut(&K, &V) -> bool>(&self, f: F) -> bool
+        requires { (es : List (K × V)) → IsPermutation (entries self.now) es → CallableWhile F.FnMut true f es }
+        ensures { (es : List (K × V)) × (last : F) × IsPermutation (entries self.now) es
+            × Walks (CalledOn F.FnMut) f es result last }
+    {
+        self.table.walk(f)
+    }
+
+    /// The hash of a key.
+    pub(crate) fn hash_of(&self, k: &K) -> u64
+        ensures { result ≡ hash_in ⟦<H as Hashes<K>>⟧.hash_of self.now k.now }
+    {
+        self.table.hash(k)
+    }
+
+    /// The place of the version of `k`, whose hash it is.
+    pub(crate) fn place_of(&self, hash: u64, k: &K) -> Option<Place>
+        requires { hash ≡ hash_in ⟦<H as Hashes<K>>⟧.hash_of self.now k.now }
+        ensures place { MatchOption result (find K.eq (entries self.now) k.now ≡ None)
+            (IsFoundAt (λ e. K.eq k.now e.0) self.now) }
+        ensures unique { IsUnique K.eq self.now }
+    {
+        self.table.search(hash, k)
+    }
+
+    /// The key and the value at the place.
+    #[inline(always)]
+    pub(crate) fn pair_at(&self, place: Place) -> (&K, &V)
+        requires { IsPlace self.now place }
+        ensures { slice_get (entries self.now) (index_of self.now place) ≡ Some (result.0.now, result.1.now) }
+    {
+        let version = self.table.version_at(place);
+        (version.key(), version.value())
+    }
+
+    /// Takes the version out of its place.
+    pub(crate) fn remove_at(&mut self, place: Place)
+    where
+        K: Drop,
+        V: Drop,
+        requires { IsPlace self.old place }
+        ensures others { Holds self.old (remove (entries self.old) (index_of self.old place)) self.new }
+        ensures smaller { bucket_count self.new ≢ bucket_count self.old
+            → IsSmaller (minimum_of self.old) (length (entries self.new)) (bucket_count self.old)
+            (bucket_count self.new) }
+        ensures due { ShrinksWhenDue self.old self.new }
+        ensures relocates { RelocatesNone self.old self.new }
+        ensures unique { IsUnique K.eq self.new }
+    {
+        let _version = self.table.remove_at(place);
+    }
+
+    /// Puts in a version of a pair whose key is new, and answers its place.
+    pub(crate) fn insert_new(&mut self, hash: u64, k: K, v: V) -> Result<Place, (K, V)>
+        requires hashed { hash ≡ hash_in ⟦<H as Hashes<K>>⟧.hash_of self.old k }
+        requires absent { find K.eq (entries self.old) k ≡ None }
+        ensures ok { IfOk result (IsInsertedAt self.old (k, v) self.new) }
+        ensures refused { IfErr result (λ p. p ≡ (k, v)) }
+        ensures unchanged { OnErr result (IsUnchanged self.old self.new) }
+        ensures grows { OnOk result (GrowsFor (hash_in ⟦<H as Hashes<K>>⟧.hash_of self.old) (λ p. p.0) self.old k
+            self.new) }
+        ensures first { OnOk result (FirstArrayWhenDue self.old self.new) }
+        ensures relocates { Relocates self.old self.new }
+        ensures two { OnOk result (RelocatesTwo (hash_in ⟦<H as Hashes<K>>⟧.hash_of self.old k) self.old self.new) }
+        ensures unique { IsUnique K.eq self.new }
+    {
+        self.table.insert_made(hash, (k, v))
+    }
+
+    /// A version of the value and a clone of the key at the place. Refused for want of memory, and where the clone
+    /// can't be had or differs from the key, it hands the value back.
+    pub(crate) fn next_version(&self, place: Place, value: V) -> Result<SharedVersion<K, V>, V>
+    where
+        K: Clone + Drop,
+        requires { IsPlace self.now place }
+        ensures made { IfOk result (λ e. (p : K × V)
+            × (slice_get (entries self.now) (index_of self.now place) ≡ Some p) × K.is_clone p.0 e.0
+            × (K.eq e.0 p.0 ≡ true) × (e.1 ≡ value)) }
+        ensures refused { IfErr result (λ v. v ≡ value) }
+        ensures unique { IsUnique K.eq self.now }
+    {
+        let _ = self.len();
+        let stored = self.table.version_at(place).key();
+        let Ok(key) = stored.clone() else {
+            return Err(value);
+        };
+        if key != *stored {
+            return Err(value);
+        }
+        match SharedVersion::make(self.table.allocator(), (key, value)) {
+            Ok(version) => Ok(version),
+            Err((_key, value)) => Err(value),
+        }
+    }
+
+    /// Puts the version in the place of the one there, whose key it equals.
+    pub(crate) fn put_at(&mut self, place: Place, version: SharedVersion<K, V>)
+    where
+        K: Drop,
+        V: Drop,
+        requires within { IsPlace self.old place }
+        requires same { (p : K × V) → slice_get (entries self.old) (index_of self.old place) ≡ Some p
+            → K.eq version.0 p.0 ≡ true }
+        ensures new { self.new ≡ with_write_at put_whole self.old place version }
+        ensures unique { IsUnique K.eq self.new }
+    {
+        let _old = self.table.replace_at(place, version);
+        let _ = self.len();
+    }
+}

@@ -1,0 +1,69 @@
+//! How a part of a shared map keeps its share of what all parts together keep at least.
+ghost use Rattle.std.specs.Prelude.{◌≡◌, ◌-◌, ◌<◌, ◌≤◌, ◌^◌, ◌⊎◌};
+ghost use Rattle.scc_contents.specs.Contents.{settings_of, minimum_of, refused_of, waiting_of};
+ghost use Rattle.scc_contents.specs.Pairs.{IsUnique};
+ghost use Rattle.scc_contents.specs.Steps.{IsUnchanged, ReachesMinimumWhenDue, Releases, Reserves, ShrinksWhenDue};
+
+use super::Owned;
+use scc_common::{MakeError, Shared};
+use scc_stripes::{Follow, Part};
+use std::alloc::Global;
+use std::hash::{BuildHasher, Hash};
+use std::sync::Arc;
+
+impl<K: Eq + Hash, V, H: BuildHasher> Owned<K, V, H> {
+    /// Makes so many slots the minimum, what was asked for at making among them. A raised minimum lets an array that is
+    /// there grow to it, a lowered one lets it become smaller, unless memory is refused. Fewer slots than were asked
+    /// for change nothing.
+    pub fn keep_share(&mut self, share: usize)
+        requires { share ≤ 2 ^ 63 }
+        ensures kept { (settings_of self.old).asked ≤ share → minimum_of self.new ≡ share }
+        ensures raised { minimum_of self.old < share
+            → Reserves (share - minimum_of self.old) self.old self.new × ReachesMinimumWhenDue self.old self.new }
+        ensures lowered { (settings_of self.old).asked ≤ share → share < minimum_of self.old
+            → Releases (minimum_of self.old - share) self.old self.new × ShrinksWhenDue self.old self.new }
+        ensures same { (share < (settings_of self.old).asked) ⊎ (share ≡ minimum_of self.old)
+            → IsUnchanged self.old self.new × (refused_of self.new ≡ refused_of self.old)
+            × (waiting_of self.new ≡ waiting_of self.old) }
+        ensures unique { IsUnique K.eq self.new }
+    {
+        let minimum = *self.capacity_range().start();
+        if share > minimum {
+            let _ = self.table.raise_minimum(share - minimum);
+        } else if share < minimum {
+            let _ = self.table.lower_minimum(minimum - share);
+        } else {
+            let _ = self.len();
+        }
+    }
+}
+
+impl<K: Eq + Hash, V, H: BuildHasher> Follow for Owned<K, V, H> {
+    fn count(&self) -> usize {
+        self.len()
+    }
+
+    fn slots(&self) -> usize {
+        self.capacity()
+    }
+
+    fn follow(&mut self, share: usize) {
+        self.keep_share(share);
+    }
+}
+
+impl<K: Eq + Hash, V, H: BuildHasher> Part<H> for Owned<K, V, Shared<H>> {
+    fn make_part(
+        alloc: Global,
+        skipped: u32,
+        slots: usize,
+        _maximum: usize,
+        owner: Arc<H>,
+    ) -> Result<Self, MakeError>
+    where
+        H: Drop,
+        requires { skipped ≤ 4 }
+    {
+        Owned::part(alloc, skipped, slots, owner)
+    }
+}

@@ -1,0 +1,72 @@
+//! The calls about the size of a map: reservations, the range of the capacity, the bucket of a key.
+ghost use Rattle.std.specs.Prelude.{◌≡◌, ◌+◌, ◌≤◌, ◌<◌, ◌^◌, ◌↔◌, IsSome, IsOk, IfNone, OnErr, OnOk, OnSome};
+ghost use Rattle.scc_contents.specs.Contents.{settings_of, minimum_of, pending_of, refused_of, waiting_of, hash_in, bucket_of};
+ghost use Rattle.scc_contents.specs.Pairs.{IsUnique};
+ghost use Rattle.scc_contents.specs.Steps.{ReachesMinimumWhenDue, ShrinksWhenDue};
+ghost use Rattle.scc_table.specs.Relocates.{IsGrowthDue, IsShrinkDue, Spreads};
+ghost use Rattle.scc_index.specs.IndexSizes.{ReservesOrRefuses, ReleasesOrRefuses};
+
+use super::Owned;
+use scc_buckets::sizes::GREATEST_CAPACITY;
+use scc_contents::Hashes;
+use scc_table::Reservation;
+use std::hash::{BuildHasher, Hash};
+use std::ops::RangeInclusive;
+
+impl<K: Eq + Hash, V, H: BuildHasher> Owned<K, V, H> {
+    /// Raises the minimum by so many slots, and answers the token that gives them back; None for 0, and where the
+    /// minimum would pass the greatest capacity. An array with fewer slots than the minimum grows, unless memory is
+    /// refused; the token comes all the same.
+    pub fn reserve(&mut self, additional: usize) -> Option<Reservation>
+        ensures step { ReservesOrRefuses additional self.old result self.new }
+        ensures succeeds { IsSome result ↔ ((0 < additional) × (minimum_of self.old + additional ≤ 2 ^ 63)) }
+        ensures due { OnSome result (ReachesMinimumWhenDue self.old self.new) }
+        ensures noted { IfNone result (refused_of self.new ≡ refused_of self.old) }
+        ensures spreads { OnSome result (Spreads (IsGrowthDue (minimum_of self.new) self.old) self.old self.new) }
+        ensures waiting { IfNone result (waiting_of self.new ≡ waiting_of self.old) }
+        ensures unique { IsUnique K.eq self.new }
+    {
+        self.table.reserve(additional)
+    }
+
+    /// Gives reserved slots back, and tries to make the array smaller. A token for more slots than what is reserved
+    /// here comes back, and nothing changes.
+    pub fn release(&mut self, reservation: Reservation) -> Result<(), Reservation>
+        ensures step { ReleasesOrRefuses reservation self.old result self.new }
+        ensures succeeds { IsOk result ↔ (reservation ≤ (settings_of self.old).reserved) }
+        ensures due { OnOk result (ShrinksWhenDue self.old self.new) }
+        ensures noted { OnErr result (refused_of self.new ≡ refused_of self.old) }
+        ensures spreads { OnOk result (Spreads (IsShrinkDue (minimum_of self.new) self.old) self.old self.new) }
+        ensures waiting { OnErr result (waiting_of self.new ≡ waiting_of self.old) }
+        ensures unique { IsUnique K.eq self.new }
+    {
+        if self.table.lower_minimum(reservation.additional_capacity()) {
+            Ok(())
+        } else {
+            Err(reservation)
+        }
+    }
+
+    /// From the slots that the array keeps at least to those that it may grow to.
+    pub fn capacity_range(&self) -> RangeInclusive<usize>
+        ensures low { result.start ≡ minimum_of self.now }
+        ensures high { result.end ≡ 2 ^ 63 }
+    {
+        self.table.minimum()..=GREATEST_CAPACITY
+    }
+
+    /// The number of the bucket of `k`, 0 without an array.
+    pub fn bucket_index(&self, k: &K) -> usize
+        ensures index { result ≡ bucket_of (hash_in ⟦<H as Hashes<K>>⟧.hash_of self.now) self.now k.now }
+    {
+        self.table.bucket_index(k)
+    }
+
+    /// How many buckets wait for their pairs to come from an old array. Each insertion of a new key lets two of them
+    /// take their pairs over.
+    pub fn pending(&self) -> usize
+        ensures { result ≡ pending_of self.now }
+    {
+        self.table.pending()
+    }
+}

@@ -1,0 +1,63 @@
+use Rattle.std.proofs.Common.{◌≡◌, ◌∙◌, sym, ap, subst, Some}
+use Rattle.scc_contents.specs.Contents.{Contents, entries, refused_of, waiting_of}
+use Rattle.std.specs.List.{slice_get}
+use Rattle.scc_contents.specs.Pairs.{find, with_pair_key}
+use Rattle.scc_table.specs.Places.{IsPlace, index_of, with_write_at}
+use Rattle.scc_table.specs.Placed.{IsPlace-with_write_at}
+use Rattle.scc_table.proofs.AtPlaces.{entry_of-is, place-found, key-written, key-unique, key-got, noted-write}
+use Rattle.scc_table.proofs.Relocations.{waiting-write}
+use Rattle.scc_map.proofs.held.HeldReplace.of.Goals as goal
+
+pub replace_key_at-old-requires-clause-within : goal.replace_key_at-old-requires-clause-within
+replace_key_at-old-requires-clause-within g c = let found = rw c.look-2.ensures at c.in-Some.ensures.place in rw c.lend.ensures.value found.within
+
+pub replace_key_at-old-requires-clause-same : goal.replace_key_at-old-requires-clause-same
+replace_key_at-old-requires-clause-same g c =
+    let found = rw c.look-2.ensures at c.in-Some.ensures.place in
+    let f = place-found g.K.PartialEq.eq (g.G.Guard.kept c.args.guard) c.args.k c.in-Some.place found in
+    rw c.lend.ensures.value (λ p got. let s : Some f.0 ≡ Some p = sym f.1 ∙ got in let w : f.0 ≡ p = cc in rw (← w) f.3)
+
+pub invariant_of-result : goal.invariant_of-result
+invariant_of-result g c =
+    let found = rw c.look-2.ensures at c.in-Some.ensures.place in
+    record { within = subst (λ m. IsPlace m c.in-Some.place) (sym (g.G.Guard.keeps c.args.guard c.replace_key_at-old.new.self ∙ c.replace_key_at-old.ensures.new ∙ ap (λ m. with_write_at with_pair_key m c.in-Some.place c.args.k) c.lend.ensures.value)) (IsPlace-with_write_at with_pair_key (g.G.Guard.kept c.args.guard) c.in-Some.place c.args.k found.within) }
+
+pub returns-in-Some-clause-step : goal.returns-in-Some-clause-step
+returns-in-Some-clause-step g c =
+    let laws = g.met.K.Eq.laws in
+    let m = g.G.Guard.kept c.args.guard in
+    let found = rw c.look-2.ensures at c.in-Some.ensures.place in
+    let unique = rw c.look-2.ensures at c.place_of.ensures.unique in
+    let f = place-found g.K.PartialEq.eq m c.args.k c.in-Some.place found in
+    let is = g.G.Guard.keeps c.args.guard c.replace_key_at-old.new.self ∙ c.replace_key_at-old.ensures.new ∙ ap (λ m. with_write_at with_pair_key m c.in-Some.place c.args.k) c.lend.ensures.value in
+    let old = rw c.lend.ensures.value at c.replace_key_at-old.ensures.old in
+    let same : Some f.0 ≡ Some old.0 = sym f.1 ∙ old.1 in
+    let first : f.0 ≡ old.0 = cc in
+    let here : find g.K.PartialEq.eq (entries m) c.args.k ≡ Some (c.replace_key_at-old.result, old.0.1) = f.2 ∙ same ∙ ap (λ x. Some (x, old.0.1)) (sym old.2) in (
+      old.0.1,
+      here,
+      (
+        entry_of-is _ c.in-Some.place _ (c.args.k, old.0.1) (ap (λ n. slice_get (entries n) (index_of n c.in-Some.place)) is ∙ key-got m c.in-Some.place found.within c.args.k old.0 old.1),
+        rw is (key-written laws m c.in-Some.place found.within c.args.k unique f c.args.k),
+      ),
+    )
+
+pub returns-in-Some-clause-noted : goal.returns-in-Some-clause-noted
+returns-in-Some-clause-noted g c =
+    let is = g.G.Guard.keeps c.args.guard c.replace_key_at-old.new.self ∙ c.replace_key_at-old.ensures.new ∙ ap (λ m. with_write_at with_pair_key m c.in-Some.place c.args.k) c.lend.ensures.value in
+    ap refused_of is ∙ noted-write with_pair_key (g.G.Guard.kept c.args.guard) c.in-Some.place c.args.k
+
+pub returns-in-Some-clause-waiting : goal.returns-in-Some-clause-waiting
+returns-in-Some-clause-waiting g c =
+    let is = g.G.Guard.keeps c.args.guard c.replace_key_at-old.new.self ∙ c.replace_key_at-old.ensures.new ∙ ap (λ m. with_write_at with_pair_key m c.in-Some.place c.args.k) c.lend.ensures.value in
+    ap waiting_of is ∙ waiting-write with_pair_key (g.G.Guard.kept c.args.guard) c.in-Some.place c.args.k
+
+pub returns-in-Some-clause-unique : goal.returns-in-Some-clause-unique
+returns-in-Some-clause-unique g c =
+    let laws = g.met.K.Eq.laws in
+    let m = g.G.Guard.kept c.args.guard in
+    let found = rw c.look-2.ensures at c.in-Some.ensures.place in
+    let unique = rw c.look-2.ensures at c.place_of.ensures.unique in
+    let f = place-found g.K.PartialEq.eq m c.args.k c.in-Some.place found in
+    let is = g.G.Guard.keeps c.args.guard c.replace_key_at-old.new.self ∙ c.replace_key_at-old.ensures.new ∙ ap (λ m. with_write_at with_pair_key m c.in-Some.place c.args.k) c.lend.ensures.value in
+    rw is (key-unique laws m c.in-Some.place found.within c.args.k unique f c.args.k f.3)

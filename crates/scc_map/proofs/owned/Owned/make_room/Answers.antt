@@ -1,0 +1,23 @@
+use Rattle.std.proofs.Common.{refl, rules}
+use Rattle.scc_contents.specs.Contents.{entries}
+use Rattle.scc_buckets.proofs.Lookups.{find-position, find-position_none}
+use Rattle.scc_map.proofs.owned.Owned.make_room.Goals as goal
+use Rattle.scc_map.proofs.owned.Owned.make_room.Goals.{in-Ok, in-Err}
+
+pub returns-in-Some-clause-ok : goal.returns-in-Some-clause-ok
+returns-in-Some-clause-ok g c =
+    let f = find-position (g.K.PartialEq.eq c.args.k.now) (entries c.self.inside.table) _ c.in-Some.ensures.place.found in
+    λ none. let here = rw (← c.self.view_is, f.2) at none in cc
+
+pub returns-after-make_room-clause-present : goal.returns-after-make_room-clause-present
+returns-after-make_room-clause-present g c =
+    let none = find-position_none (g.K.PartialEq.eq c.args.k.now) (entries c.self.inside.table) c.in-None.ensures.place in
+    rw (← c.self.view_is, none) (λ there. absurd (search rules))
+
+pub returns-after-make_room-clause-err : goal.returns-after-make_room-clause-err
+returns-after-make_room-clause-err g c =
+    let none = find-position_none (g.K.PartialEq.eq c.args.k.now) (entries c.self.inside.table) c.in-None.ensures.place in
+    elim c.match-make_room.branch [
+      | in-Ok w ↦ rw w.result-is tt
+      | in-Err w ↦ rw (w.result-is, ← c.self.view_is) (none, w.in-Err.ensures.err)
+    ]

@@ -1,0 +1,72 @@
+-- What an insertion does to a map and to its array, in one word a call.
+use Rattle.std.specs.Prelude.{◌≡◌, ℕ, Bool, true, None, Option, Some, Result, IsSome, IsOk}
+use Rattle.std.specs.Result.{OnOk, OnErr}
+use Rattle.scc_contents.specs.Contents.{Contents, entries, bucket_count, settings_of, refused_of, waiting_of}
+use Rattle.scc_contents.specs.Pairs.{find, FindsInstead, HasRoom, IsUnique}
+use Rattle.scc_contents.specs.Steps.{FirstArrayWhenDue, Grows, GrowsWhenDue, IsReadyFor}
+use Rattle.scc_table.specs.Relocations.{Relocates, RelocatesTwo}
+use Rattle.scc_map.specs.MapSteps.{Inserts, Upserts}
+use Rattle.scc_common.specs.declared.errors.InsertError.{InsertError}
+
+module _ {K V S : Type 0} (eq : K → K → Bool) (hash_of : S → K → ℕ) where
+  -- what `insert_sync` of the pair p, answered so, does to the pairs and to the array
+  pub record InsertsByRule (c : Contents (K × V) S) (p : K × V) (result : Result (Unit {0}) (InsertError K V)) (d : Contents (K × V) S) : Type 0 where
+    -- a new key is added; a key that is there stays as it is, and the supplied pair comes back
+    pub step : Inserts eq (hash_of (settings_of c).hasher) c p result d
+    -- it succeeds where the key is new and its bucket has room
+    pub succeeds : find eq (entries c) p.0 ≡ None → HasRoom (hash_of (settings_of c).hasher) c p.0 → IsOk result
+    -- where it succeeds, a look-up finds the new pair, and of other keys what it found
+    pub finds : OnOk result (FindsInstead eq (entries c) p.0 (Some p) (entries d))
+    -- where it fails, a look-up finds what it found
+    pub same : OnErr result ((q : K) → find eq (entries d) q ≡ find eq (entries c) q)
+    -- the number of buckets changes only by a first array or a doubling
+    pub growth : Grows c d
+    -- it stays where the key is new and its bucket has room
+    pub kept : find eq (entries c) p.0 ≡ None → HasRoom (hash_of (settings_of c).hasher) c p.0 → bucket_count d ≡ bucket_count c
+    -- and where room was made before
+    pub once : IsReadyFor (hash_of (settings_of c).hasher) (λ x. x.0) c p.0 → bucket_count d ≡ bucket_count c
+    -- it is doubled where the key is new and a growth is due, unless memory for that was refused
+    pub due : find eq (entries c) p.0 ≡ None → GrowsWhenDue (hash_of (settings_of c).hasher) (λ x. x.0) c p.0 d
+    -- the first array has the size of the minimum
+    pub first : OnOk result (FirstArrayWhenDue c d)
+    -- the note of refused memory stays where the key is there
+    pub noted : IsSome (find eq (entries c) p.0) → refused_of d ≡ refused_of c
+    -- a new key relocates two buckets at most
+    pub relocates : find eq (entries c) p.0 ≡ None → Relocates c d
+    -- and two exactly, its own first, where none of them is long
+    pub two : find eq (entries c) p.0 ≡ None → OnOk result (RelocatesTwo (hash_of (settings_of c).hasher p.0) c d)
+    -- a key that is there relocates none
+    pub waiting : IsSome (find eq (entries c) p.0) → waiting_of d ≡ waiting_of c
+    -- no two keys are equal
+    pub unique : IsUnique eq d
+
+  -- what `upsert_sync` of the pair p, answered so, does to the pairs and to the array
+  pub record UpsertsByRule (c : Contents (K × V) S) (p : K × V) (result : Result (Option V) (InsertError K V)) (d : Contents (K × V) S) : Type 0 where
+    -- a new key is added; a key that is there stays the stored one, and the old value is answered
+    pub step : Upserts eq (hash_of (settings_of c).hasher) c p result d
+    -- it succeeds where the key is there
+    pub succeeds : IsSome (find eq (entries c) p.0) → IsOk result
+    -- where it succeeds, a look-up finds the new value, and of other keys what it found
+    pub finds : OnOk result ((q : K) × (eq p.0 q ≡ true) × FindsInstead eq (entries c) p.0 (Some (q, p.1)) (entries d))
+    -- where it fails, a look-up finds what it found
+    pub same : OnErr result ((q : K) → find eq (entries d) q ≡ find eq (entries c) q)
+    -- the number of buckets changes only by a first array or a doubling
+    pub growth : Grows c d
+    -- it stays where the key is new and its bucket has room
+    pub kept : find eq (entries c) p.0 ≡ None → HasRoom (hash_of (settings_of c).hasher) c p.0 → bucket_count d ≡ bucket_count c
+    -- and where room was made before
+    pub once : IsReadyFor (hash_of (settings_of c).hasher) (λ x. x.0) c p.0 → bucket_count d ≡ bucket_count c
+    -- it is doubled where the key is new and a growth is due, unless memory for that was refused
+    pub due : find eq (entries c) p.0 ≡ None → GrowsWhenDue (hash_of (settings_of c).hasher) (λ x. x.0) c p.0 d
+    -- the first array has the size of the minimum
+    pub first : find eq (entries c) p.0 ≡ None → OnOk result (FirstArrayWhenDue c d)
+    -- the note of refused memory stays where the key is there
+    pub noted : IsSome (find eq (entries c) p.0) → refused_of d ≡ refused_of c
+    -- a new key relocates two buckets at most
+    pub relocates : find eq (entries c) p.0 ≡ None → Relocates c d
+    -- and two exactly, its own first, where none of them is long
+    pub two : find eq (entries c) p.0 ≡ None → OnOk result (RelocatesTwo (hash_of (settings_of c).hasher p.0) c d)
+    -- a key that is there relocates none
+    pub waiting : IsSome (find eq (entries c) p.0) → waiting_of d ≡ waiting_of c
+    -- no two keys are equal
+    pub unique : IsUnique eq d

@@ -1,0 +1,152 @@
+//! The insertions of an entry of a locked stripe.
+ghost use Rattle.std.specs.Prelude.{◌≡◌, IfOk, OnErr, IfErr};
+ghost use Rattle.std.specs.Fn.{FnOnceTakesAt, FnOnceReturnsAt};
+ghost use Rattle.std.specs.Sync.RwLock.{write_guard_value};
+ghost use Rattle.scc_contents.specs.Contents.{hash_in};
+ghost use Rattle.scc_contents.specs.Pairs.{IsUnique};
+ghost use Rattle.scc_map.specs.Entries.{Memory, held_map, entry_guard, entry_key, GrowsThrough, IsVacant, OrInserts, OrInsertsSome, RefusesSome, RelocatesThrough, SetsEntry};
+
+use super::OccupiedEntry;
+use crate::held::HeldPlace;
+use crate::owned::Owned;
+use scc_common::{InsertError, Shared};
+use scc_contents::Hashes;
+use scc_stripes::Seat;
+use std::hash::{BuildHasher, Hash};
+use std::sync::RwLockWriteGuard;
+
+impl<'a, K: Eq + Hash, V, H: BuildHasher> HeldPlace<
+    RwLockWriteGuard<'a, Owned<K, V, Shared<H>>>,
+    Seat<'a, Owned<K, V, Shared<H>>, H>,
+    K,
+    V,
+    Shared<H>,
+> {
+    /// Inserts `default` where the entry is vacant, and answers the occupied entry. An occupied one stays as it is, and
+    /// can't be refused.
+    pub fn or_insert(self, default: V) -> Result<OccupiedEntry<'a, K, V, H>, InsertError<K, V>>
+    where
+        V: Drop,
+        ensures entry { IfOk result (OrInserts self.entry default) }
+        ensures refused { IfErr result (λ e. e ≡ Memory (entry_key self.entry, default)) }
+        ensures vacant { OnErr result (IsVacant self.entry) }
+        ensures growth { IfOk result (GrowsThrough
+            (hash_in ⟦<H as Hashes<K>>⟧.hash_of (write_guard_value (entry_guard self.entry))) self.entry) }
+        ensures relocates { IfOk result (RelocatesThrough
+            (hash_in ⟦<H as Hashes<K>>⟧.hash_of (write_guard_value (entry_guard self.entry))) self.entry) }
+        ensures unique { IfOk result (λ o. IsUnique K.eq (held_map o)) }
+    {
+        match self {
+            HeldPlace::Occupied(entry) => {
+                drop(default);
+                entry.look_at_map();
+                Ok(entry)
+            }
+            HeldPlace::Vacant(entry) => entry.insert_entry(default),
+        }
+    }
+
+    /// Inserts the answer of `f` where the entry is vacant, and answers the occupied entry. `f` isn't called on an
+    /// occupied one.
+    pub fn or_insert_with<F: FnOnce() -> V>(
+        self,
+        f: F,
+    ) -> Result<OccupiedEntry<'a, K, V, H>, InsertError<K, V>>
+        requires { IsVacant self → F.pre f }
+        ensures entry { IfOk result (OrInsertsSome self.entry (λ k v. F.post f v)) }
+        ensures refused { IfErr result (RefusesSome self.entry (λ k v. F.post f v)) }
+        ensures vacant { OnErr result (IsVacant self.entry) }
+        ensures growth { IfOk result (GrowsThrough
+            (hash_in ⟦<H as Hashes<K>>⟧.hash_of (write_guard_value (entry_guard self.entry))) self.entry) }
+        ensures relocates { IfOk result (RelocatesThrough
+            (hash_in ⟦<H as Hashes<K>>⟧.hash_of (write_guard_value (entry_guard self.entry))) self.entry) }
+        ensures unique { IfOk result (λ o. IsUnique K.eq (held_map o)) }
+    {
+        match self {
+            HeldPlace::Occupied(entry) => {
+                entry.look_at_map();
+                Ok(entry)
+            }
+            HeldPlace::Vacant(entry) => {
+                let value = f();
+                entry.insert_entry(value)
+            }
+        }
+    }
+
+    /// Inserts the answer of `f` on the key where the entry is vacant, and answers the occupied entry. `f` isn't called
+    /// on an occupied one.
+    pub fn or_insert_with_key<F: FnOnce(&K) -> V>(
+        self,
+        f: F,
+    ) -> Result<OccupiedEntry<'a, K, V, H>, InsertError<K, V>>
+        requires { IsVacant self → FnOnceTakesAt F.FnOnce f (entry_key self) }
+        ensures entry { IfOk result (OrInsertsSome self.entry (FnOnceReturnsAt F.FnOnce f)) }
+        ensures refused { IfErr result (RefusesSome self.entry (FnOnceReturnsAt F.FnOnce f)) }
+        ensures vacant { OnErr result (IsVacant self.entry) }
+        ensures growth { IfOk result (GrowsThrough
+            (hash_in ⟦<H as Hashes<K>>⟧.hash_of (write_guard_value (entry_guard self.entry))) self.entry) }
+        ensures relocates { IfOk result (RelocatesThrough
+            (hash_in ⟦<H as Hashes<K>>⟧.hash_of (write_guard_value (entry_guard self.entry))) self.entry) }
+        ensures unique { IfOk result (λ o. IsUnique K.eq (held_map o)) }
+    {
+        match self {
+            HeldPlace::Occupied(entry) => {
+                entry.look_at_map();
+                Ok(entry)
+            }
+            HeldPlace::Vacant(entry) => {
+                let value = f(entry.key());
+                entry.insert_entry(value)
+            }
+        }
+    }
+
+    /// Inserts the default value where the entry is vacant, and answers the occupied entry.
+    pub fn or_default(self) -> Result<OccupiedEntry<'a, K, V, H>, InsertError<K, V>>
+    where
+        V: Default,
+        ensures entry { IfOk result (OrInsertsSome self.entry (λ k v. V.is_default v)) }
+        ensures refused { IfErr result (RefusesSome self.entry (λ k v. V.is_default v)) }
+        ensures vacant { OnErr result (IsVacant self.entry) }
+        ensures growth { IfOk result (GrowsThrough
+            (hash_in ⟦<H as Hashes<K>>⟧.hash_of (write_guard_value (entry_guard self.entry))) self.entry) }
+        ensures relocates { IfOk result (RelocatesThrough
+            (hash_in ⟦<H as Hashes<K>>⟧.hash_of (write_guard_value (entry_guard self.entry))) self.entry) }
+        ensures unique { IfOk result (λ o. IsUnique K.eq (held_map o)) }
+    {
+        match self {
+            HeldPlace::Occupied(entry) => {
+                entry.look_at_map();
+                Ok(entry)
+            }
+            HeldPlace::Vacant(entry) => {
+                let value = V::default();
+                entry.insert_entry(value)
+            }
+        }
+    }
+
+    /// Sets the value of an occupied entry, which keeps its key; inserts it at a vacant one. It answers the entry.
+    pub fn insert_entry(self, value: V) -> Result<OccupiedEntry<'a, K, V, H>, InsertError<K, V>>
+    where
+        V: Drop,
+        ensures entry { IfOk result (SetsEntry self.entry value) }
+        ensures refused { IfErr result (λ e. e ≡ Memory (entry_key self.entry, value)) }
+        ensures vacant { OnErr result (IsVacant self.entry) }
+        ensures growth { IfOk result (GrowsThrough
+            (hash_in ⟦<H as Hashes<K>>⟧.hash_of (write_guard_value (entry_guard self.entry))) self.entry) }
+        ensures relocates { IfOk result (RelocatesThrough
+            (hash_in ⟦<H as Hashes<K>>⟧.hash_of (write_guard_value (entry_guard self.entry))) self.entry) }
+        ensures unique { IfOk result (λ o. IsUnique K.eq (held_map o)) }
+    {
+        match self {
+            HeldPlace::Occupied(entry) => {
+                let mut entry = entry;
+                let _old = entry.insert(value);
+                Ok(entry)
+            }
+            HeldPlace::Vacant(entry) => entry.insert_entry(value),
+        }
+    }
+}

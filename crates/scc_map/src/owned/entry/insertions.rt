@@ -1,0 +1,299 @@
+//! The insertions of an entry of a borrowed map. Each goes on at the place that the search found. Where an entry is
+//! occupied, `len` is called for its contract: no two keys are equal.
+ghost use Rattle.std.specs.Prelude.{◌≡◌, IfOk, OnErr, IfErr};
+ghost use Rattle.std.specs.Borrow.{sem};
+ghost use Rattle.std.specs.Fn.{FnOnceTakesAt, FnOnceReturnsAt};
+ghost use Rattle.scc_contents.specs.Contents.{hash_in};
+ghost use Rattle.scc_contents.specs.Pairs.{HasRoom, IsUnique};
+ghost use Rattle.scc_map.specs.Entries.{Memory, held_map, entry_guard, entry_key, GrowsThrough, IsVacant, OrInserts, OrInsertsSome, RefusesSome, RelocatesThrough, SetsEntry, rests_if_refused};
+
+use super::OccupiedEntry;
+use crate::held::{HeldEntry, HeldPlace, HeldVacant};
+use crate::owned::Owned;
+use scc_common::InsertError;
+use scc_contents::Hashes;
+use std::hash::{BuildHasher, Hash};
+use std::marker::PhantomData;
+
+impl<'a, K: Eq + Hash, V, H: BuildHasher> HeldPlace<&'a mut Owned<K, V, H>, (), K, V, H> {
+    /// Inserts `default` where the entry is vacant, and answers the occupied entry. An occupied one stays as it is, and
+    /// can't be refused.
+    pub fn or_insert(self, default: V) -> Result<OccupiedEntry<'a, K, V, H>, InsertError<K, V>>
+    where
+        V: Drop,
+        ensures entry { IfOk result (OrInserts self.entry default) }
+        ensures refused { IfErr result (λ e. e ≡ Memory (entry_key self.entry, default)) }
+        ensures vacant { OnErr result (IsVacant self.entry) }
+        ensures full { OnErr result (HasRoom (hash_in ⟦<H as Hashes<K>>⟧.hash_of (entry_guard self.entry).now)
+            (entry_guard self.entry).now (entry_key self.entry) → ⊥) }
+        ensures growth { IfOk result (GrowsThrough (hash_in ⟦<H as Hashes<K>>⟧.hash_of (entry_guard self.entry).now)
+            self.entry) }
+        ensures relocates { IfOk result (RelocatesThrough
+            (hash_in ⟦<H as Hashes<K>>⟧.hash_of (entry_guard self.entry).now) self.entry) }
+        ensures unique { IfOk result (λ o. IsUnique K.eq (held_map o)) }
+        ensures* kept { sem 𝓛 (rests_if_refused K.row V.row H.row H.Hasher.row K.Hash H.BuildHasher H.Hasher.Hasher
+            (entry_guard self.entry) (entry_key self.entry) result) }
+    {
+        match self {
+            HeldPlace::Occupied(entry) => {
+                let HeldEntry {
+                    guard,
+                    place,
+                    rest,
+                    of,
+                } = entry;
+                drop(default);
+                let _ = guard.len();
+                Ok(HeldEntry {
+                    guard,
+                    place,
+                    rest,
+                    of,
+                })
+            }
+            HeldPlace::Vacant(entry) => {
+                let HeldVacant {
+                    guard,
+                    key,
+                    hash,
+                    rest,
+                    of: _,
+                } = entry;
+                match guard.insert_new(hash, key, default) {
+                    Ok(place) => Ok(HeldEntry {
+                        guard,
+                        place,
+                        rest,
+                        of: PhantomData,
+                    }),
+                    Err(pair) => Err(InsertError::Memory(pair)),
+                }
+            }
+        }
+    }
+
+    /// Inserts the answer of `f` where the entry is vacant, and answers the occupied entry. `f` isn't called on an
+    /// occupied one.
+    pub fn or_insert_with<F: FnOnce() -> V>(
+        self,
+        f: F,
+    ) -> Result<OccupiedEntry<'a, K, V, H>, InsertError<K, V>>
+        requires { IsVacant self → F.pre f }
+        ensures entry { IfOk result (OrInsertsSome self.entry (λ k v. F.post f v)) }
+        ensures refused { IfErr result (RefusesSome self.entry (λ k v. F.post f v)) }
+        ensures vacant { OnErr result (IsVacant self.entry) }
+        ensures full { OnErr result (HasRoom (hash_in ⟦<H as Hashes<K>>⟧.hash_of (entry_guard self.entry).now)
+            (entry_guard self.entry).now (entry_key self.entry) → ⊥) }
+        ensures growth { IfOk result (GrowsThrough (hash_in ⟦<H as Hashes<K>>⟧.hash_of (entry_guard self.entry).now)
+            self.entry) }
+        ensures relocates { IfOk result (RelocatesThrough
+            (hash_in ⟦<H as Hashes<K>>⟧.hash_of (entry_guard self.entry).now) self.entry) }
+        ensures unique { IfOk result (λ o. IsUnique K.eq (held_map o)) }
+        ensures* kept { sem 𝓛 (rests_if_refused K.row V.row H.row H.Hasher.row K.Hash H.BuildHasher H.Hasher.Hasher
+            (entry_guard self.entry) (entry_key self.entry) result) }
+    {
+        match self {
+            HeldPlace::Occupied(entry) => {
+                let HeldEntry {
+                    guard,
+                    place,
+                    rest,
+                    of,
+                } = entry;
+                let _ = guard.len();
+                Ok(HeldEntry {
+                    guard,
+                    place,
+                    rest,
+                    of,
+                })
+            }
+            HeldPlace::Vacant(entry) => {
+                let HeldVacant {
+                    guard,
+                    key,
+                    hash,
+                    rest,
+                    of: _,
+                } = entry;
+                let value = f();
+                match guard.insert_new(hash, key, value) {
+                    Ok(place) => Ok(HeldEntry {
+                        guard,
+                        place,
+                        rest,
+                        of: PhantomData,
+                    }),
+                    Err(pair) => Err(InsertError::Memory(pair)),
+                }
+            }
+        }
+    }
+
+    /// Inserts the answer of `f` on the key where the entry is vacant, and answers the occupied entry. `f` isn't called
+    /// on an occupied one.
+    pub fn or_insert_with_key<F: FnOnce(&K) -> V>(
+        self,
+        f: F,
+    ) -> Result<OccupiedEntry<'a, K, V, H>, InsertError<K, V>>
+        requires { IsVacant self → FnOnceTakesAt F.FnOnce f (entry_key self) }
+        ensures entry { IfOk result (OrInsertsSome self.entry (FnOnceReturnsAt F.FnOnce f)) }
+        ensures refused { IfErr result (RefusesSome self.entry (FnOnceReturnsAt F.FnOnce f)) }
+        ensures vacant { OnErr result (IsVacant self.entry) }
+        ensures full { OnErr result (HasRoom (hash_in ⟦<H as Hashes<K>>⟧.hash_of (entry_guard self.entry).now)
+            (entry_guard self.entry).now (entry_key self.entry) → ⊥) }
+        ensures growth { IfOk result (GrowsThrough (hash_in ⟦<H as Hashes<K>>⟧.hash_of (entry_guard self.entry).now)
+            self.entry) }
+        ensures relocates { IfOk result (RelocatesThrough
+            (hash_in ⟦<H as Hashes<K>>⟧.hash_of (entry_guard self.entry).now) self.entry) }
+        ensures unique { IfOk result (λ o. IsUnique K.eq (held_map o)) }
+        ensures* kept { sem 𝓛 (rests_if_refused K.row V.row H.row H.Hasher.row K.Hash H.BuildHasher H.Hasher.Hasher
+            (entry_guard self.entry) (entry_key self.entry) result) }
+    {
+        match self {
+            HeldPlace::Occupied(entry) => {
+                let HeldEntry {
+                    guard,
+                    place,
+                    rest,
+                    of,
+                } = entry;
+                let _ = guard.len();
+                Ok(HeldEntry {
+                    guard,
+                    place,
+                    rest,
+                    of,
+                })
+            }
+            HeldPlace::Vacant(entry) => {
+                let HeldVacant {
+                    guard,
+                    key,
+                    hash,
+                    rest,
+                    of: _,
+                } = entry;
+                let value = f(&key);
+                match guard.insert_new(hash, key, value) {
+                    Ok(place) => Ok(HeldEntry {
+                        guard,
+                        place,
+                        rest,
+                        of: PhantomData,
+                    }),
+                    Err(pair) => Err(InsertError::Memory(pair)),
+                }
+            }
+        }
+    }
+
+    /// Inserts the default value where the entry is vacant, and answers the occupied entry.
+    pub fn or_default(self) -> Result<OccupiedEntry<'a, K, V, H>, InsertError<K, V>>
+    where
+        V: Default,
+        ensures entry { IfOk result (OrInsertsSome self.entry (λ k v. V.is_default v)) }
+        ensures refused { IfErr result (RefusesSome self.entry (λ k v. V.is_default v)) }
+        ensures vacant { OnErr result (IsVacant self.entry) }
+        ensures full { OnErr result (HasRoom (hash_in ⟦<H as Hashes<K>>⟧.hash_of (entry_guard self.entry).now)
+            (entry_guard self.entry).now (entry_key self.entry) → ⊥) }
+        ensures growth { IfOk result (GrowsThrough (hash_in ⟦<H as Hashes<K>>⟧.hash_of (entry_guard self.entry).now)
+            self.entry) }
+        ensures relocates { IfOk result (RelocatesThrough
+            (hash_in ⟦<H as Hashes<K>>⟧.hash_of (entry_guard self.entry).now) self.entry) }
+        ensures unique { IfOk result (λ o. IsUnique K.eq (held_map o)) }
+        ensures* kept { sem 𝓛 (rests_if_refused K.row V.row H.row H.Hasher.row K.Hash H.BuildHasher H.Hasher.Hasher
+            (entry_guard self.entry) (entry_key self.entry) result) }
+    {
+        match self {
+            HeldPlace::Occupied(entry) => {
+                let HeldEntry {
+                    guard,
+                    place,
+                    rest,
+                    of,
+                } = entry;
+                let _ = guard.len();
+                Ok(HeldEntry {
+                    guard,
+                    place,
+                    rest,
+                    of,
+                })
+            }
+            HeldPlace::Vacant(entry) => {
+                let HeldVacant {
+                    guard,
+                    key,
+                    hash,
+                    rest,
+                    of: _,
+                } = entry;
+                let value = V::default();
+                match guard.insert_new(hash, key, value) {
+                    Ok(place) => Ok(HeldEntry {
+                        guard,
+                        place,
+                        rest,
+                        of: PhantomData,
+                    }),
+                    Err(pair) => Err(InsertError::Memory(pair)),
+                }
+            }
+        }
+    }
+
+    /// Sets the value of an occupied entry, which keeps its key; inserts it at a vacant one. It answers the entry.
+    pub fn insert_entry(self, value: V) -> Result<OccupiedEntry<'a, K, V, H>, InsertError<K, V>>
+    where
+        V: Drop,
+        ensures entry { IfOk result (SetsEntry self.entry value) }
+        ensures refused { IfErr result (λ e. e ≡ Memory (entry_key self.entry, value)) }
+        ensures vacant { OnErr result (IsVacant self.entry) }
+        ensures full { OnErr result (HasRoom (hash_in ⟦<H as Hashes<K>>⟧.hash_of (entry_guard self.entry).now)
+            (entry_guard self.entry).now (entry_key self.entry) → ⊥) }
+        ensures growth { IfOk result (GrowsThrough (hash_in ⟦<H as Hashes<K>>⟧.hash_of (entry_guard self.entry).now)
+            self.entry) }
+        ensures relocates { IfOk result (RelocatesThrough
+            (hash_in ⟦<H as Hashes<K>>⟧.hash_of (entry_guard self.entry).now) self.entry) }
+        ensures unique { IfOk result (λ o. IsUnique K.eq (held_map o)) }
+        ensures* kept { sem 𝓛 (rests_if_refused K.row V.row H.row H.Hasher.row K.Hash H.BuildHasher H.Hasher.Hasher
+            (entry_guard self.entry) (entry_key self.entry) result) }
+    {
+        match self {
+            HeldPlace::Occupied(entry) => {
+                let HeldEntry {
+                    guard,
+                    place,
+                    rest,
+                    of,
+                } = entry;
+                let _old = guard.write_at(place, value);
+                Ok(HeldEntry {
+                    guard,
+                    place,
+                    rest,
+                    of,
+                })
+            }
+            HeldPlace::Vacant(entry) => {
+                let HeldVacant {
+                    guard,
+                    key,
+                    hash,
+                    rest,
+                    of: _,
+                } = entry;
+                match guard.insert_new(hash, key, value) {
+                    Ok(place) => Ok(HeldEntry {
+                        guard,
+                        place,
+                        rest,
+                        of: PhantomData,
+                    }),
+                    Err(pair) => Err(InsertError::Memory(pair)),
+                }
+            }
+        }
+    }
+}

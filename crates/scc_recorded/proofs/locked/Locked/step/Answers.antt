@@ -1,0 +1,4 @@
+use Rattle.scc_recorded.proofs.locked.Locked.step.Goals as goal
+
+pub returns-clause-refused : goal.returns-clause-refused
+returns-clause-refused g c e = ∣ (_, _, c.step.ensures.refused e) ∣₁

@@ -1,0 +1,19 @@
+-- What each of several stripes gets of what a recorded container is made with.
+use Rattle.std.specs.Prelude.{◌≡◌, ℕ, ◌+◌, ◌/◌, ◌%◌, ◌==◌, ◌⊎◌, if◌then◌else◌}
+use Rattle.scc_calls.specs.declared.fixed.Request.{Request}
+
+-- so many stripes may be asked for
+abbrev pub IsStripes : ℕ → Type 0
+IsStripes stripes = (stripes ≡ 1) ⊎ (stripes ≡ 2) ⊎ (stripes ≡ 4) ⊎ (stripes ≡ 8) ⊎ (stripes ≡ 16)
+
+-- how many first bits of a hash pick one of so many stripes
+abbrev pub skipped_for : ℕ → ℕ
+skipped_for stripes = if stripes == 1 then 0 else if stripes == 2 then 1 else if stripes == 4 then 2 else if stripes == 8 then 3 else 4
+
+-- the share of one stripe, rounded up
+abbrev pub share_of : ℕ → ℕ → ℕ
+share_of slots stripes = if slots % stripes == 0 then slots / stripes else slots / stripes + 1
+
+-- what each stripe is made for
+abbrev pub request_of : {H : Type 0} → ℕ → ℕ → H → ℕ → Request H
+request_of capacity maximum hasher stripes = record { hasher = hasher; skipped = skipped_for stripes; slots = share_of capacity stripes; maximum = share_of maximum stripes }

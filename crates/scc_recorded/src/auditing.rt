@@ -1,0 +1,121 @@
+//! The ledgers tell that there are as many call records as receipts.
+ghost use Rattle.std.specs.Prelude.{◌≡◌, ◌+◌, ◌<◌, length, map, vec_len};
+ghost use Rattle.std.specs.List.{sum_by};
+ghost use Rattle.scc_history.specs.Stamps.{calls_in};
+
+use crate::counts::Count;
+use crate::{Closed, Guarded, Pass, Site};
+use scc_calls::{Calls, Step};
+use std::sync::ledger::{Book, Ledger, Share};
+
+impl<C: Calls, L: Ledger, M: Site<C::Hasher>> Closed<C, L, M> {
+    /// Compares nothing, and shows by the ledgers that all passes together have as many receipts as all stripes have
+    /// call records. It may come before `finish`, and after a refused one.
+    pub fn audit(&mut self, passes: &mut [Pass<C, L>])
+        requires passes { (length passes.old ≡ L.parts) × (0 < L.parts) }
+        requires stripes { (M.all ≡ M.parts) × (0 < M.parts) }
+        ensures equal { sum_by (λ s. calls_in s.stripe.history.items) self.old.stripes.items
+            ≡ sum_by (λ p. length p.log.receipts.items) passes.old }
+        ensures stripes { map (λ s. s.stripe) self.new.stripes.items ≡ map (λ s. s.stripe) self.old.stripes.items }
+        ensures passes { map (λ p. p.log) passes.new ≡ map (λ p. p.log) passes.old }
+        ensures same { (self.new.passes ≡ self.old.passes) × (self.new.hasher ≡ self.old.hasher) }
+    {
+        let Closed {
+            stripes,
+            hasher: _,
+            passes: _,
+            count,
+            alloc: _,
+        } = self;
+        let Count { receipts, records } = count;
+        Pass::audit_all(passes, receipts);
+        Guarded::audit_all(stripes.as_mut_slice(), records);
+    }
+}
+
+impl<C: Calls, L: Ledger> Pass<C, L> {
+    // The book's total is the number of all receipts.
+    fn audit_all(passes: &mut [Pass<C, L>], book: &mut Book<L>)
+        requires { (length passes.old ≡ L.parts) × (0 < L.parts) }
+        ensures total { book.old.total ≡ sum_by (λ p. length p.log.receipts.items) passes.old }
+        ensures same { book.new.total ≡ book.old.total }
+        ensures passes { map (λ p. p.log) passes.new ≡ map (λ p. p.log) passes.old }
+    {
+        let first = &mut passes[0];
+        let Pass { log: _, share } = first;
+        let mut seen = share.empty();
+        Pass::audit_from(passes, book, &mut seen);
+    }
+
+    // Lends the share of each pass to `seen`, and asks the book once all have.
+    fn audit_from(passes: &mut [Pass<C, L>], book: &mut Book<L>, seen: &mut Share<L>)
+        requires parts { seen.old.parts + length passes.old ≡ L.parts }
+        requires backed { (seen.old.parts ≡ 0) → (seen.old.amount ≡ 0) }
+        ensures total { book.old.total ≡ seen.old.amount + sum_by (λ p. length p.log.receipts.items) passes.old }
+        ensures same { (book.new.total ≡ book.old.total) × (seen.new.parts ≡ seen.old.parts)
+            × (seen.new.amount ≡ seen.old.amount) }
+        ensures passes { map (λ p. p.log) passes.new ≡ map (λ p. p.log) passes.old }
+    {
+        if passes.is_empty() {
+            book.audit(seen);
+            return;
+        }
+        let (front, rest) = passes.split_at_mut(1);
+        let first = &mut front[0];
+        let amount = first.log.receipts.len() as u64;
+        let Pass { log: _, share } = first;
+        share.give(seen, 1, amount);
+        Pass::audit_from(rest, book, seen);
+        seen.give(share, 1, amount);
+    }
+}
+
+impl<C: Calls, M: Site<C::Hasher>> Guarded<C, M> {
+    // The book's total is the number of all call records.
+    fn audit_all(stripes: &mut [Guarded<C, M>], book: &mut Book<M>)
+        requires { (length stripes.old ≡ M.parts) × (0 < M.parts) }
+        ensures total { book.old.total ≡ sum_by (λ s. calls_in s.stripe.history.items) stripes.old }
+        ensures same { book.new.total ≡ book.old.total }
+        ensures stripes { map (λ s. s.stripe) stripes.new ≡ map (λ s. s.stripe) stripes.old }
+    {
+        let first = &mut stripes[0];
+        let Guarded { stripe: _, share } = first;
+        let mut seen = share.empty();
+        Guarded::audit_from(stripes, book, &mut seen);
+    }
+
+    // Lends the share of each stripe to `seen`, and asks the book once all have.
+    fn audit_from(stripes: &mut [Guarded<C, M>], book: &mut Book<M>, seen: &mut Share<M>)
+        requires parts { seen.old.parts + length stripes.old ≡ M.parts }
+        requires backed { (seen.old.parts ≡ 0) → (seen.old.amount ≡ 0) }
+        ensures total { book.old.total ≡ seen.old.amount + sum_by (λ s. calls_in s.stripe.history.items) stripes.old }
+        ensures same { (book.new.total ≡ book.old.total) × (seen.new.parts ≡ seen.old.parts)
+            × (seen.new.amount ≡ seen.old.amount) }
+        ensures stripes { map (λ s. s.stripe) stripes.new ≡ map (λ s. s.stripe) stripes.old }
+    {
+        if stripes.is_empty() {
+            book.audit(seen);
+            return;
+        }
+        let (front, rest) = stripes.split_at_mut(1);
+        let first = &mut front[0];
+        let amount = count_of(first.stripe.history.as_slice());
+        let Guarded { stripe: _, share } = first;
+        share.give(seen, 1, amount);
+        Guarded::audit_from(rest, book, seen);
+        seen.give(share, 1, amount);
+    }
+}
+
+// The number of call records.
+fn count_of<A, R>(history: &[Step<A, R>]) -> u64
+    ensures { result ≡ calls_in history.now }
+{
+    let mut count: u64 = 0;
+    for j in 0..history.len() {
+        if let Step::Call { .. } = &history[j] {
+            count += 1;
+        }
+    }
+    count
+}

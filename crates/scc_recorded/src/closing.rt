@@ -1,0 +1,111 @@
+//! Stripes out of their locks.
+ghost use Rattle.std.specs.Prelude.{◌≡◌, ℕ, ◌+◌, ◌<◌, ◌≤◌, List, length, map, MatchOption, Some, slice_get, vec_len};
+ghost use Rattle.scc_calls.specs.declared.fixed.Request.{Request};
+ghost use Rattle.scc_history.specs.Stamps.{Rises};
+
+use crate::counts::Count;
+use crate::locked::Locked;
+use crate::rooms::Room;
+use crate::{Guarded, Recorded, Site};
+use scc_calls::{Calls, Step};
+use scc_history::{Histories, Stripe};
+use std::alloc::Global;
+use std::sync::ledger::Ledger;
+
+/// The stripes of a container that nobody calls any more.
+#[derive(Drop)]
+pub struct Closed<C: Calls, L: Ledger, M: Site<C::Hasher>> {
+    pub stripes: Vec<Guarded<C, M>>,
+    pub hasher: C::Hasher,
+    /// The number of passes that were handed out.
+    pub passes: usize,
+    pub(crate) count: Count<L, M>,
+    pub(crate) alloc: Global,
+    pub ghost placed: { ∥ ((r : Request C.Hasher) × (M.chosen ≡ Some r) × (r.hasher ≡ hasher)) ∥₁ },
+    pub ghost some: { 0 < vec_len stripes },
+    pub ghost all: { vec_len stripes ≡ M.all },
+}
+
+impl<C: Calls + Drop, L: Ledger, M: Site<C::Hasher>> Recorded<C, L, M>
+where
+    C::Hasher: Drop,
+{
+    /// Takes the stripes out of their locks. It takes no memory.
+    pub fn close(self) -> Closed<C, L, M>
+        ensures stripes { vec_len result.stripes ≡ self.stripes }
+        ensures passes { result.passes ≡ self.passes }
+        ensures hasher { result.hasher ≡ self.hasher }
+    {
+        let Recorded {
+            stripes: _,
+            locks,
+            count,
+            hasher,
+            passes,
+            alloc,
+            room,
+        } = self;
+        let mut locks = locks;
+        let Room { list } = room.into_inner();
+        let mut stripes = list;
+        while !locks.is_empty() {
+            let Locked { number: _, lock } = locks.remove(0);
+            stripes.push_reserved(lock.into_inner());
+        }
+        Closed {
+            stripes,
+            hasher,
+            passes,
+            count: count.into_inner(),
+            alloc,
+        }
+    }
+}
+
+impl<C: Calls, L: Ledger, M: Site<C::Hasher>> Closed<C, L, M> {
+    /// The stripe with that number, if there is one.
+    pub fn stripe(&self, i: usize) -> Option<&Stripe<C>>
+        ensures { MatchOption result (vec_len self.now.stripes ≤ i)
+            (λ s. slice_get (map (λ g. g.stripe) self.now.stripes.items) i ≡ Some s.now) }
+    {
+        if i < self.stripes.len() {
+            Some(&self.stripes[i].stripe)
+        } else {
+            None
+        }
+    }
+}
+
+impl<C: Calls, M: Site<C::Hasher>> Histories for Guarded<C, M> {
+    type Call = C::Call;
+
+    type Reply = C::Reply;
+
+    ghost history = { λ g. g.stripe.history.items };
+
+    ghost last = { λ g. g.stripe.last };
+
+    fn history(&self) -> &[Step<C::Call, C::Reply>] {
+        let _last = self.stripe.last;
+        let _len = self.stripe.history.len();
+        self.stripe.history.as_slice()
+    }
+}
+
+impl<C: Calls, M: Site<C::Hasher>> Guarded<C, M> {
+    // The container, the history and the number of buckets at opening.
+    pub(crate) fn into_parts(self) -> (C, Vec<Step<C::Call, C::Reply>>, usize)
+        ensures { (result.0 ≡ self.stripe.container) × (result.1 ≡ self.stripe.history)
+            × (result.2 ≡ self.stripe.opened) }
+    {
+        let Guarded { stripe, share: _ } = self;
+        let Stripe {
+            number: _,
+            container,
+            history,
+            last: _,
+            opened,
+        } = stripe;
+        (container, history, opened)
+    }
+}

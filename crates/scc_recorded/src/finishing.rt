@@ -1,0 +1,179 @@
+//! What a run was.
+ghost use Rattle.std.specs.Prelude.{◌≡◌, ℕ, ◌+◌, ◌<◌, ◌≤◌, List, [], length, map, Err, IfOk, IfErr, Some, slice_get, vec_len, vec_capacity};
+ghost use Rattle.scc_calls.specs.Histories.{CallsRouted};
+ghost use Rattle.scc_contents.specs.Routing.{stripe_of};
+ghost use Rattle.scc_history.specs.Orders.{IsOnlyStampOrder, steps_at};
+ghost use Rattle.scc_history.specs.Receipts.{AreAll, calls_of};
+ghost use Rattle.scc_recorded.specs.Closing.{AllMatch};
+ghost use Rattle.scc_recorded.specs.Finished.{IsFinished, IsRefused};
+
+use crate::checks::{are_all, misrouted};
+use crate::comparing::first_disagreement;
+use crate::lists::list_for;
+use crate::{Closed, FinishError, Guarded, Pass, Recorded, Site};
+use scc_calls::{Calls, Step, every_merge_is_a_run};
+use scc_history::{records_by_pass, stamp_order};
+use std::sync::ledger::Ledger;
+
+/// What a run was.
+#[derive(Drop)]
+pub struct Finished<C: Calls> {
+    /// The container of each stripe.
+    pub parts: Vec<C>,
+    /// The history of each stripe.
+    pub histories: Vec<Vec<Step<C::Call, C::Reply>>>,
+    /// The number of buckets of each stripe at opening.
+    pub opened: Vec<usize>,
+    /// The places of all steps, as stripe and index, in the order of their stamps.
+    pub order: Vec<(usize, usize)>,
+}
+
+/// All that was handed in, and why the run wasn't finished.
+#[derive(Drop)]
+pub struct Unfinished<C: Calls, L: Ledger, M: Site<C::Hasher>> {
+    pub recorded: Closed<C, L, M>,
+    pub passes: Vec<Pass<C, L>>,
+    pub cause: FinishError,
+}
+
+impl<C: Calls + Drop, L: Ledger, M: Site<C::Hasher>> Closed<C, L, M>
+where
+    C::Hasher: Drop,
+{
+    /// What the run was, where the passes are all that were handed out, each call stands in the stripe of its key, and
+    /// each pass has a receipt for each of its call records and no other.
+    ///
+    /// It takes time by the number of records times the logarithm of the number of stripes. Where it is refused, all
+    /// that was handed in comes back unchanged. `Missing` comes first, then `Misrouted`, then `Disagrees`; `Memory`
+    /// only where memory for a list was refused.
+    pub fn finish(self, passes: Vec<Pass<C, L>>) -> Result<Finished<C>, Unfinished<C, L, M>>
+        ensures parts { IfOk result (λ f. (f.parts.items ≡ map (λ s. s.stripe.container) self.stripes.items)
+            × (map (λ h. h.items) f.histories.items ≡ map (λ s. s.stripe.history.items) self.stripes.items)
+            × (f.opened.items ≡ map (λ s. s.stripe.opened) self.stripes.items)) }
+        ensures finished { IfOk result (λ f. IsFinished (record { limits = C.limits; empty = C.empty; key_of = C.key_of; moves = C.moves; resizes = C.resizes; whole = C.whole; whole_moves = C.whole_moves; whole_resizes = C.whole_resizes; setting = C.setting; state = C.state; calls = C.Call.eq; replies = C.Reply.eq; route = stripe_of C.Hasher.BuildHasher C.Hasher.Hasher.Hasher C.Key.Hash.hash_input })
+            (λ p. p.log.number) (λ p. p.log.receipts.items) self.hasher self.passes (map (λ h. h.items) f.histories.items) passes.items M.chosen f.parts.items f.opened.items f.order.items) }
+        ensures back { IfErr result (λ u. (u.recorded ≡ self) × (u.passes ≡ passes)) }
+        ensures refused { IfErr result (λ u. IsRefused (record { limits = C.limits; empty = C.empty; key_of = C.key_of; moves = C.moves; resizes = C.resizes; whole = C.whole; whole_moves = C.whole_moves; whole_resizes = C.whole_resizes; setting = C.setting; state = C.state; calls = C.Call.eq; replies = C.Reply.eq; route = stripe_of C.Hasher.BuildHasher C.Hasher.Hasher.Hasher C.Key.Hash.hash_input })
+            (λ p. p.log.number) (λ p. p.log.receipts.items) u.recorded.hasher u.recorded.passes (map (λ s. s.stripe.history.items) u.recorded.stripes.items) u.passes.items u.cause) }
+    {
+        let order = match self.order_of(passes.as_slice()) {
+            Ok(order) => order,
+            Err(cause) => {
+                return Err(Unfinished {
+                    recorded: self,
+                    passes,
+                    cause,
+                });
+            }
+        };
+        every_merge_is_a_run::<C>();
+        let room = self.stripes.len();
+        let (Ok(mut parts), Ok(mut histories), Ok(mut opened)) = (
+            list_for(self.alloc, room),
+            list_for(self.alloc, room),
+            list_for(self.alloc, room),
+        ) else {
+            return Err(Unfinished {
+                recorded: self,
+                passes,
+                cause: FinishError::Memory,
+            });
+        };
+        let Closed {
+            stripes,
+            hasher: _,
+            passes: _,
+            count: _,
+            alloc: _,
+        } = self;
+        move_out(stripes, &mut parts, &mut histories, &mut opened);
+        Ok(Finished {
+            parts,
+            histories,
+            opened,
+            order,
+        })
+    }
+
+    // The stamp order, where nothing speaks against the run.
+    fn order_of(&self, passes: &[Pass<C, L>]) -> Result<Vec<(usize, usize)>, FinishError>
+        ensures complete { IfOk result (λ v. AreAll self.now.passes (map (λ p. p.log.number) passes.now)) }
+        ensures routed { IfOk result (λ v. CallsRouted C.key_of
+            (stripe_of C.Hasher.BuildHasher C.Hasher.Hasher.Hasher C.Key.Hash.hash_input self.now.hasher
+            (vec_len self.now.stripes)) 0 (map (λ s. s.stripe.history.items) self.now.stripes.items)) }
+        ensures order { IfOk result (λ v. IsOnlyStampOrder (map (λ s. s.stripe.history.items) self.now.stripes.items)
+            v.items) }
+        ensures receipts { IfOk result (λ v. AllMatch C.Call.eq C.Reply.eq (λ p. p.log.number)
+            (λ p. p.log.receipts.items) passes.now
+            (λ n. calls_of n (steps_at (map (λ s. s.stripe.history.items) self.now.stripes.items) v.items))) }
+        ensures refused { IfErr result (λ cause. IsRefused (record { limits = C.limits; empty = C.empty; key_of = C.key_of; moves = C.moves; resizes = C.resizes; whole = C.whole; whole_moves = C.whole_moves; whole_resizes = C.whole_resizes; setting = C.setting; state = C.state; calls = C.Call.eq; replies = C.Reply.eq; route = stripe_of C.Hasher.BuildHasher C.Hasher.Hasher.Hasher C.Key.Hash.hash_input })
+            (λ p. p.log.number) (λ p. p.log.receipts.items) self.now.hasher self.now.passes (map (λ s. s.stripe.history.items) self.now.stripes.items) passes.now cause) }
+    {
+        let Ok(complete) = are_all(self.alloc, passes, self.passes) else {
+            return Err(FinishError::Memory);
+        };
+        if !complete {
+            return Err(FinishError::Missing);
+        }
+        if let Some((stripe, index)) = misrouted(&self.hasher, self.stripes.as_slice()) {
+            return Err(FinishError::Misrouted { stripe, index });
+        }
+        let Ok(order) = stamp_order(self.alloc, self.stripes.as_slice()) else {
+            return Err(FinishError::Memory);
+        };
+        let Ok(records) = records_by_pass(
+            self.alloc,
+            self.stripes.as_slice(),
+            order.as_slice(),
+            self.passes,
+        ) else {
+            return Err(FinishError::Memory);
+        };
+        if let Some((pass, receipt)) = first_disagreement(passes, records.as_slice()) {
+            return Err(FinishError::Disagrees { pass, receipt });
+        }
+        Ok(order)
+    }
+}
+
+impl<C: Calls + Drop, L: Ledger, M: Site<C::Hasher>> Recorded<C, L, M>
+where
+    C::Hasher: Drop,
+{
+    /// What the run was: [`Recorded::close`], and then [`Closed::finish`], with its costs and its refusals. Where it is
+    /// refused, the stripes come back out of their locks, so a further try is [`Closed::finish`].
+    pub fn finish(self, passes: Vec<Pass<C, L>>) -> Result<Finished<C>, Unfinished<C, L, M>>
+        ensures finished { IfOk result (λ f. IsFinished (record { limits = C.limits; empty = C.empty; key_of = C.key_of; moves = C.moves; resizes = C.resizes; whole = C.whole; whole_moves = C.whole_moves; whole_resizes = C.whole_resizes; setting = C.setting; state = C.state; calls = C.Call.eq; replies = C.Reply.eq; route = stripe_of C.Hasher.BuildHasher C.Hasher.Hasher.Hasher C.Key.Hash.hash_input })
+            (λ p. p.log.number) (λ p. p.log.receipts.items) self.hasher self.passes (map (λ h. h.items) f.histories.items) passes.items M.chosen f.parts.items f.opened.items f.order.items) }
+        ensures stripes { IfOk result (λ f. vec_len f.parts ≡ self.stripes) }
+        ensures back { IfErr result (λ u. (u.passes ≡ passes) × (vec_len u.recorded.stripes ≡ self.stripes)
+            × (u.recorded.passes ≡ self.passes) × (u.recorded.hasher ≡ self.hasher)) }
+        ensures refused { IfErr result (λ u. IsRefused (record { limits = C.limits; empty = C.empty; key_of = C.key_of; moves = C.moves; resizes = C.resizes; whole = C.whole; whole_moves = C.whole_moves; whole_resizes = C.whole_resizes; setting = C.setting; state = C.state; calls = C.Call.eq; replies = C.Reply.eq; route = stripe_of C.Hasher.BuildHasher C.Hasher.Hasher.Hasher C.Key.Hash.hash_input })
+            (λ p. p.log.number) (λ p. p.log.receipts.items) u.recorded.hasher u.recorded.passes (map (λ s. s.stripe.history.items) u.recorded.stripes.items) u.passes.items u.cause) }
+    {
+        self.close().finish(passes)
+    }
+}
+
+// The containers, the histories and the numbers of buckets at opening of all stripes, moved out.
+fn move_out<C: Calls + Drop, M: Site<C::Hasher>>(
+    stripes: Vec<Guarded<C, M>>,
+    parts: &mut Vec<C>,
+    histories: &mut Vec<Vec<Step<C::Call, C::Reply>>>,
+    opened: &mut Vec<usize>,
+)
+    requires empty { (parts.old.items ≡ []) × (histories.old.items ≡ []) × (opened.old.items ≡ []) }
+    requires room { (vec_len stripes ≤ vec_capacity parts.old) × (vec_len stripes ≤ vec_capacity histories.old)
+        × (vec_len stripes ≤ vec_capacity opened.old) }
+    ensures parts { parts.new.items ≡ map (λ s. s.stripe.container) stripes.items }
+    ensures histories { map (λ h. h.items) histories.new.items ≡ map (λ s. s.stripe.history.items) stripes.items }
+    ensures opened { opened.new.items ≡ map (λ s. s.stripe.opened) stripes.items }
+{
+    let mut stripes = stripes;
+    while !stripes.is_empty() {
+        let (container, history, buckets) = stripes.remove(0).into_parts();
+        parts.push_reserved(container);
+        histories.push_reserved(history);
+        opened.push_reserved(buckets);
+    }
+}

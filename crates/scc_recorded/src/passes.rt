@@ -1,0 +1,59 @@
+//! What a caller holds.
+ghost use Rattle.std.specs.Prelude.{◌≡◌, ◌+◌, ◌<◌, [], length, max};
+
+use scc_calls::Calls;
+use scc_history::{Log, Receipt};
+use std::alloc::Global;
+use std::sync::ledger::{Ledger, Share};
+
+/// The right to call a recorded container, with the receipts of the calls that were made by it.
+#[derive(Drop)]
+pub struct Pass<C: Calls, L: Ledger> {
+    pub log: Log<C>,
+    pub(crate) share: Share<L>,
+    pub ghost part: { share.parts ≡ 1 },
+    pub ghost counted: { share.amount ≡ length log.receipts.items },
+}
+
+impl<C: Calls, L: Ledger> Pass<C, L> {
+    /// Its number among the passes that were handed out with it, from 0.
+    pub fn number(&self) -> usize
+        ensures { result ≡ self.now.log.number }
+    {
+        self.log.number
+    }
+
+    /// The greatest stamp that it knows of. Its next call gets a greater one.
+    pub fn clock(&self) -> u64
+        ensures { result ≡ self.now.log.clock }
+    {
+        self.log.clock
+    }
+
+    /// The receipts of its calls, in their order.
+    pub fn receipts(&self) -> &[Receipt<C::Call, C::Reply>]
+        ensures { result.now ≡ self.now.log.receipts.items }
+    {
+        self.log.receipts.as_slice()
+    }
+
+    /// Later calls of this pass get stamps above all that the other knows of.
+    pub fn told(&mut self, other: &Pass<C, L>)
+        ensures clock { self.new.log.clock ≡ max self.old.log.clock other.now.log.clock }
+        ensures same { (self.new.log.number ≡ self.old.log.number)
+            × (self.new.log.receipts.items ≡ self.old.log.receipts.items) }
+    {
+        self.log.told(&other.log);
+    }
+
+    // A pass of nothing, which takes one part of the ledger.
+    pub(crate) fn open(alloc: Global, number: usize, all: &mut Share<L>) -> Pass<C, L>
+        requires part { (0 < all.old.parts) × (all.old.amount ≡ 0) }
+        ensures log { (result.log.number ≡ number) × (result.log.clock ≡ 0) × (result.log.receipts.items ≡ []) }
+        ensures rest { (all.new.parts + 1 ≡ all.old.parts) × (all.new.amount ≡ 0) }
+    {
+        let log = Log::new(alloc, number);
+        let share = all.split_off(1, 0);
+        Pass { log, share }
+    }
+}

@@ -1,0 +1,41 @@
+//! What a recorded container is made with.
+ghost use Rattle.std.specs.Prelude.{◌≡◌, ◌≤◌, ◌<◌, ◌^◌, ◌⊎◌};
+ghost use Rattle.scc_recorded.specs.Setups.{IsStripes, skipped_for, share_of};
+
+/// What a recorded container is made with.
+#[derive(Drop)]
+pub struct Setup<H> {
+    /// So many slots at least in all stripes together; no array for 0.
+    pub capacity: usize,
+    /// The slots above which a cache shouldn't grow, in all stripes together. The other kinds don't look at it.
+    pub maximum: usize,
+    pub hasher: H,
+}
+
+// How many first bits of a hash pick one of so many stripes.
+pub(crate) fn bits_for(stripes: usize) -> u32
+    requires { IsStripes stripes }
+    ensures bits { result ≡ skipped_for stripes }
+    ensures few { result ≤ 4 }
+{
+    match stripes {
+        1 => 0,
+        2 => 1,
+        4 => 2,
+        8 => 3,
+        _ => 4,
+    }
+}
+
+// The share of one stripe, rounded up.
+pub(crate) fn slots_for(slots: usize, stripes: usize) -> usize
+    requires { 0 < stripes }
+    ensures { result ≡ share_of slots stripes }
+{
+    let whole = slots / stripes;
+    if slots % stripes == 0 {
+        whole
+    } else {
+        whole + 1
+    }
+}

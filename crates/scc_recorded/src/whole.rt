@@ -1,0 +1,77 @@
+//! Calls of every stripe, one after another.
+ghost use Rattle.std.specs.Prelude.{◌≡◌, ℕ, ◌+◌, ◌<◌, ◌≤◌, List, ◌++◌, Err, OnOk, OnErr, IfOk, min, length, drop};
+ghost use Rattle.std.specs.List.{sum_by};
+ghost use Rattle.scc_calls.specs.Copies.{ClonesEqual};
+ghost use Rattle.scc_recorded.specs.Adds.{Adds, IsOf, number_of};
+
+use crate::{Pass, Recorded, Site};
+use scc_calls::WholeCalls;
+use scc_history::{CallError, Receipt};
+use std::sync::Wait;
+use std::sync::ledger::Ledger;
+
+impl<C: WholeCalls, L: Ledger, M: Site<C::Hasher>> Recorded<C, L, M> {
+    /// Clears all stripes, stripe 0 first, each with a call, a stamp and a receipt of its own.
+    ///
+    /// The only error is `Room`, where a stripe has no room for the record or the receipt, or no stamp is left; then
+    /// those before it are cleared and recorded, and their receipts stand in the pass.
+    pub fn clear<R: Wait>(&self, rt: &R, pass: &mut Pass<C, L>) -> Result<(), CallError>
+        requires calls { ClonesEqual C.Call.is_clone C.Call.eq }
+        requires replies { ClonesEqual C.Reply.is_clone C.Reply.eq }
+        ensures number { pass.new.log.number ≡ pass.old.log.number }
+        ensures ok { OnOk result (Adds (IsOf C.Call.is_clone C.moves C.clears) pass.old.log.clock pass.new.log.clock
+            self.now.stripes pass.old.log.receipts.items pass.new.log.receipts.items) }
+        ensures err { OnErr result ((n : ℕ) × (n < self.now.stripes)
+            × Adds (IsOf C.Call.is_clone C.moves C.clears) pass.old.log.clock pass.new.log.clock n
+            pass.old.log.receipts.items pass.new.log.receipts.items) }
+        ensures room { result ≡ Err CallError.Container → ⊥ }
+    {
+        for i in 0..self.stripes {
+            let cleared = self.locked(i);
+            if let Err(error) = cleared.step(rt, pass, &self.count, C::clear_call()) {
+                return Err(error);
+            }
+        }
+        Ok(())
+    }
+
+    /// The sum of the entries that the stripes hold, counted one after another, each with a call, a stamp and a receipt
+    /// of its own. It stops at the greatest number.
+    ///
+    /// The only error is `Room`, where a stripe has no room for the record or the receipt, or no stamp is left; then
+    /// those before it are counted and recorded, and their receipts stand in the pass.
+    pub fn len<R: Wait>(&self, rt: &R, pass: &mut Pass<C, L>) -> Result<usize, CallError>
+        requires calls { ClonesEqual C.Call.is_clone C.Call.eq }
+        requires replies { ClonesEqual C.Reply.is_clone C.Reply.eq }
+        ensures number { pass.new.log.number ≡ pass.old.log.number }
+        ensures ok { OnOk result (Adds (IsOf C.Call.is_clone C.moves C.counts) pass.old.log.clock pass.new.log.clock
+            self.now.stripes pass.old.log.receipts.items pass.new.log.receipts.items) }
+        ensures err { OnErr result ((n : ℕ) × (n < self.now.stripes)
+            × Adds (IsOf C.Call.is_clone C.moves C.counts) pass.old.log.clock pass.new.log.clock n
+            pass.old.log.receipts.items pass.new.log.receipts.items) }
+        ensures room { result ≡ Err CallError.Container → ⊥ }
+        ensures sum { IfOk result (λ n. n ≡ min 18446744073709551615
+            (sum_by (λ r. number_of (C.told r.reply))
+            (drop (length pass.old.log.receipts.items) pass.new.log.receipts.items))) }
+    {
+        let before = pass.log.receipts.len();
+        for i in 0..self.stripes {
+            let counted = self.locked(i);
+            if let Err(error) = counted.step(rt, pass, &self.count, C::len_call()) {
+                return Err(error);
+            }
+        }
+        Ok(sum_of::<C>(&pass.log.receipts[before..]))
+    }
+}
+
+// The sum of the numbers that replies tell.
+fn sum_of<C: WholeCalls>(receipts: &[Receipt<C::Call, C::Reply>]) -> usize
+    ensures { result ≡ min 18446744073709551615 (sum_by (λ r. number_of (C.told r.reply)) receipts.now) }
+{
+    let mut sum: usize = 0;
+    for receipt in receipts {
+        sum = sum.saturating_add(C::told(&receipt.reply).unwrap_or(0));
+    }
+    sum
+}

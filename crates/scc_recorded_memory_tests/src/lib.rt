@@ -1,0 +1,17 @@
+//! Tests of recorded containers, of scripts of several workers and of indexes of many keys, which make more requests
+//! for memory than others: each holds whichever request is refused, one request in a run, as `rt try --test
+//! --fail-alloc N` refuses the Nth of each test.
+#![tactic(auto)]
+
+#[cfg(test)]
+mod index_growths;
+#[cfg(test)]
+mod recorded;
+#[cfg(test)]
+mod recorded_cache_texts;
+#[cfg(test)]
+mod recorded_kinds;
+#[cfg(test)]
+mod recorded_texts;
+#[cfg(test)]
+mod scripts_of_workers;

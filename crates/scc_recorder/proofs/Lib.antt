@@ -1,7 +1,0 @@
-pub mod Adding
-pub mod Alike
-pub mod Causes
-pub mod Comparing
-pub mod Handing
-pub mod Placed
-pub mod Seen

@@ -1,8 +1,0 @@
-use Rattle.std.proofs.Common.{take}
-use Rattle.std.specs.List.{AllByRecursion}
-use Rattle.scc_recorded.specs.Histories.{StepRouted}
-use Rattle.scc_table.specs.Routing.{stripe_of}
-use Rattle.scc_recorder.proofs.recorder.checks.misplaced.Given as goal
-
-abbrev pub invariant-loop-j : goal.invariant-loop-j
-invariant-loop-j g l = AllByRecursion (StepRouted g.C.Calls.key_of (stripe_of g.C.Hasher.BuildHasher g.C.Hasher.Hasher.Hasher g.C.Key.Hash.hash_input l.hasher l.count) l.part) (take l.j l.history)

@@ -1,4 +1,0 @@
-use Rattle.scc_recorder.proofs.recorder.locked.Locked.step.Goals as goal
-
-pub returns-clause-refused : goal.returns-clause-refused
-returns-clause-refused g c e = ∣ (_, _, c.step.ensures.refused e) ∣₁

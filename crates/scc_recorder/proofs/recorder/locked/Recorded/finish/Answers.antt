@@ -1,4 +1,0 @@
-use Rattle.scc_recorder.proofs.recorder.locked.Recorded.finish.Goals as goal
-
-pub returns-clause-finished : goal.returns-clause-finished
-returns-clause-finished g c = rw (c.close.ensures.hasher, c.close.ensures.passes) at c.finish.ensures.finished

@@ -1,4 +1,0 @@
-pub mod Adds
-pub mod Setups
-pub mod Closing
-pub mod Finished

@@ -1,9 +1,0 @@
-use Rattle.std.proofs.Common.{◌∙◌, set, ap}
-use Rattle.std.proofs.lemmas.List.{set-set}
-use Rattle.scc_array.specs.Shelves.{shelf_of}
-use Rattle.scc_relocation.proofs.moving.fill.Goals as goal
-
-pub returns-clause-others : goal.returns-clause-others
-returns-clause-others g c =
-    let i = c.args.target in
-    c.drain.ensures.others ∙ ap (λ v. set v i (shelf_of c.drain.new.into i)) c.make_ready.ensures.value ∙ set-set c.args.into.now i _ (shelf_of c.drain.new.into i)

@@ -1,0 +1,355 @@
+//! The set for one owner: every call that changes it takes `&mut self`.
+ghost use Rattle.std.specs.Prelude.{◌≡◌, ◌≢◌, ◌<◌, ◌≤◌, ◌*◌, ◌↔◌, [], length, Some, None, IsTrue, IsSome, IsOk, IfErr, IfNone, IfOk, OnErr, OnOk, OnSome, false};
+ghost use Rattle.std.specs.Arc.{arc_value};
+ghost use Rattle.std.specs.Fn.{FnOnceTakesAt, FnOnceReturnsAt};
+ghost use Rattle.scc_contents.specs.Contents.{entries, bucket_count, settings_of, refused_of, waiting_of, hash_in};
+ghost use Rattle.scc_contents.specs.Pairs.{find as find_pair, IsUnique as IsUniqueMap};
+ghost use Rattle.scc_contents.specs.Sizes.{IsArraySize};
+ghost use Rattle.scc_contents.specs.Steps.{HoldsExactly, IsUnchanged, MakesRoom};
+ghost use Rattle.scc_set.specs.Keys.{find, with_key, FindsInstead, HasRoom, IsUnique};
+ghost use Rattle.scc_set.specs.SetSteps.{key_answer as key_answer_of, Inserts, Reads, Removes, RemovesIf};
+ghost use Rattle.std.specs.Map.{set_key};
+ghost use Rattle.std.specs.Option.{option_map};
+ghost use Rattle.scc_set.specs.Insertions.{InsertsByRule, ReplacesByRule};
+ghost use Rattle.scc_set.specs.Removals.{RemovesByRule};
+
+mod collecting;
+mod copies;
+mod entry;
+mod places;
+mod sizes;
+mod walks;
+mod whole;
+
+pub use entry::{OccupiedEntry, Removed};
+use scc_common::{InsertError, KeyError, MakeError, Shared};
+use scc_contents::Hashes;
+use scc_map::owned::ReplaceResult;
+use std::alloc::Global;
+use std::hash::{BuildHasher, BuildHasherDefault, FoldHasher, Hash};
+use std::marker::Model;
+use std::sync::Arc;
+
+/// A set of keys, no two equal. A contract sees the keys in the set's own order as `entries s`, the number of its
+/// buckets as `bucket_count s`, and its hasher and sizes as `settings_of s`.
+///
+/// The default hasher has a fixed seed. For keys that an attacker picks, write `Owned::with_hasher(alloc,
+/// RandomState::new(&rt)?)`.
+#[derive(Drop)]
+pub struct Owned<K: Eq + Hash, H: BuildHasher = BuildHasherDefault<FoldHasher>> {
+    pub(crate) map: scc_map::Owned<K, (), H>,
+}
+
+impl<K: Eq + Hash, H: BuildHasher> Model for Owned<K, H> {
+    ghost use Rattle.scc_contents.specs.Contents.{Contents};
+    ghost use Rattle.scc_set.specs.Keys.{of_map};
+
+    ghost Value = { Contents K H };
+
+    ghost view = { λ s. of_map s.map };
+}
+
+impl<K: Eq + Hash> Owned<K> {
+    /// An empty set without an array. It takes no memory.
+    pub fn new(alloc: Global) -> Self
+        ensures entries { entries result ≡ [] }
+        ensures buckets { bucket_count result ≡ 0 }
+        ensures settings { settings_of result ≡ record
+            { hasher = (settings_of result).hasher; skipped = 0; asked = 0; reserved = 0 } }
+    {
+        Owned::with_hasher(alloc, BuildHasherDefault::new())
+    }
+
+    /// An empty set with an array for at least so many keys at one a slot, by the rules of `with_capacity_and_hasher`.
+    pub fn with_capacity(alloc: Global, capacity: usize) -> Result<Self, MakeError>
+        ensures entries { IfOk result (λ s. entries s ≡ []) }
+        ensures none { IfOk result (λ s. capacity ≡ 0 → bucket_count s ≡ 0) }
+        ensures size { IfOk result (λ s. 0 < capacity → IsArraySize capacity (32 * bucket_count s)) }
+        ensures settings { IfOk result (λ s. settings_of s
+            ≡ record { hasher = (settings_of s).hasher; skipped = 0; asked = 32 * bucket_count s; reserved = 0 }) }
+        ensures succeeds { capacity ≡ 0 → IsOk result }
+    {
+        Owned::with_capacity_and_hasher(alloc, capacity, BuildHasherDefault::new())
+    }
+}
+
+impl<K: Eq + Hash, H: BuildHasher> Owned<K, Shared<H>> {
+    /// An empty set that skips so many bits of each hash, and hashes as each other part of that hasher does. Else as
+    /// `with_capacity_and_hasher`.
+    pub fn part(
+        alloc: Global,
+        skipped: u32,
+        capacity: usize,
+        hasher: Arc<H>,
+    ) -> Result<Self, MakeError>
+    where
+        H: Drop,
+        requires { skipped ≤ 4 }
+        ensures entries { IfOk result (λ s. entries s ≡ []) }
+        ensures none { IfOk result (λ s. capacity ≡ 0 → bucket_count s ≡ 0) }
+        ensures size { IfOk result (λ s. 0 < capacity → IsArraySize capacity (32 * bucket_count s)) }
+        ensures settings { IfOk result (λ s. settings_of s
+            ≡ record { hasher = arc_value hasher; skipped = skipped; asked = 32 * bucket_count s; reserved = 0 }) }
+        ensures succeeds { capacity ≡ 0 → IsOk result }
+    {
+        Owned::skipping(alloc, skipped, capacity, Shared::new(hasher))
+    }
+}
+
+impl<K: Eq + Hash, H: BuildHasher> Owned<K, H> {
+    /// An empty set without an array. It takes no memory.
+    pub fn with_hasher(alloc: Global, hasher: H) -> Self
+        ensures entries { entries result ≡ [] }
+        ensures buckets { bucket_count result ≡ 0 }
+        ensures settings { settings_of result ≡ record { hasher = hasher; skipped = 0; asked = 0; reserved = 0 } }
+    {
+        Owned {
+            map: scc_map::Owned::with_hasher(alloc, hasher),
+        }
+    }
+
+    /// An empty set with an array of the least power of two of slots that is at least `capacity` and at least 64;
+    /// without an array for 0. These slots are then its minimum. A size that can't be had is refused.
+    pub fn with_capacity_and_hasher(
+        alloc: Global,
+        capacity: usize,
+        hasher: H,
+    ) -> Result<Self, MakeError>
+    where
+        H: Drop,
+        ensures entries { IfOk result (λ s. entries s ≡ []) }
+        ensures none { IfOk result (λ s. capacity ≡ 0 → bucket_count s ≡ 0) }
+        ensures size { IfOk result (λ s. 0 < capacity → IsArraySize capacity (32 * bucket_count s)) }
+        ensures settings { IfOk result (λ s. settings_of s
+            ≡ record { hasher = hasher; skipped = 0; asked = 32 * bucket_count s; reserved = 0 }) }
+        ensures succeeds { capacity ≡ 0 → IsOk result }
+    {
+        match scc_map::Owned::with_capacity_and_hasher(alloc, capacity, hasher) {
+            Ok(map) => Ok(Owned { map }),
+            Err(e) => Err(e),
+        }
+    }
+
+    /// As `with_capacity_and_hasher`, but skips so many bits of each hash.
+    pub fn skipping(
+        alloc: Global,
+        skipped: u32,
+        capacity: usize,
+        hasher: H,
+    ) -> Result<Self, MakeError>
+    where
+        H: Drop,
+        requires { skipped ≤ 4 }
+        ensures entries { IfOk result (λ s. entries s ≡ []) }
+        ensures none { IfOk result (λ s. capacity ≡ 0 → bucket_count s ≡ 0) }
+        ensures size { IfOk result (λ s. 0 < capacity → IsArraySize capacity (32 * bucket_count s)) }
+        ensures settings { IfOk result (λ s. settings_of s
+            ≡ record { hasher = hasher; skipped = skipped; asked = 32 * bucket_count s; reserved = 0 }) }
+        ensures succeeds { capacity ≡ 0 → IsOk result }
+    {
+        match scc_map::Owned::skipping(alloc, skipped, capacity, hasher) {
+            Ok(map) => Ok(Owned { map }),
+            Err(e) => Err(e),
+        }
+    }
+
+    /// The number of keys.
+    #[inline(always)]
+    pub fn len(&self) -> usize
+        ensures len { result ≡ length (entries self.now) }
+        ensures unique { IsUnique K.eq self.now }
+    {
+        self.map.len()
+    }
+
+    /// Whether there is no key.
+    #[inline(always)]
+    pub fn is_empty(&self) -> bool
+        ensures { IsTrue result ↔ (entries self.now ≡ []) }
+    {
+        self.map.is_empty()
+    }
+
+    /// The slots of the array, 32 a bucket; 0 without an array. It is no bound on the number of keys.
+    #[inline(always)]
+    pub fn capacity(&self) -> usize
+        ensures { result ≡ 32 * bucket_count self.now }
+    {
+        self.map.capacity()
+    }
+
+    /// Whether memory was refused for the last resize that was due. The next one that is made lowers it. Where it is
+    /// false after a call that had to resize, the set has the size that the rules ask for.
+    #[inline(always)]
+    pub fn is_resize_refused(&self) -> bool
+        ensures { result ≡ (refused_of self.now).0 }
+    {
+        self.map.is_resize_refused()
+    }
+
+    /// Whether there is an array and the bucket of `k` holds fewer than 32 keys. An insertion of `k` then takes no
+    /// memory and can't be refused.
+    #[inline(always)]
+    pub fn has_room(&self, k: &K) -> bool
+        ensures { IsTrue result ↔ HasRoom (hash_in ⟦<H as Hashes<K>>⟧.hash_of self.now) self.now k.now }
+    {
+        self.map.has_room(k)
+    }
+
+    /// Whether a key equals `k`.
+    #[inline(always)]
+    pub fn contains_sync(&self, k: &K) -> bool
+        ensures { IsTrue result ↔ IsSome (find K.eq (entries self.now) k.now) }
+    {
+        self.map.contains_sync(k)
+    }
+
+    /// The answer of `f` on the key that equals `k`, or None where there is none; then `f` isn't called.
+    #[inline(always)]
+    pub fn read_sync<R, F: FnOnce(&K) -> R>(&self, k: &K, f: F) -> Option<R>
+        requires { (q : K) → find K.eq (entries self.now) k.now ≡ Some q → FnOnceTakesAt F.FnOnce f q }
+        ensures answer { Reads F.FnOnce f (find K.eq (entries self.now) k.now) result }
+    {
+        self.map.read_sync(
+            k,
+            move |key: &K, _value: &()| -> R
+                requires { FnOnceTakesAt F.FnOnce f key.now }
+                ensures { FnOnceReturnsAt F.FnOnce f key.now result }
+            { f(key) },
+        )
+    }
+
+    /// Inserts the key where no key equals it. Where one does, the set stays as it is, and the supplied key comes back;
+    /// so it does where a growth that the insertion needs is refused.
+    #[inline(always)]
+    pub fn insert_sync(&mut self, k: K) -> Result<(), KeyError<K>>
+        ensures { InsertsByRule K.eq ⟦<H as Hashes<K>>⟧.hash_of self.old k result self.new }
+    {
+        key_answer(self.map.insert_sync(k, ()))
+    }
+
+    /// Makes what an insertion of `k` wants, at most one resize: the first array, or twice as many buckets where that
+    /// is due, all of which wait then. A key that is there wants nothing. A growth that is refused is not tried again
+    /// by the insertion of `k` that follows, so that it makes no resize in any case; this fails only where the first
+    /// array is refused.
+    pub fn make_room(&mut self, k: &K) -> Result<(), MakeError>
+        ensures present { IsSome (find K.eq (entries self.old) k.now) → IsOk result × (self.new ≡ self.old) }
+        ensures ok { find K.eq (entries self.old) k.now ≡ None
+            → OnOk result (MakesRoom (hash_in ⟦<H as Hashes<K>>⟧.hash_of self.old) (λ q. q) self.old
+            (hash_in ⟦<H as Hashes<K>>⟧.hash_of self.old k.now) self.new) }
+        ensures err { OnErr result ((find K.eq (entries self.old) k.now ≡ None) × (bucket_count self.old ≡ 0)) }
+        ensures same { OnErr result (IsUnchanged self.old self.new) }
+        ensures settings { settings_of self.new ≡ settings_of self.old }
+        ensures unique { IsUnique K.eq self.new }
+    {
+        self.map.make_room(k)
+    }
+
+    /// An insertion tries a growth that is due, also where `make_room` was refused it.
+    pub fn drop_room(&mut self)
+        ensures same { IsUnchanged self.old self.new }
+        ensures waiting { waiting_of self.new ≡ waiting_of self.old }
+        ensures noted { refused_of self.new ≡ ((refused_of self.old).0, false) }
+        ensures unique { IsUnique K.eq self.new }
+    {
+        self.map.drop_room();
+    }
+
+    /// Puts `k` in the place of the key that equals it, and answers the old one; this takes no memory. Where no key
+    /// equals it, it is inserted, and None is answered; refused, it comes back.
+    #[inline(always)]
+    pub fn replace_sync(&mut self, k: K) -> Result<Option<K>, KeyError<K>>
+        ensures { ReplacesByRule K.eq ⟦<H as Hashes<K>>⟧.hash_of self.old k result self.new }
+    {
+        match self.swap_key(k) {
+            Ok(old) => Ok(Some(old)),
+            Err(key) => match self.insert_sync(key) {
+                Ok(()) => Ok(None),
+                Err(e) => Err(e),
+            },
+        }
+    }
+
+    /// Puts `k` in the place of the key that equals it, and answers the old one; `k` itself, as an `Err`, where there
+    /// is none.
+    fn swap_key(&mut self, k: K) -> Result<K, K>
+        ensures swapped { IfOk result (λ old. (find K.eq (entries self.old) k ≡ Some old)
+            × HoldsExactly self.old (with_key K.eq (entries self.old) k) self.new
+            × FindsInstead K.eq (entries self.old) k (Some k) (entries self.new)) }
+        ensures noted { refused_of self.new ≡ refused_of self.old }
+        ensures waiting { waiting_of self.new ≡ waiting_of self.old }
+        ensures missing { IfErr result (λ q. (q ≡ k) × (find K.eq (entries self.old) k ≡ None)
+            × (self.new ≡ self.old)) }
+        ensures unique { IsUnique K.eq self.new }
+    {
+        swap_in_map(&mut self.map, k)
+    }
+
+    /// Takes out the key that equals `k` where `f` answers true; the condition is asked only where there is one. Else
+    /// the answer is None.
+    #[inline(always)]
+    pub fn remove_if_sync<F: FnOnce() -> bool>(&mut self, k: &K, f: F) -> Option<K>
+        requires { IsSome (find K.eq (entries self.old) k.now) → F.pre f }
+        ensures { RemovesByRule K.eq (RemovesIf F.FnOnce f K.eq self.old k.now result self.new
+            (find K.eq (entries self.old) k.now)) self.old k.now result self.new }
+    {
+        let pair = self.map.remove_if_sync(
+            k,
+            move |_value: &mut ()| -> bool
+                requires { F.pre f }
+                ensures { F.post f result }
+            { f() },
+        );
+        key_alone(pair)
+    }
+
+    /// Takes out the key that equals `k`, and answers it.
+    #[inline(always)]
+    pub fn remove_sync(&mut self, k: &K) -> Option<K>
+        ensures { RemovesByRule K.eq (Removes K.eq self.old k.now result self.new) self.old k.now result self.new }
+    {
+        key_alone(self.map.remove_sync(k))
+    }
+}
+
+/// The answer of the map without the unit value.
+#[inline(always)]
+fn key_answer<K, R>(answer: Result<R, InsertError<K, ()>>) -> Result<R, KeyError<K>>
+    ensures { result ≡ key_answer_of answer }
+{
+    match answer {
+        Ok(r) => Ok(r),
+        Err(InsertError::Exists((key, _))) => Err(KeyError::Exists(key)),
+        Err(InsertError::Memory((key, _))) => Err(KeyError::Memory(key)),
+    }
+}
+
+/// Puts `k` in the place of the map's key that equals it, and answers the old one; `k` itself, as an `Err`, where there
+/// is none.
+fn swap_in_map<K: Eq + Hash, H: BuildHasher>(
+    map: &mut scc_map::Owned<K, (), H>,
+    k: K,
+) -> Result<K, K>
+    ensures swapped { IfOk result (λ old. (find_pair K.eq (entries map.old) k ≡ Some (old, tt))
+        × HoldsExactly map.old (set_key (K.eq k) (entries map.old) k) map.new) }
+    ensures noted { refused_of map.new ≡ refused_of map.old }
+    ensures waiting { waiting_of map.new ≡ waiting_of map.old }
+    ensures missing { IfErr result (λ q. (q ≡ k) × (find_pair K.eq (entries map.old) k ≡ None) × (map.new ≡ map.old)) }
+    ensures unique { IsUniqueMap K.eq map.new }
+{
+    match map.replace_sync(k) {
+        ReplaceResult::Replaced(_entry, old) => Ok(old),
+        ReplaceResult::NotReplaced(vacant) => Err(vacant.into_key()),
+    }
+}
+
+/// The key of the pair, if there is one.
+#[inline(always)]
+fn key_alone<K>(pair: Option<(K, ())>) -> Option<K>
+    ensures { result ≡ option_map (λ p. p.0) pair }
+{
+    match pair {
+        Some((key, _)) => Some(key),
+        None => None,
+    }
+}

@@ -1,0 +1,56 @@
+//! The calls that answer an entry, which holds the lock of its stripe. Each makes a stored pair the most recent of its
+//! bucket.
+ghost use Rattle.std.specs.Prelude.{◌≡◌, true, IfSome};
+ghost use Rattle.std.specs.Sync.RwLock.{write_guard_value};
+ghost use Rattle.scc_contents.specs.Contents.{key_hash};
+ghost use Rattle.scc_cache.specs.Caches.{Cached, IsCacheState};
+ghost use Rattle.scc_cache.specs.Entries.{entry_guard, entry_key, held_cache, occupied_pair, IsEntryOf, IsRefreshed, replaced_guard, Replaces};
+ghost use Rattle.scc_contents.specs.Replies.{HasKey};
+ghost use Rattle.scc_shared_cache.specs.Replies.{ReplacesEqual};
+
+use super::{Entry, HashCache, OccupiedEntry, ReplaceResult};
+use scc_cache::held::{HeldEntry, HeldPlace, HeldReplace};
+use std::hash::{BuildHasher, Hash};
+use std::sync::Wait;
+
+impl<K: Eq + Hash, V, H: BuildHasher> HashCache<K, V, H> {
+    /// The entry of `k`: occupied at the stored pair, which becomes the most recent of its bucket, or vacant with `k`.
+    /// It makes no
+    /// array.
+    pub fn entry_sync(&self, rt: &impl Wait, k: K) -> Entry<'_, K, V, H>
+    where
+        K: Drop,
+        ensures key { K.eq k (entry_key result) ≡ true }
+        ensures entry { (before : Cached (K × V) H) × IsEntryOf K.eq before k result }
+        ensures state { IsCacheState K.eq (key_hash H.BuildHasher H.Hasher.Hasher K.hash_input
+            (write_guard_value (entry_guard result)).contents) (write_guard_value (entry_guard result)) }
+    {
+        let stripe = self.stripes.route(&k);
+        HeldPlace::of(self.stripes.write(rt, stripe), k, ())
+    }
+
+    /// The occupied entry of `k`, whose pair becomes the most recent of its bucket, or None where no key equals it;
+    /// then nothing
+    /// changes.
+    pub fn get_sync(&self, rt: &impl Wait, k: &K) -> Option<OccupiedEntry<'_, K, V, H>>
+        ensures key { IfSome result (λ o. HasKey K.eq k.now (occupied_pair o)) }
+        ensures entry { IfSome result (λ o. (before : Cached (K × V) H) × IsRefreshed K.eq before k.now o) }
+        ensures state { IfSome result (λ o. IsCacheState K.eq
+            (key_hash H.BuildHasher H.Hasher.Hasher K.hash_input (held_cache o).contents) (held_cache o)) }
+    {
+        HeldEntry::of(self.stripes.write(rt, self.stripes.route(k)), k, ())
+    }
+
+    /// Puts `k` in the place of the key that equals it, keeps the value, makes the pair the most recent of its bucket,
+    /// and answers
+    /// the entry with the old key. Where no key equals it, nothing changes, and it answers the vacant entry.
+    pub fn replace_sync(&self, rt: &impl Wait, k: K) -> ReplaceResult<'_, K, V, H>
+        ensures key { ReplacesEqual K.eq k result }
+        ensures step { (before : Cached (K × V) H) × Replaces K.eq before k result }
+        ensures state { IsCacheState K.eq (key_hash H.BuildHasher H.Hasher.Hasher K.hash_input
+            (write_guard_value (replaced_guard result)).contents) (write_guard_value (replaced_guard result)) }
+    {
+        let stripe = self.stripes.route(&k);
+        HeldReplace::of(self.stripes.write(rt, stripe), k, ())
+    }
+}

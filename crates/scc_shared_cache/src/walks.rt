@@ -1,0 +1,79 @@
+//! Walks over all stripes, one after another. The closure is lent to each stripe in turn. No walk makes a pair more
+//! recent.
+ghost use Rattle.std.specs.Prelude.{◌≡◌, ◌++◌, List};
+ghost use Rattle.scc_contents.specs.Walks.{CalledOn, Walks};
+ghost use Rattle.scc_contents.specs.PairWalks.{CalledToWrite, Retains, Takes};
+
+use super::HashCache;
+use scc_common::{Verdict, WalkError};
+use std::hash::{BuildHasher, Hash};
+use std::sync::Wait;
+
+impl<K: Eq + Hash, V, H: BuildHasher> HashCache<K, V, H> {
+    /// Calls `f` on pairs, stripe after stripe, until its first false, and answers false where it stopped. One stripe
+    /// is held for
+    /// reading at a time.
+    pub fn iter_sync<F: FnMut(&K, &V) -> bool>(&self, rt: &impl Wait, mut f: F) -> bool
+        requires { F.IsAlwaysCallable f }
+        ensures calls { (es : List (K × V)) × (last : F) × Walks (CalledOn F.FnMut) f es result last }
+    {
+        for stripe in 0..self.stripes.stripes() {
+            if !self.stripes.read(rt, stripe).iter_lent(&mut f) {
+                return false;
+            }
+        }
+        true
+    }
+
+    /// Calls `f` on the pairs, stripe after stripe, with the value to write, and takes out those on which it answers
+    /// false. Then the
+    /// array of the stripe may become smaller.
+    pub fn retain_sync<F: FnMut(&K, &mut V) -> bool>(&self, rt: &impl Wait, mut f: F)
+    where
+        K: Drop,
+        V: Drop,
+        requires { F.IsAlwaysCallable f }
+        ensures calls { (es : List (K × V)) × (stay : List (K × V)) × (last : F)
+            × Retains (CalledToWrite F.FnMut) f es stay last }
+    {
+        for stripe in 0..self.stripes.stripes() {
+            self.stripes.write(rt, stripe).retain_lent(&mut f);
+        }
+    }
+
+    /// Calls `f` on the pairs, stripe after stripe, with the value to write, until it stops, and answers false where it
+    /// stopped. A
+    /// pair on which it answers `Take` or `TakeStop` goes to the end of `taken`. Room for one pair is made in `taken`
+    /// before each
+    /// call of `f`; where it can't be had, the walk ends with an error, and what it did so far stays.
+    pub fn iter_mut_sync<F: FnMut(&K, &mut V) -> Verdict>(
+        &self,
+        rt: &impl Wait,
+        mut f: F,
+        taken: &mut Vec<(K, V)>,
+    ) -> Result<bool, WalkError>
+        requires { F.IsAlwaysCallable f }
+        ensures calls { (es : List (K × V)) × (stay : List (K × V)) × (more : List (K × V)) × (last : F)
+            × Takes (CalledToWrite F.FnMut) f es stay more result last × (taken.new.items ≡ taken.old.items ++ more) }
+    {
+        for stripe in 0..self.stripes.stripes() {
+            match self.stripes.write(rt, stripe).iter_mut_lent(&mut f, taken) {
+                Ok(true) => {}
+                Ok(false) => return Ok(false),
+                Err(e) => return Err(e),
+            }
+        }
+        Ok(true)
+    }
+
+    /// Takes out the pairs of each stripe in turn.
+    pub fn clear_sync(&self, rt: &impl Wait)
+    where
+        K: Drop,
+        V: Drop,
+    {
+        for stripe in 0..self.stripes.stripes() {
+            self.stripes.write(rt, stripe).clear_sync();
+        }
+    }
+}

@@ -1,0 +1,104 @@
+//! What is done with a whole cache: comparisons, and caches made of items. They look at the stripes one after another.
+ghost use Rattle.std.specs.Prelude.{◌<◌, vec_len};
+ghost use Rattle.std.specs.Iterator.{IsFinite};
+
+use super::HashCache;
+use scc_common::{InsertError, MakeError};
+use std::alloc::Global;
+use std::cell::Cell;
+use std::hash::{BuildHasher, Hash};
+use std::sync::Wait;
+
+impl<K: Eq + Hash, V: PartialEq, H: BuildHasher> HashCache<K, V, H> {
+    /// Whether each pair of either cache, as its stripe is looked at, has its key with an equal value in the other. A
+    /// stripe of each
+    /// is held for reading at a time; a cache may be compared with itself. Neither the order of the pairs nor a maximum
+    /// plays a
+    /// part, and no pair becomes more recent.
+    pub fn eq_sync(&self, rt: &impl Wait, other: &Self) -> bool {
+        self.is_within(rt, other) && other.is_within(rt, self)
+    }
+
+    /// Whether each pair of this cache has its key with an equal value in the other.
+    fn is_within(&self, rt: &impl Wait, other: &Self) -> bool {
+        for stripe in 0..self.stripes.stripes() {
+            if !self.is_stripe_within(rt, stripe, other) {
+                return false;
+            }
+        }
+        true
+    }
+
+    /// Whether each pair of a stripe is in the other cache. It never waits while it holds the stripe: where it meets a
+    /// stripe of the
+    /// other cache that it can't read at once, it lets its own go, waits for that one, and begins anew.
+    fn is_stripe_within(&self, rt: &impl Wait, stripe: usize, other: &Self) -> bool
+        requires { stripe < vec_len self.now.stripes.locks }
+    {
+        for _ in rt.forever() {
+            let busy = Cell::new(None);
+            let within = self
+                .stripes
+                .read(rt, stripe)
+                .iter_sync(|k, v| other.has_pair(&busy, k, v));
+            match busy.get() {
+                None => return within,
+                Some(there) => other.wait_until_readable(rt, there),
+            }
+        }
+        unreachable!()
+    }
+
+    /// Whether the pair is there. Where its stripe can't be read at once, it notes the number of that, and answers
+    /// false.
+    fn has_pair(&self, busy: &Cell<Option<usize>>, k: &K, v: &V) -> bool {
+        let stripe = self.stripes.route(k);
+        match self.stripes.try_read(stripe) {
+            Some(guard) => match guard.read_sync(k, |_, w| *w == *v) {
+                Some(same) => same,
+                None => false,
+            },
+            None => {
+                busy.set(Some(stripe));
+                false
+            }
+        }
+    }
+
+    /// Waits until the stripe of that number can be read, and lets it go again.
+    fn wait_until_readable(&self, rt: &impl Wait, stripe: usize) {
+        if stripe < self.stripes.stripes() {
+            let _readable = self.stripes.read(rt, stripe);
+        }
+    }
+}
+
+impl<K: Eq + Hash + Drop, V: Drop, H: BuildHasher + Default + Drop> HashCache<K, V, H> {
+    /// A cache of the items, put in their order, so that the first value of a key stays unless it was driven out in
+    /// between. Capacity
+    /// and maximum are asked for as many pairs as there are items. It is refused for want of memory, and then the items
+    /// are dropped.
+    /// The iterator has to end.
+    pub fn try_from_iter<I: IntoIterator<Item = (K, V)>>(
+        rt: &impl Wait,
+        alloc: Global,
+        items: I,
+    ) -> Result<Self, MakeError>
+        requires { (it : I.IntoIter) → I.into_iter_gives items it
+            → I.IntoIter.can_next it × IsFinite (I.IntoIter.remaining it) }
+    {
+        let Ok(pairs) = Vec::from_iter(alloc, items) else {
+            return Err(MakeError);
+        };
+        let count = pairs.len();
+        let made = HashCache::with_capacity_and_hasher(alloc, count, count, H::default())?;
+        for (k, v) in pairs {
+            match made.put_sync(rt, k, v) {
+                Ok(_) => {}
+                Err(InsertError::Exists(_)) => {}
+                Err(InsertError::Memory(_)) => return Err(MakeError),
+            }
+        }
+        Ok(made)
+    }
+}

@@ -1,0 +1,83 @@
+//! The calls on one key. Each states what its arguments decide; what it does to the stripe is that of the owned call of
+//! its name.
+ghost use Rattle.std.specs.Prelude.{◌≡◌, ◌⊎◌, IfErr, IfOk, IfSome, IsTrue, true};
+ghost use Rattle.std.specs.Arc.{arc_value};
+ghost use Rattle.scc_index.specs.Entries.{Exists, Memory};
+ghost use Rattle.scc_contents.specs.Replies.{HasKey, ReadsEqual};
+ghost use Rattle.scc_shared_index.specs.Replies.{PassesOn};
+
+use super::{HashIndex, Version};
+use scc_common::{InsertError, MakeError};
+use std::hash::{BuildHasher, Hash};
+use std::sync::{Arc, Wait};
+
+impl<K: Eq + Hash, V, H: BuildHasher> HashIndex<K, V, H> {
+    /// Inserts a version of the pair where no key equals `k`. Where one does, and where memory for the version or for
+    /// room that the insertion needs is refused, the supplied pair comes back.
+    pub fn insert_sync(&self, rt: &impl Wait, k: K, v: V) -> Result<(), InsertError<K, V>>
+        ensures back { IfErr result (λ e. (e ≡ Exists (k, v)) ⊎ (e ≡ Memory (k, v))) }
+    {
+        let stripe = self.stripes.route(&k);
+        self.stripes.write_to_insert(rt, stripe).insert_sync(k, v)
+    }
+
+    /// Hands out the version of `k`, or None where no key equals it. The version never changes and lives as long as its
+    /// holders, whatever becomes of the index. It is refused where the version has 2^63 - 1 owners.
+    pub fn peek(&self, rt: &impl Wait, k: &K) -> Result<Option<Arc<Version<K, V>>>, MakeError>
+        ensures key { IfOk result (λ o. IfSome o (λ a. HasKey K.eq k.now (arc_value a))) }
+    {
+        self.stripes.read(rt, self.stripes.route(k)).peek_shared(k)
+    }
+
+    /// The answer of `f` on the pair of `k`, or None where there is none; then `f` isn't called. No owner is counted.
+    pub fn peek_with<R, F: FnOnce(&K, &V) -> R>(&self, rt: &impl Wait, k: &K, f: F) -> Option<R>
+        requires { F.IsAlwaysCallable f }
+        ensures answer { IfSome result (ReadsEqual K.eq F.FnOnce f k.now) }
+    {
+        self.stripes.read(rt, self.stripes.route(k)).peek_with(k, f)
+    }
+
+    /// The same as `peek_with`.
+    pub fn read_sync<R, F: FnOnce(&K, &V) -> R>(&self, rt: &impl Wait, k: &K, f: F) -> Option<R>
+        requires { F.IsAlwaysCallable f }
+        ensures answer { IfSome result (ReadsEqual K.eq F.FnOnce f k.now) }
+    {
+        self.peek_with(rt, k, f)
+    }
+
+    /// Whether a key equals `k`. No owner is counted.
+    pub fn contains(&self, rt: &impl Wait, k: &K) -> bool {
+        self.stripes.read(rt, self.stripes.route(k)).contains(k)
+    }
+
+    /// Takes out the version whose key equals `k`, and answers whether there was one. Who kept the version keeps it.
+    pub fn remove_sync(&self, rt: &impl Wait, k: &K) -> bool
+    where
+        K: Drop,
+        V: Drop,
+    {
+        let mut guard = self.stripes.write(rt, self.stripes.route(k));
+        let removed = guard.remove_sync(k);
+        if removed {
+            self.stripes.follow(&mut *guard);
+        }
+        removed
+    }
+
+    /// Takes out the version of `k` where `f` answers true on its value, and answers whether it did. `f` isn't called
+    /// where no key equals `k`.
+    pub fn remove_if_sync<F: FnOnce(&V) -> bool>(&self, rt: &impl Wait, k: &K, f: F) -> bool
+    where
+        K: Drop,
+        V: Drop,
+        requires { F.IsAlwaysCallable f }
+        ensures answer { IsTrue result → PassesOn F.FnOnce f }
+    {
+        let mut guard = self.stripes.write(rt, self.stripes.route(k));
+        let removed = guard.remove_if_sync(k, f);
+        if removed {
+            self.stripes.follow(&mut *guard);
+        }
+        removed
+    }
+}

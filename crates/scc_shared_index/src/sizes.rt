@@ -1,0 +1,72 @@
+//! Sizes and reservations. They look at the stripes one after another.
+ghost use Rattle.std.specs.Prelude.{◌≡◌, ◌<◌, ◌≤◌, ◌^◌, IfSome};
+
+use super::HashIndex;
+use scc_buckets::sizes::GREATEST_CAPACITY;
+use scc_stripes::Added;
+use std::hash::{BuildHasher, BuildHasherDefault, FoldHasher, Hash};
+use std::ops::RangeInclusive;
+use std::sync::Wait;
+
+impl<K: Eq + Hash, V, H: BuildHasher> HashIndex<K, V, H> {
+    /// The number of pairs, at most the greatest number. It takes time in the number of stripes.
+    pub fn len(&self, rt: &impl Wait) -> usize {
+        self.stripes.count(rt)
+    }
+
+    /// Whether no stripe has a pair, as each is looked at.
+    pub fn is_empty(&self, rt: &impl Wait) -> bool {
+        self.stripes.is_empty(rt)
+    }
+
+    /// The slots of all stripes, at most the greatest number. Each stripe looks at the minimum again, and may give back
+    /// slots that it no longer needs.
+    pub fn capacity(&self, rt: &impl Wait) -> usize {
+        self.stripes.slots(rt)
+    }
+
+    /// From the slots that the index keeps at least to those that it may grow to.
+    pub fn capacity_range(&self) -> RangeInclusive<usize>
+        ensures high { result.end ≡ 2 ^ 63 }
+    {
+        self.stripes.minimum()..=GREATEST_CAPACITY
+    }
+
+    /// The number of the bucket of `k` inside its stripe, 0 without an array.
+    pub fn bucket_index(&self, rt: &impl Wait, k: &K) -> usize {
+        self.stripes.read(rt, self.stripes.route(k)).bucket_index(k)
+    }
+
+    /// Raises the minimum by so many slots until the answer is dropped; None for 0, and where the minimum would pass
+    /// the greatest capacity. Arrays with fewer slots than their share grow, unless memory is refused.
+    pub fn reserve(&self, rt: &impl Wait, additional: usize) -> Option<Reserve<'_, K, V, H>>
+        ensures { IfSome result (λ r. (r.added.additional ≡ additional) × (0 < additional) × (additional ≤ 2 ^ 63)
+            × (r.of.now ≡ self.now)) }
+    {
+        let added = self.stripes.reserve(rt, additional)?;
+        Some(Reserve { of: self, added })
+    }
+}
+
+/// Slots that are reserved in an index until this is dropped. The drop waits for nobody.
+#[derive(Drop)]
+pub struct Reserve<'h, K: Eq + Hash, V, H: BuildHasher = BuildHasherDefault<FoldHasher>> {
+    of: &'h HashIndex<K, V, H>,
+    added: Added<'h>,
+}
+
+impl<'h, K: Eq + Hash, V, H: BuildHasher> Reserve<'h, K, V, H> {
+    /// How many slots it stands for.
+    pub fn additional_capacity(&self) -> usize
+        ensures { result ≡ self.now.added.additional }
+    {
+        self.added.additional_capacity()
+    }
+
+    /// The index in which they are reserved.
+    pub fn as_ref(&self) -> &HashIndex<K, V, H>
+        ensures { result.now ≡ self.now.of.now }
+    {
+        self.of
+    }
+}

@@ -1,0 +1,75 @@
+//! Walks, stripe after stripe. Each says what its closure was called on in turn and what it answered, for lists of
+//! pairs
+//! that it finds in the stripes.
+ghost use Rattle.std.specs.Prelude.{List};
+ghost use Rattle.scc_contents.specs.Walks.{CalledOn, Walks};
+ghost use Rattle.scc_index.specs.IndexWalks.{Retains};
+
+use super::{HashIndex, Iter};
+use scc_common::MakeError;
+use std::hash::{BuildHasher, Hash};
+use std::sync::Wait;
+
+impl<K: Eq + Hash, V, H: BuildHasher> HashIndex<K, V, H> {
+    /// Calls `f` on pairs, stripe after stripe, until its first false, and answers false where it stopped. One stripe
+    /// is
+    /// held for reading at a time.
+    pub fn iter_sync<F: FnMut(&K, &V) -> bool>(&self, rt: &impl Wait, mut f: F) -> bool
+        requires { F.IsAlwaysCallable f }
+        ensures calls { (es : List (K × V)) × (last : F) × Walks (CalledOn F.FnMut) f es result last }
+    {
+        for stripe in 0..self.stripes.stripes() {
+            if !self.stripes.read(rt, stripe).iter_lent(&mut f) {
+                return false;
+            }
+        }
+        true
+    }
+
+    /// Calls `f` on the pairs, stripe after stripe, and takes out the versions of those on which it answers false. Then
+    /// the array of the stripe may become smaller. Who kept a version keeps it.
+    pub fn retain_sync<F: FnMut(&K, &V) -> bool>(&self, rt: &impl Wait, mut f: F)
+    where
+        K: Drop,
+        V: Drop,
+        requires { F.IsAlwaysCallable f }
+        ensures calls { (es : List (K × V)) × (stay : List (K × V)) × (last : F)
+            × Retains (CalledOn F.FnMut) f es stay last }
+    {
+        for stripe in 0..self.stripes.stripes() {
+            let mut guard = self.stripes.write(rt, stripe);
+            guard.retain_lent(&mut f);
+            self.stripes.follow(&mut *guard);
+        }
+    }
+
+    /// Takes out the versions of each stripe in turn. Who kept a version keeps it.
+    pub fn clear_sync(&self, rt: &impl Wait)
+    where
+        K: Drop,
+        V: Drop,
+    {
+        for stripe in 0..self.stripes.stripes() {
+            let mut guard = self.stripes.write(rt, stripe);
+            guard.clear_sync();
+            self.stripes.follow(&mut *guard);
+        }
+    }
+
+    /// A snapshot of the versions of each stripe as it is looked at, one held for reading at a time. It is refused for
+    /// want of memory, and where a version has 2^63 - 1 owners.
+    pub fn iter(&self, rt: &impl Wait) -> Result<Iter<K, V>, MakeError>
+    where
+        K: Drop,
+        V: Drop,
+    {
+        let mut versions = Vec::new(self.alloc);
+        for stripe in 0..self.stripes.stripes() {
+            match self.stripes.read(rt, stripe).iter_into(&mut versions) {
+                Ok(()) => {}
+                Err(e) => return Err(e),
+            }
+        }
+        Ok(Iter::of(versions))
+    }
+}

@@ -1,0 +1,10 @@
+use Rattle.std.proofs.Common.{List}
+use Rattle.scc_contents.specs.Walks.{CalledOn}
+use Rattle.scc_contents.specs.PairWalks.{Declines}
+use Rattle.scc_shared_map.proofs.HashMap.any_sync.Given as goal
+
+abbrev pub invariant-loop-stripe : goal.invariant-loop-stripe
+invariant-loop-stripe g l = record {
+  always : goal.P-IsAlwaysCallable g l.p;
+  seen : (es : List (g.row.K.Denot × g.row.V.Denot)) × Declines (CalledOn g.P.FnMut) l.fn.p es l.p;
+}

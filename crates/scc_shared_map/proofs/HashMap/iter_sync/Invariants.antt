@@ -1,0 +1,9 @@
+use Rattle.std.proofs.Common.{List, true}
+use Rattle.scc_contents.specs.Walks.{CalledOn, Walks}
+use Rattle.scc_shared_map.proofs.HashMap.iter_sync.Given as goal
+
+abbrev pub invariant-loop-stripe : goal.invariant-loop-stripe
+invariant-loop-stripe g l = record {
+  always : goal.F-IsAlwaysCallable g l.f;
+  seen : (es : List (g.row.K.Denot × g.row.V.Denot)) × Walks (CalledOn g.F.FnMut) l.fn.f es true l.f;
+}

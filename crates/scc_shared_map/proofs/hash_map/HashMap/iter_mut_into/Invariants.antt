@@ -1,9 +1,0 @@
-use Rattle.std.proofs.Common.{◌≡◌, ◌++◌, List, true, Ok}
-use Rattle.scc_walks.specs.PairWalks.{CalledToWrite, Takes}
-use Rattle.scc_shared_map.proofs.hash_map.HashMap.iter_mut_into.Given as goal
-
-abbrev pub invariant-loop-stripe : goal.invariant-loop-stripe
-invariant-loop-stripe g l = record {
-  always : goal.F-IsAlwaysCallable g l.f;
-  seen : (es : List (g.row.K.Denot × g.row.V.Denot)) × (stay : List (g.row.K.Denot × g.row.V.Denot)) × (more : List (g.row.K.Denot × g.row.V.Denot)) × Takes (CalledToWrite g.F.FnMut) l.fn.f es stay more (Ok true) l.f × (g.L.Sink.pairs l.taken ≡ g.L.Sink.pairs l.fn.taken ++ more);
-}

@@ -1,0 +1,83 @@
+//! The calls that answer an entry, which holds the lock of its stripe.
+ghost use Rattle.std.specs.Prelude.{◌≡◌, [], List, IfSome};
+ghost use Rattle.std.specs.Sync.RwLock.{write_guard_value};
+ghost use Rattle.scc_contents.specs.Contents.{Contents};
+ghost use Rattle.scc_contents.specs.Pairs.{IsUnique};
+ghost use Rattle.scc_map.specs.Entries.{held_map, entry_guard, occupied_pair, occupied_front, IsEntryOf, IsOccupiedAt, replaced_guard, Replaces};
+ghost use Rattle.scc_map.specs.EntrySteps.{StandsIn};
+ghost use Rattle.scc_contents.specs.Walks.{CalledOn};
+ghost use Rattle.scc_contents.specs.PairWalks.{Declines, PassesAt};
+
+use super::{Entry, HashMap, OccupiedEntry, ReplaceResult};
+use scc_map::held::{HeldEntry, HeldPlace, HeldReplace};
+use scc_map::locked::first_later;
+use scc_stripes::Seat;
+use std::hash::{BuildHasher, Hash};
+use std::sync::Wait;
+
+impl<K: Eq + Hash, V, H: BuildHasher> HashMap<K, V, H> {
+    /// The entry of `k`: occupied at the stored pair, or vacant with `k`. It makes no array.
+    pub fn entry_sync(&self, rt: &impl Wait, k: K) -> Entry<'_, K, V, H>
+    where
+        K: Drop,
+        ensures entry { IsEntryOf K.eq (write_guard_value (entry_guard result)) k result }
+        ensures unique { IsUnique K.eq (write_guard_value (entry_guard result)) }
+    {
+        let stripe = self.stripes.route(&k);
+        let guard = self.stripes.write_to_insert(rt, stripe);
+        HeldPlace::of(guard, k, Seat::new(&self.stripes, stripe))
+    }
+
+    /// The occupied entry of `k`, or None where no key equals it.
+    pub fn get_sync(&self, rt: &impl Wait, k: &K) -> Option<OccupiedEntry<'_, K, V, H>>
+        ensures entry { IfSome result (λ o. IsOccupiedAt K.eq (held_map o) k.now o) }
+        ensures unique { IfSome result (λ o. IsUnique K.eq (held_map o)) }
+    {
+        let stripe = self.stripes.route(k);
+        let guard = self.stripes.write(rt, stripe);
+        HeldEntry::of(guard, k, Seat::new(&self.stripes, stripe))
+    }
+
+    /// Puts `k` in the place of the key that equals it, keeps the value, and answers the entry with the old key. Where
+    /// no key equals it, it inserts nothing and answers the vacant entry.
+    pub fn replace_sync(&self, rt: &impl Wait, k: K) -> ReplaceResult<'_, K, V, H>
+        ensures step { (before : Contents (K × V) H) × Replaces K.eq before k result }
+        ensures unique { IsUnique K.eq (write_guard_value (replaced_guard result)) }
+    {
+        let stripe = self.stripes.route(&k);
+        let guard = self.stripes.write_to_insert(rt, stripe);
+        HeldReplace::of(guard, k, Seat::new(&self.stripes, stripe))
+    }
+
+    /// The first entry of the first stripe that has one.
+    pub fn begin_sync(&self, rt: &impl Wait) -> Option<OccupiedEntry<'_, K, V, H>>
+        ensures first { IfSome result (λ o. StandsIn (held_map o) o × (occupied_front o ≡ [])) }
+    {
+        let guard = self.stripes.write(rt, 0);
+        match HeldEntry::first(guard, Seat::new(&self.stripes, 0)) {
+            Ok(entry) => Some(entry),
+            Err(seat) => first_later(rt, seat),
+        }
+    }
+
+    /// The first entry on whose pair `p` answers true, stripe after stripe, in the order of each stripe's list.
+    pub fn any_sync<P: FnMut(&K, &V) -> bool>(
+        &self,
+        rt: &impl Wait,
+        mut p: P,
+    ) -> Option<OccupiedEntry<'_, K, V, H>>
+        requires { P.IsAlwaysCallable p }
+        ensures here { IfSome result (λ o. StandsIn (held_map o) o) }
+        ensures first { IfSome result (λ o. (es : List (K × V)) × (q : P) × Declines (CalledOn P.FnMut) p es q
+            × PassesAt (CalledOn P.FnMut) q (occupied_front o) (occupied_pair o)) }
+    {
+        for stripe in 0..self.stripes.stripes() {
+            let guard = self.stripes.write(rt, stripe);
+            match HeldEntry::passing(guard, &mut p, Seat::new(&self.stripes, stripe)) {
+                Ok(entry) => return Some(entry),
+                Err(_) => {}
+            }
+        }
+        None
+    }
+}

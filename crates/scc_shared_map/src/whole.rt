@@ -1,0 +1,119 @@
+//! What is done with a whole map: comparisons, clones, maps made of items. They look at the stripes one after another.
+ghost use Rattle.std.specs.Prelude.{◌<◌, vec_len};
+ghost use Rattle.std.specs.Iterator.{IsFinite};
+
+use super::HashMap;
+use scc_common::MakeError;
+use std::alloc::Global;
+use std::cell::Cell;
+use std::hash::{BuildHasher, Hash};
+use std::sync::Wait;
+
+impl<K: Eq + Hash, V: PartialEq, H: BuildHasher> HashMap<K, V, H> {
+    /// Whether each pair of either map, as its stripe is looked at, has its key with an equal value in the other. A
+    /// stripe of each is held for reading at a time; a map may be compared with itself.
+    pub fn eq_sync(&self, rt: &impl Wait, other: &Self) -> bool {
+        self.is_within(rt, other) && other.is_within(rt, self)
+    }
+
+    fn is_within(&self, rt: &impl Wait, other: &Self) -> bool {
+        for stripe in 0..self.stripes.stripes() {
+            if !self.is_stripe_within(rt, stripe, other) {
+                return false;
+            }
+        }
+        true
+    }
+
+    /// Whether each pair of a stripe is in the other map. It never waits while it holds the stripe: where it meets a
+    /// stripe of the other map that it can't read at once, it lets its own go, waits for that one, and begins anew.
+    fn is_stripe_within(&self, rt: &impl Wait, stripe: usize, other: &Self) -> bool
+        requires { stripe < vec_len self.now.stripes.locks }
+    {
+        for _ in rt.forever() {
+            let busy = Cell::new(None);
+            let within = self
+                .stripes
+                .read(rt, stripe)
+                .iter_sync(|k, v| other.has_pair(k, v, &busy));
+            match busy.get() {
+                None => return within,
+                Some(there) => other.wait_until_readable(rt, there),
+            }
+        }
+        unreachable!()
+    }
+
+    /// Whether the pair is there; where its stripe can't be read at once, the number of that is noted.
+    fn has_pair(&self, k: &K, v: &V, busy: &Cell<Option<usize>>) -> bool {
+        let stripe = self.stripes.route(k);
+        match self.stripes.try_read(stripe) {
+            Some(guard) => match guard.read_sync(k, |_, w| *w == *v) {
+                Some(same) => same,
+                None => false,
+            },
+            None => {
+                busy.set(Some(stripe));
+                false
+            }
+        }
+    }
+
+    fn wait_until_readable(&self, rt: &impl Wait, stripe: usize) {
+        if stripe < self.stripes.stripes() {
+            drop(self.stripes.read(rt, stripe));
+        }
+    }
+}
+
+impl<K: Eq + Hash + Clone + Drop, V: Clone + Drop, H: BuildHasher + Drop> HashMap<K, V, H> {
+    /// A map with clones of the pairs that each stripe has when it is looked at, under the same hasher. It asks for the
+    /// capacity of this one.
+    pub fn try_clone(&self, rt: &impl Wait) -> Result<Self, MakeError> {
+        let made = self.alike(self.capacity(rt))?;
+        for stripe in 0..self.stripes.stripes() {
+            if !self
+                .stripes
+                .read(rt, stripe)
+                .iter_sync(|k, v| made.put_clones(rt, k, v))
+            {
+                return Err(MakeError);
+            }
+        }
+        Ok(made)
+    }
+
+    fn put_clones(&self, rt: &impl Wait, k: &K, v: &V) -> bool {
+        let Ok(key) = k.clone() else {
+            return false;
+        };
+        let Ok(value) = v.clone() else {
+            return false;
+        };
+        self.insert_sync(rt, key, value).is_ok()
+    }
+}
+
+impl<K: Eq + Hash + Drop, V: Drop, H: BuildHasher + Default + Drop> HashMap<K, V, H> {
+    /// A map of the items, upserted in their order. It is made for as many pairs as there are items. The iterator has
+    /// to end.
+    pub fn try_from_iter<I: IntoIterator<Item = (K, V)>>(
+        rt: &impl Wait,
+        alloc: Global,
+        items: I,
+    ) -> Result<Self, MakeError>
+        requires { (it : I.IntoIter) → I.into_iter_gives items it
+            → I.IntoIter.can_next it × IsFinite (I.IntoIter.remaining it) }
+    {
+        let Ok(pairs) = Vec::from_iter(alloc, items) else {
+            return Err(MakeError);
+        };
+        let made = HashMap::with_capacity_and_hasher(alloc, pairs.len(), H::default())?;
+        for (k, v) in pairs {
+            if made.upsert_sync(rt, k, v).is_err() {
+                return Err(MakeError);
+            }
+        }
+        Ok(made)
+    }
+}

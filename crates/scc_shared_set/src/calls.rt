@@ -1,0 +1,92 @@
+//! The calls on one key. Each states what its arguments decide; what it does to the stripe is that of the map's call.
+ghost use Rattle.std.specs.Prelude.{◌≡◌, ◌⊎◌, true, IfErr, IfOk, IfSome};
+ghost use Rattle.std.specs.Fn.{FnOnceReturnsAt, FnOnceTakesAt};
+ghost use Rattle.scc_shared_set.specs.Answers.{Exists, Memory, IsEqual, ReadsEqual};
+
+use super::HashSet;
+use scc_common::{InsertError, KeyError};
+use scc_map::locked::ReplaceResult;
+use std::hash::{BuildHasher, Hash};
+use std::sync::Wait;
+
+impl<K: Eq + Hash, H: BuildHasher> HashSet<K, H> {
+    /// Inserts the key where no key equals it. Where one does, and where a growth that the insertion needs is refused,
+    /// the supplied key comes back.
+    pub fn insert_sync(&self, rt: &impl Wait, k: K) -> Result<(), KeyError<K>>
+        ensures back { IfErr result (λ e. (e ≡ Exists k) ⊎ (e ≡ Memory k)) }
+    {
+        match self.map.insert_sync(rt, k, ()) {
+            Ok(()) => Ok(()),
+            Err(InsertError::Exists((key, _))) => Err(KeyError::Exists(key)),
+            Err(InsertError::Memory((key, _))) => Err(KeyError::Memory(key)),
+        }
+    }
+
+    /// Puts `k` in the place of the key that equals it, and answers the old one; this takes no memory. Where no key
+    /// equals it, it is inserted under the same lock, and None is answered; refused, it comes back.
+    pub fn replace_sync(&self, rt: &impl Wait, k: K) -> Result<Option<K>, KeyError<K>>
+    where
+        K: Drop,
+        ensures old { IfOk result (λ old. IfSome old (IsEqual K.eq k)) }
+        ensures back { IfErr result (λ e. e ≡ Memory k) }
+    {
+        match self.map.replace_sync(rt, k) {
+            ReplaceResult::Replaced(_, old) => Ok(Some(old)),
+            ReplaceResult::NotReplaced(vacant) => match vacant.insert_entry(()) {
+                Ok(_) => Ok(None),
+                Err(InsertError::Exists((key, _))) => Err(KeyError::Exists(key)),
+                Err(InsertError::Memory((key, _))) => Err(KeyError::Memory(key)),
+            },
+        }
+    }
+
+    /// The answer of `f` on the key that equals `k`, or None where there is none; then `f` isn't called.
+    pub fn read_sync<R, F: FnOnce(&K) -> R>(&self, rt: &impl Wait, k: &K, f: F) -> Option<R>
+        requires { F.IsAlwaysCallable f }
+        ensures answer { IfSome result (ReadsEqual K.eq F.FnOnce f k.now) }
+    {
+        self.map.read_sync(
+            rt,
+            k,
+            move |key: &K, _value: &()| -> R
+                requires { FnOnceTakesAt F.FnOnce f key.now }
+                ensures { FnOnceReturnsAt F.FnOnce f key.now result }
+            { f(key) },
+        )
+    }
+
+    /// Whether a key equals `k`.
+    pub fn contains_sync(&self, rt: &impl Wait, k: &K) -> bool {
+        self.map.contains_sync(rt, k)
+    }
+
+    /// Takes out the key that equals `k` where `f` answers true; the condition is asked only where there is one. Else
+    /// the answer is None.
+    pub fn remove_if_sync<F: FnOnce() -> bool>(&self, rt: &impl Wait, k: &K, f: F) -> Option<K>
+        requires { F.IsAlwaysCallable f }
+        ensures key { IfSome result (IsEqual K.eq k.now) }
+        ensures answer { IfSome result (λ _. F.post f true) }
+    {
+        match self.map.remove_if_sync(
+            rt,
+            k,
+            move |_value: &mut ()| -> bool
+                requires { F.pre f }
+                ensures { F.post f result }
+            { f() },
+        ) {
+            Some((key, _)) => Some(key),
+            None => None,
+        }
+    }
+
+    /// Takes out the key that equals `k`, and answers it.
+    pub fn remove_sync(&self, rt: &impl Wait, k: &K) -> Option<K>
+        ensures key { IfSome result (IsEqual K.eq k.now) }
+    {
+        match self.map.remove_sync(rt, k) {
+            Some((key, _)) => Some(key),
+            None => None,
+        }
+    }
+}

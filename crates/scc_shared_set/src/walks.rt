@@ -1,0 +1,75 @@
+//! Walks over all stripes of a set, one after another.
+ghost use Rattle.std.specs.Prelude.{◌≡◌, ◌++◌, List};
+ghost use Rattle.std.specs.Fn.{CalledAt, TakesAt};
+ghost use Rattle.scc_set.specs.SetWalks.{Retains, Takes, Walks};
+
+use super::HashSet;
+use scc_common::{Verdict, WalkError};
+use std::hash::{BuildHasher, Hash};
+use std::sync::Wait;
+
+impl<K: Eq + Hash, H: BuildHasher> HashSet<K, H> {
+    /// Calls `f` on keys, stripe after stripe, until its first false, and answers false where it stopped. One stripe is
+    /// held for reading at a time.
+    pub fn iter_sync<F: FnMut(&K) -> bool>(&self, rt: &impl Wait, mut f: F) -> bool
+        requires { F.IsAlwaysCallable f }
+        ensures calls { (ks : List K) × (last : F) × Walks (CalledAt F.FnMut) f ks result last }
+    {
+        self.map.iter_sync(
+            rt,
+            move |key: &K, _value: &()| -> bool
+                requires { TakesAt F.FnMut f key.now }
+                ensures { CalledAt F.FnMut f.entry key.entry.now result f.exit }
+            { f(key) },
+        )
+    }
+
+    /// Calls `f` on the keys, stripe after stripe, and takes out those on which it answers false. Then the array of the
+    /// stripe may become smaller.
+    pub fn retain_sync<F: FnMut(&K) -> bool>(&self, rt: &impl Wait, mut f: F)
+    where
+        K: Drop,
+        requires { F.IsAlwaysCallable f }
+        ensures calls { (ks : List K) × (stay : List K) × (last : F) × Retains (CalledAt F.FnMut) f ks stay last }
+    {
+        self.map.retain_sync(
+            rt,
+            move |key: &K, _value: &mut ()| -> bool
+                requires { TakesAt F.FnMut f key.now }
+                ensures { CalledAt F.FnMut f.entry key.entry.now result f.exit }
+            { f(key) },
+        );
+    }
+
+    /// Calls `f` on the keys, stripe after stripe, until it stops, and answers false where it stopped. A key on which
+    /// it
+    /// answers `Take` or `TakeStop` goes to the end of `taken`. Room for one key is made in `taken` before each call of
+    /// `f`; where it can't be had, the walk ends with an error, and what it did so far stays.
+    pub fn iter_mut_sync<F: FnMut(&K) -> Verdict>(
+        &self,
+        rt: &impl Wait,
+        mut f: F,
+        taken: &mut Vec<K>,
+    ) -> Result<bool, WalkError>
+        requires { F.IsAlwaysCallable f }
+        ensures calls { (ks : List K) × (stay : List K) × (more : List K) × (last : F)
+            × Takes (CalledAt F.FnMut) f ks stay more result last × (taken.new.items ≡ taken.old.items ++ more) }
+    {
+        self.map.iter_mut_into(
+            rt,
+            move |key: &K, _value: &mut ()| -> Verdict
+                requires { TakesAt F.FnMut f key.now }
+                ensures { CalledAt F.FnMut f.entry key.entry.now result f.exit }
+            { f(key) },
+            taken,
+        )
+    }
+
+    /// Takes out the keys of each stripe in turn.
+    pub fn clear_sync(&self, rt: &impl Wait)
+    where
+        K: Drop,
+    {
+        self.map.clear_sync(rt);
+    }
+}

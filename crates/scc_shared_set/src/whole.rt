@@ -1,0 +1,54 @@
+//! What is done with a whole set: comparisons, clones, sets made of items. They look at the stripes one after another.
+ghost use Rattle.std.specs.Iterator.{IsFinite};
+
+use super::HashSet;
+use scc_common::{KeyError, MakeError};
+use std::alloc::Global;
+use std::hash::{BuildHasher, Hash};
+use std::sync::Wait;
+
+impl<K: Eq + Hash, H: BuildHasher> HashSet<K, H> {
+    /// Whether each key of either set, as its stripe is looked at, is in the other. A stripe of each is held for
+    /// reading
+    /// at a time.
+    pub fn eq_sync(&self, rt: &impl Wait, other: &Self) -> bool {
+        self.map.eq_sync(rt, &other.map)
+    }
+}
+
+impl<K: Eq + Hash + Clone + Drop, H: BuildHasher + Drop> HashSet<K, H> {
+    /// A set with clones of the keys that each stripe has when it is looked at, under the same hasher. It asks for the
+    /// capacity of this one. It is refused for want of memory, and where a clone can't be had.
+    pub fn try_clone(&self, rt: &impl Wait) -> Result<Self, MakeError> {
+        match self.map.try_clone(rt) {
+            Ok(map) => Ok(HashSet { map }),
+            Err(e) => Err(e),
+        }
+    }
+}
+
+impl<K: Eq + Hash + Drop, H: BuildHasher + Default + Drop> HashSet<K, H> {
+    /// A set of the items, inserted in their order, so that the first of equal keys stays. It is made for as many keys
+    /// as there are items. It is refused for want of memory. The iterator has to end.
+    pub fn try_from_iter<I: IntoIterator<Item = K>>(
+        rt: &impl Wait,
+        alloc: Global,
+        items: I,
+    ) -> Result<Self, MakeError>
+        requires { (it : I.IntoIter) → I.into_iter_gives items it
+            → I.IntoIter.can_next it × IsFinite (I.IntoIter.remaining it) }
+    {
+        let Ok(keys) = Vec::from_iter(alloc, items) else {
+            return Err(MakeError);
+        };
+        let made = HashSet::with_capacity_and_hasher(alloc, keys.len(), H::default())?;
+        for k in keys {
+            match made.insert_sync(rt, k) {
+                Ok(()) => {}
+                Err(KeyError::Exists(_)) => {}
+                Err(KeyError::Memory(_)) => return Err(MakeError),
+            }
+        }
+        Ok(made)
+    }
+}

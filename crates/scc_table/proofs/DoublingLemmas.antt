@@ -1,0 +1,35 @@
+-- The entries of one bucket among twice as many buckets.
+use Rattle.std.proofs.Common.{◌≡◌, ◌==◌, ℕ, ◌*◌, ◌/◌, Bool, true, List, [], ◌∷◌, length, refl, sym, ap, ◌∙◌, arith, eqb-true, eq-eqb}
+use Rattle.std.specs.List.{filter}
+use Rattle.scc_contents.specs.Contents.{Contents, entries, bucket_count, list_of, settings_of, IsRouted}
+use Rattle.scc_buckets.specs.Pour.{bound_for}
+use Rattle.scc_contents.specs.Routing.{bucket_number}
+use Rattle.scc_buckets.proofs.PairSplits.{by_answer}
+use Rattle.scc_table.proofs.Listed.{listed-is}
+use Rattle.scc_draining.proofs.Numbers.{number-div}
+
+-- those that pass both are those that pass the narrower
+pub filter-both : {E : Type 0} (p q : E → Bool) → ((e : E) → p e ≡ true → q e ≡ true) → (es : List E) → filter p (filter q es) ≡ filter p es
+filter-both p q h [] = refl
+filter-both p q h (e ∷ es) =
+    let rest = filter-both p q h es in
+    by_answer (p e)
+    (λ a. let b = h e a in rw b (rw a (ap (λ z. e ∷ z) rest)))
+    (λ a. by_answer (q e) (λ b. rw b (rw a rest)) (λ b. rw b (rw a rest)))
+
+-- a bucket among twice as many has its entries from one
+pub bound-listed : {E S : Type 0} (hash : E → ℕ) (c : Contents E S) (h i : ℕ) → IsRouted hash c → i ≡ bucket_number (settings_of c).skipped (bucket_count c) h
+    → bound_for hash (settings_of c).skipped (2 * bucket_count c) (bucket_number (settings_of c).skipped (2 * bucket_count c) h) (list_of c i) ≡ bound_for hash (settings_of c).skipped (2 * bucket_count c) (bucket_number (settings_of c).skipped (2 * bucket_count c) h) (entries c)
+bound-listed {E} hash c h i routed at =
+    let s = (settings_of c).skipped in
+    let n = bucket_count c in
+    let t = bucket_number s (2 * n) h in
+    let p : E → Bool = λ e. bucket_number s (2 * n) (hash e) == t in
+    let q : E → Bool = λ e. bucket_number s n (hash e) == i in
+    let narrow = λ (e : E) (a : p e ≡ true).
+    eq-eqb (bucket_number s n (hash e)) i (sym (number-div s n 2 (hash e) (omega arith)) ∙ ap (λ z. z / 2) (eqb-true _ _ a) ∙ number-div s n 2 h (omega arith) ∙ sym at) in
+    ap (filter p) (sym (listed-is hash c i routed)) ∙ filter-both p q narrow (entries c)
+
+pub bound-few : {E S : Type 0} (hash : E → ℕ) (c : Contents E S) (h i : ℕ) → IsRouted hash c → i ≡ bucket_number (settings_of c).skipped (bucket_count c) h
+    → length (bound_for hash (settings_of c).skipped (2 * bucket_count c) (bucket_number (settings_of c).skipped (2 * bucket_count c) h) (list_of c i)) ≡ length (bound_for hash (settings_of c).skipped (2 * bucket_count c) (bucket_number (settings_of c).skipped (2 * bucket_count c) h) (entries c))
+bound-few hash c h i routed at = ap length (bound-listed hash c h i routed at)

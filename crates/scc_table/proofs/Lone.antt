@@ -1,0 +1,87 @@
+-- A table of two arrays of which no bucket waits, where a call changes the new array alone.
+use Rattle.std.proofs.Common.{◌≡◌, ℕ, ◌+◌, ◌*◌, ◌^◌, ◌<◌, ◌==◌, inl, inr, Bool, true, false, List, [], ◌∷◌, length, map, sym, ap, ◌∙◌, subst, arith}
+use Rattle.std.specs.List.{filter, flat_map, slice_get, IsDistinct}
+use Rattle.std.specs.List.Sorted.{IsPermutation}
+use Rattle.scc_array.specs.Shelf.{Shelf, shelf_entries}
+use Rattle.scc_contents.specs.Contents.{Contents, entries, bucket_count, held_of, lists_of, minimum_of, settings_of, spilled_of, waiting_of}
+use Rattle.scc_buckets.specs.Places as spots
+use Rattle.scc_contents.specs.Routing.{bucket_number}
+use Rattle.scc_contents.specs.Sizes.{IsArray, IsArraySize}
+use Rattle.scc_contents.specs.Steps.{FirstArrayWhenDue, Grows, IsUnchanged}
+use Rattle.scc_buckets.specs.declared.place.Place.{Place}
+use Rattle.scc_draining.specs.Moves.{AreOwn}
+use Rattle.scc_table.specs.Places.{IsInsertedAt, spot_of}
+use Rattle.scc_table.specs.TwoArrays.{IsTable, waits_at}
+use Rattle.scc_table.proofs.Alone.{entries-alone, nothing-held, spilled-bare}
+use Rattle.scc_table.proofs.OldSpots.{spot-own}
+use Rattle.scc_table.proofs.Placing.{index-same}
+use Rattle.scc_table.proofs.Same.{count-same, entries-same, list-same}
+
+-- of all fields then
+pub fields-lone : {E K S : Type 0} (eq : K → K → Bool) (key : E → K) (hash : K → ℕ) (c d : Contents E S) (ws : List Bool) (olds : List (Shelf E)) (skipped pending next held aside : ℕ) → IsTable eq key hash c ws olds skipped pending next held aside → ws ≡ [] → settings_of d ≡ settings_of c → spilled_of d < 2 ^ 62
+    → IsDistinct eq (map key (entries d)) → IsTable eq key hash d ws olds skipped pending next held 0
+fields-lone {E} eq key hash c d ws olds skipped pending next held aside inv none settings few unique =
+    let h : E → ℕ = λ e. hash (key e) in
+    let nothing : flat_map shelf_entries olds ≡ [] = nothing-held h c ws olds none inv.arrays in
+    record {
+      arrays = record {
+        flags = inl none;
+        multiples = inl none;
+        sized = inl none;
+        own = subst (λ s. AreOwn h s.skipped olds) (sym settings) inv.arrays.own;
+        settled = λ i down. ap (filter (λ e. bucket_number (settings_of d).skipped (bucket_count d) (h e) == i)) nothing;
+        bare = λ i up. absurd (let z : false ≡ true = ap (λ w. waits_at w i) (sym none) ∙ up in cc);
+      };
+      skips = inv.skips ∙ ap (λ s. s.skipped) (sym settings);
+      few_bits = inv.few_bits;
+      counted = inv.counted;
+      none = inv.none;
+      below = inv.below;
+      held_is = inv.held_is;
+      overflow_is = let z = spilled-bare olds nothing in omega arith;
+      few = omega arith;
+      unique = subst (λ es. IsDistinct eq (map key es)) (sym (entries-alone h d ws olds none)) unique;
+    }
+
+-- what is seen before and after has the lists and the settings of the new array
+module _ {E S : Type 0} (a c d f : Contents E S) (before : lists_of a ≡ lists_of c) (had : settings_of a ≡ settings_of c) (after : lists_of f ≡ lists_of d) (has : settings_of f ≡ settings_of d) where
+  pub over-unchanged : IsUnchanged c d → IsUnchanged a f
+  over-unchanged u = record {
+    exact = entries-same d f after ∙ u.exact ∙ sym (entries-same c a before);
+    buckets = count-same d f after ∙ u.buckets ∙ sym (count-same c a before);
+    settings = has ∙ u.settings ∙ sym had;
+  }
+
+  size : (n : ℕ) → IsArraySize (minimum_of c) (32 * bucket_count d) → IsArraySize (minimum_of a) (32 * bucket_count f)
+  size n h = subst (λ s. IsArraySize (s.asked + s.reserved) (32 * bucket_count f)) (sym had) (subst (λ m. IsArraySize (minimum_of c) (32 * m)) (sym (count-same d f after)) h)
+
+  pub over-grows : bucket_count a ≡ 0 → Grows c d → Grows a f
+  over-grows none g = record {
+    first = λ z ne. size 0 (g.first (sym (count-same c a before) ∙ z) (λ q. ne (count-same d f after ∙ q ∙ sym (count-same c a before))));
+    half = λ some ne. absurd (omega arith);
+    below = λ some ne. absurd (omega arith);
+    doubled = λ some ne. absurd (omega arith);
+    settled = λ some ne. absurd (omega arith);
+  }
+
+  pub over-first : FirstArrayWhenDue c d → FirstArrayWhenDue a f
+  over-first g = record { made = λ z. size 0 (g.made (sym (count-same c a before) ∙ z)) }
+
+  pub over-inserted : waiting_of f ≡ [] → (e : E) (p : Place) → spots.IsInsertedAtSpot c e d p → IsInsertedAt a e f p
+  over-inserted none e p i =
+      let ca = count-same c a before in
+      let cf = count-same d f after in
+      let there : spots.IsInsertedAtSpot a e f p = record {
+        holds = record {
+          same = subst (λ es. IsPermutation (e ∷ entries a) es) (sym (entries-same d f after)) (subst (λ es. IsPermutation (e ∷ es) (entries d)) (sym (entries-same c a before)) i.holds.same);
+          size = record {
+            lawful = elim i.holds.size.lawful [ inl z ↦ inl (cf ∙ z ∙ sym ca) | inr z ↦ inr (subst IsArray (sym cf) z) ];
+            minimum = λ less. let m = i.holds.size.minimum (omega arith) in let z : minimum_of a ≡ minimum_of c = ap (λ s. s.asked + s.reserved) had in omega arith;
+          };
+          settings = has ∙ i.holds.settings ∙ sym had;
+        };
+        within = record { bucket = omega (arith, i.within.bucket); slot = subst (λ z. p.slot < length z) (sym (list-same d f after p.bucket)) i.within.slot };
+        here = ap (λ es. slice_get es (spots.index_of_spot f p)) (entries-same d f after) ∙ ap (slice_get (entries d)) (index-same d f p after) ∙ i.here;
+      } in
+      let spot : spot_of f p ≡ p = spot-own (waiting_of f) (held_of f) (bucket_count f) p there.within.bucket (ap (λ w. waits_at w p.bucket) none) in
+      subst (spots.IsInsertedAtSpot a e f) (sym spot) there

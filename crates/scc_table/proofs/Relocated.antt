@@ -1,0 +1,207 @@
+-- The fields of a table of two arrays, once a bucket took its entries over.
+use Rattle.std.proofs.Common.{◌≡◌, ◌==◌, ℕ, suc, ◌+◌, ◌-◌, ◌^◌, ◌<◌, ◌≤◌, ◌≢◌, inl, inr, Bool, true, false, not, List, [], ◌∷◌, length, map, set, get_or, refl, sym, ap, ◌∙◌, subst, arith, length-set, get_or-set_same, get_or-set_other, eq-eqb}
+use Rattle.std.specs.List.{filter, flat_map, count_by, sum_by, IsDistinct}
+use Rattle.std.proofs.lemmas.List.Concat.{length-flat_map}
+use Rattle.std.proofs.lemmas.List.Filters.{length-filter_both}
+use Rattle.std.proofs.lemmas.List.Sums.{sum_by-cons}
+use native.Mathlib.Decide.{dec_lt}
+use Rattle.scc_array.specs.Shelves.{shelf_of}
+use Rattle.scc_array.specs.Shelf.{Shelf, shelf_entries}
+use Rattle.scc_contents.specs.Contents.{Contents, entries, bucket_count, list_of, lists_of, settings_of, spilled_of, waiting_of}
+use Rattle.scc_buckets.specs.Pour.{bound_for}
+use Rattle.scc_contents.specs.Routing.{bucket_number}
+use Rattle.scc_contents.specs.Sizes.{IsArray}
+use Rattle.scc_buckets.specs.Tables.{spilled_in}
+use Rattle.scc_buckets.proofs.PairSplits.{by_answer}
+use Rattle.scc_draining.specs.Moves.{others_for, AreMultiples, AreOwn, TakesOver}
+use Rattle.scc_table.specs.TwoArrays.{joined, waits_at, target_by, together, settle, held_in, held_without, TwoArrays, IsTable, IsRelocated}
+use Rattle.scc_table.proofs.Joining.{lists-together, held-together, settings-together, refused-together, waiting-together, pending-together}
+use Rattle.scc_table.proofs.RelocatingLemmas.{not_equal, bound-others_none, bound-others_same, flat-others, none-up, one-down, up-within, joined-none, joined-moved}
+
+pub count-is : {E S : Type 0} (c : Contents E S) → bucket_count c ≡ length (lists_of c)
+unfolding bucket_count lists_of
+count-is c = refl
+
+pub list-is : {E S : Type 0} (c : Contents E S) (i : ℕ) → list_of c i ≡ get_or (lists_of c) i []
+unfolding list_of lists_of
+list-is c i = refl
+
+pub spilled-le : {E : Type 0} (olds news : List (Shelf E)) → length news ≡ length olds → ((j : ℕ) → length (shelf_of news j).overflow ≤ length (shelf_of olds j).overflow) → spilled_in news ≤ spilled_in olds
+spilled-le [] [] l h = omega arith
+spilled-le [] (b ∷ news) l h = absurd (omega arith)
+spilled-le (a ∷ olds) [] l h = absurd (omega arith)
+spilled-le {E} (a ∷ olds) (b ∷ news) l h =
+    let f : Shelf E → ℕ = λ x. length x.overflow in
+    let p = sum_by-cons f a olds in
+    let q = sum_by-cons f b news in
+    let rest : sum_by f news ≤ sum_by f olds = spilled-le olds news (omega arith) (λ j. h (suc j)) in
+    let first : f b ≤ f a = h 0 in
+    let goal_is : sum_by f (b ∷ news) ≤ sum_by f (a ∷ olds) = omega arith in
+    goal_is
+
+-- the flags afterwards: bucket i doesn't wait, and there are none where no other does
+pub data Settles (ws : List Bool) (i : ℕ) (vs : List Bool) : Type 0 where
+  others : vs ≡ set ws i false → 0 < count_by (λ w. w) (set ws i false) → Settles ws i vs
+  last : vs ≡ [] → count_by (λ w. w) (set ws i false) ≡ 0 → Settles ws i vs
+
+pub flags-after : {ws vs : List Bool} {i : ℕ} → Settles ws i vs → (k : ℕ) → waits_at vs k ≡ waits_at (set ws i false) k
+flags-after (others e some) k = ap (λ w. waits_at w k) e
+flags-after {ws} {i = i} (last e none) k = ap (λ w. waits_at w k) e ∙ sym (none-up (set ws i false) none k)
+
+pub count-after : {ws vs : List Bool} {i : ℕ} → Settles ws i vs → count_by (λ w. w) vs ≡ count_by (λ w. w) (set ws i false)
+count-after (others e some) = ap (count_by (λ w. w)) e
+count-after (last e none) = ap (count_by (λ w. w)) e ∙ sym none
+
+module _ {E S : Type 0} (hash : E → ℕ) (i n : ℕ) (c d : Contents E S) (ws vs : List Bool) (olds news : List (Shelf E)) (arrays : TwoArrays hash c ws olds) (up : waits_at ws i ≡ true) (takes : TakesOver hash i n c olds d news) (settles : Settles ws i vs) where
+  pub flags-long : length ws ≡ bucket_count c
+  flags-long = elim arrays.flags [
+    | inl z ↦ absurd (let q : false ≡ true = ap (λ w. waits_at w i) (sym z) ∙ up in cc)
+    | inr z ↦ z
+  ]
+
+  pub counts : bucket_count d ≡ bucket_count c
+  counts = count-is d ∙ ap length takes.lists ∙ length-set (lists_of c) i (bound_for hash (settings_of c).skipped (bucket_count c) i (flat_map shelf_entries olds)) ∙ sym (count-is c)
+
+  pub target-same : target_by hash d ≡ target_by hash c
+  target-same =
+      let f : E → ℕ = target_by hash d in
+      ap (λ s. let g : E → ℕ = λ e. bucket_number s.skipped (bucket_count d) (hash e) in g) takes.settings ∙ ap (λ m. let g : E → ℕ = λ e. bucket_number (settings_of c).skipped m (hash e) in g) counts
+
+  pub flat-after : flat_map shelf_entries news ≡ others_for hash (settings_of c).skipped (bucket_count c) i (flat_map shelf_entries olds)
+  flat-after = flat-others hash (settings_of c).skipped (bucket_count c) i olds news takes.count takes.kept
+
+  pub joined-after : joined (target_by hash d) 0 vs (lists_of d) (flat_map shelf_entries news) ≡ joined (target_by hash c) 0 ws (lists_of c) (flat_map shelf_entries olds)
+  joined-after =
+      let f = target_by hash c in
+      let es = flat_map shelf_entries olds in
+      let os = others_for hash (settings_of c).skipped (bucket_count c) i es in
+      let b = bound_for hash (settings_of c).skipped (bucket_count c) i es in
+      let ls = set (lists_of c) i b in
+      let l : length ws ≡ length (lists_of c) = flags-long ∙ count-is c in
+      let moved = joined-moved f es os ws (lists_of c) i l up (λ k ne. bound-others_same hash (settings_of c).skipped (bucket_count c) i k ne es) in
+      let long : length (set ws i false) ≡ length ls = length-set ws i false ∙ l ∙ sym (length-set (lists_of c) i b) in
+      ap (λ g. joined g 0 vs (lists_of d) (flat_map shelf_entries news)) target-same ∙ ap (λ z. joined f 0 vs z (flat_map shelf_entries news)) takes.lists ∙ ap (λ z. joined f 0 vs ls z) flat-after
+      ∙ elim settles [
+        | others e some ↦ ap (λ w. joined f 0 w ls os) e ∙ moved
+        | last e none ↦ ap (λ w. joined f 0 w ls os) e ∙ sym (joined-none f os 0 (set ws i false) ls long (none-up (set ws i false) none)) ∙ moved
+      ]
+
+  pub arrays-after : TwoArrays hash d vs news
+  arrays-after = record {
+    flags = elim settles [ others e some ↦ inr (ap length e ∙ length-set ws i false ∙ flags-long ∙ sym counts) | last e none ↦ inl e ];
+    multiples = elim arrays.multiples [
+      | inl z ↦ absurd (let q : false ≡ true = ap (λ w. waits_at w i) (sym z) ∙ up in cc)
+      | inr z ↦ inr (subst (λ m. AreMultiples m (bucket_count d)) (sym takes.count) (subst (AreMultiples (length olds)) (sym counts) z))
+    ];
+    sized = elim arrays.sized [
+      | inl z ↦ absurd (let q : false ≡ true = ap (λ w. waits_at w i) (sym z) ∙ up in cc)
+      | inr z ↦ inr (subst IsArray (sym takes.count) z)
+    ];
+    own = subst (λ s. AreOwn hash s.skipped news) (sym takes.settings) takes.own;
+    settled = λ k down.
+        let es = flat_map shelf_entries olds in
+        let flag = sym (flags-after settles k) ∙ down in
+        let there : bound_for hash (settings_of d).skipped (bucket_count d) k (flat_map shelf_entries news) ≡ bound_for hash (settings_of c).skipped (bucket_count c) k (others_for hash (settings_of c).skipped (bucket_count c) i es) =
+        ap (λ g. filter (λ e. g e == k) (flat_map shelf_entries news)) target-same ∙ ap (bound_for hash (settings_of c).skipped (bucket_count c) k) flat-after in
+        let apart = λ (ne : k ≢ i). there ∙ bound-others_same hash (settings_of c).skipped (bucket_count c) i k ne es ∙ arrays.settled k (sym (get_or-set_other ws i k false false ne) ∙ flag) in
+        elim (dec_lt k i) [
+          | yes r ↦ apart (omega arith)
+          | no r ↦ elim (dec_lt i k) [
+            | yes s ↦ apart (omega arith)
+            | no s ↦ let same : k ≡ i = omega arith in there ∙ ap (λ m. bound_for hash (settings_of c).skipped (bucket_count c) m (others_for hash (settings_of c).skipped (bucket_count c) i es)) same ∙ bound-others_none hash (settings_of c).skipped (bucket_count c) i es
+          ]
+        ];
+    bare = λ k high.
+        let flag = sym (flags-after settles k) ∙ high in
+        let apart = λ (ne : k ≢ i).
+        list-is d k ∙ ap (λ z. get_or z k []) takes.lists ∙ get_or-set_other (lists_of c) i k (bound_for hash (settings_of c).skipped (bucket_count c) i (flat_map shelf_entries olds)) [] ne ∙ sym (list-is c k)
+        ∙ arrays.bare k (sym (get_or-set_other ws i k false false ne) ∙ flag) in
+        elim (dec_lt k i) [
+          | yes r ↦ apart (omega arith)
+          | no r ↦ elim (dec_lt i k) [
+            | yes s ↦ apart (omega arith)
+            | no s ↦ let same : k ≡ i = omega arith in absurd (let q : false ≡ true = sym (get_or-set_same ws i false false (up-within ws i up)) ∙ ap (waits_at (set ws i false)) (sym same) ∙ flag in cc)
+          ]
+        ];
+  }
+
+  pub entries-after : entries (together hash d vs news) ≡ entries (together hash c ws olds)
+  unfolding entries
+  entries-after = ap (flat_map (λ l. l)) joined-after
+
+-- of all fields
+pub fields-after : {E K S : Type 0} (eq : K → K → Bool) (key : E → K) (hash : K → ℕ) (i n : ℕ) (c d : Contents E S) (ws vs : List Bool) (olds news : List (Shelf E)) (skipped pending next held aside : ℕ)
+    → IsTable eq key hash c ws olds skipped pending next held aside → waits_at ws i ≡ true → TakesOver (λ e. hash (key e)) i n c olds d news → Settles ws i vs → spilled_of d + aside < 2 ^ 62
+    → IsTable eq key hash d vs news skipped (pending - 1) next (held - n) aside
+fields-after {E} eq key hash i n c d ws vs olds news skipped pending next held aside inv up takes settles few =
+    let h : E → ℕ = λ e. hash (key e) in
+    let fewer = one-down ws i (up-within ws i up) up in
+    let after = count-after settles in
+    record {
+      arrays = arrays-after h i n c d ws vs olds news inv.arrays up takes settles;
+      skips = inv.skips ∙ ap (λ s. s.skipped) (sym takes.settings);
+      few_bits = inv.few_bits;
+      counted = omega (arith, inv.counted);
+      none = λ z. elim settles [ others e some ↦ absurd (omega (arith, inv.counted)) | last e none ↦ e ];
+      below = λ k l. flags-after settles k ∙ (elim (dec_lt k i) [
+        | yes r ↦ get_or-set_other ws i k false false (omega arith) ∙ inv.below k l
+        | no r ↦ elim (dec_lt i k) [
+          | yes s ↦ get_or-set_other ws i k false false (omega arith) ∙ inv.below k l
+          | no s ↦ let same : k ≡ i = omega arith in ap (waits_at (set ws i false)) same ∙ get_or-set_same ws i false false (up-within ws i up)
+        ]
+      ]);
+      held_is =
+          let es = flat_map shelf_entries olds in
+          let q : E → Bool = λ e. bucket_number (settings_of c).skipped (bucket_count c) (h e) == i in
+          let both : length (filter q es) + length (filter (λ e. not (q e)) es) ≡ length es = length-filter_both q (λ e. not (q e)) (λ e. refl) es in
+          let left : length (flat_map shelf_entries news) ≡ length (filter (λ e. not (q e)) es) = ap length (flat-after h i n c d ws vs olds news inv.arrays up takes settles) in
+          let moved : n ≡ length (filter q es) = takes.moved in
+          let a = length-flat_map shelf_entries olds in
+          let b = length-flat_map shelf_entries news in
+          omega (arith, inv.held_is);
+      overflow_is = let l = spilled-le olds news takes.count takes.overflow in omega (arith, inv.overflow_is);
+      few = few;
+      unique = subst (λ z. IsDistinct eq (map key z)) (sym (entries-after h i n c d ws vs olds news inv.arrays up takes settles)) inv.unique;
+    }
+
+settle-others : (ws : List Bool) (i : ℕ) → 0 < count_by (λ w. w) (set ws i false) → settle ws i ≡ set ws i false
+settle-others ws i some = let z : (count_by (λ w. w) (set ws i false) == 0) ≡ false = not_equal _ _ (omega arith) in rw z
+
+settle-last : (ws : List Bool) (i : ℕ) → count_by (λ w. w) (set ws i false) ≡ 0 → settle ws i ≡ []
+settle-last ws i none = let z : (count_by (λ w. w) (set ws i false) == 0) ≡ true = eq-eqb _ _ none in rw z
+
+pub settle-after : {ws vs : List Bool} {i : ℕ} → Settles ws i vs → vs ≡ settle ws i
+settle-after {ws} {i = i} (others e some) = e ∙ sym (settle-others ws i some)
+settle-after {ws} {i = i} (last e none) = e ∙ sym (settle-last ws i none)
+
+map-others : {E : Type 0} (f : E → ℕ) (i : ℕ) (es : List E) → map f (filter (λ e. not (f e == i)) es) ≡ filter (λ t. not (t == i)) (map f es)
+map-others f i [] = refl
+map-others f i (e ∷ es) = by_answer (f e == i) (λ q. rw q (map-others f i es)) (λ q. rw q (ap (λ z. f e ∷ z) (map-others f i es)))
+
+held-others : {E : Type 0} (f : E → ℕ) (i : ℕ) (olds news : List (Shelf E)) → length news ≡ length olds → ((j : ℕ) → j < length olds → shelf_entries (shelf_of news j) ≡ filter (λ e. not (f e == i)) (shelf_entries (shelf_of olds j)))
+    → map (λ b. map f (shelf_entries b)) news ≡ map (λ ts. filter (λ t. not (t == i)) ts) (map (λ b. map f (shelf_entries b)) olds)
+held-others f i [] [] l h = refl
+held-others f i [] (b ∷ news) l h = absurd (omega arith)
+held-others f i (a ∷ olds) [] l h = absurd (omega arith)
+held-others f i (a ∷ olds) (b ∷ news) l h =
+    let first : map f (shelf_entries b) ≡ filter (λ t. not (t == i)) (map f (shelf_entries a)) = ap (map f) (h 0 (omega arith)) ∙ map-others f i (shelf_entries a) in
+    ap (λ z. z ∷ map (λ x. map f (shelf_entries x)) news) first
+    ∙ ap (λ z. filter (λ t. not (t == i)) (map f (shelf_entries a)) ∷ z) (held-others f i olds news (omega arith) (λ j q. h (suc j) (omega arith)))
+
+held-after : {E : Type 0} (f : E → ℕ) (i : ℕ) (ws vs : List Bool) (olds news : List (Shelf E)) → waits_at ws i ≡ true → length news ≡ length olds → ((j : ℕ) → j < length olds → shelf_entries (shelf_of news j) ≡ filter (λ e. not (f e == i)) (shelf_entries (shelf_of olds j)))
+    → held_in f vs news ≡ held_without vs i (held_in f ws olds)
+held-after f i [] vs olds news up l h = absurd (let q : false ≡ true = up in cc)
+held-after f i (w ∷ ws) [] olds news up l h = refl
+held-after f i (w ∷ ws) (v ∷ vs) olds news up l h = held-others f i olds news l h
+
+pub relocated-after : {E S : Type 0} (hash : E → ℕ) (i n : ℕ) (c d : Contents E S) (ws vs : List Bool) (olds news : List (Shelf E)) → TwoArrays hash c ws olds → waits_at ws i ≡ true → TakesOver hash i n c olds d news → Settles ws i vs
+    → IsRelocated i (together hash c ws olds) (together hash d vs news)
+relocated-after hash i n c d ws vs olds news arrays up takes settles = record {
+  lists = lists-together hash d vs news ∙ joined-after hash i n c d ws vs olds news arrays up takes settles ∙ sym (lists-together hash c ws olds);
+  settings = settings-together hash d vs news ∙ takes.settings ∙ sym (settings-together hash c ws olds);
+  refused = refused-together hash d vs news ∙ takes.refused ∙ sym (refused-together hash c ws olds);
+  waiting = waiting-together hash d vs news ∙ settle-after settles ∙ ap (λ w. settle w i) (sym (waiting-together hash c ws olds));
+  held = held-together hash d vs news ∙ ap (λ f. held_in f vs news) (target-same hash i n c d ws vs olds news arrays up takes settles) ∙ held-after (target_by hash c) i ws vs olds news up takes.count takes.kept
+      ∙ ap (λ v. held_without v i (held_in (target_by hash c) ws olds)) (sym (waiting-together hash d vs news)) ∙ ap (held_without (waiting_of (together hash d vs news)) i) (sym (held-together hash c ws olds));
+  pending = pending-together hash c ws olds ∙ one-down ws i (up-within ws i up) up ∙ ap (λ m. m + 1) (sym (count-after settles) ∙ sym (pending-together hash d vs news));
+}

@@ -1,0 +1,8 @@
+use Rattle.std.proofs.Common.{sym, ap, ◌∙◌}
+use Rattle.scc_contents.specs.Contents.{bucket_count}
+use Rattle.scc_table.proofs.Joining.{count-together}
+use Rattle.scc_table.proofs.Table.bucket_count.Goals as goal
+
+pub returns-clause-count : goal.returns-clause-count
+returns-clause-count g c =
+    c.bucket_count.ensures.count ∙ sym (count-together _ c.self.inside.current c.self.inside.waiting.items c.self.inside.draining c.self.invariant.arrays.flags) ∙ ap bucket_count c.self.view_is

@@ -1,0 +1,29 @@
+use Rattle.std.proofs.Common.{◌≡◌, ◌∙◌, sym, ap, arith}
+use Rattle.scc_contents.specs.Contents.{pending_of, waiting_of}
+use Rattle.scc_table.proofs.Finishing.{finish-start, finish-step}
+use Rattle.scc_table.proofs.Joining.{waiting-together, pending-together}
+use Rattle.scc_table.proofs.Table.finish.Goals as goal
+
+pub loop-init : goal.loop-init
+loop-init g c =
+    let t = c.self.inside in
+    let flags : waiting_of c.args.self.now ≡ t.waiting.items = ap waiting_of (sym c.self.view_is) ∙ waiting-together _ t.current t.waiting.items t.draining in
+    let counted = ap pending_of (sym c.self.view_is) ∙ pending-together _ t.current t.waiting.items t.draining ∙ sym c.self.invariant.counted in
+    finish-start c.args.self.now (λ z. flags ∙ c.self.invariant.none (sym counted ∙ z))
+
+pub relocate_next-requires : goal.relocate_next-requires
+relocate_next-requires g c =
+    let t = c.self.inside in
+    let counted = ap pending_of (sym c.self.view_is) ∙ pending-together _ t.current t.waiting.items t.draining ∙ sym c.self.invariant.counted in
+    omega (arith, c.loop.invariant.left, counted)
+
+pub loop-preserved : goal.loop-preserved
+loop-preserved g c =
+    let moved = c.in_ok-relocate_next.ensures.ok in
+    finish-step c.args.self.now c.loop.self c.relocate_next.new.self c.loop.counter moved.0 c.loop.invariant moved.2 c.relocate_next.ensures.bounded
+
+pub returns-clause-ok : goal.returns-clause-ok
+returns-clause-ok g c =
+    let t = c.self.inside in
+    let counted = ap pending_of (sym c.self.view_is) ∙ pending-together _ t.current t.waiting.items t.draining ∙ sym c.self.invariant.counted in
+    c.loop.invariant.none (omega (arith, c.loop.invariant.left, counted))

@@ -1,0 +1,5 @@
+use Rattle.scc_table.proofs.Finishing.{Finishes}
+use Rattle.scc_table.proofs.Table.finish.Given as goal
+
+abbrev pub invariant-loop : goal.invariant-loop
+invariant-loop g l = Finishes l.initial.self l.self l.counter

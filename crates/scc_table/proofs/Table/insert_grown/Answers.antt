@@ -1,0 +1,100 @@
+use Rattle.std.proofs.Common.{◌≡◌, ◌==◌, ◌∙◌, ◌<◌, ℕ, inr, length, sym, ap, subst, arith}
+use Rattle.std.specs.List.{count_by}
+use Rattle.std.specs.List.Sorted.{IsPermutation}
+use Rattle.scc_contents.specs.Contents.{bucket_count, entries, key_hash, list_of, settings_of, waiting_of}
+use Rattle.scc_buckets.specs.Pour.{bound_for}
+use Rattle.scc_contents.specs.Routing.{bucket_number}
+use Rattle.scc_buckets.proofs.Resizes.{absent-permuted, regrouped-resizes, rests-inserted}
+use Rattle.scc_table.specs.Places.{spot_of}
+use Rattle.scc_table.specs.TwoArrays.{waits_at}
+use Rattle.scc_table.proofs.Grown.{grown-spread}
+use Rattle.scc_table.proofs.Listed.{count-listed}
+use Rattle.scc_table.proofs.Same.{entries-same, hash-same, pending-same, regrouped-same}
+use Rattle.scc_table.proofs.Table.insert_grown.Goals as goal
+
+pub insert_at-requires-clause-within : goal.insert_at-requires-clause-within
+insert_at-requires-clause-within g c =
+    let a = c.args.self.now in
+    let b = c.begin.new.self in
+    let d = c.note.new.self in
+    let hash = λ (e : g.row.E.Denot). key_hash g.H.BuildHasher g.H.Hasher.Hasher g.E.Key.Hash.hash_input a (g.E.Keyed.key_of e) in
+    let reg = regrouped-same hash c.args.count a b d c.note.ensures.lists c.note.ensures.settings c.begin.ensures.lists in
+    let n = reg.count in
+    c.bucket_at-bucket.ensures.within (omega (arith, c.requires.some, c.requires.more))
+
+pub insert_at-requires-clause-absent : goal.insert_at-requires-clause-absent
+insert_at-requires-clause-absent g c =
+    let a = c.args.self.now in
+    let b = c.begin.new.self in
+    let d = c.note.new.self in
+    let perm = subst (λ es. IsPermutation (entries a) es) (sym (entries-same b d c.note.ensures.lists)) c.begin.ensures.same in
+    absent-permuted _ (entries a) (entries d) perm c.requires.absent
+
+pub unreachable-requires : goal.unreachable-requires
+unreachable-requires g c =
+    let a = c.args.self.now in
+    let b = c.begin.new.self in
+    let d = c.note.new.self in
+    let hash = λ (e : g.row.E.Denot). key_hash g.H.BuildHasher g.H.Hasher.Hasher g.E.Key.Hash.hash_input a (g.E.Keyed.key_of e) in
+    let reg = regrouped-same hash c.args.count a b d c.note.ensures.lists c.note.ensures.settings c.begin.ensures.lists in
+    let i = c.bucket_at-bucket.result in
+    let at : i ≡ bucket_number (settings_of a).skipped c.args.count c.args.hash = c.bucket_at-bucket.ensures.value ∙ ap (λ s. bucket_number s.skipped (bucket_count d) c.args.hash) reg.settings ∙ ap (λ n. bucket_number (settings_of a).skipped n c.args.hash) reg.count in
+    let k = g.E.Keyed.key_of c.args.entry in
+    let ha = key_hash g.H.BuildHasher g.H.Hasher.Hasher g.E.Key.Hash.hash_input a in
+    let hd = key_hash g.H.BuildHasher g.H.Hasher.Hasher g.E.Key.Hash.hash_input d in
+    let s = (settings_of d).skipped in
+    let n = bucket_count d in
+    let outer = hash-same g.H.BuildHasher g.H.Hasher.Hasher g.E.Key.Hash.hash_input a d reg.settings in
+    let some : 0 < n = omega (arith, c.requires.some, c.requires.more, reg.count) in
+    let l : i < c.args.count = omega (arith, c.bucket_at-bucket.ensures.within some, reg.count) in
+    let few : length (list_of d i) < 32 = subst (λ z. length z < 32) (sym (reg.each i l)) (subst (λ m. length (bound_for hash (settings_of a).skipped c.args.count m (entries a)) < 32) (sym at) c.requires.room) in
+    let hashed : c.args.hash ≡ hd k = c.requires.hashed ∙ ap (λ (h : g.row.E-Key.Denot → ℕ). h k) (sym outer) in
+    let near : bucket_number s n (hd k) ≡ i = ap (bucket_number s n) (sym hashed) ∙ sym c.bucket_at-bucket.ensures.value in
+    let held : count_by (λ (e : g.row.E.Denot). bucket_number s n (hd (g.E.Keyed.key_of e)) == bucket_number s n (hd k)) (entries d) ≡ length (list_of d i) =
+    ap (λ m. count_by (λ (e : g.row.E.Denot). bucket_number s n (hd (g.E.Keyed.key_of e)) == m) (entries d)) near ∙ count-listed (λ (e : g.row.E.Denot). hd (g.E.Keyed.key_of e)) d i c.keep_lists.ensures.routed in
+    c.in-Err.ensures.full (some, omega arith)
+
+pub returns-clause-ok : goal.returns-clause-ok
+returns-clause-ok g c =
+    let a = c.args.self.now in
+    let b = c.begin.new.self in
+    let d = c.note.new.self in
+    let hash = λ (e : g.row.E.Denot). key_hash g.H.BuildHasher g.H.Hasher.Hasher g.E.Key.Hash.hash_input a (g.E.Keyed.key_of e) in
+    let reg = regrouped-same hash c.args.count a b d c.note.ensures.lists c.note.ensures.settings c.begin.ensures.lists in
+    let perm = subst (λ es. IsPermutation (entries a) es) (sym (entries-same b d c.note.ensures.lists)) c.begin.ensures.same in
+    let rests = inr (λ z. absurd (omega (arith, c.requires.more, reg.count)), regrouped-resizes hash c.args.count a d reg perm c.requires.array (λ less. absurd (omega (arith, c.requires.more)))) in
+    rests-inserted a d c.insert_at.new.self c.args.entry (spot_of c.insert_at.new.self c.in-Ok.place) rests c.in-Ok.ensures.ok
+
+pub returns-clause-buckets : goal.returns-clause-buckets
+returns-clause-buckets g c =
+    let a = c.args.self.now in
+    let b = c.begin.new.self in
+    let d = c.note.new.self in
+    let hash = λ (e : g.row.E.Denot). key_hash g.H.BuildHasher g.H.Hasher.Hasher g.E.Key.Hash.hash_input a (g.E.Keyed.key_of e) in
+    let reg = regrouped-same hash c.args.count a b d c.note.ensures.lists c.note.ensures.settings c.begin.ensures.lists in
+    c.insert_at.ensures.buckets ∙ reg.count
+
+pub returns-clause-most : goal.returns-clause-most
+returns-clause-most g c =
+    let n = pending-same c.begin.new.self c.note.new.self c.note.ensures.waiting ∙ c.begin.ensures.pending in
+    omega (arith, c.insert_at.ensures.most)
+
+pub returns-clause-settled : goal.returns-clause-settled
+returns-clause-settled g c =
+    let a = c.args.self.now in
+    let b = c.begin.new.self in
+    let d = c.note.new.self in
+    let hash = λ (e : g.row.E.Denot). key_hash g.H.BuildHasher g.H.Hasher.Hasher g.E.Key.Hash.hash_input a (g.E.Keyed.key_of e) in
+    let reg = regrouped-same hash c.args.count a b d c.note.ensures.lists c.note.ensures.settings c.begin.ensures.lists in
+    let i = c.bucket_at-bucket.result in
+    let at : i ≡ bucket_number (settings_of a).skipped c.args.count c.args.hash = c.bucket_at-bucket.ensures.value ∙ ap (λ s. bucket_number s.skipped (bucket_count d) c.args.hash) reg.settings ∙ ap (λ n. bucket_number (settings_of a).skipped n c.args.hash) reg.count in
+    ap (waits_at (waiting_of c.insert_at.new.self)) (sym at) ∙ c.in-Ok.ensures.settled
+
+pub returns-clause-spread : goal.returns-clause-spread
+returns-clause-spread g c =
+    let a = c.args.self.now in
+    let b = c.begin.new.self in
+    let d = c.note.new.self in
+    let hash = λ (e : g.row.E.Denot). key_hash g.H.BuildHasher g.H.Hasher.Hasher g.E.Key.Hash.hash_input a (g.E.Keyed.key_of e) in
+    let reg = regrouped-same hash c.args.count a b d c.note.ensures.lists c.note.ensures.settings c.begin.ensures.lists in
+    grown-spread hash c.args.count a d c.insert_at.new.self c.args.hash c.bucket_at-bucket.result reg (c.note.ensures.waiting ∙ c.begin.ensures.waiting) c.bucket_at-bucket.ensures.value c.in-Ok.ensures.exact

@@ -1,0 +1,165 @@
+use Rattle.std.proofs.Common.{◌≡◌, ◌==◌, ◌∙◌, ◌<◌, inl, inr, true, false, length, sym, ap, arith, Bool}
+use Rattle.std.specs.List.{count_by}
+use Rattle.std.proofs.lemmas.List.{nil_from_length}
+use Rattle.scc_contents.specs.Contents.{HasRoomAt, bucket_count, entries, key_hash, list_of, pending_of, settings_of}
+use Rattle.scc_contents.specs.Routing.{bucket_number}
+use Rattle.scc_table.specs.TwoArrays.{pending_targets}
+use Rattle.scc_draining.proofs.Arriving.{any-ok}
+use Rattle.scc_table.proofs.Finishing.{pending-is}
+use Rattle.scc_table.proofs.Listed.{count-listed}
+use Rattle.scc_table.proofs.Once.{once-made}
+use Rattle.scc_table.proofs.Placing.{none-left}
+use Rattle.scc_table.proofs.Same.{any-err, on-ok}
+use Rattle.scc_table.proofs.Targets.{all-but-two, by-two, targets-length}
+use Rattle.scc_table.proofs.Table.insert_made.Goals as goal
+
+pub returns-then-bucket_count-eq0-clause-array : goal.returns-then-bucket_count-eq0-clause-array
+returns-then-bucket_count-eq0-clause-array g c =
+    λ none. pending-is c.insert_made_first.new.self ∙ ap (count_by (λ w. w)) c.insert_made_first.ensures.waiting
+
+pub returns-then-pending-gt0-clause-due : goal.returns-then-pending-gt0-clause-due
+returns-then-pending-gt0-clause-due g c =
+    let p = c.pending.ensures in
+    any-ok c.insert_made_at.result (record { doubled = λ some none. absurd (let q = c.if-pending-gt0.true in omega arith); raised = λ low up. absurd (let z : true ≡ false = sym up ∙ ap (λ (x : Bool × Bool). x.0) c.insert_made_at.ensures.refused ∙ low in cc); unmarked = λ some none. absurd (let q = c.if-pending-gt0.true in omega arith); lowered = λ up low. absurd (let z : true ≡ false = sym up ∙ sym (ap (λ (x : Bool × Bool). x.0) c.insert_made_at.ensures.refused) ∙ low in cc); down = λ some ne. absurd (ne c.insert_made_at.ensures.buckets) })
+
+pub returns-then-list_len-lt32-clause-due : goal.returns-then-list_len-lt32-clause-due
+returns-then-list_len-lt32-clause-due g c =
+    let a = c.args.self.now in
+    let i = c.bucket_at-bucket.result in
+    let hk = key_hash g.H.BuildHasher g.H.Hasher.Hasher g.E.Key.Hash.hash_input a in
+    let n = bucket_number (settings_of a).skipped (bucket_count a) c.args.hash in
+    let held : count_by (λ (e : g.row.E.Denot). bucket_number (settings_of a).skipped (bucket_count a) (hk (g.E.Keyed.key_of e)) == n) (entries a) ≡ length (list_of a i) =
+    ap (λ m. count_by (λ (e : g.row.E.Denot). bucket_number (settings_of a).skipped (bucket_count a) (hk (g.E.Keyed.key_of e)) == m) (entries a)) (sym c.bucket_at-bucket.ensures.value) ∙ count-listed (λ (e : g.row.E.Denot). hk (g.E.Keyed.key_of e)) a i c.keep_lists.ensures.routed in
+    let long = c.list_len.ensures in
+    any-ok c.insert_made_at-then-list_len-lt32.result (record { doubled = λ some none full. absurd (let room : HasRoomAt hk g.E.Keyed.key_of a c.args.hash = (some, omega arith) in full (rw c.requires.hashed at room)); raised = λ low up. absurd (let z : true ≡ false = sym up ∙ ap (λ (x : Bool × Bool). x.0) c.insert_made_at-then-list_len-lt32.ensures.refused ∙ low in cc); unmarked = λ some none full. absurd (let room : HasRoomAt hk g.E.Keyed.key_of a c.args.hash = (some, omega arith) in full (rw c.requires.hashed at room)); lowered = λ up low. absurd (let z : true ≡ false = sym up ∙ sym (ap (λ (x : Bool × Bool). x.0) c.insert_made_at-then-list_len-lt32.ensures.refused) ∙ low in cc); down = λ some ne. absurd (ne c.insert_made_at-then-list_len-lt32.ensures.buckets) })
+
+pub returns-clause-due : goal.returns-clause-due
+returns-clause-due g c =
+    let a = c.args.self.now in
+    let i = c.bucket_at-bucket.result in
+    let hk = key_hash g.H.BuildHasher g.H.Hasher.Hasher g.E.Key.Hash.hash_input a in
+    let n = bucket_number (settings_of a).skipped (bucket_count a) c.args.hash in
+    let held : count_by (λ (e : g.row.E.Denot). bucket_number (settings_of a).skipped (bucket_count a) (hk (g.E.Keyed.key_of e)) == n) (entries a) ≡ length (list_of a i) =
+    ap (λ m. count_by (λ (e : g.row.E.Denot). bucket_number (settings_of a).skipped (bucket_count a) (hk (g.E.Keyed.key_of e)) == m) (entries a)) (sym c.bucket_at-bucket.ensures.value) ∙ count-listed (λ (e : g.row.E.Denot). hk (g.E.Keyed.key_of e)) a i c.keep_lists.ensures.routed in
+    let long = c.list_len.ensures in
+    let full : HasRoomAt hk g.E.Keyed.key_of a c.args.hash → ⊥ = λ room. absurd (let r = room.1 in omega arith) in
+    let some : 0 < bucket_count a = let z = c.if-bucket_count-eq0.false in let m = c.bucket_count.ensures.count in omega arith in
+    any-ok c.insert_made_full.result (record { doubled = λ _ _ _ half below few down. c.insert_made_full.ensures.due half below down; raised = λ low up. let r = c.insert_made_full.ensures.raised low up in (some, λ room. full (rw c.requires.hashed room), r.0, r.1); unmarked = λ _ _ _ half below. c.insert_made_full.ensures.unmarked half below; lowered = λ up low. (some, c.insert_made_full.ensures.lowered up low); down = λ _ ne. c.insert_made_full.ensures.down ne })
+
+pub returns-clause-raised : goal.returns-clause-raised
+returns-clause-raised g c =
+    let a = c.args.self.now in
+    let i = c.bucket_at-bucket.result in
+    let hk = key_hash g.H.BuildHasher g.H.Hasher.Hasher g.E.Key.Hash.hash_input a in
+    let n = bucket_number (settings_of a).skipped (bucket_count a) c.args.hash in
+    let held : count_by (λ (e : g.row.E.Denot). bucket_number (settings_of a).skipped (bucket_count a) (hk (g.E.Keyed.key_of e)) == n) (entries a) ≡ length (list_of a i) =
+    ap (λ m. count_by (λ (e : g.row.E.Denot). bucket_number (settings_of a).skipped (bucket_count a) (hk (g.E.Keyed.key_of e)) == m) (entries a)) (sym c.bucket_at-bucket.ensures.value) ∙ count-listed (λ (e : g.row.E.Denot). hk (g.E.Keyed.key_of e)) a i c.keep_lists.ensures.routed in
+    let long = c.list_len.ensures in
+    let full : HasRoomAt hk g.E.Keyed.key_of a c.args.hash → ⊥ = λ room. absurd (let r = room.1 in omega arith) in
+    let some : 0 < bucket_count a = let z = c.if-bucket_count-eq0.false in let m = c.bucket_count.ensures.count in omega arith in
+    any-err c.insert_made_full.result (record { raised = λ low up. let r = c.insert_made_full.ensures.raised low up in (some, λ room. full (rw c.requires.hashed room), r.0, r.1) })
+
+pub returns-clause-kept : goal.returns-clause-kept
+returns-clause-kept g c =
+    let a = c.args.self.now in
+    let i = c.bucket_at-bucket.result in
+    let hk = key_hash g.H.BuildHasher g.H.Hasher.Hasher g.E.Key.Hash.hash_input a in
+    let n = bucket_number (settings_of a).skipped (bucket_count a) c.args.hash in
+    let held : count_by (λ (e : g.row.E.Denot). bucket_number (settings_of a).skipped (bucket_count a) (hk (g.E.Keyed.key_of e)) == n) (entries a) ≡ length (list_of a i) =
+    ap (λ m. count_by (λ (e : g.row.E.Denot). bucket_number (settings_of a).skipped (bucket_count a) (hk (g.E.Keyed.key_of e)) == m) (entries a)) (sym c.bucket_at-bucket.ensures.value) ∙ count-listed (λ (e : g.row.E.Denot). hk (g.E.Keyed.key_of e)) a i c.keep_lists.ensures.routed in
+    let long = c.list_len.ensures in
+    let full : HasRoomAt hk g.E.Keyed.key_of a c.args.hash → ⊥ = λ room. absurd (let r = room.1 in omega arith) in
+    let some : 0 < bucket_count a = let z = c.if-bucket_count-eq0.false in let m = c.bucket_count.ensures.count in omega arith in
+    λ room. absurd (full (rw c.requires.hashed room))
+
+pub returns-clause-exact : goal.returns-clause-exact
+returns-clause-exact g c =
+    let a = c.args.self.now in
+    let f = c.insert_made_full.new.self in
+    let none : pending_of a ≡ 0 = let p = c.pending.ensures in let q = c.if-pending-gt0.false in omega arith in
+    any-ok c.insert_made_full.result
+    (λ some same short.
+    let left : pending_of f ≡ 0 = let l = c.insert_made_full.ensures.less same in omega arith in
+    none-left (bucket_number (settings_of a).skipped (bucket_count a) c.args.hash) a (pending_targets f) none (nil_from_length (pending_targets f) (targets-length f ∙ left) ∙ sym (nil_from_length (pending_targets a) (targets-length a ∙ none))))
+
+pub returns-then-pending-gt0-clause-spread : goal.returns-then-pending-gt0-clause-spread
+returns-then-pending-gt0-clause-spread g c = any-ok c.insert_made_at.result (λ some ne. absurd (ne c.insert_made_at.ensures.buckets))
+
+pub returns-then-pending-gt0-clause-all_but_two : goal.returns-then-pending-gt0-clause-all_but_two
+returns-then-pending-gt0-clause-all_but_two g c = any-ok c.insert_made_at.result (λ some ne. absurd (ne c.insert_made_at.ensures.buckets))
+
+pub returns-then-pending-gt0-clause-by_two : goal.returns-then-pending-gt0-clause-by_two
+returns-then-pending-gt0-clause-by_two g c = on-ok c.insert_made_at.result (λ h some same short. by-two c.bucket_at-bucket.result c.args.self.now c.insert_made_at.new.self (h short)) c.insert_made_at.ensures.exact
+
+pub returns-then-list_len-lt32-clause-spread : goal.returns-then-list_len-lt32-clause-spread
+returns-then-list_len-lt32-clause-spread g c = any-ok c.insert_made_at-then-list_len-lt32.result (λ some ne. absurd (ne c.insert_made_at-then-list_len-lt32.ensures.buckets))
+
+pub returns-then-list_len-lt32-clause-all_but_two : goal.returns-then-list_len-lt32-clause-all_but_two
+returns-then-list_len-lt32-clause-all_but_two g c = any-ok c.insert_made_at-then-list_len-lt32.result (λ some ne. absurd (ne c.insert_made_at-then-list_len-lt32.ensures.buckets))
+
+pub returns-then-list_len-lt32-clause-by_two : goal.returns-then-list_len-lt32-clause-by_two
+returns-then-list_len-lt32-clause-by_two g c = on-ok c.insert_made_at-then-list_len-lt32.result (λ h some same short. by-two c.bucket_at-bucket.result c.args.self.now c.insert_made_at-then-list_len-lt32.new.self (h short)) c.insert_made_at-then-list_len-lt32.ensures.exact
+
+pub returns-clause-spread : goal.returns-clause-spread
+returns-clause-spread g c = on-ok c.insert_made_full.result (λ h some ne. h ne) c.insert_made_full.ensures.spread
+
+pub returns-clause-all_but_two : goal.returns-clause-all_but_two
+returns-clause-all_but_two g c =
+    let f = c.insert_made_full.new.self in
+    on-ok c.insert_made_full.result
+    (λ h some ne short.
+    let twice = c.insert_made_full.ensures.growth.doubled some ne in
+    all-but-two _ (bucket_count f) f (omega arith) (h ne short))
+    c.insert_made_full.ensures.spread
+
+pub returns-clause-by_two : goal.returns-clause-by_two
+returns-clause-by_two g c =
+    let p = c.pending.ensures in
+    let q = c.if-pending-gt0.false in
+    any-ok c.insert_made_full.result (λ some same short. let l = c.insert_made_full.ensures.less same in omega arith)
+
+pub returns-then-bucket_count-eq0-clause-once : goal.returns-then-bucket_count-eq0-clause-once
+returns-then-bucket_count-eq0-clause-once g c = λ ready. absurd (let r = ready.0 in let z = c.requires in let m = c.bucket_count.ensures.count in let e = c.if-bucket_count-eq0.true in omega arith)
+
+pub returns-clause-once : goal.returns-clause-once
+returns-clause-once g c =
+    let a = c.args.self.now in
+    let i = c.bucket_at-bucket.result in
+    let hk = key_hash g.H.BuildHasher g.H.Hasher.Hasher g.E.Key.Hash.hash_input a in
+    let n = bucket_number (settings_of a).skipped (bucket_count a) c.args.hash in
+    let held : count_by (λ (e : g.row.E.Denot). bucket_number (settings_of a).skipped (bucket_count a) (hk (g.E.Keyed.key_of e)) == n) (entries a) ≡ length (list_of a i) =
+    ap (λ m. count_by (λ (e : g.row.E.Denot). bucket_number (settings_of a).skipped (bucket_count a) (hk (g.E.Keyed.key_of e)) == m) (entries a)) (sym c.bucket_at-bucket.ensures.value) ∙ count-listed (λ (e : g.row.E.Denot). hk (g.E.Keyed.key_of e)) a i c.keep_lists.ensures.routed in
+    let long = c.list_len.ensures in
+    let full : HasRoomAt hk g.E.Keyed.key_of a c.args.hash → ⊥ = λ room. absurd (let r = room.1 in omega arith) in
+    let none : pending_of a ≡ 0 = let p = c.pending.ensures in let q = c.if-pending-gt0.false in omega arith in
+    λ ready. once-made hk g.E.Keyed.key_of a c.insert_made_full.new.self c.args.hash c.insert_made_full.ensures.growth (λ room. absurd (full room))
+    (λ some w. elim w as (λ _. bucket_count c.insert_made_full.new.self ≡ bucket_count a) [ inl up ↦ absurd (omega arith) | inr tried ↦ c.insert_made_full.ensures.once tried ]) (rw c.requires.hashed ready)
+
+pub returns-then-pending-gt0-clause-undone : goal.returns-then-pending-gt0-clause-undone
+returns-then-pending-gt0-clause-undone g c =
+    let p = c.pending.ensures in
+    any-err c.insert_made_at.result (record { doubled = λ some none. absurd (let q = c.if-pending-gt0.true in omega arith); raised = λ low up. absurd (let z : true ≡ false = sym up ∙ ap (λ (x : Bool × Bool). x.0) c.insert_made_at.ensures.refused ∙ low in cc); unmarked = λ some none. absurd (let q = c.if-pending-gt0.true in omega arith); lowered = λ up low. absurd (let z : true ≡ false = sym up ∙ sym (ap (λ (x : Bool × Bool). x.0) c.insert_made_at.ensures.refused) ∙ low in cc); down = λ some ne. absurd (ne c.insert_made_at.ensures.buckets) })
+
+pub returns-then-list_len-lt32-clause-undone : goal.returns-then-list_len-lt32-clause-undone
+returns-then-list_len-lt32-clause-undone g c =
+    let a = c.args.self.now in
+    let i = c.bucket_at-bucket.result in
+    let hk = key_hash g.H.BuildHasher g.H.Hasher.Hasher g.E.Key.Hash.hash_input a in
+    let n = bucket_number (settings_of a).skipped (bucket_count a) c.args.hash in
+    let held : count_by (λ (e : g.row.E.Denot). bucket_number (settings_of a).skipped (bucket_count a) (hk (g.E.Keyed.key_of e)) == n) (entries a) ≡ length (list_of a i) =
+    ap (λ m. count_by (λ (e : g.row.E.Denot). bucket_number (settings_of a).skipped (bucket_count a) (hk (g.E.Keyed.key_of e)) == m) (entries a)) (sym c.bucket_at-bucket.ensures.value) ∙ count-listed (λ (e : g.row.E.Denot). hk (g.E.Keyed.key_of e)) a i c.keep_lists.ensures.routed in
+    let long = c.list_len.ensures in
+    any-err c.insert_made_at-then-list_len-lt32.result (record { doubled = λ some none full. absurd (let room : HasRoomAt hk g.E.Keyed.key_of a c.args.hash = (some, omega arith) in full (rw c.requires.hashed at room)); raised = λ low up. absurd (let z : true ≡ false = sym up ∙ ap (λ (x : Bool × Bool). x.0) c.insert_made_at-then-list_len-lt32.ensures.refused ∙ low in cc); unmarked = λ some none full. absurd (let room : HasRoomAt hk g.E.Keyed.key_of a c.args.hash = (some, omega arith) in full (rw c.requires.hashed at room)); lowered = λ up low. absurd (let z : true ≡ false = sym up ∙ sym (ap (λ (x : Bool × Bool). x.0) c.insert_made_at-then-list_len-lt32.ensures.refused) ∙ low in cc); down = λ some ne. absurd (ne c.insert_made_at-then-list_len-lt32.ensures.buckets) })
+
+pub returns-clause-undone : goal.returns-clause-undone
+returns-clause-undone g c =
+    let a = c.args.self.now in
+    let i = c.bucket_at-bucket.result in
+    let hk = key_hash g.H.BuildHasher g.H.Hasher.Hasher g.E.Key.Hash.hash_input a in
+    let n = bucket_number (settings_of a).skipped (bucket_count a) c.args.hash in
+    let held : count_by (λ (e : g.row.E.Denot). bucket_number (settings_of a).skipped (bucket_count a) (hk (g.E.Keyed.key_of e)) == n) (entries a) ≡ length (list_of a i) =
+    ap (λ m. count_by (λ (e : g.row.E.Denot). bucket_number (settings_of a).skipped (bucket_count a) (hk (g.E.Keyed.key_of e)) == m) (entries a)) (sym c.bucket_at-bucket.ensures.value) ∙ count-listed (λ (e : g.row.E.Denot). hk (g.E.Keyed.key_of e)) a i c.keep_lists.ensures.routed in
+    let long = c.list_len.ensures in
+    let full : HasRoomAt hk g.E.Keyed.key_of a c.args.hash → ⊥ = λ room. absurd (let r = room.1 in omega arith) in
+    let some : 0 < bucket_count a = let z = c.if-bucket_count-eq0.false in let m = c.bucket_count.ensures.count in omega arith in
+    any-err c.insert_made_full.result (record { doubled = λ _ _ _ half below few down. c.insert_made_full.ensures.due half below down; raised = λ low up. let r = c.insert_made_full.ensures.raised low up in (some, λ room. full (rw c.requires.hashed room), r.0, r.1); unmarked = λ _ _ _ half below. c.insert_made_full.ensures.unmarked half below; lowered = λ up low. (some, c.insert_made_full.ensures.lowered up low); down = λ _ ne. c.insert_made_full.ensures.down ne })

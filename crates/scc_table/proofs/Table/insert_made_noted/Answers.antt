@@ -1,0 +1,44 @@
+use Rattle.std.proofs.Common.{◌≡◌, ◌∙◌, None, inl, sym, ap, subst, arith}
+use Rattle.std.specs.List.{position}
+use Rattle.scc_contents.specs.Contents.{bucket_count, settings_of}
+use Rattle.scc_contents.specs.Routing.{bucket_number}
+use Rattle.scc_buckets.proofs.Resizes.{rests-inserted}
+use Rattle.scc_table.specs.Places.{spot_of}
+use Rattle.scc_table.specs.TwoArrays.{waits_at}
+use Rattle.scc_table.proofs.Same.{count-same, entries-same, if-err, if-ok, pending-same, unchanged-same}
+use Rattle.scc_table.proofs.Table.insert_made_noted.Goals as goal
+
+pub insert_made_at-requires-clause-within : goal.insert_made_at-requires-clause-within
+insert_made_at-requires-clause-within g c = let n = count-same c.args.self.now c.note.new.self c.note.ensures.lists in omega (arith, c.requires.within)
+
+pub insert_made_at-requires-clause-routed : goal.insert_made_at-requires-clause-routed
+insert_made_at-requires-clause-routed g c =
+    let a = c.args.self.now in
+    let d = c.note.new.self in
+    c.requires.routed ∙ ap (λ s. bucket_number s.skipped (bucket_count a) c.args.hash) (sym c.note.ensures.settings) ∙ ap (λ n. bucket_number (settings_of d).skipped n c.args.hash) (sym (count-same a d c.note.ensures.lists))
+
+pub insert_made_at-requires-clause-absent : goal.insert_made_at-requires-clause-absent
+insert_made_at-requires-clause-absent g c =
+    subst (λ es. position (λ e. g.E.Key.PartialEq.eq (g.E.Keyed.key_of (g.E.Made.made_of c.args.parts)) (g.E.Keyed.key_of e)) es ≡ None) (sym (entries-same c.args.self.now c.note.new.self c.note.ensures.lists)) c.requires.absent
+
+pub returns-clause-ok : goal.returns-clause-ok
+returns-clause-ok g c =
+    let a = c.args.self.now in
+    let d = c.note.new.self in
+    let f = c.insert_made_at.new.self in
+    if-ok c.insert_made_at.result (λ p h. rests-inserted a d f (g.E.Made.made_of c.args.parts) (spot_of f p) (inl (unchanged-same a d c.note.ensures.lists c.note.ensures.settings)) h) c.insert_made_at.ensures.ok
+
+pub returns-clause-err : goal.returns-clause-err
+returns-clause-err g c =
+    let a = c.args.self.now in
+    let d = c.note.new.self in
+    if-err c.insert_made_at.result (λ e h. (h.0, record { exact = h.1.exact ∙ entries-same a d c.note.ensures.lists; buckets = h.1.buckets ∙ count-same a d c.note.ensures.lists; settings = h.1.settings ∙ c.note.ensures.settings })) c.insert_made_at.ensures.err
+
+pub returns-clause-buckets : goal.returns-clause-buckets
+returns-clause-buckets g c = c.insert_made_at.ensures.buckets ∙ count-same c.args.self.now c.note.new.self c.note.ensures.lists
+
+pub returns-clause-fewer : goal.returns-clause-fewer
+returns-clause-fewer g c = λ k up. ap (λ w. waits_at w k) (sym c.note.ensures.waiting) ∙ c.insert_made_at.ensures.fewer k up
+
+pub returns-clause-less : goal.returns-clause-less
+returns-clause-less g c = let n = pending-same c.args.self.now c.note.new.self c.note.ensures.waiting in omega (arith, c.insert_made_at.ensures.less)

@@ -1,0 +1,34 @@
+use Rattle.std.proofs.Common.{◌≡◌, ◌<◌, ◌∙◌, true, false, sym, ap, arith, length, rules}
+use Rattle.std.proofs.lemmas.List.{get_or_read}
+use Rattle.scc_contents.specs.Contents.{bucket_count, waiting_of}
+use Rattle.scc_table.specs.TwoArrays.{waits_at}
+use Rattle.scc_table.proofs.Joining.{count-together, waiting-together, flags-length}
+use Rattle.scc_table.proofs.Table.is_waiting.Goals as goal
+
+pub index-requires : goal.index-requires
+index-requires g c =
+    let t = c.self.inside in
+    let some : 0 < t.pending = omega arith in
+    let long = flags-length t.current t.waiting.items t.pending c.self.invariant.arrays.flags c.self.invariant.counted some in
+    let count = ap bucket_count (sym c.self.view_is) ∙ count-together _ t.current t.waiting.items t.draining c.self.invariant.arrays.flags in
+    let l : c.args.bucket < length t.waiting.items = omega (arith, c.requires) in
+    search rules
+
+pub returns-then-self-eq0 : goal.returns-then-self-eq0
+returns-then-self-eq0 g c =
+    let t = c.self.inside in
+    let flags : waiting_of c.args.self.now ≡ t.waiting.items = ap waiting_of (sym c.self.view_is) ∙ waiting-together _ t.current t.waiting.items t.draining in
+    let none = flags ∙ c.self.invariant.none c.if-self-eq0.true in
+    (λ h. absurd (let z : false ≡ true = h in cc), λ h. ap (λ ws. waits_at ws c.args.bucket) (sym none) ∙ h)
+
+pub returns : goal.returns
+returns g c =
+    let t = c.self.inside in
+    let flags : waiting_of c.args.self.now ≡ t.waiting.items = ap waiting_of (sym c.self.view_is) ∙ waiting-together _ t.current t.waiting.items t.draining in
+    let some : 0 < t.pending = omega arith in
+    let long = flags-length t.current t.waiting.items t.pending c.self.invariant.arrays.flags c.self.invariant.counted some in
+    let count = ap bucket_count (sym c.self.view_is) ∙ count-together _ t.current t.waiting.items t.draining c.self.invariant.arrays.flags in
+    let l : c.args.bucket < length t.waiting.items = omega (arith, c.requires) in
+    let here : c.index.result.now ≡ waits_at t.waiting.items c.args.bucket = get_or_read t.waiting.items c.args.bucket c.index.result.now l c.index.ensures false in
+    let both = here ∙ ap (λ ws. waits_at ws c.args.bucket) (sym flags) in
+    (λ h. sym both ∙ h, λ h. both ∙ h)

@@ -1,0 +1,25 @@
+use Rattle.std.proofs.Common.{◌∙◌, arith}
+use Rattle.scc_contents.specs.Contents.{key_hash}
+use Rattle.scc_table.proofs.Alone.{fields-alone, lists-alone, spilled-alone}
+use Rattle.scc_table.proofs.Joining.{settings-together, refused-together, waiting-together}
+use Rattle.scc_table.proofs.Table.over.Goals as goal
+
+pub invariant_of-result : goal.invariant_of-result
+invariant_of-result g c =
+    let hk = key_hash g.H.BuildHasher g.H.Hasher.Hasher g.E.Key.Hash.hash_input c.args.current in
+    rw (c.none.ensures, c.new.ensures.items) (fields-alone g.E.Key.PartialEq.eq g.E.Keyed.key_of hk c.args.current c.args.skipped 0 c.requires.skips c.requires.few_bits (omega (arith, c.overflow_len-overflow.ensures.value, c.overflow_len-overflow.ensures.most)) c.keep_lists.ensures.unique)
+
+pub returns-clause-lists : goal.returns-clause-lists
+returns-clause-lists g c = lists-alone _ c.args.current c.new.result.items c.none.result c.new.ensures.items
+
+pub returns-clause-settings : goal.returns-clause-settings
+returns-clause-settings g c = settings-together _ c.args.current c.new.result.items c.none.result
+
+pub returns-clause-noted : goal.returns-clause-noted
+returns-clause-noted g c = refused-together _ c.args.current c.new.result.items c.none.result
+
+pub returns-clause-spilled : goal.returns-clause-spilled
+returns-clause-spilled g c = rw c.none.ensures (spilled-alone _ c.args.current c.new.result.items)
+
+pub returns-clause-waiting : goal.returns-clause-waiting
+returns-clause-waiting g c = waiting-together _ c.args.current c.new.result.items c.none.result ∙ c.new.ensures.items

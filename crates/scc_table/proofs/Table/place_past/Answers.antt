@@ -1,0 +1,63 @@
+use Rattle.std.proofs.Common.{◌≡◌, ℕ, ◌∙◌, ◌+◌, ◌-◌, ◌^◌, ◌<◌, ◌≤◌, ◌⊎◌, inl, inr, [], suc, true, false, length, sym, ap, subst, rules, arith, add-one}
+use Rattle.scc_array.specs.Shelves.{shelf_of}
+use Rattle.scc_array.specs.Shelf.{shelf_entries}
+use Rattle.scc_contents.specs.Contents.{entries, bucket_count, held_of, key_hash, list_of, settings_of, waiting_of}
+use Rattle.scc_buckets.specs.Places as spots
+use Rattle.scc_contents.specs.Routing.{bucket_number}
+use Rattle.scc_buckets.specs.declared.place.Place.{Place}
+use Rattle.scc_buckets.proofs.Standing.{along, index-end, index-skip, length-zero}
+use Rattle.scc_table.specs.Places.{spot_of, StandsAt}
+use Rattle.scc_table.specs.Stepping.{rank_on}
+use Rattle.scc_table.specs.TwoArrays.{waits_at}
+use Rattle.scc_table.proofs.Nexts.{bound-same, few-entries, held-count, list-past, next-same, own-stands, rank-end, rank-next, rank-start, sources-more}
+use Rattle.scc_table.proofs.OldSpots.{old-at, old-spot, own-at, own-list, own-spot}
+use Rattle.scc_draining.proofs.FromBuckets.{few-each, within-sources}
+use Rattle.scc_table.proofs.Preparing.{long-flags, multiple-flags, sized-flags}
+use Rattle.scc_table.proofs.RelocatingLemmas.{up-within}
+use Rattle.scc_table.proofs.SearchingLemmas.{not_true}
+use Rattle.scc_table.proofs.Seen.{count-seen, settings-seen, waiting-seen}
+use Rattle.scc_table.proofs.Table.place_past.Goals as goal
+
+pub first_in-requires : goal.first_in-requires
+first_in-requires g c =
+    let t = c.self.inside in
+    let cur = t.current in
+    let ws = t.waiting.items in
+    let olds = t.draining in
+    let inv = c.self.invariant in
+    let now = c.args.self.now in
+    let hk = key_hash g.H.BuildHasher g.H.Hasher.Hasher g.E.Key.Hash.hash_input cur in
+    let hash = λ (e : g.row.E.Denot). hk (g.E.Keyed.key_of e) in
+    let count = count-seen hash cur ws olds now c.self.view_is inv.arrays in
+    omega (arith, count, c.bucket_count-next-end.ensures.count)
+
+pub loop-next-preserved : goal.loop-next-preserved
+loop-next-preserved g c =
+    let t = c.self.inside in
+    let cur = t.current in
+    let ws = t.waiting.items in
+    let olds = t.draining in
+    let inv = c.self.invariant in
+    let now = c.args.self.now in
+    let hk = key_hash g.H.BuildHasher g.H.Hasher.Hasher g.E.Key.Hash.hash_input cur in
+    let hash = λ (e : g.row.E.Denot). hk (g.E.Keyed.key_of e) in
+    let count = count-seen hash cur ws olds now c.self.view_is inv.arrays in
+    let n = c.loop-next.next in
+    let within : n < bucket_count now = omega (arith, count, c.bucket_count-next-end.ensures.count) in
+    let z : spots.index_of_spot now (record { bucket = n + 1; slot = 0 }) ≡ spots.index_of_spot now (record { bucket = n; slot = 0 }) = ap (λ m. spots.index_of_spot now (record { bucket = m; slot = 0 })) (add-one n) ∙ index-skip now n 0 within (sym (ap length c.in_default.ensures)) in
+    z ∙ c.loop-next.invariant
+
+pub returns : goal.returns
+returns g c =
+    let t = c.self.inside in
+    let cur = t.current in
+    let ws = t.waiting.items in
+    let olds = t.draining in
+    let inv = c.self.invariant in
+    let now = c.args.self.now in
+    let hk = key_hash g.H.BuildHasher g.H.Hasher.Hasher g.E.Key.Hash.hash_input cur in
+    let hash = λ (e : g.row.E.Denot). hk (g.E.Keyed.key_of e) in
+    let count = count-seen hash cur ws olds now c.self.view_is inv.arrays in
+    let p : Place = record { bucket = c.loop-next.next; slot = 0 } in
+    let far : bucket_count now ≤ c.loop-next.next = omega (arith, count, c.bucket_count-next-end.ensures.count) in
+    sym c.loop-next.invariant ∙ index-end now p far (omega arith)

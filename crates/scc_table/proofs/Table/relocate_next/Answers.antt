@@ -1,0 +1,23 @@
+use Rattle.std.proofs.Common.{◌≡◌, ◌∙◌, sym, ap}
+use Rattle.scc_contents.specs.Contents.{waiting_of}
+use Rattle.scc_table.specs.TwoArrays.{waits_at}
+use Rattle.scc_table.proofs.Joining.{waiting-together}
+use Rattle.scc_table.proofs.Table.relocate_next.Goals as goal
+
+pub invariant_of-self : goal.invariant_of-self
+invariant_of-self g c =
+    let t = c.self.inside in
+    let inv = c.self.invariant in
+    let flags : waiting_of c.args.self.now ≡ t.waiting.items = ap waiting_of (sym c.self.view_is) ∙ waiting-together _ t.current t.waiting.items t.draining in
+    record {
+      arrays = inv.arrays;
+      skips = inv.skips;
+      few_bits = inv.few_bits;
+      counted = inv.counted;
+      none = inv.none;
+      below = λ j l. ap (λ ws. waits_at ws j) (sym flags) ∙ c.first_waiting-bucket.ensures.below j l;
+      held_is = inv.held_is;
+      overflow_is = inv.overflow_is;
+      few = inv.few;
+      unique = inv.unique;
+    }

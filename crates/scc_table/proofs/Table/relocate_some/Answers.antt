@@ -1,0 +1,26 @@
+use Rattle.std.proofs.Common.{◌≡◌, ◌∙◌, ◌+◌, sym, subst, arith}
+use Rattle.scc_table.proofs.SettlingLemmas.{SettlesFirst, settles-start, settles-one, settles-none, settles-all}
+use Rattle.scc_table.proofs.Viewed.{pending-seen}
+use Rattle.scc_table.proofs.Table.relocate_some.Goals as goal
+use Rattle.scc_table.proofs.Table.relocate_some.Goals.{in-Ok, in-Err}
+
+pub loop-init : goal.loop-init
+loop-init g c = settles-start c.args.self.now
+
+pub relocate_next-requires : goal.relocate_next-requires
+relocate_next-requires g c =
+    let t = c.self.inside in
+    let n = pending-seen _ t.current t.waiting.items t.draining c.loop.self c.self.view_is ∙ sym c.self.invariant.counted in
+    omega arith
+
+pub returns-then-self-eq0-clause-exact : goal.returns-then-self-eq0-clause-exact
+returns-then-self-eq0-clause-exact g c =
+    let t = c.self.inside in
+    let n = pending-seen _ t.current t.waiting.items t.draining c.loop.self c.self.view_is ∙ sym c.self.invariant.counted ∙ c.if-self-eq0.true in
+    λ short. settles-all c.args.self.now c.loop.self c.loop.counter c.args.most c.loop.invariant (omega arith) n short
+
+pub loop-preserved : goal.loop-preserved
+loop-preserved g c = elim c.match-relocate_next.branch [
+  | in-Ok w ↦ settles-one c.args.self.now c.loop.self c.relocate_next.new.self c.loop.counter w.in-Ok.ensures.ok.0 c.loop.invariant w.in-Ok.ensures.ok.1 w.in-Ok.ensures.ok.2 c.relocate_next.ensures.bounded
+  | in-Err w ↦ subst (λ z. SettlesFirst c.args.self.now z (c.loop.counter + 1)) (sym w.in-Err.ensures.err) (settles-none c.args.self.now c.loop.self c.loop.counter w.in-Err.ensures.refused.0 c.loop.invariant w.in-Err.ensures.refused.1 w.in-Err.ensures.refused.2)
+]

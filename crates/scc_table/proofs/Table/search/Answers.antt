@@ -1,0 +1,61 @@
+use Rattle.std.proofs.Common.{◌≡◌, ◌∙◌, ◌+◌, ◌<◌, true, false, length, sym, ap, subst, rules, arith}
+use Rattle.std.proofs.lemmas.List.{get_or_read}
+use Rattle.std.proofs.lemmas.List.Sums.{count_by-le-length}
+use Rattle.std.specs.List.{count_by, position}
+use Rattle.scc_array.specs.Shelves.{shelf_of}
+use Rattle.scc_array.specs.Shelf.{Shelf}
+use Rattle.scc_contents.specs.Contents.{entries, bucket_count, key_hash, pending_of, list_of, settings_of, waiting_of, IsRouted}
+use Rattle.scc_contents.specs.Hashing.{hash_of}
+use Rattle.scc_contents.specs.Routing.{bucket_number}
+use Rattle.scc_buckets.specs.declared.place.Place.{Place}
+use Rattle.scc_buckets.proofs.FindingLemmas.{HashOf, has_tag}
+use Rattle.scc_buckets.proofs.Standing.{along}
+use Rattle.scc_table.specs.Places.{IsFoundAt}
+use Rattle.scc_table.specs.TwoArrays.{waits_at}
+use Rattle.scc_table.proofs.Joining.{flags-length, pending-together}
+use Rattle.scc_table.proofs.Preparing.{sized-flags}
+use Rattle.scc_table.proofs.RelocatingLemmas.{up-within}
+use Rattle.scc_table.proofs.Seen.{count-seen, settings-seen, waiting-seen}
+use Rattle.scc_table.proofs.SearchingLemmas.{entries-settled, found-settled, routed-together, found-own, missed-own, found-old, missed-old}
+use Rattle.scc_table.proofs.Table.search.Goals as goal
+
+pub search-requires : goal.search-requires
+search-requires g c =
+    let t = c.self.inside in
+    let cur = t.current in
+    let ws = t.waiting.items in
+    let olds = t.draining in
+    let inv = c.self.invariant in
+    let now = c.args.self.now in
+    let hk = key_hash g.H.BuildHasher g.H.Hasher.Hasher g.E.Key.Hash.hash_input cur in
+    let hash = λ (e : g.row.E.Denot). hk (g.E.Keyed.key_of e) in
+    let set = settings-seen hash cur ws olds now c.self.view_is in
+    c.requires ∙ ap (λ s. hash_of g.H.BuildHasher g.H.Hasher.Hasher s.hasher (g.E.Key.Hash.hash_input c.args.key.now)) (sym set)
+
+pub returns-then-self-eq0-clause-place : goal.returns-then-self-eq0-clause-place
+returns-then-self-eq0-clause-place g c =
+    let t = c.self.inside in
+    let cur = t.current in
+    let ws = t.waiting.items in
+    let olds = t.draining in
+    let inv = c.self.invariant in
+    let now = c.args.self.now in
+    let hk = key_hash g.H.BuildHasher g.H.Hasher.Hasher g.E.Key.Hash.hash_input cur in
+    let hash = λ (e : g.row.E.Denot). hk (g.E.Keyed.key_of e) in
+    let passes = λ (e : g.row.E.Denot). g.E.Key.PartialEq.eq c.args.key.now (g.E.Keyed.key_of e) in
+    let none = inv.none c.if-self-eq0.true in
+    along c.search.result (λ n. ap (λ d. position passes (entries d)) (sym c.self.view_is) ∙ ap (position passes) (entries-settled hash cur olds ws none) ∙ n)
+    (λ q f. subst (λ d. IsFoundAt passes d q) c.self.view_is (found-settled hash cur olds ws none passes q f)) c.search.ensures.place
+
+pub search_both-place-requires-clause-pending : goal.search_both-place-requires-clause-pending
+search_both-place-requires-clause-pending g c =
+    let t = c.self.inside in
+    let cur = t.current in
+    let ws = t.waiting.items in
+    let olds = t.draining in
+    let inv = c.self.invariant in
+    let now = c.args.self.now in
+    let hk = key_hash g.H.BuildHasher g.H.Hasher.Hasher g.E.Key.Hash.hash_input cur in
+    let hash = λ (e : g.row.E.Denot). hk (g.E.Keyed.key_of e) in
+    let counted = ap pending_of (sym c.self.view_is) ∙ pending-together hash cur ws olds in
+    omega (arith, counted, inv.counted, c.if-self-eq0.false)

@@ -1,0 +1,105 @@
+use Rattle.std.proofs.Common.{◌≡◌, ℕ, ◌+◌, ◌^◌, ◌<◌, ◌∷◌, ◌++◌, Bool, false, Some, None, [], List, length, map, sym, ap, ◌∙◌, subst, arith}
+use Rattle.std.specs.List.{position, remove, slice_get, IsDistinct}
+use Rattle.scc_buckets.specs.Bounded.{HasList, IsBounded, IsListed, PutsLast}
+use Rattle.scc_contents.specs.Contents.{Contents, bucket_count, entries, held_of, key_hash, list_of, settings_of, spilled_of, waiting_of}
+use Rattle.scc_contents.specs.Hashing.{hash_of}
+use Rattle.scc_contents.specs.Routing.{bucket_number}
+use Rattle.scc_buckets.proofs.FindingLemmas.{HashOf}
+use Rattle.scc_table.specs.TwoArrays.{together, waits_at, IsTable}
+use Rattle.scc_table.proofs.CurrentChanges.{own-fields, own-held, own-list}
+use Rattle.scc_table.proofs.Joining.{settings-together, waiting-together}
+use Rattle.scc_table.proofs.Listing.{absent-list, own-bounded, own-has_list, own-listed, own-puts_last, puts-list, unique-moved, unique-puts}
+use Rattle.scc_table.proofs.SearchingLemmas.{missed-listed, missed-own, not_true}
+use Rattle.scc_table.proofs.Seen.{count-seen, settings-seen, waiting-seen}
+use Rattle.scc_table.proofs.Table.search_in.Goals as goal
+
+pub search_in-requires-clause-within : goal.search_in-requires-clause-within
+search_in-requires-clause-within g c =
+    let t = c.self.inside in
+    let cur = t.current in
+    let ws = t.waiting.items in
+    let olds = t.draining in
+    let inv = c.self.invariant in
+    let hk = key_hash g.H.BuildHasher g.H.Hasher.Hasher g.E.Key.Hash.hash_input cur in
+    let key = g.E.Keyed.key_of in
+    let view = c.self.view_is in
+    let now = c.args.self.now in
+    let i = c.args.bucket in
+    let hash = λ (e : g.row.E.Denot). hk (key e) in
+    let count = count-seen hash cur ws olds now view inv.arrays in
+    let within : i < bucket_count cur = let q = c.requires.within in omega (arith, count) in
+    within
+
+pub search_in-requires-clause-routed : goal.search_in-requires-clause-routed
+search_in-requires-clause-routed g c =
+    let t = c.self.inside in
+    let cur = t.current in
+    let ws = t.waiting.items in
+    let olds = t.draining in
+    let inv = c.self.invariant in
+    let hk = key_hash g.H.BuildHasher g.H.Hasher.Hasher g.E.Key.Hash.hash_input cur in
+    let key = g.E.Keyed.key_of in
+    let view = c.self.view_is in
+    let now = c.args.self.now in
+    let hash = λ (e : g.row.E.Denot). hk (key e) in
+    let set = settings-seen hash cur ws olds now view in
+    let count = count-seen hash cur ws olds now view inv.arrays in
+    let routed = c.requires.routed ∙ ap (λ s. bucket_number s.skipped (bucket_count now) c.args.hash) (sym set) ∙ ap (λ n. bucket_number (settings_of cur).skipped n c.args.hash) (sym count) in
+    routed
+
+pub search_in-requires-clause-hashed : goal.search_in-requires-clause-hashed
+search_in-requires-clause-hashed g c =
+    let t = c.self.inside in
+    let cur = t.current in
+    let ws = t.waiting.items in
+    let olds = t.draining in
+    let hk = key_hash g.H.BuildHasher g.H.Hasher.Hasher g.E.Key.Hash.hash_input cur in
+    let key = g.E.Keyed.key_of in
+    let view = c.self.view_is in
+    let now = c.args.self.now in
+    let hash = λ (e : g.row.E.Denot). hk (key e) in
+    let set = settings-seen hash cur ws olds now view in
+    let hashed = c.requires.hashed ∙ ap (λ s. hash_of g.H.BuildHasher g.H.Hasher.Hasher s.hasher (g.E.Key.Hash.hash_input c.args.key.now)) (sym set) in
+    hashed
+
+pub returns-clause-place : goal.returns-clause-place
+returns-clause-place g c =
+    let t = c.self.inside in
+    let cur = t.current in
+    let ws = t.waiting.items in
+    let olds = t.draining in
+    let hk = key_hash g.H.BuildHasher g.H.Hasher.Hasher g.E.Key.Hash.hash_input cur in
+    let key = g.E.Keyed.key_of in
+    let view = c.self.view_is in
+    let now = c.args.self.now in
+    let i = c.args.bucket in
+    let hash = λ (e : g.row.E.Denot). hk (key e) in
+    let flags = waiting-seen hash cur ws olds now view in
+    let down : waits_at ws i ≡ false = not_true (waits_at ws i) (λ up. c.requires.settled (ap (λ w. waits_at w i) flags ∙ up)) in
+    let here = ap (λ z. list_of z i) (sym view) ∙ own-list hash cur ws olds i down in
+    let passes : g.row.E.Denot → Bool = λ e. g.E.Key.PartialEq.eq c.args.key.now (key e) in
+    c.search_in.ensures.place ∙ ap (position passes) (sym here)
+
+pub returns-clause-missed : goal.returns-clause-missed
+returns-clause-missed g c =
+    let t = c.self.inside in
+    let cur = t.current in
+    let ws = t.waiting.items in
+    let olds = t.draining in
+    let inv = c.self.invariant in
+    let hk = key_hash g.H.BuildHasher g.H.Hasher.Hasher g.E.Key.Hash.hash_input cur in
+    let key = g.E.Keyed.key_of in
+    let view = c.self.view_is in
+    let now = c.args.self.now in
+    let i = c.args.bucket in
+    let hash = λ (e : g.row.E.Denot). hk (key e) in
+    let flags = waiting-seen hash cur ws olds now view in
+    let down : waits_at ws i ≡ false = not_true (waits_at ws i) (λ up. c.requires.settled (ap (λ w. waits_at w i) flags ∙ up)) in
+    let set = settings-seen hash cur ws olds now view in
+    let count = count-seen hash cur ws olds now view inv.arrays in
+    let within : i < bucket_count cur = let q = c.requires.within in omega (arith, count) in
+    let routed = c.requires.routed ∙ ap (λ s. bucket_number s.skipped (bucket_count now) c.args.hash) (sym set) ∙ ap (λ n. bucket_number (settings_of cur).skipped n c.args.hash) (sym count) in
+    let passes : g.row.E.Denot → Bool = λ e. g.E.Key.PartialEq.eq c.args.key.now (key e) in
+    let hashed = c.requires.hashed ∙ ap (λ s. hash_of g.H.BuildHasher g.H.Hasher.Hasher s.hasher (g.E.Key.Hash.hash_input c.args.key.now)) (sym set) in
+    let same_hash : HashOf passes hash c.args.hash = record { same = λ e w. sym (hashed ∙ ap (hash_of g.H.BuildHasher g.H.Hasher.Hasher (settings_of cur).hasher) (g.met.E.Key.Hash.respects_eq c.args.key.now (key e) w)) } in
+    λ none. subst (λ (z : Contents g.row.E.Denot g.row.H.Denot). position passes (entries z) ≡ None) view (missed-own hash cur ws olds inv.arrays c.keep_lists.ensures.routed passes c.args.hash i same_hash routed within down (sym c.search_in.ensures.place ∙ none))

@@ -1,0 +1,83 @@
+use Rattle.std.proofs.Common.{◌≡◌, ◌∙◌, ℕ, sym, ap, subst}
+use Rattle.scc_contents.specs.Contents.{Settings, entries, bucket_count, key_hash, lists_of, held_of, settings_of}
+use Rattle.scc_table.specs.TwoArrays.{IsTable, together}
+use Rattle.scc_table.proofs.Joining.{settings-together, refused-together, waiting-together}
+use Rattle.scc_table.proofs.Noting.{fields-kept, lists-kept, held-kept}
+use Rattle.scc_table.proofs.Same.{hash-like, entries-same, count-same}
+use Rattle.scc_table.proofs.Viewed.{settings-seen, refused-seen, waiting-seen}
+use Rattle.scc_table.proofs.Table.set_reserved.Goals as goal
+
+pub set_reserved-requires : goal.set_reserved-requires
+set_reserved-requires g c =
+    let t = c.self.inside in
+    rw (ap (λ s. s.asked) (sym (settings-seen _ t.current t.waiting.items t.draining c.args.self.now c.self.view_is))) c.requires
+
+pub invariant_of-self : goal.invariant_of-self
+invariant_of-self g c =
+    let t = c.self.inside in
+    let d = c.set_reserved.new.self in
+    let hk = key_hash g.H.BuildHasher g.H.Hasher.Hasher g.E.Key.Hash.hash_input t.current in
+    let e = c.set_reserved.ensures in
+    let same = hash-like g.H.BuildHasher g.H.Hasher.Hasher g.E.Key.Hash.hash_input t.current d (ap (λ s. s.hasher) e.settings) in
+    let skips = ap (λ s. s.skipped) e.settings in
+    subst (λ (h : g.row.E-Key.Denot → ℕ). IsTable g.E.Key.PartialEq.eq g.E.Keyed.key_of h d t.waiting.items t.draining t.skipped t.pending t.next t.held t.held_overflow) (sym same)
+    (fields-kept g.E.Key.PartialEq.eq g.E.Keyed.key_of hk t.current d t.waiting.items t.draining t.skipped t.pending t.next t.held t.held_overflow e.lists skips e.spilled c.self.invariant)
+
+pub returns-clause-lists : goal.returns-clause-lists
+returns-clause-lists g c =
+    let t = c.self.inside in
+    let d = c.set_reserved.new.self in
+    let hk = key_hash g.H.BuildHasher g.H.Hasher.Hasher g.E.Key.Hash.hash_input t.current in
+    let e = c.set_reserved.ensures in
+    let same = hash-like g.H.BuildHasher g.H.Hasher.Hasher g.E.Key.Hash.hash_input t.current d (ap (λ s. s.hasher) e.settings) in
+    let skips = ap (λ s. s.skipped) e.settings in
+    let there = ap (λ (h : g.row.E-Key.Denot → ℕ). lists_of (together (λ e. h (g.E.Keyed.key_of e)) d t.waiting.items t.draining)) same ∙ lists-kept (λ e. hk (g.E.Keyed.key_of e)) t.current d t.waiting.items t.draining e.lists skips ∙ ap lists_of c.self.view_is in
+    there
+
+pub returns-clause-entries : goal.returns-clause-entries
+returns-clause-entries g c =
+    let t = c.self.inside in
+    let d = c.set_reserved.new.self in
+    let hk = key_hash g.H.BuildHasher g.H.Hasher.Hasher g.E.Key.Hash.hash_input t.current in
+    let e = c.set_reserved.ensures in
+    let same = hash-like g.H.BuildHasher g.H.Hasher.Hasher g.E.Key.Hash.hash_input t.current d (ap (λ s. s.hasher) e.settings) in
+    let skips = ap (λ s. s.skipped) e.settings in
+    let there = ap (λ (h : g.row.E-Key.Denot → ℕ). lists_of (together (λ e. h (g.E.Keyed.key_of e)) d t.waiting.items t.draining)) same ∙ lists-kept (λ e. hk (g.E.Keyed.key_of e)) t.current d t.waiting.items t.draining e.lists skips ∙ ap lists_of c.self.view_is in
+    entries-same c.args.self.now _ there
+
+pub returns-clause-buckets : goal.returns-clause-buckets
+returns-clause-buckets g c =
+    let t = c.self.inside in
+    let d = c.set_reserved.new.self in
+    let hk = key_hash g.H.BuildHasher g.H.Hasher.Hasher g.E.Key.Hash.hash_input t.current in
+    let e = c.set_reserved.ensures in
+    let same = hash-like g.H.BuildHasher g.H.Hasher.Hasher g.E.Key.Hash.hash_input t.current d (ap (λ s. s.hasher) e.settings) in
+    let skips = ap (λ s. s.skipped) e.settings in
+    let there = ap (λ (h : g.row.E-Key.Denot → ℕ). lists_of (together (λ e. h (g.E.Keyed.key_of e)) d t.waiting.items t.draining)) same ∙ lists-kept (λ e. hk (g.E.Keyed.key_of e)) t.current d t.waiting.items t.draining e.lists skips ∙ ap lists_of c.self.view_is in
+    count-same c.args.self.now _ there
+
+pub returns-clause-settings : goal.returns-clause-settings
+returns-clause-settings g c =
+    let t = c.self.inside in
+    let kept = settings-seen _ t.current t.waiting.items t.draining c.args.self.now c.self.view_is in
+    settings-together _ c.set_reserved.new.self t.waiting.items t.draining ∙ c.set_reserved.ensures.settings ∙ ap (λ (s : Settings g.row.H.Denot). let r : Settings g.row.H.Denot = record s { reserved = c.args.reserved } in r) (sym kept)
+
+pub returns-clause-noted : goal.returns-clause-noted
+returns-clause-noted g c =
+    let t = c.self.inside in
+    refused-together _ c.set_reserved.new.self t.waiting.items t.draining ∙ c.set_reserved.ensures.noted ∙ sym (refused-seen _ t.current t.waiting.items t.draining c.args.self.now c.self.view_is)
+
+pub returns-clause-waiting : goal.returns-clause-waiting
+returns-clause-waiting g c =
+    let t = c.self.inside in
+    waiting-together _ c.set_reserved.new.self t.waiting.items t.draining ∙ sym (waiting-seen _ t.current t.waiting.items t.draining c.args.self.now c.self.view_is)
+
+pub returns-clause-held : goal.returns-clause-held
+returns-clause-held g c =
+    let t = c.self.inside in
+    let d = c.set_reserved.new.self in
+    let hk = key_hash g.H.BuildHasher g.H.Hasher.Hasher g.E.Key.Hash.hash_input t.current in
+    let e = c.set_reserved.ensures in
+    let same = hash-like g.H.BuildHasher g.H.Hasher.Hasher g.E.Key.Hash.hash_input t.current d (ap (λ s. s.hasher) e.settings) in
+    let skips = ap (λ s. s.skipped) e.settings in
+    ap (λ (h : g.row.E-Key.Denot → ℕ). held_of (together (λ e. h (g.E.Keyed.key_of e)) d t.waiting.items t.draining)) same ∙ held-kept (λ e. hk (g.E.Keyed.key_of e)) t.current d t.waiting.items t.draining e.lists skips ∙ ap held_of c.self.view_is

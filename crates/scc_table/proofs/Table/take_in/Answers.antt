@@ -1,0 +1,618 @@
+use Rattle.std.proofs.Common.{◌≡◌, ℕ, ◌-◌, ◌<◌, ◌≤◌, Some, List, length, map, set, sym, ap, ◌∙◌, subst, arith}
+use Rattle.std.specs.List.{remove, slice_get, IsDistinct}
+use Rattle.scc_array.specs.Shelves.{shelf_of}
+use Rattle.scc_array.specs.Shelf.{Shelf, shelf_entries, without_place}
+use Rattle.scc_contents.specs.Contents.{Contents, bucket_count, entries, list_of, key_hash, waiting_of, held_of}
+use Rattle.scc_contents.specs.Hashing.{hash_of}
+use Rattle.scc_buckets.specs.OneList.{IsSwappedOutOf, IsTakenFrom}
+use Rattle.scc_table.specs.Places.{IsPlace, index_of, spot_of}
+use Rattle.scc_table.specs.Takes.{held_taken}
+use Rattle.scc_table.specs.TwoArrays.{together, IsTable}
+use Rattle.scc_table.proofs.Joining.{waiting-together}
+use Rattle.scc_table.proofs.Taken.{own-held_kept, own-less, own-less_swapped, own-swapped, own-taken, old-held_taken, old-less, old-some, old-taken_at}
+use Rattle.scc_table.proofs.TakenFrom.{got-there, swapped-count, swapped-moved, swapped-unique, taken-exactly, taken-gone, taken-listed, taken-short, taken-swapped, taken-unique}
+use Rattle.scc_table.proofs.Written.{own-got, own-is, old-got, old-is}
+use Rattle.scc_table.proofs.Table.take_in.Goals as goal
+
+pub take_in-requires : goal.take_in-requires
+take_in-requires g c =
+    let t = c.self.inside in
+    let cur = t.current in
+    let ws = t.waiting.items in
+    let olds = t.draining in
+    let inv = c.self.invariant in
+    let hk = key_hash g.H.BuildHasher g.H.Hasher.Hasher g.E.Key.Hash.hash_input cur in
+    let key = g.E.Keyed.key_of in
+    let laws = g.met.E.Key.Eq.laws in
+    let p = c.args.place in
+    let view = c.self.view_is in
+    let within = subst (λ z. IsPlace z p) (sym view) c.requires in
+    let count = c.bucket_count-count.ensures.count in
+    let near : p.bucket < bucket_count cur = omega (arith, count) in
+    (own-is laws key hk cur ws olds t.skipped t.pending t.next t.held t.held_overflow inv p within near).0
+
+pub invariant_of-self : goal.invariant_of-self
+invariant_of-self g c =
+    let t = c.self.inside in
+    let cur = t.current in
+    let ws = t.waiting.items in
+    let olds = t.draining in
+    let inv = c.self.invariant in
+    let hk = key_hash g.H.BuildHasher g.H.Hasher.Hasher g.E.Key.Hash.hash_input cur in
+    let key = g.E.Keyed.key_of in
+    let laws = g.met.E.Key.Eq.laws in
+    let p = c.args.place in
+    let view = c.self.view_is in
+    let within = subst (λ z. IsPlace z p) (sym view) c.requires in
+    let count = c.bucket_count-count.ensures.count in
+    let near : p.bucket < bucket_count cur = omega (arith, count) in
+    let d = c.take_in.new.self in
+    let same = ap (λ s. let h : g.row.E-Key.Denot → ℕ = λ k. hash_of g.H.BuildHasher g.H.Hasher.Hasher s.hasher (g.E.Key.Hash.hash_input k) in h) c.take_in.ensures.exact.settings in
+    subst (λ (h : g.row.E-Key.Denot → ℕ). IsTable g.E.Key.PartialEq.eq key h d ws olds t.skipped t.pending t.next t.held t.held_overflow) (sym same) (own-less laws key hk cur ws olds t.skipped t.pending t.next t.held t.held_overflow inv p within near d c.take_in.result c.take_in.ensures.entry c.take_in.ensures.exact)
+
+pub returns-then-place-count-clause-entry : goal.returns-then-place-count-clause-entry
+returns-then-place-count-clause-entry g c =
+    let t = c.self.inside in
+    let cur = t.current in
+    let ws = t.waiting.items in
+    let olds = t.draining in
+    let inv = c.self.invariant in
+    let hk = key_hash g.H.BuildHasher g.H.Hasher.Hasher g.E.Key.Hash.hash_input cur in
+    let key = g.E.Keyed.key_of in
+    let laws = g.met.E.Key.Eq.laws in
+    let p = c.args.place in
+    let view = c.self.view_is in
+    let within = subst (λ z. IsPlace z p) (sym view) c.requires in
+    let count = c.bucket_count-count.ensures.count in
+    let near : p.bucket < bucket_count cur = omega (arith, count) in
+    let there = subst (λ (z : Contents g.row.E.Denot g.row.H.Denot). slice_get (entries z) (index_of z p) ≡ Some c.take_in.result) view (own-got laws key hk cur ws olds t.skipped t.pending t.next t.held t.held_overflow inv p within near c.take_in.result c.take_in.ensures.entry) in
+    there
+
+pub returns-then-place-count-clause-held : goal.returns-then-place-count-clause-held
+returns-then-place-count-clause-held g c =
+    let t = c.self.inside in
+    let cur = t.current in
+    let ws = t.waiting.items in
+    let olds = t.draining in
+    let inv = c.self.invariant in
+    let hk = key_hash g.H.BuildHasher g.H.Hasher.Hasher g.E.Key.Hash.hash_input cur in
+    let key = g.E.Keyed.key_of in
+    let laws = g.met.E.Key.Eq.laws in
+    let p = c.args.place in
+    let view = c.self.view_is in
+    let within = subst (λ z. IsPlace z p) (sym view) c.requires in
+    let count = c.bucket_count-count.ensures.count in
+    let near : p.bucket < bucket_count cur = omega (arith, count) in
+    let d = c.take_in.new.self in
+    let same = ap (λ s. let h : g.row.E-Key.Denot → ℕ = λ k. hash_of g.H.BuildHasher g.H.Hasher.Hasher s.hasher (g.E.Key.Hash.hash_input k) in h) c.take_in.ensures.exact.settings in
+    ap (λ (h : g.row.E-Key.Denot → ℕ). held_of (together (λ e. h (key e)) d ws olds)) same ∙ own-held_kept laws key hk cur ws olds t.skipped t.pending t.next t.held t.held_overflow inv p within near d (remove (list_of cur p.bucket) p.slot) c.take_in.ensures.exact.lists c.take_in.ensures.exact.settings ∙ ap (λ (z : Contents g.row.E.Denot g.row.H.Denot). held_taken (bucket_count z) (held_of z) p) view
+
+pub returns-then-place-count-clause-others : goal.returns-then-place-count-clause-others
+returns-then-place-count-clause-others g c =
+    let t = c.self.inside in
+    let cur = t.current in
+    let ws = t.waiting.items in
+    let olds = t.draining in
+    let inv = c.self.invariant in
+    let hk = key_hash g.H.BuildHasher g.H.Hasher.Hasher g.E.Key.Hash.hash_input cur in
+    let key = g.E.Keyed.key_of in
+    let laws = g.met.E.Key.Eq.laws in
+    let p = c.args.place in
+    let view = c.self.view_is in
+    let within = subst (λ z. IsPlace z p) (sym view) c.requires in
+    let count = c.bucket_count-count.ensures.count in
+    let near : p.bucket < bucket_count cur = omega (arith, count) in
+    let now = c.args.self.now in
+    let q = spot_of now p in
+    let d = c.take_in.new.self in
+    let same = ap (λ s. let h : g.row.E-Key.Denot → ℕ = λ k. hash_of g.H.BuildHasher g.H.Hasher.Hasher s.hasher (g.E.Key.Hash.hash_input k) in h) c.take_in.ensures.exact.settings in
+    let after = together (λ e. key_hash g.H.BuildHasher g.H.Hasher.Hasher g.E.Key.Hash.hash_input d (key e)) d ws olds in
+    let first = subst (λ (h : g.row.E-Key.Denot → ℕ). IsTakenFrom (together (λ e. hk (key e)) cur ws olds) (spot_of (together (λ e. hk (key e)) cur ws olds) p) (together (λ e. h (key e)) d ws olds)) (sym same) (own-taken laws key hk cur ws olds t.skipped t.pending t.next t.held t.held_overflow inv p within near d c.take_in.ensures.exact) in
+    let taken = subst (λ (z : Contents g.row.E.Denot g.row.H.Denot). IsTakenFrom z (spot_of z p) after) view first in
+    taken-exactly now after q c.requires taken
+
+pub returns-then-place-count-clause-noted : goal.returns-then-place-count-clause-noted
+returns-then-place-count-clause-noted g c =
+    let t = c.self.inside in
+    let cur = t.current in
+    let ws = t.waiting.items in
+    let olds = t.draining in
+    let inv = c.self.invariant in
+    let hk = key_hash g.H.BuildHasher g.H.Hasher.Hasher g.E.Key.Hash.hash_input cur in
+    let key = g.E.Keyed.key_of in
+    let laws = g.met.E.Key.Eq.laws in
+    let p = c.args.place in
+    let view = c.self.view_is in
+    let within = subst (λ z. IsPlace z p) (sym view) c.requires in
+    let count = c.bucket_count-count.ensures.count in
+    let near : p.bucket < bucket_count cur = omega (arith, count) in
+    let d = c.take_in.new.self in
+    let same = ap (λ s. let h : g.row.E-Key.Denot → ℕ = λ k. hash_of g.H.BuildHasher g.H.Hasher.Hasher s.hasher (g.E.Key.Hash.hash_input k) in h) c.take_in.ensures.exact.settings in
+    let after = together (λ e. key_hash g.H.BuildHasher g.H.Hasher.Hasher g.E.Key.Hash.hash_input d (key e)) d ws olds in
+    let first = subst (λ (h : g.row.E-Key.Denot → ℕ). IsTakenFrom (together (λ e. hk (key e)) cur ws olds) (spot_of (together (λ e. hk (key e)) cur ws olds) p) (together (λ e. h (key e)) d ws olds)) (sym same) (own-taken laws key hk cur ws olds t.skipped t.pending t.next t.held t.held_overflow inv p within near d c.take_in.ensures.exact) in
+    let taken = subst (λ (z : Contents g.row.E.Denot g.row.H.Denot). IsTakenFrom z (spot_of z p) after) view first in
+    taken.refused
+
+pub returns-then-place-count-clause-waiting : goal.returns-then-place-count-clause-waiting
+returns-then-place-count-clause-waiting g c =
+    let t = c.self.inside in
+    let cur = t.current in
+    let ws = t.waiting.items in
+    let olds = t.draining in
+    let hk = key_hash g.H.BuildHasher g.H.Hasher.Hasher g.E.Key.Hash.hash_input cur in
+    let key = g.E.Keyed.key_of in
+    let view = c.self.view_is in
+    let old_waiting = ap waiting_of (sym view) ∙ waiting-together (λ e. hk (key e)) cur ws olds in
+    let d = c.take_in.new.self in
+    waiting-together (λ e. key_hash g.H.BuildHasher g.H.Hasher.Hasher g.E.Key.Hash.hash_input d (key e)) d ws olds ∙ sym old_waiting
+
+pub returns-then-place-count-clause-listed : goal.returns-then-place-count-clause-listed
+returns-then-place-count-clause-listed g c =
+    let t = c.self.inside in
+    let cur = t.current in
+    let ws = t.waiting.items in
+    let olds = t.draining in
+    let inv = c.self.invariant in
+    let hk = key_hash g.H.BuildHasher g.H.Hasher.Hasher g.E.Key.Hash.hash_input cur in
+    let key = g.E.Keyed.key_of in
+    let laws = g.met.E.Key.Eq.laws in
+    let p = c.args.place in
+    let view = c.self.view_is in
+    let within = subst (λ z. IsPlace z p) (sym view) c.requires in
+    let count = c.bucket_count-count.ensures.count in
+    let near : p.bucket < bucket_count cur = omega (arith, count) in
+    let now = c.args.self.now in
+    let q = spot_of now p in
+    let d = c.take_in.new.self in
+    let there = subst (λ (z : Contents g.row.E.Denot g.row.H.Denot). slice_get (entries z) (index_of z p) ≡ Some c.take_in.result) view (own-got laws key hk cur ws olds t.skipped t.pending t.next t.held t.held_overflow inv p within near c.take_in.result c.take_in.ensures.entry) in
+    let after = together (λ e. key_hash g.H.BuildHasher g.H.Hasher.Hasher g.E.Key.Hash.hash_input d (key e)) d ws olds in
+    got-there now after q c.requires c.take_in.result there
+
+pub returns-then-place-count-clause-gone : goal.returns-then-place-count-clause-gone
+returns-then-place-count-clause-gone g c =
+    let t = c.self.inside in
+    let cur = t.current in
+    let ws = t.waiting.items in
+    let olds = t.draining in
+    let inv = c.self.invariant in
+    let hk = key_hash g.H.BuildHasher g.H.Hasher.Hasher g.E.Key.Hash.hash_input cur in
+    let key = g.E.Keyed.key_of in
+    let laws = g.met.E.Key.Eq.laws in
+    let p = c.args.place in
+    let view = c.self.view_is in
+    let within = subst (λ z. IsPlace z p) (sym view) c.requires in
+    let count = c.bucket_count-count.ensures.count in
+    let near : p.bucket < bucket_count cur = omega (arith, count) in
+    let now = c.args.self.now in
+    let q = spot_of now p in
+    let unique = subst (λ (z : Contents g.row.E.Denot g.row.H.Denot). IsDistinct g.E.Key.PartialEq.eq (map key (entries z))) view inv.unique in
+    let d = c.take_in.new.self in
+    let there = subst (λ (z : Contents g.row.E.Denot g.row.H.Denot). slice_get (entries z) (index_of z p) ≡ Some c.take_in.result) view (own-got laws key hk cur ws olds t.skipped t.pending t.next t.held t.held_overflow inv p within near c.take_in.result c.take_in.ensures.entry) in
+    let same = ap (λ s. let h : g.row.E-Key.Denot → ℕ = λ k. hash_of g.H.BuildHasher g.H.Hasher.Hasher s.hasher (g.E.Key.Hash.hash_input k) in h) c.take_in.ensures.exact.settings in
+    let after = together (λ e. key_hash g.H.BuildHasher g.H.Hasher.Hasher g.E.Key.Hash.hash_input d (key e)) d ws olds in
+    let first = subst (λ (h : g.row.E-Key.Denot → ℕ). IsTakenFrom (together (λ e. hk (key e)) cur ws olds) (spot_of (together (λ e. hk (key e)) cur ws olds) p) (together (λ e. h (key e)) d ws olds)) (sym same) (own-taken laws key hk cur ws olds t.skipped t.pending t.next t.held t.held_overflow inv p within near d c.take_in.ensures.exact) in
+    let taken = subst (λ (z : Contents g.row.E.Denot g.row.H.Denot). IsTakenFrom z (spot_of z p) after) view first in
+    taken-gone now after q c.requires taken laws key c.take_in.result there unique
+
+pub returns-then-place-count-clause-short : goal.returns-then-place-count-clause-short
+returns-then-place-count-clause-short g c =
+    let t = c.self.inside in
+    let cur = t.current in
+    let ws = t.waiting.items in
+    let olds = t.draining in
+    let inv = c.self.invariant in
+    let hk = key_hash g.H.BuildHasher g.H.Hasher.Hasher g.E.Key.Hash.hash_input cur in
+    let key = g.E.Keyed.key_of in
+    let laws = g.met.E.Key.Eq.laws in
+    let p = c.args.place in
+    let view = c.self.view_is in
+    let within = subst (λ z. IsPlace z p) (sym view) c.requires in
+    let count = c.bucket_count-count.ensures.count in
+    let near : p.bucket < bucket_count cur = omega (arith, count) in
+    let now = c.args.self.now in
+    let q = spot_of now p in
+    let d = c.take_in.new.self in
+    let same = ap (λ s. let h : g.row.E-Key.Denot → ℕ = λ k. hash_of g.H.BuildHasher g.H.Hasher.Hasher s.hasher (g.E.Key.Hash.hash_input k) in h) c.take_in.ensures.exact.settings in
+    let after = together (λ e. key_hash g.H.BuildHasher g.H.Hasher.Hasher g.E.Key.Hash.hash_input d (key e)) d ws olds in
+    let first = subst (λ (h : g.row.E-Key.Denot → ℕ). IsTakenFrom (together (λ e. hk (key e)) cur ws olds) (spot_of (together (λ e. hk (key e)) cur ws olds) p) (together (λ e. h (key e)) d ws olds)) (sym same) (own-taken laws key hk cur ws olds t.skipped t.pending t.next t.held t.held_overflow inv p within near d c.take_in.ensures.exact) in
+    let taken = subst (λ (z : Contents g.row.E.Denot g.row.H.Denot). IsTakenFrom z (spot_of z p) after) view first in
+    taken-short now after q c.requires taken
+
+pub returns-then-place-count-clause-lists : goal.returns-then-place-count-clause-lists
+returns-then-place-count-clause-lists g c =
+    let t = c.self.inside in
+    let cur = t.current in
+    let ws = t.waiting.items in
+    let olds = t.draining in
+    let inv = c.self.invariant in
+    let hk = key_hash g.H.BuildHasher g.H.Hasher.Hasher g.E.Key.Hash.hash_input cur in
+    let key = g.E.Keyed.key_of in
+    let laws = g.met.E.Key.Eq.laws in
+    let p = c.args.place in
+    let view = c.self.view_is in
+    let within = subst (λ z. IsPlace z p) (sym view) c.requires in
+    let count = c.bucket_count-count.ensures.count in
+    let near : p.bucket < bucket_count cur = omega (arith, count) in
+    let now = c.args.self.now in
+    let q = spot_of now p in
+    let d = c.take_in.new.self in
+    let same = ap (λ s. let h : g.row.E-Key.Denot → ℕ = λ k. hash_of g.H.BuildHasher g.H.Hasher.Hasher s.hasher (g.E.Key.Hash.hash_input k) in h) c.take_in.ensures.exact.settings in
+    let after = together (λ e. key_hash g.H.BuildHasher g.H.Hasher.Hasher g.E.Key.Hash.hash_input d (key e)) d ws olds in
+    let first = subst (λ (h : g.row.E-Key.Denot → ℕ). IsTakenFrom (together (λ e. hk (key e)) cur ws olds) (spot_of (together (λ e. hk (key e)) cur ws olds) p) (together (λ e. h (key e)) d ws olds)) (sym same) (own-taken laws key hk cur ws olds t.skipped t.pending t.next t.held t.held_overflow inv p within near d c.take_in.ensures.exact) in
+    let taken = subst (λ (z : Contents g.row.E.Denot g.row.H.Denot). IsTakenFrom z (spot_of z p) after) view first in
+    taken-listed now after q c.requires taken
+
+pub returns-then-place-count-clause-exact : goal.returns-then-place-count-clause-exact
+returns-then-place-count-clause-exact g c =
+    let t = c.self.inside in
+    let cur = t.current in
+    let ws = t.waiting.items in
+    let olds = t.draining in
+    let inv = c.self.invariant in
+    let hk = key_hash g.H.BuildHasher g.H.Hasher.Hasher g.E.Key.Hash.hash_input cur in
+    let key = g.E.Keyed.key_of in
+    let laws = g.met.E.Key.Eq.laws in
+    let p = c.args.place in
+    let view = c.self.view_is in
+    let within = subst (λ z. IsPlace z p) (sym view) c.requires in
+    let count = c.bucket_count-count.ensures.count in
+    let near : p.bucket < bucket_count cur = omega (arith, count) in
+    let d = c.take_in.new.self in
+    let same = ap (λ s. let h : g.row.E-Key.Denot → ℕ = λ k. hash_of g.H.BuildHasher g.H.Hasher.Hasher s.hasher (g.E.Key.Hash.hash_input k) in h) c.take_in.ensures.exact.settings in
+    let after = together (λ e. key_hash g.H.BuildHasher g.H.Hasher.Hasher g.E.Key.Hash.hash_input d (key e)) d ws olds in
+    let first = subst (λ (h : g.row.E-Key.Denot → ℕ). IsTakenFrom (together (λ e. hk (key e)) cur ws olds) (spot_of (together (λ e. hk (key e)) cur ws olds) p) (together (λ e. h (key e)) d ws olds)) (sym same) (own-taken laws key hk cur ws olds t.skipped t.pending t.next t.held t.held_overflow inv p within near d c.take_in.ensures.exact) in
+    let taken = subst (λ (z : Contents g.row.E.Denot g.row.H.Denot). IsTakenFrom z (spot_of z p) after) view first in
+    taken
+
+pub returns-then-place-count-clause-unique : goal.returns-then-place-count-clause-unique
+returns-then-place-count-clause-unique g c =
+    let t = c.self.inside in
+    let cur = t.current in
+    let ws = t.waiting.items in
+    let olds = t.draining in
+    let inv = c.self.invariant in
+    let hk = key_hash g.H.BuildHasher g.H.Hasher.Hasher g.E.Key.Hash.hash_input cur in
+    let key = g.E.Keyed.key_of in
+    let laws = g.met.E.Key.Eq.laws in
+    let p = c.args.place in
+    let view = c.self.view_is in
+    let within = subst (λ z. IsPlace z p) (sym view) c.requires in
+    let count = c.bucket_count-count.ensures.count in
+    let near : p.bucket < bucket_count cur = omega (arith, count) in
+    let now = c.args.self.now in
+    let q = spot_of now p in
+    let unique = subst (λ (z : Contents g.row.E.Denot g.row.H.Denot). IsDistinct g.E.Key.PartialEq.eq (map key (entries z))) view inv.unique in
+    let d = c.take_in.new.self in
+    let there = subst (λ (z : Contents g.row.E.Denot g.row.H.Denot). slice_get (entries z) (index_of z p) ≡ Some c.take_in.result) view (own-got laws key hk cur ws olds t.skipped t.pending t.next t.held t.held_overflow inv p within near c.take_in.result c.take_in.ensures.entry) in
+    let same = ap (λ s. let h : g.row.E-Key.Denot → ℕ = λ k. hash_of g.H.BuildHasher g.H.Hasher.Hasher s.hasher (g.E.Key.Hash.hash_input k) in h) c.take_in.ensures.exact.settings in
+    let after = together (λ e. key_hash g.H.BuildHasher g.H.Hasher.Hasher g.E.Key.Hash.hash_input d (key e)) d ws olds in
+    let first = subst (λ (h : g.row.E-Key.Denot → ℕ). IsTakenFrom (together (λ e. hk (key e)) cur ws olds) (spot_of (together (λ e. hk (key e)) cur ws olds) p) (together (λ e. h (key e)) d ws olds)) (sym same) (own-taken laws key hk cur ws olds t.skipped t.pending t.next t.held t.held_overflow inv p within near d c.take_in.ensures.exact) in
+    let taken = subst (λ (z : Contents g.row.E.Denot g.row.H.Denot). IsTakenFrom z (spot_of z p) after) view first in
+    taken-unique now after q c.requires taken laws key c.take_in.result there unique
+
+pub remove_at-entry-requires-clause-bucket : goal.remove_at-entry-requires-clause-bucket
+remove_at-entry-requires-clause-bucket g c =
+    let t = c.self.inside in
+    let cur = t.current in
+    let ws = t.waiting.items in
+    let olds = t.draining in
+    let inv = c.self.invariant in
+    let hk = key_hash g.H.BuildHasher g.H.Hasher.Hasher g.E.Key.Hash.hash_input cur in
+    let key = g.E.Keyed.key_of in
+    let laws = g.met.E.Key.Eq.laws in
+    let p = c.args.place in
+    let view = c.self.view_is in
+    let within = subst (λ z. IsPlace z p) (sym view) c.requires in
+    let count = c.bucket_count-count.ensures.count in
+    let far : bucket_count cur ≤ p.bucket = omega (arith, count) in
+    rw count (old-is laws key hk cur ws olds t.skipped t.pending t.next t.held t.held_overflow inv p within far).0
+
+pub remove_at-entry-requires-clause-place : goal.remove_at-entry-requires-clause-place
+remove_at-entry-requires-clause-place g c =
+    let t = c.self.inside in
+    let cur = t.current in
+    let ws = t.waiting.items in
+    let olds = t.draining in
+    let inv = c.self.invariant in
+    let hk = key_hash g.H.BuildHasher g.H.Hasher.Hasher g.E.Key.Hash.hash_input cur in
+    let key = g.E.Keyed.key_of in
+    let laws = g.met.E.Key.Eq.laws in
+    let p = c.args.place in
+    let view = c.self.view_is in
+    let within = subst (λ z. IsPlace z p) (sym view) c.requires in
+    let count = c.bucket_count-count.ensures.count in
+    let far : bucket_count cur ≤ p.bucket = omega (arith, count) in
+    rw count (old-is laws key hk cur ws olds t.skipped t.pending t.next t.held t.held_overflow inv p within far).1
+
+pub overflow_sub-self : goal.overflow_sub-self
+overflow_sub-self g c =
+    let t = c.self.inside in
+    let cur = t.current in
+    let ws = t.waiting.items in
+    let olds = t.draining in
+    let inv = c.self.invariant in
+    let hk = key_hash g.H.BuildHasher g.H.Hasher.Hasher g.E.Key.Hash.hash_input cur in
+    let key = g.E.Keyed.key_of in
+    let laws = g.met.E.Key.Eq.laws in
+    let p = c.args.place in
+    let view = c.self.view_is in
+    let within = subst (λ z. IsPlace z p) (sym view) c.requires in
+    let count = c.bucket_count-count.ensures.count in
+    let far : bucket_count cur ≤ p.bucket = omega (arith, count) in
+    let got = subst (λ n. slice_get (shelf_entries (shelf_of olds (p.bucket - n))) p.slot ≡ Some c.remove_at-entry.result) count c.remove_at-entry.ensures.entry in
+    old-some laws key hk cur ws olds t.skipped t.pending t.next t.held t.held_overflow inv p within far c.remove_at-entry.result got
+
+pub invariant_of-self-2 : goal.invariant_of-self-2
+invariant_of-self-2 g c =
+    let t = c.self.inside in
+    let cur = t.current in
+    let ws = t.waiting.items in
+    let olds = t.draining in
+    let inv = c.self.invariant in
+    let hk = key_hash g.H.BuildHasher g.H.Hasher.Hasher g.E.Key.Hash.hash_input cur in
+    let key = g.E.Keyed.key_of in
+    let laws = g.met.E.Key.Eq.laws in
+    let p = c.args.place in
+    let view = c.self.view_is in
+    let within = subst (λ z. IsPlace z p) (sym view) c.requires in
+    let count = c.bucket_count-count.ensures.count in
+    let far : bucket_count cur ≤ p.bucket = omega (arith, count) in
+    let got = subst (λ n. slice_get (shelf_entries (shelf_of olds (p.bucket - n))) p.slot ≡ Some c.remove_at-entry.result) count c.remove_at-entry.ensures.entry in
+    let new = c.remove_at-entry.ensures.others ∙ ap (λ n. let r : List (Shelf g.row.E.Denot) = set olds (p.bucket - n) (without_place (shelf_of olds (p.bucket - n)) p.slot) in r) count in
+    subst (λ ns. IsTable g.E.Key.PartialEq.eq key hk cur ws ns t.skipped t.pending t.next (t.held - 1) t.held_overflow) (sym new) (old-less laws key hk cur ws olds t.skipped t.pending t.next t.held t.held_overflow inv p within far c.remove_at-entry.result got)
+
+pub returns-clause-entry : goal.returns-clause-entry
+returns-clause-entry g c =
+    let t = c.self.inside in
+    let cur = t.current in
+    let ws = t.waiting.items in
+    let olds = t.draining in
+    let inv = c.self.invariant in
+    let hk = key_hash g.H.BuildHasher g.H.Hasher.Hasher g.E.Key.Hash.hash_input cur in
+    let key = g.E.Keyed.key_of in
+    let laws = g.met.E.Key.Eq.laws in
+    let p = c.args.place in
+    let view = c.self.view_is in
+    let within = subst (λ z. IsPlace z p) (sym view) c.requires in
+    let count = c.bucket_count-count.ensures.count in
+    let far : bucket_count cur ≤ p.bucket = omega (arith, count) in
+    let got = subst (λ n. slice_get (shelf_entries (shelf_of olds (p.bucket - n))) p.slot ≡ Some c.remove_at-entry.result) count c.remove_at-entry.ensures.entry in
+    let there = subst (λ (z : Contents g.row.E.Denot g.row.H.Denot). slice_get (entries z) (index_of z p) ≡ Some c.remove_at-entry.result) view (old-got laws key hk cur ws olds t.skipped t.pending t.next t.held t.held_overflow inv p within far c.remove_at-entry.result got) in
+    there
+
+pub returns-clause-held : goal.returns-clause-held
+returns-clause-held g c =
+    let t = c.self.inside in
+    let cur = t.current in
+    let ws = t.waiting.items in
+    let olds = t.draining in
+    let inv = c.self.invariant in
+    let hk = key_hash g.H.BuildHasher g.H.Hasher.Hasher g.E.Key.Hash.hash_input cur in
+    let key = g.E.Keyed.key_of in
+    let laws = g.met.E.Key.Eq.laws in
+    let p = c.args.place in
+    let view = c.self.view_is in
+    let within = subst (λ z. IsPlace z p) (sym view) c.requires in
+    let count = c.bucket_count-count.ensures.count in
+    let far : bucket_count cur ≤ p.bucket = omega (arith, count) in
+    let got = subst (λ n. slice_get (shelf_entries (shelf_of olds (p.bucket - n))) p.slot ≡ Some c.remove_at-entry.result) count c.remove_at-entry.ensures.entry in
+    let new = c.remove_at-entry.ensures.others ∙ ap (λ n. let r : List (Shelf g.row.E.Denot) = set olds (p.bucket - n) (without_place (shelf_of olds (p.bucket - n)) p.slot) in r) count in
+    ap (λ ns. held_of (together (λ e. hk (key e)) cur ws ns)) new ∙ old-held_taken laws key hk cur ws olds t.skipped t.pending t.next t.held t.held_overflow inv p within far c.remove_at-entry.result got ∙ ap (λ (z : Contents g.row.E.Denot g.row.H.Denot). held_taken (bucket_count z) (held_of z) p) view
+
+pub returns-clause-others : goal.returns-clause-others
+returns-clause-others g c =
+    let t = c.self.inside in
+    let cur = t.current in
+    let ws = t.waiting.items in
+    let olds = t.draining in
+    let inv = c.self.invariant in
+    let hk = key_hash g.H.BuildHasher g.H.Hasher.Hasher g.E.Key.Hash.hash_input cur in
+    let key = g.E.Keyed.key_of in
+    let laws = g.met.E.Key.Eq.laws in
+    let p = c.args.place in
+    let view = c.self.view_is in
+    let within = subst (λ z. IsPlace z p) (sym view) c.requires in
+    let count = c.bucket_count-count.ensures.count in
+    let far : bucket_count cur ≤ p.bucket = omega (arith, count) in
+    let now = c.args.self.now in
+    let q = spot_of now p in
+    let got = subst (λ n. slice_get (shelf_entries (shelf_of olds (p.bucket - n))) p.slot ≡ Some c.remove_at-entry.result) count c.remove_at-entry.ensures.entry in
+    let news = c.remove_at-entry.new.self in
+    let new = c.remove_at-entry.ensures.others ∙ ap (λ n. let r : List (Shelf g.row.E.Denot) = set olds (p.bucket - n) (without_place (shelf_of olds (p.bucket - n)) p.slot) in r) count in
+    let after = together (λ e. hk (key e)) cur ws news in
+    let first = subst (λ ns. IsTakenFrom (together (λ e. hk (key e)) cur ws olds) (spot_of (together (λ e. hk (key e)) cur ws olds) p) (together (λ e. hk (key e)) cur ws ns)) (sym new) (old-taken_at laws key hk cur ws olds t.skipped t.pending t.next t.held t.held_overflow inv p within far c.remove_at-entry.result got) in
+    let less = subst (λ (z : Contents g.row.E.Denot g.row.H.Denot). IsTakenFrom z (spot_of z p) after) view first in
+    let taken = less in
+    taken-exactly now after q c.requires taken
+
+pub returns-clause-noted : goal.returns-clause-noted
+returns-clause-noted g c =
+    let t = c.self.inside in
+    let cur = t.current in
+    let ws = t.waiting.items in
+    let olds = t.draining in
+    let inv = c.self.invariant in
+    let hk = key_hash g.H.BuildHasher g.H.Hasher.Hasher g.E.Key.Hash.hash_input cur in
+    let key = g.E.Keyed.key_of in
+    let laws = g.met.E.Key.Eq.laws in
+    let p = c.args.place in
+    let view = c.self.view_is in
+    let within = subst (λ z. IsPlace z p) (sym view) c.requires in
+    let count = c.bucket_count-count.ensures.count in
+    let far : bucket_count cur ≤ p.bucket = omega (arith, count) in
+    let got = subst (λ n. slice_get (shelf_entries (shelf_of olds (p.bucket - n))) p.slot ≡ Some c.remove_at-entry.result) count c.remove_at-entry.ensures.entry in
+    let news = c.remove_at-entry.new.self in
+    let new = c.remove_at-entry.ensures.others ∙ ap (λ n. let r : List (Shelf g.row.E.Denot) = set olds (p.bucket - n) (without_place (shelf_of olds (p.bucket - n)) p.slot) in r) count in
+    let after = together (λ e. hk (key e)) cur ws news in
+    let first = subst (λ ns. IsTakenFrom (together (λ e. hk (key e)) cur ws olds) (spot_of (together (λ e. hk (key e)) cur ws olds) p) (together (λ e. hk (key e)) cur ws ns)) (sym new) (old-taken_at laws key hk cur ws olds t.skipped t.pending t.next t.held t.held_overflow inv p within far c.remove_at-entry.result got) in
+    let less = subst (λ (z : Contents g.row.E.Denot g.row.H.Denot). IsTakenFrom z (spot_of z p) after) view first in
+    let taken = less in
+    taken.refused
+
+pub returns-clause-waiting : goal.returns-clause-waiting
+returns-clause-waiting g c =
+    let t = c.self.inside in
+    let cur = t.current in
+    let ws = t.waiting.items in
+    let olds = t.draining in
+    let hk = key_hash g.H.BuildHasher g.H.Hasher.Hasher g.E.Key.Hash.hash_input cur in
+    let key = g.E.Keyed.key_of in
+    let view = c.self.view_is in
+    let old_waiting = ap waiting_of (sym view) ∙ waiting-together (λ e. hk (key e)) cur ws olds in
+    let news = c.remove_at-entry.new.self in
+    waiting-together (λ e. hk (key e)) cur ws news ∙ sym old_waiting
+
+pub returns-clause-listed : goal.returns-clause-listed
+returns-clause-listed g c =
+    let t = c.self.inside in
+    let cur = t.current in
+    let ws = t.waiting.items in
+    let olds = t.draining in
+    let inv = c.self.invariant in
+    let hk = key_hash g.H.BuildHasher g.H.Hasher.Hasher g.E.Key.Hash.hash_input cur in
+    let key = g.E.Keyed.key_of in
+    let laws = g.met.E.Key.Eq.laws in
+    let p = c.args.place in
+    let view = c.self.view_is in
+    let within = subst (λ z. IsPlace z p) (sym view) c.requires in
+    let count = c.bucket_count-count.ensures.count in
+    let far : bucket_count cur ≤ p.bucket = omega (arith, count) in
+    let now = c.args.self.now in
+    let q = spot_of now p in
+    let got = subst (λ n. slice_get (shelf_entries (shelf_of olds (p.bucket - n))) p.slot ≡ Some c.remove_at-entry.result) count c.remove_at-entry.ensures.entry in
+    let there = subst (λ (z : Contents g.row.E.Denot g.row.H.Denot). slice_get (entries z) (index_of z p) ≡ Some c.remove_at-entry.result) view (old-got laws key hk cur ws olds t.skipped t.pending t.next t.held t.held_overflow inv p within far c.remove_at-entry.result got) in
+    let news = c.remove_at-entry.new.self in
+    let after = together (λ e. hk (key e)) cur ws news in
+    got-there now after q c.requires c.remove_at-entry.result there
+
+pub returns-clause-gone : goal.returns-clause-gone
+returns-clause-gone g c =
+    let t = c.self.inside in
+    let cur = t.current in
+    let ws = t.waiting.items in
+    let olds = t.draining in
+    let inv = c.self.invariant in
+    let hk = key_hash g.H.BuildHasher g.H.Hasher.Hasher g.E.Key.Hash.hash_input cur in
+    let key = g.E.Keyed.key_of in
+    let laws = g.met.E.Key.Eq.laws in
+    let p = c.args.place in
+    let view = c.self.view_is in
+    let within = subst (λ z. IsPlace z p) (sym view) c.requires in
+    let count = c.bucket_count-count.ensures.count in
+    let far : bucket_count cur ≤ p.bucket = omega (arith, count) in
+    let now = c.args.self.now in
+    let q = spot_of now p in
+    let unique = subst (λ (z : Contents g.row.E.Denot g.row.H.Denot). IsDistinct g.E.Key.PartialEq.eq (map key (entries z))) view inv.unique in
+    let got = subst (λ n. slice_get (shelf_entries (shelf_of olds (p.bucket - n))) p.slot ≡ Some c.remove_at-entry.result) count c.remove_at-entry.ensures.entry in
+    let there = subst (λ (z : Contents g.row.E.Denot g.row.H.Denot). slice_get (entries z) (index_of z p) ≡ Some c.remove_at-entry.result) view (old-got laws key hk cur ws olds t.skipped t.pending t.next t.held t.held_overflow inv p within far c.remove_at-entry.result got) in
+    let news = c.remove_at-entry.new.self in
+    let new = c.remove_at-entry.ensures.others ∙ ap (λ n. let r : List (Shelf g.row.E.Denot) = set olds (p.bucket - n) (without_place (shelf_of olds (p.bucket - n)) p.slot) in r) count in
+    let after = together (λ e. hk (key e)) cur ws news in
+    let first = subst (λ ns. IsTakenFrom (together (λ e. hk (key e)) cur ws olds) (spot_of (together (λ e. hk (key e)) cur ws olds) p) (together (λ e. hk (key e)) cur ws ns)) (sym new) (old-taken_at laws key hk cur ws olds t.skipped t.pending t.next t.held t.held_overflow inv p within far c.remove_at-entry.result got) in
+    let less = subst (λ (z : Contents g.row.E.Denot g.row.H.Denot). IsTakenFrom z (spot_of z p) after) view first in
+    let taken = less in
+    taken-gone now after q c.requires taken laws key c.remove_at-entry.result there unique
+
+pub returns-clause-short : goal.returns-clause-short
+returns-clause-short g c =
+    let t = c.self.inside in
+    let cur = t.current in
+    let ws = t.waiting.items in
+    let olds = t.draining in
+    let inv = c.self.invariant in
+    let hk = key_hash g.H.BuildHasher g.H.Hasher.Hasher g.E.Key.Hash.hash_input cur in
+    let key = g.E.Keyed.key_of in
+    let laws = g.met.E.Key.Eq.laws in
+    let p = c.args.place in
+    let view = c.self.view_is in
+    let within = subst (λ z. IsPlace z p) (sym view) c.requires in
+    let count = c.bucket_count-count.ensures.count in
+    let far : bucket_count cur ≤ p.bucket = omega (arith, count) in
+    let now = c.args.self.now in
+    let q = spot_of now p in
+    let got = subst (λ n. slice_get (shelf_entries (shelf_of olds (p.bucket - n))) p.slot ≡ Some c.remove_at-entry.result) count c.remove_at-entry.ensures.entry in
+    let news = c.remove_at-entry.new.self in
+    let new = c.remove_at-entry.ensures.others ∙ ap (λ n. let r : List (Shelf g.row.E.Denot) = set olds (p.bucket - n) (without_place (shelf_of olds (p.bucket - n)) p.slot) in r) count in
+    let after = together (λ e. hk (key e)) cur ws news in
+    let first = subst (λ ns. IsTakenFrom (together (λ e. hk (key e)) cur ws olds) (spot_of (together (λ e. hk (key e)) cur ws olds) p) (together (λ e. hk (key e)) cur ws ns)) (sym new) (old-taken_at laws key hk cur ws olds t.skipped t.pending t.next t.held t.held_overflow inv p within far c.remove_at-entry.result got) in
+    let less = subst (λ (z : Contents g.row.E.Denot g.row.H.Denot). IsTakenFrom z (spot_of z p) after) view first in
+    let taken = less in
+    taken-short now after q c.requires taken
+
+pub returns-clause-lists : goal.returns-clause-lists
+returns-clause-lists g c =
+    let t = c.self.inside in
+    let cur = t.current in
+    let ws = t.waiting.items in
+    let olds = t.draining in
+    let inv = c.self.invariant in
+    let hk = key_hash g.H.BuildHasher g.H.Hasher.Hasher g.E.Key.Hash.hash_input cur in
+    let key = g.E.Keyed.key_of in
+    let laws = g.met.E.Key.Eq.laws in
+    let p = c.args.place in
+    let view = c.self.view_is in
+    let within = subst (λ z. IsPlace z p) (sym view) c.requires in
+    let count = c.bucket_count-count.ensures.count in
+    let far : bucket_count cur ≤ p.bucket = omega (arith, count) in
+    let now = c.args.self.now in
+    let q = spot_of now p in
+    let got = subst (λ n. slice_get (shelf_entries (shelf_of olds (p.bucket - n))) p.slot ≡ Some c.remove_at-entry.result) count c.remove_at-entry.ensures.entry in
+    let news = c.remove_at-entry.new.self in
+    let new = c.remove_at-entry.ensures.others ∙ ap (λ n. let r : List (Shelf g.row.E.Denot) = set olds (p.bucket - n) (without_place (shelf_of olds (p.bucket - n)) p.slot) in r) count in
+    let after = together (λ e. hk (key e)) cur ws news in
+    let first = subst (λ ns. IsTakenFrom (together (λ e. hk (key e)) cur ws olds) (spot_of (together (λ e. hk (key e)) cur ws olds) p) (together (λ e. hk (key e)) cur ws ns)) (sym new) (old-taken_at laws key hk cur ws olds t.skipped t.pending t.next t.held t.held_overflow inv p within far c.remove_at-entry.result got) in
+    let less = subst (λ (z : Contents g.row.E.Denot g.row.H.Denot). IsTakenFrom z (spot_of z p) after) view first in
+    let taken = less in
+    taken-listed now after q c.requires taken
+
+pub returns-clause-exact : goal.returns-clause-exact
+returns-clause-exact g c =
+    let t = c.self.inside in
+    let cur = t.current in
+    let ws = t.waiting.items in
+    let olds = t.draining in
+    let inv = c.self.invariant in
+    let hk = key_hash g.H.BuildHasher g.H.Hasher.Hasher g.E.Key.Hash.hash_input cur in
+    let key = g.E.Keyed.key_of in
+    let laws = g.met.E.Key.Eq.laws in
+    let p = c.args.place in
+    let view = c.self.view_is in
+    let within = subst (λ z. IsPlace z p) (sym view) c.requires in
+    let count = c.bucket_count-count.ensures.count in
+    let far : bucket_count cur ≤ p.bucket = omega (arith, count) in
+    let got = subst (λ n. slice_get (shelf_entries (shelf_of olds (p.bucket - n))) p.slot ≡ Some c.remove_at-entry.result) count c.remove_at-entry.ensures.entry in
+    let news = c.remove_at-entry.new.self in
+    let new = c.remove_at-entry.ensures.others ∙ ap (λ n. let r : List (Shelf g.row.E.Denot) = set olds (p.bucket - n) (without_place (shelf_of olds (p.bucket - n)) p.slot) in r) count in
+    let after = together (λ e. hk (key e)) cur ws news in
+    let first = subst (λ ns. IsTakenFrom (together (λ e. hk (key e)) cur ws olds) (spot_of (together (λ e. hk (key e)) cur ws olds) p) (together (λ e. hk (key e)) cur ws ns)) (sym new) (old-taken_at laws key hk cur ws olds t.skipped t.pending t.next t.held t.held_overflow inv p within far c.remove_at-entry.result got) in
+    let less = subst (λ (z : Contents g.row.E.Denot g.row.H.Denot). IsTakenFrom z (spot_of z p) after) view first in
+    let taken = less in
+    taken
+
+pub returns-clause-unique : goal.returns-clause-unique
+returns-clause-unique g c =
+    let t = c.self.inside in
+    let cur = t.current in
+    let ws = t.waiting.items in
+    let olds = t.draining in
+    let inv = c.self.invariant in
+    let hk = key_hash g.H.BuildHasher g.H.Hasher.Hasher g.E.Key.Hash.hash_input cur in
+    let key = g.E.Keyed.key_of in
+    let laws = g.met.E.Key.Eq.laws in
+    let p = c.args.place in
+    let view = c.self.view_is in
+    let within = subst (λ z. IsPlace z p) (sym view) c.requires in
+    let count = c.bucket_count-count.ensures.count in
+    let far : bucket_count cur ≤ p.bucket = omega (arith, count) in
+    let now = c.args.self.now in
+    let q = spot_of now p in
+    let unique = subst (λ (z : Contents g.row.E.Denot g.row.H.Denot). IsDistinct g.E.Key.PartialEq.eq (map key (entries z))) view inv.unique in
+    let got = subst (λ n. slice_get (shelf_entries (shelf_of olds (p.bucket - n))) p.slot ≡ Some c.remove_at-entry.result) count c.remove_at-entry.ensures.entry in
+    let there = subst (λ (z : Contents g.row.E.Denot g.row.H.Denot). slice_get (entries z) (index_of z p) ≡ Some c.remove_at-entry.result) view (old-got laws key hk cur ws olds t.skipped t.pending t.next t.held t.held_overflow inv p within far c.remove_at-entry.result got) in
+    let news = c.remove_at-entry.new.self in
+    let new = c.remove_at-entry.ensures.others ∙ ap (λ n. let r : List (Shelf g.row.E.Denot) = set olds (p.bucket - n) (without_place (shelf_of olds (p.bucket - n)) p.slot) in r) count in
+    let after = together (λ e. hk (key e)) cur ws news in
+    let first = subst (λ ns. IsTakenFrom (together (λ e. hk (key e)) cur ws olds) (spot_of (together (λ e. hk (key e)) cur ws olds) p) (together (λ e. hk (key e)) cur ws ns)) (sym new) (old-taken_at laws key hk cur ws olds t.skipped t.pending t.next t.held t.held_overflow inv p within far c.remove_at-entry.result got) in
+    let less = subst (λ (z : Contents g.row.E.Denot g.row.H.Denot). IsTakenFrom z (spot_of z p) after) view first in
+    let taken = less in
+    taken-unique now after q c.requires taken laws key c.remove_at-entry.result there unique

@@ -1,0 +1,215 @@
+use Rattle.std.proofs.Common.{◌≡◌, ℕ, ◌∙◌, ◌+◌, ◌-◌, ◌^◌, ◌<◌, ◌≤◌, ◌*◌, ◌⊎◌, inl, inr, [], suc, true, false, length, sym, ap, subst, rules, arith, add-one}
+use Rattle.scc_array.specs.Shelves.{shelf_of}
+use Rattle.scc_array.specs.Shelf.{shelf_entries}
+use Rattle.scc_contents.specs.Contents.{entries, bucket_count, spilled_of, held_of, key_hash, list_of, settings_of, waiting_of}
+use Rattle.scc_buckets.specs.Places as spots
+use Rattle.scc_contents.specs.Routing.{bucket_number}
+use Rattle.scc_buckets.specs.declared.place.Place.{Place}
+use Rattle.scc_buckets.proofs.Standing.{along, index-end, index-skip, length-zero}
+use Rattle.scc_table.specs.Places.{spot_of, StandsAt}
+use Rattle.scc_table.specs.Stepping.{index_on, rank_on}
+use Rattle.scc_table.specs.TwoArrays.{waits_at}
+use Rattle.scc_table.proofs.Nexts.{NextStart, bound-same, old-next, own-next, slot-below, start-old, start-own, spot-on_old, spot-on_own, few-entries, held-count, list-past, next-same, own-stands, rank-end, rank-next, rank-start, sources-more}
+use Rattle.scc_table.proofs.OldSpots.{old-at, old-waits, old-within, old-spot, own-at, own-list, own-spot}
+use Rattle.scc_draining.proofs.FromBuckets.{few-each, within-sources}
+use Rattle.scc_table.proofs.Preparing.{long-flags, multiple-flags, sized-flags}
+use Rattle.scc_table.proofs.RelocatingLemmas.{up-within}
+use Rattle.scc_table.proofs.SearchingLemmas.{not_true}
+use Rattle.scc_table.proofs.Seen.{count-seen, settings-seen, waiting-seen}
+use Rattle.scc_table.proofs.Table.target_of.Goals as goal
+
+pub returns-then-place-count-clause-value : goal.returns-then-place-count-clause-value
+returns-then-place-count-clause-value g c =
+    let t = c.self.inside in
+    let cur = t.current in
+    let ws = t.waiting.items in
+    let olds = t.draining in
+    let inv = c.self.invariant in
+    let now = c.args.self.now in
+    let hk = key_hash g.H.BuildHasher g.H.Hasher.Hasher g.E.Key.Hash.hash_input cur in
+    let hash = λ (e : g.row.E.Denot). hk (g.E.Keyed.key_of e) in
+    let p = c.args.place in
+    let at = own-at hash cur ws olds inv.arrays now c.self.view_is p c.requires (omega (arith, c.bucket_count-count.ensures.count)) in
+    sym (ap (λ d. (spot_of d p).bucket) (sym c.self.view_is) ∙ ap (λ q. q.bucket) (own-spot hash cur ws olds inv.arrays p at.0.bucket at.1))
+
+pub returns-then-place-count-clause-next : goal.returns-then-place-count-clause-next
+returns-then-place-count-clause-next g c =
+    let t = c.self.inside in
+    let cur = t.current in
+    let ws = t.waiting.items in
+    let olds = t.draining in
+    let inv = c.self.invariant in
+    let now = c.args.self.now in
+    let hk = key_hash g.H.BuildHasher g.H.Hasher.Hasher g.E.Key.Hash.hash_input cur in
+    let hash = λ (e : g.row.E.Denot). hk (g.E.Keyed.key_of e) in
+    let p = c.args.place in
+    let at = own-at hash cur ws olds inv.arrays now c.self.view_is p c.requires (omega (arith, c.bucket_count-count.ensures.count)) in
+    let next = subst (λ d. NextStart d p.bucket p) c.self.view_is (own-next hash cur ws olds inv.arrays p at.0 at.1) in
+    next.start
+
+pub returns-then-place-count-clause-index : goal.returns-then-place-count-clause-index
+returns-then-place-count-clause-index g c =
+    let t = c.self.inside in
+    let cur = t.current in
+    let ws = t.waiting.items in
+    let olds = t.draining in
+    let inv = c.self.invariant in
+    let now = c.args.self.now in
+    let hk = key_hash g.H.BuildHasher g.H.Hasher.Hasher g.E.Key.Hash.hash_input cur in
+    let hash = λ (e : g.row.E.Denot). hk (g.E.Keyed.key_of e) in
+    let p = c.args.place in
+    let at = own-at hash cur ws olds inv.arrays now c.self.view_is p c.requires (omega (arith, c.bucket_count-count.ensures.count)) in
+    let next = subst (λ d. NextStart d p.bucket p) c.self.view_is (own-next hash cur ws olds inv.arrays p at.0 at.1) in
+    next.index
+
+pub returns-then-place-count-clause-within : goal.returns-then-place-count-clause-within
+returns-then-place-count-clause-within g c =
+    let t = c.self.inside in
+    let cur = t.current in
+    let ws = t.waiting.items in
+    let olds = t.draining in
+    let inv = c.self.invariant in
+    let now = c.args.self.now in
+    let hk = key_hash g.H.BuildHasher g.H.Hasher.Hasher g.E.Key.Hash.hash_input cur in
+    let hash = λ (e : g.row.E.Denot). hk (g.E.Keyed.key_of e) in
+    let count = count-seen hash cur ws olds now c.self.view_is inv.arrays in
+    let p = c.args.place in
+    let at = own-at hash cur ws olds inv.arrays now c.self.view_is p c.requires (omega (arith, c.bucket_count-count.ensures.count)) in
+    let l : p.bucket < bucket_count cur = at.0.bucket in omega (arith, count)
+
+pub returns-then-place-count-clause-small : goal.returns-then-place-count-clause-small
+returns-then-place-count-clause-small g c =
+    let t = c.self.inside in
+    let cur = t.current in
+    let ws = t.waiting.items in
+    let olds = t.draining in
+    let inv = c.self.invariant in
+    let now = c.args.self.now in
+    let hk = key_hash g.H.BuildHasher g.H.Hasher.Hasher g.E.Key.Hash.hash_input cur in
+    let hash = λ (e : g.row.E.Denot). hk (g.E.Keyed.key_of e) in
+    let p = c.args.place in
+    let at = own-at hash cur ws olds inv.arrays now c.self.view_is p c.requires (omega (arith, c.bucket_count-count.ensures.count)) in
+    let l = slot-below cur p at.0 in
+    omega (arith, c.len.ensures.len, c.len.ensures.most, c.bucket_count-count.ensures.most, c.bucket_count-count.ensures.count, inv.few)
+
+pub entry_at-entry-requires-clause-bucket : goal.entry_at-entry-requires-clause-bucket
+entry_at-entry-requires-clause-bucket g c =
+    let t = c.self.inside in
+    let cur = t.current in
+    let ws = t.waiting.items in
+    let olds = t.draining in
+    let inv = c.self.invariant in
+    let now = c.args.self.now in
+    let hk = key_hash g.H.BuildHasher g.H.Hasher.Hasher g.E.Key.Hash.hash_input cur in
+    let hash = λ (e : g.row.E.Denot). hk (g.E.Keyed.key_of e) in
+    let p = c.args.place in
+    let at = old-at hash cur ws olds inv.arrays now c.self.view_is p c.requires c.bucket_count-count.result c.bucket_count-count.ensures.count c.if-place-count.false in
+    at.1
+
+pub entry_at-entry-requires-clause-place : goal.entry_at-entry-requires-clause-place
+entry_at-entry-requires-clause-place g c =
+    let t = c.self.inside in
+    let cur = t.current in
+    let ws = t.waiting.items in
+    let olds = t.draining in
+    let inv = c.self.invariant in
+    let now = c.args.self.now in
+    let hk = key_hash g.H.BuildHasher g.H.Hasher.Hasher g.E.Key.Hash.hash_input cur in
+    let hash = λ (e : g.row.E.Denot). hk (g.E.Keyed.key_of e) in
+    let p = c.args.place in
+    let at = old-at hash cur ws olds inv.arrays now c.self.view_is p c.requires c.bucket_count-count.result c.bucket_count-count.ensures.count c.if-place-count.false in
+    at.2
+
+pub returns-clause-value : goal.returns-clause-value
+returns-clause-value g c =
+    let t = c.self.inside in
+    let cur = t.current in
+    let ws = t.waiting.items in
+    let olds = t.draining in
+    let inv = c.self.invariant in
+    let now = c.args.self.now in
+    let hk = key_hash g.H.BuildHasher g.H.Hasher.Hasher g.E.Key.Hash.hash_input cur in
+    let hash = λ (e : g.row.E.Denot). hk (g.E.Keyed.key_of e) in
+    let p = c.args.place in
+    let at = old-at hash cur ws olds inv.arrays now c.self.view_is p c.requires c.bucket_count-count.result c.bucket_count-count.ensures.count c.if-place-count.false in
+    let j = p.bucket - c.bucket_count-count.result in
+    let e = c.entry_at-entry.result.now in
+    let hashed = c.hash.ensures ∙ ap (λ k. hk k) c.key.ensures in
+    let number = c.bucket_index.ensures.value ∙ ap (bucket_number t.skipped c.bucket_count-count.result) hashed ∙ ap (λ s. bucket_number s c.bucket_count-count.result (hash e)) inv.skips
+    ∙ ap (λ n. bucket_number (settings_of cur).skipped n (hash e)) c.bucket_count-count.ensures.count in
+    number ∙ sym (ap (λ d. (spot_of d p).bucket) (sym c.self.view_is) ∙ ap (λ q. q.bucket) (old-spot hash cur ws olds inv.arrays j p.slot e at.1 c.entry_at-entry.ensures p at.0 (omega arith)))
+
+pub returns-clause-next : goal.returns-clause-next
+returns-clause-next g c =
+    let t = c.self.inside in
+    let cur = t.current in
+    let ws = t.waiting.items in
+    let olds = t.draining in
+    let inv = c.self.invariant in
+    let now = c.args.self.now in
+    let hk = key_hash g.H.BuildHasher g.H.Hasher.Hasher g.E.Key.Hash.hash_input cur in
+    let hash = λ (e : g.row.E.Denot). hk (g.E.Keyed.key_of e) in
+    let p = c.args.place in
+    let at = old-at hash cur ws olds inv.arrays now c.self.view_is p c.requires c.bucket_count-count.result c.bucket_count-count.ensures.count c.if-place-count.false in
+    let j = p.bucket - c.bucket_count-count.result in
+    let e = c.entry_at-entry.result.now in
+    let hashed = c.hash.ensures ∙ ap (λ k. hk k) c.key.ensures in
+    let number = c.bucket_index.ensures.value ∙ ap (bucket_number t.skipped c.bucket_count-count.result) hashed ∙ ap (λ s. bucket_number s c.bucket_count-count.result (hash e)) inv.skips
+    ∙ ap (λ n. bucket_number (settings_of cur).skipped n (hash e)) c.bucket_count-count.ensures.count in
+    let next = subst (λ m. NextStart now m p) (sym number) (subst (λ d. NextStart d (bucket_number (settings_of cur).skipped (bucket_count cur) (hash e)) p) c.self.view_is (old-next hash cur ws olds inv.arrays p j p.slot e at.1 c.entry_at-entry.ensures at.0 (omega arith))) in
+    next.start
+
+pub returns-clause-index : goal.returns-clause-index
+returns-clause-index g c =
+    let t = c.self.inside in
+    let cur = t.current in
+    let ws = t.waiting.items in
+    let olds = t.draining in
+    let inv = c.self.invariant in
+    let now = c.args.self.now in
+    let hk = key_hash g.H.BuildHasher g.H.Hasher.Hasher g.E.Key.Hash.hash_input cur in
+    let hash = λ (e : g.row.E.Denot). hk (g.E.Keyed.key_of e) in
+    let p = c.args.place in
+    let at = old-at hash cur ws olds inv.arrays now c.self.view_is p c.requires c.bucket_count-count.result c.bucket_count-count.ensures.count c.if-place-count.false in
+    let j = p.bucket - c.bucket_count-count.result in
+    let e = c.entry_at-entry.result.now in
+    let hashed = c.hash.ensures ∙ ap (λ k. hk k) c.key.ensures in
+    let number = c.bucket_index.ensures.value ∙ ap (bucket_number t.skipped c.bucket_count-count.result) hashed ∙ ap (λ s. bucket_number s c.bucket_count-count.result (hash e)) inv.skips
+    ∙ ap (λ n. bucket_number (settings_of cur).skipped n (hash e)) c.bucket_count-count.ensures.count in
+    let next = subst (λ m. NextStart now m p) (sym number) (subst (λ d. NextStart d (bucket_number (settings_of cur).skipped (bucket_count cur) (hash e)) p) c.self.view_is (old-next hash cur ws olds inv.arrays p j p.slot e at.1 c.entry_at-entry.ensures at.0 (omega arith))) in
+    next.index
+
+pub returns-clause-within : goal.returns-clause-within
+returns-clause-within g c =
+    let t = c.self.inside in
+    let cur = t.current in
+    let ws = t.waiting.items in
+    let olds = t.draining in
+    let inv = c.self.invariant in
+    let now = c.args.self.now in
+    let hk = key_hash g.H.BuildHasher g.H.Hasher.Hasher g.E.Key.Hash.hash_input cur in
+    let hash = λ (e : g.row.E.Denot). hk (g.E.Keyed.key_of e) in
+    let count = count-seen hash cur ws olds now c.self.view_is inv.arrays in
+    let p = c.args.place in
+    let at = old-at hash cur ws olds inv.arrays now c.self.view_is p c.requires c.bucket_count-count.result c.bucket_count-count.ensures.count c.if-place-count.false in
+    let j = p.bucket - c.bucket_count-count.result in
+    let e = c.entry_at-entry.result.now in
+    let hashed = c.hash.ensures ∙ ap (λ k. hk k) c.key.ensures in
+    let number = c.bucket_index.ensures.value ∙ ap (bucket_number t.skipped c.bucket_count-count.result) hashed ∙ ap (λ s. bucket_number s c.bucket_count-count.result (hash e)) inv.skips
+    ∙ ap (λ n. bucket_number (settings_of cur).skipped n (hash e)) c.bucket_count-count.ensures.count in
+    let l = old-within hash cur ws olds inv.arrays j p.slot e at.1 c.entry_at-entry.ensures in omega (arith, count, number)
+
+pub returns-clause-small : goal.returns-clause-small
+returns-clause-small g c =
+    let t = c.self.inside in
+    let cur = t.current in
+    let ws = t.waiting.items in
+    let olds = t.draining in
+    let inv = c.self.invariant in
+    let now = c.args.self.now in
+    let hk = key_hash g.H.BuildHasher g.H.Hasher.Hasher g.E.Key.Hash.hash_input cur in
+    let hash = λ (e : g.row.E.Denot). hk (g.E.Keyed.key_of e) in
+    let p = c.args.place in
+    let at = old-at hash cur ws olds inv.arrays now c.self.view_is p c.requires c.bucket_count-count.result c.bucket_count-count.ensures.count c.if-place-count.false in
+    let l = few-entries hash (settings_of cur).skipped olds t.held_overflow inv.arrays.own inv.overflow_is (omega (arith, inv.few)) (p.bucket - c.bucket_count-count.result) in
+    let m : p.slot < length (shelf_entries (shelf_of olds (p.bucket - c.bucket_count-count.result))) = at.2 in omega arith

@@ -1,0 +1,268 @@
+use Rattle.std.proofs.Common.{◌≡◌, ℕ, ◌+◌, ◌^◌, ◌<◌, ◌∷◌, ◌++◌, Bool, false, Some, None, [], List, length, map, sym, ap, ◌∙◌, subst, arith}
+use Rattle.std.specs.List.{position, remove, slice_get, slice_set, IsDistinct}
+use Rattle.scc_buckets.specs.Bounded.{HasList, IsBounded, IsListed, PutsLast}
+use Rattle.scc_contents.specs.Contents.{Contents, bucket_count, entries, held_of, key_hash, list_of, lists_of, settings_of, spilled_of, waiting_of}
+use Rattle.scc_contents.specs.Hashing.{hash_of}
+use Rattle.scc_contents.specs.Routing.{bucket_number}
+use Rattle.scc_buckets.proofs.FindingLemmas.{HashOf}
+use Rattle.scc_table.specs.TwoArrays.{together, waits_at, IsTable}
+use Rattle.scc_table.proofs.CurrentChanges.{own-fields, own-held, own-list}
+use Rattle.scc_table.proofs.Joining.{settings-together, waiting-together}
+use Rattle.scc_table.proofs.Listing.{absent-list, own-bounded, own-has_list, own-listed, own-puts_last, puts-list, unique-moved, unique-puts}
+use Rattle.scc_table.proofs.SearchingLemmas.{missed-listed, missed-own, not_true}
+use Rattle.scc_table.proofs.Seen.{count-seen, settings-seen, waiting-seen}
+use Rattle.scc_table.proofs.Table.touch.Goals as goal
+
+pub touch-requires-clause-within : goal.touch-requires-clause-within
+touch-requires-clause-within g c =
+    let t = c.self.inside in
+    let cur = t.current in
+    let ws = t.waiting.items in
+    let olds = t.draining in
+    let inv = c.self.invariant in
+    let hk = key_hash g.H.BuildHasher g.H.Hasher.Hasher g.E.Key.Hash.hash_input cur in
+    let key = g.E.Keyed.key_of in
+    let view = c.self.view_is in
+    let now = c.args.self.now in
+    let i = c.args.bucket in
+    let hash = λ (e : g.row.E.Denot). hk (key e) in
+    let count = count-seen hash cur ws olds now view inv.arrays in
+    let within : i < bucket_count cur = let q = c.requires.within in omega (arith, count) in
+    within
+
+pub touch-requires-clause-slot : goal.touch-requires-clause-slot
+touch-requires-clause-slot g c =
+    let t = c.self.inside in
+    let cur = t.current in
+    let ws = t.waiting.items in
+    let olds = t.draining in
+    let hk = key_hash g.H.BuildHasher g.H.Hasher.Hasher g.E.Key.Hash.hash_input cur in
+    let key = g.E.Keyed.key_of in
+    let view = c.self.view_is in
+    let now = c.args.self.now in
+    let i = c.args.bucket in
+    let hash = λ (e : g.row.E.Denot). hk (key e) in
+    let flags = waiting-seen hash cur ws olds now view in
+    let down : waits_at ws i ≡ false = not_true (waits_at ws i) (λ up. c.requires.settled (ap (λ w. waits_at w i) flags ∙ up)) in
+    let here = ap (λ z. list_of z i) (sym view) ∙ own-list hash cur ws olds i down in
+    subst (λ z. c.args.slot < length z) here c.requires.slot
+
+pub touch-requires-clause-routed : goal.touch-requires-clause-routed
+touch-requires-clause-routed g c =
+    let t = c.self.inside in
+    let cur = t.current in
+    let ws = t.waiting.items in
+    let olds = t.draining in
+    let inv = c.self.invariant in
+    let hk = key_hash g.H.BuildHasher g.H.Hasher.Hasher g.E.Key.Hash.hash_input cur in
+    let key = g.E.Keyed.key_of in
+    let view = c.self.view_is in
+    let now = c.args.self.now in
+    let hash = λ (e : g.row.E.Denot). hk (key e) in
+    let set = settings-seen hash cur ws olds now view in
+    let count = count-seen hash cur ws olds now view inv.arrays in
+    let routed = c.requires.routed ∙ ap (λ s. bucket_number s.skipped (bucket_count now) c.args.hash) (sym set) ∙ ap (λ n. bucket_number (settings_of cur).skipped n c.args.hash) (sym count) in
+    routed
+
+pub touch-requires-clause-bounded : goal.touch-requires-clause-bounded
+touch-requires-clause-bounded g c =
+    let t = c.self.inside in
+    let cur = t.current in
+    let ws = t.waiting.items in
+    let olds = t.draining in
+    let hk = key_hash g.H.BuildHasher g.H.Hasher.Hasher g.E.Key.Hash.hash_input cur in
+    let key = g.E.Keyed.key_of in
+    let view = c.self.view_is in
+    let now = c.args.self.now in
+    let i = c.args.bucket in
+    let hash = λ (e : g.row.E.Denot). hk (key e) in
+    let flags = waiting-seen hash cur ws olds now view in
+    let down : waits_at ws i ≡ false = not_true (waits_at ws i) (λ up. c.requires.settled (ap (λ w. waits_at w i) flags ∙ up)) in
+    let u = together hash cur ws olds in
+    let bounded : IsBounded u = subst (λ (z : Contents g.row.E.Denot g.row.H.Denot). IsBounded z) (sym view) c.requires.bounded in
+    own-bounded hash cur cur ws olds i down bounded
+
+pub touch-requires-clause-hashed : goal.touch-requires-clause-hashed
+touch-requires-clause-hashed g c =
+    let t = c.self.inside in
+    let cur = t.current in
+    let ws = t.waiting.items in
+    let olds = t.draining in
+    let hk = key_hash g.H.BuildHasher g.H.Hasher.Hasher g.E.Key.Hash.hash_input cur in
+    let key = g.E.Keyed.key_of in
+    let view = c.self.view_is in
+    let now = c.args.self.now in
+    let i = c.args.bucket in
+    let hash = λ (e : g.row.E.Denot). hk (key e) in
+    let flags = waiting-seen hash cur ws olds now view in
+    let down : waits_at ws i ≡ false = not_true (waits_at ws i) (λ up. c.requires.settled (ap (λ w. waits_at w i) flags ∙ up)) in
+    let set = settings-seen hash cur ws olds now view in
+    let here = ap (λ z. list_of z i) (sym view) ∙ own-list hash cur ws olds i down in
+    λ e got. c.requires.hashed e (ap (λ z. slice_get z c.args.slot) here ∙ got) ∙ ap (λ s. hash_of g.H.BuildHasher g.H.Hasher.Hasher s.hasher (g.E.Key.Hash.hash_input (key e))) (sym set)
+
+pub invariant_of-self : goal.invariant_of-self
+invariant_of-self g c =
+    let t = c.self.inside in
+    let cur = t.current in
+    let ws = t.waiting.items in
+    let olds = t.draining in
+    let inv = c.self.invariant in
+    let hk = key_hash g.H.BuildHasher g.H.Hasher.Hasher g.E.Key.Hash.hash_input cur in
+    let key = g.E.Keyed.key_of in
+    let laws = g.met.E.Key.Eq.laws in
+    let view = c.self.view_is in
+    let now = c.args.self.now in
+    let i = c.args.bucket in
+    let hash = λ (e : g.row.E.Denot). hk (key e) in
+    let flags = waiting-seen hash cur ws olds now view in
+    let down : waits_at ws i ≡ false = not_true (waits_at ws i) (λ up. c.requires.settled (ap (λ w. waits_at w i) flags ∙ up)) in
+    let u = together hash cur ws olds in
+    let bounded : IsBounded u = subst (λ (z : Contents g.row.E.Denot g.row.H.Denot). IsBounded z) (sym view) c.requires.bounded in
+    let d = c.touch.new.self in
+    let x = c.touch.ensures.list in
+    let changed = x.2 in
+    let stay = changed.settings in
+    let same = ap (λ s. let h : g.row.E-Key.Denot → ℕ = λ k. hash_of g.H.BuildHasher g.H.Hasher.Hasher s.hasher (g.E.Key.Hash.hash_input k) in h) stay in
+    let v = together hash d ws olds in
+    let first = own-has_list hash cur d ws olds i down bounded (remove (list_of cur i) c.args.slot ++ x.0 ∷ []) changed in
+    let own = own-list hash cur ws olds i down in
+    let low : spilled_of d ≡ 0 = changed.bounded in
+    let few : spilled_of d + t.held_overflow < 2 ^ 62 = let f = inv.few in omega arith in
+    let inside : i < bucket_count u = let n = ap bucket_count view in let q = c.requires.within in omega arith in
+    subst (λ (h : g.row.E-Key.Denot → ℕ). IsTable g.E.Key.PartialEq.eq key h d ws olds t.skipped t.pending t.next t.held t.held_overflow) (sym same)
+    (own-fields g.E.Key.PartialEq.eq key hk cur d i (remove (list_of cur i) c.args.slot ++ x.0 ∷ []) changed.lists stay ws olds down t.skipped t.pending t.next t.held t.held_overflow inv few
+    (unique-moved laws key u v i inside inv.unique c.args.slot x.0 (ap (λ z. slice_get z c.args.slot) own ∙ x.1) (first.lists ∙ ap (λ z. slice_set (lists_of u) i (remove z c.args.slot ++ x.0 ∷ [])) (sym own))))
+
+pub returns-clause-list : goal.returns-clause-list
+returns-clause-list g c =
+    let t = c.self.inside in
+    let cur = t.current in
+    let ws = t.waiting.items in
+    let olds = t.draining in
+    let hk = key_hash g.H.BuildHasher g.H.Hasher.Hasher g.E.Key.Hash.hash_input cur in
+    let key = g.E.Keyed.key_of in
+    let view = c.self.view_is in
+    let now = c.args.self.now in
+    let i = c.args.bucket in
+    let hash = λ (e : g.row.E.Denot). hk (key e) in
+    let flags = waiting-seen hash cur ws olds now view in
+    let down : waits_at ws i ≡ false = not_true (waits_at ws i) (λ up. c.requires.settled (ap (λ w. waits_at w i) flags ∙ up)) in
+    let u = together hash cur ws olds in
+    let here = ap (λ z. list_of z i) (sym view) ∙ own-list hash cur ws olds i down in
+    let bounded : IsBounded u = subst (λ (z : Contents g.row.E.Denot g.row.H.Denot). IsBounded z) (sym view) c.requires.bounded in
+    let d = c.touch.new.self in
+    let x = c.touch.ensures.list in
+    let changed = x.2 in
+    let stay = changed.settings in
+    let same = ap (λ s. let h : g.row.E-Key.Denot → ℕ = λ k. hash_of g.H.BuildHasher g.H.Hasher.Hasher s.hasher (g.E.Key.Hash.hash_input k) in h) stay in
+    let after = together (λ e. key_hash g.H.BuildHasher g.H.Hasher.Hasher g.E.Key.Hash.hash_input d (key e)) d ws olds in
+    let first = own-has_list hash cur d ws olds i down bounded (remove (list_of cur i) c.args.slot ++ x.0 ∷ []) changed in
+    let moved = subst (λ (h : g.row.E-Key.Denot → ℕ). HasList u i (remove (list_of cur i) c.args.slot ++ x.0 ∷ []) (together (λ e. h (key e)) d ws olds)) (sym same) first in
+    let last = subst (λ (z : Contents g.row.E.Denot g.row.H.Denot). HasList z i (remove (list_of cur i) c.args.slot ++ x.0 ∷ []) after) view moved in
+    let list = subst (λ z. HasList now i (remove z c.args.slot ++ x.0 ∷ []) after) (sym here) last in
+    let got : slice_get (list_of now i) c.args.slot ≡ Some x.0 = ap (λ z. slice_get z c.args.slot) here ∙ x.1 in
+    (x.0, got, list)
+
+pub returns-clause-listed : goal.returns-clause-listed
+returns-clause-listed g c =
+    let t = c.self.inside in
+    let cur = t.current in
+    let ws = t.waiting.items in
+    let olds = t.draining in
+    let inv = c.self.invariant in
+    let hk = key_hash g.H.BuildHasher g.H.Hasher.Hasher g.E.Key.Hash.hash_input cur in
+    let key = g.E.Keyed.key_of in
+    let view = c.self.view_is in
+    let now = c.args.self.now in
+    let i = c.args.bucket in
+    let hash = λ (e : g.row.E.Denot). hk (key e) in
+    let flags = waiting-seen hash cur ws olds now view in
+    let down : waits_at ws i ≡ false = not_true (waits_at ws i) (λ up. c.requires.settled (ap (λ w. waits_at w i) flags ∙ up)) in
+    let set = settings-seen hash cur ws olds now view in
+    let count = count-seen hash cur ws olds now view inv.arrays in
+    let within : i < bucket_count cur = let q = c.requires.within in omega (arith, count) in
+    let u = together hash cur ws olds in
+    let bounded : IsBounded u = subst (λ (z : Contents g.row.E.Denot g.row.H.Denot). IsBounded z) (sym view) c.requires.bounded in
+    let d = c.touch.new.self in
+    let x = c.touch.ensures.list in
+    let changed = x.2 in
+    let stay = changed.settings in
+    let same = ap (λ s. let h : g.row.E-Key.Denot → ℕ = λ k. hash_of g.H.BuildHasher g.H.Hasher.Hasher s.hasher (g.E.Key.Hash.hash_input k) in h) stay in
+    let v = together hash d ws olds in
+    let after = together (λ e. key_hash g.H.BuildHasher g.H.Hasher.Hasher g.E.Key.Hash.hash_input d (key e)) d ws olds in
+    let first = own-has_list hash cur d ws olds i down bounded (remove (list_of cur i) c.args.slot ++ x.0 ∷ []) changed in
+    λ was.
+    let first : IsListed hash u = subst (λ (z : Contents g.row.E.Denot g.row.H.Denot). IsListed hash z) (sym view) (subst (λ s. IsListed (λ (e : g.row.E.Denot). hash_of g.H.BuildHasher g.H.Hasher.Hasher s.hasher (g.E.Key.Hash.hash_input (key e))) now) (sym set) was) in
+    let ours : IsListed hash d = subst (λ s. IsListed (λ (e : g.row.E.Denot). hash_of g.H.BuildHasher g.H.Hasher.Hasher s.hasher (g.E.Key.Hash.hash_input (key e))) d) stay c.touch.ensures.listed in
+    let both : IsListed hash v = own-listed hash cur d ws olds inv.arrays i down within (remove (list_of cur i) c.args.slot ++ x.0 ∷ []) changed first ours in
+    let there = subst (λ (h : g.row.E-Key.Denot → ℕ). IsListed hash (together (λ e. h (key e)) d ws olds)) (sym same) both in
+    subst (λ s. IsListed (λ (e : g.row.E.Denot). hash_of g.H.BuildHasher g.H.Hasher.Hasher s.hasher (g.E.Key.Hash.hash_input (key e))) after) (sym (settings-together (λ e. key_hash g.H.BuildHasher g.H.Hasher.Hasher g.E.Key.Hash.hash_input d (key e)) d ws olds ∙ stay)) there
+
+pub returns-clause-waiting : goal.returns-clause-waiting
+returns-clause-waiting g c =
+    let t = c.self.inside in
+    let cur = t.current in
+    let ws = t.waiting.items in
+    let olds = t.draining in
+    let hk = key_hash g.H.BuildHasher g.H.Hasher.Hasher g.E.Key.Hash.hash_input cur in
+    let key = g.E.Keyed.key_of in
+    let view = c.self.view_is in
+    let now = c.args.self.now in
+    let hash = λ (e : g.row.E.Denot). hk (key e) in
+    let flags = waiting-seen hash cur ws olds now view in
+    let d = c.touch.new.self in
+    waiting-together (λ e. key_hash g.H.BuildHasher g.H.Hasher.Hasher g.E.Key.Hash.hash_input d (key e)) d ws olds ∙ sym flags
+
+pub returns-clause-held : goal.returns-clause-held
+returns-clause-held g c =
+    let t = c.self.inside in
+    let cur = t.current in
+    let ws = t.waiting.items in
+    let olds = t.draining in
+    let hk = key_hash g.H.BuildHasher g.H.Hasher.Hasher g.E.Key.Hash.hash_input cur in
+    let key = g.E.Keyed.key_of in
+    let view = c.self.view_is in
+    let now = c.args.self.now in
+    let i = c.args.bucket in
+    let hash = λ (e : g.row.E.Denot). hk (key e) in
+    let flags = waiting-seen hash cur ws olds now view in
+    let down : waits_at ws i ≡ false = not_true (waits_at ws i) (λ up. c.requires.settled (ap (λ w. waits_at w i) flags ∙ up)) in
+    let d = c.touch.new.self in
+    let x = c.touch.ensures.list in
+    let changed = x.2 in
+    let stay = changed.settings in
+    let same = ap (λ s. let h : g.row.E-Key.Denot → ℕ = λ k. hash_of g.H.BuildHasher g.H.Hasher.Hasher s.hasher (g.E.Key.Hash.hash_input k) in h) stay in
+    ap (λ (h : g.row.E-Key.Denot → ℕ). held_of (together (λ e. h (key e)) d ws olds)) same ∙ own-held cur d i (remove (list_of cur i) c.args.slot ++ x.0 ∷ []) changed.lists stay hash ws olds down ∙ ap held_of view
+
+pub returns-clause-unique : goal.returns-clause-unique
+returns-clause-unique g c =
+    let t = c.self.inside in
+    let cur = t.current in
+    let ws = t.waiting.items in
+    let olds = t.draining in
+    let inv = c.self.invariant in
+    let hk = key_hash g.H.BuildHasher g.H.Hasher.Hasher g.E.Key.Hash.hash_input cur in
+    let key = g.E.Keyed.key_of in
+    let laws = g.met.E.Key.Eq.laws in
+    let view = c.self.view_is in
+    let now = c.args.self.now in
+    let i = c.args.bucket in
+    let hash = λ (e : g.row.E.Denot). hk (key e) in
+    let flags = waiting-seen hash cur ws olds now view in
+    let down : waits_at ws i ≡ false = not_true (waits_at ws i) (λ up. c.requires.settled (ap (λ w. waits_at w i) flags ∙ up)) in
+    let u = together hash cur ws olds in
+    let here = ap (λ z. list_of z i) (sym view) ∙ own-list hash cur ws olds i down in
+    let bounded : IsBounded u = subst (λ (z : Contents g.row.E.Denot g.row.H.Denot). IsBounded z) (sym view) c.requires.bounded in
+    let d = c.touch.new.self in
+    let x = c.touch.ensures.list in
+    let changed = x.2 in
+    let stay = changed.settings in
+    let same = ap (λ s. let h : g.row.E-Key.Denot → ℕ = λ k. hash_of g.H.BuildHasher g.H.Hasher.Hasher s.hasher (g.E.Key.Hash.hash_input k) in h) stay in
+    let after = together (λ e. key_hash g.H.BuildHasher g.H.Hasher.Hasher g.E.Key.Hash.hash_input d (key e)) d ws olds in
+    let first = own-has_list hash cur d ws olds i down bounded (remove (list_of cur i) c.args.slot ++ x.0 ∷ []) changed in
+    let moved = subst (λ (h : g.row.E-Key.Denot → ℕ). HasList u i (remove (list_of cur i) c.args.slot ++ x.0 ∷ []) (together (λ e. h (key e)) d ws olds)) (sym same) first in
+    let last = subst (λ (z : Contents g.row.E.Denot g.row.H.Denot). HasList z i (remove (list_of cur i) c.args.slot ++ x.0 ∷ []) after) view moved in
+    let list = subst (λ z. HasList now i (remove z c.args.slot ++ x.0 ∷ []) after) (sym here) last in
+    let got : slice_get (list_of now i) c.args.slot ≡ Some x.0 = ap (λ z. slice_get z c.args.slot) here ∙ x.1 in
+    let unique = subst (λ (z : Contents g.row.E.Denot g.row.H.Denot). IsDistinct g.E.Key.PartialEq.eq (map key (entries z))) view inv.unique in
+    unique-moved laws key now after i c.requires.within unique c.args.slot x.0 got list.lists

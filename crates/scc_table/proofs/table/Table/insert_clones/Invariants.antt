@@ -1,8 +1,0 @@
-use Rattle.std.proofs.Common.{take}
-use Rattle.scc_array.specs.Shelves.{shelf_of}
-use Rattle.scc_bucket.specs.Shelf.{shelf_entries}
-use Rattle.scc_table.specs.Clones.{AddsClones}
-use Rattle.scc_table.proofs.table.Table.insert_clones.Given as goal
-
-abbrev pub invariant-loop-place : goal.invariant-loop-place
-invariant-loop-place g l = AddsClones g.E.Clone.is_clone (take l.place (shelf_entries (shelf_of l.array l.bucket))) l.fn.self l.self

@@ -1,6 +1,0 @@
-use Rattle.std.specs.List.{IsDistinct}
-use Rattle.scc_table.proofs.table.Table.insert_made_first.Goals as goal
-
-pub returns-in-Err-clause-unique : goal.returns-in-Err-clause-unique
-unfolding IsDistinct
-returns-in-Err-clause-unique g c = rw c.make_array.ensures.still tt

@@ -1,8 +1,0 @@
-use Rattle.scc_table.proofs.Views.{entries-view, settings-view}
-use Rattle.scc_table.proofs.table.Table.minimum.Goals as goal
-
-pub returns-clause-value : goal.returns-clause-value
-returns-clause-value g c = rw (settings-view c.self.inside.buckets _ c.args.self.now c.self.view_is)
-
-pub returns-clause-unique : goal.returns-clause-unique
-returns-clause-unique g c = rw (entries-view c.self.inside.buckets _ c.args.self.now c.self.view_is) c.self.invariant.unique

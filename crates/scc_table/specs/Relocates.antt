@@ -1,0 +1,42 @@
+-- What a call does to the buckets that wait.
+use Rattle.std.specs.Prelude.{◌≡◌, ◌≢◌, ◌==◌, ℕ, ◌+◌, ◌-◌, ◌*◌, ◌<◌, ◌≤◌, List, length, drop, not}
+use Rattle.std.specs.List.{filter}
+use Rattle.scc_contents.specs.Contents.{Contents, entries, bucket_count, list_of, settings_of, waiting_of, held_of, pending_of}
+use Rattle.scc_buckets.specs.Pour.{bound_for}
+use Rattle.scc_contents.specs.Sizes.{IsArraySize, IsSmaller}
+use Rattle.scc_table.specs.TwoArrays.{IsWaiting}
+
+-- the numbers of the buckets that wait, once that bucket, where it waited, and then the first ones took their entries over, two in all
+abbrev pub left_after : ℕ → List ℕ → List ℕ
+left_after i ts = drop (length (filter (λ t. not (t == i)) ts) + 2 - length ts) (filter (λ t. not (t == i)) ts)
+
+module _ {E S : Type 0} where
+  -- the array has fewer slots than the minimum
+  pub record IsGrowthDue (minimum : ℕ) (c : Contents E S) : Type 0 where
+    pub array : 0 < bucket_count c
+    pub fewer : (slots : ℕ) → IsArraySize minimum slots → 32 * bucket_count c < slots
+
+  -- the entries let the array become smaller, down to the minimum
+  pub record IsShrinkDue (minimum : ℕ) (c : Contents E S) : Type 0 where
+    pub buckets : ℕ
+    pub smaller : IsSmaller minimum (length (entries c)) (bucket_count c) buckets
+
+  -- every bucket of another array waits; of the same array none waits that didn't, and where no resize is due the same wait for the same entries
+  pub record Spreads (due : Type 0) (c d : Contents E S) : Type 0 where
+    pub all : bucket_count d ≢ bucket_count c → pending_of d ≡ bucket_count d
+    pub fewer : bucket_count d ≡ bucket_count c → (i : ℕ) → IsWaiting d i → IsWaiting c i
+    pub less : bucket_count d ≡ bucket_count c → pending_of d ≤ pending_of c
+    pub waiting : (due → ⊥) → waiting_of d ≡ waiting_of c
+    pub held : (due → ⊥) → held_of d ≡ held_of c
+
+  -- no bucket that waits holds more than 32 entries
+  pub record AreShort (c : Contents E S) : Type 0 where
+    pub short : (i : ℕ) → IsWaiting c i → length (list_of c i) ≤ 32
+
+  -- no bucket among n would hold more than 32 of the entries
+  pub record AreShortAmong (hash : E → ℕ) (n : ℕ) (c : Contents E S) : Type 0 where
+    pub short : (i : ℕ) → i < n → length (bound_for hash (settings_of c).skipped n i (entries c)) ≤ 32
+
+  -- none but bucket k would
+  pub record AreShortBut (hash : E → ℕ) (n k : ℕ) (c : Contents E S) : Type 0 where
+    pub short : (i : ℕ) → i < n → i ≢ k → length (bound_for hash (settings_of c).skipped n i (entries c)) ≤ 32

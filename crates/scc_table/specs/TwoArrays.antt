@@ -1,0 +1,94 @@
+-- Two arrays beside each other: the entries of an old one wait there until their bucket of the new one takes them over.
+use Rattle.std.specs.Prelude.{◌≡◌, ◌==◌, ℕ, suc, ◌+◌, ◌*◌, ◌^◌, ◌<◌, ◌≤◌, ◌⊎◌, Bool, true, false, cond, List, [], ◌∷◌, length, map, not, count_by, slice_index_or, slice_set}
+use Rattle.std.specs.List.{filter, flat_map, range_with_len, sum_by, IsDistinct}
+use Rattle.scc_array.specs.Shelf.{Shelf, shelf_entries}
+use Rattle.scc_contents.specs.Contents.{Contents, entries, bucket_count, list_of, lists_of, settings_of, refused_of, spilled_of, waiting_of, held_of, pending_of}
+use Rattle.scc_buckets.specs.Pour.{bound_for}
+use Rattle.scc_contents.specs.Routing.{bucket_number}
+use Rattle.scc_contents.specs.Sizes.{IsArray}
+use Rattle.scc_buckets.specs.Tables.{spilled_in}
+use Rattle.scc_draining.specs.Moves.{AreMultiples, AreOwn}
+
+-- whether bucket i waits
+abbrev pub waits_at : List Bool → ℕ → Bool
+waits_at w i = slice_index_or w i false
+
+-- the lists of the buckets from number i on: where a bucket waits, the entries of the old array that belong to it, else its own list
+abbrev pub joined : {E : Type 0} → (E → ℕ) → ℕ → List Bool → List (List E) → List E → List (List E)
+joined target i [] ls es = ls
+joined target i (w ∷ ws) [] es = []
+joined target i (w ∷ ws) (l ∷ ls) es = cond w (filter (λ e. target e == i) es) l ∷ joined target (suc i) ws ls es
+
+-- of each old bucket the buckets that its entries belong to; nothing where none waits
+abbrev pub held_in : {E : Type 0} → (E → ℕ) → List Bool → List (Shelf E) → List (List ℕ)
+held_in target [] olds = []
+held_in target (w ∷ ws) olds = map (λ b. map target (shelf_entries b)) olds
+
+module _ {E S : Type 0} where
+  -- the bucket of the new array that an entry belongs to
+  abbrev pub target_by : (E → ℕ) → Contents E S → E → ℕ
+  target_by hash c e = bucket_number (settings_of c).skipped (bucket_count c) (hash e)
+
+  -- what is seen of both arrays: the new one has the contents c, and the flags tell which of its buckets wait
+  abbrev pub together : (E → ℕ) → Contents E S → List Bool → List (Shelf E) → Contents E S
+  together hash c ws olds = record {
+    lists = joined (target_by hash c) 0 ws (lists_of c) (flat_map shelf_entries olds);
+    settings = settings_of c;
+    refused = refused_of c;
+    spilled = spilled_of c + spilled_in olds;
+    waiting = ws;
+    held = held_in (target_by hash c) ws olds;
+  }
+
+  -- an entry lies in the old array, in the bucket of its hash there, only where its bucket of the new one waits; that one is empty then
+  pub record TwoArrays (hash : E → ℕ) (c : Contents E S) (ws : List Bool) (olds : List (Shelf E)) : Type 0 where
+    pub flags : (ws ≡ []) ⊎ (length ws ≡ bucket_count c)
+    pub multiples : (ws ≡ []) ⊎ AreMultiples (length olds) (bucket_count c)
+    pub sized : (ws ≡ []) ⊎ IsArray (length olds)
+    pub own : AreOwn hash (settings_of c).skipped olds
+    pub settled : (i : ℕ) → waits_at ws i ≡ false → bound_for hash (settings_of c).skipped (bucket_count c) i (flat_map shelf_entries olds) ≡ []
+    pub bare : (i : ℕ) → waits_at ws i ≡ true → list_of c i ≡ []
+
+  -- bucket i waits for its entries to come from the old array
+  abbrev pub IsWaiting : Contents E S → ℕ → Type 0
+  IsWaiting c i = waits_at (waiting_of c) i ≡ true
+
+  -- bucket i is the first that waits
+  pub record IsFirstWaiting (c : Contents E S) (i : ℕ) : Type 0 where
+    pub waits : IsWaiting c i
+    pub below : (j : ℕ) → j < i → waits_at (waiting_of c) j ≡ false
+
+  -- the numbers of the buckets that wait, in rising order
+  abbrev pub pending_targets : Contents E S → List ℕ
+  pending_targets c = filter (waits_at (waiting_of c)) (range_with_len 0 (length (waiting_of c)))
+
+-- the flags once bucket i doesn't wait any more; none where no other does
+abbrev pub settle : List Bool → ℕ → List Bool
+settle ws i = cond (count_by (λ w. w) (slice_set ws i false) == 0) [] (slice_set ws i false)
+
+-- the annotations without bucket i; none where no bucket waits
+abbrev pub held_without : List Bool → ℕ → List (List ℕ) → List (List ℕ)
+held_without [] i hs = []
+held_without (w ∷ ws) i hs = map (λ ts. filter (λ t. not (t == i)) ts) hs
+
+-- the entries of bucket i, which waited, came from the old array, and nothing else changed: no list did
+pub record IsRelocated {E S : Type 0} (i : ℕ) (c d : Contents E S) : Type 0 where
+  pub lists : lists_of d ≡ lists_of c
+  pub settings : settings_of d ≡ settings_of c
+  pub refused : refused_of d ≡ refused_of c
+  pub waiting : waiting_of d ≡ settle (waiting_of c) i
+  pub held : held_of d ≡ held_without (waiting_of d) i (held_of c)
+  pub pending : pending_of c ≡ pending_of d + 1
+
+-- of all fields of a table of two arrays
+pub record IsTable {E K S : Type 0} (eq : K → K → Bool) (key : E → K) (hash : K → ℕ) (c : Contents E S) (ws : List Bool) (olds : List (Shelf E)) (skipped pending next held held_overflow : ℕ) : Type 0 where
+  pub arrays : TwoArrays (λ e. hash (key e)) c ws olds
+  pub skips : skipped ≡ (settings_of c).skipped
+  pub few_bits : skipped ≤ 4
+  pub counted : pending ≡ count_by (λ w. w) ws
+  pub none : pending ≡ 0 → ws ≡ []
+  pub below : (i : ℕ) → i < next → waits_at ws i ≡ false
+  pub held_is : held ≡ sum_by (λ b. length (shelf_entries b)) olds
+  pub overflow_is : spilled_in olds ≤ held_overflow
+  pub few : spilled_of c + held_overflow < 2 ^ 62
+  pub unique : IsDistinct eq (map key (entries (together (λ e. hash (key e)) c ws olds)))

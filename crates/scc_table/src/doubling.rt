@@ -1,0 +1,258 @@
+//! How an entry gets into twice as many buckets.
+ghost use Rattle.std.specs.Prelude.{◌≡◌, ◌≢◌, ◌≤◌, ◌<◌, ◌+◌, ◌*◌, ◌^◌, false, true, None, Some, length, replicate, slice_get, IfOk, IfErr, OnOk, OnErr};
+ghost use Rattle.std.specs.List.{position, range_with_len};
+ghost use Rattle.scc_array.specs.Shelf.{empty_shelf};
+ghost use Rattle.scc_contents.specs.Contents.{entries, bucket_count, key_hash, list_of, pending_of, refused_of, settings_of, waiting_of, IsUniqueBy};
+ghost use Rattle.scc_buckets.specs.Pour.{bound_for};
+ghost use Rattle.scc_contents.specs.Routing.{bucket_number};
+ghost use Rattle.scc_contents.specs.Sizes.{IsArray};
+ghost use Rattle.scc_contents.specs.Steps.{IsUnchanged, Rests};
+ghost use Rattle.scc_table.specs.Places.{IsInsertedAt};
+ghost use Rattle.scc_table.specs.Relocates.{left_after, AreShortAmong, AreShortBut};
+ghost use Rattle.scc_table.specs.TwoArrays.{pending_targets, waits_at};
+
+use super::Table;
+use scc_array::Array;
+use scc_buckets::Place;
+use scc_buckets::route::bucket_index;
+use scc_draining::count_bound;
+use scc_entry::{Keyed, Made};
+use std::hash::{BuildHasher, Hash};
+
+impl<E: Keyed, H: BuildHasher> Table<E, H>
+where
+    E::Key: Eq + Hash,
+{
+    /// Whether the bucket of the hash would hold 32 entries or more among twice as many buckets. That bucket is the one
+    /// of the hash now, and doesn't wait.
+    pub(super) fn is_crowded(&self, bucket: usize, hash: u64) -> bool
+        requires within { bucket < bucket_count self.now }
+        requires routed { bucket ≡ bucket_number (settings_of self.now).skipped (bucket_count self.now) hash }
+        requires settled { waits_at (waiting_of self.now) bucket ≡ false }
+        requires below { 32 * bucket_count self.now < 2 ^ 63 }
+        ensures { result ≡ false → length (bound_for
+            (λ e. key_hash H.BuildHasher H.Hasher.Hasher E.Key.hash_input self.now (E.key_of e))
+            (settings_of self.now).skipped (2 * bucket_count self.now)
+            (bucket_number (settings_of self.now).skipped (2 * bucket_count self.now) hash) (entries self.now)) < 32 }
+    {
+        self.keep_lists();
+        let count = 2 * self.bucket_count();
+        let target = bucket_index(hash, self.skipped, count);
+        let held = self.list_len(bucket);
+        count_bound(&self.current, bucket, held, target, self.skipped, count) >= 32
+    }
+
+    /// Puts twice as many empty buckets in the place of the present ones, and answers where the entry at the place
+    /// stands then, whose hash that is. Its bucket of the new array takes its entries over at once, then the first one
+    /// that waits does, and all others wait. Where memory for that bucket is refused, the buckets stay.
+    fn double_around(&mut self, place: Place, fresh: Array<E>, flags: Vec<bool>, hash: u64) -> Place
+        requires within { place.bucket < bucket_count self.old }
+        requires slot { place.slot < length (list_of self.old place.bucket) }
+        requires hashed { (e : E) → slice_get (list_of self.old place.bucket) place.slot ≡ Some e
+            → hash ≡ key_hash H.BuildHasher H.Hasher.Hasher E.Key.hash_input self.old (E.key_of e) }
+        requires pending { pending_of self.old ≡ 0 }
+        requires below { 32 * bucket_count self.old < 2 ^ 63 }
+        requires empty { fresh ≡ replicate (2 * bucket_count self.old) empty_shelf }
+        requires flags { flags.items ≡ replicate (2 * bucket_count self.old) true }
+        ensures rests { Rests self.old self.new }
+        ensures doubled { bucket_count self.new ≢ bucket_count self.old
+            → bucket_count self.new ≡ 2 * bucket_count self.old }
+        ensures due { (refused_of self.new).0 ≡ false → bucket_count self.new ≢ bucket_count self.old }
+        ensures down { bucket_count self.new ≢ bucket_count self.old → (refused_of self.new).0 ≡ false }
+        ensures unmarked { (refused_of self.new).1 ≡ false }
+        ensures within { result.bucket < bucket_count self.new }
+        ensures here { slice_get (list_of self.new result.bucket) result.slot
+            ≡ slice_get (list_of self.old place.bucket) place.slot }
+        ensures routed { result.bucket ≡ bucket_number (settings_of self.old).skipped (bucket_count self.new) hash }
+        ensures settled { waits_at (waiting_of self.new) result.bucket ≡ false }
+        ensures none { bucket_count self.new ≡ bucket_count self.old → pending_of self.new ≡ 0 }
+        ensures most { bucket_count self.new ≢ bucket_count self.old → bucket_count self.new ≤ pending_of self.new + 2 }
+        ensures spread { bucket_count self.new ≢ bucket_count self.old
+            → AreShortBut (λ e. key_hash H.BuildHasher H.Hasher.Hasher E.Key.hash_input self.old (E.key_of e))
+            (bucket_count self.new) result.bucket self.old
+            → pending_targets self.new ≡ left_after result.bucket (range_with_len 0 (bucket_count self.new)) }
+        ensures unique { IsUniqueBy E.Key.eq E.key_of self.new }
+    {
+        self.keep_lists();
+        let count = 2 * self.bucket_count();
+        let bucket = bucket_index(hash, self.skipped, count);
+        let slot = count_bound(
+            &self.current,
+            place.bucket,
+            place.slot,
+            bucket,
+            self.skipped,
+            count,
+        );
+        match self.start_at(count, fresh, flags, bucket) {
+            Ok(()) => {
+                self.note(false);
+                self.relocate_some(1);
+                self.keep_lists();
+                Place { bucket, slot }
+            }
+            Err(_) => {
+                self.note(true);
+                place
+            }
+        }
+    }
+
+    /// Puts an entry whose key is new into empty buckets that take the place of the present ones, which drain from then
+    /// on, and answers its place. Its bucket takes its own entries over, fewer than 32, and then the first one that
+    /// waits does.
+    fn insert_grown(
+        &mut self,
+        count: usize,
+        fresh: Array<E>,
+        flags: Vec<bool>,
+        hash: u64,
+        entry: E,
+    ) -> Place
+        requires pending { pending_of self.old ≡ 0 }
+        requires array { IsArray count }
+        requires some { 0 < bucket_count self.old }
+        requires more { bucket_count self.old < count }
+        requires empty { fresh ≡ replicate count empty_shelf }
+        requires flags { flags.items ≡ replicate count true }
+        requires room { length (bound_for (λ e. key_hash H.BuildHasher H.Hasher.Hasher E.Key.hash_input self.old
+            (E.key_of e)) (settings_of self.old).skipped count
+            (bucket_number (settings_of self.old).skipped count hash) (entries self.old)) < 32 }
+        requires hashed { hash ≡ key_hash H.BuildHasher H.Hasher.Hasher E.Key.hash_input self.old (E.key_of entry) }
+        requires absent { position (λ e. E.Key.eq (E.key_of entry) (E.key_of e)) (entries self.old) ≡ None }
+        ensures ok { IsInsertedAt self.old entry self.new result }
+        ensures buckets { bucket_count self.new ≡ count }
+        ensures down { (refused_of self.new).0 ≡ false }
+        ensures unmarked { (refused_of self.new).1 ≡ false }
+        ensures most { count ≤ pending_of self.new + 2 }
+        ensures spread { AreShortAmong (λ e. key_hash H.BuildHasher H.Hasher.Hasher E.Key.hash_input self.old
+            (E.key_of e)) count self.old
+            → pending_targets self.new
+            ≡ left_after (bucket_number (settings_of self.old).skipped count hash) (range_with_len 0 count) }
+        ensures settled { waits_at (waiting_of self.new) (bucket_number (settings_of self.old).skipped count hash)
+            ≡ false }
+        ensures unique { IsUniqueBy E.Key.eq E.key_of self.new }
+    {
+        self.begin(count, fresh, flags);
+        self.note(false);
+        self.keep_lists();
+        let bucket = self.bucket_at(hash);
+        match self.insert_at(bucket, hash, entry) {
+            Ok(place) => place,
+            Err(_) => unreachable!(),
+        }
+    }
+}
+
+impl<E: Keyed + Made, H: BuildHasher> Table<E, H>
+where
+    E::Key: Eq + Hash,
+{
+    /// The same with an entry of the parts, which is made first. Where it can't be, the parts are handed back, that the
+    /// growth wasn't made is noted, and nothing else changed.
+    pub(super) fn insert_made_with(
+        &mut self,
+        count: usize,
+        fresh: Array<E>,
+        flags: Vec<bool>,
+        hash: u64,
+        parts: E::Parts,
+    ) -> Result<Place, E::Parts>
+        requires pending { pending_of self.old ≡ 0 }
+        requires array { IsArray count }
+        requires some { 0 < bucket_count self.old }
+        requires more { bucket_count self.old < count }
+        requires empty { fresh ≡ replicate count empty_shelf }
+        requires flags { flags.items ≡ replicate count true }
+        requires room { length (bound_for (λ e. key_hash H.BuildHasher H.Hasher.Hasher E.Key.hash_input self.old
+            (E.key_of e)) (settings_of self.old).skipped count
+            (bucket_number (settings_of self.old).skipped count hash) (entries self.old)) < 32 }
+        requires hashed { hash ≡ key_hash H.BuildHasher H.Hasher.Hasher E.Key.hash_input self.old
+            (E.key_of (E.made_of parts)) }
+        requires absent { position (λ e. E.Key.eq (E.key_of (E.made_of parts)) (E.key_of e)) (entries self.old) ≡ None }
+        ensures ok { IfOk result (IsInsertedAt self.old (E.made_of parts) self.new) }
+        ensures buckets { OnOk result (bucket_count self.new ≡ count) }
+        ensures down { OnOk result ((refused_of self.new).0 ≡ false) }
+        ensures doubled { bucket_count self.new ≢ bucket_count self.old → bucket_count self.new ≡ count }
+        ensures due { (refused_of self.new).0 ≡ false → bucket_count self.new ≡ count }
+        ensures same { bucket_count self.new ≡ bucket_count self.old → waiting_of self.new ≡ waiting_of self.old }
+        ensures grown { bucket_count self.new ≢ bucket_count self.old → count ≤ pending_of self.new + 2 }
+        ensures lowered { (refused_of self.old).0 ≡ true → (refused_of self.new).0 ≡ false
+            → bucket_count self.new ≢ bucket_count self.old }
+        ensures fallen { bucket_count self.new ≢ bucket_count self.old → (refused_of self.new).0 ≡ false }
+        ensures unmarked { (refused_of self.new).1 ≡ false }
+        ensures most { OnOk result (count ≤ pending_of self.new + 2) }
+        ensures spread { OnOk result (AreShortAmong
+            (λ e. key_hash H.BuildHasher H.Hasher.Hasher E.Key.hash_input self.old (E.key_of e)) count self.old
+            → pending_targets self.new
+            ≡ left_after (bucket_number (settings_of self.old).skipped count hash) (range_with_len 0 count)) }
+        ensures settled { OnOk result (waits_at (waiting_of self.new)
+            (bucket_number (settings_of self.old).skipped count hash) ≡ false) }
+        ensures err { IfErr result (λ p. (p ≡ parts) × IsUnchanged self.old self.new) }
+        ensures up { OnErr result ((refused_of self.new).0 ≡ true) }
+        ensures unique { IsUniqueBy E.Key.eq E.key_of self.new }
+    {
+        self.keep_lists();
+        match E::make(self.current.allocator(), parts) {
+            Ok(entry) => Ok(self.insert_grown(count, fresh, flags, hash, entry)),
+            Err(back) => {
+                fresh.destroy_empty();
+                self.note(true);
+                Err(back)
+            }
+        }
+    }
+
+    /// The same into the present buckets, in whose place twice as many empty ones come afterwards: that bucket, the one
+    /// of the hash, has the entry first, and then the one of the hash among the new ones takes it over, where memory
+    /// isn't refused. Where the entry can't be put in, that the growth wasn't made is noted, and nothing else changed.
+    #[cold]
+    pub(super) fn insert_made_crowded(
+        &mut self,
+        bucket: usize,
+        fresh: Array<E>,
+        flags: Vec<bool>,
+        hash: u64,
+        parts: E::Parts,
+    ) -> Result<Place, E::Parts>
+        requires within { bucket < bucket_count self.old }
+        requires routed { bucket ≡ bucket_number (settings_of self.old).skipped (bucket_count self.old) hash }
+        requires hashed { hash ≡ key_hash H.BuildHasher H.Hasher.Hasher E.Key.hash_input self.old
+            (E.key_of (E.made_of parts)) }
+        requires absent { position (λ e. E.Key.eq (E.key_of (E.made_of parts)) (E.key_of e)) (entries self.old) ≡ None }
+        requires pending { pending_of self.old ≡ 0 }
+        requires below { 32 * bucket_count self.old < 2 ^ 63 }
+        requires empty { fresh ≡ replicate (2 * bucket_count self.old) empty_shelf }
+        requires flags { flags.items ≡ replicate (2 * bucket_count self.old) true }
+        ensures ok { IfOk result (IsInsertedAt self.old (E.made_of parts) self.new) }
+        ensures err { IfErr result (λ p. (p ≡ parts) × IsUnchanged self.old self.new) }
+        ensures up { OnErr result ((refused_of self.new).0 ≡ true) }
+        ensures doubled { bucket_count self.new ≢ bucket_count self.old
+            → bucket_count self.new ≡ 2 * bucket_count self.old }
+        ensures due { (refused_of self.new).0 ≡ false → bucket_count self.new ≡ 2 * bucket_count self.old }
+        ensures lowered { (refused_of self.old).0 ≡ true → (refused_of self.new).0 ≡ false
+            → bucket_count self.new ≢ bucket_count self.old }
+        ensures fallen { bucket_count self.new ≢ bucket_count self.old → (refused_of self.new).0 ≡ false }
+        ensures unmarked { (refused_of self.new).1 ≡ false }
+        ensures none { bucket_count self.new ≡ bucket_count self.old → pending_of self.new ≡ 0 }
+        ensures most { bucket_count self.new ≢ bucket_count self.old → bucket_count self.new ≤ pending_of self.new + 2 }
+        ensures spread { OnOk result (bucket_count self.new ≢ bucket_count self.old
+            → AreShortAmong (λ e. key_hash H.BuildHasher H.Hasher.Hasher E.Key.hash_input self.old (E.key_of e))
+            (bucket_count self.new) self.old
+            → pending_targets self.new
+            ≡ left_after (bucket_number (settings_of self.old).skipped (bucket_count self.new) hash)
+            (range_with_len 0 (bucket_count self.new))) }
+        ensures settled { OnOk result (waits_at (waiting_of self.new)
+            (bucket_number (settings_of self.old).skipped (bucket_count self.new) hash) ≡ false) }
+        ensures unique { IsUniqueBy E.Key.eq E.key_of self.new }
+    {
+        match self.put_made_in(bucket, hash, parts) {
+            Ok(place) => Ok(self.double_around(place, fresh, flags, hash)),
+            Err(back) => {
+                fresh.destroy_empty();
+                self.note(true);
+                Err(back)
+            }
+        }
+    }
+}

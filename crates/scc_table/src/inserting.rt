@@ -1,0 +1,285 @@
+//! How new keys get into a table of two arrays.
+ghost use Rattle.std.specs.Prelude.{◌≡◌, ◌≢◌, ◌≤◌, ◌<◌, ◌+◌, ◌-◌, ℕ, false, None, drop, IfOk, IfErr, OnOk, OnErr};
+ghost use Rattle.std.specs.List.{position, range_with_len};
+ghost use Rattle.scc_buckets.specs.Bounded.{IsBounded};
+ghost use Rattle.scc_contents.specs.Contents.{entries, bucket_count, held_of, key_hash, lists_of, pending_of, refused_of, settings_of, waiting_of, HasRoomBy, IsUniqueBy};
+ghost use Rattle.scc_buckets.specs.OneList.{HasSameLists, IsPutIn};
+ghost use Rattle.scc_contents.specs.Routing.{bucket_number};
+ghost use Rattle.scc_contents.specs.Steps.{FirstArrayWhenDue, Grows, GrowsWhenDue, IsReadyFor, IsUnchanged, Rests};
+ghost use Rattle.scc_table.specs.Places.{IsInsertedAt};
+ghost use Rattle.scc_table.specs.Relocates.{left_after, AreShort, AreShortAmong};
+ghost use Rattle.scc_table.specs.TwoArrays.{IsWaiting, pending_targets, waits_at};
+
+use super::Table;
+use scc_buckets::Place;
+use scc_draining::is_overflow_full;
+use scc_entry::Keyed;
+use std::hash::{BuildHasher, Hash};
+
+impl<E: Keyed, H: BuildHasher> Table<E, H>
+where
+    E::Key: Eq + Hash,
+{
+    /// Puts in an entry whose key is new, and answers its place. Its bucket takes its own entries over first where it
+    /// waits, and then the first ones that wait do, two in all. Where no bucket waits, that one holds 32 entries or
+    /// more and the table at least half as many entries as slots, the number of buckets is doubled first, if memory can
+    /// be had: every bucket of the new array waits then. The entry is handed back where there is no array and none can
+    /// be had, where memory for its bucket's entries that waited is refused, or where its bucket is full and the
+    /// overflow list can't grow.
+    #[inline(always)]
+    pub fn insert_new(&mut self, hash: u64, entry: E) -> Result<Place, E>
+        requires hashed { hash ≡ key_hash H.BuildHasher H.Hasher.Hasher E.Key.hash_input self.old (E.key_of entry) }
+        requires absent { position (λ e. E.Key.eq (E.key_of entry) (E.key_of e)) (entries self.old) ≡ None }
+        ensures ok { IfOk result (IsInsertedAt self.old entry self.new) }
+        ensures err { IfErr result (λ e. (e ≡ entry) × Rests self.old self.new) }
+        ensures full { OnErr result (HasRoomBy (key_hash H.BuildHasher H.Hasher.Hasher E.Key.hash_input self.old)
+            E.key_of self.old (E.key_of entry) → ⊥) }
+        ensures growth { Grows self.old self.new }
+        ensures due { GrowsWhenDue (key_hash H.BuildHasher H.Hasher.Hasher E.Key.hash_input self.old) E.key_of
+            self.old (E.key_of entry) self.new }
+        ensures first { OnOk result (FirstArrayWhenDue self.old self.new) }
+        ensures none { OnErr result (bucket_count self.old ≡ 0 → IsUnchanged self.old self.new) }
+        ensures kept { HasRoomBy (key_hash H.BuildHasher H.Hasher.Hasher E.Key.hash_input self.old) E.key_of self.old
+            (E.key_of entry) → bucket_count self.new ≡ bucket_count self.old }
+        ensures once { IsReadyFor (key_hash H.BuildHasher H.Hasher.Hasher E.Key.hash_input self.old) E.key_of self.old
+            (E.key_of entry) → bucket_count self.new ≡ bucket_count self.old }
+        ensures fewer { 0 < bucket_count self.old → bucket_count self.new ≡ bucket_count self.old → (i : ℕ)
+            → IsWaiting self.new i → IsWaiting self.old i }
+        ensures less { 0 < bucket_count self.old → bucket_count self.new ≡ bucket_count self.old
+            → pending_of self.new ≤ pending_of self.old }
+        ensures most { 0 < bucket_count self.old → bucket_count self.new ≡ bucket_count self.old
+            → pending_of self.old ≤ pending_of self.new + 2 }
+        ensures grown { 0 < bucket_count self.old → bucket_count self.new ≢ bucket_count self.old
+            → bucket_count self.new ≤ pending_of self.new + 2 }
+        ensures array { bucket_count self.old ≡ 0 → pending_of self.new ≡ 0 }
+        ensures settled { OnOk result (waits_at (waiting_of self.new)
+            (bucket_number (settings_of self.old).skipped (bucket_count self.new) hash) ≡ false) }
+        ensures exact { OnOk result (0 < bucket_count self.old → bucket_count self.new ≡ bucket_count self.old
+            → AreShort self.old → pending_targets self.new
+            ≡ left_after (bucket_number (settings_of self.old).skipped (bucket_count self.old) hash)
+            (pending_targets self.old)) }
+        ensures spread { OnOk result (0 < bucket_count self.old → bucket_count self.new ≢ bucket_count self.old
+            → AreShortAmong (λ e. key_hash H.BuildHasher H.Hasher.Hasher E.Key.hash_input self.old (E.key_of e))
+            (bucket_count self.new) self.old
+            → pending_targets self.new
+            ≡ left_after (bucket_number (settings_of self.old).skipped (bucket_count self.new) hash)
+            (range_with_len 0 (bucket_count self.new))) }
+        ensures all_but_two { OnOk result (0 < bucket_count self.old → bucket_count self.new ≢ bucket_count self.old
+            → AreShortAmong (λ e. key_hash H.BuildHasher H.Hasher.Hasher E.Key.hash_input self.old (E.key_of e))
+            (bucket_count self.new) self.old → pending_of self.new + 2 ≡ bucket_count self.new) }
+        ensures by_two { OnOk result (0 < bucket_count self.old → bucket_count self.new ≡ bucket_count self.old
+            → AreShort self.old → pending_of self.new ≡ pending_of self.old - 2) }
+        ensures unique { IsUniqueBy E.Key.eq E.key_of self.new }
+    {
+        self.keep_lists();
+        if self.pending == 0 && self.bucket_count() > 0 {
+            let bucket = self.bucket_at(hash);
+            if self.list_len(bucket) < 32 {
+                return self.insert_at(bucket, hash, entry);
+            }
+        }
+        self.insert_making_room(hash, entry)
+    }
+
+    /// The same, with a look whether the array has to be made or to grow.
+    fn insert_making_room(&mut self, hash: u64, entry: E) -> Result<Place, E>
+        requires hashed { hash ≡ key_hash H.BuildHasher H.Hasher.Hasher E.Key.hash_input self.old (E.key_of entry) }
+        requires absent { position (λ e. E.Key.eq (E.key_of entry) (E.key_of e)) (entries self.old) ≡ None }
+        ensures ok { IfOk result (IsInsertedAt self.old entry self.new) }
+        ensures err { IfErr result (λ e. (e ≡ entry) × Rests self.old self.new) }
+        ensures full { OnErr result (HasRoomBy (key_hash H.BuildHasher H.Hasher.Hasher E.Key.hash_input self.old)
+            E.key_of self.old (E.key_of entry) → ⊥) }
+        ensures growth { Grows self.old self.new }
+        ensures due { GrowsWhenDue (key_hash H.BuildHasher H.Hasher.Hasher E.Key.hash_input self.old) E.key_of
+            self.old (E.key_of entry) self.new }
+        ensures first { OnOk result (FirstArrayWhenDue self.old self.new) }
+        ensures none { OnErr result (bucket_count self.old ≡ 0 → IsUnchanged self.old self.new) }
+        ensures kept { HasRoomBy (key_hash H.BuildHasher H.Hasher.Hasher E.Key.hash_input self.old) E.key_of self.old
+            (E.key_of entry) → bucket_count self.new ≡ bucket_count self.old }
+        ensures once { IsReadyFor (key_hash H.BuildHasher H.Hasher.Hasher E.Key.hash_input self.old) E.key_of self.old
+            (E.key_of entry) → bucket_count self.new ≡ bucket_count self.old }
+        ensures fewer { 0 < bucket_count self.old → bucket_count self.new ≡ bucket_count self.old → (i : ℕ)
+            → IsWaiting self.new i → IsWaiting self.old i }
+        ensures less { 0 < bucket_count self.old → bucket_count self.new ≡ bucket_count self.old
+            → pending_of self.new ≤ pending_of self.old }
+        ensures most { 0 < bucket_count self.old → bucket_count self.new ≡ bucket_count self.old
+            → pending_of self.old ≤ pending_of self.new + 2 }
+        ensures grown { 0 < bucket_count self.old → bucket_count self.new ≢ bucket_count self.old
+            → bucket_count self.new ≤ pending_of self.new + 2 }
+        ensures array { bucket_count self.old ≡ 0 → pending_of self.new ≡ 0 }
+        ensures settled { OnOk result (waits_at (waiting_of self.new)
+            (bucket_number (settings_of self.old).skipped (bucket_count self.new) hash) ≡ false) }
+        ensures exact { OnOk result (0 < bucket_count self.old → bucket_count self.new ≡ bucket_count self.old
+            → AreShort self.old → pending_targets self.new
+            ≡ left_after (bucket_number (settings_of self.old).skipped (bucket_count self.old) hash)
+            (pending_targets self.old)) }
+        ensures spread { OnOk result (0 < bucket_count self.old → bucket_count self.new ≢ bucket_count self.old
+            → AreShortAmong (λ e. key_hash H.BuildHasher H.Hasher.Hasher E.Key.hash_input self.old (E.key_of e))
+            (bucket_count self.new) self.old
+            → pending_targets self.new
+            ≡ left_after (bucket_number (settings_of self.old).skipped (bucket_count self.new) hash)
+            (range_with_len 0 (bucket_count self.new))) }
+        ensures all_but_two { OnOk result (0 < bucket_count self.old → bucket_count self.new ≢ bucket_count self.old
+            → AreShortAmong (λ e. key_hash H.BuildHasher H.Hasher.Hasher E.Key.hash_input self.old (E.key_of e))
+            (bucket_count self.new) self.old → pending_of self.new + 2 ≡ bucket_count self.new) }
+        ensures by_two { OnOk result (0 < bucket_count self.old → bucket_count self.new ≡ bucket_count self.old
+            → AreShort self.old → pending_of self.new ≡ pending_of self.old - 2) }
+        ensures unique { IsUniqueBy E.Key.eq E.key_of self.new }
+    {
+        match self.bucket_for_new(hash) {
+            Ok(bucket) => self.insert_at(bucket, hash, entry),
+            Err(_) => Err(entry),
+        }
+    }
+
+    /// Puts in an entry whose key is new, into that bucket, the one of the hash, and answers its place. Where that
+    /// bucket waits, it takes its entries over first, and then the first ones that wait, two in all. The entry is
+    /// handed back where memory for its own bucket is refused.
+    #[inline(always)]
+    pub(super) fn insert_at(&mut self, bucket: usize, hash: u64, entry: E) -> Result<Place, E>
+        requires within { bucket < bucket_count self.old }
+        requires routed { bucket ≡ bucket_number (settings_of self.old).skipped (bucket_count self.old) hash }
+        requires hashed { hash ≡ key_hash H.BuildHasher H.Hasher.Hasher E.Key.hash_input self.old (E.key_of entry) }
+        requires absent { position (λ e. E.Key.eq (E.key_of entry) (E.key_of e)) (entries self.old) ≡ None }
+        ensures ok { IfOk result (IsInsertedAt self.old entry self.new) }
+        ensures err { IfErr result (λ e. (e ≡ entry) × IsUnchanged self.old self.new) }
+        ensures full { OnErr result (HasRoomBy (key_hash H.BuildHasher H.Hasher.Hasher E.Key.hash_input self.old)
+            E.key_of self.old (E.key_of entry) → ⊥) }
+        ensures buckets { bucket_count self.new ≡ bucket_count self.old }
+        ensures refused { refused_of self.new ≡ refused_of self.old }
+        ensures fewer { (i : ℕ) → IsWaiting self.new i → IsWaiting self.old i }
+        ensures less { pending_of self.new ≤ pending_of self.old }
+        ensures most { pending_of self.old ≤ pending_of self.new + 2 }
+        ensures settled { OnOk result (waits_at (waiting_of self.new) bucket ≡ false) }
+        ensures exact { OnOk result (AreShort self.old
+            → pending_targets self.new ≡ left_after bucket (pending_targets self.old)) }
+        ensures unique { IsUniqueBy E.Key.eq E.key_of self.new }
+    {
+        if self.is_waiting(bucket) {
+            return self.insert_waiting(bucket, hash, entry);
+        }
+        self.insert_settled(bucket, hash, entry, 2)
+    }
+
+    /// The same where the bucket waits.
+    #[cold]
+    fn insert_waiting(&mut self, bucket: usize, hash: u64, entry: E) -> Result<Place, E>
+        requires within { bucket < bucket_count self.old }
+        requires routed { bucket ≡ bucket_number (settings_of self.old).skipped (bucket_count self.old) hash }
+        requires hashed { hash ≡ key_hash H.BuildHasher H.Hasher.Hasher E.Key.hash_input self.old (E.key_of entry) }
+        requires absent { position (λ e. E.Key.eq (E.key_of entry) (E.key_of e)) (entries self.old) ≡ None }
+        requires waits { IsWaiting self.old bucket }
+        ensures ok { IfOk result (IsInsertedAt self.old entry self.new) }
+        ensures err { IfErr result (λ e. (e ≡ entry) × IsUnchanged self.old self.new) }
+        ensures full { OnErr result (HasRoomBy (key_hash H.BuildHasher H.Hasher.Hasher E.Key.hash_input self.old)
+            E.key_of self.old (E.key_of entry) → ⊥) }
+        ensures buckets { bucket_count self.new ≡ bucket_count self.old }
+        ensures refused { refused_of self.new ≡ refused_of self.old }
+        ensures fewer { (i : ℕ) → IsWaiting self.new i → IsWaiting self.old i }
+        ensures less { pending_of self.new ≤ pending_of self.old }
+        ensures most { pending_of self.old ≤ pending_of self.new + 2 }
+        ensures settled { OnOk result (waits_at (waiting_of self.new) bucket ≡ false) }
+        ensures exact { OnOk result (AreShort self.old
+            → pending_targets self.new ≡ left_after bucket (pending_targets self.old)) }
+        ensures unique { IsUniqueBy E.Key.eq E.key_of self.new }
+    {
+        self.keep_lists();
+        match self.relocate(bucket) {
+            Ok(()) => self.insert_settled(bucket, hash, entry, 1),
+            Err(_) => Err(entry),
+        }
+    }
+
+    /// The same where the bucket doesn't wait, and so many others take their entries over afterwards.
+    #[inline(always)]
+    fn insert_settled(
+        &mut self,
+        bucket: usize,
+        hash: u64,
+        entry: E,
+        most: usize,
+    ) -> Result<Place, E>
+        requires within { bucket < bucket_count self.old }
+        requires routed { bucket ≡ bucket_number (settings_of self.old).skipped (bucket_count self.old) hash }
+        requires hashed { hash ≡ key_hash H.BuildHasher H.Hasher.Hasher E.Key.hash_input self.old (E.key_of entry) }
+        requires absent { position (λ e. E.Key.eq (E.key_of entry) (E.key_of e)) (entries self.old) ≡ None }
+        requires settled { waits_at (waiting_of self.old) bucket ≡ false }
+        ensures ok { IfOk result (IsInsertedAt self.old entry self.new) }
+        ensures err { IfErr result (λ e. (e ≡ entry) × IsUnchanged self.old self.new) }
+        ensures full { OnErr result (HasRoomBy (key_hash H.BuildHasher H.Hasher.Hasher E.Key.hash_input self.old)
+            E.key_of self.old (E.key_of entry) → ⊥) }
+        ensures buckets { bucket_count self.new ≡ bucket_count self.old }
+        ensures refused { refused_of self.new ≡ refused_of self.old }
+        ensures fewer { (i : ℕ) → IsWaiting self.new i → IsWaiting self.old i }
+        ensures less { pending_of self.new ≤ pending_of self.old }
+        ensures most { pending_of self.old ≤ pending_of self.new + most }
+        ensures settled { OnOk result (waits_at (waiting_of self.new) bucket ≡ false) }
+        ensures exact { OnOk result (AreShort self.old
+            → pending_targets self.new ≡ drop most (pending_targets self.old)) }
+        ensures unique { IsUniqueBy E.Key.eq E.key_of self.new }
+    {
+        match self.put_in(bucket, hash, entry) {
+            Ok(place) => {
+                self.relocate_some(most);
+                self.keep_lists();
+                Ok(place)
+            }
+            Err(back) => Err(back),
+        }
+    }
+
+    /// Puts in an entry whose key is new, into that bucket, the one of the hash, which doesn't wait. The entry is
+    /// handed back where the bucket is full and the overflow list can't grow.
+    #[inline(always)]
+    pub fn put_in(&mut self, bucket: usize, hash: u64, entry: E) -> Result<Place, E>
+        requires within { bucket < bucket_count self.old }
+        requires routed { bucket ≡ bucket_number (settings_of self.old).skipped (bucket_count self.old) hash }
+        requires hashed { hash ≡ key_hash H.BuildHasher H.Hasher.Hasher E.Key.hash_input self.old (E.key_of entry) }
+        requires absent { position (λ e. E.Key.eq (E.key_of entry) (E.key_of e)) (entries self.old) ≡ None }
+        requires settled { waits_at (waiting_of self.old) bucket ≡ false }
+        ensures exact { IfOk result (IsPutIn self.old bucket entry self.new) }
+        ensures err { IfErr result (λ e. e ≡ entry) }
+        ensures stays { OnErr result (HasSameLists self.old self.new) }
+        ensures full { OnErr result (HasRoomBy (key_hash H.BuildHasher H.Hasher.Hasher E.Key.hash_input self.old)
+            E.key_of self.old (E.key_of entry) → ⊥) }
+        ensures waiting { waiting_of self.new ≡ waiting_of self.old }
+        ensures held { held_of self.new ≡ held_of self.old }
+        ensures unique { IsUniqueBy E.Key.eq E.key_of self.new }
+    {
+        self.current.keep_lists();
+        if self.held_overflow > 0 {
+            let listed = self.current.list_len(bucket);
+            let spilled = self.current.overflow_len();
+            if is_overflow_full(listed, spilled, self.held_overflow) {
+                return Err(entry);
+            }
+        }
+        let placed = self.current.insert_in(bucket, hash, entry);
+        let _few = self.current.overflow_len();
+        placed
+    }
+
+    /// Moves the entries of the first buckets that wait to them, of so many buckets. One whose memory is refused counts
+    /// among them.
+    #[inline(always)]
+    pub(super) fn relocate_some(&mut self, most: usize)
+        ensures lists { lists_of self.new ≡ lists_of self.old }
+        ensures settings { settings_of self.new ≡ settings_of self.old }
+        ensures noted { refused_of self.new ≡ refused_of self.old }
+        ensures fewer { (i : ℕ) → IsWaiting self.new i → IsWaiting self.old i }
+        ensures less { pending_of self.new ≤ pending_of self.old }
+        ensures most { pending_of self.old ≤ pending_of self.new + most }
+        ensures exact { AreShort self.old → pending_targets self.new ≡ drop most (pending_targets self.old) }
+        ensures bounded { IsBounded self.old → AreShort self.old → IsBounded self.new }
+    {
+        for _ in 0..most {
+            if self.pending == 0 {
+                return;
+            }
+            match self.relocate_next() {
+                Ok(()) => {}
+                Err(_) => {}
+            }
+        }
+    }
+}

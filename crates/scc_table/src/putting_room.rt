@@ -1,0 +1,89 @@
+//! Room for an entry before it is put into a table whose lists hold at most 32 entries each, and the entry that it
+//! would drive out.
+ghost use Rattle.std.specs.Prelude.{◌≡◌, ◌≢◌, ◌≤◌, ◌<◌, ◌^◌, ◌⊎◌, [], false, true, length, Some, OnOk, OnErr, slice_get};
+ghost use Rattle.scc_buckets.specs.Bounded.{IsListed};
+ghost use Rattle.scc_contents.specs.Contents.{bucket_count, key_hash, list_of, lists_of, pending_of, refused_of, settings_of, waiting_of, IsUniqueBy};
+ghost use Rattle.scc_contents.specs.Routing.{bucket_number};
+ghost use Rattle.scc_table.specs.Bounded.{GrowsBelow, IsReadyBelow};
+
+use super::Table;
+use scc_entry::Keyed;
+use std::alloc::AllocError;
+use std::hash::{BuildHasher, Hash};
+
+impl<E: Keyed, H: BuildHasher> Table<E, H>
+where
+    E::Key: Eq + Hash,
+{
+    /// Makes what a put of a new key of that hash wants, with no entry moved: the first array, or a doubling as
+    /// `bucket_within` makes it. A doubling that is refused is marked, so that the put doesn't try it again. Fails only
+    /// where the first array is refused.
+    pub fn make_room_within(&mut self, hash: u64, most: usize) -> Result<(), AllocError>
+        requires listed { IsListed (λ e. key_hash H.BuildHasher H.Hasher.Hasher E.Key.hash_input self.old
+            (E.key_of e)) self.old }
+        requires most { most ≤ 2 ^ 63 }
+        ensures grows { OnOk result (GrowsBelow (λ e. key_hash H.BuildHasher H.Hasher.Hasher E.Key.hash_input self.old
+            (E.key_of e)) most (bucket_number (settings_of self.old).skipped (bucket_count self.old) hash) self.old
+            self.new) }
+        ensures ready { OnOk result (IsReadyBelow most
+            (bucket_number (settings_of self.new).skipped (bucket_count self.new) hash) self.new) }
+        ensures marked { (refused_of self.new).1 ≡ true
+            → ((refused_of self.old).1 ≡ true) ⊎ ((refused_of self.new).0 ≡ true) }
+        ensures settings { settings_of self.new ≡ settings_of self.old }
+        ensures listed { IsListed (λ e. key_hash H.BuildHasher H.Hasher.Hasher E.Key.hash_input self.new (E.key_of e))
+            self.new }
+        ensures none { OnErr result ((bucket_count self.old ≡ 0) × (self.new ≡ self.old)) }
+        ensures first { bucket_count self.old ≡ 0 → waiting_of self.new ≡ [] }
+        ensures waiting { 0 < bucket_count self.old → bucket_count self.new ≡ bucket_count self.old
+            → waiting_of self.new ≡ waiting_of self.old }
+        ensures all { 0 < bucket_count self.old → bucket_count self.new ≢ bucket_count self.old
+            → pending_of self.new ≡ bucket_count self.new }
+        ensures unique { IsUniqueBy E.Key.eq E.key_of self.new }
+    {
+        self.keep_lists();
+        if self.bucket_count() == 0 {
+            self.make_array()?;
+            return Ok(());
+        }
+        let bucket = self.bucket_at(hash);
+        if self.list_len(bucket) < 32 {
+            return Ok(());
+        }
+        if self.double_within(most) {
+            self.mark(true, true);
+        }
+        Ok(())
+    }
+
+    /// Takes the mark of a refused doubling away, so that the next put tries a doubling that is due.
+    #[inline(always)]
+    pub fn drop_room_within(&mut self)
+        requires { IsListed (λ e. key_hash H.BuildHasher H.Hasher.Hasher E.Key.hash_input self.old (E.key_of e))
+            self.old }
+        ensures lists { lists_of self.new ≡ lists_of self.old }
+        ensures settings { settings_of self.new ≡ settings_of self.old }
+        ensures noted { refused_of self.new ≡ ((refused_of self.old).0, false) }
+        ensures waiting { waiting_of self.new ≡ waiting_of self.old }
+        ensures listed { IsListed (λ e. key_hash H.BuildHasher H.Hasher.Hasher E.Key.hash_input self.new (E.key_of e))
+            self.new }
+        ensures unique { IsUniqueBy E.Key.eq E.key_of self.new }
+    {
+        self.keep_lists();
+        if self.is_tried() {
+            let refused = self.is_resize_refused();
+            self.mark(refused, false);
+        }
+    }
+
+    /// The first entry of a bucket that holds some.
+    pub fn first_entry(&self, bucket: usize) -> &E
+        requires within { bucket < bucket_count self.now }
+        requires some { 0 < length (list_of self.now bucket) }
+        ensures { slice_get (list_of self.now bucket) 0 ≡ Some result.now }
+    {
+        match self.first_in(bucket) {
+            Some(place) => self.entry_at(place),
+            None => unreachable!(),
+        }
+    }
+}

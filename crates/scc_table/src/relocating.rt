@@ -1,0 +1,127 @@
+//! How buckets take their entries over from the old array.
+ghost use Rattle.std.specs.Prelude.{◌≡◌, ◌<◌, ◌≤◌, ℕ, [], length, OnOk, OnErr};
+ghost use Rattle.scc_buckets.specs.Bounded.{IsBounded};
+ghost use Rattle.scc_contents.specs.Contents.{held_of, list_of, lists_of, pending_of, refused_of, settings_of, spilled_of, waiting_of};
+ghost use Rattle.scc_table.specs.Relocates.{AreShort};
+ghost use Rattle.scc_table.specs.TwoArrays.{IsFirstWaiting, IsRelocated, IsWaiting};
+
+use super::Table;
+use scc_array::Array;
+use scc_draining::take;
+use scc_entry::Keyed;
+use std::alloc::AllocError;
+use std::hash::{BuildHasher, Hash};
+
+impl<E: Keyed, H: BuildHasher> Table<E, H>
+where
+    E::Key: Eq + Hash,
+{
+    /// Moves the entries of a bucket that waits to it, in their order. It asks for memory only where more than 32 come;
+    /// where that is refused, nothing changes. The last bucket that waits gives the old array back. Takes time by the
+    /// number of entries in the old buckets that they come from.
+    pub(crate) fn relocate(&mut self, bucket: usize) -> Result<(), AllocError>
+        requires { IsWaiting self.old bucket }
+        ensures ok { OnOk result (IsRelocated bucket self.old self.new) }
+        ensures err { OnErr result (self.new ≡ self.old) }
+        ensures refused { OnErr result (32 < length (list_of self.old bucket)) }
+        ensures bounded { IsBounded self.old → length (list_of self.old bucket) ≤ 32 → IsBounded self.new }
+    {
+        self.take_over(bucket)?;
+        if self.pending == 0 {
+            self.give_back();
+        }
+        Ok(())
+    }
+
+    /// Gives the old array back, in which nothing lies.
+    fn give_back(&mut self)
+        requires { pending_of self.old ≡ 0 }
+        ensures lists { lists_of self.new ≡ lists_of self.old }
+        ensures settings { settings_of self.new ≡ settings_of self.old }
+        ensures noted { refused_of self.new ≡ refused_of self.old }
+        ensures spilled { spilled_of self.new ≡ spilled_of self.old }
+        ensures waiting { waiting_of self.new ≡ waiting_of self.old }
+        ensures held { held_of self.new ≡ held_of self.old }
+        ensures pending { pending_of self.new ≡ pending_of self.old }
+    {
+        let none = Array::none(self.current.allocator());
+        let bare = std::mem::replace(&mut self.draining, none);
+        bare.destroy_empty();
+        self.held_overflow = 0;
+    }
+
+    /// The same as `relocate`, but for the memory of the old array.
+    fn take_over(&mut self, bucket: usize) -> Result<(), AllocError>
+        requires { IsWaiting self.old bucket }
+        ensures ok { OnOk result (IsRelocated bucket self.old self.new) }
+        ensures err { OnErr result (self.new ≡ self.old) }
+        ensures refused { OnErr result (32 < length (list_of self.old bucket)) }
+        ensures bounded { IsBounded self.old → length (list_of self.old bucket) ≤ 32 → IsBounded self.new }
+    {
+        let aside = self.held_overflow;
+        match take(
+            &mut self.current,
+            &mut self.draining,
+            bucket,
+            aside,
+            self.skipped,
+            self.waiting.as_slice(),
+        ) {
+            Ok(moved) => {
+                self.held -= moved;
+                self.pending -= 1;
+                self.waiting[bucket] = false;
+                if self.pending == 0 {
+                    self.waiting.clear();
+                }
+                Ok(())
+            }
+            Err(e) => Err(e),
+        }
+    }
+
+    /// The number of the first bucket that waits.
+    fn first_waiting(&self) -> usize
+        requires { 0 < pending_of self.now }
+        ensures { IsFirstWaiting self.now result }
+    {
+        for bucket in self.next..self.waiting.len() {
+            if self.waiting[bucket] {
+                return bucket;
+            }
+        }
+        unreachable!()
+    }
+
+    /// Moves the entries of the first bucket that waits to it, as `relocate` does. The buckets before it aren't looked
+    /// at again.
+    pub(crate) fn relocate_next(&mut self) -> Result<(), AllocError>
+        requires { 0 < pending_of self.old }
+        ensures ok { OnOk result ((i : ℕ) × (IsFirstWaiting self.old i) × (IsRelocated i self.old self.new)) }
+        ensures err { OnErr result (self.new ≡ self.old) }
+        ensures refused { OnErr result ((i : ℕ) × (IsFirstWaiting self.old i) × (32 < length (list_of self.old i))) }
+        ensures bounded { IsBounded self.old → AreShort self.old → IsBounded self.new }
+    {
+        let bucket = self.first_waiting();
+        self.next = bucket;
+        self.relocate(bucket)
+    }
+
+    /// Moves the entries of all buckets that wait to them, the first bucket first. Where memory is refused for one, it
+    /// and those after it still wait.
+    pub fn finish(&mut self) -> Result<(), AllocError>
+        ensures lists { lists_of self.new ≡ lists_of self.old }
+        ensures settings { settings_of self.new ≡ settings_of self.old }
+        ensures noted { refused_of self.new ≡ refused_of self.old }
+        ensures fewer { (i : ℕ) → IsWaiting self.new i → IsWaiting self.old i }
+        ensures less { pending_of self.new ≤ pending_of self.old }
+        ensures ok { OnOk result (waiting_of self.new ≡ []) }
+        ensures refused { OnErr result ((i : ℕ) × (IsFirstWaiting self.new i) × (32 < length (list_of self.new i))) }
+        ensures bounded { IsBounded self.old → AreShort self.old → IsBounded self.new }
+    {
+        for _ in 0..self.pending {
+            self.relocate_next()?;
+        }
+        Ok(())
+    }
+}

@@ -1,0 +1,108 @@
+//! Buckets that take their entries over in a table whose lists hold at most 32 entries each, and entries that go in at
+//! the end of such a list. None of it asks for memory.
+ghost use Rattle.std.specs.Prelude.{◌≡◌, ◌==◌, ◌<◌, ◌≤◌, ◌+◌, false, drop, None, not};
+ghost use Rattle.std.specs.List.{filter, position};
+ghost use Rattle.scc_buckets.specs.Bounded.{IsListed, PutsLast};
+ghost use Rattle.scc_contents.specs.Contents.{entries, bucket_count, key_hash, pending_of, settings_of, waiting_of, IsUniqueBy};
+ghost use Rattle.scc_contents.specs.Routing.{bucket_number};
+ghost use Rattle.scc_table.specs.Relocates.{left_after};
+ghost use Rattle.scc_table.specs.TwoArrays.{IsRelocated, IsWaiting, pending_targets, waits_at};
+
+use super::Table;
+use scc_entry::Keyed;
+use std::hash::{BuildHasher, Hash};
+
+impl<E: Keyed, H: BuildHasher> Table<E, H>
+where
+    E::Key: Eq + Hash,
+{
+    /// Moves the entries of a bucket that waits to it, in their order. It takes no memory.
+    #[cold]
+    pub fn settle(&mut self, bucket: usize)
+        requires waits { IsWaiting self.old bucket }
+        requires listed { IsListed (λ e. key_hash H.BuildHasher H.Hasher.Hasher E.Key.hash_input self.old
+            (E.key_of e)) self.old }
+        ensures moved { IsRelocated bucket self.old self.new }
+        ensures listed { IsListed (λ e. key_hash H.BuildHasher H.Hasher.Hasher E.Key.hash_input self.new (E.key_of e))
+            self.new }
+        ensures settled { waits_at (waiting_of self.new) bucket ≡ false }
+        ensures targets { pending_targets self.new ≡ filter (λ t. not (t == bucket)) (pending_targets self.old) }
+        ensures unique { IsUniqueBy E.Key.eq E.key_of self.new }
+    {
+        match self.relocate(bucket) {
+            Ok(()) => self.keep_lists(),
+            Err(_) => unreachable!(),
+        }
+    }
+
+    /// Puts an entry whose key is new at the end of the list of its bucket. Where that holds 32, its first one goes and
+    /// is answered. Where the bucket waits, it takes its entries over first, and then the first ones that wait, two in
+    /// all. It takes no memory.
+    #[inline(always)]
+    pub fn put_within(&mut self, bucket: usize, hash: u64, entry: E) -> Option<E>
+        requires within { bucket < bucket_count self.old }
+        requires routed { bucket ≡ bucket_number (settings_of self.old).skipped (bucket_count self.old) hash }
+        requires hashed { hash ≡ key_hash H.BuildHasher H.Hasher.Hasher E.Key.hash_input self.old (E.key_of entry) }
+        requires absent { position (λ e. E.Key.eq (E.key_of entry) (E.key_of e)) (entries self.old) ≡ None }
+        requires listed { IsListed (λ e. key_hash H.BuildHasher H.Hasher.Hasher E.Key.hash_input self.old
+            (E.key_of e)) self.old }
+        ensures step { PutsLast self.old bucket entry result self.new }
+        ensures listed { IsListed (λ e. key_hash H.BuildHasher H.Hasher.Hasher E.Key.hash_input self.new (E.key_of e))
+            self.new }
+        ensures settled { waits_at (waiting_of self.new) bucket ≡ false }
+        ensures exact { pending_targets self.new ≡ left_after bucket (pending_targets self.old) }
+        ensures two { 2 ≤ pending_of self.old → pending_of self.new + 2 ≡ pending_of self.old }
+        ensures unique { IsUniqueBy E.Key.eq E.key_of self.new }
+    {
+        if self.is_waiting(bucket) {
+            return self.put_waiting(bucket, hash, entry);
+        }
+        self.put_settled(bucket, hash, entry, 2)
+    }
+
+    /// The same where the bucket waits.
+    #[cold]
+    fn put_waiting(&mut self, bucket: usize, hash: u64, entry: E) -> Option<E>
+        requires within { bucket < bucket_count self.old }
+        requires waits { IsWaiting self.old bucket }
+        requires routed { bucket ≡ bucket_number (settings_of self.old).skipped (bucket_count self.old) hash }
+        requires hashed { hash ≡ key_hash H.BuildHasher H.Hasher.Hasher E.Key.hash_input self.old (E.key_of entry) }
+        requires absent { position (λ e. E.Key.eq (E.key_of entry) (E.key_of e)) (entries self.old) ≡ None }
+        requires listed { IsListed (λ e. key_hash H.BuildHasher H.Hasher.Hasher E.Key.hash_input self.old
+            (E.key_of e)) self.old }
+        ensures step { PutsLast self.old bucket entry result self.new }
+        ensures listed { IsListed (λ e. key_hash H.BuildHasher H.Hasher.Hasher E.Key.hash_input self.new (E.key_of e))
+            self.new }
+        ensures settled { waits_at (waiting_of self.new) bucket ≡ false }
+        ensures exact { pending_targets self.new ≡ left_after bucket (pending_targets self.old) }
+        ensures two { 2 ≤ pending_of self.old → pending_of self.new + 2 ≡ pending_of self.old }
+        ensures unique { IsUniqueBy E.Key.eq E.key_of self.new }
+    {
+        self.settle(bucket);
+        self.put_settled(bucket, hash, entry, 1)
+    }
+
+    /// The same where the bucket doesn't wait, and so many others take their entries over afterwards.
+    #[inline(always)]
+    fn put_settled(&mut self, bucket: usize, hash: u64, entry: E, most: usize) -> Option<E>
+        requires within { bucket < bucket_count self.old }
+        requires settled { waits_at (waiting_of self.old) bucket ≡ false }
+        requires routed { bucket ≡ bucket_number (settings_of self.old).skipped (bucket_count self.old) hash }
+        requires hashed { hash ≡ key_hash H.BuildHasher H.Hasher.Hasher E.Key.hash_input self.old (E.key_of entry) }
+        requires absent { position (λ e. E.Key.eq (E.key_of entry) (E.key_of e)) (entries self.old) ≡ None }
+        requires listed { IsListed (λ e. key_hash H.BuildHasher H.Hasher.Hasher E.Key.hash_input self.old
+            (E.key_of e)) self.old }
+        ensures step { PutsLast self.old bucket entry result self.new }
+        ensures listed { IsListed (λ e. key_hash H.BuildHasher H.Hasher.Hasher E.Key.hash_input self.new (E.key_of e))
+            self.new }
+        ensures settled { waits_at (waiting_of self.new) bucket ≡ false }
+        ensures exact { pending_targets self.new ≡ drop most (pending_targets self.old) }
+        ensures count { most ≤ pending_of self.old → pending_of self.new + most ≡ pending_of self.old }
+        ensures unique { IsUniqueBy E.Key.eq E.key_of self.new }
+    {
+        let first = self.put_last(bucket, hash, entry);
+        self.relocate_some(most);
+        self.keep_lists();
+        first
+    }
+}

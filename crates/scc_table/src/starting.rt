@@ -1,0 +1,193 @@
+//! How a new array takes the place of the present one, which drains from then on.
+ghost use Rattle.std.specs.Prelude.{◌≡◌, ◌≢◌, ◌≤◌, ◌<◌, ℕ, [], true, false, replicate, length, OnOk, OnErr};
+ghost use Rattle.std.specs.List.Sorted.{IsPermutation};
+ghost use Rattle.scc_array.specs.Shelf.{empty_shelf};
+ghost use Rattle.scc_buckets.specs.Bounded.{IsBounded};
+ghost use Rattle.scc_contents.specs.Contents.{entries, bucket_count, held_of, key_hash, list_of, lists_of, pending_of, refused_of, settings_of, spilled_of, waiting_of, IsUniqueBy};
+ghost use Rattle.scc_buckets.specs.Pour.{IsRegrouped};
+ghost use Rattle.scc_contents.specs.Sizes.{IsArray};
+ghost use Rattle.scc_contents.specs.Steps.{IsUnchanged};
+ghost use Rattle.scc_table.specs.Relocates.{AreShort};
+ghost use Rattle.scc_table.specs.TwoArrays.{settle, IsFirstWaiting, IsWaiting};
+
+use super::Table;
+use scc_array::Array;
+use scc_draining::{fresh_waiting, take};
+use scc_entry::Keyed;
+use std::alloc::AllocError;
+use std::hash::{BuildHasher, Hash};
+
+impl<E: Keyed, H: BuildHasher> Table<E, H>
+where
+    E::Key: Eq + Hash,
+{
+    /// Moves to an array of so many buckets: those that wait take their entries over first, and then every bucket of
+    /// the new array waits. Where memory is refused, each list is as it was, and the buckets that took their entries
+    /// over still have them. Whether it was is noted.
+    pub(super) fn resize_to(&mut self, count: usize) -> Result<(), AllocError>
+        requires array { IsArray count }
+        requires some { 0 < bucket_count self.old }
+        requires other { count ≢ bucket_count self.old }
+        ensures lists { OnOk result (IsRegrouped (λ e. key_hash H.BuildHasher H.Hasher.Hasher E.Key.hash_input
+            self.old (E.key_of e)) count self.old self.new) }
+        ensures same { OnOk result (IsPermutation (entries self.old) (entries self.new)) }
+        ensures waiting { OnOk result (waiting_of self.new ≡ replicate count true) }
+        ensures pending { OnOk result (pending_of self.new ≡ count) }
+        ensures down { OnOk result ((refused_of self.new).0 ≡ false) }
+        ensures err { OnErr result (IsUnchanged self.old self.new) }
+        ensures fewer { OnErr result ((i : ℕ) → IsWaiting self.new i → IsWaiting self.old i) }
+        ensures less { OnErr result (pending_of self.new ≤ pending_of self.old) }
+        ensures still { OnErr result (lists_of self.new ≡ lists_of self.old) }
+        ensures settings { settings_of self.new ≡ settings_of self.old }
+        ensures bounded { IsBounded self.old → AreShort self.old → IsBounded self.new }
+        ensures up { OnErr result ((refused_of self.new).0 ≡ true) }
+        ensures unique { IsUniqueBy E.Key.eq E.key_of self.new }
+    {
+        match self.finish() {
+            Ok(()) => self.start(count),
+            Err(e) => {
+                self.note(true);
+                Err(e)
+            }
+        }
+    }
+
+    /// The same where no bucket waits. Where memory is refused, none does afterwards either.
+    pub(super) fn start(&mut self, count: usize) -> Result<(), AllocError>
+        requires settled { pending_of self.old ≡ 0 }
+        requires array { IsArray count }
+        requires some { 0 < bucket_count self.old }
+        requires other { count ≢ bucket_count self.old }
+        ensures lists { OnOk result (IsRegrouped (λ e. key_hash H.BuildHasher H.Hasher.Hasher E.Key.hash_input
+            self.old (E.key_of e)) count self.old self.new) }
+        ensures same { OnOk result (IsPermutation (entries self.old) (entries self.new)) }
+        ensures waiting { OnOk result (waiting_of self.new ≡ replicate count true) }
+        ensures pending { OnOk result (pending_of self.new ≡ count) }
+        ensures down { OnOk result ((refused_of self.new).0 ≡ false) }
+        ensures err { OnErr result (lists_of self.new ≡ lists_of self.old) }
+        ensures settings { settings_of self.new ≡ settings_of self.old }
+        ensures stays { OnErr result (waiting_of self.new ≡ waiting_of self.old) }
+        ensures bounded { IsBounded self.old → IsBounded self.new }
+        ensures up { OnErr result ((refused_of self.new).0 ≡ true) }
+        ensures unmarked { (refused_of self.new).1 ≡ false }
+        ensures unique { IsUniqueBy E.Key.eq E.key_of self.new }
+    {
+        match fresh_waiting(self.current.allocator(), count) {
+            Ok((fresh, flags)) => {
+                self.begin(count, fresh, flags);
+                self.note(false);
+                Ok(())
+            }
+            Err(e) => {
+                self.note(true);
+                Err(e)
+            }
+        }
+    }
+
+    /// Sets the note of refused memory alone.
+    pub(super) fn note(&mut self, refused: bool)
+        ensures lists { lists_of self.new ≡ lists_of self.old }
+        ensures settings { settings_of self.new ≡ settings_of self.old }
+        ensures noted { refused_of self.new ≡ (refused, false) }
+        ensures spilled { spilled_of self.new ≡ spilled_of self.old }
+        ensures waiting { waiting_of self.new ≡ waiting_of self.old }
+        ensures held { held_of self.new ≡ held_of self.old }
+        ensures unique { IsUniqueBy E.Key.eq E.key_of self.new }
+    {
+        self.current.note(refused);
+    }
+
+    /// Sets the note of refused memory, and whether the next insertion is not to try the growth again.
+    pub(super) fn mark(&mut self, refused: bool, tried: bool)
+        ensures lists { lists_of self.new ≡ lists_of self.old }
+        ensures settings { settings_of self.new ≡ settings_of self.old }
+        ensures noted { refused_of self.new ≡ (refused, tried) }
+        ensures spilled { spilled_of self.new ≡ spilled_of self.old }
+        ensures waiting { waiting_of self.new ≡ waiting_of self.old }
+        ensures held { held_of self.new ≡ held_of self.old }
+        ensures unique { IsUniqueBy E.Key.eq E.key_of self.new }
+    {
+        self.current.mark(refused, tried);
+    }
+
+    /// Puts the empty buckets in the place of the present ones, which drain from then on: every one of the new buckets
+    /// waits, as the flags say.
+    pub(super) fn begin(&mut self, count: usize, fresh: Array<E>, flags: Vec<bool>)
+        requires settled { pending_of self.old ≡ 0 }
+        requires array { IsArray count }
+        requires some { 0 < bucket_count self.old }
+        requires other { count ≢ bucket_count self.old }
+        requires empty { fresh ≡ replicate count empty_shelf }
+        requires flags { flags.items ≡ replicate count true }
+        ensures lists { IsRegrouped (λ e. key_hash H.BuildHasher H.Hasher.Hasher E.Key.hash_input self.old
+            (E.key_of e)) count self.old self.new }
+        ensures same { IsPermutation (entries self.old) (entries self.new) }
+        ensures waiting { waiting_of self.new ≡ replicate count true }
+        ensures pending { pending_of self.new ≡ count }
+        ensures noted { refused_of self.new ≡ refused_of self.old }
+        ensures bounded { IsBounded self.old → IsBounded self.new }
+    {
+        let (old, held, held_overflow) = self.current.exchange(fresh, 0, 0);
+        let bare = std::mem::replace(&mut self.draining, old);
+        bare.destroy_empty();
+        self.waiting = flags;
+        self.pending = count;
+        self.next = 0;
+        self.held = held;
+        self.held_overflow = held_overflow;
+    }
+
+    /// Puts the empty buckets in the place of the present ones, where none waits. That bucket of the new array takes
+    /// its entries over at once, and every other one waits, as the flags say. Where memory for that bucket is refused,
+    /// all stays.
+    pub(super) fn start_at(
+        &mut self,
+        count: usize,
+        fresh: Array<E>,
+        mut flags: Vec<bool>,
+        bucket: usize,
+    ) -> Result<(), AllocError>
+        requires settled { pending_of self.old ≡ 0 }
+        requires array { IsArray count }
+        requires some { 0 < bucket_count self.old }
+        requires other { count ≢ bucket_count self.old }
+        requires within { bucket < count }
+        requires empty { fresh ≡ replicate count empty_shelf }
+        requires flags { flags.items ≡ replicate count true }
+        ensures lists { OnOk result (IsRegrouped (λ e. key_hash H.BuildHasher H.Hasher.Hasher E.Key.hash_input
+            self.old (E.key_of e)) count self.old self.new) }
+        ensures same { OnOk result (IsPermutation (entries self.old) (entries self.new)) }
+        ensures waiting { OnOk result (waiting_of self.new ≡ settle (replicate count true) bucket) }
+        ensures noted { OnOk result (refused_of self.new ≡ refused_of self.old) }
+        ensures err { OnErr result (self.new ≡ self.old) }
+        ensures unique { IsUniqueBy E.Key.eq E.key_of self.new }
+    {
+        let (mut old, held, overflow) = self.current.exchange(fresh, 0, 0);
+        match take(
+            &mut self.current,
+            &mut old,
+            bucket,
+            overflow,
+            self.skipped,
+            flags.as_slice(),
+        ) {
+            Ok(moved) => {
+                let bare = std::mem::replace(&mut self.draining, old);
+                bare.destroy_empty();
+                flags[bucket] = false;
+                self.waiting = flags;
+                self.pending = count - 1;
+                self.next = 0;
+                self.held = held - moved;
+                self.held_overflow = overflow;
+                Ok(())
+            }
+            Err(e) => {
+                let (bare, _, _) = self.current.exchange(old, held, overflow);
+                bare.destroy_empty();
+                Err(e)
+            }
+        }
+    }
+}

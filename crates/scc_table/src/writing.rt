@@ -1,0 +1,87 @@
+//! Writes into the entries of two arrays. No write changes a place, and none takes memory.
+ghost use Rattle.std.specs.Prelude.{◌≡◌, Some, true, slice_get};
+ghost use Rattle.std.specs.Borrow.{sem};
+ghost use Rattle.scc_array.specs.ShelfWrites.{put_whole};
+ghost use Rattle.scc_contents.specs.Contents.{entries};
+ghost use Rattle.scc_table.specs.LendsTable.{lends_value};
+ghost use Rattle.scc_table.specs.Places.{IsPlace, index_of, with_write_at};
+
+use super::Table;
+use scc_buckets::Place;
+use scc_entry::{Keyed, Valued};
+use std::hash::{BuildHasher, Hash};
+
+impl<E: Keyed, H: BuildHasher> Table<E, H>
+where
+    E::Key: Eq + Hash,
+{
+    /// Puts the entry in the place of the one there, whose key it equals, and answers that one.
+    pub fn replace_at(&mut self, place: Place, entry: E) -> E
+        requires within { IsPlace self.old place }
+        requires same { (e : E) → slice_get (entries self.old) (index_of self.old place) ≡ Some e
+            → E.Key.eq (E.key_of entry) (E.key_of e) ≡ true }
+        ensures old { slice_get (entries self.old) (index_of self.old place) ≡ Some result }
+        ensures new { self.new ≡ with_write_at put_whole self.old place entry }
+    {
+        let count = self.current.bucket_count();
+        if place.bucket < count {
+            return self.current.replace_at(place, entry);
+        }
+        self.draining
+            .replace_at(place.bucket - count, place.slot, entry)
+    }
+}
+
+impl<E: Valued, H: BuildHasher> Table<E, H>
+where
+    E::Key: Eq + Hash,
+{
+    /// The value of the entry at the place, to write.
+    #[inline(always)]
+    pub fn value_mut_at(&mut self, place: Place) -> &mut E::Value
+        requires { IsPlace self.old place }
+        ensures* writes_back { sem 𝓛 (lends_value E.row H.row E.Key.row H.Hasher.row E.Value.row E.Keyed E.Key.Hash
+            H.BuildHasher H.Hasher.Hasher E.with_value self.entry place result) }
+        ensures value { (e : E) × (slice_get (entries self.old) (index_of self.old place) ≡ Some e)
+            × (result.now ≡ E.value_of e) }
+    {
+        let count = self.current.bucket_count();
+        if self.pending == 0 || place.bucket < count {
+            return self.current.value_mut_at(place);
+        }
+        self.draining.value_mut_at(place.bucket - count, place.slot)
+    }
+
+    /// The key of the entry at the place, and its value to write.
+    #[inline(always)]
+    pub fn parts_mut_at(&mut self, place: Place) -> (&E::Key, &mut E::Value)
+        requires { IsPlace self.old place }
+        ensures* writes_back { sem 𝓛 (lends_value E.row H.row E.Key.row H.Hasher.row E.Value.row E.Keyed E.Key.Hash
+            H.BuildHasher H.Hasher.Hasher E.with_value self.entry place result.1) }
+        ensures parts { (e : E) × (slice_get (entries self.old) (index_of self.old place) ≡ Some e)
+            × (result.0.now ≡ E.Keyed.key_of e) × (result.1.now ≡ E.value_of e) }
+    {
+        let count = self.current.bucket_count();
+        if self.pending == 0 || place.bucket < count {
+            return self.current.parts_mut_at(place);
+        }
+        self.draining.parts_mut_at(place.bucket - count, place.slot)
+    }
+
+    /// Puts the key in the place of the one there, which it equals, and answers that one.
+    pub fn replace_key_at(&mut self, place: Place, key: E::Key) -> E::Key
+        requires within { IsPlace self.old place }
+        requires same { (e : E) → slice_get (entries self.old) (index_of self.old place) ≡ Some e
+            → E.Key.eq key (E.Keyed.key_of e) ≡ true }
+        ensures old { (e : E) × (slice_get (entries self.old) (index_of self.old place) ≡ Some e)
+            × (result ≡ E.Keyed.key_of e) }
+        ensures new { self.new ≡ with_write_at E.with_key self.old place key }
+    {
+        let count = self.current.bucket_count();
+        if place.bucket < count {
+            return self.current.replace_key_at(place, key);
+        }
+        self.draining
+            .replace_key_at(place.bucket - count, place.slot, key)
+    }
+}
