@@ -10,7 +10,7 @@ ghost use Rattle.scc_contents.specs.Sizes.{IsArraySize, IsSmaller};
 ghost use Rattle.scc_contents.specs.Walks.{CalledOn, CallableWhile, Walks};
 ghost use Rattle.scc_table.specs.Places.{IsPlace, IsFoundAt, IsInsertedAt, index_of, with_write_at};
 ghost use Rattle.scc_table.specs.Relocations.{Relocates, RelocatesNone, RelocatesTwo};
-ghost use Rattle.scc_contents.specs.Steps.{FirstArrayWhenDue, GrowsFor, Holds, IsUnchanged, MakesRoom, ShrinksWhenDue};
+ghost use Rattle.scc_contents.specs.Steps.{FirstArrayWhenDue, GrowsFor, Holds, IsUnchanged, MakesRoom, RaisesWhenDue, ShrinksWhenDue};
 ghost use Rattle.scc_array.specs.ShelfWrites.{put_whole};
 ghost use Rattle.scc_index.specs.ClosureSteps.{RemovesIf};
 ghost use Rattle.scc_contents.specs.Closures.{Reads};
@@ -424,6 +424,8 @@ impl<K: Eq + Hash, V, H: BuildHasher> Owned<K, V, H> {
         ensures ok { IfOk result (IsInsertedAt self.old (k, v) self.new) }
         ensures refused { IfErr result (λ p. p ≡ (k, v)) }
         ensures unchanged { OnErr result (IsUnchanged self.old self.new) }
+        ensures raised { OnErr result (RaisesWhenDue (hash_in ⟦<H as Hashes<K>>⟧.hash_of self.old) (λ p. p.0) self.old
+            k self.new) }
         ensures grows { OnOk result (GrowsFor (hash_in ⟦<H as Hashes<K>>⟧.hash_of self.old) (λ p. p.0) self.old k
             self.new) }
         ensures first { OnOk result (FirstArrayWhenDue self.old self.new) }
