@@ -1,4 +1,5 @@
 pub mod Caching
+pub mod Collecting
 pub mod EachPair
 pub mod Entries
 pub mod Found

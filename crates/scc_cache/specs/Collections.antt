@@ -1,7 +1,7 @@
 -- A cache that is made of items.
 use Rattle.std.specs.Prelude.{◌≡◌, ℕ, ◌*◌, ◌<◌, Bool, List, [], length, max, Option, Result}
 use Rattle.std.specs.List.{FoldsTo}
-use Rattle.scc_contents.specs.Contents.{Contents, entries, bucket_count}
+use Rattle.scc_contents.specs.Contents.{Contents, entries, bucket_count, settings_of}
 use Rattle.scc_contents.specs.Sizes.{IsArraySize}
 use Rattle.scc_common.specs.declared.errors.InsertError.{InsertError}
 use Rattle.scc_cache.specs.Caches.{Cached}
@@ -23,4 +23,9 @@ module _ {K V S : Type 0} (eq : K → K → Bool) (hash : Contents (K × V) S �
     pub none : length ps ≡ 0 → bucket_count made.contents ≡ 0
     pub size : 0 < length ps → IsArraySize (length ps) (32 * bucket_count made.contents)
     pub maximum : IsArraySize (max (length ps) (32 * bucket_count made.contents)) made.maximum
+    pub asked : (settings_of made.contents).asked ≡ 32 * bucket_count made.contents
+    pub reserved : (settings_of made.contents).reserved ≡ 0
+    pub skipped : (settings_of made.contents).skipped ≡ 0
+    pub settings : settings_of d.contents ≡ settings_of made.contents
+    pub most : d.maximum ≡ made.maximum
     pub run : PutsAll made ps d

@@ -1,7 +1,7 @@
 //! The cache for one owner: every call that changes it takes `&mut self`.
 ghost use Rattle.std.specs.Prelude.{◌≡◌, ◌≤◌, ◌<◌, ◌*◌, ◌↔◌, [], false, length, max, None, Some, IsTrue, IsOk, IfOk, OnOk, MatchOption};
 ghost use Rattle.std.specs.Borrow.{Bor};
-ghost use Rattle.scc_contents.specs.Contents.{entries, bucket_count, minimum_of, pending_of, refused_of, key_hash, hash_in};
+ghost use Rattle.scc_contents.specs.Contents.{entries, bucket_count, minimum_of, pending_of, refused_of, waiting_of, key_hash, hash_in};
 ghost use Rattle.std.specs.Fn.{FnOnceTakesAtMut};
 ghost use Rattle.scc_cache.specs.CacheSteps.{AnswersOn, IsAbsent, IsPresent, IsReadyFor, Puts, Removes};
 ghost use Rattle.scc_cache.specs.CacheWalks.{RemovesIf};
@@ -192,6 +192,7 @@ impl<K: Eq + Hash, V, H: BuildHasher> Owned<K, V, H> {
         ensures state { IsCacheState K.eq (hash_in ⟦<H as Hashes<K>>⟧.hash_of self.new.contents) self.new }
         ensures relocates { RelocatesNone (λ p. hash_in ⟦<H as Hashes<K>>⟧.hash_of self.old.contents p.0)
             self.old.contents self.new.contents }
+        ensures rests { result ≡ None → waiting_of self.new.contents ≡ waiting_of self.old.contents }
     {
         let hash = self.table.hash(k);
         let place = self.find(hash, k)?;

@@ -1,10 +1,11 @@
 -- An index that is made of items, or of another index's pairs.
-use Rattle.std.specs.Prelude.{◌≡◌, ◌*◌, ◌<◌, Bool, List, [], length, None, Ok, Err, Result, MatchOption}
+use Rattle.std.specs.Prelude.{◌≡◌, ◌*◌, ◌<◌, Bool, List, [], ◌∷◌, ◌++◌, length, None, Ok, Err, Result, MatchOption}
 use Rattle.std.specs.List.{FoldsTo}
 use Rattle.std.specs.Option.{IsSomeAnd}
 use Rattle.scc_contents.specs.Contents.{Contents, entries, bucket_count, settings_of}
 use Rattle.scc_contents.specs.Pairs.{find}
 use Rattle.scc_contents.specs.Sizes.{IsArraySize}
+use Rattle.scc_contents.specs.Steps.{IsUnchanged}
 use Rattle.scc_common.specs.declared.errors.InsertError.{InsertError}
 use Rattle.scc_common.specs.declared.errors.InsertError.TheVariants.{Exists, Memory}
 use Rattle.scc_index.specs.IndexSteps.{Inserts}
@@ -23,6 +24,10 @@ module _ {K V S : Type 0} (eq : K → K → Bool) where
   -- the pairs were inserted in their order
   abbrev pub InsertsAll : Contents (K × V) S → List (K × V) → Contents (K × V) S → Type 0
   InsertsAll c ps d = FoldsTo InsertsOne c ps d
+
+  -- the pairs before p were inserted in their order, and then memory was refused for p, whose key equals none, and nothing changed
+  abbrev pub StopsAt : Contents (K × V) S → List (K × V) → K × V → Contents (K × V) S → Type 0
+  StopsAt c ps p d = (before : List (K × V)) × (after : List (K × V)) × (made : Contents (K × V) S) × (ps ≡ before ++ p ∷ after) × InsertsAll c before made × (find eq (entries made) p.0 ≡ None) × IsUnchanged made d
 
   -- d is what insertions of the pairs, in their order, make of an empty index with an array for as many pairs
   pub record IsCollected (ps : List (K × V)) (d : Contents (K × V) S) : Type 0 where

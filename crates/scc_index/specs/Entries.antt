@@ -10,11 +10,11 @@ use Rattle.std.specs.declared.cmp.PartialEq as eq
 use Rattle.std.specs.declared.hash.Hash as hash
 use Rattle.std.specs.declared.hash.Hasher as hasher
 use Rattle.std.specs.declared.hash.BuildHasher as builder
-use Rattle.scc_contents.specs.Contents.{Contents, entries, waiting_of}
+use Rattle.scc_contents.specs.Contents.{Contents, entries, key_hash, waiting_of}
 use Rattle.scc_contents.specs.Pairs.{find, without, FindsInstead}
 use Rattle.scc_table.specs.Placed.{entry_of, front_of, back_of, IsWrittenAt, IsPutAt}
 use Rattle.scc_table.specs.Relocations.{Relocates, RelocatesTwo}
-use Rattle.scc_contents.specs.Steps.{FirstArrayWhenDue, GrowsFor, IsUnchanged}
+use Rattle.scc_contents.specs.Steps.{FirstArrayWhenDue, GrowsFor, IsUnchanged, RaisesWhenDue}
 use Rattle.scc_common.specs.declared.errors.InsertError.{InsertError}
 use Rattle.scc_common.specs.declared.guard.Guard as guard
 use Rattle.scc_index.specs.Lends.{index_row}
@@ -28,9 +28,10 @@ module _ {K V S : Type 0} where
     pub grows : GrowsFor hash (λ p. p.0) c k d
     pub first : FirstArrayWhenDue c d
 
-  -- c, where an insertion was refused: nothing changed, and no bucket waits that an insertion doesn't leave waiting
-  pub record RestsRefused (c d : Contents (K × V) S) : Type 0 where
+  -- c, where an insertion of the new key k was refused: nothing changed, the note of refused memory rose only where a growth was due, and no bucket waits that an insertion doesn't leave waiting
+  pub record RestsRefused (hash : K → ℕ) (c : Contents (K × V) S) (k : K) (d : Contents (K × V) S) : Type 0 where
     pub unchanged : IsUnchanged c d
+    pub raised : RaisesWhenDue hash (λ p. p.0) c k d
     pub relocates : Relocates c d
 
 module _ {G N K V S T : Type 0} {d : guard.Ghosts G (Contents (K × V) S)} {g : eq.Ghosts K} {h : hash.Ghosts K} {b : builder.Ghosts S T} {w : hasher.Ghosts T} where
@@ -147,10 +148,10 @@ module _ (K V S T : RattleType) (key : HashMembers K.Denot) (build : builder.Gho
   abbrev pub Borrowed : (N : Type 0) → guard.Ghosts (MutBor (Contents (K.Denot × V.Denot) S.Denot)) (Contents (K.Denot × V.Denot) S.Denot) → eq.Ghosts K.Denot → hash.Ghosts K.Denot → builder.Ghosts S.Denot T.Denot → hasher.Ghosts T.Denot → Type 0
   Borrowed N d g h b w = HeldEntry (MutBor (Contents (K.Denot × V.Denot) S.Denot)) N K.Denot V.Denot S.Denot T.Denot d g h b w
 
-  -- where r has no entry, since an insertion was refused, the index behind m stays as it is, but for what waits
+  -- where r has no entry, since an insertion of the new key k was refused, the index behind m stays as it is, but for what waits and the note of refused memory
   abbrev pub rests_if_refused : {E N : Type 0} {d : guard.Ghosts (MutBor (Contents (K.Denot × V.Denot) S.Denot)) (Contents (K.Denot × V.Denot) S.Denot)} {g : eq.Ghosts K.Denot} {h : hash.Ghosts K.Denot} {b : builder.Ghosts S.Denot T.Denot} {w : hasher.Ghosts T.Denot}
-      → MutBor (Contents (K.Denot × V.Denot) S.Denot) → Result (Borrowed N d g h b w) E → Fml
-  rests_if_refused m r = RestsIfErr (index_row K V S T key build feed) m (λ o. o.guard.ghost_name) r (RestsRefused m.now)
+      → MutBor (Contents (K.Denot × V.Denot) S.Denot) → K.Denot → Result (Borrowed N d g h b w) E → Fml
+  rests_if_refused m k r = RestsIfErr (index_row K V S T key build feed) m (λ o. o.guard.ghost_name) r (RestsRefused (key_hash build feed key.hash_input m.now) m.now k)
 
   -- where r has no entry, the index behind m stays as it is
   abbrev pub rests_if_none : {N : Type 0} {d : guard.Ghosts (MutBor (Contents (K.Denot × V.Denot) S.Denot)) (Contents (K.Denot × V.Denot) S.Denot)} {g : eq.Ghosts K.Denot} {h : hash.Ghosts K.Denot} {b : builder.Ghosts S.Denot T.Denot} {w : hasher.Ghosts T.Denot}

@@ -6,7 +6,7 @@ ghost use Rattle.std.specs.Fn.{FnOnceTakesAtMut};
 ghost use Rattle.std.specs.List.Sorted.{IsPermutation};
 ghost use Rattle.scc_contents.specs.Contents.{entries, bucket_count, settings_of, minimum_of, refused_of, waiting_of, hash_in};
 ghost use Rattle.scc_contents.specs.Pairs.{find, FindsInstead, HasRoom, IsUnique, with_pair_key, with_pair_value};
-ghost use Rattle.scc_contents.specs.Sizes.{IsArraySize, IsSmaller};
+ghost use Rattle.scc_contents.specs.Sizes.{IsSmaller};
 ghost use Rattle.scc_contents.specs.Walks.{CalledOn, CallableWhile, Walks};
 ghost use Rattle.scc_table.specs.Places.{IsPlace, IsFoundAt, IsInsertedAt, index_of};
 ghost use Rattle.scc_contents.specs.Steps.{FirstArrayWhenDue, GrowsFor, Holds, IsUnchanged, MakesRoom, Rests, ShrinksWhenDue};
@@ -15,6 +15,7 @@ ghost use Rattle.scc_map.specs.ClosureSteps.{UpdatesAt, RemovesIf};
 ghost use Rattle.scc_contents.specs.Closures.{Reads, WritesAt};
 ghost use Rattle.scc_map.specs.Lends.{lends_value};
 ghost use Rattle.scc_map.specs.MapSteps.{Inserts, Removes};
+ghost use Rattle.scc_table.specs.Making.{IsNew, MakesEmpty};
 ghost use Rattle.scc_table.specs.Relocations.{Relocates, RelocatesNone, RelocatesTwo};
 ghost use Rattle.scc_map.specs.Insertions.{InsertsByRule, UpsertsByRule};
 ghost use Rattle.scc_map.specs.Removals.{RemovesByRule};
@@ -60,22 +61,14 @@ impl<K: Eq + Hash, V, H: BuildHasher> Model for Owned<K, V, H> {
 impl<K: Eq + Hash, V> Owned<K, V> {
     /// An empty map without an array. It takes no memory.
     pub fn new(alloc: Global) -> Self
-        ensures entries { entries result ≡ [] }
-        ensures buckets { bucket_count result ≡ 0 }
-        ensures settings { settings_of result ≡ record
-            { hasher = (settings_of result).hasher; skipped = 0; asked = 0; reserved = 0 } }
+        ensures { IsNew (settings_of result).hasher result }
     {
         Owned::with_hasher(alloc, BuildHasherDefault::new())
     }
 
     /// An empty map with an array for at least so many pairs at one a slot, by the rules of `with_capacity_and_hasher`.
     pub fn with_capacity(alloc: Global, capacity: usize) -> Result<Self, MakeError>
-        ensures entries { IfOk result (λ m. entries m ≡ []) }
-        ensures none { IfOk result (λ m. capacity ≡ 0 → bucket_count m ≡ 0) }
-        ensures size { IfOk result (λ m. 0 < capacity → IsArraySize capacity (32 * bucket_count m)) }
-        ensures settings { IfOk result (λ m. settings_of m
-            ≡ record { hasher = (settings_of m).hasher; skipped = 0; asked = 32 * bucket_count m; reserved = 0 }) }
-        ensures succeeds { capacity ≡ 0 → IsOk result }
+        ensures { MakesEmpty (λ m. (settings_of m).hasher) 0 capacity result }
     {
         Owned::with_capacity_and_hasher(alloc, capacity, BuildHasherDefault::new())
     }
@@ -93,12 +86,7 @@ impl<K: Eq + Hash, V, H: BuildHasher> Owned<K, V, Shared<H>> {
     where
         H: Drop,
         requires { skipped ≤ 4 }
-        ensures entries { IfOk result (λ m. entries m ≡ []) }
-        ensures none { IfOk result (λ m. capacity ≡ 0 → bucket_count m ≡ 0) }
-        ensures size { IfOk result (λ m. 0 < capacity → IsArraySize capacity (32 * bucket_count m)) }
-        ensures settings { IfOk result (λ m. settings_of m
-            ≡ record { hasher = arc_value hasher; skipped = skipped; asked = 32 * bucket_count m; reserved = 0 }) }
-        ensures succeeds { capacity ≡ 0 → IsOk result }
+        ensures { MakesEmpty (λ _. arc_value hasher) skipped capacity result }
     {
         Owned::skipping(alloc, skipped, capacity, Shared::new(hasher))
     }
@@ -107,9 +95,7 @@ impl<K: Eq + Hash, V, H: BuildHasher> Owned<K, V, Shared<H>> {
 impl<K: Eq + Hash, V, H: BuildHasher> Owned<K, V, H> {
     /// An empty map without an array. It takes no memory.
     pub fn with_hasher(alloc: Global, hasher: H) -> Self
-        ensures entries { entries result ≡ [] }
-        ensures buckets { bucket_count result ≡ 0 }
-        ensures settings { settings_of result ≡ record { hasher = hasher; skipped = 0; asked = 0; reserved = 0 } }
+        ensures { IsNew hasher result }
     {
         Owned {
             table: Table::new(alloc, 0, hasher),
@@ -125,12 +111,7 @@ impl<K: Eq + Hash, V, H: BuildHasher> Owned<K, V, H> {
     ) -> Result<Self, MakeError>
     where
         H: Drop,
-        ensures entries { IfOk result (λ m. entries m ≡ []) }
-        ensures none { IfOk result (λ m. capacity ≡ 0 → bucket_count m ≡ 0) }
-        ensures size { IfOk result (λ m. 0 < capacity → IsArraySize capacity (32 * bucket_count m)) }
-        ensures settings { IfOk result (λ m. settings_of m
-            ≡ record { hasher = hasher; skipped = 0; asked = 32 * bucket_count m; reserved = 0 }) }
-        ensures succeeds { capacity ≡ 0 → IsOk result }
+        ensures { MakesEmpty (λ _. hasher) 0 capacity result }
     {
         match Table::with_capacity(alloc, 0, capacity, hasher) {
             Ok(table) => Ok(Owned { table }),
@@ -148,12 +129,7 @@ impl<K: Eq + Hash, V, H: BuildHasher> Owned<K, V, H> {
     where
         H: Drop,
         requires { skipped ≤ 4 }
-        ensures entries { IfOk result (λ m. entries m ≡ []) }
-        ensures none { IfOk result (λ m. capacity ≡ 0 → bucket_count m ≡ 0) }
-        ensures size { IfOk result (λ m. 0 < capacity → IsArraySize capacity (32 * bucket_count m)) }
-        ensures settings { IfOk result (λ m. settings_of m
-            ≡ record { hasher = hasher; skipped = skipped; asked = 32 * bucket_count m; reserved = 0 }) }
-        ensures succeeds { capacity ≡ 0 → IsOk result }
+        ensures { MakesEmpty (λ _. hasher) skipped capacity result }
     {
         match Table::with_capacity(alloc, skipped, capacity, hasher) {
             Ok(table) => Ok(Owned { table }),

@@ -173,9 +173,10 @@ pub record Shows {K S : Type 0} (c : Contents (K × Unit {0}) S) (s : Contents K
   pub settings : settings_of s ≡ settings_of c
   pub refused : refused_of s ≡ refused_of c
   pub pending : pending_of s ≡ pending_of c
+  pub waiting : waiting_of s ≡ waiting_of c
 
 pub shows : {K S : Type 0} (c : Contents (K × Unit {0}) S) → Shows c (of_map c)
-shows {K} c = let f : K × Unit {0} → K = λ p. p.0 in record { keys = entries-mapped f c; length = length-mapped f c; buckets = bucket_count-mapped f c; settings = settings_of-mapped f c; refused = refused_of-mapped f c; pending = pending_of-mapped f c }
+shows {K} c = let f : K × Unit {0} → K = λ p. p.0 in record { keys = entries-mapped f c; length = length-mapped f c; buckets = bucket_count-mapped f c; settings = settings_of-mapped f c; refused = refused_of-mapped f c; pending = pending_of-mapped f c; waiting = waiting_of-mapped f c }
 
 -- the note of refused memory stays in the set where it stays in the map
 pub noted-keys : {K S : Type 0} (c d : Contents (K × Unit {0}) S) → refused_of d ≡ refused_of c → refused_of (of_map d) ≡ refused_of (of_map c)

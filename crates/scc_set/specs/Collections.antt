@@ -1,10 +1,10 @@
 -- A set that is made of items, or of another set's keys.
-use Rattle.std.specs.Prelude.{◌≡◌, ◌*◌, ◌<◌, Bool, List, [], ◌∷◌, length, None, IsSome, MatchOption, ◌⊎◌}
+use Rattle.std.specs.Prelude.{◌≡◌, ◌*◌, ◌<◌, Bool, List, [], ◌∷◌, ◌++◌, length, None, IsSome, MatchOption, ◌⊎◌}
 use Rattle.std.specs.List.{FoldsTo}
 use Rattle.std.specs.Option.{IsSomeAnd}
 use Rattle.scc_contents.specs.Contents.{Contents, entries, bucket_count, settings_of}
 use Rattle.scc_contents.specs.Sizes.{IsArraySize}
-use Rattle.scc_contents.specs.Steps.{Holds, IsUnchanged}
+use Rattle.scc_contents.specs.Steps.{Holds, IsUnchanged, Rests}
 use Rattle.scc_set.specs.Keys.{find}
 
 module _ {K S : Type 0} (eq : K → K → Bool) where
@@ -15,6 +15,10 @@ module _ {K S : Type 0} (eq : K → K → Bool) where
   -- the keys were inserted in their order
   abbrev pub InsertsAll : Contents K S → List K → Contents K S → Type 0
   InsertsAll c ks d = FoldsTo InsertsOne c ks d
+
+  -- the keys before k were inserted in their order, and then memory was refused for k, which equals no key
+  abbrev pub StopsAt : Contents K S → List K → K → Contents K S → Type 0
+  StopsAt c ks k d = (before : List K) × (after : List K) × (made : Contents K S) × (ks ≡ before ++ k ∷ after) × InsertsAll c before made × (find eq (entries made) k ≡ None) × Rests made d
 
   -- d is what insertions of the keys, in their order, make of an empty set with an array for as many keys
   pub record IsCollected (ks : List K) (d : Contents K S) : Type 0 where

@@ -4,7 +4,7 @@ ghost use Rattle.std.specs.Arc.{arc_value};
 ghost use Rattle.std.specs.Fn.{FnOnceTakesAt, FnOnceReturnsAt};
 ghost use Rattle.scc_contents.specs.Contents.{entries, bucket_count, settings_of, refused_of, waiting_of, hash_in};
 ghost use Rattle.scc_contents.specs.Pairs.{find as find_pair, IsUnique as IsUniqueMap};
-ghost use Rattle.scc_contents.specs.Sizes.{IsArraySize};
+
 ghost use Rattle.scc_contents.specs.Steps.{HoldsExactly, IsUnchanged, MakesRoom};
 ghost use Rattle.scc_set.specs.Keys.{find, with_key, FindsInstead, HasRoom, IsUnique};
 ghost use Rattle.scc_set.specs.SetSteps.{key_answer as key_answer_of, Inserts, Reads, Removes, RemovesIf};
@@ -52,22 +52,14 @@ impl<K: Eq + Hash, H: BuildHasher> Model for Owned<K, H> {
 impl<K: Eq + Hash> Owned<K> {
     /// An empty set without an array. It takes no memory.
     pub fn new(alloc: Global) -> Self
-        ensures entries { entries result ≡ [] }
-        ensures buckets { bucket_count result ≡ 0 }
-        ensures settings { settings_of result ≡ record
-            { hasher = (settings_of result).hasher; skipped = 0; asked = 0; reserved = 0 } }
+        ensures { IsNew (settings_of result).hasher result }
     {
         Owned::with_hasher(alloc, BuildHasherDefault::new())
     }
 
     /// An empty set with an array for at least so many keys at one a slot, by the rules of `with_capacity_and_hasher`.
     pub fn with_capacity(alloc: Global, capacity: usize) -> Result<Self, MakeError>
-        ensures entries { IfOk result (λ s. entries s ≡ []) }
-        ensures none { IfOk result (λ s. capacity ≡ 0 → bucket_count s ≡ 0) }
-        ensures size { IfOk result (λ s. 0 < capacity → IsArraySize capacity (32 * bucket_count s)) }
-        ensures settings { IfOk result (λ s. settings_of s
-            ≡ record { hasher = (settings_of s).hasher; skipped = 0; asked = 32 * bucket_count s; reserved = 0 }) }
-        ensures succeeds { capacity ≡ 0 → IsOk result }
+        ensures { MakesEmpty (λ s. (settings_of s).hasher) 0 capacity result }
     {
         Owned::with_capacity_and_hasher(alloc, capacity, BuildHasherDefault::new())
     }
@@ -85,12 +77,7 @@ impl<K: Eq + Hash, H: BuildHasher> Owned<K, Shared<H>> {
     where
         H: Drop,
         requires { skipped ≤ 4 }
-        ensures entries { IfOk result (λ s. entries s ≡ []) }
-        ensures none { IfOk result (λ s. capacity ≡ 0 → bucket_count s ≡ 0) }
-        ensures size { IfOk result (λ s. 0 < capacity → IsArraySize capacity (32 * bucket_count s)) }
-        ensures settings { IfOk result (λ s. settings_of s
-            ≡ record { hasher = arc_value hasher; skipped = skipped; asked = 32 * bucket_count s; reserved = 0 }) }
-        ensures succeeds { capacity ≡ 0 → IsOk result }
+        ensures { MakesEmpty (λ _. arc_value hasher) skipped capacity result }
     {
         Owned::skipping(alloc, skipped, capacity, Shared::new(hasher))
     }
@@ -99,9 +86,7 @@ impl<K: Eq + Hash, H: BuildHasher> Owned<K, Shared<H>> {
 impl<K: Eq + Hash, H: BuildHasher> Owned<K, H> {
     /// An empty set without an array. It takes no memory.
     pub fn with_hasher(alloc: Global, hasher: H) -> Self
-        ensures entries { entries result ≡ [] }
-        ensures buckets { bucket_count result ≡ 0 }
-        ensures settings { settings_of result ≡ record { hasher = hasher; skipped = 0; asked = 0; reserved = 0 } }
+        ensures { IsNew hasher result }
     {
         Owned {
             map: scc_map::Owned::with_hasher(alloc, hasher),
@@ -117,12 +102,7 @@ impl<K: Eq + Hash, H: BuildHasher> Owned<K, H> {
     ) -> Result<Self, MakeError>
     where
         H: Drop,
-        ensures entries { IfOk result (λ s. entries s ≡ []) }
-        ensures none { IfOk result (λ s. capacity ≡ 0 → bucket_count s ≡ 0) }
-        ensures size { IfOk result (λ s. 0 < capacity → IsArraySize capacity (32 * bucket_count s)) }
-        ensures settings { IfOk result (λ s. settings_of s
-            ≡ record { hasher = hasher; skipped = 0; asked = 32 * bucket_count s; reserved = 0 }) }
-        ensures succeeds { capacity ≡ 0 → IsOk result }
+        ensures { MakesEmpty (λ _. hasher) 0 capacity result }
     {
         match scc_map::Owned::with_capacity_and_hasher(alloc, capacity, hasher) {
             Ok(map) => Ok(Owned { map }),
@@ -140,12 +120,7 @@ impl<K: Eq + Hash, H: BuildHasher> Owned<K, H> {
     where
         H: Drop,
         requires { skipped ≤ 4 }
-        ensures entries { IfOk result (λ s. entries s ≡ []) }
-        ensures none { IfOk result (λ s. capacity ≡ 0 → bucket_count s ≡ 0) }
-        ensures size { IfOk result (λ s. 0 < capacity → IsArraySize capacity (32 * bucket_count s)) }
-        ensures settings { IfOk result (λ s. settings_of s
-            ≡ record { hasher = hasher; skipped = skipped; asked = 32 * bucket_count s; reserved = 0 }) }
-        ensures succeeds { capacity ≡ 0 → IsOk result }
+        ensures { MakesEmpty (λ _. hasher) skipped capacity result }
     {
         match scc_map::Owned::skipping(alloc, skipped, capacity, hasher) {
             Ok(map) => Ok(Owned { map }),

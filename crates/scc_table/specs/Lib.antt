@@ -1,5 +1,6 @@
 pub mod Bounded
 pub mod LendsTable
+pub mod Making
 pub mod Placed
 pub mod Places
 pub mod Relocates

@@ -11,6 +11,7 @@ pub mod counts;
 pub mod difference;
 pub mod distinct;
 pub mod evaluator;
+pub mod fresh;
 pub mod interner;
 pub mod marks;
 pub mod memo;

@@ -1,7 +1,7 @@
 //! How a cache is made.
 ghost use Rattle.std.specs.Arc.{arc_value};
-ghost use Rattle.std.specs.Prelude.{◌≡◌, ◌≤◌, ◌<◌, ◌*◌, [], max, IsOk, IfOk};
-ghost use Rattle.scc_contents.specs.Contents.{entries, bucket_count, settings_of, waiting_of};
+ghost use Rattle.std.specs.Prelude.{◌≡◌, ◌≤◌, ◌<◌, ◌*◌, [], max, IsOk, IfOk, false};
+ghost use Rattle.scc_contents.specs.Contents.{entries, bucket_count, settings_of, refused_of, waiting_of};
 ghost use Rattle.scc_contents.specs.Sizes.{IsArraySize};
 
 use super::Owned;
@@ -21,6 +21,7 @@ impl<K: Eq + Hash, V> Owned<K, V> {
         ensures settings { settings_of result.contents
             ≡ record { hasher = (settings_of result.contents).hasher; skipped = 0; asked = 0; reserved = 0 } }
         ensures maximum { result.maximum ≡ 256 }
+        ensures noted { refused_of result.contents ≡ (false, false) }
         ensures waiting { waiting_of result.contents ≡ [] }
     {
         Owned::with_hasher(alloc, BuildHasherDefault::new())
@@ -40,6 +41,7 @@ impl<K: Eq + Hash, V> Owned<K, V> {
             }) }
         ensures maximum { IfOk result (λ c. IsArraySize (max maximum (32 * bucket_count c.contents)) c.maximum) }
         ensures succeeds { capacity ≡ 0 → IsOk result }
+        ensures noted { IfOk result (λ c. refused_of c.contents ≡ (false, false)) }
         ensures waiting { IfOk result (λ c. waiting_of c.contents ≡ []) }
     {
         Owned::with_capacity_and_hasher(alloc, capacity, maximum, BuildHasherDefault::new())
@@ -71,6 +73,7 @@ impl<K: Eq + Hash, V, H: BuildHasher> Owned<K, V, Shared<H>> {
             }) }
         ensures maximum { IfOk result (λ c. IsArraySize (max maximum (32 * bucket_count c.contents)) c.maximum) }
         ensures succeeds { capacity ≡ 0 → IsOk result }
+        ensures noted { IfOk result (λ c. refused_of c.contents ≡ (false, false)) }
         ensures waiting { IfOk result (λ c. waiting_of c.contents ≡ []) }
     {
         Owned::skipping(alloc, skipped, capacity, maximum, Shared::new(hasher))
@@ -85,6 +88,7 @@ impl<K: Eq + Hash, V, H: BuildHasher> Owned<K, V, H> {
         ensures settings { settings_of result.contents
             ≡ record { hasher = hasher; skipped = 0; asked = 0; reserved = 0 } }
         ensures maximum { result.maximum ≡ 256 }
+        ensures noted { refused_of result.contents ≡ (false, false) }
         ensures waiting { waiting_of result.contents ≡ [] }
     {
         Owned {
@@ -111,6 +115,7 @@ impl<K: Eq + Hash, V, H: BuildHasher> Owned<K, V, H> {
             ≡ record { hasher = hasher; skipped = 0; asked = 32 * bucket_count c.contents; reserved = 0 }) }
         ensures maximum { IfOk result (λ c. IsArraySize (max maximum (32 * bucket_count c.contents)) c.maximum) }
         ensures succeeds { capacity ≡ 0 → IsOk result }
+        ensures noted { IfOk result (λ c. refused_of c.contents ≡ (false, false)) }
         ensures waiting { IfOk result (λ c. waiting_of c.contents ≡ []) }
     {
         Owned::skipping(alloc, 0, capacity, maximum, hasher)
@@ -134,6 +139,7 @@ impl<K: Eq + Hash, V, H: BuildHasher> Owned<K, V, H> {
             ≡ record { hasher = hasher; skipped = skipped; asked = 32 * bucket_count c.contents; reserved = 0 }) }
         ensures maximum { IfOk result (λ c. IsArraySize (max maximum (32 * bucket_count c.contents)) c.maximum) }
         ensures succeeds { capacity ≡ 0 → IsOk result }
+        ensures noted { IfOk result (λ c. refused_of c.contents ≡ (false, false)) }
         ensures waiting { IfOk result (λ c. waiting_of c.contents ≡ []) }
     {
         match Table::with_capacity(alloc, skipped, capacity, hasher) {

@@ -1,9 +1,9 @@
 //! Indexes that are made of items.
-ghost use Rattle.std.specs.Prelude.{List, IfOk, OnOk};
+ghost use Rattle.std.specs.Prelude.{List, IfErr, IfOk, OnOk};
 ghost use Rattle.std.specs.Iterator.{Drains, IsFinite};
 ghost use Rattle.scc_contents.specs.Contents.{entries};
 ghost use Rattle.scc_contents.specs.Pairs.{IsUnique};
-ghost use Rattle.scc_index.specs.Collections.{FindsFirst, InsertsAll, IsCollected};
+ghost use Rattle.scc_index.specs.Collections.{FindsFirst, InsertsAll, IsCollected, StopsAt};
 
 use super::Owned;
 use scc_common::{InsertError, MakeError};
@@ -32,22 +32,25 @@ impl<K: Eq + Hash, V, H: BuildHasher> Owned<K, V, H> {
             return Err(MakeError);
         };
         let mut made = Owned::with_capacity_and_hasher(alloc, pairs.len(), H::default())?;
-        made.insert_all(pairs)?;
+        let Ok(()) = made.insert_all(pairs) else {
+            return Err(MakeError);
+        };
         Ok(made)
     }
 
-    /// Inserts the pairs in their order, up to the first for which memory is refused.
-    fn insert_all(&mut self, pairs: Vec<(K, V)>) -> Result<(), MakeError>
+    /// Inserts the pairs in their order, up to the first for which memory is refused, which comes back.
+    fn insert_all(&mut self, pairs: Vec<(K, V)>) -> Result<(), (K, V)>
     where
         K: Drop,
         V: Drop,
-        ensures { OnOk result (InsertsAll K.eq self.old pairs.items self.new) }
+        ensures refused { IfErr result (λ p. StopsAt K.eq self.old pairs.items p self.new) }
+        ensures run { OnOk result (InsertsAll K.eq self.old pairs.items self.new) }
     {
         for (k, v) in pairs {
             match self.insert_sync(k, v) {
                 Ok(()) => {}
                 Err(InsertError::Exists(_pair)) => {}
-                Err(InsertError::Memory(_)) => return Err(MakeError),
+                Err(InsertError::Memory(pair)) => return Err(pair),
             }
         }
         Ok(())

@@ -32,6 +32,8 @@ impl<K: Eq + Hash, V, H: BuildHasher> Owned<K, V, H> {
             × IsPermutation (entries self.old) es × Takes (CalledToWrite F.FnMut) f es stay more result last
             × (taken.new.items ≡ taken.old.items ++ more) × Holds self.old stay self.new }
         ensures still { taken.new.items ≡ taken.old.items → bucket_count self.new ≡ bucket_count self.old }
+        ensures noted { taken.new.items ≡ taken.old.items → refused_of self.new ≡ refused_of self.old }
+        ensures rests { taken.new.items ≡ taken.old.items → waiting_of self.new ≡ waiting_of self.old }
         ensures smaller { bucket_count self.new ≢ bucket_count self.old
             → IsSmaller (minimum_of self.old) (length (entries self.new)) (bucket_count self.old)
             (bucket_count self.new) }
@@ -56,6 +58,8 @@ impl<K: Eq + Hash, V, H: BuildHasher> Owned<K, V, H> {
             × IsPermutation (entries self.old) es × Takes (CalledToWrite F.FnMut) f es stay more result last
             × (L.pairs taken.new ≡ L.pairs taken.old ++ more) × Holds self.old stay self.new }
         ensures still { L.pairs taken.new ≡ L.pairs taken.old → bucket_count self.new ≡ bucket_count self.old }
+        ensures noted { L.pairs taken.new ≡ L.pairs taken.old → refused_of self.new ≡ refused_of self.old }
+        ensures rests { L.pairs taken.new ≡ L.pairs taken.old → waiting_of self.new ≡ waiting_of self.old }
         ensures smaller { bucket_count self.new ≢ bucket_count self.old
             → IsSmaller (minimum_of self.old) (length (entries self.new)) (bucket_count self.old)
             (bucket_count self.new) }
@@ -81,6 +85,8 @@ impl<K: Eq + Hash, V, H: BuildHasher> Owned<K, V, H> {
             × IsPermutation (entries self.old) es × Takes (CalledToWrite F.FnMut) f.old es stay more result f.new
             × (L.pairs taken.new ≡ L.pairs taken.old ++ more) × Holds self.old stay self.new }
         ensures still { L.pairs taken.new ≡ L.pairs taken.old → bucket_count self.new ≡ bucket_count self.old }
+        ensures noted { L.pairs taken.new ≡ L.pairs taken.old → refused_of self.new ≡ refused_of self.old }
+        ensures rests { L.pairs taken.new ≡ L.pairs taken.old → waiting_of self.new ≡ waiting_of self.old }
         ensures smaller { bucket_count self.new ≢ bucket_count self.old
             → IsSmaller (minimum_of self.old) (length (entries self.new)) (bucket_count self.old)
             (bucket_count self.new) }

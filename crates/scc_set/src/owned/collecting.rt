@@ -1,9 +1,9 @@
 //! Sets that are made of items.
-ghost use Rattle.std.specs.Prelude.{◌≡◌, List, IfOk, OnOk};
+ghost use Rattle.std.specs.Prelude.{◌≡◌, List, IfErr, IfOk, OnOk};
 ghost use Rattle.std.specs.Iterator.{Drains, IsFinite};
 ghost use Rattle.std.specs.Option.{option_or};
 ghost use Rattle.scc_contents.specs.Contents.{entries, settings_of};
-ghost use Rattle.scc_set.specs.Collections.{FindsItems, InsertsAll, IsCollected};
+ghost use Rattle.scc_set.specs.Collections.{FindsItems, InsertsAll, IsCollected, StopsAt};
 ghost use Rattle.scc_set.specs.Keys.{find, IsUnique};
 
 use super::Owned;
@@ -32,15 +32,18 @@ impl<K: Eq + Hash, H: BuildHasher> Owned<K, H> {
             return Err(MakeError);
         };
         let mut made = Owned::with_capacity_and_hasher(alloc, keys.len(), H::default())?;
-        made.insert_all(keys)?;
+        let Ok(()) = made.insert_all(keys) else {
+            return Err(MakeError);
+        };
         Ok(made)
     }
 
-    /// Inserts the keys in their order, up to the first that is refused. The call of `len` is there for its contract:
-    /// no two keys are equal.
-    fn insert_all(&mut self, keys: Vec<K>) -> Result<(), MakeError>
+    /// Inserts the keys in their order, up to the first for which memory is refused, which comes back. The call of
+    /// `len` is there for its contract: no two keys are equal.
+    fn insert_all(&mut self, keys: Vec<K>) -> Result<(), K>
     where
         K: Drop,
+        ensures refused { IfErr result (λ k. StopsAt K.eq self.old keys.items k self.new) }
         ensures run { OnOk result (InsertsAll K.eq self.old keys.items self.new) }
         ensures settings { OnOk result (settings_of self.new ≡ settings_of self.old) }
         ensures finds { OnOk result ((q : K) → find K.eq (entries self.new) q
@@ -51,7 +54,7 @@ impl<K: Eq + Hash, H: BuildHasher> Owned<K, H> {
             match self.insert_sync(k) {
                 Ok(()) => {}
                 Err(KeyError::Exists(_)) => {}
-                Err(KeyError::Memory(_)) => return Err(MakeError),
+                Err(KeyError::Memory(k)) => return Err(k),
             }
         }
         let _ = self.len();

@@ -3,7 +3,7 @@ ghost use Rattle.std.specs.Prelude.{◌≡◌, ◌≢◌, ◌≤◌, ◌++◌, L
 ghost use Rattle.std.specs.Fn.{CalledAt, TakesAt};
 ghost use Rattle.std.specs.List.Sorted.{IsPermutation};
 ghost use Rattle.std.specs.Vec.{vec_len, vec_capacity};
-ghost use Rattle.scc_contents.specs.Contents.{entries, bucket_count, minimum_of};
+ghost use Rattle.scc_contents.specs.Contents.{entries, bucket_count, minimum_of, refused_of, waiting_of};
 ghost use Rattle.scc_contents.specs.Sizes.{IsSmaller};
 ghost use Rattle.scc_contents.specs.Steps.{Holds, ShrinksWhenDue};
 ghost use Rattle.scc_table.specs.Relocations.{RelocatesNone};
@@ -70,6 +70,8 @@ impl<K: Eq + Hash, H: BuildHasher> Owned<K, H> {
             × IsPermutation (entries self.old) ks × Takes (CalledAt F.FnMut) f ks stay more result last
             × (taken.new.items ≡ taken.old.items ++ more) × Holds self.old stay self.new }
         ensures still { taken.new.items ≡ taken.old.items → bucket_count self.new ≡ bucket_count self.old }
+        ensures noted { taken.new.items ≡ taken.old.items → refused_of self.new ≡ refused_of self.old }
+        ensures rests { taken.new.items ≡ taken.old.items → waiting_of self.new ≡ waiting_of self.old }
         ensures smaller { bucket_count self.new ≢ bucket_count self.old
             → IsSmaller (minimum_of self.old) (length (entries self.new)) (bucket_count self.old)
             (bucket_count self.new) }

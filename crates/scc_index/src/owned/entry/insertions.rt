@@ -30,7 +30,7 @@ impl<'a, K: Eq + Hash, V, H: BuildHasher> HeldPlace<&'a mut Owned<K, V, H>, (), 
             (hash_in ⟦<H as Hashes<K>>⟧.hash_of (entry_guard self.entry).now) self.entry) }
         ensures unique { IfOk result (λ o. IsUnique K.eq (held_index o)) }
         ensures* kept { sem 𝓛 (rests_if_refused K.row V.row H.row H.Hasher.row K.Hash H.BuildHasher H.Hasher.Hasher
-            (entry_guard self.entry) result) }
+            (entry_guard self.entry) (entry_key self.entry) result) }
     {
         match self {
             HeldPlace::Occupied(entry) => {
@@ -86,7 +86,7 @@ impl<'a, K: Eq + Hash, V, H: BuildHasher> HeldPlace<&'a mut Owned<K, V, H>, (), 
             (hash_in ⟦<H as Hashes<K>>⟧.hash_of (entry_guard self.entry).now) self.entry) }
         ensures unique { IfOk result (λ o. IsUnique K.eq (held_index o)) }
         ensures* kept { sem 𝓛 (rests_if_refused K.row V.row H.row H.Hasher.row K.Hash H.BuildHasher H.Hasher.Hasher
-            (entry_guard self.entry) result) }
+            (entry_guard self.entry) (entry_key self.entry) result) }
     {
         match self {
             HeldPlace::Occupied(entry) => {
@@ -142,7 +142,7 @@ impl<'a, K: Eq + Hash, V, H: BuildHasher> HeldPlace<&'a mut Owned<K, V, H>, (), 
             (hash_in ⟦<H as Hashes<K>>⟧.hash_of (entry_guard self.entry).now) self.entry) }
         ensures unique { IfOk result (λ o. IsUnique K.eq (held_index o)) }
         ensures* kept { sem 𝓛 (rests_if_refused K.row V.row H.row H.Hasher.row K.Hash H.BuildHasher H.Hasher.Hasher
-            (entry_guard self.entry) result) }
+            (entry_guard self.entry) (entry_key self.entry) result) }
     {
         match self {
             HeldPlace::Occupied(entry) => {
@@ -195,7 +195,7 @@ impl<'a, K: Eq + Hash, V, H: BuildHasher> HeldPlace<&'a mut Owned<K, V, H>, (), 
             (hash_in ⟦<H as Hashes<K>>⟧.hash_of (entry_guard self.entry).now) self.entry) }
         ensures unique { IfOk result (λ o. IsUnique K.eq (held_index o)) }
         ensures* kept { sem 𝓛 (rests_if_refused K.row V.row H.row H.Hasher.row K.Hash H.BuildHasher H.Hasher.Hasher
-            (entry_guard self.entry) result) }
+            (entry_guard self.entry) (entry_key self.entry) result) }
     {
         match self {
             HeldPlace::Occupied(entry) => {

@@ -1,9 +1,10 @@
 //! What makes an entry of a borrowed index, and what lets the index go. The search is made once, and an entry holds its
 //! place.
-ghost use Rattle.std.specs.Prelude.{◌≡◌, ◌++◌, None, IfOk, IfErr, IfSome, IfNone};
+ghost use Rattle.std.specs.Prelude.{◌≡◌, ◌≢◌, ◌++◌, length, None, IfOk, IfErr, IfSome, IfNone};
 ghost use Rattle.std.specs.Borrow.{sem};
-ghost use Rattle.scc_contents.specs.Contents.{entries, hash_in};
+ghost use Rattle.scc_contents.specs.Contents.{entries, bucket_count, minimum_of, hash_in};
 ghost use Rattle.scc_contents.specs.Pairs.{find, IsUnique};
+ghost use Rattle.scc_contents.specs.Sizes.{IsSmaller};
 ghost use Rattle.scc_contents.specs.Steps.{Holds, ShrinksWhenDue};
 ghost use Rattle.scc_table.specs.Relocations.{Relocates, RelocatesNone, RelocatesTwo};
 ghost use Rattle.scc_index.specs.Entries.{Memory, held_index, occupied_front, occupied_back, entry_guard, IsOccupiedAt, IsEntryOf, IsGrownFor, IsInserted, rests_if_refused, rests_if_none};
@@ -74,6 +75,9 @@ impl<'a, N, K: Eq + Hash, V, H: BuildHasher> HeldEntry<&'a mut Owned<K, V, H>, N
         V: Drop,
         ensures removed { Holds (held_index self.entry) (occupied_front self.entry ++ occupied_back self.entry)
             self.exit.0.now }
+        ensures smaller { bucket_count self.exit.0.now ≢ bucket_count (held_index self.entry)
+            → IsSmaller (minimum_of (held_index self.entry)) (length (entries self.exit.0.now))
+            (bucket_count (held_index self.entry)) (bucket_count self.exit.0.now) }
         ensures due { ShrinksWhenDue (held_index self.entry) self.exit.0.now }
         ensures relocates { RelocatesNone (held_index self.entry) self.exit.0.now }
         ensures unique { IsUnique K.eq self.exit.0.now }
@@ -104,7 +108,7 @@ impl<'a, K: Eq + Hash, V, H: BuildHasher> HeldVacant<&'a mut Owned<K, V, H>, (),
         ensures unique { IfOk result (λ o. IsUnique K.eq (held_index o)) }
         ensures refused { IfErr result (λ e. e ≡ Memory (self.entry.key, value)) }
         ensures* kept { sem 𝓛 (rests_if_refused K.row V.row H.row H.Hasher.row K.Hash H.BuildHasher H.Hasher.Hasher
-            self.entry.guard result) }
+            self.entry.guard self.entry.key result) }
     {
         let HeldVacant {
             guard,

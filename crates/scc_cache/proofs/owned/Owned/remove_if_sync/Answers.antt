@@ -55,3 +55,6 @@ returns-else-f-clause-relocates g c =
     let p = c.in_ok-place.place in
     let w = c.f.new.arg2 in
     kept-none _ m.contents (with_value_at m p w).contents (written-count with_pair_value m.contents (spot_of m.contents p) c.in_ok-place.ensures.within w) (waiting-written m p w)
+
+pub returns-else-f-clause-rests : goal.returns-else-f-clause-rests
+returns-else-f-clause-rests g c = λ none. waiting-written c.args.self.now c.in_ok-place.place c.f.new.arg2

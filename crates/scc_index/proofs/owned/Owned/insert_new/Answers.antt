@@ -31,3 +31,6 @@ pub returns-clause-two : goal.returns-clause-two
 returns-clause-two g c =
     rw (← c.self.view_is)
     (both_ok c.insert_made.result (λ settled exact. subst (λ h. RelocatesTwo h c.self.inside.table c.insert_made.new.self) (rw (← c.self.view_is) at c.requires.hashed) record { settled = settled; exact = exact }) c.insert_made.ensures.settled c.insert_made.ensures.exact)
+
+pub returns-clause-raised : goal.returns-clause-raised
+returns-clause-raised g c = rw (← c.self.view_is) c.insert_made.ensures.raised

@@ -18,6 +18,20 @@ returns-then-len-before-clause-still g c = λ same.
     let fewer : length (entries c.take_walk-result.new.self) < length (entries c.args.self.now) = search rules in
     absurd (omega (arith, none, fewer, takes-count x.2, ap length x.4.exact))
 
+pub returns-then-len-before-clause-noted : goal.returns-then-len-before-clause-noted
+returns-then-len-before-clause-noted g c = λ same.
+    let x = c.take_walk-result.ensures.step in
+    let none = appended-none (g.L.Sink.pairs c.args.taken.now) (g.L.Sink.pairs c.take_walk-result.new.taken) x.1 x.3 same in
+    let fewer : length (entries c.take_walk-result.new.self) < length (entries c.args.self.now) = search rules in
+    absurd (omega (arith, none, fewer, takes-count x.2, ap length x.4.exact))
+
+pub returns-then-len-before-clause-rests : goal.returns-then-len-before-clause-rests
+returns-then-len-before-clause-rests g c = λ same.
+    let x = c.take_walk-result.ensures.step in
+    let none = appended-none (g.L.Sink.pairs c.args.taken.now) (g.L.Sink.pairs c.take_walk-result.new.taken) x.1 x.3 same in
+    let fewer : length (entries c.take_walk-result.new.self) < length (entries c.args.self.now) = search rules in
+    absurd (omega (arith, none, fewer, takes-count x.2, ap length x.4.exact))
+
 pub returns-then-len-before-clause-smaller : goal.returns-then-len-before-clause-smaller
 returns-then-len-before-clause-smaller g c =
     let held = c.take_walk-result.ensures.step.4 in

@@ -1,16 +1,10 @@
-use Rattle.std.proofs.Common.{ap, ◌∙◌}
+use Rattle.std.proofs.Common.{ap, ◌∙◌, rules}
 use Rattle.std.specs.Map.{keys_of}
 use Rattle.scc_set.proofs.Sets.{shows}
 use Rattle.scc_set.proofs.owned.Owned.skipping.Goals as goal
 
-pub returns-in-Ok-clause-entries : goal.returns-in-Ok-clause-entries
-returns-in-Ok-clause-entries g c = (shows c.in-Ok.map).keys ∙ ap (λ es. keys_of es) c.in-Ok.ensures.entries
-
-pub returns-in-Ok-clause-none : goal.returns-in-Ok-clause-none
-returns-in-Ok-clause-none g c = λ z. (shows c.in-Ok.map).buckets ∙ c.in-Ok.ensures.none z
-
-pub returns-in-Ok-clause-size : goal.returns-in-Ok-clause-size
-returns-in-Ok-clause-size g c = rw (shows c.in-Ok.map).buckets c.in-Ok.ensures.size
-
-pub returns-in-Ok-clause-settings : goal.returns-in-Ok-clause-settings
-returns-in-Ok-clause-settings g c = rw ((shows c.in-Ok.map).settings, (shows c.in-Ok.map).buckets) c.in-Ok.ensures.settings
+pub returns-in-Ok : goal.returns-in-Ok
+returns-in-Ok g c =
+    let s = shows c.in-Ok.map in
+    let e = c.in-Ok.ensures in
+    record { entries = s.keys ∙ ap (λ es. keys_of es) e.entries; none = λ z. s.buckets ∙ e.none z; size = rw s.buckets e.size; settings = rw (s.settings, s.buckets) e.settings; succeeds = (search rules); noted = s.refused ∙ e.noted; waiting = s.waiting ∙ e.waiting }

@@ -3,11 +3,8 @@ use Rattle.std.proofs.Common.{ap, ◌∙◌}
 use Rattle.scc_set.proofs.Sets.{shows}
 use Rattle.scc_set.proofs.owned.Owned.with_hasher.Goals as goal
 
-pub returns-clause-entries : goal.returns-clause-entries
-returns-clause-entries g c = (shows c.with_hasher.result).keys ∙ ap (λ es. keys_of es) c.with_hasher.ensures.entries
-
-pub returns-clause-buckets : goal.returns-clause-buckets
-returns-clause-buckets g c = (shows c.with_hasher.result).buckets ∙ c.with_hasher.ensures.buckets
-
-pub returns-clause-settings : goal.returns-clause-settings
-returns-clause-settings g c = (shows c.with_hasher.result).settings ∙ c.with_hasher.ensures.settings
+pub returns : goal.returns
+returns g c =
+    let s = shows c.with_hasher.result in
+    let e = c.with_hasher.ensures in
+    record { entries = s.keys ∙ ap (λ es. keys_of es) e.entries; buckets = s.buckets ∙ e.buckets; settings = s.settings ∙ e.settings; noted = s.refused ∙ e.noted; waiting = s.waiting ∙ e.waiting }

@@ -12,6 +12,6 @@ returns-in-Ok g c =
 
 pub returns-in-Err : goal.returns-in-Err
 returns-in-Err g c = (
-  (refl, λ _. tt, rw c.in-Vacant.is (record { unchanged = c.in-Err.ensures.unchanged; relocates = c.insert_new.ensures.relocates })),
+  (refl, λ _. tt, rw c.in-Vacant.is (record { unchanged = c.in-Err.ensures.unchanged; raised = c.in-Err.ensures.raised; relocates = c.insert_new.ensures.relocates })),
   record { entry = tt; refused = rw c.in-Vacant.is (rw c.in-Err.ensures.refused refl); vacant = rw c.in-Vacant.is tt; growth = tt; relocates = tt; unique = tt; kept = tt },
 )

@@ -1,0 +1,28 @@
+//! A map that is made with room and filled within it.
+ghost use Rattle.std.specs.Prelude.{◌≡◌, ◌<◌, ◌≤◌, IfSome};
+ghost use Rattle.scc_contents.specs.Contents.{bucket_count, pending_of};
+
+use scc_map::Owned;
+use std::alloc::Global;
+
+/// Inserts the key with itself, where the map lacks it and has room for it.
+fn add_within(map: &mut Owned<u64, u64>, key: u64)
+    requires array { 0 < bucket_count map.old }
+    ensures buckets { bucket_count map.new ≡ bucket_count map.old }
+    ensures pending { pending_of map.new ≤ pending_of map.old }
+{
+    if !map.contains_sync(&key) && map.has_room(&key) {
+        let _answer = map.insert_sync(key, key);
+    }
+}
+
+/// A map with an array for 64 pairs, and with those of the keys for which it had room: no bucket waits for its pairs.
+pub fn filled(alloc: Global, keys: &[u64]) -> Option<Owned<u64, u64>>
+    ensures { IfSome result (λ m. pending_of m ≡ 0) }
+{
+    let mut map = Owned::with_capacity(alloc, 64).ok()?;
+    for key in keys {
+        add_within(&mut map, *key);
+    }
+    Some(map)
+}
