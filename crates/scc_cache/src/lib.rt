@@ -1,4 +1,4 @@
-//! A hash cache over the buckets of `scc_buckets`, for one owner.
+//! A hash cache over the table of `scc_table`, for one owner.
 #![tactic(auto)]
 
 pub mod held;

@@ -8,7 +8,7 @@ use Rattle.scc_contents.specs.Walks.{HoldsInTurn}
 use Rattle.scc_buckets.specs.declared.place.Place.{Place}
 use Rattle.scc_buckets.proofs.Placed.{take-more, drop-here, take-removed, drop-removed}
 use Rattle.scc_buckets.proofs.Standing.{index-below}
-use Rattle.scc_buckets.proofs.WalkLemmas.{turn-first, turn-others}
+use Rattle.scc_contents.proofs.WalkLemmas.{turn-first, turn-others}
 use Rattle.scc_index.specs.IndexWalks.{Retains, kept, removed}
 use Rattle.scc_table.proofs.Reached.{reached}
 use Rattle.scc_table.proofs.Visits.{shorter}

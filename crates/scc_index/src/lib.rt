@@ -1,5 +1,5 @@
-//! A hash index over the versions of `scc_buckets`, for one owner: a map whose entries are immutable versions that
-//! readers keep.
+//! A hash index over the table of `scc_table`, for one owner: a map whose entries are immutable versions that readers
+//! keep.
 #![tactic(auto)]
 
 pub mod held;

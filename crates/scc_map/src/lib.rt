@@ -1,4 +1,4 @@
-//! A hash map over the buckets of `scc_buckets`, for one owner, and the entries of one that stands behind a lock.
+//! A hash map over the table of `scc_table`, for one owner, and the entries of one that stands behind a lock.
 #![tactic(auto)]
 
 pub mod held;

@@ -11,9 +11,8 @@ use std::sync::Wait;
 
 impl<K: Eq + Hash, V, H: BuildHasher> HashCache<K, V, H> {
     /// Puts in the pair where no key equals `k`, as the most recent of its bucket, and answers the pair that it drove
-    /// out of that
-    /// bucket. Where a key equals `k`, and where the stripe has no array and none can be had, the supplied pair comes
-    /// back.
+    /// out of that bucket. Where a key equals `k`, and where the stripe has no array and none can be had, the supplied
+    /// pair comes back.
     pub fn put_sync(
         &self,
         rt: &impl Wait,
@@ -42,8 +41,7 @@ impl<K: Eq + Hash, V, H: BuildHasher> HashCache<K, V, H> {
     }
 
     /// Takes out the pair of `k` where `f` answers true on its value. What `f` wrote goes with the pair, and stays
-    /// where it answers
-    /// false; then the answer is None, and the order of the pairs stays.
+    /// where it answers false; then the answer is None, and the order of the pairs stays.
     pub fn remove_if_sync<F: FnOnce(&mut V) -> bool>(
         &self,
         rt: &impl Wait,

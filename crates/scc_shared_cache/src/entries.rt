@@ -15,8 +15,7 @@ use std::sync::Wait;
 
 impl<K: Eq + Hash, V, H: BuildHasher> HashCache<K, V, H> {
     /// The entry of `k`: occupied at the stored pair, which becomes the most recent of its bucket, or vacant with `k`.
-    /// It makes no
-    /// array.
+    /// It makes no array.
     pub fn entry_sync(&self, rt: &impl Wait, k: K) -> Entry<'_, K, V, H>
     where
         K: Drop,
@@ -30,8 +29,7 @@ impl<K: Eq + Hash, V, H: BuildHasher> HashCache<K, V, H> {
     }
 
     /// The occupied entry of `k`, whose pair becomes the most recent of its bucket, or None where no key equals it;
-    /// then nothing
-    /// changes.
+    /// then nothing changes.
     pub fn get_sync(&self, rt: &impl Wait, k: &K) -> Option<OccupiedEntry<'_, K, V, H>>
         ensures key { IfSome result (λ o. HasKey K.eq k.now (occupied_pair o)) }
         ensures entry { IfSome result (λ o. (before : Cached (K × V) H) × IsRefreshed K.eq before k.now o) }
@@ -42,8 +40,8 @@ impl<K: Eq + Hash, V, H: BuildHasher> HashCache<K, V, H> {
     }
 
     /// Puts `k` in the place of the key that equals it, keeps the value, makes the pair the most recent of its bucket,
-    /// and answers
-    /// the entry with the old key. Where no key equals it, nothing changes, and it answers the vacant entry.
+    /// and answers the entry with the old key. Where no key equals it, nothing changes, and it answers the vacant
+    /// entry.
     pub fn replace_sync(&self, rt: &impl Wait, k: K) -> ReplaceResult<'_, K, V, H>
         ensures key { ReplacesEqual K.eq k result }
         ensures step { (before : Cached (K × V) H) × Replaces K.eq before k result }

@@ -22,8 +22,8 @@ use std::hash::{BuildHasher, BuildHasherDefault, FoldHasher, Hash};
 use std::sync::Arc;
 
 /// A cache from keys to values that threads share by reference. Each of its stripes is an owned cache behind a lock,
-/// and a call
-/// takes the lock of the stripe of its key. Each stripe has its share of the maximum, and drives out by itself.
+/// and a call takes the lock of the stripe of its key. Each stripe has its share of the maximum, and drives out by
+/// itself.
 ///
 /// A thread that holds an entry and calls into the same stripe waits for itself.
 #[derive(Drop)]
@@ -57,11 +57,9 @@ impl<K: Eq + Hash + Drop, V: Drop, H: BuildHasher + Drop> HashCache<K, V, H> {
     }
 
     /// An empty cache. Its arrays have the least power of two of slots that is at least `capacity` and 64 together;
-    /// none is
-    /// made for 0. Its maximum is the greatest of `maximum`, these slots and 64, raised to a power of two, at most 2 ^
-    /// 63. Both
-    /// are divided evenly among as many stripes as get 64 slots each, of those asked for or else of the maximum, 16 at
-    /// most.
+    /// none is made for 0. Its maximum is the greatest of `maximum`, these slots and 64, raised to a power of two, at
+    /// most 2 ^ 63. Both are divided evenly among as many stripes as get 64 slots each, of those asked for or else of
+    /// the maximum, 16 at most.
     pub fn with_capacity_and_hasher(
         alloc: Global,
         capacity: usize,

@@ -11,8 +11,7 @@ use std::sync::Wait;
 
 impl<K: Eq + Hash, V, H: BuildHasher> HashCache<K, V, H> {
     /// Calls `f` on pairs, stripe after stripe, until its first false, and answers false where it stopped. One stripe
-    /// is held for
-    /// reading at a time.
+    /// is held for reading at a time.
     pub fn iter_sync<F: FnMut(&K, &V) -> bool>(&self, rt: &impl Wait, mut f: F) -> bool
         requires { F.IsAlwaysCallable f }
         ensures calls { (es : List (K × V)) × (last : F) × Walks (CalledOn F.FnMut) f es result last }
@@ -26,8 +25,7 @@ impl<K: Eq + Hash, V, H: BuildHasher> HashCache<K, V, H> {
     }
 
     /// Calls `f` on the pairs, stripe after stripe, with the value to write, and takes out those on which it answers
-    /// false. Then the
-    /// array of the stripe may become smaller.
+    /// false. Then the array of the stripe may become smaller.
     pub fn retain_sync<F: FnMut(&K, &mut V) -> bool>(&self, rt: &impl Wait, mut f: F)
     where
         K: Drop,
@@ -42,10 +40,9 @@ impl<K: Eq + Hash, V, H: BuildHasher> HashCache<K, V, H> {
     }
 
     /// Calls `f` on the pairs, stripe after stripe, with the value to write, until it stops, and answers false where it
-    /// stopped. A
-    /// pair on which it answers `Take` or `TakeStop` goes to the end of `taken`. Room for one pair is made in `taken`
-    /// before each
-    /// call of `f`; where it can't be had, the walk ends with an error, and what it did so far stays.
+    /// stopped. A pair on which it answers `Take` or `TakeStop` goes to the end of `taken`. Room for one pair is made
+    /// in `taken` before each call of `f`; where it can't be had, the walk ends with an error, and what it did so far
+    /// stays.
     pub fn iter_mut_sync<F: FnMut(&K, &mut V) -> Verdict>(
         &self,
         rt: &impl Wait,

@@ -11,10 +11,8 @@ use std::sync::Wait;
 
 impl<K: Eq + Hash, V: PartialEq, H: BuildHasher> HashCache<K, V, H> {
     /// Whether each pair of either cache, as its stripe is looked at, has its key with an equal value in the other. A
-    /// stripe of each
-    /// is held for reading at a time; a cache may be compared with itself. Neither the order of the pairs nor a maximum
-    /// plays a
-    /// part, and no pair becomes more recent.
+    /// stripe of each is held for reading at a time; a cache may be compared with itself. Neither the order of the
+    /// pairs nor a maximum plays a part, and no pair becomes more recent.
     pub fn eq_sync(&self, rt: &impl Wait, other: &Self) -> bool {
         self.is_within(rt, other) && other.is_within(rt, self)
     }
@@ -30,8 +28,7 @@ impl<K: Eq + Hash, V: PartialEq, H: BuildHasher> HashCache<K, V, H> {
     }
 
     /// Whether each pair of a stripe is in the other cache. It never waits while it holds the stripe: where it meets a
-    /// stripe of the
-    /// other cache that it can't read at once, it lets its own go, waits for that one, and begins anew.
+    /// stripe of the other cache that it can't read at once, it lets its own go, waits for that one, and begins anew.
     fn is_stripe_within(&self, rt: &impl Wait, stripe: usize, other: &Self) -> bool
         requires { stripe < vec_len self.now.stripes.locks }
     {
@@ -75,10 +72,8 @@ impl<K: Eq + Hash, V: PartialEq, H: BuildHasher> HashCache<K, V, H> {
 
 impl<K: Eq + Hash + Drop, V: Drop, H: BuildHasher + Default + Drop> HashCache<K, V, H> {
     /// A cache of the items, put in their order, so that the first value of a key stays unless it was driven out in
-    /// between. Capacity
-    /// and maximum are asked for as many pairs as there are items. It is refused for want of memory, and then the items
-    /// are dropped.
-    /// The iterator has to end.
+    /// between. Capacity and maximum are asked for as many pairs as there are items. It is refused for want of memory,
+    /// and then the items are dropped. The iterator has to end.
     pub fn try_from_iter<I: IntoIterator<Item = (K, V)>>(
         rt: &impl Wait,
         alloc: Global,

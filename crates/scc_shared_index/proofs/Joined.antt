@@ -4,7 +4,7 @@ use Rattle.std.specs.Borrow.{Bor}
 use Rattle.std.specs.Fn.{Mut}
 use denote.Param.Always.{always_mut, mut_next}
 use Rattle.scc_contents.specs.Walks.{CalledOn}
-use Rattle.scc_buckets.proofs.WalkLemmas.{turn-always}
+use Rattle.scc_contents.proofs.WalkLemmas.{turn-always}
 use Rattle.scc_index.specs.IndexWalks.{CallableOnAll, Retains}
 use Rattle.scc_index.specs.IndexWalks as retained
 

@@ -1,6 +1,5 @@
 //! Walks, stripe after stripe. Each says what its closure was called on in turn and what it answered, for lists of
-//! pairs
-//! that it finds in the stripes.
+//! pairs that it finds in the stripes.
 ghost use Rattle.std.specs.Prelude.{List};
 ghost use Rattle.scc_contents.specs.Walks.{CalledOn, Walks};
 ghost use Rattle.scc_index.specs.IndexWalks.{Retains};
@@ -12,8 +11,7 @@ use std::sync::Wait;
 
 impl<K: Eq + Hash, V, H: BuildHasher> HashIndex<K, V, H> {
     /// Calls `f` on pairs, stripe after stripe, until its first false, and answers false where it stopped. One stripe
-    /// is
-    /// held for reading at a time.
+    /// is held for reading at a time.
     pub fn iter_sync<F: FnMut(&K, &V) -> bool>(&self, rt: &impl Wait, mut f: F) -> bool
         requires { F.IsAlwaysCallable f }
         ensures calls { (es : List (K × V)) × (last : F) × Walks (CalledOn F.FnMut) f es result last }

@@ -99,8 +99,7 @@ impl<K: Eq + Hash + Clone + Drop, V: Clone + Drop, H: BuildHasher + Drop> HashIn
 
 impl<K: Eq + Hash + Drop, V: Drop, H: BuildHasher + Default + Drop> HashIndex<K, V, H> {
     /// An index of the items, inserted in their order: the first of equal keys stays. It is made for as many pairs as
-    /// there
-    /// are items. It is refused for want of memory. The iterator has to end.
+    /// there are items. It is refused for want of memory. The iterator has to end.
     pub fn try_from_iter<I: IntoIterator<Item = (K, V)>>(
         rt: &impl Wait,
         alloc: Global,

@@ -42,9 +42,8 @@ impl<K: Eq + Hash, H: BuildHasher> HashSet<K, H> {
     }
 
     /// Calls `f` on the keys, stripe after stripe, until it stops, and answers false where it stopped. A key on which
-    /// it
-    /// answers `Take` or `TakeStop` goes to the end of `taken`. Room for one key is made in `taken` before each call of
-    /// `f`; where it can't be had, the walk ends with an error, and what it did so far stays.
+    /// it answers `Take` or `TakeStop` goes to the end of `taken`. Room for one key is made in `taken` before each call
+    /// of `f`; where it can't be had, the walk ends with an error, and what it did so far stays.
     pub fn iter_mut_sync<F: FnMut(&K) -> Verdict>(
         &self,
         rt: &impl Wait,

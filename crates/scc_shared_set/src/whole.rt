@@ -9,8 +9,7 @@ use std::sync::Wait;
 
 impl<K: Eq + Hash, H: BuildHasher> HashSet<K, H> {
     /// Whether each key of either set, as its stripe is looked at, is in the other. A stripe of each is held for
-    /// reading
-    /// at a time.
+    /// reading at a time.
     pub fn eq_sync(&self, rt: &impl Wait, other: &Self) -> bool {
         self.map.eq_sync(rt, &other.map)
     }

@@ -11,7 +11,7 @@ use Rattle.scc_buckets.specs.declared.place.Place.{Place}
 use Rattle.scc_buckets.proofs.Standing.{index-below}
 use Rattle.scc_buckets.proofs.WritingTables.{exactly-write}
 use Rattle.scc_contents.specs.Walks.{HoldsInTurn}
-use Rattle.scc_buckets.proofs.WalkLemmas.{turn-first, turn-others}
+use Rattle.scc_contents.proofs.WalkLemmas.{turn-first, turn-others}
 use Rattle.scc_buckets.specs.Placed.{at-get}
 use Rattle.scc_contents.specs.Pairs.{with_pair_value}
 use Rattle.scc_contents.specs.PairWalks.{Retains, kept, removed}

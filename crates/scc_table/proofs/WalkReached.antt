@@ -10,7 +10,7 @@ use Rattle.scc_buckets.specs.declared.place.Place.{Place}
 use Rattle.scc_buckets.proofs.Standing.{index-below}
 use Rattle.scc_buckets.specs.Placed.{entry_of_spot, front_of_spot}
 use Rattle.scc_buckets.proofs.Placed.{entry_of-is}
-use Rattle.scc_buckets.proofs.WalkLemmas.{turn-always}
+use Rattle.scc_contents.proofs.WalkLemmas.{turn-always}
 use Rattle.scc_contents.specs.PairWalks.{CallableToWrite, Declines, ended, went_on, PassesAt, PassesFirst}
 
 -- how many pairs stand before the place of a walk, all where it is over

@@ -46,8 +46,7 @@ impl<G: Guard<Kept = Owned<K, V, H>>, N, K: Eq + Hash, V, H: BuildHasher> HeldPl
 
 impl<G: Guard<Kept = Owned<K, V, H>>, N, K: Eq + Hash, V, H: BuildHasher> HeldEntry<G, N, K, V, H> {
     /// The occupied entry of `k`, whose pair becomes the most recent of its bucket, or None where no key equals it;
-    /// then
-    /// nothing changes, and the cache is let go.
+    /// then nothing changes, and the cache is let go.
     pub fn of(guard: G, k: &K, rest: N) -> Option<Self>
     where
         G: Drop,
@@ -81,8 +80,7 @@ impl<G: Guard<Kept = Owned<K, V, H>>, N, K: Eq + Hash, V, H: BuildHasher> HeldRe
     H,
 > {
     /// Puts `k` in the place of the key that equals it, makes the pair the most recent of its bucket, and answers the
-    /// entry
-    /// with the old key; or the vacant entry of `k`.
+    /// entry with the old key; or the vacant entry of `k`.
     pub fn of(guard: G, k: K, rest: N) -> Self
         ensures step { Replaces K.eq (G.kept guard) k result }
         ensures state { IsCacheState K.eq (hash_in ⟦<H as Hashes<K>>⟧.hash_of

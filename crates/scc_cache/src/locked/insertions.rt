@@ -19,8 +19,7 @@ impl<'a, K: Eq + Hash, V, H: BuildHasher> HeldPlace<
     Shared<H>,
 > {
     /// Puts in `default` where the entry is vacant, by the rules of `put_sync`, and answers the pair that it drove out
-    /// and the
-    /// occupied entry. An occupied one stays as it is, and can't be refused.
+    /// and the occupied entry. An occupied one stays as it is, and can't be refused.
     pub fn or_put(
         self,
         default: V,

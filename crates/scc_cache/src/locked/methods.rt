@@ -66,10 +66,8 @@ impl<'a, K: Eq + Hash, V, H: BuildHasher> HeldVacant<
     }
 
     /// Puts in the key with `value` as the most recent pair of its bucket, and answers the pair that it drove out and
-    /// its
-    /// entry. Refused for want of memory, which comes only where the stripe has no array, key and value come back, and
-    /// the
-    /// stripe is let go.
+    /// its entry. Refused for want of memory, which comes only where the stripe has no array, key and value come back,
+    /// and the stripe is let go.
     pub fn put_entry(
         self,
         value: V,

@@ -1,4 +1,4 @@
-//! How a part of a shared map keeps its share of what all parts together keep at least.
+//! How a part of a shared index keeps its share of what all parts together keep at least.
 ghost use Rattle.std.specs.Prelude.{◌≡◌, ◌-◌, ◌<◌, ◌≤◌, ◌^◌, ◌⊎◌};
 ghost use Rattle.scc_contents.specs.Contents.{settings_of, minimum_of, refused_of, waiting_of};
 ghost use Rattle.scc_contents.specs.Pairs.{IsUnique};

@@ -1,4 +1,4 @@
-//! The calls about the size of a map: reservations, the range of the capacity, the bucket of a key.
+//! The calls about the size of an index: reservations, the range of the capacity, the bucket of a key.
 ghost use Rattle.std.specs.Prelude.{◌≡◌, ◌+◌, ◌≤◌, ◌<◌, ◌^◌, ◌↔◌, IsSome, IsOk, IfNone, OnErr, OnOk, OnSome};
 ghost use Rattle.scc_contents.specs.Contents.{settings_of, minimum_of, pending_of, refused_of, waiting_of, hash_in, bucket_of};
 ghost use Rattle.scc_contents.specs.Pairs.{IsUnique};

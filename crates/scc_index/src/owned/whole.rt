@@ -1,4 +1,4 @@
-//! What is done with a whole map: comparisons and clones.
+//! What is done with a whole index: comparisons and clones.
 ghost use Rattle.std.specs.Prelude.{◌≡◌, [], Some, IfOk, true};
 ghost use Rattle.std.specs.HashMap.{entries_eq};
 ghost use Rattle.std.specs.List.{list_all};

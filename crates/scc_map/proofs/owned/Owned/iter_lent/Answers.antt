@@ -2,7 +2,7 @@ use Rattle.std.proofs.Common.{refl, true, false, length, drop, suc}
 use Rattle.scc_contents.specs.Contents.{entries}
 use Rattle.scc_table.specs.Places.{IsPlace, index_of}
 use Rattle.scc_contents.specs.Walks.{Walks, ended, stopped, went_on}
-use Rattle.scc_buckets.proofs.WalkLemmas.{turn-first, turn-others}
+use Rattle.scc_contents.proofs.WalkLemmas.{turn-first, turn-others}
 use Rattle.scc_buckets.proofs.Placed.{drop-here, drop-all}
 use Rattle.scc_table.proofs.Reached.{nearer, reached-at, reached-first}
 use Rattle.scc_map.proofs.owned.Owned.iter_lent.Goals as goal
