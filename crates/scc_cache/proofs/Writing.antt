@@ -105,7 +105,7 @@ module _ {E S X : Type 0} (put : E → X → E) (c : Contents E S) (p : Place) (
         (λ ne. rw (written-settings, written-count) (h.routed i j e (ap (λ l. slice_get l j) (sym (other-list i ne)) ∙ got)));
   }
 
-module _ {K V S : Type 0} (eq : K → K → Bool) (hash : K → ℕ) (c : Cached (K × V) S) (p : Place) (within : places.IsSpot c.contents p) (h : IsCacheState eq hash c) where
+module _ {K V S : Type 0} (eq : K → K → Bool) (hash : K → ℕ) (c : Cached (K × V) S) (p : Place) (within : places.IsPlace c.contents p) (h : IsCacheState eq hash c) where
   value-unique : (v : V) → IsUnique eq (with_write_at_spot with_pair_value c.contents (spot_of c.contents p) v)
   unfolding entries with_write_at_spot list_of
   value-unique v = subst (λ ks. IsDistinct eq ks) (sym (keys-lists with_pair_value (λ (q : K × V). q.0) (λ e w. refl) c.contents.lists (spot_of c.contents p).bucket (spot_of c.contents p).slot v)) h.unique
@@ -135,7 +135,7 @@ module _ {K V S : Type 0} (eq : K → K → Bool) (hash : K → ℕ) (c : Cached
   }
 
 -- the same, where the hash is that of the cache's own hasher
-module _ {K V S : Type 0} (eq : K → K → Bool) (hash : Settings S → K → ℕ) (c : Cached (K × V) S) (p : Place) (within : places.IsSpot c.contents p) (h : IsCacheState eq (hash (settings_of c.contents)) c) where
+module _ {K V S : Type 0} (eq : K → K → Bool) (hash : Settings S → K → ℕ) (c : Cached (K × V) S) (p : Place) (within : places.IsPlace c.contents p) (h : IsCacheState eq (hash (settings_of c.contents)) c) where
   pub value-state-by : (v : V) → IsCacheState eq (hash (settings_of (with_value_at c p v).contents)) (with_value_at c p v)
   value-state-by v = rw (written-settings with_pair_value c.contents (spot_of c.contents p) within v) (value-state eq (hash (settings_of c.contents)) c p within h v)
 
