@@ -63,7 +63,11 @@ returns-after-insert_made g c =
             | in-Ok w ↦ rw w.result-is tt
             | in-Err w ↦ rw (w.result-is, ← c.self.view_is) w.in-Err.ensures.raised
           ]);
-      first = (search rules);
+      first = (
+          elim c.match-insert_made.branch [
+            | in-Ok w ↦ rw (w.result-is, ← c.self.view_is) w.in-Ok.ensures.first
+            | in-Err w ↦ rw w.result-is tt
+          ]);
       noted = (
           let none = find-position_none (g.K.PartialEq.eq c.args.k) (entries c.self.inside.table) c.in-None.ensures.place in
           rw (← c.self.view_is, none) (λ there. absurd (search rules)));

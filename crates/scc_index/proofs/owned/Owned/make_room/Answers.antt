@@ -1,5 +1,6 @@
-use Rattle.std.proofs.Common.{rules}
+use Rattle.std.proofs.Common.{rules, subst}
 use Rattle.scc_contents.specs.Contents.{entries}
+use Rattle.scc_contents.specs.Steps.{MakesRoom}
 use Rattle.scc_buckets.proofs.Lookups.{find-position, find-position_none}
 use Rattle.scc_index.proofs.owned.Owned.make_room.Goals as goal
 use Rattle.scc_index.proofs.owned.Owned.make_room.Goals.{in-Ok, in-Err}
@@ -20,4 +21,11 @@ returns-after-make_room-clause-err g c =
     elim c.match-make_room.branch [
       | in-Ok w ↦ rw w.result-is tt
       | in-Err w ↦ rw (w.result-is, ← c.self.view_is) (none, w.in-Err.ensures.err)
+    ]
+
+pub returns-after-make_room-clause-ok : goal.returns-after-make_room-clause-ok
+returns-after-make_room-clause-ok g c =
+    elim c.match-make_room.branch [
+      | in-Ok w ↦ λ _. rw (w.result-is, ← c.self.view_is) (subst (λ h. MakesRoom _ _ c.self.inside.table h c.make_room.new.self) c.hash-hash.ensures w.in-Ok.ensures.ok)
+      | in-Err w ↦ λ _. rw w.result-is tt
     ]
