@@ -1,5 +1,5 @@
-use Rattle.std.proofs.Common.{refl, rules, subst}
-use Rattle.scc_contents.specs.Contents.{entries}
+use Rattle.std.proofs.Common.{refl, rules, subst, ℕ, ◌≡◌}
+use Rattle.scc_contents.specs.Contents.{Contents, entries}
 use Rattle.scc_contents.specs.Steps.{MakesRoom}
 use Rattle.scc_buckets.proofs.Lookups.{find-position, find-position_none}
 use Rattle.scc_map.proofs.owned.Owned.make_room.Goals as goal
@@ -23,9 +23,12 @@ returns-after-make_room-clause-err g c =
       | in-Err w ↦ rw (w.result-is, ← c.self.view_is) (none, w.in-Err.ensures.err)
     ]
 
+for_hash : {E K S : Type 0} {hash : K → ℕ} {key : E → K} {m n : Contents E S} {h i : ℕ} → h ≡ i → MakesRoom hash key m h n → MakesRoom hash key m i n
+for_hash {E} {K} {S} {hash} {key} {m} {n} e room = subst (λ x. MakesRoom hash key m x n) e room
+
 pub returns-after-make_room-clause-ok : goal.returns-after-make_room-clause-ok
 returns-after-make_room-clause-ok g c =
     elim c.match-make_room.branch [
-      | in-Ok w ↦ λ _. rw (w.result-is, ← c.self.view_is) (subst (λ h. MakesRoom _ _ c.self.inside.table h c.make_room.new.self) c.hash-hash.ensures w.in-Ok.ensures.ok)
+      | in-Ok w ↦ λ _. rw (w.result-is, ← c.self.view_is) (for_hash c.hash-hash.ensures w.in-Ok.ensures.ok)
       | in-Err w ↦ λ _. rw w.result-is tt
     ]
