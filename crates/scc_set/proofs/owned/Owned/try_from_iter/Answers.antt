@@ -8,7 +8,7 @@ returns-clause-items g c =
     let last = ran.3.2 tt in
     let made = c.in_ok-made.made in
     let none = c.in_ok-made.ensures.entries in
-    let finds = c.in-Ok-2.ensures.finds in (
+    let finds = c.in-Ok-insert_all.ensures.finds in (
       ran.0,
       ran.1,
       ran.2,
@@ -21,8 +21,8 @@ returns-clause-items g c =
         asked = ap (λ s. s.asked) c.in_ok-made.ensures.settings;
         reserved = ap (λ s. s.reserved) c.in_ok-made.ensures.settings;
         skipped = ap (λ s. s.skipped) c.in_ok-made.ensures.settings;
-        settings = c.in-Ok-2.ensures.settings;
-        run = rw (← ran.4.0) c.in-Ok-2.ensures.run;
+        settings = c.in-Ok-insert_all.ensures.settings;
+        run = rw (← ran.4.0) c.in-Ok-insert_all.ensures.run;
       },
       record { finds = λ k. rw (← ran.4.0) (rw none at finds k) },
     )
