@@ -58,4 +58,4 @@ returns-in-Err-Memory g c =
     let inv = c.loop-k.invariant in
     let steps : into_iter_items c.loop-k.k-iterator ≡ c.in-Some.k ∷ into_iter_items c.next.new.self = c.in-Some.ensures.steps.0 in
     let h = rw c.in-Err-Memory.field-0-is at c.in-Err-Memory.ensures.step in
-    rw h.0 (record { refused = (c.loop-k.yielded, into_iter_items c.next.new.self, c.loop-k.self, sym (rw (← steps) inv.place), inv.run, h.1, h.2); run = tt })
+    rw h.0 (record { refused = (c.loop-k.yielded, into_iter_items c.next.new.self, c.loop-k.self, sym (rw (← steps) inv.place), inv.run, h.1, h.2); run = tt; settings = tt; finds = tt; unique = tt })
