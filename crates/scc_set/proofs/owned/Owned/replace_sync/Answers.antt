@@ -1,6 +1,15 @@
-use Rattle.std.proofs.Common.{IsOk, ap, ◌∙◌}
-use Rattle.scc_contents.specs.Contents.{bucket_count}
+use Rattle.std.proofs.Common.{◌≡◌, ℕ, Bool, Err, IsOk, None, ap, ◌∙◌}
+use Rattle.scc_contents.specs.Contents.{Contents, bucket_count, entries}
+use Rattle.scc_set.specs.Keys.{find}
+use Rattle.scc_set.specs.SetSteps.{Inserts, Replaces}
+use Rattle.scc_common.specs.declared.errors.KeyError.{KeyError}
+use Rattle.scc_common.specs.declared.errors.KeyError.TheVariants.{Exists, Memory}
 use Rattle.scc_set.proofs.owned.Owned.replace_sync.Goals as goal
+
+-- an insertion of a key that is missing refuses for memory alone, as a replacement does
+refused : {K S : Type 0} {eq : K → K → Bool} {hash : K → ℕ} {m n : Contents K S} {k : K} (r : KeyError K) → find eq (entries m) k ≡ None → Inserts eq hash m k (Err r) n → Replaces eq hash m k (Err r) n
+refused (Exists q) none h = absurd (rw none at h.1.0)
+refused (Memory q) none h = h
 
 pub returns-in-Ok-clause-step : goal.returns-in-Ok-clause-step
 returns-in-Ok-clause-step g c = let e = c.in-Ok.ensures.swapped in (e.0, e.1)
@@ -26,3 +35,13 @@ returns-in-Ok-insert_sync-clause-once g c = λ r. let e = c.in-Err.ensures.missi
 
 pub returns-in-Err-insert_sync-clause-once : goal.returns-in-Err-insert_sync-clause-once
 returns-in-Err-insert_sync-clause-once g c = λ r. let e = c.in-Err.ensures.missing in c.insert_sync.ensures.once (rw (e.2, e.0) r) ∙ ap bucket_count e.2
+
+pub returns-in-Ok-insert_sync-clause-due : goal.returns-in-Ok-insert_sync-clause-due
+returns-in-Ok-insert_sync-clause-due g c = λ n. let e = c.in-Err.ensures.missing in let d = c.insert_sync.ensures.due (rw (e.2, e.0) n) in rw (e.2, e.0) at d
+
+pub returns-in-Err-insert_sync-clause-step : goal.returns-in-Err-insert_sync-clause-step
+returns-in-Err-insert_sync-clause-step g c =
+    let e = c.in-Err.ensures.missing in
+    let s = rw c.in-Err-insert_sync.is at c.insert_sync.ensures.step in
+    let t = rw (e.2, e.0) at s in
+    refused c.in-Err-insert_sync.e e.1 t
