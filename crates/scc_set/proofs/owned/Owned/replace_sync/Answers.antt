@@ -7,9 +7,9 @@ use Rattle.scc_common.specs.declared.errors.KeyError.TheVariants.{Exists, Memory
 use Rattle.scc_set.proofs.owned.Owned.replace_sync.Goals as goal
 
 -- an insertion of a key that is missing refuses for memory alone, as a replacement does
-refused : {K S : Type 0} {eq : K → K → Bool} {hash : K → ℕ} {m n : Contents K S} {k : K} (r : KeyError K) → find eq (entries m) k ≡ None → Inserts eq hash m k (Err r) n → Replaces eq hash m k (Err r) n
-refused (Exists q) none h = absurd (rw none at h.1.0)
-refused (Memory q) none h = h
+refused : {K S : Type 0} (eq : K → K → Bool) (hash : K → ℕ) (m n : Contents K S) (k : K) (r : KeyError K) → find eq (entries m) k ≡ None → Inserts eq hash m k (Err r) n → Replaces eq hash m k (Err r) n
+refused eq hash m n k (Exists q) none h = absurd (rw none at h.1)
+refused eq hash m n k (Memory q) none h = h
 
 pub returns-in-Ok-clause-step : goal.returns-in-Ok-clause-step
 returns-in-Ok-clause-step g c = let e = c.in-Ok.ensures.swapped in (e.0, e.1)
@@ -43,5 +43,4 @@ pub returns-in-Err-insert_sync-clause-step : goal.returns-in-Err-insert_sync-cla
 returns-in-Err-insert_sync-clause-step g c =
     let e = c.in-Err.ensures.missing in
     let s = rw c.in-Err-insert_sync.is at c.insert_sync.ensures.step in
-    let t = rw (e.2, e.0) at s in
-    refused c.in-Err-insert_sync.e e.1 t
+    rw (← e.2, ← e.0) (refused _ _ _ _ _ c.in-Err-insert_sync.e (rw (e.2, e.0) e.1) s)
