@@ -1,5 +1,5 @@
-use Rattle.std.proofs.Common.{◌≡◌, ℕ, Bool, Err, IsOk, None, ap, ◌∙◌}
-use Rattle.scc_contents.specs.Contents.{Contents, bucket_count, entries}
+use Rattle.std.proofs.Common.{◌≡◌, ℕ, Bool, Err, IsOk, None, ap, subst, ◌∙◌}
+use Rattle.scc_contents.specs.Contents.{Contents, bucket_count, entries, key_hash}
 use Rattle.scc_set.specs.Keys.{find}
 use Rattle.scc_set.specs.SetSteps.{Inserts, Replaces}
 use Rattle.scc_common.specs.declared.errors.KeyError.{KeyError}
@@ -7,9 +7,15 @@ use Rattle.scc_common.specs.declared.errors.KeyError.TheVariants.{Exists, Memory
 use Rattle.scc_set.proofs.owned.Owned.replace_sync.Goals as goal
 
 -- an insertion of a key that is missing refuses for memory alone, as a replacement does
-refused : {K S : Type 0} (eq : K → K → Bool) (hash : K → ℕ) (m n : Contents K S) (k : K) (r : KeyError K) → find eq (entries m) k ≡ None → Inserts eq hash m k (Err r) n → Replaces eq hash m k (Err r) n
-refused eq hash m n k (Exists q) none h = absurd (rw none at h.1)
-refused eq hash m n k (Memory q) none h = h
+module _ {K S : Type 0} (eq : K → K → Bool) where
+  refused : (hash : K → ℕ) (m n : Contents K S) (k : K) (r : KeyError K) → find eq (entries m) k ≡ None → Inserts eq hash m k (Err r) n → Replaces eq hash m k (Err r) n
+  refused hash m n k (Exists q) none h = absurd (let there = rw none at h.1 in cc)
+  refused hash m n k (Memory q) none h = h
+
+  -- and so it does where nothing changed before
+  refused-then : (hash : Contents K S → K → ℕ) (b m n : Contents K S) (q k : K) (r : KeyError K) → b ≡ m → q ≡ k → find eq (entries m) k ≡ None → Inserts eq (hash b) b q (Err r) n → Replaces eq (hash m) m k (Err r) n
+  refused-then hash b m n q k r same key none h =
+      refused (hash m) m n k r none (subst (λ y. Inserts eq (hash m) m y (Err r) n) key (subst (λ x. Inserts eq (hash x) x q (Err r) n) same h))
 
 pub returns-in-Ok-clause-step : goal.returns-in-Ok-clause-step
 returns-in-Ok-clause-step g c = let e = c.in-Ok.ensures.swapped in (e.0, e.1)
@@ -43,4 +49,4 @@ pub returns-in-Err-insert_sync-clause-step : goal.returns-in-Err-insert_sync-cla
 returns-in-Err-insert_sync-clause-step g c =
     let e = c.in-Err.ensures.missing in
     let s = rw c.in-Err-insert_sync.is at c.insert_sync.ensures.step in
-    rw (← e.2, ← e.0) (refused _ _ _ _ _ c.in-Err-insert_sync.e (rw (e.2, e.0) e.1) s)
+    refused-then g.K.PartialEq.eq (key_hash g.H.BuildHasher g.H.Hasher.Hasher g.K.Hash.hash_input) c.swap_key.new.self c.args.self.now c.insert_sync.new.self c.in-Err.key c.args.k c.in-Err-insert_sync.e e.2 e.0 e.1 s
