@@ -20,7 +20,9 @@ fn add_within(map: &mut Owned<u64, u64>, key: u64)
 pub fn filled(alloc: Global, keys: &[u64]) -> Option<Owned<u64, u64>>
     ensures { IfSome result (λ m. pending_of m ≡ 0) }
 {
-    let mut map = Owned::with_capacity(alloc, 64).ok()?;
+    let Ok(mut map) = Owned::with_capacity(alloc, 64) else {
+        return None;
+    };
     for key in keys {
         add_within(&mut map, *key);
     }
