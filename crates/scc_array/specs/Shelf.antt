@@ -1,5 +1,5 @@
 -- What a bucket holds.
-use Rattle.std.specs.Prelude.{◌≡◌, ℕ, ◌-◌, ◌<◌, ◌≤◌, ◌⊎◌, List, [], ◌∷◌, ◌++◌, length, cond, nat_lt, slice_index, slice_index_or, Bool, true, refl}
+use Rattle.std.specs.Prelude.{◌≡◌, ℕ, ◌-◌, ◌<◌, ◌⊎◌, List, [], ◌∷◌, ◌++◌, length, cond, nat_lt, slice_index, slice_index_or, Bool, true, refl}
 use Rattle.std.specs.List.{remove, swap_remove}
 use Rattle.std.specs.Coded.{Coded, code_by, coded×, coded_ℕ, coded_list}
 

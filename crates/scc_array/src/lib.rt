@@ -185,7 +185,7 @@ impl<E> Array<E> {
     {
         let count = self.columns.count(bucket);
         if count < 32 {
-            self.columns.push(bucket, entry, tag);
+            self.columns.push_at(bucket, count, entry, tag);
             return Ok(count);
         }
         self.push_list(bucket, entry)

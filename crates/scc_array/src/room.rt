@@ -25,8 +25,9 @@ impl<E> Array<E> {
             (record (with_entry (shelf_of self.old bucket) entry tag) { room = (shelf_of self.new bucket).room }) }
         ensures room { (shelf_of self.old bucket).room ≤ (shelf_of self.new bucket).room }
     {
-        if self.columns.count(bucket) < 32 {
-            self.columns.push(bucket, entry, tag);
+        let count = self.columns.count(bucket);
+        if count < 32 {
+            self.columns.push_at(bucket, count, entry, tag);
         } else {
             self.push_within(bucket, entry);
         }

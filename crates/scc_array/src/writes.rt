@@ -11,26 +11,6 @@ use scc_entry::Valued;
 use std::mem;
 
 impl<E: Valued> Array<E> {
-    /// The value of the entry at the place, to write.
-    #[inline(always)]
-    pub fn value_mut_at(&mut self, bucket: usize, place: usize) -> &mut E::Value
-        requires bucket { bucket < length self.old }
-        requires place { place < length (shelf_entries (shelf_of self.old bucket)) }
-        ensures* writes_back { sem 𝓛 (lends_array_value E.row E.Value.row E.with_value self.entry bucket place result) }
-        ensures value { (e : E) × (slice_get (shelf_entries (shelf_of self.old bucket)) place ≡ Some e)
-            × (result.now ≡ E.value_of e) }
-    {
-        let count = self.count_past(bucket, place);
-        if place < count {
-            let entry = self.columns.entry_mut(bucket, place);
-            entry.value_mut()
-        } else {
-            let list = &mut self.overflow[bucket];
-            let entry = &mut list[place - count];
-            entry.value_mut()
-        }
-    }
-
     /// The key of the entry at the place, and its value to write.
     #[inline(always)]
     pub fn parts_mut_at(&mut self, bucket: usize, place: usize) -> (&E::Key, &mut E::Value)

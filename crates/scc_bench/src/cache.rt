@@ -217,7 +217,7 @@ fn measure_evictions<R: Clock + Print>(
 }
 
 /// Goes through each workload once to warm up and then `runs` times, and prints a line for each time.
-pub fn measure<R: Clock + Print>(
+pub(crate) fn measure<R: Clock + Print>(
     rt: &R,
     alloc: Global,
     peer: &str,

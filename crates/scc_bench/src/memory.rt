@@ -35,7 +35,7 @@ fn fill<M: Peer, R: Files + Alloc>(
 }
 
 /// Fills a map, and prints the bytes a pair that it holds then and that it held at most.
-pub fn measure<M: Peer, R: Files + Print + Alloc>(
+pub(crate) fn measure<M: Peer, R: Files + Print + Alloc>(
     rt: &R,
     alloc: Global,
     peer: &str,
@@ -71,7 +71,7 @@ fn fill_curve<M: Peer, R: Files + Alloc>(
 }
 
 /// Prints the mean of the bytes a pair at sixteen sizes, from just above the number of entries to twice as many.
-pub fn measure_curve<M: Peer, R: Files + Print + Alloc>(
+pub(crate) fn measure_curve<M: Peer, R: Files + Print + Alloc>(
     rt: &R,
     alloc: Global,
     peer: &str,

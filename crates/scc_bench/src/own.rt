@@ -215,7 +215,7 @@ fn print_shared_checks(rt: &impl Print, peer: &str, outcomes: &[Outcome]) -> io:
 
 /// Goes through the workloads on a container and on another beside it, in turn: once to warm up and then `runs` times.
 /// Prints a line for each.
-pub fn measure_beside<M: Peer, N: Peer, R: Clock + Print>(
+pub(crate) fn measure_beside<M: Peer, N: Peer, R: Clock + Print>(
     rt: &R,
     alloc: Global,
     first: &str,
@@ -237,7 +237,7 @@ pub fn measure_beside<M: Peer, N: Peer, R: Clock + Print>(
 }
 
 /// Goes through the workloads once to warm up and then `runs` times, and prints a line for each.
-pub fn measure<M: Peer, R: Clock + Print>(
+pub(crate) fn measure<M: Peer, R: Clock + Print>(
     rt: &R,
     alloc: Global,
     peer: &str,

@@ -61,7 +61,7 @@ fn run_once<M: Peer, C: Clock>(clock: &C, alloc: Global, keys: &[u64]) -> io::Re
 
 /// Fills an empty map once to warm up and then `runs` times, and prints what half, 99 %, 99.9 % and all of the
 /// insertions take at most.
-pub fn measure<M: Peer, R: Clock + Print>(
+pub(crate) fn measure<M: Peer, R: Clock + Print>(
     rt: &R,
     alloc: Global,
     peer: &str,

@@ -1,9 +1,8 @@
 -- The buckets of an array, by their numbers.
-use Rattle.std.proofs.Common.{◌≡◌, ℕ, zero, suc, ◌+◌, ◌<◌, ◌≤◌, ◌++◌, ◌∷◌, List, [], drop, take, get_or, length, set, Some, None, refl, sym, ap, ◌∙◌, arith, drop-cons, get_or-set_same}
+use Rattle.std.proofs.Common.{◌≡◌, ℕ, zero, suc, ◌<◌, ◌++◌, ◌∷◌, List, [], drop, take, get_or, length, set, Some, None, sym, ap, ◌∙◌, drop-cons, get_or-set_same}
 use Rattle.std.proofs.lemmas.List.{append-nil, get_or_default}
 use Rattle.std.proofs.lemmas.List.Concat.{flat_map-append}
-use Rattle.std.proofs.lemmas.List.Sums.{sum_by-cons}
-use Rattle.std.specs.List.{flat_map, slice_get, sum_by}
+use Rattle.std.specs.List.{flat_map, slice_get}
 use Rattle.scc_array.proofs.Gets.{get-here}
 use Rattle.scc_array.specs.Shelves.{shelf_of}
 use Rattle.scc_array.specs.Shelf.{Shelf, empty_shelf, shelf_entries}

@@ -1,4 +1,4 @@
--- Writes and removals at the place of a key, in the words of the map.
+-- Writes and removals at the place of a key, in words that a map's contracts cite.
 use Rattle.std.proofs.Common.{◌≡◌, ℕ, zero, suc, ◌+◌, Bool, true, List, [], ◌∷◌, ◌++◌, length, take, drop, None, Some, refl, sym, ap, ◌∙◌, inl, inr}
 use Rattle.std.specs.Cmp.{IsEquivalence}
 use Rattle.std.specs.List.{IsDistinct, flat_map, slice_get, slice_set, remove}

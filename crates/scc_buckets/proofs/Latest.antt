@@ -1,6 +1,6 @@
 -- An entry that stands last in its list already.
 use Rattle.std.proofs.Common.{◌≡◌, ℕ, zero, suc, ◌<◌, List, [], ◌∷◌, ◌++◌, length, get_or, set, refl, sym, ap, arith, Some}
-use Rattle.std.specs.List.{remove, slice_get, slice_set}
+use Rattle.std.specs.List.{remove, slice_get}
 use Rattle.scc_buckets.specs.Bounded.{IsBounded, HasList}
 use Rattle.scc_contents.specs.Contents.{Contents, bucket_count, list_of, lists_of}
 

@@ -1,5 +1,5 @@
 -- Tables that hold nothing.
-use Rattle.std.proofs.Common.{◌≡◌, ℕ, suc, ◌^◌, ◌-◌, ◌≤◌, Bool, List, [], ◌∷◌, ◌++◌, length, map, refl, sym, ap, ◌∙◌, inl, inr, arith, length-append}
+use Rattle.std.proofs.Common.{◌≡◌, ℕ, suc, ◌^◌, ◌≤◌, Bool, List, [], ◌∷◌, ◌++◌, length, map, refl, sym, ap, ◌∙◌, inl, inr, arith, length-append}
 use Rattle.scc_contents.specs.Contents.{Settings, entries}
 use Rattle.scc_buckets.proofs.Views.{view_of, entries-view}
 use Rattle.std.specs.List.{IsDistinct, flat_map, sum_by}

@@ -1,6 +1,6 @@
 -- One bucket changed is one list changed.
-use Rattle.std.proofs.Common.{◌≡◌, ℕ, ◌+◌, ◌<◌, ◌≤◌, Bool, List, [], ◌∷◌, length, map, set, get_or, refl, sym, ap, ◌∙◌, subst, arith}
-use Rattle.std.specs.List.{insert, remove, sum_by}
+use Rattle.std.proofs.Common.{◌≡◌, ℕ, ◌+◌, ◌<◌, ◌≤◌, Bool, List, length, map, set, get_or, refl, sym, ap, ◌∙◌, subst, arith}
+use Rattle.std.specs.List.{insert, remove}
 use Rattle.std.specs.List.Sorted.{IsPermutation}
 use Rattle.std.proofs.Math.Seq.{map-set_same}
 use Rattle.std.proofs.lemmas.List.{map-set}
@@ -11,7 +11,6 @@ use Rattle.scc_array.proofs.Swaps.{entries-swapped, overflow-swapped}
 use Rattle.scc_contents.specs.Contents.{Contents, Settings, list_of, lists_of, settings_of, refused_of, spilled_of}
 use Rattle.scc_buckets.specs.OneList.{HasSameLists, IsPutIn, IsSwappedOutOf, IsTakenFrom}
 use Rattle.scc_buckets.specs.Tables.{spilled_in}
-use Rattle.scc_buckets.specs.declared.place.Place.{Place}
 use Rattle.scc_buckets.proofs.Inserts.{entries_insert, overflow_push, place_le}
 use Rattle.scc_buckets.proofs.Removes.{entries_without, overflow_without}
 use Rattle.scc_buckets.proofs.Views.{view_of, list-view, lists-view, refused-view, settings-view, spilled-view}

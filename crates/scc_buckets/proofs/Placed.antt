@@ -1,5 +1,5 @@
 -- What stands at a place, before it and after it, once something there changed.
-use Rattle.std.proofs.Common.{◌≡◌, ℕ, zero, suc, List, [], ◌∷◌, ◌++◌, length, take, drop, None, Some, refl, sym, ap, subst, ◌∙◌, arith}
+use Rattle.std.proofs.Common.{◌≡◌, ℕ, zero, suc, List, [], ◌∷◌, ◌++◌, length, take, drop, None, Some, refl, sym, ap, ◌∙◌, arith}
 use native.Mathlib.Bridge.{le_prop}
 use Rattle.std.specs.List.{slice_get, remove}
 use Rattle.scc_contents.specs.Contents.{Contents, entries, list_of, refused_of}

@@ -1,4 +1,4 @@
--- What a table ends as, once a `&mut` into it has ended.
+-- What buckets end as, once a `&mut` into them has ended.
 use Rattle.std.specs.Borrow.{Fml, RattleType, MutBor, Lends}
 use Rattle.std.specs.HashMap.Lent.{HashMembers}
 use Rattle.std.specs.declared.hash.Hasher as hasher
@@ -10,7 +10,7 @@ use Rattle.scc_entry.specs.declared.keyed.Keyed as keyed
 use Rattle.scc_buckets.specs.declared.place.Place.{Place}
 
 module _ (E H K T V : RattleType) (by : keyed.Ghosts E.Denot K.Denot) (key : HashMembers K.Denot) (build : builder.Ghosts H.Denot T.Denot) (feed : hasher.Ghosts T.Denot) (put : E.Denot → V.Denot → E.Denot) where
-  -- the table's type, as the logic holds it
+  -- the type of the buckets, as the logic holds it
   abbrev pub buckets_row : RattleType
   buckets_row = the_row E H K T by build feed (record { eq = key.eq }) (record { hash_input = key.hash_input })
 

@@ -1,5 +1,5 @@
 -- Entries that move to the buckets of their hashes.
-use Rattle.std.specs.Prelude.{◌≡◌, ◌==◌, ℕ, ◌+◌, ◌<◌, ◌≤◌, ◌⊎◌, List, [], ◌++◌, length, map}
+use Rattle.std.specs.Prelude.{◌≡◌, ◌==◌, ℕ, ◌<◌, ◌≤◌, ◌⊎◌, List, [], ◌++◌, length, map}
 use Rattle.std.specs.List.{filter}
 use Rattle.scc_contents.specs.Contents.{Contents, entries, bucket_count, settings_of, list_of}
 use Rattle.scc_contents.specs.Routing.{bucket_number, tag_of}

@@ -1,4 +1,4 @@
--- What the fields of a table keep.
+-- What the fields of buckets keep.
 use Rattle.std.specs.Prelude.{◌≡◌, ℕ, ◌^◌, ◌<◌, ◌≤◌, Bool, List, [], length, map, slice_index_or}
 use Rattle.std.specs.List.{flat_map, sum_by, IsDistinct}
 use Rattle.scc_contents.specs.Routing.{bucket_number, tag_of}
@@ -9,7 +9,7 @@ use Rattle.scc_contents.specs.Sizes.{IsLawful}
 abbrev pub spilled_in : {E : Type 0} → List (Shelf E) → ℕ
 spilled_in bs = sum_by (λ b. length b.overflow) bs
 
--- one bucket of a table: its tags are those of its entries, each of which belongs to it
+-- one bucket: its tags are those of its entries, each of which belongs to it
 pub record IsOwn {E : Type 0} (hash : E → ℕ) (skipped count i : ℕ) (b : Shelf E) : Type 0 where
   pub tagged : b.tags ≡ map (λ e. tag_of (hash e)) b.slots
   pub routed : (j : ℕ) (d : E) → j < length (shelf_entries b) → bucket_number skipped count (hash (slice_index_or (shelf_entries b) j d)) ≡ i
@@ -23,7 +23,7 @@ pub record IsBuckets {E : Type 0} (hash : E → ℕ) (skipped : ℕ) (bs : List 
   pub few : overflowing < 2 ^ 62
   pub own : (i : ℕ) (b : Shelf E) → i < length bs → b ≡ slice_index_or bs i b → IsOwn hash skipped (length bs) i b
 
--- of all fields of a table
+-- of all fields of buckets
 pub record IsKept {E K : Type 0} (eq : K → K → Bool) (key : E → K) (hash : K → ℕ) (skipped minimum : ℕ) (bs : List (Shelf E)) (count overflowing : ℕ) : Type 0 where
   pub table : IsBuckets (λ e. hash (key e)) skipped bs count overflowing
   pub few_bits : skipped ≤ 4

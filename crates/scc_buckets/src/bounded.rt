@@ -50,7 +50,7 @@ where
         }
     }
 
-    /// What every table keeps of its lists. It does nothing, and is there for its contract.
+    /// What the buckets keep of their lists at any time. It does nothing, and is there for its contract.
     #[inline(always)]
     pub fn keep_lists(&self)
         ensures routed { IsRouted (λ e. key_hash H.BuildHasher H.Hasher.Hasher E.Key.hash_input self.now (E.key_of e))

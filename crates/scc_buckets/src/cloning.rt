@@ -1,4 +1,4 @@
-//! How a table is made that holds clones of another's entries.
+//! How buckets are made that hold clones of others' entries.
 ghost use Rattle.std.specs.Prelude.{◌≡◌, ◌*◌, ◌^◌, ◌<◌, [], ◌∷◌, false, length, IfOk, OnOk};
 ghost use Rattle.scc_array.specs.Shelves.{shelf_of};
 ghost use Rattle.scc_array.specs.Shelf.{shelf_entries};
@@ -17,7 +17,7 @@ impl<E: Keyed, H: BuildHasher> Buckets<E, H>
 where
     E::Key: Eq + Hash,
 {
-    /// A table with clones of all entries under a clone of the hasher. It has as many buckets, and their slots are
+    /// Buckets with clones of all entries under a clone of the hasher. They are as many, and their slots are
     /// those that it was asked for. It is refused for want of memory, and where a clone can't be had or equals another.
     pub fn try_clone(&self) -> Result<Buckets<E, H>, MakeError>
     where
@@ -35,7 +35,7 @@ where
         Ok(copy)
     }
 
-    /// An empty table of as many buckets, which skips as many bits, under that hasher.
+    /// As many empty buckets, which skip as many bits, under that hasher.
     pub(crate) fn fresh_like(&self, hasher: H) -> Result<Buckets<E, H>, MakeError>
     where
         H: Drop,
@@ -72,7 +72,7 @@ where
         }
     }
 
-    /// Puts in a clone of each entry of the other table, with no resize.
+    /// Puts in a clone of each entry of the other buckets, with no resize.
     pub fn insert_clones_of(&mut self, other: &Buckets<E, H>) -> Result<(), MakeError>
     where
         E: Clone,

@@ -1,4 +1,4 @@
-//! How entries get into a table and out of it.
+//! How entries get into buckets and out of them.
 ghost use Rattle.std.specs.Prelude.{◌≡◌, ◌≤◌, ◌<◌, ◌+◌, ◌-◌, ◌*◌, ◌^◌, [], ◌∷◌, length, Some, None, IsTrue, IfOk, IfErr, OnOk, OnErr, slice_get, remove};
 ghost use Rattle.std.specs.List.{position};
 ghost use Rattle.scc_buckets.specs.Bounded.{HasList, IsBounded};
@@ -14,7 +14,7 @@ use crate::route::tag;
 use scc_entry::Keyed;
 use std::hash::{BuildHasher, Hash};
 
-/// How many entries may lie in the overflow lists of one table: fewer than this.
+/// How many entries may lie in the overflow lists of all buckets: fewer than this.
 pub const OVERFLOW_LIMIT: usize = 1 << 62;
 
 /// 1 where it holds, else 0.
@@ -26,7 +26,7 @@ pub(super) fn one_if(holds: bool) -> usize
     if holds { 1 } else { 0 }
 }
 
-/// Whether so many entries in overflow lists are the most that one table may have.
+/// Whether so many entries in overflow lists are the most that there may be.
 #[inline(always)]
 pub(super) fn is_overflow_full(overflowing: usize) -> bool
     ensures full { IsTrue result → 2 ^ 62 - 1 ≤ overflowing }

@@ -1,4 +1,4 @@
-//! A table with other buckets in the place of its own.
+//! Another array in the place of the present one.
 ghost use Rattle.std.specs.Prelude.{◌≡◌, map};
 ghost use Rattle.std.specs.List.{flat_map, IsDistinct};
 ghost use Rattle.scc_array.specs.Shelf.{shelf_entries};
@@ -14,7 +14,7 @@ impl<E: Keyed, H: BuildHasher> Buckets<E, H>
 where
     E::Key: Eq + Hash,
 {
-    /// Puts other buckets, with so many entries and so many of them in overflow lists, in the place of the table's own,
+    /// Puts other buckets, with so many entries and so many of them in overflow lists, in the place of those here,
     /// and answers those with their two numbers. Neither array is looked at.
     pub fn exchange(
         &mut self,

@@ -1,5 +1,5 @@
-//! The table of the hash containers: an array of buckets of 32 tagged slots with an overflow list each, found by the
-//! bits of a hash. It names the bucket's items, and what all containers share, again.
+//! The buckets of one array, 32 tagged slots and an overflow list each, found by the bits of a key's hash. A table has
+//! one of them, or two while entries move from one to the other.
 #![tactic(auto)]
 
 ghost use Rattle.std.specs.Prelude.{◌≡◌, ◌≤◌, ◌<◌, ◌+◌, ◌*◌, ◌^◌, ℕ, [], ◌∷◌, ◌↔◌, length, Some, None, IsTrue, IfOk, OnOk, IfErr, OnErr, MatchOption, slice_get};
@@ -35,7 +35,7 @@ use std::hash::{BuildHasher, Hash};
 use std::marker::Model;
 
 /// Entries with distinct keys, in buckets. A container sees the list of each bucket, the number of buckets and the
-/// settings, by the words of `specs/Contents.antt`.
+/// settings, by the words of `scc_contents`.
 #[derive(Drop)]
 pub struct Buckets<E: Keyed, H: BuildHasher>
 where
@@ -113,7 +113,7 @@ where
         self.refused
     }
 
-    /// The hash of a key under the table's hasher.
+    /// The hash of a key under the buckets' hasher.
     #[inline(always)]
     pub fn hash(&self, key: &E::Key) -> u64
         ensures { result ≡ key_hash H.BuildHasher H.Hasher.Hasher E.Key.hash_input self.now key.now }

@@ -1,4 +1,4 @@
-//! How a table and its array are made.
+//! How buckets and their array are made.
 ghost use Rattle.std.specs.Prelude.{◌≡◌, ◌≤◌, ◌<◌, ◌+◌, ◌*◌, ◌^◌, [], false, length, IsOk, IfOk, OnOk, OnErr};
 ghost use Rattle.scc_buckets.specs.Bounded.{IsListed, IsResized};
 ghost use Rattle.scc_contents.specs.Contents.{entries, bucket_count, settings_of, refused_of, waiting_of, minimum_of, key_hash};
@@ -18,7 +18,7 @@ impl<E: Keyed, H: BuildHasher> Buckets<E, H>
 where
     E::Key: Eq + Hash,
 {
-    /// An empty table without an array, that skips so many bits of each hash. No resize of it was refused, and nothing
+    /// No buckets and no array, to skip so many bits of each hash. No resize of it was refused, and nothing
     /// waits.
     pub fn new(alloc: Global, skipped: u32, hasher: H) -> Buckets<E, H>
         requires { skipped ≤ 4 }
@@ -43,7 +43,7 @@ where
         }
     }
 
-    /// An empty table with an array of the size of so many slots, which are then the slots asked for; without an array
+    /// Empty buckets, an array of the size of so many slots, which are then the slots asked for; without an array
     /// for 0. A size that can't be had is refused.
     pub fn with_capacity(
         alloc: Global,

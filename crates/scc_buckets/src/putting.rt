@@ -21,7 +21,7 @@ impl<E: Keyed, H: BuildHasher> Buckets<E, H>
 where
     E::Key: Eq + Hash,
 {
-    /// What the table takes its memory from.
+    /// What the buckets take their memory from.
     pub fn allocator(&self) -> Global {
         self.buckets.allocator()
     }

@@ -1,4 +1,4 @@
-//! How entries get out of a table where the order of the others is free.
+//! How entries get out of buckets where the order of the others is free.
 ghost use Rattle.std.specs.Prelude.{◌≡◌, ◌≢◌, Some, length, slice_get, remove};
 ghost use Rattle.std.specs.List.Sorted.{IsPermutation};
 ghost use Rattle.scc_contents.specs.Contents.{entries, bucket_count, settings_of, refused_of, minimum_of, IsUniqueBy};

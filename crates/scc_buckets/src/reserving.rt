@@ -1,4 +1,4 @@
-//! How many slots a table keeps at least, and the note of a resize that was refused.
+//! How many slots are kept at least, and the note of a resize that was refused.
 ghost use Rattle.std.specs.Prelude.{◌≡◌, ◌≢◌, ◌≤◌, ◌<◌, ◌+◌, ◌-◌, ◌*◌, ◌^◌, ◌↔◌, IsTrue, false, true};
 ghost use Rattle.scc_contents.specs.Contents.{entries, bucket_count, settings_of, refused_of, minimum_of, pending_of, lists_of, spilled_of, IsUniqueBy};
 ghost use Rattle.scc_contents.specs.Sizes.{IsArraySize};

@@ -2,7 +2,7 @@
 ghost use Rattle.std.specs.Prelude.{◌≡◌, ◌*◌};
 ghost use Rattle.scc_contents.specs.Sizes.{IsArray, IsArraySize};
 
-/// The greatest capacity of a table, in slots.
+/// The greatest capacity, in slots.
 pub const GREATEST_CAPACITY: usize = 1 << 63;
 
 /// The greatest number of buckets, of 32 slots each.

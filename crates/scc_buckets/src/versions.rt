@@ -1,4 +1,4 @@
-//! What a table of versions can do beside: walk over the pairs.
+//! What buckets of versions can do beside: walk over the pairs.
 ghost use Rattle.std.specs.Prelude.{◌≡◌, ◌<◌, ◌^◌, drop, length, Some, true, slice_get};
 ghost use Rattle.scc_array.specs.Shelves.{shelf_of};
 ghost use Rattle.scc_array.specs.Shelf.{shelf_entries};
@@ -60,7 +60,7 @@ fn walk_bucket<K, V, F: FnMut(&K, &V) -> bool>(
 }
 
 impl<K: Eq + Hash, V, H: BuildHasher> Buckets<SharedVersion<K, V>, H> {
-    /// Calls `f` on all pairs in the table's order, until its first false.
+    /// Calls `f` on all pairs in the order of the buckets, until its first false.
     pub fn walk<F: FnMut(&K, &V) -> bool>(&self, mut f: F) -> bool
         requires { CallableWhile F.FnMut true f (entries self.now) }
         ensures { (last : F) × Walks (CalledOn F.FnMut) f (entries self.now) result last }

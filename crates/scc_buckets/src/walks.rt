@@ -57,7 +57,7 @@ fn walk_bucket<K, V, F: FnMut(&K, &V) -> bool>(
 }
 
 impl<K: Eq + Hash, V, H: BuildHasher> Buckets<(K, V), H> {
-    /// Calls `f` on all pairs in the table's order, until its first false.
+    /// Calls `f` on all pairs in the order of the buckets, until its first false.
     pub fn walk<F: FnMut(&K, &V) -> bool>(&self, mut f: F) -> bool
         requires { CallableWhile F.FnMut true f (entries self.now) }
         ensures { (last : F) × Walks (CalledOn F.FnMut) f (entries self.now) result last }

@@ -1,4 +1,4 @@
-//! Writes into the entries of a table. No write changes a place, and none takes memory.
+//! Writes into the entries of buckets. No write changes a place, and none takes memory.
 ghost use Rattle.std.specs.Prelude.{◌≡◌, Some, true, slice_get};
 ghost use Rattle.std.specs.Borrow.{sem};
 ghost use Rattle.scc_contents.specs.Contents.{entries};
@@ -15,18 +15,6 @@ impl<E: Valued, H: BuildHasher> Buckets<E, H>
 where
     E::Key: Eq + Hash,
 {
-    /// The value of the entry at the place, to write.
-    #[inline(always)]
-    pub fn value_mut_at(&mut self, place: Place) -> &mut E::Value
-        requires { IsSpot self.old place }
-        ensures* writes_back { sem 𝓛 (lends_value E.row H.row E.Key.row H.Hasher.row E.Value.row E.Keyed E.Key.Hash
-            H.BuildHasher H.Hasher.Hasher E.with_value self.entry place result) }
-        ensures value { (e : E) × (slice_get (entries self.old) (index_of_spot self.old place) ≡ Some e)
-            × (result.now ≡ E.value_of e) }
-    {
-        self.buckets.value_mut_at(place.bucket, place.slot)
-    }
-
     /// The key of the entry at the place, and its value to write.
     #[inline(always)]
     pub fn parts_mut_at(&mut self, place: Place) -> (&E::Key, &mut E::Value)

@@ -6,7 +6,7 @@ use Rattle.std.specs.Map.{keys_of}
 use Rattle.scc_calls.specs.States.{State}
 use Rattle.scc_calls.specs.SetCalls.{SetMoves}
 use Rattle.scc_calls.specs.CacheCalls.{CacheMoves, keys_in}
-use Rattle.scc_calls.specs.WholeLaws.{told_by}
+use Rattle.scc_calls.specs.WholeLaws.{counted_by}
 use Rattle.scc_calls.specs.declared.calls_as_values.SetCall.TheVariants.{Clear as SetClear, Len as SetLen}
 use Rattle.scc_calls.specs.declared.calls_as_values.CacheCall.TheVariants.{Clear as CacheClear, Len as CacheLen}
 use Rattle.scc_calls.specs.declared.replies.Reply.{Reply}
@@ -27,7 +27,7 @@ module _ {K : Type 0} (eq : K → K → Bool) where
   set_clears s t (Count n) m = absurd m
 
   -- `len` of a set answers how many keys there are
-  pub set_counts : (s t : State K) (r : Reply K (Unit {0})) → SetMoves eq s SetLen r t → told_by r ≡ Some (length s.0)
+  pub set_counts : (s t : State K) (r : Reply K (Unit {0})) → SetMoves eq s SetLen r t → counted_by r ≡ Some (length s.0)
   set_counts s t Inserted m = absurd m
   set_counts s t (Exists l w) m = absurd m
   set_counts s t (Old o) m = absurd m
@@ -58,7 +58,7 @@ module _ {K V : Type 0} (eq : K → K → Bool) (number : ℕ → K → ℕ) whe
   cache_clears s t (Count n) m = absurd m
 
   -- `len` of a cache answers how many keys there are
-  pub cache_counts : (s t : List (List (K × V))) (r : Reply K V) → CacheMoves eq number s CacheLen r t → told_by r ≡ Some (length (keys_in s))
+  pub cache_counts : (s t : List (List (K × V))) (r : Reply K V) → CacheMoves eq number s CacheLen r t → counted_by r ≡ Some (length (keys_in s))
   cache_counts s t Inserted m = absurd m
   cache_counts s t (Exists l w) m = absurd m
   cache_counts s t (Old o) m = absurd m

@@ -9,9 +9,9 @@ use Rattle.scc_calls.specs.declared.replies.Reply.{Reply}
 use Rattle.scc_calls.specs.declared.replies.Reply.TheVariants.{Inserted, Exists, Old, Key, Pair, Value, Has, Evicted, Cleared, Count}
 
 -- the number that a reply tells, if it tells one
-abbrev pub told_by : {K V : Type 0} → Reply K V → Option ℕ
-told_by (Count n) = Some n
-told_by reply = None
+abbrev pub counted_by : {K V : Type 0} → Reply K V → Option ℕ
+counted_by (Count n) = Some n
+counted_by reply = None
 
 module _ {K V : Type 0} (eq : K → K → Bool) where
   -- after `clear` a map has no key
@@ -28,7 +28,7 @@ module _ {K V : Type 0} (eq : K → K → Bool) where
   map_clears s t (Count n) m = absurd m
 
   -- `len` of a map answers how many keys there are
-  pub map_counts : (s t : State (K × V)) (r : Reply K V) → MapMoves eq s MapLen r t → told_by r ≡ Some (length (keys_of s.0))
+  pub map_counts : (s t : State (K × V)) (r : Reply K V) → MapMoves eq s MapLen r t → counted_by r ≡ Some (length (keys_of s.0))
   map_counts s t Inserted m = absurd m
   map_counts s t (Exists l w) m = absurd m
   map_counts s t (Old o) m = absurd m

@@ -1,7 +1,7 @@
 //! The calls that concern a whole part, and those of the map.
 ghost use Rattle.std.specs.Prelude.{◌≡◌, ℕ, List, [], length, Option, None, Some, MatchOption};
 ghost use Rattle.scc_calls.specs.declared.fixed.Setting.{Setting};
-ghost use Rattle.scc_calls.specs.WholeLaws.{told_by};
+ghost use Rattle.scc_calls.specs.WholeLaws.{counted_by};
 
 use crate::{Calls, MapCall, Reply};
 use std::hash::{BuildHasher, Hash};
@@ -13,7 +13,7 @@ pub trait WholeCalls: Calls {
     ghost counts: { Self.Call };
 
     // The number that a reply tells, if it tells one.
-    ghost told: { Self.Reply → Option ℕ };
+    ghost counted: { Self.Reply → Option ℕ };
 
     /// The call that clears a part.
     fn clear_call() -> Self::Call
@@ -24,14 +24,14 @@ pub trait WholeCalls: Calls {
         ensures { result ≡ counts };
 
     /// The number that a reply tells, if it tells one.
-    fn told(reply: &Self::Reply) -> Option<usize>
-        ensures { result ≡ told reply.now };
+    fn counted(reply: &Self::Reply) -> Option<usize>
+        ensures { result ≡ counted reply.now };
 
     // Once it is cleared, a part has no keys.
     ghost clears_all: { (Self.key_of clears ≡ None) × ((g : Setting Self.Hasher) (s t : Self.State) (r : Self.Reply) → Self.moves g s clears r t → Self.keys t ≡ []) };
 
     // The count of a part is the number of its keys.
-    ghost counts_all: { (Self.key_of counts ≡ None) × ((g : Setting Self.Hasher) (s t : Self.State) (r : Self.Reply) → Self.moves g s counts r t → told r ≡ Some (length (Self.keys s))) };
+    ghost counts_all: { (Self.key_of counts ≡ None) × ((g : Setting Self.Hasher) (s t : Self.State) (r : Self.Reply) → Self.moves g s counts r t → counted r ≡ Some (length (Self.keys s))) };
 
     // Neither is ever refused for memory.
     ghost never_refused: { (g : Setting Self.Hasher) (s : Self.State) → (Self.may_refuse g s clears → ⊥) × (Self.may_refuse g s counts → ⊥) };
@@ -42,14 +42,14 @@ impl<K: Eq + Hash + Clone, V: Clone + PartialEq, H: BuildHasher> WholeCalls
     ghost use Rattle.std.proofs.Common.{refl, rules, ◌∙◌};
     ghost use Rattle.scc_calls.specs.Means.{means_of, told_alike};
     ghost use Rattle.scc_calls.specs.MapCalls.{MapMoves};
-    ghost use Rattle.scc_calls.specs.WholeLaws.{told_by, map_clears, map_counts};
+    ghost use Rattle.scc_calls.specs.WholeLaws.{counted_by, map_clears, map_counts};
     ghost use Rattle.scc_calls.specs.declared.calls_as_values.MapCall.TheVariants.{Clear, Len};
 
     ghost clears = { Clear };
 
     ghost counts = { Len };
 
-    ghost told = { told_by };
+    ghost counted = { counted_by };
 
     fn clear_call() -> MapCall<K, V> {
         MapCall::Clear
@@ -59,20 +59,20 @@ impl<K: Eq + Hash + Clone, V: Clone + PartialEq, H: BuildHasher> WholeCalls
         MapCall::Len
     }
 
-    fn told(reply: &Reply<K, V>) -> Option<usize> {
+    fn counted(reply: &Reply<K, V>) -> Option<usize> {
         count_of(reply)
     }
 
     ghost clears_all = { (refl, λ g s t r m. means_of ⟦<MapCall<K, V> as PartialEq>⟧.eq ⟦<Reply<K, V> as PartialEq>⟧.eq (MapMoves K.eq) Clear (Prim.search rules) s t r (λ given a h. map_clears K.eq s t given h) m) };
 
-    ghost counts_all = { (refl, λ g s t r m. means_of ⟦<MapCall<K, V> as PartialEq>⟧.eq ⟦<Reply<K, V> as PartialEq>⟧.eq (MapMoves K.eq) Len (Prim.search rules) s t r (λ given a h. told_alike ⟦<Reply<K, V> as PartialEq>⟧.eq told_by (Prim.search rules) given r a ∙ map_counts K.eq s t given h) m) };
+    ghost counts_all = { (refl, λ g s t r m. means_of ⟦<MapCall<K, V> as PartialEq>⟧.eq ⟦<Reply<K, V> as PartialEq>⟧.eq (MapMoves K.eq) Len (Prim.search rules) s t r (λ given a h. told_alike ⟦<Reply<K, V> as PartialEq>⟧.eq counted_by (Prim.search rules) given r a ∙ map_counts K.eq s t given h) m) };
 
     ghost never_refused = { λ g s. (λ m. m, λ m. m) };
 }
 
 // The number that a reply tells, if it tells one.
 pub(super) fn count_of<K, V>(reply: &Reply<K, V>) -> Option<usize>
-    ensures { result ≡ told_by reply.now }
+    ensures { result ≡ counted_by reply.now }
 {
     match reply {
         Reply::Count(n) => Some(*n),

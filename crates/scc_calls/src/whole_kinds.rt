@@ -9,14 +9,14 @@ impl<K: Eq + Hash + Clone, H: BuildHasher> WholeCalls for scc_set::Owned<K, H> {
     ghost use Rattle.scc_calls.specs.Means.{means_of, told_alike};
     ghost use Rattle.scc_calls.specs.SetCalls.{SetMoves};
     ghost use Rattle.scc_calls.specs.WholeKinds.{set_clears, set_counts};
-    ghost use Rattle.scc_calls.specs.WholeLaws.{told_by};
+    ghost use Rattle.scc_calls.specs.WholeLaws.{counted_by};
     ghost use Rattle.scc_calls.specs.declared.calls_as_values.SetCall.TheVariants.{Clear, Len};
 
     ghost clears = { Clear };
 
     ghost counts = { Len };
 
-    ghost told = { told_by };
+    ghost counted = { counted_by };
 
     fn clear_call() -> SetCall<K> {
         SetCall::Clear
@@ -26,13 +26,13 @@ impl<K: Eq + Hash + Clone, H: BuildHasher> WholeCalls for scc_set::Owned<K, H> {
         SetCall::Len
     }
 
-    fn told(reply: &Reply<K, ()>) -> Option<usize> {
+    fn counted(reply: &Reply<K, ()>) -> Option<usize> {
         count_of(reply)
     }
 
     ghost clears_all = { (refl, λ g s t r m. means_of ⟦<SetCall<K> as PartialEq>⟧.eq ⟦<Reply<K, ()> as PartialEq>⟧.eq (SetMoves K.eq) Clear (Prim.search rules) s t r (λ given a h. set_clears K.eq s t given h) m) };
 
-    ghost counts_all = { (refl, λ g s t r m. means_of ⟦<SetCall<K> as PartialEq>⟧.eq ⟦<Reply<K, ()> as PartialEq>⟧.eq (SetMoves K.eq) Len (Prim.search rules) s t r (λ given a h. told_alike ⟦<Reply<K, ()> as PartialEq>⟧.eq told_by (Prim.search rules) given r a ∙ set_counts K.eq s t given h) m) };
+    ghost counts_all = { (refl, λ g s t r m. means_of ⟦<SetCall<K> as PartialEq>⟧.eq ⟦<Reply<K, ()> as PartialEq>⟧.eq (SetMoves K.eq) Len (Prim.search rules) s t r (λ given a h. told_alike ⟦<Reply<K, ()> as PartialEq>⟧.eq counted_by (Prim.search rules) given r a ∙ set_counts K.eq s t given h) m) };
 
     ghost never_refused = { λ g s. (λ m. m, λ m. m) };
 }
@@ -42,14 +42,14 @@ impl<K: Eq + Hash + Clone, V: Clone + PartialEq, H: BuildHasher> WholeCalls
     ghost use Rattle.std.proofs.Common.{refl, rules, ◌∙◌};
     ghost use Rattle.scc_calls.specs.Means.{means_of, told_alike};
     ghost use Rattle.scc_calls.specs.IndexCalls.{IndexMoves};
-    ghost use Rattle.scc_calls.specs.WholeLaws.{told_by, map_clears, map_counts};
+    ghost use Rattle.scc_calls.specs.WholeLaws.{counted_by, map_clears, map_counts};
     ghost use Rattle.scc_calls.specs.declared.calls_as_values.IndexCall.TheVariants.{Clear, Len};
 
     ghost clears = { Clear };
 
     ghost counts = { Len };
 
-    ghost told = { told_by };
+    ghost counted = { counted_by };
 
     fn clear_call() -> IndexCall<K, V> {
         IndexCall::Clear
@@ -59,13 +59,13 @@ impl<K: Eq + Hash + Clone, V: Clone + PartialEq, H: BuildHasher> WholeCalls
         IndexCall::Len
     }
 
-    fn told(reply: &Reply<K, V>) -> Option<usize> {
+    fn counted(reply: &Reply<K, V>) -> Option<usize> {
         count_of(reply)
     }
 
     ghost clears_all = { (refl, λ g s t r m. means_of ⟦<IndexCall<K, V> as PartialEq>⟧.eq ⟦<Reply<K, V> as PartialEq>⟧.eq (IndexMoves K.eq) Clear (Prim.search rules) s t r (λ given a h. map_clears K.eq s t given h) m) };
 
-    ghost counts_all = { (refl, λ g s t r m. means_of ⟦<IndexCall<K, V> as PartialEq>⟧.eq ⟦<Reply<K, V> as PartialEq>⟧.eq (IndexMoves K.eq) Len (Prim.search rules) s t r (λ given a h. told_alike ⟦<Reply<K, V> as PartialEq>⟧.eq told_by (Prim.search rules) given r a ∙ map_counts K.eq s t given h) m) };
+    ghost counts_all = { (refl, λ g s t r m. means_of ⟦<IndexCall<K, V> as PartialEq>⟧.eq ⟦<Reply<K, V> as PartialEq>⟧.eq (IndexMoves K.eq) Len (Prim.search rules) s t r (λ given a h. told_alike ⟦<Reply<K, V> as PartialEq>⟧.eq counted_by (Prim.search rules) given r a ∙ map_counts K.eq s t given h) m) };
 
     ghost never_refused = { λ g s. (λ m. m, λ m. m) };
 }
@@ -77,14 +77,14 @@ impl<K: Eq + Hash + Clone, V: Clone + PartialEq, H: BuildHasher> WholeCalls
     ghost use Rattle.scc_calls.specs.CacheCalls.{number_by, CacheMoves};
     ghost use Rattle.scc_contents.specs.Hashing.{hash_of};
     ghost use Rattle.scc_calls.specs.WholeKinds.{cache_clears, cache_counts};
-    ghost use Rattle.scc_calls.specs.WholeLaws.{told_by};
+    ghost use Rattle.scc_calls.specs.WholeLaws.{counted_by};
     ghost use Rattle.scc_calls.specs.declared.calls_as_values.CacheCall.TheVariants.{Clear, Len};
 
     ghost clears = { Clear };
 
     ghost counts = { Len };
 
-    ghost told = { told_by };
+    ghost counted = { counted_by };
 
     fn clear_call() -> CacheCall<K, V> {
         CacheCall::Clear
@@ -94,13 +94,13 @@ impl<K: Eq + Hash + Clone, V: Clone + PartialEq, H: BuildHasher> WholeCalls
         CacheCall::Len
     }
 
-    fn told(reply: &Reply<K, V>) -> Option<usize> {
+    fn counted(reply: &Reply<K, V>) -> Option<usize> {
         count_of(reply)
     }
 
     ghost clears_all = { (refl, λ g s t r m. means_of ⟦<CacheCall<K, V> as PartialEq>⟧.eq ⟦<Reply<K, V> as PartialEq>⟧.eq (CacheMoves K.eq (number_by (λ h k. hash_of H.BuildHasher H.Hasher.Hasher h (K.hash_input k)) g)) Clear (Prim.search rules) s t r (λ given a h. cache_clears K.eq (number_by (λ h k. hash_of H.BuildHasher H.Hasher.Hasher h (K.hash_input k)) g) s t given h) m) };
 
-    ghost counts_all = { (refl, λ g s t r m. means_of ⟦<CacheCall<K, V> as PartialEq>⟧.eq ⟦<Reply<K, V> as PartialEq>⟧.eq (CacheMoves K.eq (number_by (λ h k. hash_of H.BuildHasher H.Hasher.Hasher h (K.hash_input k)) g)) Len (Prim.search rules) s t r (λ given a h. told_alike ⟦<Reply<K, V> as PartialEq>⟧.eq told_by (Prim.search rules) given r a ∙ cache_counts K.eq (number_by (λ h k. hash_of H.BuildHasher H.Hasher.Hasher h (K.hash_input k)) g) s t given h) m) };
+    ghost counts_all = { (refl, λ g s t r m. means_of ⟦<CacheCall<K, V> as PartialEq>⟧.eq ⟦<Reply<K, V> as PartialEq>⟧.eq (CacheMoves K.eq (number_by (λ h k. hash_of H.BuildHasher H.Hasher.Hasher h (K.hash_input k)) g)) Len (Prim.search rules) s t r (λ given a h. told_alike ⟦<Reply<K, V> as PartialEq>⟧.eq counted_by (Prim.search rules) given r a ∙ cache_counts K.eq (number_by (λ h k. hash_of H.BuildHasher H.Hasher.Hasher h (K.hash_input k)) g) s t given h) m) };
 
     ghost never_refused = { λ g s. (λ m. m, λ m. m) };
 }

@@ -22,7 +22,7 @@ fn bucket_of(key: u64, buckets: usize) -> usize {
 
 impl Plain {
     /// Without a pair, and without an array.
-    pub fn new(alloc: Global) -> Plain {
+    pub(crate) fn new(alloc: Global) -> Plain {
         Plain {
             pairs: Vec::new(alloc),
             buckets: 0,
@@ -30,12 +30,12 @@ impl Plain {
     }
 
     /// The number of pairs.
-    pub fn len(&self) -> usize {
+    pub(crate) fn len(&self) -> usize {
         self.pairs.len()
     }
 
     /// The value of the key, where it is there.
-    pub fn value(&self, key: u64) -> Option<u64> {
+    pub(crate) fn value(&self, key: u64) -> Option<u64> {
         self.pairs
             .iter()
             .find(|pair| pair.0 == key)
@@ -43,17 +43,17 @@ impl Plain {
     }
 
     /// The key, where it is there.
-    pub fn key(&self, key: u64) -> Option<u64> {
+    pub(crate) fn key(&self, key: u64) -> Option<u64> {
         self.value(key).map(|_| key)
     }
 
     /// Whether the key is there.
-    pub fn has(&self, key: u64) -> bool {
+    pub(crate) fn has(&self, key: u64) -> bool {
         self.value(key).is_some()
     }
 
     /// Takes out the pair of the key.
-    pub fn remove(&mut self, key: u64) -> Option<(u64, u64)> {
+    pub(crate) fn remove(&mut self, key: u64) -> Option<(u64, u64)> {
         let place = self.pairs.iter().position(|pair| pair.0 == key)?;
         if place < self.pairs.len() {
             Some(self.pairs.remove(place))
@@ -63,14 +63,14 @@ impl Plain {
     }
 
     /// Gives the key that value, and makes it the one used last.
-    pub fn set(&mut self, key: u64, value: u64) -> Result<(), AllocError> {
+    pub(crate) fn set(&mut self, key: u64, value: u64) -> Result<(), AllocError> {
         let _old = self.remove(key);
         self.pairs.push((key, value))?;
         Ok(())
     }
 
     /// Makes the key the one used last, where it is there.
-    pub fn touch(&mut self, key: u64) -> Result<(), AllocError> {
+    pub(crate) fn touch(&mut self, key: u64) -> Result<(), AllocError> {
         if let Some(pair) = self.remove(key) {
             self.pairs.push(pair)?;
         }
@@ -90,7 +90,7 @@ impl Plain {
 
     /// Takes out what was driven out for a new key, and says whether just that had to go: the pair of its full bucket
     /// that was used least recently, or none.
-    pub fn evict(
+    pub(crate) fn evict(
         &mut self,
         alloc: Global,
         key: u64,
@@ -109,7 +109,7 @@ impl Plain {
     }
 
     /// Puts the pairs bucket by bucket, and goes over to another number of buckets.
-    pub fn regroup(&mut self, alloc: Global, buckets: usize) -> Result<(), AllocError> {
+    pub(crate) fn regroup(&mut self, alloc: Global, buckets: usize) -> Result<(), AllocError> {
         let mut pairs = Vec::new(alloc);
         for bucket in 0..self.buckets {
             let more = self.bucket(alloc, bucket)?;
@@ -123,13 +123,17 @@ impl Plain {
     }
 
     /// Whether a walk that met those pairs met just these.
-    pub fn is_met_by(&self, met: &[Seen]) -> bool {
+    pub(crate) fn is_met_by(&self, met: &[Seen]) -> bool {
         self.pairs.len() == met.len()
             && self.pairs.iter().all(|pair| met.iter().any(|other| *other == (pair.0, 0, pair.1)))
     }
 
     /// Whether it met them bucket by bucket, in their order.
-    pub fn is_met_in_order_by(&mut self, alloc: Global, met: &[Seen]) -> Result<bool, AllocError> {
+    pub(crate) fn is_met_in_order_by(
+        &mut self,
+        alloc: Global,
+        met: &[Seen],
+    ) -> Result<bool, AllocError> {
         self.regroup(alloc, self.buckets)?;
         let mut same = self.pairs.len() == met.len();
         for (pair, other) in self.pairs.iter().zip(met) {

@@ -19,7 +19,7 @@ pub struct Book {
 
 impl Book {
     /// With room for so many tokens.
-    pub fn new(alloc: Global, room: usize) -> Result<Rc<Book>, AllocError> {
+    pub(crate) fn new(alloc: Global, room: usize) -> Result<Rc<Book>, AllocError> {
         let mut drops = Vec::new(alloc);
         for _ in 0..room {
             drops.push(Cell::new(0))?;
@@ -32,7 +32,7 @@ impl Book {
     }
 
     /// How many tokens were made and not dropped yet, where none was dropped twice and none that wasn't made.
-    pub fn alive(&self) -> Option<usize> {
+    pub(crate) fn alive(&self) -> Option<usize> {
         let made = self.made.get();
         let mut alive = 0usize;
         for (id, count) in self.drops.iter().enumerate() {
@@ -73,7 +73,7 @@ pub struct Token {
 
 impl Token {
     /// Another token.
-    pub fn new(book: &Rc<Book>, number: u64) -> Result<Token, AllocError>
+    pub(crate) fn new(book: &Rc<Book>, number: u64) -> Result<Token, AllocError>
         ensures { IfOk result (λ t. t.number ≡ number) }
     {
         let owner = book.clone()?;

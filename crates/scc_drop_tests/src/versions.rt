@@ -31,7 +31,7 @@ fn filled(
 
 /// Whether a snapshot keeps all versions after the index was cleared, half of them gone with what was taken out of it,
 /// and none lives once it is gone.
-pub fn snapshot_keeps(alloc: Global, book: &Rc<Book>) -> Result<bool, AllocError> {
+pub(crate) fn snapshot_keeps(alloc: Global, book: &Rc<Book>) -> Result<bool, AllocError> {
     let mut index = filled(alloc, book)?;
     let Ok(mut versions) = index.iter() else {
         return Err(AllocError);
@@ -64,7 +64,10 @@ fn shared<R: Wait + AllocGlobal>(
 }
 
 /// Whether a version that was peeked lives on after its update, its removal and the index itself, and no other does.
-pub fn peeked_lives_on<R: Wait + AllocGlobal>(rt: &R, book: &Rc<Book>) -> Result<bool, AllocError> {
+pub(crate) fn peeked_lives_on<R: Wait + AllocGlobal>(
+    rt: &R,
+    book: &Rc<Book>,
+) -> Result<bool, AllocError> {
     let index = shared(rt, book)?;
     let key = Token::new(book, 7)?;
     let Ok(Some(kept)) = index.peek(rt, &key) else {

@@ -47,7 +47,7 @@ fn of_indexes(alloc: Global) -> bool {
 }
 
 /// A line for each kind that takes reservations. The answer is the worst status.
-pub fn run_tokens<R: AllocGlobal + Print>(rt: &R) -> u8 {
+pub(crate) fn run_tokens<R: AllocGlobal + Print>(rt: &R) -> u8 {
     let what = "release of foreign and own tokens";
     let alloc = rt.alloc();
     let map = say(rt, "owned map", what, Ok(of_maps(alloc)));

@@ -1,4 +1,4 @@
--- What the contracts of an entry cite. An entry holds its map by a guard: a `&mut` in the owned form.
+-- What the contracts of an entry cite. An entry holds its index by a guard: a `&mut` in the owned form.
 pub use Rattle.scc_index.specs.declared.held.HeldPlace.TheVariants.{Occupied, Vacant}
 pub use Rattle.scc_common.specs.declared.errors.InsertError.TheVariants.{Exists, Memory}
 use Rattle.std.specs.Prelude.{◌≡◌, ℕ, Bool, true, List, ◌∷◌, ◌++◌, Option, None, Some, Result, ⊤}

@@ -1,4 +1,4 @@
-//! An entry of an index: a key's place, found once and held. It holds its map by a guard, a `&mut` in the owned form,
+//! An entry of an index: a key's place, found once and held. It holds its index by a guard, a `&mut` in the owned form,
 //! and is generic in it.
 ghost use Rattle.std.specs.Prelude.{◌≡◌, None};
 ghost use Rattle.scc_contents.specs.Contents.{entries, key_hash};

@@ -186,7 +186,7 @@ fn clear<F: Form<MaybeEqual, u64>>(form: &mut F, list: &mut List) -> bool {
 }
 
 /// Whether a call answers as on the list, and leaves as many pairs.
-pub fn agrees<F: Form<MaybeEqual, u64>>(
+pub(crate) fn agrees<F: Form<MaybeEqual, u64>>(
     alloc: Global,
     form: &mut F,
     list: &mut List,

@@ -80,7 +80,7 @@ pub struct Calls {
 
 impl Calls {
     /// So many calls on keys up to the mask, in four rounds.
-    pub fn new(calls: u64, mask: u64) -> Calls {
+    pub(crate) fn new(calls: u64, mask: u64) -> Calls {
         Calls {
             seed: mask,
             made: 0,
@@ -111,7 +111,7 @@ impl Calls {
     }
 
     /// The next call on what the list has.
-    pub fn draw(&mut self, list: &List) -> Call {
+    pub(crate) fn draw(&mut self, list: &List) -> Call {
         let fills = self.fills();
         let number = self.number(list, fills);
         let drawn = next(&mut self.seed);

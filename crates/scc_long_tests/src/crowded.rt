@@ -96,7 +96,7 @@ fn of_indexes(alloc: Global) -> bool {
 }
 
 /// A line for each kind that has crowded buckets. The answer is the worst status.
-pub fn run_crowded<R: AllocGlobal + Print>(rt: &R) -> u8 {
+pub(crate) fn run_crowded<R: AllocGlobal + Print>(rt: &R) -> u8 {
     let alloc = rt.alloc();
     let what = "a crowded bucket waits three times";
     let map = say(rt, "owned map", what, Ok(of_maps(alloc)));

@@ -16,7 +16,7 @@ pub struct List {
 
 impl List {
     /// Without a pair. Where all pairs of a cache stand in one bucket, it is known which of them is driven out.
-    pub fn new(alloc: Global, kind: Kind, has_one_bucket: bool) -> List {
+    pub(crate) fn new(alloc: Global, kind: Kind, has_one_bucket: bool) -> List {
         List {
             kind,
             has_one_bucket,
@@ -25,12 +25,12 @@ impl List {
     }
 
     /// The kind of the container.
-    pub fn kind(&self) -> Kind {
+    pub(crate) fn kind(&self) -> Kind {
         self.kind
     }
 
     /// The number of pairs.
-    pub fn len(&self) -> usize {
+    pub(crate) fn len(&self) -> usize {
         self.pairs.len()
     }
 
@@ -40,12 +40,12 @@ impl List {
     }
 
     /// The pair of the key with that number.
-    pub fn find(&self, number: u64) -> Option<Seen> {
+    pub(crate) fn find(&self, number: u64) -> Option<Seen> {
         self.pairs.iter().find(|pair| pair.0 == number).copied()
     }
 
     /// The number of one of its keys, the other where it has none.
-    pub fn some_number(&self, choice: u64, other: u64) -> u64 {
+    pub(crate) fn some_number(&self, choice: u64, other: u64) -> u64 {
         let place = match (choice as usize).checked_rem(self.pairs.len()) {
             Some(place) => place,
             None => return other,
@@ -57,7 +57,7 @@ impl List {
     }
 
     /// Takes out the pair of the key with that number.
-    pub fn remove(&mut self, number: u64) {
+    pub(crate) fn remove(&mut self, number: u64) {
         if let Some(place) = self.place_of(number) {
             if place < self.pairs.len() {
                 self.pairs.remove(place);
@@ -66,7 +66,7 @@ impl List {
     }
 
     /// Gives the key another pair, and makes it the one used last.
-    pub fn renew(&mut self, pair: Seen) -> Result<(), AllocError> {
+    pub(crate) fn renew(&mut self, pair: Seen) -> Result<(), AllocError> {
         self.remove(pair.0);
         self.pairs.push(pair)?;
         Ok(())
@@ -84,7 +84,7 @@ impl List {
     }
 
     /// Adds a new pair in the place of what it drove out, and says whether just that could go.
-    pub fn add(&mut self, pair: Seen, evicted: Option<Seen>) -> Result<bool, AllocError> {
+    pub(crate) fn add(&mut self, pair: Seen, evicted: Option<Seen>) -> Result<bool, AllocError> {
         let could_go = self.can_lose(evicted);
         if let Some(gone) = evicted {
             self.remove(gone.0);
@@ -99,7 +99,7 @@ impl List {
     }
 
     /// Adds 1 to the value of the key with that number, as a condition does.
-    pub fn raise(&mut self, number: u64) {
+    pub(crate) fn raise(&mut self, number: u64) {
         let writes = self.writes();
         for pair in self.pairs.iter_mut() {
             if writes && pair.0 == number {
@@ -109,7 +109,7 @@ impl List {
     }
 
     /// Adds 1 to each value, as a walk does.
-    pub fn raise_all(&mut self) {
+    pub(crate) fn raise_all(&mut self) {
         let writes = self.writes();
         for pair in self.pairs.iter_mut() {
             if writes {
@@ -119,7 +119,7 @@ impl List {
     }
 
     /// Takes out the pairs whose numbers have that rest by 8, and hands them out.
-    pub fn split_off(&mut self, alloc: Global, rest: u64) -> Result<Vec<Seen>, AllocError> {
+    pub(crate) fn split_off(&mut self, alloc: Global, rest: u64) -> Result<Vec<Seen>, AllocError> {
         let mut kept = Vec::new(alloc);
         let mut gone = Vec::new(alloc);
         for pair in self.pairs.iter() {
@@ -134,12 +134,12 @@ impl List {
     }
 
     /// Takes out all pairs.
-    pub fn clear(&mut self) {
+    pub(crate) fn clear(&mut self) {
         self.pairs.clear();
     }
 
     /// Whether a walk that met those pairs met just these. Where a cache has one bucket, their order is told too.
-    pub fn is_met_by(&self, met: &[Seen]) -> bool {
+    pub(crate) fn is_met_by(&self, met: &[Seen]) -> bool {
         if self.has_one_bucket && self.kind == Kind::Cache {
             return self.pairs.as_slice() == met;
         }
@@ -148,7 +148,7 @@ impl List {
 }
 
 /// Whether two lists have the same pairs, where the first has none twice.
-pub fn are_same(pairs: &[Seen], others: &[Seen]) -> bool {
+pub(crate) fn are_same(pairs: &[Seen], others: &[Seen]) -> bool {
     pairs.len() == others.len()
         && pairs
             .iter()

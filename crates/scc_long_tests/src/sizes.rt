@@ -178,7 +178,7 @@ fn of_snapshots(alloc: Global) -> Result<bool, AllocError> {
 }
 
 /// A line for each kind, and one for a snapshot. The answer is the worst status.
-pub fn run_sizes<R: AllocGlobal + Print>(rt: &R) -> u8 {
+pub(crate) fn run_sizes<R: AllocGlobal + Print>(rt: &R) -> u8 {
     let alloc = rt.alloc();
     let what = "more than 2^20 slots";
     let mut worst = say(rt, "owned map", what, of_maps(alloc));

@@ -4,14 +4,14 @@ use Rattle.std.proofs.lemmas.List.{drop_more, drop_all, append_assoc}
 use Rattle.scc_history.specs.declared.receipts.Receipt.{Receipt}
 use Rattle.scc_play.specs.Answered.{AreAnswered, IsAnswered}
 
-module _ {A R K : Type 0} (key_of : A → Option K) (told : R → Option ℕ) (count : ℕ → R) (stripes : ℕ) where
+module _ {A R K : Type 0} (key_of : A → Option K) (counted : R → Option ℕ) (count : ℕ → R) (stripes : ℕ) where
   -- one call more at the front
   pub one-more : (calls : List A) (i : ℕ) (call : A) (left here rest : List (Receipt A R)) (reply : R) (more : List R) → i < length calls → get_or calls i call ≡ call
-      → left ≡ here ++ rest → IsAnswered key_of told count stripes call here reply → AreAnswered key_of told count stripes (drop (i + 1) calls) rest more → AreAnswered key_of told count stripes (drop i calls) left (reply ∷ more)
+      → left ≡ here ++ rest → IsAnswered key_of counted count stripes call here reply → AreAnswered key_of counted count stripes (drop (i + 1) calls) rest more → AreAnswered key_of counted count stripes (drop i calls) left (reply ∷ more)
   one-more calls i call left here rest reply more within at split answered others =
       let here-first : drop i calls ≡ call ∷ drop (i + 1) calls = drop_more calls i call within ∙ ap (λ c. c ∷ drop (i + 1) calls) at in
-      subst (λ l. AreAnswered key_of told count stripes l left (reply ∷ more)) (sym here-first) (here, rest, reply, more, split, refl, answered, others)
+      subst (λ l. AreAnswered key_of counted count stripes l left (reply ∷ more)) (sym here-first) (here, rest, reply, more, split, refl, answered, others)
 
   -- no call is left
-  pub none-left : (calls : List A) (i : ℕ) (left : List (Receipt A R)) → length calls ≤ i → left ≡ [] → AreAnswered key_of told count stripes (drop i calls) left []
-  none-left calls i left end none = subst (λ l. AreAnswered key_of told count stripes l left []) (sym (drop_all i calls end)) (none, refl)
+  pub none-left : (calls : List A) (i : ℕ) (left : List (Receipt A R)) → length calls ≤ i → left ≡ [] → AreAnswered key_of counted count stripes (drop i calls) left []
+  none-left calls i left end none = subst (λ l. AreAnswered key_of counted count stripes l left []) (sym (drop_all i calls end)) (none, refl)

@@ -43,7 +43,7 @@ module _ {H S W A R K X C Q V : Type 0} (machine : Machine C H S W A R K X) (rou
         → IsStampOrder histories order → StampsRise histories order
         → AllMatch eq req number receipts passes (λ n. calls_of n (steps_at histories order))
         → AllByRecursion (λ n. n ≡ 0) opened → AllByRecursion (AllByRecursion (IsMadeBy workers)) histories
-        → AreTold machine.key_of machine.told machine.count stripes calls number receipts told 0 passes all
+        → AreTold machine.key_of machine.counted machine.count stripes calls number receipts told 0 passes all
         → ((items : List X) × IsPermutation (flat_map machine.shown parts) items × IsSorted machine.order items × (text ≡ output_of machine.reply machine.content (map told all) items (sum_by calls_in histories)))
         → ∥ ((r : Request H) × (chosen ≡ Some r) × IsPlayed machine (route r.hasher) r workers stripes calls text) ∥₁
     assembled many counted none-opened crew alike replays routed merges ordered stamps matches zeros known tells shows =
@@ -68,10 +68,10 @@ module _ {H S W A R K X C Q V : Type 0} (machine : Machine C H S W A R K X) (rou
             known = known;
             order = ordered;
             stamps = stamps;
-            crew = length-map all told ∙ told-length machine.key_of machine.told machine.count stripes calls number receipts told 0 passes all tells ∙ crew;
+            crew = length-map all told ∙ told-length machine.key_of machine.counted machine.count stripes calls number receipts told 0 passes all tells ∙ crew;
             answered = λ worker rs at.
-                subst (λ w. AreAnswered machine.key_of machine.told machine.count stripes (calls_by w calls) (calls_of w (steps_at histories order)) rs) (zero-add worker)
-                (answered-from eq req exact rexact machine.key_of machine.told machine.count stripes calls number receipts told (λ n. calls_of n (steps_at histories order)) 0 passes all tells matches worker rs at);
+                subst (λ w. AreAnswered machine.key_of machine.counted machine.count stripes (calls_by w calls) (calls_of w (steps_at histories order)) rs) (zero-add worker)
+                (answered-from eq req exact rexact machine.key_of machine.counted machine.count stripes calls number receipts told (λ n. calls_of n (steps_at histories order)) 0 passes all tells matches worker rs at);
             same = shows.1;
             rising = shows.2;
             whole = shows.3;

@@ -19,7 +19,7 @@ module _ {C H S W A R K X : Type 0} (machine : Machine C H S W A R K X) (moves :
     whole = machine.whole;
     whole_moves = whole_moves;
     whole_resizes = machine.whole_resizes;
-    told = machine.told;
+    counted = machine.counted;
     count = machine.count;
     state = machine.state;
     shown = machine.shown;

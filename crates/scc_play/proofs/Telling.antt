@@ -30,44 +30,44 @@ module _ {A R : Type 0} (eq : A → A → Bool) (req : R → R → Bool) (exact 
       let rest = same-receipts xs ys (λ k. m (suc k)) in
       λ i. first i ∷ rest i
 
-  module _ {K Q V : Type 0} (key_of : A → Option K) (told : R → Option ℕ) (count : ℕ → R) (stripes : ℕ) (calls : List (WorkerCall A)) (number : Q → ℕ) (receipts : Q → List (Receipt A R)) (replies : V → List R) (records : ℕ → List (Receipt A R)) where
-    from-number : (n : ℕ) (p : Q) (v : V) (rs : List R) → number p ≡ n → AreAnswered key_of told count stripes (calls_by n calls) (receipts p) (replies v) → Matches eq req (receipts p) (records (number p)) → replies v ≡ rs
-        → AreAnswered key_of told count stripes (calls_by n calls) (records n) rs
+  module _ {K Q V : Type 0} (key_of : A → Option K) (counted : R → Option ℕ) (count : ℕ → R) (stripes : ℕ) (calls : List (WorkerCall A)) (number : Q → ℕ) (receipts : Q → List (Receipt A R)) (replies : V → List R) (records : ℕ → List (Receipt A R)) where
+    from-number : (n : ℕ) (p : Q) (v : V) (rs : List R) → number p ≡ n → AreAnswered key_of counted count stripes (calls_by n calls) (receipts p) (replies v) → Matches eq req (receipts p) (records (number p)) → replies v ≡ rs
+        → AreAnswered key_of counted count stripes (calls_by n calls) (records n) rs
     from-number n p v rs named answered matches here =
         let same : receipts p ≡ records n = same-receipts (receipts p) (records (number p)) matches ∙ ap records named in
-        subst (λ l. AreAnswered key_of told count stripes (calls_by n calls) (records n) l) here
-        (subst (λ l. AreAnswered key_of told count stripes (calls_by n calls) l (replies v)) same answered)
+        subst (λ l. AreAnswered key_of counted count stripes (calls_by n calls) (records n) l) here
+        (subst (λ l. AreAnswered key_of counted count stripes (calls_by n calls) l (replies v)) same answered)
 
     -- where the receipts of each pass are the records of its number, the records of each number answer the calls of the worker with that number
-    pub answered-from : (n : ℕ) (passes : List Q) (all : List V) → AreTold key_of told count stripes calls number receipts replies n passes all
+    pub answered-from : (n : ℕ) (passes : List Q) (all : List V) → AreTold key_of counted count stripes calls number receipts replies n passes all
         → ((k : ℕ) (p : Q) → slice_get passes k ≡ Some p → Matches eq req (receipts p) (records (number p)))
-        → (worker : ℕ) (rs : List R) → slice_get (map replies all) worker ≡ Some rs → AreAnswered key_of told count stripes (calls_by (n + worker) calls) (records (n + worker)) rs
+        → (worker : ℕ) (rs : List R) → slice_get (map replies all) worker ≡ Some rs → AreAnswered key_of counted count stripes (calls_by (n + worker) calls) (records (n + worker)) rs
     answered-from n [] [] t m worker rs at = absurd (let none : None ≡ Some rs = at in cc)
     answered-from n [] (v ∷ all) t m worker rs at = absurd t
     answered-from n (p ∷ passes) [] t m worker rs at = absurd t
     answered-from n (p ∷ passes) (v ∷ all) t m zero rs at =
         let same : n ≡ n + 0 = omega arith in
-        subst (λ w. AreAnswered key_of told count stripes (calls_by w calls) (records w) rs) same
+        subst (λ w. AreAnswered key_of counted count stripes (calls_by w calls) (records w) rs) same
         (from-number n p v rs t.0 t.1 (m 0 p refl) (some-is (replies v) rs at))
     answered-from n (p ∷ passes) (v ∷ all) t m (suc w) rs at =
         let same : (n + 1) + w ≡ n + suc w = omega arith in
-        subst (λ w. AreAnswered key_of told count stripes (calls_by w calls) (records w) rs) same
+        subst (λ w. AreAnswered key_of counted count stripes (calls_by w calls) (records w) rs) same
         (answered-from (n + 1) passes all t.2 (λ k q e. m (suc k) q e) w rs at)
 
-module _ {A R K Q V : Type 0} (key_of : A → Option K) (told : R → Option ℕ) (count : ℕ → R) (stripes : ℕ) (calls : List (WorkerCall A)) (number : Q → ℕ) (receipts : Q → List (Receipt A R)) (replies : V → List R) where
+module _ {A R K Q V : Type 0} (key_of : A → Option K) (counted : R → Option ℕ) (count : ℕ → R) (stripes : ℕ) (calls : List (WorkerCall A)) (number : Q → ℕ) (receipts : Q → List (Receipt A R)) (replies : V → List R) where
   -- one pass more at the front
-  pub one-told : (passes : List Q) (i : ℕ) (p : Q) (v : V) (more : List V) → i < length passes → get_or passes i p ≡ p → number p ≡ i → AreAnswered key_of told count stripes (calls_by i calls) (receipts p) (replies v)
-      → AreTold key_of told count stripes calls number receipts replies (i + 1) (drop (i + 1) passes) more → AreTold key_of told count stripes calls number receipts replies i (drop i passes) (v ∷ more)
+  pub one-told : (passes : List Q) (i : ℕ) (p : Q) (v : V) (more : List V) → i < length passes → get_or passes i p ≡ p → number p ≡ i → AreAnswered key_of counted count stripes (calls_by i calls) (receipts p) (replies v)
+      → AreTold key_of counted count stripes calls number receipts replies (i + 1) (drop (i + 1) passes) more → AreTold key_of counted count stripes calls number receipts replies i (drop i passes) (v ∷ more)
   one-told passes i p v more within at named answered others =
       let first : drop i passes ≡ p ∷ drop (i + 1) passes = drop_more passes i p within ∙ ap (λ c. c ∷ drop (i + 1) passes) at in
-      subst (λ l. AreTold key_of told count stripes calls number receipts replies i l (v ∷ more)) (sym first) (named, answered, others)
+      subst (λ l. AreTold key_of counted count stripes calls number receipts replies i l (v ∷ more)) (sym first) (named, answered, others)
 
   -- no pass is left
-  pub none-told : (passes : List Q) (i : ℕ) → length passes ≤ i → AreTold key_of told count stripes calls number receipts replies i (drop i passes) []
-  none-told passes i end = subst (λ l. AreTold key_of told count stripes calls number receipts replies i l []) (sym (drop_all i passes end)) tt
+  pub none-told : (passes : List Q) (i : ℕ) → length passes ≤ i → AreTold key_of counted count stripes calls number receipts replies i (drop i passes) []
+  none-told passes i end = subst (λ l. AreTold key_of counted count stripes calls number receipts replies i l []) (sym (drop_all i passes end)) tt
 
   -- as many were told as there are passes
-  pub told-length : (n : ℕ) (passes : List Q) (all : List V) → AreTold key_of told count stripes calls number receipts replies n passes all → length all ≡ length passes
+  pub told-length : (n : ℕ) (passes : List Q) (all : List V) → AreTold key_of counted count stripes calls number receipts replies n passes all → length all ≡ length passes
   told-length n [] [] t = refl
   told-length n [] (v ∷ all) t = absurd t
   told-length n (p ∷ passes) [] t = absurd t

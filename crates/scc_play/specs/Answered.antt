@@ -19,16 +19,16 @@ abbrev pub number_of : Option ℕ → ℕ
 number_of None = 0
 number_of (Some n) = n
 
-module _ {A R K : Type 0} (key_of : A → Option K) (told : R → Option ℕ) (count : ℕ → R) where
-  -- the reply to a call of all stripes, by what the first stripe told: the sum of what they count, where it counts; else what the first replied
+module _ {A R K : Type 0} (key_of : A → Option K) (counted : R → Option ℕ) (count : ℕ → R) where
+  -- the reply to a call of all stripes, by what the first stripe counted: the sum of what they count, where it counts; else what the first replied
   abbrev pub joint_by : Option ℕ → R → List R → R
   joint_by None first replies = first
-  joint_by (Some n) first replies = count (min 18446744073709551615 (sum_by (λ r. number_of (told r)) replies))
+  joint_by (Some n) first replies = count (min 18446744073709551615 (sum_by (λ r. number_of (counted r)) replies))
 
   -- the reply to a call of all stripes, from those of the stripes
   abbrev pub IsJoint : List R → R → Type 0
   IsJoint [] reply = ⊥
-  IsJoint (first ∷ more) reply = reply ≡ joint_by (told first) first (first ∷ more)
+  IsJoint (first ∷ more) reply = reply ≡ joint_by (counted first) first (first ∷ more)
 
   -- a call with a key is one record; one without is a record of that call in each stripe, stripe 0 first
   abbrev pub IsAnsweredBy : Option K → ℕ → A → List (Receipt A R) → R → Type 0

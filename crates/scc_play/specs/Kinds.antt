@@ -16,7 +16,7 @@ use Rattle.scc_contents.specs.Routing.{stripe_number}
 use Rattle.scc_calls.specs.SetCalls.{key_of_set, SetMoves}
 use Rattle.scc_calls.specs.SetWhole.{SetWholeMoves}
 use Rattle.scc_calls.specs.States.{State, state_of, ResizesTo}
-use Rattle.scc_calls.specs.WholeLaws.{told_by}
+use Rattle.scc_calls.specs.WholeLaws.{counted_by}
 use Rattle.scc_calls.specs.declared.calls_as_values.CacheCall.{CacheCall}
 use Rattle.scc_calls.specs.declared.calls_as_values.IndexCall.{IndexCall}
 use Rattle.scc_calls.specs.declared.calls_as_values.MapCall.{MapCall}
@@ -56,7 +56,7 @@ module _ (hash : ℕ → ℕ) where
     whole = joined;
     whole_moves = λ g n i. MapWholeMoves nat_eq (λ k. route_by n k == i);
     whole_resizes = λ _ _ _ w _ v. IsPermutation w v;
-    told = told_by;
+    counted = counted_by;
     count = Count;
     state = state_of;
     shown = entries;
@@ -76,7 +76,7 @@ module _ (hash : ℕ → ℕ) where
     whole = joined;
     whole_moves = λ g n i. SetWholeMoves nat_eq (λ k. route_by n k == i);
     whole_resizes = λ _ _ _ w _ v. IsPermutation w v;
-    told = told_by;
+    counted = counted_by;
     count = Count;
     state = state_of;
     shown = entries;
@@ -96,7 +96,7 @@ module _ (hash : ℕ → ℕ) where
     whole = joined;
     whole_moves = λ g n i. IndexWholeMoves nat_eq (λ k. route_by n k == i);
     whole_resizes = λ _ _ _ w _ v. IsPermutation w v;
-    told = told_by;
+    counted = counted_by;
     count = Count;
     state = state_of;
     shown = entries;
@@ -116,7 +116,7 @@ module _ (hash : ℕ → ℕ) where
     whole = λ parts. parts;
     whole_moves = λ g n i. PartMoves (CacheMoves nat_eq (number_by (λ h k. hash k) g)) cache_key (λ k. route_by n k) i;
     whole_resizes = λ g n i. PartResizes (CacheResizes g (number_by (λ h k. hash k) g)) i;
-    told = told_by;
+    counted = counted_by;
     count = Count;
     state = λ c. lists_of c.contents;
     shown = λ c. entries c.contents;

@@ -33,7 +33,7 @@ pub record Machine (C H S W A R K X : Type 0) : Type 1 where
   pub whole : List S → W
   pub whole_moves : Setting H → ℕ → ℕ → W → A → R → W → Type 0
   pub whole_resizes : Setting H → ℕ → ℕ → W → ℕ → W → Type 0
-  pub told : R → Option ℕ
+  pub counted : R → Option ℕ
   pub count : ℕ → R
   pub state : C → S
   pub shown : C → List X
@@ -60,7 +60,7 @@ pub record IsPlayed {C H S W A R K X : Type 0} (machine : Machine C H S W A R K 
   pub stamps : StampsRise histories places
   pub crew : length replies ≡ workers
   pub answered : (worker : ℕ) (told : List R) → slice_get replies worker ≡ Some told
-      → AreAnswered machine.key_of machine.told machine.count stripes (calls_by worker calls) (calls_of worker (steps_at histories places)) told
+      → AreAnswered machine.key_of machine.counted machine.count stripes (calls_by worker calls) (calls_of worker (steps_at histories places)) told
   pub same : IsPermutation (flat_map machine.shown ends) items
   pub rising : IsSorted machine.order items
   pub whole : text ≡ output_of machine.reply machine.content replies items (sum_by calls_in histories)

@@ -52,11 +52,11 @@ fn are_in_order<A, R>(receipts: &[Receipt<A, R>]) -> bool
 
 // The sum of the numbers that replies tell.
 fn sum_of<P: Printed>(receipts: &[Receipt<P::Call, P::Reply>]) -> usize
-    ensures { result ≡ min 18446744073709551615 (sum_by (λ r. number_of (P.told r.reply)) receipts.now) }
+    ensures { result ≡ min 18446744073709551615 (sum_by (λ r. number_of (P.counted r.reply)) receipts.now) }
 {
     let mut sum: usize = 0;
     for receipt in receipts {
-        sum = sum.saturating_add(P::told(&receipt.reply).unwrap_or(0));
+        sum = sum.saturating_add(P::counted(&receipt.reply).unwrap_or(0));
     }
     sum
 }
@@ -64,9 +64,9 @@ fn sum_of<P: Printed>(receipts: &[Receipt<P::Call, P::Reply>]) -> usize
 // The reply to a call of all stripes.
 fn joint_reply<P: Printed>(receipts: &[Receipt<P::Call, P::Reply>]) -> P::Reply
     requires { 0 < length receipts.now }
-    ensures { IsJoint P.key_of P.told P.count_reply (map (λ r. r.reply) receipts.now) result }
+    ensures { IsJoint P.key_of P.counted P.count_reply (map (λ r. r.reply) receipts.now) result }
 {
-    match P::told(&receipts[0].reply) {
+    match P::counted(&receipts[0].reply) {
         None => P::same_reply(&receipts[0].reply),
         Some(_) => P::count_reply(sum_of::<P>(receipts)),
     }
@@ -79,7 +79,7 @@ fn reply_of<P: Printed>(
     receipts: &[Receipt<P::Call, P::Reply>],
 ) -> Option<P::Reply>
     requires { 0 < stripes }
-    ensures { IfSome result (λ reply. IsAnswered P.key_of P.told P.count_reply stripes call.now receipts.now reply) }
+    ensures { IfSome result (λ reply. IsAnswered P.key_of P.counted P.count_reply stripes call.now receipts.now reply) }
 {
     if !are_all_of::<P>(call, receipts) {
         return None;
@@ -119,7 +119,7 @@ pub(crate) fn replies_of<P: Printed>(
 ) -> Result<Option<Vec<P::Reply>>, AllocError>
     requires { 0 < stripes }
     ensures { IfOk result (λ o. IfSome o
-        (λ replies. AreAnswered P.key_of P.told P.count_reply stripes calls.now receipts.now replies.items)) }
+        (λ replies. AreAnswered P.key_of P.counted P.count_reply stripes calls.now receipts.now replies.items)) }
 {
     let mut replies = Vec::new(alloc);
     let mut rest = receipts;

@@ -30,7 +30,7 @@ fn told_by_all<P: Printed, L: Ledger>(
 ) -> Result<Option<Vec<Vec<P::Reply>>>, AllocError>
     requires { 0 < stripes }
     ensures { IfOk result (λ o. IfSome o
-        (λ told. AreTold P.key_of P.told P.count_reply stripes calls.now (λ p. p.log.number)
+        (λ told. AreTold P.key_of P.counted P.count_reply stripes calls.now (λ p. p.log.number)
         (λ p. p.log.receipts.items) (λ v. v.items) 0 passes.now told.items)) }
 {
     let mut told = Vec::new(alloc);
@@ -109,7 +109,7 @@ where
         × CallsRouted P.key_of (stripe_of P.Hasher.BuildHasher P.Hasher.Hasher.Hasher P.Key.Hash.hash_input
         closed.hasher (vec_len closed.stripes)) 0 (map (λ s. s.stripe.history.items) closed.stripes.items) }
     ensures played { IfOk result (λ e. IfPlayed e (λ text. ∥ ((r : Request P.Hasher) × (M.chosen ≡ Some r)
-        × IsPlayed (record { limits = P.limits; empty = P.empty; key_of = P.key_of; moves = P.moves; resizes = P.resizes; whole = P.whole; whole_moves = P.whole_moves; whole_resizes = P.whole_resizes; told = P.told; count = P.count_reply; state = P.state; shown = P.shown; order = P.Item.cmp; reply = P.reply_line; content = P.item_line })
+        × IsPlayed (record { limits = P.limits; empty = P.empty; key_of = P.key_of; moves = P.moves; resizes = P.resizes; whole = P.whole; whole_moves = P.whole_moves; whole_resizes = P.whole_resizes; counted = P.counted; count = P.count_reply; state = P.state; shown = P.shown; order = P.Item.cmp; reply = P.reply_line; content = P.item_line })
         (stripe_of P.Hasher.BuildHasher P.Hasher.Hasher.Hasher P.Key.Hash.hash_input r.hasher) r workers stripes calls.now text) ∥₁)) }
 {
     P::exact_calls();

@@ -51,7 +51,7 @@ impl<C: WholeCalls, L: Ledger, M: Site<C::Hasher>> Recorded<C, L, M> {
             pass.old.log.receipts.items pass.new.log.receipts.items) }
         ensures room { result ≡ Err CallError.Container → ⊥ }
         ensures sum { IfOk result (λ n. n ≡ min 18446744073709551615
-            (sum_by (λ r. number_of (C.told r.reply))
+            (sum_by (λ r. number_of (C.counted r.reply))
             (drop (length pass.old.log.receipts.items) pass.new.log.receipts.items))) }
     {
         let before = pass.log.receipts.len();
@@ -67,11 +67,11 @@ impl<C: WholeCalls, L: Ledger, M: Site<C::Hasher>> Recorded<C, L, M> {
 
 // The sum of the numbers that replies tell.
 fn sum_of<C: WholeCalls>(receipts: &[Receipt<C::Call, C::Reply>]) -> usize
-    ensures { result ≡ min 18446744073709551615 (sum_by (λ r. number_of (C.told r.reply)) receipts.now) }
+    ensures { result ≡ min 18446744073709551615 (sum_by (λ r. number_of (C.counted r.reply)) receipts.now) }
 {
     let mut sum: usize = 0;
     for receipt in receipts {
-        sum = sum.saturating_add(C::told(&receipt.reply).unwrap_or(0));
+        sum = sum.saturating_add(C::counted(&receipt.reply).unwrap_or(0));
     }
     sum
 }

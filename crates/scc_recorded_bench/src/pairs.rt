@@ -19,7 +19,11 @@ fn key_at(number: u64, keys: u64) -> u64
 }
 
 /// For each of so many calls one of so many keys, in an order that nothing foretells, and its number.
-pub fn drawn_pairs(alloc: Global, calls: u64, keys: u64) -> Result<Vec<(u64, u64)>, AllocError>
+pub(crate) fn drawn_pairs(
+    alloc: Global,
+    calls: u64,
+    keys: u64,
+) -> Result<Vec<(u64, u64)>, AllocError>
     requires { 0 < keys }
     ensures { IfOk result (λ v. vec_len v ≡ calls) }
 {

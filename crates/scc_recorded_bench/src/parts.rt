@@ -26,12 +26,12 @@ pub struct Outcome {
 }
 
 /// The error where memory is refused.
-pub fn out_of_memory() -> io::Error {
+pub(crate) fn out_of_memory() -> io::Error {
     io::Error::from(io::ErrorKind::OutOfMemory)
 }
 
 /// A duration in nanoseconds, as long as they fit.
-pub fn nanos(spent: Duration) -> u64 {
+pub(crate) fn nanos(spent: Duration) -> u64 {
     spent
         .as_secs()
         .saturating_mul(1_000_000_000)
@@ -39,12 +39,12 @@ pub fn nanos(spent: Duration) -> u64 {
 }
 
 /// One owner of a hasher.
-pub fn fold_hasher(alloc: Global) -> Result<Fold, AllocError> {
+pub(crate) fn fold_hasher(alloc: Global) -> Result<Fold, AllocError> {
     Ok(Shared::new(Arc::new(alloc, BuildHasherDefault::new())?))
 }
 
 /// An empty map behind a lock, which skips so many bits of each hash.
-pub fn locked_map(alloc: Global, skipped: u32, hasher: Fold) -> io::Result<Mutex<Map>>
+pub(crate) fn locked_map(alloc: Global, skipped: u32, hasher: Fold) -> io::Result<Mutex<Map>>
     requires { skipped ≤ 4 }
 {
     match <Map as Calls>::make(alloc, skipped, 0, 0, hasher) {
@@ -55,12 +55,12 @@ pub fn locked_map(alloc: Global, skipped: u32, hasher: Fold) -> io::Result<Mutex
 
 /// Makes one call under the lock, and says whether it was made.
 #[inline(always)]
-pub fn upsert<R: Wait>(rt: &R, map: &Mutex<Map>, key: u64, value: u64) -> bool {
+pub(crate) fn upsert<R: Wait>(rt: &R, map: &Mutex<Map>, key: u64, value: u64) -> bool {
     map.lock(rt).call(MapCall::Upsert(key, value)).is_ok()
 }
 
 /// The sum of all values of a map.
-pub fn sum_of(map: &Map) -> u64 {
+pub(crate) fn sum_of(map: &Map) -> u64 {
     let mut sum = 0u64;
     map.iter_sync(|_, value| {
         sum = sum.wrapping_add(*value);
@@ -70,7 +70,7 @@ pub fn sum_of(map: &Map) -> u64 {
 }
 
 /// The sum of all values of several maps.
-pub fn sum_of_all(maps: &[Map]) -> u64 {
+pub(crate) fn sum_of_all(maps: &[Map]) -> u64 {
     let mut sum = 0u64;
     for map in maps {
         sum = sum.wrapping_add(sum_of(map));

@@ -32,7 +32,11 @@ fn time_calls<R: Wait + Clock>(rt: &R, map: &Mutex<Map>, pairs: &[(u64, u64)]) -
 }
 
 /// Upserts all pairs in an empty map.
-pub fn run<R: Wait + Clock>(rt: &R, alloc: Global, pairs: &[(u64, u64)]) -> io::Result<Outcome> {
+pub(crate) fn run<R: Wait + Clock>(
+    rt: &R,
+    alloc: Global,
+    pairs: &[(u64, u64)],
+) -> io::Result<Outcome> {
     let map = locked_map(alloc, 0, fold_hasher(alloc)?)?;
     let spent = time_calls(rt, &map, pairs)?;
     let sum = sum_of(&map.into_inner());

@@ -124,7 +124,11 @@ fn run_in<L: Ledger, M: Site<Fold>, R: Wait + Clock>(
 }
 
 /// Upserts all pairs by one pass in an empty recorded map, and finishes it.
-pub fn run<R: Wait + Clock>(rt: &R, alloc: Global, pairs: &[(u64, u64)]) -> io::Result<Recording> {
+pub(crate) fn run<R: Wait + Clock>(
+    rt: &R,
+    alloc: Global,
+    pairs: &[(u64, u64)],
+) -> io::Result<Recording> {
     run_in::<Brand, Brand, R>(
         rt,
         alloc,

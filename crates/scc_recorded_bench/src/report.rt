@@ -11,7 +11,13 @@ fn hundredths(total: u64, count: u64) -> u64
 }
 
 /// Prints what one of so many calls took, and the ratio to what the plain calls took together.
-pub fn line(rt: &impl Print, name: &str, spent: u64, calls: u64, plain: u64) -> io::Result<()> {
+pub(crate) fn line(
+    rt: &impl Print,
+    name: &str,
+    spent: u64,
+    calls: u64,
+    plain: u64,
+) -> io::Result<()> {
     let each = hundredths(spent, calls);
     let ratio = hundredths(spent, plain);
     println!(rt;
@@ -24,6 +30,6 @@ pub fn line(rt: &impl Print, name: &str, spent: u64, calls: u64, plain: u64) -> 
 }
 
 /// Prints a sum that all have to agree in.
-pub fn check(rt: &impl Print, name: &str, sum: u64) -> io::Result<()> {
+pub(crate) fn check(rt: &impl Print, name: &str, sum: u64) -> io::Result<()> {
     println!(rt; "check {name} {sum}")
 }

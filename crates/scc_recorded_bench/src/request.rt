@@ -33,7 +33,7 @@ fn parse_number(words: &[String], place: usize, usual: u64) -> io::Result<u64>
 }
 
 /// Reads the words `CALLS KEYS RUNS`, of which the last ones may be left out. There has to be a key.
-pub fn parse_request(words: &[String]) -> io::Result<Request>
+pub(crate) fn parse_request(words: &[String]) -> io::Result<Request>
     ensures keys { IfOk result (λ r. 0 < r.keys) }
     ensures usual { words.now ≡ [] → result ≡ Ok (record { calls = 1000000; keys = 50000; runs = 3 }) }
 {

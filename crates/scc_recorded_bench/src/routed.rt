@@ -66,7 +66,11 @@ fn sum_of_parts(parts: Vec<Mutex<Map>>) -> u64 {
 }
 
 /// Upserts all pairs in an empty map in parts.
-pub fn run<R: Wait + Clock>(rt: &R, alloc: Global, pairs: &[(u64, u64)]) -> io::Result<Outcome> {
+pub(crate) fn run<R: Wait + Clock>(
+    rt: &R,
+    alloc: Global,
+    pairs: &[(u64, u64)],
+) -> io::Result<Outcome> {
     let hasher = fold_hasher(alloc)?;
     let parts = locked_parts(alloc, &hasher)?;
     let spent = time_calls(rt, &hasher, parts.as_slice(), pairs)?;

@@ -70,7 +70,11 @@ fn print_checks(rt: &impl Print, run: &Run) -> io::Result<()> {
 
 /// Goes through all measures once to warm up and then as often as asked, and prints a line for each measure of each
 /// time. Fails where the sums of one time differ.
-pub fn measure<R: Wait + Clock + Print>(rt: &R, alloc: Global, request: Request) -> io::Result<()>
+pub(crate) fn measure<R: Wait + Clock + Print>(
+    rt: &R,
+    alloc: Global,
+    request: Request,
+) -> io::Result<()>
     requires { 0 < request.keys }
 {
     let pairs = drawn_pairs(alloc, request.calls, request.keys)?;

@@ -84,7 +84,7 @@ fn locked_names(alloc: Global, hasher: Fold) -> io::Result<Mutex<Names>> {
 }
 
 /// Upserts the texts of all pairs in an empty map behind one lock.
-pub fn run_plain<R: Wait + Clock>(
+pub(crate) fn run_plain<R: Wait + Clock>(
     rt: &R,
     alloc: Global,
     pairs: &[(u64, u64)],
@@ -194,7 +194,7 @@ fn run_in<L: Ledger, M: Site<Fold>, R: Wait + Clock>(
 }
 
 /// Upserts the texts of all pairs by one pass in an empty recorded map, and finishes it.
-pub fn run_recorded<R: Wait + Clock>(
+pub(crate) fn run_recorded<R: Wait + Clock>(
     rt: &R,
     alloc: Global,
     pairs: &[(u64, u64)],

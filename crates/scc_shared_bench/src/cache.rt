@@ -102,7 +102,7 @@ fn run_once<R: Threads + Wait + Clock + Sync>(
 }
 
 /// Runs the steps once to count the keys that were there, and then `runs` times.
-pub fn measure<R: Threads + Wait + Clock + Print + Sync>(
+pub(crate) fn measure<R: Threads + Wait + Clock + Print + Sync>(
     rt: &R,
     alloc: Global,
     threads: u64,

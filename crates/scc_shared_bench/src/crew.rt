@@ -16,12 +16,12 @@ pub struct Outcome {
 }
 
 /// The error of a container that was refused memory.
-pub fn out_of_memory() -> io::Error {
+pub(crate) fn out_of_memory() -> io::Error {
     io::Error::from(io::ErrorKind::OutOfMemory)
 }
 
 /// The sum of the answers; an error where one of them is missing.
-pub fn sum_of(answers: &[Option<u64>]) -> io::Result<u64> {
+pub(crate) fn sum_of(answers: &[Option<u64>]) -> io::Result<u64> {
     let mut total = 0u64;
     for answer in answers {
         match answer {
@@ -34,7 +34,7 @@ pub fn sum_of(answers: &[Option<u64>]) -> io::Result<u64> {
 
 /// Has each of so many threads do its part, and measures from before the first start to after the last end. A part that
 /// is refused memory answers None.
-pub fn run<R: Threads + Clock + Sync, F: Fn(usize) -> Option<u64> + Sync>(
+pub(crate) fn run<R: Threads + Clock + Sync, F: Fn(usize) -> Option<u64> + Sync>(
     rt: &R,
     alloc: Global,
     threads: usize,
@@ -50,7 +50,7 @@ pub fn run<R: Threads + Clock + Sync, F: Fn(usize) -> Option<u64> + Sync>(
 }
 
 /// The name of a workload with its number of threads, as `shared_insert_t4`.
-pub fn print_line(
+pub(crate) fn print_line(
     rt: &impl Print,
     work: &str,
     peer: &str,
@@ -64,7 +64,7 @@ pub fn print_line(
 }
 
 /// The sum of a workload, which all peers have to agree in.
-pub fn print_check(
+pub(crate) fn print_check(
     rt: &impl Print,
     work: &str,
     peer: &str,

@@ -76,7 +76,7 @@ fn measure_one<R: Threads + Wait + Clock + Print + Sync>(
 }
 
 /// One thread and four.
-pub fn measure<R: Threads + Wait + Clock + Print + Sync>(
+pub(crate) fn measure<R: Threads + Wait + Clock + Print + Sync>(
     rt: &R,
     alloc: Global,
     request: Request,

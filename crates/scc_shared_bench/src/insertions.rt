@@ -59,7 +59,7 @@ fn run_once<R: Threads + Wait + Clock + Sync>(
 }
 
 /// Fills an empty map once to warm up and then `runs` times.
-pub fn measure<R: Threads + Wait + Clock + Print + Sync>(
+pub(crate) fn measure<R: Threads + Wait + Clock + Print + Sync>(
     rt: &R,
     alloc: Global,
     threads: u64,
@@ -146,7 +146,7 @@ fn print_quantiles(rt: &impl Print, sorted: &[u64]) -> io::Result<()> {
 }
 
 /// What half, 99 %, 99.9 % and all of the single insertions take at most, on four threads.
-pub fn measure_tail<R: Threads + Wait + Clock + Print + Sync>(
+pub(crate) fn measure_tail<R: Threads + Wait + Clock + Print + Sync>(
     rt: &R,
     alloc: Global,
     request: Request,

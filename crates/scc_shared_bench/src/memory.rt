@@ -39,7 +39,7 @@ fn fill<R: Files + Alloc + Wait>(rt: &R, map: &Map, streams: &Streams) -> io::Re
 }
 
 /// Fills a map, and prints the bytes a pair that it holds then and that it held at most.
-pub fn measure<R: Files + Print + Alloc + Wait>(
+pub(crate) fn measure<R: Files + Print + Alloc + Wait>(
     rt: &R,
     alloc: Global,
     request: Request,

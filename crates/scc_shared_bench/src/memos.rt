@@ -132,7 +132,7 @@ fn run_locked<R: Threads + Wait + Clock + Sync>(
 }
 
 /// Measures both, `runs` times.
-pub fn measure<R: Threads + Wait + Clock + Print + Sync>(
+pub(crate) fn measure<R: Threads + Wait + Clock + Print + Sync>(
     rt: &R,
     alloc: Global,
     threads: u64,

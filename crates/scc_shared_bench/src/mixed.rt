@@ -83,7 +83,7 @@ fn measure_one<R: Threads + Wait + Clock + Print + Sync>(
 
 /// Keys of which each thread has its own, and then keys of which most steps have the same few: the answers of several
 /// threads then depend on the schedule, so only those of one are checked.
-pub fn measure<R: Threads + Wait + Clock + Print + Sync>(
+pub(crate) fn measure<R: Threads + Wait + Clock + Print + Sync>(
     rt: &R,
     alloc: Global,
     threads: u64,

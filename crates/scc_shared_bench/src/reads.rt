@@ -17,7 +17,7 @@ pub type Map = HashMap<u64, u64>;
 pub const PEER: &str = "scc-shared";
 
 /// A map of all inserted keys.
-pub fn filled(rt: &impl Wait, alloc: Global, streams: &Streams) -> io::Result<Map> {
+pub(crate) fn filled(rt: &impl Wait, alloc: Global, streams: &Streams) -> io::Result<Map> {
     let Ok(map) = HashMap::new(alloc) else {
         return Err(out_of_memory());
     };
@@ -31,7 +31,7 @@ pub fn filled(rt: &impl Wait, alloc: Global, streams: &Streams) -> io::Result<Ma
 }
 
 /// The sum of all values.
-pub fn sum_of_values(rt: &impl Wait, map: &Map) -> u64 {
+pub(crate) fn sum_of_values(rt: &impl Wait, map: &Map) -> u64 {
     let mut total = 0u64;
     map.iter_sync(rt, |_, value| {
         total = total.wrapping_add(*value);
@@ -42,7 +42,7 @@ pub fn sum_of_values(rt: &impl Wait, map: &Map) -> u64 {
 
 /// The value of a key, 0 where it isn't there.
 #[inline(always)]
-pub fn read(rt: &impl Wait, map: &Map, key: u64) -> u64 {
+pub(crate) fn read(rt: &impl Wait, map: &Map, key: u64) -> u64 {
     map.read_sync(rt, &key, |_, value| *value).unwrap_or(0)
 }
 
@@ -100,7 +100,7 @@ fn measure_one<R: Threads + Wait + Clock + Print + Sync>(
 }
 
 /// Nineteen reads to a write, and then as many writes as reads.
-pub fn measure<R: Threads + Wait + Clock + Print + Sync>(
+pub(crate) fn measure<R: Threads + Wait + Clock + Print + Sync>(
     rt: &R,
     alloc: Global,
     threads: u64,

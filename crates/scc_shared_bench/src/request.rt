@@ -24,7 +24,7 @@ pub struct Request {
 const USUAL_ENTRIES: u64 = 1 << 20;
 
 /// The error of an argument that names nothing.
-pub fn bad_argument() -> io::Error {
+pub(crate) fn bad_argument() -> io::Error {
     io::Error::from(io::ErrorKind::InvalidInput)
 }
 
@@ -48,7 +48,7 @@ fn parse_number(words: &[String], place: usize, usual: u64) -> io::Result<u64> {
 }
 
 /// Reads the words `NAME GROUP RUNS ENTRIES SEED`, of which the last two may be left out.
-pub fn parse_request(words: &[String]) -> io::Result<Request> {
+pub(crate) fn parse_request(words: &[String]) -> io::Result<Request> {
     let [peer, group, ..] = words else {
         return Err(bad_argument());
     };

@@ -90,7 +90,7 @@ fn told_by_all<'a, R: Wait + Threads + Sync>(
 }
 
 /// Whether a round of a cache adds up, and each value was dropped once.
-pub fn adds_up<R: Wait + Threads + Sync>(
+pub(crate) fn adds_up<R: Wait + Threads + Sync>(
     rt: &R,
     alloc: Global,
     request: Request,

@@ -11,7 +11,7 @@ pub struct Counts {
 
 impl Counts {
     /// None of either.
-    pub fn new() -> Counts {
+    pub(crate) fn new() -> Counts {
         Counts {
             made: AtomicU64::new(0),
             dropped: AtomicU64::new(0),
@@ -19,12 +19,12 @@ impl Counts {
     }
 
     /// Whether as many were dropped as were made.
-    pub fn are_equal(&self) -> bool {
+    pub(crate) fn are_equal(&self) -> bool {
         self.made.load(Ordering::SeqCst) == self.dropped.load(Ordering::SeqCst)
     }
 
     /// One more value.
-    pub fn make(&self) -> Counted<'_> {
+    pub(crate) fn make(&self) -> Counted<'_> {
         self.made.fetch_add(1, Ordering::SeqCst);
         Counted { counts: self }
     }

@@ -33,7 +33,7 @@ fn parse_number(words: &[String], place: usize, usual: u64) -> io::Result<u64>
 }
 
 /// Reads the words `SECONDS THREADS CALLS`, of which the last ones may be left out.
-pub fn parse_request(words: &[String]) -> io::Result<Request>
+pub(crate) fn parse_request(words: &[String]) -> io::Result<Request>
     ensures { words.now ≡ [] → result ≡ Ok (record { seconds = 60; threads = 4; calls = 100000 }) }
 {
     let seconds = parse_number(words, 0, USUAL_SECONDS)?;

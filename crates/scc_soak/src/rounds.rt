@@ -21,7 +21,7 @@ pub trait Called<'a> {
 }
 
 /// What one thread was told in so many calls.
-pub fn work<'a, C: Called<'a>, R: Wait>(
+pub(crate) fn work<'a, C: Called<'a>, R: Wait>(
     rt: &R,
     container: &C,
     counts: &'a Counts,
@@ -38,7 +38,11 @@ pub fn work<'a, C: Called<'a>, R: Wait>(
 }
 
 /// Whether what the threads were told adds up with what the container has.
-pub fn is_settled<'a, C: Called<'a>, R: Wait>(rt: &R, container: &C, told: &[Tally]) -> bool {
+pub(crate) fn is_settled<'a, C: Called<'a>, R: Wait>(
+    rt: &R,
+    container: &C,
+    told: &[Tally],
+) -> bool {
     let mut left = Tally::new();
     for tally in told {
         left.join(tally);
@@ -70,7 +74,7 @@ fn rounds<R: Wait + Threads + Sync + Print>(
 
 /// Goes on with rounds until the time is over, and prints how many there were. Fails at the first whose counts don't
 /// add up.
-pub fn soak<R: Wait + Threads + Sync + Print + Clock>(
+pub(crate) fn soak<R: Wait + Threads + Sync + Print + Clock>(
     rt: &R,
     alloc: Global,
     request: Request,

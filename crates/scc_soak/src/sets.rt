@@ -51,7 +51,7 @@ impl<'a> Called<'a> for Set {
 }
 
 /// Whether a round of a set adds up.
-pub fn adds_up<R: Wait + Threads + Sync>(
+pub(crate) fn adds_up<R: Wait + Threads + Sync>(
     rt: &R,
     alloc: Global,
     request: Request,

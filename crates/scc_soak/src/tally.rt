@@ -14,7 +14,7 @@ const KEYS: u64 = 1000;
 
 impl Tally {
     /// Nothing went in or out.
-    pub fn new() -> Tally {
+    pub(crate) fn new() -> Tally {
         Tally {
             number: 0,
             keys: 0,
@@ -23,31 +23,31 @@ impl Tally {
     }
 
     /// A key went in.
-    pub fn add(&mut self, key: u64) {
+    pub(crate) fn add(&mut self, key: u64) {
         self.number = self.number.wrapping_add(1);
         self.keys = self.keys.wrapping_add(key);
     }
 
     /// A key came out.
-    pub fn subtract(&mut self, key: u64) {
+    pub(crate) fn subtract(&mut self, key: u64) {
         self.number = self.number.wrapping_sub(1);
         self.keys = self.keys.wrapping_sub(key);
     }
 
     /// A call was refused for want of memory.
-    pub fn refuse(&mut self) {
+    pub(crate) fn refuse(&mut self) {
         self.refused = true;
     }
 
     /// What another thread was told comes to this.
-    pub fn join(&mut self, other: &Tally) {
+    pub(crate) fn join(&mut self, other: &Tally) {
         self.number = self.number.wrapping_add(other.number);
         self.keys = self.keys.wrapping_add(other.keys);
         self.refused = self.refused || other.refused;
     }
 
     /// Whether nothing is left over, and nothing was refused.
-    pub fn is_even(&self) -> bool {
+    pub(crate) fn is_even(&self) -> bool {
         self.number == 0 && self.keys == 0 && !self.refused
     }
 }
@@ -71,7 +71,7 @@ fn next(seed: &mut u64) -> u64
 }
 
 /// The next call.
-pub fn draw_call(seed: &mut u64) -> Draw {
+pub(crate) fn draw_call(seed: &mut u64) -> Draw {
     let kind = next(seed) % 8;
     Draw {
         kind,

@@ -29,19 +29,19 @@ fn next_size(size: usize) -> usize {
 
 impl Hunger {
     /// Holds nothing yet.
-    pub fn new(alloc: Global, is_on: bool) -> Result<Hunger, AllocError> {
+    pub(crate) fn new(alloc: Global, is_on: bool) -> Result<Hunger, AllocError> {
         let room = if is_on { BLOCKS } else { 0 };
         let held = Vec::with_capacity(alloc, room)?;
         Ok(Hunger { alloc, held, is_on })
     }
 
     /// Whether memory is taken at all.
-    pub fn is_on(&self) -> bool {
+    pub(crate) fn is_on(&self) -> bool {
         self.is_on
     }
 
     /// Takes blocks of every size, the greatest first, each size until it is refused.
-    pub fn begin(&mut self) {
+    pub(crate) fn begin(&mut self) {
         if !self.is_on {
             return;
         }
@@ -62,7 +62,7 @@ impl Hunger {
     }
 
     /// Lets all go.
-    pub fn end(&mut self) {
+    pub(crate) fn end(&mut self) {
         self.held.clear();
     }
 }

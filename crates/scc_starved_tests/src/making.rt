@@ -22,7 +22,7 @@ fn makes<T: Drop, F: Fn() -> Result<T, MakeError>>(hunger: &mut Hunger, make: F)
 }
 
 /// Whether containers for one owner are made whole or not at all.
-pub fn makes_owned(alloc: Global, is_hungry: bool) -> Result<bool, AllocError> {
+pub(crate) fn makes_owned(alloc: Global, is_hungry: bool) -> Result<bool, AllocError> {
     let mut hunger = Hunger::new(alloc, is_hungry)?;
     let map = makes(&mut hunger, || {
         hash_map::Owned::<u64, u64, Zero>::with_capacity_and_hasher(alloc, 64, Zero)
@@ -40,7 +40,7 @@ pub fn makes_owned(alloc: Global, is_hungry: bool) -> Result<bool, AllocError> {
 }
 
 /// The same of containers of items.
-pub fn makes_of_items(alloc: Global, is_hungry: bool) -> Result<bool, AllocError> {
+pub(crate) fn makes_of_items(alloc: Global, is_hungry: bool) -> Result<bool, AllocError> {
     let mut hunger = Hunger::new(alloc, is_hungry)?;
     let map = makes(&mut hunger, || {
         hash_map::Owned::<u64, u64, Zero>::try_from_iter(alloc, ITEMS)
@@ -58,7 +58,7 @@ pub fn makes_of_items(alloc: Global, is_hungry: bool) -> Result<bool, AllocError
 }
 
 /// The same of containers that threads share.
-pub fn makes_shared(alloc: Global, is_hungry: bool) -> Result<bool, AllocError> {
+pub(crate) fn makes_shared(alloc: Global, is_hungry: bool) -> Result<bool, AllocError> {
     let mut hunger = Hunger::new(alloc, is_hungry)?;
     let map = makes(&mut hunger, || {
         HashMap::<u64, u64, Zero>::with_hasher(alloc, Zero)
@@ -77,7 +77,7 @@ pub fn makes_shared(alloc: Global, is_hungry: bool) -> Result<bool, AllocError> 
 }
 
 /// Whether a map is cloned whole or not at all, and stays.
-pub fn clones_map(alloc: Global, is_hungry: bool) -> Result<bool, AllocError> {
+pub(crate) fn clones_map(alloc: Global, is_hungry: bool) -> Result<bool, AllocError> {
     let mut hunger = Hunger::new(alloc, is_hungry)?;
     let Ok(map) = hash_map::Owned::<u64, u64, Zero>::try_from_iter(alloc, ITEMS) else {
         return Err(AllocError);
@@ -87,7 +87,7 @@ pub fn clones_map(alloc: Global, is_hungry: bool) -> Result<bool, AllocError> {
 }
 
 /// The same of a set.
-pub fn clones_set(alloc: Global, is_hungry: bool) -> Result<bool, AllocError> {
+pub(crate) fn clones_set(alloc: Global, is_hungry: bool) -> Result<bool, AllocError> {
     let mut hunger = Hunger::new(alloc, is_hungry)?;
     let Ok(set) = hash_set::Owned::<(u64, u64), Zero>::try_from_iter(alloc, ITEMS) else {
         return Err(AllocError);
@@ -97,7 +97,7 @@ pub fn clones_set(alloc: Global, is_hungry: bool) -> Result<bool, AllocError> {
 }
 
 /// The same of an index, of snapshots of it and of clones of these.
-pub fn clones_index(alloc: Global, is_hungry: bool) -> Result<bool, AllocError> {
+pub(crate) fn clones_index(alloc: Global, is_hungry: bool) -> Result<bool, AllocError> {
     let mut hunger = Hunger::new(alloc, is_hungry)?;
     let Ok(index) = hash_index::Owned::<u64, u64, Zero>::try_from_iter(alloc, ITEMS) else {
         return Err(AllocError);
@@ -108,7 +108,7 @@ pub fn clones_index(alloc: Global, is_hungry: bool) -> Result<bool, AllocError> 
 }
 
 /// The same of a map that threads share.
-pub fn clones_shared_map<R: Wait + AllocGlobal>(
+pub(crate) fn clones_shared_map<R: Wait + AllocGlobal>(
     rt: &R,
     is_hungry: bool,
 ) -> Result<bool, AllocError> {
@@ -121,7 +121,7 @@ pub fn clones_shared_map<R: Wait + AllocGlobal>(
 }
 
 /// The same of an index that threads share, and of snapshots of it.
-pub fn clones_shared_index<R: Wait + AllocGlobal>(
+pub(crate) fn clones_shared_index<R: Wait + AllocGlobal>(
     rt: &R,
     is_hungry: bool,
 ) -> Result<bool, AllocError> {

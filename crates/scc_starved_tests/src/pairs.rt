@@ -54,7 +54,7 @@ fn is_back(answer: Result<(), InsertError<u64, u64>>) -> bool {
 }
 
 /// Whether the pair that finds no memory comes back and is inserted by the next call, by that one of four calls.
-pub fn comes_back(alloc: Global, is_hungry: bool, way: u8) -> Result<bool, AllocError> {
+pub(crate) fn comes_back(alloc: Global, is_hungry: bool, way: u8) -> Result<bool, AllocError> {
     let mut hunger = Hunger::new(alloc, is_hungry)?;
     let mut map = full(alloc)?;
     hunger.begin();

@@ -187,7 +187,10 @@ fn make_calls<L: Ledger, M: Site<Shared<Zero>>, R: AllocGlobal + Wait>(
 }
 
 /// Whether recorded calls and the finish are refused without memory, and made with memory.
-pub fn finishes_calls<R: AllocGlobal + Wait>(rt: &R, is_hungry: bool) -> Result<bool, AllocError> {
+pub(crate) fn finishes_calls<R: AllocGlobal + Wait>(
+    rt: &R,
+    is_hungry: bool,
+) -> Result<bool, AllocError> {
     let mut hunger = Hunger::new(rt.alloc(), is_hungry)?;
     let hasher = shared(rt.alloc())?;
     Ok(make_calls::<Brand, Brand, R>(rt, &mut hunger, hasher, Blank::new(1), Blank::new(1)))
@@ -212,7 +215,7 @@ fn is_opened<L: Ledger, M: Site<Shared<Zero>>, R: AllocGlobal>(
 }
 
 /// Whether no recorded map is opened without memory.
-pub fn opens<R: AllocGlobal>(rt: &R, is_hungry: bool) -> Result<bool, AllocError> {
+pub(crate) fn opens<R: AllocGlobal>(rt: &R, is_hungry: bool) -> Result<bool, AllocError> {
     let mut hunger = Hunger::new(rt.alloc(), is_hungry)?;
     let hasher = shared(rt.alloc())?;
     let opened = is_opened::<Brand, Brand, R>(
@@ -226,7 +229,7 @@ pub fn opens<R: AllocGlobal>(rt: &R, is_hungry: bool) -> Result<bool, AllocError
 }
 
 /// Whether a run of calls touches nothing without memory, and makes them all with memory.
-pub fn runs(alloc: Global, is_hungry: bool) -> Result<bool, AllocError> {
+pub(crate) fn runs(alloc: Global, is_hungry: bool) -> Result<bool, AllocError> {
     let mut hunger = Hunger::new(alloc, is_hungry)?;
     let mut map: Owned<u64, u64, Zero> = Owned::with_hasher(alloc, Zero);
     let calls = [MapCall::Insert(1, 10), MapCall::Len];

@@ -31,7 +31,7 @@ fn update(index: &mut Index, hunger: &mut Hunger) -> Option<bool> {
 }
 
 /// Whether an update is refused without memory, and made with memory.
-pub fn updates(alloc: Global, is_hungry: bool) -> Result<bool, AllocError> {
+pub(crate) fn updates(alloc: Global, is_hungry: bool) -> Result<bool, AllocError> {
     let mut hunger = Hunger::new(alloc, is_hungry)?;
     let mut index = of_one(alloc)?;
     let refused = update(&mut index, &mut hunger);
@@ -66,7 +66,7 @@ fn modify(index: &mut Index, hunger: &mut Hunger) -> Option<bool> {
 }
 
 /// Whether a modification is refused without memory, and made with memory.
-pub fn modifies(alloc: Global, is_hungry: bool) -> Result<bool, AllocError> {
+pub(crate) fn modifies(alloc: Global, is_hungry: bool) -> Result<bool, AllocError> {
     let mut hunger = Hunger::new(alloc, is_hungry)?;
     let mut index = of_one(alloc)?;
     let refused = modify(&mut index, &mut hunger);
@@ -100,7 +100,7 @@ fn take(
 
 /// Whether a walk whose list has room for one pair ends before the second where there is no memory, and takes the rest
 /// with memory.
-pub fn takes(alloc: Global, is_hungry: bool) -> Result<bool, AllocError> {
+pub(crate) fn takes(alloc: Global, is_hungry: bool) -> Result<bool, AllocError> {
     let mut hunger = Hunger::new(alloc, is_hungry)?;
     let Ok(mut map) = hash_map::Owned::<u64, u64, Zero>::try_from_iter(
         alloc,

@@ -1,4 +1,4 @@
--- The table's lemmas on entries at places, for places of two arrays.
+-- Entries at places of two arrays: what holds at the spot of such a place.
 use Rattle.std.proofs.Common.{◌≡◌, ◌++◌, ℕ, suc, List, [], Bool, true, Some, length, sym, ap, subst, ◌∙◌}
 use Rattle.std.specs.Cmp.{IsEquivalence}
 use Rattle.std.specs.List.{IsDistinct, remove, slice_get}

@@ -1,4 +1,4 @@
--- Tables of two arrays whose lists hold at most 32 entries each. Where an entry of one stands in its list: the table's word, at the spot of the place.
+-- Tables of two arrays whose lists hold at most 32 entries each. Where an entry of one stands in its list: the word for the buckets of one array, at the spot of the place.
 use Rattle.std.specs.Prelude.{◌≡◌, ℕ, ◌*◌, ◌<◌, ◌≤◌, ◌⊎◌, Bool, false, true, length}
 use Rattle.scc_buckets.specs.Bounded as bounded
 use Rattle.scc_buckets.specs.Bounded.{IsResized, KeepsLists}

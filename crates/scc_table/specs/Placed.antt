@@ -1,4 +1,4 @@
--- The entry at a place of two arrays, those before and after it, and what a change there leaves: the table's words, at the spot of the place.
+-- The entry at a place of two arrays, those before and after it, and what a change there leaves: the words for the buckets of one array, at the spot of the place.
 use Rattle.std.specs.Prelude.{◌≡◌, List}
 use Rattle.std.proofs.Common.{sym, ap, subst, length-set}
 use Rattle.scc_contents.specs.Contents.{Contents, bucket_count, waiting_of, held_of}

@@ -45,11 +45,7 @@ where
         ensures value { (e : E) × (slice_get (entries self.old) (index_of self.old place) ≡ Some e)
             × (result.now ≡ E.value_of e) }
     {
-        let count = self.current.bucket_count();
-        if self.pending == 0 || place.bucket < count {
-            return self.current.value_mut_at(place);
-        }
-        self.draining.value_mut_at(place.bucket - count, place.slot)
+        self.parts_mut_at(place).1
     }
 
     /// The key of the entry at the place, and its value to write.

@@ -66,7 +66,7 @@ where
     let ran = run(&mut alone, calls, &mut replies).is_ok();
     let same_replies = told.as_slice() == replies.as_slice();
     let length = match alone.call(C::len_call()) {
-        Ok(reply) => C::told(&reply),
+        Ok(reply) => C::counted(&reply),
         Err(_refused) => None,
     };
     let same_length = recorded.len(rt, &mut pass).ok() == length;

@@ -17,7 +17,7 @@ pub type Map = Owned<u64, u64, Shared<Same>>;
 
 const HIGH: u64 = 1 << 63;
 
-pub fn shared(alloc: Global) -> Result<Shared<Same>, AllocError> {
+pub(crate) fn shared(alloc: Global) -> Result<Shared<Same>, AllocError> {
     Ok(Shared::new(Arc::new(alloc, Same)?))
 }
 

@@ -42,7 +42,7 @@ fn owned_peek(index: &Owned<u64, u64>, k: u64) -> Reply {
 }
 
 /// An insertion of a key, one of six.
-pub fn shared_insert(rt: &impl Wait, index: &HashIndex<u64, u64>, j: u64, k: u64) -> Reply {
+pub(crate) fn shared_insert(rt: &impl Wait, index: &HashIndex<u64, u64>, j: u64, k: u64) -> Reply {
     match j % 6 {
         0 => match index.insert_sync(rt, k, j) {
             Ok(()) => Reply::Done,
@@ -83,7 +83,7 @@ fn shared_insert_entry(rt: &impl Wait, index: &HashIndex<u64, u64>, j: u64, k: u
 }
 
 /// A change of the version of a key, one of three, or a key that comes back.
-pub fn shared_change(rt: &impl Wait, index: &HashIndex<u64, u64>, j: u64, k: u64) -> Reply {
+pub(crate) fn shared_change(rt: &impl Wait, index: &HashIndex<u64, u64>, j: u64, k: u64) -> Reply {
     match j % 3 {
         0 => match index.get_sync(rt, &k) {
             Some(mut entry) => Reply::Has(entry.update(j).is_ok()),
@@ -101,7 +101,7 @@ pub fn shared_change(rt: &impl Wait, index: &HashIndex<u64, u64>, j: u64, k: u64
 }
 
 /// A look at a key, one of six.
-pub fn shared_look(rt: &impl Wait, index: &HashIndex<u64, u64>, j: u64, k: u64) -> Reply {
+pub(crate) fn shared_look(rt: &impl Wait, index: &HashIndex<u64, u64>, j: u64, k: u64) -> Reply {
     match j % 6 {
         0 => Reply::Number(index.read_sync(rt, &k, |k, v| k.wrapping_add(*v))),
         1 => Reply::Number(index.peek_with(rt, &k, |_, v| *v)),
@@ -113,7 +113,7 @@ pub fn shared_look(rt: &impl Wait, index: &HashIndex<u64, u64>, j: u64, k: u64) 
 }
 
 /// A removal of a key, one of four.
-pub fn shared_remove(rt: &impl Wait, index: &HashIndex<u64, u64>, j: u64, k: u64) -> Reply {
+pub(crate) fn shared_remove(rt: &impl Wait, index: &HashIndex<u64, u64>, j: u64, k: u64) -> Reply {
     match j % 4 {
         0 => Reply::Has(index.remove_sync(rt, &k)),
         1 => Reply::Has(index.remove_if_sync(rt, &k, |v| *v % 2 == 0)),
@@ -136,7 +136,7 @@ pub fn shared_remove(rt: &impl Wait, index: &HashIndex<u64, u64>, j: u64, k: u64
 }
 
 /// A walk, one of five. What it answers goes by no order.
-pub fn shared_walk(rt: &impl Wait, index: &HashIndex<u64, u64>, j: u64) -> Reply {
+pub(crate) fn shared_walk(rt: &impl Wait, index: &HashIndex<u64, u64>, j: u64) -> Reply {
     match j % 5 {
         0 => {
             let mut sum = 0u64;
@@ -197,7 +197,7 @@ fn shared_versions(rt: &impl Wait, index: &HashIndex<u64, u64>) -> Result<(u64, 
 }
 
 /// An insertion of a key, one of six.
-pub fn owned_insert(index: &mut Owned<u64, u64>, j: u64, k: u64) -> Reply {
+pub(crate) fn owned_insert(index: &mut Owned<u64, u64>, j: u64, k: u64) -> Reply {
     match j % 6 {
         0 => match index.insert_sync(k, j) {
             Ok(()) => Reply::Done,
@@ -238,7 +238,7 @@ fn owned_insert_entry(index: &mut Owned<u64, u64>, j: u64, k: u64) -> Reply {
 }
 
 /// A change of the version of a key, one of three, or a key that comes back.
-pub fn owned_change(index: &mut Owned<u64, u64>, j: u64, k: u64) -> Reply {
+pub(crate) fn owned_change(index: &mut Owned<u64, u64>, j: u64, k: u64) -> Reply {
     match j % 3 {
         0 => match index.get_sync(&k) {
             Some(mut entry) => Reply::Has(entry.update(j).is_ok()),
@@ -256,7 +256,7 @@ pub fn owned_change(index: &mut Owned<u64, u64>, j: u64, k: u64) -> Reply {
 }
 
 /// A look at a key, one of six.
-pub fn owned_look(index: &Owned<u64, u64>, j: u64, k: u64) -> Reply {
+pub(crate) fn owned_look(index: &Owned<u64, u64>, j: u64, k: u64) -> Reply {
     match j % 6 {
         0 => Reply::Number(index.read_sync(&k, |k, v| k.wrapping_add(*v))),
         1 => Reply::Number(index.peek_with(&k, |_, v| *v)),
@@ -268,7 +268,7 @@ pub fn owned_look(index: &Owned<u64, u64>, j: u64, k: u64) -> Reply {
 }
 
 /// A removal of a key, one of four.
-pub fn owned_remove(index: &mut Owned<u64, u64>, j: u64, k: u64) -> Reply {
+pub(crate) fn owned_remove(index: &mut Owned<u64, u64>, j: u64, k: u64) -> Reply {
     match j % 4 {
         0 => Reply::Has(index.remove_sync(&k)),
         1 => Reply::Has(index.remove_if_sync(&k, |v| *v % 2 == 0)),
@@ -291,7 +291,7 @@ pub fn owned_remove(index: &mut Owned<u64, u64>, j: u64, k: u64) -> Reply {
 }
 
 /// A walk, one of five. What it answers goes by no order.
-pub fn owned_walk(index: &mut Owned<u64, u64>, j: u64) -> Reply {
+pub(crate) fn owned_walk(index: &mut Owned<u64, u64>, j: u64) -> Reply {
     match j % 5 {
         0 => {
             let mut sum = 0u64;

@@ -12,8 +12,8 @@ count-count-requires g c =
     let view = c.self.view_is in
     window-within ws os bs view b c.requires.bucket
 
-pub push-requires-clause-bucket : goal.push-requires-clause-bucket
-push-requires-clause-bucket g c =
+pub push_at-requires-clause-bucket : goal.push_at-requires-clause-bucket
+push_at-requires-clause-bucket g c =
     let ws = c.self.inside.columns in let os = c.self.inside.overflow.items in let bs = c.args.self.now in let b = c.args.bucket in
     let view = c.self.view_is in
     window-within ws os bs view b c.requires.bucket
@@ -27,7 +27,7 @@ returns-then-count-lt32-clause-ok g c =
     let t : nat_lt (length (shelf_of bs b).slots) 32 ≡ true = let l : length (shelf_of bs b).slots < 32 = omega (arith, c.if-count-lt32.true) in search rules in
     let seen = seen-window ws os bs view b c.requires.bucket (λ s. with_slot s c.args.entry c.args.tag) (pushed (window_of ws b) c.args.entry c.args.tag) refl in
     let room = own-room _ bs b (with_slot (shelf_of bs b) c.args.entry c.args.tag) c.requires.bucket seen in
-    (rw t k, rw (t, c.push.ensures) room)
+    (rw t k, rw (t, c.push_at.ensures) room)
 
 pub returns-clause-ok : goal.returns-clause-ok
 returns-clause-ok g c =

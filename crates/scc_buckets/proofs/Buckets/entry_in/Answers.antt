@@ -1,7 +1,7 @@
 use Rattle.std.proofs.Common.{rules}
 use Rattle.scc_buckets.proofs.Views.{count-view, list-view}
 use Rattle.scc_array.specs.Shelves.{shelf_of}
-use Rattle.scc_buckets.proofs.Arrays.{shelf-at, put-is, put-own}
+use Rattle.scc_buckets.proofs.Arrays.{shelf-at}
 use Rattle.scc_buckets.proofs.Buckets.entry_in.Goals as goal
 
 pub entry_at-requires-clause-bucket : goal.entry_at-requires-clause-bucket

@@ -3,7 +3,7 @@ use Rattle.scc_contents.specs.Hashing.{hash_of}
 use Rattle.scc_buckets.proofs.Inserts.{bucket-bound}
 use Rattle.scc_buckets.proofs.Views.{count-view, list-view}
 use Rattle.scc_array.specs.Shelves.{shelf_of}
-use Rattle.scc_buckets.proofs.Arrays.{shelf-at, put-is, put-own}
+use Rattle.scc_buckets.proofs.Arrays.{shelf-at}
 use Rattle.scc_buckets.proofs.Buckets.list_len.Goals as goal
 
 pub bucket_len-requires-clause-bucket : goal.bucket_len-requires-clause-bucket

@@ -1,4 +1,4 @@
-use Rattle.std.proofs.Common.{◌∙◌, length, refl, sym, ap, rules, arith}
+use Rattle.std.proofs.Common.{◌∙◌, length, refl, sym, ap, arith}
 use Rattle.scc_contents.specs.Contents.{settings_of}
 use Rattle.scc_buckets.specs.Tables.{AllEmpty}
 use Rattle.scc_buckets.proofs.Bounds.{resized-fresh}

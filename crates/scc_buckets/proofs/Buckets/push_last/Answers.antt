@@ -1,5 +1,5 @@
 use Rattle.std.proofs.Common.{◌≡◌, ℕ, ◌<◌, ◌+◌, ◌∙◌, sym, ap, rules, arith, length, refl, set}
-use Rattle.scc_array.specs.Shelf.{with_slot, shelf_entries}
+use Rattle.scc_array.specs.Shelf.{with_slot}
 use Rattle.scc_contents.specs.Contents.{entries}
 use Rattle.scc_contents.specs.Hashing.{hash_of}
 use Rattle.scc_contents.specs.Routing.{bucket_number, tag_of}

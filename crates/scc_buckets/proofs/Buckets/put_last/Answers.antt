@@ -1,4 +1,4 @@
-use Rattle.std.proofs.Common.{◌≡◌, ◌∙◌, Bool, ◌≤◌, ◌++◌, [], ◌∷◌, rules, arith, ap, length, subst}
+use Rattle.std.proofs.Common.{◌∙◌, Bool, ◌≤◌, ◌++◌, [], ◌∷◌, rules, ap, length, subst}
 use Rattle.std.specs.List.{remove, position}
 use Rattle.scc_buckets.specs.Bounded.{HasList}
 use Rattle.scc_contents.specs.Contents.{entries, list_of}

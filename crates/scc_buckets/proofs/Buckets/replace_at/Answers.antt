@@ -1,11 +1,11 @@
-use Rattle.std.proofs.Common.{◌<◌, length, ap, ◌∙◌, rules}
+use Rattle.std.proofs.Common.{◌<◌, length, ap, rules}
 use Rattle.scc_array.specs.ShelfWrites.{put_whole}
 use Rattle.scc_contents.specs.Hashing.{hash_of}
 use Rattle.scc_buckets.proofs.Spots.{place-get}
 use Rattle.scc_buckets.proofs.Views.{count-view, list-view}
 use Rattle.scc_buckets.proofs.WritingTables.{written-table, written-view, written-unique}
 use Rattle.scc_array.specs.Shelves.{shelf_of}
-use Rattle.scc_buckets.proofs.Arrays.{shelf-at, put-is, put-own}
+use Rattle.scc_buckets.proofs.Arrays.{shelf-at}
 use Rattle.scc_buckets.proofs.Buckets.replace_at.Goals as goal
 
 pub replace_at-requires-clause-bucket : goal.replace_at-requires-clause-bucket

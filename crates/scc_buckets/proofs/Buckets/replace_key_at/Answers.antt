@@ -4,7 +4,7 @@ use Rattle.scc_buckets.proofs.Spots.{place-get}
 use Rattle.scc_buckets.proofs.Views.{count-view, list-view}
 use Rattle.scc_buckets.proofs.WritingTables.{written-table, written-view, written-unique}
 use Rattle.scc_array.specs.Shelves.{shelf_of}
-use Rattle.scc_buckets.proofs.Arrays.{shelf-at, put-is, put-own}
+use Rattle.scc_buckets.proofs.Arrays.{shelf-at}
 use Rattle.scc_buckets.proofs.Buckets.replace_key_at.Goals as goal
 
 pub replace_key_at-requires-clause-bucket : goal.replace_key_at-requires-clause-bucket

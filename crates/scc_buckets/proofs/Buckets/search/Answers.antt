@@ -3,7 +3,7 @@ use Rattle.scc_contents.specs.Hashing.{hash_of}
 use Rattle.scc_buckets.proofs.FindingLemmas.{has_tag, found_at, missed_at, no-entries}
 use Rattle.scc_buckets.proofs.Views.{entries-view, settings-view}
 use Rattle.scc_array.specs.Shelves.{shelf_of}
-use Rattle.scc_buckets.proofs.Arrays.{shelf-at, put-is, put-own}
+use Rattle.scc_buckets.proofs.Arrays.{shelf-at}
 use Rattle.scc_buckets.proofs.Buckets.search.Goals as goal
 
 pub returns-then-count-eq0-clause-place : goal.returns-then-count-eq0-clause-place

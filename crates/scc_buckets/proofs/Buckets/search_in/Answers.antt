@@ -1,9 +1,9 @@
-use Rattle.std.proofs.Common.{◌≡◌, ◌<◌, ◌∙◌, sym, ap, rules, length}
+use Rattle.std.proofs.Common.{◌<◌, ◌∙◌, sym, ap, rules, length}
 use Rattle.scc_contents.specs.Hashing.{hash_of}
 use Rattle.scc_buckets.proofs.FindingLemmas.{has_tag, missed_at}
 use Rattle.scc_buckets.proofs.Views.{count-view, list-view, settings-view}
 use Rattle.scc_array.specs.Shelves.{shelf_of}
-use Rattle.scc_buckets.proofs.Arrays.{shelf-at, put-is, put-own}
+use Rattle.scc_buckets.proofs.Arrays.{shelf-at}
 use Rattle.scc_buckets.proofs.Buckets.search_in.Goals as goal
 
 pub search-requires-clause-bucket : goal.search-requires-clause-bucket

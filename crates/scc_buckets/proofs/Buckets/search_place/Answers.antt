@@ -1,6 +1,4 @@
-use Rattle.std.proofs.Common.{◌≡◌, ◌<◌, List, [], ◌∷◌, length, get_or, sym, ap, ◌∙◌, refl, arith, rules}
-use Rattle.std.specs.List.{flat_map, position}
-use Rattle.scc_buckets.specs.Bounded.{IsUnlisted}
+use Rattle.std.proofs.Common.{rules}
 use Rattle.scc_buckets.proofs.Bounds.{unlisted-none}
 use Rattle.scc_buckets.proofs.Buckets.search_place.Goals as goal
 

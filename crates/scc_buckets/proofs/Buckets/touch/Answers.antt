@@ -1,4 +1,4 @@
-use Rattle.std.proofs.Common.{◌≡◌, ◌++◌, [], ◌∷◌, subst, arith}
+use Rattle.std.proofs.Common.{◌++◌, [], ◌∷◌, subst, arith}
 use Rattle.scc_buckets.specs.Bounded.{HasList}
 use Rattle.scc_buckets.proofs.Bounds.{has-list-of, has-list-then}
 use Rattle.scc_buckets.proofs.Latest.{stands-last}

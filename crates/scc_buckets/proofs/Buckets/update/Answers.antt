@@ -1,4 +1,4 @@
-use Rattle.std.proofs.Common.{◌≡◌, ◌∙◌, Bool, List, sym, ap, rules, length, refl}
+use Rattle.std.proofs.Common.{◌≡◌, ◌∙◌, sym, ap, rules, length, refl}
 use Rattle.std.specs.List.{find, position}
 use Rattle.scc_array.specs.Shelves.{shelf_of}
 use Rattle.scc_contents.specs.Hashing.{hash_of}

@@ -1,4 +1,4 @@
-use Rattle.std.proofs.Common.{replicate, ap, ◌∙◌, length, subst, sym}
+use Rattle.std.proofs.Common.{ap, ◌∙◌, length, subst, sym}
 use Rattle.std.proofs.lemmas.List.{length-replicate}
 use Rattle.scc_array.specs.Shelf.{empty_shelf}
 use Rattle.scc_buckets.specs.Tables.{AllEmpty}

@@ -1,8 +1,8 @@
-use Rattle.std.proofs.Common.{◌≡◌, ◌≤◌, ◌∙◌, ◌∷◌, [], suc, refl, sym, ap, drop, add-one, length, rules, true, false}
+use Rattle.std.proofs.Common.{◌≡◌, refl, add-one, rules, false}
 use Rattle.scc_array.specs.Shelves.{shelf_of}
 use Rattle.scc_array.specs.Shelf.{shelf_entries}
-use Rattle.scc_contents.specs.Walks.{ended, stopped, went_on}
-use Rattle.scc_contents.proofs.WalkLemmas.{turn-first, turn-others, drop-past}
+use Rattle.scc_contents.specs.Walks.{stopped, went_on}
+use Rattle.scc_contents.proofs.WalkLemmas.{turn-first, turn-others}
 use Rattle.scc_buckets.proofs.Arrays.{drop-got}
 use Rattle.scc_buckets.proofs.versions.walk_bucket.Goals as goal
 

@@ -1,4 +1,4 @@
-use Rattle.std.proofs.Common.{◌≡◌, ◌≤◌, ◌∙◌, ◌∷◌, [], suc, refl, sym, ap, drop, add-one, length, length-append, rules, true, false}
+use Rattle.std.proofs.Common.{◌≡◌, ◌≤◌, refl, add-one, length, length-append, rules, true, false}
 use Rattle.scc_array.specs.Shelves.{shelf_of}
 use Rattle.scc_array.specs.Shelf.{shelf_entries}
 use Rattle.scc_contents.specs.Walks.{ended, stopped, went_on}

@@ -5,5 +5,5 @@ use Rattle.scc_play.proofs.stripes.told_by_all.Given as goal
 
 abbrev pub invariant-loop-k : goal.invariant-loop-k
 invariant-loop-k g l =
-    (more : List _) → AreTold g.P.Calls.key_of g.P.WholeCalls.told g.P.Printed.count_reply l.stripes l.calls (λ p. p.log.number) (λ p. p.log.receipts.items) (λ v. v.items) l.k (drop l.k l.passes) more
-    → AreTold g.P.Calls.key_of g.P.WholeCalls.told g.P.Printed.count_reply l.stripes l.calls (λ p. p.log.number) (λ p. p.log.receipts.items) (λ v. v.items) 0 l.passes (l.told.items ++ more)
+    (more : List _) → AreTold g.P.Calls.key_of g.P.WholeCalls.counted g.P.Printed.count_reply l.stripes l.calls (λ p. p.log.number) (λ p. p.log.receipts.items) (λ v. v.items) l.k (drop l.k l.passes) more
+    → AreTold g.P.Calls.key_of g.P.WholeCalls.counted g.P.Printed.count_reply l.stripes l.calls (λ p. p.log.number) (λ p. p.log.receipts.items) (λ v. v.items) 0 l.passes (l.told.items ++ more)

@@ -1,4 +1,4 @@
-use Rattle.std.proofs.Common.{◌∙◌, ◌∷◌, suc, sym, ap, drop, add-one, drop-cons, true, false, rules}
+use Rattle.std.proofs.Common.{suc, drop, add-one, true, false, rules}
 use Rattle.std.specs.List.{flat_map}
 use Rattle.scc_array.specs.Shelves.{shelf_of}
 use Rattle.scc_buckets.proofs.Arrays.{drop-shelf}
