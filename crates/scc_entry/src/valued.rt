@@ -16,10 +16,6 @@ pub trait Valued: Keyed {
     // The entry with that key.
     ghost with_key: { Self → Self.Key → Self };
 
-    fn value_mut(&mut self) -> &mut Self::Value
-        ensures* writes_back { sem 𝓛 (Lends Self.row Self.Value.row self.entry result (with_value self.old)) }
-        ensures value { result.now ≡ value_of self.old };
-
     fn parts_mut(&mut self) -> (&Self::Key, &mut Self::Value)
         ensures* writes_back { sem 𝓛 (Lends Self.row Self.Value.row self.entry result.1 (with_value self.old)) }
         ensures key { result.0.now ≡ Self.key_of self.old }
@@ -44,11 +40,6 @@ impl<K, V> Valued for (K, V) {
     ghost with_value = { λ e v. (e.0, v) };
 
     ghost with_key = { λ e k. (k, e.1) };
-
-    #[inline(always)]
-    fn value_mut(&mut self) -> &mut V {
-        &mut self.1
-    }
 
     #[inline(always)]
     fn parts_mut(&mut self) -> (&K, &mut V) {
