@@ -1,5 +1,5 @@
 -- A table one of whose buckets, which was empty, gets the entries that come from the old array.
-use Rattle.std.proofs.Common.{◌≡◌, ◌==◌, ℕ, ◌+◌, ◌^◌, ◌<◌, ◌≤◌, ◌⊎◌, inl, inr, Bool, true, List, [], length, map, set, get_or, refl, sym, ap, ◌∙◌, subst, arith, length-append, Result, Ok, Err, eqb-true, lit<}
+use Rattle.std.proofs.Common.{◌≡◌, ◌==◌, ℕ, ◌+◌, ◌^◌, ◌<◌, ◌≤◌, ◌⊎◌, inl, inr, Bool, true, List, [], length, map, set, get_or, refl, sym, ap, ◌∙◌, subst, arith, length-append, Result, Ok, Err, eqb-true}
 use Rattle.std.specs.Prelude.{OnOk, OnErr}
 use Rattle.std.specs.List.{flat_map, IsDistinct}
 use Rattle.std.proofs.lemmas.List.{map-set, length-map, get_or-map, set-get_or}

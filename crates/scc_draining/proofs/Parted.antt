@@ -1,12 +1,12 @@
 -- One old bucket whose entries are parted by flags that say which belong to a target.
-use Rattle.std.proofs.Common.{◌≡◌, ◌==◌, ℕ, zero, suc, ◌+◌, ◌<◌, ◌≤◌, ◌⊎◌, Bool, true, false, not, cond, Some, None, List, [], ◌∷◌, ◌++◌, length, map, set, get_or, refl, sym, ap, ◌∙◌, inl, inr, arith, length-append, append_assoc}
+use Rattle.std.proofs.Common.{◌≡◌, ◌==◌, ℕ, zero, suc, ◌+◌, ◌<◌, ◌≤◌, Bool, true, false, not, cond, Some, None, List, [], ◌∷◌, ◌++◌, length, map, set, get_or, refl, sym, ap, ◌∙◌, inl, inr, arith, length-append}
 use Rattle.std.specs.List.{slice_get, filter}
 use Rattle.std.proofs.lemmas.List.{append-nil, map-append}
 use Rattle.scc_array.specs.Shelves.{shelf_of}
 use Rattle.scc_array.specs.Sifts.{picked, kept, shelf_kept, shelf_with}
 use Rattle.scc_array.specs.Shelf.{Shelf, shelf_entries}
 use Rattle.scc_buckets.proofs.Arrays.{put-is, put-own}
-use Rattle.scc_buckets.specs.Pour.{bound_for, Extends, IsPacked}
+use Rattle.scc_buckets.specs.Pour.{bound_for, IsPacked}
 use Rattle.scc_contents.specs.Routing.{bucket_number, tag_of}
 use Rattle.scc_buckets.specs.Tables.{IsOwn}
 use Rattle.scc_draining.specs.Moves.{others_for, Pulls}

@@ -18,31 +18,40 @@ use scc_entry::Keyed;
 use std::alloc::AllocError;
 use std::hash::{BuildHasher, Hash};
 
+/// What one relocation moves: the entries of the target, which lie in the old buckets from `first` up to before `last`,
+/// and no others do where `whole`. `skipped` bits of each hash are left out.
+#[derive(Clone, Copy)]
+struct Relocation {
+    target: usize,
+    first: usize,
+    last: usize,
+    whole: bool,
+    skipped: u32,
+}
+
 /// Raises the flag of each place of an old bucket whose entry belongs to the target, and lowers that of each other
 /// entry. `table` has the hasher.
 #[inline(always)]
 fn flags_of<E: Keyed, H: BuildHasher>(
     old: &Array<E>,
     source: usize,
-    target: usize,
+    task: Relocation,
     table: &Buckets<E, H>,
-    skipped: u32,
     count: usize,
     flags: &mut [bool; 32],
 )
 where
     E::Key: Eq + Hash,
-    requires bits { skipped < 64 }
+    requires bits { task.skipped < 64 }
     requires source { source < length old.now }
-    ensures { (j : ℕ) (e : E) → slice_get (shelf_of old.now source).slots j ≡ Some e
-        → slice_get flags.new j ≡ Some
-        (bucket_number skipped count
-        (key_hash H.BuildHasher H.Hasher.Hasher E.Key.hash_input table.now (E.key_of e)) == target) }
+    ensures { (j : ℕ) (e : E) → slice_get (shelf_of old.now source).slots j ≡ Some e → slice_get flags.new j ≡ Some
+        (bucket_number task.skipped count (key_hash H.BuildHasher H.Hasher.Hasher E.Key.hash_input table.now (E.key_of
+        e)) == task.target) }
 {
     let slots = old.slot_count(source);
     for place in 0..slots {
         let hash = table.hash(old.entry_of(source, place, slots).key());
-        flags[place] = bucket_index(hash, skipped, count) == target;
+        flags[place] = bucket_index(hash, task.skipped, count) == task.target;
     }
 }
 
@@ -52,35 +61,35 @@ fn pull_each<E: Keyed, H: BuildHasher>(
     into: &mut Array<E>,
     old: &mut Array<E>,
     source: usize,
-    target: usize,
+    task: Relocation,
     table: &Buckets<E, H>,
-    skipped: u32,
     count: usize,
 )
 where
     E::Key: Eq + Hash,
-    requires bits { skipped < 64 }
+    requires bits { task.skipped < 64 }
     requires source { source < length old.old }
     requires few { length (shelf_of old.old source).overflow < 2 ^ 62 }
-    requires own { IsOwn (λ e. key_hash H.BuildHasher H.Hasher.Hasher E.Key.hash_input table.now (E.key_of e)) skipped
-        (length old.old) source (shelf_of old.old source) }
-    requires target { target < length into.old }
+    requires own { IsOwn (λ e. key_hash H.BuildHasher H.Hasher.Hasher E.Key.hash_input table.now (E.key_of e))
+        task.skipped (length old.old) source (shelf_of old.old source) }
+    requires target { task.target < length into.old }
     requires packed { IsPacked (λ e. key_hash H.BuildHasher H.Hasher.Hasher E.Key.hash_input table.now (E.key_of e))
-        (shelf_of into.old target) }
-    requires room { length (shelf_entries (shelf_of into.old target)) + length
-        (bound_for (λ e. key_hash H.BuildHasher H.Hasher.Hasher E.Key.hash_input table.now (E.key_of e)) skipped count
-        target (shelf_entries (shelf_of old.old source))) ≤ 32 + (shelf_of into.old target).room }
+        (shelf_of into.old task.target) }
+    requires room { length (shelf_entries (shelf_of into.old task.target)) + length (bound_for (λ e. key_hash
+        H.BuildHasher H.Hasher.Hasher E.Key.hash_input table.now (E.key_of e)) task.skipped count task.target
+        (shelf_entries (shelf_of old.old source))) ≤ 32 + (shelf_of into.old task.target).room }
     ensures pulls { Pulls (λ e. key_hash H.BuildHasher H.Hasher.Hasher E.Key.hash_input table.now (E.key_of e))
-        skipped count target source old.old (shelf_of into.old target) old.new (shelf_of into.new target) }
-    ensures others { into.new ≡ slice_set into.old target (shelf_of into.new target) }
+        task.skipped count task.target source old.old (shelf_of into.old task.target) old.new (shelf_of into.new
+        task.target) }
+    ensures others { into.new ≡ slice_set into.old task.target (shelf_of into.new task.target) }
 {
     let held = old.bucket_len(source);
     let mut place = 0;
     for seen in 0..held {
         let hash = table.hash(old.entry_at(source, place).key());
-        if bucket_index(hash, skipped, count) == target {
+        if bucket_index(hash, task.skipped, count) == task.target {
             let entry = old.remove_at(source, place);
-            into.insert_within(target, entry, tag(hash));
+            into.insert_within(task.target, entry, tag(hash));
         } else {
             place += 1;
         }
@@ -94,46 +103,47 @@ fn pull<E: Keyed, H: BuildHasher>(
     into: &mut Array<E>,
     old: &mut Array<E>,
     source: usize,
-    target: usize,
+    task: Relocation,
     table: &Buckets<E, H>,
-    skipped: u32,
     count: usize,
-    whole: bool,
 )
 where
     E::Key: Eq + Hash,
-    requires bits { skipped < 64 }
+    requires bits { task.skipped < 64 }
     requires source { source < length old.old }
     requires few { length (shelf_of old.old source).overflow < 2 ^ 62 }
-    requires own { IsOwn (λ e. key_hash H.BuildHasher H.Hasher.Hasher E.Key.hash_input table.now (E.key_of e)) skipped
-        (length old.old) source (shelf_of old.old source) }
-    requires joined { IsTrue whole → bound_for (λ e. key_hash H.BuildHasher H.Hasher.Hasher E.Key.hash_input table.now
-        (E.key_of e)) skipped count target (shelf_entries (shelf_of old.old source))
-        ≡ shelf_entries (shelf_of old.old source) }
-    requires target { target < length into.old }
+    requires own { IsOwn (λ e. key_hash H.BuildHasher H.Hasher.Hasher E.Key.hash_input table.now (E.key_of e))
+        task.skipped (length old.old) source (shelf_of old.old source) }
+    requires joined { IsTrue task.whole → bound_for (λ e. key_hash H.BuildHasher H.Hasher.Hasher E.Key.hash_input
+        table.now (E.key_of e)) task.skipped count task.target (shelf_entries (shelf_of old.old source)) ≡ shelf_entries
+        (shelf_of old.old source) }
+    requires target { task.target < length into.old }
     requires packed { IsPacked (λ e. key_hash H.BuildHasher H.Hasher.Hasher E.Key.hash_input table.now (E.key_of e))
-        (shelf_of into.old target) }
-    requires room { length (shelf_entries (shelf_of into.old target)) + length
-        (bound_for (λ e. key_hash H.BuildHasher H.Hasher.Hasher E.Key.hash_input table.now (E.key_of e)) skipped count
-        target (shelf_entries (shelf_of old.old source))) ≤ 32 + (shelf_of into.old target).room }
+        (shelf_of into.old task.target) }
+    requires room { length (shelf_entries (shelf_of into.old task.target)) + length (bound_for (λ e. key_hash
+        H.BuildHasher H.Hasher.Hasher E.Key.hash_input table.now (E.key_of e)) task.skipped count task.target
+        (shelf_entries (shelf_of old.old source))) ≤ 32 + (shelf_of into.old task.target).room }
     ensures pulls { Pulls (λ e. key_hash H.BuildHasher H.Hasher.Hasher E.Key.hash_input table.now (E.key_of e))
-        skipped count target source old.old (shelf_of into.old target) old.new (shelf_of into.new target) }
-    ensures others { into.new ≡ slice_set into.old target (shelf_of into.new target) }
+        task.skipped count task.target source old.old (shelf_of into.old task.target) old.new (shelf_of into.new
+        task.target) }
+    ensures others { into.new ≡ slice_set into.old task.target (shelf_of into.new task.target) }
 {
     if old.bucket_len(source) == 0 {
         return;
     }
-    if old.overflow_len(source) == 0 && into.slot_count(target) + old.slot_count(source) <= 32 {
-        if whole {
-            old.pour(source, into, target);
+    if old.overflow_len(source) == 0
+        && into.slot_count(task.target) + old.slot_count(source) <= 32
+    {
+        if task.whole {
+            old.pour(source, into, task.target);
             return;
         }
         let mut flags = [false; 32];
-        flags_of(old, source, target, table, skipped, count, &mut flags);
-        old.split(source, &flags, into, target);
+        flags_of(old, source, task, table, count, &mut flags);
+        old.split(source, &flags, into, task.target);
         return;
     }
-    pull_each(into, old, source, target, table, skipped, count);
+    pull_each(into, old, source, task, table, count);
 }
 
 /// Moves the entries of all old buckets that belong to the target to the end of the bucket of that number, in order,
@@ -142,36 +152,32 @@ where
 fn drain<E: Keyed, H: BuildHasher>(
     into: &mut Array<E>,
     old: &mut Array<E>,
-    first: usize,
-    last: usize,
-    target: usize,
+    task: Relocation,
     table: &Buckets<E, H>,
-    skipped: u32,
     count: usize,
-    whole: bool,
 )
 where
     E::Key: Eq + Hash,
-    requires bits { skipped < 64 }
-    requires sources { IsWithinSources (λ e. key_hash H.BuildHasher H.Hasher.Hasher E.Key.hash_input table.now
-        (E.key_of e)) skipped count target first last old.old }
-    requires joined { IsTrue whole → AreJoined (λ e. key_hash H.BuildHasher H.Hasher.Hasher E.Key.hash_input table.now
-        (E.key_of e)) skipped count target first last old.old }
+    requires bits { task.skipped < 64 }
+    requires sources { IsWithinSources (λ e. key_hash H.BuildHasher H.Hasher.Hasher E.Key.hash_input table.now (E.key_of
+        e)) task.skipped count task.target task.first task.last old.old }
+    requires joined { IsTrue task.whole → AreJoined (λ e. key_hash H.BuildHasher H.Hasher.Hasher E.Key.hash_input
+        table.now (E.key_of e)) task.skipped count task.target task.first task.last old.old }
     requires few { (j : ℕ) → length (shelf_of old.old j).overflow < 2 ^ 62 }
     requires own { AreOwn (λ e. key_hash H.BuildHasher H.Hasher.Hasher E.Key.hash_input table.now (E.key_of e))
-        skipped old.old }
-    requires target { target < length into.old }
+        task.skipped old.old }
+    requires target { task.target < length into.old }
     requires packed { IsPacked (λ e. key_hash H.BuildHasher H.Hasher.Hasher E.Key.hash_input table.now (E.key_of e))
-        (shelf_of into.old target) }
-    requires room { length (shelf_entries (shelf_of into.old target)) + length
-        (bound_for (λ e. key_hash H.BuildHasher H.Hasher.Hasher E.Key.hash_input table.now (E.key_of e)) skipped count
-        target (flat_map shelf_entries old.old)) ≤ 32 + (shelf_of into.old target).room }
+        (shelf_of into.old task.target) }
+    requires room { length (shelf_entries (shelf_of into.old task.target)) + length (bound_for (λ e. key_hash
+        H.BuildHasher H.Hasher.Hasher E.Key.hash_input table.now (E.key_of e)) task.skipped count task.target (flat_map
+        shelf_entries old.old)) ≤ 32 + (shelf_of into.old task.target).room }
     ensures drains { Drains (λ e. key_hash H.BuildHasher H.Hasher.Hasher E.Key.hash_input table.now (E.key_of e))
-        skipped count target old.old (shelf_of into.old target) old.new (shelf_of into.new target) }
-    ensures others { into.new ≡ slice_set into.old target (shelf_of into.new target) }
+        task.skipped count task.target old.old (shelf_of into.old task.target) old.new (shelf_of into.new task.target) }
+    ensures others { into.new ≡ slice_set into.old task.target (shelf_of into.new task.target) }
 {
-    for source in first..last {
-        pull(into, old, source, target, table, skipped, count, whole);
+    for source in task.first..task.last {
+        pull(into, old, source, task, table, count);
     }
 }
 
@@ -184,8 +190,7 @@ fn make_ready<E>(
 ) -> Result<(), AllocError>
     requires bucket { bucket < length into.old }
     requires empty { shelf_of into.old bucket ≡ record empty_shelf { room = (shelf_of into.old bucket).room } }
-    ensures value { into.new ≡ slice_set into.old bucket
-        (record empty_shelf { room = (shelf_of into.new bucket).room }) }
+    ensures value { into.new ≡ slice_set into.old bucket (record empty_shelf { room = (shelf_of into.new bucket).room }) }
     ensures room { OnOk result (coming ≤ 32 + (shelf_of into.new bucket).room) }
     ensures few { OnOk result (coming ≤ 32 + left) }
     ensures refused { OnErr result (32 < coming) }
@@ -207,39 +212,37 @@ fn fill<E: Keyed, H: BuildHasher>(
     coming: usize,
     left: usize,
     old: &mut Array<E>,
-    first: usize,
-    last: usize,
-    target: usize,
+    task: Relocation,
     table: &Buckets<E, H>,
-    skipped: u32,
     count: usize,
-    whole: bool,
 ) -> Result<(), AllocError>
 where
     E::Key: Eq + Hash,
-    requires bits { skipped < 64 }
-    requires sources { IsWithinSources (λ e. key_hash H.BuildHasher H.Hasher.Hasher E.Key.hash_input table.now
-        (E.key_of e)) skipped count target first last old.old }
-    requires joined { IsTrue whole → AreJoined (λ e. key_hash H.BuildHasher H.Hasher.Hasher E.Key.hash_input table.now
-        (E.key_of e)) skipped count target first last old.old }
+    requires bits { task.skipped < 64 }
+    requires sources { IsWithinSources (λ e. key_hash H.BuildHasher H.Hasher.Hasher E.Key.hash_input table.now (E.key_of
+        e)) task.skipped count task.target task.first task.last old.old }
+    requires joined { IsTrue task.whole → AreJoined (λ e. key_hash H.BuildHasher H.Hasher.Hasher E.Key.hash_input
+        table.now (E.key_of e)) task.skipped count task.target task.first task.last old.old }
     requires few { (j : ℕ) → length (shelf_of old.old j).overflow < 2 ^ 62 }
     requires own { AreOwn (λ e. key_hash H.BuildHasher H.Hasher.Hasher E.Key.hash_input table.now (E.key_of e))
-        skipped old.old }
-    requires target { target < length into.old }
-    requires empty { shelf_of into.old target ≡ record empty_shelf { room = (shelf_of into.old target).room } }
+        task.skipped old.old }
+    requires target { task.target < length into.old }
+    requires empty { shelf_of into.old task.target ≡ record empty_shelf { room = (shelf_of into.old task.target).room } }
     requires coming { length (bound_for (λ e. key_hash H.BuildHasher H.Hasher.Hasher E.Key.hash_input table.now
-        (E.key_of e)) skipped count target (flat_map shelf_entries old.old)) ≤ coming }
-    ensures ok { OnOk result (Drains (λ e. key_hash H.BuildHasher H.Hasher.Hasher E.Key.hash_input table.now
-        (E.key_of e)) skipped count target old.old empty_shelf old.new (shelf_of into.new target)) }
+        (E.key_of e)) task.skipped count task.target (flat_map shelf_entries old.old)) ≤ coming }
+    ensures ok { OnOk result (Drains (λ e. key_hash H.BuildHasher H.Hasher.Hasher E.Key.hash_input table.now (E.key_of
+        e)) task.skipped count task.target old.old empty_shelf old.new (shelf_of into.new task.target)) }
     ensures few { OnOk result (coming ≤ 32 + left) }
-    ensures others { into.new ≡ slice_set into.old target (shelf_of into.new target) }
-    ensures stays { OnErr result (shelf_of into.new target
-        ≡ record empty_shelf { room = (shelf_of into.new target).room }) }
+    ensures others { into.new ≡ slice_set into.old task.target (shelf_of into.new task.target) }
+    ensures stays { OnErr result (shelf_of into.new task.target ≡ record empty_shelf {
+      room = (shelf_of into.new
+          task.target).room;
+    }) }
     ensures err { OnErr result (old.new ≡ old.old) }
     ensures refused { OnErr result (32 < coming) }
 {
-    make_ready(into, target, coming, left)?;
-    drain(into, old, first, last, target, table, skipped, count, whole);
+    make_ready(into, task.target, coming, left)?;
+    drain(into, old, task, table, count);
     Ok(())
 }
 
@@ -249,37 +252,31 @@ where
 fn move_in<E: Keyed, H: BuildHasher>(
     current: &mut Buckets<E, H>,
     old: &mut Array<E>,
-    target: usize,
-    first: usize,
-    last: usize,
+    task: Relocation,
     coming: usize,
     aside: usize,
-    skipped: u32,
-    whole: bool,
 ) -> Result<usize, AllocError>
 where
     E::Key: Eq + Hash,
-    requires bits { skipped < 64 }
-    requires skips { skipped ≡ (settings_of current.old).skipped }
-    requires target { target < bucket_count current.old }
-    requires bare { list_of current.old target ≡ [] }
+    requires bits { task.skipped < 64 }
+    requires skips { task.skipped ≡ (settings_of current.old).skipped }
+    requires target { task.target < bucket_count current.old }
+    requires bare { list_of current.old task.target ≡ [] }
     requires sources { IsWithinSources (λ e. key_hash H.BuildHasher H.Hasher.Hasher E.Key.hash_input current.old
-        (E.key_of e)) skipped (bucket_count current.old) target first last old.old }
-    requires joined { IsTrue whole → AreJoined (λ e. key_hash H.BuildHasher H.Hasher.Hasher E.Key.hash_input
-        current.old (E.key_of e)) skipped (bucket_count current.old) target first last old.old }
+        (E.key_of e)) task.skipped (bucket_count current.old) task.target task.first task.last old.old }
+    requires joined { IsTrue task.whole → AreJoined (λ e. key_hash H.BuildHasher H.Hasher.Hasher E.Key.hash_input
+        current.old (E.key_of e)) task.skipped (bucket_count current.old) task.target task.first task.last old.old }
     requires few { (j : ℕ) → length (shelf_of old.old j).overflow < 2 ^ 62 }
     requires own { AreOwn (λ e. key_hash H.BuildHasher H.Hasher.Hasher E.Key.hash_input current.old (E.key_of e))
-        skipped old.old }
+        task.skipped old.old }
     requires coming { length (bound_for (λ e. key_hash H.BuildHasher H.Hasher.Hasher E.Key.hash_input current.old
-        (E.key_of e)) skipped (bucket_count current.old) target (flat_map shelf_entries old.old)) ≤ coming }
+        (E.key_of e)) task.skipped (bucket_count current.old) task.target (flat_map shelf_entries old.old)) ≤ coming }
     requires aside { spilled_of current.old + aside < 2 ^ 62 }
-    requires unique { IsDistinct E.Key.eq (map E.key_of
-        (flat_map (λ l. l) (slice_set (lists_of current.old) target
-        (bound_for (λ e. key_hash H.BuildHasher H.Hasher.Hasher E.Key.hash_input current.old (E.key_of e)) skipped
-        (bucket_count current.old) target (flat_map shelf_entries old.old))))) }
-    ensures ok { IfOk result (λ n. TakesOver
-        (λ e. key_hash H.BuildHasher H.Hasher.Hasher E.Key.hash_input current.old (E.key_of e)) target n current.old
-        old.old current.new old.new) }
+    requires unique { IsDistinct E.Key.eq (map E.key_of (flat_map (λ l. l) (slice_set (lists_of current.old) task.target
+        (bound_for (λ e. key_hash H.BuildHasher H.Hasher.Hasher E.Key.hash_input current.old (E.key_of e)) task.skipped
+        (bucket_count current.old) task.target (flat_map shelf_entries old.old))))) }
+    ensures ok { IfOk result (λ n. TakesOver (λ e. key_hash H.BuildHasher H.Hasher.Hasher E.Key.hash_input current.old
+        (E.key_of e)) task.target n current.old old.old current.new old.new) }
     ensures few { OnOk result (spilled_of current.new + aside < 2 ^ 62) }
     ensures short { OnOk result (coming ≤ 32 → spilled_of current.new ≤ spilled_of current.old) }
     ensures err { OnErr result (current.new ≡ current.old) }
@@ -291,11 +288,9 @@ where
     let (mut fresh, count, overflowing) = current.exchange(Array::none(alloc), 0, 0);
     let buckets = fresh.len();
     let left = left_of(overflowing, aside);
-    let filled = fill(
-        &mut fresh, coming, left, old, first, last, target, current, skipped, buckets, whole,
-    );
-    let moved = fresh.bucket_len(target);
-    let spilled = fresh.overflow_len(target);
+    let filled = fill(&mut fresh, coming, left, old, task, current, buckets);
+    let moved = fresh.bucket_len(task.target);
+    let spilled = fresh.overflow_len(task.target);
     let (none, _, _) = current.exchange(fresh, count + moved, overflowing + spilled);
     none.destroy_empty();
     match filled {
@@ -314,12 +309,12 @@ pub fn sources(old: usize, count: usize, target: usize) -> (usize, usize)
     requires multiples { AreMultiples old count }
     ensures order { result.0 ≤ result.1 }
     ensures within { result.1 ≤ old }
-    ensures only { (skipped hash : ℕ) → bucket_number skipped count hash ≡ target
-        → (result.0 ≤ bucket_number skipped old hash) × (bucket_number skipped old hash < result.1) }
-    ensures joined { count < old → (skipped hash : ℕ) → result.0 ≤ bucket_number skipped old hash
-        → bucket_number skipped old hash < result.1 → bucket_number skipped count hash ≡ target }
-    ensures doubled { count ≡ 2 * old → (result.1 ≡ result.0 + 1)
-        × ((target ≡ 2 * result.0) ⊎ (target ≡ 2 * result.0 + 1)) }
+    ensures only { (skipped hash : ℕ) → bucket_number skipped count hash ≡ target → (result.0 ≤ bucket_number skipped
+        old hash) × (bucket_number skipped old hash < result.1) }
+    ensures joined { count < old → (skipped hash : ℕ) → result.0 ≤ bucket_number skipped old hash → bucket_number
+        skipped old hash < result.1 → bucket_number skipped count hash ≡ target }
+    ensures doubled { count ≡ 2 * old → (result.1 ≡ result.0 + 1) × ((target ≡ 2 * result.0) ⊎ (target ≡ 2 * result.0 +
+        1)) }
 {
     if count == 2 * old {
         return (target / 2, target / 2 + 1);
@@ -350,9 +345,8 @@ fn is_whole(old: usize, count: usize, target: usize, waiting: &[bool]) -> bool
     requires most { old ≤ 2 ^ 58 }
     requires target { target < count }
     requires flags { length waiting.now ≡ count }
-    ensures { IsTrue result → (count < old)
-        ⊎ ((count ≡ 2 * old) × (k : ℕ) × (AreSiblings target k) × (k < count)
-        × (slice_index_or waiting.now k false ≡ false)) }
+    ensures { IsTrue result → (count < old) ⊎ ((count ≡ 2 * old) × (k : ℕ) × (AreSiblings target k) × (k < count) ×
+        (slice_index_or waiting.now k false ≡ false)) }
 {
     if count == 2 * old {
         return !waiting[sibling(target)];
@@ -374,9 +368,8 @@ where
     requires bits { skipped < 64 }
     requires source { source < length old.now }
     requires few { length (shelf_entries (shelf_of old.now source)) < 2 ^ 63 }
-    ensures { result ≡ length (bound_for
-        (λ e. key_hash H.BuildHasher H.Hasher.Hasher E.Key.hash_input table.now (E.key_of e)) skipped count target
-        (shelf_entries (shelf_of old.now source))) }
+    ensures { result ≡ length (bound_for (λ e. key_hash H.BuildHasher H.Hasher.Hasher E.Key.hash_input table.now
+        (E.key_of e)) skipped count target (shelf_entries (shelf_of old.now source))) }
 {
     let held = old.bucket_len(source);
     let mut found = 0;
@@ -403,15 +396,14 @@ pub fn count_all<E: Keyed, H: BuildHasher>(
 where
     E::Key: Eq + Hash,
     requires bits { skipped < 64 }
-    requires sources { IsWithinSources (λ e. key_hash H.BuildHasher H.Hasher.Hasher E.Key.hash_input table.now
-        (E.key_of e)) skipped count target first last old.now }
+    requires sources { IsWithinSources (λ e. key_hash H.BuildHasher H.Hasher.Hasher E.Key.hash_input table.now (E.key_of
+        e)) skipped count target first last old.now }
     requires few { (j : ℕ) → length (shelf_of old.now j).overflow < 2 ^ 62 }
-    requires own { AreOwn (λ e. key_hash H.BuildHasher H.Hasher.Hasher E.Key.hash_input table.now (E.key_of e))
-        skipped old.now }
+    requires own { AreOwn (λ e. key_hash H.BuildHasher H.Hasher.Hasher E.Key.hash_input table.now (E.key_of e)) skipped
+        old.now }
     requires most { length (flat_map shelf_entries old.now) < 2 ^ 64 }
-    ensures { result ≡ length (bound_for
-        (λ e. key_hash H.BuildHasher H.Hasher.Hasher E.Key.hash_input table.now (E.key_of e)) skipped count target
-        (flat_map shelf_entries old.now)) }
+    ensures { result ≡ length (bound_for (λ e. key_hash H.BuildHasher H.Hasher.Hasher E.Key.hash_input table.now
+        (E.key_of e)) skipped count target (flat_map shelf_entries old.now)) }
 {
     let mut found = 0;
     for source in first..last {
@@ -426,8 +418,8 @@ fn len_between<E>(old: &Array<E>, first: usize, last: usize) -> usize
     requires within { last ≤ length old.now }
     requires few { (j : ℕ) → j < length old.now → length (shelf_entries (shelf_of old.now j)) < 2 ^ 63 }
     requires most { length (flat_map shelf_entries old.now) < 2 ^ 64 }
-    ensures { length (flat_map shelf_entries (take first old.now)) + result
-        ≡ length (flat_map shelf_entries (take last old.now)) }
+    ensures { length (flat_map shelf_entries (take first old.now)) + result ≡ length (flat_map shelf_entries (take last
+        old.now)) }
 {
     let mut held = 0;
     for source in first..last {
@@ -441,38 +433,41 @@ fn len_between<E>(old: &Array<E>, first: usize, last: usize) -> usize
 /// hashed.
 fn count_coming<E: Keyed, H: BuildHasher>(
     old: &Array<E>,
-    first: usize,
-    last: usize,
-    target: usize,
+    task: Relocation,
     table: &Buckets<E, H>,
-    skipped: u32,
     count: usize,
-    whole: bool,
 ) -> usize
 where
     E::Key: Eq + Hash,
-    requires bits { skipped < 64 }
-    requires sources { IsWithinSources (λ e. key_hash H.BuildHasher H.Hasher.Hasher E.Key.hash_input table.now
-        (E.key_of e)) skipped count target first last old.now }
-    requires joined { IsTrue whole → AreJoined (λ e. key_hash H.BuildHasher H.Hasher.Hasher E.Key.hash_input table.now
-        (E.key_of e)) skipped count target first last old.now }
+    requires bits { task.skipped < 64 }
+    requires sources { IsWithinSources (λ e. key_hash H.BuildHasher H.Hasher.Hasher E.Key.hash_input table.now (E.key_of
+        e)) task.skipped count task.target task.first task.last old.now }
+    requires joined { IsTrue task.whole → AreJoined (λ e. key_hash H.BuildHasher H.Hasher.Hasher E.Key.hash_input
+        table.now (E.key_of e)) task.skipped count task.target task.first task.last old.now }
     requires few { (j : ℕ) → length (shelf_of old.now j).overflow < 2 ^ 62 }
     requires own { AreOwn (λ e. key_hash H.BuildHasher H.Hasher.Hasher E.Key.hash_input table.now (E.key_of e))
-        skipped old.now }
+        task.skipped old.now }
     requires most { length (flat_map shelf_entries old.now) < 2 ^ 64 }
-    ensures enough { length (bound_for (λ e. key_hash H.BuildHasher H.Hasher.Hasher E.Key.hash_input table.now
-        (E.key_of e)) skipped count target (flat_map shelf_entries old.now)) ≤ result }
-    ensures exact { 32 < result → result ≡ length
-        (bound_for (λ e. key_hash H.BuildHasher H.Hasher.Hasher E.Key.hash_input table.now (E.key_of e)) skipped count
-        target (flat_map shelf_entries old.now)) }
+    ensures enough { length (bound_for (λ e. key_hash H.BuildHasher H.Hasher.Hasher E.Key.hash_input table.now (E.key_of
+        e)) task.skipped count task.target (flat_map shelf_entries old.now)) ≤ result }
+    ensures exact { 32 < result → result ≡ length (bound_for (λ e. key_hash H.BuildHasher H.Hasher.Hasher
+        E.Key.hash_input table.now (E.key_of e)) task.skipped count task.target (flat_map shelf_entries old.now)) }
 {
-    if last - first == 1 && old.bucket_len(first) <= 32 {
+    if task.last - task.first == 1 && old.bucket_len(task.first) <= 32 {
         return 32;
     }
-    if whole {
-        return len_between(old, first, last);
+    if task.whole {
+        return len_between(old, task.first, task.last);
     }
-    count_all(old, first, last, target, table, skipped, count)
+    count_all(
+        old,
+        task.first,
+        task.last,
+        task.target,
+        table,
+        task.skipped,
+        count,
+    )
 }
 
 /// Moves the entries of all old buckets that belong to the target into the table's bucket of that number, which is
@@ -500,33 +495,34 @@ where
     requires spilled { spilled_in old.old ≤ aside }
     requires aside { spilled_of current.old + aside < 2 ^ 62 }
     requires flags { length waiting.now ≡ bucket_count current.old }
-    requires settled { (i : ℕ) → i < bucket_count current.old → slice_index_or waiting.now i false ≡ false
-        → bound_for (λ e. key_hash H.BuildHasher H.Hasher.Hasher E.Key.hash_input current.old (E.key_of e)) skipped
-        (bucket_count current.old) i (flat_map shelf_entries old.old) ≡ [] }
-    requires unique { IsDistinct E.Key.eq (map E.key_of
-        (flat_map (λ l. l) (slice_set (lists_of current.old) target
+    requires settled { (i : ℕ) → i < bucket_count current.old → slice_index_or waiting.now i false ≡ false → bound_for
+        (λ e. key_hash H.BuildHasher H.Hasher.Hasher E.Key.hash_input current.old (E.key_of e)) skipped (bucket_count
+        current.old) i (flat_map shelf_entries old.old) ≡ [] }
+    requires unique { IsDistinct E.Key.eq (map E.key_of (flat_map (λ l. l) (slice_set (lists_of current.old) target
         (bound_for (λ e. key_hash H.BuildHasher H.Hasher.Hasher E.Key.hash_input current.old (E.key_of e)) skipped
         (bucket_count current.old) target (flat_map shelf_entries old.old))))) }
-    ensures ok { IfOk result (λ n. TakesOver
-        (λ e. key_hash H.BuildHasher H.Hasher.Hasher E.Key.hash_input current.old (E.key_of e)) target n current.old
-        old.old current.new old.new) }
+    ensures ok { IfOk result (λ n. TakesOver (λ e. key_hash H.BuildHasher H.Hasher.Hasher E.Key.hash_input current.old
+        (E.key_of e)) target n current.old old.old current.new old.new) }
     ensures few { OnOk result (spilled_of current.new + aside < 2 ^ 62) }
-    ensures short { OnOk result (length (bound_for
-        (λ e. key_hash H.BuildHasher H.Hasher.Hasher E.Key.hash_input current.old (E.key_of e)) skipped
-        (bucket_count current.old) target (flat_map shelf_entries old.old)) ≤ 32
-        → spilled_of current.new ≤ spilled_of current.old) }
+    ensures short { OnOk result (length (bound_for (λ e. key_hash H.BuildHasher H.Hasher.Hasher E.Key.hash_input
+        current.old (E.key_of e)) skipped (bucket_count current.old) target (flat_map shelf_entries old.old)) ≤ 32 →
+        spilled_of current.new ≤ spilled_of current.old) }
     ensures err { OnErr result (current.new ≡ current.old) }
     ensures stays { OnErr result (old.new ≡ old.old) }
-    ensures refused { OnErr result (32 < length
-        (bound_for (λ e. key_hash H.BuildHasher H.Hasher.Hasher E.Key.hash_input current.old (E.key_of e)) skipped
-        (bucket_count current.old) target (flat_map shelf_entries old.old))) }
+    ensures refused { OnErr result (32 < length (bound_for (λ e. key_hash H.BuildHasher H.Hasher.Hasher E.Key.hash_input
+        current.old (E.key_of e)) skipped (bucket_count current.old) target (flat_map shelf_entries old.old))) }
 {
     let before = old.len();
     let count = current.bucket_count();
     let (first, last) = sources(before, count, target);
     let whole = is_whole(before, count, target, waiting);
-    let coming = count_coming(old, first, last, target, current, skipped, count, whole);
-    move_in(
-        current, old, target, first, last, coming, aside, skipped, whole,
-    )
+    let task = Relocation {
+        target,
+        first,
+        last,
+        whole,
+        skipped,
+    };
+    let coming = count_coming(old, task, current, count);
+    move_in(current, old, task, coming, aside)
 }

@@ -5,5 +5,5 @@ use Rattle.scc_draining.proofs.moving.fill.Goals as goal
 
 pub returns-clause-others : goal.returns-clause-others
 returns-clause-others g c =
-    let i = c.args.target in
+    let i = c.args.task.target in
     c.drain.ensures.others ∙ ap (λ v. set v i (shelf_of c.drain.new.into i)) c.make_ready.ensures.value ∙ set-set c.args.into.now i _ (shelf_of c.drain.new.into i)

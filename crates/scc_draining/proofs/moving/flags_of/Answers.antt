@@ -1,4 +1,4 @@
-use Rattle.std.proofs.Common.{◌≡◌, ◌==◌, ◌<◌, ◌++◌, Some, true, set, sym, ap, ◌∙◌, arith, inl, inr, length-set}
+use Rattle.std.proofs.Common.{◌≡◌, ◌==◌, ◌++◌, Some, set, sym, ap, ◌∙◌, arith, inl, inr, length-set}
 use Rattle.std.specs.List.{slice_get}
 use Rattle.scc_array.proofs.Gets.{get-set, get-set_other, get-within}
 use Rattle.scc_array.proofs.Windows.{same_or_not}
@@ -12,11 +12,11 @@ pub loop-place-preserved : goal.loop-place-preserved
 loop-place-preserved g c =
     let bits = c.loop-place.flags in let p = c.loop-place.place in
     let xs = (shelf_of c.args.old.now c.args.source).slots in let os = (shelf_of c.args.old.now c.args.source).overflow in
-    let number = λ (e : g.row.E.Denot). bucket_number c.args.skipped c.args.count (key_hash g.H.BuildHasher g.H.Hasher.Hasher g.E.Key.Hash.hash_input c.args.table.now (g.E.Keyed.key_of e)) in
+    let number = λ (e : g.row.E.Denot). bucket_number c.args.task.skipped c.args.count (key_hash g.H.BuildHasher g.H.Hasher.Hasher g.E.Key.Hash.hash_input c.args.table.now (g.E.Keyed.key_of e)) in
     let x = c.entry_of.result.now in
     let hashed = c.hash-hash.ensures ∙ ap (λ k. key_hash g.H.BuildHasher g.H.Hasher.Hasher g.E.Key.Hash.hash_input c.args.table.now k) c.key.ensures in
-    let to : c.bucket_index.result ≡ number x = c.bucket_index.ensures.value ∙ ap (bucket_number c.args.skipped c.args.count) hashed in (
-      length-set bits p (c.bucket_index.result == c.args.target) ∙ c.loop-place.invariant.0,
+    let to : c.bucket_index.result ≡ number x = c.bucket_index.ensures.value ∙ ap (bucket_number c.args.task.skipped c.args.count) hashed in (
+      length-set bits p (c.bucket_index.result == c.args.task.target) ∙ c.loop-place.invariant.0,
       λ j e l got. elim (same_or_not j p) [
         | inl s ↦
             let there : slice_get (xs ++ os) p ≡ Some e = get-left xs os p e (ap (slice_get xs) (sym s) ∙ got) in
@@ -24,8 +24,8 @@ loop-place-preserved g c =
             let same : x ≡ e = cc in
             let within = get-within xs j e got in
             let n = c.loop-place.invariant.0 in
-            ap (slice_get (set bits p (c.bucket_index.result == c.args.target))) s ∙ get-set bits p (c.bucket_index.result == c.args.target) (let m = c.slot_count-slots.ensures.most in let t = c.loop-place-test.true in omega arith) ∙ ap (λ k. Some (k == c.args.target)) (to ∙ ap number same)
-        | inr d ↦ get-set_other bits p j (c.bucket_index.result == c.args.target) d ∙ c.loop-place.invariant.1 j e (omega arith) got
+            ap (slice_get (set bits p (c.bucket_index.result == c.args.task.target))) s ∙ get-set bits p (c.bucket_index.result == c.args.task.target) (let m = c.slot_count-slots.ensures.most in let t = c.loop-place-test.true in omega arith) ∙ ap (λ k. Some (k == c.args.task.target)) (to ∙ ap number same)
+        | inr d ↦ get-set_other bits p j (c.bucket_index.result == c.args.task.target) d ∙ c.loop-place.invariant.1 j e (omega arith) got
       ],
     )
 

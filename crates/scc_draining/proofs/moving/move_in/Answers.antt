@@ -20,7 +20,7 @@ pub fill-filled-requires-clause-sources : goal.fill-filled-requires-clause-sourc
 fill-filled-requires-clause-sources g c =
     let cur = c.args.current.now in
     let bs = c.exchange-fresh.result.0 in
-    let i = c.args.target in
+    let i = c.args.task.target in
     let hash = λ (e : g.row.E.Denot). key_hash g.H.BuildHasher g.H.Hasher.Hasher g.E.Key.Hash.hash_input cur (g.E.Keyed.key_of e) in
     let were = c.exchange-fresh.ensures.were in
     let counted = count-were cur bs were in
@@ -40,7 +40,7 @@ pub fill-filled-requires-clause-empty : goal.fill-filled-requires-clause-empty
 fill-filled-requires-clause-empty g c =
     let cur = c.args.current.now in
     let bs = c.exchange-fresh.result.0 in
-    let i = c.args.target in
+    let i = c.args.task.target in
     let hash = λ (e : g.row.E.Denot). key_hash g.H.BuildHasher g.H.Hasher.Hasher g.E.Key.Hash.hash_input cur (g.E.Keyed.key_of e) in
     let were = c.exchange-fresh.ensures.were in
     let counted = count-were cur bs were in
@@ -54,7 +54,7 @@ pub fill-filled-requires-clause-coming : goal.fill-filled-requires-clause-coming
 fill-filled-requires-clause-coming g c =
     let cur = c.args.current.now in
     let bs = c.exchange-fresh.result.0 in
-    let i = c.args.target in
+    let i = c.args.task.target in
     let hash = λ (e : g.row.E.Denot). key_hash g.H.BuildHasher g.H.Hasher.Hasher g.E.Key.Hash.hash_input cur (g.E.Keyed.key_of e) in
     let were = c.exchange-fresh.ensures.were in
     let counted = count-were cur bs were in
@@ -66,7 +66,7 @@ pub bucket_len-moved-requires-clause-few : goal.bucket_len-moved-requires-clause
 bucket_len-moved-requires-clause-few g c =
     let cur = c.args.current.now in
     let bs = c.exchange-fresh.result.0 in
-    let i = c.args.target in
+    let i = c.args.task.target in
     let hash = λ (e : g.row.E.Denot). key_hash g.H.BuildHasher g.H.Hasher.Hasher g.E.Key.Hash.hash_input cur (g.E.Keyed.key_of e) in
     let were = c.exchange-fresh.ensures.were in
     let counted = count-were cur bs were in
@@ -82,7 +82,7 @@ bucket_len-moved-requires-clause-few g c =
     let most : length (bound_for hash t (length bs) i es) ≤ c.args.coming = rw (c.requires.skips, counted) at c.requires.coming in
     let ok = rw c.exchange-fresh.ensures.settings at c.fill-filled.ensures.ok in
     let buckets : c.len-buckets.result ≡ length bs = search rules in
-    let landed = landed-from hash t i bs c.args.old.now c.fill-filled.new.old d c.left_of-left.result c.args.coming c.args.skipped c.len-buckets.result c.requires.skips buckets most c.fill-filled.result ok c.fill-filled.ensures.few c.fill-filled.ensures.stays in
+    let landed = landed-from hash t i bs c.args.old.now c.fill-filled.new.old d c.left_of-left.result c.args.coming c.args.task.skipped c.len-buckets.result c.requires.skips buckets most c.fill-filled.result ok c.fill-filled.ensures.few c.fill-filled.ensures.stays in
     let few : c.exchange-fresh.result.2 + c.left_of-left.result < 2 ^ 62 = omega (arith, c.left_of-left.ensures) in
     let table = landed-table hash t i bs b es c.left_of-left.result d c.exchange-fresh.result.1 c.exchange-fresh.result.2 c.exchange-fresh.ensures.table l at bare few landed in
     let within : i < length (set bs i d) = omega (arith, length-set bs i d) in
@@ -92,7 +92,7 @@ pub overflow_add-count : goal.overflow_add-count
 overflow_add-count g c =
     let cur = c.args.current.now in
     let bs = c.exchange-fresh.result.0 in
-    let i = c.args.target in
+    let i = c.args.task.target in
     let hash = λ (e : g.row.E.Denot). key_hash g.H.BuildHasher g.H.Hasher.Hasher g.E.Key.Hash.hash_input cur (g.E.Keyed.key_of e) in
     let were = c.exchange-fresh.ensures.were in
     let counted = count-were cur bs were in
@@ -108,7 +108,7 @@ overflow_add-count g c =
     let most : length (bound_for hash t (length bs) i es) ≤ c.args.coming = rw (c.requires.skips, counted) at c.requires.coming in
     let ok = rw c.exchange-fresh.ensures.settings at c.fill-filled.ensures.ok in
     let buckets : c.len-buckets.result ≡ length bs = search rules in
-    let landed = landed-from hash t i bs c.args.old.now c.fill-filled.new.old d c.left_of-left.result c.args.coming c.args.skipped c.len-buckets.result c.requires.skips buckets most c.fill-filled.result ok c.fill-filled.ensures.few c.fill-filled.ensures.stays in
+    let landed = landed-from hash t i bs c.args.old.now c.fill-filled.new.old d c.left_of-left.result c.args.coming c.args.task.skipped c.len-buckets.result c.requires.skips buckets most c.fill-filled.result ok c.fill-filled.ensures.few c.fill-filled.ensures.stays in
     let few : c.exchange-fresh.result.2 + c.left_of-left.result < 2 ^ 62 = omega (arith, c.left_of-left.ensures) in
     let table = landed-table hash t i bs b es c.left_of-left.result d c.exchange-fresh.result.1 c.exchange-fresh.result.2 c.exchange-fresh.ensures.table l at bare few landed in
     let moved : c.bucket_len-moved.result ≡ length (shelf_entries d) = c.bucket_len-moved.ensures in
@@ -119,7 +119,7 @@ pub overflow_add-overflowing : goal.overflow_add-overflowing
 overflow_add-overflowing g c =
     let cur = c.args.current.now in
     let bs = c.exchange-fresh.result.0 in
-    let i = c.args.target in
+    let i = c.args.task.target in
     let hash = λ (e : g.row.E.Denot). key_hash g.H.BuildHasher g.H.Hasher.Hasher g.E.Key.Hash.hash_input cur (g.E.Keyed.key_of e) in
     let were = c.exchange-fresh.ensures.were in
     let counted = count-were cur bs were in
@@ -135,7 +135,7 @@ overflow_add-overflowing g c =
     let most : length (bound_for hash t (length bs) i es) ≤ c.args.coming = rw (c.requires.skips, counted) at c.requires.coming in
     let ok = rw c.exchange-fresh.ensures.settings at c.fill-filled.ensures.ok in
     let buckets : c.len-buckets.result ≡ length bs = search rules in
-    let landed = landed-from hash t i bs c.args.old.now c.fill-filled.new.old d c.left_of-left.result c.args.coming c.args.skipped c.len-buckets.result c.requires.skips buckets most c.fill-filled.result ok c.fill-filled.ensures.few c.fill-filled.ensures.stays in
+    let landed = landed-from hash t i bs c.args.old.now c.fill-filled.new.old d c.left_of-left.result c.args.coming c.args.task.skipped c.len-buckets.result c.requires.skips buckets most c.fill-filled.result ok c.fill-filled.ensures.few c.fill-filled.ensures.stays in
     let few : c.exchange-fresh.result.2 + c.left_of-left.result < 2 ^ 62 = omega (arith, c.left_of-left.ensures) in
     let table = landed-table hash t i bs b es c.left_of-left.result d c.exchange-fresh.result.1 c.exchange-fresh.result.2 c.exchange-fresh.ensures.table l at bare few landed in
     let moved : c.bucket_len-moved.result ≡ length (shelf_entries d) = c.bucket_len-moved.ensures in
@@ -146,7 +146,7 @@ pub exchange-none-requires-clause-table : goal.exchange-none-requires-clause-tab
 exchange-none-requires-clause-table g c =
     let cur = c.args.current.now in
     let bs = c.exchange-fresh.result.0 in
-    let i = c.args.target in
+    let i = c.args.task.target in
     let hash = λ (e : g.row.E.Denot). key_hash g.H.BuildHasher g.H.Hasher.Hasher g.E.Key.Hash.hash_input cur (g.E.Keyed.key_of e) in
     let were = c.exchange-fresh.ensures.were in
     let counted = count-were cur bs were in
@@ -162,7 +162,7 @@ exchange-none-requires-clause-table g c =
     let most : length (bound_for hash t (length bs) i es) ≤ c.args.coming = rw (c.requires.skips, counted) at c.requires.coming in
     let ok = rw c.exchange-fresh.ensures.settings at c.fill-filled.ensures.ok in
     let buckets : c.len-buckets.result ≡ length bs = search rules in
-    let landed = landed-from hash t i bs c.args.old.now c.fill-filled.new.old d c.left_of-left.result c.args.coming c.args.skipped c.len-buckets.result c.requires.skips buckets most c.fill-filled.result ok c.fill-filled.ensures.few c.fill-filled.ensures.stays in
+    let landed = landed-from hash t i bs c.args.old.now c.fill-filled.new.old d c.left_of-left.result c.args.coming c.args.task.skipped c.len-buckets.result c.requires.skips buckets most c.fill-filled.result ok c.fill-filled.ensures.few c.fill-filled.ensures.stays in
     let few : c.exchange-fresh.result.2 + c.left_of-left.result < 2 ^ 62 = omega (arith, c.left_of-left.ensures) in
     let table = landed-table hash t i bs b es c.left_of-left.result d c.exchange-fresh.result.1 c.exchange-fresh.result.2 c.exchange-fresh.ensures.table l at bare few landed in
     let moved : c.bucket_len-moved.result ≡ length (shelf_entries d) = c.bucket_len-moved.ensures in
@@ -173,7 +173,7 @@ pub exchange-none-requires-clause-unique : goal.exchange-none-requires-clause-un
 exchange-none-requires-clause-unique g c =
     let cur = c.args.current.now in
     let bs = c.exchange-fresh.result.0 in
-    let i = c.args.target in
+    let i = c.args.task.target in
     let hash = λ (e : g.row.E.Denot). key_hash g.H.BuildHasher g.H.Hasher.Hasher g.E.Key.Hash.hash_input cur (g.E.Keyed.key_of e) in
     let were = c.exchange-fresh.ensures.were in
     let counted = count-were cur bs were in
@@ -189,7 +189,7 @@ exchange-none-requires-clause-unique g c =
     let most : length (bound_for hash t (length bs) i es) ≤ c.args.coming = rw (c.requires.skips, counted) at c.requires.coming in
     let ok = rw c.exchange-fresh.ensures.settings at c.fill-filled.ensures.ok in
     let buckets : c.len-buckets.result ≡ length bs = search rules in
-    let landed = landed-from hash t i bs c.args.old.now c.fill-filled.new.old d c.left_of-left.result c.args.coming c.args.skipped c.len-buckets.result c.requires.skips buckets most c.fill-filled.result ok c.fill-filled.ensures.few c.fill-filled.ensures.stays in
+    let landed = landed-from hash t i bs c.args.old.now c.fill-filled.new.old d c.left_of-left.result c.args.coming c.args.task.skipped c.len-buckets.result c.requires.skips buckets most c.fill-filled.result ok c.fill-filled.ensures.few c.fill-filled.ensures.stays in
     let there = rw (c.requires.skips, counted) at c.requires.unique in
     subst (λ (z : List (Shelf g.row.E.Denot)). IsDistinct g.E.Key.PartialEq.eq (map g.E.Keyed.key_of (flat_map shelf_entries z))) (sym others)
     (distinct-landed g.E.Key.PartialEq.eq g.E.Keyed.key_of cur bs were i d (bound_for hash t (length bs) i es) b l at bare (landed-list hash t i bs b es c.left_of-left.result d landed) c.keep_lists.ensures.unique there)
@@ -198,7 +198,7 @@ pub returns-in-Ok-clause-ok : goal.returns-in-Ok-clause-ok
 returns-in-Ok-clause-ok g c =
     let cur = c.args.current.now in
     let bs = c.exchange-fresh.result.0 in
-    let i = c.args.target in
+    let i = c.args.task.target in
     let hash = λ (e : g.row.E.Denot). key_hash g.H.BuildHasher g.H.Hasher.Hasher g.E.Key.Hash.hash_input cur (g.E.Keyed.key_of e) in
     let were = c.exchange-fresh.ensures.were in
     let counted = count-were cur bs were in
@@ -231,7 +231,7 @@ pub returns-in-Ok-clause-few : goal.returns-in-Ok-clause-few
 returns-in-Ok-clause-few g c =
     let cur = c.args.current.now in
     let bs = c.exchange-fresh.result.0 in
-    let i = c.args.target in
+    let i = c.args.task.target in
     let hash = λ (e : g.row.E.Denot). key_hash g.H.BuildHasher g.H.Hasher.Hasher g.E.Key.Hash.hash_input cur (g.E.Keyed.key_of e) in
     let were = c.exchange-fresh.ensures.were in
     let counted = count-were cur bs were in
@@ -247,7 +247,7 @@ returns-in-Ok-clause-few g c =
     let most : length (bound_for hash t (length bs) i es) ≤ c.args.coming = rw (c.requires.skips, counted) at c.requires.coming in
     let ok = rw c.exchange-fresh.ensures.settings at c.fill-filled.ensures.ok in
     let buckets : c.len-buckets.result ≡ length bs = search rules in
-    let landed = landed-from hash t i bs c.args.old.now c.fill-filled.new.old d c.left_of-left.result c.args.coming c.args.skipped c.len-buckets.result c.requires.skips buckets most c.fill-filled.result ok c.fill-filled.ensures.few c.fill-filled.ensures.stays in
+    let landed = landed-from hash t i bs c.args.old.now c.fill-filled.new.old d c.left_of-left.result c.args.coming c.args.task.skipped c.len-buckets.result c.requires.skips buckets most c.fill-filled.result ok c.fill-filled.ensures.few c.fill-filled.ensures.stays in
     let moved : c.bucket_len-moved.result ≡ length (shelf_entries d) = c.bucket_len-moved.ensures in
     let spilled : c.overflow_len-spilled.result ≡ length d.overflow = c.overflow_len-spilled.ensures in
     let less = landed-spilled hash t i bs b es c.left_of-left.result d landed in
@@ -257,7 +257,7 @@ pub returns-in-Err-clause-err : goal.returns-in-Err-clause-err
 returns-in-Err-clause-err g c =
     let cur = c.args.current.now in
     let bs = c.exchange-fresh.result.0 in
-    let i = c.args.target in
+    let i = c.args.task.target in
     let hash = λ (e : g.row.E.Denot). key_hash g.H.BuildHasher g.H.Hasher.Hasher g.E.Key.Hash.hash_input cur (g.E.Keyed.key_of e) in
     let were = c.exchange-fresh.ensures.were in
     let counted = count-were cur bs were in
@@ -285,7 +285,7 @@ pub fill-filled-requires-clause-target : goal.fill-filled-requires-clause-target
 fill-filled-requires-clause-target g c =
     let cur = c.args.current.now in
     let bs = c.exchange-fresh.result.0 in
-    let i = c.args.target in
+    let i = c.args.task.target in
     let counted = count-were cur bs c.exchange-fresh.ensures.were in
     let l : i < length bs = omega (arith, c.requires.target) in
     l
@@ -294,7 +294,7 @@ pub bucket_len-moved-requires-clause-bucket : goal.bucket_len-moved-requires-cla
 bucket_len-moved-requires-clause-bucket g c =
     let cur = c.args.current.now in
     let bs = c.exchange-fresh.result.0 in
-    let i = c.args.target in
+    let i = c.args.task.target in
     let counted = count-were cur bs c.exchange-fresh.ensures.were in
     let l : i < length bs = omega (arith, c.requires.target) in
     still-within bs c.fill-filled.new.into i l c.fill-filled.ensures.others
@@ -303,7 +303,7 @@ pub overflow_len-spilled-requires : goal.overflow_len-spilled-requires
 overflow_len-spilled-requires g c =
     let cur = c.args.current.now in
     let bs = c.exchange-fresh.result.0 in
-    let i = c.args.target in
+    let i = c.args.task.target in
     let counted = count-were cur bs c.exchange-fresh.ensures.were in
     let l : i < length bs = omega (arith, c.requires.target) in
     still-within bs c.fill-filled.new.into i l c.fill-filled.ensures.others
@@ -319,7 +319,7 @@ pub returns-in-Ok-clause-short : goal.returns-in-Ok-clause-short
 returns-in-Ok-clause-short g c =
     let cur = c.args.current.now in
     let bs = c.exchange-fresh.result.0 in
-    let i = c.args.target in
+    let i = c.args.task.target in
     let hash = λ (e : g.row.E.Denot). key_hash g.H.BuildHasher g.H.Hasher.Hasher g.E.Key.Hash.hash_input cur (g.E.Keyed.key_of e) in
     let were = c.exchange-fresh.ensures.were in
     let counted = count-were cur bs were in
@@ -335,6 +335,6 @@ returns-in-Ok-clause-short g c =
     let spilled : c.overflow_len-spilled.result ≡ length d.overflow = c.overflow_len-spilled.ensures in
     λ few.
     let none : c.args.coming ≤ 32 + 0 = few in
-    let landed = landed-from hash t i bs c.args.old.now c.fill-filled.new.old d 0 c.args.coming c.args.skipped c.len-buckets.result c.requires.skips buckets most c.fill-filled.result ok (any-ok c.fill-filled.result none) c.fill-filled.ensures.stays in
+    let landed = landed-from hash t i bs c.args.old.now c.fill-filled.new.old d 0 c.args.coming c.args.task.skipped c.len-buckets.result c.requires.skips buckets most c.fill-filled.result ok (any-ok c.fill-filled.result none) c.fill-filled.ensures.stays in
     let less = landed-spilled hash t i bs b es 0 d landed in
     omega (arith, c.exchange-none.ensures.spilled, c.exchange-fresh.ensures.overflowing)

@@ -1,4 +1,4 @@
-use Rattle.std.proofs.Common.{◌%◌, ◌/◌, ◌<◌, ◌≢◌, inl, inr, refl, arith}
+use Rattle.std.proofs.Common.{◌%◌, ◌/◌, ◌<◌, inl, inr, arith}
 use Rattle.scc_draining.proofs.moving.sibling.Goals as goal
 
 pub returns-then-target-eq0 : goal.returns-then-target-eq0
