@@ -5,7 +5,7 @@ use Rattle.std.proofs.lemmas.List.Sums.{sum_by-cons}
 use Rattle.scc_array.specs.Shelves.{shelf_of}
 use Rattle.scc_array.specs.Shelf.{Shelf, shelf_entries}
 use Rattle.scc_buckets.proofs.Bare.{nil-left}
-use Rattle.scc_contents.specs.Contents.{Contents, entries, bucket_count, lists_of, settings_of, spilled_of, held_of}
+use Rattle.scc_contents.specs.Contents.{Contents, entries, bucket_count, lists_of, settings_of, refused_of, spilled_of, held_of}
 use Rattle.scc_buckets.specs.Pour.{bound_for}
 use Rattle.scc_contents.specs.Routing.{bucket_number}
 use Rattle.scc_buckets.specs.Tables.{spilled_in}
@@ -62,6 +62,11 @@ spilled-bare {E} (b ∷ olds) h =
     let s = sum_by-cons (λ (x : Shelf E). length x.overflow) b olds in
     omega arith
 
+-- an old array in which nothing lies shows nothing
+pub bare-together : {E S : Type 0} (hash : E → ℕ) (c : Contents E S) (olds : List (Shelf E)) → flat_map shelf_entries olds ≡ [] → together hash c [] olds ≡ together hash c [] []
+bare-together {E} {S} hash c olds bare =
+    ap (λ n. let d : Contents E S = record { lists = lists_of c; settings = settings_of c; refused = refused_of c; spilled = spilled_of c + n; waiting = []; held = [] } in d) (spilled-bare olds bare)
+
 -- of all fields where there is no old array
 pub fields-alone : {E K S : Type 0} (eq : K → K → Bool) (key : E → K) (hash : K → ℕ) (c : Contents E S) (skipped next : ℕ) → skipped ≡ (settings_of c).skipped → skipped ≤ 4 → spilled_of c < 2 ^ 62 → IsDistinct eq (map key (entries c))
     → IsTable eq key hash c [] [] skipped 0 next 0 0
@@ -78,6 +83,7 @@ fields-alone eq key hash c skipped next skips few_bits few unique = record {
   few_bits = few_bits;
   counted = refl;
   none = λ z. refl;
+  given_back = λ z. refl;
   below = λ i l. refl;
   held_is = refl;
   overflow_is = omega arith;

@@ -94,7 +94,7 @@ module _ {E K S : Type 0} (eq : K → K → Bool) (laws : IsEquivalence eq) (key
           omega (arith, takes.moved, begun.held_is)
 
       pub taken-fields : spilled_of e + over < 2 ^ 62 → IsTable eq key hash e vs news skipped (n - 1) 0 (held - moved) over
-      taken-fields few = fields-after eq key hash k moved d e (replicate n true) vs olds news skipped n 0 held over begun begun-up takes settles few
+      taken-fields few = fields-after eq key hash k moved d e (replicate n true) vs olds news skipped n 0 held over begun begun-up takes down (omega (arith, but-one n k will.least l, will.least)) few
 
       pub taken-lists : IsRegrouped inner n a (together inner e vs news)
       taken-lists = regrouped-same inner n a (together inner d (replicate n true) olds) (together inner e vs news) there.lists there.settings begun-lists

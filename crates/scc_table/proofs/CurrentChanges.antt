@@ -82,6 +82,7 @@ own-fields eq key hash c d i x lists settings ws olds down skipped pending next 
   few_bits = inv.few_bits;
   counted = inv.counted;
   none = inv.none;
+  given_back = inv.given_back;
   below = inv.below;
   held_is = inv.held_is;
   overflow_is = inv.overflow_is;

@@ -54,6 +54,7 @@ fields-first {E} eq key hash c d ws olds skipped pending next held aside inv non
       few_bits = inv.few_bits;
       counted = inv.counted;
       none = inv.none;
+      given_back = inv.given_back;
       below = inv.below;
       held_is = inv.held_is;
       overflow_is = inv.overflow_is;

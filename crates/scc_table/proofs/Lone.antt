@@ -36,6 +36,7 @@ fields-lone {E} eq key hash c d ws olds skipped pending next held aside inv none
       few_bits = inv.few_bits;
       counted = inv.counted;
       none = inv.none;
+      given_back = inv.given_back;
       below = inv.below;
       held_is = inv.held_is;
       overflow_is = let z = spilled-bare olds nothing in omega arith;

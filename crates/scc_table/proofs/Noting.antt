@@ -51,6 +51,7 @@ fields-less {E} eq key hash c d ws olds skipped pending next held aside lists sk
       few_bits = inv.few_bits;
       counted = inv.counted;
       none = inv.none;
+      given_back = inv.given_back;
       below = inv.below;
       held_is = inv.held_is;
       overflow_is = inv.overflow_is;

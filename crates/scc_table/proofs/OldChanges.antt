@@ -1,7 +1,7 @@
 -- What both arrays show, once one entry of the old array was written or taken out.
 use Rattle.std.proofs.Common.{◌≡◌, ◌==◌, ℕ, zero, suc, ◌+◌, ◌^◌, ◌<◌, ◌≤◌, ◌≢◌, inl, inr, Bool, true, false, cond, Some, List, [], ◌∷◌, ◌++◌, length, map, take, drop, set, refl, sym, ap, ◌∙◌, subst, arith, append_assoc, length-set, get_or-set_same, get_or-set_other, eq-eqb}
 use Rattle.std.specs.List.{filter, flat_map, slice_get, sum_by, remove, IsDistinct}
-use Rattle.std.proofs.lemmas.List.{set-get_or, take-append-drop}
+use Rattle.std.proofs.lemmas.List.{nil_from_length, set-get_or, take-append-drop}
 use Rattle.std.proofs.lemmas.List.Elements.{filter-append}
 use native.Mathlib.Decide.{dec_lt}
 use Rattle.scc_array.specs.Shelves.{shelf_of}
@@ -145,14 +145,15 @@ module _ {E S : Type 0} (hash : E → ℕ) (c : Contents E S) (ws : List Bool) (
 
 -- of all fields
 pub old-fields : {E K S : Type 0} (eq : K → K → Bool) (key : E → K) (hash : K → ℕ) (c : Contents E S) (ws : List Bool) (olds news : List (Shelf E)) (skipped pending next held aside left under : ℕ) → IsTable eq key hash c ws olds skipped pending next held aside
-    → TwoArrays (λ e. hash (key e)) c ws news → left ≡ sum_by (λ b. length (shelf_entries b)) news → spilled_in news ≤ under → spilled_of c + under < 2 ^ 62 → IsDistinct eq (map key (entries (together (λ e. hash (key e)) c ws news)))
+    → TwoArrays (λ e. hash (key e)) c ws news → length news ≡ length olds → left ≡ sum_by (λ b. length (shelf_entries b)) news → spilled_in news ≤ under → spilled_of c + under < 2 ^ 62 → IsDistinct eq (map key (entries (together (λ e. hash (key e)) c ws news)))
     → IsTable eq key hash c ws news skipped pending next left under
-old-fields eq key hash c ws olds news skipped pending next held aside left under inv arrays count over few unique = record {
+old-fields eq key hash c ws olds news skipped pending next held aside left under inv arrays long count over few unique = record {
   arrays = arrays;
   skips = inv.skips;
   few_bits = inv.few_bits;
   counted = inv.counted;
   none = inv.none;
+  given_back = λ z. nil_from_length news (long ∙ ap length (inv.given_back z));
   below = inv.below;
   held_is = count;
   overflow_is = over;

@@ -141,6 +141,7 @@ fields-put {E} eq laws key hash c ws olds skipped pending next held aside inv d 
       few_bits = inv.few_bits;
       counted = inv.counted;
       none = inv.none;
+      given_back = inv.given_back;
       below = inv.below;
       held_is = inv.held_is;
       overflow_is = inv.overflow_is;

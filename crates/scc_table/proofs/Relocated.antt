@@ -15,6 +15,7 @@ use Rattle.scc_buckets.specs.Tables.{spilled_in}
 use Rattle.scc_buckets.proofs.PairSplits.{by_answer}
 use Rattle.scc_draining.specs.Moves.{others_for, AreMultiples, AreOwn, TakesOver}
 use Rattle.scc_table.specs.TwoArrays.{joined, waits_at, target_by, together, settle, held_in, held_without, TwoArrays, IsTable, IsRelocated}
+use Rattle.scc_table.proofs.Alone.{entries-alone, fields-alone, nothing-held}
 use Rattle.scc_table.proofs.Joining.{lists-together, held-together, settings-together, refused-together, waiting-together, pending-together}
 use Rattle.scc_table.proofs.RelocatingLemmas.{not_equal, bound-others_none, bound-others_same, flat-others, none-up, one-down, up-within, joined-none, joined-moved}
 
@@ -129,12 +130,25 @@ module _ {E S : Type 0} (hash : E → ℕ) (i n : ℕ) (c d : Contents E S) (ws 
   unfolding entries
   entries-after = ap (flat_map (λ l. l)) joined-after
 
--- of all fields
+  -- the old array has as many entries less
+  pub held-left : sum_by (λ b. length (shelf_entries b)) olds ≡ n + sum_by (λ b. length (shelf_entries b)) news
+  held-left =
+      let es = flat_map shelf_entries olds in
+      let q : E → Bool = λ e. bucket_number (settings_of c).skipped (bucket_count c) (hash e) == i in
+      let both : length (filter q es) + length (filter (λ e. not (q e)) es) ≡ length es = length-filter_both q (λ e. not (q e)) (λ e. refl) es in
+      let left : length (flat_map shelf_entries news) ≡ length (filter (λ e. not (q e)) es) = ap length flat-after in
+      let moved : n ≡ length (filter q es) = takes.moved in
+      let a = length-flat_map shelf_entries olds in
+      let b = length-flat_map shelf_entries news in
+      omega arith
+
+-- of all fields, where another bucket waits still
 pub fields-after : {E K S : Type 0} (eq : K → K → Bool) (key : E → K) (hash : K → ℕ) (i n : ℕ) (c d : Contents E S) (ws vs : List Bool) (olds news : List (Shelf E)) (skipped pending next held aside : ℕ)
-    → IsTable eq key hash c ws olds skipped pending next held aside → waits_at ws i ≡ true → TakesOver (λ e. hash (key e)) i n c olds d news → Settles ws i vs → spilled_of d + aside < 2 ^ 62
+    → IsTable eq key hash c ws olds skipped pending next held aside → waits_at ws i ≡ true → TakesOver (λ e. hash (key e)) i n c olds d news → vs ≡ set ws i false → 0 < count_by (λ w. w) (set ws i false) → spilled_of d + aside < 2 ^ 62
     → IsTable eq key hash d vs news skipped (pending - 1) next (held - n) aside
-fields-after {E} eq key hash i n c d ws vs olds news skipped pending next held aside inv up takes settles few =
+fields-after {E} eq key hash i n c d ws vs olds news skipped pending next held aside inv up takes down some few =
     let h : E → ℕ = λ e. hash (key e) in
+    let settles : Settles ws i vs = others down some in
     let fewer = one-down ws i (up-within ws i up) up in
     let after = count-after settles in
     record {
@@ -142,7 +156,8 @@ fields-after {E} eq key hash i n c d ws vs olds news skipped pending next held a
       skips = inv.skips ∙ ap (λ s. s.skipped) (sym takes.settings);
       few_bits = inv.few_bits;
       counted = omega (arith, inv.counted);
-      none = λ z. elim settles [ others e some ↦ absurd (omega (arith, inv.counted)) | last e none ↦ e ];
+      none = λ z. absurd (omega (arith, inv.counted));
+      given_back = λ z. absurd (omega (arith, inv.counted));
       below = λ k l. flags-after settles k ∙ (elim (dec_lt k i) [
         | yes r ↦ get_or-set_other ws i k false false (omega arith) ∙ inv.below k l
         | no r ↦ elim (dec_lt i k) [
@@ -150,19 +165,31 @@ fields-after {E} eq key hash i n c d ws vs olds news skipped pending next held a
           | no s ↦ let same : k ≡ i = omega arith in ap (waits_at (set ws i false)) same ∙ get_or-set_same ws i false false (up-within ws i up)
         ]
       ]);
-      held_is =
-          let es = flat_map shelf_entries olds in
-          let q : E → Bool = λ e. bucket_number (settings_of c).skipped (bucket_count c) (h e) == i in
-          let both : length (filter q es) + length (filter (λ e. not (q e)) es) ≡ length es = length-filter_both q (λ e. not (q e)) (λ e. refl) es in
-          let left : length (flat_map shelf_entries news) ≡ length (filter (λ e. not (q e)) es) = ap length (flat-after h i n c d ws vs olds news inv.arrays up takes settles) in
-          let moved : n ≡ length (filter q es) = takes.moved in
-          let a = length-flat_map shelf_entries olds in
-          let b = length-flat_map shelf_entries news in
-          omega (arith, inv.held_is);
+      held_is = let l = held-left h i n c d ws vs olds news inv.arrays up takes settles in omega (arith, inv.held_is);
       overflow_is = let l = spilled-le olds news takes.count takes.overflow in omega (arith, inv.overflow_is);
       few = few;
       unique = subst (λ z. IsDistinct eq (map key z)) (sym (entries-after h i n c d ws vs olds news inv.arrays up takes settles)) inv.unique;
     }
+
+-- nothing lies in the old array once its last bucket took its entries over
+pub bare-after : {E S : Type 0} (hash : E → ℕ) (i n : ℕ) (c d : Contents E S) (ws : List Bool) (olds news : List (Shelf E)) → TwoArrays hash c ws olds → waits_at ws i ≡ true → TakesOver hash i n c olds d news → count_by (λ w. w) (set ws i false) ≡ 0 → flat_map shelf_entries news ≡ []
+bare-after hash i n c d ws olds news arrays up takes none = nothing-held hash d [] news refl (arrays-after hash i n c d ws [] olds news arrays up takes (last refl none))
+
+-- of all fields, where no other bucket waits and the old array is given back
+pub fields-last : {E K S : Type 0} (eq : K → K → Bool) (key : E → K) (hash : K → ℕ) (i n : ℕ) (c d : Contents E S) (ws : List Bool) (olds news : List (Shelf E)) (skipped pending next held aside : ℕ)
+    → IsTable eq key hash c ws olds skipped pending next held aside → waits_at ws i ≡ true → TakesOver (λ e. hash (key e)) i n c olds d news → count_by (λ w. w) (set ws i false) ≡ 0 → spilled_of d + aside < 2 ^ 62
+    → IsTable eq key hash d [] [] skipped (pending - 1) next (held - n) 0
+fields-last {E} eq key hash i n c d ws olds news skipped pending next held aside inv up takes none few =
+    let h : E → ℕ = λ e. hash (key e) in
+    let settles : Settles ws i [] = last refl none in
+    let fewer = one-down ws i (up-within ws i up) up in
+    let bare = ap length (bare-after h i n c d ws olds news inv.arrays up takes none) in
+    let l = held-left h i n c d ws [] olds news inv.arrays up takes settles in
+    let count = length-flat_map shelf_entries news in
+    let nothing : held - n ≡ 0 = omega (arith, inv.held_is) in
+    let last_one : pending - 1 ≡ 0 = omega (arith, inv.counted) in
+    let unique = subst (λ z. IsDistinct eq (map key z)) (sym (entries-after h i n c d ws [] olds news inv.arrays up takes settles) ∙ entries-alone h d [] news refl) inv.unique in
+    rw (nothing, last_one) (fields-alone eq key hash d skipped next (inv.skips ∙ ap (λ s. s.skipped) (sym takes.settings)) inv.few_bits (omega arith) unique)
 
 settle-others : (ws : List Bool) (i : ℕ) → 0 < count_by (λ w. w) (set ws i false) → settle ws i ≡ set ws i false
 settle-others ws i some = let z : (count_by (λ w. w) (set ws i false) == 0) ≡ false = not_equal _ _ (omega arith) in rw z

@@ -171,6 +171,7 @@ started-fields {E} eq laws key hash d n olds counted none skipped held over tabl
       few_bits = few_bits;
       counted = sym (count-up n);
       none = λ z. absurd (omega (arith, will.least));
+      given_back = λ z. absurd (omega (arith, will.least));
       below = λ i l. absurd (omega arith);
       held_is = table.counted;
       overflow_is = omega (arith, table.spilled);

@@ -1,5 +1,5 @@
 -- A table of two arrays with one entry taken out.
-use Rattle.std.proofs.Common.{map, get_or, nat_lt, rules, ◌≡◌, ◌==◌, ℕ, zero, suc, ◌+◌, ◌-◌, ◌<◌, ◌≤◌, Bool, true, false, cond, Some, None, List, [], ◌∷◌, ◌++◌, length, take, drop, set, refl, sym, ap, ◌∙◌, subst, arith}
+use Rattle.std.proofs.Common.{map, get_or, nat_lt, rules, ◌≡◌, ◌==◌, ℕ, zero, suc, ◌+◌, ◌-◌, ◌<◌, ◌≤◌, Bool, true, false, cond, Some, None, List, [], ◌∷◌, ◌++◌, length, take, drop, set, refl, sym, ap, ◌∙◌, subst, arith, length-set}
 use Rattle.std.specs.Cmp.{IsEquivalence}
 use Rattle.std.specs.List.{filter, remove, slice_get, sum_by}
 use Rattle.std.specs.List.Sorted.{IsPermutation}
@@ -214,7 +214,7 @@ module _ {E K S : Type 0} {eq : K → K → Bool} (laws : IsEquivalence eq) (key
         let news = set olds j (without_place (shelf_of olds j) p.slot) in
         let u = together h c ws olds in
         let there = old-got laws key hash c ws olds skipped pending next held aside inv p within far e got in
-        old-fields eq key hash c ws olds news skipped pending next held aside (held - 1) aside inv (arrays-less h c ws olds inv.arrays j p.slot e lj got)
+        old-fields eq key hash c ws olds news skipped pending next held aside (held - 1) aside inv (arrays-less h c ws olds inv.arrays j p.slot e lj got) (length-set olds j (without_place (shelf_of olds j) p.slot))
         (let n = held-less h c ws olds inv.arrays j p.slot e lj got in let m = inv.held_is in omega arith)
         (let n = spilled-less h c ws olds inv.arrays j p.slot e lj got in let m = inv.overflow_is in omega arith) inv.few
         (taken-unique u (together h c ws news) (spot_of u p) within old-taken_at laws key e there inv.unique)

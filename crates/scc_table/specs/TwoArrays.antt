@@ -80,13 +80,14 @@ pub record IsRelocated {E S : Type 0} (i : ℕ) (c d : Contents E S) : Type 0 wh
   pub held : held_of d ≡ held_without (waiting_of d) i (held_of c)
   pub pending : pending_of c ≡ pending_of d + 1
 
--- of all fields of a table of two arrays
+-- of all fields of a table of two arrays. Where no bucket waits, there is no old array
 pub record IsTable {E K S : Type 0} (eq : K → K → Bool) (key : E → K) (hash : K → ℕ) (c : Contents E S) (ws : List Bool) (olds : List (Shelf E)) (skipped pending next held held_overflow : ℕ) : Type 0 where
   pub arrays : TwoArrays (λ e. hash (key e)) c ws olds
   pub skips : skipped ≡ (settings_of c).skipped
   pub few_bits : skipped ≤ 4
   pub counted : pending ≡ count_by (λ w. w) ws
   pub none : pending ≡ 0 → ws ≡ []
+  pub given_back : pending ≡ 0 → olds ≡ []
   pub below : (i : ℕ) → i < next → waits_at ws i ≡ false
   pub held_is : held ≡ sum_by (λ b. length (shelf_entries b)) olds
   pub overflow_is : spilled_in olds ≤ held_overflow

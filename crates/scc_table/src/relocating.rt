@@ -1,7 +1,7 @@
 //! How buckets take their entries over from the old array.
 ghost use Rattle.std.specs.Prelude.{◌≡◌, ◌<◌, ◌≤◌, ℕ, [], length, OnOk, OnErr};
 ghost use Rattle.scc_buckets.specs.Bounded.{IsBounded};
-ghost use Rattle.scc_contents.specs.Contents.{held_of, list_of, lists_of, pending_of, refused_of, settings_of, spilled_of, waiting_of};
+ghost use Rattle.scc_contents.specs.Contents.{list_of, lists_of, pending_of, refused_of, settings_of, waiting_of};
 ghost use Rattle.scc_table.specs.Relocates.{AreShort};
 ghost use Rattle.scc_table.specs.TwoArrays.{IsFirstWaiting, IsRelocated, IsWaiting};
 
@@ -26,38 +26,6 @@ where
         ensures refused { OnErr result (32 < length (list_of self.old bucket)) }
         ensures bounded { IsBounded self.old → length (list_of self.old bucket) ≤ 32 → IsBounded self.new }
     {
-        self.take_over(bucket)?;
-        if self.pending == 0 {
-            self.give_back();
-        }
-        Ok(())
-    }
-
-    /// Gives the old array back, in which nothing lies.
-    fn give_back(&mut self)
-        requires { pending_of self.old ≡ 0 }
-        ensures lists { lists_of self.new ≡ lists_of self.old }
-        ensures settings { settings_of self.new ≡ settings_of self.old }
-        ensures noted { refused_of self.new ≡ refused_of self.old }
-        ensures spilled { spilled_of self.new ≡ spilled_of self.old }
-        ensures waiting { waiting_of self.new ≡ waiting_of self.old }
-        ensures held { held_of self.new ≡ held_of self.old }
-        ensures pending { pending_of self.new ≡ pending_of self.old }
-    {
-        let none = Array::none(self.current.allocator());
-        let bare = std::mem::replace(&mut self.draining, none);
-        bare.destroy_empty();
-        self.held_overflow = 0;
-    }
-
-    /// The same as `relocate`, but for the memory of the old array.
-    fn take_over(&mut self, bucket: usize) -> Result<(), AllocError>
-        requires { IsWaiting self.old bucket }
-        ensures ok { OnOk result (IsRelocated bucket self.old self.new) }
-        ensures err { OnErr result (self.new ≡ self.old) }
-        ensures refused { OnErr result (32 < length (list_of self.old bucket)) }
-        ensures bounded { IsBounded self.old → length (list_of self.old bucket) ≤ 32 → IsBounded self.new }
-    {
         let aside = self.held_overflow;
         match take(
             &mut self.current,
@@ -73,6 +41,10 @@ where
                 self.waiting[bucket] = false;
                 if self.pending == 0 {
                     self.waiting.clear();
+                    let none = Array::none(self.current.allocator());
+                    let bare = std::mem::replace(&mut self.draining, none);
+                    bare.destroy_empty();
+                    self.held_overflow = 0;
                 }
                 Ok(())
             }

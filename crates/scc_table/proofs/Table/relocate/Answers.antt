@@ -1,26 +1,403 @@
-use Rattle.std.proofs.Common.{◌∙◌, sym, ap, arith}
-use Rattle.scc_contents.specs.Contents.{held_of}
-use Rattle.scc_table.specs.TwoArrays.{held_without}
-use Rattle.scc_table.proofs.Viewed.{pending-seen}
+use Rattle.std.proofs.Common.{◌≡◌, ◌∙◌, ℕ, ◌+◌, ◌-◌, ◌<◌, true, false, [], length, set, refl, sym, ap, subst, arith, rules}
+use Rattle.std.specs.List.{count_by, flat_map}
+use Rattle.std.proofs.lemmas.List.Concat.{length-flat_map}
+use Rattle.scc_array.specs.Shelf.{shelf_entries}
+use Rattle.scc_contents.specs.Contents.{bucket_count, key_hash, list_of, settings_of, spilled_of, waiting_of}
+use Rattle.scc_buckets.specs.Tables.{spilled_in}
+use Rattle.scc_contents.specs.Hashing.{hash_of}
+use Rattle.scc_table.specs.TwoArrays.{waits_at, together, IsTable, IsRelocated}
+use Rattle.scc_table.proofs.Joining.{waiting-together}
+use Rattle.scc_table.proofs.Preparing.{unique-before, waiting-list, long-flags, multiple-flags, sized-flags}
+use Rattle.scc_draining.proofs.Counted.{bound-le}
+use Rattle.scc_buckets.proofs.Bare.{all-bare}
+use Rattle.scc_table.proofs.Alone.{bare-together, spilled-alone, spilled-together}
+use Rattle.scc_table.proofs.Relocated.{others, last, bare-after, fields-after, fields-last, relocated-after, spilled-le}
+use Rattle.scc_table.proofs.RelocatingLemmas.{up-within, one-down}
+use Rattle.scc_table.proofs.Viewed.{spilled-seen}
 use Rattle.scc_table.proofs.Table.relocate.Goals as goal
 
-pub give_back-requires : goal.give_back-requires
-give_back-requires g c =
+pub take-requires-clause-target : goal.take-requires-clause-target
+take-requires-clause-target g c =
     let t = c.self.inside in
-    pending-seen _ t.current t.waiting.items t.draining c.take_over.new.self c.self.view_is ∙ sym c.self.invariant.counted ∙ c.if-self-eq0.true
+    let cur = t.current in
+    let ws = t.waiting.items in
+    let olds = t.draining in
+    let i = c.args.bucket in
+    let inv = c.self.invariant in
+    let hk = key_hash g.H.BuildHasher g.H.Hasher.Hasher g.E.Key.Hash.hash_input cur in
+    let hash = λ (e : g.row.E.Denot). hk (g.E.Keyed.key_of e) in
+    let flags : waiting_of c.args.self.now ≡ ws = ap waiting_of (sym c.self.view_is) ∙ waiting-together hash cur ws olds in
+    let up : waits_at ws i ≡ true = ap (λ w. waits_at w i) (sym flags) ∙ c.requires in
+    let l = up-within ws i up in
+    let long = long-flags cur ws i inv.arrays.flags up in
+    let within : i < bucket_count cur = omega (arith, l, long) in
+    within
+
+pub take-requires-clause-bare : goal.take-requires-clause-bare
+take-requires-clause-bare g c =
+    let t = c.self.inside in
+    let cur = t.current in
+    let ws = t.waiting.items in
+    let olds = t.draining in
+    let i = c.args.bucket in
+    let inv = c.self.invariant in
+    let hk = key_hash g.H.BuildHasher g.H.Hasher.Hasher g.E.Key.Hash.hash_input cur in
+    let hash = λ (e : g.row.E.Denot). hk (g.E.Keyed.key_of e) in
+    let flags : waiting_of c.args.self.now ≡ ws = ap waiting_of (sym c.self.view_is) ∙ waiting-together hash cur ws olds in
+    let up : waits_at ws i ≡ true = ap (λ w. waits_at w i) (sym flags) ∙ c.requires in
+    let l = up-within ws i up in
+    let long = long-flags cur ws i inv.arrays.flags up in
+    let within : i < bucket_count cur = omega (arith, l, long) in
+    inv.arrays.bare i up
+
+pub take-requires-clause-sized : goal.take-requires-clause-sized
+take-requires-clause-sized g c =
+    let t = c.self.inside in
+    let cur = t.current in
+    let ws = t.waiting.items in
+    let olds = t.draining in
+    let i = c.args.bucket in
+    let inv = c.self.invariant in
+    let hk = key_hash g.H.BuildHasher g.H.Hasher.Hasher g.E.Key.Hash.hash_input cur in
+    let hash = λ (e : g.row.E.Denot). hk (g.E.Keyed.key_of e) in
+    let flags : waiting_of c.args.self.now ≡ ws = ap waiting_of (sym c.self.view_is) ∙ waiting-together hash cur ws olds in
+    let up : waits_at ws i ≡ true = ap (λ w. waits_at w i) (sym flags) ∙ c.requires in
+    sized-flags cur ws olds i inv.arrays.sized up
+
+pub take-requires-clause-multiples : goal.take-requires-clause-multiples
+take-requires-clause-multiples g c =
+    let t = c.self.inside in
+    let cur = t.current in
+    let ws = t.waiting.items in
+    let olds = t.draining in
+    let i = c.args.bucket in
+    let inv = c.self.invariant in
+    let hk = key_hash g.H.BuildHasher g.H.Hasher.Hasher g.E.Key.Hash.hash_input cur in
+    let hash = λ (e : g.row.E.Denot). hk (g.E.Keyed.key_of e) in
+    let flags : waiting_of c.args.self.now ≡ ws = ap waiting_of (sym c.self.view_is) ∙ waiting-together hash cur ws olds in
+    let up : waits_at ws i ≡ true = ap (λ w. waits_at w i) (sym flags) ∙ c.requires in
+    multiple-flags cur ws olds i inv.arrays.multiples up
+
+pub take-requires-clause-own : goal.take-requires-clause-own
+take-requires-clause-own g c =
+    let t = c.self.inside in
+    let cur = t.current in
+    let ws = t.waiting.items in
+    let olds = t.draining in
+    let i = c.args.bucket in
+    let inv = c.self.invariant in
+    let hk = key_hash g.H.BuildHasher g.H.Hasher.Hasher g.E.Key.Hash.hash_input cur in
+    let hash = λ (e : g.row.E.Denot). hk (g.E.Keyed.key_of e) in
+    let flags : waiting_of c.args.self.now ≡ ws = ap waiting_of (sym c.self.view_is) ∙ waiting-together hash cur ws olds in
+    let up : waits_at ws i ≡ true = ap (λ w. waits_at w i) (sym flags) ∙ c.requires in
+    let l = up-within ws i up in
+    let long = long-flags cur ws i inv.arrays.flags up in
+    let within : i < bucket_count cur = omega (arith, l, long) in
+    rw inv.skips inv.arrays.own
+
+pub take-requires-clause-unique : goal.take-requires-clause-unique
+take-requires-clause-unique g c =
+    let t = c.self.inside in
+    let cur = t.current in
+    let ws = t.waiting.items in
+    let olds = t.draining in
+    let i = c.args.bucket in
+    let inv = c.self.invariant in
+    let hk = key_hash g.H.BuildHasher g.H.Hasher.Hasher g.E.Key.Hash.hash_input cur in
+    let hash = λ (e : g.row.E.Denot). hk (g.E.Keyed.key_of e) in
+    let flags : waiting_of c.args.self.now ≡ ws = ap waiting_of (sym c.self.view_is) ∙ waiting-together hash cur ws olds in
+    let up : waits_at ws i ≡ true = ap (λ w. waits_at w i) (sym flags) ∙ c.requires in
+    let l = up-within ws i up in
+    let long = long-flags cur ws i inv.arrays.flags up in
+    let within : i < bucket_count cur = omega (arith, l, long) in
+    rw inv.skips (unique-before hash cur ws olds inv.arrays i up long g.E.Key.PartialEq.eq g.E.Keyed.key_of inv.unique)
+
+pub invariant_of-self-in-Err : goal.invariant_of-self-in-Err
+invariant_of-self-in-Err g c =
+    let t = c.self.inside in
+    let cur = t.current in
+    let ws = t.waiting.items in
+    let olds = t.draining in
+    let i = c.args.bucket in
+    let inv = c.self.invariant in
+    let hk = key_hash g.H.BuildHasher g.H.Hasher.Hasher g.E.Key.Hash.hash_input cur in
+    let hash = λ (e : g.row.E.Denot). hk (g.E.Keyed.key_of e) in
+    let flags : waiting_of c.args.self.now ≡ ws = ap waiting_of (sym c.self.view_is) ∙ waiting-together hash cur ws olds in
+    let up : waits_at ws i ≡ true = ap (λ w. waits_at w i) (sym flags) ∙ c.requires in
+    let l = up-within ws i up in
+    let long = long-flags cur ws i inv.arrays.flags up in
+    let within : i < bucket_count cur = omega (arith, l, long) in
+    rw (c.in-Err.ensures.err, c.in-Err.ensures.stays) inv
+
+pub overflow_sub-self : goal.overflow_sub-self
+overflow_sub-self g c =
+    let t = c.self.inside in
+    let cur = t.current in
+    let ws = t.waiting.items in
+    let olds = t.draining in
+    let i = c.args.bucket in
+    let inv = c.self.invariant in
+    let hk = key_hash g.H.BuildHasher g.H.Hasher.Hasher g.E.Key.Hash.hash_input cur in
+    let hash = λ (e : g.row.E.Denot). hk (g.E.Keyed.key_of e) in
+    let flags : waiting_of c.args.self.now ≡ ws = ap waiting_of (sym c.self.view_is) ∙ waiting-together hash cur ws olds in
+    let up : waits_at ws i ≡ true = ap (λ w. waits_at w i) (sym flags) ∙ c.requires in
+    let l = up-within ws i up in
+    let long = long-flags cur ws i inv.arrays.flags up in
+    let within : i < bucket_count cur = omega (arith, l, long) in
+    let takes = c.in-Ok.ensures.ok in
+    let le = bound-le hash (settings_of cur).skipped (bucket_count cur) i (flat_map shelf_entries olds) in
+    let all = inv.held_is ∙ sym (length-flat_map shelf_entries olds) in
+    omega (arith, takes.moved, le, all)
+
+pub overflow_sub-self-in-Ok : goal.overflow_sub-self-in-Ok
+overflow_sub-self-in-Ok g c =
+    let t = c.self.inside in
+    let cur = t.current in
+    let ws = t.waiting.items in
+    let olds = t.draining in
+    let i = c.args.bucket in
+    let inv = c.self.invariant in
+    let hk = key_hash g.H.BuildHasher g.H.Hasher.Hasher g.E.Key.Hash.hash_input cur in
+    let hash = λ (e : g.row.E.Denot). hk (g.E.Keyed.key_of e) in
+    let flags : waiting_of c.args.self.now ≡ ws = ap waiting_of (sym c.self.view_is) ∙ waiting-together hash cur ws olds in
+    let up : waits_at ws i ≡ true = ap (λ w. waits_at w i) (sym flags) ∙ c.requires in
+    let l = up-within ws i up in
+    let long = long-flags cur ws i inv.arrays.flags up in
+    let within : i < bucket_count cur = omega (arith, l, long) in
+    let fewer = one-down ws i l up in
+    omega (arith, inv.counted, fewer)
+
+pub index_mut-requires : goal.index_mut-requires
+index_mut-requires g c =
+    let t = c.self.inside in
+    let cur = t.current in
+    let ws = t.waiting.items in
+    let olds = t.draining in
+    let i = c.args.bucket in
+    let inv = c.self.invariant in
+    let hk = key_hash g.H.BuildHasher g.H.Hasher.Hasher g.E.Key.Hash.hash_input cur in
+    let hash = λ (e : g.row.E.Denot). hk (g.E.Keyed.key_of e) in
+    let flags : waiting_of c.args.self.now ≡ ws = ap waiting_of (sym c.self.view_is) ∙ waiting-together hash cur ws olds in
+    let up : waits_at ws i ≡ true = ap (λ w. waits_at w i) (sym flags) ∙ c.requires in
+    let l = up-within ws i up in
+    let long = long-flags cur ws i inv.arrays.flags up in
+    let within : i < bucket_count cur = omega (arith, l, long) in
+    search rules
+
+pub destroy_empty-requires : goal.destroy_empty-requires
+destroy_empty-requires g c =
+    let t = c.self.inside in
+    let cur = t.current in
+    let ws = t.waiting.items in
+    let olds = t.draining in
+    let i = c.args.bucket in
+    let inv = c.self.invariant in
+    let hk = key_hash g.H.BuildHasher g.H.Hasher.Hasher g.E.Key.Hash.hash_input cur in
+    let hash = λ (e : g.row.E.Denot). hk (g.E.Keyed.key_of e) in
+    let flags : waiting_of c.args.self.now ≡ ws = ap waiting_of (sym c.self.view_is) ∙ waiting-together hash cur ws olds in
+    let up : waits_at ws i ≡ true = ap (λ w. waits_at w i) (sym flags) ∙ c.requires in
+    let l = up-within ws i up in
+    let takes = c.in-Ok.ensures.ok in
+    let fewer = one-down ws i l up in
+    let none : count_by (λ w. w) (set ws i false) ≡ 0 = omega (arith, fewer, inv.counted, c.if-self-eq0.true) in
+    let bare = bare-after hash i c.in-Ok.moved cur c.take.new.current ws olds c.take.new.old inv.arrays up takes none in
+    λ j q. rw c.replace-bare.ensures.value (all-bare c.take.new.old bare j)
+
+pub invariant_of-self : goal.invariant_of-self
+invariant_of-self g c =
+    let t = c.self.inside in
+    let cur = t.current in
+    let ws = t.waiting.items in
+    let olds = t.draining in
+    let i = c.args.bucket in
+    let inv = c.self.invariant in
+    let hk = key_hash g.H.BuildHasher g.H.Hasher.Hasher g.E.Key.Hash.hash_input cur in
+    let hash = λ (e : g.row.E.Denot). hk (g.E.Keyed.key_of e) in
+    let flags : waiting_of c.args.self.now ≡ ws = ap waiting_of (sym c.self.view_is) ∙ waiting-together hash cur ws olds in
+    let up : waits_at ws i ≡ true = ap (λ w. waits_at w i) (sym flags) ∙ c.requires in
+    let l = up-within ws i up in
+    let long = long-flags cur ws i inv.arrays.flags up in
+    let within : i < bucket_count cur = omega (arith, l, long) in
+    let takes = c.in-Ok.ensures.ok in
+    let same = ap (λ s. let h : g.row.E-Key.Denot → ℕ = λ k. hash_of g.H.BuildHasher g.H.Hasher.Hasher s.hasher (g.E.Key.Hash.hash_input k) in h) takes.settings in
+    let fewer = one-down ws i l up in
+    let none : count_by (λ w. w) (set ws i false) ≡ 0 = omega (arith, fewer, inv.counted, c.if-self-eq0.true) in
+    rw (c.clear.ensures.items, c.replace-bare.ensures.after, c.none-none.ensures)
+    (subst (λ (h : g.row.E-Key.Denot → ℕ). IsTable g.E.Key.PartialEq.eq g.E.Keyed.key_of h c.take.new.current [] [] t.skipped (t.pending - 1) t.next (t.held - c.in-Ok.moved) 0) (sym same)
+    (fields-last g.E.Key.PartialEq.eq g.E.Keyed.key_of hk i c.in-Ok.moved cur c.take.new.current ws olds c.take.new.old t.skipped t.pending t.next t.held t.held_overflow inv up takes none c.in-Ok.ensures.few))
+
+pub invariant_of-self-else-self-eq0 : goal.invariant_of-self-else-self-eq0
+invariant_of-self-else-self-eq0 g c =
+    let t = c.self.inside in
+    let cur = t.current in
+    let ws = t.waiting.items in
+    let olds = t.draining in
+    let i = c.args.bucket in
+    let inv = c.self.invariant in
+    let hk = key_hash g.H.BuildHasher g.H.Hasher.Hasher g.E.Key.Hash.hash_input cur in
+    let hash = λ (e : g.row.E.Denot). hk (g.E.Keyed.key_of e) in
+    let flags : waiting_of c.args.self.now ≡ ws = ap waiting_of (sym c.self.view_is) ∙ waiting-together hash cur ws olds in
+    let up : waits_at ws i ≡ true = ap (λ w. waits_at w i) (sym flags) ∙ c.requires in
+    let l = up-within ws i up in
+    let long = long-flags cur ws i inv.arrays.flags up in
+    let within : i < bucket_count cur = omega (arith, l, long) in
+    let takes = c.in-Ok.ensures.ok in
+    let same = ap (λ s. let h : g.row.E-Key.Denot → ℕ = λ k. hash_of g.H.BuildHasher g.H.Hasher.Hasher s.hasher (g.E.Key.Hash.hash_input k) in h) takes.settings in
+    let fewer = one-down ws i l up in
+    let some : 0 < count_by (λ w. w) (set ws i false) = omega (arith, fewer, inv.counted, c.if-self-eq0.false) in
+    subst (λ (h : g.row.E-Key.Denot → ℕ). IsTable g.E.Key.PartialEq.eq g.E.Keyed.key_of h c.take.new.current (set ws i false) c.take.new.old t.skipped (t.pending - 1) t.next (t.held - c.in-Ok.moved) t.held_overflow) (sym same)
+    (fields-after g.E.Key.PartialEq.eq g.E.Keyed.key_of hk i c.in-Ok.moved cur c.take.new.current ws (set ws i false) olds c.take.new.old t.skipped t.pending t.next t.held t.held_overflow inv up takes refl some c.in-Ok.ensures.few)
 
 pub returns-then-self-eq0-clause-ok : goal.returns-then-self-eq0-clause-ok
 returns-then-self-eq0-clause-ok g c =
-    let moved = c.in_ok-take_over.ensures.ok in
-    let last = c.give_back.ensures in
-    record {
-      lists = last.lists ∙ moved.lists;
-      settings = last.settings ∙ moved.settings;
-      refused = last.noted ∙ moved.refused;
-      waiting = last.waiting ∙ moved.waiting;
-      held = last.held ∙ moved.held ∙ ap (λ v. held_without v c.args.bucket (held_of c.args.self.now)) (sym last.waiting);
-      pending = omega (arith, last.pending, moved.pending);
-    }
+    let t = c.self.inside in
+    let cur = t.current in
+    let ws = t.waiting.items in
+    let olds = t.draining in
+    let i = c.args.bucket in
+    let inv = c.self.invariant in
+    let hk = key_hash g.H.BuildHasher g.H.Hasher.Hasher g.E.Key.Hash.hash_input cur in
+    let hash = λ (e : g.row.E.Denot). hk (g.E.Keyed.key_of e) in
+    let flags : waiting_of c.args.self.now ≡ ws = ap waiting_of (sym c.self.view_is) ∙ waiting-together hash cur ws olds in
+    let up : waits_at ws i ≡ true = ap (λ w. waits_at w i) (sym flags) ∙ c.requires in
+    let l = up-within ws i up in
+    let long = long-flags cur ws i inv.arrays.flags up in
+    let within : i < bucket_count cur = omega (arith, l, long) in
+    let takes = c.in-Ok.ensures.ok in
+    let same = ap (λ s. let h : g.row.E-Key.Denot → ℕ = λ k. hash_of g.H.BuildHasher g.H.Hasher.Hasher s.hasher (g.E.Key.Hash.hash_input k) in h) takes.settings in
+    let fewer = one-down ws i l up in
+    let none : count_by (λ w. w) (set ws i false) ≡ 0 = omega (arith, fewer, inv.counted, c.if-self-eq0.true) in
+    let bare = bare-after hash i c.in-Ok.moved cur c.take.new.current ws olds c.take.new.old inv.arrays up takes none in
+    let there = subst (λ d. IsRelocated i (together hash cur ws olds) d) (bare-together hash c.take.new.current c.take.new.old bare)
+    (relocated-after hash i c.in-Ok.moved cur c.take.new.current ws [] olds c.take.new.old inv.arrays up takes (last refl none)) in
+    let moved = subst (λ (h : g.row.E-Key.Denot → ℕ). IsRelocated i (together hash cur ws olds) (together (λ e. h (g.E.Keyed.key_of e)) c.take.new.current [] [])) (sym same) there in
+    rw (c.clear.ensures.items, c.replace-bare.ensures.after, c.none-none.ensures)
+    (subst (λ z. IsRelocated i z (together (λ e. key_hash g.H.BuildHasher g.H.Hasher.Hasher g.E.Key.Hash.hash_input c.take.new.current (g.E.Keyed.key_of e)) c.take.new.current [] [])) c.self.view_is moved)
+
+pub returns-else-self-eq0-clause-ok : goal.returns-else-self-eq0-clause-ok
+returns-else-self-eq0-clause-ok g c =
+    let t = c.self.inside in
+    let cur = t.current in
+    let ws = t.waiting.items in
+    let olds = t.draining in
+    let i = c.args.bucket in
+    let inv = c.self.invariant in
+    let hk = key_hash g.H.BuildHasher g.H.Hasher.Hasher g.E.Key.Hash.hash_input cur in
+    let hash = λ (e : g.row.E.Denot). hk (g.E.Keyed.key_of e) in
+    let flags : waiting_of c.args.self.now ≡ ws = ap waiting_of (sym c.self.view_is) ∙ waiting-together hash cur ws olds in
+    let up : waits_at ws i ≡ true = ap (λ w. waits_at w i) (sym flags) ∙ c.requires in
+    let l = up-within ws i up in
+    let long = long-flags cur ws i inv.arrays.flags up in
+    let within : i < bucket_count cur = omega (arith, l, long) in
+    let takes = c.in-Ok.ensures.ok in
+    let same = ap (λ s. let h : g.row.E-Key.Denot → ℕ = λ k. hash_of g.H.BuildHasher g.H.Hasher.Hasher s.hasher (g.E.Key.Hash.hash_input k) in h) takes.settings in
+    let fewer = one-down ws i l up in
+    let settles = others refl (omega (arith, fewer, inv.counted, c.if-self-eq0.false)) in
+    let there = relocated-after hash i c.in-Ok.moved cur c.take.new.current ws (set ws i false) olds c.take.new.old inv.arrays up takes settles in
+    let moved = subst (λ (h : g.row.E-Key.Denot → ℕ). IsRelocated i (together hash cur ws olds) (together (λ e. h (g.E.Keyed.key_of e)) c.take.new.current (set ws i false) c.take.new.old)) (sym same) there in
+    subst (λ z. IsRelocated i z (together (λ e. key_hash g.H.BuildHasher g.H.Hasher.Hasher g.E.Key.Hash.hash_input c.take.new.current (g.E.Keyed.key_of e)) c.take.new.current (set ws i false) c.take.new.old)) c.self.view_is moved
+
+pub returns-in-Err-clause-err : goal.returns-in-Err-clause-err
+returns-in-Err-clause-err g c =
+    let t = c.self.inside in
+    let cur = t.current in
+    let ws = t.waiting.items in
+    let olds = t.draining in
+    let i = c.args.bucket in
+    let inv = c.self.invariant in
+    let hk = key_hash g.H.BuildHasher g.H.Hasher.Hasher g.E.Key.Hash.hash_input cur in
+    let hash = λ (e : g.row.E.Denot). hk (g.E.Keyed.key_of e) in
+    let flags : waiting_of c.args.self.now ≡ ws = ap waiting_of (sym c.self.view_is) ∙ waiting-together hash cur ws olds in
+    let up : waits_at ws i ≡ true = ap (λ w. waits_at w i) (sym flags) ∙ c.requires in
+    let l = up-within ws i up in
+    let long = long-flags cur ws i inv.arrays.flags up in
+    let within : i < bucket_count cur = omega (arith, l, long) in
+    rw (c.in-Err.ensures.err, c.in-Err.ensures.stays) c.self.view_is
+
+pub returns-in-Err-clause-refused : goal.returns-in-Err-clause-refused
+returns-in-Err-clause-refused g c =
+    let t = c.self.inside in
+    let cur = t.current in
+    let ws = t.waiting.items in
+    let olds = t.draining in
+    let i = c.args.bucket in
+    let inv = c.self.invariant in
+    let hk = key_hash g.H.BuildHasher g.H.Hasher.Hasher g.E.Key.Hash.hash_input cur in
+    let hash = λ (e : g.row.E.Denot). hk (g.E.Keyed.key_of e) in
+    let flags : waiting_of c.args.self.now ≡ ws = ap waiting_of (sym c.self.view_is) ∙ waiting-together hash cur ws olds in
+    let up : waits_at ws i ≡ true = ap (λ w. waits_at w i) (sym flags) ∙ c.requires in
+    let l = up-within ws i up in
+    let long = long-flags cur ws i inv.arrays.flags up in
+    let within : i < bucket_count cur = omega (arith, l, long) in
+    let list = ap (λ z. list_of z i) (sym c.self.view_is) ∙ waiting-list hash cur ws olds inv.arrays i up long in
+    let coming = rw inv.skips at c.in-Err.ensures.refused in
+    let same = ap length list in
+    omega arith
 
 pub returns-then-self-eq0-clause-bounded : goal.returns-then-self-eq0-clause-bounded
-returns-then-self-eq0-clause-bounded g c = λ none few. c.give_back.ensures.spilled ∙ c.take_over.ensures.bounded none few
+returns-then-self-eq0-clause-bounded g c =
+    let t = c.self.inside in
+    let cur = t.current in
+    let ws = t.waiting.items in
+    let olds = t.draining in
+    let i = c.args.bucket in
+    let inv = c.self.invariant in
+    let hk = key_hash g.H.BuildHasher g.H.Hasher.Hasher g.E.Key.Hash.hash_input cur in
+    let hash = λ (e : g.row.E.Denot). hk (g.E.Keyed.key_of e) in
+    let flags : waiting_of c.args.self.now ≡ ws = ap waiting_of (sym c.self.view_is) ∙ waiting-together hash cur ws olds in
+    let up : waits_at ws i ≡ true = ap (λ w. waits_at w i) (sym flags) ∙ c.requires in
+    let long = long-flags cur ws i inv.arrays.flags up in
+    let list = ap (λ z. list_of z i) (sym c.self.view_is) ∙ waiting-list hash cur ws olds inv.arrays i up long in
+    let same = ap length list in
+    let short = rw inv.skips at c.in-Ok.ensures.short in
+    let was = spilled-seen hash cur ws olds c.args.self.now c.self.view_is in
+    let takes = c.in-Ok.ensures.ok in
+    λ none few.
+    let less = short (omega (arith, same, few)) in
+    let zero : spilled_of c.take.new.current ≡ 0 = omega (arith, was, less, none) in
+    rw (c.clear.ensures.items, c.replace-bare.ensures.after, c.none-none.ensures) (spilled-alone (λ e. key_hash g.H.BuildHasher g.H.Hasher.Hasher g.E.Key.Hash.hash_input c.take.new.current (g.E.Keyed.key_of e)) c.take.new.current [] ∙ zero)
+
+pub returns-else-self-eq0-clause-bounded : goal.returns-else-self-eq0-clause-bounded
+returns-else-self-eq0-clause-bounded g c =
+    let t = c.self.inside in
+    let cur = t.current in
+    let ws = t.waiting.items in
+    let olds = t.draining in
+    let i = c.args.bucket in
+    let inv = c.self.invariant in
+    let hk = key_hash g.H.BuildHasher g.H.Hasher.Hasher g.E.Key.Hash.hash_input cur in
+    let hash = λ (e : g.row.E.Denot). hk (g.E.Keyed.key_of e) in
+    let flags : waiting_of c.args.self.now ≡ ws = ap waiting_of (sym c.self.view_is) ∙ waiting-together hash cur ws olds in
+    let up : waits_at ws i ≡ true = ap (λ w. waits_at w i) (sym flags) ∙ c.requires in
+    let long = long-flags cur ws i inv.arrays.flags up in
+    let list = ap (λ z. list_of z i) (sym c.self.view_is) ∙ waiting-list hash cur ws olds inv.arrays i up long in
+    let same = ap length list in
+    let short = rw inv.skips at c.in-Ok.ensures.short in
+    let was = spilled-seen hash cur ws olds c.args.self.now c.self.view_is in
+    let takes = c.in-Ok.ensures.ok in
+    let held = spilled-le olds c.take.new.old takes.count takes.overflow in
+    λ none few.
+    let less = short (omega (arith, same, few)) in
+    let zero : spilled_of c.take.new.current + spilled_in c.take.new.old ≡ 0 = omega (arith, was, less, held, none) in
+    spilled-together (λ e. key_hash g.H.BuildHasher g.H.Hasher.Hasher g.E.Key.Hash.hash_input c.take.new.current (g.E.Keyed.key_of e)) c.take.new.current (set ws i false) c.take.new.old ∙ zero
+
+pub returns-in-Err-clause-bounded : goal.returns-in-Err-clause-bounded
+returns-in-Err-clause-bounded g c =
+    let t = c.self.inside in
+    let same : together (λ e. key_hash g.H.BuildHasher g.H.Hasher.Hasher g.E.Key.Hash.hash_input c.take.new.current (g.E.Keyed.key_of e)) c.take.new.current t.waiting.items c.take.new.old ≡ c.args.self.now = rw (c.in-Err.ensures.err, c.in-Err.ensures.stays) c.self.view_is in
+    λ none few. ap spilled_of same ∙ none
+
+pub take-requires-clause-flags : goal.take-requires-clause-flags
+take-requires-clause-flags g c =
+    let t = c.self.inside in
+    let cur = t.current in
+    let ws = t.waiting.items in
+    let olds = t.draining in
+    let i = c.args.bucket in
+    let inv = c.self.invariant in
+    let hk = key_hash g.H.BuildHasher g.H.Hasher.Hasher g.E.Key.Hash.hash_input cur in
+    let hash = λ (e : g.row.E.Denot). hk (g.E.Keyed.key_of e) in
+    let flags : waiting_of c.args.self.now ≡ ws = ap waiting_of (sym c.self.view_is) ∙ waiting-together hash cur ws olds in
+    let up : waits_at ws i ≡ true = ap (λ w. waits_at w i) (sym flags) ∙ c.requires in
+    let long : length ws ≡ bucket_count cur = long-flags cur ws i inv.arrays.flags up in
+    search rules

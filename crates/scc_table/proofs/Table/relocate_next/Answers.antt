@@ -15,6 +15,7 @@ invariant_of-self g c =
       few_bits = inv.few_bits;
       counted = inv.counted;
       none = inv.none;
+      given_back = inv.given_back;
       below = λ j l. ap (λ ws. waits_at ws j) (sym flags) ∙ c.first_waiting-bucket.ensures.below j l;
       held_is = inv.held_is;
       overflow_is = inv.overflow_is;
