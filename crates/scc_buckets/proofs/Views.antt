@@ -2,7 +2,7 @@
 use Rattle.std.proofs.Common.{◌≡◌, ℕ, ◌<◌, Bool, List, [], ◌∷◌, ◌++◌, length, map, get_or, refl, sym, ap, ◌∙◌}
 use Rattle.std.specs.List.{flat_map}
 use Rattle.std.proofs.lemmas.List.{get_or-map, length-map}
-use Rattle.scc_contents.specs.Contents.{Contents, Settings, entries, bucket_count, settings_of, refused_of, list_of, lists_of, spilled_of, waiting_of, held_of}
+use Rattle.scc_contents.specs.Contents.{Contents, Settings, entries, bucket_count, settings_of, refused_of, list_of, lists_of, spilled_of, waiting_of, owed_of}
 use Rattle.scc_buckets.specs.Tables.{spilled_in}
 use Rattle.scc_array.specs.Shelf.{Shelf, shelf_entries}
 
@@ -12,7 +12,7 @@ flat_lists (b ∷ bs) = ap (λ z. shelf_entries b ++ z) (flat_lists bs)
 
 -- what a clause sees of this flag, these buckets and settings
 abbrev pub view_of : {E S : Type 0} → Bool × Bool → List (Shelf E) → Settings S → Contents E S
-view_of f bs s = record { lists = map shelf_entries bs; settings = s; refused = f; spilled = spilled_in bs; waiting = []; held = [] }
+view_of f bs s = record { lists = map shelf_entries bs; settings = s; refused = f; spilled = spilled_in bs; waiting = []; owed = [] }
 
 module _ {E S : Type 0} (bs : List (Shelf E)) (s : Settings S) {f : Bool × Bool} (c : Contents E S) (view : view_of f bs s ≡ c) where
   pub entries-view : entries c ≡ flat_map shelf_entries bs
@@ -48,6 +48,6 @@ module _ {E S : Type 0} (bs : List (Shelf E)) (s : Settings S) {f : Bool × Bool
   unfolding waiting_of
   waiting-view = ap (λ (x : Contents E S). x.waiting) (sym view)
 
-  pub held-view : held_of c ≡ []
-  unfolding held_of
-  held-view = ap (λ (x : Contents E S). x.held) (sym view)
+  pub owed-view : owed_of c ≡ []
+  unfolding owed_of
+  owed-view = ap (λ (x : Contents E S). x.owed) (sym view)

@@ -140,10 +140,10 @@ module _ {E S X : Type 0} (put : E → X → E) (hash : E → ℕ) (t n o : ℕ)
       let sums = sum_by-set f bs p.bucket (shelf_write_at put b p.slot w) b l in
       let e : f (get_or bs p.bucket b) ≡ f b = ap f (sym at) in
       omega (arith, over) in
-      ap (λ n. let r : Contents E S = record { lists = map shelf_entries (set bs p.bucket (shelf_write_at put b p.slot w)); settings = s; refused = f; spilled = n; waiting = []; held = [] } in r) spill
-      ∙ ap (λ z. let r : Contents E S = record { lists = z; settings = s; refused = f; spilled = spilled_in bs; waiting = []; held = [] } in r)
+      ap (λ n. let r : Contents E S = record { lists = map shelf_entries (set bs p.bucket (shelf_write_at put b p.slot w)); settings = s; refused = f; spilled = n; waiting = []; owed = [] } in r) spill
+      ∙ ap (λ z. let r : Contents E S = record { lists = z; settings = s; refused = f; spilled = spilled_in bs; waiting = []; owed = [] } in r)
       (map-set shelf_entries bs p.bucket (shelf_write_at put b p.slot w) ∙ ap (set (map shelf_entries bs) p.bucket) (entries_write put b p.slot w ∙ ap (λ z. write_at put z p.slot w) (sym here)))
-      ∙ ap (λ (x : Contents E S). let r : Contents E S = record { lists = set x.lists p.bucket (write_at put (get_or x.lists p.bucket []) p.slot w); settings = x.settings; refused = x.refused; spilled = x.spilled; waiting = x.waiting; held = x.held } in r) view
+      ∙ ap (λ (x : Contents E S). let r : Contents E S = record { lists = set x.lists p.bucket (write_at put (get_or x.lists p.bucket []) p.slot w); settings = x.settings; refused = x.refused; spilled = x.spilled; waiting = x.waiting; owed = x.owed } in r) view
 
   pub written-unique : IsSpot c p → slice_get (list_of c p.bucket) p.slot ≡ Some e → {K : Type 0} {eq : K → K → Bool} (laws : IsEquivalence eq) (key : E → K) → eq (key (put e w)) (key e) ≡ true → IsDistinct eq (map key (flat_map shelf_entries bs))
       → IsDistinct eq (map key (flat_map shelf_entries (set bs p.bucket (shelf_write_at put b p.slot w))))

@@ -6,7 +6,7 @@ use Rattle.std.specs.Option.{option_map}
 use native.Mathlib.Decide.{dec_lt}
 use lib.Pow.{pow_mono, pow-add}
 use Rattle.scc_buckets.specs.Bounded.{HasList, IsUnlisted, PutsLast, IsListed, ShrinksBounded, stays_wide, denied_narrow, narrows}
-use Rattle.scc_contents.specs.Contents.{Contents, entries, bucket_count, settings_of, refused_of, minimum_of, list_of, lists_of, waiting_of, held_of}
+use Rattle.scc_contents.specs.Contents.{Contents, entries, bucket_count, settings_of, refused_of, minimum_of, list_of, lists_of, waiting_of, owed_of}
 use Rattle.scc_contents.specs.Pairs.{IsUnique}
 use Rattle.scc_buckets.proofs.Bounds.{absent-rest, has-list-of, keeps-count}
 use Rattle.scc_buckets.proofs.FindingLemmas.{position_hit, position_cons}
@@ -226,7 +226,7 @@ put-place c d i e (Some x) h l = last-place c d i _ e h.1.2 l
 -- a place in a list of a bucket that doesn't wait is its own spot
 pub at-spot : {E S : Type 0} (d : Contents E S) (p : Place) (e : E) → spots.IsSpot d p × (slice_get (list_of d p.bucket) p.slot ≡ Some e) → waits_at (waiting_of d) p.bucket ≡ false
     → IsPlace d p × (slice_get (list_of d (spot_of d p).bucket) (spot_of d p).slot ≡ Some e)
-at-spot d p e h down = subst (λ (q : Place). spots.IsSpot d q × (slice_get (list_of d q.bucket) q.slot ≡ Some e)) (sym (spot-own (waiting_of d) (held_of d) (bucket_count d) p h.0.bucket down)) h
+at-spot d p e h down = subst (λ (q : Place). spots.IsSpot d q × (slice_get (list_of d q.bucket) q.slot ≡ Some e)) (sym (spot-own (waiting_of d) (owed_of d) (bucket_count d) p h.0.bucket down)) h
 
 -- one list changed, seen in the lists
 pub lists-set : {E S : Type 0} (c d : Contents E S) (i : ℕ) (F : List E → List E) → HasList c i (F (list_of c i)) d → lists_of d ≡ slice_set (lists_of c) i (F (slice_index_or (lists_of c) i []))

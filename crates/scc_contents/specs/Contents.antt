@@ -22,14 +22,14 @@ pub record Contents (E S : Type 0) : Type 0 where
   pub refused : Bool × Bool
   pub spilled : ℕ
   pub waiting : List Bool
-  pub held : List (List ℕ)
+  pub owed : List (List ℕ)
 
 -- contents as the logic holds them
 abbrev pub contents_code : {E S : Type 0} → Coded E → Coded S → Coded (Contents E S)
 contents_code {E} {S} e s =
     code_by (List (List E) × (S × (ℕ × (ℕ × (ℕ × ((Bool × Bool) × (ℕ × (List Bool × List (List ℕ))))))))) (coded× (coded_list (coded_list e)) (coded× s (coded× coded_ℕ (coded× coded_ℕ (coded× coded_ℕ (coded× (coded× coded_bool coded_bool) (coded× coded_ℕ (coded× (coded_list coded_bool) (coded_list (coded_list coded_ℕ))))))))))
-    (λ c. (c.lists, (c.settings.hasher, (c.settings.skipped, (c.settings.asked, (c.settings.reserved, (c.refused, (c.spilled, (c.waiting, c.held)))))))))
-    (λ p. record { lists = p.0; settings = record { hasher = p.1.0; skipped = p.1.1.0; asked = p.1.1.1.0; reserved = p.1.1.1.1.0 }; refused = p.1.1.1.1.1.0; spilled = p.1.1.1.1.1.1.0; waiting = p.1.1.1.1.1.1.1.0; held = p.1.1.1.1.1.1.1.1 })
+    (λ c. (c.lists, (c.settings.hasher, (c.settings.skipped, (c.settings.asked, (c.settings.reserved, (c.refused, (c.spilled, (c.waiting, c.owed)))))))))
+    (λ p. record { lists = p.0; settings = record { hasher = p.1.0; skipped = p.1.1.0; asked = p.1.1.1.0; reserved = p.1.1.1.1.0 }; refused = p.1.1.1.1.1.0; spilled = p.1.1.1.1.1.1.0; waiting = p.1.1.1.1.1.1.1.0; owed = p.1.1.1.1.1.1.1.1 })
     (λ _. refl)
 
 module _ {E S : Type 0} where
@@ -66,8 +66,8 @@ module _ {E S : Type 0} where
   waiting_of c = c.waiting
 
   -- of each bucket of the old array the buckets that its entries belong to, in their order; empty where there is none
-  unfoldable pub held_of : Contents E S → List (List ℕ)
-  held_of c = c.held
+  unfoldable pub owed_of : Contents E S → List (List ℕ)
+  owed_of c = c.owed
 
   -- how many buckets still have their entries in an old array
   unfoldable pub pending_of : Contents E S → ℕ

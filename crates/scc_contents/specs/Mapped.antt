@@ -5,4 +5,4 @@ use Rattle.scc_contents.specs.Contents.{Contents}
 module _ {E F S : Type 0} where
   -- the contents with f of each entry in its place
   unfoldable pub mapped : (E → F) → Contents E S → Contents F S
-  mapped f c = record { lists = map (λ l. map f l) c.lists; settings = c.settings; refused = c.refused; spilled = c.spilled; waiting = c.waiting; held = c.held }
+  mapped f c = record { lists = map (λ l. map f l) c.lists; settings = c.settings; refused = c.refused; spilled = c.spilled; waiting = c.waiting; owed = c.owed }

@@ -5,11 +5,11 @@ use Rattle.std.proofs.lemmas.List.Sums.{sum_by-cons}
 use Rattle.scc_array.specs.Shelves.{shelf_of}
 use Rattle.scc_array.specs.Shelf.{Shelf, shelf_entries}
 use Rattle.scc_buckets.proofs.Bare.{nil-left}
-use Rattle.scc_contents.specs.Contents.{Contents, entries, bucket_count, lists_of, settings_of, refused_of, spilled_of, held_of}
+use Rattle.scc_contents.specs.Contents.{Contents, entries, bucket_count, lists_of, settings_of, refused_of, spilled_of, owed_of}
 use Rattle.scc_buckets.specs.Pour.{bound_for}
 use Rattle.scc_contents.specs.Routing.{bucket_number}
 use Rattle.scc_buckets.specs.Tables.{spilled_in}
-use Rattle.scc_table.specs.TwoArrays.{held_in, target_by, together, TwoArrays, IsTable}
+use Rattle.scc_table.specs.TwoArrays.{owed_in, target_by, together, TwoArrays, IsTable}
 
 equal : (a b : ℕ) → a ≡ b → (a == b) ≡ true
 equal a b h = search rules
@@ -24,8 +24,8 @@ bound-nowhere hash t n (e ∷ es) h =
 
 module _ {E S : Type 0} (hash : E → ℕ) (c : Contents E S) (ws : List Bool) (olds : List (Shelf E)) (none : ws ≡ []) where
   -- nothing lies in the old array
-  pub nothing-held : TwoArrays hash c ws olds → flat_map shelf_entries olds ≡ []
-  nothing-held arrays =
+  pub nothing-owed : TwoArrays hash c ws olds → flat_map shelf_entries olds ≡ []
+  nothing-owed arrays =
       let there : TwoArrays hash c [] olds = subst (λ w. TwoArrays hash c w olds) none arrays in
       bound-nowhere hash (settings_of c).skipped (bucket_count c) (flat_map shelf_entries olds) (λ i. there.settled i refl)
 
@@ -41,9 +41,9 @@ module _ {E S : Type 0} (hash : E → ℕ) (c : Contents E S) (ws : List Bool) (
   unfolding bucket_count lists_of
   count-alone = ap (λ w. bucket_count (together hash c w olds)) none
 
-  pub held-alone : held_of (together hash c ws olds) ≡ []
-  unfolding held_of
-  held-alone = ap (λ w. held_in (target_by hash c) w olds) none
+  pub owed-alone : owed_of (together hash c ws olds) ≡ []
+  unfolding owed_of
+  owed-alone = ap (λ w. owed_in (target_by hash c) w olds) none
 
 pub spilled-together : {E S : Type 0} (hash : E → ℕ) (c : Contents E S) (ws : List Bool) (olds : List (Shelf E)) → spilled_of (together hash c ws olds) ≡ spilled_of c + spilled_in olds
 unfolding spilled_of
@@ -65,7 +65,7 @@ spilled-bare {E} (b ∷ olds) h =
 -- an old array in which nothing lies shows nothing
 pub bare-together : {E S : Type 0} (hash : E → ℕ) (c : Contents E S) (olds : List (Shelf E)) → flat_map shelf_entries olds ≡ [] → together hash c [] olds ≡ together hash c [] []
 bare-together {E} {S} hash c olds bare =
-    ap (λ n. let d : Contents E S = record { lists = lists_of c; settings = settings_of c; refused = refused_of c; spilled = spilled_of c + n; waiting = []; held = [] } in d) (spilled-bare olds bare)
+    ap (λ n. let d : Contents E S = record { lists = lists_of c; settings = settings_of c; refused = refused_of c; spilled = spilled_of c + n; waiting = []; owed = [] } in d) (spilled-bare olds bare)
 
 -- of all fields where there is no old array
 pub fields-alone : {E K S : Type 0} (eq : K → K → Bool) (key : E → K) (hash : K → ℕ) (c : Contents E S) (skipped next : ℕ) → skipped ≡ (settings_of c).skipped → skipped ≤ 4 → spilled_of c < 2 ^ 62 → IsDistinct eq (map key (entries c))
@@ -85,7 +85,7 @@ fields-alone eq key hash c skipped next skips few_bits few unique = record {
   none = λ z. refl;
   given_back = λ z. refl;
   below = λ i l. refl;
-  held_is = refl;
+  left_is = refl;
   overflow_is = omega arith;
   few = omega arith;
   unique = subst (λ es. IsDistinct eq (map key es)) (sym (entries-alone (λ e. hash (key e)) c [] [] refl)) unique;

@@ -25,9 +25,9 @@ use Rattle.scc_table.proofs.Viewed.{count-seen, settled-flags, settings-seen}
 
 -- the present array has the contents c, and nothing waits; then the contents are d, of n empty buckets
 module _ {E K S : Type 0} (eq : K → K → Bool) (laws : IsEquivalence eq) (key : E → K) (hash : K → ℕ) (c d : Contents E S) (ws : List Bool) (rest : List (Shelf E)) (skipped pending next aside spare : ℕ)
-    (inv : IsTable eq key hash c ws rest skipped pending next aside spare) (a : Contents E S) (view : together (λ e. hash (key e)) c ws rest ≡ a) (settled : pending_of a ≡ 0) (n : ℕ) (fresh olds : List (Shelf E)) (held over : ℕ)
+    (inv : IsTable eq key hash c ws rest skipped pending next aside spare) (a : Contents E S) (view : together (λ e. hash (key e)) c ws rest ≡ a) (settled : pending_of a ≡ 0) (n : ℕ) (fresh olds : List (Shelf E)) (left over : ℕ)
     (empty : fresh ≡ replicate n empty_shelf) (will : IsArray n) (some : 0 < bucket_count a) (other : n ≢ bucket_count a) (lists : lists_of d ≡ map shelf_entries fresh) (settings : settings_of d ≡ settings_of c) (nothing : spilled_of d ≡ 0)
-    (were : lists_of c ≡ map shelf_entries olds) (table : IsBuckets (λ e. hash (key e)) (settings_of c).skipped olds held over) where
+    (were : lists_of c ≡ map shelf_entries olds) (table : IsBuckets (λ e. hash (key e)) (settings_of c).skipped olds left over) where
   abbrev inner : E → ℕ
   inner e = hash (key e)
 
@@ -43,8 +43,8 @@ module _ {E K S : Type 0} (eq : K → K → Bool) (laws : IsEquivalence eq) (key
   long : bucket_count a ≡ length olds
   long = count-seen inner c ws rest a view inv.arrays.flags ∙ count-were c olds were
 
-  table-now : IsBuckets inner (settings_of d).skipped olds held over
-  table-now = subst (λ s. IsBuckets inner s.skipped olds held over) (sym settings) table
+  table-now : IsBuckets inner (settings_of d).skipped olds left over
+  table-now = subst (λ s. IsBuckets inner s.skipped olds left over) (sym settings) table
 
   was : IsArray (length olds)
   was = elim table.sized [ inl z ↦ absurd (omega (arith, some, long)) | inr z ↦ z ]
@@ -62,11 +62,11 @@ module _ {E K S : Type 0} (eq : K → K → Bool) (laws : IsEquivalence eq) (key
   begun-unique = subst (λ es. IsDistinct eq (map key es)) all inv.unique
 
   -- of all fields then
-  pub begun : IsTable eq key hash d (replicate n true) olds skipped n 0 held over
-  begun = started-fields eq laws key hash d n olds begun-count now skipped held over table-now was will differ (inv.skips ∙ ap (λ s. s.skipped) (sym settings)) inv.few_bits nothing begun-unique
+  pub begun : IsTable eq key hash d (replicate n true) olds skipped n 0 left over
+  begun = started-fields eq laws key hash d n olds begun-count now skipped left over table-now was will differ (inv.skips ∙ ap (λ s. s.skipped) (sym settings)) inv.few_bits nothing begun-unique
 
   begun-lists : IsRegrouped inner n a (together inner d (replicate n true) olds)
-  begun-lists = started-lists inner d n olds begun-count now held over table-now was will differ a all-seen (settings ∙ sym (settings-seen inner c ws rest a view))
+  begun-lists = started-lists inner d n olds begun-count now left over table-now was will differ a all-seen (settings ∙ sym (settings-seen inner c ws rest a view))
 
   begun-same : IsPermutation (entries a) (entries (together inner d (replicate n true) olds))
   begun-same = subst (λ es. IsPermutation es (entries (together inner d (replicate n true) olds))) (sym all-seen) (permuted-all inner d n olds begun-count now (omega (arith, will.least)))
@@ -87,14 +87,14 @@ module _ {E K S : Type 0} (eq : K → K → Bool) (laws : IsEquivalence eq) (key
       there : IsRelocated k (together inner d (replicate n true) olds) (together inner e vs news)
       there = relocated-after inner k moved d e (replicate n true) vs olds news begun.arrays begun-up takes settles
 
-      pub taken-less : moved ≤ held
+      pub taken-less : moved ≤ left
       taken-less =
           let le = bound-le inner (settings_of d).skipped (bucket_count d) k (flat_map shelf_entries olds) in
           let m = length-flat_map shelf_entries olds in
-          omega (arith, takes.moved, begun.held_is)
+          omega (arith, takes.moved, begun.left_is)
 
-      pub taken-fields : spilled_of e + over < 2 ^ 62 → IsTable eq key hash e vs news skipped (n - 1) 0 (held - moved) over
-      taken-fields few = fields-after eq key hash k moved d e (replicate n true) vs olds news skipped n 0 held over begun begun-up takes down (omega (arith, but-one n k will.least l, will.least)) few
+      pub taken-fields : spilled_of e + over < 2 ^ 62 → IsTable eq key hash e vs news skipped (n - 1) 0 (left - moved) over
+      taken-fields few = fields-after eq key hash k moved d e (replicate n true) vs olds news skipped n 0 left over begun begun-up takes down (omega (arith, but-one n k will.least l, will.least)) few
 
       pub taken-lists : IsRegrouped inner n a (together inner e vs news)
       taken-lists = regrouped-same inner n a (together inner d (replicate n true) olds) (together inner e vs news) there.lists there.settings begun-lists

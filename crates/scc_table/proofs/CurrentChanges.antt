@@ -4,16 +4,16 @@ use Rattle.std.specs.List.{filter, flat_map, IsDistinct}
 use native.Mathlib.Decide.{dec_lt}
 use Rattle.scc_array.specs.Shelf.{Shelf, shelf_entries}
 use Rattle.scc_array.specs.ShelfWrites.{write_at}
-use Rattle.scc_contents.specs.Contents.{Contents, entries, bucket_count, list_of, lists_of, settings_of, refused_of, spilled_of, waiting_of, held_of}
+use Rattle.scc_contents.specs.Contents.{Contents, entries, bucket_count, list_of, lists_of, settings_of, refused_of, spilled_of, waiting_of, owed_of}
 use Rattle.scc_contents.specs.Routing.{bucket_number}
 use Rattle.scc_buckets.specs.Tables.{spilled_in}
 use Rattle.scc_buckets.specs.Writes.{with_write_at_spot}
 use Rattle.scc_buckets.specs.declared.place.Place.{Place}
 use Rattle.scc_draining.specs.Moves.{AreMultiples, AreOwn}
-use Rattle.scc_table.specs.TwoArrays.{joined, held_in, waits_at, target_by, together, TwoArrays, IsTable}
+use Rattle.scc_table.specs.TwoArrays.{joined, owed_in, waits_at, target_by, together, TwoArrays, IsTable}
 use Rattle.scc_draining.proofs.Arriving.{same-contents}
 use Rattle.scc_table.proofs.JoinedChanges.{joined-here, joined-set}
-use Rattle.scc_table.proofs.Joining.{lists-together, held-together, settings-together, refused-together, waiting-together}
+use Rattle.scc_table.proofs.Joining.{lists-together, owed-together, settings-together, refused-together, waiting-together}
 use Rattle.scc_table.proofs.Relocated.{count-is, list-is}
 
 pub spilled-together : {E S : Type 0} (hash : E → ℕ) (c : Contents E S) (ws : List Bool) (olds : List (Shelf E)) → spilled_of (together hash c ws olds) ≡ spilled_of c + spilled_in olds
@@ -42,8 +42,8 @@ module _ {E S : Type 0} (c d : Contents E S) (i : ℕ) (x : List E) (lists : lis
           lists-together hash d ws olds ∙ ap (λ g. joined g 0 ws (lists_of d) es) target-same ∙ ap (λ z. joined (target_by hash c) 0 ws z es) lists
           ∙ joined-set (target_by hash c) es 0 i ws (lists_of c) x down ∙ ap (λ z. set z i x) (sym (lists-together hash c ws olds))
 
-      pub own-held : held_of (together hash d ws olds) ≡ held_of (together hash c ws olds)
-      own-held = held-together hash d ws olds ∙ ap (λ g. held_in g ws olds) target-same ∙ sym (held-together hash c ws olds)
+      pub own-owed : owed_of (together hash d ws olds) ≡ owed_of (together hash c ws olds)
+      own-owed = owed-together hash d ws olds ∙ ap (λ g. owed_in g ws olds) target-same ∙ sym (owed-together hash c ws olds)
 
       pub own-waiting : waiting_of (together hash d ws olds) ≡ waiting_of (together hash c ws olds)
       own-waiting = waiting-together hash d ws olds ∙ sym (waiting-together hash c ws olds)
@@ -74,9 +74,9 @@ module _ {E S : Type 0} (c d : Contents E S) (i : ℕ) (x : List E) (lists : lis
 
 -- of all fields
 pub own-fields : {E K S : Type 0} (eq : K → K → Bool) (key : E → K) (hash : K → ℕ) (c d : Contents E S) (i : ℕ) (x : List E) → lists_of d ≡ set (lists_of c) i x → settings_of d ≡ settings_of c → (ws : List Bool) (olds : List (Shelf E)) → waits_at ws i ≡ false
-    → (skipped pending next held aside : ℕ) → IsTable eq key hash c ws olds skipped pending next held aside → spilled_of d + aside < 2 ^ 62 → IsDistinct eq (map key (entries (together (λ e. hash (key e)) d ws olds)))
-    → IsTable eq key hash d ws olds skipped pending next held aside
-own-fields eq key hash c d i x lists settings ws olds down skipped pending next held aside inv few unique = record {
+    → (skipped pending next left aside : ℕ) → IsTable eq key hash c ws olds skipped pending next left aside → spilled_of d + aside < 2 ^ 62 → IsDistinct eq (map key (entries (together (λ e. hash (key e)) d ws olds)))
+    → IsTable eq key hash d ws olds skipped pending next left aside
+own-fields eq key hash c d i x lists settings ws olds down skipped pending next left aside inv few unique = record {
   arrays = own-arrays c d i x lists settings (λ e. hash (key e)) ws olds down inv.arrays;
   skips = inv.skips ∙ ap (λ s. s.skipped) (sym settings);
   few_bits = inv.few_bits;
@@ -84,7 +84,7 @@ own-fields eq key hash c d i x lists settings ws olds down skipped pending next 
   none = inv.none;
   given_back = inv.given_back;
   below = inv.below;
-  held_is = inv.held_is;
+  left_is = inv.left_is;
   overflow_is = inv.overflow_is;
   few = few;
   unique = unique;
@@ -111,9 +111,9 @@ module _ {E S X : Type 0} (put : E → X → E) (c : Contents E S) (p : Place) (
   unfolding with_write_at_spot waiting_of
   waiting-write = refl
 
-  pub held-write : held_of (with_write_at_spot put c p w) ≡ held_of c
-  unfolding with_write_at_spot held_of
-  held-write = refl
+  pub owed-write : owed_of (with_write_at_spot put c p w) ≡ owed_of c
+  unfolding with_write_at_spot owed_of
+  owed-write = refl
 
 module _ {E S X : Type 0} (put : E → X → E) (c : Contents E S) (p : Place) (w : X) where
   -- a write in a bucket that doesn't wait is one in the contents
@@ -128,4 +128,4 @@ module _ {E S X : Type 0} (put : E → X → E) (c : Contents E S) (p : Place) (
       (own-refused c d p.bucket x (lists-write put c p w) (settings-write put c p w) hash ws olds down (refused-write put c p w) ∙ sym (refused-write put b p w))
       (spilled-together hash d ws olds ∙ ap (λ n. n + spilled_in olds) (spilled-write put c p w) ∙ sym (spilled-together hash c ws olds) ∙ sym (spilled-write put b p w))
       (own-waiting c d p.bucket x (lists-write put c p w) (settings-write put c p w) hash ws olds down ∙ sym (waiting-write put b p w))
-      (own-held c d p.bucket x (lists-write put c p w) (settings-write put c p w) hash ws olds down ∙ sym (held-write put b p w))
+      (own-owed c d p.bucket x (lists-write put c p w) (settings-write put c p w) hash ws olds down ∙ sym (owed-write put b p w))

@@ -11,7 +11,7 @@ use Rattle.scc_contents.specs.Sizes.{IsArray, IsArraySize}
 use Rattle.scc_contents.specs.Steps.{Grows, IsUnchanged, Rests}
 use Rattle.scc_draining.specs.Moves.{AreOwn}
 use Rattle.scc_table.specs.TwoArrays.{IsTable, together, TwoArrays, waits_at}
-use Rattle.scc_table.proofs.Alone.{entries-alone, nothing-held}
+use Rattle.scc_table.proofs.Alone.{entries-alone, nothing-owed}
 use Rattle.scc_draining.proofs.Arriving.{IsDistinct-nil}
 
 -- without buckets there are no flags
@@ -36,11 +36,11 @@ pub same-rests : {E S : Type 0} (a d : Contents E S) → d ≡ a → IsUnchanged
 same-rests a d same = (record { exact = ap entries same; buckets = ap bucket_count same; settings = ap settings_of same }, record { first = λ z ne. absurd (ne (ap bucket_count same)); half = λ z ne. absurd (ne (ap bucket_count same)); below = λ z ne. absurd (ne (ap bucket_count same)); doubled = λ z ne. absurd (ne (ap bucket_count same)); settled = λ z ne. absurd (ne (ap bucket_count same)) })
 
 -- of all fields then
-pub fields-first : {E K S : Type 0} (eq : K → K → Bool) (key : E → K) (hash : K → ℕ) (c d : Contents E S) (ws : List Bool) (olds : List (Shelf E)) (skipped pending next held aside : ℕ) → IsTable eq key hash c ws olds skipped pending next held aside → ws ≡ [] → settings_of d ≡ settings_of c → entries d ≡ [] → spilled_of d ≡ 0
-    → IsTable eq key hash d ws olds skipped pending next held aside
-fields-first {E} eq key hash c d ws olds skipped pending next held aside inv none settings still bounded =
+pub fields-first : {E K S : Type 0} (eq : K → K → Bool) (key : E → K) (hash : K → ℕ) (c d : Contents E S) (ws : List Bool) (olds : List (Shelf E)) (skipped pending next left aside : ℕ) → IsTable eq key hash c ws olds skipped pending next left aside → ws ≡ [] → settings_of d ≡ settings_of c → entries d ≡ [] → spilled_of d ≡ 0
+    → IsTable eq key hash d ws olds skipped pending next left aside
+fields-first {E} eq key hash c d ws olds skipped pending next left aside inv none settings still bounded =
     let h : E → ℕ = λ e. hash (key e) in
-    let nothing : flat_map shelf_entries olds ≡ [] = nothing-held h c ws olds none inv.arrays in
+    let nothing : flat_map shelf_entries olds ≡ [] = nothing-owed h c ws olds none inv.arrays in
     record {
       arrays = record {
         flags = inl none;
@@ -56,7 +56,7 @@ fields-first {E} eq key hash c d ws olds skipped pending next held aside inv non
       none = inv.none;
       given_back = inv.given_back;
       below = inv.below;
-      held_is = inv.held_is;
+      left_is = inv.left_is;
       overflow_is = inv.overflow_is;
       few = let f = inv.few in omega arith;
       unique = subst (λ es. IsDistinct eq (map key es)) (sym (entries-alone h d ws olds none ∙ still)) (IsDistinct-nil eq);

@@ -105,8 +105,8 @@ module _ {E S : Type 0} (hash : E → ℕ) (c : Contents E S) (ws : List Bool) (
   ]
 
   -- nothing lies in the old array where no bucket waits
-  pub none-held : ws ≡ [] → sum_by (λ b. length (shelf_entries b)) olds ≡ 0
-  none-held z =
+  pub none-owed : ws ≡ [] → sum_by (λ b. length (shelf_entries b)) olds ≡ 0
+  none-owed z =
       let none : flat_map shelf_entries olds ≡ [] = no-first (flat_map shelf_entries olds) (λ e got. let up = all-wait 0 e got in let q : false ≡ true = ap (λ w. waits_at w (target_by hash c e)) (sym z) ∙ up in absurd (let y : false ≡ true = q in cc)) in
       sym (length-flat_map shelf_entries olds) ∙ ap length none
 
@@ -120,14 +120,14 @@ module _ {E S : Type 0} (hash : E → ℕ) (c : Contents E S) (ws : List Bool) (
       omega arith
 
 -- no more than 32 entries for each bucket, and those in overflow lists
-pub held-most : {E : Type 0} (bs : List (Shelf E)) → ((j : ℕ) → j < length bs → length (shelf_of bs j).slots ≤ 32) → sum_by (λ b. length (shelf_entries b)) bs ≤ 32 * length bs + spilled_in bs
-held-most [] h = omega arith
-held-most {E} (b ∷ bs) h =
+pub owed-most : {E : Type 0} (bs : List (Shelf E)) → ((j : ℕ) → j < length bs → length (shelf_of bs j).slots ≤ 32) → sum_by (λ b. length (shelf_entries b)) bs ≤ 32 * length bs + spilled_in bs
+owed-most [] h = omega arith
+owed-most {E} (b ∷ bs) h =
     let f : Shelf E → ℕ = λ x. length (shelf_entries x) in
     let o : Shelf E → ℕ = λ x. length x.overflow in
     let p = sum_by-cons f b bs in
     let q = sum_by-cons o b bs in
-    let rest : sum_by f bs ≤ 32 * length bs + sum_by o bs = held-most bs (λ j l. h (suc j) (omega arith)) in
+    let rest : sum_by f bs ≤ 32 * length bs + sum_by o bs = owed-most bs (λ j l. h (suc j) (omega arith)) in
     let first = h 0 (omega arith) in
     let n = length-append b.slots b.overflow in
     let few : f b ≤ 32 + o b = omega arith in

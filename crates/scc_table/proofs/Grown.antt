@@ -8,7 +8,7 @@ use Rattle.std.proofs.lemmas.List.FromFn.{length-range_with_len}
 use Rattle.std.proofs.lemmas.List.Sorted.{sum_by-IsPermutation}
 use Rattle.std.proofs.lemmas.List.Sums.{length-filter}
 use Rattle.scc_array.proofs.ListsLemmas.{get-below, get-right}
-use Rattle.scc_contents.specs.Contents.{Contents, entries, bucket_count, list_of, settings_of, held_of, pending_of, waiting_of, IsRouted}
+use Rattle.scc_contents.specs.Contents.{Contents, entries, bucket_count, list_of, settings_of, owed_of, pending_of, waiting_of, IsRouted}
 use Rattle.scc_buckets.specs.OneList.{IsPutIn}
 use Rattle.scc_buckets.specs.Places as spots
 use Rattle.scc_buckets.specs.Pour.{bound_for, IsRegrouped}
@@ -129,7 +129,7 @@ module _ {E S : Type 0} (a : Contents E S) (i : ℕ) (e : E) (m : Contents E S) 
         within = place;
         here = place-get d q place e got;
       } in
-      subst (spots.IsInsertedAtSpot a e d) (sym (spot-own (waiting_of d) (held_of d) (bucket_count d) q within down)) there
+      subst (spots.IsInsertedAtSpot a e d) (sym (spot-own (waiting_of d) (owed_of d) (bucket_count d) q within down)) there
 
   -- the other buckets get no more entries by it
   pub around-short : (hash : E → ℕ) (n k : ℕ) → k ≡ bucket_number (settings_of a).skipped n (hash e) → AreShortAmong hash n a → AreShortBut hash n k m

@@ -2,8 +2,8 @@
 use Rattle.std.proofs.Common.{◌≡◌, ◌==◌, ℕ, zero, suc, ◌+◌, ◌<◌, ◌⊎◌, inl, inr, Bool, cond, List, [], ◌∷◌, length, get_or, refl, sym, ap, ◌∙◌, arith}
 use Rattle.std.specs.List.{filter, flat_map, count_by}
 use Rattle.scc_array.specs.Shelf.{Shelf, shelf_entries}
-use Rattle.scc_contents.specs.Contents.{Contents, bucket_count, lists_of, settings_of, refused_of, waiting_of, held_of, pending_of}
-use Rattle.scc_table.specs.TwoArrays.{joined, together, target_by, waits_at, held_in}
+use Rattle.scc_contents.specs.Contents.{Contents, bucket_count, lists_of, settings_of, refused_of, waiting_of, owed_of, pending_of}
+use Rattle.scc_table.specs.TwoArrays.{joined, together, target_by, waits_at, owed_in}
 
 module _ {E : Type 0} (target : E → ℕ) (es : List E) where
   pub length-joined : (i : ℕ) (ws : List Bool) (ls : List (List E)) → (ws ≡ []) ⊎ (length ws ≡ length ls) → length (joined target i ws ls es) ≡ length ls
@@ -36,9 +36,9 @@ module _ {E S : Type 0} (hash : E → ℕ) (c : Contents E S) (ws : List Bool) (
   unfolding waiting_of
   waiting-together = refl
 
-  pub held-together : held_of (together hash c ws olds) ≡ held_in (target_by hash c) ws olds
-  unfolding held_of
-  held-together = refl
+  pub owed-together : owed_of (together hash c ws olds) ≡ owed_in (target_by hash c) ws olds
+  unfolding owed_of
+  owed-together = refl
 
   pub lists-together : lists_of (together hash c ws olds) ≡ joined (target_by hash c) 0 ws (lists_of c) (flat_map shelf_entries olds)
   unfolding lists_of

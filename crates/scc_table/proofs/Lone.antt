@@ -3,7 +3,7 @@ use Rattle.std.proofs.Common.{◌≡◌, ℕ, ◌+◌, ◌*◌, ◌^◌, ◌<◌
 use Rattle.std.specs.List.{filter, flat_map, slice_get, IsDistinct}
 use Rattle.std.specs.List.Sorted.{IsPermutation}
 use Rattle.scc_array.specs.Shelf.{Shelf, shelf_entries}
-use Rattle.scc_contents.specs.Contents.{Contents, entries, bucket_count, held_of, lists_of, minimum_of, settings_of, spilled_of, waiting_of}
+use Rattle.scc_contents.specs.Contents.{Contents, entries, bucket_count, owed_of, lists_of, minimum_of, settings_of, spilled_of, waiting_of}
 use Rattle.scc_buckets.specs.Places as spots
 use Rattle.scc_contents.specs.Routing.{bucket_number}
 use Rattle.scc_contents.specs.Sizes.{IsArray, IsArraySize}
@@ -12,17 +12,17 @@ use Rattle.scc_buckets.specs.declared.place.Place.{Place}
 use Rattle.scc_draining.specs.Moves.{AreOwn}
 use Rattle.scc_table.specs.Places.{IsInsertedAt, spot_of}
 use Rattle.scc_table.specs.TwoArrays.{IsTable, waits_at}
-use Rattle.scc_table.proofs.Alone.{entries-alone, nothing-held, spilled-bare}
+use Rattle.scc_table.proofs.Alone.{entries-alone, nothing-owed, spilled-bare}
 use Rattle.scc_table.proofs.OldSpots.{spot-own}
 use Rattle.scc_table.proofs.Placing.{index-same}
 use Rattle.scc_table.proofs.Same.{count-same, entries-same, list-same}
 
 -- of all fields then
-pub fields-lone : {E K S : Type 0} (eq : K → K → Bool) (key : E → K) (hash : K → ℕ) (c d : Contents E S) (ws : List Bool) (olds : List (Shelf E)) (skipped pending next held aside : ℕ) → IsTable eq key hash c ws olds skipped pending next held aside → ws ≡ [] → settings_of d ≡ settings_of c → spilled_of d < 2 ^ 62
-    → IsDistinct eq (map key (entries d)) → IsTable eq key hash d ws olds skipped pending next held 0
-fields-lone {E} eq key hash c d ws olds skipped pending next held aside inv none settings few unique =
+pub fields-lone : {E K S : Type 0} (eq : K → K → Bool) (key : E → K) (hash : K → ℕ) (c d : Contents E S) (ws : List Bool) (olds : List (Shelf E)) (skipped pending next left aside : ℕ) → IsTable eq key hash c ws olds skipped pending next left aside → ws ≡ [] → settings_of d ≡ settings_of c → spilled_of d < 2 ^ 62
+    → IsDistinct eq (map key (entries d)) → IsTable eq key hash d ws olds skipped pending next left 0
+fields-lone {E} eq key hash c d ws olds skipped pending next left aside inv none settings few unique =
     let h : E → ℕ = λ e. hash (key e) in
-    let nothing : flat_map shelf_entries olds ≡ [] = nothing-held h c ws olds none inv.arrays in
+    let nothing : flat_map shelf_entries olds ≡ [] = nothing-owed h c ws olds none inv.arrays in
     record {
       arrays = record {
         flags = inl none;
@@ -38,7 +38,7 @@ fields-lone {E} eq key hash c d ws olds skipped pending next held aside inv none
       none = inv.none;
       given_back = inv.given_back;
       below = inv.below;
-      held_is = inv.held_is;
+      left_is = inv.left_is;
       overflow_is = let z = spilled-bare olds nothing in omega arith;
       few = omega arith;
       unique = subst (λ es. IsDistinct eq (map key es)) (sym (entries-alone h d ws olds none)) unique;
@@ -84,5 +84,5 @@ module _ {E S : Type 0} (a c d f : Contents E S) (before : lists_of a ≡ lists_
         within = record { bucket = omega (arith, i.within.bucket); slot = subst (λ z. p.slot < length z) (sym (list-same d f after p.bucket)) i.within.slot };
         here = ap (λ es. slice_get es (spots.index_of_spot f p)) (entries-same d f after) ∙ ap (slice_get (entries d)) (index-same d f p after) ∙ i.here;
       } in
-      let spot : spot_of f p ≡ p = spot-own (waiting_of f) (held_of f) (bucket_count f) p there.within.bucket (ap (λ w. waits_at w p.bucket) none) in
+      let spot : spot_of f p ≡ p = spot-own (waiting_of f) (owed_of f) (bucket_count f) p there.within.bucket (ap (λ w. waits_at w p.bucket) none) in
       subst (spots.IsInsertedAtSpot a e f) (sym spot) there

@@ -1,6 +1,6 @@
 -- Places of two arrays whose entries are seen through a function.
 use Rattle.std.proofs.Common.{◌≡◌, ℕ, sym, ap, subst, ◌∙◌}
-use Rattle.scc_contents.specs.Contents.{Contents, bucket_count, held_of, waiting_of}
+use Rattle.scc_contents.specs.Contents.{Contents, bucket_count, owed_of, waiting_of}
 use Rattle.scc_contents.specs.Mapped.{mapped}
 use Rattle.scc_buckets.specs.Places as places
 use Rattle.scc_buckets.specs.declared.place.Place.{Place}
@@ -9,8 +9,8 @@ use Rattle.scc_table.specs.Places.{IsPlace, StandsAt, index_of, spot_in, spot_of
 
 module _ {E F S : Type 0} (f : E → F) where
   pub spot_of-mapped : (c : Contents E S) (p : Place) → spot_of (mapped f c) p ≡ spot_of c p
-  unfolding mapped waiting_of held_of
-  spot_of-mapped c p = ap (λ n. spot_in c.waiting c.held n p) (mapping.bucket_count-mapped f c)
+  unfolding mapped waiting_of owed_of
+  spot_of-mapped c p = ap (λ n. spot_in c.waiting c.owed n p) (mapping.bucket_count-mapped f c)
 
   pub index_of-mapped : (c : Contents E S) (p : Place) → index_of (mapped f c) p ≡ index_of c p
   index_of-mapped c p = ap (places.index_of_spot (mapped f c)) (spot_of-mapped c p) ∙ mapping.index_of-mapped f c (spot_of c p)

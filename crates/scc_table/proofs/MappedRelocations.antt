@@ -2,7 +2,7 @@
 use Rattle.std.proofs.Common.{◌≡◌, ℕ, zero, suc, List, [], ◌∷◌, length, map, refl}
 use Rattle.std.specs.List.{slice_index_or}
 use Rattle.std.proofs.lemmas.List.{length-map}
-use Rattle.scc_contents.specs.Contents.{Contents, bucket_count, held_of, list_of, waiting_of}
+use Rattle.scc_contents.specs.Contents.{Contents, bucket_count, owed_of, list_of, waiting_of}
 use Rattle.scc_contents.specs.Mapped.{mapped}
 use Rattle.scc_buckets.proofs.Mapped.{bucket_count-mapped, length-mapped, pending_of-mapped, settings_of-mapped}
 use Rattle.scc_table.specs.Relocates.{AreShort, IsGrowthDue, IsShrinkDue, Spreads}
@@ -18,9 +18,9 @@ module _ {E F S : Type 0} (f : E → F) where
   unfolding mapped waiting_of
   waiting_of-mapped c = refl
 
-  held_of-mapped : (c : Contents E S) → held_of (mapped f c) ≡ held_of c
-  unfolding mapped held_of
-  held_of-mapped c = refl
+  owed_of-mapped : (c : Contents E S) → owed_of (mapped f c) ≡ owed_of c
+  unfolding mapped owed_of
+  owed_of-mapped c = refl
 
   length-list-mapped : (c : Contents E S) (i : ℕ) → length (list_of (mapped f c) i) ≡ length (list_of c i)
   unfolding mapped list_of
@@ -65,7 +65,7 @@ module _ {E F S : Type 0} (f : E → F) where
     fewer = rw (bucket_count-mapped f c, bucket_count-mapped f d, waiting_of-mapped c, waiting_of-mapped d) h.fewer;
     less = rw (bucket_count-mapped f c, bucket_count-mapped f d, pending_of-mapped f c, pending_of-mapped f d) h.less;
     waiting = λ no. rw (waiting_of-mapped c, waiting_of-mapped d) (h.waiting (λ is. no (turn is)));
-    held = λ no. rw (held_of-mapped c, held_of-mapped d) (h.held (λ is. no (turn is)));
+    owed = λ no. rw (owed_of-mapped c, owed_of-mapped d) (h.owed (λ is. no (turn is)));
   }
 
   pub grown-mapped : (minimum : ℕ) (c d : Contents E S) → Spreads (IsGrowthDue minimum c) c d → Spreads (IsGrowthDue minimum (mapped f c)) (mapped f c) (mapped f d)

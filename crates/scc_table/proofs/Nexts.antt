@@ -5,20 +5,20 @@ use Rattle.std.specs.List.{count_by, flat_map, slice_get}
 use native.Mathlib.Decide.{dec_lt}
 use Rattle.scc_array.specs.Shelves.{shelf_of}
 use Rattle.scc_array.specs.Shelf.{Shelf, shelf_entries, empty_shelf}
-use Rattle.scc_contents.specs.Contents.{Contents, bucket_count, entries, held_of, list_of, settings_of, waiting_of}
+use Rattle.scc_contents.specs.Contents.{Contents, bucket_count, entries, owed_of, list_of, settings_of, waiting_of}
 use Rattle.scc_buckets.specs.Places as spots
 use Rattle.scc_buckets.specs.Pour.{bound_for}
 use Rattle.scc_buckets.specs.Tables.{spilled_in}
 use Rattle.scc_buckets.specs.declared.place.Place.{Place}
 use Rattle.scc_buckets.proofs.Standing.{index-after, index-below}
 use Rattle.scc_draining.specs.Moves.{AreOwn, IsWithinSources}
-use Rattle.scc_table.specs.Places.{held_before, index_of, spot_of, StandsAt}
+use Rattle.scc_table.specs.Places.{owed_before, index_of, spot_of, StandsAt}
 use Rattle.scc_table.specs.Stepping.{index_on, own, old, rank_on, spot_on, IsStart}
 use Rattle.scc_draining.specs.Stepping.{entries_before, StandsNext}
 use Rattle.scc_table.specs.TwoArrays.{target_by, together, TwoArrays, waits_at}
 use Rattle.scc_draining.proofs.Draining.{before-none, take-all_bound}
-use Rattle.scc_table.proofs.Joining.{count-together, held-together, waiting-together}
-use Rattle.scc_table.proofs.OldSpots.{count-map, held-before, held-some, old-place, old-spot, old-waits, own-list, own-place, own-spot}
+use Rattle.scc_table.proofs.Joining.{count-together, owed-together, waiting-together}
+use Rattle.scc_table.proofs.OldSpots.{count-map, owed-before, owed-some, old-place, old-spot, old-waits, own-list, own-place, own-spot}
 use Rattle.scc_draining.proofs.FromBuckets.{few-each}
 use Rattle.scc_table.proofs.Preparing.{long-flags, waiting-list}
 use Rattle.scc_table.proofs.RelocatingLemmas.{up-within}
@@ -43,16 +43,16 @@ sources-more hash t n i first last more olds w l m = record {
 }
 
 module _ {E S : Type 0} (hash : E → ℕ) (c : Contents E S) (ws : List Bool) (olds : List (Shelf E)) (arrays : TwoArrays hash c ws olds) (i : ℕ) (up : waits_at ws i ≡ true) where
-  pub held-is : held_of (together hash c ws olds) ≡ map (λ b. map (target_by hash c) (shelf_entries b)) olds
-  held-is = held-together hash c ws olds ∙ held-some (target_by hash c) ws olds (let l = up-within ws i up in omega arith)
+  pub owed-is : owed_of (together hash c ws olds) ≡ map (λ b. map (target_by hash c) (shelf_entries b)) olds
+  owed-is = owed-together hash c ws olds ∙ owed-some (target_by hash c) ws olds (let l = up-within ws i up in omega arith)
 
-  pub held-count : length (held_of (together hash c ws olds)) ≡ length olds
-  held-count = ap length held-is ∙ length-map olds (λ b. map (target_by hash c) (shelf_entries b))
+  pub owed-count : length (owed_of (together hash c ws olds)) ≡ length olds
+  owed-count = ap length owed-is ∙ length-map olds (λ b. map (target_by hash c) (shelf_entries b))
 
   -- what the annotations count
   pub rank-is : (j s : ℕ) → j < length olds → rank_on (together hash c ws olds) i j s ≡ length (bound_for hash (settings_of c).skipped (bucket_count c) i (entries_before olds j s))
   rank-is j s l =
-      ap (λ h. count_by (λ u. u == i) (held_before h j s)) held-is ∙ ap (count_by (λ u. u == i)) (held-before (target_by hash c) olds j s l) ∙ count-map (target_by hash c) i (entries_before olds j s)
+      ap (λ h. count_by (λ u. u == i) (owed_before h j s)) owed-is ∙ ap (count_by (λ u. u == i)) (owed-before (target_by hash c) olds j s l) ∙ count-map (target_by hash c) i (entries_before olds j s)
 
   -- none of the bucket stands there or later
   pub rank-end : (first last j s : ℕ) → j < length olds → IsWithinSources hash (settings_of c).skipped (bucket_count c) i first last olds
@@ -126,7 +126,7 @@ pub start-own : {E S : Type 0} (d : Contents E S) (t b s : ℕ) → IsStart d t 
 start-own d t b s (own e down q) l = (e, down, q)
 start-own d t b s (old up far m) l = absurd (omega arith)
 
-pub start-old : {E S : Type 0} (d : Contents E S) (t b s : ℕ) → IsStart d t b s → bucket_count d ≤ b → t < bucket_count d → (waits_at (waiting_of d) t ≡ true) × (b < bucket_count d + length (held_of d))
+pub start-old : {E S : Type 0} (d : Contents E S) (t b s : ℕ) → IsStart d t b s → bucket_count d ≤ b → t < bucket_count d → (waits_at (waiting_of d) t ≡ true) × (b < bucket_count d + length (owed_of d))
 start-old d t b s (own e down q) far l = absurd (omega arith)
 start-old d t b s (old up low m) far l = (up, m)
 
@@ -161,7 +161,7 @@ module _ {E S : Type 0} (hash : E → ℕ) (c : Contents E S) (ws : List Bool) (
         let i = target_by hash c e in
         let up = old-waits hash c ws olds arrays j s e lj got in
         let count = count-together hash c ws olds arrays.flags in
-        let held = held-count hash c ws olds arrays i up in
+        let owed = owed-count hash c ws olds arrays i up in
         let bs = bound_for hash t n i (entries_before olds j s) in
         let more : rank_on d i j (s + 1) ≡ suc (length bs) =
         rank-is hash c ws olds arrays i up j (s + 1) lj ∙ ap length (bound-count olds j hash t n i s e got refl) ∙ length-append bs (e ∷ []) ∙ add-one (length bs) in

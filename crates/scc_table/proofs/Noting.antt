@@ -2,13 +2,13 @@
 use Rattle.std.proofs.Common.{◌≡◌, ◌==◌, ℕ, ◌+◌, ◌^◌, ◌<◌, ◌≤◌, ◌⊎◌, inl, inr, Bool, List, [], length, map, refl, sym, ap, ◌∙◌, subst, arith}
 use Rattle.std.specs.List.{filter, flat_map, IsDistinct}
 use Rattle.scc_array.specs.Shelf.{Shelf, shelf_entries}
-use Rattle.scc_contents.specs.Contents.{Contents, entries, bucket_count, lists_of, settings_of, spilled_of, held_of}
+use Rattle.scc_contents.specs.Contents.{Contents, entries, bucket_count, lists_of, settings_of, spilled_of, owed_of}
 use Rattle.scc_contents.specs.Routing.{bucket_number}
 use Rattle.scc_buckets.specs.Tables.{spilled_in}
 use Rattle.scc_draining.specs.Moves.{AreMultiples, AreOwn}
-use Rattle.scc_table.specs.TwoArrays.{IsTable, held_in, joined, target_by, together, TwoArrays}
+use Rattle.scc_table.specs.TwoArrays.{IsTable, owed_in, joined, target_by, together, TwoArrays}
 use Rattle.scc_table.proofs.Alone.{spilled-together}
-use Rattle.scc_table.proofs.Joining.{lists-together, held-together}
+use Rattle.scc_table.proofs.Joining.{lists-together, owed-together}
 use Rattle.scc_table.proofs.Same.{count-same, list-same, entries-same}
 
 -- an entry belongs to the same bucket
@@ -25,8 +25,8 @@ module _ {E S : Type 0} (hash : E → ℕ) (c d : Contents E S) (ws : List Bool)
       lists-together hash d ws olds ∙ ap (λ f. joined f 0 ws (lists_of d) (flat_map shelf_entries olds)) same-target ∙ ap (λ z. joined (target_by hash c) 0 ws z (flat_map shelf_entries olds)) lists
       ∙ sym (lists-together hash c ws olds)
 
-  pub held-kept : held_of (together hash d ws olds) ≡ held_of (together hash c ws olds)
-  held-kept = held-together hash d ws olds ∙ ap (λ f. held_in f ws olds) same-target ∙ sym (held-together hash c ws olds)
+  pub owed-kept : owed_of (together hash d ws olds) ≡ owed_of (together hash c ws olds)
+  owed-kept = owed-together hash d ws olds ∙ ap (λ f. owed_in f ws olds) same-target ∙ sym (owed-together hash c ws olds)
 
   pub spilled-kept : spilled_of d ≡ spilled_of c → spilled_of (together hash d ws olds) ≡ spilled_of (together hash c ws olds)
   spilled-kept same = spilled-together hash d ws olds ∙ ap (λ n. n + spilled_in olds) same ∙ sym (spilled-together hash c ws olds)
@@ -41,9 +41,9 @@ module _ {E S : Type 0} (hash : E → ℕ) (c d : Contents E S) (ws : List Bool)
     bare = λ i up. list-same c d lists i ∙ a.bare i up;
   }
 
-pub fields-less : {E K S : Type 0} (eq : K → K → Bool) (key : E → K) (hash : K → ℕ) (c d : Contents E S) (ws : List Bool) (olds : List (Shelf E)) (skipped pending next held aside : ℕ) → lists_of d ≡ lists_of c → (settings_of d).skipped ≡ (settings_of c).skipped → spilled_of d ≤ spilled_of c
-    → IsTable eq key hash c ws olds skipped pending next held aside → IsTable eq key hash d ws olds skipped pending next held aside
-fields-less {E} eq key hash c d ws olds skipped pending next held aside lists skips spilled inv =
+pub fields-less : {E K S : Type 0} (eq : K → K → Bool) (key : E → K) (hash : K → ℕ) (c d : Contents E S) (ws : List Bool) (olds : List (Shelf E)) (skipped pending next left aside : ℕ) → lists_of d ≡ lists_of c → (settings_of d).skipped ≡ (settings_of c).skipped → spilled_of d ≤ spilled_of c
+    → IsTable eq key hash c ws olds skipped pending next left aside → IsTable eq key hash d ws olds skipped pending next left aside
+fields-less {E} eq key hash c d ws olds skipped pending next left aside lists skips spilled inv =
     let h : E → ℕ = λ e. hash (key e) in
     record {
       arrays = arrays-kept h c d ws olds lists skips inv.arrays;
@@ -53,12 +53,12 @@ fields-less {E} eq key hash c d ws olds skipped pending next held aside lists sk
       none = inv.none;
       given_back = inv.given_back;
       below = inv.below;
-      held_is = inv.held_is;
+      left_is = inv.left_is;
       overflow_is = inv.overflow_is;
       few = let f = inv.few in omega arith;
       unique = subst (λ es. IsDistinct eq (map key es)) (sym (entries-same (together h c ws olds) (together h d ws olds) (lists-kept h c d ws olds lists skips))) inv.unique;
     }
 
-pub fields-kept : {E K S : Type 0} (eq : K → K → Bool) (key : E → K) (hash : K → ℕ) (c d : Contents E S) (ws : List Bool) (olds : List (Shelf E)) (skipped pending next held aside : ℕ) → lists_of d ≡ lists_of c → (settings_of d).skipped ≡ (settings_of c).skipped → spilled_of d ≡ spilled_of c
-    → IsTable eq key hash c ws olds skipped pending next held aside → IsTable eq key hash d ws olds skipped pending next held aside
-fields-kept eq key hash c d ws olds skipped pending next held aside lists skips spilled inv = fields-less eq key hash c d ws olds skipped pending next held aside lists skips (omega arith) inv
+pub fields-kept : {E K S : Type 0} (eq : K → K → Bool) (key : E → K) (hash : K → ℕ) (c d : Contents E S) (ws : List Bool) (olds : List (Shelf E)) (skipped pending next left aside : ℕ) → lists_of d ≡ lists_of c → (settings_of d).skipped ≡ (settings_of c).skipped → spilled_of d ≡ spilled_of c
+    → IsTable eq key hash c ws olds skipped pending next left aside → IsTable eq key hash d ws olds skipped pending next left aside
+fields-kept eq key hash c d ws olds skipped pending next left aside lists skips spilled inv = fields-less eq key hash c d ws olds skipped pending next left aside lists skips (omega arith) inv

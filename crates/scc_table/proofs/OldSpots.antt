@@ -7,17 +7,17 @@ use native.Mathlib.Decide.{dec_lt}
 use Rattle.scc_array.specs.Shelves.{shelf_of}
 use Rattle.scc_array.specs.Shelf.{Shelf, shelf_entries, empty_shelf}
 use Rattle.scc_array.proofs.ListsLemmas.{get-below, get-right}
-use Rattle.scc_contents.specs.Contents.{Contents, entries, bucket_count, list_of, lists_of, settings_of, held_of}
+use Rattle.scc_contents.specs.Contents.{Contents, entries, bucket_count, list_of, lists_of, settings_of, owed_of}
 use Rattle.scc_buckets.specs.Places as spots
 use Rattle.scc_buckets.specs.Pour.{bound_for}
 use Rattle.scc_buckets.specs.declared.place.Place.{Place}
 use Rattle.scc_buckets.proofs.PairSplits.{by_answer}
 use Rattle.scc_buckets.proofs.Pours.{bound_append, bound_here}
 use Rattle.scc_buckets.proofs.Spots.{place-get}
-use Rattle.scc_table.specs.Places.{IsPlace, held_before, index_of, spot_by, spot_in, spot_of}
+use Rattle.scc_table.specs.Places.{IsPlace, owed_before, index_of, spot_by, spot_in, spot_of}
 use Rattle.scc_draining.specs.Stepping.{entries_before}
-use Rattle.scc_table.specs.TwoArrays.{held_in, joined, target_by, together, TwoArrays, waits_at}
-use Rattle.scc_table.proofs.Joining.{count-together, get-joined, held-together, waiting-together}
+use Rattle.scc_table.specs.TwoArrays.{owed_in, joined, target_by, together, TwoArrays, waits_at}
+use Rattle.scc_table.proofs.Joining.{count-together, get-joined, owed-together, waiting-together}
 use Rattle.scc_table.proofs.Preparing.{long-flags, waiting-list}
 use Rattle.scc_table.proofs.Relocated.{count-is}
 use Rattle.scc_table.proofs.RelocatingLemmas.{up-within}
@@ -67,19 +67,19 @@ split-old (b ∷ olds) (suc j) s e l got =
     (r.0, ap (λ z. bs ++ z) r.1 ∙ sym (append_assoc bs (xs ++ ys) (e ∷ r.0)) ∙ ap (λ z. z ++ e ∷ r.0) (sym (append_assoc bs xs ys)))
 
 -- what the annotations say of them
-pub held-before : {E : Type 0} (f : E → ℕ) (olds : List (Shelf E)) (j s : ℕ) → j < length olds → held_before (map (λ b. map f (shelf_entries b)) olds) j s ≡ map f (entries_before olds j s)
-held-before f [] j s l = absurd (omega arith)
-held-before f (b ∷ olds) zero s l = map-take f s (shelf_entries b)
-held-before f (b ∷ olds) (suc j) s l =
+pub owed-before : {E : Type 0} (f : E → ℕ) (olds : List (Shelf E)) (j s : ℕ) → j < length olds → owed_before (map (λ b. map f (shelf_entries b)) olds) j s ≡ map f (entries_before olds j s)
+owed-before f [] j s l = absurd (omega arith)
+owed-before f (b ∷ olds) zero s l = map-take f s (shelf_entries b)
+owed-before f (b ∷ olds) (suc j) s l =
     let bs = shelf_entries b in
     let xs = flat_map shelf_entries (take j olds) in
     let ys = take s (shelf_entries (shelf_of olds j)) in
     let hs = map (λ a. map f (shelf_entries a)) olds in
-    append_assoc (map f bs) (flat_map (λ l. l) (take j hs)) (take s (get_or hs j [])) ∙ ap (λ z. map f bs ++ z) (held-before f olds j s (omega arith)) ∙ sym (map-append f bs (xs ++ ys)) ∙ ap (map f) (sym (append_assoc bs xs ys))
+    append_assoc (map f bs) (flat_map (λ l. l) (take j hs)) (take s (get_or hs j [])) ∙ ap (λ z. map f bs ++ z) (owed-before f olds j s (omega arith)) ∙ sym (map-append f bs (xs ++ ys)) ∙ ap (map f) (sym (append_assoc bs xs ys))
 
-pub held-some : {E : Type 0} (f : E → ℕ) (ws : List Bool) (olds : List (Shelf E)) → 0 < length ws → held_in f ws olds ≡ map (λ b. map f (shelf_entries b)) olds
-held-some f [] olds some = absurd (omega arith)
-held-some f (w ∷ ws) olds some = refl
+pub owed-some : {E : Type 0} (f : E → ℕ) (ws : List Bool) (olds : List (Shelf E)) → 0 < length ws → owed_in f ws olds ≡ map (λ b. map f (shelf_entries b)) olds
+owed-some f [] olds some = absurd (omega arith)
+owed-some f (w ∷ ws) olds some = refl
 
 -- a place of a bucket that doesn't wait is its own spot
 pub spot-own : (ws : List Bool) (hs : List (List ℕ)) (n : ℕ) (p : Place) → p.bucket < n → waits_at ws p.bucket ≡ false → spot_in ws hs n p ≡ p
@@ -87,7 +87,7 @@ spot-own [] hs n p l down = refl
 spot-own (w ∷ ws) hs n p l down =
     let before : nat_lt p.bucket n ≡ true = search rules in
     let none : Place = record { bucket = n; slot = 0 } in
-    let after : Place = spot_by n (slice_get (get_or hs (p.bucket - n) []) p.slot) (held_before hs (p.bucket - n) p.slot) in
+    let after : Place = spot_by n (slice_get (get_or hs (p.bucket - n) []) p.slot) (owed_before hs (p.bucket - n) p.slot) in
     ap (λ b. cond b (cond (get_or (w ∷ ws) p.bucket false) none p) after) before ∙ ap (λ b. cond b none p) down
 
 -- one of a bucket that waits is none
@@ -96,18 +96,18 @@ spot-none [] hs n p l up = absurd (let z : false ≡ true = up in cc)
 spot-none (w ∷ ws) hs n p l up =
     let before : nat_lt p.bucket n ≡ true = search rules in
     let none : Place = record { bucket = n; slot = 0 } in
-    let after : Place = spot_by n (slice_get (get_or hs (p.bucket - n) []) p.slot) (held_before hs (p.bucket - n) p.slot) in
+    let after : Place = spot_by n (slice_get (get_or hs (p.bucket - n) []) p.slot) (owed_before hs (p.bucket - n) p.slot) in
     ap (λ b. cond b (cond (get_or (w ∷ ws) p.bucket false) none p) after) before ∙ ap (λ b. cond b none p) up
 
 -- one of the old array is that of the bucket that its entry waits for
-pub spot-old : (ws : List Bool) (hs : List (List ℕ)) (n j : ℕ) (p : Place) → 0 < length ws → p.bucket ≡ n + j → spot_in ws hs n p ≡ spot_by n (slice_get (get_or hs j []) p.slot) (held_before hs j p.slot)
+pub spot-old : (ws : List Bool) (hs : List (List ℕ)) (n j : ℕ) (p : Place) → 0 < length ws → p.bucket ≡ n + j → spot_in ws hs n p ≡ spot_by n (slice_get (get_or hs j []) p.slot) (owed_before hs j p.slot)
 spot-old [] hs n j p some at = absurd (omega arith)
 spot-old (w ∷ ws) hs n j p some at =
     let past : nat_lt p.bucket n ≡ false = let l : n ≤ p.bucket = omega arith in search rules in
     let number : p.bucket - n ≡ j = omega arith in
     let none : Place = record { bucket = n; slot = 0 } in
-    let after : Place = spot_by n (slice_get (get_or hs (p.bucket - n) []) p.slot) (held_before hs (p.bucket - n) p.slot) in
-    ap (λ b. cond b (cond (get_or (w ∷ ws) p.bucket false) none p) after) past ∙ ap (λ m. spot_by n (slice_get (get_or hs m []) p.slot) (held_before hs m p.slot)) number
+    let after : Place = spot_by n (slice_get (get_or hs (p.bucket - n) []) p.slot) (owed_before hs (p.bucket - n) p.slot) in
+    ap (λ b. cond b (cond (get_or (w ∷ ws) p.bucket false) none p) after) past ∙ ap (λ m. spot_by n (slice_get (get_or hs m []) p.slot) (owed_before hs m p.slot)) number
 
 nothing : {X : Type 0} (xs : List X) → length xs ≡ 0 → xs ≡ []
 nothing [] h = refl
@@ -118,10 +118,10 @@ by_get [] i n s = n refl
 by_get (x ∷ xs) zero n s = s (omega arith)
 by_get (x ∷ xs) (suc i) n s = by_get xs i n (λ l. s (omega arith))
 
-held-within : {E : Type 0} (f : E → ℕ) (olds : List (Shelf E)) (j s : ℕ) → s < length (get_or (map (λ b. map f (shelf_entries b)) olds) j []) → (j < length olds) × (s < length (shelf_entries (shelf_of olds j)))
-held-within f [] j s l = absurd (let z : s < 0 = l in omega arith)
-held-within f (b ∷ olds) zero s l = let m = length-map (shelf_entries b) f in (omega arith, omega arith)
-held-within f (b ∷ olds) (suc j) s l = let r = held-within f olds j s l in (let q = r.0 in omega arith, r.1)
+owed-within : {E : Type 0} (f : E → ℕ) (olds : List (Shelf E)) (j s : ℕ) → s < length (get_or (map (λ b. map f (shelf_entries b)) olds) j []) → (j < length olds) × (s < length (shelf_entries (shelf_of olds j)))
+owed-within f [] j s l = absurd (let z : s < 0 = l in omega arith)
+owed-within f (b ∷ olds) zero s l = let m = length-map (shelf_entries b) f in (omega arith, omega arith)
+owed-within f (b ∷ olds) (suc j) s l = let r = owed-within f olds j s l in (let q = r.0 in omega arith, r.1)
 
 -- what a place is: one of a list of the new array, or one of the old array
 pub data PlaceKind {E S : Type 0} (c : Contents E S) (ws : List Bool) (olds : List (Shelf E)) (p : Place) : Type 0 where
@@ -129,11 +129,11 @@ pub data PlaceKind {E S : Type 0} (c : Contents E S) (ws : List Bool) (olds : Li
   old : (j : ℕ) → p.bucket ≡ bucket_count c + j → j < length olds → p.slot < length (shelf_entries (shelf_of olds j)) → PlaceKind c ws olds p
 
 module _ {E S : Type 0} (hash : E → ℕ) (c : Contents E S) (ws : List Bool) (olds : List (Shelf E)) (arrays : TwoArrays hash c ws olds) where
-  pub spot-is : (p : Place) → spot_of (together hash c ws olds) p ≡ spot_in ws (held_in (target_by hash c) ws olds) (bucket_count c) p
+  pub spot-is : (p : Place) → spot_of (together hash c ws olds) p ≡ spot_in ws (owed_in (target_by hash c) ws olds) (bucket_count c) p
   spot-is p =
       let d = together hash c ws olds in
-      ap (λ w. spot_in w (held_of d) (bucket_count d) p) (waiting-together hash c ws olds) ∙ ap (λ h. spot_in ws h (bucket_count d) p) (held-together hash c ws olds)
-      ∙ ap (λ m. spot_in ws (held_in (target_by hash c) ws olds) m p) (count-together hash c ws olds arrays.flags)
+      ap (λ w. spot_in w (owed_of d) (bucket_count d) p) (waiting-together hash c ws olds) ∙ ap (λ h. spot_in ws h (bucket_count d) p) (owed-together hash c ws olds)
+      ∙ ap (λ m. spot_in ws (owed_in (target_by hash c) ws olds) m p) (count-together hash c ws olds arrays.flags)
 
   -- a bucket that doesn't wait has its own list
   pub own-list : (i : ℕ) → i < bucket_count c → waits_at ws i ≡ false → list_of (together hash c ws olds) i ≡ list_of c i
@@ -148,7 +148,7 @@ module _ {E S : Type 0} (hash : E → ℕ) (c : Contents E S) (ws : List Bool) (
 
   module _ (p : Place) (l : p.bucket < bucket_count c) (down : waits_at ws p.bucket ≡ false) where
     pub own-spot : spot_of (together hash c ws olds) p ≡ p
-    own-spot = spot-is p ∙ spot-own ws (held_in (target_by hash c) ws olds) (bucket_count c) p l down
+    own-spot = spot-is p ∙ spot-own ws (owed_in (target_by hash c) ws olds) (bucket_count c) p l down
 
     pub own-place : p.slot < length (list_of c p.bucket) → IsPlace (together hash c ws olds) p
     own-place q =
@@ -218,10 +218,10 @@ module _ {E S : Type 0} (hash : E → ℕ) (c : Contents E S) (ws : List Bool) (
           let some : 0 < length ws = let l = up-within ws (f e) old-waits in omega arith in
           let hs = map (λ b. map f (shelf_entries b)) olds in
           let here : get_or hs j [] ≡ map f (shelf_entries (shelf_of olds j)) = get_or-map (λ b. map f (shelf_entries b)) olds j empty_shelf [] lj in
-          spot-is p ∙ ap (λ h. spot_in ws h (bucket_count c) p) (held-some f ws olds some) ∙ spot-old ws hs (bucket_count c) j p some at
-          ∙ ap (λ m. spot_by (bucket_count c) (slice_get (get_or hs j []) m) (held_before hs j m)) slot
-          ∙ ap (λ o. spot_by (bucket_count c) o (held_before hs j s)) (ap (λ z. slice_get z s) here ∙ get-map f (shelf_entries (shelf_of olds j)) s e got)
-          ∙ ap (λ h. spot_by (bucket_count c) (Some (f e)) h) (held-before f olds j s lj)
+          spot-is p ∙ ap (λ h. spot_in ws h (bucket_count c) p) (owed-some f ws olds some) ∙ spot-old ws hs (bucket_count c) j p some at
+          ∙ ap (λ m. spot_by (bucket_count c) (slice_get (get_or hs j []) m) (owed_before hs j m)) slot
+          ∙ ap (λ o. spot_by (bucket_count c) o (owed_before hs j s)) (ap (λ z. slice_get z s) here ∙ get-map f (shelf_entries (shelf_of olds j)) s e got)
+          ∙ ap (λ h. spot_by (bucket_count c) (Some (f e)) h) (owed-before f olds j s lj)
           ∙ ap (λ m. let q : Place = record { bucket = f e; slot = m } in q) (count-map f (f e) (entries_before olds j s))
 
       old-there : spots.IsSpot (together hash c ws olds) (record { bucket = target_by hash c e; slot = rank_of })
@@ -250,7 +250,7 @@ module _ {E S : Type 0} (hash : E → ℕ) (c : Contents E S) (ws : List Bool) (
       let lost = λ (e : spot_of d p ≡ record { bucket = n; slot = 0 }). let l : (spot_of d p).bucket < bucket_count d = h.bucket in let m : (spot_of d p).bucket ≡ n = ap (λ q. q.bucket) e in let z : n < n = omega arith in z in
       elim (dec_lt p.bucket n) [
         | yes l ↦ by_answer (waits_at ws p.bucket)
-            (λ up. let z : n < n = lost (spot-is p ∙ spot-none ws (held_in f ws olds) n p l up) in absurd (omega arith))
+            (λ up. let z : n < n = lost (spot-is p ∙ spot-none ws (owed_in f ws olds) n p l up) in absurd (omega arith))
             (λ down.
             let at : spots.IsSpot d p = subst (λ q. spots.IsSpot d q) (own-spot p l down) h in
             own (record { bucket = l; slot = subst (λ z. p.slot < length z) (own-list p.bucket l down) at.slot }) down)
@@ -258,7 +258,7 @@ module _ {E S : Type 0} (hash : E → ℕ) (c : Contents E S) (ws : List Bool) (
           | no none ↦
               let down : waits_at ws p.bucket ≡ false = get_or_past ws p.bucket false (omega arith) in
               let z : ws ≡ [] = nothing ws (omega arith) in
-              let same : spot_of d p ≡ p = spot-is p ∙ ap (λ w. spot_in w (held_in f ws olds) n p) z in
+              let same : spot_of d p ≡ p = spot-is p ∙ ap (λ w. spot_in w (owed_in f ws olds) n p) z in
               let l : (spot_of d p).bucket < bucket_count d = h.bucket in
               let m : (spot_of d p).bucket ≡ p.bucket = ap (λ q. q.bucket) same in
               absurd (omega arith)
@@ -266,10 +266,10 @@ module _ {E S : Type 0} (hash : E → ℕ) (c : Contents E S) (ws : List Bool) (
               let j = p.bucket - n in
               let at : p.bucket ≡ n + j = omega arith in
               let hs = map (λ b. map f (shelf_entries b)) olds in
-              let path = spot-is p ∙ ap (λ h. spot_in ws h n p) (held-some f ws olds some) ∙ spot-old ws hs n j p some at in
+              let path = spot-is p ∙ ap (λ h. spot_in ws h n p) (owed-some f ws olds some) ∙ spot-old ws hs n j p some at in
               by_get (get_or hs j []) p.slot
-              (λ e. let z : n < n = lost (path ∙ ap (λ o. spot_by n o (held_before hs j p.slot)) e) in absurd (omega arith))
-              (λ l. let r = held-within f olds j p.slot l in old j at r.0 r.1)
+              (λ e. let z : n < n = lost (path ∙ ap (λ o. spot_by n o (owed_before hs j p.slot)) e) in absurd (omega arith))
+              (λ l. let r = owed-within f olds j p.slot l in old j at r.0 r.1)
         ]
       ]
 

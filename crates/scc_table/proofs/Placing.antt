@@ -4,7 +4,7 @@ use Rattle.std.specs.List.{filter, flat_map, count_by, insert, slice_get}
 use Rattle.std.specs.List.Sorted.{IsPermutation}
 use Rattle.std.proofs.lemmas.List.{drop_all, get_or_default, nil_from_length, set-get_or}
 use Rattle.scc_array.proofs.ListsLemmas.{get-index}
-use Rattle.scc_contents.specs.Contents.{Contents, entries, bucket_count, list_of, lists_of, settings_of, waiting_of, held_of, pending_of, bucket_of, HasRoomBy, IsRouted}
+use Rattle.scc_contents.specs.Contents.{Contents, entries, bucket_count, list_of, lists_of, settings_of, waiting_of, owed_of, pending_of, bucket_of, HasRoomBy, IsRouted}
 use Rattle.scc_buckets.specs.OneList.{IsPutIn}
 use Rattle.scc_buckets.specs.Places as spots
 use Rattle.scc_contents.specs.Routing.{bucket_number}
@@ -76,7 +76,7 @@ module _ {E S : Type 0} (c : Contents E S) (i : ℕ) (e : E) (m : Contents E S) 
           here = ap (λ es. slice_get es (spots.index_of_spot d p)) (entries-same m d lists) ∙ ap (slice_get (entries m)) (index-same m d p lists) ∙ at.here;
         } in
         let low : waits_at (waiting_of d) p.bucket ≡ false = ap (waits_at (waiting_of d)) put.bucket ∙ placed-down in
-        let spot : spot_of d p ≡ p = spot-own (waiting_of d) (held_of d) (bucket_count d) p (there.within.bucket) low in
+        let spot : spot_of d p ≡ p = spot-own (waiting_of d) (owed_of d) (bucket_count d) p (there.within.bucket) low in
         subst (spots.IsInsertedAtSpot c e d) (sym spot) there
 
 -- an insertion after a bucket took its entries over

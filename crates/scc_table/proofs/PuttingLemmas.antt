@@ -6,7 +6,7 @@ use Rattle.std.proofs.lemmas.List.{get_or_default, get_or_past}
 use native.Mathlib.Decide.{dec_lt}
 use Rattle.scc_array.specs.Shelf.{Shelf, shelf_entries}
 use Rattle.scc_array.proofs.ListsLemmas.{get-index}
-use Rattle.scc_contents.specs.Contents.{Contents, entries, bucket_count, list_of, lists_of, settings_of, refused_of, spilled_of, waiting_of, held_of, bucket_of, HasRoomBy, IsRouted}
+use Rattle.scc_contents.specs.Contents.{Contents, entries, bucket_count, list_of, lists_of, settings_of, refused_of, spilled_of, waiting_of, owed_of, bucket_of, HasRoomBy, IsRouted}
 use Rattle.scc_buckets.specs.OneList.{HasSameLists, IsPutIn}
 use Rattle.scc_contents.specs.Routing.{bucket_number}
 use Rattle.scc_buckets.specs.Tables.{spilled_in}
@@ -14,10 +14,10 @@ use Rattle.scc_buckets.specs.declared.place.Place.{Place}
 use Rattle.scc_buckets.proofs.Inserts.{unique-inserted}
 use Rattle.scc_buckets.proofs.PairSplits.{by_answer}
 use Rattle.scc_draining.specs.Moves.{AreMultiples, AreOwn}
-use Rattle.scc_table.specs.TwoArrays.{IsTable, held_in, joined, target_by, together, TwoArrays, waits_at}
+use Rattle.scc_table.specs.TwoArrays.{IsTable, owed_in, joined, target_by, together, TwoArrays, waits_at}
 use Rattle.scc_table.proofs.Alone.{spilled-together}
 use Rattle.scc_table.proofs.Inserted.{absent-sub, count-sub, count-whole, one-sub, put-count, put-permuted}
-use Rattle.scc_table.proofs.Joining.{count-together, held-together, lists-together, refused-together, settings-together}
+use Rattle.scc_table.proofs.Joining.{count-together, owed-together, lists-together, refused-together, settings-together}
 use Rattle.scc_table.proofs.Noting.{lists-kept, target-kept}
 use Rattle.scc_table.proofs.OldSpots.{own-list}
 use Rattle.scc_table.proofs.Relocated.{count-is, list-is}
@@ -113,8 +113,8 @@ module _ {E K S : Type 0} (key : E → K) (hash : K → ℕ) (c : Contents E S) 
           short = λ few. let z = put.short (subst (λ x. length x < 32) own few) in let s = spilled-seen h c ws olds d view in let t = spilled-together h b ws olds in omega arith;
         }
 
-    pub held-put : held_of (together (λ x. hash (key x)) b ws olds) ≡ held_of d
-    held-put = let h : E → ℕ = λ x. hash (key x) in held-together h b ws olds ∙ ap (λ f. held_in f ws olds) same-target ∙ sym (held-together h c ws olds) ∙ ap held_of view
+    pub owed-put : owed_of (together (λ x. hash (key x)) b ws olds) ≡ owed_of d
+    owed-put = let h : E → ℕ = λ x. hash (key x) in owed-together h b ws olds ∙ ap (λ f. owed_in f ws olds) same-target ∙ sym (owed-together h c ws olds) ∙ ap owed_of view
 
     pub arrays-put : TwoArrays (λ x. hash (key x)) b ws olds
     arrays-put = record {
@@ -129,10 +129,10 @@ module _ {E K S : Type 0} (key : E → K) (hash : K → ℕ) (c : Contents E S) 
     }
 
 -- of all fields then
-pub fields-put : {E K S : Type 0} (eq : K → K → Bool) (laws : IsEquivalence eq) (key : E → K) (hash : K → ℕ) (c : Contents E S) (ws : List Bool) (olds : List (Shelf E)) (skipped pending next held aside : ℕ) (inv : IsTable eq key hash c ws olds skipped pending next held aside) (d : Contents E S)
+pub fields-put : {E K S : Type 0} (eq : K → K → Bool) (laws : IsEquivalence eq) (key : E → K) (hash : K → ℕ) (c : Contents E S) (ws : List Bool) (olds : List (Shelf E)) (skipped pending next left aside : ℕ) (inv : IsTable eq key hash c ws olds skipped pending next left aside) (d : Contents E S)
     → together (λ e. hash (key e)) c ws olds ≡ d → (e : E) (i : ℕ) (b : Contents E S) (p : Place) → IsPutIn c i e b p → i < bucket_count c → waits_at ws i ≡ false → spilled_of b + aside < 2 ^ 62 → position (λ x. eq (key e) (key x)) (entries d) ≡ None
-    → IsTable eq key hash b ws olds skipped pending next held aside
-fields-put {E} eq laws key hash c ws olds skipped pending next held aside inv d view e i b p put l down few absent =
+    → IsTable eq key hash b ws olds skipped pending next left aside
+fields-put {E} eq laws key hash c ws olds skipped pending next left aside inv d view e i b p put l down few absent =
     let there = put-together key hash c ws olds inv.arrays d view e i b p put l down in
     let within : i < bucket_count d = omega (arith, count-seen (λ x. hash (key x)) c ws olds d view inv.arrays.flags) in
     record {
@@ -143,7 +143,7 @@ fields-put {E} eq laws key hash c ws olds skipped pending next held aside inv d 
       none = inv.none;
       given_back = inv.given_back;
       below = inv.below;
-      held_is = inv.held_is;
+      left_is = inv.left_is;
       overflow_is = inv.overflow_is;
       few = few;
       unique = unique-inserted laws key e (entries d) (entries (together (λ x. hash (key x)) b ws olds)) (subst (λ z. IsDistinct eq (map key (entries z))) view inv.unique) absent (put-permuted d i e (together (λ x. hash (key x)) b ws olds) p there within);

@@ -14,9 +14,9 @@ use Rattle.scc_contents.specs.Sizes.{IsArray}
 use Rattle.scc_buckets.specs.Tables.{spilled_in}
 use Rattle.scc_buckets.proofs.PairSplits.{by_answer}
 use Rattle.scc_draining.specs.Moves.{others_for, AreMultiples, AreOwn, TakesOver}
-use Rattle.scc_table.specs.TwoArrays.{joined, waits_at, target_by, together, settle, held_in, held_without, TwoArrays, IsTable, IsRelocated}
-use Rattle.scc_table.proofs.Alone.{entries-alone, fields-alone, nothing-held}
-use Rattle.scc_table.proofs.Joining.{lists-together, held-together, settings-together, refused-together, waiting-together, pending-together}
+use Rattle.scc_table.specs.TwoArrays.{joined, waits_at, target_by, together, settle, owed_in, owed_without, TwoArrays, IsTable, IsRelocated}
+use Rattle.scc_table.proofs.Alone.{entries-alone, fields-alone, nothing-owed}
+use Rattle.scc_table.proofs.Joining.{lists-together, owed-together, settings-together, refused-together, waiting-together, pending-together}
 use Rattle.scc_table.proofs.RelocatingLemmas.{not_equal, bound-others_none, bound-others_same, flat-others, none-up, one-down, up-within, joined-none, joined-moved}
 
 pub count-is : {E S : Type 0} (c : Contents E S) → bucket_count c ≡ length (lists_of c)
@@ -131,8 +131,8 @@ module _ {E S : Type 0} (hash : E → ℕ) (i n : ℕ) (c d : Contents E S) (ws 
   entries-after = ap (flat_map (λ l. l)) joined-after
 
   -- the old array has as many entries less
-  pub held-left : sum_by (λ b. length (shelf_entries b)) olds ≡ n + sum_by (λ b. length (shelf_entries b)) news
-  held-left =
+  pub owed-left : sum_by (λ b. length (shelf_entries b)) olds ≡ n + sum_by (λ b. length (shelf_entries b)) news
+  owed-left =
       let es = flat_map shelf_entries olds in
       let q : E → Bool = λ e. bucket_number (settings_of c).skipped (bucket_count c) (hash e) == i in
       let both : length (filter q es) + length (filter (λ e. not (q e)) es) ≡ length es = length-filter_both q (λ e. not (q e)) (λ e. refl) es in
@@ -143,10 +143,10 @@ module _ {E S : Type 0} (hash : E → ℕ) (i n : ℕ) (c d : Contents E S) (ws 
       omega arith
 
 -- of all fields, where another bucket waits still
-pub fields-after : {E K S : Type 0} (eq : K → K → Bool) (key : E → K) (hash : K → ℕ) (i n : ℕ) (c d : Contents E S) (ws vs : List Bool) (olds news : List (Shelf E)) (skipped pending next held aside : ℕ)
-    → IsTable eq key hash c ws olds skipped pending next held aside → waits_at ws i ≡ true → TakesOver (λ e. hash (key e)) i n c olds d news → vs ≡ set ws i false → 0 < count_by (λ w. w) (set ws i false) → spilled_of d + aside < 2 ^ 62
-    → IsTable eq key hash d vs news skipped (pending - 1) next (held - n) aside
-fields-after {E} eq key hash i n c d ws vs olds news skipped pending next held aside inv up takes down some few =
+pub fields-after : {E K S : Type 0} (eq : K → K → Bool) (key : E → K) (hash : K → ℕ) (i n : ℕ) (c d : Contents E S) (ws vs : List Bool) (olds news : List (Shelf E)) (skipped pending next left aside : ℕ)
+    → IsTable eq key hash c ws olds skipped pending next left aside → waits_at ws i ≡ true → TakesOver (λ e. hash (key e)) i n c olds d news → vs ≡ set ws i false → 0 < count_by (λ w. w) (set ws i false) → spilled_of d + aside < 2 ^ 62
+    → IsTable eq key hash d vs news skipped (pending - 1) next (left - n) aside
+fields-after {E} eq key hash i n c d ws vs olds news skipped pending next left aside inv up takes down some few =
     let h : E → ℕ = λ e. hash (key e) in
     let settles : Settles ws i vs = others down some in
     let fewer = one-down ws i (up-within ws i up) up in
@@ -165,7 +165,7 @@ fields-after {E} eq key hash i n c d ws vs olds news skipped pending next held a
           | no s ↦ let same : k ≡ i = omega arith in ap (waits_at (set ws i false)) same ∙ get_or-set_same ws i false false (up-within ws i up)
         ]
       ]);
-      held_is = let l = held-left h i n c d ws vs olds news inv.arrays up takes settles in omega (arith, inv.held_is);
+      left_is = let l = owed-left h i n c d ws vs olds news inv.arrays up takes settles in omega (arith, inv.left_is);
       overflow_is = let l = spilled-le olds news takes.count takes.overflow in omega (arith, inv.overflow_is);
       few = few;
       unique = subst (λ z. IsDistinct eq (map key z)) (sym (entries-after h i n c d ws vs olds news inv.arrays up takes settles)) inv.unique;
@@ -173,20 +173,20 @@ fields-after {E} eq key hash i n c d ws vs olds news skipped pending next held a
 
 -- nothing lies in the old array once its last bucket took its entries over
 pub bare-after : {E S : Type 0} (hash : E → ℕ) (i n : ℕ) (c d : Contents E S) (ws : List Bool) (olds news : List (Shelf E)) → TwoArrays hash c ws olds → waits_at ws i ≡ true → TakesOver hash i n c olds d news → count_by (λ w. w) (set ws i false) ≡ 0 → flat_map shelf_entries news ≡ []
-bare-after hash i n c d ws olds news arrays up takes none = nothing-held hash d [] news refl (arrays-after hash i n c d ws [] olds news arrays up takes (last refl none))
+bare-after hash i n c d ws olds news arrays up takes none = nothing-owed hash d [] news refl (arrays-after hash i n c d ws [] olds news arrays up takes (last refl none))
 
 -- of all fields, where no other bucket waits and the old array is given back
-pub fields-last : {E K S : Type 0} (eq : K → K → Bool) (key : E → K) (hash : K → ℕ) (i n : ℕ) (c d : Contents E S) (ws : List Bool) (olds news : List (Shelf E)) (skipped pending next held aside : ℕ)
-    → IsTable eq key hash c ws olds skipped pending next held aside → waits_at ws i ≡ true → TakesOver (λ e. hash (key e)) i n c olds d news → count_by (λ w. w) (set ws i false) ≡ 0 → spilled_of d + aside < 2 ^ 62
-    → IsTable eq key hash d [] [] skipped (pending - 1) next (held - n) 0
-fields-last {E} eq key hash i n c d ws olds news skipped pending next held aside inv up takes none few =
+pub fields-last : {E K S : Type 0} (eq : K → K → Bool) (key : E → K) (hash : K → ℕ) (i n : ℕ) (c d : Contents E S) (ws : List Bool) (olds news : List (Shelf E)) (skipped pending next left aside : ℕ)
+    → IsTable eq key hash c ws olds skipped pending next left aside → waits_at ws i ≡ true → TakesOver (λ e. hash (key e)) i n c olds d news → count_by (λ w. w) (set ws i false) ≡ 0 → spilled_of d + aside < 2 ^ 62
+    → IsTable eq key hash d [] [] skipped (pending - 1) next (left - n) 0
+fields-last {E} eq key hash i n c d ws olds news skipped pending next left aside inv up takes none few =
     let h : E → ℕ = λ e. hash (key e) in
     let settles : Settles ws i [] = last refl none in
     let fewer = one-down ws i (up-within ws i up) up in
     let bare = ap length (bare-after h i n c d ws olds news inv.arrays up takes none) in
-    let l = held-left h i n c d ws [] olds news inv.arrays up takes settles in
+    let l = owed-left h i n c d ws [] olds news inv.arrays up takes settles in
     let count = length-flat_map shelf_entries news in
-    let nothing : held - n ≡ 0 = omega (arith, inv.held_is) in
+    let nothing : left - n ≡ 0 = omega (arith, inv.left_is) in
     let last_one : pending - 1 ≡ 0 = omega (arith, inv.counted) in
     let unique = subst (λ z. IsDistinct eq (map key z)) (sym (entries-after h i n c d ws [] olds news inv.arrays up takes settles) ∙ entries-alone h d [] news refl) inv.unique in
     rw (nothing, last_one) (fields-alone eq key hash d skipped next (inv.skips ∙ ap (λ s. s.skipped) (sym takes.settings)) inv.few_bits (omega arith) unique)
@@ -205,21 +205,21 @@ map-others : {E : Type 0} (f : E → ℕ) (i : ℕ) (es : List E) → map f (fil
 map-others f i [] = refl
 map-others f i (e ∷ es) = by_answer (f e == i) (λ q. rw q (map-others f i es)) (λ q. rw q (ap (λ z. f e ∷ z) (map-others f i es)))
 
-held-others : {E : Type 0} (f : E → ℕ) (i : ℕ) (olds news : List (Shelf E)) → length news ≡ length olds → ((j : ℕ) → j < length olds → shelf_entries (shelf_of news j) ≡ filter (λ e. not (f e == i)) (shelf_entries (shelf_of olds j)))
+owed-others : {E : Type 0} (f : E → ℕ) (i : ℕ) (olds news : List (Shelf E)) → length news ≡ length olds → ((j : ℕ) → j < length olds → shelf_entries (shelf_of news j) ≡ filter (λ e. not (f e == i)) (shelf_entries (shelf_of olds j)))
     → map (λ b. map f (shelf_entries b)) news ≡ map (λ ts. filter (λ t. not (t == i)) ts) (map (λ b. map f (shelf_entries b)) olds)
-held-others f i [] [] l h = refl
-held-others f i [] (b ∷ news) l h = absurd (omega arith)
-held-others f i (a ∷ olds) [] l h = absurd (omega arith)
-held-others f i (a ∷ olds) (b ∷ news) l h =
+owed-others f i [] [] l h = refl
+owed-others f i [] (b ∷ news) l h = absurd (omega arith)
+owed-others f i (a ∷ olds) [] l h = absurd (omega arith)
+owed-others f i (a ∷ olds) (b ∷ news) l h =
     let first : map f (shelf_entries b) ≡ filter (λ t. not (t == i)) (map f (shelf_entries a)) = ap (map f) (h 0 (omega arith)) ∙ map-others f i (shelf_entries a) in
     ap (λ z. z ∷ map (λ x. map f (shelf_entries x)) news) first
-    ∙ ap (λ z. filter (λ t. not (t == i)) (map f (shelf_entries a)) ∷ z) (held-others f i olds news (omega arith) (λ j q. h (suc j) (omega arith)))
+    ∙ ap (λ z. filter (λ t. not (t == i)) (map f (shelf_entries a)) ∷ z) (owed-others f i olds news (omega arith) (λ j q. h (suc j) (omega arith)))
 
-held-after : {E : Type 0} (f : E → ℕ) (i : ℕ) (ws vs : List Bool) (olds news : List (Shelf E)) → waits_at ws i ≡ true → length news ≡ length olds → ((j : ℕ) → j < length olds → shelf_entries (shelf_of news j) ≡ filter (λ e. not (f e == i)) (shelf_entries (shelf_of olds j)))
-    → held_in f vs news ≡ held_without vs i (held_in f ws olds)
-held-after f i [] vs olds news up l h = absurd (let q : false ≡ true = up in cc)
-held-after f i (w ∷ ws) [] olds news up l h = refl
-held-after f i (w ∷ ws) (v ∷ vs) olds news up l h = held-others f i olds news l h
+owed-after : {E : Type 0} (f : E → ℕ) (i : ℕ) (ws vs : List Bool) (olds news : List (Shelf E)) → waits_at ws i ≡ true → length news ≡ length olds → ((j : ℕ) → j < length olds → shelf_entries (shelf_of news j) ≡ filter (λ e. not (f e == i)) (shelf_entries (shelf_of olds j)))
+    → owed_in f vs news ≡ owed_without vs i (owed_in f ws olds)
+owed-after f i [] vs olds news up l h = absurd (let q : false ≡ true = up in cc)
+owed-after f i (w ∷ ws) [] olds news up l h = refl
+owed-after f i (w ∷ ws) (v ∷ vs) olds news up l h = owed-others f i olds news l h
 
 pub relocated-after : {E S : Type 0} (hash : E → ℕ) (i n : ℕ) (c d : Contents E S) (ws vs : List Bool) (olds news : List (Shelf E)) → TwoArrays hash c ws olds → waits_at ws i ≡ true → TakesOver hash i n c olds d news → Settles ws i vs
     → IsRelocated i (together hash c ws olds) (together hash d vs news)
@@ -228,7 +228,7 @@ relocated-after hash i n c d ws vs olds news arrays up takes settles = record {
   settings = settings-together hash d vs news ∙ takes.settings ∙ sym (settings-together hash c ws olds);
   refused = refused-together hash d vs news ∙ takes.refused ∙ sym (refused-together hash c ws olds);
   waiting = waiting-together hash d vs news ∙ settle-after settles ∙ ap (λ w. settle w i) (sym (waiting-together hash c ws olds));
-  held = held-together hash d vs news ∙ ap (λ f. held_in f vs news) (target-same hash i n c d ws vs olds news arrays up takes settles) ∙ held-after (target_by hash c) i ws vs olds news up takes.count takes.kept
-      ∙ ap (λ v. held_without v i (held_in (target_by hash c) ws olds)) (sym (waiting-together hash d vs news)) ∙ ap (held_without (waiting_of (together hash d vs news)) i) (sym (held-together hash c ws olds));
+  owed = owed-together hash d vs news ∙ ap (λ f. owed_in f vs news) (target-same hash i n c d ws vs olds news arrays up takes settles) ∙ owed-after (target_by hash c) i ws vs olds news up takes.count takes.kept
+      ∙ ap (λ v. owed_without v i (owed_in (target_by hash c) ws olds)) (sym (waiting-together hash d vs news)) ∙ ap (owed_without (waiting_of (together hash d vs news)) i) (sym (owed-together hash c ws olds));
   pending = pending-together hash c ws olds ∙ one-down ws i (up-within ws i up) up ∙ ap (λ m. m + 1) (sym (count-after settles) ∙ sym (pending-together hash d vs news));
 }

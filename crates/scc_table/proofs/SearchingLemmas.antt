@@ -9,7 +9,7 @@ use Rattle.scc_array.specs.Shelves.{shelf_of}
 use Rattle.scc_array.specs.Shelf.{Shelf, shelf_entries}
 use Rattle.scc_array.proofs.ListsLemmas.{get-below, get-index, get-is}
 use Rattle.scc_array.proofs.Search.{none_is}
-use Rattle.scc_contents.specs.Contents.{Contents, entries, bucket_count, list_of, lists_of, settings_of, waiting_of, held_of, IsRouted}
+use Rattle.scc_contents.specs.Contents.{Contents, entries, bucket_count, list_of, lists_of, settings_of, waiting_of, owed_of, IsRouted}
 use Rattle.scc_buckets.specs.Places as spots
 use Rattle.scc_buckets.specs.Pour.{bound_for}
 use Rattle.scc_contents.specs.Routing.{bucket_number}
@@ -212,13 +212,13 @@ module _ {E S : Type 0} (hash : E → ℕ) (c : Contents E S) (ws : List Bool) (
 module _ {E S : Type 0} (hash : E → ℕ) (c : Contents E S) (olds : List (Shelf E)) where
   -- where nothing waits, it stands where it does in the new array
   pub found-settled : (ws : List Bool) → ws ≡ [] → (p : E → Bool) (q : Place) → spots.IsFoundAtSpot p c q → IsFoundAt p (together hash c ws olds) q
-  unfolding waiting_of held_of bucket_count list_of entries spots.index_of_spot lists_of
+  unfolding waiting_of owed_of bucket_count list_of entries spots.index_of_spot lists_of
   found-settled [] z p q f = record { within = record { bucket = f.within.bucket; slot = f.within.slot }; found = f.found }
   found-settled (w ∷ ws) z p q f = absurd (let y : w ∷ ws ≡ [] = z in cc)
 
   -- where none waits, an entry stands in the present array
   pub near-settled : (ws : List Bool) → ws ≡ [] → (q : Place) → IsPlace (together hash c ws olds) q → q.bucket < bucket_count c
-  unfolding waiting_of held_of bucket_count list_of lists_of
+  unfolding waiting_of owed_of bucket_count list_of lists_of
   near-settled [] z q w = w.bucket
   near-settled (w ∷ ws) z q p = absurd (let y : w ∷ ws ≡ [] = z in cc)
 

@@ -1,6 +1,6 @@
 -- What waits after a resize was tried.
 use Rattle.std.proofs.Common.{◌≡◌, ◌≢◌, ℕ, ◌*◌, ◌<◌, ◌≤◌, length, max, sym, ap, ◌∙◌, subst, arith}
-use Rattle.scc_contents.specs.Contents.{Contents, entries, bucket_count, minimum_of, pending_of, waiting_of, held_of}
+use Rattle.scc_contents.specs.Contents.{Contents, entries, bucket_count, minimum_of, pending_of, waiting_of, owed_of}
 use Rattle.scc_contents.specs.Sizes.{IsArraySize, IsSmaller}
 use Rattle.scc_buckets.proofs.Powers.{size-once}
 use Rattle.scc_table.specs.Relocates.{IsGrowthDue, IsShrinkDue, Spreads}
@@ -11,11 +11,11 @@ module _ {E S : Type 0} {due : Type 0} (c d : Contents E S) where
   -- it came
   pub spreads-all : (n : ℕ) → bucket_count d ≡ n → n ≢ bucket_count c → pending_of d ≡ n → due → Spreads due c d
   spreads-all n count other pending is =
-      record { all = λ ne. pending ∙ sym count; fewer = λ e i w. absurd (other (sym count ∙ e)); less = λ e. absurd (other (sym count ∙ e)); waiting = λ no. absurd (no is); held = λ no. absurd (no is) }
+      record { all = λ ne. pending ∙ sym count; fewer = λ e i w. absurd (other (sym count ∙ e)); less = λ e. absurd (other (sym count ∙ e)); waiting = λ no. absurd (no is); owed = λ no. absurd (no is) }
 
   -- it was refused
   pub spreads-less : bucket_count d ≡ bucket_count c → ((i : ℕ) → IsWaiting d i → IsWaiting c i) → pending_of d ≤ pending_of c → due → Spreads due c d
-  spreads-less count fewer less is = record { all = λ ne. absurd (ne count); fewer = λ e. fewer; less = λ e. less; waiting = λ no. absurd (no is); held = λ no. absurd (no is) }
+  spreads-less count fewer less is = record { all = λ ne. absurd (ne count); fewer = λ e. fewer; less = λ e. less; waiting = λ no. absurd (no is); owed = λ no. absurd (no is) }
 
 -- an array smaller than that of the minimum is to grow
 pub growth-due : {E S : Type 0} (m n : ℕ) (c : Contents E S) → 0 < bucket_count c → IsArraySize m (32 * n) → bucket_count c < n → IsGrowthDue m c
@@ -29,13 +29,13 @@ shrink-due k l c sm sl few less = record {
 }
 
 -- a resize that was tried after a change that kept what waits
-pub spreads-after : {E S : Type 0} {due later : Type 0} (a b d : Contents E S) → bucket_count b ≡ bucket_count a → waiting_of b ≡ waiting_of a → held_of b ≡ held_of a → (due → later) → Spreads due b d → Spreads later a d
-spreads-after a b d counts waiting held is s = record {
+pub spreads-after : {E S : Type 0} {due later : Type 0} (a b d : Contents E S) → bucket_count b ≡ bucket_count a → waiting_of b ≡ waiting_of a → owed_of b ≡ owed_of a → (due → later) → Spreads due b d → Spreads later a d
+spreads-after a b d counts waiting left is s = record {
   all = λ ne. s.all (λ e. ne (e ∙ counts));
   fewer = λ e i w. ap (λ ws. waits_at ws i) (sym waiting) ∙ s.fewer (e ∙ sym counts) i w;
   less = λ e. let z = s.less (e ∙ sym counts) in let p = pending-same a b waiting in omega arith;
   waiting = λ no. s.waiting (λ x. no (is x)) ∙ waiting;
-  held = λ no. s.held (λ x. no (is x)) ∙ held;
+  owed = λ no. s.owed (λ x. no (is x)) ∙ left;
 }
 
 pub growth-due_after : {E S : Type 0} (m n : ℕ) (a b : Contents E S) → m ≡ n → bucket_count b ≡ bucket_count a → IsGrowthDue m b → IsGrowthDue n a

@@ -131,7 +131,7 @@ module _ {E S : Type 0} (hash : E → ℕ) (d : Contents E S) (n : ℕ) (olds : 
       joined-all (target_by hash d) 0 (replicate n true) d.lists es (flags-long ∙ count-is d) (λ k l. flags-up k (omega arith))
       (λ j e l. let w : target_by hash d (get_or es j e) < bucket_count d = number-within (settings_of d).skipped (bucket_count d) (hash (get_or es j e)) (omega arith) in (omega arith, omega arith))
 
-  module _ (held over : ℕ) (table : IsBuckets hash (settings_of d).skipped olds held over) (was : IsArray (length olds)) (will : IsArray n) (differ : n ≢ length olds) where
+  module _ (left over : ℕ) (table : IsBuckets hash (settings_of d).skipped olds left over) (was : IsArray (length olds)) (will : IsArray n) (differ : n ≢ length olds) where
     pub started-arrays : TwoArrays hash d (replicate n true) olds
     started-arrays = record {
       flags = inr flags-long;
@@ -160,20 +160,20 @@ module _ {E S : Type 0} (hash : E → ℕ) (d : Contents E S) (n : ℕ) (olds : 
         }
 
 -- of all fields then
-pub started-fields : {E K S : Type 0} (eq : K → K → Bool) (laws : IsEquivalence eq) (key : E → K) (hash : K → ℕ) (d : Contents E S) (n : ℕ) (olds : List (Shelf E)) (counted : bucket_count d ≡ n) (none : lists_of d ≡ map shelf_entries (replicate n empty_shelf)) (skipped held over : ℕ)
-    → IsBuckets (λ e. hash (key e)) (settings_of d).skipped olds held over → IsArray (length olds) → IsArray n → n ≢ length olds → skipped ≡ (settings_of d).skipped → skipped ≤ 4 → spilled_of d ≡ 0 → IsDistinct eq (map key (flat_map shelf_entries olds))
-    → IsTable eq key hash d (replicate n true) olds skipped n 0 held over
-started-fields {E} eq laws key hash d n olds counted none skipped held over table was will differ skips few_bits nothing unique =
+pub started-fields : {E K S : Type 0} (eq : K → K → Bool) (laws : IsEquivalence eq) (key : E → K) (hash : K → ℕ) (d : Contents E S) (n : ℕ) (olds : List (Shelf E)) (counted : bucket_count d ≡ n) (none : lists_of d ≡ map shelf_entries (replicate n empty_shelf)) (skipped left over : ℕ)
+    → IsBuckets (λ e. hash (key e)) (settings_of d).skipped olds left over → IsArray (length olds) → IsArray n → n ≢ length olds → skipped ≡ (settings_of d).skipped → skipped ≤ 4 → spilled_of d ≡ 0 → IsDistinct eq (map key (flat_map shelf_entries olds))
+    → IsTable eq key hash d (replicate n true) olds skipped n 0 left over
+started-fields {E} eq laws key hash d n olds counted none skipped left over table was will differ skips few_bits nothing unique =
     let h : E → ℕ = λ e. hash (key e) in
     record {
-      arrays = started-arrays h d n olds counted none held over table was will differ;
+      arrays = started-arrays h d n olds counted none left over table was will differ;
       skips = skips;
       few_bits = few_bits;
       counted = sym (count-up n);
       none = λ z. absurd (omega (arith, will.least));
       given_back = λ z. absurd (omega (arith, will.least));
       below = λ i l. absurd (omega arith);
-      held_is = table.counted;
+      left_is = table.counted;
       overflow_is = omega (arith, table.spilled);
       few = omega (arith, table.few);
       unique =

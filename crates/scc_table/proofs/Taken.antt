@@ -10,18 +10,18 @@ use native.Mathlib.Decide.{dec_lt}
 use Rattle.scc_array.specs.Shelves.{shelf_of}
 use Rattle.scc_array.specs.Shelf.{Shelf, shelf_entries, empty_shelf, without_place}
 use Rattle.scc_array.proofs.ListsLemmas.{get-below}
-use Rattle.scc_contents.specs.Contents.{held_of, Contents, entries, bucket_count, list_of, lists_of, settings_of}
+use Rattle.scc_contents.specs.Contents.{owed_of, Contents, entries, bucket_count, list_of, lists_of, settings_of}
 use Rattle.scc_buckets.specs.OneList.{IsSwappedOutOf, IsTakenFrom}
 use Rattle.scc_buckets.specs.Places as spots
 use Rattle.scc_buckets.specs.Tables.{spilled_in}
 use Rattle.scc_buckets.specs.declared.place.Place.{Place}
 use Rattle.scc_buckets.proofs.Removes.{entries_without, overflow_without, own_without}
 use Rattle.scc_table.specs.Places.{IsPlace, spot_of}
-use Rattle.scc_table.specs.Takes.{held_taken}
-use Rattle.scc_table.specs.TwoArrays.{held_in, waits_at, target_by, together, TwoArrays, IsTable}
-use Rattle.scc_table.proofs.CurrentChanges.{own-fields, own-held, own-list, own-lists, own-settings, own-refused, spilled-together}
+use Rattle.scc_table.specs.Takes.{owed_taken}
+use Rattle.scc_table.specs.TwoArrays.{owed_in, waits_at, target_by, together, TwoArrays, IsTable}
+use Rattle.scc_table.proofs.CurrentChanges.{own-fields, own-owed, own-list, own-lists, own-settings, own-refused, spilled-together}
 use Rattle.scc_table.proofs.JoinedChanges.{set-none}
-use Rattle.scc_table.proofs.Joining.{count-together, held-together, refused-together, settings-together}
+use Rattle.scc_table.proofs.Joining.{count-together, owed-together, refused-together, settings-together}
 use Rattle.scc_table.proofs.OldChanges.{list-split, list_back, list_front, old-arrays, old-fields, old-lists, remove-middle}
 use Rattle.scc_table.proofs.OldSpots.{own-spot, old-spot, rank_of}
 use Rattle.scc_table.proofs.TakenFrom.{taken-unique, swapped-unique}
@@ -38,10 +38,10 @@ map-remove f [] (suc i) = refl
 map-remove f (x ∷ xs) zero = refl
 map-remove f (x ∷ xs) (suc i) = ap (λ z. f x ∷ z) (map-remove f xs i)
 
-held-removed : {E : Type 0} (f : E → ℕ) (ws : List Bool) (olds : List (Shelf E)) (j s : ℕ) → j < length olds → s < length (shelf_entries (shelf_of olds j))
-    → held_in f ws (set olds j (without_place (shelf_of olds j) s)) ≡ set (held_in f ws olds) j (remove (get_or (held_in f ws olds) j []) s)
-held-removed f [] olds j s lj ls = sym (set-none j (remove (get_or [] j []) s))
-held-removed f (w ∷ ws) olds j s lj ls =
+owed-removed : {E : Type 0} (f : E → ℕ) (ws : List Bool) (olds : List (Shelf E)) (j s : ℕ) → j < length olds → s < length (shelf_entries (shelf_of olds j))
+    → owed_in f ws (set olds j (without_place (shelf_of olds j) s)) ≡ set (owed_in f ws olds) j (remove (get_or (owed_in f ws olds) j []) s)
+owed-removed f [] olds j s lj ls = sym (set-none j (remove (get_or [] j []) s))
+owed-removed f (w ∷ ws) olds j s lj ls =
     let b = without_place (shelf_of olds j) s in
     let g : Shelf _ → List ℕ = λ x. map f (shelf_entries x) in
     let here : get_or (map g olds) j [] ≡ map f (shelf_entries (shelf_of olds j)) = get_or-map g olds j empty_shelf [] lj in
@@ -65,8 +65,8 @@ module _ {E S : Type 0} (hash : E → ℕ) (c : Contents E S) (ws : List Bool) (
   arrays-less = old-arrays hash c ws olds arrays j s e lj got (without_place (shelf_of olds j) s) [] parts seen (own_without (shelf_of olds j) s inside hash (settings_of c).skipped (length olds) j (arrays.own.own j lj))
 
   -- one entry less
-  pub held-less : sum_by (λ b. length (shelf_entries b)) (set olds j (without_place (shelf_of olds j) s)) + 1 ≡ sum_by (λ b. length (shelf_entries b)) olds
-  held-less =
+  pub owed-less : sum_by (λ b. length (shelf_entries b)) (set olds j (without_place (shelf_of olds j) s)) + 1 ≡ sum_by (λ b. length (shelf_entries b)) olds
+  owed-less =
       let f : Shelf E → ℕ = λ b. length (shelf_entries b) in
       let d = without_place (shelf_of olds j) s in
       let sums = sum_by-set f olds j d empty_shelf lj in
@@ -108,11 +108,11 @@ module _ {E S : Type 0} (hash : E → ℕ) (c : Contents E S) (ws : List Bool) (
       }
 
 -- of all fields, with one entry taken out
-module _ {E K S : Type 0} {eq : K → K → Bool} (laws : IsEquivalence eq) (key : E → K) (hash : K → ℕ) (c : Contents E S) (ws : List Bool) (olds : List (Shelf E)) (skipped pending next held aside : ℕ) (inv : IsTable eq key hash c ws olds skipped pending next held aside) (p : Place)
+module _ {E K S : Type 0} {eq : K → K → Bool} (laws : IsEquivalence eq) (key : E → K) (hash : K → ℕ) (c : Contents E S) (ws : List Bool) (olds : List (Shelf E)) (skipped pending next left aside : ℕ) (inv : IsTable eq key hash c ws olds skipped pending next left aside) (p : Place)
     (within : IsPlace (together (λ e. hash (key e)) c ws olds) p) where
   module _ (l : p.bucket < bucket_count c) (d : Contents E S) where
     down : waits_at ws p.bucket ≡ false
-    down = (own-is laws key hash c ws olds skipped pending next held aside inv p within l).1
+    down = (own-is laws key hash c ws olds skipped pending next left aside inv p within l).1
 
     spot-here : spot_of (together (λ x. hash (key x)) c ws olds) p ≡ p
     spot-here = own-spot (λ x. hash (key x)) c ws olds inv.arrays p l down
@@ -133,15 +133,15 @@ module _ {E K S : Type 0} {eq : K → K → Bool} (laws : IsEquivalence eq) (key
         subst (λ q. IsSwappedOutOf u q v) (sym spot-here) at
 
     -- the annotations stay
-    pub own-held_kept : (x : List E) → lists_of d ≡ set (lists_of c) p.bucket x → settings_of d ≡ settings_of c
-        → held_of (together (λ x. hash (key x)) d ws olds) ≡ held_taken (bucket_count (together (λ x. hash (key x)) c ws olds)) (held_of (together (λ x. hash (key x)) c ws olds)) p
-    own-held_kept x lists settings =
+    pub own-owed_kept : (x : List E) → lists_of d ≡ set (lists_of c) p.bucket x → settings_of d ≡ settings_of c
+        → owed_of (together (λ x. hash (key x)) d ws olds) ≡ owed_taken (bucket_count (together (λ x. hash (key x)) c ws olds)) (owed_of (together (λ x. hash (key x)) c ws olds)) p
+    own-owed_kept x lists settings =
         let h : E → ℕ = λ x. hash (key x) in
         let u = together h c ws olds in
         let count = count-together h c ws olds inv.arrays.flags in
         let near : nat_lt p.bucket (bucket_count u) ≡ true = let l2 : p.bucket < bucket_count u = omega arith in search rules in
         let j = p.bucket - bucket_count u in
-        own-held c d p.bucket x lists settings h ws olds down ∙ sym (ap (λ (b : Bool). cond b (held_of u) (set (held_of u) j (remove (get_or (held_of u) j []) p.slot))) near)
+        own-owed c d p.bucket x lists settings h ws olds down ∙ sym (ap (λ (b : Bool). cond b (owed_of u) (set (owed_of u) j (remove (get_or (owed_of u) j []) p.slot))) near)
 
     pub own-taken : IsTakenFrom c p d → IsTakenFrom (together (λ x. hash (key x)) c ws olds) (spot_of (together (λ x. hash (key x)) c ws olds) p) (together (λ x. hash (key x)) d ws olds)
     own-taken t =
@@ -158,25 +158,25 @@ module _ {E K S : Type 0} {eq : K → K → Bool} (laws : IsEquivalence eq) (key
         subst (λ q. IsTakenFrom u q v) (sym spot-here) at
 
     module _ (e : E) (got : slice_get (entries c) (spots.index_of_spot c p) ≡ Some e) where
-      pub own-less_swapped : IsSwappedOutOf c p d → IsTable eq key hash d ws olds skipped pending next held aside
+      pub own-less_swapped : IsSwappedOutOf c p d → IsTable eq key hash d ws olds skipped pending next left aside
       own-less_swapped t =
           let h : E → ℕ = λ x. hash (key x) in
           let u = together h c ws olds in
-          let there = own-got laws key hash c ws olds skipped pending next held aside inv p within l e got in
-          own-fields eq key hash c d p.bucket t.left t.lists t.settings ws olds down skipped pending next held aside inv (let o = t.spilled in let f = inv.few in omega arith)
+          let there = own-got laws key hash c ws olds skipped pending next left aside inv p within l e got in
+          own-fields eq key hash c d p.bucket t.left t.lists t.settings ws olds down skipped pending next left aside inv (let o = t.spilled in let f = inv.few in omega arith)
           (swapped-unique u (together h d ws olds) (spot_of u p) within (own-swapped t) laws key e there inv.unique)
 
-      pub own-less : IsTakenFrom c p d → IsTable eq key hash d ws olds skipped pending next held aside
+      pub own-less : IsTakenFrom c p d → IsTable eq key hash d ws olds skipped pending next left aside
       own-less t =
           let h : E → ℕ = λ x. hash (key x) in
           let u = together h c ws olds in
-          let there = own-got laws key hash c ws olds skipped pending next held aside inv p within l e got in
-          own-fields eq key hash c d p.bucket (remove (list_of c p.bucket) p.slot) t.lists t.settings ws olds down skipped pending next held aside inv (let o = t.spilled in let f = inv.few in omega arith)
+          let there = own-got laws key hash c ws olds skipped pending next left aside inv p within l e got in
+          own-fields eq key hash c d p.bucket (remove (list_of c p.bucket) p.slot) t.lists t.settings ws olds down skipped pending next left aside inv (let o = t.spilled in let f = inv.few in omega arith)
           (taken-unique u (together h d ws olds) (spot_of u p) within (own-taken t) laws key e there inv.unique)
 
   module _ (far : bucket_count c ≤ p.bucket) (e : E) (got : slice_get (shelf_entries (shelf_of olds (p.bucket - bucket_count c))) p.slot ≡ Some e) where
     lj : p.bucket - bucket_count c < length olds
-    lj = (old-is laws key hash c ws olds skipped pending next held aside inv p within far).0
+    lj = (old-is laws key hash c ws olds skipped pending next left aside inv p within far).0
 
     pub old-taken_at : IsTakenFrom (together (λ x. hash (key x)) c ws olds) (spot_of (together (λ x. hash (key x)) c ws olds) p)
         (together (λ x. hash (key x)) c ws (set olds (p.bucket - bucket_count c) (without_place (shelf_of olds (p.bucket - bucket_count c)) p.slot)))
@@ -188,9 +188,9 @@ module _ {E K S : Type 0} {eq : K → K → Bool} (laws : IsEquivalence eq) (key
         (old-taken h c ws olds inv.arrays j p.slot e lj got)
 
     -- the annotation of that entry goes
-    pub old-held_taken : held_of (together (λ x. hash (key x)) c ws (set olds (p.bucket - bucket_count c) (without_place (shelf_of olds (p.bucket - bucket_count c)) p.slot)))
-        ≡ held_taken (bucket_count (together (λ x. hash (key x)) c ws olds)) (held_of (together (λ x. hash (key x)) c ws olds)) p
-    old-held_taken =
+    pub old-owed_taken : owed_of (together (λ x. hash (key x)) c ws (set olds (p.bucket - bucket_count c) (without_place (shelf_of olds (p.bucket - bucket_count c)) p.slot)))
+        ≡ owed_taken (bucket_count (together (λ x. hash (key x)) c ws olds)) (owed_of (together (λ x. hash (key x)) c ws olds)) p
+    old-owed_taken =
         let h : E → ℕ = λ x. hash (key x) in
         let f = target_by h c in
         let u = together h c ws olds in
@@ -198,23 +198,23 @@ module _ {E K S : Type 0} {eq : K → K → Bool} (laws : IsEquivalence eq) (key
         let j = p.bucket - n in
         let count = count-together h c ws olds inv.arrays.flags in
         let past : nat_lt p.bucket n ≡ false = search rules in
-        let ls = (old-is laws key hash c ws olds skipped pending next held aside inv p within far).1 in
-        let hs = held_in f ws olds in
-        held-together h c ws (set olds j (without_place (shelf_of olds j) p.slot)) ∙ held-removed f ws olds j p.slot lj ls
-        ∙ sym (ap (λ m. held_taken m (held_of u) p) count ∙ ap (λ z. held_taken n z p) (held-together h c ws olds) ∙ ap (λ (b : Bool). cond b hs (set hs j (remove (get_or hs j []) p.slot))) past)
+        let ls = (old-is laws key hash c ws olds skipped pending next left aside inv p within far).1 in
+        let hs = owed_in f ws olds in
+        owed-together h c ws (set olds j (without_place (shelf_of olds j) p.slot)) ∙ owed-removed f ws olds j p.slot lj ls
+        ∙ sym (ap (λ m. owed_taken m (owed_of u) p) count ∙ ap (λ z. owed_taken n z p) (owed-together h c ws olds) ∙ ap (λ (b : Bool). cond b hs (set hs j (remove (get_or hs j []) p.slot))) past)
 
     -- there is one to take
-    pub old-some : 1 ≤ held
-    old-some = let h : E → ℕ = λ x. hash (key x) in let n = held-less h c ws olds inv.arrays (p.bucket - bucket_count c) p.slot e lj got in let m = inv.held_is in omega arith
+    pub old-some : 1 ≤ left
+    old-some = let h : E → ℕ = λ x. hash (key x) in let n = owed-less h c ws olds inv.arrays (p.bucket - bucket_count c) p.slot e lj got in let m = inv.left_is in omega arith
 
-    pub old-less : IsTable eq key hash c ws (set olds (p.bucket - bucket_count c) (without_place (shelf_of olds (p.bucket - bucket_count c)) p.slot)) skipped pending next (held - 1) aside
+    pub old-less : IsTable eq key hash c ws (set olds (p.bucket - bucket_count c) (without_place (shelf_of olds (p.bucket - bucket_count c)) p.slot)) skipped pending next (left - 1) aside
     old-less =
         let h : E → ℕ = λ x. hash (key x) in
         let j = p.bucket - bucket_count c in
         let news = set olds j (without_place (shelf_of olds j) p.slot) in
         let u = together h c ws olds in
-        let there = old-got laws key hash c ws olds skipped pending next held aside inv p within far e got in
-        old-fields eq key hash c ws olds news skipped pending next held aside (held - 1) aside inv (arrays-less h c ws olds inv.arrays j p.slot e lj got) (length-set olds j (without_place (shelf_of olds j) p.slot))
-        (let n = held-less h c ws olds inv.arrays j p.slot e lj got in let m = inv.held_is in omega arith)
+        let there = old-got laws key hash c ws olds skipped pending next left aside inv p within far e got in
+        old-fields eq key hash c ws olds news skipped pending next left aside (left - 1) aside inv (arrays-less h c ws olds inv.arrays j p.slot e lj got) (length-set olds j (without_place (shelf_of olds j) p.slot))
+        (let n = owed-less h c ws olds inv.arrays j p.slot e lj got in let m = inv.left_is in omega arith)
         (let n = spilled-less h c ws olds inv.arrays j p.slot e lj got in let m = inv.overflow_is in omega arith) inv.few
         (taken-unique u (together h c ws news) (spot_of u p) within old-taken_at laws key e there inv.unique)

@@ -16,7 +16,7 @@ use Rattle.scc_table.proofs.SearchingLemmas.{entries-settled, found-settled}
 use Rattle.scc_table.proofs.Written.{own-got, own-kept, own-written}
 
 module _ {F E K V R S : Type 0} (g : Once F (Bor K × (MutBor V × Unit {0})) (R × (MutBor V × Unit {0}))) (f : F) (key : E → K) (value_of : E → V) (put : E → V → E) (p : E → Bool) {eq : K → K → Bool} (laws : IsEquivalence eq) (hash_for : Settings S → K → ℕ) (c d : Contents E S) (ws : List Bool)
-    (olds : List (Shelf E)) (skipped pending next held aside : ℕ) (inv : IsTable eq key (hash_for (settings_of c)) c ws olds skipped pending next held aside) (none : ws ≡ []) where
+    (olds : List (Shelf E)) (skipped pending next left aside : ℕ) (inv : IsTable eq key (hash_for (settings_of c)) c ws olds skipped pending next left aside) (none : ws ≡ []) where
   abbrev hk : K → ℕ
   hk = hash_for (settings_of c)
 
@@ -33,16 +33,16 @@ module _ {F E K V R S : Type 0} (g : Once F (Bor K × (MutBor V × Unit {0})) (R
         e,
         w,
         at,
-        own-got laws key hk c ws olds skipped pending next held aside inv q at.within near e got,
+        own-got laws key hk c ws olds skipped pending next left aside inv q at.within near e got,
         called,
-        ap both written ∙ ap (λ s. together (λ x. hash_for s (key x)) (writes.with_write_at_spot put c q w) ws olds) (settings-write put c q w) ∙ own-written laws key hk c ws olds skipped pending next held aside inv q at.within near put w,
+        ap both written ∙ ap (λ s. together (λ x. hash_for s (key x)) (writes.with_write_at_spot put c q w) ws olds) (settings-write put c q w) ∙ own-written laws key hk c ws olds skipped pending next left aside inv q at.within near put w,
       )
 
   -- they are two arrays still, if a written value keeps the key
-  pub settled-kept : ((e : E) (w : V) → eq (key (put e w)) (key e) ≡ true) → (r : Option R) → one.UpdatesFirstSpot g f key value_of put p c d r → IsTable eq key (hash_for (settings_of d)) d ws olds skipped pending next held aside
-  settled-kept keeps None (missed, stays) = subst (λ (z : Contents E S). IsTable eq key (hash_for (settings_of z)) z ws olds skipped pending next held aside) (sym stays) inv
+  pub settled-kept : ((e : E) (w : V) → eq (key (put e w)) (key e) ≡ true) → (r : Option R) → one.UpdatesFirstSpot g f key value_of put p c d r → IsTable eq key (hash_for (settings_of d)) d ws olds skipped pending next left aside
+  settled-kept keeps None (missed, stays) = subst (λ (z : Contents E S). IsTable eq key (hash_for (settings_of z)) z ws olds skipped pending next left aside) (sym stays) inv
   settled-kept keeps (Some r) (q, e, w, found, got, called, written) =
       let at = found-settled (λ x. hk (key x)) c olds ws none p q found in
-      subst (λ (z : Contents E S). IsTable eq key (hash_for (settings_of z)) z ws olds skipped pending next held aside) (sym written)
-      (subst (λ (s : Settings S). IsTable eq key (hash_for s) (writes.with_write_at_spot put c q w) ws olds skipped pending next held aside) (sym (settings-write put c q w))
-      (own-kept laws key hk c ws olds skipped pending next held aside inv q at.within found.within.bucket put w e got (keeps e w)))
+      subst (λ (z : Contents E S). IsTable eq key (hash_for (settings_of z)) z ws olds skipped pending next left aside) (sym written)
+      (subst (λ (s : Settings S). IsTable eq key (hash_for s) (writes.with_write_at_spot put c q w) ws olds skipped pending next left aside) (sym (settings-write put c q w))
+      (own-kept laws key hk c ws olds skipped pending next left aside inv q at.within found.within.bucket put w e got (keeps e w)))

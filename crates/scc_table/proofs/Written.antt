@@ -22,10 +22,10 @@ use Rattle.scc_buckets.proofs.Views.{view_of}
 use Rattle.scc_buckets.proofs.WritingTables.{distinct-write, entries-write, entries_write, written-table}
 use Rattle.scc_draining.specs.Moves.{AreOwn}
 use Rattle.scc_table.specs.Places.{IsPlace, index_of, spot_of, with_write_at}
-use Rattle.scc_table.specs.TwoArrays.{held_in, waits_at, target_by, together, TwoArrays, IsTable}
+use Rattle.scc_table.specs.TwoArrays.{owed_in, waits_at, target_by, together, TwoArrays, IsTable}
 use Rattle.scc_draining.proofs.Arriving.{same-contents}
-use Rattle.scc_table.proofs.CurrentChanges.{own-fields, own-write, lists-write, settings-write, refused-write, spilled-write, waiting-write, held-write, spilled-together}
-use Rattle.scc_table.proofs.Joining.{held-together, refused-together, settings-together, waiting-together}
+use Rattle.scc_table.proofs.CurrentChanges.{own-fields, own-write, lists-write, settings-write, refused-write, spilled-write, waiting-write, owed-write, spilled-together}
+use Rattle.scc_table.proofs.Joining.{owed-together, refused-together, settings-together, waiting-together}
 use Rattle.scc_table.proofs.OldChanges.{list-split, list_back, list_front, old-arrays, old-fields, old-lists, write-middle}
 use Rattle.scc_table.proofs.OldSpots.{own, old, own-get, own-spot, old-get, old-spot, old-waits, place-kind, rank_of}
 use Rattle.scc_table.proofs.Preparing.{sized-flags}
@@ -45,9 +45,9 @@ map-write put f [] i e w got same = refl
 map-write put f (x ∷ es) zero e w got same = let s : x ≡ e = cc in ap (λ y. y ∷ map f es) (ap (λ z. f (put z w)) s ∙ same ∙ ap f (sym s))
 map-write put f (x ∷ es) (suc i) e w got same = ap (λ z. f x ∷ z) (map-write put f es i e w got same)
 
-pub held-same : {E : Type 0} (f : E → ℕ) (ws : List Bool) (olds news : List (Shelf E)) → map (λ b. map f (shelf_entries b)) news ≡ map (λ b. map f (shelf_entries b)) olds → held_in f ws news ≡ held_in f ws olds
-held-same f [] olds news h = refl
-held-same f (w ∷ ws) olds news h = h
+pub owed-same : {E : Type 0} (f : E → ℕ) (ws : List Bool) (olds news : List (Shelf E)) → map (λ b. map f (shelf_entries b)) news ≡ map (λ b. map f (shelf_entries b)) olds → owed_in f ws news ≡ owed_in f ws olds
+owed-same f [] olds news h = refl
+owed-same f (w ∷ ws) olds news h = h
 
 module _ {E S X : Type 0} (put : E → X → E) (hash : E → ℕ) (c : Contents E S) (ws : List Bool) (olds : List (Shelf E)) (arrays : TwoArrays hash c ws olds) (few : spilled_in olds < 2 ^ 62) (j s : ℕ) (e : E) (lj : j < length olds) (got : slice_get (shelf_entries (shelf_of olds j)) s ≡ Some e)
     (w : X) (same : hash (put e w) ≡ hash e) where
@@ -98,10 +98,10 @@ module _ {E S X : Type 0} (put : E → X → E) (hash : E → ℕ) (c : Contents
       (refused-together hash c ws news ∙ sym (refused-together hash c ws olds) ∙ sym (refused-write put u p w))
       (spilled-together hash c ws news ∙ ap (λ n. spilled_of c + n) (sym table-after.spilled) ∙ sym (spilled-together hash c ws olds) ∙ sym (spilled-write put u p w))
       (waiting-together hash c ws news ∙ sym (waiting-together hash c ws olds) ∙ sym (waiting-write put u p w))
-      (held-together hash c ws news ∙ held-same f ws olds news rows ∙ sym (held-together hash c ws olds) ∙ sym (held-write put u p w))
+      (owed-together hash c ws news ∙ owed-same f ws olds news rows ∙ sym (owed-together hash c ws olds) ∙ sym (owed-write put u p w))
 
 -- of all fields, with one entry written
-module _ {E K S : Type 0} {eq : K → K → Bool} (laws : IsEquivalence eq) (key : E → K) (hash : K → ℕ) (c : Contents E S) (ws : List Bool) (olds : List (Shelf E)) (skipped pending next held aside : ℕ) (inv : IsTable eq key hash c ws olds skipped pending next held aside) (p : Place)
+module _ {E K S : Type 0} {eq : K → K → Bool} (laws : IsEquivalence eq) (key : E → K) (hash : K → ℕ) (c : Contents E S) (ws : List Bool) (olds : List (Shelf E)) (skipped pending next left aside : ℕ) (inv : IsTable eq key hash c ws olds skipped pending next left aside) (p : Place)
     (within : IsPlace (together (λ e. hash (key e)) c ws olds) p) where
   module _ (l : p.bucket < bucket_count c) where
     -- a place of the new array
@@ -125,7 +125,7 @@ module _ {E K S : Type 0} {eq : K → K → Bool} (laws : IsEquivalence eq) (key
           let h : E → ℕ = λ x. hash (key x) in
           own-write put c p w h ws olds own-is.1 ∙ ap (λ q. writes.with_write_at_spot put (together h c ws olds) q w) (sym (own-spot h c ws olds inv.arrays p l own-is.1))
 
-      pub own-kept : (e : E) → slice_get (entries c) (spots.index_of_spot c p) ≡ Some e → eq (key (put e w)) (key e) ≡ true → IsTable eq key hash (writes.with_write_at_spot put c p w) ws olds skipped pending next held aside
+      pub own-kept : (e : E) → slice_get (entries c) (spots.index_of_spot c p) ≡ Some e → eq (key (put e w)) (key e) ≡ true → IsTable eq key hash (writes.with_write_at_spot put c p w) ws olds skipped pending next left aside
       own-kept e got equal =
           let h : E → ℕ = λ x. hash (key x) in
           let d = writes.with_write_at_spot put c p w in
@@ -135,7 +135,7 @@ module _ {E K S : Type 0} {eq : K → K → Bool} (laws : IsEquivalence eq) (key
           let inside : spots.IsSpot u q = within in
           let all : entries (together h d ws olds) ≡ write_at put (entries u) (spots.index_of_spot u q) w = ap entries own-written
           ∙ entries-write put u q inside (at (list_of u q.bucket) q.slot inside.slot) (at-get (list_of u q.bucket) q.slot inside.slot) w in
-          own-fields eq key hash c d p.bucket (write_at put (list_of c p.bucket) p.slot w) (lists-write put c p w) (settings-write put c p w) ws olds own-is.1 skipped pending next held aside inv
+          own-fields eq key hash c d p.bucket (write_at put (list_of c p.bucket) p.slot w) (lists-write put c p w) (settings-write put c p w) ws olds own-is.1 skipped pending next left aside inv
           (let n = spilled-write put c p w in let f = inv.few in omega arith)
           (subst (λ z. IsDistinct eq (map key z)) (sym all) (distinct-write laws key put (entries u) (spots.index_of_spot u q) e w there equal inv.unique))
 
@@ -150,8 +150,8 @@ module _ {E K S : Type 0} {eq : K → K → Bool} (laws : IsEquivalence eq) (key
     back-is : p.bucket ≡ bucket_count c + (p.bucket - bucket_count c)
     back-is = omega arith
 
-    few-held : spilled_in olds < 2 ^ 62
-    few-held = let a = inv.overflow_is in let b = inv.few in omega arith
+    few-owed : spilled_in olds < 2 ^ 62
+    few-owed = let a = inv.overflow_is in let b = inv.few in omega arith
 
     module _ (e : E) (got : slice_get (shelf_entries (shelf_of olds (p.bucket - bucket_count c))) p.slot ≡ Some e) where
       pub old-got : slice_get (entries (together (λ x. hash (key x)) c ws olds)) (index_of (together (λ x. hash (key x)) c ws olds) p) ≡ Some e
@@ -161,11 +161,11 @@ module _ {E K S : Type 0} {eq : K → K → Bool} (laws : IsEquivalence eq) (key
         pub old-written : together (λ x. hash (key x)) c ws (set olds (p.bucket - bucket_count c) (shelf_write_at put (shelf_of olds (p.bucket - bucket_count c)) p.slot w)) ≡ with_write_at put (together (λ x. hash (key x)) c ws olds) p w
         old-written =
             let h : E → ℕ = λ x. hash (key x) in
-            old-write put h c ws olds inv.arrays few-held (p.bucket - bucket_count c) p.slot e old-is.0 got w equal
+            old-write put h c ws olds inv.arrays few-owed (p.bucket - bucket_count c) p.slot e old-is.0 got w equal
             ∙ ap (λ q. writes.with_write_at_spot put (together h c ws olds) q w) (sym (old-spot h c ws olds inv.arrays (p.bucket - bucket_count c) p.slot e old-is.0 got p back-is refl))
 
         pub old-kept : eq (key (put e w)) (key e) ≡ true
-            → IsTable eq key hash c ws (set olds (p.bucket - bucket_count c) (shelf_write_at put (shelf_of olds (p.bucket - bucket_count c)) p.slot w)) skipped pending next held aside
+            → IsTable eq key hash c ws (set olds (p.bucket - bucket_count c) (shelf_write_at put (shelf_of olds (p.bucket - bucket_count c)) p.slot w)) skipped pending next left aside
         old-kept same =
             let h : E → ℕ = λ x. hash (key x) in
             let j = p.bucket - bucket_count c in
@@ -173,9 +173,9 @@ module _ {E K S : Type 0} {eq : K → K → Bool} (laws : IsEquivalence eq) (key
             let u = together h c ws olds in
             let q = spot_of u p in
             let inside : spots.IsSpot u q = within in
-            let table = table-after put h c ws olds inv.arrays few-held j p.slot e old-is.0 got w equal in
+            let table = table-after put h c ws olds inv.arrays few-owed j p.slot e old-is.0 got w equal in
             let all : entries (together h c ws news) ≡ write_at put (entries u) (spots.index_of_spot u q) w = ap entries old-written
             ∙ entries-write put u q inside (at (list_of u q.bucket) q.slot inside.slot) (at-get (list_of u q.bucket) q.slot inside.slot) w in
-            old-fields eq key hash c ws olds news skipped pending next held aside held aside inv (arrays-after put h c ws olds inv.arrays few-held j p.slot e old-is.0 got w equal) (length-set olds j (shelf_write_at put (shelf_of olds j) p.slot w))
-            (inv.held_is ∙ table.counted) (let n = table.spilled in let o = inv.overflow_is in omega arith) inv.few
+            old-fields eq key hash c ws olds news skipped pending next left aside left aside inv (arrays-after put h c ws olds inv.arrays few-owed j p.slot e old-is.0 got w equal) (length-set olds j (shelf_write_at put (shelf_of olds j) p.slot w))
+            (inv.left_is ∙ table.counted) (let n = table.spilled in let o = inv.overflow_is in omega arith) inv.few
             (subst (λ z. IsDistinct eq (map key z)) (sym all) (distinct-write laws key put (entries u) (spots.index_of_spot u q) e w old-got same inv.unique))

@@ -12,7 +12,7 @@ abbrev pub IsListedAt : {E S : Type 0} → (E → Bool) → Contents E S → ℕ
 IsListedAt passes c i p = bounded.IsListedAtSpot passes c i (spot_of c p)
 
 module _ {E S : Type 0} where
-  -- no bucket waits, at least half as many entries as slots are held, and the slots are below `most`
+  -- no bucket waits, at least half as many entries as slots are left, and the slots are below `most`
   pub record IsDoublingDue (most : ℕ) (c : Contents E S) : Type 0 where
     pub settled : pending_of c ≡ 0
     pub half : 32 * bucket_count c ≤ 2 * length (entries c)

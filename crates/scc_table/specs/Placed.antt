@@ -1,7 +1,7 @@
 -- The entry at a place of two arrays, those before and after it, and what a change there leaves: the words for the buckets of one array, at the spot of the place.
 use Rattle.std.specs.Prelude.{◌≡◌, List}
 use Rattle.std.proofs.Common.{sym, ap, subst, length-set}
-use Rattle.scc_contents.specs.Contents.{Contents, bucket_count, waiting_of, held_of}
+use Rattle.scc_contents.specs.Contents.{Contents, bucket_count, waiting_of, owed_of}
 use Rattle.scc_buckets.specs.Placed as spots
 use Rattle.scc_buckets.specs.Places as places
 use Rattle.scc_buckets.specs.Writes as writes
@@ -44,8 +44,8 @@ module _ {E S : Type 0} where
 module _ {E S X : Type 0} (put : E → X → E) (c : Contents E S) where
   -- a write at a spot changes no spot
   pub spot-with_write_at : (s : Place) (w : X) (p : Place) → spot_of (writes.with_write_at_spot put c s w) p ≡ spot_of c p
-  unfolding writes.with_write_at_spot waiting_of held_of bucket_count
-  spot-with_write_at s w p = ap (λ n. spot_in c.waiting c.held n p) (length-set c.lists s.bucket _)
+  unfolding writes.with_write_at_spot waiting_of owed_of bucket_count
+  spot-with_write_at s w p = ap (λ n. spot_in c.waiting c.owed n p) (length-set c.lists s.bucket _)
 
   -- a place stays one where something is written in it
   pub IsPlace-with_write_at : (p : Place) (w : X) → IsPlace c p → IsPlace (with_write_at put c p w) p

@@ -1,15 +1,15 @@
 -- Where an entry of two arrays stands.
 use Rattle.std.specs.Prelude.{◌≡◌, ℕ, ◌-◌, ◌==◌, Bool, false, cond, nat_lt, List, [], ◌∷◌, ◌++◌, take, count_by, slice_get, slice_index_or, Option, None, Some}
 use Rattle.std.specs.List.{flat_map}
-use Rattle.scc_contents.specs.Contents.{Contents, bucket_count, waiting_of, held_of}
+use Rattle.scc_contents.specs.Contents.{Contents, bucket_count, waiting_of, owed_of}
 use Rattle.scc_buckets.specs.Places as spots
 use Rattle.scc_buckets.specs.Standing as standing
 use Rattle.scc_buckets.specs.Writes as writes
 use Rattle.scc_buckets.specs.declared.place.Place.{Place}
 
 -- the buckets that the entries of the old array before number s of old bucket j wait for, in their order
-abbrev pub held_before : List (List ℕ) → ℕ → ℕ → List ℕ
-held_before hs j s = flat_map (λ l. l) (take j hs) ++ take s (slice_index_or hs j [])
+abbrev pub owed_before : List (List ℕ) → ℕ → ℕ → List ℕ
+owed_before hs j s = flat_map (λ l. l) (take j hs) ++ take s (slice_index_or hs j [])
 
 -- the spot of an entry that waits for bucket t, with as many before it in its list as wait for t before it; past the last bucket where there is no such entry
 abbrev pub spot_by : ℕ → Option ℕ → List ℕ → Place
@@ -22,12 +22,12 @@ spot_in [] hs n p = p
 spot_in (w ∷ ws) hs n p =
     cond (nat_lt p.bucket n)
     (cond (slice_index_or (w ∷ ws) p.bucket false) (record { bucket = n; slot = 0 }) p)
-    (spot_by n (slice_get (slice_index_or hs (p.bucket - n) []) p.slot) (held_before hs (p.bucket - n) p.slot))
+    (spot_by n (slice_get (slice_index_or hs (p.bucket - n) []) p.slot) (owed_before hs (p.bucket - n) p.slot))
 
 module _ {E S : Type 0} where
   -- the bucket in whose list the entry at the place stands, and its number in that list
   abbrev pub spot_of : Contents E S → Place → Place
-  spot_of c p = spot_in (waiting_of c) (held_of c) (bucket_count c) p
+  spot_of c p = spot_in (waiting_of c) (owed_of c) (bucket_count c) p
 
   -- an entry stands there
   abbrev pub IsPlace : Contents E S → Place → Type 0

@@ -1,7 +1,7 @@
 -- What a call does to the buckets that wait.
 use Rattle.std.specs.Prelude.{◌≡◌, ◌≢◌, ◌==◌, ℕ, ◌+◌, ◌-◌, ◌*◌, ◌<◌, ◌≤◌, List, length, drop, not}
 use Rattle.std.specs.List.{filter}
-use Rattle.scc_contents.specs.Contents.{Contents, entries, bucket_count, list_of, settings_of, waiting_of, held_of, pending_of}
+use Rattle.scc_contents.specs.Contents.{Contents, entries, bucket_count, list_of, settings_of, waiting_of, owed_of, pending_of}
 use Rattle.scc_buckets.specs.Pour.{bound_for}
 use Rattle.scc_contents.specs.Sizes.{IsArraySize, IsSmaller}
 use Rattle.scc_table.specs.TwoArrays.{IsWaiting}
@@ -27,7 +27,7 @@ module _ {E S : Type 0} where
     pub fewer : bucket_count d ≡ bucket_count c → (i : ℕ) → IsWaiting d i → IsWaiting c i
     pub less : bucket_count d ≡ bucket_count c → pending_of d ≤ pending_of c
     pub waiting : (due → ⊥) → waiting_of d ≡ waiting_of c
-    pub held : (due → ⊥) → held_of d ≡ held_of c
+    pub owed : (due → ⊥) → owed_of d ≡ owed_of c
 
   -- no bucket that waits holds more than 32 entries
   pub record AreShort (c : Contents E S) : Type 0 where

@@ -1,15 +1,15 @@
 -- From where a step looks on.
 use Rattle.std.specs.Prelude.{◌≡◌, ℕ, ◌+◌, ◌-◌, ◌<◌, ◌≤◌, ◌==◌, false, true, cond, nat_lt, length, count_by}
-use Rattle.scc_contents.specs.Contents.{Contents, bucket_count, held_of, list_of, waiting_of}
+use Rattle.scc_contents.specs.Contents.{Contents, bucket_count, owed_of, list_of, waiting_of}
 use Rattle.scc_buckets.specs.Places as spots
 use Rattle.scc_buckets.specs.declared.place.Place.{Place}
-use Rattle.scc_table.specs.Places.{held_before}
+use Rattle.scc_table.specs.Places.{owed_before}
 use Rattle.scc_table.specs.TwoArrays.{waits_at}
 
 module _ {E S : Type 0} where
   -- how many entries wait for bucket t before number s of old bucket j
   abbrev pub rank_on : Contents E S → ℕ → ℕ → ℕ → ℕ
-  rank_on c t j s = count_by (λ u. u == t) (held_before (held_of c) j s)
+  rank_on c t j s = count_by (λ u. u == t) (owed_before (owed_of c) j s)
 
   -- the spot of the first entry of bucket t from number s of bucket b on, where b is the bucket itself or one of the old array
   abbrev pub spot_on : Contents E S → ℕ → ℕ → ℕ → Place
@@ -22,4 +22,4 @@ module _ {E S : Type 0} where
   -- the entries of bucket t from number s of bucket b on may be looked for: b is t, and its list ends there or later, or t waits, and b is one of the old array
   pub data IsStart (c : Contents E S) (t b s : ℕ) : Type 0 where
     own : b ≡ t → waits_at (waiting_of c) t ≡ false → s ≤ length (list_of c t) → IsStart c t b s
-    old : waits_at (waiting_of c) t ≡ true → bucket_count c ≤ b → b < bucket_count c + length (held_of c) → IsStart c t b s
+    old : waits_at (waiting_of c) t ≡ true → bucket_count c ≤ b → b < bucket_count c + length (owed_of c) → IsStart c t b s

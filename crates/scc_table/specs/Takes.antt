@@ -3,5 +3,5 @@ use Rattle.std.specs.Prelude.{ℕ, ◌-◌, cond, nat_lt, List, [], slice_index_
 use Rattle.scc_buckets.specs.declared.place.Place.{Place}
 
 -- the annotations without that of the entry at the place, where it is one of the old array; the new one has n buckets
-abbrev pub held_taken : ℕ → List (List ℕ) → Place → List (List ℕ)
-held_taken n hs p = cond (nat_lt p.bucket n) hs (slice_set hs (p.bucket - n) (remove (slice_index_or hs (p.bucket - n) []) p.slot))
+abbrev pub owed_taken : ℕ → List (List ℕ) → Place → List (List ℕ)
+owed_taken n hs p = cond (nat_lt p.bucket n) hs (slice_set hs (p.bucket - n) (remove (slice_index_or hs (p.bucket - n) []) p.slot))

@@ -2,7 +2,7 @@
 use Rattle.std.specs.Prelude.{◌≡◌, ◌==◌, ℕ, suc, ◌+◌, ◌*◌, ◌^◌, ◌<◌, ◌≤◌, ◌⊎◌, Bool, true, false, cond, List, [], ◌∷◌, length, map, not, count_by, slice_index_or, slice_set}
 use Rattle.std.specs.List.{filter, flat_map, range_with_len, sum_by, IsDistinct}
 use Rattle.scc_array.specs.Shelf.{Shelf, shelf_entries}
-use Rattle.scc_contents.specs.Contents.{Contents, entries, bucket_count, list_of, lists_of, settings_of, refused_of, spilled_of, waiting_of, held_of, pending_of}
+use Rattle.scc_contents.specs.Contents.{Contents, entries, bucket_count, list_of, lists_of, settings_of, refused_of, spilled_of, waiting_of, owed_of, pending_of}
 use Rattle.scc_buckets.specs.Pour.{bound_for}
 use Rattle.scc_contents.specs.Routing.{bucket_number}
 use Rattle.scc_contents.specs.Sizes.{IsArray}
@@ -20,9 +20,9 @@ joined target i (w ∷ ws) [] es = []
 joined target i (w ∷ ws) (l ∷ ls) es = cond w (filter (λ e. target e == i) es) l ∷ joined target (suc i) ws ls es
 
 -- of each old bucket the buckets that its entries belong to; nothing where none waits
-abbrev pub held_in : {E : Type 0} → (E → ℕ) → List Bool → List (Shelf E) → List (List ℕ)
-held_in target [] olds = []
-held_in target (w ∷ ws) olds = map (λ b. map target (shelf_entries b)) olds
+abbrev pub owed_in : {E : Type 0} → (E → ℕ) → List Bool → List (Shelf E) → List (List ℕ)
+owed_in target [] olds = []
+owed_in target (w ∷ ws) olds = map (λ b. map target (shelf_entries b)) olds
 
 module _ {E S : Type 0} where
   -- the bucket of the new array that an entry belongs to
@@ -37,7 +37,7 @@ module _ {E S : Type 0} where
     refused = refused_of c;
     spilled = spilled_of c + spilled_in olds;
     waiting = ws;
-    held = held_in (target_by hash c) ws olds;
+    owed = owed_in (target_by hash c) ws olds;
   }
 
   -- an entry lies in the old array, in the bucket of its hash there, only where its bucket of the new one waits; that one is empty then
@@ -67,9 +67,9 @@ abbrev pub settle : List Bool → ℕ → List Bool
 settle ws i = cond (count_by (λ w. w) (slice_set ws i false) == 0) [] (slice_set ws i false)
 
 -- the annotations without bucket i; none where no bucket waits
-abbrev pub held_without : List Bool → ℕ → List (List ℕ) → List (List ℕ)
-held_without [] i hs = []
-held_without (w ∷ ws) i hs = map (λ ts. filter (λ t. not (t == i)) ts) hs
+abbrev pub owed_without : List Bool → ℕ → List (List ℕ) → List (List ℕ)
+owed_without [] i hs = []
+owed_without (w ∷ ws) i hs = map (λ ts. filter (λ t. not (t == i)) ts) hs
 
 -- the entries of bucket i, which waited, came from the old array, and nothing else changed: no list did
 pub record IsRelocated {E S : Type 0} (i : ℕ) (c d : Contents E S) : Type 0 where
@@ -77,11 +77,11 @@ pub record IsRelocated {E S : Type 0} (i : ℕ) (c d : Contents E S) : Type 0 wh
   pub settings : settings_of d ≡ settings_of c
   pub refused : refused_of d ≡ refused_of c
   pub waiting : waiting_of d ≡ settle (waiting_of c) i
-  pub held : held_of d ≡ held_without (waiting_of d) i (held_of c)
+  pub owed : owed_of d ≡ owed_without (waiting_of d) i (owed_of c)
   pub pending : pending_of c ≡ pending_of d + 1
 
 -- of all fields of a table of two arrays. Where no bucket waits, there is no old array
-pub record IsTable {E K S : Type 0} (eq : K → K → Bool) (key : E → K) (hash : K → ℕ) (c : Contents E S) (ws : List Bool) (olds : List (Shelf E)) (skipped pending next held held_overflow : ℕ) : Type 0 where
+pub record IsTable {E K S : Type 0} (eq : K → K → Bool) (key : E → K) (hash : K → ℕ) (c : Contents E S) (ws : List Bool) (olds : List (Shelf E)) (skipped pending next left left_overflow : ℕ) : Type 0 where
   pub arrays : TwoArrays (λ e. hash (key e)) c ws olds
   pub skips : skipped ≡ (settings_of c).skipped
   pub few_bits : skipped ≤ 4
@@ -89,7 +89,7 @@ pub record IsTable {E K S : Type 0} (eq : K → K → Bool) (key : E → K) (has
   pub none : pending ≡ 0 → ws ≡ []
   pub given_back : pending ≡ 0 → olds ≡ []
   pub below : (i : ℕ) → i < next → waits_at ws i ≡ false
-  pub held_is : held ≡ sum_by (λ b. length (shelf_entries b)) olds
-  pub overflow_is : spilled_in olds ≤ held_overflow
-  pub few : spilled_of c + held_overflow < 2 ^ 62
+  pub left_is : left ≡ sum_by (λ b. length (shelf_entries b)) olds
+  pub overflow_is : spilled_in olds ≤ left_overflow
+  pub few : spilled_of c + left_overflow < 2 ^ 62
   pub unique : IsDistinct eq (map key (entries (together (λ e. hash (key e)) c ws olds)))

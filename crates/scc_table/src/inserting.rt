@@ -2,7 +2,7 @@
 ghost use Rattle.std.specs.Prelude.{◌≡◌, ◌≢◌, ◌≤◌, ◌<◌, ◌+◌, ◌-◌, ℕ, false, None, drop, IfOk, IfErr, OnOk, OnErr};
 ghost use Rattle.std.specs.List.{position, range_with_len};
 ghost use Rattle.scc_buckets.specs.Bounded.{IsBounded};
-ghost use Rattle.scc_contents.specs.Contents.{entries, bucket_count, held_of, key_hash, lists_of, pending_of, refused_of, settings_of, waiting_of, HasRoomBy, IsUniqueBy};
+ghost use Rattle.scc_contents.specs.Contents.{entries, bucket_count, owed_of, key_hash, lists_of, pending_of, refused_of, settings_of, waiting_of, HasRoomBy, IsUniqueBy};
 ghost use Rattle.scc_buckets.specs.OneList.{HasSameLists, IsPutIn};
 ghost use Rattle.scc_contents.specs.Routing.{bucket_number};
 ghost use Rattle.scc_contents.specs.Steps.{FirstArrayWhenDue, Grows, GrowsWhenDue, IsReadyFor, IsUnchanged, Rests};
@@ -243,14 +243,14 @@ where
         ensures full { OnErr result (HasRoomBy (key_hash H.BuildHasher H.Hasher.Hasher E.Key.hash_input self.old)
             E.key_of self.old (E.key_of entry) → ⊥) }
         ensures waiting { waiting_of self.new ≡ waiting_of self.old }
-        ensures held { held_of self.new ≡ held_of self.old }
+        ensures owed { owed_of self.new ≡ owed_of self.old }
         ensures unique { IsUniqueBy E.Key.eq E.key_of self.new }
     {
         self.current.keep_lists();
-        if self.held_overflow > 0 {
+        if self.left_overflow > 0 {
             let listed = self.current.list_len(bucket);
             let spilled = self.current.overflow_len();
-            if is_overflow_full(listed, spilled, self.held_overflow) {
+            if is_overflow_full(listed, spilled, self.left_overflow) {
                 return Err(entry);
             }
         }

@@ -3,7 +3,7 @@
 ghost use Rattle.std.specs.Prelude.{◌≡◌, ◌<◌, ◌++◌, [], ◌∷◌, length, None, Some, slice_get, remove, MatchOption};
 ghost use Rattle.std.specs.List.{position};
 ghost use Rattle.scc_buckets.specs.Bounded.{HasList, IsBounded, IsListed, IsUnlisted, PutsLast};
-ghost use Rattle.scc_contents.specs.Contents.{entries, bucket_count, list_of, settings_of, waiting_of, held_of, key_hash, IsUniqueBy};
+ghost use Rattle.scc_contents.specs.Contents.{entries, bucket_count, list_of, settings_of, waiting_of, owed_of, key_hash, IsUniqueBy};
 ghost use Rattle.scc_contents.specs.Routing.{bucket_number};
 ghost use Rattle.scc_table.specs.Bounded.{IsListedAt};
 ghost use Rattle.scc_table.specs.TwoArrays.{IsWaiting};
@@ -46,7 +46,7 @@ where
             self.old → IsListed (λ e. key_hash H.BuildHasher H.Hasher.Hasher E.Key.hash_input self.new (E.key_of e))
             self.new }
         ensures waiting { waiting_of self.new ≡ waiting_of self.old }
-        ensures held { held_of self.new ≡ held_of self.old }
+        ensures owed { owed_of self.new ≡ owed_of self.old }
         ensures unique { IsUniqueBy E.Key.eq E.key_of self.new }
     {
         self.current.keep_lists();
@@ -69,7 +69,7 @@ where
             self.old → IsListed (λ e. key_hash H.BuildHasher H.Hasher.Hasher E.Key.hash_input self.new (E.key_of e))
             self.new }
         ensures waiting { waiting_of self.new ≡ waiting_of self.old }
-        ensures held { held_of self.new ≡ held_of self.old }
+        ensures owed { owed_of self.new ≡ owed_of self.old }
         ensures unique { IsUniqueBy E.Key.eq E.key_of self.new }
     {
         self.current.touch(bucket, slot, hash);

@@ -51,8 +51,8 @@ where
     waiting: Vec<bool>,
     pending: usize,
     next: usize,
-    held: usize,
-    held_overflow: usize,
+    left: usize,
+    left_overflow: usize,
     skipped: u32,
 }
 
@@ -69,7 +69,7 @@ where
 
     ghost view = { λ t. together (λ e. key_hash H.BuildHasher H.Hasher.Hasher E.Key.hash_input t.current (E.key_of e)) t.current t.waiting.items t.draining };
 
-    ghost invariant = { λ t. IsTable E.Key.eq E.key_of (key_hash H.BuildHasher H.Hasher.Hasher E.Key.hash_input t.current) t.current t.waiting.items t.draining t.skipped t.pending t.next t.held t.held_overflow };
+    ghost invariant = { λ t. IsTable E.Key.eq E.key_of (key_hash H.BuildHasher H.Hasher.Hasher E.Key.hash_input t.current) t.current t.waiting.items t.draining t.skipped t.pending t.next t.left t.left_overflow };
 }
 
 impl<E: Keyed, H: BuildHasher> Table<E, H>

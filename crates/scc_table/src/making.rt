@@ -80,8 +80,8 @@ where
             waiting: Vec::new(alloc),
             pending: 0,
             next: 0,
-            held: 0,
-            held_overflow: 0,
+            left: 0,
+            left_overflow: 0,
             skipped,
         }
     }

@@ -1,7 +1,7 @@
 //! Entries that are made when they are put into a table of two arrays.
 ghost use Rattle.std.specs.Prelude.{◌≡◌, ◌≢◌, ◌≤◌, ◌<◌, ◌+◌, ◌-◌, ◌*◌, ◌^◌, ℕ, [], false, true, None, drop, length, IfOk, IfErr, OnOk, OnErr};
 ghost use Rattle.std.specs.List.{position, range_with_len};
-ghost use Rattle.scc_contents.specs.Contents.{entries, bucket_count, held_of, key_hash, pending_of, refused_of, settings_of, waiting_of, HasRoomBy, IsUniqueBy};
+ghost use Rattle.scc_contents.specs.Contents.{entries, bucket_count, owed_of, key_hash, pending_of, refused_of, settings_of, waiting_of, HasRoomBy, IsUniqueBy};
 ghost use Rattle.scc_buckets.specs.OneList.{HasSameLists, IsPutIn};
 ghost use Rattle.scc_contents.specs.Routing.{bucket_number};
 ghost use Rattle.scc_contents.specs.Steps.{FirstArrayWhenDue, Grows, GrowsWhenDue, IsReadyFor, IsUnchanged, RaisesWhenDue};
@@ -100,7 +100,7 @@ where
         ensures waiting { waiting_of self.new ≡ [] }
         ensures unique { IsUniqueBy E.Key.eq E.key_of self.new }
     {
-        self.held_overflow = 0;
+        self.left_overflow = 0;
         let placed = self.current.insert_made_first(hash, parts);
         let _few = self.current.overflow_len();
         placed
@@ -319,14 +319,14 @@ where
         ensures err { IfErr result (λ p. p ≡ parts) }
         ensures stays { OnErr result (HasSameLists self.old self.new) }
         ensures waiting { waiting_of self.new ≡ waiting_of self.old }
-        ensures held { held_of self.new ≡ held_of self.old }
+        ensures owed { owed_of self.new ≡ owed_of self.old }
         ensures unique { IsUniqueBy E.Key.eq E.key_of self.new }
     {
         self.current.keep_lists();
-        if self.held_overflow > 0 {
+        if self.left_overflow > 0 {
             let listed = self.current.list_len(bucket);
             let spilled = self.current.overflow_len();
-            if is_overflow_full(listed, spilled, self.held_overflow) {
+            if is_overflow_full(listed, spilled, self.left_overflow) {
                 return Err(parts);
             }
         }

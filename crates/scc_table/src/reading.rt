@@ -21,7 +21,7 @@ where
         ensures unique { IsUniqueBy E.Key.eq E.key_of self.now }
     {
         let _ = self.current.bucket_count();
-        self.current.len() + self.held
+        self.current.len() + self.left
     }
 
     /// The entry at the place.

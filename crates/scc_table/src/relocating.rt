@@ -26,7 +26,7 @@ where
         ensures refused { OnErr result (32 < length (list_of self.old bucket)) }
         ensures bounded { IsBounded self.old → length (list_of self.old bucket) ≤ 32 → IsBounded self.new }
     {
-        let aside = self.held_overflow;
+        let aside = self.left_overflow;
         match take(
             &mut self.current,
             &mut self.draining,
@@ -36,7 +36,7 @@ where
             self.waiting.as_slice(),
         ) {
             Ok(moved) => {
-                self.held -= moved;
+                self.left -= moved;
                 self.pending -= 1;
                 self.waiting[bucket] = false;
                 if self.pending == 0 {
@@ -44,7 +44,7 @@ where
                     let none = Array::none(self.current.allocator());
                     let bare = std::mem::replace(&mut self.draining, none);
                     bare.destroy_empty();
-                    self.held_overflow = 0;
+                    self.left_overflow = 0;
                 }
                 Ok(())
             }

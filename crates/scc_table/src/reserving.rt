@@ -1,6 +1,6 @@
 //! How many slots a table of two arrays keeps at least, and the tokens of reserved ones.
 ghost use Rattle.std.specs.Prelude.{◌≡◌, ◌≢◌, ◌≤◌, ◌<◌, ◌+◌, ◌-◌, ◌*◌, ◌^◌, ◌↔◌, IfNone, IfSome, IsSome, IsTrue, OnSome};
-ghost use Rattle.scc_contents.specs.Contents.{entries, bucket_count, held_of, lists_of, settings_of, spilled_of, refused_of, minimum_of, waiting_of, IsUniqueBy};
+ghost use Rattle.scc_contents.specs.Contents.{entries, bucket_count, owed_of, lists_of, settings_of, spilled_of, refused_of, minimum_of, waiting_of, IsUniqueBy};
 ghost use Rattle.scc_contents.specs.Sizes.{IsArraySize};
 ghost use Rattle.scc_contents.specs.Steps.{IsUnchanged, ReachesMinimumWhenDue, Releases, Reserves, Resizes, ShrinksWhenDue};
 ghost use Rattle.scc_table.specs.Relocates.{IsGrowthDue, IsShrinkDue, Spreads};
@@ -114,7 +114,7 @@ where
         ensures noted { refused_of self.new ≡ refused_of self.old }
         ensures lists { lists_of self.new ≡ lists_of self.old }
         ensures waiting { waiting_of self.new ≡ waiting_of self.old }
-        ensures held { held_of self.new ≡ held_of self.old }
+        ensures owed { owed_of self.new ≡ owed_of self.old }
     {
         self.current.set_reserved(reserved);
     }

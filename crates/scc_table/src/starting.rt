@@ -3,7 +3,7 @@ ghost use Rattle.std.specs.Prelude.{◌≡◌, ◌≢◌, ◌≤◌, ◌<◌, �
 ghost use Rattle.std.specs.List.Sorted.{IsPermutation};
 ghost use Rattle.scc_array.specs.Shelf.{empty_shelf};
 ghost use Rattle.scc_buckets.specs.Bounded.{IsBounded};
-ghost use Rattle.scc_contents.specs.Contents.{entries, bucket_count, held_of, key_hash, list_of, lists_of, pending_of, refused_of, settings_of, spilled_of, waiting_of, IsUniqueBy};
+ghost use Rattle.scc_contents.specs.Contents.{entries, bucket_count, owed_of, key_hash, list_of, lists_of, pending_of, refused_of, settings_of, spilled_of, waiting_of, IsUniqueBy};
 ghost use Rattle.scc_buckets.specs.Pour.{IsRegrouped};
 ghost use Rattle.scc_contents.specs.Sizes.{IsArray};
 ghost use Rattle.scc_contents.specs.Steps.{IsUnchanged};
@@ -92,7 +92,7 @@ where
         ensures noted { refused_of self.new ≡ (refused, false) }
         ensures spilled { spilled_of self.new ≡ spilled_of self.old }
         ensures waiting { waiting_of self.new ≡ waiting_of self.old }
-        ensures held { held_of self.new ≡ held_of self.old }
+        ensures owed { owed_of self.new ≡ owed_of self.old }
         ensures unique { IsUniqueBy E.Key.eq E.key_of self.new }
     {
         self.current.note(refused);
@@ -105,7 +105,7 @@ where
         ensures noted { refused_of self.new ≡ (refused, tried) }
         ensures spilled { spilled_of self.new ≡ spilled_of self.old }
         ensures waiting { waiting_of self.new ≡ waiting_of self.old }
-        ensures held { held_of self.new ≡ held_of self.old }
+        ensures owed { owed_of self.new ≡ owed_of self.old }
         ensures unique { IsUniqueBy E.Key.eq E.key_of self.new }
     {
         self.current.mark(refused, tried);
@@ -128,14 +128,14 @@ where
         ensures noted { refused_of self.new ≡ refused_of self.old }
         ensures bounded { IsBounded self.old → IsBounded self.new }
     {
-        let (old, held, held_overflow) = self.current.exchange(fresh, 0, 0);
+        let (old, left, left_overflow) = self.current.exchange(fresh, 0, 0);
         let bare = std::mem::replace(&mut self.draining, old);
         bare.destroy_empty();
         self.waiting = flags;
         self.pending = count;
         self.next = 0;
-        self.held = held;
-        self.held_overflow = held_overflow;
+        self.left = left;
+        self.left_overflow = left_overflow;
     }
 
     /// Puts the empty buckets in the place of the present ones, where none waits. That bucket of the new array takes
@@ -163,7 +163,7 @@ where
         ensures err { OnErr result (self.new ≡ self.old) }
         ensures unique { IsUniqueBy E.Key.eq E.key_of self.new }
     {
-        let (mut old, held, overflow) = self.current.exchange(fresh, 0, 0);
+        let (mut old, left, overflow) = self.current.exchange(fresh, 0, 0);
         match take(
             &mut self.current,
             &mut old,
@@ -179,12 +179,12 @@ where
                 self.waiting = flags;
                 self.pending = count - 1;
                 self.next = 0;
-                self.held = held - moved;
-                self.held_overflow = overflow;
+                self.left = left - moved;
+                self.left_overflow = overflow;
                 Ok(())
             }
             Err(e) => {
-                let (bare, _, _) = self.current.exchange(old, held, overflow);
+                let (bare, _, _) = self.current.exchange(old, left, overflow);
                 bare.destroy_empty();
                 Err(e)
             }

@@ -1,6 +1,6 @@
 //! Steps from place to place, in the order of the entries.
 ghost use Rattle.std.specs.Prelude.{◌≡◌, ◌≤◌, ◌<◌, ◌^◌, ◌+◌, [], length, suc, MatchOption};
-ghost use Rattle.scc_contents.specs.Contents.{entries, bucket_count, held_of, list_of};
+ghost use Rattle.scc_contents.specs.Contents.{entries, bucket_count, owed_of, list_of};
 ghost use Rattle.scc_buckets.specs.Places as spots;
 ghost use Rattle.scc_table.specs.Places.{IsPlace, index_of, spot_of, StandsAt};
 ghost use Rattle.scc_table.specs.Stepping.{index_on, rank_on, IsStart};
@@ -110,7 +110,7 @@ where
     /// The place of the first entry of a bucket that waits, from number `slot` of that old bucket on.
     fn old_place(&self, target: usize, source: usize, slot: usize) -> Option<Place>
         requires waits { IsWaiting self.now target }
-        requires source { source < length (held_of self.now) }
+        requires source { source < length (owed_of self.now) }
         ensures { MatchOption result (rank_on self.now target source slot ≡ length (list_of self.now target))
             (StandsAt self.now (spots.index_of_spot self.now
             (record { bucket = target; slot = rank_on self.now target source slot }))) }

@@ -4,11 +4,11 @@ ghost use Rattle.std.specs.Prelude.{◌≡◌, ◌≤◌, ◌<◌, Some, None, l
 ghost use Rattle.std.specs.List.{position};
 ghost use Rattle.std.specs.List.Sorted.{IsPermutation};
 ghost use Rattle.scc_buckets.specs.Bounded.{HasList, IsBounded};
-ghost use Rattle.scc_contents.specs.Contents.{entries, bucket_count, list_of, refused_of, settings_of, waiting_of, held_of, IsUniqueBy};
+ghost use Rattle.scc_contents.specs.Contents.{entries, bucket_count, list_of, refused_of, settings_of, waiting_of, owed_of, IsUniqueBy};
 ghost use Rattle.scc_buckets.specs.OneList.{IsSwappedOutOf, IsTakenFrom};
 ghost use Rattle.scc_contents.specs.Steps.{HoldsExactly};
 ghost use Rattle.scc_table.specs.Places.{IsPlace, StandsAt, index_of, spot_of};
-ghost use Rattle.scc_table.specs.Takes.{held_taken};
+ghost use Rattle.scc_table.specs.Takes.{owed_taken};
 
 use super::Table;
 use scc_buckets::Place;
@@ -34,7 +34,7 @@ where
             → length (list_of self.new (spot_of self.old place).bucket) < 32 }
         ensures lists { IsBounded self.old → HasList self.old (spot_of self.old place).bucket
             (remove (list_of self.old (spot_of self.old place).bucket) (spot_of self.old place).slot) self.new }
-        ensures held { held_of self.new ≡ held_taken (bucket_count self.old) (held_of self.old) place }
+        ensures owed { owed_of self.new ≡ owed_taken (bucket_count self.old) (owed_of self.old) place }
         ensures exact { IsTakenFrom self.old (spot_of self.old place) self.new }
         ensures unique { IsUniqueBy E.Key.eq E.key_of self.new }
     {
@@ -43,7 +43,7 @@ where
             return self.current.take_in(place);
         }
         let entry = self.draining.remove_at(place.bucket - count, place.slot);
-        self.held -= 1;
+        self.left -= 1;
         entry
     }
 
@@ -81,7 +81,7 @@ where
         ensures noted { refused_of self.new ≡ refused_of self.old }
         ensures settings { settings_of self.new ≡ settings_of self.old }
         ensures waiting { waiting_of self.new ≡ waiting_of self.old }
-        ensures held { held_of self.new ≡ held_taken (bucket_count self.old) (held_of self.old) place }
+        ensures owed { owed_of self.new ≡ owed_taken (bucket_count self.old) (owed_of self.old) place }
         ensures exact { IsSwappedOutOf self.old (spot_of self.old place) self.new }
         ensures unique { IsUniqueBy E.Key.eq E.key_of self.new }
     {
@@ -90,7 +90,7 @@ where
             return self.current.swap_take_at(place);
         }
         let entry = self.draining.remove_at(place.bucket - count, place.slot);
-        self.held -= 1;
+        self.left -= 1;
         entry
     }
 }

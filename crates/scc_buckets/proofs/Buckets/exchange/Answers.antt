@@ -3,7 +3,7 @@ use Rattle.std.specs.List.{flat_map, IsDistinct}
 use Rattle.scc_array.specs.Shelf.{Shelf, shelf_entries}
 use Rattle.scc_contents.specs.Hashing.{hash_of}
 use Rattle.scc_buckets.specs.Tables.{IsBuckets, spilled_in}
-use Rattle.scc_buckets.proofs.Views.{settings-view, refused-view, spilled-view, lists-view, waiting-view, held-view}
+use Rattle.scc_buckets.proofs.Views.{settings-view, refused-view, spilled-view, lists-view, waiting-view, owed-view}
 use Rattle.scc_buckets.proofs.Buckets.exchange.Goals as goal
 
 pub invariant_of-self : goal.invariant_of-self
@@ -34,8 +34,8 @@ returns-clause-spilled g c = spilled-view _ _ _ refl ∙ ap spilled_in c.replace
 pub returns-clause-waiting : goal.returns-clause-waiting
 returns-clause-waiting g c = waiting-view _ _ _ refl ∙ sym (waiting-view c.self.inside.buckets _ c.args.self.now c.self.view_is)
 
-pub returns-clause-held : goal.returns-clause-held
-returns-clause-held g c = held-view _ _ _ refl ∙ sym (held-view c.self.inside.buckets _ c.args.self.now c.self.view_is)
+pub returns-clause-owed : goal.returns-clause-owed
+returns-clause-owed g c = owed-view _ _ _ refl ∙ sym (owed-view c.self.inside.buckets _ c.args.self.now c.self.view_is)
 
 pub returns-clause-were : goal.returns-clause-were
 returns-clause-were g c = lists-view c.self.inside.buckets _ c.args.self.now c.self.view_is ∙ ap (map shelf_entries) (sym c.replace-own.ensures.value)

@@ -276,7 +276,7 @@ returns-in-Err-clause-err g c =
     let no_overflow : length d.overflow ≡ 0 = ap (λ z. length z.overflow) c.in-Err.ensures.stays in
     same-contents cur c.exchange-none.new.self (c.exchange-none.ensures.lists ∙ ap (map shelf_entries) others ∙ lists-set g.E.Key.PartialEq.eq g.E.Keyed.key_of cur bs were i d ∙ same-lists g.E.Key.PartialEq.eq g.E.Keyed.key_of cur bs were i d b l at bare none)
     (c.exchange-none.ensures.settings ∙ c.exchange-fresh.ensures.settings) (c.exchange-none.ensures.noted ∙ c.exchange-fresh.ensures.noted) (omega (arith, c.exchange-none.ensures.spilled, c.exchange-fresh.ensures.overflowing))
-    (c.exchange-none.ensures.waiting ∙ c.exchange-fresh.ensures.waiting) (c.exchange-none.ensures.held ∙ c.exchange-fresh.ensures.held)
+    (c.exchange-none.ensures.waiting ∙ c.exchange-fresh.ensures.waiting) (c.exchange-none.ensures.owed ∙ c.exchange-fresh.ensures.owed)
 
 pub left_of-left-requires : goal.left_of-left-requires
 left_of-left-requires g c = omega (arith, c.exchange-fresh.ensures.overflowing, c.requires.aside)

@@ -11,7 +11,7 @@ use Rattle.scc_buckets.proofs.Fresh.{empty-replicate}
 use Rattle.scc_buckets.proofs.MakingLemmas.{flat-empty, table-empty}
 use Rattle.scc_table.specs.TwoArrays.{IsTable, together}
 use Rattle.scc_buckets.proofs.Bare.{all-bare}
-use Rattle.scc_table.proofs.Alone.{count-alone, entries-alone, lists-alone, nothing-held, spilled-together}
+use Rattle.scc_table.proofs.Alone.{count-alone, entries-alone, lists-alone, nothing-owed, spilled-together}
 use Rattle.scc_draining.proofs.Arriving.{count-were, entries-were, IsDistinct-nil}
 use Rattle.scc_table.proofs.Joining.{waiting-together, pending-together, refused-together}
 use Rattle.scc_table.proofs.Same.{hash-same}
@@ -35,7 +35,7 @@ pub destroy_empty-requires : goal.destroy_empty-requires
 destroy_empty-requires g c =
     let t = c.self.inside in
     let none = settled-flags c.args.self.now c.self.invariant c.self.view_is c.requires.settled in
-    let bare = nothing-held _ t.current t.waiting.items t.draining none c.self.invariant.arrays in
+    let bare = nothing-owed _ t.current t.waiting.items t.draining none c.self.invariant.arrays in
     λ i l. rw c.replace-bare.ensures.value (all-bare t.draining bare i)
 
 pub invariant_of-self : goal.invariant_of-self
@@ -45,7 +45,7 @@ invariant_of-self g c =
     let cur = t.current in
     let d = c.exchange-old.new.self in
     let olds = c.exchange-old.result.0 in
-    let held = c.exchange-old.result.1 in
+    let owed = c.exchange-old.result.1 in
     let over = c.exchange-old.result.2 in
     let inv = c.self.invariant in
     let hk = key_hash g.H.BuildHasher g.H.Hasher.Hasher g.E.Key.Hash.hash_input cur in
@@ -57,7 +57,7 @@ invariant_of-self g c =
     let now : lists_of d ≡ map shelf_entries (replicate n empty_shelf) = c.exchange-old.ensures.lists ∙ ap (λ (z : List (Shelf g.row.E.Denot)). map shelf_entries z) c.requires.empty in
     let counted : bucket_count d ≡ n = count-were d (replicate n empty_shelf) now ∙ length-replicate n (empty_shelf {E = g.row.E.Denot}) in
     let long : bucket_count c.args.self.now ≡ length olds = count-seen hash cur t.waiting.items t.draining c.args.self.now c.self.view_is inv.arrays.flags ∙ count-were cur olds were in
-    let table : IsBuckets hash (settings_of d).skipped olds held over = subst (λ s. IsBuckets hash s.skipped olds held over) (sym settings) c.exchange-old.ensures.table in
+    let table : IsBuckets hash (settings_of d).skipped olds left over = subst (λ s. IsBuckets hash s.skipped olds left over) (sym settings) c.exchange-old.ensures.table in
     let was : IsArray (length olds) = elim c.exchange-old.ensures.table.sized [ inl z ↦ absurd (omega (arith, c.requires.some)) | inr z ↦ z ] in
     let differ : n ≢ length olds = λ z. c.requires.other (z ∙ sym long) in
     let all : entries (together hash cur t.waiting.items t.draining) ≡ flat_map shelf_entries olds = entries-alone hash cur t.waiting.items t.draining none ∙ entries-were cur olds were in
@@ -65,8 +65,8 @@ invariant_of-self g c =
     let nothing : spilled_of d ≡ 0 = c.exchange-old.ensures.spilled in
     let skips : t.skipped ≡ (settings_of d).skipped = inv.skips ∙ ap (λ s. s.skipped) (sym settings) in
     rw (c.replace-bare.ensures.after, c.requires.flags)
-    (subst (λ (h : g.row.E-Key.Denot → ℕ). IsTable g.E.Key.PartialEq.eq g.E.Keyed.key_of h d (replicate n true) olds t.skipped n 0 held over) (sym same)
-    (started-fields g.E.Key.PartialEq.eq g.met.E.Key.Eq.laws g.E.Keyed.key_of hk d n olds counted now t.skipped held over table was c.requires.array differ skips inv.few_bits nothing unique))
+    (subst (λ (h : g.row.E-Key.Denot → ℕ). IsTable g.E.Key.PartialEq.eq g.E.Keyed.key_of h d (replicate n true) olds t.skipped n 0 left over) (sym same)
+    (started-fields g.E.Key.PartialEq.eq g.met.E.Key.Eq.laws g.E.Keyed.key_of hk d n olds counted now t.skipped left over table was c.requires.array differ skips inv.few_bits nothing unique))
 
 pub returns-clause-lists : goal.returns-clause-lists
 returns-clause-lists g c =
@@ -75,7 +75,7 @@ returns-clause-lists g c =
     let cur = t.current in
     let d = c.exchange-old.new.self in
     let olds = c.exchange-old.result.0 in
-    let held = c.exchange-old.result.1 in
+    let owed = c.exchange-old.result.1 in
     let over = c.exchange-old.result.2 in
     let inv = c.self.invariant in
     let hk = key_hash g.H.BuildHasher g.H.Hasher.Hasher g.E.Key.Hash.hash_input cur in
@@ -87,13 +87,13 @@ returns-clause-lists g c =
     let now : lists_of d ≡ map shelf_entries (replicate n empty_shelf) = c.exchange-old.ensures.lists ∙ ap (λ (z : List (Shelf g.row.E.Denot)). map shelf_entries z) c.requires.empty in
     let counted : bucket_count d ≡ n = count-were d (replicate n empty_shelf) now ∙ length-replicate n (empty_shelf {E = g.row.E.Denot}) in
     let long : bucket_count c.args.self.now ≡ length olds = count-seen hash cur t.waiting.items t.draining c.args.self.now c.self.view_is inv.arrays.flags ∙ count-were cur olds were in
-    let table : IsBuckets hash (settings_of d).skipped olds held over = subst (λ s. IsBuckets hash s.skipped olds held over) (sym settings) c.exchange-old.ensures.table in
+    let table : IsBuckets hash (settings_of d).skipped olds left over = subst (λ s. IsBuckets hash s.skipped olds left over) (sym settings) c.exchange-old.ensures.table in
     let was : IsArray (length olds) = elim c.exchange-old.ensures.table.sized [ inl z ↦ absurd (omega (arith, c.requires.some)) | inr z ↦ z ] in
     let differ : n ≢ length olds = λ z. c.requires.other (z ∙ sym long) in
     let all : entries c.args.self.now ≡ flat_map shelf_entries olds = ap entries (sym c.self.view_is) ∙ entries-alone hash cur t.waiting.items t.draining none ∙ entries-were cur olds were in
     let kept = settings-seen hash cur t.waiting.items t.draining c.args.self.now c.self.view_is in
     let outer = hash-same g.H.BuildHasher g.H.Hasher.Hasher g.E.Key.Hash.hash_input cur c.args.self.now kept in
-    let regrouped = started-lists hash d n olds counted now held over table was c.requires.array differ c.args.self.now all (settings ∙ sym kept) in
+    let regrouped = started-lists hash d n olds counted now left over table was c.requires.array differ c.args.self.now all (settings ∙ sym kept) in
     rw (c.replace-bare.ensures.after, c.requires.flags)
     (subst (λ (h : g.row.E-Key.Denot → ℕ). IsRegrouped (λ e. h (g.E.Keyed.key_of e)) n c.args.self.now (together (λ e. key_hash g.H.BuildHasher g.H.Hasher.Hasher g.E.Key.Hash.hash_input d (g.E.Keyed.key_of e)) d (replicate n true) olds)) (sym outer)
     (subst (λ (h : g.row.E-Key.Denot → ℕ). IsRegrouped hash n c.args.self.now (together (λ e. h (g.E.Keyed.key_of e)) d (replicate n true) olds)) (sym same) regrouped))
@@ -105,7 +105,7 @@ returns-clause-same g c =
     let cur = t.current in
     let d = c.exchange-old.new.self in
     let olds = c.exchange-old.result.0 in
-    let held = c.exchange-old.result.1 in
+    let owed = c.exchange-old.result.1 in
     let over = c.exchange-old.result.2 in
     let inv = c.self.invariant in
     let hk = key_hash g.H.BuildHasher g.H.Hasher.Hasher g.E.Key.Hash.hash_input cur in
@@ -117,7 +117,7 @@ returns-clause-same g c =
     let now : lists_of d ≡ map shelf_entries (replicate n empty_shelf) = c.exchange-old.ensures.lists ∙ ap (λ (z : List (Shelf g.row.E.Denot)). map shelf_entries z) c.requires.empty in
     let counted : bucket_count d ≡ n = count-were d (replicate n empty_shelf) now ∙ length-replicate n (empty_shelf {E = g.row.E.Denot}) in
     let long : bucket_count c.args.self.now ≡ length olds = count-seen hash cur t.waiting.items t.draining c.args.self.now c.self.view_is inv.arrays.flags ∙ count-were cur olds were in
-    let table : IsBuckets hash (settings_of d).skipped olds held over = subst (λ s. IsBuckets hash s.skipped olds held over) (sym settings) c.exchange-old.ensures.table in
+    let table : IsBuckets hash (settings_of d).skipped olds left over = subst (λ s. IsBuckets hash s.skipped olds left over) (sym settings) c.exchange-old.ensures.table in
     let was : IsArray (length olds) = elim c.exchange-old.ensures.table.sized [ inl z ↦ absurd (omega (arith, c.requires.some)) | inr z ↦ z ] in
     let differ : n ≢ length olds = λ z. c.requires.other (z ∙ sym long) in
     let all : entries c.args.self.now ≡ flat_map shelf_entries olds = ap entries (sym c.self.view_is) ∙ entries-alone hash cur t.waiting.items t.draining none ∙ entries-were cur olds were in

@@ -50,7 +50,7 @@ unreachable-requires g c =
     let few : length (list_of d i) < 32 = subst (λ z. length z < 32) (sym (reg.each i l)) (subst (λ m. length (bound_for hash (settings_of a).skipped c.args.count m (entries a)) < 32) (sym at) c.requires.room) in
     let hashed : c.args.hash ≡ hd k = c.requires.hashed ∙ ap (λ (h : g.row.E-Key.Denot → ℕ). h k) (sym outer) in
     let near : bucket_number s n (hd k) ≡ i = ap (bucket_number s n) (sym hashed) ∙ sym c.bucket_at-bucket.ensures.value in
-    let held : count_by (λ (e : g.row.E.Denot). bucket_number s n (hd (g.E.Keyed.key_of e)) == bucket_number s n (hd k)) (entries d) ≡ length (list_of d i) =
+    let left : count_by (λ (e : g.row.E.Denot). bucket_number s n (hd (g.E.Keyed.key_of e)) == bucket_number s n (hd k)) (entries d) ≡ length (list_of d i) =
     ap (λ m. count_by (λ (e : g.row.E.Denot). bucket_number s n (hd (g.E.Keyed.key_of e)) == m) (entries d)) near ∙ count-listed (λ (e : g.row.E.Denot). hd (g.E.Keyed.key_of e)) d i c.keep_lists.ensures.routed in
     c.in-Err.ensures.full (some, omega arith)
 

@@ -28,7 +28,7 @@ returns-then-list_len-lt32-clause-due g c =
     let i = c.bucket_at-bucket.result in
     let hk = key_hash g.H.BuildHasher g.H.Hasher.Hasher g.E.Key.Hash.hash_input a in
     let n = bucket_number (settings_of a).skipped (bucket_count a) c.args.hash in
-    let held : count_by (λ (e : g.row.E.Denot). bucket_number (settings_of a).skipped (bucket_count a) (hk (g.E.Keyed.key_of e)) == n) (entries a) ≡ length (list_of a i) =
+    let left : count_by (λ (e : g.row.E.Denot). bucket_number (settings_of a).skipped (bucket_count a) (hk (g.E.Keyed.key_of e)) == n) (entries a) ≡ length (list_of a i) =
     ap (λ m. count_by (λ (e : g.row.E.Denot). bucket_number (settings_of a).skipped (bucket_count a) (hk (g.E.Keyed.key_of e)) == m) (entries a)) (sym c.bucket_at-bucket.ensures.value) ∙ count-listed (λ (e : g.row.E.Denot). hk (g.E.Keyed.key_of e)) a i c.keep_lists.ensures.routed in
     let long = c.list_len.ensures in
     any-ok c.insert_made_at-then-list_len-lt32.result (record { doubled = λ some none full. absurd (let room : HasRoomAt hk g.E.Keyed.key_of a c.args.hash = (some, omega arith) in full (rw c.requires.hashed at room)); raised = λ low up. absurd (let z : true ≡ false = sym up ∙ ap (λ (x : Bool × Bool). x.0) c.insert_made_at-then-list_len-lt32.ensures.refused ∙ low in cc); unmarked = λ some none full. absurd (let room : HasRoomAt hk g.E.Keyed.key_of a c.args.hash = (some, omega arith) in full (rw c.requires.hashed at room)); lowered = λ up low. absurd (let z : true ≡ false = sym up ∙ sym (ap (λ (x : Bool × Bool). x.0) c.insert_made_at-then-list_len-lt32.ensures.refused) ∙ low in cc); down = λ some ne. absurd (ne c.insert_made_at-then-list_len-lt32.ensures.buckets) })
@@ -39,7 +39,7 @@ returns-clause-due g c =
     let i = c.bucket_at-bucket.result in
     let hk = key_hash g.H.BuildHasher g.H.Hasher.Hasher g.E.Key.Hash.hash_input a in
     let n = bucket_number (settings_of a).skipped (bucket_count a) c.args.hash in
-    let held : count_by (λ (e : g.row.E.Denot). bucket_number (settings_of a).skipped (bucket_count a) (hk (g.E.Keyed.key_of e)) == n) (entries a) ≡ length (list_of a i) =
+    let left : count_by (λ (e : g.row.E.Denot). bucket_number (settings_of a).skipped (bucket_count a) (hk (g.E.Keyed.key_of e)) == n) (entries a) ≡ length (list_of a i) =
     ap (λ m. count_by (λ (e : g.row.E.Denot). bucket_number (settings_of a).skipped (bucket_count a) (hk (g.E.Keyed.key_of e)) == m) (entries a)) (sym c.bucket_at-bucket.ensures.value) ∙ count-listed (λ (e : g.row.E.Denot). hk (g.E.Keyed.key_of e)) a i c.keep_lists.ensures.routed in
     let long = c.list_len.ensures in
     let full : HasRoomAt hk g.E.Keyed.key_of a c.args.hash → ⊥ = λ room. absurd (let r = room.1 in omega arith) in
@@ -52,7 +52,7 @@ returns-clause-raised g c =
     let i = c.bucket_at-bucket.result in
     let hk = key_hash g.H.BuildHasher g.H.Hasher.Hasher g.E.Key.Hash.hash_input a in
     let n = bucket_number (settings_of a).skipped (bucket_count a) c.args.hash in
-    let held : count_by (λ (e : g.row.E.Denot). bucket_number (settings_of a).skipped (bucket_count a) (hk (g.E.Keyed.key_of e)) == n) (entries a) ≡ length (list_of a i) =
+    let left : count_by (λ (e : g.row.E.Denot). bucket_number (settings_of a).skipped (bucket_count a) (hk (g.E.Keyed.key_of e)) == n) (entries a) ≡ length (list_of a i) =
     ap (λ m. count_by (λ (e : g.row.E.Denot). bucket_number (settings_of a).skipped (bucket_count a) (hk (g.E.Keyed.key_of e)) == m) (entries a)) (sym c.bucket_at-bucket.ensures.value) ∙ count-listed (λ (e : g.row.E.Denot). hk (g.E.Keyed.key_of e)) a i c.keep_lists.ensures.routed in
     let long = c.list_len.ensures in
     let full : HasRoomAt hk g.E.Keyed.key_of a c.args.hash → ⊥ = λ room. absurd (let r = room.1 in omega arith) in
@@ -65,7 +65,7 @@ returns-clause-kept g c =
     let i = c.bucket_at-bucket.result in
     let hk = key_hash g.H.BuildHasher g.H.Hasher.Hasher g.E.Key.Hash.hash_input a in
     let n = bucket_number (settings_of a).skipped (bucket_count a) c.args.hash in
-    let held : count_by (λ (e : g.row.E.Denot). bucket_number (settings_of a).skipped (bucket_count a) (hk (g.E.Keyed.key_of e)) == n) (entries a) ≡ length (list_of a i) =
+    let left : count_by (λ (e : g.row.E.Denot). bucket_number (settings_of a).skipped (bucket_count a) (hk (g.E.Keyed.key_of e)) == n) (entries a) ≡ length (list_of a i) =
     ap (λ m. count_by (λ (e : g.row.E.Denot). bucket_number (settings_of a).skipped (bucket_count a) (hk (g.E.Keyed.key_of e)) == m) (entries a)) (sym c.bucket_at-bucket.ensures.value) ∙ count-listed (λ (e : g.row.E.Denot). hk (g.E.Keyed.key_of e)) a i c.keep_lists.ensures.routed in
     let long = c.list_len.ensures in
     let full : HasRoomAt hk g.E.Keyed.key_of a c.args.hash → ⊥ = λ room. absurd (let r = room.1 in omega arith) in
@@ -127,7 +127,7 @@ returns-clause-once g c =
     let i = c.bucket_at-bucket.result in
     let hk = key_hash g.H.BuildHasher g.H.Hasher.Hasher g.E.Key.Hash.hash_input a in
     let n = bucket_number (settings_of a).skipped (bucket_count a) c.args.hash in
-    let held : count_by (λ (e : g.row.E.Denot). bucket_number (settings_of a).skipped (bucket_count a) (hk (g.E.Keyed.key_of e)) == n) (entries a) ≡ length (list_of a i) =
+    let left : count_by (λ (e : g.row.E.Denot). bucket_number (settings_of a).skipped (bucket_count a) (hk (g.E.Keyed.key_of e)) == n) (entries a) ≡ length (list_of a i) =
     ap (λ m. count_by (λ (e : g.row.E.Denot). bucket_number (settings_of a).skipped (bucket_count a) (hk (g.E.Keyed.key_of e)) == m) (entries a)) (sym c.bucket_at-bucket.ensures.value) ∙ count-listed (λ (e : g.row.E.Denot). hk (g.E.Keyed.key_of e)) a i c.keep_lists.ensures.routed in
     let long = c.list_len.ensures in
     let full : HasRoomAt hk g.E.Keyed.key_of a c.args.hash → ⊥ = λ room. absurd (let r = room.1 in omega arith) in
@@ -146,7 +146,7 @@ returns-then-list_len-lt32-clause-undone g c =
     let i = c.bucket_at-bucket.result in
     let hk = key_hash g.H.BuildHasher g.H.Hasher.Hasher g.E.Key.Hash.hash_input a in
     let n = bucket_number (settings_of a).skipped (bucket_count a) c.args.hash in
-    let held : count_by (λ (e : g.row.E.Denot). bucket_number (settings_of a).skipped (bucket_count a) (hk (g.E.Keyed.key_of e)) == n) (entries a) ≡ length (list_of a i) =
+    let left : count_by (λ (e : g.row.E.Denot). bucket_number (settings_of a).skipped (bucket_count a) (hk (g.E.Keyed.key_of e)) == n) (entries a) ≡ length (list_of a i) =
     ap (λ m. count_by (λ (e : g.row.E.Denot). bucket_number (settings_of a).skipped (bucket_count a) (hk (g.E.Keyed.key_of e)) == m) (entries a)) (sym c.bucket_at-bucket.ensures.value) ∙ count-listed (λ (e : g.row.E.Denot). hk (g.E.Keyed.key_of e)) a i c.keep_lists.ensures.routed in
     let long = c.list_len.ensures in
     any-err c.insert_made_at-then-list_len-lt32.result (record { doubled = λ some none full. absurd (let room : HasRoomAt hk g.E.Keyed.key_of a c.args.hash = (some, omega arith) in full (rw c.requires.hashed at room)); raised = λ low up. absurd (let z : true ≡ false = sym up ∙ ap (λ (x : Bool × Bool). x.0) c.insert_made_at-then-list_len-lt32.ensures.refused ∙ low in cc); unmarked = λ some none full. absurd (let room : HasRoomAt hk g.E.Keyed.key_of a c.args.hash = (some, omega arith) in full (rw c.requires.hashed at room)); lowered = λ up low. absurd (let z : true ≡ false = sym up ∙ sym (ap (λ (x : Bool × Bool). x.0) c.insert_made_at-then-list_len-lt32.ensures.refused) ∙ low in cc); down = λ some ne. absurd (ne c.insert_made_at-then-list_len-lt32.ensures.buckets) })
@@ -157,7 +157,7 @@ returns-clause-undone g c =
     let i = c.bucket_at-bucket.result in
     let hk = key_hash g.H.BuildHasher g.H.Hasher.Hasher g.E.Key.Hash.hash_input a in
     let n = bucket_number (settings_of a).skipped (bucket_count a) c.args.hash in
-    let held : count_by (λ (e : g.row.E.Denot). bucket_number (settings_of a).skipped (bucket_count a) (hk (g.E.Keyed.key_of e)) == n) (entries a) ≡ length (list_of a i) =
+    let left : count_by (λ (e : g.row.E.Denot). bucket_number (settings_of a).skipped (bucket_count a) (hk (g.E.Keyed.key_of e)) == n) (entries a) ≡ length (list_of a i) =
     ap (λ m. count_by (λ (e : g.row.E.Denot). bucket_number (settings_of a).skipped (bucket_count a) (hk (g.E.Keyed.key_of e)) == m) (entries a)) (sym c.bucket_at-bucket.ensures.value) ∙ count-listed (λ (e : g.row.E.Denot). hk (g.E.Keyed.key_of e)) a i c.keep_lists.ensures.routed in
     let long = c.list_len.ensures in
     let full : HasRoomAt hk g.E.Keyed.key_of a c.args.hash → ⊥ = λ room. absurd (let r = room.1 in omega arith) in

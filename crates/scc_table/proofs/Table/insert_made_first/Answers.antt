@@ -67,8 +67,8 @@ invariant_of-self g c =
     let kept : settings_of new ≡ settings_of cur = either-answer c.insert_made_first-placed.result c.insert_made_first-placed.ensures.ok c.insert_made_first-placed.ensures.err (λ p i. i.holds.settings) (λ p u. u.1.settings) in
     let same = hash-same g.H.BuildHasher g.H.Hasher.Hasher g.E.Key.Hash.hash_input cur new kept in
     let few = c.overflow_len-few.ensures in
-    subst (λ (h : g.row.E-Key.Denot → ℕ). IsTable g.E.Key.PartialEq.eq g.E.Keyed.key_of h new ws olds t.skipped t.pending t.next t.held 0) (sym same)
-    (fields-lone g.E.Key.PartialEq.eq g.E.Keyed.key_of hk cur new ws olds t.skipped t.pending t.next t.held t.held_overflow inv none kept (omega (arith, few.value, few.most)) c.insert_made_first-placed.ensures.unique)
+    subst (λ (h : g.row.E-Key.Denot → ℕ). IsTable g.E.Key.PartialEq.eq g.E.Keyed.key_of h new ws olds t.skipped t.pending t.next t.left 0) (sym same)
+    (fields-lone g.E.Key.PartialEq.eq g.E.Keyed.key_of hk cur new ws olds t.skipped t.pending t.next t.left t.left_overflow inv none kept (omega (arith, few.value, few.most)) c.insert_made_first-placed.ensures.unique)
 
 pub returns-clause-ok : goal.returns-clause-ok
 returns-clause-ok g c =

@@ -4,7 +4,7 @@ use Rattle.scc_array.specs.Shelf.{Shelf, shelf_entries}
 use Rattle.scc_contents.specs.Contents.{entries, bucket_count, key_hash, spilled_of}
 use Rattle.scc_buckets.specs.Tables.{spilled_in}
 use Rattle.scc_draining.specs.Moves.{AreMultiples}
-use Rattle.scc_table.proofs.Gathered.{held-most, len-fits, length-together, none-held}
+use Rattle.scc_table.proofs.Gathered.{owed-most, len-fits, length-together, none-owed}
 use Rattle.scc_table.proofs.Table.len.Goals as goal
 
 pub overflow_add-result : goal.overflow_add-result
@@ -18,13 +18,13 @@ overflow_add-result g c =
     let hk = key_hash g.H.BuildHasher g.H.Hasher.Hasher g.E.Key.Hash.hash_input cur in
     let hash = λ (e : g.row.E.Denot). hk (g.E.Keyed.key_of e) in
     let f : Shelf g.row.E.Denot → ℕ = λ b. length (shelf_entries b) in
-    let held : sum_by f olds ≤ 32 * length olds + spilled_in olds = held-most olds (λ j l. (inv.arrays.own.own j l).within) in
-    let many : (t.held ≡ 0) ⊎ ((length olds ≤ 2 ^ 58) × AreMultiples (length olds) (bucket_count cur)) = elim inv.arrays.multiples [
-      | inl z ↦ inl (inv.held_is ∙ none-held hash cur ws olds inv.arrays z)
-      | inr m ↦ elim inv.arrays.sized [ inl z ↦ inl (inv.held_is ∙ none-held hash cur ws olds inv.arrays z) | inr a ↦ inr (a.most, m) ]
+    let left : sum_by f olds ≤ 32 * length olds + spilled_in olds = owed-most olds (λ j l. (inv.arrays.own.own j l).within) in
+    let many : (t.left ≡ 0) ⊎ ((length olds ≤ 2 ^ 58) × AreMultiples (length olds) (bucket_count cur)) = elim inv.arrays.multiples [
+      | inl z ↦ inl (inv.left_is ∙ none-owed hash cur ws olds inv.arrays z)
+      | inr m ↦ elim inv.arrays.sized [ inl z ↦ inl (inv.left_is ∙ none-owed hash cur ws olds inv.arrays z) | inr a ↦ inr (a.most, m) ]
     ] in
     let wide : bucket_count cur ≤ 2 ^ 58 = omega (arith, c.bucket_count.ensures.most, c.bucket_count.ensures.count) in
-    let fits = len-fits (length olds) (bucket_count cur) c.len.result t.held (spilled_of cur) (spilled_in olds) t.held_overflow wide many c.len.ensures.most (omega (arith, inv.held_is)) inv.overflow_is inv.few in
+    let fits = len-fits (length olds) (bucket_count cur) c.len.result t.left (spilled_of cur) (spilled_in olds) t.left_overflow wide many c.len.ensures.most (omega (arith, inv.left_is)) inv.overflow_is inv.few in
     search rules
 
 pub returns-clause-len : goal.returns-clause-len
@@ -39,4 +39,4 @@ returns-clause-len g c =
     let hash = λ (e : g.row.E.Denot). hk (g.E.Keyed.key_of e) in
     let all = length-together hash cur ws olds inv.arrays in
     let seen = ap (λ d. length (entries d)) (sym c.self.view_is) in
-    omega (arith, c.len.ensures.len, inv.held_is)
+    omega (arith, c.len.ensures.len, inv.left_is)

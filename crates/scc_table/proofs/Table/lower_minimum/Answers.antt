@@ -11,9 +11,9 @@ returns-clause-yes g c =
     let hk = key_hash g.H.BuildHasher g.H.Hasher.Hasher g.E.Key.Hash.hash_input t.current in
     let hash = λ (e : g.row.E.Denot). hk (g.E.Keyed.key_of e) in
     let set = settings-seen hash t.current t.waiting.items t.draining c.args.self.now c.self.view_is in
-    let held : c.reserved-reserved.result ≡ (settings_of c.args.self.now).reserved = c.reserved-reserved.ensures.value ∙ ap (λ s. s.reserved) set in
+    let left : c.reserved-reserved.result ≡ (settings_of c.args.self.now).reserved = c.reserved-reserved.ensures.value ∙ ap (λ s. s.reserved) set in
     let set : settings_of c.set_reserved.new.self ≡ record (settings_of c.args.self.now) { reserved = (settings_of c.args.self.now).reserved - c.args.additional } =
-    c.set_reserved.ensures.settings ∙ ap (λ r. let s : Settings g.row.H.Denot = record (settings_of c.args.self.now) { reserved = r - c.args.additional } in s) held in
+    c.set_reserved.ensures.settings ∙ ap (λ r. let s : Settings g.row.H.Denot = record (settings_of c.args.self.now) { reserved = r - c.args.additional } in s) left in
     let r = c.shrink.ensures.resizes in
     let minimum : minimum_of c.set_reserved.new.self ≡ (settings_of c.args.self.now).asked + ((settings_of c.args.self.now).reserved - c.args.additional) = ap (λ s. s.asked + s.reserved) set in
     λ _. record {
@@ -36,7 +36,7 @@ returns-clause-spreads g c =
     let d = c.shrink.new.self in
     let e = c.set_reserved.ensures in
     let same = ap (λ s. s.asked + s.reserved) (sym c.shrink.ensures.resizes.settings) in
-    λ _. spreads-after a b d e.buckets e.waiting e.held (shrink-due_after (minimum_of b) (minimum_of d) a b same e.buckets e.entries) c.shrink.ensures.spreads
+    λ _. spreads-after a b d e.buckets e.waiting e.owed (shrink-due_after (minimum_of b) (minimum_of d) a b same e.buckets e.entries) c.shrink.ensures.spreads
 
 pub set_reserved-requires : goal.set_reserved-requires
 set_reserved-requires g c =
@@ -44,7 +44,7 @@ set_reserved-requires g c =
     let hk = key_hash g.H.BuildHasher g.H.Hasher.Hasher g.E.Key.Hash.hash_input t.current in
     let hash = λ (e : g.row.E.Denot). hk (g.E.Keyed.key_of e) in
     let set = settings-seen hash t.current t.waiting.items t.draining c.args.self.now c.self.view_is in
-    let held : c.reserved-reserved.result ≡ (settings_of c.args.self.now).reserved = c.reserved-reserved.ensures.value ∙ ap (λ s. s.reserved) set in
+    let left : c.reserved-reserved.result ≡ (settings_of c.args.self.now).reserved = c.reserved-reserved.ensures.value ∙ ap (λ s. s.reserved) set in
     let most = c.reserved-reserved.ensures.most in
     let asked = ap (λ s. s.asked) set in
     omega arith
@@ -55,7 +55,7 @@ returns-then-additional-reserved-clause-answer g c =
     let hk = key_hash g.H.BuildHasher g.H.Hasher.Hasher g.E.Key.Hash.hash_input t.current in
     let hash = λ (e : g.row.E.Denot). hk (g.E.Keyed.key_of e) in
     let set = settings-seen hash t.current t.waiting.items t.draining c.args.self.now c.self.view_is in
-    let held : c.reserved-reserved.result ≡ (settings_of c.args.self.now).reserved = c.reserved-reserved.ensures.value ∙ ap (λ s. s.reserved) set in
+    let left : c.reserved-reserved.result ≡ (settings_of c.args.self.now).reserved = c.reserved-reserved.ensures.value ∙ ap (λ s. s.reserved) set in
     search rules
 
 pub returns-clause-answer : goal.returns-clause-answer
@@ -64,5 +64,5 @@ returns-clause-answer g c =
     let hk = key_hash g.H.BuildHasher g.H.Hasher.Hasher g.E.Key.Hash.hash_input t.current in
     let hash = λ (e : g.row.E.Denot). hk (g.E.Keyed.key_of e) in
     let set = settings-seen hash t.current t.waiting.items t.draining c.args.self.now c.self.view_is in
-    let held : c.reserved-reserved.result ≡ (settings_of c.args.self.now).reserved = c.reserved-reserved.ensures.value ∙ ap (λ s. s.reserved) set in
+    let left : c.reserved-reserved.result ≡ (settings_of c.args.self.now).reserved = c.reserved-reserved.ensures.value ∙ ap (λ s. s.reserved) set in
     search rules

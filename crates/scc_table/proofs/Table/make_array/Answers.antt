@@ -4,7 +4,7 @@ use Rattle.scc_contents.specs.Contents.{bucket_count, entries, key_hash, minimum
 use Rattle.scc_contents.specs.Sizes.{IsArray, IsArraySize}
 use Rattle.scc_buckets.specs.Tables.{spilled_in}
 use Rattle.scc_table.specs.TwoArrays.{IsTable, together}
-use Rattle.scc_table.proofs.Alone.{count-alone, entries-alone, nothing-held, spilled-bare, spilled-together}
+use Rattle.scc_table.proofs.Alone.{count-alone, entries-alone, nothing-owed, spilled-bare, spilled-together}
 use Rattle.scc_draining.proofs.Arriving.{IsDistinct-nil}
 use Rattle.scc_table.proofs.Firsts.{fields-first, first-grows, first-rests, no-flags, same-rests}
 use Rattle.scc_table.proofs.Joining.{refused-together, settings-together, waiting-together}
@@ -36,8 +36,8 @@ invariant_of-self-2 g c =
     let d = together later new ws olds in
     let still = entries-alone later new ws olds none ∙ c.make_array.ensures.still in
     let same = hash-same g.H.BuildHasher g.H.Hasher.Hasher g.E.Key.Hash.hash_input cur new c.make_array.ensures.settings in
-    subst (λ (h : g.row.E-Key.Denot → ℕ). IsTable g.E.Key.PartialEq.eq g.E.Keyed.key_of h new ws olds t.skipped t.pending t.next t.held t.held_overflow) (sym same)
-    (fields-first g.E.Key.PartialEq.eq g.E.Keyed.key_of hk cur new ws olds t.skipped t.pending t.next t.held t.held_overflow inv none c.make_array.ensures.settings c.make_array.ensures.still c.in_ok-make_array.ensures.resized.bounded)
+    subst (λ (h : g.row.E-Key.Denot → ℕ). IsTable g.E.Key.PartialEq.eq g.E.Keyed.key_of h new ws olds t.skipped t.pending t.next t.left t.left_overflow) (sym same)
+    (fields-first g.E.Key.PartialEq.eq g.E.Keyed.key_of hk cur new ws olds t.skipped t.pending t.next t.left t.left_overflow inv none c.make_array.ensures.settings c.make_array.ensures.still c.in_ok-make_array.ensures.resized.bounded)
 
 pub returns-clause-rests : goal.returns-clause-rests
 returns-clause-rests g c =
@@ -331,7 +331,7 @@ returns-clause-resized g c =
     let buckets = count-alone later new ws olds none in
     let array = subst IsArray (sym buckets) c.in_ok-make_array.ensures.array in
     let low : spilled_of new ≡ 0 = c.in_ok-make_array.ensures.resized.bounded in
-    let nothing = spilled-bare olds (nothing-held hash cur ws olds none inv.arrays) in
+    let nothing = spilled-bare olds (nothing-owed hash cur ws olds none inv.arrays) in
     let zero : spilled_of new + spilled_in olds ≡ 0 = omega (arith, low, nothing) in
     first-resized _ a d bare still settings array (spilled-together later new ws olds ∙ zero)
 

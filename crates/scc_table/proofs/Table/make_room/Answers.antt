@@ -28,7 +28,7 @@ returns-then-list_len-lt32-clause-ok g c =
     let hb = key_hash g.H.BuildHasher g.H.Hasher.Hasher g.E.Key.Hash.hash_input b in
     let i = c.in_ok-bucket.bucket in
     let n = bucket_number (settings_of b).skipped (bucket_count b) c.args.hash in
-    let held : count_by (λ (e : g.row.E.Denot). bucket_number (settings_of b).skipped (bucket_count b) (hb (g.E.Keyed.key_of e)) == n) (entries b) ≡ length (list_of b i) =
+    let left : count_by (λ (e : g.row.E.Denot). bucket_number (settings_of b).skipped (bucket_count b) (hb (g.E.Keyed.key_of e)) == n) (entries b) ≡ length (list_of b i) =
     ap (λ m. count_by (λ (e : g.row.E.Denot). bucket_number (settings_of b).skipped (bucket_count b) (hb (g.E.Keyed.key_of e)) == m) (entries b)) (sym c.in_ok-bucket.ensures.routed) ∙ count-listed (λ (e : g.row.E.Denot). hb (g.E.Keyed.key_of e)) b i c.keep_lists.ensures.routed in
     let short = c.list_len.ensures in
     let some : 0 < bucket_count b = omega (arith, c.in_ok-bucket.ensures.within) in

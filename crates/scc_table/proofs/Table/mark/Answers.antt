@@ -1,10 +1,10 @@
 use Rattle.std.proofs.Common.{◌≡◌, ◌∙◌, ℕ, Bool, List, map, sym, ap, subst}
 use Rattle.std.specs.List.{IsDistinct}
 use Rattle.scc_array.specs.Shelf.{Shelf}
-use Rattle.scc_contents.specs.Contents.{Contents, entries, key_hash, lists_of, held_of, spilled_of}
+use Rattle.scc_contents.specs.Contents.{Contents, entries, key_hash, lists_of, owed_of, spilled_of}
 use Rattle.scc_table.specs.TwoArrays.{IsTable, together}
 use Rattle.scc_table.proofs.Joining.{settings-together, refused-together, waiting-together}
-use Rattle.scc_table.proofs.Noting.{fields-kept, lists-kept, held-kept, spilled-kept}
+use Rattle.scc_table.proofs.Noting.{fields-kept, lists-kept, owed-kept, spilled-kept}
 use Rattle.scc_table.proofs.Same.{hash-same, entries-same}
 use Rattle.scc_table.proofs.Viewed.{settings-seen, waiting-seen}
 use Rattle.scc_table.proofs.Table.mark.Goals as goal
@@ -15,8 +15,8 @@ invariant_of-self g c =
     let d = c.mark.new.self in
     let hk = key_hash g.H.BuildHasher g.H.Hasher.Hasher g.E.Key.Hash.hash_input t.current in
     let same = hash-same g.H.BuildHasher g.H.Hasher.Hasher g.E.Key.Hash.hash_input t.current d c.mark.ensures.settings in
-    subst (λ (h : g.row.E-Key.Denot → ℕ). IsTable g.E.Key.PartialEq.eq g.E.Keyed.key_of h d t.waiting.items t.draining t.skipped t.pending t.next t.held t.held_overflow) (sym same)
-    (fields-kept g.E.Key.PartialEq.eq g.E.Keyed.key_of hk t.current d t.waiting.items t.draining t.skipped t.pending t.next t.held t.held_overflow c.mark.ensures.lists (ap (λ s. s.skipped) c.mark.ensures.settings) c.mark.ensures.spilled c.self.invariant)
+    subst (λ (h : g.row.E-Key.Denot → ℕ). IsTable g.E.Key.PartialEq.eq g.E.Keyed.key_of h d t.waiting.items t.draining t.skipped t.pending t.next t.left t.left_overflow) (sym same)
+    (fields-kept g.E.Key.PartialEq.eq g.E.Keyed.key_of hk t.current d t.waiting.items t.draining t.skipped t.pending t.next t.left t.left_overflow c.mark.ensures.lists (ap (λ s. s.skipped) c.mark.ensures.settings) c.mark.ensures.spilled c.self.invariant)
 
 pub returns-clause-lists : goal.returns-clause-lists
 returns-clause-lists g c =
@@ -47,13 +47,13 @@ returns-clause-waiting g c =
     let t = c.self.inside in
     waiting-together _ c.mark.new.self t.waiting.items t.draining ∙ sym (waiting-seen _ t.current t.waiting.items t.draining c.args.self.now c.self.view_is)
 
-pub returns-clause-held : goal.returns-clause-held
-returns-clause-held g c =
+pub returns-clause-owed : goal.returns-clause-owed
+returns-clause-owed g c =
     let t = c.self.inside in
     let d = c.mark.new.self in
     let hk = key_hash g.H.BuildHasher g.H.Hasher.Hasher g.E.Key.Hash.hash_input t.current in
     let same = hash-same g.H.BuildHasher g.H.Hasher.Hasher g.E.Key.Hash.hash_input t.current d c.mark.ensures.settings in
-    ap (λ (h : g.row.E-Key.Denot → ℕ). held_of (together (λ e. h (g.E.Keyed.key_of e)) d t.waiting.items t.draining)) same ∙ held-kept (λ e. hk (g.E.Keyed.key_of e)) t.current d t.waiting.items t.draining c.mark.ensures.lists (ap (λ s. s.skipped) c.mark.ensures.settings) ∙ ap held_of c.self.view_is
+    ap (λ (h : g.row.E-Key.Denot → ℕ). owed_of (together (λ e. h (g.E.Keyed.key_of e)) d t.waiting.items t.draining)) same ∙ owed-kept (λ e. hk (g.E.Keyed.key_of e)) t.current d t.waiting.items t.draining c.mark.ensures.lists (ap (λ s. s.skipped) c.mark.ensures.settings) ∙ ap owed_of c.self.view_is
 
 pub returns-clause-unique : goal.returns-clause-unique
 returns-clause-unique g c =
@@ -61,5 +61,5 @@ returns-clause-unique g c =
     let d = c.mark.new.self in
     let hk = key_hash g.H.BuildHasher g.H.Hasher.Hasher g.E.Key.Hash.hash_input t.current in
     let same = hash-same g.H.BuildHasher g.H.Hasher.Hasher g.E.Key.Hash.hash_input t.current d c.mark.ensures.settings in
-    let kept = fields-kept g.E.Key.PartialEq.eq g.E.Keyed.key_of hk t.current d t.waiting.items t.draining t.skipped t.pending t.next t.held t.held_overflow c.mark.ensures.lists (ap (λ s. s.skipped) c.mark.ensures.settings) c.mark.ensures.spilled c.self.invariant in
-    (subst (λ (h : g.row.E-Key.Denot → ℕ). IsTable g.E.Key.PartialEq.eq g.E.Keyed.key_of h d t.waiting.items t.draining t.skipped t.pending t.next t.held t.held_overflow) (sym same) kept).unique
+    let kept = fields-kept g.E.Key.PartialEq.eq g.E.Keyed.key_of hk t.current d t.waiting.items t.draining t.skipped t.pending t.next t.left t.left_overflow c.mark.ensures.lists (ap (λ s. s.skipped) c.mark.ensures.settings) c.mark.ensures.spilled c.self.invariant in
+    (subst (λ (h : g.row.E-Key.Denot → ℕ). IsTable g.E.Key.PartialEq.eq g.E.Keyed.key_of h d t.waiting.items t.draining t.skipped t.pending t.next t.left t.left_overflow) (sym same) kept).unique

@@ -1,7 +1,7 @@
 use Rattle.std.proofs.Common.{◌≡◌, ℕ, ◌∙◌, ◌+◌, ◌-◌, ◌^◌, ◌<◌, ◌≤◌, ◌⊎◌, inl, inr, [], suc, true, false, length, sym, ap, subst, rules, arith, add-one}
 use Rattle.scc_array.specs.Shelves.{shelf_of}
 use Rattle.scc_array.specs.Shelf.{shelf_entries}
-use Rattle.scc_contents.specs.Contents.{entries, bucket_count, held_of, key_hash, list_of, settings_of, waiting_of}
+use Rattle.scc_contents.specs.Contents.{entries, bucket_count, owed_of, key_hash, list_of, settings_of, waiting_of}
 use Rattle.scc_buckets.specs.Places as spots
 use Rattle.scc_contents.specs.Routing.{bucket_number}
 use Rattle.scc_buckets.specs.declared.place.Place.{Place}
@@ -9,7 +9,7 @@ use Rattle.scc_buckets.proofs.Standing.{along, index-end, index-skip, length-zer
 use Rattle.scc_table.specs.Places.{spot_of, StandsAt}
 use Rattle.scc_table.specs.Stepping.{rank_on}
 use Rattle.scc_table.specs.TwoArrays.{waits_at}
-use Rattle.scc_table.proofs.Nexts.{bound-same, few-entries, held-count, list-past, next-same, own-stands, rank-end, rank-next, rank-start, sources-more}
+use Rattle.scc_table.proofs.Nexts.{bound-same, few-entries, owed-count, list-past, next-same, own-stands, rank-end, rank-next, rank-start, sources-more}
 use Rattle.scc_table.proofs.OldSpots.{old-at, old-spot, own-at, own-list, own-spot}
 use Rattle.scc_draining.proofs.FromBuckets.{few-each, within-sources}
 use Rattle.scc_table.proofs.Preparing.{long-flags, multiple-flags, sized-flags}
@@ -84,7 +84,7 @@ end_past-last-requires g c =
     let up : waits_at ws i ≡ true = ap (λ w. waits_at w i) (sym flags) ∙ c.requires.waits in
     let array = sized-flags cur ws olds i inv.arrays.sized up in
     let within : i < bucket_count cur = omega (arith, up-within ws i up, long-flags cur ws i inv.arrays.flags up) in
-    let few : c.args.source < length olds = let h = ap (λ d. length (held_of d)) (sym c.self.view_is) ∙ held-count hash cur ws olds inv.arrays i up in omega (arith, h, c.requires.source) in
+    let few : c.args.source < length olds = let h = ap (λ d. length (owed_of d)) (sym c.self.view_is) ∙ owed-count hash cur ws olds inv.arrays i up in omega (arith, h, c.requires.source) in
     omega (arith, few, array.most)
 
 pub spot_from-requires-clause-within : goal.spot_from-requires-clause-within
@@ -102,7 +102,7 @@ spot_from-requires-clause-within g c =
     let up : waits_at ws i ≡ true = ap (λ w. waits_at w i) (sym flags) ∙ c.requires.waits in
     let array = sized-flags cur ws olds i inv.arrays.sized up in
     let within : i < bucket_count cur = omega (arith, up-within ws i up, long-flags cur ws i inv.arrays.flags up) in
-    let few : c.args.source < length olds = let h = ap (λ d. length (held_of d)) (sym c.self.view_is) ∙ held-count hash cur ws olds inv.arrays i up in omega (arith, h, c.requires.source) in
+    let few : c.args.source < length olds = let h = ap (λ d. length (owed_of d)) (sym c.self.view_is) ∙ owed-count hash cur ws olds inv.arrays i up in omega (arith, h, c.requires.source) in
     let only = rw (c.len.ensures.count, c.bucket_count-count.ensures.count) at c.sources-end.ensures.only in
     let end = rw c.len.ensures.count at c.sources-end.ensures.within in
     let sources = within-sources hash (settings_of cur).skipped (bucket_count cur) i c.sources-end.result.0 c.sources-end.result.1 olds inv.arrays.own c.sources-end.ensures.order end only in
@@ -125,7 +125,7 @@ returns-in-Some g c =
     let up : waits_at ws i ≡ true = ap (λ w. waits_at w i) (sym flags) ∙ c.requires.waits in
     let array = sized-flags cur ws olds i inv.arrays.sized up in
     let within : i < bucket_count cur = omega (arith, up-within ws i up, long-flags cur ws i inv.arrays.flags up) in
-    let few : c.args.source < length olds = let h = ap (λ d. length (held_of d)) (sym c.self.view_is) ∙ held-count hash cur ws olds inv.arrays i up in omega (arith, h, c.requires.source) in
+    let few : c.args.source < length olds = let h = ap (λ d. length (owed_of d)) (sym c.self.view_is) ∙ owed-count hash cur ws olds inv.arrays i up in omega (arith, h, c.requires.source) in
     let p : Place = record { bucket = c.bucket_count-count.result + c.in-Some.old; slot = c.in-Some.number } in
     let next = next-same hash t.skipped (settings_of cur).skipped c.bucket_count-count.result (bucket_count cur) i olds c.args.source c.args.slot _ _ inv.skips c.bucket_count-count.ensures.count c.in-Some.ensures in
     subst (λ d. StandsAt d (spots.index_of_spot d (record { bucket = i; slot = rank_on d i c.args.source c.args.slot })) p) c.self.view_is
@@ -146,7 +146,7 @@ returns-in-None g c =
     let up : waits_at ws i ≡ true = ap (λ w. waits_at w i) (sym flags) ∙ c.requires.waits in
     let array = sized-flags cur ws olds i inv.arrays.sized up in
     let within : i < bucket_count cur = omega (arith, up-within ws i up, long-flags cur ws i inv.arrays.flags up) in
-    let few : c.args.source < length olds = let h = ap (λ d. length (held_of d)) (sym c.self.view_is) ∙ held-count hash cur ws olds inv.arrays i up in omega (arith, h, c.requires.source) in
+    let few : c.args.source < length olds = let h = ap (λ d. length (owed_of d)) (sym c.self.view_is) ∙ owed-count hash cur ws olds inv.arrays i up in omega (arith, h, c.requires.source) in
     let only = rw (c.len.ensures.count, c.bucket_count-count.ensures.count) at c.sources-end.ensures.only in
     let end = rw c.len.ensures.count at c.sources-end.ensures.within in
     let sources = within-sources hash (settings_of cur).skipped (bucket_count cur) i c.sources-end.result.0 c.sources-end.result.1 olds inv.arrays.own c.sources-end.ensures.order end only in

@@ -1,11 +1,11 @@
 use Rattle.std.proofs.Common.{◌≡◌, ◌∙◌, ◌<◌, ◌≤◌, ℕ, ◌+◌, ◌^◌, true, false, inl, inr, length, sym, ap, subst, arith}
-use Rattle.scc_contents.specs.Contents.{HasRoomBy, bucket_count, held_of, key_hash, list_of, lists_of, settings_of, spilled_of}
+use Rattle.scc_contents.specs.Contents.{HasRoomBy, bucket_count, owed_of, key_hash, list_of, lists_of, settings_of, spilled_of}
 use Rattle.scc_buckets.specs.OneList.{HasSameLists, IsPutIn}
 use Rattle.scc_contents.specs.Routing.{bucket_number}
 use Rattle.scc_table.specs.TwoArrays.{IsTable, together, waits_at}
 use Rattle.scc_table.proofs.Joining.{refused-together, settings-together, waiting-together}
-use Rattle.scc_table.proofs.Noting.{fields-less, held-kept, lists-kept}
-use Rattle.scc_table.proofs.PuttingLemmas.{absent-own, fields-put, held-put, long-full, put-together, room-own, same-together}
+use Rattle.scc_table.proofs.Noting.{fields-less, owed-kept, lists-kept}
+use Rattle.scc_table.proofs.PuttingLemmas.{absent-own, fields-put, owed-put, long-full, put-together, room-own, same-together}
 use Rattle.scc_table.proofs.Same.{by-answer, hash-same, if-ok, on-err}
 use Rattle.scc_table.proofs.Viewed.{count-seen, settings-seen, waiting-seen}
 use Rattle.scc_table.proofs.Table.put_in.Goals as goal
@@ -147,11 +147,11 @@ invariant_of-self g c =
     let new = c.insert_in-placed.new.self in
     let after : settings_of new ≡ settings_of cur = by-answer c.insert_in-placed.result c.insert_in-placed.ensures.exact c.insert_in-placed.ensures.stays (λ p put. put.settings) (λ z. z.settings) in
     let inner = hash-same g.H.BuildHasher g.H.Hasher.Hasher g.E.Key.Hash.hash_input cur new after in
-    let IsAfter = IsTable g.E.Key.PartialEq.eq g.E.Keyed.key_of hk new ws olds t.skipped t.pending t.next t.held t.held_overflow in
+    let IsAfter = IsTable g.E.Key.PartialEq.eq g.E.Keyed.key_of hk new ws olds t.skipped t.pending t.next t.left t.left_overflow in
     let few = c.overflow_len-few.ensures in
     let there : IsAfter = by-answer c.insert_in-placed.result c.insert_in-placed.ensures.exact c.insert_in-placed.ensures.stays
     (λ p put.
-    let left : spilled_of new + t.held_overflow < 2 ^ 62 = elim c.if-self-gt0.branch [
+    let left : spilled_of new + t.left_overflow < 2 ^ 62 = elim c.if-self-gt0.branch [
       | then-self-gt0+else-is_overflow_full w ↦
           let was = w.overflow_len-spilled.ensures.value in
           elim (w.if-is_overflow_full.ensures.room (λ h. absurd (let z : false ≡ true = h in cc))) [
@@ -160,9 +160,9 @@ invariant_of-self g c =
           ]
       | else-self-gt0 w ↦ let z = w.if-self-gt0.false in omega (arith, few.value, few.most)
     ] in
-    fields-put g.E.Key.PartialEq.eq g.met.E.Key.Eq.laws g.E.Keyed.key_of hk cur ws olds t.skipped t.pending t.next t.held t.held_overflow inv c.args.self.now view c.args.entry i new p put within down left c.requires.absent)
-    (λ z. fields-less g.E.Key.PartialEq.eq g.E.Keyed.key_of hk cur new ws olds t.skipped t.pending t.next t.held t.held_overflow z.lists (ap (λ s. s.skipped) z.settings) z.spilled inv) in
-    subst (λ (h : g.row.E-Key.Denot → ℕ). IsTable g.E.Key.PartialEq.eq g.E.Keyed.key_of h new ws olds t.skipped t.pending t.next t.held t.held_overflow) (sym inner) there
+    fields-put g.E.Key.PartialEq.eq g.met.E.Key.Eq.laws g.E.Keyed.key_of hk cur ws olds t.skipped t.pending t.next t.left t.left_overflow inv c.args.self.now view c.args.entry i new p put within down left c.requires.absent)
+    (λ z. fields-less g.E.Key.PartialEq.eq g.E.Keyed.key_of hk cur new ws olds t.skipped t.pending t.next t.left t.left_overflow z.lists (ap (λ s. s.skipped) z.settings) z.spilled inv) in
+    subst (λ (h : g.row.E-Key.Denot → ℕ). IsTable g.E.Key.PartialEq.eq g.E.Keyed.key_of h new ws olds t.skipped t.pending t.next t.left t.left_overflow) (sym inner) there
 
 pub returns-clause-exact : goal.returns-clause-exact
 returns-clause-exact g c =
@@ -235,8 +235,8 @@ returns-clause-waiting g c =
     let t = c.self.inside in
     waiting-together _ c.insert_in-placed.new.self t.waiting.items t.draining ∙ sym (waiting-seen _ t.current t.waiting.items t.draining c.args.self.now c.self.view_is)
 
-pub returns-clause-held : goal.returns-clause-held
-returns-clause-held g c =
+pub returns-clause-owed : goal.returns-clause-owed
+returns-clause-owed g c =
     let t = c.self.inside in
     let cur = t.current in
     let ws = t.waiting.items in
@@ -254,10 +254,10 @@ returns-clause-held g c =
     let new = c.insert_in-placed.new.self in
     let after : settings_of new ≡ settings_of cur = by-answer c.insert_in-placed.result c.insert_in-placed.ensures.exact c.insert_in-placed.ensures.stays (λ p put. put.settings) (λ z. z.settings) in
     let inner = hash-same g.H.BuildHasher g.H.Hasher.Hasher g.E.Key.Hash.hash_input cur new after in
-    let there : held_of (together hash new ws olds) ≡ held_of c.args.self.now = by-answer c.insert_in-placed.result c.insert_in-placed.ensures.exact c.insert_in-placed.ensures.stays
-    (λ p put. held-put g.E.Keyed.key_of hk cur ws olds inv.arrays c.args.self.now view c.args.entry i new p put within down)
-    (λ z. held-kept hash cur new ws olds z.lists (ap (λ s. s.skipped) z.settings) ∙ ap held_of view) in
-    subst (λ (h : g.row.E-Key.Denot → ℕ). held_of (together (λ e. h (g.E.Keyed.key_of e)) new ws olds) ≡ held_of c.args.self.now) (sym inner) there
+    let there : owed_of (together hash new ws olds) ≡ owed_of c.args.self.now = by-answer c.insert_in-placed.result c.insert_in-placed.ensures.exact c.insert_in-placed.ensures.stays
+    (λ p put. owed-put g.E.Keyed.key_of hk cur ws olds inv.arrays c.args.self.now view c.args.entry i new p put within down)
+    (λ z. owed-kept hash cur new ws olds z.lists (ap (λ s. s.skipped) z.settings) ∙ ap owed_of view) in
+    subst (λ (h : g.row.E-Key.Denot → ℕ). owed_of (together (λ e. h (g.E.Keyed.key_of e)) new ws olds) ≡ owed_of c.args.self.now) (sym inner) there
 
 pub returns-clause-unique : goal.returns-clause-unique
 returns-clause-unique g c =
@@ -278,11 +278,11 @@ returns-clause-unique g c =
     let new = c.insert_in-placed.new.self in
     let after : settings_of new ≡ settings_of cur = by-answer c.insert_in-placed.result c.insert_in-placed.ensures.exact c.insert_in-placed.ensures.stays (λ p put. put.settings) (λ z. z.settings) in
     let inner = hash-same g.H.BuildHasher g.H.Hasher.Hasher g.E.Key.Hash.hash_input cur new after in
-    let IsAfter = IsTable g.E.Key.PartialEq.eq g.E.Keyed.key_of hk new ws olds t.skipped t.pending t.next t.held t.held_overflow in
+    let IsAfter = IsTable g.E.Key.PartialEq.eq g.E.Keyed.key_of hk new ws olds t.skipped t.pending t.next t.left t.left_overflow in
     let few = c.overflow_len-few.ensures in
     let there : IsAfter = by-answer c.insert_in-placed.result c.insert_in-placed.ensures.exact c.insert_in-placed.ensures.stays
     (λ p put.
-    let left : spilled_of new + t.held_overflow < 2 ^ 62 = elim c.if-self-gt0.branch [
+    let left : spilled_of new + t.left_overflow < 2 ^ 62 = elim c.if-self-gt0.branch [
       | then-self-gt0+else-is_overflow_full w ↦
           let was = w.overflow_len-spilled.ensures.value in
           elim (w.if-is_overflow_full.ensures.room (λ h. absurd (let z : false ≡ true = h in cc))) [
@@ -291,6 +291,6 @@ returns-clause-unique g c =
           ]
       | else-self-gt0 w ↦ let z = w.if-self-gt0.false in omega (arith, few.value, few.most)
     ] in
-    fields-put g.E.Key.PartialEq.eq g.met.E.Key.Eq.laws g.E.Keyed.key_of hk cur ws olds t.skipped t.pending t.next t.held t.held_overflow inv c.args.self.now view c.args.entry i new p put within down left c.requires.absent)
-    (λ z. fields-less g.E.Key.PartialEq.eq g.E.Keyed.key_of hk cur new ws olds t.skipped t.pending t.next t.held t.held_overflow z.lists (ap (λ s. s.skipped) z.settings) z.spilled inv) in
-    (subst (λ (h : g.row.E-Key.Denot → ℕ). IsTable g.E.Key.PartialEq.eq g.E.Keyed.key_of h new ws olds t.skipped t.pending t.next t.held t.held_overflow) (sym inner) there).unique
+    fields-put g.E.Key.PartialEq.eq g.met.E.Key.Eq.laws g.E.Keyed.key_of hk cur ws olds t.skipped t.pending t.next t.left t.left_overflow inv c.args.self.now view c.args.entry i new p put within down left c.requires.absent)
+    (λ z. fields-less g.E.Key.PartialEq.eq g.E.Keyed.key_of hk cur new ws olds t.skipped t.pending t.next t.left t.left_overflow z.lists (ap (λ s. s.skipped) z.settings) z.spilled inv) in
+    (subst (λ (h : g.row.E-Key.Denot → ℕ). IsTable g.E.Key.PartialEq.eq g.E.Keyed.key_of h new ws olds t.skipped t.pending t.next t.left t.left_overflow) (sym inner) there).unique

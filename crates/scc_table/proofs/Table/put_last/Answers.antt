@@ -1,12 +1,12 @@
 use Rattle.std.proofs.Common.{◌≡◌, ℕ, ◌+◌, ◌^◌, ◌<◌, ◌∷◌, ◌++◌, Bool, false, Some, None, [], List, length, map, sym, ap, ◌∙◌, subst, arith}
 use Rattle.std.specs.List.{position, remove, slice_get, IsDistinct}
 use Rattle.scc_buckets.specs.Bounded.{HasList, IsBounded, IsListed, PutsLast}
-use Rattle.scc_contents.specs.Contents.{Contents, bucket_count, entries, held_of, key_hash, list_of, settings_of, spilled_of, waiting_of}
+use Rattle.scc_contents.specs.Contents.{Contents, bucket_count, entries, owed_of, key_hash, list_of, settings_of, spilled_of, waiting_of}
 use Rattle.scc_contents.specs.Hashing.{hash_of}
 use Rattle.scc_contents.specs.Routing.{bucket_number}
 use Rattle.scc_buckets.proofs.FindingLemmas.{HashOf}
 use Rattle.scc_table.specs.TwoArrays.{together, waits_at, IsTable}
-use Rattle.scc_table.proofs.CurrentChanges.{own-fields, own-held, own-list}
+use Rattle.scc_table.proofs.CurrentChanges.{own-fields, own-owed, own-list}
 use Rattle.scc_table.proofs.Joining.{settings-together, waiting-together}
 use Rattle.scc_table.proofs.Listing.{absent-list, own-bounded, own-has_list, own-listed, own-puts_last, puts-list, unique-moved, unique-puts}
 use Rattle.scc_table.proofs.SearchingLemmas.{missed-listed, missed-own, not_true}
@@ -134,10 +134,10 @@ invariant_of-self g c =
     let v = together hash d ws olds in
     let first = own-puts_last hash cur d ws olds i down bounded c.args.entry c.put_last.result c.put_last.ensures.step in
     let low : spilled_of d ≡ 0 = changed.bounded in
-    let few : spilled_of d + t.held_overflow < 2 ^ 62 = let f = inv.few in omega arith in
+    let few : spilled_of d + t.left_overflow < 2 ^ 62 = let f = inv.few in omega arith in
     let inside : i < bucket_count u = let n = ap bucket_count view in let q = c.requires.within in omega arith in
-    subst (λ (h : g.row.E-Key.Denot → ℕ). IsTable g.E.Key.PartialEq.eq key h d ws olds t.skipped t.pending t.next t.held t.held_overflow) (sym same)
-    (own-fields g.E.Key.PartialEq.eq key hk cur d i changes.0 changed.lists stay ws olds down t.skipped t.pending t.next t.held t.held_overflow inv few
+    subst (λ (h : g.row.E-Key.Denot → ℕ). IsTable g.E.Key.PartialEq.eq key h d ws olds t.skipped t.pending t.next t.left t.left_overflow) (sym same)
+    (own-fields g.E.Key.PartialEq.eq key hk cur d i changes.0 changed.lists stay ws olds down t.skipped t.pending t.next t.left t.left_overflow inv few
     (unique-puts laws key u v i inside inv.unique c.args.entry c.put_last.result first absent))
 
 pub returns-clause-step : goal.returns-clause-step
@@ -217,8 +217,8 @@ returns-clause-waiting g c =
     let d = c.put_last.new.self in
     waiting-together (λ e. key_hash g.H.BuildHasher g.H.Hasher.Hasher g.E.Key.Hash.hash_input d (key e)) d ws olds ∙ sym flags
 
-pub returns-clause-held : goal.returns-clause-held
-returns-clause-held g c =
+pub returns-clause-owed : goal.returns-clause-owed
+returns-clause-owed g c =
     let t = c.self.inside in
     let cur = t.current in
     let ws = t.waiting.items in
@@ -236,7 +236,7 @@ returns-clause-held g c =
     let changed = changes.1 in
     let stay = changed.settings in
     let same = ap (λ s. let h : g.row.E-Key.Denot → ℕ = λ k. hash_of g.H.BuildHasher g.H.Hasher.Hasher s.hasher (g.E.Key.Hash.hash_input k) in h) stay in
-    ap (λ (h : g.row.E-Key.Denot → ℕ). held_of (together (λ e. h (key e)) d ws olds)) same ∙ own-held cur d i changes.0 changed.lists stay hash ws olds down ∙ ap held_of view
+    ap (λ (h : g.row.E-Key.Denot → ℕ). owed_of (together (λ e. h (key e)) d ws olds)) same ∙ own-owed cur d i changes.0 changed.lists stay hash ws olds down ∙ ap owed_of view
 
 pub returns-clause-unique : goal.returns-clause-unique
 returns-clause-unique g c =

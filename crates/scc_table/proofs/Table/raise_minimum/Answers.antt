@@ -16,7 +16,7 @@ returns-clause-spreads g c =
     let d = c.grow_to_minimum.new.self in
     let e = c.set_reserved.ensures in
     let same = ap (λ s. s.asked + s.reserved) (sym c.grow_to_minimum.ensures.resizes.settings) in
-    λ _. spreads-after a b d e.buckets e.waiting e.held (growth-due_after (minimum_of b) (minimum_of d) a b same e.buckets) c.grow_to_minimum.ensures.spreads
+    λ _. spreads-after a b d e.buckets e.waiting e.owed (growth-due_after (minimum_of b) (minimum_of d) a b same e.buckets) c.grow_to_minimum.ensures.spreads
 
 pub overflow_add-reserved : goal.overflow_add-reserved
 overflow_add-reserved g c =
@@ -24,7 +24,7 @@ overflow_add-reserved g c =
     let hk = key_hash g.H.BuildHasher g.H.Hasher.Hasher g.E.Key.Hash.hash_input t.current in
     let hash = λ (e : g.row.E.Denot). hk (g.E.Keyed.key_of e) in
     let set = settings-seen hash t.current t.waiting.items t.draining c.args.self.now c.self.view_is in
-    let held : c.reserved.result ≡ (settings_of c.args.self.now).reserved = c.reserved.ensures.value ∙ ap (λ s. s.reserved) set in
+    let left : c.reserved.result ≡ (settings_of c.args.self.now).reserved = c.reserved.ensures.value ∙ ap (λ s. s.reserved) set in
     record { fits = let m = c.minimum-minimum.ensures in omega arith }
 
 pub set_reserved-requires : goal.set_reserved-requires
@@ -33,7 +33,7 @@ set_reserved-requires g c =
     let hk = key_hash g.H.BuildHasher g.H.Hasher.Hasher g.E.Key.Hash.hash_input t.current in
     let hash = λ (e : g.row.E.Denot). hk (g.E.Keyed.key_of e) in
     let set = settings-seen hash t.current t.waiting.items t.draining c.args.self.now c.self.view_is in
-    let held : c.reserved.result ≡ (settings_of c.args.self.now).reserved = c.reserved.ensures.value ∙ ap (λ s. s.reserved) set in
+    let left : c.reserved.result ≡ (settings_of c.args.self.now).reserved = c.reserved.ensures.value ∙ ap (λ s. s.reserved) set in
     omega arith
 
 pub returns-clause-yes : goal.returns-clause-yes
@@ -42,5 +42,5 @@ returns-clause-yes g c =
     let hk = key_hash g.H.BuildHasher g.H.Hasher.Hasher g.E.Key.Hash.hash_input t.current in
     let hash = λ (e : g.row.E.Denot). hk (g.E.Keyed.key_of e) in
     let set = settings-seen hash t.current t.waiting.items t.draining c.args.self.now c.self.view_is in
-    let held : c.reserved.result ≡ (settings_of c.args.self.now).reserved = c.reserved.ensures.value ∙ ap (λ s. s.reserved) set in
+    let left : c.reserved.result ≡ (settings_of c.args.self.now).reserved = c.reserved.ensures.value ∙ ap (λ s. s.reserved) set in
     search rules

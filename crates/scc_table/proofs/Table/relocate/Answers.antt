@@ -146,7 +146,7 @@ overflow_sub-self g c =
     let within : i < bucket_count cur = omega (arith, l, long) in
     let takes = c.in-Ok.ensures.ok in
     let le = bound-le hash (settings_of cur).skipped (bucket_count cur) i (flat_map shelf_entries olds) in
-    let all = inv.held_is ∙ sym (length-flat_map shelf_entries olds) in
+    let all = inv.left_is ∙ sym (length-flat_map shelf_entries olds) in
     omega (arith, takes.moved, le, all)
 
 pub overflow_sub-self-in-Ok : goal.overflow_sub-self-in-Ok
@@ -223,8 +223,8 @@ invariant_of-self g c =
     let fewer = one-down ws i l up in
     let none : count_by (λ w. w) (set ws i false) ≡ 0 = omega (arith, fewer, inv.counted, c.if-self-eq0.true) in
     rw (c.clear.ensures.items, c.replace-bare.ensures.after, c.none-none.ensures)
-    (subst (λ (h : g.row.E-Key.Denot → ℕ). IsTable g.E.Key.PartialEq.eq g.E.Keyed.key_of h c.take.new.current [] [] t.skipped (t.pending - 1) t.next (t.held - c.in-Ok.moved) 0) (sym same)
-    (fields-last g.E.Key.PartialEq.eq g.E.Keyed.key_of hk i c.in-Ok.moved cur c.take.new.current ws olds c.take.new.old t.skipped t.pending t.next t.held t.held_overflow inv up takes none c.in-Ok.ensures.few))
+    (subst (λ (h : g.row.E-Key.Denot → ℕ). IsTable g.E.Key.PartialEq.eq g.E.Keyed.key_of h c.take.new.current [] [] t.skipped (t.pending - 1) t.next (t.left - c.in-Ok.moved) 0) (sym same)
+    (fields-last g.E.Key.PartialEq.eq g.E.Keyed.key_of hk i c.in-Ok.moved cur c.take.new.current ws olds c.take.new.old t.skipped t.pending t.next t.left t.left_overflow inv up takes none c.in-Ok.ensures.few))
 
 pub invariant_of-self-else-self-eq0 : goal.invariant_of-self-else-self-eq0
 invariant_of-self-else-self-eq0 g c =
@@ -245,8 +245,8 @@ invariant_of-self-else-self-eq0 g c =
     let same = ap (λ s. let h : g.row.E-Key.Denot → ℕ = λ k. hash_of g.H.BuildHasher g.H.Hasher.Hasher s.hasher (g.E.Key.Hash.hash_input k) in h) takes.settings in
     let fewer = one-down ws i l up in
     let some : 0 < count_by (λ w. w) (set ws i false) = omega (arith, fewer, inv.counted, c.if-self-eq0.false) in
-    subst (λ (h : g.row.E-Key.Denot → ℕ). IsTable g.E.Key.PartialEq.eq g.E.Keyed.key_of h c.take.new.current (set ws i false) c.take.new.old t.skipped (t.pending - 1) t.next (t.held - c.in-Ok.moved) t.held_overflow) (sym same)
-    (fields-after g.E.Key.PartialEq.eq g.E.Keyed.key_of hk i c.in-Ok.moved cur c.take.new.current ws (set ws i false) olds c.take.new.old t.skipped t.pending t.next t.held t.held_overflow inv up takes refl some c.in-Ok.ensures.few)
+    subst (λ (h : g.row.E-Key.Denot → ℕ). IsTable g.E.Key.PartialEq.eq g.E.Keyed.key_of h c.take.new.current (set ws i false) c.take.new.old t.skipped (t.pending - 1) t.next (t.left - c.in-Ok.moved) t.left_overflow) (sym same)
+    (fields-after g.E.Key.PartialEq.eq g.E.Keyed.key_of hk i c.in-Ok.moved cur c.take.new.current ws (set ws i false) olds c.take.new.old t.skipped t.pending t.next t.left t.left_overflow inv up takes refl some c.in-Ok.ensures.few)
 
 pub returns-then-self-eq0-clause-ok : goal.returns-then-self-eq0-clause-ok
 returns-then-self-eq0-clause-ok g c =
@@ -375,10 +375,10 @@ returns-else-self-eq0-clause-bounded g c =
     let short = rw inv.skips at c.in-Ok.ensures.short in
     let was = spilled-seen hash cur ws olds c.args.self.now c.self.view_is in
     let takes = c.in-Ok.ensures.ok in
-    let held = spilled-le olds c.take.new.old takes.count takes.overflow in
+    let owed = spilled-le olds c.take.new.old takes.count takes.overflow in
     λ none few.
     let less = short (omega (arith, same, few)) in
-    let zero : spilled_of c.take.new.current + spilled_in c.take.new.old ≡ 0 = omega (arith, was, less, held, none) in
+    let zero : spilled_of c.take.new.current + spilled_in c.take.new.old ≡ 0 = omega (arith, was, less, left, none) in
     spilled-together (λ e. key_hash g.H.BuildHasher g.H.Hasher.Hasher g.E.Key.Hash.hash_input c.take.new.current (g.E.Keyed.key_of e)) c.take.new.current (set ws i false) c.take.new.old ∙ zero
 
 pub returns-in-Err-clause-bounded : goal.returns-in-Err-clause-bounded

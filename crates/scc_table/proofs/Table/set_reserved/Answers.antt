@@ -1,8 +1,8 @@
 use Rattle.std.proofs.Common.{◌≡◌, ◌∙◌, ℕ, sym, ap, subst}
-use Rattle.scc_contents.specs.Contents.{Settings, entries, bucket_count, key_hash, lists_of, held_of, settings_of}
+use Rattle.scc_contents.specs.Contents.{Settings, entries, bucket_count, key_hash, lists_of, owed_of, settings_of}
 use Rattle.scc_table.specs.TwoArrays.{IsTable, together}
 use Rattle.scc_table.proofs.Joining.{settings-together, refused-together, waiting-together}
-use Rattle.scc_table.proofs.Noting.{fields-kept, lists-kept, held-kept}
+use Rattle.scc_table.proofs.Noting.{fields-kept, lists-kept, owed-kept}
 use Rattle.scc_table.proofs.Same.{hash-like, entries-same, count-same}
 use Rattle.scc_table.proofs.Viewed.{settings-seen, refused-seen, waiting-seen}
 use Rattle.scc_table.proofs.Table.set_reserved.Goals as goal
@@ -20,8 +20,8 @@ invariant_of-self g c =
     let e = c.set_reserved.ensures in
     let same = hash-like g.H.BuildHasher g.H.Hasher.Hasher g.E.Key.Hash.hash_input t.current d (ap (λ s. s.hasher) e.settings) in
     let skips = ap (λ s. s.skipped) e.settings in
-    subst (λ (h : g.row.E-Key.Denot → ℕ). IsTable g.E.Key.PartialEq.eq g.E.Keyed.key_of h d t.waiting.items t.draining t.skipped t.pending t.next t.held t.held_overflow) (sym same)
-    (fields-kept g.E.Key.PartialEq.eq g.E.Keyed.key_of hk t.current d t.waiting.items t.draining t.skipped t.pending t.next t.held t.held_overflow e.lists skips e.spilled c.self.invariant)
+    subst (λ (h : g.row.E-Key.Denot → ℕ). IsTable g.E.Key.PartialEq.eq g.E.Keyed.key_of h d t.waiting.items t.draining t.skipped t.pending t.next t.left t.left_overflow) (sym same)
+    (fields-kept g.E.Key.PartialEq.eq g.E.Keyed.key_of hk t.current d t.waiting.items t.draining t.skipped t.pending t.next t.left t.left_overflow e.lists skips e.spilled c.self.invariant)
 
 pub returns-clause-lists : goal.returns-clause-lists
 returns-clause-lists g c =
@@ -72,12 +72,12 @@ returns-clause-waiting g c =
     let t = c.self.inside in
     waiting-together _ c.set_reserved.new.self t.waiting.items t.draining ∙ sym (waiting-seen _ t.current t.waiting.items t.draining c.args.self.now c.self.view_is)
 
-pub returns-clause-held : goal.returns-clause-held
-returns-clause-held g c =
+pub returns-clause-owed : goal.returns-clause-owed
+returns-clause-owed g c =
     let t = c.self.inside in
     let d = c.set_reserved.new.self in
     let hk = key_hash g.H.BuildHasher g.H.Hasher.Hasher g.E.Key.Hash.hash_input t.current in
     let e = c.set_reserved.ensures in
     let same = hash-like g.H.BuildHasher g.H.Hasher.Hasher g.E.Key.Hash.hash_input t.current d (ap (λ s. s.hasher) e.settings) in
     let skips = ap (λ s. s.skipped) e.settings in
-    ap (λ (h : g.row.E-Key.Denot → ℕ). held_of (together (λ e. h (g.E.Keyed.key_of e)) d t.waiting.items t.draining)) same ∙ held-kept (λ e. hk (g.E.Keyed.key_of e)) t.current d t.waiting.items t.draining e.lists skips ∙ ap held_of c.self.view_is
+    ap (λ (h : g.row.E-Key.Denot → ℕ). owed_of (together (λ e. h (g.E.Keyed.key_of e)) d t.waiting.items t.draining)) same ∙ owed-kept (λ e. hk (g.E.Keyed.key_of e)) t.current d t.waiting.items t.draining e.lists skips ∙ ap owed_of c.self.view_is

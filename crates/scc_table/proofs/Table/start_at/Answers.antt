@@ -2,14 +2,14 @@ use Rattle.std.proofs.Common.{◌≡◌, ◌∙◌, ℕ, ◌-◌, ◌<◌, Bool,
 use Rattle.std.proofs.lemmas.List.{get_or-replicate, length-replicate}
 use Rattle.std.specs.List.Sorted.{IsPermutation}
 use Rattle.scc_array.specs.Shelf.{empty_shelf, shelf_entries}
-use Rattle.scc_contents.specs.Contents.{entries, held_of, key_hash, lists_of, refused_of, settings_of, waiting_of}
+use Rattle.scc_contents.specs.Contents.{entries, owed_of, key_hash, lists_of, refused_of, settings_of, waiting_of}
 use Rattle.scc_buckets.specs.Pour.{IsRegrouped}
 use Rattle.scc_buckets.specs.Tables.{IsBuckets}
 use Rattle.scc_buckets.proofs.Fresh.{empty-replicate}
 use Rattle.scc_buckets.proofs.MakingLemmas.{flat-empty}
 use Rattle.scc_table.specs.TwoArrays.{together, IsTable}
 use Rattle.scc_buckets.proofs.Bare.{all-bare}
-use Rattle.scc_table.proofs.Alone.{nothing-held}
+use Rattle.scc_table.proofs.Alone.{nothing-owed}
 use Rattle.scc_draining.proofs.Arriving.{same-contents, IsDistinct-nil}
 use Rattle.scc_table.proofs.Begun.{begun, begun-bare, begun-count, begun-unique, begun-up, taken-fields, taken-less, taken-lists, taken-same}
 use Rattle.scc_table.proofs.Grown.{settle-all}
@@ -39,10 +39,10 @@ take-requires-clause-target g c =
     let key = g.E.Keyed.key_of in
     let hk = key_hash g.H.BuildHasher g.H.Hasher.Hasher g.E.Key.Hash.hash_input d in
     let same : hk ≡ key_hash g.H.BuildHasher g.H.Hasher.Hasher g.E.Key.Hash.hash_input cur = hash-same g.H.BuildHasher g.H.Hasher.Hasher g.E.Key.Hash.hash_input cur d x.settings in
-    let inv : IsTable g.E.Key.PartialEq.eq key hk cur t.waiting.items t.draining t.skipped t.pending t.next t.held t.held_overflow = subst (λ (h : g.row.E-Key.Denot → ℕ). IsTable g.E.Key.PartialEq.eq key h cur t.waiting.items t.draining t.skipped t.pending t.next t.held t.held_overflow) (sym same) c.self.invariant in
+    let inv : IsTable g.E.Key.PartialEq.eq key hk cur t.waiting.items t.draining t.skipped t.pending t.next t.left t.left_overflow = subst (λ (h : g.row.E-Key.Denot → ℕ). IsTable g.E.Key.PartialEq.eq key h cur t.waiting.items t.draining t.skipped t.pending t.next t.left t.left_overflow) (sym same) c.self.invariant in
     let view : together (λ e. hk (key e)) cur t.waiting.items t.draining ≡ a = subst (λ (h : g.row.E-Key.Denot → ℕ). together (λ e. h (key e)) cur t.waiting.items t.draining ≡ a) (sym same) c.self.view_is in
     let table : IsBuckets (λ e. hk (key e)) (settings_of cur).skipped olds c.exchange-old.result.1 over = subst (λ (h : g.row.E-Key.Denot → ℕ). IsBuckets (λ e. h (key e)) (settings_of cur).skipped olds c.exchange-old.result.1 over) (sym same) x.table in
-    let m = begun-count g.E.Key.PartialEq.eq g.met.E.Key.Eq.laws key hk cur d t.waiting.items t.draining t.skipped t.pending t.next t.held t.held_overflow inv a view r.settled n c.args.fresh olds c.exchange-old.result.1 over c.requires.empty r.array r.some r.other x.lists x.settings x.spilled x.were table in
+    let m = begun-count g.E.Key.PartialEq.eq g.met.E.Key.Eq.laws key hk cur d t.waiting.items t.draining t.skipped t.pending t.next t.left t.left_overflow inv a view r.settled n c.args.fresh olds c.exchange-old.result.1 over c.requires.empty r.array r.some r.other x.lists x.settings x.spilled x.were table in
     omega (arith, r.within)
 
 pub take-requires-clause-bare : goal.take-requires-clause-bare
@@ -60,11 +60,11 @@ take-requires-clause-bare g c =
     let key = g.E.Keyed.key_of in
     let hk = key_hash g.H.BuildHasher g.H.Hasher.Hasher g.E.Key.Hash.hash_input d in
     let same : hk ≡ key_hash g.H.BuildHasher g.H.Hasher.Hasher g.E.Key.Hash.hash_input cur = hash-same g.H.BuildHasher g.H.Hasher.Hasher g.E.Key.Hash.hash_input cur d x.settings in
-    let inv : IsTable g.E.Key.PartialEq.eq key hk cur t.waiting.items t.draining t.skipped t.pending t.next t.held t.held_overflow = subst (λ (h : g.row.E-Key.Denot → ℕ). IsTable g.E.Key.PartialEq.eq key h cur t.waiting.items t.draining t.skipped t.pending t.next t.held t.held_overflow) (sym same) c.self.invariant in
+    let inv : IsTable g.E.Key.PartialEq.eq key hk cur t.waiting.items t.draining t.skipped t.pending t.next t.left t.left_overflow = subst (λ (h : g.row.E-Key.Denot → ℕ). IsTable g.E.Key.PartialEq.eq key h cur t.waiting.items t.draining t.skipped t.pending t.next t.left t.left_overflow) (sym same) c.self.invariant in
     let view : together (λ e. hk (key e)) cur t.waiting.items t.draining ≡ a = subst (λ (h : g.row.E-Key.Denot → ℕ). together (λ e. h (key e)) cur t.waiting.items t.draining ≡ a) (sym same) c.self.view_is in
     let table : IsBuckets (λ e. hk (key e)) (settings_of cur).skipped olds c.exchange-old.result.1 over = subst (λ (h : g.row.E-Key.Denot → ℕ). IsBuckets (λ e. h (key e)) (settings_of cur).skipped olds c.exchange-old.result.1 over) (sym same) x.table in
-    let s = begun g.E.Key.PartialEq.eq g.met.E.Key.Eq.laws key hk cur d t.waiting.items t.draining t.skipped t.pending t.next t.held t.held_overflow inv a view r.settled n c.args.fresh olds c.exchange-old.result.1 over c.requires.empty r.array r.some r.other x.lists x.settings x.spilled x.were table in
-    let up = begun-up g.E.Key.PartialEq.eq g.met.E.Key.Eq.laws key hk cur d t.waiting.items t.draining t.skipped t.pending t.next t.held t.held_overflow inv a view r.settled n c.args.fresh olds c.exchange-old.result.1 over c.requires.empty r.array r.some r.other x.lists x.settings x.spilled x.were table k r.within in
+    let s = begun g.E.Key.PartialEq.eq g.met.E.Key.Eq.laws key hk cur d t.waiting.items t.draining t.skipped t.pending t.next t.left t.left_overflow inv a view r.settled n c.args.fresh olds c.exchange-old.result.1 over c.requires.empty r.array r.some r.other x.lists x.settings x.spilled x.were table in
+    let up = begun-up g.E.Key.PartialEq.eq g.met.E.Key.Eq.laws key hk cur d t.waiting.items t.draining t.skipped t.pending t.next t.left t.left_overflow inv a view r.settled n c.args.fresh olds c.exchange-old.result.1 over c.requires.empty r.array r.some r.other x.lists x.settings x.spilled x.were table k r.within in
     s.arrays.bare k up
 
 pub take-requires-clause-sized : goal.take-requires-clause-sized
@@ -82,11 +82,11 @@ take-requires-clause-sized g c =
     let key = g.E.Keyed.key_of in
     let hk = key_hash g.H.BuildHasher g.H.Hasher.Hasher g.E.Key.Hash.hash_input d in
     let same : hk ≡ key_hash g.H.BuildHasher g.H.Hasher.Hasher g.E.Key.Hash.hash_input cur = hash-same g.H.BuildHasher g.H.Hasher.Hasher g.E.Key.Hash.hash_input cur d x.settings in
-    let inv : IsTable g.E.Key.PartialEq.eq key hk cur t.waiting.items t.draining t.skipped t.pending t.next t.held t.held_overflow = subst (λ (h : g.row.E-Key.Denot → ℕ). IsTable g.E.Key.PartialEq.eq key h cur t.waiting.items t.draining t.skipped t.pending t.next t.held t.held_overflow) (sym same) c.self.invariant in
+    let inv : IsTable g.E.Key.PartialEq.eq key hk cur t.waiting.items t.draining t.skipped t.pending t.next t.left t.left_overflow = subst (λ (h : g.row.E-Key.Denot → ℕ). IsTable g.E.Key.PartialEq.eq key h cur t.waiting.items t.draining t.skipped t.pending t.next t.left t.left_overflow) (sym same) c.self.invariant in
     let view : together (λ e. hk (key e)) cur t.waiting.items t.draining ≡ a = subst (λ (h : g.row.E-Key.Denot → ℕ). together (λ e. h (key e)) cur t.waiting.items t.draining ≡ a) (sym same) c.self.view_is in
     let table : IsBuckets (λ e. hk (key e)) (settings_of cur).skipped olds c.exchange-old.result.1 over = subst (λ (h : g.row.E-Key.Denot → ℕ). IsBuckets (λ e. h (key e)) (settings_of cur).skipped olds c.exchange-old.result.1 over) (sym same) x.table in
-    let s = begun g.E.Key.PartialEq.eq g.met.E.Key.Eq.laws key hk cur d t.waiting.items t.draining t.skipped t.pending t.next t.held t.held_overflow inv a view r.settled n c.args.fresh olds c.exchange-old.result.1 over c.requires.empty r.array r.some r.other x.lists x.settings x.spilled x.were table in
-    let up = begun-up g.E.Key.PartialEq.eq g.met.E.Key.Eq.laws key hk cur d t.waiting.items t.draining t.skipped t.pending t.next t.held t.held_overflow inv a view r.settled n c.args.fresh olds c.exchange-old.result.1 over c.requires.empty r.array r.some r.other x.lists x.settings x.spilled x.were table k r.within in
+    let s = begun g.E.Key.PartialEq.eq g.met.E.Key.Eq.laws key hk cur d t.waiting.items t.draining t.skipped t.pending t.next t.left t.left_overflow inv a view r.settled n c.args.fresh olds c.exchange-old.result.1 over c.requires.empty r.array r.some r.other x.lists x.settings x.spilled x.were table in
+    let up = begun-up g.E.Key.PartialEq.eq g.met.E.Key.Eq.laws key hk cur d t.waiting.items t.draining t.skipped t.pending t.next t.left t.left_overflow inv a view r.settled n c.args.fresh olds c.exchange-old.result.1 over c.requires.empty r.array r.some r.other x.lists x.settings x.spilled x.were table k r.within in
     sized-flags d (replicate n true) olds k s.arrays.sized up
 
 pub take-requires-clause-multiples : goal.take-requires-clause-multiples
@@ -104,11 +104,11 @@ take-requires-clause-multiples g c =
     let key = g.E.Keyed.key_of in
     let hk = key_hash g.H.BuildHasher g.H.Hasher.Hasher g.E.Key.Hash.hash_input d in
     let same : hk ≡ key_hash g.H.BuildHasher g.H.Hasher.Hasher g.E.Key.Hash.hash_input cur = hash-same g.H.BuildHasher g.H.Hasher.Hasher g.E.Key.Hash.hash_input cur d x.settings in
-    let inv : IsTable g.E.Key.PartialEq.eq key hk cur t.waiting.items t.draining t.skipped t.pending t.next t.held t.held_overflow = subst (λ (h : g.row.E-Key.Denot → ℕ). IsTable g.E.Key.PartialEq.eq key h cur t.waiting.items t.draining t.skipped t.pending t.next t.held t.held_overflow) (sym same) c.self.invariant in
+    let inv : IsTable g.E.Key.PartialEq.eq key hk cur t.waiting.items t.draining t.skipped t.pending t.next t.left t.left_overflow = subst (λ (h : g.row.E-Key.Denot → ℕ). IsTable g.E.Key.PartialEq.eq key h cur t.waiting.items t.draining t.skipped t.pending t.next t.left t.left_overflow) (sym same) c.self.invariant in
     let view : together (λ e. hk (key e)) cur t.waiting.items t.draining ≡ a = subst (λ (h : g.row.E-Key.Denot → ℕ). together (λ e. h (key e)) cur t.waiting.items t.draining ≡ a) (sym same) c.self.view_is in
     let table : IsBuckets (λ e. hk (key e)) (settings_of cur).skipped olds c.exchange-old.result.1 over = subst (λ (h : g.row.E-Key.Denot → ℕ). IsBuckets (λ e. h (key e)) (settings_of cur).skipped olds c.exchange-old.result.1 over) (sym same) x.table in
-    let s = begun g.E.Key.PartialEq.eq g.met.E.Key.Eq.laws key hk cur d t.waiting.items t.draining t.skipped t.pending t.next t.held t.held_overflow inv a view r.settled n c.args.fresh olds c.exchange-old.result.1 over c.requires.empty r.array r.some r.other x.lists x.settings x.spilled x.were table in
-    let up = begun-up g.E.Key.PartialEq.eq g.met.E.Key.Eq.laws key hk cur d t.waiting.items t.draining t.skipped t.pending t.next t.held t.held_overflow inv a view r.settled n c.args.fresh olds c.exchange-old.result.1 over c.requires.empty r.array r.some r.other x.lists x.settings x.spilled x.were table k r.within in
+    let s = begun g.E.Key.PartialEq.eq g.met.E.Key.Eq.laws key hk cur d t.waiting.items t.draining t.skipped t.pending t.next t.left t.left_overflow inv a view r.settled n c.args.fresh olds c.exchange-old.result.1 over c.requires.empty r.array r.some r.other x.lists x.settings x.spilled x.were table in
+    let up = begun-up g.E.Key.PartialEq.eq g.met.E.Key.Eq.laws key hk cur d t.waiting.items t.draining t.skipped t.pending t.next t.left t.left_overflow inv a view r.settled n c.args.fresh olds c.exchange-old.result.1 over c.requires.empty r.array r.some r.other x.lists x.settings x.spilled x.were table k r.within in
     multiple-flags d (replicate n true) olds k s.arrays.multiples up
 
 pub take-requires-clause-own : goal.take-requires-clause-own
@@ -126,10 +126,10 @@ take-requires-clause-own g c =
     let key = g.E.Keyed.key_of in
     let hk = key_hash g.H.BuildHasher g.H.Hasher.Hasher g.E.Key.Hash.hash_input d in
     let same : hk ≡ key_hash g.H.BuildHasher g.H.Hasher.Hasher g.E.Key.Hash.hash_input cur = hash-same g.H.BuildHasher g.H.Hasher.Hasher g.E.Key.Hash.hash_input cur d x.settings in
-    let inv : IsTable g.E.Key.PartialEq.eq key hk cur t.waiting.items t.draining t.skipped t.pending t.next t.held t.held_overflow = subst (λ (h : g.row.E-Key.Denot → ℕ). IsTable g.E.Key.PartialEq.eq key h cur t.waiting.items t.draining t.skipped t.pending t.next t.held t.held_overflow) (sym same) c.self.invariant in
+    let inv : IsTable g.E.Key.PartialEq.eq key hk cur t.waiting.items t.draining t.skipped t.pending t.next t.left t.left_overflow = subst (λ (h : g.row.E-Key.Denot → ℕ). IsTable g.E.Key.PartialEq.eq key h cur t.waiting.items t.draining t.skipped t.pending t.next t.left t.left_overflow) (sym same) c.self.invariant in
     let view : together (λ e. hk (key e)) cur t.waiting.items t.draining ≡ a = subst (λ (h : g.row.E-Key.Denot → ℕ). together (λ e. h (key e)) cur t.waiting.items t.draining ≡ a) (sym same) c.self.view_is in
     let table : IsBuckets (λ e. hk (key e)) (settings_of cur).skipped olds c.exchange-old.result.1 over = subst (λ (h : g.row.E-Key.Denot → ℕ). IsBuckets (λ e. h (key e)) (settings_of cur).skipped olds c.exchange-old.result.1 over) (sym same) x.table in
-    let s = begun g.E.Key.PartialEq.eq g.met.E.Key.Eq.laws key hk cur d t.waiting.items t.draining t.skipped t.pending t.next t.held t.held_overflow inv a view r.settled n c.args.fresh olds c.exchange-old.result.1 over c.requires.empty r.array r.some r.other x.lists x.settings x.spilled x.were table in
+    let s = begun g.E.Key.PartialEq.eq g.met.E.Key.Eq.laws key hk cur d t.waiting.items t.draining t.skipped t.pending t.next t.left t.left_overflow inv a view r.settled n c.args.fresh olds c.exchange-old.result.1 over c.requires.empty r.array r.some r.other x.lists x.settings x.spilled x.were table in
     rw s.skips s.arrays.own
 
 pub take-requires-clause-unique : goal.take-requires-clause-unique
@@ -147,12 +147,12 @@ take-requires-clause-unique g c =
     let key = g.E.Keyed.key_of in
     let hk = key_hash g.H.BuildHasher g.H.Hasher.Hasher g.E.Key.Hash.hash_input d in
     let same : hk ≡ key_hash g.H.BuildHasher g.H.Hasher.Hasher g.E.Key.Hash.hash_input cur = hash-same g.H.BuildHasher g.H.Hasher.Hasher g.E.Key.Hash.hash_input cur d x.settings in
-    let inv : IsTable g.E.Key.PartialEq.eq key hk cur t.waiting.items t.draining t.skipped t.pending t.next t.held t.held_overflow = subst (λ (h : g.row.E-Key.Denot → ℕ). IsTable g.E.Key.PartialEq.eq key h cur t.waiting.items t.draining t.skipped t.pending t.next t.held t.held_overflow) (sym same) c.self.invariant in
+    let inv : IsTable g.E.Key.PartialEq.eq key hk cur t.waiting.items t.draining t.skipped t.pending t.next t.left t.left_overflow = subst (λ (h : g.row.E-Key.Denot → ℕ). IsTable g.E.Key.PartialEq.eq key h cur t.waiting.items t.draining t.skipped t.pending t.next t.left t.left_overflow) (sym same) c.self.invariant in
     let view : together (λ e. hk (key e)) cur t.waiting.items t.draining ≡ a = subst (λ (h : g.row.E-Key.Denot → ℕ). together (λ e. h (key e)) cur t.waiting.items t.draining ≡ a) (sym same) c.self.view_is in
     let table : IsBuckets (λ e. hk (key e)) (settings_of cur).skipped olds c.exchange-old.result.1 over = subst (λ (h : g.row.E-Key.Denot → ℕ). IsBuckets (λ e. h (key e)) (settings_of cur).skipped olds c.exchange-old.result.1 over) (sym same) x.table in
-    let s = begun g.E.Key.PartialEq.eq g.met.E.Key.Eq.laws key hk cur d t.waiting.items t.draining t.skipped t.pending t.next t.held t.held_overflow inv a view r.settled n c.args.fresh olds c.exchange-old.result.1 over c.requires.empty r.array r.some r.other x.lists x.settings x.spilled x.were table in
-    let up = begun-up g.E.Key.PartialEq.eq g.met.E.Key.Eq.laws key hk cur d t.waiting.items t.draining t.skipped t.pending t.next t.held t.held_overflow inv a view r.settled n c.args.fresh olds c.exchange-old.result.1 over c.requires.empty r.array r.some r.other x.lists x.settings x.spilled x.were table k r.within in
-    let m = begun-count g.E.Key.PartialEq.eq g.met.E.Key.Eq.laws key hk cur d t.waiting.items t.draining t.skipped t.pending t.next t.held t.held_overflow inv a view r.settled n c.args.fresh olds c.exchange-old.result.1 over c.requires.empty r.array r.some r.other x.lists x.settings x.spilled x.were table in
+    let s = begun g.E.Key.PartialEq.eq g.met.E.Key.Eq.laws key hk cur d t.waiting.items t.draining t.skipped t.pending t.next t.left t.left_overflow inv a view r.settled n c.args.fresh olds c.exchange-old.result.1 over c.requires.empty r.array r.some r.other x.lists x.settings x.spilled x.were table in
+    let up = begun-up g.E.Key.PartialEq.eq g.met.E.Key.Eq.laws key hk cur d t.waiting.items t.draining t.skipped t.pending t.next t.left t.left_overflow inv a view r.settled n c.args.fresh olds c.exchange-old.result.1 over c.requires.empty r.array r.some r.other x.lists x.settings x.spilled x.were table k r.within in
+    let m = begun-count g.E.Key.PartialEq.eq g.met.E.Key.Eq.laws key hk cur d t.waiting.items t.draining t.skipped t.pending t.next t.left t.left_overflow inv a view r.settled n c.args.fresh olds c.exchange-old.result.1 over c.requires.empty r.array r.some r.other x.lists x.settings x.spilled x.were table in
     rw s.skips (unique-before (λ e. hk (key e)) d (replicate n true) olds s.arrays k up (length-replicate n true ∙ sym m) g.E.Key.PartialEq.eq key s.unique)
 
 pub destroy_empty-requires : goal.destroy_empty-requires
@@ -160,7 +160,7 @@ destroy_empty-requires g c =
     let t = c.self.inside in
     let a = c.args.self.now in
     let none = settled-flags a c.self.invariant c.self.view_is c.requires.settled in
-    let bare = nothing-held _ t.current t.waiting.items t.draining none c.self.invariant.arrays in
+    let bare = nothing-owed _ t.current t.waiting.items t.draining none c.self.invariant.arrays in
     λ i l. rw c.replace-bare.ensures.value (all-bare t.draining bare i)
 
 pub overflow_sub-self-in-Ok : goal.overflow_sub-self-in-Ok
@@ -178,7 +178,7 @@ overflow_sub-self-in-Ok g c =
     let key = g.E.Keyed.key_of in
     let hk = key_hash g.H.BuildHasher g.H.Hasher.Hasher g.E.Key.Hash.hash_input d in
     let same : hk ≡ key_hash g.H.BuildHasher g.H.Hasher.Hasher g.E.Key.Hash.hash_input cur = hash-same g.H.BuildHasher g.H.Hasher.Hasher g.E.Key.Hash.hash_input cur d x.settings in
-    let inv : IsTable g.E.Key.PartialEq.eq key hk cur t.waiting.items t.draining t.skipped t.pending t.next t.held t.held_overflow = subst (λ (h : g.row.E-Key.Denot → ℕ). IsTable g.E.Key.PartialEq.eq key h cur t.waiting.items t.draining t.skipped t.pending t.next t.held t.held_overflow) (sym same) c.self.invariant in
+    let inv : IsTable g.E.Key.PartialEq.eq key hk cur t.waiting.items t.draining t.skipped t.pending t.next t.left t.left_overflow = subst (λ (h : g.row.E-Key.Denot → ℕ). IsTable g.E.Key.PartialEq.eq key h cur t.waiting.items t.draining t.skipped t.pending t.next t.left t.left_overflow) (sym same) c.self.invariant in
     let view : together (λ e. hk (key e)) cur t.waiting.items t.draining ≡ a = subst (λ (h : g.row.E-Key.Denot → ℕ). together (λ e. h (key e)) cur t.waiting.items t.draining ≡ a) (sym same) c.self.view_is in
     let table : IsBuckets (λ e. hk (key e)) (settings_of cur).skipped olds c.exchange-old.result.1 over = subst (λ (h : g.row.E-Key.Denot → ℕ). IsBuckets (λ e. h (key e)) (settings_of cur).skipped olds c.exchange-old.result.1 over) (sym same) x.table in
     let e = c.take.new.current in
@@ -187,7 +187,7 @@ overflow_sub-self-in-Ok g c =
     let vs = set c.args.flags.items k false in
     let down : vs ≡ set (replicate n true) k false = ap (λ w. set w k false) c.requires.flags in
     let later : key_hash g.H.BuildHasher g.H.Hasher.Hasher g.E.Key.Hash.hash_input e ≡ hk = hash-same g.H.BuildHasher g.H.Hasher.Hasher g.E.Key.Hash.hash_input d e takes.settings in
-    taken-less g.E.Key.PartialEq.eq g.met.E.Key.Eq.laws key hk cur d t.waiting.items t.draining t.skipped t.pending t.next t.held t.held_overflow inv a view r.settled n c.args.fresh olds c.exchange-old.result.1 over c.requires.empty r.array r.some r.other x.lists x.settings x.spilled x.were table k r.within c.in-Ok.moved e vs news takes down
+    taken-less g.E.Key.PartialEq.eq g.met.E.Key.Eq.laws key hk cur d t.waiting.items t.draining t.skipped t.pending t.next t.left t.left_overflow inv a view r.settled n c.args.fresh olds c.exchange-old.result.1 over c.requires.empty r.array r.some r.other x.lists x.settings x.spilled x.were table k r.within c.in-Ok.moved e vs news takes down
 
 pub invariant_of-self : goal.invariant_of-self
 invariant_of-self g c =
@@ -204,7 +204,7 @@ invariant_of-self g c =
     let key = g.E.Keyed.key_of in
     let hk = key_hash g.H.BuildHasher g.H.Hasher.Hasher g.E.Key.Hash.hash_input d in
     let same : hk ≡ key_hash g.H.BuildHasher g.H.Hasher.Hasher g.E.Key.Hash.hash_input cur = hash-same g.H.BuildHasher g.H.Hasher.Hasher g.E.Key.Hash.hash_input cur d x.settings in
-    let inv : IsTable g.E.Key.PartialEq.eq key hk cur t.waiting.items t.draining t.skipped t.pending t.next t.held t.held_overflow = subst (λ (h : g.row.E-Key.Denot → ℕ). IsTable g.E.Key.PartialEq.eq key h cur t.waiting.items t.draining t.skipped t.pending t.next t.held t.held_overflow) (sym same) c.self.invariant in
+    let inv : IsTable g.E.Key.PartialEq.eq key hk cur t.waiting.items t.draining t.skipped t.pending t.next t.left t.left_overflow = subst (λ (h : g.row.E-Key.Denot → ℕ). IsTable g.E.Key.PartialEq.eq key h cur t.waiting.items t.draining t.skipped t.pending t.next t.left t.left_overflow) (sym same) c.self.invariant in
     let view : together (λ e. hk (key e)) cur t.waiting.items t.draining ≡ a = subst (λ (h : g.row.E-Key.Denot → ℕ). together (λ e. h (key e)) cur t.waiting.items t.draining ≡ a) (sym same) c.self.view_is in
     let table : IsBuckets (λ e. hk (key e)) (settings_of cur).skipped olds c.exchange-old.result.1 over = subst (λ (h : g.row.E-Key.Denot → ℕ). IsBuckets (λ e. h (key e)) (settings_of cur).skipped olds c.exchange-old.result.1 over) (sym same) x.table in
     let e = c.take.new.current in
@@ -213,7 +213,7 @@ invariant_of-self g c =
     let vs = set c.args.flags.items k false in
     let down : vs ≡ set (replicate n true) k false = ap (λ w. set w k false) c.requires.flags in
     let later : key_hash g.H.BuildHasher g.H.Hasher.Hasher g.E.Key.Hash.hash_input e ≡ hk = hash-same g.H.BuildHasher g.H.Hasher.Hasher g.E.Key.Hash.hash_input d e takes.settings in
-    rw c.replace-bare.ensures.after (subst (λ (h : g.row.E-Key.Denot → ℕ). IsTable g.E.Key.PartialEq.eq key h e vs news t.skipped (n - 1) 0 (c.exchange-old.result.1 - c.in-Ok.moved) over) (sym later) (taken-fields g.E.Key.PartialEq.eq g.met.E.Key.Eq.laws key hk cur d t.waiting.items t.draining t.skipped t.pending t.next t.held t.held_overflow inv a view r.settled n c.args.fresh olds c.exchange-old.result.1 over c.requires.empty r.array r.some r.other x.lists x.settings x.spilled x.were table k r.within c.in-Ok.moved e vs news takes down c.in-Ok.ensures.few))
+    rw c.replace-bare.ensures.after (subst (λ (h : g.row.E-Key.Denot → ℕ). IsTable g.E.Key.PartialEq.eq key h e vs news t.skipped (n - 1) 0 (c.exchange-old.result.1 - c.in-Ok.moved) over) (sym later) (taken-fields g.E.Key.PartialEq.eq g.met.E.Key.Eq.laws key hk cur d t.waiting.items t.draining t.skipped t.pending t.next t.left t.left_overflow inv a view r.settled n c.args.fresh olds c.exchange-old.result.1 over c.requires.empty r.array r.some r.other x.lists x.settings x.spilled x.were table k r.within c.in-Ok.moved e vs news takes down c.in-Ok.ensures.few))
 
 pub returns-in-Ok-clause-lists : goal.returns-in-Ok-clause-lists
 returns-in-Ok-clause-lists g c =
@@ -230,7 +230,7 @@ returns-in-Ok-clause-lists g c =
     let key = g.E.Keyed.key_of in
     let hk = key_hash g.H.BuildHasher g.H.Hasher.Hasher g.E.Key.Hash.hash_input d in
     let same : hk ≡ key_hash g.H.BuildHasher g.H.Hasher.Hasher g.E.Key.Hash.hash_input cur = hash-same g.H.BuildHasher g.H.Hasher.Hasher g.E.Key.Hash.hash_input cur d x.settings in
-    let inv : IsTable g.E.Key.PartialEq.eq key hk cur t.waiting.items t.draining t.skipped t.pending t.next t.held t.held_overflow = subst (λ (h : g.row.E-Key.Denot → ℕ). IsTable g.E.Key.PartialEq.eq key h cur t.waiting.items t.draining t.skipped t.pending t.next t.held t.held_overflow) (sym same) c.self.invariant in
+    let inv : IsTable g.E.Key.PartialEq.eq key hk cur t.waiting.items t.draining t.skipped t.pending t.next t.left t.left_overflow = subst (λ (h : g.row.E-Key.Denot → ℕ). IsTable g.E.Key.PartialEq.eq key h cur t.waiting.items t.draining t.skipped t.pending t.next t.left t.left_overflow) (sym same) c.self.invariant in
     let view : together (λ e. hk (key e)) cur t.waiting.items t.draining ≡ a = subst (λ (h : g.row.E-Key.Denot → ℕ). together (λ e. h (key e)) cur t.waiting.items t.draining ≡ a) (sym same) c.self.view_is in
     let table : IsBuckets (λ e. hk (key e)) (settings_of cur).skipped olds c.exchange-old.result.1 over = subst (λ (h : g.row.E-Key.Denot → ℕ). IsBuckets (λ e. h (key e)) (settings_of cur).skipped olds c.exchange-old.result.1 over) (sym same) x.table in
     let e = c.take.new.current in
@@ -240,7 +240,7 @@ returns-in-Ok-clause-lists g c =
     let down : vs ≡ set (replicate n true) k false = ap (λ w. set w k false) c.requires.flags in
     let later : key_hash g.H.BuildHasher g.H.Hasher.Hasher g.E.Key.Hash.hash_input e ≡ hk = hash-same g.H.BuildHasher g.H.Hasher.Hasher g.E.Key.Hash.hash_input d e takes.settings in
     let outer : key_hash g.H.BuildHasher g.H.Hasher.Hasher g.E.Key.Hash.hash_input a ≡ hk = hash-same g.H.BuildHasher g.H.Hasher.Hasher g.E.Key.Hash.hash_input d a (settings-seen _ cur t.waiting.items t.draining a view ∙ sym x.settings) in
-    let there = subst (λ (h : g.row.E-Key.Denot → ℕ). IsRegrouped (λ z. hk (key z)) n a (together (λ z. h (key z)) e vs news)) (sym later) (taken-lists g.E.Key.PartialEq.eq g.met.E.Key.Eq.laws key hk cur d t.waiting.items t.draining t.skipped t.pending t.next t.held t.held_overflow inv a view r.settled n c.args.fresh olds c.exchange-old.result.1 over c.requires.empty r.array r.some r.other x.lists x.settings x.spilled x.were table k r.within c.in-Ok.moved e vs news takes down) in
+    let there = subst (λ (h : g.row.E-Key.Denot → ℕ). IsRegrouped (λ z. hk (key z)) n a (together (λ z. h (key z)) e vs news)) (sym later) (taken-lists g.E.Key.PartialEq.eq g.met.E.Key.Eq.laws key hk cur d t.waiting.items t.draining t.skipped t.pending t.next t.left t.left_overflow inv a view r.settled n c.args.fresh olds c.exchange-old.result.1 over c.requires.empty r.array r.some r.other x.lists x.settings x.spilled x.were table k r.within c.in-Ok.moved e vs news takes down) in
     rw c.replace-bare.ensures.after (subst (λ (h : g.row.E-Key.Denot → ℕ). IsRegrouped (λ z. h (key z)) n a (together (λ z. key_hash g.H.BuildHasher g.H.Hasher.Hasher g.E.Key.Hash.hash_input e (key z)) e vs news)) (sym outer) there)
 
 pub returns-in-Ok-clause-same : goal.returns-in-Ok-clause-same
@@ -258,7 +258,7 @@ returns-in-Ok-clause-same g c =
     let key = g.E.Keyed.key_of in
     let hk = key_hash g.H.BuildHasher g.H.Hasher.Hasher g.E.Key.Hash.hash_input d in
     let same : hk ≡ key_hash g.H.BuildHasher g.H.Hasher.Hasher g.E.Key.Hash.hash_input cur = hash-same g.H.BuildHasher g.H.Hasher.Hasher g.E.Key.Hash.hash_input cur d x.settings in
-    let inv : IsTable g.E.Key.PartialEq.eq key hk cur t.waiting.items t.draining t.skipped t.pending t.next t.held t.held_overflow = subst (λ (h : g.row.E-Key.Denot → ℕ). IsTable g.E.Key.PartialEq.eq key h cur t.waiting.items t.draining t.skipped t.pending t.next t.held t.held_overflow) (sym same) c.self.invariant in
+    let inv : IsTable g.E.Key.PartialEq.eq key hk cur t.waiting.items t.draining t.skipped t.pending t.next t.left t.left_overflow = subst (λ (h : g.row.E-Key.Denot → ℕ). IsTable g.E.Key.PartialEq.eq key h cur t.waiting.items t.draining t.skipped t.pending t.next t.left t.left_overflow) (sym same) c.self.invariant in
     let view : together (λ e. hk (key e)) cur t.waiting.items t.draining ≡ a = subst (λ (h : g.row.E-Key.Denot → ℕ). together (λ e. h (key e)) cur t.waiting.items t.draining ≡ a) (sym same) c.self.view_is in
     let table : IsBuckets (λ e. hk (key e)) (settings_of cur).skipped olds c.exchange-old.result.1 over = subst (λ (h : g.row.E-Key.Denot → ℕ). IsBuckets (λ e. h (key e)) (settings_of cur).skipped olds c.exchange-old.result.1 over) (sym same) x.table in
     let e = c.take.new.current in
@@ -267,7 +267,7 @@ returns-in-Ok-clause-same g c =
     let vs = set c.args.flags.items k false in
     let down : vs ≡ set (replicate n true) k false = ap (λ w. set w k false) c.requires.flags in
     let later : key_hash g.H.BuildHasher g.H.Hasher.Hasher g.E.Key.Hash.hash_input e ≡ hk = hash-same g.H.BuildHasher g.H.Hasher.Hasher g.E.Key.Hash.hash_input d e takes.settings in
-    rw c.replace-bare.ensures.after (subst (λ (h : g.row.E-Key.Denot → ℕ). IsPermutation (entries a) (entries (together (λ z. h (key z)) e vs news))) (sym later) (taken-same g.E.Key.PartialEq.eq g.met.E.Key.Eq.laws key hk cur d t.waiting.items t.draining t.skipped t.pending t.next t.held t.held_overflow inv a view r.settled n c.args.fresh olds c.exchange-old.result.1 over c.requires.empty r.array r.some r.other x.lists x.settings x.spilled x.were table k r.within c.in-Ok.moved e vs news takes down))
+    rw c.replace-bare.ensures.after (subst (λ (h : g.row.E-Key.Denot → ℕ). IsPermutation (entries a) (entries (together (λ z. h (key z)) e vs news))) (sym later) (taken-same g.E.Key.PartialEq.eq g.met.E.Key.Eq.laws key hk cur d t.waiting.items t.draining t.skipped t.pending t.next t.left t.left_overflow inv a view r.settled n c.args.fresh olds c.exchange-old.result.1 over c.requires.empty r.array r.some r.other x.lists x.settings x.spilled x.were table k r.within c.in-Ok.moved e vs news takes down))
 
 pub returns-in-Ok-clause-waiting : goal.returns-in-Ok-clause-waiting
 returns-in-Ok-clause-waiting g c =
@@ -318,7 +318,7 @@ returns-in-Ok-clause-unique g c =
     let key = g.E.Keyed.key_of in
     let hk = key_hash g.H.BuildHasher g.H.Hasher.Hasher g.E.Key.Hash.hash_input d in
     let same : hk ≡ key_hash g.H.BuildHasher g.H.Hasher.Hasher g.E.Key.Hash.hash_input cur = hash-same g.H.BuildHasher g.H.Hasher.Hasher g.E.Key.Hash.hash_input cur d x.settings in
-    let inv : IsTable g.E.Key.PartialEq.eq key hk cur t.waiting.items t.draining t.skipped t.pending t.next t.held t.held_overflow = subst (λ (h : g.row.E-Key.Denot → ℕ). IsTable g.E.Key.PartialEq.eq key h cur t.waiting.items t.draining t.skipped t.pending t.next t.held t.held_overflow) (sym same) c.self.invariant in
+    let inv : IsTable g.E.Key.PartialEq.eq key hk cur t.waiting.items t.draining t.skipped t.pending t.next t.left t.left_overflow = subst (λ (h : g.row.E-Key.Denot → ℕ). IsTable g.E.Key.PartialEq.eq key h cur t.waiting.items t.draining t.skipped t.pending t.next t.left t.left_overflow) (sym same) c.self.invariant in
     let view : together (λ e. hk (key e)) cur t.waiting.items t.draining ≡ a = subst (λ (h : g.row.E-Key.Denot → ℕ). together (λ e. h (key e)) cur t.waiting.items t.draining ≡ a) (sym same) c.self.view_is in
     let table : IsBuckets (λ e. hk (key e)) (settings_of cur).skipped olds c.exchange-old.result.1 over = subst (λ (h : g.row.E-Key.Denot → ℕ). IsBuckets (λ e. h (key e)) (settings_of cur).skipped olds c.exchange-old.result.1 over) (sym same) x.table in
     let e = c.take.new.current in
@@ -327,7 +327,7 @@ returns-in-Ok-clause-unique g c =
     let vs = set c.args.flags.items k false in
     let down : vs ≡ set (replicate n true) k false = ap (λ w. set w k false) c.requires.flags in
     let later : key_hash g.H.BuildHasher g.H.Hasher.Hasher g.E.Key.Hash.hash_input e ≡ hk = hash-same g.H.BuildHasher g.H.Hasher.Hasher g.E.Key.Hash.hash_input d e takes.settings in
-    let there = subst (λ (h : g.row.E-Key.Denot → ℕ). IsTable g.E.Key.PartialEq.eq key h e vs news t.skipped (n - 1) 0 (c.exchange-old.result.1 - c.in-Ok.moved) over) (sym later) (taken-fields g.E.Key.PartialEq.eq g.met.E.Key.Eq.laws key hk cur d t.waiting.items t.draining t.skipped t.pending t.next t.held t.held_overflow inv a view r.settled n c.args.fresh olds c.exchange-old.result.1 over c.requires.empty r.array r.some r.other x.lists x.settings x.spilled x.were table k r.within c.in-Ok.moved e vs news takes down c.in-Ok.ensures.few) in
+    let there = subst (λ (h : g.row.E-Key.Denot → ℕ). IsTable g.E.Key.PartialEq.eq key h e vs news t.skipped (n - 1) 0 (c.exchange-old.result.1 - c.in-Ok.moved) over) (sym later) (taken-fields g.E.Key.PartialEq.eq g.met.E.Key.Eq.laws key hk cur d t.waiting.items t.draining t.skipped t.pending t.next t.left t.left_overflow inv a view r.settled n c.args.fresh olds c.exchange-old.result.1 over c.requires.empty r.array r.some r.other x.lists x.settings x.spilled x.were table k r.within c.in-Ok.moved e vs news takes down c.in-Ok.ensures.few) in
     rw c.replace-bare.ensures.after there.unique
 
 pub exchange-bare-requires-clause-table : goal.exchange-bare-requires-clause-table
@@ -345,7 +345,7 @@ exchange-bare-requires-clause-table g c =
     let key = g.E.Keyed.key_of in
     let hk = key_hash g.H.BuildHasher g.H.Hasher.Hasher g.E.Key.Hash.hash_input d in
     let same : hk ≡ key_hash g.H.BuildHasher g.H.Hasher.Hasher g.E.Key.Hash.hash_input cur = hash-same g.H.BuildHasher g.H.Hasher.Hasher g.E.Key.Hash.hash_input cur d x.settings in
-    let inv : IsTable g.E.Key.PartialEq.eq key hk cur t.waiting.items t.draining t.skipped t.pending t.next t.held t.held_overflow = subst (λ (h : g.row.E-Key.Denot → ℕ). IsTable g.E.Key.PartialEq.eq key h cur t.waiting.items t.draining t.skipped t.pending t.next t.held t.held_overflow) (sym same) c.self.invariant in
+    let inv : IsTable g.E.Key.PartialEq.eq key hk cur t.waiting.items t.draining t.skipped t.pending t.next t.left t.left_overflow = subst (λ (h : g.row.E-Key.Denot → ℕ). IsTable g.E.Key.PartialEq.eq key h cur t.waiting.items t.draining t.skipped t.pending t.next t.left t.left_overflow) (sym same) c.self.invariant in
     let view : together (λ e. hk (key e)) cur t.waiting.items t.draining ≡ a = subst (λ (h : g.row.E-Key.Denot → ℕ). together (λ e. h (key e)) cur t.waiting.items t.draining ≡ a) (sym same) c.self.view_is in
     let table : IsBuckets (λ e. hk (key e)) (settings_of cur).skipped olds c.exchange-old.result.1 over = subst (λ (h : g.row.E-Key.Denot → ℕ). IsBuckets (λ e. h (key e)) (settings_of cur).skipped olds c.exchange-old.result.1 over) (sym same) x.table in
     rw (c.in-Err.ensures.err, c.in-Err.ensures.stays) (subst (λ s. IsBuckets (λ e. hk (key e)) s.skipped olds c.exchange-old.result.1 over) (sym x.settings) table)
@@ -365,10 +365,10 @@ exchange-bare-requires-clause-unique g c =
     let key = g.E.Keyed.key_of in
     let hk = key_hash g.H.BuildHasher g.H.Hasher.Hasher g.E.Key.Hash.hash_input d in
     let same : hk ≡ key_hash g.H.BuildHasher g.H.Hasher.Hasher g.E.Key.Hash.hash_input cur = hash-same g.H.BuildHasher g.H.Hasher.Hasher g.E.Key.Hash.hash_input cur d x.settings in
-    let inv : IsTable g.E.Key.PartialEq.eq key hk cur t.waiting.items t.draining t.skipped t.pending t.next t.held t.held_overflow = subst (λ (h : g.row.E-Key.Denot → ℕ). IsTable g.E.Key.PartialEq.eq key h cur t.waiting.items t.draining t.skipped t.pending t.next t.held t.held_overflow) (sym same) c.self.invariant in
+    let inv : IsTable g.E.Key.PartialEq.eq key hk cur t.waiting.items t.draining t.skipped t.pending t.next t.left t.left_overflow = subst (λ (h : g.row.E-Key.Denot → ℕ). IsTable g.E.Key.PartialEq.eq key h cur t.waiting.items t.draining t.skipped t.pending t.next t.left t.left_overflow) (sym same) c.self.invariant in
     let view : together (λ e. hk (key e)) cur t.waiting.items t.draining ≡ a = subst (λ (h : g.row.E-Key.Denot → ℕ). together (λ e. h (key e)) cur t.waiting.items t.draining ≡ a) (sym same) c.self.view_is in
     let table : IsBuckets (λ e. hk (key e)) (settings_of cur).skipped olds c.exchange-old.result.1 over = subst (λ (h : g.row.E-Key.Denot → ℕ). IsBuckets (λ e. h (key e)) (settings_of cur).skipped olds c.exchange-old.result.1 over) (sym same) x.table in
-    rw c.in-Err.ensures.stays (begun-unique g.E.Key.PartialEq.eq g.met.E.Key.Eq.laws key hk cur d t.waiting.items t.draining t.skipped t.pending t.next t.held t.held_overflow inv a view r.settled n c.args.fresh olds c.exchange-old.result.1 over c.requires.empty r.array r.some r.other x.lists x.settings x.spilled x.were table)
+    rw c.in-Err.ensures.stays (begun-unique g.E.Key.PartialEq.eq g.met.E.Key.Eq.laws key hk cur d t.waiting.items t.draining t.skipped t.pending t.next t.left t.left_overflow inv a view r.settled n c.args.fresh olds c.exchange-old.result.1 over c.requires.empty r.array r.some r.other x.lists x.settings x.spilled x.were table)
 
 pub destroy_empty-requires-in-Err : goal.destroy_empty-requires-in-Err
 destroy_empty-requires-in-Err g c =
@@ -385,10 +385,10 @@ destroy_empty-requires-in-Err g c =
     let key = g.E.Keyed.key_of in
     let hk = key_hash g.H.BuildHasher g.H.Hasher.Hasher g.E.Key.Hash.hash_input d in
     let same : hk ≡ key_hash g.H.BuildHasher g.H.Hasher.Hasher g.E.Key.Hash.hash_input cur = hash-same g.H.BuildHasher g.H.Hasher.Hasher g.E.Key.Hash.hash_input cur d x.settings in
-    let inv : IsTable g.E.Key.PartialEq.eq key hk cur t.waiting.items t.draining t.skipped t.pending t.next t.held t.held_overflow = subst (λ (h : g.row.E-Key.Denot → ℕ). IsTable g.E.Key.PartialEq.eq key h cur t.waiting.items t.draining t.skipped t.pending t.next t.held t.held_overflow) (sym same) c.self.invariant in
+    let inv : IsTable g.E.Key.PartialEq.eq key hk cur t.waiting.items t.draining t.skipped t.pending t.next t.left t.left_overflow = subst (λ (h : g.row.E-Key.Denot → ℕ). IsTable g.E.Key.PartialEq.eq key h cur t.waiting.items t.draining t.skipped t.pending t.next t.left t.left_overflow) (sym same) c.self.invariant in
     let view : together (λ e. hk (key e)) cur t.waiting.items t.draining ≡ a = subst (λ (h : g.row.E-Key.Denot → ℕ). together (λ e. h (key e)) cur t.waiting.items t.draining ≡ a) (sym same) c.self.view_is in
     let table : IsBuckets (λ e. hk (key e)) (settings_of cur).skipped olds c.exchange-old.result.1 over = subst (λ (h : g.row.E-Key.Denot → ℕ). IsBuckets (λ e. h (key e)) (settings_of cur).skipped olds c.exchange-old.result.1 over) (sym same) x.table in
-    λ i l. begun-bare g.E.Key.PartialEq.eq g.met.E.Key.Eq.laws key hk cur d t.waiting.items t.draining t.skipped t.pending t.next t.held t.held_overflow inv a view r.settled n c.args.fresh olds c.exchange-old.result.1 over c.requires.empty r.array r.some r.other x.lists x.settings x.spilled x.were table c.exchange-bare.result.0 (ap lists_of (sym c.in-Err.ensures.err) ∙ c.exchange-bare.ensures.were) i l
+    λ i l. begun-bare g.E.Key.PartialEq.eq g.met.E.Key.Eq.laws key hk cur d t.waiting.items t.draining t.skipped t.pending t.next t.left t.left_overflow inv a view r.settled n c.args.fresh olds c.exchange-old.result.1 over c.requires.empty r.array r.some r.other x.lists x.settings x.spilled x.were table c.exchange-bare.result.0 (ap lists_of (sym c.in-Err.ensures.err) ∙ c.exchange-bare.ensures.were) i l
 
 pub invariant_of-self-in-Err-1 : goal.invariant_of-self-in-Err-1
 invariant_of-self-in-Err-1 g c =
@@ -406,7 +406,7 @@ invariant_of-self-in-Err-1 g c =
     let e = c.exchange-bare.new.self in
     let y = c.exchange-bare.ensures in
     let back = c.in-Err.ensures.err in
-    let whole : e ≡ cur = same-contents cur e (y.lists ∙ ap (map shelf_entries) c.in-Err.ensures.stays ∙ sym x.were) (y.settings ∙ ap settings_of back ∙ x.settings) (y.noted ∙ ap refused_of back ∙ x.noted) (y.spilled ∙ x.overflowing) (y.waiting ∙ ap waiting_of back ∙ x.waiting) (y.held ∙ ap held_of back ∙ x.held) in
+    let whole : e ≡ cur = same-contents cur e (y.lists ∙ ap (map shelf_entries) c.in-Err.ensures.stays ∙ sym x.were) (y.settings ∙ ap settings_of back ∙ x.settings) (y.noted ∙ ap refused_of back ∙ x.noted) (y.spilled ∙ x.overflowing) (y.waiting ∙ ap waiting_of back ∙ x.waiting) (y.owed ∙ ap owed_of back ∙ x.owed) in
     rw whole c.self.invariant
 
 pub returns-in-Err-clause-err : goal.returns-in-Err-clause-err
@@ -425,7 +425,7 @@ returns-in-Err-clause-err g c =
     let e = c.exchange-bare.new.self in
     let y = c.exchange-bare.ensures in
     let back = c.in-Err.ensures.err in
-    let whole : e ≡ cur = same-contents cur e (y.lists ∙ ap (map shelf_entries) c.in-Err.ensures.stays ∙ sym x.were) (y.settings ∙ ap settings_of back ∙ x.settings) (y.noted ∙ ap refused_of back ∙ x.noted) (y.spilled ∙ x.overflowing) (y.waiting ∙ ap waiting_of back ∙ x.waiting) (y.held ∙ ap held_of back ∙ x.held) in
+    let whole : e ≡ cur = same-contents cur e (y.lists ∙ ap (map shelf_entries) c.in-Err.ensures.stays ∙ sym x.were) (y.settings ∙ ap settings_of back ∙ x.settings) (y.noted ∙ ap refused_of back ∙ x.noted) (y.spilled ∙ x.overflowing) (y.waiting ∙ ap waiting_of back ∙ x.waiting) (y.owed ∙ ap owed_of back ∙ x.owed) in
     rw whole c.self.view_is
 
 pub returns-in-Err-clause-unique : goal.returns-in-Err-clause-unique
@@ -444,7 +444,7 @@ returns-in-Err-clause-unique g c =
     let e = c.exchange-bare.new.self in
     let y = c.exchange-bare.ensures in
     let back = c.in-Err.ensures.err in
-    let whole : e ≡ cur = same-contents cur e (y.lists ∙ ap (map shelf_entries) c.in-Err.ensures.stays ∙ sym x.were) (y.settings ∙ ap settings_of back ∙ x.settings) (y.noted ∙ ap refused_of back ∙ x.noted) (y.spilled ∙ x.overflowing) (y.waiting ∙ ap waiting_of back ∙ x.waiting) (y.held ∙ ap held_of back ∙ x.held) in
+    let whole : e ≡ cur = same-contents cur e (y.lists ∙ ap (map shelf_entries) c.in-Err.ensures.stays ∙ sym x.were) (y.settings ∙ ap settings_of back ∙ x.settings) (y.noted ∙ ap refused_of back ∙ x.noted) (y.spilled ∙ x.overflowing) (y.waiting ∙ ap waiting_of back ∙ x.waiting) (y.owed ∙ ap owed_of back ∙ x.owed) in
     rw whole c.self.invariant.unique
 
 pub take-requires-clause-flags : goal.take-requires-clause-flags
@@ -462,10 +462,10 @@ take-requires-clause-flags g c =
     let key = g.E.Keyed.key_of in
     let hk = key_hash g.H.BuildHasher g.H.Hasher.Hasher g.E.Key.Hash.hash_input d in
     let same : hk ≡ key_hash g.H.BuildHasher g.H.Hasher.Hasher g.E.Key.Hash.hash_input cur = hash-same g.H.BuildHasher g.H.Hasher.Hasher g.E.Key.Hash.hash_input cur d x.settings in
-    let inv : IsTable g.E.Key.PartialEq.eq key hk cur t.waiting.items t.draining t.skipped t.pending t.next t.held t.held_overflow = subst (λ (h : g.row.E-Key.Denot → ℕ). IsTable g.E.Key.PartialEq.eq key h cur t.waiting.items t.draining t.skipped t.pending t.next t.held t.held_overflow) (sym same) c.self.invariant in
+    let inv : IsTable g.E.Key.PartialEq.eq key hk cur t.waiting.items t.draining t.skipped t.pending t.next t.left t.left_overflow = subst (λ (h : g.row.E-Key.Denot → ℕ). IsTable g.E.Key.PartialEq.eq key h cur t.waiting.items t.draining t.skipped t.pending t.next t.left t.left_overflow) (sym same) c.self.invariant in
     let view : together (λ e. hk (key e)) cur t.waiting.items t.draining ≡ a = subst (λ (h : g.row.E-Key.Denot → ℕ). together (λ e. h (key e)) cur t.waiting.items t.draining ≡ a) (sym same) c.self.view_is in
     let table : IsBuckets (λ e. hk (key e)) (settings_of cur).skipped olds c.exchange-old.result.1 over = subst (λ (h : g.row.E-Key.Denot → ℕ). IsBuckets (λ e. h (key e)) (settings_of cur).skipped olds c.exchange-old.result.1 over) (sym same) x.table in
-    let m = begun-count g.E.Key.PartialEq.eq g.met.E.Key.Eq.laws key hk cur d t.waiting.items t.draining t.skipped t.pending t.next t.held t.held_overflow inv a view r.settled n c.args.fresh olds c.exchange-old.result.1 over c.requires.empty r.array r.some r.other x.lists x.settings x.spilled x.were table in
+    let m = begun-count g.E.Key.PartialEq.eq g.met.E.Key.Eq.laws key hk cur d t.waiting.items t.draining t.skipped t.pending t.next t.left t.left_overflow inv a view r.settled n c.args.fresh olds c.exchange-old.result.1 over c.requires.empty r.array r.some r.other x.lists x.settings x.spilled x.were table in
     ap length (c.as_slice.ensures.value ∙ c.requires.flags) ∙ length-replicate n true ∙ sym m
 
 pub take-requires-clause-settled : goal.take-requires-clause-settled
@@ -483,10 +483,10 @@ take-requires-clause-settled g c =
     let key = g.E.Keyed.key_of in
     let hk = key_hash g.H.BuildHasher g.H.Hasher.Hasher g.E.Key.Hash.hash_input d in
     let same : hk ≡ key_hash g.H.BuildHasher g.H.Hasher.Hasher g.E.Key.Hash.hash_input cur = hash-same g.H.BuildHasher g.H.Hasher.Hasher g.E.Key.Hash.hash_input cur d x.settings in
-    let inv : IsTable g.E.Key.PartialEq.eq key hk cur t.waiting.items t.draining t.skipped t.pending t.next t.held t.held_overflow = subst (λ (h : g.row.E-Key.Denot → ℕ). IsTable g.E.Key.PartialEq.eq key h cur t.waiting.items t.draining t.skipped t.pending t.next t.held t.held_overflow) (sym same) c.self.invariant in
+    let inv : IsTable g.E.Key.PartialEq.eq key hk cur t.waiting.items t.draining t.skipped t.pending t.next t.left t.left_overflow = subst (λ (h : g.row.E-Key.Denot → ℕ). IsTable g.E.Key.PartialEq.eq key h cur t.waiting.items t.draining t.skipped t.pending t.next t.left t.left_overflow) (sym same) c.self.invariant in
     let view : together (λ e. hk (key e)) cur t.waiting.items t.draining ≡ a = subst (λ (h : g.row.E-Key.Denot → ℕ). together (λ e. h (key e)) cur t.waiting.items t.draining ≡ a) (sym same) c.self.view_is in
     let table : IsBuckets (λ e. hk (key e)) (settings_of cur).skipped olds c.exchange-old.result.1 over = subst (λ (h : g.row.E-Key.Denot → ℕ). IsBuckets (λ e. h (key e)) (settings_of cur).skipped olds c.exchange-old.result.1 over) (sym same) x.table in
-    let m = begun-count g.E.Key.PartialEq.eq g.met.E.Key.Eq.laws key hk cur d t.waiting.items t.draining t.skipped t.pending t.next t.held t.held_overflow inv a view r.settled n c.args.fresh olds c.exchange-old.result.1 over c.requires.empty r.array r.some r.other x.lists x.settings x.spilled x.were table in
+    let m = begun-count g.E.Key.PartialEq.eq g.met.E.Key.Eq.laws key hk cur d t.waiting.items t.draining t.skipped t.pending t.next t.left t.left_overflow inv a view r.settled n c.args.fresh olds c.exchange-old.result.1 over c.requires.empty r.array r.some r.other x.lists x.settings x.spilled x.were table in
     λ i l low.
     let up : get_or c.as_slice.result.now i false ≡ true = ap (λ (w : List Bool). get_or w i false) (c.as_slice.ensures.value ∙ c.requires.flags) ∙ get_or-replicate n i true false (omega (arith, l, m)) in
     absurd (let z : true ≡ false = sym up ∙ low in cc)

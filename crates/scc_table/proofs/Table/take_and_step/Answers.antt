@@ -5,10 +5,10 @@ pub place_on-next-requires-clause-start : goal.place_on-next-requires-clause-sta
 place_on-next-requires-clause-start g c =
     let took = c.take_in-entry.ensures in
     let target = c.target_of-target in
-    step-start c.args.self.now c.take_in-entry.new.self c.args.place c.requires took.exact took.waiting took.held target.result target.ensures.value target.ensures.within target.ensures.next
+    step-start c.args.self.now c.take_in-entry.new.self c.args.place c.requires took.exact took.waiting took.owed target.result target.ensures.value target.ensures.within target.ensures.next
 
 pub returns-clause-next : goal.returns-clause-next
 returns-clause-next g c =
     let took = c.take_in-entry.ensures in
     let target = c.target_of-target in
-    step-next c.args.self.now c.take_in-entry.new.self c.args.place c.requires took.exact took.waiting took.held target.result target.ensures.value target.ensures.within target.ensures.next c.place_on-next.result c.place_on-next.ensures
+    step-next c.args.self.now c.take_in-entry.new.self c.args.place c.requires took.exact took.waiting took.owed target.result target.ensures.value target.ensures.within target.ensures.next c.place_on-next.result c.place_on-next.ensures

@@ -2,14 +2,14 @@ use Rattle.std.proofs.Common.{◌≡◌, ℕ, ◌-◌, ◌<◌, ◌≤◌, Some,
 use Rattle.std.specs.List.{remove, slice_get, IsDistinct}
 use Rattle.scc_array.specs.Shelves.{shelf_of}
 use Rattle.scc_array.specs.Shelf.{Shelf, shelf_entries, without_place}
-use Rattle.scc_contents.specs.Contents.{Contents, bucket_count, entries, list_of, key_hash, waiting_of, held_of}
+use Rattle.scc_contents.specs.Contents.{Contents, bucket_count, entries, list_of, key_hash, waiting_of, owed_of}
 use Rattle.scc_contents.specs.Hashing.{hash_of}
 use Rattle.scc_buckets.specs.OneList.{IsSwappedOutOf, IsTakenFrom}
 use Rattle.scc_table.specs.Places.{IsPlace, index_of, spot_of}
-use Rattle.scc_table.specs.Takes.{held_taken}
+use Rattle.scc_table.specs.Takes.{owed_taken}
 use Rattle.scc_table.specs.TwoArrays.{together, IsTable}
 use Rattle.scc_table.proofs.Joining.{waiting-together}
-use Rattle.scc_table.proofs.Taken.{own-held_kept, own-less, own-less_swapped, own-swapped, own-taken, old-held_taken, old-less, old-some, old-taken_at}
+use Rattle.scc_table.proofs.Taken.{own-owed_kept, own-less, own-less_swapped, own-swapped, own-taken, old-owed_taken, old-less, old-some, old-taken_at}
 use Rattle.scc_table.proofs.TakenFrom.{got-there, swapped-count, swapped-moved, swapped-unique, taken-exactly, taken-gone, taken-listed, taken-short, taken-swapped, taken-unique}
 use Rattle.scc_table.proofs.Written.{own-got, own-is, old-got, old-is}
 use Rattle.scc_table.proofs.Table.take_in.Goals as goal
@@ -29,7 +29,7 @@ take_in-requires g c =
     let within = subst (λ z. IsPlace z p) (sym view) c.requires in
     let count = c.bucket_count-count.ensures.count in
     let near : p.bucket < bucket_count cur = omega (arith, count) in
-    (own-is laws key hk cur ws olds t.skipped t.pending t.next t.held t.held_overflow inv p within near).0
+    (own-is laws key hk cur ws olds t.skipped t.pending t.next t.left t.left_overflow inv p within near).0
 
 pub invariant_of-self : goal.invariant_of-self
 invariant_of-self g c =
@@ -48,7 +48,7 @@ invariant_of-self g c =
     let near : p.bucket < bucket_count cur = omega (arith, count) in
     let d = c.take_in.new.self in
     let same = ap (λ s. let h : g.row.E-Key.Denot → ℕ = λ k. hash_of g.H.BuildHasher g.H.Hasher.Hasher s.hasher (g.E.Key.Hash.hash_input k) in h) c.take_in.ensures.exact.settings in
-    subst (λ (h : g.row.E-Key.Denot → ℕ). IsTable g.E.Key.PartialEq.eq key h d ws olds t.skipped t.pending t.next t.held t.held_overflow) (sym same) (own-less laws key hk cur ws olds t.skipped t.pending t.next t.held t.held_overflow inv p within near d c.take_in.result c.take_in.ensures.entry c.take_in.ensures.exact)
+    subst (λ (h : g.row.E-Key.Denot → ℕ). IsTable g.E.Key.PartialEq.eq key h d ws olds t.skipped t.pending t.next t.left t.left_overflow) (sym same) (own-less laws key hk cur ws olds t.skipped t.pending t.next t.left t.left_overflow inv p within near d c.take_in.result c.take_in.ensures.entry c.take_in.ensures.exact)
 
 pub returns-then-place-count-clause-entry : goal.returns-then-place-count-clause-entry
 returns-then-place-count-clause-entry g c =
@@ -65,11 +65,11 @@ returns-then-place-count-clause-entry g c =
     let within = subst (λ z. IsPlace z p) (sym view) c.requires in
     let count = c.bucket_count-count.ensures.count in
     let near : p.bucket < bucket_count cur = omega (arith, count) in
-    let there = subst (λ (z : Contents g.row.E.Denot g.row.H.Denot). slice_get (entries z) (index_of z p) ≡ Some c.take_in.result) view (own-got laws key hk cur ws olds t.skipped t.pending t.next t.held t.held_overflow inv p within near c.take_in.result c.take_in.ensures.entry) in
+    let there = subst (λ (z : Contents g.row.E.Denot g.row.H.Denot). slice_get (entries z) (index_of z p) ≡ Some c.take_in.result) view (own-got laws key hk cur ws olds t.skipped t.pending t.next t.left t.left_overflow inv p within near c.take_in.result c.take_in.ensures.entry) in
     there
 
-pub returns-then-place-count-clause-held : goal.returns-then-place-count-clause-held
-returns-then-place-count-clause-held g c =
+pub returns-then-place-count-clause-owed : goal.returns-then-place-count-clause-owed
+returns-then-place-count-clause-owed g c =
     let t = c.self.inside in
     let cur = t.current in
     let ws = t.waiting.items in
@@ -85,7 +85,7 @@ returns-then-place-count-clause-held g c =
     let near : p.bucket < bucket_count cur = omega (arith, count) in
     let d = c.take_in.new.self in
     let same = ap (λ s. let h : g.row.E-Key.Denot → ℕ = λ k. hash_of g.H.BuildHasher g.H.Hasher.Hasher s.hasher (g.E.Key.Hash.hash_input k) in h) c.take_in.ensures.exact.settings in
-    ap (λ (h : g.row.E-Key.Denot → ℕ). held_of (together (λ e. h (key e)) d ws olds)) same ∙ own-held_kept laws key hk cur ws olds t.skipped t.pending t.next t.held t.held_overflow inv p within near d (remove (list_of cur p.bucket) p.slot) c.take_in.ensures.exact.lists c.take_in.ensures.exact.settings ∙ ap (λ (z : Contents g.row.E.Denot g.row.H.Denot). held_taken (bucket_count z) (held_of z) p) view
+    ap (λ (h : g.row.E-Key.Denot → ℕ). owed_of (together (λ e. h (key e)) d ws olds)) same ∙ own-owed_kept laws key hk cur ws olds t.skipped t.pending t.next t.left t.left_overflow inv p within near d (remove (list_of cur p.bucket) p.slot) c.take_in.ensures.exact.lists c.take_in.ensures.exact.settings ∙ ap (λ (z : Contents g.row.E.Denot g.row.H.Denot). owed_taken (bucket_count z) (owed_of z) p) view
 
 pub returns-then-place-count-clause-others : goal.returns-then-place-count-clause-others
 returns-then-place-count-clause-others g c =
@@ -107,7 +107,7 @@ returns-then-place-count-clause-others g c =
     let d = c.take_in.new.self in
     let same = ap (λ s. let h : g.row.E-Key.Denot → ℕ = λ k. hash_of g.H.BuildHasher g.H.Hasher.Hasher s.hasher (g.E.Key.Hash.hash_input k) in h) c.take_in.ensures.exact.settings in
     let after = together (λ e. key_hash g.H.BuildHasher g.H.Hasher.Hasher g.E.Key.Hash.hash_input d (key e)) d ws olds in
-    let first = subst (λ (h : g.row.E-Key.Denot → ℕ). IsTakenFrom (together (λ e. hk (key e)) cur ws olds) (spot_of (together (λ e. hk (key e)) cur ws olds) p) (together (λ e. h (key e)) d ws olds)) (sym same) (own-taken laws key hk cur ws olds t.skipped t.pending t.next t.held t.held_overflow inv p within near d c.take_in.ensures.exact) in
+    let first = subst (λ (h : g.row.E-Key.Denot → ℕ). IsTakenFrom (together (λ e. hk (key e)) cur ws olds) (spot_of (together (λ e. hk (key e)) cur ws olds) p) (together (λ e. h (key e)) d ws olds)) (sym same) (own-taken laws key hk cur ws olds t.skipped t.pending t.next t.left t.left_overflow inv p within near d c.take_in.ensures.exact) in
     let taken = subst (λ (z : Contents g.row.E.Denot g.row.H.Denot). IsTakenFrom z (spot_of z p) after) view first in
     taken-exactly now after q c.requires taken
 
@@ -129,7 +129,7 @@ returns-then-place-count-clause-noted g c =
     let d = c.take_in.new.self in
     let same = ap (λ s. let h : g.row.E-Key.Denot → ℕ = λ k. hash_of g.H.BuildHasher g.H.Hasher.Hasher s.hasher (g.E.Key.Hash.hash_input k) in h) c.take_in.ensures.exact.settings in
     let after = together (λ e. key_hash g.H.BuildHasher g.H.Hasher.Hasher g.E.Key.Hash.hash_input d (key e)) d ws olds in
-    let first = subst (λ (h : g.row.E-Key.Denot → ℕ). IsTakenFrom (together (λ e. hk (key e)) cur ws olds) (spot_of (together (λ e. hk (key e)) cur ws olds) p) (together (λ e. h (key e)) d ws olds)) (sym same) (own-taken laws key hk cur ws olds t.skipped t.pending t.next t.held t.held_overflow inv p within near d c.take_in.ensures.exact) in
+    let first = subst (λ (h : g.row.E-Key.Denot → ℕ). IsTakenFrom (together (λ e. hk (key e)) cur ws olds) (spot_of (together (λ e. hk (key e)) cur ws olds) p) (together (λ e. h (key e)) d ws olds)) (sym same) (own-taken laws key hk cur ws olds t.skipped t.pending t.next t.left t.left_overflow inv p within near d c.take_in.ensures.exact) in
     let taken = subst (λ (z : Contents g.row.E.Denot g.row.H.Denot). IsTakenFrom z (spot_of z p) after) view first in
     taken.refused
 
@@ -164,7 +164,7 @@ returns-then-place-count-clause-listed g c =
     let now = c.args.self.now in
     let q = spot_of now p in
     let d = c.take_in.new.self in
-    let there = subst (λ (z : Contents g.row.E.Denot g.row.H.Denot). slice_get (entries z) (index_of z p) ≡ Some c.take_in.result) view (own-got laws key hk cur ws olds t.skipped t.pending t.next t.held t.held_overflow inv p within near c.take_in.result c.take_in.ensures.entry) in
+    let there = subst (λ (z : Contents g.row.E.Denot g.row.H.Denot). slice_get (entries z) (index_of z p) ≡ Some c.take_in.result) view (own-got laws key hk cur ws olds t.skipped t.pending t.next t.left t.left_overflow inv p within near c.take_in.result c.take_in.ensures.entry) in
     let after = together (λ e. key_hash g.H.BuildHasher g.H.Hasher.Hasher g.E.Key.Hash.hash_input d (key e)) d ws olds in
     got-there now after q c.requires c.take_in.result there
 
@@ -187,10 +187,10 @@ returns-then-place-count-clause-gone g c =
     let q = spot_of now p in
     let unique = subst (λ (z : Contents g.row.E.Denot g.row.H.Denot). IsDistinct g.E.Key.PartialEq.eq (map key (entries z))) view inv.unique in
     let d = c.take_in.new.self in
-    let there = subst (λ (z : Contents g.row.E.Denot g.row.H.Denot). slice_get (entries z) (index_of z p) ≡ Some c.take_in.result) view (own-got laws key hk cur ws olds t.skipped t.pending t.next t.held t.held_overflow inv p within near c.take_in.result c.take_in.ensures.entry) in
+    let there = subst (λ (z : Contents g.row.E.Denot g.row.H.Denot). slice_get (entries z) (index_of z p) ≡ Some c.take_in.result) view (own-got laws key hk cur ws olds t.skipped t.pending t.next t.left t.left_overflow inv p within near c.take_in.result c.take_in.ensures.entry) in
     let same = ap (λ s. let h : g.row.E-Key.Denot → ℕ = λ k. hash_of g.H.BuildHasher g.H.Hasher.Hasher s.hasher (g.E.Key.Hash.hash_input k) in h) c.take_in.ensures.exact.settings in
     let after = together (λ e. key_hash g.H.BuildHasher g.H.Hasher.Hasher g.E.Key.Hash.hash_input d (key e)) d ws olds in
-    let first = subst (λ (h : g.row.E-Key.Denot → ℕ). IsTakenFrom (together (λ e. hk (key e)) cur ws olds) (spot_of (together (λ e. hk (key e)) cur ws olds) p) (together (λ e. h (key e)) d ws olds)) (sym same) (own-taken laws key hk cur ws olds t.skipped t.pending t.next t.held t.held_overflow inv p within near d c.take_in.ensures.exact) in
+    let first = subst (λ (h : g.row.E-Key.Denot → ℕ). IsTakenFrom (together (λ e. hk (key e)) cur ws olds) (spot_of (together (λ e. hk (key e)) cur ws olds) p) (together (λ e. h (key e)) d ws olds)) (sym same) (own-taken laws key hk cur ws olds t.skipped t.pending t.next t.left t.left_overflow inv p within near d c.take_in.ensures.exact) in
     let taken = subst (λ (z : Contents g.row.E.Denot g.row.H.Denot). IsTakenFrom z (spot_of z p) after) view first in
     taken-gone now after q c.requires taken laws key c.take_in.result there unique
 
@@ -214,7 +214,7 @@ returns-then-place-count-clause-short g c =
     let d = c.take_in.new.self in
     let same = ap (λ s. let h : g.row.E-Key.Denot → ℕ = λ k. hash_of g.H.BuildHasher g.H.Hasher.Hasher s.hasher (g.E.Key.Hash.hash_input k) in h) c.take_in.ensures.exact.settings in
     let after = together (λ e. key_hash g.H.BuildHasher g.H.Hasher.Hasher g.E.Key.Hash.hash_input d (key e)) d ws olds in
-    let first = subst (λ (h : g.row.E-Key.Denot → ℕ). IsTakenFrom (together (λ e. hk (key e)) cur ws olds) (spot_of (together (λ e. hk (key e)) cur ws olds) p) (together (λ e. h (key e)) d ws olds)) (sym same) (own-taken laws key hk cur ws olds t.skipped t.pending t.next t.held t.held_overflow inv p within near d c.take_in.ensures.exact) in
+    let first = subst (λ (h : g.row.E-Key.Denot → ℕ). IsTakenFrom (together (λ e. hk (key e)) cur ws olds) (spot_of (together (λ e. hk (key e)) cur ws olds) p) (together (λ e. h (key e)) d ws olds)) (sym same) (own-taken laws key hk cur ws olds t.skipped t.pending t.next t.left t.left_overflow inv p within near d c.take_in.ensures.exact) in
     let taken = subst (λ (z : Contents g.row.E.Denot g.row.H.Denot). IsTakenFrom z (spot_of z p) after) view first in
     taken-short now after q c.requires taken
 
@@ -238,7 +238,7 @@ returns-then-place-count-clause-lists g c =
     let d = c.take_in.new.self in
     let same = ap (λ s. let h : g.row.E-Key.Denot → ℕ = λ k. hash_of g.H.BuildHasher g.H.Hasher.Hasher s.hasher (g.E.Key.Hash.hash_input k) in h) c.take_in.ensures.exact.settings in
     let after = together (λ e. key_hash g.H.BuildHasher g.H.Hasher.Hasher g.E.Key.Hash.hash_input d (key e)) d ws olds in
-    let first = subst (λ (h : g.row.E-Key.Denot → ℕ). IsTakenFrom (together (λ e. hk (key e)) cur ws olds) (spot_of (together (λ e. hk (key e)) cur ws olds) p) (together (λ e. h (key e)) d ws olds)) (sym same) (own-taken laws key hk cur ws olds t.skipped t.pending t.next t.held t.held_overflow inv p within near d c.take_in.ensures.exact) in
+    let first = subst (λ (h : g.row.E-Key.Denot → ℕ). IsTakenFrom (together (λ e. hk (key e)) cur ws olds) (spot_of (together (λ e. hk (key e)) cur ws olds) p) (together (λ e. h (key e)) d ws olds)) (sym same) (own-taken laws key hk cur ws olds t.skipped t.pending t.next t.left t.left_overflow inv p within near d c.take_in.ensures.exact) in
     let taken = subst (λ (z : Contents g.row.E.Denot g.row.H.Denot). IsTakenFrom z (spot_of z p) after) view first in
     taken-listed now after q c.requires taken
 
@@ -260,7 +260,7 @@ returns-then-place-count-clause-exact g c =
     let d = c.take_in.new.self in
     let same = ap (λ s. let h : g.row.E-Key.Denot → ℕ = λ k. hash_of g.H.BuildHasher g.H.Hasher.Hasher s.hasher (g.E.Key.Hash.hash_input k) in h) c.take_in.ensures.exact.settings in
     let after = together (λ e. key_hash g.H.BuildHasher g.H.Hasher.Hasher g.E.Key.Hash.hash_input d (key e)) d ws olds in
-    let first = subst (λ (h : g.row.E-Key.Denot → ℕ). IsTakenFrom (together (λ e. hk (key e)) cur ws olds) (spot_of (together (λ e. hk (key e)) cur ws olds) p) (together (λ e. h (key e)) d ws olds)) (sym same) (own-taken laws key hk cur ws olds t.skipped t.pending t.next t.held t.held_overflow inv p within near d c.take_in.ensures.exact) in
+    let first = subst (λ (h : g.row.E-Key.Denot → ℕ). IsTakenFrom (together (λ e. hk (key e)) cur ws olds) (spot_of (together (λ e. hk (key e)) cur ws olds) p) (together (λ e. h (key e)) d ws olds)) (sym same) (own-taken laws key hk cur ws olds t.skipped t.pending t.next t.left t.left_overflow inv p within near d c.take_in.ensures.exact) in
     let taken = subst (λ (z : Contents g.row.E.Denot g.row.H.Denot). IsTakenFrom z (spot_of z p) after) view first in
     taken
 
@@ -283,10 +283,10 @@ returns-then-place-count-clause-unique g c =
     let q = spot_of now p in
     let unique = subst (λ (z : Contents g.row.E.Denot g.row.H.Denot). IsDistinct g.E.Key.PartialEq.eq (map key (entries z))) view inv.unique in
     let d = c.take_in.new.self in
-    let there = subst (λ (z : Contents g.row.E.Denot g.row.H.Denot). slice_get (entries z) (index_of z p) ≡ Some c.take_in.result) view (own-got laws key hk cur ws olds t.skipped t.pending t.next t.held t.held_overflow inv p within near c.take_in.result c.take_in.ensures.entry) in
+    let there = subst (λ (z : Contents g.row.E.Denot g.row.H.Denot). slice_get (entries z) (index_of z p) ≡ Some c.take_in.result) view (own-got laws key hk cur ws olds t.skipped t.pending t.next t.left t.left_overflow inv p within near c.take_in.result c.take_in.ensures.entry) in
     let same = ap (λ s. let h : g.row.E-Key.Denot → ℕ = λ k. hash_of g.H.BuildHasher g.H.Hasher.Hasher s.hasher (g.E.Key.Hash.hash_input k) in h) c.take_in.ensures.exact.settings in
     let after = together (λ e. key_hash g.H.BuildHasher g.H.Hasher.Hasher g.E.Key.Hash.hash_input d (key e)) d ws olds in
-    let first = subst (λ (h : g.row.E-Key.Denot → ℕ). IsTakenFrom (together (λ e. hk (key e)) cur ws olds) (spot_of (together (λ e. hk (key e)) cur ws olds) p) (together (λ e. h (key e)) d ws olds)) (sym same) (own-taken laws key hk cur ws olds t.skipped t.pending t.next t.held t.held_overflow inv p within near d c.take_in.ensures.exact) in
+    let first = subst (λ (h : g.row.E-Key.Denot → ℕ). IsTakenFrom (together (λ e. hk (key e)) cur ws olds) (spot_of (together (λ e. hk (key e)) cur ws olds) p) (together (λ e. h (key e)) d ws olds)) (sym same) (own-taken laws key hk cur ws olds t.skipped t.pending t.next t.left t.left_overflow inv p within near d c.take_in.ensures.exact) in
     let taken = subst (λ (z : Contents g.row.E.Denot g.row.H.Denot). IsTakenFrom z (spot_of z p) after) view first in
     taken-unique now after q c.requires taken laws key c.take_in.result there unique
 
@@ -305,7 +305,7 @@ remove_at-entry-requires-clause-bucket g c =
     let within = subst (λ z. IsPlace z p) (sym view) c.requires in
     let count = c.bucket_count-count.ensures.count in
     let far : bucket_count cur ≤ p.bucket = omega (arith, count) in
-    rw count (old-is laws key hk cur ws olds t.skipped t.pending t.next t.held t.held_overflow inv p within far).0
+    rw count (old-is laws key hk cur ws olds t.skipped t.pending t.next t.left t.left_overflow inv p within far).0
 
 pub remove_at-entry-requires-clause-place : goal.remove_at-entry-requires-clause-place
 remove_at-entry-requires-clause-place g c =
@@ -322,7 +322,7 @@ remove_at-entry-requires-clause-place g c =
     let within = subst (λ z. IsPlace z p) (sym view) c.requires in
     let count = c.bucket_count-count.ensures.count in
     let far : bucket_count cur ≤ p.bucket = omega (arith, count) in
-    rw count (old-is laws key hk cur ws olds t.skipped t.pending t.next t.held t.held_overflow inv p within far).1
+    rw count (old-is laws key hk cur ws olds t.skipped t.pending t.next t.left t.left_overflow inv p within far).1
 
 pub overflow_sub-self : goal.overflow_sub-self
 overflow_sub-self g c =
@@ -340,7 +340,7 @@ overflow_sub-self g c =
     let count = c.bucket_count-count.ensures.count in
     let far : bucket_count cur ≤ p.bucket = omega (arith, count) in
     let got = subst (λ n. slice_get (shelf_entries (shelf_of olds (p.bucket - n))) p.slot ≡ Some c.remove_at-entry.result) count c.remove_at-entry.ensures.entry in
-    old-some laws key hk cur ws olds t.skipped t.pending t.next t.held t.held_overflow inv p within far c.remove_at-entry.result got
+    old-some laws key hk cur ws olds t.skipped t.pending t.next t.left t.left_overflow inv p within far c.remove_at-entry.result got
 
 pub invariant_of-self-2 : goal.invariant_of-self-2
 invariant_of-self-2 g c =
@@ -359,7 +359,7 @@ invariant_of-self-2 g c =
     let far : bucket_count cur ≤ p.bucket = omega (arith, count) in
     let got = subst (λ n. slice_get (shelf_entries (shelf_of olds (p.bucket - n))) p.slot ≡ Some c.remove_at-entry.result) count c.remove_at-entry.ensures.entry in
     let new = c.remove_at-entry.ensures.others ∙ ap (λ n. let r : List (Shelf g.row.E.Denot) = set olds (p.bucket - n) (without_place (shelf_of olds (p.bucket - n)) p.slot) in r) count in
-    subst (λ ns. IsTable g.E.Key.PartialEq.eq key hk cur ws ns t.skipped t.pending t.next (t.held - 1) t.held_overflow) (sym new) (old-less laws key hk cur ws olds t.skipped t.pending t.next t.held t.held_overflow inv p within far c.remove_at-entry.result got)
+    subst (λ ns. IsTable g.E.Key.PartialEq.eq key hk cur ws ns t.skipped t.pending t.next (t.left - 1) t.left_overflow) (sym new) (old-less laws key hk cur ws olds t.skipped t.pending t.next t.left t.left_overflow inv p within far c.remove_at-entry.result got)
 
 pub returns-clause-entry : goal.returns-clause-entry
 returns-clause-entry g c =
@@ -377,11 +377,11 @@ returns-clause-entry g c =
     let count = c.bucket_count-count.ensures.count in
     let far : bucket_count cur ≤ p.bucket = omega (arith, count) in
     let got = subst (λ n. slice_get (shelf_entries (shelf_of olds (p.bucket - n))) p.slot ≡ Some c.remove_at-entry.result) count c.remove_at-entry.ensures.entry in
-    let there = subst (λ (z : Contents g.row.E.Denot g.row.H.Denot). slice_get (entries z) (index_of z p) ≡ Some c.remove_at-entry.result) view (old-got laws key hk cur ws olds t.skipped t.pending t.next t.held t.held_overflow inv p within far c.remove_at-entry.result got) in
+    let there = subst (λ (z : Contents g.row.E.Denot g.row.H.Denot). slice_get (entries z) (index_of z p) ≡ Some c.remove_at-entry.result) view (old-got laws key hk cur ws olds t.skipped t.pending t.next t.left t.left_overflow inv p within far c.remove_at-entry.result got) in
     there
 
-pub returns-clause-held : goal.returns-clause-held
-returns-clause-held g c =
+pub returns-clause-owed : goal.returns-clause-owed
+returns-clause-owed g c =
     let t = c.self.inside in
     let cur = t.current in
     let ws = t.waiting.items in
@@ -397,7 +397,7 @@ returns-clause-held g c =
     let far : bucket_count cur ≤ p.bucket = omega (arith, count) in
     let got = subst (λ n. slice_get (shelf_entries (shelf_of olds (p.bucket - n))) p.slot ≡ Some c.remove_at-entry.result) count c.remove_at-entry.ensures.entry in
     let new = c.remove_at-entry.ensures.others ∙ ap (λ n. let r : List (Shelf g.row.E.Denot) = set olds (p.bucket - n) (without_place (shelf_of olds (p.bucket - n)) p.slot) in r) count in
-    ap (λ ns. held_of (together (λ e. hk (key e)) cur ws ns)) new ∙ old-held_taken laws key hk cur ws olds t.skipped t.pending t.next t.held t.held_overflow inv p within far c.remove_at-entry.result got ∙ ap (λ (z : Contents g.row.E.Denot g.row.H.Denot). held_taken (bucket_count z) (held_of z) p) view
+    ap (λ ns. owed_of (together (λ e. hk (key e)) cur ws ns)) new ∙ old-owed_taken laws key hk cur ws olds t.skipped t.pending t.next t.left t.left_overflow inv p within far c.remove_at-entry.result got ∙ ap (λ (z : Contents g.row.E.Denot g.row.H.Denot). owed_taken (bucket_count z) (owed_of z) p) view
 
 pub returns-clause-others : goal.returns-clause-others
 returns-clause-others g c =
@@ -420,7 +420,7 @@ returns-clause-others g c =
     let news = c.remove_at-entry.new.self in
     let new = c.remove_at-entry.ensures.others ∙ ap (λ n. let r : List (Shelf g.row.E.Denot) = set olds (p.bucket - n) (without_place (shelf_of olds (p.bucket - n)) p.slot) in r) count in
     let after = together (λ e. hk (key e)) cur ws news in
-    let first = subst (λ ns. IsTakenFrom (together (λ e. hk (key e)) cur ws olds) (spot_of (together (λ e. hk (key e)) cur ws olds) p) (together (λ e. hk (key e)) cur ws ns)) (sym new) (old-taken_at laws key hk cur ws olds t.skipped t.pending t.next t.held t.held_overflow inv p within far c.remove_at-entry.result got) in
+    let first = subst (λ ns. IsTakenFrom (together (λ e. hk (key e)) cur ws olds) (spot_of (together (λ e. hk (key e)) cur ws olds) p) (together (λ e. hk (key e)) cur ws ns)) (sym new) (old-taken_at laws key hk cur ws olds t.skipped t.pending t.next t.left t.left_overflow inv p within far c.remove_at-entry.result got) in
     let less = subst (λ (z : Contents g.row.E.Denot g.row.H.Denot). IsTakenFrom z (spot_of z p) after) view first in
     let taken = less in
     taken-exactly now after q c.requires taken
@@ -444,7 +444,7 @@ returns-clause-noted g c =
     let news = c.remove_at-entry.new.self in
     let new = c.remove_at-entry.ensures.others ∙ ap (λ n. let r : List (Shelf g.row.E.Denot) = set olds (p.bucket - n) (without_place (shelf_of olds (p.bucket - n)) p.slot) in r) count in
     let after = together (λ e. hk (key e)) cur ws news in
-    let first = subst (λ ns. IsTakenFrom (together (λ e. hk (key e)) cur ws olds) (spot_of (together (λ e. hk (key e)) cur ws olds) p) (together (λ e. hk (key e)) cur ws ns)) (sym new) (old-taken_at laws key hk cur ws olds t.skipped t.pending t.next t.held t.held_overflow inv p within far c.remove_at-entry.result got) in
+    let first = subst (λ ns. IsTakenFrom (together (λ e. hk (key e)) cur ws olds) (spot_of (together (λ e. hk (key e)) cur ws olds) p) (together (λ e. hk (key e)) cur ws ns)) (sym new) (old-taken_at laws key hk cur ws olds t.skipped t.pending t.next t.left t.left_overflow inv p within far c.remove_at-entry.result got) in
     let less = subst (λ (z : Contents g.row.E.Denot g.row.H.Denot). IsTakenFrom z (spot_of z p) after) view first in
     let taken = less in
     taken.refused
@@ -480,7 +480,7 @@ returns-clause-listed g c =
     let now = c.args.self.now in
     let q = spot_of now p in
     let got = subst (λ n. slice_get (shelf_entries (shelf_of olds (p.bucket - n))) p.slot ≡ Some c.remove_at-entry.result) count c.remove_at-entry.ensures.entry in
-    let there = subst (λ (z : Contents g.row.E.Denot g.row.H.Denot). slice_get (entries z) (index_of z p) ≡ Some c.remove_at-entry.result) view (old-got laws key hk cur ws olds t.skipped t.pending t.next t.held t.held_overflow inv p within far c.remove_at-entry.result got) in
+    let there = subst (λ (z : Contents g.row.E.Denot g.row.H.Denot). slice_get (entries z) (index_of z p) ≡ Some c.remove_at-entry.result) view (old-got laws key hk cur ws olds t.skipped t.pending t.next t.left t.left_overflow inv p within far c.remove_at-entry.result got) in
     let news = c.remove_at-entry.new.self in
     let after = together (λ e. hk (key e)) cur ws news in
     got-there now after q c.requires c.remove_at-entry.result there
@@ -504,11 +504,11 @@ returns-clause-gone g c =
     let q = spot_of now p in
     let unique = subst (λ (z : Contents g.row.E.Denot g.row.H.Denot). IsDistinct g.E.Key.PartialEq.eq (map key (entries z))) view inv.unique in
     let got = subst (λ n. slice_get (shelf_entries (shelf_of olds (p.bucket - n))) p.slot ≡ Some c.remove_at-entry.result) count c.remove_at-entry.ensures.entry in
-    let there = subst (λ (z : Contents g.row.E.Denot g.row.H.Denot). slice_get (entries z) (index_of z p) ≡ Some c.remove_at-entry.result) view (old-got laws key hk cur ws olds t.skipped t.pending t.next t.held t.held_overflow inv p within far c.remove_at-entry.result got) in
+    let there = subst (λ (z : Contents g.row.E.Denot g.row.H.Denot). slice_get (entries z) (index_of z p) ≡ Some c.remove_at-entry.result) view (old-got laws key hk cur ws olds t.skipped t.pending t.next t.left t.left_overflow inv p within far c.remove_at-entry.result got) in
     let news = c.remove_at-entry.new.self in
     let new = c.remove_at-entry.ensures.others ∙ ap (λ n. let r : List (Shelf g.row.E.Denot) = set olds (p.bucket - n) (without_place (shelf_of olds (p.bucket - n)) p.slot) in r) count in
     let after = together (λ e. hk (key e)) cur ws news in
-    let first = subst (λ ns. IsTakenFrom (together (λ e. hk (key e)) cur ws olds) (spot_of (together (λ e. hk (key e)) cur ws olds) p) (together (λ e. hk (key e)) cur ws ns)) (sym new) (old-taken_at laws key hk cur ws olds t.skipped t.pending t.next t.held t.held_overflow inv p within far c.remove_at-entry.result got) in
+    let first = subst (λ ns. IsTakenFrom (together (λ e. hk (key e)) cur ws olds) (spot_of (together (λ e. hk (key e)) cur ws olds) p) (together (λ e. hk (key e)) cur ws ns)) (sym new) (old-taken_at laws key hk cur ws olds t.skipped t.pending t.next t.left t.left_overflow inv p within far c.remove_at-entry.result got) in
     let less = subst (λ (z : Contents g.row.E.Denot g.row.H.Denot). IsTakenFrom z (spot_of z p) after) view first in
     let taken = less in
     taken-gone now after q c.requires taken laws key c.remove_at-entry.result there unique
@@ -534,7 +534,7 @@ returns-clause-short g c =
     let news = c.remove_at-entry.new.self in
     let new = c.remove_at-entry.ensures.others ∙ ap (λ n. let r : List (Shelf g.row.E.Denot) = set olds (p.bucket - n) (without_place (shelf_of olds (p.bucket - n)) p.slot) in r) count in
     let after = together (λ e. hk (key e)) cur ws news in
-    let first = subst (λ ns. IsTakenFrom (together (λ e. hk (key e)) cur ws olds) (spot_of (together (λ e. hk (key e)) cur ws olds) p) (together (λ e. hk (key e)) cur ws ns)) (sym new) (old-taken_at laws key hk cur ws olds t.skipped t.pending t.next t.held t.held_overflow inv p within far c.remove_at-entry.result got) in
+    let first = subst (λ ns. IsTakenFrom (together (λ e. hk (key e)) cur ws olds) (spot_of (together (λ e. hk (key e)) cur ws olds) p) (together (λ e. hk (key e)) cur ws ns)) (sym new) (old-taken_at laws key hk cur ws olds t.skipped t.pending t.next t.left t.left_overflow inv p within far c.remove_at-entry.result got) in
     let less = subst (λ (z : Contents g.row.E.Denot g.row.H.Denot). IsTakenFrom z (spot_of z p) after) view first in
     let taken = less in
     taken-short now after q c.requires taken
@@ -560,7 +560,7 @@ returns-clause-lists g c =
     let news = c.remove_at-entry.new.self in
     let new = c.remove_at-entry.ensures.others ∙ ap (λ n. let r : List (Shelf g.row.E.Denot) = set olds (p.bucket - n) (without_place (shelf_of olds (p.bucket - n)) p.slot) in r) count in
     let after = together (λ e. hk (key e)) cur ws news in
-    let first = subst (λ ns. IsTakenFrom (together (λ e. hk (key e)) cur ws olds) (spot_of (together (λ e. hk (key e)) cur ws olds) p) (together (λ e. hk (key e)) cur ws ns)) (sym new) (old-taken_at laws key hk cur ws olds t.skipped t.pending t.next t.held t.held_overflow inv p within far c.remove_at-entry.result got) in
+    let first = subst (λ ns. IsTakenFrom (together (λ e. hk (key e)) cur ws olds) (spot_of (together (λ e. hk (key e)) cur ws olds) p) (together (λ e. hk (key e)) cur ws ns)) (sym new) (old-taken_at laws key hk cur ws olds t.skipped t.pending t.next t.left t.left_overflow inv p within far c.remove_at-entry.result got) in
     let less = subst (λ (z : Contents g.row.E.Denot g.row.H.Denot). IsTakenFrom z (spot_of z p) after) view first in
     let taken = less in
     taken-listed now after q c.requires taken
@@ -584,7 +584,7 @@ returns-clause-exact g c =
     let news = c.remove_at-entry.new.self in
     let new = c.remove_at-entry.ensures.others ∙ ap (λ n. let r : List (Shelf g.row.E.Denot) = set olds (p.bucket - n) (without_place (shelf_of olds (p.bucket - n)) p.slot) in r) count in
     let after = together (λ e. hk (key e)) cur ws news in
-    let first = subst (λ ns. IsTakenFrom (together (λ e. hk (key e)) cur ws olds) (spot_of (together (λ e. hk (key e)) cur ws olds) p) (together (λ e. hk (key e)) cur ws ns)) (sym new) (old-taken_at laws key hk cur ws olds t.skipped t.pending t.next t.held t.held_overflow inv p within far c.remove_at-entry.result got) in
+    let first = subst (λ ns. IsTakenFrom (together (λ e. hk (key e)) cur ws olds) (spot_of (together (λ e. hk (key e)) cur ws olds) p) (together (λ e. hk (key e)) cur ws ns)) (sym new) (old-taken_at laws key hk cur ws olds t.skipped t.pending t.next t.left t.left_overflow inv p within far c.remove_at-entry.result got) in
     let less = subst (λ (z : Contents g.row.E.Denot g.row.H.Denot). IsTakenFrom z (spot_of z p) after) view first in
     let taken = less in
     taken
@@ -608,11 +608,11 @@ returns-clause-unique g c =
     let q = spot_of now p in
     let unique = subst (λ (z : Contents g.row.E.Denot g.row.H.Denot). IsDistinct g.E.Key.PartialEq.eq (map key (entries z))) view inv.unique in
     let got = subst (λ n. slice_get (shelf_entries (shelf_of olds (p.bucket - n))) p.slot ≡ Some c.remove_at-entry.result) count c.remove_at-entry.ensures.entry in
-    let there = subst (λ (z : Contents g.row.E.Denot g.row.H.Denot). slice_get (entries z) (index_of z p) ≡ Some c.remove_at-entry.result) view (old-got laws key hk cur ws olds t.skipped t.pending t.next t.held t.held_overflow inv p within far c.remove_at-entry.result got) in
+    let there = subst (λ (z : Contents g.row.E.Denot g.row.H.Denot). slice_get (entries z) (index_of z p) ≡ Some c.remove_at-entry.result) view (old-got laws key hk cur ws olds t.skipped t.pending t.next t.left t.left_overflow inv p within far c.remove_at-entry.result got) in
     let news = c.remove_at-entry.new.self in
     let new = c.remove_at-entry.ensures.others ∙ ap (λ n. let r : List (Shelf g.row.E.Denot) = set olds (p.bucket - n) (without_place (shelf_of olds (p.bucket - n)) p.slot) in r) count in
     let after = together (λ e. hk (key e)) cur ws news in
-    let first = subst (λ ns. IsTakenFrom (together (λ e. hk (key e)) cur ws olds) (spot_of (together (λ e. hk (key e)) cur ws olds) p) (together (λ e. hk (key e)) cur ws ns)) (sym new) (old-taken_at laws key hk cur ws olds t.skipped t.pending t.next t.held t.held_overflow inv p within far c.remove_at-entry.result got) in
+    let first = subst (λ ns. IsTakenFrom (together (λ e. hk (key e)) cur ws olds) (spot_of (together (λ e. hk (key e)) cur ws olds) p) (together (λ e. hk (key e)) cur ws ns)) (sym new) (old-taken_at laws key hk cur ws olds t.skipped t.pending t.next t.left t.left_overflow inv p within far c.remove_at-entry.result got) in
     let less = subst (λ (z : Contents g.row.E.Denot g.row.H.Denot). IsTakenFrom z (spot_of z p) after) view first in
     let taken = less in
     taken-unique now after q c.requires taken laws key c.remove_at-entry.result there unique

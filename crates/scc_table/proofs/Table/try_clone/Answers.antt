@@ -16,7 +16,7 @@ insert_clones_of-requires g c =
     let inv = c.self.invariant in
     let hash = λ (e : g.row.E.Denot). key_hash g.H.BuildHasher g.H.Hasher.Hasher g.E.Key.Hash.hash_input t.current (g.E.Keyed.key_of e) in
     let few = inv.few in
-    record { few = old-short hash _ t.draining t.held_overflow inv.arrays.own inv.overflow_is (omega arith) }
+    record { few = old-short hash _ t.draining t.left_overflow inv.arrays.own inv.overflow_is (omega arith) }
 
 pub returns-clause-clones : goal.returns-clause-clones
 returns-clause-clones g c =

@@ -1,6 +1,6 @@
 use Rattle.std.proofs.Common.{◌≡◌, ◌∙◌, ◌++◌, ◌+◌, ◌-◌, [], ◌∷◌, ℕ, false, length, refl, sym, ap, subst, arith}
 use Rattle.std.specs.List.{remove}
-use Rattle.scc_contents.specs.Contents.{bucket_count, held_of, list_of, settings_of, waiting_of}
+use Rattle.scc_contents.specs.Contents.{bucket_count, owed_of, list_of, settings_of, waiting_of}
 use Rattle.scc_contents.specs.Hashing.{hash_of}
 use Rattle.scc_contents.specs.Routing.{bucket_number}
 use Rattle.scc_buckets.specs.declared.place.Place.{Place}
@@ -78,7 +78,7 @@ returns-clause-step g c =
     let own : Place = record { bucket = i; slot = n } in
     let after = last-place t d i _ list.0 list.2 within n (omega (arith, c.list_len-slot.ensures)) in
     let place = at-spot d own list.0 after down in
-    let spot : spot_of d own ≡ own = spot-own (waiting_of d) (held_of d) (bucket_count d) own after.0.bucket down in
+    let spot : spot_of d own ≡ own = spot-own (waiting_of d) (owed_of d) (bucket_count d) own after.0.bucket down in
     rw (← c.self.view_is) (record {
       within = place.0;
       pair = list.0;
