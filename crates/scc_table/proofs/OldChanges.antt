@@ -144,10 +144,10 @@ module _ {E S : Type 0} (hash : E → ℕ) (c : Contents E S) (ws : List Bool) (
         }
 
 -- of all fields
-pub old-fields : {E K S : Type 0} (eq : K → K → Bool) (key : E → K) (hash : K → ℕ) (c : Contents E S) (ws : List Bool) (olds news : List (Shelf E)) (skipped pending next left aside left under : ℕ) → IsTable eq key hash c ws olds skipped pending next left aside
-    → TwoArrays (λ e. hash (key e)) c ws news → length news ≡ length olds → left ≡ sum_by (λ b. length (shelf_entries b)) news → spilled_in news ≤ under → spilled_of c + under < 2 ^ 62 → IsDistinct eq (map key (entries (together (λ e. hash (key e)) c ws news)))
-    → IsTable eq key hash c ws news skipped pending next left under
-old-fields eq key hash c ws olds news skipped pending next left aside left under inv arrays long count over few unique = record {
+pub old-fields : {E K S : Type 0} (eq : K → K → Bool) (key : E → K) (hash : K → ℕ) (c : Contents E S) (ws : List Bool) (olds news : List (Shelf E)) (skipped pending next left aside kept under : ℕ) → IsTable eq key hash c ws olds skipped pending next left aside
+    → TwoArrays (λ e. hash (key e)) c ws news → length news ≡ length olds → kept ≡ sum_by (λ b. length (shelf_entries b)) news → spilled_in news ≤ under → spilled_of c + under < 2 ^ 62 → IsDistinct eq (map key (entries (together (λ e. hash (key e)) c ws news)))
+    → IsTable eq key hash c ws news skipped pending next kept under
+old-fields eq key hash c ws olds news skipped pending next left aside kept under inv arrays long count over few unique = record {
   arrays = arrays;
   skips = inv.skips;
   few_bits = inv.few_bits;

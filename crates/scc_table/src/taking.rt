@@ -38,10 +38,37 @@ where
         ensures exact { IsTakenFrom self.old (spot_of self.old place) self.new }
         ensures unique { IsUniqueBy E.Key.eq E.key_of self.new }
     {
-        let count = self.current.bucket_count();
-        if place.bucket < count {
+        self.take_exactly(place)
+    }
+
+    /// The same, seen in the list of its bucket alone.
+    #[inline(always)]
+    fn take_exactly(&mut self, place: Place) -> E
+        requires { IsPlace self.old place }
+        ensures entry { slice_get (entries self.old) (index_of self.old place) ≡ Some result }
+        ensures waiting { waiting_of self.new ≡ waiting_of self.old }
+        ensures owed { owed_of self.new ≡ owed_taken (bucket_count self.old) (owed_of self.old) place }
+        ensures exact { IsTakenFrom self.old (spot_of self.old place) self.new }
+        ensures unique { IsUniqueBy E.Key.eq E.key_of self.old }
+    {
+        if place.bucket < self.bucket_count() {
             return self.current.take_in(place);
         }
+        self.take_old(place)
+    }
+
+    /// The same out of a place of the old array.
+    #[inline(always)]
+    fn take_old(&mut self, place: Place) -> E
+        requires place { IsPlace self.old place }
+        requires old { bucket_count self.old ≤ place.bucket }
+        ensures entry { slice_get (entries self.old) (index_of self.old place) ≡ Some result }
+        ensures waiting { waiting_of self.new ≡ waiting_of self.old }
+        ensures owed { owed_of self.new ≡ owed_taken (bucket_count self.old) (owed_of self.old) place }
+        ensures exact { IsTakenFrom self.old (spot_of self.old place) self.new }
+        ensures unique { IsUniqueBy E.Key.eq E.key_of self.old }
+    {
+        let count = self.current.bucket_count();
         let entry = self.draining.remove_at(place.bucket - count, place.slot);
         self.left -= 1;
         entry
@@ -85,12 +112,9 @@ where
         ensures exact { IsSwappedOutOf self.old (spot_of self.old place) self.new }
         ensures unique { IsUniqueBy E.Key.eq E.key_of self.new }
     {
-        let count = self.current.bucket_count();
-        if self.pending == 0 || place.bucket < count {
+        if self.pending == 0 || place.bucket < self.bucket_count() {
             return self.current.swap_take_at(place);
         }
-        let entry = self.draining.remove_at(place.bucket - count, place.slot);
-        self.left -= 1;
-        entry
+        self.take_old(place)
     }
 }

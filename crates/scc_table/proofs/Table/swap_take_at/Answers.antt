@@ -12,9 +12,10 @@ use Rattle.scc_table.proofs.Joining.{waiting-together}
 use Rattle.scc_table.proofs.Taken.{own-owed_kept, own-less, own-less_swapped, own-swapped, own-taken, old-owed_taken, old-less, old-some, old-taken_at}
 use Rattle.scc_table.proofs.TakenFrom.{got-there, swapped-count, swapped-moved, swapped-unique, taken-exactly, taken-gone, taken-listed, taken-short, taken-swapped, taken-unique}
 use Rattle.scc_table.proofs.SearchingLemmas.{near-settled}
+use Rattle.scc_table.proofs.Viewed.{count-seen}
 use Rattle.scc_table.proofs.Written.{own-got, own-is, old-got, old-is}
 use Rattle.scc_table.proofs.Table.swap_take_at.Goals as goal
-use Rattle.scc_table.proofs.Table.swap_take_at.Goals.{then-self-eq0-via-then-self-eq0, then-self-eq0-via-else-self-eq0+then-place-count}
+use Rattle.scc_table.proofs.Table.swap_take_at.Goals.{then-self-eq0-via-then-self-eq0, then-self-eq0-via-else-self-eq0+then-place-bucket_count}
 
 pub swap_take_at-requires : goal.swap_take_at-requires
 swap_take_at-requires g c =
@@ -29,10 +30,10 @@ swap_take_at-requires g c =
     let p = c.args.place in
     let view = c.self.view_is in
     let within = subst (λ z. IsPlace z p) (sym view) c.requires in
-    let count = c.bucket_count-count.ensures.count in
+    let count = count-seen (λ e. hk (key e)) cur ws olds c.args.self.now view inv.arrays.flags in
     let near : p.bucket < bucket_count cur = elim c.then-self-eq0.branch [
       | then-self-eq0-via-then-self-eq0 w ↦ near-settled (λ e. hk (key e)) cur olds ws (inv.none w.if-self-eq0.true) p within
-      | then-self-eq0-via-else-self-eq0+then-place-count w ↦ omega (arith, count, w.if-place-count.true)
+      | then-self-eq0-via-else-self-eq0+then-place-bucket_count w ↦ omega (arith, count, w.bucket_count.ensures.count, w.if-place-bucket_count.true)
     ] in
     (own-is laws key hk cur ws olds t.skipped t.pending t.next t.left t.left_overflow inv p within near).0
 
@@ -49,10 +50,10 @@ invariant_of-self g c =
     let p = c.args.place in
     let view = c.self.view_is in
     let within = subst (λ z. IsPlace z p) (sym view) c.requires in
-    let count = c.bucket_count-count.ensures.count in
+    let count = count-seen (λ e. hk (key e)) cur ws olds c.args.self.now view inv.arrays.flags in
     let near : p.bucket < bucket_count cur = elim c.then-self-eq0.branch [
       | then-self-eq0-via-then-self-eq0 w ↦ near-settled (λ e. hk (key e)) cur olds ws (inv.none w.if-self-eq0.true) p within
-      | then-self-eq0-via-else-self-eq0+then-place-count w ↦ omega (arith, count, w.if-place-count.true)
+      | then-self-eq0-via-else-self-eq0+then-place-bucket_count w ↦ omega (arith, count, w.bucket_count.ensures.count, w.if-place-bucket_count.true)
     ] in
     let d = c.swap_take_at.new.self in
     let same = ap (λ s. let h : g.row.E-Key.Denot → ℕ = λ k. hash_of g.H.BuildHasher g.H.Hasher.Hasher s.hasher (g.E.Key.Hash.hash_input k) in h) c.swap_take_at.ensures.exact.settings in
@@ -71,10 +72,10 @@ returns-then-self-eq0-clause-entry g c =
     let p = c.args.place in
     let view = c.self.view_is in
     let within = subst (λ z. IsPlace z p) (sym view) c.requires in
-    let count = c.bucket_count-count.ensures.count in
+    let count = count-seen (λ e. hk (key e)) cur ws olds c.args.self.now view inv.arrays.flags in
     let near : p.bucket < bucket_count cur = elim c.then-self-eq0.branch [
       | then-self-eq0-via-then-self-eq0 w ↦ near-settled (λ e. hk (key e)) cur olds ws (inv.none w.if-self-eq0.true) p within
-      | then-self-eq0-via-else-self-eq0+then-place-count w ↦ omega (arith, count, w.if-place-count.true)
+      | then-self-eq0-via-else-self-eq0+then-place-bucket_count w ↦ omega (arith, count, w.bucket_count.ensures.count, w.if-place-bucket_count.true)
     ] in
     let there = subst (λ (z : Contents g.row.E.Denot g.row.H.Denot). slice_get (entries z) (index_of z p) ≡ Some c.swap_take_at.result) view (own-got laws key hk cur ws olds t.skipped t.pending t.next t.left t.left_overflow inv p within near c.swap_take_at.result c.swap_take_at.ensures.entry) in
     there
@@ -92,10 +93,10 @@ returns-then-self-eq0-clause-owed g c =
     let p = c.args.place in
     let view = c.self.view_is in
     let within = subst (λ z. IsPlace z p) (sym view) c.requires in
-    let count = c.bucket_count-count.ensures.count in
+    let count = count-seen (λ e. hk (key e)) cur ws olds c.args.self.now view inv.arrays.flags in
     let near : p.bucket < bucket_count cur = elim c.then-self-eq0.branch [
       | then-self-eq0-via-then-self-eq0 w ↦ near-settled (λ e. hk (key e)) cur olds ws (inv.none w.if-self-eq0.true) p within
-      | then-self-eq0-via-else-self-eq0+then-place-count w ↦ omega (arith, count, w.if-place-count.true)
+      | then-self-eq0-via-else-self-eq0+then-place-bucket_count w ↦ omega (arith, count, w.bucket_count.ensures.count, w.if-place-bucket_count.true)
     ] in
     let d = c.swap_take_at.new.self in
     let same = ap (λ s. let h : g.row.E-Key.Denot → ℕ = λ k. hash_of g.H.BuildHasher g.H.Hasher.Hasher s.hasher (g.E.Key.Hash.hash_input k) in h) c.swap_take_at.ensures.exact.settings in
@@ -114,10 +115,10 @@ returns-then-self-eq0-clause-others g c =
     let p = c.args.place in
     let view = c.self.view_is in
     let within = subst (λ z. IsPlace z p) (sym view) c.requires in
-    let count = c.bucket_count-count.ensures.count in
+    let count = count-seen (λ e. hk (key e)) cur ws olds c.args.self.now view inv.arrays.flags in
     let near : p.bucket < bucket_count cur = elim c.then-self-eq0.branch [
       | then-self-eq0-via-then-self-eq0 w ↦ near-settled (λ e. hk (key e)) cur olds ws (inv.none w.if-self-eq0.true) p within
-      | then-self-eq0-via-else-self-eq0+then-place-count w ↦ omega (arith, count, w.if-place-count.true)
+      | then-self-eq0-via-else-self-eq0+then-place-bucket_count w ↦ omega (arith, count, w.bucket_count.ensures.count, w.if-place-bucket_count.true)
     ] in
     let now = c.args.self.now in
     let q = spot_of now p in
@@ -141,10 +142,10 @@ returns-then-self-eq0-clause-buckets g c =
     let p = c.args.place in
     let view = c.self.view_is in
     let within = subst (λ z. IsPlace z p) (sym view) c.requires in
-    let count = c.bucket_count-count.ensures.count in
+    let count = count-seen (λ e. hk (key e)) cur ws olds c.args.self.now view inv.arrays.flags in
     let near : p.bucket < bucket_count cur = elim c.then-self-eq0.branch [
       | then-self-eq0-via-then-self-eq0 w ↦ near-settled (λ e. hk (key e)) cur olds ws (inv.none w.if-self-eq0.true) p within
-      | then-self-eq0-via-else-self-eq0+then-place-count w ↦ omega (arith, count, w.if-place-count.true)
+      | then-self-eq0-via-else-self-eq0+then-place-bucket_count w ↦ omega (arith, count, w.bucket_count.ensures.count, w.if-place-bucket_count.true)
     ] in
     let now = c.args.self.now in
     let q = spot_of now p in
@@ -168,10 +169,10 @@ returns-then-self-eq0-clause-noted g c =
     let p = c.args.place in
     let view = c.self.view_is in
     let within = subst (λ z. IsPlace z p) (sym view) c.requires in
-    let count = c.bucket_count-count.ensures.count in
+    let count = count-seen (λ e. hk (key e)) cur ws olds c.args.self.now view inv.arrays.flags in
     let near : p.bucket < bucket_count cur = elim c.then-self-eq0.branch [
       | then-self-eq0-via-then-self-eq0 w ↦ near-settled (λ e. hk (key e)) cur olds ws (inv.none w.if-self-eq0.true) p within
-      | then-self-eq0-via-else-self-eq0+then-place-count w ↦ omega (arith, count, w.if-place-count.true)
+      | then-self-eq0-via-else-self-eq0+then-place-bucket_count w ↦ omega (arith, count, w.bucket_count.ensures.count, w.if-place-bucket_count.true)
     ] in
     let d = c.swap_take_at.new.self in
     let same = ap (λ s. let h : g.row.E-Key.Denot → ℕ = λ k. hash_of g.H.BuildHasher g.H.Hasher.Hasher s.hasher (g.E.Key.Hash.hash_input k) in h) c.swap_take_at.ensures.exact.settings in
@@ -193,10 +194,10 @@ returns-then-self-eq0-clause-settings g c =
     let p = c.args.place in
     let view = c.self.view_is in
     let within = subst (λ z. IsPlace z p) (sym view) c.requires in
-    let count = c.bucket_count-count.ensures.count in
+    let count = count-seen (λ e. hk (key e)) cur ws olds c.args.self.now view inv.arrays.flags in
     let near : p.bucket < bucket_count cur = elim c.then-self-eq0.branch [
       | then-self-eq0-via-then-self-eq0 w ↦ near-settled (λ e. hk (key e)) cur olds ws (inv.none w.if-self-eq0.true) p within
-      | then-self-eq0-via-else-self-eq0+then-place-count w ↦ omega (arith, count, w.if-place-count.true)
+      | then-self-eq0-via-else-self-eq0+then-place-bucket_count w ↦ omega (arith, count, w.bucket_count.ensures.count, w.if-place-bucket_count.true)
     ] in
     let d = c.swap_take_at.new.self in
     let same = ap (λ s. let h : g.row.E-Key.Denot → ℕ = λ k. hash_of g.H.BuildHasher g.H.Hasher.Hasher s.hasher (g.E.Key.Hash.hash_input k) in h) c.swap_take_at.ensures.exact.settings in
@@ -231,10 +232,10 @@ returns-then-self-eq0-clause-exact g c =
     let p = c.args.place in
     let view = c.self.view_is in
     let within = subst (λ z. IsPlace z p) (sym view) c.requires in
-    let count = c.bucket_count-count.ensures.count in
+    let count = count-seen (λ e. hk (key e)) cur ws olds c.args.self.now view inv.arrays.flags in
     let near : p.bucket < bucket_count cur = elim c.then-self-eq0.branch [
       | then-self-eq0-via-then-self-eq0 w ↦ near-settled (λ e. hk (key e)) cur olds ws (inv.none w.if-self-eq0.true) p within
-      | then-self-eq0-via-else-self-eq0+then-place-count w ↦ omega (arith, count, w.if-place-count.true)
+      | then-self-eq0-via-else-self-eq0+then-place-bucket_count w ↦ omega (arith, count, w.bucket_count.ensures.count, w.if-place-bucket_count.true)
     ] in
     let d = c.swap_take_at.new.self in
     let same = ap (λ s. let h : g.row.E-Key.Denot → ℕ = λ k. hash_of g.H.BuildHasher g.H.Hasher.Hasher s.hasher (g.E.Key.Hash.hash_input k) in h) c.swap_take_at.ensures.exact.settings in
@@ -256,10 +257,10 @@ returns-then-self-eq0-clause-unique g c =
     let p = c.args.place in
     let view = c.self.view_is in
     let within = subst (λ z. IsPlace z p) (sym view) c.requires in
-    let count = c.bucket_count-count.ensures.count in
+    let count = count-seen (λ e. hk (key e)) cur ws olds c.args.self.now view inv.arrays.flags in
     let near : p.bucket < bucket_count cur = elim c.then-self-eq0.branch [
       | then-self-eq0-via-then-self-eq0 w ↦ near-settled (λ e. hk (key e)) cur olds ws (inv.none w.if-self-eq0.true) p within
-      | then-self-eq0-via-else-self-eq0+then-place-count w ↦ omega (arith, count, w.if-place-count.true)
+      | then-self-eq0-via-else-self-eq0+then-place-bucket_count w ↦ omega (arith, count, w.bucket_count.ensures.count, w.if-place-bucket_count.true)
     ] in
     let now = c.args.self.now in
     let q = spot_of now p in
@@ -272,282 +273,50 @@ returns-then-self-eq0-clause-unique g c =
     let taken = subst (λ (z : Contents g.row.E.Denot g.row.H.Denot). IsSwappedOutOf z (spot_of z p) after) view first in
     swapped-unique now after q c.requires taken laws key c.swap_take_at.result there unique
 
-pub remove_at-entry-requires-clause-bucket : goal.remove_at-entry-requires-clause-bucket
-remove_at-entry-requires-clause-bucket g c =
-    let t = c.self.inside in
-    let cur = t.current in
-    let ws = t.waiting.items in
-    let olds = t.draining in
-    let inv = c.self.invariant in
-    let hk = key_hash g.H.BuildHasher g.H.Hasher.Hasher g.E.Key.Hash.hash_input cur in
-    let key = g.E.Keyed.key_of in
-    let laws = g.met.E.Key.Eq.laws in
-    let p = c.args.place in
-    let view = c.self.view_is in
-    let within = subst (λ z. IsPlace z p) (sym view) c.requires in
-    let count = c.bucket_count-count.ensures.count in
-    let far : bucket_count cur ≤ p.bucket = omega (arith, count) in
-    rw count (old-is laws key hk cur ws olds t.skipped t.pending t.next t.left t.left_overflow inv p within far).0
-
-pub remove_at-entry-requires-clause-place : goal.remove_at-entry-requires-clause-place
-remove_at-entry-requires-clause-place g c =
-    let t = c.self.inside in
-    let cur = t.current in
-    let ws = t.waiting.items in
-    let olds = t.draining in
-    let inv = c.self.invariant in
-    let hk = key_hash g.H.BuildHasher g.H.Hasher.Hasher g.E.Key.Hash.hash_input cur in
-    let key = g.E.Keyed.key_of in
-    let laws = g.met.E.Key.Eq.laws in
-    let p = c.args.place in
-    let view = c.self.view_is in
-    let within = subst (λ z. IsPlace z p) (sym view) c.requires in
-    let count = c.bucket_count-count.ensures.count in
-    let far : bucket_count cur ≤ p.bucket = omega (arith, count) in
-    rw count (old-is laws key hk cur ws olds t.skipped t.pending t.next t.left t.left_overflow inv p within far).1
-
-pub overflow_sub-self : goal.overflow_sub-self
-overflow_sub-self g c =
-    let t = c.self.inside in
-    let cur = t.current in
-    let ws = t.waiting.items in
-    let olds = t.draining in
-    let inv = c.self.invariant in
-    let hk = key_hash g.H.BuildHasher g.H.Hasher.Hasher g.E.Key.Hash.hash_input cur in
-    let key = g.E.Keyed.key_of in
-    let laws = g.met.E.Key.Eq.laws in
-    let p = c.args.place in
-    let view = c.self.view_is in
-    let within = subst (λ z. IsPlace z p) (sym view) c.requires in
-    let count = c.bucket_count-count.ensures.count in
-    let far : bucket_count cur ≤ p.bucket = omega (arith, count) in
-    let got = subst (λ n. slice_get (shelf_entries (shelf_of olds (p.bucket - n))) p.slot ≡ Some c.remove_at-entry.result) count c.remove_at-entry.ensures.entry in
-    old-some laws key hk cur ws olds t.skipped t.pending t.next t.left t.left_overflow inv p within far c.remove_at-entry.result got
-
-pub invariant_of-self-2 : goal.invariant_of-self-2
-invariant_of-self-2 g c =
-    let t = c.self.inside in
-    let cur = t.current in
-    let ws = t.waiting.items in
-    let olds = t.draining in
-    let inv = c.self.invariant in
-    let hk = key_hash g.H.BuildHasher g.H.Hasher.Hasher g.E.Key.Hash.hash_input cur in
-    let key = g.E.Keyed.key_of in
-    let laws = g.met.E.Key.Eq.laws in
-    let p = c.args.place in
-    let view = c.self.view_is in
-    let within = subst (λ z. IsPlace z p) (sym view) c.requires in
-    let count = c.bucket_count-count.ensures.count in
-    let far : bucket_count cur ≤ p.bucket = omega (arith, count) in
-    let got = subst (λ n. slice_get (shelf_entries (shelf_of olds (p.bucket - n))) p.slot ≡ Some c.remove_at-entry.result) count c.remove_at-entry.ensures.entry in
-    let new = c.remove_at-entry.ensures.others ∙ ap (λ n. let r : List (Shelf g.row.E.Denot) = set olds (p.bucket - n) (without_place (shelf_of olds (p.bucket - n)) p.slot) in r) count in
-    subst (λ ns. IsTable g.E.Key.PartialEq.eq key hk cur ws ns t.skipped t.pending t.next (t.left - 1) t.left_overflow) (sym new) (old-less laws key hk cur ws olds t.skipped t.pending t.next t.left t.left_overflow inv p within far c.remove_at-entry.result got)
-
-pub returns-clause-entry : goal.returns-clause-entry
-returns-clause-entry g c =
-    let t = c.self.inside in
-    let cur = t.current in
-    let ws = t.waiting.items in
-    let olds = t.draining in
-    let inv = c.self.invariant in
-    let hk = key_hash g.H.BuildHasher g.H.Hasher.Hasher g.E.Key.Hash.hash_input cur in
-    let key = g.E.Keyed.key_of in
-    let laws = g.met.E.Key.Eq.laws in
-    let p = c.args.place in
-    let view = c.self.view_is in
-    let within = subst (λ z. IsPlace z p) (sym view) c.requires in
-    let count = c.bucket_count-count.ensures.count in
-    let far : bucket_count cur ≤ p.bucket = omega (arith, count) in
-    let got = subst (λ n. slice_get (shelf_entries (shelf_of olds (p.bucket - n))) p.slot ≡ Some c.remove_at-entry.result) count c.remove_at-entry.ensures.entry in
-    let there = subst (λ (z : Contents g.row.E.Denot g.row.H.Denot). slice_get (entries z) (index_of z p) ≡ Some c.remove_at-entry.result) view (old-got laws key hk cur ws olds t.skipped t.pending t.next t.left t.left_overflow inv p within far c.remove_at-entry.result got) in
-    there
-
-pub returns-clause-owed : goal.returns-clause-owed
-returns-clause-owed g c =
-    let t = c.self.inside in
-    let cur = t.current in
-    let ws = t.waiting.items in
-    let olds = t.draining in
-    let inv = c.self.invariant in
-    let hk = key_hash g.H.BuildHasher g.H.Hasher.Hasher g.E.Key.Hash.hash_input cur in
-    let key = g.E.Keyed.key_of in
-    let laws = g.met.E.Key.Eq.laws in
-    let p = c.args.place in
-    let view = c.self.view_is in
-    let within = subst (λ z. IsPlace z p) (sym view) c.requires in
-    let count = c.bucket_count-count.ensures.count in
-    let far : bucket_count cur ≤ p.bucket = omega (arith, count) in
-    let got = subst (λ n. slice_get (shelf_entries (shelf_of olds (p.bucket - n))) p.slot ≡ Some c.remove_at-entry.result) count c.remove_at-entry.ensures.entry in
-    let new = c.remove_at-entry.ensures.others ∙ ap (λ n. let r : List (Shelf g.row.E.Denot) = set olds (p.bucket - n) (without_place (shelf_of olds (p.bucket - n)) p.slot) in r) count in
-    ap (λ ns. owed_of (together (λ e. hk (key e)) cur ws ns)) new ∙ old-owed_taken laws key hk cur ws olds t.skipped t.pending t.next t.left t.left_overflow inv p within far c.remove_at-entry.result got ∙ ap (λ (z : Contents g.row.E.Denot g.row.H.Denot). owed_taken (bucket_count z) (owed_of z) p) view
-
 pub returns-clause-others : goal.returns-clause-others
 returns-clause-others g c =
-    let t = c.self.inside in
-    let cur = t.current in
-    let ws = t.waiting.items in
-    let olds = t.draining in
-    let inv = c.self.invariant in
-    let hk = key_hash g.H.BuildHasher g.H.Hasher.Hasher g.E.Key.Hash.hash_input cur in
-    let key = g.E.Keyed.key_of in
-    let laws = g.met.E.Key.Eq.laws in
-    let p = c.args.place in
-    let view = c.self.view_is in
-    let within = subst (λ z. IsPlace z p) (sym view) c.requires in
-    let count = c.bucket_count-count.ensures.count in
-    let far : bucket_count cur ≤ p.bucket = omega (arith, count) in
     let now = c.args.self.now in
-    let q = spot_of now p in
-    let got = subst (λ n. slice_get (shelf_entries (shelf_of olds (p.bucket - n))) p.slot ≡ Some c.remove_at-entry.result) count c.remove_at-entry.ensures.entry in
-    let news = c.remove_at-entry.new.self in
-    let new = c.remove_at-entry.ensures.others ∙ ap (λ n. let r : List (Shelf g.row.E.Denot) = set olds (p.bucket - n) (without_place (shelf_of olds (p.bucket - n)) p.slot) in r) count in
-    let after = together (λ e. hk (key e)) cur ws news in
-    let first = subst (λ ns. IsTakenFrom (together (λ e. hk (key e)) cur ws olds) (spot_of (together (λ e. hk (key e)) cur ws olds) p) (together (λ e. hk (key e)) cur ws ns)) (sym new) (old-taken_at laws key hk cur ws olds t.skipped t.pending t.next t.left t.left_overflow inv p within far c.remove_at-entry.result got) in
-    let less = subst (λ (z : Contents g.row.E.Denot g.row.H.Denot). IsTakenFrom z (spot_of z p) after) view first in
-    let taken = taken-swapped now after q c.requires less in
+    let after = c.take_old.new.self in
+    let q = spot_of now c.args.place in
+    let taken = taken-swapped now after q c.requires c.take_old.ensures.exact in
     swapped-moved now after q c.requires taken
 
 pub returns-clause-buckets : goal.returns-clause-buckets
 returns-clause-buckets g c =
-    let t = c.self.inside in
-    let cur = t.current in
-    let ws = t.waiting.items in
-    let olds = t.draining in
-    let inv = c.self.invariant in
-    let hk = key_hash g.H.BuildHasher g.H.Hasher.Hasher g.E.Key.Hash.hash_input cur in
-    let key = g.E.Keyed.key_of in
-    let laws = g.met.E.Key.Eq.laws in
-    let p = c.args.place in
-    let view = c.self.view_is in
-    let within = subst (λ z. IsPlace z p) (sym view) c.requires in
-    let count = c.bucket_count-count.ensures.count in
-    let far : bucket_count cur ≤ p.bucket = omega (arith, count) in
     let now = c.args.self.now in
-    let q = spot_of now p in
-    let got = subst (λ n. slice_get (shelf_entries (shelf_of olds (p.bucket - n))) p.slot ≡ Some c.remove_at-entry.result) count c.remove_at-entry.ensures.entry in
-    let news = c.remove_at-entry.new.self in
-    let new = c.remove_at-entry.ensures.others ∙ ap (λ n. let r : List (Shelf g.row.E.Denot) = set olds (p.bucket - n) (without_place (shelf_of olds (p.bucket - n)) p.slot) in r) count in
-    let after = together (λ e. hk (key e)) cur ws news in
-    let first = subst (λ ns. IsTakenFrom (together (λ e. hk (key e)) cur ws olds) (spot_of (together (λ e. hk (key e)) cur ws olds) p) (together (λ e. hk (key e)) cur ws ns)) (sym new) (old-taken_at laws key hk cur ws olds t.skipped t.pending t.next t.left t.left_overflow inv p within far c.remove_at-entry.result got) in
-    let less = subst (λ (z : Contents g.row.E.Denot g.row.H.Denot). IsTakenFrom z (spot_of z p) after) view first in
-    let taken = taken-swapped now after q c.requires less in
+    let after = c.take_old.new.self in
+    let q = spot_of now c.args.place in
+    let taken = taken-swapped now after q c.requires c.take_old.ensures.exact in
     swapped-count now after q c.requires taken
 
 pub returns-clause-noted : goal.returns-clause-noted
 returns-clause-noted g c =
-    let t = c.self.inside in
-    let cur = t.current in
-    let ws = t.waiting.items in
-    let olds = t.draining in
-    let inv = c.self.invariant in
-    let hk = key_hash g.H.BuildHasher g.H.Hasher.Hasher g.E.Key.Hash.hash_input cur in
-    let key = g.E.Keyed.key_of in
-    let laws = g.met.E.Key.Eq.laws in
-    let p = c.args.place in
-    let view = c.self.view_is in
-    let within = subst (λ z. IsPlace z p) (sym view) c.requires in
-    let count = c.bucket_count-count.ensures.count in
-    let far : bucket_count cur ≤ p.bucket = omega (arith, count) in
     let now = c.args.self.now in
-    let q = spot_of now p in
-    let got = subst (λ n. slice_get (shelf_entries (shelf_of olds (p.bucket - n))) p.slot ≡ Some c.remove_at-entry.result) count c.remove_at-entry.ensures.entry in
-    let news = c.remove_at-entry.new.self in
-    let new = c.remove_at-entry.ensures.others ∙ ap (λ n. let r : List (Shelf g.row.E.Denot) = set olds (p.bucket - n) (without_place (shelf_of olds (p.bucket - n)) p.slot) in r) count in
-    let after = together (λ e. hk (key e)) cur ws news in
-    let first = subst (λ ns. IsTakenFrom (together (λ e. hk (key e)) cur ws olds) (spot_of (together (λ e. hk (key e)) cur ws olds) p) (together (λ e. hk (key e)) cur ws ns)) (sym new) (old-taken_at laws key hk cur ws olds t.skipped t.pending t.next t.left t.left_overflow inv p within far c.remove_at-entry.result got) in
-    let less = subst (λ (z : Contents g.row.E.Denot g.row.H.Denot). IsTakenFrom z (spot_of z p) after) view first in
-    let taken = taken-swapped now after q c.requires less in
+    let after = c.take_old.new.self in
+    let q = spot_of now c.args.place in
+    let taken = taken-swapped now after q c.requires c.take_old.ensures.exact in
     taken.refused
 
 pub returns-clause-settings : goal.returns-clause-settings
 returns-clause-settings g c =
-    let t = c.self.inside in
-    let cur = t.current in
-    let ws = t.waiting.items in
-    let olds = t.draining in
-    let inv = c.self.invariant in
-    let hk = key_hash g.H.BuildHasher g.H.Hasher.Hasher g.E.Key.Hash.hash_input cur in
-    let key = g.E.Keyed.key_of in
-    let laws = g.met.E.Key.Eq.laws in
-    let p = c.args.place in
-    let view = c.self.view_is in
-    let within = subst (λ z. IsPlace z p) (sym view) c.requires in
-    let count = c.bucket_count-count.ensures.count in
-    let far : bucket_count cur ≤ p.bucket = omega (arith, count) in
     let now = c.args.self.now in
-    let q = spot_of now p in
-    let got = subst (λ n. slice_get (shelf_entries (shelf_of olds (p.bucket - n))) p.slot ≡ Some c.remove_at-entry.result) count c.remove_at-entry.ensures.entry in
-    let news = c.remove_at-entry.new.self in
-    let new = c.remove_at-entry.ensures.others ∙ ap (λ n. let r : List (Shelf g.row.E.Denot) = set olds (p.bucket - n) (without_place (shelf_of olds (p.bucket - n)) p.slot) in r) count in
-    let after = together (λ e. hk (key e)) cur ws news in
-    let first = subst (λ ns. IsTakenFrom (together (λ e. hk (key e)) cur ws olds) (spot_of (together (λ e. hk (key e)) cur ws olds) p) (together (λ e. hk (key e)) cur ws ns)) (sym new) (old-taken_at laws key hk cur ws olds t.skipped t.pending t.next t.left t.left_overflow inv p within far c.remove_at-entry.result got) in
-    let less = subst (λ (z : Contents g.row.E.Denot g.row.H.Denot). IsTakenFrom z (spot_of z p) after) view first in
-    let taken = taken-swapped now after q c.requires less in
+    let after = c.take_old.new.self in
+    let q = spot_of now c.args.place in
+    let taken = taken-swapped now after q c.requires c.take_old.ensures.exact in
     taken.settings
-
-pub returns-clause-waiting : goal.returns-clause-waiting
-returns-clause-waiting g c =
-    let t = c.self.inside in
-    let cur = t.current in
-    let ws = t.waiting.items in
-    let olds = t.draining in
-    let hk = key_hash g.H.BuildHasher g.H.Hasher.Hasher g.E.Key.Hash.hash_input cur in
-    let key = g.E.Keyed.key_of in
-    let view = c.self.view_is in
-    let old_waiting = ap waiting_of (sym view) ∙ waiting-together (λ e. hk (key e)) cur ws olds in
-    let news = c.remove_at-entry.new.self in
-    waiting-together (λ e. hk (key e)) cur ws news ∙ sym old_waiting
 
 pub returns-clause-exact : goal.returns-clause-exact
 returns-clause-exact g c =
-    let t = c.self.inside in
-    let cur = t.current in
-    let ws = t.waiting.items in
-    let olds = t.draining in
-    let inv = c.self.invariant in
-    let hk = key_hash g.H.BuildHasher g.H.Hasher.Hasher g.E.Key.Hash.hash_input cur in
-    let key = g.E.Keyed.key_of in
-    let laws = g.met.E.Key.Eq.laws in
-    let p = c.args.place in
-    let view = c.self.view_is in
-    let within = subst (λ z. IsPlace z p) (sym view) c.requires in
-    let count = c.bucket_count-count.ensures.count in
-    let far : bucket_count cur ≤ p.bucket = omega (arith, count) in
     let now = c.args.self.now in
-    let q = spot_of now p in
-    let got = subst (λ n. slice_get (shelf_entries (shelf_of olds (p.bucket - n))) p.slot ≡ Some c.remove_at-entry.result) count c.remove_at-entry.ensures.entry in
-    let news = c.remove_at-entry.new.self in
-    let new = c.remove_at-entry.ensures.others ∙ ap (λ n. let r : List (Shelf g.row.E.Denot) = set olds (p.bucket - n) (without_place (shelf_of olds (p.bucket - n)) p.slot) in r) count in
-    let after = together (λ e. hk (key e)) cur ws news in
-    let first = subst (λ ns. IsTakenFrom (together (λ e. hk (key e)) cur ws olds) (spot_of (together (λ e. hk (key e)) cur ws olds) p) (together (λ e. hk (key e)) cur ws ns)) (sym new) (old-taken_at laws key hk cur ws olds t.skipped t.pending t.next t.left t.left_overflow inv p within far c.remove_at-entry.result got) in
-    let less = subst (λ (z : Contents g.row.E.Denot g.row.H.Denot). IsTakenFrom z (spot_of z p) after) view first in
-    let taken = taken-swapped now after q c.requires less in
+    let after = c.take_old.new.self in
+    let q = spot_of now c.args.place in
+    let taken = taken-swapped now after q c.requires c.take_old.ensures.exact in
     taken
 
 pub returns-clause-unique : goal.returns-clause-unique
 returns-clause-unique g c =
-    let t = c.self.inside in
-    let cur = t.current in
-    let ws = t.waiting.items in
-    let olds = t.draining in
-    let inv = c.self.invariant in
-    let hk = key_hash g.H.BuildHasher g.H.Hasher.Hasher g.E.Key.Hash.hash_input cur in
-    let key = g.E.Keyed.key_of in
-    let laws = g.met.E.Key.Eq.laws in
-    let p = c.args.place in
-    let view = c.self.view_is in
-    let within = subst (λ z. IsPlace z p) (sym view) c.requires in
-    let count = c.bucket_count-count.ensures.count in
-    let far : bucket_count cur ≤ p.bucket = omega (arith, count) in
     let now = c.args.self.now in
-    let q = spot_of now p in
-    let unique = subst (λ (z : Contents g.row.E.Denot g.row.H.Denot). IsDistinct g.E.Key.PartialEq.eq (map key (entries z))) view inv.unique in
-    let got = subst (λ n. slice_get (shelf_entries (shelf_of olds (p.bucket - n))) p.slot ≡ Some c.remove_at-entry.result) count c.remove_at-entry.ensures.entry in
-    let there = subst (λ (z : Contents g.row.E.Denot g.row.H.Denot). slice_get (entries z) (index_of z p) ≡ Some c.remove_at-entry.result) view (old-got laws key hk cur ws olds t.skipped t.pending t.next t.left t.left_overflow inv p within far c.remove_at-entry.result got) in
-    let news = c.remove_at-entry.new.self in
-    let new = c.remove_at-entry.ensures.others ∙ ap (λ n. let r : List (Shelf g.row.E.Denot) = set olds (p.bucket - n) (without_place (shelf_of olds (p.bucket - n)) p.slot) in r) count in
-    let after = together (λ e. hk (key e)) cur ws news in
-    let first = subst (λ ns. IsTakenFrom (together (λ e. hk (key e)) cur ws olds) (spot_of (together (λ e. hk (key e)) cur ws olds) p) (together (λ e. hk (key e)) cur ws ns)) (sym new) (old-taken_at laws key hk cur ws olds t.skipped t.pending t.next t.left t.left_overflow inv p within far c.remove_at-entry.result got) in
-    let less = subst (λ (z : Contents g.row.E.Denot g.row.H.Denot). IsTakenFrom z (spot_of z p) after) view first in
-    let taken = taken-swapped now after q c.requires less in
-    swapped-unique now after q c.requires taken laws key c.remove_at-entry.result there unique
+    let after = c.take_old.new.self in
+    let q = spot_of now c.args.place in
+    let taken = taken-swapped now after q c.requires c.take_old.ensures.exact in
+    swapped-unique now after q c.requires taken g.met.E.Key.Eq.laws g.E.Keyed.key_of c.take_old.result c.take_old.ensures.entry c.take_old.ensures.unique
