@@ -12,7 +12,7 @@ use Rattle.scc_buckets.specs.declared.place.Place.{Place}
 use Rattle.scc_buckets.proofs.PairSplits.{by_answer}
 use Rattle.scc_buckets.proofs.Resizes.{rests-inserted}
 use Rattle.scc_table.specs.Places.{IsInsertedAt, spot_in, spot_of}
-use Rattle.scc_table.specs.Relocates.{AreShort, left_after}
+use Rattle.scc_table.specs.Relocates.{AreMovedBeside, AreMovedFrom, AreShort, left_after}
 use Rattle.scc_table.specs.TwoArrays.{IsRelocated, IsWaiting, pending_targets, waits_at}
 use Rattle.scc_table.proofs.Finishing.{settle-down}
 use Rattle.scc_table.proofs.Inserted.{count-sub, count-whole, one-sub, put-count, put-inserted}
@@ -97,6 +97,24 @@ module _ {E S : Type 0} (i : ℕ) (c d : Contents E S) (r : IsRelocated i c d) w
       let n : length rest + 1 ≡ length (pending_targets c) = let x = ap length same in let y = targets-length d in let z = targets-length c in omega (arith, r.pending) in
       let one : length rest + 2 - length (pending_targets c) ≡ 1 = omega arith in
       h ∙ ap (drop 1) same ∙ ap (λ k. drop k rest) (sym one)
+
+  -- and another one at most after it
+  pub moved-relocated : (f : Contents E S) → AreMovedFrom (pending_targets d) 1 f → AreMovedBeside i (pending_targets c) f
+  moved-relocated f h =
+      let rest = filter (λ t. not (t == i)) (pending_targets c) in
+      let same : pending_targets d ≡ rest = targets-after i c d r in
+      let n : length rest + 1 ≡ length (pending_targets c) = let x = ap length same in let y = targets-length d in let z = targets-length c in omega (arith, r.pending) in
+      let one : length rest + 2 - length (pending_targets c) ≡ 1 = omega arith in
+      subst (λ k. AreMovedFrom rest k f) (sym one) (subst (λ ts. AreMovedFrom ts 1 f) same h)
+
+-- where the bucket doesn't wait, two others go at most
+pub moved-settled : {E S : Type 0} (i : ℕ) (c f : Contents E S) → waits_at (waiting_of c) i ≡ false → AreMovedFrom (pending_targets c) 2 f → AreMovedBeside i (pending_targets c) f
+moved-settled i c f down h =
+    let all = pending_targets c in
+    let rest = filter (λ t. not (t == i)) all in
+    let same : rest ≡ all = targets-without i c down in
+    let two : length rest + 2 - length all ≡ 2 = let x = ap length same in omega arith in
+    subst (λ k. AreMovedFrom rest k f) (sym two) (subst (λ ts. AreMovedFrom ts 2 f) (sym same) h)
 
 -- where the bucket doesn't wait, two others go
 pub settled-left : {E S : Type 0} (i : ℕ) (c : Contents E S) (ts : List ℕ) → waits_at (waiting_of c) i ≡ false → ts ≡ drop 2 (pending_targets c) → ts ≡ left_after i (pending_targets c)

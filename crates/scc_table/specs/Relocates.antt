@@ -1,10 +1,10 @@
 -- What a call does to the buckets that wait.
-use Rattle.std.specs.Prelude.{◌≡◌, ◌≢◌, ◌==◌, ℕ, ◌+◌, ◌-◌, ◌*◌, ◌<◌, ◌≤◌, List, length, drop, not}
+use Rattle.std.specs.Prelude.{◌≡◌, ◌≢◌, ◌==◌, ℕ, ◌+◌, ◌-◌, ◌*◌, ◌<◌, ◌≤◌, ◌⊎◌, List, [], length, drop, not}
 use Rattle.std.specs.List.{filter}
 use Rattle.scc_contents.specs.Contents.{Contents, entries, bucket_count, list_of, settings_of, waiting_of, owed_of, pending_of}
 use Rattle.scc_buckets.specs.Pour.{bound_for}
 use Rattle.scc_contents.specs.Sizes.{IsArraySize, IsSmaller}
-use Rattle.scc_table.specs.TwoArrays.{IsWaiting}
+use Rattle.scc_table.specs.TwoArrays.{pending_targets, IsFirstWaiting, IsWaiting}
 
 -- the numbers of the buckets that wait, once that bucket, where it waited, and then the first ones took their entries over, two in all
 abbrev pub left_after : ℕ → List ℕ → List ℕ
@@ -28,6 +28,21 @@ module _ {E S : Type 0} where
     pub less : bucket_count d ≡ bucket_count c → pending_of d ≤ pending_of c
     pub waiting : (due → ⊥) → waiting_of d ≡ waiting_of c
     pub owed : (due → ⊥) → owed_of d ≡ owed_of c
+
+  -- of the buckets ts the first ones took their entries over, so many at most, and the others wait; where it were fewer, none waits, or more than 32 entries come to the first one that does
+  pub record AreMovedFrom (ts : List ℕ) (n : ℕ) (d : Contents E S) : Type 0 where
+    pub count : ℕ
+    pub most : count ≤ n
+    pub left : pending_targets d ≡ drop count ts
+    pub stopped : count < n → (pending_targets d ≡ []) ⊎ ((i : ℕ) × (IsFirstWaiting d i) × (32 < length (list_of d i)))
+
+  -- of the buckets that waited the first ones took their entries over, so many at most
+  abbrev pub IsMovedUpTo : ℕ → Contents E S → Contents E S → Type 0
+  IsMovedUpTo n c d = AreMovedFrom (pending_targets c) n d
+
+  -- that bucket, where it was among the buckets ts, and then the first ones took their entries over, two in all at most
+  abbrev pub AreMovedBeside : ℕ → List ℕ → Contents E S → Type 0
+  AreMovedBeside i ts d = AreMovedFrom (filter (λ t. not (t == i)) ts) (length (filter (λ t. not (t == i)) ts) + 2 - length ts) d
 
   -- no bucket that waits holds more than 32 entries
   pub record AreShort (c : Contents E S) : Type 0 where

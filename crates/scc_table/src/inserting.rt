@@ -7,7 +7,7 @@ ghost use Rattle.scc_buckets.specs.OneList.{HasSameLists, IsPutIn};
 ghost use Rattle.scc_contents.specs.Routing.{bucket_number};
 ghost use Rattle.scc_contents.specs.Steps.{FirstArrayWhenDue, Grows, GrowsWhenDue, IsReadyFor, IsUnchanged, Rests};
 ghost use Rattle.scc_table.specs.Places.{IsInsertedAt};
-ghost use Rattle.scc_table.specs.Relocates.{left_after, AreShort, AreShortAmong};
+ghost use Rattle.scc_table.specs.Relocates.{left_after, AreMovedBeside, AreShort, AreShortAmong, IsMovedUpTo};
 ghost use Rattle.scc_table.specs.TwoArrays.{IsWaiting, pending_targets, waits_at};
 
 use super::Table;
@@ -69,6 +69,12 @@ where
             (bucket_count self.new) self.old → pending_of self.new + 2 ≡ bucket_count self.new) }
         ensures by_two { OnOk result (0 < bucket_count self.old → bucket_count self.new ≡ bucket_count self.old
             → AreShort self.old → pending_of self.new ≡ pending_of self.old - 2) }
+        ensures moved { OnOk result (0 < bucket_count self.old → bucket_count self.new ≡ bucket_count self.old
+            → AreMovedBeside (bucket_number (settings_of self.old).skipped (bucket_count self.old) hash)
+            (pending_targets self.old) self.new) }
+        ensures drained { OnOk result (0 < bucket_count self.old → bucket_count self.new ≢ bucket_count self.old
+            → AreMovedBeside (bucket_number (settings_of self.old).skipped (bucket_count self.new) hash)
+            (range_with_len 0 (bucket_count self.new)) self.new) }
         ensures unique { IsUniqueBy E.Key.eq E.key_of self.new }
     {
         self.keep_lists();
@@ -124,6 +130,12 @@ where
             (bucket_count self.new) self.old → pending_of self.new + 2 ≡ bucket_count self.new) }
         ensures by_two { OnOk result (0 < bucket_count self.old → bucket_count self.new ≡ bucket_count self.old
             → AreShort self.old → pending_of self.new ≡ pending_of self.old - 2) }
+        ensures moved { OnOk result (0 < bucket_count self.old → bucket_count self.new ≡ bucket_count self.old
+            → AreMovedBeside (bucket_number (settings_of self.old).skipped (bucket_count self.old) hash)
+            (pending_targets self.old) self.new) }
+        ensures drained { OnOk result (0 < bucket_count self.old → bucket_count self.new ≢ bucket_count self.old
+            → AreMovedBeside (bucket_number (settings_of self.old).skipped (bucket_count self.new) hash)
+            (range_with_len 0 (bucket_count self.new)) self.new) }
         ensures unique { IsUniqueBy E.Key.eq E.key_of self.new }
     {
         match self.bucket_for_new(hash) {
@@ -151,6 +163,7 @@ where
         ensures less { pending_of self.new ≤ pending_of self.old }
         ensures most { pending_of self.old ≤ pending_of self.new + 2 }
         ensures settled { OnOk result (waits_at (waiting_of self.new) bucket ≡ false) }
+        ensures moved { OnOk result (AreMovedBeside bucket (pending_targets self.old) self.new) }
         ensures exact { OnOk result (AreShort self.old
             → pending_targets self.new ≡ left_after bucket (pending_targets self.old)) }
         ensures unique { IsUniqueBy E.Key.eq E.key_of self.new }
@@ -179,6 +192,7 @@ where
         ensures less { pending_of self.new ≤ pending_of self.old }
         ensures most { pending_of self.old ≤ pending_of self.new + 2 }
         ensures settled { OnOk result (waits_at (waiting_of self.new) bucket ≡ false) }
+        ensures moved { OnOk result (AreMovedBeside bucket (pending_targets self.old) self.new) }
         ensures exact { OnOk result (AreShort self.old
             → pending_targets self.new ≡ left_after bucket (pending_targets self.old)) }
         ensures unique { IsUniqueBy E.Key.eq E.key_of self.new }
@@ -214,6 +228,7 @@ where
         ensures less { pending_of self.new ≤ pending_of self.old }
         ensures most { pending_of self.old ≤ pending_of self.new + most }
         ensures settled { OnOk result (waits_at (waiting_of self.new) bucket ≡ false) }
+        ensures moved { OnOk result (IsMovedUpTo most self.old self.new) }
         ensures exact { OnOk result (AreShort self.old
             → pending_targets self.new ≡ drop most (pending_targets self.old)) }
         ensures unique { IsUniqueBy E.Key.eq E.key_of self.new }
@@ -259,8 +274,8 @@ where
         placed
     }
 
-    /// Moves the entries of the first buckets that wait to them, of so many buckets. One whose memory is refused counts
-    /// among them.
+    /// Moves the entries of the first buckets that wait to them, of so many buckets. Where memory is refused for one, it
+    /// and those after it still wait.
     #[inline(always)]
     pub(super) fn relocate_some(&mut self, most: usize)
         ensures lists { lists_of self.new ≡ lists_of self.old }
@@ -269,6 +284,7 @@ where
         ensures fewer { (i : ℕ) → IsWaiting self.new i → IsWaiting self.old i }
         ensures less { pending_of self.new ≤ pending_of self.old }
         ensures most { pending_of self.old ≤ pending_of self.new + most }
+        ensures moved { IsMovedUpTo most self.old self.new }
         ensures exact { AreShort self.old → pending_targets self.new ≡ drop most (pending_targets self.old) }
         ensures bounded { IsBounded self.old → AreShort self.old → IsBounded self.new }
     {
@@ -278,7 +294,7 @@ where
             }
             match self.relocate_next() {
                 Ok(()) => {}
-                Err(_) => {}
+                Err(_) => return,
             }
         }
     }

@@ -2,7 +2,7 @@
 ghost use Rattle.std.specs.Prelude.{◌≡◌, ◌<◌, ◌≤◌, ℕ, [], length, OnOk, OnErr};
 ghost use Rattle.scc_buckets.specs.Bounded.{IsBounded};
 ghost use Rattle.scc_contents.specs.Contents.{list_of, lists_of, pending_of, refused_of, settings_of, waiting_of};
-ghost use Rattle.scc_table.specs.Relocates.{AreShort};
+ghost use Rattle.scc_table.specs.Relocates.{AreShort, IsMovedUpTo};
 ghost use Rattle.scc_table.specs.TwoArrays.{IsFirstWaiting, IsRelocated, IsWaiting};
 
 use super::Table;
@@ -89,6 +89,7 @@ where
         ensures less { pending_of self.new ≤ pending_of self.old }
         ensures ok { OnOk result (waiting_of self.new ≡ []) }
         ensures refused { OnErr result ((i : ℕ) × (IsFirstWaiting self.new i) × (32 < length (list_of self.new i))) }
+        ensures moved { IsMovedUpTo (pending_of self.old) self.old self.new }
         ensures bounded { IsBounded self.old → AreShort self.old → IsBounded self.new }
     {
         for _ in 0..self.pending {

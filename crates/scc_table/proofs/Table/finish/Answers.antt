@@ -1,7 +1,10 @@
-use Rattle.std.proofs.Common.{◌≡◌, ◌∙◌, sym, ap, arith}
+use Rattle.std.proofs.Common.{◌≡◌, ◌∙◌, drop, refl, sym, ap, arith}
 use Rattle.scc_contents.specs.Contents.{pending_of, waiting_of}
 use Rattle.scc_table.proofs.Finishing.{finish-start, finish-step}
+use Rattle.scc_table.specs.TwoArrays.{pending_targets}
 use Rattle.scc_table.proofs.Joining.{waiting-together, pending-together}
+use Rattle.scc_table.proofs.SettlingLemmas.{drop-next, moved-all}
+use Rattle.scc_table.proofs.Targets.{targets-first}
 use Rattle.scc_table.proofs.Table.finish.Goals as goal
 
 pub loop-init : goal.loop-init
@@ -9,21 +12,29 @@ loop-init g c =
     let t = c.self.inside in
     let flags : waiting_of c.args.self.now ≡ t.waiting.items = ap waiting_of (sym c.self.view_is) ∙ waiting-together _ t.current t.waiting.items t.draining in
     let counted = ap pending_of (sym c.self.view_is) ∙ pending-together _ t.current t.waiting.items t.draining ∙ sym c.self.invariant.counted in
-    finish-start c.args.self.now (λ z. flags ∙ c.self.invariant.none (sym counted ∙ z))
+    (finish-start c.args.self.now (λ z. flags ∙ c.self.invariant.none (sym counted ∙ z)), refl)
 
 pub relocate_next-requires : goal.relocate_next-requires
 relocate_next-requires g c =
     let t = c.self.inside in
     let counted = ap pending_of (sym c.self.view_is) ∙ pending-together _ t.current t.waiting.items t.draining ∙ sym c.self.invariant.counted in
-    omega (arith, c.loop.invariant.left, counted)
+    omega (arith, c.loop.invariant.0.left, counted)
 
 pub loop-preserved : goal.loop-preserved
 loop-preserved g c =
     let moved = c.in_ok-relocate_next.ensures.ok in
-    finish-step c.args.self.now c.loop.self c.relocate_next.new.self c.loop.counter moved.0 c.loop.invariant moved.2 c.relocate_next.ensures.bounded
+    (finish-step c.args.self.now c.loop.self c.relocate_next.new.self c.loop.counter moved.0 c.loop.invariant.0 moved.2 c.relocate_next.ensures.bounded,
+    targets-first moved.0 c.loop.self c.relocate_next.new.self moved.1 moved.2 ∙ ap (drop 1) c.loop.invariant.1 ∙ sym (drop-next c.loop.counter (pending_targets c.args.self.now)))
 
 pub returns-clause-ok : goal.returns-clause-ok
 returns-clause-ok g c =
     let t = c.self.inside in
     let counted = ap pending_of (sym c.self.view_is) ∙ pending-together _ t.current t.waiting.items t.draining ∙ sym c.self.invariant.counted in
-    c.loop.invariant.none (omega (arith, c.loop.invariant.left, counted))
+    c.loop.invariant.0.none (omega (arith, c.loop.invariant.0.left, counted))
+
+pub returns-clause-moved : goal.returns-clause-moved
+returns-clause-moved g c =
+    let t = c.self.inside in
+    let a = c.args.self.now in
+    let counted = ap pending_of (sym c.self.view_is) ∙ pending-together _ t.current t.waiting.items t.draining ∙ sym c.self.invariant.counted in
+    moved-all (pending_targets a) c.loop.self c.loop.counter (pending_of a) c.loop.invariant.1 (omega (arith, c.loop.invariant.0.left)) (omega (arith, c.loop.invariant.0.left, counted))

@@ -1,18 +1,18 @@
 use Rattle.std.proofs.Common.{◌≡◌, ◌∙◌, ◌-◌, ◌<◌, ◌≤◌, length, replicate, true, sym, ap, subst, arith, Bool}
-use Rattle.std.specs.List.{count_by}
+use Rattle.std.specs.List.{count_by, range_with_len}
 use Rattle.scc_contents.specs.Contents.{HasRoomAt, bucket_count, entries, key_hash, settings_of, waiting_of}
 use Rattle.scc_buckets.specs.Pour.{IsRegrouped}
 use Rattle.scc_contents.specs.Routing.{bucket_number}
 use Rattle.scc_buckets.proofs.Resizes.{absent-permuted, rests-resizes, rests-inserted}
 use Rattle.scc_table.specs.Places.{spot_of}
-use Rattle.scc_table.specs.Relocates.{AreShort, left_after}
+use Rattle.scc_table.specs.Relocates.{AreMovedBeside, AreShort, left_after}
 use Rattle.scc_table.specs.TwoArrays.{pending_targets, waits_at}
 use Rattle.scc_table.proofs.Finishing.{pending-is}
 use Rattle.scc_table.proofs.Grown.{grown-spread}
 use Rattle.scc_table.proofs.Same.{if-ok, list-same, on-err, on-ok, pending-same}
 use Rattle.scc_table.proofs.Once.{once-made}
 use Rattle.scc_table.proofs.StartingLemmas.{count-up}
-use Rattle.scc_table.proofs.Targets.{all-but-two, by-two, targets-same}
+use Rattle.scc_table.proofs.Targets.{all-but-two, by-two, targets-all, targets-same}
 use Rattle.scc_table.proofs.Table.insert_making_room.Goals as goal
 
 pub insert_at-requires-clause-absent : goal.insert_at-requires-clause-absent
@@ -99,6 +99,37 @@ returns-in-Ok-clause-exact g c =
     h after ∙ ap (left_after c.in-Ok.bucket) (targets-same a b w)
     ∙ ap (λ i. left_after i (pending_targets a)) (c.in-Ok.ensures.routed ∙ ap (λ s. bucket_number s.skipped (bucket_count b) c.args.hash) settings ∙ ap (λ m. bucket_number (settings_of a).skipped m c.args.hash) e))
     c.insert_at.ensures.exact
+
+pub returns-in-Ok-clause-moved : goal.returns-in-Ok-clause-moved
+returns-in-Ok-clause-moved g c =
+    let a = c.args.self.now in
+    let b = c.bucket_for_new.new.self in
+    let f = c.insert_at.new.self in
+    let made = c.bucket_for_new.ensures in
+    on-ok c.insert_at.result
+    (λ h some same.
+    let e : bucket_count b ≡ bucket_count a = sym c.insert_at.ensures.buckets ∙ same in
+    let settings = (rests-resizes a b made.rests).settings in
+    let at = c.in-Ok.ensures.routed ∙ ap (λ s. bucket_number s.skipped (bucket_count b) c.args.hash) settings ∙ ap (λ m. bucket_number (settings_of a).skipped m c.args.hash) e in
+    subst (λ i. AreMovedBeside i (pending_targets a) f) at (subst (λ ts. AreMovedBeside c.in-Ok.bucket ts f) (targets-same a b (made.waiting some e)) h))
+    c.insert_at.ensures.moved
+
+pub returns-in-Ok-clause-drained : goal.returns-in-Ok-clause-drained
+returns-in-Ok-clause-drained g c =
+    let a = c.args.self.now in
+    let b = c.bucket_for_new.new.self in
+    let f = c.insert_at.new.self in
+    let made = c.bucket_for_new.ensures in
+    let n = bucket_count f in
+    let same : n ≡ bucket_count b = c.insert_at.ensures.buckets in
+    on-ok c.insert_at.result
+    (λ h some ne.
+    let other = λ (z : bucket_count b ≡ bucket_count a). ne (same ∙ z) in
+    let all : waiting_of b ≡ replicate n true = made.all some other ∙ ap (λ m. replicate m true) (sym same) in
+    let settings = (rests-resizes a b made.rests).settings in
+    let at = c.in-Ok.ensures.routed ∙ ap (λ s. bucket_number s.skipped (bucket_count b) c.args.hash) settings ∙ ap (λ m. bucket_number (settings_of a).skipped m c.args.hash) (sym same) in
+    subst (λ i. AreMovedBeside i (range_with_len 0 n) f) at (subst (λ ts. AreMovedBeside c.in-Ok.bucket ts f) (targets-all n b all) h))
+    c.insert_at.ensures.moved
 
 pub returns-in-Ok-clause-spread : goal.returns-in-Ok-clause-spread
 returns-in-Ok-clause-spread g c =

@@ -1,7 +1,9 @@
-use Rattle.std.proofs.Common.{◌≡◌, ◌==◌, ◌∙◌, ◌<◌, length, true, false, sym, ap, arith, Bool}
+use Rattle.std.proofs.Common.{◌≡◌, ◌==◌, ◌∙◌, ◌<◌, length, true, false, sym, ap, subst, arith, Bool}
 use Rattle.std.specs.List.{count_by}
 use Rattle.scc_contents.specs.Contents.{HasRoomAt, bucket_count, entries, key_hash, list_of, settings_of}
 use Rattle.scc_contents.specs.Routing.{bucket_number}
+use Rattle.scc_table.specs.Relocates.{AreMovedBeside}
+use Rattle.scc_table.specs.TwoArrays.{pending_targets}
 use Rattle.scc_table.proofs.Listed.{count-listed}
 use Rattle.scc_table.proofs.Same.{on-ok}
 use Rattle.scc_table.proofs.Targets.{by-two}
@@ -31,3 +33,11 @@ returns-then-list_len-lt32-clause-due g c =
 pub returns-then-list_len-lt32-clause-by_two : goal.returns-then-list_len-lt32-clause-by_two
 returns-then-list_len-lt32-clause-by_two g c =
     on-ok c.insert_at.result (λ h some kept short. by-two c.bucket_at-bucket.result c.args.self.now c.insert_at.new.self (h short)) c.insert_at.ensures.exact
+
+pub returns-then-list_len-lt32-clause-moved : goal.returns-then-list_len-lt32-clause-moved
+returns-then-list_len-lt32-clause-moved g c =
+    let ts = pending_targets c.args.self.now in
+    on-ok c.insert_at.result (λ h some kept. subst (λ i. AreMovedBeside i ts c.insert_at.new.self) c.bucket_at-bucket.ensures.value h) c.insert_at.ensures.moved
+
+pub returns-then-list_len-lt32-clause-drained : goal.returns-then-list_len-lt32-clause-drained
+returns-then-list_len-lt32-clause-drained g c = on-ok c.insert_at.result (λ h some ne. absurd (ne c.insert_at.ensures.buckets)) c.insert_at.ensures.moved

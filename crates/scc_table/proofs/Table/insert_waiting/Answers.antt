@@ -3,7 +3,7 @@ use Rattle.std.specs.List.{position}
 use Rattle.scc_contents.specs.Contents.{HasRoomBy, bucket_count, entries, key_hash, list_of, settings_of}
 use Rattle.scc_contents.specs.Routing.{bucket_number}
 use Rattle.scc_table.specs.TwoArrays.{pending_targets}
-use Rattle.scc_table.proofs.Placing.{long-none, relocated-fewer, relocated-inserted, relocated-left, relocated-short, room-same}
+use Rattle.scc_table.proofs.Placing.{long-none, moved-relocated, relocated-fewer, relocated-inserted, relocated-left, relocated-short, room-same}
 use Rattle.scc_table.proofs.Same.{count-same, entries-same, hash-same, if-err, if-ok, on-err, on-ok}
 use Rattle.scc_table.proofs.Table.insert_waiting.Goals as goal
 
@@ -56,6 +56,12 @@ returns-in-Ok-clause-exact g c =
     let b = c.relocate.new.self in
     let r = c.in-Ok.ensures.ok in
     on-ok c.insert_settled.result (λ h short. relocated-left c.args.bucket a b r (pending_targets c.insert_settled.new.self) (h (relocated-short c.args.bucket a b r short))) c.insert_settled.ensures.exact
+
+pub returns-in-Ok-clause-moved : goal.returns-in-Ok-clause-moved
+returns-in-Ok-clause-moved g c =
+    let a = c.args.self.now in
+    let b = c.relocate.new.self in
+    on-ok c.insert_settled.result (λ h. moved-relocated c.args.bucket a b c.in-Ok.ensures.ok c.insert_settled.new.self h) c.insert_settled.ensures.moved
 
 pub returns-in-Err-clause-full : goal.returns-in-Err-clause-full
 returns-in-Err-clause-full g c =
