@@ -1,14 +1,14 @@
 -- Some of the first buckets that wait take their entries over.
-use Rattle.std.proofs.Common.{◌≡◌, ℕ, zero, suc, ◌+◌, ◌<◌, ◌≤◌, inl, inr, List, [], ◌∷◌, length, drop, refl, sym, ap, ◌∙◌, arith}
-use Rattle.std.proofs.lemmas.List.{drop_all, length-drop, nil_from_length}
-use native.Mathlib.Decide.{dec_lt}
+use Rattle.std.proofs.Common.{◌≡◌, ℕ, zero, suc, ◌+◌, ◌<◌, ◌≤◌, inl, inr, List, [], ◌∷◌, length, drop, get_or, refl, sym, ap, ◌∙◌, subst, arith}
+use Rattle.std.proofs.lemmas.List.{drop_all, get_or-drop, length-drop, nil_from_length}
 use Rattle.scc_buckets.specs.Bounded.{IsBounded}
 use Rattle.scc_contents.specs.Contents.{Contents, list_of, lists_of, settings_of, refused_of, waiting_of, pending_of}
 use Rattle.scc_table.specs.Relocates.{AreMovedFrom, AreShort}
 use Rattle.scc_table.specs.TwoArrays.{IsFirstWaiting, IsRelocated, IsWaiting, pending_targets, waits_at}
 use Rattle.scc_table.proofs.Finishing.{settle-down}
+use Rattle.scc_table.proofs.Same.{list-same}
 use Rattle.scc_table.proofs.Short.{short-later}
-use Rattle.scc_table.proofs.Targets.{targets-first, targets-length}
+use Rattle.scc_table.proofs.Targets.{targets-first, targets-head, targets-length}
 
 pub drop-next : {X : Type 0} (n : ℕ) (xs : List X) → drop (n + 1) xs ≡ drop 1 (drop n xs)
 drop-next zero xs = refl
@@ -16,6 +16,40 @@ drop-next (suc n) [] = drop_all (suc n + 1) [] (omega arith) ∙ sym (ap (drop 1
 drop-next (suc n) (x ∷ xs) = let m : suc n + 1 ≡ suc (n + 1) = omega arith in ap (λ k. drop k (x ∷ xs)) m ∙ drop-next n xs
 
 module _ {E S : Type 0} where
+  -- so many took theirs over
+  pub moved-most : (ts : List ℕ) (d : Contents E S) (n : ℕ) → pending_targets d ≡ drop n ts → AreMovedFrom ts n d
+  moved-most ts d n left = record { count = n; most = omega arith; left = left; stopped = λ l. absurd (omega arith) }
+
+  -- none is left
+  pub moved-all : (ts : List ℕ) (d : Contents E S) (n m : ℕ) → AreMovedFrom ts n d → n ≤ m → pending_of d ≡ 0 → AreMovedFrom ts m d
+  moved-all ts d n m h le none = record { count = h.count; most = omega (arith, h.most); left = h.left; stopped = λ l. inl (nil_from_length (pending_targets d) (targets-length d ∙ none)) }
+
+  -- one more took its entries over, the first that waits
+  pub moved-one : (ts : List ℕ) (d e : Contents E S) (n i : ℕ) → AreMovedFrom ts n d → IsFirstWaiting d i → IsRelocated i d e → AreMovedFrom ts (n + 1) e
+  moved-one ts d e n i h first r = record {
+    count = h.count + 1;
+    most = omega (arith, h.most);
+    left = targets-first i d e first r ∙ ap (drop 1) h.left ∙ sym (drop-next h.count ts);
+    stopped = λ l. elim (h.stopped (omega arith)) [
+      | inl nothing ↦ absurd (let some = (targets-head i d first).0 in let none = ap length nothing in omega arith)
+      | inr z ↦ inr (z.0, omega (arith, z.1), z.2, (let same = ap length (list-same d e r.lists (get_or ts z.0 0)) in omega (arith, z.3, same)))
+    ];
+  }
+
+  -- the next one was refused memory
+  pub moved-none : (ts : List ℕ) (d : Contents E S) (n m i : ℕ) → AreMovedFrom ts n d → n ≤ m → IsFirstWaiting d i → 32 < length (list_of d i) → AreMovedFrom ts m d
+  moved-none ts d n m i h le first long =
+      let head = targets-head i d first in
+      let at : get_or ts h.count 0 ≡ i = sym (get_or-drop h.count ts 0 0 ∙ ap (λ k. get_or ts k 0) (let z : h.count + 0 ≡ h.count = omega arith in z)) ∙ ap (λ l. get_or l 0 0) (sym h.left) ∙ head.1 in
+      let within = length-drop h.count ts in
+      let some = ap length h.left in
+      record {
+        count = h.count;
+        most = omega (arith, h.most);
+        left = h.left;
+        stopped = λ l. inr (h.count, omega arith, omega (arith, head.0), subst (λ k. 32 < length (list_of d k)) (sym at) long);
+      }
+
   -- n of them were tried
   pub record SettlesFirst (c d : Contents E S) (n : ℕ) : Type 0 where
     pub lists : lists_of d ≡ lists_of c
@@ -24,11 +58,12 @@ module _ {E S : Type 0} where
     pub fewer : (k : ℕ) → IsWaiting d k → IsWaiting c k
     pub less : pending_of d ≤ pending_of c
     pub most : pending_of c ≤ pending_of d + n
-    pub left : pending_targets d ≡ drop n (pending_targets c)
+    pub moved : AreMovedFrom (pending_targets c) n d
+    pub exact : AreShort c → pending_targets d ≡ drop n (pending_targets c)
     pub bounded : IsBounded c → AreShort c → IsBounded d
 
   pub settles-start : (c : Contents E S) → SettlesFirst c c 0
-  settles-start c = record { lists = refl; settings = refl; refused = refl; fewer = λ k h. h; less = omega arith; most = omega arith; left = refl; bounded = λ b s. b }
+  settles-start c = record { lists = refl; settings = refl; refused = refl; fewer = λ k h. h; less = omega arith; most = omega arith; moved = moved-most (pending_targets c) c 0 refl; exact = λ s. refl; bounded = λ b s. b }
 
   pub settles-one : (c d e : Contents E S) (n i : ℕ) → SettlesFirst c d n → IsFirstWaiting d i → IsRelocated i d e → (IsBounded d → AreShort d → IsBounded e) → SettlesFirst c e (n + 1)
   settles-one c d e n i f first r bounded = record {
@@ -38,35 +73,27 @@ module _ {E S : Type 0} where
     fewer = λ k h. f.fewer k (settle-down (waiting_of d) i k (ap (λ ws. waits_at ws k) (sym r.waiting) ∙ h));
     less = omega (arith, f.less, r.pending);
     most = omega (arith, f.most, r.pending);
-    left = targets-first i d e first r ∙ ap (drop 1) f.left ∙ sym (drop-next n (pending_targets c));
+    moved = moved-one (pending_targets c) d e n i f.moved first r;
+    exact = λ s. targets-first i d e first r ∙ ap (drop 1) (f.exact s) ∙ sym (drop-next n (pending_targets c));
     bounded = λ b s. bounded (f.bounded b s) (short-later c d f.lists f.fewer s);
   }
 
-  -- so many took theirs over
-  pub moved-most : (ts : List ℕ) (d : Contents E S) (n : ℕ) → pending_targets d ≡ drop n ts → AreMovedFrom ts n d
-  moved-most ts d n left = record { count = n; most = omega arith; left = left; stopped = λ l. absurd (omega arith) }
+  pub settles-none : (c d : Contents E S) (n i : ℕ) → SettlesFirst c d n → IsFirstWaiting d i → 32 < length (list_of d i) → SettlesFirst c d (n + 1)
+  settles-none c d n i f first long = record {
+    lists = f.lists;
+    settings = f.settings;
+    refused = f.refused;
+    fewer = f.fewer;
+    less = f.less;
+    most = omega (arith, f.most);
+    moved = moved-none (pending_targets c) d n (n + 1) i f.moved (omega arith) first long;
+    exact = λ s. absurd (let z = s.short i (f.fewer i first.waits) in let same = ap length (list-same c d f.lists i) in omega arith);
+    bounded = f.bounded;
+  }
 
   -- none is left
-  pub moved-all : (ts : List ℕ) (d : Contents E S) (n m : ℕ) → pending_targets d ≡ drop n ts → n ≤ m → pending_of d ≡ 0 → AreMovedFrom ts m d
-  moved-all ts d n m left le none = record { count = n; most = le; left = left; stopped = λ l. inl (nil_from_length (pending_targets d) (targets-length d ∙ none)) }
-
-  -- the next one was refused memory
-  pub moved-until : (ts : List ℕ) (d : Contents E S) (n m i : ℕ) → pending_targets d ≡ drop n ts → n ≤ m → IsFirstWaiting d i → 32 < length (list_of d i) → AreMovedFrom ts m d
-  moved-until ts d n m i left le first long = record { count = n; most = le; left = left; stopped = λ l. inr (i, first, long) }
-
-  -- where no bucket that waits is long, none is refused
-  pub moved-short : (ts : List ℕ) (n : ℕ) (d : Contents E S) → AreMovedFrom ts n d → AreShort d → pending_targets d ≡ drop n ts
-  moved-short ts n d h short = elim (dec_lt h.count n) [
-    | yes l ↦ elim (h.stopped l) [
-      | inl nothing ↦
-          let few = length-drop h.count ts in
-          let less = ap length (sym h.left ∙ nothing) in
-          nothing ∙ sym (drop_all n ts (omega arith))
-      | inr z ↦ absurd (let s = short.short z.0 z.1.waits in let long = z.2 in omega arith)
-    ]
-    | no r ↦ let same : h.count ≡ n = omega (arith, h.most) in h.left ∙ ap (λ k. drop k ts) same
-  ]
-
-  -- of the buckets that waited, where the lists are the same
-  pub settled-short : (c d : Contents E S) (n : ℕ) → AreMovedFrom (pending_targets c) n d → lists_of d ≡ lists_of c → ((k : ℕ) → IsWaiting d k → IsWaiting c k) → AreShort c → pending_targets d ≡ drop n (pending_targets c)
-  settled-short c d n h lists fewer short = moved-short (pending_targets c) n d h (short-later c d lists fewer short)
+  pub settles-all : (c d : Contents E S) (n m : ℕ) → SettlesFirst c d n → n ≤ m → pending_of d ≡ 0 → AreShort c → pending_targets d ≡ drop m (pending_targets c)
+  settles-all c d n m f le none short =
+      let nothing : pending_targets d ≡ [] = nil_from_length (pending_targets d) (targets-length d ∙ none) in
+      let few : length (pending_targets c) ≤ m = omega (arith, f.most, targets-length c) in
+      nothing ∙ sym (drop_all m (pending_targets c) few)

@@ -1,5 +1,5 @@
 -- The numbers of the buckets that wait.
-use Rattle.std.proofs.Common.{◌≡◌, ◌==◌, ◌≢◌, ℕ, zero, suc, ◌+◌, ◌-◌, ◌<◌, ◌≤◌, Bool, true, false, not, cond, List, [], ◌∷◌, length, set, drop, replicate, refl, sym, ap, ◌∙◌, arith, rules, eqb-true}
+use Rattle.std.proofs.Common.{◌≡◌, ◌==◌, ◌≢◌, ℕ, zero, suc, ◌+◌, ◌-◌, ◌<◌, ◌≤◌, Bool, true, false, not, cond, List, [], ◌∷◌, length, set, drop, get_or, replicate, refl, sym, ap, ◌∙◌, arith, rules, eqb-true}
 use Rattle.std.specs.List.{filter, count_by, range_with_len}
 use Rattle.std.proofs.lemmas.List.{length-drop, nil_from_length, set-get_or}
 use Rattle.std.proofs.lemmas.List.FromFn.{length-range_with_len}
@@ -77,6 +77,18 @@ ups-first a (suc i) (w ∷ ws) up below =
     let q : w ≡ false = below 0 (omega arith) in
     rw q (ap (λ n. filter (λ t. not (t == n)) (ups (suc a) ws)) (sym near) ∙ ups-first (suc a) i ws up (λ j l. below (suc j) (omega arith)))
 
+ups-head : (a i : ℕ) (ws : List Bool) → waits_at ws i ≡ true → ((j : ℕ) → j < i → waits_at ws j ≡ false) → (0 < length (ups a ws)) × (get_or (ups a ws) 0 0 ≡ a + i)
+ups-head a i [] up below = absurd (let z : false ≡ true = up in cc)
+ups-head a zero (w ∷ ws) up below =
+    let near : a ≡ a + zero = omega arith in
+    let q : w ≡ true = up in
+    rw q (omega arith, near)
+ups-head a (suc i) (w ∷ ws) up below =
+    let near : suc a + i ≡ a + suc i = omega arith in
+    let q : w ≡ false = below 0 (omega arith) in
+    let h = ups-head (suc a) i ws up (λ j l. below (suc j) (omega arith)) in
+    rw q (h.0, h.1 ∙ near)
+
 ups-without : (i : ℕ) (ws : List Bool) → filter (λ t. not (t == i)) (ups 0 ws) ≡ ups 0 (set ws i false)
 ups-without i ws = let near : 0 + i ≡ i = omega arith in ap (λ n. filter (λ t. not (t == n)) (ups 0 ws)) (sym near) ∙ sym (ups-set 0 i ws)
 
@@ -125,6 +137,13 @@ module _ {E S : Type 0} where
   targets-first i c d first r =
       let near : 0 + i ≡ i = omega arith in
       targets-after i c d r ∙ ap (filter (λ t. not (t == i))) (targets-are c) ∙ ap (λ n. filter (λ t. not (t == n)) (ups 0 (waiting_of c))) (sym near) ∙ ups-first 0 i (waiting_of c) first.waits first.below ∙ ap (drop 1) (sym (targets-are c))
+
+  -- it stands first among them
+  pub targets-head : (i : ℕ) (c : Contents E S) → IsFirstWaiting c i → (0 < length (pending_targets c)) × (get_or (pending_targets c) 0 0 ≡ i)
+  targets-head i c first =
+      let near : 0 + i ≡ i = omega arith in
+      let h = ups-head 0 i (waiting_of c) first.waits first.below in
+      rw (targets-are c) (h.0, h.1 ∙ near)
 
   pub targets-same : (c d : Contents E S) → waiting_of d ≡ waiting_of c → pending_targets d ≡ pending_targets c
   targets-same c d same = targets-are d ∙ ap (ups 0) same ∙ sym (targets-are c)

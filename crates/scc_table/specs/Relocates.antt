@@ -1,10 +1,10 @@
 -- What a call does to the buckets that wait.
-use Rattle.std.specs.Prelude.{◌≡◌, ◌≢◌, ◌==◌, ℕ, ◌+◌, ◌-◌, ◌*◌, ◌<◌, ◌≤◌, ◌⊎◌, List, [], length, drop, not}
+use Rattle.std.specs.Prelude.{◌≡◌, ◌≢◌, ◌==◌, ℕ, ◌+◌, ◌-◌, ◌*◌, ◌<◌, ◌≤◌, ◌⊎◌, List, [], length, drop, not, slice_index_or}
 use Rattle.std.specs.List.{filter}
 use Rattle.scc_contents.specs.Contents.{Contents, entries, bucket_count, list_of, settings_of, waiting_of, owed_of, pending_of}
 use Rattle.scc_buckets.specs.Pour.{bound_for}
 use Rattle.scc_contents.specs.Sizes.{IsArraySize, IsSmaller}
-use Rattle.scc_table.specs.TwoArrays.{pending_targets, IsFirstWaiting, IsWaiting}
+use Rattle.scc_table.specs.TwoArrays.{pending_targets, IsWaiting}
 
 -- the numbers of the buckets that wait, once that bucket, where it waited, and then the first ones took their entries over, two in all
 abbrev pub left_after : ℕ → List ℕ → List ℕ
@@ -29,12 +29,12 @@ module _ {E S : Type 0} where
     pub waiting : (due → ⊥) → waiting_of d ≡ waiting_of c
     pub owed : (due → ⊥) → owed_of d ≡ owed_of c
 
-  -- of the buckets ts the first ones took their entries over, so many at most, and the others wait; where it were fewer, none waits, or more than 32 entries come to the first one that does
+  -- of the buckets ts the first ones took their entries over, so many at most, and the others wait; where it were fewer, none waits, or memory was refused for one of them or for the next, to which more than 32 entries come
   pub record AreMovedFrom (ts : List ℕ) (n : ℕ) (d : Contents E S) : Type 0 where
     pub count : ℕ
     pub most : count ≤ n
     pub left : pending_targets d ≡ drop count ts
-    pub stopped : count < n → (pending_targets d ≡ []) ⊎ ((i : ℕ) × (IsFirstWaiting d i) × (32 < length (list_of d i)))
+    pub stopped : count < n → (pending_targets d ≡ []) ⊎ ((k : ℕ) × (k ≤ count) × (k < length ts) × (32 < length (list_of d (slice_index_or ts k 0))))
 
   -- of the buckets that waited the first ones took their entries over, so many at most
   abbrev pub IsMovedUpTo : ℕ → Contents E S → Contents E S → Type 0

@@ -274,8 +274,8 @@ where
         placed
     }
 
-    /// Moves the entries of the first buckets that wait to them, of so many buckets. Where memory is refused for one, it
-    /// and those after it still wait.
+    /// Moves the entries of the first buckets that wait to them, of so many buckets. One whose memory is refused counts
+    /// among them, and still waits.
     #[inline(always)]
     pub(super) fn relocate_some(&mut self, most: usize)
         ensures lists { lists_of self.new ≡ lists_of self.old }
@@ -294,7 +294,7 @@ where
             }
             match self.relocate_next() {
                 Ok(()) => {}
-                Err(_) => return,
+                Err(_) => {}
             }
         }
     }

@@ -1,9 +1,10 @@
-use Rattle.std.proofs.Common.{◌≡◌, ◌∙◌, drop, refl, sym, ap, arith}
+use Rattle.std.proofs.Common.{◌≡◌, ◌≤◌, ◌∙◌, drop, refl, sym, subst, ap, arith}
+use Rattle.scc_table.specs.Relocates.{AreMovedFrom}
 use Rattle.scc_contents.specs.Contents.{pending_of, waiting_of}
 use Rattle.scc_table.proofs.Finishing.{finish-start, finish-step}
 use Rattle.scc_table.specs.TwoArrays.{pending_targets}
 use Rattle.scc_table.proofs.Joining.{waiting-together, pending-together}
-use Rattle.scc_table.proofs.SettlingLemmas.{drop-next, moved-all}
+use Rattle.scc_table.proofs.SettlingLemmas.{drop-next, moved-all, moved-most, moved-none}
 use Rattle.scc_table.proofs.Targets.{targets-first}
 use Rattle.scc_table.proofs.Table.finish.Goals as goal
 
@@ -37,4 +38,13 @@ returns-clause-moved g c =
     let t = c.self.inside in
     let a = c.args.self.now in
     let counted = ap pending_of (sym c.self.view_is) ∙ pending-together _ t.current t.waiting.items t.draining ∙ sym c.self.invariant.counted in
-    moved-all (pending_targets a) c.loop.self c.loop.counter (pending_of a) c.loop.invariant.1 (omega (arith, c.loop.invariant.0.left)) (omega (arith, c.loop.invariant.0.left, counted))
+    moved-all (pending_targets a) c.loop.self c.loop.counter (pending_of a) (moved-most (pending_targets a) c.loop.self c.loop.counter c.loop.invariant.1) (omega (arith, c.loop.invariant.0.left)) (omega (arith, c.loop.invariant.0.left, counted))
+
+pub returns-in_err-relocate_next-clause-moved : goal.returns-in_err-relocate_next-clause-moved
+returns-in_err-relocate_next-clause-moved g c =
+    let a = c.args.self.now in
+    let d = c.loop.self in
+    let long = c.in_err-relocate_next.ensures.refused in
+    let most : c.loop.counter ≤ pending_of a = omega (arith, c.loop.invariant.0.left) in
+    subst (λ z. AreMovedFrom (pending_targets a) (pending_of a) z) (sym c.in_err-relocate_next.ensures.err)
+    (moved-none (pending_targets a) d c.loop.counter (pending_of a) long.0 (moved-most (pending_targets a) d c.loop.counter c.loop.invariant.1) most long.1 long.2)

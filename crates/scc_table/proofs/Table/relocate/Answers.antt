@@ -375,7 +375,7 @@ returns-else-self-eq0-clause-bounded g c =
     let short = rw inv.skips at c.in-Ok.ensures.short in
     let was = spilled-seen hash cur ws olds c.args.self.now c.self.view_is in
     let takes = c.in-Ok.ensures.ok in
-    let owed = spilled-le olds c.take.new.old takes.count takes.overflow in
+    let left = spilled-le olds c.take.new.old takes.count takes.overflow in
     λ none few.
     let less = short (omega (arith, same, few)) in
     let zero : spilled_of c.take.new.current + spilled_in c.take.new.old ≡ 0 = omega (arith, was, less, left, none) in
