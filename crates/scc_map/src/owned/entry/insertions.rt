@@ -1,5 +1,5 @@
 //! The insertions of an entry of a borrowed map. Each goes on at the place that the search found. Where an entry is
-//! occupied, `len` is called for its contract: no two keys are equal.
+//! occupied, `look_at_map` is called for its contract: no two keys are equal.
 ghost use Rattle.std.specs.Prelude.{◌≡◌, IfOk, OnErr, IfErr};
 ghost use Rattle.std.specs.Borrow.{sem};
 ghost use Rattle.std.specs.Fn.{FnOnceTakesAt, FnOnceReturnsAt};
@@ -8,12 +8,11 @@ ghost use Rattle.scc_contents.specs.Pairs.{HasRoom, IsUnique};
 ghost use Rattle.scc_map.specs.Entries.{Memory, held_map, entry_guard, entry_key, GrowsThrough, IsVacant, OrInserts, OrInsertsSome, RefusesSome, RelocatesThrough, SetsEntry, rests_if_refused};
 
 use super::OccupiedEntry;
-use crate::held::{HeldEntry, HeldPlace, HeldVacant};
+use crate::held::HeldPlace;
 use crate::owned::Owned;
 use scc_common::InsertError;
 use scc_contents::Hashes;
 use std::hash::{BuildHasher, Hash};
-use std::marker::PhantomData;
 
 impl<'a, K: Eq + Hash, V, H: BuildHasher> HeldPlace<&'a mut Owned<K, V, H>, (), K, V, H> {
     /// Inserts `default` where the entry is vacant, and answers the occupied entry. An occupied one stays as it is, and
@@ -36,39 +35,11 @@ impl<'a, K: Eq + Hash, V, H: BuildHasher> HeldPlace<&'a mut Owned<K, V, H>, (), 
     {
         match self {
             HeldPlace::Occupied(entry) => {
-                let HeldEntry {
-                    guard,
-                    place,
-                    rest,
-                    of,
-                } = entry;
                 drop(default);
-                let _ = guard.len();
-                Ok(HeldEntry {
-                    guard,
-                    place,
-                    rest,
-                    of,
-                })
+                entry.look_at_map();
+                Ok(entry)
             }
-            HeldPlace::Vacant(entry) => {
-                let HeldVacant {
-                    guard,
-                    key,
-                    hash,
-                    rest,
-                    of: _,
-                } = entry;
-                match guard.insert_new(hash, key, default) {
-                    Ok(place) => Ok(HeldEntry {
-                        guard,
-                        place,
-                        rest,
-                        of: PhantomData,
-                    }),
-                    Err(pair) => Err(InsertError::Memory(pair)),
-                }
-            }
+            HeldPlace::Vacant(entry) => entry.insert_entry(default),
         }
     }
 
@@ -94,38 +65,12 @@ impl<'a, K: Eq + Hash, V, H: BuildHasher> HeldPlace<&'a mut Owned<K, V, H>, (), 
     {
         match self {
             HeldPlace::Occupied(entry) => {
-                let HeldEntry {
-                    guard,
-                    place,
-                    rest,
-                    of,
-                } = entry;
-                let _ = guard.len();
-                Ok(HeldEntry {
-                    guard,
-                    place,
-                    rest,
-                    of,
-                })
+                entry.look_at_map();
+                Ok(entry)
             }
             HeldPlace::Vacant(entry) => {
-                let HeldVacant {
-                    guard,
-                    key,
-                    hash,
-                    rest,
-                    of: _,
-                } = entry;
                 let value = f();
-                match guard.insert_new(hash, key, value) {
-                    Ok(place) => Ok(HeldEntry {
-                        guard,
-                        place,
-                        rest,
-                        of: PhantomData,
-                    }),
-                    Err(pair) => Err(InsertError::Memory(pair)),
-                }
+                entry.insert_entry(value)
             }
         }
     }
@@ -152,38 +97,12 @@ impl<'a, K: Eq + Hash, V, H: BuildHasher> HeldPlace<&'a mut Owned<K, V, H>, (), 
     {
         match self {
             HeldPlace::Occupied(entry) => {
-                let HeldEntry {
-                    guard,
-                    place,
-                    rest,
-                    of,
-                } = entry;
-                let _ = guard.len();
-                Ok(HeldEntry {
-                    guard,
-                    place,
-                    rest,
-                    of,
-                })
+                entry.look_at_map();
+                Ok(entry)
             }
             HeldPlace::Vacant(entry) => {
-                let HeldVacant {
-                    guard,
-                    key,
-                    hash,
-                    rest,
-                    of: _,
-                } = entry;
-                let value = f(&key);
-                match guard.insert_new(hash, key, value) {
-                    Ok(place) => Ok(HeldEntry {
-                        guard,
-                        place,
-                        rest,
-                        of: PhantomData,
-                    }),
-                    Err(pair) => Err(InsertError::Memory(pair)),
-                }
+                let value = f(entry.key());
+                entry.insert_entry(value)
             }
         }
     }
@@ -207,38 +126,12 @@ impl<'a, K: Eq + Hash, V, H: BuildHasher> HeldPlace<&'a mut Owned<K, V, H>, (), 
     {
         match self {
             HeldPlace::Occupied(entry) => {
-                let HeldEntry {
-                    guard,
-                    place,
-                    rest,
-                    of,
-                } = entry;
-                let _ = guard.len();
-                Ok(HeldEntry {
-                    guard,
-                    place,
-                    rest,
-                    of,
-                })
+                entry.look_at_map();
+                Ok(entry)
             }
             HeldPlace::Vacant(entry) => {
-                let HeldVacant {
-                    guard,
-                    key,
-                    hash,
-                    rest,
-                    of: _,
-                } = entry;
                 let value = V::default();
-                match guard.insert_new(hash, key, value) {
-                    Ok(place) => Ok(HeldEntry {
-                        guard,
-                        place,
-                        rest,
-                        of: PhantomData,
-                    }),
-                    Err(pair) => Err(InsertError::Memory(pair)),
-                }
+                entry.insert_entry(value)
             }
         }
     }
@@ -262,38 +155,11 @@ impl<'a, K: Eq + Hash, V, H: BuildHasher> HeldPlace<&'a mut Owned<K, V, H>, (), 
     {
         match self {
             HeldPlace::Occupied(entry) => {
-                let HeldEntry {
-                    guard,
-                    place,
-                    rest,
-                    of,
-                } = entry;
-                let _old = guard.write_at(place, value);
-                Ok(HeldEntry {
-                    guard,
-                    place,
-                    rest,
-                    of,
-                })
+                let mut entry = entry;
+                let _old = entry.insert(value);
+                Ok(entry)
             }
-            HeldPlace::Vacant(entry) => {
-                let HeldVacant {
-                    guard,
-                    key,
-                    hash,
-                    rest,
-                    of: _,
-                } = entry;
-                match guard.insert_new(hash, key, value) {
-                    Ok(place) => Ok(HeldEntry {
-                        guard,
-                        place,
-                        rest,
-                        of: PhantomData,
-                    }),
-                    Err(pair) => Err(InsertError::Memory(pair)),
-                }
-            }
+            HeldPlace::Vacant(entry) => entry.insert_entry(value),
         }
     }
 }
