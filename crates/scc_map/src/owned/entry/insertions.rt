@@ -1,5 +1,5 @@
 //! The insertions of an entry of a borrowed map. Each goes on at the place that the search found. Where an entry is
-//! occupied, `look_at_map` is called for its contract: no two keys are equal.
+//! occupied, `len` is called for its contract: no two keys are equal.
 ghost use Rattle.std.specs.Prelude.{◌≡◌, IfOk, OnErr, IfErr};
 ghost use Rattle.std.specs.Borrow.{sem};
 ghost use Rattle.std.specs.Fn.{FnOnceTakesAt, FnOnceReturnsAt};
@@ -8,11 +8,12 @@ ghost use Rattle.scc_contents.specs.Pairs.{HasRoom, IsUnique};
 ghost use Rattle.scc_map.specs.Entries.{Memory, held_map, entry_guard, entry_key, GrowsThrough, IsVacant, OrInserts, OrInsertsSome, RefusesSome, RelocatesThrough, SetsEntry, rests_if_refused};
 
 use super::OccupiedEntry;
-use crate::held::HeldPlace;
+use crate::held::{HeldEntry, HeldPlace, HeldVacant};
 use crate::owned::Owned;
 use scc_common::InsertError;
 use scc_contents::Hashes;
 use std::hash::{BuildHasher, Hash};
+use std::marker::PhantomData;
 
 impl<'a, K: Eq + Hash, V, H: BuildHasher> HeldPlace<&'a mut Owned<K, V, H>, (), K, V, H> {
     /// Inserts `default` where the entry is vacant, and answers the occupied entry. An occupied one stays as it is, and
@@ -33,14 +34,11 @@ impl<'a, K: Eq + Hash, V, H: BuildHasher> HeldPlace<&'a mut Owned<K, V, H>, (), 
         ensures* kept { sem 𝓛 (rests_if_refused K.row V.row H.row H.Hasher.row K.Hash H.BuildHasher H.Hasher.Hasher
             (entry_guard self.entry) (entry_key self.entry) result) }
     {
-        match self {
-            HeldPlace::Occupied(entry) => {
-                drop(default);
-                entry.look_at_map();
-                Ok(entry)
-            }
-            HeldPlace::Vacant(entry) => entry.insert_entry(default),
-        }
+        self.or_insert_with_key(
+            move |_key: &K| -> V
+                ensures { result ≡ default }
+            { default },
+        )
     }
 
     /// Inserts the answer of `f` where the entry is vacant, and answers the occupied entry. `f` isn't called on an
@@ -63,16 +61,12 @@ impl<'a, K: Eq + Hash, V, H: BuildHasher> HeldPlace<&'a mut Owned<K, V, H>, (), 
         ensures* kept { sem 𝓛 (rests_if_refused K.row V.row H.row H.Hasher.row K.Hash H.BuildHasher H.Hasher.Hasher
             (entry_guard self.entry) (entry_key self.entry) result) }
     {
-        match self {
-            HeldPlace::Occupied(entry) => {
-                entry.look_at_map();
-                Ok(entry)
-            }
-            HeldPlace::Vacant(entry) => {
-                let value = f();
-                entry.insert_entry(value)
-            }
-        }
+        self.or_insert_with_key(
+            move |_key: &K| -> V
+                requires { F.pre f }
+                ensures { F.post f result }
+            { f() },
+        )
     }
 
     /// Inserts the answer of `f` on the key where the entry is vacant, and answers the occupied entry. `f` isn't called
@@ -97,12 +91,38 @@ impl<'a, K: Eq + Hash, V, H: BuildHasher> HeldPlace<&'a mut Owned<K, V, H>, (), 
     {
         match self {
             HeldPlace::Occupied(entry) => {
-                entry.look_at_map();
-                Ok(entry)
+                let HeldEntry {
+                    guard,
+                    place,
+                    rest,
+                    of,
+                } = entry;
+                let _ = guard.len();
+                Ok(HeldEntry {
+                    guard,
+                    place,
+                    rest,
+                    of,
+                })
             }
             HeldPlace::Vacant(entry) => {
-                let value = f(entry.key());
-                entry.insert_entry(value)
+                let HeldVacant {
+                    guard,
+                    key,
+                    hash,
+                    rest,
+                    of: _,
+                } = entry;
+                let value = f(&key);
+                match guard.insert_new(hash, key, value) {
+                    Ok(place) => Ok(HeldEntry {
+                        guard,
+                        place,
+                        rest,
+                        of: PhantomData,
+                    }),
+                    Err(pair) => Err(InsertError::Memory(pair)),
+                }
             }
         }
     }
@@ -124,16 +144,11 @@ impl<'a, K: Eq + Hash, V, H: BuildHasher> HeldPlace<&'a mut Owned<K, V, H>, (), 
         ensures* kept { sem 𝓛 (rests_if_refused K.row V.row H.row H.Hasher.row K.Hash H.BuildHasher H.Hasher.Hasher
             (entry_guard self.entry) (entry_key self.entry) result) }
     {
-        match self {
-            HeldPlace::Occupied(entry) => {
-                entry.look_at_map();
-                Ok(entry)
-            }
-            HeldPlace::Vacant(entry) => {
-                let value = V::default();
-                entry.insert_entry(value)
-            }
-        }
+        self.or_insert_with_key(
+            move |_key: &K| -> V
+                ensures { V.is_default result }
+            { V::default() },
+        )
     }
 
     /// Sets the value of an occupied entry, which keeps its key; inserts it at a vacant one. It answers the entry.
@@ -155,11 +170,38 @@ impl<'a, K: Eq + Hash, V, H: BuildHasher> HeldPlace<&'a mut Owned<K, V, H>, (), 
     {
         match self {
             HeldPlace::Occupied(entry) => {
-                let mut entry = entry;
-                let _old = entry.insert(value);
-                Ok(entry)
+                let HeldEntry {
+                    guard,
+                    place,
+                    rest,
+                    of,
+                } = entry;
+                let _old = guard.write_at(place, value);
+                Ok(HeldEntry {
+                    guard,
+                    place,
+                    rest,
+                    of,
+                })
             }
-            HeldPlace::Vacant(entry) => entry.insert_entry(value),
+            HeldPlace::Vacant(entry) => {
+                let HeldVacant {
+                    guard,
+                    key,
+                    hash,
+                    rest,
+                    of: _,
+                } = entry;
+                match guard.insert_new(hash, key, value) {
+                    Ok(place) => Ok(HeldEntry {
+                        guard,
+                        place,
+                        rest,
+                        of: PhantomData,
+                    }),
+                    Err(pair) => Err(InsertError::Memory(pair)),
+                }
+            }
         }
     }
 }

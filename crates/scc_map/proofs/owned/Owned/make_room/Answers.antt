@@ -1,4 +1,4 @@
-use Rattle.std.proofs.Common.{refl, rules, subst, ℕ, ◌≡◌}
+use Rattle.std.proofs.Common.{rules, subst, ℕ, ◌≡◌}
 use Rattle.scc_contents.specs.Contents.{Contents, entries}
 use Rattle.scc_contents.specs.Steps.{MakesRoom}
 use Rattle.scc_buckets.proofs.Lookups.{find-position, find-position_none}

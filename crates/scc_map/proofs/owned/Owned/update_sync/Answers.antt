@@ -1,6 +1,4 @@
-use Rattle.std.proofs.Common.{◌≡◌, ◌∙◌, Some, sym, ap}
-use Rattle.scc_contents.specs.Contents.{Contents, entries}
-use Rattle.scc_contents.specs.Pairs.{find}
+use Rattle.std.proofs.Common.{◌∙◌, Some, sym, ap}
 use Rattle.scc_map.proofs.Updating.{updated-step, updated-finds, updated-missing, updated-noted, updated-waiting, updated-unique}
 use Rattle.scc_map.proofs.owned.Owned.update_sync.Goals as goal
 

@@ -1,22 +1,19 @@
 use Rattle.std.proofs.Common.{refl}
-use Rattle.scc_map.proofs.Entries.{both-ok, map-ok, map-err}
+use Rattle.scc_map.proofs.Entries.{inserts-some, refuses-some}
 use Rattle.scc_map.proofs.owned.entry.insertions.HeldPlace+mut+Owned+K+V+H+unit+K+V+H.or_default.Goals as goal
 
-pub returns-in-Occupied : goal.returns-in-Occupied
-returns-in-Occupied g c =
-    ((refl, λ w. refl, tt), record { entry = rw c.in-Occupied.is refl; refused = tt; vacant = tt; full = tt; growth = rw c.in-Occupied.is tt; relocates = rw c.in-Occupied.is refl; unique = c.look_at_map.ensures; kept = tt })
-
-pub returns-in-Vacant : goal.returns-in-Vacant
-returns-in-Vacant g c = (
-  (refl, λ w. refl, tt),
-  record {
-    entry = rw c.in-Vacant.is (map-ok _ _ c.insert_entry.result (λ o i. (c.default-value.result, c.default-value.ensures, i)) c.insert_entry.ensures.inserted);
-    refused = rw c.in-Vacant.is (map-err _ _ c.insert_entry.result (λ e i. (c.default-value.result, c.default-value.ensures, i)) c.insert_entry.ensures.refused);
-    vacant = rw c.in-Vacant.is tt;
-    full = rw c.in-Vacant.is c.insert_entry.ensures.full;
-    growth = rw c.in-Vacant.is c.insert_entry.ensures.growth;
-    relocates = rw c.in-Vacant.is (both-ok _ _ c.insert_entry.result c.insert_entry.ensures.relocates c.insert_entry.ensures.two);
-    unique = c.insert_entry.ensures.unique;
-    kept = tt;
-  },
-)
+pub returns : goal.returns
+returns g c =
+    let done = c.or_insert_with_key.ensures in (
+      (refl, c.or_insert_with_key.follows.holds, c.or_insert_with_key.follows.holds-at-none),
+      record {
+        entry = inserts-some c.args.self c.or_insert_with_key.result done.entry (λ k v put. put.1);
+        refused = refuses-some c.args.self c.or_insert_with_key.result done.refused (λ v put. put.1);
+        vacant = done.vacant;
+        full = done.full;
+        growth = done.growth;
+        relocates = done.relocates;
+        unique = done.unique;
+        kept = tt;
+      },
+    )

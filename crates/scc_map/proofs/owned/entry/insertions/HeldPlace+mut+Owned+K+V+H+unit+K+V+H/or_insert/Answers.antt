@@ -1,9 +1,19 @@
 use Rattle.std.proofs.Common.{refl}
-use Rattle.scc_map.proofs.Entries.{both-ok}
+use Rattle.scc_map.proofs.Entries.{inserts-this, refuses-this}
 use Rattle.scc_map.proofs.owned.entry.insertions.HeldPlace+mut+Owned+K+V+H+unit+K+V+H.or_insert.Goals as goal
 
-pub returns-in-Occupied : goal.returns-in-Occupied
-returns-in-Occupied g c = ?
-
-pub returns-in-Vacant : goal.returns-in-Vacant
-returns-in-Vacant g c = ?
+pub returns : goal.returns
+returns g c =
+    let done = c.or_insert_with_key.ensures in (
+      (refl, c.or_insert_with_key.follows.holds, c.or_insert_with_key.follows.holds-at-none),
+      record {
+        entry = inserts-this c.args.self c.or_insert_with_key.result done.entry (λ k v put. put.1);
+        refused = refuses-this c.args.self c.or_insert_with_key.result done.refused (λ v put. put.1);
+        vacant = done.vacant;
+        full = done.full;
+        growth = done.growth;
+        relocates = done.relocates;
+        unique = done.unique;
+        kept = tt;
+      },
+    )

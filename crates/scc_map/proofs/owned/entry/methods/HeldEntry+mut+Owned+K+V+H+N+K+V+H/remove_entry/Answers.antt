@@ -1,4 +1,4 @@
-use Rattle.std.proofs.Common.{refl, rules}
+use Rattle.std.proofs.Common.{refl}
 use Rattle.scc_buckets.specs.Placed as spots
 use Rattle.scc_map.proofs.Entries.{pair-is}
 use Rattle.scc_map.proofs.owned.entry.methods.HeldEntry+mut+Owned+K+V+H+N+K+V+H.remove_entry.Goals as goal
