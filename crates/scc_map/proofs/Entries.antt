@@ -1,5 +1,5 @@
 -- What an entry shows, under any guard.
-use Rattle.std.proofs.Common.{◌≡◌, List, Bool, Some, Result, Ok, Err, refl, sym, ap, subst, ◌∙◌}
+use Rattle.std.proofs.Common.{◌≡◌, Bool, Some, Result, Ok, Err, refl, sym, ap, subst, ◌∙◌}
 use Rattle.std.specs.Prelude.{IfOk, IfErr}
 use Rattle.std.specs.Cmp.{IsEquivalence}
 use Rattle.std.specs.List.{IsDistinct, slice_get}
@@ -11,18 +11,19 @@ use Rattle.std.specs.declared.hash.BuildHasher as builder
 use Rattle.scc_contents.specs.Contents.{Contents, entries, waiting_of}
 use Rattle.scc_contents.specs.Pairs.{with_pair_value}
 use Rattle.scc_buckets.specs.Placed as spots
-use Rattle.scc_table.specs.Placed.{entry_of}
 use Rattle.scc_table.specs.Places.{IsPlace, IsFoundAt, IsInsertedAt, index_of}
 use Rattle.scc_table.specs.Places.{with_write_at}
 use Rattle.scc_buckets.specs.declared.place.Place.{Place}
+use Rattle.scc_common.specs.declared.errors.InsertError.{InsertError}
 use Rattle.scc_common.specs.declared.guard.Guard as guard
 use Rattle.scc_table.proofs.AtPlaces.{place-found}
 use Rattle.scc_buckets.proofs.PairSplits.{set_value-at, without-at}
 use Rattle.scc_buckets.proofs.PairWrites.{IsPlaceOf}
 use Rattle.scc_table.proofs.AtPlaces.{place-prop, entry_of-is, written-there, put-there}
 use Rattle.scc_table.proofs.Relocations.{waiting-write}
-use Rattle.scc_map.specs.Entries.{occupied_pair, occupied_front, occupied_back, IsOccupiedAt, IsWritten, IsInserted, written_map, still_within, with_value}
+use Rattle.scc_map.specs.Entries.{Occupied, Vacant, Memory, entry_key, occupied_pair, IsOccupiedAt, IsWritten, IsInserted, OrInserts, OrInsertsSome, written_map, still_within, with_value}
 use Rattle.scc_map.specs.declared.held.HeldEntry.{HeldEntry}
+use Rattle.scc_map.specs.declared.held.HeldPlace.{HeldPlace}
 use Rattle.scc_map.specs.declared.held.HeldVacant.{HeldVacant}
 
 -- the same buckets wait once a value was written
@@ -97,6 +98,27 @@ module _ {G N K V S T : Type 0} {d : guard.Ghosts G (Contents (K × V) S)} {g : 
   -- an entry that is made anew of its parts
   pub same-entry : (o : HeldEntry G N K V S T d g h b w) (p : IsPlace (d.kept o.guard) o.place) → record o { within = p } ≡ o
   same-entry o p = ap (λ r. record o { within = r }) (place-prop (d.kept o.guard) o.place p o.within)
+
+  -- what an insertion put in, said with a weaker word
+  pub inserts-some : {X : Type 0} {P Q : K → V → Type 0} (e : HeldPlace G N K V S T d g h b w) (r : Result (HeldEntry G N K V S T d g h b w) X) → IfOk r (OrInsertsSome e P) → ((k : K) (v : V) → P k v → Q k v) → IfOk r (OrInsertsSome e Q)
+  inserts-some (Occupied p) (Ok o) i f = i
+  inserts-some (Vacant e) (Ok o) i f = (i.0, f e.key i.0 i.1, i.2)
+  inserts-some e (Err x) i f = tt
+
+  -- and where one value alone may be put in
+  pub inserts-this : {X : Type 0} {P : K → V → Type 0} {x : V} (e : HeldPlace G N K V S T d g h b w) (r : Result (HeldEntry G N K V S T d g h b w) X) → IfOk r (OrInsertsSome e P) → ((k : K) (v : V) → P k v → v ≡ x) → IfOk r (OrInserts e x)
+  inserts-this (Occupied p) (Ok o) i f = i
+  inserts-this (Vacant e) (Ok o) i f = subst (λ v. IsInserted e v o) (f e.key i.0 i.1) i.2
+  inserts-this e (Err x) i f = tt
+
+  -- the same of what a refusal gives back
+  pub refuses-some : {A : Type 0} {P Q : V → Type 0} (e : HeldPlace G N K V S T d g h b w) (r : Result A (InsertError K V)) → IfErr r (λ y. (v : V) × P v × (y ≡ Memory (entry_key e, v))) → ((v : V) → P v → Q v) → IfErr r (λ y. (v : V) × Q v × (y ≡ Memory (entry_key e, v)))
+  refuses-some e (Ok a) i f = tt
+  refuses-some e (Err y) i f = (i.0, f i.0 i.1, i.2)
+
+  pub refuses-this : {A : Type 0} {P : V → Type 0} {x : V} (e : HeldPlace G N K V S T d g h b w) (r : Result A (InsertError K V)) → IfErr r (λ y. (v : V) × P v × (y ≡ Memory (entry_key e, v))) → ((v : V) → P v → v ≡ x) → IfErr r (λ y. y ≡ Memory (entry_key e, x))
+  refuses-this e (Ok a) i f = tt
+  refuses-this e (Err y) i f = subst (λ v. y ≡ Memory (entry_key e, v)) (f i.0 i.1) i.2
 
 pub both-ok : {A B : Type 0} (P Q : A → Type 0) (r : Result A B) → IfOk r P → IfOk r Q → IfOk r (λ a. P a × Q a)
 both-ok P Q (Ok a) p q = (p, q)

@@ -1,5 +1,5 @@
 -- Entries that stand one after another, under any guard.
-use Rattle.std.proofs.Common.{◌≡◌, ◌∙◌, ℕ, suc, List, [], ◌∷◌, refl, ap}
+use Rattle.std.proofs.Common.{◌≡◌, ◌∙◌, suc, [], ◌∷◌, refl}
 use Rattle.std.specs.List.{remove}
 use Rattle.std.specs.declared.cmp.PartialEq as eq
 use Rattle.std.specs.declared.hash.Hash as hash

@@ -5,7 +5,6 @@ use Rattle.std.specs.Cmp.{IsEquivalence}
 use Rattle.std.specs.Fn.{Once}
 use Rattle.std.specs.Map.{set_value}
 use Rattle.std.specs.Prelude.{IfSome, IfNone}
-use Rattle.scc_table.specs.Places.{with_write_at}
 use Rattle.scc_table.specs.Updates.{UpdatesFirst}
 use Rattle.scc_table.proofs.AtPlaces.{noted-write, place-found, value-written, value-unique}
 use Rattle.scc_table.proofs.Relocations.{waiting-write}
@@ -14,7 +13,6 @@ use Rattle.scc_map.proofs.CallerLemmas.{finds-set_value}
 use Rattle.scc_contents.specs.Contents.{Contents, bucket_count, entries, refused_of, settings_of, waiting_of}
 use Rattle.scc_contents.specs.Pairs.{find, FindsInstead, IsUnique, with_pair_value}
 use Rattle.scc_contents.specs.Steps.{HoldsExactly}
-use Rattle.scc_buckets.specs.declared.place.Place.{Place}
 use Rattle.scc_buckets.proofs.Lookups.{find-position_none}
 use Rattle.scc_contents.specs.Closures.{WritesAt}
 

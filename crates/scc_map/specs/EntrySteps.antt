@@ -1,17 +1,19 @@
 -- Which entries of a list an occupied entry stands between, and which stands next.
-use Rattle.std.specs.Prelude.{◌≡◌, ◌++◌, Result}
+use Rattle.std.specs.Prelude.{◌≡◌, ◌≢◌, ◌++◌, Bool, Result, length}
 use Rattle.std.specs.Borrow.{Fml, RattleType, MutBor, RestsIfErr}
 use Rattle.std.specs.HashMap.Lent.{HashMembers}
 use Rattle.std.specs.declared.cmp.PartialEq as eq
 use Rattle.std.specs.declared.hash.Hash as hash
 use Rattle.std.specs.declared.hash.Hasher as hasher
 use Rattle.std.specs.declared.hash.BuildHasher as builder
-use Rattle.scc_contents.specs.Contents.{Contents, refused_of, waiting_of}
+use Rattle.scc_contents.specs.Contents.{Contents, entries, bucket_count, minimum_of, refused_of, waiting_of}
 use Rattle.scc_contents.specs.Pairs.{IsUnique}
 use Rattle.scc_table.specs.Placed.{SplitsAt, IsNextAt, IsNextPastRemovedAt}
-use Rattle.scc_contents.specs.Steps.{HoldsExactly}
+use Rattle.scc_contents.specs.Sizes.{IsSmaller}
+use Rattle.scc_contents.specs.Steps.{Holds, HoldsExactly, ShrinksWhenDue}
+use Rattle.scc_table.specs.Relocations.{RelocatesNone}
 use Rattle.scc_common.specs.declared.guard.Guard as guard
-use Rattle.scc_map.specs.Entries.{occupied_front, occupied_back, Borrowed}
+use Rattle.scc_map.specs.Entries.{held_map, occupied_pair, occupied_front, occupied_back, Borrowed}
 use Rattle.scc_map.specs.Lends.{map_row}
 use Rattle.scc_map.specs.declared.held.HeldEntry.{HeldEntry}
 
@@ -30,6 +32,36 @@ module _ {G N K V S T : Type 0} {d : guard.Ghosts G (Contents (K × V) S)} {g : 
   pub record IsNextPastRemoved (o p : HeldEntry G N K V S T d g h b w) : Type 0 where
     pub same_guard : p.guard ≡ d.keeping o.guard (d.kept p.guard)
     pub at : IsNextPastRemovedAt (d.kept o.guard) o.place (d.kept p.guard) p.place p.within
+
+  -- what `remove_entry` of the entry o, answered so, leaves
+  pub record RemovesEntryByRule (same : K → K → Bool) (o : HeldEntry G N K V S T d g h b w) (result : K × V) (n : Contents (K × V) S) : Type 0 where
+    -- the answer is the pair of the entry
+    pub pair : result ≡ occupied_pair o
+    -- the others stay
+    pub removed : Holds (held_map o) (occupied_front o ++ occupied_back o) n
+    -- the number of buckets changes only by a shrink of the size that the pairs and the minimum name
+    pub smaller : bucket_count n ≢ bucket_count (held_map o) → IsSmaller (minimum_of (held_map o)) (length (entries n)) (bucket_count (held_map o)) (bucket_count n)
+    -- a shrink that is due comes, unless memory for it was refused
+    pub due : ShrinksWhenDue (held_map o) n
+    -- no bucket takes its entries over
+    pub relocates : RelocatesNone (held_map o) n
+    -- no two keys are equal
+    pub unique : IsUnique same n
+
+  -- what `remove` of the entry o, answered so, leaves
+  pub record RemovesValueByRule (same : K → K → Bool) (o : HeldEntry G N K V S T d g h b w) (result : V) (n : Contents (K × V) S) : Type 0 where
+    -- the answer is the value of the entry
+    pub value : result ≡ (occupied_pair o).1
+    -- the others stay
+    pub removed : Holds (held_map o) (occupied_front o ++ occupied_back o) n
+    -- the number of buckets changes only by a shrink of the size that the pairs and the minimum name
+    pub smaller : bucket_count n ≢ bucket_count (held_map o) → IsSmaller (minimum_of (held_map o)) (length (entries n)) (bucket_count (held_map o)) (bucket_count n)
+    -- a shrink that is due comes, unless memory for it was refused
+    pub due : ShrinksWhenDue (held_map o) n
+    -- no bucket takes its entries over
+    pub relocates : RelocatesNone (held_map o) n
+    -- no two keys are equal
+    pub unique : IsUnique same n
 
 module _ (K V S T : RattleType) (key : HashMembers K.Denot) (build : builder.Ghosts S.Denot T.Denot) (feed : hasher.Ghosts T.Denot) where
   -- where r has no entry, the map behind o is left with the other pairs in their order, and the note of refused memory and what waits as they were

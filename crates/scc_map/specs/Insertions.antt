@@ -1,9 +1,11 @@
 -- What an insertion does to a map and to its array, in one word a call.
-use Rattle.std.specs.Prelude.{◌≡◌, ℕ, Bool, true, None, Option, Some, Result, IsSome, IsOk}
+use Rattle.std.specs.Prelude.{◌≡◌, ℕ, Bool, true, None, Option, Some, Result, IsSome, IsOk, IfOk, IfErr}
 use Rattle.std.specs.Result.{OnOk, OnErr}
 use Rattle.scc_contents.specs.Contents.{Contents, entries, bucket_count, settings_of, refused_of, waiting_of}
 use Rattle.scc_contents.specs.Pairs.{find, FindsInstead, HasRoom, IsUnique}
-use Rattle.scc_contents.specs.Steps.{FirstArrayWhenDue, Grows, GrowsWhenDue, IsReadyFor}
+use Rattle.scc_contents.specs.Steps.{FirstArrayWhenDue, Grows, GrowsFor, GrowsWhenDue, IsReadyFor, IsUnchanged, MakesRoom, Rests}
+use Rattle.scc_buckets.specs.declared.place.Place.{Place}
+use Rattle.scc_table.specs.Places.{IsInsertedAt}
 use Rattle.scc_table.specs.Relocations.{Relocates, RelocatesTwo}
 use Rattle.scc_map.specs.MapSteps.{Inserts, Upserts}
 use Rattle.scc_common.specs.declared.errors.InsertError.{InsertError}
@@ -68,5 +70,41 @@ module _ {K V S : Type 0} (eq : K → K → Bool) (hash_of : S → K → ℕ) wh
     pub two : find eq (entries c) p.0 ≡ None → OnOk result (RelocatesTwo (hash_of (settings_of c).hasher p.0) c d)
     -- a key that is there relocates none
     pub waiting : IsSome (find eq (entries c) p.0) → waiting_of d ≡ waiting_of c
+    -- no two keys are equal
+    pub unique : IsUnique eq d
+
+  -- what `insert_new` of the pair p, whose key is new, answered so, does to the pairs and to the array
+  pub record InsertsNewByRule (c : Contents (K × V) S) (p : K × V) (result : Result Place (K × V)) (d : Contents (K × V) S) : Type 0 where
+    -- the pair is put in, and the place is its place
+    pub ok : IfOk result (IsInsertedAt c p d)
+    -- refused, it comes back
+    pub refused : IfErr result (λ q. q ≡ p)
+    -- and nothing changed but for one resize
+    pub rests : OnErr result (Rests c d)
+    -- it is refused only where the key's bucket has no room
+    pub full : OnErr result (HasRoom (hash_of (settings_of c).hasher) c p.0 → ⊥)
+    -- the array grows as an insertion of the key may and has to
+    pub grows : GrowsFor (hash_of (settings_of c).hasher) (λ q. q.0) c p.0 d
+    -- the first array has the size of the minimum
+    pub first : OnOk result (FirstArrayWhenDue c d)
+    -- two buckets at most are relocated
+    pub relocates : Relocates c d
+    -- and two exactly, the key's own first, where none of them is long
+    pub two : OnOk result (RelocatesTwo (hash_of (settings_of c).hasher p.0) c d)
+    -- no two keys are equal
+    pub unique : IsUnique eq d
+
+  -- what `make_room` for the key k, answered so, does to the array
+  pub record MakesRoomByRule {R : Type 0} (c : Contents (K × V) S) (k : K) (result : Result (Unit {0}) R) (d : Contents (K × V) S) : Type 0 where
+    -- a key that is there wants nothing
+    pub present : IsSome (find eq (entries c) k) → IsOk result × (d ≡ c)
+    -- for a new key all is made that its insertion wants
+    pub ok : find eq (entries c) k ≡ None → OnOk result (MakesRoom (hash_of (settings_of c).hasher) (λ p. p.0) c (hash_of (settings_of c).hasher k) d)
+    -- it is refused only for a new key where there is no array
+    pub err : OnErr result ((find eq (entries c) k ≡ None) × (bucket_count c ≡ 0))
+    -- and then nothing changes
+    pub same : OnErr result (IsUnchanged c d)
+    -- the settings stay
+    pub settings : settings_of d ≡ settings_of c
     -- no two keys are equal
     pub unique : IsUnique eq d

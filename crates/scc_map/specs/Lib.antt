@@ -7,4 +7,5 @@ pub mod Lends
 pub mod MapSizes
 pub mod MapSteps
 pub mod Removals
+pub mod Shrinking
 pub mod Sinks

@@ -1,7 +1,9 @@
 -- What the calls about sizes do to a container. Each relation goes by the reply.
-use Rattle.std.specs.Prelude.{◌≡◌, ℕ, ◌+◌, ◌^◌, ◌<◌, ◌≤◌, Option, None, Some, Result, Ok, Err}
-use Rattle.scc_contents.specs.Contents.{Contents, settings_of, minimum_of}
-use Rattle.scc_contents.specs.Steps.{IsUnchanged, Releases, Reserves}
+use Rattle.std.specs.Prelude.{◌≡◌, ℕ, ◌+◌, ◌^◌, ◌<◌, ◌≤◌, ◌↔◌, Option, None, Some, Result, Ok, Err, IsSome, IsOk, IfNone, OnSome}
+use Rattle.std.specs.Result.{OnOk, OnErr}
+use Rattle.scc_contents.specs.Contents.{Contents, settings_of, minimum_of, refused_of, waiting_of}
+use Rattle.scc_contents.specs.Steps.{IsUnchanged, ReachesMinimumWhenDue, Releases, Reserves, ShrinksWhenDue}
+use Rattle.scc_table.specs.Relocates.{IsGrowthDue, IsShrinkDue, Spreads}
 
 module _ {E S : Type 0} where
   -- a reservation of n slots: the token stands for n; it is refused where n is 0 or the minimum would pass the greatest capacity
@@ -13,3 +15,38 @@ module _ {E S : Type 0} where
   abbrev pub ReleasesOrRefuses : ℕ → Contents E S → Result (Unit {0}) ℕ → Contents E S → Type 0
   ReleasesOrRefuses n c (Ok _) d = (n ≤ (settings_of c).reserved) × Releases n c d
   ReleasesOrRefuses n c (Err r) d = (r ≡ n) × ((settings_of c).reserved < n) × IsUnchanged c d
+
+module _ {E S : Type 0} (Distinct : Contents E S → Type 0) where
+  -- what `reserve` of n slots, answered so, does to the minimum and to the array
+  pub record ReservesByRule (n : ℕ) (c : Contents E S) (result : Option ℕ) (d : Contents E S) : Type 0 where
+    -- a token for n slots, by which the minimum is raised; or nothing changes
+    pub step : ReservesOrRefuses n c result d
+    -- it succeeds for one slot or more, up to the greatest capacity
+    pub succeeds : IsSome result ↔ ((0 < n) × (minimum_of c + n ≤ 2 ^ 63))
+    -- an array with fewer slots than the new minimum gets the size of it, unless memory was refused
+    pub due : OnSome result (ReachesMinimumWhenDue c d)
+    -- the note of refused memory stays where there is no token
+    pub noted : IfNone result (refused_of d ≡ refused_of c)
+    -- where the array grew all buckets wait; else some of those that waited
+    pub spreads : OnSome result (Spreads (IsGrowthDue (minimum_of d) c) c d)
+    -- the same buckets wait where there is no token
+    pub waiting : IfNone result (waiting_of d ≡ waiting_of c)
+    -- no two keys are equal
+    pub unique : Distinct d
+
+  -- what `release` of a token for n slots, answered so, does to the minimum and to the array
+  pub record ReleasesByRule (n : ℕ) (c : Contents E S) (result : Result (Unit {0}) ℕ) (d : Contents E S) : Type 0 where
+    -- the minimum is lowered by n slots; or the token comes back, and nothing changes
+    pub step : ReleasesOrRefuses n c result d
+    -- it succeeds for no more slots than what is reserved
+    pub succeeds : IsOk result ↔ (n ≤ (settings_of c).reserved)
+    -- a shrink that is then due comes, unless memory was refused
+    pub due : OnOk result (ShrinksWhenDue c d)
+    -- the note of refused memory stays where the token comes back
+    pub noted : OnErr result (refused_of d ≡ refused_of c)
+    -- where the array shrank all buckets wait; else some of those that waited
+    pub spreads : OnOk result (Spreads (IsShrinkDue (minimum_of d) c) c d)
+    -- the same buckets wait where the token comes back
+    pub waiting : OnErr result (waiting_of d ≡ waiting_of c)
+    -- no two keys are equal
+    pub unique : Distinct d

@@ -1,24 +1,23 @@
 //! The map for one owner: every call that changes it takes `&mut self`.
-ghost use Rattle.std.specs.Prelude.{◌≡◌, ◌≢◌, ◌<◌, ◌*◌, ◌≤◌, ◌↔◌, List, [], length, Some, None, IsTrue, IsSome, IsOk, IfOk, IfSome, IfNone, OnOk, OnSome, ◌==◌, ◌∷◌, true, IfErr, OnErr, MatchOption, slice_get, remove, false};
+ghost use Rattle.std.specs.Prelude.{◌≡◌, ◌<◌, ◌*◌, ◌≤◌, ◌↔◌, List, [], length, Some, None, IsTrue, IsSome, ◌==◌, true, MatchOption, slice_get, false};
 ghost use Rattle.std.specs.Arc.{arc_value};
 ghost use Rattle.std.specs.Borrow.{Bor, MutBor, sem};
 ghost use Rattle.std.specs.Fn.{FnOnceTakesAtMut};
 ghost use Rattle.std.specs.List.Sorted.{IsPermutation};
-ghost use Rattle.scc_contents.specs.Contents.{entries, bucket_count, settings_of, minimum_of, refused_of, waiting_of, hash_in};
-ghost use Rattle.scc_contents.specs.Pairs.{find, FindsInstead, HasRoom, IsUnique, with_pair_key, with_pair_value};
-ghost use Rattle.scc_contents.specs.Sizes.{IsSmaller};
+ghost use Rattle.scc_contents.specs.Contents.{entries, bucket_count, settings_of, refused_of, waiting_of, hash_in};
+ghost use Rattle.scc_contents.specs.Pairs.{find, HasRoom, IsUnique, with_pair_key, with_pair_value};
 ghost use Rattle.scc_contents.specs.Walks.{CalledOn, CallableWhile, Walks};
-ghost use Rattle.scc_table.specs.Places.{IsPlace, IsFoundAt, IsInsertedAt, index_of};
-ghost use Rattle.scc_contents.specs.Steps.{FirstArrayWhenDue, GrowsFor, Holds, IsUnchanged, MakesRoom, Rests, ShrinksWhenDue};
+ghost use Rattle.scc_table.specs.Places.{IsPlace, IsFoundAt, index_of};
+ghost use Rattle.scc_contents.specs.Steps.{IsUnchanged};
 ghost use Rattle.scc_table.specs.Places.{with_write_at};
-ghost use Rattle.scc_map.specs.ClosureSteps.{UpdatesAt, RemovesIf};
-ghost use Rattle.scc_contents.specs.Closures.{Reads, WritesAt};
+ghost use Rattle.scc_map.specs.ClosureSteps.{RemovesIf, UpdatesByRule};
+ghost use Rattle.scc_contents.specs.Closures.{Reads};
 ghost use Rattle.scc_map.specs.Lends.{lends_value};
-ghost use Rattle.scc_map.specs.MapSteps.{Inserts, Removes};
+ghost use Rattle.scc_map.specs.MapSteps.{Removes};
 ghost use Rattle.scc_table.specs.Making.{IsNew, MakesEmpty};
-ghost use Rattle.scc_table.specs.Relocations.{Relocates, RelocatesNone, RelocatesTwo};
-ghost use Rattle.scc_map.specs.Insertions.{InsertsByRule, UpsertsByRule};
+ghost use Rattle.scc_map.specs.Insertions.{InsertsByRule, InsertsNewByRule, MakesRoomByRule, UpsertsByRule};
 ghost use Rattle.scc_map.specs.Removals.{RemovesByRule};
+ghost use Rattle.scc_map.specs.Shrinking.{RemovesAtByRule};
 
 mod collecting;
 mod copies;
@@ -226,14 +225,7 @@ impl<K: Eq + Hash, V, H: BuildHasher> Owned<K, V, H> {
     /// by the insertion of `k` that follows, so that it makes no resize in any case; this fails only where the first
     /// array is refused.
     pub fn make_room(&mut self, k: &K) -> Result<(), MakeError>
-        ensures present { IsSome (find K.eq (entries self.old) k.now) → IsOk result × (self.new ≡ self.old) }
-        ensures ok { find K.eq (entries self.old) k.now ≡ None
-            → OnOk result (MakesRoom (hash_in ⟦<H as Hashes<K>>⟧.hash_of self.old) (λ p. p.0) self.old
-            (hash_in ⟦<H as Hashes<K>>⟧.hash_of self.old k.now) self.new) }
-        ensures err { OnErr result ((find K.eq (entries self.old) k.now ≡ None) × (bucket_count self.old ≡ 0)) }
-        ensures same { OnErr result (IsUnchanged self.old self.new) }
-        ensures settings { settings_of self.new ≡ settings_of self.old }
-        ensures unique { IsUnique K.eq self.new }
+        ensures { MakesRoomByRule K.eq ⟦<H as Hashes<K>>⟧.hash_of self.old k.now result self.new }
     {
         let hash = self.table.hash(k);
         match self.table.search(hash, k) {
@@ -278,14 +270,7 @@ impl<K: Eq + Hash, V, H: BuildHasher> Owned<K, V, H> {
     #[inline(always)]
     pub fn update_sync<R, U: FnOnce(&K, &mut V) -> R>(&mut self, k: &K, u: U) -> Option<R>
         requires { (a : Bor K) (b : MutBor V) → find K.eq (entries self.old) k.now ≡ Some (a.now, b.now) → U.pre u a b }
-        ensures step { UpdatesAt U.FnOnce u K.eq self.old k.now self.new (find K.eq (entries self.old) k.now) result }
-        ensures finds { IfSome result (λ x. (p : K × V) × (w : V) × (find K.eq (entries self.old) k.now ≡ Some p)
-            × (K.eq k.now p.0 ≡ true) × WritesAt U.FnOnce u p x w
-            × FindsInstead K.eq (entries self.old) k.now (Some (p.0, w)) (entries self.new)) }
-        ensures missing { IfNone result (find K.eq (entries self.old) k.now ≡ None) }
-        ensures noted { refused_of self.new ≡ refused_of self.old }
-        ensures waiting { waiting_of self.new ≡ waiting_of self.old }
-        ensures unique { IsUnique K.eq self.new }
+        ensures { UpdatesByRule U.FnOnce u K.eq self.old k.now self.new result }
     {
         let hash = self.table.hash(k);
         self.table.update(hash, k, u)
@@ -403,14 +388,7 @@ impl<K: Eq + Hash, V, H: BuildHasher> Owned<K, V, H> {
     /// Takes the pair out of its place.
     pub fn remove_at(&mut self, place: Place) -> (K, V)
         requires { IsPlace self.old place }
-        ensures pair { slice_get (entries self.old) (index_of self.old place) ≡ Some result }
-        ensures others { Holds self.old (remove (entries self.old) (index_of self.old place)) self.new }
-        ensures smaller { bucket_count self.new ≢ bucket_count self.old
-            → IsSmaller (minimum_of self.old) (length (entries self.new)) (bucket_count self.old)
-            (bucket_count self.new) }
-        ensures due { ShrinksWhenDue self.old self.new }
-        ensures relocates { RelocatesNone self.old self.new }
-        ensures unique { IsUnique K.eq self.new }
+        ensures { RemovesAtByRule (IsUnique K.eq) self.old place result self.new }
     {
         self.table.remove_at(place)
     }
@@ -419,15 +397,7 @@ impl<K: Eq + Hash, V, H: BuildHasher> Owned<K, V, H> {
     pub(crate) fn insert_new(&mut self, hash: u64, k: K, v: V) -> Result<Place, (K, V)>
         requires hashed { hash ≡ hash_in ⟦<H as Hashes<K>>⟧.hash_of self.old k }
         requires absent { find K.eq (entries self.old) k ≡ None }
-        ensures ok { IfOk result (IsInsertedAt self.old (k, v) self.new) }
-        ensures refused { IfErr result (λ p. p ≡ (k, v)) }
-        ensures rests { OnErr result (Rests self.old self.new) }
-        ensures full { OnErr result (HasRoom (hash_in ⟦<H as Hashes<K>>⟧.hash_of self.old) self.old k → ⊥) }
-        ensures grows { GrowsFor (hash_in ⟦<H as Hashes<K>>⟧.hash_of self.old) (λ p. p.0) self.old k self.new }
-        ensures first { OnOk result (FirstArrayWhenDue self.old self.new) }
-        ensures relocates { Relocates self.old self.new }
-        ensures two { OnOk result (RelocatesTwo (hash_in ⟦<H as Hashes<K>>⟧.hash_of self.old k) self.old self.new) }
-        ensures unique { IsUnique K.eq self.new }
+        ensures { InsertsNewByRule K.eq ⟦<H as Hashes<K>>⟧.hash_of self.old (k, v) result self.new }
     {
         self.table.insert_new(hash, (k, v))
     }

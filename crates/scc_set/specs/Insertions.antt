@@ -1,11 +1,11 @@
 -- What an insertion does to a set and to its array, in one word a call.
-use Rattle.std.specs.Prelude.{◌≡◌, ℕ, Bool, None, Some, Result, IsSome, IsOk}
+use Rattle.std.specs.Prelude.{◌≡◌, ℕ, Bool, None, Option, Some, Result, IsSome, IsOk}
 use Rattle.std.specs.Result.{OnOk, OnErr}
 use Rattle.scc_contents.specs.Contents.{Contents, entries, bucket_count, settings_of, refused_of, waiting_of}
-use Rattle.scc_contents.specs.Steps.{FirstArrayWhenDue, Grows, GrowsWhenDue, IsReadyFor}
+use Rattle.scc_contents.specs.Steps.{FirstArrayWhenDue, Grows, GrowsWhenDue, IsReadyFor, IsUnchanged, MakesRoom}
 use Rattle.scc_table.specs.Relocations.{Relocates, RelocatesTwo}
 use Rattle.scc_set.specs.Keys.{find, FindsInstead, HasRoom, IsUnique}
-use Rattle.scc_set.specs.SetSteps.{Inserts}
+use Rattle.scc_set.specs.SetSteps.{Inserts, Replaces}
 use Rattle.scc_common.specs.declared.errors.KeyError.{KeyError}
 
 module _ {K S : Type 0} (eq : K → K → Bool) (hash_of : S → K → ℕ) where
@@ -37,5 +37,53 @@ module _ {K S : Type 0} (eq : K → K → Bool) (hash_of : S → K → ℕ) wher
     pub two : find eq (entries c) k ≡ None → OnOk result (RelocatesTwo (hash_of (settings_of c).hasher k) c d)
     -- a key that is there relocates none
     pub waiting : IsSome (find eq (entries c) k) → waiting_of d ≡ waiting_of c
+    -- no two keys are equal
+    pub unique : IsUnique eq d
+
+  -- what `replace_sync` of the key k, answered so, does to the keys and to the array
+  pub record ReplacesByRule (c : Contents K S) (k : K) (result : Result (Option K) (KeyError K)) (d : Contents K S) : Type 0 where
+    -- a new key is added; it takes the place of an equal one that is there, which is answered
+    pub step : Replaces eq (hash_of (settings_of c).hasher) c k result d
+    -- it succeeds where an equal key is there
+    pub present : IsSome (find eq (entries c) k) → IsOk result
+    -- and where the key's bucket has room
+    pub succeeds : HasRoom (hash_of (settings_of c).hasher) c k → IsOk result
+    -- where it succeeds, a look-up finds the new key, and of others what it found
+    pub finds : OnOk result (FindsInstead eq (entries c) k (Some k) (entries d))
+    -- where it fails, a look-up finds what it found
+    pub same : OnErr result ((q : K) → find eq (entries d) q ≡ find eq (entries c) q)
+    -- the number of buckets stays where the key is new and its bucket has room
+    pub kept : find eq (entries c) k ≡ None → HasRoom (hash_of (settings_of c).hasher) c k → bucket_count d ≡ bucket_count c
+    -- and where room was made before
+    pub once : IsReadyFor (hash_of (settings_of c).hasher) (λ q. q) c k → bucket_count d ≡ bucket_count c
+    -- it changes only by a first array or a doubling
+    pub growth : Grows c d
+    -- it is doubled where the key is new and a growth is due, unless memory for that was refused
+    pub due : find eq (entries c) k ≡ None → GrowsWhenDue (hash_of (settings_of c).hasher) (λ q. q) c k d
+    -- the first array has the size of the minimum
+    pub first : find eq (entries c) k ≡ None → OnOk result (FirstArrayWhenDue c d)
+    -- the note of refused memory stays where an equal key is there
+    pub noted : IsSome (find eq (entries c) k) → refused_of d ≡ refused_of c
+    -- a new key relocates two buckets at most
+    pub relocates : find eq (entries c) k ≡ None → Relocates c d
+    -- and two exactly, its own first, where none of them is long
+    pub two : find eq (entries c) k ≡ None → OnOk result (RelocatesTwo (hash_of (settings_of c).hasher k) c d)
+    -- a key that is there relocates none
+    pub waiting : IsSome (find eq (entries c) k) → waiting_of d ≡ waiting_of c
+    -- no two keys are equal
+    pub unique : IsUnique eq d
+
+  -- what `make_room` for the key k, answered so, does to the array
+  pub record MakesRoomByRule {R : Type 0} (c : Contents K S) (k : K) (result : Result (Unit {0}) R) (d : Contents K S) : Type 0 where
+    -- a key that is there wants nothing
+    pub present : IsSome (find eq (entries c) k) → IsOk result × (d ≡ c)
+    -- for a new key all is made that its insertion wants
+    pub ok : find eq (entries c) k ≡ None → OnOk result (MakesRoom (hash_of (settings_of c).hasher) (λ q. q) c (hash_of (settings_of c).hasher k) d)
+    -- it is refused only for a new key where there is no array
+    pub err : OnErr result ((find eq (entries c) k ≡ None) × (bucket_count c ≡ 0))
+    -- and then nothing changes
+    pub same : OnErr result (IsUnchanged c d)
+    -- the settings stay
+    pub settings : settings_of d ≡ settings_of c
     -- no two keys are equal
     pub unique : IsUnique eq d

@@ -1,14 +1,16 @@
 -- What the contracts of an entry cite: the key that it stands at, those before and after it, and what it leaves.
-use Rattle.std.specs.Prelude.{◌≡◌, List, ◌++◌, Option, Result}
+use Rattle.std.specs.Prelude.{◌≡◌, ◌≢◌, Bool, List, ◌++◌, Option, Result, length}
 use Rattle.std.specs.Borrow.{Fml, RattleType, MutBor, RestsIfErr, RestsIfNone}
 use Rattle.std.specs.HashMap.Lent.{HashMembers}
 use Rattle.std.specs.declared.cmp.PartialEq as eq
 use Rattle.std.specs.declared.hash.Hash as hash
 use Rattle.std.specs.declared.hash.Hasher as hasher
 use Rattle.std.specs.declared.hash.BuildHasher as builder
-use Rattle.scc_contents.specs.Contents.{Contents, refused_of, waiting_of}
+use Rattle.scc_contents.specs.Contents.{Contents, entries, bucket_count, minimum_of, refused_of, waiting_of}
 use Rattle.scc_table.specs.Placed.{entry_of, front_of, back_of, SplitsAt, IsNextAt, IsNextPastRemovedAt}
-use Rattle.scc_contents.specs.Steps.{HoldsExactly}
+use Rattle.scc_table.specs.Relocations.{RelocatesNone}
+use Rattle.scc_contents.specs.Sizes.{IsSmaller}
+use Rattle.scc_contents.specs.Steps.{Holds, HoldsExactly, ShrinksWhenDue}
 use Rattle.scc_buckets.specs.declared.place.Place.{Place}
 use Rattle.scc_set.specs.Keys.{IsUnique}
 use Rattle.scc_set.specs.Lends.{set_row}
@@ -45,6 +47,21 @@ module _ {K S T : Type 0} {g : eq.Ghosts K} {h : hash.Ghosts K} {b : builder.Gho
   pub record IsNextPastRemoved (o p : OccupiedEntry K S T g h b w) : Type 0 where
     pub same_set : p.set.ghost_name ≡ o.set.ghost_name
     pub at : IsNextPastRemovedAt o.set.now (place_of o) p.set.now (place_of p) p.within
+
+  -- what `remove_entry` of the entry o, answered so, leaves
+  pub record RemovesEntryByRule (same : K → K → Bool) (o : OccupiedEntry K S T g h b w) (result : K) (n : Contents K S) : Type 0 where
+    -- the answer is the key of the entry
+    pub key : result ≡ occupied_key o
+    -- the others stay
+    pub removed : Holds o.set.now (occupied_front o ++ occupied_back o) n
+    -- the number of buckets changes only by a shrink of the size that the keys and the minimum name
+    pub smaller : bucket_count n ≢ bucket_count o.set.now → IsSmaller (minimum_of o.set.now) (length (entries n)) (bucket_count o.set.now) (bucket_count n)
+    -- a shrink that is due comes, unless memory for it was refused
+    pub due : ShrinksWhenDue o.set.now n
+    -- no bucket takes its entries over
+    pub relocates : RelocatesNone o.set.now n
+    -- no two keys are equal
+    pub unique : IsUnique same n
 
 module _ (K S T : RattleType) (key : HashMembers K.Denot) (build : builder.Ghosts S.Denot T.Denot) (feed : hasher.Ghosts T.Denot) where
   -- where r has no entry, the set behind m stays as it is

@@ -1,17 +1,16 @@
 //! The set for one owner: every call that changes it takes `&mut self`.
-ghost use Rattle.std.specs.Prelude.{◌≡◌, ◌≢◌, ◌<◌, ◌≤◌, ◌*◌, ◌↔◌, [], length, Some, None, IsTrue, IsSome, IsOk, IfErr, IfNone, IfOk, OnErr, OnOk, OnSome, false};
+ghost use Rattle.std.specs.Prelude.{◌≡◌, ◌<◌, ◌≤◌, ◌*◌, ◌↔◌, [], length, Some, None, IsTrue, IsSome, IfErr, IfOk, false};
 ghost use Rattle.std.specs.Arc.{arc_value};
 ghost use Rattle.std.specs.Fn.{FnOnceTakesAt, FnOnceReturnsAt};
 ghost use Rattle.scc_contents.specs.Contents.{entries, bucket_count, settings_of, refused_of, waiting_of, hash_in};
 ghost use Rattle.scc_contents.specs.Pairs.{find as find_pair, IsUnique as IsUniqueMap};
-ghost use Rattle.scc_contents.specs.Steps.{FirstArrayWhenDue, Grows, GrowsWhenDue, HoldsExactly, IsReadyFor, IsUnchanged, MakesRoom};
+ghost use Rattle.scc_contents.specs.Steps.{HoldsExactly, IsUnchanged};
 ghost use Rattle.scc_table.specs.Making.{IsNew, MakesEmpty};
-ghost use Rattle.scc_table.specs.Relocations.{Relocates, RelocatesTwo};
 ghost use Rattle.scc_set.specs.Keys.{find, with_key, FindsInstead, HasRoom, IsUnique};
-ghost use Rattle.scc_set.specs.SetSteps.{key_answer as key_answer_of, Inserts, Reads, Removes, RemovesIf, Replaces};
+ghost use Rattle.scc_set.specs.SetSteps.{key_answer as key_answer_of, Reads, Removes, RemovesIf};
 ghost use Rattle.std.specs.Map.{set_key};
 ghost use Rattle.std.specs.Option.{option_map};
-ghost use Rattle.scc_set.specs.Insertions.{InsertsByRule};
+ghost use Rattle.scc_set.specs.Insertions.{InsertsByRule, MakesRoomByRule, ReplacesByRule};
 ghost use Rattle.scc_set.specs.Removals.{RemovesByRule};
 
 mod collecting;
@@ -209,14 +208,7 @@ impl<K: Eq + Hash, H: BuildHasher> Owned<K, H> {
     /// by the insertion of `k` that follows, so that it makes no resize in any case; this fails only where the first
     /// array is refused.
     pub fn make_room(&mut self, k: &K) -> Result<(), MakeError>
-        ensures present { IsSome (find K.eq (entries self.old) k.now) → IsOk result × (self.new ≡ self.old) }
-        ensures ok { find K.eq (entries self.old) k.now ≡ None
-            → OnOk result (MakesRoom (hash_in ⟦<H as Hashes<K>>⟧.hash_of self.old) (λ q. q) self.old
-            (hash_in ⟦<H as Hashes<K>>⟧.hash_of self.old k.now) self.new) }
-        ensures err { OnErr result ((find K.eq (entries self.old) k.now ≡ None) × (bucket_count self.old ≡ 0)) }
-        ensures same { OnErr result (IsUnchanged self.old self.new) }
-        ensures settings { settings_of self.new ≡ settings_of self.old }
-        ensures unique { IsUnique K.eq self.new }
+        ensures { MakesRoomByRule K.eq ⟦<H as Hashes<K>>⟧.hash_of self.old k.now result self.new }
     {
         self.map.make_room(k)
     }
@@ -235,26 +227,7 @@ impl<K: Eq + Hash, H: BuildHasher> Owned<K, H> {
     /// equals it, it is inserted, and None is answered; refused, it comes back.
     #[inline(always)]
     pub fn replace_sync(&mut self, k: K) -> Result<Option<K>, KeyError<K>>
-        ensures step { Replaces K.eq (hash_in ⟦<H as Hashes<K>>⟧.hash_of self.old) self.old k result self.new }
-        ensures present { IsSome (find K.eq (entries self.old) k) → IsOk result }
-        ensures succeeds { HasRoom (hash_in ⟦<H as Hashes<K>>⟧.hash_of self.old) self.old k → IsOk result }
-        ensures finds { OnOk result (FindsInstead K.eq (entries self.old) k (Some k) (entries self.new)) }
-        ensures same { OnErr result ((q : K) → find K.eq (entries self.new) q ≡ find K.eq (entries self.old) q) }
-        ensures kept { find K.eq (entries self.old) k ≡ None
-            → HasRoom (hash_in ⟦<H as Hashes<K>>⟧.hash_of self.old) self.old k
-            → bucket_count self.new ≡ bucket_count self.old }
-        ensures once { IsReadyFor (hash_in ⟦<H as Hashes<K>>⟧.hash_of self.old) (λ q. q) self.old k
-            → bucket_count self.new ≡ bucket_count self.old }
-        ensures growth { Grows self.old self.new }
-        ensures due { find K.eq (entries self.old) k ≡ None
-            → GrowsWhenDue (hash_in ⟦<H as Hashes<K>>⟧.hash_of self.old) (λ q. q) self.old k self.new }
-        ensures first { find K.eq (entries self.old) k ≡ None → OnOk result (FirstArrayWhenDue self.old self.new) }
-        ensures noted { IsSome (find K.eq (entries self.old) k) → refused_of self.new ≡ refused_of self.old }
-        ensures relocates { find K.eq (entries self.old) k ≡ None → Relocates self.old self.new }
-        ensures two { find K.eq (entries self.old) k ≡ None
-            → OnOk result (RelocatesTwo (hash_in ⟦<H as Hashes<K>>⟧.hash_of self.old k) self.old self.new) }
-        ensures waiting { IsSome (find K.eq (entries self.old) k) → waiting_of self.new ≡ waiting_of self.old }
-        ensures unique { IsUnique K.eq self.new }
+        ensures { ReplacesByRule K.eq ⟦<H as Hashes<K>>⟧.hash_of self.old k result self.new }
     {
         match self.swap_key(k) {
             Ok(old) => Ok(Some(old)),

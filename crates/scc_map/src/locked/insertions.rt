@@ -36,14 +36,11 @@ impl<'a, K: Eq + Hash, V, H: BuildHasher> HeldPlace<
             (hash_in ⟦<H as Hashes<K>>⟧.hash_of (write_guard_value (entry_guard self.entry))) self.entry) }
         ensures unique { IfOk result (λ o. IsUnique K.eq (held_map o)) }
     {
-        match self {
-            HeldPlace::Occupied(entry) => {
-                drop(default);
-                entry.look_at_map();
-                Ok(entry)
-            }
-            HeldPlace::Vacant(entry) => entry.insert_entry(default),
-        }
+        self.or_insert_with_key(
+            move |_key: &K| -> V
+                ensures { result ≡ default }
+            { default },
+        )
     }
 
     /// Inserts the answer of `f` where the entry is vacant, and answers the occupied entry. `f` isn't called on an
@@ -62,16 +59,12 @@ impl<'a, K: Eq + Hash, V, H: BuildHasher> HeldPlace<
             (hash_in ⟦<H as Hashes<K>>⟧.hash_of (write_guard_value (entry_guard self.entry))) self.entry) }
         ensures unique { IfOk result (λ o. IsUnique K.eq (held_map o)) }
     {
-        match self {
-            HeldPlace::Occupied(entry) => {
-                entry.look_at_map();
-                Ok(entry)
-            }
-            HeldPlace::Vacant(entry) => {
-                let value = f();
-                entry.insert_entry(value)
-            }
-        }
+        self.or_insert_with_key(
+            move |_key: &K| -> V
+                requires { F.pre f }
+                ensures { F.post f result }
+            { f() },
+        )
     }
 
     /// Inserts the answer of `f` on the key where the entry is vacant, and answers the occupied entry. `f` isn't called
@@ -115,16 +108,11 @@ impl<'a, K: Eq + Hash, V, H: BuildHasher> HeldPlace<
             (hash_in ⟦<H as Hashes<K>>⟧.hash_of (write_guard_value (entry_guard self.entry))) self.entry) }
         ensures unique { IfOk result (λ o. IsUnique K.eq (held_map o)) }
     {
-        match self {
-            HeldPlace::Occupied(entry) => {
-                entry.look_at_map();
-                Ok(entry)
-            }
-            HeldPlace::Vacant(entry) => {
-                let value = V::default();
-                entry.insert_entry(value)
-            }
-        }
+        self.or_insert_with_key(
+            move |_key: &K| -> V
+                ensures { V.is_default result }
+            { V::default() },
+        )
     }
 
     /// Sets the value of an occupied entry, which keeps its key; inserts it at a vacant one. It answers the entry.

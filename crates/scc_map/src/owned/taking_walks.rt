@@ -1,14 +1,12 @@
 //! The walk that takes pairs out of a map into a list.
-ghost use Rattle.std.specs.Prelude.{◌≡◌, ◌≢◌, ◌≤◌, ◌<◌, ◌++◌, suc, List, [], ◌∷◌, length, remove, Some, slice_get, OnErr, MatchOption};
+ghost use Rattle.std.specs.Prelude.{◌≡◌, ◌≤◌, ◌<◌, ◌++◌, List, length, Some, OnErr};
 ghost use Rattle.std.specs.List.Sorted.{IsPermutation};
 ghost use Rattle.std.specs.Vec.{vec_len, vec_capacity};
-ghost use Rattle.scc_contents.specs.Contents.{entries, bucket_count, minimum_of, refused_of, waiting_of};
+ghost use Rattle.scc_contents.specs.Contents.{entries, refused_of, waiting_of};
 ghost use Rattle.scc_contents.specs.Pairs.{IsUnique};
-ghost use Rattle.scc_table.specs.Places.{IsPlace, index_of};
-ghost use Rattle.scc_contents.specs.Sizes.{IsSmaller};
-ghost use Rattle.scc_table.specs.Places.{StandsAt};
-ghost use Rattle.scc_contents.specs.Steps.{Holds, HoldsExactly, ShrinksWhenDue};
-ghost use Rattle.scc_table.specs.Relocations.{RelocatesNone};
+ghost use Rattle.scc_table.specs.Places.{IsPlace};
+ghost use Rattle.scc_contents.specs.Steps.{Holds, HoldsExactly};
+ghost use Rattle.scc_map.specs.Shrinking.{TakesByRule, TakesIntoByRule};
 ghost use Rattle.scc_contents.specs.PairWalks.{CallableToWrite, CalledToWrite, GoesOn, Takes};
 
 use super::Owned;
@@ -28,21 +26,11 @@ impl<K: Eq + Hash, V, H: BuildHasher> Owned<K, V, H> {
         taken: &mut Vec<(K, V)>,
     ) -> Result<bool, WalkError>
         requires { (es : List (K × V)) → IsPermutation (entries self.old) es → CallableToWrite F.FnMut GoesOn f es }
-        ensures step { (es : List (K × V)) × (stay : List (K × V)) × (more : List (K × V)) × (last : F)
-            × IsPermutation (entries self.old) es × Takes (CalledToWrite F.FnMut) f es stay more result last
-            × (taken.new.items ≡ taken.old.items ++ more) × Holds self.old stay self.new }
-        ensures still { taken.new.items ≡ taken.old.items → bucket_count self.new ≡ bucket_count self.old }
-        ensures noted { taken.new.items ≡ taken.old.items → refused_of self.new ≡ refused_of self.old }
-        ensures rests { taken.new.items ≡ taken.old.items → waiting_of self.new ≡ waiting_of self.old }
-        ensures smaller { bucket_count self.new ≢ bucket_count self.old
-            → IsSmaller (minimum_of self.old) (length (entries self.new)) (bucket_count self.old)
-            (bucket_count self.new) }
-        ensures full { OnErr result (vec_capacity taken.new ≤ vec_len taken.new) }
-        ensures room { vec_capacity taken.old ≤ vec_capacity taken.new }
-        ensures due { (taken.new.items ≡ taken.old.items → ⊥) → ShrinksWhenDue self.old self.new }
-        ensures relocates { RelocatesNone self.old self.new }
-        ensures was_unique { IsUnique K.eq self.old }
-        ensures unique { IsUnique K.eq self.new }
+        ensures { TakesByRule (IsUnique K.eq) (λ list. list.items) vec_len vec_capacity ((es : List (K × V))
+            × (stay : List (K × V)) × (more : List (K × V)) × (last : F) × IsPermutation (entries self.old) es
+            × Takes (CalledToWrite F.FnMut) f es stay more result last
+            × (taken.new.items ≡ taken.old.items ++ more) × Holds self.old stay self.new) self.old taken.old result
+            self.new taken.new }
     {
         self.iter_mut_into(f, taken)
     }
@@ -54,21 +42,11 @@ impl<K: Eq + Hash, V, H: BuildHasher> Owned<K, V, H> {
         taken: &mut L,
     ) -> Result<bool, WalkError>
         requires { (es : List (K × V)) → IsPermutation (entries self.old) es → CallableToWrite F.FnMut GoesOn f es }
-        ensures step { (es : List (K × V)) × (stay : List (K × V)) × (more : List (K × V)) × (last : F)
-            × IsPermutation (entries self.old) es × Takes (CalledToWrite F.FnMut) f es stay more result last
-            × (L.pairs taken.new ≡ L.pairs taken.old ++ more) × Holds self.old stay self.new }
-        ensures still { L.pairs taken.new ≡ L.pairs taken.old → bucket_count self.new ≡ bucket_count self.old }
-        ensures noted { L.pairs taken.new ≡ L.pairs taken.old → refused_of self.new ≡ refused_of self.old }
-        ensures rests { L.pairs taken.new ≡ L.pairs taken.old → waiting_of self.new ≡ waiting_of self.old }
-        ensures smaller { bucket_count self.new ≢ bucket_count self.old
-            → IsSmaller (minimum_of self.old) (length (entries self.new)) (bucket_count self.old)
-            (bucket_count self.new) }
-        ensures full { OnErr result (L.capacity taken.new ≤ length (L.pairs taken.new)) }
-        ensures room { L.capacity taken.old ≤ L.capacity taken.new }
-        ensures due { (L.pairs taken.new ≡ L.pairs taken.old → ⊥) → ShrinksWhenDue self.old self.new }
-        ensures relocates { RelocatesNone self.old self.new }
-        ensures was_unique { IsUnique K.eq self.old }
-        ensures unique { IsUnique K.eq self.new }
+        ensures { TakesByRule (IsUnique K.eq) L.pairs (λ list. length (L.pairs list)) L.capacity ((es : List (K × V))
+            × (stay : List (K × V)) × (more : List (K × V)) × (last : F) × IsPermutation (entries self.old) es
+            × Takes (CalledToWrite F.FnMut) f es stay more result last
+            × (L.pairs taken.new ≡ L.pairs taken.old ++ more) × Holds self.old stay self.new) self.old taken.old result
+            self.new taken.new }
     {
         let mut f = f;
         self.iter_mut_lent(&mut f, taken)
@@ -81,21 +59,11 @@ impl<K: Eq + Hash, V, H: BuildHasher> Owned<K, V, H> {
         taken: &mut L,
     ) -> Result<bool, WalkError>
         requires { (es : List (K × V)) → IsPermutation (entries self.old) es → CallableToWrite F.FnMut GoesOn f.old es }
-        ensures step { (es : List (K × V)) × (stay : List (K × V)) × (more : List (K × V))
-            × IsPermutation (entries self.old) es × Takes (CalledToWrite F.FnMut) f.old es stay more result f.new
-            × (L.pairs taken.new ≡ L.pairs taken.old ++ more) × Holds self.old stay self.new }
-        ensures still { L.pairs taken.new ≡ L.pairs taken.old → bucket_count self.new ≡ bucket_count self.old }
-        ensures noted { L.pairs taken.new ≡ L.pairs taken.old → refused_of self.new ≡ refused_of self.old }
-        ensures rests { L.pairs taken.new ≡ L.pairs taken.old → waiting_of self.new ≡ waiting_of self.old }
-        ensures smaller { bucket_count self.new ≢ bucket_count self.old
-            → IsSmaller (minimum_of self.old) (length (entries self.new)) (bucket_count self.old)
-            (bucket_count self.new) }
-        ensures full { OnErr result (L.capacity taken.new ≤ length (L.pairs taken.new)) }
-        ensures room { L.capacity taken.old ≤ L.capacity taken.new }
-        ensures due { (L.pairs taken.new ≡ L.pairs taken.old → ⊥) → ShrinksWhenDue self.old self.new }
-        ensures relocates { RelocatesNone self.old self.new }
-        ensures was_unique { IsUnique K.eq self.old }
-        ensures unique { IsUnique K.eq self.new }
+        ensures { TakesByRule (IsUnique K.eq) L.pairs (λ list. length (L.pairs list)) L.capacity ((es : List (K × V))
+            × (stay : List (K × V)) × (more : List (K × V)) × IsPermutation (entries self.old) es
+            × Takes (CalledToWrite F.FnMut) f.old es stay more result f.new
+            × (L.pairs taken.new ≡ L.pairs taken.old ++ more) × Holds self.old stay self.new) self.old taken.old result
+            self.new taken.new }
     {
         let before = self.len();
         let result = self.take_walk(f, taken);
@@ -148,14 +116,7 @@ impl<K: Eq + Hash, V, H: BuildHasher> Owned<K, V, H> {
     fn take_into<L: Sink<K, V>>(&mut self, place: Place, taken: &mut L) -> Option<Place>
         requires within { IsPlace self.old place }
         requires room { length (L.pairs taken.old) < L.capacity taken.old }
-        ensures taken { (p : K × V) × (slice_get (entries self.old) (index_of self.old place) ≡ Some p)
-            × (L.pairs taken.new ≡ L.pairs taken.old ++ p ∷ []) }
-        ensures others { HoldsExactly self.old (remove (entries self.old) (index_of self.old place)) self.new }
-        ensures noted { refused_of self.new ≡ refused_of self.old }
-        ensures waiting { waiting_of self.new ≡ waiting_of self.old }
-        ensures next { MatchOption result (suc (index_of self.old place) ≡ length (entries self.old))
-            (StandsAt self.new (index_of self.old place)) }
-        ensures capacity { L.capacity taken.new ≡ L.capacity taken.old }
+        ensures { TakesIntoByRule L.pairs L.capacity self.old place taken.old result self.new taken.new }
     {
         let (pair, next) = self.take_and_step(place);
         taken.push_pair(pair);

@@ -1,11 +1,11 @@
 //! Walks over the pairs of a map, from place to place.
-ghost use Rattle.std.specs.Prelude.{◌≡◌, [], suc, length, remove, slice_get, Some, MatchOption, false, true};
-ghost use Rattle.scc_contents.specs.Contents.{entries, refused_of, waiting_of};
+ghost use Rattle.std.specs.Prelude.{◌≡◌, [], suc, length, Some, MatchOption, false, true};
+ghost use Rattle.scc_contents.specs.Contents.{entries};
 ghost use Rattle.scc_contents.specs.Pairs.{IsUnique};
 ghost use Rattle.scc_table.specs.Places.{IsPlace, index_of};
 ghost use Rattle.scc_table.specs.Places.{StandsAt};
-ghost use Rattle.scc_contents.specs.Steps.{HoldsExactly};
 ghost use Rattle.scc_contents.specs.Walks.{CalledOn, CallableWhile, Walks};
+ghost use Rattle.scc_map.specs.Shrinking.{TakesAndStepsByRule};
 ghost use Rattle.scc_contents.specs.PairWalks.{Declines, PassesFirst};
 
 use super::Owned;
@@ -32,13 +32,7 @@ impl<K: Eq + Hash, V, H: BuildHasher> Owned<K, V, H> {
     /// Takes the pair out of its place, with no resize, and answers it with the place of the pair that followed.
     pub fn take_and_step(&mut self, place: Place) -> ((K, V), Option<Place>)
         requires { IsPlace self.old place }
-        ensures pair { slice_get (entries self.old) (index_of self.old place) ≡ Some result.0 }
-        ensures others { HoldsExactly self.old (remove (entries self.old) (index_of self.old place)) self.new }
-        ensures noted { refused_of self.new ≡ refused_of self.old }
-        ensures waiting { waiting_of self.new ≡ waiting_of self.old }
-        ensures next { MatchOption result.1 (suc (index_of self.old place) ≡ length (entries self.old))
-            (StandsAt self.new (index_of self.old place)) }
-        ensures unique { IsUnique K.eq self.new }
+        ensures { TakesAndStepsByRule (IsUnique K.eq) self.old place result self.new }
     {
         self.table.take_and_step(place)
     }

@@ -1,13 +1,12 @@
 //! Walks that write into the pairs of a map, and take pairs out of it.
-ghost use Rattle.std.specs.Prelude.{◌≡◌, ◌≢◌, ◌++◌, List, [], length, Some, slice_get, ⊤};
+ghost use Rattle.std.specs.Prelude.{◌≡◌, List, [], Some, slice_get, ⊤};
 ghost use Rattle.std.specs.List.Sorted.{IsPermutation};
-ghost use Rattle.scc_contents.specs.Contents.{entries, bucket_count, minimum_of, refused_of, waiting_of};
+ghost use Rattle.scc_contents.specs.Contents.{entries, refused_of, waiting_of};
 ghost use Rattle.scc_contents.specs.Pairs.{IsUnique, with_pair_value};
 ghost use Rattle.scc_table.specs.Places.{IsPlace, index_of};
-ghost use Rattle.scc_contents.specs.Sizes.{IsSmaller};
-ghost use Rattle.scc_contents.specs.Steps.{Holds, HoldsExactly, ShrinksWhenDue};
+ghost use Rattle.scc_contents.specs.Steps.{Holds, HoldsExactly};
 ghost use Rattle.scc_table.specs.Places.{with_write_at};
-ghost use Rattle.scc_table.specs.Relocations.{RelocatesNone};
+ghost use Rattle.scc_map.specs.Shrinking.{ClearsByRule, RetainsByRule};
 ghost use Rattle.scc_contents.specs.PairWalks.{CallableToWrite, CalledToWrite, Retains, TakesToWrite};
 
 use super::Owned;
@@ -20,13 +19,7 @@ impl<K: Eq + Hash, V, H: BuildHasher> Owned<K, V, H> {
     where
         K: Drop,
         V: Drop,
-        ensures empty { entries self.new ≡ [] }
-        ensures holds { Holds self.old [] self.new }
-        ensures smaller { bucket_count self.new ≢ bucket_count self.old
-            → IsSmaller (minimum_of self.old) 0 (bucket_count self.old) (bucket_count self.new) }
-        ensures due { ShrinksWhenDue self.old self.new }
-        ensures relocates { RelocatesNone self.old self.new }
-        ensures unique { IsUnique K.eq self.new }
+        ensures { ClearsByRule (IsUnique K.eq) self.old self.new }
     {
         self.take_all();
         self.table.shrink();
@@ -56,15 +49,9 @@ impl<K: Eq + Hash, V, H: BuildHasher> Owned<K, V, H> {
         V: Drop,
         requires { (es : List (K × V)) → IsPermutation (entries self.old) es
             → CallableToWrite F.FnMut (λ answer. ⊤) f es }
-        ensures step { (es : List (K × V)) × (stay : List (K × V)) × (last : F) × IsPermutation (entries self.old) es
-            × Retains (CalledToWrite F.FnMut) f es stay last × Holds self.old stay self.new }
-        ensures smaller { bucket_count self.new ≢ bucket_count self.old
-            → IsSmaller (minimum_of self.old) (length (entries self.new)) (bucket_count self.old)
-            (bucket_count self.new) }
-        ensures due { ShrinksWhenDue self.old self.new }
-        ensures relocates { RelocatesNone self.old self.new }
-        ensures was_unique { IsUnique K.eq self.old }
-        ensures unique { IsUnique K.eq self.new }
+        ensures { RetainsByRule (IsUnique K.eq) ((es : List (K × V)) × (stay : List (K × V)) × (last : F)
+            × IsPermutation (entries self.old) es × Retains (CalledToWrite F.FnMut) f es stay last
+            × Holds self.old stay self.new) self.old self.new }
     {
         let mut f = f;
         self.retain_lent(&mut f);
@@ -77,15 +64,9 @@ impl<K: Eq + Hash, V, H: BuildHasher> Owned<K, V, H> {
         V: Drop,
         requires { (es : List (K × V)) → IsPermutation (entries self.old) es
             → CallableToWrite F.FnMut (λ answer. ⊤) f.old es }
-        ensures step { (es : List (K × V)) × (stay : List (K × V)) × IsPermutation (entries self.old) es
-            × Retains (CalledToWrite F.FnMut) f.old es stay f.new × Holds self.old stay self.new }
-        ensures smaller { bucket_count self.new ≢ bucket_count self.old
-            → IsSmaller (minimum_of self.old) (length (entries self.new)) (bucket_count self.old)
-            (bucket_count self.new) }
-        ensures due { ShrinksWhenDue self.old self.new }
-        ensures relocates { RelocatesNone self.old self.new }
-        ensures was_unique { IsUnique K.eq self.old }
-        ensures unique { IsUnique K.eq self.new }
+        ensures { RetainsByRule (IsUnique K.eq) ((es : List (K × V)) × (stay : List (K × V))
+            × IsPermutation (entries self.old) es × Retains (CalledToWrite F.FnMut) f.old es stay f.new
+            × Holds self.old stay self.new) self.old self.new }
     {
         let _ = self.len();
         self.retain_all(f);

@@ -1,12 +1,9 @@
 //! A key's place in a set, found once and held.
-ghost use Rattle.std.specs.Prelude.{◌≡◌, ◌≢◌, ◌++◌, [], length, IfErr, IfNone, IfOk, IfSome, false};
+ghost use Rattle.std.specs.Prelude.{◌≡◌, [], IfErr, IfNone, IfOk, IfSome, false};
 ghost use Rattle.std.specs.Borrow.{sem};
 ghost use Rattle.std.specs.Fn.{CalledAt};
-ghost use Rattle.scc_contents.specs.Contents.{entries, bucket_count, minimum_of, waiting_of};
+ghost use Rattle.scc_contents.specs.Contents.{entries, waiting_of};
 ghost use Rattle.scc_table.specs.Places.{IsPlace};
-ghost use Rattle.scc_table.specs.Relocations.{RelocatesNone};
-ghost use Rattle.scc_contents.specs.Sizes.{IsSmaller};
-ghost use Rattle.scc_contents.specs.Steps.{Holds, ShrinksWhenDue};
 ghost use Rattle.scc_set.specs.Keys.{IsUnique};
 ghost use Rattle.scc_set.specs.SetWalks.{CallableWhile, PassesAt, PassesNone};
 
@@ -73,7 +70,7 @@ impl<K: Eq + Hash, H: BuildHasher> Owned<K, H> {
 }
 
 impl<'a, K: Eq + Hash, H: BuildHasher> OccupiedEntry<'a, K, H> {
-    ghost use Rattle.scc_set.specs.SetEntries.{IsNext, IsNextPastRemoved, occupied_key, occupied_front, occupied_back, rests_if_none, rests_removed};
+    ghost use Rattle.scc_set.specs.SetEntries.{IsNext, IsNextPastRemoved, RemovesEntryByRule, occupied_key, occupied_back, rests_if_none, rests_removed};
 
     /// The stored key.
     pub fn get(&self) -> &K
@@ -88,15 +85,7 @@ impl<'a, K: Eq + Hash, H: BuildHasher> OccupiedEntry<'a, K, H> {
 
     /// Removes the key, and answers it. Then the array may become smaller.
     pub fn remove_entry(self) -> K
-        ensures key { result ≡ occupied_key self.entry }
-        ensures removed { Holds self.entry.set.now (occupied_front self.entry ++ occupied_back self.entry)
-            self.exit.0.now }
-        ensures smaller { bucket_count self.exit.0.now ≢ bucket_count self.entry.set.now
-            → IsSmaller (minimum_of self.entry.set.now) (length (entries self.exit.0.now))
-            (bucket_count self.entry.set.now) (bucket_count self.exit.0.now) }
-        ensures due { ShrinksWhenDue self.entry.set.now self.exit.0.now }
-        ensures relocates { RelocatesNone self.entry.set.now self.exit.0.now }
-        ensures unique { IsUnique K.eq self.exit.0.now }
+        ensures { RemovesEntryByRule K.eq self.entry result self.exit.0.now }
     {
         let bucket = self.bucket;
         let slot = self.slot;

@@ -1,13 +1,10 @@
 //! The places of keys, as an entry goes from one to the next.
-ghost use Rattle.std.specs.Prelude.{◌≡◌, ◌≢◌, [], suc, length, remove, slice_get, Some, MatchOption, false};
+ghost use Rattle.std.specs.Prelude.{◌≡◌, [], suc, length, slice_get, Some, MatchOption, false};
 ghost use Rattle.std.specs.Fn.{CalledAt};
-ghost use Rattle.scc_contents.specs.Contents.{entries, bucket_count, minimum_of, refused_of, waiting_of};
+ghost use Rattle.scc_contents.specs.Contents.{entries};
 ghost use Rattle.scc_table.specs.Placed.{front_of};
 ghost use Rattle.scc_table.specs.Places.{IsPlace, StandsAt, index_of};
-ghost use Rattle.scc_table.specs.Relocations.{RelocatesNone};
-ghost use Rattle.scc_contents.specs.Sizes.{IsSmaller};
-ghost use Rattle.scc_contents.specs.Steps.{Holds, HoldsExactly, ShrinksWhenDue};
-ghost use Rattle.scc_set.specs.Keys.{IsUnique};
+ghost use Rattle.scc_set.specs.Removals.{RemovesAtByRule, TakesAndStepsByRule};
 ghost use Rattle.scc_set.specs.SetWalks.{CallableWhile, PassesAt, PassesNone};
 
 use super::Owned;
@@ -60,14 +57,7 @@ impl<K: Eq + Hash, H: BuildHasher> Owned<K, H> {
     /// Takes the key out of its place. Then the array may become smaller.
     pub(crate) fn remove_at(&mut self, place: Place) -> K
         requires { IsPlace self.old place }
-        ensures key { slice_get (entries self.old) (index_of self.old place) ≡ Some result }
-        ensures others { Holds self.old (remove (entries self.old) (index_of self.old place)) self.new }
-        ensures smaller { bucket_count self.new ≢ bucket_count self.old
-            → IsSmaller (minimum_of self.old) (length (entries self.new)) (bucket_count self.old)
-            (bucket_count self.new) }
-        ensures due { ShrinksWhenDue self.old self.new }
-        ensures relocates { RelocatesNone self.old self.new }
-        ensures unique { IsUnique K.eq self.new }
+        ensures { RemovesAtByRule K.eq self.old place result self.new }
     {
         self.map.remove_at(place).0
     }
@@ -75,13 +65,7 @@ impl<K: Eq + Hash, H: BuildHasher> Owned<K, H> {
     /// Takes the key out of its place, with no resize, and answers it with the place of the key that followed.
     pub(crate) fn take_and_step(&mut self, place: Place) -> (K, Option<Place>)
         requires { IsPlace self.old place }
-        ensures key { slice_get (entries self.old) (index_of self.old place) ≡ Some result.0 }
-        ensures others { HoldsExactly self.old (remove (entries self.old) (index_of self.old place)) self.new }
-        ensures noted { refused_of self.new ≡ refused_of self.old }
-        ensures waiting { waiting_of self.new ≡ waiting_of self.old }
-        ensures next { MatchOption result.1 (suc (index_of self.old place) ≡ length (entries self.old))
-            (StandsAt self.new (index_of self.old place)) }
-        ensures unique { IsUnique K.eq self.new }
+        ensures { TakesAndStepsByRule K.eq self.old place result self.new }
     {
         let (pair, next) = self.map.take_and_step(place);
         (pair.0, next)

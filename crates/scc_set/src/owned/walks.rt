@@ -1,12 +1,11 @@
 //! Walks over the keys of a set.
-ghost use Rattle.std.specs.Prelude.{◌≡◌, ◌≢◌, ◌≤◌, ◌++◌, List, [], length, OnErr, true, ⊤};
+ghost use Rattle.std.specs.Prelude.{◌≡◌, ◌++◌, List, true, ⊤};
 ghost use Rattle.std.specs.Fn.{CalledAt, TakesAt};
 ghost use Rattle.std.specs.List.Sorted.{IsPermutation};
 ghost use Rattle.std.specs.Vec.{vec_len, vec_capacity};
-ghost use Rattle.scc_contents.specs.Contents.{entries, bucket_count, minimum_of, refused_of, waiting_of};
-ghost use Rattle.scc_contents.specs.Sizes.{IsSmaller};
-ghost use Rattle.scc_contents.specs.Steps.{Holds, ShrinksWhenDue};
-ghost use Rattle.scc_table.specs.Relocations.{RelocatesNone};
+ghost use Rattle.scc_contents.specs.Contents.{entries};
+ghost use Rattle.scc_contents.specs.Steps.{Holds};
+ghost use Rattle.scc_map.specs.Shrinking.{ClearsByRule, RetainsByRule, TakesByRule};
 ghost use Rattle.scc_set.specs.Keys.{IsUnique};
 ghost use Rattle.scc_set.specs.SetWalks.{CallableWhile, GoesOn, Retains, Takes, Walks};
 
@@ -38,15 +37,9 @@ impl<K: Eq + Hash, H: BuildHasher> Owned<K, H> {
     where
         K: Drop,
         requires { (ks : List K) → IsPermutation (entries self.old) ks → CallableWhile F.FnMut (λ answer. ⊤) f ks }
-        ensures step { (ks : List K) × (stay : List K) × (last : F) × IsPermutation (entries self.old) ks
-            × Retains (CalledAt F.FnMut) f ks stay last × Holds self.old stay self.new }
-        ensures smaller { bucket_count self.new ≢ bucket_count self.old
-            → IsSmaller (minimum_of self.old) (length (entries self.new)) (bucket_count self.old)
-            (bucket_count self.new) }
-        ensures due { ShrinksWhenDue self.old self.new }
-        ensures relocates { RelocatesNone self.old self.new }
-        ensures was_unique { IsUnique K.eq self.old }
-        ensures unique { IsUnique K.eq self.new }
+        ensures { RetainsByRule (IsUnique K.eq) ((ks : List K) × (stay : List K) × (last : F)
+            × IsPermutation (entries self.old) ks × Retains (CalledAt F.FnMut) f ks stay last
+            × Holds self.old stay self.new) self.old self.new }
     {
         self.map.retain_sync(
             move |key: &K, _value: &mut ()| -> bool
@@ -66,21 +59,11 @@ impl<K: Eq + Hash, H: BuildHasher> Owned<K, H> {
         taken: &mut Vec<K>,
     ) -> Result<bool, WalkError>
         requires { (ks : List K) → IsPermutation (entries self.old) ks → CallableWhile F.FnMut GoesOn f ks }
-        ensures step { (ks : List K) × (stay : List K) × (more : List K) × (last : F)
-            × IsPermutation (entries self.old) ks × Takes (CalledAt F.FnMut) f ks stay more result last
-            × (taken.new.items ≡ taken.old.items ++ more) × Holds self.old stay self.new }
-        ensures still { taken.new.items ≡ taken.old.items → bucket_count self.new ≡ bucket_count self.old }
-        ensures noted { taken.new.items ≡ taken.old.items → refused_of self.new ≡ refused_of self.old }
-        ensures rests { taken.new.items ≡ taken.old.items → waiting_of self.new ≡ waiting_of self.old }
-        ensures smaller { bucket_count self.new ≢ bucket_count self.old
-            → IsSmaller (minimum_of self.old) (length (entries self.new)) (bucket_count self.old)
-            (bucket_count self.new) }
-        ensures full { OnErr result (vec_capacity taken.new ≤ vec_len taken.new) }
-        ensures room { vec_capacity taken.old ≤ vec_capacity taken.new }
-        ensures due { (taken.new.items ≡ taken.old.items → ⊥) → ShrinksWhenDue self.old self.new }
-        ensures relocates { RelocatesNone self.old self.new }
-        ensures was_unique { IsUnique K.eq self.old }
-        ensures unique { IsUnique K.eq self.new }
+        ensures { TakesByRule (IsUnique K.eq) (λ list. list.items) vec_len vec_capacity ((ks : List K)
+            × (stay : List K) × (more : List K) × (last : F) × IsPermutation (entries self.old) ks
+            × Takes (CalledAt F.FnMut) f ks stay more result last
+            × (taken.new.items ≡ taken.old.items ++ more) × Holds self.old stay self.new) self.old taken.old result
+            self.new taken.new }
     {
         self.map.iter_mut_into(
             move |key: &K, _value: &mut ()| -> Verdict
@@ -95,13 +78,7 @@ impl<K: Eq + Hash, H: BuildHasher> Owned<K, H> {
     pub fn clear_sync(&mut self)
     where
         K: Drop,
-        ensures empty { entries self.new ≡ [] }
-        ensures holds { Holds self.old [] self.new }
-        ensures smaller { bucket_count self.new ≢ bucket_count self.old
-            → IsSmaller (minimum_of self.old) 0 (bucket_count self.old) (bucket_count self.new) }
-        ensures due { ShrinksWhenDue self.old self.new }
-        ensures relocates { RelocatesNone self.old self.new }
-        ensures unique { IsUnique K.eq self.new }
+        ensures { ClearsByRule (IsUnique K.eq) self.old self.new }
     {
         self.map.clear_sync();
     }

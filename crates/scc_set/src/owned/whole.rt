@@ -1,7 +1,7 @@
 //! What is done with a whole set: comparisons and clones.
-ghost use Rattle.std.specs.Prelude.{◌≡◌, [], IfOk, true};
+ghost use Rattle.std.specs.Prelude.{◌≡◌, [], IfOk, true, false};
 ghost use Rattle.scc_contents.specs.Clones.{HasClones};
-ghost use Rattle.scc_contents.specs.Contents.{entries, waiting_of};
+ghost use Rattle.scc_contents.specs.Contents.{entries, refused_of, waiting_of};
 ghost use Rattle.scc_set.specs.Collections.{FindsClones};
 ghost use Rattle.scc_set.specs.Keys.{IsUnique};
 
@@ -31,7 +31,8 @@ impl<K: Eq + Hash, H: BuildHasher> Eq for Owned<K, H> {
 
 impl<K: Eq + Hash, H: BuildHasher> Owned<K, H> {
     /// A set with clones of all keys under a clone of the hasher, of the same capacity, which is its minimum; no bucket
-    /// of it waits. It is refused for want of memory, and where a clone can't be had or two keys' clones are equal.
+    /// of it waits, and no resize of it was refused. It is refused for want of memory, and where a clone can't be had
+    /// or two keys' clones are equal.
     pub fn try_clone(&self) -> Result<Self, MakeError>
     where
         K: Clone,
@@ -39,6 +40,7 @@ impl<K: Eq + Hash, H: BuildHasher> Owned<K, H> {
         ensures clones { IfOk result (HasClones K.is_clone H.is_clone self.now) }
         ensures finds { IfOk result (λ s. ((k : K) → (copy : K) → K.is_clone k copy → K.eq k copy ≡ true)
             → FindsClones K.eq K.is_clone (entries self.now) (entries s)) }
+        ensures noted { IfOk result (λ s. refused_of s ≡ (false, false)) }
         ensures waiting { IfOk result (λ s. waiting_of s ≡ []) }
         ensures unique { IfOk result (λ s. IsUnique K.eq s) }
     {

@@ -34,42 +34,11 @@ impl<'a, K: Eq + Hash, V, H: BuildHasher> HeldPlace<&'a mut Owned<K, V, H>, (), 
         ensures* kept { sem 𝓛 (rests_if_refused K.row V.row H.row H.Hasher.row K.Hash H.BuildHasher H.Hasher.Hasher
             (entry_guard self.entry) (entry_key self.entry) result) }
     {
-        match self {
-            HeldPlace::Occupied(entry) => {
-                let HeldEntry {
-                    guard,
-                    place,
-                    rest,
-                    of,
-                } = entry;
-                drop(default);
-                let _ = guard.len();
-                Ok(HeldEntry {
-                    guard,
-                    place,
-                    rest,
-                    of,
-                })
-            }
-            HeldPlace::Vacant(entry) => {
-                let HeldVacant {
-                    guard,
-                    key,
-                    hash,
-                    rest,
-                    of: _,
-                } = entry;
-                match guard.insert_new(hash, key, default) {
-                    Ok(place) => Ok(HeldEntry {
-                        guard,
-                        place,
-                        rest,
-                        of: PhantomData,
-                    }),
-                    Err(pair) => Err(InsertError::Memory(pair)),
-                }
-            }
-        }
+        self.or_insert_with_key(
+            move |_key: &K| -> V
+                ensures { result ≡ default }
+            { default },
+        )
     }
 
     /// Inserts the answer of `f` where the entry is vacant, and answers the occupied entry. `f` isn't called on an
@@ -92,42 +61,12 @@ impl<'a, K: Eq + Hash, V, H: BuildHasher> HeldPlace<&'a mut Owned<K, V, H>, (), 
         ensures* kept { sem 𝓛 (rests_if_refused K.row V.row H.row H.Hasher.row K.Hash H.BuildHasher H.Hasher.Hasher
             (entry_guard self.entry) (entry_key self.entry) result) }
     {
-        match self {
-            HeldPlace::Occupied(entry) => {
-                let HeldEntry {
-                    guard,
-                    place,
-                    rest,
-                    of,
-                } = entry;
-                let _ = guard.len();
-                Ok(HeldEntry {
-                    guard,
-                    place,
-                    rest,
-                    of,
-                })
-            }
-            HeldPlace::Vacant(entry) => {
-                let HeldVacant {
-                    guard,
-                    key,
-                    hash,
-                    rest,
-                    of: _,
-                } = entry;
-                let value = f();
-                match guard.insert_new(hash, key, value) {
-                    Ok(place) => Ok(HeldEntry {
-                        guard,
-                        place,
-                        rest,
-                        of: PhantomData,
-                    }),
-                    Err(pair) => Err(InsertError::Memory(pair)),
-                }
-            }
-        }
+        self.or_insert_with_key(
+            move |_key: &K| -> V
+                requires { F.pre f }
+                ensures { F.post f result }
+            { f() },
+        )
     }
 
     /// Inserts the answer of `f` on the key where the entry is vacant, and answers the occupied entry. `f` isn't called
@@ -205,42 +144,11 @@ impl<'a, K: Eq + Hash, V, H: BuildHasher> HeldPlace<&'a mut Owned<K, V, H>, (), 
         ensures* kept { sem 𝓛 (rests_if_refused K.row V.row H.row H.Hasher.row K.Hash H.BuildHasher H.Hasher.Hasher
             (entry_guard self.entry) (entry_key self.entry) result) }
     {
-        match self {
-            HeldPlace::Occupied(entry) => {
-                let HeldEntry {
-                    guard,
-                    place,
-                    rest,
-                    of,
-                } = entry;
-                let _ = guard.len();
-                Ok(HeldEntry {
-                    guard,
-                    place,
-                    rest,
-                    of,
-                })
-            }
-            HeldPlace::Vacant(entry) => {
-                let HeldVacant {
-                    guard,
-                    key,
-                    hash,
-                    rest,
-                    of: _,
-                } = entry;
-                let value = V::default();
-                match guard.insert_new(hash, key, value) {
-                    Ok(place) => Ok(HeldEntry {
-                        guard,
-                        place,
-                        rest,
-                        of: PhantomData,
-                    }),
-                    Err(pair) => Err(InsertError::Memory(pair)),
-                }
-            }
-        }
+        self.or_insert_with_key(
+            move |_key: &K| -> V
+                ensures { V.is_default result }
+            { V::default() },
+        )
     }
 
     /// Sets the value of an occupied entry, which keeps its key; inserts it at a vacant one. It answers the entry.

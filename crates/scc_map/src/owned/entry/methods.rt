@@ -1,13 +1,12 @@
 //! What makes an entry of a borrowed map, and what lets the map go. The search is made once, and an entry holds its
 //! place.
-ghost use Rattle.std.specs.Prelude.{◌≡◌, ◌≢◌, ◌++◌, length, None, IfOk, OnErr, OnOk, IfErr, IfSome, IfNone};
+ghost use Rattle.std.specs.Prelude.{◌≡◌, None, IfOk, OnErr, IfErr, IfSome, IfNone};
 ghost use Rattle.std.specs.Borrow.{sem};
-ghost use Rattle.scc_contents.specs.Contents.{entries, bucket_count, minimum_of, refused_of, waiting_of, hash_in};
+ghost use Rattle.scc_contents.specs.Contents.{entries, refused_of, waiting_of, hash_in};
 ghost use Rattle.scc_contents.specs.Pairs.{find, HasRoom, IsUnique};
-ghost use Rattle.scc_contents.specs.Sizes.{IsSmaller};
-ghost use Rattle.scc_contents.specs.Steps.{Holds, ShrinksWhenDue};
-ghost use Rattle.scc_table.specs.Relocations.{Relocates, RelocatesNone, RelocatesTwo};
-ghost use Rattle.scc_map.specs.Entries.{Memory, held_map, occupied_pair, occupied_front, occupied_back, entry_guard, IsOccupiedAt, IsEntryOf, IsGrownFor, IsInserted, rests_if_refused, rests_if_none, replaced_guard, Replaces};
+ghost use Rattle.scc_table.specs.Relocations.{Relocates, RelocatesTwo};
+ghost use Rattle.scc_map.specs.Entries.{Memory, held_map, entry_guard, IsOccupiedAt, IsEntryOf, IsGrownFor, IsInserted, rests_if_refused, rests_if_none, replaced_guard, Replaces};
+ghost use Rattle.scc_map.specs.EntrySteps.{RemovesEntryByRule, RemovesValueByRule};
 
 use super::{Entry, OccupiedEntry, ReplaceResult, VacantEntry};
 use crate::held::{HeldEntry, HeldPlace, HeldReplace, HeldVacant};
@@ -105,15 +104,7 @@ impl<'a, N, K: Eq + Hash, V, H: BuildHasher> HeldEntry<&'a mut Owned<K, V, H>, N
     where
         N: Drop,
         K: Drop,
-        ensures value { result ≡ (occupied_pair self.entry).1 }
-        ensures removed { Holds (held_map self.entry) (occupied_front self.entry ++ occupied_back self.entry)
-            self.exit.0.now }
-        ensures smaller { bucket_count self.exit.0.now ≢ bucket_count (held_map self.entry)
-            → IsSmaller (minimum_of (held_map self.entry)) (length (entries self.exit.0.now))
-            (bucket_count (held_map self.entry)) (bucket_count self.exit.0.now) }
-        ensures due { ShrinksWhenDue (held_map self.entry) self.exit.0.now }
-        ensures relocates { RelocatesNone (held_map self.entry) self.exit.0.now }
-        ensures unique { IsUnique K.eq self.exit.0.now }
+        ensures { RemovesValueByRule K.eq self.entry result self.exit.0.now }
     {
         let (_key, value) = self.remove_entry();
         value
@@ -123,15 +114,7 @@ impl<'a, N, K: Eq + Hash, V, H: BuildHasher> HeldEntry<&'a mut Owned<K, V, H>, N
     pub fn remove_entry(self) -> (K, V)
     where
         N: Drop,
-        ensures pair { result ≡ occupied_pair self.entry }
-        ensures removed { Holds (held_map self.entry) (occupied_front self.entry ++ occupied_back self.entry)
-            self.exit.0.now }
-        ensures smaller { bucket_count self.exit.0.now ≢ bucket_count (held_map self.entry)
-            → IsSmaller (minimum_of (held_map self.entry)) (length (entries self.exit.0.now))
-            (bucket_count (held_map self.entry)) (bucket_count self.exit.0.now) }
-        ensures due { ShrinksWhenDue (held_map self.entry) self.exit.0.now }
-        ensures relocates { RelocatesNone (held_map self.entry) self.exit.0.now }
-        ensures unique { IsUnique K.eq self.exit.0.now }
+        ensures { RemovesEntryByRule K.eq self.entry result self.exit.0.now }
     {
         let place = self.place;
         self.guard.remove_at(place)

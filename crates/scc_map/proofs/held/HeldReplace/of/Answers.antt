@@ -1,5 +1,5 @@
 use Rattle.std.proofs.Common.{◌≡◌, ◌∙◌, sym, ap, subst, Some}
-use Rattle.scc_contents.specs.Contents.{Contents, entries, refused_of, waiting_of}
+use Rattle.scc_contents.specs.Contents.{entries, refused_of, waiting_of}
 use Rattle.std.specs.List.{slice_get}
 use Rattle.scc_contents.specs.Pairs.{find, with_pair_key}
 use Rattle.scc_table.specs.Places.{IsPlace, index_of, with_write_at}

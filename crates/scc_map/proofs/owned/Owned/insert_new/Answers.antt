@@ -1,4 +1,4 @@
-use Rattle.std.proofs.Common.{Result, Ok, Err, subst}
+use Rattle.std.proofs.Common.{Result, Ok, Err, rules, subst}
 use Rattle.std.specs.Result.{OnOk}
 use Rattle.scc_contents.specs.Contents.{entries}
 use Rattle.scc_table.specs.Relocations.{RelocatesTwo}
@@ -8,26 +8,20 @@ use Rattle.scc_map.proofs.owned.Owned.insert_new.Goals as goal
 pub insert_new-requires-clause-absent : goal.insert_new-requires-clause-absent
 insert_new-requires-clause-absent g c = position-find_none (g.K.PartialEq.eq c.args.k) (entries c.self.inside.table) (rw (← c.self.view_is) at c.requires.absent)
 
-pub returns-clause-full : goal.returns-clause-full
-returns-clause-full g c = rw (← c.self.view_is) c.insert_new.ensures.full
-
-pub returns-clause-grows : goal.returns-clause-grows
-returns-clause-grows g c = rw (← c.self.view_is) record { growth = c.insert_new.ensures.growth; due = c.insert_new.ensures.due; kept = c.insert_new.ensures.kept }
-
-pub returns-clause-ok : goal.returns-clause-ok
-returns-clause-ok g c = rw (← c.self.view_is) c.insert_new.ensures.ok
-
-pub returns-clause-first : goal.returns-clause-first
-returns-clause-first g c = rw (← c.self.view_is) c.insert_new.ensures.first
-
-pub returns-clause-relocates : goal.returns-clause-relocates
-returns-clause-relocates g c = rw (← c.self.view_is) record { fewer = c.insert_new.ensures.fewer; less = c.insert_new.ensures.less; most = c.insert_new.ensures.most; grown = c.insert_new.ensures.grown; array = c.insert_new.ensures.array }
-
 both_ok : {A B P Q R : Type 0} (r : Result A B) → (P → Q → R) → OnOk r P → OnOk r Q → OnOk r R
 both_ok (Ok a) f p q = f p q
 both_ok (Err b) f p q = tt
 
-pub returns-clause-two : goal.returns-clause-two
-returns-clause-two g c =
-    rw (← c.self.view_is)
-    (both_ok c.insert_new.result (λ settled exact. subst (λ h. RelocatesTwo h c.self.inside.table c.insert_new.new.self) (rw (← c.self.view_is) at c.requires.hashed) record { settled = settled; exact = exact }) c.insert_new.ensures.settled c.insert_new.ensures.exact)
+pub returns : goal.returns
+returns g c =
+    record {
+      ok = rw (← c.self.view_is) c.insert_new.ensures.ok;
+      refused = (search rules);
+      rests = (search rules);
+      full = rw (← c.self.view_is) c.insert_new.ensures.full;
+      grows = rw (← c.self.view_is) record { growth = c.insert_new.ensures.growth; due = c.insert_new.ensures.due; kept = c.insert_new.ensures.kept };
+      first = rw (← c.self.view_is) c.insert_new.ensures.first;
+      relocates = rw (← c.self.view_is) record { fewer = c.insert_new.ensures.fewer; less = c.insert_new.ensures.less; most = c.insert_new.ensures.most; grown = c.insert_new.ensures.grown; array = c.insert_new.ensures.array };
+      two = rw (← c.self.view_is) (both_ok c.insert_new.result (λ settled exact. subst (λ h. RelocatesTwo h c.self.inside.table c.insert_new.new.self) (rw (← c.self.view_is) at c.requires.hashed) record { settled = settled; exact = exact }) c.insert_new.ensures.settled c.insert_new.ensures.exact);
+      unique = (search rules);
+    }

@@ -1,4 +1,4 @@
-use Rattle.std.proofs.Common.{rules, sym, ◌∙◌}
+use Rattle.std.proofs.Common.{sym, ◌∙◌}
 use Rattle.scc_buckets.proofs.Mapped.{Grows-mapped, FirstArrayWhenDue-mapped}
 use Rattle.scc_table.proofs.MappedRelocations.{Relocates-mapped}
 use Rattle.scc_set.proofs.Room.{ready-hashed}

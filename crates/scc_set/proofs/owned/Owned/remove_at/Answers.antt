@@ -8,20 +8,13 @@ use Rattle.scc_set.proofs.owned.Owned.remove_at.Goals as goal
 pub remove_at-requires : goal.remove_at-requires
 remove_at-requires g c = IsPlace-from_mapped _ c.self.inside.map c.args.place (rw (← c.self.view_is) at c.requires)
 
-pub returns-clause-key : goal.returns-clause-key
-returns-clause-key g c = rw (← c.self.view_is) (get-key c.self.inside.map c.args.place _ c.remove_at.ensures.pair)
-
-pub returns-clause-others : goal.returns-clause-others
-returns-clause-others g c = rw (← c.self.view_is) (holds-others c.self.inside.map c.args.place _ c.remove_at.ensures.others)
-
-pub returns-clause-smaller : goal.returns-clause-smaller
-returns-clause-smaller g c = rw (← c.self.view_is) (smaller-keys _ _ c.remove_at.ensures.smaller)
-
-pub returns-clause-due : goal.returns-clause-due
-returns-clause-due g c = rw (← c.self.view_is) (ShrinksWhenDue-mapped _ _ _ c.remove_at.ensures.due)
-
-pub returns-clause-unique : goal.returns-clause-unique
-returns-clause-unique g c = unique-keys _ _ c.remove_at.ensures.unique
-
-pub returns-clause-relocates : goal.returns-clause-relocates
-returns-clause-relocates g c = rw (← c.self.view_is) (RelocatesNone-mapped _ _ _ c.remove_at.ensures.relocates)
+pub returns : goal.returns
+returns g c =
+    record {
+      key = rw (← c.self.view_is) (get-key c.self.inside.map c.args.place _ c.remove_at.ensures.pair);
+      others = rw (← c.self.view_is) (holds-others c.self.inside.map c.args.place _ c.remove_at.ensures.others);
+      smaller = rw (← c.self.view_is) (smaller-keys _ _ c.remove_at.ensures.smaller);
+      due = rw (← c.self.view_is) (ShrinksWhenDue-mapped _ _ _ c.remove_at.ensures.due);
+      relocates = rw (← c.self.view_is) (RelocatesNone-mapped _ _ _ c.remove_at.ensures.relocates);
+      unique = unique-keys _ _ c.remove_at.ensures.unique;
+    }

@@ -1,4 +1,4 @@
-use Rattle.std.proofs.Common.{rules, refl}
+use Rattle.std.proofs.Common.{refl}
 use Rattle.scc_buckets.proofs.Mapped.{ShrinksWhenDue-mapped}
 use Rattle.scc_contents.specs.Pairs.{find as find_pair}
 use Rattle.scc_contents.specs.Contents.{entries}

@@ -6,20 +6,13 @@ use Rattle.scc_set.proofs.owned.Owned.take_and_step.Goals as goal
 pub take_and_step-pair-requires : goal.take_and_step-pair-requires
 take_and_step-pair-requires g c = IsPlace-from_mapped _ c.self.inside.map c.args.place (rw (← c.self.view_is) at c.requires)
 
-pub returns-clause-key : goal.returns-clause-key
-returns-clause-key g c = rw (← c.self.view_is) (get-key c.self.inside.map c.args.place _ c.take_and_step-pair.ensures.pair)
-
-pub returns-clause-others : goal.returns-clause-others
-returns-clause-others g c = rw (← c.self.view_is) (exactly-others c.self.inside.map c.args.place _ c.take_and_step-pair.ensures.others)
-
-pub returns-clause-next : goal.returns-clause-next
-returns-clause-next g c = rw (← c.self.view_is) (follows-taken c.self.inside.map c.args.place c.take_and_step-pair.new.self c.take_and_step-pair.result.1 c.take_and_step-pair.ensures.next)
-
-pub returns-clause-unique : goal.returns-clause-unique
-returns-clause-unique g c = unique-keys _ _ c.take_and_step-pair.ensures.unique
-
-pub returns-clause-noted : goal.returns-clause-noted
-returns-clause-noted g c = rw (← c.self.view_is) (noted-keys _ _ c.take_and_step-pair.ensures.noted)
-
-pub returns-clause-waiting : goal.returns-clause-waiting
-returns-clause-waiting g c = rw (← c.self.view_is) (waiting-keys _ _ c.take_and_step-pair.ensures.waiting)
+pub returns : goal.returns
+returns g c =
+    record {
+      key = rw (← c.self.view_is) (get-key c.self.inside.map c.args.place _ c.take_and_step-pair.ensures.pair);
+      others = rw (← c.self.view_is) (exactly-others c.self.inside.map c.args.place _ c.take_and_step-pair.ensures.others);
+      noted = rw (← c.self.view_is) (noted-keys _ _ c.take_and_step-pair.ensures.noted);
+      waiting = rw (← c.self.view_is) (waiting-keys _ _ c.take_and_step-pair.ensures.waiting);
+      next = rw (← c.self.view_is) (follows-taken c.self.inside.map c.args.place c.take_and_step-pair.new.self c.take_and_step-pair.result.1 c.take_and_step-pair.ensures.next);
+      unique = unique-keys _ _ c.take_and_step-pair.ensures.unique;
+    }

@@ -1,7 +1,7 @@
 use Rattle.std.proofs.Common.{◌∙◌}
 use Rattle.scc_set.proofs.Clones.{clones-keys, finds-clones-keys}
 use Rattle.scc_table.proofs.MappedRelocations.{waiting_of-mapped}
-use Rattle.scc_set.proofs.Sets.{unique-keys}
+use Rattle.scc_set.proofs.Sets.{shows, unique-keys}
 use Rattle.scc_set.proofs.owned.Owned.try_clone.Goals as goal
 
 pub returns-in-Ok-clause-clones : goal.returns-in-Ok-clause-clones
@@ -15,3 +15,6 @@ returns-in-Ok-clause-unique g c = unique-keys _ _ c.in-Ok.ensures.unique
 
 pub returns-in-Ok-clause-waiting : goal.returns-in-Ok-clause-waiting
 returns-in-Ok-clause-waiting g c = waiting_of-mapped _ c.in-Ok.map ∙ c.in-Ok.ensures.waiting
+
+pub returns-in-Ok-clause-noted : goal.returns-in-Ok-clause-noted
+returns-in-Ok-clause-noted g c = (shows c.in-Ok.map).refused ∙ c.in-Ok.ensures.noted

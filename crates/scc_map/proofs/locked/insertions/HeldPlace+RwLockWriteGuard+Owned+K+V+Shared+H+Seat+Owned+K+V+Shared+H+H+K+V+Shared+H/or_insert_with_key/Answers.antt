@@ -1,4 +1,3 @@
-use Rattle.std.proofs.Common.{refl}
 use Rattle.scc_map.proofs.Entries.{both-ok, map-ok, map-err}
 use Rattle.scc_map.proofs.locked.insertions.HeldPlace+RwLockWriteGuard+Owned+K+V+Shared+H+Seat+Owned+K+V+Shared+H+H+K+V+Shared+H.or_insert_with_key.Goals as goal
 

@@ -1,4 +1,4 @@
-use Rattle.std.proofs.Common.{◌≡◌, ◌∙◌, [], refl}
+use Rattle.std.proofs.Common.{refl}
 use Rattle.scc_table.proofs.AtPlaces.{back-none}
 use Rattle.scc_map.proofs.EntrySteps.{next-at, none-after}
 use Rattle.scc_map.proofs.locked.steps.HeldEntry+RwLockWriteGuard+Owned+K+V+Shared+H+Seat+Owned+K+V+Shared+H+H+K+V+Shared+H.next_sync.Goals as goal

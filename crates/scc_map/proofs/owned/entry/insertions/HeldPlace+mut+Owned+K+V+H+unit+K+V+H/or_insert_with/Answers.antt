@@ -1,17 +1,19 @@
 use Rattle.std.proofs.Common.{refl}
-use Rattle.scc_map.proofs.Entries.{inserted-after, same-entry}
+use Rattle.scc_map.proofs.Entries.{inserts-some, refuses-some}
 use Rattle.scc_map.proofs.owned.entry.insertions.HeldPlace+mut+Owned+K+V+H+unit+K+V+H.or_insert_with.Goals as goal
 
-pub returns-in-Occupied : goal.returns-in-Occupied
-returns-in-Occupied g c =
-    ((refl, λ w. refl, tt), record { entry = rw c.in-Occupied.is (same-entry c.in-Occupied.entry _); refused = tt; vacant = tt; full = tt; growth = rw c.in-Occupied.is tt; relocates = rw c.in-Occupied.is refl; unique = c.len.ensures.unique; kept = tt })
-
-pub returns-in-Ok : goal.returns-in-Ok
-returns-in-Ok g c =
-    ((refl, λ w. refl, tt), record { entry = rw c.in-Vacant.is ((c.f-value.result, c.f-value.ensures, inserted-after c.in-Vacant.entry c.in-Vacant.entry.guard.now c.insert_new.new.self c.f-value.result _ refl refl refl c.in-Ok.ensures.ok)); refused = tt; vacant = tt; full = tt; growth = rw c.in-Vacant.is record { grows = c.insert_new.ensures.grows; first = c.in-Ok.ensures.first }; relocates = rw c.in-Vacant.is (c.insert_new.ensures.relocates, c.in-Ok.ensures.two); unique = c.in-Ok.ensures.unique; kept = tt })
-
-pub returns-in-Err : goal.returns-in-Err
-returns-in-Err g c = (
-  (refl, λ _. tt, rw c.in-Vacant.is (record { rests = c.in-Err.ensures.rests; grows = c.insert_new.ensures.grows; relocates = c.insert_new.ensures.relocates; unique = c.insert_new.ensures.unique })),
-  record { entry = tt; refused = rw c.in-Vacant.is ((c.f-value.result, c.f-value.ensures, rw c.in-Err.ensures.refused refl)); vacant = rw c.in-Vacant.is tt; full = rw c.in-Vacant.is c.in-Err.ensures.full; growth = tt; relocates = tt; unique = tt; kept = tt },
-)
+pub returns : goal.returns
+returns g c =
+    let done = c.or_insert_with_key.ensures in (
+      (refl, c.or_insert_with_key.follows.holds, c.or_insert_with_key.follows.holds-at-none),
+      record {
+        entry = inserts-some c.args.self c.or_insert_with_key.result done.entry (λ k v put. put.1);
+        refused = refuses-some c.args.self c.or_insert_with_key.result done.refused (λ v put. put.1);
+        vacant = done.vacant;
+        full = done.full;
+        growth = done.growth;
+        relocates = done.relocates;
+        unique = done.unique;
+        kept = tt;
+      },
+    )
