@@ -1,5 +1,5 @@
 -- What a walk that takes pairs out into a list does to a cache, and each of its steps, in one word a call. The list is v before the call, and w after it.
-use Rattle.std.specs.Prelude.{◌≡◌, ℕ, ◌≤◌, suc, Bool, List, [], ◌∷◌, ◌++◌, length, remove, Option, Some, Result, slice_get, MatchOption}
+use Rattle.std.specs.Prelude.{◌≡◌, ℕ, ◌≤◌, suc, Bool, [], ◌∷◌, ◌++◌, length, remove, Option, Some, Result, slice_get, MatchOption}
 use Rattle.std.specs.Result.{OnErr}
 use Rattle.std.specs.Vec.{vec_len, vec_capacity}
 use Rattle.std.specs.declared.vec.Vec.{Vec}
