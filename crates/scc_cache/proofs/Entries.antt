@@ -1,5 +1,5 @@
 -- What an entry shows, under any guard.
-use Rattle.std.proofs.Common.{◌≡◌, ℕ, zero, suc, ◌+◌, ◌<◌, List, [], ◌∷◌, ◌++◌, length, Bool, Option, true, Some, Result, Ok, Err, refl, sym, ap, subst, ◌∙◌, arith, length-append, length-set, get_or-set_same}
+use Rattle.std.proofs.Common.{◌≡◌, ℕ, zero, suc, ◌+◌, ◌<◌, List, [], ◌∷◌, ◌++◌, length, Bool, Option, true, None, Some, Result, Ok, Err, refl, sym, ap, subst, ◌∙◌, arith, length-append, length-set, get_or-set_same}
 use Rattle.std.specs.Prelude.{IfOk, IfErr}
 use Rattle.std.specs.List.{remove, slice_get, slice_set, slice_index_or}
 use Rattle.std.specs.declared.cmp.PartialEq as eq
@@ -20,11 +20,13 @@ use Rattle.scc_buckets.proofs.KeyWrites.{get-write_at}
 use Rattle.scc_table.proofs.AtPlaces.{place-prop}
 use Rattle.scc_cache.specs.CacheSteps.{Changes, IsFound, IsLastAt, PutsNew, number_in}
 use Rattle.scc_cache.specs.Caches.{Cached}
-use Rattle.scc_cache.specs.Entries.{occupied_pair, IsMoved, IsPut, IsRefreshed, IsReplacedBy, IsWritten, written_cache, still_within, with_value}
+use Rattle.scc_common.specs.declared.errors.InsertError.{InsertError}
+use Rattle.scc_cache.specs.Entries.{Memory, Occupied, Vacant, occupied_pair, IsMoved, IsPut, IsRefreshed, IsReplacedBy, IsWritten, OrPuts, OrPutsSome, Refuses, RefusesSome, SetsEntry, written_cache, still_within, with_value}
 use Rattle.scc_cache.specs.Lends.{with_key_at, with_value_at}
 use Rattle.scc_cache.specs.ListSteps.{Refreshes, RefreshesAs, Rewrites}
 use Rattle.scc_cache.specs.Relocations.{RelocatesOne, RelocatesTwo}
 use Rattle.scc_cache.specs.declared.held.HeldEntry.{HeldEntry}
+use Rattle.scc_cache.specs.declared.held.HeldPlace.{HeldPlace}
 use Rattle.scc_cache.specs.declared.held.HeldVacant.{HeldVacant}
 use Rattle.scc_cache.proofs.Caching.{position-passes}
 use Rattle.scc_cache.proofs.Relocations.{waiting-keyed, waiting-written, written-one}
@@ -126,6 +128,18 @@ last_alike {K} {V} hash same c m k at p s got =
     let there = s.changes.lists.1 in
     let is : s.pair ≡ p = let z : Some s.pair ≡ Some p = sym s.here ∙ got in cc in
     subst (λ (q : K × V). same k q.0 ≡ true) is (position-passes (λ q. same k q.0) _ s.changes.lists.0 s.pair there.first there.pair)
+
+pub map-ok : {A B : Type 0} (P Q : A → Type 0) (r : Result A B) → ((a : A) → P a → Q a) → IfOk r P → IfOk r Q
+map-ok P Q (Ok a) f p = f a p
+map-ok P Q (Err e) f p = tt
+
+pub map-err : {A B : Type 0} (P Q : B → Type 0) (r : Result A B) → ((e : B) → P e → Q e) → IfErr r P → IfErr r Q
+map-err P Q (Ok a) f p = tt
+map-err P Q (Err e) f p = f e p
+
+-- what is handed on isn't refused
+pub none-refused : {A B : Type 0} {a : A} (r : Result A B) → r ≡ Ok a → (P : B → Type 0) → IfErr r P
+none-refused r same P = subst (λ x. IfErr x P) (sym same) tt
 
 module _ {G N K V S T : Type 0} {d : guard.Ghosts G (Cached (K × V) S)} {g : eq.Ghosts K} {h : hash.Ghosts K} {b : builder.Ghosts S T} {w : hasher.Ghosts T} where
   -- what the guard showed at the place is the pair
@@ -240,10 +254,27 @@ module _ {G N K V S T : Type 0} {d : guard.Ghosts G (Cached (K × V) S)} {g : eq
       let One : Cached (K × V) S → Cached (K × V) S → Type 0 = λ c x. RelocatesOne (key_hash b w h.hash_input c.contents k) c.contents x.contents in
       refreshed_at same (d.kept s) k o (subst (λ c. Last c (d.kept o.guard)) is (subst (Last m) (sym kept) at)) (subst (λ c. One c (d.kept o.guard)) is (subst (One m) (sym kept) r))
 
-pub map-ok : {A B : Type 0} (P Q : A → Type 0) (r : Result A B) → ((a : A) → P a → Q a) → IfOk r P → IfOk r Q
-map-ok P Q (Ok a) f p = f a p
-map-ok P Q (Err e) f p = tt
+  -- an occupied entry is handed on as it is
+  module _ (same-key : K → K → Bool) (e : HeldPlace G N K V S T d g h b w) (o : HeldEntry G N K V S T d g h b w) (r : Result (Option (K × V) × HeldEntry G N K V S T d g h b w) (InsertError K V)) (is : e ≡ Occupied o) (same : r ≡ Ok (None, o)) where
+    pub or-handed : (v : V) → IfOk r (λ x. OrPuts same-key e v x.0 x.1)
+    or-handed v = subst (λ z. IfOk r (λ x. OrPuts same-key z v x.0 x.1)) (sym is) (subst (λ y. IfOk y (λ x. OrPuts same-key (Occupied o) v x.0 x.1)) (sym same) (refl, refl))
 
-pub map-err : {A B : Type 0} (P Q : B → Type 0) (r : Result A B) → ((e : B) → P e → Q e) → IfErr r P → IfErr r Q
-map-err P Q (Ok a) f p = tt
-map-err P Q (Err e) f p = f e p
+    pub some-handed : (P : K → V → Type 0) → IfOk r (λ x. OrPutsSome same-key e P x.0 x.1)
+    some-handed P = subst (λ z. IfOk r (λ x. OrPutsSome same-key z P x.0 x.1)) (sym is) (subst (λ y. IfOk y (λ x. OrPutsSome same-key (Occupied o) P x.0 x.1)) (sym same) (refl, refl))
+
+  -- through a vacant one a value is put in
+  module _ (e : HeldPlace G N K V S T d g h b w) (x : HeldVacant G N K V S T d g h b w) (r : Result (Option (K × V) × HeldEntry G N K V S T d g h b w) (InsertError K V)) (is : e ≡ Vacant x) where
+    pub or-refused : (v : V) → IfErr r (λ i. (i ≡ Memory (x.key, v)) × (bucket_count (d.kept x.guard).contents ≡ 0)) → IfErr r (Refuses e v)
+    or-refused v back = subst (λ z. IfErr r (Refuses z v)) (sym is) (map-err (λ i. (i ≡ Memory (x.key, v)) × (bucket_count (d.kept x.guard).contents ≡ 0)) (Refuses (Vacant x) v) r (λ i b. (b.1, b.0)) back)
+
+    pub some-refused : (P : K → V → Type 0) (v : V) → P x.key v → IfErr r (λ i. (i ≡ Memory (x.key, v)) × (bucket_count (d.kept x.guard).contents ≡ 0)) → IfErr r (RefusesSome e P)
+    some-refused P v gave back = subst (λ z. IfErr r (RefusesSome z P)) (sym is) (map-err (λ i. (i ≡ Memory (x.key, v)) × (bucket_count (d.kept x.guard).contents ≡ 0)) (RefusesSome (Vacant x) P) r (λ i b. (b.1, (v, gave, b.0))) back)
+
+    pub or-put : (same-key : K → K → Bool) (v : V) → IfOk r (λ y. IsPut same-key x v y.0 y.1) → IfOk r (λ y. OrPuts same-key e v y.0 y.1)
+    or-put same-key v put = subst (λ z. IfOk r (λ y. OrPuts same-key z v y.0 y.1)) (sym is) put
+
+    pub some-put : (same-key : K → K → Bool) (P : K → V → Type 0) (v : V) → P x.key v → IfOk r (λ y. IsPut same-key x v y.0 y.1) → IfOk r (λ y. OrPutsSome same-key e P y.0 y.1)
+    some-put same-key P v gave put = subst (λ z. IfOk r (λ y. OrPutsSome same-key z P y.0 y.1)) (sym is) (map-ok (λ y. IsPut same-key x v y.0 y.1) (λ y. OrPutsSome same-key (Vacant x) P y.0 y.1) r (λ y i. (v, gave, i)) put)
+
+    pub sets-put : (same-key : K → K → Bool) (v : V) → IfOk r (λ y. IsPut same-key x v y.0 y.1) → IfOk r (λ y. SetsEntry same-key e v y.0 y.1)
+    sets-put same-key v put = subst (λ z. IfOk r (λ y. SetsEntry same-key z v y.0 y.1)) (sym is) put

@@ -5,4 +5,7 @@ pub mod Collections
 pub mod Entries
 pub mod Lends
 pub mod ListSteps
+pub mod Making
+pub mod Putting
 pub mod Relocations
+pub mod TakingWalks

@@ -1,12 +1,13 @@
 //! The cache for one owner: every call that changes it takes `&mut self`.
-ghost use Rattle.std.specs.Prelude.{◌≡◌, ◌≤◌, ◌<◌, ◌*◌, ◌↔◌, [], false, length, max, None, Some, IsTrue, IsOk, IfOk, OnOk, MatchOption};
+ghost use Rattle.std.specs.Prelude.{◌≡◌, ◌≤◌, ◌<◌, ◌*◌, ◌↔◌, [], false, length, None, Some, IsTrue, MatchOption};
 ghost use Rattle.std.specs.Borrow.{Bor};
-ghost use Rattle.scc_contents.specs.Contents.{entries, bucket_count, minimum_of, pending_of, refused_of, waiting_of, key_hash, hash_in};
+ghost use Rattle.scc_contents.specs.Contents.{entries, bucket_count, minimum_of, pending_of, waiting_of, key_hash, hash_in};
 ghost use Rattle.std.specs.Fn.{FnOnceTakesAtMut};
-ghost use Rattle.scc_cache.specs.CacheSteps.{AnswersOn, IsAbsent, IsPresent, IsReadyFor, Puts, Removes};
+ghost use Rattle.scc_cache.specs.CacheSteps.{AnswersOn, IsAbsent, IsPresent, Removes};
 ghost use Rattle.scc_cache.specs.CacheWalks.{RemovesIf};
 ghost use Rattle.scc_cache.specs.Caches.{IsCacheState};
-ghost use Rattle.scc_cache.specs.Relocations.{RelocatesNone, RelocatesTwo};
+ghost use Rattle.scc_cache.specs.Putting.{PutsByRule};
+ghost use Rattle.scc_cache.specs.Relocations.{RelocatesNone};
 
 mod collecting;
 mod copies;
@@ -142,16 +143,7 @@ impl<K: Eq + Hash, V, H: BuildHasher> Owned<K, V, H> {
     /// is doubled. The mark of a refused doubling goes.
     #[inline(always)]
     pub fn put_sync(&mut self, k: K, v: V) -> Result<EvictedEntry<K, V>, InsertError<K, V>>
-        ensures step { Puts (hash_in ⟦<H as Hashes<K>>⟧.hash_of self.old.contents) K.eq self.old (k, v) result
-            self.new }
-        ensures succeeds { IsAbsent (hash_in ⟦<H as Hashes<K>>⟧.hash_of self.old.contents) K.eq self.old.contents k
-            → 0 < bucket_count self.old.contents → IsOk result }
-        ensures state { IsCacheState K.eq (hash_in ⟦<H as Hashes<K>>⟧.hash_of self.new.contents) self.new }
-        ensures relocates { OnOk result (RelocatesTwo (hash_in ⟦<H as Hashes<K>>⟧.hash_of self.old.contents k)
-            self.old.contents self.new.contents) }
-        ensures once { IsReadyFor (hash_in ⟦<H as Hashes<K>>⟧.hash_of self.old.contents) self.old k
-            → bucket_count self.new.contents ≡ bucket_count self.old.contents }
-        ensures unmarked { OnOk result ((refused_of self.new.contents).1 ≡ false) }
+        ensures { PutsByRule K.eq ⟦<H as Hashes<K>>⟧.hash_of self.old (k, v) result self.new }
     {
         let hash = self.table.hash(&k);
         match self.find(hash, &k) {

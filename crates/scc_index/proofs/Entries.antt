@@ -1,6 +1,7 @@
 -- What an entry shows, under any guard.
 use Rattle.std.proofs.Common.{◌≡◌, Bool, true, Some, Result, Ok, Err, suc, take, drop, refl, sym, ap, subst, ◌∙◌}
-use Rattle.std.specs.Prelude.{IfOk, IfErr}
+use Rattle.std.specs.Prelude.{IfOk, IfErr, ⊤}
+use Rattle.std.specs.Result.{OnErr}
 use Rattle.std.specs.Cmp.{IsEquivalence}
 use Rattle.std.specs.List.{IsDistinct, slice_get}
 use Rattle.std.specs.Map.{keys_of, set_key}
@@ -8,7 +9,7 @@ use Rattle.std.specs.declared.cmp.PartialEq as eq
 use Rattle.std.specs.declared.hash.Hash as hash
 use Rattle.std.specs.declared.hash.Hasher as hasher
 use Rattle.std.specs.declared.hash.BuildHasher as builder
-use Rattle.scc_contents.specs.Contents.{Contents, entries, waiting_of}
+use Rattle.scc_contents.specs.Contents.{Contents, entries, key_hash, waiting_of}
 use Rattle.scc_array.specs.ShelfWrites.{put_whole}
 use Rattle.scc_buckets.specs.Placed as spots
 use Rattle.scc_table.specs.Placed.{front_of, back_of, IsPlace-with_write_at}
@@ -16,11 +17,31 @@ use Rattle.scc_table.specs.Places.{IsPlace, IsFoundAt, IsInsertedAt, index_of, w
 use Rattle.scc_common.specs.declared.guard.Guard as guard
 use Rattle.scc_buckets.proofs.PairSplits.{set_value-at, set_key-split, apart-at, without-at}
 use Rattle.scc_table.proofs.AtPlaces.{place-found, place-prop, entry_of-is, splits-there, written-there, put-there}
-use Rattle.scc_index.specs.Entries.{occupied_pair, IsOccupiedAt, IsUpdated, IsInserted}
+use Rattle.scc_common.specs.declared.errors.InsertError.{InsertError}
+use Rattle.scc_contents.specs.Pairs.{IsUnique}
+use Rattle.scc_table.specs.Relocations.{Relocates, RelocatesTwo}
+use Rattle.scc_index.specs.Entries.{Memory, Occupied, Vacant, entry_guard, entry_key, occupied_pair, GrowsThrough, IsGrownFor, IsOccupiedAt, IsUpdated, IsInserted, IsVacant, OrInserts, OrInsertsSome, RefusesSome, RelocatesThrough}
 use Rattle.scc_table.proofs.Relocations.{waiting-write}
 use Rattle.scc_index.proofs.Updates.{finds-replaced}
 use Rattle.scc_index.specs.declared.held.HeldEntry.{HeldEntry}
+use Rattle.scc_index.specs.declared.held.HeldPlace.{HeldPlace}
 use Rattle.scc_index.specs.declared.held.HeldVacant.{HeldVacant}
+
+pub both-ok : {A B : Type 0} (P Q : A → Type 0) (r : Result A B) → IfOk r P → IfOk r Q → IfOk r (λ a. P a × Q a)
+both-ok P Q (Ok a) p q = (p, q)
+both-ok P Q (Err e) p q = tt
+
+pub map-ok : {A B : Type 0} (P Q : A → Type 0) (r : Result A B) → ((a : A) → P a → Q a) → IfOk r P → IfOk r Q
+map-ok P Q (Ok a) f p = f a p
+map-ok P Q (Err e) f p = tt
+
+pub map-err : {A B : Type 0} (P Q : B → Type 0) (r : Result A B) → ((e : B) → P e → Q e) → IfErr r P → IfErr r Q
+map-err P Q (Ok a) f p = tt
+map-err P Q (Err e) f p = f e p
+
+pub any-err : {A B : Type 0} (r : Result A B) → OnErr r ⊤
+any-err (Ok a) = tt
+any-err (Err e) = tt
 
 module _ {G N K V S T : Type 0} {d : guard.Ghosts G (Contents (K × V) S)} {g : eq.Ghosts K} {h : hash.Ghosts K} {b : builder.Ghosts S T} {w : hasher.Ghosts T} where
   -- what the guard showed at the place is the pair
@@ -84,14 +105,42 @@ module _ {G N K V S T : Type 0} {d : guard.Ghosts G (Contents (K × V) S)} {g : 
   pub same-entry : (o : HeldEntry G N K V S T d g h b w) (p : IsPlace (d.kept o.guard) o.place) → record o { within = p } ≡ o
   same-entry o p = ap (λ r. record o { within = r }) (place-prop (d.kept o.guard) o.place p o.within)
 
-pub both-ok : {A B : Type 0} (P Q : A → Type 0) (r : Result A B) → IfOk r P → IfOk r Q → IfOk r (λ a. P a × Q a)
-both-ok P Q (Ok a) p q = (p, q)
-both-ok P Q (Err e) p q = tt
+  -- what an insertion through the entry ensures of the array, whatever is put in
+  pub record Ends (e : HeldPlace G N K V S T d g h b w) (r : Result (HeldEntry G N K V S T d g h b w) (InsertError K V)) : Type 0 where
+    pub vacant : OnErr r (IsVacant e)
+    pub growth : IfOk r (GrowsThrough (key_hash b w h.hash_input (d.kept (entry_guard e))) e)
+    pub relocates : IfOk r (RelocatesThrough (key_hash b w h.hash_input (d.kept (entry_guard e))) e)
 
-pub map-ok : {A B : Type 0} (P Q : A → Type 0) (r : Result A B) → ((a : A) → P a → Q a) → IfOk r P → IfOk r Q
-map-ok P Q (Ok a) f p = f a p
-map-ok P Q (Err e) f p = tt
+  -- an occupied entry is handed on as it is
+  module _ (e : HeldPlace G N K V S T d g h b w) (o : HeldEntry G N K V S T d g h b w) (r : Result (HeldEntry G N K V S T d g h b w) (InsertError K V)) (is : e ≡ Occupied o) (same : r ≡ Ok o) where
+    pub ends-handed : Ends e r
+    ends-handed = subst (λ z. Ends z r) (sym is) (subst (Ends (Occupied o)) (sym same) (record { vacant = tt; growth = tt; relocates = refl }))
 
-pub map-err : {A B : Type 0} (P Q : B → Type 0) (r : Result A B) → ((e : B) → P e → Q e) → IfErr r P → IfErr r Q
-map-err P Q (Ok a) f p = tt
-map-err P Q (Err e) f p = f e p
+    pub or-handed : (v : V) → IfOk r (OrInserts e v)
+    or-handed v = subst (λ z. IfOk r (OrInserts z v)) (sym is) (subst (λ x. IfOk x (OrInserts (Occupied o) v)) (sym same) refl)
+
+    pub some-handed : (P : K → V → Type 0) → IfOk r (OrInsertsSome e P)
+    some-handed P = subst (λ z. IfOk r (OrInsertsSome z P)) (sym is) (subst (λ x. IfOk x (OrInsertsSome (Occupied o) P)) (sym same) refl)
+
+    pub none-refused : (P : InsertError K V → Type 0) → IfErr r P
+    none-refused P = subst (λ x. IfErr x P) (sym same) tt
+
+    pub still-unique : (same-key : K → K → Bool) → IsUnique same-key (d.kept o.guard) → IfOk r (λ x. IsUnique same-key (d.kept x.guard))
+    still-unique same-key u = subst (λ x. IfOk x (λ y. IsUnique same-key (d.kept y.guard))) (sym same) u
+
+  -- through a vacant one a value is put in
+  module _ (e : HeldPlace G N K V S T d g h b w) (x : HeldVacant G N K V S T d g h b w) (r : Result (HeldEntry G N K V S T d g h b w) (InsertError K V)) (is : e ≡ Vacant x) where
+    pub ends-put : IfOk r (λ o. IsGrownFor (key_hash b w h.hash_input (d.kept x.guard)) (d.kept x.guard) x.key (d.kept o.guard)) → IfOk r (λ o. Relocates (d.kept x.guard) (d.kept o.guard)) → IfOk r (λ o. RelocatesTwo (key_hash b w h.hash_input (d.kept x.guard) x.key) (d.kept x.guard) (d.kept o.guard)) → Ends e r
+    ends-put growth moves two = subst (λ z. Ends z r) (sym is) (record { vacant = any-err r; growth = growth; relocates = both-ok _ _ r moves two })
+
+    pub or-put : (v : V) → IfOk r (IsInserted x v) → IfOk r (OrInserts e v)
+    or-put v put = subst (λ z. IfOk r (OrInserts z v)) (sym is) put
+
+    pub some-put : (P : K → V → Type 0) (v : V) → P x.key v → IfOk r (IsInserted x v) → IfOk r (OrInsertsSome e P)
+    some-put P v gave put = subst (λ z. IfOk r (OrInsertsSome z P)) (sym is) (map-ok (IsInserted x v) (OrInsertsSome (Vacant x) P) r (λ o i. (v, gave, i)) put)
+
+    pub or-refused : (v : V) → IfErr r (λ i. i ≡ Memory (x.key, v)) → IfErr r (λ i. i ≡ Memory (entry_key e, v))
+    or-refused v back = subst (λ z. IfErr r (λ i. i ≡ Memory (entry_key z, v))) (sym is) back
+
+    pub some-refused : (P : K → V → Type 0) (v : V) → P x.key v → IfErr r (λ i. i ≡ Memory (x.key, v)) → IfErr r (RefusesSome e P)
+    some-refused P v gave back = subst (λ z. IfErr r (RefusesSome z P)) (sym is) (map-err (λ i. i ≡ Memory (x.key, v)) (RefusesSome (Vacant x) P) r (λ i b. (v, gave, b)) back)

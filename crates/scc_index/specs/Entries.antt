@@ -14,7 +14,7 @@ use Rattle.scc_contents.specs.Contents.{Contents, entries, key_hash, waiting_of}
 use Rattle.scc_contents.specs.Pairs.{find, without, FindsInstead}
 use Rattle.scc_table.specs.Placed.{entry_of, front_of, back_of, IsWrittenAt, IsPutAt}
 use Rattle.scc_table.specs.Relocations.{Relocates, RelocatesTwo}
-use Rattle.scc_contents.specs.Steps.{FirstArrayWhenDue, GrowsFor, IsUnchanged, RaisesWhenDue}
+use Rattle.scc_contents.specs.Steps.{FirstArrayWhenDue, GrowsFor, GrowsWhenDue, IsUnchanged, RaisesWhenDue}
 use Rattle.scc_common.specs.declared.errors.InsertError.{InsertError}
 use Rattle.scc_common.specs.declared.guard.Guard as guard
 use Rattle.scc_index.specs.Lends.{index_row}
@@ -28,10 +28,11 @@ module _ {K V S : Type 0} where
     pub grows : GrowsFor hash (λ p. p.0) c k d
     pub first : FirstArrayWhenDue c d
 
-  -- c, where an insertion of the new key k was refused: nothing changed, the note of refused memory rose only where a growth was due, and no bucket waits that an insertion doesn't leave waiting
+  -- c, where an insertion of the new key k was refused: nothing changed, the note of refused memory rose only where a growth was due and is up there, and no bucket waits that an insertion doesn't leave waiting
   pub record RestsRefused (hash : K → ℕ) (c : Contents (K × V) S) (k : K) (d : Contents (K × V) S) : Type 0 where
     pub unchanged : IsUnchanged c d
     pub raised : RaisesWhenDue hash (λ p. p.0) c k d
+    pub undone : GrowsWhenDue hash (λ p. p.0) c k d
     pub relocates : Relocates c d
 
 module _ {G N K V S T : Type 0} {d : guard.Ghosts G (Contents (K × V) S)} {g : eq.Ghosts K} {h : hash.Ghosts K} {b : builder.Ghosts S T} {w : hasher.Ghosts T} where

@@ -1,9 +1,11 @@
--- What an insertion does to an index and to its array, in one word.
-use Rattle.std.specs.Prelude.{◌≡◌, ℕ, Bool, None, Some, Result, IsSome}
+-- What an insertion does to an index and to its array, and what room made for one does, in one word a call.
+use Rattle.std.specs.Prelude.{◌≡◌, ℕ, Bool, None, Some, Result, IsSome, IsOk, IfOk, IfErr}
 use Rattle.std.specs.Result.{OnOk, OnErr}
+use Rattle.scc_buckets.specs.declared.place.Place.{Place}
 use Rattle.scc_contents.specs.Contents.{Contents, entries, bucket_count, settings_of, refused_of, waiting_of}
 use Rattle.scc_contents.specs.Pairs.{find, FindsInstead, HasRoom, IsUnique}
-use Rattle.scc_contents.specs.Steps.{FirstArrayWhenDue, Grows, GrowsWhenDue, IsReadyFor, RaisesWhenDue}
+use Rattle.scc_contents.specs.Steps.{FirstArrayWhenDue, Grows, GrowsFor, GrowsWhenDue, IsReadyFor, IsUnchanged, MakesRoom, RaisesWhenDue}
+use Rattle.scc_table.specs.Places.{IsInsertedAt}
 use Rattle.scc_table.specs.Relocations.{Relocates, RelocatesTwo}
 use Rattle.scc_index.specs.IndexSteps.{Inserts}
 use Rattle.scc_common.specs.declared.errors.InsertError.{InsertError}
@@ -27,6 +29,8 @@ module _ {K V S : Type 0} (eq : K → K → Bool) (hash_of : S → K → ℕ) wh
     pub due : OnOk result (GrowsWhenDue (hash_of (settings_of c).hasher) (λ x. x.0) c p.0 d)
     -- where it fails, the note of refused memory rises only where a growth is due
     pub raised : OnErr result (RaisesWhenDue (hash_of (settings_of c).hasher) (λ x. x.0) c p.0 d)
+    -- and where a new key is refused and a growth is due, it is up
+    pub undone : find eq (entries c) p.0 ≡ None → OnErr result (GrowsWhenDue (hash_of (settings_of c).hasher) (λ x. x.0) c p.0 d)
     -- the first array has the size of the minimum
     pub first : OnOk result (FirstArrayWhenDue c d)
     -- the note of refused memory stays where the key is there
@@ -37,5 +41,43 @@ module _ {K V S : Type 0} (eq : K → K → Bool) (hash_of : S → K → ℕ) wh
     pub two : find eq (entries c) p.0 ≡ None → OnOk result (RelocatesTwo (hash_of (settings_of c).hasher p.0) c d)
     -- a key that is there relocates none
     pub waiting : IsSome (find eq (entries c) p.0) → waiting_of d ≡ waiting_of c
+    -- no two keys are equal
+    pub unique : IsUnique eq d
+
+  -- what an insertion of the pair p, whose key is new, answered so, does to the pairs and to the array
+  pub record InsertsNewByRule (c : Contents (K × V) S) (p : K × V) (result : Result Place (K × V)) (d : Contents (K × V) S) : Type 0 where
+    -- the pair was added, and stands at the place that is answered
+    pub ok : IfOk result (IsInsertedAt c p d)
+    -- where it fails, the pair comes back
+    pub refused : IfErr result (λ q. q ≡ p)
+    -- and nothing changed
+    pub unchanged : OnErr result (IsUnchanged c d)
+    -- the note of refused memory rises only where a growth is due
+    pub raised : OnErr result (RaisesWhenDue (hash_of (settings_of c).hasher) (λ x. x.0) c p.0 d)
+    -- and is up where one is due
+    pub undone : OnErr result (GrowsWhenDue (hash_of (settings_of c).hasher) (λ x. x.0) c p.0 d)
+    -- where it succeeds, the array grows as it may and has to
+    pub grows : OnOk result (GrowsFor (hash_of (settings_of c).hasher) (λ x. x.0) c p.0 d)
+    -- the first array has the size of the minimum
+    pub first : OnOk result (FirstArrayWhenDue c d)
+    -- it relocates two buckets at most
+    pub relocates : Relocates c d
+    -- and two exactly, its own first, where none of them is long
+    pub two : OnOk result (RelocatesTwo (hash_of (settings_of c).hasher p.0) c d)
+    -- no two keys are equal
+    pub unique : IsUnique eq d
+
+  -- what `make_room` for the key k, answered so, does to an index
+  pub record MakesRoomByRule {X : Type 0} (c : Contents (K × V) S) (k : K) (result : Result (Unit {0}) X) (d : Contents (K × V) S) : Type 0 where
+    -- a key that is there wants nothing
+    pub present : IsSome (find eq (entries c) k) → IsOk result × (d ≡ c)
+    -- for a new key all is made that its insertion wants
+    pub ok : find eq (entries c) k ≡ None → OnOk result (MakesRoom (hash_of (settings_of c).hasher) (λ x. x.0) c (hash_of (settings_of c).hasher k) d)
+    -- it fails only where the first array is refused to a new key
+    pub err : OnErr result ((find eq (entries c) k ≡ None) × (bucket_count c ≡ 0))
+    -- and then nothing changed
+    pub same : OnErr result (IsUnchanged c d)
+    -- hasher and sizes stay
+    pub settings : settings_of d ≡ settings_of c
     -- no two keys are equal
     pub unique : IsUnique eq d

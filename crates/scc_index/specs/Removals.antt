@@ -1,9 +1,9 @@
--- What a removal by key does to an index and to its array, in one word for all such calls.
-use Rattle.std.specs.Prelude.{◌≡◌, ◌≢◌, Bool, None, length, IsTrue}
+-- What a removal by key, and one of all versions, does to an index and to its array, in one word a kind.
+use Rattle.std.specs.Prelude.{◌≡◌, ◌≢◌, Bool, [], None, length, IsTrue}
 use Rattle.scc_contents.specs.Contents.{Contents, entries, bucket_count, minimum_of, refused_of, waiting_of}
 use Rattle.scc_contents.specs.Pairs.{FindsInstead, IsUnique}
 use Rattle.scc_contents.specs.Sizes.{IsSmaller}
-use Rattle.scc_contents.specs.Steps.{ShrinksWhenDue}
+use Rattle.scc_contents.specs.Steps.{Holds, ShrinksWhenDue}
 use Rattle.scc_table.specs.Relocations.{RelocatesNone}
 
 module _ {K V S : Type 0} (eq : K → K → Bool) where
@@ -23,5 +23,20 @@ module _ {K V S : Type 0} (eq : K → K → Bool) where
     pub relocates : IsTrue result → RelocatesNone c d
     -- and where none was taken, the same buckets wait
     pub waiting : (IsTrue result → ⊥) → waiting_of d ≡ waiting_of c
+    -- no two keys are equal
+    pub unique : IsUnique eq d
+
+  -- what `clear_sync` does to an index and to its array
+  pub record ClearsByRule (c d : Contents (K × V) S) : Type 0 where
+    -- there is no entry left
+    pub empty : entries d ≡ []
+    -- hasher and sizes stay
+    pub holds : Holds c [] d
+    -- the number of buckets changes only by a shrink of the size that the minimum names
+    pub smaller : bucket_count d ≢ bucket_count c → IsSmaller (minimum_of c) 0 (bucket_count c) (bucket_count d)
+    -- it comes where it is due, unless memory for it was refused
+    pub due : ShrinksWhenDue c d
+    -- no bucket takes entries over
+    pub relocates : RelocatesNone c d
     -- no two keys are equal
     pub unique : IsUnique eq d

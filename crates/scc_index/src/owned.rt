@@ -1,5 +1,5 @@
 //! The index for one owner: every call that changes it takes `&mut self`.
-ghost use Rattle.std.specs.Prelude.{◌≡◌, ◌≢◌, ◌<◌, ◌*◌, ◌≤◌, ◌↔◌, List, [], length, Some, None, IsTrue, IsSome, IsOk, IfOk, OnOk, ◌==◌, ◌∷◌, true, IfErr, OnErr, MatchOption, slice_get, remove, false};
+ghost use Rattle.std.specs.Prelude.{◌≡◌, ◌≢◌, ◌<◌, ◌*◌, ◌≤◌, ◌↔◌, List, [], length, Some, None, IsTrue, IsSome, IfOk, ◌==◌, true, IfErr, OnErr, MatchOption, slice_get, remove, false};
 ghost use Rattle.std.specs.Arc.{arc_value};
 ghost use Rattle.std.specs.Borrow.{Bor};
 ghost use Rattle.std.specs.Fn.{FnOnceTakesAt};
@@ -8,15 +8,15 @@ ghost use Rattle.scc_contents.specs.Contents.{entries, bucket_count, settings_of
 ghost use Rattle.scc_contents.specs.Pairs.{find, HasRoom, IsUnique};
 ghost use Rattle.scc_contents.specs.Sizes.{IsSmaller};
 ghost use Rattle.scc_contents.specs.Walks.{CalledOn, CallableWhile, Walks};
-ghost use Rattle.scc_table.specs.Places.{IsPlace, IsFoundAt, IsInsertedAt, index_of, with_write_at};
+ghost use Rattle.scc_table.specs.Places.{IsPlace, IsFoundAt, index_of, with_write_at};
 ghost use Rattle.scc_table.specs.Making.{IsNew, MakesEmpty};
-ghost use Rattle.scc_table.specs.Relocations.{Relocates, RelocatesNone, RelocatesTwo};
-ghost use Rattle.scc_contents.specs.Steps.{FirstArrayWhenDue, GrowsFor, Holds, IsUnchanged, MakesRoom, RaisesWhenDue, ShrinksWhenDue};
+ghost use Rattle.scc_table.specs.Relocations.{RelocatesNone};
+ghost use Rattle.scc_contents.specs.Steps.{Holds, IsUnchanged, ShrinksWhenDue};
 ghost use Rattle.scc_array.specs.ShelfWrites.{put_whole};
 ghost use Rattle.scc_index.specs.ClosureSteps.{RemovesIf};
 ghost use Rattle.scc_contents.specs.Closures.{Reads};
-ghost use Rattle.scc_index.specs.IndexSteps.{Inserts, Removes};
-ghost use Rattle.scc_index.specs.Insertions.{InsertsByRule};
+ghost use Rattle.scc_index.specs.IndexSteps.{Removes};
+ghost use Rattle.scc_index.specs.Insertions.{InsertsByRule, InsertsNewByRule, MakesRoomByRule};
 ghost use Rattle.scc_index.specs.Removals.{RemovesByRule};
 
 mod collecting;
@@ -267,14 +267,7 @@ impl<K: Eq + Hash, V, H: BuildHasher> Owned<K, V, H> {
     /// is not tried again by the insertion of `k` that follows, so that it makes no resize in any case; this fails only
     /// where the first array is refused.
     pub fn make_room(&mut self, k: &K) -> Result<(), MakeError>
-        ensures present { IsSome (find K.eq (entries self.old) k.now) → IsOk result × (self.new ≡ self.old) }
-        ensures ok { find K.eq (entries self.old) k.now ≡ None
-            → OnOk result (MakesRoom (hash_in ⟦<H as Hashes<K>>⟧.hash_of self.old) (λ p. p.0) self.old
-            (hash_in ⟦<H as Hashes<K>>⟧.hash_of self.old k.now) self.new) }
-        ensures err { OnErr result ((find K.eq (entries self.old) k.now ≡ None) × (bucket_count self.old ≡ 0)) }
-        ensures same { OnErr result (IsUnchanged self.old self.new) }
-        ensures settings { settings_of self.new ≡ settings_of self.old }
-        ensures unique { IsUnique K.eq self.new }
+        ensures { MakesRoomByRule K.eq ⟦<H as Hashes<K>>⟧.hash_of self.old k.now result self.new }
     {
         let hash = self.table.hash(k);
         match self.table.search(hash, k) {
@@ -397,17 +390,7 @@ impl<K: Eq + Hash, V, H: BuildHasher> Owned<K, V, H> {
     pub(crate) fn insert_new(&mut self, hash: u64, k: K, v: V) -> Result<Place, (K, V)>
         requires hashed { hash ≡ hash_in ⟦<H as Hashes<K>>⟧.hash_of self.old k }
         requires absent { find K.eq (entries self.old) k ≡ None }
-        ensures ok { IfOk result (IsInsertedAt self.old (k, v) self.new) }
-        ensures refused { IfErr result (λ p. p ≡ (k, v)) }
-        ensures unchanged { OnErr result (IsUnchanged self.old self.new) }
-        ensures raised { OnErr result (RaisesWhenDue (hash_in ⟦<H as Hashes<K>>⟧.hash_of self.old) (λ p. p.0) self.old
-            k self.new) }
-        ensures grows { OnOk result (GrowsFor (hash_in ⟦<H as Hashes<K>>⟧.hash_of self.old) (λ p. p.0) self.old k
-            self.new) }
-        ensures first { OnOk result (FirstArrayWhenDue self.old self.new) }
-        ensures relocates { Relocates self.old self.new }
-        ensures two { OnOk result (RelocatesTwo (hash_in ⟦<H as Hashes<K>>⟧.hash_of self.old k) self.old self.new) }
-        ensures unique { IsUnique K.eq self.new }
+        ensures { InsertsNewByRule K.eq ⟦<H as Hashes<K>>⟧.hash_of self.old (k, v) result self.new }
     {
         self.table.insert_made(hash, (k, v))
     }

@@ -1,8 +1,8 @@
 //! How a cache is made.
 ghost use Rattle.std.specs.Arc.{arc_value};
-ghost use Rattle.std.specs.Prelude.{◌≡◌, ◌≤◌, ◌<◌, ◌*◌, [], max, IsOk, IfOk, false};
-ghost use Rattle.scc_contents.specs.Contents.{entries, bucket_count, settings_of, refused_of, waiting_of};
-ghost use Rattle.scc_contents.specs.Sizes.{IsArraySize};
+ghost use Rattle.std.specs.Prelude.{◌≤◌};
+ghost use Rattle.scc_contents.specs.Contents.{settings_of};
+ghost use Rattle.scc_cache.specs.Making.{IsNew, MakesEmpty};
 
 use super::Owned;
 use crate::DEFAULT_MAXIMUM_CAPACITY;
@@ -16,33 +16,14 @@ use std::sync::Arc;
 impl<K: Eq + Hash, V> Owned<K, V> {
     /// An empty cache without an array, with a maximum of 256 slots. It takes no memory.
     pub fn new(alloc: Global) -> Self
-        ensures entries { entries result.contents ≡ [] }
-        ensures buckets { bucket_count result.contents ≡ 0 }
-        ensures settings { settings_of result.contents
-            ≡ record { hasher = (settings_of result.contents).hasher; skipped = 0; asked = 0; reserved = 0 } }
-        ensures maximum { result.maximum ≡ 256 }
-        ensures noted { refused_of result.contents ≡ (false, false) }
-        ensures waiting { waiting_of result.contents ≡ [] }
+        ensures { IsNew (settings_of result.contents).hasher result }
     {
         Owned::with_hasher(alloc, BuildHasherDefault::new())
     }
 
     /// An empty cache by the rules of `with_capacity_and_hasher`.
     pub fn with_capacity(alloc: Global, capacity: usize, maximum: usize) -> Result<Self, MakeError>
-        ensures entries { IfOk result (λ c. entries c.contents ≡ []) }
-        ensures none { IfOk result (λ c. capacity ≡ 0 → bucket_count c.contents ≡ 0) }
-        ensures size { IfOk result (λ c. 0 < capacity → IsArraySize capacity (32 * bucket_count c.contents)) }
-        ensures settings { IfOk result (λ c. settings_of c.contents
-            ≡ record {
-              hasher = (settings_of c.contents).hasher;
-              skipped = 0;
-              asked = 32 * bucket_count c.contents;
-              reserved = 0;
-            }) }
-        ensures maximum { IfOk result (λ c. IsArraySize (max maximum (32 * bucket_count c.contents)) c.maximum) }
-        ensures succeeds { capacity ≡ 0 → IsOk result }
-        ensures noted { IfOk result (λ c. refused_of c.contents ≡ (false, false)) }
-        ensures waiting { IfOk result (λ c. waiting_of c.contents ≡ []) }
+        ensures { MakesEmpty (λ c. (settings_of c.contents).hasher) 0 capacity maximum result }
     {
         Owned::with_capacity_and_hasher(alloc, capacity, maximum, BuildHasherDefault::new())
     }
@@ -61,20 +42,7 @@ impl<K: Eq + Hash, V, H: BuildHasher> Owned<K, V, Shared<H>> {
     where
         H: Drop,
         requires { skipped ≤ 4 }
-        ensures entries { IfOk result (λ c. entries c.contents ≡ []) }
-        ensures none { IfOk result (λ c. capacity ≡ 0 → bucket_count c.contents ≡ 0) }
-        ensures size { IfOk result (λ c. 0 < capacity → IsArraySize capacity (32 * bucket_count c.contents)) }
-        ensures settings { IfOk result (λ c. settings_of c.contents
-            ≡ record {
-              hasher = arc_value hasher;
-              skipped = skipped;
-              asked = 32 * bucket_count c.contents;
-              reserved = 0;
-            }) }
-        ensures maximum { IfOk result (λ c. IsArraySize (max maximum (32 * bucket_count c.contents)) c.maximum) }
-        ensures succeeds { capacity ≡ 0 → IsOk result }
-        ensures noted { IfOk result (λ c. refused_of c.contents ≡ (false, false)) }
-        ensures waiting { IfOk result (λ c. waiting_of c.contents ≡ []) }
+        ensures { MakesEmpty (λ _. arc_value hasher) skipped capacity maximum result }
     {
         Owned::skipping(alloc, skipped, capacity, maximum, Shared::new(hasher))
     }
@@ -83,13 +51,7 @@ impl<K: Eq + Hash, V, H: BuildHasher> Owned<K, V, Shared<H>> {
 impl<K: Eq + Hash, V, H: BuildHasher> Owned<K, V, H> {
     /// An empty cache without an array, with a maximum of 256 slots. It takes no memory.
     pub fn with_hasher(alloc: Global, hasher: H) -> Self
-        ensures entries { entries result.contents ≡ [] }
-        ensures buckets { bucket_count result.contents ≡ 0 }
-        ensures settings { settings_of result.contents
-            ≡ record { hasher = hasher; skipped = 0; asked = 0; reserved = 0 } }
-        ensures maximum { result.maximum ≡ 256 }
-        ensures noted { refused_of result.contents ≡ (false, false) }
-        ensures waiting { waiting_of result.contents ≡ [] }
+        ensures { IsNew hasher result }
     {
         Owned {
             table: Table::new(alloc, 0, hasher),
@@ -108,15 +70,7 @@ impl<K: Eq + Hash, V, H: BuildHasher> Owned<K, V, H> {
     ) -> Result<Self, MakeError>
     where
         H: Drop,
-        ensures entries { IfOk result (λ c. entries c.contents ≡ []) }
-        ensures none { IfOk result (λ c. capacity ≡ 0 → bucket_count c.contents ≡ 0) }
-        ensures size { IfOk result (λ c. 0 < capacity → IsArraySize capacity (32 * bucket_count c.contents)) }
-        ensures settings { IfOk result (λ c. settings_of c.contents
-            ≡ record { hasher = hasher; skipped = 0; asked = 32 * bucket_count c.contents; reserved = 0 }) }
-        ensures maximum { IfOk result (λ c. IsArraySize (max maximum (32 * bucket_count c.contents)) c.maximum) }
-        ensures succeeds { capacity ≡ 0 → IsOk result }
-        ensures noted { IfOk result (λ c. refused_of c.contents ≡ (false, false)) }
-        ensures waiting { IfOk result (λ c. waiting_of c.contents ≡ []) }
+        ensures { MakesEmpty (λ _. hasher) 0 capacity maximum result }
     {
         Owned::skipping(alloc, 0, capacity, maximum, hasher)
     }
@@ -132,15 +86,7 @@ impl<K: Eq + Hash, V, H: BuildHasher> Owned<K, V, H> {
     where
         H: Drop,
         requires { skipped ≤ 4 }
-        ensures entries { IfOk result (λ c. entries c.contents ≡ []) }
-        ensures none { IfOk result (λ c. capacity ≡ 0 → bucket_count c.contents ≡ 0) }
-        ensures size { IfOk result (λ c. 0 < capacity → IsArraySize capacity (32 * bucket_count c.contents)) }
-        ensures settings { IfOk result (λ c. settings_of c.contents
-            ≡ record { hasher = hasher; skipped = skipped; asked = 32 * bucket_count c.contents; reserved = 0 }) }
-        ensures maximum { IfOk result (λ c. IsArraySize (max maximum (32 * bucket_count c.contents)) c.maximum) }
-        ensures succeeds { capacity ≡ 0 → IsOk result }
-        ensures noted { IfOk result (λ c. refused_of c.contents ≡ (false, false)) }
-        ensures waiting { IfOk result (λ c. waiting_of c.contents ≡ []) }
+        ensures { MakesEmpty (λ _. hasher) skipped capacity maximum result }
     {
         match Table::with_capacity(alloc, skipped, capacity, hasher) {
             Ok(table) => {

@@ -1,14 +1,15 @@
 //! What is done at a place of a cache.
-ghost use Rattle.std.specs.Prelude.{◌≡◌, ◌<◌, false, true, Some, IfOk, IfErr, OnOk, OnSome, MatchOption, slice_get};
+ghost use Rattle.std.specs.Prelude.{◌≡◌, ◌<◌, true, Some, OnSome, MatchOption, slice_get};
 ghost use Rattle.std.specs.Borrow.{sem};
-ghost use Rattle.scc_contents.specs.Contents.{entries, bucket_count, list_of, hash_in, refused_of, settings_of, waiting_of};
+ghost use Rattle.scc_contents.specs.Contents.{entries, bucket_count, list_of, hash_in, settings_of, waiting_of};
 ghost use Rattle.scc_contents.specs.Routing.{bucket_number};
 ghost use Rattle.scc_table.specs.Places.{IsPlace, index_of, spot_of};
 ghost use Rattle.scc_table.specs.TwoArrays.{IsWaiting};
-ghost use Rattle.scc_cache.specs.CacheSteps.{IsFound, IsLacking, IsLastAt, IsReadyFor, PutsNew, TakesAt};
+ghost use Rattle.scc_cache.specs.CacheSteps.{IsFound, IsLacking, IsLastAt, TakesAt};
 ghost use Rattle.scc_cache.specs.Caches.{IsCacheState};
 ghost use Rattle.scc_cache.specs.Lends.{lends_value, with_key_at, with_value_at};
-ghost use Rattle.scc_cache.specs.Relocations.{RelocatesNone, RelocatesOne, RelocatesTwo};
+ghost use Rattle.scc_cache.specs.Putting.{PutsNewByRule};
+ghost use Rattle.scc_cache.specs.Relocations.{RelocatesNone, RelocatesOne};
 
 use super::Owned;
 use crate::EvictedEntry;
@@ -56,19 +57,7 @@ impl<K: Eq + Hash, V, H: BuildHasher> Owned<K, V, H> {
     ) -> Result<(EvictedEntry<K, V>, Place), (K, V)>
         requires hashed { hash ≡ hash_in ⟦<H as Hashes<K>>⟧.hash_of self.old.contents k }
         requires lacking { IsLacking (hash_in ⟦<H as Hashes<K>>⟧.hash_of self.old.contents) K.eq self.old.contents k }
-        ensures step { IfOk result (λ r. PutsNew (hash_in ⟦<H as Hashes<K>>⟧.hash_of self.old.contents) K.eq self.old
-            (k, v) r.0 self.new) }
-        ensures here { IfOk result (λ r. IsPlace self.new.contents r.1
-            × (slice_get (list_of self.new.contents (spot_of self.new.contents r.1).bucket)
-            (spot_of self.new.contents r.1).slot ≡ Some (k, v))) }
-        ensures refused { IfErr result (λ p. (p ≡ (k, v)) × (bucket_count self.old.contents ≡ 0)
-            × (self.new ≡ self.old)) }
-        ensures state { IsCacheState K.eq (hash_in ⟦<H as Hashes<K>>⟧.hash_of self.new.contents) self.new }
-        ensures relocates { OnOk result (RelocatesTwo (hash_in ⟦<H as Hashes<K>>⟧.hash_of self.old.contents k)
-            self.old.contents self.new.contents) }
-        ensures once { IsReadyFor (hash_in ⟦<H as Hashes<K>>⟧.hash_of self.old.contents) self.old k
-            → bucket_count self.new.contents ≡ bucket_count self.old.contents }
-        ensures unmarked { OnOk result ((refused_of self.new.contents).1 ≡ false) }
+        ensures { PutsNewByRule K.eq ⟦<H as Hashes<K>>⟧.hash_of self.old (k, v) result self.new }
     {
         match self.table.bucket_within(hash, self.maximum) {
             Ok(bucket) => {

@@ -1,9 +1,9 @@
 //! Room for a put before it is made, and what the put would drive out.
-ghost use Rattle.std.specs.Prelude.{◌≡◌, ◌<◌, ◌≤◌, false, length, Some, IsOk, IfSome, IfNone, OnOk, OnErr, MatchOption, slice_get};
-ghost use Rattle.scc_contents.specs.Contents.{bucket_count, hash_in, list_of, lists_of, refused_of, settings_of, waiting_of};
+ghost use Rattle.std.specs.Prelude.{◌≡◌, ◌<◌, ◌≤◌, length, Some, IfSome, IfNone, slice_get};
+ghost use Rattle.scc_contents.specs.Contents.{bucket_count, hash_in, list_of, settings_of};
 ghost use Rattle.scc_contents.specs.Routing.{bucket_number};
-ghost use Rattle.scc_cache.specs.CacheSteps.{DrivesNoneOut, DrivesOut, IsAbsent, IsPresent, MakesRoom};
-ghost use Rattle.scc_cache.specs.Caches.{IsCacheState};
+ghost use Rattle.scc_cache.specs.CacheSteps.{DrivesNoneOut, DrivesOut};
+ghost use Rattle.scc_cache.specs.Putting.{DropsRoom, MakesRoomByRule};
 
 use super::Owned;
 use scc_common::MakeError;
@@ -16,16 +16,7 @@ impl<K: Eq + Hash, V, H: BuildHasher> Owned<K, V, H> {
     /// marked: the put of `k` that follows doesn't try it again, so that it makes no resize in any case. This fails
     /// only where the first array is refused.
     pub fn make_room(&mut self, k: &K) -> Result<(), MakeError>
-        ensures present { (p : K × V) → IsPresent (hash_in ⟦<H as Hashes<K>>⟧.hash_of self.old.contents) K.eq
-            self.old.contents k.now p → IsOk result × (self.new ≡ self.old) }
-        ensures ok { IsAbsent (hash_in ⟦<H as Hashes<K>>⟧.hash_of self.old.contents) K.eq self.old.contents k.now
-            → OnOk result (MakesRoom (hash_in ⟦<H as Hashes<K>>⟧.hash_of self.old.contents) self.old k.now self.new) }
-        ensures err { OnErr result (IsAbsent (hash_in ⟦<H as Hashes<K>>⟧.hash_of self.old.contents) K.eq
-            self.old.contents k.now × (bucket_count self.old.contents ≡ 0)) }
-        ensures same { OnErr result (self.new ≡ self.old) }
-        ensures settings { settings_of self.new.contents ≡ settings_of self.old.contents }
-        ensures maximum { self.new.maximum ≡ self.old.maximum }
-        ensures state { IsCacheState K.eq (hash_in ⟦<H as Hashes<K>>⟧.hash_of self.new.contents) self.new }
+        ensures { MakesRoomByRule K.eq ⟦<H as Hashes<K>>⟧.hash_of self.old k.now result self.new }
     {
         let hash = self.table.hash(k);
         match self.find(hash, k) {
@@ -40,12 +31,7 @@ impl<K: Eq + Hash, V, H: BuildHasher> Owned<K, V, H> {
     /// Takes the mark of a refused doubling away, and changes nothing else: a put tries a doubling that is due, also
     /// where `make_room` was refused it.
     pub fn drop_room(&mut self)
-        ensures lists { lists_of self.new.contents ≡ lists_of self.old.contents }
-        ensures settings { settings_of self.new.contents ≡ settings_of self.old.contents }
-        ensures noted { refused_of self.new.contents ≡ ((refused_of self.old.contents).0, false) }
-        ensures waiting { waiting_of self.new.contents ≡ waiting_of self.old.contents }
-        ensures maximum { self.new.maximum ≡ self.old.maximum }
-        ensures state { IsCacheState K.eq (hash_in ⟦<H as Hashes<K>>⟧.hash_of self.new.contents) self.new }
+        ensures { DropsRoom K.eq ⟦<H as Hashes<K>>⟧.hash_of self.old self.new }
     {
         self.table.drop_room_within();
     }

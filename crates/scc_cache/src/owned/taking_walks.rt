@@ -1,15 +1,14 @@
 //! The walk that takes pairs out of a cache into a list.
-ghost use Rattle.std.specs.Prelude.{◌≡◌, ◌≤◌, ◌<◌, ◌++◌, suc, List, [], ◌∷◌, length, remove, Some, slice_get, OnErr, MatchOption};
+ghost use Rattle.std.specs.Prelude.{◌≡◌, ◌<◌, ◌++◌, List, Some};
 ghost use Rattle.std.specs.List.Sorted.{IsPermutation};
 ghost use Rattle.std.specs.Vec.{vec_len, vec_capacity};
-ghost use Rattle.scc_contents.specs.Contents.{entries, hash_in, refused_of, waiting_of};
-ghost use Rattle.scc_contents.specs.Pairs.{IsUnique};
+ghost use Rattle.scc_contents.specs.Contents.{entries, hash_in};
 ghost use Rattle.scc_contents.specs.Steps.{HoldsExactly};
-ghost use Rattle.scc_table.specs.Places.{IsPlace, StandsAt, index_of};
+ghost use Rattle.scc_table.specs.Places.{IsPlace};
 ghost use Rattle.scc_contents.specs.PairWalks.{CallableToWrite, CalledToWrite, GoesOn, Takes};
 ghost use Rattle.scc_cache.specs.CacheWalks.{GoesOver, LeavesPairs, ShrinksIfTaken};
-ghost use Rattle.scc_cache.specs.Caches.{Cached, IsCacheState};
-ghost use Rattle.scc_cache.specs.Relocations.{RelocatesNone};
+ghost use Rattle.scc_cache.specs.Caches.{Cached};
+ghost use Rattle.scc_cache.specs.TakingWalks.{MovesOut, TakesByRule, TakesInOrder};
 
 use super::Owned;
 use scc_buckets::Place;
@@ -30,20 +29,13 @@ impl<K: Eq + Hash, V, H: BuildHasher> Owned<K, V, H> {
     ) -> Result<bool, WalkError>
         requires { (es : List (K × V)) → IsPermutation (entries self.old.contents) es
             → CallableToWrite F.FnMut GoesOn f es }
-        ensures step { (es : List (K × V)) × (stay : List (K × V)) × (more : List (K × V)) × (last : F)
-            × (left : Cached (K × V) H)
+        ensures { TakesByRule K.eq ⟦<H as Hashes<K>>⟧.hash_of ((es : List (K × V)) × (stay : List (K × V))
+            × (more : List (K × V)) × (last : F) × (left : Cached (K × V) H)
             × GoesOver (hash_in ⟦<H as Hashes<K>>⟧.hash_of self.old.contents) self.old.contents es
             × Takes (CalledToWrite F.FnMut) f es stay more result last × (taken.new.items ≡ taken.old.items ++ more)
             × LeavesPairs (hash_in ⟦<H as Hashes<K>>⟧.hash_of self.old.contents) self.old stay left
-            × ShrinksIfTaken (hash_in ⟦<H as Hashes<K>>⟧.hash_of self.old.contents) more left self.new }
-        ensures full { OnErr result (vec_capacity taken.new ≤ vec_len taken.new) }
-        ensures room { vec_capacity taken.old ≤ vec_capacity taken.new }
-        ensures was_unique { IsUnique K.eq self.old.contents }
-        ensures state { IsCacheState K.eq (hash_in ⟦<H as Hashes<K>>⟧.hash_of self.new.contents) self.new }
-        ensures relocates { RelocatesNone (λ p. hash_in ⟦<H as Hashes<K>>⟧.hash_of self.old.contents p.0)
-            self.old.contents self.new.contents }
-        ensures rests { length (entries self.new.contents) ≡ length (entries self.old.contents)
-            → waiting_of self.new.contents ≡ waiting_of self.old.contents }
+            × ShrinksIfTaken (hash_in ⟦<H as Hashes<K>>⟧.hash_of self.old.contents) more left self.new) self.old
+            taken.old result self.new taken.new }
     {
         let mut f = f;
         self.iter_mut_lent(&mut f, taken)
@@ -57,20 +49,14 @@ impl<K: Eq + Hash, V, H: BuildHasher> Owned<K, V, H> {
     ) -> Result<bool, WalkError>
         requires { (es : List (K × V)) → IsPermutation (entries self.old.contents) es
             → CallableToWrite F.FnMut GoesOn f.old es }
-        ensures step { (es : List (K × V)) × (stay : List (K × V)) × (more : List (K × V)) × (left : Cached (K × V) H)
+        ensures { TakesByRule K.eq ⟦<H as Hashes<K>>⟧.hash_of ((es : List (K × V)) × (stay : List (K × V))
+            × (more : List (K × V)) × (left : Cached (K × V) H)
             × GoesOver (hash_in ⟦<H as Hashes<K>>⟧.hash_of self.old.contents) self.old.contents es
             × Takes (CalledToWrite F.FnMut) f.old es stay more result f.new
             × (taken.new.items ≡ taken.old.items ++ more)
             × LeavesPairs (hash_in ⟦<H as Hashes<K>>⟧.hash_of self.old.contents) self.old stay left
-            × ShrinksIfTaken (hash_in ⟦<H as Hashes<K>>⟧.hash_of self.old.contents) more left self.new }
-        ensures full { OnErr result (vec_capacity taken.new ≤ vec_len taken.new) }
-        ensures room { vec_capacity taken.old ≤ vec_capacity taken.new }
-        ensures was_unique { IsUnique K.eq self.old.contents }
-        ensures state { IsCacheState K.eq (hash_in ⟦<H as Hashes<K>>⟧.hash_of self.new.contents) self.new }
-        ensures relocates { RelocatesNone (λ p. hash_in ⟦<H as Hashes<K>>⟧.hash_of self.old.contents p.0)
-            self.old.contents self.new.contents }
-        ensures rests { length (entries self.new.contents) ≡ length (entries self.old.contents)
-            → waiting_of self.new.contents ≡ waiting_of self.old.contents }
+            × ShrinksIfTaken (hash_in ⟦<H as Hashes<K>>⟧.hash_of self.old.contents) more left self.new) self.old
+            taken.old result self.new taken.new }
     {
         let before = self.len();
         let result = self.take_walk(f, taken);
@@ -87,14 +73,10 @@ impl<K: Eq + Hash, V, H: BuildHasher> Owned<K, V, H> {
         taken: &mut Vec<(K, V)>,
     ) -> Result<bool, WalkError>
         requires { CallableToWrite F.FnMut GoesOn f.old (entries self.old.contents) }
-        ensures step { (stay : List (K × V)) × (more : List (K × V))
+        ensures { TakesInOrder ((stay : List (K × V)) × (more : List (K × V))
             × Takes (CalledToWrite F.FnMut) f.old (entries self.old.contents) stay more result f.new
-            × (taken.new.items ≡ taken.old.items ++ more) × HoldsExactly self.old.contents stay self.new.contents }
-        ensures refused { refused_of self.new.contents ≡ refused_of self.old.contents }
-        ensures maximum { self.new.maximum ≡ self.old.maximum }
-        ensures waiting { waiting_of self.new.contents ≡ waiting_of self.old.contents }
-        ensures full { OnErr result (vec_capacity taken.new ≤ vec_len taken.new) }
-        ensures room { vec_capacity taken.old ≤ vec_capacity taken.new }
+            × (taken.new.items ≡ taken.old.items ++ more) × HoldsExactly self.old.contents stay self.new.contents)
+            self.old taken.old result self.new taken.new }
     {
         let mut at = self.table.first_place();
         while let Some(place) = at {
@@ -124,16 +106,7 @@ impl<K: Eq + Hash, V, H: BuildHasher> Owned<K, V, H> {
     fn take_into(&mut self, place: Place, taken: &mut Vec<(K, V)>) -> Option<Place>
         requires within { IsPlace self.old.contents place }
         requires room { vec_len taken.old < vec_capacity taken.old }
-        ensures taken { (p : K × V) × (slice_get (entries self.old.contents) (index_of self.old.contents place)
-            ≡ Some p) × (taken.new.items ≡ taken.old.items ++ p ∷ []) }
-        ensures others { HoldsExactly self.old.contents
-            (remove (entries self.old.contents) (index_of self.old.contents place)) self.new.contents }
-        ensures refused { refused_of self.new.contents ≡ refused_of self.old.contents }
-        ensures maximum { self.new.maximum ≡ self.old.maximum }
-        ensures waiting { waiting_of self.new.contents ≡ waiting_of self.old.contents }
-        ensures next { MatchOption result (suc (index_of self.old.contents place)
-            ≡ length (entries self.old.contents)) (StandsAt self.new.contents (index_of self.old.contents place)) }
-        ensures capacity { vec_capacity taken.new ≡ vec_capacity taken.old }
+        ensures { MovesOut self.old place taken.old result self.new taken.new }
     {
         let (pair, next) = self.take_and_step(place);
         taken.push_reserved(pair);

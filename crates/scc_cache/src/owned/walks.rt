@@ -1,5 +1,5 @@
 //! Walks over the pairs of a cache. No walk makes a pair more recent.
-ghost use Rattle.std.specs.Prelude.{◌≡◌, suc, List, [], length, remove, true, Some, slice_get, MatchOption};
+ghost use Rattle.std.specs.Prelude.{◌≡◌, suc, List, [], length, true, Some, MatchOption};
 ghost use Rattle.std.specs.List.Sorted.{IsPermutation};
 ghost use Rattle.scc_contents.specs.Contents.{entries, refused_of, waiting_of, hash_in};
 ghost use Rattle.scc_contents.specs.Steps.{HoldsExactly};
@@ -8,6 +8,7 @@ ghost use Rattle.scc_table.specs.Places.{IsPlace, StandsAt, index_of};
 ghost use Rattle.scc_cache.specs.CacheSteps.{Clears};
 ghost use Rattle.scc_cache.specs.Caches.{IsCacheState};
 ghost use Rattle.scc_cache.specs.Relocations.{RelocatesNone};
+ghost use Rattle.scc_cache.specs.TakingWalks.{StepsOut};
 
 use super::Owned;
 use scc_buckets::Place;
@@ -73,14 +74,7 @@ impl<K: Eq + Hash, V, H: BuildHasher> Owned<K, V, H> {
     /// Takes the pair out of its place, with no resize, and answers it with the place of the pair that followed.
     pub(crate) fn take_and_step(&mut self, place: Place) -> ((K, V), Option<Place>)
         requires { IsPlace self.old.contents place }
-        ensures pair { slice_get (entries self.old.contents) (index_of self.old.contents place) ≡ Some result.0 }
-        ensures others { HoldsExactly self.old.contents
-            (remove (entries self.old.contents) (index_of self.old.contents place)) self.new.contents }
-        ensures refused { refused_of self.new.contents ≡ refused_of self.old.contents }
-        ensures maximum { self.new.maximum ≡ self.old.maximum }
-        ensures waiting { waiting_of self.new.contents ≡ waiting_of self.old.contents }
-        ensures next { MatchOption result.1 (suc (index_of self.old.contents place)
-            ≡ length (entries self.old.contents)) (StandsAt self.new.contents (index_of self.old.contents place)) }
+        ensures { StepsOut self.old place result self.new }
     {
         self.table.take_and_step(place)
     }

@@ -1,10 +1,7 @@
 //! The calls about the size of an index: reservations, the range of the capacity, the bucket of a key.
-ghost use Rattle.std.specs.Prelude.{◌≡◌, ◌+◌, ◌≤◌, ◌<◌, ◌^◌, ◌↔◌, IsSome, IsOk, IfNone, OnErr, OnOk, OnSome};
-ghost use Rattle.scc_contents.specs.Contents.{settings_of, minimum_of, pending_of, refused_of, waiting_of, hash_in, bucket_of};
-ghost use Rattle.scc_contents.specs.Pairs.{IsUnique};
-ghost use Rattle.scc_contents.specs.Steps.{ReachesMinimumWhenDue, ShrinksWhenDue};
-ghost use Rattle.scc_table.specs.Relocates.{IsGrowthDue, IsShrinkDue, Spreads};
-ghost use Rattle.scc_index.specs.IndexSizes.{ReservesOrRefuses, ReleasesOrRefuses};
+ghost use Rattle.std.specs.Prelude.{◌≡◌, ◌+◌, ◌<◌, ◌^◌};
+ghost use Rattle.scc_contents.specs.Contents.{minimum_of, pending_of, hash_in, bucket_of};
+ghost use Rattle.scc_index.specs.IndexSizes.{ReservesByRule, ReleasesByRule};
 
 use super::Owned;
 use scc_buckets::sizes::GREATEST_CAPACITY;
@@ -18,13 +15,7 @@ impl<K: Eq + Hash, V, H: BuildHasher> Owned<K, V, H> {
     /// minimum would pass the greatest capacity. An array with fewer slots than the minimum grows, unless memory is
     /// refused; the token comes all the same.
     pub fn reserve(&mut self, additional: usize) -> Option<Reservation>
-        ensures step { ReservesOrRefuses additional self.old result self.new }
-        ensures succeeds { IsSome result ↔ ((0 < additional) × (minimum_of self.old + additional ≤ 2 ^ 63)) }
-        ensures due { OnSome result (ReachesMinimumWhenDue self.old self.new) }
-        ensures noted { IfNone result (refused_of self.new ≡ refused_of self.old) }
-        ensures spreads { OnSome result (Spreads (IsGrowthDue (minimum_of self.new) self.old) self.old self.new) }
-        ensures waiting { IfNone result (waiting_of self.new ≡ waiting_of self.old) }
-        ensures unique { IsUnique K.eq self.new }
+        ensures { ReservesByRule K.eq additional self.old result self.new }
     {
         self.table.reserve(additional)
     }
@@ -32,13 +23,7 @@ impl<K: Eq + Hash, V, H: BuildHasher> Owned<K, V, H> {
     /// Gives reserved slots back, and tries to make the array smaller. A token for more slots than what is reserved
     /// here comes back, and nothing changes.
     pub fn release(&mut self, reservation: Reservation) -> Result<(), Reservation>
-        ensures step { ReleasesOrRefuses reservation self.old result self.new }
-        ensures succeeds { IsOk result ↔ (reservation ≤ (settings_of self.old).reserved) }
-        ensures due { OnOk result (ShrinksWhenDue self.old self.new) }
-        ensures noted { OnErr result (refused_of self.new ≡ refused_of self.old) }
-        ensures spreads { OnOk result (Spreads (IsShrinkDue (minimum_of self.new) self.old) self.old self.new) }
-        ensures waiting { OnErr result (waiting_of self.new ≡ waiting_of self.old) }
-        ensures unique { IsUnique K.eq self.new }
+        ensures { ReleasesByRule K.eq reservation self.old result self.new }
     {
         if self.table.lower_minimum(reservation.additional_capacity()) {
             Ok(())

@@ -8,6 +8,7 @@ ghost use Rattle.scc_table.specs.Relocations.{RelocatesNone};
 ghost use Rattle.scc_contents.specs.Sizes.{IsSmaller};
 ghost use Rattle.scc_contents.specs.Steps.{Holds, HoldsExactly, ShrinksWhenDue};
 ghost use Rattle.scc_contents.specs.Walks.{CalledOn, CallableWhile, Walks};
+ghost use Rattle.scc_index.specs.Removals.{ClearsByRule};
 ghost use Rattle.scc_index.specs.IndexWalks.{CallableOnAll, Retains};
 ghost use Rattle.scc_contents.specs.PairWalks.{Declines, PassesFirst};
 
@@ -21,13 +22,7 @@ impl<K: Eq + Hash, V, H: BuildHasher> Owned<K, V, H> {
     where
         K: Drop,
         V: Drop,
-        ensures empty { entries self.new ≡ [] }
-        ensures holds { Holds self.old [] self.new }
-        ensures smaller { bucket_count self.new ≢ bucket_count self.old
-            → IsSmaller (minimum_of self.old) 0 (bucket_count self.old) (bucket_count self.new) }
-        ensures due { ShrinksWhenDue self.old self.new }
-        ensures relocates { RelocatesNone self.old self.new }
-        ensures unique { IsUnique K.eq self.new }
+        ensures { ClearsByRule K.eq self.old self.new }
     {
         self.take_all();
         self.table.shrink();

@@ -1,10 +1,10 @@
 //! What is done with a whole index: comparisons and clones.
-ghost use Rattle.std.specs.Prelude.{◌≡◌, [], Some, IfOk, true};
+ghost use Rattle.std.specs.Prelude.{◌≡◌, [], Some, IfOk, true, false};
 ghost use Rattle.std.specs.HashMap.{entries_eq};
 ghost use Rattle.std.specs.List.{list_all};
 ghost use Rattle.std.specs.Option.{option_eq};
 ghost use Rattle.scc_contents.specs.Clones.{HasClones};
-ghost use Rattle.scc_contents.specs.Contents.{entries, waiting_of};
+ghost use Rattle.scc_contents.specs.Contents.{entries, refused_of, waiting_of};
 ghost use Rattle.scc_contents.specs.Pairs.{find, IsUnique};
 ghost use Rattle.scc_index.specs.Collections.{FindsClones};
 
@@ -56,8 +56,8 @@ impl<K: Eq + Hash, V: PartialEq, H: BuildHasher> Owned<K, V, H> {
 
 impl<K: Eq + Hash, V, H: BuildHasher> Owned<K, V, H> {
     /// An index with new versions of clones of all pairs under a clone of the hasher, of the same capacity, which is
-    /// its minimum; no bucket of it waits. It is refused for want of memory, and where a clone can't be had or two
-    /// keys' clones are equal.
+    /// its minimum; no bucket of it waits, and no resize of it was refused. It is refused for want of memory, and where
+    /// a clone can't be had or two keys' clones are equal.
     pub fn try_clone(&self) -> Result<Self, MakeError>
     where
         K: Clone,
@@ -66,6 +66,7 @@ impl<K: Eq + Hash, V, H: BuildHasher> Owned<K, V, H> {
         ensures clones { IfOk result (HasClones (λ p q. K.is_clone p.0 q.0 × V.is_clone p.1 q.1) H.is_clone self.now) }
         ensures finds { IfOk result (λ m. ((k : K) → (copy : K) → K.is_clone k copy → K.eq k copy ≡ true)
             → FindsClones K.eq (λ p q. K.is_clone p.0 q.0 × V.is_clone p.1 q.1) (entries self.now) (entries m)) }
+        ensures noted { IfOk result (λ m. refused_of m ≡ (false, false)) }
         ensures waiting { IfOk result (λ m. waiting_of m ≡ []) }
         ensures unique { IfOk result (λ m. IsUnique K.eq m) }
     {

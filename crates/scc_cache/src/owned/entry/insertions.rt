@@ -1,16 +1,15 @@
 //! The insertions of an entry of a borrowed cache. Each goes on at the place that the search found.
-ghost use Rattle.std.specs.Prelude.{◌≡◌, IfOk, IfErr};
+ghost use Rattle.std.specs.Prelude.{◌≡◌, None, Ok, IfOk, IfErr};
 ghost use Rattle.std.specs.Borrow.{sem};
 ghost use Rattle.std.specs.Fn.{FnOnceTakesAt, FnOnceReturnsAt};
 ghost use Rattle.scc_cache.specs.Entries.{entry_guard, entry_key, IsVacant, OrPuts, OrPutsSome, Refuses, RefusesSome, SetsEntry, rests_if_refused};
 
 use super::OccupiedEntry;
 use crate::EvictedEntry;
-use crate::held::{HeldEntry, HeldPlace, HeldVacant};
+use crate::held::{HeldEntry, HeldPlace};
 use crate::owned::Owned;
 use scc_common::InsertError;
 use std::hash::{BuildHasher, Hash};
-use std::marker::PhantomData;
 
 impl<'a, K: Eq + Hash, V, H: BuildHasher> HeldPlace<&'a mut Owned<K, V, H>, (), K, V, H> {
     /// Puts in `default` where the entry is vacant, by the rules of `put_sync`, and answers the pair that it drove out
@@ -28,44 +27,10 @@ impl<'a, K: Eq + Hash, V, H: BuildHasher> HeldPlace<&'a mut Owned<K, V, H>, (), 
     {
         match self {
             HeldPlace::Occupied(entry) => {
-                let HeldEntry {
-                    guard,
-                    place,
-                    rest,
-                    of,
-                } = entry;
                 drop(default);
-                Ok((
-                    None,
-                    HeldEntry {
-                        guard,
-                        place,
-                        rest,
-                        of,
-                    },
-                ))
+                entry.as_it_is()
             }
-            HeldPlace::Vacant(entry) => {
-                let HeldVacant {
-                    guard,
-                    key,
-                    hash,
-                    rest,
-                    of: _,
-                } = entry;
-                match guard.put_at(hash, key, default) {
-                    Ok((evicted, place)) => Ok((
-                        evicted,
-                        HeldEntry {
-                            guard,
-                            place,
-                            rest,
-                            of: PhantomData,
-                        },
-                    )),
-                    Err(pair) => Err(InsertError::Memory(pair)),
-                }
-            }
+            HeldPlace::Vacant(entry) => entry.put_entry(default),
         }
     }
 
@@ -81,44 +46,10 @@ impl<'a, K: Eq + Hash, V, H: BuildHasher> HeldPlace<&'a mut Owned<K, V, H>, (), 
             (entry_guard self.entry) result) }
     {
         match self {
-            HeldPlace::Occupied(entry) => {
-                let HeldEntry {
-                    guard,
-                    place,
-                    rest,
-                    of,
-                } = entry;
-                Ok((
-                    None,
-                    HeldEntry {
-                        guard,
-                        place,
-                        rest,
-                        of,
-                    },
-                ))
-            }
+            HeldPlace::Occupied(entry) => entry.as_it_is(),
             HeldPlace::Vacant(entry) => {
-                let HeldVacant {
-                    guard,
-                    key,
-                    hash,
-                    rest,
-                    of: _,
-                } = entry;
                 let value = f();
-                match guard.put_at(hash, key, value) {
-                    Ok((evicted, place)) => Ok((
-                        evicted,
-                        HeldEntry {
-                            guard,
-                            place,
-                            rest,
-                            of: PhantomData,
-                        },
-                    )),
-                    Err(pair) => Err(InsertError::Memory(pair)),
-                }
+                entry.put_entry(value)
             }
         }
     }
@@ -136,44 +67,10 @@ impl<'a, K: Eq + Hash, V, H: BuildHasher> HeldPlace<&'a mut Owned<K, V, H>, (), 
             (entry_guard self.entry) result) }
     {
         match self {
-            HeldPlace::Occupied(entry) => {
-                let HeldEntry {
-                    guard,
-                    place,
-                    rest,
-                    of,
-                } = entry;
-                Ok((
-                    None,
-                    HeldEntry {
-                        guard,
-                        place,
-                        rest,
-                        of,
-                    },
-                ))
-            }
+            HeldPlace::Occupied(entry) => entry.as_it_is(),
             HeldPlace::Vacant(entry) => {
-                let HeldVacant {
-                    guard,
-                    key,
-                    hash,
-                    rest,
-                    of: _,
-                } = entry;
-                let value = f(&key);
-                match guard.put_at(hash, key, value) {
-                    Ok((evicted, place)) => Ok((
-                        evicted,
-                        HeldEntry {
-                            guard,
-                            place,
-                            rest,
-                            of: PhantomData,
-                        },
-                    )),
-                    Err(pair) => Err(InsertError::Memory(pair)),
-                }
+                let value = f(entry.key());
+                entry.put_entry(value)
             }
         }
     }
@@ -190,44 +87,10 @@ impl<'a, K: Eq + Hash, V, H: BuildHasher> HeldPlace<&'a mut Owned<K, V, H>, (), 
             (entry_guard self.entry) result) }
     {
         match self {
-            HeldPlace::Occupied(entry) => {
-                let HeldEntry {
-                    guard,
-                    place,
-                    rest,
-                    of,
-                } = entry;
-                Ok((
-                    None,
-                    HeldEntry {
-                        guard,
-                        place,
-                        rest,
-                        of,
-                    },
-                ))
-            }
+            HeldPlace::Occupied(entry) => entry.as_it_is(),
             HeldPlace::Vacant(entry) => {
-                let HeldVacant {
-                    guard,
-                    key,
-                    hash,
-                    rest,
-                    of: _,
-                } = entry;
                 let value = V::default();
-                match guard.put_at(hash, key, value) {
-                    Ok((evicted, place)) => Ok((
-                        evicted,
-                        HeldEntry {
-                            guard,
-                            place,
-                            rest,
-                            of: PhantomData,
-                        },
-                    )),
-                    Err(pair) => Err(InsertError::Memory(pair)),
-                }
+                entry.put_entry(value)
             }
         }
     }
@@ -263,27 +126,32 @@ impl<'a, K: Eq + Hash, V, H: BuildHasher> HeldPlace<&'a mut Owned<K, V, H>, (), 
                     },
                 ))
             }
-            HeldPlace::Vacant(entry) => {
-                let HeldVacant {
-                    guard,
-                    key,
-                    hash,
-                    rest,
-                    of: _,
-                } = entry;
-                match guard.put_at(hash, key, value) {
-                    Ok((evicted, place)) => Ok((
-                        evicted,
-                        HeldEntry {
-                            guard,
-                            place,
-                            rest,
-                            of: PhantomData,
-                        },
-                    )),
-                    Err(pair) => Err(InsertError::Memory(pair)),
-                }
-            }
+            HeldPlace::Vacant(entry) => entry.put_entry(value),
         }
+    }
+}
+
+impl<'a, K: Eq + Hash, V, H: BuildHasher> HeldEntry<&'a mut Owned<K, V, H>, (), K, V, H> {
+    /// The entry as it is, as a put that drives nothing out answers it.
+    fn as_it_is(self) -> Result<(EvictedEntry<K, V>, OccupiedEntry<'a, K, V, H>), InsertError<K, V>>
+        ensures same { result ≡ Ok (None, self.entry) }
+        ensures* kept { sem 𝓛 (rests_if_refused K.row V.row H.row H.Hasher.row K.Hash H.BuildHasher H.Hasher.Hasher
+            self.entry.guard result) }
+    {
+        let HeldEntry {
+            guard,
+            place,
+            rest,
+            of,
+        } = self;
+        Ok((
+            None,
+            HeldEntry {
+                guard,
+                place,
+                rest,
+                of,
+            },
+        ))
     }
 }

@@ -1,19 +1,18 @@
 //! The insertions of an entry of a borrowed index. Each goes on at the place that the search found. Where an entry is
 //! occupied, `len` is called for its contract: no two keys are equal.
-ghost use Rattle.std.specs.Prelude.{◌≡◌, IfOk, OnErr, IfErr};
+ghost use Rattle.std.specs.Prelude.{◌≡◌, Ok, IfOk, OnErr, IfErr};
 ghost use Rattle.std.specs.Borrow.{sem};
 ghost use Rattle.std.specs.Fn.{FnOnceTakesAt, FnOnceReturnsAt};
 ghost use Rattle.scc_contents.specs.Contents.{hash_in};
 ghost use Rattle.scc_contents.specs.Pairs.{IsUnique};
-ghost use Rattle.scc_index.specs.Entries.{Memory, held_index, entry_guard, entry_key, GrowsThrough, IsVacant, OrInserts, OrInsertsSome, RefusesSome, RelocatesThrough, rests_if_refused};
+ghost use Rattle.scc_index.specs.Entries.{Memory, held_index, entry_guard, entry_key, GrowsThrough, IsVacant, OrInserts, OrInsertsSome, RefusesSome, RelocatesThrough, occupied_pair, rests_if_refused};
 
 use super::OccupiedEntry;
-use crate::held::{HeldEntry, HeldPlace, HeldVacant};
+use crate::held::{HeldEntry, HeldPlace};
 use crate::owned::Owned;
 use scc_common::InsertError;
 use scc_contents::Hashes;
 use std::hash::{BuildHasher, Hash};
-use std::marker::PhantomData;
 
 impl<'a, K: Eq + Hash, V, H: BuildHasher> HeldPlace<&'a mut Owned<K, V, H>, (), K, V, H> {
     /// Inserts `default` where the entry is vacant, and answers the occupied entry. An occupied one stays as it is, and
@@ -34,39 +33,10 @@ impl<'a, K: Eq + Hash, V, H: BuildHasher> HeldPlace<&'a mut Owned<K, V, H>, (), 
     {
         match self {
             HeldPlace::Occupied(entry) => {
-                let HeldEntry {
-                    guard,
-                    place,
-                    rest,
-                    of,
-                } = entry;
                 drop(default);
-                let _ = guard.len();
-                Ok(HeldEntry {
-                    guard,
-                    place,
-                    rest,
-                    of,
-                })
+                entry.as_it_is()
             }
-            HeldPlace::Vacant(entry) => {
-                let HeldVacant {
-                    guard,
-                    key,
-                    hash,
-                    rest,
-                    of: _,
-                } = entry;
-                match guard.insert_new(hash, key, default) {
-                    Ok(place) => Ok(HeldEntry {
-                        guard,
-                        place,
-                        rest,
-                        of: PhantomData,
-                    }),
-                    Err(pair) => Err(InsertError::Memory(pair)),
-                }
-            }
+            HeldPlace::Vacant(entry) => entry.insert_entry(default),
         }
     }
 
@@ -89,39 +59,10 @@ impl<'a, K: Eq + Hash, V, H: BuildHasher> HeldPlace<&'a mut Owned<K, V, H>, (), 
             (entry_guard self.entry) (entry_key self.entry) result) }
     {
         match self {
-            HeldPlace::Occupied(entry) => {
-                let HeldEntry {
-                    guard,
-                    place,
-                    rest,
-                    of,
-                } = entry;
-                let _ = guard.len();
-                Ok(HeldEntry {
-                    guard,
-                    place,
-                    rest,
-                    of,
-                })
-            }
+            HeldPlace::Occupied(entry) => entry.as_it_is(),
             HeldPlace::Vacant(entry) => {
-                let HeldVacant {
-                    guard,
-                    key,
-                    hash,
-                    rest,
-                    of: _,
-                } = entry;
                 let value = f();
-                match guard.insert_new(hash, key, value) {
-                    Ok(place) => Ok(HeldEntry {
-                        guard,
-                        place,
-                        rest,
-                        of: PhantomData,
-                    }),
-                    Err(pair) => Err(InsertError::Memory(pair)),
-                }
+                entry.insert_entry(value)
             }
         }
     }
@@ -145,39 +86,10 @@ impl<'a, K: Eq + Hash, V, H: BuildHasher> HeldPlace<&'a mut Owned<K, V, H>, (), 
             (entry_guard self.entry) (entry_key self.entry) result) }
     {
         match self {
-            HeldPlace::Occupied(entry) => {
-                let HeldEntry {
-                    guard,
-                    place,
-                    rest,
-                    of,
-                } = entry;
-                let _ = guard.len();
-                Ok(HeldEntry {
-                    guard,
-                    place,
-                    rest,
-                    of,
-                })
-            }
+            HeldPlace::Occupied(entry) => entry.as_it_is(),
             HeldPlace::Vacant(entry) => {
-                let HeldVacant {
-                    guard,
-                    key,
-                    hash,
-                    rest,
-                    of: _,
-                } = entry;
-                let value = f(&key);
-                match guard.insert_new(hash, key, value) {
-                    Ok(place) => Ok(HeldEntry {
-                        guard,
-                        place,
-                        rest,
-                        of: PhantomData,
-                    }),
-                    Err(pair) => Err(InsertError::Memory(pair)),
-                }
+                let value = f(entry.key());
+                entry.insert_entry(value)
             }
         }
     }
@@ -198,40 +110,35 @@ impl<'a, K: Eq + Hash, V, H: BuildHasher> HeldPlace<&'a mut Owned<K, V, H>, (), 
             (entry_guard self.entry) (entry_key self.entry) result) }
     {
         match self {
-            HeldPlace::Occupied(entry) => {
-                let HeldEntry {
-                    guard,
-                    place,
-                    rest,
-                    of,
-                } = entry;
-                let _ = guard.len();
-                Ok(HeldEntry {
-                    guard,
-                    place,
-                    rest,
-                    of,
-                })
-            }
+            HeldPlace::Occupied(entry) => entry.as_it_is(),
             HeldPlace::Vacant(entry) => {
-                let HeldVacant {
-                    guard,
-                    key,
-                    hash,
-                    rest,
-                    of: _,
-                } = entry;
                 let value = V::default();
-                match guard.insert_new(hash, key, value) {
-                    Ok(place) => Ok(HeldEntry {
-                        guard,
-                        place,
-                        rest,
-                        of: PhantomData,
-                    }),
-                    Err(pair) => Err(InsertError::Memory(pair)),
-                }
+                entry.insert_entry(value)
             }
         }
+    }
+}
+
+impl<'a, K: Eq + Hash, V, H: BuildHasher> HeldEntry<&'a mut Owned<K, V, H>, (), K, V, H> {
+    /// The entry as it is, as an insertion answers it.
+    fn as_it_is(self) -> Result<OccupiedEntry<'a, K, V, H>, InsertError<K, V>>
+        ensures same { result ≡ Ok self.entry }
+        ensures unique { IsUnique K.eq (held_index self.entry) }
+        ensures* kept { sem 𝓛 (rests_if_refused K.row V.row H.row H.Hasher.row K.Hash H.BuildHasher H.Hasher.Hasher
+            self.entry.guard (occupied_pair self.entry).0 result) }
+    {
+        let HeldEntry {
+            guard,
+            place,
+            rest,
+            of,
+        } = self;
+        let _ = guard.len();
+        Ok(HeldEntry {
+            guard,
+            place,
+            rest,
+            of,
+        })
     }
 }

@@ -1,4 +1,4 @@
-use Rattle.std.proofs.Common.{◌≤◌, ◌*◌, sym, subst}
+use Rattle.std.proofs.Common.{◌≤◌, ◌*◌, sym, refl, subst}
 use Rattle.scc_table.proofs.Same.{count-same}
 use Rattle.scc_cache.proofs.Caching.{state-after}
 use Rattle.scc_cache.proofs.owned.Owned.drop_room.Goals as goal
@@ -11,10 +11,17 @@ invariant_of-self g c =
     let same = count-same c.self.inside.table u r.lists in
     state-after g.K.PartialEq.eq _ _ c.self.inside.table u c.self.inside.maximum h r.listed r.unique r.settings (subst (λ n. 32 * n ≤ c.self.inside.maximum) (sym same) h.within)
 
-pub returns-clause-state : goal.returns-clause-state
-returns-clause-state g c =
+pub returns : goal.returns
+returns g c =
     let h = c.self.invariant in
     let u = c.drop_room_within.new.self in
     let r = c.drop_room_within.ensures in
     let same = count-same c.self.inside.table u r.lists in
-    state-after g.K.PartialEq.eq _ _ c.self.inside.table u c.self.inside.maximum h r.listed r.unique r.settings (subst (λ n. 32 * n ≤ c.self.inside.maximum) (sym same) h.within)
+    record {
+      lists = rw (← c.self.view_is) r.lists;
+      settings = rw (← c.self.view_is) r.settings;
+      noted = rw (← c.self.view_is) r.noted;
+      waiting = rw (← c.self.view_is) r.waiting;
+      maximum = rw (← c.self.view_is) refl;
+      state = state-after g.K.PartialEq.eq _ _ c.self.inside.table u c.self.inside.maximum h r.listed r.unique r.settings (subst (λ n. 32 * n ≤ c.self.inside.maximum) (sym same) h.within);
+    }

@@ -1,4 +1,4 @@
-use Rattle.std.proofs.Common.{sym, subst, arith}
+use Rattle.std.proofs.Common.{sym, subst, arith, rules}
 use Rattle.scc_contents.specs.Hashing.{hash_of}
 use Rattle.scc_table.specs.Places.{IsPlace, spot_of}
 use Rattle.scc_table.proofs.Listing.{listed-removed}
@@ -20,11 +20,13 @@ invariant_of-self g c =
     let listed = listed-anew (λ s (p : g.row.K.Denot × g.row.V.Denot). hash_of g.H.BuildHasher g.H.Hasher.Hasher s.hasher (g.K.Hash.hash_input p.0)) t d list.settings (listed-removed _ t d (spot_of t c.args.place).bucket (spot_of t c.args.place).slot within.bucket list h.lists) in
     state-after g.K.PartialEq.eq _ _ t d c.self.inside.maximum h listed c.take_and_step.ensures.unique list.settings (omega (arith, h.within))
 
-pub returns-clause-pair : goal.returns-clause-pair
-returns-clause-pair g c = rw (← c.self.view_is) c.take_and_step.ensures.entry
-
-pub returns-clause-others : goal.returns-clause-others
-returns-clause-others g c = rw (← c.self.view_is) c.take_and_step.ensures.others
-
-pub returns-clause-next : goal.returns-clause-next
-returns-clause-next g c = rw (← c.self.view_is) c.take_and_step.ensures.next
+pub returns : goal.returns
+returns g c =
+    record {
+      pair = rw (← c.self.view_is) c.take_and_step.ensures.entry;
+      others = rw (← c.self.view_is) c.take_and_step.ensures.others;
+      refused = (search rules);
+      maximum = (search rules);
+      waiting = (search rules);
+      next = rw (← c.self.view_is) c.take_and_step.ensures.next;
+    }

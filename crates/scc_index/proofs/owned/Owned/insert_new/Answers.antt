@@ -1,5 +1,6 @@
-use Rattle.std.proofs.Common.{Result, Ok, Err, subst}
-use Rattle.std.specs.Result.{OnOk}
+use Rattle.std.proofs.Common.{Result, Ok, Err, subst, rules}
+use Rattle.std.specs.Prelude.{IfErr}
+use Rattle.std.specs.Result.{OnOk, OnErr}
 use Rattle.scc_contents.specs.Contents.{entries}
 use Rattle.scc_table.specs.Relocations.{RelocatesTwo}
 use Rattle.scc_buckets.proofs.Lookups.{position-find_none}
@@ -12,25 +13,30 @@ on_ok : {A B P Q : Type 0} (r : Result A B) → (P → Q) → OnOk r P → OnOk 
 on_ok (Ok a) f p = f p
 on_ok (Err b) f p = tt
 
-pub returns-clause-grows : goal.returns-clause-grows
-returns-clause-grows g c =
-    rw (← c.self.view_is)
-    (on_ok c.insert_made.result (λ due. record { growth = c.insert_made.ensures.growth; due = due; kept = c.insert_made.ensures.kept }) c.insert_made.ensures.due)
-
-pub returns-clause-ok : goal.returns-clause-ok
-returns-clause-ok g c = rw (← c.self.view_is) c.insert_made.ensures.ok
-
-pub returns-clause-relocates : goal.returns-clause-relocates
-returns-clause-relocates g c = rw (← c.self.view_is) record { fewer = c.insert_made.ensures.fewer; less = c.insert_made.ensures.less; most = c.insert_made.ensures.most; grown = c.insert_made.ensures.grown; array = c.insert_made.ensures.array }
-
 both_ok : {A B P Q R : Type 0} (r : Result A B) → (P → Q → R) → OnOk r P → OnOk r Q → OnOk r R
 both_ok (Ok a) f p q = f p q
 both_ok (Err b) f p q = tt
 
-pub returns-clause-two : goal.returns-clause-two
-returns-clause-two g c =
-    rw (← c.self.view_is)
-    (both_ok c.insert_made.result (λ settled exact. subst (λ h. RelocatesTwo h c.self.inside.table c.insert_made.new.self) (rw (← c.self.view_is) at c.requires.hashed) record { settled = settled; exact = exact }) c.insert_made.ensures.settled c.insert_made.ensures.exact)
+on_err : {A B : Type 0} (P : B → Type 0) (Q : Type 0) (r : Result A B) → IfErr r (λ b. P b × Q) → IfErr r P × OnErr r Q
+on_err P Q (Ok a) h = (tt, tt)
+on_err P Q (Err b) h = h
 
-pub returns-clause-raised : goal.returns-clause-raised
-returns-clause-raised g c = rw (← c.self.view_is) c.insert_made.ensures.raised
+pub returns : goal.returns
+returns g c =
+    let err = on_err _ _ c.insert_made.result c.insert_made.ensures.err in
+    record {
+      ok = (rw (← c.self.view_is) c.insert_made.ensures.ok);
+      refused = err.0;
+      unchanged = (rw (← c.self.view_is) err.1);
+      raised = (rw (← c.self.view_is) c.insert_made.ensures.raised);
+      undone = (rw (← c.self.view_is) c.insert_made.ensures.undone);
+      grows = (
+          rw (← c.self.view_is)
+          (on_ok c.insert_made.result (λ due. record { growth = c.insert_made.ensures.growth; due = due; kept = c.insert_made.ensures.kept }) c.insert_made.ensures.due));
+      first = (rw (← c.self.view_is) c.insert_made.ensures.first);
+      relocates = (rw (← c.self.view_is) record { fewer = c.insert_made.ensures.fewer; less = c.insert_made.ensures.less; most = c.insert_made.ensures.most; grown = c.insert_made.ensures.grown; array = c.insert_made.ensures.array });
+      two = (
+          rw (← c.self.view_is)
+          (both_ok c.insert_made.result (λ settled exact. subst (λ h. RelocatesTwo h c.self.inside.table c.insert_made.new.self) (rw (← c.self.view_is) at c.requires.hashed) record { settled = settled; exact = exact }) c.insert_made.ensures.settled c.insert_made.ensures.exact));
+      unique = (search rules);
+    }

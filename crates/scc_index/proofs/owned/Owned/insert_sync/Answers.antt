@@ -21,6 +21,9 @@ returns-in-Some g c =
       once = (search rules);
       due = (search rules);
       raised = (record { raised = λ low up. absurd (let z : true ≡ false = sym up ∙ low in cc) });
+      undone = (
+          let f = find-position (g.K.PartialEq.eq c.args.k) (entries c.self.inside.table) _ c.in-Some.ensures.place.found in
+          λ none. let here = rw (← c.self.view_is, f.2) at none in cc);
       first = (search rules);
       noted = (search rules);
       relocates = (
@@ -62,6 +65,11 @@ returns-after-insert_made g c =
           elim c.match-insert_made.branch [
             | in-Ok w ↦ rw w.result-is tt
             | in-Err w ↦ rw (w.result-is, ← c.self.view_is) w.in-Err.ensures.raised
+          ]);
+      undone = (
+          elim c.match-insert_made.branch [
+            | in-Ok w ↦ λ _. rw w.result-is tt
+            | in-Err w ↦ λ _. rw (w.result-is, ← c.self.view_is) w.in-Err.ensures.undone
           ]);
       first = (
           elim c.match-insert_made.branch [

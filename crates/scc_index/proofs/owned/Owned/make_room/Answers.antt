@@ -5,30 +5,42 @@ use Rattle.scc_buckets.proofs.Lookups.{find-position, find-position_none}
 use Rattle.scc_index.proofs.owned.Owned.make_room.Goals as goal
 use Rattle.scc_index.proofs.owned.Owned.make_room.Goals.{in-Ok, in-Err}
 
-pub returns-in-Some-clause-ok : goal.returns-in-Some-clause-ok
-returns-in-Some-clause-ok g c =
-    let f = find-position (g.K.PartialEq.eq c.args.k.now) (entries c.self.inside.table) _ c.in-Some.ensures.place.found in
-    λ none. let here = rw (← c.self.view_is, f.2) at none in cc
-
-pub returns-after-make_room-clause-present : goal.returns-after-make_room-clause-present
-returns-after-make_room-clause-present g c =
-    let none = find-position_none (g.K.PartialEq.eq c.args.k.now) (entries c.self.inside.table) c.in-None.ensures.place in
-    rw (← c.self.view_is, none) (λ there. absurd (search rules))
-
-pub returns-after-make_room-clause-err : goal.returns-after-make_room-clause-err
-returns-after-make_room-clause-err g c =
-    let none = find-position_none (g.K.PartialEq.eq c.args.k.now) (entries c.self.inside.table) c.in-None.ensures.place in
-    elim c.match-make_room.branch [
-      | in-Ok w ↦ rw w.result-is tt
-      | in-Err w ↦ rw (w.result-is, ← c.self.view_is) (none, w.in-Err.ensures.err)
-    ]
+pub returns-in-Some : goal.returns-in-Some
+returns-in-Some g c =
+    record {
+      present = (search rules);
+      ok = (
+          let f = find-position (g.K.PartialEq.eq c.args.k.now) (entries c.self.inside.table) _ c.in-Some.ensures.place.found in
+          λ none. let here = rw (← c.self.view_is, f.2) at none in cc);
+      err = (search rules);
+      same = (search rules);
+      settings = (search rules);
+      unique = (search rules);
+    }
 
 for_hash : {E K S : Type 0} {hash : K → ℕ} {key : E → K} {m n : Contents E S} {h i : ℕ} → h ≡ i → MakesRoom hash key m h n → MakesRoom hash key m i n
 for_hash {E} {K} {S} {hash} {key} {m} {n} e room = subst (λ x. MakesRoom hash key m x n) e room
 
-pub returns-after-make_room-clause-ok : goal.returns-after-make_room-clause-ok
-returns-after-make_room-clause-ok g c =
-    elim c.match-make_room.branch [
-      | in-Ok w ↦ λ _. rw (w.result-is, ← c.self.view_is) (for_hash c.hash-hash.ensures w.in-Ok.ensures.ok)
-      | in-Err w ↦ λ _. rw w.result-is tt
-    ]
+pub returns-after-make_room : goal.returns-after-make_room
+returns-after-make_room g c =
+    let none = find-position_none (g.K.PartialEq.eq c.args.k.now) (entries c.self.inside.table) c.in-None.ensures.place in
+    record {
+      present = (rw (← c.self.view_is, none) (λ there. absurd (search rules)));
+      ok = (
+          elim c.match-make_room.branch [
+            | in-Ok w ↦ λ _. rw (w.result-is, ← c.self.view_is) (for_hash c.hash-hash.ensures w.in-Ok.ensures.ok)
+            | in-Err w ↦ λ _. rw w.result-is tt
+          ]);
+      err = (
+          elim c.match-make_room.branch [
+            | in-Ok w ↦ rw w.result-is tt
+            | in-Err w ↦ rw (w.result-is, ← c.self.view_is) (none, w.in-Err.ensures.err)
+          ]);
+      same = (
+          elim c.match-make_room.branch [
+            | in-Ok w ↦ rw w.result-is tt
+            | in-Err w ↦ rw (w.result-is, ← c.self.view_is) w.in-Err.ensures.same
+          ]);
+      settings = (search rules);
+      unique = (search rules);
+    }

@@ -1,15 +1,21 @@
 use Rattle.std.proofs.Common.{refl}
-use Rattle.scc_cache.proofs.Entries.{put-after, same-entry}
+use Rattle.scc_cache.proofs.Entries.{none-refused, or-handed, or-put, or-refused}
 use Rattle.scc_cache.proofs.owned.entry.insertions.HeldPlace+mut+Owned+K+V+H+unit+K+V+H.or_put.Goals as goal
 
 pub returns-in-Occupied : goal.returns-in-Occupied
 returns-in-Occupied g c =
-    ((refl, λ w. refl, tt), record { entry = rw c.in-Occupied.is (refl, same-entry c.in-Occupied.entry _); refused = tt; kept = tt })
+    let self = c.args.self in
+    let o = c.in-Occupied.entry in
+    let r = c.as_it_is.result in
+    let is = c.in-Occupied.is in
+    let same = c.as_it_is.ensures.same in
+    ((refl, c.as_it_is.follows.holds, rw same tt), record { entry = or-handed g.K.PartialEq.eq self o r is same c.args.default; refused = none-refused r same _; kept = tt })
 
-pub returns-in-Ok : goal.returns-in-Ok
-returns-in-Ok g c =
-    ((refl, λ w. refl, tt), record { entry = rw c.in-Vacant.is (put-after g.K.PartialEq.eq c.in-Vacant.entry c.in-Vacant.entry.guard.now c.put_at.new.self c.args.default c.in-Ok.evicted _ refl refl refl c.in-Ok.ensures.step c.in-Ok.ensures.relocates c.in-Ok.ensures.here.1); refused = tt; kept = tt })
-
-pub returns-in-Err : goal.returns-in-Err
-returns-in-Err g c =
-    rw c.in-Vacant.is ((refl, λ _. tt, c.in-Err.ensures.refused.2), record { entry = tt; refused = (c.in-Err.ensures.refused.1, rw c.in-Err.ensures.refused.0 refl); kept = tt })
+pub returns-in-Vacant : goal.returns-in-Vacant
+returns-in-Vacant g c =
+    let self = c.args.self in
+    let x = c.in-Vacant.entry in
+    let r = c.put_entry.result in
+    let is = c.in-Vacant.is in
+    let p = c.put_entry.ensures in
+    ((refl, c.put_entry.follows.holds, rw is c.put_entry.follows.holds-at-none), record { entry = or-put self x r is g.K.PartialEq.eq c.args.default p.put; refused = or-refused self x r is c.args.default p.refused; kept = tt })

@@ -1,17 +1,23 @@
 use Rattle.std.proofs.Common.{refl}
-use Rattle.scc_index.proofs.Entries.{inserted-after, same-entry}
+use Rattle.scc_index.proofs.Entries.{ends-handed, ends-put, none-refused, or-handed, or-put, or-refused, still-unique}
 use Rattle.scc_index.proofs.owned.entry.insertions.HeldPlace+mut+Owned+K+V+H+unit+K+V+H.or_insert.Goals as goal
 
 pub returns-in-Occupied : goal.returns-in-Occupied
 returns-in-Occupied g c =
-    ((refl, λ w. refl, tt), record { entry = rw c.in-Occupied.is (same-entry c.in-Occupied.entry _); refused = tt; vacant = tt; growth = rw c.in-Occupied.is tt; relocates = rw c.in-Occupied.is refl; unique = c.len.ensures.unique; kept = tt })
+    let self = c.args.self in
+    let o = c.in-Occupied.entry in
+    let r = c.as_it_is.result in
+    let is = c.in-Occupied.is in
+    let same = c.as_it_is.ensures.same in
+    let ends = ends-handed self o r is same in
+    ((refl, c.as_it_is.follows.holds, rw same tt), record { entry = or-handed self o r is same c.args.default; refused = none-refused self o r is same _; vacant = ends.vacant; growth = ends.growth; relocates = ends.relocates; unique = still-unique self o r is same _ c.as_it_is.ensures.unique; kept = tt })
 
-pub returns-in-Ok : goal.returns-in-Ok
-returns-in-Ok g c =
-    ((refl, λ w. refl, tt), record { entry = rw c.in-Vacant.is (inserted-after c.in-Vacant.entry c.in-Vacant.entry.guard.now c.insert_new.new.self c.args.default _ refl refl refl c.in-Ok.ensures.ok); refused = tt; vacant = tt; growth = rw c.in-Vacant.is record { grows = c.in-Ok.ensures.grows; first = c.in-Ok.ensures.first }; relocates = rw c.in-Vacant.is (c.insert_new.ensures.relocates, c.in-Ok.ensures.two); unique = c.in-Ok.ensures.unique; kept = tt })
-
-pub returns-in-Err : goal.returns-in-Err
-returns-in-Err g c = (
-  (refl, λ _. tt, rw c.in-Vacant.is (record { unchanged = c.in-Err.ensures.unchanged; raised = c.in-Err.ensures.raised; relocates = c.insert_new.ensures.relocates })),
-  record { entry = tt; refused = rw c.in-Vacant.is (rw c.in-Err.ensures.refused refl); vacant = rw c.in-Vacant.is tt; growth = tt; relocates = tt; unique = tt; kept = tt },
-)
+pub returns-in-Vacant : goal.returns-in-Vacant
+returns-in-Vacant g c =
+    let self = c.args.self in
+    let x = c.in-Vacant.entry in
+    let r = c.insert_entry.result in
+    let is = c.in-Vacant.is in
+    let p = c.insert_entry.ensures in
+    let ends = ends-put self x r is p.growth p.relocates p.two in
+    ((refl, c.insert_entry.follows.holds, rw is c.insert_entry.follows.holds-at-none), record { entry = or-put self x r is c.args.default p.inserted; refused = or-refused self x r is c.args.default p.refused; vacant = ends.vacant; growth = ends.growth; relocates = ends.relocates; unique = p.unique; kept = tt })

@@ -7,6 +7,6 @@ returns-in-Ok g c = ((refl, λ w. refl, tt), record { inserted = inserted-after 
 
 pub returns-in-Err : goal.returns-in-Err
 returns-in-Err g c = (
-  (refl, λ _. tt, record { unchanged = c.in-Err.ensures.unchanged; raised = c.in-Err.ensures.raised; relocates = c.insert_new.ensures.relocates }),
+  (refl, λ _. tt, record { unchanged = c.in-Err.ensures.unchanged; raised = c.in-Err.ensures.raised; undone = c.in-Err.ensures.undone; relocates = c.insert_new.ensures.relocates }),
   record { inserted = tt; growth = tt; relocates = tt; two = tt; unique = tt; refused = rw c.in-Err.ensures.refused refl; kept = tt },
 )
