@@ -23,9 +23,10 @@ relocate_next-requires g c =
 
 pub loop-preserved : goal.loop-preserved
 loop-preserved g c =
-    let moved = c.in_ok-relocate_next.ensures.ok in
-    (finish-step c.args.self.now c.loop.self c.relocate_next.new.self c.loop.counter moved.0 c.loop.invariant.0 moved.2 c.relocate_next.ensures.bounded,
-    targets-first moved.0 c.loop.self c.relocate_next.new.self moved.1 moved.2 ∙ ap (drop 1) c.loop.invariant.1 ∙ sym (drop-next c.loop.counter (pending_targets c.args.self.now)))
+    let moved = c.in_ok-relocate_next.ensures.ok in (
+      finish-step c.args.self.now c.loop.self c.relocate_next.new.self c.loop.counter moved.0 c.loop.invariant.0 moved.2 c.relocate_next.ensures.bounded,
+      targets-first moved.0 c.loop.self c.relocate_next.new.self moved.1 moved.2 ∙ ap (drop 1) c.loop.invariant.1 ∙ sym (drop-next c.loop.counter (pending_targets c.args.self.now)),
+    )
 
 pub returns-clause-ok : goal.returns-clause-ok
 returns-clause-ok g c =
