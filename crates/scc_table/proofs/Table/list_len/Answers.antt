@@ -5,7 +5,7 @@ use Rattle.scc_buckets.specs.Pour.{bound_for}
 use Rattle.scc_contents.specs.Contents.{bucket_count, key_hash, list_of, settings_of}
 use Rattle.scc_table.specs.TwoArrays.{waits_at}
 use Rattle.scc_table.proofs.OldSpots.{own-list}
-use Rattle.scc_draining.proofs.FromBuckets.{most-owed, within-sources}
+use Rattle.scc_draining.proofs.FromBuckets.{most-held, within-sources}
 use Rattle.scc_table.proofs.Preparing.{long-flags, waiting-list, multiple-flags, sized-flags}
 use Rattle.scc_table.proofs.RelocatingLemmas.{up-within}
 use Rattle.scc_table.proofs.SearchingLemmas.{not_true}
@@ -117,7 +117,7 @@ count_all-requires-clause-most g c =
     let array = sized-flags cur ws olds i inv.arrays.sized up in
     let within : i < bucket_count cur = omega (arith, up-within ws i up, long-flags cur ws i inv.arrays.flags up) in
     let low : spilled_in olds < 2 ^ 62 = omega (arith, inv.overflow_is, inv.few) in
-    let m = most-owed hash (settings_of cur).skipped olds array inv.arrays.own low in
+    let m = most-held hash (settings_of cur).skipped olds array inv.arrays.own low in
     omega arith
 
 pub returns-then-is_waiting : goal.returns-then-is_waiting
