@@ -116,6 +116,14 @@ moved-settled i c f down h =
     let two : length rest + 2 - length all ≡ 2 = let x = ap length same in omega arith in
     subst (λ k. AreMovedFrom rest k f) (sym two) (subst (λ ts. AreMovedFrom ts 2 f) (sym same) h)
 
+-- where none waits before and after, none took entries over
+pub moved-nothing : {E S : Type 0} (i : ℕ) (c f : Contents E S) → pending_of c ≡ 0 → pending_of f ≡ 0 → AreMovedBeside i (pending_targets c) f
+moved-nothing i c f none left =
+    let before : pending_targets c ≡ [] = nil_from_length (pending_targets c) (targets-length c ∙ none) in
+    let after : pending_targets f ≡ [] = nil_from_length (pending_targets f) (targets-length f ∙ left) in
+    let nothing : AreMovedBeside i [] f = record { count = 0; most = omega arith; left = after; stopped = λ l. inl after } in
+    subst (λ ts. AreMovedBeside i ts f) (sym before) nothing
+
 -- where the bucket doesn't wait, two others go
 pub settled-left : {E S : Type 0} (i : ℕ) (c : Contents E S) (ts : List ℕ) → waits_at (waiting_of c) i ≡ false → ts ≡ drop 2 (pending_targets c) → ts ≡ left_after i (pending_targets c)
 settled-left i c ts down h =

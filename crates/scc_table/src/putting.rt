@@ -6,7 +6,7 @@ ghost use Rattle.scc_buckets.specs.OneList.{HasSameLists, IsPutIn};
 ghost use Rattle.scc_contents.specs.Routing.{bucket_number};
 ghost use Rattle.scc_contents.specs.Steps.{FirstArrayWhenDue, Grows, GrowsWhenDue, IsReadyFor, IsUnchanged, RaisesWhenDue};
 ghost use Rattle.scc_table.specs.Places.{IsInsertedAt};
-ghost use Rattle.scc_table.specs.Relocates.{left_after, AreShort, AreShortAmong};
+ghost use Rattle.scc_table.specs.Relocates.{left_after, AreMovedBeside, AreShort, AreShortAmong, IsMovedUpTo};
 ghost use Rattle.scc_table.specs.TwoArrays.{IsWaiting, pending_targets, waits_at};
 
 use super::Table;
@@ -69,6 +69,9 @@ where
             (bucket_count self.new) self.old → pending_of self.new + 2 ≡ bucket_count self.new) }
         ensures by_two { OnOk result (0 < bucket_count self.old → bucket_count self.new ≡ bucket_count self.old
             → AreShort self.old → pending_of self.new ≡ pending_of self.old - 2) }
+        ensures moved { OnOk result (0 < bucket_count self.old → bucket_count self.new ≡ bucket_count self.old
+            → AreMovedBeside (bucket_number (settings_of self.old).skipped (bucket_count self.old) hash)
+            (pending_targets self.old) self.new) }
         ensures unique { IsUniqueBy E.Key.eq E.key_of self.new }
     {
         self.keep_lists();
@@ -219,6 +222,7 @@ where
         ensures less { pending_of self.new ≤ pending_of self.old }
         ensures most { pending_of self.old ≤ pending_of self.new + 2 }
         ensures settled { OnOk result (waits_at (waiting_of self.new) bucket ≡ false) }
+        ensures moved { OnOk result (AreMovedBeside bucket (pending_targets self.old) self.new) }
         ensures exact { OnOk result (AreShort self.old
             → pending_targets self.new ≡ left_after bucket (pending_targets self.old)) }
         ensures unique { IsUniqueBy E.Key.eq E.key_of self.new }
@@ -251,6 +255,7 @@ where
         ensures less { pending_of self.new ≤ pending_of self.old }
         ensures most { pending_of self.old ≤ pending_of self.new + 2 }
         ensures settled { OnOk result (waits_at (waiting_of self.new) bucket ≡ false) }
+        ensures moved { OnOk result (AreMovedBeside bucket (pending_targets self.old) self.new) }
         ensures exact { OnOk result (AreShort self.old
             → pending_targets self.new ≡ left_after bucket (pending_targets self.old)) }
         ensures unique { IsUniqueBy E.Key.eq E.key_of self.new }
@@ -285,6 +290,7 @@ where
         ensures less { pending_of self.new ≤ pending_of self.old }
         ensures most { pending_of self.old ≤ pending_of self.new + most }
         ensures settled { OnOk result (waits_at (waiting_of self.new) bucket ≡ false) }
+        ensures moved { OnOk result (IsMovedUpTo most self.old self.new) }
         ensures exact { OnOk result (AreShort self.old
             → pending_targets self.new ≡ drop most (pending_targets self.old)) }
         ensures unique { IsUniqueBy E.Key.eq E.key_of self.new }

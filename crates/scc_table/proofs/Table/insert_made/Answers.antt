@@ -1,14 +1,15 @@
-use Rattle.std.proofs.Common.{◌≡◌, ◌==◌, ◌∙◌, ◌<◌, inl, inr, true, false, length, sym, ap, arith, Bool}
+use Rattle.std.proofs.Common.{◌≡◌, ◌==◌, ◌∙◌, ◌<◌, inl, inr, true, false, length, sym, ap, subst, arith, Bool}
 use Rattle.std.specs.List.{count_by}
 use Rattle.std.proofs.lemmas.List.{nil_from_length}
 use Rattle.scc_contents.specs.Contents.{HasRoomAt, bucket_count, entries, key_hash, list_of, pending_of, settings_of}
 use Rattle.scc_contents.specs.Routing.{bucket_number}
+use Rattle.scc_table.specs.Relocates.{AreMovedBeside}
 use Rattle.scc_table.specs.TwoArrays.{pending_targets}
 use Rattle.scc_draining.proofs.Arriving.{any-ok}
 use Rattle.scc_table.proofs.Finishing.{pending-is}
 use Rattle.scc_table.proofs.Listed.{count-listed}
 use Rattle.scc_table.proofs.Once.{once-made}
-use Rattle.scc_table.proofs.Placing.{none-left}
+use Rattle.scc_table.proofs.Placing.{moved-nothing, none-left}
 use Rattle.scc_table.proofs.Same.{any-err, on-ok}
 use Rattle.scc_table.proofs.Targets.{all-but-two, by-two, targets-length}
 use Rattle.scc_table.proofs.Table.insert_made.Goals as goal
@@ -81,6 +82,27 @@ returns-clause-exact g c =
     (λ some same short.
     let left : pending_of f ≡ 0 = let l = c.insert_made_full.ensures.less same in omega arith in
     none-left (bucket_number (settings_of a).skipped (bucket_count a) c.args.hash) a (pending_targets f) none (nil_from_length (pending_targets f) (targets-length f ∙ left) ∙ sym (nil_from_length (pending_targets a) (targets-length a ∙ none))))
+
+pub returns-then-pending-gt0-clause-moved : goal.returns-then-pending-gt0-clause-moved
+returns-then-pending-gt0-clause-moved g c =
+    let ts = pending_targets c.args.self.now in
+    on-ok c.insert_made_at.result (λ h some same. subst (λ i. AreMovedBeside i ts c.insert_made_at.new.self) c.bucket_at-bucket.ensures.value h) c.insert_made_at.ensures.moved
+
+pub returns-then-list_len-lt32-clause-moved : goal.returns-then-list_len-lt32-clause-moved
+returns-then-list_len-lt32-clause-moved g c =
+    let ts = pending_targets c.args.self.now in
+    let f = c.insert_made_at-then-list_len-lt32.new.self in
+    on-ok c.insert_made_at-then-list_len-lt32.result (λ h some same. subst (λ i. AreMovedBeside i ts f) c.bucket_at-bucket.ensures.value h) c.insert_made_at-then-list_len-lt32.ensures.moved
+
+pub returns-clause-moved : goal.returns-clause-moved
+returns-clause-moved g c =
+    let a = c.args.self.now in
+    let f = c.insert_made_full.new.self in
+    let none : pending_of a ≡ 0 = let p = c.pending.ensures in let q = c.if-pending-gt0.false in omega arith in
+    any-ok c.insert_made_full.result
+    (λ some same.
+    let left : pending_of f ≡ 0 = let l = c.insert_made_full.ensures.less same in omega arith in
+    moved-nothing (bucket_number (settings_of a).skipped (bucket_count a) c.args.hash) a f none left)
 
 pub returns-then-pending-gt0-clause-spread : goal.returns-then-pending-gt0-clause-spread
 returns-then-pending-gt0-clause-spread g c = any-ok c.insert_made_at.result (λ some ne. absurd (ne c.insert_made_at.ensures.buckets))

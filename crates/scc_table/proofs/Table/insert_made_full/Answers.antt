@@ -5,6 +5,7 @@ use Rattle.scc_contents.specs.Routing.{bucket_number}
 use Rattle.scc_buckets.proofs.Powers.{double-array}
 use Rattle.scc_table.specs.Relocates.{left_after, AreShortAmong}
 use Rattle.scc_table.specs.TwoArrays.{pending_targets, waits_at}
+use Rattle.scc_draining.proofs.Arriving.{any-ok}
 use Rattle.scc_table.proofs.Grown.{on-both}
 use Rattle.scc_table.proofs.Same.{pending-same}
 use Rattle.scc_table.proofs.Settled.{settled-all}
@@ -72,3 +73,6 @@ returns-else-is_crowded-clause-less g c = λ same. let p = pending-same c.args.s
 
 pub returns-else-is_crowded-clause-grown : goal.returns-else-is_crowded-clause-grown
 returns-else-is_crowded-clause-grown g c = λ ne. let n = c.insert_made_with.ensures.doubled ne in let p = c.insert_made_with.ensures.grown ne in omega arith
+
+pub returns-then-length-count-clause-spread : goal.returns-then-length-count-clause-spread
+returns-then-length-count-clause-spread g c = any-ok c.insert_made_at.result (λ ne. absurd (ne c.insert_made_at.ensures.buckets))

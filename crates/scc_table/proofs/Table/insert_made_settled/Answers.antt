@@ -1,4 +1,5 @@
-use Rattle.std.proofs.Common.{◌∙◌, drop, ap, arith}
+use Rattle.std.proofs.Common.{◌∙◌, drop, ap, subst, arith}
+use Rattle.scc_table.specs.Relocates.{AreMovedFrom}
 use Rattle.scc_table.proofs.Placing.{placed-at, placed-count, placed-down, placed-fewer, placed-short}
 use Rattle.scc_table.proofs.Same.{count-same, pending-same, unchanged-same}
 use Rattle.scc_table.proofs.Targets.{targets-same}
@@ -64,6 +65,11 @@ returns-in-Ok-clause-exact g c =
     let r = c.relocate_some.ensures in
     let waiting = c.put_made_in.ensures.waiting in
     λ short. r.exact (placed-short a c.args.bucket (g.E.Made.made_of c.args.parts) m p put c.requires.within c.requires.settled waiting short) ∙ ap (drop c.args.most) (targets-same a m waiting)
+
+pub returns-in-Ok-clause-moved : goal.returns-in-Ok-clause-moved
+returns-in-Ok-clause-moved g c =
+    let a = c.args.self.now in
+    subst (λ ts. AreMovedFrom ts c.args.most c.relocate_some.new.self) (targets-same a c.put_made_in.new.self c.put_made_in.ensures.waiting) c.relocate_some.ensures.moved
 
 pub returns-in-Err-clause-err : goal.returns-in-Err-clause-err
 returns-in-Err-clause-err g c =

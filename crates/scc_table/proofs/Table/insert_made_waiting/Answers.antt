@@ -3,7 +3,7 @@ use Rattle.std.specs.List.{position}
 use Rattle.scc_contents.specs.Contents.{bucket_count, settings_of}
 use Rattle.scc_contents.specs.Routing.{bucket_number}
 use Rattle.scc_table.specs.TwoArrays.{pending_targets}
-use Rattle.scc_table.proofs.Placing.{relocated-fewer, relocated-inserted, relocated-left, relocated-short}
+use Rattle.scc_table.proofs.Placing.{moved-relocated, relocated-fewer, relocated-inserted, relocated-left, relocated-short}
 use Rattle.scc_table.proofs.Same.{count-same, entries-same, if-err, if-ok, on-ok}
 use Rattle.scc_table.proofs.Table.insert_made_waiting.Goals as goal
 
@@ -37,6 +37,12 @@ returns-in-Ok-clause-buckets g c = c.insert_made_settled.ensures.buckets ∙ cou
 
 pub returns-in-Ok-clause-fewer : goal.returns-in-Ok-clause-fewer
 returns-in-Ok-clause-fewer g c = λ k up. relocated-fewer c.args.bucket c.args.self.now c.relocate.new.self c.in-Ok.ensures.ok k (c.insert_made_settled.ensures.fewer k up)
+
+pub returns-in-Ok-clause-moved : goal.returns-in-Ok-clause-moved
+returns-in-Ok-clause-moved g c =
+    let a = c.args.self.now in
+    let b = c.relocate.new.self in
+    on-ok c.insert_made_settled.result (λ h. moved-relocated c.args.bucket a b c.in-Ok.ensures.ok c.insert_made_settled.new.self h) c.insert_made_settled.ensures.moved
 
 pub returns-in-Ok-clause-exact : goal.returns-in-Ok-clause-exact
 returns-in-Ok-clause-exact g c =
