@@ -1,4 +1,4 @@
-//! The insertions of an entry of a locked stripe.
+//! The insertions of an entry of a locked stripe. All but `insert_entry` call `or_insert_with_key`.
 ghost use Rattle.std.specs.Prelude.{◌≡◌, IfOk, OnErr, IfErr};
 ghost use Rattle.std.specs.Fn.{FnOnceTakesAt, FnOnceReturnsAt};
 ghost use Rattle.std.specs.Sync.RwLock.{write_guard_value};
