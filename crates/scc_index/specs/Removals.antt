@@ -30,7 +30,7 @@ module _ {K V S : Type 0} (eq : K → K → Bool) where
   pub record ClearsByRule (c d : Contents (K × V) S) : Type 0 where
     -- there is no entry left
     pub empty : entries d ≡ []
-    -- hasher and sizes stay
+    -- none is held, the settings stay, and the number of buckets stays or is lawful
     pub holds : Holds c [] d
     -- the number of buckets changes only by a shrink of the size that the minimum names
     pub smaller : bucket_count d ≢ bucket_count c → IsSmaller (minimum_of c) 0 (bucket_count c) (bucket_count d)
