@@ -1,7 +1,8 @@
 -- What the contracts of an entry cite. An entry holds its index by a guard: a `&mut` in the owned form.
 pub use Rattle.scc_index.specs.declared.held.HeldPlace.TheVariants.{Occupied, Vacant}
 pub use Rattle.scc_common.specs.declared.errors.InsertError.TheVariants.{Exists, Memory}
-use Rattle.std.specs.Prelude.{◌≡◌, ℕ, Bool, true, List, ◌∷◌, ◌++◌, Option, None, Some, Result, ⊤}
+use Rattle.std.specs.Prelude.{◌≡◌, ℕ, Bool, true, List, ◌∷◌, ◌++◌, Option, None, Some, Result, IfOk, IfErr, ⊤}
+use Rattle.std.specs.Result.{OnErr}
 use Rattle.std.specs.Borrow.{Fml, RattleType, Bor, MutBor, RestsIfErr, RestsIfNone}
 use Rattle.std.specs.HashMap.Lent.{HashMembers}
 use Rattle.std.specs.Fn.{Once, FnOnceTakesAt, FnOnceReturnsAt}
@@ -10,8 +11,8 @@ use Rattle.std.specs.declared.cmp.PartialEq as eq
 use Rattle.std.specs.declared.hash.Hash as hash
 use Rattle.std.specs.declared.hash.Hasher as hasher
 use Rattle.std.specs.declared.hash.BuildHasher as builder
-use Rattle.scc_contents.specs.Contents.{Contents, entries, key_hash, waiting_of}
-use Rattle.scc_contents.specs.Pairs.{find, without, FindsInstead}
+use Rattle.scc_contents.specs.Contents.{Contents, entries, hash_in, key_hash, waiting_of}
+use Rattle.scc_contents.specs.Pairs.{find, without, FindsInstead, IsUnique}
 use Rattle.scc_table.specs.Placed.{entry_of, front_of, back_of, IsWrittenAt, IsPutAt}
 use Rattle.scc_table.specs.Relocations.{Relocates, RelocatesTwo}
 use Rattle.scc_contents.specs.Steps.{FirstArrayWhenDue, GrowsFor, GrowsWhenDue, IsUnchanged, RaisesWhenDue}
@@ -123,9 +124,44 @@ module _ {G N K V S T : Type 0} {d : guard.Ghosts G (Contents (K × V) S)} {g : 
   RelocatesThrough hash (Occupied p) o = waiting_of (d.kept o.guard) ≡ waiting_of (d.kept p.guard)
   RelocatesThrough hash (Vacant e) o = Relocates (d.kept e.guard) (d.kept o.guard) × RelocatesTwo (hash e.key) (d.kept e.guard) (d.kept o.guard)
 
+  -- a refusal: the key comes back with v
+  abbrev pub Refuses : HeldPlace G N K V S T d g h b w → V → InsertError K V → Type 0
+  Refuses e v r = r ≡ Memory (entry_key e, v)
+
   -- a refusal: the key comes back with a value of which P holds
   abbrev pub RefusesSome : HeldPlace G N K V S T d g h b w → (K → V → Type 0) → InsertError K V → Type 0
   RefusesSome e P r = (v : V) × P (entry_key e) v × (r ≡ Memory (entry_key e, v))
+
+  module _ (same : K → K → Bool) (hash_of : S → K → ℕ) where
+    -- what `insert_entry` of the vacant entry e and the value v, answered so, does
+    pub record InsertsAtVacant (e : HeldVacant G N K V S T d g h b w) (v : V) (result : Result (HeldEntry G N K V S T d g h b w) (InsertError K V)) : Type 0 where
+      -- the key is put in with the value, and the answer is its entry
+      pub inserted : IfOk result (IsInserted e v)
+      -- the array is one that had to be made, or grew as an insertion of the key may and has to
+      pub growth : IfOk result (λ o. IsGrownFor (hash_in hash_of (d.kept e.guard)) (d.kept e.guard) e.key (held_index o))
+      -- it relocates two buckets at most
+      pub relocates : IfOk result (λ o. Relocates (d.kept e.guard) (held_index o))
+      -- and two exactly, its own first, where none of them is long
+      pub two : IfOk result (λ o. RelocatesTwo (hash_in hash_of (d.kept e.guard) e.key) (d.kept e.guard) (held_index o))
+      -- no two keys are equal
+      pub unique : IfOk result (λ o. IsUnique same (held_index o))
+      -- refused, key and value come back
+      pub refused : IfErr result (λ r. r ≡ Memory (e.key, v))
+
+    -- what an insertion through the entry e, answered so, does, where P holds of the entry that is answered, and Q of a refusal
+    pub record InsertsThrough (e : HeldPlace G N K V S T d g h b w) (P : HeldEntry G N K V S T d g h b w → Type 0) (Q : InsertError K V → Type 0) (result : Result (HeldEntry G N K V S T d g h b w) (InsertError K V)) : Type 0 where
+      -- where it succeeds, the entry is as asked for
+      pub entry : IfOk result P
+      -- refused, the key comes back with the value
+      pub refused : IfErr result Q
+      -- only a vacant entry is refused
+      pub vacant : OnErr result (IsVacant e)
+      -- the array grew only where a value was put in, and as an insertion of the key may and has to
+      pub growth : IfOk result (GrowsThrough (hash_in hash_of (d.kept (entry_guard e))) e)
+      -- those buckets wait that an insertion of the key leaves waiting, or the same where no value was put in
+      pub relocates : IfOk result (RelocatesThrough (hash_in hash_of (d.kept (entry_guard e))) e)
+      -- no two keys are equal
+      pub unique : IfOk result (λ o. IsUnique same (held_index o))
 
   module _ {F : Type 0} (f : Once F (Bor V × Unit {0}) V) (x : F) where
     -- the closure may be called on the value

@@ -279,7 +279,8 @@ impl<K: Eq + Hash, V, H: BuildHasher> Owned<K, V, H> {
         }
     }
 
-    /// An insertion tries a growth that is due, also where `make_room` was refused it.
+    /// Takes the mark of a refused growth away, and changes nothing else: an insertion tries a growth that is due, also
+    /// where `make_room` was refused it.
     pub fn drop_room(&mut self)
         ensures same { IsUnchanged self.old self.new }
         ensures waiting { waiting_of self.new ≡ waiting_of self.old }
@@ -290,6 +291,7 @@ impl<K: Eq + Hash, V, H: BuildHasher> Owned<K, V, H> {
     }
 
     /// Takes out the version whose key equals `k`, and answers whether there was one. Who kept the version keeps it.
+    /// After a removal the array may become smaller.
     #[inline(always)]
     pub fn remove_sync(&mut self, k: &K) -> bool
     where
@@ -308,7 +310,7 @@ impl<K: Eq + Hash, V, H: BuildHasher> Owned<K, V, H> {
     }
 
     /// Takes out the version of `k` where `f` answers true on its value, and answers whether it did. `f` isn't called
-    /// where no key equals `k`.
+    /// where no key equals `k`. After a removal the array may become smaller.
     #[inline(always)]
     pub fn remove_if_sync<F: FnOnce(&V) -> bool>(&mut self, k: &K, f: F) -> bool
     where

@@ -237,7 +237,8 @@ impl<K: Eq + Hash, V, H: BuildHasher> Owned<K, V, H> {
         }
     }
 
-    /// An insertion tries a growth that is due, also where `make_room` was refused it.
+    /// Takes the mark of a refused growth away, and changes nothing else: an insertion tries a growth that is due, also
+    /// where `make_room` was refused it.
     pub fn drop_room(&mut self)
         ensures same { IsUnchanged self.old self.new }
         ensures waiting { waiting_of self.new ≡ waiting_of self.old }
@@ -277,7 +278,7 @@ impl<K: Eq + Hash, V, H: BuildHasher> Owned<K, V, H> {
     }
 
     /// Takes out the pair of `k` where `f` answers true on its value. What `f` wrote goes with the pair, and stays
-    /// where it answers false; then the answer is None.
+    /// where it answers false; then the answer is None. After a removal the array may become smaller.
     #[inline(always)]
     pub fn remove_if_sync<F: FnOnce(&mut V) -> bool>(&mut self, k: &K, f: F) -> Option<(K, V)>
         requires { (p : K × V) → find K.eq (entries self.old) k.now ≡ Some p → FnOnceTakesAtMut F.FnOnce f p.1 }
@@ -293,7 +294,8 @@ impl<K: Eq + Hash, V, H: BuildHasher> Owned<K, V, H> {
         }
     }
 
-    /// Takes out the pair whose key equals `k`, and answers it.
+    /// Takes out the pair whose key equals `k`, and answers it, or None where there is none. After a removal the array
+    /// may become smaller.
     #[inline(always)]
     pub fn remove_sync(&mut self, k: &K) -> Option<(K, V)>
         ensures { RemovesByRule K.eq (Removes K.eq self.old k.now result self.new) self.old k.now result self.new }
@@ -385,7 +387,7 @@ impl<K: Eq + Hash, V, H: BuildHasher> Owned<K, V, H> {
         self.table.replace_key_at(place, key)
     }
 
-    /// Takes the pair out of its place.
+    /// Takes the pair out of its place, and answers it. Then the array may become smaller.
     pub fn remove_at(&mut self, place: Place) -> (K, V)
         requires { IsPlace self.old place }
         ensures { RemovesAtByRule (IsUnique K.eq) self.old place result self.new }

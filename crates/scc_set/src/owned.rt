@@ -213,7 +213,8 @@ impl<K: Eq + Hash, H: BuildHasher> Owned<K, H> {
         self.map.make_room(k)
     }
 
-    /// An insertion tries a growth that is due, also where `make_room` was refused it.
+    /// Takes the mark of a refused growth away, and changes nothing else: an insertion tries a growth that is due, also
+    /// where `make_room` was refused it.
     pub fn drop_room(&mut self)
         ensures same { IsUnchanged self.old self.new }
         ensures waiting { waiting_of self.new ≡ waiting_of self.old }
@@ -254,7 +255,7 @@ impl<K: Eq + Hash, H: BuildHasher> Owned<K, H> {
     }
 
     /// Takes out the key that equals `k` where `f` answers true; the condition is asked only where there is one. Else
-    /// the answer is None.
+    /// the answer is None. After a removal the array may become smaller.
     #[inline(always)]
     pub fn remove_if_sync<F: FnOnce() -> bool>(&mut self, k: &K, f: F) -> Option<K>
         requires { IsSome (find K.eq (entries self.old) k.now) → F.pre f }
@@ -271,7 +272,8 @@ impl<K: Eq + Hash, H: BuildHasher> Owned<K, H> {
         key_alone(pair)
     }
 
-    /// Takes out the key that equals `k`, and answers it.
+    /// Takes out the key that equals `k`, and answers it, or None where there is none. After a removal the array may
+    /// become smaller.
     #[inline(always)]
     pub fn remove_sync(&mut self, k: &K) -> Option<K>
         ensures { RemovesByRule K.eq (Removes K.eq self.old k.now result self.new) self.old k.now result self.new }

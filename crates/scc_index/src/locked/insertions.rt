@@ -1,10 +1,6 @@
 //! The insertions of an entry of a locked stripe.
-ghost use Rattle.std.specs.Prelude.{◌≡◌, IfOk, OnErr, IfErr};
 ghost use Rattle.std.specs.Fn.{FnOnceReturnsAt, FnOnceTakesAt};
-ghost use Rattle.std.specs.Sync.RwLock.{write_guard_value};
-ghost use Rattle.scc_contents.specs.Contents.{hash_in};
-ghost use Rattle.scc_contents.specs.Pairs.{IsUnique};
-ghost use Rattle.scc_index.specs.Entries.{Memory, held_index, entry_guard, entry_key, GrowsThrough, IsVacant, OrInserts, OrInsertsSome, RefusesSome, RelocatesThrough};
+ghost use Rattle.scc_index.specs.Entries.{entry_key, InsertsThrough, IsVacant, OrInserts, OrInsertsSome, Refuses, RefusesSome};
 
 use super::OccupiedEntry;
 use crate::held::HeldPlace;
@@ -27,14 +23,8 @@ impl<'a, K: Eq + Hash, V, H: BuildHasher> HeldPlace<
     pub fn or_insert(self, default: V) -> Result<OccupiedEntry<'a, K, V, H>, InsertError<K, V>>
     where
         V: Drop,
-        ensures entry { IfOk result (OrInserts self.entry default) }
-        ensures refused { IfErr result (λ e. e ≡ Memory (entry_key self.entry, default)) }
-        ensures vacant { OnErr result (IsVacant self.entry) }
-        ensures growth { IfOk result (GrowsThrough
-            (hash_in ⟦<H as Hashes<K>>⟧.hash_of (write_guard_value (entry_guard self.entry))) self.entry) }
-        ensures relocates { IfOk result (RelocatesThrough
-            (hash_in ⟦<H as Hashes<K>>⟧.hash_of (write_guard_value (entry_guard self.entry))) self.entry) }
-        ensures unique { IfOk result (λ o. IsUnique K.eq (held_index o)) }
+        ensures { InsertsThrough K.eq ⟦<H as Hashes<K>>⟧.hash_of self.entry
+            (OrInserts self.entry default) (Refuses self.entry default) result }
     {
         match self {
             HeldPlace::Occupied(entry) => {
@@ -53,14 +43,8 @@ impl<'a, K: Eq + Hash, V, H: BuildHasher> HeldPlace<
         f: F,
     ) -> Result<OccupiedEntry<'a, K, V, H>, InsertError<K, V>>
         requires { IsVacant self → F.pre f }
-        ensures entry { IfOk result (OrInsertsSome self.entry (λ k v. F.post f v)) }
-        ensures refused { IfErr result (RefusesSome self.entry (λ k v. F.post f v)) }
-        ensures vacant { OnErr result (IsVacant self.entry) }
-        ensures growth { IfOk result (GrowsThrough
-            (hash_in ⟦<H as Hashes<K>>⟧.hash_of (write_guard_value (entry_guard self.entry))) self.entry) }
-        ensures relocates { IfOk result (RelocatesThrough
-            (hash_in ⟦<H as Hashes<K>>⟧.hash_of (write_guard_value (entry_guard self.entry))) self.entry) }
-        ensures unique { IfOk result (λ o. IsUnique K.eq (held_index o)) }
+        ensures { InsertsThrough K.eq ⟦<H as Hashes<K>>⟧.hash_of self.entry
+            (OrInsertsSome self.entry (λ k v. F.post f v)) (RefusesSome self.entry (λ k v. F.post f v)) result }
     {
         match self {
             HeldPlace::Occupied(entry) => {
@@ -81,14 +65,9 @@ impl<'a, K: Eq + Hash, V, H: BuildHasher> HeldPlace<
         f: F,
     ) -> Result<OccupiedEntry<'a, K, V, H>, InsertError<K, V>>
         requires { IsVacant self → FnOnceTakesAt F.FnOnce f (entry_key self) }
-        ensures entry { IfOk result (OrInsertsSome self.entry (FnOnceReturnsAt F.FnOnce f)) }
-        ensures refused { IfErr result (RefusesSome self.entry (FnOnceReturnsAt F.FnOnce f)) }
-        ensures vacant { OnErr result (IsVacant self.entry) }
-        ensures growth { IfOk result (GrowsThrough
-            (hash_in ⟦<H as Hashes<K>>⟧.hash_of (write_guard_value (entry_guard self.entry))) self.entry) }
-        ensures relocates { IfOk result (RelocatesThrough
-            (hash_in ⟦<H as Hashes<K>>⟧.hash_of (write_guard_value (entry_guard self.entry))) self.entry) }
-        ensures unique { IfOk result (λ o. IsUnique K.eq (held_index o)) }
+        ensures { InsertsThrough K.eq ⟦<H as Hashes<K>>⟧.hash_of self.entry
+            (OrInsertsSome self.entry (FnOnceReturnsAt F.FnOnce f))
+            (RefusesSome self.entry (FnOnceReturnsAt F.FnOnce f)) result }
     {
         match self {
             HeldPlace::Occupied(entry) => {
@@ -106,14 +85,9 @@ impl<'a, K: Eq + Hash, V, H: BuildHasher> HeldPlace<
     pub fn or_default(self) -> Result<OccupiedEntry<'a, K, V, H>, InsertError<K, V>>
     where
         V: Default,
-        ensures entry { IfOk result (OrInsertsSome self.entry (λ k v. V.is_default v)) }
-        ensures refused { IfErr result (RefusesSome self.entry (λ k v. V.is_default v)) }
-        ensures vacant { OnErr result (IsVacant self.entry) }
-        ensures growth { IfOk result (GrowsThrough
-            (hash_in ⟦<H as Hashes<K>>⟧.hash_of (write_guard_value (entry_guard self.entry))) self.entry) }
-        ensures relocates { IfOk result (RelocatesThrough
-            (hash_in ⟦<H as Hashes<K>>⟧.hash_of (write_guard_value (entry_guard self.entry))) self.entry) }
-        ensures unique { IfOk result (λ o. IsUnique K.eq (held_index o)) }
+        ensures { InsertsThrough K.eq ⟦<H as Hashes<K>>⟧.hash_of self.entry
+            (OrInsertsSome self.entry (λ k v. V.is_default v))
+            (RefusesSome self.entry (λ k v. V.is_default v)) result }
     {
         match self {
             HeldPlace::Occupied(entry) => {

@@ -1,10 +1,6 @@
 //! What lets a locked stripe go, and what inserts into it.
-ghost use Rattle.std.specs.Prelude.{◌≡◌, IfOk, IfErr};
-ghost use Rattle.std.specs.Sync.RwLock.{write_guard_value};
-ghost use Rattle.scc_contents.specs.Contents.{hash_in};
-ghost use Rattle.scc_contents.specs.Pairs.{IsUnique};
-ghost use Rattle.scc_table.specs.Relocations.{Relocates, RelocatesTwo};
-ghost use Rattle.scc_index.specs.Entries.{Memory, held_index, IsGrownFor, IsInserted};
+ghost use Rattle.std.specs.Prelude.{◌≡◌};
+ghost use Rattle.scc_index.specs.Entries.{InsertsAtVacant};
 
 use super::{OccupiedEntry, VacantEntry};
 use crate::held::{HeldEntry, HeldVacant};
@@ -64,16 +60,7 @@ impl<'a, K: Eq + Hash, V, H: BuildHasher> HeldVacant<
     /// Inserts the key with `value`, and answers its entry. Refused for want of memory, key and value come back, and
     /// the stripe is let go.
     pub fn insert_entry(self, value: V) -> Result<OccupiedEntry<'a, K, V, H>, InsertError<K, V>>
-        ensures inserted { IfOk result (IsInserted self.entry value) }
-        ensures growth { IfOk result (λ o. IsGrownFor
-            (hash_in ⟦<H as Hashes<K>>⟧.hash_of (write_guard_value self.entry.guard))
-            (write_guard_value self.entry.guard) self.entry.key (held_index o)) }
-        ensures relocates { IfOk result (λ o. Relocates (write_guard_value self.entry.guard) (held_index o)) }
-        ensures two { IfOk result (λ o. RelocatesTwo
-            (hash_in ⟦<H as Hashes<K>>⟧.hash_of (write_guard_value self.entry.guard) self.entry.key)
-            (write_guard_value self.entry.guard) (held_index o)) }
-        ensures unique { IfOk result (λ o. IsUnique K.eq (held_index o)) }
-        ensures refused { IfErr result (λ e. e ≡ Memory (self.entry.key, value)) }
+        ensures { InsertsAtVacant K.eq ⟦<H as Hashes<K>>⟧.hash_of self.entry value result }
     {
         let HeldVacant {
             mut guard,

@@ -63,7 +63,7 @@ impl<K: Eq + Hash, V, H: BuildHasher> Owned<K, V, H> {
         self.retain_lent(&mut f);
     }
 
-    /// The same with a closure that is lent, and goes on to other indexes.
+    /// As `retain_sync`, with a closure that is lent, and goes on to other indexes.
     pub fn retain_lent<F: FnMut(&K, &V) -> bool>(&mut self, f: &mut F)
     where
         K: Drop,

@@ -1,10 +1,7 @@
 //! The insertions of an entry of a locked stripe. All but `insert_entry` call `or_insert_with_key`.
-ghost use Rattle.std.specs.Prelude.{◌≡◌, IfOk, OnErr, IfErr};
+ghost use Rattle.std.specs.Prelude.{◌≡◌};
 ghost use Rattle.std.specs.Fn.{FnOnceTakesAt, FnOnceReturnsAt};
-ghost use Rattle.std.specs.Sync.RwLock.{write_guard_value};
-ghost use Rattle.scc_contents.specs.Contents.{hash_in};
-ghost use Rattle.scc_contents.specs.Pairs.{IsUnique};
-ghost use Rattle.scc_map.specs.Entries.{Memory, held_map, entry_guard, entry_key, GrowsThrough, IsVacant, OrInserts, OrInsertsSome, RefusesSome, RelocatesThrough, SetsEntry};
+ghost use Rattle.scc_map.specs.Entries.{entry_key, InsertsThrough, IsVacant, OrInserts, OrInsertsSome, Refuses, RefusesSome, SetsEntry};
 
 use super::OccupiedEntry;
 use crate::held::HeldPlace;
@@ -27,14 +24,8 @@ impl<'a, K: Eq + Hash, V, H: BuildHasher> HeldPlace<
     pub fn or_insert(self, default: V) -> Result<OccupiedEntry<'a, K, V, H>, InsertError<K, V>>
     where
         V: Drop,
-        ensures entry { IfOk result (OrInserts self.entry default) }
-        ensures refused { IfErr result (λ e. e ≡ Memory (entry_key self.entry, default)) }
-        ensures vacant { OnErr result (IsVacant self.entry) }
-        ensures growth { IfOk result (GrowsThrough
-            (hash_in ⟦<H as Hashes<K>>⟧.hash_of (write_guard_value (entry_guard self.entry))) self.entry) }
-        ensures relocates { IfOk result (RelocatesThrough
-            (hash_in ⟦<H as Hashes<K>>⟧.hash_of (write_guard_value (entry_guard self.entry))) self.entry) }
-        ensures unique { IfOk result (λ o. IsUnique K.eq (held_map o)) }
+        ensures { InsertsThrough K.eq ⟦<H as Hashes<K>>⟧.hash_of self.entry
+            (OrInserts self.entry default) (Refuses self.entry default) result }
     {
         self.or_insert_with_key(
             move |_key: &K| -> V
@@ -50,14 +41,8 @@ impl<'a, K: Eq + Hash, V, H: BuildHasher> HeldPlace<
         f: F,
     ) -> Result<OccupiedEntry<'a, K, V, H>, InsertError<K, V>>
         requires { IsVacant self → F.pre f }
-        ensures entry { IfOk result (OrInsertsSome self.entry (λ k v. F.post f v)) }
-        ensures refused { IfErr result (RefusesSome self.entry (λ k v. F.post f v)) }
-        ensures vacant { OnErr result (IsVacant self.entry) }
-        ensures growth { IfOk result (GrowsThrough
-            (hash_in ⟦<H as Hashes<K>>⟧.hash_of (write_guard_value (entry_guard self.entry))) self.entry) }
-        ensures relocates { IfOk result (RelocatesThrough
-            (hash_in ⟦<H as Hashes<K>>⟧.hash_of (write_guard_value (entry_guard self.entry))) self.entry) }
-        ensures unique { IfOk result (λ o. IsUnique K.eq (held_map o)) }
+        ensures { InsertsThrough K.eq ⟦<H as Hashes<K>>⟧.hash_of self.entry
+            (OrInsertsSome self.entry (λ k v. F.post f v)) (RefusesSome self.entry (λ k v. F.post f v)) result }
     {
         self.or_insert_with_key(
             move |_key: &K| -> V
@@ -74,14 +59,9 @@ impl<'a, K: Eq + Hash, V, H: BuildHasher> HeldPlace<
         f: F,
     ) -> Result<OccupiedEntry<'a, K, V, H>, InsertError<K, V>>
         requires { IsVacant self → FnOnceTakesAt F.FnOnce f (entry_key self) }
-        ensures entry { IfOk result (OrInsertsSome self.entry (FnOnceReturnsAt F.FnOnce f)) }
-        ensures refused { IfErr result (RefusesSome self.entry (FnOnceReturnsAt F.FnOnce f)) }
-        ensures vacant { OnErr result (IsVacant self.entry) }
-        ensures growth { IfOk result (GrowsThrough
-            (hash_in ⟦<H as Hashes<K>>⟧.hash_of (write_guard_value (entry_guard self.entry))) self.entry) }
-        ensures relocates { IfOk result (RelocatesThrough
-            (hash_in ⟦<H as Hashes<K>>⟧.hash_of (write_guard_value (entry_guard self.entry))) self.entry) }
-        ensures unique { IfOk result (λ o. IsUnique K.eq (held_map o)) }
+        ensures { InsertsThrough K.eq ⟦<H as Hashes<K>>⟧.hash_of self.entry
+            (OrInsertsSome self.entry (FnOnceReturnsAt F.FnOnce f))
+            (RefusesSome self.entry (FnOnceReturnsAt F.FnOnce f)) result }
     {
         match self {
             HeldPlace::Occupied(entry) => {
@@ -99,14 +79,9 @@ impl<'a, K: Eq + Hash, V, H: BuildHasher> HeldPlace<
     pub fn or_default(self) -> Result<OccupiedEntry<'a, K, V, H>, InsertError<K, V>>
     where
         V: Default,
-        ensures entry { IfOk result (OrInsertsSome self.entry (λ k v. V.is_default v)) }
-        ensures refused { IfErr result (RefusesSome self.entry (λ k v. V.is_default v)) }
-        ensures vacant { OnErr result (IsVacant self.entry) }
-        ensures growth { IfOk result (GrowsThrough
-            (hash_in ⟦<H as Hashes<K>>⟧.hash_of (write_guard_value (entry_guard self.entry))) self.entry) }
-        ensures relocates { IfOk result (RelocatesThrough
-            (hash_in ⟦<H as Hashes<K>>⟧.hash_of (write_guard_value (entry_guard self.entry))) self.entry) }
-        ensures unique { IfOk result (λ o. IsUnique K.eq (held_map o)) }
+        ensures { InsertsThrough K.eq ⟦<H as Hashes<K>>⟧.hash_of self.entry
+            (OrInsertsSome self.entry (λ k v. V.is_default v))
+            (RefusesSome self.entry (λ k v. V.is_default v)) result }
     {
         self.or_insert_with_key(
             move |_key: &K| -> V
@@ -119,14 +94,8 @@ impl<'a, K: Eq + Hash, V, H: BuildHasher> HeldPlace<
     pub fn insert_entry(self, value: V) -> Result<OccupiedEntry<'a, K, V, H>, InsertError<K, V>>
     where
         V: Drop,
-        ensures entry { IfOk result (SetsEntry self.entry value) }
-        ensures refused { IfErr result (λ e. e ≡ Memory (entry_key self.entry, value)) }
-        ensures vacant { OnErr result (IsVacant self.entry) }
-        ensures growth { IfOk result (GrowsThrough
-            (hash_in ⟦<H as Hashes<K>>⟧.hash_of (write_guard_value (entry_guard self.entry))) self.entry) }
-        ensures relocates { IfOk result (RelocatesThrough
-            (hash_in ⟦<H as Hashes<K>>⟧.hash_of (write_guard_value (entry_guard self.entry))) self.entry) }
-        ensures unique { IfOk result (λ o. IsUnique K.eq (held_map o)) }
+        ensures { InsertsThrough K.eq ⟦<H as Hashes<K>>⟧.hash_of self.entry
+            (SetsEntry self.entry value) (Refuses self.entry value) result }
     {
         match self {
             HeldPlace::Occupied(entry) => {

@@ -35,7 +35,7 @@ impl<K: Eq + Hash, V, H: BuildHasher> Owned<K, V, H> {
         self.iter_mut_into(f, taken)
     }
 
-    /// The same, where the taken pairs go to the end of any list that takes pairs.
+    /// As `iter_mut_sync`, where the taken pairs go to the end of any list that takes pairs.
     pub fn iter_mut_into<F: FnMut(&K, &mut V) -> Verdict, L: Sink<K, V>>(
         &mut self,
         f: F,
@@ -52,7 +52,7 @@ impl<K: Eq + Hash, V, H: BuildHasher> Owned<K, V, H> {
         self.iter_mut_lent(&mut f, taken)
     }
 
-    /// The same with a closure that is lent, and goes on to other maps.
+    /// As `iter_mut_into`, with a closure that is lent, and goes on to other maps.
     pub fn iter_mut_lent<F: FnMut(&K, &mut V) -> Verdict, L: Sink<K, V>>(
         &mut self,
         f: &mut F,

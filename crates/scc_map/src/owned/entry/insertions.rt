@@ -1,5 +1,5 @@
 //! The insertions of an entry of a borrowed map. Each goes on at the place that the search found, and all but
-//! `insert_entry` call `or_insert_with_key`. Where an entry is occupied, `len` is called for its contract: no two keys
+//! `insert_entry` call `or_insert_with_key`. At an occupied entry that one calls `len` for its contract: no two keys
 //! are equal.
 ghost use Rattle.std.specs.Prelude.{◌≡◌, IfOk, OnErr, IfErr};
 ghost use Rattle.std.specs.Borrow.{sem};

@@ -1,18 +1,27 @@
-use Rattle.std.proofs.Common.{refl}
+use Rattle.std.proofs.Common.{refl, rules}
 use Rattle.scc_map.proofs.Entries.{inserted-after}
 use Rattle.scc_map.proofs.locked.methods.HeldVacant+RwLockWriteGuard+Owned+K+V+Shared+H+Seat+Owned+K+V+Shared+H+H+K+V+Shared+H.insert_entry.Goals as goal
 
-pub returns-in-Ok-clause-inserted : goal.returns-in-Ok-clause-inserted
-returns-in-Ok-clause-inserted g c = inserted-after c.args.self c.deref_mut.result.now c.insert_new.new.self c.args.value _ refl refl c.deref_mut.ensures.value c.in-Ok.ensures.ok
+pub returns-in-Ok : goal.returns-in-Ok
+returns-in-Ok g c =
+    record {
+      inserted = inserted-after c.args.self c.deref_mut.result.now c.insert_new.new.self c.args.value _ refl refl c.deref_mut.ensures.value c.in-Ok.ensures.ok;
+      growth = (rw (← c.deref_mut.ensures.value) record { grows = c.insert_new.ensures.grows; first = c.in-Ok.ensures.first });
+      relocates = (rw (← c.deref_mut.ensures.value) c.insert_new.ensures.relocates);
+      two = (rw (← c.deref_mut.ensures.value) c.in-Ok.ensures.two);
+      unique = (search rules);
+      refused = (search rules);
+      full = (search rules);
+    }
 
-pub returns-in-Ok-clause-growth : goal.returns-in-Ok-clause-growth
-returns-in-Ok-clause-growth g c = rw (← c.deref_mut.ensures.value) record { grows = c.insert_new.ensures.grows; first = c.in-Ok.ensures.first }
-
-pub returns-in-Ok-clause-relocates : goal.returns-in-Ok-clause-relocates
-returns-in-Ok-clause-relocates g c = rw (← c.deref_mut.ensures.value) c.insert_new.ensures.relocates
-
-pub returns-in-Ok-clause-two : goal.returns-in-Ok-clause-two
-returns-in-Ok-clause-two g c = rw (← c.deref_mut.ensures.value) c.in-Ok.ensures.two
-
-pub returns-clause-full : goal.returns-clause-full
-returns-clause-full g c = rw (← c.deref_mut.ensures.value) c.in-Err.ensures.full
+pub returns : goal.returns
+returns g c =
+    record {
+      inserted = (search rules);
+      growth = (search rules);
+      relocates = (search rules);
+      two = (search rules);
+      unique = (search rules);
+      refused = (search rules);
+      full = (rw (← c.deref_mut.ensures.value) c.in-Err.ensures.full);
+    }
