@@ -1,10 +1,12 @@
 pub mod Bounded
+pub mod Insertions
 pub mod LendsTable
 pub mod Making
 pub mod Placed
 pub mod Places
 pub mod Relocates
 pub mod Relocations
+pub mod Starts
 pub mod Stepping
 pub mod Takes
 pub mod TwoArrays

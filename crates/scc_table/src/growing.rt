@@ -1,10 +1,10 @@
 //! How a table of two arrays gets room for a new key.
 ghost use Rattle.std.specs.Prelude.{◌≡◌, ◌≢◌, ◌≤◌, ◌<◌, ◌*◌, ◌^◌, ◌⊎◌, [], false, true, length, replicate, IfOk, OnOk, OnErr};
-ghost use Rattle.scc_buckets.specs.Bounded.{IsResized};
 ghost use Rattle.scc_contents.specs.Contents.{entries, bucket_count, key_hash, lists_of, pending_of, refused_of, settings_of, waiting_of, HasRoomAt, IsUniqueBy};
 ghost use Rattle.scc_buckets.specs.Pour.{IsRegrouped};
 ghost use Rattle.scc_contents.specs.Routing.{bucket_number};
-ghost use Rattle.scc_contents.specs.Steps.{FirstArrayWhenDue, Grows, HoldsExactly, IsUnchanged, MakesRoom, Rests};
+ghost use Rattle.scc_contents.specs.Steps.{FirstArrayWhenDue, Grows, IsUnchanged, MakesRoom, Rests};
+ghost use Rattle.scc_table.specs.Starts.{MakesFirst};
 
 use super::Table;
 use scc_buckets::sizes::MOST_BUCKETS;
@@ -165,18 +165,9 @@ where
     /// Makes the first array, of the size of the minimum. None of its buckets waits.
     pub(super) fn make_array(&mut self) -> Result<(), AllocError>
         requires { bucket_count self.old ≡ 0 }
-        ensures rests { Rests self.old self.new }
-        ensures growth { Grows self.old self.new }
-        ensures noted { refused_of self.new ≡ refused_of self.old }
-        ensures first { OnOk result (FirstArrayWhenDue self.old self.new) }
-        ensures array { OnOk result (0 < bucket_count self.new) }
-        ensures bare { entries self.new ≡ [] }
-        ensures waiting { waiting_of self.new ≡ [] }
-        ensures refused { OnErr result (IsUnchanged self.old self.new) }
-        ensures resized { OnOk result (IsResized (λ e. key_hash H.BuildHasher H.Hasher.Hasher E.Key.hash_input
-            self.old (E.key_of e)) self.old self.new) }
-        ensures same { OnErr result (self.new ≡ self.old) }
-        ensures unique { IsUniqueBy E.Key.eq E.key_of self.new }
+        ensures { MakesFirst E.Key.eq E.key_of
+            (λ e. key_hash H.BuildHasher H.Hasher.Hasher E.Key.hash_input self.old (E.key_of e)) self.old result
+            self.new }
     {
         self.current.make_array()?;
         Ok(())
