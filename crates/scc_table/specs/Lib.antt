@@ -4,6 +4,7 @@ pub mod LendsTable
 pub mod Making
 pub mod Placed
 pub mod Places
+pub mod Puts
 pub mod Relocates
 pub mod Relocations
 pub mod Starts

@@ -1,13 +1,13 @@
 //! How new keys get into a table of two arrays.
-ghost use Rattle.std.specs.Prelude.{◌≡◌, ◌≤◌, ◌<◌, ◌+◌, ℕ, false, None, drop, IfOk, IfErr, OnErr};
+ghost use Rattle.std.specs.Prelude.{◌≡◌, ◌≤◌, ◌<◌, ◌+◌, ℕ, false, None, drop};
 ghost use Rattle.std.specs.List.{position};
 ghost use Rattle.scc_buckets.specs.Bounded.{IsBounded};
-ghost use Rattle.scc_contents.specs.Contents.{entries, bucket_count, owed_of, key_hash, lists_of, pending_of, refused_of, settings_of, waiting_of, HasRoomBy, IsUniqueBy};
-ghost use Rattle.scc_buckets.specs.OneList.{HasSameLists, IsPutIn};
+ghost use Rattle.scc_contents.specs.Contents.{entries, bucket_count, key_hash, lists_of, pending_of, refused_of, settings_of, waiting_of, HasRoomBy};
 ghost use Rattle.scc_contents.specs.Routing.{bucket_number};
 ghost use Rattle.scc_table.specs.Relocates.{AreShort, IsMovedUpTo};
 ghost use Rattle.scc_table.specs.TwoArrays.{IsWaiting, pending_targets, waits_at};
 ghost use Rattle.scc_table.specs.Insertions.{InsertsAt, InsertsInto, InsertsNew};
+ghost use Rattle.scc_table.specs.Puts.{PutsInto};
 
 use super::Table;
 use scc_buckets::Place;
@@ -130,14 +130,9 @@ where
         requires hashed { hash ≡ key_hash H.BuildHasher H.Hasher.Hasher E.Key.hash_input self.old (E.key_of entry) }
         requires absent { position (λ e. E.Key.eq (E.key_of entry) (E.key_of e)) (entries self.old) ≡ None }
         requires settled { waits_at (waiting_of self.old) bucket ≡ false }
-        ensures exact { IfOk result (IsPutIn self.old bucket entry self.new) }
-        ensures err { IfErr result (λ e. e ≡ entry) }
-        ensures stays { OnErr result (HasSameLists self.old self.new) }
-        ensures full { OnErr result (HasRoomBy (key_hash H.BuildHasher H.Hasher.Hasher E.Key.hash_input self.old)
-            E.key_of self.old (E.key_of entry) → ⊥) }
-        ensures waiting { waiting_of self.new ≡ waiting_of self.old }
-        ensures owed { owed_of self.new ≡ owed_of self.old }
-        ensures unique { IsUniqueBy E.Key.eq E.key_of self.new }
+        ensures { PutsInto E.Key.eq E.key_of self.old bucket entry entry
+            (HasRoomBy (key_hash H.BuildHasher H.Hasher.Hasher E.Key.hash_input self.old) E.key_of self.old
+            (E.key_of entry) → ⊥) result self.new }
     {
         self.current.keep_lists();
         if self.left_overflow > 0 {

@@ -1,13 +1,14 @@
 //! Entries that are made when they are put into a table of two arrays.
-ghost use Rattle.std.specs.Prelude.{◌≡◌, ◌≢◌, ◌≤◌, ◌<◌, ◌+◌, ◌-◌, ◌*◌, ◌^◌, ℕ, [], false, true, None, drop, length, IfOk, IfErr, OnOk, OnErr};
+ghost use Rattle.std.specs.Prelude.{◌≡◌, ◌≢◌, ◌≤◌, ◌<◌, ◌+◌, ◌-◌, ◌*◌, ◌^◌, ℕ, [], false, true, None, length, IfOk, IfErr, OnOk, OnErr};
 ghost use Rattle.std.specs.List.{position, range_with_len};
-ghost use Rattle.scc_contents.specs.Contents.{entries, bucket_count, owed_of, key_hash, pending_of, refused_of, settings_of, waiting_of, HasRoomBy, IsUniqueBy};
-ghost use Rattle.scc_buckets.specs.OneList.{HasSameLists, IsPutIn};
+ghost use Rattle.scc_contents.specs.Contents.{entries, bucket_count, key_hash, pending_of, refused_of, settings_of, waiting_of, HasRoomBy, IsUniqueBy};
 ghost use Rattle.scc_contents.specs.Routing.{bucket_number};
 ghost use Rattle.scc_contents.specs.Steps.{FirstArrayWhenDue, Grows, GrowsWhenDue, IsReadyFor, IsUnchanged, RaisesWhenDue};
 ghost use Rattle.scc_table.specs.Places.{IsInsertedAt};
-ghost use Rattle.scc_table.specs.Relocates.{left_after, AreMovedBeside, AreShort, AreShortAmong, IsMovedUpTo};
+ghost use Rattle.scc_table.specs.Relocates.{left_after, AreMovedBeside, AreShort, AreShortAmong};
 ghost use Rattle.scc_table.specs.TwoArrays.{IsWaiting, pending_targets, waits_at};
+ghost use Rattle.scc_table.specs.Insertions.{InsertsAt, InsertsInto};
+ghost use Rattle.scc_table.specs.Puts.{PutsInto};
 
 use super::Table;
 use scc_buckets::Place;
@@ -214,18 +215,8 @@ where
         requires hashed { hash ≡ key_hash H.BuildHasher H.Hasher.Hasher E.Key.hash_input self.old
             (E.key_of (E.made_of parts)) }
         requires absent { position (λ e. E.Key.eq (E.key_of (E.made_of parts)) (E.key_of e)) (entries self.old) ≡ None }
-        ensures ok { IfOk result (IsInsertedAt self.old (E.made_of parts) self.new) }
-        ensures err { IfErr result (λ p. (p ≡ parts) × IsUnchanged self.old self.new) }
-        ensures buckets { bucket_count self.new ≡ bucket_count self.old }
-        ensures refused { refused_of self.new ≡ refused_of self.old }
-        ensures fewer { (i : ℕ) → IsWaiting self.new i → IsWaiting self.old i }
-        ensures less { pending_of self.new ≤ pending_of self.old }
-        ensures most { pending_of self.old ≤ pending_of self.new + 2 }
-        ensures settled { OnOk result (waits_at (waiting_of self.new) bucket ≡ false) }
-        ensures moved { OnOk result (AreMovedBeside bucket (pending_targets self.old) self.new) }
-        ensures exact { OnOk result (AreShort self.old
-            → pending_targets self.new ≡ left_after bucket (pending_targets self.old)) }
-        ensures unique { IsUniqueBy E.Key.eq E.key_of self.new }
+        ensures { InsertsAt E.Key.eq E.key_of self.old bucket (E.made_of parts) parts (Unit {0}) result
+            self.new }
     {
         if self.is_waiting(bucket) {
             return self.insert_made_waiting(bucket, hash, parts);
@@ -247,18 +238,8 @@ where
             (E.key_of (E.made_of parts)) }
         requires absent { position (λ e. E.Key.eq (E.key_of (E.made_of parts)) (E.key_of e)) (entries self.old) ≡ None }
         requires waits { IsWaiting self.old bucket }
-        ensures ok { IfOk result (IsInsertedAt self.old (E.made_of parts) self.new) }
-        ensures err { IfErr result (λ p. (p ≡ parts) × IsUnchanged self.old self.new) }
-        ensures buckets { bucket_count self.new ≡ bucket_count self.old }
-        ensures refused { refused_of self.new ≡ refused_of self.old }
-        ensures fewer { (i : ℕ) → IsWaiting self.new i → IsWaiting self.old i }
-        ensures less { pending_of self.new ≤ pending_of self.old }
-        ensures most { pending_of self.old ≤ pending_of self.new + 2 }
-        ensures settled { OnOk result (waits_at (waiting_of self.new) bucket ≡ false) }
-        ensures moved { OnOk result (AreMovedBeside bucket (pending_targets self.old) self.new) }
-        ensures exact { OnOk result (AreShort self.old
-            → pending_targets self.new ≡ left_after bucket (pending_targets self.old)) }
-        ensures unique { IsUniqueBy E.Key.eq E.key_of self.new }
+        ensures { InsertsAt E.Key.eq E.key_of self.old bucket (E.made_of parts) parts (Unit {0}) result
+            self.new }
     {
         self.keep_lists();
         match self.relocate(bucket) {
@@ -282,18 +263,8 @@ where
             (E.key_of (E.made_of parts)) }
         requires absent { position (λ e. E.Key.eq (E.key_of (E.made_of parts)) (E.key_of e)) (entries self.old) ≡ None }
         requires settled { waits_at (waiting_of self.old) bucket ≡ false }
-        ensures ok { IfOk result (IsInsertedAt self.old (E.made_of parts) self.new) }
-        ensures err { IfErr result (λ p. (p ≡ parts) × IsUnchanged self.old self.new) }
-        ensures buckets { bucket_count self.new ≡ bucket_count self.old }
-        ensures refused { refused_of self.new ≡ refused_of self.old }
-        ensures fewer { (i : ℕ) → IsWaiting self.new i → IsWaiting self.old i }
-        ensures less { pending_of self.new ≤ pending_of self.old }
-        ensures most { pending_of self.old ≤ pending_of self.new + most }
-        ensures settled { OnOk result (waits_at (waiting_of self.new) bucket ≡ false) }
-        ensures moved { OnOk result (IsMovedUpTo most self.old self.new) }
-        ensures exact { OnOk result (AreShort self.old
-            → pending_targets self.new ≡ drop most (pending_targets self.old)) }
-        ensures unique { IsUniqueBy E.Key.eq E.key_of self.new }
+        ensures { InsertsInto E.Key.eq E.key_of self.old bucket (E.made_of parts) parts
+            (pending_targets self.old) most most (Unit {0}) result self.new }
     {
         match self.put_made_in(bucket, hash, parts) {
             Ok(place) => {
@@ -321,12 +292,8 @@ where
             (E.key_of (E.made_of parts)) }
         requires absent { position (λ e. E.Key.eq (E.key_of (E.made_of parts)) (E.key_of e)) (entries self.old) ≡ None }
         requires settled { waits_at (waiting_of self.old) bucket ≡ false }
-        ensures exact { IfOk result (IsPutIn self.old bucket (E.made_of parts) self.new) }
-        ensures err { IfErr result (λ p. p ≡ parts) }
-        ensures stays { OnErr result (HasSameLists self.old self.new) }
-        ensures waiting { waiting_of self.new ≡ waiting_of self.old }
-        ensures owed { owed_of self.new ≡ owed_of self.old }
-        ensures unique { IsUniqueBy E.Key.eq E.key_of self.new }
+        ensures { PutsInto E.Key.eq E.key_of self.old bucket (E.made_of parts) parts (Unit {0}) result
+            self.new }
     {
         self.current.keep_lists();
         if self.left_overflow > 0 {
