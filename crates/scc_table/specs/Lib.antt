@@ -1,6 +1,7 @@
 pub mod Bounded
 pub mod Insertions
 pub mod LendsTable
+pub mod MadeInsertions
 pub mod Making
 pub mod Placed
 pub mod Places
