@@ -1,4 +1,5 @@
 pub mod Bounded
+pub mod Growths
 pub mod Insertions
 pub mod LendsTable
 pub mod MadeInsertions

@@ -1,5 +1,5 @@
 //! Entries that are made when they are put into a table of two arrays.
-ghost use Rattle.std.specs.Prelude.{◌≡◌, ◌<◌, ◌+◌, ◌*◌, false, true, None, length};
+ghost use Rattle.std.specs.Prelude.{◌≡◌, ◌<◌, false, None};
 ghost use Rattle.std.specs.List.{position};
 ghost use Rattle.scc_contents.specs.Contents.{entries, bucket_count, key_hash, pending_of, settings_of, waiting_of};
 ghost use Rattle.scc_contents.specs.Routing.{bucket_number};

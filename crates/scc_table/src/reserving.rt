@@ -1,5 +1,5 @@
 //! How many slots a table of two arrays keeps at least, and the tokens of reserved ones.
-ghost use Rattle.std.specs.Prelude.{◌≡◌, ◌≢◌, ◌≤◌, ◌<◌, ◌+◌, ◌-◌, ◌*◌, ◌^◌, ◌↔◌, IfNone, IfSome, IsSome, IsTrue, OnSome};
+ghost use Rattle.std.specs.Prelude.{◌≡◌, ◌≢◌, ◌≤◌, ◌<◌, ◌+◌, ◌*◌, ◌^◌, ◌↔◌, IfNone, IfSome, IsSome, IsTrue, OnSome};
 ghost use Rattle.scc_contents.specs.Contents.{bucket_count, settings_of, refused_of, minimum_of, waiting_of, IsUniqueBy};
 ghost use Rattle.scc_contents.specs.Sizes.{IsArraySize};
 ghost use Rattle.scc_contents.specs.Steps.{IsUnchanged, ReachesMinimumWhenDue, Releases, Reserves, Resizes, ShrinksWhenDue};

@@ -1,6 +1,6 @@
 //! Buckets that take their entries over in a table whose lists hold at most 32 entries each, and entries that go in at
 //! the end of such a list. None of it asks for memory.
-ghost use Rattle.std.specs.Prelude.{◌≡◌, ◌==◌, ◌<◌, ◌+◌, false, drop, None, not};
+ghost use Rattle.std.specs.Prelude.{◌≡◌, ◌==◌, ◌<◌, false, drop, None, not};
 ghost use Rattle.std.specs.List.{filter, position};
 ghost use Rattle.scc_buckets.specs.Bounded.{IsListed};
 ghost use Rattle.scc_contents.specs.Contents.{entries, bucket_count, key_hash, settings_of, waiting_of, IsUniqueBy};

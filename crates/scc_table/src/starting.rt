@@ -1,7 +1,7 @@
 //! How a new array takes the place of the present one, which drains from then on.
 ghost use Rattle.std.specs.Prelude.{◌≡◌, ◌≢◌, ◌<◌, true, false, replicate};
 ghost use Rattle.scc_array.specs.Shelf.{empty_shelf};
-ghost use Rattle.scc_contents.specs.Contents.{entries, bucket_count, key_hash, pending_of};
+ghost use Rattle.scc_contents.specs.Contents.{bucket_count, key_hash, pending_of};
 ghost use Rattle.scc_contents.specs.Sizes.{IsArray};
 ghost use Rattle.scc_table.specs.Starts.{Begins, Notes, ResizesArray, StartsArray, StartsAt};
 
