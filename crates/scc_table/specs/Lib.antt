@@ -1,10 +1,15 @@
 pub mod Bounded
+pub mod Growths
+pub mod Insertions
 pub mod LendsTable
+pub mod MadeInsertions
 pub mod Making
 pub mod Placed
 pub mod Places
+pub mod Puts
 pub mod Relocates
 pub mod Relocations
+pub mod Starts
 pub mod Stepping
 pub mod Takes
 pub mod TwoArrays

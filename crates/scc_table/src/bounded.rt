@@ -1,14 +1,13 @@
 //! Resizes of a table whose lists hold at most 32 entries each, none of them in an overflow list. Each of them keeps
 //! that.
-ghost use Rattle.std.specs.Prelude.{◌≡◌, ◌≢◌, ◌≤◌, ◌<◌, ◌*◌, ◌^◌, ◌↔◌, ℕ, [], true, length, IsTrue, IfOk, OnErr};
+ghost use Rattle.std.specs.Prelude.{◌≡◌, ◌≤◌, ◌<◌, ◌*◌, ◌^◌, ◌↔◌, ℕ, length, IsTrue};
 ghost use Rattle.std.specs.List.Sorted.{IsPermutation};
-ghost use Rattle.scc_buckets.specs.Bounded.{IsListed, KeepsLists, MayNarrow, ShrinksBounded};
-ghost use Rattle.scc_contents.specs.Contents.{entries, bucket_count, key_hash, list_of, pending_of, refused_of, settings_of, waiting_of, IsUniqueBy};
+ghost use Rattle.scc_buckets.specs.Bounded.{IsListed, MayNarrow, ShrinksBounded};
+ghost use Rattle.scc_contents.specs.Contents.{entries, bucket_count, key_hash, settings_of, IsUniqueBy};
 ghost use Rattle.scc_buckets.specs.Pour.{bound_for};
-ghost use Rattle.scc_contents.specs.Routing.{bucket_number};
 ghost use Rattle.scc_contents.specs.Sizes.{IsArray};
-ghost use Rattle.scc_table.specs.Bounded.{DoublesBelow, GrowsBelow, IsDoublingDue};
 ghost use Rattle.scc_table.specs.Relocates.{Spreads};
+ghost use Rattle.scc_table.specs.Growths.{DoublesWithin, FindsBucketWithin};
 
 use super::Table;
 use scc_buckets::sizes::buckets_for;
@@ -29,23 +28,8 @@ where
         requires listed { IsListed (λ e. key_hash H.BuildHasher H.Hasher.Hasher E.Key.hash_input self.old
             (E.key_of e)) self.old }
         requires most { most ≤ 2 ^ 63 }
-        ensures grows { IfOk result (λ _. GrowsBelow
-            (λ e. key_hash H.BuildHasher H.Hasher.Hasher E.Key.hash_input self.old (E.key_of e)) most
-            (bucket_number (settings_of self.old).skipped (bucket_count self.old) hash) self.old self.new) }
-        ensures same { IsPermutation (entries self.old) (entries self.new) }
-        ensures settings { settings_of self.new ≡ settings_of self.old }
-        ensures listed { IsListed (λ e. key_hash H.BuildHasher H.Hasher.Hasher E.Key.hash_input self.new (E.key_of e))
-            self.new }
-        ensures within { IfOk result (λ i. i < bucket_count self.new) }
-        ensures routed { IfOk result (λ i. i ≡ bucket_number (settings_of self.new).skipped (bucket_count self.new)
-            hash) }
-        ensures none { OnErr result ((bucket_count self.old ≡ 0) × (self.new ≡ self.old)) }
-        ensures first { bucket_count self.old ≡ 0 → waiting_of self.new ≡ [] }
-        ensures waiting { 0 < bucket_count self.old → bucket_count self.new ≡ bucket_count self.old
-            → waiting_of self.new ≡ waiting_of self.old }
-        ensures all { 0 < bucket_count self.old → bucket_count self.new ≢ bucket_count self.old
-            → pending_of self.new ≡ bucket_count self.new }
-        ensures unique { IsUniqueBy E.Key.eq E.key_of self.new }
+        ensures { FindsBucketWithin E.Key.eq E.key_of (key_hash H.BuildHasher H.Hasher.Hasher E.Key.hash_input)
+            most self.old hash result self.new }
     {
         self.keep_lists();
         if self.bucket_count() == 0 {
@@ -69,19 +53,8 @@ where
         requires listed { IsListed (λ e. key_hash H.BuildHasher H.Hasher.Hasher E.Key.hash_input self.old
             (E.key_of e)) self.old }
         requires most { most ≤ 2 ^ 63 }
-        ensures doubles { DoublesBelow (λ e. key_hash H.BuildHasher H.Hasher.Hasher E.Key.hash_input self.old
-            (E.key_of e)) most self.old self.new }
-        ensures same { IsPermutation (entries self.old) (entries self.new) }
-        ensures settings { settings_of self.new ≡ settings_of self.old }
-        ensures listed { IsListed (λ e. key_hash H.BuildHasher H.Hasher.Hasher E.Key.hash_input self.new (E.key_of e))
-            self.new }
-        ensures array { 0 < bucket_count self.new }
-        ensures waiting { bucket_count self.new ≡ bucket_count self.old → waiting_of self.new ≡ waiting_of self.old }
-        ensures all { bucket_count self.new ≢ bucket_count self.old → pending_of self.new ≡ bucket_count self.new }
-        ensures refused { IsTrue result → IsDoublingDue most self.old × KeepsLists self.old self.new }
-        ensures made { (IsTrue result → ⊥) → IsDoublingDue most self.new → ⊥ }
-        ensures marked { (refused_of self.new).1 ≡ true → self.new ≡ self.old }
-        ensures unique { IsUniqueBy E.Key.eq E.key_of self.new }
+        ensures { DoublesWithin E.Key.eq E.key_of (key_hash H.BuildHasher H.Hasher.Hasher E.Key.hash_input) most
+            self.old result self.new }
     {
         self.keep_lists();
         let count = self.bucket_count();

@@ -1,15 +1,14 @@
 //! How an entry gets into twice as many buckets.
-ghost use Rattle.std.specs.Prelude.{◌≡◌, ◌≢◌, ◌≤◌, ◌<◌, ◌+◌, ◌*◌, ◌^◌, false, true, None, Some, length, replicate, slice_get, IfOk, IfErr, OnOk, OnErr};
-ghost use Rattle.std.specs.List.{position, range_with_len};
+ghost use Rattle.std.specs.Prelude.{◌≡◌, ◌<◌, ◌*◌, ◌^◌, false, true, None, Some, length, replicate, slice_get};
+ghost use Rattle.std.specs.List.{position};
 ghost use Rattle.scc_array.specs.Shelf.{empty_shelf};
-ghost use Rattle.scc_contents.specs.Contents.{entries, bucket_count, key_hash, list_of, pending_of, refused_of, settings_of, waiting_of, IsUniqueBy};
+ghost use Rattle.scc_contents.specs.Contents.{entries, bucket_count, key_hash, list_of, pending_of, settings_of, waiting_of};
 ghost use Rattle.scc_buckets.specs.Pour.{bound_for};
 ghost use Rattle.scc_contents.specs.Routing.{bucket_number};
 ghost use Rattle.scc_contents.specs.Sizes.{IsArray};
-ghost use Rattle.scc_contents.specs.Steps.{IsUnchanged, Rests};
-ghost use Rattle.scc_table.specs.Places.{IsInsertedAt};
-ghost use Rattle.scc_table.specs.Relocates.{left_after, AreShortAmong, AreShortBut};
-ghost use Rattle.scc_table.specs.TwoArrays.{pending_targets, waits_at};
+ghost use Rattle.scc_table.specs.TwoArrays.{waits_at};
+ghost use Rattle.scc_table.specs.MadeInsertions.{InsertsMadeCrowded, InsertsMadeWith};
+ghost use Rattle.scc_table.specs.Growths.{DoublesAround, InsertsGrown};
 
 use super::Table;
 use scc_array::Array;
@@ -54,24 +53,8 @@ where
         requires below { 32 * bucket_count self.old < 2 ^ 63 }
         requires empty { fresh ≡ replicate (2 * bucket_count self.old) empty_shelf }
         requires flags { flags.items ≡ replicate (2 * bucket_count self.old) true }
-        ensures rests { Rests self.old self.new }
-        ensures doubled { bucket_count self.new ≢ bucket_count self.old
-            → bucket_count self.new ≡ 2 * bucket_count self.old }
-        ensures due { (refused_of self.new).0 ≡ false → bucket_count self.new ≢ bucket_count self.old }
-        ensures down { bucket_count self.new ≢ bucket_count self.old → (refused_of self.new).0 ≡ false }
-        ensures unmarked { (refused_of self.new).1 ≡ false }
-        ensures within { result.bucket < bucket_count self.new }
-        ensures here { slice_get (list_of self.new result.bucket) result.slot
-            ≡ slice_get (list_of self.old place.bucket) place.slot }
-        ensures routed { result.bucket ≡ bucket_number (settings_of self.old).skipped (bucket_count self.new) hash }
-        ensures settled { waits_at (waiting_of self.new) result.bucket ≡ false }
-        ensures none { bucket_count self.new ≡ bucket_count self.old → pending_of self.new ≡ 0 }
-        ensures most { bucket_count self.new ≢ bucket_count self.old → bucket_count self.new ≤ pending_of self.new + 2 }
-        ensures spread { bucket_count self.new ≢ bucket_count self.old
-            → AreShortBut (λ e. key_hash H.BuildHasher H.Hasher.Hasher E.Key.hash_input self.old (E.key_of e))
-            (bucket_count self.new) result.bucket self.old
-            → pending_targets self.new ≡ left_after result.bucket (range_with_len 0 (bucket_count self.new)) }
-        ensures unique { IsUniqueBy E.Key.eq E.key_of self.new }
+        ensures { DoublesAround E.Key.eq E.key_of (key_hash H.BuildHasher H.Hasher.Hasher E.Key.hash_input self.old)
+            self.old place hash result self.new }
     {
         self.keep_lists();
         let count = 2 * self.bucket_count();
@@ -120,18 +103,8 @@ where
             (bucket_number (settings_of self.old).skipped count hash) (entries self.old)) < 32 }
         requires hashed { hash ≡ key_hash H.BuildHasher H.Hasher.Hasher E.Key.hash_input self.old (E.key_of entry) }
         requires absent { position (λ e. E.Key.eq (E.key_of entry) (E.key_of e)) (entries self.old) ≡ None }
-        ensures ok { IsInsertedAt self.old entry self.new result }
-        ensures buckets { bucket_count self.new ≡ count }
-        ensures down { (refused_of self.new).0 ≡ false }
-        ensures unmarked { (refused_of self.new).1 ≡ false }
-        ensures most { count ≤ pending_of self.new + 2 }
-        ensures spread { AreShortAmong (λ e. key_hash H.BuildHasher H.Hasher.Hasher E.Key.hash_input self.old
-            (E.key_of e)) count self.old
-            → pending_targets self.new
-            ≡ left_after (bucket_number (settings_of self.old).skipped count hash) (range_with_len 0 count) }
-        ensures settled { waits_at (waiting_of self.new) (bucket_number (settings_of self.old).skipped count hash)
-            ≡ false }
-        ensures unique { IsUniqueBy E.Key.eq E.key_of self.new }
+        ensures { InsertsGrown E.Key.eq E.key_of (key_hash H.BuildHasher H.Hasher.Hasher E.Key.hash_input self.old)
+            self.old count hash entry result self.new }
     {
         self.begin(count, fresh, flags);
         self.note(false);
@@ -170,27 +143,9 @@ where
         requires hashed { hash ≡ key_hash H.BuildHasher H.Hasher.Hasher E.Key.hash_input self.old
             (E.key_of (E.made_of parts)) }
         requires absent { position (λ e. E.Key.eq (E.key_of (E.made_of parts)) (E.key_of e)) (entries self.old) ≡ None }
-        ensures ok { IfOk result (IsInsertedAt self.old (E.made_of parts) self.new) }
-        ensures buckets { OnOk result (bucket_count self.new ≡ count) }
-        ensures down { OnOk result ((refused_of self.new).0 ≡ false) }
-        ensures doubled { bucket_count self.new ≢ bucket_count self.old → bucket_count self.new ≡ count }
-        ensures due { (refused_of self.new).0 ≡ false → bucket_count self.new ≡ count }
-        ensures same { bucket_count self.new ≡ bucket_count self.old → waiting_of self.new ≡ waiting_of self.old }
-        ensures grown { bucket_count self.new ≢ bucket_count self.old → count ≤ pending_of self.new + 2 }
-        ensures lowered { (refused_of self.old).0 ≡ true → (refused_of self.new).0 ≡ false
-            → bucket_count self.new ≢ bucket_count self.old }
-        ensures fallen { bucket_count self.new ≢ bucket_count self.old → (refused_of self.new).0 ≡ false }
-        ensures unmarked { (refused_of self.new).1 ≡ false }
-        ensures most { OnOk result (count ≤ pending_of self.new + 2) }
-        ensures spread { OnOk result (AreShortAmong
-            (λ e. key_hash H.BuildHasher H.Hasher.Hasher E.Key.hash_input self.old (E.key_of e)) count self.old
-            → pending_targets self.new
-            ≡ left_after (bucket_number (settings_of self.old).skipped count hash) (range_with_len 0 count)) }
-        ensures settled { OnOk result (waits_at (waiting_of self.new)
-            (bucket_number (settings_of self.old).skipped count hash) ≡ false) }
-        ensures err { IfErr result (λ p. (p ≡ parts) × IsUnchanged self.old self.new) }
-        ensures up { OnErr result ((refused_of self.new).0 ≡ true) }
-        ensures unique { IsUniqueBy E.Key.eq E.key_of self.new }
+        ensures { InsertsMadeWith E.Key.eq E.key_of
+            (key_hash H.BuildHasher H.Hasher.Hasher E.Key.hash_input self.old) self.old count hash
+            (E.made_of parts) parts result self.new }
     {
         self.keep_lists();
         match E::make(self.current.allocator(), parts) {
@@ -224,27 +179,9 @@ where
         requires below { 32 * bucket_count self.old < 2 ^ 63 }
         requires empty { fresh ≡ replicate (2 * bucket_count self.old) empty_shelf }
         requires flags { flags.items ≡ replicate (2 * bucket_count self.old) true }
-        ensures ok { IfOk result (IsInsertedAt self.old (E.made_of parts) self.new) }
-        ensures err { IfErr result (λ p. (p ≡ parts) × IsUnchanged self.old self.new) }
-        ensures up { OnErr result ((refused_of self.new).0 ≡ true) }
-        ensures doubled { bucket_count self.new ≢ bucket_count self.old
-            → bucket_count self.new ≡ 2 * bucket_count self.old }
-        ensures due { (refused_of self.new).0 ≡ false → bucket_count self.new ≡ 2 * bucket_count self.old }
-        ensures lowered { (refused_of self.old).0 ≡ true → (refused_of self.new).0 ≡ false
-            → bucket_count self.new ≢ bucket_count self.old }
-        ensures fallen { bucket_count self.new ≢ bucket_count self.old → (refused_of self.new).0 ≡ false }
-        ensures unmarked { (refused_of self.new).1 ≡ false }
-        ensures none { bucket_count self.new ≡ bucket_count self.old → pending_of self.new ≡ 0 }
-        ensures most { bucket_count self.new ≢ bucket_count self.old → bucket_count self.new ≤ pending_of self.new + 2 }
-        ensures spread { OnOk result (bucket_count self.new ≢ bucket_count self.old
-            → AreShortAmong (λ e. key_hash H.BuildHasher H.Hasher.Hasher E.Key.hash_input self.old (E.key_of e))
-            (bucket_count self.new) self.old
-            → pending_targets self.new
-            ≡ left_after (bucket_number (settings_of self.old).skipped (bucket_count self.new) hash)
-            (range_with_len 0 (bucket_count self.new))) }
-        ensures settled { OnOk result (waits_at (waiting_of self.new)
-            (bucket_number (settings_of self.old).skipped (bucket_count self.new) hash) ≡ false) }
-        ensures unique { IsUniqueBy E.Key.eq E.key_of self.new }
+        ensures { InsertsMadeCrowded E.Key.eq E.key_of
+            (key_hash H.BuildHasher H.Hasher.Hasher E.Key.hash_input self.old) self.old hash (E.made_of parts)
+            parts result self.new }
     {
         match self.put_made_in(bucket, hash, parts) {
             Ok(place) => Ok(self.double_around(place, fresh, flags, hash)),

@@ -1,10 +1,9 @@
 //! How a table of two arrays gets room for a new key.
-ghost use Rattle.std.specs.Prelude.{◌≡◌, ◌≢◌, ◌≤◌, ◌<◌, ◌*◌, ◌^◌, ◌⊎◌, [], false, true, length, replicate, IfOk, OnOk, OnErr};
-ghost use Rattle.scc_buckets.specs.Bounded.{IsResized};
-ghost use Rattle.scc_contents.specs.Contents.{entries, bucket_count, key_hash, lists_of, pending_of, refused_of, settings_of, waiting_of, HasRoomAt, IsUniqueBy};
-ghost use Rattle.scc_buckets.specs.Pour.{IsRegrouped};
-ghost use Rattle.scc_contents.specs.Routing.{bucket_number};
-ghost use Rattle.scc_contents.specs.Steps.{FirstArrayWhenDue, Grows, HoldsExactly, IsUnchanged, MakesRoom, Rests};
+ghost use Rattle.std.specs.Prelude.{◌≡◌, ◌<◌, false, OnOk, OnErr};
+ghost use Rattle.scc_contents.specs.Contents.{bucket_count, key_hash, lists_of, pending_of, refused_of, settings_of, waiting_of, IsUniqueBy};
+ghost use Rattle.scc_contents.specs.Steps.{IsUnchanged, MakesRoom};
+ghost use Rattle.scc_table.specs.Starts.{MakesFirst};
+ghost use Rattle.scc_table.specs.Growths.{FindsBucketForNew, GrowsHalfFull};
 
 use super::Table;
 use scc_buckets::sizes::MOST_BUCKETS;
@@ -19,47 +18,8 @@ where
     /// The bucket for a new key of that hash. An array is made where there is none, and doubled where no bucket waits,
     /// that one holds 32 entries or more and the table at least half as many entries as slots.
     pub(super) fn bucket_for_new(&mut self, hash: u64) -> Result<usize, AllocError>
-        ensures rests { Rests self.old self.new }
-        ensures growth { Grows self.old self.new }
-        ensures within { IfOk result (λ i. i < bucket_count self.new) }
-        ensures routed { IfOk result (λ i. i ≡ bucket_number (settings_of self.new).skipped (bucket_count self.new)
-            hash) }
-        ensures still { HasRoomAt (key_hash H.BuildHasher H.Hasher.Hasher E.Key.hash_input self.old) E.key_of self.old
-            hash → self.new ≡ self.old }
-        ensures due { 0 < bucket_count self.old → pending_of self.old ≡ 0
-            → (HasRoomAt (key_hash H.BuildHasher H.Hasher.Hasher E.Key.hash_input self.old) E.key_of self.old hash
-            → ⊥) → 32 * bucket_count self.old ≤ 2 * length (entries self.old) → 32 * bucket_count self.old < 2 ^ 63
-            → (refused_of self.new).0 ≡ false → bucket_count self.new ≡ 2 * bucket_count self.old }
-        ensures raised { (refused_of self.old).0 ≡ false → (refused_of self.new).0 ≡ true
-            → (0 < bucket_count self.old)
-            × (HasRoomAt (key_hash H.BuildHasher H.Hasher.Hasher E.Key.hash_input self.old) E.key_of self.old hash
-            → ⊥) × (32 * bucket_count self.old ≤ 2 * length (entries self.old))
-            × (32 * bucket_count self.old < 2 ^ 63) }
-        ensures lowered { (refused_of self.old).0 ≡ true → (refused_of self.new).0 ≡ false
-            → (0 < bucket_count self.old) × (bucket_count self.new ≢ bucket_count self.old) }
-        ensures down { 0 < bucket_count self.old → bucket_count self.new ≢ bucket_count self.old
-            → (refused_of self.new).0 ≡ false }
-        ensures first { OnOk result (FirstArrayWhenDue self.old self.new) }
-        ensures bare { bucket_count self.old ≡ 0 → entries self.new ≡ [] }
-        ensures settled { bucket_count self.old ≡ 0 → waiting_of self.new ≡ [] }
-        ensures stays { 0 < bucket_count self.old → bucket_count self.new ≡ bucket_count self.old
-            → lists_of self.new ≡ lists_of self.old }
-        ensures waiting { 0 < bucket_count self.old → bucket_count self.new ≡ bucket_count self.old
-            → waiting_of self.new ≡ waiting_of self.old }
-        ensures all { 0 < bucket_count self.old → bucket_count self.new ≢ bucket_count self.old
-            → waiting_of self.new ≡ replicate (bucket_count self.new) true }
-        ensures lists { 0 < bucket_count self.old → bucket_count self.new ≢ bucket_count self.old
-            → IsRegrouped (λ e. key_hash H.BuildHasher H.Hasher.Hasher E.Key.hash_input self.old (E.key_of e))
-            (bucket_count self.new) self.old self.new }
-        ensures once { 0 < bucket_count self.old → (0 < pending_of self.old) ⊎ ((refused_of self.old).1 ≡ true)
-            → bucket_count self.new ≡ bucket_count self.old }
-        ensures unmarked { 0 < bucket_count self.old → pending_of self.old ≡ 0
-            → (HasRoomAt (key_hash H.BuildHasher H.Hasher.Hasher E.Key.hash_input self.old) E.key_of self.old hash
-            → ⊥) → 32 * bucket_count self.old ≤ 2 * length (entries self.old) → 32 * bucket_count self.old < 2 ^ 63
-            → (refused_of self.new).1 ≡ false }
-        ensures none { OnErr result (bucket_count self.old ≡ 0) }
-        ensures refused { OnErr result (IsUnchanged self.old self.new) }
-        ensures unique { IsUniqueBy E.Key.eq E.key_of self.new }
+        ensures { FindsBucketForNew E.Key.eq E.key_of
+            (key_hash H.BuildHasher H.Hasher.Hasher E.Key.hash_input self.old) self.old hash result self.new }
     {
         self.keep_lists();
         if self.bucket_count() == 0 {
@@ -125,27 +85,8 @@ where
     fn grow(&mut self)
         requires some { 0 < bucket_count self.old }
         requires settled { pending_of self.old ≡ 0 }
-        ensures rests { Rests self.old self.new }
-        ensures growth { Grows self.old self.new }
-        ensures due { 32 * bucket_count self.old ≤ 2 * length (entries self.old) → 32 * bucket_count self.old < 2 ^ 63
-            → (refused_of self.new).0 ≡ false → bucket_count self.new ≡ 2 * bucket_count self.old }
-        ensures raised { (refused_of self.old).0 ≡ false → (refused_of self.new).0 ≡ true
-            → (32 * bucket_count self.old ≤ 2 * length (entries self.old)) × (32 * bucket_count self.old < 2 ^ 63) }
-        ensures lowered { (refused_of self.old).0 ≡ true → (refused_of self.new).0 ≡ false
-            → bucket_count self.new ≢ bucket_count self.old }
-        ensures down { bucket_count self.new ≢ bucket_count self.old → (refused_of self.new).0 ≡ false }
-        ensures stays { bucket_count self.new ≡ bucket_count self.old → lists_of self.new ≡ lists_of self.old }
-        ensures waiting { bucket_count self.new ≡ bucket_count self.old → waiting_of self.new ≡ waiting_of self.old }
-        ensures all { bucket_count self.new ≢ bucket_count self.old
-            → waiting_of self.new ≡ replicate (bucket_count self.new) true }
-        ensures lists { bucket_count self.new ≢ bucket_count self.old
-            → IsRegrouped (λ e. key_hash H.BuildHasher H.Hasher.Hasher E.Key.hash_input self.old (E.key_of e))
-            (bucket_count self.new) self.old self.new }
-        ensures array { 0 < bucket_count self.new }
-        ensures once { (refused_of self.old).1 ≡ true → bucket_count self.new ≡ bucket_count self.old }
-        ensures unmarked { 32 * bucket_count self.old ≤ 2 * length (entries self.old)
-            → 32 * bucket_count self.old < 2 ^ 63 → (refused_of self.new).1 ≡ false }
-        ensures unique { IsUniqueBy E.Key.eq E.key_of self.new }
+        ensures { GrowsHalfFull E.Key.eq E.key_of (key_hash H.BuildHasher H.Hasher.Hasher E.Key.hash_input self.old)
+            self.old self.new }
     {
         let count = self.bucket_count();
         let length = self.len();
@@ -165,18 +106,9 @@ where
     /// Makes the first array, of the size of the minimum. None of its buckets waits.
     pub(super) fn make_array(&mut self) -> Result<(), AllocError>
         requires { bucket_count self.old ≡ 0 }
-        ensures rests { Rests self.old self.new }
-        ensures growth { Grows self.old self.new }
-        ensures noted { refused_of self.new ≡ refused_of self.old }
-        ensures first { OnOk result (FirstArrayWhenDue self.old self.new) }
-        ensures array { OnOk result (0 < bucket_count self.new) }
-        ensures bare { entries self.new ≡ [] }
-        ensures waiting { waiting_of self.new ≡ [] }
-        ensures refused { OnErr result (IsUnchanged self.old self.new) }
-        ensures resized { OnOk result (IsResized (λ e. key_hash H.BuildHasher H.Hasher.Hasher E.Key.hash_input
-            self.old (E.key_of e)) self.old self.new) }
-        ensures same { OnErr result (self.new ≡ self.old) }
-        ensures unique { IsUniqueBy E.Key.eq E.key_of self.new }
+        ensures { MakesFirst E.Key.eq E.key_of
+            (λ e. key_hash H.BuildHasher H.Hasher.Hasher E.Key.hash_input self.old (E.key_of e)) self.old result
+            self.new }
     {
         self.current.make_array()?;
         Ok(())

@@ -1,14 +1,13 @@
 //! How new keys get into a table of two arrays.
-ghost use Rattle.std.specs.Prelude.{◌≡◌, ◌≢◌, ◌≤◌, ◌<◌, ◌+◌, ◌-◌, ℕ, false, None, drop, IfOk, IfErr, OnOk, OnErr};
-ghost use Rattle.std.specs.List.{position, range_with_len};
+ghost use Rattle.std.specs.Prelude.{◌≡◌, ◌≤◌, ◌<◌, ◌+◌, ℕ, false, None, drop};
+ghost use Rattle.std.specs.List.{position};
 ghost use Rattle.scc_buckets.specs.Bounded.{IsBounded};
-ghost use Rattle.scc_contents.specs.Contents.{entries, bucket_count, owed_of, key_hash, lists_of, pending_of, refused_of, settings_of, waiting_of, HasRoomBy, IsUniqueBy};
-ghost use Rattle.scc_buckets.specs.OneList.{HasSameLists, IsPutIn};
+ghost use Rattle.scc_contents.specs.Contents.{entries, bucket_count, key_hash, lists_of, pending_of, refused_of, settings_of, waiting_of, HasRoomBy};
 ghost use Rattle.scc_contents.specs.Routing.{bucket_number};
-ghost use Rattle.scc_contents.specs.Steps.{FirstArrayWhenDue, Grows, GrowsWhenDue, IsReadyFor, IsUnchanged, Rests};
-ghost use Rattle.scc_table.specs.Places.{IsInsertedAt};
-ghost use Rattle.scc_table.specs.Relocates.{left_after, AreMovedBeside, AreShort, AreShortAmong, IsMovedUpTo};
+ghost use Rattle.scc_table.specs.Relocates.{AreShort, IsMovedUpTo};
 ghost use Rattle.scc_table.specs.TwoArrays.{IsWaiting, pending_targets, waits_at};
+ghost use Rattle.scc_table.specs.Insertions.{InsertsAt, InsertsInto, InsertsNew};
+ghost use Rattle.scc_table.specs.Puts.{PutsInto};
 
 use super::Table;
 use scc_buckets::Place;
@@ -30,52 +29,8 @@ where
     pub fn insert_new(&mut self, hash: u64, entry: E) -> Result<Place, E>
         requires hashed { hash ≡ key_hash H.BuildHasher H.Hasher.Hasher E.Key.hash_input self.old (E.key_of entry) }
         requires absent { position (λ e. E.Key.eq (E.key_of entry) (E.key_of e)) (entries self.old) ≡ None }
-        ensures ok { IfOk result (IsInsertedAt self.old entry self.new) }
-        ensures err { IfErr result (λ e. (e ≡ entry) × Rests self.old self.new) }
-        ensures full { OnErr result (HasRoomBy (key_hash H.BuildHasher H.Hasher.Hasher E.Key.hash_input self.old)
-            E.key_of self.old (E.key_of entry) → ⊥) }
-        ensures growth { Grows self.old self.new }
-        ensures due { GrowsWhenDue (key_hash H.BuildHasher H.Hasher.Hasher E.Key.hash_input self.old) E.key_of
-            self.old (E.key_of entry) self.new }
-        ensures first { OnOk result (FirstArrayWhenDue self.old self.new) }
-        ensures none { OnErr result (bucket_count self.old ≡ 0 → IsUnchanged self.old self.new) }
-        ensures kept { HasRoomBy (key_hash H.BuildHasher H.Hasher.Hasher E.Key.hash_input self.old) E.key_of self.old
-            (E.key_of entry) → bucket_count self.new ≡ bucket_count self.old }
-        ensures once { IsReadyFor (key_hash H.BuildHasher H.Hasher.Hasher E.Key.hash_input self.old) E.key_of self.old
-            (E.key_of entry) → bucket_count self.new ≡ bucket_count self.old }
-        ensures fewer { 0 < bucket_count self.old → bucket_count self.new ≡ bucket_count self.old → (i : ℕ)
-            → IsWaiting self.new i → IsWaiting self.old i }
-        ensures less { 0 < bucket_count self.old → bucket_count self.new ≡ bucket_count self.old
-            → pending_of self.new ≤ pending_of self.old }
-        ensures most { 0 < bucket_count self.old → bucket_count self.new ≡ bucket_count self.old
-            → pending_of self.old ≤ pending_of self.new + 2 }
-        ensures grown { 0 < bucket_count self.old → bucket_count self.new ≢ bucket_count self.old
-            → bucket_count self.new ≤ pending_of self.new + 2 }
-        ensures array { bucket_count self.old ≡ 0 → pending_of self.new ≡ 0 }
-        ensures settled { OnOk result (waits_at (waiting_of self.new)
-            (bucket_number (settings_of self.old).skipped (bucket_count self.new) hash) ≡ false) }
-        ensures exact { OnOk result (0 < bucket_count self.old → bucket_count self.new ≡ bucket_count self.old
-            → AreShort self.old → pending_targets self.new
-            ≡ left_after (bucket_number (settings_of self.old).skipped (bucket_count self.old) hash)
-            (pending_targets self.old)) }
-        ensures spread { OnOk result (0 < bucket_count self.old → bucket_count self.new ≢ bucket_count self.old
-            → AreShortAmong (λ e. key_hash H.BuildHasher H.Hasher.Hasher E.Key.hash_input self.old (E.key_of e))
-            (bucket_count self.new) self.old
-            → pending_targets self.new
-            ≡ left_after (bucket_number (settings_of self.old).skipped (bucket_count self.new) hash)
-            (range_with_len 0 (bucket_count self.new))) }
-        ensures all_but_two { OnOk result (0 < bucket_count self.old → bucket_count self.new ≢ bucket_count self.old
-            → AreShortAmong (λ e. key_hash H.BuildHasher H.Hasher.Hasher E.Key.hash_input self.old (E.key_of e))
-            (bucket_count self.new) self.old → pending_of self.new + 2 ≡ bucket_count self.new) }
-        ensures by_two { OnOk result (0 < bucket_count self.old → bucket_count self.new ≡ bucket_count self.old
-            → AreShort self.old → pending_of self.new ≡ pending_of self.old - 2) }
-        ensures moved { OnOk result (0 < bucket_count self.old → bucket_count self.new ≡ bucket_count self.old
-            → AreMovedBeside (bucket_number (settings_of self.old).skipped (bucket_count self.old) hash)
-            (pending_targets self.old) self.new) }
-        ensures drained { OnOk result (0 < bucket_count self.old → bucket_count self.new ≢ bucket_count self.old
-            → AreMovedBeside (bucket_number (settings_of self.old).skipped (bucket_count self.new) hash)
-            (range_with_len 0 (bucket_count self.new)) self.new) }
-        ensures unique { IsUniqueBy E.Key.eq E.key_of self.new }
+        ensures { InsertsNew E.Key.eq E.key_of (key_hash H.BuildHasher H.Hasher.Hasher E.Key.hash_input self.old)
+            self.old hash entry result self.new }
     {
         self.keep_lists();
         if self.pending == 0 && self.bucket_count() > 0 {
@@ -91,52 +46,8 @@ where
     fn insert_making_room(&mut self, hash: u64, entry: E) -> Result<Place, E>
         requires hashed { hash ≡ key_hash H.BuildHasher H.Hasher.Hasher E.Key.hash_input self.old (E.key_of entry) }
         requires absent { position (λ e. E.Key.eq (E.key_of entry) (E.key_of e)) (entries self.old) ≡ None }
-        ensures ok { IfOk result (IsInsertedAt self.old entry self.new) }
-        ensures err { IfErr result (λ e. (e ≡ entry) × Rests self.old self.new) }
-        ensures full { OnErr result (HasRoomBy (key_hash H.BuildHasher H.Hasher.Hasher E.Key.hash_input self.old)
-            E.key_of self.old (E.key_of entry) → ⊥) }
-        ensures growth { Grows self.old self.new }
-        ensures due { GrowsWhenDue (key_hash H.BuildHasher H.Hasher.Hasher E.Key.hash_input self.old) E.key_of
-            self.old (E.key_of entry) self.new }
-        ensures first { OnOk result (FirstArrayWhenDue self.old self.new) }
-        ensures none { OnErr result (bucket_count self.old ≡ 0 → IsUnchanged self.old self.new) }
-        ensures kept { HasRoomBy (key_hash H.BuildHasher H.Hasher.Hasher E.Key.hash_input self.old) E.key_of self.old
-            (E.key_of entry) → bucket_count self.new ≡ bucket_count self.old }
-        ensures once { IsReadyFor (key_hash H.BuildHasher H.Hasher.Hasher E.Key.hash_input self.old) E.key_of self.old
-            (E.key_of entry) → bucket_count self.new ≡ bucket_count self.old }
-        ensures fewer { 0 < bucket_count self.old → bucket_count self.new ≡ bucket_count self.old → (i : ℕ)
-            → IsWaiting self.new i → IsWaiting self.old i }
-        ensures less { 0 < bucket_count self.old → bucket_count self.new ≡ bucket_count self.old
-            → pending_of self.new ≤ pending_of self.old }
-        ensures most { 0 < bucket_count self.old → bucket_count self.new ≡ bucket_count self.old
-            → pending_of self.old ≤ pending_of self.new + 2 }
-        ensures grown { 0 < bucket_count self.old → bucket_count self.new ≢ bucket_count self.old
-            → bucket_count self.new ≤ pending_of self.new + 2 }
-        ensures array { bucket_count self.old ≡ 0 → pending_of self.new ≡ 0 }
-        ensures settled { OnOk result (waits_at (waiting_of self.new)
-            (bucket_number (settings_of self.old).skipped (bucket_count self.new) hash) ≡ false) }
-        ensures exact { OnOk result (0 < bucket_count self.old → bucket_count self.new ≡ bucket_count self.old
-            → AreShort self.old → pending_targets self.new
-            ≡ left_after (bucket_number (settings_of self.old).skipped (bucket_count self.old) hash)
-            (pending_targets self.old)) }
-        ensures spread { OnOk result (0 < bucket_count self.old → bucket_count self.new ≢ bucket_count self.old
-            → AreShortAmong (λ e. key_hash H.BuildHasher H.Hasher.Hasher E.Key.hash_input self.old (E.key_of e))
-            (bucket_count self.new) self.old
-            → pending_targets self.new
-            ≡ left_after (bucket_number (settings_of self.old).skipped (bucket_count self.new) hash)
-            (range_with_len 0 (bucket_count self.new))) }
-        ensures all_but_two { OnOk result (0 < bucket_count self.old → bucket_count self.new ≢ bucket_count self.old
-            → AreShortAmong (λ e. key_hash H.BuildHasher H.Hasher.Hasher E.Key.hash_input self.old (E.key_of e))
-            (bucket_count self.new) self.old → pending_of self.new + 2 ≡ bucket_count self.new) }
-        ensures by_two { OnOk result (0 < bucket_count self.old → bucket_count self.new ≡ bucket_count self.old
-            → AreShort self.old → pending_of self.new ≡ pending_of self.old - 2) }
-        ensures moved { OnOk result (0 < bucket_count self.old → bucket_count self.new ≡ bucket_count self.old
-            → AreMovedBeside (bucket_number (settings_of self.old).skipped (bucket_count self.old) hash)
-            (pending_targets self.old) self.new) }
-        ensures drained { OnOk result (0 < bucket_count self.old → bucket_count self.new ≢ bucket_count self.old
-            → AreMovedBeside (bucket_number (settings_of self.old).skipped (bucket_count self.new) hash)
-            (range_with_len 0 (bucket_count self.new)) self.new) }
-        ensures unique { IsUniqueBy E.Key.eq E.key_of self.new }
+        ensures { InsertsNew E.Key.eq E.key_of (key_hash H.BuildHasher H.Hasher.Hasher E.Key.hash_input self.old)
+            self.old hash entry result self.new }
     {
         match self.bucket_for_new(hash) {
             Ok(bucket) => self.insert_at(bucket, hash, entry),
@@ -153,20 +64,9 @@ where
         requires routed { bucket ≡ bucket_number (settings_of self.old).skipped (bucket_count self.old) hash }
         requires hashed { hash ≡ key_hash H.BuildHasher H.Hasher.Hasher E.Key.hash_input self.old (E.key_of entry) }
         requires absent { position (λ e. E.Key.eq (E.key_of entry) (E.key_of e)) (entries self.old) ≡ None }
-        ensures ok { IfOk result (IsInsertedAt self.old entry self.new) }
-        ensures err { IfErr result (λ e. (e ≡ entry) × IsUnchanged self.old self.new) }
-        ensures full { OnErr result (HasRoomBy (key_hash H.BuildHasher H.Hasher.Hasher E.Key.hash_input self.old)
-            E.key_of self.old (E.key_of entry) → ⊥) }
-        ensures buckets { bucket_count self.new ≡ bucket_count self.old }
-        ensures refused { refused_of self.new ≡ refused_of self.old }
-        ensures fewer { (i : ℕ) → IsWaiting self.new i → IsWaiting self.old i }
-        ensures less { pending_of self.new ≤ pending_of self.old }
-        ensures most { pending_of self.old ≤ pending_of self.new + 2 }
-        ensures settled { OnOk result (waits_at (waiting_of self.new) bucket ≡ false) }
-        ensures moved { OnOk result (AreMovedBeside bucket (pending_targets self.old) self.new) }
-        ensures exact { OnOk result (AreShort self.old
-            → pending_targets self.new ≡ left_after bucket (pending_targets self.old)) }
-        ensures unique { IsUniqueBy E.Key.eq E.key_of self.new }
+        ensures { InsertsAt E.Key.eq E.key_of self.old bucket entry entry
+            (HasRoomBy (key_hash H.BuildHasher H.Hasher.Hasher E.Key.hash_input self.old) E.key_of self.old
+            (E.key_of entry) → ⊥) result self.new }
     {
         if self.is_waiting(bucket) {
             return self.insert_waiting(bucket, hash, entry);
@@ -182,20 +82,9 @@ where
         requires hashed { hash ≡ key_hash H.BuildHasher H.Hasher.Hasher E.Key.hash_input self.old (E.key_of entry) }
         requires absent { position (λ e. E.Key.eq (E.key_of entry) (E.key_of e)) (entries self.old) ≡ None }
         requires waits { IsWaiting self.old bucket }
-        ensures ok { IfOk result (IsInsertedAt self.old entry self.new) }
-        ensures err { IfErr result (λ e. (e ≡ entry) × IsUnchanged self.old self.new) }
-        ensures full { OnErr result (HasRoomBy (key_hash H.BuildHasher H.Hasher.Hasher E.Key.hash_input self.old)
-            E.key_of self.old (E.key_of entry) → ⊥) }
-        ensures buckets { bucket_count self.new ≡ bucket_count self.old }
-        ensures refused { refused_of self.new ≡ refused_of self.old }
-        ensures fewer { (i : ℕ) → IsWaiting self.new i → IsWaiting self.old i }
-        ensures less { pending_of self.new ≤ pending_of self.old }
-        ensures most { pending_of self.old ≤ pending_of self.new + 2 }
-        ensures settled { OnOk result (waits_at (waiting_of self.new) bucket ≡ false) }
-        ensures moved { OnOk result (AreMovedBeside bucket (pending_targets self.old) self.new) }
-        ensures exact { OnOk result (AreShort self.old
-            → pending_targets self.new ≡ left_after bucket (pending_targets self.old)) }
-        ensures unique { IsUniqueBy E.Key.eq E.key_of self.new }
+        ensures { InsertsAt E.Key.eq E.key_of self.old bucket entry entry
+            (HasRoomBy (key_hash H.BuildHasher H.Hasher.Hasher E.Key.hash_input self.old) E.key_of self.old
+            (E.key_of entry) → ⊥) result self.new }
     {
         self.keep_lists();
         match self.relocate(bucket) {
@@ -218,20 +107,9 @@ where
         requires hashed { hash ≡ key_hash H.BuildHasher H.Hasher.Hasher E.Key.hash_input self.old (E.key_of entry) }
         requires absent { position (λ e. E.Key.eq (E.key_of entry) (E.key_of e)) (entries self.old) ≡ None }
         requires settled { waits_at (waiting_of self.old) bucket ≡ false }
-        ensures ok { IfOk result (IsInsertedAt self.old entry self.new) }
-        ensures err { IfErr result (λ e. (e ≡ entry) × IsUnchanged self.old self.new) }
-        ensures full { OnErr result (HasRoomBy (key_hash H.BuildHasher H.Hasher.Hasher E.Key.hash_input self.old)
-            E.key_of self.old (E.key_of entry) → ⊥) }
-        ensures buckets { bucket_count self.new ≡ bucket_count self.old }
-        ensures refused { refused_of self.new ≡ refused_of self.old }
-        ensures fewer { (i : ℕ) → IsWaiting self.new i → IsWaiting self.old i }
-        ensures less { pending_of self.new ≤ pending_of self.old }
-        ensures most { pending_of self.old ≤ pending_of self.new + most }
-        ensures settled { OnOk result (waits_at (waiting_of self.new) bucket ≡ false) }
-        ensures moved { OnOk result (IsMovedUpTo most self.old self.new) }
-        ensures exact { OnOk result (AreShort self.old
-            → pending_targets self.new ≡ drop most (pending_targets self.old)) }
-        ensures unique { IsUniqueBy E.Key.eq E.key_of self.new }
+        ensures { InsertsInto E.Key.eq E.key_of self.old bucket entry entry (pending_targets self.old) most most
+            (HasRoomBy (key_hash H.BuildHasher H.Hasher.Hasher E.Key.hash_input self.old) E.key_of self.old
+            (E.key_of entry) → ⊥) result self.new }
     {
         match self.put_in(bucket, hash, entry) {
             Ok(place) => {
@@ -252,14 +130,9 @@ where
         requires hashed { hash ≡ key_hash H.BuildHasher H.Hasher.Hasher E.Key.hash_input self.old (E.key_of entry) }
         requires absent { position (λ e. E.Key.eq (E.key_of entry) (E.key_of e)) (entries self.old) ≡ None }
         requires settled { waits_at (waiting_of self.old) bucket ≡ false }
-        ensures exact { IfOk result (IsPutIn self.old bucket entry self.new) }
-        ensures err { IfErr result (λ e. e ≡ entry) }
-        ensures stays { OnErr result (HasSameLists self.old self.new) }
-        ensures full { OnErr result (HasRoomBy (key_hash H.BuildHasher H.Hasher.Hasher E.Key.hash_input self.old)
-            E.key_of self.old (E.key_of entry) → ⊥) }
-        ensures waiting { waiting_of self.new ≡ waiting_of self.old }
-        ensures owed { owed_of self.new ≡ owed_of self.old }
-        ensures unique { IsUniqueBy E.Key.eq E.key_of self.new }
+        ensures { PutsInto E.Key.eq E.key_of self.old bucket entry entry
+            (HasRoomBy (key_hash H.BuildHasher H.Hasher.Hasher E.Key.hash_input self.old) E.key_of self.old
+            (E.key_of entry) → ⊥) result self.new }
     {
         self.current.keep_lists();
         if self.left_overflow > 0 {

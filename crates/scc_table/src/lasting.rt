@@ -1,12 +1,13 @@
 //! Entries in the lists of their buckets, and lists of buckets that don't wait, in a table whose lists hold at most 32
 //! entries each, none of them in an overflow list.
-ghost use Rattle.std.specs.Prelude.{◌≡◌, ◌<◌, ◌++◌, [], ◌∷◌, length, None, Some, slice_get, remove, MatchOption};
+ghost use Rattle.std.specs.Prelude.{◌≡◌, ◌<◌, length, None, Some, slice_get, MatchOption};
 ghost use Rattle.std.specs.List.{position};
-ghost use Rattle.scc_buckets.specs.Bounded.{HasList, IsBounded, IsListed, IsUnlisted, PutsLast};
-ghost use Rattle.scc_contents.specs.Contents.{entries, bucket_count, list_of, settings_of, waiting_of, owed_of, key_hash, IsUniqueBy};
+ghost use Rattle.scc_buckets.specs.Bounded.{IsBounded, IsUnlisted};
+ghost use Rattle.scc_contents.specs.Contents.{entries, bucket_count, list_of, settings_of, key_hash};
 ghost use Rattle.scc_contents.specs.Routing.{bucket_number};
 ghost use Rattle.scc_table.specs.Bounded.{IsListedAt};
 ghost use Rattle.scc_table.specs.TwoArrays.{IsWaiting};
+ghost use Rattle.scc_table.specs.Puts.{MovesToEnd, PutsAtEnd};
 
 use super::Table;
 use scc_buckets::Place;
@@ -41,13 +42,8 @@ where
         requires hashed { hash ≡ key_hash H.BuildHasher H.Hasher.Hasher E.Key.hash_input self.old (E.key_of entry) }
         requires absent { position (λ e. E.Key.eq (E.key_of entry) (E.key_of e)) (entries self.old) ≡ None }
         requires bounded { IsBounded self.old }
-        ensures step { PutsLast self.old bucket entry result self.new }
-        ensures listed { IsListed (λ e. key_hash H.BuildHasher H.Hasher.Hasher E.Key.hash_input self.old (E.key_of e))
-            self.old → IsListed (λ e. key_hash H.BuildHasher H.Hasher.Hasher E.Key.hash_input self.new (E.key_of e))
-            self.new }
-        ensures waiting { waiting_of self.new ≡ waiting_of self.old }
-        ensures owed { owed_of self.new ≡ owed_of self.old }
-        ensures unique { IsUniqueBy E.Key.eq E.key_of self.new }
+        ensures { PutsAtEnd E.Key.eq E.key_of (key_hash H.BuildHasher H.Hasher.Hasher E.Key.hash_input) self.old
+            bucket entry result self.new }
     {
         self.current.keep_lists();
         self.current.put_last(bucket, hash, entry)
@@ -63,14 +59,8 @@ where
         requires bounded { IsBounded self.old }
         requires hashed { (e : E) → slice_get (list_of self.old bucket) slot ≡ Some e
             → hash ≡ key_hash H.BuildHasher H.Hasher.Hasher E.Key.hash_input self.old (E.key_of e) }
-        ensures list { (e : E) × (slice_get (list_of self.old bucket) slot ≡ Some e)
-            × HasList self.old bucket (remove (list_of self.old bucket) slot ++ e ∷ []) self.new }
-        ensures listed { IsListed (λ e. key_hash H.BuildHasher H.Hasher.Hasher E.Key.hash_input self.old (E.key_of e))
-            self.old → IsListed (λ e. key_hash H.BuildHasher H.Hasher.Hasher E.Key.hash_input self.new (E.key_of e))
-            self.new }
-        ensures waiting { waiting_of self.new ≡ waiting_of self.old }
-        ensures owed { owed_of self.new ≡ owed_of self.old }
-        ensures unique { IsUniqueBy E.Key.eq E.key_of self.new }
+        ensures { MovesToEnd E.Key.eq E.key_of (key_hash H.BuildHasher H.Hasher.Hasher E.Key.hash_input) self.old
+            bucket slot self.new }
     {
         self.current.touch(bucket, slot, hash);
     }

@@ -1,13 +1,12 @@
 //! Entries that are made when they are put into a table of two arrays.
-ghost use Rattle.std.specs.Prelude.{◌≡◌, ◌≢◌, ◌≤◌, ◌<◌, ◌+◌, ◌-◌, ◌*◌, ◌^◌, ℕ, [], false, true, None, drop, length, IfOk, IfErr, OnOk, OnErr};
-ghost use Rattle.std.specs.List.{position, range_with_len};
-ghost use Rattle.scc_contents.specs.Contents.{entries, bucket_count, owed_of, key_hash, pending_of, refused_of, settings_of, waiting_of, HasRoomBy, IsUniqueBy};
-ghost use Rattle.scc_buckets.specs.OneList.{HasSameLists, IsPutIn};
+ghost use Rattle.std.specs.Prelude.{◌≡◌, ◌<◌, false, None};
+ghost use Rattle.std.specs.List.{position};
+ghost use Rattle.scc_contents.specs.Contents.{entries, bucket_count, key_hash, pending_of, settings_of, waiting_of};
 ghost use Rattle.scc_contents.specs.Routing.{bucket_number};
-ghost use Rattle.scc_contents.specs.Steps.{FirstArrayWhenDue, Grows, GrowsWhenDue, IsReadyFor, IsUnchanged, RaisesWhenDue};
-ghost use Rattle.scc_table.specs.Places.{IsInsertedAt};
-ghost use Rattle.scc_table.specs.Relocates.{left_after, AreMovedBeside, AreShort, AreShortAmong, IsMovedUpTo};
 ghost use Rattle.scc_table.specs.TwoArrays.{IsWaiting, pending_targets, waits_at};
+ghost use Rattle.scc_table.specs.Insertions.{InsertsAt, InsertsInto};
+ghost use Rattle.scc_table.specs.Puts.{PutsInto};
+ghost use Rattle.scc_table.specs.MadeInsertions.{InsertsMade, InsertsMadeFirst, InsertsMadeFull, InsertsMadeNoted};
 
 use super::Table;
 use scc_buckets::Place;
@@ -28,51 +27,8 @@ where
         requires hashed { hash ≡ key_hash H.BuildHasher H.Hasher.Hasher E.Key.hash_input self.old
             (E.key_of (E.made_of parts)) }
         requires absent { position (λ e. E.Key.eq (E.key_of (E.made_of parts)) (E.key_of e)) (entries self.old) ≡ None }
-        ensures ok { IfOk result (IsInsertedAt self.old (E.made_of parts) self.new) }
-        ensures err { IfErr result (λ p. (p ≡ parts) × IsUnchanged self.old self.new) }
-        ensures growth { Grows self.old self.new }
-        ensures due { OnOk result (GrowsWhenDue (key_hash H.BuildHasher H.Hasher.Hasher E.Key.hash_input self.old)
-            E.key_of self.old (E.key_of (E.made_of parts)) self.new) }
-        ensures raised { OnErr result (RaisesWhenDue
-            (key_hash H.BuildHasher H.Hasher.Hasher E.Key.hash_input self.old) E.key_of self.old
-            (E.key_of (E.made_of parts)) self.new) }
-        ensures undone { OnErr result (GrowsWhenDue (key_hash H.BuildHasher H.Hasher.Hasher E.Key.hash_input self.old)
-            E.key_of self.old (E.key_of (E.made_of parts)) self.new) }
-        ensures first { OnOk result (FirstArrayWhenDue self.old self.new) }
-        ensures kept { HasRoomBy (key_hash H.BuildHasher H.Hasher.Hasher E.Key.hash_input self.old) E.key_of self.old
-            (E.key_of (E.made_of parts)) → bucket_count self.new ≡ bucket_count self.old }
-        ensures once { IsReadyFor (key_hash H.BuildHasher H.Hasher.Hasher E.Key.hash_input self.old) E.key_of self.old
-            (E.key_of (E.made_of parts)) → bucket_count self.new ≡ bucket_count self.old }
-        ensures fewer { 0 < bucket_count self.old → bucket_count self.new ≡ bucket_count self.old → (i : ℕ)
-            → IsWaiting self.new i → IsWaiting self.old i }
-        ensures less { 0 < bucket_count self.old → bucket_count self.new ≡ bucket_count self.old
-            → pending_of self.new ≤ pending_of self.old }
-        ensures most { 0 < bucket_count self.old → bucket_count self.new ≡ bucket_count self.old
-            → pending_of self.old ≤ pending_of self.new + 2 }
-        ensures grown { 0 < bucket_count self.old → bucket_count self.new ≢ bucket_count self.old
-            → bucket_count self.new ≤ pending_of self.new + 2 }
-        ensures array { bucket_count self.old ≡ 0 → pending_of self.new ≡ 0 }
-        ensures settled { OnOk result (waits_at (waiting_of self.new)
-            (bucket_number (settings_of self.old).skipped (bucket_count self.new) hash) ≡ false) }
-        ensures exact { OnOk result (0 < bucket_count self.old → bucket_count self.new ≡ bucket_count self.old
-            → AreShort self.old → pending_targets self.new
-            ≡ left_after (bucket_number (settings_of self.old).skipped (bucket_count self.old) hash)
-            (pending_targets self.old)) }
-        ensures spread { OnOk result (0 < bucket_count self.old → bucket_count self.new ≢ bucket_count self.old
-            → AreShortAmong (λ e. key_hash H.BuildHasher H.Hasher.Hasher E.Key.hash_input self.old (E.key_of e))
-            (bucket_count self.new) self.old
-            → pending_targets self.new
-            ≡ left_after (bucket_number (settings_of self.old).skipped (bucket_count self.new) hash)
-            (range_with_len 0 (bucket_count self.new))) }
-        ensures all_but_two { OnOk result (0 < bucket_count self.old → bucket_count self.new ≢ bucket_count self.old
-            → AreShortAmong (λ e. key_hash H.BuildHasher H.Hasher.Hasher E.Key.hash_input self.old (E.key_of e))
-            (bucket_count self.new) self.old → pending_of self.new + 2 ≡ bucket_count self.new) }
-        ensures by_two { OnOk result (0 < bucket_count self.old → bucket_count self.new ≡ bucket_count self.old
-            → AreShort self.old → pending_of self.new ≡ pending_of self.old - 2) }
-        ensures moved { OnOk result (0 < bucket_count self.old → bucket_count self.new ≡ bucket_count self.old
-            → AreMovedBeside (bucket_number (settings_of self.old).skipped (bucket_count self.old) hash)
-            (pending_targets self.old) self.new) }
-        ensures unique { IsUniqueBy E.Key.eq E.key_of self.new }
+        ensures { InsertsMade E.Key.eq E.key_of (key_hash H.BuildHasher H.Hasher.Hasher E.Key.hash_input self.old)
+            self.old hash (E.made_of parts) parts result self.new }
     {
         self.keep_lists();
         if self.bucket_count() == 0 {
@@ -95,13 +51,7 @@ where
         requires hashed { hash ≡ key_hash H.BuildHasher H.Hasher.Hasher E.Key.hash_input self.old
             (E.key_of (E.made_of parts)) }
         requires absent { position (λ e. E.Key.eq (E.key_of (E.made_of parts)) (E.key_of e)) (entries self.old) ≡ None }
-        ensures ok { IfOk result (IsInsertedAt self.old (E.made_of parts) self.new) }
-        ensures err { IfErr result (λ p. (p ≡ parts) × IsUnchanged self.old self.new) }
-        ensures growth { Grows self.old self.new }
-        ensures noted { refused_of self.new ≡ refused_of self.old }
-        ensures first { OnOk result (FirstArrayWhenDue self.old self.new) }
-        ensures waiting { waiting_of self.new ≡ [] }
-        ensures unique { IsUniqueBy E.Key.eq E.key_of self.new }
+        ensures { InsertsMadeFirst E.Key.eq E.key_of self.old (E.made_of parts) parts result self.new }
     {
         self.left_overflow = 0;
         let placed = self.current.insert_made_first(hash, parts);
@@ -127,33 +77,8 @@ where
             (E.key_of (E.made_of parts)) }
         requires absent { position (λ e. E.Key.eq (E.key_of (E.made_of parts)) (E.key_of e)) (entries self.old) ≡ None }
         requires pending { pending_of self.old ≡ 0 }
-        ensures ok { IfOk result (IsInsertedAt self.old (E.made_of parts) self.new) }
-        ensures err { IfErr result (λ p. (p ≡ parts) × IsUnchanged self.old self.new) }
-        ensures growth { Grows self.old self.new }
-        ensures due { 32 * bucket_count self.old ≤ 2 * length (entries self.old) → 32 * bucket_count self.old < 2 ^ 63
-            → (refused_of self.new).0 ≡ false → bucket_count self.new ≡ 2 * bucket_count self.old }
-        ensures raised { (refused_of self.old).0 ≡ false → (refused_of self.new).0 ≡ true
-            → (32 * bucket_count self.old ≤ 2 * length (entries self.old)) × (32 * bucket_count self.old < 2 ^ 63) }
-        ensures lowered { (refused_of self.old).0 ≡ true → (refused_of self.new).0 ≡ false
-            → bucket_count self.new ≢ bucket_count self.old }
-        ensures down { bucket_count self.new ≢ bucket_count self.old → (refused_of self.new).0 ≡ false }
-        ensures once { (refused_of self.old).1 ≡ true → bucket_count self.new ≡ bucket_count self.old }
-        ensures unmarked { 32 * bucket_count self.old ≤ 2 * length (entries self.old)
-            → 32 * bucket_count self.old < 2 ^ 63 → (refused_of self.new).1 ≡ false }
-        ensures fewer { bucket_count self.new ≡ bucket_count self.old → (i : ℕ) → IsWaiting self.new i
-            → IsWaiting self.old i }
-        ensures less { bucket_count self.new ≡ bucket_count self.old → pending_of self.new ≤ pending_of self.old }
-        ensures grown { bucket_count self.new ≢ bucket_count self.old
-            → bucket_count self.new ≤ pending_of self.new + 2 }
-        ensures spread { OnOk result (bucket_count self.new ≢ bucket_count self.old
-            → AreShortAmong (λ e. key_hash H.BuildHasher H.Hasher.Hasher E.Key.hash_input self.old (E.key_of e))
-            (bucket_count self.new) self.old
-            → pending_targets self.new
-            ≡ left_after (bucket_number (settings_of self.old).skipped (bucket_count self.new) hash)
-            (range_with_len 0 (bucket_count self.new))) }
-        ensures settled { OnOk result (waits_at (waiting_of self.new)
-            (bucket_number (settings_of self.old).skipped (bucket_count self.new) hash) ≡ false) }
-        ensures unique { IsUniqueBy E.Key.eq E.key_of self.new }
+        ensures { InsertsMadeFull E.Key.eq E.key_of (key_hash H.BuildHasher H.Hasher.Hasher E.Key.hash_input self.old)
+            self.old hash (E.made_of parts) parts result self.new }
     {
         let count = self.bucket_count();
         let length = self.len();
@@ -186,15 +111,8 @@ where
         requires hashed { hash ≡ key_hash H.BuildHasher H.Hasher.Hasher E.Key.hash_input self.old
             (E.key_of (E.made_of parts)) }
         requires absent { position (λ e. E.Key.eq (E.key_of (E.made_of parts)) (E.key_of e)) (entries self.old) ≡ None }
-        ensures ok { IfOk result (IsInsertedAt self.old (E.made_of parts) self.new) }
-        ensures err { IfErr result (λ p. (p ≡ parts) × IsUnchanged self.old self.new) }
-        ensures buckets { bucket_count self.new ≡ bucket_count self.old }
-        ensures up { (refused_of self.new).0 ≡ true }
-        ensures unmarked { (refused_of self.new).1 ≡ false }
-        ensures fewer { (i : ℕ) → IsWaiting self.new i → IsWaiting self.old i }
-        ensures less { pending_of self.new ≤ pending_of self.old }
-        ensures settled { OnOk result (waits_at (waiting_of self.new) bucket ≡ false) }
-        ensures unique { IsUniqueBy E.Key.eq E.key_of self.new }
+        ensures { InsertsMadeNoted E.Key.eq E.key_of self.old bucket (E.made_of parts) parts result
+            self.new }
     {
         self.note(true);
         self.insert_made_at(bucket, hash, parts)
@@ -214,18 +132,8 @@ where
         requires hashed { hash ≡ key_hash H.BuildHasher H.Hasher.Hasher E.Key.hash_input self.old
             (E.key_of (E.made_of parts)) }
         requires absent { position (λ e. E.Key.eq (E.key_of (E.made_of parts)) (E.key_of e)) (entries self.old) ≡ None }
-        ensures ok { IfOk result (IsInsertedAt self.old (E.made_of parts) self.new) }
-        ensures err { IfErr result (λ p. (p ≡ parts) × IsUnchanged self.old self.new) }
-        ensures buckets { bucket_count self.new ≡ bucket_count self.old }
-        ensures refused { refused_of self.new ≡ refused_of self.old }
-        ensures fewer { (i : ℕ) → IsWaiting self.new i → IsWaiting self.old i }
-        ensures less { pending_of self.new ≤ pending_of self.old }
-        ensures most { pending_of self.old ≤ pending_of self.new + 2 }
-        ensures settled { OnOk result (waits_at (waiting_of self.new) bucket ≡ false) }
-        ensures moved { OnOk result (AreMovedBeside bucket (pending_targets self.old) self.new) }
-        ensures exact { OnOk result (AreShort self.old
-            → pending_targets self.new ≡ left_after bucket (pending_targets self.old)) }
-        ensures unique { IsUniqueBy E.Key.eq E.key_of self.new }
+        ensures { InsertsAt E.Key.eq E.key_of self.old bucket (E.made_of parts) parts (Unit {0}) result
+            self.new }
     {
         if self.is_waiting(bucket) {
             return self.insert_made_waiting(bucket, hash, parts);
@@ -247,18 +155,8 @@ where
             (E.key_of (E.made_of parts)) }
         requires absent { position (λ e. E.Key.eq (E.key_of (E.made_of parts)) (E.key_of e)) (entries self.old) ≡ None }
         requires waits { IsWaiting self.old bucket }
-        ensures ok { IfOk result (IsInsertedAt self.old (E.made_of parts) self.new) }
-        ensures err { IfErr result (λ p. (p ≡ parts) × IsUnchanged self.old self.new) }
-        ensures buckets { bucket_count self.new ≡ bucket_count self.old }
-        ensures refused { refused_of self.new ≡ refused_of self.old }
-        ensures fewer { (i : ℕ) → IsWaiting self.new i → IsWaiting self.old i }
-        ensures less { pending_of self.new ≤ pending_of self.old }
-        ensures most { pending_of self.old ≤ pending_of self.new + 2 }
-        ensures settled { OnOk result (waits_at (waiting_of self.new) bucket ≡ false) }
-        ensures moved { OnOk result (AreMovedBeside bucket (pending_targets self.old) self.new) }
-        ensures exact { OnOk result (AreShort self.old
-            → pending_targets self.new ≡ left_after bucket (pending_targets self.old)) }
-        ensures unique { IsUniqueBy E.Key.eq E.key_of self.new }
+        ensures { InsertsAt E.Key.eq E.key_of self.old bucket (E.made_of parts) parts (Unit {0}) result
+            self.new }
     {
         self.keep_lists();
         match self.relocate(bucket) {
@@ -282,18 +180,8 @@ where
             (E.key_of (E.made_of parts)) }
         requires absent { position (λ e. E.Key.eq (E.key_of (E.made_of parts)) (E.key_of e)) (entries self.old) ≡ None }
         requires settled { waits_at (waiting_of self.old) bucket ≡ false }
-        ensures ok { IfOk result (IsInsertedAt self.old (E.made_of parts) self.new) }
-        ensures err { IfErr result (λ p. (p ≡ parts) × IsUnchanged self.old self.new) }
-        ensures buckets { bucket_count self.new ≡ bucket_count self.old }
-        ensures refused { refused_of self.new ≡ refused_of self.old }
-        ensures fewer { (i : ℕ) → IsWaiting self.new i → IsWaiting self.old i }
-        ensures less { pending_of self.new ≤ pending_of self.old }
-        ensures most { pending_of self.old ≤ pending_of self.new + most }
-        ensures settled { OnOk result (waits_at (waiting_of self.new) bucket ≡ false) }
-        ensures moved { OnOk result (IsMovedUpTo most self.old self.new) }
-        ensures exact { OnOk result (AreShort self.old
-            → pending_targets self.new ≡ drop most (pending_targets self.old)) }
-        ensures unique { IsUniqueBy E.Key.eq E.key_of self.new }
+        ensures { InsertsInto E.Key.eq E.key_of self.old bucket (E.made_of parts) parts
+            (pending_targets self.old) most most (Unit {0}) result self.new }
     {
         match self.put_made_in(bucket, hash, parts) {
             Ok(place) => {
@@ -321,12 +209,8 @@ where
             (E.key_of (E.made_of parts)) }
         requires absent { position (λ e. E.Key.eq (E.key_of (E.made_of parts)) (E.key_of e)) (entries self.old) ≡ None }
         requires settled { waits_at (waiting_of self.old) bucket ≡ false }
-        ensures exact { IfOk result (IsPutIn self.old bucket (E.made_of parts) self.new) }
-        ensures err { IfErr result (λ p. p ≡ parts) }
-        ensures stays { OnErr result (HasSameLists self.old self.new) }
-        ensures waiting { waiting_of self.new ≡ waiting_of self.old }
-        ensures owed { owed_of self.new ≡ owed_of self.old }
-        ensures unique { IsUniqueBy E.Key.eq E.key_of self.new }
+        ensures { PutsInto E.Key.eq E.key_of self.old bucket (E.made_of parts) parts (Unit {0}) result
+            self.new }
     {
         self.current.keep_lists();
         if self.left_overflow > 0 {

@@ -1,9 +1,10 @@
 //! How many slots a table of two arrays keeps at least, and the tokens of reserved ones.
-ghost use Rattle.std.specs.Prelude.{◌≡◌, ◌≢◌, ◌≤◌, ◌<◌, ◌+◌, ◌-◌, ◌*◌, ◌^◌, ◌↔◌, IfNone, IfSome, IsSome, IsTrue, OnSome};
-ghost use Rattle.scc_contents.specs.Contents.{entries, bucket_count, owed_of, lists_of, settings_of, spilled_of, refused_of, minimum_of, waiting_of, IsUniqueBy};
+ghost use Rattle.std.specs.Prelude.{◌≡◌, ◌≢◌, ◌≤◌, ◌<◌, ◌+◌, ◌*◌, ◌^◌, ◌↔◌, IfNone, IfSome, IsSome, IsTrue, OnSome};
+ghost use Rattle.scc_contents.specs.Contents.{bucket_count, settings_of, refused_of, minimum_of, waiting_of, IsUniqueBy};
 ghost use Rattle.scc_contents.specs.Sizes.{IsArraySize};
 ghost use Rattle.scc_contents.specs.Steps.{IsUnchanged, ReachesMinimumWhenDue, Releases, Reserves, Resizes, ShrinksWhenDue};
 ghost use Rattle.scc_table.specs.Relocates.{IsGrowthDue, IsShrinkDue, Spreads};
+ghost use Rattle.scc_table.specs.Starts.{SetsReserved};
 
 use super::Table;
 use scc_buckets::sizes::{GREATEST_CAPACITY, buckets_for};
@@ -108,13 +109,7 @@ where
     /// Sets the number of reserved slots alone.
     fn set_reserved(&mut self, reserved: usize)
         requires { (settings_of self.old).asked + reserved ≤ 2 ^ 63 }
-        ensures entries { entries self.new ≡ entries self.old }
-        ensures buckets { bucket_count self.new ≡ bucket_count self.old }
-        ensures settings { settings_of self.new ≡ record (settings_of self.old) { reserved = reserved } }
-        ensures noted { refused_of self.new ≡ refused_of self.old }
-        ensures lists { lists_of self.new ≡ lists_of self.old }
-        ensures waiting { waiting_of self.new ≡ waiting_of self.old }
-        ensures owed { owed_of self.new ≡ owed_of self.old }
+        ensures { SetsReserved reserved self.old self.new }
     {
         self.current.set_reserved(reserved);
     }

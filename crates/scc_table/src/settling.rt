@@ -1,12 +1,13 @@
 //! Buckets that take their entries over in a table whose lists hold at most 32 entries each, and entries that go in at
 //! the end of such a list. None of it asks for memory.
-ghost use Rattle.std.specs.Prelude.{◌≡◌, ◌==◌, ◌<◌, ◌≤◌, ◌+◌, false, drop, None, not};
+ghost use Rattle.std.specs.Prelude.{◌≡◌, ◌==◌, ◌<◌, false, drop, None, not};
 ghost use Rattle.std.specs.List.{filter, position};
-ghost use Rattle.scc_buckets.specs.Bounded.{IsListed, PutsLast};
-ghost use Rattle.scc_contents.specs.Contents.{entries, bucket_count, key_hash, pending_of, settings_of, waiting_of, IsUniqueBy};
+ghost use Rattle.scc_buckets.specs.Bounded.{IsListed};
+ghost use Rattle.scc_contents.specs.Contents.{entries, bucket_count, key_hash, settings_of, waiting_of, IsUniqueBy};
 ghost use Rattle.scc_contents.specs.Routing.{bucket_number};
 ghost use Rattle.scc_table.specs.Relocates.{left_after};
 ghost use Rattle.scc_table.specs.TwoArrays.{IsRelocated, IsWaiting, pending_targets, waits_at};
+ghost use Rattle.scc_table.specs.Puts.{PutsWithin};
 
 use super::Table;
 use scc_entry::Keyed;
@@ -46,13 +47,8 @@ where
         requires absent { position (λ e. E.Key.eq (E.key_of entry) (E.key_of e)) (entries self.old) ≡ None }
         requires listed { IsListed (λ e. key_hash H.BuildHasher H.Hasher.Hasher E.Key.hash_input self.old
             (E.key_of e)) self.old }
-        ensures step { PutsLast self.old bucket entry result self.new }
-        ensures listed { IsListed (λ e. key_hash H.BuildHasher H.Hasher.Hasher E.Key.hash_input self.new (E.key_of e))
-            self.new }
-        ensures settled { waits_at (waiting_of self.new) bucket ≡ false }
-        ensures exact { pending_targets self.new ≡ left_after bucket (pending_targets self.old) }
-        ensures two { 2 ≤ pending_of self.old → pending_of self.new + 2 ≡ pending_of self.old }
-        ensures unique { IsUniqueBy E.Key.eq E.key_of self.new }
+        ensures { PutsWithin E.Key.eq E.key_of (key_hash H.BuildHasher H.Hasher.Hasher E.Key.hash_input) self.old
+            bucket entry (left_after bucket (pending_targets self.old)) 2 result self.new }
     {
         if self.is_waiting(bucket) {
             return self.put_waiting(bucket, hash, entry);
@@ -70,13 +66,8 @@ where
         requires absent { position (λ e. E.Key.eq (E.key_of entry) (E.key_of e)) (entries self.old) ≡ None }
         requires listed { IsListed (λ e. key_hash H.BuildHasher H.Hasher.Hasher E.Key.hash_input self.old
             (E.key_of e)) self.old }
-        ensures step { PutsLast self.old bucket entry result self.new }
-        ensures listed { IsListed (λ e. key_hash H.BuildHasher H.Hasher.Hasher E.Key.hash_input self.new (E.key_of e))
-            self.new }
-        ensures settled { waits_at (waiting_of self.new) bucket ≡ false }
-        ensures exact { pending_targets self.new ≡ left_after bucket (pending_targets self.old) }
-        ensures two { 2 ≤ pending_of self.old → pending_of self.new + 2 ≡ pending_of self.old }
-        ensures unique { IsUniqueBy E.Key.eq E.key_of self.new }
+        ensures { PutsWithin E.Key.eq E.key_of (key_hash H.BuildHasher H.Hasher.Hasher E.Key.hash_input) self.old
+            bucket entry (left_after bucket (pending_targets self.old)) 2 result self.new }
     {
         self.settle(bucket);
         self.put_settled(bucket, hash, entry, 1)
@@ -92,13 +83,8 @@ where
         requires absent { position (λ e. E.Key.eq (E.key_of entry) (E.key_of e)) (entries self.old) ≡ None }
         requires listed { IsListed (λ e. key_hash H.BuildHasher H.Hasher.Hasher E.Key.hash_input self.old
             (E.key_of e)) self.old }
-        ensures step { PutsLast self.old bucket entry result self.new }
-        ensures listed { IsListed (λ e. key_hash H.BuildHasher H.Hasher.Hasher E.Key.hash_input self.new (E.key_of e))
-            self.new }
-        ensures settled { waits_at (waiting_of self.new) bucket ≡ false }
-        ensures exact { pending_targets self.new ≡ drop most (pending_targets self.old) }
-        ensures count { most ≤ pending_of self.old → pending_of self.new + most ≡ pending_of self.old }
-        ensures unique { IsUniqueBy E.Key.eq E.key_of self.new }
+        ensures { PutsWithin E.Key.eq E.key_of (key_hash H.BuildHasher H.Hasher.Hasher E.Key.hash_input) self.old
+            bucket entry (drop most (pending_targets self.old)) most result self.new }
     {
         let first = self.put_last(bucket, hash, entry);
         self.relocate_some(most);

@@ -1,14 +1,9 @@
 //! How a new array takes the place of the present one, which drains from then on.
-ghost use Rattle.std.specs.Prelude.{◌≡◌, ◌≢◌, ◌≤◌, ◌<◌, ℕ, [], true, false, replicate, length, OnOk, OnErr};
-ghost use Rattle.std.specs.List.Sorted.{IsPermutation};
+ghost use Rattle.std.specs.Prelude.{◌≡◌, ◌≢◌, ◌<◌, true, false, replicate};
 ghost use Rattle.scc_array.specs.Shelf.{empty_shelf};
-ghost use Rattle.scc_buckets.specs.Bounded.{IsBounded};
-ghost use Rattle.scc_contents.specs.Contents.{entries, bucket_count, owed_of, key_hash, list_of, lists_of, pending_of, refused_of, settings_of, spilled_of, waiting_of, IsUniqueBy};
-ghost use Rattle.scc_buckets.specs.Pour.{IsRegrouped};
+ghost use Rattle.scc_contents.specs.Contents.{bucket_count, key_hash, pending_of};
 ghost use Rattle.scc_contents.specs.Sizes.{IsArray};
-ghost use Rattle.scc_contents.specs.Steps.{IsUnchanged};
-ghost use Rattle.scc_table.specs.Relocates.{AreShort};
-ghost use Rattle.scc_table.specs.TwoArrays.{settle, IsFirstWaiting, IsWaiting};
+ghost use Rattle.scc_table.specs.Starts.{Begins, Notes, ResizesArray, StartsArray, StartsAt};
 
 use super::Table;
 use scc_array::Array;
@@ -28,20 +23,9 @@ where
         requires array { IsArray count }
         requires some { 0 < bucket_count self.old }
         requires other { count ≢ bucket_count self.old }
-        ensures lists { OnOk result (IsRegrouped (λ e. key_hash H.BuildHasher H.Hasher.Hasher E.Key.hash_input
-            self.old (E.key_of e)) count self.old self.new) }
-        ensures same { OnOk result (IsPermutation (entries self.old) (entries self.new)) }
-        ensures waiting { OnOk result (waiting_of self.new ≡ replicate count true) }
-        ensures pending { OnOk result (pending_of self.new ≡ count) }
-        ensures down { OnOk result ((refused_of self.new).0 ≡ false) }
-        ensures err { OnErr result (IsUnchanged self.old self.new) }
-        ensures fewer { OnErr result ((i : ℕ) → IsWaiting self.new i → IsWaiting self.old i) }
-        ensures less { OnErr result (pending_of self.new ≤ pending_of self.old) }
-        ensures still { OnErr result (lists_of self.new ≡ lists_of self.old) }
-        ensures settings { settings_of self.new ≡ settings_of self.old }
-        ensures bounded { IsBounded self.old → AreShort self.old → IsBounded self.new }
-        ensures up { OnErr result ((refused_of self.new).0 ≡ true) }
-        ensures unique { IsUniqueBy E.Key.eq E.key_of self.new }
+        ensures { ResizesArray E.Key.eq E.key_of
+            (λ e. key_hash H.BuildHasher H.Hasher.Hasher E.Key.hash_input self.old (E.key_of e)) count
+            self.old result self.new }
     {
         match self.finish() {
             Ok(()) => self.start(count),
@@ -58,19 +42,9 @@ where
         requires array { IsArray count }
         requires some { 0 < bucket_count self.old }
         requires other { count ≢ bucket_count self.old }
-        ensures lists { OnOk result (IsRegrouped (λ e. key_hash H.BuildHasher H.Hasher.Hasher E.Key.hash_input
-            self.old (E.key_of e)) count self.old self.new) }
-        ensures same { OnOk result (IsPermutation (entries self.old) (entries self.new)) }
-        ensures waiting { OnOk result (waiting_of self.new ≡ replicate count true) }
-        ensures pending { OnOk result (pending_of self.new ≡ count) }
-        ensures down { OnOk result ((refused_of self.new).0 ≡ false) }
-        ensures err { OnErr result (lists_of self.new ≡ lists_of self.old) }
-        ensures settings { settings_of self.new ≡ settings_of self.old }
-        ensures stays { OnErr result (waiting_of self.new ≡ waiting_of self.old) }
-        ensures bounded { IsBounded self.old → IsBounded self.new }
-        ensures up { OnErr result ((refused_of self.new).0 ≡ true) }
-        ensures unmarked { (refused_of self.new).1 ≡ false }
-        ensures unique { IsUniqueBy E.Key.eq E.key_of self.new }
+        ensures { StartsArray E.Key.eq E.key_of
+            (λ e. key_hash H.BuildHasher H.Hasher.Hasher E.Key.hash_input self.old (E.key_of e)) count
+            self.old result self.new }
     {
         match fresh_waiting(self.current.allocator(), count) {
             Ok((fresh, flags)) => {
@@ -87,26 +61,14 @@ where
 
     /// Sets the note of refused memory alone.
     pub(super) fn note(&mut self, refused: bool)
-        ensures lists { lists_of self.new ≡ lists_of self.old }
-        ensures settings { settings_of self.new ≡ settings_of self.old }
-        ensures noted { refused_of self.new ≡ (refused, false) }
-        ensures spilled { spilled_of self.new ≡ spilled_of self.old }
-        ensures waiting { waiting_of self.new ≡ waiting_of self.old }
-        ensures owed { owed_of self.new ≡ owed_of self.old }
-        ensures unique { IsUniqueBy E.Key.eq E.key_of self.new }
+        ensures { Notes E.Key.eq E.key_of (refused, false) self.old self.new }
     {
         self.current.note(refused);
     }
 
     /// Sets the note of refused memory, and whether the next insertion is not to try the growth again.
     pub(super) fn mark(&mut self, refused: bool, tried: bool)
-        ensures lists { lists_of self.new ≡ lists_of self.old }
-        ensures settings { settings_of self.new ≡ settings_of self.old }
-        ensures noted { refused_of self.new ≡ (refused, tried) }
-        ensures spilled { spilled_of self.new ≡ spilled_of self.old }
-        ensures waiting { waiting_of self.new ≡ waiting_of self.old }
-        ensures owed { owed_of self.new ≡ owed_of self.old }
-        ensures unique { IsUniqueBy E.Key.eq E.key_of self.new }
+        ensures { Notes E.Key.eq E.key_of (refused, tried) self.old self.new }
     {
         self.current.mark(refused, tried);
     }
@@ -120,13 +82,8 @@ where
         requires other { count ≢ bucket_count self.old }
         requires empty { fresh ≡ replicate count empty_shelf }
         requires flags { flags.items ≡ replicate count true }
-        ensures lists { IsRegrouped (λ e. key_hash H.BuildHasher H.Hasher.Hasher E.Key.hash_input self.old
-            (E.key_of e)) count self.old self.new }
-        ensures same { IsPermutation (entries self.old) (entries self.new) }
-        ensures waiting { waiting_of self.new ≡ replicate count true }
-        ensures pending { pending_of self.new ≡ count }
-        ensures noted { refused_of self.new ≡ refused_of self.old }
-        ensures bounded { IsBounded self.old → IsBounded self.new }
+        ensures { Begins (λ e. key_hash H.BuildHasher H.Hasher.Hasher E.Key.hash_input self.old (E.key_of e))
+            count self.old self.new }
     {
         let (old, left, left_overflow) = self.current.exchange(fresh, 0, 0);
         let bare = std::mem::replace(&mut self.draining, old);
@@ -155,13 +112,9 @@ where
         requires within { bucket < count }
         requires empty { fresh ≡ replicate count empty_shelf }
         requires flags { flags.items ≡ replicate count true }
-        ensures lists { OnOk result (IsRegrouped (λ e. key_hash H.BuildHasher H.Hasher.Hasher E.Key.hash_input
-            self.old (E.key_of e)) count self.old self.new) }
-        ensures same { OnOk result (IsPermutation (entries self.old) (entries self.new)) }
-        ensures waiting { OnOk result (waiting_of self.new ≡ settle (replicate count true) bucket) }
-        ensures noted { OnOk result (refused_of self.new ≡ refused_of self.old) }
-        ensures err { OnErr result (self.new ≡ self.old) }
-        ensures unique { IsUniqueBy E.Key.eq E.key_of self.new }
+        ensures { StartsAt E.Key.eq E.key_of
+            (λ e. key_hash H.BuildHasher H.Hasher.Hasher E.Key.hash_input self.old (E.key_of e)) count
+            bucket self.old result self.new }
     {
         let (mut old, left, overflow) = self.current.exchange(fresh, 0, 0);
         match take(

@@ -1,4 +1,4 @@
-use Rattle.std.proofs.Common.{◌≡◌, ◌≢◌, ◌∙◌, ◌+◌, ◌<◌, ℕ, List, length, map, replicate, true, inl, inr, refl, sym, ap, subst, arith}
+use Rattle.std.proofs.Common.{◌≡◌, ◌≢◌, ◌∙◌, ◌+◌, ◌<◌, ℕ, List, length, map, replicate, true, inl, inr, refl, sym, ap, subst, arith, rules}
 use Rattle.std.proofs.lemmas.List.{length-replicate, length-map}
 use Rattle.std.specs.List.{flat_map, count_by, IsDistinct}
 use Rattle.std.specs.List.Sorted.{IsPermutation}
@@ -68,85 +68,60 @@ invariant_of-self g c =
     (subst (λ (h : g.row.E-Key.Denot → ℕ). IsTable g.E.Key.PartialEq.eq g.E.Keyed.key_of h d (replicate n true) olds t.skipped n 0 left over) (sym same)
     (started-fields g.E.Key.PartialEq.eq g.met.E.Key.Eq.laws g.E.Keyed.key_of hk d n olds counted now t.skipped left over table was c.requires.array differ skips inv.few_bits nothing unique))
 
-pub returns-clause-lists : goal.returns-clause-lists
-returns-clause-lists g c =
+pub returns : goal.returns
+returns g c =
     let t = c.self.inside in
     let n = c.args.count in
     let cur = t.current in
     let d = c.exchange-old.new.self in
     let olds = c.exchange-old.result.0 in
     let left = c.exchange-old.result.1 in
-    let over = c.exchange-old.result.2 in
     let inv = c.self.invariant in
     let hk = key_hash g.H.BuildHasher g.H.Hasher.Hasher g.E.Key.Hash.hash_input cur in
     let hash = λ (e : g.row.E.Denot). hk (g.E.Keyed.key_of e) in
-    let none = settled-flags c.args.self.now inv c.self.view_is c.requires.settled in
     let settings = c.exchange-old.ensures.settings in
     let same = hash-same g.H.BuildHasher g.H.Hasher.Hasher g.E.Key.Hash.hash_input cur d settings in
     let were = c.exchange-old.ensures.were in
-    let now : lists_of d ≡ map shelf_entries (replicate n empty_shelf) = c.exchange-old.ensures.lists ∙ ap (λ (z : List (Shelf g.row.E.Denot)). map shelf_entries z) c.requires.empty in
-    let counted : bucket_count d ≡ n = count-were d (replicate n empty_shelf) now ∙ length-replicate n (empty_shelf {E = g.row.E.Denot}) in
-    let long : bucket_count c.args.self.now ≡ length olds = count-seen hash cur t.waiting.items t.draining c.args.self.now c.self.view_is inv.arrays.flags ∙ count-were cur olds were in
-    let table : IsBuckets hash (settings_of d).skipped olds left over = subst (λ s. IsBuckets hash s.skipped olds left over) (sym settings) c.exchange-old.ensures.table in
-    let was : IsArray (length olds) = elim c.exchange-old.ensures.table.sized [ inl z ↦ absurd (omega (arith, c.requires.some)) | inr z ↦ z ] in
-    let differ : n ≢ length olds = λ z. c.requires.other (z ∙ sym long) in
-    let all : entries c.args.self.now ≡ flat_map shelf_entries olds = ap entries (sym c.self.view_is) ∙ entries-alone hash cur t.waiting.items t.draining none ∙ entries-were cur olds were in
-    let kept = settings-seen hash cur t.waiting.items t.draining c.args.self.now c.self.view_is in
-    let outer = hash-same g.H.BuildHasher g.H.Hasher.Hasher g.E.Key.Hash.hash_input cur c.args.self.now kept in
-    let regrouped = started-lists hash d n olds counted now left over table was c.requires.array differ c.args.self.now all (settings ∙ sym kept) in
-    rw (c.replace-bare.ensures.after, c.requires.flags)
-    (subst (λ (h : g.row.E-Key.Denot → ℕ). IsRegrouped (λ e. h (g.E.Keyed.key_of e)) n c.args.self.now (together (λ e. key_hash g.H.BuildHasher g.H.Hasher.Hasher g.E.Key.Hash.hash_input d (g.E.Keyed.key_of e)) d (replicate n true) olds)) (sym outer)
-    (subst (λ (h : g.row.E-Key.Denot → ℕ). IsRegrouped hash n c.args.self.now (together (λ e. h (g.E.Keyed.key_of e)) d (replicate n true) olds)) (sym same) regrouped))
-
-pub returns-clause-same : goal.returns-clause-same
-returns-clause-same g c =
-    let t = c.self.inside in
-    let n = c.args.count in
-    let cur = t.current in
-    let d = c.exchange-old.new.self in
-    let olds = c.exchange-old.result.0 in
-    let left = c.exchange-old.result.1 in
-    let over = c.exchange-old.result.2 in
-    let inv = c.self.invariant in
-    let hk = key_hash g.H.BuildHasher g.H.Hasher.Hasher g.E.Key.Hash.hash_input cur in
-    let hash = λ (e : g.row.E.Denot). hk (g.E.Keyed.key_of e) in
-    let none = settled-flags c.args.self.now inv c.self.view_is c.requires.settled in
-    let settings = c.exchange-old.ensures.settings in
-    let same = hash-same g.H.BuildHasher g.H.Hasher.Hasher g.E.Key.Hash.hash_input cur d settings in
-    let were = c.exchange-old.ensures.were in
-    let now : lists_of d ≡ map shelf_entries (replicate n empty_shelf) = c.exchange-old.ensures.lists ∙ ap (λ (z : List (Shelf g.row.E.Denot)). map shelf_entries z) c.requires.empty in
-    let counted : bucket_count d ≡ n = count-were d (replicate n empty_shelf) now ∙ length-replicate n (empty_shelf {E = g.row.E.Denot}) in
-    let long : bucket_count c.args.self.now ≡ length olds = count-seen hash cur t.waiting.items t.draining c.args.self.now c.self.view_is inv.arrays.flags ∙ count-were cur olds were in
-    let table : IsBuckets hash (settings_of d).skipped olds left over = subst (λ s. IsBuckets hash s.skipped olds left over) (sym settings) c.exchange-old.ensures.table in
-    let was : IsArray (length olds) = elim c.exchange-old.ensures.table.sized [ inl z ↦ absurd (omega (arith, c.requires.some)) | inr z ↦ z ] in
-    let differ : n ≢ length olds = λ z. c.requires.other (z ∙ sym long) in
-    let all : entries c.args.self.now ≡ flat_map shelf_entries olds = ap entries (sym c.self.view_is) ∙ entries-alone hash cur t.waiting.items t.draining none ∙ entries-were cur olds were in
-    let some : 0 < n = let a = c.requires.array.least in omega arith in
-    let permuted = permuted-all hash d n olds counted now some in
-    rw (c.replace-bare.ensures.after, c.requires.flags, all)
-    (subst (λ (h : g.row.E-Key.Denot → ℕ). IsPermutation (flat_map shelf_entries olds) (entries (together (λ e. h (g.E.Keyed.key_of e)) d (replicate n true) olds))) (sym same) permuted)
-
-pub returns-clause-waiting : goal.returns-clause-waiting
-returns-clause-waiting g c = waiting-together _ c.exchange-old.new.self c.args.flags.items c.replace-bare.new.dest ∙ c.requires.flags
-
-pub returns-clause-pending : goal.returns-clause-pending
-returns-clause-pending g c = pending-together _ c.exchange-old.new.self c.args.flags.items c.replace-bare.new.dest ∙ ap (count_by (λ w. w)) c.requires.flags ∙ count-up c.args.count
-
-pub returns-clause-noted : goal.returns-clause-noted
-returns-clause-noted g c =
-    let t = c.self.inside in
-    refused-together _ c.exchange-old.new.self c.args.flags.items c.replace-bare.new.dest ∙ c.exchange-old.ensures.noted ∙ sym (refused-seen _ t.current t.waiting.items t.draining c.args.self.now c.self.view_is)
-
-pub returns-clause-bounded : goal.returns-clause-bounded
-returns-clause-bounded g c =
-    let t = c.self.inside in
-    let cur = t.current in
-    let d = c.exchange-old.new.self in
-    let olds = c.exchange-old.result.0 in
-    let was = spilled-seen (λ (e : g.row.E.Denot). key_hash g.H.BuildHasher g.H.Hasher.Hasher g.E.Key.Hash.hash_input cur (g.E.Keyed.key_of e)) cur t.waiting.items t.draining c.args.self.now c.self.view_is in
-    let nothing : spilled_of d ≡ 0 = c.exchange-old.ensures.spilled in
-    let over : spilled_in olds ≡ spilled_of cur = sym c.exchange-old.ensures.table.spilled ∙ c.exchange-old.ensures.overflowing in
-    let now : spilled_in c.replace-bare.new.dest ≡ spilled_in olds = ap (λ (z : List (Shelf g.row.E.Denot)). spilled_in z) c.replace-bare.ensures.after in
-    λ none.
-    let zero : spilled_of d + spilled_in c.replace-bare.new.dest ≡ 0 = omega (arith, was, nothing, over, now, none) in
-    spilled-together (λ e. key_hash g.H.BuildHasher g.H.Hasher.Hasher g.E.Key.Hash.hash_input d (g.E.Keyed.key_of e)) d c.args.flags.items c.replace-bare.new.dest ∙ zero
+    record {
+      lists = (
+          let over = c.exchange-old.result.2 in
+          let none = settled-flags c.args.self.now inv c.self.view_is c.requires.settled in
+          let now : lists_of d ≡ map shelf_entries (replicate n empty_shelf) = c.exchange-old.ensures.lists ∙ ap (λ (z : List (Shelf g.row.E.Denot)). map shelf_entries z) c.requires.empty in
+          let counted : bucket_count d ≡ n = count-were d (replicate n empty_shelf) now ∙ length-replicate n (empty_shelf {E = g.row.E.Denot}) in
+          let long : bucket_count c.args.self.now ≡ length olds = count-seen hash cur t.waiting.items t.draining c.args.self.now c.self.view_is inv.arrays.flags ∙ count-were cur olds were in
+          let table : IsBuckets hash (settings_of d).skipped olds left over = subst (λ s. IsBuckets hash s.skipped olds left over) (sym settings) c.exchange-old.ensures.table in
+          let was : IsArray (length olds) = elim c.exchange-old.ensures.table.sized [ inl z ↦ absurd (omega (arith, c.requires.some)) | inr z ↦ z ] in
+          let differ : n ≢ length olds = λ z. c.requires.other (z ∙ sym long) in
+          let all : entries c.args.self.now ≡ flat_map shelf_entries olds = ap entries (sym c.self.view_is) ∙ entries-alone hash cur t.waiting.items t.draining none ∙ entries-were cur olds were in
+          let kept = settings-seen hash cur t.waiting.items t.draining c.args.self.now c.self.view_is in
+          let outer = hash-same g.H.BuildHasher g.H.Hasher.Hasher g.E.Key.Hash.hash_input cur c.args.self.now kept in
+          let regrouped = started-lists hash d n olds counted now left over table was c.requires.array differ c.args.self.now all (settings ∙ sym kept) in
+          rw (c.replace-bare.ensures.after, c.requires.flags)
+          (subst (λ (h : g.row.E-Key.Denot → ℕ). IsRegrouped (λ e. h (g.E.Keyed.key_of e)) n c.args.self.now (together (λ e. key_hash g.H.BuildHasher g.H.Hasher.Hasher g.E.Key.Hash.hash_input d (g.E.Keyed.key_of e)) d (replicate n true) olds)) (sym outer)
+          (subst (λ (h : g.row.E-Key.Denot → ℕ). IsRegrouped hash n c.args.self.now (together (λ e. h (g.E.Keyed.key_of e)) d (replicate n true) olds)) (sym same) regrouped)));
+      same = (
+          let over = c.exchange-old.result.2 in
+          let none = settled-flags c.args.self.now inv c.self.view_is c.requires.settled in
+          let now : lists_of d ≡ map shelf_entries (replicate n empty_shelf) = c.exchange-old.ensures.lists ∙ ap (λ (z : List (Shelf g.row.E.Denot)). map shelf_entries z) c.requires.empty in
+          let counted : bucket_count d ≡ n = count-were d (replicate n empty_shelf) now ∙ length-replicate n (empty_shelf {E = g.row.E.Denot}) in
+          let long : bucket_count c.args.self.now ≡ length olds = count-seen hash cur t.waiting.items t.draining c.args.self.now c.self.view_is inv.arrays.flags ∙ count-were cur olds were in
+          let table : IsBuckets hash (settings_of d).skipped olds left over = subst (λ s. IsBuckets hash s.skipped olds left over) (sym settings) c.exchange-old.ensures.table in
+          let was : IsArray (length olds) = elim c.exchange-old.ensures.table.sized [ inl z ↦ absurd (omega (arith, c.requires.some)) | inr z ↦ z ] in
+          let differ : n ≢ length olds = λ z. c.requires.other (z ∙ sym long) in
+          let all : entries c.args.self.now ≡ flat_map shelf_entries olds = ap entries (sym c.self.view_is) ∙ entries-alone hash cur t.waiting.items t.draining none ∙ entries-were cur olds were in
+          let some : 0 < n = let a = c.requires.array.least in omega arith in
+          let permuted = permuted-all hash d n olds counted now some in
+          rw (c.replace-bare.ensures.after, c.requires.flags, all)
+          (subst (λ (h : g.row.E-Key.Denot → ℕ). IsPermutation (flat_map shelf_entries olds) (entries (together (λ e. h (g.E.Keyed.key_of e)) d (replicate n true) olds))) (sym same) permuted));
+      waiting = (waiting-together _ c.exchange-old.new.self c.args.flags.items c.replace-bare.new.dest ∙ c.requires.flags);
+      pending = (pending-together _ c.exchange-old.new.self c.args.flags.items c.replace-bare.new.dest ∙ ap (count_by (λ w. w)) c.requires.flags ∙ count-up c.args.count);
+      noted = (refused-together _ c.exchange-old.new.self c.args.flags.items c.replace-bare.new.dest ∙ c.exchange-old.ensures.noted ∙ sym (refused-seen _ t.current t.waiting.items t.draining c.args.self.now c.self.view_is));
+      bounded = (
+          let was = spilled-seen (λ (e : g.row.E.Denot). key_hash g.H.BuildHasher g.H.Hasher.Hasher g.E.Key.Hash.hash_input cur (g.E.Keyed.key_of e)) cur t.waiting.items t.draining c.args.self.now c.self.view_is in
+          let nothing : spilled_of d ≡ 0 = c.exchange-old.ensures.spilled in
+          let over : spilled_in olds ≡ spilled_of cur = sym c.exchange-old.ensures.table.spilled ∙ c.exchange-old.ensures.overflowing in
+          let now : spilled_in c.replace-bare.new.dest ≡ spilled_in olds = ap (λ (z : List (Shelf g.row.E.Denot)). spilled_in z) c.replace-bare.ensures.after in
+          λ none.
+          let zero : spilled_of d + spilled_in c.replace-bare.new.dest ≡ 0 = omega (arith, was, nothing, over, now, none) in
+          spilled-together (λ e. key_hash g.H.BuildHasher g.H.Hasher.Hasher g.E.Key.Hash.hash_input d (g.E.Keyed.key_of e)) d c.args.flags.items c.replace-bare.new.dest ∙ zero);
+    }

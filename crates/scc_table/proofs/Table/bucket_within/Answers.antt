@@ -1,7 +1,21 @@
+use Rattle.std.proofs.Common.{rules}
 use Rattle.scc_table.proofs.Short.{listed-none}
 use Rattle.scc_table.proofs.Table.bucket_within.Goals as goal
 
-pub returns-then-bucket_count-eq0-clause-listed : goal.returns-then-bucket_count-eq0-clause-listed
-returns-then-bucket_count-eq0-clause-listed g c =
-    let r = c.in_ok-make_array.ensures.resized in
-    listed-none _ c.make_array.new.self r.array r.bounded c.make_array.ensures.bare
+pub returns-then-bucket_count-eq0 : goal.returns-then-bucket_count-eq0
+returns-then-bucket_count-eq0 g c =
+    record {
+      grows = (search rules);
+      same = (search rules);
+      settings = (search rules);
+      listed = (
+          let r = c.in_ok-make_array.ensures.resized in
+          listed-none _ c.make_array.new.self r.array r.bounded c.make_array.ensures.bare);
+      within = (search rules);
+      routed = (search rules);
+      none = (search rules);
+      first = (search rules);
+      waiting = (search rules);
+      all = (search rules);
+      unique = (search rules);
+    }

@@ -1,4 +1,4 @@
-use Rattle.std.proofs.Common.{◌≡◌, ◌∙◌, ℕ, ◌*◌, ◌<◌, inl, inr, true, false, length, take, sym, ap, subst, arith, Bool}
+use Rattle.std.proofs.Common.{◌≡◌, ◌∙◌, ℕ, ◌*◌, ◌<◌, inl, inr, true, false, length, take, sym, ap, subst, arith, Bool, rules}
 use Rattle.std.specs.List.{range_with_len, slice_get}
 use Rattle.std.specs.List.Sorted.{IsPermutation}
 use Rattle.scc_array.proofs.Gets.{get-some}
@@ -49,85 +49,8 @@ start_at-requires-clause-within g c =
     let array = double-array n c.bucket_count-count.ensures.lawful (omega (arith, c.requires.within, c.bucket_count-count.ensures.count)) (omega (arith, c.requires.below, c.bucket_count-count.ensures.count)) in
     c.bucket_index-bucket.ensures.within (omega (arith, array.least))
 
-pub returns-in-Ok-clause-rests : goal.returns-in-Ok-clause-rests
-returns-in-Ok-clause-rests g c =
-    let a = c.args.self.now in
-    let n = c.bucket_count-count.result in
-    let array = double-array n c.bucket_count-count.ensures.lawful (omega (arith, c.requires.within, c.bucket_count-count.ensures.count)) (omega (arith, c.requires.below, c.bucket_count-count.ensures.count)) in
-    let b = c.start_at.new.self in
-    let m = c.note.new.self in
-    let d = c.relocate_some.new.self in
-    let k = c.bucket_index-bucket.result in
-    let hash = λ (e : g.row.E.Denot). key_hash g.H.BuildHasher g.H.Hasher.Hasher g.E.Key.Hash.hash_input a (g.E.Keyed.key_of e) in
-    let done = c.in-Ok.ensures in
-    let rel = c.relocate_some.ensures in
-    let counted : n ≡ bucket_count a = c.bucket_count-count.ensures.count in
-    let l : k < 2 * n = c.bucket_index-bucket.ensures.within (omega (arith, array.least)) in
-    let lists = rel.lists ∙ c.note.ensures.lists in
-    let settings = rel.settings ∙ c.note.ensures.settings in
-    let reg : IsRegrouped hash (2 * n) a d = regrouped-same hash (2 * n) a b d lists settings done.lists in
-    let perm = subst (λ es. IsPermutation (entries a) es) (sym (entries-same b d lists)) done.same in
-    inr (λ z. let e = reg.count in absurd (omega (arith, array.least)), regrouped-resizes hash (2 * n) a d reg perm array (λ less. absurd (omega arith)))
-
-pub returns-in-Ok-clause-doubled : goal.returns-in-Ok-clause-doubled
-returns-in-Ok-clause-doubled g c =
-    let a = c.args.self.now in
-    let n = c.bucket_count-count.result in
-    let array = double-array n c.bucket_count-count.ensures.lawful (omega (arith, c.requires.within, c.bucket_count-count.ensures.count)) (omega (arith, c.requires.below, c.bucket_count-count.ensures.count)) in
-    let b = c.start_at.new.self in
-    let m = c.note.new.self in
-    let d = c.relocate_some.new.self in
-    let k = c.bucket_index-bucket.result in
-    let hash = λ (e : g.row.E.Denot). key_hash g.H.BuildHasher g.H.Hasher.Hasher g.E.Key.Hash.hash_input a (g.E.Keyed.key_of e) in
-    let done = c.in-Ok.ensures in
-    let rel = c.relocate_some.ensures in
-    let counted : n ≡ bucket_count a = c.bucket_count-count.ensures.count in
-    let l : k < 2 * n = c.bucket_index-bucket.ensures.within (omega (arith, array.least)) in
-    let lists = rel.lists ∙ c.note.ensures.lists in
-    let settings = rel.settings ∙ c.note.ensures.settings in
-    let reg : IsRegrouped hash (2 * n) a d = regrouped-same hash (2 * n) a b d lists settings done.lists in
-    λ ne. let e = reg.count in omega arith
-
-pub returns-in-Ok-clause-due : goal.returns-in-Ok-clause-due
-returns-in-Ok-clause-due g c =
-    let a = c.args.self.now in
-    let n = c.bucket_count-count.result in
-    let array = double-array n c.bucket_count-count.ensures.lawful (omega (arith, c.requires.within, c.bucket_count-count.ensures.count)) (omega (arith, c.requires.below, c.bucket_count-count.ensures.count)) in
-    let b = c.start_at.new.self in
-    let m = c.note.new.self in
-    let d = c.relocate_some.new.self in
-    let k = c.bucket_index-bucket.result in
-    let hash = λ (e : g.row.E.Denot). key_hash g.H.BuildHasher g.H.Hasher.Hasher g.E.Key.Hash.hash_input a (g.E.Keyed.key_of e) in
-    let done = c.in-Ok.ensures in
-    let rel = c.relocate_some.ensures in
-    let counted : n ≡ bucket_count a = c.bucket_count-count.ensures.count in
-    let l : k < 2 * n = c.bucket_index-bucket.ensures.within (omega (arith, array.least)) in
-    let lists = rel.lists ∙ c.note.ensures.lists in
-    let settings = rel.settings ∙ c.note.ensures.settings in
-    let reg : IsRegrouped hash (2 * n) a d = regrouped-same hash (2 * n) a b d lists settings done.lists in
-    λ down z. let e = reg.count in absurd (omega (arith, array.least))
-
-pub returns-in-Ok-clause-within : goal.returns-in-Ok-clause-within
-returns-in-Ok-clause-within g c =
-    let a = c.args.self.now in
-    let n = c.bucket_count-count.result in
-    let array = double-array n c.bucket_count-count.ensures.lawful (omega (arith, c.requires.within, c.bucket_count-count.ensures.count)) (omega (arith, c.requires.below, c.bucket_count-count.ensures.count)) in
-    let b = c.start_at.new.self in
-    let m = c.note.new.self in
-    let d = c.relocate_some.new.self in
-    let k = c.bucket_index-bucket.result in
-    let hash = λ (e : g.row.E.Denot). key_hash g.H.BuildHasher g.H.Hasher.Hasher g.E.Key.Hash.hash_input a (g.E.Keyed.key_of e) in
-    let done = c.in-Ok.ensures in
-    let rel = c.relocate_some.ensures in
-    let counted : n ≡ bucket_count a = c.bucket_count-count.ensures.count in
-    let l : k < 2 * n = c.bucket_index-bucket.ensures.within (omega (arith, array.least)) in
-    let lists = rel.lists ∙ c.note.ensures.lists in
-    let settings = rel.settings ∙ c.note.ensures.settings in
-    let reg : IsRegrouped hash (2 * n) a d = regrouped-same hash (2 * n) a b d lists settings done.lists in
-    let e = reg.count in omega arith
-
-pub returns-in-Ok-clause-here : goal.returns-in-Ok-clause-here
-returns-in-Ok-clause-here g c =
+pub returns-in-Ok : goal.returns-in-Ok
+returns-in-Ok g c =
     let a = c.args.self.now in
     let n = c.bucket_count-count.result in
     let array = double-array n c.bucket_count-count.ensures.lawful (omega (arith, c.requires.within, c.bucket_count-count.ensures.count)) (omega (arith, c.requires.below, c.bucket_count-count.ensures.count)) in
@@ -146,242 +69,119 @@ returns-in-Ok-clause-here g c =
     let set = settings-seen _ c.self.inside.current c.self.inside.waiting.items c.self.inside.draining a c.self.view_is in
     let s : c.self.inside.skipped ≡ (settings_of a).skipped = c.self.invariant.skips ∙ ap (λ z. z.skipped) (sym set) in
     let at : k ≡ bucket_number (settings_of a).skipped (2 * n) c.args.hash = c.bucket_index-bucket.ensures.value ∙ ap (λ z. bucket_number z (2 * n) c.args.hash) s in
-    let es = list_of a c.args.place.bucket in
-    let x = get-some es c.args.place.slot c.requires.slot in
-    let t = (settings_of a).skipped in
-    let twice : 2 * n ≡ 2 * bucket_count a = ap (λ z. 2 * z) counted in
-    let near : k ≡ bucket_number t (2 * bucket_count a) c.args.hash = at ∙ ap (λ z. bucket_number t z c.args.hash) twice in
-    let list : list_of d k ≡ bound_for hash t (2 * bucket_count a) k (entries a) = reg.each k l ∙ ap (λ z. bound_for hash t z k (entries a)) twice in
-    let lists-now = lists-seen _ c.self.inside.current c.self.inside.waiting.items c.self.inside.draining a c.self.view_is (settled-flags a c.self.invariant c.self.view_is c.requires.pending) in
-    let own : es ≡ list_of c.self.inside.current c.args.place.bucket = list-same c.self.inside.current a lists-now c.args.place.bucket in
-    let hashes = λ (s : Settings g.row.H.Denot). let h : g.row.E.Denot → ℕ = λ e. hash_of g.H.BuildHasher g.H.Hasher.Hasher s.hasher (g.E.Key.Hash.hash_input (g.E.Keyed.key_of e)) in h in
-    let few = c.count_bound-slot.ensures ∙ ap (λ xs. length (bound_for (hashes (settings_of c.self.inside.current)) c.self.inside.skipped (2 * n) k (take c.args.place.slot xs))) (sym own)
-    ∙ ap (λ s. length (bound_for (hashes s) c.self.inside.skipped (2 * n) k (take c.args.place.slot es))) (sym set) in
-    let slot : c.count_bound-slot.result ≡ length (bound_for hash t (2 * bucket_count a) k (take c.args.place.slot es)) = few ∙ ap (λ z. length (bound_for hash z (2 * n) k (take c.args.place.slot es))) s ∙ ap (λ z. length (bound_for hash t z k (take c.args.place.slot es))) twice in
-    ap (slice_get (list_of d k)) slot ∙ stands-after hash a d c.keep_lists.ensures.routed c.args.place.bucket c.args.place.slot c.args.hash x.0 x.1 (c.requires.hashed x.0 x.1) k near list
+    record {
+      rests = (
+          let perm = subst (λ es. IsPermutation (entries a) es) (sym (entries-same b d lists)) done.same in
+          inr (λ z. let e = reg.count in absurd (omega (arith, array.least)), regrouped-resizes hash (2 * n) a d reg perm array (λ less. absurd (omega arith))));
+      doubled = (λ ne. let e = reg.count in omega arith);
+      due = (λ down z. let e = reg.count in absurd (omega (arith, array.least)));
+      down = (λ _. ap (λ (x : Bool × Bool). x.0) (c.relocate_some.ensures.noted ∙ c.note.ensures.noted));
+      unmarked = (search rules);
+      within = (let e = reg.count in omega arith);
+      here = (
+          let es = list_of a c.args.place.bucket in
+          let x = get-some es c.args.place.slot c.requires.slot in
+          let t = (settings_of a).skipped in
+          let twice : 2 * n ≡ 2 * bucket_count a = ap (λ z. 2 * z) counted in
+          let near : k ≡ bucket_number t (2 * bucket_count a) c.args.hash = at ∙ ap (λ z. bucket_number t z c.args.hash) twice in
+          let list : list_of d k ≡ bound_for hash t (2 * bucket_count a) k (entries a) = reg.each k l ∙ ap (λ z. bound_for hash t z k (entries a)) twice in
+          let lists-now = lists-seen _ c.self.inside.current c.self.inside.waiting.items c.self.inside.draining a c.self.view_is (settled-flags a c.self.invariant c.self.view_is c.requires.pending) in
+          let own : es ≡ list_of c.self.inside.current c.args.place.bucket = list-same c.self.inside.current a lists-now c.args.place.bucket in
+          let hashes = λ (s : Settings g.row.H.Denot). let h : g.row.E.Denot → ℕ = λ e. hash_of g.H.BuildHasher g.H.Hasher.Hasher s.hasher (g.E.Key.Hash.hash_input (g.E.Keyed.key_of e)) in h in
+          let few = c.count_bound-slot.ensures ∙ ap (λ xs. length (bound_for (hashes (settings_of c.self.inside.current)) c.self.inside.skipped (2 * n) k (take c.args.place.slot xs))) (sym own)
+          ∙ ap (λ s. length (bound_for (hashes s) c.self.inside.skipped (2 * n) k (take c.args.place.slot es))) (sym set) in
+          let slot : c.count_bound-slot.result ≡ length (bound_for hash t (2 * bucket_count a) k (take c.args.place.slot es)) = few ∙ ap (λ z. length (bound_for hash z (2 * n) k (take c.args.place.slot es))) s ∙ ap (λ z. length (bound_for hash t z k (take c.args.place.slot es))) twice in
+          ap (slice_get (list_of d k)) slot ∙ stands-after hash a d c.keep_lists.ensures.routed c.args.place.bucket c.args.place.slot c.args.hash x.0 x.1 (c.requires.hashed x.0 x.1) k near list);
+      routed = (at ∙ ap (λ z. bucket_number (settings_of a).skipped z c.args.hash) (sym reg.count));
+      settled = (
+          let down : waits_at (waiting_of b) k ≡ false = but-down (2 * n) k array.least l b done.waiting in
+          by_answer (waits_at (waiting_of d) k) (λ q. absurd (let z : true ≡ false = sym (ap (λ w. waits_at w k) (sym c.note.ensures.waiting) ∙ rel.fewer k q) ∙ down in cc)) (λ q. q));
+      none = (λ z. let e = reg.count in absurd (omega (arith, array.least)));
+      most = (
+          let p = but-pending (2 * n) k array.least l b done.waiting in
+          let q = pending-same b m c.note.ensures.waiting in
+          λ ne. let e = reg.count in omega (arith, rel.most));
+      spread = (
+          let regb = regrouped-same hash (2 * n) a b m c.note.ensures.lists c.note.ensures.settings done.lists in
+          let waiting = c.note.ensures.waiting ∙ done.waiting in
+          λ ne short.
+          let all : AreShortBut hash (2 * n) k a = subst (λ z. AreShortBut hash z k a) reg.count short in
+          let few = but-short (2 * n) k array.least l m waiting hash a regb all in
+          but-left (2 * n) k array.least l m waiting (pending_targets d) (rel.exact few) ∙ ap (λ z. left_after k (range_with_len 0 z)) (sym reg.count));
+      unique = (search rules);
+    }
 
-pub returns-in-Ok-clause-routed : goal.returns-in-Ok-clause-routed
-returns-in-Ok-clause-routed g c =
-    let a = c.args.self.now in
-    let n = c.bucket_count-count.result in
-    let array = double-array n c.bucket_count-count.ensures.lawful (omega (arith, c.requires.within, c.bucket_count-count.ensures.count)) (omega (arith, c.requires.below, c.bucket_count-count.ensures.count)) in
-    let b = c.start_at.new.self in
-    let m = c.note.new.self in
-    let d = c.relocate_some.new.self in
-    let k = c.bucket_index-bucket.result in
-    let hash = λ (e : g.row.E.Denot). key_hash g.H.BuildHasher g.H.Hasher.Hasher g.E.Key.Hash.hash_input a (g.E.Keyed.key_of e) in
-    let done = c.in-Ok.ensures in
-    let rel = c.relocate_some.ensures in
-    let counted : n ≡ bucket_count a = c.bucket_count-count.ensures.count in
-    let l : k < 2 * n = c.bucket_index-bucket.ensures.within (omega (arith, array.least)) in
-    let lists = rel.lists ∙ c.note.ensures.lists in
-    let settings = rel.settings ∙ c.note.ensures.settings in
-    let reg : IsRegrouped hash (2 * n) a d = regrouped-same hash (2 * n) a b d lists settings done.lists in
-    let set = settings-seen _ c.self.inside.current c.self.inside.waiting.items c.self.inside.draining a c.self.view_is in
-    let s : c.self.inside.skipped ≡ (settings_of a).skipped = c.self.invariant.skips ∙ ap (λ z. z.skipped) (sym set) in
-    let at : k ≡ bucket_number (settings_of a).skipped (2 * n) c.args.hash = c.bucket_index-bucket.ensures.value ∙ ap (λ z. bucket_number z (2 * n) c.args.hash) s in
-    at ∙ ap (λ z. bucket_number (settings_of a).skipped z c.args.hash) (sym reg.count)
-
-pub returns-in-Ok-clause-settled : goal.returns-in-Ok-clause-settled
-returns-in-Ok-clause-settled g c =
-    let a = c.args.self.now in
-    let n = c.bucket_count-count.result in
-    let array = double-array n c.bucket_count-count.ensures.lawful (omega (arith, c.requires.within, c.bucket_count-count.ensures.count)) (omega (arith, c.requires.below, c.bucket_count-count.ensures.count)) in
-    let b = c.start_at.new.self in
-    let m = c.note.new.self in
-    let d = c.relocate_some.new.self in
-    let k = c.bucket_index-bucket.result in
-    let hash = λ (e : g.row.E.Denot). key_hash g.H.BuildHasher g.H.Hasher.Hasher g.E.Key.Hash.hash_input a (g.E.Keyed.key_of e) in
-    let done = c.in-Ok.ensures in
-    let rel = c.relocate_some.ensures in
-    let counted : n ≡ bucket_count a = c.bucket_count-count.ensures.count in
-    let l : k < 2 * n = c.bucket_index-bucket.ensures.within (omega (arith, array.least)) in
-    let lists = rel.lists ∙ c.note.ensures.lists in
-    let settings = rel.settings ∙ c.note.ensures.settings in
-    let reg : IsRegrouped hash (2 * n) a d = regrouped-same hash (2 * n) a b d lists settings done.lists in
-    let down : waits_at (waiting_of b) k ≡ false = but-down (2 * n) k array.least l b done.waiting in
-    by_answer (waits_at (waiting_of d) k) (λ q. absurd (let z : true ≡ false = sym (ap (λ w. waits_at w k) (sym c.note.ensures.waiting) ∙ rel.fewer k q) ∙ down in cc)) (λ q. q)
-
-pub returns-in-Ok-clause-none : goal.returns-in-Ok-clause-none
-returns-in-Ok-clause-none g c =
-    let a = c.args.self.now in
-    let n = c.bucket_count-count.result in
-    let array = double-array n c.bucket_count-count.ensures.lawful (omega (arith, c.requires.within, c.bucket_count-count.ensures.count)) (omega (arith, c.requires.below, c.bucket_count-count.ensures.count)) in
-    let b = c.start_at.new.self in
-    let m = c.note.new.self in
-    let d = c.relocate_some.new.self in
-    let k = c.bucket_index-bucket.result in
-    let hash = λ (e : g.row.E.Denot). key_hash g.H.BuildHasher g.H.Hasher.Hasher g.E.Key.Hash.hash_input a (g.E.Keyed.key_of e) in
-    let done = c.in-Ok.ensures in
-    let rel = c.relocate_some.ensures in
-    let counted : n ≡ bucket_count a = c.bucket_count-count.ensures.count in
-    let l : k < 2 * n = c.bucket_index-bucket.ensures.within (omega (arith, array.least)) in
-    let lists = rel.lists ∙ c.note.ensures.lists in
-    let settings = rel.settings ∙ c.note.ensures.settings in
-    let reg : IsRegrouped hash (2 * n) a d = regrouped-same hash (2 * n) a b d lists settings done.lists in
-    λ z. let e = reg.count in absurd (omega (arith, array.least))
-
-pub returns-in-Ok-clause-most : goal.returns-in-Ok-clause-most
-returns-in-Ok-clause-most g c =
-    let a = c.args.self.now in
-    let n = c.bucket_count-count.result in
-    let array = double-array n c.bucket_count-count.ensures.lawful (omega (arith, c.requires.within, c.bucket_count-count.ensures.count)) (omega (arith, c.requires.below, c.bucket_count-count.ensures.count)) in
-    let b = c.start_at.new.self in
-    let m = c.note.new.self in
-    let d = c.relocate_some.new.self in
-    let k = c.bucket_index-bucket.result in
-    let hash = λ (e : g.row.E.Denot). key_hash g.H.BuildHasher g.H.Hasher.Hasher g.E.Key.Hash.hash_input a (g.E.Keyed.key_of e) in
-    let done = c.in-Ok.ensures in
-    let rel = c.relocate_some.ensures in
-    let counted : n ≡ bucket_count a = c.bucket_count-count.ensures.count in
-    let l : k < 2 * n = c.bucket_index-bucket.ensures.within (omega (arith, array.least)) in
-    let lists = rel.lists ∙ c.note.ensures.lists in
-    let settings = rel.settings ∙ c.note.ensures.settings in
-    let reg : IsRegrouped hash (2 * n) a d = regrouped-same hash (2 * n) a b d lists settings done.lists in
-    let p = but-pending (2 * n) k array.least l b done.waiting in
-    let q = pending-same b m c.note.ensures.waiting in
-    λ ne. let e = reg.count in omega (arith, rel.most)
-
-pub returns-in-Ok-clause-spread : goal.returns-in-Ok-clause-spread
-returns-in-Ok-clause-spread g c =
-    let a = c.args.self.now in
-    let n = c.bucket_count-count.result in
-    let array = double-array n c.bucket_count-count.ensures.lawful (omega (arith, c.requires.within, c.bucket_count-count.ensures.count)) (omega (arith, c.requires.below, c.bucket_count-count.ensures.count)) in
-    let b = c.start_at.new.self in
-    let m = c.note.new.self in
-    let d = c.relocate_some.new.self in
-    let k = c.bucket_index-bucket.result in
-    let hash = λ (e : g.row.E.Denot). key_hash g.H.BuildHasher g.H.Hasher.Hasher g.E.Key.Hash.hash_input a (g.E.Keyed.key_of e) in
-    let done = c.in-Ok.ensures in
-    let rel = c.relocate_some.ensures in
-    let counted : n ≡ bucket_count a = c.bucket_count-count.ensures.count in
-    let l : k < 2 * n = c.bucket_index-bucket.ensures.within (omega (arith, array.least)) in
-    let lists = rel.lists ∙ c.note.ensures.lists in
-    let settings = rel.settings ∙ c.note.ensures.settings in
-    let reg : IsRegrouped hash (2 * n) a d = regrouped-same hash (2 * n) a b d lists settings done.lists in
-    let regb = regrouped-same hash (2 * n) a b m c.note.ensures.lists c.note.ensures.settings done.lists in
-    let waiting = c.note.ensures.waiting ∙ done.waiting in
-    λ ne short.
-    let all : AreShortBut hash (2 * n) k a = subst (λ z. AreShortBut hash z k a) reg.count short in
-    let few = but-short (2 * n) k array.least l m waiting hash a regb all in
-    but-left (2 * n) k array.least l m waiting (pending_targets d) (rel.exact few) ∙ ap (λ z. left_after k (range_with_len 0 z)) (sym reg.count)
-
-pub returns-in-Err-clause-rests : goal.returns-in-Err-clause-rests
-returns-in-Err-clause-rests g c =
+pub returns-in-Err : goal.returns-in-Err
+returns-in-Err g c =
     let a = c.args.self.now in
     let b = c.start_at.new.self in
     let d = c.note-in-Err.new.self in
-    let same : b ≡ a = c.in-Err.ensures.err in
-    let lists = c.note-in-Err.ensures.lists ∙ ap lists_of same in
-    let settings = c.note-in-Err.ensures.settings ∙ ap settings_of same in
-    let count = count-same a d lists in
-    inl (unchanged-same a d lists settings)
-
-pub returns-in-Err-clause-doubled : goal.returns-in-Err-clause-doubled
-returns-in-Err-clause-doubled g c =
-    let a = c.args.self.now in
-    let b = c.start_at.new.self in
-    let d = c.note-in-Err.new.self in
-    let same : b ≡ a = c.in-Err.ensures.err in
-    let lists = c.note-in-Err.ensures.lists ∙ ap lists_of same in
-    let settings = c.note-in-Err.ensures.settings ∙ ap settings_of same in
-    let count = count-same a d lists in
-    λ ne. absurd (ne count)
-
-pub returns-in-Err-clause-due : goal.returns-in-Err-clause-due
-returns-in-Err-clause-due g c =
-    let a = c.args.self.now in
-    let b = c.start_at.new.self in
-    let d = c.note-in-Err.new.self in
-    let same : b ≡ a = c.in-Err.ensures.err in
-    let lists = c.note-in-Err.ensures.lists ∙ ap lists_of same in
-    let settings = c.note-in-Err.ensures.settings ∙ ap settings_of same in
-    let count = count-same a d lists in
-    λ down. absurd (let z : true ≡ false = sym (ap (λ (x : Bool × Bool). x.0) c.note-in-Err.ensures.noted) ∙ down in cc)
-
-pub returns-in-Err-clause-within : goal.returns-in-Err-clause-within
-returns-in-Err-clause-within g c =
-    let a = c.args.self.now in
-    let b = c.start_at.new.self in
-    let d = c.note-in-Err.new.self in
-    let same : b ≡ a = c.in-Err.ensures.err in
-    let lists = c.note-in-Err.ensures.lists ∙ ap lists_of same in
-    let settings = c.note-in-Err.ensures.settings ∙ ap settings_of same in
-    let count = count-same a d lists in
-    omega (arith, c.requires.within)
-
-pub returns-in-Err-clause-here : goal.returns-in-Err-clause-here
-returns-in-Err-clause-here g c =
-    let a = c.args.self.now in
-    let b = c.start_at.new.self in
-    let d = c.note-in-Err.new.self in
-    let same : b ≡ a = c.in-Err.ensures.err in
-    let lists = c.note-in-Err.ensures.lists ∙ ap lists_of same in
-    let settings = c.note-in-Err.ensures.settings ∙ ap settings_of same in
-    let count = count-same a d lists in
-    ap (λ z. slice_get z c.args.place.slot) (list-same a d lists c.args.place.bucket)
-
-pub returns-in-Err-clause-routed : goal.returns-in-Err-clause-routed
-returns-in-Err-clause-routed g c =
-    let a = c.args.self.now in
-    let b = c.start_at.new.self in
-    let d = c.note-in-Err.new.self in
-    let same : b ≡ a = c.in-Err.ensures.err in
-    let lists = c.note-in-Err.ensures.lists ∙ ap lists_of same in
-    let settings = c.note-in-Err.ensures.settings ∙ ap settings_of same in
-    let count = count-same a d lists in
-    let hash = λ (e : g.row.E.Denot). key_hash g.H.BuildHasher g.H.Hasher.Hasher g.E.Key.Hash.hash_input a (g.E.Keyed.key_of e) in
-    let x = get-some (list_of a c.args.place.bucket) c.args.place.slot c.requires.slot in
-    stands-routed hash a d c.keep_lists.ensures.routed c.args.place.bucket c.args.place.slot c.args.hash x.0 x.1 (c.requires.hashed x.0 x.1) ∙ ap (λ z. bucket_number (settings_of a).skipped z c.args.hash) (sym count)
-
-pub returns-in-Err-clause-settled : goal.returns-in-Err-clause-settled
-returns-in-Err-clause-settled g c =
-    let a = c.args.self.now in
-    let b = c.start_at.new.self in
-    let d = c.note-in-Err.new.self in
-    let same : b ≡ a = c.in-Err.ensures.err in
-    let lists = c.note-in-Err.ensures.lists ∙ ap lists_of same in
-    let settings = c.note-in-Err.ensures.settings ∙ ap settings_of same in
-    let count = count-same a d lists in
-    ap (λ w. waits_at w c.args.place.bucket) (c.note-in-Err.ensures.waiting ∙ ap waiting_of same) ∙ settled-all a c.requires.pending c.args.place.bucket
-
-pub returns-in-Err-clause-none : goal.returns-in-Err-clause-none
-returns-in-Err-clause-none g c =
-    let a = c.args.self.now in
-    let b = c.start_at.new.self in
-    let d = c.note-in-Err.new.self in
-    let same : b ≡ a = c.in-Err.ensures.err in
-    let lists = c.note-in-Err.ensures.lists ∙ ap lists_of same in
-    let settings = c.note-in-Err.ensures.settings ∙ ap settings_of same in
-    let count = count-same a d lists in
-    λ z. pending-same a d (c.note-in-Err.ensures.waiting ∙ ap waiting_of same) ∙ c.requires.pending
-
-pub returns-in-Err-clause-most : goal.returns-in-Err-clause-most
-returns-in-Err-clause-most g c =
-    let a = c.args.self.now in
-    let b = c.start_at.new.self in
-    let d = c.note-in-Err.new.self in
-    let same : b ≡ a = c.in-Err.ensures.err in
-    let lists = c.note-in-Err.ensures.lists ∙ ap lists_of same in
-    let settings = c.note-in-Err.ensures.settings ∙ ap settings_of same in
-    let count = count-same a d lists in
-    λ ne. absurd (ne count)
-
-pub returns-in-Err-clause-spread : goal.returns-in-Err-clause-spread
-returns-in-Err-clause-spread g c =
-    let a = c.args.self.now in
-    let b = c.start_at.new.self in
-    let d = c.note-in-Err.new.self in
-    let same : b ≡ a = c.in-Err.ensures.err in
-    let lists = c.note-in-Err.ensures.lists ∙ ap lists_of same in
-    let settings = c.note-in-Err.ensures.settings ∙ ap settings_of same in
-    let count = count-same a d lists in
-    λ ne. absurd (ne count)
-
-pub returns-in-Ok-clause-down : goal.returns-in-Ok-clause-down
-returns-in-Ok-clause-down g c = λ _. ap (λ (x : Bool × Bool). x.0) (c.relocate_some.ensures.noted ∙ c.note.ensures.noted)
-
-pub returns-in-Err-clause-down : goal.returns-in-Err-clause-down
-returns-in-Err-clause-down g c =
-    let same : c.start_at.new.self ≡ c.args.self.now = c.in-Err.ensures.err in
-    λ ne. absurd (ne (count-same c.args.self.now c.note-in-Err.new.self (c.note-in-Err.ensures.lists ∙ ap lists_of same)))
+    record {
+      rests = (
+          let same : b ≡ a = c.in-Err.ensures.err in
+          let lists = c.note-in-Err.ensures.lists ∙ ap lists_of same in
+          let settings = c.note-in-Err.ensures.settings ∙ ap settings_of same in
+          let count = count-same a d lists in
+          inl (unchanged-same a d lists settings));
+      doubled = (
+          let same : b ≡ a = c.in-Err.ensures.err in
+          let lists = c.note-in-Err.ensures.lists ∙ ap lists_of same in
+          let settings = c.note-in-Err.ensures.settings ∙ ap settings_of same in
+          let count = count-same a d lists in
+          λ ne. absurd (ne count));
+      due = (
+          let same : b ≡ a = c.in-Err.ensures.err in
+          let lists = c.note-in-Err.ensures.lists ∙ ap lists_of same in
+          let settings = c.note-in-Err.ensures.settings ∙ ap settings_of same in
+          let count = count-same a d lists in
+          λ down. absurd (let z : true ≡ false = sym (ap (λ (x : Bool × Bool). x.0) c.note-in-Err.ensures.noted) ∙ down in cc));
+      down = (
+          let same : c.start_at.new.self ≡ c.args.self.now = c.in-Err.ensures.err in
+          λ ne. absurd (ne (count-same c.args.self.now c.note-in-Err.new.self (c.note-in-Err.ensures.lists ∙ ap lists_of same))));
+      unmarked = (search rules);
+      within = (
+          let same : b ≡ a = c.in-Err.ensures.err in
+          let lists = c.note-in-Err.ensures.lists ∙ ap lists_of same in
+          let settings = c.note-in-Err.ensures.settings ∙ ap settings_of same in
+          let count = count-same a d lists in
+          omega (arith, c.requires.within));
+      here = (
+          let same : b ≡ a = c.in-Err.ensures.err in
+          let lists = c.note-in-Err.ensures.lists ∙ ap lists_of same in
+          let settings = c.note-in-Err.ensures.settings ∙ ap settings_of same in
+          let count = count-same a d lists in
+          ap (λ z. slice_get z c.args.place.slot) (list-same a d lists c.args.place.bucket));
+      routed = (
+          let same : b ≡ a = c.in-Err.ensures.err in
+          let lists = c.note-in-Err.ensures.lists ∙ ap lists_of same in
+          let settings = c.note-in-Err.ensures.settings ∙ ap settings_of same in
+          let count = count-same a d lists in
+          let hash = λ (e : g.row.E.Denot). key_hash g.H.BuildHasher g.H.Hasher.Hasher g.E.Key.Hash.hash_input a (g.E.Keyed.key_of e) in
+          let x = get-some (list_of a c.args.place.bucket) c.args.place.slot c.requires.slot in
+          stands-routed hash a d c.keep_lists.ensures.routed c.args.place.bucket c.args.place.slot c.args.hash x.0 x.1 (c.requires.hashed x.0 x.1) ∙ ap (λ z. bucket_number (settings_of a).skipped z c.args.hash) (sym count));
+      settled = (
+          let same : b ≡ a = c.in-Err.ensures.err in
+          let lists = c.note-in-Err.ensures.lists ∙ ap lists_of same in
+          let settings = c.note-in-Err.ensures.settings ∙ ap settings_of same in
+          let count = count-same a d lists in
+          ap (λ w. waits_at w c.args.place.bucket) (c.note-in-Err.ensures.waiting ∙ ap waiting_of same) ∙ settled-all a c.requires.pending c.args.place.bucket);
+      none = (
+          let same : b ≡ a = c.in-Err.ensures.err in
+          let lists = c.note-in-Err.ensures.lists ∙ ap lists_of same in
+          let settings = c.note-in-Err.ensures.settings ∙ ap settings_of same in
+          let count = count-same a d lists in
+          λ z. pending-same a d (c.note-in-Err.ensures.waiting ∙ ap waiting_of same) ∙ c.requires.pending);
+      most = (
+          let same : b ≡ a = c.in-Err.ensures.err in
+          let lists = c.note-in-Err.ensures.lists ∙ ap lists_of same in
+          let settings = c.note-in-Err.ensures.settings ∙ ap settings_of same in
+          let count = count-same a d lists in
+          λ ne. absurd (ne count));
+      spread = (
+          let same : b ≡ a = c.in-Err.ensures.err in
+          let lists = c.note-in-Err.ensures.lists ∙ ap lists_of same in
+          let settings = c.note-in-Err.ensures.settings ∙ ap settings_of same in
+          let count = count-same a d lists in
+          λ ne. absurd (ne count));
+      unique = (search rules);
+    }

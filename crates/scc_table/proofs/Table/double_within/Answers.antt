@@ -1,4 +1,4 @@
-use Rattle.std.proofs.Common.{◌≡◌, ◌∙◌, ◌*◌, ◌≤◌, ◌<◌, length, sym, ap, subst, arith}
+use Rattle.std.proofs.Common.{◌≡◌, ◌∙◌, ◌*◌, ◌≤◌, ◌<◌, length, sym, ap, subst, arith, rules}
 use Rattle.std.specs.List.Sorted.{IsPermutation}
 use Rattle.std.proofs.lemmas.List.Sorted.{IsPermutation-refl}
 use Rattle.scc_buckets.specs.Bounded.{IsResized}
@@ -15,8 +15,8 @@ use Rattle.scc_table.proofs.Table.double_within.Goals as goal
 pub start-requires-clause-array : goal.start-requires-clause-array
 start-requires-clause-array g c = double-array c.bucket_count-count.result c.bucket_count-count.ensures.lawful (omega (arith, c.requires.array, c.bucket_count-count.ensures.count)) (omega (arith, c.requires.most))
 
-pub returns-in-Ok-clause-doubles : goal.returns-in-Ok-clause-doubles
-returns-in-Ok-clause-doubles g c =
+pub returns-in-Ok : goal.returns-in-Ok
+returns-in-Ok g c =
     let a = c.args.self.now in
     let d = c.start.new.self in
     let hash = λ (e : g.row.E.Denot). key_hash g.H.BuildHasher g.H.Hasher.Hasher g.E.Key.Hash.hash_input c.args.self.now (g.E.Keyed.key_of e) in
@@ -28,51 +28,58 @@ returns-in-Ok-clause-doubles g c =
       lists = subst (λ n. IsRegrouped hash n a d) (sym r.lists.count) r.lists;
       bounded = c.start.ensures.bounded c.requires.listed.bounded;
     } in
-    let due : IsDoublingDue c.args.most a = record { settled = omega arith; half = omega arith; below = omega arith } in
-    doubles due (sym c.is_tried.ensures ∙ c.if-is_tried.false) r.down size resized
+    record {
+      doubles = (
+          let due : IsDoublingDue c.args.most a = record { settled = omega arith; half = omega arith; below = omega arith } in
+          doubles due (sym c.is_tried.ensures ∙ c.if-is_tried.false) r.down size resized);
+      same = (search rules);
+      settings = (search rules);
+      listed = (
+          let settings = c.start.ensures.settings in
+          let routed = routed-before (λ s (e : g.row.E.Denot). hash_of g.H.BuildHasher g.H.Hasher.Hasher s.hasher (g.E.Key.Hash.hash_input (g.E.Keyed.key_of e))) a d settings c.keep_lists-in-Ok.ensures.routed in
+          listed-anew (λ s (e : g.row.E.Denot). hash_of g.H.BuildHasher g.H.Hasher.Hasher s.hasher (g.E.Key.Hash.hash_input (g.E.Keyed.key_of e))) a d settings
+          (listed-resized hash a d resized routed (λ i l. subst (λ n. length (bound_for hash (settings_of a).skipped n i (entries a)) ≤ 32) (sym size) (short-doubled hash a c.requires.listed i))));
+      array = (search rules);
+      waiting = (search rules);
+      all = (search rules);
+      refused = (search rules);
+      made = (search rules);
+      marked = (search rules);
+      unique = (search rules);
+    }
 
-pub returns-in-Ok-clause-listed : goal.returns-in-Ok-clause-listed
-returns-in-Ok-clause-listed g c =
-    let a = c.args.self.now in
-    let d = c.start.new.self in
-    let hash = λ (e : g.row.E.Denot). key_hash g.H.BuildHasher g.H.Hasher.Hasher g.E.Key.Hash.hash_input c.args.self.now (g.E.Keyed.key_of e) in
-    let r = c.in-Ok.ensures in
-    let size : bucket_count d ≡ 2 * bucket_count a = r.lists.count ∙ ap (λ n. 2 * n) c.bucket_count-count.ensures.count in
-    let array = double-array c.bucket_count-count.result c.bucket_count-count.ensures.lawful (omega (arith, c.requires.array, c.bucket_count-count.ensures.count)) (omega (arith, c.requires.most)) in
-    let resized : IsResized hash a d = record {
-      array = subst IsArray (sym r.lists.count) array;
-      lists = subst (λ n. IsRegrouped hash n a d) (sym r.lists.count) r.lists;
-      bounded = c.start.ensures.bounded c.requires.listed.bounded;
-    } in
-    let settings = c.start.ensures.settings in
-    let routed = routed-before (λ s (e : g.row.E.Denot). hash_of g.H.BuildHasher g.H.Hasher.Hasher s.hasher (g.E.Key.Hash.hash_input (g.E.Keyed.key_of e))) a d settings c.keep_lists-in-Ok.ensures.routed in
-    listed-anew (λ s (e : g.row.E.Denot). hash_of g.H.BuildHasher g.H.Hasher.Hasher s.hasher (g.E.Key.Hash.hash_input (g.E.Keyed.key_of e))) a d settings
-    (listed-resized hash a d resized routed (λ i l. subst (λ n. length (bound_for hash (settings_of a).skipped n i (entries a)) ≤ 32) (sym size) (short-doubled hash a c.requires.listed i)))
+pub returns-in-Err : goal.returns-in-Err
+returns-in-Err g c =
+    record {
+      doubles = (search rules);
+      same = (
+          let a = c.args.self.now in
+          subst (λ es. IsPermutation (entries a) es) (sym (entries-same a c.start.new.self c.in-Err.ensures.err)) (IsPermutation-refl (entries a)));
+      settings = (search rules);
+      listed = (listed-later (λ s (e : g.row.E.Denot). hash_of g.H.BuildHasher g.H.Hasher.Hasher s.hasher (g.E.Key.Hash.hash_input (g.E.Keyed.key_of e))) c.args.self.now c.start.new.self c.in-Err.ensures.err c.start.ensures.settings (c.start.ensures.bounded c.requires.listed.bounded) c.requires.listed);
+      array = (let n = count-same c.args.self.now c.start.new.self c.in-Err.ensures.err in omega (arith, c.requires.array));
+      waiting = (search rules);
+      all = (λ ne. absurd (ne (count-same c.args.self.now c.start.new.self c.in-Err.ensures.err)));
+      refused = (search rules);
+      made = (search rules);
+      marked = (search rules);
+      unique = (search rules);
+    }
 
-pub returns-in-Err-clause-same : goal.returns-in-Err-clause-same
-returns-in-Err-clause-same g c =
-    let a = c.args.self.now in
-    subst (λ es. IsPermutation (entries a) es) (sym (entries-same a c.start.new.self c.in-Err.ensures.err)) (IsPermutation-refl (entries a))
-
-pub returns-in-Err-clause-listed : goal.returns-in-Err-clause-listed
-returns-in-Err-clause-listed g c = listed-later (λ s (e : g.row.E.Denot). hash_of g.H.BuildHasher g.H.Hasher.Hasher s.hasher (g.E.Key.Hash.hash_input (g.E.Keyed.key_of e))) c.args.self.now c.start.new.self c.in-Err.ensures.err c.start.ensures.settings (c.start.ensures.bounded c.requires.listed.bounded) c.requires.listed
-
-pub returns-in-Err-clause-array : goal.returns-in-Err-clause-array
-returns-in-Err-clause-array g c = let n = count-same c.args.self.now c.start.new.self c.in-Err.ensures.err in omega (arith, c.requires.array)
-
-pub returns-in-Err-clause-all : goal.returns-in-Err-clause-all
-returns-in-Err-clause-all g c = λ ne. absurd (ne (count-same c.args.self.now c.start.new.self c.in-Err.ensures.err))
-
-pub returns-then-is_tried-clause-same : goal.returns-then-is_tried-clause-same
-returns-then-is_tried-clause-same g c =
-    let a = c.args.self.now in
-    subst (λ es. IsPermutation (entries a) es) (sym (entries-same a c.note.new.self c.note.ensures.lists)) (IsPermutation-refl (entries a))
-
-pub returns-then-is_tried-clause-listed : goal.returns-then-is_tried-clause-listed
-returns-then-is_tried-clause-listed g c = listed-later (λ s (e : g.row.E.Denot). hash_of g.H.BuildHasher g.H.Hasher.Hasher s.hasher (g.E.Key.Hash.hash_input (g.E.Keyed.key_of e))) c.args.self.now c.note.new.self c.note.ensures.lists c.note.ensures.settings (c.note.ensures.spilled ∙ c.requires.listed.bounded) c.requires.listed
-
-pub returns-then-is_tried-clause-array : goal.returns-then-is_tried-clause-array
-returns-then-is_tried-clause-array g c = let n = count-same c.args.self.now c.note.new.self c.note.ensures.lists in omega (arith, c.requires.array)
-
-pub returns-then-is_tried-clause-all : goal.returns-then-is_tried-clause-all
-returns-then-is_tried-clause-all g c = λ ne. absurd (ne (count-same c.args.self.now c.note.new.self c.note.ensures.lists))
+pub returns-then-is_tried : goal.returns-then-is_tried
+returns-then-is_tried g c =
+    record {
+      doubles = (search rules);
+      same = (
+          let a = c.args.self.now in
+          subst (λ es. IsPermutation (entries a) es) (sym (entries-same a c.note.new.self c.note.ensures.lists)) (IsPermutation-refl (entries a)));
+      settings = (search rules);
+      listed = (listed-later (λ s (e : g.row.E.Denot). hash_of g.H.BuildHasher g.H.Hasher.Hasher s.hasher (g.E.Key.Hash.hash_input (g.E.Keyed.key_of e))) c.args.self.now c.note.new.self c.note.ensures.lists c.note.ensures.settings (c.note.ensures.spilled ∙ c.requires.listed.bounded) c.requires.listed);
+      array = (let n = count-same c.args.self.now c.note.new.self c.note.ensures.lists in omega (arith, c.requires.array));
+      waiting = (search rules);
+      all = (λ ne. absurd (ne (count-same c.args.self.now c.note.new.self c.note.ensures.lists)));
+      refused = (search rules);
+      made = (search rules);
+      marked = (search rules);
+      unique = (search rules);
+    }

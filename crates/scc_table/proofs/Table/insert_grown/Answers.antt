@@ -1,4 +1,4 @@
-use Rattle.std.proofs.Common.{◌≡◌, ◌==◌, ◌∙◌, ◌<◌, ℕ, inr, length, sym, ap, subst, arith}
+use Rattle.std.proofs.Common.{◌≡◌, ◌==◌, ◌∙◌, ◌<◌, ℕ, inr, length, sym, ap, subst, arith, rules}
 use Rattle.std.specs.List.{count_by}
 use Rattle.std.specs.List.Sorted.{IsPermutation}
 use Rattle.scc_contents.specs.Contents.{bucket_count, entries, key_hash, list_of, settings_of, waiting_of}
@@ -54,47 +54,28 @@ unreachable-requires g c =
     ap (λ m. count_by (λ (e : g.row.E.Denot). bucket_number s n (hd (g.E.Keyed.key_of e)) == m) (entries d)) near ∙ count-listed (λ (e : g.row.E.Denot). hd (g.E.Keyed.key_of e)) d i c.keep_lists.ensures.routed in
     c.in-Err.ensures.full (some, omega arith)
 
-pub returns-clause-ok : goal.returns-clause-ok
-returns-clause-ok g c =
+pub returns : goal.returns
+returns g c =
     let a = c.args.self.now in
     let b = c.begin.new.self in
     let d = c.note.new.self in
     let hash = λ (e : g.row.E.Denot). key_hash g.H.BuildHasher g.H.Hasher.Hasher g.E.Key.Hash.hash_input a (g.E.Keyed.key_of e) in
     let reg = regrouped-same hash c.args.count a b d c.note.ensures.lists c.note.ensures.settings c.begin.ensures.lists in
-    let perm = subst (λ es. IsPermutation (entries a) es) (sym (entries-same b d c.note.ensures.lists)) c.begin.ensures.same in
-    let rests = inr (λ z. absurd (omega (arith, c.requires.more, reg.count)), regrouped-resizes hash c.args.count a d reg perm c.requires.array (λ less. absurd (omega (arith, c.requires.more)))) in
-    rests-inserted a d c.insert_at.new.self c.args.entry (spot_of c.insert_at.new.self c.in-Ok.place) rests c.in-Ok.ensures.ok
-
-pub returns-clause-buckets : goal.returns-clause-buckets
-returns-clause-buckets g c =
-    let a = c.args.self.now in
-    let b = c.begin.new.self in
-    let d = c.note.new.self in
-    let hash = λ (e : g.row.E.Denot). key_hash g.H.BuildHasher g.H.Hasher.Hasher g.E.Key.Hash.hash_input a (g.E.Keyed.key_of e) in
-    let reg = regrouped-same hash c.args.count a b d c.note.ensures.lists c.note.ensures.settings c.begin.ensures.lists in
-    c.insert_at.ensures.buckets ∙ reg.count
-
-pub returns-clause-most : goal.returns-clause-most
-returns-clause-most g c =
-    let n = pending-same c.begin.new.self c.note.new.self c.note.ensures.waiting ∙ c.begin.ensures.pending in
-    omega (arith, c.insert_at.ensures.most)
-
-pub returns-clause-settled : goal.returns-clause-settled
-returns-clause-settled g c =
-    let a = c.args.self.now in
-    let b = c.begin.new.self in
-    let d = c.note.new.self in
-    let hash = λ (e : g.row.E.Denot). key_hash g.H.BuildHasher g.H.Hasher.Hasher g.E.Key.Hash.hash_input a (g.E.Keyed.key_of e) in
-    let reg = regrouped-same hash c.args.count a b d c.note.ensures.lists c.note.ensures.settings c.begin.ensures.lists in
-    let i = c.bucket_at-bucket.result in
-    let at : i ≡ bucket_number (settings_of a).skipped c.args.count c.args.hash = c.bucket_at-bucket.ensures.value ∙ ap (λ s. bucket_number s.skipped (bucket_count d) c.args.hash) reg.settings ∙ ap (λ n. bucket_number (settings_of a).skipped n c.args.hash) reg.count in
-    ap (waits_at (waiting_of c.insert_at.new.self)) (sym at) ∙ c.in-Ok.ensures.settled
-
-pub returns-clause-spread : goal.returns-clause-spread
-returns-clause-spread g c =
-    let a = c.args.self.now in
-    let b = c.begin.new.self in
-    let d = c.note.new.self in
-    let hash = λ (e : g.row.E.Denot). key_hash g.H.BuildHasher g.H.Hasher.Hasher g.E.Key.Hash.hash_input a (g.E.Keyed.key_of e) in
-    let reg = regrouped-same hash c.args.count a b d c.note.ensures.lists c.note.ensures.settings c.begin.ensures.lists in
-    grown-spread hash c.args.count a d c.insert_at.new.self c.args.hash c.bucket_at-bucket.result reg (c.note.ensures.waiting ∙ c.begin.ensures.waiting) c.bucket_at-bucket.ensures.value c.in-Ok.ensures.exact
+    record {
+      ok = (
+          let perm = subst (λ es. IsPermutation (entries a) es) (sym (entries-same b d c.note.ensures.lists)) c.begin.ensures.same in
+          let rests = inr (λ z. absurd (omega (arith, c.requires.more, reg.count)), regrouped-resizes hash c.args.count a d reg perm c.requires.array (λ less. absurd (omega (arith, c.requires.more)))) in
+          rests-inserted a d c.insert_at.new.self c.args.entry (spot_of c.insert_at.new.self c.in-Ok.place) rests c.in-Ok.ensures.ok);
+      buckets = (c.insert_at.ensures.buckets ∙ reg.count);
+      down = (search rules);
+      unmarked = (search rules);
+      most = (
+          let n = pending-same c.begin.new.self c.note.new.self c.note.ensures.waiting ∙ c.begin.ensures.pending in
+          omega (arith, c.insert_at.ensures.most));
+      spread = (grown-spread hash c.args.count a d c.insert_at.new.self c.args.hash c.bucket_at-bucket.result reg (c.note.ensures.waiting ∙ c.begin.ensures.waiting) c.bucket_at-bucket.ensures.value c.in-Ok.ensures.exact);
+      settled = (
+          let i = c.bucket_at-bucket.result in
+          let at : i ≡ bucket_number (settings_of a).skipped c.args.count c.args.hash = c.bucket_at-bucket.ensures.value ∙ ap (λ s. bucket_number s.skipped (bucket_count d) c.args.hash) reg.settings ∙ ap (λ n. bucket_number (settings_of a).skipped n c.args.hash) reg.count in
+          ap (waits_at (waiting_of c.insert_at.new.self)) (sym at) ∙ c.in-Ok.ensures.settled);
+      unique = (search rules);
+    }

@@ -1,4 +1,4 @@
-use Rattle.std.proofs.Common.{◌≡◌, ◌==◌, ◌∙◌, ◌<◌, inl, inr, true, false, length, sym, ap, subst, arith, Bool}
+use Rattle.std.proofs.Common.{◌≡◌, ◌==◌, ◌∙◌, ◌<◌, inl, inr, true, false, length, sym, ap, subst, arith, Bool, rules}
 use Rattle.std.specs.List.{count_by}
 use Rattle.std.proofs.lemmas.List.{nil_from_length}
 use Rattle.scc_contents.specs.Contents.{HasRoomAt, bucket_count, entries, key_hash, list_of, pending_of, settings_of}
@@ -14,17 +14,63 @@ use Rattle.scc_table.proofs.Same.{any-err, on-ok}
 use Rattle.scc_table.proofs.Targets.{all-but-two, by-two, targets-length}
 use Rattle.scc_table.proofs.Table.insert_made.Goals as goal
 
-pub returns-then-bucket_count-eq0-clause-array : goal.returns-then-bucket_count-eq0-clause-array
-returns-then-bucket_count-eq0-clause-array g c =
-    λ none. pending-is c.insert_made_first.new.self ∙ ap (count_by (λ w. w)) c.insert_made_first.ensures.waiting
+pub returns-then-bucket_count-eq0 : goal.returns-then-bucket_count-eq0
+returns-then-bucket_count-eq0 g c =
+    record {
+      ok = (search rules);
+      err = (search rules);
+      growth = (search rules);
+      due = (search rules);
+      raised = (search rules);
+      undone = (search rules);
+      first = (search rules);
+      kept = (search rules);
+      once = (λ ready. absurd (let r = ready.0 in let z = c.requires in let m = c.bucket_count.ensures.count in let e = c.if-bucket_count-eq0.true in omega arith));
+      fewer = (search rules);
+      less = (search rules);
+      most = (search rules);
+      grown = (search rules);
+      array = (λ none. pending-is c.insert_made_first.new.self ∙ ap (count_by (λ w. w)) c.insert_made_first.ensures.waiting);
+      settled = (search rules);
+      exact = (search rules);
+      spread = (search rules);
+      all_but_two = (search rules);
+      by_two = (search rules);
+      moved = (search rules);
+      unique = (search rules);
+    }
 
-pub returns-then-pending-gt0-clause-due : goal.returns-then-pending-gt0-clause-due
-returns-then-pending-gt0-clause-due g c =
+pub returns-then-pending-gt0 : goal.returns-then-pending-gt0
+returns-then-pending-gt0 g c =
     let p = c.pending.ensures in
-    any-ok c.insert_made_at.result (record { doubled = λ some none. absurd (let q = c.if-pending-gt0.true in omega arith); raised = λ low up. absurd (let z : true ≡ false = sym up ∙ ap (λ (x : Bool × Bool). x.0) c.insert_made_at.ensures.refused ∙ low in cc); unmarked = λ some none. absurd (let q = c.if-pending-gt0.true in omega arith); lowered = λ up low. absurd (let z : true ≡ false = sym up ∙ sym (ap (λ (x : Bool × Bool). x.0) c.insert_made_at.ensures.refused) ∙ low in cc); down = λ some ne. absurd (ne c.insert_made_at.ensures.buckets) })
+    record {
+      ok = (search rules);
+      err = (search rules);
+      growth = (search rules);
+      due = (any-ok c.insert_made_at.result (record { doubled = λ some none. absurd (let q = c.if-pending-gt0.true in omega arith); raised = λ low up. absurd (let z : true ≡ false = sym up ∙ ap (λ (x : Bool × Bool). x.0) c.insert_made_at.ensures.refused ∙ low in cc); unmarked = λ some none. absurd (let q = c.if-pending-gt0.true in omega arith); lowered = λ up low. absurd (let z : true ≡ false = sym up ∙ sym (ap (λ (x : Bool × Bool). x.0) c.insert_made_at.ensures.refused) ∙ low in cc); down = λ some ne. absurd (ne c.insert_made_at.ensures.buckets) }));
+      raised = (search rules);
+      undone = (any-err c.insert_made_at.result (record { doubled = λ some none. absurd (let q = c.if-pending-gt0.true in omega arith); raised = λ low up. absurd (let z : true ≡ false = sym up ∙ ap (λ (x : Bool × Bool). x.0) c.insert_made_at.ensures.refused ∙ low in cc); unmarked = λ some none. absurd (let q = c.if-pending-gt0.true in omega arith); lowered = λ up low. absurd (let z : true ≡ false = sym up ∙ sym (ap (λ (x : Bool × Bool). x.0) c.insert_made_at.ensures.refused) ∙ low in cc); down = λ some ne. absurd (ne c.insert_made_at.ensures.buckets) }));
+      first = (search rules);
+      kept = (search rules);
+      once = (search rules);
+      fewer = (search rules);
+      less = (search rules);
+      most = (search rules);
+      grown = (search rules);
+      array = (search rules);
+      settled = (search rules);
+      exact = (search rules);
+      spread = (any-ok c.insert_made_at.result (λ some ne. absurd (ne c.insert_made_at.ensures.buckets)));
+      all_but_two = (any-ok c.insert_made_at.result (λ some ne. absurd (ne c.insert_made_at.ensures.buckets)));
+      by_two = (on-ok c.insert_made_at.result (λ h some same short. by-two c.bucket_at-bucket.result c.args.self.now c.insert_made_at.new.self (h short)) c.insert_made_at.ensures.exact);
+      moved = (
+          let ts = pending_targets c.args.self.now in
+          on-ok c.insert_made_at.result (λ h some same. subst (λ i. AreMovedBeside i ts c.insert_made_at.new.self) c.bucket_at-bucket.ensures.value h) c.insert_made_at.ensures.moved);
+      unique = (search rules);
+    }
 
-pub returns-then-list_len-lt32-clause-due : goal.returns-then-list_len-lt32-clause-due
-returns-then-list_len-lt32-clause-due g c =
+pub returns-then-list_len-lt32 : goal.returns-then-list_len-lt32
+returns-then-list_len-lt32 g c =
     let a = c.args.self.now in
     let i = c.bucket_at-bucket.result in
     let hk = key_hash g.H.BuildHasher g.H.Hasher.Hasher g.E.Key.Hash.hash_input a in
@@ -32,10 +78,35 @@ returns-then-list_len-lt32-clause-due g c =
     let left : count_by (λ (e : g.row.E.Denot). bucket_number (settings_of a).skipped (bucket_count a) (hk (g.E.Keyed.key_of e)) == n) (entries a) ≡ length (list_of a i) =
     ap (λ m. count_by (λ (e : g.row.E.Denot). bucket_number (settings_of a).skipped (bucket_count a) (hk (g.E.Keyed.key_of e)) == m) (entries a)) (sym c.bucket_at-bucket.ensures.value) ∙ count-listed (λ (e : g.row.E.Denot). hk (g.E.Keyed.key_of e)) a i c.keep_lists.ensures.routed in
     let long = c.list_len.ensures in
-    any-ok c.insert_made_at-then-list_len-lt32.result (record { doubled = λ some none full. absurd (let room : HasRoomAt hk g.E.Keyed.key_of a c.args.hash = (some, omega arith) in full (rw c.requires.hashed at room)); raised = λ low up. absurd (let z : true ≡ false = sym up ∙ ap (λ (x : Bool × Bool). x.0) c.insert_made_at-then-list_len-lt32.ensures.refused ∙ low in cc); unmarked = λ some none full. absurd (let room : HasRoomAt hk g.E.Keyed.key_of a c.args.hash = (some, omega arith) in full (rw c.requires.hashed at room)); lowered = λ up low. absurd (let z : true ≡ false = sym up ∙ sym (ap (λ (x : Bool × Bool). x.0) c.insert_made_at-then-list_len-lt32.ensures.refused) ∙ low in cc); down = λ some ne. absurd (ne c.insert_made_at-then-list_len-lt32.ensures.buckets) })
+    record {
+      ok = (search rules);
+      err = (search rules);
+      growth = (search rules);
+      due = (any-ok c.insert_made_at-then-list_len-lt32.result (record { doubled = λ some none full. absurd (let room : HasRoomAt hk g.E.Keyed.key_of a c.args.hash = (some, omega arith) in full (rw c.requires.hashed at room)); raised = λ low up. absurd (let z : true ≡ false = sym up ∙ ap (λ (x : Bool × Bool). x.0) c.insert_made_at-then-list_len-lt32.ensures.refused ∙ low in cc); unmarked = λ some none full. absurd (let room : HasRoomAt hk g.E.Keyed.key_of a c.args.hash = (some, omega arith) in full (rw c.requires.hashed at room)); lowered = λ up low. absurd (let z : true ≡ false = sym up ∙ sym (ap (λ (x : Bool × Bool). x.0) c.insert_made_at-then-list_len-lt32.ensures.refused) ∙ low in cc); down = λ some ne. absurd (ne c.insert_made_at-then-list_len-lt32.ensures.buckets) }));
+      raised = (search rules);
+      undone = (any-err c.insert_made_at-then-list_len-lt32.result (record { doubled = λ some none full. absurd (let room : HasRoomAt hk g.E.Keyed.key_of a c.args.hash = (some, omega arith) in full (rw c.requires.hashed at room)); raised = λ low up. absurd (let z : true ≡ false = sym up ∙ ap (λ (x : Bool × Bool). x.0) c.insert_made_at-then-list_len-lt32.ensures.refused ∙ low in cc); unmarked = λ some none full. absurd (let room : HasRoomAt hk g.E.Keyed.key_of a c.args.hash = (some, omega arith) in full (rw c.requires.hashed at room)); lowered = λ up low. absurd (let z : true ≡ false = sym up ∙ sym (ap (λ (x : Bool × Bool). x.0) c.insert_made_at-then-list_len-lt32.ensures.refused) ∙ low in cc); down = λ some ne. absurd (ne c.insert_made_at-then-list_len-lt32.ensures.buckets) }));
+      first = (search rules);
+      kept = (search rules);
+      once = (search rules);
+      fewer = (search rules);
+      less = (search rules);
+      most = (search rules);
+      grown = (search rules);
+      array = (search rules);
+      settled = (search rules);
+      exact = (search rules);
+      spread = (any-ok c.insert_made_at-then-list_len-lt32.result (λ some ne. absurd (ne c.insert_made_at-then-list_len-lt32.ensures.buckets)));
+      all_but_two = (any-ok c.insert_made_at-then-list_len-lt32.result (λ some ne. absurd (ne c.insert_made_at-then-list_len-lt32.ensures.buckets)));
+      by_two = (on-ok c.insert_made_at-then-list_len-lt32.result (λ h some same short. by-two c.bucket_at-bucket.result c.args.self.now c.insert_made_at-then-list_len-lt32.new.self (h short)) c.insert_made_at-then-list_len-lt32.ensures.exact);
+      moved = (
+          let ts = pending_targets c.args.self.now in
+          let f = c.insert_made_at-then-list_len-lt32.new.self in
+          on-ok c.insert_made_at-then-list_len-lt32.result (λ h some same. subst (λ i. AreMovedBeside i ts f) c.bucket_at-bucket.ensures.value h) c.insert_made_at-then-list_len-lt32.ensures.moved);
+      unique = (search rules);
+    }
 
-pub returns-clause-due : goal.returns-clause-due
-returns-clause-due g c =
+pub returns : goal.returns
+returns g c =
     let a = c.args.self.now in
     let i = c.bucket_at-bucket.result in
     let hk = key_hash g.H.BuildHasher g.H.Hasher.Hasher g.E.Key.Hash.hash_input a in
@@ -45,143 +116,46 @@ returns-clause-due g c =
     let long = c.list_len.ensures in
     let full : HasRoomAt hk g.E.Keyed.key_of a c.args.hash → ⊥ = λ room. absurd (let r = room.1 in omega arith) in
     let some : 0 < bucket_count a = let z = c.if-bucket_count-eq0.false in let m = c.bucket_count.ensures.count in omega arith in
-    any-ok c.insert_made_full.result (record { doubled = λ _ _ _ half below few down. c.insert_made_full.ensures.due half below down; raised = λ low up. let r = c.insert_made_full.ensures.raised low up in (some, λ room. full (rw c.requires.hashed room), r.0, r.1); unmarked = λ _ _ _ half below. c.insert_made_full.ensures.unmarked half below; lowered = λ up low. (some, c.insert_made_full.ensures.lowered up low); down = λ _ ne. c.insert_made_full.ensures.down ne })
-
-pub returns-clause-raised : goal.returns-clause-raised
-returns-clause-raised g c =
-    let a = c.args.self.now in
-    let i = c.bucket_at-bucket.result in
-    let hk = key_hash g.H.BuildHasher g.H.Hasher.Hasher g.E.Key.Hash.hash_input a in
-    let n = bucket_number (settings_of a).skipped (bucket_count a) c.args.hash in
-    let left : count_by (λ (e : g.row.E.Denot). bucket_number (settings_of a).skipped (bucket_count a) (hk (g.E.Keyed.key_of e)) == n) (entries a) ≡ length (list_of a i) =
-    ap (λ m. count_by (λ (e : g.row.E.Denot). bucket_number (settings_of a).skipped (bucket_count a) (hk (g.E.Keyed.key_of e)) == m) (entries a)) (sym c.bucket_at-bucket.ensures.value) ∙ count-listed (λ (e : g.row.E.Denot). hk (g.E.Keyed.key_of e)) a i c.keep_lists.ensures.routed in
-    let long = c.list_len.ensures in
-    let full : HasRoomAt hk g.E.Keyed.key_of a c.args.hash → ⊥ = λ room. absurd (let r = room.1 in omega arith) in
-    let some : 0 < bucket_count a = let z = c.if-bucket_count-eq0.false in let m = c.bucket_count.ensures.count in omega arith in
-    any-err c.insert_made_full.result (record { raised = λ low up. let r = c.insert_made_full.ensures.raised low up in (some, λ room. full (rw c.requires.hashed room), r.0, r.1) })
-
-pub returns-clause-kept : goal.returns-clause-kept
-returns-clause-kept g c =
-    let a = c.args.self.now in
-    let i = c.bucket_at-bucket.result in
-    let hk = key_hash g.H.BuildHasher g.H.Hasher.Hasher g.E.Key.Hash.hash_input a in
-    let n = bucket_number (settings_of a).skipped (bucket_count a) c.args.hash in
-    let left : count_by (λ (e : g.row.E.Denot). bucket_number (settings_of a).skipped (bucket_count a) (hk (g.E.Keyed.key_of e)) == n) (entries a) ≡ length (list_of a i) =
-    ap (λ m. count_by (λ (e : g.row.E.Denot). bucket_number (settings_of a).skipped (bucket_count a) (hk (g.E.Keyed.key_of e)) == m) (entries a)) (sym c.bucket_at-bucket.ensures.value) ∙ count-listed (λ (e : g.row.E.Denot). hk (g.E.Keyed.key_of e)) a i c.keep_lists.ensures.routed in
-    let long = c.list_len.ensures in
-    let full : HasRoomAt hk g.E.Keyed.key_of a c.args.hash → ⊥ = λ room. absurd (let r = room.1 in omega arith) in
-    let some : 0 < bucket_count a = let z = c.if-bucket_count-eq0.false in let m = c.bucket_count.ensures.count in omega arith in
-    λ room. absurd (full (rw c.requires.hashed room))
-
-pub returns-clause-exact : goal.returns-clause-exact
-returns-clause-exact g c =
-    let a = c.args.self.now in
     let f = c.insert_made_full.new.self in
     let none : pending_of a ≡ 0 = let p = c.pending.ensures in let q = c.if-pending-gt0.false in omega arith in
-    any-ok c.insert_made_full.result
-    (λ some same short.
-    let left : pending_of f ≡ 0 = let l = c.insert_made_full.ensures.less same in omega arith in
-    none-left (bucket_number (settings_of a).skipped (bucket_count a) c.args.hash) a (pending_targets f) none (nil_from_length (pending_targets f) (targets-length f ∙ left) ∙ sym (nil_from_length (pending_targets a) (targets-length a ∙ none))))
-
-pub returns-then-pending-gt0-clause-moved : goal.returns-then-pending-gt0-clause-moved
-returns-then-pending-gt0-clause-moved g c =
-    let ts = pending_targets c.args.self.now in
-    on-ok c.insert_made_at.result (λ h some same. subst (λ i. AreMovedBeside i ts c.insert_made_at.new.self) c.bucket_at-bucket.ensures.value h) c.insert_made_at.ensures.moved
-
-pub returns-then-list_len-lt32-clause-moved : goal.returns-then-list_len-lt32-clause-moved
-returns-then-list_len-lt32-clause-moved g c =
-    let ts = pending_targets c.args.self.now in
-    let f = c.insert_made_at-then-list_len-lt32.new.self in
-    on-ok c.insert_made_at-then-list_len-lt32.result (λ h some same. subst (λ i. AreMovedBeside i ts f) c.bucket_at-bucket.ensures.value h) c.insert_made_at-then-list_len-lt32.ensures.moved
-
-pub returns-clause-moved : goal.returns-clause-moved
-returns-clause-moved g c =
-    let a = c.args.self.now in
-    let f = c.insert_made_full.new.self in
-    let none : pending_of a ≡ 0 = let p = c.pending.ensures in let q = c.if-pending-gt0.false in omega arith in
-    any-ok c.insert_made_full.result
-    (λ some same.
-    let left : pending_of f ≡ 0 = let l = c.insert_made_full.ensures.less same in omega arith in
-    moved-nothing (bucket_number (settings_of a).skipped (bucket_count a) c.args.hash) a f none left)
-
-pub returns-then-pending-gt0-clause-spread : goal.returns-then-pending-gt0-clause-spread
-returns-then-pending-gt0-clause-spread g c = any-ok c.insert_made_at.result (λ some ne. absurd (ne c.insert_made_at.ensures.buckets))
-
-pub returns-then-pending-gt0-clause-all_but_two : goal.returns-then-pending-gt0-clause-all_but_two
-returns-then-pending-gt0-clause-all_but_two g c = any-ok c.insert_made_at.result (λ some ne. absurd (ne c.insert_made_at.ensures.buckets))
-
-pub returns-then-pending-gt0-clause-by_two : goal.returns-then-pending-gt0-clause-by_two
-returns-then-pending-gt0-clause-by_two g c = on-ok c.insert_made_at.result (λ h some same short. by-two c.bucket_at-bucket.result c.args.self.now c.insert_made_at.new.self (h short)) c.insert_made_at.ensures.exact
-
-pub returns-then-list_len-lt32-clause-spread : goal.returns-then-list_len-lt32-clause-spread
-returns-then-list_len-lt32-clause-spread g c = any-ok c.insert_made_at-then-list_len-lt32.result (λ some ne. absurd (ne c.insert_made_at-then-list_len-lt32.ensures.buckets))
-
-pub returns-then-list_len-lt32-clause-all_but_two : goal.returns-then-list_len-lt32-clause-all_but_two
-returns-then-list_len-lt32-clause-all_but_two g c = any-ok c.insert_made_at-then-list_len-lt32.result (λ some ne. absurd (ne c.insert_made_at-then-list_len-lt32.ensures.buckets))
-
-pub returns-then-list_len-lt32-clause-by_two : goal.returns-then-list_len-lt32-clause-by_two
-returns-then-list_len-lt32-clause-by_two g c = on-ok c.insert_made_at-then-list_len-lt32.result (λ h some same short. by-two c.bucket_at-bucket.result c.args.self.now c.insert_made_at-then-list_len-lt32.new.self (h short)) c.insert_made_at-then-list_len-lt32.ensures.exact
-
-pub returns-clause-spread : goal.returns-clause-spread
-returns-clause-spread g c = on-ok c.insert_made_full.result (λ h some ne. h ne) c.insert_made_full.ensures.spread
-
-pub returns-clause-all_but_two : goal.returns-clause-all_but_two
-returns-clause-all_but_two g c =
-    let f = c.insert_made_full.new.self in
-    on-ok c.insert_made_full.result
-    (λ h some ne short.
-    let twice = c.insert_made_full.ensures.growth.doubled some ne in
-    all-but-two _ (bucket_count f) f (omega arith) (h ne short))
-    c.insert_made_full.ensures.spread
-
-pub returns-clause-by_two : goal.returns-clause-by_two
-returns-clause-by_two g c =
-    let p = c.pending.ensures in
-    let q = c.if-pending-gt0.false in
-    any-ok c.insert_made_full.result (λ some same short. let l = c.insert_made_full.ensures.less same in omega arith)
-
-pub returns-then-bucket_count-eq0-clause-once : goal.returns-then-bucket_count-eq0-clause-once
-returns-then-bucket_count-eq0-clause-once g c = λ ready. absurd (let r = ready.0 in let z = c.requires in let m = c.bucket_count.ensures.count in let e = c.if-bucket_count-eq0.true in omega arith)
-
-pub returns-clause-once : goal.returns-clause-once
-returns-clause-once g c =
-    let a = c.args.self.now in
-    let i = c.bucket_at-bucket.result in
-    let hk = key_hash g.H.BuildHasher g.H.Hasher.Hasher g.E.Key.Hash.hash_input a in
-    let n = bucket_number (settings_of a).skipped (bucket_count a) c.args.hash in
-    let left : count_by (λ (e : g.row.E.Denot). bucket_number (settings_of a).skipped (bucket_count a) (hk (g.E.Keyed.key_of e)) == n) (entries a) ≡ length (list_of a i) =
-    ap (λ m. count_by (λ (e : g.row.E.Denot). bucket_number (settings_of a).skipped (bucket_count a) (hk (g.E.Keyed.key_of e)) == m) (entries a)) (sym c.bucket_at-bucket.ensures.value) ∙ count-listed (λ (e : g.row.E.Denot). hk (g.E.Keyed.key_of e)) a i c.keep_lists.ensures.routed in
-    let long = c.list_len.ensures in
-    let full : HasRoomAt hk g.E.Keyed.key_of a c.args.hash → ⊥ = λ room. absurd (let r = room.1 in omega arith) in
-    let none : pending_of a ≡ 0 = let p = c.pending.ensures in let q = c.if-pending-gt0.false in omega arith in
-    λ ready. once-made hk g.E.Keyed.key_of a c.insert_made_full.new.self c.args.hash c.insert_made_full.ensures.growth (λ room. absurd (full room))
-    (λ some w. elim w as (λ _. bucket_count c.insert_made_full.new.self ≡ bucket_count a) [ inl up ↦ absurd (omega arith) | inr tried ↦ c.insert_made_full.ensures.once tried ]) (rw c.requires.hashed ready)
-
-pub returns-then-pending-gt0-clause-undone : goal.returns-then-pending-gt0-clause-undone
-returns-then-pending-gt0-clause-undone g c =
-    let p = c.pending.ensures in
-    any-err c.insert_made_at.result (record { doubled = λ some none. absurd (let q = c.if-pending-gt0.true in omega arith); raised = λ low up. absurd (let z : true ≡ false = sym up ∙ ap (λ (x : Bool × Bool). x.0) c.insert_made_at.ensures.refused ∙ low in cc); unmarked = λ some none. absurd (let q = c.if-pending-gt0.true in omega arith); lowered = λ up low. absurd (let z : true ≡ false = sym up ∙ sym (ap (λ (x : Bool × Bool). x.0) c.insert_made_at.ensures.refused) ∙ low in cc); down = λ some ne. absurd (ne c.insert_made_at.ensures.buckets) })
-
-pub returns-then-list_len-lt32-clause-undone : goal.returns-then-list_len-lt32-clause-undone
-returns-then-list_len-lt32-clause-undone g c =
-    let a = c.args.self.now in
-    let i = c.bucket_at-bucket.result in
-    let hk = key_hash g.H.BuildHasher g.H.Hasher.Hasher g.E.Key.Hash.hash_input a in
-    let n = bucket_number (settings_of a).skipped (bucket_count a) c.args.hash in
-    let left : count_by (λ (e : g.row.E.Denot). bucket_number (settings_of a).skipped (bucket_count a) (hk (g.E.Keyed.key_of e)) == n) (entries a) ≡ length (list_of a i) =
-    ap (λ m. count_by (λ (e : g.row.E.Denot). bucket_number (settings_of a).skipped (bucket_count a) (hk (g.E.Keyed.key_of e)) == m) (entries a)) (sym c.bucket_at-bucket.ensures.value) ∙ count-listed (λ (e : g.row.E.Denot). hk (g.E.Keyed.key_of e)) a i c.keep_lists.ensures.routed in
-    let long = c.list_len.ensures in
-    any-err c.insert_made_at-then-list_len-lt32.result (record { doubled = λ some none full. absurd (let room : HasRoomAt hk g.E.Keyed.key_of a c.args.hash = (some, omega arith) in full (rw c.requires.hashed at room)); raised = λ low up. absurd (let z : true ≡ false = sym up ∙ ap (λ (x : Bool × Bool). x.0) c.insert_made_at-then-list_len-lt32.ensures.refused ∙ low in cc); unmarked = λ some none full. absurd (let room : HasRoomAt hk g.E.Keyed.key_of a c.args.hash = (some, omega arith) in full (rw c.requires.hashed at room)); lowered = λ up low. absurd (let z : true ≡ false = sym up ∙ sym (ap (λ (x : Bool × Bool). x.0) c.insert_made_at-then-list_len-lt32.ensures.refused) ∙ low in cc); down = λ some ne. absurd (ne c.insert_made_at-then-list_len-lt32.ensures.buckets) })
-
-pub returns-clause-undone : goal.returns-clause-undone
-returns-clause-undone g c =
-    let a = c.args.self.now in
-    let i = c.bucket_at-bucket.result in
-    let hk = key_hash g.H.BuildHasher g.H.Hasher.Hasher g.E.Key.Hash.hash_input a in
-    let n = bucket_number (settings_of a).skipped (bucket_count a) c.args.hash in
-    let left : count_by (λ (e : g.row.E.Denot). bucket_number (settings_of a).skipped (bucket_count a) (hk (g.E.Keyed.key_of e)) == n) (entries a) ≡ length (list_of a i) =
-    ap (λ m. count_by (λ (e : g.row.E.Denot). bucket_number (settings_of a).skipped (bucket_count a) (hk (g.E.Keyed.key_of e)) == m) (entries a)) (sym c.bucket_at-bucket.ensures.value) ∙ count-listed (λ (e : g.row.E.Denot). hk (g.E.Keyed.key_of e)) a i c.keep_lists.ensures.routed in
-    let long = c.list_len.ensures in
-    let full : HasRoomAt hk g.E.Keyed.key_of a c.args.hash → ⊥ = λ room. absurd (let r = room.1 in omega arith) in
-    let some : 0 < bucket_count a = let z = c.if-bucket_count-eq0.false in let m = c.bucket_count.ensures.count in omega arith in
-    any-err c.insert_made_full.result (record { doubled = λ _ _ _ half below few down. c.insert_made_full.ensures.due half below down; raised = λ low up. let r = c.insert_made_full.ensures.raised low up in (some, λ room. full (rw c.requires.hashed room), r.0, r.1); unmarked = λ _ _ _ half below. c.insert_made_full.ensures.unmarked half below; lowered = λ up low. (some, c.insert_made_full.ensures.lowered up low); down = λ _ ne. c.insert_made_full.ensures.down ne })
+    record {
+      ok = (search rules);
+      err = (search rules);
+      growth = (search rules);
+      due = (any-ok c.insert_made_full.result (record { doubled = λ _ _ _ half below few down. c.insert_made_full.ensures.due half below down; raised = λ low up. let r = c.insert_made_full.ensures.raised low up in (some, λ room. full (rw c.requires.hashed room), r.0, r.1); unmarked = λ _ _ _ half below. c.insert_made_full.ensures.unmarked half below; lowered = λ up low. (some, c.insert_made_full.ensures.lowered up low); down = λ _ ne. c.insert_made_full.ensures.down ne }));
+      raised = (any-err c.insert_made_full.result (record { raised = λ low up. let r = c.insert_made_full.ensures.raised low up in (some, λ room. full (rw c.requires.hashed room), r.0, r.1) }));
+      undone = (any-err c.insert_made_full.result (record { doubled = λ _ _ _ half below few down. c.insert_made_full.ensures.due half below down; raised = λ low up. let r = c.insert_made_full.ensures.raised low up in (some, λ room. full (rw c.requires.hashed room), r.0, r.1); unmarked = λ _ _ _ half below. c.insert_made_full.ensures.unmarked half below; lowered = λ up low. (some, c.insert_made_full.ensures.lowered up low); down = λ _ ne. c.insert_made_full.ensures.down ne }));
+      first = (search rules);
+      kept = (λ room. absurd (full (rw c.requires.hashed room)));
+      once = (
+          λ ready. once-made hk g.E.Keyed.key_of a c.insert_made_full.new.self c.args.hash c.insert_made_full.ensures.growth (λ room. absurd (full room))
+          (λ some w. elim w as (λ _. bucket_count c.insert_made_full.new.self ≡ bucket_count a) [ inl up ↦ absurd (omega arith) | inr tried ↦ c.insert_made_full.ensures.once tried ]) (rw c.requires.hashed ready));
+      fewer = (search rules);
+      less = (search rules);
+      most = (search rules);
+      grown = (search rules);
+      array = (search rules);
+      settled = (search rules);
+      exact = (
+          any-ok c.insert_made_full.result
+          (λ some same short.
+          let left : pending_of f ≡ 0 = let l = c.insert_made_full.ensures.less same in omega arith in
+          none-left (bucket_number (settings_of a).skipped (bucket_count a) c.args.hash) a (pending_targets f) none (nil_from_length (pending_targets f) (targets-length f ∙ left) ∙ sym (nil_from_length (pending_targets a) (targets-length a ∙ none)))));
+      spread = (on-ok c.insert_made_full.result (λ h some ne. h ne) c.insert_made_full.ensures.spread);
+      all_but_two = (
+          on-ok c.insert_made_full.result
+          (λ h some ne short.
+          let twice = c.insert_made_full.ensures.growth.doubled some ne in
+          all-but-two _ (bucket_count f) f (omega arith) (h ne short))
+          c.insert_made_full.ensures.spread);
+      by_two = (
+          let p = c.pending.ensures in
+          let q = c.if-pending-gt0.false in
+          any-ok c.insert_made_full.result (λ some same short. let l = c.insert_made_full.ensures.less same in omega arith));
+      moved = (
+          any-ok c.insert_made_full.result
+          (λ some same.
+          let left : pending_of f ≡ 0 = let l = c.insert_made_full.ensures.less same in omega arith in
+          moved-nothing (bucket_number (settings_of a).skipped (bucket_count a) c.args.hash) a f none left));
+      unique = (search rules);
+    }

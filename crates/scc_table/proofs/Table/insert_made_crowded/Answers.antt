@@ -1,4 +1,4 @@
-use Rattle.std.proofs.Common.{◌≡◌, ◌∙◌, ◌*◌, ℕ, Bool, true, false, Some, sym, ap, subst, arith}
+use Rattle.std.proofs.Common.{◌≡◌, ◌∙◌, ◌*◌, ℕ, Bool, true, false, Some, sym, ap, subst, arith, rules}
 use Rattle.std.specs.List.{range_with_len}
 use Rattle.scc_contents.specs.Contents.{bucket_count, key_hash, settings_of, waiting_of}
 use Rattle.scc_contents.specs.Routing.{bucket_number}
@@ -66,8 +66,8 @@ double_around-requires-clause-below g c =
     let counted = put-count a i e m p put l in
     omega (arith, c.requires.below)
 
-pub returns-in-Ok-clause-ok : goal.returns-in-Ok-clause-ok
-returns-in-Ok-clause-ok g c =
+pub returns-in-Ok : goal.returns-in-Ok
+returns-in-Ok g c =
     let a = c.args.self.now in
     let m = c.put_made_in.new.self in
     let i = c.args.bucket in
@@ -75,125 +75,68 @@ returns-in-Ok-clause-ok g c =
     let e = g.E.Made.made_of c.args.parts in
     let put = c.in-Ok.ensures.exact in
     let l = c.requires.within in
-    let counted = put-count a i e m p put l in
-    let d = c.double_around.new.self in
-    let q = c.double_around.result in
-    let r = c.double_around.ensures in
-    around-inserted a i e m p put l d q r.rests r.within r.here r.settled
-
-pub returns-in-Ok-clause-doubled : goal.returns-in-Ok-clause-doubled
-returns-in-Ok-clause-doubled g c =
-    let a = c.args.self.now in
-    let m = c.put_made_in.new.self in
-    let i = c.args.bucket in
-    let p = c.in-Ok.place in
-    let e = g.E.Made.made_of c.args.parts in
-    let put = c.in-Ok.ensures.exact in
-    let l = c.requires.within in
-    let counted = put-count a i e m p put l in
-    let d = c.double_around.new.self in
-    let q = c.double_around.result in
-    let r = c.double_around.ensures in
-    λ ne. r.doubled (λ z. ne (z ∙ counted)) ∙ ap (λ n. 2 * n) counted
-
-pub returns-in-Ok-clause-due : goal.returns-in-Ok-clause-due
-returns-in-Ok-clause-due g c =
-    let a = c.args.self.now in
-    let m = c.put_made_in.new.self in
-    let i = c.args.bucket in
-    let p = c.in-Ok.place in
-    let e = g.E.Made.made_of c.args.parts in
-    let put = c.in-Ok.ensures.exact in
-    let l = c.requires.within in
-    let counted = put-count a i e m p put l in
-    let d = c.double_around.new.self in
-    let q = c.double_around.result in
-    let r = c.double_around.ensures in
-    λ down. r.doubled (r.due down) ∙ ap (λ n. 2 * n) counted
-
-pub returns-in-Ok-clause-none : goal.returns-in-Ok-clause-none
-returns-in-Ok-clause-none g c =
-    let a = c.args.self.now in
-    let m = c.put_made_in.new.self in
-    let i = c.args.bucket in
-    let p = c.in-Ok.place in
-    let e = g.E.Made.made_of c.args.parts in
-    let put = c.in-Ok.ensures.exact in
-    let l = c.requires.within in
-    let counted = put-count a i e m p put l in
-    let d = c.double_around.new.self in
-    let q = c.double_around.result in
-    let r = c.double_around.ensures in
-    λ z. r.none (z ∙ sym counted)
-
-pub returns-in-Ok-clause-most : goal.returns-in-Ok-clause-most
-returns-in-Ok-clause-most g c =
-    let a = c.args.self.now in
-    let m = c.put_made_in.new.self in
-    let i = c.args.bucket in
-    let p = c.in-Ok.place in
-    let e = g.E.Made.made_of c.args.parts in
-    let put = c.in-Ok.ensures.exact in
-    let l = c.requires.within in
-    let counted = put-count a i e m p put l in
-    let d = c.double_around.new.self in
-    let q = c.double_around.result in
-    let r = c.double_around.ensures in
-    λ ne. r.most (λ z. ne (z ∙ counted))
-
-pub returns-in-Ok-clause-spread : goal.returns-in-Ok-clause-spread
-returns-in-Ok-clause-spread g c =
-    let a = c.args.self.now in
-    let m = c.put_made_in.new.self in
-    let i = c.args.bucket in
-    let p = c.in-Ok.place in
-    let e = g.E.Made.made_of c.args.parts in
-    let put = c.in-Ok.ensures.exact in
-    let l = c.requires.within in
-    let counted = put-count a i e m p put l in
-    let d = c.double_around.new.self in
-    let q = c.double_around.result in
-    let r = c.double_around.ensures in
-    let hash = λ (x : g.row.E.Denot). key_hash g.H.BuildHasher g.H.Hasher.Hasher g.E.Key.Hash.hash_input a (g.E.Keyed.key_of x) in
-    let same = hash-same g.H.BuildHasher g.H.Hasher.Hasher g.E.Key.Hash.hash_input a m put.settings in
-    let at : q.bucket ≡ bucket_number (settings_of a).skipped (bucket_count d) c.args.hash = r.routed ∙ ap (λ s. bucket_number s.skipped (bucket_count d) c.args.hash) put.settings in
-    λ ne short.
-    let few : AreShortBut hash (bucket_count d) q.bucket m = around-short a i e m p put l hash (bucket_count d) q.bucket (at ∙ ap (bucket_number (settings_of a).skipped (bucket_count d)) c.requires.hashed) short in
-    r.spread (λ z. ne (z ∙ counted)) (subst (λ (h : g.row.E-Key.Denot → ℕ). AreShortBut (λ x. h (g.E.Keyed.key_of x)) (bucket_count d) q.bucket m) (sym same) few) ∙ ap (λ z. left_after z (range_with_len 0 (bucket_count d))) at
-
-pub returns-in-Ok-clause-settled : goal.returns-in-Ok-clause-settled
-returns-in-Ok-clause-settled g c =
-    let a = c.args.self.now in
-    let m = c.put_made_in.new.self in
-    let i = c.args.bucket in
-    let p = c.in-Ok.place in
-    let e = g.E.Made.made_of c.args.parts in
-    let put = c.in-Ok.ensures.exact in
-    let l = c.requires.within in
-    let counted = put-count a i e m p put l in
     let d = c.double_around.new.self in
     let q = c.double_around.result in
     let r = c.double_around.ensures in
     let at : q.bucket ≡ bucket_number (settings_of a).skipped (bucket_count d) c.args.hash = r.routed ∙ ap (λ s. bucket_number s.skipped (bucket_count d) c.args.hash) put.settings in
-    ap (waits_at (waiting_of d)) (sym at) ∙ r.settled
+    record {
+      ok = (
+          let counted = put-count a i e m p put l in
+          around-inserted a i e m p put l d q r.rests r.within r.here r.settled);
+      err = (search rules);
+      up = (search rules);
+      doubled = (
+          let counted = put-count a i e m p put l in
+          λ ne. r.doubled (λ z. ne (z ∙ counted)) ∙ ap (λ n. 2 * n) counted);
+      due = (
+          let counted = put-count a i e m p put l in
+          λ down. r.doubled (r.due down) ∙ ap (λ n. 2 * n) counted);
+      lowered = (
+          let counted = put-count c.args.self.now c.args.bucket (g.E.Made.made_of c.args.parts) c.put_made_in.new.self c.in-Ok.place c.in-Ok.ensures.exact c.requires.within in
+          λ up low z. c.double_around.ensures.due low (z ∙ sym counted));
+      fallen = (
+          let counted = put-count c.args.self.now c.args.bucket (g.E.Made.made_of c.args.parts) c.put_made_in.new.self c.in-Ok.place c.in-Ok.ensures.exact c.requires.within in
+          λ ne. c.double_around.ensures.down (λ z. ne (z ∙ counted)));
+      unmarked = (search rules);
+      none = (
+          let counted = put-count a i e m p put l in
+          λ z. r.none (z ∙ sym counted));
+      most = (
+          let counted = put-count a i e m p put l in
+          λ ne. r.most (λ z. ne (z ∙ counted)));
+      spread = (
+          let counted = put-count a i e m p put l in
+          let hash = λ (x : g.row.E.Denot). key_hash g.H.BuildHasher g.H.Hasher.Hasher g.E.Key.Hash.hash_input a (g.E.Keyed.key_of x) in
+          let same = hash-same g.H.BuildHasher g.H.Hasher.Hasher g.E.Key.Hash.hash_input a m put.settings in
+          λ ne short.
+          let few : AreShortBut hash (bucket_count d) q.bucket m = around-short a i e m p put l hash (bucket_count d) q.bucket (at ∙ ap (bucket_number (settings_of a).skipped (bucket_count d)) c.requires.hashed) short in
+          r.spread (λ z. ne (z ∙ counted)) (subst (λ (h : g.row.E-Key.Denot → ℕ). AreShortBut (λ x. h (g.E.Keyed.key_of x)) (bucket_count d) q.bucket m) (sym same) few) ∙ ap (λ z. left_after z (range_with_len 0 (bucket_count d))) at);
+      settled = (
+          let counted = put-count a i e m p put l in
+          ap (waits_at (waiting_of d)) (sym at) ∙ r.settled);
+      unique = (search rules);
+    }
 
-pub returns-in-Err-clause-err : goal.returns-in-Err-clause-err
-returns-in-Err-clause-err g c =
-    let z = c.in-Err.ensures.stays in
-    let lists = c.note.ensures.lists ∙ z.lists in
-    (c.in-Err.ensures.err, unchanged-same c.args.self.now c.note.new.self lists (c.note.ensures.settings ∙ z.settings))
-
-pub returns-in-Err-clause-doubled : goal.returns-in-Err-clause-doubled
-returns-in-Err-clause-doubled g c = λ ne. absurd (ne (count-same c.args.self.now c.note.new.self (c.note.ensures.lists ∙ c.in-Err.ensures.stays.lists)))
-
-pub returns-in-Err-clause-due : goal.returns-in-Err-clause-due
-returns-in-Err-clause-due g c = λ down. absurd (let z : true ≡ false = sym (ap (λ (x : Bool × Bool). x.0) c.note.ensures.noted) ∙ down in cc)
-
-pub returns-in-Err-clause-none : goal.returns-in-Err-clause-none
-returns-in-Err-clause-none g c = λ same. pending-same c.args.self.now c.note.new.self (c.note.ensures.waiting ∙ c.put_made_in.ensures.waiting) ∙ c.requires.pending
-
-pub returns-in-Err-clause-most : goal.returns-in-Err-clause-most
-returns-in-Err-clause-most g c = λ ne. absurd (ne (count-same c.args.self.now c.note.new.self (c.note.ensures.lists ∙ c.in-Err.ensures.stays.lists)))
+pub returns-in-Err : goal.returns-in-Err
+returns-in-Err g c =
+    record {
+      ok = (search rules);
+      err = (
+          let z = c.in-Err.ensures.stays in
+          let lists = c.note.ensures.lists ∙ z.lists in
+          (c.in-Err.ensures.err, unchanged-same c.args.self.now c.note.new.self lists (c.note.ensures.settings ∙ z.settings)));
+      up = (search rules);
+      doubled = (λ ne. absurd (ne (count-same c.args.self.now c.note.new.self (c.note.ensures.lists ∙ c.in-Err.ensures.stays.lists))));
+      due = (λ down. absurd (let z : true ≡ false = sym (ap (λ (x : Bool × Bool). x.0) c.note.ensures.noted) ∙ down in cc));
+      lowered = (λ up low. absurd (let z : true ≡ false = sym (ap (λ (x : Bool × Bool). x.0) c.note.ensures.noted) ∙ low in cc));
+      fallen = (λ ne. absurd (ne (count-same c.args.self.now c.note.new.self (c.note.ensures.lists ∙ c.in-Err.ensures.stays.lists))));
+      unmarked = (search rules);
+      none = (λ same. pending-same c.args.self.now c.note.new.self (c.note.ensures.waiting ∙ c.put_made_in.ensures.waiting) ∙ c.requires.pending);
+      most = (λ ne. absurd (ne (count-same c.args.self.now c.note.new.self (c.note.ensures.lists ∙ c.in-Err.ensures.stays.lists))));
+      spread = (search rules);
+      settled = (search rules);
+      unique = (search rules);
+    }
 
 pub put_made_in-requires-clause-settled : goal.put_made_in-requires-clause-settled
 put_made_in-requires-clause-settled g c = settled-all c.args.self.now c.requires.pending c.args.bucket
@@ -207,19 +150,3 @@ pub double_around-requires-clause-flags : goal.double_around-requires-clause-fla
 double_around-requires-clause-flags g c =
     let counted = put-count c.args.self.now c.args.bucket (g.E.Made.made_of c.args.parts) c.put_made_in.new.self c.in-Ok.place c.in-Ok.ensures.exact c.requires.within in
     rw counted c.requires.flags
-
-pub returns-in-Ok-clause-lowered : goal.returns-in-Ok-clause-lowered
-returns-in-Ok-clause-lowered g c =
-    let counted = put-count c.args.self.now c.args.bucket (g.E.Made.made_of c.args.parts) c.put_made_in.new.self c.in-Ok.place c.in-Ok.ensures.exact c.requires.within in
-    λ up low z. c.double_around.ensures.due low (z ∙ sym counted)
-
-pub returns-in-Ok-clause-fallen : goal.returns-in-Ok-clause-fallen
-returns-in-Ok-clause-fallen g c =
-    let counted = put-count c.args.self.now c.args.bucket (g.E.Made.made_of c.args.parts) c.put_made_in.new.self c.in-Ok.place c.in-Ok.ensures.exact c.requires.within in
-    λ ne. c.double_around.ensures.down (λ z. ne (z ∙ counted))
-
-pub returns-in-Err-clause-lowered : goal.returns-in-Err-clause-lowered
-returns-in-Err-clause-lowered g c = λ up low. absurd (let z : true ≡ false = sym (ap (λ (x : Bool × Bool). x.0) c.note.ensures.noted) ∙ low in cc)
-
-pub returns-in-Err-clause-fallen : goal.returns-in-Err-clause-fallen
-returns-in-Err-clause-fallen g c = λ ne. absurd (ne (count-same c.args.self.now c.note.new.self (c.note.ensures.lists ∙ c.in-Err.ensures.stays.lists)))

@@ -1,4 +1,4 @@
-use Rattle.std.proofs.Common.{◌≡◌, ◌∙◌, ℕ, None, List, map, sym, ap, subst, arith}
+use Rattle.std.proofs.Common.{◌≡◌, ◌∙◌, ℕ, None, List, map, sym, ap, subst, arith, rules}
 use Rattle.std.specs.List.{position, IsDistinct}
 use Rattle.scc_contents.specs.Contents.{bucket_count, key_hash, settings_of}
 use Rattle.scc_table.specs.TwoArrays.{IsTable, together}
@@ -70,8 +70,8 @@ invariant_of-self g c =
     subst (λ (h : g.row.E-Key.Denot → ℕ). IsTable g.E.Key.PartialEq.eq g.E.Keyed.key_of h new ws olds t.skipped t.pending t.next t.left 0) (sym same)
     (fields-lone g.E.Key.PartialEq.eq g.E.Keyed.key_of hk cur new ws olds t.skipped t.pending t.next t.left t.left_overflow inv none kept (omega (arith, few.value, few.most)) c.insert_made_first-placed.ensures.unique)
 
-pub returns-clause-ok : goal.returns-clause-ok
-returns-clause-ok g c =
+pub returns : goal.returns
+returns g c =
     let t = c.self.inside in
     let cur = t.current in
     let ws = t.waiting.items in
@@ -90,122 +90,12 @@ returns-clause-ok g c =
     let had = settings-seen hash cur ws olds a view in
     let after = lists-alone later new ws olds none in
     let has = settings-together later new ws olds in
-    if-ok c.insert_made_first-placed.result (λ p i. over-inserted a cur new d before had after has (waiting-together later new ws olds ∙ none) (g.E.Made.made_of c.args.parts) p i) c.insert_made_first-placed.ensures.ok
-
-pub returns-clause-err : goal.returns-clause-err
-returns-clause-err g c =
-    let t = c.self.inside in
-    let cur = t.current in
-    let ws = t.waiting.items in
-    let olds = t.draining in
-    let a = c.args.self.now in
-    let new = c.insert_made_first-placed.new.self in
-    let inv = c.self.invariant in
-    let hk = key_hash g.H.BuildHasher g.H.Hasher.Hasher g.E.Key.Hash.hash_input cur in
-    let hash = λ (e : g.row.E.Denot). hk (g.E.Keyed.key_of e) in
-    let view = c.self.view_is in
-    let count = count-seen hash cur ws olds a view inv.arrays.flags in
-    let none = no-flags ws (bucket_count cur) inv.arrays.flags (sym count ∙ c.requires.none) in
-    let later = λ (e : g.row.E.Denot). key_hash g.H.BuildHasher g.H.Hasher.Hasher g.E.Key.Hash.hash_input new (g.E.Keyed.key_of e) in
-    let d = together later new ws olds in
-    let before = lists-seen hash cur ws olds a view none in
-    let had = settings-seen hash cur ws olds a view in
-    let after = lists-alone later new ws olds none in
-    let has = settings-together later new ws olds in
-    if-err c.insert_made_first-placed.result (λ p u. (u.0, over-unchanged a cur new d before had after has u.1)) c.insert_made_first-placed.ensures.err
-
-pub returns-clause-growth : goal.returns-clause-growth
-returns-clause-growth g c =
-    let t = c.self.inside in
-    let cur = t.current in
-    let ws = t.waiting.items in
-    let olds = t.draining in
-    let a = c.args.self.now in
-    let new = c.insert_made_first-placed.new.self in
-    let inv = c.self.invariant in
-    let hk = key_hash g.H.BuildHasher g.H.Hasher.Hasher g.E.Key.Hash.hash_input cur in
-    let hash = λ (e : g.row.E.Denot). hk (g.E.Keyed.key_of e) in
-    let view = c.self.view_is in
-    let count = count-seen hash cur ws olds a view inv.arrays.flags in
-    let none = no-flags ws (bucket_count cur) inv.arrays.flags (sym count ∙ c.requires.none) in
-    let later = λ (e : g.row.E.Denot). key_hash g.H.BuildHasher g.H.Hasher.Hasher g.E.Key.Hash.hash_input new (g.E.Keyed.key_of e) in
-    let d = together later new ws olds in
-    let before = lists-seen hash cur ws olds a view none in
-    let had = settings-seen hash cur ws olds a view in
-    let after = lists-alone later new ws olds none in
-    let has = settings-together later new ws olds in
-    over-grows a cur new d before had after has c.requires.none c.insert_made_first-placed.ensures.growth
-
-pub returns-clause-first : goal.returns-clause-first
-returns-clause-first g c =
-    let t = c.self.inside in
-    let cur = t.current in
-    let ws = t.waiting.items in
-    let olds = t.draining in
-    let a = c.args.self.now in
-    let new = c.insert_made_first-placed.new.self in
-    let inv = c.self.invariant in
-    let hk = key_hash g.H.BuildHasher g.H.Hasher.Hasher g.E.Key.Hash.hash_input cur in
-    let hash = λ (e : g.row.E.Denot). hk (g.E.Keyed.key_of e) in
-    let view = c.self.view_is in
-    let count = count-seen hash cur ws olds a view inv.arrays.flags in
-    let none = no-flags ws (bucket_count cur) inv.arrays.flags (sym count ∙ c.requires.none) in
-    let later = λ (e : g.row.E.Denot). key_hash g.H.BuildHasher g.H.Hasher.Hasher g.E.Key.Hash.hash_input new (g.E.Keyed.key_of e) in
-    let d = together later new ws olds in
-    let before = lists-seen hash cur ws olds a view none in
-    let had = settings-seen hash cur ws olds a view in
-    let after = lists-alone later new ws olds none in
-    let has = settings-together later new ws olds in
-    on-ok c.insert_made_first-placed.result (λ f. over-first a cur new d before had after has f) c.insert_made_first-placed.ensures.first
-
-pub returns-clause-waiting : goal.returns-clause-waiting
-returns-clause-waiting g c =
-    let t = c.self.inside in
-    let cur = t.current in
-    let ws = t.waiting.items in
-    let olds = t.draining in
-    let a = c.args.self.now in
-    let new = c.insert_made_first-placed.new.self in
-    let inv = c.self.invariant in
-    let hk = key_hash g.H.BuildHasher g.H.Hasher.Hasher g.E.Key.Hash.hash_input cur in
-    let hash = λ (e : g.row.E.Denot). hk (g.E.Keyed.key_of e) in
-    let view = c.self.view_is in
-    let count = count-seen hash cur ws olds a view inv.arrays.flags in
-    let none = no-flags ws (bucket_count cur) inv.arrays.flags (sym count ∙ c.requires.none) in
-    let later = λ (e : g.row.E.Denot). key_hash g.H.BuildHasher g.H.Hasher.Hasher g.E.Key.Hash.hash_input new (g.E.Keyed.key_of e) in
-    let d = together later new ws olds in
-    let before = lists-seen hash cur ws olds a view none in
-    let had = settings-seen hash cur ws olds a view in
-    let after = lists-alone later new ws olds none in
-    let has = settings-together later new ws olds in
-    waiting-together later new ws olds ∙ none
-
-pub returns-clause-noted : goal.returns-clause-noted
-returns-clause-noted g c =
-    let t = c.self.inside in
-    let cur = t.current in
-    let ws = t.waiting.items in
-    let olds = t.draining in
-    let a = c.args.self.now in
-    let new = c.insert_made_first-placed.new.self in
-    let hk = key_hash g.H.BuildHasher g.H.Hasher.Hasher g.E.Key.Hash.hash_input cur in
-    let hash = λ (e : g.row.E.Denot). hk (g.E.Keyed.key_of e) in
-    let later = λ (e : g.row.E.Denot). key_hash g.H.BuildHasher g.H.Hasher.Hasher g.E.Key.Hash.hash_input new (g.E.Keyed.key_of e) in
-    refused-together later new ws olds ∙ c.insert_made_first-placed.ensures.noted ∙ sym (refused-seen hash cur ws olds a c.self.view_is)
-
-pub returns-clause-unique : goal.returns-clause-unique
-returns-clause-unique g c =
-    let t = c.self.inside in
-    let cur = t.current in
-    let ws = t.waiting.items in
-    let olds = t.draining in
-    let a = c.args.self.now in
-    let new = c.insert_made_first-placed.new.self in
-    let inv = c.self.invariant in
-    let hk = key_hash g.H.BuildHasher g.H.Hasher.Hasher g.E.Key.Hash.hash_input cur in
-    let hash = λ (e : g.row.E.Denot). hk (g.E.Keyed.key_of e) in
-    let view = c.self.view_is in
-    let count = count-seen hash cur ws olds a view inv.arrays.flags in
-    let none = no-flags ws (bucket_count cur) inv.arrays.flags (sym count ∙ c.requires.none) in
-    let later = λ (e : g.row.E.Denot). key_hash g.H.BuildHasher g.H.Hasher.Hasher g.E.Key.Hash.hash_input new (g.E.Keyed.key_of e) in
-    subst (λ (es : List g.row.E.Denot). IsDistinct g.E.Key.PartialEq.eq (map g.E.Keyed.key_of es)) (sym (entries-alone later new ws olds none)) c.insert_made_first-placed.ensures.unique
+    record {
+      ok = (if-ok c.insert_made_first-placed.result (λ p i. over-inserted a cur new d before had after has (waiting-together later new ws olds ∙ none) (g.E.Made.made_of c.args.parts) p i) c.insert_made_first-placed.ensures.ok);
+      err = (if-err c.insert_made_first-placed.result (λ p u. (u.0, over-unchanged a cur new d before had after has u.1)) c.insert_made_first-placed.ensures.err);
+      growth = (over-grows a cur new d before had after has c.requires.none c.insert_made_first-placed.ensures.growth);
+      noted = (refused-together later new ws olds ∙ c.insert_made_first-placed.ensures.noted ∙ sym (refused-seen hash cur ws olds a c.self.view_is));
+      first = (on-ok c.insert_made_first-placed.result (λ f. over-first a cur new d before had after has f) c.insert_made_first-placed.ensures.first);
+      waiting = (waiting-together later new ws olds ∙ none);
+      unique = (subst (λ (es : List g.row.E.Denot). IsDistinct g.E.Key.PartialEq.eq (map g.E.Keyed.key_of es)) (sym (entries-alone later new ws olds none)) c.insert_made_first-placed.ensures.unique);
+    }

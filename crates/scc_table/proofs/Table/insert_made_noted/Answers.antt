@@ -1,4 +1,4 @@
-use Rattle.std.proofs.Common.{◌≡◌, ◌∙◌, None, inl, sym, ap, subst, arith}
+use Rattle.std.proofs.Common.{◌≡◌, ◌∙◌, None, inl, sym, ap, subst, arith, rules}
 use Rattle.std.specs.List.{position}
 use Rattle.scc_contents.specs.Contents.{bucket_count, settings_of}
 use Rattle.scc_contents.specs.Routing.{bucket_number}
@@ -21,24 +21,20 @@ pub insert_made_at-requires-clause-absent : goal.insert_made_at-requires-clause-
 insert_made_at-requires-clause-absent g c =
     subst (λ es. position (λ e. g.E.Key.PartialEq.eq (g.E.Keyed.key_of (g.E.Made.made_of c.args.parts)) (g.E.Keyed.key_of e)) es ≡ None) (sym (entries-same c.args.self.now c.note.new.self c.note.ensures.lists)) c.requires.absent
 
-pub returns-clause-ok : goal.returns-clause-ok
-returns-clause-ok g c =
+pub returns : goal.returns
+returns g c =
     let a = c.args.self.now in
     let d = c.note.new.self in
-    let f = c.insert_made_at.new.self in
-    if-ok c.insert_made_at.result (λ p h. rests-inserted a d f (g.E.Made.made_of c.args.parts) (spot_of f p) (inl (unchanged-same a d c.note.ensures.lists c.note.ensures.settings)) h) c.insert_made_at.ensures.ok
-
-pub returns-clause-err : goal.returns-clause-err
-returns-clause-err g c =
-    let a = c.args.self.now in
-    let d = c.note.new.self in
-    if-err c.insert_made_at.result (λ e h. (h.0, record { exact = h.1.exact ∙ entries-same a d c.note.ensures.lists; buckets = h.1.buckets ∙ count-same a d c.note.ensures.lists; settings = h.1.settings ∙ c.note.ensures.settings })) c.insert_made_at.ensures.err
-
-pub returns-clause-buckets : goal.returns-clause-buckets
-returns-clause-buckets g c = c.insert_made_at.ensures.buckets ∙ count-same c.args.self.now c.note.new.self c.note.ensures.lists
-
-pub returns-clause-fewer : goal.returns-clause-fewer
-returns-clause-fewer g c = λ k up. ap (λ w. waits_at w k) (sym c.note.ensures.waiting) ∙ c.insert_made_at.ensures.fewer k up
-
-pub returns-clause-less : goal.returns-clause-less
-returns-clause-less g c = let n = pending-same c.args.self.now c.note.new.self c.note.ensures.waiting in omega (arith, c.insert_made_at.ensures.less)
+    record {
+      ok = (
+          let f = c.insert_made_at.new.self in
+          if-ok c.insert_made_at.result (λ p h. rests-inserted a d f (g.E.Made.made_of c.args.parts) (spot_of f p) (inl (unchanged-same a d c.note.ensures.lists c.note.ensures.settings)) h) c.insert_made_at.ensures.ok);
+      err = (if-err c.insert_made_at.result (λ e h. (h.0, record { exact = h.1.exact ∙ entries-same a d c.note.ensures.lists; buckets = h.1.buckets ∙ count-same a d c.note.ensures.lists; settings = h.1.settings ∙ c.note.ensures.settings })) c.insert_made_at.ensures.err);
+      buckets = (c.insert_made_at.ensures.buckets ∙ count-same c.args.self.now c.note.new.self c.note.ensures.lists);
+      up = (search rules);
+      unmarked = (search rules);
+      fewer = (λ k up. ap (λ w. waits_at w k) (sym c.note.ensures.waiting) ∙ c.insert_made_at.ensures.fewer k up);
+      less = (let n = pending-same c.args.self.now c.note.new.self c.note.ensures.waiting in omega (arith, c.insert_made_at.ensures.less));
+      settled = (search rules);
+      unique = (search rules);
+    }

@@ -1,4 +1,4 @@
-use Rattle.std.proofs.Common.{◌≡◌, ◌∙◌, None, sym, ap, subst, arith}
+use Rattle.std.proofs.Common.{◌≡◌, ◌∙◌, None, sym, ap, subst, arith, rules}
 use Rattle.std.specs.List.{position}
 use Rattle.scc_contents.specs.Contents.{bucket_count, settings_of}
 use Rattle.scc_contents.specs.Routing.{bucket_number}
@@ -21,32 +21,22 @@ pub insert_made_settled-requires-clause-absent : goal.insert_made_settled-requir
 insert_made_settled-requires-clause-absent g c =
     subst (λ es. position (λ e. g.E.Key.PartialEq.eq (g.E.Keyed.key_of (g.E.Made.made_of c.args.parts)) (g.E.Keyed.key_of e)) es ≡ None) (sym (entries-same c.args.self.now c.relocate.new.self c.in-Ok.ensures.ok.lists)) c.requires.absent
 
-pub returns-in-Ok-clause-ok : goal.returns-in-Ok-clause-ok
-returns-in-Ok-clause-ok g c =
-    if-ok c.insert_made_settled.result (λ p h. relocated-inserted c.args.bucket c.args.self.now c.relocate.new.self c.in-Ok.ensures.ok (g.E.Made.made_of c.args.parts) c.insert_made_settled.new.self p h) c.insert_made_settled.ensures.ok
-
-pub returns-in-Ok-clause-err : goal.returns-in-Ok-clause-err
-returns-in-Ok-clause-err g c =
+pub returns-in-Ok : goal.returns-in-Ok
+returns-in-Ok g c =
     let a = c.args.self.now in
     let b = c.relocate.new.self in
     let r = c.in-Ok.ensures.ok in
-    if-err c.insert_made_settled.result (λ e h. (h.0, record { exact = h.1.exact ∙ entries-same a b r.lists; buckets = h.1.buckets ∙ count-same a b r.lists; settings = h.1.settings ∙ r.settings })) c.insert_made_settled.ensures.err
-
-pub returns-in-Ok-clause-buckets : goal.returns-in-Ok-clause-buckets
-returns-in-Ok-clause-buckets g c = c.insert_made_settled.ensures.buckets ∙ count-same c.args.self.now c.relocate.new.self c.in-Ok.ensures.ok.lists
-
-pub returns-in-Ok-clause-fewer : goal.returns-in-Ok-clause-fewer
-returns-in-Ok-clause-fewer g c = λ k up. relocated-fewer c.args.bucket c.args.self.now c.relocate.new.self c.in-Ok.ensures.ok k (c.insert_made_settled.ensures.fewer k up)
-
-pub returns-in-Ok-clause-moved : goal.returns-in-Ok-clause-moved
-returns-in-Ok-clause-moved g c =
-    let a = c.args.self.now in
-    let b = c.relocate.new.self in
-    on-ok c.insert_made_settled.result (λ h. moved-relocated c.args.bucket a b c.in-Ok.ensures.ok c.insert_made_settled.new.self h) c.insert_made_settled.ensures.moved
-
-pub returns-in-Ok-clause-exact : goal.returns-in-Ok-clause-exact
-returns-in-Ok-clause-exact g c =
-    let a = c.args.self.now in
-    let b = c.relocate.new.self in
-    let r = c.in-Ok.ensures.ok in
-    on-ok c.insert_made_settled.result (λ h short. relocated-left c.args.bucket a b r (pending_targets c.insert_made_settled.new.self) (h (relocated-short c.args.bucket a b r short))) c.insert_made_settled.ensures.exact
+    record {
+      ok = (if-ok c.insert_made_settled.result (λ p h. relocated-inserted c.args.bucket c.args.self.now c.relocate.new.self c.in-Ok.ensures.ok (g.E.Made.made_of c.args.parts) c.insert_made_settled.new.self p h) c.insert_made_settled.ensures.ok);
+      err = (if-err c.insert_made_settled.result (λ e h. (h.0, record { exact = h.1.exact ∙ entries-same a b r.lists; buckets = h.1.buckets ∙ count-same a b r.lists; settings = h.1.settings ∙ r.settings })) c.insert_made_settled.ensures.err);
+      full = (search rules);
+      buckets = (c.insert_made_settled.ensures.buckets ∙ count-same c.args.self.now c.relocate.new.self c.in-Ok.ensures.ok.lists);
+      refused = (search rules);
+      fewer = (λ k up. relocated-fewer c.args.bucket c.args.self.now c.relocate.new.self c.in-Ok.ensures.ok k (c.insert_made_settled.ensures.fewer k up));
+      less = (search rules);
+      most = (search rules);
+      settled = (search rules);
+      moved = (on-ok c.insert_made_settled.result (λ h. moved-relocated c.args.bucket a b c.in-Ok.ensures.ok c.insert_made_settled.new.self h) c.insert_made_settled.ensures.moved);
+      exact = (on-ok c.insert_made_settled.result (λ h short. relocated-left c.args.bucket a b r (pending_targets c.insert_made_settled.new.self) (h (relocated-short c.args.bucket a b r short))) c.insert_made_settled.ensures.exact);
+      unique = (search rules);
+    }

@@ -1,4 +1,4 @@
-use Rattle.std.proofs.Common.{◌≡◌, ◌==◌, ◌∙◌, ◌<◌, length, true, false, sym, ap, subst, arith, Bool}
+use Rattle.std.proofs.Common.{◌≡◌, ◌==◌, ◌∙◌, ◌<◌, length, true, false, sym, ap, subst, arith, Bool, rules}
 use Rattle.std.specs.List.{count_by}
 use Rattle.scc_contents.specs.Contents.{HasRoomAt, bucket_count, entries, key_hash, list_of, settings_of}
 use Rattle.scc_contents.specs.Routing.{bucket_number}
@@ -9,35 +9,49 @@ use Rattle.scc_table.proofs.Same.{on-ok}
 use Rattle.scc_table.proofs.Targets.{by-two}
 use Rattle.scc_table.proofs.Table.insert_new.Goals as goal
 
-pub returns-then-list_len-lt32-clause-due : goal.returns-then-list_len-lt32-clause-due
-returns-then-list_len-lt32-clause-due g c =
-    let a = c.args.self.now in
-    let i = c.bucket_at-bucket.result in
-    let hk = key_hash g.H.BuildHasher g.H.Hasher.Hasher g.E.Key.Hash.hash_input a in
-    let n = bucket_number (settings_of a).skipped (bucket_count a) c.args.hash in
-    let left : count_by (λ (e : g.row.E.Denot). bucket_number (settings_of a).skipped (bucket_count a) (hk (g.E.Keyed.key_of e)) == n) (entries a) ≡ length (list_of a i) =
-    ap (λ m. count_by (λ (e : g.row.E.Denot). bucket_number (settings_of a).skipped (bucket_count a) (hk (g.E.Keyed.key_of e)) == m) (entries a)) (sym c.bucket_at-bucket.ensures.value) ∙ count-listed (λ (e : g.row.E.Denot). hk (g.E.Keyed.key_of e)) a i c.keep_lists.ensures.routed in
-    let long = c.list_len.ensures in
+pub returns-then-list_len-lt32 : goal.returns-then-list_len-lt32
+returns-then-list_len-lt32 g c =
     record {
-      doubled = λ some settled full half below few down.
-          let had : HasRoomAt hk g.E.Keyed.key_of a c.args.hash = (some, omega arith) in
-          absurd (full (rw c.requires.hashed at had));
-      raised = λ low up. absurd (let z : false ≡ true = sym low ∙ sym (ap (λ (x : Bool × Bool). x.0) c.insert_at.ensures.refused) ∙ up in cc);
-      unmarked = λ some settled full half below.
-          let had : HasRoomAt hk g.E.Keyed.key_of a c.args.hash = (some, omega arith) in
-          absurd (full (rw c.requires.hashed at had));
-      lowered = λ up low. absurd (let z : true ≡ false = sym up ∙ sym (ap (λ (x : Bool × Bool). x.0) c.insert_at.ensures.refused) ∙ low in cc);
-      down = λ some ne. absurd (ne c.insert_at.ensures.buckets);
+      ok = (search rules);
+      err = (search rules);
+      full = (search rules);
+      growth = (search rules);
+      due = (
+          let a = c.args.self.now in
+          let i = c.bucket_at-bucket.result in
+          let hk = key_hash g.H.BuildHasher g.H.Hasher.Hasher g.E.Key.Hash.hash_input a in
+          let n = bucket_number (settings_of a).skipped (bucket_count a) c.args.hash in
+          let left : count_by (λ (e : g.row.E.Denot). bucket_number (settings_of a).skipped (bucket_count a) (hk (g.E.Keyed.key_of e)) == n) (entries a) ≡ length (list_of a i) =
+          ap (λ m. count_by (λ (e : g.row.E.Denot). bucket_number (settings_of a).skipped (bucket_count a) (hk (g.E.Keyed.key_of e)) == m) (entries a)) (sym c.bucket_at-bucket.ensures.value) ∙ count-listed (λ (e : g.row.E.Denot). hk (g.E.Keyed.key_of e)) a i c.keep_lists.ensures.routed in
+          let long = c.list_len.ensures in
+          record {
+            doubled = λ some settled full half below few down.
+                let had : HasRoomAt hk g.E.Keyed.key_of a c.args.hash = (some, omega arith) in
+                absurd (full (rw c.requires.hashed at had));
+            raised = λ low up. absurd (let z : false ≡ true = sym low ∙ sym (ap (λ (x : Bool × Bool). x.0) c.insert_at.ensures.refused) ∙ up in cc);
+            unmarked = λ some settled full half below.
+                let had : HasRoomAt hk g.E.Keyed.key_of a c.args.hash = (some, omega arith) in
+                absurd (full (rw c.requires.hashed at had));
+            lowered = λ up low. absurd (let z : true ≡ false = sym up ∙ sym (ap (λ (x : Bool × Bool). x.0) c.insert_at.ensures.refused) ∙ low in cc);
+            down = λ some ne. absurd (ne c.insert_at.ensures.buckets);
+          });
+      first = (search rules);
+      none = (search rules);
+      kept = (search rules);
+      once = (search rules);
+      fewer = (search rules);
+      less = (search rules);
+      most = (search rules);
+      grown = (search rules);
+      array = (search rules);
+      settled = (search rules);
+      exact = (search rules);
+      spread = (on-ok c.insert_at.result (λ h some ne. absurd (ne c.insert_at.ensures.buckets)) c.insert_at.ensures.exact);
+      all_but_two = (on-ok c.insert_at.result (λ h some ne. absurd (ne c.insert_at.ensures.buckets)) c.insert_at.ensures.exact);
+      by_two = (on-ok c.insert_at.result (λ h some kept short. by-two c.bucket_at-bucket.result c.args.self.now c.insert_at.new.self (h short)) c.insert_at.ensures.exact);
+      moved = (
+          let ts = pending_targets c.args.self.now in
+          on-ok c.insert_at.result (λ h some kept. subst (λ i. AreMovedBeside i ts c.insert_at.new.self) c.bucket_at-bucket.ensures.value h) c.insert_at.ensures.moved);
+      drained = (on-ok c.insert_at.result (λ h some ne. absurd (ne c.insert_at.ensures.buckets)) c.insert_at.ensures.moved);
+      unique = (search rules);
     }
-
-pub returns-then-list_len-lt32-clause-by_two : goal.returns-then-list_len-lt32-clause-by_two
-returns-then-list_len-lt32-clause-by_two g c =
-    on-ok c.insert_at.result (λ h some kept short. by-two c.bucket_at-bucket.result c.args.self.now c.insert_at.new.self (h short)) c.insert_at.ensures.exact
-
-pub returns-then-list_len-lt32-clause-moved : goal.returns-then-list_len-lt32-clause-moved
-returns-then-list_len-lt32-clause-moved g c =
-    let ts = pending_targets c.args.self.now in
-    on-ok c.insert_at.result (λ h some kept. subst (λ i. AreMovedBeside i ts c.insert_at.new.self) c.bucket_at-bucket.ensures.value h) c.insert_at.ensures.moved
-
-pub returns-then-list_len-lt32-clause-drained : goal.returns-then-list_len-lt32-clause-drained
-returns-then-list_len-lt32-clause-drained g c = on-ok c.insert_at.result (λ h some ne. absurd (ne c.insert_at.ensures.buckets)) c.insert_at.ensures.moved

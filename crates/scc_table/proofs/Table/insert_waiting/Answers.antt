@@ -1,4 +1,4 @@
-use Rattle.std.proofs.Common.{◌≡◌, ◌∙◌, ◌<◌, ◌≤◌, ℕ, None, length, refl, sym, ap, subst, arith}
+use Rattle.std.proofs.Common.{◌≡◌, ◌∙◌, ◌<◌, ◌≤◌, ℕ, None, length, refl, sym, ap, subst, arith, rules}
 use Rattle.std.specs.List.{position}
 use Rattle.scc_contents.specs.Contents.{HasRoomBy, bucket_count, entries, key_hash, list_of, settings_of}
 use Rattle.scc_contents.specs.Routing.{bucket_number}
@@ -21,53 +21,51 @@ pub insert_settled-requires-clause-absent : goal.insert_settled-requires-clause-
 insert_settled-requires-clause-absent g c =
     subst (λ es. position (λ e. g.E.Key.PartialEq.eq (g.E.Keyed.key_of c.args.entry) (g.E.Keyed.key_of e)) es ≡ None) (sym (entries-same c.args.self.now c.relocate.new.self c.in-Ok.ensures.ok.lists)) c.requires.absent
 
-pub returns-in-Ok-clause-ok : goal.returns-in-Ok-clause-ok
-returns-in-Ok-clause-ok g c =
-    if-ok c.insert_settled.result (λ p h. relocated-inserted c.args.bucket c.args.self.now c.relocate.new.self c.in-Ok.ensures.ok c.args.entry c.insert_settled.new.self p h) c.insert_settled.ensures.ok
-
-pub returns-in-Ok-clause-err : goal.returns-in-Ok-clause-err
-returns-in-Ok-clause-err g c =
+pub returns-in-Ok : goal.returns-in-Ok
+returns-in-Ok g c =
     let a = c.args.self.now in
     let b = c.relocate.new.self in
     let r = c.in-Ok.ensures.ok in
-    if-err c.insert_settled.result (λ e h. (h.0, record { exact = h.1.exact ∙ entries-same a b r.lists; buckets = h.1.buckets ∙ count-same a b r.lists; settings = h.1.settings ∙ r.settings })) c.insert_settled.ensures.err
+    record {
+      ok = (if-ok c.insert_settled.result (λ p h. relocated-inserted c.args.bucket c.args.self.now c.relocate.new.self c.in-Ok.ensures.ok c.args.entry c.insert_settled.new.self p h) c.insert_settled.ensures.ok);
+      err = (if-err c.insert_settled.result (λ e h. (h.0, record { exact = h.1.exact ∙ entries-same a b r.lists; buckets = h.1.buckets ∙ count-same a b r.lists; settings = h.1.settings ∙ r.settings })) c.insert_settled.ensures.err);
+      full = (
+          let same = hash-same g.H.BuildHasher g.H.Hasher.Hasher g.E.Key.Hash.hash_input a b r.settings in
+          let k = g.E.Keyed.key_of c.args.entry in
+          let ha = key_hash g.H.BuildHasher g.H.Hasher.Hasher g.E.Key.Hash.hash_input a in
+          on-err c.insert_settled.result
+          (λ no room. no (subst (λ (h : g.row.E-Key.Denot → ℕ). HasRoomBy h g.E.Keyed.key_of b k) (sym same) (room-same g.E.Keyed.key_of ha a b r.lists r.settings k room)))
+          c.insert_settled.ensures.full);
+      buckets = (c.insert_settled.ensures.buckets ∙ count-same c.args.self.now c.relocate.new.self c.in-Ok.ensures.ok.lists);
+      refused = (search rules);
+      fewer = (λ k up. relocated-fewer c.args.bucket c.args.self.now c.relocate.new.self c.in-Ok.ensures.ok k (c.insert_settled.ensures.fewer k up));
+      less = (search rules);
+      most = (search rules);
+      settled = (search rules);
+      moved = (on-ok c.insert_settled.result (λ h. moved-relocated c.args.bucket a b c.in-Ok.ensures.ok c.insert_settled.new.self h) c.insert_settled.ensures.moved);
+      exact = (on-ok c.insert_settled.result (λ h short. relocated-left c.args.bucket a b r (pending_targets c.insert_settled.new.self) (h (relocated-short c.args.bucket a b r short))) c.insert_settled.ensures.exact);
+      unique = (search rules);
+    }
 
-pub returns-in-Ok-clause-full : goal.returns-in-Ok-clause-full
-returns-in-Ok-clause-full g c =
-    let a = c.args.self.now in
-    let b = c.relocate.new.self in
-    let r = c.in-Ok.ensures.ok in
-    let same = hash-same g.H.BuildHasher g.H.Hasher.Hasher g.E.Key.Hash.hash_input a b r.settings in
-    let k = g.E.Keyed.key_of c.args.entry in
-    let ha = key_hash g.H.BuildHasher g.H.Hasher.Hasher g.E.Key.Hash.hash_input a in
-    on-err c.insert_settled.result
-    (λ no room. no (subst (λ (h : g.row.E-Key.Denot → ℕ). HasRoomBy h g.E.Keyed.key_of b k) (sym same) (room-same g.E.Keyed.key_of ha a b r.lists r.settings k room)))
-    c.insert_settled.ensures.full
-
-pub returns-in-Ok-clause-buckets : goal.returns-in-Ok-clause-buckets
-returns-in-Ok-clause-buckets g c = c.insert_settled.ensures.buckets ∙ count-same c.args.self.now c.relocate.new.self c.in-Ok.ensures.ok.lists
-
-pub returns-in-Ok-clause-fewer : goal.returns-in-Ok-clause-fewer
-returns-in-Ok-clause-fewer g c = λ k up. relocated-fewer c.args.bucket c.args.self.now c.relocate.new.self c.in-Ok.ensures.ok k (c.insert_settled.ensures.fewer k up)
-
-pub returns-in-Ok-clause-exact : goal.returns-in-Ok-clause-exact
-returns-in-Ok-clause-exact g c =
-    let a = c.args.self.now in
-    let b = c.relocate.new.self in
-    let r = c.in-Ok.ensures.ok in
-    on-ok c.insert_settled.result (λ h short. relocated-left c.args.bucket a b r (pending_targets c.insert_settled.new.self) (h (relocated-short c.args.bucket a b r short))) c.insert_settled.ensures.exact
-
-pub returns-in-Ok-clause-moved : goal.returns-in-Ok-clause-moved
-returns-in-Ok-clause-moved g c =
-    let a = c.args.self.now in
-    let b = c.relocate.new.self in
-    on-ok c.insert_settled.result (λ h. moved-relocated c.args.bucket a b c.in-Ok.ensures.ok c.insert_settled.new.self h) c.insert_settled.ensures.moved
-
-pub returns-in-Err-clause-full : goal.returns-in-Err-clause-full
-returns-in-Err-clause-full g c =
-    let a = c.args.self.now in
-    let ha = key_hash g.H.BuildHasher g.H.Hasher.Hasher g.E.Key.Hash.hash_input a in
-    let k = g.E.Keyed.key_of c.args.entry in
-    let at = c.requires.routed ∙ ap (bucket_number (settings_of a).skipped (bucket_count a)) c.requires.hashed in
-    let long : 32 ≤ length (list_of a c.args.bucket) = omega (arith, c.in-Err.ensures.refused) in
-    long-none g.E.Keyed.key_of ha a c.keep_lists.ensures.routed k c.args.bucket c.requires.within at long
+pub returns-in-Err : goal.returns-in-Err
+returns-in-Err g c =
+    record {
+      ok = (search rules);
+      err = (search rules);
+      full = (
+          let a = c.args.self.now in
+          let ha = key_hash g.H.BuildHasher g.H.Hasher.Hasher g.E.Key.Hash.hash_input a in
+          let k = g.E.Keyed.key_of c.args.entry in
+          let at = c.requires.routed ∙ ap (bucket_number (settings_of a).skipped (bucket_count a)) c.requires.hashed in
+          let long : 32 ≤ length (list_of a c.args.bucket) = omega (arith, c.in-Err.ensures.refused) in
+          long-none g.E.Keyed.key_of ha a c.keep_lists.ensures.routed k c.args.bucket c.requires.within at long);
+      buckets = (search rules);
+      refused = (search rules);
+      fewer = (search rules);
+      less = (search rules);
+      most = (search rules);
+      settled = (search rules);
+      moved = (search rules);
+      exact = (search rules);
+      unique = (search rules);
+    }

@@ -1,5 +1,5 @@
 use Rattle.std.specs.List.{IsDistinct}
-use Rattle.std.proofs.Common.{◌≡◌, ◌∙◌, ◌+◌, ◌*◌, ◌<◌, ℕ, List, [], map, inl, sym, ap, subst, arith}
+use Rattle.std.proofs.Common.{◌≡◌, ◌∙◌, ◌+◌, ◌*◌, ◌<◌, ℕ, List, [], map, inl, sym, ap, subst, arith, rules}
 use Rattle.scc_contents.specs.Contents.{bucket_count, entries, key_hash, minimum_of, spilled_of, waiting_of, refused_of}
 use Rattle.scc_contents.specs.Sizes.{IsArray, IsArraySize}
 use Rattle.scc_buckets.specs.Tables.{spilled_in}
@@ -39,8 +39,8 @@ invariant_of-self-2 g c =
     subst (λ (h : g.row.E-Key.Denot → ℕ). IsTable g.E.Key.PartialEq.eq g.E.Keyed.key_of h new ws olds t.skipped t.pending t.next t.left t.left_overflow) (sym same)
     (fields-first g.E.Key.PartialEq.eq g.E.Keyed.key_of hk cur new ws olds t.skipped t.pending t.next t.left t.left_overflow inv none c.make_array.ensures.settings c.make_array.ensures.still c.in_ok-make_array.ensures.resized.bounded)
 
-pub returns-clause-rests : goal.returns-clause-rests
-returns-clause-rests g c =
+pub returns : goal.returns
+returns g c =
     let t = c.self.inside in
     let cur = t.current in
     let ws = t.waiting.items in
@@ -63,170 +63,30 @@ returns-clause-rests g c =
     let array = subst IsArray (sym buckets) c.in_ok-make_array.ensures.array in
     let minimum = ap (λ s. s.asked + s.reserved) (sym kept) in
     let size = subst (λ m. IsArraySize m (32 * bucket_count d)) minimum (subst (λ n. IsArraySize (minimum_of cur) (32 * n)) (sym buckets) c.in_ok-make_array.ensures.size) in
-    first-rests a d c.requires bare still settings array
-
-pub returns-clause-growth : goal.returns-clause-growth
-returns-clause-growth g c =
-    let t = c.self.inside in
-    let cur = t.current in
-    let ws = t.waiting.items in
-    let olds = t.draining in
-    let a = c.args.self.now in
-    let new = c.make_array.new.self in
-    let inv = c.self.invariant in
-    let hk = key_hash g.H.BuildHasher g.H.Hasher.Hasher g.E.Key.Hash.hash_input cur in
-    let hash = λ (e : g.row.E.Denot). hk (g.E.Keyed.key_of e) in
-    let view = c.self.view_is in
-    let count = count-seen hash cur ws olds a view inv.arrays.flags in
-    let none = no-flags ws (bucket_count cur) inv.arrays.flags (sym count ∙ c.requires) in
-    let later = λ (e : g.row.E.Denot). key_hash g.H.BuildHasher g.H.Hasher.Hasher g.E.Key.Hash.hash_input new (g.E.Keyed.key_of e) in
-    let d = together later new ws olds in
-    let still = entries-alone later new ws olds none ∙ c.make_array.ensures.still in
-    let bare = ap entries (sym view) ∙ entries-alone hash cur ws olds none ∙ c.make_array.ensures.entries in
-    let kept = settings-seen hash cur ws olds a view in
-    let settings = settings-together later new ws olds ∙ c.make_array.ensures.settings ∙ sym kept in
-    let buckets = count-alone later new ws olds none in
-    let array = subst IsArray (sym buckets) c.in_ok-make_array.ensures.array in
-    let minimum = ap (λ s. s.asked + s.reserved) (sym kept) in
-    let size = subst (λ m. IsArraySize m (32 * bucket_count d)) minimum (subst (λ n. IsArraySize (minimum_of cur) (32 * n)) (sym buckets) c.in_ok-make_array.ensures.size) in
-    first-grows a d c.requires size
-
-pub returns-clause-noted : goal.returns-clause-noted
-returns-clause-noted g c =
-    let t = c.self.inside in
-    let cur = t.current in
-    let ws = t.waiting.items in
-    let olds = t.draining in
-    let a = c.args.self.now in
-    let new = c.make_array.new.self in
-    let inv = c.self.invariant in
-    let hk = key_hash g.H.BuildHasher g.H.Hasher.Hasher g.E.Key.Hash.hash_input cur in
-    let hash = λ (e : g.row.E.Denot). hk (g.E.Keyed.key_of e) in
-    let view = c.self.view_is in
-    let count = count-seen hash cur ws olds a view inv.arrays.flags in
-    let none = no-flags ws (bucket_count cur) inv.arrays.flags (sym count ∙ c.requires) in
-    let later = λ (e : g.row.E.Denot). key_hash g.H.BuildHasher g.H.Hasher.Hasher g.E.Key.Hash.hash_input new (g.E.Keyed.key_of e) in
-    let d = together later new ws olds in
-    let still = entries-alone later new ws olds none ∙ c.make_array.ensures.still in
-    refused-together later new ws olds ∙ c.make_array.ensures.noted ∙ sym (refused-seen hash cur ws olds a view)
-
-pub returns-clause-first : goal.returns-clause-first
-returns-clause-first g c =
-    let t = c.self.inside in
-    let cur = t.current in
-    let ws = t.waiting.items in
-    let olds = t.draining in
-    let a = c.args.self.now in
-    let new = c.make_array.new.self in
-    let inv = c.self.invariant in
-    let hk = key_hash g.H.BuildHasher g.H.Hasher.Hasher g.E.Key.Hash.hash_input cur in
-    let hash = λ (e : g.row.E.Denot). hk (g.E.Keyed.key_of e) in
-    let view = c.self.view_is in
-    let count = count-seen hash cur ws olds a view inv.arrays.flags in
-    let none = no-flags ws (bucket_count cur) inv.arrays.flags (sym count ∙ c.requires) in
-    let later = λ (e : g.row.E.Denot). key_hash g.H.BuildHasher g.H.Hasher.Hasher g.E.Key.Hash.hash_input new (g.E.Keyed.key_of e) in
-    let d = together later new ws olds in
-    let still = entries-alone later new ws olds none ∙ c.make_array.ensures.still in
-    let bare = ap entries (sym view) ∙ entries-alone hash cur ws olds none ∙ c.make_array.ensures.entries in
-    let kept = settings-seen hash cur ws olds a view in
-    let settings = settings-together later new ws olds ∙ c.make_array.ensures.settings ∙ sym kept in
-    let buckets = count-alone later new ws olds none in
-    let array = subst IsArray (sym buckets) c.in_ok-make_array.ensures.array in
-    let minimum = ap (λ s. s.asked + s.reserved) (sym kept) in
-    let size = subst (λ m. IsArraySize m (32 * bucket_count d)) minimum (subst (λ n. IsArraySize (minimum_of cur) (32 * n)) (sym buckets) c.in_ok-make_array.ensures.size) in
-    record { made = λ z. size }
-
-pub returns-clause-array : goal.returns-clause-array
-returns-clause-array g c =
-    let t = c.self.inside in
-    let cur = t.current in
-    let ws = t.waiting.items in
-    let olds = t.draining in
-    let a = c.args.self.now in
-    let new = c.make_array.new.self in
-    let inv = c.self.invariant in
-    let hk = key_hash g.H.BuildHasher g.H.Hasher.Hasher g.E.Key.Hash.hash_input cur in
-    let hash = λ (e : g.row.E.Denot). hk (g.E.Keyed.key_of e) in
-    let view = c.self.view_is in
-    let count = count-seen hash cur ws olds a view inv.arrays.flags in
-    let none = no-flags ws (bucket_count cur) inv.arrays.flags (sym count ∙ c.requires) in
-    let later = λ (e : g.row.E.Denot). key_hash g.H.BuildHasher g.H.Hasher.Hasher g.E.Key.Hash.hash_input new (g.E.Keyed.key_of e) in
-    let d = together later new ws olds in
-    let still = entries-alone later new ws olds none ∙ c.make_array.ensures.still in
-    let bare = ap entries (sym view) ∙ entries-alone hash cur ws olds none ∙ c.make_array.ensures.entries in
-    let kept = settings-seen hash cur ws olds a view in
-    let settings = settings-together later new ws olds ∙ c.make_array.ensures.settings ∙ sym kept in
-    let buckets = count-alone later new ws olds none in
-    let array = subst IsArray (sym buckets) c.in_ok-make_array.ensures.array in
-    let minimum = ap (λ s. s.asked + s.reserved) (sym kept) in
-    let size = subst (λ m. IsArraySize m (32 * bucket_count d)) minimum (subst (λ n. IsArraySize (minimum_of cur) (32 * n)) (sym buckets) c.in_ok-make_array.ensures.size) in
-    omega (arith, array.least)
-
-pub returns-clause-bare : goal.returns-clause-bare
-returns-clause-bare g c =
-    let t = c.self.inside in
-    let cur = t.current in
-    let ws = t.waiting.items in
-    let olds = t.draining in
-    let a = c.args.self.now in
-    let new = c.make_array.new.self in
-    let inv = c.self.invariant in
-    let hk = key_hash g.H.BuildHasher g.H.Hasher.Hasher g.E.Key.Hash.hash_input cur in
-    let hash = λ (e : g.row.E.Denot). hk (g.E.Keyed.key_of e) in
-    let view = c.self.view_is in
-    let count = count-seen hash cur ws olds a view inv.arrays.flags in
-    let none = no-flags ws (bucket_count cur) inv.arrays.flags (sym count ∙ c.requires) in
-    let later = λ (e : g.row.E.Denot). key_hash g.H.BuildHasher g.H.Hasher.Hasher g.E.Key.Hash.hash_input new (g.E.Keyed.key_of e) in
-    let d = together later new ws olds in
-    let still = entries-alone later new ws olds none ∙ c.make_array.ensures.still in
-    still
-
-pub returns-clause-waiting : goal.returns-clause-waiting
-returns-clause-waiting g c =
-    let t = c.self.inside in
-    let cur = t.current in
-    let ws = t.waiting.items in
-    let olds = t.draining in
-    let a = c.args.self.now in
-    let new = c.make_array.new.self in
-    let inv = c.self.invariant in
-    let hk = key_hash g.H.BuildHasher g.H.Hasher.Hasher g.E.Key.Hash.hash_input cur in
-    let hash = λ (e : g.row.E.Denot). hk (g.E.Keyed.key_of e) in
-    let view = c.self.view_is in
-    let count = count-seen hash cur ws olds a view inv.arrays.flags in
-    let none = no-flags ws (bucket_count cur) inv.arrays.flags (sym count ∙ c.requires) in
-    let later = λ (e : g.row.E.Denot). key_hash g.H.BuildHasher g.H.Hasher.Hasher g.E.Key.Hash.hash_input new (g.E.Keyed.key_of e) in
-    let d = together later new ws olds in
-    let still = entries-alone later new ws olds none ∙ c.make_array.ensures.still in
-    waiting-together later new ws olds ∙ none
+    record {
+      rests = (first-rests a d c.requires bare still settings array);
+      growth = (first-grows a d c.requires size);
+      noted = (refused-together later new ws olds ∙ c.make_array.ensures.noted ∙ sym (refused-seen hash cur ws olds a view));
+      first = (record { made = λ z. size });
+      array = (omega (arith, array.least));
+      bare = (still);
+      waiting = (waiting-together later new ws olds ∙ none);
+      refused = (search rules);
+      resized = (
+          let low : spilled_of new ≡ 0 = c.in_ok-make_array.ensures.resized.bounded in
+          let nothing = spilled-bare olds (nothing-owed hash cur ws olds none inv.arrays) in
+          let zero : spilled_of new + spilled_in olds ≡ 0 = omega (arith, low, nothing) in
+          first-resized _ a d bare still settings array (spilled-together later new ws olds ∙ zero));
+      same = (search rules);
+      unique = (subst (λ (es : List g.row.E.Denot). IsDistinct g.E.Key.PartialEq.eq (map g.E.Keyed.key_of es)) (sym still) (IsDistinct-nil g.E.Key.PartialEq.eq));
+    }
 
 pub invariant_of-self : goal.invariant_of-self
 invariant_of-self g c =
     rw c.in_err-make_array.ensures.same c.self.invariant
 
-pub returns-in_err-make_array-clause-rests : goal.returns-in_err-make_array-clause-rests
-returns-in_err-make_array-clause-rests g c =
-    let t = c.self.inside in
-    let d = together (λ e. key_hash g.H.BuildHasher g.H.Hasher.Hasher g.E.Key.Hash.hash_input c.make_array.new.self (g.E.Keyed.key_of e)) c.make_array.new.self t.waiting.items t.draining in
-    let same : d ≡ c.args.self.now = rw c.in_err-make_array.ensures.same c.self.view_is in
-    inl (same-rests c.args.self.now d same).0
-
-pub returns-in_err-make_array-clause-growth : goal.returns-in_err-make_array-clause-growth
-returns-in_err-make_array-clause-growth g c =
-    let t = c.self.inside in
-    let d = together (λ e. key_hash g.H.BuildHasher g.H.Hasher.Hasher g.E.Key.Hash.hash_input c.make_array.new.self (g.E.Keyed.key_of e)) c.make_array.new.self t.waiting.items t.draining in
-    let same : d ≡ c.args.self.now = rw c.in_err-make_array.ensures.same c.self.view_is in
-    (same-rests c.args.self.now d same).1
-
-pub returns-in_err-make_array-clause-noted : goal.returns-in_err-make_array-clause-noted
-returns-in_err-make_array-clause-noted g c =
-    let t = c.self.inside in
-    let d = together (λ e. key_hash g.H.BuildHasher g.H.Hasher.Hasher g.E.Key.Hash.hash_input c.make_array.new.self (g.E.Keyed.key_of e)) c.make_array.new.self t.waiting.items t.draining in
-    let same : d ≡ c.args.self.now = rw c.in_err-make_array.ensures.same c.self.view_is in
-    ap refused_of same
-
-pub returns-in_err-make_array-clause-bare : goal.returns-in_err-make_array-clause-bare
-returns-in_err-make_array-clause-bare g c =
+pub returns-in_err-make_array : goal.returns-in_err-make_array
+returns-in_err-make_array g c =
     let t = c.self.inside in
     let cur = t.current in
     let ws = t.waiting.items in
@@ -240,104 +100,38 @@ returns-in_err-make_array-clause-bare g c =
     let count = count-seen hash cur ws olds a view inv.arrays.flags in
     let none = no-flags ws (bucket_count cur) inv.arrays.flags (sym count ∙ c.requires) in
     let later = λ (e : g.row.E.Denot). key_hash g.H.BuildHasher g.H.Hasher.Hasher g.E.Key.Hash.hash_input new (g.E.Keyed.key_of e) in
-    let d = together later new ws olds in
     let still = entries-alone later new ws olds none ∙ c.make_array.ensures.still in
-    still
-
-pub returns-in_err-make_array-clause-waiting : goal.returns-in_err-make_array-clause-waiting
-returns-in_err-make_array-clause-waiting g c =
-    let t = c.self.inside in
-    let cur = t.current in
-    let ws = t.waiting.items in
-    let olds = t.draining in
-    let a = c.args.self.now in
-    let new = c.make_array.new.self in
-    let inv = c.self.invariant in
-    let hk = key_hash g.H.BuildHasher g.H.Hasher.Hasher g.E.Key.Hash.hash_input cur in
-    let hash = λ (e : g.row.E.Denot). hk (g.E.Keyed.key_of e) in
-    let view = c.self.view_is in
-    let count = count-seen hash cur ws olds a view inv.arrays.flags in
-    let none = no-flags ws (bucket_count cur) inv.arrays.flags (sym count ∙ c.requires) in
-    let later = λ (e : g.row.E.Denot). key_hash g.H.BuildHasher g.H.Hasher.Hasher g.E.Key.Hash.hash_input new (g.E.Keyed.key_of e) in
-    let d = together later new ws olds in
-    let still = entries-alone later new ws olds none ∙ c.make_array.ensures.still in
-    waiting-together later new ws olds ∙ none
-
-pub returns-in_err-make_array-clause-unique : goal.returns-in_err-make_array-clause-unique
-returns-in_err-make_array-clause-unique g c =
-    let t = c.self.inside in
-    let cur = t.current in
-    let ws = t.waiting.items in
-    let olds = t.draining in
-    let a = c.args.self.now in
-    let new = c.make_array.new.self in
-    let inv = c.self.invariant in
-    let hk = key_hash g.H.BuildHasher g.H.Hasher.Hasher g.E.Key.Hash.hash_input cur in
-    let hash = λ (e : g.row.E.Denot). hk (g.E.Keyed.key_of e) in
-    let view = c.self.view_is in
-    let count = count-seen hash cur ws olds a view inv.arrays.flags in
-    let none = no-flags ws (bucket_count cur) inv.arrays.flags (sym count ∙ c.requires) in
-    let later = λ (e : g.row.E.Denot). key_hash g.H.BuildHasher g.H.Hasher.Hasher g.E.Key.Hash.hash_input new (g.E.Keyed.key_of e) in
-    let d = together later new ws olds in
-    let still = entries-alone later new ws olds none ∙ c.make_array.ensures.still in
-    subst (λ (es : List g.row.E.Denot). IsDistinct g.E.Key.PartialEq.eq (map g.E.Keyed.key_of es)) (sym still) (IsDistinct-nil g.E.Key.PartialEq.eq)
-
-pub returns-clause-unique : goal.returns-clause-unique
-returns-clause-unique g c =
-    let t = c.self.inside in
-    let cur = t.current in
-    let ws = t.waiting.items in
-    let olds = t.draining in
-    let a = c.args.self.now in
-    let new = c.make_array.new.self in
-    let inv = c.self.invariant in
-    let hk = key_hash g.H.BuildHasher g.H.Hasher.Hasher g.E.Key.Hash.hash_input cur in
-    let hash = λ (e : g.row.E.Denot). hk (g.E.Keyed.key_of e) in
-    let view = c.self.view_is in
-    let count = count-seen hash cur ws olds a view inv.arrays.flags in
-    let none = no-flags ws (bucket_count cur) inv.arrays.flags (sym count ∙ c.requires) in
-    let later = λ (e : g.row.E.Denot). key_hash g.H.BuildHasher g.H.Hasher.Hasher g.E.Key.Hash.hash_input new (g.E.Keyed.key_of e) in
-    let d = together later new ws olds in
-    let still = entries-alone later new ws olds none ∙ c.make_array.ensures.still in
-    subst (λ (es : List g.row.E.Denot). IsDistinct g.E.Key.PartialEq.eq (map g.E.Keyed.key_of es)) (sym still) (IsDistinct-nil g.E.Key.PartialEq.eq)
-
-pub returns-in_err-make_array-clause-refused : goal.returns-in_err-make_array-clause-refused
-returns-in_err-make_array-clause-refused g c =
-    let t = c.self.inside in
-    let d = together (λ e. key_hash g.H.BuildHasher g.H.Hasher.Hasher g.E.Key.Hash.hash_input c.make_array.new.self (g.E.Keyed.key_of e)) c.make_array.new.self t.waiting.items t.draining in
-    let same : d ≡ c.args.self.now = rw c.in_err-make_array.ensures.same c.self.view_is in
-    any-err c.from_residual.result (same-rests c.args.self.now d same).0
-
-pub returns-clause-resized : goal.returns-clause-resized
-returns-clause-resized g c =
-    let t = c.self.inside in
-    let cur = t.current in
-    let ws = t.waiting.items in
-    let olds = t.draining in
-    let a = c.args.self.now in
-    let new = c.make_array.new.self in
-    let inv = c.self.invariant in
-    let hk = key_hash g.H.BuildHasher g.H.Hasher.Hasher g.E.Key.Hash.hash_input cur in
-    let hash = λ (e : g.row.E.Denot). hk (g.E.Keyed.key_of e) in
-    let view = c.self.view_is in
-    let count = count-seen hash cur ws olds a view inv.arrays.flags in
-    let none = no-flags ws (bucket_count cur) inv.arrays.flags (sym count ∙ c.requires) in
-    let later = λ (e : g.row.E.Denot). key_hash g.H.BuildHasher g.H.Hasher.Hasher g.E.Key.Hash.hash_input new (g.E.Keyed.key_of e) in
-    let d = together later new ws olds in
-    let still = entries-alone later new ws olds none ∙ c.make_array.ensures.still in
-    let bare = ap entries (sym view) ∙ entries-alone hash cur ws olds none ∙ c.make_array.ensures.entries in
-    let kept = settings-seen hash cur ws olds a view in
-    let settings = settings-together later new ws olds ∙ c.make_array.ensures.settings ∙ sym kept in
-    let buckets = count-alone later new ws olds none in
-    let array = subst IsArray (sym buckets) c.in_ok-make_array.ensures.array in
-    let low : spilled_of new ≡ 0 = c.in_ok-make_array.ensures.resized.bounded in
-    let nothing = spilled-bare olds (nothing-owed hash cur ws olds none inv.arrays) in
-    let zero : spilled_of new + spilled_in olds ≡ 0 = omega (arith, low, nothing) in
-    first-resized _ a d bare still settings array (spilled-together later new ws olds ∙ zero)
-
-pub returns-in_err-make_array-clause-same : goal.returns-in_err-make_array-clause-same
-returns-in_err-make_array-clause-same g c =
-    let t = c.self.inside in
-    let d = together (λ e. key_hash g.H.BuildHasher g.H.Hasher.Hasher g.E.Key.Hash.hash_input c.make_array.new.self (g.E.Keyed.key_of e)) c.make_array.new.self t.waiting.items t.draining in
-    let same : d ≡ c.args.self.now = rw c.in_err-make_array.ensures.same c.self.view_is in
-    any-err c.from_residual.result same
+    record {
+      rests = (
+          let d = together (λ e. key_hash g.H.BuildHasher g.H.Hasher.Hasher g.E.Key.Hash.hash_input c.make_array.new.self (g.E.Keyed.key_of e)) c.make_array.new.self t.waiting.items t.draining in
+          let same : d ≡ c.args.self.now = rw c.in_err-make_array.ensures.same c.self.view_is in
+          inl (same-rests c.args.self.now d same).0);
+      growth = (
+          let d = together (λ e. key_hash g.H.BuildHasher g.H.Hasher.Hasher g.E.Key.Hash.hash_input c.make_array.new.self (g.E.Keyed.key_of e)) c.make_array.new.self t.waiting.items t.draining in
+          let same : d ≡ c.args.self.now = rw c.in_err-make_array.ensures.same c.self.view_is in
+          (same-rests c.args.self.now d same).1);
+      noted = (
+          let d = together (λ e. key_hash g.H.BuildHasher g.H.Hasher.Hasher g.E.Key.Hash.hash_input c.make_array.new.self (g.E.Keyed.key_of e)) c.make_array.new.self t.waiting.items t.draining in
+          let same : d ≡ c.args.self.now = rw c.in_err-make_array.ensures.same c.self.view_is in
+          ap refused_of same);
+      first = (search rules);
+      array = (search rules);
+      bare = (
+          let d = together later new ws olds in
+          still);
+      waiting = (
+          let d = together later new ws olds in
+          waiting-together later new ws olds ∙ none);
+      refused = (
+          let d = together (λ e. key_hash g.H.BuildHasher g.H.Hasher.Hasher g.E.Key.Hash.hash_input c.make_array.new.self (g.E.Keyed.key_of e)) c.make_array.new.self t.waiting.items t.draining in
+          let same : d ≡ c.args.self.now = rw c.in_err-make_array.ensures.same c.self.view_is in
+          any-err c.from_residual.result (same-rests c.args.self.now d same).0);
+      resized = (search rules);
+      same = (
+          let d = together (λ e. key_hash g.H.BuildHasher g.H.Hasher.Hasher g.E.Key.Hash.hash_input c.make_array.new.self (g.E.Keyed.key_of e)) c.make_array.new.self t.waiting.items t.draining in
+          let same : d ≡ c.args.self.now = rw c.in_err-make_array.ensures.same c.self.view_is in
+          any-err c.from_residual.result same);
+      unique = (
+          let d = together later new ws olds in
+          subst (λ (es : List g.row.E.Denot). IsDistinct g.E.Key.PartialEq.eq (map g.E.Keyed.key_of es)) (sym still) (IsDistinct-nil g.E.Key.PartialEq.eq));
+    }

@@ -1,4 +1,4 @@
-use Rattle.std.proofs.Common.{◌≡◌, ◌∙◌, ℕ, Bool, List, map, sym, ap, subst}
+use Rattle.std.proofs.Common.{◌≡◌, ◌∙◌, ℕ, Bool, List, map, sym, ap, subst, rules}
 use Rattle.std.specs.List.{IsDistinct}
 use Rattle.scc_array.specs.Shelf.{Shelf}
 use Rattle.scc_contents.specs.Contents.{Contents, entries, key_hash, lists_of, owed_of, spilled_of}
@@ -18,48 +18,20 @@ invariant_of-self g c =
     subst (λ (h : g.row.E-Key.Denot → ℕ). IsTable g.E.Key.PartialEq.eq g.E.Keyed.key_of h d t.waiting.items t.draining t.skipped t.pending t.next t.left t.left_overflow) (sym same)
     (fields-kept g.E.Key.PartialEq.eq g.E.Keyed.key_of hk t.current d t.waiting.items t.draining t.skipped t.pending t.next t.left t.left_overflow c.note.ensures.lists (ap (λ s. s.skipped) c.note.ensures.settings) c.note.ensures.spilled c.self.invariant)
 
-pub returns-clause-lists : goal.returns-clause-lists
-returns-clause-lists g c =
+pub returns : goal.returns
+returns g c =
     let t = c.self.inside in
     let d = c.note.new.self in
     let hk = key_hash g.H.BuildHasher g.H.Hasher.Hasher g.E.Key.Hash.hash_input t.current in
     let same = hash-same g.H.BuildHasher g.H.Hasher.Hasher g.E.Key.Hash.hash_input t.current d c.note.ensures.settings in
-    ap (λ (h : g.row.E-Key.Denot → ℕ). lists_of (together (λ e. h (g.E.Keyed.key_of e)) d t.waiting.items t.draining)) same ∙ lists-kept (λ e. hk (g.E.Keyed.key_of e)) t.current d t.waiting.items t.draining c.note.ensures.lists (ap (λ s. s.skipped) c.note.ensures.settings) ∙ ap lists_of c.self.view_is
-
-pub returns-clause-settings : goal.returns-clause-settings
-returns-clause-settings g c =
-    let t = c.self.inside in
-    settings-together _ c.note.new.self t.waiting.items t.draining ∙ c.note.ensures.settings ∙ sym (settings-seen _ t.current t.waiting.items t.draining c.args.self.now c.self.view_is)
-
-pub returns-clause-noted : goal.returns-clause-noted
-returns-clause-noted g c = refused-together _ c.note.new.self c.self.inside.waiting.items c.self.inside.draining ∙ c.note.ensures.noted
-
-pub returns-clause-spilled : goal.returns-clause-spilled
-returns-clause-spilled g c =
-    let t = c.self.inside in
-    let d = c.note.new.self in
-    let hk = key_hash g.H.BuildHasher g.H.Hasher.Hasher g.E.Key.Hash.hash_input t.current in
-    let same = hash-same g.H.BuildHasher g.H.Hasher.Hasher g.E.Key.Hash.hash_input t.current d c.note.ensures.settings in
-    ap (λ (h : g.row.E-Key.Denot → ℕ). spilled_of (together (λ e. h (g.E.Keyed.key_of e)) d t.waiting.items t.draining)) same ∙ spilled-kept (λ e. hk (g.E.Keyed.key_of e)) t.current d t.waiting.items t.draining c.note.ensures.lists (ap (λ s. s.skipped) c.note.ensures.settings) c.note.ensures.spilled ∙ ap spilled_of c.self.view_is
-
-pub returns-clause-waiting : goal.returns-clause-waiting
-returns-clause-waiting g c =
-    let t = c.self.inside in
-    waiting-together _ c.note.new.self t.waiting.items t.draining ∙ sym (waiting-seen _ t.current t.waiting.items t.draining c.args.self.now c.self.view_is)
-
-pub returns-clause-owed : goal.returns-clause-owed
-returns-clause-owed g c =
-    let t = c.self.inside in
-    let d = c.note.new.self in
-    let hk = key_hash g.H.BuildHasher g.H.Hasher.Hasher g.E.Key.Hash.hash_input t.current in
-    let same = hash-same g.H.BuildHasher g.H.Hasher.Hasher g.E.Key.Hash.hash_input t.current d c.note.ensures.settings in
-    ap (λ (h : g.row.E-Key.Denot → ℕ). owed_of (together (λ e. h (g.E.Keyed.key_of e)) d t.waiting.items t.draining)) same ∙ owed-kept (λ e. hk (g.E.Keyed.key_of e)) t.current d t.waiting.items t.draining c.note.ensures.lists (ap (λ s. s.skipped) c.note.ensures.settings) ∙ ap owed_of c.self.view_is
-
-pub returns-clause-unique : goal.returns-clause-unique
-returns-clause-unique g c =
-    let t = c.self.inside in
-    let d = c.note.new.self in
-    let hk = key_hash g.H.BuildHasher g.H.Hasher.Hasher g.E.Key.Hash.hash_input t.current in
-    let same = hash-same g.H.BuildHasher g.H.Hasher.Hasher g.E.Key.Hash.hash_input t.current d c.note.ensures.settings in
-    let kept = fields-kept g.E.Key.PartialEq.eq g.E.Keyed.key_of hk t.current d t.waiting.items t.draining t.skipped t.pending t.next t.left t.left_overflow c.note.ensures.lists (ap (λ s. s.skipped) c.note.ensures.settings) c.note.ensures.spilled c.self.invariant in
-    (subst (λ (h : g.row.E-Key.Denot → ℕ). IsTable g.E.Key.PartialEq.eq g.E.Keyed.key_of h d t.waiting.items t.draining t.skipped t.pending t.next t.left t.left_overflow) (sym same) kept).unique
+    record {
+      lists = (ap (λ (h : g.row.E-Key.Denot → ℕ). lists_of (together (λ e. h (g.E.Keyed.key_of e)) d t.waiting.items t.draining)) same ∙ lists-kept (λ e. hk (g.E.Keyed.key_of e)) t.current d t.waiting.items t.draining c.note.ensures.lists (ap (λ s. s.skipped) c.note.ensures.settings) ∙ ap lists_of c.self.view_is);
+      settings = (settings-together _ c.note.new.self t.waiting.items t.draining ∙ c.note.ensures.settings ∙ sym (settings-seen _ t.current t.waiting.items t.draining c.args.self.now c.self.view_is));
+      noted = (refused-together _ c.note.new.self c.self.inside.waiting.items c.self.inside.draining ∙ c.note.ensures.noted);
+      spilled = (ap (λ (h : g.row.E-Key.Denot → ℕ). spilled_of (together (λ e. h (g.E.Keyed.key_of e)) d t.waiting.items t.draining)) same ∙ spilled-kept (λ e. hk (g.E.Keyed.key_of e)) t.current d t.waiting.items t.draining c.note.ensures.lists (ap (λ s. s.skipped) c.note.ensures.settings) c.note.ensures.spilled ∙ ap spilled_of c.self.view_is);
+      waiting = (waiting-together _ c.note.new.self t.waiting.items t.draining ∙ sym (waiting-seen _ t.current t.waiting.items t.draining c.args.self.now c.self.view_is));
+      owed = (ap (λ (h : g.row.E-Key.Denot → ℕ). owed_of (together (λ e. h (g.E.Keyed.key_of e)) d t.waiting.items t.draining)) same ∙ owed-kept (λ e. hk (g.E.Keyed.key_of e)) t.current d t.waiting.items t.draining c.note.ensures.lists (ap (λ s. s.skipped) c.note.ensures.settings) ∙ ap owed_of c.self.view_is);
+      unique = (
+          let kept = fields-kept g.E.Key.PartialEq.eq g.E.Keyed.key_of hk t.current d t.waiting.items t.draining t.skipped t.pending t.next t.left t.left_overflow c.note.ensures.lists (ap (λ s. s.skipped) c.note.ensures.settings) c.note.ensures.spilled c.self.invariant in
+          (subst (λ (h : g.row.E-Key.Denot → ℕ). IsTable g.E.Key.PartialEq.eq g.E.Keyed.key_of h d t.waiting.items t.draining t.skipped t.pending t.next t.left t.left_overflow) (sym same) kept).unique);
+    }

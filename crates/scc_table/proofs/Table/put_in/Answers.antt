@@ -1,4 +1,4 @@
-use Rattle.std.proofs.Common.{◌≡◌, ◌∙◌, ◌<◌, ◌≤◌, ℕ, ◌+◌, ◌^◌, true, false, inl, inr, length, sym, ap, subst, arith}
+use Rattle.std.proofs.Common.{◌≡◌, ◌∙◌, ◌<◌, ◌≤◌, ℕ, ◌+◌, ◌^◌, true, false, inl, inr, length, sym, ap, subst, arith, rules}
 use Rattle.scc_contents.specs.Contents.{HasRoomBy, bucket_count, owed_of, key_hash, list_of, lists_of, settings_of, spilled_of}
 use Rattle.scc_buckets.specs.OneList.{HasSameLists, IsPutIn}
 use Rattle.scc_contents.specs.Routing.{bucket_number}
@@ -29,28 +29,37 @@ list_len-listed-requires g c =
     let down : waits_at ws i ≡ false = ap (λ w. waits_at w i) (sym (waiting-seen hash cur ws olds c.args.self.now view)) ∙ c.requires.settled in
     within
 
-pub returns-then-is_overflow_full-clause-full : goal.returns-then-is_overflow_full-clause-full
-returns-then-is_overflow_full-clause-full g c =
-    let t = c.self.inside in
-    let cur = t.current in
-    let ws = t.waiting.items in
-    let olds = t.draining in
-    let i = c.args.bucket in
-    let inv = c.self.invariant in
-    let hk = key_hash g.H.BuildHasher g.H.Hasher.Hasher g.E.Key.Hash.hash_input cur in
-    let hash = λ (e : g.row.E.Denot). hk (g.E.Keyed.key_of e) in
-    let view = c.self.view_is in
-    let settings = settings-seen hash cur ws olds c.args.self.now view in
-    let outer = hash-same g.H.BuildHasher g.H.Hasher.Hasher g.E.Key.Hash.hash_input cur c.args.self.now settings in
-    let count = count-seen hash cur ws olds c.args.self.now view inv.arrays.flags in
-    let within : i < bucket_count cur = omega (arith, c.requires.within) in
-    let down : waits_at ws i ≡ false = ap (λ w. waits_at w i) (sym (waiting-seen hash cur ws olds c.args.self.now view)) ∙ c.requires.settled in
-    let routed : i ≡ bucket_number (settings_of cur).skipped (bucket_count cur) c.args.hash = c.requires.routed ∙ ap (λ s. bucket_number s.skipped (bucket_count c.args.self.now) c.args.hash) settings ∙ ap (λ n. bucket_number (settings_of cur).skipped n c.args.hash) count in
-    let hashed : c.args.hash ≡ hk (g.E.Keyed.key_of c.args.entry) = c.requires.hashed ∙ ap (λ (h : g.row.E-Key.Denot → ℕ). h (g.E.Keyed.key_of c.args.entry)) outer in
-    let long : 32 ≤ length (list_of cur i) = omega (arith, c.if-is_overflow_full.ensures.full, c.list_len-listed.ensures) in
-    let at : i ≡ bucket_number (settings_of cur).skipped (bucket_count cur) (hk (g.E.Keyed.key_of c.args.entry)) = routed ∙ ap (bucket_number (settings_of cur).skipped (bucket_count cur)) hashed in
-    subst (λ (h : g.row.E-Key.Denot → ℕ). HasRoomBy h g.E.Keyed.key_of c.args.self.now (g.E.Keyed.key_of c.args.entry) → ⊥) (sym outer)
-    (long-full g.E.Keyed.key_of hk cur ws olds inv.arrays c.args.self.now view c.keep_lists.ensures.routed (g.E.Keyed.key_of c.args.entry) i within down at long)
+pub returns-then-is_overflow_full : goal.returns-then-is_overflow_full
+returns-then-is_overflow_full g c =
+    record {
+      exact = (search rules);
+      err = (search rules);
+      stays = (search rules);
+      full = (
+          let t = c.self.inside in
+          let cur = t.current in
+          let ws = t.waiting.items in
+          let olds = t.draining in
+          let i = c.args.bucket in
+          let inv = c.self.invariant in
+          let hk = key_hash g.H.BuildHasher g.H.Hasher.Hasher g.E.Key.Hash.hash_input cur in
+          let hash = λ (e : g.row.E.Denot). hk (g.E.Keyed.key_of e) in
+          let view = c.self.view_is in
+          let settings = settings-seen hash cur ws olds c.args.self.now view in
+          let outer = hash-same g.H.BuildHasher g.H.Hasher.Hasher g.E.Key.Hash.hash_input cur c.args.self.now settings in
+          let count = count-seen hash cur ws olds c.args.self.now view inv.arrays.flags in
+          let within : i < bucket_count cur = omega (arith, c.requires.within) in
+          let down : waits_at ws i ≡ false = ap (λ w. waits_at w i) (sym (waiting-seen hash cur ws olds c.args.self.now view)) ∙ c.requires.settled in
+          let routed : i ≡ bucket_number (settings_of cur).skipped (bucket_count cur) c.args.hash = c.requires.routed ∙ ap (λ s. bucket_number s.skipped (bucket_count c.args.self.now) c.args.hash) settings ∙ ap (λ n. bucket_number (settings_of cur).skipped n c.args.hash) count in
+          let hashed : c.args.hash ≡ hk (g.E.Keyed.key_of c.args.entry) = c.requires.hashed ∙ ap (λ (h : g.row.E-Key.Denot → ℕ). h (g.E.Keyed.key_of c.args.entry)) outer in
+          let long : 32 ≤ length (list_of cur i) = omega (arith, c.if-is_overflow_full.ensures.full, c.list_len-listed.ensures) in
+          let at : i ≡ bucket_number (settings_of cur).skipped (bucket_count cur) (hk (g.E.Keyed.key_of c.args.entry)) = routed ∙ ap (bucket_number (settings_of cur).skipped (bucket_count cur)) hashed in
+          subst (λ (h : g.row.E-Key.Denot → ℕ). HasRoomBy h g.E.Keyed.key_of c.args.self.now (g.E.Keyed.key_of c.args.entry) → ⊥) (sym outer)
+          (long-full g.E.Keyed.key_of hk cur ws olds inv.arrays c.args.self.now view c.keep_lists.ensures.routed (g.E.Keyed.key_of c.args.entry) i within down at long));
+      waiting = (search rules);
+      owed = (search rules);
+      unique = (search rules);
+    }
 
 pub insert_in-placed-requires-clause-within : goal.insert_in-placed-requires-clause-within
 insert_in-placed-requires-clause-within g c =
@@ -164,8 +173,8 @@ invariant_of-self g c =
     (λ z. fields-less g.E.Key.PartialEq.eq g.E.Keyed.key_of hk cur new ws olds t.skipped t.pending t.next t.left t.left_overflow z.lists (ap (λ s. s.skipped) z.settings) z.spilled inv) in
     subst (λ (h : g.row.E-Key.Denot → ℕ). IsTable g.E.Key.PartialEq.eq g.E.Keyed.key_of h new ws olds t.skipped t.pending t.next t.left t.left_overflow) (sym inner) there
 
-pub returns-clause-exact : goal.returns-clause-exact
-returns-clause-exact g c =
+pub returns : goal.returns
+returns g c =
     let t = c.self.inside in
     let cur = t.current in
     let ws = t.waiting.items in
@@ -183,114 +192,41 @@ returns-clause-exact g c =
     let new = c.insert_in-placed.new.self in
     let after : settings_of new ≡ settings_of cur = by-answer c.insert_in-placed.result c.insert_in-placed.ensures.exact c.insert_in-placed.ensures.stays (λ p put. put.settings) (λ z. z.settings) in
     let inner = hash-same g.H.BuildHasher g.H.Hasher.Hasher g.E.Key.Hash.hash_input cur new after in
-    if-ok c.insert_in-placed.result
-    (λ p put. subst (λ (h : g.row.E-Key.Denot → ℕ). IsPutIn c.args.self.now i c.args.entry (together (λ e. h (g.E.Keyed.key_of e)) new ws olds) p) (sym inner) (put-together g.E.Keyed.key_of hk cur ws olds inv.arrays c.args.self.now view c.args.entry i new p put within down))
-    c.insert_in-placed.ensures.exact
-
-pub returns-clause-stays : goal.returns-clause-stays
-returns-clause-stays g c =
-    let t = c.self.inside in
-    let cur = t.current in
-    let ws = t.waiting.items in
-    let olds = t.draining in
-    let i = c.args.bucket in
-    let inv = c.self.invariant in
-    let hk = key_hash g.H.BuildHasher g.H.Hasher.Hasher g.E.Key.Hash.hash_input cur in
-    let hash = λ (e : g.row.E.Denot). hk (g.E.Keyed.key_of e) in
-    let view = c.self.view_is in
-    let settings = settings-seen hash cur ws olds c.args.self.now view in
-    let outer = hash-same g.H.BuildHasher g.H.Hasher.Hasher g.E.Key.Hash.hash_input cur c.args.self.now settings in
-    let count = count-seen hash cur ws olds c.args.self.now view inv.arrays.flags in
-    let within : i < bucket_count cur = omega (arith, c.requires.within) in
-    let down : waits_at ws i ≡ false = ap (λ w. waits_at w i) (sym (waiting-seen hash cur ws olds c.args.self.now view)) ∙ c.requires.settled in
-    let new = c.insert_in-placed.new.self in
-    let after : settings_of new ≡ settings_of cur = by-answer c.insert_in-placed.result c.insert_in-placed.ensures.exact c.insert_in-placed.ensures.stays (λ p put. put.settings) (λ z. z.settings) in
-    let inner = hash-same g.H.BuildHasher g.H.Hasher.Hasher g.E.Key.Hash.hash_input cur new after in
-    on-err c.insert_in-placed.result
-    (λ z. subst (λ (h : g.row.E-Key.Denot → ℕ). HasSameLists c.args.self.now (together (λ e. h (g.E.Keyed.key_of e)) new ws olds)) (sym inner) (subst (λ x. HasSameLists x (together hash new ws olds)) view (same-together hash cur new ws olds z)))
-    c.insert_in-placed.ensures.stays
-
-pub returns-clause-full : goal.returns-clause-full
-returns-clause-full g c =
-    let t = c.self.inside in
-    let cur = t.current in
-    let ws = t.waiting.items in
-    let olds = t.draining in
-    let i = c.args.bucket in
-    let inv = c.self.invariant in
-    let hk = key_hash g.H.BuildHasher g.H.Hasher.Hasher g.E.Key.Hash.hash_input cur in
-    let hash = λ (e : g.row.E.Denot). hk (g.E.Keyed.key_of e) in
-    let view = c.self.view_is in
-    let settings = settings-seen hash cur ws olds c.args.self.now view in
-    let outer = hash-same g.H.BuildHasher g.H.Hasher.Hasher g.E.Key.Hash.hash_input cur c.args.self.now settings in
-    let count = count-seen hash cur ws olds c.args.self.now view inv.arrays.flags in
-    let within : i < bucket_count cur = omega (arith, c.requires.within) in
-    let down : waits_at ws i ≡ false = ap (λ w. waits_at w i) (sym (waiting-seen hash cur ws olds c.args.self.now view)) ∙ c.requires.settled in
-    on-err c.insert_in-placed.result
-    (λ no. subst (λ (h : g.row.E-Key.Denot → ℕ). HasRoomBy h g.E.Keyed.key_of c.args.self.now (g.E.Keyed.key_of c.args.entry) → ⊥) (sym outer) (λ r. no (room-own g.E.Keyed.key_of hk cur ws olds inv.arrays c.args.self.now view (g.E.Keyed.key_of c.args.entry) r)))
-    c.insert_in-placed.ensures.full
-
-pub returns-clause-waiting : goal.returns-clause-waiting
-returns-clause-waiting g c =
-    let t = c.self.inside in
-    waiting-together _ c.insert_in-placed.new.self t.waiting.items t.draining ∙ sym (waiting-seen _ t.current t.waiting.items t.draining c.args.self.now c.self.view_is)
-
-pub returns-clause-owed : goal.returns-clause-owed
-returns-clause-owed g c =
-    let t = c.self.inside in
-    let cur = t.current in
-    let ws = t.waiting.items in
-    let olds = t.draining in
-    let i = c.args.bucket in
-    let inv = c.self.invariant in
-    let hk = key_hash g.H.BuildHasher g.H.Hasher.Hasher g.E.Key.Hash.hash_input cur in
-    let hash = λ (e : g.row.E.Denot). hk (g.E.Keyed.key_of e) in
-    let view = c.self.view_is in
-    let settings = settings-seen hash cur ws olds c.args.self.now view in
-    let outer = hash-same g.H.BuildHasher g.H.Hasher.Hasher g.E.Key.Hash.hash_input cur c.args.self.now settings in
-    let count = count-seen hash cur ws olds c.args.self.now view inv.arrays.flags in
-    let within : i < bucket_count cur = omega (arith, c.requires.within) in
-    let down : waits_at ws i ≡ false = ap (λ w. waits_at w i) (sym (waiting-seen hash cur ws olds c.args.self.now view)) ∙ c.requires.settled in
-    let new = c.insert_in-placed.new.self in
-    let after : settings_of new ≡ settings_of cur = by-answer c.insert_in-placed.result c.insert_in-placed.ensures.exact c.insert_in-placed.ensures.stays (λ p put. put.settings) (λ z. z.settings) in
-    let inner = hash-same g.H.BuildHasher g.H.Hasher.Hasher g.E.Key.Hash.hash_input cur new after in
-    let there : owed_of (together hash new ws olds) ≡ owed_of c.args.self.now = by-answer c.insert_in-placed.result c.insert_in-placed.ensures.exact c.insert_in-placed.ensures.stays
-    (λ p put. owed-put g.E.Keyed.key_of hk cur ws olds inv.arrays c.args.self.now view c.args.entry i new p put within down)
-    (λ z. owed-kept hash cur new ws olds z.lists (ap (λ s. s.skipped) z.settings) ∙ ap owed_of view) in
-    subst (λ (h : g.row.E-Key.Denot → ℕ). owed_of (together (λ e. h (g.E.Keyed.key_of e)) new ws olds) ≡ owed_of c.args.self.now) (sym inner) there
-
-pub returns-clause-unique : goal.returns-clause-unique
-returns-clause-unique g c =
-    let t = c.self.inside in
-    let cur = t.current in
-    let ws = t.waiting.items in
-    let olds = t.draining in
-    let i = c.args.bucket in
-    let inv = c.self.invariant in
-    let hk = key_hash g.H.BuildHasher g.H.Hasher.Hasher g.E.Key.Hash.hash_input cur in
-    let hash = λ (e : g.row.E.Denot). hk (g.E.Keyed.key_of e) in
-    let view = c.self.view_is in
-    let settings = settings-seen hash cur ws olds c.args.self.now view in
-    let outer = hash-same g.H.BuildHasher g.H.Hasher.Hasher g.E.Key.Hash.hash_input cur c.args.self.now settings in
-    let count = count-seen hash cur ws olds c.args.self.now view inv.arrays.flags in
-    let within : i < bucket_count cur = omega (arith, c.requires.within) in
-    let down : waits_at ws i ≡ false = ap (λ w. waits_at w i) (sym (waiting-seen hash cur ws olds c.args.self.now view)) ∙ c.requires.settled in
-    let new = c.insert_in-placed.new.self in
-    let after : settings_of new ≡ settings_of cur = by-answer c.insert_in-placed.result c.insert_in-placed.ensures.exact c.insert_in-placed.ensures.stays (λ p put. put.settings) (λ z. z.settings) in
-    let inner = hash-same g.H.BuildHasher g.H.Hasher.Hasher g.E.Key.Hash.hash_input cur new after in
-    let IsAfter = IsTable g.E.Key.PartialEq.eq g.E.Keyed.key_of hk new ws olds t.skipped t.pending t.next t.left t.left_overflow in
-    let few = c.overflow_len-few.ensures in
-    let there : IsAfter = by-answer c.insert_in-placed.result c.insert_in-placed.ensures.exact c.insert_in-placed.ensures.stays
-    (λ p put.
-    let left : spilled_of new + t.left_overflow < 2 ^ 62 = elim c.if-self-gt0.branch [
-      | then-self-gt0+else-is_overflow_full w ↦
-          let was = w.overflow_len-spilled.ensures.value in
-          elim (w.if-is_overflow_full.ensures.room (λ h. absurd (let z : false ≡ true = h in cc))) [
-            | inl q ↦ let s = put.short (omega (arith, w.list_len-listed.ensures)) in omega (arith, inv.few)
-            | inr q ↦ omega (arith, put.spilled)
-          ]
-      | else-self-gt0 w ↦ let z = w.if-self-gt0.false in omega (arith, few.value, few.most)
-    ] in
-    fields-put g.E.Key.PartialEq.eq g.met.E.Key.Eq.laws g.E.Keyed.key_of hk cur ws olds t.skipped t.pending t.next t.left t.left_overflow inv c.args.self.now view c.args.entry i new p put within down left c.requires.absent)
-    (λ z. fields-less g.E.Key.PartialEq.eq g.E.Keyed.key_of hk cur new ws olds t.skipped t.pending t.next t.left t.left_overflow z.lists (ap (λ s. s.skipped) z.settings) z.spilled inv) in
-    (subst (λ (h : g.row.E-Key.Denot → ℕ). IsTable g.E.Key.PartialEq.eq g.E.Keyed.key_of h new ws olds t.skipped t.pending t.next t.left t.left_overflow) (sym inner) there).unique
+    record {
+      exact = (
+          if-ok c.insert_in-placed.result
+          (λ p put. subst (λ (h : g.row.E-Key.Denot → ℕ). IsPutIn c.args.self.now i c.args.entry (together (λ e. h (g.E.Keyed.key_of e)) new ws olds) p) (sym inner) (put-together g.E.Keyed.key_of hk cur ws olds inv.arrays c.args.self.now view c.args.entry i new p put within down))
+          c.insert_in-placed.ensures.exact);
+      err = (search rules);
+      stays = (
+          on-err c.insert_in-placed.result
+          (λ z. subst (λ (h : g.row.E-Key.Denot → ℕ). HasSameLists c.args.self.now (together (λ e. h (g.E.Keyed.key_of e)) new ws olds)) (sym inner) (subst (λ x. HasSameLists x (together hash new ws olds)) view (same-together hash cur new ws olds z)))
+          c.insert_in-placed.ensures.stays);
+      full = (
+          on-err c.insert_in-placed.result
+          (λ no. subst (λ (h : g.row.E-Key.Denot → ℕ). HasRoomBy h g.E.Keyed.key_of c.args.self.now (g.E.Keyed.key_of c.args.entry) → ⊥) (sym outer) (λ r. no (room-own g.E.Keyed.key_of hk cur ws olds inv.arrays c.args.self.now view (g.E.Keyed.key_of c.args.entry) r)))
+          c.insert_in-placed.ensures.full);
+      waiting = (waiting-together _ c.insert_in-placed.new.self t.waiting.items t.draining ∙ sym (waiting-seen _ t.current t.waiting.items t.draining c.args.self.now c.self.view_is));
+      owed = (
+          let there : owed_of (together hash new ws olds) ≡ owed_of c.args.self.now = by-answer c.insert_in-placed.result c.insert_in-placed.ensures.exact c.insert_in-placed.ensures.stays
+          (λ p put. owed-put g.E.Keyed.key_of hk cur ws olds inv.arrays c.args.self.now view c.args.entry i new p put within down)
+          (λ z. owed-kept hash cur new ws olds z.lists (ap (λ s. s.skipped) z.settings) ∙ ap owed_of view) in
+          subst (λ (h : g.row.E-Key.Denot → ℕ). owed_of (together (λ e. h (g.E.Keyed.key_of e)) new ws olds) ≡ owed_of c.args.self.now) (sym inner) there);
+      unique = (
+          let IsAfter = IsTable g.E.Key.PartialEq.eq g.E.Keyed.key_of hk new ws olds t.skipped t.pending t.next t.left t.left_overflow in
+          let few = c.overflow_len-few.ensures in
+          let there : IsAfter = by-answer c.insert_in-placed.result c.insert_in-placed.ensures.exact c.insert_in-placed.ensures.stays
+          (λ p put.
+          let left : spilled_of new + t.left_overflow < 2 ^ 62 = elim c.if-self-gt0.branch [
+            | then-self-gt0+else-is_overflow_full w ↦
+                let was = w.overflow_len-spilled.ensures.value in
+                elim (w.if-is_overflow_full.ensures.room (λ h. absurd (let z : false ≡ true = h in cc))) [
+                  | inl q ↦ let s = put.short (omega (arith, w.list_len-listed.ensures)) in omega (arith, inv.few)
+                  | inr q ↦ omega (arith, put.spilled)
+                ]
+            | else-self-gt0 w ↦ let z = w.if-self-gt0.false in omega (arith, few.value, few.most)
+          ] in
+          fields-put g.E.Key.PartialEq.eq g.met.E.Key.Eq.laws g.E.Keyed.key_of hk cur ws olds t.skipped t.pending t.next t.left t.left_overflow inv c.args.self.now view c.args.entry i new p put within down left c.requires.absent)
+          (λ z. fields-less g.E.Key.PartialEq.eq g.E.Keyed.key_of hk cur new ws olds t.skipped t.pending t.next t.left t.left_overflow z.lists (ap (λ s. s.skipped) z.settings) z.spilled inv) in
+          (subst (λ (h : g.row.E-Key.Denot → ℕ). IsTable g.E.Key.PartialEq.eq g.E.Keyed.key_of h new ws olds t.skipped t.pending t.next t.left t.left_overflow) (sym inner) there).unique);
+    }

@@ -1,4 +1,4 @@
-use Rattle.std.proofs.Common.{◌≡◌, ◌∙◌, true, false, drop, length, sym, ap, arith}
+use Rattle.std.proofs.Common.{◌≡◌, ◌∙◌, true, false, drop, length, sym, ap, arith, rules}
 use Rattle.std.proofs.lemmas.List.{length-drop}
 use Rattle.scc_contents.specs.Contents.{waiting_of}
 use Rattle.scc_contents.specs.Hashing.{hash_of}
@@ -11,40 +11,23 @@ use Rattle.scc_table.proofs.Table.put_settled.Goals as goal
 pub put_last-first-requires-clause-settled : goal.put_last-first-requires-clause-settled
 put_last-first-requires-clause-settled g c = λ up. absurd (let z : true ≡ false = sym up ∙ c.requires.settled in cc)
 
-pub returns-clause-step : goal.returns-clause-step
-returns-clause-step g c =
+pub returns : goal.returns
+returns g c =
     let m = c.put_last-first.new.self in
     let d = c.relocate_some.new.self in
     let r = c.relocate_some.ensures in
     let lm = c.put_last-first.ensures.listed c.requires.listed in
-    puts-later m d r.lists r.settings r.noted c.args.self.now c.args.bucket c.args.entry c.put_last-first.result (r.bounded lm.bounded (short-listed _ m lm)) c.put_last-first.ensures.step
-
-pub returns-clause-listed : goal.returns-clause-listed
-returns-clause-listed g c =
-    let m = c.put_last-first.new.self in
-    let d = c.relocate_some.new.self in
-    let r = c.relocate_some.ensures in
-    let lm = c.put_last-first.ensures.listed c.requires.listed in
-    listed-later (λ s (e : g.row.E.Denot). hash_of g.H.BuildHasher g.H.Hasher.Hasher s.hasher (g.E.Key.Hash.hash_input (g.E.Keyed.key_of e))) m d r.lists r.settings (r.bounded lm.bounded (short-listed _ m lm)) lm
-
-pub returns-clause-settled : goal.returns-clause-settled
-returns-clause-settled g c =
-    let i = c.args.bucket in
-    let d = c.relocate_some.new.self in
-    let waiting = c.put_last-first.ensures.waiting in
-    by_answer (waits_at (waiting_of d) i) (λ q. absurd (let z : true ≡ false = sym (c.relocate_some.ensures.fewer i q) ∙ ap (λ w. waits_at w i) waiting ∙ c.requires.settled in cc)) (λ q. q)
-
-pub returns-clause-exact : goal.returns-clause-exact
-returns-clause-exact g c =
-    let m = c.put_last-first.new.self in
-    let lm = c.put_last-first.ensures.listed c.requires.listed in
-    c.relocate_some.ensures.exact (short-listed _ m lm) ∙ ap (drop c.args.most) (targets-same c.args.self.now m c.put_last-first.ensures.waiting)
-
-pub returns-clause-count : goal.returns-clause-count
-returns-clause-count g c =
-    let a = c.args.self.now in
-    let m = c.put_last-first.new.self in
-    let d = c.relocate_some.new.self in
-    let lm = c.put_last-first.ensures.listed c.requires.listed in
-    let exact = c.relocate_some.ensures.exact (short-listed _ m lm) ∙ ap (drop c.args.most) (targets-same a m c.put_last-first.ensures.waiting) in
-    λ enough. omega (arith, ap length exact, length-drop c.args.most (pending_targets a), targets-length a, targets-length d)
+    record {
+      step = (puts-later m d r.lists r.settings r.noted c.args.self.now c.args.bucket c.args.entry c.put_last-first.result (r.bounded lm.bounded (short-listed _ m lm)) c.put_last-first.ensures.step);
+      listed = (listed-later (λ s (e : g.row.E.Denot). hash_of g.H.BuildHasher g.H.Hasher.Hasher s.hasher (g.E.Key.Hash.hash_input (g.E.Keyed.key_of e))) m d r.lists r.settings (r.bounded lm.bounded (short-listed _ m lm)) lm);
+      settled = (
+          let i = c.args.bucket in
+          let waiting = c.put_last-first.ensures.waiting in
+          by_answer (waits_at (waiting_of d) i) (λ q. absurd (let z : true ≡ false = sym (c.relocate_some.ensures.fewer i q) ∙ ap (λ w. waits_at w i) waiting ∙ c.requires.settled in cc)) (λ q. q));
+      exact = (c.relocate_some.ensures.exact (short-listed _ m lm) ∙ ap (drop c.args.most) (targets-same c.args.self.now m c.put_last-first.ensures.waiting));
+      count = (
+          let a = c.args.self.now in
+          let exact = c.relocate_some.ensures.exact (short-listed _ m lm) ∙ ap (drop c.args.most) (targets-same a m c.put_last-first.ensures.waiting) in
+          λ enough. omega (arith, ap length exact, length-drop c.args.most (pending_targets a), targets-length a, targets-length d));
+      unique = (search rules);
+    }

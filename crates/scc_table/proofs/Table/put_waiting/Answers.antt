@@ -1,4 +1,4 @@
-use Rattle.std.proofs.Common.{◌≡◌, ◌∙◌, None, sym, ap, subst, arith}
+use Rattle.std.proofs.Common.{◌≡◌, ◌∙◌, None, sym, ap, subst, arith, rules}
 use Rattle.std.specs.List.{position}
 use Rattle.scc_contents.specs.Contents.{bucket_count, settings_of}
 use Rattle.scc_contents.specs.Routing.{bucket_number}
@@ -22,15 +22,17 @@ pub put_settled-requires-clause-absent : goal.put_settled-requires-clause-absent
 put_settled-requires-clause-absent g c =
     subst (λ es. position (λ e. g.E.Key.PartialEq.eq (g.E.Keyed.key_of c.args.entry) (g.E.Keyed.key_of e)) es ≡ None) (sym (entries-same c.args.self.now c.settle.new.self c.settle.ensures.moved.lists)) c.requires.absent
 
-pub returns-clause-step : goal.returns-clause-step
-returns-clause-step g c =
-    let r = c.settle.ensures.moved in
-    puts-from c.args.self.now c.settle.new.self r.lists r.settings r.refused c.put_settled.new.self c.args.bucket c.args.entry c.put_settled.result c.put_settled.ensures.step
-
-pub returns-clause-exact : goal.returns-clause-exact
-returns-clause-exact g c = relocated-left c.args.bucket c.args.self.now c.settle.new.self c.settle.ensures.moved (pending_targets c.put_settled.new.self) c.put_settled.ensures.exact
-
-pub returns-clause-two : goal.returns-clause-two
-returns-clause-two g c =
-    let n = c.settle.ensures.moved.pending in
-    λ enough. let z = c.put_settled.ensures.count (omega arith) in omega arith
+pub returns : goal.returns
+returns g c =
+    record {
+      step = (
+          let r = c.settle.ensures.moved in
+          puts-from c.args.self.now c.settle.new.self r.lists r.settings r.refused c.put_settled.new.self c.args.bucket c.args.entry c.put_settled.result c.put_settled.ensures.step);
+      listed = (search rules);
+      settled = (search rules);
+      exact = (relocated-left c.args.bucket c.args.self.now c.settle.new.self c.settle.ensures.moved (pending_targets c.put_settled.new.self) c.put_settled.ensures.exact);
+      count = (
+          let n = c.settle.ensures.moved.pending in
+          λ enough. let z = c.put_settled.ensures.count (omega arith) in omega arith);
+      unique = (search rules);
+    }

@@ -1,4 +1,4 @@
-use Rattle.std.proofs.Common.{◌≡◌, ◌∙◌, true, false, sym}
+use Rattle.std.proofs.Common.{◌≡◌, ◌∙◌, true, false, sym, rules}
 use Rattle.scc_contents.specs.Contents.{waiting_of}
 use Rattle.scc_buckets.proofs.PairSplits.{by_answer}
 use Rattle.scc_table.specs.TwoArrays.{pending_targets, waits_at}
@@ -10,8 +10,16 @@ put_settled-requires-clause-settled g c =
     let a = c.args.self.now in
     by_answer (waits_at (waiting_of a) c.args.bucket) (λ q. absurd (let z : true ≡ false = sym (c.is_waiting.ensures.1 q) ∙ c.if-is_waiting.false in cc)) (λ q. q)
 
-pub returns-clause-exact : goal.returns-clause-exact
-returns-clause-exact g c =
-    let a = c.args.self.now in
-    let down : waits_at (waiting_of a) c.args.bucket ≡ false = by_answer (waits_at (waiting_of a) c.args.bucket) (λ q. absurd (let z : true ≡ false = sym (c.is_waiting.ensures.1 q) ∙ c.if-is_waiting.false in cc)) (λ q. q) in
-    settled-left c.args.bucket a (pending_targets c.put_settled.new.self) down c.put_settled.ensures.exact
+pub returns : goal.returns
+returns g c =
+    record {
+      step = (search rules);
+      listed = (search rules);
+      settled = (search rules);
+      exact = (
+          let a = c.args.self.now in
+          let down : waits_at (waiting_of a) c.args.bucket ≡ false = by_answer (waits_at (waiting_of a) c.args.bucket) (λ q. absurd (let z : true ≡ false = sym (c.is_waiting.ensures.1 q) ∙ c.if-is_waiting.false in cc)) (λ q. q) in
+          settled-left c.args.bucket a (pending_targets c.put_settled.new.self) down c.put_settled.ensures.exact);
+      count = (search rules);
+      unique = (search rules);
+    }

@@ -1,4 +1,4 @@
-use Rattle.std.proofs.Common.{◌≡◌, ◌∙◌, ℕ, [], length, sym, ap, subst, arith}
+use Rattle.std.proofs.Common.{◌≡◌, ◌∙◌, ℕ, [], length, sym, ap, subst, arith, rules}
 use Rattle.std.specs.List.{count_by}
 use Rattle.std.specs.List.Sorted.{IsPermutation}
 use Rattle.scc_contents.specs.Contents.{entries, key_hash}
@@ -15,39 +15,45 @@ start-requires-clause-some g c = let same = count-same c.args.self.now c.finish.
 pub start-requires-clause-other : goal.start-requires-clause-other
 start-requires-clause-other g c = λ z. c.requires.other (z ∙ count-same c.args.self.now c.finish.new.self c.finish.ensures.lists)
 
-pub returns-in-Ok-clause-lists : goal.returns-in-Ok-clause-lists
-returns-in-Ok-clause-lists g c =
-    let a = c.args.self.now in
-    let b = c.finish.new.self in
-    let inner = λ (e : g.row.E.Denot). key_hash g.H.BuildHasher g.H.Hasher.Hasher g.E.Key.Hash.hash_input b (g.E.Keyed.key_of e) in
-    let outer = λ (e : g.row.E.Denot). key_hash g.H.BuildHasher g.H.Hasher.Hasher g.E.Key.Hash.hash_input a (g.E.Keyed.key_of e) in
-    let keys = hash-same g.H.BuildHasher g.H.Hasher.Hasher g.E.Key.Hash.hash_input a b c.finish.ensures.settings in
-    let same : inner ≡ outer = ap (λ (h : g.row.E-Key.Denot → ℕ). let f : g.row.E.Denot → ℕ = λ e. h (g.E.Keyed.key_of e) in f) keys in
-    on-ok c.start.result (regrouped-from inner outer c.args.count a b c.start.new.self same c.finish.ensures.lists c.finish.ensures.settings) c.start.ensures.lists
+pub returns-in-Ok : goal.returns-in-Ok
+returns-in-Ok g c =
+    record {
+      lists = (
+          let a = c.args.self.now in
+          let b = c.finish.new.self in
+          let inner = λ (e : g.row.E.Denot). key_hash g.H.BuildHasher g.H.Hasher.Hasher g.E.Key.Hash.hash_input b (g.E.Keyed.key_of e) in
+          let outer = λ (e : g.row.E.Denot). key_hash g.H.BuildHasher g.H.Hasher.Hasher g.E.Key.Hash.hash_input a (g.E.Keyed.key_of e) in
+          let keys = hash-same g.H.BuildHasher g.H.Hasher.Hasher g.E.Key.Hash.hash_input a b c.finish.ensures.settings in
+          let same : inner ≡ outer = ap (λ (h : g.row.E-Key.Denot → ℕ). let f : g.row.E.Denot → ℕ = λ e. h (g.E.Keyed.key_of e) in f) keys in
+          on-ok c.start.result (regrouped-from inner outer c.args.count a b c.start.new.self same c.finish.ensures.lists c.finish.ensures.settings) c.start.ensures.lists);
+      same = (on-ok c.start.result (λ p. subst (λ es. IsPermutation es (entries c.start.new.self)) (entries-same c.args.self.now c.finish.new.self c.finish.ensures.lists) p) c.start.ensures.same);
+      waiting = (search rules);
+      pending = (search rules);
+      down = (search rules);
+      err = (on-err c.start.result (λ z. unchanged-same c.args.self.now c.start.new.self (z ∙ c.finish.ensures.lists) (c.start.ensures.settings ∙ c.finish.ensures.settings)) c.start.ensures.err);
+      fewer = (search rules);
+      less = (on-err c.start.result (λ z. let n = pending-same c.finish.new.self c.start.new.self z in omega (arith, c.finish.ensures.less)) c.start.ensures.stays);
+      still = (on-err c.start.result (λ z. z ∙ c.finish.ensures.lists) c.start.ensures.err);
+      settings = (search rules);
+      bounded = (λ none short. c.start.ensures.bounded (c.finish.ensures.bounded none short));
+      up = (search rules);
+      unique = (search rules);
+    }
 
-pub returns-in-Ok-clause-same : goal.returns-in-Ok-clause-same
-returns-in-Ok-clause-same g c =
-    on-ok c.start.result (λ p. subst (λ es. IsPermutation es (entries c.start.new.self)) (entries-same c.args.self.now c.finish.new.self c.finish.ensures.lists) p) c.start.ensures.same
-
-pub returns-in-Ok-clause-err : goal.returns-in-Ok-clause-err
-returns-in-Ok-clause-err g c =
-    on-err c.start.result (λ z. unchanged-same c.args.self.now c.start.new.self (z ∙ c.finish.ensures.lists) (c.start.ensures.settings ∙ c.finish.ensures.settings)) c.start.ensures.err
-
-pub returns-in-Ok-clause-less : goal.returns-in-Ok-clause-less
-returns-in-Ok-clause-less g c =
-    on-err c.start.result (λ z. let n = pending-same c.finish.new.self c.start.new.self z in omega (arith, c.finish.ensures.less)) c.start.ensures.stays
-
-pub returns-in-Err-clause-err : goal.returns-in-Err-clause-err
-returns-in-Err-clause-err g c = unchanged-same c.args.self.now c.note.new.self (c.note.ensures.lists ∙ c.finish.ensures.lists) (c.note.ensures.settings ∙ c.finish.ensures.settings)
-
-pub returns-in-Err-clause-less : goal.returns-in-Err-clause-less
-returns-in-Err-clause-less g c = let n = pending-same c.finish.new.self c.note.new.self c.note.ensures.waiting in omega (arith, c.finish.ensures.less)
-
-pub returns-in-Ok-clause-still : goal.returns-in-Ok-clause-still
-returns-in-Ok-clause-still g c = on-err c.start.result (λ z. z ∙ c.finish.ensures.lists) c.start.ensures.err
-
-pub returns-in-Ok-clause-bounded : goal.returns-in-Ok-clause-bounded
-returns-in-Ok-clause-bounded g c = λ none short. c.start.ensures.bounded (c.finish.ensures.bounded none short)
-
-pub returns-in-Err-clause-bounded : goal.returns-in-Err-clause-bounded
-returns-in-Err-clause-bounded g c = λ none short. c.note.ensures.spilled ∙ c.finish.ensures.bounded none short
+pub returns-in-Err : goal.returns-in-Err
+returns-in-Err g c =
+    record {
+      lists = (search rules);
+      same = (search rules);
+      waiting = (search rules);
+      pending = (search rules);
+      down = (search rules);
+      err = (unchanged-same c.args.self.now c.note.new.self (c.note.ensures.lists ∙ c.finish.ensures.lists) (c.note.ensures.settings ∙ c.finish.ensures.settings));
+      fewer = (search rules);
+      less = (let n = pending-same c.finish.new.self c.note.new.self c.note.ensures.waiting in omega (arith, c.finish.ensures.less));
+      still = (search rules);
+      settings = (search rules);
+      bounded = (λ none short. c.note.ensures.spilled ∙ c.finish.ensures.bounded none short);
+      up = (search rules);
+      unique = (search rules);
+    }

@@ -1,4 +1,4 @@
-use Rattle.std.proofs.Common.{◌≡◌, ◌∙◌, ℕ, sym, ap, subst}
+use Rattle.std.proofs.Common.{◌≡◌, ◌∙◌, ℕ, sym, ap, subst, rules}
 use Rattle.scc_contents.specs.Contents.{Settings, entries, bucket_count, key_hash, lists_of, owed_of, settings_of}
 use Rattle.scc_table.specs.TwoArrays.{IsTable, together}
 use Rattle.scc_table.proofs.Joining.{settings-together, refused-together, waiting-together}
@@ -23,8 +23,8 @@ invariant_of-self g c =
     subst (λ (h : g.row.E-Key.Denot → ℕ). IsTable g.E.Key.PartialEq.eq g.E.Keyed.key_of h d t.waiting.items t.draining t.skipped t.pending t.next t.left t.left_overflow) (sym same)
     (fields-kept g.E.Key.PartialEq.eq g.E.Keyed.key_of hk t.current d t.waiting.items t.draining t.skipped t.pending t.next t.left t.left_overflow e.lists skips e.spilled c.self.invariant)
 
-pub returns-clause-lists : goal.returns-clause-lists
-returns-clause-lists g c =
+pub returns : goal.returns
+returns g c =
     let t = c.self.inside in
     let d = c.set_reserved.new.self in
     let hk = key_hash g.H.BuildHasher g.H.Hasher.Hasher g.E.Key.Hash.hash_input t.current in
@@ -32,52 +32,14 @@ returns-clause-lists g c =
     let same = hash-like g.H.BuildHasher g.H.Hasher.Hasher g.E.Key.Hash.hash_input t.current d (ap (λ s. s.hasher) e.settings) in
     let skips = ap (λ s. s.skipped) e.settings in
     let there = ap (λ (h : g.row.E-Key.Denot → ℕ). lists_of (together (λ e. h (g.E.Keyed.key_of e)) d t.waiting.items t.draining)) same ∙ lists-kept (λ e. hk (g.E.Keyed.key_of e)) t.current d t.waiting.items t.draining e.lists skips ∙ ap lists_of c.self.view_is in
-    there
-
-pub returns-clause-entries : goal.returns-clause-entries
-returns-clause-entries g c =
-    let t = c.self.inside in
-    let d = c.set_reserved.new.self in
-    let hk = key_hash g.H.BuildHasher g.H.Hasher.Hasher g.E.Key.Hash.hash_input t.current in
-    let e = c.set_reserved.ensures in
-    let same = hash-like g.H.BuildHasher g.H.Hasher.Hasher g.E.Key.Hash.hash_input t.current d (ap (λ s. s.hasher) e.settings) in
-    let skips = ap (λ s. s.skipped) e.settings in
-    let there = ap (λ (h : g.row.E-Key.Denot → ℕ). lists_of (together (λ e. h (g.E.Keyed.key_of e)) d t.waiting.items t.draining)) same ∙ lists-kept (λ e. hk (g.E.Keyed.key_of e)) t.current d t.waiting.items t.draining e.lists skips ∙ ap lists_of c.self.view_is in
-    entries-same c.args.self.now _ there
-
-pub returns-clause-buckets : goal.returns-clause-buckets
-returns-clause-buckets g c =
-    let t = c.self.inside in
-    let d = c.set_reserved.new.self in
-    let hk = key_hash g.H.BuildHasher g.H.Hasher.Hasher g.E.Key.Hash.hash_input t.current in
-    let e = c.set_reserved.ensures in
-    let same = hash-like g.H.BuildHasher g.H.Hasher.Hasher g.E.Key.Hash.hash_input t.current d (ap (λ s. s.hasher) e.settings) in
-    let skips = ap (λ s. s.skipped) e.settings in
-    let there = ap (λ (h : g.row.E-Key.Denot → ℕ). lists_of (together (λ e. h (g.E.Keyed.key_of e)) d t.waiting.items t.draining)) same ∙ lists-kept (λ e. hk (g.E.Keyed.key_of e)) t.current d t.waiting.items t.draining e.lists skips ∙ ap lists_of c.self.view_is in
-    count-same c.args.self.now _ there
-
-pub returns-clause-settings : goal.returns-clause-settings
-returns-clause-settings g c =
-    let t = c.self.inside in
-    let kept = settings-seen _ t.current t.waiting.items t.draining c.args.self.now c.self.view_is in
-    settings-together _ c.set_reserved.new.self t.waiting.items t.draining ∙ c.set_reserved.ensures.settings ∙ ap (λ (s : Settings g.row.H.Denot). let r : Settings g.row.H.Denot = record s { reserved = c.args.reserved } in r) (sym kept)
-
-pub returns-clause-noted : goal.returns-clause-noted
-returns-clause-noted g c =
-    let t = c.self.inside in
-    refused-together _ c.set_reserved.new.self t.waiting.items t.draining ∙ c.set_reserved.ensures.noted ∙ sym (refused-seen _ t.current t.waiting.items t.draining c.args.self.now c.self.view_is)
-
-pub returns-clause-waiting : goal.returns-clause-waiting
-returns-clause-waiting g c =
-    let t = c.self.inside in
-    waiting-together _ c.set_reserved.new.self t.waiting.items t.draining ∙ sym (waiting-seen _ t.current t.waiting.items t.draining c.args.self.now c.self.view_is)
-
-pub returns-clause-owed : goal.returns-clause-owed
-returns-clause-owed g c =
-    let t = c.self.inside in
-    let d = c.set_reserved.new.self in
-    let hk = key_hash g.H.BuildHasher g.H.Hasher.Hasher g.E.Key.Hash.hash_input t.current in
-    let e = c.set_reserved.ensures in
-    let same = hash-like g.H.BuildHasher g.H.Hasher.Hasher g.E.Key.Hash.hash_input t.current d (ap (λ s. s.hasher) e.settings) in
-    let skips = ap (λ s. s.skipped) e.settings in
-    ap (λ (h : g.row.E-Key.Denot → ℕ). owed_of (together (λ e. h (g.E.Keyed.key_of e)) d t.waiting.items t.draining)) same ∙ owed-kept (λ e. hk (g.E.Keyed.key_of e)) t.current d t.waiting.items t.draining e.lists skips ∙ ap owed_of c.self.view_is
+    record {
+      entries = (entries-same c.args.self.now _ there);
+      buckets = (count-same c.args.self.now _ there);
+      settings = (
+          let kept = settings-seen _ t.current t.waiting.items t.draining c.args.self.now c.self.view_is in
+          settings-together _ c.set_reserved.new.self t.waiting.items t.draining ∙ c.set_reserved.ensures.settings ∙ ap (λ (s : Settings g.row.H.Denot). let r : Settings g.row.H.Denot = record s { reserved = c.args.reserved } in r) (sym kept));
+      noted = (refused-together _ c.set_reserved.new.self t.waiting.items t.draining ∙ c.set_reserved.ensures.noted ∙ sym (refused-seen _ t.current t.waiting.items t.draining c.args.self.now c.self.view_is));
+      lists = (there);
+      waiting = (waiting-together _ c.set_reserved.new.self t.waiting.items t.draining ∙ sym (waiting-seen _ t.current t.waiting.items t.draining c.args.self.now c.self.view_is));
+      owed = (ap (λ (h : g.row.E-Key.Denot → ℕ). owed_of (together (λ e. h (g.E.Keyed.key_of e)) d t.waiting.items t.draining)) same ∙ owed-kept (λ e. hk (g.E.Keyed.key_of e)) t.current d t.waiting.items t.draining e.lists skips ∙ ap owed_of c.self.view_is);
+    }

@@ -1,4 +1,4 @@
-use Rattle.std.proofs.Common.{◌≡◌, ◌∙◌, ℕ, ◌-◌, ◌<◌, Bool, List, length, get_or, map, set, replicate, true, false, sym, ap, subst, arith}
+use Rattle.std.proofs.Common.{◌≡◌, ◌∙◌, ℕ, ◌-◌, ◌<◌, Bool, List, length, get_or, map, set, replicate, true, false, sym, ap, subst, arith, rules}
 use Rattle.std.proofs.lemmas.List.{get_or-replicate, length-replicate}
 use Rattle.std.specs.List.Sorted.{IsPermutation}
 use Rattle.scc_array.specs.Shelf.{empty_shelf, shelf_entries}
@@ -215,8 +215,8 @@ invariant_of-self g c =
     let later : key_hash g.H.BuildHasher g.H.Hasher.Hasher g.E.Key.Hash.hash_input e ≡ hk = hash-same g.H.BuildHasher g.H.Hasher.Hasher g.E.Key.Hash.hash_input d e takes.settings in
     rw c.replace-bare.ensures.after (subst (λ (h : g.row.E-Key.Denot → ℕ). IsTable g.E.Key.PartialEq.eq key h e vs news t.skipped (n - 1) 0 (c.exchange-old.result.1 - c.in-Ok.moved) over) (sym later) (taken-fields g.E.Key.PartialEq.eq g.met.E.Key.Eq.laws key hk cur d t.waiting.items t.draining t.skipped t.pending t.next t.left t.left_overflow inv a view r.settled n c.args.fresh olds c.exchange-old.result.1 over c.requires.empty r.array r.some r.other x.lists x.settings x.spilled x.were table k r.within c.in-Ok.moved e vs news takes down c.in-Ok.ensures.few))
 
-pub returns-in-Ok-clause-lists : goal.returns-in-Ok-clause-lists
-returns-in-Ok-clause-lists g c =
+pub returns-in-Ok : goal.returns-in-Ok
+returns-in-Ok g c =
     let t = c.self.inside in
     let cur = t.current in
     let a = c.args.self.now in
@@ -231,104 +231,27 @@ returns-in-Ok-clause-lists g c =
     let hk = key_hash g.H.BuildHasher g.H.Hasher.Hasher g.E.Key.Hash.hash_input d in
     let same : hk ≡ key_hash g.H.BuildHasher g.H.Hasher.Hasher g.E.Key.Hash.hash_input cur = hash-same g.H.BuildHasher g.H.Hasher.Hasher g.E.Key.Hash.hash_input cur d x.settings in
     let inv : IsTable g.E.Key.PartialEq.eq key hk cur t.waiting.items t.draining t.skipped t.pending t.next t.left t.left_overflow = subst (λ (h : g.row.E-Key.Denot → ℕ). IsTable g.E.Key.PartialEq.eq key h cur t.waiting.items t.draining t.skipped t.pending t.next t.left t.left_overflow) (sym same) c.self.invariant in
-    let view : together (λ e. hk (key e)) cur t.waiting.items t.draining ≡ a = subst (λ (h : g.row.E-Key.Denot → ℕ). together (λ e. h (key e)) cur t.waiting.items t.draining ≡ a) (sym same) c.self.view_is in
-    let table : IsBuckets (λ e. hk (key e)) (settings_of cur).skipped olds c.exchange-old.result.1 over = subst (λ (h : g.row.E-Key.Denot → ℕ). IsBuckets (λ e. h (key e)) (settings_of cur).skipped olds c.exchange-old.result.1 over) (sym same) x.table in
     let e = c.take.new.current in
     let news = c.take.new.old in
     let takes = c.in-Ok.ensures.ok in
     let vs = set c.args.flags.items k false in
     let down : vs ≡ set (replicate n true) k false = ap (λ w. set w k false) c.requires.flags in
     let later : key_hash g.H.BuildHasher g.H.Hasher.Hasher g.E.Key.Hash.hash_input e ≡ hk = hash-same g.H.BuildHasher g.H.Hasher.Hasher g.E.Key.Hash.hash_input d e takes.settings in
-    let outer : key_hash g.H.BuildHasher g.H.Hasher.Hasher g.E.Key.Hash.hash_input a ≡ hk = hash-same g.H.BuildHasher g.H.Hasher.Hasher g.E.Key.Hash.hash_input d a (settings-seen _ cur t.waiting.items t.draining a view ∙ sym x.settings) in
-    let there = subst (λ (h : g.row.E-Key.Denot → ℕ). IsRegrouped (λ z. hk (key z)) n a (together (λ z. h (key z)) e vs news)) (sym later) (taken-lists g.E.Key.PartialEq.eq g.met.E.Key.Eq.laws key hk cur d t.waiting.items t.draining t.skipped t.pending t.next t.left t.left_overflow inv a view r.settled n c.args.fresh olds c.exchange-old.result.1 over c.requires.empty r.array r.some r.other x.lists x.settings x.spilled x.were table k r.within c.in-Ok.moved e vs news takes down) in
-    rw c.replace-bare.ensures.after (subst (λ (h : g.row.E-Key.Denot → ℕ). IsRegrouped (λ z. h (key z)) n a (together (λ z. key_hash g.H.BuildHasher g.H.Hasher.Hasher g.E.Key.Hash.hash_input e (key z)) e vs news)) (sym outer) there)
-
-pub returns-in-Ok-clause-same : goal.returns-in-Ok-clause-same
-returns-in-Ok-clause-same g c =
-    let t = c.self.inside in
-    let cur = t.current in
-    let a = c.args.self.now in
-    let n = c.args.count in
-    let k = c.args.bucket in
-    let d = c.exchange-old.new.self in
-    let olds = c.exchange-old.result.0 in
-    let over = c.exchange-old.result.2 in
-    let x = c.exchange-old.ensures in
-    let r = c.requires in
-    let key = g.E.Keyed.key_of in
-    let hk = key_hash g.H.BuildHasher g.H.Hasher.Hasher g.E.Key.Hash.hash_input d in
-    let same : hk ≡ key_hash g.H.BuildHasher g.H.Hasher.Hasher g.E.Key.Hash.hash_input cur = hash-same g.H.BuildHasher g.H.Hasher.Hasher g.E.Key.Hash.hash_input cur d x.settings in
-    let inv : IsTable g.E.Key.PartialEq.eq key hk cur t.waiting.items t.draining t.skipped t.pending t.next t.left t.left_overflow = subst (λ (h : g.row.E-Key.Denot → ℕ). IsTable g.E.Key.PartialEq.eq key h cur t.waiting.items t.draining t.skipped t.pending t.next t.left t.left_overflow) (sym same) c.self.invariant in
     let view : together (λ e. hk (key e)) cur t.waiting.items t.draining ≡ a = subst (λ (h : g.row.E-Key.Denot → ℕ). together (λ e. h (key e)) cur t.waiting.items t.draining ≡ a) (sym same) c.self.view_is in
     let table : IsBuckets (λ e. hk (key e)) (settings_of cur).skipped olds c.exchange-old.result.1 over = subst (λ (h : g.row.E-Key.Denot → ℕ). IsBuckets (λ e. h (key e)) (settings_of cur).skipped olds c.exchange-old.result.1 over) (sym same) x.table in
-    let e = c.take.new.current in
-    let news = c.take.new.old in
-    let takes = c.in-Ok.ensures.ok in
-    let vs = set c.args.flags.items k false in
-    let down : vs ≡ set (replicate n true) k false = ap (λ w. set w k false) c.requires.flags in
-    let later : key_hash g.H.BuildHasher g.H.Hasher.Hasher g.E.Key.Hash.hash_input e ≡ hk = hash-same g.H.BuildHasher g.H.Hasher.Hasher g.E.Key.Hash.hash_input d e takes.settings in
-    rw c.replace-bare.ensures.after (subst (λ (h : g.row.E-Key.Denot → ℕ). IsPermutation (entries a) (entries (together (λ z. h (key z)) e vs news))) (sym later) (taken-same g.E.Key.PartialEq.eq g.met.E.Key.Eq.laws key hk cur d t.waiting.items t.draining t.skipped t.pending t.next t.left t.left_overflow inv a view r.settled n c.args.fresh olds c.exchange-old.result.1 over c.requires.empty r.array r.some r.other x.lists x.settings x.spilled x.were table k r.within c.in-Ok.moved e vs news takes down))
-
-pub returns-in-Ok-clause-waiting : goal.returns-in-Ok-clause-waiting
-returns-in-Ok-clause-waiting g c =
-    let t = c.self.inside in
-    let cur = t.current in
-    let a = c.args.self.now in
-    let n = c.args.count in
-    let k = c.args.bucket in
-    let d = c.exchange-old.new.self in
-    let olds = c.exchange-old.result.0 in
-    let over = c.exchange-old.result.2 in
-    let x = c.exchange-old.ensures in
-    let r = c.requires in
-    let key = g.E.Keyed.key_of in
-    let e = c.take.new.current in
-    let vs = set c.args.flags.items k false in
-    waiting-together _ e vs c.replace-bare.new.dest ∙ ap (λ w. set w k false) c.requires.flags ∙ sym (settle-all n k r.array.least r.within)
-
-pub returns-in-Ok-clause-noted : goal.returns-in-Ok-clause-noted
-returns-in-Ok-clause-noted g c =
-    let t = c.self.inside in
-    let cur = t.current in
-    let a = c.args.self.now in
-    let n = c.args.count in
-    let k = c.args.bucket in
-    let d = c.exchange-old.new.self in
-    let olds = c.exchange-old.result.0 in
-    let over = c.exchange-old.result.2 in
-    let x = c.exchange-old.ensures in
-    let r = c.requires in
-    let key = g.E.Keyed.key_of in
-    let e = c.take.new.current in
-    let vs = set c.args.flags.items k false in
-    refused-together _ e vs c.replace-bare.new.dest ∙ c.in-Ok.ensures.ok.refused ∙ x.noted ∙ sym (refused-seen _ cur t.waiting.items t.draining a c.self.view_is)
-
-pub returns-in-Ok-clause-unique : goal.returns-in-Ok-clause-unique
-returns-in-Ok-clause-unique g c =
-    let t = c.self.inside in
-    let cur = t.current in
-    let a = c.args.self.now in
-    let n = c.args.count in
-    let k = c.args.bucket in
-    let d = c.exchange-old.new.self in
-    let olds = c.exchange-old.result.0 in
-    let over = c.exchange-old.result.2 in
-    let x = c.exchange-old.ensures in
-    let r = c.requires in
-    let key = g.E.Keyed.key_of in
-    let hk = key_hash g.H.BuildHasher g.H.Hasher.Hasher g.E.Key.Hash.hash_input d in
-    let same : hk ≡ key_hash g.H.BuildHasher g.H.Hasher.Hasher g.E.Key.Hash.hash_input cur = hash-same g.H.BuildHasher g.H.Hasher.Hasher g.E.Key.Hash.hash_input cur d x.settings in
-    let inv : IsTable g.E.Key.PartialEq.eq key hk cur t.waiting.items t.draining t.skipped t.pending t.next t.left t.left_overflow = subst (λ (h : g.row.E-Key.Denot → ℕ). IsTable g.E.Key.PartialEq.eq key h cur t.waiting.items t.draining t.skipped t.pending t.next t.left t.left_overflow) (sym same) c.self.invariant in
-    let view : together (λ e. hk (key e)) cur t.waiting.items t.draining ≡ a = subst (λ (h : g.row.E-Key.Denot → ℕ). together (λ e. h (key e)) cur t.waiting.items t.draining ≡ a) (sym same) c.self.view_is in
-    let table : IsBuckets (λ e. hk (key e)) (settings_of cur).skipped olds c.exchange-old.result.1 over = subst (λ (h : g.row.E-Key.Denot → ℕ). IsBuckets (λ e. h (key e)) (settings_of cur).skipped olds c.exchange-old.result.1 over) (sym same) x.table in
-    let e = c.take.new.current in
-    let news = c.take.new.old in
-    let takes = c.in-Ok.ensures.ok in
-    let vs = set c.args.flags.items k false in
-    let down : vs ≡ set (replicate n true) k false = ap (λ w. set w k false) c.requires.flags in
-    let later : key_hash g.H.BuildHasher g.H.Hasher.Hasher g.E.Key.Hash.hash_input e ≡ hk = hash-same g.H.BuildHasher g.H.Hasher.Hasher g.E.Key.Hash.hash_input d e takes.settings in
-    let there = subst (λ (h : g.row.E-Key.Denot → ℕ). IsTable g.E.Key.PartialEq.eq key h e vs news t.skipped (n - 1) 0 (c.exchange-old.result.1 - c.in-Ok.moved) over) (sym later) (taken-fields g.E.Key.PartialEq.eq g.met.E.Key.Eq.laws key hk cur d t.waiting.items t.draining t.skipped t.pending t.next t.left t.left_overflow inv a view r.settled n c.args.fresh olds c.exchange-old.result.1 over c.requires.empty r.array r.some r.other x.lists x.settings x.spilled x.were table k r.within c.in-Ok.moved e vs news takes down c.in-Ok.ensures.few) in
-    rw c.replace-bare.ensures.after there.unique
+    record {
+      lists = (
+          let outer : key_hash g.H.BuildHasher g.H.Hasher.Hasher g.E.Key.Hash.hash_input a ≡ hk = hash-same g.H.BuildHasher g.H.Hasher.Hasher g.E.Key.Hash.hash_input d a (settings-seen _ cur t.waiting.items t.draining a view ∙ sym x.settings) in
+          let there = subst (λ (h : g.row.E-Key.Denot → ℕ). IsRegrouped (λ z. hk (key z)) n a (together (λ z. h (key z)) e vs news)) (sym later) (taken-lists g.E.Key.PartialEq.eq g.met.E.Key.Eq.laws key hk cur d t.waiting.items t.draining t.skipped t.pending t.next t.left t.left_overflow inv a view r.settled n c.args.fresh olds c.exchange-old.result.1 over c.requires.empty r.array r.some r.other x.lists x.settings x.spilled x.were table k r.within c.in-Ok.moved e vs news takes down) in
+          rw c.replace-bare.ensures.after (subst (λ (h : g.row.E-Key.Denot → ℕ). IsRegrouped (λ z. h (key z)) n a (together (λ z. key_hash g.H.BuildHasher g.H.Hasher.Hasher g.E.Key.Hash.hash_input e (key z)) e vs news)) (sym outer) there));
+      same = (rw c.replace-bare.ensures.after (subst (λ (h : g.row.E-Key.Denot → ℕ). IsPermutation (entries a) (entries (together (λ z. h (key z)) e vs news))) (sym later) (taken-same g.E.Key.PartialEq.eq g.met.E.Key.Eq.laws key hk cur d t.waiting.items t.draining t.skipped t.pending t.next t.left t.left_overflow inv a view r.settled n c.args.fresh olds c.exchange-old.result.1 over c.requires.empty r.array r.some r.other x.lists x.settings x.spilled x.were table k r.within c.in-Ok.moved e vs news takes down)));
+      waiting = (waiting-together _ e vs c.replace-bare.new.dest ∙ ap (λ w. set w k false) c.requires.flags ∙ sym (settle-all n k r.array.least r.within));
+      noted = (refused-together _ e vs c.replace-bare.new.dest ∙ c.in-Ok.ensures.ok.refused ∙ x.noted ∙ sym (refused-seen _ cur t.waiting.items t.draining a c.self.view_is));
+      err = (search rules);
+      unique = (
+          let there = subst (λ (h : g.row.E-Key.Denot → ℕ). IsTable g.E.Key.PartialEq.eq key h e vs news t.skipped (n - 1) 0 (c.exchange-old.result.1 - c.in-Ok.moved) over) (sym later) (taken-fields g.E.Key.PartialEq.eq g.met.E.Key.Eq.laws key hk cur d t.waiting.items t.draining t.skipped t.pending t.next t.left t.left_overflow inv a view r.settled n c.args.fresh olds c.exchange-old.result.1 over c.requires.empty r.array r.some r.other x.lists x.settings x.spilled x.were table k r.within c.in-Ok.moved e vs news takes down c.in-Ok.ensures.few) in
+          rw c.replace-bare.ensures.after there.unique);
+    }
 
 pub exchange-bare-requires-clause-table : goal.exchange-bare-requires-clause-table
 exchange-bare-requires-clause-table g c =
@@ -409,8 +332,8 @@ invariant_of-self-in-Err-1 g c =
     let whole : e ≡ cur = same-contents cur e (y.lists ∙ ap (map shelf_entries) c.in-Err.ensures.stays ∙ sym x.were) (y.settings ∙ ap settings_of back ∙ x.settings) (y.noted ∙ ap refused_of back ∙ x.noted) (y.spilled ∙ x.overflowing) (y.waiting ∙ ap waiting_of back ∙ x.waiting) (y.owed ∙ ap owed_of back ∙ x.owed) in
     rw whole c.self.invariant
 
-pub returns-in-Err-clause-err : goal.returns-in-Err-clause-err
-returns-in-Err-clause-err g c =
+pub returns-in-Err : goal.returns-in-Err
+returns-in-Err g c =
     let t = c.self.inside in
     let cur = t.current in
     let a = c.args.self.now in
@@ -426,26 +349,14 @@ returns-in-Err-clause-err g c =
     let y = c.exchange-bare.ensures in
     let back = c.in-Err.ensures.err in
     let whole : e ≡ cur = same-contents cur e (y.lists ∙ ap (map shelf_entries) c.in-Err.ensures.stays ∙ sym x.were) (y.settings ∙ ap settings_of back ∙ x.settings) (y.noted ∙ ap refused_of back ∙ x.noted) (y.spilled ∙ x.overflowing) (y.waiting ∙ ap waiting_of back ∙ x.waiting) (y.owed ∙ ap owed_of back ∙ x.owed) in
-    rw whole c.self.view_is
-
-pub returns-in-Err-clause-unique : goal.returns-in-Err-clause-unique
-returns-in-Err-clause-unique g c =
-    let t = c.self.inside in
-    let cur = t.current in
-    let a = c.args.self.now in
-    let n = c.args.count in
-    let k = c.args.bucket in
-    let d = c.exchange-old.new.self in
-    let olds = c.exchange-old.result.0 in
-    let over = c.exchange-old.result.2 in
-    let x = c.exchange-old.ensures in
-    let r = c.requires in
-    let key = g.E.Keyed.key_of in
-    let e = c.exchange-bare.new.self in
-    let y = c.exchange-bare.ensures in
-    let back = c.in-Err.ensures.err in
-    let whole : e ≡ cur = same-contents cur e (y.lists ∙ ap (map shelf_entries) c.in-Err.ensures.stays ∙ sym x.were) (y.settings ∙ ap settings_of back ∙ x.settings) (y.noted ∙ ap refused_of back ∙ x.noted) (y.spilled ∙ x.overflowing) (y.waiting ∙ ap waiting_of back ∙ x.waiting) (y.owed ∙ ap owed_of back ∙ x.owed) in
-    rw whole c.self.invariant.unique
+    record {
+      lists = (search rules);
+      same = (search rules);
+      waiting = (search rules);
+      noted = (search rules);
+      err = (rw whole c.self.view_is);
+      unique = (rw whole c.self.invariant.unique);
+    }
 
 pub take-requires-clause-flags : goal.take-requires-clause-flags
 take-requires-clause-flags g c =

@@ -1,4 +1,4 @@
-use Rattle.std.proofs.Common.{◌≡◌, ℕ, ◌+◌, ◌^◌, ◌<◌, ◌∷◌, ◌++◌, Bool, false, Some, None, [], List, length, map, sym, ap, ◌∙◌, subst, arith}
+use Rattle.std.proofs.Common.{◌≡◌, ℕ, ◌+◌, ◌^◌, ◌<◌, ◌∷◌, ◌++◌, Bool, false, Some, None, [], List, length, map, sym, ap, ◌∙◌, subst, arith, rules}
 use Rattle.std.specs.List.{position, remove, slice_get, slice_set, IsDistinct}
 use Rattle.scc_buckets.specs.Bounded.{HasList, IsBounded, IsListed, PutsLast}
 use Rattle.scc_contents.specs.Contents.{Contents, bucket_count, entries, owed_of, key_hash, list_of, lists_of, settings_of, spilled_of, waiting_of}
@@ -133,8 +133,8 @@ invariant_of-self g c =
     (own-fields g.E.Key.PartialEq.eq key hk cur d i (remove (list_of cur i) c.args.slot ++ x.0 ∷ []) changed.lists stay ws olds down t.skipped t.pending t.next t.left t.left_overflow inv few
     (unique-moved laws key u v i inside inv.unique c.args.slot x.0 (ap (λ z. slice_get z c.args.slot) own ∙ x.1) (first.lists ∙ ap (λ z. slice_set (lists_of u) i (remove z c.args.slot ++ x.0 ∷ [])) (sym own))))
 
-pub returns-clause-list : goal.returns-clause-list
-returns-clause-list g c =
+pub returns : goal.returns
+returns g c =
     let t = c.self.inside in
     let cur = t.current in
     let ws = t.waiting.items in
@@ -151,118 +151,34 @@ returns-clause-list g c =
     let here = ap (λ z. list_of z i) (sym view) ∙ own-list hash cur ws olds i down in
     let bounded : IsBounded u = subst (λ (z : Contents g.row.E.Denot g.row.H.Denot). IsBounded z) (sym view) c.requires.bounded in
     let d = c.touch.new.self in
+    let after = together (λ e. key_hash g.H.BuildHasher g.H.Hasher.Hasher g.E.Key.Hash.hash_input d (key e)) d ws olds in
+    let inv = c.self.invariant in
     let x = c.touch.ensures.list in
     let changed = x.2 in
     let stay = changed.settings in
     let same = ap (λ s. let h : g.row.E-Key.Denot → ℕ = λ k. hash_of g.H.BuildHasher g.H.Hasher.Hasher s.hasher (g.E.Key.Hash.hash_input k) in h) stay in
-    let after = together (λ e. key_hash g.H.BuildHasher g.H.Hasher.Hasher g.E.Key.Hash.hash_input d (key e)) d ws olds in
     let first = own-has_list hash cur d ws olds i down bounded (remove (list_of cur i) c.args.slot ++ x.0 ∷ []) changed in
     let moved = subst (λ (h : g.row.E-Key.Denot → ℕ). HasList u i (remove (list_of cur i) c.args.slot ++ x.0 ∷ []) (together (λ e. h (key e)) d ws olds)) (sym same) first in
     let last = subst (λ (z : Contents g.row.E.Denot g.row.H.Denot). HasList z i (remove (list_of cur i) c.args.slot ++ x.0 ∷ []) after) view moved in
     let list = subst (λ z. HasList now i (remove z c.args.slot ++ x.0 ∷ []) after) (sym here) last in
     let got : slice_get (list_of now i) c.args.slot ≡ Some x.0 = ap (λ z. slice_get z c.args.slot) here ∙ x.1 in
-    (x.0, got, list)
-
-pub returns-clause-listed : goal.returns-clause-listed
-returns-clause-listed g c =
-    let t = c.self.inside in
-    let cur = t.current in
-    let ws = t.waiting.items in
-    let olds = t.draining in
-    let inv = c.self.invariant in
-    let hk = key_hash g.H.BuildHasher g.H.Hasher.Hasher g.E.Key.Hash.hash_input cur in
-    let key = g.E.Keyed.key_of in
-    let view = c.self.view_is in
-    let now = c.args.self.now in
-    let i = c.args.bucket in
-    let hash = λ (e : g.row.E.Denot). hk (key e) in
-    let flags = waiting-seen hash cur ws olds now view in
-    let down : waits_at ws i ≡ false = not_true (waits_at ws i) (λ up. c.requires.settled (ap (λ w. waits_at w i) flags ∙ up)) in
-    let set = settings-seen hash cur ws olds now view in
-    let count = count-seen hash cur ws olds now view inv.arrays in
-    let within : i < bucket_count cur = let q = c.requires.within in omega (arith, count) in
-    let u = together hash cur ws olds in
-    let bounded : IsBounded u = subst (λ (z : Contents g.row.E.Denot g.row.H.Denot). IsBounded z) (sym view) c.requires.bounded in
-    let d = c.touch.new.self in
-    let x = c.touch.ensures.list in
-    let changed = x.2 in
-    let stay = changed.settings in
-    let same = ap (λ s. let h : g.row.E-Key.Denot → ℕ = λ k. hash_of g.H.BuildHasher g.H.Hasher.Hasher s.hasher (g.E.Key.Hash.hash_input k) in h) stay in
-    let v = together hash d ws olds in
-    let after = together (λ e. key_hash g.H.BuildHasher g.H.Hasher.Hasher g.E.Key.Hash.hash_input d (key e)) d ws olds in
-    let first = own-has_list hash cur d ws olds i down bounded (remove (list_of cur i) c.args.slot ++ x.0 ∷ []) changed in
-    λ was.
-    let first : IsListed hash u = subst (λ (z : Contents g.row.E.Denot g.row.H.Denot). IsListed hash z) (sym view) (subst (λ s. IsListed (λ (e : g.row.E.Denot). hash_of g.H.BuildHasher g.H.Hasher.Hasher s.hasher (g.E.Key.Hash.hash_input (key e))) now) (sym set) was) in
-    let ours : IsListed hash d = subst (λ s. IsListed (λ (e : g.row.E.Denot). hash_of g.H.BuildHasher g.H.Hasher.Hasher s.hasher (g.E.Key.Hash.hash_input (key e))) d) stay c.touch.ensures.listed in
-    let both : IsListed hash v = own-listed hash cur d ws olds inv.arrays i down within (remove (list_of cur i) c.args.slot ++ x.0 ∷ []) changed first ours in
-    let there = subst (λ (h : g.row.E-Key.Denot → ℕ). IsListed hash (together (λ e. h (key e)) d ws olds)) (sym same) both in
-    subst (λ s. IsListed (λ (e : g.row.E.Denot). hash_of g.H.BuildHasher g.H.Hasher.Hasher s.hasher (g.E.Key.Hash.hash_input (key e))) after) (sym (settings-together (λ e. key_hash g.H.BuildHasher g.H.Hasher.Hasher g.E.Key.Hash.hash_input d (key e)) d ws olds ∙ stay)) there
-
-pub returns-clause-waiting : goal.returns-clause-waiting
-returns-clause-waiting g c =
-    let t = c.self.inside in
-    let cur = t.current in
-    let ws = t.waiting.items in
-    let olds = t.draining in
-    let hk = key_hash g.H.BuildHasher g.H.Hasher.Hasher g.E.Key.Hash.hash_input cur in
-    let key = g.E.Keyed.key_of in
-    let view = c.self.view_is in
-    let now = c.args.self.now in
-    let hash = λ (e : g.row.E.Denot). hk (key e) in
-    let flags = waiting-seen hash cur ws olds now view in
-    let d = c.touch.new.self in
-    waiting-together (λ e. key_hash g.H.BuildHasher g.H.Hasher.Hasher g.E.Key.Hash.hash_input d (key e)) d ws olds ∙ sym flags
-
-pub returns-clause-owed : goal.returns-clause-owed
-returns-clause-owed g c =
-    let t = c.self.inside in
-    let cur = t.current in
-    let ws = t.waiting.items in
-    let olds = t.draining in
-    let hk = key_hash g.H.BuildHasher g.H.Hasher.Hasher g.E.Key.Hash.hash_input cur in
-    let key = g.E.Keyed.key_of in
-    let view = c.self.view_is in
-    let now = c.args.self.now in
-    let i = c.args.bucket in
-    let hash = λ (e : g.row.E.Denot). hk (key e) in
-    let flags = waiting-seen hash cur ws olds now view in
-    let down : waits_at ws i ≡ false = not_true (waits_at ws i) (λ up. c.requires.settled (ap (λ w. waits_at w i) flags ∙ up)) in
-    let d = c.touch.new.self in
-    let x = c.touch.ensures.list in
-    let changed = x.2 in
-    let stay = changed.settings in
-    let same = ap (λ s. let h : g.row.E-Key.Denot → ℕ = λ k. hash_of g.H.BuildHasher g.H.Hasher.Hasher s.hasher (g.E.Key.Hash.hash_input k) in h) stay in
-    ap (λ (h : g.row.E-Key.Denot → ℕ). owed_of (together (λ e. h (key e)) d ws olds)) same ∙ own-owed cur d i (remove (list_of cur i) c.args.slot ++ x.0 ∷ []) changed.lists stay hash ws olds down ∙ ap owed_of view
-
-pub returns-clause-unique : goal.returns-clause-unique
-returns-clause-unique g c =
-    let t = c.self.inside in
-    let cur = t.current in
-    let ws = t.waiting.items in
-    let olds = t.draining in
-    let inv = c.self.invariant in
-    let hk = key_hash g.H.BuildHasher g.H.Hasher.Hasher g.E.Key.Hash.hash_input cur in
-    let key = g.E.Keyed.key_of in
-    let laws = g.met.E.Key.Eq.laws in
-    let view = c.self.view_is in
-    let now = c.args.self.now in
-    let i = c.args.bucket in
-    let hash = λ (e : g.row.E.Denot). hk (key e) in
-    let flags = waiting-seen hash cur ws olds now view in
-    let down : waits_at ws i ≡ false = not_true (waits_at ws i) (λ up. c.requires.settled (ap (λ w. waits_at w i) flags ∙ up)) in
-    let u = together hash cur ws olds in
-    let here = ap (λ z. list_of z i) (sym view) ∙ own-list hash cur ws olds i down in
-    let bounded : IsBounded u = subst (λ (z : Contents g.row.E.Denot g.row.H.Denot). IsBounded z) (sym view) c.requires.bounded in
-    let d = c.touch.new.self in
-    let x = c.touch.ensures.list in
-    let changed = x.2 in
-    let stay = changed.settings in
-    let same = ap (λ s. let h : g.row.E-Key.Denot → ℕ = λ k. hash_of g.H.BuildHasher g.H.Hasher.Hasher s.hasher (g.E.Key.Hash.hash_input k) in h) stay in
-    let after = together (λ e. key_hash g.H.BuildHasher g.H.Hasher.Hasher g.E.Key.Hash.hash_input d (key e)) d ws olds in
-    let first = own-has_list hash cur d ws olds i down bounded (remove (list_of cur i) c.args.slot ++ x.0 ∷ []) changed in
-    let moved = subst (λ (h : g.row.E-Key.Denot → ℕ). HasList u i (remove (list_of cur i) c.args.slot ++ x.0 ∷ []) (together (λ e. h (key e)) d ws olds)) (sym same) first in
-    let last = subst (λ (z : Contents g.row.E.Denot g.row.H.Denot). HasList z i (remove (list_of cur i) c.args.slot ++ x.0 ∷ []) after) view moved in
-    let list = subst (λ z. HasList now i (remove z c.args.slot ++ x.0 ∷ []) after) (sym here) last in
-    let got : slice_get (list_of now i) c.args.slot ≡ Some x.0 = ap (λ z. slice_get z c.args.slot) here ∙ x.1 in
-    let unique = subst (λ (z : Contents g.row.E.Denot g.row.H.Denot). IsDistinct g.E.Key.PartialEq.eq (map key (entries z))) view inv.unique in
-    unique-moved laws key now after i c.requires.within unique c.args.slot x.0 got list.lists
+    record {
+      list = ((x.0, got, list));
+      listed = (
+          let set = settings-seen hash cur ws olds now view in
+          let count = count-seen hash cur ws olds now view inv.arrays in
+          let within : i < bucket_count cur = let q = c.requires.within in omega (arith, count) in
+          let v = together hash d ws olds in
+          λ was.
+          let first : IsListed hash u = subst (λ (z : Contents g.row.E.Denot g.row.H.Denot). IsListed hash z) (sym view) (subst (λ s. IsListed (λ (e : g.row.E.Denot). hash_of g.H.BuildHasher g.H.Hasher.Hasher s.hasher (g.E.Key.Hash.hash_input (key e))) now) (sym set) was) in
+          let ours : IsListed hash d = subst (λ s. IsListed (λ (e : g.row.E.Denot). hash_of g.H.BuildHasher g.H.Hasher.Hasher s.hasher (g.E.Key.Hash.hash_input (key e))) d) stay c.touch.ensures.listed in
+          let both : IsListed hash v = own-listed hash cur d ws olds inv.arrays i down within (remove (list_of cur i) c.args.slot ++ x.0 ∷ []) changed first ours in
+          let there = subst (λ (h : g.row.E-Key.Denot → ℕ). IsListed hash (together (λ e. h (key e)) d ws olds)) (sym same) both in
+          subst (λ s. IsListed (λ (e : g.row.E.Denot). hash_of g.H.BuildHasher g.H.Hasher.Hasher s.hasher (g.E.Key.Hash.hash_input (key e))) after) (sym (settings-together (λ e. key_hash g.H.BuildHasher g.H.Hasher.Hasher g.E.Key.Hash.hash_input d (key e)) d ws olds ∙ stay)) there);
+      waiting = (waiting-together (λ e. key_hash g.H.BuildHasher g.H.Hasher.Hasher g.E.Key.Hash.hash_input d (key e)) d ws olds ∙ sym flags);
+      owed = (ap (λ (h : g.row.E-Key.Denot → ℕ). owed_of (together (λ e. h (key e)) d ws olds)) same ∙ own-owed cur d i (remove (list_of cur i) c.args.slot ++ x.0 ∷ []) changed.lists stay hash ws olds down ∙ ap owed_of view);
+      unique = (
+          let laws = g.met.E.Key.Eq.laws in
+          let unique = subst (λ (z : Contents g.row.E.Denot g.row.H.Denot). IsDistinct g.E.Key.PartialEq.eq (map key (entries z))) view inv.unique in
+          unique-moved laws key now after i c.requires.within unique c.args.slot x.0 got list.lists);
+    }
