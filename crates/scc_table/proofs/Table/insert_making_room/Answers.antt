@@ -43,13 +43,13 @@ returns-in-Ok g c =
           record {
             doubled = λ some settled full half below few down. c.insert_at.ensures.buckets ∙ c.bucket_for_new.ensures.due some settled (λ room. full (rw c.requires.hashed at room)) half below (sym (ap (λ (x : Bool × Bool). x.0) c.insert_at.ensures.refused) ∙ down);
             raised = λ low up.
-            let r = c.bucket_for_new.ensures.raised low (sym (ap (λ (x : Bool × Bool). x.0) c.insert_at.ensures.refused) ∙ up) in
-            (r.0, λ room. r.1 (rw c.requires.hashed room), r.2, r.3);
+                let r = c.bucket_for_new.ensures.raised low (sym (ap (λ (x : Bool × Bool). x.0) c.insert_at.ensures.refused) ∙ up) in
+                (r.0, λ room. r.1 (rw c.requires.hashed room), r.2, r.3);
             unmarked = λ some settled full half below. ap (λ (x : Bool × Bool). x.1) c.insert_at.ensures.refused ∙ c.bucket_for_new.ensures.unmarked some settled (λ room. full (rw c.requires.hashed at room)) half below;
             lowered = λ up low.
-            let f = sym (ap (λ (x : Bool × Bool). x.0) c.insert_at.ensures.refused) in
-            let r = c.bucket_for_new.ensures.lowered up (f ∙ low) in
-            (r.0, λ e. r.1 (sym c.insert_at.ensures.buckets ∙ e));
+                let f = sym (ap (λ (x : Bool × Bool). x.0) c.insert_at.ensures.refused) in
+                let r = c.bucket_for_new.ensures.lowered up (f ∙ low) in
+                (r.0, λ e. r.1 (sym c.insert_at.ensures.buckets ∙ e));
             down = λ some ne. ap (λ (x : Bool × Bool). x.0) c.insert_at.ensures.refused ∙ c.bucket_for_new.ensures.down some (λ e. ne (c.insert_at.ensures.buckets ∙ e));
           });
       first = (on-ok c.insert_at.result (λ h. record { made = λ z. rw c.insert_at.ensures.buckets (c.in-Ok.ensures.first.made z) }) c.insert_at.ensures.exact);
