@@ -1,5 +1,5 @@
 -- Entries at places of two arrays: what holds at the spot of such a place.
-use Rattle.std.proofs.Common.{◌≡◌, ◌++◌, ℕ, suc, List, [], Bool, true, Some, length, sym, ap, subst, ◌∙◌}
+use Rattle.std.proofs.Common.{◌≡◌, ◌++◌, suc, [], Bool, true, Some, length, sym, ap, subst, ◌∙◌}
 use Rattle.std.specs.Cmp.{IsEquivalence}
 use Rattle.std.specs.List.{IsDistinct, remove, slice_get}
 use Rattle.std.specs.Map.{keys_of, set_key, set_value}

@@ -1,5 +1,5 @@
 -- The first array.
-use Rattle.std.proofs.Common.{◌≡◌, ◌==◌, ◌≢◌, ℕ, ◌+◌, ◌*◌, ◌^◌, ◌<◌, ◌≤◌, ◌⊎◌, inl, inr, Bool, true, false, List, [], length, map, refl, sym, ap, ◌∙◌, subst, arith}
+use Rattle.std.proofs.Common.{◌≡◌, ◌==◌, ℕ, ◌*◌, ◌⊎◌, inl, inr, Bool, true, false, List, [], length, map, sym, ap, ◌∙◌, subst, arith}
 use Rattle.std.specs.List.{filter, flat_map, IsDistinct}
 use Rattle.std.specs.List.Sorted.{IsPermutation}
 use Rattle.std.proofs.lemmas.List.{nil_from_length}
@@ -10,7 +10,7 @@ use Rattle.scc_contents.specs.Routing.{bucket_number}
 use Rattle.scc_contents.specs.Sizes.{IsArray, IsArraySize}
 use Rattle.scc_contents.specs.Steps.{Grows, IsUnchanged, Rests}
 use Rattle.scc_draining.specs.Moves.{AreOwn}
-use Rattle.scc_table.specs.TwoArrays.{IsTable, together, TwoArrays, waits_at}
+use Rattle.scc_table.specs.TwoArrays.{IsTable, waits_at}
 use Rattle.scc_table.proofs.Alone.{entries-alone, nothing-owed}
 use Rattle.scc_draining.proofs.Arriving.{IsDistinct-nil}
 

@@ -1,5 +1,5 @@
 -- An entry that a search found, in its list.
-use Rattle.std.proofs.Common.{◌≡◌, ℕ, zero, suc, ◌+◌, ◌<◌, ◌≤◌, Bool, Option, Some, None, MatchOption, List, [], ◌∷◌, ◌++◌, length, take, get_or, refl, sym, ap, ◌∙◌, subst, arith, length-append}
+use Rattle.std.proofs.Common.{◌≡◌, ℕ, zero, suc, ◌+◌, ◌<◌, ◌≤◌, Bool, Option, Some, None, List, [], ◌∷◌, length, take, get_or, refl, sym, ap, ◌∙◌, arith, length-append}
 use Rattle.std.specs.List.{flat_map, position}
 use native.Mathlib.Decide.{dec_lt}
 use Rattle.scc_buckets.specs.Bounded.{IsListedAtSpot, IsUnlisted}

@@ -1,5 +1,5 @@
 -- The entries of both arrays, gathered in the lists of their buckets.
-use Rattle.std.proofs.Common.{◌≡◌, ◌==◌, ℕ, zero, suc, ◌+◌, ◌*◌, ◌^◌, ◌<◌, ◌≤◌, ◌⊎◌, inl, inr, Bool, true, false, cond, None, Some, List, [], ◌∷◌, ◌++◌, length, take, get_or, refl, sym, ap, ◌∙◌, subst, arith, rules, length-append, eqb-true, eq-eqb}
+use Rattle.std.proofs.Common.{◌≡◌, ◌==◌, ℕ, zero, suc, ◌+◌, ◌*◌, ◌^◌, ◌<◌, ◌≤◌, ◌⊎◌, inl, inr, Bool, true, false, cond, Some, List, [], ◌∷◌, ◌++◌, length, take, get_or, refl, sym, ap, ◌∙◌, subst, arith, length-append, eq-eqb}
 use Rattle.std.specs.List.{filter, flat_map, slice_get, sum_by}
 use Rattle.std.specs.List.Sorted.{IsPermutation}
 use Rattle.std.proofs.lemmas.List.Concat.{length-flat_map}
@@ -9,16 +9,12 @@ use Rattle.scc_array.specs.Shelves.{shelf_of}
 use Rattle.scc_array.specs.Shelf.{Shelf, shelf_entries}
 use Rattle.scc_contents.specs.Contents.{Contents, entries, bucket_count, list_of, lists_of, settings_of}
 use Rattle.scc_buckets.specs.Pour.{bound_for}
-use Rattle.scc_contents.specs.Routing.{bucket_number}
-use Rattle.scc_contents.specs.Sizes.{IsArray, IsLawful}
 use Rattle.scc_buckets.specs.Tables.{spilled_in}
 use Rattle.scc_buckets.proofs.PairSplits.{by_answer}
 use Rattle.scc_buckets.proofs.Pours.{bound_append, bound_here}
-use Rattle.scc_draining.specs.Moves.{grown, shrunk, AreMultiples, AreOwn}
+use Rattle.scc_draining.specs.Moves.{grown, shrunk, AreMultiples}
 use Rattle.scc_table.specs.TwoArrays.{joined, target_by, together, TwoArrays, waits_at}
-use Rattle.scc_table.proofs.Joining.{lists-together}
 use Rattle.scc_table.proofs.OldSpots.{split-list}
-use Rattle.scc_table.proofs.Relocated.{count-is, list-is}
 use Rattle.scc_table.proofs.RelocatingLemmas.{not_equal}
 
 module _ {E : Type 0} (f : E → ℕ) where

@@ -1,5 +1,5 @@
 -- An entry put into one list, and lists of which some are a part.
-use Rattle.std.proofs.Common.{◌≡◌, ℕ, zero, suc, ◌+◌, ◌<◌, ◌≤◌, inl, Bool, true, false, cond, List, [], ◌∷◌, ◌++◌, length, set, get_or, Option, Some, None, refl, sym, ap, ◌∙◌, subst, arith, append_assoc, length-set, get_or-set_same}
+use Rattle.std.proofs.Common.{◌≡◌, ℕ, zero, suc, ◌+◌, ◌<◌, ◌≤◌, inl, Bool, true, cond, List, [], ◌∷◌, ◌++◌, length, set, get_or, Some, None, refl, sym, ap, ◌∙◌, subst, arith, append_assoc, length-set, get_or-set_same}
 use Rattle.std.specs.List.{flat_map, count_by, insert, position, slice_get}
 use Rattle.std.specs.List.Sorted.{IsPermutation}
 use Rattle.std.specs.Option.{option_map}
@@ -7,9 +7,9 @@ use Rattle.std.proofs.lemmas.List.{append-nil}
 use Rattle.std.proofs.lemmas.List.Edits.{length-insert}
 use Rattle.std.proofs.lemmas.List.Sorted.{IsPermutation-insert, IsPermutation-trans, IsPermutation-append_comm, IsPermutation-append_left, IsPermutation-append_right}
 use Rattle.std.proofs.lemmas.List.Sums.{sum_by-cons}
-use Rattle.scc_contents.specs.Contents.{Contents, entries, bucket_count, list_of, lists_of, settings_of}
+use Rattle.scc_contents.specs.Contents.{Contents, entries, bucket_count, list_of, lists_of}
 use Rattle.scc_buckets.specs.OneList.{IsPutIn}
-use Rattle.scc_buckets.specs.Places.{IsInsertedAtSpot, IsSpot, index_of_spot}
+use Rattle.scc_buckets.specs.Places.{IsInsertedAtSpot, IsSpot}
 use Rattle.scc_contents.specs.Steps.{Holds}
 use Rattle.scc_buckets.specs.declared.place.Place.{Place}
 use Rattle.scc_buckets.proofs.FindingLemmas.{position_hit, position_cons}

@@ -1,5 +1,5 @@
 -- A walk that goes on over one list after another, with the closure that was left.
-use Rattle.std.proofs.Common.{List, [], ◌∷◌, ◌++◌, Bool, true, false, Result, Ok, refl}
+use Rattle.std.proofs.Common.{List, ◌++◌, Bool, true, Result, Ok, refl}
 use Rattle.std.specs.Borrow.{Bor, MutBor}
 use Rattle.std.specs.Fn.{Mut}
 use denote.Param.Always.{always_mut, mut_next}

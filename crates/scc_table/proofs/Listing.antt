@@ -1,21 +1,20 @@
 -- A list of a bucket that doesn't wait, with an entry put at its end, in a table without entries past the places.
-use Rattle.std.proofs.Common.{◌≡◌, ℕ, zero, suc, ◌+◌, ◌^◌, ◌<◌, ◌≤◌, ◌≢◌, Bool, false, Option, Some, None, List, [], ◌∷◌, ◌++◌, length, map, set, get_or, refl, sym, ap, ◌∙◌, subst, arith, append_assoc, length-set, get_or-set_same, get_or-set_other}
+use Rattle.std.proofs.Common.{◌≡◌, ℕ, zero, suc, ◌<◌, ◌≤◌, ◌≢◌, Bool, false, Option, Some, None, List, [], ◌∷◌, ◌++◌, length, map, set, get_or, refl, sym, ap, ◌∙◌, subst, arith, append_assoc, length-set, get_or-set_same, get_or-set_other}
 use Rattle.std.specs.Cmp.{IsEquivalence}
-use Rattle.std.specs.List.{flat_map, position, remove, slice_get, IsDistinct}
+use Rattle.std.specs.List.{flat_map, position, remove, slice_get}
 use Rattle.std.specs.List.Sorted.{IsPermutation}
 use Rattle.std.specs.Option.{option_map}
 use Rattle.std.proofs.lemmas.List.{set-get_or, set-set}
 use Rattle.std.proofs.lemmas.List.Sorted.{IsPermutation-append_right, IsPermutation-map, IsPermutation-middle, IsPermutation-remove, IsPermutation-sym, IsPermutation-to_front, IsPermutation-trans}
 use Rattle.std.proofs.lemmas.Map.Keys.{IsDistinct-IsPermutation}
 use native.Mathlib.Decide.{dec_lt}
-use Rattle.scc_array.specs.Shelf.{Shelf, shelf_entries}
+use Rattle.scc_array.specs.Shelf.{Shelf}
 use Rattle.scc_array.proofs.ListsLemmas.{get-below, get-is}
 use Rattle.scc_buckets.specs.Bounded.{HasList, IsBounded, IsListed, PutsLast}
-use Rattle.scc_contents.specs.Contents.{Contents, entries, bucket_count, list_of, lists_of, settings_of, refused_of, spilled_of, IsUniqueBy}
+use Rattle.scc_contents.specs.Contents.{Contents, entries, bucket_count, list_of, lists_of, settings_of, IsUniqueBy}
 use Rattle.scc_buckets.specs.Places.{IsSpot, index_of_spot}
 use Rattle.scc_contents.specs.Routing.{bucket_number}
 use Rattle.scc_contents.specs.Sizes.{IsLawful}
-use Rattle.scc_buckets.specs.Tables.{spilled_in}
 use Rattle.scc_buckets.specs.declared.place.Place.{Place}
 use Rattle.scc_buckets.proofs.Bounds as bounds
 use Rattle.scc_buckets.proofs.FindingLemmas.{position_cons, position_hit}
@@ -23,10 +22,9 @@ use Rattle.scc_buckets.proofs.Inserts.{none_left, unique-inserted}
 use Rattle.scc_buckets.proofs.PairSplits.{by_answer}
 use Rattle.scc_buckets.proofs.Removes.{unique-removed}
 use Rattle.scc_buckets.proofs.Spots.{place-get}
-use Rattle.scc_table.specs.TwoArrays.{joined, together, waits_at, TwoArrays}
+use Rattle.scc_table.specs.TwoArrays.{together, waits_at, TwoArrays}
 use Rattle.scc_table.proofs.CurrentChanges.{count-same, own-list, own-lists, own-settings, own-refused, spilled-together}
-use Rattle.scc_table.proofs.Joining.{count-together, lists-together, settings-together}
-use Rattle.scc_table.proofs.JoinedChanges.{joined-here}
+use Rattle.scc_table.proofs.Joining.{count-together, settings-together}
 use Rattle.scc_table.proofs.Relocated.{count-is, list-is}
 use Rattle.scc_table.proofs.TakenFrom.{entries-are, flat-permuted, list-same, removed-is}
 

@@ -1,6 +1,6 @@
 -- Places of two arrays whose entries are seen through a function.
 use Rattle.std.proofs.Common.{◌≡◌, ℕ, sym, ap, subst, ◌∙◌}
-use Rattle.scc_contents.specs.Contents.{Contents, bucket_count, owed_of, waiting_of}
+use Rattle.scc_contents.specs.Contents.{Contents, owed_of, waiting_of}
 use Rattle.scc_contents.specs.Mapped.{mapped}
 use Rattle.scc_buckets.specs.Places as places
 use Rattle.scc_buckets.specs.declared.place.Place.{Place}

@@ -2,7 +2,7 @@
 use Rattle.std.proofs.Common.{◌≡◌, ℕ, zero, suc, List, [], ◌∷◌, length, map, refl}
 use Rattle.std.specs.List.{slice_index_or}
 use Rattle.std.proofs.lemmas.List.{length-map}
-use Rattle.scc_contents.specs.Contents.{Contents, bucket_count, owed_of, list_of, waiting_of}
+use Rattle.scc_contents.specs.Contents.{Contents, owed_of, list_of, waiting_of}
 use Rattle.scc_contents.specs.Mapped.{mapped}
 use Rattle.scc_buckets.proofs.Mapped.{bucket_count-mapped, length-mapped, pending_of-mapped, settings_of-mapped}
 use Rattle.scc_table.specs.Relocates.{AreShort, IsGrowthDue, IsShrinkDue, Spreads}

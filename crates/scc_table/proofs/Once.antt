@@ -1,10 +1,9 @@
 -- What keeps an insertion from a resize, and room that is made before it.
-use Rattle.std.proofs.Common.{◌≡◌, ◌≢◌, ◌==◌, ℕ, ◌*◌, ◌^◌, ◌<◌, ◌≤◌, ◌⊎◌, inl, inr, true, [], replicate, refl, sym, ap, ◌∙◌, subst, length, arith}
+use Rattle.std.proofs.Common.{◌≡◌, ◌≢◌, ℕ, ◌<◌, ◌⊎◌, inl, inr, true, [], replicate, refl, sym, ap, ◌∙◌, arith}
 use Rattle.std.specs.List.{count_by}
 use Rattle.std.proofs.lemmas.Bool.{cases_order}
-use Rattle.scc_contents.specs.Contents.{Contents, HasRoomAt, bucket_count, entries, list_of, lists_of, pending_of, refused_of, settings_of, waiting_of}
-use Rattle.scc_contents.specs.Routing.{bucket_number}
-use Rattle.scc_contents.specs.Steps.{Grows, Holds, HoldsExactly, IsReadyAt, KeepsSize, MakesRoom, Rests}
+use Rattle.scc_contents.specs.Contents.{Contents, HasRoomAt, bucket_count, lists_of, pending_of, refused_of, settings_of, waiting_of}
+use Rattle.scc_contents.specs.Steps.{Grows, IsReadyAt, MakesRoom, Rests}
 use Rattle.scc_table.proofs.Finishing.{pending-is}
 use Rattle.scc_table.proofs.StartingLemmas.{count-up}
 use Rattle.scc_table.proofs.Same.{count-same, entries-same, pending-same}

@@ -1,8 +1,8 @@
 -- Where an entry stands that was put in, once other buckets took their entries over.
-use Rattle.std.proofs.Common.{◌≡◌, ◌==◌, ◌≢◌, ℕ, suc, ◌+◌, ◌-◌, ◌<◌, ◌≤◌, inl, Bool, true, false, not, List, [], ◌∷◌, length, set, get_or, drop, take, Some, refl, sym, ap, ◌∙◌, subst, arith, eqb-true, eq-eqb, get_or-set_other}
+use Rattle.std.proofs.Common.{◌≡◌, ◌==◌, ◌≢◌, ℕ, ◌+◌, ◌-◌, ◌<◌, ◌≤◌, inl, Bool, true, false, not, List, [], ◌∷◌, length, get_or, drop, take, Some, refl, sym, ap, ◌∙◌, subst, arith, eq-eqb, get_or-set_other}
 use Rattle.std.specs.List.{filter, flat_map, count_by, insert, slice_get}
 use Rattle.std.specs.List.Sorted.{IsPermutation}
-use Rattle.std.proofs.lemmas.List.{drop_all, get_or_default, nil_from_length, set-get_or}
+use Rattle.std.proofs.lemmas.List.{drop_all, get_or_default, nil_from_length}
 use Rattle.scc_array.proofs.ListsLemmas.{get-index}
 use Rattle.scc_contents.specs.Contents.{Contents, entries, bucket_count, list_of, lists_of, settings_of, waiting_of, owed_of, pending_of, bucket_of, HasRoomBy, IsRouted}
 use Rattle.scc_buckets.specs.OneList.{IsPutIn}
@@ -11,7 +11,7 @@ use Rattle.scc_contents.specs.Routing.{bucket_number}
 use Rattle.scc_buckets.specs.declared.place.Place.{Place}
 use Rattle.scc_buckets.proofs.PairSplits.{by_answer}
 use Rattle.scc_buckets.proofs.Resizes.{rests-inserted}
-use Rattle.scc_table.specs.Places.{IsInsertedAt, spot_in, spot_of}
+use Rattle.scc_table.specs.Places.{IsInsertedAt, spot_of}
 use Rattle.scc_table.specs.Relocates.{AreMovedBeside, AreMovedFrom, AreShort, left_after}
 use Rattle.scc_table.specs.TwoArrays.{IsRelocated, IsWaiting, pending_targets, waits_at}
 use Rattle.scc_table.proofs.Finishing.{settle-down}

@@ -1,25 +1,19 @@
 -- What a bucket needs, before it takes its entries over.
-use Rattle.std.proofs.Common.{◌≡◌, ◌==◌, ℕ, ◌+◌, ◌^◌, ◌<◌, ◌≤◌, ◌≢◌, ◌⊎◌, inl, inr, Bool, true, false, cond, List, [], length, map, set, get_or, refl, sym, ap, ◌∙◌, subst, arith, length-set, get_or-set_same, get_or-set_other, eqb-true}
-use Rattle.std.specs.List.{filter, flat_map, sum_by, IsDistinct}
-use Rattle.std.proofs.lemmas.List.{get_or_past, get_or_default}
-use Rattle.std.proofs.lemmas.List.Concat.{length-flat_map}
-use Rattle.std.proofs.lemmas.List.Sums.{get_or-le-sum_by}
+use Rattle.std.proofs.Common.{◌≡◌, ◌==◌, ℕ, ◌+◌, ◌<◌, ◌≢◌, ◌⊎◌, inl, inr, Bool, true, false, cond, List, [], length, map, set, get_or, sym, ap, ◌∙◌, arith, length-set, get_or-set_same, get_or-set_other}
+use Rattle.std.specs.List.{filter, flat_map, IsDistinct}
+use Rattle.std.proofs.lemmas.List.{get_or_past}
 use native.Mathlib.Decide.{dec_lt}
-use Rattle.scc_array.specs.Shelves.{shelf_of}
-use Rattle.scc_array.specs.Shelf.{Shelf, shelf_entries, empty_shelf}
+use Rattle.scc_array.specs.Shelf.{Shelf, shelf_entries}
 use Rattle.scc_contents.specs.Contents.{Contents, entries, bucket_count, list_of, lists_of, settings_of}
 use Rattle.scc_buckets.specs.Pour.{bound_for}
-use Rattle.scc_contents.specs.Routing.{bucket_number}
 use Rattle.scc_contents.specs.Sizes.{IsArray}
-use Rattle.scc_buckets.specs.Tables.{IsOwn, IsBuckets, spilled_in}
-use Rattle.scc_buckets.proofs.Inserts.{table-bound}
 use Rattle.scc_buckets.proofs.PairSplits.{by_answer}
-use Rattle.scc_draining.specs.Moves.{AreMultiples, AreOwn, IsWithinSources}
+use Rattle.scc_draining.specs.Moves.{AreMultiples}
 use Rattle.scc_table.specs.TwoArrays.{joined, waits_at, target_by, together, TwoArrays}
 use Rattle.scc_table.proofs.Joining.{get-joined, length-joined}
 use Rattle.scc_table.proofs.Relocated.{count-is, list-is}
 use Rattle.scc_table.proofs.RelocatingLemmas.{up-within}
-use Rattle.scc_draining.proofs.Sublists.{flat-sub, distinct-sub, filter-none}
+use Rattle.scc_draining.proofs.Sublists.{flat-sub, distinct-sub}
 
 module _ {E S : Type 0} (hash : E → ℕ) (c : Contents E S) (ws : List Bool) (olds : List (Shelf E)) (arrays : TwoArrays hash c ws olds) (i : ℕ) (up : waits_at ws i ≡ true) (long : length ws ≡ bucket_count c) where
   -- the list of a bucket that waits is that of its entries in the old array

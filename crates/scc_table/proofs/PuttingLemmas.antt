@@ -1,15 +1,14 @@
 -- Two arrays, into the new one of which an entry is put, in a bucket that doesn't wait.
-use Rattle.std.proofs.Common.{◌≡◌, ◌==◌, ◌≢◌, ℕ, zero, suc, ◌+◌, ◌^◌, ◌<◌, ◌≤◌, ◌⊎◌, inl, inr, Bool, true, false, cond, List, [], ◌∷◌, length, map, set, get_or, Some, None, refl, sym, ap, ◌∙◌, subst, arith, rules, get_or-set_other, eq-eqb}
+use Rattle.std.proofs.Common.{◌≡◌, ◌==◌, ◌≢◌, ℕ, zero, suc, ◌+◌, ◌^◌, ◌<◌, ◌≤◌, ◌⊎◌, inl, inr, Bool, true, false, cond, List, [], ◌∷◌, length, map, set, get_or, Some, None, refl, sym, ap, ◌∙◌, subst, arith, get_or-set_other, eq-eqb}
 use Rattle.std.specs.Cmp.{IsEquivalence}
 use Rattle.std.specs.List.{filter, flat_map, count_by, insert, position, slice_get, IsDistinct}
 use Rattle.std.proofs.lemmas.List.{get_or_default, get_or_past}
 use native.Mathlib.Decide.{dec_lt}
 use Rattle.scc_array.specs.Shelf.{Shelf, shelf_entries}
 use Rattle.scc_array.proofs.ListsLemmas.{get-index}
-use Rattle.scc_contents.specs.Contents.{Contents, entries, bucket_count, list_of, lists_of, settings_of, refused_of, spilled_of, waiting_of, owed_of, bucket_of, HasRoomBy, IsRouted}
+use Rattle.scc_contents.specs.Contents.{Contents, entries, bucket_count, list_of, lists_of, settings_of, spilled_of, owed_of, bucket_of, HasRoomBy, IsRouted}
 use Rattle.scc_buckets.specs.OneList.{HasSameLists, IsPutIn}
 use Rattle.scc_contents.specs.Routing.{bucket_number}
-use Rattle.scc_buckets.specs.Tables.{spilled_in}
 use Rattle.scc_buckets.specs.declared.place.Place.{Place}
 use Rattle.scc_buckets.proofs.Inserts.{unique-inserted}
 use Rattle.scc_buckets.proofs.PairSplits.{by_answer}
@@ -17,7 +16,7 @@ use Rattle.scc_draining.specs.Moves.{AreMultiples, AreOwn}
 use Rattle.scc_table.specs.TwoArrays.{IsTable, owed_in, joined, target_by, together, TwoArrays, waits_at}
 use Rattle.scc_table.proofs.Alone.{spilled-together}
 use Rattle.scc_table.proofs.Inserted.{absent-sub, count-sub, count-whole, one-sub, put-count, put-permuted}
-use Rattle.scc_table.proofs.Joining.{count-together, owed-together, lists-together, refused-together, settings-together}
+use Rattle.scc_table.proofs.Joining.{owed-together, lists-together, refused-together, settings-together}
 use Rattle.scc_table.proofs.Noting.{lists-kept, target-kept}
 use Rattle.scc_table.proofs.OldSpots.{own-list}
 use Rattle.scc_table.proofs.Relocated.{count-is, list-is}

@@ -1,5 +1,5 @@
 -- A search over two arrays.
-use Rattle.std.proofs.Common.{◌≡◌, ◌≢◌, ◌==◌, ℕ, zero, suc, ◌+◌, ◌<◌, ◌≤◌, Bool, true, false, cond, Option, Some, None, MatchOption, List, [], ◌∷◌, ◌++◌, length, take, get_or, refl, sym, ap, ◌∙◌, subst, arith, rules, eqb-true}
+use Rattle.std.proofs.Common.{◌≡◌, ◌≢◌, ◌==◌, ℕ, zero, suc, ◌+◌, ◌<◌, ◌≤◌, Bool, true, false, Option, Some, None, List, [], ◌∷◌, ◌++◌, length, take, get_or, refl, sym, ap, ◌∙◌, subst, arith, eqb-true}
 use Rattle.std.specs.List.{filter, flat_map, position, slice_get}
 use Rattle.std.specs.Option.{option_map}
 use Rattle.std.proofs.lemmas.List.{get_or_past}
@@ -18,14 +18,13 @@ use Rattle.scc_buckets.specs.declared.place.Place.{Place}
 use Rattle.scc_buckets.proofs.FindingLemmas.{HashOf, NoneOf, position_cons, position_flat, position_hit, position-below}
 use Rattle.scc_buckets.proofs.PairSplits.{by_answer}
 use Rattle.scc_buckets.proofs.Pours.{bound_append, bound_here}
-use Rattle.scc_table.specs.Places.{IsFoundAt, IsPlace, index_of, spot_of}
+use Rattle.scc_table.specs.Places.{IsFoundAt, IsPlace, spot_of}
 use Rattle.scc_draining.specs.Stepping.{entries_before}
 use Rattle.scc_table.specs.TwoArrays.{target_by, together, TwoArrays, waits_at}
-use Rattle.scc_table.proofs.Joining.{count-together, lists-together, settings-together}
-use Rattle.scc_table.proofs.OldSpots.{old-spot, old-waits, own-list, own-spot, rank_of, split-old}
+use Rattle.scc_table.proofs.Joining.{count-together, settings-together}
+use Rattle.scc_table.proofs.OldSpots.{old-spot, own-list, own-spot, split-old}
 use Rattle.scc_table.proofs.Preparing.{long-flags, waiting-list}
 use Rattle.scc_table.proofs.Relocated.{count-is, list-is}
-use Rattle.scc_table.proofs.RelocatingLemmas.{up-within}
 
 pub not_true : (b : Bool) → (b ≡ true → ⊥) → b ≡ false
 not_true true h = absurd (h refl)

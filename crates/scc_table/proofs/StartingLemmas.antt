@@ -1,8 +1,8 @@
 -- A new array, every bucket of which waits for the entries of the old one.
-use Rattle.std.proofs.Common.{◌≡◌, ◌==◌, ◌≢◌, ℕ, zero, suc, ◌+◌, ◌*◌, ◌-◌, ◌/◌, ◌%◌, ◌^◌, ◌<◌, ◌≤◌, inl, inr, Bool, true, false, not, cond, List, [], ◌∷◌, ◌++◌, length, map, get_or, replicate, refl, sym, ap, ◌∙◌, subst, arith, rules, eqb-true}
+use Rattle.std.proofs.Common.{◌≡◌, ◌==◌, ◌≢◌, ℕ, suc, ◌+◌, ◌*◌, ◌-◌, ◌%◌, ◌^◌, ◌<◌, ◌≤◌, inr, Bool, true, false, not, cond, List, [], ◌∷◌, ◌++◌, length, map, get_or, replicate, refl, sym, ap, ◌∙◌, subst, arith, rules, eqb-true}
 use Rattle.std.specs.Cmp.{IsEquivalence}
 use Rattle.std.specs.Int.{IsPowerOfTwo}
-use Rattle.std.specs.List.{filter, flat_map, count_by, sum_by, All, IsDistinct}
+use Rattle.std.specs.List.{filter, flat_map, count_by, All, IsDistinct}
 use Rattle.std.specs.List.Sorted.{IsPermutation}
 use Rattle.std.proofs.Math.Nat.{mod-lt, div-lt_iff_lt-mul}
 use Rattle.std.proofs.lemmas.List.{get_or-replicate, length-replicate, get_or_past}
@@ -19,12 +19,12 @@ use Rattle.scc_contents.specs.Contents.{Contents, entries, bucket_count, list_of
 use Rattle.scc_buckets.specs.Pour.{bound_for, IsRegrouped}
 use Rattle.scc_contents.specs.Routing.{bucket_number}
 use Rattle.scc_contents.specs.Sizes.{IsArray}
-use Rattle.scc_buckets.specs.Tables.{IsBuckets, spilled_in}
+use Rattle.scc_buckets.specs.Tables.{IsBuckets}
 use Rattle.scc_buckets.proofs.Arrays.{shelf-at}
 use Rattle.scc_buckets.proofs.PairSplits.{by_answer}
 use Rattle.scc_draining.specs.Moves.{AreMultiples, grown, shrunk}
 use Rattle.scc_table.specs.TwoArrays.{IsTable, joined, target_by, together, TwoArrays, waits_at}
-use Rattle.scc_draining.proofs.Arriving.{count-were, list-were}
+use Rattle.scc_draining.proofs.Arriving.{list-were}
 use Rattle.scc_table.proofs.Joining.{count-together, settings-together}
 use Rattle.scc_table.proofs.Preparing.{waiting-list}
 use Rattle.scc_table.proofs.Relocated.{count-is, list-is}

@@ -1,14 +1,13 @@
 -- Where a walk goes on once an entry is taken out.
-use Rattle.std.proofs.Common.{◌≡◌, ◌==◌, ℕ, zero, suc, ◌+◌, ◌-◌, ◌<◌, ◌≤◌, Bool, true, false, cond, nat_lt, rules, Option, Some, None, MatchOption, List, [], ◌∷◌, ◌++◌, length, take, set, get_or, refl, sym, ap, ◌∙◌, subst, arith, length-set, get_or-set_same, get_or-set_other}
+use Rattle.std.proofs.Common.{◌≡◌, ◌==◌, ℕ, zero, suc, ◌+◌, ◌-◌, ◌<◌, ◌≤◌, Bool, true, false, cond, nat_lt, rules, Option, Some, None, MatchOption, List, [], ◌∷◌, ◌++◌, length, take, set, get_or, refl, sym, ap, ◌∙◌, subst, arith, length-set, get_or-set_same}
 use Rattle.std.specs.List.{flat_map, count_by, remove, slice_get}
 use Rattle.std.proofs.lemmas.List.Edits.{length-remove}
 use Rattle.scc_contents.specs.Contents.{Contents, entries, bucket_count, list_of, lists_of, waiting_of, owed_of}
 use Rattle.scc_buckets.specs.OneList.{IsTakenFrom}
 use Rattle.scc_buckets.specs.Places as spots
-use Rattle.scc_buckets.specs.Standing as standing
 use Rattle.scc_buckets.specs.declared.place.Place.{Place}
 use Rattle.scc_buckets.proofs.Standing.{along, index-below}
-use Rattle.scc_table.specs.Places.{IsPlace, StandsAt, owed_before, index_of, spot_by, spot_in, spot_of}
+use Rattle.scc_table.specs.Places.{IsPlace, StandsAt, owed_before, index_of, spot_by, spot_of}
 use Rattle.scc_table.specs.Stepping.{index_on, rank_on, spot_on, IsStart, own, old}
 use Rattle.scc_table.specs.Takes.{owed_taken}
 use Rattle.scc_table.specs.TwoArrays.{waits_at}

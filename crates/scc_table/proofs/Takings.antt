@@ -2,9 +2,9 @@
 use Rattle.std.proofs.Common.{◌≡◌, suc, ◌+◌, List, [], ◌∷◌, ◌++◌, length, take, drop, Bool, false, Option, Some, Result, Ok, Err, refl, sym, ap, ◌∙◌, arith, subst, append_assoc, append-nil, take-append-drop, length-append, inl, inr}
 use Rattle.std.specs.List.{slice_get, remove}
 use Rattle.std.proofs.lemmas.List.{nil_from_length}
-use Rattle.scc_contents.specs.Contents.{Contents, entries, bucket_count, list_of}
+use Rattle.scc_contents.specs.Contents.{Contents, entries, list_of}
 use Rattle.scc_buckets.specs.Places.{IsSpot, index_of_spot}
-use Rattle.scc_contents.specs.Steps.{Holds, HoldsExactly, Resizes, ShrinksWhenDue}
+use Rattle.scc_contents.specs.Steps.{Holds, HoldsExactly, Resizes}
 use Rattle.scc_common.specs.declared.errors.WalkError.{WalkError}
 use Rattle.scc_buckets.specs.declared.place.Place.{Place}
 use Rattle.scc_common.specs.declared.verdict.Verdict.{Verdict}

@@ -1,5 +1,5 @@
 -- The numbers of the buckets that wait.
-use Rattle.std.proofs.Common.{◌≡◌, ◌==◌, ◌≢◌, ℕ, zero, suc, ◌+◌, ◌-◌, ◌<◌, ◌≤◌, Bool, true, false, not, cond, List, [], ◌∷◌, length, set, drop, get_or, replicate, refl, sym, ap, ◌∙◌, arith, rules, eqb-true}
+use Rattle.std.proofs.Common.{◌≡◌, ◌==◌, ℕ, zero, suc, ◌+◌, ◌-◌, ◌<◌, ◌≤◌, Bool, true, false, not, cond, List, [], ◌∷◌, length, set, drop, get_or, replicate, refl, sym, ap, ◌∙◌, arith, rules, eqb-true}
 use Rattle.std.specs.List.{filter, count_by, range_with_len}
 use Rattle.std.proofs.lemmas.List.{length-drop, nil_from_length, set-get_or}
 use Rattle.std.proofs.lemmas.List.FromFn.{length-range_with_len}

@@ -1,5 +1,5 @@
 -- What a container holds that was made just now.
-use Rattle.std.specs.Prelude.{◌≡◌, ℕ, ◌*◌, ◌<◌, Bool, false, [], Result, IsOk, IfOk}
+use Rattle.std.specs.Prelude.{◌≡◌, ℕ, ◌*◌, ◌<◌, false, [], Result, IsOk, IfOk}
 use Rattle.scc_contents.specs.Contents.{Contents, entries, bucket_count, settings_of, refused_of, waiting_of}
 use Rattle.scc_contents.specs.Sizes.{IsArraySize}
 

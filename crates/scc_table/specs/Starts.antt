@@ -1,5 +1,5 @@
 -- What the calls do to a table of two arrays that make an array, put a new one in the place of the present one, or set a note alone.
-use Rattle.std.specs.Prelude.{◌≡◌, ◌≤◌, ◌<◌, ℕ, Bool, true, false, List, [], replicate, Result}
+use Rattle.std.specs.Prelude.{◌≡◌, ◌≤◌, ◌<◌, ℕ, Bool, true, false, [], replicate, Result}
 use Rattle.std.specs.List.Sorted.{IsPermutation}
 use Rattle.std.specs.Result.{OnOk, OnErr}
 use Rattle.scc_contents.specs.Contents.{Contents, entries, bucket_count, lists_of, owed_of, pending_of, refused_of, settings_of, spilled_of, waiting_of, IsUniqueBy}

@@ -1,5 +1,5 @@
 -- Two arrays beside each other: the entries of an old one wait there until their bucket of the new one takes them over.
-use Rattle.std.specs.Prelude.{◌≡◌, ◌==◌, ℕ, suc, ◌+◌, ◌*◌, ◌^◌, ◌<◌, ◌≤◌, ◌⊎◌, Bool, true, false, cond, List, [], ◌∷◌, length, map, not, count_by, slice_index_or, slice_set}
+use Rattle.std.specs.Prelude.{◌≡◌, ◌==◌, ℕ, suc, ◌+◌, ◌^◌, ◌<◌, ◌≤◌, ◌⊎◌, Bool, true, false, cond, List, [], ◌∷◌, length, map, not, count_by, slice_index_or, slice_set}
 use Rattle.std.specs.List.{filter, flat_map, range_with_len, sum_by, IsDistinct}
 use Rattle.scc_array.specs.Shelf.{Shelf, shelf_entries}
 use Rattle.scc_contents.specs.Contents.{Contents, entries, bucket_count, list_of, lists_of, settings_of, refused_of, spilled_of, waiting_of, owed_of, pending_of}

@@ -1,5 +1,5 @@
-use Rattle.std.proofs.Common.{◌≡◌, ◌≢◌, ◌∙◌, ◌+◌, ◌<◌, ℕ, List, length, map, replicate, true, inl, inr, refl, sym, ap, subst, arith, rules}
-use Rattle.std.proofs.lemmas.List.{length-replicate, length-map}
+use Rattle.std.proofs.Common.{◌≡◌, ◌≢◌, ◌∙◌, ◌+◌, ◌<◌, ℕ, List, length, map, replicate, true, inl, inr, sym, ap, subst, arith}
+use Rattle.std.proofs.lemmas.List.{length-replicate}
 use Rattle.std.specs.List.{flat_map, count_by, IsDistinct}
 use Rattle.std.specs.List.Sorted.{IsPermutation}
 use Rattle.scc_array.specs.Shelf.{Shelf, shelf_entries, empty_shelf}
@@ -11,7 +11,7 @@ use Rattle.scc_buckets.proofs.Fresh.{empty-replicate}
 use Rattle.scc_buckets.proofs.MakingLemmas.{flat-empty, table-empty}
 use Rattle.scc_table.specs.TwoArrays.{IsTable, together}
 use Rattle.scc_buckets.proofs.Bare.{all-bare}
-use Rattle.scc_table.proofs.Alone.{count-alone, entries-alone, lists-alone, nothing-owed, spilled-together}
+use Rattle.scc_table.proofs.Alone.{entries-alone, nothing-owed, spilled-together}
 use Rattle.scc_draining.proofs.Arriving.{count-were, entries-were, IsDistinct-nil}
 use Rattle.scc_table.proofs.Joining.{waiting-together, pending-together, refused-together}
 use Rattle.scc_table.proofs.Same.{hash-same}

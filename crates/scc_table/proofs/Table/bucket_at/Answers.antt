@@ -1,6 +1,5 @@
-use Rattle.std.proofs.Common.{◌∙◌, ◌<◌, ap, arith}
+use Rattle.std.proofs.Common.{◌∙◌, ap, arith}
 use Rattle.scc_contents.specs.Contents.{bucket_count, key_hash, settings_of}
-use Rattle.scc_contents.specs.Hashing.{hash_of}
 use Rattle.scc_contents.specs.Routing.{bucket_number}
 use Rattle.scc_table.proofs.Seen.{count-seen, settings-seen}
 use Rattle.scc_table.proofs.Table.bucket_at.Goals as goal

@@ -1,6 +1,4 @@
-use Rattle.std.proofs.Common.{◌≡◌, ◌∙◌, ◌+◌, ◌-◌, ◌<◌, Some, length, slice_get, sym, ap, subst, arith}
-use Rattle.scc_array.specs.Shelves.{shelf_of}
-use Rattle.scc_array.specs.Shelf.{shelf_entries}
+use Rattle.std.proofs.Common.{◌≡◌, ◌-◌, Some, slice_get, subst, arith}
 use Rattle.scc_contents.specs.Contents.{entries, key_hash}
 use Rattle.scc_table.specs.Places.{index_of}
 use Rattle.scc_table.proofs.OldSpots.{own-at, own-get, old-at, old-get}

@@ -1,21 +1,18 @@
-use Rattle.std.proofs.Common.{◌≡◌, ℕ, ◌∙◌, ◌+◌, ◌-◌, ◌^◌, ◌<◌, ◌≤◌, ◌⊎◌, inl, inr, [], suc, true, false, length, sym, ap, subst, rules, arith, add-one}
-use Rattle.scc_array.specs.Shelves.{shelf_of}
-use Rattle.scc_array.specs.Shelf.{shelf_entries}
-use Rattle.scc_contents.specs.Contents.{entries, bucket_count, owed_of, key_hash, list_of, settings_of, waiting_of}
+use Rattle.std.proofs.Common.{◌≡◌, ◌∙◌, ◌<◌, ◌≤◌, [], true, false, length, sym, ap, subst, rules, arith}
+use Rattle.scc_contents.specs.Contents.{bucket_count, owed_of, key_hash, list_of, settings_of}
 use Rattle.scc_buckets.specs.Places as spots
-use Rattle.scc_contents.specs.Routing.{bucket_number}
 use Rattle.scc_buckets.specs.declared.place.Place.{Place}
-use Rattle.scc_buckets.proofs.Standing.{along, index-end, index-skip, length-zero}
-use Rattle.scc_table.specs.Places.{spot_of, StandsAt}
+use Rattle.scc_buckets.proofs.Standing.{along, length-zero}
+use Rattle.scc_table.specs.Places.{StandsAt}
 use Rattle.scc_table.specs.Stepping.{rank_on}
 use Rattle.scc_table.specs.TwoArrays.{waits_at}
-use Rattle.scc_table.proofs.Nexts.{bound-same, few-entries, owed-count, list-past, next-same, own-stands, rank-end, rank-next, rank-start, sources-more}
-use Rattle.scc_table.proofs.OldSpots.{old-at, old-spot, own-at, own-list, own-spot}
-use Rattle.scc_draining.proofs.FromBuckets.{few-each, within-sources}
+use Rattle.scc_table.proofs.Nexts.{owed-count, list-past, own-stands, rank-start}
+use Rattle.scc_table.proofs.OldSpots.{own-list}
+use Rattle.scc_draining.proofs.FromBuckets.{within-sources}
 use Rattle.scc_table.proofs.Preparing.{long-flags, multiple-flags, sized-flags}
 use Rattle.scc_table.proofs.RelocatingLemmas.{up-within}
 use Rattle.scc_table.proofs.SearchingLemmas.{not_true}
-use Rattle.scc_table.proofs.Seen.{count-seen, settings-seen, waiting-seen}
+use Rattle.scc_table.proofs.Seen.{count-seen, waiting-seen}
 use Rattle.scc_table.proofs.Table.first_in.Goals as goal
 
 pub sources-first-requires-clause-some : goal.sources-first-requires-clause-some

@@ -1,4 +1,4 @@
-use Rattle.std.proofs.Common.{◌≡◌, ◌∙◌, ℕ, None, List, map, sym, ap, subst, arith, rules}
+use Rattle.std.proofs.Common.{◌≡◌, ◌∙◌, ℕ, None, List, map, sym, ap, subst, arith}
 use Rattle.std.specs.List.{position, IsDistinct}
 use Rattle.scc_contents.specs.Contents.{bucket_count, key_hash, settings_of}
 use Rattle.scc_table.specs.TwoArrays.{IsTable, together}

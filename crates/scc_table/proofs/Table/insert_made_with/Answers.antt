@@ -1,5 +1,4 @@
 use Rattle.std.proofs.Common.{◌≡◌, ◌∙◌, Bool, true, false, sym, ap, arith, rules}
-use Rattle.scc_contents.specs.Contents.{bucket_count}
 use Rattle.scc_table.proofs.Same.{count-same, unchanged-same}
 use Rattle.scc_table.proofs.Table.insert_made_with.Goals as goal
 

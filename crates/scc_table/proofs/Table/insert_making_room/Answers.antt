@@ -1,4 +1,4 @@
-use Rattle.std.proofs.Common.{◌≡◌, ◌∙◌, ◌-◌, ◌<◌, ◌≤◌, length, replicate, true, sym, ap, subst, arith, Bool, rules}
+use Rattle.std.proofs.Common.{◌≡◌, ◌∙◌, ◌-◌, ◌≤◌, length, replicate, true, sym, ap, subst, arith, Bool, rules}
 use Rattle.std.specs.List.{count_by, range_with_len}
 use Rattle.scc_contents.specs.Contents.{HasRoomAt, bucket_count, entries, key_hash, settings_of, waiting_of}
 use Rattle.scc_buckets.specs.Pour.{IsRegrouped}

@@ -1,4 +1,4 @@
-use Rattle.std.proofs.Common.{◌≡◌, ◌∙◌, drop, ap, subst, arith, rules}
+use Rattle.std.proofs.Common.{◌∙◌, drop, ap, subst, arith, rules}
 use Rattle.scc_table.specs.Relocates.{AreMovedFrom}
 use Rattle.scc_table.proofs.Placing.{placed-at, placed-count, placed-down, placed-fewer, placed-short}
 use Rattle.scc_table.proofs.Same.{count-same, pending-same, unchanged-same}

@@ -1,22 +1,8 @@
-use Rattle.std.proofs.Common.{◌≡◌, ◌∙◌, ◌+◌, ◌<◌, true, false, length, sym, ap, subst, rules, arith}
-use Rattle.std.proofs.lemmas.List.{get_or_read}
-use Rattle.std.proofs.lemmas.List.Sums.{count_by-le-length}
-use Rattle.std.specs.List.{count_by, position}
-use Rattle.scc_array.specs.Shelves.{shelf_of}
-use Rattle.scc_array.specs.Shelf.{Shelf}
-use Rattle.scc_contents.specs.Contents.{entries, bucket_count, key_hash, pending_of, list_of, settings_of, waiting_of, IsRouted}
+use Rattle.std.proofs.Common.{subst}
+use Rattle.scc_contents.specs.Contents.{key_hash, IsRouted}
 use Rattle.scc_contents.specs.Hashing.{hash_of}
-use Rattle.scc_contents.specs.Routing.{bucket_number}
-use Rattle.scc_buckets.specs.declared.place.Place.{Place}
-use Rattle.scc_buckets.proofs.FindingLemmas.{HashOf, has_tag}
-use Rattle.scc_buckets.proofs.Standing.{along}
-use Rattle.scc_table.specs.Places.{IsFoundAt}
-use Rattle.scc_table.specs.TwoArrays.{waits_at}
-use Rattle.scc_table.proofs.Joining.{flags-length, pending-together}
-use Rattle.scc_table.proofs.Preparing.{sized-flags}
-use Rattle.scc_table.proofs.RelocatingLemmas.{up-within}
-use Rattle.scc_table.proofs.Seen.{count-seen, settings-seen, waiting-seen}
-use Rattle.scc_table.proofs.SearchingLemmas.{entries-settled, found-settled, routed-together, found-own, missed-own, found-old, missed-old}
+use Rattle.scc_table.proofs.Seen.{settings-seen}
+use Rattle.scc_table.proofs.SearchingLemmas.{routed-together}
 use Rattle.scc_table.proofs.Table.keep_lists.Goals as goal
 
 pub returns-clause-routed : goal.returns-clause-routed

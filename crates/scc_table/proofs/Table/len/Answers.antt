@@ -1,4 +1,4 @@
-use Rattle.std.proofs.Common.{◌≡◌, ℕ, ◌⊎◌, inl, inr, ◌<◌, ◌≤◌, ◌+◌, ◌*◌, ◌^◌, ◌∙◌, sym, ap, arith, rules, length}
+use Rattle.std.proofs.Common.{◌≡◌, ℕ, ◌⊎◌, inl, inr, ◌≤◌, ◌+◌, ◌*◌, ◌^◌, ◌∙◌, sym, ap, arith, rules, length}
 use Rattle.std.specs.List.{sum_by}
 use Rattle.scc_array.specs.Shelf.{Shelf, shelf_entries}
 use Rattle.scc_contents.specs.Contents.{entries, bucket_count, key_hash, spilled_of}

@@ -1,6 +1,6 @@
 use Rattle.std.specs.List.{IsDistinct}
-use Rattle.std.proofs.Common.{◌≡◌, ◌∙◌, ◌+◌, ◌*◌, ◌<◌, ℕ, List, [], map, inl, sym, ap, subst, arith, rules}
-use Rattle.scc_contents.specs.Contents.{bucket_count, entries, key_hash, minimum_of, spilled_of, waiting_of, refused_of}
+use Rattle.std.proofs.Common.{◌≡◌, ◌∙◌, ◌+◌, ◌*◌, ℕ, List, map, inl, sym, ap, subst, arith, rules}
+use Rattle.scc_contents.specs.Contents.{bucket_count, entries, key_hash, minimum_of, spilled_of, refused_of}
 use Rattle.scc_contents.specs.Sizes.{IsArray, IsArraySize}
 use Rattle.scc_buckets.specs.Tables.{spilled_in}
 use Rattle.scc_table.specs.TwoArrays.{IsTable, together}
@@ -10,7 +10,7 @@ use Rattle.scc_table.proofs.Firsts.{fields-first, first-grows, first-rests, no-f
 use Rattle.scc_table.proofs.Joining.{refused-together, settings-together, waiting-together}
 use Rattle.scc_table.proofs.Same.{any-err, hash-same}
 use Rattle.scc_table.proofs.Short.{first-resized}
-use Rattle.scc_table.proofs.Viewed.{count-seen, refused-seen, settings-seen, waiting-seen}
+use Rattle.scc_table.proofs.Viewed.{count-seen, refused-seen, settings-seen}
 use Rattle.scc_table.proofs.Table.make_array.Goals as goal
 
 pub make_array-requires : goal.make_array-requires

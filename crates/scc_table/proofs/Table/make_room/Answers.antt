@@ -1,14 +1,11 @@
-use Rattle.std.proofs.Common.{◌≡◌, ◌==◌, ◌∙◌, ◌*◌, ◌^◌, ◌<◌, ◌≤◌, ℕ, Bool, true, inl, inr, length, sym, ap, subst, arith}
+use Rattle.std.proofs.Common.{◌≡◌, ◌==◌, ◌∙◌, ◌<◌, ℕ, Bool, inl, inr, length, sym, ap, subst, arith}
 use Rattle.std.specs.List.{count_by}
-use Rattle.scc_contents.specs.Contents.{Contents, HasRoomAt, bucket_count, entries, key_hash, list_of, pending_of, refused_of, settings_of, waiting_of}
+use Rattle.scc_contents.specs.Contents.{HasRoomAt, bucket_count, entries, key_hash, list_of, settings_of}
 use Rattle.scc_contents.specs.Routing.{bucket_number}
-use Rattle.scc_contents.specs.Steps.{Grows, IsReadyAt, MakesRoom, Rests}
 use Rattle.scc_buckets.proofs.Resizes.{rests-resizes}
-use Rattle.scc_table.proofs.Finishing.{pending-is}
 use Rattle.scc_table.proofs.Listed.{count-listed}
 use Rattle.scc_table.proofs.Once.{room-marked, room-of}
-use Rattle.scc_table.proofs.Same.{count-same, entries-same, hash-same}
-use Rattle.scc_table.proofs.StartingLemmas.{count-up}
+use Rattle.scc_table.proofs.Same.{count-same, hash-same}
 use Rattle.scc_table.proofs.Table.make_room.Goals as goal
 
 pub returns-then-pending-gt0-clause-ok : goal.returns-then-pending-gt0-clause-ok

@@ -1,5 +1,4 @@
-use Rattle.std.proofs.Common.{◌≡◌, ◌∙◌, ◌<◌, Bool, inl, inr, sym, ap, arith}
-use Rattle.scc_contents.specs.Contents.{bucket_count}
+use Rattle.std.proofs.Common.{◌∙◌, Bool, inr, sym, ap, arith}
 use Rattle.scc_contents.specs.Hashing.{hash_of}
 use Rattle.scc_buckets.proofs.Bounds.{keeps-count}
 use Rattle.scc_table.proofs.Same.{count-same}

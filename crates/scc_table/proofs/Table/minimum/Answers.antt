@@ -1,8 +1,6 @@
 use Rattle.std.proofs.Common.{◌∙◌, ◌+◌, ap}
-use Rattle.scc_contents.specs.Contents.{bucket_count, key_hash, settings_of}
-use Rattle.scc_contents.specs.Hashing.{hash_of}
-use Rattle.scc_contents.specs.Routing.{bucket_number}
-use Rattle.scc_table.proofs.Seen.{count-seen, settings-seen}
+use Rattle.scc_contents.specs.Contents.{key_hash}
+use Rattle.scc_table.proofs.Seen.{settings-seen}
 use Rattle.scc_table.proofs.Table.minimum.Goals as goal
 
 pub returns-clause-value : goal.returns-clause-value

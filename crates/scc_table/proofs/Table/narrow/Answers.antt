@@ -1,5 +1,5 @@
-use Rattle.std.proofs.Common.{◌≡◌, ◌∙◌, ℕ, ◌*◌, ◌≤◌, ◌<◌, length, max, refl, sym, ap, subst, arith, rules}
-use Rattle.scc_buckets.specs.Bounded.{IsResized, KeepsLists, MayNarrow, stays_wide, denied_narrow, narrows}
+use Rattle.std.proofs.Common.{◌≡◌, ◌∙◌, ℕ, ◌≤◌, ◌<◌, length, refl, sym, subst, arith, rules}
+use Rattle.scc_buckets.specs.Bounded.{IsResized, MayNarrow, stays_wide, denied_narrow, narrows}
 use Rattle.scc_contents.specs.Contents.{bucket_count, entries, key_hash, minimum_of, settings_of}
 use Rattle.scc_contents.specs.Hashing.{hash_of}
 use Rattle.scc_buckets.specs.Pour.{IsRegrouped, bound_for}

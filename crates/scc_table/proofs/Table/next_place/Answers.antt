@@ -1,4 +1,4 @@
-use Rattle.std.proofs.Common.{◌∙◌, ◌+◌, ◌^◌, ◌<◌, sym, rules, arith}
+use Rattle.std.proofs.Common.{◌∙◌, sym, rules}
 use Rattle.scc_buckets.proofs.Standing.{along}
 use Rattle.scc_table.proofs.Table.next_place.Goals as goal
 

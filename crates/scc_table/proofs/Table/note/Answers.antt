@@ -1,11 +1,9 @@
-use Rattle.std.proofs.Common.{◌≡◌, ◌∙◌, ℕ, Bool, List, map, sym, ap, subst, rules}
-use Rattle.std.specs.List.{IsDistinct}
-use Rattle.scc_array.specs.Shelf.{Shelf}
-use Rattle.scc_contents.specs.Contents.{Contents, entries, key_hash, lists_of, owed_of, spilled_of}
+use Rattle.std.proofs.Common.{◌∙◌, ℕ, sym, ap, subst}
+use Rattle.scc_contents.specs.Contents.{key_hash, lists_of, owed_of, spilled_of}
 use Rattle.scc_table.specs.TwoArrays.{IsTable, together}
 use Rattle.scc_table.proofs.Joining.{settings-together, refused-together, waiting-together}
 use Rattle.scc_table.proofs.Noting.{fields-kept, lists-kept, owed-kept, spilled-kept}
-use Rattle.scc_table.proofs.Same.{hash-same, entries-same}
+use Rattle.scc_table.proofs.Same.{hash-same}
 use Rattle.scc_table.proofs.Viewed.{settings-seen, waiting-seen}
 use Rattle.scc_table.proofs.Table.note.Goals as goal
 

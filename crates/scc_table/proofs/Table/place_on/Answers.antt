@@ -1,21 +1,14 @@
-use Rattle.std.proofs.Common.{◌≡◌, ℕ, ◌∙◌, ◌+◌, ◌-◌, ◌^◌, ◌<◌, ◌≤◌, ◌*◌, ◌⊎◌, inl, inr, [], suc, true, false, length, sym, ap, subst, rules, arith, add-one}
-use Rattle.scc_array.specs.Shelves.{shelf_of}
-use Rattle.scc_array.specs.Shelf.{shelf_entries}
-use Rattle.scc_contents.specs.Contents.{entries, bucket_count, spilled_of, owed_of, key_hash, list_of, settings_of, waiting_of}
+use Rattle.std.proofs.Common.{◌≡◌, ◌∙◌, ◌+◌, ◌-◌, ◌^◌, ◌<◌, ◌≤◌, false, length, sym, ap, subst, rules, arith, add-one}
+use Rattle.scc_contents.specs.Contents.{bucket_count, key_hash, list_of}
 use Rattle.scc_buckets.specs.Places as spots
-use Rattle.scc_contents.specs.Routing.{bucket_number}
 use Rattle.scc_buckets.specs.declared.place.Place.{Place}
-use Rattle.scc_buckets.proofs.Standing.{along, index-end, index-skip, length-zero}
-use Rattle.scc_table.specs.Places.{spot_of, StandsAt}
+use Rattle.scc_buckets.proofs.Standing.{along, index-skip}
+use Rattle.scc_table.specs.Places.{StandsAt}
 use Rattle.scc_table.specs.Stepping.{index_on, rank_on}
 use Rattle.scc_table.specs.TwoArrays.{waits_at}
-use Rattle.scc_table.proofs.Nexts.{NextStart, bound-same, old-next, own-next, slot-below, start-old, start-own, spot-on_old, spot-on_own, few-entries, owed-count, list-past, next-same, own-stands, rank-end, rank-next, rank-start, sources-more}
-use Rattle.scc_table.proofs.OldSpots.{old-at, old-waits, old-within, old-spot, own-at, own-list, own-spot}
-use Rattle.scc_draining.proofs.FromBuckets.{few-each, within-sources}
-use Rattle.scc_table.proofs.Preparing.{long-flags, multiple-flags, sized-flags}
-use Rattle.scc_table.proofs.RelocatingLemmas.{up-within}
-use Rattle.scc_table.proofs.SearchingLemmas.{not_true}
-use Rattle.scc_table.proofs.Seen.{count-seen, settings-seen, waiting-seen}
+use Rattle.scc_table.proofs.Nexts.{start-old, start-own, spot-on_old, spot-on_own, own-stands}
+use Rattle.scc_table.proofs.OldSpots.{own-list}
+use Rattle.scc_table.proofs.Seen.{count-seen, waiting-seen}
 use Rattle.scc_table.proofs.Table.place_on.Goals as goal
 
 pub returns-then-slot-list_len : goal.returns-then-slot-list_len

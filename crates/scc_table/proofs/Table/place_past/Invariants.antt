@@ -1,4 +1,4 @@
-use Rattle.std.proofs.Common.{◌≡◌, ◌≤◌}
+use Rattle.std.proofs.Common.{◌≡◌}
 use Rattle.scc_buckets.specs.Places as spots
 use Rattle.scc_table.proofs.Table.place_past.Given as goal
 

@@ -1,10 +1,10 @@
 use Rattle.std.proofs.Common.{◌≡◌, ◌∙◌, ◌<◌, ◌≤◌, ℕ, ◌+◌, ◌^◌, true, false, inl, inr, length, sym, ap, subst, arith, rules}
-use Rattle.scc_contents.specs.Contents.{HasRoomBy, bucket_count, owed_of, key_hash, list_of, lists_of, settings_of, spilled_of}
+use Rattle.scc_contents.specs.Contents.{HasRoomBy, bucket_count, owed_of, key_hash, list_of, settings_of, spilled_of}
 use Rattle.scc_buckets.specs.OneList.{HasSameLists, IsPutIn}
 use Rattle.scc_contents.specs.Routing.{bucket_number}
 use Rattle.scc_table.specs.TwoArrays.{IsTable, together, waits_at}
-use Rattle.scc_table.proofs.Joining.{refused-together, settings-together, waiting-together}
-use Rattle.scc_table.proofs.Noting.{fields-less, owed-kept, lists-kept}
+use Rattle.scc_table.proofs.Joining.{waiting-together}
+use Rattle.scc_table.proofs.Noting.{fields-less, owed-kept}
 use Rattle.scc_table.proofs.PuttingLemmas.{absent-own, fields-put, owed-put, long-full, put-together, room-own, same-together}
 use Rattle.scc_table.proofs.Same.{by-answer, hash-same, if-ok, on-err}
 use Rattle.scc_table.proofs.Viewed.{count-seen, settings-seen, waiting-seen}

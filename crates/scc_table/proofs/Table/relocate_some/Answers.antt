@@ -1,4 +1,4 @@
-use Rattle.std.proofs.Common.{◌≡◌, ◌∙◌, ◌+◌, sym, subst, arith}
+use Rattle.std.proofs.Common.{◌∙◌, ◌+◌, sym, subst, arith}
 use Rattle.scc_table.specs.TwoArrays.{pending_targets}
 use Rattle.scc_table.proofs.SettlingLemmas.{SettlesFirst, moved-all, settles-all, settles-start, settles-none, settles-one}
 use Rattle.scc_table.proofs.Viewed.{pending-seen}

@@ -8,7 +8,6 @@ use Rattle.scc_contents.specs.Hashing.{hash_of}
 use Rattle.scc_contents.specs.Routing.{bucket_number}
 use Rattle.scc_buckets.specs.declared.place.Place.{Place}
 use Rattle.scc_buckets.proofs.FindingLemmas.{HashOf, has_tag}
-use Rattle.scc_buckets.proofs.Standing.{along}
 use Rattle.scc_table.specs.Places.{IsFoundAt}
 use Rattle.scc_table.specs.TwoArrays.{waits_at}
 use Rattle.scc_table.proofs.Joining.{flags-length, pending-together}

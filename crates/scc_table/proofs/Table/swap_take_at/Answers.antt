@@ -1,19 +1,17 @@
-use Rattle.std.proofs.Common.{◌≡◌, ℕ, ◌-◌, ◌<◌, ◌≤◌, Some, List, length, map, set, sym, ap, ◌∙◌, subst, arith}
-use Rattle.std.specs.List.{remove, slice_get, IsDistinct}
-use Rattle.scc_array.specs.Shelves.{shelf_of}
-use Rattle.scc_array.specs.Shelf.{Shelf, shelf_entries, without_place}
-use Rattle.scc_contents.specs.Contents.{Contents, bucket_count, entries, list_of, key_hash, waiting_of, owed_of}
+use Rattle.std.proofs.Common.{◌≡◌, ℕ, ◌<◌, Some, map, sym, ap, ◌∙◌, subst, arith}
+use Rattle.std.specs.List.{slice_get, IsDistinct}
+use Rattle.scc_contents.specs.Contents.{Contents, bucket_count, entries, key_hash, waiting_of, owed_of}
 use Rattle.scc_contents.specs.Hashing.{hash_of}
-use Rattle.scc_buckets.specs.OneList.{IsSwappedOutOf, IsTakenFrom}
+use Rattle.scc_buckets.specs.OneList.{IsSwappedOutOf}
 use Rattle.scc_table.specs.Places.{IsPlace, index_of, spot_of}
 use Rattle.scc_table.specs.Takes.{owed_taken}
 use Rattle.scc_table.specs.TwoArrays.{together, IsTable}
 use Rattle.scc_table.proofs.Joining.{waiting-together}
-use Rattle.scc_table.proofs.Taken.{own-owed_kept, own-less, own-less_swapped, own-swapped, own-taken, old-owed_taken, old-less, old-some, old-taken_at}
-use Rattle.scc_table.proofs.TakenFrom.{got-there, swapped-count, swapped-moved, swapped-unique, taken-exactly, taken-gone, taken-listed, taken-short, taken-swapped, taken-unique}
+use Rattle.scc_table.proofs.Taken.{own-owed_kept, own-less_swapped, own-swapped}
+use Rattle.scc_table.proofs.TakenFrom.{swapped-count, swapped-moved, swapped-unique, taken-swapped}
 use Rattle.scc_table.proofs.SearchingLemmas.{near-settled}
 use Rattle.scc_table.proofs.Viewed.{count-seen}
-use Rattle.scc_table.proofs.Written.{own-got, own-is, old-got, old-is}
+use Rattle.scc_table.proofs.Written.{own-got, own-is}
 use Rattle.scc_table.proofs.Table.swap_take_at.Goals as goal
 use Rattle.scc_table.proofs.Table.swap_take_at.Goals.{then-self-eq0-via-then-self-eq0, then-self-eq0-via-else-self-eq0+then-place-bucket_count}
 

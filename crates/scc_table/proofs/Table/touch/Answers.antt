@@ -1,15 +1,14 @@
-use Rattle.std.proofs.Common.{◌≡◌, ℕ, ◌+◌, ◌^◌, ◌<◌, ◌∷◌, ◌++◌, Bool, false, Some, None, [], List, length, map, sym, ap, ◌∙◌, subst, arith, rules}
-use Rattle.std.specs.List.{position, remove, slice_get, slice_set, IsDistinct}
-use Rattle.scc_buckets.specs.Bounded.{HasList, IsBounded, IsListed, PutsLast}
-use Rattle.scc_contents.specs.Contents.{Contents, bucket_count, entries, owed_of, key_hash, list_of, lists_of, settings_of, spilled_of, waiting_of}
+use Rattle.std.proofs.Common.{◌≡◌, ℕ, ◌+◌, ◌^◌, ◌<◌, ◌∷◌, ◌++◌, false, Some, [], length, map, sym, ap, ◌∙◌, subst, arith}
+use Rattle.std.specs.List.{remove, slice_get, slice_set, IsDistinct}
+use Rattle.scc_buckets.specs.Bounded.{HasList, IsBounded, IsListed}
+use Rattle.scc_contents.specs.Contents.{Contents, bucket_count, entries, owed_of, key_hash, list_of, lists_of, settings_of, spilled_of}
 use Rattle.scc_contents.specs.Hashing.{hash_of}
 use Rattle.scc_contents.specs.Routing.{bucket_number}
-use Rattle.scc_buckets.proofs.FindingLemmas.{HashOf}
 use Rattle.scc_table.specs.TwoArrays.{together, waits_at, IsTable}
 use Rattle.scc_table.proofs.CurrentChanges.{own-fields, own-owed, own-list}
 use Rattle.scc_table.proofs.Joining.{settings-together, waiting-together}
-use Rattle.scc_table.proofs.Listing.{absent-list, own-bounded, own-has_list, own-listed, own-puts_last, puts-list, unique-moved, unique-puts}
-use Rattle.scc_table.proofs.SearchingLemmas.{missed-listed, missed-own, not_true}
+use Rattle.scc_table.proofs.Listing.{own-bounded, own-has_list, own-listed, unique-moved}
+use Rattle.scc_table.proofs.SearchingLemmas.{not_true}
 use Rattle.scc_table.proofs.Seen.{count-seen, settings-seen, waiting-seen}
 use Rattle.scc_table.proofs.Table.touch.Goals as goal
 

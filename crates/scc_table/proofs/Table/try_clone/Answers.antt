@@ -1,6 +1,4 @@
-use Rattle.std.proofs.Common.{◌≡◌, ◌∙◌, sym, subst, ap, arith}
-use Rattle.std.specs.List.{flat_map}
-use Rattle.scc_array.specs.Shelf.{shelf_entries}
+use Rattle.std.proofs.Common.{◌∙◌, subst, arith}
 use Rattle.scc_contents.specs.Clones.{HasClones}
 use Rattle.scc_contents.specs.Contents.{key_hash}
 use Rattle.scc_table.specs.TwoArrays.{together}

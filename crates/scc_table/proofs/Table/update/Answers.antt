@@ -1,5 +1,5 @@
-use Rattle.std.proofs.Common.{◌≡◌, ◌∙◌, ◌<◌, ℕ, Bool, Some, refl, sym, ap, subst, arith}
-use Rattle.std.specs.List.{find, position, slice_get}
+use Rattle.std.proofs.Common.{◌≡◌, ◌∙◌, refl, sym, ap, subst, arith}
+use Rattle.std.specs.List.{find}
 use Rattle.scc_array.proofs.Finds.{find-position}
 use Rattle.scc_contents.specs.Contents.{Contents, Settings, entries, key_hash, pending_of}
 use Rattle.scc_contents.specs.Hashing.{hash_of}
