@@ -9,7 +9,7 @@ use Rattle.scc_contents.specs.Steps.{FirstArrayWhenDue, Grows, IsUnchanged, Rest
 use Rattle.scc_buckets.specs.Bounded.{IsListed, KeepsLists}
 use Rattle.scc_buckets.specs.Pour.{IsRegrouped}
 use Rattle.scc_buckets.specs.declared.place.Place.{Place}
-use Rattle.scc_table.specs.Bounded.{DoublesBelow, GrowsBelow, IsDoublingDue}
+use Rattle.scc_table.specs.Bounded.{DoublesBelow, GrowsBelow, IsDoublingDue, IsReadyBelow}
 use Rattle.scc_table.specs.Places.{IsInsertedAt}
 use Rattle.scc_table.specs.Relocates.{left_after, AreShortAmong, AreShortBut}
 use Rattle.scc_table.specs.TwoArrays.{pending_targets, waits_at}
@@ -180,6 +180,29 @@ module _ {E K S : Type 0} (eq : K → K → Bool) (key : E → K) where
       pub within : IfOk result (λ i. i < bucket_count d)
       -- it is the one of the hash
       pub routed : IfOk result (λ i. i ≡ bucket_number (settings_of d).skipped (bucket_count d) hash)
+      -- it is refused only where there is no array, and nothing changed then
+      pub none : OnErr result ((bucket_count c ≡ 0) × (d ≡ c))
+      -- of a first array no bucket waits
+      pub first : bucket_count c ≡ 0 → waiting_of d ≡ []
+      -- of the same array the same buckets wait
+      pub waiting : 0 < bucket_count c → bucket_count d ≡ bucket_count c → waiting_of d ≡ waiting_of c
+      -- of a larger one every bucket does
+      pub all : 0 < bucket_count c → bucket_count d ≢ bucket_count c → pending_of d ≡ bucket_count d
+      -- no two keys are equal
+      pub unique : IsUniqueBy eq key d
+
+    -- all is made that a put of a new key of that hash wants where arrays of fewer slots than `most` may grow
+    pub record MakesRoomWithin {X : Type 0} (most : ℕ) (c : Contents E S) (hash : ℕ) (result : Result (Unit {0}) X) (d : Contents E S) : Type 0 where
+      -- the first array is made, or the buckets are doubled where that is due
+      pub grows : OnOk result (GrowsBelow (λ e. hash_in c (key e)) most (bucket_number (settings_of c).skipped (bucket_count c) hash) c d)
+      -- the put wants nothing more then
+      pub ready : OnOk result (IsReadyBelow most (bucket_number (settings_of d).skipped (bucket_count d) hash) d)
+      -- a growth is marked as tried only where it was before, or where it is noted as refused
+      pub marked : (refused_of d).1 ≡ true → ((refused_of c).1 ≡ true) ⊎ ((refused_of d).0 ≡ true)
+      -- the settings stay
+      pub settings : settings_of d ≡ settings_of c
+      -- each entry stands in the list of its hash
+      pub listed : IsListed (λ e. hash_in d (key e)) d
       -- it is refused only where there is no array, and nothing changed then
       pub none : OnErr result ((bucket_count c ≡ 0) × (d ≡ c))
       -- of a first array no bucket waits

@@ -4,11 +4,13 @@ pub mod Insertions
 pub mod LendsTable
 pub mod MadeInsertions
 pub mod Making
+pub mod Minimums
 pub mod Placed
 pub mod Places
 pub mod Puts
 pub mod Relocates
 pub mod Relocations
+pub mod Removals
 pub mod Starts
 pub mod Stepping
 pub mod Takes

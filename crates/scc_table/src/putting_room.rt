@@ -1,10 +1,9 @@
 //! Room for an entry before it is put into a table whose lists hold at most 32 entries each, and the entry that it
 //! would drive out.
-ghost use Rattle.std.specs.Prelude.{◌≡◌, ◌≢◌, ◌≤◌, ◌<◌, ◌^◌, ◌⊎◌, [], false, true, length, Some, OnOk, OnErr, slice_get};
+ghost use Rattle.std.specs.Prelude.{◌≡◌, ◌≤◌, ◌<◌, ◌^◌, false, length, Some, slice_get};
 ghost use Rattle.scc_buckets.specs.Bounded.{IsListed};
-ghost use Rattle.scc_contents.specs.Contents.{bucket_count, key_hash, list_of, lists_of, pending_of, refused_of, settings_of, waiting_of, IsUniqueBy};
-ghost use Rattle.scc_contents.specs.Routing.{bucket_number};
-ghost use Rattle.scc_table.specs.Bounded.{GrowsBelow, IsReadyBelow};
+ghost use Rattle.scc_contents.specs.Contents.{bucket_count, key_hash, list_of, lists_of, refused_of, settings_of, waiting_of, IsUniqueBy};
+ghost use Rattle.scc_table.specs.Growths.{MakesRoomWithin};
 
 use super::Table;
 use scc_entry::Keyed;
@@ -22,23 +21,8 @@ where
         requires listed { IsListed (λ e. key_hash H.BuildHasher H.Hasher.Hasher E.Key.hash_input self.old
             (E.key_of e)) self.old }
         requires most { most ≤ 2 ^ 63 }
-        ensures grows { OnOk result (GrowsBelow (λ e. key_hash H.BuildHasher H.Hasher.Hasher E.Key.hash_input self.old
-            (E.key_of e)) most (bucket_number (settings_of self.old).skipped (bucket_count self.old) hash) self.old
-            self.new) }
-        ensures ready { OnOk result (IsReadyBelow most
-            (bucket_number (settings_of self.new).skipped (bucket_count self.new) hash) self.new) }
-        ensures marked { (refused_of self.new).1 ≡ true
-            → ((refused_of self.old).1 ≡ true) ⊎ ((refused_of self.new).0 ≡ true) }
-        ensures settings { settings_of self.new ≡ settings_of self.old }
-        ensures listed { IsListed (λ e. key_hash H.BuildHasher H.Hasher.Hasher E.Key.hash_input self.new (E.key_of e))
-            self.new }
-        ensures none { OnErr result ((bucket_count self.old ≡ 0) × (self.new ≡ self.old)) }
-        ensures first { bucket_count self.old ≡ 0 → waiting_of self.new ≡ [] }
-        ensures waiting { 0 < bucket_count self.old → bucket_count self.new ≡ bucket_count self.old
-            → waiting_of self.new ≡ waiting_of self.old }
-        ensures all { 0 < bucket_count self.old → bucket_count self.new ≢ bucket_count self.old
-            → pending_of self.new ≡ bucket_count self.new }
-        ensures unique { IsUniqueBy E.Key.eq E.key_of self.new }
+        ensures { MakesRoomWithin E.Key.eq E.key_of (key_hash H.BuildHasher H.Hasher.Hasher E.Key.hash_input) most
+            self.old hash result self.new }
     {
         self.keep_lists();
         if self.bucket_count() == 0 {

@@ -1,10 +1,11 @@
 //! How many slots a table of two arrays keeps at least, and the tokens of reserved ones.
-ghost use Rattle.std.specs.Prelude.{◌≡◌, ◌≢◌, ◌≤◌, ◌<◌, ◌+◌, ◌*◌, ◌^◌, ◌↔◌, IfNone, IfSome, IsSome, IsTrue, OnSome};
-ghost use Rattle.scc_contents.specs.Contents.{bucket_count, settings_of, refused_of, minimum_of, waiting_of, IsUniqueBy};
+ghost use Rattle.std.specs.Prelude.{◌≡◌, ◌≢◌, ◌≤◌, ◌<◌, ◌+◌, ◌*◌, ◌^◌};
+ghost use Rattle.scc_contents.specs.Contents.{bucket_count, settings_of, minimum_of, IsUniqueBy};
 ghost use Rattle.scc_contents.specs.Sizes.{IsArraySize};
-ghost use Rattle.scc_contents.specs.Steps.{IsUnchanged, ReachesMinimumWhenDue, Releases, Reserves, Resizes, ShrinksWhenDue};
-ghost use Rattle.scc_table.specs.Relocates.{IsGrowthDue, IsShrinkDue, Spreads};
+ghost use Rattle.scc_contents.specs.Steps.{ReachesMinimumWhenDue, Resizes};
+ghost use Rattle.scc_table.specs.Relocates.{IsGrowthDue, Spreads};
 ghost use Rattle.scc_table.specs.Starts.{SetsReserved};
+ghost use Rattle.scc_table.specs.Minimums.{LowersMinimum, RaisesMinimum, ReservesSlots};
 
 use super::Table;
 use scc_buckets::sizes::{GREATEST_CAPACITY, buckets_for};
@@ -44,15 +45,7 @@ where
 {
     /// Raises the minimum by so many slots as `raise_minimum` does, and answers the token that stands for them.
     pub fn reserve(&mut self, additional: usize) -> Option<Reservation>
-        ensures answer { IsSome result ↔ ((0 < additional) × (minimum_of self.old + additional ≤ 2 ^ 63)) }
-        ensures token { IfSome result (λ r. r ≡ additional) }
-        ensures yes { OnSome result (Reserves additional self.old self.new) }
-        ensures due { OnSome result (ReachesMinimumWhenDue self.old self.new) }
-        ensures spreads { OnSome result (Spreads (IsGrowthDue (minimum_of self.new) self.old) self.old self.new) }
-        ensures no { IfNone result (IsUnchanged self.old self.new) }
-        ensures noted { IfNone result (refused_of self.new ≡ refused_of self.old) }
-        ensures waiting { IfNone result (waiting_of self.new ≡ waiting_of self.old) }
-        ensures unique { IsUniqueBy E.Key.eq E.key_of self.new }
+        ensures { ReservesSlots E.Key.eq E.key_of additional self.old result self.new }
     {
         if self.raise_minimum(additional) {
             Some(Reservation { additional })
@@ -65,14 +58,7 @@ where
     /// every bucket of the new array waits. Where the minimum can't be raised by that, it answers false and changes
     /// nothing.
     pub fn raise_minimum(&mut self, additional: usize) -> bool
-        ensures answer { IsTrue result ↔ ((0 < additional) × (minimum_of self.old + additional ≤ 2 ^ 63)) }
-        ensures yes { IsTrue result → Reserves additional self.old self.new }
-        ensures due { IsTrue result → ReachesMinimumWhenDue self.old self.new }
-        ensures spreads { IsTrue result → Spreads (IsGrowthDue (minimum_of self.new) self.old) self.old self.new }
-        ensures no { (IsTrue result → ⊥) → IsUnchanged self.old self.new }
-        ensures noted { (IsTrue result → ⊥) → refused_of self.new ≡ refused_of self.old }
-        ensures waiting { (IsTrue result → ⊥) → waiting_of self.new ≡ waiting_of self.old }
-        ensures unique { IsUniqueBy E.Key.eq E.key_of self.new }
+        ensures { RaisesMinimum E.Key.eq E.key_of additional self.old result self.new }
     {
         let minimum = self.minimum();
         if additional == 0 || additional > GREATEST_CAPACITY - minimum {
@@ -87,14 +73,7 @@ where
     /// Lowers the minimum by so many reserved slots, and tries to make the array smaller. Where more than what is
     /// reserved is given back, it answers false and changes nothing.
     pub fn lower_minimum(&mut self, additional: usize) -> bool
-        ensures answer { IsTrue result ↔ (additional ≤ (settings_of self.old).reserved) }
-        ensures yes { IsTrue result → Releases additional self.old self.new }
-        ensures due { IsTrue result → ShrinksWhenDue self.old self.new }
-        ensures spreads { IsTrue result → Spreads (IsShrinkDue (minimum_of self.new) self.old) self.old self.new }
-        ensures no { (IsTrue result → ⊥) → IsUnchanged self.old self.new }
-        ensures noted { (IsTrue result → ⊥) → refused_of self.new ≡ refused_of self.old }
-        ensures waiting { (IsTrue result → ⊥) → waiting_of self.new ≡ waiting_of self.old }
-        ensures unique { IsUniqueBy E.Key.eq E.key_of self.new }
+        ensures { LowersMinimum E.Key.eq E.key_of additional self.old result self.new }
     {
         self.keep_lists();
         let reserved = self.current.reserved();

@@ -5,38 +5,45 @@ use Rattle.scc_buckets.proofs.Resizes.{smaller-by, shrinks-after}
 use Rattle.scc_table.proofs.Spreading.{shrink-due_after, spreads-after}
 use Rattle.scc_table.proofs.Table.lower_minimum.Goals as goal
 
-pub returns-clause-yes : goal.returns-clause-yes
-returns-clause-yes g c =
+pub returns : goal.returns
+returns g c =
     let t = c.self.inside in
     let hk = key_hash g.H.BuildHasher g.H.Hasher.Hasher g.E.Key.Hash.hash_input t.current in
     let hash = λ (e : g.row.E.Denot). hk (g.E.Keyed.key_of e) in
-    let set = settings-seen hash t.current t.waiting.items t.draining c.args.self.now c.self.view_is in
-    let left : c.reserved-reserved.result ≡ (settings_of c.args.self.now).reserved = c.reserved-reserved.ensures.value ∙ ap (λ s. s.reserved) set in
-    let set : settings_of c.set_reserved.new.self ≡ record (settings_of c.args.self.now) { reserved = (settings_of c.args.self.now).reserved - c.args.additional } =
-    c.set_reserved.ensures.settings ∙ ap (λ r. let s : Settings g.row.H.Denot = record (settings_of c.args.self.now) { reserved = r - c.args.additional } in s) left in
-    let r = c.shrink.ensures.resizes in
-    let minimum : minimum_of c.set_reserved.new.self ≡ (settings_of c.args.self.now).asked + ((settings_of c.args.self.now).reserved - c.args.additional) = ap (λ s. s.asked + s.reserved) set in
-    λ _. record {
-      holds = record {
-        same = rw c.set_reserved.ensures.entries at r.same;
-        lawful = rw c.set_reserved.ensures.buckets at r.size.lawful;
-        minimum = λ less. let m = r.size.minimum (omega (arith, c.set_reserved.ensures.buckets)) in omega arith;
-        settings = r.settings ∙ set;
-      };
-      smaller = smaller-by c.set_reserved.new.self c.shrink.new.self (minimum_of c.shrink.new.self) (bucket_count c.args.self.now) c.shrink.ensures.shrinks (sym (ap (λ s. s.asked + s.reserved) r.settings)) c.set_reserved.ensures.buckets;
+    record {
+      answer = (
+          let set = settings-seen hash t.current t.waiting.items t.draining c.args.self.now c.self.view_is in
+          let left : c.reserved-reserved.result ≡ (settings_of c.args.self.now).reserved = c.reserved-reserved.ensures.value ∙ ap (λ s. s.reserved) set in
+          search rules);
+      yes = (
+          let set = settings-seen hash t.current t.waiting.items t.draining c.args.self.now c.self.view_is in
+          let left : c.reserved-reserved.result ≡ (settings_of c.args.self.now).reserved = c.reserved-reserved.ensures.value ∙ ap (λ s. s.reserved) set in
+          let set : settings_of c.set_reserved.new.self ≡ record (settings_of c.args.self.now) { reserved = (settings_of c.args.self.now).reserved - c.args.additional } =
+          c.set_reserved.ensures.settings ∙ ap (λ r. let s : Settings g.row.H.Denot = record (settings_of c.args.self.now) { reserved = r - c.args.additional } in s) left in
+          let r = c.shrink.ensures.resizes in
+          let minimum : minimum_of c.set_reserved.new.self ≡ (settings_of c.args.self.now).asked + ((settings_of c.args.self.now).reserved - c.args.additional) = ap (λ s. s.asked + s.reserved) set in
+          λ _. record {
+            holds = record {
+              same = rw c.set_reserved.ensures.entries at r.same;
+              lawful = rw c.set_reserved.ensures.buckets at r.size.lawful;
+              minimum = λ less. let m = r.size.minimum (omega (arith, c.set_reserved.ensures.buckets)) in omega arith;
+              settings = r.settings ∙ set;
+            };
+            smaller = smaller-by c.set_reserved.new.self c.shrink.new.self (minimum_of c.shrink.new.self) (bucket_count c.args.self.now) c.shrink.ensures.shrinks (sym (ap (λ s. s.asked + s.reserved) r.settings)) c.set_reserved.ensures.buckets;
+          });
+      due = (λ _. shrinks-after c.args.self.now c.set_reserved.new.self c.shrink.new.self c.set_reserved.ensures.buckets c.set_reserved.ensures.noted c.shrink.ensures.due);
+      spreads = (
+          let a = c.args.self.now in
+          let b = c.set_reserved.new.self in
+          let d = c.shrink.new.self in
+          let e = c.set_reserved.ensures in
+          let same = ap (λ s. s.asked + s.reserved) (sym c.shrink.ensures.resizes.settings) in
+          λ _. spreads-after a b d e.buckets e.waiting e.owed (shrink-due_after (minimum_of b) (minimum_of d) a b same e.buckets e.entries) c.shrink.ensures.spreads);
+      no = (search rules);
+      noted = (search rules);
+      waiting = (search rules);
+      unique = (search rules);
     }
-
-pub returns-clause-due : goal.returns-clause-due
-returns-clause-due g c = λ _. shrinks-after c.args.self.now c.set_reserved.new.self c.shrink.new.self c.set_reserved.ensures.buckets c.set_reserved.ensures.noted c.shrink.ensures.due
-
-pub returns-clause-spreads : goal.returns-clause-spreads
-returns-clause-spreads g c =
-    let a = c.args.self.now in
-    let b = c.set_reserved.new.self in
-    let d = c.shrink.new.self in
-    let e = c.set_reserved.ensures in
-    let same = ap (λ s. s.asked + s.reserved) (sym c.shrink.ensures.resizes.settings) in
-    λ _. spreads-after a b d e.buckets e.waiting e.owed (shrink-due_after (minimum_of b) (minimum_of d) a b same e.buckets e.entries) c.shrink.ensures.spreads
 
 pub set_reserved-requires : goal.set_reserved-requires
 set_reserved-requires g c =
@@ -49,20 +56,21 @@ set_reserved-requires g c =
     let asked = ap (λ s. s.asked) set in
     omega arith
 
-pub returns-then-additional-reserved-clause-answer : goal.returns-then-additional-reserved-clause-answer
-returns-then-additional-reserved-clause-answer g c =
-    let t = c.self.inside in
-    let hk = key_hash g.H.BuildHasher g.H.Hasher.Hasher g.E.Key.Hash.hash_input t.current in
-    let hash = λ (e : g.row.E.Denot). hk (g.E.Keyed.key_of e) in
-    let set = settings-seen hash t.current t.waiting.items t.draining c.args.self.now c.self.view_is in
-    let left : c.reserved-reserved.result ≡ (settings_of c.args.self.now).reserved = c.reserved-reserved.ensures.value ∙ ap (λ s. s.reserved) set in
-    search rules
-
-pub returns-clause-answer : goal.returns-clause-answer
-returns-clause-answer g c =
-    let t = c.self.inside in
-    let hk = key_hash g.H.BuildHasher g.H.Hasher.Hasher g.E.Key.Hash.hash_input t.current in
-    let hash = λ (e : g.row.E.Denot). hk (g.E.Keyed.key_of e) in
-    let set = settings-seen hash t.current t.waiting.items t.draining c.args.self.now c.self.view_is in
-    let left : c.reserved-reserved.result ≡ (settings_of c.args.self.now).reserved = c.reserved-reserved.ensures.value ∙ ap (λ s. s.reserved) set in
-    search rules
+pub returns-then-additional-reserved : goal.returns-then-additional-reserved
+returns-then-additional-reserved g c =
+    record {
+      answer = (
+          let t = c.self.inside in
+          let hk = key_hash g.H.BuildHasher g.H.Hasher.Hasher g.E.Key.Hash.hash_input t.current in
+          let hash = λ (e : g.row.E.Denot). hk (g.E.Keyed.key_of e) in
+          let set = settings-seen hash t.current t.waiting.items t.draining c.args.self.now c.self.view_is in
+          let left : c.reserved-reserved.result ≡ (settings_of c.args.self.now).reserved = c.reserved-reserved.ensures.value ∙ ap (λ s. s.reserved) set in
+          search rules);
+      yes = (search rules);
+      due = (search rules);
+      spreads = (search rules);
+      no = (search rules);
+      noted = (search rules);
+      waiting = (search rules);
+      unique = (search rules);
+    }

@@ -69,7 +69,7 @@ returns g c =
       noted = (refused-together later new ws olds ∙ c.make_array.ensures.noted ∙ sym (refused-seen hash cur ws olds a view));
       first = (record { made = λ z. size });
       array = (omega (arith, array.least));
-      bare = (still);
+      bare = still;
       waiting = (waiting-together later new ws olds ∙ none);
       refused = (search rules);
       resized = (

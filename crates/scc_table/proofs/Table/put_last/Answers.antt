@@ -167,7 +167,7 @@ returns g c =
     let moved = subst (λ (h : g.row.E-Key.Denot → ℕ). PutsLast u i c.args.entry c.put_last.result (together (λ e. h (key e)) d ws olds)) (sym same) first in
     let step = subst (λ (z : Contents g.row.E.Denot g.row.H.Denot). PutsLast z i c.args.entry c.put_last.result after) view moved in
     record {
-      step = (step);
+      step = step;
       listed = (
           let set = settings-seen hash cur ws olds now view in
           let count = count-seen hash cur ws olds now view inv.arrays in

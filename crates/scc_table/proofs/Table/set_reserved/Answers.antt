@@ -39,7 +39,7 @@ returns g c =
           let kept = settings-seen _ t.current t.waiting.items t.draining c.args.self.now c.self.view_is in
           settings-together _ c.set_reserved.new.self t.waiting.items t.draining ∙ c.set_reserved.ensures.settings ∙ ap (λ (s : Settings g.row.H.Denot). let r : Settings g.row.H.Denot = record s { reserved = c.args.reserved } in r) (sym kept));
       noted = (refused-together _ c.set_reserved.new.self t.waiting.items t.draining ∙ c.set_reserved.ensures.noted ∙ sym (refused-seen _ t.current t.waiting.items t.draining c.args.self.now c.self.view_is));
-      lists = (there);
+      lists = there;
       waiting = (waiting-together _ c.set_reserved.new.self t.waiting.items t.draining ∙ sym (waiting-seen _ t.current t.waiting.items t.draining c.args.self.now c.self.view_is));
       owed = (ap (λ (h : g.row.E-Key.Denot → ℕ). owed_of (together (λ e. h (g.E.Keyed.key_of e)) d t.waiting.items t.draining)) same ∙ owed-kept (λ e. hk (g.E.Keyed.key_of e)) t.current d t.waiting.items t.draining e.lists skips ∙ ap owed_of c.self.view_is);
     }

@@ -1,4 +1,4 @@
-use Rattle.std.proofs.Common.{◌≡◌, ℕ, ◌<◌, Some, map, sym, ap, ◌∙◌, subst, arith}
+use Rattle.std.proofs.Common.{◌≡◌, ℕ, ◌<◌, Some, map, sym, ap, ◌∙◌, subst, arith, rules}
 use Rattle.std.specs.List.{slice_get, IsDistinct}
 use Rattle.scc_contents.specs.Contents.{Contents, bucket_count, entries, key_hash, waiting_of, owed_of}
 use Rattle.scc_contents.specs.Hashing.{hash_of}
@@ -57,8 +57,8 @@ invariant_of-self g c =
     let same = ap (λ s. let h : g.row.E-Key.Denot → ℕ = λ k. hash_of g.H.BuildHasher g.H.Hasher.Hasher s.hasher (g.E.Key.Hash.hash_input k) in h) c.swap_take_at.ensures.exact.settings in
     subst (λ (h : g.row.E-Key.Denot → ℕ). IsTable g.E.Key.PartialEq.eq key h d ws olds t.skipped t.pending t.next t.left t.left_overflow) (sym same) (own-less_swapped laws key hk cur ws olds t.skipped t.pending t.next t.left t.left_overflow inv p within near d c.swap_take_at.result c.swap_take_at.ensures.entry c.swap_take_at.ensures.exact)
 
-pub returns-then-self-eq0-clause-entry : goal.returns-then-self-eq0-clause-entry
-returns-then-self-eq0-clause-entry g c =
+pub returns-then-self-eq0 : goal.returns-then-self-eq0
+returns-then-self-eq0 g c =
     let t = c.self.inside in
     let cur = t.current in
     let ws = t.waiting.items in
@@ -76,245 +76,43 @@ returns-then-self-eq0-clause-entry g c =
       | then-self-eq0-via-else-self-eq0+then-place-bucket_count w ↦ omega (arith, count, w.bucket_count.ensures.count, w.if-place-bucket_count.true)
     ] in
     let there = subst (λ (z : Contents g.row.E.Denot g.row.H.Denot). slice_get (entries z) (index_of z p) ≡ Some c.swap_take_at.result) view (own-got laws key hk cur ws olds t.skipped t.pending t.next t.left t.left_overflow inv p within near c.swap_take_at.result c.swap_take_at.ensures.entry) in
-    there
-
-pub returns-then-self-eq0-clause-owed : goal.returns-then-self-eq0-clause-owed
-returns-then-self-eq0-clause-owed g c =
-    let t = c.self.inside in
-    let cur = t.current in
-    let ws = t.waiting.items in
-    let olds = t.draining in
-    let inv = c.self.invariant in
-    let hk = key_hash g.H.BuildHasher g.H.Hasher.Hasher g.E.Key.Hash.hash_input cur in
-    let key = g.E.Keyed.key_of in
-    let laws = g.met.E.Key.Eq.laws in
-    let p = c.args.place in
-    let view = c.self.view_is in
-    let within = subst (λ z. IsPlace z p) (sym view) c.requires in
-    let count = count-seen (λ e. hk (key e)) cur ws olds c.args.self.now view inv.arrays.flags in
-    let near : p.bucket < bucket_count cur = elim c.then-self-eq0.branch [
-      | then-self-eq0-via-then-self-eq0 w ↦ near-settled (λ e. hk (key e)) cur olds ws (inv.none w.if-self-eq0.true) p within
-      | then-self-eq0-via-else-self-eq0+then-place-bucket_count w ↦ omega (arith, count, w.bucket_count.ensures.count, w.if-place-bucket_count.true)
-    ] in
     let d = c.swap_take_at.new.self in
     let same = ap (λ s. let h : g.row.E-Key.Denot → ℕ = λ k. hash_of g.H.BuildHasher g.H.Hasher.Hasher s.hasher (g.E.Key.Hash.hash_input k) in h) c.swap_take_at.ensures.exact.settings in
-    ap (λ (h : g.row.E-Key.Denot → ℕ). owed_of (together (λ e. h (key e)) d ws olds)) same ∙ own-owed_kept laws key hk cur ws olds t.skipped t.pending t.next t.left t.left_overflow inv p within near d c.swap_take_at.ensures.exact.left c.swap_take_at.ensures.exact.lists c.swap_take_at.ensures.exact.settings ∙ ap (λ (z : Contents g.row.E.Denot g.row.H.Denot). owed_taken (bucket_count z) (owed_of z) p) view
-
-pub returns-then-self-eq0-clause-others : goal.returns-then-self-eq0-clause-others
-returns-then-self-eq0-clause-others g c =
-    let t = c.self.inside in
-    let cur = t.current in
-    let ws = t.waiting.items in
-    let olds = t.draining in
-    let inv = c.self.invariant in
-    let hk = key_hash g.H.BuildHasher g.H.Hasher.Hasher g.E.Key.Hash.hash_input cur in
-    let key = g.E.Keyed.key_of in
-    let laws = g.met.E.Key.Eq.laws in
-    let p = c.args.place in
-    let view = c.self.view_is in
-    let within = subst (λ z. IsPlace z p) (sym view) c.requires in
-    let count = count-seen (λ e. hk (key e)) cur ws olds c.args.self.now view inv.arrays.flags in
-    let near : p.bucket < bucket_count cur = elim c.then-self-eq0.branch [
-      | then-self-eq0-via-then-self-eq0 w ↦ near-settled (λ e. hk (key e)) cur olds ws (inv.none w.if-self-eq0.true) p within
-      | then-self-eq0-via-else-self-eq0+then-place-bucket_count w ↦ omega (arith, count, w.bucket_count.ensures.count, w.if-place-bucket_count.true)
-    ] in
     let now = c.args.self.now in
     let q = spot_of now p in
-    let d = c.swap_take_at.new.self in
-    let same = ap (λ s. let h : g.row.E-Key.Denot → ℕ = λ k. hash_of g.H.BuildHasher g.H.Hasher.Hasher s.hasher (g.E.Key.Hash.hash_input k) in h) c.swap_take_at.ensures.exact.settings in
     let after = together (λ e. key_hash g.H.BuildHasher g.H.Hasher.Hasher g.E.Key.Hash.hash_input d (key e)) d ws olds in
     let first = subst (λ (h : g.row.E-Key.Denot → ℕ). IsSwappedOutOf (together (λ e. hk (key e)) cur ws olds) (spot_of (together (λ e. hk (key e)) cur ws olds) p) (together (λ e. h (key e)) d ws olds)) (sym same) (own-swapped laws key hk cur ws olds t.skipped t.pending t.next t.left t.left_overflow inv p within near d c.swap_take_at.ensures.exact) in
     let taken = subst (λ (z : Contents g.row.E.Denot g.row.H.Denot). IsSwappedOutOf z (spot_of z p) after) view first in
-    swapped-moved now after q c.requires taken
+    record {
+      entry = there;
+      others = (swapped-moved now after q c.requires taken);
+      buckets = (swapped-count now after q c.requires taken);
+      noted = taken.refused;
+      settings = taken.settings;
+      waiting = (
+          let old_waiting = ap waiting_of (sym view) ∙ waiting-together (λ e. hk (key e)) cur ws olds in
+          waiting-together (λ e. key_hash g.H.BuildHasher g.H.Hasher.Hasher g.E.Key.Hash.hash_input d (key e)) d ws olds ∙ sym old_waiting);
+      owed = (ap (λ (h : g.row.E-Key.Denot → ℕ). owed_of (together (λ e. h (key e)) d ws olds)) same ∙ own-owed_kept laws key hk cur ws olds t.skipped t.pending t.next t.left t.left_overflow inv p within near d c.swap_take_at.ensures.exact.left c.swap_take_at.ensures.exact.lists c.swap_take_at.ensures.exact.settings ∙ ap (λ (z : Contents g.row.E.Denot g.row.H.Denot). owed_taken (bucket_count z) (owed_of z) p) view);
+      exact = taken;
+      unique = (
+          let unique = subst (λ (z : Contents g.row.E.Denot g.row.H.Denot). IsDistinct g.E.Key.PartialEq.eq (map key (entries z))) view inv.unique in
+          swapped-unique now after q c.requires taken laws key c.swap_take_at.result there unique);
+    }
 
-pub returns-then-self-eq0-clause-buckets : goal.returns-then-self-eq0-clause-buckets
-returns-then-self-eq0-clause-buckets g c =
-    let t = c.self.inside in
-    let cur = t.current in
-    let ws = t.waiting.items in
-    let olds = t.draining in
-    let inv = c.self.invariant in
-    let hk = key_hash g.H.BuildHasher g.H.Hasher.Hasher g.E.Key.Hash.hash_input cur in
-    let key = g.E.Keyed.key_of in
-    let laws = g.met.E.Key.Eq.laws in
-    let p = c.args.place in
-    let view = c.self.view_is in
-    let within = subst (λ z. IsPlace z p) (sym view) c.requires in
-    let count = count-seen (λ e. hk (key e)) cur ws olds c.args.self.now view inv.arrays.flags in
-    let near : p.bucket < bucket_count cur = elim c.then-self-eq0.branch [
-      | then-self-eq0-via-then-self-eq0 w ↦ near-settled (λ e. hk (key e)) cur olds ws (inv.none w.if-self-eq0.true) p within
-      | then-self-eq0-via-else-self-eq0+then-place-bucket_count w ↦ omega (arith, count, w.bucket_count.ensures.count, w.if-place-bucket_count.true)
-    ] in
-    let now = c.args.self.now in
-    let q = spot_of now p in
-    let d = c.swap_take_at.new.self in
-    let same = ap (λ s. let h : g.row.E-Key.Denot → ℕ = λ k. hash_of g.H.BuildHasher g.H.Hasher.Hasher s.hasher (g.E.Key.Hash.hash_input k) in h) c.swap_take_at.ensures.exact.settings in
-    let after = together (λ e. key_hash g.H.BuildHasher g.H.Hasher.Hasher g.E.Key.Hash.hash_input d (key e)) d ws olds in
-    let first = subst (λ (h : g.row.E-Key.Denot → ℕ). IsSwappedOutOf (together (λ e. hk (key e)) cur ws olds) (spot_of (together (λ e. hk (key e)) cur ws olds) p) (together (λ e. h (key e)) d ws olds)) (sym same) (own-swapped laws key hk cur ws olds t.skipped t.pending t.next t.left t.left_overflow inv p within near d c.swap_take_at.ensures.exact) in
-    let taken = subst (λ (z : Contents g.row.E.Denot g.row.H.Denot). IsSwappedOutOf z (spot_of z p) after) view first in
-    swapped-count now after q c.requires taken
-
-pub returns-then-self-eq0-clause-noted : goal.returns-then-self-eq0-clause-noted
-returns-then-self-eq0-clause-noted g c =
-    let t = c.self.inside in
-    let cur = t.current in
-    let ws = t.waiting.items in
-    let olds = t.draining in
-    let inv = c.self.invariant in
-    let hk = key_hash g.H.BuildHasher g.H.Hasher.Hasher g.E.Key.Hash.hash_input cur in
-    let key = g.E.Keyed.key_of in
-    let laws = g.met.E.Key.Eq.laws in
-    let p = c.args.place in
-    let view = c.self.view_is in
-    let within = subst (λ z. IsPlace z p) (sym view) c.requires in
-    let count = count-seen (λ e. hk (key e)) cur ws olds c.args.self.now view inv.arrays.flags in
-    let near : p.bucket < bucket_count cur = elim c.then-self-eq0.branch [
-      | then-self-eq0-via-then-self-eq0 w ↦ near-settled (λ e. hk (key e)) cur olds ws (inv.none w.if-self-eq0.true) p within
-      | then-self-eq0-via-else-self-eq0+then-place-bucket_count w ↦ omega (arith, count, w.bucket_count.ensures.count, w.if-place-bucket_count.true)
-    ] in
-    let d = c.swap_take_at.new.self in
-    let same = ap (λ s. let h : g.row.E-Key.Denot → ℕ = λ k. hash_of g.H.BuildHasher g.H.Hasher.Hasher s.hasher (g.E.Key.Hash.hash_input k) in h) c.swap_take_at.ensures.exact.settings in
-    let after = together (λ e. key_hash g.H.BuildHasher g.H.Hasher.Hasher g.E.Key.Hash.hash_input d (key e)) d ws olds in
-    let first = subst (λ (h : g.row.E-Key.Denot → ℕ). IsSwappedOutOf (together (λ e. hk (key e)) cur ws olds) (spot_of (together (λ e. hk (key e)) cur ws olds) p) (together (λ e. h (key e)) d ws olds)) (sym same) (own-swapped laws key hk cur ws olds t.skipped t.pending t.next t.left t.left_overflow inv p within near d c.swap_take_at.ensures.exact) in
-    let taken = subst (λ (z : Contents g.row.E.Denot g.row.H.Denot). IsSwappedOutOf z (spot_of z p) after) view first in
-    taken.refused
-
-pub returns-then-self-eq0-clause-settings : goal.returns-then-self-eq0-clause-settings
-returns-then-self-eq0-clause-settings g c =
-    let t = c.self.inside in
-    let cur = t.current in
-    let ws = t.waiting.items in
-    let olds = t.draining in
-    let inv = c.self.invariant in
-    let hk = key_hash g.H.BuildHasher g.H.Hasher.Hasher g.E.Key.Hash.hash_input cur in
-    let key = g.E.Keyed.key_of in
-    let laws = g.met.E.Key.Eq.laws in
-    let p = c.args.place in
-    let view = c.self.view_is in
-    let within = subst (λ z. IsPlace z p) (sym view) c.requires in
-    let count = count-seen (λ e. hk (key e)) cur ws olds c.args.self.now view inv.arrays.flags in
-    let near : p.bucket < bucket_count cur = elim c.then-self-eq0.branch [
-      | then-self-eq0-via-then-self-eq0 w ↦ near-settled (λ e. hk (key e)) cur olds ws (inv.none w.if-self-eq0.true) p within
-      | then-self-eq0-via-else-self-eq0+then-place-bucket_count w ↦ omega (arith, count, w.bucket_count.ensures.count, w.if-place-bucket_count.true)
-    ] in
-    let d = c.swap_take_at.new.self in
-    let same = ap (λ s. let h : g.row.E-Key.Denot → ℕ = λ k. hash_of g.H.BuildHasher g.H.Hasher.Hasher s.hasher (g.E.Key.Hash.hash_input k) in h) c.swap_take_at.ensures.exact.settings in
-    let after = together (λ e. key_hash g.H.BuildHasher g.H.Hasher.Hasher g.E.Key.Hash.hash_input d (key e)) d ws olds in
-    let first = subst (λ (h : g.row.E-Key.Denot → ℕ). IsSwappedOutOf (together (λ e. hk (key e)) cur ws olds) (spot_of (together (λ e. hk (key e)) cur ws olds) p) (together (λ e. h (key e)) d ws olds)) (sym same) (own-swapped laws key hk cur ws olds t.skipped t.pending t.next t.left t.left_overflow inv p within near d c.swap_take_at.ensures.exact) in
-    let taken = subst (λ (z : Contents g.row.E.Denot g.row.H.Denot). IsSwappedOutOf z (spot_of z p) after) view first in
-    taken.settings
-
-pub returns-then-self-eq0-clause-waiting : goal.returns-then-self-eq0-clause-waiting
-returns-then-self-eq0-clause-waiting g c =
-    let t = c.self.inside in
-    let cur = t.current in
-    let ws = t.waiting.items in
-    let olds = t.draining in
-    let hk = key_hash g.H.BuildHasher g.H.Hasher.Hasher g.E.Key.Hash.hash_input cur in
-    let key = g.E.Keyed.key_of in
-    let view = c.self.view_is in
-    let old_waiting = ap waiting_of (sym view) ∙ waiting-together (λ e. hk (key e)) cur ws olds in
-    let d = c.swap_take_at.new.self in
-    waiting-together (λ e. key_hash g.H.BuildHasher g.H.Hasher.Hasher g.E.Key.Hash.hash_input d (key e)) d ws olds ∙ sym old_waiting
-
-pub returns-then-self-eq0-clause-exact : goal.returns-then-self-eq0-clause-exact
-returns-then-self-eq0-clause-exact g c =
-    let t = c.self.inside in
-    let cur = t.current in
-    let ws = t.waiting.items in
-    let olds = t.draining in
-    let inv = c.self.invariant in
-    let hk = key_hash g.H.BuildHasher g.H.Hasher.Hasher g.E.Key.Hash.hash_input cur in
-    let key = g.E.Keyed.key_of in
-    let laws = g.met.E.Key.Eq.laws in
-    let p = c.args.place in
-    let view = c.self.view_is in
-    let within = subst (λ z. IsPlace z p) (sym view) c.requires in
-    let count = count-seen (λ e. hk (key e)) cur ws olds c.args.self.now view inv.arrays.flags in
-    let near : p.bucket < bucket_count cur = elim c.then-self-eq0.branch [
-      | then-self-eq0-via-then-self-eq0 w ↦ near-settled (λ e. hk (key e)) cur olds ws (inv.none w.if-self-eq0.true) p within
-      | then-self-eq0-via-else-self-eq0+then-place-bucket_count w ↦ omega (arith, count, w.bucket_count.ensures.count, w.if-place-bucket_count.true)
-    ] in
-    let d = c.swap_take_at.new.self in
-    let same = ap (λ s. let h : g.row.E-Key.Denot → ℕ = λ k. hash_of g.H.BuildHasher g.H.Hasher.Hasher s.hasher (g.E.Key.Hash.hash_input k) in h) c.swap_take_at.ensures.exact.settings in
-    let after = together (λ e. key_hash g.H.BuildHasher g.H.Hasher.Hasher g.E.Key.Hash.hash_input d (key e)) d ws olds in
-    let first = subst (λ (h : g.row.E-Key.Denot → ℕ). IsSwappedOutOf (together (λ e. hk (key e)) cur ws olds) (spot_of (together (λ e. hk (key e)) cur ws olds) p) (together (λ e. h (key e)) d ws olds)) (sym same) (own-swapped laws key hk cur ws olds t.skipped t.pending t.next t.left t.left_overflow inv p within near d c.swap_take_at.ensures.exact) in
-    let taken = subst (λ (z : Contents g.row.E.Denot g.row.H.Denot). IsSwappedOutOf z (spot_of z p) after) view first in
-    taken
-
-pub returns-then-self-eq0-clause-unique : goal.returns-then-self-eq0-clause-unique
-returns-then-self-eq0-clause-unique g c =
-    let t = c.self.inside in
-    let cur = t.current in
-    let ws = t.waiting.items in
-    let olds = t.draining in
-    let inv = c.self.invariant in
-    let hk = key_hash g.H.BuildHasher g.H.Hasher.Hasher g.E.Key.Hash.hash_input cur in
-    let key = g.E.Keyed.key_of in
-    let laws = g.met.E.Key.Eq.laws in
-    let p = c.args.place in
-    let view = c.self.view_is in
-    let within = subst (λ z. IsPlace z p) (sym view) c.requires in
-    let count = count-seen (λ e. hk (key e)) cur ws olds c.args.self.now view inv.arrays.flags in
-    let near : p.bucket < bucket_count cur = elim c.then-self-eq0.branch [
-      | then-self-eq0-via-then-self-eq0 w ↦ near-settled (λ e. hk (key e)) cur olds ws (inv.none w.if-self-eq0.true) p within
-      | then-self-eq0-via-else-self-eq0+then-place-bucket_count w ↦ omega (arith, count, w.bucket_count.ensures.count, w.if-place-bucket_count.true)
-    ] in
-    let now = c.args.self.now in
-    let q = spot_of now p in
-    let unique = subst (λ (z : Contents g.row.E.Denot g.row.H.Denot). IsDistinct g.E.Key.PartialEq.eq (map key (entries z))) view inv.unique in
-    let d = c.swap_take_at.new.self in
-    let there = subst (λ (z : Contents g.row.E.Denot g.row.H.Denot). slice_get (entries z) (index_of z p) ≡ Some c.swap_take_at.result) view (own-got laws key hk cur ws olds t.skipped t.pending t.next t.left t.left_overflow inv p within near c.swap_take_at.result c.swap_take_at.ensures.entry) in
-    let same = ap (λ s. let h : g.row.E-Key.Denot → ℕ = λ k. hash_of g.H.BuildHasher g.H.Hasher.Hasher s.hasher (g.E.Key.Hash.hash_input k) in h) c.swap_take_at.ensures.exact.settings in
-    let after = together (λ e. key_hash g.H.BuildHasher g.H.Hasher.Hasher g.E.Key.Hash.hash_input d (key e)) d ws olds in
-    let first = subst (λ (h : g.row.E-Key.Denot → ℕ). IsSwappedOutOf (together (λ e. hk (key e)) cur ws olds) (spot_of (together (λ e. hk (key e)) cur ws olds) p) (together (λ e. h (key e)) d ws olds)) (sym same) (own-swapped laws key hk cur ws olds t.skipped t.pending t.next t.left t.left_overflow inv p within near d c.swap_take_at.ensures.exact) in
-    let taken = subst (λ (z : Contents g.row.E.Denot g.row.H.Denot). IsSwappedOutOf z (spot_of z p) after) view first in
-    swapped-unique now after q c.requires taken laws key c.swap_take_at.result there unique
-
-pub returns-clause-others : goal.returns-clause-others
-returns-clause-others g c =
+pub returns : goal.returns
+returns g c =
     let now = c.args.self.now in
     let after = c.take_old.new.self in
     let q = spot_of now c.args.place in
     let taken = taken-swapped now after q c.requires c.take_old.ensures.exact in
-    swapped-moved now after q c.requires taken
-
-pub returns-clause-buckets : goal.returns-clause-buckets
-returns-clause-buckets g c =
-    let now = c.args.self.now in
-    let after = c.take_old.new.self in
-    let q = spot_of now c.args.place in
-    let taken = taken-swapped now after q c.requires c.take_old.ensures.exact in
-    swapped-count now after q c.requires taken
-
-pub returns-clause-noted : goal.returns-clause-noted
-returns-clause-noted g c =
-    let now = c.args.self.now in
-    let after = c.take_old.new.self in
-    let q = spot_of now c.args.place in
-    let taken = taken-swapped now after q c.requires c.take_old.ensures.exact in
-    taken.refused
-
-pub returns-clause-settings : goal.returns-clause-settings
-returns-clause-settings g c =
-    let now = c.args.self.now in
-    let after = c.take_old.new.self in
-    let q = spot_of now c.args.place in
-    let taken = taken-swapped now after q c.requires c.take_old.ensures.exact in
-    taken.settings
-
-pub returns-clause-exact : goal.returns-clause-exact
-returns-clause-exact g c =
-    let now = c.args.self.now in
-    let after = c.take_old.new.self in
-    let q = spot_of now c.args.place in
-    let taken = taken-swapped now after q c.requires c.take_old.ensures.exact in
-    taken
-
-pub returns-clause-unique : goal.returns-clause-unique
-returns-clause-unique g c =
-    let now = c.args.self.now in
-    let after = c.take_old.new.self in
-    let q = spot_of now c.args.place in
-    let taken = taken-swapped now after q c.requires c.take_old.ensures.exact in
-    swapped-unique now after q c.requires taken g.met.E.Key.Eq.laws g.E.Keyed.key_of c.take_old.result c.take_old.ensures.entry c.take_old.ensures.unique
+    record {
+      entry = (search rules);
+      others = (swapped-moved now after q c.requires taken);
+      buckets = (swapped-count now after q c.requires taken);
+      noted = taken.refused;
+      settings = taken.settings;
+      waiting = (search rules);
+      owed = (search rules);
+      exact = taken;
+      unique = (swapped-unique now after q c.requires taken g.met.E.Key.Eq.laws g.E.Keyed.key_of c.take_old.result c.take_old.ensures.entry c.take_old.ensures.unique);
+    }
