@@ -11,6 +11,7 @@ pub mod Joined
 pub mod ListPushing
 pub mod ListsLemmas
 pub mod Parting
+pub mod Picking
 pub mod Pushing
 pub mod Reserving
 pub mod Search

@@ -6,7 +6,7 @@ use native.Mathlib.Decide.{dec_lt}
 use Rattle.scc_array.proofs.Counting.{tag-some, some-positive}
 use Rattle.scc_array.proofs.Gets.{get-past, get-some, get-end, get-before_end}
 use Rattle.scc_array.proofs.Windows.{same_or_not, windows-changed, columns-changed}
-use Rattle.scc_array.specs.Sifts.{picked, kept, picked_of, kept_of, window_with, AreAt, Moves}
+use Rattle.scc_array.specs.Sifts.{picked, kept, picked_of, kept_of, window_with, AreAt}
 use Rattle.scc_array.specs.Windows.{Window, empty_window, window_of, windows, pushed, tag_there, IsPackedWindow, IsColumns}
 
 module _ {X : Type 0} where
@@ -176,32 +176,6 @@ module _ {E : Type 0} (fs : List Bool) (base target first : ℕ) (w : Window E) 
           stayed = s.stayed ∙ ap length (sym (k1 E w.slots));
           moved = put ∙ ap (λ z. set into target (pushed z e (get_or row p 0))) there ∙ ap (λ z. set z target (pushed v1 e (get_or row p 0))) s.moved ∙ set-set ws target v1 (pushed v1 e (get_or row p 0)) ∙ ap (set ws target) pushed_is;
           filled = let n = ap length q1 ∙ length-append (picked (take p fs) w.slots) (e ∷ []) in let f = s.filled in omega arith;
-          all = let a = s.all in omega arith;
-        }
-
-    -- its flag is down
-    pub sifts-stay : slice_get fs p ≡ Some false → (places_left : List (Option E)) (row_left : List ℕ) → Moves None places (base + p) (base + stays) places_left → Moves 0 row p stays row_left
-        → Sifts fs base target first w ws places0 places_left row0 row_left into (p + 1) (stays + 1) next
-    sifts-stay down places_left row_left mp mr =
-        let m = at.most in
-        let x = sifted-entry.0 in
-        let t = sifted-tag.0 in
-        let k1 : kept (take (p + 1) fs) w.slots ≡ kept (take p fs) w.slots ++ x ∷ [] = ap (λ f. kept f w.slots) one_more ∙ kept-down fs w.slots p x down sifted-entry.2 in
-        let k2 : kept (take (p + 1) fs) w.tags ≡ kept (take p fs) w.tags ++ t ∷ [] = ap (λ f. kept f w.tags) one_more ∙ kept-down fs w.tags p t down sifted-tag.2 in
-        let q1 : (X : Type 0) (xs : List X) → picked (take (p + 1) fs) xs ≡ picked (take p fs) xs = λ X xs. ap (λ f. picked f xs) one_more ∙ picked-down fs xs p down in
-        let n1 : length (kept (take p fs) w.slots) ≡ stays = sym s.stayed in
-        let n2 = tags-as_many in
-        record {
-          places_are = subst (λ ks. Middle (place_view places0 base) (place_view places_left base) ks (p + 1)) (sym k1)
-              (middle-stay _ _ _ p s.places_are (place_view places_left base) x (omega arith) (at.places_are p (omega arith) ∙ sifted-entry.2)
-              (ap (λ n. get_or places_left (base + n) None) n1 ∙ mp.there) (λ h. mp.gone (λ z. h (omega arith))) (λ j a b. mp.others (base + j) (λ z. a (omega arith)) (λ z. b (omega arith))));
-          tags_are = subst (λ ks. Middle (tag_view row0) (tag_view row_left) ks (p + 1)) (sym k2)
-              (middle-stay _ _ _ p s.tags_are (tag_view row_left) t (omega arith) (at.tags_are p (omega arith) ∙ sifted-tag.2)
-              (ap (λ n. tag_view row_left n) n2 ∙ ap tag_there mr.there) (λ h. ap tag_there (mr.gone (λ z. h (omega arith)))) (λ j a b. ap tag_there (mr.others j a (λ z. b (omega arith)))));
-          stayed = let n = ap length k1 ∙ length-append (kept (take p fs) w.slots) (x ∷ []) in let f = s.stayed in omega arith;
-          moved = s.moved ∙ ap (λ (z : List E). set ws target (let r : Window E = record { slots = (window_of ws target).slots ++ z; tags = (window_of ws target).tags ++ picked (take p fs) w.tags } in r)) (sym (q1 E w.slots))
-              ∙ ap (λ (z : List ℕ). set ws target (let r : Window E = record { slots = (window_of ws target).slots ++ picked (take (p + 1) fs) w.slots; tags = (window_of ws target).tags ++ z } in r)) (sym (q1 ℕ w.tags));
-          filled = s.filled ∙ ap (λ z. first + length z) (sym (q1 E w.slots));
           all = let a = s.all in omega arith;
         }
 

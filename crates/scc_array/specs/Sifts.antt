@@ -1,5 +1,6 @@
 -- A bucket whose entries are parted by flags, one a place.
-use Rattle.std.specs.Prelude.{◌≡◌, ◌≢◌, ℕ, ◌+◌, ◌<◌, ◌≤◌, List, [], ◌∷◌, ◌++◌, length, cond, slice_get, slice_index_or, Bool, true, Option, None, replicate}
+use Rattle.std.specs.Prelude.{◌≡◌, ◌≢◌, ℕ, ◌==◌, ◌+◌, ◌<◌, ◌≤◌, List, [], ◌∷◌, ◌++◌, length, map, cond, slice_get, slice_index_or, Bool, true, false, Option, None, replicate}
+use Rattle.std.specs.Int.{bit_at}
 use Rattle.scc_array.specs.Windows.{Window, tag_there}
 use Rattle.scc_array.specs.Shelf.{Shelf}
 
@@ -14,6 +15,10 @@ abbrev pub kept : {X : Type 0} → List Bool → List X → List X
 kept [] xs = []
 kept (f ∷ fs) [] = []
 kept (f ∷ fs) (x ∷ xs) = cond f (kept fs xs) (x ∷ kept fs xs)
+
+-- the flags of which 1 says that they are up
+abbrev pub ups : List ℕ → List Bool
+ups fs = map (λ x. x == 1) fs
 
 -- a flag that is up for each of 32 places
 abbrev pub all_up : List Bool
@@ -46,6 +51,24 @@ module _ {E : Type 0} where
     pub tags_are : (j : ℕ) → j < 32 → tag_there (slice_index_or row j 0) ≡ slice_get w.tags j
     pub most : length w.slots ≤ 32
     pub same : length w.tags ≡ length w.slots
+
+-- what stands at place j of a row once those whose flag is up are out
+abbrev pub left_at : {X : Type 0} → List Bool → List X → ℕ → Option X
+left_at fs xs j = cond (slice_index_or fs j false) None (slice_get xs j)
+
+module _ {E : Type 0} where
+  -- the 32 places from `base` on hold the entries of w whose flag is down, where they stood, and the row their tags
+  pub record AreLeft (places : List (Option E)) (row : List ℕ) (base : ℕ) (fs : List Bool) (w : Window E) : Type 0 where
+    pub flags : length fs ≡ 32
+    pub places_are : (j : ℕ) → j < 32 → slice_index_or places (base + j) None ≡ left_at fs w.slots j
+    pub tags_are : (j : ℕ) → j < 32 → tag_there (slice_index_or row j 0) ≡ left_at fs w.tags j
+    pub most : length w.slots ≤ 32
+    pub same : length w.tags ≡ length w.slots
+
+  -- a bit is set for each entry of w whose flag is down, and no other
+  pub record AreKept (fs : List Bool) (w : Window E) (bits : ℕ) : Type 0 where
+    pub all : (j : ℕ) → j < length w.slots → slice_index_or fs j false ≡ false → bit_at bits j ≡ 1
+    pub only : (j : ℕ) → bit_at bits j ≡ 1 → (j < length w.slots) × (slice_index_or fs j false ≡ false)
 
 -- what stood at `from` stands at `to`; where they differ, d stands at `from`; the others are as they were
 pub record Moves {X : Type 0} (d : X) (xs : List X) (from to : ℕ) (ys : List X) : Type 0 where

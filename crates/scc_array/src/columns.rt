@@ -4,7 +4,7 @@ ghost use Rattle.std.specs.Prelude.{◌≡◌, ◌^◌, ◌≤◌, ◌<◌, ◌+
 ghost use Rattle.std.specs.Borrow.{sem};
 ghost use Rattle.std.specs.Int.{bit_at};
 ghost use Rattle.std.specs.List.{position};
-ghost use Rattle.scc_array.specs.Sifts.{all_up, kept_of, picked_of, window_with};
+ghost use Rattle.scc_array.specs.Sifts.{all_up, kept_of, picked_of, ups, window_with};
 ghost use Rattle.scc_array.specs.Windows.{empty_window, window_of, pushed, popped_over, shifted_out, IsColumns, IsTagged};
 ghost use Rattle.scc_slots.specs.Places.{IsDrained};
 
@@ -146,30 +146,21 @@ impl<E> Columns<E> {
         self.slots.put(32 * bucket + place, entry);
     }
 
-    /// Moves the entries whose flag is up to the end of a bucket of other columns, in order. The others stay in their
+    /// Moves the entries whose flag is 1 to the end of a bucket of other columns, in order. The others stay in their
     /// order.
     #[inline(always)]
-    pub fn split(&mut self, bucket: usize, flags: &[bool; 32], into: &mut Columns<E>, target: usize)
+    pub fn split(&mut self, bucket: usize, flags: &[u8; 32], into: &mut Columns<E>, target: usize)
         requires bucket { bucket < length self.old }
         requires target { target < length into.old }
         requires room { length (window_of into.old target).slots + length (window_of self.old bucket).slots ≤ 32 }
-        ensures stays { self.new ≡ slice_set self.old bucket (kept_of flags.now (window_of self.old bucket)) }
+        ensures stays { self.new ≡ slice_set self.old bucket (kept_of (ups flags.now) (window_of self.old bucket)) }
         ensures moved { into.new ≡ slice_set into.old target
-            (window_with (window_of into.old target) (picked_of flags.now (window_of self.old bucket))) }
+            (window_with (window_of into.old target) (picked_of (ups flags.now) (window_of self.old bucket))) }
     {
-        let held = self.count(bucket);
         let first = into.count(target);
+        let row = &mut self.tags[bucket];
         let base = 32 * bucket;
-        sift(
-            &mut self.slots,
-            &mut self.tags[bucket],
-            base,
-            held,
-            flags,
-            into,
-            target,
-            first,
-        );
+        sift(&mut self.slots, row, base, flags, into, target, first);
     }
 
     /// Moves all entries of a bucket to the end of a bucket of other columns, in order.

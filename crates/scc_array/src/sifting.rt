@@ -1,10 +1,11 @@
 //! The entries of a bucket are parted: some go to other columns, and the others close their ranks.
-ghost use Rattle.std.specs.Prelude.{◌≡◌, ◌<◌, ◌≤◌, ◌+◌, ◌⊎◌, ◌^◌, ℕ, length, slice_index_or, slice_set, None};
-ghost use Rattle.scc_array.specs.Sifts.{all_up, kept_of, picked_of, window_with, AreAt, Moves};
+ghost use Rattle.std.specs.Prelude.{◌≡◌, ◌<◌, ◌≤◌, ◌+◌, ◌⊎◌, ◌^◌, ℕ, Bool, List, length, slice_index_or, slice_set, None};
+ghost use Rattle.scc_array.specs.Sifts.{all_up, kept_of, picked_of, window_with, AreAt, AreKept, AreLeft, Moves, ups};
 ghost use Rattle.scc_array.specs.Windows.{Window, window_of};
 ghost use Rattle.scc_slots.specs.Places.{IsFilled};
 
 use crate::columns::Columns;
+use crate::tags::{lowest_bit, tag_mask, without_lowest_bit};
 use scc_slots::Slots;
 
 /// Moves an entry and its tag to an earlier place, which is free, or leaves it where it is. The places of the row begin
@@ -29,49 +30,98 @@ fn keep_at<E>(slots: &mut Slots<E>, row: &mut [u8; 32], base: usize, from: usize
     row[from] = 0;
 }
 
-/// Moves the entries of a row whose flag is up to the end of a bucket of the columns, where `first` stand, and the
-/// others to the row's first places, both in order. The places of the row begin at `base`, and so many are in use. Each
-/// entry is looked at once.
+/// Moves the entries of a row whose flag is 1 to the end of a bucket of the columns, where `first` stand, in order.
+/// Their places are free then. The places of the row begin at `base`.
 #[inline(always)]
-pub(crate) fn sift<E>(
+fn pick<E>(
     slots: &mut Slots<E>,
     row: &mut [u8; 32],
     base: usize,
-    held: usize,
-    flags: &[bool; 32],
+    flags: &[u8; 32],
     into: &mut Columns<E>,
     target: usize,
     first: usize,
 )
     requires target { target < length into.old }
     requires first { first ≡ length (window_of into.old target).slots }
-    requires room { first + held ≤ 32 }
     requires small { base + 32 < 2 ^ 64 }
     requires within { base + 32 ≤ length slots.old }
-    requires held { (w : Window E) × AreAt slots.old row.old base w × (held ≡ length w.slots) }
-    ensures stays { (w : Window E) → AreAt slots.old row.old base w → held ≡ length w.slots
-        → AreAt slots.new row.new base (kept_of flags.now w) }
-    ensures moved { (w : Window E) → AreAt slots.old row.old base w → held ≡ length w.slots
-        → into.new ≡ slice_set into.old target (window_with (window_of into.old target) (picked_of flags.now w)) }
+    requires held { (w : Window E) × AreAt slots.old row.old base w × (first + length w.slots ≤ 32) }
+    ensures left { (w : Window E) → AreAt slots.old row.old base w → AreLeft slots.new row.new base (ups flags.now) w }
+    ensures moved { (w : Window E) → AreAt slots.old row.old base w
+        → into.new ≡ slice_set into.old target (window_with (window_of into.old target) (picked_of (ups flags.now) w)) }
     ensures count { length slots.new ≡ length slots.old }
     ensures wide { length row.new ≡ length row.old }
     ensures others { (q : ℕ) → (q < base) ⊎ (base + 32 ≤ q)
         → slice_index_or slots.new q None ≡ slice_index_or slots.old q None }
 {
-    let mut stays = 0;
+    let mut bits = !tag_mask(row, 0) & tag_mask(flags, 1);
     let mut next = first;
-    for p in 0..held {
-        if flags[p] {
-            let tag = row[p];
-            row[p] = 0;
-            let entry = slots.take(base + p);
-            into.push_at(target, next, entry, tag);
-            next += 1;
-        } else {
-            keep_at(slots, row, base, p, stays);
-            stays += 1;
-        }
+    'picked: while bits != 0 {
+        let p = lowest_bit(bits);
+        let tag = row[p];
+        row[p] = 0;
+        let entry = slots.take(base + p);
+        into.push_at(target, next, entry, tag);
+        next += 1;
+        bits = without_lowest_bit(bits);
     }
+}
+
+/// Moves the entries of a row with gaps to its first places, in order. `bits` has a bit for each of them. The places of
+/// the row begin at `base`.
+#[inline(always)]
+fn close_ranks<E>(slots: &mut Slots<E>, row: &mut [u8; 32], base: usize, bits: u32)
+    requires small { base + 32 < 2 ^ 64 }
+    requires within { base + 32 ≤ length slots.old }
+    requires held { (fs : List Bool) × (w : Window E) × AreLeft slots.old row.old base fs w × AreKept fs w bits }
+    ensures stays { (fs : List Bool) (w : Window E) → AreLeft slots.old row.old base fs w → AreKept fs w bits
+        → AreAt slots.new row.new base (kept_of fs w) }
+    ensures count { length slots.new ≡ length slots.old }
+    ensures wide { length row.new ≡ length row.old }
+    ensures others { (q : ℕ) → (q < base) ⊎ (base + 32 ≤ q)
+        → slice_index_or slots.new q None ≡ slice_index_or slots.old q None }
+{
+    let mut rest = bits;
+    let mut stays = 0;
+    'ranks: while rest != 0 {
+        let p = lowest_bit(rest);
+        keep_at(slots, row, base, p, stays);
+        stays += 1;
+        rest = without_lowest_bit(rest);
+    }
+}
+
+/// Moves the entries of a row whose flag is 1 to the end of a bucket of the columns, where `first` stand, and the
+/// others to the row's first places, both in order. The places of the row begin at `base`. Each entry is looked at
+/// once, and no flag is tested: the loops go by the bits of two masks.
+#[inline(always)]
+pub(crate) fn sift<E>(
+    slots: &mut Slots<E>,
+    row: &mut [u8; 32],
+    base: usize,
+    flags: &[u8; 32],
+    into: &mut Columns<E>,
+    target: usize,
+    first: usize,
+)
+    requires target { target < length into.old }
+    requires first { first ≡ length (window_of into.old target).slots }
+    requires small { base + 32 < 2 ^ 64 }
+    requires within { base + 32 ≤ length slots.old }
+    requires held { (w : Window E) × AreAt slots.old row.old base w × (first + length w.slots ≤ 32) }
+    ensures stays { (w : Window E) → AreAt slots.old row.old base w
+        → AreAt slots.new row.new base (kept_of (ups flags.now) w) }
+    ensures moved { (w : Window E) → AreAt slots.old row.old base w
+        → into.new ≡ slice_set into.old target (window_with (window_of into.old target) (picked_of (ups flags.now) w)) }
+    ensures count { length slots.new ≡ length slots.old }
+    ensures wide { length row.new ≡ length row.old }
+    ensures others { (q : ℕ) → (q < base) ⊎ (base + 32 ≤ q)
+        → slice_index_or slots.new q None ≡ slice_index_or slots.old q None }
+{
+    let rest = !tag_mask(row, 0) & !tag_mask(flags, 1);
+    pick(slots, row, base, flags, into, target, first);
+    close_ranks(slots, row, base, rest);
 }
 
 /// Moves all entries of a row to the end of a bucket of the columns, where `first` stand, in order. The places of the

@@ -3,6 +3,7 @@ ghost use Rattle.std.specs.Prelude.{◌≡◌, ◌==◌, ◌<◌, ◌≤◌, ◌
 ghost use Rattle.std.specs.List.{flat_map, IsDistinct};
 ghost use Rattle.scc_array.specs.Shelves.{shelf_of};
 ghost use Rattle.scc_array.specs.Shelf.{empty_shelf, shelf_entries};
+ghost use Rattle.scc_array.specs.Sifts.{ups};
 ghost use Rattle.scc_draining.specs.Moves.{AreJoined, AreMultiples, AreOwn, AreSiblings, Drains, IsWithinSources, Pulls, TakesOver};
 ghost use Rattle.scc_contents.specs.Contents.{bucket_count, key_hash, list_of, lists_of, settings_of, spilled_of};
 ghost use Rattle.scc_buckets.specs.Pour.{IsPacked, bound_for};
@@ -29,8 +30,8 @@ struct Relocation {
     skipped: u32,
 }
 
-/// Raises the flag of each place of an old bucket whose entry belongs to the target, and lowers that of each other
-/// entry. `table` has the hasher.
+/// Sets the flag of each place of an old bucket to 1 where its entry belongs to the target, and to 0 where it doesn't.
+/// `table` has the hasher.
 #[inline(always)]
 fn flags_of<E: Keyed, H: BuildHasher>(
     old: &Array<E>,
@@ -38,20 +39,20 @@ fn flags_of<E: Keyed, H: BuildHasher>(
     task: Relocation,
     table: &Buckets<E, H>,
     count: usize,
-    flags: &mut [bool; 32],
+    flags: &mut [u8; 32],
 )
 where
     E::Key: Eq + Hash,
     requires bits { task.skipped < 64 }
     requires source { source < length old.now }
-    ensures { (j : ℕ) (e : E) → slice_get (shelf_of old.now source).slots j ≡ Some e → slice_get flags.new j ≡ Some
+    ensures { (j : ℕ) (e : E) → slice_get (shelf_of old.now source).slots j ≡ Some e → slice_get (ups flags.new) j ≡ Some
         (bucket_number task.skipped count (key_hash H.BuildHasher H.Hasher.Hasher E.Key.hash_input table.now (E.key_of
         e)) == task.target) }
 {
     let slots = old.slot_count(source);
     for place in 0..slots {
         let hash = table.hash(old.entry_of(source, place, slots).key());
-        flags[place] = bucket_index(hash, task.skipped, count) == task.target;
+        flags[place] = (bucket_index(hash, task.skipped, count) == task.target) as u8;
     }
 }
 
@@ -138,7 +139,7 @@ where
             old.pour(source, into, task.target);
             return;
         }
-        let mut flags = [false; 32];
+        let mut flags = [0u8; 32];
         flags_of(old, source, task, table, count, &mut flags);
         old.split(source, &flags, into, task.target);
         return;

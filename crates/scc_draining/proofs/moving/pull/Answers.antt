@@ -3,7 +3,7 @@ use Rattle.std.specs.List.{slice_get}
 use Rattle.std.proofs.lemmas.List.{get_or-replicate}
 use Rattle.std.proofs.lemmas.Option.{slice_get-get_or}
 use Rattle.scc_array.proofs.Gets.{get-within}
-use Rattle.scc_array.specs.Sifts.{all_up}
+use Rattle.scc_array.specs.Sifts.{all_up, ups}
 use Rattle.scc_array.specs.Shelves.{shelf_of}
 use Rattle.scc_buckets.proofs.Arrays.{put-is}
 use Rattle.scc_contents.specs.Contents.{key_hash}
@@ -19,7 +19,7 @@ returns-then-slot_count-le32-clause-pulls g c =
     let bare : s.overflow ≡ [] = no-elements s.overflow (omega (arith, c.overflow_len.ensures, c.if-overflow_len-eq0.true)) in
     let l1 : c.slot_count.result ≡ length (shelf_of c.args.into.now c.args.task.target).slots = c.slot_count.ensures.count in
     let l2 : c.slot_count-then-overflow_len-eq0.result ≡ length s.slots = c.slot_count-then-overflow_len-eq0.ensures.count in
-    parted-pulls hash c.args.task.skipped c.args.count c.args.task.target c.args.source c.args.old.now (shelf_of c.args.into.now c.args.task.target) c.flags_of.new.flags c.requires.source bare c.requires.own c.requires.packed
+    parted-pulls hash c.args.task.skipped c.args.count c.args.task.target c.args.source c.args.old.now (shelf_of c.args.into.now c.args.task.target) (ups c.flags_of.new.flags) c.requires.source bare c.requires.own c.requires.packed
     (omega (arith, c.if-slot_count-le32.true)) c.flags_of.ensures c.split.new.self c.split.ensures.stays (shelf_of c.split.new.into c.args.task.target) (put-is c.args.into.now c.args.task.target c.requires.target c.split.new.into _ c.split.ensures.moved)
 
 pub returns-then-task-clause-pulls : goal.returns-then-task-clause-pulls
