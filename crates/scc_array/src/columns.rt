@@ -45,7 +45,7 @@ impl<E> Columns<E> {
     {
         Columns {
             tags: Vec::new(alloc),
-            slots: Slots::none(),
+            slots: Slots::none(alloc),
         }
     }
 

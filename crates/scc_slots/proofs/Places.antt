@@ -3,7 +3,7 @@ use Rattle.std.proofs.Common.{◌≡◌, ℕ, zero, suc, ◌+◌, ◌*◌, ◌<�
 use native.Mathlib.Nat.{zero-mul, suc-mul}
 use seplogic.Ra.Ura.{Ura}
 use mir.Syntax.{ty_array}
-use base.Logic.{ent, sep, via, fst∗, snd∗, id⊢}
+use base.Logic.{ent, sep, via, fst∗, snd∗, id⊢, never}
 use base.Fml.{Fml, Lft, ftrue, fsep, froom}
 use types.Logic.{Logic, sem}
 use base.Fml.{fat}
@@ -14,7 +14,7 @@ use denote.Memory.{part_at}
 use denote.Param.{layout, param}
 use denote.Param.Laws.{Laws, param_laws}
 use denote.RattleType.{RattleType}
-use denote.RawPtr.{Ptr, RawPtr, ptr_val}
+use denote.RawPtr.{Ptr, RawPtr, null_ptr, ptr_val}
 use denote.Steps.{owned, peeks}
 use denote.Struct.Owning.{shape}
 use denote.Struct.Declared.{shape as flat_shape}
@@ -28,7 +28,7 @@ use Rattle.std_alloc.proofs.RcSteps.{Good, word}
 use types.Kit.{Item, Goal, Seq, Step, some, pick, ‵, ◌⊛◌, ◌$◌, ◌∵◌, !, qed, by, move, keep, use1, use2, split, frame, fsplit, fjoin, done}
 use Rattle.std.specs.Mem.{type_size}
 use Rattle.core.proofs.mem.Param.{El, R, elτ}
-use Rattle.scc_slots.specs.Owned.{place_owns, places_own, place_shows, places_show}
+use Rattle.scc_slots.specs.Owned.{place_owns, places_own, place_shows, places_show, row_owns, row_shows}
 
 -- a struct of one field that has no bytes
 abbrev pub mark : Val
@@ -120,6 +120,15 @@ module _ (E : El) {M : Type 1} {𝓤 : Ura M} (𝓛 : Logic 𝓤) (b : ℕ) wher
   places-room (suc n) o = qed 𝓛 (‵ (All o (replicate (suc n) None)) ∷ []) ∵ fsplit ! $
       use1 𝓛 (‵ (froom (elτ E) b o)) (𝓛.laws.raw-room (elτ E) b o) $ move ! (1 ∷ []) $
       use1 𝓛 (‵ (froom (ty_array (elτ E) n) b (o + size E))) (places-room n (o + size E)) $ move ! (1 ∷ 0 ∷ []) $ by ! (𝓛.laws.room_cons (elτ E) n b o)
+
+-- no place lies nowhere
+pub nowhere-owned : {M : Type 1} {𝓤 : Ura M} (𝓛 : Logic 𝓤) (R : RattleType) (cs : List (Option R.Denot)) (i : ℕ) → i < length cs → ent 𝓤 (sem 𝓛 (row_owns R null_ptr cs)) (never 𝓤)
+nowhere-owned 𝓛 R [] i h = absurd (omega arith)
+nowhere-owned {𝓤 = 𝓤} 𝓛 R (c ∷ cs) i h = id⊢ 𝓤 (never 𝓤)
+
+pub nowhere-shown : {M : Type 1} {𝓤 : Ura M} (𝓛 : Logic 𝓤) (R : RattleType) (cs : List (Option R.Denot)) (κ : Lft) (i : ℕ) → i < length cs → ent 𝓤 (sem 𝓛 (row_shows R null_ptr cs κ)) (never 𝓤)
+nowhere-shown 𝓛 R [] κ i h = absurd (omega arith)
+nowhere-shown {𝓤 = 𝓤} 𝓛 R (c ∷ cs) κ i h = id⊢ 𝓤 (never 𝓤)
 
 -- what lies in a place is a cell with one value, and what the value owns
 pub cell_out : {M : Type 1} {𝓤 : Ura M} {𝓛 : Logic 𝓤} {K : Type 0} {Γ : List (Item 𝓤)} {G : Goal 𝓤 𝓛.H} → K → {X : RattleType} (L : Laws X) (x : X.Denot) (b o : ℕ)

@@ -21,7 +21,8 @@ module _ (R : RattleType) (L : RowLaws R) (b : ℕ) where
   places_show-laws o (Some x ∷ cs) = beside_shr_laws _ _ (L x b o) (places_show-laws (o + type_size R) cs)
 
 pub row_shows-laws : (R : RattleType) (L : RowLaws R) (start : Ptr) (cs : List (Option R.Denot)) → ShrLaws (row_shows R start cs)
-row_shows-laws R L null_ptr cs = said_shr_laws ffalse tt
+row_shows-laws R L null_ptr [] = nothing_shr_laws
+row_shows-laws R L null_ptr (c ∷ cs) = said_shr_laws ffalse tt
 row_shows-laws R L (block_ptr b o) cs = beside_shr_laws _ _ (places_show-laws R L b o cs) (said_shr_laws (bounded R cs) tt)
 
 module _ {M : Type 1} {𝓤 : Ura M} (𝓛 : Logic 𝓤) (l : Lft) (R : RattleType) (L : Laws R) (outlives : Incl l R.lives) where
@@ -37,6 +38,7 @@ module _ {M : Type 1} {𝓤 : Ura M} (𝓛 : Logic 𝓤) (l : Lft) (R : RattleTy
         Lends-both 𝓛 (place_owns R b o c) (places_own R b o' cs) (place_shows R b o c) (places_show R b o' cs) l (place-lends o c) (places-lend o' cs)
 
   pub row-lends : (start : Ptr) (cs : List (Option R.Denot)) → Lends 𝓛 (row_owns R start cs) (row_shows R start cs) l
-  row-lends null_ptr cs = Lends-false 𝓛 (said ffalse) l
+  row-lends null_ptr [] = Lends-nothing 𝓛 ftrue l
+  row-lends null_ptr (c ∷ cs) = Lends-false 𝓛 (said ffalse) l
   row-lends (block_ptr b o) cs =
       Lends-both 𝓛 (places_own R b o cs) (bounded R cs) (places_show R b o cs) (said (bounded R cs)) l (places-lend b o cs) (Lends-said 𝓛 (bounded R cs) tt l)

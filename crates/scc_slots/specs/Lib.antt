@@ -1,4 +1,3 @@
-pub mod BlockLends
 pub mod Blocks
 pub mod Owned
 pub mod Places

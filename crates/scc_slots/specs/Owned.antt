@@ -36,16 +36,19 @@ module _ (R : RattleType) where
   abbrev pub bounded : List (Option R.Denot) → Fml
   bounded cs = flt (length cs * type_size R) (2 ^ 63)
 
-  -- a row owns its places
+  -- a row owns its places; no place lies nowhere
   abbrev pub row_owns : Ptr → List (Option R.Denot) → Fml
-  row_owns null_ptr cs = ffalse
+  row_owns null_ptr [] = ftrue
+  row_owns null_ptr (c ∷ cs) = ffalse
   row_owns (block_ptr b o) cs = fsep (places_own R b o cs) (bounded cs)
 
   -- what a row shows while it is lent to be read
   abbrev pub row_shows : Ptr → List (Option R.Denot) → Lft → Fml
-  row_shows null_ptr cs = said ffalse
+  row_shows null_ptr [] = nothing
+  row_shows null_ptr (c ∷ cs) = said ffalse
   row_shows (block_ptr b o) cs = beside (places_show R b o cs) (said (bounded cs))
 
   -- what lets the block of n places go back
   abbrev pub right_owns : (Ty → Ptr → Fml) → Ptr → ℕ → Fml
-  right_owns token start n = token (raw (ty_array (lone R.mir) n)) start
+  right_owns token null_ptr n = ffalse
+  right_owns token (block_ptr b o) n = token (raw (ty_array (lone R.mir) n)) (block_ptr b o)

@@ -2,11 +2,9 @@
 //! to know.
 #![tactic(auto)]
 
-mod block;
 mod row;
 mod slots;
 
-pub use block::SlotBlock;
 #[doc(hidden)]
 pub use row::{Right, Row, Start};
 pub use slots::Slots;

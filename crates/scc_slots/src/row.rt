@@ -1,16 +1,17 @@
 //! The places themselves, behind a pointer, and the right to give their block back. The only code of the containers
 //! that goes by a raw pointer.
-ghost use Rattle.std.specs.Prelude.{◌≡◌, ℕ, ◌<◌, List, Option, Some, None, length, replicate, slice_index_or, slice_set, IfOk};
+ghost use Rattle.std.specs.Prelude.{◌≡◌, ℕ, ◌<◌, [], List, Option, Some, None, length, replicate, slice_index_or, slice_set, IfOk};
 ghost use Rattle.std.specs.Borrow.{sem};
 ghost use Rattle.std.specs.Vec.Ownership.{FitsInBlock};
 ghost use base.Fml.{ftrue};
-ghost use denote.RawPtr.{Ptr};
+ghost use denote.RawPtr.{Ptr, null_ptr};
 ghost use Rattle.scc_slots.specs.Owned.{row_owns, row_shows, right_owns};
 ghost use Rattle.scc_slots.specs.Places.{IsFilled, IsVacant};
 
 use std::alloc::{AllocError, Allocator};
 use std::marker::{Model, PhantomData, Send, Sync};
 use std::mem::{align_of, size_of};
+use std::ptr::null_mut;
 
 /// Where a row begins. It owns nothing.
 pub struct Start<E> {
@@ -87,6 +88,27 @@ pub(crate) fn obtain<E, A: Allocator>(
             Ok((start, (Row { of: PhantomData }, Right { of: PhantomData })))
         }
     }
+}
+
+/// The start of no places, which lie nowhere.
+pub(crate) fn nowhere<E>() -> Start<E>
+    ensures { result.first ≡ null_ptr }
+{
+    Start { first: null_mut() }
+}
+
+/// The row of no places.
+pub(crate) fn no_places<E>() -> Row<E>
+    ensures { (result.start ≡ null_ptr) × (result.places ≡ []) }
+{
+    Row { of: PhantomData }
+}
+
+/// Ends a row of no places.
+pub(crate) fn end_row<E>(row: Row<E>)
+    requires { row.places ≡ [] }
+{
+    let Row { of: _ } = row;
 }
 
 /// Gives the block of `count` free places back.

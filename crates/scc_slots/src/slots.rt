@@ -1,19 +1,26 @@
-//! A block of places, or none: what has no places asks for no memory.
+//! Places for entries as their owner sees them: a list with an entry or nothing for each place.
 ghost use Rattle.std.specs.Prelude.{◌≡◌, ◌^◌, ◌<◌, [], List, Option, Some, None, length, replicate, slice_index_or, slice_set, IfOk};
 ghost use Rattle.std.specs.Borrow.{sem};
 ghost use Rattle.scc_slots.specs.Places.{IsFilled, IsVacant, IsDrained};
 
-use crate::block::SlotBlock;
+use crate::row::{Right, Row, Start, end_row, give_back, no_places, nowhere, obtain};
 use std::alloc::{AllocError, Global};
 use std::marker::Model;
+use std::mem;
+use std_alloc::room::may_hold;
 
-/// Places for entries, in one block or in none. All places have to be free before it is given back.
+/// Places for entries, in one block of memory; what has no places has none. It drops no entry: all places have to be
+/// free before it is given back.
 pub struct Slots<E> {
-    block: Option<SlotBlock<E>>,
+    start: Start<E>,
+    count: usize,
+    row: Row<E>,
+    right: Option<Right<E, Global>>,
+    alloc: Global,
 }
 
 impl<E> Model for Slots<E> {
-    ghost use Rattle.scc_slots.specs.Blocks.{places_in};
+    ghost use Rattle.scc_slots.specs.Blocks.{IsBlock};
     ghost use Rattle.std.specs.Coded.{coded_list, coded_option};
     ghost use Rattle.std.specs.Prelude.{List, Option};
 
@@ -21,25 +28,42 @@ impl<E> Model for Slots<E> {
 
     ghost coded = { coded_list (coded_option E.code) };
 
-    ghost view = { λ s. places_in s.block };
+    ghost view = { λ s. s.row.places };
+
+    ghost invariant = { λ s. IsBlock s.start s.row s.right s.count s.alloc };
 }
 
 impl<E> Slots<E> {
     ghost use Rattle.scc_slots.specs.SlotsLends.{lends_slot};
 
-    /// No places.
-    pub fn none() -> Slots<E>
+    /// No places, for which no memory is asked.
+    pub fn none(alloc: Global) -> Slots<E>
         ensures { result ≡ [] }
     {
-        Slots { block: None }
+        Slots {
+            start: nowhere(),
+            count: 0,
+            row: no_places(),
+            right: None,
+            alloc,
+        }
     }
 
     /// Asks for `count` places and writes to none of them.
     pub fn with_places(alloc: Global, count: usize) -> Result<Slots<E>, AllocError>
         ensures { IfOk result (λ s. s ≡ replicate count None) }
     {
-        let block = SlotBlock::with_places(alloc, count)?;
-        Ok(Slots { block: Some(block) })
+        if !may_hold::<E>(count) {
+            return Err(AllocError);
+        }
+        let (start, (row, right)) = obtain(&alloc, count)?;
+        Ok(Slots {
+            start,
+            count,
+            row,
+            right: Some(right),
+            alloc,
+        })
     }
 
     /// The number of places.
@@ -48,10 +72,7 @@ impl<E> Slots<E> {
         ensures count { result ≡ length self.now }
         ensures within { result < 2 ^ 63 }
     {
-        match &self.block {
-            Some(block) => block.places(),
-            None => 0,
-        }
+        self.count
     }
 
     /// Fills a free place.
@@ -60,10 +81,7 @@ impl<E> Slots<E> {
         requires { IsVacant self.old place }
         ensures { self.new ≡ slice_set self.old place (Some entry) }
     {
-        match &mut self.block {
-            Some(block) => block.put(place, entry),
-            None => unreachable!(),
-        }
+        self.row.put(self.start, place, entry);
     }
 
     /// Takes the entry of a place, which is free then.
@@ -73,10 +91,7 @@ impl<E> Slots<E> {
         ensures entry { slice_index_or self.old place None ≡ Some result }
         ensures places { self.new ≡ slice_set self.old place None }
     {
-        match &mut self.block {
-            Some(block) => block.take(place),
-            None => unreachable!(),
-        }
+        self.row.take(self.start, place)
     }
 
     /// The entry of a place.
@@ -85,10 +100,7 @@ impl<E> Slots<E> {
         requires { IsFilled self.now place }
         ensures { slice_index_or self.now place None ≡ Some result.now }
     {
-        match &self.block {
-            Some(block) => block.get(place),
-            None => unreachable!(),
-        }
+        self.row.get(self.start, place)
     }
 
     /// The entry of a place, to write to.
@@ -98,8 +110,7 @@ impl<E> Slots<E> {
         ensures* writes_back { sem 𝓛 (lends_slot E.row self.entry place result) }
         ensures entry { slice_index_or self.old place None ≡ Some result.now }
     {
-        let block = self.block.as_mut().unwrap();
-        block.get_mut(place)
+        self.row.get_mut(self.start, place)
     }
 
     /// Writes over the entry of a place, and answers what was there.
@@ -109,10 +120,7 @@ impl<E> Slots<E> {
         ensures entry { slice_index_or self.old place None ≡ Some result }
         ensures places { self.new ≡ slice_set self.old place (Some entry) }
     {
-        match &mut self.block {
-            Some(block) => block.replace(place, entry),
-            None => unreachable!(),
-        }
+        mem::replace(self.row.get_mut(self.start, place), entry)
     }
 
     /// Moves the entry at `from` to the free place `to`.
@@ -122,20 +130,24 @@ impl<E> Slots<E> {
         requires to { IsVacant self.old to }
         ensures { self.new ≡ slice_set (slice_set self.old from None) to (slice_index_or self.old from None) }
     {
-        match &mut self.block {
-            Some(block) => block.move_place(from, to),
-            None => unreachable!(),
-        }
+        let entry = self.row.take(self.start, from);
+        self.row.put(self.start, to, entry);
     }
 
     /// Gives the block back. All its places have to be free.
     pub fn destroy_empty(self)
         requires { IsDrained self }
     {
-        let Slots { block } = self;
-        match block {
-            Some(block) => block.destroy_empty(),
-            None => {}
+        let Slots {
+            start,
+            count,
+            row,
+            right,
+            alloc,
+        } = self;
+        match right {
+            Some(right) => give_back(&alloc, start, count, row, right),
+            None => end_row(row),
         }
     }
 }

@@ -78,10 +78,10 @@ give_back_spec 𝓤 𝓛 𝓜 𝓡 wired X Y L LY g d dd met md =
     fsplit ! $ fsplit ! $ skip ! $ move ! (1 ∷ []) $ fsplit ! $ fsplit ! $ skip ! $ move ! (2 ∷ 0 ∷ 3 ∷ 4 ∷ 5 ∷ []) $
     -- [the places; the right; the handle; its token; the other tokens]
     rewrite ! 0 (λ (r : Ptr × List (Cell E)). ‵ (row_owns (R E) r.0 r.1)) (λ i. (asks.0 i, asks.1 i)) refl $
-    in_a_block ! start.first (λ p. row_owns (R E) p (replicate count None)) (id⊢ 𝓤 (never 𝓤)) (λ b o e. fsplit ! $ move ! (1 ∷ []) $ flt_l ! (λ fit.
+    move ! (1 ∷ []) $ rewrite ! 0 (λ (r : Y.Denot × Ptr × ℕ). ‵ (right_owns (R E) (token Z r.0) r.1 r.2)) (λ i. (asks.4 i, asks.2 i, asks.3 i)) refl $
+    in_a_block ! start.first (λ p. right_owns (R E) (token Z alloc) p count) (id⊢ 𝓤 (never 𝓤)) (λ b o e. rewrite ! 1 (λ (p : Ptr). ‵ (row_owns (R E) p (replicate count None))) e refl $ move ! (1 ∷ []) $ fsplit ! $ move ! (1 ∷ []) $ flt_l ! (λ fit.
     let s = size E in let al : ℕ = capped (align (elτ E)) in
     let small : count * s < 2 ^ 63 = subst (λ k. k * s < 2 ^ 63) (length-replicate count None) fit in let bytes : count * s < 2 ^ 64 = omega arith in
-    rewrite ! 1 (λ (r : Y.Denot × Ptr × ℕ). ‵ (right_owns (R E) (token Z r.0) r.1 r.2)) (λ i. (asks.4 i, (asks.2 ∙ e) i, asks.3 i)) refl $
     use1 𝓛 (‵ (froom (ty_array (elτ E) count) b o)) (places-room E 𝓛 b count o) $ as_raw ! (ty_array (elτ E) count) b o $
     regoal ! (λ (ws : List Val). prop (WpFn 𝓤 𝓛.H C Λ fn ws Post)) (λ i. e0 i ++ ((e1 ∙ ap (λ p. word p ∷ []) e) i ++ (are.1.1.0.0 i ++ (e3 i ++ (e4 i ++ []))))) refl $
     enter ! C Λ fn (vptr rb ro ∷ word (block_ptr b o) ∷ vint w64 count ∷ mark ∷ mark ∷ []) Post $

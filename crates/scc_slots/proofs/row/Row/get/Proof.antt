@@ -2,7 +2,7 @@
 use Rattle.std.proofs.Common.{◌≡◌, ◌+◌, ◌*◌, ◌^◌, ◌<◌, List, [], ◌∷◌, ◌++◌, length, get_or, Some, None, refl, ◌∙◌, arith}
 use base.Fml.{fat}
 use base.Fraction.{full_share}
-use base.Logic.{SProp, emp, id⊢, never}
+use base.Logic.{SProp, emp}
 use mir.MapTy.{inst_fn}
 use mir.Syntax.{Fn, w64}
 use mir.Val.{Val, vptr, vint}
@@ -31,7 +31,7 @@ use Rattle.core.proofs.ptr.Rows.{times_below, one_below}
 use Rattle.std.proofs.raw_atomic.Walks.{proved_at, leaves}
 use Rattle.std_alloc.proofs.RcSteps.{word, word-Good}
 use Rattle.std_alloc.proofs.VecSteps.Shapes.{after}
-use Rattle.scc_slots.proofs.Places.{Cell, size, filled-within, place-shown}
+use Rattle.scc_slots.proofs.Places.{nowhere-shown, Cell, size, filled-within, place-shown}
 use Rattle.scc_slots.proofs.row.Row.get.Code as code
 use Rattle.scc_slots.proofs.row.Row.get.Statement.{statement}
 use Rattle.scc_slots.proofs.row.Start.TheLaws as start_laws
@@ -71,7 +71,7 @@ get_spec 𝓤 𝓛 𝓜 𝓡 wired X L =
     alloc_all ! (λ l. pass_all ! refl ((tt, tt), (word-Good [] start.first, ((tt, record { fits = fits }), tt))) $
     let En = env fn.locals l in
     unhide ! $ fsplit ! $ skip ! $
-    in_a_block ! d.start (λ p. row_shows (R E) p d.places κ) (id⊢ 𝓤 (never 𝓤)) (λ b o e. fsplit ! $ move ! (1 ∷ []) $ flt_l ! (λ small.
+    in_a_block ! d.start (λ p. row_shows (R E) p d.places κ) (nowhere-shown 𝓛 (R E) d.places κ place within) (λ b o e. fsplit ! $ move ! (1 ∷ []) $ flt_l ! (λ small.
     let s = size E in let at = place * s + o in
     let whole_size : s < 2 ^ 64 = omega (arith, one_below (length d.places) s (2 ^ 63) (omega arith) small) in
     let far : place * s < 2 ^ 64 = omega (arith, times_below place (length d.places) s (2 ^ 63) (omega arith) small) in

@@ -3,7 +3,7 @@ use Rattle.std.proofs.Common.{◌≡◌, ◌+◌, ◌*◌, ◌^◌, ◌<◌, Lis
 use lib.ListN.{length-set}
 use base.Fml.{froom, ftrue, flft, fat}
 use base.Fraction.{full_share}
-use base.Logic.{SProp, emp, id⊢, never}
+use base.Logic.{SProp, emp}
 use mir.MapTy.{inst_fn}
 use mir.Syntax.{Fn, w64}
 use mir.Val.{Val, vptr, vint}
@@ -31,7 +31,7 @@ use Rattle.std.proofs.raw_atomic.Walks.{proved_at, leaves}
 use Rattle.std_alloc.proofs.RawLayout.{as_raw}
 use Rattle.std_alloc.proofs.RcSteps.{word, word-Good}
 use Rattle.std_alloc.proofs.VecSteps.Shapes.{after}
-use Rattle.scc_slots.proofs.Places.{Cell, size, others, filled-within, cell_out, place-out, place-in}
+use Rattle.scc_slots.proofs.Places.{nowhere-owned, Cell, size, others, filled-within, cell_out, place-out, place-in}
 use Rattle.scc_slots.proofs.row.Row.take.Code as code
 use Rattle.scc_slots.proofs.row.Row.take.Statement.{statement}
 use Rattle.scc_slots.proofs.row.Start.TheLaws as start_laws
@@ -72,7 +72,7 @@ take_spec 𝓤 𝓛 𝓜 𝓡 wired X L =
     alloc_all ! (λ l. pass_all ! refl ((tt, tt), (word-Good [] start.first, ((tt, record { fits = fits }), tt))) $
     let En = env fn.locals l in
     opens ! tt W {h = d} rb ro (λ us. move ! (1 ∷ []) $ fsplit ! $ move ! (1 ∷ []) $
-    in_a_block ! d.start (λ p. row_owns (R E) p d.places) (id⊢ 𝓤 (never 𝓤)) (λ b o e. fsplit ! $ move ! (1 ∷ []) $ flt_l ! (λ small.
+    in_a_block ! d.start (λ p. row_owns (R E) p d.places) (nowhere-owned 𝓛 (R E) d.places place within) (λ b o e. fsplit ! $ move ! (1 ∷ []) $ flt_l ! (λ small.
     let s = size E in let at = place * s + o in
     let whole_size : s < 2 ^ 64 = omega (arith, one_below (length d.places) s (2 ^ 63) (omega arith) small) in
     let far : place * s < 2 ^ 64 = omega (arith, times_below place (length d.places) s (2 ^ 63) (omega arith) small) in
