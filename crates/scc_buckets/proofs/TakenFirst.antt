@@ -1,5 +1,5 @@
 -- A table from which the first entry of a bucket that passes was taken.
-use Rattle.std.proofs.Common.{◌≡◌, ℕ, ◌-◌, ◌<◌, ◌≤◌, Bool, List, [], length, map, set, None, Some, refl, sym, ap, subst, ◌∙◌}
+use Rattle.std.proofs.Common.{◌≡◌, ℕ, arith, ◌-◌, ◌<◌, ◌≤◌, Bool, List, [], length, map, set, None, Some, refl, sym, ap, subst, ◌∙◌}
 use Rattle.std.specs.Cmp.{IsEquivalence}
 use Rattle.std.specs.List.{flat_map, position, slice_get, IsDistinct}
 use Rattle.scc_array.proofs.Joined.{position-joined, or_later}
@@ -59,10 +59,18 @@ module _ {E S : Type 0} (p : E → Bool) (hash : E → ℕ) (h t n o i : ℕ) (b
     pub taken-some : 1 ≤ n
     taken-some = at-least-one hash t n o spot bs own s c view bucket l (shelf-at bs i l) within (without_place bucket j) refl
 
-    pub taken-table : (r : ℕ) → (j < length (shelf_of bs i).slots → r ≡ 0) → (length (shelf_of bs i).slots ≤ j → r ≡ 1) → IsBuckets hash t ds (n - 1) (o - r) × (r ≤ o)
-    taken-table r lower upper =
+    table : (r : ℕ) → (j < length (shelf_of bs i).slots → r ≡ 0) → (length (shelf_of bs i).slots ≤ j → r ≡ 1) → IsBuckets hash t ds (n - 1) (o - r) × (r ≤ o)
+    table r lower upper =
         let w = swapped-table hash t n o spot bs own s c view bucket l (shelf-at bs i l) within x (shelf_of ds i) left r lower upper in
         (subst (λ z. IsBuckets hash t z (n - 1) (o - r)) (sym put) w.0, w.1)
+
+    -- it is a table still, with an entry less
+    pub taken-near : j < length (shelf_of bs i).slots → IsBuckets hash t ds (n - 1) o
+    taken-near near = let w = table 0 (λ _. refl) (λ far. absurd (omega arith)) in let e : o - 0 ≡ o = omega arith in subst (λ m. IsBuckets hash t ds (n - 1) m) e w.0
+
+    -- and with one less past the places, where it stood there
+    pub taken-far : length (shelf_of bs i).slots ≤ j → IsBuckets hash t ds (n - 1) (o - 1) × (1 ≤ o)
+    taken-far far = table 1 (λ near. absurd (omega arith)) (λ _. refl)
 
     pub taken-unique : {K : Type 0} {eq : K → K → Bool} (laws : IsEquivalence eq) (key : E → K) → IsDistinct eq (map key (flat_map shelf_entries bs)) → IsDistinct eq (map key (flat_map shelf_entries ds))
     taken-unique {eq = eq} laws key unique =

@@ -37,6 +37,7 @@ pub mod Same
 pub mod SearchingLemmas
 pub mod Seen
 pub mod Settled
+pub mod SettledTakes
 pub mod SettlingLemmas
 pub mod Short
 pub mod SpotVisits
