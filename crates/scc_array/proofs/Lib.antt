@@ -20,6 +20,7 @@ pub mod Shifting
 pub mod Spent
 pub mod Swapping
 pub mod Swaps
+pub mod TakenFirst
 pub mod Totals
 pub mod Windows
 pub mod Writing

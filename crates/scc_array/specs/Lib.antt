@@ -6,5 +6,6 @@ pub mod ShelfWrites
 pub mod Shelves
 pub mod Shifts
 pub mod Sifts
+pub mod Takes
 pub mod Updates
 pub mod Windows

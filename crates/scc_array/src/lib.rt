@@ -16,6 +16,7 @@ mod shifts;
 mod sifting;
 mod splitting;
 pub mod tags;
+mod taking;
 mod updating;
 mod writes;
 
@@ -123,7 +124,7 @@ impl<E> Array<E> {
 
     /// Whether the bucket may have entries past its places.
     #[inline(always)]
-    fn is_crowded(&self, bucket: usize) -> bool
+    pub fn is_crowded(&self, bucket: usize) -> bool
         requires { bucket < length self.now }
         ensures { IsFalse result → (shelf_of self.now bucket).overflow ≡ [] }
     {

@@ -23,6 +23,7 @@ pub mod Resizes
 pub mod Spots
 pub mod Standing
 pub mod SwapRemoves
+pub mod TakenFirst
 pub mod UpdatingLemmas
 pub mod Views
 pub mod WritingTables

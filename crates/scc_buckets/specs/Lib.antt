@@ -6,5 +6,6 @@ pub mod Places
 pub mod Pour
 pub mod Standing
 pub mod Tables
+pub mod Takes
 pub mod Updates
 pub mod Writes

@@ -22,6 +22,7 @@ mod removing;
 mod reserving;
 pub mod route;
 pub mod sizes;
+mod taking;
 mod updating;
 pub mod versions;
 pub mod walks;

@@ -37,8 +37,10 @@ pub mod Same
 pub mod SearchingLemmas
 pub mod Seen
 pub mod Settled
+pub mod SettledTakes
 pub mod SettlingLemmas
 pub mod Short
+pub mod ShrunkTakes
 pub mod SpotVisits
 pub mod Spreading
 pub mod StartingLemmas

@@ -8,7 +8,7 @@ use Rattle.scc_contents.specs.Steps.{Holds, HoldsExactly, ShrinksWhenDue}
 use Rattle.scc_buckets.specs.Bounded.{HasList, IsBounded}
 use Rattle.scc_buckets.specs.OneList.{IsSwappedOutOf, IsTakenFrom}
 use Rattle.scc_buckets.specs.declared.place.Place.{Place}
-use Rattle.scc_table.specs.Places.{StandsAt, index_of, spot_of}
+use Rattle.scc_table.specs.Places.{IsFoundAt, StandsAt, index_of, spot_of}
 use Rattle.scc_table.specs.Takes.{owed_taken}
 use Rattle.scc_table.specs.TwoArrays.{IsWaiting}
 
@@ -100,3 +100,14 @@ module _ {E K S : Type 0} (eq : K → K → Bool) (key : E → K) where
     pub exact : IsSwappedOutOf c (spot_of c p) d
     -- no two keys are equal
     pub unique : IsUniqueBy eq key d
+
+  module _ (p : E → Bool) (c d : Contents E S) where
+    -- the first entry that passes p is taken out and answered with no resize; where none passes, nothing changed
+    abbrev pub SwapTakesFirst : Option E → Type 0
+    SwapTakesFirst None = (position p (entries c) ≡ None) × (d ≡ c)
+    SwapTakesFirst (Some x) = (q : Place) × IsFoundAt p c q × SwapTakesAt c q x d
+
+    -- the same, and the array may become smaller
+    abbrev pub RemovesFirst : Option E → Type 0
+    RemovesFirst None = (position p (entries c) ≡ None) × (d ≡ c)
+    RemovesFirst (Some x) = (q : Place) × IsFoundAt p c q × RemovesAt c q x d

@@ -1,8 +1,11 @@
 //! How entries get out of a table of two arrays where the order of the others is free.
+ghost use Rattle.std.specs.Prelude.{◌≡◌, ◌<◌, []};
+ghost use Rattle.scc_contents.specs.Contents.{key_hash, pending_of, waiting_of, IsUniqueBy};
 ghost use Rattle.scc_table.specs.Places.{IsPlace};
-ghost use Rattle.scc_table.specs.Removals.{RemovesAt};
+ghost use Rattle.scc_table.specs.Removals.{RemovesAt, RemovesFirst, SwapTakesFirst};
 
 use super::Table;
+use super::searching::NOWHERE;
 use scc_buckets::Place;
 use scc_entry::Keyed;
 use std::hash::{BuildHasher, Hash};
@@ -21,5 +24,49 @@ where
         let entry = self.swap_take_at(place);
         self.shrink();
         entry
+    }
+
+    /// Takes out the entry with that key as `remove_at` does, and answers it; None where there is no such entry.
+    /// `hash` is the key's hash. Where no bucket waits, an entry that was found isn't looked for again.
+    #[inline(always)]
+    pub fn remove(&mut self, hash: u64, key: &E::Key) -> Option<E>
+        requires { hash ≡ key_hash H.BuildHasher H.Hasher.Hasher E.Key.hash_input self.old key.now }
+        ensures step { RemovesFirst E.Key.eq E.key_of (λ e. E.Key.eq key.now (E.key_of e)) self.old self.new result }
+        ensures unique { IsUniqueBy E.Key.eq E.key_of self.old }
+    {
+        if self.pending != 0 {
+            return self.remove_from_both(hash, key);
+        }
+        match self.take_settled(hash, key) {
+            Some(entry) => {
+                self.shrink();
+                Some(entry)
+            }
+            None => None,
+        }
+    }
+
+    /// Takes it out where no bucket waits, with no resize.
+    #[inline(always)]
+    fn take_settled(&mut self, hash: u64, key: &E::Key) -> Option<E>
+        requires settled { waiting_of self.old ≡ [] }
+        requires hashed { hash ≡ key_hash H.BuildHasher H.Hasher.Hasher E.Key.hash_input self.old key.now }
+        ensures { SwapTakesFirst E.Key.eq E.key_of (λ e. E.Key.eq key.now (E.key_of e)) self.old self.new result }
+    {
+        self.current.take_first(hash, key)
+    }
+
+    /// The same as `remove` where some bucket waits.
+    #[cold]
+    fn remove_from_both(&mut self, hash: u64, key: &E::Key) -> Option<E>
+        requires pending { 0 < pending_of self.old }
+        requires hashed { hash ≡ key_hash H.BuildHasher H.Hasher.Hasher E.Key.hash_input self.old key.now }
+        ensures { RemovesFirst E.Key.eq E.key_of (λ e. E.Key.eq key.now (E.key_of e)) self.old self.new result }
+    {
+        let place = self.search_both(hash, key);
+        if place.bucket >= NOWHERE {
+            return None;
+        }
+        Some(self.remove_at(place))
     }
 }
