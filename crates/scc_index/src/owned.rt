@@ -300,11 +300,8 @@ impl<K: Eq + Hash, V, H: BuildHasher> Owned<K, V, H> {
         ensures { RemovesByRule K.eq (Removes K.eq self.old k.now result self.new) self.old k.now result self.new }
     {
         let hash = self.table.hash(k);
-        match self.table.search(hash, k) {
-            Some(place) => {
-                let _removed = self.table.remove_at(place);
-                true
-            }
+        match self.table.remove(hash, k) {
+            Some(_removed) => true,
             None => false,
         }
     }

@@ -4,6 +4,7 @@ pub mod Collecting
 pub mod Entries
 pub mod EntrySteps
 pub mod Filtering
+pub mod Removing
 pub mod Replies
 pub mod Updating
 pub mod Visiting

@@ -301,10 +301,7 @@ impl<K: Eq + Hash, V, H: BuildHasher> Owned<K, V, H> {
         ensures { RemovesByRule K.eq (Removes K.eq self.old k.now result self.new) self.old k.now result self.new }
     {
         let hash = self.table.hash(k);
-        match self.table.search(hash, k) {
-            Some(place) => Some(self.table.remove_at(place)),
-            None => None,
-        }
+        self.table.remove(hash, k)
     }
 
     /// Calls `f` on the pairs in some order, each at most once, until its first false, and answers false where it

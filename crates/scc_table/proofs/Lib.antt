@@ -40,6 +40,7 @@ pub mod Settled
 pub mod SettledTakes
 pub mod SettlingLemmas
 pub mod Short
+pub mod ShrunkTakes
 pub mod SpotVisits
 pub mod Spreading
 pub mod StartingLemmas

@@ -1,0 +1,28 @@
+use Rattle.std.proofs.Common.{◌∙◌, sym, ap, map, subst, arith}
+use Rattle.scc_contents.specs.Contents.{key_hash, pending_of, waiting_of}
+use Rattle.scc_table.proofs.Joining.{pending-together, waiting-together}
+use Rattle.scc_table.proofs.ShrunkTakes.{removed-at}
+use Rattle.scc_table.proofs.Table.remove.Goals as goal
+
+pub remove_from_both-requires-clause-pending : goal.remove_from_both-requires-clause-pending
+remove_from_both-requires-clause-pending g c =
+    let t = c.self.inside in
+    let inv = c.self.invariant in
+    let hash = λ (e : g.row.E.Denot). key_hash g.H.BuildHasher g.H.Hasher.Hasher g.E.Key.Hash.hash_input t.current (g.E.Keyed.key_of e) in
+    let counted = ap pending_of (sym c.self.view_is) ∙ pending-together hash t.current t.waiting.items t.draining in
+    omega (arith, counted, inv.counted, c.if-self-ne0.true)
+
+pub take_settled-requires-clause-settled : goal.take_settled-requires-clause-settled
+take_settled-requires-clause-settled g c =
+    let t = c.self.inside in
+    let hash = λ (e : g.row.E.Denot). key_hash g.H.BuildHasher g.H.Hasher.Hasher g.E.Key.Hash.hash_input t.current (g.E.Keyed.key_of e) in
+    ap waiting_of (sym c.self.view_is) ∙ waiting-together hash t.current t.waiting.items t.draining ∙ c.self.invariant.none (omega (arith, c.if-self-ne0.false))
+
+pub returns-in-Some-clause-step : goal.returns-in-Some-clause-step
+returns-in-Some-clause-step g c =
+    let shrunk = c.shrink.ensures in
+    let took = c.in-Some.ensures.step in (
+      took.0,
+      took.1,
+      removed-at c.args.self.now c.take_settled.new.self c.shrink.new.self took.0 c.in-Some.entry took.2 shrunk.resizes shrunk.shrinks shrunk.due shrunk.spreads shrunk.unique,
+    )
