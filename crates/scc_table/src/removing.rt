@@ -51,8 +51,7 @@ where
     fn take_settled(&mut self, hash: u64, key: &E::Key) -> Option<E>
         requires settled { waiting_of self.old ≡ [] }
         requires hashed { hash ≡ key_hash H.BuildHasher H.Hasher.Hasher E.Key.hash_input self.old key.now }
-        ensures step { SwapTakesFirst E.Key.eq E.key_of (λ e. E.Key.eq key.now (E.key_of e)) self.old self.new result }
-        ensures unique { IsUniqueBy E.Key.eq E.key_of self.old }
+        ensures { SwapTakesFirst E.Key.eq E.key_of (λ e. E.Key.eq key.now (E.key_of e)) self.old self.new result }
     {
         self.current.take_first(hash, key)
     }
@@ -62,8 +61,7 @@ where
     fn remove_from_both(&mut self, hash: u64, key: &E::Key) -> Option<E>
         requires pending { 0 < pending_of self.old }
         requires hashed { hash ≡ key_hash H.BuildHasher H.Hasher.Hasher E.Key.hash_input self.old key.now }
-        ensures step { RemovesFirst E.Key.eq E.key_of (λ e. E.Key.eq key.now (E.key_of e)) self.old self.new result }
-        ensures unique { IsUniqueBy E.Key.eq E.key_of self.old }
+        ensures { RemovesFirst E.Key.eq E.key_of (λ e. E.Key.eq key.now (E.key_of e)) self.old self.new result }
     {
         let place = self.search_both(hash, key);
         if place.bucket >= NOWHERE {

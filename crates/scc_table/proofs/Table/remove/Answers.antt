@@ -1,4 +1,4 @@
-use Rattle.std.proofs.Common.{◌∙◌, sym, ap, map, subst, arith}
+use Rattle.std.proofs.Common.{◌∙◌, sym, ap, arith}
 use Rattle.scc_contents.specs.Contents.{key_hash, pending_of, waiting_of}
 use Rattle.scc_table.proofs.Joining.{pending-together, waiting-together}
 use Rattle.scc_table.proofs.ShrunkTakes.{removed-at}
@@ -21,7 +21,7 @@ take_settled-requires-clause-settled g c =
 pub returns-in-Some-clause-step : goal.returns-in-Some-clause-step
 returns-in-Some-clause-step g c =
     let shrunk = c.shrink.ensures in
-    let took = c.in-Some.ensures.step in (
+    let took = c.in-Some.ensures in (
       took.0,
       took.1,
       removed-at c.args.self.now c.take_settled.new.self c.shrink.new.self took.0 c.in-Some.entry took.2 shrunk.resizes shrunk.shrinks shrunk.due shrunk.spreads shrunk.unique,

@@ -1,11 +1,9 @@
-use Rattle.std.proofs.Common.{map, subst, arith}
-use Rattle.std.specs.List.{IsDistinct}
-use Rattle.scc_contents.specs.Contents.{Contents, entries}
+use Rattle.std.proofs.Common.{arith}
 use Rattle.scc_table.specs.Places.{IsFoundAt}
 use Rattle.scc_table.proofs.Table.remove_from_both.Goals as goal
 
-pub returns-clause-step : goal.returns-clause-step
-returns-clause-step g c =
+pub returns : goal.returns
+returns g c =
     let passes = λ (x : g.row.E.Denot). g.E.Key.PartialEq.eq c.args.key.now (g.E.Keyed.key_of x) in
     let q = c.search_both-place.result in
     let found : IsFoundAt passes c.args.self.now q = c.search_both-place.ensures.found (omega (arith, c.if-place-ge-NOWHERE.false)) in (

@@ -1,6 +1,5 @@
-use Rattle.std.proofs.Common.{◌∙◌, sym, ap, map, subst}
-use Rattle.std.specs.List.{IsDistinct}
-use Rattle.scc_contents.specs.Contents.{Contents, Settings, entries, key_hash, waiting_of}
+use Rattle.std.proofs.Common.{◌∙◌, sym, ap, subst}
+use Rattle.scc_contents.specs.Contents.{Contents, Settings, key_hash, waiting_of}
 use Rattle.scc_contents.specs.Hashing.{hash_of}
 use Rattle.scc_table.specs.Removals.{SwapTakesFirst}
 use Rattle.scc_table.specs.TwoArrays.{together}
@@ -26,8 +25,8 @@ invariant_of-self g c =
     let none = sym (waiting-together hash t.current t.waiting.items t.draining) ∙ ap waiting_of c.self.view_is ∙ c.requires.settled in
     settled-left g.E.Keyed.key_of passes g.met.E.Key.Eq.laws hash_for t.current c.take_first.new.self t.waiting.items t.draining t.skipped t.pending t.next t.left t.left_overflow c.self.invariant none c.take_first.result c.take_first.ensures
 
-pub returns-clause-step : goal.returns-clause-step
-returns-clause-step g c =
+pub returns : goal.returns
+returns g c =
     let t = c.self.inside in
     let passes = λ (x : g.row.E.Denot). g.E.Key.PartialEq.eq c.args.key.now (g.E.Keyed.key_of x) in
     let hash = λ (e : g.row.E.Denot). key_hash g.H.BuildHasher g.H.Hasher.Hasher g.E.Key.Hash.hash_input t.current (g.E.Keyed.key_of e) in
@@ -36,7 +35,3 @@ returns-clause-step g c =
     let new = together (λ (e : g.row.E.Denot). key_hash g.H.BuildHasher g.H.Hasher.Hasher g.E.Key.Hash.hash_input c.take_first.new.self (g.E.Keyed.key_of e)) c.take_first.new.self t.waiting.items t.draining in
     subst (λ (z : Contents g.row.E.Denot g.row.H.Denot). SwapTakesFirst g.E.Key.PartialEq.eq g.E.Keyed.key_of passes z new c.take_first.result) c.self.view_is
     (settled-taken g.E.Keyed.key_of passes g.met.E.Key.Eq.laws hash_for t.current c.take_first.new.self t.waiting.items t.draining t.skipped t.pending t.next t.left t.left_overflow c.self.invariant none c.take_first.result c.take_first.ensures)
-
-pub returns-clause-unique : goal.returns-clause-unique
-returns-clause-unique g c =
-    subst (λ (z : Contents g.row.E.Denot g.row.H.Denot). IsDistinct g.E.Key.PartialEq.eq (map g.E.Keyed.key_of (entries z))) c.self.view_is c.self.invariant.unique
