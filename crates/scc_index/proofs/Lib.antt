@@ -3,6 +3,7 @@ pub mod Clones
 pub mod Collecting
 pub mod Entries
 pub mod EntrySteps
+pub mod Removing
 pub mod Snapshots
 pub mod Updates
 pub mod Visits
