@@ -141,7 +141,7 @@ module _ {G N K V S T : Type 0} {d : guard.Ghosts G (Contents (K × V) S)} {g : 
       pub growth : IfOk result (λ o. IsGrownFor (hash_in hash_of (d.kept e.guard)) (d.kept e.guard) e.key (held_index o))
       -- it relocates two buckets at most
       pub relocates : IfOk result (λ o. Relocates (d.kept e.guard) (held_index o))
-      -- and two exactly, its own first, where none of them is long
+      -- its own first, and two exactly where none of them is long, else at least those before a long one
       pub two : IfOk result (λ o. RelocatesTwo (hash_in hash_of (d.kept e.guard) e.key) (d.kept e.guard) (held_index o))
       -- no two keys are equal
       pub unique : IfOk result (λ o. IsUnique same (held_index o))

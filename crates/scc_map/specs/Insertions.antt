@@ -35,7 +35,7 @@ module _ {K V S : Type 0} (eq : K → K → Bool) (hash_of : S → K → ℕ) wh
     pub noted : IsSome (find eq (entries c) p.0) → refused_of d ≡ refused_of c
     -- a new key relocates two buckets at most
     pub relocates : find eq (entries c) p.0 ≡ None → Relocates c d
-    -- and two exactly, its own first, where none of them is long
+    -- its own first, and two exactly where none of them is long, else at least those before a long one
     pub two : find eq (entries c) p.0 ≡ None → OnOk result (RelocatesTwo (hash_of (settings_of c).hasher p.0) c d)
     -- a key that is there relocates none
     pub waiting : IsSome (find eq (entries c) p.0) → waiting_of d ≡ waiting_of c
@@ -66,7 +66,7 @@ module _ {K V S : Type 0} (eq : K → K → Bool) (hash_of : S → K → ℕ) wh
     pub noted : IsSome (find eq (entries c) p.0) → refused_of d ≡ refused_of c
     -- a new key relocates two buckets at most
     pub relocates : find eq (entries c) p.0 ≡ None → Relocates c d
-    -- and two exactly, its own first, where none of them is long
+    -- its own first, and two exactly where none of them is long, else at least those before a long one
     pub two : find eq (entries c) p.0 ≡ None → OnOk result (RelocatesTwo (hash_of (settings_of c).hasher p.0) c d)
     -- a key that is there relocates none
     pub waiting : IsSome (find eq (entries c) p.0) → waiting_of d ≡ waiting_of c
@@ -89,7 +89,7 @@ module _ {K V S : Type 0} (eq : K → K → Bool) (hash_of : S → K → ℕ) wh
     pub first : OnOk result (FirstArrayWhenDue c d)
     -- two buckets at most are relocated
     pub relocates : Relocates c d
-    -- and two exactly, the key's own first, where none of them is long
+    -- the key's own first, and two exactly where none of them is long, else at least those before a long one
     pub two : OnOk result (RelocatesTwo (hash_of (settings_of c).hasher p.0) c d)
     -- no two keys are equal
     pub unique : IsUnique eq d

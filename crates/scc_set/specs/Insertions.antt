@@ -33,7 +33,7 @@ module _ {K S : Type 0} (eq : K → K → Bool) (hash_of : S → K → ℕ) wher
     pub noted : IsSome (find eq (entries c) k) → refused_of d ≡ refused_of c
     -- a new key relocates two buckets at most
     pub relocates : find eq (entries c) k ≡ None → Relocates c d
-    -- and two exactly, its own first, where none of them is long
+    -- its own first, and two exactly where none of them is long, else at least those before a long one
     pub two : find eq (entries c) k ≡ None → OnOk result (RelocatesTwo (hash_of (settings_of c).hasher k) c d)
     -- a key that is there relocates none
     pub waiting : IsSome (find eq (entries c) k) → waiting_of d ≡ waiting_of c
@@ -66,7 +66,7 @@ module _ {K S : Type 0} (eq : K → K → Bool) (hash_of : S → K → ℕ) wher
     pub noted : IsSome (find eq (entries c) k) → refused_of d ≡ refused_of c
     -- a new key relocates two buckets at most
     pub relocates : find eq (entries c) k ≡ None → Relocates c d
-    -- and two exactly, its own first, where none of them is long
+    -- its own first, and two exactly where none of them is long, else at least those before a long one
     pub two : find eq (entries c) k ≡ None → OnOk result (RelocatesTwo (hash_of (settings_of c).hasher k) c d)
     -- a key that is there relocates none
     pub waiting : IsSome (find eq (entries c) k) → waiting_of d ≡ waiting_of c

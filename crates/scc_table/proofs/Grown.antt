@@ -19,7 +19,7 @@ use Rattle.scc_buckets.proofs.Pours.{bound_append, bound_here, bound_other}
 use Rattle.scc_buckets.proofs.Resizes.{rests-resizes, then-resized}
 use Rattle.scc_buckets.proofs.Spots.{place-get}
 use Rattle.scc_table.specs.Places.{IsInsertedAt}
-use Rattle.scc_table.specs.Relocates.{left_after, AreShort, AreShortAmong, AreShortBut}
+use Rattle.scc_table.specs.Relocates.{left_after, AreMovedBeside, AreMovedFrom, AreShort, AreShortAmong, AreShortBut}
 use Rattle.scc_table.specs.TwoArrays.{pending_targets, settle, waits_at}
 use Rattle.scc_table.proofs.DoublingLemmas.{bound-listed}
 use Rattle.scc_table.proofs.Finishing.{pending-is}
@@ -88,6 +88,17 @@ module _ (n k : ℕ) (some : 2 ≤ n) (l : k < n) where
         let one : length rest + 2 - length (range_with_len 0 n) ≡ 1 = omega (arith, but-pending) in
         h ∙ ap (drop 1) same ∙ ap (λ m. drop m rest) (sym one)
 
+    -- or where one of them at most did
+    pub but-moved : (d : Contents E S) → AreMovedFrom (pending_targets c) 1 d → AreMovedBeside k (range_with_len 0 n) d
+    but-moved d h =
+        let rest = filter (λ t. not (t == k)) (range_with_len 0 n) in
+        let same : pending_targets c ≡ rest = targets-but n k c flags in
+        let x = ap length same in
+        let y = targets-length c in
+        let z = length-range_with_len 0 n in
+        let one : length rest + 2 - length (range_with_len 0 n) ≡ 1 = omega (arith, but-pending) in
+        subst (λ m. AreMovedFrom rest m d) (sym one) (subst (λ ts. AreMovedFrom ts 1 d) same h)
+
     -- none that waits is long where none but bucket k is
     pub but-short : (hash : E → ℕ) (a : Contents E S) → IsRegrouped hash n a c → AreShortBut hash n k a → AreShort c
     but-short hash a reg short = record {
@@ -148,6 +159,12 @@ pub grown-spread : {E S : Type 0} (hash : E → ℕ) (n : ℕ) (a b f : Contents
 grown-spread hash n a b f h i reg all at exact short =
     exact (all-short hash n a b reg all short) ∙ ap (left_after i) (targets-all n b all)
     ∙ ap (λ k. left_after k (range_with_len 0 n)) (at ∙ ap (λ s. bucket_number s.skipped (bucket_count b) h) reg.settings ∙ ap (λ m. bucket_number (settings_of a).skipped m h) reg.count)
+
+-- and where memory may have been refused
+pub grown-drained : {E S : Type 0} (hash : E → ℕ) (n : ℕ) (a b f : Contents E S) (h i : ℕ) → IsRegrouped hash n a b → waiting_of b ≡ replicate n true → i ≡ bucket_number (settings_of b).skipped (bucket_count b) h → AreMovedBeside i (pending_targets b) f → AreMovedBeside (bucket_number (settings_of a).skipped n h) (range_with_len 0 n) f
+grown-drained hash n a b f h i reg all at moved =
+    let own = at ∙ ap (λ s. bucket_number s.skipped (bucket_count b) h) reg.settings ∙ ap (λ m. bucket_number (settings_of a).skipped m h) reg.count in
+    subst (λ k. AreMovedBeside k (range_with_len 0 n) f) own (subst (λ ts. AreMovedBeside i ts f) (targets-all n b all) moved)
 
 -- what follows from two things that hold of an acceptance
 pub on-both : {X Y P Q R : Type 0} (r : Result X Y) → (P → Q → R) → OnOk r P → OnOk r Q → OnOk r R

@@ -1,12 +1,13 @@
 -- What waits in contents whose entries are seen through a function.
-use Rattle.std.proofs.Common.{◌≡◌, ℕ, zero, suc, List, [], ◌∷◌, length, map, refl}
-use Rattle.std.specs.List.{slice_index_or}
+use Rattle.std.proofs.Common.{◌≡◌, ◌∙◌, ℕ, zero, suc, inl, inr, List, [], ◌∷◌, length, map, refl, sym, ap}
+use Rattle.std.specs.List.{filter, range_with_len, slice_index_or}
 use Rattle.std.proofs.lemmas.List.{length-map}
 use Rattle.scc_contents.specs.Contents.{Contents, owed_of, list_of, waiting_of}
 use Rattle.scc_contents.specs.Mapped.{mapped}
 use Rattle.scc_buckets.proofs.Mapped.{bucket_count-mapped, length-mapped, pending_of-mapped, settings_of-mapped}
-use Rattle.scc_table.specs.Relocates.{AreShort, IsGrowthDue, IsShrinkDue, Spreads}
+use Rattle.scc_table.specs.Relocates.{AreMovedFrom, AreShort, IsGrowthDue, IsShrinkDue, Spreads}
 use Rattle.scc_table.specs.Relocations.{Relocates, RelocatesNone, RelocatesTwo}
+use Rattle.scc_table.specs.TwoArrays.{pending_targets, waits_at}
 
 lengths-map : {E F : Type 0} (f : E → F) (ls : List (List E)) (i : ℕ) → length (slice_index_or (map (λ l. map f l) ls) i []) ≡ length (slice_index_or ls i [])
 lengths-map f [] i = refl
@@ -29,6 +30,20 @@ module _ {E F S : Type 0} (f : E → F) where
   AreShort-from_mapped : (c : Contents E S) → AreShort (mapped f c) → AreShort c
   AreShort-from_mapped c h = record { short = λ i w. let l = h.short i (rw (waiting_of-mapped c) w) in rw (length-list-mapped c i) at l }
 
+  targets-mapped : (c : Contents E S) → pending_targets (mapped f c) ≡ pending_targets c
+  targets-mapped c = ap (λ ws. filter (waits_at ws) (range_with_len 0 (length ws))) (waiting_of-mapped c)
+
+  AreMovedFrom-mapped : (ts : List ℕ) (n : ℕ) (c : Contents E S) → AreMovedFrom ts n c → AreMovedFrom ts n (mapped f c)
+  AreMovedFrom-mapped ts n c h = record {
+    count = h.count;
+    most = h.most;
+    left = targets-mapped c ∙ h.left;
+    stopped = λ l. elim (h.stopped l) [
+      | inl none ↦ inl (targets-mapped c ∙ none)
+      | inr z ↦ inr (z.0, z.1, z.2, rw (length-list-mapped c (slice_index_or ts z.0 0)) z.3)
+    ];
+  }
+
   pub Relocates-mapped : (c d : Contents E S) → Relocates c d → Relocates (mapped f c) (mapped f d)
   Relocates-mapped c d h = record {
     fewer = rw (bucket_count-mapped f c, bucket_count-mapped f d, waiting_of-mapped c, waiting_of-mapped d) h.fewer;
@@ -44,6 +59,12 @@ module _ {E F S : Type 0} (f : E → F) where
     exact = λ a z short.
         let e = h.exact (rw (bucket_count-mapped f c) at a) (rw (bucket_count-mapped f c, bucket_count-mapped f d) at z) (AreShort-from_mapped c short) in
         rw (waiting_of-mapped c, waiting_of-mapped d, settings_of-mapped f c, bucket_count-mapped f c) e;
+    moved = λ a z.
+        let m = h.moved (rw (bucket_count-mapped f c) at a) (rw (bucket_count-mapped f c, bucket_count-mapped f d) at z) in
+        rw (waiting_of-mapped c, settings_of-mapped f c, bucket_count-mapped f c) (AreMovedFrom-mapped _ _ d m);
+    drained = λ a ne.
+        let m = h.drained (rw (bucket_count-mapped f c) at a) (λ e. ne (bucket_count-mapped f d ∙ e ∙ sym (bucket_count-mapped f c))) in
+        rw (settings_of-mapped f c, bucket_count-mapped f d) (AreMovedFrom-mapped _ _ d m);
   }
 
   pub RelocatesNone-mapped : (c d : Contents E S) → RelocatesNone c d → RelocatesNone (mapped f c) (mapped f d)

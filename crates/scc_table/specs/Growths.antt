@@ -11,7 +11,7 @@ use Rattle.scc_buckets.specs.Pour.{IsRegrouped}
 use Rattle.scc_buckets.specs.declared.place.Place.{Place}
 use Rattle.scc_table.specs.Bounded.{DoublesBelow, GrowsBelow, IsDoublingDue, IsReadyBelow}
 use Rattle.scc_table.specs.Places.{IsInsertedAt}
-use Rattle.scc_table.specs.Relocates.{left_after, AreShortAmong, AreShortBut}
+use Rattle.scc_table.specs.Relocates.{left_after, AreMovedBeside, AreShortAmong, AreShortBut}
 use Rattle.scc_table.specs.TwoArrays.{pending_targets, waits_at}
 
 module _ {E K S : Type 0} (eq : K → K → Bool) (key : E → K) where
@@ -118,6 +118,8 @@ module _ {E K S : Type 0} (eq : K → K → Bool) (key : E → K) where
       pub most : bucket_count d ≢ bucket_count c → bucket_count d ≤ pending_of d + 2
       -- that bucket and the first ones don't, two in all, where none but that one is long
       pub spread : bucket_count d ≢ bucket_count c → AreShortBut (λ e. hash_of (key e)) (bucket_count d) result.bucket c → pending_targets d ≡ left_after result.bucket (range_with_len 0 (bucket_count d))
+      -- that bucket and the first ones took their entries over
+      pub drained : bucket_count d ≢ bucket_count c → AreMovedBeside result.bucket (range_with_len 0 (bucket_count d)) d
       -- no two keys are equal
       pub unique : IsUniqueBy eq key d
 
@@ -135,6 +137,8 @@ module _ {E K S : Type 0} (eq : K → K → Bool) (key : E → K) where
       pub most : count ≤ pending_of d + 2
       -- the key's bucket and the first ones don't, two in all, where no new bucket is long
       pub spread : AreShortAmong (λ f. hash_of (key f)) count c → pending_targets d ≡ left_after (bucket_number (settings_of c).skipped count hash) (range_with_len 0 count)
+      -- the key's bucket and the first ones took their entries over
+      pub drained : AreMovedBeside (bucket_number (settings_of c).skipped count hash) (range_with_len 0 count) d
       -- the key's bucket doesn't wait
       pub settled : waits_at (waiting_of d) (bucket_number (settings_of c).skipped count hash) ≡ false
       -- no two keys are equal

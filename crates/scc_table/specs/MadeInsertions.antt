@@ -92,6 +92,8 @@ module _ {E K S X : Type 0} (eq : K → K → Bool) (key : E → K) where
       pub by_two : OnOk result (0 < bucket_count c → bucket_count d ≡ bucket_count c → AreShort c → pending_of d ≡ pending_of c - 2)
       -- of the same array the key's bucket and the first ones took their entries over
       pub moved : OnOk result (0 < bucket_count c → bucket_count d ≡ bucket_count c → AreMovedBeside (bucket_number (settings_of c).skipped (bucket_count c) hash) (pending_targets c) d)
+      -- and of a larger one
+      pub drained : OnOk result (0 < bucket_count c → bucket_count d ≢ bucket_count c → AreMovedBeside (bucket_number (settings_of c).skipped (bucket_count d) hash) (range_with_len 0 (bucket_count d)) d)
       -- no two keys are equal
       pub unique : IsUniqueBy eq key d
 
@@ -123,6 +125,8 @@ module _ {E K S X : Type 0} (eq : K → K → Bool) (key : E → K) where
       pub grown : bucket_count d ≢ bucket_count c → bucket_count d ≤ pending_of d + 2
       -- of a larger array the key's bucket and the first ones don't wait, two in all, where none of its buckets is long
       pub spread : OnOk result (bucket_count d ≢ bucket_count c → AreShortAmong (λ f. hash_of (key f)) (bucket_count d) c → pending_targets d ≡ left_after (bucket_number (settings_of c).skipped (bucket_count d) hash) (range_with_len 0 (bucket_count d)))
+      -- of a larger array the key's bucket and the first ones took their entries over
+      pub drained : OnOk result (bucket_count d ≢ bucket_count c → AreMovedBeside (bucket_number (settings_of c).skipped (bucket_count d) hash) (range_with_len 0 (bucket_count d)) d)
       -- the key's bucket doesn't wait
       pub settled : OnOk result (waits_at (waiting_of d) (bucket_number (settings_of c).skipped (bucket_count d) hash) ≡ false)
       -- no two keys are equal
@@ -154,6 +158,8 @@ module _ {E K S X : Type 0} (eq : K → K → Bool) (key : E → K) where
       pub most : OnOk result (count ≤ pending_of d + 2)
       -- the key's bucket and the first ones don't, two in all, where no new bucket is long
       pub spread : OnOk result (AreShortAmong (λ f. hash_of (key f)) count c → pending_targets d ≡ left_after (bucket_number (settings_of c).skipped count hash) (range_with_len 0 count))
+      -- the key's bucket and the first ones took their entries over
+      pub drained : OnOk result (AreMovedBeside (bucket_number (settings_of c).skipped count hash) (range_with_len 0 count) d)
       -- the key's bucket doesn't wait
       pub settled : OnOk result (waits_at (waiting_of d) (bucket_number (settings_of c).skipped count hash) ≡ false)
       -- refused, the parts come back and nothing changed
@@ -187,6 +193,8 @@ module _ {E K S X : Type 0} (eq : K → K → Bool) (key : E → K) where
       pub most : bucket_count d ≢ bucket_count c → bucket_count d ≤ pending_of d + 2
       -- of a larger array the key's bucket and the first ones don't wait, two in all, where none of its buckets is long
       pub spread : OnOk result (bucket_count d ≢ bucket_count c → AreShortAmong (λ f. hash_of (key f)) (bucket_count d) c → pending_targets d ≡ left_after (bucket_number (settings_of c).skipped (bucket_count d) hash) (range_with_len 0 (bucket_count d)))
+      -- of a larger array the key's bucket and the first ones took their entries over
+      pub drained : OnOk result (bucket_count d ≢ bucket_count c → AreMovedBeside (bucket_number (settings_of c).skipped (bucket_count d) hash) (range_with_len 0 (bucket_count d)) d)
       -- the key's bucket doesn't wait
       pub settled : OnOk result (waits_at (waiting_of d) (bucket_number (settings_of c).skipped (bucket_count d) hash) ≡ false)
       -- no two keys are equal

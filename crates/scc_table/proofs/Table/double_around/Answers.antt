@@ -9,9 +9,9 @@ use Rattle.scc_contents.specs.Routing.{bucket_number}
 use Rattle.scc_buckets.proofs.PairSplits.{by_answer}
 use Rattle.scc_buckets.proofs.Powers.{double-array}
 use Rattle.scc_buckets.proofs.Resizes.{regrouped-resizes}
-use Rattle.scc_table.specs.Relocates.{left_after, AreShortBut}
+use Rattle.scc_table.specs.Relocates.{left_after, AreMovedBeside, AreShortBut}
 use Rattle.scc_table.specs.TwoArrays.{pending_targets, waits_at}
-use Rattle.scc_table.proofs.Grown.{but-down, but-left, but-pending, but-short, stands-after, stands-routed}
+use Rattle.scc_table.proofs.Grown.{but-down, but-left, but-moved, but-pending, but-short, stands-after, stands-routed}
 use Rattle.scc_table.proofs.Same.{count-same, entries-same, list-same, pending-same, regrouped-same, unchanged-same}
 use Rattle.scc_table.proofs.Settled.{settled-all}
 use Rattle.scc_table.proofs.Viewed.{count-seen, lists-seen, settings-seen, settled-flags}
@@ -108,6 +108,9 @@ returns-in-Ok g c =
           let all : AreShortBut hash (2 * n) k a = subst (λ z. AreShortBut hash z k a) reg.count short in
           let few = but-short (2 * n) k array.least l m waiting hash a regb all in
           but-left (2 * n) k array.least l m waiting (pending_targets d) (rel.exact few) ∙ ap (λ z. left_after k (range_with_len 0 z)) (sym reg.count));
+      drained = (
+          let waiting = c.note.ensures.waiting ∙ done.waiting in
+          λ ne. subst (λ z. AreMovedBeside k (range_with_len 0 z) d) (sym reg.count) (but-moved (2 * n) k array.least l m waiting d rel.moved));
       unique = (search rules);
     }
 
@@ -182,6 +185,10 @@ returns-in-Err g c =
           let lists = c.note-in-Err.ensures.lists ∙ ap lists_of same in
           let settings = c.note-in-Err.ensures.settings ∙ ap settings_of same in
           let count = count-same a d lists in
+          λ ne. absurd (ne count));
+      drained = (
+          let same : b ≡ a = c.in-Err.ensures.err in
+          let count = count-same a d (c.note-in-Err.ensures.lists ∙ ap lists_of same) in
           λ ne. absurd (ne count));
       unique = (search rules);
     }

@@ -7,7 +7,7 @@ use Rattle.scc_contents.specs.Routing.{bucket_number}
 use Rattle.scc_buckets.proofs.Resizes.{absent-permuted, regrouped-resizes, rests-inserted}
 use Rattle.scc_table.specs.Places.{spot_of}
 use Rattle.scc_table.specs.TwoArrays.{waits_at}
-use Rattle.scc_table.proofs.Grown.{grown-spread}
+use Rattle.scc_table.proofs.Grown.{grown-drained, grown-spread}
 use Rattle.scc_table.proofs.Listed.{count-listed}
 use Rattle.scc_table.proofs.Same.{entries-same, hash-same, pending-same, regrouped-same}
 use Rattle.scc_table.proofs.Table.insert_grown.Goals as goal
@@ -73,6 +73,7 @@ returns g c =
           let n = pending-same c.begin.new.self c.note.new.self c.note.ensures.waiting ∙ c.begin.ensures.pending in
           omega (arith, c.insert_at.ensures.most));
       spread = (grown-spread hash c.args.count a d c.insert_at.new.self c.args.hash c.bucket_at-bucket.result reg (c.note.ensures.waiting ∙ c.begin.ensures.waiting) c.bucket_at-bucket.ensures.value c.in-Ok.ensures.exact);
+      drained = (grown-drained hash c.args.count a d c.insert_at.new.self c.args.hash c.bucket_at-bucket.result reg (c.note.ensures.waiting ∙ c.begin.ensures.waiting) c.bucket_at-bucket.ensures.value c.in-Ok.ensures.moved);
       settled = (
           let i = c.bucket_at-bucket.result in
           let at : i ≡ bucket_number (settings_of a).skipped c.args.count c.args.hash = c.bucket_at-bucket.ensures.value ∙ ap (λ s. bucket_number s.skipped (bucket_count d) c.args.hash) reg.settings ∙ ap (λ n. bucket_number (settings_of a).skipped n c.args.hash) reg.count in

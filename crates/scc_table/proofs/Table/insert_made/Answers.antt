@@ -37,6 +37,7 @@ returns-then-bucket_count-eq0 g c =
       all_but_two = (search rules);
       by_two = (search rules);
       moved = (search rules);
+      drained = (search rules);
       unique = (search rules);
     }
 
@@ -66,6 +67,7 @@ returns-then-pending-gt0 g c =
       moved = (
           let ts = pending_targets c.args.self.now in
           on-ok c.insert_made_at.result (λ h some same. subst (λ i. AreMovedBeside i ts c.insert_made_at.new.self) c.bucket_at-bucket.ensures.value h) c.insert_made_at.ensures.moved);
+      drained = (any-ok c.insert_made_at.result (λ some ne. absurd (ne c.insert_made_at.ensures.buckets)));
       unique = (search rules);
     }
 
@@ -102,6 +104,7 @@ returns-then-list_len-lt32 g c =
           let ts = pending_targets c.args.self.now in
           let f = c.insert_made_at-then-list_len-lt32.new.self in
           on-ok c.insert_made_at-then-list_len-lt32.result (λ h some same. subst (λ i. AreMovedBeside i ts f) c.bucket_at-bucket.ensures.value h) c.insert_made_at-then-list_len-lt32.ensures.moved);
+      drained = (any-ok c.insert_made_at-then-list_len-lt32.result (λ some ne. absurd (ne c.insert_made_at-then-list_len-lt32.ensures.buckets)));
       unique = (search rules);
     }
 
@@ -157,5 +160,6 @@ returns g c =
           (λ some same.
           let left : pending_of f ≡ 0 = let l = c.insert_made_full.ensures.less same in omega arith in
           moved-nothing (bucket_number (settings_of a).skipped (bucket_count a) c.args.hash) a f none left));
+      drained = (on-ok c.insert_made_full.result (λ h some ne. h ne) c.insert_made_full.ensures.drained);
       unique = (search rules);
     }

@@ -2,7 +2,7 @@ use Rattle.std.proofs.Common.{◌≡◌, ◌∙◌, ◌*◌, ℕ, Bool, true, fa
 use Rattle.std.specs.List.{range_with_len}
 use Rattle.scc_contents.specs.Contents.{bucket_count, key_hash, settings_of, waiting_of}
 use Rattle.scc_contents.specs.Routing.{bucket_number}
-use Rattle.scc_table.specs.Relocates.{left_after, AreShortBut}
+use Rattle.scc_table.specs.Relocates.{left_after, AreMovedBeside, AreShortBut}
 use Rattle.scc_table.specs.TwoArrays.{waits_at}
 use Rattle.scc_table.proofs.Grown.{around-inserted, around-short}
 use Rattle.scc_table.proofs.Inserted.{put-count, put-here, put-within}
@@ -111,6 +111,9 @@ returns-in-Ok g c =
           λ ne short.
           let few : AreShortBut hash (bucket_count d) q.bucket m = around-short a i e m p put l hash (bucket_count d) q.bucket (at ∙ ap (bucket_number (settings_of a).skipped (bucket_count d)) c.requires.hashed) short in
           r.spread (λ z. ne (z ∙ counted)) (subst (λ (h : g.row.E-Key.Denot → ℕ). AreShortBut (λ x. h (g.E.Keyed.key_of x)) (bucket_count d) q.bucket m) (sym same) few) ∙ ap (λ z. left_after z (range_with_len 0 (bucket_count d))) at);
+      drained = (
+          let counted = put-count a i e m p put l in
+          λ ne. subst (λ z. AreMovedBeside z (range_with_len 0 (bucket_count d)) d) at (r.drained (λ z. ne (z ∙ counted))));
       settled = (
           let counted = put-count a i e m p put l in
           ap (waits_at (waiting_of d)) (sym at) ∙ r.settled);
@@ -134,6 +137,7 @@ returns-in-Err g c =
       none = (λ same. pending-same c.args.self.now c.note.new.self (c.note.ensures.waiting ∙ c.put_made_in.ensures.waiting) ∙ c.requires.pending);
       most = (λ ne. absurd (ne (count-same c.args.self.now c.note.new.self (c.note.ensures.lists ∙ c.in-Err.ensures.stays.lists))));
       spread = (search rules);
+      drained = (search rules);
       settled = (search rules);
       unique = (search rules);
     }

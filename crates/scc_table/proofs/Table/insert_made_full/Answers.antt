@@ -3,7 +3,7 @@ use Rattle.std.specs.List.{range_with_len}
 use Rattle.scc_contents.specs.Contents.{bucket_count, key_hash, settings_of}
 use Rattle.scc_contents.specs.Routing.{bucket_number}
 use Rattle.scc_buckets.proofs.Powers.{double-array}
-use Rattle.scc_table.specs.Relocates.{left_after, AreShortAmong}
+use Rattle.scc_table.specs.Relocates.{left_after, AreMovedBeside, AreShortAmong}
 use Rattle.scc_table.specs.TwoArrays.{pending_targets, waits_at}
 use Rattle.scc_draining.proofs.Arriving.{any-ok}
 use Rattle.scc_table.proofs.Grown.{on-both}
@@ -42,6 +42,7 @@ returns-then-is_crowded g c =
       less = (λ same. let none = c.insert_made_crowded.ensures.none same in omega arith);
       grown = (search rules);
       spread = (search rules);
+      drained = (search rules);
       settled = (search rules);
       unique = (search rules);
     }
@@ -82,6 +83,15 @@ returns-else-is_crowded g c =
           (λ (e : bucket_count f ≡ n) (h : AreShortAmong hash n a → pending_targets f ≡ left_after (bucket_number s n c.args.hash) (range_with_len 0 n)) ne short.
           subst (λ m. pending_targets f ≡ left_after (bucket_number s m c.args.hash) (range_with_len 0 m)) (sym e) (h (subst (λ m. AreShortAmong hash m a) e short)))
           c.insert_made_with.ensures.buckets c.insert_made_with.ensures.spread);
+      drained = (
+          let a = c.args.self.now in
+          let f = c.insert_made_with.new.self in
+          let n = 2 * c.bucket_count-count.result in
+          let s = (settings_of a).skipped in
+          on-both c.insert_made_with.result
+          (λ (e : bucket_count f ≡ n) (h : AreMovedBeside (bucket_number s n c.args.hash) (range_with_len 0 n) f) ne.
+          subst (λ m. AreMovedBeside (bucket_number s m c.args.hash) (range_with_len 0 m) f) (sym e) h)
+          c.insert_made_with.ensures.buckets c.insert_made_with.ensures.drained);
       settled = (search rules);
       unique = (search rules);
     }
@@ -102,6 +112,7 @@ returns-then-length-count g c =
       less = (search rules);
       grown = (search rules);
       spread = (any-ok c.insert_made_at.result (λ ne. absurd (ne c.insert_made_at.ensures.buckets)));
+      drained = (any-ok c.insert_made_at.result (λ ne. absurd (ne c.insert_made_at.ensures.buckets)));
       settled = (search rules);
       unique = (search rules);
     }

@@ -13,9 +13,9 @@ on_ok : {A B P Q : Type 0} (r : Result A B) → (P → Q) → OnOk r P → OnOk 
 on_ok (Ok a) f p = f p
 on_ok (Err b) f p = tt
 
-both_ok : {A B P Q R : Type 0} (r : Result A B) → (P → Q → R) → OnOk r P → OnOk r Q → OnOk r R
-both_ok (Ok a) f p q = f p q
-both_ok (Err b) f p q = tt
+all_ok : {A B P Q R T U : Type 0} (r : Result A B) → (P → Q → R → T → U) → OnOk r P → OnOk r Q → OnOk r R → OnOk r T → OnOk r U
+all_ok (Ok a) f p q s t = f p q s t
+all_ok (Err b) f p q s t = tt
 
 on_err : {A B : Type 0} (P : B → Type 0) (Q : Type 0) (r : Result A B) → IfErr r (λ b. P b × Q) → IfErr r P × OnErr r Q
 on_err P Q (Ok a) h = (tt, tt)
@@ -36,7 +36,10 @@ returns g c =
       first = (rw (← c.self.view_is) c.insert_made.ensures.first);
       relocates = (rw (← c.self.view_is) record { fewer = c.insert_made.ensures.fewer; less = c.insert_made.ensures.less; most = c.insert_made.ensures.most; grown = c.insert_made.ensures.grown; array = c.insert_made.ensures.array });
       two = (
+          let own = rw (← c.self.view_is) at c.requires.hashed in
           rw (← c.self.view_is)
-          (both_ok c.insert_made.result (λ settled exact. subst (λ h. RelocatesTwo h c.self.inside.table c.insert_made.new.self) (rw (← c.self.view_is) at c.requires.hashed) record { settled = settled; exact = exact }) c.insert_made.ensures.settled c.insert_made.ensures.exact));
+          (all_ok c.insert_made.result
+          (λ settled exact moved drained. subst (λ h. RelocatesTwo h c.self.inside.table c.insert_made.new.self) own record { settled = settled; exact = exact; moved = moved; drained = drained })
+          c.insert_made.ensures.settled c.insert_made.ensures.exact c.insert_made.ensures.moved c.insert_made.ensures.drained));
       unique = (search rules);
     }
