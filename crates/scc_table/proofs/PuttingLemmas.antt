@@ -13,7 +13,7 @@ use Rattle.scc_buckets.specs.declared.place.Place.{Place}
 use Rattle.scc_buckets.proofs.Inserts.{unique-inserted}
 use Rattle.scc_buckets.proofs.PairSplits.{by_answer}
 use Rattle.scc_draining.specs.Moves.{AreMultiples, AreOwn}
-use Rattle.scc_table.specs.TwoArrays.{IsTable, owed_in, joined, target_by, together, TwoArrays, waits_at}
+use Rattle.scc_table.specs.TwoArrays.{Draining, IsTable, owed_in, joined, target_by, together, TwoArrays, waits_at}
 use Rattle.scc_table.proofs.Alone.{spilled-together}
 use Rattle.scc_table.proofs.Inserted.{absent-sub, count-sub, count-whole, one-sub, put-count, put-permuted}
 use Rattle.scc_table.proofs.Joining.{owed-together, lists-together, refused-together, settings-together}
@@ -128,14 +128,14 @@ module _ {E K S : Type 0} (key : E → K) (hash : K → ℕ) (c : Contents E S) 
     }
 
 -- of all fields then
-pub fields-put : {E K S : Type 0} (eq : K → K → Bool) (laws : IsEquivalence eq) (key : E → K) (hash : K → ℕ) (c : Contents E S) (ws : List Bool) (olds : List (Shelf E)) (skipped pending next left aside : ℕ) (inv : IsTable eq key hash c ws olds skipped pending next left aside) (d : Contents E S)
-    → together (λ e. hash (key e)) c ws olds ≡ d → (e : E) (i : ℕ) (b : Contents E S) (p : Place) → IsPutIn c i e b p → i < bucket_count c → waits_at ws i ≡ false → spilled_of b + aside < 2 ^ 62 → position (λ x. eq (key e) (key x)) (entries d) ≡ None
-    → IsTable eq key hash b ws olds skipped pending next left aside
-fields-put {E} eq laws key hash c ws olds skipped pending next left aside inv d view e i b p put l down few absent =
-    let there = put-together key hash c ws olds inv.arrays d view e i b p put l down in
-    let within : i < bucket_count d = omega (arith, count-seen (λ x. hash (key x)) c ws olds d view inv.arrays.flags) in
+pub fields-put : {E K S : Type 0} (eq : K → K → Bool) (laws : IsEquivalence eq) (key : E → K) (hash : K → ℕ) (c : Contents E S) (drain : Draining E) (skipped : ℕ) (inv : IsTable eq key hash c drain skipped) (d : Contents E S)
+    → together (λ e. hash (key e)) c drain.waiting drain.array ≡ d → (e : E) (i : ℕ) (b : Contents E S) (p : Place) → IsPutIn c i e b p → i < bucket_count c → waits_at drain.waiting i ≡ false → spilled_of b + drain.left_overflow < 2 ^ 62 → position (λ x. eq (key e) (key x)) (entries d) ≡ None
+    → IsTable eq key hash b drain skipped
+fields-put {E} eq laws key hash c drain skipped inv d view e i b p put l down few absent =
+    let there = put-together key hash c drain.waiting drain.array inv.arrays d view e i b p put l down in
+    let within : i < bucket_count d = omega (arith, count-seen (λ x. hash (key x)) c drain.waiting drain.array d view inv.arrays.flags) in
     record {
-      arrays = arrays-put key hash c ws olds inv.arrays d view e i b p put l down;
+      arrays = arrays-put key hash c drain.waiting drain.array inv.arrays d view e i b p put l down;
       skips = inv.skips ∙ ap (λ s. s.skipped) (sym put.settings);
       few_bits = inv.few_bits;
       counted = inv.counted;
@@ -145,7 +145,7 @@ fields-put {E} eq laws key hash c ws olds skipped pending next left aside inv d 
       left_is = inv.left_is;
       overflow_is = inv.overflow_is;
       few = few;
-      unique = unique-inserted laws key e (entries d) (entries (together (λ x. hash (key x)) b ws olds)) (subst (λ z. IsDistinct eq (map key (entries z))) view inv.unique) absent (put-permuted d i e (together (λ x. hash (key x)) b ws olds) p there within);
+      unique = unique-inserted laws key e (entries d) (entries (together (λ x. hash (key x)) b drain.waiting drain.array)) (subst (λ z. IsDistinct eq (map key (entries z))) view inv.unique) absent (put-permuted d i e (together (λ x. hash (key x)) b drain.waiting drain.array) p there within);
     }
 
 -- where nothing was put in

@@ -53,7 +53,7 @@ where
         requires absent { position (λ e. E.Key.eq (E.key_of (E.made_of parts)) (E.key_of e)) (entries self.old) ≡ None }
         ensures { InsertsMadeFirst E.Key.eq E.key_of self.old (E.made_of parts) parts result self.new }
     {
-        self.left_overflow = 0;
+        self.draining.left_overflow = 0;
         let placed = self.current.insert_made_first(hash, parts);
         let _few = self.current.overflow_len();
         placed
@@ -213,10 +213,10 @@ where
             self.new }
     {
         self.current.keep_lists();
-        if self.left_overflow > 0 {
+        if self.draining.left_overflow > 0 {
             let listed = self.current.list_len(bucket);
             let spilled = self.current.overflow_len();
-            if is_overflow_full(listed, spilled, self.left_overflow) {
+            if is_overflow_full(listed, spilled, self.draining.left_overflow) {
                 return Err(parts);
             }
         }

@@ -21,7 +21,7 @@ where
         ensures unique { IsUniqueBy E.Key.eq E.key_of self.now }
     {
         let _ = self.current.bucket_count();
-        self.current.len() + self.left
+        self.current.len() + self.draining.left
     }
 
     /// The entry at the place.
@@ -34,7 +34,9 @@ where
         if place.bucket < count {
             return self.current.entry_in(place);
         }
-        self.draining.entry_at(place.bucket - count, place.slot)
+        self.draining
+            .array
+            .entry_at(place.bucket - count, place.slot)
     }
 
     /// The hash of a key under the table's hasher.
@@ -71,9 +73,9 @@ where
     {
         if self.is_waiting(bucket) {
             let count = self.current.bucket_count();
-            let (first, last) = sources(self.draining.len(), count, bucket);
+            let (first, last) = sources(self.draining.array.len(), count, bucket);
             return count_all(
-                &self.draining,
+                &self.draining.array,
                 first,
                 last,
                 bucket,

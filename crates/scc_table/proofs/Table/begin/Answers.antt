@@ -35,8 +35,8 @@ pub destroy_empty-requires : goal.destroy_empty-requires
 destroy_empty-requires g c =
     let t = c.self.inside in
     let none = settled-flags c.args.self.now c.self.invariant c.self.view_is c.requires.settled in
-    let bare = nothing-owed _ t.current t.waiting.items t.draining none c.self.invariant.arrays in
-    λ i l. rw c.replace-bare.ensures.value (all-bare t.draining bare i)
+    let bare = nothing-owed _ t.current t.draining.waiting.items t.draining.array none c.self.invariant.arrays in
+    λ i l. rw c.replace-bare.ensures.value (all-bare t.draining.array bare i)
 
 pub invariant_of-self : goal.invariant_of-self
 invariant_of-self g c =
@@ -56,16 +56,16 @@ invariant_of-self g c =
     let were = c.exchange-old.ensures.were in
     let now : lists_of d ≡ map shelf_entries (replicate n empty_shelf) = c.exchange-old.ensures.lists ∙ ap (λ (z : List (Shelf g.row.E.Denot)). map shelf_entries z) c.requires.empty in
     let counted : bucket_count d ≡ n = count-were d (replicate n empty_shelf) now ∙ length-replicate n (empty_shelf {E = g.row.E.Denot}) in
-    let long : bucket_count c.args.self.now ≡ length olds = count-seen hash cur t.waiting.items t.draining c.args.self.now c.self.view_is inv.arrays.flags ∙ count-were cur olds were in
+    let long : bucket_count c.args.self.now ≡ length olds = count-seen hash cur t.draining.waiting.items t.draining.array c.args.self.now c.self.view_is inv.arrays.flags ∙ count-were cur olds were in
     let table : IsBuckets hash (settings_of d).skipped olds left over = subst (λ s. IsBuckets hash s.skipped olds left over) (sym settings) c.exchange-old.ensures.table in
     let was : IsArray (length olds) = elim c.exchange-old.ensures.table.sized [ inl z ↦ absurd (omega (arith, c.requires.some)) | inr z ↦ z ] in
     let differ : n ≢ length olds = λ z. c.requires.other (z ∙ sym long) in
-    let all : entries (together hash cur t.waiting.items t.draining) ≡ flat_map shelf_entries olds = entries-alone hash cur t.waiting.items t.draining none ∙ entries-were cur olds were in
+    let all : entries (together hash cur t.draining.waiting.items t.draining.array) ≡ flat_map shelf_entries olds = entries-alone hash cur t.draining.waiting.items t.draining.array none ∙ entries-were cur olds were in
     let unique = subst (λ es. IsDistinct g.E.Key.PartialEq.eq (map g.E.Keyed.key_of es)) all inv.unique in
     let nothing : spilled_of d ≡ 0 = c.exchange-old.ensures.spilled in
     let skips : t.skipped ≡ (settings_of d).skipped = inv.skips ∙ ap (λ s. s.skipped) (sym settings) in
     rw (c.replace-bare.ensures.after, c.requires.flags)
-    (subst (λ (h : g.row.E-Key.Denot → ℕ). IsTable g.E.Key.PartialEq.eq g.E.Keyed.key_of h d (replicate n true) olds t.skipped n 0 left over) (sym same)
+    (subst (λ (h : g.row.E-Key.Denot → ℕ). IsTable g.E.Key.PartialEq.eq g.E.Keyed.key_of h d (record { array = olds; waiting = replicate n true; pending = n; next = 0; left = left; left_overflow = over }) t.skipped) (sym same)
     (started-fields g.E.Key.PartialEq.eq g.met.E.Key.Eq.laws g.E.Keyed.key_of hk d n olds counted now t.skipped left over table was c.requires.array differ skips inv.few_bits nothing unique))
 
 pub returns : goal.returns
@@ -88,12 +88,12 @@ returns g c =
           let none = settled-flags c.args.self.now inv c.self.view_is c.requires.settled in
           let now : lists_of d ≡ map shelf_entries (replicate n empty_shelf) = c.exchange-old.ensures.lists ∙ ap (λ (z : List (Shelf g.row.E.Denot)). map shelf_entries z) c.requires.empty in
           let counted : bucket_count d ≡ n = count-were d (replicate n empty_shelf) now ∙ length-replicate n (empty_shelf {E = g.row.E.Denot}) in
-          let long : bucket_count c.args.self.now ≡ length olds = count-seen hash cur t.waiting.items t.draining c.args.self.now c.self.view_is inv.arrays.flags ∙ count-were cur olds were in
+          let long : bucket_count c.args.self.now ≡ length olds = count-seen hash cur t.draining.waiting.items t.draining.array c.args.self.now c.self.view_is inv.arrays.flags ∙ count-were cur olds were in
           let table : IsBuckets hash (settings_of d).skipped olds left over = subst (λ s. IsBuckets hash s.skipped olds left over) (sym settings) c.exchange-old.ensures.table in
           let was : IsArray (length olds) = elim c.exchange-old.ensures.table.sized [ inl z ↦ absurd (omega (arith, c.requires.some)) | inr z ↦ z ] in
           let differ : n ≢ length olds = λ z. c.requires.other (z ∙ sym long) in
-          let all : entries c.args.self.now ≡ flat_map shelf_entries olds = ap entries (sym c.self.view_is) ∙ entries-alone hash cur t.waiting.items t.draining none ∙ entries-were cur olds were in
-          let kept = settings-seen hash cur t.waiting.items t.draining c.args.self.now c.self.view_is in
+          let all : entries c.args.self.now ≡ flat_map shelf_entries olds = ap entries (sym c.self.view_is) ∙ entries-alone hash cur t.draining.waiting.items t.draining.array none ∙ entries-were cur olds were in
+          let kept = settings-seen hash cur t.draining.waiting.items t.draining.array c.args.self.now c.self.view_is in
           let outer = hash-same g.H.BuildHasher g.H.Hasher.Hasher g.E.Key.Hash.hash_input cur c.args.self.now kept in
           let regrouped = started-lists hash d n olds counted now left over table was c.requires.array differ c.args.self.now all (settings ∙ sym kept) in
           rw (c.replace-bare.ensures.after, c.requires.flags)
@@ -104,20 +104,20 @@ returns g c =
           let none = settled-flags c.args.self.now inv c.self.view_is c.requires.settled in
           let now : lists_of d ≡ map shelf_entries (replicate n empty_shelf) = c.exchange-old.ensures.lists ∙ ap (λ (z : List (Shelf g.row.E.Denot)). map shelf_entries z) c.requires.empty in
           let counted : bucket_count d ≡ n = count-were d (replicate n empty_shelf) now ∙ length-replicate n (empty_shelf {E = g.row.E.Denot}) in
-          let long : bucket_count c.args.self.now ≡ length olds = count-seen hash cur t.waiting.items t.draining c.args.self.now c.self.view_is inv.arrays.flags ∙ count-were cur olds were in
+          let long : bucket_count c.args.self.now ≡ length olds = count-seen hash cur t.draining.waiting.items t.draining.array c.args.self.now c.self.view_is inv.arrays.flags ∙ count-were cur olds were in
           let table : IsBuckets hash (settings_of d).skipped olds left over = subst (λ s. IsBuckets hash s.skipped olds left over) (sym settings) c.exchange-old.ensures.table in
           let was : IsArray (length olds) = elim c.exchange-old.ensures.table.sized [ inl z ↦ absurd (omega (arith, c.requires.some)) | inr z ↦ z ] in
           let differ : n ≢ length olds = λ z. c.requires.other (z ∙ sym long) in
-          let all : entries c.args.self.now ≡ flat_map shelf_entries olds = ap entries (sym c.self.view_is) ∙ entries-alone hash cur t.waiting.items t.draining none ∙ entries-were cur olds were in
+          let all : entries c.args.self.now ≡ flat_map shelf_entries olds = ap entries (sym c.self.view_is) ∙ entries-alone hash cur t.draining.waiting.items t.draining.array none ∙ entries-were cur olds were in
           let some : 0 < n = let a = c.requires.array.least in omega arith in
           let permuted = permuted-all hash d n olds counted now some in
           rw (c.replace-bare.ensures.after, c.requires.flags, all)
           (subst (λ (h : g.row.E-Key.Denot → ℕ). IsPermutation (flat_map shelf_entries olds) (entries (together (λ e. h (g.E.Keyed.key_of e)) d (replicate n true) olds))) (sym same) permuted));
       waiting = (waiting-together _ c.exchange-old.new.self c.args.flags.items c.replace-bare.new.dest ∙ c.requires.flags);
       pending = (pending-together _ c.exchange-old.new.self c.args.flags.items c.replace-bare.new.dest ∙ ap (count_by (λ w. w)) c.requires.flags ∙ count-up c.args.count);
-      noted = (refused-together _ c.exchange-old.new.self c.args.flags.items c.replace-bare.new.dest ∙ c.exchange-old.ensures.noted ∙ sym (refused-seen _ t.current t.waiting.items t.draining c.args.self.now c.self.view_is));
+      noted = (refused-together _ c.exchange-old.new.self c.args.flags.items c.replace-bare.new.dest ∙ c.exchange-old.ensures.noted ∙ sym (refused-seen _ t.current t.draining.waiting.items t.draining.array c.args.self.now c.self.view_is));
       bounded = (
-          let was = spilled-seen (λ (e : g.row.E.Denot). key_hash g.H.BuildHasher g.H.Hasher.Hasher g.E.Key.Hash.hash_input cur (g.E.Keyed.key_of e)) cur t.waiting.items t.draining c.args.self.now c.self.view_is in
+          let was = spilled-seen (λ (e : g.row.E.Denot). key_hash g.H.BuildHasher g.H.Hasher.Hasher g.E.Key.Hash.hash_input cur (g.E.Keyed.key_of e)) cur t.draining.waiting.items t.draining.array c.args.self.now c.self.view_is in
           let nothing : spilled_of d ≡ 0 = c.exchange-old.ensures.spilled in
           let over : spilled_in olds ≡ spilled_of cur = sym c.exchange-old.ensures.table.spilled ∙ c.exchange-old.ensures.overflowing in
           let now : spilled_in c.replace-bare.new.dest ≡ spilled_in olds = ap (λ (z : List (Shelf g.row.E.Denot)). spilled_in z) c.replace-bare.ensures.after in

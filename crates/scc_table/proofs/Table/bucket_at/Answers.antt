@@ -9,8 +9,8 @@ returns-clause-value g c =
     let t = c.self.inside in
     let hk = key_hash g.H.BuildHasher g.H.Hasher.Hasher g.E.Key.Hash.hash_input t.current in
     let hash = λ (e : g.row.E.Denot). hk (g.E.Keyed.key_of e) in
-    let set = settings-seen hash t.current t.waiting.items t.draining c.args.self.now c.self.view_is in
-    let count = count-seen hash t.current t.waiting.items t.draining c.args.self.now c.self.view_is c.self.invariant.arrays in
+    let set = settings-seen hash t.current t.draining.waiting.items t.draining.array c.args.self.now c.self.view_is in
+    let count = count-seen hash t.current t.draining.waiting.items t.draining.array c.args.self.now c.self.view_is c.self.invariant.arrays in
     c.bucket_at.ensures.value ∙ ap (λ s. bucket_number s.skipped (bucket_count t.current) c.args.hash) set ∙ ap (λ n. bucket_number (settings_of c.args.self.now).skipped n c.args.hash) count
 
 pub returns-clause-within : goal.returns-clause-within
@@ -18,5 +18,5 @@ returns-clause-within g c =
     let t = c.self.inside in
     let hk = key_hash g.H.BuildHasher g.H.Hasher.Hasher g.E.Key.Hash.hash_input t.current in
     let hash = λ (e : g.row.E.Denot). hk (g.E.Keyed.key_of e) in
-    let count = count-seen hash t.current t.waiting.items t.draining c.args.self.now c.self.view_is c.self.invariant.arrays in
+    let count = count-seen hash t.current t.draining.waiting.items t.draining.array c.args.self.now c.self.view_is c.self.invariant.arrays in
     λ some. let l = c.bucket_at.ensures.within (omega arith) in omega arith

@@ -18,14 +18,14 @@ pub index-requires : goal.index-requires
 index-requires g c =
     let t = c.self.inside in
     let cur = t.current in
-    let ws = t.waiting.items in
-    let olds = t.draining in
+    let ws = t.draining.waiting.items in
+    let olds = t.draining.array in
     let inv = c.self.invariant in
     let hk = key_hash g.H.BuildHasher g.H.Hasher.Hasher g.E.Key.Hash.hash_input cur in
     let hash = λ (e : g.row.E.Denot). hk (g.E.Keyed.key_of e) in
     let counted = ap pending_of (sym c.self.view_is) ∙ pending-together hash cur ws olds in
-    let some : 0 < t.pending = omega (arith, counted, inv.counted, c.requires.pending) in
-    let long = flags-length cur ws t.pending inv.arrays.flags inv.counted some in
+    let some : 0 < t.draining.pending = omega (arith, counted, inv.counted, c.requires.pending) in
+    let long = flags-length cur ws t.draining.pending inv.arrays.flags inv.counted some in
     let most = count_by-le-length (λ w. w) ws in
     let i = c.bucket_at-bucket.result in
     let within : i < bucket_count cur = let l = c.bucket_at-bucket.ensures.within (omega (arith, inv.counted)) in omega arith in
@@ -36,14 +36,14 @@ pub find-requires-clause-bucket : goal.find-requires-clause-bucket
 find-requires-clause-bucket g c =
     let t = c.self.inside in
     let cur = t.current in
-    let ws = t.waiting.items in
-    let olds = t.draining in
+    let ws = t.draining.waiting.items in
+    let olds = t.draining.array in
     let inv = c.self.invariant in
     let hk = key_hash g.H.BuildHasher g.H.Hasher.Hasher g.E.Key.Hash.hash_input cur in
     let hash = λ (e : g.row.E.Denot). hk (g.E.Keyed.key_of e) in
     let counted = ap pending_of (sym c.self.view_is) ∙ pending-together hash cur ws olds in
-    let some : 0 < t.pending = omega (arith, counted, inv.counted, c.requires.pending) in
-    let long = flags-length cur ws t.pending inv.arrays.flags inv.counted some in
+    let some : 0 < t.draining.pending = omega (arith, counted, inv.counted, c.requires.pending) in
+    let long = flags-length cur ws t.draining.pending inv.arrays.flags inv.counted some in
     let most = count_by-le-length (λ w. w) ws in
     let i = c.bucket_at-bucket.result in
     let within : i < bucket_count cur = let l = c.bucket_at-bucket.ensures.within (omega (arith, inv.counted)) in omega arith in
@@ -59,8 +59,8 @@ pub find-requires-clause-tagged : goal.find-requires-clause-tagged
 find-requires-clause-tagged g c =
     let t = c.self.inside in
     let cur = t.current in
-    let ws = t.waiting.items in
-    let olds = t.draining in
+    let ws = t.draining.waiting.items in
+    let olds = t.draining.array in
     let inv = c.self.invariant in
     let now = c.args.self.now in
     let hk = key_hash g.H.BuildHasher g.H.Hasher.Hasher g.E.Key.Hash.hash_input cur in
@@ -70,8 +70,8 @@ find-requires-clause-tagged g c =
     let hashed = c.requires.hashed ∙ ap (λ s. hash_of g.H.BuildHasher g.H.Hasher.Hasher s.hasher (g.E.Key.Hash.hash_input c.args.key.now)) (sym set) in
     let same : HashOf passes hash c.args.hash = record { same = λ e w. sym (hashed ∙ ap (hash_of g.H.BuildHasher g.H.Hasher.Hasher (settings_of cur).hasher) (g.met.E.Key.Hash.respects_eq c.args.key.now (g.E.Keyed.key_of e) w)) } in
     let counted = ap pending_of (sym c.self.view_is) ∙ pending-together hash cur ws olds in
-    let some : 0 < t.pending = omega (arith, counted, inv.counted, c.requires.pending) in
-    let long = flags-length cur ws t.pending inv.arrays.flags inv.counted some in
+    let some : 0 < t.draining.pending = omega (arith, counted, inv.counted, c.requires.pending) in
+    let long = flags-length cur ws t.draining.pending inv.arrays.flags inv.counted some in
     let most = count_by-le-length (λ w. w) ws in
     let i = c.bucket_at-bucket.result in
     let within : i < bucket_count cur = let l = c.bucket_at-bucket.ensures.within (omega (arith, inv.counted)) in omega arith in
@@ -87,8 +87,8 @@ pub returns-then-index : goal.returns-then-index
 returns-then-index g c =
     let t = c.self.inside in
     let cur = t.current in
-    let ws = t.waiting.items in
-    let olds = t.draining in
+    let ws = t.draining.waiting.items in
+    let olds = t.draining.array in
     let inv = c.self.invariant in
     let now = c.args.self.now in
     let hk = key_hash g.H.BuildHasher g.H.Hasher.Hasher g.E.Key.Hash.hash_input cur in
@@ -98,8 +98,8 @@ returns-then-index g c =
     let hashed = c.requires.hashed ∙ ap (λ s. hash_of g.H.BuildHasher g.H.Hasher.Hasher s.hasher (g.E.Key.Hash.hash_input c.args.key.now)) (sym set) in
     let same : HashOf passes hash c.args.hash = record { same = λ e w. sym (hashed ∙ ap (hash_of g.H.BuildHasher g.H.Hasher.Hasher (settings_of cur).hasher) (g.met.E.Key.Hash.respects_eq c.args.key.now (g.E.Keyed.key_of e) w)) } in
     let counted = ap pending_of (sym c.self.view_is) ∙ pending-together hash cur ws olds in
-    let some : 0 < t.pending = omega (arith, counted, inv.counted, c.requires.pending) in
-    let long = flags-length cur ws t.pending inv.arrays.flags inv.counted some in
+    let some : 0 < t.draining.pending = omega (arith, counted, inv.counted, c.requires.pending) in
+    let long = flags-length cur ws t.draining.pending inv.arrays.flags inv.counted some in
     let most = count_by-le-length (λ w. w) ws in
     let i = c.bucket_at-bucket.result in
     let within : i < bucket_count cur = let l = c.bucket_at-bucket.ensures.within (omega (arith, inv.counted)) in omega arith in
@@ -117,9 +117,8 @@ pub find-requires-2 : goal.find-requires-2
 find-requires-2 g c =
     let t = c.self.inside in
     let cur = t.current in
-    let ws = t.waiting.items in
-    let olds = t.draining in
-    let inv = c.self.invariant in
+    let ws = t.draining.waiting.items in
+    let olds = t.draining.array in
     let now = c.args.self.now in
     let hk = key_hash g.H.BuildHasher g.H.Hasher.Hasher g.E.Key.Hash.hash_input cur in
     let hash = λ (e : g.row.E.Denot). hk (g.E.Keyed.key_of e) in
@@ -130,8 +129,8 @@ pub returns : goal.returns
 returns g c =
     let t = c.self.inside in
     let cur = t.current in
-    let ws = t.waiting.items in
-    let olds = t.draining in
+    let ws = t.draining.waiting.items in
+    let olds = t.draining.array in
     let inv = c.self.invariant in
     let now = c.args.self.now in
     let hk = key_hash g.H.BuildHasher g.H.Hasher.Hasher g.E.Key.Hash.hash_input cur in
@@ -141,8 +140,8 @@ returns g c =
     let hashed = c.requires.hashed ∙ ap (λ s. hash_of g.H.BuildHasher g.H.Hasher.Hasher s.hasher (g.E.Key.Hash.hash_input c.args.key.now)) (sym set) in
     let same : HashOf passes hash c.args.hash = record { same = λ e w. sym (hashed ∙ ap (hash_of g.H.BuildHasher g.H.Hasher.Hasher (settings_of cur).hasher) (g.met.E.Key.Hash.respects_eq c.args.key.now (g.E.Keyed.key_of e) w)) } in
     let counted = ap pending_of (sym c.self.view_is) ∙ pending-together hash cur ws olds in
-    let some : 0 < t.pending = omega (arith, counted, inv.counted, c.requires.pending) in
-    let long = flags-length cur ws t.pending inv.arrays.flags inv.counted some in
+    let some : 0 < t.draining.pending = omega (arith, counted, inv.counted, c.requires.pending) in
+    let long = flags-length cur ws t.draining.pending inv.arrays.flags inv.counted some in
     let most = count_by-le-length (λ w. w) ws in
     let i = c.bucket_at-bucket.result in
     let within : i < bucket_count cur = let l = c.bucket_at-bucket.ensures.within (omega (arith, inv.counted)) in omega arith in

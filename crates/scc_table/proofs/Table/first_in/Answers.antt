@@ -19,8 +19,8 @@ pub sources-first-requires-clause-some : goal.sources-first-requires-clause-some
 sources-first-requires-clause-some g c =
     let t = c.self.inside in
     let cur = t.current in
-    let ws = t.waiting.items in
-    let olds = t.draining in
+    let ws = t.draining.waiting.items in
+    let olds = t.draining.array in
     let inv = c.self.invariant in
     let now = c.args.self.now in
     let hk = key_hash g.H.BuildHasher g.H.Hasher.Hasher g.E.Key.Hash.hash_input cur in
@@ -36,8 +36,8 @@ pub sources-first-requires-clause-target : goal.sources-first-requires-clause-ta
 sources-first-requires-clause-target g c =
     let t = c.self.inside in
     let cur = t.current in
-    let ws = t.waiting.items in
-    let olds = t.draining in
+    let ws = t.draining.waiting.items in
+    let olds = t.draining.array in
     let inv = c.self.invariant in
     let now = c.args.self.now in
     let hk = key_hash g.H.BuildHasher g.H.Hasher.Hasher g.E.Key.Hash.hash_input cur in
@@ -53,8 +53,8 @@ pub sources-first-requires-clause-multiples : goal.sources-first-requires-clause
 sources-first-requires-clause-multiples g c =
     let t = c.self.inside in
     let cur = t.current in
-    let ws = t.waiting.items in
-    let olds = t.draining in
+    let ws = t.draining.waiting.items in
+    let olds = t.draining.array in
     let inv = c.self.invariant in
     let now = c.args.self.now in
     let hk = key_hash g.H.BuildHasher g.H.Hasher.Hasher g.E.Key.Hash.hash_input cur in
@@ -62,16 +62,14 @@ sources-first-requires-clause-multiples g c =
     let flags = waiting-seen hash cur ws olds now c.self.view_is in
     let i = c.args.bucket in
     let up : waits_at ws i ≡ true = ap (λ w. waits_at w i) (sym flags) ∙ c.is_waiting.ensures.0 c.if-is_waiting.true in
-    let array = sized-flags cur ws olds i inv.arrays.sized up in
-    let within : i < bucket_count cur = omega (arith, up-within ws i up, long-flags cur ws i inv.arrays.flags up) in
     rw (c.len.ensures.count, c.bucket_count.ensures.count) (multiple-flags cur ws olds i inv.arrays.multiples up)
 
 pub returns-then-first-len : goal.returns-then-first-len
 returns-then-first-len g c =
     let t = c.self.inside in
     let cur = t.current in
-    let ws = t.waiting.items in
-    let olds = t.draining in
+    let ws = t.draining.waiting.items in
+    let olds = t.draining.array in
     let inv = c.self.invariant in
     let now = c.args.self.now in
     let hk = key_hash g.H.BuildHasher g.H.Hasher.Hasher g.E.Key.Hash.hash_input cur in
@@ -91,8 +89,8 @@ pub old_place-requires-clause-source : goal.old_place-requires-clause-source
 old_place-requires-clause-source g c =
     let t = c.self.inside in
     let cur = t.current in
-    let ws = t.waiting.items in
-    let olds = t.draining in
+    let ws = t.draining.waiting.items in
+    let olds = t.draining.array in
     let inv = c.self.invariant in
     let now = c.args.self.now in
     let hk = key_hash g.H.BuildHasher g.H.Hasher.Hasher g.E.Key.Hash.hash_input cur in
@@ -110,8 +108,8 @@ pub returns-then-is_waiting : goal.returns-then-is_waiting
 returns-then-is_waiting g c =
     let t = c.self.inside in
     let cur = t.current in
-    let ws = t.waiting.items in
-    let olds = t.draining in
+    let ws = t.draining.waiting.items in
+    let olds = t.draining.array in
     let inv = c.self.invariant in
     let now = c.args.self.now in
     let hk = key_hash g.H.BuildHasher g.H.Hasher.Hasher g.E.Key.Hash.hash_input cur in
@@ -133,8 +131,8 @@ pub list_len-requires : goal.list_len-requires
 list_len-requires g c =
     let t = c.self.inside in
     let cur = t.current in
-    let ws = t.waiting.items in
-    let olds = t.draining in
+    let ws = t.draining.waiting.items in
+    let olds = t.draining.array in
     let inv = c.self.invariant in
     let now = c.args.self.now in
     let hk = key_hash g.H.BuildHasher g.H.Hasher.Hasher g.E.Key.Hash.hash_input cur in
@@ -146,8 +144,8 @@ pub returns-then-list_len-eq0 : goal.returns-then-list_len-eq0
 returns-then-list_len-eq0 g c =
     let t = c.self.inside in
     let cur = t.current in
-    let ws = t.waiting.items in
-    let olds = t.draining in
+    let ws = t.draining.waiting.items in
+    let olds = t.draining.array in
     let inv = c.self.invariant in
     let now = c.args.self.now in
     let hk = key_hash g.H.BuildHasher g.H.Hasher.Hasher g.E.Key.Hash.hash_input cur in
@@ -164,8 +162,8 @@ pub returns : goal.returns
 returns g c =
     let t = c.self.inside in
     let cur = t.current in
-    let ws = t.waiting.items in
-    let olds = t.draining in
+    let ws = t.draining.waiting.items in
+    let olds = t.draining.array in
     let inv = c.self.invariant in
     let now = c.args.self.now in
     let hk = key_hash g.H.BuildHasher g.H.Hasher.Hasher g.E.Key.Hash.hash_input cur in

@@ -40,7 +40,6 @@ unreachable-requires g c =
     let i = c.bucket_at-bucket.result in
     let at : i ≡ bucket_number (settings_of a).skipped c.args.count c.args.hash = c.bucket_at-bucket.ensures.value ∙ ap (λ s. bucket_number s.skipped (bucket_count d) c.args.hash) reg.settings ∙ ap (λ n. bucket_number (settings_of a).skipped n c.args.hash) reg.count in
     let k = g.E.Keyed.key_of c.args.entry in
-    let ha = key_hash g.H.BuildHasher g.H.Hasher.Hasher g.E.Key.Hash.hash_input a in
     let hd = key_hash g.H.BuildHasher g.H.Hasher.Hasher g.E.Key.Hash.hash_input d in
     let s = (settings_of d).skipped in
     let n = bucket_count d in

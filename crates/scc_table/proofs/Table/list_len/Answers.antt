@@ -17,8 +17,8 @@ pub sources-first-requires-clause-some : goal.sources-first-requires-clause-some
 sources-first-requires-clause-some g c =
     let t = c.self.inside in
     let cur = t.current in
-    let ws = t.waiting.items in
-    let olds = t.draining in
+    let ws = t.draining.waiting.items in
+    let olds = t.draining.array in
     let inv = c.self.invariant in
     let now = c.args.self.now in
     let hk = key_hash g.H.BuildHasher g.H.Hasher.Hasher g.E.Key.Hash.hash_input cur in
@@ -34,8 +34,8 @@ pub sources-first-requires-clause-target : goal.sources-first-requires-clause-ta
 sources-first-requires-clause-target g c =
     let t = c.self.inside in
     let cur = t.current in
-    let ws = t.waiting.items in
-    let olds = t.draining in
+    let ws = t.draining.waiting.items in
+    let olds = t.draining.array in
     let inv = c.self.invariant in
     let now = c.args.self.now in
     let hk = key_hash g.H.BuildHasher g.H.Hasher.Hasher g.E.Key.Hash.hash_input cur in
@@ -51,8 +51,8 @@ pub sources-first-requires-clause-multiples : goal.sources-first-requires-clause
 sources-first-requires-clause-multiples g c =
     let t = c.self.inside in
     let cur = t.current in
-    let ws = t.waiting.items in
-    let olds = t.draining in
+    let ws = t.draining.waiting.items in
+    let olds = t.draining.array in
     let inv = c.self.invariant in
     let now = c.args.self.now in
     let hk = key_hash g.H.BuildHasher g.H.Hasher.Hasher g.E.Key.Hash.hash_input cur in
@@ -60,25 +60,17 @@ sources-first-requires-clause-multiples g c =
     let flags = waiting-seen hash cur ws olds now c.self.view_is in
     let i = c.args.bucket in
     let up : waits_at ws i ≡ true = ap (λ w. waits_at w i) (sym flags) ∙ c.is_waiting.ensures.0 c.if-is_waiting.true in
-    let array = sized-flags cur ws olds i inv.arrays.sized up in
-    let within : i < bucket_count cur = omega (arith, up-within ws i up, long-flags cur ws i inv.arrays.flags up) in
     rw (c.len.ensures.count, c.bucket_count-count.ensures.count) (multiple-flags cur ws olds i inv.arrays.multiples up)
 
 pub count_all-requires-clause-sources : goal.count_all-requires-clause-sources
 count_all-requires-clause-sources g c =
     let t = c.self.inside in
     let cur = t.current in
-    let ws = t.waiting.items in
-    let olds = t.draining in
+    let olds = t.draining.array in
     let inv = c.self.invariant in
-    let now = c.args.self.now in
     let hk = key_hash g.H.BuildHasher g.H.Hasher.Hasher g.E.Key.Hash.hash_input cur in
     let hash = λ (e : g.row.E.Denot). hk (g.E.Keyed.key_of e) in
-    let flags = waiting-seen hash cur ws olds now c.self.view_is in
     let i = c.args.bucket in
-    let up : waits_at ws i ≡ true = ap (λ w. waits_at w i) (sym flags) ∙ c.is_waiting.ensures.0 c.if-is_waiting.true in
-    let array = sized-flags cur ws olds i inv.arrays.sized up in
-    let within : i < bucket_count cur = omega (arith, up-within ws i up, long-flags cur ws i inv.arrays.flags up) in
     let only = rw (c.len.ensures.count, c.bucket_count-count.ensures.count) at c.sources-first.ensures.only in
     let end = rw c.len.ensures.count at c.sources-first.ensures.within in
     let sources = within-sources hash (settings_of cur).skipped (bucket_count cur) i c.sources-first.result.0 c.sources-first.result.1 olds inv.arrays.own c.sources-first.ensures.order end only in
@@ -86,27 +78,15 @@ count_all-requires-clause-sources g c =
 
 pub count_all-requires-clause-own : goal.count_all-requires-clause-own
 count_all-requires-clause-own g c =
-    let t = c.self.inside in
-    let cur = t.current in
-    let ws = t.waiting.items in
-    let olds = t.draining in
     let inv = c.self.invariant in
-    let now = c.args.self.now in
-    let hk = key_hash g.H.BuildHasher g.H.Hasher.Hasher g.E.Key.Hash.hash_input cur in
-    let hash = λ (e : g.row.E.Denot). hk (g.E.Keyed.key_of e) in
-    let flags = waiting-seen hash cur ws olds now c.self.view_is in
-    let i = c.args.bucket in
-    let up : waits_at ws i ≡ true = ap (λ w. waits_at w i) (sym flags) ∙ c.is_waiting.ensures.0 c.if-is_waiting.true in
-    let array = sized-flags cur ws olds i inv.arrays.sized up in
-    let within : i < bucket_count cur = omega (arith, up-within ws i up, long-flags cur ws i inv.arrays.flags up) in
     rw inv.skips inv.arrays.own
 
 pub count_all-requires-clause-most : goal.count_all-requires-clause-most
 count_all-requires-clause-most g c =
     let t = c.self.inside in
     let cur = t.current in
-    let ws = t.waiting.items in
-    let olds = t.draining in
+    let ws = t.draining.waiting.items in
+    let olds = t.draining.array in
     let inv = c.self.invariant in
     let now = c.args.self.now in
     let hk = key_hash g.H.BuildHasher g.H.Hasher.Hasher g.E.Key.Hash.hash_input cur in
@@ -124,8 +104,8 @@ pub returns-then-is_waiting : goal.returns-then-is_waiting
 returns-then-is_waiting g c =
     let t = c.self.inside in
     let cur = t.current in
-    let ws = t.waiting.items in
-    let olds = t.draining in
+    let ws = t.draining.waiting.items in
+    let olds = t.draining.array in
     let inv = c.self.invariant in
     let now = c.args.self.now in
     let hk = key_hash g.H.BuildHasher g.H.Hasher.Hasher g.E.Key.Hash.hash_input cur in
@@ -133,8 +113,6 @@ returns-then-is_waiting g c =
     let flags = waiting-seen hash cur ws olds now c.self.view_is in
     let i = c.args.bucket in
     let up : waits_at ws i ≡ true = ap (λ w. waits_at w i) (sym flags) ∙ c.is_waiting.ensures.0 c.if-is_waiting.true in
-    let array = sized-flags cur ws olds i inv.arrays.sized up in
-    let within : i < bucket_count cur = omega (arith, up-within ws i up, long-flags cur ws i inv.arrays.flags up) in
     let es = flat_map shelf_entries olds in
     let all = waiting-list hash cur ws olds inv.arrays i up (long-flags cur ws i inv.arrays.flags up) in
     c.count_all.ensures ∙ ap (λ s. length (bound_for hash s c.bucket_count-count.result i es)) inv.skips ∙ ap (λ n. length (bound_for hash (settings_of cur).skipped n i es)) c.bucket_count-count.ensures.count ∙ ap length (sym all)
@@ -144,8 +122,8 @@ pub list_len-requires : goal.list_len-requires
 list_len-requires g c =
     let t = c.self.inside in
     let cur = t.current in
-    let ws = t.waiting.items in
-    let olds = t.draining in
+    let ws = t.draining.waiting.items in
+    let olds = t.draining.array in
     let inv = c.self.invariant in
     let now = c.args.self.now in
     let hk = key_hash g.H.BuildHasher g.H.Hasher.Hasher g.E.Key.Hash.hash_input cur in
@@ -157,8 +135,8 @@ pub returns : goal.returns
 returns g c =
     let t = c.self.inside in
     let cur = t.current in
-    let ws = t.waiting.items in
-    let olds = t.draining in
+    let ws = t.draining.waiting.items in
+    let olds = t.draining.array in
     let inv = c.self.invariant in
     let now = c.args.self.now in
     let hk = key_hash g.H.BuildHasher g.H.Hasher.Hasher g.E.Key.Hash.hash_input cur in

@@ -16,8 +16,8 @@ pub sources-end-requires-clause-some : goal.sources-end-requires-clause-some
 sources-end-requires-clause-some g c =
     let t = c.self.inside in
     let cur = t.current in
-    let ws = t.waiting.items in
-    let olds = t.draining in
+    let ws = t.draining.waiting.items in
+    let olds = t.draining.array in
     let inv = c.self.invariant in
     let now = c.args.self.now in
     let hk = key_hash g.H.BuildHasher g.H.Hasher.Hasher g.E.Key.Hash.hash_input cur in
@@ -33,8 +33,8 @@ pub sources-end-requires-clause-target : goal.sources-end-requires-clause-target
 sources-end-requires-clause-target g c =
     let t = c.self.inside in
     let cur = t.current in
-    let ws = t.waiting.items in
-    let olds = t.draining in
+    let ws = t.draining.waiting.items in
+    let olds = t.draining.array in
     let inv = c.self.invariant in
     let now = c.args.self.now in
     let hk = key_hash g.H.BuildHasher g.H.Hasher.Hasher g.E.Key.Hash.hash_input cur in
@@ -50,8 +50,8 @@ pub sources-end-requires-clause-multiples : goal.sources-end-requires-clause-mul
 sources-end-requires-clause-multiples g c =
     let t = c.self.inside in
     let cur = t.current in
-    let ws = t.waiting.items in
-    let olds = t.draining in
+    let ws = t.draining.waiting.items in
+    let olds = t.draining.array in
     let inv = c.self.invariant in
     let now = c.args.self.now in
     let hk = key_hash g.H.BuildHasher g.H.Hasher.Hasher g.E.Key.Hash.hash_input cur in
@@ -59,16 +59,14 @@ sources-end-requires-clause-multiples g c =
     let flags = waiting-seen hash cur ws olds now c.self.view_is in
     let i = c.args.target in
     let up : waits_at ws i ≡ true = ap (λ w. waits_at w i) (sym flags) ∙ c.requires.waits in
-    let array = sized-flags cur ws olds i inv.arrays.sized up in
-    let within : i < bucket_count cur = omega (arith, up-within ws i up, long-flags cur ws i inv.arrays.flags up) in
     rw (c.len.ensures.count, c.bucket_count-count.ensures.count) (multiple-flags cur ws olds i inv.arrays.multiples up)
 
 pub end_past-last-requires : goal.end_past-last-requires
 end_past-last-requires g c =
     let t = c.self.inside in
     let cur = t.current in
-    let ws = t.waiting.items in
-    let olds = t.draining in
+    let ws = t.draining.waiting.items in
+    let olds = t.draining.array in
     let inv = c.self.invariant in
     let now = c.args.self.now in
     let hk = key_hash g.H.BuildHasher g.H.Hasher.Hasher g.E.Key.Hash.hash_input cur in
@@ -85,8 +83,8 @@ pub spot_from-requires-clause-within : goal.spot_from-requires-clause-within
 spot_from-requires-clause-within g c =
     let t = c.self.inside in
     let cur = t.current in
-    let ws = t.waiting.items in
-    let olds = t.draining in
+    let ws = t.draining.waiting.items in
+    let olds = t.draining.array in
     let inv = c.self.invariant in
     let now = c.args.self.now in
     let hk = key_hash g.H.BuildHasher g.H.Hasher.Hasher g.E.Key.Hash.hash_input cur in
@@ -101,15 +99,14 @@ spot_from-requires-clause-within g c =
     let end = rw c.len.ensures.count at c.sources-end.ensures.within in
     let sources = within-sources hash (settings_of cur).skipped (bucket_count cur) i c.sources-end.result.0 c.sources-end.result.1 olds inv.arrays.own c.sources-end.ensures.order end only in
     let past : c.end_past-last.result ≤ length olds = elim c.end_past-last.ensures.one [ inl e ↦ omega (arith, e, end) | inr e ↦ omega (arith, e, few) ] in
-    let more = sources-more hash (settings_of cur).skipped (bucket_count cur) i c.sources-end.result.0 c.sources-end.result.1 c.end_past-last.result olds sources c.end_past-last.ensures.least past in
     past
 
 pub returns-in-Some : goal.returns-in-Some
 returns-in-Some g c =
     let t = c.self.inside in
     let cur = t.current in
-    let ws = t.waiting.items in
-    let olds = t.draining in
+    let ws = t.draining.waiting.items in
+    let olds = t.draining.array in
     let inv = c.self.invariant in
     let now = c.args.self.now in
     let hk = key_hash g.H.BuildHasher g.H.Hasher.Hasher g.E.Key.Hash.hash_input cur in
@@ -129,8 +126,8 @@ pub returns-in-None : goal.returns-in-None
 returns-in-None g c =
     let t = c.self.inside in
     let cur = t.current in
-    let ws = t.waiting.items in
-    let olds = t.draining in
+    let ws = t.draining.waiting.items in
+    let olds = t.draining.array in
     let inv = c.self.invariant in
     let now = c.args.self.now in
     let hk = key_hash g.H.BuildHasher g.H.Hasher.Hasher g.E.Key.Hash.hash_input cur in

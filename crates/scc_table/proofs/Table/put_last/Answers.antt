@@ -5,7 +5,7 @@ use Rattle.scc_contents.specs.Contents.{Contents, bucket_count, entries, owed_of
 use Rattle.scc_contents.specs.Hashing.{hash_of}
 use Rattle.scc_contents.specs.Routing.{bucket_number}
 use Rattle.scc_buckets.proofs.FindingLemmas.{HashOf}
-use Rattle.scc_table.specs.TwoArrays.{together, waits_at, IsTable}
+use Rattle.scc_table.specs.TwoArrays.{draining_of, together, waits_at, IsTable}
 use Rattle.scc_table.proofs.CurrentChanges.{own-fields, own-owed, own-list}
 use Rattle.scc_table.proofs.Joining.{settings-together, waiting-together}
 use Rattle.scc_table.proofs.Listing.{absent-list, own-bounded, own-listed, own-puts_last, puts-list, unique-puts}
@@ -17,8 +17,8 @@ pub put_last-requires-clause-within : goal.put_last-requires-clause-within
 put_last-requires-clause-within g c =
     let t = c.self.inside in
     let cur = t.current in
-    let ws = t.waiting.items in
-    let olds = t.draining in
+    let ws = t.draining.waiting.items in
+    let olds = t.draining.array in
     let inv = c.self.invariant in
     let hk = key_hash g.H.BuildHasher g.H.Hasher.Hasher g.E.Key.Hash.hash_input cur in
     let key = g.E.Keyed.key_of in
@@ -34,8 +34,8 @@ pub put_last-requires-clause-routed : goal.put_last-requires-clause-routed
 put_last-requires-clause-routed g c =
     let t = c.self.inside in
     let cur = t.current in
-    let ws = t.waiting.items in
-    let olds = t.draining in
+    let ws = t.draining.waiting.items in
+    let olds = t.draining.array in
     let inv = c.self.invariant in
     let hk = key_hash g.H.BuildHasher g.H.Hasher.Hasher g.E.Key.Hash.hash_input cur in
     let key = g.E.Keyed.key_of in
@@ -51,8 +51,8 @@ pub put_last-requires-clause-hashed : goal.put_last-requires-clause-hashed
 put_last-requires-clause-hashed g c =
     let t = c.self.inside in
     let cur = t.current in
-    let ws = t.waiting.items in
-    let olds = t.draining in
+    let ws = t.draining.waiting.items in
+    let olds = t.draining.array in
     let hk = key_hash g.H.BuildHasher g.H.Hasher.Hasher g.E.Key.Hash.hash_input cur in
     let key = g.E.Keyed.key_of in
     let view = c.self.view_is in
@@ -66,8 +66,8 @@ pub put_last-requires-clause-absent : goal.put_last-requires-clause-absent
 put_last-requires-clause-absent g c =
     let t = c.self.inside in
     let cur = t.current in
-    let ws = t.waiting.items in
-    let olds = t.draining in
+    let ws = t.draining.waiting.items in
+    let olds = t.draining.array in
     let inv = c.self.invariant in
     let hk = key_hash g.H.BuildHasher g.H.Hasher.Hasher g.E.Key.Hash.hash_input cur in
     let key = g.E.Keyed.key_of in
@@ -92,8 +92,8 @@ pub put_last-requires-clause-bounded : goal.put_last-requires-clause-bounded
 put_last-requires-clause-bounded g c =
     let t = c.self.inside in
     let cur = t.current in
-    let ws = t.waiting.items in
-    let olds = t.draining in
+    let ws = t.draining.waiting.items in
+    let olds = t.draining.array in
     let hk = key_hash g.H.BuildHasher g.H.Hasher.Hasher g.E.Key.Hash.hash_input cur in
     let key = g.E.Keyed.key_of in
     let view = c.self.view_is in
@@ -110,8 +110,8 @@ pub invariant_of-self : goal.invariant_of-self
 invariant_of-self g c =
     let t = c.self.inside in
     let cur = t.current in
-    let ws = t.waiting.items in
-    let olds = t.draining in
+    let ws = t.draining.waiting.items in
+    let olds = t.draining.array in
     let inv = c.self.invariant in
     let hk = key_hash g.H.BuildHasher g.H.Hasher.Hasher g.E.Key.Hash.hash_input cur in
     let key = g.E.Keyed.key_of in
@@ -134,18 +134,18 @@ invariant_of-self g c =
     let v = together hash d ws olds in
     let first = own-puts_last hash cur d ws olds i down bounded c.args.entry c.put_last.result c.put_last.ensures.step in
     let low : spilled_of d ≡ 0 = changed.bounded in
-    let few : spilled_of d + t.left_overflow < 2 ^ 62 = let f = inv.few in omega arith in
+    let few : spilled_of d + t.draining.left_overflow < 2 ^ 62 = let f = inv.few in omega arith in
     let inside : i < bucket_count u = let n = ap bucket_count view in let q = c.requires.within in omega arith in
-    subst (λ (h : g.row.E-Key.Denot → ℕ). IsTable g.E.Key.PartialEq.eq key h d ws olds t.skipped t.pending t.next t.left t.left_overflow) (sym same)
-    (own-fields g.E.Key.PartialEq.eq key hk cur d i changes.0 changed.lists stay ws olds down t.skipped t.pending t.next t.left t.left_overflow inv few
+    subst (λ (h : g.row.E-Key.Denot → ℕ). IsTable g.E.Key.PartialEq.eq key h d (draining_of t.draining) t.skipped) (sym same)
+    (own-fields g.E.Key.PartialEq.eq key hk cur d i changes.0 changed.lists stay (draining_of t.draining) down t.skipped inv few
     (unique-puts laws key u v i inside inv.unique c.args.entry c.put_last.result first absent))
 
 pub returns : goal.returns
 returns g c =
     let t = c.self.inside in
     let cur = t.current in
-    let ws = t.waiting.items in
-    let olds = t.draining in
+    let ws = t.draining.waiting.items in
+    let olds = t.draining.array in
     let hk = key_hash g.H.BuildHasher g.H.Hasher.Hasher g.E.Key.Hash.hash_input cur in
     let key = g.E.Keyed.key_of in
     let view = c.self.view_is in

@@ -5,7 +5,7 @@ use Rattle.scc_array.specs.Shelf.{shelf_entries}
 use Rattle.scc_contents.specs.Contents.{bucket_count, key_hash, list_of, settings_of, spilled_of, waiting_of}
 use Rattle.scc_buckets.specs.Tables.{spilled_in}
 use Rattle.scc_contents.specs.Hashing.{hash_of}
-use Rattle.scc_table.specs.TwoArrays.{waits_at, together, IsTable, IsRelocated}
+use Rattle.scc_table.specs.TwoArrays.{draining_of, waits_at, together, IsTable, IsRelocated}
 use Rattle.scc_table.proofs.Joining.{waiting-together}
 use Rattle.scc_table.proofs.Preparing.{unique-before, waiting-list, long-flags, multiple-flags, sized-flags}
 use Rattle.scc_draining.proofs.Counted.{bound-le}
@@ -20,8 +20,8 @@ pub take-requires-clause-target : goal.take-requires-clause-target
 take-requires-clause-target g c =
     let t = c.self.inside in
     let cur = t.current in
-    let ws = t.waiting.items in
-    let olds = t.draining in
+    let ws = t.draining.waiting.items in
+    let olds = t.draining.array in
     let i = c.args.bucket in
     let inv = c.self.invariant in
     let hk = key_hash g.H.BuildHasher g.H.Hasher.Hasher g.E.Key.Hash.hash_input cur in
@@ -37,25 +37,22 @@ pub take-requires-clause-bare : goal.take-requires-clause-bare
 take-requires-clause-bare g c =
     let t = c.self.inside in
     let cur = t.current in
-    let ws = t.waiting.items in
-    let olds = t.draining in
+    let ws = t.draining.waiting.items in
+    let olds = t.draining.array in
     let i = c.args.bucket in
     let inv = c.self.invariant in
     let hk = key_hash g.H.BuildHasher g.H.Hasher.Hasher g.E.Key.Hash.hash_input cur in
     let hash = λ (e : g.row.E.Denot). hk (g.E.Keyed.key_of e) in
     let flags : waiting_of c.args.self.now ≡ ws = ap waiting_of (sym c.self.view_is) ∙ waiting-together hash cur ws olds in
     let up : waits_at ws i ≡ true = ap (λ w. waits_at w i) (sym flags) ∙ c.requires in
-    let l = up-within ws i up in
-    let long = long-flags cur ws i inv.arrays.flags up in
-    let within : i < bucket_count cur = omega (arith, l, long) in
     inv.arrays.bare i up
 
 pub take-requires-clause-sized : goal.take-requires-clause-sized
 take-requires-clause-sized g c =
     let t = c.self.inside in
     let cur = t.current in
-    let ws = t.waiting.items in
-    let olds = t.draining in
+    let ws = t.draining.waiting.items in
+    let olds = t.draining.array in
     let i = c.args.bucket in
     let inv = c.self.invariant in
     let hk = key_hash g.H.BuildHasher g.H.Hasher.Hasher g.E.Key.Hash.hash_input cur in
@@ -68,8 +65,8 @@ pub take-requires-clause-multiples : goal.take-requires-clause-multiples
 take-requires-clause-multiples g c =
     let t = c.self.inside in
     let cur = t.current in
-    let ws = t.waiting.items in
-    let olds = t.draining in
+    let ws = t.draining.waiting.items in
+    let olds = t.draining.array in
     let i = c.args.bucket in
     let inv = c.self.invariant in
     let hk = key_hash g.H.BuildHasher g.H.Hasher.Hasher g.E.Key.Hash.hash_input cur in
@@ -80,61 +77,35 @@ take-requires-clause-multiples g c =
 
 pub take-requires-clause-own : goal.take-requires-clause-own
 take-requires-clause-own g c =
-    let t = c.self.inside in
-    let cur = t.current in
-    let ws = t.waiting.items in
-    let olds = t.draining in
-    let i = c.args.bucket in
     let inv = c.self.invariant in
-    let hk = key_hash g.H.BuildHasher g.H.Hasher.Hasher g.E.Key.Hash.hash_input cur in
-    let hash = λ (e : g.row.E.Denot). hk (g.E.Keyed.key_of e) in
-    let flags : waiting_of c.args.self.now ≡ ws = ap waiting_of (sym c.self.view_is) ∙ waiting-together hash cur ws olds in
-    let up : waits_at ws i ≡ true = ap (λ w. waits_at w i) (sym flags) ∙ c.requires in
-    let l = up-within ws i up in
-    let long = long-flags cur ws i inv.arrays.flags up in
-    let within : i < bucket_count cur = omega (arith, l, long) in
     rw inv.skips inv.arrays.own
 
 pub take-requires-clause-unique : goal.take-requires-clause-unique
 take-requires-clause-unique g c =
     let t = c.self.inside in
     let cur = t.current in
-    let ws = t.waiting.items in
-    let olds = t.draining in
+    let ws = t.draining.waiting.items in
+    let olds = t.draining.array in
     let i = c.args.bucket in
     let inv = c.self.invariant in
     let hk = key_hash g.H.BuildHasher g.H.Hasher.Hasher g.E.Key.Hash.hash_input cur in
     let hash = λ (e : g.row.E.Denot). hk (g.E.Keyed.key_of e) in
     let flags : waiting_of c.args.self.now ≡ ws = ap waiting_of (sym c.self.view_is) ∙ waiting-together hash cur ws olds in
     let up : waits_at ws i ≡ true = ap (λ w. waits_at w i) (sym flags) ∙ c.requires in
-    let l = up-within ws i up in
     let long = long-flags cur ws i inv.arrays.flags up in
-    let within : i < bucket_count cur = omega (arith, l, long) in
     rw inv.skips (unique-before hash cur ws olds inv.arrays i up long g.E.Key.PartialEq.eq g.E.Keyed.key_of inv.unique)
 
 pub invariant_of-self-in-Err : goal.invariant_of-self-in-Err
 invariant_of-self-in-Err g c =
-    let t = c.self.inside in
-    let cur = t.current in
-    let ws = t.waiting.items in
-    let olds = t.draining in
-    let i = c.args.bucket in
     let inv = c.self.invariant in
-    let hk = key_hash g.H.BuildHasher g.H.Hasher.Hasher g.E.Key.Hash.hash_input cur in
-    let hash = λ (e : g.row.E.Denot). hk (g.E.Keyed.key_of e) in
-    let flags : waiting_of c.args.self.now ≡ ws = ap waiting_of (sym c.self.view_is) ∙ waiting-together hash cur ws olds in
-    let up : waits_at ws i ≡ true = ap (λ w. waits_at w i) (sym flags) ∙ c.requires in
-    let l = up-within ws i up in
-    let long = long-flags cur ws i inv.arrays.flags up in
-    let within : i < bucket_count cur = omega (arith, l, long) in
     rw (c.in-Err.ensures.err, c.in-Err.ensures.stays) inv
 
 pub overflow_sub-self : goal.overflow_sub-self
 overflow_sub-self g c =
     let t = c.self.inside in
     let cur = t.current in
-    let ws = t.waiting.items in
-    let olds = t.draining in
+    let ws = t.draining.waiting.items in
+    let olds = t.draining.array in
     let i = c.args.bucket in
     let inv = c.self.invariant in
     let hk = key_hash g.H.BuildHasher g.H.Hasher.Hasher g.E.Key.Hash.hash_input cur in
@@ -153,8 +124,8 @@ pub overflow_sub-self-in-Ok : goal.overflow_sub-self-in-Ok
 overflow_sub-self-in-Ok g c =
     let t = c.self.inside in
     let cur = t.current in
-    let ws = t.waiting.items in
-    let olds = t.draining in
+    let ws = t.draining.waiting.items in
+    let olds = t.draining.array in
     let i = c.args.bucket in
     let inv = c.self.invariant in
     let hk = key_hash g.H.BuildHasher g.H.Hasher.Hasher g.E.Key.Hash.hash_input cur in
@@ -171,8 +142,8 @@ pub index_mut-requires : goal.index_mut-requires
 index_mut-requires g c =
     let t = c.self.inside in
     let cur = t.current in
-    let ws = t.waiting.items in
-    let olds = t.draining in
+    let ws = t.draining.waiting.items in
+    let olds = t.draining.array in
     let i = c.args.bucket in
     let inv = c.self.invariant in
     let hk = key_hash g.H.BuildHasher g.H.Hasher.Hasher g.E.Key.Hash.hash_input cur in
@@ -188,8 +159,8 @@ pub destroy_empty-requires : goal.destroy_empty-requires
 destroy_empty-requires g c =
     let t = c.self.inside in
     let cur = t.current in
-    let ws = t.waiting.items in
-    let olds = t.draining in
+    let ws = t.draining.waiting.items in
+    let olds = t.draining.array in
     let i = c.args.bucket in
     let inv = c.self.invariant in
     let hk = key_hash g.H.BuildHasher g.H.Hasher.Hasher g.E.Key.Hash.hash_input cur in
@@ -207,8 +178,8 @@ pub invariant_of-self : goal.invariant_of-self
 invariant_of-self g c =
     let t = c.self.inside in
     let cur = t.current in
-    let ws = t.waiting.items in
-    let olds = t.draining in
+    let ws = t.draining.waiting.items in
+    let olds = t.draining.array in
     let i = c.args.bucket in
     let inv = c.self.invariant in
     let hk = key_hash g.H.BuildHasher g.H.Hasher.Hasher g.E.Key.Hash.hash_input cur in
@@ -223,15 +194,15 @@ invariant_of-self g c =
     let fewer = one-down ws i l up in
     let none : count_by (λ w. w) (set ws i false) ≡ 0 = omega (arith, fewer, inv.counted, c.if-self-eq0.true) in
     rw (c.clear.ensures.items, c.replace-bare.ensures.after, c.none-none.ensures)
-    (subst (λ (h : g.row.E-Key.Denot → ℕ). IsTable g.E.Key.PartialEq.eq g.E.Keyed.key_of h c.take.new.current [] [] t.skipped (t.pending - 1) t.next (t.left - c.in-Ok.moved) 0) (sym same)
-    (fields-last g.E.Key.PartialEq.eq g.E.Keyed.key_of hk i c.in-Ok.moved cur c.take.new.current ws olds c.take.new.old t.skipped t.pending t.next t.left t.left_overflow inv up takes none c.in-Ok.ensures.few))
+    (subst (λ (h : g.row.E-Key.Denot → ℕ). IsTable g.E.Key.PartialEq.eq g.E.Keyed.key_of h c.take.new.current (record (draining_of t.draining) { array = []; waiting = []; pending = t.draining.pending - 1; left = t.draining.left - c.in-Ok.moved; left_overflow = 0 }) t.skipped) (sym same)
+    (fields-last g.E.Key.PartialEq.eq g.E.Keyed.key_of hk i c.in-Ok.moved cur c.take.new.current (draining_of t.draining) c.take.new.old t.skipped inv up takes none c.in-Ok.ensures.few))
 
 pub invariant_of-self-else-self-eq0 : goal.invariant_of-self-else-self-eq0
 invariant_of-self-else-self-eq0 g c =
     let t = c.self.inside in
     let cur = t.current in
-    let ws = t.waiting.items in
-    let olds = t.draining in
+    let ws = t.draining.waiting.items in
+    let olds = t.draining.array in
     let i = c.args.bucket in
     let inv = c.self.invariant in
     let hk = key_hash g.H.BuildHasher g.H.Hasher.Hasher g.E.Key.Hash.hash_input cur in
@@ -245,15 +216,15 @@ invariant_of-self-else-self-eq0 g c =
     let same = ap (λ s. let h : g.row.E-Key.Denot → ℕ = λ k. hash_of g.H.BuildHasher g.H.Hasher.Hasher s.hasher (g.E.Key.Hash.hash_input k) in h) takes.settings in
     let fewer = one-down ws i l up in
     let some : 0 < count_by (λ w. w) (set ws i false) = omega (arith, fewer, inv.counted, c.if-self-eq0.false) in
-    subst (λ (h : g.row.E-Key.Denot → ℕ). IsTable g.E.Key.PartialEq.eq g.E.Keyed.key_of h c.take.new.current (set ws i false) c.take.new.old t.skipped (t.pending - 1) t.next (t.left - c.in-Ok.moved) t.left_overflow) (sym same)
-    (fields-after g.E.Key.PartialEq.eq g.E.Keyed.key_of hk i c.in-Ok.moved cur c.take.new.current ws (set ws i false) olds c.take.new.old t.skipped t.pending t.next t.left t.left_overflow inv up takes refl some c.in-Ok.ensures.few)
+    subst (λ (h : g.row.E-Key.Denot → ℕ). IsTable g.E.Key.PartialEq.eq g.E.Keyed.key_of h c.take.new.current (record (draining_of t.draining) { array = c.take.new.old; waiting = set ws i false; pending = t.draining.pending - 1; left = t.draining.left - c.in-Ok.moved }) t.skipped) (sym same)
+    (fields-after g.E.Key.PartialEq.eq g.E.Keyed.key_of hk i c.in-Ok.moved cur c.take.new.current (draining_of t.draining) (set ws i false) c.take.new.old t.skipped inv up takes refl some c.in-Ok.ensures.few)
 
 pub returns-then-self-eq0-clause-ok : goal.returns-then-self-eq0-clause-ok
 returns-then-self-eq0-clause-ok g c =
     let t = c.self.inside in
     let cur = t.current in
-    let ws = t.waiting.items in
-    let olds = t.draining in
+    let ws = t.draining.waiting.items in
+    let olds = t.draining.array in
     let i = c.args.bucket in
     let inv = c.self.invariant in
     let hk = key_hash g.H.BuildHasher g.H.Hasher.Hasher g.E.Key.Hash.hash_input cur in
@@ -278,8 +249,8 @@ pub returns-else-self-eq0-clause-ok : goal.returns-else-self-eq0-clause-ok
 returns-else-self-eq0-clause-ok g c =
     let t = c.self.inside in
     let cur = t.current in
-    let ws = t.waiting.items in
-    let olds = t.draining in
+    let ws = t.draining.waiting.items in
+    let olds = t.draining.array in
     let i = c.args.bucket in
     let inv = c.self.invariant in
     let hk = key_hash g.H.BuildHasher g.H.Hasher.Hasher g.E.Key.Hash.hash_input cur in
@@ -299,27 +270,14 @@ returns-else-self-eq0-clause-ok g c =
 
 pub returns-in-Err-clause-err : goal.returns-in-Err-clause-err
 returns-in-Err-clause-err g c =
-    let t = c.self.inside in
-    let cur = t.current in
-    let ws = t.waiting.items in
-    let olds = t.draining in
-    let i = c.args.bucket in
-    let inv = c.self.invariant in
-    let hk = key_hash g.H.BuildHasher g.H.Hasher.Hasher g.E.Key.Hash.hash_input cur in
-    let hash = λ (e : g.row.E.Denot). hk (g.E.Keyed.key_of e) in
-    let flags : waiting_of c.args.self.now ≡ ws = ap waiting_of (sym c.self.view_is) ∙ waiting-together hash cur ws olds in
-    let up : waits_at ws i ≡ true = ap (λ w. waits_at w i) (sym flags) ∙ c.requires in
-    let l = up-within ws i up in
-    let long = long-flags cur ws i inv.arrays.flags up in
-    let within : i < bucket_count cur = omega (arith, l, long) in
     rw (c.in-Err.ensures.err, c.in-Err.ensures.stays) c.self.view_is
 
 pub returns-in-Err-clause-refused : goal.returns-in-Err-clause-refused
 returns-in-Err-clause-refused g c =
     let t = c.self.inside in
     let cur = t.current in
-    let ws = t.waiting.items in
-    let olds = t.draining in
+    let ws = t.draining.waiting.items in
+    let olds = t.draining.array in
     let i = c.args.bucket in
     let inv = c.self.invariant in
     let hk = key_hash g.H.BuildHasher g.H.Hasher.Hasher g.E.Key.Hash.hash_input cur in
@@ -338,8 +296,8 @@ pub returns-then-self-eq0-clause-bounded : goal.returns-then-self-eq0-clause-bou
 returns-then-self-eq0-clause-bounded g c =
     let t = c.self.inside in
     let cur = t.current in
-    let ws = t.waiting.items in
-    let olds = t.draining in
+    let ws = t.draining.waiting.items in
+    let olds = t.draining.array in
     let i = c.args.bucket in
     let inv = c.self.invariant in
     let hk = key_hash g.H.BuildHasher g.H.Hasher.Hasher g.E.Key.Hash.hash_input cur in
@@ -361,8 +319,8 @@ pub returns-else-self-eq0-clause-bounded : goal.returns-else-self-eq0-clause-bou
 returns-else-self-eq0-clause-bounded g c =
     let t = c.self.inside in
     let cur = t.current in
-    let ws = t.waiting.items in
-    let olds = t.draining in
+    let ws = t.draining.waiting.items in
+    let olds = t.draining.array in
     let i = c.args.bucket in
     let inv = c.self.invariant in
     let hk = key_hash g.H.BuildHasher g.H.Hasher.Hasher g.E.Key.Hash.hash_input cur in
@@ -384,15 +342,15 @@ returns-else-self-eq0-clause-bounded g c =
 pub returns-in-Err-clause-bounded : goal.returns-in-Err-clause-bounded
 returns-in-Err-clause-bounded g c =
     let t = c.self.inside in
-    let same : together (λ e. key_hash g.H.BuildHasher g.H.Hasher.Hasher g.E.Key.Hash.hash_input c.take.new.current (g.E.Keyed.key_of e)) c.take.new.current t.waiting.items c.take.new.old ≡ c.args.self.now = rw (c.in-Err.ensures.err, c.in-Err.ensures.stays) c.self.view_is in
+    let same : together (λ e. key_hash g.H.BuildHasher g.H.Hasher.Hasher g.E.Key.Hash.hash_input c.take.new.current (g.E.Keyed.key_of e)) c.take.new.current t.draining.waiting.items c.take.new.old ≡ c.args.self.now = rw (c.in-Err.ensures.err, c.in-Err.ensures.stays) c.self.view_is in
     λ none few. ap spilled_of same ∙ none
 
 pub take-requires-clause-flags : goal.take-requires-clause-flags
 take-requires-clause-flags g c =
     let t = c.self.inside in
     let cur = t.current in
-    let ws = t.waiting.items in
-    let olds = t.draining in
+    let ws = t.draining.waiting.items in
+    let olds = t.draining.array in
     let i = c.args.bucket in
     let inv = c.self.invariant in
     let hk = key_hash g.H.BuildHasher g.H.Hasher.Hasher g.E.Key.Hash.hash_input cur in

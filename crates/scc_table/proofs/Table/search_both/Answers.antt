@@ -20,14 +20,14 @@ pub index-requires : goal.index-requires
 index-requires g c =
     let t = c.self.inside in
     let cur = t.current in
-    let ws = t.waiting.items in
-    let olds = t.draining in
+    let ws = t.draining.waiting.items in
+    let olds = t.draining.array in
     let inv = c.self.invariant in
     let hk = key_hash g.H.BuildHasher g.H.Hasher.Hasher g.E.Key.Hash.hash_input cur in
     let hash = λ (e : g.row.E.Denot). hk (g.E.Keyed.key_of e) in
     let counted = ap pending_of (sym c.self.view_is) ∙ pending-together hash cur ws olds in
-    let some : 0 < t.pending = omega (arith, counted, inv.counted, c.requires.pending) in
-    let long = flags-length cur ws t.pending inv.arrays.flags inv.counted some in
+    let some : 0 < t.draining.pending = omega (arith, counted, inv.counted, c.requires.pending) in
+    let long = flags-length cur ws t.draining.pending inv.arrays.flags inv.counted some in
     let most = count_by-le-length (λ w. w) ws in
     let i = c.bucket_at-bucket.result in
     let within : i < bucket_count cur = let l = c.bucket_at-bucket.ensures.within (omega (arith, inv.counted)) in omega arith in
@@ -38,14 +38,14 @@ pub search-requires-clause-bucket : goal.search-requires-clause-bucket
 search-requires-clause-bucket g c =
     let t = c.self.inside in
     let cur = t.current in
-    let ws = t.waiting.items in
-    let olds = t.draining in
+    let ws = t.draining.waiting.items in
+    let olds = t.draining.array in
     let inv = c.self.invariant in
     let hk = key_hash g.H.BuildHasher g.H.Hasher.Hasher g.E.Key.Hash.hash_input cur in
     let hash = λ (e : g.row.E.Denot). hk (g.E.Keyed.key_of e) in
     let counted = ap pending_of (sym c.self.view_is) ∙ pending-together hash cur ws olds in
-    let some : 0 < t.pending = omega (arith, counted, inv.counted, c.requires.pending) in
-    let long = flags-length cur ws t.pending inv.arrays.flags inv.counted some in
+    let some : 0 < t.draining.pending = omega (arith, counted, inv.counted, c.requires.pending) in
+    let long = flags-length cur ws t.draining.pending inv.arrays.flags inv.counted some in
     let most = count_by-le-length (λ w. w) ws in
     let i = c.bucket_at-bucket.result in
     let within : i < bucket_count cur = let l = c.bucket_at-bucket.ensures.within (omega (arith, inv.counted)) in omega arith in
@@ -61,8 +61,8 @@ pub search-requires-clause-tagged : goal.search-requires-clause-tagged
 search-requires-clause-tagged g c =
     let t = c.self.inside in
     let cur = t.current in
-    let ws = t.waiting.items in
-    let olds = t.draining in
+    let ws = t.draining.waiting.items in
+    let olds = t.draining.array in
     let inv = c.self.invariant in
     let now = c.args.self.now in
     let hk = key_hash g.H.BuildHasher g.H.Hasher.Hasher g.E.Key.Hash.hash_input cur in
@@ -72,8 +72,8 @@ search-requires-clause-tagged g c =
     let hashed = c.requires.hashed ∙ ap (λ s. hash_of g.H.BuildHasher g.H.Hasher.Hasher s.hasher (g.E.Key.Hash.hash_input c.args.key.now)) (sym set) in
     let same : HashOf passes hash c.args.hash = record { same = λ e w. sym (hashed ∙ ap (hash_of g.H.BuildHasher g.H.Hasher.Hasher (settings_of cur).hasher) (g.met.E.Key.Hash.respects_eq c.args.key.now (g.E.Keyed.key_of e) w)) } in
     let counted = ap pending_of (sym c.self.view_is) ∙ pending-together hash cur ws olds in
-    let some : 0 < t.pending = omega (arith, counted, inv.counted, c.requires.pending) in
-    let long = flags-length cur ws t.pending inv.arrays.flags inv.counted some in
+    let some : 0 < t.draining.pending = omega (arith, counted, inv.counted, c.requires.pending) in
+    let long = flags-length cur ws t.draining.pending inv.arrays.flags inv.counted some in
     let most = count_by-le-length (λ w. w) ws in
     let i = c.bucket_at-bucket.result in
     let within : i < bucket_count cur = let l = c.bucket_at-bucket.ensures.within (omega (arith, inv.counted)) in omega arith in
@@ -89,8 +89,8 @@ pub returns-in-Some-clause-found : goal.returns-in-Some-clause-found
 returns-in-Some-clause-found g c =
     let t = c.self.inside in
     let cur = t.current in
-    let ws = t.waiting.items in
-    let olds = t.draining in
+    let ws = t.draining.waiting.items in
+    let olds = t.draining.array in
     let inv = c.self.invariant in
     let now = c.args.self.now in
     let hk = key_hash g.H.BuildHasher g.H.Hasher.Hasher g.E.Key.Hash.hash_input cur in
@@ -100,8 +100,8 @@ returns-in-Some-clause-found g c =
     let hashed = c.requires.hashed ∙ ap (λ s. hash_of g.H.BuildHasher g.H.Hasher.Hasher s.hasher (g.E.Key.Hash.hash_input c.args.key.now)) (sym set) in
     let same : HashOf passes hash c.args.hash = record { same = λ e w. sym (hashed ∙ ap (hash_of g.H.BuildHasher g.H.Hasher.Hasher (settings_of cur).hasher) (g.met.E.Key.Hash.respects_eq c.args.key.now (g.E.Keyed.key_of e) w)) } in
     let counted = ap pending_of (sym c.self.view_is) ∙ pending-together hash cur ws olds in
-    let some : 0 < t.pending = omega (arith, counted, inv.counted, c.requires.pending) in
-    let long = flags-length cur ws t.pending inv.arrays.flags inv.counted some in
+    let some : 0 < t.draining.pending = omega (arith, counted, inv.counted, c.requires.pending) in
+    let long = flags-length cur ws t.draining.pending inv.arrays.flags inv.counted some in
     let most = count_by-le-length (λ w. w) ws in
     let i = c.bucket_at-bucket.result in
     let within : i < bucket_count cur = let l = c.bucket_at-bucket.ensures.within (omega (arith, inv.counted)) in omega arith in
@@ -120,8 +120,8 @@ pub returns-in-Some-clause-missed : goal.returns-in-Some-clause-missed
 returns-in-Some-clause-missed g c =
     let t = c.self.inside in
     let cur = t.current in
-    let ws = t.waiting.items in
-    let olds = t.draining in
+    let ws = t.draining.waiting.items in
+    let olds = t.draining.array in
     let inv = c.self.invariant in
     let now = c.args.self.now in
     let hk = key_hash g.H.BuildHasher g.H.Hasher.Hasher g.E.Key.Hash.hash_input cur in
@@ -131,8 +131,8 @@ returns-in-Some-clause-missed g c =
     let hashed = c.requires.hashed ∙ ap (λ s. hash_of g.H.BuildHasher g.H.Hasher.Hasher s.hasher (g.E.Key.Hash.hash_input c.args.key.now)) (sym set) in
     let same : HashOf passes hash c.args.hash = record { same = λ e w. sym (hashed ∙ ap (hash_of g.H.BuildHasher g.H.Hasher.Hasher (settings_of cur).hasher) (g.met.E.Key.Hash.respects_eq c.args.key.now (g.E.Keyed.key_of e) w)) } in
     let counted = ap pending_of (sym c.self.view_is) ∙ pending-together hash cur ws olds in
-    let some : 0 < t.pending = omega (arith, counted, inv.counted, c.requires.pending) in
-    let long = flags-length cur ws t.pending inv.arrays.flags inv.counted some in
+    let some : 0 < t.draining.pending = omega (arith, counted, inv.counted, c.requires.pending) in
+    let long = flags-length cur ws t.draining.pending inv.arrays.flags inv.counted some in
     let most = count_by-le-length (λ w. w) ws in
     let i = c.bucket_at-bucket.result in
     let within : i < bucket_count cur = let l = c.bucket_at-bucket.ensures.within (omega (arith, inv.counted)) in omega arith in
@@ -153,8 +153,8 @@ pub returns-in-None-clause-missed : goal.returns-in-None-clause-missed
 returns-in-None-clause-missed g c =
     let t = c.self.inside in
     let cur = t.current in
-    let ws = t.waiting.items in
-    let olds = t.draining in
+    let ws = t.draining.waiting.items in
+    let olds = t.draining.array in
     let inv = c.self.invariant in
     let now = c.args.self.now in
     let hk = key_hash g.H.BuildHasher g.H.Hasher.Hasher g.E.Key.Hash.hash_input cur in
@@ -164,8 +164,8 @@ returns-in-None-clause-missed g c =
     let hashed = c.requires.hashed ∙ ap (λ s. hash_of g.H.BuildHasher g.H.Hasher.Hasher s.hasher (g.E.Key.Hash.hash_input c.args.key.now)) (sym set) in
     let same : HashOf passes hash c.args.hash = record { same = λ e w. sym (hashed ∙ ap (hash_of g.H.BuildHasher g.H.Hasher.Hasher (settings_of cur).hasher) (g.met.E.Key.Hash.respects_eq c.args.key.now (g.E.Keyed.key_of e) w)) } in
     let counted = ap pending_of (sym c.self.view_is) ∙ pending-together hash cur ws olds in
-    let some : 0 < t.pending = omega (arith, counted, inv.counted, c.requires.pending) in
-    let long = flags-length cur ws t.pending inv.arrays.flags inv.counted some in
+    let some : 0 < t.draining.pending = omega (arith, counted, inv.counted, c.requires.pending) in
+    let long = flags-length cur ws t.draining.pending inv.arrays.flags inv.counted some in
     let most = count_by-le-length (λ w. w) ws in
     let i = c.bucket_at-bucket.result in
     let within : i < bucket_count cur = let l = c.bucket_at-bucket.ensures.within (omega (arith, inv.counted)) in omega arith in
@@ -183,9 +183,8 @@ pub search_place-requires : goal.search_place-requires
 search_place-requires g c =
     let t = c.self.inside in
     let cur = t.current in
-    let ws = t.waiting.items in
-    let olds = t.draining in
-    let inv = c.self.invariant in
+    let ws = t.draining.waiting.items in
+    let olds = t.draining.array in
     let now = c.args.self.now in
     let hk = key_hash g.H.BuildHasher g.H.Hasher.Hasher g.E.Key.Hash.hash_input cur in
     let hash = λ (e : g.row.E.Denot). hk (g.E.Keyed.key_of e) in
@@ -196,8 +195,8 @@ pub returns-in-Some-search_place-clause-found : goal.returns-in-Some-search_plac
 returns-in-Some-search_place-clause-found g c =
     let t = c.self.inside in
     let cur = t.current in
-    let ws = t.waiting.items in
-    let olds = t.draining in
+    let ws = t.draining.waiting.items in
+    let olds = t.draining.array in
     let inv = c.self.invariant in
     let now = c.args.self.now in
     let hk = key_hash g.H.BuildHasher g.H.Hasher.Hasher g.E.Key.Hash.hash_input cur in
@@ -207,8 +206,8 @@ returns-in-Some-search_place-clause-found g c =
     let hashed = c.requires.hashed ∙ ap (λ s. hash_of g.H.BuildHasher g.H.Hasher.Hasher s.hasher (g.E.Key.Hash.hash_input c.args.key.now)) (sym set) in
     let same : HashOf passes hash c.args.hash = record { same = λ e w. sym (hashed ∙ ap (hash_of g.H.BuildHasher g.H.Hasher.Hasher (settings_of cur).hasher) (g.met.E.Key.Hash.respects_eq c.args.key.now (g.E.Keyed.key_of e) w)) } in
     let counted = ap pending_of (sym c.self.view_is) ∙ pending-together hash cur ws olds in
-    let some : 0 < t.pending = omega (arith, counted, inv.counted, c.requires.pending) in
-    let long = flags-length cur ws t.pending inv.arrays.flags inv.counted some in
+    let some : 0 < t.draining.pending = omega (arith, counted, inv.counted, c.requires.pending) in
+    let long = flags-length cur ws t.draining.pending inv.arrays.flags inv.counted some in
     let most = count_by-le-length (λ w. w) ws in
     let i = c.bucket_at-bucket.result in
     let within : i < bucket_count cur = let l = c.bucket_at-bucket.ensures.within (omega (arith, inv.counted)) in omega arith in
@@ -223,8 +222,8 @@ pub returns-in-Some-search_place-clause-missed : goal.returns-in-Some-search_pla
 returns-in-Some-search_place-clause-missed g c =
     let t = c.self.inside in
     let cur = t.current in
-    let ws = t.waiting.items in
-    let olds = t.draining in
+    let ws = t.draining.waiting.items in
+    let olds = t.draining.array in
     let inv = c.self.invariant in
     let now = c.args.self.now in
     let hk = key_hash g.H.BuildHasher g.H.Hasher.Hasher g.E.Key.Hash.hash_input cur in
@@ -234,8 +233,8 @@ returns-in-Some-search_place-clause-missed g c =
     let hashed = c.requires.hashed ∙ ap (λ s. hash_of g.H.BuildHasher g.H.Hasher.Hasher s.hasher (g.E.Key.Hash.hash_input c.args.key.now)) (sym set) in
     let same : HashOf passes hash c.args.hash = record { same = λ e w. sym (hashed ∙ ap (hash_of g.H.BuildHasher g.H.Hasher.Hasher (settings_of cur).hasher) (g.met.E.Key.Hash.respects_eq c.args.key.now (g.E.Keyed.key_of e) w)) } in
     let counted = ap pending_of (sym c.self.view_is) ∙ pending-together hash cur ws olds in
-    let some : 0 < t.pending = omega (arith, counted, inv.counted, c.requires.pending) in
-    let long = flags-length cur ws t.pending inv.arrays.flags inv.counted some in
+    let some : 0 < t.draining.pending = omega (arith, counted, inv.counted, c.requires.pending) in
+    let long = flags-length cur ws t.draining.pending inv.arrays.flags inv.counted some in
     let most = count_by-le-length (λ w. w) ws in
     let i = c.bucket_at-bucket.result in
     let within : i < bucket_count cur = let l = c.bucket_at-bucket.ensures.within (omega (arith, inv.counted)) in omega arith in
@@ -253,8 +252,8 @@ pub returns-in-None-search_place-clause-missed : goal.returns-in-None-search_pla
 returns-in-None-search_place-clause-missed g c =
     let t = c.self.inside in
     let cur = t.current in
-    let ws = t.waiting.items in
-    let olds = t.draining in
+    let ws = t.draining.waiting.items in
+    let olds = t.draining.array in
     let inv = c.self.invariant in
     let now = c.args.self.now in
     let hk = key_hash g.H.BuildHasher g.H.Hasher.Hasher g.E.Key.Hash.hash_input cur in
@@ -264,8 +263,8 @@ returns-in-None-search_place-clause-missed g c =
     let hashed = c.requires.hashed ∙ ap (λ s. hash_of g.H.BuildHasher g.H.Hasher.Hasher s.hasher (g.E.Key.Hash.hash_input c.args.key.now)) (sym set) in
     let same : HashOf passes hash c.args.hash = record { same = λ e w. sym (hashed ∙ ap (hash_of g.H.BuildHasher g.H.Hasher.Hasher (settings_of cur).hasher) (g.met.E.Key.Hash.respects_eq c.args.key.now (g.E.Keyed.key_of e) w)) } in
     let counted = ap pending_of (sym c.self.view_is) ∙ pending-together hash cur ws olds in
-    let some : 0 < t.pending = omega (arith, counted, inv.counted, c.requires.pending) in
-    let long = flags-length cur ws t.pending inv.arrays.flags inv.counted some in
+    let some : 0 < t.draining.pending = omega (arith, counted, inv.counted, c.requires.pending) in
+    let long = flags-length cur ws t.draining.pending inv.arrays.flags inv.counted some in
     let most = count_by-le-length (λ w. w) ws in
     let i = c.bucket_at-bucket.result in
     let within : i < bucket_count cur = let l = c.bucket_at-bucket.ensures.within (omega (arith, inv.counted)) in omega arith in
