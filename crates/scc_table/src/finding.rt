@@ -33,7 +33,6 @@ where
         ensures { option_copied result ≡ find (λ e. E.Key.eq key.now (E.key_of e)) (entries self.now) }
     {
         let bucket = self.current.bucket_at(hash);
-        self.current.keep_lists();
         if self.draining.waiting[bucket] {
             let source = bucket_index(hash, self.skipped, self.draining.array.len());
             return self.draining.array.find(source, key, tag(hash));

@@ -32,7 +32,6 @@ where
         ensures { InsertsNew E.Key.eq E.key_of (key_hash H.BuildHasher H.Hasher.Hasher E.Key.hash_input self.old)
             self.old hash entry result self.new }
     {
-        self.keep_lists();
         if self.draining.pending == 0 && self.bucket_count() > 0 {
             let bucket = self.bucket_at(hash);
             if self.list_len(bucket) < 32 {
@@ -114,7 +113,6 @@ where
         match self.put_in(bucket, hash, entry) {
             Ok(place) => {
                 self.relocate_some(most);
-                self.keep_lists();
                 Ok(place)
             }
             Err(back) => Err(back),

@@ -3,7 +3,7 @@
 #![tactic(auto)]
 
 ghost use Rattle.std.specs.Prelude.{◌≡◌, ◌<◌, ◌≤◌, ◌^◌, ◌↔◌, true, IsTrue};
-ghost use Rattle.scc_contents.specs.Contents.{bucket_count, pending_of, refused_of};
+ghost use Rattle.scc_contents.specs.Contents.{bucket_count, pending_of, refused_of, IsUniqueBy};
 ghost use Rattle.scc_contents.specs.Sizes.{IsLawful};
 ghost use Rattle.scc_table.specs.TwoArrays.{IsWaiting};
 
@@ -89,6 +89,7 @@ where
         ensures count { result ≡ bucket_count self.now }
         ensures most { result ≤ 2 ^ 58 }
         ensures lawful { IsLawful result }
+        ensures unique { IsUniqueBy E.Key.eq E.key_of self.now }
     {
         self.current.bucket_count()
     }

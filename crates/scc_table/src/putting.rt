@@ -30,7 +30,6 @@ where
         ensures { InsertsMade E.Key.eq E.key_of (key_hash H.BuildHasher H.Hasher.Hasher E.Key.hash_input self.old)
             self.old hash (E.made_of parts) parts result self.new }
     {
-        self.keep_lists();
         if self.bucket_count() == 0 {
             return self.insert_made_first(hash, parts);
         }
@@ -186,7 +185,6 @@ where
         match self.put_made_in(bucket, hash, parts) {
             Ok(place) => {
                 self.relocate_some(most);
-                self.keep_lists();
                 Ok(place)
             }
             Err(back) => Err(back),
@@ -212,7 +210,6 @@ where
         ensures { PutsInto E.Key.eq E.key_of self.old bucket (E.made_of parts) parts (Unit {0}) result
             self.new }
     {
-        self.current.keep_lists();
         if self.draining.left_overflow > 0 {
             let listed = self.current.list_len(bucket);
             let spilled = self.current.overflow_len();

@@ -1,6 +1,6 @@
 //! Reads: the entry at a place, the settings, and the number of the bucket of a key.
 ghost use Rattle.std.specs.Prelude.{◌≡◌, ◌≤◌, ◌<◌, ◌^◌, ◌↔◌, length, Some, IsTrue, slice_get};
-ghost use Rattle.scc_contents.specs.Contents.{entries, bucket_count, bucket_of, key_hash, list_of, minimum_of, settings_of, HasRoomBy, IsUniqueBy};
+ghost use Rattle.scc_contents.specs.Contents.{entries, bucket_count, bucket_of, key_hash, list_of, minimum_of, settings_of, HasRoomBy, IsRouted, IsUniqueBy};
 ghost use Rattle.scc_contents.specs.Routing.{bucket_number};
 ghost use Rattle.scc_table.specs.Places.{IsPlace, index_of};
 
@@ -60,6 +60,9 @@ where
     pub fn bucket_at(&self, hash: u64) -> usize
         ensures value { result ≡ bucket_number (settings_of self.now).skipped (bucket_count self.now) hash }
         ensures within { 0 < bucket_count self.now → result < bucket_count self.now }
+        ensures routed { IsRouted (λ e. key_hash H.BuildHasher H.Hasher.Hasher E.Key.hash_input self.now (E.key_of e))
+            self.now }
+        ensures unique { IsUniqueBy E.Key.eq E.key_of self.now }
     {
         self.current.bucket_at(hash)
     }
@@ -96,8 +99,7 @@ where
         if self.bucket_count() == 0 {
             return false;
         }
-        self.keep_lists();
-        self.list_len(self.bucket_index(key)) < 32
+        self.list_len(self.bucket_at(self.hash(key))) < 32
     }
 
     /// The slots that the array keeps at least: those asked for at making, and those reserved.

@@ -62,7 +62,6 @@ where
         };
         let count = self.current.bucket_count();
         let bucket = self.current.bucket_at(hash);
-        self.current.keep_lists();
         if self.draining.waiting[bucket] {
             let source = bucket_index(hash, self.skipped, self.draining.array.len());
             return match self.draining.array.search(source, key, tag(hash)) {

@@ -12,7 +12,7 @@ use Rattle.scc_buckets.proofs.Resizes.{regrouped-resizes}
 use Rattle.scc_table.specs.Relocates.{left_after, AreShortBut}
 use Rattle.scc_table.specs.TwoArrays.{pending_targets, waits_at}
 use Rattle.scc_table.proofs.Grown.{but-down, but-left, but-pending, but-short, stands-after, stands-routed}
-use Rattle.scc_table.proofs.Same.{count-same, entries-same, list-same, pending-same, regrouped-same, unchanged-same}
+use Rattle.scc_table.proofs.Same.{count-same, entries-same, list-same, pending-same, regrouped-same, unchanged-same, unique-same}
 use Rattle.scc_table.proofs.Settled.{settled-all}
 use Rattle.scc_table.proofs.Viewed.{count-seen, lists-seen, settings-seen, settled-flags}
 use Rattle.scc_table.proofs.Table.double_around.Goals as goal
@@ -106,7 +106,7 @@ returns-in-Ok g c =
           let all : AreShortBut hash (2 * n) k a = subst (λ z. AreShortBut hash z k a) reg.count short in
           let few = but-short (2 * n) k array.least l m waiting hash a regb all in
           but-left (2 * n) k array.least l m waiting (pending_targets d) (rel.exact few) ∙ ap (λ z. left_after k (range_with_len 0 z)) (sym reg.count));
-      unique = (search rules);
+      unique = (unique-same b d lists g.E.Key.PartialEq.eq g.E.Keyed.key_of done.unique);
     }
 
 pub returns-in-Err : goal.returns-in-Err

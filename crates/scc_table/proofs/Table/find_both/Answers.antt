@@ -111,7 +111,7 @@ returns-then-index g c =
     let lj : j < length olds = let l = c.bucket_index-source.ensures.within (omega (arith, array.least)) in omega arith in
     let source : j ≡ bucket_number (settings_of cur).skipped (length olds) c.args.hash = c.bucket_index-source.ensures.value ∙ ap (λ s. bucket_number s c.len.result c.args.hash) inv.skips ∙ ap (λ n. bucket_number (settings_of cur).skipped n c.args.hash) len in
     let at = c.bucket_at-bucket.ensures.value in
-    c.find.ensures ∙ sym (find-draining hash cur ws olds inv.arrays c.keep_lists.ensures.routed passes c.args.hash i same at within up j lj source) ∙ ap (λ d. find passes (entries d)) c.self.view_is
+    c.find.ensures ∙ sym (find-draining hash cur ws olds inv.arrays c.bucket_at-bucket.ensures.routed passes c.args.hash i same at within up j lj source) ∙ ap (λ d. find passes (entries d)) c.self.view_is
 
 pub find-requires-2 : goal.find-requires-2
 find-requires-2 g c =
@@ -148,4 +148,4 @@ returns g c =
     let here : c.index.result.now ≡ waits_at ws i = get_or_read ws i c.index.result.now (omega (arith, long)) c.index.ensures false in
     let at = c.bucket_at-bucket.ensures.value in
     let down : waits_at ws i ≡ false = sym here ∙ c.if-index.false in
-    c.find-2.ensures ∙ sym (find-current hash cur ws olds inv.arrays c.keep_lists.ensures.routed passes c.args.hash i same at within down) ∙ ap (λ d. find passes (entries d)) c.self.view_is
+    c.find-2.ensures ∙ sym (find-current hash cur ws olds inv.arrays c.bucket_at-bucket.ensures.routed passes c.args.hash i same at within down) ∙ ap (λ d. find passes (entries d)) c.self.view_is

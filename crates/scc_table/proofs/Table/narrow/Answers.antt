@@ -58,7 +58,7 @@ returns-in-Ok-clause-listed g c =
       bounded = c.resize_to.ensures.bounded c.requires.listed.bounded (short-listed hash a c.requires.listed);
     } in
     let settings = c.resize_to.ensures.settings in
-    let routed = routed-before (λ s (e : g.row.E.Denot). hash_of g.H.BuildHasher g.H.Hasher.Hasher s.hasher (g.E.Key.Hash.hash_input (g.E.Keyed.key_of e))) a d settings c.keep_lists-in-Ok.ensures.routed in
+    let routed = routed-before (λ s (e : g.row.E.Denot). hash_of g.H.BuildHasher g.H.Hasher.Hasher s.hasher (g.E.Key.Hash.hash_input (g.E.Keyed.key_of e))) a d settings c.keep_lists.ensures.routed in
     listed-anew (λ s (e : g.row.E.Denot). hash_of g.H.BuildHasher g.H.Hasher.Hasher s.hasher (g.E.Key.Hash.hash_input (g.E.Keyed.key_of e))) a d settings
     (listed-resized hash a d resized routed (subst (λ m. (i : ℕ) → i < m → length (bound_for hash (settings_of a).skipped m i (entries a)) ≤ 32) (sym size) short))
 

@@ -114,7 +114,7 @@ returns-in-Some-clause-found g c =
     let source : j ≡ bucket_number (settings_of cur).skipped (length olds) c.args.hash = c.bucket_index-source.ensures.value ∙ ap (λ s. bucket_number s c.len.result c.args.hash) inv.skips ∙ ap (λ n. bucket_number (settings_of cur).skipped n c.args.hash) len in
     let at = c.bucket_at-bucket.ensures.value in
     let q : Place = record { bucket = c.bucket_count-count.result + j; slot = c.in-Some.slot } in
-    λ _. subst (λ d. IsFoundAt passes d q) c.self.view_is (found-old hash cur ws olds inv.arrays c.keep_lists.ensures.routed passes c.args.hash i same at within up j lj source q (ap (λ n. n + j) c.bucket_count-count.ensures.count) (sym c.in-Some.ensures))
+    λ _. subst (λ d. IsFoundAt passes d q) c.self.view_is (found-old hash cur ws olds inv.arrays c.bucket_at-bucket.ensures.routed passes c.args.hash i same at within up j lj source q (ap (λ n. n + j) c.bucket_count-count.ensures.count) (sym c.in-Some.ensures))
 
 pub returns-in-Some-clause-missed : goal.returns-in-Some-clause-missed
 returns-in-Some-clause-missed g c =
@@ -177,7 +177,7 @@ returns-in-None-clause-missed g c =
     let lj : j < length olds = let l = c.bucket_index-source.ensures.within (omega (arith, array.least)) in omega arith in
     let source : j ≡ bucket_number (settings_of cur).skipped (length olds) c.args.hash = c.bucket_index-source.ensures.value ∙ ap (λ s. bucket_number s c.len.result c.args.hash) inv.skips ∙ ap (λ n. bucket_number (settings_of cur).skipped n c.args.hash) len in
     let at = c.bucket_at-bucket.ensures.value in
-    λ _. ap (λ d. position passes (entries d)) (sym c.self.view_is) ∙ missed-old hash cur ws olds inv.arrays c.keep_lists.ensures.routed passes c.args.hash i same at within up j lj source (sym c.in-None.ensures)
+    λ _. ap (λ d. position passes (entries d)) (sym c.self.view_is) ∙ missed-old hash cur ws olds inv.arrays c.bucket_at-bucket.ensures.routed passes c.args.hash i same at within up j lj source (sym c.in-None.ensures)
 
 pub search_place-requires : goal.search_place-requires
 search_place-requires g c =
@@ -216,7 +216,7 @@ returns-in-Some-search_place-clause-found g c =
     let down : waits_at ws i ≡ false = sym here ∙ c.if-index.false in
     let q = c.in-Some-search_place.place in
     let f = c.in-Some-search_place.ensures in
-    λ _. subst (λ d. IsFoundAt passes d q) c.self.view_is (found-own hash cur ws olds inv.arrays c.keep_lists.ensures.routed passes c.args.hash i same at within down q (f.bucket ∙ sym at) (ap (λ k. position passes (list_of cur k)) at ∙ f.found))
+    λ _. subst (λ d. IsFoundAt passes d q) c.self.view_is (found-own hash cur ws olds inv.arrays c.bucket_at-bucket.ensures.routed passes c.args.hash i same at within down q (f.bucket ∙ sym at) (ap (λ k. position passes (list_of cur k)) at ∙ f.found))
 
 pub returns-in-Some-search_place-clause-missed : goal.returns-in-Some-search_place-clause-missed
 returns-in-Some-search_place-clause-missed g c =
@@ -272,4 +272,4 @@ returns-in-None-search_place-clause-missed g c =
     let at = c.bucket_at-bucket.ensures.value in
     let down : waits_at ws i ≡ false = sym here ∙ c.if-index.false in
     let n = c.in-None-search_place.ensures in
-    λ _. ap (λ d. position passes (entries d)) (sym c.self.view_is) ∙ missed-own hash cur ws olds inv.arrays c.keep_lists.ensures.routed passes c.args.hash i same at within down (ap (λ k. position passes (list_of cur k)) at ∙ n.list)
+    λ _. ap (λ d. position passes (entries d)) (sym c.self.view_is) ∙ missed-own hash cur ws olds inv.arrays c.bucket_at-bucket.ensures.routed passes c.args.hash i same at within down (ap (λ k. position passes (list_of cur k)) at ∙ n.list)
