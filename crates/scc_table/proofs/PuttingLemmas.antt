@@ -1,5 +1,5 @@
 -- Two arrays, into the new one of which an entry is put, in a bucket that doesn't wait.
-use Rattle.std.proofs.Common.{◌≡◌, ◌==◌, ◌≢◌, ℕ, zero, suc, ◌+◌, ◌^◌, ◌<◌, ◌≤◌, ◌⊎◌, inl, inr, Bool, true, false, cond, List, [], ◌∷◌, length, map, set, get_or, Some, None, refl, sym, ap, ◌∙◌, subst, arith, get_or-set_other, eq-eqb}
+use Rattle.std.proofs.Common.{Result, Ok, Err, ◌≡◌, ◌==◌, ◌≢◌, ℕ, zero, suc, ◌+◌, ◌^◌, ◌<◌, ◌≤◌, ◌⊎◌, inl, inr, Bool, true, false, cond, List, [], ◌∷◌, length, map, set, get_or, Some, None, refl, sym, ap, ◌∙◌, subst, arith, get_or-set_other, eq-eqb}
 use Rattle.std.specs.Cmp.{IsEquivalence}
 use Rattle.std.specs.List.{filter, flat_map, count_by, insert, position, slice_get, IsDistinct}
 use Rattle.std.proofs.lemmas.List.{get_or_default, get_or_past}
@@ -19,6 +19,8 @@ use Rattle.scc_table.proofs.Inserted.{absent-sub, count-sub, count-whole, one-su
 use Rattle.scc_table.proofs.Joining.{owed-together, lists-together, refused-together, settings-together}
 use Rattle.scc_table.proofs.Noting.{lists-kept, target-kept}
 use Rattle.scc_table.proofs.OldSpots.{own-list}
+use Rattle.std.specs.Prelude.{IfOk, OnErr}
+use Rattle.scc_table.proofs.Same.{entries-same}
 use Rattle.scc_table.proofs.Relocated.{count-is, list-is}
 use Rattle.scc_draining.proofs.Sublists.{Sub, flat-sub}
 use Rattle.scc_table.proofs.Viewed.{count-seen, refused-seen, settings-seen, spilled-seen}
@@ -156,3 +158,15 @@ same-together hash c d ws olds z = record {
   refused = refused-together hash d ws olds ∙ z.refused ∙ sym (refused-together hash c ws olds);
   spilled = let s = spilled-together hash c ws olds in let t = spilled-together hash d ws olds in omega (arith, z.spilled);
 }
+
+-- the keys stay distinct, whatever the answer was
+pub unique-answered : {E K S X : Type 0} {eq : K → K → Bool} (laws : IsEquivalence eq) {key : E → K} {hash : K → ℕ} {c : Contents E S} {drain : Draining E} {skipped : ℕ} (inv : IsTable eq key hash c drain skipped) {a : Contents E S} → together (λ e. hash (key e)) c drain.waiting drain.array ≡ a → (e : E) (i : ℕ)
+    (b : Contents E S) (r : Result Place X) → IfOk r (IsPutIn c i e b) → OnErr r (HasSameLists c b) → i < bucket_count c → waits_at drain.waiting i ≡ false → position (λ x. eq (key e) (key x)) (entries a) ≡ None → IsDistinct eq (map key (entries (together (λ x. hash (key x)) b drain.waiting drain.array)))
+unique-answered {eq = eq} laws {key} {hash} {c} {drain} inv {a} view e i b (Ok p) put stays l down absent =
+    let there = put-together key hash c drain.waiting drain.array inv.arrays a view e i b p put l down in
+    let within : i < bucket_count a = omega (arith, l, count-seen (λ x. hash (key x)) c drain.waiting drain.array a view inv.arrays.flags) in
+    let v = together (λ x. hash (key x)) b drain.waiting drain.array in
+    unique-inserted laws key e (entries a) (entries v) (subst (λ z. IsDistinct eq (map key (entries z))) view inv.unique) absent (put-permuted a i e v p there within)
+unique-answered {E} {eq = eq} laws {key} {hash} {c} {drain} inv view e i b (Err y) put stays l down absent =
+    let h : E → ℕ = λ x. hash (key x) in
+    subst (λ es. IsDistinct eq (map key es)) (sym (entries-same (together h c drain.waiting drain.array) (together h b drain.waiting drain.array) (lists-kept h c b drain.waiting drain.array stays.lists (ap (λ s. s.skipped) stays.settings)))) inv.unique

@@ -108,11 +108,11 @@ module _ {E S : Type 0} (hash : E → ℕ) (c : Contents E S) (ws : List Bool) (
       }
 
 -- of all fields, with one entry taken out
-module _ {E K S : Type 0} {eq : K → K → Bool} (laws : IsEquivalence eq) (key : E → K) (hash : K → ℕ) (c : Contents E S) (drain : Draining E) (skipped : ℕ) (inv : IsTable eq key hash c drain skipped) (p : Place)
+module _ {E K S : Type 0} {eq : K → K → Bool} (laws : IsEquivalence eq) {key : E → K} {hash : K → ℕ} {c : Contents E S} {drain : Draining E} {skipped : ℕ} (inv : IsTable eq key hash c drain skipped) (p : Place)
     (within : IsPlace (together (λ e. hash (key e)) c drain.waiting drain.array) p) where
   module _ (l : p.bucket < bucket_count c) (d : Contents E S) where
     down : waits_at drain.waiting p.bucket ≡ false
-    down = (own-is laws key hash c drain skipped inv p within l).1
+    down = (own-is laws inv p within l).1
 
     spot-here : spot_of (together (λ x. hash (key x)) c drain.waiting drain.array) p ≡ p
     spot-here = own-spot (λ x. hash (key x)) c drain.waiting drain.array inv.arrays p l down
@@ -162,7 +162,7 @@ module _ {E K S : Type 0} {eq : K → K → Bool} (laws : IsEquivalence eq) (key
       own-less_swapped t =
           let h : E → ℕ = λ x. hash (key x) in
           let u = together h c drain.waiting drain.array in
-          let there = own-got laws key hash c drain skipped inv p within l e got in
+          let there = own-got laws inv p within l e got in
           own-fields eq key hash c d p.bucket t.left t.lists t.settings drain down skipped inv (let o = t.spilled in let f = inv.few in omega arith)
           (swapped-unique u (together h d drain.waiting drain.array) (spot_of u p) within (own-swapped t) laws key e there inv.unique)
 
@@ -170,13 +170,13 @@ module _ {E K S : Type 0} {eq : K → K → Bool} (laws : IsEquivalence eq) (key
       own-less t =
           let h : E → ℕ = λ x. hash (key x) in
           let u = together h c drain.waiting drain.array in
-          let there = own-got laws key hash c drain skipped inv p within l e got in
+          let there = own-got laws inv p within l e got in
           own-fields eq key hash c d p.bucket (remove (list_of c p.bucket) p.slot) t.lists t.settings drain down skipped inv (let o = t.spilled in let f = inv.few in omega arith)
           (taken-unique u (together h d drain.waiting drain.array) (spot_of u p) within (own-taken t) laws key e there inv.unique)
 
   module _ (far : bucket_count c ≤ p.bucket) (e : E) (got : slice_get (shelf_entries (shelf_of drain.array (p.bucket - bucket_count c))) p.slot ≡ Some e) where
     lj : p.bucket - bucket_count c < length drain.array
-    lj = (old-is laws key hash c drain skipped inv p within far).0
+    lj = (old-is laws inv p within far).0
 
     pub old-taken_at : IsTakenFrom (together (λ x. hash (key x)) c drain.waiting drain.array) (spot_of (together (λ x. hash (key x)) c drain.waiting drain.array) p)
         (together (λ x. hash (key x)) c drain.waiting (set drain.array (p.bucket - bucket_count c) (without_place (shelf_of drain.array (p.bucket - bucket_count c)) p.slot)))
@@ -198,7 +198,7 @@ module _ {E K S : Type 0} {eq : K → K → Bool} (laws : IsEquivalence eq) (key
         let j = p.bucket - n in
         let count = count-together h c drain.waiting drain.array inv.arrays.flags in
         let past : nat_lt p.bucket n ≡ false = search rules in
-        let ls = (old-is laws key hash c drain skipped inv p within far).1 in
+        let ls = (old-is laws inv p within far).1 in
         let hs = owed_in f drain.waiting drain.array in
         owed-together h c drain.waiting (set drain.array j (without_place (shelf_of drain.array j) p.slot)) ∙ owed-removed f drain.waiting drain.array j p.slot lj ls
         ∙ sym (ap (λ m. owed_taken m (owed_of u) p) count ∙ ap (λ z. owed_taken n z p) (owed-together h c drain.waiting drain.array) ∙ ap (λ (b : Bool). cond b hs (set hs j (remove (get_or hs j []) p.slot))) past)
@@ -213,7 +213,7 @@ module _ {E K S : Type 0} {eq : K → K → Bool} (laws : IsEquivalence eq) (key
         let j = p.bucket - bucket_count c in
         let news = set drain.array j (without_place (shelf_of drain.array j) p.slot) in
         let u = together h c drain.waiting drain.array in
-        let there = old-got laws key hash c drain skipped inv p within far e got in
+        let there = old-got laws inv p within far e got in
         old-fields eq key hash c drain news skipped (drain.left - 1) drain.left_overflow inv (arrays-less h c drain.waiting drain.array inv.arrays j p.slot e lj got) (length-set drain.array j (without_place (shelf_of drain.array j) p.slot))
         (let n = owed-less h c drain.waiting drain.array inv.arrays j p.slot e lj got in let m = inv.left_is in omega arith)
         (let n = spilled-less h c drain.waiting drain.array inv.arrays j p.slot e lj got in let m = inv.overflow_is in omega arith) inv.few

@@ -32,9 +32,9 @@ module _ {F E K V R S : Type 0} (g : Once F (Bor K × (MutBor V × Unit {0})) (R
         e,
         w,
         at,
-        own-got laws key hk c drain skipped inv q at.within near e got,
+        own-got laws inv q at.within near e got,
         called,
-        ap both written ∙ ap (λ s. together (λ x. hash_for s (key x)) (writes.with_write_at_spot put c q w) drain.waiting drain.array) (settings-write put c q w) ∙ own-written laws key hk c drain skipped inv q at.within near put w,
+        ap both written ∙ ap (λ s. together (λ x. hash_for s (key x)) (writes.with_write_at_spot put c q w) drain.waiting drain.array) (settings-write put c q w) ∙ own-written laws inv q at.within near put w,
       )
 
   -- they are two arrays still, if a written value keeps the key
@@ -44,4 +44,4 @@ module _ {F E K V R S : Type 0} (g : Once F (Bor K × (MutBor V × Unit {0})) (R
       let at = found-settled (λ x. hk (key x)) c drain.array drain.waiting none p q found in
       subst (λ (z : Contents E S). IsTable eq key (hash_for (settings_of z)) z drain skipped) (sym written)
       (subst (λ (s : Settings S). IsTable eq key (hash_for s) (writes.with_write_at_spot put c q w) drain skipped) (sym (settings-write put c q w))
-      (own-kept laws key hk c drain skipped inv q at.within found.within.bucket put w e got (keeps e w)))
+      (own-kept laws inv q at.within found.within.bucket put w e got (keeps e w)))

@@ -100,8 +100,13 @@ module _ {E S X : Type 0} (put : E → X → E) (hash : E → ℕ) (c : Contents
       (waiting-together hash c ws news ∙ sym (waiting-together hash c ws olds) ∙ sym (waiting-write put u p w))
       (owed-together hash c ws news ∙ owed-same f ws olds news rows ∙ sym (owed-together hash c ws olds) ∙ sym (owed-write put u p w))
 
+-- what is seen to be a place is one
+pub place-seen : {E K S : Type 0} {eq : K → K → Bool} {key : E → K} {hash : K → ℕ} {c : Contents E S} {drain : Draining E} {skipped : ℕ} (inv : IsTable eq key hash c drain skipped) {a : Contents E S} (p : Place) → together (λ e. hash (key e)) c drain.waiting drain.array ≡ a → IsPlace a p
+    → IsPlace (together (λ e. hash (key e)) c drain.waiting drain.array) p
+place-seen inv p view place = subst (λ z. IsPlace z p) (sym view) place
+
 -- of all fields, with one entry written
-module _ {E K S : Type 0} {eq : K → K → Bool} (laws : IsEquivalence eq) (key : E → K) (hash : K → ℕ) (c : Contents E S) (drain : Draining E) (skipped : ℕ) (inv : IsTable eq key hash c drain skipped) (p : Place)
+module _ {E K S : Type 0} {eq : K → K → Bool} (laws : IsEquivalence eq) {key : E → K} {hash : K → ℕ} {c : Contents E S} {drain : Draining E} {skipped : ℕ} (inv : IsTable eq key hash c drain skipped) (p : Place)
     (within : IsPlace (together (λ e. hash (key e)) c drain.waiting drain.array) p) where
   module _ (l : p.bucket < bucket_count c) where
     -- a place of the new array
