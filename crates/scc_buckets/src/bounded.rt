@@ -85,6 +85,9 @@ where
     pub fn bucket_at(&self, hash: u64) -> usize
         ensures value { result ≡ bucket_number (settings_of self.now).skipped (bucket_count self.now) hash }
         ensures within { 0 < bucket_count self.now → result < bucket_count self.now }
+        ensures routed { IsRouted (λ e. key_hash H.BuildHasher H.Hasher.Hasher E.Key.hash_input self.now (E.key_of e))
+            self.now }
+        ensures unique { IsUniqueBy E.Key.eq E.key_of self.now }
     {
         bucket_index(hash, self.skipped, self.buckets.len())
     }

@@ -68,7 +68,7 @@ bare-together {E} {S} hash c olds bare =
 
 -- of all fields where there is no old array
 pub fields-alone : {E K S : Type 0} (eq : K → K → Bool) (key : E → K) (hash : K → ℕ) (c : Contents E S) (skipped next : ℕ) → skipped ≡ (settings_of c).skipped → skipped ≤ 4 → spilled_of c < 2 ^ 62 → IsDistinct eq (map key (entries c))
-    → IsTable eq key hash c [] [] skipped 0 next 0 0
+    → IsTable eq key hash c (record { array = []; waiting = []; pending = 0; next = next; left = 0; left_overflow = 0 }) skipped
 fields-alone eq key hash c skipped next skips few_bits few unique = record {
   arrays = record {
     flags = inl refl;

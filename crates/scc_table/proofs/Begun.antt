@@ -7,13 +7,13 @@ use Rattle.std.proofs.lemmas.List.{length-replicate}
 use Rattle.std.proofs.lemmas.List.Concat.{length-flat_map}
 use Rattle.scc_array.specs.Shelves.{shelf_of}
 use Rattle.scc_array.specs.Shelf.{Shelf, shelf_entries, empty_shelf}
-use Rattle.scc_contents.specs.Contents.{Contents, entries, bucket_count, lists_of, settings_of, spilled_of, pending_of}
+use Rattle.scc_contents.specs.Contents.{Contents, Settings, entries, bucket_count, lists_of, settings_of, spilled_of, pending_of}
 use Rattle.scc_buckets.specs.Pour.{IsRegrouped}
 use Rattle.scc_contents.specs.Sizes.{IsArray}
 use Rattle.scc_buckets.specs.Tables.{IsBuckets}
 use Rattle.scc_buckets.proofs.Arrays.{shelf-at}
 use Rattle.scc_draining.specs.Moves.{TakesOver}
-use Rattle.scc_table.specs.TwoArrays.{together, waits_at, IsTable, IsRelocated}
+use Rattle.scc_table.specs.TwoArrays.{Draining, together, waits_at, IsTable, IsRelocated}
 use Rattle.scc_table.proofs.Alone.{entries-alone}
 use Rattle.scc_draining.proofs.Arriving.{count-were, entries-were, list-were}
 use Rattle.scc_draining.proofs.Counted.{bound-le}
@@ -23,66 +23,106 @@ use Rattle.scc_table.proofs.Same.{entries-same, regrouped-same}
 use Rattle.scc_table.proofs.StartingLemmas.{bare-lists, flags-up, permuted-all, started-fields, started-lists}
 use Rattle.scc_table.proofs.Viewed.{count-seen, settled-flags, settings-seen}
 
--- the present array has the contents c, and nothing waits; then the contents are d, of n empty buckets
-module _ {E K S : Type 0} (eq : K → K → Bool) (laws : IsEquivalence eq) (key : E → K) (hash : K → ℕ) (c d : Contents E S) (ws : List Bool) (rest : List (Shelf E)) (skipped pending next aside spare : ℕ)
-    (inv : IsTable eq key hash c ws rest skipped pending next aside spare) (a : Contents E S) (view : together (λ e. hash (key e)) c ws rest ≡ a) (settled : pending_of a ≡ 0) (n : ℕ) (fresh olds : List (Shelf E)) (left over : ℕ)
-    (empty : fresh ≡ replicate n empty_shelf) (will : IsArray n) (some : 0 < bucket_count a) (other : n ≢ bucket_count a) (lists : lists_of d ≡ map shelf_entries fresh) (settings : settings_of d ≡ settings_of c) (nothing : spilled_of d ≡ 0)
-    (were : lists_of c ≡ map shelf_entries olds) (table : IsBuckets (λ e. hash (key e)) (settings_of c).skipped olds left over) where
+-- the present array, of the contents c and with no bucket that waits, was exchanged for one of n empty buckets, of the contents d
+pub record IsExchanged {E K S : Type 0} (eq : K → K → Bool) (key : E → K) (hash : K → ℕ) (c d : Contents E S) (rest : Draining E) (skipped : ℕ) (a : Contents E S) (n : ℕ) (olds : List (Shelf E)) (left over : ℕ) : Type 0 where
+  -- equality of keys
+  pub laws : IsEquivalence eq
+  -- the fields before
+  pub inv : IsTable eq key hash c rest skipped
+  -- what was seen of them
+  pub view : together (λ e. hash (key e)) c rest.waiting rest.array ≡ a
+  -- no bucket waited
+  pub settled : pending_of a ≡ 0
+  -- n is the size of an array
+  pub will : IsArray n
+  -- there was an array
+  pub some : 0 < bucket_count a
+  -- of another size
+  pub other : n ≢ bucket_count a
+  -- the buckets are empty
+  pub lists : lists_of d ≡ map shelf_entries (replicate n empty_shelf)
+  -- the settings stay
+  pub settings : settings_of d ≡ settings_of c
+  -- no overflow list is in use
+  pub nothing : spilled_of d ≡ 0
+  -- the lists before are those of the array that drains
+  pub were : lists_of c ≡ map shelf_entries olds
+  -- and that one holds `left` entries, `over` of them in overflow lists
+  pub table : IsBuckets (λ e. hash (key e)) (settings_of c).skipped olds left over
+
+-- the same by the hash of the settings afterwards
+pub exchanged : {E K S : Type 0} {eq : K → K → Bool} (laws : IsEquivalence eq) {key : E → K} (hash_for : Settings S → K → ℕ) {c d : Contents E S} {rest : Draining E} {skipped : ℕ} {a : Contents E S} {n : ℕ} {fresh olds : List (Shelf E)} {left over : ℕ} → IsTable eq key (hash_for (settings_of c)) c rest skipped
+    → together (λ e. hash_for (settings_of c) (key e)) c rest.waiting rest.array ≡ a → pending_of a ≡ 0 → fresh ≡ replicate n empty_shelf → IsArray n → 0 < bucket_count a → n ≢ bucket_count a → lists_of d ≡ map shelf_entries fresh → settings_of d ≡ settings_of c → spilled_of d ≡ 0 → lists_of c ≡ map shelf_entries olds
+    → IsBuckets (λ e. hash_for (settings_of c) (key e)) (settings_of c).skipped olds left over → IsExchanged eq key (hash_for (settings_of d)) c d rest skipped a n olds left over
+exchanged {E} {K} {S} {eq} laws {key} hash_for {c} {d} {rest} {skipped} {a} {n} {fresh} {olds} {left} {over} inv view settled empty will some other lists settings nothing were table = record {
+  laws = laws;
+  inv = subst (λ (s : Settings S). IsTable eq key (hash_for s) c rest skipped) (sym settings) inv;
+  view = subst (λ (s : Settings S). together (λ e. hash_for s (key e)) c rest.waiting rest.array ≡ a) (sym settings) view;
+  settled = settled;
+  will = will;
+  some = some;
+  other = other;
+  lists = lists ∙ ap (λ (z : List (Shelf E)). map shelf_entries z) empty;
+  settings = settings;
+  nothing = nothing;
+  were = were;
+  table = subst (λ (s : Settings S). IsBuckets (λ e. hash_for s (key e)) (settings_of c).skipped olds left over) (sym settings) table;
+}
+
+module _ {E K S : Type 0} {eq : K → K → Bool} {key : E → K} {hash : K → ℕ} {c d : Contents E S} {rest : Draining E} {skipped : ℕ} {a : Contents E S} {n : ℕ} {olds : List (Shelf E)} {left over : ℕ} (x : IsExchanged eq key hash c d rest skipped a n olds left over) where
   abbrev inner : E → ℕ
   inner e = hash (key e)
 
-  none : ws ≡ []
-  none = settled-flags a inv view settled
-
-  now : lists_of d ≡ map shelf_entries (replicate n empty_shelf)
-  now = lists ∙ ap (λ (z : List (Shelf E)). map shelf_entries z) empty
+  none : rest.waiting ≡ []
+  none = settled-flags a x.inv x.view x.settled
 
   pub begun-count : bucket_count d ≡ n
-  begun-count = count-were d (replicate n empty_shelf) now ∙ length-replicate n (empty_shelf {E = E})
+  begun-count = count-were d (replicate n empty_shelf) x.lists ∙ length-replicate n (empty_shelf {E = E})
 
   long : bucket_count a ≡ length olds
-  long = count-seen inner c ws rest a view inv.arrays.flags ∙ count-were c olds were
+  long = count-seen inner c rest.waiting rest.array a x.view x.inv.arrays.flags ∙ count-were c olds x.were
 
   table-now : IsBuckets inner (settings_of d).skipped olds left over
-  table-now = subst (λ s. IsBuckets inner s.skipped olds left over) (sym settings) table
+  table-now = subst (λ s. IsBuckets inner s.skipped olds left over) (sym x.settings) x.table
 
   was : IsArray (length olds)
-  was = elim table.sized [ inl z ↦ absurd (omega (arith, some, long)) | inr z ↦ z ]
+  was = elim x.table.sized [ inl z ↦ absurd (omega (arith, x.some, long)) | inr z ↦ z ]
 
   differ : n ≢ length olds
-  differ = λ z. other (z ∙ sym long)
+  differ = λ z. x.other (z ∙ sym long)
 
-  all : entries (together inner c ws rest) ≡ flat_map shelf_entries olds
-  all = entries-alone inner c ws rest none ∙ entries-were c olds were
+  all : entries (together inner c rest.waiting rest.array) ≡ flat_map shelf_entries olds
+  all = entries-alone inner c rest.waiting rest.array none ∙ entries-were c olds x.were
 
   all-seen : entries a ≡ flat_map shelf_entries olds
-  all-seen = ap entries (sym view) ∙ all
+  all-seen = ap entries (sym x.view) ∙ all
 
   pub begun-unique : IsDistinct eq (map key (flat_map shelf_entries olds))
-  begun-unique = subst (λ es. IsDistinct eq (map key es)) all inv.unique
+  begun-unique = subst (λ es. IsDistinct eq (map key es)) all x.inv.unique
 
   -- of all fields then
-  pub begun : IsTable eq key hash d (replicate n true) olds skipped n 0 left over
-  begun = started-fields eq laws key hash d n olds begun-count now skipped left over table-now was will differ (inv.skips ∙ ap (λ s. s.skipped) (sym settings)) inv.few_bits nothing begun-unique
+  pub begun : IsTable eq key hash d (record { array = olds; waiting = replicate n true; pending = n; next = 0; left = left; left_overflow = over }) skipped
+  begun = started-fields eq x.laws key hash d n olds begun-count x.lists skipped left over table-now was x.will differ (x.inv.skips ∙ ap (λ s. s.skipped) (sym x.settings)) x.inv.few_bits x.nothing begun-unique
 
-  begun-lists : IsRegrouped inner n a (together inner d (replicate n true) olds)
-  begun-lists = started-lists inner d n olds begun-count now left over table-now was will differ a all-seen (settings ∙ sym (settings-seen inner c ws rest a view))
+  -- each list has the entries of its bucket
+  pub begun-lists : IsRegrouped inner n a (together inner d (replicate n true) olds)
+  begun-lists = started-lists inner d n olds begun-count x.lists left over table-now was x.will differ a all-seen (x.settings ∙ sym (settings-seen inner c rest.waiting rest.array a x.view))
 
-  begun-same : IsPermutation (entries a) (entries (together inner d (replicate n true) olds))
-  begun-same = subst (λ es. IsPermutation es (entries (together inner d (replicate n true) olds))) (sym all-seen) (permuted-all inner d n olds begun-count now (omega (arith, will.least)))
+  pub begun-same : IsPermutation (entries a) (entries (together inner d (replicate n true) olds))
+  begun-same = subst (λ es. IsPermutation es (entries (together inner d (replicate n true) olds))) (sym all-seen) (permuted-all inner d n olds begun-count x.lists (omega (arith, x.will.least)))
 
   -- the new array has no entry
   pub begun-bare : (bs : List (Shelf E)) → lists_of d ≡ map shelf_entries bs → (i : ℕ) → i < length bs → shelf_entries (shelf_of bs i) ≡ []
-  begun-bare bs same i l = sym (list-were d bs same i (shelf_of bs i) l (shelf-at bs i l)) ∙ bare-lists inner d n olds begun-count now i
+  begun-bare bs same i l = sym (list-were d bs same i (shelf_of bs i) l (shelf-at bs i l)) ∙ bare-lists inner d n olds begun-count x.lists i
 
-  module _ (k : ℕ) (l : k < n) where
+  module _ {k : ℕ} (l : k < n) where
     pub begun-up : waits_at (replicate n true) k ≡ true
-    begun-up = flags-up inner d n olds begun-count now k l
+    begun-up = flags-up inner d n olds begun-count x.lists k l
 
     -- bucket k took its entries over
-    module _ (moved : ℕ) (e : Contents E S) (vs : List Bool) (news : List (Shelf E)) (takes : TakesOver inner k moved d olds e news) (down : vs ≡ set (replicate n true) k false) where
+    module _ {moved : ℕ} {e : Contents E S} {vs : List Bool} {news : List (Shelf E)} (takes : TakesOver inner k moved d olds e news) (down : vs ≡ set (replicate n true) k false) where
       settles : Settles (replicate n true) k vs
-      settles = others down (omega (arith, but-one n k will.least l, will.least))
+      settles = others down (omega (arith, but-one n k x.will.least l, x.will.least))
 
       there : IsRelocated k (together inner d (replicate n true) olds) (together inner e vs news)
       there = relocated-after inner k moved d e (replicate n true) vs olds news begun.arrays begun-up takes settles
@@ -93,8 +133,8 @@ module _ {E K S : Type 0} (eq : K → K → Bool) (laws : IsEquivalence eq) (key
           let m = length-flat_map shelf_entries olds in
           omega (arith, takes.moved, begun.left_is)
 
-      pub taken-fields : spilled_of e + over < 2 ^ 62 → IsTable eq key hash e vs news skipped (n - 1) 0 (left - moved) over
-      taken-fields few = fields-after eq key hash k moved d e (replicate n true) vs olds news skipped n 0 left over begun begun-up takes down (omega (arith, but-one n k will.least l, will.least)) few
+      pub taken-fields : spilled_of e + over < 2 ^ 62 → IsTable eq key hash e (record { array = news; waiting = vs; pending = n - 1; next = 0; left = left - moved; left_overflow = over }) skipped
+      taken-fields few = fields-after eq key hash k moved d e _ vs news skipped begun begun-up takes down (omega (arith, but-one n k x.will.least l, x.will.least)) few
 
       pub taken-lists : IsRegrouped inner n a (together inner e vs news)
       taken-lists = regrouped-same inner n a (together inner d (replicate n true) olds) (together inner e vs news) there.lists there.settings begun-lists

@@ -10,7 +10,7 @@ use Rattle.scc_buckets.specs.Tables.{spilled_in}
 use Rattle.scc_buckets.specs.Writes.{with_write_at_spot}
 use Rattle.scc_buckets.specs.declared.place.Place.{Place}
 use Rattle.scc_draining.specs.Moves.{AreMultiples, AreOwn}
-use Rattle.scc_table.specs.TwoArrays.{joined, owed_in, waits_at, target_by, together, TwoArrays, IsTable}
+use Rattle.scc_table.specs.TwoArrays.{Draining, joined, owed_in, waits_at, target_by, together, TwoArrays, IsTable}
 use Rattle.scc_draining.proofs.Arriving.{same-contents}
 use Rattle.scc_table.proofs.JoinedChanges.{joined-here, joined-set}
 use Rattle.scc_table.proofs.Joining.{lists-together, owed-together, settings-together, refused-together, waiting-together}
@@ -73,11 +73,11 @@ module _ {E S : Type 0} (c d : Contents E S) (i : ℕ) (x : List E) (lists : lis
       }
 
 -- of all fields
-pub own-fields : {E K S : Type 0} (eq : K → K → Bool) (key : E → K) (hash : K → ℕ) (c d : Contents E S) (i : ℕ) (x : List E) → lists_of d ≡ set (lists_of c) i x → settings_of d ≡ settings_of c → (ws : List Bool) (olds : List (Shelf E)) → waits_at ws i ≡ false
-    → (skipped pending next left aside : ℕ) → IsTable eq key hash c ws olds skipped pending next left aside → spilled_of d + aside < 2 ^ 62 → IsDistinct eq (map key (entries (together (λ e. hash (key e)) d ws olds)))
-    → IsTable eq key hash d ws olds skipped pending next left aside
-own-fields eq key hash c d i x lists settings ws olds down skipped pending next left aside inv few unique = record {
-  arrays = own-arrays c d i x lists settings (λ e. hash (key e)) ws olds down inv.arrays;
+pub own-fields : {E K S : Type 0} (eq : K → K → Bool) (key : E → K) (hash : K → ℕ) (c d : Contents E S) (i : ℕ) (x : List E) → lists_of d ≡ set (lists_of c) i x → settings_of d ≡ settings_of c → (drain : Draining E) → waits_at drain.waiting i ≡ false
+    → (skipped : ℕ) → IsTable eq key hash c drain skipped → spilled_of d + drain.left_overflow < 2 ^ 62 → IsDistinct eq (map key (entries (together (λ e. hash (key e)) d drain.waiting drain.array)))
+    → IsTable eq key hash d drain skipped
+own-fields eq key hash c d i x lists settings drain down skipped inv few unique = record {
+  arrays = own-arrays c d i x lists settings (λ e. hash (key e)) drain.waiting drain.array down inv.arrays;
   skips = inv.skips ∙ ap (λ s. s.skipped) (sym settings);
   few_bits = inv.few_bits;
   counted = inv.counted;

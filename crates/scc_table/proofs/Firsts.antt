@@ -4,13 +4,13 @@ use Rattle.std.specs.List.{filter, flat_map, IsDistinct}
 use Rattle.std.specs.List.Sorted.{IsPermutation}
 use Rattle.std.proofs.lemmas.List.{nil_from_length}
 use Rattle.std.proofs.lemmas.List.Sorted.{IsPermutation-refl}
-use Rattle.scc_array.specs.Shelf.{Shelf, shelf_entries}
+use Rattle.scc_array.specs.Shelf.{shelf_entries}
 use Rattle.scc_contents.specs.Contents.{Contents, entries, bucket_count, minimum_of, settings_of, spilled_of}
 use Rattle.scc_contents.specs.Routing.{bucket_number}
 use Rattle.scc_contents.specs.Sizes.{IsArray, IsArraySize}
 use Rattle.scc_contents.specs.Steps.{Grows, IsUnchanged, Rests}
 use Rattle.scc_draining.specs.Moves.{AreOwn}
-use Rattle.scc_table.specs.TwoArrays.{IsTable, waits_at}
+use Rattle.scc_table.specs.TwoArrays.{Draining, IsTable, waits_at}
 use Rattle.scc_table.proofs.Alone.{entries-alone, nothing-owed}
 use Rattle.scc_draining.proofs.Arriving.{IsDistinct-nil}
 
@@ -36,17 +36,17 @@ pub same-rests : {E S : Type 0} (a d : Contents E S) → d ≡ a → IsUnchanged
 same-rests a d same = (record { exact = ap entries same; buckets = ap bucket_count same; settings = ap settings_of same }, record { first = λ z ne. absurd (ne (ap bucket_count same)); half = λ z ne. absurd (ne (ap bucket_count same)); below = λ z ne. absurd (ne (ap bucket_count same)); doubled = λ z ne. absurd (ne (ap bucket_count same)); settled = λ z ne. absurd (ne (ap bucket_count same)) })
 
 -- of all fields then
-pub fields-first : {E K S : Type 0} (eq : K → K → Bool) (key : E → K) (hash : K → ℕ) (c d : Contents E S) (ws : List Bool) (olds : List (Shelf E)) (skipped pending next left aside : ℕ) → IsTable eq key hash c ws olds skipped pending next left aside → ws ≡ [] → settings_of d ≡ settings_of c → entries d ≡ [] → spilled_of d ≡ 0
-    → IsTable eq key hash d ws olds skipped pending next left aside
-fields-first {E} eq key hash c d ws olds skipped pending next left aside inv none settings still bounded =
+pub fields-first : {E K S : Type 0} (eq : K → K → Bool) (key : E → K) (hash : K → ℕ) (c d : Contents E S) (drain : Draining E) (skipped : ℕ) → IsTable eq key hash c drain skipped → drain.waiting ≡ [] → settings_of d ≡ settings_of c → entries d ≡ [] → spilled_of d ≡ 0
+    → IsTable eq key hash d drain skipped
+fields-first {E} eq key hash c d drain skipped inv none settings still bounded =
     let h : E → ℕ = λ e. hash (key e) in
-    let nothing : flat_map shelf_entries olds ≡ [] = nothing-owed h c ws olds none inv.arrays in
+    let nothing : flat_map shelf_entries drain.array ≡ [] = nothing-owed h c drain.waiting drain.array none inv.arrays in
     record {
       arrays = record {
         flags = inl none;
         multiples = inl none;
         sized = inl none;
-        own = subst (λ s. AreOwn h s.skipped olds) (sym settings) inv.arrays.own;
+        own = subst (λ s. AreOwn h s.skipped drain.array) (sym settings) inv.arrays.own;
         settled = λ i down. ap (filter (λ e. bucket_number (settings_of d).skipped (bucket_count d) (h e) == i)) nothing;
         bare = λ i up. absurd (let z : false ≡ true = ap (λ w. waits_at w i) (sym none) ∙ up in cc);
       };
@@ -59,5 +59,5 @@ fields-first {E} eq key hash c d ws olds skipped pending next left aside inv non
       left_is = inv.left_is;
       overflow_is = inv.overflow_is;
       few = let f = inv.few in omega arith;
-      unique = subst (λ es. IsDistinct eq (map key es)) (sym (entries-alone h d ws olds none ∙ still)) (IsDistinct-nil eq);
+      unique = subst (λ es. IsDistinct eq (map key es)) (sym (entries-alone h d drain.waiting drain.array none ∙ still)) (IsDistinct-nil eq);
     }

@@ -25,6 +25,7 @@ pub mod Noting
 pub mod OldChanges
 pub mod OldSpots
 mod Once
+pub mod OneBucket
 pub mod Placing
 pub mod Preparing
 pub mod PuttingLemmas

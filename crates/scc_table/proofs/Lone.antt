@@ -1,8 +1,8 @@
 -- A table of two arrays of which no bucket waits, where a call changes the new array alone.
-use Rattle.std.proofs.Common.{◌≡◌, ℕ, ◌+◌, ◌*◌, ◌^◌, ◌<◌, ◌==◌, inl, inr, Bool, true, false, List, [], ◌∷◌, length, map, sym, ap, ◌∙◌, subst, arith}
+use Rattle.std.proofs.Common.{◌≡◌, ℕ, ◌+◌, ◌*◌, ◌^◌, ◌<◌, ◌==◌, inl, inr, Bool, true, false, [], ◌∷◌, length, map, sym, ap, ◌∙◌, subst, arith}
 use Rattle.std.specs.List.{filter, flat_map, slice_get, IsDistinct}
 use Rattle.std.specs.List.Sorted.{IsPermutation}
-use Rattle.scc_array.specs.Shelf.{Shelf, shelf_entries}
+use Rattle.scc_array.specs.Shelf.{shelf_entries}
 use Rattle.scc_contents.specs.Contents.{Contents, entries, bucket_count, owed_of, lists_of, minimum_of, settings_of, spilled_of, waiting_of}
 use Rattle.scc_buckets.specs.Places as spots
 use Rattle.scc_contents.specs.Routing.{bucket_number}
@@ -11,24 +11,24 @@ use Rattle.scc_contents.specs.Steps.{FirstArrayWhenDue, Grows, IsUnchanged}
 use Rattle.scc_buckets.specs.declared.place.Place.{Place}
 use Rattle.scc_draining.specs.Moves.{AreOwn}
 use Rattle.scc_table.specs.Places.{IsInsertedAt, spot_of}
-use Rattle.scc_table.specs.TwoArrays.{IsTable, waits_at}
+use Rattle.scc_table.specs.TwoArrays.{Draining, IsTable, waits_at}
 use Rattle.scc_table.proofs.Alone.{entries-alone, nothing-owed, spilled-bare}
 use Rattle.scc_table.proofs.OldSpots.{spot-own}
 use Rattle.scc_table.proofs.Placing.{index-same}
 use Rattle.scc_table.proofs.Same.{count-same, entries-same, list-same}
 
 -- of all fields then
-pub fields-lone : {E K S : Type 0} (eq : K → K → Bool) (key : E → K) (hash : K → ℕ) (c d : Contents E S) (ws : List Bool) (olds : List (Shelf E)) (skipped pending next left aside : ℕ) → IsTable eq key hash c ws olds skipped pending next left aside → ws ≡ [] → settings_of d ≡ settings_of c → spilled_of d < 2 ^ 62
-    → IsDistinct eq (map key (entries d)) → IsTable eq key hash d ws olds skipped pending next left 0
-fields-lone {E} eq key hash c d ws olds skipped pending next left aside inv none settings few unique =
+pub fields-lone : {E K S : Type 0} (eq : K → K → Bool) (key : E → K) (hash : K → ℕ) (c d : Contents E S) (drain : Draining E) (skipped : ℕ) → IsTable eq key hash c drain skipped → drain.waiting ≡ [] → settings_of d ≡ settings_of c → spilled_of d < 2 ^ 62
+    → IsDistinct eq (map key (entries d)) → IsTable eq key hash d (record drain { left_overflow = 0 }) skipped
+fields-lone {E} eq key hash c d drain skipped inv none settings few unique =
     let h : E → ℕ = λ e. hash (key e) in
-    let nothing : flat_map shelf_entries olds ≡ [] = nothing-owed h c ws olds none inv.arrays in
+    let nothing : flat_map shelf_entries drain.array ≡ [] = nothing-owed h c drain.waiting drain.array none inv.arrays in
     record {
       arrays = record {
         flags = inl none;
         multiples = inl none;
         sized = inl none;
-        own = subst (λ s. AreOwn h s.skipped olds) (sym settings) inv.arrays.own;
+        own = subst (λ s. AreOwn h s.skipped drain.array) (sym settings) inv.arrays.own;
         settled = λ i down. ap (filter (λ e. bucket_number (settings_of d).skipped (bucket_count d) (h e) == i)) nothing;
         bare = λ i up. absurd (let z : false ≡ true = ap (λ w. waits_at w i) (sym none) ∙ up in cc);
       };
@@ -39,9 +39,9 @@ fields-lone {E} eq key hash c d ws olds skipped pending next left aside inv none
       given_back = inv.given_back;
       below = inv.below;
       left_is = inv.left_is;
-      overflow_is = let z = spilled-bare olds nothing in omega arith;
+      overflow_is = let z = spilled-bare drain.array nothing in omega arith;
       few = omega arith;
-      unique = subst (λ es. IsDistinct eq (map key es)) (sym (entries-alone h d ws olds none)) unique;
+      unique = subst (λ es. IsDistinct eq (map key es)) (sym (entries-alone h d drain.waiting drain.array none)) unique;
     }
 
 -- what is seen before and after has the lists and the settings of the new array

@@ -6,7 +6,7 @@ use Rattle.scc_contents.specs.Contents.{Contents, bucket_count, lists_of, settin
 use Rattle.scc_contents.specs.Routing.{bucket_number}
 use Rattle.scc_buckets.specs.Tables.{spilled_in}
 use Rattle.scc_draining.specs.Moves.{AreMultiples, AreOwn}
-use Rattle.scc_table.specs.TwoArrays.{IsTable, owed_in, joined, target_by, together, TwoArrays}
+use Rattle.scc_table.specs.TwoArrays.{Draining, IsTable, owed_in, joined, target_by, together, TwoArrays}
 use Rattle.scc_table.proofs.Alone.{spilled-together}
 use Rattle.scc_table.proofs.Joining.{lists-together, owed-together}
 use Rattle.scc_table.proofs.Same.{count-same, list-same, entries-same}
@@ -41,12 +41,12 @@ module _ {E S : Type 0} (hash : E → ℕ) (c d : Contents E S) (ws : List Bool)
     bare = λ i up. list-same c d lists i ∙ a.bare i up;
   }
 
-pub fields-less : {E K S : Type 0} (eq : K → K → Bool) (key : E → K) (hash : K → ℕ) (c d : Contents E S) (ws : List Bool) (olds : List (Shelf E)) (skipped pending next left aside : ℕ) → lists_of d ≡ lists_of c → (settings_of d).skipped ≡ (settings_of c).skipped → spilled_of d ≤ spilled_of c
-    → IsTable eq key hash c ws olds skipped pending next left aside → IsTable eq key hash d ws olds skipped pending next left aside
-fields-less {E} eq key hash c d ws olds skipped pending next left aside lists skips spilled inv =
+pub fields-less : {E K S : Type 0} (eq : K → K → Bool) (key : E → K) (hash : K → ℕ) (c d : Contents E S) (drain : Draining E) (skipped : ℕ) → lists_of d ≡ lists_of c → (settings_of d).skipped ≡ (settings_of c).skipped → spilled_of d ≤ spilled_of c
+    → IsTable eq key hash c drain skipped → IsTable eq key hash d drain skipped
+fields-less {E} eq key hash c d drain skipped lists skips spilled inv =
     let h : E → ℕ = λ e. hash (key e) in
     record {
-      arrays = arrays-kept h c d ws olds lists skips inv.arrays;
+      arrays = arrays-kept h c d drain.waiting drain.array lists skips inv.arrays;
       skips = inv.skips ∙ sym skips;
       few_bits = inv.few_bits;
       counted = inv.counted;
@@ -56,9 +56,9 @@ fields-less {E} eq key hash c d ws olds skipped pending next left aside lists sk
       left_is = inv.left_is;
       overflow_is = inv.overflow_is;
       few = let f = inv.few in omega arith;
-      unique = subst (λ es. IsDistinct eq (map key es)) (sym (entries-same (together h c ws olds) (together h d ws olds) (lists-kept h c d ws olds lists skips))) inv.unique;
+      unique = subst (λ es. IsDistinct eq (map key es)) (sym (entries-same (together h c drain.waiting drain.array) (together h d drain.waiting drain.array) (lists-kept h c d drain.waiting drain.array lists skips))) inv.unique;
     }
 
-pub fields-kept : {E K S : Type 0} (eq : K → K → Bool) (key : E → K) (hash : K → ℕ) (c d : Contents E S) (ws : List Bool) (olds : List (Shelf E)) (skipped pending next left aside : ℕ) → lists_of d ≡ lists_of c → (settings_of d).skipped ≡ (settings_of c).skipped → spilled_of d ≡ spilled_of c
-    → IsTable eq key hash c ws olds skipped pending next left aside → IsTable eq key hash d ws olds skipped pending next left aside
-fields-kept eq key hash c d ws olds skipped pending next left aside lists skips spilled inv = fields-less eq key hash c d ws olds skipped pending next left aside lists skips (omega arith) inv
+pub fields-kept : {E K S : Type 0} (eq : K → K → Bool) (key : E → K) (hash : K → ℕ) (c d : Contents E S) (drain : Draining E) (skipped : ℕ) → lists_of d ≡ lists_of c → (settings_of d).skipped ≡ (settings_of c).skipped → spilled_of d ≡ spilled_of c
+    → IsTable eq key hash c drain skipped → IsTable eq key hash d drain skipped
+fields-kept eq key hash c d drain skipped lists skips spilled inv = fields-less eq key hash c d drain skipped lists skips (omega arith) inv

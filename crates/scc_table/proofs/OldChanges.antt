@@ -14,7 +14,7 @@ use Rattle.scc_buckets.specs.Tables.{IsOwn, spilled_in}
 use Rattle.scc_buckets.proofs.Arrays.{drop-got}
 use Rattle.scc_draining.specs.Stepping.{entries_before}
 use Rattle.scc_draining.specs.Moves.{AreMultiples}
-use Rattle.scc_table.specs.TwoArrays.{waits_at, target_by, together, TwoArrays, IsTable}
+use Rattle.scc_table.specs.TwoArrays.{Draining, waits_at, target_by, together, TwoArrays, IsTable}
 use Rattle.scc_table.proofs.JoinedChanges.{joined-changed}
 use Rattle.scc_table.proofs.Joining.{lists-together}
 use Rattle.scc_table.proofs.OldSpots.{old-waits, old-long, old-within}
@@ -144,10 +144,10 @@ module _ {E S : Type 0} (hash : E → ℕ) (c : Contents E S) (ws : List Bool) (
         }
 
 -- of all fields
-pub old-fields : {E K S : Type 0} (eq : K → K → Bool) (key : E → K) (hash : K → ℕ) (c : Contents E S) (ws : List Bool) (olds news : List (Shelf E)) (skipped pending next left aside kept under : ℕ) → IsTable eq key hash c ws olds skipped pending next left aside
-    → TwoArrays (λ e. hash (key e)) c ws news → length news ≡ length olds → kept ≡ sum_by (λ b. length (shelf_entries b)) news → spilled_in news ≤ under → spilled_of c + under < 2 ^ 62 → IsDistinct eq (map key (entries (together (λ e. hash (key e)) c ws news)))
-    → IsTable eq key hash c ws news skipped pending next kept under
-old-fields eq key hash c ws olds news skipped pending next left aside kept under inv arrays long count over few unique = record {
+pub old-fields : {E K S : Type 0} (eq : K → K → Bool) (key : E → K) (hash : K → ℕ) (c : Contents E S) (drain : Draining E) (news : List (Shelf E)) (skipped kept under : ℕ) → IsTable eq key hash c drain skipped
+    → TwoArrays (λ e. hash (key e)) c drain.waiting news → length news ≡ length drain.array → kept ≡ sum_by (λ b. length (shelf_entries b)) news → spilled_in news ≤ under → spilled_of c + under < 2 ^ 62 → IsDistinct eq (map key (entries (together (λ e. hash (key e)) c drain.waiting news)))
+    → IsTable eq key hash c (record drain { array = news; left = kept; left_overflow = under }) skipped
+old-fields eq key hash c drain news skipped kept under inv arrays long count over few unique = record {
   arrays = arrays;
   skips = inv.skips;
   few_bits = inv.few_bits;

@@ -1,5 +1,5 @@
 -- Two arrays, into the new one of which an entry is put, in a bucket that doesn't wait.
-use Rattle.std.proofs.Common.{◌≡◌, ◌==◌, ◌≢◌, ℕ, zero, suc, ◌+◌, ◌^◌, ◌<◌, ◌≤◌, ◌⊎◌, inl, inr, Bool, true, false, cond, List, [], ◌∷◌, length, map, set, get_or, Some, None, refl, sym, ap, ◌∙◌, subst, arith, get_or-set_other, eq-eqb}
+use Rattle.std.proofs.Common.{Result, Ok, Err, ◌≡◌, ◌==◌, ◌≢◌, ℕ, zero, suc, ◌+◌, ◌^◌, ◌<◌, ◌≤◌, ◌⊎◌, inl, inr, Bool, true, false, cond, List, [], ◌∷◌, length, map, set, get_or, Some, None, refl, sym, ap, ◌∙◌, subst, arith, get_or-set_other, eq-eqb}
 use Rattle.std.specs.Cmp.{IsEquivalence}
 use Rattle.std.specs.List.{filter, flat_map, count_by, insert, position, slice_get, IsDistinct}
 use Rattle.std.proofs.lemmas.List.{get_or_default, get_or_past}
@@ -13,12 +13,14 @@ use Rattle.scc_buckets.specs.declared.place.Place.{Place}
 use Rattle.scc_buckets.proofs.Inserts.{unique-inserted}
 use Rattle.scc_buckets.proofs.PairSplits.{by_answer}
 use Rattle.scc_draining.specs.Moves.{AreMultiples, AreOwn}
-use Rattle.scc_table.specs.TwoArrays.{IsTable, owed_in, joined, target_by, together, TwoArrays, waits_at}
+use Rattle.scc_table.specs.TwoArrays.{Draining, IsTable, owed_in, joined, target_by, together, TwoArrays, waits_at}
 use Rattle.scc_table.proofs.Alone.{spilled-together}
 use Rattle.scc_table.proofs.Inserted.{absent-sub, count-sub, count-whole, one-sub, put-count, put-permuted}
 use Rattle.scc_table.proofs.Joining.{owed-together, lists-together, refused-together, settings-together}
 use Rattle.scc_table.proofs.Noting.{lists-kept, target-kept}
 use Rattle.scc_table.proofs.OldSpots.{own-list}
+use Rattle.std.specs.Prelude.{IfOk, OnErr}
+use Rattle.scc_table.proofs.Same.{entries-same}
 use Rattle.scc_table.proofs.Relocated.{count-is, list-is}
 use Rattle.scc_draining.proofs.Sublists.{Sub, flat-sub}
 use Rattle.scc_table.proofs.Viewed.{count-seen, refused-seen, settings-seen, spilled-seen}
@@ -128,14 +130,14 @@ module _ {E K S : Type 0} (key : E → K) (hash : K → ℕ) (c : Contents E S) 
     }
 
 -- of all fields then
-pub fields-put : {E K S : Type 0} (eq : K → K → Bool) (laws : IsEquivalence eq) (key : E → K) (hash : K → ℕ) (c : Contents E S) (ws : List Bool) (olds : List (Shelf E)) (skipped pending next left aside : ℕ) (inv : IsTable eq key hash c ws olds skipped pending next left aside) (d : Contents E S)
-    → together (λ e. hash (key e)) c ws olds ≡ d → (e : E) (i : ℕ) (b : Contents E S) (p : Place) → IsPutIn c i e b p → i < bucket_count c → waits_at ws i ≡ false → spilled_of b + aside < 2 ^ 62 → position (λ x. eq (key e) (key x)) (entries d) ≡ None
-    → IsTable eq key hash b ws olds skipped pending next left aside
-fields-put {E} eq laws key hash c ws olds skipped pending next left aside inv d view e i b p put l down few absent =
-    let there = put-together key hash c ws olds inv.arrays d view e i b p put l down in
-    let within : i < bucket_count d = omega (arith, count-seen (λ x. hash (key x)) c ws olds d view inv.arrays.flags) in
+pub fields-put : {E K S : Type 0} (eq : K → K → Bool) (laws : IsEquivalence eq) (key : E → K) (hash : K → ℕ) (c : Contents E S) (drain : Draining E) (skipped : ℕ) (inv : IsTable eq key hash c drain skipped) (d : Contents E S)
+    → together (λ e. hash (key e)) c drain.waiting drain.array ≡ d → (e : E) (i : ℕ) (b : Contents E S) (p : Place) → IsPutIn c i e b p → i < bucket_count c → waits_at drain.waiting i ≡ false → spilled_of b + drain.left_overflow < 2 ^ 62 → position (λ x. eq (key e) (key x)) (entries d) ≡ None
+    → IsTable eq key hash b drain skipped
+fields-put {E} eq laws key hash c drain skipped inv d view e i b p put l down few absent =
+    let there = put-together key hash c drain.waiting drain.array inv.arrays d view e i b p put l down in
+    let within : i < bucket_count d = omega (arith, count-seen (λ x. hash (key x)) c drain.waiting drain.array d view inv.arrays.flags) in
     record {
-      arrays = arrays-put key hash c ws olds inv.arrays d view e i b p put l down;
+      arrays = arrays-put key hash c drain.waiting drain.array inv.arrays d view e i b p put l down;
       skips = inv.skips ∙ ap (λ s. s.skipped) (sym put.settings);
       few_bits = inv.few_bits;
       counted = inv.counted;
@@ -145,7 +147,7 @@ fields-put {E} eq laws key hash c ws olds skipped pending next left aside inv d 
       left_is = inv.left_is;
       overflow_is = inv.overflow_is;
       few = few;
-      unique = unique-inserted laws key e (entries d) (entries (together (λ x. hash (key x)) b ws olds)) (subst (λ z. IsDistinct eq (map key (entries z))) view inv.unique) absent (put-permuted d i e (together (λ x. hash (key x)) b ws olds) p there within);
+      unique = unique-inserted laws key e (entries d) (entries (together (λ x. hash (key x)) b drain.waiting drain.array)) (subst (λ z. IsDistinct eq (map key (entries z))) view inv.unique) absent (put-permuted d i e (together (λ x. hash (key x)) b drain.waiting drain.array) p there within);
     }
 
 -- where nothing was put in
@@ -156,3 +158,15 @@ same-together hash c d ws olds z = record {
   refused = refused-together hash d ws olds ∙ z.refused ∙ sym (refused-together hash c ws olds);
   spilled = let s = spilled-together hash c ws olds in let t = spilled-together hash d ws olds in omega (arith, z.spilled);
 }
+
+-- the keys stay distinct, whatever the answer was
+pub unique-answered : {E K S X : Type 0} {eq : K → K → Bool} (laws : IsEquivalence eq) {key : E → K} {hash : K → ℕ} {c : Contents E S} {drain : Draining E} {skipped : ℕ} (inv : IsTable eq key hash c drain skipped) {a : Contents E S} → together (λ e. hash (key e)) c drain.waiting drain.array ≡ a → (e : E) (i : ℕ)
+    (b : Contents E S) (r : Result Place X) → IfOk r (IsPutIn c i e b) → OnErr r (HasSameLists c b) → i < bucket_count c → waits_at drain.waiting i ≡ false → position (λ x. eq (key e) (key x)) (entries a) ≡ None → IsDistinct eq (map key (entries (together (λ x. hash (key x)) b drain.waiting drain.array)))
+unique-answered {eq = eq} laws {key} {hash} {c} {drain} inv {a} view e i b (Ok p) put stays l down absent =
+    let there = put-together key hash c drain.waiting drain.array inv.arrays a view e i b p put l down in
+    let within : i < bucket_count a = omega (arith, l, count-seen (λ x. hash (key x)) c drain.waiting drain.array a view inv.arrays.flags) in
+    let v = together (λ x. hash (key x)) b drain.waiting drain.array in
+    unique-inserted laws key e (entries a) (entries v) (subst (λ z. IsDistinct eq (map key (entries z))) view inv.unique) absent (put-permuted a i e v p there within)
+unique-answered {E} {eq = eq} laws {key} {hash} {c} {drain} inv view e i b (Err y) put stays l down absent =
+    let h : E → ℕ = λ x. hash (key x) in
+    subst (λ es. IsDistinct eq (map key es)) (sym (entries-same (together h c drain.waiting drain.array) (together h b drain.waiting drain.array) (lists-kept h c b drain.waiting drain.array stays.lists (ap (λ s. s.skipped) stays.settings)))) inv.unique

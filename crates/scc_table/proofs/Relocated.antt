@@ -14,7 +14,7 @@ use Rattle.scc_contents.specs.Sizes.{IsArray}
 use Rattle.scc_buckets.specs.Tables.{spilled_in}
 use Rattle.scc_buckets.proofs.PairSplits.{by_answer}
 use Rattle.scc_draining.specs.Moves.{others_for, AreMultiples, AreOwn, TakesOver}
-use Rattle.scc_table.specs.TwoArrays.{joined, waits_at, target_by, together, settle, owed_in, owed_without, TwoArrays, IsTable, IsRelocated}
+use Rattle.scc_table.specs.TwoArrays.{Draining, joined, waits_at, target_by, together, settle, owed_in, owed_without, TwoArrays, IsTable, IsRelocated}
 use Rattle.scc_table.proofs.Alone.{entries-alone, fields-alone, nothing-owed}
 use Rattle.scc_table.proofs.Joining.{lists-together, owed-together, settings-together, refused-together, waiting-together, pending-together}
 use Rattle.scc_table.proofs.RelocatingLemmas.{not_equal, bound-others_none, bound-others_same, flat-others, none-up, one-down, up-within, joined-none, joined-moved}
@@ -143,32 +143,32 @@ module _ {E S : Type 0} (hash : E → ℕ) (i n : ℕ) (c d : Contents E S) (ws 
       omega arith
 
 -- of all fields, where another bucket waits still
-pub fields-after : {E K S : Type 0} (eq : K → K → Bool) (key : E → K) (hash : K → ℕ) (i n : ℕ) (c d : Contents E S) (ws vs : List Bool) (olds news : List (Shelf E)) (skipped pending next left aside : ℕ)
-    → IsTable eq key hash c ws olds skipped pending next left aside → waits_at ws i ≡ true → TakesOver (λ e. hash (key e)) i n c olds d news → vs ≡ set ws i false → 0 < count_by (λ w. w) (set ws i false) → spilled_of d + aside < 2 ^ 62
-    → IsTable eq key hash d vs news skipped (pending - 1) next (left - n) aside
-fields-after {E} eq key hash i n c d ws vs olds news skipped pending next left aside inv up takes down some few =
+pub fields-after : {E K S : Type 0} (eq : K → K → Bool) (key : E → K) (hash : K → ℕ) (i n : ℕ) (c d : Contents E S) (drain : Draining E) (vs : List Bool) (news : List (Shelf E)) (skipped : ℕ)
+    → IsTable eq key hash c drain skipped → waits_at drain.waiting i ≡ true → TakesOver (λ e. hash (key e)) i n c drain.array d news → vs ≡ set drain.waiting i false → 0 < count_by (λ w. w) (set drain.waiting i false) → spilled_of d + drain.left_overflow < 2 ^ 62
+    → IsTable eq key hash d (record drain { array = news; waiting = vs; pending = drain.pending - 1; left = drain.left - n }) skipped
+fields-after {E} eq key hash i n c d drain vs news skipped inv up takes down some few =
     let h : E → ℕ = λ e. hash (key e) in
-    let settles : Settles ws i vs = others down some in
-    let fewer = one-down ws i (up-within ws i up) up in
+    let settles : Settles drain.waiting i vs = others down some in
+    let fewer = one-down drain.waiting i (up-within drain.waiting i up) up in
     let after = count-after settles in
     record {
-      arrays = arrays-after h i n c d ws vs olds news inv.arrays up takes settles;
+      arrays = arrays-after h i n c d drain.waiting vs drain.array news inv.arrays up takes settles;
       skips = inv.skips ∙ ap (λ s. s.skipped) (sym takes.settings);
       few_bits = inv.few_bits;
       counted = omega (arith, inv.counted);
       none = λ z. absurd (omega (arith, inv.counted));
       given_back = λ z. absurd (omega (arith, inv.counted));
       below = λ k l. flags-after settles k ∙ (elim (dec_lt k i) [
-        | yes r ↦ get_or-set_other ws i k false false (omega arith) ∙ inv.below k l
+        | yes r ↦ get_or-set_other drain.waiting i k false false (omega arith) ∙ inv.below k l
         | no r ↦ elim (dec_lt i k) [
-          | yes s ↦ get_or-set_other ws i k false false (omega arith) ∙ inv.below k l
-          | no s ↦ let same : k ≡ i = omega arith in ap (waits_at (set ws i false)) same ∙ get_or-set_same ws i false false (up-within ws i up)
+          | yes s ↦ get_or-set_other drain.waiting i k false false (omega arith) ∙ inv.below k l
+          | no s ↦ let same : k ≡ i = omega arith in ap (waits_at (set drain.waiting i false)) same ∙ get_or-set_same drain.waiting i false false (up-within drain.waiting i up)
         ]
       ]);
-      left_is = let l = owed-left h i n c d ws vs olds news inv.arrays up takes settles in omega (arith, inv.left_is);
-      overflow_is = let l = spilled-le olds news takes.count takes.overflow in omega (arith, inv.overflow_is);
+      left_is = let l = owed-left h i n c d drain.waiting vs drain.array news inv.arrays up takes settles in omega (arith, inv.left_is);
+      overflow_is = let l = spilled-le drain.array news takes.count takes.overflow in omega (arith, inv.overflow_is);
       few = few;
-      unique = subst (λ z. IsDistinct eq (map key z)) (sym (entries-after h i n c d ws vs olds news inv.arrays up takes settles)) inv.unique;
+      unique = subst (λ z. IsDistinct eq (map key z)) (sym (entries-after h i n c d drain.waiting vs drain.array news inv.arrays up takes settles)) inv.unique;
     }
 
 -- nothing lies in the old array once its last bucket took its entries over
@@ -176,20 +176,20 @@ pub bare-after : {E S : Type 0} (hash : E → ℕ) (i n : ℕ) (c d : Contents E
 bare-after hash i n c d ws olds news arrays up takes none = nothing-owed hash d [] news refl (arrays-after hash i n c d ws [] olds news arrays up takes (last refl none))
 
 -- of all fields, where no other bucket waits and the old array is given back
-pub fields-last : {E K S : Type 0} (eq : K → K → Bool) (key : E → K) (hash : K → ℕ) (i n : ℕ) (c d : Contents E S) (ws : List Bool) (olds news : List (Shelf E)) (skipped pending next left aside : ℕ)
-    → IsTable eq key hash c ws olds skipped pending next left aside → waits_at ws i ≡ true → TakesOver (λ e. hash (key e)) i n c olds d news → count_by (λ w. w) (set ws i false) ≡ 0 → spilled_of d + aside < 2 ^ 62
-    → IsTable eq key hash d [] [] skipped (pending - 1) next (left - n) 0
-fields-last {E} eq key hash i n c d ws olds news skipped pending next left aside inv up takes none few =
+pub fields-last : {E K S : Type 0} (eq : K → K → Bool) (key : E → K) (hash : K → ℕ) (i n : ℕ) (c d : Contents E S) (drain : Draining E) (news : List (Shelf E)) (skipped : ℕ)
+    → IsTable eq key hash c drain skipped → waits_at drain.waiting i ≡ true → TakesOver (λ e. hash (key e)) i n c drain.array d news → count_by (λ w. w) (set drain.waiting i false) ≡ 0 → spilled_of d + drain.left_overflow < 2 ^ 62
+    → IsTable eq key hash d (record drain { array = []; waiting = []; pending = drain.pending - 1; left = drain.left - n; left_overflow = 0 }) skipped
+fields-last {E} eq key hash i n c d drain news skipped inv up takes none few =
     let h : E → ℕ = λ e. hash (key e) in
-    let settles : Settles ws i [] = last refl none in
-    let fewer = one-down ws i (up-within ws i up) up in
-    let bare = ap length (bare-after h i n c d ws olds news inv.arrays up takes none) in
-    let l = owed-left h i n c d ws [] olds news inv.arrays up takes settles in
+    let settles : Settles drain.waiting i [] = last refl none in
+    let fewer = one-down drain.waiting i (up-within drain.waiting i up) up in
+    let bare = ap length (bare-after h i n c d drain.waiting drain.array news inv.arrays up takes none) in
+    let l = owed-left h i n c d drain.waiting [] drain.array news inv.arrays up takes settles in
     let count = length-flat_map shelf_entries news in
-    let nothing : left - n ≡ 0 = omega (arith, inv.left_is) in
-    let last_one : pending - 1 ≡ 0 = omega (arith, inv.counted) in
-    let unique = subst (λ z. IsDistinct eq (map key z)) (sym (entries-after h i n c d ws [] olds news inv.arrays up takes settles) ∙ entries-alone h d [] news refl) inv.unique in
-    rw (nothing, last_one) (fields-alone eq key hash d skipped next (inv.skips ∙ ap (λ s. s.skipped) (sym takes.settings)) inv.few_bits (omega arith) unique)
+    let nothing : drain.left - n ≡ 0 = omega (arith, inv.left_is) in
+    let last_one : drain.pending - 1 ≡ 0 = omega (arith, inv.counted) in
+    let unique = subst (λ z. IsDistinct eq (map key z)) (sym (entries-after h i n c d drain.waiting [] drain.array news inv.arrays up takes settles) ∙ entries-alone h d [] news refl) inv.unique in
+    rw (nothing, last_one) (fields-alone eq key hash d skipped drain.next (inv.skips ∙ ap (λ s. s.skipped) (sym takes.settings)) inv.few_bits (omega arith) unique)
 
 settle-others : (ws : List Bool) (i : ℕ) → 0 < count_by (λ w. w) (set ws i false) → settle ws i ≡ set ws i false
 settle-others ws i some = let z : (count_by (λ w. w) (set ws i false) == 0) ≡ false = not_equal _ _ (omega arith) in rw z

@@ -18,7 +18,7 @@ use Rattle.scc_buckets.specs.declared.place.Place.{Place}
 use Rattle.scc_buckets.proofs.Removes.{entries_without, overflow_without, own_without}
 use Rattle.scc_table.specs.Places.{IsPlace, spot_of}
 use Rattle.scc_table.specs.Takes.{owed_taken}
-use Rattle.scc_table.specs.TwoArrays.{owed_in, waits_at, target_by, together, TwoArrays, IsTable}
+use Rattle.scc_table.specs.TwoArrays.{Draining, owed_in, waits_at, target_by, together, TwoArrays, IsTable}
 use Rattle.scc_table.proofs.CurrentChanges.{own-fields, own-owed, own-list, own-lists, own-settings, own-refused, spilled-together}
 use Rattle.scc_table.proofs.JoinedChanges.{set-none}
 use Rattle.scc_table.proofs.Joining.{count-together, owed-together, refused-together, settings-together}
@@ -108,113 +108,113 @@ module _ {E S : Type 0} (hash : E → ℕ) (c : Contents E S) (ws : List Bool) (
       }
 
 -- of all fields, with one entry taken out
-module _ {E K S : Type 0} {eq : K → K → Bool} (laws : IsEquivalence eq) (key : E → K) (hash : K → ℕ) (c : Contents E S) (ws : List Bool) (olds : List (Shelf E)) (skipped pending next left aside : ℕ) (inv : IsTable eq key hash c ws olds skipped pending next left aside) (p : Place)
-    (within : IsPlace (together (λ e. hash (key e)) c ws olds) p) where
+module _ {E K S : Type 0} {eq : K → K → Bool} (laws : IsEquivalence eq) {key : E → K} {hash : K → ℕ} {c : Contents E S} {drain : Draining E} {skipped : ℕ} (inv : IsTable eq key hash c drain skipped) (p : Place)
+    (within : IsPlace (together (λ e. hash (key e)) c drain.waiting drain.array) p) where
   module _ (l : p.bucket < bucket_count c) (d : Contents E S) where
-    down : waits_at ws p.bucket ≡ false
-    down = (own-is laws key hash c ws olds skipped pending next left aside inv p within l).1
+    down : waits_at drain.waiting p.bucket ≡ false
+    down = (own-is laws inv p within l).1
 
-    spot-here : spot_of (together (λ x. hash (key x)) c ws olds) p ≡ p
-    spot-here = own-spot (λ x. hash (key x)) c ws olds inv.arrays p l down
+    spot-here : spot_of (together (λ x. hash (key x)) c drain.waiting drain.array) p ≡ p
+    spot-here = own-spot (λ x. hash (key x)) c drain.waiting drain.array inv.arrays p l down
 
-    pub own-swapped : IsSwappedOutOf c p d → IsSwappedOutOf (together (λ x. hash (key x)) c ws olds) (spot_of (together (λ x. hash (key x)) c ws olds) p) (together (λ x. hash (key x)) d ws olds)
+    pub own-swapped : IsSwappedOutOf c p d → IsSwappedOutOf (together (λ x. hash (key x)) c drain.waiting drain.array) (spot_of (together (λ x. hash (key x)) c drain.waiting drain.array) p) (together (λ x. hash (key x)) d drain.waiting drain.array)
     own-swapped t =
         let h : E → ℕ = λ x. hash (key x) in
-        let u = together h c ws olds in
-        let v = together h d ws olds in
+        let u = together h c drain.waiting drain.array in
+        let v = together h d drain.waiting drain.array in
         let at : IsSwappedOutOf u p v = record {
           left = t.left;
-          moved = subst (λ z. IsPermutation (remove z p.slot) t.left) (sym (own-list h c ws olds p.bucket down)) t.moved;
-          lists = own-lists c d p.bucket t.left t.lists t.settings h ws olds down;
-          settings = own-settings c d p.bucket t.left t.lists t.settings h ws olds down;
-          refused = own-refused c d p.bucket t.left t.lists t.settings h ws olds down t.refused;
-          spilled = let o = t.spilled in let a = spilled-together h d ws olds in let z = spilled-together h c ws olds in omega arith;
+          moved = subst (λ z. IsPermutation (remove z p.slot) t.left) (sym (own-list h c drain.waiting drain.array p.bucket down)) t.moved;
+          lists = own-lists c d p.bucket t.left t.lists t.settings h drain.waiting drain.array down;
+          settings = own-settings c d p.bucket t.left t.lists t.settings h drain.waiting drain.array down;
+          refused = own-refused c d p.bucket t.left t.lists t.settings h drain.waiting drain.array down t.refused;
+          spilled = let o = t.spilled in let a = spilled-together h d drain.waiting drain.array in let z = spilled-together h c drain.waiting drain.array in omega arith;
         } in
         subst (λ q. IsSwappedOutOf u q v) (sym spot-here) at
 
     -- the annotations stay
     pub own-owed_kept : (x : List E) → lists_of d ≡ set (lists_of c) p.bucket x → settings_of d ≡ settings_of c
-        → owed_of (together (λ x. hash (key x)) d ws olds) ≡ owed_taken (bucket_count (together (λ x. hash (key x)) c ws olds)) (owed_of (together (λ x. hash (key x)) c ws olds)) p
+        → owed_of (together (λ x. hash (key x)) d drain.waiting drain.array) ≡ owed_taken (bucket_count (together (λ x. hash (key x)) c drain.waiting drain.array)) (owed_of (together (λ x. hash (key x)) c drain.waiting drain.array)) p
     own-owed_kept x lists settings =
         let h : E → ℕ = λ x. hash (key x) in
-        let u = together h c ws olds in
-        let count = count-together h c ws olds inv.arrays.flags in
+        let u = together h c drain.waiting drain.array in
+        let count = count-together h c drain.waiting drain.array inv.arrays.flags in
         let near : nat_lt p.bucket (bucket_count u) ≡ true = let l2 : p.bucket < bucket_count u = omega arith in search rules in
         let j = p.bucket - bucket_count u in
-        own-owed c d p.bucket x lists settings h ws olds down ∙ sym (ap (λ (b : Bool). cond b (owed_of u) (set (owed_of u) j (remove (get_or (owed_of u) j []) p.slot))) near)
+        own-owed c d p.bucket x lists settings h drain.waiting drain.array down ∙ sym (ap (λ (b : Bool). cond b (owed_of u) (set (owed_of u) j (remove (get_or (owed_of u) j []) p.slot))) near)
 
-    pub own-taken : IsTakenFrom c p d → IsTakenFrom (together (λ x. hash (key x)) c ws olds) (spot_of (together (λ x. hash (key x)) c ws olds) p) (together (λ x. hash (key x)) d ws olds)
+    pub own-taken : IsTakenFrom c p d → IsTakenFrom (together (λ x. hash (key x)) c drain.waiting drain.array) (spot_of (together (λ x. hash (key x)) c drain.waiting drain.array) p) (together (λ x. hash (key x)) d drain.waiting drain.array)
     own-taken t =
         let h : E → ℕ = λ x. hash (key x) in
-        let u = together h c ws olds in
-        let v = together h d ws olds in
+        let u = together h c drain.waiting drain.array in
+        let v = together h d drain.waiting drain.array in
         let left = remove (list_of c p.bucket) p.slot in
         let at : IsTakenFrom u p v = record {
-          lists = own-lists c d p.bucket left t.lists t.settings h ws olds down ∙ ap (λ z. set (lists_of u) p.bucket (remove z p.slot)) (sym (own-list h c ws olds p.bucket down));
-          settings = own-settings c d p.bucket left t.lists t.settings h ws olds down;
-          refused = own-refused c d p.bucket left t.lists t.settings h ws olds down t.refused;
-          spilled = let o = t.spilled in let a = spilled-together h d ws olds in let z = spilled-together h c ws olds in omega arith;
+          lists = own-lists c d p.bucket left t.lists t.settings h drain.waiting drain.array down ∙ ap (λ z. set (lists_of u) p.bucket (remove z p.slot)) (sym (own-list h c drain.waiting drain.array p.bucket down));
+          settings = own-settings c d p.bucket left t.lists t.settings h drain.waiting drain.array down;
+          refused = own-refused c d p.bucket left t.lists t.settings h drain.waiting drain.array down t.refused;
+          spilled = let o = t.spilled in let a = spilled-together h d drain.waiting drain.array in let z = spilled-together h c drain.waiting drain.array in omega arith;
         } in
         subst (λ q. IsTakenFrom u q v) (sym spot-here) at
 
     module _ (e : E) (got : slice_get (entries c) (spots.index_of_spot c p) ≡ Some e) where
-      pub own-less_swapped : IsSwappedOutOf c p d → IsTable eq key hash d ws olds skipped pending next left aside
+      pub own-less_swapped : IsSwappedOutOf c p d → IsTable eq key hash d drain skipped
       own-less_swapped t =
           let h : E → ℕ = λ x. hash (key x) in
-          let u = together h c ws olds in
-          let there = own-got laws key hash c ws olds skipped pending next left aside inv p within l e got in
-          own-fields eq key hash c d p.bucket t.left t.lists t.settings ws olds down skipped pending next left aside inv (let o = t.spilled in let f = inv.few in omega arith)
-          (swapped-unique u (together h d ws olds) (spot_of u p) within (own-swapped t) laws key e there inv.unique)
+          let u = together h c drain.waiting drain.array in
+          let there = own-got laws inv p within l e got in
+          own-fields eq key hash c d p.bucket t.left t.lists t.settings drain down skipped inv (let o = t.spilled in let f = inv.few in omega arith)
+          (swapped-unique u (together h d drain.waiting drain.array) (spot_of u p) within (own-swapped t) laws key e there inv.unique)
 
-      pub own-less : IsTakenFrom c p d → IsTable eq key hash d ws olds skipped pending next left aside
+      pub own-less : IsTakenFrom c p d → IsTable eq key hash d drain skipped
       own-less t =
           let h : E → ℕ = λ x. hash (key x) in
-          let u = together h c ws olds in
-          let there = own-got laws key hash c ws olds skipped pending next left aside inv p within l e got in
-          own-fields eq key hash c d p.bucket (remove (list_of c p.bucket) p.slot) t.lists t.settings ws olds down skipped pending next left aside inv (let o = t.spilled in let f = inv.few in omega arith)
-          (taken-unique u (together h d ws olds) (spot_of u p) within (own-taken t) laws key e there inv.unique)
+          let u = together h c drain.waiting drain.array in
+          let there = own-got laws inv p within l e got in
+          own-fields eq key hash c d p.bucket (remove (list_of c p.bucket) p.slot) t.lists t.settings drain down skipped inv (let o = t.spilled in let f = inv.few in omega arith)
+          (taken-unique u (together h d drain.waiting drain.array) (spot_of u p) within (own-taken t) laws key e there inv.unique)
 
-  module _ (far : bucket_count c ≤ p.bucket) (e : E) (got : slice_get (shelf_entries (shelf_of olds (p.bucket - bucket_count c))) p.slot ≡ Some e) where
-    lj : p.bucket - bucket_count c < length olds
-    lj = (old-is laws key hash c ws olds skipped pending next left aside inv p within far).0
+  module _ (far : bucket_count c ≤ p.bucket) (e : E) (got : slice_get (shelf_entries (shelf_of drain.array (p.bucket - bucket_count c))) p.slot ≡ Some e) where
+    lj : p.bucket - bucket_count c < length drain.array
+    lj = (old-is laws inv p within far).0
 
-    pub old-taken_at : IsTakenFrom (together (λ x. hash (key x)) c ws olds) (spot_of (together (λ x. hash (key x)) c ws olds) p)
-        (together (λ x. hash (key x)) c ws (set olds (p.bucket - bucket_count c) (without_place (shelf_of olds (p.bucket - bucket_count c)) p.slot)))
+    pub old-taken_at : IsTakenFrom (together (λ x. hash (key x)) c drain.waiting drain.array) (spot_of (together (λ x. hash (key x)) c drain.waiting drain.array) p)
+        (together (λ x. hash (key x)) c drain.waiting (set drain.array (p.bucket - bucket_count c) (without_place (shelf_of drain.array (p.bucket - bucket_count c)) p.slot)))
     old-taken_at =
         let h : E → ℕ = λ x. hash (key x) in
         let j = p.bucket - bucket_count c in
         let back : p.bucket ≡ bucket_count c + j = omega arith in
-        subst (λ q. IsTakenFrom (together h c ws olds) q (together h c ws (set olds j (without_place (shelf_of olds j) p.slot)))) (sym (old-spot h c ws olds inv.arrays j p.slot e lj got p back refl))
-        (old-taken h c ws olds inv.arrays j p.slot e lj got)
+        subst (λ q. IsTakenFrom (together h c drain.waiting drain.array) q (together h c drain.waiting (set drain.array j (without_place (shelf_of drain.array j) p.slot)))) (sym (old-spot h c drain.waiting drain.array inv.arrays j p.slot e lj got p back refl))
+        (old-taken h c drain.waiting drain.array inv.arrays j p.slot e lj got)
 
     -- the annotation of that entry goes
-    pub old-owed_taken : owed_of (together (λ x. hash (key x)) c ws (set olds (p.bucket - bucket_count c) (without_place (shelf_of olds (p.bucket - bucket_count c)) p.slot)))
-        ≡ owed_taken (bucket_count (together (λ x. hash (key x)) c ws olds)) (owed_of (together (λ x. hash (key x)) c ws olds)) p
+    pub old-owed_taken : owed_of (together (λ x. hash (key x)) c drain.waiting (set drain.array (p.bucket - bucket_count c) (without_place (shelf_of drain.array (p.bucket - bucket_count c)) p.slot)))
+        ≡ owed_taken (bucket_count (together (λ x. hash (key x)) c drain.waiting drain.array)) (owed_of (together (λ x. hash (key x)) c drain.waiting drain.array)) p
     old-owed_taken =
         let h : E → ℕ = λ x. hash (key x) in
         let f = target_by h c in
-        let u = together h c ws olds in
+        let u = together h c drain.waiting drain.array in
         let n = bucket_count c in
         let j = p.bucket - n in
-        let count = count-together h c ws olds inv.arrays.flags in
+        let count = count-together h c drain.waiting drain.array inv.arrays.flags in
         let past : nat_lt p.bucket n ≡ false = search rules in
-        let ls = (old-is laws key hash c ws olds skipped pending next left aside inv p within far).1 in
-        let hs = owed_in f ws olds in
-        owed-together h c ws (set olds j (without_place (shelf_of olds j) p.slot)) ∙ owed-removed f ws olds j p.slot lj ls
-        ∙ sym (ap (λ m. owed_taken m (owed_of u) p) count ∙ ap (λ z. owed_taken n z p) (owed-together h c ws olds) ∙ ap (λ (b : Bool). cond b hs (set hs j (remove (get_or hs j []) p.slot))) past)
+        let ls = (old-is laws inv p within far).1 in
+        let hs = owed_in f drain.waiting drain.array in
+        owed-together h c drain.waiting (set drain.array j (without_place (shelf_of drain.array j) p.slot)) ∙ owed-removed f drain.waiting drain.array j p.slot lj ls
+        ∙ sym (ap (λ m. owed_taken m (owed_of u) p) count ∙ ap (λ z. owed_taken n z p) (owed-together h c drain.waiting drain.array) ∙ ap (λ (b : Bool). cond b hs (set hs j (remove (get_or hs j []) p.slot))) past)
 
     -- there is one to take
-    pub old-some : 1 ≤ left
-    old-some = let h : E → ℕ = λ x. hash (key x) in let n = owed-less h c ws olds inv.arrays (p.bucket - bucket_count c) p.slot e lj got in let m = inv.left_is in omega arith
+    pub old-some : 1 ≤ drain.left
+    old-some = let h : E → ℕ = λ x. hash (key x) in let n = owed-less h c drain.waiting drain.array inv.arrays (p.bucket - bucket_count c) p.slot e lj got in let m = inv.left_is in omega arith
 
-    pub old-less : IsTable eq key hash c ws (set olds (p.bucket - bucket_count c) (without_place (shelf_of olds (p.bucket - bucket_count c)) p.slot)) skipped pending next (left - 1) aside
+    pub old-less : IsTable eq key hash c (record drain { array = set drain.array (p.bucket - bucket_count c) (without_place (shelf_of drain.array (p.bucket - bucket_count c)) p.slot); left = drain.left - 1 }) skipped
     old-less =
         let h : E → ℕ = λ x. hash (key x) in
         let j = p.bucket - bucket_count c in
-        let news = set olds j (without_place (shelf_of olds j) p.slot) in
-        let u = together h c ws olds in
-        let there = old-got laws key hash c ws olds skipped pending next left aside inv p within far e got in
-        old-fields eq key hash c ws olds news skipped pending next left aside (left - 1) aside inv (arrays-less h c ws olds inv.arrays j p.slot e lj got) (length-set olds j (without_place (shelf_of olds j) p.slot))
-        (let n = owed-less h c ws olds inv.arrays j p.slot e lj got in let m = inv.left_is in omega arith)
-        (let n = spilled-less h c ws olds inv.arrays j p.slot e lj got in let m = inv.overflow_is in omega arith) inv.few
-        (taken-unique u (together h c ws news) (spot_of u p) within old-taken_at laws key e there inv.unique)
+        let news = set drain.array j (without_place (shelf_of drain.array j) p.slot) in
+        let u = together h c drain.waiting drain.array in
+        let there = old-got laws inv p within far e got in
+        old-fields eq key hash c drain news skipped (drain.left - 1) drain.left_overflow inv (arrays-less h c drain.waiting drain.array inv.arrays j p.slot e lj got) (length-set drain.array j (without_place (shelf_of drain.array j) p.slot))
+        (let n = owed-less h c drain.waiting drain.array inv.arrays j p.slot e lj got in let m = inv.left_is in omega arith)
+        (let n = spilled-less h c drain.waiting drain.array inv.arrays j p.slot e lj got in let m = inv.overflow_is in omega arith) inv.few
+        (taken-unique u (together h c drain.waiting news) (spot_of u p) within old-taken_at laws key e there inv.unique)

@@ -1,48 +1,47 @@
 -- Two arrays, none of whose buckets waits, where a closure wrote into the present one.
-use Rattle.std.proofs.Common.{◌≡◌, ℕ, Bool, true, List, Option, Some, None, sym, ap, subst, ◌∙◌}
+use Rattle.std.proofs.Common.{◌≡◌, ℕ, Bool, true, Option, Some, None, sym, ap, subst, ◌∙◌}
 use Rattle.std.specs.Borrow.{Bor, MutBor}
 use Rattle.std.specs.Cmp.{IsEquivalence}
 use Rattle.std.specs.Fn.{Once}
 use Rattle.std.specs.List.{position}
 use Rattle.std.specs.Prelude.{[]}
-use Rattle.scc_array.specs.Shelf.{Shelf}
 use Rattle.scc_contents.specs.Contents.{Contents, Settings, settings_of}
 use Rattle.scc_buckets.specs.Updates as one
 use Rattle.scc_buckets.specs.Writes as writes
-use Rattle.scc_table.specs.TwoArrays.{together, IsTable}
+use Rattle.scc_table.specs.TwoArrays.{Draining, together, IsTable}
 use Rattle.scc_table.specs.Updates.{UpdatesFirst}
 use Rattle.scc_table.proofs.CurrentChanges.{settings-write}
 use Rattle.scc_table.proofs.SearchingLemmas.{entries-settled, found-settled}
 use Rattle.scc_table.proofs.Written.{own-got, own-kept, own-written}
 
-module _ {F E K V R S : Type 0} (g : Once F (Bor K × (MutBor V × Unit {0})) (R × (MutBor V × Unit {0}))) (f : F) (key : E → K) (value_of : E → V) (put : E → V → E) (p : E → Bool) {eq : K → K → Bool} (laws : IsEquivalence eq) (hash_for : Settings S → K → ℕ) (c d : Contents E S) (ws : List Bool)
-    (olds : List (Shelf E)) (skipped pending next left aside : ℕ) (inv : IsTable eq key (hash_for (settings_of c)) c ws olds skipped pending next left aside) (none : ws ≡ []) where
+module _ {F E K V R S : Type 0} (g : Once F (Bor K × (MutBor V × Unit {0})) (R × (MutBor V × Unit {0}))) (f : F) (key : E → K) (value_of : E → V) (put : E → V → E) (p : E → Bool) {eq : K → K → Bool} (laws : IsEquivalence eq) (hash_for : Settings S → K → ℕ) (c d : Contents E S)
+    (drain : Draining E) (skipped : ℕ) (inv : IsTable eq key (hash_for (settings_of c)) c drain skipped) (none : drain.waiting ≡ []) where
   abbrev hk : K → ℕ
   hk = hash_for (settings_of c)
 
   abbrev both : Contents E S → Contents E S
-  both z = together (λ e. hash_for (settings_of z) (key e)) z ws olds
+  both z = together (λ e. hash_for (settings_of z) (key e)) z drain.waiting drain.array
 
   -- what was done to the present array was done to both
   pub settled-first : (r : Option R) → one.UpdatesFirstSpot g f key value_of put p c d r → UpdatesFirst g f key value_of put p (both c) (both d) r
-  settled-first None (missed, stays) = (ap (position p) (entries-settled (λ e. hk (key e)) c olds ws none) ∙ missed, ap both stays)
+  settled-first None (missed, stays) = (ap (position p) (entries-settled (λ e. hk (key e)) c drain.array drain.waiting none) ∙ missed, ap both stays)
   settled-first (Some r) (q, e, w, found, got, called, written) =
-      let at = found-settled (λ x. hk (key x)) c olds ws none p q found in
+      let at = found-settled (λ x. hk (key x)) c drain.array drain.waiting none p q found in
       let near = found.within.bucket in (
         q,
         e,
         w,
         at,
-        own-got laws key hk c ws olds skipped pending next left aside inv q at.within near e got,
+        own-got laws inv q at.within near e got,
         called,
-        ap both written ∙ ap (λ s. together (λ x. hash_for s (key x)) (writes.with_write_at_spot put c q w) ws olds) (settings-write put c q w) ∙ own-written laws key hk c ws olds skipped pending next left aside inv q at.within near put w,
+        ap both written ∙ ap (λ s. together (λ x. hash_for s (key x)) (writes.with_write_at_spot put c q w) drain.waiting drain.array) (settings-write put c q w) ∙ own-written laws inv q at.within near put w,
       )
 
   -- they are two arrays still, if a written value keeps the key
-  pub settled-kept : ((e : E) (w : V) → eq (key (put e w)) (key e) ≡ true) → (r : Option R) → one.UpdatesFirstSpot g f key value_of put p c d r → IsTable eq key (hash_for (settings_of d)) d ws olds skipped pending next left aside
-  settled-kept keeps None (missed, stays) = subst (λ (z : Contents E S). IsTable eq key (hash_for (settings_of z)) z ws olds skipped pending next left aside) (sym stays) inv
+  pub settled-kept : ((e : E) (w : V) → eq (key (put e w)) (key e) ≡ true) → (r : Option R) → one.UpdatesFirstSpot g f key value_of put p c d r → IsTable eq key (hash_for (settings_of d)) d drain skipped
+  settled-kept keeps None (missed, stays) = subst (λ (z : Contents E S). IsTable eq key (hash_for (settings_of z)) z drain skipped) (sym stays) inv
   settled-kept keeps (Some r) (q, e, w, found, got, called, written) =
-      let at = found-settled (λ x. hk (key x)) c olds ws none p q found in
-      subst (λ (z : Contents E S). IsTable eq key (hash_for (settings_of z)) z ws olds skipped pending next left aside) (sym written)
-      (subst (λ (s : Settings S). IsTable eq key (hash_for s) (writes.with_write_at_spot put c q w) ws olds skipped pending next left aside) (sym (settings-write put c q w))
-      (own-kept laws key hk c ws olds skipped pending next left aside inv q at.within found.within.bucket put w e got (keeps e w)))
+      let at = found-settled (λ x. hk (key x)) c drain.array drain.waiting none p q found in
+      subst (λ (z : Contents E S). IsTable eq key (hash_for (settings_of z)) z drain skipped) (sym written)
+      (subst (λ (s : Settings S). IsTable eq key (hash_for s) (writes.with_write_at_spot put c q w) drain skipped) (sym (settings-write put c q w))
+      (own-kept laws inv q at.within found.within.bucket put w e got (keeps e w)))

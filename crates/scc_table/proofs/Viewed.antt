@@ -4,7 +4,7 @@ use Rattle.std.specs.List.{count_by}
 use Rattle.scc_array.specs.Shelf.{Shelf}
 use Rattle.scc_contents.specs.Contents.{Contents, bucket_count, lists_of, settings_of, refused_of, spilled_of, waiting_of, owed_of, pending_of}
 use Rattle.scc_buckets.specs.Tables.{spilled_in}
-use Rattle.scc_table.specs.TwoArrays.{together, IsTable}
+use Rattle.scc_table.specs.TwoArrays.{Draining, together, IsTable}
 use Rattle.scc_table.proofs.Alone.{lists-alone, owed-alone, spilled-together}
 use Rattle.scc_table.proofs.Joining.{settings-together, refused-together, waiting-together, pending-together, count-together}
 
@@ -35,6 +35,5 @@ module _ {E S : Type 0} (hash : E → ℕ) (c : Contents E S) (ws : List Bool) (
   owed-seen none = ap owed_of (sym view) ∙ owed-alone hash c ws olds none
 
 -- nothing waits where nothing is pending
-pub settled-flags : {E K S : Type 0} {eq : K → K → Bool} {key : E → K} {hash : K → ℕ} {c : Contents E S} {ws : List Bool} {olds : List (Shelf E)} {skipped pending next left aside : ℕ} (d : Contents E S) → IsTable eq key hash c ws olds skipped pending next left aside → together (λ e. hash (key e)) c ws olds ≡ d → pending_of d ≡ 0
-    → ws ≡ []
-settled-flags {key = key} {hash = hash} {c = c} {ws = ws} {olds = olds} d inv view none = inv.none (inv.counted ∙ sym (pending-seen (λ e. hash (key e)) c ws olds d view) ∙ none)
+pub settled-flags : {E K S : Type 0} {eq : K → K → Bool} {key : E → K} {hash : K → ℕ} {c : Contents E S} {drain : Draining E} {skipped : ℕ} (d : Contents E S) → IsTable eq key hash c drain skipped → together (λ e. hash (key e)) c drain.waiting drain.array ≡ d → pending_of d ≡ 0 → drain.waiting ≡ []
+settled-flags {key = key} {hash = hash} {c = c} {drain = drain} d inv view none = inv.none (inv.counted ∙ sym (pending-seen (λ e. hash (key e)) c drain.waiting drain.array d view) ∙ none)

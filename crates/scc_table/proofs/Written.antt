@@ -22,7 +22,7 @@ use Rattle.scc_buckets.proofs.Views.{view_of}
 use Rattle.scc_buckets.proofs.WritingTables.{distinct-write, entries-write, entries_write, written-table}
 use Rattle.scc_draining.specs.Moves.{AreOwn}
 use Rattle.scc_table.specs.Places.{IsPlace, index_of, spot_of, with_write_at}
-use Rattle.scc_table.specs.TwoArrays.{owed_in, waits_at, target_by, together, TwoArrays, IsTable}
+use Rattle.scc_table.specs.TwoArrays.{Draining, owed_in, waits_at, target_by, together, TwoArrays, IsTable}
 use Rattle.scc_draining.proofs.Arriving.{same-contents}
 use Rattle.scc_table.proofs.CurrentChanges.{own-fields, own-write, lists-write, settings-write, refused-write, spilled-write, waiting-write, owed-write, spilled-together}
 use Rattle.scc_table.proofs.Joining.{owed-together, refused-together, settings-together, waiting-together}
@@ -100,82 +100,87 @@ module _ {E S X : Type 0} (put : E → X → E) (hash : E → ℕ) (c : Contents
       (waiting-together hash c ws news ∙ sym (waiting-together hash c ws olds) ∙ sym (waiting-write put u p w))
       (owed-together hash c ws news ∙ owed-same f ws olds news rows ∙ sym (owed-together hash c ws olds) ∙ sym (owed-write put u p w))
 
+-- what is seen to be a place is one
+pub place-seen : {E K S : Type 0} {eq : K → K → Bool} {key : E → K} {hash : K → ℕ} {c : Contents E S} {drain : Draining E} {skipped : ℕ} (inv : IsTable eq key hash c drain skipped) {a : Contents E S} (p : Place) → together (λ e. hash (key e)) c drain.waiting drain.array ≡ a → IsPlace a p
+    → IsPlace (together (λ e. hash (key e)) c drain.waiting drain.array) p
+place-seen inv p view place = subst (λ z. IsPlace z p) (sym view) place
+
 -- of all fields, with one entry written
-module _ {E K S : Type 0} {eq : K → K → Bool} (laws : IsEquivalence eq) (key : E → K) (hash : K → ℕ) (c : Contents E S) (ws : List Bool) (olds : List (Shelf E)) (skipped pending next left aside : ℕ) (inv : IsTable eq key hash c ws olds skipped pending next left aside) (p : Place)
-    (within : IsPlace (together (λ e. hash (key e)) c ws olds) p) where
+module _ {E K S : Type 0} {eq : K → K → Bool} (laws : IsEquivalence eq) {key : E → K} {hash : K → ℕ} {c : Contents E S} {drain : Draining E} {skipped : ℕ} (inv : IsTable eq key hash c drain skipped) (p : Place)
+    (within : IsPlace (together (λ e. hash (key e)) c drain.waiting drain.array) p) where
   module _ (l : p.bucket < bucket_count c) where
     -- a place of the new array
-    pub own-is : spots.IsSpot c p × (waits_at ws p.bucket ≡ false)
-    own-is = elim (place-kind (λ e. hash (key e)) c ws olds inv.arrays p within) [
+    pub own-is : spots.IsSpot c p × (waits_at drain.waiting p.bucket ≡ false)
+    own-is = elim (place-kind (λ e. hash (key e)) c drain.waiting drain.array inv.arrays p within) [
       | own q down ↦ (q, down)
       | old j at lj ls ↦ absurd (omega arith)
     ]
 
-    pub own-got : (e : E) → slice_get (entries c) (spots.index_of_spot c p) ≡ Some e → slice_get (entries (together (λ x. hash (key x)) c ws olds)) (index_of (together (λ x. hash (key x)) c ws olds) p) ≡ Some e
+    pub own-got : (e : E) → slice_get (entries c) (spots.index_of_spot c p) ≡ Some e → slice_get (entries (together (λ x. hash (key x)) c drain.waiting drain.array)) (index_of (together (λ x. hash (key x)) c drain.waiting drain.array) p) ≡ Some e
     own-got e got =
         let q = own-is.0 in
         let here = at-get (list_of c p.bucket) p.slot q.slot in
         let s : Some (at (list_of c p.bucket) p.slot q.slot) ≡ Some e = sym (place-get c p q (at (list_of c p.bucket) p.slot q.slot) here) ∙ got in
         let is : at (list_of c p.bucket) p.slot q.slot ≡ e = cc in
-        own-get (λ x. hash (key x)) c ws olds inv.arrays p l own-is.1 e (here ∙ ap (λ z. Some z) is)
+        own-get (λ x. hash (key x)) c drain.waiting drain.array inv.arrays p l own-is.1 e (here ∙ ap (λ z. Some z) is)
 
     module _ {X : Type 0} (put : E → X → E) (w : X) where
-      pub own-written : together (λ x. hash (key x)) (writes.with_write_at_spot put c p w) ws olds ≡ with_write_at put (together (λ x. hash (key x)) c ws olds) p w
+      pub own-written : together (λ x. hash (key x)) (writes.with_write_at_spot put c p w) drain.waiting drain.array ≡ with_write_at put (together (λ x. hash (key x)) c drain.waiting drain.array) p w
       own-written =
           let h : E → ℕ = λ x. hash (key x) in
-          own-write put c p w h ws olds own-is.1 ∙ ap (λ q. writes.with_write_at_spot put (together h c ws olds) q w) (sym (own-spot h c ws olds inv.arrays p l own-is.1))
+          own-write put c p w h drain.waiting drain.array own-is.1 ∙ ap (λ q. writes.with_write_at_spot put (together h c drain.waiting drain.array) q w) (sym (own-spot h c drain.waiting drain.array inv.arrays p l own-is.1))
 
-      pub own-kept : (e : E) → slice_get (entries c) (spots.index_of_spot c p) ≡ Some e → eq (key (put e w)) (key e) ≡ true → IsTable eq key hash (writes.with_write_at_spot put c p w) ws olds skipped pending next left aside
+      pub own-kept : (e : E) → slice_get (entries c) (spots.index_of_spot c p) ≡ Some e → eq (key (put e w)) (key e) ≡ true → IsTable eq key hash (writes.with_write_at_spot put c p w) drain skipped
       own-kept e got equal =
           let h : E → ℕ = λ x. hash (key x) in
           let d = writes.with_write_at_spot put c p w in
-          let u = together h c ws olds in
+          let u = together h c drain.waiting drain.array in
           let there = own-got e got in
           let q = spot_of u p in
           let inside : spots.IsSpot u q = within in
-          let all : entries (together h d ws olds) ≡ write_at put (entries u) (spots.index_of_spot u q) w = ap entries own-written
+          let all : entries (together h d drain.waiting drain.array) ≡ write_at put (entries u) (spots.index_of_spot u q) w = ap entries own-written
           ∙ entries-write put u q inside (at (list_of u q.bucket) q.slot inside.slot) (at-get (list_of u q.bucket) q.slot inside.slot) w in
-          own-fields eq key hash c d p.bucket (write_at put (list_of c p.bucket) p.slot w) (lists-write put c p w) (settings-write put c p w) ws olds own-is.1 skipped pending next left aside inv
+          own-fields eq key hash c d p.bucket (write_at put (list_of c p.bucket) p.slot w) (lists-write put c p w) (settings-write put c p w) drain own-is.1 skipped inv
           (let n = spilled-write put c p w in let f = inv.few in omega arith)
           (subst (λ z. IsDistinct eq (map key z)) (sym all) (distinct-write laws key put (entries u) (spots.index_of_spot u q) e w there equal inv.unique))
 
   module _ (far : bucket_count c ≤ p.bucket) where
     -- a place of the old array
-    pub old-is : (p.bucket - bucket_count c < length olds) × (p.slot < length (shelf_entries (shelf_of olds (p.bucket - bucket_count c))))
-    old-is = elim (place-kind (λ e. hash (key e)) c ws olds inv.arrays p within) [
+    pub old-is : (p.bucket - bucket_count c < length drain.array) × (p.slot < length (shelf_entries (shelf_of drain.array (p.bucket - bucket_count c))))
+    old-is = elim (place-kind (λ e. hash (key e)) c drain.waiting drain.array inv.arrays p within) [
       | own q down ↦ let b = q.bucket in absurd (omega arith)
-      | old j at lj ls ↦ let m : p.bucket - bucket_count c ≡ j = omega arith in (omega arith, subst (λ k. p.slot < length (shelf_entries (shelf_of olds k))) (sym m) ls)
+      | old j at lj ls ↦ let m : p.bucket - bucket_count c ≡ j = omega arith in (omega arith, subst (λ k. p.slot < length (shelf_entries (shelf_of drain.array k))) (sym m) ls)
     ]
 
     back-is : p.bucket ≡ bucket_count c + (p.bucket - bucket_count c)
     back-is = omega arith
 
-    few-owed : spilled_in olds < 2 ^ 62
+    few-owed : spilled_in drain.array < 2 ^ 62
     few-owed = let a = inv.overflow_is in let b = inv.few in omega arith
 
-    module _ (e : E) (got : slice_get (shelf_entries (shelf_of olds (p.bucket - bucket_count c))) p.slot ≡ Some e) where
-      pub old-got : slice_get (entries (together (λ x. hash (key x)) c ws olds)) (index_of (together (λ x. hash (key x)) c ws olds) p) ≡ Some e
-      old-got = old-get (λ x. hash (key x)) c ws olds inv.arrays (p.bucket - bucket_count c) p.slot e old-is.0 got p back-is refl
+    module _ (e : E) (got : slice_get (shelf_entries (shelf_of drain.array (p.bucket - bucket_count c))) p.slot ≡ Some e) where
+      pub old-got : slice_get (entries (together (λ x. hash (key x)) c drain.waiting drain.array)) (index_of (together (λ x. hash (key x)) c drain.waiting drain.array) p) ≡ Some e
+      old-got = old-get (λ x. hash (key x)) c drain.waiting drain.array inv.arrays (p.bucket - bucket_count c) p.slot e old-is.0 got p back-is refl
 
       module _ {X : Type 0} (put : E → X → E) (w : X) (equal : hash (key (put e w)) ≡ hash (key e)) where
-        pub old-written : together (λ x. hash (key x)) c ws (set olds (p.bucket - bucket_count c) (shelf_write_at put (shelf_of olds (p.bucket - bucket_count c)) p.slot w)) ≡ with_write_at put (together (λ x. hash (key x)) c ws olds) p w
+        pub old-written : together (λ x. hash (key x)) c drain.waiting (set drain.array (p.bucket - bucket_count c) (shelf_write_at put (shelf_of drain.array (p.bucket - bucket_count c)) p.slot w)) ≡ with_write_at put (together (λ x. hash (key x)) c drain.waiting drain.array) p w
         old-written =
             let h : E → ℕ = λ x. hash (key x) in
-            old-write put h c ws olds inv.arrays few-owed (p.bucket - bucket_count c) p.slot e old-is.0 got w equal
-            ∙ ap (λ q. writes.with_write_at_spot put (together h c ws olds) q w) (sym (old-spot h c ws olds inv.arrays (p.bucket - bucket_count c) p.slot e old-is.0 got p back-is refl))
+            old-write put h c drain.waiting drain.array inv.arrays few-owed (p.bucket - bucket_count c) p.slot e old-is.0 got w equal
+            ∙ ap (λ q. writes.with_write_at_spot put (together h c drain.waiting drain.array) q w) (sym (old-spot h c drain.waiting drain.array inv.arrays (p.bucket - bucket_count c) p.slot e old-is.0 got p back-is refl))
 
         pub old-kept : eq (key (put e w)) (key e) ≡ true
-            → IsTable eq key hash c ws (set olds (p.bucket - bucket_count c) (shelf_write_at put (shelf_of olds (p.bucket - bucket_count c)) p.slot w)) skipped pending next left aside
+            → IsTable eq key hash c (record drain { array = set drain.array (p.bucket - bucket_count c) (shelf_write_at put (shelf_of drain.array (p.bucket - bucket_count c)) p.slot w) }) skipped
         old-kept same =
             let h : E → ℕ = λ x. hash (key x) in
             let j = p.bucket - bucket_count c in
-            let news = set olds j (shelf_write_at put (shelf_of olds j) p.slot w) in
-            let u = together h c ws olds in
+            let news = set drain.array j (shelf_write_at put (shelf_of drain.array j) p.slot w) in
+            let u = together h c drain.waiting drain.array in
             let q = spot_of u p in
             let inside : spots.IsSpot u q = within in
-            let table = table-after put h c ws olds inv.arrays few-owed j p.slot e old-is.0 got w equal in
-            let all : entries (together h c ws news) ≡ write_at put (entries u) (spots.index_of_spot u q) w = ap entries old-written
+            let table = table-after put h c drain.waiting drain.array inv.arrays few-owed j p.slot e old-is.0 got w equal in
+            let all : entries (together h c drain.waiting news) ≡ write_at put (entries u) (spots.index_of_spot u q) w = ap entries old-written
             ∙ entries-write put u q inside (at (list_of u q.bucket) q.slot inside.slot) (at-get (list_of u q.bucket) q.slot inside.slot) w in
-            old-fields eq key hash c ws olds news skipped pending next left aside left aside inv (arrays-after put h c ws olds inv.arrays few-owed j p.slot e old-is.0 got w equal) (length-set olds j (shelf_write_at put (shelf_of olds j) p.slot w))
+            old-fields eq key hash c drain news skipped drain.left drain.left_overflow inv (arrays-after put h c drain.waiting drain.array inv.arrays few-owed j p.slot e old-is.0 got w equal) (length-set drain.array j (shelf_write_at put (shelf_of drain.array j) p.slot w))
             (inv.left_is ∙ table.counted) (let n = table.spilled in let o = inv.overflow_is in omega arith) inv.few
             (subst (λ z. IsDistinct eq (map key z)) (sym all) (distinct-write laws key put (entries u) (spots.index_of_spot u q) e w old-got same inv.unique))

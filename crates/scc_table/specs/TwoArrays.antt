@@ -1,6 +1,7 @@
 -- Two arrays beside each other: the entries of an old one wait there until their bucket of the new one takes them over.
 use Rattle.std.specs.Prelude.{◌≡◌, ◌==◌, ℕ, suc, ◌+◌, ◌^◌, ◌<◌, ◌≤◌, ◌⊎◌, Bool, true, false, cond, List, [], ◌∷◌, length, map, not, count_by, slice_index_or, slice_set}
 use Rattle.std.specs.List.{filter, flat_map, range_with_len, sum_by, IsDistinct}
+use Rattle.scc_table.specs.declared.Draining as code
 use Rattle.scc_array.specs.Shelf.{Shelf, shelf_entries}
 use Rattle.scc_contents.specs.Contents.{Contents, entries, bucket_count, list_of, lists_of, settings_of, refused_of, spilled_of, waiting_of, owed_of, pending_of}
 use Rattle.scc_buckets.specs.Pour.{bound_for}
@@ -80,16 +81,35 @@ pub record IsRelocated {E S : Type 0} (i : ℕ) (c d : Contents E S) : Type 0 wh
   pub owed : owed_of d ≡ owed_without (waiting_of d) i (owed_of c)
   pub pending : pending_of c ≡ pending_of d + 1
 
+-- what drains of a table: the old array, and which buckets of the new one wait for its entries
+pub record Draining (E : Type 0) : Type 0 where
+  -- the buckets of the old array
+  pub array : List (Shelf E)
+  -- of each bucket of the new array whether it waits; nothing where none does
+  pub waiting : List Bool
+  -- how many buckets wait
+  pub pending : ℕ
+  -- no bucket before this one waits
+  pub next : ℕ
+  -- how many entries the old array holds
+  pub left : ℕ
+  -- its overflow lists hold at most so many of them
+  pub left_overflow : ℕ
+
+-- the same of a value of the program
+abbrev pub draining_of : {E : Type 0} → code.Draining E → Draining E
+draining_of o = record { array = o.array; waiting = o.waiting.items; pending = o.pending; next = o.next; left = o.left; left_overflow = o.left_overflow }
+
 -- of all fields of a table of two arrays. Where no bucket waits, there is no old array
-pub record IsTable {E K S : Type 0} (eq : K → K → Bool) (key : E → K) (hash : K → ℕ) (c : Contents E S) (ws : List Bool) (olds : List (Shelf E)) (skipped pending next left left_overflow : ℕ) : Type 0 where
-  pub arrays : TwoArrays (λ e. hash (key e)) c ws olds
+pub record IsTable {E K S : Type 0} (eq : K → K → Bool) (key : E → K) (hash : K → ℕ) (c : Contents E S) (drain : Draining E) (skipped : ℕ) : Type 0 where
+  pub arrays : TwoArrays (λ e. hash (key e)) c drain.waiting drain.array
   pub skips : skipped ≡ (settings_of c).skipped
   pub few_bits : skipped ≤ 4
-  pub counted : pending ≡ count_by (λ w. w) ws
-  pub none : pending ≡ 0 → ws ≡ []
-  pub given_back : pending ≡ 0 → olds ≡ []
-  pub below : (i : ℕ) → i < next → waits_at ws i ≡ false
-  pub left_is : left ≡ sum_by (λ b. length (shelf_entries b)) olds
-  pub overflow_is : spilled_in olds ≤ left_overflow
-  pub few : spilled_of c + left_overflow < 2 ^ 62
-  pub unique : IsDistinct eq (map key (entries (together (λ e. hash (key e)) c ws olds)))
+  pub counted : drain.pending ≡ count_by (λ w. w) drain.waiting
+  pub none : drain.pending ≡ 0 → drain.waiting ≡ []
+  pub given_back : drain.pending ≡ 0 → drain.array ≡ []
+  pub below : (i : ℕ) → i < drain.next → waits_at drain.waiting i ≡ false
+  pub left_is : drain.left ≡ sum_by (λ b. length (shelf_entries b)) drain.array
+  pub overflow_is : spilled_in drain.array ≤ drain.left_overflow
+  pub few : spilled_of c + drain.left_overflow < 2 ^ 62
+  pub unique : IsDistinct eq (map key (entries (together (λ e. hash (key e)) c drain.waiting drain.array)))

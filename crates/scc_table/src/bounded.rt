@@ -31,7 +31,6 @@ where
         ensures { FindsBucketWithin E.Key.eq E.key_of (key_hash H.BuildHasher H.Hasher.Hasher E.Key.hash_input)
             most self.old hash result self.new }
     {
-        self.keep_lists();
         if self.bucket_count() == 0 {
             self.make_array()?;
             return Ok(self.bucket_at(hash));
@@ -56,7 +55,6 @@ where
         ensures { DoublesWithin E.Key.eq E.key_of (key_hash H.BuildHasher H.Hasher.Hasher E.Key.hash_input) most
             self.old result self.new }
     {
-        self.keep_lists();
         let count = self.bucket_count();
         let length = self.len();
         if self.pending() > 0 || length < 16 * count || 32 * count >= most {
@@ -117,7 +115,6 @@ where
             self.new }
         ensures unique { IsUniqueBy E.Key.eq E.key_of self.new }
     {
-        self.keep_lists();
         let present = self.bucket_count();
         let count = buckets_for(self.minimum()).max(buckets_for(2 * self.len()));
         if count >= present {

@@ -25,7 +25,7 @@ where
         ensures waiting { IfOk result (λ t. waiting_of t ≡ []) }
     {
         let mut copy = self.current.try_clone()?;
-        insert_clones_of(&mut copy, &self.draining)?;
+        insert_clones_of(&mut copy, &self.draining.array)?;
         Ok(Table::over(self.skipped, copy))
     }
 }

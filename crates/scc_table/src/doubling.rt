@@ -71,7 +71,6 @@ where
             Ok(()) => {
                 self.note(false);
                 self.relocate_some(1);
-                self.keep_lists();
                 Place { bucket, slot }
             }
             Err(_) => {
@@ -108,7 +107,6 @@ where
     {
         self.begin(count, fresh, flags);
         self.note(false);
-        self.keep_lists();
         let bucket = self.bucket_at(hash);
         match self.insert_at(bucket, hash, entry) {
             Ok(place) => place,
@@ -147,7 +145,6 @@ where
             (key_hash H.BuildHasher H.Hasher.Hasher E.Key.hash_input self.old) self.old count hash
             (E.made_of parts) parts result self.new }
     {
-        self.keep_lists();
         match E::make(self.current.allocator(), parts) {
             Ok(entry) => Ok(self.insert_grown(count, fresh, flags, hash, entry)),
             Err(back) => {

@@ -19,7 +19,7 @@ where
         requires { hash ≡ key_hash H.BuildHasher H.Hasher.Hasher E.Key.hash_input self.now key.now }
         ensures { option_copied result ≡ find (λ e. E.Key.eq key.now (E.key_of e)) (entries self.now) }
     {
-        if self.pending == 0 {
+        if self.draining.pending == 0 {
             return self.current.find(hash, key);
         }
         self.find_both(hash, key)
@@ -33,10 +33,9 @@ where
         ensures { option_copied result ≡ find (λ e. E.Key.eq key.now (E.key_of e)) (entries self.now) }
     {
         let bucket = self.current.bucket_at(hash);
-        self.current.keep_lists();
-        if self.waiting[bucket] {
-            let source = bucket_index(hash, self.skipped, self.draining.len());
-            return self.draining.find(source, key, tag(hash));
+        if self.draining.waiting[bucket] {
+            let source = bucket_index(hash, self.skipped, self.draining.array.len());
+            return self.draining.array.find(source, key, tag(hash));
         }
         self.current.find(hash, key)
     }

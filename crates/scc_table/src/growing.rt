@@ -21,7 +21,6 @@ where
         ensures { FindsBucketForNew E.Key.eq E.key_of
             (key_hash H.BuildHasher H.Hasher.Hasher E.Key.hash_input self.old) self.old hash result self.new }
     {
-        self.keep_lists();
         if self.bucket_count() == 0 {
             self.make_array()?;
             return Ok(self.bucket_at(hash));

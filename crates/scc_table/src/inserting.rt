@@ -32,8 +32,7 @@ where
         ensures { InsertsNew E.Key.eq E.key_of (key_hash H.BuildHasher H.Hasher.Hasher E.Key.hash_input self.old)
             self.old hash entry result self.new }
     {
-        self.keep_lists();
-        if self.pending == 0 && self.bucket_count() > 0 {
+        if self.draining.pending == 0 && self.bucket_count() > 0 {
             let bucket = self.bucket_at(hash);
             if self.list_len(bucket) < 32 {
                 return self.insert_at(bucket, hash, entry);
@@ -114,7 +113,6 @@ where
         match self.put_in(bucket, hash, entry) {
             Ok(place) => {
                 self.relocate_some(most);
-                self.keep_lists();
                 Ok(place)
             }
             Err(back) => Err(back),
@@ -135,10 +133,10 @@ where
             (E.key_of entry) → ⊥) result self.new }
     {
         self.current.keep_lists();
-        if self.left_overflow > 0 {
+        if self.draining.left_overflow > 0 {
             let listed = self.current.list_len(bucket);
             let spilled = self.current.overflow_len();
-            if is_overflow_full(listed, spilled, self.left_overflow) {
+            if is_overflow_full(listed, spilled, self.draining.left_overflow) {
                 return Err(entry);
             }
         }
@@ -162,7 +160,7 @@ where
         ensures bounded { IsBounded self.old → AreShort self.old → IsBounded self.new }
     {
         for _ in 0..most {
-            if self.pending == 0 {
+            if self.draining.pending == 0 {
                 return;
             }
             match self.relocate_next() {

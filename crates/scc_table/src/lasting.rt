@@ -74,7 +74,6 @@ where
             (IsListedAt (λ e. E.Key.eq key.now (E.key_of e)) self.now
             (bucket_number (settings_of self.now).skipped (bucket_count self.now) hash)) }
     {
-        self.keep_lists();
         let _ = self.bucket_at(hash);
         self.search(hash, key)
     }

@@ -3,7 +3,7 @@
 #![tactic(auto)]
 
 ghost use Rattle.std.specs.Prelude.{◌≡◌, ◌<◌, ◌≤◌, ◌^◌, ◌↔◌, true, IsTrue};
-ghost use Rattle.scc_contents.specs.Contents.{bucket_count, pending_of, refused_of};
+ghost use Rattle.scc_contents.specs.Contents.{bucket_count, pending_of, refused_of, IsUniqueBy};
 ghost use Rattle.scc_contents.specs.Sizes.{IsLawful};
 ghost use Rattle.scc_table.specs.TwoArrays.{IsWaiting};
 
@@ -47,13 +47,20 @@ where
     E::Key: Eq + Hash,
 {
     current: Buckets<E, H>,
-    draining: Array<E>,
+    draining: Draining<E>,
+    skipped: u32,
+}
+
+/// The old array, and which buckets of the present one wait for its entries: so many, none of them before `next`. It
+/// holds `left` entries, at most `left_overflow` of them in its overflow lists.
+#[derive(Drop)]
+struct Draining<E> {
+    array: Array<E>,
     waiting: Vec<bool>,
     pending: usize,
     next: usize,
     left: usize,
     left_overflow: usize,
-    skipped: u32,
 }
 
 impl<E: Keyed, H: BuildHasher> Model for Table<E, H>
@@ -61,15 +68,15 @@ where
     E::Key: Eq + Hash,
 {
     ghost use Rattle.scc_contents.specs.Contents.{Contents, contents_code, key_hash};
-    ghost use Rattle.scc_table.specs.TwoArrays.{together, IsTable};
+    ghost use Rattle.scc_table.specs.TwoArrays.{draining_of, together, IsTable};
 
     ghost Value = { Contents E H };
 
     ghost coded = { contents_code E.code H.code };
 
-    ghost view = { λ t. together (λ e. key_hash H.BuildHasher H.Hasher.Hasher E.Key.hash_input t.current (E.key_of e)) t.current t.waiting.items t.draining };
+    ghost view = { λ t. together (λ e. key_hash H.BuildHasher H.Hasher.Hasher E.Key.hash_input t.current (E.key_of e)) t.current t.draining.waiting.items t.draining.array };
 
-    ghost invariant = { λ t. IsTable E.Key.eq E.key_of (key_hash H.BuildHasher H.Hasher.Hasher E.Key.hash_input t.current) t.current t.waiting.items t.draining t.skipped t.pending t.next t.left t.left_overflow };
+    ghost invariant = { λ t. IsTable E.Key.eq E.key_of (key_hash H.BuildHasher H.Hasher.Hasher E.Key.hash_input t.current) t.current (draining_of t.draining) t.skipped };
 }
 
 impl<E: Keyed, H: BuildHasher> Table<E, H>
@@ -82,6 +89,7 @@ where
         ensures count { result ≡ bucket_count self.now }
         ensures most { result ≤ 2 ^ 58 }
         ensures lawful { IsLawful result }
+        ensures unique { IsUniqueBy E.Key.eq E.key_of self.now }
     {
         self.current.bucket_count()
     }
@@ -91,7 +99,7 @@ where
     pub fn pending(&self) -> usize
         ensures { result ≡ pending_of self.now }
     {
-        self.pending
+        self.draining.pending
     }
 
     /// Whether memory was refused for the last resize that was due.
@@ -116,9 +124,9 @@ where
         requires { bucket < bucket_count self.now }
         ensures { IsTrue result ↔ IsWaiting self.now bucket }
     {
-        if self.pending == 0 {
+        if self.draining.pending == 0 {
             return false;
         }
-        self.waiting[bucket]
+        self.draining.waiting[bucket]
     }
 }

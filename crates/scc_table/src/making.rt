@@ -5,7 +5,7 @@ ghost use Rattle.scc_buckets.specs.Bounded.{IsListed};
 ghost use Rattle.scc_contents.specs.Contents.{entries, bucket_count, key_hash, lists_of, refused_of, settings_of, spilled_of, waiting_of};
 ghost use Rattle.scc_contents.specs.Sizes.{IsArraySize};
 
-use super::Table;
+use super::{Draining, Table};
 use scc_array::Array;
 use scc_buckets::Buckets;
 use scc_common::{MakeError, Shared};
@@ -76,12 +76,14 @@ where
         let alloc = current.allocator();
         Table {
             current,
-            draining: Array::none(alloc),
-            waiting: Vec::new(alloc),
-            pending: 0,
-            next: 0,
-            left: 0,
-            left_overflow: 0,
+            draining: Draining {
+                array: Array::none(alloc),
+                waiting: Vec::new(alloc),
+                pending: 0,
+                next: 0,
+                left: 0,
+                left_overflow: 0,
+            },
             skipped,
         }
     }

@@ -30,7 +30,6 @@ where
         ensures { InsertsMade E.Key.eq E.key_of (key_hash H.BuildHasher H.Hasher.Hasher E.Key.hash_input self.old)
             self.old hash (E.made_of parts) parts result self.new }
     {
-        self.keep_lists();
         if self.bucket_count() == 0 {
             return self.insert_made_first(hash, parts);
         }
@@ -53,7 +52,7 @@ where
         requires absent { position (λ e. E.Key.eq (E.key_of (E.made_of parts)) (E.key_of e)) (entries self.old) ≡ None }
         ensures { InsertsMadeFirst E.Key.eq E.key_of self.old (E.made_of parts) parts result self.new }
     {
-        self.left_overflow = 0;
+        self.draining.left_overflow = 0;
         let placed = self.current.insert_made_first(hash, parts);
         let _few = self.current.overflow_len();
         placed
@@ -186,7 +185,6 @@ where
         match self.put_made_in(bucket, hash, parts) {
             Ok(place) => {
                 self.relocate_some(most);
-                self.keep_lists();
                 Ok(place)
             }
             Err(back) => Err(back),
@@ -212,11 +210,10 @@ where
         ensures { PutsInto E.Key.eq E.key_of self.old bucket (E.made_of parts) parts (Unit {0}) result
             self.new }
     {
-        self.current.keep_lists();
-        if self.left_overflow > 0 {
+        if self.draining.left_overflow > 0 {
             let listed = self.current.list_len(bucket);
             let spilled = self.current.overflow_len();
-            if is_overflow_full(listed, spilled, self.left_overflow) {
+            if is_overflow_full(listed, spilled, self.draining.left_overflow) {
                 return Err(parts);
             }
         }

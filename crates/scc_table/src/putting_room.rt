@@ -24,7 +24,6 @@ where
         ensures { MakesRoomWithin E.Key.eq E.key_of (key_hash H.BuildHasher H.Hasher.Hasher E.Key.hash_input) most
             self.old hash result self.new }
     {
-        self.keep_lists();
         if self.bucket_count() == 0 {
             self.make_array()?;
             return Ok(());

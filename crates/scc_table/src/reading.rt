@@ -1,6 +1,6 @@
 //! Reads: the entry at a place, the settings, and the number of the bucket of a key.
 ghost use Rattle.std.specs.Prelude.{◌≡◌, ◌≤◌, ◌<◌, ◌^◌, ◌↔◌, length, Some, IsTrue, slice_get};
-ghost use Rattle.scc_contents.specs.Contents.{entries, bucket_count, bucket_of, key_hash, list_of, minimum_of, settings_of, HasRoomBy, IsUniqueBy};
+ghost use Rattle.scc_contents.specs.Contents.{entries, bucket_count, bucket_of, key_hash, list_of, minimum_of, settings_of, HasRoomBy, IsRouted, IsUniqueBy};
 ghost use Rattle.scc_contents.specs.Routing.{bucket_number};
 ghost use Rattle.scc_table.specs.Places.{IsPlace, index_of};
 
@@ -21,7 +21,7 @@ where
         ensures unique { IsUniqueBy E.Key.eq E.key_of self.now }
     {
         let _ = self.current.bucket_count();
-        self.current.len() + self.left
+        self.current.len() + self.draining.left
     }
 
     /// The entry at the place.
@@ -34,7 +34,9 @@ where
         if place.bucket < count {
             return self.current.entry_in(place);
         }
-        self.draining.entry_at(place.bucket - count, place.slot)
+        self.draining
+            .array
+            .entry_at(place.bucket - count, place.slot)
     }
 
     /// The hash of a key under the table's hasher.
@@ -58,6 +60,9 @@ where
     pub fn bucket_at(&self, hash: u64) -> usize
         ensures value { result ≡ bucket_number (settings_of self.now).skipped (bucket_count self.now) hash }
         ensures within { 0 < bucket_count self.now → result < bucket_count self.now }
+        ensures routed { IsRouted (λ e. key_hash H.BuildHasher H.Hasher.Hasher E.Key.hash_input self.now (E.key_of e))
+            self.now }
+        ensures unique { IsUniqueBy E.Key.eq E.key_of self.now }
     {
         self.current.bucket_at(hash)
     }
@@ -71,9 +76,9 @@ where
     {
         if self.is_waiting(bucket) {
             let count = self.current.bucket_count();
-            let (first, last) = sources(self.draining.len(), count, bucket);
+            let (first, last) = sources(self.draining.array.len(), count, bucket);
             return count_all(
-                &self.draining,
+                &self.draining.array,
                 first,
                 last,
                 bucket,
@@ -94,8 +99,7 @@ where
         if self.bucket_count() == 0 {
             return false;
         }
-        self.keep_lists();
-        self.list_len(self.bucket_index(key)) < 32
+        self.list_len(self.bucket_at(self.hash(key))) < 32
     }
 
     /// The slots that the array keeps at least: those asked for at making, and those reserved.

@@ -26,25 +26,25 @@ where
         ensures refused { OnErr result (32 < length (list_of self.old bucket)) }
         ensures bounded { IsBounded self.old → length (list_of self.old bucket) ≤ 32 → IsBounded self.new }
     {
-        let aside = self.left_overflow;
+        let aside = self.draining.left_overflow;
         match take(
             &mut self.current,
-            &mut self.draining,
+            &mut self.draining.array,
             bucket,
             aside,
             self.skipped,
-            self.waiting.as_slice(),
+            self.draining.waiting.as_slice(),
         ) {
             Ok(moved) => {
-                self.left -= moved;
-                self.pending -= 1;
-                self.waiting[bucket] = false;
-                if self.pending == 0 {
-                    self.waiting.clear();
+                self.draining.left -= moved;
+                self.draining.pending -= 1;
+                self.draining.waiting[bucket] = false;
+                if self.draining.pending == 0 {
+                    self.draining.waiting.clear();
                     let none = Array::none(self.current.allocator());
-                    let bare = std::mem::replace(&mut self.draining, none);
+                    let bare = std::mem::replace(&mut self.draining.array, none);
                     bare.destroy_empty();
-                    self.left_overflow = 0;
+                    self.draining.left_overflow = 0;
                 }
                 Ok(())
             }
@@ -57,8 +57,8 @@ where
         requires { 0 < pending_of self.now }
         ensures { IsFirstWaiting self.now result }
     {
-        for bucket in self.next..self.waiting.len() {
-            if self.waiting[bucket] {
+        for bucket in self.draining.next..self.draining.waiting.len() {
+            if self.draining.waiting[bucket] {
                 return bucket;
             }
         }
@@ -75,7 +75,7 @@ where
         ensures bounded { IsBounded self.old → AreShort self.old → IsBounded self.new }
     {
         let bucket = self.first_waiting();
-        self.next = bucket;
+        self.draining.next = bucket;
         self.relocate(bucket)
     }
 
@@ -92,7 +92,7 @@ where
         ensures moved { IsMovedUpTo (pending_of self.old) self.old self.new }
         ensures bounded { IsBounded self.old → AreShort self.old → IsBounded self.new }
     {
-        for _ in 0..self.pending {
+        for _ in 0..self.draining.pending {
             self.relocate_next()?;
         }
         Ok(())

@@ -25,7 +25,7 @@ where
             (IsFoundAt (λ e. E.Key.eq key.now (E.key_of e)) self.now) }
         ensures unique { IsUniqueBy E.Key.eq E.key_of self.now }
     {
-        if self.pending == 0 {
+        if self.draining.pending == 0 {
             return self.current.search(hash, key);
         }
         let place = self.search_both(hash, key);
@@ -62,10 +62,9 @@ where
         };
         let count = self.current.bucket_count();
         let bucket = self.current.bucket_at(hash);
-        self.current.keep_lists();
-        if self.waiting[bucket] {
-            let source = bucket_index(hash, self.skipped, self.draining.len());
-            return match self.draining.search(source, key, tag(hash)) {
+        if self.draining.waiting[bucket] {
+            let source = bucket_index(hash, self.skipped, self.draining.array.len());
+            return match self.draining.array.search(source, key, tag(hash)) {
                 Some(slot) => Place {
                     bucket: count + source,
                     slot,

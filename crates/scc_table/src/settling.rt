@@ -88,7 +88,6 @@ where
     {
         let first = self.put_last(bucket, hash, entry);
         self.relocate_some(most);
-        self.keep_lists();
         first
     }
 }

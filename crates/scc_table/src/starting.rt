@@ -86,13 +86,13 @@ where
             count self.old self.new }
     {
         let (old, left, left_overflow) = self.current.exchange(fresh, 0, 0);
-        let bare = std::mem::replace(&mut self.draining, old);
+        let bare = std::mem::replace(&mut self.draining.array, old);
         bare.destroy_empty();
-        self.waiting = flags;
-        self.pending = count;
-        self.next = 0;
-        self.left = left;
-        self.left_overflow = left_overflow;
+        self.draining.waiting = flags;
+        self.draining.pending = count;
+        self.draining.next = 0;
+        self.draining.left = left;
+        self.draining.left_overflow = left_overflow;
     }
 
     /// Puts the empty buckets in the place of the present ones, where none waits. That bucket of the new array takes
@@ -126,14 +126,14 @@ where
             flags.as_slice(),
         ) {
             Ok(moved) => {
-                let bare = std::mem::replace(&mut self.draining, old);
+                let bare = std::mem::replace(&mut self.draining.array, old);
                 bare.destroy_empty();
                 flags[bucket] = false;
-                self.waiting = flags;
-                self.pending = count - 1;
-                self.next = 0;
-                self.left = left - moved;
-                self.left_overflow = overflow;
+                self.draining.waiting = flags;
+                self.draining.pending = count - 1;
+                self.draining.next = 0;
+                self.draining.left = left - moved;
+                self.draining.left_overflow = overflow;
                 Ok(())
             }
             Err(e) => {

@@ -48,7 +48,10 @@ where
         if place.bucket < count {
             return place.bucket;
         }
-        let entry = self.draining.entry_at(place.bucket - count, place.slot);
+        let entry = self
+            .draining
+            .array
+            .entry_at(place.bucket - count, place.slot);
         bucket_index(self.current.hash(entry.key()), self.skipped, count)
     }
 
@@ -95,8 +98,12 @@ where
             (StandsAt self.now (spots.index_of_spot self.now (record { bucket = bucket; slot = 0 }))) }
     {
         if self.is_waiting(bucket) {
-            let (first, _) = sources(self.draining.len(), self.current.bucket_count(), bucket);
-            if first >= self.draining.len() {
+            let (first, _) = sources(
+                self.draining.array.len(),
+                self.current.bucket_count(),
+                bucket,
+            );
+            if first >= self.draining.array.len() {
                 return None;
             }
             return self.old_place(bucket, first, 0);
@@ -116,10 +123,10 @@ where
             (record { bucket = target; slot = rank_on self.now target source slot }))) }
     {
         let count = self.current.bucket_count();
-        let (_, end) = sources(self.draining.len(), count, target);
+        let (_, end) = sources(self.draining.array.len(), count, target);
         let last = end_past(end, source);
         match spot_from(
-            &self.draining,
+            &self.draining.array,
             source,
             slot,
             last,

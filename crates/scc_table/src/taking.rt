@@ -53,8 +53,11 @@ where
         ensures unique { IsUniqueBy E.Key.eq E.key_of self.old }
     {
         let count = self.current.bucket_count();
-        let entry = self.draining.remove_at(place.bucket - count, place.slot);
-        self.left -= 1;
+        let entry = self
+            .draining
+            .array
+            .remove_at(place.bucket - count, place.slot);
+        self.draining.left -= 1;
         entry
     }
 
@@ -77,7 +80,7 @@ where
         requires { IsPlace self.old place }
         ensures { SwapTakesAt E.Key.eq E.key_of self.old place result self.new }
     {
-        if self.pending == 0 || place.bucket < self.bucket_count() {
+        if self.draining.pending == 0 || place.bucket < self.bucket_count() {
             return self.current.swap_take_at(place);
         }
         self.take_old(place)

@@ -32,7 +32,7 @@ where
             (λ e. E.Key.eq key.now (E.Keyed.key_of e)) self.old self.new result }
         ensures unique { IsUniqueBy E.Key.eq E.Keyed.key_of self.old }
     {
-        if self.pending == 0 {
+        if self.draining.pending == 0 {
             return self.current.update(hash, key, u);
         }
         let place = self.search_both(hash, key);

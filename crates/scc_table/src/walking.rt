@@ -13,7 +13,7 @@ impl<K: Eq + Hash, V, H: BuildHasher> Table<(K, V), H> {
         requires { CallableWhile F.FnMut true f (entries self.now) }
         ensures { (last : F) × Walks (CalledOn F.FnMut) f (entries self.now) result last }
     {
-        if self.pending == 0 {
+        if self.draining.pending == 0 {
             return self.current.walk(f);
         }
         self.walk_places(f)
@@ -42,7 +42,7 @@ impl<K: Eq + Hash, V, H: BuildHasher> Table<SharedVersion<K, V>, H> {
         requires { CallableWhile F.FnMut true f (entries self.now) }
         ensures { (last : F) × Walks (CalledOn F.FnMut) f (entries self.now) result last }
     {
-        if self.pending == 0 {
+        if self.draining.pending == 0 {
             return self.current.walk(f);
         }
         self.walk_versions(f)

@@ -28,6 +28,7 @@ where
             return self.current.replace_at(place, entry);
         }
         self.draining
+            .array
             .replace_at(place.bucket - count, place.slot, entry)
     }
 }
@@ -58,10 +59,12 @@ where
             × (result.0.now ≡ E.Keyed.key_of e) × (result.1.now ≡ E.value_of e) }
     {
         let count = self.current.bucket_count();
-        if self.pending == 0 || place.bucket < count {
+        if self.draining.pending == 0 || place.bucket < count {
             return self.current.parts_mut_at(place);
         }
-        self.draining.parts_mut_at(place.bucket - count, place.slot)
+        self.draining
+            .array
+            .parts_mut_at(place.bucket - count, place.slot)
     }
 
     /// Puts the key in the place of the one there, which it equals, and answers that one.
@@ -78,6 +81,7 @@ where
             return self.current.replace_key_at(place, key);
         }
         self.draining
+            .array
             .replace_key_at(place.bucket - count, place.slot, key)
     }
 }

@@ -1,6 +1,8 @@
 use Rattle.std.proofs.Common.{◌≡◌, ap, ◌∙◌, length, rules}
+use Rattle.scc_contents.specs.Hashing.{hash_of}
 use Rattle.scc_contents.specs.Routing.{bucket_number}
-use Rattle.scc_buckets.proofs.Views.{count-view, settings-view}
+use Rattle.scc_buckets.proofs.Bounds.{routed-view}
+use Rattle.scc_buckets.proofs.Views.{count-view, entries-view, settings-view}
 use Rattle.scc_buckets.proofs.Buckets.bucket_at.Goals as goal
 
 pub returns-clause-value : goal.returns-clause-value
@@ -12,3 +14,11 @@ returns-clause-value g c =
 pub returns-clause-within : goal.returns-clause-within
 returns-clause-within g c =
     rw (count-view c.self.inside.buckets _ c.args.self.now c.self.view_is) (λ some. search rules)
+
+pub returns-clause-unique : goal.returns-clause-unique
+returns-clause-unique g c = rw (entries-view c.self.inside.buckets _ c.args.self.now c.self.view_is) c.self.invariant.unique
+
+pub returns-clause-routed : goal.returns-clause-routed
+returns-clause-routed g c =
+    rw (settings-view c.self.inside.buckets _ c.args.self.now c.self.view_is)
+    (routed-view (λ e. hash_of g.H.BuildHasher g.H.Hasher.Hasher c.self.inside.hasher (g.E.Key.Hash.hash_input (g.E.Keyed.key_of e))) _ _ c.self.inside.buckets _ c.args.self.now c.self.view_is c.self.invariant.table)

@@ -5,4 +5,4 @@ use Rattle.scc_table.proofs.Table.bucket_count.Goals as goal
 
 pub returns-clause-count : goal.returns-clause-count
 returns-clause-count g c =
-    c.bucket_count.ensures.count ∙ sym (count-together _ c.self.inside.current c.self.inside.waiting.items c.self.inside.draining c.self.invariant.arrays.flags) ∙ ap bucket_count c.self.view_is
+    c.bucket_count.ensures.count ∙ sym (count-together _ c.self.inside.current c.self.inside.draining.waiting.items c.self.inside.draining.array c.self.invariant.arrays.flags) ∙ ap bucket_count c.self.view_is

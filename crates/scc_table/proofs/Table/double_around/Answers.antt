@@ -12,7 +12,7 @@ use Rattle.scc_buckets.proofs.Resizes.{regrouped-resizes}
 use Rattle.scc_table.specs.Relocates.{left_after, AreMovedBeside, AreShortBut}
 use Rattle.scc_table.specs.TwoArrays.{pending_targets, waits_at}
 use Rattle.scc_table.proofs.Grown.{but-down, but-left, but-moved, but-pending, but-short, stands-after, stands-routed}
-use Rattle.scc_table.proofs.Same.{count-same, entries-same, list-same, pending-same, regrouped-same, unchanged-same}
+use Rattle.scc_table.proofs.Same.{count-same, entries-same, list-same, pending-same, regrouped-same, unchanged-same, unique-same}
 use Rattle.scc_table.proofs.Settled.{settled-all}
 use Rattle.scc_table.proofs.Viewed.{count-seen, lists-seen, settings-seen, settled-flags}
 use Rattle.scc_table.proofs.Table.double_around.Goals as goal
@@ -20,20 +20,19 @@ use Rattle.scc_table.proofs.Table.double_around.Goals as goal
 pub count_bound-slot-requires-clause-within : goal.count_bound-slot-requires-clause-within
 count_bound-slot-requires-clause-within g c =
     let t = c.self.inside in
-    let count = count-seen _ t.current t.waiting.items t.draining c.args.self.now c.self.view_is c.self.invariant.arrays.flags in
+    let count = count-seen _ t.current t.draining.waiting.items t.draining.array c.args.self.now c.self.view_is c.self.invariant.arrays.flags in
     omega (arith, count, c.requires.within)
 
 pub count_bound-slot-requires-clause-first : goal.count_bound-slot-requires-clause-first
 count_bound-slot-requires-clause-first g c =
     let t = c.self.inside in
     let a = c.args.self.now in
-    let lists = lists-seen _ t.current t.waiting.items t.draining a c.self.view_is (settled-flags a c.self.invariant c.self.view_is c.requires.pending) in
+    let lists = lists-seen _ t.current t.draining.waiting.items t.draining.array a c.self.view_is (settled-flags a c.self.invariant c.self.view_is c.requires.pending) in
     let own = ap length (list-same t.current a lists c.args.place.bucket) in
     omega (arith, own, c.requires.slot)
 
 pub start_at-requires-clause-array : goal.start_at-requires-clause-array
 start_at-requires-clause-array g c =
-    let a = c.args.self.now in
     let n = c.bucket_count-count.result in
     let array = double-array n c.bucket_count-count.ensures.lawful (omega (arith, c.requires.within, c.bucket_count-count.ensures.count)) (omega (arith, c.requires.below, c.bucket_count-count.ensures.count)) in
     array
@@ -44,7 +43,6 @@ start_at-requires-clause-other g c =
 
 pub start_at-requires-clause-within : goal.start_at-requires-clause-within
 start_at-requires-clause-within g c =
-    let a = c.args.self.now in
     let n = c.bucket_count-count.result in
     let array = double-array n c.bucket_count-count.ensures.lawful (omega (arith, c.requires.within, c.bucket_count-count.ensures.count)) (omega (arith, c.requires.below, c.bucket_count-count.ensures.count)) in
     c.bucket_index-bucket.ensures.within (omega (arith, array.least))
@@ -66,7 +64,7 @@ returns-in-Ok g c =
     let lists = rel.lists ∙ c.note.ensures.lists in
     let settings = rel.settings ∙ c.note.ensures.settings in
     let reg : IsRegrouped hash (2 * n) a d = regrouped-same hash (2 * n) a b d lists settings done.lists in
-    let set = settings-seen _ c.self.inside.current c.self.inside.waiting.items c.self.inside.draining a c.self.view_is in
+    let set = settings-seen _ c.self.inside.current c.self.inside.draining.waiting.items c.self.inside.draining.array a c.self.view_is in
     let s : c.self.inside.skipped ≡ (settings_of a).skipped = c.self.invariant.skips ∙ ap (λ z. z.skipped) (sym set) in
     let at : k ≡ bucket_number (settings_of a).skipped (2 * n) c.args.hash = c.bucket_index-bucket.ensures.value ∙ ap (λ z. bucket_number z (2 * n) c.args.hash) s in
     record {
@@ -85,7 +83,7 @@ returns-in-Ok g c =
           let twice : 2 * n ≡ 2 * bucket_count a = ap (λ z. 2 * z) counted in
           let near : k ≡ bucket_number t (2 * bucket_count a) c.args.hash = at ∙ ap (λ z. bucket_number t z c.args.hash) twice in
           let list : list_of d k ≡ bound_for hash t (2 * bucket_count a) k (entries a) = reg.each k l ∙ ap (λ z. bound_for hash t z k (entries a)) twice in
-          let lists-now = lists-seen _ c.self.inside.current c.self.inside.waiting.items c.self.inside.draining a c.self.view_is (settled-flags a c.self.invariant c.self.view_is c.requires.pending) in
+          let lists-now = lists-seen _ c.self.inside.current c.self.inside.draining.waiting.items c.self.inside.draining.array a c.self.view_is (settled-flags a c.self.invariant c.self.view_is c.requires.pending) in
           let own : es ≡ list_of c.self.inside.current c.args.place.bucket = list-same c.self.inside.current a lists-now c.args.place.bucket in
           let hashes = λ (s : Settings g.row.H.Denot). let h : g.row.E.Denot → ℕ = λ e. hash_of g.H.BuildHasher g.H.Hasher.Hasher s.hasher (g.E.Key.Hash.hash_input (g.E.Keyed.key_of e)) in h in
           let few = c.count_bound-slot.ensures ∙ ap (λ xs. length (bound_for (hashes (settings_of c.self.inside.current)) c.self.inside.skipped (2 * n) k (take c.args.place.slot xs))) (sym own)
@@ -111,7 +109,7 @@ returns-in-Ok g c =
       drained = (
           let waiting = c.note.ensures.waiting ∙ done.waiting in
           λ ne. subst (λ z. AreMovedBeside k (range_with_len 0 z) d) (sym reg.count) (but-moved (2 * n) k array.least l m waiting d rel.moved));
-      unique = (search rules);
+      unique = (unique-same b d lists g.E.Key.PartialEq.eq g.E.Keyed.key_of done.unique);
     }
 
 pub returns-in-Err : goal.returns-in-Err

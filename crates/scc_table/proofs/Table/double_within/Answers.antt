@@ -36,7 +36,7 @@ returns-in-Ok g c =
       settings = (search rules);
       listed = (
           let settings = c.start.ensures.settings in
-          let routed = routed-before (λ s (e : g.row.E.Denot). hash_of g.H.BuildHasher g.H.Hasher.Hasher s.hasher (g.E.Key.Hash.hash_input (g.E.Keyed.key_of e))) a d settings c.keep_lists-in-Ok.ensures.routed in
+          let routed = routed-before (λ s (e : g.row.E.Denot). hash_of g.H.BuildHasher g.H.Hasher.Hasher s.hasher (g.E.Key.Hash.hash_input (g.E.Keyed.key_of e))) a d settings c.keep_lists.ensures.routed in
           listed-anew (λ s (e : g.row.E.Denot). hash_of g.H.BuildHasher g.H.Hasher.Hasher s.hasher (g.E.Key.Hash.hash_input (g.E.Keyed.key_of e))) a d settings
           (listed-resized hash a d resized routed (λ i l. subst (λ n. length (bound_for hash (settings_of a).skipped n i (entries a)) ≤ 32) (sym size) (short-doubled hash a c.requires.listed i))));
       array = (search rules);

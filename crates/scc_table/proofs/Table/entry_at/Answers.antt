@@ -1,15 +1,13 @@
 use Rattle.std.proofs.Common.{◌≡◌, ◌-◌, Some, slice_get, subst, arith}
 use Rattle.scc_contents.specs.Contents.{entries, key_hash}
 use Rattle.scc_table.specs.Places.{index_of}
-use Rattle.scc_table.proofs.OldSpots.{own-at, own-get, old-at, old-get}
+use Rattle.scc_table.proofs.OldSpots.{own-get, old-get}
+use Rattle.scc_table.proofs.OneBucket.{old-here, own-here}
 use Rattle.scc_table.proofs.Table.entry_at.Goals as goal
 
 pub entry_in-requires : goal.entry_in-requires
 entry_in-requires g c =
-    let t = c.self.inside in
-    let hk = key_hash g.H.BuildHasher g.H.Hasher.Hasher g.E.Key.Hash.hash_input t.current in
-    let hash = λ (e : g.row.E.Denot). hk (g.E.Keyed.key_of e) in
-    (own-at hash t.current t.waiting.items t.draining c.self.invariant.arrays c.args.self.now c.self.view_is c.args.place c.requires (omega (arith, c.bucket_count-count.ensures.count))).0
+    (own-here c.self.invariant c.args.place c.self.view_is c.requires (omega (arith, c.bucket_count-count.ensures.count))).0
 
 pub returns-then-place-count : goal.returns-then-place-count
 returns-then-place-count g c =
@@ -18,22 +16,16 @@ returns-then-place-count g c =
     let hash = λ (e : g.row.E.Denot). hk (g.E.Keyed.key_of e) in
     let p = c.args.place in
     let e = c.entry_in.result.now in
-    let at = own-at hash t.current t.waiting.items t.draining c.self.invariant.arrays c.args.self.now c.self.view_is p c.requires (omega (arith, c.bucket_count-count.ensures.count)) in
-    subst (λ d. slice_get (entries d) (index_of d p) ≡ Some e) c.self.view_is (own-get hash t.current t.waiting.items t.draining c.self.invariant.arrays p at.0.bucket at.1 e c.entry_in.ensures)
+    let at = own-here c.self.invariant c.args.place c.self.view_is c.requires (omega (arith, c.bucket_count-count.ensures.count)) in
+    subst (λ d. slice_get (entries d) (index_of d p) ≡ Some e) c.self.view_is (own-get hash t.current t.draining.waiting.items t.draining.array c.self.invariant.arrays p at.0.bucket at.1 e c.entry_in.ensures)
 
 pub entry_at-requires-clause-bucket : goal.entry_at-requires-clause-bucket
 entry_at-requires-clause-bucket g c =
-    let t = c.self.inside in
-    let hk = key_hash g.H.BuildHasher g.H.Hasher.Hasher g.E.Key.Hash.hash_input t.current in
-    let hash = λ (e : g.row.E.Denot). hk (g.E.Keyed.key_of e) in
-    (old-at hash t.current t.waiting.items t.draining c.self.invariant.arrays c.args.self.now c.self.view_is c.args.place c.requires c.bucket_count-count.result c.bucket_count-count.ensures.count c.if-place-count.false).1
+    (old-here c.self.invariant c.args.place c.self.view_is c.requires c.bucket_count-count.result c.bucket_count-count.ensures.count c.if-place-count.false).1
 
 pub entry_at-requires-clause-place : goal.entry_at-requires-clause-place
 entry_at-requires-clause-place g c =
-    let t = c.self.inside in
-    let hk = key_hash g.H.BuildHasher g.H.Hasher.Hasher g.E.Key.Hash.hash_input t.current in
-    let hash = λ (e : g.row.E.Denot). hk (g.E.Keyed.key_of e) in
-    (old-at hash t.current t.waiting.items t.draining c.self.invariant.arrays c.args.self.now c.self.view_is c.args.place c.requires c.bucket_count-count.result c.bucket_count-count.ensures.count c.if-place-count.false).2
+    (old-here c.self.invariant c.args.place c.self.view_is c.requires c.bucket_count-count.result c.bucket_count-count.ensures.count c.if-place-count.false).2
 
 pub returns : goal.returns
 returns g c =
@@ -42,6 +34,6 @@ returns g c =
     let hash = λ (e : g.row.E.Denot). hk (g.E.Keyed.key_of e) in
     let p = c.args.place in
     let e = c.entry_at.result.now in
-    let at = old-at hash t.current t.waiting.items t.draining c.self.invariant.arrays c.args.self.now c.self.view_is p c.requires c.bucket_count-count.result c.bucket_count-count.ensures.count c.if-place-count.false in
+    let at = old-here c.self.invariant c.args.place c.self.view_is c.requires c.bucket_count-count.result c.bucket_count-count.ensures.count c.if-place-count.false in
     let j = p.bucket - c.bucket_count-count.result in
-    subst (λ d. slice_get (entries d) (index_of d p) ≡ Some e) c.self.view_is (old-get hash t.current t.waiting.items t.draining c.self.invariant.arrays j p.slot e at.1 c.entry_at.ensures p at.0 (omega arith))
+    subst (λ d. slice_get (entries d) (index_of d p) ≡ Some e) c.self.view_is (old-get hash t.current t.draining.waiting.items t.draining.array c.self.invariant.arrays j p.slot e at.1 c.entry_at.ensures p at.0 (omega arith))

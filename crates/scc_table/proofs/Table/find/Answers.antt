@@ -11,9 +11,8 @@ pub find-requires : goal.find-requires
 find-requires g c =
     let t = c.self.inside in
     let cur = t.current in
-    let ws = t.waiting.items in
-    let olds = t.draining in
-    let inv = c.self.invariant in
+    let ws = t.draining.waiting.items in
+    let olds = t.draining.array in
     let now = c.args.self.now in
     let hk = key_hash g.H.BuildHasher g.H.Hasher.Hasher g.E.Key.Hash.hash_input cur in
     let hash = λ (e : g.row.E.Denot). hk (g.E.Keyed.key_of e) in
@@ -24,10 +23,9 @@ pub find_both-requires-clause-pending : goal.find_both-requires-clause-pending
 find_both-requires-clause-pending g c =
     let t = c.self.inside in
     let cur = t.current in
-    let ws = t.waiting.items in
-    let olds = t.draining in
+    let ws = t.draining.waiting.items in
+    let olds = t.draining.array in
     let inv = c.self.invariant in
-    let now = c.args.self.now in
     let hk = key_hash g.H.BuildHasher g.H.Hasher.Hasher g.E.Key.Hash.hash_input cur in
     let hash = λ (e : g.row.E.Denot). hk (g.E.Keyed.key_of e) in
     let counted = ap pending_of (sym c.self.view_is) ∙ pending-together hash cur ws olds in
@@ -37,10 +35,9 @@ pub returns-then-self-eq0 : goal.returns-then-self-eq0
 returns-then-self-eq0 g c =
     let t = c.self.inside in
     let cur = t.current in
-    let ws = t.waiting.items in
-    let olds = t.draining in
+    let ws = t.draining.waiting.items in
+    let olds = t.draining.array in
     let inv = c.self.invariant in
-    let now = c.args.self.now in
     let hk = key_hash g.H.BuildHasher g.H.Hasher.Hasher g.E.Key.Hash.hash_input cur in
     let hash = λ (e : g.row.E.Denot). hk (g.E.Keyed.key_of e) in
     let passes = λ (e : g.row.E.Denot). g.E.Key.PartialEq.eq c.args.key.now (g.E.Keyed.key_of e) in

@@ -11,14 +11,14 @@ use Rattle.scc_table.proofs.Table.finish.Goals as goal
 pub loop-init : goal.loop-init
 loop-init g c =
     let t = c.self.inside in
-    let flags : waiting_of c.args.self.now ≡ t.waiting.items = ap waiting_of (sym c.self.view_is) ∙ waiting-together _ t.current t.waiting.items t.draining in
-    let counted = ap pending_of (sym c.self.view_is) ∙ pending-together _ t.current t.waiting.items t.draining ∙ sym c.self.invariant.counted in
+    let flags : waiting_of c.args.self.now ≡ t.draining.waiting.items = ap waiting_of (sym c.self.view_is) ∙ waiting-together _ t.current t.draining.waiting.items t.draining.array in
+    let counted = ap pending_of (sym c.self.view_is) ∙ pending-together _ t.current t.draining.waiting.items t.draining.array ∙ sym c.self.invariant.counted in
     (finish-start c.args.self.now (λ z. flags ∙ c.self.invariant.none (sym counted ∙ z)), refl)
 
 pub relocate_next-requires : goal.relocate_next-requires
 relocate_next-requires g c =
     let t = c.self.inside in
-    let counted = ap pending_of (sym c.self.view_is) ∙ pending-together _ t.current t.waiting.items t.draining ∙ sym c.self.invariant.counted in
+    let counted = ap pending_of (sym c.self.view_is) ∙ pending-together _ t.current t.draining.waiting.items t.draining.array ∙ sym c.self.invariant.counted in
     omega (arith, c.loop.invariant.0.left, counted)
 
 pub loop-preserved : goal.loop-preserved
@@ -31,14 +31,14 @@ loop-preserved g c =
 pub returns-clause-ok : goal.returns-clause-ok
 returns-clause-ok g c =
     let t = c.self.inside in
-    let counted = ap pending_of (sym c.self.view_is) ∙ pending-together _ t.current t.waiting.items t.draining ∙ sym c.self.invariant.counted in
+    let counted = ap pending_of (sym c.self.view_is) ∙ pending-together _ t.current t.draining.waiting.items t.draining.array ∙ sym c.self.invariant.counted in
     c.loop.invariant.0.none (omega (arith, c.loop.invariant.0.left, counted))
 
 pub returns-clause-moved : goal.returns-clause-moved
 returns-clause-moved g c =
     let t = c.self.inside in
     let a = c.args.self.now in
-    let counted = ap pending_of (sym c.self.view_is) ∙ pending-together _ t.current t.waiting.items t.draining ∙ sym c.self.invariant.counted in
+    let counted = ap pending_of (sym c.self.view_is) ∙ pending-together _ t.current t.draining.waiting.items t.draining.array ∙ sym c.self.invariant.counted in
     moved-all (pending_targets a) c.loop.self c.loop.counter (pending_of a) (moved-most (pending_targets a) c.loop.self c.loop.counter c.loop.invariant.1) (omega (arith, c.loop.invariant.0.left)) (omega (arith, c.loop.invariant.0.left, counted))
 
 pub returns-in_err-relocate_next-clause-moved : goal.returns-in_err-relocate_next-clause-moved

@@ -1,86 +1,49 @@
 use Rattle.std.proofs.Common.{◌≡◌, ◌∙◌, ◌<◌, ◌≤◌, [], true, false, length, sym, ap, subst, rules, arith}
-use Rattle.scc_contents.specs.Contents.{bucket_count, owed_of, key_hash, list_of, settings_of}
+use Rattle.scc_contents.specs.Contents.{bucket_count, key_hash, list_of, settings_of}
 use Rattle.scc_buckets.specs.Places as spots
 use Rattle.scc_buckets.specs.declared.place.Place.{Place}
 use Rattle.scc_buckets.proofs.Standing.{along, length-zero}
 use Rattle.scc_table.specs.Places.{StandsAt}
 use Rattle.scc_table.specs.Stepping.{rank_on}
 use Rattle.scc_table.specs.TwoArrays.{waits_at}
-use Rattle.scc_table.proofs.Nexts.{owed-count, list-past, own-stands, rank-start}
+use Rattle.scc_table.proofs.Nexts.{list-past, own-stands, rank-start}
 use Rattle.scc_table.proofs.OldSpots.{own-list}
 use Rattle.scc_draining.proofs.FromBuckets.{within-sources}
-use Rattle.scc_table.proofs.Preparing.{long-flags, multiple-flags, sized-flags}
-use Rattle.scc_table.proofs.RelocatingLemmas.{up-within}
-use Rattle.scc_table.proofs.SearchingLemmas.{not_true}
-use Rattle.scc_table.proofs.Seen.{count-seen, waiting-seen}
+use Rattle.scc_table.proofs.OneBucket.{count-own, flag-free, flag-up, old-multiples, old-sized, owed-length, target-within}
 use Rattle.scc_table.proofs.Table.first_in.Goals as goal
 
 pub sources-first-requires-clause-some : goal.sources-first-requires-clause-some
 sources-first-requires-clause-some g c =
-    let t = c.self.inside in
-    let cur = t.current in
-    let ws = t.waiting.items in
-    let olds = t.draining in
-    let inv = c.self.invariant in
-    let now = c.args.self.now in
-    let hk = key_hash g.H.BuildHasher g.H.Hasher.Hasher g.E.Key.Hash.hash_input cur in
-    let hash = λ (e : g.row.E.Denot). hk (g.E.Keyed.key_of e) in
-    let flags = waiting-seen hash cur ws olds now c.self.view_is in
-    let i = c.args.bucket in
-    let up : waits_at ws i ≡ true = ap (λ w. waits_at w i) (sym flags) ∙ c.is_waiting.ensures.0 c.if-is_waiting.true in
-    let array = sized-flags cur ws olds i inv.arrays.sized up in
-    let within : i < bucket_count cur = omega (arith, up-within ws i up, long-flags cur ws i inv.arrays.flags up) in
+    let up = flag-up c.self.invariant _ c.self.view_is (c.is_waiting.ensures.0 c.if-is_waiting.true) in
+    let array = old-sized c.self.invariant _ up in
+    let within = target-within c.self.invariant _ up in
     omega (arith, array.least, c.len.ensures.count)
 
 pub sources-first-requires-clause-target : goal.sources-first-requires-clause-target
 sources-first-requires-clause-target g c =
-    let t = c.self.inside in
-    let cur = t.current in
-    let ws = t.waiting.items in
-    let olds = t.draining in
-    let inv = c.self.invariant in
-    let now = c.args.self.now in
-    let hk = key_hash g.H.BuildHasher g.H.Hasher.Hasher g.E.Key.Hash.hash_input cur in
-    let hash = λ (e : g.row.E.Denot). hk (g.E.Keyed.key_of e) in
-    let flags = waiting-seen hash cur ws olds now c.self.view_is in
-    let i = c.args.bucket in
-    let up : waits_at ws i ≡ true = ap (λ w. waits_at w i) (sym flags) ∙ c.is_waiting.ensures.0 c.if-is_waiting.true in
-    let array = sized-flags cur ws olds i inv.arrays.sized up in
-    let within : i < bucket_count cur = omega (arith, up-within ws i up, long-flags cur ws i inv.arrays.flags up) in
+    let up = flag-up c.self.invariant _ c.self.view_is (c.is_waiting.ensures.0 c.if-is_waiting.true) in
+    let array = old-sized c.self.invariant _ up in
+    let within = target-within c.self.invariant _ up in
     omega (arith, c.bucket_count.ensures.count)
 
 pub sources-first-requires-clause-multiples : goal.sources-first-requires-clause-multiples
 sources-first-requires-clause-multiples g c =
-    let t = c.self.inside in
-    let cur = t.current in
-    let ws = t.waiting.items in
-    let olds = t.draining in
-    let inv = c.self.invariant in
-    let now = c.args.self.now in
-    let hk = key_hash g.H.BuildHasher g.H.Hasher.Hasher g.E.Key.Hash.hash_input cur in
-    let hash = λ (e : g.row.E.Denot). hk (g.E.Keyed.key_of e) in
-    let flags = waiting-seen hash cur ws olds now c.self.view_is in
-    let i = c.args.bucket in
-    let up : waits_at ws i ≡ true = ap (λ w. waits_at w i) (sym flags) ∙ c.is_waiting.ensures.0 c.if-is_waiting.true in
-    let array = sized-flags cur ws olds i inv.arrays.sized up in
-    let within : i < bucket_count cur = omega (arith, up-within ws i up, long-flags cur ws i inv.arrays.flags up) in
-    rw (c.len.ensures.count, c.bucket_count.ensures.count) (multiple-flags cur ws olds i inv.arrays.multiples up)
+    let up = flag-up c.self.invariant _ c.self.view_is (c.is_waiting.ensures.0 c.if-is_waiting.true) in
+    rw (c.len.ensures.count, c.bucket_count.ensures.count) (old-multiples c.self.invariant _ up)
 
 pub returns-then-first-len : goal.returns-then-first-len
 returns-then-first-len g c =
     let t = c.self.inside in
     let cur = t.current in
-    let ws = t.waiting.items in
-    let olds = t.draining in
+    let ws = t.draining.waiting.items in
+    let olds = t.draining.array in
     let inv = c.self.invariant in
-    let now = c.args.self.now in
     let hk = key_hash g.H.BuildHasher g.H.Hasher.Hasher g.E.Key.Hash.hash_input cur in
     let hash = λ (e : g.row.E.Denot). hk (g.E.Keyed.key_of e) in
-    let flags = waiting-seen hash cur ws olds now c.self.view_is in
     let i = c.args.bucket in
-    let up : waits_at ws i ≡ true = ap (λ w. waits_at w i) (sym flags) ∙ c.is_waiting.ensures.0 c.if-is_waiting.true in
-    let array = sized-flags cur ws olds i inv.arrays.sized up in
-    let within : i < bucket_count cur = omega (arith, up-within ws i up, long-flags cur ws i inv.arrays.flags up) in
+    let up = flag-up c.self.invariant _ c.self.view_is (c.is_waiting.ensures.0 c.if-is_waiting.true) in
+    let array = old-sized c.self.invariant _ up in
+    let within = target-within c.self.invariant _ up in
     let only = rw (c.len.ensures.count, c.bucket_count.ensures.count) at c.sources-first.ensures.only in
     let end = rw c.len.ensures.count at c.sources-first.ensures.within in
     let sources = within-sources hash (settings_of cur).skipped (bucket_count cur) i c.sources-first.result.0 c.sources-first.result.1 olds inv.arrays.own c.sources-first.ensures.order end only in
@@ -90,19 +53,11 @@ returns-then-first-len g c =
 pub old_place-requires-clause-source : goal.old_place-requires-clause-source
 old_place-requires-clause-source g c =
     let t = c.self.inside in
-    let cur = t.current in
-    let ws = t.waiting.items in
-    let olds = t.draining in
-    let inv = c.self.invariant in
-    let now = c.args.self.now in
-    let hk = key_hash g.H.BuildHasher g.H.Hasher.Hasher g.E.Key.Hash.hash_input cur in
-    let hash = λ (e : g.row.E.Denot). hk (g.E.Keyed.key_of e) in
-    let flags = waiting-seen hash cur ws olds now c.self.view_is in
-    let i = c.args.bucket in
-    let up : waits_at ws i ≡ true = ap (λ w. waits_at w i) (sym flags) ∙ c.is_waiting.ensures.0 c.if-is_waiting.true in
-    let array = sized-flags cur ws olds i inv.arrays.sized up in
-    let within : i < bucket_count cur = omega (arith, up-within ws i up, long-flags cur ws i inv.arrays.flags up) in
-    let h = ap (λ d. length (owed_of d)) (sym c.self.view_is) ∙ owed-count hash cur ws olds inv.arrays i up in
+    let olds = t.draining.array in
+    let up = flag-up c.self.invariant _ c.self.view_is (c.is_waiting.ensures.0 c.if-is_waiting.true) in
+    let array = old-sized c.self.invariant _ up in
+    let within = target-within c.self.invariant _ up in
+    let h = owed-length c.self.invariant _ up c.self.view_is in
     let near : c.sources-first.result.0 < length olds = search rules in
     omega (arith, h)
 
@@ -110,17 +65,16 @@ pub returns-then-is_waiting : goal.returns-then-is_waiting
 returns-then-is_waiting g c =
     let t = c.self.inside in
     let cur = t.current in
-    let ws = t.waiting.items in
-    let olds = t.draining in
+    let ws = t.draining.waiting.items in
+    let olds = t.draining.array in
     let inv = c.self.invariant in
     let now = c.args.self.now in
     let hk = key_hash g.H.BuildHasher g.H.Hasher.Hasher g.E.Key.Hash.hash_input cur in
     let hash = λ (e : g.row.E.Denot). hk (g.E.Keyed.key_of e) in
-    let flags = waiting-seen hash cur ws olds now c.self.view_is in
     let i = c.args.bucket in
-    let up : waits_at ws i ≡ true = ap (λ w. waits_at w i) (sym flags) ∙ c.is_waiting.ensures.0 c.if-is_waiting.true in
-    let array = sized-flags cur ws olds i inv.arrays.sized up in
-    let within : i < bucket_count cur = omega (arith, up-within ws i up, long-flags cur ws i inv.arrays.flags up) in
+    let up = flag-up c.self.invariant _ c.self.view_is (c.is_waiting.ensures.0 c.if-is_waiting.true) in
+    let array = old-sized c.self.invariant _ up in
+    let within = target-within c.self.invariant _ up in
     let only = rw (c.len.ensures.count, c.bucket_count.ensures.count) at c.sources-first.ensures.only in
     let end = rw c.len.ensures.count at c.sources-first.ensures.within in
     let sources = within-sources hash (settings_of cur).skipped (bucket_count cur) i c.sources-first.result.0 c.sources-first.result.1 olds inv.arrays.own c.sources-first.ensures.order end only in
@@ -131,31 +85,21 @@ returns-then-is_waiting g c =
 
 pub list_len-requires : goal.list_len-requires
 list_len-requires g c =
-    let t = c.self.inside in
-    let cur = t.current in
-    let ws = t.waiting.items in
-    let olds = t.draining in
-    let inv = c.self.invariant in
-    let now = c.args.self.now in
-    let hk = key_hash g.H.BuildHasher g.H.Hasher.Hasher g.E.Key.Hash.hash_input cur in
-    let hash = λ (e : g.row.E.Denot). hk (g.E.Keyed.key_of e) in
-    let count = count-seen hash cur ws olds now c.self.view_is inv.arrays in
+    let count = count-own c.self.invariant c.self.view_is in
     omega (arith, count, c.requires)
 
 pub returns-then-list_len-eq0 : goal.returns-then-list_len-eq0
 returns-then-list_len-eq0 g c =
     let t = c.self.inside in
     let cur = t.current in
-    let ws = t.waiting.items in
-    let olds = t.draining in
+    let ws = t.draining.waiting.items in
+    let olds = t.draining.array in
     let inv = c.self.invariant in
-    let now = c.args.self.now in
     let hk = key_hash g.H.BuildHasher g.H.Hasher.Hasher g.E.Key.Hash.hash_input cur in
     let hash = λ (e : g.row.E.Denot). hk (g.E.Keyed.key_of e) in
-    let flags = waiting-seen hash cur ws olds now c.self.view_is in
-    let count = count-seen hash cur ws olds now c.self.view_is inv.arrays in
+    let count = count-own c.self.invariant c.self.view_is in
     let i = c.args.bucket in
-    let down : waits_at ws i ≡ false = not_true (waits_at ws i) (λ up. let q = c.is_waiting.ensures.1 (ap (λ w. waits_at w i) flags ∙ up) in let z : true ≡ false = sym q ∙ c.if-is_waiting.false in cc) in
+    let down : waits_at ws i ≡ false = flag-free c.self.invariant _ c.self.view_is (λ up. let q = c.is_waiting.ensures.1 up in let z : true ≡ false = sym q ∙ c.if-is_waiting.false in cc) in
     let within : i < bucket_count cur = omega (arith, count, c.requires) in
     let none = length-zero (list_of cur i) (sym c.if-list_len-eq0.true ∙ c.list_len.ensures) in
     subst (λ d. list_of d i ≡ []) c.self.view_is (own-list hash cur ws olds inv.arrays i within down ∙ none)
@@ -164,16 +108,14 @@ pub returns : goal.returns
 returns g c =
     let t = c.self.inside in
     let cur = t.current in
-    let ws = t.waiting.items in
-    let olds = t.draining in
+    let ws = t.draining.waiting.items in
+    let olds = t.draining.array in
     let inv = c.self.invariant in
-    let now = c.args.self.now in
     let hk = key_hash g.H.BuildHasher g.H.Hasher.Hasher g.E.Key.Hash.hash_input cur in
     let hash = λ (e : g.row.E.Denot). hk (g.E.Keyed.key_of e) in
-    let flags = waiting-seen hash cur ws olds now c.self.view_is in
-    let count = count-seen hash cur ws olds now c.self.view_is inv.arrays in
+    let count = count-own c.self.invariant c.self.view_is in
     let i = c.args.bucket in
-    let down : waits_at ws i ≡ false = not_true (waits_at ws i) (λ up. let q = c.is_waiting.ensures.1 (ap (λ w. waits_at w i) flags ∙ up) in let z : true ≡ false = sym q ∙ c.if-is_waiting.false in cc) in
+    let down : waits_at ws i ≡ false = flag-free c.self.invariant _ c.self.view_is (λ up. let q = c.is_waiting.ensures.1 up in let z : true ≡ false = sym q ∙ c.if-is_waiting.false in cc) in
     let within : i < bucket_count cur = omega (arith, count, c.requires) in
     let p : Place = record { bucket = i; slot = 0 } in
     let some : 0 < length (list_of cur i) = omega (arith, c.list_len.ensures, c.if-list_len-eq0.false) in

@@ -1,6 +1,7 @@
 use Rattle.std.proofs.Common.{◌==◌, ◌<◌, ◌∙◌, sym, ap, rules, arith}
 use Rattle.std.specs.List.{count_by}
-use Rattle.scc_contents.specs.Contents.{entries, bucket_count, bucket_of, key_hash}
+use Rattle.scc_contents.specs.Contents.{entries, bucket_count, bucket_of, key_hash, settings_of}
+use Rattle.scc_contents.specs.Routing.{bucket_number}
 use Rattle.scc_table.proofs.Listed.{count-listed}
 use Rattle.scc_table.proofs.Table.has_room.Goals as goal
 
@@ -9,7 +10,7 @@ returns g c =
     let now = c.args.self.now in
     let hk = key_hash g.H.BuildHasher g.H.Hasher.Hasher g.E.Key.Hash.hash_input now in
     let hash = λ (e : g.row.E.Denot). hk (g.E.Keyed.key_of e) in
-    let i = c.bucket_index.result in
-    let n = ap (λ m. count_by (λ (e : g.row.E.Denot). bucket_of hk now (g.E.Keyed.key_of e) == m) (entries now)) (sym c.bucket_index.ensures) ∙ count-listed hash now i c.keep_lists.ensures.routed in
+    let i = c.bucket_at.result in
+    let n = ap (λ m. count_by (λ (e : g.row.E.Denot). bucket_of hk now (g.E.Keyed.key_of e) == m) (entries now)) (sym (c.bucket_at.ensures.value ∙ ap (bucket_number (settings_of now).skipped (bucket_count now)) c.hash.ensures)) ∙ count-listed hash now i c.bucket_at.ensures.routed in
     let some : 0 < bucket_count now = omega (arith, c.bucket_count.ensures.count, c.if-bucket_count-eq0.false) in
     (λ yes. let l : c.list_len.result < 32 = search rules in (some, omega (arith, n, c.list_len.ensures)), λ room. let l : c.list_len.result < 32 = omega (arith, n, c.list_len.ensures, room.1) in search rules)

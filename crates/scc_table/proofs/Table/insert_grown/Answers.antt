@@ -40,7 +40,6 @@ unreachable-requires g c =
     let i = c.bucket_at-bucket.result in
     let at : i ≡ bucket_number (settings_of a).skipped c.args.count c.args.hash = c.bucket_at-bucket.ensures.value ∙ ap (λ s. bucket_number s.skipped (bucket_count d) c.args.hash) reg.settings ∙ ap (λ n. bucket_number (settings_of a).skipped n c.args.hash) reg.count in
     let k = g.E.Keyed.key_of c.args.entry in
-    let ha = key_hash g.H.BuildHasher g.H.Hasher.Hasher g.E.Key.Hash.hash_input a in
     let hd = key_hash g.H.BuildHasher g.H.Hasher.Hasher g.E.Key.Hash.hash_input d in
     let s = (settings_of d).skipped in
     let n = bucket_count d in
@@ -51,7 +50,7 @@ unreachable-requires g c =
     let hashed : c.args.hash ≡ hd k = c.requires.hashed ∙ ap (λ (h : g.row.E-Key.Denot → ℕ). h k) (sym outer) in
     let near : bucket_number s n (hd k) ≡ i = ap (bucket_number s n) (sym hashed) ∙ sym c.bucket_at-bucket.ensures.value in
     let left : count_by (λ (e : g.row.E.Denot). bucket_number s n (hd (g.E.Keyed.key_of e)) == bucket_number s n (hd k)) (entries d) ≡ length (list_of d i) =
-    ap (λ m. count_by (λ (e : g.row.E.Denot). bucket_number s n (hd (g.E.Keyed.key_of e)) == m) (entries d)) near ∙ count-listed (λ (e : g.row.E.Denot). hd (g.E.Keyed.key_of e)) d i c.keep_lists.ensures.routed in
+    ap (λ m. count_by (λ (e : g.row.E.Denot). bucket_number s n (hd (g.E.Keyed.key_of e)) == m) (entries d)) near ∙ count-listed (λ (e : g.row.E.Denot). hd (g.E.Keyed.key_of e)) d i c.bucket_at-bucket.ensures.routed in
     c.in-Err.ensures.full (some, omega arith)
 
 pub returns : goal.returns

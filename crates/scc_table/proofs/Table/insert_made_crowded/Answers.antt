@@ -31,7 +31,6 @@ double_around-requires-clause-slot g c =
     let e = g.E.Made.made_of c.args.parts in
     let put = c.in-Ok.ensures.exact in
     let l = c.requires.within in
-    let counted = put-count a i e m p put l in
     let w = put-within a i e m p put l in w.slot
 
 pub double_around-requires-clause-hashed : goal.double_around-requires-clause-hashed

@@ -1,7 +1,7 @@
 use Rattle.std.proofs.Common.{◌≡◌, ◌∙◌, ℕ, None, List, map, sym, ap, subst, arith}
 use Rattle.std.specs.List.{position, IsDistinct}
 use Rattle.scc_contents.specs.Contents.{bucket_count, key_hash, settings_of}
-use Rattle.scc_table.specs.TwoArrays.{IsTable, together}
+use Rattle.scc_table.specs.TwoArrays.{draining_of, IsTable, together}
 use Rattle.scc_table.proofs.Alone.{entries-alone, lists-alone}
 use Rattle.scc_table.proofs.Firsts.{no-flags}
 use Rattle.scc_table.proofs.Joining.{refused-together, settings-together, waiting-together}
@@ -15,15 +15,12 @@ pub insert_made_first-placed-requires-clause-hashed : goal.insert_made_first-pla
 insert_made_first-placed-requires-clause-hashed g c =
     let t = c.self.inside in
     let cur = t.current in
-    let ws = t.waiting.items in
-    let olds = t.draining in
+    let ws = t.draining.waiting.items in
+    let olds = t.draining.array in
     let a = c.args.self.now in
-    let inv = c.self.invariant in
     let hk = key_hash g.H.BuildHasher g.H.Hasher.Hasher g.E.Key.Hash.hash_input cur in
     let hash = λ (e : g.row.E.Denot). hk (g.E.Keyed.key_of e) in
     let view = c.self.view_is in
-    let count = count-seen hash cur ws olds a view inv.arrays.flags in
-    let none = no-flags ws (bucket_count cur) inv.arrays.flags (sym count ∙ c.requires.none) in
     let outer = hash-same g.H.BuildHasher g.H.Hasher.Hasher g.E.Key.Hash.hash_input cur a (settings-seen hash cur ws olds a view) in
     c.requires.hashed ∙ ap (λ (h : g.row.E-Key.Denot → ℕ). h (g.E.Keyed.key_of (g.E.Made.made_of c.args.parts))) outer
 
@@ -32,14 +29,14 @@ insert_made_first-placed-requires-clause-none g c =
     let t = c.self.inside in
     let cur = t.current in
     let hash = λ (e : g.row.E.Denot). key_hash g.H.BuildHasher g.H.Hasher.Hasher g.E.Key.Hash.hash_input cur (g.E.Keyed.key_of e) in
-    sym (count-seen hash cur t.waiting.items t.draining c.args.self.now c.self.view_is c.self.invariant.arrays.flags) ∙ c.requires.none
+    sym (count-seen hash cur t.draining.waiting.items t.draining.array c.args.self.now c.self.view_is c.self.invariant.arrays.flags) ∙ c.requires.none
 
 pub insert_made_first-placed-requires-clause-absent : goal.insert_made_first-placed-requires-clause-absent
 insert_made_first-placed-requires-clause-absent g c =
     let t = c.self.inside in
     let cur = t.current in
-    let ws = t.waiting.items in
-    let olds = t.draining in
+    let ws = t.draining.waiting.items in
+    let olds = t.draining.array in
     let a = c.args.self.now in
     let inv = c.self.invariant in
     let hk = key_hash g.H.BuildHasher g.H.Hasher.Hasher g.E.Key.Hash.hash_input cur in
@@ -54,8 +51,8 @@ pub invariant_of-self : goal.invariant_of-self
 invariant_of-self g c =
     let t = c.self.inside in
     let cur = t.current in
-    let ws = t.waiting.items in
-    let olds = t.draining in
+    let ws = t.draining.waiting.items in
+    let olds = t.draining.array in
     let a = c.args.self.now in
     let new = c.insert_made_first-placed.new.self in
     let inv = c.self.invariant in
@@ -67,15 +64,15 @@ invariant_of-self g c =
     let kept : settings_of new ≡ settings_of cur = either-answer c.insert_made_first-placed.result c.insert_made_first-placed.ensures.ok c.insert_made_first-placed.ensures.err (λ p i. i.holds.settings) (λ p u. u.1.settings) in
     let same = hash-same g.H.BuildHasher g.H.Hasher.Hasher g.E.Key.Hash.hash_input cur new kept in
     let few = c.overflow_len-few.ensures in
-    subst (λ (h : g.row.E-Key.Denot → ℕ). IsTable g.E.Key.PartialEq.eq g.E.Keyed.key_of h new ws olds t.skipped t.pending t.next t.left 0) (sym same)
-    (fields-lone g.E.Key.PartialEq.eq g.E.Keyed.key_of hk cur new ws olds t.skipped t.pending t.next t.left t.left_overflow inv none kept (omega (arith, few.value, few.most)) c.insert_made_first-placed.ensures.unique)
+    subst (λ (h : g.row.E-Key.Denot → ℕ). IsTable g.E.Key.PartialEq.eq g.E.Keyed.key_of h new (record (draining_of t.draining) { left_overflow = 0 }) t.skipped) (sym same)
+    (fields-lone g.E.Key.PartialEq.eq g.E.Keyed.key_of hk cur new (draining_of t.draining) t.skipped inv none kept (omega (arith, few.value, few.most)) c.insert_made_first-placed.ensures.unique)
 
 pub returns : goal.returns
 returns g c =
     let t = c.self.inside in
     let cur = t.current in
-    let ws = t.waiting.items in
-    let olds = t.draining in
+    let ws = t.draining.waiting.items in
+    let olds = t.draining.array in
     let a = c.args.self.now in
     let new = c.insert_made_first-placed.new.self in
     let inv = c.self.invariant in

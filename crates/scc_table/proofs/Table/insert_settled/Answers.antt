@@ -1,7 +1,7 @@
 use Rattle.std.proofs.Common.{◌∙◌, drop, ap, subst, arith, rules}
 use Rattle.scc_table.specs.Relocates.{AreMovedFrom}
 use Rattle.scc_table.proofs.Placing.{placed-at, placed-count, placed-down, placed-fewer, placed-short}
-use Rattle.scc_table.proofs.Same.{count-same, pending-same, unchanged-same}
+use Rattle.scc_table.proofs.Same.{count-same, pending-same, unchanged-same, unique-same}
 use Rattle.scc_table.proofs.Targets.{targets-same}
 use Rattle.scc_table.proofs.Table.insert_settled.Goals as goal
 
@@ -26,7 +26,7 @@ returns-in-Ok g c =
       settled = (placed-down a c.args.bucket c.args.entry m p put c.requires.within c.requires.settled waiting d r.lists r.settings r.fewer);
       moved = (subst (λ ts. AreMovedFrom ts c.args.most c.relocate_some.new.self) (targets-same a c.put_in.new.self c.put_in.ensures.waiting) c.relocate_some.ensures.moved);
       exact = (λ short. r.exact (placed-short a c.args.bucket c.args.entry m p put c.requires.within c.requires.settled waiting short) ∙ ap (drop c.args.most) (targets-same a m waiting));
-      unique = (search rules);
+      unique = (unique-same m d r.lists g.E.Key.PartialEq.eq g.E.Keyed.key_of c.put_in.ensures.unique);
     }
 
 pub returns-in-Err : goal.returns-in-Err

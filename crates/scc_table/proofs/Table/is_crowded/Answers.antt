@@ -13,7 +13,7 @@ use Rattle.scc_table.proofs.Table.is_crowded.Goals as goal
 pub count_bound-requires-clause-within : goal.count_bound-requires-clause-within
 count_bound-requires-clause-within g c =
     let t = c.self.inside in
-    let count = count-seen _ t.current t.waiting.items t.draining c.args.self.now c.self.view_is c.self.invariant.arrays.flags in
+    let count = count-seen _ t.current t.draining.waiting.items t.draining.array c.args.self.now c.self.view_is c.self.invariant.arrays.flags in
     omega (arith, count, c.requires.within)
 
 pub count_bound-requires-clause-first : goal.count_bound-requires-clause-first
@@ -21,9 +21,9 @@ count_bound-requires-clause-first g c =
     let t = c.self.inside in
     let a = c.args.self.now in
     let i = c.args.bucket in
-    let count = count-seen _ t.current t.waiting.items t.draining a c.self.view_is c.self.invariant.arrays.flags in
-    let down : waits_at t.waiting.items i ≡ false = ap (λ w. waits_at w i) (sym (waiting-seen _ t.current t.waiting.items t.draining a c.self.view_is)) ∙ c.requires.settled in
-    let own = ap (λ d. length (list_of d i)) (sym c.self.view_is) ∙ ap length (own-list _ t.current t.waiting.items t.draining c.self.invariant.arrays i (omega (arith, count, c.requires.within)) down) in
+    let count = count-seen _ t.current t.draining.waiting.items t.draining.array a c.self.view_is c.self.invariant.arrays.flags in
+    let down : waits_at t.draining.waiting.items i ≡ false = ap (λ w. waits_at w i) (sym (waiting-seen _ t.current t.draining.waiting.items t.draining.array a c.self.view_is)) ∙ c.requires.settled in
+    let own = ap (λ d. length (list_of d i)) (sym c.self.view_is) ∙ ap length (own-list _ t.current t.draining.waiting.items t.draining.array c.self.invariant.arrays i (omega (arith, count, c.requires.within)) down) in
     omega (arith, own, c.list_len-held.ensures)
 
 pub returns : goal.returns
@@ -33,15 +33,15 @@ returns g c =
     let r = c.bucket_count-count.result in
     let hash = λ (e : g.row.E.Denot). key_hash g.H.BuildHasher g.H.Hasher.Hasher g.E.Key.Hash.hash_input a (g.E.Keyed.key_of e) in
     let es = list_of a c.args.bucket in
-    let settings = settings-seen _ t.current t.waiting.items t.draining a c.self.view_is in
+    let settings = settings-seen _ t.current t.draining.waiting.items t.draining.array a c.self.view_is in
     let s : t.skipped ≡ (settings_of a).skipped = c.self.invariant.skips ∙ ap (λ z. z.skipped) (sym settings) in
     let n : 2 * r ≡ 2 * bucket_count a = ap (λ z. 2 * z) c.bucket_count-count.ensures.count in
     let at : c.bucket_index-target.result ≡ bucket_number (settings_of a).skipped (2 * bucket_count a) c.args.hash =
     c.bucket_index-target.ensures.value ∙ ap (λ z. bucket_number z (2 * r) c.args.hash) s ∙ ap (λ z. bucket_number (settings_of a).skipped z c.args.hash) n in
     let i = c.args.bucket in
-    let count = count-seen _ t.current t.waiting.items t.draining a c.self.view_is c.self.invariant.arrays.flags in
-    let down : waits_at t.waiting.items i ≡ false = ap (λ w. waits_at w i) (sym (waiting-seen _ t.current t.waiting.items t.draining a c.self.view_is)) ∙ c.requires.settled in
-    let own : es ≡ list_of t.current i = ap (λ d. list_of d i) (sym c.self.view_is) ∙ own-list _ t.current t.waiting.items t.draining c.self.invariant.arrays i (omega (arith, count, c.requires.within)) down in
+    let count = count-seen _ t.current t.draining.waiting.items t.draining.array a c.self.view_is c.self.invariant.arrays.flags in
+    let down : waits_at t.draining.waiting.items i ≡ false = ap (λ w. waits_at w i) (sym (waiting-seen _ t.current t.draining.waiting.items t.draining.array a c.self.view_is)) ∙ c.requires.settled in
+    let own : es ≡ list_of t.current i = ap (λ d. list_of d i) (sym c.self.view_is) ∙ own-list _ t.current t.draining.waiting.items t.draining.array c.self.invariant.arrays i (omega (arith, count, c.requires.within)) down in
     let hashes = λ (s : Settings g.row.H.Denot). let h : g.row.E.Denot → ℕ = λ e. hash_of g.H.BuildHasher g.H.Hasher.Hasher s.hasher (g.E.Key.Hash.hash_input (g.E.Keyed.key_of e)) in h in
     let counted = c.count_bound.ensures ∙ ap (λ xs. length (bound_for (hashes (settings_of t.current)) t.skipped (2 * r) c.bucket_index-target.result (take c.list_len-held.result xs))) (sym own)
     ∙ ap (λ s. length (bound_for (hashes s) t.skipped (2 * r) c.bucket_index-target.result (take c.list_len-held.result es))) (sym settings) in

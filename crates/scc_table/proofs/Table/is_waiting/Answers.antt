@@ -8,27 +8,27 @@ use Rattle.scc_table.proofs.Table.is_waiting.Goals as goal
 pub index-requires : goal.index-requires
 index-requires g c =
     let t = c.self.inside in
-    let some : 0 < t.pending = omega arith in
-    let long = flags-length t.current t.waiting.items t.pending c.self.invariant.arrays.flags c.self.invariant.counted some in
-    let count = ap bucket_count (sym c.self.view_is) ∙ count-together _ t.current t.waiting.items t.draining c.self.invariant.arrays.flags in
-    let l : c.args.bucket < length t.waiting.items = omega (arith, c.requires) in
+    let some : 0 < t.draining.pending = omega arith in
+    let long = flags-length t.current t.draining.waiting.items t.draining.pending c.self.invariant.arrays.flags c.self.invariant.counted some in
+    let count = ap bucket_count (sym c.self.view_is) ∙ count-together _ t.current t.draining.waiting.items t.draining.array c.self.invariant.arrays.flags in
+    let l : c.args.bucket < length t.draining.waiting.items = omega (arith, c.requires) in
     search rules
 
 pub returns-then-self-eq0 : goal.returns-then-self-eq0
 returns-then-self-eq0 g c =
     let t = c.self.inside in
-    let flags : waiting_of c.args.self.now ≡ t.waiting.items = ap waiting_of (sym c.self.view_is) ∙ waiting-together _ t.current t.waiting.items t.draining in
+    let flags : waiting_of c.args.self.now ≡ t.draining.waiting.items = ap waiting_of (sym c.self.view_is) ∙ waiting-together _ t.current t.draining.waiting.items t.draining.array in
     let none = flags ∙ c.self.invariant.none c.if-self-eq0.true in
     (λ h. absurd (let z : false ≡ true = h in cc), λ h. ap (λ ws. waits_at ws c.args.bucket) (sym none) ∙ h)
 
 pub returns : goal.returns
 returns g c =
     let t = c.self.inside in
-    let flags : waiting_of c.args.self.now ≡ t.waiting.items = ap waiting_of (sym c.self.view_is) ∙ waiting-together _ t.current t.waiting.items t.draining in
-    let some : 0 < t.pending = omega arith in
-    let long = flags-length t.current t.waiting.items t.pending c.self.invariant.arrays.flags c.self.invariant.counted some in
-    let count = ap bucket_count (sym c.self.view_is) ∙ count-together _ t.current t.waiting.items t.draining c.self.invariant.arrays.flags in
-    let l : c.args.bucket < length t.waiting.items = omega (arith, c.requires) in
-    let here : c.index.result.now ≡ waits_at t.waiting.items c.args.bucket = get_or_read t.waiting.items c.args.bucket c.index.result.now l c.index.ensures false in
+    let flags : waiting_of c.args.self.now ≡ t.draining.waiting.items = ap waiting_of (sym c.self.view_is) ∙ waiting-together _ t.current t.draining.waiting.items t.draining.array in
+    let some : 0 < t.draining.pending = omega arith in
+    let long = flags-length t.current t.draining.waiting.items t.draining.pending c.self.invariant.arrays.flags c.self.invariant.counted some in
+    let count = ap bucket_count (sym c.self.view_is) ∙ count-together _ t.current t.draining.waiting.items t.draining.array c.self.invariant.arrays.flags in
+    let l : c.args.bucket < length t.draining.waiting.items = omega (arith, c.requires) in
+    let here : c.index.result.now ≡ waits_at t.draining.waiting.items c.args.bucket = get_or_read t.draining.waiting.items c.args.bucket c.index.result.now l c.index.ensures false in
     let both = here ∙ ap (λ ws. waits_at ws c.args.bucket) (sym flags) in
     (λ h. sym both ∙ h, λ h. both ∙ h)

@@ -11,30 +11,28 @@ pub overflow_add-result : goal.overflow_add-result
 overflow_add-result g c =
     let t = c.self.inside in
     let cur = t.current in
-    let ws = t.waiting.items in
-    let olds = t.draining in
+    let ws = t.draining.waiting.items in
+    let olds = t.draining.array in
     let inv = c.self.invariant in
-    let now = c.args.self.now in
     let hk = key_hash g.H.BuildHasher g.H.Hasher.Hasher g.E.Key.Hash.hash_input cur in
     let hash = λ (e : g.row.E.Denot). hk (g.E.Keyed.key_of e) in
     let f : Shelf g.row.E.Denot → ℕ = λ b. length (shelf_entries b) in
     let left : sum_by f olds ≤ 32 * length olds + spilled_in olds = owed-most olds (λ j l. (inv.arrays.own.own j l).within) in
-    let many : (t.left ≡ 0) ⊎ ((length olds ≤ 2 ^ 58) × AreMultiples (length olds) (bucket_count cur)) = elim inv.arrays.multiples [
+    let many : (t.draining.left ≡ 0) ⊎ ((length olds ≤ 2 ^ 58) × AreMultiples (length olds) (bucket_count cur)) = elim inv.arrays.multiples [
       | inl z ↦ inl (inv.left_is ∙ none-owed hash cur ws olds inv.arrays z)
       | inr m ↦ elim inv.arrays.sized [ inl z ↦ inl (inv.left_is ∙ none-owed hash cur ws olds inv.arrays z) | inr a ↦ inr (a.most, m) ]
     ] in
     let wide : bucket_count cur ≤ 2 ^ 58 = omega (arith, c.bucket_count.ensures.most, c.bucket_count.ensures.count) in
-    let fits = len-fits (length olds) (bucket_count cur) c.len.result t.left (spilled_of cur) (spilled_in olds) t.left_overflow wide many c.len.ensures.most (omega (arith, inv.left_is)) inv.overflow_is inv.few in
+    let fits = len-fits (length olds) (bucket_count cur) c.len.result t.draining.left (spilled_of cur) (spilled_in olds) t.draining.left_overflow wide many c.len.ensures.most (omega (arith, inv.left_is)) inv.overflow_is inv.few in
     search rules
 
 pub returns-clause-len : goal.returns-clause-len
 returns-clause-len g c =
     let t = c.self.inside in
     let cur = t.current in
-    let ws = t.waiting.items in
-    let olds = t.draining in
+    let ws = t.draining.waiting.items in
+    let olds = t.draining.array in
     let inv = c.self.invariant in
-    let now = c.args.self.now in
     let hk = key_hash g.H.BuildHasher g.H.Hasher.Hasher g.E.Key.Hash.hash_input cur in
     let hash = λ (e : g.row.E.Denot). hk (g.E.Keyed.key_of e) in
     let all = length-together hash cur ws olds inv.arrays in

@@ -6,79 +6,39 @@ use Rattle.scc_contents.specs.Contents.{bucket_count, key_hash, list_of, setting
 use Rattle.scc_table.specs.TwoArrays.{waits_at}
 use Rattle.scc_table.proofs.OldSpots.{own-list}
 use Rattle.scc_draining.proofs.FromBuckets.{most-held, within-sources}
-use Rattle.scc_table.proofs.Preparing.{long-flags, waiting-list, multiple-flags, sized-flags}
-use Rattle.scc_table.proofs.RelocatingLemmas.{up-within}
-use Rattle.scc_table.proofs.SearchingLemmas.{not_true}
-use Rattle.scc_table.proofs.Seen.{count-seen, waiting-seen}
+use Rattle.scc_table.proofs.Preparing.{long-flags, waiting-list}
 use Rattle.scc_buckets.specs.Tables.{spilled_in}
+use Rattle.scc_table.proofs.OneBucket.{count-own, flag-free, flag-up, old-multiples, old-sized, target-within}
 use Rattle.scc_table.proofs.Table.list_len.Goals as goal
 
 pub sources-first-requires-clause-some : goal.sources-first-requires-clause-some
 sources-first-requires-clause-some g c =
-    let t = c.self.inside in
-    let cur = t.current in
-    let ws = t.waiting.items in
-    let olds = t.draining in
-    let inv = c.self.invariant in
-    let now = c.args.self.now in
-    let hk = key_hash g.H.BuildHasher g.H.Hasher.Hasher g.E.Key.Hash.hash_input cur in
-    let hash = λ (e : g.row.E.Denot). hk (g.E.Keyed.key_of e) in
-    let flags = waiting-seen hash cur ws olds now c.self.view_is in
-    let i = c.args.bucket in
-    let up : waits_at ws i ≡ true = ap (λ w. waits_at w i) (sym flags) ∙ c.is_waiting.ensures.0 c.if-is_waiting.true in
-    let array = sized-flags cur ws olds i inv.arrays.sized up in
-    let within : i < bucket_count cur = omega (arith, up-within ws i up, long-flags cur ws i inv.arrays.flags up) in
+    let up = flag-up c.self.invariant _ c.self.view_is (c.is_waiting.ensures.0 c.if-is_waiting.true) in
+    let array = old-sized c.self.invariant _ up in
+    let within = target-within c.self.invariant _ up in
     omega (arith, array.least, c.len.ensures.count)
 
 pub sources-first-requires-clause-target : goal.sources-first-requires-clause-target
 sources-first-requires-clause-target g c =
-    let t = c.self.inside in
-    let cur = t.current in
-    let ws = t.waiting.items in
-    let olds = t.draining in
-    let inv = c.self.invariant in
-    let now = c.args.self.now in
-    let hk = key_hash g.H.BuildHasher g.H.Hasher.Hasher g.E.Key.Hash.hash_input cur in
-    let hash = λ (e : g.row.E.Denot). hk (g.E.Keyed.key_of e) in
-    let flags = waiting-seen hash cur ws olds now c.self.view_is in
-    let i = c.args.bucket in
-    let up : waits_at ws i ≡ true = ap (λ w. waits_at w i) (sym flags) ∙ c.is_waiting.ensures.0 c.if-is_waiting.true in
-    let array = sized-flags cur ws olds i inv.arrays.sized up in
-    let within : i < bucket_count cur = omega (arith, up-within ws i up, long-flags cur ws i inv.arrays.flags up) in
+    let up = flag-up c.self.invariant _ c.self.view_is (c.is_waiting.ensures.0 c.if-is_waiting.true) in
+    let array = old-sized c.self.invariant _ up in
+    let within = target-within c.self.invariant _ up in
     omega (arith, c.bucket_count-count.ensures.count)
 
 pub sources-first-requires-clause-multiples : goal.sources-first-requires-clause-multiples
 sources-first-requires-clause-multiples g c =
-    let t = c.self.inside in
-    let cur = t.current in
-    let ws = t.waiting.items in
-    let olds = t.draining in
-    let inv = c.self.invariant in
-    let now = c.args.self.now in
-    let hk = key_hash g.H.BuildHasher g.H.Hasher.Hasher g.E.Key.Hash.hash_input cur in
-    let hash = λ (e : g.row.E.Denot). hk (g.E.Keyed.key_of e) in
-    let flags = waiting-seen hash cur ws olds now c.self.view_is in
-    let i = c.args.bucket in
-    let up : waits_at ws i ≡ true = ap (λ w. waits_at w i) (sym flags) ∙ c.is_waiting.ensures.0 c.if-is_waiting.true in
-    let array = sized-flags cur ws olds i inv.arrays.sized up in
-    let within : i < bucket_count cur = omega (arith, up-within ws i up, long-flags cur ws i inv.arrays.flags up) in
-    rw (c.len.ensures.count, c.bucket_count-count.ensures.count) (multiple-flags cur ws olds i inv.arrays.multiples up)
+    let up = flag-up c.self.invariant _ c.self.view_is (c.is_waiting.ensures.0 c.if-is_waiting.true) in
+    rw (c.len.ensures.count, c.bucket_count-count.ensures.count) (old-multiples c.self.invariant _ up)
 
 pub count_all-requires-clause-sources : goal.count_all-requires-clause-sources
 count_all-requires-clause-sources g c =
     let t = c.self.inside in
     let cur = t.current in
-    let ws = t.waiting.items in
-    let olds = t.draining in
+    let olds = t.draining.array in
     let inv = c.self.invariant in
-    let now = c.args.self.now in
     let hk = key_hash g.H.BuildHasher g.H.Hasher.Hasher g.E.Key.Hash.hash_input cur in
     let hash = λ (e : g.row.E.Denot). hk (g.E.Keyed.key_of e) in
-    let flags = waiting-seen hash cur ws olds now c.self.view_is in
     let i = c.args.bucket in
-    let up : waits_at ws i ≡ true = ap (λ w. waits_at w i) (sym flags) ∙ c.is_waiting.ensures.0 c.if-is_waiting.true in
-    let array = sized-flags cur ws olds i inv.arrays.sized up in
-    let within : i < bucket_count cur = omega (arith, up-within ws i up, long-flags cur ws i inv.arrays.flags up) in
     let only = rw (c.len.ensures.count, c.bucket_count-count.ensures.count) at c.sources-first.ensures.only in
     let end = rw c.len.ensures.count at c.sources-first.ensures.within in
     let sources = within-sources hash (settings_of cur).skipped (bucket_count cur) i c.sources-first.result.0 c.sources-first.result.1 olds inv.arrays.own c.sources-first.ensures.order end only in
@@ -86,36 +46,20 @@ count_all-requires-clause-sources g c =
 
 pub count_all-requires-clause-own : goal.count_all-requires-clause-own
 count_all-requires-clause-own g c =
-    let t = c.self.inside in
-    let cur = t.current in
-    let ws = t.waiting.items in
-    let olds = t.draining in
     let inv = c.self.invariant in
-    let now = c.args.self.now in
-    let hk = key_hash g.H.BuildHasher g.H.Hasher.Hasher g.E.Key.Hash.hash_input cur in
-    let hash = λ (e : g.row.E.Denot). hk (g.E.Keyed.key_of e) in
-    let flags = waiting-seen hash cur ws olds now c.self.view_is in
-    let i = c.args.bucket in
-    let up : waits_at ws i ≡ true = ap (λ w. waits_at w i) (sym flags) ∙ c.is_waiting.ensures.0 c.if-is_waiting.true in
-    let array = sized-flags cur ws olds i inv.arrays.sized up in
-    let within : i < bucket_count cur = omega (arith, up-within ws i up, long-flags cur ws i inv.arrays.flags up) in
     rw inv.skips inv.arrays.own
 
 pub count_all-requires-clause-most : goal.count_all-requires-clause-most
 count_all-requires-clause-most g c =
     let t = c.self.inside in
     let cur = t.current in
-    let ws = t.waiting.items in
-    let olds = t.draining in
+    let olds = t.draining.array in
     let inv = c.self.invariant in
-    let now = c.args.self.now in
     let hk = key_hash g.H.BuildHasher g.H.Hasher.Hasher g.E.Key.Hash.hash_input cur in
     let hash = λ (e : g.row.E.Denot). hk (g.E.Keyed.key_of e) in
-    let flags = waiting-seen hash cur ws olds now c.self.view_is in
-    let i = c.args.bucket in
-    let up : waits_at ws i ≡ true = ap (λ w. waits_at w i) (sym flags) ∙ c.is_waiting.ensures.0 c.if-is_waiting.true in
-    let array = sized-flags cur ws olds i inv.arrays.sized up in
-    let within : i < bucket_count cur = omega (arith, up-within ws i up, long-flags cur ws i inv.arrays.flags up) in
+    let up = flag-up c.self.invariant _ c.self.view_is (c.is_waiting.ensures.0 c.if-is_waiting.true) in
+    let array = old-sized c.self.invariant _ up in
+    let within = target-within c.self.invariant _ up in
     let low : spilled_in olds < 2 ^ 62 = omega (arith, inv.overflow_is, inv.few) in
     let m = most-held hash (settings_of cur).skipped olds array inv.arrays.own low in
     omega arith
@@ -124,17 +68,13 @@ pub returns-then-is_waiting : goal.returns-then-is_waiting
 returns-then-is_waiting g c =
     let t = c.self.inside in
     let cur = t.current in
-    let ws = t.waiting.items in
-    let olds = t.draining in
+    let ws = t.draining.waiting.items in
+    let olds = t.draining.array in
     let inv = c.self.invariant in
-    let now = c.args.self.now in
     let hk = key_hash g.H.BuildHasher g.H.Hasher.Hasher g.E.Key.Hash.hash_input cur in
     let hash = λ (e : g.row.E.Denot). hk (g.E.Keyed.key_of e) in
-    let flags = waiting-seen hash cur ws olds now c.self.view_is in
     let i = c.args.bucket in
-    let up : waits_at ws i ≡ true = ap (λ w. waits_at w i) (sym flags) ∙ c.is_waiting.ensures.0 c.if-is_waiting.true in
-    let array = sized-flags cur ws olds i inv.arrays.sized up in
-    let within : i < bucket_count cur = omega (arith, up-within ws i up, long-flags cur ws i inv.arrays.flags up) in
+    let up = flag-up c.self.invariant _ c.self.view_is (c.is_waiting.ensures.0 c.if-is_waiting.true) in
     let es = flat_map shelf_entries olds in
     let all = waiting-list hash cur ws olds inv.arrays i up (long-flags cur ws i inv.arrays.flags up) in
     c.count_all.ensures ∙ ap (λ s. length (bound_for hash s c.bucket_count-count.result i es)) inv.skips ∙ ap (λ n. length (bound_for hash (settings_of cur).skipped n i es)) c.bucket_count-count.ensures.count ∙ ap length (sym all)
@@ -142,30 +82,20 @@ returns-then-is_waiting g c =
 
 pub list_len-requires : goal.list_len-requires
 list_len-requires g c =
-    let t = c.self.inside in
-    let cur = t.current in
-    let ws = t.waiting.items in
-    let olds = t.draining in
-    let inv = c.self.invariant in
-    let now = c.args.self.now in
-    let hk = key_hash g.H.BuildHasher g.H.Hasher.Hasher g.E.Key.Hash.hash_input cur in
-    let hash = λ (e : g.row.E.Denot). hk (g.E.Keyed.key_of e) in
-    let count = count-seen hash cur ws olds now c.self.view_is inv.arrays in
+    let count = count-own c.self.invariant c.self.view_is in
     omega (arith, count, c.requires)
 
 pub returns : goal.returns
 returns g c =
     let t = c.self.inside in
     let cur = t.current in
-    let ws = t.waiting.items in
-    let olds = t.draining in
+    let ws = t.draining.waiting.items in
+    let olds = t.draining.array in
     let inv = c.self.invariant in
-    let now = c.args.self.now in
     let hk = key_hash g.H.BuildHasher g.H.Hasher.Hasher g.E.Key.Hash.hash_input cur in
     let hash = λ (e : g.row.E.Denot). hk (g.E.Keyed.key_of e) in
-    let flags = waiting-seen hash cur ws olds now c.self.view_is in
-    let count = count-seen hash cur ws olds now c.self.view_is inv.arrays in
+    let count = count-own c.self.invariant c.self.view_is in
     let i = c.args.bucket in
-    let down : waits_at ws i ≡ false = not_true (waits_at ws i) (λ up. let q = c.is_waiting.ensures.1 (ap (λ w. waits_at w i) flags ∙ up) in let z : true ≡ false = sym q ∙ c.if-is_waiting.false in cc) in
+    let down : waits_at ws i ≡ false = flag-free c.self.invariant _ c.self.view_is (λ up. let q = c.is_waiting.ensures.1 up in let z : true ≡ false = sym q ∙ c.if-is_waiting.false in cc) in
     let within : i < bucket_count cur = omega (arith, count, c.requires) in
     c.list_len.ensures ∙ ap length (sym (own-list hash cur ws olds inv.arrays i within down)) ∙ ap (λ d. length (list_of d i)) c.self.view_is

@@ -12,11 +12,11 @@ returns g c =
     let hash = λ (e : g.row.E.Denot). hk (g.E.Keyed.key_of e) in
     record {
       answer = (
-          let set = settings-seen hash t.current t.waiting.items t.draining c.args.self.now c.self.view_is in
+          let set = settings-seen hash t.current t.draining.waiting.items t.draining.array c.args.self.now c.self.view_is in
           let left : c.reserved-reserved.result ≡ (settings_of c.args.self.now).reserved = c.reserved-reserved.ensures.value ∙ ap (λ s. s.reserved) set in
           search rules);
       yes = (
-          let set = settings-seen hash t.current t.waiting.items t.draining c.args.self.now c.self.view_is in
+          let set = settings-seen hash t.current t.draining.waiting.items t.draining.array c.args.self.now c.self.view_is in
           let left : c.reserved-reserved.result ≡ (settings_of c.args.self.now).reserved = c.reserved-reserved.ensures.value ∙ ap (λ s. s.reserved) set in
           let set : settings_of c.set_reserved.new.self ≡ record (settings_of c.args.self.now) { reserved = (settings_of c.args.self.now).reserved - c.args.additional } =
           c.set_reserved.ensures.settings ∙ ap (λ r. let s : Settings g.row.H.Denot = record (settings_of c.args.self.now) { reserved = r - c.args.additional } in s) left in
@@ -50,7 +50,7 @@ set_reserved-requires g c =
     let t = c.self.inside in
     let hk = key_hash g.H.BuildHasher g.H.Hasher.Hasher g.E.Key.Hash.hash_input t.current in
     let hash = λ (e : g.row.E.Denot). hk (g.E.Keyed.key_of e) in
-    let set = settings-seen hash t.current t.waiting.items t.draining c.args.self.now c.self.view_is in
+    let set = settings-seen hash t.current t.draining.waiting.items t.draining.array c.args.self.now c.self.view_is in
     let left : c.reserved-reserved.result ≡ (settings_of c.args.self.now).reserved = c.reserved-reserved.ensures.value ∙ ap (λ s. s.reserved) set in
     let most = c.reserved-reserved.ensures.most in
     let asked = ap (λ s. s.asked) set in
@@ -63,7 +63,7 @@ returns-then-additional-reserved g c =
           let t = c.self.inside in
           let hk = key_hash g.H.BuildHasher g.H.Hasher.Hasher g.E.Key.Hash.hash_input t.current in
           let hash = λ (e : g.row.E.Denot). hk (g.E.Keyed.key_of e) in
-          let set = settings-seen hash t.current t.waiting.items t.draining c.args.self.now c.self.view_is in
+          let set = settings-seen hash t.current t.draining.waiting.items t.draining.array c.args.self.now c.self.view_is in
           let left : c.reserved-reserved.result ≡ (settings_of c.args.self.now).reserved = c.reserved-reserved.ensures.value ∙ ap (λ s. s.reserved) set in
           search rules);
       yes = (search rules);

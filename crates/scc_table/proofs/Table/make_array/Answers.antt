@@ -3,7 +3,7 @@ use Rattle.std.proofs.Common.{◌≡◌, ◌∙◌, ◌+◌, ◌*◌, ℕ, List,
 use Rattle.scc_contents.specs.Contents.{bucket_count, entries, key_hash, minimum_of, spilled_of, refused_of}
 use Rattle.scc_contents.specs.Sizes.{IsArray, IsArraySize}
 use Rattle.scc_buckets.specs.Tables.{spilled_in}
-use Rattle.scc_table.specs.TwoArrays.{IsTable, together}
+use Rattle.scc_table.specs.TwoArrays.{draining_of, IsTable, together}
 use Rattle.scc_table.proofs.Alone.{count-alone, entries-alone, nothing-owed, spilled-bare, spilled-together}
 use Rattle.scc_draining.proofs.Arriving.{IsDistinct-nil}
 use Rattle.scc_table.proofs.Firsts.{fields-first, first-grows, first-rests, no-flags, same-rests}
@@ -16,14 +16,14 @@ use Rattle.scc_table.proofs.Table.make_array.Goals as goal
 pub make_array-requires : goal.make_array-requires
 make_array-requires g c =
     let t = c.self.inside in
-    sym (count-seen _ t.current t.waiting.items t.draining c.args.self.now c.self.view_is c.self.invariant.arrays.flags) ∙ c.requires
+    sym (count-seen _ t.current t.draining.waiting.items t.draining.array c.args.self.now c.self.view_is c.self.invariant.arrays.flags) ∙ c.requires
 
 pub invariant_of-self-2 : goal.invariant_of-self-2
 invariant_of-self-2 g c =
     let t = c.self.inside in
     let cur = t.current in
-    let ws = t.waiting.items in
-    let olds = t.draining in
+    let ws = t.draining.waiting.items in
+    let olds = t.draining.array in
     let a = c.args.self.now in
     let new = c.make_array.new.self in
     let inv = c.self.invariant in
@@ -32,19 +32,16 @@ invariant_of-self-2 g c =
     let view = c.self.view_is in
     let count = count-seen hash cur ws olds a view inv.arrays.flags in
     let none = no-flags ws (bucket_count cur) inv.arrays.flags (sym count ∙ c.requires) in
-    let later = λ (e : g.row.E.Denot). key_hash g.H.BuildHasher g.H.Hasher.Hasher g.E.Key.Hash.hash_input new (g.E.Keyed.key_of e) in
-    let d = together later new ws olds in
-    let still = entries-alone later new ws olds none ∙ c.make_array.ensures.still in
     let same = hash-same g.H.BuildHasher g.H.Hasher.Hasher g.E.Key.Hash.hash_input cur new c.make_array.ensures.settings in
-    subst (λ (h : g.row.E-Key.Denot → ℕ). IsTable g.E.Key.PartialEq.eq g.E.Keyed.key_of h new ws olds t.skipped t.pending t.next t.left t.left_overflow) (sym same)
-    (fields-first g.E.Key.PartialEq.eq g.E.Keyed.key_of hk cur new ws olds t.skipped t.pending t.next t.left t.left_overflow inv none c.make_array.ensures.settings c.make_array.ensures.still c.in_ok-make_array.ensures.resized.bounded)
+    subst (λ (h : g.row.E-Key.Denot → ℕ). IsTable g.E.Key.PartialEq.eq g.E.Keyed.key_of h new (draining_of t.draining) t.skipped) (sym same)
+    (fields-first g.E.Key.PartialEq.eq g.E.Keyed.key_of hk cur new (draining_of t.draining) t.skipped inv none c.make_array.ensures.settings c.make_array.ensures.still c.in_ok-make_array.ensures.resized.bounded)
 
 pub returns : goal.returns
 returns g c =
     let t = c.self.inside in
     let cur = t.current in
-    let ws = t.waiting.items in
-    let olds = t.draining in
+    let ws = t.draining.waiting.items in
+    let olds = t.draining.array in
     let a = c.args.self.now in
     let new = c.make_array.new.self in
     let inv = c.self.invariant in
@@ -89,8 +86,8 @@ pub returns-in_err-make_array : goal.returns-in_err-make_array
 returns-in_err-make_array g c =
     let t = c.self.inside in
     let cur = t.current in
-    let ws = t.waiting.items in
-    let olds = t.draining in
+    let ws = t.draining.waiting.items in
+    let olds = t.draining.array in
     let a = c.args.self.now in
     let new = c.make_array.new.self in
     let inv = c.self.invariant in
@@ -103,15 +100,15 @@ returns-in_err-make_array g c =
     let still = entries-alone later new ws olds none ∙ c.make_array.ensures.still in
     record {
       rests = (
-          let d = together (λ e. key_hash g.H.BuildHasher g.H.Hasher.Hasher g.E.Key.Hash.hash_input c.make_array.new.self (g.E.Keyed.key_of e)) c.make_array.new.self t.waiting.items t.draining in
+          let d = together (λ e. key_hash g.H.BuildHasher g.H.Hasher.Hasher g.E.Key.Hash.hash_input c.make_array.new.self (g.E.Keyed.key_of e)) c.make_array.new.self t.draining.waiting.items t.draining.array in
           let same : d ≡ c.args.self.now = rw c.in_err-make_array.ensures.same c.self.view_is in
           inl (same-rests c.args.self.now d same).0);
       growth = (
-          let d = together (λ e. key_hash g.H.BuildHasher g.H.Hasher.Hasher g.E.Key.Hash.hash_input c.make_array.new.self (g.E.Keyed.key_of e)) c.make_array.new.self t.waiting.items t.draining in
+          let d = together (λ e. key_hash g.H.BuildHasher g.H.Hasher.Hasher g.E.Key.Hash.hash_input c.make_array.new.self (g.E.Keyed.key_of e)) c.make_array.new.self t.draining.waiting.items t.draining.array in
           let same : d ≡ c.args.self.now = rw c.in_err-make_array.ensures.same c.self.view_is in
           (same-rests c.args.self.now d same).1);
       noted = (
-          let d = together (λ e. key_hash g.H.BuildHasher g.H.Hasher.Hasher g.E.Key.Hash.hash_input c.make_array.new.self (g.E.Keyed.key_of e)) c.make_array.new.self t.waiting.items t.draining in
+          let d = together (λ e. key_hash g.H.BuildHasher g.H.Hasher.Hasher g.E.Key.Hash.hash_input c.make_array.new.self (g.E.Keyed.key_of e)) c.make_array.new.self t.draining.waiting.items t.draining.array in
           let same : d ≡ c.args.self.now = rw c.in_err-make_array.ensures.same c.self.view_is in
           ap refused_of same);
       first = (search rules);
@@ -123,15 +120,14 @@ returns-in_err-make_array g c =
           let d = together later new ws olds in
           waiting-together later new ws olds ∙ none);
       refused = (
-          let d = together (λ e. key_hash g.H.BuildHasher g.H.Hasher.Hasher g.E.Key.Hash.hash_input c.make_array.new.self (g.E.Keyed.key_of e)) c.make_array.new.self t.waiting.items t.draining in
+          let d = together (λ e. key_hash g.H.BuildHasher g.H.Hasher.Hasher g.E.Key.Hash.hash_input c.make_array.new.self (g.E.Keyed.key_of e)) c.make_array.new.self t.draining.waiting.items t.draining.array in
           let same : d ≡ c.args.self.now = rw c.in_err-make_array.ensures.same c.self.view_is in
           any-err c.from_residual.result (same-rests c.args.self.now d same).0);
       resized = (search rules);
       same = (
-          let d = together (λ e. key_hash g.H.BuildHasher g.H.Hasher.Hasher g.E.Key.Hash.hash_input c.make_array.new.self (g.E.Keyed.key_of e)) c.make_array.new.self t.waiting.items t.draining in
+          let d = together (λ e. key_hash g.H.BuildHasher g.H.Hasher.Hasher g.E.Key.Hash.hash_input c.make_array.new.self (g.E.Keyed.key_of e)) c.make_array.new.self t.draining.waiting.items t.draining.array in
           let same : d ≡ c.args.self.now = rw c.in_err-make_array.ensures.same c.self.view_is in
           any-err c.from_residual.result same);
       unique = (
-          let d = together later new ws olds in
           subst (λ (es : List g.row.E.Denot). IsDistinct g.E.Key.PartialEq.eq (map g.E.Keyed.key_of es)) (sym still) (IsDistinct-nil g.E.Key.PartialEq.eq));
     }

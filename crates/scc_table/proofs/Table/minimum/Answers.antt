@@ -8,5 +8,5 @@ returns-clause-value g c =
     let t = c.self.inside in
     let hk = key_hash g.H.BuildHasher g.H.Hasher.Hasher g.E.Key.Hash.hash_input t.current in
     let hash = λ (e : g.row.E.Denot). hk (g.E.Keyed.key_of e) in
-    let set = settings-seen hash t.current t.waiting.items t.draining c.args.self.now c.self.view_is in
+    let set = settings-seen hash t.current t.draining.waiting.items t.draining.array c.args.self.now c.self.view_is in
     c.minimum.ensures.value ∙ ap (λ s. s.asked + s.reserved) set

@@ -50,7 +50,6 @@ returns-in-Ok-clause-listed g c =
     rw c.max-count.ensures (smaller-to c.buckets_for.result c.buckets_for-2.result _ _ _ least fitting (omega (arith, c.requires.few)) (omega (arith, c.max-count.ensures, c.bucket_count-present.ensures.count))) in
     let array : IsArray n = rw c.max-count.ensures (max-array _ _ c.buckets_for.ensures.array c.buckets_for-2.ensures.array) in
     let short : (i : ℕ) → i < n → length (bound_for hash (settings_of a).skipped n i (entries a)) ≤ 32 = c.is_short_in.ensures.0 (search rules) in
-    let may : MayNarrow hash a n = record { array = array; smaller = made; short = short } in
     let r = c.in-Ok.ensures in
     let size = r.lists.count in
     let resized : IsResized hash a d = record {
@@ -59,7 +58,7 @@ returns-in-Ok-clause-listed g c =
       bounded = c.resize_to.ensures.bounded c.requires.listed.bounded (short-listed hash a c.requires.listed);
     } in
     let settings = c.resize_to.ensures.settings in
-    let routed = routed-before (λ s (e : g.row.E.Denot). hash_of g.H.BuildHasher g.H.Hasher.Hasher s.hasher (g.E.Key.Hash.hash_input (g.E.Keyed.key_of e))) a d settings c.keep_lists-in-Ok.ensures.routed in
+    let routed = routed-before (λ s (e : g.row.E.Denot). hash_of g.H.BuildHasher g.H.Hasher.Hasher s.hasher (g.E.Key.Hash.hash_input (g.E.Keyed.key_of e))) a d settings c.keep_lists.ensures.routed in
     listed-anew (λ s (e : g.row.E.Denot). hash_of g.H.BuildHasher g.H.Hasher.Hasher s.hasher (g.E.Key.Hash.hash_input (g.E.Keyed.key_of e))) a d settings
     (listed-resized hash a d resized routed (subst (λ m. (i : ℕ) → i < m → length (bound_for hash (settings_of a).skipped m i (entries a)) ≤ 32) (sym size) short))
 
@@ -82,7 +81,6 @@ returns-in-Ok-clause-spreads g c =
 pub returns-in-Err-clause-shrinks : goal.returns-in-Err-clause-shrinks
 returns-in-Err-clause-shrinks g c =
     let a = c.args.self.now in
-    let d = c.resize_to.new.self in
     let n = c.max-count.result in
     let hash = λ (e : g.row.E.Denot). key_hash g.H.BuildHasher g.H.Hasher.Hasher g.E.Key.Hash.hash_input c.args.self.now (g.E.Keyed.key_of e) in
     let least = rw c.minimum.ensures.value at c.buckets_for.ensures.size in

@@ -1,6 +1,6 @@
 use Rattle.std.proofs.Common.{◌∙◌, ℕ, sym, ap, subst}
 use Rattle.scc_contents.specs.Contents.{key_hash, lists_of, owed_of, spilled_of}
-use Rattle.scc_table.specs.TwoArrays.{IsTable, together}
+use Rattle.scc_table.specs.TwoArrays.{draining_of, IsTable, together}
 use Rattle.scc_table.proofs.Joining.{settings-together, refused-together, waiting-together}
 use Rattle.scc_table.proofs.Noting.{fields-kept, lists-kept, owed-kept, spilled-kept}
 use Rattle.scc_table.proofs.Same.{hash-same}
@@ -13,8 +13,8 @@ invariant_of-self g c =
     let d = c.note.new.self in
     let hk = key_hash g.H.BuildHasher g.H.Hasher.Hasher g.E.Key.Hash.hash_input t.current in
     let same = hash-same g.H.BuildHasher g.H.Hasher.Hasher g.E.Key.Hash.hash_input t.current d c.note.ensures.settings in
-    subst (λ (h : g.row.E-Key.Denot → ℕ). IsTable g.E.Key.PartialEq.eq g.E.Keyed.key_of h d t.waiting.items t.draining t.skipped t.pending t.next t.left t.left_overflow) (sym same)
-    (fields-kept g.E.Key.PartialEq.eq g.E.Keyed.key_of hk t.current d t.waiting.items t.draining t.skipped t.pending t.next t.left t.left_overflow c.note.ensures.lists (ap (λ s. s.skipped) c.note.ensures.settings) c.note.ensures.spilled c.self.invariant)
+    subst (λ (h : g.row.E-Key.Denot → ℕ). IsTable g.E.Key.PartialEq.eq g.E.Keyed.key_of h d (draining_of t.draining) t.skipped) (sym same)
+    (fields-kept g.E.Key.PartialEq.eq g.E.Keyed.key_of hk t.current d (draining_of t.draining) t.skipped c.note.ensures.lists (ap (λ s. s.skipped) c.note.ensures.settings) c.note.ensures.spilled c.self.invariant)
 
 pub returns : goal.returns
 returns g c =
@@ -23,13 +23,13 @@ returns g c =
     let hk = key_hash g.H.BuildHasher g.H.Hasher.Hasher g.E.Key.Hash.hash_input t.current in
     let same = hash-same g.H.BuildHasher g.H.Hasher.Hasher g.E.Key.Hash.hash_input t.current d c.note.ensures.settings in
     record {
-      lists = (ap (λ (h : g.row.E-Key.Denot → ℕ). lists_of (together (λ e. h (g.E.Keyed.key_of e)) d t.waiting.items t.draining)) same ∙ lists-kept (λ e. hk (g.E.Keyed.key_of e)) t.current d t.waiting.items t.draining c.note.ensures.lists (ap (λ s. s.skipped) c.note.ensures.settings) ∙ ap lists_of c.self.view_is);
-      settings = (settings-together _ c.note.new.self t.waiting.items t.draining ∙ c.note.ensures.settings ∙ sym (settings-seen _ t.current t.waiting.items t.draining c.args.self.now c.self.view_is));
-      noted = (refused-together _ c.note.new.self c.self.inside.waiting.items c.self.inside.draining ∙ c.note.ensures.noted);
-      spilled = (ap (λ (h : g.row.E-Key.Denot → ℕ). spilled_of (together (λ e. h (g.E.Keyed.key_of e)) d t.waiting.items t.draining)) same ∙ spilled-kept (λ e. hk (g.E.Keyed.key_of e)) t.current d t.waiting.items t.draining c.note.ensures.lists (ap (λ s. s.skipped) c.note.ensures.settings) c.note.ensures.spilled ∙ ap spilled_of c.self.view_is);
-      waiting = (waiting-together _ c.note.new.self t.waiting.items t.draining ∙ sym (waiting-seen _ t.current t.waiting.items t.draining c.args.self.now c.self.view_is));
-      owed = (ap (λ (h : g.row.E-Key.Denot → ℕ). owed_of (together (λ e. h (g.E.Keyed.key_of e)) d t.waiting.items t.draining)) same ∙ owed-kept (λ e. hk (g.E.Keyed.key_of e)) t.current d t.waiting.items t.draining c.note.ensures.lists (ap (λ s. s.skipped) c.note.ensures.settings) ∙ ap owed_of c.self.view_is);
+      lists = (ap (λ (h : g.row.E-Key.Denot → ℕ). lists_of (together (λ e. h (g.E.Keyed.key_of e)) d t.draining.waiting.items t.draining.array)) same ∙ lists-kept (λ e. hk (g.E.Keyed.key_of e)) t.current d t.draining.waiting.items t.draining.array c.note.ensures.lists (ap (λ s. s.skipped) c.note.ensures.settings) ∙ ap lists_of c.self.view_is);
+      settings = (settings-together _ c.note.new.self t.draining.waiting.items t.draining.array ∙ c.note.ensures.settings ∙ sym (settings-seen _ t.current t.draining.waiting.items t.draining.array c.args.self.now c.self.view_is));
+      noted = (refused-together _ c.note.new.self c.self.inside.draining.waiting.items c.self.inside.draining.array ∙ c.note.ensures.noted);
+      spilled = (ap (λ (h : g.row.E-Key.Denot → ℕ). spilled_of (together (λ e. h (g.E.Keyed.key_of e)) d t.draining.waiting.items t.draining.array)) same ∙ spilled-kept (λ e. hk (g.E.Keyed.key_of e)) t.current d t.draining.waiting.items t.draining.array c.note.ensures.lists (ap (λ s. s.skipped) c.note.ensures.settings) c.note.ensures.spilled ∙ ap spilled_of c.self.view_is);
+      waiting = (waiting-together _ c.note.new.self t.draining.waiting.items t.draining.array ∙ sym (waiting-seen _ t.current t.draining.waiting.items t.draining.array c.args.self.now c.self.view_is));
+      owed = (ap (λ (h : g.row.E-Key.Denot → ℕ). owed_of (together (λ e. h (g.E.Keyed.key_of e)) d t.draining.waiting.items t.draining.array)) same ∙ owed-kept (λ e. hk (g.E.Keyed.key_of e)) t.current d t.draining.waiting.items t.draining.array c.note.ensures.lists (ap (λ s. s.skipped) c.note.ensures.settings) ∙ ap owed_of c.self.view_is);
       unique = (
-          let kept = fields-kept g.E.Key.PartialEq.eq g.E.Keyed.key_of hk t.current d t.waiting.items t.draining t.skipped t.pending t.next t.left t.left_overflow c.note.ensures.lists (ap (λ s. s.skipped) c.note.ensures.settings) c.note.ensures.spilled c.self.invariant in
-          (subst (λ (h : g.row.E-Key.Denot → ℕ). IsTable g.E.Key.PartialEq.eq g.E.Keyed.key_of h d t.waiting.items t.draining t.skipped t.pending t.next t.left t.left_overflow) (sym same) kept).unique);
+          let kept = fields-kept g.E.Key.PartialEq.eq g.E.Keyed.key_of hk t.current d (draining_of t.draining) t.skipped c.note.ensures.lists (ap (λ s. s.skipped) c.note.ensures.settings) c.note.ensures.spilled c.self.invariant in
+          (subst (λ (h : g.row.E-Key.Denot → ℕ). IsTable g.E.Key.PartialEq.eq g.E.Keyed.key_of h d (draining_of t.draining) t.skipped) (sym same) kept).unique);
     }

@@ -4,4 +4,4 @@ use Rattle.scc_table.proofs.Joining.{pending-together}
 use Rattle.scc_table.proofs.Table.pending.Goals as goal
 
 pub returns : goal.returns
-returns g c = c.self.invariant.counted ∙ sym (pending-together _ c.self.inside.current c.self.inside.waiting.items c.self.inside.draining) ∙ ap pending_of c.self.view_is
+returns g c = c.self.invariant.counted ∙ sym (pending-together _ c.self.inside.current c.self.inside.draining.waiting.items c.self.inside.draining.array) ∙ ap pending_of c.self.view_is

@@ -8,20 +8,21 @@ use Rattle.scc_table.specs.Stepping.{index_on, rank_on}
 use Rattle.scc_table.specs.TwoArrays.{waits_at}
 use Rattle.scc_table.proofs.Nexts.{start-old, start-own, spot-on_old, spot-on_own, own-stands}
 use Rattle.scc_table.proofs.OldSpots.{own-list}
-use Rattle.scc_table.proofs.Seen.{count-seen, waiting-seen}
+use Rattle.scc_table.proofs.Seen.{waiting-seen}
+use Rattle.scc_table.proofs.OneBucket.{count-own}
 use Rattle.scc_table.proofs.Table.place_on.Goals as goal
 
 pub returns-then-slot-list_len : goal.returns-then-slot-list_len
 returns-then-slot-list_len g c =
     let t = c.self.inside in
     let cur = t.current in
-    let ws = t.waiting.items in
-    let olds = t.draining in
+    let ws = t.draining.waiting.items in
+    let olds = t.draining.array in
     let inv = c.self.invariant in
     let now = c.args.self.now in
     let hk = key_hash g.H.BuildHasher g.H.Hasher.Hasher g.E.Key.Hash.hash_input cur in
     let hash = λ (e : g.row.E.Denot). hk (g.E.Keyed.key_of e) in
-    let count = count-seen hash cur ws olds now c.self.view_is inv.arrays in
+    let count = count-own c.self.invariant c.self.view_is in
     let flags = waiting-seen hash cur ws olds now c.self.view_is in
     let i = c.args.target in
     let b = c.args.bucket in
@@ -40,28 +41,20 @@ returns-then-slot-list_len g c =
 
 pub place_past-requires : goal.place_past-requires
 place_past-requires g c =
-    let t = c.self.inside in
-    let cur = t.current in
-    let ws = t.waiting.items in
-    let olds = t.draining in
-    let inv = c.self.invariant in
-    let now = c.args.self.now in
-    let hk = key_hash g.H.BuildHasher g.H.Hasher.Hasher g.E.Key.Hash.hash_input cur in
-    let hash = λ (e : g.row.E.Denot). hk (g.E.Keyed.key_of e) in
-    let count = count-seen hash cur ws olds now c.self.view_is inv.arrays in
+    let count = count-own c.self.invariant c.self.view_is in
     omega (arith, count, c.bucket_count-count.ensures.count, c.if-bucket-count.true)
 
 pub returns-then-bucket-count : goal.returns-then-bucket-count
 returns-then-bucket-count g c =
     let t = c.self.inside in
     let cur = t.current in
-    let ws = t.waiting.items in
-    let olds = t.draining in
+    let ws = t.draining.waiting.items in
+    let olds = t.draining.array in
     let inv = c.self.invariant in
     let now = c.args.self.now in
     let hk = key_hash g.H.BuildHasher g.H.Hasher.Hasher g.E.Key.Hash.hash_input cur in
     let hash = λ (e : g.row.E.Denot). hk (g.E.Keyed.key_of e) in
-    let count = count-seen hash cur ws olds now c.self.view_is inv.arrays in
+    let count = count-own c.self.invariant c.self.view_is in
     let flags = waiting-seen hash cur ws olds now c.self.view_is in
     let i = c.args.target in
     let b = c.args.bucket in
@@ -79,36 +72,19 @@ returns-then-bucket-count g c =
 
 pub old_place-requires-clause-waits : goal.old_place-requires-clause-waits
 old_place-requires-clause-waits g c =
-    let t = c.self.inside in
-    let cur = t.current in
-    let ws = t.waiting.items in
-    let olds = t.draining in
-    let inv = c.self.invariant in
     let now = c.args.self.now in
-    let hk = key_hash g.H.BuildHasher g.H.Hasher.Hasher g.E.Key.Hash.hash_input cur in
-    let hash = λ (e : g.row.E.Denot). hk (g.E.Keyed.key_of e) in
-    let count = count-seen hash cur ws olds now c.self.view_is inv.arrays in
+    let count = count-own c.self.invariant c.self.view_is in
     let i = c.args.target in
     let b = c.args.bucket in
     let s = c.args.slot in
     let far : bucket_count now ≤ b = omega (arith, count, c.bucket_count-count.ensures.count, c.if-bucket-count.false) in
     let st = start-old now i b s c.requires.start far c.requires.target in
-    let j = b - c.bucket_count-count.result in
-    let spot = spot-on_old now i b s j (omega (arith, count, c.bucket_count-count.ensures.count)) in
-    let to = sym (ap (spots.index_of_spot now) spot) in
     st.0
 
 pub old_place-requires-clause-source : goal.old_place-requires-clause-source
 old_place-requires-clause-source g c =
-    let t = c.self.inside in
-    let cur = t.current in
-    let ws = t.waiting.items in
-    let olds = t.draining in
-    let inv = c.self.invariant in
     let now = c.args.self.now in
-    let hk = key_hash g.H.BuildHasher g.H.Hasher.Hasher g.E.Key.Hash.hash_input cur in
-    let hash = λ (e : g.row.E.Denot). hk (g.E.Keyed.key_of e) in
-    let count = count-seen hash cur ws olds now c.self.view_is inv.arrays in
+    let count = count-own c.self.invariant c.self.view_is in
     let i = c.args.target in
     let b = c.args.bucket in
     let s = c.args.slot in
@@ -121,15 +97,8 @@ old_place-requires-clause-source g c =
 
 pub returns-in-Some : goal.returns-in-Some
 returns-in-Some g c =
-    let t = c.self.inside in
-    let cur = t.current in
-    let ws = t.waiting.items in
-    let olds = t.draining in
-    let inv = c.self.invariant in
     let now = c.args.self.now in
-    let hk = key_hash g.H.BuildHasher g.H.Hasher.Hasher g.E.Key.Hash.hash_input cur in
-    let hash = λ (e : g.row.E.Denot). hk (g.E.Keyed.key_of e) in
-    let count = count-seen hash cur ws olds now c.self.view_is inv.arrays in
+    let count = count-own c.self.invariant c.self.view_is in
     let i = c.args.target in
     let b = c.args.bucket in
     let s = c.args.slot in
@@ -142,40 +111,17 @@ returns-in-Some g c =
 
 pub overflow_add-target : goal.overflow_add-target
 overflow_add-target g c =
-    let t = c.self.inside in
-    let cur = t.current in
-    let ws = t.waiting.items in
-    let olds = t.draining in
-    let inv = c.self.invariant in
-    let now = c.args.self.now in
-    let hk = key_hash g.H.BuildHasher g.H.Hasher.Hasher g.E.Key.Hash.hash_input cur in
-    let hash = λ (e : g.row.E.Denot). hk (g.E.Keyed.key_of e) in
-    let count = count-seen hash cur ws olds now c.self.view_is inv.arrays in
+    let count = count-own c.self.invariant c.self.view_is in
     let l : c.args.target + 1 < 2 ^ 64 = omega (arith, count, c.requires.target, c.bucket_count-count.ensures.most, c.bucket_count-count.ensures.count) in search rules
 
 pub place_past-requires-2 : goal.place_past-requires-2
 place_past-requires-2 g c =
-    let t = c.self.inside in
-    let cur = t.current in
-    let ws = t.waiting.items in
-    let olds = t.draining in
-    let inv = c.self.invariant in
-    let now = c.args.self.now in
-    let hk = key_hash g.H.BuildHasher g.H.Hasher.Hasher g.E.Key.Hash.hash_input cur in
-    let hash = λ (e : g.row.E.Denot). hk (g.E.Keyed.key_of e) in
     omega (arith, c.requires.target)
 
 pub returns : goal.returns
 returns g c =
-    let t = c.self.inside in
-    let cur = t.current in
-    let ws = t.waiting.items in
-    let olds = t.draining in
-    let inv = c.self.invariant in
     let now = c.args.self.now in
-    let hk = key_hash g.H.BuildHasher g.H.Hasher.Hasher g.E.Key.Hash.hash_input cur in
-    let hash = λ (e : g.row.E.Denot). hk (g.E.Keyed.key_of e) in
-    let count = count-seen hash cur ws olds now c.self.view_is inv.arrays in
+    let count = count-own c.self.invariant c.self.view_is in
     let i = c.args.target in
     let b = c.args.bucket in
     let s = c.args.slot in

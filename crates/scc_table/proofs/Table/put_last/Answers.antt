@@ -1,58 +1,34 @@
-use Rattle.std.proofs.Common.{◌≡◌, ℕ, ◌+◌, ◌^◌, ◌<◌, Bool, false, None, map, sym, ap, ◌∙◌, subst, arith}
+use Rattle.std.proofs.Common.{◌≡◌, ℕ, ◌+◌, ◌^◌, ◌<◌, Bool, None, map, sym, ap, ◌∙◌, subst, arith}
 use Rattle.std.specs.List.{position, IsDistinct}
 use Rattle.scc_buckets.specs.Bounded.{IsBounded, IsListed, PutsLast}
 use Rattle.scc_contents.specs.Contents.{Contents, bucket_count, entries, owed_of, key_hash, settings_of, spilled_of}
 use Rattle.scc_contents.specs.Hashing.{hash_of}
-use Rattle.scc_contents.specs.Routing.{bucket_number}
 use Rattle.scc_buckets.proofs.FindingLemmas.{HashOf}
-use Rattle.scc_table.specs.TwoArrays.{together, waits_at, IsTable}
+use Rattle.scc_table.specs.TwoArrays.{draining_of, together, IsTable}
 use Rattle.scc_table.proofs.CurrentChanges.{own-fields, own-owed, own-list}
 use Rattle.scc_table.proofs.Joining.{settings-together, waiting-together}
 use Rattle.scc_table.proofs.Listing.{absent-list, own-bounded, own-listed, own-puts_last, puts-list, unique-puts}
-use Rattle.scc_table.proofs.SearchingLemmas.{missed-listed, not_true}
-use Rattle.scc_table.proofs.Seen.{count-seen, settings-seen, waiting-seen}
+use Rattle.scc_table.proofs.SearchingLemmas.{missed-listed}
+use Rattle.scc_table.proofs.Seen.{settings-seen, waiting-seen}
+use Rattle.scc_table.proofs.OneBucket.{flag-free, routed-own, within-own}
 use Rattle.scc_table.proofs.Table.put_last.Goals as goal
 
 pub put_last-requires-clause-within : goal.put_last-requires-clause-within
 put_last-requires-clause-within g c =
-    let t = c.self.inside in
-    let cur = t.current in
-    let ws = t.waiting.items in
-    let olds = t.draining in
-    let inv = c.self.invariant in
-    let hk = key_hash g.H.BuildHasher g.H.Hasher.Hasher g.E.Key.Hash.hash_input cur in
-    let key = g.E.Keyed.key_of in
-    let view = c.self.view_is in
-    let now = c.args.self.now in
-    let i = c.args.bucket in
-    let hash = λ (e : g.row.E.Denot). hk (key e) in
-    let count = count-seen hash cur ws olds now view inv.arrays in
-    let within : i < bucket_count cur = let q = c.requires.within in omega (arith, count) in
+    let within = within-own c.self.invariant c.self.view_is c.requires.within in
     within
 
 pub put_last-requires-clause-routed : goal.put_last-requires-clause-routed
 put_last-requires-clause-routed g c =
-    let t = c.self.inside in
-    let cur = t.current in
-    let ws = t.waiting.items in
-    let olds = t.draining in
-    let inv = c.self.invariant in
-    let hk = key_hash g.H.BuildHasher g.H.Hasher.Hasher g.E.Key.Hash.hash_input cur in
-    let key = g.E.Keyed.key_of in
-    let view = c.self.view_is in
-    let now = c.args.self.now in
-    let hash = λ (e : g.row.E.Denot). hk (key e) in
-    let set = settings-seen hash cur ws olds now view in
-    let count = count-seen hash cur ws olds now view inv.arrays in
-    let routed = c.requires.routed ∙ ap (λ s. bucket_number s.skipped (bucket_count now) c.args.hash) (sym set) ∙ ap (λ n. bucket_number (settings_of cur).skipped n c.args.hash) (sym count) in
+    let routed = routed-own c.self.invariant _ c.self.view_is c.requires.routed in
     routed
 
 pub put_last-requires-clause-hashed : goal.put_last-requires-clause-hashed
 put_last-requires-clause-hashed g c =
     let t = c.self.inside in
     let cur = t.current in
-    let ws = t.waiting.items in
-    let olds = t.draining in
+    let ws = t.draining.waiting.items in
+    let olds = t.draining.array in
     let hk = key_hash g.H.BuildHasher g.H.Hasher.Hasher g.E.Key.Hash.hash_input cur in
     let key = g.E.Keyed.key_of in
     let view = c.self.view_is in
@@ -66,22 +42,19 @@ pub put_last-requires-clause-absent : goal.put_last-requires-clause-absent
 put_last-requires-clause-absent g c =
     let t = c.self.inside in
     let cur = t.current in
-    let ws = t.waiting.items in
-    let olds = t.draining in
-    let inv = c.self.invariant in
+    let ws = t.draining.waiting.items in
+    let olds = t.draining.array in
     let hk = key_hash g.H.BuildHasher g.H.Hasher.Hasher g.E.Key.Hash.hash_input cur in
     let key = g.E.Keyed.key_of in
     let view = c.self.view_is in
     let now = c.args.self.now in
     let i = c.args.bucket in
     let hash = λ (e : g.row.E.Denot). hk (key e) in
-    let flags = waiting-seen hash cur ws olds now view in
-    let down : waits_at ws i ≡ false = not_true (waits_at ws i) (λ up. c.requires.settled (ap (λ w. waits_at w i) flags ∙ up)) in
+    let down = flag-free c.self.invariant _ c.self.view_is c.requires.settled in
     let set = settings-seen hash cur ws olds now view in
-    let count = count-seen hash cur ws olds now view inv.arrays in
-    let within : i < bucket_count cur = let q = c.requires.within in omega (arith, count) in
+    let within = within-own c.self.invariant c.self.view_is c.requires.within in
     let u = together hash cur ws olds in
-    let routed = c.requires.routed ∙ ap (λ s. bucket_number s.skipped (bucket_count now) c.args.hash) (sym set) ∙ ap (λ n. bucket_number (settings_of cur).skipped n c.args.hash) (sym count) in
+    let routed = routed-own c.self.invariant _ c.self.view_is c.requires.routed in
     let passes : g.row.E.Denot → Bool = λ e. g.E.Key.PartialEq.eq (key c.args.entry) (key e) in
     let hashed = c.requires.hashed ∙ ap (λ s. hash_of g.H.BuildHasher g.H.Hasher.Hasher s.hasher (g.E.Key.Hash.hash_input (key c.args.entry))) (sym set) in
     let same_hash : HashOf passes hash c.args.hash = record { same = λ e w. sym (hashed ∙ ap (hash_of g.H.BuildHasher g.H.Hasher.Hasher (settings_of cur).hasher) (g.met.E.Key.Hash.respects_eq (key c.args.entry) (key e) w)) } in
@@ -92,16 +65,14 @@ pub put_last-requires-clause-bounded : goal.put_last-requires-clause-bounded
 put_last-requires-clause-bounded g c =
     let t = c.self.inside in
     let cur = t.current in
-    let ws = t.waiting.items in
-    let olds = t.draining in
+    let ws = t.draining.waiting.items in
+    let olds = t.draining.array in
     let hk = key_hash g.H.BuildHasher g.H.Hasher.Hasher g.E.Key.Hash.hash_input cur in
     let key = g.E.Keyed.key_of in
     let view = c.self.view_is in
-    let now = c.args.self.now in
     let i = c.args.bucket in
     let hash = λ (e : g.row.E.Denot). hk (key e) in
-    let flags = waiting-seen hash cur ws olds now view in
-    let down : waits_at ws i ≡ false = not_true (waits_at ws i) (λ up. c.requires.settled (ap (λ w. waits_at w i) flags ∙ up)) in
+    let down = flag-free c.self.invariant _ c.self.view_is c.requires.settled in
     let u = together hash cur ws olds in
     let bounded : IsBounded u = subst (λ (z : Contents g.row.E.Denot g.row.H.Denot). IsBounded z) (sym view) c.requires.bounded in
     own-bounded hash cur cur ws olds i down bounded
@@ -110,18 +81,16 @@ pub invariant_of-self : goal.invariant_of-self
 invariant_of-self g c =
     let t = c.self.inside in
     let cur = t.current in
-    let ws = t.waiting.items in
-    let olds = t.draining in
+    let ws = t.draining.waiting.items in
+    let olds = t.draining.array in
     let inv = c.self.invariant in
     let hk = key_hash g.H.BuildHasher g.H.Hasher.Hasher g.E.Key.Hash.hash_input cur in
     let key = g.E.Keyed.key_of in
     let laws = g.met.E.Key.Eq.laws in
     let view = c.self.view_is in
-    let now = c.args.self.now in
     let i = c.args.bucket in
     let hash = λ (e : g.row.E.Denot). hk (key e) in
-    let flags = waiting-seen hash cur ws olds now view in
-    let down : waits_at ws i ≡ false = not_true (waits_at ws i) (λ up. c.requires.settled (ap (λ w. waits_at w i) flags ∙ up)) in
+    let down = flag-free c.self.invariant _ c.self.view_is c.requires.settled in
     let u = together hash cur ws olds in
     let bounded : IsBounded u = subst (λ (z : Contents g.row.E.Denot g.row.H.Denot). IsBounded z) (sym view) c.requires.bounded in
     let passes : g.row.E.Denot → Bool = λ e. g.E.Key.PartialEq.eq (key c.args.entry) (key e) in
@@ -134,18 +103,18 @@ invariant_of-self g c =
     let v = together hash d ws olds in
     let first = own-puts_last hash cur d ws olds i down bounded c.args.entry c.put_last.result c.put_last.ensures.step in
     let low : spilled_of d ≡ 0 = changed.bounded in
-    let few : spilled_of d + t.left_overflow < 2 ^ 62 = let f = inv.few in omega arith in
+    let few : spilled_of d + t.draining.left_overflow < 2 ^ 62 = let f = inv.few in omega arith in
     let inside : i < bucket_count u = let n = ap bucket_count view in let q = c.requires.within in omega arith in
-    subst (λ (h : g.row.E-Key.Denot → ℕ). IsTable g.E.Key.PartialEq.eq key h d ws olds t.skipped t.pending t.next t.left t.left_overflow) (sym same)
-    (own-fields g.E.Key.PartialEq.eq key hk cur d i changes.0 changed.lists stay ws olds down t.skipped t.pending t.next t.left t.left_overflow inv few
+    subst (λ (h : g.row.E-Key.Denot → ℕ). IsTable g.E.Key.PartialEq.eq key h d (draining_of t.draining) t.skipped) (sym same)
+    (own-fields g.E.Key.PartialEq.eq key hk cur d i changes.0 changed.lists stay (draining_of t.draining) down t.skipped inv few
     (unique-puts laws key u v i inside inv.unique c.args.entry c.put_last.result first absent))
 
 pub returns : goal.returns
 returns g c =
     let t = c.self.inside in
     let cur = t.current in
-    let ws = t.waiting.items in
-    let olds = t.draining in
+    let ws = t.draining.waiting.items in
+    let olds = t.draining.array in
     let hk = key_hash g.H.BuildHasher g.H.Hasher.Hasher g.E.Key.Hash.hash_input cur in
     let key = g.E.Keyed.key_of in
     let view = c.self.view_is in
@@ -153,7 +122,7 @@ returns g c =
     let i = c.args.bucket in
     let hash = λ (e : g.row.E.Denot). hk (key e) in
     let flags = waiting-seen hash cur ws olds now view in
-    let down : waits_at ws i ≡ false = not_true (waits_at ws i) (λ up. c.requires.settled (ap (λ w. waits_at w i) flags ∙ up)) in
+    let down = flag-free c.self.invariant _ c.self.view_is c.requires.settled in
     let u = together hash cur ws olds in
     let bounded : IsBounded u = subst (λ (z : Contents g.row.E.Denot g.row.H.Denot). IsBounded z) (sym view) c.requires.bounded in
     let d = c.put_last.new.self in
@@ -170,8 +139,7 @@ returns g c =
       step = step;
       listed = (
           let set = settings-seen hash cur ws olds now view in
-          let count = count-seen hash cur ws olds now view inv.arrays in
-          let within : i < bucket_count cur = let q = c.requires.within in omega (arith, count) in
+          let within = within-own c.self.invariant c.self.view_is c.requires.within in
           let v = together hash d ws olds in
           λ was.
           let first : IsListed hash u = subst (λ (z : Contents g.row.E.Denot g.row.H.Denot). IsListed hash z) (sym view) (subst (λ s. IsListed (λ (e : g.row.E.Denot). hash_of g.H.BuildHasher g.H.Hasher.Hasher s.hasher (g.E.Key.Hash.hash_input (key e))) now) (sym set) was) in

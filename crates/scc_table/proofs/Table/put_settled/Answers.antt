@@ -1,4 +1,4 @@
-use Rattle.std.proofs.Common.{◌≡◌, ◌∙◌, true, false, drop, length, sym, ap, arith, rules}
+use Rattle.std.proofs.Common.{◌≡◌, ◌∙◌, true, false, drop, length, sym, ap, arith}
 use Rattle.std.proofs.lemmas.List.{length-drop}
 use Rattle.scc_contents.specs.Contents.{waiting_of}
 use Rattle.scc_contents.specs.Hashing.{hash_of}
@@ -6,6 +6,7 @@ use Rattle.scc_buckets.proofs.PairSplits.{by_answer}
 use Rattle.scc_table.specs.TwoArrays.{pending_targets, waits_at}
 use Rattle.scc_table.proofs.Short.{listed-later, puts-later, short-listed}
 use Rattle.scc_table.proofs.Targets.{targets-length, targets-same}
+use Rattle.scc_table.proofs.Same.{unique-same}
 use Rattle.scc_table.proofs.Table.put_settled.Goals as goal
 
 pub put_last-first-requires-clause-settled : goal.put_last-first-requires-clause-settled
@@ -29,5 +30,5 @@ returns g c =
           let a = c.args.self.now in
           let exact = c.relocate_some.ensures.exact (short-listed _ m lm) ∙ ap (drop c.args.most) (targets-same a m c.put_last-first.ensures.waiting) in
           λ enough. omega (arith, ap length exact, length-drop c.args.most (pending_targets a), targets-length a, targets-length d));
-      unique = (search rules);
+      unique = (unique-same m d r.lists g.E.Key.PartialEq.eq g.E.Keyed.key_of c.put_last-first.ensures.unique);
     }

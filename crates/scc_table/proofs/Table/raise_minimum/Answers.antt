@@ -12,7 +12,7 @@ returns g c =
           let t = c.self.inside in
           let hk = key_hash g.H.BuildHasher g.H.Hasher.Hasher g.E.Key.Hash.hash_input t.current in
           let hash = λ (e : g.row.E.Denot). hk (g.E.Keyed.key_of e) in
-          let set = settings-seen hash t.current t.waiting.items t.draining c.args.self.now c.self.view_is in
+          let set = settings-seen hash t.current t.draining.waiting.items t.draining.array c.args.self.now c.self.view_is in
           let left : c.reserved.result ≡ (settings_of c.args.self.now).reserved = c.reserved.ensures.value ∙ ap (λ s. s.reserved) set in
           search rules);
       due = (
@@ -36,7 +36,7 @@ overflow_add-reserved g c =
     let t = c.self.inside in
     let hk = key_hash g.H.BuildHasher g.H.Hasher.Hasher g.E.Key.Hash.hash_input t.current in
     let hash = λ (e : g.row.E.Denot). hk (g.E.Keyed.key_of e) in
-    let set = settings-seen hash t.current t.waiting.items t.draining c.args.self.now c.self.view_is in
+    let set = settings-seen hash t.current t.draining.waiting.items t.draining.array c.args.self.now c.self.view_is in
     let left : c.reserved.result ≡ (settings_of c.args.self.now).reserved = c.reserved.ensures.value ∙ ap (λ s. s.reserved) set in
     record { fits = let m = c.minimum-minimum.ensures in omega arith }
 
@@ -45,6 +45,6 @@ set_reserved-requires g c =
     let t = c.self.inside in
     let hk = key_hash g.H.BuildHasher g.H.Hasher.Hasher g.E.Key.Hash.hash_input t.current in
     let hash = λ (e : g.row.E.Denot). hk (g.E.Keyed.key_of e) in
-    let set = settings-seen hash t.current t.waiting.items t.draining c.args.self.now c.self.view_is in
+    let set = settings-seen hash t.current t.draining.waiting.items t.draining.array c.args.self.now c.self.view_is in
     let left : c.reserved.result ≡ (settings_of c.args.self.now).reserved = c.reserved.ensures.value ∙ ap (λ s. s.reserved) set in
     omega arith

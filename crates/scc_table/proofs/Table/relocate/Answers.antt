@@ -1,201 +1,62 @@
-use Rattle.std.proofs.Common.{◌≡◌, ◌∙◌, ℕ, ◌+◌, ◌-◌, ◌<◌, true, false, [], length, set, refl, sym, ap, subst, arith, rules}
-use Rattle.std.specs.List.{count_by, flat_map}
-use Rattle.std.proofs.lemmas.List.Concat.{length-flat_map}
-use Rattle.scc_array.specs.Shelf.{shelf_entries}
-use Rattle.scc_contents.specs.Contents.{bucket_count, key_hash, list_of, settings_of, spilled_of, waiting_of}
+use Rattle.std.proofs.Common.{◌≡◌, ◌∙◌, ℕ, ◌+◌, ◌-◌, ◌<◌, false, [], length, set, refl, sym, ap, subst, arith, rules}
+use Rattle.std.specs.List.{count_by}
+use Rattle.scc_contents.specs.Contents.{key_hash, spilled_of}
 use Rattle.scc_buckets.specs.Tables.{spilled_in}
 use Rattle.scc_contents.specs.Hashing.{hash_of}
-use Rattle.scc_table.specs.TwoArrays.{waits_at, together, IsTable, IsRelocated}
-use Rattle.scc_table.proofs.Joining.{waiting-together}
-use Rattle.scc_table.proofs.Preparing.{unique-before, waiting-list, long-flags, multiple-flags, sized-flags}
-use Rattle.scc_draining.proofs.Counted.{bound-le}
+use Rattle.scc_table.specs.TwoArrays.{draining_of, together, IsTable, IsRelocated}
 use Rattle.scc_buckets.proofs.Bare.{all-bare}
 use Rattle.scc_table.proofs.Alone.{bare-together, spilled-alone, spilled-together}
 use Rattle.scc_table.proofs.Relocated.{others, last, bare-after, fields-after, fields-last, relocated-after, spilled-le}
 use Rattle.scc_table.proofs.RelocatingLemmas.{up-within, one-down}
 use Rattle.scc_table.proofs.Viewed.{spilled-seen}
+use Rattle.scc_table.proofs.OneBucket.{flag-up, flags-whole, list-coming, moved-within, old-multiples, old-sized, some-pending, target-within, unique-coming}
 use Rattle.scc_table.proofs.Table.relocate.Goals as goal
 
 pub take-requires-clause-target : goal.take-requires-clause-target
-take-requires-clause-target g c =
-    let t = c.self.inside in
-    let cur = t.current in
-    let ws = t.waiting.items in
-    let olds = t.draining in
-    let i = c.args.bucket in
-    let inv = c.self.invariant in
-    let hk = key_hash g.H.BuildHasher g.H.Hasher.Hasher g.E.Key.Hash.hash_input cur in
-    let hash = λ (e : g.row.E.Denot). hk (g.E.Keyed.key_of e) in
-    let flags : waiting_of c.args.self.now ≡ ws = ap waiting_of (sym c.self.view_is) ∙ waiting-together hash cur ws olds in
-    let up : waits_at ws i ≡ true = ap (λ w. waits_at w i) (sym flags) ∙ c.requires in
-    let l = up-within ws i up in
-    let long = long-flags cur ws i inv.arrays.flags up in
-    let within : i < bucket_count cur = omega (arith, l, long) in
-    within
+take-requires-clause-target g c = target-within c.self.invariant _ (flag-up c.self.invariant _ c.self.view_is c.requires)
 
 pub take-requires-clause-bare : goal.take-requires-clause-bare
-take-requires-clause-bare g c =
-    let t = c.self.inside in
-    let cur = t.current in
-    let ws = t.waiting.items in
-    let olds = t.draining in
-    let i = c.args.bucket in
-    let inv = c.self.invariant in
-    let hk = key_hash g.H.BuildHasher g.H.Hasher.Hasher g.E.Key.Hash.hash_input cur in
-    let hash = λ (e : g.row.E.Denot). hk (g.E.Keyed.key_of e) in
-    let flags : waiting_of c.args.self.now ≡ ws = ap waiting_of (sym c.self.view_is) ∙ waiting-together hash cur ws olds in
-    let up : waits_at ws i ≡ true = ap (λ w. waits_at w i) (sym flags) ∙ c.requires in
-    let l = up-within ws i up in
-    let long = long-flags cur ws i inv.arrays.flags up in
-    let within : i < bucket_count cur = omega (arith, l, long) in
-    inv.arrays.bare i up
+take-requires-clause-bare g c = c.self.invariant.arrays.bare c.args.bucket (flag-up c.self.invariant _ c.self.view_is c.requires)
 
 pub take-requires-clause-sized : goal.take-requires-clause-sized
-take-requires-clause-sized g c =
-    let t = c.self.inside in
-    let cur = t.current in
-    let ws = t.waiting.items in
-    let olds = t.draining in
-    let i = c.args.bucket in
-    let inv = c.self.invariant in
-    let hk = key_hash g.H.BuildHasher g.H.Hasher.Hasher g.E.Key.Hash.hash_input cur in
-    let hash = λ (e : g.row.E.Denot). hk (g.E.Keyed.key_of e) in
-    let flags : waiting_of c.args.self.now ≡ ws = ap waiting_of (sym c.self.view_is) ∙ waiting-together hash cur ws olds in
-    let up : waits_at ws i ≡ true = ap (λ w. waits_at w i) (sym flags) ∙ c.requires in
-    sized-flags cur ws olds i inv.arrays.sized up
+take-requires-clause-sized g c = old-sized c.self.invariant _ (flag-up c.self.invariant _ c.self.view_is c.requires)
 
 pub take-requires-clause-multiples : goal.take-requires-clause-multiples
-take-requires-clause-multiples g c =
-    let t = c.self.inside in
-    let cur = t.current in
-    let ws = t.waiting.items in
-    let olds = t.draining in
-    let i = c.args.bucket in
-    let inv = c.self.invariant in
-    let hk = key_hash g.H.BuildHasher g.H.Hasher.Hasher g.E.Key.Hash.hash_input cur in
-    let hash = λ (e : g.row.E.Denot). hk (g.E.Keyed.key_of e) in
-    let flags : waiting_of c.args.self.now ≡ ws = ap waiting_of (sym c.self.view_is) ∙ waiting-together hash cur ws olds in
-    let up : waits_at ws i ≡ true = ap (λ w. waits_at w i) (sym flags) ∙ c.requires in
-    multiple-flags cur ws olds i inv.arrays.multiples up
+take-requires-clause-multiples g c = old-multiples c.self.invariant _ (flag-up c.self.invariant _ c.self.view_is c.requires)
 
 pub take-requires-clause-own : goal.take-requires-clause-own
 take-requires-clause-own g c =
-    let t = c.self.inside in
-    let cur = t.current in
-    let ws = t.waiting.items in
-    let olds = t.draining in
-    let i = c.args.bucket in
     let inv = c.self.invariant in
-    let hk = key_hash g.H.BuildHasher g.H.Hasher.Hasher g.E.Key.Hash.hash_input cur in
-    let hash = λ (e : g.row.E.Denot). hk (g.E.Keyed.key_of e) in
-    let flags : waiting_of c.args.self.now ≡ ws = ap waiting_of (sym c.self.view_is) ∙ waiting-together hash cur ws olds in
-    let up : waits_at ws i ≡ true = ap (λ w. waits_at w i) (sym flags) ∙ c.requires in
-    let l = up-within ws i up in
-    let long = long-flags cur ws i inv.arrays.flags up in
-    let within : i < bucket_count cur = omega (arith, l, long) in
     rw inv.skips inv.arrays.own
 
 pub take-requires-clause-unique : goal.take-requires-clause-unique
-take-requires-clause-unique g c =
-    let t = c.self.inside in
-    let cur = t.current in
-    let ws = t.waiting.items in
-    let olds = t.draining in
-    let i = c.args.bucket in
-    let inv = c.self.invariant in
-    let hk = key_hash g.H.BuildHasher g.H.Hasher.Hasher g.E.Key.Hash.hash_input cur in
-    let hash = λ (e : g.row.E.Denot). hk (g.E.Keyed.key_of e) in
-    let flags : waiting_of c.args.self.now ≡ ws = ap waiting_of (sym c.self.view_is) ∙ waiting-together hash cur ws olds in
-    let up : waits_at ws i ≡ true = ap (λ w. waits_at w i) (sym flags) ∙ c.requires in
-    let l = up-within ws i up in
-    let long = long-flags cur ws i inv.arrays.flags up in
-    let within : i < bucket_count cur = omega (arith, l, long) in
-    rw inv.skips (unique-before hash cur ws olds inv.arrays i up long g.E.Key.PartialEq.eq g.E.Keyed.key_of inv.unique)
+take-requires-clause-unique g c = unique-coming c.self.invariant _ (flag-up c.self.invariant _ c.self.view_is c.requires)
 
 pub invariant_of-self-in-Err : goal.invariant_of-self-in-Err
 invariant_of-self-in-Err g c =
-    let t = c.self.inside in
-    let cur = t.current in
-    let ws = t.waiting.items in
-    let olds = t.draining in
-    let i = c.args.bucket in
     let inv = c.self.invariant in
-    let hk = key_hash g.H.BuildHasher g.H.Hasher.Hasher g.E.Key.Hash.hash_input cur in
-    let hash = λ (e : g.row.E.Denot). hk (g.E.Keyed.key_of e) in
-    let flags : waiting_of c.args.self.now ≡ ws = ap waiting_of (sym c.self.view_is) ∙ waiting-together hash cur ws olds in
-    let up : waits_at ws i ≡ true = ap (λ w. waits_at w i) (sym flags) ∙ c.requires in
-    let l = up-within ws i up in
-    let long = long-flags cur ws i inv.arrays.flags up in
-    let within : i < bucket_count cur = omega (arith, l, long) in
     rw (c.in-Err.ensures.err, c.in-Err.ensures.stays) inv
 
 pub overflow_sub-self : goal.overflow_sub-self
-overflow_sub-self g c =
-    let t = c.self.inside in
-    let cur = t.current in
-    let ws = t.waiting.items in
-    let olds = t.draining in
-    let i = c.args.bucket in
-    let inv = c.self.invariant in
-    let hk = key_hash g.H.BuildHasher g.H.Hasher.Hasher g.E.Key.Hash.hash_input cur in
-    let hash = λ (e : g.row.E.Denot). hk (g.E.Keyed.key_of e) in
-    let flags : waiting_of c.args.self.now ≡ ws = ap waiting_of (sym c.self.view_is) ∙ waiting-together hash cur ws olds in
-    let up : waits_at ws i ≡ true = ap (λ w. waits_at w i) (sym flags) ∙ c.requires in
-    let l = up-within ws i up in
-    let long = long-flags cur ws i inv.arrays.flags up in
-    let within : i < bucket_count cur = omega (arith, l, long) in
-    let takes = c.in-Ok.ensures.ok in
-    let le = bound-le hash (settings_of cur).skipped (bucket_count cur) i (flat_map shelf_entries olds) in
-    let all = inv.left_is ∙ sym (length-flat_map shelf_entries olds) in
-    omega (arith, takes.moved, le, all)
+overflow_sub-self g c = moved-within c.self.invariant c.in-Ok.ensures.ok
 
 pub overflow_sub-self-in-Ok : goal.overflow_sub-self-in-Ok
-overflow_sub-self-in-Ok g c =
-    let t = c.self.inside in
-    let cur = t.current in
-    let ws = t.waiting.items in
-    let olds = t.draining in
-    let i = c.args.bucket in
-    let inv = c.self.invariant in
-    let hk = key_hash g.H.BuildHasher g.H.Hasher.Hasher g.E.Key.Hash.hash_input cur in
-    let hash = λ (e : g.row.E.Denot). hk (g.E.Keyed.key_of e) in
-    let flags : waiting_of c.args.self.now ≡ ws = ap waiting_of (sym c.self.view_is) ∙ waiting-together hash cur ws olds in
-    let up : waits_at ws i ≡ true = ap (λ w. waits_at w i) (sym flags) ∙ c.requires in
-    let l = up-within ws i up in
-    let long = long-flags cur ws i inv.arrays.flags up in
-    let within : i < bucket_count cur = omega (arith, l, long) in
-    let fewer = one-down ws i l up in
-    omega (arith, inv.counted, fewer)
+overflow_sub-self-in-Ok g c = some-pending c.self.invariant _ (flag-up c.self.invariant _ c.self.view_is c.requires)
 
 pub index_mut-requires : goal.index_mut-requires
-index_mut-requires g c =
-    let t = c.self.inside in
-    let cur = t.current in
-    let ws = t.waiting.items in
-    let olds = t.draining in
-    let i = c.args.bucket in
-    let inv = c.self.invariant in
-    let hk = key_hash g.H.BuildHasher g.H.Hasher.Hasher g.E.Key.Hash.hash_input cur in
-    let hash = λ (e : g.row.E.Denot). hk (g.E.Keyed.key_of e) in
-    let flags : waiting_of c.args.self.now ≡ ws = ap waiting_of (sym c.self.view_is) ∙ waiting-together hash cur ws olds in
-    let up : waits_at ws i ≡ true = ap (λ w. waits_at w i) (sym flags) ∙ c.requires in
-    let l = up-within ws i up in
-    let long = long-flags cur ws i inv.arrays.flags up in
-    let within : i < bucket_count cur = omega (arith, l, long) in
-    search rules
+index_mut-requires g c = let l = up-within c.self.inside.draining.waiting.items c.args.bucket (flag-up c.self.invariant _ c.self.view_is c.requires) in search rules
 
 pub destroy_empty-requires : goal.destroy_empty-requires
 destroy_empty-requires g c =
     let t = c.self.inside in
     let cur = t.current in
-    let ws = t.waiting.items in
-    let olds = t.draining in
+    let ws = t.draining.waiting.items in
+    let olds = t.draining.array in
     let i = c.args.bucket in
     let inv = c.self.invariant in
     let hk = key_hash g.H.BuildHasher g.H.Hasher.Hasher g.E.Key.Hash.hash_input cur in
     let hash = λ (e : g.row.E.Denot). hk (g.E.Keyed.key_of e) in
-    let flags : waiting_of c.args.self.now ≡ ws = ap waiting_of (sym c.self.view_is) ∙ waiting-together hash cur ws olds in
-    let up : waits_at ws i ≡ true = ap (λ w. waits_at w i) (sym flags) ∙ c.requires in
+    let up = flag-up c.self.invariant _ c.self.view_is c.requires in
     let l = up-within ws i up in
     let takes = c.in-Ok.ensures.ok in
     let fewer = one-down ws i l up in
@@ -207,62 +68,49 @@ pub invariant_of-self : goal.invariant_of-self
 invariant_of-self g c =
     let t = c.self.inside in
     let cur = t.current in
-    let ws = t.waiting.items in
-    let olds = t.draining in
+    let ws = t.draining.waiting.items in
     let i = c.args.bucket in
     let inv = c.self.invariant in
     let hk = key_hash g.H.BuildHasher g.H.Hasher.Hasher g.E.Key.Hash.hash_input cur in
-    let hash = λ (e : g.row.E.Denot). hk (g.E.Keyed.key_of e) in
-    let flags : waiting_of c.args.self.now ≡ ws = ap waiting_of (sym c.self.view_is) ∙ waiting-together hash cur ws olds in
-    let up : waits_at ws i ≡ true = ap (λ w. waits_at w i) (sym flags) ∙ c.requires in
+    let up = flag-up c.self.invariant _ c.self.view_is c.requires in
     let l = up-within ws i up in
-    let long = long-flags cur ws i inv.arrays.flags up in
-    let within : i < bucket_count cur = omega (arith, l, long) in
     let takes = c.in-Ok.ensures.ok in
     let same = ap (λ s. let h : g.row.E-Key.Denot → ℕ = λ k. hash_of g.H.BuildHasher g.H.Hasher.Hasher s.hasher (g.E.Key.Hash.hash_input k) in h) takes.settings in
     let fewer = one-down ws i l up in
     let none : count_by (λ w. w) (set ws i false) ≡ 0 = omega (arith, fewer, inv.counted, c.if-self-eq0.true) in
     rw (c.clear.ensures.items, c.replace-bare.ensures.after, c.none-none.ensures)
-    (subst (λ (h : g.row.E-Key.Denot → ℕ). IsTable g.E.Key.PartialEq.eq g.E.Keyed.key_of h c.take.new.current [] [] t.skipped (t.pending - 1) t.next (t.left - c.in-Ok.moved) 0) (sym same)
-    (fields-last g.E.Key.PartialEq.eq g.E.Keyed.key_of hk i c.in-Ok.moved cur c.take.new.current ws olds c.take.new.old t.skipped t.pending t.next t.left t.left_overflow inv up takes none c.in-Ok.ensures.few))
+    (subst (λ (h : g.row.E-Key.Denot → ℕ). IsTable g.E.Key.PartialEq.eq g.E.Keyed.key_of h c.take.new.current (record (draining_of t.draining) { array = []; waiting = []; pending = t.draining.pending - 1; left = t.draining.left - c.in-Ok.moved; left_overflow = 0 }) t.skipped) (sym same)
+    (fields-last g.E.Key.PartialEq.eq g.E.Keyed.key_of hk i c.in-Ok.moved cur c.take.new.current (draining_of t.draining) c.take.new.old t.skipped inv up takes none c.in-Ok.ensures.few))
 
 pub invariant_of-self-else-self-eq0 : goal.invariant_of-self-else-self-eq0
 invariant_of-self-else-self-eq0 g c =
     let t = c.self.inside in
     let cur = t.current in
-    let ws = t.waiting.items in
-    let olds = t.draining in
+    let ws = t.draining.waiting.items in
     let i = c.args.bucket in
     let inv = c.self.invariant in
     let hk = key_hash g.H.BuildHasher g.H.Hasher.Hasher g.E.Key.Hash.hash_input cur in
-    let hash = λ (e : g.row.E.Denot). hk (g.E.Keyed.key_of e) in
-    let flags : waiting_of c.args.self.now ≡ ws = ap waiting_of (sym c.self.view_is) ∙ waiting-together hash cur ws olds in
-    let up : waits_at ws i ≡ true = ap (λ w. waits_at w i) (sym flags) ∙ c.requires in
+    let up = flag-up c.self.invariant _ c.self.view_is c.requires in
     let l = up-within ws i up in
-    let long = long-flags cur ws i inv.arrays.flags up in
-    let within : i < bucket_count cur = omega (arith, l, long) in
     let takes = c.in-Ok.ensures.ok in
     let same = ap (λ s. let h : g.row.E-Key.Denot → ℕ = λ k. hash_of g.H.BuildHasher g.H.Hasher.Hasher s.hasher (g.E.Key.Hash.hash_input k) in h) takes.settings in
     let fewer = one-down ws i l up in
     let some : 0 < count_by (λ w. w) (set ws i false) = omega (arith, fewer, inv.counted, c.if-self-eq0.false) in
-    subst (λ (h : g.row.E-Key.Denot → ℕ). IsTable g.E.Key.PartialEq.eq g.E.Keyed.key_of h c.take.new.current (set ws i false) c.take.new.old t.skipped (t.pending - 1) t.next (t.left - c.in-Ok.moved) t.left_overflow) (sym same)
-    (fields-after g.E.Key.PartialEq.eq g.E.Keyed.key_of hk i c.in-Ok.moved cur c.take.new.current ws (set ws i false) olds c.take.new.old t.skipped t.pending t.next t.left t.left_overflow inv up takes refl some c.in-Ok.ensures.few)
+    subst (λ (h : g.row.E-Key.Denot → ℕ). IsTable g.E.Key.PartialEq.eq g.E.Keyed.key_of h c.take.new.current (record (draining_of t.draining) { array = c.take.new.old; waiting = set ws i false; pending = t.draining.pending - 1; left = t.draining.left - c.in-Ok.moved }) t.skipped) (sym same)
+    (fields-after g.E.Key.PartialEq.eq g.E.Keyed.key_of hk i c.in-Ok.moved cur c.take.new.current (draining_of t.draining) (set ws i false) c.take.new.old t.skipped inv up takes refl some c.in-Ok.ensures.few)
 
 pub returns-then-self-eq0-clause-ok : goal.returns-then-self-eq0-clause-ok
 returns-then-self-eq0-clause-ok g c =
     let t = c.self.inside in
     let cur = t.current in
-    let ws = t.waiting.items in
-    let olds = t.draining in
+    let ws = t.draining.waiting.items in
+    let olds = t.draining.array in
     let i = c.args.bucket in
     let inv = c.self.invariant in
     let hk = key_hash g.H.BuildHasher g.H.Hasher.Hasher g.E.Key.Hash.hash_input cur in
     let hash = λ (e : g.row.E.Denot). hk (g.E.Keyed.key_of e) in
-    let flags : waiting_of c.args.self.now ≡ ws = ap waiting_of (sym c.self.view_is) ∙ waiting-together hash cur ws olds in
-    let up : waits_at ws i ≡ true = ap (λ w. waits_at w i) (sym flags) ∙ c.requires in
+    let up = flag-up c.self.invariant _ c.self.view_is c.requires in
     let l = up-within ws i up in
-    let long = long-flags cur ws i inv.arrays.flags up in
-    let within : i < bucket_count cur = omega (arith, l, long) in
     let takes = c.in-Ok.ensures.ok in
     let same = ap (λ s. let h : g.row.E-Key.Denot → ℕ = λ k. hash_of g.H.BuildHasher g.H.Hasher.Hasher s.hasher (g.E.Key.Hash.hash_input k) in h) takes.settings in
     let fewer = one-down ws i l up in
@@ -278,17 +126,14 @@ pub returns-else-self-eq0-clause-ok : goal.returns-else-self-eq0-clause-ok
 returns-else-self-eq0-clause-ok g c =
     let t = c.self.inside in
     let cur = t.current in
-    let ws = t.waiting.items in
-    let olds = t.draining in
+    let ws = t.draining.waiting.items in
+    let olds = t.draining.array in
     let i = c.args.bucket in
     let inv = c.self.invariant in
     let hk = key_hash g.H.BuildHasher g.H.Hasher.Hasher g.E.Key.Hash.hash_input cur in
     let hash = λ (e : g.row.E.Denot). hk (g.E.Keyed.key_of e) in
-    let flags : waiting_of c.args.self.now ≡ ws = ap waiting_of (sym c.self.view_is) ∙ waiting-together hash cur ws olds in
-    let up : waits_at ws i ≡ true = ap (λ w. waits_at w i) (sym flags) ∙ c.requires in
+    let up = flag-up c.self.invariant _ c.self.view_is c.requires in
     let l = up-within ws i up in
-    let long = long-flags cur ws i inv.arrays.flags up in
-    let within : i < bucket_count cur = omega (arith, l, long) in
     let takes = c.in-Ok.ensures.ok in
     let same = ap (λ s. let h : g.row.E-Key.Denot → ℕ = λ k. hash_of g.H.BuildHasher g.H.Hasher.Hasher s.hasher (g.E.Key.Hash.hash_input k) in h) takes.settings in
     let fewer = one-down ws i l up in
@@ -299,37 +144,17 @@ returns-else-self-eq0-clause-ok g c =
 
 pub returns-in-Err-clause-err : goal.returns-in-Err-clause-err
 returns-in-Err-clause-err g c =
-    let t = c.self.inside in
-    let cur = t.current in
-    let ws = t.waiting.items in
-    let olds = t.draining in
-    let i = c.args.bucket in
-    let inv = c.self.invariant in
-    let hk = key_hash g.H.BuildHasher g.H.Hasher.Hasher g.E.Key.Hash.hash_input cur in
-    let hash = λ (e : g.row.E.Denot). hk (g.E.Keyed.key_of e) in
-    let flags : waiting_of c.args.self.now ≡ ws = ap waiting_of (sym c.self.view_is) ∙ waiting-together hash cur ws olds in
-    let up : waits_at ws i ≡ true = ap (λ w. waits_at w i) (sym flags) ∙ c.requires in
-    let l = up-within ws i up in
-    let long = long-flags cur ws i inv.arrays.flags up in
-    let within : i < bucket_count cur = omega (arith, l, long) in
     rw (c.in-Err.ensures.err, c.in-Err.ensures.stays) c.self.view_is
 
 pub returns-in-Err-clause-refused : goal.returns-in-Err-clause-refused
 returns-in-Err-clause-refused g c =
     let t = c.self.inside in
-    let cur = t.current in
-    let ws = t.waiting.items in
-    let olds = t.draining in
+    let ws = t.draining.waiting.items in
     let i = c.args.bucket in
     let inv = c.self.invariant in
-    let hk = key_hash g.H.BuildHasher g.H.Hasher.Hasher g.E.Key.Hash.hash_input cur in
-    let hash = λ (e : g.row.E.Denot). hk (g.E.Keyed.key_of e) in
-    let flags : waiting_of c.args.self.now ≡ ws = ap waiting_of (sym c.self.view_is) ∙ waiting-together hash cur ws olds in
-    let up : waits_at ws i ≡ true = ap (λ w. waits_at w i) (sym flags) ∙ c.requires in
+    let up = flag-up c.self.invariant _ c.self.view_is c.requires in
     let l = up-within ws i up in
-    let long = long-flags cur ws i inv.arrays.flags up in
-    let within : i < bucket_count cur = omega (arith, l, long) in
-    let list = ap (λ z. list_of z i) (sym c.self.view_is) ∙ waiting-list hash cur ws olds inv.arrays i up long in
+    let list = list-coming inv _ up c.self.view_is in
     let coming = rw inv.skips at c.in-Err.ensures.refused in
     let same = ap length list in
     omega arith
@@ -338,20 +163,16 @@ pub returns-then-self-eq0-clause-bounded : goal.returns-then-self-eq0-clause-bou
 returns-then-self-eq0-clause-bounded g c =
     let t = c.self.inside in
     let cur = t.current in
-    let ws = t.waiting.items in
-    let olds = t.draining in
-    let i = c.args.bucket in
+    let ws = t.draining.waiting.items in
+    let olds = t.draining.array in
     let inv = c.self.invariant in
     let hk = key_hash g.H.BuildHasher g.H.Hasher.Hasher g.E.Key.Hash.hash_input cur in
     let hash = λ (e : g.row.E.Denot). hk (g.E.Keyed.key_of e) in
-    let flags : waiting_of c.args.self.now ≡ ws = ap waiting_of (sym c.self.view_is) ∙ waiting-together hash cur ws olds in
-    let up : waits_at ws i ≡ true = ap (λ w. waits_at w i) (sym flags) ∙ c.requires in
-    let long = long-flags cur ws i inv.arrays.flags up in
-    let list = ap (λ z. list_of z i) (sym c.self.view_is) ∙ waiting-list hash cur ws olds inv.arrays i up long in
+    let up = flag-up c.self.invariant _ c.self.view_is c.requires in
+    let list = list-coming inv _ up c.self.view_is in
     let same = ap length list in
     let short = rw inv.skips at c.in-Ok.ensures.short in
     let was = spilled-seen hash cur ws olds c.args.self.now c.self.view_is in
-    let takes = c.in-Ok.ensures.ok in
     λ none few.
     let less = short (omega (arith, same, few)) in
     let zero : spilled_of c.take.new.current ≡ 0 = omega (arith, was, less, none) in
@@ -361,16 +182,14 @@ pub returns-else-self-eq0-clause-bounded : goal.returns-else-self-eq0-clause-bou
 returns-else-self-eq0-clause-bounded g c =
     let t = c.self.inside in
     let cur = t.current in
-    let ws = t.waiting.items in
-    let olds = t.draining in
+    let ws = t.draining.waiting.items in
+    let olds = t.draining.array in
     let i = c.args.bucket in
     let inv = c.self.invariant in
     let hk = key_hash g.H.BuildHasher g.H.Hasher.Hasher g.E.Key.Hash.hash_input cur in
     let hash = λ (e : g.row.E.Denot). hk (g.E.Keyed.key_of e) in
-    let flags : waiting_of c.args.self.now ≡ ws = ap waiting_of (sym c.self.view_is) ∙ waiting-together hash cur ws olds in
-    let up : waits_at ws i ≡ true = ap (λ w. waits_at w i) (sym flags) ∙ c.requires in
-    let long = long-flags cur ws i inv.arrays.flags up in
-    let list = ap (λ z. list_of z i) (sym c.self.view_is) ∙ waiting-list hash cur ws olds inv.arrays i up long in
+    let up = flag-up c.self.invariant _ c.self.view_is c.requires in
+    let list = list-coming inv _ up c.self.view_is in
     let same = ap length list in
     let short = rw inv.skips at c.in-Ok.ensures.short in
     let was = spilled-seen hash cur ws olds c.args.self.now c.self.view_is in
@@ -384,20 +203,8 @@ returns-else-self-eq0-clause-bounded g c =
 pub returns-in-Err-clause-bounded : goal.returns-in-Err-clause-bounded
 returns-in-Err-clause-bounded g c =
     let t = c.self.inside in
-    let same : together (λ e. key_hash g.H.BuildHasher g.H.Hasher.Hasher g.E.Key.Hash.hash_input c.take.new.current (g.E.Keyed.key_of e)) c.take.new.current t.waiting.items c.take.new.old ≡ c.args.self.now = rw (c.in-Err.ensures.err, c.in-Err.ensures.stays) c.self.view_is in
+    let same : together (λ e. key_hash g.H.BuildHasher g.H.Hasher.Hasher g.E.Key.Hash.hash_input c.take.new.current (g.E.Keyed.key_of e)) c.take.new.current t.draining.waiting.items c.take.new.old ≡ c.args.self.now = rw (c.in-Err.ensures.err, c.in-Err.ensures.stays) c.self.view_is in
     λ none few. ap spilled_of same ∙ none
 
 pub take-requires-clause-flags : goal.take-requires-clause-flags
-take-requires-clause-flags g c =
-    let t = c.self.inside in
-    let cur = t.current in
-    let ws = t.waiting.items in
-    let olds = t.draining in
-    let i = c.args.bucket in
-    let inv = c.self.invariant in
-    let hk = key_hash g.H.BuildHasher g.H.Hasher.Hasher g.E.Key.Hash.hash_input cur in
-    let hash = λ (e : g.row.E.Denot). hk (g.E.Keyed.key_of e) in
-    let flags : waiting_of c.args.self.now ≡ ws = ap waiting_of (sym c.self.view_is) ∙ waiting-together hash cur ws olds in
-    let up : waits_at ws i ≡ true = ap (λ w. waits_at w i) (sym flags) ∙ c.requires in
-    let long : length ws ≡ bucket_count cur = long-flags cur ws i inv.arrays.flags up in
-    search rules
+take-requires-clause-flags g c = let long = flags-whole c.self.invariant _ (flag-up c.self.invariant _ c.self.view_is c.requires) in search rules

@@ -8,7 +8,7 @@ pub invariant_of-self : goal.invariant_of-self
 invariant_of-self g c =
     let t = c.self.inside in
     let inv = c.self.invariant in
-    let flags : waiting_of c.args.self.now ≡ t.waiting.items = ap waiting_of (sym c.self.view_is) ∙ waiting-together _ t.current t.waiting.items t.draining in
+    let flags : waiting_of c.args.self.now ≡ t.draining.waiting.items = ap waiting_of (sym c.self.view_is) ∙ waiting-together _ t.current t.draining.waiting.items t.draining.array in
     record {
       arrays = inv.arrays;
       skips = inv.skips;

@@ -11,19 +11,19 @@ loop-init g c = settles-start c.args.self.now
 pub relocate_next-requires : goal.relocate_next-requires
 relocate_next-requires g c =
     let t = c.self.inside in
-    let n = pending-seen _ t.current t.waiting.items t.draining c.loop.self c.self.view_is ∙ sym c.self.invariant.counted in
+    let n = pending-seen _ t.current t.draining.waiting.items t.draining.array c.loop.self c.self.view_is ∙ sym c.self.invariant.counted in
     omega arith
 
 pub returns-then-self-eq0-clause-moved : goal.returns-then-self-eq0-clause-moved
 returns-then-self-eq0-clause-moved g c =
     let t = c.self.inside in
-    let none = pending-seen _ t.current t.waiting.items t.draining c.loop.self c.self.view_is ∙ sym c.self.invariant.counted ∙ c.if-self-eq0.true in
+    let none = pending-seen _ t.current t.draining.waiting.items t.draining.array c.loop.self c.self.view_is ∙ sym c.self.invariant.counted ∙ c.if-self-eq0.true in
     moved-all (pending_targets c.args.self.now) c.loop.self c.loop.counter c.args.most c.loop.invariant.moved (omega arith) none
 
 pub returns-then-self-eq0-clause-exact : goal.returns-then-self-eq0-clause-exact
 returns-then-self-eq0-clause-exact g c =
     let t = c.self.inside in
-    let n = pending-seen _ t.current t.waiting.items t.draining c.loop.self c.self.view_is ∙ sym c.self.invariant.counted ∙ c.if-self-eq0.true in
+    let n = pending-seen _ t.current t.draining.waiting.items t.draining.array c.loop.self c.self.view_is ∙ sym c.self.invariant.counted ∙ c.if-self-eq0.true in
     λ short. settles-all c.args.self.now c.loop.self c.loop.counter c.args.most c.loop.invariant (omega arith) n short
 
 pub loop-preserved : goal.loop-preserved

@@ -1,68 +1,38 @@
-use Rattle.std.proofs.Common.{◌≡◌, ◌∙◌, ◌+◌, ◌<◌, true, false, length, sym, ap, subst, rules, arith}
-use Rattle.std.proofs.lemmas.List.{get_or_read}
-use Rattle.std.proofs.lemmas.List.Sums.{count_by-le-length}
+use Rattle.std.proofs.Common.{◌≡◌, ◌∙◌, ◌+◌, true, false, length, sym, ap, subst, rules, arith}
 use Rattle.std.specs.List.{position}
 use Rattle.scc_array.specs.Shelves.{shelf_of}
-use Rattle.scc_contents.specs.Contents.{entries, bucket_count, key_hash, pending_of, list_of, settings_of}
+use Rattle.scc_contents.specs.Contents.{entries, key_hash, list_of, settings_of}
 use Rattle.scc_contents.specs.Hashing.{hash_of}
-use Rattle.scc_contents.specs.Routing.{bucket_number}
 use Rattle.scc_buckets.specs.declared.place.Place.{Place}
 use Rattle.scc_buckets.proofs.FindingLemmas.{HashOf, has_tag}
 use Rattle.scc_table.specs.Places.{IsFoundAt}
 use Rattle.scc_table.specs.TwoArrays.{waits_at}
-use Rattle.scc_table.proofs.Joining.{flags-length, pending-together}
-use Rattle.scc_table.proofs.Preparing.{sized-flags}
 use Rattle.scc_table.proofs.Seen.{settings-seen}
 use Rattle.scc_table.proofs.SearchingLemmas.{found-own, missed-own, found-old, missed-old}
+use Rattle.scc_table.proofs.OneBucket.{bucket-within, flag-read, index-within, source-within, source-number}
 use Rattle.scc_table.proofs.Table.search_both.Goals as goal
 
 pub index-requires : goal.index-requires
 index-requires g c =
-    let t = c.self.inside in
-    let cur = t.current in
-    let ws = t.waiting.items in
-    let olds = t.draining in
-    let inv = c.self.invariant in
-    let hk = key_hash g.H.BuildHasher g.H.Hasher.Hasher g.E.Key.Hash.hash_input cur in
-    let hash = λ (e : g.row.E.Denot). hk (g.E.Keyed.key_of e) in
-    let counted = ap pending_of (sym c.self.view_is) ∙ pending-together hash cur ws olds in
-    let some : 0 < t.pending = omega (arith, counted, inv.counted, c.requires.pending) in
-    let long = flags-length cur ws t.pending inv.arrays.flags inv.counted some in
-    let most = count_by-le-length (λ w. w) ws in
-    let i = c.bucket_at-bucket.result in
-    let within : i < bucket_count cur = let l = c.bucket_at-bucket.ensures.within (omega (arith, inv.counted)) in omega arith in
-    let l : i < length ws = omega (arith, long) in
+    let l = index-within c.self.invariant c.self.view_is c.requires.pending c.bucket_at-bucket.ensures.within in
     search rules
 
 pub search-requires-clause-bucket : goal.search-requires-clause-bucket
 search-requires-clause-bucket g c =
     let t = c.self.inside in
-    let cur = t.current in
-    let ws = t.waiting.items in
-    let olds = t.draining in
-    let inv = c.self.invariant in
-    let hk = key_hash g.H.BuildHasher g.H.Hasher.Hasher g.E.Key.Hash.hash_input cur in
-    let hash = λ (e : g.row.E.Denot). hk (g.E.Keyed.key_of e) in
-    let counted = ap pending_of (sym c.self.view_is) ∙ pending-together hash cur ws olds in
-    let some : 0 < t.pending = omega (arith, counted, inv.counted, c.requires.pending) in
-    let long = flags-length cur ws t.pending inv.arrays.flags inv.counted some in
-    let most = count_by-le-length (λ w. w) ws in
+    let ws = t.draining.waiting.items in
     let i = c.bucket_at-bucket.result in
-    let within : i < bucket_count cur = let l = c.bucket_at-bucket.ensures.within (omega (arith, inv.counted)) in omega arith in
-    let here : c.index.result.now ≡ waits_at ws i = get_or_read ws i c.index.result.now (omega (arith, long)) c.index.ensures false in
+    let here = flag-read c.self.invariant c.self.view_is c.requires.pending c.bucket_at-bucket.ensures.within c.index.ensures in
     let up : waits_at ws i ≡ true = sym here ∙ c.if-index.true in
-    let array = sized-flags cur ws olds i inv.arrays.sized up in
-    let j = c.bucket_index-source.result in
-    let len : c.len.result ≡ length olds = c.len.ensures.count in
-    let lj : j < length olds = let l = c.bucket_index-source.ensures.within (omega (arith, array.least)) in omega arith in
+    let lj = source-within c.self.invariant _ up c.len.ensures.count c.bucket_index-source.ensures.within in
     lj
 
 pub search-requires-clause-tagged : goal.search-requires-clause-tagged
 search-requires-clause-tagged g c =
     let t = c.self.inside in
     let cur = t.current in
-    let ws = t.waiting.items in
-    let olds = t.draining in
+    let ws = t.draining.waiting.items in
+    let olds = t.draining.array in
     let inv = c.self.invariant in
     let now = c.args.self.now in
     let hk = key_hash g.H.BuildHasher g.H.Hasher.Hasher g.E.Key.Hash.hash_input cur in
@@ -71,26 +41,19 @@ search-requires-clause-tagged g c =
     let passes = λ (e : g.row.E.Denot). g.E.Key.PartialEq.eq c.args.key.now (g.E.Keyed.key_of e) in
     let hashed = c.requires.hashed ∙ ap (λ s. hash_of g.H.BuildHasher g.H.Hasher.Hasher s.hasher (g.E.Key.Hash.hash_input c.args.key.now)) (sym set) in
     let same : HashOf passes hash c.args.hash = record { same = λ e w. sym (hashed ∙ ap (hash_of g.H.BuildHasher g.H.Hasher.Hasher (settings_of cur).hasher) (g.met.E.Key.Hash.respects_eq c.args.key.now (g.E.Keyed.key_of e) w)) } in
-    let counted = ap pending_of (sym c.self.view_is) ∙ pending-together hash cur ws olds in
-    let some : 0 < t.pending = omega (arith, counted, inv.counted, c.requires.pending) in
-    let long = flags-length cur ws t.pending inv.arrays.flags inv.counted some in
-    let most = count_by-le-length (λ w. w) ws in
     let i = c.bucket_at-bucket.result in
-    let within : i < bucket_count cur = let l = c.bucket_at-bucket.ensures.within (omega (arith, inv.counted)) in omega arith in
-    let here : c.index.result.now ≡ waits_at ws i = get_or_read ws i c.index.result.now (omega (arith, long)) c.index.ensures false in
+    let here = flag-read c.self.invariant c.self.view_is c.requires.pending c.bucket_at-bucket.ensures.within c.index.ensures in
     let up : waits_at ws i ≡ true = sym here ∙ c.if-index.true in
-    let array = sized-flags cur ws olds i inv.arrays.sized up in
     let j = c.bucket_index-source.result in
-    let len : c.len.result ≡ length olds = c.len.ensures.count in
-    let lj : j < length olds = let l = c.bucket_index-source.ensures.within (omega (arith, array.least)) in omega arith in
+    let lj = source-within c.self.invariant _ up c.len.ensures.count c.bucket_index-source.ensures.within in
     rw c.tag.ensures (has_tag passes hash c.args.hash (settings_of cur).skipped (length olds) j (shelf_of olds j) same (inv.arrays.own.own j lj))
 
 pub returns-in-Some-clause-found : goal.returns-in-Some-clause-found
 returns-in-Some-clause-found g c =
     let t = c.self.inside in
     let cur = t.current in
-    let ws = t.waiting.items in
-    let olds = t.draining in
+    let ws = t.draining.waiting.items in
+    let olds = t.draining.array in
     let inv = c.self.invariant in
     let now = c.args.self.now in
     let hk = key_hash g.H.BuildHasher g.H.Hasher.Hasher g.E.Key.Hash.hash_input cur in
@@ -99,30 +62,23 @@ returns-in-Some-clause-found g c =
     let passes = λ (e : g.row.E.Denot). g.E.Key.PartialEq.eq c.args.key.now (g.E.Keyed.key_of e) in
     let hashed = c.requires.hashed ∙ ap (λ s. hash_of g.H.BuildHasher g.H.Hasher.Hasher s.hasher (g.E.Key.Hash.hash_input c.args.key.now)) (sym set) in
     let same : HashOf passes hash c.args.hash = record { same = λ e w. sym (hashed ∙ ap (hash_of g.H.BuildHasher g.H.Hasher.Hasher (settings_of cur).hasher) (g.met.E.Key.Hash.respects_eq c.args.key.now (g.E.Keyed.key_of e) w)) } in
-    let counted = ap pending_of (sym c.self.view_is) ∙ pending-together hash cur ws olds in
-    let some : 0 < t.pending = omega (arith, counted, inv.counted, c.requires.pending) in
-    let long = flags-length cur ws t.pending inv.arrays.flags inv.counted some in
-    let most = count_by-le-length (λ w. w) ws in
     let i = c.bucket_at-bucket.result in
-    let within : i < bucket_count cur = let l = c.bucket_at-bucket.ensures.within (omega (arith, inv.counted)) in omega arith in
-    let here : c.index.result.now ≡ waits_at ws i = get_or_read ws i c.index.result.now (omega (arith, long)) c.index.ensures false in
+    let within = bucket-within c.self.invariant c.self.view_is c.requires.pending c.bucket_at-bucket.ensures.within in
+    let here = flag-read c.self.invariant c.self.view_is c.requires.pending c.bucket_at-bucket.ensures.within c.index.ensures in
     let up : waits_at ws i ≡ true = sym here ∙ c.if-index.true in
-    let array = sized-flags cur ws olds i inv.arrays.sized up in
     let j = c.bucket_index-source.result in
-    let len : c.len.result ≡ length olds = c.len.ensures.count in
-    let lj : j < length olds = let l = c.bucket_index-source.ensures.within (omega (arith, array.least)) in omega arith in
-    let source : j ≡ bucket_number (settings_of cur).skipped (length olds) c.args.hash = c.bucket_index-source.ensures.value ∙ ap (λ s. bucket_number s c.len.result c.args.hash) inv.skips ∙ ap (λ n. bucket_number (settings_of cur).skipped n c.args.hash) len in
+    let lj = source-within c.self.invariant _ up c.len.ensures.count c.bucket_index-source.ensures.within in
+    let source = source-number c.self.invariant _ c.len.ensures.count c.bucket_index-source.ensures.value in
     let at = c.bucket_at-bucket.ensures.value in
     let q : Place = record { bucket = c.bucket_count-count.result + j; slot = c.in-Some.slot } in
-    λ _. subst (λ d. IsFoundAt passes d q) c.self.view_is (found-old hash cur ws olds inv.arrays c.keep_lists.ensures.routed passes c.args.hash i same at within up j lj source q (ap (λ n. n + j) c.bucket_count-count.ensures.count) (sym c.in-Some.ensures))
+    λ _. subst (λ d. IsFoundAt passes d q) c.self.view_is (found-old hash cur ws olds inv.arrays c.bucket_at-bucket.ensures.routed passes c.args.hash i same at within up j lj source q (ap (λ n. n + j) c.bucket_count-count.ensures.count) (sym c.in-Some.ensures))
 
 pub returns-in-Some-clause-missed : goal.returns-in-Some-clause-missed
 returns-in-Some-clause-missed g c =
     let t = c.self.inside in
     let cur = t.current in
-    let ws = t.waiting.items in
-    let olds = t.draining in
-    let inv = c.self.invariant in
+    let ws = t.draining.waiting.items in
+    let olds = t.draining.array in
     let now = c.args.self.now in
     let hk = key_hash g.H.BuildHasher g.H.Hasher.Hasher g.E.Key.Hash.hash_input cur in
     let hash = λ (e : g.row.E.Denot). hk (g.E.Keyed.key_of e) in
@@ -130,21 +86,14 @@ returns-in-Some-clause-missed g c =
     let passes = λ (e : g.row.E.Denot). g.E.Key.PartialEq.eq c.args.key.now (g.E.Keyed.key_of e) in
     let hashed = c.requires.hashed ∙ ap (λ s. hash_of g.H.BuildHasher g.H.Hasher.Hasher s.hasher (g.E.Key.Hash.hash_input c.args.key.now)) (sym set) in
     let same : HashOf passes hash c.args.hash = record { same = λ e w. sym (hashed ∙ ap (hash_of g.H.BuildHasher g.H.Hasher.Hasher (settings_of cur).hasher) (g.met.E.Key.Hash.respects_eq c.args.key.now (g.E.Keyed.key_of e) w)) } in
-    let counted = ap pending_of (sym c.self.view_is) ∙ pending-together hash cur ws olds in
-    let some : 0 < t.pending = omega (arith, counted, inv.counted, c.requires.pending) in
-    let long = flags-length cur ws t.pending inv.arrays.flags inv.counted some in
-    let most = count_by-le-length (λ w. w) ws in
     let i = c.bucket_at-bucket.result in
-    let within : i < bucket_count cur = let l = c.bucket_at-bucket.ensures.within (omega (arith, inv.counted)) in omega arith in
-    let here : c.index.result.now ≡ waits_at ws i = get_or_read ws i c.index.result.now (omega (arith, long)) c.index.ensures false in
+    let within = bucket-within c.self.invariant c.self.view_is c.requires.pending c.bucket_at-bucket.ensures.within in
+    let here = flag-read c.self.invariant c.self.view_is c.requires.pending c.bucket_at-bucket.ensures.within c.index.ensures in
     let up : waits_at ws i ≡ true = sym here ∙ c.if-index.true in
-    let array = sized-flags cur ws olds i inv.arrays.sized up in
-    let j = c.bucket_index-source.result in
-    let len : c.len.result ≡ length olds = c.len.ensures.count in
-    let lj : j < length olds = let l = c.bucket_index-source.ensures.within (omega (arith, array.least)) in omega arith in
+    let lj = source-within c.self.invariant _ up c.len.ensures.count c.bucket_index-source.ensures.within in
     let most = c.bucket_count-count.ensures.most in
     let old = c.len.ensures.most in
-    λ far. absurd (omega (arith, len, lj, most, old, far))
+    λ far. absurd (omega (arith, c.len.ensures.count, lj, most, old, far))
 
 pub returns-in-None-clause-found : goal.returns-in-None-clause-found
 returns-in-None-clause-found g c = λ near. absurd (omega (arith, near))
@@ -153,8 +102,8 @@ pub returns-in-None-clause-missed : goal.returns-in-None-clause-missed
 returns-in-None-clause-missed g c =
     let t = c.self.inside in
     let cur = t.current in
-    let ws = t.waiting.items in
-    let olds = t.draining in
+    let ws = t.draining.waiting.items in
+    let olds = t.draining.array in
     let inv = c.self.invariant in
     let now = c.args.self.now in
     let hk = key_hash g.H.BuildHasher g.H.Hasher.Hasher g.E.Key.Hash.hash_input cur in
@@ -163,29 +112,22 @@ returns-in-None-clause-missed g c =
     let passes = λ (e : g.row.E.Denot). g.E.Key.PartialEq.eq c.args.key.now (g.E.Keyed.key_of e) in
     let hashed = c.requires.hashed ∙ ap (λ s. hash_of g.H.BuildHasher g.H.Hasher.Hasher s.hasher (g.E.Key.Hash.hash_input c.args.key.now)) (sym set) in
     let same : HashOf passes hash c.args.hash = record { same = λ e w. sym (hashed ∙ ap (hash_of g.H.BuildHasher g.H.Hasher.Hasher (settings_of cur).hasher) (g.met.E.Key.Hash.respects_eq c.args.key.now (g.E.Keyed.key_of e) w)) } in
-    let counted = ap pending_of (sym c.self.view_is) ∙ pending-together hash cur ws olds in
-    let some : 0 < t.pending = omega (arith, counted, inv.counted, c.requires.pending) in
-    let long = flags-length cur ws t.pending inv.arrays.flags inv.counted some in
-    let most = count_by-le-length (λ w. w) ws in
     let i = c.bucket_at-bucket.result in
-    let within : i < bucket_count cur = let l = c.bucket_at-bucket.ensures.within (omega (arith, inv.counted)) in omega arith in
-    let here : c.index.result.now ≡ waits_at ws i = get_or_read ws i c.index.result.now (omega (arith, long)) c.index.ensures false in
+    let within = bucket-within c.self.invariant c.self.view_is c.requires.pending c.bucket_at-bucket.ensures.within in
+    let here = flag-read c.self.invariant c.self.view_is c.requires.pending c.bucket_at-bucket.ensures.within c.index.ensures in
     let up : waits_at ws i ≡ true = sym here ∙ c.if-index.true in
-    let array = sized-flags cur ws olds i inv.arrays.sized up in
     let j = c.bucket_index-source.result in
-    let len : c.len.result ≡ length olds = c.len.ensures.count in
-    let lj : j < length olds = let l = c.bucket_index-source.ensures.within (omega (arith, array.least)) in omega arith in
-    let source : j ≡ bucket_number (settings_of cur).skipped (length olds) c.args.hash = c.bucket_index-source.ensures.value ∙ ap (λ s. bucket_number s c.len.result c.args.hash) inv.skips ∙ ap (λ n. bucket_number (settings_of cur).skipped n c.args.hash) len in
+    let lj = source-within c.self.invariant _ up c.len.ensures.count c.bucket_index-source.ensures.within in
+    let source = source-number c.self.invariant _ c.len.ensures.count c.bucket_index-source.ensures.value in
     let at = c.bucket_at-bucket.ensures.value in
-    λ _. ap (λ d. position passes (entries d)) (sym c.self.view_is) ∙ missed-old hash cur ws olds inv.arrays c.keep_lists.ensures.routed passes c.args.hash i same at within up j lj source (sym c.in-None.ensures)
+    λ _. ap (λ d. position passes (entries d)) (sym c.self.view_is) ∙ missed-old hash cur ws olds inv.arrays c.bucket_at-bucket.ensures.routed passes c.args.hash i same at within up j lj source (sym c.in-None.ensures)
 
 pub search_place-requires : goal.search_place-requires
 search_place-requires g c =
     let t = c.self.inside in
     let cur = t.current in
-    let ws = t.waiting.items in
-    let olds = t.draining in
-    let inv = c.self.invariant in
+    let ws = t.draining.waiting.items in
+    let olds = t.draining.array in
     let now = c.args.self.now in
     let hk = key_hash g.H.BuildHasher g.H.Hasher.Hasher g.E.Key.Hash.hash_input cur in
     let hash = λ (e : g.row.E.Denot). hk (g.E.Keyed.key_of e) in
@@ -196,8 +138,8 @@ pub returns-in-Some-search_place-clause-found : goal.returns-in-Some-search_plac
 returns-in-Some-search_place-clause-found g c =
     let t = c.self.inside in
     let cur = t.current in
-    let ws = t.waiting.items in
-    let olds = t.draining in
+    let ws = t.draining.waiting.items in
+    let olds = t.draining.array in
     let inv = c.self.invariant in
     let now = c.args.self.now in
     let hk = key_hash g.H.BuildHasher g.H.Hasher.Hasher g.E.Key.Hash.hash_input cur in
@@ -206,26 +148,21 @@ returns-in-Some-search_place-clause-found g c =
     let passes = λ (e : g.row.E.Denot). g.E.Key.PartialEq.eq c.args.key.now (g.E.Keyed.key_of e) in
     let hashed = c.requires.hashed ∙ ap (λ s. hash_of g.H.BuildHasher g.H.Hasher.Hasher s.hasher (g.E.Key.Hash.hash_input c.args.key.now)) (sym set) in
     let same : HashOf passes hash c.args.hash = record { same = λ e w. sym (hashed ∙ ap (hash_of g.H.BuildHasher g.H.Hasher.Hasher (settings_of cur).hasher) (g.met.E.Key.Hash.respects_eq c.args.key.now (g.E.Keyed.key_of e) w)) } in
-    let counted = ap pending_of (sym c.self.view_is) ∙ pending-together hash cur ws olds in
-    let some : 0 < t.pending = omega (arith, counted, inv.counted, c.requires.pending) in
-    let long = flags-length cur ws t.pending inv.arrays.flags inv.counted some in
-    let most = count_by-le-length (λ w. w) ws in
     let i = c.bucket_at-bucket.result in
-    let within : i < bucket_count cur = let l = c.bucket_at-bucket.ensures.within (omega (arith, inv.counted)) in omega arith in
-    let here : c.index.result.now ≡ waits_at ws i = get_or_read ws i c.index.result.now (omega (arith, long)) c.index.ensures false in
+    let within = bucket-within c.self.invariant c.self.view_is c.requires.pending c.bucket_at-bucket.ensures.within in
+    let here = flag-read c.self.invariant c.self.view_is c.requires.pending c.bucket_at-bucket.ensures.within c.index.ensures in
     let at = c.bucket_at-bucket.ensures.value in
     let down : waits_at ws i ≡ false = sym here ∙ c.if-index.false in
     let q = c.in-Some-search_place.place in
     let f = c.in-Some-search_place.ensures in
-    λ _. subst (λ d. IsFoundAt passes d q) c.self.view_is (found-own hash cur ws olds inv.arrays c.keep_lists.ensures.routed passes c.args.hash i same at within down q (f.bucket ∙ sym at) (ap (λ k. position passes (list_of cur k)) at ∙ f.found))
+    λ _. subst (λ d. IsFoundAt passes d q) c.self.view_is (found-own hash cur ws olds inv.arrays c.bucket_at-bucket.ensures.routed passes c.args.hash i same at within down q (f.bucket ∙ sym at) (ap (λ k. position passes (list_of cur k)) at ∙ f.found))
 
 pub returns-in-Some-search_place-clause-missed : goal.returns-in-Some-search_place-clause-missed
 returns-in-Some-search_place-clause-missed g c =
     let t = c.self.inside in
     let cur = t.current in
-    let ws = t.waiting.items in
-    let olds = t.draining in
-    let inv = c.self.invariant in
+    let ws = t.draining.waiting.items in
+    let olds = t.draining.array in
     let now = c.args.self.now in
     let hk = key_hash g.H.BuildHasher g.H.Hasher.Hasher g.E.Key.Hash.hash_input cur in
     let hash = λ (e : g.row.E.Denot). hk (g.E.Keyed.key_of e) in
@@ -233,13 +170,9 @@ returns-in-Some-search_place-clause-missed g c =
     let passes = λ (e : g.row.E.Denot). g.E.Key.PartialEq.eq c.args.key.now (g.E.Keyed.key_of e) in
     let hashed = c.requires.hashed ∙ ap (λ s. hash_of g.H.BuildHasher g.H.Hasher.Hasher s.hasher (g.E.Key.Hash.hash_input c.args.key.now)) (sym set) in
     let same : HashOf passes hash c.args.hash = record { same = λ e w. sym (hashed ∙ ap (hash_of g.H.BuildHasher g.H.Hasher.Hasher (settings_of cur).hasher) (g.met.E.Key.Hash.respects_eq c.args.key.now (g.E.Keyed.key_of e) w)) } in
-    let counted = ap pending_of (sym c.self.view_is) ∙ pending-together hash cur ws olds in
-    let some : 0 < t.pending = omega (arith, counted, inv.counted, c.requires.pending) in
-    let long = flags-length cur ws t.pending inv.arrays.flags inv.counted some in
-    let most = count_by-le-length (λ w. w) ws in
     let i = c.bucket_at-bucket.result in
-    let within : i < bucket_count cur = let l = c.bucket_at-bucket.ensures.within (omega (arith, inv.counted)) in omega arith in
-    let here : c.index.result.now ≡ waits_at ws i = get_or_read ws i c.index.result.now (omega (arith, long)) c.index.ensures false in
+    let within = bucket-within c.self.invariant c.self.view_is c.requires.pending c.bucket_at-bucket.ensures.within in
+    let here = flag-read c.self.invariant c.self.view_is c.requires.pending c.bucket_at-bucket.ensures.within c.index.ensures in
     let at = c.bucket_at-bucket.ensures.value in
     let down : waits_at ws i ≡ false = sym here ∙ c.if-index.false in
     let most = c.bucket_count-count.ensures.most in
@@ -253,8 +186,8 @@ pub returns-in-None-search_place-clause-missed : goal.returns-in-None-search_pla
 returns-in-None-search_place-clause-missed g c =
     let t = c.self.inside in
     let cur = t.current in
-    let ws = t.waiting.items in
-    let olds = t.draining in
+    let ws = t.draining.waiting.items in
+    let olds = t.draining.array in
     let inv = c.self.invariant in
     let now = c.args.self.now in
     let hk = key_hash g.H.BuildHasher g.H.Hasher.Hasher g.E.Key.Hash.hash_input cur in
@@ -263,14 +196,10 @@ returns-in-None-search_place-clause-missed g c =
     let passes = λ (e : g.row.E.Denot). g.E.Key.PartialEq.eq c.args.key.now (g.E.Keyed.key_of e) in
     let hashed = c.requires.hashed ∙ ap (λ s. hash_of g.H.BuildHasher g.H.Hasher.Hasher s.hasher (g.E.Key.Hash.hash_input c.args.key.now)) (sym set) in
     let same : HashOf passes hash c.args.hash = record { same = λ e w. sym (hashed ∙ ap (hash_of g.H.BuildHasher g.H.Hasher.Hasher (settings_of cur).hasher) (g.met.E.Key.Hash.respects_eq c.args.key.now (g.E.Keyed.key_of e) w)) } in
-    let counted = ap pending_of (sym c.self.view_is) ∙ pending-together hash cur ws olds in
-    let some : 0 < t.pending = omega (arith, counted, inv.counted, c.requires.pending) in
-    let long = flags-length cur ws t.pending inv.arrays.flags inv.counted some in
-    let most = count_by-le-length (λ w. w) ws in
     let i = c.bucket_at-bucket.result in
-    let within : i < bucket_count cur = let l = c.bucket_at-bucket.ensures.within (omega (arith, inv.counted)) in omega arith in
-    let here : c.index.result.now ≡ waits_at ws i = get_or_read ws i c.index.result.now (omega (arith, long)) c.index.ensures false in
+    let within = bucket-within c.self.invariant c.self.view_is c.requires.pending c.bucket_at-bucket.ensures.within in
+    let here = flag-read c.self.invariant c.self.view_is c.requires.pending c.bucket_at-bucket.ensures.within c.index.ensures in
     let at = c.bucket_at-bucket.ensures.value in
     let down : waits_at ws i ≡ false = sym here ∙ c.if-index.false in
     let n = c.in-None-search_place.ensures in
-    λ _. ap (λ d. position passes (entries d)) (sym c.self.view_is) ∙ missed-own hash cur ws olds inv.arrays c.keep_lists.ensures.routed passes c.args.hash i same at within down (ap (λ k. position passes (list_of cur k)) at ∙ n.list)
+    λ _. ap (λ d. position passes (entries d)) (sym c.self.view_is) ∙ missed-own hash cur ws olds inv.arrays c.bucket_at-bucket.ensures.routed passes c.args.hash i same at within down (ap (λ k. position passes (list_of cur k)) at ∙ n.list)

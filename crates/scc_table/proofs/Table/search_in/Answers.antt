@@ -1,29 +1,21 @@
-use Rattle.std.proofs.Common.{◌≡◌, ◌<◌, Bool, false, None, sym, ap, ◌∙◌, subst, arith}
+use Rattle.std.proofs.Common.{◌≡◌, ◌<◌, Bool, None, sym, ap, ◌∙◌, subst, arith}
 use Rattle.std.specs.List.{position}
 use Rattle.scc_contents.specs.Contents.{Contents, bucket_count, entries, key_hash, list_of, settings_of}
 use Rattle.scc_contents.specs.Hashing.{hash_of}
 use Rattle.scc_contents.specs.Routing.{bucket_number}
 use Rattle.scc_buckets.proofs.FindingLemmas.{HashOf}
-use Rattle.scc_table.specs.TwoArrays.{waits_at}
 use Rattle.scc_table.proofs.CurrentChanges.{own-list}
-use Rattle.scc_table.proofs.SearchingLemmas.{missed-own, not_true}
-use Rattle.scc_table.proofs.Seen.{count-seen, settings-seen, waiting-seen}
+use Rattle.scc_table.proofs.SearchingLemmas.{missed-own}
+use Rattle.scc_table.proofs.Seen.{settings-seen}
+use Rattle.scc_table.proofs.OneBucket.{count-own, flag-free}
 use Rattle.scc_table.proofs.Table.search_in.Goals as goal
 
 pub search_in-requires-clause-within : goal.search_in-requires-clause-within
 search_in-requires-clause-within g c =
     let t = c.self.inside in
     let cur = t.current in
-    let ws = t.waiting.items in
-    let olds = t.draining in
-    let inv = c.self.invariant in
-    let hk = key_hash g.H.BuildHasher g.H.Hasher.Hasher g.E.Key.Hash.hash_input cur in
-    let key = g.E.Keyed.key_of in
-    let view = c.self.view_is in
-    let now = c.args.self.now in
     let i = c.args.bucket in
-    let hash = λ (e : g.row.E.Denot). hk (key e) in
-    let count = count-seen hash cur ws olds now view inv.arrays in
+    let count = count-own c.self.invariant c.self.view_is in
     let within : i < bucket_count cur = let q = c.requires.within in omega (arith, count) in
     within
 
@@ -31,16 +23,15 @@ pub search_in-requires-clause-routed : goal.search_in-requires-clause-routed
 search_in-requires-clause-routed g c =
     let t = c.self.inside in
     let cur = t.current in
-    let ws = t.waiting.items in
-    let olds = t.draining in
-    let inv = c.self.invariant in
+    let ws = t.draining.waiting.items in
+    let olds = t.draining.array in
     let hk = key_hash g.H.BuildHasher g.H.Hasher.Hasher g.E.Key.Hash.hash_input cur in
     let key = g.E.Keyed.key_of in
     let view = c.self.view_is in
     let now = c.args.self.now in
     let hash = λ (e : g.row.E.Denot). hk (key e) in
     let set = settings-seen hash cur ws olds now view in
-    let count = count-seen hash cur ws olds now view inv.arrays in
+    let count = count-own c.self.invariant c.self.view_is in
     let routed = c.requires.routed ∙ ap (λ s. bucket_number s.skipped (bucket_count now) c.args.hash) (sym set) ∙ ap (λ n. bucket_number (settings_of cur).skipped n c.args.hash) (sym count) in
     routed
 
@@ -48,8 +39,8 @@ pub search_in-requires-clause-hashed : goal.search_in-requires-clause-hashed
 search_in-requires-clause-hashed g c =
     let t = c.self.inside in
     let cur = t.current in
-    let ws = t.waiting.items in
-    let olds = t.draining in
+    let ws = t.draining.waiting.items in
+    let olds = t.draining.array in
     let hk = key_hash g.H.BuildHasher g.H.Hasher.Hasher g.E.Key.Hash.hash_input cur in
     let key = g.E.Keyed.key_of in
     let view = c.self.view_is in
@@ -63,16 +54,14 @@ pub returns-clause-place : goal.returns-clause-place
 returns-clause-place g c =
     let t = c.self.inside in
     let cur = t.current in
-    let ws = t.waiting.items in
-    let olds = t.draining in
+    let ws = t.draining.waiting.items in
+    let olds = t.draining.array in
     let hk = key_hash g.H.BuildHasher g.H.Hasher.Hasher g.E.Key.Hash.hash_input cur in
     let key = g.E.Keyed.key_of in
     let view = c.self.view_is in
-    let now = c.args.self.now in
     let i = c.args.bucket in
     let hash = λ (e : g.row.E.Denot). hk (key e) in
-    let flags = waiting-seen hash cur ws olds now view in
-    let down : waits_at ws i ≡ false = not_true (waits_at ws i) (λ up. c.requires.settled (ap (λ w. waits_at w i) flags ∙ up)) in
+    let down = flag-free c.self.invariant _ c.self.view_is c.requires.settled in
     let here = ap (λ z. list_of z i) (sym view) ∙ own-list hash cur ws olds i down in
     let passes : g.row.E.Denot → Bool = λ e. g.E.Key.PartialEq.eq c.args.key.now (key e) in
     c.search_in.ensures.place ∙ ap (position passes) (sym here)
@@ -81,8 +70,8 @@ pub returns-clause-missed : goal.returns-clause-missed
 returns-clause-missed g c =
     let t = c.self.inside in
     let cur = t.current in
-    let ws = t.waiting.items in
-    let olds = t.draining in
+    let ws = t.draining.waiting.items in
+    let olds = t.draining.array in
     let inv = c.self.invariant in
     let hk = key_hash g.H.BuildHasher g.H.Hasher.Hasher g.E.Key.Hash.hash_input cur in
     let key = g.E.Keyed.key_of in
@@ -90,10 +79,9 @@ returns-clause-missed g c =
     let now = c.args.self.now in
     let i = c.args.bucket in
     let hash = λ (e : g.row.E.Denot). hk (key e) in
-    let flags = waiting-seen hash cur ws olds now view in
-    let down : waits_at ws i ≡ false = not_true (waits_at ws i) (λ up. c.requires.settled (ap (λ w. waits_at w i) flags ∙ up)) in
+    let down = flag-free c.self.invariant _ c.self.view_is c.requires.settled in
     let set = settings-seen hash cur ws olds now view in
-    let count = count-seen hash cur ws olds now view inv.arrays in
+    let count = count-own c.self.invariant c.self.view_is in
     let within : i < bucket_count cur = let q = c.requires.within in omega (arith, count) in
     let routed = c.requires.routed ∙ ap (λ s. bucket_number s.skipped (bucket_count now) c.args.hash) (sym set) ∙ ap (λ n. bucket_number (settings_of cur).skipped n c.args.hash) (sym count) in
     let passes : g.row.E.Denot → Bool = λ e. g.E.Key.PartialEq.eq c.args.key.now (key e) in

@@ -21,5 +21,5 @@ returns g c =
     let b = f.within.bucket in
     let there = c.bucket_at.ensures.within (omega arith) in
     let l : i < bucket_count now = omega arith in
-    listed-found now hash c.keep_lists.ensures.routed passes c.args.hash i same refl (spot_of now q) f l)
+    listed-found now hash c.bucket_at.ensures.routed passes c.args.hash i same refl (spot_of now q) f l)
     c.search.ensures.place

@@ -1,8 +1,9 @@
+use Rattle.scc_contents.specs.Hashing.{hash_of}
 use Rattle.std.proofs.Common.{◌≡◌, ◌∙◌, ℕ, ◌-◌, Bool, List, length, get_or, map, set, replicate, true, false, sym, ap, subst, arith, rules}
 use Rattle.std.proofs.lemmas.List.{get_or-replicate, length-replicate}
 use Rattle.std.specs.List.Sorted.{IsPermutation}
 use Rattle.scc_array.specs.Shelf.{empty_shelf, shelf_entries}
-use Rattle.scc_contents.specs.Contents.{entries, owed_of, key_hash, lists_of, refused_of, settings_of, waiting_of}
+use Rattle.scc_contents.specs.Contents.{Settings, entries, owed_of, key_hash, lists_of, refused_of, settings_of, waiting_of}
 use Rattle.scc_buckets.specs.Pour.{IsRegrouped}
 use Rattle.scc_buckets.specs.Tables.{IsBuckets}
 use Rattle.scc_buckets.proofs.Fresh.{empty-replicate}
@@ -11,12 +12,12 @@ use Rattle.scc_table.specs.TwoArrays.{together, IsTable}
 use Rattle.scc_buckets.proofs.Bare.{all-bare}
 use Rattle.scc_table.proofs.Alone.{nothing-owed}
 use Rattle.scc_draining.proofs.Arriving.{same-contents, IsDistinct-nil}
-use Rattle.scc_table.proofs.Begun.{begun, begun-bare, begun-count, begun-unique, begun-up, taken-fields, taken-less, taken-lists, taken-same}
+use Rattle.scc_table.proofs.Begun.{exchanged, begun, begun-bare, begun-count, begun-unique, begun-up, taken-fields, taken-less, taken-lists, taken-same}
 use Rattle.scc_table.proofs.Grown.{settle-all}
 use Rattle.scc_table.proofs.Joining.{refused-together, waiting-together}
-use Rattle.scc_table.proofs.Preparing.{multiple-flags, sized-flags, unique-before}
 use Rattle.scc_table.proofs.Same.{hash-same}
 use Rattle.scc_table.proofs.Viewed.{refused-seen, settings-seen, settled-flags}
+use Rattle.scc_table.proofs.OneBucket.{old-multiples, old-sized, unique-coming}
 use Rattle.scc_table.proofs.Table.start_at.Goals as goal
 
 pub exchange-old-requires-clause-unique : goal.exchange-old-requires-clause-unique
@@ -26,306 +27,126 @@ exchange-old-requires-clause-unique g c =
 
 pub take-requires-clause-target : goal.take-requires-clause-target
 take-requires-clause-target g c =
-    let t = c.self.inside in
-    let cur = t.current in
-    let a = c.args.self.now in
-    let n = c.args.count in
-    let k = c.args.bucket in
-    let d = c.exchange-old.new.self in
-    let olds = c.exchange-old.result.0 in
-    let over = c.exchange-old.result.2 in
-    let x = c.exchange-old.ensures in
     let r = c.requires in
-    let key = g.E.Keyed.key_of in
-    let hk = key_hash g.H.BuildHasher g.H.Hasher.Hasher g.E.Key.Hash.hash_input d in
-    let same : hk ≡ key_hash g.H.BuildHasher g.H.Hasher.Hasher g.E.Key.Hash.hash_input cur = hash-same g.H.BuildHasher g.H.Hasher.Hasher g.E.Key.Hash.hash_input cur d x.settings in
-    let inv : IsTable g.E.Key.PartialEq.eq key hk cur t.waiting.items t.draining t.skipped t.pending t.next t.left t.left_overflow = subst (λ (h : g.row.E-Key.Denot → ℕ). IsTable g.E.Key.PartialEq.eq key h cur t.waiting.items t.draining t.skipped t.pending t.next t.left t.left_overflow) (sym same) c.self.invariant in
-    let view : together (λ e. hk (key e)) cur t.waiting.items t.draining ≡ a = subst (λ (h : g.row.E-Key.Denot → ℕ). together (λ e. h (key e)) cur t.waiting.items t.draining ≡ a) (sym same) c.self.view_is in
-    let table : IsBuckets (λ e. hk (key e)) (settings_of cur).skipped olds c.exchange-old.result.1 over = subst (λ (h : g.row.E-Key.Denot → ℕ). IsBuckets (λ e. h (key e)) (settings_of cur).skipped olds c.exchange-old.result.1 over) (sym same) x.table in
-    let m = begun-count g.E.Key.PartialEq.eq g.met.E.Key.Eq.laws key hk cur d t.waiting.items t.draining t.skipped t.pending t.next t.left t.left_overflow inv a view r.settled n c.args.fresh olds c.exchange-old.result.1 over c.requires.empty r.array r.some r.other x.lists x.settings x.spilled x.were table in
-    omega (arith, r.within)
+    let e = c.exchange-old.ensures in
+    let x = exchanged g.met.E.Key.Eq.laws (λ (s : Settings g.row.H.Denot) (k : g.row.E-Key.Denot). hash_of g.H.BuildHasher g.H.Hasher.Hasher s.hasher (g.E.Key.Hash.hash_input k)) c.self.invariant c.self.view_is r.settled r.empty r.array r.some r.other e.lists e.settings e.spilled e.were e.table in
+    let m = begun-count x in
+    omega (arith, r.within, m)
 
 pub take-requires-clause-bare : goal.take-requires-clause-bare
 take-requires-clause-bare g c =
-    let t = c.self.inside in
-    let cur = t.current in
-    let a = c.args.self.now in
-    let n = c.args.count in
-    let k = c.args.bucket in
-    let d = c.exchange-old.new.self in
-    let olds = c.exchange-old.result.0 in
-    let over = c.exchange-old.result.2 in
-    let x = c.exchange-old.ensures in
     let r = c.requires in
-    let key = g.E.Keyed.key_of in
-    let hk = key_hash g.H.BuildHasher g.H.Hasher.Hasher g.E.Key.Hash.hash_input d in
-    let same : hk ≡ key_hash g.H.BuildHasher g.H.Hasher.Hasher g.E.Key.Hash.hash_input cur = hash-same g.H.BuildHasher g.H.Hasher.Hasher g.E.Key.Hash.hash_input cur d x.settings in
-    let inv : IsTable g.E.Key.PartialEq.eq key hk cur t.waiting.items t.draining t.skipped t.pending t.next t.left t.left_overflow = subst (λ (h : g.row.E-Key.Denot → ℕ). IsTable g.E.Key.PartialEq.eq key h cur t.waiting.items t.draining t.skipped t.pending t.next t.left t.left_overflow) (sym same) c.self.invariant in
-    let view : together (λ e. hk (key e)) cur t.waiting.items t.draining ≡ a = subst (λ (h : g.row.E-Key.Denot → ℕ). together (λ e. h (key e)) cur t.waiting.items t.draining ≡ a) (sym same) c.self.view_is in
-    let table : IsBuckets (λ e. hk (key e)) (settings_of cur).skipped olds c.exchange-old.result.1 over = subst (λ (h : g.row.E-Key.Denot → ℕ). IsBuckets (λ e. h (key e)) (settings_of cur).skipped olds c.exchange-old.result.1 over) (sym same) x.table in
-    let s = begun g.E.Key.PartialEq.eq g.met.E.Key.Eq.laws key hk cur d t.waiting.items t.draining t.skipped t.pending t.next t.left t.left_overflow inv a view r.settled n c.args.fresh olds c.exchange-old.result.1 over c.requires.empty r.array r.some r.other x.lists x.settings x.spilled x.were table in
-    let up = begun-up g.E.Key.PartialEq.eq g.met.E.Key.Eq.laws key hk cur d t.waiting.items t.draining t.skipped t.pending t.next t.left t.left_overflow inv a view r.settled n c.args.fresh olds c.exchange-old.result.1 over c.requires.empty r.array r.some r.other x.lists x.settings x.spilled x.were table k r.within in
-    s.arrays.bare k up
+    let e = c.exchange-old.ensures in
+    let x = exchanged g.met.E.Key.Eq.laws (λ (s : Settings g.row.H.Denot) (k : g.row.E-Key.Denot). hash_of g.H.BuildHasher g.H.Hasher.Hasher s.hasher (g.E.Key.Hash.hash_input k)) c.self.invariant c.self.view_is r.settled r.empty r.array r.some r.other e.lists e.settings e.spilled e.were e.table in
+    (begun x).arrays.bare c.args.bucket (begun-up x r.within)
 
 pub take-requires-clause-sized : goal.take-requires-clause-sized
 take-requires-clause-sized g c =
-    let t = c.self.inside in
-    let cur = t.current in
-    let a = c.args.self.now in
-    let n = c.args.count in
-    let k = c.args.bucket in
-    let d = c.exchange-old.new.self in
-    let olds = c.exchange-old.result.0 in
-    let over = c.exchange-old.result.2 in
-    let x = c.exchange-old.ensures in
     let r = c.requires in
-    let key = g.E.Keyed.key_of in
-    let hk = key_hash g.H.BuildHasher g.H.Hasher.Hasher g.E.Key.Hash.hash_input d in
-    let same : hk ≡ key_hash g.H.BuildHasher g.H.Hasher.Hasher g.E.Key.Hash.hash_input cur = hash-same g.H.BuildHasher g.H.Hasher.Hasher g.E.Key.Hash.hash_input cur d x.settings in
-    let inv : IsTable g.E.Key.PartialEq.eq key hk cur t.waiting.items t.draining t.skipped t.pending t.next t.left t.left_overflow = subst (λ (h : g.row.E-Key.Denot → ℕ). IsTable g.E.Key.PartialEq.eq key h cur t.waiting.items t.draining t.skipped t.pending t.next t.left t.left_overflow) (sym same) c.self.invariant in
-    let view : together (λ e. hk (key e)) cur t.waiting.items t.draining ≡ a = subst (λ (h : g.row.E-Key.Denot → ℕ). together (λ e. h (key e)) cur t.waiting.items t.draining ≡ a) (sym same) c.self.view_is in
-    let table : IsBuckets (λ e. hk (key e)) (settings_of cur).skipped olds c.exchange-old.result.1 over = subst (λ (h : g.row.E-Key.Denot → ℕ). IsBuckets (λ e. h (key e)) (settings_of cur).skipped olds c.exchange-old.result.1 over) (sym same) x.table in
-    let s = begun g.E.Key.PartialEq.eq g.met.E.Key.Eq.laws key hk cur d t.waiting.items t.draining t.skipped t.pending t.next t.left t.left_overflow inv a view r.settled n c.args.fresh olds c.exchange-old.result.1 over c.requires.empty r.array r.some r.other x.lists x.settings x.spilled x.were table in
-    let up = begun-up g.E.Key.PartialEq.eq g.met.E.Key.Eq.laws key hk cur d t.waiting.items t.draining t.skipped t.pending t.next t.left t.left_overflow inv a view r.settled n c.args.fresh olds c.exchange-old.result.1 over c.requires.empty r.array r.some r.other x.lists x.settings x.spilled x.were table k r.within in
-    sized-flags d (replicate n true) olds k s.arrays.sized up
+    let e = c.exchange-old.ensures in
+    let x = exchanged g.met.E.Key.Eq.laws (λ (s : Settings g.row.H.Denot) (k : g.row.E-Key.Denot). hash_of g.H.BuildHasher g.H.Hasher.Hasher s.hasher (g.E.Key.Hash.hash_input k)) c.self.invariant c.self.view_is r.settled r.empty r.array r.some r.other e.lists e.settings e.spilled e.were e.table in
+    old-sized (begun x) _ (begun-up x r.within)
 
 pub take-requires-clause-multiples : goal.take-requires-clause-multiples
 take-requires-clause-multiples g c =
-    let t = c.self.inside in
-    let cur = t.current in
-    let a = c.args.self.now in
-    let n = c.args.count in
-    let k = c.args.bucket in
-    let d = c.exchange-old.new.self in
-    let olds = c.exchange-old.result.0 in
-    let over = c.exchange-old.result.2 in
-    let x = c.exchange-old.ensures in
     let r = c.requires in
-    let key = g.E.Keyed.key_of in
-    let hk = key_hash g.H.BuildHasher g.H.Hasher.Hasher g.E.Key.Hash.hash_input d in
-    let same : hk ≡ key_hash g.H.BuildHasher g.H.Hasher.Hasher g.E.Key.Hash.hash_input cur = hash-same g.H.BuildHasher g.H.Hasher.Hasher g.E.Key.Hash.hash_input cur d x.settings in
-    let inv : IsTable g.E.Key.PartialEq.eq key hk cur t.waiting.items t.draining t.skipped t.pending t.next t.left t.left_overflow = subst (λ (h : g.row.E-Key.Denot → ℕ). IsTable g.E.Key.PartialEq.eq key h cur t.waiting.items t.draining t.skipped t.pending t.next t.left t.left_overflow) (sym same) c.self.invariant in
-    let view : together (λ e. hk (key e)) cur t.waiting.items t.draining ≡ a = subst (λ (h : g.row.E-Key.Denot → ℕ). together (λ e. h (key e)) cur t.waiting.items t.draining ≡ a) (sym same) c.self.view_is in
-    let table : IsBuckets (λ e. hk (key e)) (settings_of cur).skipped olds c.exchange-old.result.1 over = subst (λ (h : g.row.E-Key.Denot → ℕ). IsBuckets (λ e. h (key e)) (settings_of cur).skipped olds c.exchange-old.result.1 over) (sym same) x.table in
-    let s = begun g.E.Key.PartialEq.eq g.met.E.Key.Eq.laws key hk cur d t.waiting.items t.draining t.skipped t.pending t.next t.left t.left_overflow inv a view r.settled n c.args.fresh olds c.exchange-old.result.1 over c.requires.empty r.array r.some r.other x.lists x.settings x.spilled x.were table in
-    let up = begun-up g.E.Key.PartialEq.eq g.met.E.Key.Eq.laws key hk cur d t.waiting.items t.draining t.skipped t.pending t.next t.left t.left_overflow inv a view r.settled n c.args.fresh olds c.exchange-old.result.1 over c.requires.empty r.array r.some r.other x.lists x.settings x.spilled x.were table k r.within in
-    multiple-flags d (replicate n true) olds k s.arrays.multiples up
+    let e = c.exchange-old.ensures in
+    let x = exchanged g.met.E.Key.Eq.laws (λ (s : Settings g.row.H.Denot) (k : g.row.E-Key.Denot). hash_of g.H.BuildHasher g.H.Hasher.Hasher s.hasher (g.E.Key.Hash.hash_input k)) c.self.invariant c.self.view_is r.settled r.empty r.array r.some r.other e.lists e.settings e.spilled e.were e.table in
+    old-multiples (begun x) _ (begun-up x r.within)
 
 pub take-requires-clause-own : goal.take-requires-clause-own
 take-requires-clause-own g c =
-    let t = c.self.inside in
-    let cur = t.current in
-    let a = c.args.self.now in
-    let n = c.args.count in
-    let k = c.args.bucket in
-    let d = c.exchange-old.new.self in
-    let olds = c.exchange-old.result.0 in
-    let over = c.exchange-old.result.2 in
-    let x = c.exchange-old.ensures in
     let r = c.requires in
-    let key = g.E.Keyed.key_of in
-    let hk = key_hash g.H.BuildHasher g.H.Hasher.Hasher g.E.Key.Hash.hash_input d in
-    let same : hk ≡ key_hash g.H.BuildHasher g.H.Hasher.Hasher g.E.Key.Hash.hash_input cur = hash-same g.H.BuildHasher g.H.Hasher.Hasher g.E.Key.Hash.hash_input cur d x.settings in
-    let inv : IsTable g.E.Key.PartialEq.eq key hk cur t.waiting.items t.draining t.skipped t.pending t.next t.left t.left_overflow = subst (λ (h : g.row.E-Key.Denot → ℕ). IsTable g.E.Key.PartialEq.eq key h cur t.waiting.items t.draining t.skipped t.pending t.next t.left t.left_overflow) (sym same) c.self.invariant in
-    let view : together (λ e. hk (key e)) cur t.waiting.items t.draining ≡ a = subst (λ (h : g.row.E-Key.Denot → ℕ). together (λ e. h (key e)) cur t.waiting.items t.draining ≡ a) (sym same) c.self.view_is in
-    let table : IsBuckets (λ e. hk (key e)) (settings_of cur).skipped olds c.exchange-old.result.1 over = subst (λ (h : g.row.E-Key.Denot → ℕ). IsBuckets (λ e. h (key e)) (settings_of cur).skipped olds c.exchange-old.result.1 over) (sym same) x.table in
-    let s = begun g.E.Key.PartialEq.eq g.met.E.Key.Eq.laws key hk cur d t.waiting.items t.draining t.skipped t.pending t.next t.left t.left_overflow inv a view r.settled n c.args.fresh olds c.exchange-old.result.1 over c.requires.empty r.array r.some r.other x.lists x.settings x.spilled x.were table in
+    let e = c.exchange-old.ensures in
+    let x = exchanged g.met.E.Key.Eq.laws (λ (s : Settings g.row.H.Denot) (k : g.row.E-Key.Denot). hash_of g.H.BuildHasher g.H.Hasher.Hasher s.hasher (g.E.Key.Hash.hash_input k)) c.self.invariant c.self.view_is r.settled r.empty r.array r.some r.other e.lists e.settings e.spilled e.were e.table in
+    let s = begun x in
     rw s.skips s.arrays.own
 
 pub take-requires-clause-unique : goal.take-requires-clause-unique
 take-requires-clause-unique g c =
-    let t = c.self.inside in
-    let cur = t.current in
-    let a = c.args.self.now in
-    let n = c.args.count in
-    let k = c.args.bucket in
-    let d = c.exchange-old.new.self in
-    let olds = c.exchange-old.result.0 in
-    let over = c.exchange-old.result.2 in
-    let x = c.exchange-old.ensures in
     let r = c.requires in
-    let key = g.E.Keyed.key_of in
-    let hk = key_hash g.H.BuildHasher g.H.Hasher.Hasher g.E.Key.Hash.hash_input d in
-    let same : hk ≡ key_hash g.H.BuildHasher g.H.Hasher.Hasher g.E.Key.Hash.hash_input cur = hash-same g.H.BuildHasher g.H.Hasher.Hasher g.E.Key.Hash.hash_input cur d x.settings in
-    let inv : IsTable g.E.Key.PartialEq.eq key hk cur t.waiting.items t.draining t.skipped t.pending t.next t.left t.left_overflow = subst (λ (h : g.row.E-Key.Denot → ℕ). IsTable g.E.Key.PartialEq.eq key h cur t.waiting.items t.draining t.skipped t.pending t.next t.left t.left_overflow) (sym same) c.self.invariant in
-    let view : together (λ e. hk (key e)) cur t.waiting.items t.draining ≡ a = subst (λ (h : g.row.E-Key.Denot → ℕ). together (λ e. h (key e)) cur t.waiting.items t.draining ≡ a) (sym same) c.self.view_is in
-    let table : IsBuckets (λ e. hk (key e)) (settings_of cur).skipped olds c.exchange-old.result.1 over = subst (λ (h : g.row.E-Key.Denot → ℕ). IsBuckets (λ e. h (key e)) (settings_of cur).skipped olds c.exchange-old.result.1 over) (sym same) x.table in
-    let s = begun g.E.Key.PartialEq.eq g.met.E.Key.Eq.laws key hk cur d t.waiting.items t.draining t.skipped t.pending t.next t.left t.left_overflow inv a view r.settled n c.args.fresh olds c.exchange-old.result.1 over c.requires.empty r.array r.some r.other x.lists x.settings x.spilled x.were table in
-    let up = begun-up g.E.Key.PartialEq.eq g.met.E.Key.Eq.laws key hk cur d t.waiting.items t.draining t.skipped t.pending t.next t.left t.left_overflow inv a view r.settled n c.args.fresh olds c.exchange-old.result.1 over c.requires.empty r.array r.some r.other x.lists x.settings x.spilled x.were table k r.within in
-    let m = begun-count g.E.Key.PartialEq.eq g.met.E.Key.Eq.laws key hk cur d t.waiting.items t.draining t.skipped t.pending t.next t.left t.left_overflow inv a view r.settled n c.args.fresh olds c.exchange-old.result.1 over c.requires.empty r.array r.some r.other x.lists x.settings x.spilled x.were table in
-    rw s.skips (unique-before (λ e. hk (key e)) d (replicate n true) olds s.arrays k up (length-replicate n true ∙ sym m) g.E.Key.PartialEq.eq key s.unique)
+    let e = c.exchange-old.ensures in
+    let x = exchanged g.met.E.Key.Eq.laws (λ (s : Settings g.row.H.Denot) (k : g.row.E-Key.Denot). hash_of g.H.BuildHasher g.H.Hasher.Hasher s.hasher (g.E.Key.Hash.hash_input k)) c.self.invariant c.self.view_is r.settled r.empty r.array r.some r.other e.lists e.settings e.spilled e.were e.table in
+    unique-coming (begun x) _ (begun-up x r.within)
 
 pub destroy_empty-requires : goal.destroy_empty-requires
 destroy_empty-requires g c =
     let t = c.self.inside in
     let a = c.args.self.now in
     let none = settled-flags a c.self.invariant c.self.view_is c.requires.settled in
-    let bare = nothing-owed _ t.current t.waiting.items t.draining none c.self.invariant.arrays in
-    λ i l. rw c.replace-bare.ensures.value (all-bare t.draining bare i)
+    let bare = nothing-owed _ t.current t.draining.waiting.items t.draining.array none c.self.invariant.arrays in
+    λ i l. rw c.replace-bare.ensures.value (all-bare t.draining.array bare i)
 
 pub overflow_sub-self-in-Ok : goal.overflow_sub-self-in-Ok
 overflow_sub-self-in-Ok g c =
-    let t = c.self.inside in
-    let cur = t.current in
-    let a = c.args.self.now in
-    let n = c.args.count in
-    let k = c.args.bucket in
-    let d = c.exchange-old.new.self in
-    let olds = c.exchange-old.result.0 in
-    let over = c.exchange-old.result.2 in
-    let x = c.exchange-old.ensures in
     let r = c.requires in
-    let key = g.E.Keyed.key_of in
-    let hk = key_hash g.H.BuildHasher g.H.Hasher.Hasher g.E.Key.Hash.hash_input d in
-    let same : hk ≡ key_hash g.H.BuildHasher g.H.Hasher.Hasher g.E.Key.Hash.hash_input cur = hash-same g.H.BuildHasher g.H.Hasher.Hasher g.E.Key.Hash.hash_input cur d x.settings in
-    let inv : IsTable g.E.Key.PartialEq.eq key hk cur t.waiting.items t.draining t.skipped t.pending t.next t.left t.left_overflow = subst (λ (h : g.row.E-Key.Denot → ℕ). IsTable g.E.Key.PartialEq.eq key h cur t.waiting.items t.draining t.skipped t.pending t.next t.left t.left_overflow) (sym same) c.self.invariant in
-    let view : together (λ e. hk (key e)) cur t.waiting.items t.draining ≡ a = subst (λ (h : g.row.E-Key.Denot → ℕ). together (λ e. h (key e)) cur t.waiting.items t.draining ≡ a) (sym same) c.self.view_is in
-    let table : IsBuckets (λ e. hk (key e)) (settings_of cur).skipped olds c.exchange-old.result.1 over = subst (λ (h : g.row.E-Key.Denot → ℕ). IsBuckets (λ e. h (key e)) (settings_of cur).skipped olds c.exchange-old.result.1 over) (sym same) x.table in
-    let e = c.take.new.current in
-    let news = c.take.new.old in
-    let takes = c.in-Ok.ensures.ok in
-    let vs = set c.args.flags.items k false in
-    let down : vs ≡ set (replicate n true) k false = ap (λ w. set w k false) c.requires.flags in
-    let later : key_hash g.H.BuildHasher g.H.Hasher.Hasher g.E.Key.Hash.hash_input e ≡ hk = hash-same g.H.BuildHasher g.H.Hasher.Hasher g.E.Key.Hash.hash_input d e takes.settings in
-    taken-less g.E.Key.PartialEq.eq g.met.E.Key.Eq.laws key hk cur d t.waiting.items t.draining t.skipped t.pending t.next t.left t.left_overflow inv a view r.settled n c.args.fresh olds c.exchange-old.result.1 over c.requires.empty r.array r.some r.other x.lists x.settings x.spilled x.were table k r.within c.in-Ok.moved e vs news takes down
+    let e = c.exchange-old.ensures in
+    let x = exchanged g.met.E.Key.Eq.laws (λ (s : Settings g.row.H.Denot) (k : g.row.E-Key.Denot). hash_of g.H.BuildHasher g.H.Hasher.Hasher s.hasher (g.E.Key.Hash.hash_input k)) c.self.invariant c.self.view_is r.settled r.empty r.array r.some r.other e.lists e.settings e.spilled e.were e.table in
+    let down : set c.args.flags.items c.args.bucket false ≡ set (replicate c.args.count true) c.args.bucket false = ap (λ w. set w c.args.bucket false) r.flags in
+    taken-less x r.within c.in-Ok.ensures.ok down
 
 pub invariant_of-self : goal.invariant_of-self
 invariant_of-self g c =
-    let t = c.self.inside in
-    let cur = t.current in
-    let a = c.args.self.now in
-    let n = c.args.count in
-    let k = c.args.bucket in
-    let d = c.exchange-old.new.self in
-    let olds = c.exchange-old.result.0 in
-    let over = c.exchange-old.result.2 in
-    let x = c.exchange-old.ensures in
     let r = c.requires in
-    let key = g.E.Keyed.key_of in
-    let hk = key_hash g.H.BuildHasher g.H.Hasher.Hasher g.E.Key.Hash.hash_input d in
-    let same : hk ≡ key_hash g.H.BuildHasher g.H.Hasher.Hasher g.E.Key.Hash.hash_input cur = hash-same g.H.BuildHasher g.H.Hasher.Hasher g.E.Key.Hash.hash_input cur d x.settings in
-    let inv : IsTable g.E.Key.PartialEq.eq key hk cur t.waiting.items t.draining t.skipped t.pending t.next t.left t.left_overflow = subst (λ (h : g.row.E-Key.Denot → ℕ). IsTable g.E.Key.PartialEq.eq key h cur t.waiting.items t.draining t.skipped t.pending t.next t.left t.left_overflow) (sym same) c.self.invariant in
-    let view : together (λ e. hk (key e)) cur t.waiting.items t.draining ≡ a = subst (λ (h : g.row.E-Key.Denot → ℕ). together (λ e. h (key e)) cur t.waiting.items t.draining ≡ a) (sym same) c.self.view_is in
-    let table : IsBuckets (λ e. hk (key e)) (settings_of cur).skipped olds c.exchange-old.result.1 over = subst (λ (h : g.row.E-Key.Denot → ℕ). IsBuckets (λ e. h (key e)) (settings_of cur).skipped olds c.exchange-old.result.1 over) (sym same) x.table in
-    let e = c.take.new.current in
-    let news = c.take.new.old in
+    let e = c.exchange-old.ensures in
+    let x = exchanged g.met.E.Key.Eq.laws (λ (s : Settings g.row.H.Denot) (k : g.row.E-Key.Denot). hash_of g.H.BuildHasher g.H.Hasher.Hasher s.hasher (g.E.Key.Hash.hash_input k)) c.self.invariant c.self.view_is r.settled r.empty r.array r.some r.other e.lists e.settings e.spilled e.were e.table in
     let takes = c.in-Ok.ensures.ok in
-    let vs = set c.args.flags.items k false in
-    let down : vs ≡ set (replicate n true) k false = ap (λ w. set w k false) c.requires.flags in
-    let later : key_hash g.H.BuildHasher g.H.Hasher.Hasher g.E.Key.Hash.hash_input e ≡ hk = hash-same g.H.BuildHasher g.H.Hasher.Hasher g.E.Key.Hash.hash_input d e takes.settings in
-    rw c.replace-bare.ensures.after (subst (λ (h : g.row.E-Key.Denot → ℕ). IsTable g.E.Key.PartialEq.eq key h e vs news t.skipped (n - 1) 0 (c.exchange-old.result.1 - c.in-Ok.moved) over) (sym later) (taken-fields g.E.Key.PartialEq.eq g.met.E.Key.Eq.laws key hk cur d t.waiting.items t.draining t.skipped t.pending t.next t.left t.left_overflow inv a view r.settled n c.args.fresh olds c.exchange-old.result.1 over c.requires.empty r.array r.some r.other x.lists x.settings x.spilled x.were table k r.within c.in-Ok.moved e vs news takes down c.in-Ok.ensures.few))
+    let later = hash-same g.H.BuildHasher g.H.Hasher.Hasher g.E.Key.Hash.hash_input c.exchange-old.new.self c.take.new.current takes.settings in
+    let down : set c.args.flags.items c.args.bucket false ≡ set (replicate c.args.count true) c.args.bucket false = ap (λ w. set w c.args.bucket false) r.flags in
+    rw c.replace-bare.ensures.after (subst (λ (h : g.row.E-Key.Denot → ℕ). IsTable g.E.Key.PartialEq.eq g.E.Keyed.key_of h c.take.new.current (record { array = c.take.new.old; waiting = set c.args.flags.items c.args.bucket false; pending = c.args.count - 1; next = 0; left = c.exchange-old.result.1 - c.in-Ok.moved; left_overflow = c.exchange-old.result.2 }) c.self.inside.skipped) (sym later) (taken-fields x r.within takes down c.in-Ok.ensures.few))
 
 pub returns-in-Ok : goal.returns-in-Ok
 returns-in-Ok g c =
-    let t = c.self.inside in
-    let cur = t.current in
+    let r = c.requires in
+    let e = c.exchange-old.ensures in
+    let x = exchanged g.met.E.Key.Eq.laws (λ (s : Settings g.row.H.Denot) (k : g.row.E-Key.Denot). hash_of g.H.BuildHasher g.H.Hasher.Hasher s.hasher (g.E.Key.Hash.hash_input k)) c.self.invariant c.self.view_is r.settled r.empty r.array r.some r.other e.lists e.settings e.spilled e.were e.table in
+    let takes = c.in-Ok.ensures.ok in
+    let later = hash-same g.H.BuildHasher g.H.Hasher.Hasher g.E.Key.Hash.hash_input c.exchange-old.new.self c.take.new.current takes.settings in
+    let down : set c.args.flags.items c.args.bucket false ≡ set (replicate c.args.count true) c.args.bucket false = ap (λ w. set w c.args.bucket false) r.flags in
     let a = c.args.self.now in
     let n = c.args.count in
-    let k = c.args.bucket in
-    let d = c.exchange-old.new.self in
-    let olds = c.exchange-old.result.0 in
-    let over = c.exchange-old.result.2 in
-    let x = c.exchange-old.ensures in
-    let r = c.requires in
     let key = g.E.Keyed.key_of in
-    let hk = key_hash g.H.BuildHasher g.H.Hasher.Hasher g.E.Key.Hash.hash_input d in
-    let same : hk ≡ key_hash g.H.BuildHasher g.H.Hasher.Hasher g.E.Key.Hash.hash_input cur = hash-same g.H.BuildHasher g.H.Hasher.Hasher g.E.Key.Hash.hash_input cur d x.settings in
-    let inv : IsTable g.E.Key.PartialEq.eq key hk cur t.waiting.items t.draining t.skipped t.pending t.next t.left t.left_overflow = subst (λ (h : g.row.E-Key.Denot → ℕ). IsTable g.E.Key.PartialEq.eq key h cur t.waiting.items t.draining t.skipped t.pending t.next t.left t.left_overflow) (sym same) c.self.invariant in
-    let e = c.take.new.current in
+    let d = c.take.new.current in
     let news = c.take.new.old in
-    let takes = c.in-Ok.ensures.ok in
-    let vs = set c.args.flags.items k false in
-    let down : vs ≡ set (replicate n true) k false = ap (λ w. set w k false) c.requires.flags in
-    let later : key_hash g.H.BuildHasher g.H.Hasher.Hasher g.E.Key.Hash.hash_input e ≡ hk = hash-same g.H.BuildHasher g.H.Hasher.Hasher g.E.Key.Hash.hash_input d e takes.settings in
-    let view : together (λ e. hk (key e)) cur t.waiting.items t.draining ≡ a = subst (λ (h : g.row.E-Key.Denot → ℕ). together (λ e. h (key e)) cur t.waiting.items t.draining ≡ a) (sym same) c.self.view_is in
-    let table : IsBuckets (λ e. hk (key e)) (settings_of cur).skipped olds c.exchange-old.result.1 over = subst (λ (h : g.row.E-Key.Denot → ℕ). IsBuckets (λ e. h (key e)) (settings_of cur).skipped olds c.exchange-old.result.1 over) (sym same) x.table in
+    let vs = set c.args.flags.items c.args.bucket false in
     record {
       lists = (
-          let outer : key_hash g.H.BuildHasher g.H.Hasher.Hasher g.E.Key.Hash.hash_input a ≡ hk = hash-same g.H.BuildHasher g.H.Hasher.Hasher g.E.Key.Hash.hash_input d a (settings-seen _ cur t.waiting.items t.draining a view ∙ sym x.settings) in
-          let there = subst (λ (h : g.row.E-Key.Denot → ℕ). IsRegrouped (λ z. hk (key z)) n a (together (λ z. h (key z)) e vs news)) (sym later) (taken-lists g.E.Key.PartialEq.eq g.met.E.Key.Eq.laws key hk cur d t.waiting.items t.draining t.skipped t.pending t.next t.left t.left_overflow inv a view r.settled n c.args.fresh olds c.exchange-old.result.1 over c.requires.empty r.array r.some r.other x.lists x.settings x.spilled x.were table k r.within c.in-Ok.moved e vs news takes down) in
-          rw c.replace-bare.ensures.after (subst (λ (h : g.row.E-Key.Denot → ℕ). IsRegrouped (λ z. h (key z)) n a (together (λ z. key_hash g.H.BuildHasher g.H.Hasher.Hasher g.E.Key.Hash.hash_input e (key z)) e vs news)) (sym outer) there));
-      same = (rw c.replace-bare.ensures.after (subst (λ (h : g.row.E-Key.Denot → ℕ). IsPermutation (entries a) (entries (together (λ z. h (key z)) e vs news))) (sym later) (taken-same g.E.Key.PartialEq.eq g.met.E.Key.Eq.laws key hk cur d t.waiting.items t.draining t.skipped t.pending t.next t.left t.left_overflow inv a view r.settled n c.args.fresh olds c.exchange-old.result.1 over c.requires.empty r.array r.some r.other x.lists x.settings x.spilled x.were table k r.within c.in-Ok.moved e vs news takes down)));
-      waiting = (waiting-together _ e vs c.replace-bare.new.dest ∙ ap (λ w. set w k false) c.requires.flags ∙ sym (settle-all n k r.array.least r.within));
-      noted = (refused-together _ e vs c.replace-bare.new.dest ∙ c.in-Ok.ensures.ok.refused ∙ x.noted ∙ sym (refused-seen _ cur t.waiting.items t.draining a c.self.view_is));
+          let outer = hash-same g.H.BuildHasher g.H.Hasher.Hasher g.E.Key.Hash.hash_input c.exchange-old.new.self a (settings-seen _ _ _ _ a c.self.view_is ∙ sym e.settings) in
+          let there = subst (λ (h : g.row.E-Key.Denot → ℕ). IsRegrouped (λ z. key_hash g.H.BuildHasher g.H.Hasher.Hasher g.E.Key.Hash.hash_input c.exchange-old.new.self (key z)) n a (together (λ z. h (key z)) d vs news)) (sym later) (taken-lists x r.within takes down) in
+          rw c.replace-bare.ensures.after (subst (λ (h : g.row.E-Key.Denot → ℕ). IsRegrouped (λ z. h (key z)) n a (together (λ z. key_hash g.H.BuildHasher g.H.Hasher.Hasher g.E.Key.Hash.hash_input d (key z)) d vs news)) (sym outer) there));
+      same = (rw c.replace-bare.ensures.after (subst (λ (h : g.row.E-Key.Denot → ℕ). IsPermutation (entries a) (entries (together (λ z. h (key z)) d vs news))) (sym later) (taken-same x r.within takes down)));
+      waiting = (waiting-together _ d vs c.replace-bare.new.dest ∙ ap (λ w. set w c.args.bucket false) r.flags ∙ sym (settle-all n c.args.bucket r.array.least r.within));
+      noted = (refused-together _ d vs c.replace-bare.new.dest ∙ takes.refused ∙ e.noted ∙ sym (refused-seen _ _ _ _ a c.self.view_is));
       err = (search rules);
-      unique = (
-          let there = subst (λ (h : g.row.E-Key.Denot → ℕ). IsTable g.E.Key.PartialEq.eq key h e vs news t.skipped (n - 1) 0 (c.exchange-old.result.1 - c.in-Ok.moved) over) (sym later) (taken-fields g.E.Key.PartialEq.eq g.met.E.Key.Eq.laws key hk cur d t.waiting.items t.draining t.skipped t.pending t.next t.left t.left_overflow inv a view r.settled n c.args.fresh olds c.exchange-old.result.1 over c.requires.empty r.array r.some r.other x.lists x.settings x.spilled x.were table k r.within c.in-Ok.moved e vs news takes down c.in-Ok.ensures.few) in
-          rw c.replace-bare.ensures.after there.unique);
+      unique = (rw c.replace-bare.ensures.after (subst (λ (h : g.row.E-Key.Denot → ℕ). IsTable g.E.Key.PartialEq.eq g.E.Keyed.key_of h c.take.new.current (record { array = c.take.new.old; waiting = set c.args.flags.items c.args.bucket false; pending = c.args.count - 1; next = 0; left = c.exchange-old.result.1 - c.in-Ok.moved; left_overflow = c.exchange-old.result.2 }) c.self.inside.skipped) (sym later) (taken-fields x r.within takes down c.in-Ok.ensures.few)).unique);
     }
 
 pub exchange-bare-requires-clause-table : goal.exchange-bare-requires-clause-table
 exchange-bare-requires-clause-table g c =
-    let t = c.self.inside in
-    let cur = t.current in
-    let a = c.args.self.now in
-    let n = c.args.count in
-    let k = c.args.bucket in
-    let d = c.exchange-old.new.self in
-    let olds = c.exchange-old.result.0 in
-    let over = c.exchange-old.result.2 in
-    let x = c.exchange-old.ensures in
     let r = c.requires in
-    let key = g.E.Keyed.key_of in
-    let hk = key_hash g.H.BuildHasher g.H.Hasher.Hasher g.E.Key.Hash.hash_input d in
-    let same : hk ≡ key_hash g.H.BuildHasher g.H.Hasher.Hasher g.E.Key.Hash.hash_input cur = hash-same g.H.BuildHasher g.H.Hasher.Hasher g.E.Key.Hash.hash_input cur d x.settings in
-    let inv : IsTable g.E.Key.PartialEq.eq key hk cur t.waiting.items t.draining t.skipped t.pending t.next t.left t.left_overflow = subst (λ (h : g.row.E-Key.Denot → ℕ). IsTable g.E.Key.PartialEq.eq key h cur t.waiting.items t.draining t.skipped t.pending t.next t.left t.left_overflow) (sym same) c.self.invariant in
-    let view : together (λ e. hk (key e)) cur t.waiting.items t.draining ≡ a = subst (λ (h : g.row.E-Key.Denot → ℕ). together (λ e. h (key e)) cur t.waiting.items t.draining ≡ a) (sym same) c.self.view_is in
-    let table : IsBuckets (λ e. hk (key e)) (settings_of cur).skipped olds c.exchange-old.result.1 over = subst (λ (h : g.row.E-Key.Denot → ℕ). IsBuckets (λ e. h (key e)) (settings_of cur).skipped olds c.exchange-old.result.1 over) (sym same) x.table in
-    rw (c.in-Err.ensures.err, c.in-Err.ensures.stays) (subst (λ s. IsBuckets (λ e. hk (key e)) s.skipped olds c.exchange-old.result.1 over) (sym x.settings) table)
+    let e = c.exchange-old.ensures in
+    let x = exchanged g.met.E.Key.Eq.laws (λ (s : Settings g.row.H.Denot) (k : g.row.E-Key.Denot). hash_of g.H.BuildHasher g.H.Hasher.Hasher s.hasher (g.E.Key.Hash.hash_input k)) c.self.invariant c.self.view_is r.settled r.empty r.array r.some r.other e.lists e.settings e.spilled e.were e.table in
+    rw (c.in-Err.ensures.err, c.in-Err.ensures.stays) (subst (λ s. IsBuckets (λ z. key_hash g.H.BuildHasher g.H.Hasher.Hasher g.E.Key.Hash.hash_input c.exchange-old.new.self (g.E.Keyed.key_of z)) s.skipped c.exchange-old.result.0 c.exchange-old.result.1 c.exchange-old.result.2) (sym x.settings) x.table)
 
 pub exchange-bare-requires-clause-unique : goal.exchange-bare-requires-clause-unique
 exchange-bare-requires-clause-unique g c =
-    let t = c.self.inside in
-    let cur = t.current in
-    let a = c.args.self.now in
-    let n = c.args.count in
-    let k = c.args.bucket in
-    let d = c.exchange-old.new.self in
-    let olds = c.exchange-old.result.0 in
-    let over = c.exchange-old.result.2 in
-    let x = c.exchange-old.ensures in
     let r = c.requires in
-    let key = g.E.Keyed.key_of in
-    let hk = key_hash g.H.BuildHasher g.H.Hasher.Hasher g.E.Key.Hash.hash_input d in
-    let same : hk ≡ key_hash g.H.BuildHasher g.H.Hasher.Hasher g.E.Key.Hash.hash_input cur = hash-same g.H.BuildHasher g.H.Hasher.Hasher g.E.Key.Hash.hash_input cur d x.settings in
-    let inv : IsTable g.E.Key.PartialEq.eq key hk cur t.waiting.items t.draining t.skipped t.pending t.next t.left t.left_overflow = subst (λ (h : g.row.E-Key.Denot → ℕ). IsTable g.E.Key.PartialEq.eq key h cur t.waiting.items t.draining t.skipped t.pending t.next t.left t.left_overflow) (sym same) c.self.invariant in
-    let view : together (λ e. hk (key e)) cur t.waiting.items t.draining ≡ a = subst (λ (h : g.row.E-Key.Denot → ℕ). together (λ e. h (key e)) cur t.waiting.items t.draining ≡ a) (sym same) c.self.view_is in
-    let table : IsBuckets (λ e. hk (key e)) (settings_of cur).skipped olds c.exchange-old.result.1 over = subst (λ (h : g.row.E-Key.Denot → ℕ). IsBuckets (λ e. h (key e)) (settings_of cur).skipped olds c.exchange-old.result.1 over) (sym same) x.table in
-    rw c.in-Err.ensures.stays (begun-unique g.E.Key.PartialEq.eq g.met.E.Key.Eq.laws key hk cur d t.waiting.items t.draining t.skipped t.pending t.next t.left t.left_overflow inv a view r.settled n c.args.fresh olds c.exchange-old.result.1 over c.requires.empty r.array r.some r.other x.lists x.settings x.spilled x.were table)
+    let e = c.exchange-old.ensures in
+    let x = exchanged g.met.E.Key.Eq.laws (λ (s : Settings g.row.H.Denot) (k : g.row.E-Key.Denot). hash_of g.H.BuildHasher g.H.Hasher.Hasher s.hasher (g.E.Key.Hash.hash_input k)) c.self.invariant c.self.view_is r.settled r.empty r.array r.some r.other e.lists e.settings e.spilled e.were e.table in
+    rw c.in-Err.ensures.stays (begun-unique x)
 
 pub destroy_empty-requires-in-Err : goal.destroy_empty-requires-in-Err
 destroy_empty-requires-in-Err g c =
-    let t = c.self.inside in
-    let cur = t.current in
-    let a = c.args.self.now in
-    let n = c.args.count in
-    let k = c.args.bucket in
-    let d = c.exchange-old.new.self in
-    let olds = c.exchange-old.result.0 in
-    let over = c.exchange-old.result.2 in
-    let x = c.exchange-old.ensures in
     let r = c.requires in
-    let key = g.E.Keyed.key_of in
-    let hk = key_hash g.H.BuildHasher g.H.Hasher.Hasher g.E.Key.Hash.hash_input d in
-    let same : hk ≡ key_hash g.H.BuildHasher g.H.Hasher.Hasher g.E.Key.Hash.hash_input cur = hash-same g.H.BuildHasher g.H.Hasher.Hasher g.E.Key.Hash.hash_input cur d x.settings in
-    let inv : IsTable g.E.Key.PartialEq.eq key hk cur t.waiting.items t.draining t.skipped t.pending t.next t.left t.left_overflow = subst (λ (h : g.row.E-Key.Denot → ℕ). IsTable g.E.Key.PartialEq.eq key h cur t.waiting.items t.draining t.skipped t.pending t.next t.left t.left_overflow) (sym same) c.self.invariant in
-    let view : together (λ e. hk (key e)) cur t.waiting.items t.draining ≡ a = subst (λ (h : g.row.E-Key.Denot → ℕ). together (λ e. h (key e)) cur t.waiting.items t.draining ≡ a) (sym same) c.self.view_is in
-    let table : IsBuckets (λ e. hk (key e)) (settings_of cur).skipped olds c.exchange-old.result.1 over = subst (λ (h : g.row.E-Key.Denot → ℕ). IsBuckets (λ e. h (key e)) (settings_of cur).skipped olds c.exchange-old.result.1 over) (sym same) x.table in
-    λ i l. begun-bare g.E.Key.PartialEq.eq g.met.E.Key.Eq.laws key hk cur d t.waiting.items t.draining t.skipped t.pending t.next t.left t.left_overflow inv a view r.settled n c.args.fresh olds c.exchange-old.result.1 over c.requires.empty r.array r.some r.other x.lists x.settings x.spilled x.were table c.exchange-bare.result.0 (ap lists_of (sym c.in-Err.ensures.err) ∙ c.exchange-bare.ensures.were) i l
+    let e = c.exchange-old.ensures in
+    let x = exchanged g.met.E.Key.Eq.laws (λ (s : Settings g.row.H.Denot) (k : g.row.E-Key.Denot). hash_of g.H.BuildHasher g.H.Hasher.Hasher s.hasher (g.E.Key.Hash.hash_input k)) c.self.invariant c.self.view_is r.settled r.empty r.array r.some r.other e.lists e.settings e.spilled e.were e.table in
+    λ i l. begun-bare x c.exchange-bare.result.0 (ap lists_of (sym c.in-Err.ensures.err) ∙ c.exchange-bare.ensures.were) i l
 
 pub invariant_of-self-in-Err-1 : goal.invariant_of-self-in-Err-1
 invariant_of-self-in-Err-1 g c =
     let t = c.self.inside in
     let cur = t.current in
-    let a = c.args.self.now in
-    let n = c.args.count in
-    let k = c.args.bucket in
-    let d = c.exchange-old.new.self in
-    let olds = c.exchange-old.result.0 in
-    let over = c.exchange-old.result.2 in
     let x = c.exchange-old.ensures in
-    let r = c.requires in
-    let key = g.E.Keyed.key_of in
     let e = c.exchange-bare.new.self in
     let y = c.exchange-bare.ensures in
     let back = c.in-Err.ensures.err in
@@ -336,15 +157,8 @@ pub returns-in-Err : goal.returns-in-Err
 returns-in-Err g c =
     let t = c.self.inside in
     let cur = t.current in
-    let a = c.args.self.now in
-    let n = c.args.count in
-    let k = c.args.bucket in
-    let d = c.exchange-old.new.self in
-    let olds = c.exchange-old.result.0 in
-    let over = c.exchange-old.result.2 in
     let x = c.exchange-old.ensures in
     let r = c.requires in
-    let key = g.E.Keyed.key_of in
     let e = c.exchange-bare.new.self in
     let y = c.exchange-bare.ensures in
     let back = c.in-Err.ensures.err in
@@ -360,44 +174,17 @@ returns-in-Err g c =
 
 pub take-requires-clause-flags : goal.take-requires-clause-flags
 take-requires-clause-flags g c =
-    let t = c.self.inside in
-    let cur = t.current in
-    let a = c.args.self.now in
-    let n = c.args.count in
-    let k = c.args.bucket in
-    let d = c.exchange-old.new.self in
-    let olds = c.exchange-old.result.0 in
-    let over = c.exchange-old.result.2 in
-    let x = c.exchange-old.ensures in
     let r = c.requires in
-    let key = g.E.Keyed.key_of in
-    let hk = key_hash g.H.BuildHasher g.H.Hasher.Hasher g.E.Key.Hash.hash_input d in
-    let same : hk ≡ key_hash g.H.BuildHasher g.H.Hasher.Hasher g.E.Key.Hash.hash_input cur = hash-same g.H.BuildHasher g.H.Hasher.Hasher g.E.Key.Hash.hash_input cur d x.settings in
-    let inv : IsTable g.E.Key.PartialEq.eq key hk cur t.waiting.items t.draining t.skipped t.pending t.next t.left t.left_overflow = subst (λ (h : g.row.E-Key.Denot → ℕ). IsTable g.E.Key.PartialEq.eq key h cur t.waiting.items t.draining t.skipped t.pending t.next t.left t.left_overflow) (sym same) c.self.invariant in
-    let view : together (λ e. hk (key e)) cur t.waiting.items t.draining ≡ a = subst (λ (h : g.row.E-Key.Denot → ℕ). together (λ e. h (key e)) cur t.waiting.items t.draining ≡ a) (sym same) c.self.view_is in
-    let table : IsBuckets (λ e. hk (key e)) (settings_of cur).skipped olds c.exchange-old.result.1 over = subst (λ (h : g.row.E-Key.Denot → ℕ). IsBuckets (λ e. h (key e)) (settings_of cur).skipped olds c.exchange-old.result.1 over) (sym same) x.table in
-    let m = begun-count g.E.Key.PartialEq.eq g.met.E.Key.Eq.laws key hk cur d t.waiting.items t.draining t.skipped t.pending t.next t.left t.left_overflow inv a view r.settled n c.args.fresh olds c.exchange-old.result.1 over c.requires.empty r.array r.some r.other x.lists x.settings x.spilled x.were table in
-    ap length (c.as_slice.ensures.value ∙ c.requires.flags) ∙ length-replicate n true ∙ sym m
+    let e = c.exchange-old.ensures in
+    let x = exchanged g.met.E.Key.Eq.laws (λ (s : Settings g.row.H.Denot) (k : g.row.E-Key.Denot). hash_of g.H.BuildHasher g.H.Hasher.Hasher s.hasher (g.E.Key.Hash.hash_input k)) c.self.invariant c.self.view_is r.settled r.empty r.array r.some r.other e.lists e.settings e.spilled e.were e.table in
+    ap length (c.as_slice.ensures.value ∙ r.flags) ∙ length-replicate c.args.count true ∙ sym (begun-count x)
 
 pub take-requires-clause-settled : goal.take-requires-clause-settled
 take-requires-clause-settled g c =
-    let t = c.self.inside in
-    let cur = t.current in
-    let a = c.args.self.now in
-    let n = c.args.count in
-    let k = c.args.bucket in
-    let d = c.exchange-old.new.self in
-    let olds = c.exchange-old.result.0 in
-    let over = c.exchange-old.result.2 in
-    let x = c.exchange-old.ensures in
     let r = c.requires in
-    let key = g.E.Keyed.key_of in
-    let hk = key_hash g.H.BuildHasher g.H.Hasher.Hasher g.E.Key.Hash.hash_input d in
-    let same : hk ≡ key_hash g.H.BuildHasher g.H.Hasher.Hasher g.E.Key.Hash.hash_input cur = hash-same g.H.BuildHasher g.H.Hasher.Hasher g.E.Key.Hash.hash_input cur d x.settings in
-    let inv : IsTable g.E.Key.PartialEq.eq key hk cur t.waiting.items t.draining t.skipped t.pending t.next t.left t.left_overflow = subst (λ (h : g.row.E-Key.Denot → ℕ). IsTable g.E.Key.PartialEq.eq key h cur t.waiting.items t.draining t.skipped t.pending t.next t.left t.left_overflow) (sym same) c.self.invariant in
-    let view : together (λ e. hk (key e)) cur t.waiting.items t.draining ≡ a = subst (λ (h : g.row.E-Key.Denot → ℕ). together (λ e. h (key e)) cur t.waiting.items t.draining ≡ a) (sym same) c.self.view_is in
-    let table : IsBuckets (λ e. hk (key e)) (settings_of cur).skipped olds c.exchange-old.result.1 over = subst (λ (h : g.row.E-Key.Denot → ℕ). IsBuckets (λ e. h (key e)) (settings_of cur).skipped olds c.exchange-old.result.1 over) (sym same) x.table in
-    let m = begun-count g.E.Key.PartialEq.eq g.met.E.Key.Eq.laws key hk cur d t.waiting.items t.draining t.skipped t.pending t.next t.left t.left_overflow inv a view r.settled n c.args.fresh olds c.exchange-old.result.1 over c.requires.empty r.array r.some r.other x.lists x.settings x.spilled x.were table in
+    let e = c.exchange-old.ensures in
+    let x = exchanged g.met.E.Key.Eq.laws (λ (s : Settings g.row.H.Denot) (k : g.row.E-Key.Denot). hash_of g.H.BuildHasher g.H.Hasher.Hasher s.hasher (g.E.Key.Hash.hash_input k)) c.self.invariant c.self.view_is r.settled r.empty r.array r.some r.other e.lists e.settings e.spilled e.were e.table in
+    let m = begun-count x in
     λ i l low.
-    let up : get_or c.as_slice.result.now i false ≡ true = ap (λ (w : List Bool). get_or w i false) (c.as_slice.ensures.value ∙ c.requires.flags) ∙ get_or-replicate n i true false (omega (arith, l, m)) in
+    let up : get_or c.as_slice.result.now i false ≡ true = ap (λ (w : List Bool). get_or w i false) (c.as_slice.ensures.value ∙ r.flags) ∙ get_or-replicate c.args.count i true false (omega (arith, l, m)) in
     absurd (let z : true ≡ false = sym up ∙ low in cc)

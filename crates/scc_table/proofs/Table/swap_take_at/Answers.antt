@@ -3,15 +3,15 @@ use Rattle.std.specs.List.{slice_get, IsDistinct}
 use Rattle.scc_contents.specs.Contents.{Contents, bucket_count, entries, key_hash, waiting_of, owed_of}
 use Rattle.scc_contents.specs.Hashing.{hash_of}
 use Rattle.scc_buckets.specs.OneList.{IsSwappedOutOf}
-use Rattle.scc_table.specs.Places.{IsPlace, index_of, spot_of}
+use Rattle.scc_table.specs.Places.{index_of, spot_of}
 use Rattle.scc_table.specs.Takes.{owed_taken}
-use Rattle.scc_table.specs.TwoArrays.{together, IsTable}
+use Rattle.scc_table.specs.TwoArrays.{draining_of, together, IsTable}
 use Rattle.scc_table.proofs.Joining.{waiting-together}
 use Rattle.scc_table.proofs.Taken.{own-owed_kept, own-less_swapped, own-swapped}
 use Rattle.scc_table.proofs.TakenFrom.{swapped-count, swapped-moved, swapped-unique, taken-swapped}
 use Rattle.scc_table.proofs.SearchingLemmas.{near-settled}
 use Rattle.scc_table.proofs.Viewed.{count-seen}
-use Rattle.scc_table.proofs.Written.{own-got, own-is}
+use Rattle.scc_table.proofs.Written.{place-seen, own-got, own-is}
 use Rattle.scc_table.proofs.Table.swap_take_at.Goals as goal
 use Rattle.scc_table.proofs.Table.swap_take_at.Goals.{then-self-eq0-via-then-self-eq0, then-self-eq0-via-else-self-eq0+then-place-bucket_count}
 
@@ -19,35 +19,35 @@ pub swap_take_at-requires : goal.swap_take_at-requires
 swap_take_at-requires g c =
     let t = c.self.inside in
     let cur = t.current in
-    let ws = t.waiting.items in
-    let olds = t.draining in
+    let ws = t.draining.waiting.items in
+    let olds = t.draining.array in
     let inv = c.self.invariant in
     let hk = key_hash g.H.BuildHasher g.H.Hasher.Hasher g.E.Key.Hash.hash_input cur in
     let key = g.E.Keyed.key_of in
     let laws = g.met.E.Key.Eq.laws in
     let p = c.args.place in
     let view = c.self.view_is in
-    let within = subst (λ z. IsPlace z p) (sym view) c.requires in
+    let within = place-seen c.self.invariant c.args.place c.self.view_is c.requires in
     let count = count-seen (λ e. hk (key e)) cur ws olds c.args.self.now view inv.arrays.flags in
     let near : p.bucket < bucket_count cur = elim c.then-self-eq0.branch [
       | then-self-eq0-via-then-self-eq0 w ↦ near-settled (λ e. hk (key e)) cur olds ws (inv.none w.if-self-eq0.true) p within
       | then-self-eq0-via-else-self-eq0+then-place-bucket_count w ↦ omega (arith, count, w.bucket_count.ensures.count, w.if-place-bucket_count.true)
     ] in
-    (own-is laws key hk cur ws olds t.skipped t.pending t.next t.left t.left_overflow inv p within near).0
+    (own-is laws inv c.args.place within near).0
 
 pub invariant_of-self : goal.invariant_of-self
 invariant_of-self g c =
     let t = c.self.inside in
     let cur = t.current in
-    let ws = t.waiting.items in
-    let olds = t.draining in
+    let ws = t.draining.waiting.items in
+    let olds = t.draining.array in
     let inv = c.self.invariant in
     let hk = key_hash g.H.BuildHasher g.H.Hasher.Hasher g.E.Key.Hash.hash_input cur in
     let key = g.E.Keyed.key_of in
     let laws = g.met.E.Key.Eq.laws in
     let p = c.args.place in
     let view = c.self.view_is in
-    let within = subst (λ z. IsPlace z p) (sym view) c.requires in
+    let within = place-seen c.self.invariant c.args.place c.self.view_is c.requires in
     let count = count-seen (λ e. hk (key e)) cur ws olds c.args.self.now view inv.arrays.flags in
     let near : p.bucket < bucket_count cur = elim c.then-self-eq0.branch [
       | then-self-eq0-via-then-self-eq0 w ↦ near-settled (λ e. hk (key e)) cur olds ws (inv.none w.if-self-eq0.true) p within
@@ -55,33 +55,33 @@ invariant_of-self g c =
     ] in
     let d = c.swap_take_at.new.self in
     let same = ap (λ s. let h : g.row.E-Key.Denot → ℕ = λ k. hash_of g.H.BuildHasher g.H.Hasher.Hasher s.hasher (g.E.Key.Hash.hash_input k) in h) c.swap_take_at.ensures.exact.settings in
-    subst (λ (h : g.row.E-Key.Denot → ℕ). IsTable g.E.Key.PartialEq.eq key h d ws olds t.skipped t.pending t.next t.left t.left_overflow) (sym same) (own-less_swapped laws key hk cur ws olds t.skipped t.pending t.next t.left t.left_overflow inv p within near d c.swap_take_at.result c.swap_take_at.ensures.entry c.swap_take_at.ensures.exact)
+    subst (λ (h : g.row.E-Key.Denot → ℕ). IsTable g.E.Key.PartialEq.eq key h d (draining_of t.draining) t.skipped) (sym same) (own-less_swapped laws inv c.args.place within near d c.swap_take_at.result c.swap_take_at.ensures.entry c.swap_take_at.ensures.exact)
 
 pub returns-then-self-eq0 : goal.returns-then-self-eq0
 returns-then-self-eq0 g c =
     let t = c.self.inside in
     let cur = t.current in
-    let ws = t.waiting.items in
-    let olds = t.draining in
+    let ws = t.draining.waiting.items in
+    let olds = t.draining.array in
     let inv = c.self.invariant in
     let hk = key_hash g.H.BuildHasher g.H.Hasher.Hasher g.E.Key.Hash.hash_input cur in
     let key = g.E.Keyed.key_of in
     let laws = g.met.E.Key.Eq.laws in
     let p = c.args.place in
     let view = c.self.view_is in
-    let within = subst (λ z. IsPlace z p) (sym view) c.requires in
+    let within = place-seen c.self.invariant c.args.place c.self.view_is c.requires in
     let count = count-seen (λ e. hk (key e)) cur ws olds c.args.self.now view inv.arrays.flags in
     let near : p.bucket < bucket_count cur = elim c.then-self-eq0.branch [
       | then-self-eq0-via-then-self-eq0 w ↦ near-settled (λ e. hk (key e)) cur olds ws (inv.none w.if-self-eq0.true) p within
       | then-self-eq0-via-else-self-eq0+then-place-bucket_count w ↦ omega (arith, count, w.bucket_count.ensures.count, w.if-place-bucket_count.true)
     ] in
-    let there = subst (λ (z : Contents g.row.E.Denot g.row.H.Denot). slice_get (entries z) (index_of z p) ≡ Some c.swap_take_at.result) view (own-got laws key hk cur ws olds t.skipped t.pending t.next t.left t.left_overflow inv p within near c.swap_take_at.result c.swap_take_at.ensures.entry) in
+    let there = subst (λ (z : Contents g.row.E.Denot g.row.H.Denot). slice_get (entries z) (index_of z p) ≡ Some c.swap_take_at.result) view (own-got laws inv c.args.place within near c.swap_take_at.result c.swap_take_at.ensures.entry) in
     let d = c.swap_take_at.new.self in
     let same = ap (λ s. let h : g.row.E-Key.Denot → ℕ = λ k. hash_of g.H.BuildHasher g.H.Hasher.Hasher s.hasher (g.E.Key.Hash.hash_input k) in h) c.swap_take_at.ensures.exact.settings in
     let now = c.args.self.now in
     let q = spot_of now p in
     let after = together (λ e. key_hash g.H.BuildHasher g.H.Hasher.Hasher g.E.Key.Hash.hash_input d (key e)) d ws olds in
-    let first = subst (λ (h : g.row.E-Key.Denot → ℕ). IsSwappedOutOf (together (λ e. hk (key e)) cur ws olds) (spot_of (together (λ e. hk (key e)) cur ws olds) p) (together (λ e. h (key e)) d ws olds)) (sym same) (own-swapped laws key hk cur ws olds t.skipped t.pending t.next t.left t.left_overflow inv p within near d c.swap_take_at.ensures.exact) in
+    let first = subst (λ (h : g.row.E-Key.Denot → ℕ). IsSwappedOutOf (together (λ e. hk (key e)) cur ws olds) (spot_of (together (λ e. hk (key e)) cur ws olds) p) (together (λ e. h (key e)) d ws olds)) (sym same) (own-swapped laws inv c.args.place within near d c.swap_take_at.ensures.exact) in
     let taken = subst (λ (z : Contents g.row.E.Denot g.row.H.Denot). IsSwappedOutOf z (spot_of z p) after) view first in
     record {
       entry = there;
@@ -92,7 +92,7 @@ returns-then-self-eq0 g c =
       waiting = (
           let old_waiting = ap waiting_of (sym view) ∙ waiting-together (λ e. hk (key e)) cur ws olds in
           waiting-together (λ e. key_hash g.H.BuildHasher g.H.Hasher.Hasher g.E.Key.Hash.hash_input d (key e)) d ws olds ∙ sym old_waiting);
-      owed = (ap (λ (h : g.row.E-Key.Denot → ℕ). owed_of (together (λ e. h (key e)) d ws olds)) same ∙ own-owed_kept laws key hk cur ws olds t.skipped t.pending t.next t.left t.left_overflow inv p within near d c.swap_take_at.ensures.exact.left c.swap_take_at.ensures.exact.lists c.swap_take_at.ensures.exact.settings ∙ ap (λ (z : Contents g.row.E.Denot g.row.H.Denot). owed_taken (bucket_count z) (owed_of z) p) view);
+      owed = (ap (λ (h : g.row.E-Key.Denot → ℕ). owed_of (together (λ e. h (key e)) d ws olds)) same ∙ own-owed_kept laws inv c.args.place within near d c.swap_take_at.ensures.exact.left c.swap_take_at.ensures.exact.lists c.swap_take_at.ensures.exact.settings ∙ ap (λ (z : Contents g.row.E.Denot g.row.H.Denot). owed_taken (bucket_count z) (owed_of z) p) view);
       exact = taken;
       unique = (
           let unique = subst (λ (z : Contents g.row.E.Denot g.row.H.Denot). IsDistinct g.E.Key.PartialEq.eq (map key (entries z))) view inv.unique in

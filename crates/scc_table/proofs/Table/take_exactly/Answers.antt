@@ -3,75 +3,75 @@ use Rattle.std.specs.List.{remove, slice_get, IsDistinct}
 use Rattle.scc_contents.specs.Contents.{Contents, bucket_count, entries, list_of, key_hash, waiting_of, owed_of}
 use Rattle.scc_contents.specs.Hashing.{hash_of}
 use Rattle.scc_buckets.specs.OneList.{IsTakenFrom}
-use Rattle.scc_table.specs.Places.{IsPlace, index_of, spot_of}
+use Rattle.scc_table.specs.Places.{index_of, spot_of}
 use Rattle.scc_table.specs.Takes.{owed_taken}
-use Rattle.scc_table.specs.TwoArrays.{together, IsTable}
+use Rattle.scc_table.specs.TwoArrays.{draining_of, together, IsTable}
 use Rattle.scc_table.proofs.Joining.{waiting-together}
 use Rattle.scc_table.proofs.Taken.{own-owed_kept, own-less, own-taken}
 use Rattle.scc_table.proofs.Viewed.{count-seen}
-use Rattle.scc_table.proofs.Written.{own-got, own-is}
+use Rattle.scc_table.proofs.Written.{place-seen, own-got, own-is}
 use Rattle.scc_table.proofs.Table.take_exactly.Goals as goal
 
 pub take_in-requires : goal.take_in-requires
 take_in-requires g c =
     let t = c.self.inside in
     let cur = t.current in
-    let ws = t.waiting.items in
-    let olds = t.draining in
+    let ws = t.draining.waiting.items in
+    let olds = t.draining.array in
     let inv = c.self.invariant in
     let hk = key_hash g.H.BuildHasher g.H.Hasher.Hasher g.E.Key.Hash.hash_input cur in
     let key = g.E.Keyed.key_of in
     let laws = g.met.E.Key.Eq.laws in
     let p = c.args.place in
     let view = c.self.view_is in
-    let within = subst (λ z. IsPlace z p) (sym view) c.requires in
+    let within = place-seen c.self.invariant c.args.place c.self.view_is c.requires in
     let count = c.bucket_count.ensures.count in
     let near : p.bucket < bucket_count cur = omega (arith, count, c.if-place-bucket_count.true, count-seen (λ e. hk (key e)) cur ws olds c.args.self.now view inv.arrays.flags) in
-    (own-is laws key hk cur ws olds t.skipped t.pending t.next t.left t.left_overflow inv p within near).0
+    (own-is laws inv c.args.place within near).0
 
 pub invariant_of-self : goal.invariant_of-self
 invariant_of-self g c =
     let t = c.self.inside in
     let cur = t.current in
-    let ws = t.waiting.items in
-    let olds = t.draining in
+    let ws = t.draining.waiting.items in
+    let olds = t.draining.array in
     let inv = c.self.invariant in
     let hk = key_hash g.H.BuildHasher g.H.Hasher.Hasher g.E.Key.Hash.hash_input cur in
     let key = g.E.Keyed.key_of in
     let laws = g.met.E.Key.Eq.laws in
     let p = c.args.place in
     let view = c.self.view_is in
-    let within = subst (λ z. IsPlace z p) (sym view) c.requires in
+    let within = place-seen c.self.invariant c.args.place c.self.view_is c.requires in
     let count = c.bucket_count.ensures.count in
     let near : p.bucket < bucket_count cur = omega (arith, count, c.if-place-bucket_count.true, count-seen (λ e. hk (key e)) cur ws olds c.args.self.now view inv.arrays.flags) in
     let d = c.take_in.new.self in
     let same = ap (λ s. let h : g.row.E-Key.Denot → ℕ = λ k. hash_of g.H.BuildHasher g.H.Hasher.Hasher s.hasher (g.E.Key.Hash.hash_input k) in h) c.take_in.ensures.exact.settings in
-    subst (λ (h : g.row.E-Key.Denot → ℕ). IsTable g.E.Key.PartialEq.eq key h d ws olds t.skipped t.pending t.next t.left t.left_overflow) (sym same) (own-less laws key hk cur ws olds t.skipped t.pending t.next t.left t.left_overflow inv p within near d c.take_in.result c.take_in.ensures.entry c.take_in.ensures.exact)
+    subst (λ (h : g.row.E-Key.Denot → ℕ). IsTable g.E.Key.PartialEq.eq key h d (draining_of t.draining) t.skipped) (sym same) (own-less laws inv c.args.place within near d c.take_in.result c.take_in.ensures.entry c.take_in.ensures.exact)
 
 pub returns-then-place-bucket_count-clause-entry : goal.returns-then-place-bucket_count-clause-entry
 returns-then-place-bucket_count-clause-entry g c =
     let t = c.self.inside in
     let cur = t.current in
-    let ws = t.waiting.items in
-    let olds = t.draining in
+    let ws = t.draining.waiting.items in
+    let olds = t.draining.array in
     let inv = c.self.invariant in
     let hk = key_hash g.H.BuildHasher g.H.Hasher.Hasher g.E.Key.Hash.hash_input cur in
     let key = g.E.Keyed.key_of in
     let laws = g.met.E.Key.Eq.laws in
     let p = c.args.place in
     let view = c.self.view_is in
-    let within = subst (λ z. IsPlace z p) (sym view) c.requires in
+    let within = place-seen c.self.invariant c.args.place c.self.view_is c.requires in
     let count = c.bucket_count.ensures.count in
     let near : p.bucket < bucket_count cur = omega (arith, count, c.if-place-bucket_count.true, count-seen (λ e. hk (key e)) cur ws olds c.args.self.now view inv.arrays.flags) in
-    let there = subst (λ (z : Contents g.row.E.Denot g.row.H.Denot). slice_get (entries z) (index_of z p) ≡ Some c.take_in.result) view (own-got laws key hk cur ws olds t.skipped t.pending t.next t.left t.left_overflow inv p within near c.take_in.result c.take_in.ensures.entry) in
+    let there = subst (λ (z : Contents g.row.E.Denot g.row.H.Denot). slice_get (entries z) (index_of z p) ≡ Some c.take_in.result) view (own-got laws inv c.args.place within near c.take_in.result c.take_in.ensures.entry) in
     there
 
 pub returns-then-place-bucket_count-clause-waiting : goal.returns-then-place-bucket_count-clause-waiting
 returns-then-place-bucket_count-clause-waiting g c =
     let t = c.self.inside in
     let cur = t.current in
-    let ws = t.waiting.items in
-    let olds = t.draining in
+    let ws = t.draining.waiting.items in
+    let olds = t.draining.array in
     let hk = key_hash g.H.BuildHasher g.H.Hasher.Hasher g.E.Key.Hash.hash_input cur in
     let key = g.E.Keyed.key_of in
     let view = c.self.view_is in
@@ -83,40 +83,40 @@ pub returns-then-place-bucket_count-clause-owed : goal.returns-then-place-bucket
 returns-then-place-bucket_count-clause-owed g c =
     let t = c.self.inside in
     let cur = t.current in
-    let ws = t.waiting.items in
-    let olds = t.draining in
+    let ws = t.draining.waiting.items in
+    let olds = t.draining.array in
     let inv = c.self.invariant in
     let hk = key_hash g.H.BuildHasher g.H.Hasher.Hasher g.E.Key.Hash.hash_input cur in
     let key = g.E.Keyed.key_of in
     let laws = g.met.E.Key.Eq.laws in
     let p = c.args.place in
     let view = c.self.view_is in
-    let within = subst (λ z. IsPlace z p) (sym view) c.requires in
+    let within = place-seen c.self.invariant c.args.place c.self.view_is c.requires in
     let count = c.bucket_count.ensures.count in
     let near : p.bucket < bucket_count cur = omega (arith, count, c.if-place-bucket_count.true, count-seen (λ e. hk (key e)) cur ws olds c.args.self.now view inv.arrays.flags) in
     let d = c.take_in.new.self in
     let same = ap (λ s. let h : g.row.E-Key.Denot → ℕ = λ k. hash_of g.H.BuildHasher g.H.Hasher.Hasher s.hasher (g.E.Key.Hash.hash_input k) in h) c.take_in.ensures.exact.settings in
-    ap (λ (h : g.row.E-Key.Denot → ℕ). owed_of (together (λ e. h (key e)) d ws olds)) same ∙ own-owed_kept laws key hk cur ws olds t.skipped t.pending t.next t.left t.left_overflow inv p within near d (remove (list_of cur p.bucket) p.slot) c.take_in.ensures.exact.lists c.take_in.ensures.exact.settings ∙ ap (λ (z : Contents g.row.E.Denot g.row.H.Denot). owed_taken (bucket_count z) (owed_of z) p) view
+    ap (λ (h : g.row.E-Key.Denot → ℕ). owed_of (together (λ e. h (key e)) d ws olds)) same ∙ own-owed_kept laws inv c.args.place within near d (remove (list_of cur p.bucket) p.slot) c.take_in.ensures.exact.lists c.take_in.ensures.exact.settings ∙ ap (λ (z : Contents g.row.E.Denot g.row.H.Denot). owed_taken (bucket_count z) (owed_of z) p) view
 
 pub returns-then-place-bucket_count-clause-exact : goal.returns-then-place-bucket_count-clause-exact
 returns-then-place-bucket_count-clause-exact g c =
     let t = c.self.inside in
     let cur = t.current in
-    let ws = t.waiting.items in
-    let olds = t.draining in
+    let ws = t.draining.waiting.items in
+    let olds = t.draining.array in
     let inv = c.self.invariant in
     let hk = key_hash g.H.BuildHasher g.H.Hasher.Hasher g.E.Key.Hash.hash_input cur in
     let key = g.E.Keyed.key_of in
     let laws = g.met.E.Key.Eq.laws in
     let p = c.args.place in
     let view = c.self.view_is in
-    let within = subst (λ z. IsPlace z p) (sym view) c.requires in
+    let within = place-seen c.self.invariant c.args.place c.self.view_is c.requires in
     let count = c.bucket_count.ensures.count in
     let near : p.bucket < bucket_count cur = omega (arith, count, c.if-place-bucket_count.true, count-seen (λ e. hk (key e)) cur ws olds c.args.self.now view inv.arrays.flags) in
     let d = c.take_in.new.self in
     let same = ap (λ s. let h : g.row.E-Key.Denot → ℕ = λ k. hash_of g.H.BuildHasher g.H.Hasher.Hasher s.hasher (g.E.Key.Hash.hash_input k) in h) c.take_in.ensures.exact.settings in
     let after = together (λ e. key_hash g.H.BuildHasher g.H.Hasher.Hasher g.E.Key.Hash.hash_input d (key e)) d ws olds in
-    let first = subst (λ (h : g.row.E-Key.Denot → ℕ). IsTakenFrom (together (λ e. hk (key e)) cur ws olds) (spot_of (together (λ e. hk (key e)) cur ws olds) p) (together (λ e. h (key e)) d ws olds)) (sym same) (own-taken laws key hk cur ws olds t.skipped t.pending t.next t.left t.left_overflow inv p within near d c.take_in.ensures.exact) in
+    let first = subst (λ (h : g.row.E-Key.Denot → ℕ). IsTakenFrom (together (λ e. hk (key e)) cur ws olds) (spot_of (together (λ e. hk (key e)) cur ws olds) p) (together (λ e. h (key e)) d ws olds)) (sym same) (own-taken laws inv c.args.place within near d c.take_in.ensures.exact) in
     let taken = subst (λ (z : Contents g.row.E.Denot g.row.H.Denot). IsTakenFrom z (spot_of z p) after) view first in
     taken
 

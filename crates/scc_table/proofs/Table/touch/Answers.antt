@@ -1,82 +1,53 @@
-use Rattle.std.proofs.Common.{◌≡◌, ℕ, ◌+◌, ◌^◌, ◌<◌, ◌∷◌, ◌++◌, false, Some, [], length, map, sym, ap, ◌∙◌, subst, arith}
+use Rattle.std.proofs.Common.{◌≡◌, ℕ, ◌+◌, ◌^◌, ◌<◌, ◌∷◌, ◌++◌, Some, [], length, map, sym, ap, ◌∙◌, subst, arith}
 use Rattle.std.specs.List.{remove, slice_get, slice_set, IsDistinct}
 use Rattle.scc_buckets.specs.Bounded.{HasList, IsBounded, IsListed}
-use Rattle.scc_contents.specs.Contents.{Contents, bucket_count, entries, owed_of, key_hash, list_of, lists_of, settings_of, spilled_of}
+use Rattle.scc_contents.specs.Contents.{Contents, bucket_count, entries, owed_of, key_hash, list_of, lists_of, spilled_of}
 use Rattle.scc_contents.specs.Hashing.{hash_of}
-use Rattle.scc_contents.specs.Routing.{bucket_number}
-use Rattle.scc_table.specs.TwoArrays.{together, waits_at, IsTable}
+use Rattle.scc_table.specs.TwoArrays.{draining_of, together, IsTable}
 use Rattle.scc_table.proofs.CurrentChanges.{own-fields, own-owed, own-list}
 use Rattle.scc_table.proofs.Joining.{settings-together, waiting-together}
 use Rattle.scc_table.proofs.Listing.{own-bounded, own-has_list, own-listed, unique-moved}
-use Rattle.scc_table.proofs.SearchingLemmas.{not_true}
-use Rattle.scc_table.proofs.Seen.{count-seen, settings-seen, waiting-seen}
+use Rattle.scc_table.proofs.Seen.{settings-seen, waiting-seen}
+use Rattle.scc_table.proofs.OneBucket.{flag-free, routed-own, within-own}
 use Rattle.scc_table.proofs.Table.touch.Goals as goal
 
 pub touch-requires-clause-within : goal.touch-requires-clause-within
 touch-requires-clause-within g c =
-    let t = c.self.inside in
-    let cur = t.current in
-    let ws = t.waiting.items in
-    let olds = t.draining in
-    let inv = c.self.invariant in
-    let hk = key_hash g.H.BuildHasher g.H.Hasher.Hasher g.E.Key.Hash.hash_input cur in
-    let key = g.E.Keyed.key_of in
-    let view = c.self.view_is in
-    let now = c.args.self.now in
-    let i = c.args.bucket in
-    let hash = λ (e : g.row.E.Denot). hk (key e) in
-    let count = count-seen hash cur ws olds now view inv.arrays in
-    let within : i < bucket_count cur = let q = c.requires.within in omega (arith, count) in
+    let within = within-own c.self.invariant c.self.view_is c.requires.within in
     within
 
 pub touch-requires-clause-slot : goal.touch-requires-clause-slot
 touch-requires-clause-slot g c =
     let t = c.self.inside in
     let cur = t.current in
-    let ws = t.waiting.items in
-    let olds = t.draining in
+    let ws = t.draining.waiting.items in
+    let olds = t.draining.array in
     let hk = key_hash g.H.BuildHasher g.H.Hasher.Hasher g.E.Key.Hash.hash_input cur in
     let key = g.E.Keyed.key_of in
     let view = c.self.view_is in
-    let now = c.args.self.now in
     let i = c.args.bucket in
     let hash = λ (e : g.row.E.Denot). hk (key e) in
-    let flags = waiting-seen hash cur ws olds now view in
-    let down : waits_at ws i ≡ false = not_true (waits_at ws i) (λ up. c.requires.settled (ap (λ w. waits_at w i) flags ∙ up)) in
+    let down = flag-free c.self.invariant _ c.self.view_is c.requires.settled in
     let here = ap (λ z. list_of z i) (sym view) ∙ own-list hash cur ws olds i down in
     subst (λ z. c.args.slot < length z) here c.requires.slot
 
 pub touch-requires-clause-routed : goal.touch-requires-clause-routed
 touch-requires-clause-routed g c =
-    let t = c.self.inside in
-    let cur = t.current in
-    let ws = t.waiting.items in
-    let olds = t.draining in
-    let inv = c.self.invariant in
-    let hk = key_hash g.H.BuildHasher g.H.Hasher.Hasher g.E.Key.Hash.hash_input cur in
-    let key = g.E.Keyed.key_of in
-    let view = c.self.view_is in
-    let now = c.args.self.now in
-    let hash = λ (e : g.row.E.Denot). hk (key e) in
-    let set = settings-seen hash cur ws olds now view in
-    let count = count-seen hash cur ws olds now view inv.arrays in
-    let routed = c.requires.routed ∙ ap (λ s. bucket_number s.skipped (bucket_count now) c.args.hash) (sym set) ∙ ap (λ n. bucket_number (settings_of cur).skipped n c.args.hash) (sym count) in
+    let routed = routed-own c.self.invariant _ c.self.view_is c.requires.routed in
     routed
 
 pub touch-requires-clause-bounded : goal.touch-requires-clause-bounded
 touch-requires-clause-bounded g c =
     let t = c.self.inside in
     let cur = t.current in
-    let ws = t.waiting.items in
-    let olds = t.draining in
+    let ws = t.draining.waiting.items in
+    let olds = t.draining.array in
     let hk = key_hash g.H.BuildHasher g.H.Hasher.Hasher g.E.Key.Hash.hash_input cur in
     let key = g.E.Keyed.key_of in
     let view = c.self.view_is in
-    let now = c.args.self.now in
     let i = c.args.bucket in
     let hash = λ (e : g.row.E.Denot). hk (key e) in
-    let flags = waiting-seen hash cur ws olds now view in
-    let down : waits_at ws i ≡ false = not_true (waits_at ws i) (λ up. c.requires.settled (ap (λ w. waits_at w i) flags ∙ up)) in
+    let down = flag-free c.self.invariant _ c.self.view_is c.requires.settled in
     let u = together hash cur ws olds in
     let bounded : IsBounded u = subst (λ (z : Contents g.row.E.Denot g.row.H.Denot). IsBounded z) (sym view) c.requires.bounded in
     own-bounded hash cur cur ws olds i down bounded
@@ -85,16 +56,15 @@ pub touch-requires-clause-hashed : goal.touch-requires-clause-hashed
 touch-requires-clause-hashed g c =
     let t = c.self.inside in
     let cur = t.current in
-    let ws = t.waiting.items in
-    let olds = t.draining in
+    let ws = t.draining.waiting.items in
+    let olds = t.draining.array in
     let hk = key_hash g.H.BuildHasher g.H.Hasher.Hasher g.E.Key.Hash.hash_input cur in
     let key = g.E.Keyed.key_of in
     let view = c.self.view_is in
     let now = c.args.self.now in
     let i = c.args.bucket in
     let hash = λ (e : g.row.E.Denot). hk (key e) in
-    let flags = waiting-seen hash cur ws olds now view in
-    let down : waits_at ws i ≡ false = not_true (waits_at ws i) (λ up. c.requires.settled (ap (λ w. waits_at w i) flags ∙ up)) in
+    let down = flag-free c.self.invariant _ c.self.view_is c.requires.settled in
     let set = settings-seen hash cur ws olds now view in
     let here = ap (λ z. list_of z i) (sym view) ∙ own-list hash cur ws olds i down in
     λ e got. c.requires.hashed e (ap (λ z. slice_get z c.args.slot) here ∙ got) ∙ ap (λ s. hash_of g.H.BuildHasher g.H.Hasher.Hasher s.hasher (g.E.Key.Hash.hash_input (key e))) (sym set)
@@ -103,18 +73,16 @@ pub invariant_of-self : goal.invariant_of-self
 invariant_of-self g c =
     let t = c.self.inside in
     let cur = t.current in
-    let ws = t.waiting.items in
-    let olds = t.draining in
+    let ws = t.draining.waiting.items in
+    let olds = t.draining.array in
     let inv = c.self.invariant in
     let hk = key_hash g.H.BuildHasher g.H.Hasher.Hasher g.E.Key.Hash.hash_input cur in
     let key = g.E.Keyed.key_of in
     let laws = g.met.E.Key.Eq.laws in
     let view = c.self.view_is in
-    let now = c.args.self.now in
     let i = c.args.bucket in
     let hash = λ (e : g.row.E.Denot). hk (key e) in
-    let flags = waiting-seen hash cur ws olds now view in
-    let down : waits_at ws i ≡ false = not_true (waits_at ws i) (λ up. c.requires.settled (ap (λ w. waits_at w i) flags ∙ up)) in
+    let down = flag-free c.self.invariant _ c.self.view_is c.requires.settled in
     let u = together hash cur ws olds in
     let bounded : IsBounded u = subst (λ (z : Contents g.row.E.Denot g.row.H.Denot). IsBounded z) (sym view) c.requires.bounded in
     let d = c.touch.new.self in
@@ -126,18 +94,18 @@ invariant_of-self g c =
     let first = own-has_list hash cur d ws olds i down bounded (remove (list_of cur i) c.args.slot ++ x.0 ∷ []) changed in
     let own = own-list hash cur ws olds i down in
     let low : spilled_of d ≡ 0 = changed.bounded in
-    let few : spilled_of d + t.left_overflow < 2 ^ 62 = let f = inv.few in omega arith in
+    let few : spilled_of d + t.draining.left_overflow < 2 ^ 62 = let f = inv.few in omega arith in
     let inside : i < bucket_count u = let n = ap bucket_count view in let q = c.requires.within in omega arith in
-    subst (λ (h : g.row.E-Key.Denot → ℕ). IsTable g.E.Key.PartialEq.eq key h d ws olds t.skipped t.pending t.next t.left t.left_overflow) (sym same)
-    (own-fields g.E.Key.PartialEq.eq key hk cur d i (remove (list_of cur i) c.args.slot ++ x.0 ∷ []) changed.lists stay ws olds down t.skipped t.pending t.next t.left t.left_overflow inv few
+    subst (λ (h : g.row.E-Key.Denot → ℕ). IsTable g.E.Key.PartialEq.eq key h d (draining_of t.draining) t.skipped) (sym same)
+    (own-fields g.E.Key.PartialEq.eq key hk cur d i (remove (list_of cur i) c.args.slot ++ x.0 ∷ []) changed.lists stay (draining_of t.draining) down t.skipped inv few
     (unique-moved laws key u v i inside inv.unique c.args.slot x.0 (ap (λ z. slice_get z c.args.slot) own ∙ x.1) (first.lists ∙ ap (λ z. slice_set (lists_of u) i (remove z c.args.slot ++ x.0 ∷ [])) (sym own))))
 
 pub returns : goal.returns
 returns g c =
     let t = c.self.inside in
     let cur = t.current in
-    let ws = t.waiting.items in
-    let olds = t.draining in
+    let ws = t.draining.waiting.items in
+    let olds = t.draining.array in
     let hk = key_hash g.H.BuildHasher g.H.Hasher.Hasher g.E.Key.Hash.hash_input cur in
     let key = g.E.Keyed.key_of in
     let view = c.self.view_is in
@@ -145,7 +113,7 @@ returns g c =
     let i = c.args.bucket in
     let hash = λ (e : g.row.E.Denot). hk (key e) in
     let flags = waiting-seen hash cur ws olds now view in
-    let down : waits_at ws i ≡ false = not_true (waits_at ws i) (λ up. c.requires.settled (ap (λ w. waits_at w i) flags ∙ up)) in
+    let down = flag-free c.self.invariant _ c.self.view_is c.requires.settled in
     let u = together hash cur ws olds in
     let here = ap (λ z. list_of z i) (sym view) ∙ own-list hash cur ws olds i down in
     let bounded : IsBounded u = subst (λ (z : Contents g.row.E.Denot g.row.H.Denot). IsBounded z) (sym view) c.requires.bounded in
@@ -165,8 +133,7 @@ returns g c =
       list = ((x.0, got, list));
       listed = (
           let set = settings-seen hash cur ws olds now view in
-          let count = count-seen hash cur ws olds now view inv.arrays in
-          let within : i < bucket_count cur = let q = c.requires.within in omega (arith, count) in
+          let within = within-own c.self.invariant c.self.view_is c.requires.within in
           let v = together hash d ws olds in
           λ was.
           let first : IsListed hash u = subst (λ (z : Contents g.row.E.Denot g.row.H.Denot). IsListed hash z) (sym view) (subst (λ s. IsListed (λ (e : g.row.E.Denot). hash_of g.H.BuildHasher g.H.Hasher.Hasher s.hasher (g.E.Key.Hash.hash_input (key e))) now) (sym set) was) in
