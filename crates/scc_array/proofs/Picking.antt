@@ -358,10 +358,10 @@ module _ {E : Type 0} (fs : List Bool) (base : ℕ) (w : Window E) (places0 : Li
           let n2 : length (kept (take p fs) w.tags) ≡ stays = length-kept (take p fs) w.slots w.tags left.same ∙ n1 in
           let m1 : Middle (place_view places0 base) (place_view places base) (kept (take p fs) w.slots) p =
           subst (λ ks. Middle (place_view places0 base) (place_view places base) ks p) (sym skip1)
-              (middle-skip (place_view places0 base) (place_view places base) (kept (take s.n fs) w.slots) s.n p h.0 (omega arith) (λ k a z. left.places_are k (omega arith) ∙ left-up fs w.slots k (between k a z)) s.places_are) in
+          (middle-skip (place_view places0 base) (place_view places base) (kept (take s.n fs) w.slots) s.n p h.0 (omega arith) (λ k a z. left.places_are k (omega arith) ∙ left-up fs w.slots k (between k a z)) s.places_are) in
           let m2 : Middle (tag_view row0) (tag_view row) (kept (take p fs) w.tags) p =
           subst (λ ks. Middle (tag_view row0) (tag_view row) ks p) (sym skip2)
-              (middle-skip (tag_view row0) (tag_view row) (kept (take s.n fs) w.tags) s.n p h.0 (omega arith) (λ k a z. left.tags_are k (omega arith) ∙ left-up fs w.tags k (between k a z)) s.tags_are) in
+          (middle-skip (tag_view row0) (tag_view row) (kept (take s.n fs) w.tags) s.n p h.0 (omega arith) (λ k a z. left.tags_are k (omega arith) ∙ left-up fs w.tags k (between k a z)) s.tags_are) in
           record {
             n = p + 1;
             places_are = subst (λ ks. Middle (place_view places0 base) (place_view places_left base) ks (p + 1)) (sym k1)

@@ -1,38 +1,37 @@
 -- Two arrays, none of whose buckets waits, where an entry was taken out of the present one.
-use Rattle.std.proofs.Common.{◌≡◌, ℕ, Bool, List, [], Option, Some, None, sym, ap, subst, ◌∙◌}
+use Rattle.std.proofs.Common.{◌≡◌, ℕ, Bool, [], Option, Some, None, sym, ap, subst, ◌∙◌}
 use Rattle.std.specs.Cmp.{IsEquivalence}
 use Rattle.std.specs.List.{position}
-use Rattle.scc_array.specs.Shelf.{Shelf}
 use Rattle.scc_contents.specs.Contents.{Contents, Settings, owed_of, settings_of}
 use Rattle.scc_buckets.specs.OneList.{IsSwappedOutOf}
 use Rattle.scc_buckets.specs.Takes.{TakesFirstSpot}
 use Rattle.scc_table.specs.Places.{spot_of}
 use Rattle.scc_table.specs.Removals.{SwapTakesFirst}
-use Rattle.scc_table.specs.TwoArrays.{together, IsTable}
+use Rattle.scc_table.specs.TwoArrays.{together, Draining, IsTable}
 use Rattle.scc_table.proofs.Joining.{waiting-together}
 use Rattle.scc_table.proofs.SearchingLemmas.{entries-settled, found-settled}
 use Rattle.scc_table.proofs.Taken.{own-owed_kept, own-less_swapped, own-swapped}
 use Rattle.scc_table.proofs.TakenFrom.{swapped-count, swapped-moved, swapped-unique}
 use Rattle.scc_table.proofs.Written.{own-got}
 
-module _ {E K S : Type 0} (key : E → K) (p : E → Bool) {eq : K → K → Bool} (laws : IsEquivalence eq) (hash_for : Settings S → K → ℕ) (c d : Contents E S) (ws : List Bool) (olds : List (Shelf E)) (skipped pending next left aside : ℕ)
-    (inv : IsTable eq key (hash_for (settings_of c)) c ws olds skipped pending next left aside) (none : ws ≡ []) where
+module _ {E K S : Type 0} (key : E → K) (p : E → Bool) {eq : K → K → Bool} (laws : IsEquivalence eq) (hash_for : Settings S → K → ℕ) (c d : Contents E S) (drain : Draining E) (skipped : ℕ)
+    (inv : IsTable eq key (hash_for (settings_of c)) c drain skipped) (none : drain.waiting ≡ []) where
   abbrev hk : K → ℕ
   hk = hash_for (settings_of c)
 
   abbrev both : Contents E S → Contents E S
-  both z = together (λ e. hash_for (settings_of z) (key e)) z ws olds
+  both z = together (λ e. hash_for (settings_of z) (key e)) z drain.waiting drain.array
 
   -- what was done to the present array was done to both
   pub settled-taken : (r : Option E) → TakesFirstSpot p c d r → SwapTakesFirst eq key p (both c) (both d) r
-  settled-taken None (missed, stays) = (ap (position p) (entries-settled (λ e. hk (key e)) c olds ws none) ∙ missed, ap both stays)
+  settled-taken None (missed, stays) = (ap (position p) (entries-settled (λ e. hk (key e)) c drain.array drain.waiting none) ∙ missed, ap both stays)
   settled-taken (Some x) (q, found, got, out) =
-      let at = found-settled (λ e. hk (key e)) c olds ws none p q found in
+      let at = found-settled (λ e. hk (key e)) c drain.array drain.waiting none p q found in
       let near = found.within.bucket in
       let spot = spot_of (both c) q in
-      let there = own-got laws key hk c ws olds skipped pending next left aside inv q at.within near x got in
+      let there = own-got laws inv q at.within near x got in
       let taken : IsSwappedOutOf (both c) spot (both d) =
-      subst (λ (s : Settings S). let z : Contents E S = together (λ e. hash_for s (key e)) d ws olds in IsSwappedOutOf (both c) spot z) (sym out.settings) (own-swapped laws key hk c ws olds skipped pending next left aside inv q at.within near d out) in (
+      subst (λ (s : Settings S). let z : Contents E S = together (λ e. hash_for s (key e)) d drain.waiting drain.array in IsSwappedOutOf (both c) spot z) (sym out.settings) (own-swapped laws inv q at.within near d out) in (
         q,
         at,
         record {
@@ -41,19 +40,19 @@ module _ {E K S : Type 0} (key : E → K) (p : E → Bool) {eq : K → K → Boo
           buckets = swapped-count (both c) (both d) spot at.within taken;
           noted = taken.refused;
           settings = taken.settings;
-          waiting = waiting-together (λ e. hash_for (settings_of d) (key e)) d ws olds ∙ sym (waiting-together (λ e. hk (key e)) c ws olds);
+          waiting = waiting-together (λ e. hash_for (settings_of d) (key e)) d drain.waiting drain.array ∙ sym (waiting-together (λ e. hk (key e)) c drain.waiting drain.array);
           owed =
-              ap (λ (s : Settings S). let z : Contents E S = together (λ e. hash_for s (key e)) d ws olds in owed_of z) out.settings
-              ∙ own-owed_kept laws key hk c ws olds skipped pending next left aside inv q at.within near d out.left out.lists out.settings;
+              ap (λ (s : Settings S). let z : Contents E S = together (λ e. hash_for s (key e)) d drain.waiting drain.array in owed_of z) out.settings
+              ∙ own-owed_kept laws inv q at.within near d out.left out.lists out.settings;
           exact = taken;
           unique = swapped-unique (both c) (both d) spot at.within taken laws key x there inv.unique;
         },
       )
 
   -- they are two arrays still
-  pub settled-left : (r : Option E) → TakesFirstSpot p c d r → IsTable eq key (hash_for (settings_of d)) d ws olds skipped pending next left aside
-  settled-left None (missed, stays) = subst (λ (z : Contents E S). IsTable eq key (hash_for (settings_of z)) z ws olds skipped pending next left aside) (sym stays) inv
+  pub settled-left : (r : Option E) → TakesFirstSpot p c d r → IsTable eq key (hash_for (settings_of d)) d drain skipped
+  settled-left None (missed, stays) = subst (λ (z : Contents E S). IsTable eq key (hash_for (settings_of z)) z drain skipped) (sym stays) inv
   settled-left (Some x) (q, found, got, out) =
-      let at = found-settled (λ e. hk (key e)) c olds ws none p q found in
-      subst (λ (s : Settings S). IsTable eq key (hash_for s) d ws olds skipped pending next left aside) (sym out.settings)
-      (own-less_swapped laws key hk c ws olds skipped pending next left aside inv q at.within found.within.bucket d x got out)
+      let at = found-settled (λ e. hk (key e)) c drain.array drain.waiting none p q found in
+      subst (λ (s : Settings S). IsTable eq key (hash_for s) d drain skipped) (sym out.settings)
+      (own-less_swapped laws inv q at.within found.within.bucket d x got out)

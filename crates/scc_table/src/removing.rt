@@ -34,7 +34,7 @@ where
         ensures step { RemovesFirst E.Key.eq E.key_of (λ e. E.Key.eq key.now (E.key_of e)) self.old self.new result }
         ensures unique { IsUniqueBy E.Key.eq E.key_of self.old }
     {
-        if self.pending != 0 {
+        if self.draining.pending != 0 {
             return self.remove_from_both(hash, key);
         }
         match self.take_settled(hash, key) {

@@ -13,8 +13,8 @@ picked-init g c = record {
       let many : length fs ≡ 32 = length-map c.args.flags.now (λ x. x == 1) ∙ c.told-flags in
       let both : bit_and (bit_not w32 (mask_l (map (λ x. x == 0) c.args.row.now))) (mask_l fs) ≡ bit_and (bit_not w32 c.tag_mask.result) c.tag_mask-2.result = rw (c.tag_mask.ensures, c.tag_mask-2.ensures) refl in
       picks-start fs c.args.base c.args.target w c.args.into.now c.args.first c.args.slots.now c.args.row.now _ c.requires.first at
-          (λ k l e. ap (λ b. bit_at b k) (sym both) ∙ picked-bit c.args.row.now c.told-row fs many c.args.base c.args.slots.now w at k l e)
-          (λ k e. picked-only c.args.row.now c.told-row fs many c.args.base c.args.slots.now w at k (ap (λ b. bit_at b k) both ∙ e));
+      (λ k l e. ap (λ b. bit_at b k) (sym both) ∙ picked-bit c.args.row.now c.told-row fs many c.args.base c.args.slots.now w at k l e)
+      (λ k e. picked-only c.args.row.now c.told-row fs many c.args.base c.args.slots.now w at k (ap (λ b. bit_at b k) both ∙ e));
   count = refl;
   wide = refl;
   others = λ q o. refl;

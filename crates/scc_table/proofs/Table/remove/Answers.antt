@@ -9,14 +9,14 @@ remove_from_both-requires-clause-pending g c =
     let t = c.self.inside in
     let inv = c.self.invariant in
     let hash = λ (e : g.row.E.Denot). key_hash g.H.BuildHasher g.H.Hasher.Hasher g.E.Key.Hash.hash_input t.current (g.E.Keyed.key_of e) in
-    let counted = ap pending_of (sym c.self.view_is) ∙ pending-together hash t.current t.waiting.items t.draining in
+    let counted = ap pending_of (sym c.self.view_is) ∙ pending-together hash t.current t.draining.waiting.items t.draining.array in
     omega (arith, counted, inv.counted, c.if-self-ne0.true)
 
 pub take_settled-requires-clause-settled : goal.take_settled-requires-clause-settled
 take_settled-requires-clause-settled g c =
     let t = c.self.inside in
     let hash = λ (e : g.row.E.Denot). key_hash g.H.BuildHasher g.H.Hasher.Hasher g.E.Key.Hash.hash_input t.current (g.E.Keyed.key_of e) in
-    ap waiting_of (sym c.self.view_is) ∙ waiting-together hash t.current t.waiting.items t.draining ∙ c.self.invariant.none (omega (arith, c.if-self-ne0.false))
+    ap waiting_of (sym c.self.view_is) ∙ waiting-together hash t.current t.draining.waiting.items t.draining.array ∙ c.self.invariant.none (omega (arith, c.if-self-ne0.false))
 
 pub returns-in-Some-clause-step : goal.returns-in-Some-clause-step
 returns-in-Some-clause-step g c =
