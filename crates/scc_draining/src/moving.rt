@@ -45,9 +45,9 @@ where
     E::Key: Eq + Hash,
     requires bits { task.skipped < 64 }
     requires source { source < length old.now }
-    ensures { (j : ℕ) (e : E) → slice_get (shelf_of old.now source).slots j ≡ Some e → slice_get (ups flags.new) j ≡ Some
-        (bucket_number task.skipped count (key_hash H.BuildHasher H.Hasher.Hasher E.Key.hash_input table.now (E.key_of
-        e)) == task.target) }
+    ensures { (j : ℕ) (e : E) → slice_get (shelf_of old.now source).slots j ≡ Some e
+        → slice_get (ups flags.new) j ≡ Some (bucket_number task.skipped count (key_hash H.BuildHasher H.Hasher.Hasher
+        E.Key.hash_input table.now (E.key_of e)) == task.target) }
 {
     let slots = old.slot_count(source);
     for place in 0..slots {
@@ -191,7 +191,8 @@ fn make_ready<E>(
 ) -> Result<(), AllocError>
     requires bucket { bucket < length into.old }
     requires empty { shelf_of into.old bucket ≡ record empty_shelf { room = (shelf_of into.old bucket).room } }
-    ensures value { into.new ≡ slice_set into.old bucket (record empty_shelf { room = (shelf_of into.new bucket).room }) }
+    ensures value { into.new
+        ≡ slice_set into.old bucket (record empty_shelf { room = (shelf_of into.new bucket).room }) }
     ensures room { OnOk result (coming ≤ 32 + (shelf_of into.new bucket).room) }
     ensures few { OnOk result (coming ≤ 32 + left) }
     ensures refused { OnErr result (32 < coming) }
@@ -228,7 +229,8 @@ where
     requires own { AreOwn (λ e. key_hash H.BuildHasher H.Hasher.Hasher E.Key.hash_input table.now (E.key_of e))
         task.skipped old.old }
     requires target { task.target < length into.old }
-    requires empty { shelf_of into.old task.target ≡ record empty_shelf { room = (shelf_of into.old task.target).room } }
+    requires empty { shelf_of into.old task.target
+        ≡ record empty_shelf { room = (shelf_of into.old task.target).room } }
     requires coming { length (bound_for (λ e. key_hash H.BuildHasher H.Hasher.Hasher E.Key.hash_input table.now
         (E.key_of e)) task.skipped count task.target (flat_map shelf_entries old.old)) ≤ coming }
     ensures ok { OnOk result (Drains (λ e. key_hash H.BuildHasher H.Hasher.Hasher E.Key.hash_input table.now (E.key_of
