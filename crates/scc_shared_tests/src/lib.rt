@@ -1,11 +1,7 @@
-//! Containers that threads share as their callers use them, in one thread and in several, each case under its plain
+//! Maps and sets that threads share as their callers use them, in one thread and in several, each case under its plain
 //! name.
 #![tactic(auto)]
 
-#[cfg(test)]
-mod cache;
-#[cfg(test)]
-mod index;
 #[cfg(test)]
 mod map;
 #[cfg(test)]
