@@ -1,10 +1,9 @@
 //! A container with the history of its calls.
-ghost use Rattle.std.specs.Prelude.{◌≡◌, ℕ, ◌+◌, ◌*◌, ◌<◌, ◌≤◌, ◌⊎◌, List, [], ◌∷◌, ◌++◌, Err, IfOk, IsSome, OnErr, max, vec_len, vec_capacity};
-ghost use Rattle.scc_calls.specs.Changes.{Changes, Stays};
-ghost use Rattle.scc_calls.specs.Copies.{AreCopies, ClonesEqual, MayNotClone};
+ghost use Rattle.std.specs.Prelude.{◌≡◌, ◌*◌, ◌<◌, ◌≤◌, [], IfOk};
+ghost use Rattle.scc_calls.specs.Copies.{ClonesEqual};
 ghost use Rattle.scc_calls.specs.Histories.{Replay};
 ghost use Rattle.scc_calls.specs.Made.{IsMadeFor};
-ghost use Rattle.scc_history.specs.Stamps.{Rises, Rises-prop, recorded, resized, receipt};
+ghost use Rattle.scc_history.specs.Stamps.{Rises, Rises-prop};
 
 use crate::notes::{note, note_refused};
 use crate::{CallError, Log, Receipt};
@@ -29,6 +28,8 @@ pub struct Stripe<C: Calls> {
 }
 
 impl<C: Calls> Stripe<C> {
+    ghost use Rattle.scc_history.specs.Steps.{StepsByRule};
+
     /// An empty part with an empty history. Fails where memory for the array is refused.
     pub fn open(
         alloc: Global,
@@ -67,39 +68,7 @@ impl<C: Calls> Stripe<C> {
     pub fn step(&mut self, log: &mut Log<C>, call: C::Call) -> Result<C::Reply, CallError>
         requires calls { ClonesEqual C.Call.is_clone C.Call.eq }
         requires replies { ClonesEqual C.Reply.is_clone C.Reply.eq }
-        ensures same { (C.setting self.new.container ≡ C.setting self.old.container)
-            × (self.new.opened ≡ self.old.opened) × (self.new.number ≡ self.old.number)
-            × (log.new.number ≡ log.old.number) }
-        ensures stamp { IfOk result (λ r. (self.new.last ≡ max log.old.clock self.old.last + 1)
-            × (log.new.clock ≡ self.new.last)) }
-        ensures history { IfOk result (λ r. (copy : C.Call) × (given : C.Reply)
-            × AreCopies C.Call.is_clone C.Reply.eq call r copy given
-            × (self.new.history.items
-            ≡ self.old.history.items ++ recorded (C.size (C.state self.old.container))
-            (C.size (C.state self.new.container)) self.new.last log.old.number copy given)) }
-        ensures receipt { IfOk result (λ r. (copy : C.Call) × (given : C.Reply)
-            × AreCopies C.Call.is_clone C.Reply.eq call r copy given
-            × (log.new.receipts.items
-            ≡ log.old.receipts.items ++ receipt self.old.number self.new.last copy given ∷ [])) }
-        ensures step { IfOk result (λ r. Changes C.size (C.moves (C.setting self.old.container))
-            (C.resizes (C.setting self.old.container)) (C.state self.old.container) call r
-            (C.state self.new.container)) }
-        ensures err { OnErr result ((self.new.last ≡ self.old.last) × (log.new.clock ≡ log.old.clock)
-            × (log.new.receipts.items ≡ log.old.receipts.items)) }
-        ensures resize { OnErr result (self.new.history.items
-            ≡ self.old.history.items ++ resized (C.size (C.state self.old.container))
-            (C.size (C.state self.new.container)) (max log.old.clock self.old.last + 1)) }
-        ensures stays { OnErr result (Stays C.size (C.resizes (C.setting self.old.container))
-            (C.state self.old.container) (C.state self.new.container)) }
-        ensures refused { result ≡ Err CallError.Container
-            → C.may_refuse (C.setting self.old.container) (C.state self.old.container) call
-            ⊎ (IsSome (C.key_of call) × MayNotClone C.Reply.is_infallible) }
-        ensures room { result ≡ Err CallError.Room
-            → (self.new.container ≡ self.old.container) × (self.new.history.items ≡ self.old.history.items) }
-        ensures full { result ≡ Err CallError.Room
-            → (vec_capacity self.old.history < vec_len self.old.history + 2)
-            ⊎ (vec_capacity log.old.receipts < vec_len log.old.receipts + 1)
-            ⊎ (max log.old.clock self.old.last ≡ 18446744073709551615) ⊎ (C.Call.is_infallible call → ⊥) }
+        ensures { StepsByRule self.old log.old call result self.new log.new }
     {
         if self.history.reserve(2).is_err() || log.receipts.reserve(1).is_err() {
             return Err(CallError::Room);

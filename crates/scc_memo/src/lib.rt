@@ -1,12 +1,12 @@
 //! A memo: a pure function with a cache of its values.
 #![tactic(auto)]
 
-ghost use Rattle.std.specs.Prelude.{◌≡◌, ◌<◌, ◌*◌, ◌↔◌, true, [], length, max, Option, IfOk, IsOk, IsSome, IsTrue, MatchOption};
-ghost use Rattle.scc_contents.specs.Contents.{bucket_count, entries, key_hash, settings_of, waiting_of};
-ghost use Rattle.scc_contents.specs.Sizes.{IsArraySize};
+ghost use Rattle.std.specs.Prelude.{◌≡◌, ◌*◌, ◌↔◌, true, length, Option, IsSome, IsTrue, MatchOption};
+ghost use Rattle.scc_contents.specs.Contents.{bucket_count, entries, key_hash};
 ghost use Rattle.scc_cache.specs.CacheSteps.{IsAbsent, IsPresent, Removes};
 ghost use Rattle.scc_cache.specs.Caches.{IsCacheState};
 ghost use Rattle.scc_cache.specs.Relocations.{RelocatesNone};
+ghost use Rattle.scc_memo.specs.Making.{MakesEmpty};
 ghost use Rattle.scc_memo.specs.Memos.{HasValues, Remembers};
 
 use scc_cache::Owned;
@@ -66,16 +66,7 @@ impl<P: Pure, H: BuildHasher> Memo<P, H> {
     where
         P: Drop,
         H: Drop,
-        ensures function { IfOk result (λ m. m.function ≡ function) }
-        ensures entries { IfOk result (λ m. entries m.cache.contents ≡ []) }
-        ensures none { IfOk result (λ m. minimum ≡ 0 → bucket_count m.cache.contents ≡ 0) }
-        ensures size { IfOk result (λ m. 0 < minimum → IsArraySize minimum (32 * bucket_count m.cache.contents)) }
-        ensures settings { IfOk result (λ m. settings_of m.cache.contents
-            ≡ record { hasher = hasher; skipped = 0; asked = 32 * bucket_count m.cache.contents; reserved = 0 }) }
-        ensures maximum { IfOk result (λ m. IsArraySize (max maximum (32 * bucket_count m.cache.contents))
-            m.cache.maximum) }
-        ensures succeeds { minimum ≡ 0 → IsOk result }
-        ensures waiting { IfOk result (λ m. waiting_of m.cache.contents ≡ []) }
+        ensures { MakesEmpty function hasher minimum maximum result }
     {
         match Owned::with_capacity_and_hasher(alloc, minimum, maximum, hasher) {
             Ok(cache) => Ok(Memo { function, cache }),

@@ -1,9 +1,13 @@
-use Rattle.std.proofs.Common.{rules, ◌≡◌, ◌+◌, ◌<◌, ◌≤◌, [], ◌∷◌, ◌++◌, ◌∙◌, arith, inr}
+use Rattle.std.proofs.Common.{rules, ◌≡◌, ◌+◌, ◌<◌, ◌≤◌, ◌⊎◌, [], ◌∷◌, ◌++◌, ◌∙◌, true, max, arith, inl, inr}
+use Rattle.std.specs.Prelude.{IsSome}
+use Rattle.std.specs.Result.{is_err}
+use Rattle.scc_calls.specs.Copies.{MayNotClone}
 use Rattle.scc_history.specs.Stamps.{recorded, resized, receipt}
 use Rattle.scc_history.proofs.Growing.{grown, Replay-recorded, Replay-resized, Rises-recorded, Rises-resized, RisesTo-push}
-use Rattle.scc_history.proofs.Readying.{ready-changes, ready-stays}
+use Rattle.scc_history.proofs.Readying.{err-holds, no-resize, ready-changes, ready-stays, stays-same}
 use Rattle.scc_calls.proofs.Runs.{changes-as}
 use Rattle.scc_history.proofs.stripe.Stripe.step.Goals as goal
+use Rattle.scc_history.proofs.stripe.Stripe.step.Goals.{then-is_err-via-then-is_err, then-is_err-via-else-is_err+then-is_err-2}
 
 pub invariant_of-self-in_default-ready : goal.invariant_of-self-in_default-ready
 invariant_of-self-in_default-ready g c =
@@ -66,15 +70,85 @@ invariant_of-log-in-Ok-call g c =
     let h : old.clock < stamp = omega arith in
     record { rising = rw e (RisesTo-push _ _ 0 old.clock c.args.self.now.number stamp c.in-Ok-clone.kept c.in-Ok-ready.told old.receipts.items old.rising h) }
 
-pub returns-in-Ok-call-clause-history : goal.returns-in-Ok-call-clause-history
-returns-in-Ok-call-clause-history g c =
-    (c.in-Ok.noted, c.in-Ok-ready.given, (c.in-Ok.ensures.cases, c.in-Ok-call.ensures.answer c.in-Ok-ready.given c.in-Ok-ready.ensures.ready.0), cc)
+pub returns-in-Ok-call : goal.returns-in-Ok-call
+returns-in-Ok-call g c =
+    record {
+      same = (search rules);
+      stamp = (search rules);
+      history = (c.in-Ok.noted, c.in-Ok-ready.given, (c.in-Ok.ensures.cases, c.in-Ok-call.ensures.answer c.in-Ok-ready.given c.in-Ok-ready.ensures.ready.0), cc);
+      receipt = (c.in-Ok-clone.kept, c.in-Ok-ready.told, (c.in-Ok-clone.ensures.cases, c.in-Ok-call.ensures.answer c.in-Ok-ready.told c.in-Ok-ready.ensures.ready.1), cc);
+      step = (
+          let m = g.C.Calls in
+          ready-changes m.size (m.resizes (m.setting c.args.self.now.container)) (m.moves (m.setting c.args.self.now.container)) c.args.call c.in-Ok-call.reply (m.state c.args.self.now.container) (m.state c.ready.new.self) (m.state c.call.new.self) c.ready.ensures.stays c.ready.ensures.grows (λ ne. c.call.ensures.kept (c.ready.ensures.adds ne)) (c.call.ensures.made c.in-Ok-ready.given c.in-Ok-ready.ensures.ready.0) (rw c.ready.ensures.setting at c.in-Ok-call.ensures.ok));
+      err = (search rules);
+      resize = (search rules);
+      stays = (search rules);
+      refused = (search rules);
+      room = (search rules);
+      full = (search rules);
+    }
 
-pub returns-in-Ok-call-clause-receipt : goal.returns-in-Ok-call-clause-receipt
-returns-in-Ok-call-clause-receipt g c =
-    (c.in-Ok-clone.kept, c.in-Ok-ready.told, (c.in-Ok-clone.ensures.cases, c.in-Ok-call.ensures.answer c.in-Ok-ready.told c.in-Ok-ready.ensures.ready.1), cc)
+pub note-requires : goal.note-requires
+note-requires g c = search (rules, c.reserve.ensures.ok)
 
-pub returns-in-Ok-call-clause-step : goal.returns-in-Ok-call-clause-step
-returns-in-Ok-call-clause-step g c =
+pub returns-then-is_err : goal.returns-then-is_err
+returns-then-is_err g c =
     let m = g.C.Calls in
-    ready-changes m.size (m.resizes (m.setting c.args.self.now.container)) (m.moves (m.setting c.args.self.now.container)) c.args.call c.in-Ok-call.reply (m.state c.args.self.now.container) (m.state c.ready.new.self) (m.state c.call.new.self) c.ready.ensures.stays c.ready.ensures.grows (λ ne. c.call.ensures.kept (c.ready.ensures.adds ne)) (c.call.ensures.made c.in-Ok-ready.given c.in-Ok-ready.ensures.ready.0) (rw c.ready.ensures.setting at c.in-Ok-call.ensures.ok)
+    let old = c.args.self.now in
+    let log = c.args.log.now in
+    let items : c.reserve.new.self.items ≡ old.history.items ++ resized (m.size (m.state old.container)) (m.size (m.state old.container)) (max log.clock old.last + 1) = c.reserve.ensures.items ∙ no-resize old.history.items (m.size (m.state old.container)) (max log.clock old.last + 1) in
+    elim c.then-is_err.branch [
+      | then-is_err-via-then-is_err w ↦
+          let refused : is_err c.reserve.result ≡ true = cc in
+          rw (w.self-is, w.log-is) record {
+            same = (search rules);
+            stamp = (search rules);
+            history = (search rules);
+            receipt = (search rules);
+            step = (search rules);
+            err = (search rules);
+            resize = items;
+            stays = stays-same m.size (m.resizes (m.setting old.container)) (m.state old.container);
+            refused = (search rules);
+            room = (search rules);
+            full = (λ _. inl (err-holds c.reserve.result refused c.reserve.ensures.full));
+          }
+      | then-is_err-via-else-is_err+then-is_err-2 w ↦
+          let refused : is_err w.reserve-else-is_err.result ≡ true = cc in
+          rw (w.self-is, w.log-is) record {
+            same = (search rules);
+            stamp = (search rules);
+            history = (search rules);
+            receipt = (search rules);
+            step = (search rules);
+            err = (search rules);
+            resize = items;
+            stays = stays-same m.size (m.resizes (m.setting old.container)) (m.state old.container);
+            refused = (search rules);
+            room = (search rules);
+            full = (λ _. inr (inl (err-holds w.reserve-else-is_err.result refused w.reserve-else-is_err.ensures.full)));
+          }
+    ]
+
+pub returns-in-Err : goal.returns-in-Err
+returns-in-Err g c =
+    let m = g.C.Calls in
+    let old = c.args.self.now in
+    let mid = c.ready.new.self in
+    let new = c.call.new.self in
+    record {
+      same = (search rules);
+      stamp = (search rules);
+      history = (search rules);
+      receipt = (search rules);
+      step = (search rules);
+      err = (search rules);
+      resize = cc;
+      stays = ready-stays m.size (m.resizes (m.setting old.container)) (m.state old.container) (m.state mid) (m.state new) c.ready.ensures.stays c.ready.ensures.grows (λ ne. c.call.ensures.kept (c.ready.ensures.adds ne)) (c.call.ensures.made c.in-Ok-ready.given c.in-Ok-ready.ensures.ready.0) (rw c.ready.ensures.setting at c.in-Err.ensures.err);
+      refused = (λ _. elim (rw c.ready.ensures.setting at c.in-Err.ensures.refused) as (λ _. m.may_refuse (m.setting old.container) (m.state old.container) c.args.call ⊎ (IsSome (m.key_of c.args.call) × MayNotClone g.C.Reply.Clone.is_infallible)) [
+        | inl may ↦ inl (c.ready.ensures.still may)
+        | inr may ↦ inr may
+      ]);
+      room = (search rules);
+      full = (search rules);
+    }

@@ -1,0 +1,43 @@
+-- What a step of a stripe makes of it and of the log of its caller, in one word.
+use Rattle.std.specs.Prelude.{◌≡◌, ◌+◌, ◌<◌, ◌⊎◌, [], ◌∷◌, ◌++◌, Err, Result, IfOk, IsSome, max}
+use Rattle.std.specs.Result.{OnErr}
+use Rattle.std.specs.Vec.{vec_len, vec_capacity}
+use Rattle.std.specs.declared.clone.Clone as clone
+use Rattle.std.specs.declared.cmp.PartialEq as eq
+use Rattle.std.specs.declared.hash.Hash as hash
+use Rattle.std.specs.declared.hash.Hasher as hasher
+use Rattle.std.specs.declared.hash.BuildHasher as builder
+use Rattle.scc_calls.specs.Changes.{Changes, Stays}
+use Rattle.scc_calls.specs.Copies.{AreCopies, MayNotClone}
+use Rattle.scc_calls.specs.declared.calling.Calls as calls
+use Rattle.scc_history.specs.Stamps.{recorded, resized, receipt}
+use Rattle.scc_history.specs.declared.log.Log.{Log}
+use Rattle.scc_history.specs.declared.refusals.CallError.{CallError}
+use Rattle.scc_history.specs.declared.refusals.CallError.TheVariants.{Room, Container}
+use Rattle.scc_history.specs.declared.stripe.Stripe.{Stripe}
+
+module _ {C K H A R T : Type 0} {m : calls.Ghosts C K H A R T} {h : hash.Ghosts K} {g : eq.Ghosts K} {b : builder.Ghosts H T} {w : hasher.Ghosts T} {call_clones : clone.Ghosts A} {call_equality : eq.Ghosts A} {reply_clones : clone.Ghosts R} {reply_equality : eq.Ghosts R} where
+  -- what `step` makes of the stripe old and the log before, once it answered the call so: the stripe new and the log after
+  pub record StepsByRule (old : Stripe C K H A R T m h g b w call_clones call_equality reply_clones reply_equality) (before : Log C K H A R T m h g b w call_clones call_equality reply_clones reply_equality) (call : A) (result : Result R CallError) (new : Stripe C K H A R T m h g b w call_clones call_equality reply_clones reply_equality) (after : Log C K H A R T m h g b w call_clones call_equality reply_clones reply_equality) : Type 0 where
+    -- the setting, the buckets at opening and both numbers stay
+    pub same : (m.setting new.container ≡ m.setting old.container) × (new.opened ≡ old.opened) × (new.number ≡ old.number) × (after.number ≡ before.number)
+    -- where it succeeds, the last stamp and the clock are one more than the greater of the two was
+    pub stamp : IfOk result (λ r. (new.last ≡ max before.clock old.last + 1) × (after.clock ≡ new.last))
+    -- and the history got the record of a clone of the call and of a reply that equals the answer
+    pub history : IfOk result (λ r. (copy : A) × (given : R) × AreCopies call_clones.is_clone reply_equality.eq call r copy given × (new.history.items ≡ old.history.items ++ recorded (m.size (m.state old.container)) (m.size (m.state new.container)) new.last before.number copy given))
+    -- and the log one receipt of such, with the number of the stripe
+    pub receipt : IfOk result (λ r. (copy : A) × (given : R) × AreCopies call_clones.is_clone reply_equality.eq call r copy given × (after.receipts.items ≡ before.receipts.items ++ receipt old.number new.last copy given ∷ []))
+    -- and the container made the call, with at most one resize
+    pub step : IfOk result (λ r. Changes m.size (m.moves (m.setting old.container)) (m.resizes (m.setting old.container)) (m.state old.container) call r (m.state new.container))
+    -- refused, it leaves the last stamp, the clock and the receipts
+    pub err : OnErr result ((new.last ≡ old.last) × (after.clock ≡ before.clock) × (after.receipts.items ≡ before.receipts.items))
+    -- and the history got at most a resize
+    pub resize : OnErr result (new.history.items ≡ old.history.items ++ resized (m.size (m.state old.container)) (m.size (m.state new.container)) (max before.clock old.last + 1))
+    -- and the container made at most that resize
+    pub stays : OnErr result (Stays m.size (m.resizes (m.setting old.container)) (m.state old.container) (m.state new.container))
+    -- the container refuses only a call for which memory may be refused, or a call with a key where a clone of a reply may be
+    pub refused : result ≡ Err Container → m.may_refuse (m.setting old.container) (m.state old.container) call ⊎ (IsSome (m.key_of call) × MayNotClone reply_clones.is_infallible)
+    -- without room, container and history stay
+    pub room : result ≡ Err Room → (new.container ≡ old.container) × (new.history.items ≡ old.history.items)
+    -- there was no room for the record or the receipt, no stamp was left, or a clone of a call may be refused
+    pub full : result ≡ Err Room → (vec_capacity old.history < vec_len old.history + 2) ⊎ (vec_capacity before.receipts < vec_len before.receipts + 1) ⊎ (max before.clock old.last ≡ 18446744073709551615) ⊎ (call_clones.is_infallible call → ⊥)
