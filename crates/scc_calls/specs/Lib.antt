@@ -1,5 +1,6 @@
 pub mod CacheCalls
 pub mod CacheLaws
+pub mod Calling
 pub mod Changes
 pub mod Copies
 pub mod Histories
@@ -13,6 +14,7 @@ pub mod MapWhole
 pub mod Means
 pub mod Parted
 pub mod Parts
+pub mod Rooms
 pub mod Run
 pub mod SetCalls
 pub mod SetLaws

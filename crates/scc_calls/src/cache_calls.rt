@@ -1,12 +1,12 @@
 //! The calls of the owned cache as values.
-ghost use Rattle.std.specs.Prelude.{◌≡◌, ◌≢◌, ◌≤◌, ◌⊎◌, true, length, None, Some, IfOk, IsSome, OnOk, OnErr};
+ghost use Rattle.std.specs.Prelude.{◌≡◌, ◌⊎◌, true, None, Some, IfOk, IsSome, OnErr};
 ghost use Rattle.std.specs.Cmp.{IsPartialEquivalence};
 ghost use Rattle.scc_contents.specs.Contents.{bucket_count, list_of, lists_of, key_hash};
 ghost use Rattle.scc_contents.specs.Hashing.{hash_of};
 ghost use Rattle.scc_cache.specs.CacheSteps.{number_in, IsAbsent};
-ghost use Rattle.scc_calls.specs.CacheCalls.{cache_adds, cache_answer, cache_key, cache_setting, first_of_full, number_by, CacheIsMade, CacheMayRefuse, CacheResizes};
-ghost use Rattle.scc_calls.specs.Changes.{Stays};
+ghost use Rattle.scc_calls.specs.CacheCalls.{cache_answer, cache_key, first_of_full};
 ghost use Rattle.scc_calls.specs.Copies.{ClonesEqual, MayNotClone};
+ghost use Rattle.scc_calls.specs.Rooms.{CacheMakesRoom};
 ghost use Rattle.scc_calls.specs.declared.replies.Reply.TheVariants.{Evicted};
 
 use crate::{CacheCall, Calls, Refused, Reply};
@@ -184,21 +184,8 @@ fn make_room<K: Eq + Hash, V, H: BuildHasher>(
     cache: &mut Owned<K, V, H>,
     call: &CacheCall<K, V>,
 ) -> Result<(), Refused>
-    ensures made { OnOk result (CacheIsMade K.eq
-        (key_hash H.BuildHasher H.Hasher.Hasher K.hash_input cache.new.contents) cache.new call.now) }
-    ensures stays { Stays length (CacheResizes (cache_setting cache.old)
-        (number_by (λ h k. hash_of H.BuildHasher H.Hasher.Hasher h (K.hash_input k)) (cache_setting cache.old)))
-        (lists_of cache.old.contents) (lists_of cache.new.contents) }
-    ensures setting { cache_setting cache.new ≡ cache_setting cache.old }
-    ensures grows { length (lists_of cache.old.contents) ≤ length (lists_of cache.new.contents) }
-    ensures adds { length (lists_of cache.new.contents) ≢ length (lists_of cache.old.contents) → cache_adds call.now }
-    ensures refused { OnErr result (CacheMayRefuse K.eq
-        (number_by (λ h k. hash_of H.BuildHasher H.Hasher.Hasher h (K.hash_input k)) (cache_setting cache.old))
-        (lists_of cache.old.contents) call.now) }
-    ensures still { CacheMayRefuse K.eq (number_by (λ h k. hash_of H.BuildHasher H.Hasher.Hasher h (K.hash_input k))
-        (cache_setting cache.old)) (lists_of cache.new.contents) call.now
-        → CacheMayRefuse K.eq (number_by (λ h k. hash_of H.BuildHasher H.Hasher.Hasher h (K.hash_input k))
-        (cache_setting cache.old)) (lists_of cache.old.contents) call.now }
+    ensures { CacheMakesRoom K.eq (λ h k. hash_of H.BuildHasher H.Hasher.Hasher h (K.hash_input k))
+        cache.old call.now result cache.new }
 {
     match call {
         CacheCall::Put(k, _) => match cache.make_room(k) {

@@ -1,8 +1,8 @@
 //! Containers whose calls are values.
-ghost use Rattle.std.specs.Prelude.{◌≡◌, ℕ, ◌*◌, ◌<◌, ◌≤◌, List, ◌∷◌, ◌++◌, ◌⊎◌, ◌≢◌, true, length, Option, Some, None, IfOk, IsSome, OnErr, MatchOption};
+ghost use Rattle.std.specs.Prelude.{◌≡◌, ℕ, ◌*◌, ◌<◌, ◌≤◌, List, ◌∷◌, ◌++◌, length, Option, Some, None, IfOk, MatchOption};
 ghost use Rattle.std.specs.Cmp.{IsPartialEquivalence};
-ghost use Rattle.scc_calls.specs.Copies.{Alike, ClonesEqual, MayNotClone};
-ghost use Rattle.scc_calls.specs.Changes.{Changes, Stays};
+ghost use Rattle.scc_calls.specs.Calling.{CallsByRule, ReadiesByRule};
+ghost use Rattle.scc_calls.specs.Copies.{Alike, ClonesEqual};
 ghost use Rattle.scc_calls.specs.Made.{IsMadeFor};
 ghost use Rattle.scc_calls.specs.Parts.{Routed, KeyRouted, RoutedFrom};
 ghost use Rattle.scc_contents.specs.Routing.{stripe_of};
@@ -86,29 +86,14 @@ pub trait Calls: Sized {
     /// that the call gives next. Where it is refused, the contents are unchanged.
     fn ready(&mut self, call: &Self::Call) -> Result<(Self::Reply, Self::Reply), Refused>
         requires clones { ClonesEqual Self.Reply.is_clone Self.Reply.eq }
-        ensures setting { setting self.new ≡ setting self.old }
-        ensures stays { Stays size (resizes (setting self.old)) (state self.old) (state self.new) }
-        ensures grows { size (state self.old) ≤ size (state self.new) }
-        ensures adds { size (state self.new) ≢ size (state self.old) → adds call.now }
-        ensures ready { IfOk result (λ r. is_ready self.new call.now r.0 × is_ready self.new call.now r.1) }
-        ensures refused { OnErr result (may_refuse (setting self.old) (state self.old) call.now
-            ⊎ (IsSome (key_of call.now) × MayNotClone Self.Reply.is_infallible)) }
-        ensures still { may_refuse (setting self.old) (state self.new) call.now → may_refuse (setting self.old) (state self.old) call.now };
+        ensures { ReadiesByRule setting state size key_of resizes may_refuse adds is_ready Self.Reply.is_infallible
+            self.old call.now result self.new };
 
     /// Makes the call.
     fn call(&mut self, call: Self::Call) -> Result<Self::Reply, Refused>
         requires clones { ClonesEqual Self.Reply.is_clone Self.Reply.eq }
-        ensures setting { setting self.new ≡ setting self.old }
-        ensures ok { IfOk result (λ r. Changes size (moves (setting self.old)) (resizes (setting self.old))
-            (state self.old) call r (state self.new)) }
-        ensures err { OnErr result (Stays size (resizes (setting self.old)) (state self.old) (state self.new)) }
-        ensures refused { OnErr result (may_refuse (setting self.old) (state self.old) call
-            ⊎ (IsSome (key_of call) × MayNotClone Self.Reply.is_infallible)) }
-        ensures answer { (copy : Self.Reply) → is_ready self.old call copy
-            → IfOk result (λ r. Self.Reply.eq r copy ≡ true) }
-        ensures made { (copy : Self.Reply) → is_ready self.old call copy
-            → size (state self.new) ≤ size (state self.old) }
-        ensures kept { adds call → size (state self.old) ≤ size (state self.new) };
+        ensures { CallsByRule setting state size key_of resizes may_refuse adds is_ready Self.Reply.is_infallible moves
+            Self.Reply.eq self.old call result self.new };
 
     /// The number of buckets, 0 where there is no array.
     fn buckets(&self) -> usize

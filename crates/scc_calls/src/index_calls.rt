@@ -1,12 +1,11 @@
 //! The calls of the owned index as values.
-ghost use Rattle.std.specs.Prelude.{◌≡◌, ◌≢◌, ◌≤◌, ◌⊎◌, true, None, Some, IfOk, IsSome, OnOk, OnErr};
+ghost use Rattle.std.specs.Prelude.{◌≡◌, ◌⊎◌, true, None, Some, IfOk, IsSome, OnErr};
 ghost use Rattle.std.specs.Cmp.{IsPartialEquivalence};
-ghost use Rattle.scc_contents.specs.Contents.{entries, bucket_count, settings_of, key_hash};
-ghost use Rattle.scc_contents.specs.Pairs.{find};
-ghost use Rattle.scc_calls.specs.Changes.{Stays};
+ghost use Rattle.scc_contents.specs.Contents.{entries};
+ghost use Rattle.scc_contents.specs.Hashing.{hash_of};
 ghost use Rattle.scc_calls.specs.Copies.{ClonesEqual, MayNotClone};
-ghost use Rattle.scc_calls.specs.IndexCalls.{index_adds, index_answer, index_key, IndexIsMade, IndexIsMadeFor, IndexMayRefuse};
-ghost use Rattle.scc_calls.specs.States.{ResizesTo, setting_of, state_of};
+ghost use Rattle.scc_calls.specs.IndexCalls.{index_answer, index_key};
+ghost use Rattle.scc_calls.specs.Rooms.{IndexMakesRoom, IndexMakesRoomFor};
 
 use crate::{Calls, IndexCall, Refused, Reply};
 use scc_common::{InsertError, MakeError};
@@ -167,15 +166,8 @@ fn make_room<K: Eq + Hash, V, H: BuildHasher>(
     index: &mut Owned<K, V, H>,
     call: &IndexCall<K, V>,
 ) -> Result<(), Refused>
-    ensures made { OnOk result (IndexIsMade K.eq (key_hash H.BuildHasher H.Hasher.Hasher K.hash_input index.new)
-        index.new call.now) }
-    ensures stays { Stays (λ s. s.1) (ResizesTo (setting_of index.old)) (state_of index.old) (state_of index.new) }
-    ensures settings { settings_of index.new ≡ settings_of index.old }
-    ensures grows { bucket_count index.old ≤ bucket_count index.new }
-    ensures adds { bucket_count index.new ≢ bucket_count index.old → index_adds call.now }
-    ensures refused { OnErr result (IndexMayRefuse K.eq (state_of index.old) call.now) }
-    ensures still { IndexMayRefuse K.eq (state_of index.new) call.now
-        → IndexMayRefuse K.eq (state_of index.old) call.now }
+    ensures { IndexMakesRoom K.eq (λ h k. hash_of H.BuildHasher H.Hasher.Hasher h (K.hash_input k))
+        index.old call.now result index.new }
 {
     match call {
         IndexCall::Insert(k, _) => make_room_for(index, k),
@@ -188,13 +180,8 @@ fn make_room_for<K: Eq + Hash, V, H: BuildHasher>(
     index: &mut Owned<K, V, H>,
     k: &K,
 ) -> Result<(), Refused>
-    ensures made { OnOk result (IndexIsMadeFor K.eq (key_hash H.BuildHasher H.Hasher.Hasher K.hash_input index.new)
-        index.new k.now) }
-    ensures stays { Stays (λ s. s.1) (ResizesTo (setting_of index.old)) (state_of index.old) (state_of index.new) }
-    ensures settings { settings_of index.new ≡ settings_of index.old }
-    ensures grows { bucket_count index.old ≤ bucket_count index.new }
-    ensures refused { OnErr result (find K.eq (entries index.old) k.now ≡ None) }
-    ensures still { find K.eq (entries index.new) k.now ≡ None → find K.eq (entries index.old) k.now ≡ None }
+    ensures { IndexMakesRoomFor K.eq (λ h k. hash_of H.BuildHasher H.Hasher.Hasher h (K.hash_input k))
+        index.old k.now result index.new }
 {
     match index.make_room(k) {
         Ok(()) => Ok(()),

@@ -1,13 +1,11 @@
 //! The calls of the owned map as values.
-ghost use Rattle.std.specs.Prelude.{◌≡◌, ◌≢◌, ◌≤◌, ◌⊎◌, true, None, Some, IfOk, IsSome, OnOk, OnErr};
+ghost use Rattle.std.specs.Prelude.{◌≡◌, ◌⊎◌, true, None, Some, IfOk, IsSome, OnErr};
 ghost use Rattle.std.specs.Cmp.{IsPartialEquivalence};
-ghost use Rattle.scc_contents.specs.Contents.{entries, bucket_count, settings_of, key_hash};
+ghost use Rattle.scc_contents.specs.Contents.{entries};
 ghost use Rattle.scc_contents.specs.Hashing.{hash_of};
-ghost use Rattle.scc_contents.specs.Pairs.{find};
-ghost use Rattle.scc_calls.specs.Changes.{Stays};
 ghost use Rattle.scc_calls.specs.Copies.{ClonesEqual, MayNotClone};
-ghost use Rattle.scc_calls.specs.MapCalls.{map_adds, map_answer, map_key, MapIsMade, MapIsMadeFor, MapMayRefuse, MapRefuses};
-ghost use Rattle.scc_calls.specs.States.{ResizesTo, setting_of, state_of};
+ghost use Rattle.scc_calls.specs.MapCalls.{map_answer, map_key};
+ghost use Rattle.scc_calls.specs.Rooms.{MapMakesRoom, MapMakesRoomFor};
 
 use crate::{Calls, MapCall, Refused, Reply};
 use scc_common::{InsertError, MakeError};
@@ -172,19 +170,8 @@ fn make_room<K: Eq + Hash, V, H: BuildHasher>(
     map: &mut Owned<K, V, H>,
     call: &MapCall<K, V>,
 ) -> Result<(), Refused>
-    ensures made { OnOk result (MapIsMade K.eq (key_hash H.BuildHasher H.Hasher.Hasher K.hash_input map.new) map.new
-        call.now) }
-    ensures stays { Stays (λ s. s.1) (ResizesTo (setting_of map.old)) (state_of map.old) (state_of map.new) }
-    ensures settings { settings_of map.new ≡ settings_of map.old }
-    ensures grows { bucket_count map.old ≤ bucket_count map.new }
-    ensures adds { bucket_count map.new ≢ bucket_count map.old → map_adds call.now }
-    ensures refused { OnErr result (MapMayRefuse K.eq
-        (λ h k. hash_of H.BuildHasher H.Hasher.Hasher h (K.hash_input k)) (setting_of map.old) (state_of map.old)
-        call.now) }
-    ensures still { MapMayRefuse K.eq (λ h k. hash_of H.BuildHasher H.Hasher.Hasher h (K.hash_input k))
-        (setting_of map.old) (state_of map.new) call.now
-        → MapMayRefuse K.eq (λ h k. hash_of H.BuildHasher H.Hasher.Hasher h (K.hash_input k)) (setting_of map.old)
-        (state_of map.old) call.now }
+    ensures { MapMakesRoom K.eq (λ h k. hash_of H.BuildHasher H.Hasher.Hasher h (K.hash_input k))
+        map.old call.now result map.new }
 {
     match call {
         MapCall::Insert(k, _) => make_room_for(map, k),
@@ -198,17 +185,8 @@ fn make_room_for<K: Eq + Hash, V, H: BuildHasher>(
     map: &mut Owned<K, V, H>,
     k: &K,
 ) -> Result<(), Refused>
-    ensures made { OnOk result (MapIsMadeFor K.eq (key_hash H.BuildHasher H.Hasher.Hasher K.hash_input map.new)
-        map.new k.now) }
-    ensures stays { Stays (λ s. s.1) (ResizesTo (setting_of map.old)) (state_of map.old) (state_of map.new) }
-    ensures settings { settings_of map.new ≡ settings_of map.old }
-    ensures grows { bucket_count map.old ≤ bucket_count map.new }
-    ensures refused { OnErr result (MapRefuses K.eq (λ h k. hash_of H.BuildHasher H.Hasher.Hasher h (K.hash_input k))
-        (setting_of map.old) (state_of map.old) k.now) }
-    ensures still { MapRefuses K.eq (λ h k. hash_of H.BuildHasher H.Hasher.Hasher h (K.hash_input k))
-        (setting_of map.old) (state_of map.new) k.now
-        → MapRefuses K.eq (λ h k. hash_of H.BuildHasher H.Hasher.Hasher h (K.hash_input k)) (setting_of map.old)
-        (state_of map.old) k.now }
+    ensures { MapMakesRoomFor K.eq (λ h k. hash_of H.BuildHasher H.Hasher.Hasher h (K.hash_input k))
+        map.old k.now result map.new }
 {
     match map.make_room(k) {
         Ok(()) => Ok(()),

@@ -1,13 +1,12 @@
 //! The calls of the owned set as values.
-ghost use Rattle.std.specs.Prelude.{◌≡◌, ◌≢◌, ◌≤◌, ◌⊎◌, true, None, Some, IfOk, IsSome, OnOk, OnErr};
+ghost use Rattle.std.specs.Prelude.{◌≡◌, ◌⊎◌, true, None, Some, IfOk, IsSome, OnErr};
 ghost use Rattle.std.specs.Cmp.{IsPartialEquivalence};
-ghost use Rattle.scc_contents.specs.Contents.{entries, bucket_count, settings_of, key_hash};
+ghost use Rattle.scc_contents.specs.Contents.{entries};
 ghost use Rattle.scc_contents.specs.Hashing.{hash_of};
 ghost use Rattle.scc_set.specs.Keys.{find};
-ghost use Rattle.scc_calls.specs.Changes.{Stays};
 ghost use Rattle.scc_calls.specs.Copies.{ClonesEqual, MayNotClone};
-ghost use Rattle.scc_calls.specs.SetCalls.{key_of_set, set_adds, set_answer, SetIsMade, SetIsMadeFor, SetMayRefuse, SetRefuses};
-ghost use Rattle.scc_calls.specs.States.{ResizesTo, setting_of, state_of};
+ghost use Rattle.scc_calls.specs.SetCalls.{key_of_set, set_answer};
+ghost use Rattle.scc_calls.specs.Rooms.{SetMakesRoom, SetMakesRoomFor};
 ghost use Rattle.scc_calls.specs.declared.replies.Reply.TheVariants.{Key};
 
 use crate::{Calls, Refused, Reply, SetCall};
@@ -165,19 +164,8 @@ fn make_room<K: Eq + Hash, H: BuildHasher>(
     set: &mut Owned<K, H>,
     call: &SetCall<K>,
 ) -> Result<(), Refused>
-    ensures made { OnOk result (SetIsMade K.eq (key_hash H.BuildHasher H.Hasher.Hasher K.hash_input set.new) set.new
-        call.now) }
-    ensures stays { Stays (λ s. s.1) (ResizesTo (setting_of set.old)) (state_of set.old) (state_of set.new) }
-    ensures settings { settings_of set.new ≡ settings_of set.old }
-    ensures grows { bucket_count set.old ≤ bucket_count set.new }
-    ensures adds { bucket_count set.new ≢ bucket_count set.old → set_adds call.now }
-    ensures refused { OnErr result (SetMayRefuse K.eq
-        (λ h k. hash_of H.BuildHasher H.Hasher.Hasher h (K.hash_input k)) (setting_of set.old) (state_of set.old)
-        call.now) }
-    ensures still { SetMayRefuse K.eq (λ h k. hash_of H.BuildHasher H.Hasher.Hasher h (K.hash_input k))
-        (setting_of set.old) (state_of set.new) call.now
-        → SetMayRefuse K.eq (λ h k. hash_of H.BuildHasher H.Hasher.Hasher h (K.hash_input k)) (setting_of set.old)
-        (state_of set.old) call.now }
+    ensures { SetMakesRoom K.eq (λ h k. hash_of H.BuildHasher H.Hasher.Hasher h (K.hash_input k))
+        set.old call.now result set.new }
 {
     match call {
         SetCall::Insert(k) => make_room_for(set, k),
@@ -188,17 +176,8 @@ fn make_room<K: Eq + Hash, H: BuildHasher>(
 
 // Makes what an insertion of the key wants.
 fn make_room_for<K: Eq + Hash, H: BuildHasher>(set: &mut Owned<K, H>, k: &K) -> Result<(), Refused>
-    ensures made { OnOk result (SetIsMadeFor K.eq (key_hash H.BuildHasher H.Hasher.Hasher K.hash_input set.new)
-        set.new k.now) }
-    ensures stays { Stays (λ s. s.1) (ResizesTo (setting_of set.old)) (state_of set.old) (state_of set.new) }
-    ensures settings { settings_of set.new ≡ settings_of set.old }
-    ensures grows { bucket_count set.old ≤ bucket_count set.new }
-    ensures refused { OnErr result (SetRefuses K.eq (λ h k. hash_of H.BuildHasher H.Hasher.Hasher h (K.hash_input k))
-        (setting_of set.old) (state_of set.old) k.now) }
-    ensures still { SetRefuses K.eq (λ h k. hash_of H.BuildHasher H.Hasher.Hasher h (K.hash_input k))
-        (setting_of set.old) (state_of set.new) k.now
-        → SetRefuses K.eq (λ h k. hash_of H.BuildHasher H.Hasher.Hasher h (K.hash_input k)) (setting_of set.old)
-        (state_of set.old) k.now }
+    ensures { SetMakesRoomFor K.eq (λ h k. hash_of H.BuildHasher H.Hasher.Hasher h (K.hash_input k))
+        set.old k.now result set.new }
 {
     match set.make_room(k) {
         Ok(()) => Ok(()),

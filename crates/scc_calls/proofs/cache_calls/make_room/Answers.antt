@@ -1,4 +1,4 @@
-use Rattle.std.proofs.Common.{◌≤◌, ◌*◌, ℕ, List, length, inl, inr, sym, ap, subst, arith}
+use Rattle.std.proofs.Common.{◌≤◌, ◌*◌, ℕ, List, length, inl, inr, sym, ap, subst, arith, rules}
 use Rattle.scc_contents.specs.Contents.{bucket_count, key_hash, lists_of}
 use Rattle.scc_table.proofs.Same.{hash-same}
 use Rattle.scc_cache.specs.CacheSteps.{IsReadyFor, number_in}
@@ -8,48 +8,45 @@ use Rattle.scc_calls.proofs.CacheReplies.{by_place}
 use Rattle.scc_calls.proofs.CacheRoom.{room-stays, room-more, room-still}
 use Rattle.scc_calls.proofs.cache_calls.make_room.Goals as goal
 
-pub returns-in-Ok-clause-made : goal.returns-in-Ok-clause-made
-returns-in-Ok-clause-made g c =
+pub returns-in-Ok : goal.returns-in-Ok
+returns-in-Ok g c =
     let a = c.args.cache.now in
     let d = c.make_room.new.self in
     let k = c.in-Put.k in
     let hash : g.row.K.Denot → ℕ = key_hash g.H.BuildHasher g.H.Hasher.Hasher g.K.Hash.hash_input c.args.cache.now.contents in
-    let like = hash-same g.H.BuildHasher g.H.Hasher.Hasher g.K.Hash.hash_input a.contents d.contents c.in-Ok.ensures.settings in
-    rw c.in-Put.is (by_place g.K.PartialEq.eq (number_in hash a.contents) (lists_of a.contents) k
-    (λ i p at. let same = (c.in-Ok.ensures.present p (i, at)).1 in rw same (inl (p, (i, at))))
-    (λ none. inr (subst (λ (h : g.row.K.Denot → ℕ). IsReadyFor h d k) (sym like) (c.in-Ok.ensures.ok none).ready)))
+    record {
+      made = (
+          let like = hash-same g.H.BuildHasher g.H.Hasher.Hasher g.K.Hash.hash_input a.contents d.contents c.in-Ok.ensures.settings in
+          rw c.in-Put.is (by_place g.K.PartialEq.eq (number_in hash a.contents) (lists_of a.contents) k
+          (λ i p at. let same = (c.in-Ok.ensures.present p (i, at)).1 in rw same (inl (p, (i, at))))
+          (λ none. inr (subst (λ (h : g.row.K.Denot → ℕ). IsReadyFor h d k) (sym like) (c.in-Ok.ensures.ok none).ready))));
+      stays = (
+          let R : List (List (g.row.K.Denot × g.row.V.Denot)) → ℕ → List (List (g.row.K.Denot × g.row.V.Denot)) → Type 0 = CacheResizes (cache_setting a) (number_in (key_hash g.H.BuildHasher g.H.Hasher.Hasher g.K.Hash.hash_input a.contents) a.contents) in
+          by_place g.K.PartialEq.eq (number_in hash a.contents) (lists_of a.contents) k
+          (λ i p at. stays-same R (lists_of a.contents) (lists_of d.contents) (ap (λ x. lists_of x.contents) (c.in-Ok.ensures.present p (i, at)).1))
+          (λ none. room-stays hash g.K.PartialEq.eq a d k (c.in-Ok.ensures.ok none) (subst (λ m. 32 * bucket_count d.contents ≤ m) c.in-Ok.ensures.maximum c.in-Ok.ensures.state.within)));
+      settings = (search rules);
+      grows = (
+          by_place g.K.PartialEq.eq (number_in hash a.contents) (lists_of a.contents) k
+          (λ i p at. let same = ap (λ x. length (lists_of x.contents)) (c.in-Ok.ensures.present p (i, at)).1 in omega arith)
+          (λ none. room-more hash g.K.PartialEq.eq a d k (c.in-Ok.ensures.ok none)));
+      adds = (search rules);
+      refused = (search rules);
+      still = (
+          rw c.in-Put.is (by_place g.K.PartialEq.eq (number_in hash a.contents) (lists_of a.contents) k
+          (λ i p at. let same = (c.in-Ok.ensures.present p (i, at)).1 in rw same (λ h. h))
+          (λ none. room-still hash g.K.PartialEq.eq a d k (c.in-Ok.ensures.ok none) c.in-Put.field-1)));
+    }
 
-pub returns-in-Ok-clause-stays : goal.returns-in-Ok-clause-stays
-returns-in-Ok-clause-stays g c =
-    let a = c.args.cache.now in
-    let d = c.make_room.new.self in
-    let k = c.in-Put.k in
-    let R : List (List (g.row.K.Denot × g.row.V.Denot)) → ℕ → List (List (g.row.K.Denot × g.row.V.Denot)) → Type 0 = CacheResizes (cache_setting a) (number_in (key_hash g.H.BuildHasher g.H.Hasher.Hasher g.K.Hash.hash_input a.contents) a.contents) in
-    let hash : g.row.K.Denot → ℕ = key_hash g.H.BuildHasher g.H.Hasher.Hasher g.K.Hash.hash_input c.args.cache.now.contents in
-    by_place g.K.PartialEq.eq (number_in hash a.contents) (lists_of a.contents) k
-    (λ i p at. stays-same R (lists_of a.contents) (lists_of d.contents) (ap (λ x. lists_of x.contents) (c.in-Ok.ensures.present p (i, at)).1))
-    (λ none. room-stays hash g.K.PartialEq.eq a d k (c.in-Ok.ensures.ok none) (subst (λ m. 32 * bucket_count d.contents ≤ m) c.in-Ok.ensures.maximum c.in-Ok.ensures.state.within))
-
-pub returns-in-Ok-clause-grows : goal.returns-in-Ok-clause-grows
-returns-in-Ok-clause-grows g c =
-    let a = c.args.cache.now in
-    let d = c.make_room.new.self in
-    let k = c.in-Put.k in
-    let hash : g.row.K.Denot → ℕ = key_hash g.H.BuildHasher g.H.Hasher.Hasher g.K.Hash.hash_input c.args.cache.now.contents in
-    by_place g.K.PartialEq.eq (number_in hash a.contents) (lists_of a.contents) k
-    (λ i p at. let same = ap (λ x. length (lists_of x.contents)) (c.in-Ok.ensures.present p (i, at)).1 in omega arith)
-    (λ none. room-more hash g.K.PartialEq.eq a d k (c.in-Ok.ensures.ok none))
-
-pub returns-in-Ok-clause-still : goal.returns-in-Ok-clause-still
-returns-in-Ok-clause-still g c =
-    let a = c.args.cache.now in
-    let d = c.make_room.new.self in
-    let k = c.in-Put.k in
-    let hash : g.row.K.Denot → ℕ = key_hash g.H.BuildHasher g.H.Hasher.Hasher g.K.Hash.hash_input c.args.cache.now.contents in
-    rw c.in-Put.is (by_place g.K.PartialEq.eq (number_in hash a.contents) (lists_of a.contents) k
-    (λ i p at. let same = (c.in-Ok.ensures.present p (i, at)).1 in rw same (λ h. h))
-    (λ none. room-still hash g.K.PartialEq.eq a d k (c.in-Ok.ensures.ok none) c.in-Put.field-1))
-
-pub returns-in-Err-clause-refused : goal.returns-in-Err-clause-refused
+pub returns-in-Err : goal.returns-in-Err
 unfolding bucket_count lists_of
-returns-in-Err-clause-refused g c = rw c.in-Put.is c.in-Err.ensures.err
+returns-in-Err g c =
+    record {
+      made = (search rules);
+      stays = (search rules);
+      settings = (search rules);
+      grows = (search rules);
+      adds = (search rules);
+      refused = (rw c.in-Put.is c.in-Err.ensures.err);
+      still = (rw c.in-Err.ensures.same (λ h. h));
+    }

@@ -1,4 +1,13 @@
 use Rattle.scc_calls.proofs.index_calls.make_room.Goals as goal
 
-pub returns-in-Insert-clause-made : goal.returns-in-Insert-clause-made
-returns-in-Insert-clause-made g c = rw c.in-Insert.is c.make_room_for.ensures.made
+pub returns-in-Insert : goal.returns-in-Insert
+returns-in-Insert g c =
+    record {
+      made = (rw c.in-Insert.is c.make_room_for.ensures.made);
+      stays = c.make_room_for.ensures.stays;
+      settings = c.make_room_for.ensures.settings;
+      grows = c.make_room_for.ensures.grows;
+      adds = (rw c.in-Insert.is (λ more. tt));
+      refused = (rw c.in-Insert.is c.make_room_for.ensures.refused);
+      still = (rw c.in-Insert.is c.make_room_for.ensures.still);
+    }

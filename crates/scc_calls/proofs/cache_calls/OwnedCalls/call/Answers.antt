@@ -14,285 +14,291 @@ use Rattle.scc_calls.proofs.CacheReplies.{answers-given, answers-made, clear-les
 use Rattle.scc_calls.proofs.Copying.{copied}
 use Rattle.scc_calls.proofs.cache_calls.OwnedCalls.call.Goals as goal
 
-pub returns-in-Ok-clause-ok : goal.returns-in-Ok-clause-ok
-returns-in-Ok-clause-ok g c =
+pub returns-in-Ok : goal.returns-in-Ok
+returns-in-Ok g c =
     let s = c.args.self.now in
     let hash : g.row.K.Denot → ℕ = key_hash g.H.BuildHasher g.H.Hasher.Hasher g.K.Hash.hash_input c.args.self.now.contents in
     let eq = g.K.PartialEq.eq in
     let raw : Changes length (CacheMoves eq (number_in hash s.contents)) (CacheResizes (cache_setting s) (number_in hash s.contents)) (lists_of s.contents) (Put c.in-Put.k c.in-Put.v) (Evicted c.in-Ok.evicted) (lists_of c.put_sync.new.self.contents) = put-changes hash eq s c.put_sync.new.self c.in-Put.k c.in-Put.v c.in-Ok.evicted c.in-Ok.ensures.step c.in-Ok.ensures.state.within in
-    means-made c.equals.ensures c.equals-2.ensures hash eq s c.put_sync.new.self c.args.call (Put c.in-Put.k c.in-Put.v) c.in-Put.is (Evicted c.in-Ok.evicted) raw
+    record {
+      setting = (search rules);
+      ok = (means-made c.equals.ensures c.equals-2.ensures hash eq s c.put_sync.new.self c.args.call (Put c.in-Put.k c.in-Put.v) c.in-Put.is (Evicted c.in-Ok.evicted) raw);
+      err = (search rules);
+      refused = (search rules);
+      answer = (
+          λ copy ready. let less : length (lists_of c.put_sync.new.self.contents) ≤ length (lists_of s.contents) = put-once hash eq s c.put_sync.new.self c.in-Put.k c.in-Put.v c.in-Ok.evicted c.in-Ok.ensures.step c.in-Ok.ensures.once (rw c.in-Put.is at ready.0) in
+          answers-made c.equals.ensures c.equals-2.ensures hash eq s c.put_sync.new.self c.args.call (Put c.in-Put.k c.in-Put.v) c.in-Put.is (Evicted c.in-Ok.evicted) raw copy less ready.1);
+      made = (
+          λ copy ready. let less : length (lists_of c.put_sync.new.self.contents) ≤ length (lists_of s.contents) = put-once hash eq s c.put_sync.new.self c.in-Put.k c.in-Put.v c.in-Ok.evicted c.in-Ok.ensures.step c.in-Ok.ensures.once (rw c.in-Put.is at ready.0) in
+          less);
+      kept = (λ _. put-more hash eq s c.put_sync.new.self c.in-Put.k c.in-Put.v c.in-Ok.evicted c.in-Ok.ensures.step);
+    }
 
-pub returns-in-Ok-clause-answer : goal.returns-in-Ok-clause-answer
-returns-in-Ok-clause-answer g c copy ready =
-    let s = c.args.self.now in
-    let hash : g.row.K.Denot → ℕ = key_hash g.H.BuildHasher g.H.Hasher.Hasher g.K.Hash.hash_input c.args.self.now.contents in
-    let eq = g.K.PartialEq.eq in
-    let raw : Changes length (CacheMoves eq (number_in hash s.contents)) (CacheResizes (cache_setting s) (number_in hash s.contents)) (lists_of s.contents) (Put c.in-Put.k c.in-Put.v) (Evicted c.in-Ok.evicted) (lists_of c.put_sync.new.self.contents) = put-changes hash eq s c.put_sync.new.self c.in-Put.k c.in-Put.v c.in-Ok.evicted c.in-Ok.ensures.step c.in-Ok.ensures.state.within in
-    let less : length (lists_of c.put_sync.new.self.contents) ≤ length (lists_of s.contents) = put-once hash eq s c.put_sync.new.self c.in-Put.k c.in-Put.v c.in-Ok.evicted c.in-Ok.ensures.step c.in-Ok.ensures.once (rw c.in-Put.is at ready.0) in
-    answers-made c.equals.ensures c.equals-2.ensures hash eq s c.put_sync.new.self c.args.call (Put c.in-Put.k c.in-Put.v) c.in-Put.is (Evicted c.in-Ok.evicted) raw copy less ready.1
-
-pub returns-in-Ok-clause-made : goal.returns-in-Ok-clause-made
-returns-in-Ok-clause-made g c copy ready =
-    let s = c.args.self.now in
-    let hash : g.row.K.Denot → ℕ = key_hash g.H.BuildHasher g.H.Hasher.Hasher g.K.Hash.hash_input c.args.self.now.contents in
-    let eq = g.K.PartialEq.eq in
-    let less : length (lists_of c.put_sync.new.self.contents) ≤ length (lists_of s.contents) = put-once hash eq s c.put_sync.new.self c.in-Put.k c.in-Put.v c.in-Ok.evicted c.in-Ok.ensures.step c.in-Ok.ensures.once (rw c.in-Put.is at ready.0) in
-    less
-
-pub returns-in-Ok-clause-kept : goal.returns-in-Ok-clause-kept
-returns-in-Ok-clause-kept g c =
-    let s = c.args.self.now in
-    let hash : g.row.K.Denot → ℕ = key_hash g.H.BuildHasher g.H.Hasher.Hasher g.K.Hash.hash_input c.args.self.now.contents in
-    let eq = g.K.PartialEq.eq in
-    λ _. put-more hash eq s c.put_sync.new.self c.in-Put.k c.in-Put.v c.in-Ok.evicted c.in-Ok.ensures.step
-
-pub returns-in-Err-Exists-clause-ok : goal.returns-in-Err-Exists-clause-ok
-returns-in-Err-Exists-clause-ok g c =
+pub returns-in-Err-Exists : goal.returns-in-Err-Exists
+returns-in-Err-Exists g c =
     let s = c.args.self.now in
     let hash : g.row.K.Denot → ℕ = key_hash g.H.BuildHasher g.H.Hasher.Hasher g.K.Hash.hash_input c.args.self.now.contents in
     let eq = g.K.PartialEq.eq in
     let step = subst (λ (e : InsertError g.row.K.Denot g.row.V.Denot). Puts hash eq s (c.in-Put.k, c.in-Put.v) (Err e) c.put_sync.new.self) c.in-Err-Exists.field-0-is c.in-Err-Exists.ensures.step in
     let raw : Changes length (CacheMoves eq (number_in hash s.contents)) (CacheResizes (cache_setting s) (number_in hash s.contents)) (lists_of s.contents) (Put c.in-Put.k c.in-Put.v) (Exists c.in-Err-Exists.k c.in-Err-Exists.v) (lists_of c.put_sync.new.self.contents) = exists-changes hash eq s c.put_sync.new.self c.in-Put.k c.in-Put.v (c.in-Err-Exists.k, c.in-Err-Exists.v) step in
-    means-made c.equals.ensures c.equals-2.ensures hash eq s c.put_sync.new.self c.args.call (Put c.in-Put.k c.in-Put.v) c.in-Put.is (Exists c.in-Err-Exists.k c.in-Err-Exists.v) raw
+    record {
+      setting = (search rules);
+      ok = (means-made c.equals.ensures c.equals-2.ensures hash eq s c.put_sync.new.self c.args.call (Put c.in-Put.k c.in-Put.v) c.in-Put.is (Exists c.in-Err-Exists.k c.in-Err-Exists.v) raw);
+      err = (search rules);
+      refused = (search rules);
+      answer = (
+          λ copy ready. let less : length (lists_of c.put_sync.new.self.contents) ≤ length (lists_of s.contents) = (let same = ap (λ x. length (lists_of x.contents)) step.2 in omega arith) in
+          answers-made c.equals.ensures c.equals-2.ensures hash eq s c.put_sync.new.self c.args.call (Put c.in-Put.k c.in-Put.v) c.in-Put.is (Exists c.in-Err-Exists.k c.in-Err-Exists.v) raw copy less ready.1);
+      made = (search rules);
+      kept = (search rules);
+    }
 
-pub returns-in-Err-Exists-clause-answer : goal.returns-in-Err-Exists-clause-answer
-returns-in-Err-Exists-clause-answer g c copy ready =
-    let s = c.args.self.now in
-    let hash : g.row.K.Denot → ℕ = key_hash g.H.BuildHasher g.H.Hasher.Hasher g.K.Hash.hash_input c.args.self.now.contents in
-    let eq = g.K.PartialEq.eq in
-    let step = subst (λ (e : InsertError g.row.K.Denot g.row.V.Denot). Puts hash eq s (c.in-Put.k, c.in-Put.v) (Err e) c.put_sync.new.self) c.in-Err-Exists.field-0-is c.in-Err-Exists.ensures.step in
-    let raw : Changes length (CacheMoves eq (number_in hash s.contents)) (CacheResizes (cache_setting s) (number_in hash s.contents)) (lists_of s.contents) (Put c.in-Put.k c.in-Put.v) (Exists c.in-Err-Exists.k c.in-Err-Exists.v) (lists_of c.put_sync.new.self.contents) = exists-changes hash eq s c.put_sync.new.self c.in-Put.k c.in-Put.v (c.in-Err-Exists.k, c.in-Err-Exists.v) step in
-    let less : length (lists_of c.put_sync.new.self.contents) ≤ length (lists_of s.contents) = (let same = ap (λ x. length (lists_of x.contents)) step.2 in omega arith) in
-    answers-made c.equals.ensures c.equals-2.ensures hash eq s c.put_sync.new.self c.args.call (Put c.in-Put.k c.in-Put.v) c.in-Put.is (Exists c.in-Err-Exists.k c.in-Err-Exists.v) raw copy less ready.1
+pub returns-in-Put : goal.returns-in-Put
+returns-in-Put g c =
+    record {
+      setting = (search rules);
+      ok = (search rules);
+      err = (search rules);
+      refused = (
+          let s = c.args.self.now in
+          let hash : g.row.K.Denot → ℕ = key_hash g.H.BuildHasher g.H.Hasher.Hasher g.K.Hash.hash_input c.args.self.now.contents in
+          let eq = g.K.PartialEq.eq in
+          let step = subst (λ (e : InsertError g.row.K.Denot g.row.V.Denot). Puts hash eq s (c.in-Put.k, c.in-Put.v) (Err e) c.put_sync.new.self) c.in-Err-Memory.field-0-is c.in-Err-Memory.ensures.step in
+          inl (rw c.in-Put.is (memory-refused hash eq s c.put_sync.new.self c.in-Put.k c.in-Put.v c.in-Err-Memory.field-0-0 step)));
+      answer = (search rules);
+      made = (search rules);
+      kept = (search rules);
+    }
 
-pub returns-in-Put-clause-refused : goal.returns-in-Put-clause-refused
-returns-in-Put-clause-refused g c =
-    let s = c.args.self.now in
-    let hash : g.row.K.Denot → ℕ = key_hash g.H.BuildHasher g.H.Hasher.Hasher g.K.Hash.hash_input c.args.self.now.contents in
-    let eq = g.K.PartialEq.eq in
-    let step = subst (λ (e : InsertError g.row.K.Denot g.row.V.Denot). Puts hash eq s (c.in-Put.k, c.in-Put.v) (Err e) c.put_sync.new.self) c.in-Err-Memory.field-0-is c.in-Err-Memory.ensures.step in
-    inl (rw c.in-Put.is (memory-refused hash eq s c.put_sync.new.self c.in-Put.k c.in-Put.v c.in-Err-Memory.field-0-0 step))
-
-pub returns-in-Some-clause-ok : goal.returns-in-Some-clause-ok
-returns-in-Some-clause-ok g c =
+pub returns-in-Some : goal.returns-in-Some
+returns-in-Some g c =
     let s = c.args.self.now in
     let hash : g.row.K.Denot → ℕ = key_hash g.H.BuildHasher g.H.Hasher.Hasher g.K.Hash.hash_input c.args.self.now.contents in
     let eq = g.K.PartialEq.eq in
     let raw : Changes length (CacheMoves eq (number_in hash s.contents)) (CacheResizes (cache_setting s) (number_in hash s.contents)) (lists_of s.contents) (Get c.in-Get.k) (Value (Some (occupied_pair c.in-Some._entry).1)) (lists_of c.in-Some._entry.guard.now.contents) = get-changes hash eq s c.in-Some._entry.guard.now c.in-Get.k (occupied_pair c.in-Some._entry) (occupied_pair c.in-Some._entry).1 refl c.in-Some.ensures.entry.changes in
     let less : length (lists_of c.in-Some._entry.guard.now.contents) ≤ length (lists_of s.contents) = (let n = refresh-same hash eq s c.in-Some._entry.guard.now c.in-Get.k (occupied_pair c.in-Some._entry) (occupied_pair c.in-Some._entry) c.in-Some.ensures.entry.changes in omega arith) in
     let same = answers-made c.equals.ensures c.equals-2.ensures hash eq s c.in-Some._entry.guard.now (Get c.in-Get.k) (Get c.in-Get.k) refl (Value (Some (occupied_pair c.in-Some._entry).1)) raw (Value c.in-Ok-cloned_value.value) less (copied c.requires.clones Value _ (λ p. p.1) refl (λ x y h. h) (pair_of hash eq s.contents c.in-Get.k) c.in-Ok-cloned_value.value c.in-Ok-cloned_value.ensures.ok) in
-    let m : CacheMoves eq (number_in hash s.contents) (lists_of s.contents) (Get c.in-Get.k) (Value (Some (occupied_pair c.in-Some._entry).1)) (lists_of c.in-Some._entry.guard.now.contents) = get-moves hash eq s c.in-Some._entry.guard.now c.in-Get.k (occupied_pair c.in-Some._entry) (occupied_pair c.in-Some._entry).1 refl c.in-Some.ensures.entry.changes in
-    let n = refresh-same hash eq s c.in-Some._entry.guard.now c.in-Get.k (occupied_pair c.in-Some._entry) (occupied_pair c.in-Some._entry) c.in-Some.ensures.entry.changes in
-    inl (search (rules, n), (c.args.call, Value (Some (occupied_pair c.in-Some._entry).1), inl refl, inr same, rw c.in-Get.is (moves-same eq (number_in hash s.contents) (lists_of s.contents) (lists_of c.in-Some._entry.guard.now.contents) _ (Get c.in-Get.k) (Value (Some (occupied_pair c.in-Some._entry).1)) m (search rules))))
+    record {
+      setting = (search rules);
+      ok = (
+          let m : CacheMoves eq (number_in hash s.contents) (lists_of s.contents) (Get c.in-Get.k) (Value (Some (occupied_pair c.in-Some._entry).1)) (lists_of c.in-Some._entry.guard.now.contents) = get-moves hash eq s c.in-Some._entry.guard.now c.in-Get.k (occupied_pair c.in-Some._entry) (occupied_pair c.in-Some._entry).1 refl c.in-Some.ensures.entry.changes in
+          let n = refresh-same hash eq s c.in-Some._entry.guard.now c.in-Get.k (occupied_pair c.in-Some._entry) (occupied_pair c.in-Some._entry) c.in-Some.ensures.entry.changes in
+          inl (search (rules, n), (c.args.call, Value (Some (occupied_pair c.in-Some._entry).1), inl refl, inr same, rw c.in-Get.is (moves-same eq (number_in hash s.contents) (lists_of s.contents) (lists_of c.in-Some._entry.guard.now.contents) _ (Get c.in-Get.k) (Value (Some (occupied_pair c.in-Some._entry).1)) m (search rules)))));
+      err = (search rules);
+      refused = (search rules);
+      answer = (λ copy ready. answers-given c.equals.ensures c.equals-2.ensures hash eq s c.in-Some._entry.guard.now c.args.call (Get c.in-Get.k) c.in-Get.is (Value (Some (occupied_pair c.in-Some._entry).1)) raw (Value c.in-Ok-cloned_value.value) copy same less ready.1);
+      made = (λ copy ready. search (rules, less));
+      kept = (search rules);
+    }
 
-pub returns-in-Some-clause-answer : goal.returns-in-Some-clause-answer
-returns-in-Some-clause-answer g c copy ready =
+pub returns-in-Ok-cloned_value : goal.returns-in-Ok-cloned_value
+returns-in-Ok-cloned_value g c =
     let s = c.args.self.now in
     let hash : g.row.K.Denot → ℕ = key_hash g.H.BuildHasher g.H.Hasher.Hasher g.K.Hash.hash_input c.args.self.now.contents in
     let eq = g.K.PartialEq.eq in
-    let raw : Changes length (CacheMoves eq (number_in hash s.contents)) (CacheResizes (cache_setting s) (number_in hash s.contents)) (lists_of s.contents) (Get c.in-Get.k) (Value (Some (occupied_pair c.in-Some._entry).1)) (lists_of c.in-Some._entry.guard.now.contents) = get-changes hash eq s c.in-Some._entry.guard.now c.in-Get.k (occupied_pair c.in-Some._entry) (occupied_pair c.in-Some._entry).1 refl c.in-Some.ensures.entry.changes in
-    let less : length (lists_of c.in-Some._entry.guard.now.contents) ≤ length (lists_of s.contents) = (let n = refresh-same hash eq s c.in-Some._entry.guard.now c.in-Get.k (occupied_pair c.in-Some._entry) (occupied_pair c.in-Some._entry) c.in-Some.ensures.entry.changes in omega arith) in
-    let same = answers-made c.equals.ensures c.equals-2.ensures hash eq s c.in-Some._entry.guard.now (Get c.in-Get.k) (Get c.in-Get.k) refl (Value (Some (occupied_pair c.in-Some._entry).1)) raw (Value c.in-Ok-cloned_value.value) less (copied c.requires.clones Value _ (λ p. p.1) refl (λ x y h. h) (pair_of hash eq s.contents c.in-Get.k) c.in-Ok-cloned_value.value c.in-Ok-cloned_value.ensures.ok) in
-    answers-given c.equals.ensures c.equals-2.ensures hash eq s c.in-Some._entry.guard.now c.args.call (Get c.in-Get.k) c.in-Get.is (Value (Some (occupied_pair c.in-Some._entry).1)) raw (Value c.in-Ok-cloned_value.value) copy same less ready.1
+    record {
+      setting = (search rules);
+      ok = (
+          let m : CacheMoves eq (number_in hash s.contents) (lists_of s.contents) (Get c.in-Get.k) (Value None) (lists_of s.contents) = (c.in-None.ensures.missing, refl) in
+          inl (search rules, (c.args.call, Value None, inl refl, inl refl, rw c.in-Get.is (search (rules, m)))));
+      err = (search rules);
+      refused = (search rules);
+      answer = (
+          λ copy ready. let raw : Changes length (CacheMoves eq (number_in hash s.contents)) (CacheResizes (cache_setting s) (number_in hash s.contents)) (lists_of s.contents) (Get c.in-Get.k) (Value None) (lists_of s.contents) = inl (refl, (c.in-None.ensures.missing, refl)) in
+          let less : length (lists_of s.contents) ≤ length (lists_of s.contents) = omega arith in
+          answers-made c.equals.ensures c.equals-2.ensures hash eq s s c.args.call (Get c.in-Get.k) c.in-Get.is (Value None) raw copy less ready.1);
+      made = (search rules);
+      kept = (search rules);
+    }
 
-pub returns-in-Some-clause-made : goal.returns-in-Some-clause-made
-returns-in-Some-clause-made g c copy ready =
-    let s = c.args.self.now in
-    let hash : g.row.K.Denot → ℕ = key_hash g.H.BuildHasher g.H.Hasher.Hasher g.K.Hash.hash_input c.args.self.now.contents in
-    let eq = g.K.PartialEq.eq in
-    let less : length (lists_of c.in-Some._entry.guard.now.contents) ≤ length (lists_of s.contents) = (let n = refresh-same hash eq s c.in-Some._entry.guard.now c.in-Get.k (occupied_pair c.in-Some._entry) (occupied_pair c.in-Some._entry) c.in-Some.ensures.entry.changes in omega arith) in
-    search (rules, less)
+pub returns-in-Get : goal.returns-in-Get
+returns-in-Get g c =
+    record {
+      setting = (search rules);
+      ok = (search rules);
+      err = (search rules);
+      refused = (inr (rw c.in-Get.is refl, (Value (Some c.in-Err.ensures.err.0), λ h. c.in-Err.ensures.err.1 h)));
+      answer = (search rules);
+      made = (search rules);
+      kept = (search rules);
+    }
 
-pub returns-in-Ok-cloned_value-clause-ok : goal.returns-in-Ok-cloned_value-clause-ok
-returns-in-Ok-cloned_value-clause-ok g c =
-    let s = c.args.self.now in
-    let hash : g.row.K.Denot → ℕ = key_hash g.H.BuildHasher g.H.Hasher.Hasher g.K.Hash.hash_input c.args.self.now.contents in
-    let eq = g.K.PartialEq.eq in
-    let m : CacheMoves eq (number_in hash s.contents) (lists_of s.contents) (Get c.in-Get.k) (Value None) (lists_of s.contents) = (c.in-None.ensures.missing, refl) in
-    inl (search rules, (c.args.call, Value None, inl refl, inl refl, rw c.in-Get.is (search (rules, m))))
-
-pub returns-in-Ok-cloned_value-clause-answer : goal.returns-in-Ok-cloned_value-clause-answer
-returns-in-Ok-cloned_value-clause-answer g c copy ready =
-    let s = c.args.self.now in
-    let hash : g.row.K.Denot → ℕ = key_hash g.H.BuildHasher g.H.Hasher.Hasher g.K.Hash.hash_input c.args.self.now.contents in
-    let eq = g.K.PartialEq.eq in
-    let raw : Changes length (CacheMoves eq (number_in hash s.contents)) (CacheResizes (cache_setting s) (number_in hash s.contents)) (lists_of s.contents) (Get c.in-Get.k) (Value None) (lists_of s.contents) = inl (refl, (c.in-None.ensures.missing, refl)) in
-    let less : length (lists_of s.contents) ≤ length (lists_of s.contents) = omega arith in
-    answers-made c.equals.ensures c.equals-2.ensures hash eq s s c.args.call (Get c.in-Get.k) c.in-Get.is (Value None) raw copy less ready.1
-
-pub returns-in-Get-clause-refused : goal.returns-in-Get-clause-refused
-returns-in-Get-clause-refused g c = inr (rw c.in-Get.is refl, (Value (Some c.in-Err.ensures.err.0), λ h. c.in-Err.ensures.err.1 h))
-
-pub returns-in-Occupied-clause-ok : goal.returns-in-Occupied-clause-ok
-returns-in-Occupied-clause-ok g c =
-    let s = c.args.self.now in
-    let hash : g.row.K.Denot → ℕ = key_hash g.H.BuildHasher g.H.Hasher.Hasher g.K.Hash.hash_input c.args.self.now.contents in
-    let eq = g.K.PartialEq.eq in
-    let m : CacheMoves eq (number_in hash s.contents) (lists_of s.contents) (Write c.in-Write.k c.in-Write.v) (Old (Some c.put.result)) (lists_of c.put.new.self.guard.now.contents) = write-moves hash eq s c.put.new.self.guard.now c.in-Write.k (occupied_pair c.in-Occupied.entry) c.put.result c.in-Write.v c.put.ensures.old (moved-written eq s c.in-Write.k (occupied_pair c.in-Occupied.entry) c.in-Occupied.entry c.put.new.self c.in-Write.v c.in-Occupied.ensures.entry c.put.ensures.written) in
-    let n = refresh-same hash eq s c.put.new.self.guard.now c.in-Write.k (occupied_pair c.in-Occupied.entry) ((occupied_pair c.in-Occupied.entry).0, c.in-Write.v) (moved-written eq s c.in-Write.k (occupied_pair c.in-Occupied.entry) c.in-Occupied.entry c.put.new.self c.in-Write.v c.in-Occupied.ensures.entry c.put.ensures.written) in
-    inl (search (rules, n), (c.args.call, Old (Some c.put.result), inl refl, inl refl, rw c.in-Write.is (moves-same eq (number_in hash s.contents) (lists_of s.contents) (lists_of c.put.new.self.guard.now.contents) _ (Write c.in-Write.k c.in-Write.v) (Old (Some c.put.result)) m (search rules))))
-
-pub returns-in-Occupied-clause-answer : goal.returns-in-Occupied-clause-answer
-returns-in-Occupied-clause-answer g c copy ready =
-    let s = c.args.self.now in
-    let hash : g.row.K.Denot → ℕ = key_hash g.H.BuildHasher g.H.Hasher.Hasher g.K.Hash.hash_input c.args.self.now.contents in
-    let eq = g.K.PartialEq.eq in
-    let raw : Changes length (CacheMoves eq (number_in hash s.contents)) (CacheResizes (cache_setting s) (number_in hash s.contents)) (lists_of s.contents) (Write c.in-Write.k c.in-Write.v) (Old (Some c.put.result)) (lists_of c.put.new.self.guard.now.contents) = write-changes hash eq s c.put.new.self.guard.now c.in-Write.k (occupied_pair c.in-Occupied.entry) c.put.result c.in-Write.v c.put.ensures.old (moved-written eq s c.in-Write.k (occupied_pair c.in-Occupied.entry) c.in-Occupied.entry c.put.new.self c.in-Write.v c.in-Occupied.ensures.entry c.put.ensures.written) in
-    let less : length (lists_of c.put.new.self.guard.now.contents) ≤ length (lists_of s.contents) = (let n = refresh-same hash eq s c.put.new.self.guard.now c.in-Write.k (occupied_pair c.in-Occupied.entry) ((occupied_pair c.in-Occupied.entry).0, c.in-Write.v) (moved-written eq s c.in-Write.k (occupied_pair c.in-Occupied.entry) c.in-Occupied.entry c.put.new.self c.in-Write.v c.in-Occupied.ensures.entry c.put.ensures.written) in omega arith) in
-    answers-made c.equals.ensures c.equals-2.ensures hash eq s c.put.new.self.guard.now c.args.call (Write c.in-Write.k c.in-Write.v) c.in-Write.is (Old (Some c.put.result)) raw copy less ready.1
-
-pub returns-in-Occupied-clause-made : goal.returns-in-Occupied-clause-made
-returns-in-Occupied-clause-made g c copy ready =
+pub returns-in-Occupied : goal.returns-in-Occupied
+returns-in-Occupied g c =
     let s = c.args.self.now in
     let hash : g.row.K.Denot → ℕ = key_hash g.H.BuildHasher g.H.Hasher.Hasher g.K.Hash.hash_input c.args.self.now.contents in
     let eq = g.K.PartialEq.eq in
     let less : length (lists_of c.put.new.self.guard.now.contents) ≤ length (lists_of s.contents) = (let n = refresh-same hash eq s c.put.new.self.guard.now c.in-Write.k (occupied_pair c.in-Occupied.entry) ((occupied_pair c.in-Occupied.entry).0, c.in-Write.v) (moved-written eq s c.in-Write.k (occupied_pair c.in-Occupied.entry) c.in-Occupied.entry c.put.new.self c.in-Write.v c.in-Occupied.ensures.entry c.put.ensures.written) in omega arith) in
-    search (rules, less)
+    record {
+      setting = (search rules);
+      ok = (
+          let m : CacheMoves eq (number_in hash s.contents) (lists_of s.contents) (Write c.in-Write.k c.in-Write.v) (Old (Some c.put.result)) (lists_of c.put.new.self.guard.now.contents) = write-moves hash eq s c.put.new.self.guard.now c.in-Write.k (occupied_pair c.in-Occupied.entry) c.put.result c.in-Write.v c.put.ensures.old (moved-written eq s c.in-Write.k (occupied_pair c.in-Occupied.entry) c.in-Occupied.entry c.put.new.self c.in-Write.v c.in-Occupied.ensures.entry c.put.ensures.written) in
+          let n = refresh-same hash eq s c.put.new.self.guard.now c.in-Write.k (occupied_pair c.in-Occupied.entry) ((occupied_pair c.in-Occupied.entry).0, c.in-Write.v) (moved-written eq s c.in-Write.k (occupied_pair c.in-Occupied.entry) c.in-Occupied.entry c.put.new.self c.in-Write.v c.in-Occupied.ensures.entry c.put.ensures.written) in
+          inl (search (rules, n), (c.args.call, Old (Some c.put.result), inl refl, inl refl, rw c.in-Write.is (moves-same eq (number_in hash s.contents) (lists_of s.contents) (lists_of c.put.new.self.guard.now.contents) _ (Write c.in-Write.k c.in-Write.v) (Old (Some c.put.result)) m (search rules)))));
+      err = (search rules);
+      refused = (search rules);
+      answer = (
+          λ copy ready. let raw : Changes length (CacheMoves eq (number_in hash s.contents)) (CacheResizes (cache_setting s) (number_in hash s.contents)) (lists_of s.contents) (Write c.in-Write.k c.in-Write.v) (Old (Some c.put.result)) (lists_of c.put.new.self.guard.now.contents) = write-changes hash eq s c.put.new.self.guard.now c.in-Write.k (occupied_pair c.in-Occupied.entry) c.put.result c.in-Write.v c.put.ensures.old (moved-written eq s c.in-Write.k (occupied_pair c.in-Occupied.entry) c.in-Occupied.entry c.put.new.self c.in-Write.v c.in-Occupied.ensures.entry c.put.ensures.written) in
+          answers-made c.equals.ensures c.equals-2.ensures hash eq s c.put.new.self.guard.now c.args.call (Write c.in-Write.k c.in-Write.v) c.in-Write.is (Old (Some c.put.result)) raw copy less ready.1);
+      made = (λ copy ready. search (rules, less));
+      kept = (search rules);
+    }
 
-pub returns-in-Write-clause-ok : goal.returns-in-Write-clause-ok
-returns-in-Write-clause-ok g c = inl (search rules, (c.args.call, Old None, inl refl, inl refl, rw c.in-Write.is (search rules)))
+pub returns-in-Write : goal.returns-in-Write
+returns-in-Write g c =
+    record {
+      setting = (search rules);
+      ok = (inl (search rules, (c.args.call, Old None, inl refl, inl refl, rw c.in-Write.is (search rules))));
+      err = (search rules);
+      refused = (search rules);
+      answer = (
+          λ copy ready. let s = c.args.self.now in
+          let hash : g.row.K.Denot → ℕ = key_hash g.H.BuildHasher g.H.Hasher.Hasher g.K.Hash.hash_input c.args.self.now.contents in
+          let eq = g.K.PartialEq.eq in
+          let raw : Changes length (CacheMoves eq (number_in hash s.contents)) (CacheResizes (cache_setting s) (number_in hash s.contents)) (lists_of s.contents) (Write c.in-Write.k c.in-Write.v) (Old None) (lists_of s.contents) = inl (refl, (c.in-Vacant.ensures.entry.absent, refl)) in
+          let less : length (lists_of s.contents) ≤ length (lists_of s.contents) = omega arith in
+          answers-made c.equals.ensures c.equals-2.ensures hash eq s s c.args.call (Write c.in-Write.k c.in-Write.v) c.in-Write.is (Old None) raw copy less ready.1);
+      made = (search rules);
+      kept = (search rules);
+    }
 
-pub returns-in-Write-clause-answer : goal.returns-in-Write-clause-answer
-returns-in-Write-clause-answer g c copy ready =
+pub returns-in-Replaced : goal.returns-in-Replaced
+returns-in-Replaced g c =
     let s = c.args.self.now in
     let hash : g.row.K.Denot → ℕ = key_hash g.H.BuildHasher g.H.Hasher.Hasher g.K.Hash.hash_input c.args.self.now.contents in
     let eq = g.K.PartialEq.eq in
-    let raw : Changes length (CacheMoves eq (number_in hash s.contents)) (CacheResizes (cache_setting s) (number_in hash s.contents)) (lists_of s.contents) (Write c.in-Write.k c.in-Write.v) (Old None) (lists_of s.contents) = inl (refl, (c.in-Vacant.ensures.entry.absent, refl)) in
-    let less : length (lists_of s.contents) ≤ length (lists_of s.contents) = omega arith in
-    answers-made c.equals.ensures c.equals-2.ensures hash eq s s c.args.call (Write c.in-Write.k c.in-Write.v) c.in-Write.is (Old None) raw copy less ready.1
-
-pub returns-in-Replaced-clause-ok : goal.returns-in-Replaced-clause-ok
-returns-in-Replaced-clause-ok g c =
-    let s = c.args.self.now in
-    let hash : g.row.K.Denot → ℕ = key_hash g.H.BuildHasher g.H.Hasher.Hasher g.K.Hash.hash_input c.args.self.now.contents in
-    let eq = g.K.PartialEq.eq in
-    let m : CacheMoves eq (number_in hash s.contents) (lists_of s.contents) (Replace c.in-Replace.k) (Key (Some c.in-Replaced.old)) (lists_of c.in-Replaced._entry.guard.now.contents) = replace-moves hash eq s c.in-Replaced._entry.guard.now c.in-Replace.k c.in-Replaced.old c.in-Replaced.ensures.step.value (occupied_pair c.in-Replaced._entry) c.in-Replaced.ensures.step.pair c.in-Replaced.ensures.step.moved.changes in
-    let n = refresh-same hash eq s c.in-Replaced._entry.guard.now c.in-Replace.k (c.in-Replaced.old, c.in-Replaced.ensures.step.value) (occupied_pair c.in-Replaced._entry) c.in-Replaced.ensures.step.moved.changes in
-    inl (search (rules, n), (c.args.call, Key (Some c.in-Replaced.old), inl refl, inl refl, rw c.in-Replace.is (moves-same eq (number_in hash s.contents) (lists_of s.contents) (lists_of c.in-Replaced._entry.guard.now.contents) _ (Replace c.in-Replace.k) (Key (Some c.in-Replaced.old)) m (search rules))))
-
-pub returns-in-Replaced-clause-answer : goal.returns-in-Replaced-clause-answer
-returns-in-Replaced-clause-answer g c copy ready =
-    let s = c.args.self.now in
-    let hash : g.row.K.Denot → ℕ = key_hash g.H.BuildHasher g.H.Hasher.Hasher g.K.Hash.hash_input c.args.self.now.contents in
-    let eq = g.K.PartialEq.eq in
-    let raw : Changes length (CacheMoves eq (number_in hash s.contents)) (CacheResizes (cache_setting s) (number_in hash s.contents)) (lists_of s.contents) (Replace c.in-Replace.k) (Key (Some c.in-Replaced.old)) (lists_of c.in-Replaced._entry.guard.now.contents) = replace-changes hash eq s c.in-Replaced._entry.guard.now c.in-Replace.k c.in-Replaced.old c.in-Replaced.ensures.step.value (occupied_pair c.in-Replaced._entry) c.in-Replaced.ensures.step.pair c.in-Replaced.ensures.step.moved.changes in
     let less : length (lists_of c.in-Replaced._entry.guard.now.contents) ≤ length (lists_of s.contents) = (let n = refresh-same hash eq s c.in-Replaced._entry.guard.now c.in-Replace.k (c.in-Replaced.old, c.in-Replaced.ensures.step.value) (occupied_pair c.in-Replaced._entry) c.in-Replaced.ensures.step.moved.changes in omega arith) in
-    answers-made c.equals.ensures c.equals-2.ensures hash eq s c.in-Replaced._entry.guard.now c.args.call (Replace c.in-Replace.k) c.in-Replace.is (Key (Some c.in-Replaced.old)) raw copy less ready.1
+    record {
+      setting = (search rules);
+      ok = (
+          let m : CacheMoves eq (number_in hash s.contents) (lists_of s.contents) (Replace c.in-Replace.k) (Key (Some c.in-Replaced.old)) (lists_of c.in-Replaced._entry.guard.now.contents) = replace-moves hash eq s c.in-Replaced._entry.guard.now c.in-Replace.k c.in-Replaced.old c.in-Replaced.ensures.step.value (occupied_pair c.in-Replaced._entry) c.in-Replaced.ensures.step.pair c.in-Replaced.ensures.step.moved.changes in
+          let n = refresh-same hash eq s c.in-Replaced._entry.guard.now c.in-Replace.k (c.in-Replaced.old, c.in-Replaced.ensures.step.value) (occupied_pair c.in-Replaced._entry) c.in-Replaced.ensures.step.moved.changes in
+          inl (search (rules, n), (c.args.call, Key (Some c.in-Replaced.old), inl refl, inl refl, rw c.in-Replace.is (moves-same eq (number_in hash s.contents) (lists_of s.contents) (lists_of c.in-Replaced._entry.guard.now.contents) _ (Replace c.in-Replace.k) (Key (Some c.in-Replaced.old)) m (search rules)))));
+      err = (search rules);
+      refused = (search rules);
+      answer = (
+          λ copy ready. let raw : Changes length (CacheMoves eq (number_in hash s.contents)) (CacheResizes (cache_setting s) (number_in hash s.contents)) (lists_of s.contents) (Replace c.in-Replace.k) (Key (Some c.in-Replaced.old)) (lists_of c.in-Replaced._entry.guard.now.contents) = replace-changes hash eq s c.in-Replaced._entry.guard.now c.in-Replace.k c.in-Replaced.old c.in-Replaced.ensures.step.value (occupied_pair c.in-Replaced._entry) c.in-Replaced.ensures.step.pair c.in-Replaced.ensures.step.moved.changes in
+          answers-made c.equals.ensures c.equals-2.ensures hash eq s c.in-Replaced._entry.guard.now c.args.call (Replace c.in-Replace.k) c.in-Replace.is (Key (Some c.in-Replaced.old)) raw copy less ready.1);
+      made = (λ copy ready. search (rules, less));
+      kept = (search rules);
+    }
 
-pub returns-in-Replaced-clause-made : goal.returns-in-Replaced-clause-made
-returns-in-Replaced-clause-made g c copy ready =
-    let s = c.args.self.now in
-    let hash : g.row.K.Denot → ℕ = key_hash g.H.BuildHasher g.H.Hasher.Hasher g.K.Hash.hash_input c.args.self.now.contents in
-    let eq = g.K.PartialEq.eq in
-    let less : length (lists_of c.in-Replaced._entry.guard.now.contents) ≤ length (lists_of s.contents) = (let n = refresh-same hash eq s c.in-Replaced._entry.guard.now c.in-Replace.k (c.in-Replaced.old, c.in-Replaced.ensures.step.value) (occupied_pair c.in-Replaced._entry) c.in-Replaced.ensures.step.moved.changes in omega arith) in
-    search (rules, less)
+pub returns-in-Replace : goal.returns-in-Replace
+returns-in-Replace g c =
+    record {
+      setting = (search rules);
+      ok = (inl (search rules, (c.args.call, Key None, inl refl, inl refl, rw c.in-Replace.is (search rules))));
+      err = (search rules);
+      refused = (search rules);
+      answer = (
+          λ copy ready. let s = c.args.self.now in
+          let hash : g.row.K.Denot → ℕ = key_hash g.H.BuildHasher g.H.Hasher.Hasher g.K.Hash.hash_input c.args.self.now.contents in
+          let eq = g.K.PartialEq.eq in
+          let raw : Changes length (CacheMoves eq (number_in hash s.contents)) (CacheResizes (cache_setting s) (number_in hash s.contents)) (lists_of s.contents) (Replace c.in-Replace.k) (Key None) (lists_of s.contents) = inl (refl, (c.in-NotReplaced.ensures.step.absent, refl)) in
+          let less : length (lists_of s.contents) ≤ length (lists_of s.contents) = omega arith in
+          answers-made c.equals.ensures c.equals-2.ensures hash eq s s c.args.call (Replace c.in-Replace.k) c.in-Replace.is (Key None) raw copy less ready.1);
+      made = (search rules);
+      kept = (search rules);
+    }
 
-pub returns-in-Replace-clause-ok : goal.returns-in-Replace-clause-ok
-returns-in-Replace-clause-ok g c = inl (search rules, (c.args.call, Key None, inl refl, inl refl, rw c.in-Replace.is (search rules)))
-
-pub returns-in-Replace-clause-answer : goal.returns-in-Replace-clause-answer
-returns-in-Replace-clause-answer g c copy ready =
-    let s = c.args.self.now in
-    let hash : g.row.K.Denot → ℕ = key_hash g.H.BuildHasher g.H.Hasher.Hasher g.K.Hash.hash_input c.args.self.now.contents in
-    let eq = g.K.PartialEq.eq in
-    let raw : Changes length (CacheMoves eq (number_in hash s.contents)) (CacheResizes (cache_setting s) (number_in hash s.contents)) (lists_of s.contents) (Replace c.in-Replace.k) (Key None) (lists_of s.contents) = inl (refl, (c.in-NotReplaced.ensures.step.absent, refl)) in
-    let less : length (lists_of s.contents) ≤ length (lists_of s.contents) = omega arith in
-    answers-made c.equals.ensures c.equals-2.ensures hash eq s s c.args.call (Replace c.in-Replace.k) c.in-Replace.is (Key None) raw copy less ready.1
-
-pub returns-in-Remove-clause-ok : goal.returns-in-Remove-clause-ok
-returns-in-Remove-clause-ok g c =
-    let s = c.args.self.now in
-    let hash : g.row.K.Denot → ℕ = key_hash g.H.BuildHasher g.H.Hasher.Hasher g.K.Hash.hash_input c.args.self.now.contents in
-    let eq = g.K.PartialEq.eq in
-    let raw : Changes length (CacheMoves eq (number_in hash s.contents)) (CacheResizes (cache_setting s) (number_in hash s.contents)) (lists_of s.contents) (Remove c.in-Remove.k) (Pair c.remove_sync.result) (lists_of c.remove_sync.new.self.contents) = remove-changes hash eq s c.remove_sync.new.self c.in-Remove.k c.remove_sync.result c.remove_sync.ensures.step c.remove_sync.ensures.state.lists.short c.remove_sync.ensures.state.within in
-    means-made c.equals.ensures c.equals-2.ensures hash eq s c.remove_sync.new.self c.args.call (Remove c.in-Remove.k) c.in-Remove.is (Pair c.remove_sync.result) raw
-
-pub returns-in-Remove-clause-answer : goal.returns-in-Remove-clause-answer
-returns-in-Remove-clause-answer g c copy ready =
+pub returns-in-Remove : goal.returns-in-Remove
+returns-in-Remove g c =
     let s = c.args.self.now in
     let hash : g.row.K.Denot → ℕ = key_hash g.H.BuildHasher g.H.Hasher.Hasher g.K.Hash.hash_input c.args.self.now.contents in
     let eq = g.K.PartialEq.eq in
     let raw : Changes length (CacheMoves eq (number_in hash s.contents)) (CacheResizes (cache_setting s) (number_in hash s.contents)) (lists_of s.contents) (Remove c.in-Remove.k) (Pair c.remove_sync.result) (lists_of c.remove_sync.new.self.contents) = remove-changes hash eq s c.remove_sync.new.self c.in-Remove.k c.remove_sync.result c.remove_sync.ensures.step c.remove_sync.ensures.state.lists.short c.remove_sync.ensures.state.within in
     let less : length (lists_of c.remove_sync.new.self.contents) ≤ length (lists_of s.contents) = remove-less hash eq s c.remove_sync.new.self c.in-Remove.k c.remove_sync.result c.remove_sync.ensures.step in
-    answers-made c.equals.ensures c.equals-2.ensures hash eq s c.remove_sync.new.self c.args.call (Remove c.in-Remove.k) c.in-Remove.is (Pair c.remove_sync.result) raw copy less ready.1
+    record {
+      setting = (search rules);
+      ok = (means-made c.equals.ensures c.equals-2.ensures hash eq s c.remove_sync.new.self c.args.call (Remove c.in-Remove.k) c.in-Remove.is (Pair c.remove_sync.result) raw);
+      err = (search rules);
+      refused = (search rules);
+      answer = (λ copy ready. answers-made c.equals.ensures c.equals-2.ensures hash eq s c.remove_sync.new.self c.args.call (Remove c.in-Remove.k) c.in-Remove.is (Pair c.remove_sync.result) raw copy less ready.1);
+      made = (λ copy ready. less);
+      kept = (search rules);
+    }
 
-pub returns-in-Remove-clause-made : goal.returns-in-Remove-clause-made
-returns-in-Remove-clause-made g c copy ready =
-    let s = c.args.self.now in
-    let hash : g.row.K.Denot → ℕ = key_hash g.H.BuildHasher g.H.Hasher.Hasher g.K.Hash.hash_input c.args.self.now.contents in
-    let eq = g.K.PartialEq.eq in
-    let less : length (lists_of c.remove_sync.new.self.contents) ≤ length (lists_of s.contents) = remove-less hash eq s c.remove_sync.new.self c.in-Remove.k c.remove_sync.result c.remove_sync.ensures.step in
-    less
-
-pub returns-in-Ok-cloned_value-2-clause-ok : goal.returns-in-Ok-cloned_value-2-clause-ok
-returns-in-Ok-cloned_value-2-clause-ok g c =
+pub returns-in-Ok-cloned_value-2 : goal.returns-in-Ok-cloned_value-2
+returns-in-Ok-cloned_value-2 g c =
     let s = c.args.self.now in
     let hash : g.row.K.Denot → ℕ = key_hash g.H.BuildHasher g.H.Hasher.Hasher g.K.Hash.hash_input c.args.self.now.contents in
     let eq = g.K.PartialEq.eq in
     let raw : Changes length (CacheMoves eq (number_in hash s.contents)) (CacheResizes (cache_setting s) (number_in hash s.contents)) (lists_of s.contents) (Read c.in-Read.k) (Value (option_map (λ p. p.1) (pair_of hash eq s.contents c.in-Read.k))) (lists_of s.contents) = inl (refl, read-moves eq (number_in hash s.contents) (lists_of s.contents) c.in-Read.k) in
     let less : length (lists_of s.contents) ≤ length (lists_of s.contents) = omega arith in
     let same = answers-made c.equals.ensures c.equals-2.ensures hash eq s s (Read c.in-Read.k) (Read c.in-Read.k) refl (Value (option_map (λ p. p.1) (pair_of hash eq s.contents c.in-Read.k))) raw (Value c.in-Ok-cloned_value-2.value) less (copied c.requires.clones Value _ (λ p. p.1) refl (λ x y h. h) (pair_of hash eq s.contents c.in-Read.k) c.in-Ok-cloned_value-2.value c.in-Ok-cloned_value-2.ensures.ok) in
-    means-given c.equals.ensures c.equals-2.ensures hash eq s s c.args.call (Read c.in-Read.k) c.in-Read.is (Value (option_map (λ p. p.1) (pair_of hash eq s.contents c.in-Read.k))) raw (Value c.in-Ok-cloned_value-2.value) (inr same)
+    record {
+      setting = (search rules);
+      ok = (means-given c.equals.ensures c.equals-2.ensures hash eq s s c.args.call (Read c.in-Read.k) c.in-Read.is (Value (option_map (λ p. p.1) (pair_of hash eq s.contents c.in-Read.k))) raw (Value c.in-Ok-cloned_value-2.value) (inr same));
+      err = (search rules);
+      refused = (search rules);
+      answer = (λ copy ready. answers-given c.equals.ensures c.equals-2.ensures hash eq s s c.args.call (Read c.in-Read.k) c.in-Read.is (Value (option_map (λ p. p.1) (pair_of hash eq s.contents c.in-Read.k))) raw (Value c.in-Ok-cloned_value-2.value) copy same less ready.1);
+      made = (search rules);
+      kept = (search rules);
+    }
 
-pub returns-in-Ok-cloned_value-2-clause-answer : goal.returns-in-Ok-cloned_value-2-clause-answer
-returns-in-Ok-cloned_value-2-clause-answer g c copy ready =
-    let s = c.args.self.now in
-    let hash : g.row.K.Denot → ℕ = key_hash g.H.BuildHasher g.H.Hasher.Hasher g.K.Hash.hash_input c.args.self.now.contents in
-    let eq = g.K.PartialEq.eq in
-    let raw : Changes length (CacheMoves eq (number_in hash s.contents)) (CacheResizes (cache_setting s) (number_in hash s.contents)) (lists_of s.contents) (Read c.in-Read.k) (Value (option_map (λ p. p.1) (pair_of hash eq s.contents c.in-Read.k))) (lists_of s.contents) = inl (refl, read-moves eq (number_in hash s.contents) (lists_of s.contents) c.in-Read.k) in
-    let less : length (lists_of s.contents) ≤ length (lists_of s.contents) = omega arith in
-    let same = answers-made c.equals.ensures c.equals-2.ensures hash eq s s (Read c.in-Read.k) (Read c.in-Read.k) refl (Value (option_map (λ p. p.1) (pair_of hash eq s.contents c.in-Read.k))) raw (Value c.in-Ok-cloned_value-2.value) less (copied c.requires.clones Value _ (λ p. p.1) refl (λ x y h. h) (pair_of hash eq s.contents c.in-Read.k) c.in-Ok-cloned_value-2.value c.in-Ok-cloned_value-2.ensures.ok) in
-    answers-given c.equals.ensures c.equals-2.ensures hash eq s s c.args.call (Read c.in-Read.k) c.in-Read.is (Value (option_map (λ p. p.1) (pair_of hash eq s.contents c.in-Read.k))) raw (Value c.in-Ok-cloned_value-2.value) copy same less ready.1
+pub returns-in-Read : goal.returns-in-Read
+returns-in-Read g c =
+    record {
+      setting = (search rules);
+      ok = (search rules);
+      err = (search rules);
+      refused = (inr (rw c.in-Read.is refl, (Value (Some c.in-Err-cloned_value.ensures.err.0), λ h. c.in-Err-cloned_value.ensures.err.1 h)));
+      answer = (search rules);
+      made = (search rules);
+      kept = (search rules);
+    }
 
-pub returns-in-Read-clause-refused : goal.returns-in-Read-clause-refused
-returns-in-Read-clause-refused g c = inr (rw c.in-Read.is refl, (Value (Some c.in-Err-cloned_value.ensures.err.0), λ h. c.in-Err-cloned_value.ensures.err.1 h))
-
-pub returns-in-Contains-clause-ok : goal.returns-in-Contains-clause-ok
-returns-in-Contains-clause-ok g c =
+pub returns-in-Contains : goal.returns-in-Contains
+returns-in-Contains g c =
     let s = c.args.self.now in
     let hash : g.row.K.Denot → ℕ = key_hash g.H.BuildHasher g.H.Hasher.Hasher g.K.Hash.hash_input c.args.self.now.contents in
     let eq = g.K.PartialEq.eq in
     let raw : Changes length (CacheMoves eq (number_in hash s.contents)) (CacheResizes (cache_setting s) (number_in hash s.contents)) (lists_of s.contents) (Contains c.in-Contains.k) (Has c.contains_sync.result) (lists_of s.contents) = contains-changes hash eq s c.in-Contains.k c.contains_sync.result c.contains_sync.ensures.yes c.contains_sync.ensures.no in
-    means-made c.equals.ensures c.equals-2.ensures hash eq s s c.args.call (Contains c.in-Contains.k) c.in-Contains.is (Has c.contains_sync.result) raw
+    record {
+      setting = (search rules);
+      ok = (means-made c.equals.ensures c.equals-2.ensures hash eq s s c.args.call (Contains c.in-Contains.k) c.in-Contains.is (Has c.contains_sync.result) raw);
+      err = (search rules);
+      refused = (search rules);
+      answer = (
+          λ copy ready. let less : length (lists_of s.contents) ≤ length (lists_of s.contents) = omega arith in
+          answers-made c.equals.ensures c.equals-2.ensures hash eq s s c.args.call (Contains c.in-Contains.k) c.in-Contains.is (Has c.contains_sync.result) raw copy less ready.1);
+      made = (search rules);
+      kept = (search rules);
+    }
 
-pub returns-in-Contains-clause-answer : goal.returns-in-Contains-clause-answer
-returns-in-Contains-clause-answer g c copy ready =
+pub returns-in-Clear : goal.returns-in-Clear
+returns-in-Clear g c =
     let s = c.args.self.now in
     let hash : g.row.K.Denot → ℕ = key_hash g.H.BuildHasher g.H.Hasher.Hasher g.K.Hash.hash_input c.args.self.now.contents in
     let eq = g.K.PartialEq.eq in
-    let raw : Changes length (CacheMoves eq (number_in hash s.contents)) (CacheResizes (cache_setting s) (number_in hash s.contents)) (lists_of s.contents) (Contains c.in-Contains.k) (Has c.contains_sync.result) (lists_of s.contents) = contains-changes hash eq s c.in-Contains.k c.contains_sync.result c.contains_sync.ensures.yes c.contains_sync.ensures.no in
-    let less : length (lists_of s.contents) ≤ length (lists_of s.contents) = omega arith in
-    answers-made c.equals.ensures c.equals-2.ensures hash eq s s c.args.call (Contains c.in-Contains.k) c.in-Contains.is (Has c.contains_sync.result) raw copy less ready.1
+    record {
+      setting = (search rules);
+      ok = (
+          let raw : Changes length (CacheMoves eq (number_in hash s.contents)) (CacheResizes (cache_setting s) (number_in hash s.contents)) (lists_of s.contents) (Clear) (Cleared) (lists_of c.clear_sync.new.self.contents) = clear-changes hash eq s c.clear_sync.new.self c.clear_sync.ensures.step c.clear_sync.ensures.state.lists.short c.clear_sync.ensures.state.within in
+          means-made c.equals.ensures c.equals-2.ensures hash eq s c.clear_sync.new.self c.args.call (Clear) c.in-Clear.is (Cleared) raw);
+      err = (search rules);
+      refused = (search rules);
+      answer = (search rules);
+      made = (
+          λ copy ready. let less : length (lists_of c.clear_sync.new.self.contents) ≤ length (lists_of s.contents) = clear-less hash eq s c.clear_sync.new.self c.clear_sync.ensures.step in
+          less);
+      kept = (search rules);
+    }
 
-pub returns-in-Clear-clause-ok : goal.returns-in-Clear-clause-ok
-returns-in-Clear-clause-ok g c =
-    let s = c.args.self.now in
-    let hash : g.row.K.Denot → ℕ = key_hash g.H.BuildHasher g.H.Hasher.Hasher g.K.Hash.hash_input c.args.self.now.contents in
-    let eq = g.K.PartialEq.eq in
-    let raw : Changes length (CacheMoves eq (number_in hash s.contents)) (CacheResizes (cache_setting s) (number_in hash s.contents)) (lists_of s.contents) (Clear) (Cleared) (lists_of c.clear_sync.new.self.contents) = clear-changes hash eq s c.clear_sync.new.self c.clear_sync.ensures.step c.clear_sync.ensures.state.lists.short c.clear_sync.ensures.state.within in
-    means-made c.equals.ensures c.equals-2.ensures hash eq s c.clear_sync.new.self c.args.call (Clear) c.in-Clear.is (Cleared) raw
-
-pub returns-in-Clear-clause-made : goal.returns-in-Clear-clause-made
-returns-in-Clear-clause-made g c copy ready =
-    let s = c.args.self.now in
-    let hash : g.row.K.Denot → ℕ = key_hash g.H.BuildHasher g.H.Hasher.Hasher g.K.Hash.hash_input c.args.self.now.contents in
-    let eq = g.K.PartialEq.eq in
-    let less : length (lists_of c.clear_sync.new.self.contents) ≤ length (lists_of s.contents) = clear-less hash eq s c.clear_sync.new.self c.clear_sync.ensures.step in
-    less
-
-pub returns-clause-ok : goal.returns-clause-ok
-returns-clause-ok g c =
-    let s = c.args.self.now in
-    let hash : g.row.K.Denot → ℕ = key_hash g.H.BuildHasher g.H.Hasher.Hasher g.K.Hash.hash_input c.args.self.now.contents in
-    let eq = g.K.PartialEq.eq in
-    let raw : Changes length (CacheMoves eq (number_in hash s.contents)) (CacheResizes (cache_setting s) (number_in hash s.contents)) (lists_of s.contents) (Len) (Count c.len.result) (lists_of s.contents) = len-changes hash eq s c.len.result c.len.ensures.len in
-    means-made c.equals.ensures c.equals-2.ensures hash eq s s c.args.call (Len) c.in-Len.is (Count c.len.result) raw
-
-pub returns-clause-answer : goal.returns-clause-answer
-returns-clause-answer g c copy ready =
+pub returns : goal.returns
+returns g c =
     let s = c.args.self.now in
     let hash : g.row.K.Denot → ℕ = key_hash g.H.BuildHasher g.H.Hasher.Hasher g.K.Hash.hash_input c.args.self.now.contents in
     let eq = g.K.PartialEq.eq in
     let raw : Changes length (CacheMoves eq (number_in hash s.contents)) (CacheResizes (cache_setting s) (number_in hash s.contents)) (lists_of s.contents) (Len) (Count c.len.result) (lists_of s.contents) = len-changes hash eq s c.len.result c.len.ensures.len in
-    let less : length (lists_of s.contents) ≤ length (lists_of s.contents) = omega arith in
-    answers-made c.equals.ensures c.equals-2.ensures hash eq s s c.args.call (Len) c.in-Len.is (Count c.len.result) raw copy less ready.1
+    record {
+      setting = (search rules);
+      ok = (means-made c.equals.ensures c.equals-2.ensures hash eq s s c.args.call (Len) c.in-Len.is (Count c.len.result) raw);
+      err = (search rules);
+      refused = (search rules);
+      answer = (
+          λ copy ready. let less : length (lists_of s.contents) ≤ length (lists_of s.contents) = omega arith in
+          answers-made c.equals.ensures c.equals-2.ensures hash eq s s c.args.call (Len) c.in-Len.is (Count c.len.result) raw copy less ready.1);
+      made = (search rules);
+      kept = (search rules);
+    }

@@ -11,113 +11,200 @@ use Rattle.scc_calls.proofs.Copying.{copied}
 use Rattle.scc_calls.proofs.IndexCalls.{cleared, inserted, removed, updated}
 use Rattle.scc_calls.proofs.index_calls.OwnedCalls.call.Goals as goal
 
-pub returns-in-Ok-clause-ok : goal.returns-in-Ok-clause-ok
-returns-in-Ok-clause-ok g c =
-    let raw : Changes (λ (s : State (g.row.K.Denot × g.row.V.Denot)). s.1) (IndexMoves g.K.PartialEq.eq) (ResizesTo (setting_of c.args.self.now)) (state_of c.args.self.now) c.args.call Inserted (state_of c.insert_sync.new.self) = rw c.in-Insert.is (inserted g.K.PartialEq.eq c.args.self.now c.insert_sync.new.self c.in-Insert.k c.in-Insert.v c.in-Ok.field-0 c.in-Ok.ensures.step) in
-    (elim raw [
-      | inl x ↦ inl (x.0, (c.args.call, Inserted, inl refl, inl refl, x.1))
-      | inr y ↦ elim y [
-        | inl z ↦ inr (inl (z.0, (z.1.0, z.1.1, (c.args.call, Inserted, inl refl, inl refl, z.1.2))))
-        | inr z ↦ inr (inr (z.0, (z.1.0, (c.args.call, Inserted, inl refl, inl refl, z.1.1), z.1.2)))
-      ]
-    ])
+pub returns-in-Ok : goal.returns-in-Ok
+returns-in-Ok g c =
+    record {
+      setting = (search rules);
+      ok = (
+          let raw : Changes (λ (s : State (g.row.K.Denot × g.row.V.Denot)). s.1) (IndexMoves g.K.PartialEq.eq) (ResizesTo (setting_of c.args.self.now)) (state_of c.args.self.now) c.args.call Inserted (state_of c.insert_sync.new.self) = rw c.in-Insert.is (inserted g.K.PartialEq.eq c.args.self.now c.insert_sync.new.self c.in-Insert.k c.in-Insert.v c.in-Ok.field-0 c.in-Ok.ensures.step) in
+          (elim raw [
+            | inl x ↦ inl (x.0, (c.args.call, Inserted, inl refl, inl refl, x.1))
+            | inr y ↦ elim y [
+              | inl z ↦ inr (inl (z.0, (z.1.0, z.1.1, (c.args.call, Inserted, inl refl, inl refl, z.1.2))))
+              | inr z ↦ inr (inr (z.0, (z.1.0, (c.args.call, Inserted, inl refl, inl refl, z.1.1), z.1.2)))
+            ]
+          ]));
+      err = (search rules);
+      refused = (search rules);
+      answer = (search rules);
+      made = (search rules);
+      kept = (search rules);
+    }
 
-pub returns-in-Err-Exists-clause-ok : goal.returns-in-Err-Exists-clause-ok
-returns-in-Err-Exists-clause-ok g c =
-    let raw : Changes (λ (s : State (g.row.K.Denot × g.row.V.Denot)). s.1) (IndexMoves g.K.PartialEq.eq) (ResizesTo (setting_of c.args.self.now)) (state_of c.args.self.now) c.args.call (Exists c.in-Err-Exists.k c.in-Err-Exists.v) (state_of c.insert_sync.new.self) = search rules in
-    (elim raw [
-      | inl x ↦ inl (x.0, (c.args.call, (Exists c.in-Err-Exists.k c.in-Err-Exists.v), inl refl, inl refl, x.1))
-      | inr y ↦ elim y [
-        | inl z ↦ inr (inl (z.0, (z.1.0, z.1.1, (c.args.call, (Exists c.in-Err-Exists.k c.in-Err-Exists.v), inl refl, inl refl, z.1.2))))
-        | inr z ↦ inr (inr (z.0, (z.1.0, (c.args.call, (Exists c.in-Err-Exists.k c.in-Err-Exists.v), inl refl, inl refl, z.1.1), z.1.2)))
-      ]
-    ])
+pub returns-in-Err-Exists : goal.returns-in-Err-Exists
+returns-in-Err-Exists g c =
+    record {
+      setting = (search rules);
+      ok = (
+          let raw : Changes (λ (s : State (g.row.K.Denot × g.row.V.Denot)). s.1) (IndexMoves g.K.PartialEq.eq) (ResizesTo (setting_of c.args.self.now)) (state_of c.args.self.now) c.args.call (Exists c.in-Err-Exists.k c.in-Err-Exists.v) (state_of c.insert_sync.new.self) = search rules in
+          (elim raw [
+            | inl x ↦ inl (x.0, (c.args.call, (Exists c.in-Err-Exists.k c.in-Err-Exists.v), inl refl, inl refl, x.1))
+            | inr y ↦ elim y [
+              | inl z ↦ inr (inl (z.0, (z.1.0, z.1.1, (c.args.call, (Exists c.in-Err-Exists.k c.in-Err-Exists.v), inl refl, inl refl, z.1.2))))
+              | inr z ↦ inr (inr (z.0, (z.1.0, (c.args.call, (Exists c.in-Err-Exists.k c.in-Err-Exists.v), inl refl, inl refl, z.1.1), z.1.2)))
+            ]
+          ]));
+      err = (search rules);
+      refused = (search rules);
+      answer = (search rules);
+      made = (search rules);
+      kept = (search rules);
+    }
 
-pub returns-in-Ok-update-clause-ok : goal.returns-in-Ok-update-clause-ok
-returns-in-Ok-update-clause-ok g c =
-    let raw : Changes (λ (s : State (g.row.K.Denot × g.row.V.Denot)). s.1) (IndexMoves g.K.PartialEq.eq) (ResizesTo (setting_of c.args.self.now)) (state_of c.args.self.now) c.args.call (Has true) (state_of c.self-1.given.0) = let still : c.update.new.self.guard.ghost_name ≡ c.in-Some.entry.guard.ghost_name = ap (λ (m : MutBor (Contents (g.row.K.Denot × g.row.V.Denot) g.row.H.Denot)). m.ghost_name) c.in-Ok-update.ensures.updated.same_guard in
-    let now = c.self-1.given.1 (sym c.in-Some.ensures.same_index ∙ sym still) in
-    rw (now, c.in-Update.is) (updated g.met.K.Eq.laws g.K.Clone.is_clone c.args.self.now c.in-Update.k c.in-Update.v c.in-Some.entry c.update.new.self c.in-Some.ensures.entry c.in-Ok-update.ensures.updated) in
-    (elim raw [
-      | inl x ↦ inl (x.0, (c.args.call, (Has true), inl refl, inl refl, x.1))
-      | inr y ↦ elim y [
-        | inl z ↦ inr (inl (z.0, (z.1.0, z.1.1, (c.args.call, (Has true), inl refl, inl refl, z.1.2))))
-        | inr z ↦ inr (inr (z.0, (z.1.0, (c.args.call, (Has true), inl refl, inl refl, z.1.1), z.1.2)))
-      ]
-    ])
+pub returns-in-Ok-update : goal.returns-in-Ok-update
+returns-in-Ok-update g c =
+    record {
+      setting = (search rules);
+      ok = (
+          let raw : Changes (λ (s : State (g.row.K.Denot × g.row.V.Denot)). s.1) (IndexMoves g.K.PartialEq.eq) (ResizesTo (setting_of c.args.self.now)) (state_of c.args.self.now) c.args.call (Has true) (state_of c.self-1.given.0) = let still : c.update.new.self.guard.ghost_name ≡ c.in-Some.entry.guard.ghost_name = ap (λ (m : MutBor (Contents (g.row.K.Denot × g.row.V.Denot) g.row.H.Denot)). m.ghost_name) c.in-Ok-update.ensures.updated.same_guard in
+          let now = c.self-1.given.1 (sym c.in-Some.ensures.same_index ∙ sym still) in
+          rw (now, c.in-Update.is) (updated g.met.K.Eq.laws g.K.Clone.is_clone c.args.self.now c.in-Update.k c.in-Update.v c.in-Some.entry c.update.new.self c.in-Some.ensures.entry c.in-Ok-update.ensures.updated) in
+          (elim raw [
+            | inl x ↦ inl (x.0, (c.args.call, (Has true), inl refl, inl refl, x.1))
+            | inr y ↦ elim y [
+              | inl z ↦ inr (inl (z.0, (z.1.0, z.1.1, (c.args.call, (Has true), inl refl, inl refl, z.1.2))))
+              | inr z ↦ inr (inr (z.0, (z.1.0, (c.args.call, (Has true), inl refl, inl refl, z.1.1), z.1.2)))
+            ]
+          ]));
+      err = (search rules);
+      refused = (search rules);
+      answer = (search rules);
+      made = (search rules);
+      kept = (search rules);
+    }
 
-pub returns-in-Update-clause-ok : goal.returns-in-Update-clause-ok
-returns-in-Update-clause-ok g c =
-    let raw : Changes (λ (s : State (g.row.K.Denot × g.row.V.Denot)). s.1) (IndexMoves g.K.PartialEq.eq) (ResizesTo (setting_of c.args.self.now)) (state_of c.args.self.now) c.args.call (Has false) (state_of c.get_sync.follows.lender-at-none) = search rules in
-    (elim raw [
-      | inl x ↦ inl (x.0, (c.args.call, (Has false), inl refl, inl refl, x.1))
-      | inr y ↦ elim y [
-        | inl z ↦ inr (inl (z.0, (z.1.0, z.1.1, (c.args.call, (Has false), inl refl, inl refl, z.1.2))))
-        | inr z ↦ inr (inr (z.0, (z.1.0, (c.args.call, (Has false), inl refl, inl refl, z.1.1), z.1.2)))
-      ]
-    ])
+pub returns-in-Update : goal.returns-in-Update
+returns-in-Update g c =
+    record {
+      setting = (search rules);
+      ok = (
+          let raw : Changes (λ (s : State (g.row.K.Denot × g.row.V.Denot)). s.1) (IndexMoves g.K.PartialEq.eq) (ResizesTo (setting_of c.args.self.now)) (state_of c.args.self.now) c.args.call (Has false) (state_of c.get_sync.follows.lender-at-none) = search rules in
+          (elim raw [
+            | inl x ↦ inl (x.0, (c.args.call, (Has false), inl refl, inl refl, x.1))
+            | inr y ↦ elim y [
+              | inl z ↦ inr (inl (z.0, (z.1.0, z.1.1, (c.args.call, (Has false), inl refl, inl refl, z.1.2))))
+              | inr z ↦ inr (inr (z.0, (z.1.0, (c.args.call, (Has false), inl refl, inl refl, z.1.1), z.1.2)))
+            ]
+          ]));
+      err = (search rules);
+      refused = (search rules);
+      answer = (search rules);
+      made = (search rules);
+      kept = (search rules);
+    }
 
-pub returns-in-Remove-clause-ok : goal.returns-in-Remove-clause-ok
-returns-in-Remove-clause-ok g c =
-    let raw : Changes (λ (s : State (g.row.K.Denot × g.row.V.Denot)). s.1) (IndexMoves g.K.PartialEq.eq) (ResizesTo (setting_of c.args.self.now)) (state_of c.args.self.now) c.args.call (Has c.remove_sync.result) (state_of c.remove_sync.new.self) = rw c.in-Remove.is (removed g.K.PartialEq.eq c.args.self.now c.remove_sync.new.self c.in-Remove.k c.remove_sync.result c.remove_sync.ensures.step) in
-    (elim raw [
-      | inl x ↦ inl (x.0, (c.args.call, (Has c.remove_sync.result), inl refl, inl refl, x.1))
-      | inr y ↦ elim y [
-        | inl z ↦ inr (inl (z.0, (z.1.0, z.1.1, (c.args.call, (Has c.remove_sync.result), inl refl, inl refl, z.1.2))))
-        | inr z ↦ inr (inr (z.0, (z.1.0, (c.args.call, (Has c.remove_sync.result), inl refl, inl refl, z.1.1), z.1.2)))
-      ]
-    ])
+pub returns-in-Remove : goal.returns-in-Remove
+returns-in-Remove g c =
+    record {
+      setting = (search rules);
+      ok = (
+          let raw : Changes (λ (s : State (g.row.K.Denot × g.row.V.Denot)). s.1) (IndexMoves g.K.PartialEq.eq) (ResizesTo (setting_of c.args.self.now)) (state_of c.args.self.now) c.args.call (Has c.remove_sync.result) (state_of c.remove_sync.new.self) = rw c.in-Remove.is (removed g.K.PartialEq.eq c.args.self.now c.remove_sync.new.self c.in-Remove.k c.remove_sync.result c.remove_sync.ensures.step) in
+          (elim raw [
+            | inl x ↦ inl (x.0, (c.args.call, (Has c.remove_sync.result), inl refl, inl refl, x.1))
+            | inr y ↦ elim y [
+              | inl z ↦ inr (inl (z.0, (z.1.0, z.1.1, (c.args.call, (Has c.remove_sync.result), inl refl, inl refl, z.1.2))))
+              | inr z ↦ inr (inr (z.0, (z.1.0, (c.args.call, (Has c.remove_sync.result), inl refl, inl refl, z.1.1), z.1.2)))
+            ]
+          ]));
+      err = (search rules);
+      refused = (search rules);
+      answer = (search rules);
+      made = (search rules);
+      kept = (search rules);
+    }
 
-pub returns-in-Ok-cloned_value-clause-ok : goal.returns-in-Ok-cloned_value-clause-ok
-returns-in-Ok-cloned_value-clause-ok g c =
-    let raw : Changes (λ (s : State (g.row.K.Denot × g.row.V.Denot)). s.1) (IndexMoves g.K.PartialEq.eq) (ResizesTo (setting_of c.args.self.now)) (state_of c.args.self.now) c.args.call (Value (option_map (λ p. p.1) (find g.K.PartialEq.eq (entries c.args.self.now) c.in-Read.k))) (state_of c.args.self.now) = inl (refl, rw c.in-Read.is (refl, refl)) in
-    (elim raw [
-      | inl x ↦ inl (x.0, (c.args.call, (Value (option_map (λ p. p.1) (find g.K.PartialEq.eq (entries c.args.self.now) c.in-Read.k))), inl refl, inr (copied c.requires.clones Value _ (λ p. p.1) refl (λ x y h. h) (find g.K.PartialEq.eq (entries c.args.self.now) c.in-Read.k) c.in-Ok-cloned_value.value c.in-Ok-cloned_value.ensures.ok), x.1))
-      | inr y ↦ elim y [
-        | inl z ↦ inr (inl (z.0, (z.1.0, z.1.1, (c.args.call, (Value (option_map (λ p. p.1) (find g.K.PartialEq.eq (entries c.args.self.now) c.in-Read.k))), inl refl, inr (copied c.requires.clones Value _ (λ p. p.1) refl (λ x y h. h) (find g.K.PartialEq.eq (entries c.args.self.now) c.in-Read.k) c.in-Ok-cloned_value.value c.in-Ok-cloned_value.ensures.ok), z.1.2))))
-        | inr z ↦ inr (inr (z.0, (z.1.0, (c.args.call, (Value (option_map (λ p. p.1) (find g.K.PartialEq.eq (entries c.args.self.now) c.in-Read.k))), inl refl, inr (copied c.requires.clones Value _ (λ p. p.1) refl (λ x y h. h) (find g.K.PartialEq.eq (entries c.args.self.now) c.in-Read.k) c.in-Ok-cloned_value.value c.in-Ok-cloned_value.ensures.ok), z.1.1), z.1.2)))
-      ]
-    ])
+pub returns-in-Ok-cloned_value : goal.returns-in-Ok-cloned_value
+returns-in-Ok-cloned_value g c =
+    record {
+      setting = (search rules);
+      ok = (
+          let raw : Changes (λ (s : State (g.row.K.Denot × g.row.V.Denot)). s.1) (IndexMoves g.K.PartialEq.eq) (ResizesTo (setting_of c.args.self.now)) (state_of c.args.self.now) c.args.call (Value (option_map (λ p. p.1) (find g.K.PartialEq.eq (entries c.args.self.now) c.in-Read.k))) (state_of c.args.self.now) = inl (refl, rw c.in-Read.is (refl, refl)) in
+          (elim raw [
+            | inl x ↦ inl (x.0, (c.args.call, (Value (option_map (λ p. p.1) (find g.K.PartialEq.eq (entries c.args.self.now) c.in-Read.k))), inl refl, inr (copied c.requires.clones Value _ (λ p. p.1) refl (λ x y h. h) (find g.K.PartialEq.eq (entries c.args.self.now) c.in-Read.k) c.in-Ok-cloned_value.value c.in-Ok-cloned_value.ensures.ok), x.1))
+            | inr y ↦ elim y [
+              | inl z ↦ inr (inl (z.0, (z.1.0, z.1.1, (c.args.call, (Value (option_map (λ p. p.1) (find g.K.PartialEq.eq (entries c.args.self.now) c.in-Read.k))), inl refl, inr (copied c.requires.clones Value _ (λ p. p.1) refl (λ x y h. h) (find g.K.PartialEq.eq (entries c.args.self.now) c.in-Read.k) c.in-Ok-cloned_value.value c.in-Ok-cloned_value.ensures.ok), z.1.2))))
+              | inr z ↦ inr (inr (z.0, (z.1.0, (c.args.call, (Value (option_map (λ p. p.1) (find g.K.PartialEq.eq (entries c.args.self.now) c.in-Read.k))), inl refl, inr (copied c.requires.clones Value _ (λ p. p.1) refl (λ x y h. h) (find g.K.PartialEq.eq (entries c.args.self.now) c.in-Read.k) c.in-Ok-cloned_value.value c.in-Ok-cloned_value.ensures.ok), z.1.1), z.1.2)))
+            ]
+          ]));
+      err = (search rules);
+      refused = (search rules);
+      answer = (
+          λ copy ready. let laws = c.equal_replies.ensures in
+          let own = (copied c.requires.clones Value _ (λ p. p.1) refl (λ x y h. h) (find g.K.PartialEq.eq (entries c.args.self.now) c.in-Read.k) c.in-Ok-cloned_value.value c.in-Ok-cloned_value.ensures.ok) in
+          let asked = rw c.in-Read.is at ready.1 in
+          laws.trans (Value c.in-Ok-cloned_value.value) (Value (option_map (λ p. p.1) (find g.K.PartialEq.eq (entries c.args.self.now) c.in-Read.k))) copy (laws.symm (Value c.in-Ok-cloned_value.value) (Value (option_map (λ p. p.1) (find g.K.PartialEq.eq (entries c.args.self.now) c.in-Read.k))) ∙ own) asked);
+      made = (search rules);
+      kept = (search rules);
+    }
 
-pub returns-in-Ok-cloned_value-clause-answer : goal.returns-in-Ok-cloned_value-clause-answer
-returns-in-Ok-cloned_value-clause-answer g c copy ready =
-    let laws = c.equal_replies.ensures in
-    let own = (copied c.requires.clones Value _ (λ p. p.1) refl (λ x y h. h) (find g.K.PartialEq.eq (entries c.args.self.now) c.in-Read.k) c.in-Ok-cloned_value.value c.in-Ok-cloned_value.ensures.ok) in
-    let asked = rw c.in-Read.is at ready.1 in
-    laws.trans (Value c.in-Ok-cloned_value.value) (Value (option_map (λ p. p.1) (find g.K.PartialEq.eq (entries c.args.self.now) c.in-Read.k))) copy (laws.symm (Value c.in-Ok-cloned_value.value) (Value (option_map (λ p. p.1) (find g.K.PartialEq.eq (entries c.args.self.now) c.in-Read.k))) ∙ own) asked
+pub returns-in-Read : goal.returns-in-Read
+returns-in-Read g c =
+    record {
+      setting = (search rules);
+      ok = (search rules);
+      err = (search rules);
+      refused = (inr (rw c.in-Read.is refl, (Value (Some c.in-Err-cloned_value.ensures.err.0), λ h. c.in-Err-cloned_value.ensures.err.1 h)));
+      answer = (search rules);
+      made = (search rules);
+      kept = (search rules);
+    }
 
-pub returns-in-Read-clause-refused : goal.returns-in-Read-clause-refused
-returns-in-Read-clause-refused g c = inr (rw c.in-Read.is refl, (Value (Some c.in-Err-cloned_value.ensures.err.0), λ h. c.in-Err-cloned_value.ensures.err.1 h))
+pub returns-in-Contains : goal.returns-in-Contains
+returns-in-Contains g c =
+    record {
+      setting = (search rules);
+      ok = (
+          let raw : Changes (λ (s : State (g.row.K.Denot × g.row.V.Denot)). s.1) (IndexMoves g.K.PartialEq.eq) (ResizesTo (setting_of c.args.self.now)) (state_of c.args.self.now) c.args.call (Has c.contains.result) (state_of c.args.self.now) = search rules in
+          (elim raw [
+            | inl x ↦ inl (x.0, (c.args.call, (Has c.contains.result), inl refl, inl refl, x.1))
+            | inr y ↦ elim y [
+              | inl z ↦ inr (inl (z.0, (z.1.0, z.1.1, (c.args.call, (Has c.contains.result), inl refl, inl refl, z.1.2))))
+              | inr z ↦ inr (inr (z.0, (z.1.0, (c.args.call, (Has c.contains.result), inl refl, inl refl, z.1.1), z.1.2)))
+            ]
+          ]));
+      err = (search rules);
+      refused = (search rules);
+      answer = (search rules);
+      made = (search rules);
+      kept = (search rules);
+    }
 
-pub returns-in-Contains-clause-ok : goal.returns-in-Contains-clause-ok
-returns-in-Contains-clause-ok g c =
-    let raw : Changes (λ (s : State (g.row.K.Denot × g.row.V.Denot)). s.1) (IndexMoves g.K.PartialEq.eq) (ResizesTo (setting_of c.args.self.now)) (state_of c.args.self.now) c.args.call (Has c.contains.result) (state_of c.args.self.now) = search rules in
-    (elim raw [
-      | inl x ↦ inl (x.0, (c.args.call, (Has c.contains.result), inl refl, inl refl, x.1))
-      | inr y ↦ elim y [
-        | inl z ↦ inr (inl (z.0, (z.1.0, z.1.1, (c.args.call, (Has c.contains.result), inl refl, inl refl, z.1.2))))
-        | inr z ↦ inr (inr (z.0, (z.1.0, (c.args.call, (Has c.contains.result), inl refl, inl refl, z.1.1), z.1.2)))
-      ]
-    ])
+pub returns-in-Clear : goal.returns-in-Clear
+returns-in-Clear g c =
+    record {
+      setting = (search rules);
+      ok = (
+          let raw : Changes (λ (s : State (g.row.K.Denot × g.row.V.Denot)). s.1) (IndexMoves g.K.PartialEq.eq) (ResizesTo (setting_of c.args.self.now)) (state_of c.args.self.now) c.args.call Cleared (state_of c.clear_sync.new.self) = rw c.in-Clear.is (cleared g.K.PartialEq.eq c.args.self.now c.clear_sync.new.self c.clear_sync.ensures.holds) in
+          (elim raw [
+            | inl x ↦ inl (x.0, (c.args.call, Cleared, inl refl, inl refl, x.1))
+            | inr y ↦ elim y [
+              | inl z ↦ inr (inl (z.0, (z.1.0, z.1.1, (c.args.call, Cleared, inl refl, inl refl, z.1.2))))
+              | inr z ↦ inr (inr (z.0, (z.1.0, (c.args.call, Cleared, inl refl, inl refl, z.1.1), z.1.2)))
+            ]
+          ]));
+      err = (search rules);
+      refused = (search rules);
+      answer = (search rules);
+      made = (search rules);
+      kept = (search rules);
+    }
 
-pub returns-in-Clear-clause-ok : goal.returns-in-Clear-clause-ok
-returns-in-Clear-clause-ok g c =
-    let raw : Changes (λ (s : State (g.row.K.Denot × g.row.V.Denot)). s.1) (IndexMoves g.K.PartialEq.eq) (ResizesTo (setting_of c.args.self.now)) (state_of c.args.self.now) c.args.call Cleared (state_of c.clear_sync.new.self) = rw c.in-Clear.is (cleared g.K.PartialEq.eq c.args.self.now c.clear_sync.new.self c.clear_sync.ensures.holds) in
-    (elim raw [
-      | inl x ↦ inl (x.0, (c.args.call, Cleared, inl refl, inl refl, x.1))
-      | inr y ↦ elim y [
-        | inl z ↦ inr (inl (z.0, (z.1.0, z.1.1, (c.args.call, Cleared, inl refl, inl refl, z.1.2))))
-        | inr z ↦ inr (inr (z.0, (z.1.0, (c.args.call, Cleared, inl refl, inl refl, z.1.1), z.1.2)))
-      ]
-    ])
-
-pub returns-clause-ok : goal.returns-clause-ok
-returns-clause-ok g c =
-    let raw : Changes (λ (s : State (g.row.K.Denot × g.row.V.Denot)). s.1) (IndexMoves g.K.PartialEq.eq) (ResizesTo (setting_of c.args.self.now)) (state_of c.args.self.now) c.args.call (Count c.len.result) (state_of c.args.self.now) = search rules in
-    (elim raw [
-      | inl x ↦ inl (x.0, (c.args.call, (Count c.len.result), inl refl, inl refl, x.1))
-      | inr y ↦ elim y [
-        | inl z ↦ inr (inl (z.0, (z.1.0, z.1.1, (c.args.call, (Count c.len.result), inl refl, inl refl, z.1.2))))
-        | inr z ↦ inr (inr (z.0, (z.1.0, (c.args.call, (Count c.len.result), inl refl, inl refl, z.1.1), z.1.2)))
-      ]
-    ])
+pub returns : goal.returns
+returns g c =
+    record {
+      setting = (search rules);
+      ok = (
+          let raw : Changes (λ (s : State (g.row.K.Denot × g.row.V.Denot)). s.1) (IndexMoves g.K.PartialEq.eq) (ResizesTo (setting_of c.args.self.now)) (state_of c.args.self.now) c.args.call (Count c.len.result) (state_of c.args.self.now) = search rules in
+          (elim raw [
+            | inl x ↦ inl (x.0, (c.args.call, (Count c.len.result), inl refl, inl refl, x.1))
+            | inr y ↦ elim y [
+              | inl z ↦ inr (inl (z.0, (z.1.0, z.1.1, (c.args.call, (Count c.len.result), inl refl, inl refl, z.1.2))))
+              | inr z ↦ inr (inr (z.0, (z.1.0, (c.args.call, (Count c.len.result), inl refl, inl refl, z.1.1), z.1.2)))
+            ]
+          ]));
+      err = (search rules);
+      refused = (search rules);
+      answer = (search rules);
+      made = (search rules);
+      kept = (search rules);
+    }

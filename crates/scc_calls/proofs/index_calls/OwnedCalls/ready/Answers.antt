@@ -1,7 +1,17 @@
+use Rattle.std.proofs.Common.{rules}
 use Rattle.scc_calls.proofs.States.{unchanged-state}
 use Rattle.scc_calls.proofs.index_calls.OwnedCalls.ready.Goals as goal
 
-pub returns-in-Err-clause-still : goal.returns-in-Err-clause-still
-returns-in-Err-clause-still g c =
-    let same = unchanged-state c.make_room.new.index c.drop_room.new.self c.drop_room.ensures.same in
-    λ h. c.make_room.ensures.still (rw same at h)
+pub returns-in-Err : goal.returns-in-Err
+returns-in-Err g c =
+    record {
+      setting = (search rules);
+      stays = (search rules);
+      grows = (search rules);
+      adds = (search rules);
+      ready = (search rules);
+      refused = (search rules);
+      still = (
+          let same = unchanged-state c.make_room.new.index c.drop_room.new.self c.drop_room.ensures.same in
+          λ h. c.make_room.ensures.still (rw same at h));
+    }

@@ -10,100 +10,178 @@ use Rattle.scc_calls.proofs.Copying.{copied_whole}
 use Rattle.scc_calls.proofs.SetCalls.{cleared, inserted, removed, replaced}
 use Rattle.scc_calls.proofs.set_calls.OwnedCalls.call.Goals as goal
 
-pub returns-in-Ok-clause-ok : goal.returns-in-Ok-clause-ok
-returns-in-Ok-clause-ok g c =
-    let raw : Changes (λ (s : State g.row.K.Denot). s.1) (SetMoves g.K.PartialEq.eq) (ResizesTo (setting_of c.args.self.now)) (state_of c.args.self.now) c.args.call Inserted (state_of c.insert_sync.new.self) = rw c.in-Insert.is (inserted g.K.PartialEq.eq (λ h k. hash_of g.H.BuildHasher g.H.Hasher.Hasher h (g.K.Hash.hash_input k)) c.args.self.now c.insert_sync.new.self c.in-Insert.k c.in-Ok.field-0 c.in-Ok.ensures.step) in
-    (elim raw [
-      | inl x ↦ inl (x.0, (c.args.call, Inserted, inl refl, inl refl, x.1))
-      | inr y ↦ elim y [
-        | inl z ↦ inr (inl (z.0, (z.1.0, z.1.1, (c.args.call, Inserted, inl refl, inl refl, z.1.2))))
-        | inr z ↦ inr (inr (z.0, (z.1.0, (c.args.call, Inserted, inl refl, inl refl, z.1.1), z.1.2)))
-      ]
-    ])
+pub returns-in-Ok : goal.returns-in-Ok
+returns-in-Ok g c =
+    record {
+      setting = (search rules);
+      ok = (
+          let raw : Changes (λ (s : State g.row.K.Denot). s.1) (SetMoves g.K.PartialEq.eq) (ResizesTo (setting_of c.args.self.now)) (state_of c.args.self.now) c.args.call Inserted (state_of c.insert_sync.new.self) = rw c.in-Insert.is (inserted g.K.PartialEq.eq (λ h k. hash_of g.H.BuildHasher g.H.Hasher.Hasher h (g.K.Hash.hash_input k)) c.args.self.now c.insert_sync.new.self c.in-Insert.k c.in-Ok.field-0 c.in-Ok.ensures.step) in
+          (elim raw [
+            | inl x ↦ inl (x.0, (c.args.call, Inserted, inl refl, inl refl, x.1))
+            | inr y ↦ elim y [
+              | inl z ↦ inr (inl (z.0, (z.1.0, z.1.1, (c.args.call, Inserted, inl refl, inl refl, z.1.2))))
+              | inr z ↦ inr (inr (z.0, (z.1.0, (c.args.call, Inserted, inl refl, inl refl, z.1.1), z.1.2)))
+            ]
+          ]));
+      err = (search rules);
+      refused = (search rules);
+      answer = (search rules);
+      made = (search rules);
+      kept = (search rules);
+    }
 
-pub returns-in-Err-Exists-clause-ok : goal.returns-in-Err-Exists-clause-ok
-returns-in-Err-Exists-clause-ok g c =
-    let raw : Changes (λ (s : State g.row.K.Denot). s.1) (SetMoves g.K.PartialEq.eq) (ResizesTo (setting_of c.args.self.now)) (state_of c.args.self.now) c.args.call (Exists c.in-Err-Exists.k tt) (state_of c.insert_sync.new.self) = search rules in
-    (elim raw [
-      | inl x ↦ inl (x.0, (c.args.call, (Exists c.in-Err-Exists.k tt), inl refl, inl refl, x.1))
-      | inr y ↦ elim y [
-        | inl z ↦ inr (inl (z.0, (z.1.0, z.1.1, (c.args.call, (Exists c.in-Err-Exists.k tt), inl refl, inl refl, z.1.2))))
-        | inr z ↦ inr (inr (z.0, (z.1.0, (c.args.call, (Exists c.in-Err-Exists.k tt), inl refl, inl refl, z.1.1), z.1.2)))
-      ]
-    ])
+pub returns-in-Err-Exists : goal.returns-in-Err-Exists
+returns-in-Err-Exists g c =
+    record {
+      setting = (search rules);
+      ok = (
+          let raw : Changes (λ (s : State g.row.K.Denot). s.1) (SetMoves g.K.PartialEq.eq) (ResizesTo (setting_of c.args.self.now)) (state_of c.args.self.now) c.args.call (Exists c.in-Err-Exists.k tt) (state_of c.insert_sync.new.self) = search rules in
+          (elim raw [
+            | inl x ↦ inl (x.0, (c.args.call, (Exists c.in-Err-Exists.k tt), inl refl, inl refl, x.1))
+            | inr y ↦ elim y [
+              | inl z ↦ inr (inl (z.0, (z.1.0, z.1.1, (c.args.call, (Exists c.in-Err-Exists.k tt), inl refl, inl refl, z.1.2))))
+              | inr z ↦ inr (inr (z.0, (z.1.0, (c.args.call, (Exists c.in-Err-Exists.k tt), inl refl, inl refl, z.1.1), z.1.2)))
+            ]
+          ]));
+      err = (search rules);
+      refused = (search rules);
+      answer = (search rules);
+      made = (search rules);
+      kept = (search rules);
+    }
 
-pub returns-in-Ok-replace_sync-clause-ok : goal.returns-in-Ok-replace_sync-clause-ok
-returns-in-Ok-replace_sync-clause-ok g c =
-    let raw : Changes (λ (s : State g.row.K.Denot). s.1) (SetMoves g.K.PartialEq.eq) (ResizesTo (setting_of c.args.self.now)) (state_of c.args.self.now) c.args.call (Key c.in-Ok-replace_sync.old) (state_of c.replace_sync.new.self) = rw c.in-Replace.is (replaced g.K.PartialEq.eq (λ h k. hash_of g.H.BuildHasher g.H.Hasher.Hasher h (g.K.Hash.hash_input k)) c.args.self.now c.replace_sync.new.self c.in-Replace.k c.in-Ok-replace_sync.old c.in-Ok-replace_sync.ensures.step) in
-    (elim raw [
-      | inl x ↦ inl (x.0, (c.args.call, (Key c.in-Ok-replace_sync.old), inl refl, inl refl, x.1))
-      | inr y ↦ elim y [
-        | inl z ↦ inr (inl (z.0, (z.1.0, z.1.1, (c.args.call, (Key c.in-Ok-replace_sync.old), inl refl, inl refl, z.1.2))))
-        | inr z ↦ inr (inr (z.0, (z.1.0, (c.args.call, (Key c.in-Ok-replace_sync.old), inl refl, inl refl, z.1.1), z.1.2)))
-      ]
-    ])
+pub returns-in-Ok-replace_sync : goal.returns-in-Ok-replace_sync
+returns-in-Ok-replace_sync g c =
+    record {
+      setting = (search rules);
+      ok = (
+          let raw : Changes (λ (s : State g.row.K.Denot). s.1) (SetMoves g.K.PartialEq.eq) (ResizesTo (setting_of c.args.self.now)) (state_of c.args.self.now) c.args.call (Key c.in-Ok-replace_sync.old) (state_of c.replace_sync.new.self) = rw c.in-Replace.is (replaced g.K.PartialEq.eq (λ h k. hash_of g.H.BuildHasher g.H.Hasher.Hasher h (g.K.Hash.hash_input k)) c.args.self.now c.replace_sync.new.self c.in-Replace.k c.in-Ok-replace_sync.old c.in-Ok-replace_sync.ensures.step) in
+          (elim raw [
+            | inl x ↦ inl (x.0, (c.args.call, (Key c.in-Ok-replace_sync.old), inl refl, inl refl, x.1))
+            | inr y ↦ elim y [
+              | inl z ↦ inr (inl (z.0, (z.1.0, z.1.1, (c.args.call, (Key c.in-Ok-replace_sync.old), inl refl, inl refl, z.1.2))))
+              | inr z ↦ inr (inr (z.0, (z.1.0, (c.args.call, (Key c.in-Ok-replace_sync.old), inl refl, inl refl, z.1.1), z.1.2)))
+            ]
+          ]));
+      err = (search rules);
+      refused = (search rules);
+      answer = (search rules);
+      made = (search rules);
+      kept = (search rules);
+    }
 
-pub returns-in-Remove-clause-ok : goal.returns-in-Remove-clause-ok
-returns-in-Remove-clause-ok g c =
-    let raw : Changes (λ (s : State g.row.K.Denot). s.1) (SetMoves g.K.PartialEq.eq) (ResizesTo (setting_of c.args.self.now)) (state_of c.args.self.now) c.args.call (Key c.remove_sync.result) (state_of c.remove_sync.new.self) = rw c.in-Remove.is (removed g.K.PartialEq.eq c.args.self.now c.remove_sync.new.self c.in-Remove.k c.remove_sync.result c.remove_sync.ensures.step) in
-    (elim raw [
-      | inl x ↦ inl (x.0, (c.args.call, (Key c.remove_sync.result), inl refl, inl refl, x.1))
-      | inr y ↦ elim y [
-        | inl z ↦ inr (inl (z.0, (z.1.0, z.1.1, (c.args.call, (Key c.remove_sync.result), inl refl, inl refl, z.1.2))))
-        | inr z ↦ inr (inr (z.0, (z.1.0, (c.args.call, (Key c.remove_sync.result), inl refl, inl refl, z.1.1), z.1.2)))
-      ]
-    ])
+pub returns-in-Remove : goal.returns-in-Remove
+returns-in-Remove g c =
+    record {
+      setting = (search rules);
+      ok = (
+          let raw : Changes (λ (s : State g.row.K.Denot). s.1) (SetMoves g.K.PartialEq.eq) (ResizesTo (setting_of c.args.self.now)) (state_of c.args.self.now) c.args.call (Key c.remove_sync.result) (state_of c.remove_sync.new.self) = rw c.in-Remove.is (removed g.K.PartialEq.eq c.args.self.now c.remove_sync.new.self c.in-Remove.k c.remove_sync.result c.remove_sync.ensures.step) in
+          (elim raw [
+            | inl x ↦ inl (x.0, (c.args.call, (Key c.remove_sync.result), inl refl, inl refl, x.1))
+            | inr y ↦ elim y [
+              | inl z ↦ inr (inl (z.0, (z.1.0, z.1.1, (c.args.call, (Key c.remove_sync.result), inl refl, inl refl, z.1.2))))
+              | inr z ↦ inr (inr (z.0, (z.1.0, (c.args.call, (Key c.remove_sync.result), inl refl, inl refl, z.1.1), z.1.2)))
+            ]
+          ]));
+      err = (search rules);
+      refused = (search rules);
+      answer = (search rules);
+      made = (search rules);
+      kept = (search rules);
+    }
 
-pub returns-in-Ok-cloned_key-clause-ok : goal.returns-in-Ok-cloned_key-clause-ok
-returns-in-Ok-cloned_key-clause-ok g c =
-    let raw : Changes (λ (s : State g.row.K.Denot). s.1) (SetMoves g.K.PartialEq.eq) (ResizesTo (setting_of c.args.self.now)) (state_of c.args.self.now) c.args.call (Key (find g.K.PartialEq.eq (entries c.args.self.now) c.in-Read.k)) (state_of c.args.self.now) = inl (refl, rw c.in-Read.is (refl, refl)) in
-    (elim raw [
-      | inl x ↦ inl (x.0, (c.args.call, (Key (find g.K.PartialEq.eq (entries c.args.self.now) c.in-Read.k)), inl refl, inr (copied_whole c.requires.clones Key _ refl (λ x y h. h) (find g.K.PartialEq.eq (entries c.args.self.now) c.in-Read.k) c.in-Ok-cloned_key.key c.in-Ok-cloned_key.ensures.ok), x.1))
-      | inr y ↦ elim y [
-        | inl z ↦ inr (inl (z.0, (z.1.0, z.1.1, (c.args.call, (Key (find g.K.PartialEq.eq (entries c.args.self.now) c.in-Read.k)), inl refl, inr (copied_whole c.requires.clones Key _ refl (λ x y h. h) (find g.K.PartialEq.eq (entries c.args.self.now) c.in-Read.k) c.in-Ok-cloned_key.key c.in-Ok-cloned_key.ensures.ok), z.1.2))))
-        | inr z ↦ inr (inr (z.0, (z.1.0, (c.args.call, (Key (find g.K.PartialEq.eq (entries c.args.self.now) c.in-Read.k)), inl refl, inr (copied_whole c.requires.clones Key _ refl (λ x y h. h) (find g.K.PartialEq.eq (entries c.args.self.now) c.in-Read.k) c.in-Ok-cloned_key.key c.in-Ok-cloned_key.ensures.ok), z.1.1), z.1.2)))
-      ]
-    ])
+pub returns-in-Ok-cloned_key : goal.returns-in-Ok-cloned_key
+returns-in-Ok-cloned_key g c =
+    record {
+      setting = (search rules);
+      ok = (
+          let raw : Changes (λ (s : State g.row.K.Denot). s.1) (SetMoves g.K.PartialEq.eq) (ResizesTo (setting_of c.args.self.now)) (state_of c.args.self.now) c.args.call (Key (find g.K.PartialEq.eq (entries c.args.self.now) c.in-Read.k)) (state_of c.args.self.now) = inl (refl, rw c.in-Read.is (refl, refl)) in
+          (elim raw [
+            | inl x ↦ inl (x.0, (c.args.call, (Key (find g.K.PartialEq.eq (entries c.args.self.now) c.in-Read.k)), inl refl, inr (copied_whole c.requires.clones Key _ refl (λ x y h. h) (find g.K.PartialEq.eq (entries c.args.self.now) c.in-Read.k) c.in-Ok-cloned_key.key c.in-Ok-cloned_key.ensures.ok), x.1))
+            | inr y ↦ elim y [
+              | inl z ↦ inr (inl (z.0, (z.1.0, z.1.1, (c.args.call, (Key (find g.K.PartialEq.eq (entries c.args.self.now) c.in-Read.k)), inl refl, inr (copied_whole c.requires.clones Key _ refl (λ x y h. h) (find g.K.PartialEq.eq (entries c.args.self.now) c.in-Read.k) c.in-Ok-cloned_key.key c.in-Ok-cloned_key.ensures.ok), z.1.2))))
+              | inr z ↦ inr (inr (z.0, (z.1.0, (c.args.call, (Key (find g.K.PartialEq.eq (entries c.args.self.now) c.in-Read.k)), inl refl, inr (copied_whole c.requires.clones Key _ refl (λ x y h. h) (find g.K.PartialEq.eq (entries c.args.self.now) c.in-Read.k) c.in-Ok-cloned_key.key c.in-Ok-cloned_key.ensures.ok), z.1.1), z.1.2)))
+            ]
+          ]));
+      err = (search rules);
+      refused = (search rules);
+      answer = (
+          λ copy ready. let laws = c.equal_replies.ensures in
+          let own = (copied_whole c.requires.clones Key _ refl (λ x y h. h) (find g.K.PartialEq.eq (entries c.args.self.now) c.in-Read.k) c.in-Ok-cloned_key.key c.in-Ok-cloned_key.ensures.ok) in
+          let asked = rw c.in-Read.is at ready.1 in
+          laws.trans (Key c.in-Ok-cloned_key.key) (Key (find g.K.PartialEq.eq (entries c.args.self.now) c.in-Read.k)) copy (laws.symm (Key c.in-Ok-cloned_key.key) (Key (find g.K.PartialEq.eq (entries c.args.self.now) c.in-Read.k)) ∙ own) asked);
+      made = (search rules);
+      kept = (search rules);
+    }
 
-pub returns-in-Ok-cloned_key-clause-answer : goal.returns-in-Ok-cloned_key-clause-answer
-returns-in-Ok-cloned_key-clause-answer g c copy ready =
-    let laws = c.equal_replies.ensures in
-    let own = (copied_whole c.requires.clones Key _ refl (λ x y h. h) (find g.K.PartialEq.eq (entries c.args.self.now) c.in-Read.k) c.in-Ok-cloned_key.key c.in-Ok-cloned_key.ensures.ok) in
-    let asked = rw c.in-Read.is at ready.1 in
-    laws.trans (Key c.in-Ok-cloned_key.key) (Key (find g.K.PartialEq.eq (entries c.args.self.now) c.in-Read.k)) copy (laws.symm (Key c.in-Ok-cloned_key.key) (Key (find g.K.PartialEq.eq (entries c.args.self.now) c.in-Read.k)) ∙ own) asked
+pub returns-in-Read : goal.returns-in-Read
+returns-in-Read g c =
+    record {
+      setting = (search rules);
+      ok = (search rules);
+      err = (search rules);
+      refused = (inr (rw c.in-Read.is refl, (Key (Some c.in-Err-cloned_key.ensures.err.0), λ h. c.in-Err-cloned_key.ensures.err.1 h)));
+      answer = (search rules);
+      made = (search rules);
+      kept = (search rules);
+    }
 
-pub returns-in-Read-clause-refused : goal.returns-in-Read-clause-refused
-returns-in-Read-clause-refused g c = inr (rw c.in-Read.is refl, (Key (Some c.in-Err-cloned_key.ensures.err.0), λ h. c.in-Err-cloned_key.ensures.err.1 h))
+pub returns-in-Contains : goal.returns-in-Contains
+returns-in-Contains g c =
+    record {
+      setting = (search rules);
+      ok = (
+          let raw : Changes (λ (s : State g.row.K.Denot). s.1) (SetMoves g.K.PartialEq.eq) (ResizesTo (setting_of c.args.self.now)) (state_of c.args.self.now) c.args.call (Has c.contains_sync.result) (state_of c.args.self.now) = search rules in
+          (elim raw [
+            | inl x ↦ inl (x.0, (c.args.call, (Has c.contains_sync.result), inl refl, inl refl, x.1))
+            | inr y ↦ elim y [
+              | inl z ↦ inr (inl (z.0, (z.1.0, z.1.1, (c.args.call, (Has c.contains_sync.result), inl refl, inl refl, z.1.2))))
+              | inr z ↦ inr (inr (z.0, (z.1.0, (c.args.call, (Has c.contains_sync.result), inl refl, inl refl, z.1.1), z.1.2)))
+            ]
+          ]));
+      err = (search rules);
+      refused = (search rules);
+      answer = (search rules);
+      made = (search rules);
+      kept = (search rules);
+    }
 
-pub returns-in-Contains-clause-ok : goal.returns-in-Contains-clause-ok
-returns-in-Contains-clause-ok g c =
-    let raw : Changes (λ (s : State g.row.K.Denot). s.1) (SetMoves g.K.PartialEq.eq) (ResizesTo (setting_of c.args.self.now)) (state_of c.args.self.now) c.args.call (Has c.contains_sync.result) (state_of c.args.self.now) = search rules in
-    (elim raw [
-      | inl x ↦ inl (x.0, (c.args.call, (Has c.contains_sync.result), inl refl, inl refl, x.1))
-      | inr y ↦ elim y [
-        | inl z ↦ inr (inl (z.0, (z.1.0, z.1.1, (c.args.call, (Has c.contains_sync.result), inl refl, inl refl, z.1.2))))
-        | inr z ↦ inr (inr (z.0, (z.1.0, (c.args.call, (Has c.contains_sync.result), inl refl, inl refl, z.1.1), z.1.2)))
-      ]
-    ])
+pub returns-in-Clear : goal.returns-in-Clear
+returns-in-Clear g c =
+    record {
+      setting = (search rules);
+      ok = (
+          let raw : Changes (λ (s : State g.row.K.Denot). s.1) (SetMoves g.K.PartialEq.eq) (ResizesTo (setting_of c.args.self.now)) (state_of c.args.self.now) c.args.call Cleared (state_of c.clear_sync.new.self) = rw c.in-Clear.is (cleared g.K.PartialEq.eq c.args.self.now c.clear_sync.new.self c.clear_sync.ensures.holds) in
+          (elim raw [
+            | inl x ↦ inl (x.0, (c.args.call, Cleared, inl refl, inl refl, x.1))
+            | inr y ↦ elim y [
+              | inl z ↦ inr (inl (z.0, (z.1.0, z.1.1, (c.args.call, Cleared, inl refl, inl refl, z.1.2))))
+              | inr z ↦ inr (inr (z.0, (z.1.0, (c.args.call, Cleared, inl refl, inl refl, z.1.1), z.1.2)))
+            ]
+          ]));
+      err = (search rules);
+      refused = (search rules);
+      answer = (search rules);
+      made = (search rules);
+      kept = (search rules);
+    }
 
-pub returns-in-Clear-clause-ok : goal.returns-in-Clear-clause-ok
-returns-in-Clear-clause-ok g c =
-    let raw : Changes (λ (s : State g.row.K.Denot). s.1) (SetMoves g.K.PartialEq.eq) (ResizesTo (setting_of c.args.self.now)) (state_of c.args.self.now) c.args.call Cleared (state_of c.clear_sync.new.self) = rw c.in-Clear.is (cleared g.K.PartialEq.eq c.args.self.now c.clear_sync.new.self c.clear_sync.ensures.holds) in
-    (elim raw [
-      | inl x ↦ inl (x.0, (c.args.call, Cleared, inl refl, inl refl, x.1))
-      | inr y ↦ elim y [
-        | inl z ↦ inr (inl (z.0, (z.1.0, z.1.1, (c.args.call, Cleared, inl refl, inl refl, z.1.2))))
-        | inr z ↦ inr (inr (z.0, (z.1.0, (c.args.call, Cleared, inl refl, inl refl, z.1.1), z.1.2)))
-      ]
-    ])
-
-pub returns-clause-ok : goal.returns-clause-ok
-returns-clause-ok g c =
-    let raw : Changes (λ (s : State g.row.K.Denot). s.1) (SetMoves g.K.PartialEq.eq) (ResizesTo (setting_of c.args.self.now)) (state_of c.args.self.now) c.args.call (Count c.len.result) (state_of c.args.self.now) = search rules in
-    (elim raw [
-      | inl x ↦ inl (x.0, (c.args.call, (Count c.len.result), inl refl, inl refl, x.1))
-      | inr y ↦ elim y [
-        | inl z ↦ inr (inl (z.0, (z.1.0, z.1.1, (c.args.call, (Count c.len.result), inl refl, inl refl, z.1.2))))
-        | inr z ↦ inr (inr (z.0, (z.1.0, (c.args.call, (Count c.len.result), inl refl, inl refl, z.1.1), z.1.2)))
-      ]
-    ])
+pub returns : goal.returns
+returns g c =
+    record {
+      setting = (search rules);
+      ok = (
+          let raw : Changes (λ (s : State g.row.K.Denot). s.1) (SetMoves g.K.PartialEq.eq) (ResizesTo (setting_of c.args.self.now)) (state_of c.args.self.now) c.args.call (Count c.len.result) (state_of c.args.self.now) = search rules in
+          (elim raw [
+            | inl x ↦ inl (x.0, (c.args.call, (Count c.len.result), inl refl, inl refl, x.1))
+            | inr y ↦ elim y [
+              | inl z ↦ inr (inl (z.0, (z.1.0, z.1.1, (c.args.call, (Count c.len.result), inl refl, inl refl, z.1.2))))
+              | inr z ↦ inr (inr (z.0, (z.1.0, (c.args.call, (Count c.len.result), inl refl, inl refl, z.1.1), z.1.2)))
+            ]
+          ]));
+      err = (search rules);
+      refused = (search rules);
+      answer = (search rules);
+      made = (search rules);
+      kept = (search rules);
+    }
