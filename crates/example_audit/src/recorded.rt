@@ -1,6 +1,6 @@
 //! A recorded index, and the audit of its run.
 ghost use Rattle.std.specs.Prelude.{◌≡◌, IfOk, Some, map};
-ghost use Rattle.scc.specs.Finished.{IsFinished};
+ghost use Rattle.scc.specs.Finished.{IsFinished, make_kind};
 ghost use Rattle.scc.specs.Setups.{request_of};
 ghost use Rattle.scc.specs.Routing.{stripe_of};
 
@@ -38,8 +38,11 @@ fn audit<C: Calls + Drop, L: Ledger, M: Site<C::Hasher>>(
 ) -> io::Result<Finished<C>>
 where
     C::Hasher: Drop,
-    ensures { IfOk result (λ f. IsFinished (record { limits = C.limits; empty = C.empty; key_of = C.key_of; moves = C.moves; resizes = C.resizes; whole = C.whole; whole_moves = C.whole_moves; whole_resizes = C.whole_resizes; setting = C.setting; state = C.state; calls = C.Call.eq; replies = C.Reply.eq; route = stripe_of C.Hasher.BuildHasher C.Hasher.Hasher.Hasher C.Key.Hash.hash_input })
-        (λ p. p.log.number) (λ p. p.log.receipts.items) recorded.hasher recorded.passes (map (λ h. h.items) f.histories.items) passes.items M.chosen f.parts.items f.opened.items f.order.items) }
+    ensures { IfOk result (λ f. IsFinished (make_kind C.limits C.empty C.key_of C.moves C.resizes C.whole C.whole_moves
+        C.whole_resizes C.setting C.state C.Call.eq C.Reply.eq (stripe_of C.Hasher.BuildHasher C.Hasher.Hasher.Hasher
+        C.Key.Hash.hash_input))
+        (λ p. p.log.number) (λ p. p.log.receipts.items) recorded.hasher recorded.passes
+        (map (λ h. h.items) f.histories.items) passes.items M.chosen f.parts.items f.opened.items f.order.items) }
 {
     match recorded.finish(passes) {
         Ok(finished) => Ok(finished),

@@ -48,7 +48,8 @@ impl<E> Model for Array<E> {
 
     ghost view = { λ a. shelves a.columns a.overflow.items };
 
-    ghost invariant = { λ a. IsArray a.columns a.overflow.items × IsFlagged a.columns a.overflow.items a.crowded.items };
+    ghost invariant = { λ a. IsArray a.columns a.overflow.items × IsFlagged a.columns a.overflow.items
+        a.crowded.items };
 }
 
 impl<E> Array<E> {

@@ -68,9 +68,18 @@ where
     ghost use Rattle.scc_array.specs.Shelf.{shelf_entries};
     ghost use Rattle.scc_buckets.specs.Tables.{IsKept, spilled_in};
 
-    ghost view = { λ t. record { lists = map shelf_entries t.buckets; settings = record { hasher = t.hasher; skipped = t.skipped; asked = t.asked; reserved = t.reserved }; refused = (t.refused, t.tried); spilled = spilled_in t.buckets; waiting = []; owed = [] } };
+    ghost view = { λ t. record {
+      lists = map shelf_entries t.buckets;
+      settings = record
+          { hasher = t.hasher; skipped = t.skipped; asked = t.asked; reserved = t.reserved };
+      refused = (t.refused, t.tried);
+      spilled = spilled_in t.buckets;
+      waiting = [];
+      owed = [];
+    } };
 
-    ghost invariant = { λ t. IsKept E.Key.eq E.key_of (λ k. hash_of H.BuildHasher H.Hasher.Hasher t.hasher (E.Key.hash_input k)) t.skipped (t.asked + t.reserved) t.buckets t.length t.overflowing };
+    ghost invariant = { λ t. IsKept E.Key.eq E.key_of (λ k. hash_of H.BuildHasher H.Hasher.Hasher t.hasher
+        (E.Key.hash_input k)) t.skipped (t.asked + t.reserved) t.buckets t.length t.overflowing };
 }
 
 impl<E: Keyed, H: BuildHasher> Buckets<E, H>

@@ -32,7 +32,8 @@ pub struct HeldVacant<G: Guard<Kept = Owned<K, V, H>>, N, K: Eq + Hash, V, H: Bu
     pub(crate) hash: u64,
     pub(crate) rest: N,
     pub(crate) of: PhantomData<(V, H)>,
-    ghost lacking: { IsLacking (key_hash H.BuildHasher H.Hasher.Hasher K.hash_input (G.kept guard).contents) K.eq (G.kept guard).contents key },
+    ghost lacking: { IsLacking (key_hash H.BuildHasher H.Hasher.Hasher K.hash_input (G.kept guard).contents) K.eq
+        (G.kept guard).contents key },
     ghost hashed: { hash ≡ key_hash H.BuildHasher H.Hasher.Hasher K.hash_input (G.kept guard).contents key },
 }
 

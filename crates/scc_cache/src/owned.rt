@@ -52,7 +52,8 @@ impl<K: Eq + Hash, V, H: BuildHasher> Model for Owned<K, V, H> {
 
     ghost view = { λ c. record { contents = c.table; maximum = c.maximum } };
 
-    ghost invariant = { λ c. IsCacheState K.eq (key_hash H.BuildHasher H.Hasher.Hasher K.hash_input c.table) (record { contents = c.table; maximum = c.maximum }) };
+    ghost invariant = { λ c. IsCacheState K.eq (key_hash H.BuildHasher H.Hasher.Hasher K.hash_input c.table)
+        (record { contents = c.table; maximum = c.maximum }) };
 }
 
 impl<K: Eq + Hash, V, H: BuildHasher> Owned<K, V, H> {

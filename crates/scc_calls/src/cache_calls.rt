@@ -57,21 +57,28 @@ impl<K: Eq + Hash + Clone, V: Clone + PartialEq, H: BuildHasher> Calls for Owned
 
     ghost key_of = { cache_key };
 
-    ghost moves = { λ g. Means ⟦<CacheCall<K, V> as PartialEq>⟧.eq ⟦<Reply<K, V> as PartialEq>⟧.eq (CacheMoves K.eq (number_by (λ h k. hash_of H.BuildHasher H.Hasher.Hasher h (K.hash_input k)) g)) };
+    ghost moves = { λ g. Means ⟦<CacheCall<K, V> as PartialEq>⟧.eq ⟦<Reply<K, V> as PartialEq>⟧.eq
+        (CacheMoves K.eq (number_by (λ h k. hash_of H.BuildHasher H.Hasher.Hasher h (K.hash_input k)) g)) };
 
-    ghost resizes = { λ g. CacheResizes g (number_by (λ h k. hash_of H.BuildHasher H.Hasher.Hasher h (K.hash_input k)) g) };
+    ghost resizes = { λ g. CacheResizes g (number_by (λ h k. hash_of H.BuildHasher H.Hasher.Hasher h (K.hash_input k))
+        g) };
 
-    ghost may_refuse = { λ g. CacheMayRefuse K.eq (number_by (λ h k. hash_of H.BuildHasher H.Hasher.Hasher h (K.hash_input k)) g) };
+    ghost may_refuse = { λ g. CacheMayRefuse K.eq (number_by (λ h k. hash_of H.BuildHasher H.Hasher.Hasher h
+        (K.hash_input k)) g) };
 
     ghost adds = { cache_adds };
 
-    ghost is_ready = { λ c. CacheIsReady K.eq (key_hash H.BuildHasher H.Hasher.Hasher K.hash_input c.contents) c ⟦<Reply<K, V> as PartialEq>⟧.eq };
+    ghost is_ready = { λ c. CacheIsReady K.eq (key_hash H.BuildHasher H.Hasher.Hasher K.hash_input c.contents) c
+        ⟦<Reply<K, V> as PartialEq>⟧.eq };
 
     ghost whole = { λ parts. parts };
 
-    ghost whole_moves = { λ g n i. PartMoves (Means ⟦<CacheCall<K, V> as PartialEq>⟧.eq ⟦<Reply<K, V> as PartialEq>⟧.eq (CacheMoves K.eq (number_by (λ h k. hash_of H.BuildHasher H.Hasher.Hasher h (K.hash_input k)) g))) cache_key (λ k. stripe_number n (hash_of H.BuildHasher H.Hasher.Hasher g.hasher (K.hash_input k))) i };
+    ghost whole_moves = { λ g n i. PartMoves (Means ⟦<CacheCall<K, V> as PartialEq>⟧.eq ⟦<Reply<K, V> as PartialEq>⟧.eq
+        (CacheMoves K.eq (number_by (λ h k. hash_of H.BuildHasher H.Hasher.Hasher h (K.hash_input k)) g))) cache_key
+        (λ k. stripe_number n (hash_of H.BuildHasher H.Hasher.Hasher g.hasher (K.hash_input k))) i };
 
-    ghost whole_resizes = { λ g n i. PartResizes (CacheResizes g (number_by (λ h k. hash_of H.BuildHasher H.Hasher.Hasher h (K.hash_input k)) g)) i };
+    ghost whole_resizes = { λ g n i. PartResizes (CacheResizes g (number_by (λ h k. hash_of H.BuildHasher
+        H.Hasher.Hasher h (K.hash_input k)) g)) i };
 
     fn key(call: &CacheCall<K, V>) -> Option<&K> {
         match call {
@@ -161,17 +168,36 @@ impl<K: Eq + Hash + Clone, V: Clone + PartialEq, H: BuildHasher> Calls for Owned
 
     ghost one_limit = { λ asked slots m n p q. one_size (max asked slots) m n p q };
 
-    ghost moves_alike = { λ g old new call copy reply given pc pr c r m. means_alike ⟦<CacheCall<K, V> as PartialEq>⟧.eq ⟦<Reply<K, V> as PartialEq>⟧.eq (CacheMoves K.eq (number_by (λ h k. hash_of H.BuildHasher H.Hasher.Hasher h (K.hash_input k)) g)) pc pr old new call copy reply given c r m };
+    ghost moves_alike = { λ g old new call copy reply given pc pr c r m. means_alike ⟦<CacheCall<K, V> as PartialEq>⟧.eq
+        ⟦<Reply<K, V> as PartialEq>⟧.eq (CacheMoves K.eq (number_by (λ h k. hash_of H.BuildHasher H.Hasher.Hasher h
+        (K.hash_input k)) g)) pc pr old new call copy reply given c r m };
 
-    ghost call_is_whole = { λ g n before after old new call reply routed key s. parted_call (Means ⟦<CacheCall<K, V> as PartialEq>⟧.eq ⟦<Reply<K, V> as PartialEq>⟧.eq (CacheMoves K.eq (number_by (λ h k. hash_of H.BuildHasher H.Hasher.Hasher h (K.hash_input k)) g))) cache_key (λ k. stripe_number n (hash_of H.BuildHasher H.Hasher.Hasher g.hasher (K.hash_input k))) before after old new call reply key s };
+    ghost call_is_whole = { λ g n before after old new call reply routed key s. parted_call
+        (Means ⟦<CacheCall<K, V> as PartialEq>⟧.eq ⟦<Reply<K, V> as PartialEq>⟧.eq
+        (CacheMoves K.eq (number_by (λ h k. hash_of H.BuildHasher H.Hasher.Hasher h (K.hash_input k)) g))) cache_key
+        (λ k. stripe_number n (hash_of H.BuildHasher H.Hasher.Hasher g.hasher (K.hash_input k))) before after old new
+        call reply key s };
 
-    ghost resize_is_whole = { λ g n before after old new buckets routed s. parted_resize (CacheResizes g (number_by (λ h k. hash_of H.BuildHasher H.Hasher.Hasher h (K.hash_input k)) g)) before after old new buckets s };
+    ghost resize_is_whole = { λ g n before after old new buckets routed s. parted_resize
+        (CacheResizes g (number_by (λ h k. hash_of H.BuildHasher H.Hasher.Hasher h (K.hash_input k)) g)) before after
+        old new buckets s };
 
-    ghost call_keeps = { λ g n i old new call reply routed key s. means_keeps ⟦<CacheCall<K, V> as PartialEq>⟧.eq ⟦<Reply<K, V> as PartialEq>⟧.eq (CacheMoves K.eq (number_by (λ h k. hash_of H.BuildHasher H.Hasher.Hasher h (K.hash_input k)) g)) K.eq cache_key (Prim.search rules) (λ k. stripe_number n (hash_of H.BuildHasher H.Hasher.Hasher g.hasher (K.hash_input k))) (routes_alike K.eq K.hash_input (λ w. stripe_number n (hash_of H.BuildHasher H.Hasher.Hasher g.hasher w)) K.Hash.respects_eq) i old new call reply key (λ made given k m. cache_call_keeps K.eq (number_by (λ h k. hash_of H.BuildHasher H.Hasher.Hasher h (K.hash_input k)) g) (λ k. stripe_number n (hash_of H.BuildHasher H.Hasher.Hasher g.hasher (K.hash_input k))) i old new made given routed k m) s };
+    ghost call_keeps = { λ g n i old new call reply routed key s. means_keeps ⟦<CacheCall<K, V> as PartialEq>⟧.eq
+        ⟦<Reply<K, V> as PartialEq>⟧.eq (CacheMoves K.eq (number_by (λ h k. hash_of H.BuildHasher H.Hasher.Hasher h
+        (K.hash_input k)) g)) K.eq cache_key (Prim.search rules) (λ k. stripe_number n
+        (hash_of H.BuildHasher H.Hasher.Hasher g.hasher (K.hash_input k))) (routes_alike K.eq K.hash_input
+        (λ w. stripe_number n (hash_of H.BuildHasher H.Hasher.Hasher g.hasher w)) K.Hash.respects_eq) i old new call
+        reply key (λ made given k m. cache_call_keeps K.eq (number_by (λ h k. hash_of H.BuildHasher H.Hasher.Hasher h
+        (K.hash_input k)) g) (λ k. stripe_number n (hash_of H.BuildHasher H.Hasher.Hasher g.hasher (K.hash_input k))) i
+        old new made given routed k m) s };
 
-    ghost resize_keeps = { λ g n i old new buckets routed s. cache_resize_keeps g (number_by (λ h k. hash_of H.BuildHasher H.Hasher.Hasher h (K.hash_input k)) g) (λ k. stripe_number n (hash_of H.BuildHasher H.Hasher.Hasher g.hasher (K.hash_input k))) i old new buckets routed s };
+    ghost resize_keeps = { λ g n i old new buckets routed s. cache_resize_keeps g
+        (number_by (λ h k. hash_of H.BuildHasher H.Hasher.Hasher h (K.hash_input k)) g)
+        (λ k. stripe_number n (hash_of H.BuildHasher H.Hasher.Hasher g.hasher (K.hash_input k))) i old new buckets
+        routed s };
 
-    ghost empty_keeps = { λ h n i b. empty_keys V (λ k. stripe_number n (hash_of H.BuildHasher H.Hasher.Hasher h (K.hash_input k))) i b };
+    ghost empty_keeps = { λ h n i b. empty_keys V (λ k. stripe_number n (hash_of H.BuildHasher H.Hasher.Hasher h
+        (K.hash_input k))) i b };
 }
 
 // What `==` is. It does nothing.

@@ -122,25 +122,37 @@ pub trait Calls: Sized {
 
     // A call and a reply mean the same as those that equal them.
     ghost moves_alike: { (g : Setting Self.Hasher) (old new : State) (call copy : Self.Call) (reply given : Self.Reply)
-        → IsPartialEquivalence Self.Call.eq → IsPartialEquivalence Self.Reply.eq → Alike Self.Call.eq call copy → Alike Self.Reply.eq reply given → moves g old call reply new → moves g old copy given new };
+        → IsPartialEquivalence Self.Call.eq → IsPartialEquivalence Self.Reply.eq → Alike Self.Call.eq call copy → Alike
+        Self.Reply.eq reply given → moves g old call reply new → moves g old copy given new };
 
     // Where every key of every part, and the call's, routes to its own part, a step of one part is a step of the whole.
-    ghost call_is_whole: { (g : Setting Self.Hasher) (n : ℕ) (before after : List State) (old new : State) (call : Self.Call) (reply : Self.Reply)
-        → RoutedFrom (stripe_of Self.Hasher.BuildHasher Self.Hasher.Hasher.Hasher Self.Key.Hash.hash_input g.hasher n) keys 0 (before ++ old ∷ after) → KeyRouted (stripe_of Self.Hasher.BuildHasher Self.Hasher.Hasher.Hasher Self.Key.Hash.hash_input g.hasher n) (length before) (key_of call)
+    ghost call_is_whole: { (g : Setting Self.Hasher) (n : ℕ) (before after : List State) (old new : State)
+        (call : Self.Call) (reply : Self.Reply)
+        → RoutedFrom (stripe_of Self.Hasher.BuildHasher Self.Hasher.Hasher.Hasher Self.Key.Hash.hash_input g.hasher n)
+        keys 0 (before ++ old ∷ after) → KeyRouted (stripe_of Self.Hasher.BuildHasher Self.Hasher.Hasher.Hasher
+        Self.Key.Hash.hash_input g.hasher n) (length before) (key_of call)
         → moves g old call reply new
         → whole_moves g n (length before) (whole (before ++ old ∷ after)) call reply (whole (before ++ new ∷ after)) };
 
-    ghost resize_is_whole: { (g : Setting Self.Hasher) (n : ℕ) (before after : List State) (old new : State) (buckets : ℕ)
-        → RoutedFrom (stripe_of Self.Hasher.BuildHasher Self.Hasher.Hasher.Hasher Self.Key.Hash.hash_input g.hasher n) keys 0 (before ++ old ∷ after)
+    ghost resize_is_whole: { (g : Setting Self.Hasher) (n : ℕ) (before after : List State) (old new : State)
+        (buckets : ℕ)
+        → RoutedFrom (stripe_of Self.Hasher.BuildHasher Self.Hasher.Hasher.Hasher Self.Key.Hash.hash_input g.hasher n)
+        keys 0 (before ++ old ∷ after)
         → resizes g old buckets new
         → whole_resizes g n (length before) (whole (before ++ old ∷ after)) buckets (whole (before ++ new ∷ after)) };
 
     // Keys stay in their parts: a call brings in no key but its own, a resize none.
     ghost call_keeps: { (g : Setting Self.Hasher) (n i : ℕ) (old new : State) (call : Self.Call) (reply : Self.Reply)
-        → Routed (stripe_of Self.Hasher.BuildHasher Self.Hasher.Hasher.Hasher Self.Key.Hash.hash_input g.hasher n) i (keys old) → KeyRouted (stripe_of Self.Hasher.BuildHasher Self.Hasher.Hasher.Hasher Self.Key.Hash.hash_input g.hasher n) i (key_of call) → moves g old call reply new → Routed (stripe_of Self.Hasher.BuildHasher Self.Hasher.Hasher.Hasher Self.Key.Hash.hash_input g.hasher n) i (keys new) };
+        → Routed (stripe_of Self.Hasher.BuildHasher Self.Hasher.Hasher.Hasher Self.Key.Hash.hash_input g.hasher n) i
+        (keys old) → KeyRouted (stripe_of Self.Hasher.BuildHasher Self.Hasher.Hasher.Hasher Self.Key.Hash.hash_input
+        g.hasher n) i (key_of call) → moves g old call reply new → Routed (stripe_of Self.Hasher.BuildHasher
+        Self.Hasher.Hasher.Hasher Self.Key.Hash.hash_input g.hasher n) i (keys new) };
 
     ghost resize_keeps: { (g : Setting Self.Hasher) (n i : ℕ) (old new : State) (buckets : ℕ)
-        → Routed (stripe_of Self.Hasher.BuildHasher Self.Hasher.Hasher.Hasher Self.Key.Hash.hash_input g.hasher n) i (keys old) → resizes g old buckets new → Routed (stripe_of Self.Hasher.BuildHasher Self.Hasher.Hasher.Hasher Self.Key.Hash.hash_input g.hasher n) i (keys new) };
+        → Routed (stripe_of Self.Hasher.BuildHasher Self.Hasher.Hasher.Hasher Self.Key.Hash.hash_input g.hasher n) i
+        (keys old) → resizes g old buckets new → Routed (stripe_of Self.Hasher.BuildHasher Self.Hasher.Hasher.Hasher
+        Self.Key.Hash.hash_input g.hasher n) i (keys new) };
 
-    ghost empty_keeps: { (h : Self.Hasher) (n i buckets : ℕ) → Routed (stripe_of Self.Hasher.BuildHasher Self.Hasher.Hasher.Hasher Self.Key.Hash.hash_input h n) i (keys (empty buckets)) };
+    ghost empty_keeps: { (h : Self.Hasher) (n i buckets : ℕ) → Routed (stripe_of Self.Hasher.BuildHasher
+        Self.Hasher.Hasher.Hasher Self.Key.Hash.hash_input h n) i (keys (empty buckets)) };
 }

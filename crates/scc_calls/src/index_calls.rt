@@ -64,11 +64,14 @@ impl<K: Eq + Hash + Clone, V: Clone + PartialEq, H: BuildHasher> Calls for Owned
 
     ghost adds = { index_adds };
 
-    ghost is_ready = { λ m. IndexIsReady K.eq (key_hash H.BuildHasher H.Hasher.Hasher K.hash_input m) m ⟦<Reply<K, V> as PartialEq>⟧.eq };
+    ghost is_ready = { λ m. IndexIsReady K.eq (key_hash H.BuildHasher H.Hasher.Hasher K.hash_input m) m
+        ⟦<Reply<K, V> as PartialEq>⟧.eq };
 
     ghost whole = { joined };
 
-    ghost whole_moves = { λ g n i. Means ⟦<IndexCall<K, V> as PartialEq>⟧.eq ⟦<Reply<K, V> as PartialEq>⟧.eq (IndexWholeMoves K.eq (λ k. stripe_number n (hash_of H.BuildHasher H.Hasher.Hasher g.hasher (K.hash_input k)) == i)) };
+    ghost whole_moves = { λ g n i. Means ⟦<IndexCall<K, V> as PartialEq>⟧.eq ⟦<Reply<K, V> as PartialEq>⟧.eq
+        (IndexWholeMoves K.eq (λ k. stripe_number n (hash_of H.BuildHasher H.Hasher.Hasher g.hasher (K.hash_input k))
+        == i)) };
 
     ghost whole_resizes = { λ _ _ _ w _ v. IsPermutation w v };
 
@@ -143,15 +146,34 @@ impl<K: Eq + Hash + Clone, V: Clone + PartialEq, H: BuildHasher> Calls for Owned
 
     ghost one_limit = { λ _ _ m n p q. both_same m n 0 p q };
 
-    ghost moves_alike = { λ g old new call copy reply given pc pr c r m. means_alike ⟦<IndexCall<K, V> as PartialEq>⟧.eq ⟦<Reply<K, V> as PartialEq>⟧.eq (IndexMoves K.eq) pc pr old new call copy reply given c r m };
+    ghost moves_alike = { λ g old new call copy reply given pc pr c r m. means_alike ⟦<IndexCall<K, V> as PartialEq>⟧.eq
+        ⟦<Reply<K, V> as PartialEq>⟧.eq (IndexMoves K.eq) pc pr old new call copy reply given c r m };
 
-    ghost call_is_whole = { λ g n before after old new call reply routed key s. means_whole ⟦<IndexCall<K, V> as PartialEq>⟧.eq ⟦<Reply<K, V> as PartialEq>⟧.eq (IndexMoves K.eq) K.eq index_key (Prim.search rules) (λ k. stripe_number n (hash_of H.BuildHasher H.Hasher.Hasher g.hasher (K.hash_input k))) (routes_alike K.eq K.hash_input (λ w. stripe_number n (hash_of H.BuildHasher H.Hasher.Hasher g.hasher w)) K.Hash.respects_eq) (IndexWholeMoves K.eq (λ k. stripe_number n (hash_of H.BuildHasher H.Hasher.Hasher g.hasher (K.hash_input k)) == length before)) (length before) old new (joined (before ++ old ∷ after)) (joined (before ++ new ∷ after)) call reply key (λ made given k m. index_call_is_whole K.eq (λ k. stripe_number n (hash_of H.BuildHasher H.Hasher.Hasher g.hasher (K.hash_input k))) (routes_alike K.eq K.hash_input (λ w. stripe_number n (hash_of H.BuildHasher H.Hasher.Hasher g.hasher w)) K.Hash.respects_eq) before after old new made given routed k m) s };
+    ghost call_is_whole = { λ g n before after old new call reply routed key s. means_whole
+        ⟦<IndexCall<K, V> as PartialEq>⟧.eq ⟦<Reply<K, V> as PartialEq>⟧.eq (IndexMoves K.eq) K.eq index_key
+        (Prim.search rules) (λ k. stripe_number n (hash_of H.BuildHasher H.Hasher.Hasher g.hasher (K.hash_input k)))
+        (routes_alike K.eq K.hash_input (λ w. stripe_number n (hash_of H.BuildHasher H.Hasher.Hasher g.hasher w))
+        K.Hash.respects_eq) (IndexWholeMoves K.eq (λ k. stripe_number n (hash_of H.BuildHasher H.Hasher.Hasher g.hasher
+        (K.hash_input k)) == length before)) (length before) old new (joined (before ++ old ∷ after))
+        (joined (before ++ new ∷ after)) call reply key (λ made given k m. index_call_is_whole K.eq
+        (λ k. stripe_number n (hash_of H.BuildHasher H.Hasher.Hasher g.hasher (K.hash_input k)))
+        (routes_alike K.eq K.hash_input (λ w. stripe_number n (hash_of H.BuildHasher H.Hasher.Hasher g.hasher w))
+        K.Hash.respects_eq) before after old new made given routed k m) s };
 
-    ghost resize_is_whole = { λ g n before after old new buckets routed s. resize_joined g before after old new buckets s };
+    ghost resize_is_whole = { λ g n before after old new buckets routed s. resize_joined g before after old new buckets
+        s };
 
-    ghost call_keeps = { λ g n i old new call reply routed key s. means_keeps ⟦<IndexCall<K, V> as PartialEq>⟧.eq ⟦<Reply<K, V> as PartialEq>⟧.eq (IndexMoves K.eq) K.eq index_key (Prim.search rules) (λ k. stripe_number n (hash_of H.BuildHasher H.Hasher.Hasher g.hasher (K.hash_input k))) (routes_alike K.eq K.hash_input (λ w. stripe_number n (hash_of H.BuildHasher H.Hasher.Hasher g.hasher w)) K.Hash.respects_eq) i old new call reply key (λ made given k m. index_call_keeps K.eq (λ k. stripe_number n (hash_of H.BuildHasher H.Hasher.Hasher g.hasher (K.hash_input k))) (routes_alike K.eq K.hash_input (λ w. stripe_number n (hash_of H.BuildHasher H.Hasher.Hasher g.hasher w)) K.Hash.respects_eq) i old new made given routed k m) s };
+    ghost call_keeps = { λ g n i old new call reply routed key s. means_keeps ⟦<IndexCall<K, V> as PartialEq>⟧.eq
+        ⟦<Reply<K, V> as PartialEq>⟧.eq (IndexMoves K.eq) K.eq index_key (Prim.search rules)
+        (λ k. stripe_number n (hash_of H.BuildHasher H.Hasher.Hasher g.hasher (K.hash_input k)))
+        (routes_alike K.eq K.hash_input (λ w. stripe_number n (hash_of H.BuildHasher H.Hasher.Hasher g.hasher w))
+        K.Hash.respects_eq) i old new call reply key (λ made given k m. index_call_keeps K.eq
+        (λ k. stripe_number n (hash_of H.BuildHasher H.Hasher.Hasher g.hasher (K.hash_input k)))
+        (routes_alike K.eq K.hash_input (λ w. stripe_number n (hash_of H.BuildHasher H.Hasher.Hasher g.hasher w))
+        K.Hash.respects_eq) i old new made given routed k m) s };
 
-    ghost resize_keeps = { λ g n i old new buckets routed s. map_resize_keeps g (λ k. stripe_number n (hash_of H.BuildHasher H.Hasher.Hasher g.hasher (K.hash_input k))) i old new buckets routed s };
+    ghost resize_keeps = { λ g n i old new buckets routed s. map_resize_keeps g (λ k. stripe_number n
+        (hash_of H.BuildHasher H.Hasher.Hasher g.hasher (K.hash_input k))) i old new buckets routed s };
 
     ghost empty_keeps = { λ _ _ _ _. tt };
 }

@@ -12,18 +12,24 @@ use crate::Calls;
 /// Every merge of histories that replay from empty parts is a run of the whole machine, and ends in what the parts
 /// hold.
 pub fn every_merge_is_a_run<C: Calls>()
-    ensures { (g : Setting C.Hasher) (n : ℕ) (opened : List ℕ) (histories : List (List (Step C.Call C.Reply))) (ends : List C.State) (entries : List (ℕ × Step C.Call C.Reply))
+    ensures { (g : Setting C.Hasher) (n : ℕ) (opened : List ℕ) (histories : List (List (Step C.Call C.Reply)))
+        (ends : List C.State) (entries : List (ℕ × Step C.Call C.Reply))
         → Replays (C.moves g) (C.resizes g) (map C.empty opened) histories ends
-        → CallsRouted C.key_of (stripe_of C.Hasher.BuildHasher C.Hasher.Hasher.Hasher C.Key.Hash.hash_input g.hasher n) 0 histories
+        → CallsRouted C.key_of (stripe_of C.Hasher.BuildHasher C.Hasher.Hasher.Hasher C.Key.Hash.hash_input g.hasher n)
+        0 histories
         → Merge histories entries
         → Run (C.whole_moves g n) (C.whole_resizes g n) (C.whole (map C.empty opened)) entries (C.whole ends) }
 {}
 
 /// Of any kind, a step of one part is a step of the list of the parts: so a kind may have that list as its whole.
 pub fn every_kind_has_parts<C: Calls>()
-    ensures call { (g : Setting C.Hasher) (n : ℕ) (before after : List C.State) (old new : C.State) (call : C.Call) (reply : C.Reply)
-        → KeyRouted (stripe_of C.Hasher.BuildHasher C.Hasher.Hasher.Hasher C.Key.Hash.hash_input g.hasher n) (length before) (C.key_of call) → C.moves g old call reply new
-        → PartMoves (C.moves g) C.key_of (stripe_of C.Hasher.BuildHasher C.Hasher.Hasher.Hasher C.Key.Hash.hash_input g.hasher n) (length before) (before ++ old ∷ after) call reply (before ++ new ∷ after) }
-    ensures resize { (g : Setting C.Hasher) (before after : List C.State) (old new : C.State) (buckets : ℕ) → C.resizes g old buckets new
+    ensures call { (g : Setting C.Hasher) (n : ℕ) (before after : List C.State) (old new : C.State) (call : C.Call)
+        (reply : C.Reply)
+        → KeyRouted (stripe_of C.Hasher.BuildHasher C.Hasher.Hasher.Hasher C.Key.Hash.hash_input g.hasher n)
+        (length before) (C.key_of call) → C.moves g old call reply new
+        → PartMoves (C.moves g) C.key_of (stripe_of C.Hasher.BuildHasher C.Hasher.Hasher.Hasher C.Key.Hash.hash_input
+        g.hasher n) (length before) (before ++ old ∷ after) call reply (before ++ new ∷ after) }
+    ensures resize { (g : Setting C.Hasher) (before after : List C.State) (old new : C.State) (buckets : ℕ) → C.resizes
+        g old buckets new
         → PartResizes (C.resizes g) (length before) (before ++ old ∷ after) buckets (before ++ new ∷ after) }
 {}

@@ -28,13 +28,16 @@ pub trait WholeCalls: Calls {
         ensures { result ≡ counted reply.now };
 
     // Once it is cleared, a part has no keys.
-    ghost clears_all: { (Self.key_of clears ≡ None) × ((g : Setting Self.Hasher) (s t : Self.State) (r : Self.Reply) → Self.moves g s clears r t → Self.keys t ≡ []) };
+    ghost clears_all: { (Self.key_of clears ≡ None) × ((g : Setting Self.Hasher) (s t : Self.State) (r : Self.Reply)
+        → Self.moves g s clears r t → Self.keys t ≡ []) };
 
     // The count of a part is the number of its keys.
-    ghost counts_all: { (Self.key_of counts ≡ None) × ((g : Setting Self.Hasher) (s t : Self.State) (r : Self.Reply) → Self.moves g s counts r t → counted r ≡ Some (length (Self.keys s))) };
+    ghost counts_all: { (Self.key_of counts ≡ None) × ((g : Setting Self.Hasher) (s t : Self.State) (r : Self.Reply)
+        → Self.moves g s counts r t → counted r ≡ Some (length (Self.keys s))) };
 
     // Neither is ever refused for memory.
-    ghost never_refused: { (g : Setting Self.Hasher) (s : Self.State) → (Self.may_refuse g s clears → ⊥) × (Self.may_refuse g s counts → ⊥) };
+    ghost never_refused: { (g : Setting Self.Hasher) (s : Self.State) → (Self.may_refuse g s clears → ⊥)
+        × (Self.may_refuse g s counts → ⊥) };
 }
 
 impl<K: Eq + Hash + Clone, V: Clone + PartialEq, H: BuildHasher> WholeCalls
@@ -63,9 +66,18 @@ impl<K: Eq + Hash + Clone, V: Clone + PartialEq, H: BuildHasher> WholeCalls
         count_of(reply)
     }
 
-    ghost clears_all = { (refl, λ g s t r m. means_of ⟦<MapCall<K, V> as PartialEq>⟧.eq ⟦<Reply<K, V> as PartialEq>⟧.eq (MapMoves K.eq) Clear (Prim.search rules) s t r (λ given a h. map_clears K.eq s t given h) m) };
+    ghost clears_all = { (
+      refl,
+      λ g s t r m. means_of ⟦<MapCall<K, V> as PartialEq>⟧.eq ⟦<Reply<K, V> as PartialEq>⟧.eq
+          (MapMoves K.eq) Clear (Prim.search rules) s t r (λ given a h. map_clears K.eq s t given h) m,
+    ) };
 
-    ghost counts_all = { (refl, λ g s t r m. means_of ⟦<MapCall<K, V> as PartialEq>⟧.eq ⟦<Reply<K, V> as PartialEq>⟧.eq (MapMoves K.eq) Len (Prim.search rules) s t r (λ given a h. told_alike ⟦<Reply<K, V> as PartialEq>⟧.eq counted_by (Prim.search rules) given r a ∙ map_counts K.eq s t given h) m) };
+    ghost counts_all = { (
+      refl,
+      λ g s t r m. means_of ⟦<MapCall<K, V> as PartialEq>⟧.eq ⟦<Reply<K, V> as PartialEq>⟧.eq
+          (MapMoves K.eq) Len (Prim.search rules) s t r (λ given a h. told_alike ⟦<Reply<K, V> as PartialEq>⟧.eq
+          counted_by (Prim.search rules) given r a ∙ map_counts K.eq s t given h) m,
+    ) };
 
     ghost never_refused = { λ g s. (λ m. m, λ m. m) };
 }

@@ -30,9 +30,18 @@ impl<K: Eq + Hash + Clone, H: BuildHasher> WholeCalls for scc_set::Owned<K, H> {
         count_of(reply)
     }
 
-    ghost clears_all = { (refl, λ g s t r m. means_of ⟦<SetCall<K> as PartialEq>⟧.eq ⟦<Reply<K, ()> as PartialEq>⟧.eq (SetMoves K.eq) Clear (Prim.search rules) s t r (λ given a h. set_clears K.eq s t given h) m) };
+    ghost clears_all = { (
+      refl,
+      λ g s t r m. means_of ⟦<SetCall<K> as PartialEq>⟧.eq ⟦<Reply<K, ()> as PartialEq>⟧.eq
+          (SetMoves K.eq) Clear (Prim.search rules) s t r (λ given a h. set_clears K.eq s t given h) m,
+    ) };
 
-    ghost counts_all = { (refl, λ g s t r m. means_of ⟦<SetCall<K> as PartialEq>⟧.eq ⟦<Reply<K, ()> as PartialEq>⟧.eq (SetMoves K.eq) Len (Prim.search rules) s t r (λ given a h. told_alike ⟦<Reply<K, ()> as PartialEq>⟧.eq counted_by (Prim.search rules) given r a ∙ set_counts K.eq s t given h) m) };
+    ghost counts_all = { (
+      refl,
+      λ g s t r m. means_of ⟦<SetCall<K> as PartialEq>⟧.eq ⟦<Reply<K, ()> as PartialEq>⟧.eq
+          (SetMoves K.eq) Len (Prim.search rules) s t r (λ given a h. told_alike ⟦<Reply<K, ()> as PartialEq>⟧.eq
+          counted_by (Prim.search rules) given r a ∙ set_counts K.eq s t given h) m,
+    ) };
 
     ghost never_refused = { λ g s. (λ m. m, λ m. m) };
 }
@@ -63,9 +72,20 @@ impl<K: Eq + Hash + Clone, V: Clone + PartialEq, H: BuildHasher> WholeCalls
         count_of(reply)
     }
 
-    ghost clears_all = { (refl, λ g s t r m. means_of ⟦<IndexCall<K, V> as PartialEq>⟧.eq ⟦<Reply<K, V> as PartialEq>⟧.eq (IndexMoves K.eq) Clear (Prim.search rules) s t r (λ given a h. map_clears K.eq s t given h) m) };
+    ghost clears_all = { (
+      refl,
+      λ g s t r m. means_of ⟦<IndexCall<K, V> as PartialEq>⟧.eq
+          ⟦<Reply<K, V> as PartialEq>⟧.eq (IndexMoves K.eq) Clear (Prim.search rules) s t r
+          (λ given a h. map_clears K.eq s t given h) m,
+    ) };
 
-    ghost counts_all = { (refl, λ g s t r m. means_of ⟦<IndexCall<K, V> as PartialEq>⟧.eq ⟦<Reply<K, V> as PartialEq>⟧.eq (IndexMoves K.eq) Len (Prim.search rules) s t r (λ given a h. told_alike ⟦<Reply<K, V> as PartialEq>⟧.eq counted_by (Prim.search rules) given r a ∙ map_counts K.eq s t given h) m) };
+    ghost counts_all = { (
+      refl,
+      λ g s t r m. means_of ⟦<IndexCall<K, V> as PartialEq>⟧.eq
+          ⟦<Reply<K, V> as PartialEq>⟧.eq (IndexMoves K.eq) Len (Prim.search rules) s t r
+          (λ given a h. told_alike ⟦<Reply<K, V> as PartialEq>⟧.eq counted_by (Prim.search rules) given r a ∙ map_counts
+          K.eq s t given h) m,
+    ) };
 
     ghost never_refused = { λ g s. (λ m. m, λ m. m) };
 }
@@ -98,9 +118,22 @@ impl<K: Eq + Hash + Clone, V: Clone + PartialEq, H: BuildHasher> WholeCalls
         count_of(reply)
     }
 
-    ghost clears_all = { (refl, λ g s t r m. means_of ⟦<CacheCall<K, V> as PartialEq>⟧.eq ⟦<Reply<K, V> as PartialEq>⟧.eq (CacheMoves K.eq (number_by (λ h k. hash_of H.BuildHasher H.Hasher.Hasher h (K.hash_input k)) g)) Clear (Prim.search rules) s t r (λ given a h. cache_clears K.eq (number_by (λ h k. hash_of H.BuildHasher H.Hasher.Hasher h (K.hash_input k)) g) s t given h) m) };
+    ghost clears_all = { (
+      refl,
+      λ g s t r m. means_of ⟦<CacheCall<K, V> as PartialEq>⟧.eq
+          ⟦<Reply<K, V> as PartialEq>⟧.eq (CacheMoves K.eq (number_by (λ h k. hash_of H.BuildHasher H.Hasher.Hasher h
+          (K.hash_input k)) g)) Clear (Prim.search rules) s t r (λ given a h. cache_clears K.eq
+          (number_by (λ h k. hash_of H.BuildHasher H.Hasher.Hasher h (K.hash_input k)) g) s t given h) m,
+    ) };
 
-    ghost counts_all = { (refl, λ g s t r m. means_of ⟦<CacheCall<K, V> as PartialEq>⟧.eq ⟦<Reply<K, V> as PartialEq>⟧.eq (CacheMoves K.eq (number_by (λ h k. hash_of H.BuildHasher H.Hasher.Hasher h (K.hash_input k)) g)) Len (Prim.search rules) s t r (λ given a h. told_alike ⟦<Reply<K, V> as PartialEq>⟧.eq counted_by (Prim.search rules) given r a ∙ cache_counts K.eq (number_by (λ h k. hash_of H.BuildHasher H.Hasher.Hasher h (K.hash_input k)) g) s t given h) m) };
+    ghost counts_all = { (
+      refl,
+      λ g s t r m. means_of ⟦<CacheCall<K, V> as PartialEq>⟧.eq
+          ⟦<Reply<K, V> as PartialEq>⟧.eq (CacheMoves K.eq (number_by (λ h k. hash_of H.BuildHasher H.Hasher.Hasher h
+          (K.hash_input k)) g)) Len (Prim.search rules) s t r (λ given a h. told_alike ⟦<Reply<K, V> as PartialEq>⟧.eq
+          counted_by (Prim.search rules) given r a ∙ cache_counts K.eq (number_by (λ h k. hash_of H.BuildHasher
+          H.Hasher.Hasher h (K.hash_input k)) g) s t given h) m,
+    ) };
 
     ghost never_refused = { λ g s. (λ m. m, λ m. m) };
 }

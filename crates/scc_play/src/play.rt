@@ -238,15 +238,15 @@ fn finish<W: Write>(writer: &mut W, text: &str, status: u8) -> u8
 /// output is written last. Each worker makes its calls on a thread of its own, on a recorded container in as many
 /// stripes as the script names; those of one worker on one stripe are made on an owned container.
 ///
-/// - [`FINISHED`]: written are for each worker from 0 the line `worker W` and a line for each of its calls' replies, then
-///   `contents N`, N lines `KEY VALUE`, of a set `KEY`, in rising order of keys, and `records R`, where R is the number of
-///   call records: clearing and counting make one a stripe.
+/// - [`FINISHED`]: written are for each worker from 0 the line `worker W` and a line for each of its calls' replies,
+///   then `contents N`, N lines `KEY VALUE`, of a set `KEY`, in rising order of keys, and `records R`, where R is the
+///   number of call records: clearing and counting make one a stripe.
 /// - [`BAD_CALL`]: written is the line `line N: bad call` alone, where N, counted from 1, is the first line that isn't
 ///   in the grammar. No call was made.
 /// - [`NO_MEMORY`]: written is the line `out of memory` alone.
 /// - [`STREAM_FAILED`]: nothing was written where the read failed; where a write failed, nothing after it.
-/// - [`UNFINISHED`]: written is the line `finish N` alone: 7 where a pass is missing, 8 where a record is misrouted, 9 where
-///   a receipt isn't its record, or what was recorded isn't what the script has.
+/// - [`UNFINISHED`]: written is the line `finish N` alone: 7 where a pass is missing, 8 where a record is misrouted, 9
+///   where a receipt isn't its record, or what was recorded isn't what the script has.
 pub fn play<T: Threads + Wait + Sync, R: Read, W: Write>(
     rt: &T,
     alloc: Global,

@@ -109,8 +109,25 @@ where
         × CallsRouted P.key_of (stripe_of P.Hasher.BuildHasher P.Hasher.Hasher.Hasher P.Key.Hash.hash_input
         closed.hasher (vec_len closed.stripes)) 0 (map (λ s. s.stripe.history.items) closed.stripes.items) }
     ensures played { IfOk result (λ e. IfPlayed e (λ text. ∥ ((r : Request P.Hasher) × (M.chosen ≡ Some r)
-        × IsPlayed (record { limits = P.limits; empty = P.empty; key_of = P.key_of; moves = P.moves; resizes = P.resizes; whole = P.whole; whole_moves = P.whole_moves; whole_resizes = P.whole_resizes; counted = P.counted; count = P.count_reply; state = P.state; shown = P.shown; order = P.Item.cmp; reply = P.reply_line; content = P.item_line })
-        (stripe_of P.Hasher.BuildHasher P.Hasher.Hasher.Hasher P.Key.Hash.hash_input r.hasher) r workers stripes calls.now text) ∥₁)) }
+        × IsPlayed (record {
+          limits = P.limits;
+          empty = P.empty;
+          key_of = P.key_of;
+          moves = P.moves;
+          resizes = P.resizes;
+          whole = P.whole;
+          whole_moves = P.whole_moves;
+          whole_resizes = P.whole_resizes;
+          counted = P.counted;
+          count = P.count_reply;
+          state = P.state;
+          shown = P.shown;
+          order = P.Item.cmp;
+          reply = P.reply_line;
+          content = P.item_line;
+        })
+        (stripe_of P.Hasher.BuildHasher P.Hasher.Hasher.Hasher P.Key.Hash.hash_input r.hasher) r workers stripes
+        calls.now text) ∥₁)) }
 {
     P::exact_calls();
     P::exact_replies();

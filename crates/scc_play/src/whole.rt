@@ -100,8 +100,10 @@ pub(crate) fn whole_text<P: Printed + Drop>(
     ensures known { IfOk result (λ o. IfSome o
         (λ text. AllByRecursion (AllByRecursion (IsMadeBy workers)) (map (λ h. h.items) finished.histories.items))) }
     ensures opened { IfOk result (λ o. IfSome o (λ text. AllByRecursion (λ n. n ≡ 0) finished.opened.items)) }
-    ensures text { IfOk result (λ o. IfSome o (λ text. (items : List P.Item) × IsPermutation (flat_map P.shown finished.parts.items) items × IsSorted P.Item.cmp items
-        × (string_bytes text ≡ output_of P.reply_line P.item_line (map (λ v. v.items) replies.now) items (sum_by calls_in (map (λ h. h.items) finished.histories.items))))) }
+    ensures text { IfOk result (λ o. IfSome o (λ text. (items : List P.Item) × IsPermutation
+        (flat_map P.shown finished.parts.items) items × IsSorted P.Item.cmp items
+        × (string_bytes text ≡ output_of P.reply_line P.item_line (map (λ v. v.items) replies.now) items
+        (sum_by calls_in (map (λ h. h.items) finished.histories.items))))) }
 {
     let Finished {
         parts,

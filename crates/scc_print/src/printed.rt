@@ -29,7 +29,8 @@ pub trait Printed: WholeCalls {
 
     /// Takes all contents out, to the end of the list.
     fn take_items(&mut self, items: &mut Vec<Self::Item>) -> Result<(), AllocError>
-        ensures { OnOk result ((more : List Self.Item) × (items.new.items ≡ items.old.items ++ more) × IsPermutation (shown self.old) more) };
+        ensures { OnOk result ((more : List Self.Item) × (items.new.items ≡ items.old.items ++ more) × IsPermutation
+            (shown self.old) more) };
 
     /// Adds the line of a reply.
     fn add_reply(output: &mut String, reply: Self::Reply) -> Result<(), AllocError>

@@ -29,6 +29,25 @@ pub record Kind (C H S W A R K : Type 0) : Type 1 where
   pub replies : R → R → Bool
   pub route : H → ℕ → K → ℕ
 
+-- the kind with these parts
+abbrev pub make_kind : {C H S W A R K : Type 0} → (ℕ → ℕ → ℕ → Type 0) → (ℕ → S) → (A → Option K) → (Setting H → S → A → R → S → Type 0) → (Setting H → S → ℕ → S → Type 0) → (List S → W)
+    → (Setting H → ℕ → ℕ → W → A → R → W → Type 0) → (Setting H → ℕ → ℕ → W → ℕ → W → Type 0) → (C → Setting H) → (C → S) → (A → A → Bool) → (R → R → Bool) → (H → ℕ → K → ℕ) → Kind C H S W A R K
+make_kind limits empty key_of moves resizes whole whole_moves whole_resizes setting state calls replies route = record {
+  limits = limits;
+  empty = empty;
+  key_of = key_of;
+  moves = moves;
+  resizes = resizes;
+  whole = whole;
+  whole_moves = whole_moves;
+  whole_resizes = whole_resizes;
+  setting = setting;
+  state = state;
+  calls = calls;
+  replies = replies;
+  route = route;
+}
+
 module _ {C H S W A R K T : Type 0} (kind : Kind C H S W A R K) (number : T → ℕ) (told : T → List (Receipt A R)) (hasher : H) (handed : ℕ) (histories : List (List (Step A R))) (passes : List T) where
   -- a run is finished: the parts hold what the histories led to, and the passes have the receipts of their calls
   pub record IsFinished (chosen : Option (Request H)) (parts : List C) (opened : List ℕ) (places : List (ℕ × ℕ)) : Type 0 where

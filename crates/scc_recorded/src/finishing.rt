@@ -5,7 +5,7 @@ ghost use Rattle.scc_contents.specs.Routing.{stripe_of};
 ghost use Rattle.scc_history.specs.Orders.{IsOnlyStampOrder, steps_at};
 ghost use Rattle.scc_history.specs.Receipts.{AreAll, calls_of};
 ghost use Rattle.scc_recorded.specs.Closing.{AllMatch};
-ghost use Rattle.scc_recorded.specs.Finished.{IsFinished, IsRefused};
+ghost use Rattle.scc_recorded.specs.Finished.{IsFinished, IsRefused, make_kind};
 
 use crate::checks::{are_all, misrouted};
 use crate::comparing::first_disagreement;
@@ -50,11 +50,17 @@ where
         ensures parts { IfOk result (λ f. (f.parts.items ≡ map (λ s. s.stripe.container) self.stripes.items)
             × (map (λ h. h.items) f.histories.items ≡ map (λ s. s.stripe.history.items) self.stripes.items)
             × (f.opened.items ≡ map (λ s. s.stripe.opened) self.stripes.items)) }
-        ensures finished { IfOk result (λ f. IsFinished (record { limits = C.limits; empty = C.empty; key_of = C.key_of; moves = C.moves; resizes = C.resizes; whole = C.whole; whole_moves = C.whole_moves; whole_resizes = C.whole_resizes; setting = C.setting; state = C.state; calls = C.Call.eq; replies = C.Reply.eq; route = stripe_of C.Hasher.BuildHasher C.Hasher.Hasher.Hasher C.Key.Hash.hash_input })
-            (λ p. p.log.number) (λ p. p.log.receipts.items) self.hasher self.passes (map (λ h. h.items) f.histories.items) passes.items M.chosen f.parts.items f.opened.items f.order.items) }
+        ensures finished { IfOk result (λ f. IsFinished (make_kind C.limits C.empty C.key_of C.moves C.resizes C.whole
+            C.whole_moves C.whole_resizes C.setting C.state C.Call.eq C.Reply.eq
+            (stripe_of C.Hasher.BuildHasher C.Hasher.Hasher.Hasher C.Key.Hash.hash_input))
+            (λ p. p.log.number) (λ p. p.log.receipts.items) self.hasher self.passes
+            (map (λ h. h.items) f.histories.items) passes.items M.chosen f.parts.items f.opened.items f.order.items) }
         ensures back { IfErr result (λ u. (u.recorded ≡ self) × (u.passes ≡ passes)) }
-        ensures refused { IfErr result (λ u. IsRefused (record { limits = C.limits; empty = C.empty; key_of = C.key_of; moves = C.moves; resizes = C.resizes; whole = C.whole; whole_moves = C.whole_moves; whole_resizes = C.whole_resizes; setting = C.setting; state = C.state; calls = C.Call.eq; replies = C.Reply.eq; route = stripe_of C.Hasher.BuildHasher C.Hasher.Hasher.Hasher C.Key.Hash.hash_input })
-            (λ p. p.log.number) (λ p. p.log.receipts.items) u.recorded.hasher u.recorded.passes (map (λ s. s.stripe.history.items) u.recorded.stripes.items) u.passes.items u.cause) }
+        ensures refused { IfErr result (λ u. IsRefused (make_kind C.limits C.empty C.key_of C.moves C.resizes C.whole
+            C.whole_moves C.whole_resizes C.setting C.state C.Call.eq C.Reply.eq
+            (stripe_of C.Hasher.BuildHasher C.Hasher.Hasher.Hasher C.Key.Hash.hash_input))
+            (λ p. p.log.number) (λ p. p.log.receipts.items) u.recorded.hasher u.recorded.passes
+            (map (λ s. s.stripe.history.items) u.recorded.stripes.items) u.passes.items u.cause) }
     {
         let order = match self.order_of(passes.as_slice()) {
             Ok(order) => order,
@@ -106,8 +112,11 @@ where
         ensures receipts { IfOk result (λ v. AllMatch C.Call.eq C.Reply.eq (λ p. p.log.number)
             (λ p. p.log.receipts.items) passes.now
             (λ n. calls_of n (steps_at (map (λ s. s.stripe.history.items) self.now.stripes.items) v.items))) }
-        ensures refused { IfErr result (λ cause. IsRefused (record { limits = C.limits; empty = C.empty; key_of = C.key_of; moves = C.moves; resizes = C.resizes; whole = C.whole; whole_moves = C.whole_moves; whole_resizes = C.whole_resizes; setting = C.setting; state = C.state; calls = C.Call.eq; replies = C.Reply.eq; route = stripe_of C.Hasher.BuildHasher C.Hasher.Hasher.Hasher C.Key.Hash.hash_input })
-            (λ p. p.log.number) (λ p. p.log.receipts.items) self.now.hasher self.now.passes (map (λ s. s.stripe.history.items) self.now.stripes.items) passes.now cause) }
+        ensures refused { IfErr result (λ cause. IsRefused (make_kind C.limits C.empty C.key_of C.moves C.resizes
+            C.whole C.whole_moves C.whole_resizes C.setting C.state C.Call.eq C.Reply.eq
+            (stripe_of C.Hasher.BuildHasher C.Hasher.Hasher.Hasher C.Key.Hash.hash_input))
+            (λ p. p.log.number) (λ p. p.log.receipts.items) self.now.hasher self.now.passes
+            (map (λ s. s.stripe.history.items) self.now.stripes.items) passes.now cause) }
     {
         let Ok(complete) = are_all(self.alloc, passes, self.passes) else {
             return Err(FinishError::Memory);
@@ -143,13 +152,19 @@ where
     /// What the run was: [`Recorded::close`], and then [`Closed::finish`], with its costs and its refusals. Where it is
     /// refused, the stripes come back out of their locks, so a further try is [`Closed::finish`].
     pub fn finish(self, passes: Vec<Pass<C, L>>) -> Result<Finished<C>, Unfinished<C, L, M>>
-        ensures finished { IfOk result (λ f. IsFinished (record { limits = C.limits; empty = C.empty; key_of = C.key_of; moves = C.moves; resizes = C.resizes; whole = C.whole; whole_moves = C.whole_moves; whole_resizes = C.whole_resizes; setting = C.setting; state = C.state; calls = C.Call.eq; replies = C.Reply.eq; route = stripe_of C.Hasher.BuildHasher C.Hasher.Hasher.Hasher C.Key.Hash.hash_input })
-            (λ p. p.log.number) (λ p. p.log.receipts.items) self.hasher self.passes (map (λ h. h.items) f.histories.items) passes.items M.chosen f.parts.items f.opened.items f.order.items) }
+        ensures finished { IfOk result (λ f. IsFinished (make_kind C.limits C.empty C.key_of C.moves C.resizes C.whole
+            C.whole_moves C.whole_resizes C.setting C.state C.Call.eq C.Reply.eq
+            (stripe_of C.Hasher.BuildHasher C.Hasher.Hasher.Hasher C.Key.Hash.hash_input))
+            (λ p. p.log.number) (λ p. p.log.receipts.items) self.hasher self.passes
+            (map (λ h. h.items) f.histories.items) passes.items M.chosen f.parts.items f.opened.items f.order.items) }
         ensures stripes { IfOk result (λ f. vec_len f.parts ≡ self.stripes) }
         ensures back { IfErr result (λ u. (u.passes ≡ passes) × (vec_len u.recorded.stripes ≡ self.stripes)
             × (u.recorded.passes ≡ self.passes) × (u.recorded.hasher ≡ self.hasher)) }
-        ensures refused { IfErr result (λ u. IsRefused (record { limits = C.limits; empty = C.empty; key_of = C.key_of; moves = C.moves; resizes = C.resizes; whole = C.whole; whole_moves = C.whole_moves; whole_resizes = C.whole_resizes; setting = C.setting; state = C.state; calls = C.Call.eq; replies = C.Reply.eq; route = stripe_of C.Hasher.BuildHasher C.Hasher.Hasher.Hasher C.Key.Hash.hash_input })
-            (λ p. p.log.number) (λ p. p.log.receipts.items) u.recorded.hasher u.recorded.passes (map (λ s. s.stripe.history.items) u.recorded.stripes.items) u.passes.items u.cause) }
+        ensures refused { IfErr result (λ u. IsRefused (make_kind C.limits C.empty C.key_of C.moves C.resizes C.whole
+            C.whole_moves C.whole_resizes C.setting C.state C.Call.eq C.Reply.eq
+            (stripe_of C.Hasher.BuildHasher C.Hasher.Hasher.Hasher C.Key.Hash.hash_input))
+            (λ p. p.log.number) (λ p. p.log.receipts.items) u.recorded.hasher u.recorded.passes
+            (map (λ s. s.stripe.history.items) u.recorded.stripes.items) u.passes.items u.cause) }
     {
         self.close().finish(passes)
     }

@@ -21,7 +21,8 @@ use std::sync::{Mutex, Wait};
 pub struct Guarded<C: Calls, M: Site<C::Hasher>> {
     pub stripe: Stripe<C>,
     pub(crate) share: Share<M>,
-    pub ghost placed: { ∥ ((r : Request C.Hasher) × (M.chosen ≡ Some r) × IsMadeFor C.limits r (C.setting stripe.container)) ∥₁ },
+    pub ghost placed: { ∥ ((r : Request C.Hasher) × (M.chosen ≡ Some r)
+        × IsMadeFor C.limits r (C.setting stripe.container)) ∥₁ },
     pub ghost part: { share.parts ≡ 1 },
     pub ghost counted: { share.amount ≡ calls_in stripe.history.items },
 }

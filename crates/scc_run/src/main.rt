@@ -1,4 +1,5 @@
-//! Reads a script of calls from standard input, makes them on the container that it names, and writes what they answered.
+//! Reads a script of calls from standard input, makes them on the container that it names, and writes what they
+//! answered.
 //!
 //! The process ends with the status that [`play`] answers.
 #![tactic(auto)]

@@ -155,11 +155,15 @@ impl Calls for Tally {
 
     ghost one_limit = { λ _ _ m n p q. p ∙ sym q };
 
-    ghost moves_alike = { λ g old new call copy reply given pc pr c r m. let x : copy ≡ call = the_very ⟦<u8 as PartialEq>⟧.eq (Prim.search rules) call copy c in let y : given ≡ reply = the_very ⟦<u8 as PartialEq>⟧.eq (Prim.search rules) reply given r in (m.0 ∙ ap (λ z. old + z) (sym x), y ∙ m.1) };
+    ghost moves_alike = { λ g old new call copy reply given pc pr c r m. let x : copy ≡ call = the_very
+        ⟦<u8 as PartialEq>⟧.eq (Prim.search rules) call copy c in let y : given ≡ reply = the_very
+        ⟦<u8 as PartialEq>⟧.eq (Prim.search rules) reply given r in (m.0 ∙ ap (λ z. old + z) (sym x), y ∙ m.1) };
 
-    ghost call_is_whole = { λ _ _ before after old new call reply _ key s. parted_call (λ s c r t. (t ≡ s + c) × (r ≡ t)) (λ _. None) (λ k. k) before after old new call reply key s };
+    ghost call_is_whole = { λ _ _ before after old new call reply _ key s. parted_call
+        (λ s c r t. (t ≡ s + c) × (r ≡ t)) (λ _. None) (λ k. k) before after old new call reply key s };
 
-    ghost resize_is_whole = { λ _ _ before after old new buckets _ s. parted_resize (λ _ _ _. ⊥) before after old new buckets s };
+    ghost resize_is_whole = { λ _ _ before after old new buckets _ s. parted_resize (λ _ _ _. ⊥) before after old new
+        buckets s };
 
     ghost call_keeps = { λ _ _ _ _ _ _ _ _ _ _. tt };
 

@@ -74,9 +74,11 @@ where
 
     ghost coded = { contents_code E.code H.code };
 
-    ghost view = { λ t. together (λ e. key_hash H.BuildHasher H.Hasher.Hasher E.Key.hash_input t.current (E.key_of e)) t.current t.draining.waiting.items t.draining.array };
+    ghost view = { λ t. together (λ e. key_hash H.BuildHasher H.Hasher.Hasher E.Key.hash_input t.current (E.key_of e))
+        t.current t.draining.waiting.items t.draining.array };
 
-    ghost invariant = { λ t. IsTable E.Key.eq E.key_of (key_hash H.BuildHasher H.Hasher.Hasher E.Key.hash_input t.current) t.current (draining_of t.draining) t.skipped };
+    ghost invariant = { λ t. IsTable E.Key.eq E.key_of (key_hash H.BuildHasher H.Hasher.Hasher E.Key.hash_input
+        t.current) t.current (draining_of t.draining) t.skipped };
 }
 
 impl<E: Keyed, H: BuildHasher> Table<E, H>

@@ -14,7 +14,13 @@ impl<K: Eq + Hash, V: PartialEq, H: BuildHasher> PartialEq for Owned<K, V, H> {
 
     ghost eq = { λ m n. entries_eq K.eq (λ p q. V.eq p.1 q.1) (entries m.contents) (entries n.contents) };
 
-    ghost laws = { let v = V.laws in record { symm = λ m n. entries_eq-symm K.eq (λ p q. V.eq p.1 q.1) (λ p q. v.symm p.1 q.1) (entries m.contents) (entries n.contents); trans = λ l m n. entries_eq-trans K.eq (λ p q. V.eq p.1 q.1) K.Eq.laws (λ p q r. v.trans p.1 q.1 r.1) (entries l.contents) (entries m.contents) (entries n.contents) } };
+    ghost laws = { let v = V.laws in record {
+      symm = λ m n. entries_eq-symm K.eq (λ p q. V.eq p.1 q.1)
+          (λ p q. v.symm p.1 q.1) (entries m.contents) (entries n.contents);
+      trans = λ l m n. entries_eq-trans K.eq
+          (λ p q. V.eq p.1 q.1) K.Eq.laws (λ p q r. v.trans p.1 q.1 r.1) (entries l.contents) (entries m.contents)
+          (entries n.contents);
+    } };
 
     /// Whether each pair of either cache has its key with an equal value in the other. Neither the order of the pairs
     /// nor a maximum plays a part.
@@ -28,7 +34,14 @@ impl<K: Eq + Hash, V: Eq, H: BuildHasher> Eq for Owned<K, V, H> {
     ghost use Rattle.std.specs.Cmp.{partial_equiv_from_equiv};
     ghost use Rattle.scc_contents.specs.Equality.{entries_eq-symm, entries_eq-trans, entries_eq-refl};
 
-    ghost laws = { let v = V.Eq.laws in Cmp.equiv (record { symm = λ m n. entries_eq-symm K.eq (λ p q. V.eq p.1 q.1) (λ p q. v.symm p.1 q.1) (entries m.contents) (entries n.contents); trans = λ l m n. entries_eq-trans K.eq (λ p q. V.eq p.1 q.1) K.Eq.laws (λ p q r. (partial_equiv_from_equiv v).trans p.1 q.1 r.1) (entries l.contents) (entries m.contents) (entries n.contents) }) (λ m. entries_eq-refl K.eq (λ p q. V.eq p.1 q.1) (λ p. v.refl p.1) (entries m.contents)) };
+    ghost laws = { let v = V.Eq.laws in Cmp.equiv (record {
+      symm = λ m n. entries_eq-symm K.eq (λ p q. V.eq p.1 q.1)
+          (λ p q. v.symm p.1 q.1) (entries m.contents) (entries n.contents);
+      trans = λ l m n. entries_eq-trans K.eq
+          (λ p q. V.eq p.1 q.1) K.Eq.laws (λ p q r. (partial_equiv_from_equiv v).trans p.1 q.1 r.1) (entries l.contents)
+          (entries m.contents) (entries n.contents);
+    }) (λ m. entries_eq-refl K.eq (λ p q. V.eq p.1 q.1) (λ p. v.refl p.1)
+        (entries m.contents)) };
 }
 
 impl<K: Eq + Hash, V: PartialEq, H: BuildHasher> Owned<K, V, H> {

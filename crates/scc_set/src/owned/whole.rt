@@ -14,7 +14,11 @@ impl<K: Eq + Hash, H: BuildHasher> PartialEq for Owned<K, H> {
 
     ghost eq = { λ m n. keys_eq K.eq (entries m) (entries n) };
 
-    ghost laws = { record { symm = λ m n. keys_eq-symm K.eq (entries m) (entries n); trans = λ l m n. keys_eq-trans K.eq K.Eq.laws (entries l) (entries m) (entries n) } };
+    ghost laws = { record {
+      symm = λ m n. keys_eq-symm K.eq (entries m) (entries n);
+      trans = λ l m n. keys_eq-trans K.eq
+          K.Eq.laws (entries l) (entries m) (entries n);
+    } };
 
     /// Whether each key of either set is in the other.
     fn eq(&self, other: &Self) -> bool {
@@ -26,7 +30,12 @@ impl<K: Eq + Hash, H: BuildHasher> Eq for Owned<K, H> {
     ghost use Rattle.std.specs.Cmp;
     ghost use Rattle.scc_set.specs.Equality.{keys_eq-symm, keys_eq-trans, keys_eq-refl};
 
-    ghost laws = { Cmp.equiv (record { symm = λ m n. keys_eq-symm K.eq (entries m) (entries n); trans = λ l m n. keys_eq-trans K.eq K.Eq.laws (entries l) (entries m) (entries n) }) (λ m. keys_eq-refl K.eq K.Eq.laws (entries m)) };
+    ghost laws = { Cmp.equiv (record {
+      symm = λ m n. keys_eq-symm K.eq (entries m) (entries n);
+      trans = λ l m n.
+          keys_eq-trans K.eq K.Eq.laws (entries l) (entries m) (entries n);
+    }) (λ m. keys_eq-refl K.eq K.Eq.laws
+        (entries m)) };
 }
 
 impl<K: Eq + Hash, H: BuildHasher> Owned<K, H> {
