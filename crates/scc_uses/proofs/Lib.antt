@@ -6,6 +6,7 @@ pub mod IndexAlike
 pub mod IndexIndependence
 pub mod KeyLemmas
 pub mod MapAlike
+pub mod Mirrors
 pub mod Replies
 pub mod RouteLemmas
 pub mod SetAlike

@@ -29,6 +29,10 @@ AreExact calls replies = AreSame calls × AreSame replies
 abbrev pub FindsAlike : {K V : Type 0} → (K → K → Bool) → (V → V → Bool) → List (K × V) → List (K × V) → Type 0
 FindsAlike {K = K} keys values es ds = (q : K) → Both (Alike values) (lookup (keys q) es) (lookup (keys q) ds)
 
+-- each look-up of a key finds the same value in both, or none in both
+abbrev pub FindsSame : {K V : Type 0} → (K → K → Bool) → List (K × V) → List (K × V) → Type 0
+FindsSame {K = K} keys es ds = (q : K) → lookup (keys q) ds ≡ lookup (keys q) es
+
 -- each look-up finds an equal key in both, or in neither
 abbrev pub HaveEqual : {K : Type 0} → (K → K → Bool) → List K → List K → Type 0
 HaveEqual {K} keys ks ls = (q : K) → is_some (find keys ls q) ≡ is_some (find keys ks q)

@@ -4,6 +4,7 @@ pub mod Alikeness
 pub mod Counts
 pub mod Interning
 pub mod Memo
+pub mod Mirrored
 pub mod RequestCounts
 pub mod Routing
 pub mod Sessions

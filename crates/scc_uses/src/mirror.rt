@@ -1,12 +1,10 @@
 //! The same calls on two maps, which differ in their hashers and sizes.
-ghost use Rattle.std.specs.Prelude.{◌≡◌, ◌+◌, ◌++◌, ◌⊎◌, List, length, OnOk, OnErr};
 ghost use Rattle.std.specs.List.Sorted.{IsPermutation};
 ghost use Rattle.scc_contents.specs.Contents.{entries};
 ghost use Rattle.scc_calls.specs.MapCalls.{MapMoves};
-ghost use Rattle.scc_calls.specs.Copies.{ClonesEqual, Means};
-ghost use Rattle.scc_calls.specs.Run.{IsRun};
-ghost use Rattle.scc_calls.specs.States.{ResizesTo, setting_of, state_of};
-ghost use Rattle.scc_uses.specs.Alikeness.{AgreeAlong, AreExact, FindsAlike, RepliesAlike};
+ghost use Rattle.scc_calls.specs.Copies.{ClonesEqual};
+ghost use Rattle.scc_uses.specs.Alikeness.{FindsAlike, RepliesAlike};
+ghost use Rattle.scc_uses.specs.Mirrored.{RunsOnBoth};
 
 use crate::alike::{equal_map_calls, equal_replies};
 use scc_calls::{MapCall, Refused, Reply, run};
@@ -32,43 +30,9 @@ pub fn run_on_both<K: Eq + Hash + Clone, V: Clone + PartialEq, H: BuildHasher, I
     requires alike { FindsAlike K.eq V.eq (entries first.old) (entries second.old) }
     requires calls { ClonesEqual ⟦<MapCall<K, V> as Clone>⟧.is_clone ⟦<MapCall<K, V> as PartialEq>⟧.eq }
     requires replies { ClonesEqual ⟦<Reply<K, V> as Clone>⟧.is_clone ⟦<Reply<K, V> as PartialEq>⟧.eq }
-    ensures first { (made : List (Reply K V)) × (firsts.new.items ≡ firsts.old.items ++ made)
-        × IsRun (Means ⟦<MapCall<K, V> as PartialEq>⟧.eq ⟦<Reply<K, V> as PartialEq>⟧.eq (MapMoves K.eq))
-        (ResizesTo (setting_of first.old)) (state_of first.old) calls.now made (state_of first.new) }
-    ensures second { (made : List (Reply K V)) × (seconds.new.items ≡ seconds.old.items ++ made)
-        × IsRun (Means ⟦<MapCall<K, V> as PartialEq>⟧.eq ⟦<Reply<K, V> as PartialEq>⟧.eq (MapMoves K.eq))
-        (ResizesTo (setting_of second.old)) (state_of second.old) calls.now made (state_of second.new) }
-    ensures all { OnOk result (length firsts.new.items ≡ length firsts.old.items + length calls.now) }
-    ensures replies { OnOk result ((made : List (Reply K V)) × (others : List (Reply K V))
-        × (firsts.new.items ≡ firsts.old.items ++ made) × (seconds.new.items ≡ seconds.old.items ++ others)
-        × (length others ≡ length made) × AgreeAlong (RepliesAlike K.eq V.eq) made others) }
-    ensures values { OnOk result (FindsAlike K.eq V.eq (entries first.new) (entries second.new)) }
-    ensures count { OnOk result (length (entries second.new) ≡ length (entries first.new)) }
-    ensures refused { OnErr result (((second.new ≡ second.old) × (seconds.new.items ≡ seconds.old.items))
-        ⊎ ((made : List (Reply K V)) × (others : List (Reply K V)) × (firsts.new.items ≡ firsts.old.items ++ made)
-        × (seconds.new.items ≡ seconds.old.items ++ others) × (length made ≡ length calls.now)
-        × AgreeAlong (RepliesAlike K.eq V.eq) made others)) }
-    ensures exact_first { AreExact ⟦<MapCall<K, V> as PartialEq>⟧.eq ⟦<Reply<K, V> as PartialEq>⟧.eq
-        → (made : List (Reply K V)) × (firsts.new.items ≡ firsts.old.items ++ made)
-        × IsRun (MapMoves K.eq) (ResizesTo (setting_of first.old)) (state_of first.old) calls.now made
-        (state_of first.new) }
-    ensures exact_second { AreExact ⟦<MapCall<K, V> as PartialEq>⟧.eq ⟦<Reply<K, V> as PartialEq>⟧.eq
-        → (made : List (Reply K V)) × (seconds.new.items ≡ seconds.old.items ++ made)
-        × IsRun (MapMoves K.eq) (ResizesTo (setting_of second.old)) (state_of second.old) calls.now made
-        (state_of second.new) }
-    ensures exact_replies { AreExact ⟦<MapCall<K, V> as PartialEq>⟧.eq ⟦<Reply<K, V> as PartialEq>⟧.eq
-        → IsPermutation (entries first.old) (entries second.old)
-        → OnOk result ((made : List (Reply K V)) × (firsts.new.items ≡ firsts.old.items ++ made)
-        × (seconds.new.items ≡ seconds.old.items ++ made)) }
-    ensures exact_pairs { AreExact ⟦<MapCall<K, V> as PartialEq>⟧.eq ⟦<Reply<K, V> as PartialEq>⟧.eq
-        → IsPermutation (entries first.old) (entries second.old)
-        → OnOk result (IsPermutation (entries first.new) (entries second.new)) }
-    ensures exact_refused { AreExact ⟦<MapCall<K, V> as PartialEq>⟧.eq ⟦<Reply<K, V> as PartialEq>⟧.eq
-        → IsPermutation (entries first.old) (entries second.old)
-        → OnErr result (((second.new ≡ second.old) × (seconds.new.items ≡ seconds.old.items))
-        ⊎ ((made : List (Reply K V)) × (rest : List (Reply K V))
-        × (firsts.new.items ≡ firsts.old.items ++ (made ++ rest)) × (seconds.new.items ≡ seconds.old.items ++ made)
-        × (length (made ++ rest) ≡ length calls.now))) }
+    ensures { RunsOnBoth ⟦<MapCall<K, V> as PartialEq>⟧.eq ⟦<Reply<K, V> as PartialEq>⟧.eq (MapMoves K.eq)
+        (RepliesAlike K.eq V.eq) (FindsAlike K.eq V.eq) IsPermutation calls.now (first.old, firsts.old.items)
+        (second.old, seconds.old.items) result (first.new, firsts.new.items) (second.new, seconds.new.items) }
 {
     equal_map_calls::<K, V>();
     equal_replies::<K, V>();

@@ -1,12 +1,9 @@
 //! The same calls on two indexes, which differ in their hashers and sizes.
-ghost use Rattle.std.specs.Prelude.{◌≡◌, ◌+◌, ◌++◌, ◌⊎◌, List, length, OnOk, OnErr};
-ghost use Rattle.std.specs.Map.{lookup};
 ghost use Rattle.scc_contents.specs.Contents.{entries};
 ghost use Rattle.scc_calls.specs.IndexCalls.{IndexMoves};
-ghost use Rattle.scc_calls.specs.Copies.{ClonesEqual, Means};
-ghost use Rattle.scc_calls.specs.Run.{IsRun};
-ghost use Rattle.scc_calls.specs.States.{ResizesTo, setting_of, state_of};
-ghost use Rattle.scc_uses.specs.Alikeness.{AgreeAlong, AreExact, FindsAlike, RepliesAlike};
+ghost use Rattle.scc_calls.specs.Copies.{ClonesEqual};
+ghost use Rattle.scc_uses.specs.Alikeness.{FindsAlike, FindsSame, RepliesAlike};
+ghost use Rattle.scc_uses.specs.Mirrored.{RunsOnBoth};
 
 use crate::alike::{equal_index_calls, equal_replies};
 use scc_calls::{IndexCall, Refused, Reply, run};
@@ -39,43 +36,9 @@ pub fn run_on_both_indexes<
     requires alike { FindsAlike K.eq V.eq (entries first.old) (entries second.old) }
     requires calls { ClonesEqual ⟦<IndexCall<K, V> as Clone>⟧.is_clone ⟦<IndexCall<K, V> as PartialEq>⟧.eq }
     requires replies { ClonesEqual ⟦<Reply<K, V> as Clone>⟧.is_clone ⟦<Reply<K, V> as PartialEq>⟧.eq }
-    ensures first { (made : List (Reply K V)) × (firsts.new.items ≡ firsts.old.items ++ made)
-        × IsRun (Means ⟦<IndexCall<K, V> as PartialEq>⟧.eq ⟦<Reply<K, V> as PartialEq>⟧.eq (IndexMoves K.eq))
-        (ResizesTo (setting_of first.old)) (state_of first.old) calls.now made (state_of first.new) }
-    ensures second { (made : List (Reply K V)) × (seconds.new.items ≡ seconds.old.items ++ made)
-        × IsRun (Means ⟦<IndexCall<K, V> as PartialEq>⟧.eq ⟦<Reply<K, V> as PartialEq>⟧.eq (IndexMoves K.eq))
-        (ResizesTo (setting_of second.old)) (state_of second.old) calls.now made (state_of second.new) }
-    ensures all { OnOk result (length firsts.new.items ≡ length firsts.old.items + length calls.now) }
-    ensures replies { OnOk result ((made : List (Reply K V)) × (others : List (Reply K V))
-        × (firsts.new.items ≡ firsts.old.items ++ made) × (seconds.new.items ≡ seconds.old.items ++ others)
-        × (length others ≡ length made) × AgreeAlong (RepliesAlike K.eq V.eq) made others) }
-    ensures values { OnOk result (FindsAlike K.eq V.eq (entries first.new) (entries second.new)) }
-    ensures count { OnOk result (length (entries second.new) ≡ length (entries first.new)) }
-    ensures refused { OnErr result (((second.new ≡ second.old) × (seconds.new.items ≡ seconds.old.items))
-        ⊎ ((made : List (Reply K V)) × (others : List (Reply K V)) × (firsts.new.items ≡ firsts.old.items ++ made)
-        × (seconds.new.items ≡ seconds.old.items ++ others) × (length made ≡ length calls.now)
-        × AgreeAlong (RepliesAlike K.eq V.eq) made others)) }
-    ensures exact_first { AreExact ⟦<IndexCall<K, V> as PartialEq>⟧.eq ⟦<Reply<K, V> as PartialEq>⟧.eq
-        → (made : List (Reply K V)) × (firsts.new.items ≡ firsts.old.items ++ made)
-        × IsRun (IndexMoves K.eq) (ResizesTo (setting_of first.old)) (state_of first.old) calls.now made
-        (state_of first.new) }
-    ensures exact_second { AreExact ⟦<IndexCall<K, V> as PartialEq>⟧.eq ⟦<Reply<K, V> as PartialEq>⟧.eq
-        → (made : List (Reply K V)) × (seconds.new.items ≡ seconds.old.items ++ made)
-        × IsRun (IndexMoves K.eq) (ResizesTo (setting_of second.old)) (state_of second.old) calls.now made
-        (state_of second.new) }
-    ensures exact_replies { AreExact ⟦<IndexCall<K, V> as PartialEq>⟧.eq ⟦<Reply<K, V> as PartialEq>⟧.eq
-        → ((q : K) → lookup (K.eq q) (entries second.old) ≡ lookup (K.eq q) (entries first.old))
-        → OnOk result ((made : List (Reply K V)) × (firsts.new.items ≡ firsts.old.items ++ made)
-        × (seconds.new.items ≡ seconds.old.items ++ made)) }
-    ensures exact_values { AreExact ⟦<IndexCall<K, V> as PartialEq>⟧.eq ⟦<Reply<K, V> as PartialEq>⟧.eq
-        → ((q : K) → lookup (K.eq q) (entries second.old) ≡ lookup (K.eq q) (entries first.old))
-        → OnOk result (((q : K) → lookup (K.eq q) (entries second.new) ≡ lookup (K.eq q) (entries first.new))) }
-    ensures exact_refused { AreExact ⟦<IndexCall<K, V> as PartialEq>⟧.eq ⟦<Reply<K, V> as PartialEq>⟧.eq
-        → ((q : K) → lookup (K.eq q) (entries second.old) ≡ lookup (K.eq q) (entries first.old))
-        → OnErr result (((second.new ≡ second.old) × (seconds.new.items ≡ seconds.old.items))
-        ⊎ ((made : List (Reply K V)) × (rest : List (Reply K V))
-        × (firsts.new.items ≡ firsts.old.items ++ (made ++ rest)) × (seconds.new.items ≡ seconds.old.items ++ made)
-        × (length (made ++ rest) ≡ length calls.now))) }
+    ensures { RunsOnBoth ⟦<IndexCall<K, V> as PartialEq>⟧.eq ⟦<Reply<K, V> as PartialEq>⟧.eq (IndexMoves K.eq)
+        (RepliesAlike K.eq V.eq) (FindsAlike K.eq V.eq) (FindsSame K.eq) calls.now (first.old, firsts.old.items)
+        (second.old, seconds.old.items) result (first.new, firsts.new.items) (second.new, seconds.new.items) }
 {
     equal_index_calls::<K, V>();
     equal_replies::<K, V>();

@@ -1,12 +1,11 @@
 //! The same calls on two sets, which differ in their hashers and sizes.
-ghost use Rattle.std.specs.Prelude.{◌≡◌, ◌+◌, ◌++◌, ◌⊎◌, List, length, OnOk, OnErr, true};
+ghost use Rattle.std.specs.Prelude.{true};
 ghost use Rattle.std.specs.List.Sorted.{IsPermutation};
 ghost use Rattle.scc_contents.specs.Contents.{entries};
 ghost use Rattle.scc_calls.specs.SetCalls.{SetMoves};
-ghost use Rattle.scc_calls.specs.Copies.{ClonesEqual, Means};
-ghost use Rattle.scc_calls.specs.Run.{IsRun};
-ghost use Rattle.scc_calls.specs.States.{ResizesTo, setting_of, state_of};
-ghost use Rattle.scc_uses.specs.Alikeness.{AgreeAlong, AreExact, HaveEqual, RepliesAlike};
+ghost use Rattle.scc_calls.specs.Copies.{ClonesEqual};
+ghost use Rattle.scc_uses.specs.Alikeness.{HaveEqual, RepliesAlike};
+ghost use Rattle.scc_uses.specs.Mirrored.{RunsOnBoth};
 
 use crate::alike::{equal_key_replies, equal_set_calls};
 use scc_calls::{Refused, Reply, SetCall, run};
@@ -32,43 +31,9 @@ pub fn run_on_both_sets<K: Eq + Hash + Clone, H: BuildHasher, I: BuildHasher>(
     requires alike { HaveEqual K.eq (entries first.old) (entries second.old) }
     requires calls { ClonesEqual ⟦<SetCall<K> as Clone>⟧.is_clone ⟦<SetCall<K> as PartialEq>⟧.eq }
     requires replies { ClonesEqual ⟦<Reply<K, ()> as Clone>⟧.is_clone ⟦<Reply<K, ()> as PartialEq>⟧.eq }
-    ensures first { (made : List (Reply K (Unit {0}))) × (firsts.new.items ≡ firsts.old.items ++ made)
-        × IsRun (Means ⟦<SetCall<K> as PartialEq>⟧.eq ⟦<Reply<K, ()> as PartialEq>⟧.eq (SetMoves K.eq))
-        (ResizesTo (setting_of first.old)) (state_of first.old) calls.now made (state_of first.new) }
-    ensures second { (made : List (Reply K (Unit {0}))) × (seconds.new.items ≡ seconds.old.items ++ made)
-        × IsRun (Means ⟦<SetCall<K> as PartialEq>⟧.eq ⟦<Reply<K, ()> as PartialEq>⟧.eq (SetMoves K.eq))
-        (ResizesTo (setting_of second.old)) (state_of second.old) calls.now made (state_of second.new) }
-    ensures all { OnOk result (length firsts.new.items ≡ length firsts.old.items + length calls.now) }
-    ensures replies { OnOk result ((made : List (Reply K (Unit {0}))) × (others : List (Reply K (Unit {0})))
-        × (firsts.new.items ≡ firsts.old.items ++ made) × (seconds.new.items ≡ seconds.old.items ++ others)
-        × (length others ≡ length made) × AgreeAlong (RepliesAlike K.eq (λ _ _. true)) made others) }
-    ensures keys { OnOk result (HaveEqual K.eq (entries first.new) (entries second.new)) }
-    ensures count { OnOk result (length (entries second.new) ≡ length (entries first.new)) }
-    ensures refused { OnErr result (((second.new ≡ second.old) × (seconds.new.items ≡ seconds.old.items))
-        ⊎ ((made : List (Reply K (Unit {0}))) × (others : List (Reply K (Unit {0})))
-        × (firsts.new.items ≡ firsts.old.items ++ made) × (seconds.new.items ≡ seconds.old.items ++ others)
-        × (length made ≡ length calls.now) × AgreeAlong (RepliesAlike K.eq (λ _ _. true)) made others)) }
-    ensures exact_first { AreExact ⟦<SetCall<K> as PartialEq>⟧.eq ⟦<Reply<K, ()> as PartialEq>⟧.eq
-        → (made : List (Reply K (Unit {0}))) × (firsts.new.items ≡ firsts.old.items ++ made)
-        × IsRun (SetMoves K.eq) (ResizesTo (setting_of first.old)) (state_of first.old) calls.now made
-        (state_of first.new) }
-    ensures exact_second { AreExact ⟦<SetCall<K> as PartialEq>⟧.eq ⟦<Reply<K, ()> as PartialEq>⟧.eq
-        → (made : List (Reply K (Unit {0}))) × (seconds.new.items ≡ seconds.old.items ++ made)
-        × IsRun (SetMoves K.eq) (ResizesTo (setting_of second.old)) (state_of second.old) calls.now made
-        (state_of second.new) }
-    ensures exact_replies { AreExact ⟦<SetCall<K> as PartialEq>⟧.eq ⟦<Reply<K, ()> as PartialEq>⟧.eq
-        → IsPermutation (entries first.old) (entries second.old)
-        → OnOk result ((made : List (Reply K (Unit {0}))) × (firsts.new.items ≡ firsts.old.items ++ made)
-        × (seconds.new.items ≡ seconds.old.items ++ made)) }
-    ensures exact_keys { AreExact ⟦<SetCall<K> as PartialEq>⟧.eq ⟦<Reply<K, ()> as PartialEq>⟧.eq
-        → IsPermutation (entries first.old) (entries second.old)
-        → OnOk result (IsPermutation (entries first.new) (entries second.new)) }
-    ensures exact_refused { AreExact ⟦<SetCall<K> as PartialEq>⟧.eq ⟦<Reply<K, ()> as PartialEq>⟧.eq
-        → IsPermutation (entries first.old) (entries second.old)
-        → OnErr result (((second.new ≡ second.old) × (seconds.new.items ≡ seconds.old.items))
-        ⊎ ((made : List (Reply K (Unit {0}))) × (rest : List (Reply K (Unit {0})))
-        × (firsts.new.items ≡ firsts.old.items ++ (made ++ rest)) × (seconds.new.items ≡ seconds.old.items ++ made)
-        × (length (made ++ rest) ≡ length calls.now))) }
+    ensures { RunsOnBoth ⟦<SetCall<K> as PartialEq>⟧.eq ⟦<Reply<K, ()> as PartialEq>⟧.eq (SetMoves K.eq)
+        (RepliesAlike K.eq (λ _ _. true)) (HaveEqual K.eq) IsPermutation calls.now (first.old, firsts.old.items)
+        (second.old, seconds.old.items) result (first.new, firsts.new.items) (second.new, seconds.new.items) }
 {
     equal_set_calls::<K>();
     equal_key_replies::<K>();
