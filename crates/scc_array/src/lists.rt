@@ -1,6 +1,6 @@
 //! The lists of the entries past the places, one a bucket, which are made with the first such entry.
 ghost use Rattle.std.specs.Prelude.{◌≡◌, ◌<◌, ◌≤◌, ◌+◌, ◌/◌, ◌^◌, ◌⊎◌, ℕ, [], false, true, length, slice_index_or, IfOk, OnOk, OnErr};
-ghost use Rattle.scc_array.specs.Lists.{AreBare, AreSpent, Opens, Pushes, ReservesList};
+ghost use Rattle.scc_array.specs.Lists.{AreBare, AreSpent, Opens, Pushes, RaisesFlag, ReservesList};
 
 use std::alloc::{AllocError, Global};
 use std::mem;
@@ -58,14 +58,7 @@ pub(crate) fn raise(
     requires bucket { bucket < count }
     requires most { count ≤ 2 ^ 58 }
     requires count { (flags.old.items ≡ []) ⊎ (length flags.old.items ≡ count / 16 + 1) }
-    ensures up { OnOk result (slice_index_or flags.new.items (bucket / 16) false ≡ true) }
-    ensures count { OnOk result (length flags.new.items ≡ count / 16 + 1) }
-    ensures kept { OnOk result ((i : ℕ) → slice_index_or flags.new.items i false ≡ false
-        → slice_index_or flags.old.items i false ≡ false) }
-    ensures only { OnOk result ((i : ℕ) → slice_index_or flags.new.items i false ≡ true
-        → (i ≡ bucket / 16) ⊎ (slice_index_or flags.old.items i false ≡ true)) }
-    ensures err { OnErr result (flags.new.items ≡ flags.old.items) }
-    ensures none { OnErr result (flags.old.items ≡ []) }
+    ensures { RaisesFlag flags.old.items count (bucket / 16) result flags.new.items }
 {
     if flags.len() == 0 {
         *flags = vec![in alloc; false; flag_of(count) + 1]?;

@@ -1,9 +1,12 @@
 pub mod Bounded
+pub mod Insertions
 pub mod LendsBuckets
+pub mod Making
 pub mod OneList
 pub mod Placed
 pub mod Places
 pub mod Pour
+pub mod Removals
 pub mod Standing
 pub mod Tables
 pub mod Takes

@@ -4,7 +4,9 @@ ghost use Rattle.std.specs.List.{position};
 ghost use Rattle.scc_buckets.specs.Bounded.{HasList, IsBounded};
 ghost use Rattle.scc_contents.specs.Contents.{entries, bucket_count, list_of, settings_of, refused_of, key_hash, bucket_of, IsUniqueBy, HasRoomBy};
 ghost use Rattle.scc_buckets.specs.OneList.{HasSameLists, IsPutIn, IsTakenFrom};
+ghost use Rattle.scc_buckets.specs.Insertions.{InsertsInBucket};
 ghost use Rattle.scc_buckets.specs.Places.{IsSpot, IsInsertedAtSpot, index_of_spot};
+ghost use Rattle.scc_buckets.specs.Removals.{TakesAtSpot};
 ghost use Rattle.scc_contents.specs.Routing.{bucket_number};
 ghost use Rattle.scc_contents.specs.Steps.{FirstArrayWhenDue, Grows, GrowsWhenDue, HoldsExactly, IsUnchanged, Rests};
 
@@ -47,15 +49,8 @@ where
         requires routed { bucket ≡ bucket_number (settings_of self.old).skipped (bucket_count self.old) hash }
         requires hashed { hash ≡ key_hash H.BuildHasher H.Hasher.Hasher E.Key.hash_input self.old (E.key_of entry) }
         requires absent { position (λ e. E.Key.eq (E.key_of entry) (E.key_of e)) (entries self.old) ≡ None }
-        ensures ok { IfOk result (IsInsertedAtSpot self.old entry self.new) }
-        ensures exact { IfOk result (IsPutIn self.old bucket entry self.new) }
-        ensures err { IfErr result (λ e. (e ≡ entry) × IsUnchanged self.old self.new) }
-        ensures stays { OnErr result (HasSameLists self.old self.new) }
-        ensures full { OnErr result (HasRoomBy (key_hash H.BuildHasher H.Hasher.Hasher E.Key.hash_input self.old)
-            E.key_of self.old (E.key_of entry) → ⊥) }
-        ensures buckets { bucket_count self.new ≡ bucket_count self.old }
-        ensures refused { refused_of self.new ≡ refused_of self.old }
-        ensures unique { IsUniqueBy E.Key.eq E.key_of self.new }
+        ensures { InsertsInBucket E.Key.eq E.key_of (key_hash H.BuildHasher H.Hasher.Hasher E.Key.hash_input self.old)
+            self.old bucket entry result self.new }
     {
         if self.buckets.is_full(bucket) && is_overflow_full(self.overflowing) {
             return Err(entry);
@@ -74,18 +69,7 @@ where
     /// it had.
     pub fn take_in(&mut self, place: Place) -> E
         requires { IsSpot self.old place }
-        ensures entry { slice_get (entries self.old) (index_of_spot self.old place) ≡ Some result }
-        ensures follows { index_of_spot self.new place ≡ index_of_spot self.old place }
-        ensures list { place.slot ≤ length (list_of self.new place.bucket) }
-        ensures others { HoldsExactly self.old (remove (entries self.old) (index_of_spot self.old place)) self.new }
-        ensures noted { refused_of self.new ≡ refused_of self.old }
-        ensures listed { slice_get (list_of self.old place.bucket) place.slot ≡ Some result }
-        ensures gone { position (λ e. E.Key.eq (E.key_of result) (E.key_of e)) (entries self.new) ≡ None }
-        ensures short { IsBounded self.old → length (list_of self.new place.bucket) < 32 }
-        ensures lists { IsBounded self.old → HasList self.old place.bucket
-            (remove (list_of self.old place.bucket) place.slot) self.new }
-        ensures exact { IsTakenFrom self.old place self.new }
-        ensures unique { IsUniqueBy E.Key.eq E.key_of self.new }
+        ensures { TakesAtSpot E.Key.eq E.key_of self.old place result self.new }
     {
         let in_overflow = self.buckets.is_overflow(place.bucket, place.slot);
         let entry = self.buckets.remove_at(place.bucket, place.slot);

@@ -3,6 +3,7 @@ ghost use Rattle.std.specs.Prelude.{◌≡◌, map};
 ghost use Rattle.std.specs.List.{flat_map, IsDistinct};
 ghost use Rattle.scc_array.specs.Shelf.{shelf_entries};
 ghost use Rattle.scc_contents.specs.Contents.{lists_of, settings_of, refused_of, spilled_of, waiting_of, owed_of, key_hash};
+ghost use Rattle.scc_buckets.specs.Making.{ExchangesBuckets};
 ghost use Rattle.scc_buckets.specs.Tables.{IsBuckets};
 
 use super::Buckets;
@@ -25,16 +26,8 @@ where
         requires table { IsBuckets (λ e. key_hash H.BuildHasher H.Hasher.Hasher E.Key.hash_input self.old
             (E.key_of e)) (settings_of self.old).skipped buckets count overflowing }
         requires unique { IsDistinct E.Key.eq (map E.key_of (flat_map shelf_entries buckets)) }
-        ensures lists { lists_of self.new ≡ map shelf_entries buckets }
-        ensures settings { settings_of self.new ≡ settings_of self.old }
-        ensures noted { refused_of self.new ≡ refused_of self.old }
-        ensures spilled { spilled_of self.new ≡ overflowing }
-        ensures waiting { waiting_of self.new ≡ waiting_of self.old }
-        ensures owed { owed_of self.new ≡ owed_of self.old }
-        ensures were { lists_of self.old ≡ map shelf_entries result.0 }
-        ensures table { IsBuckets (λ e. key_hash H.BuildHasher H.Hasher.Hasher E.Key.hash_input self.old (E.key_of e))
-            (settings_of self.old).skipped result.0 result.1 result.2 }
-        ensures overflowing { result.2 ≡ spilled_of self.old }
+        ensures { ExchangesBuckets (λ e. key_hash H.BuildHasher H.Hasher.Hasher E.Key.hash_input self.old (E.key_of e))
+            self.old buckets overflowing result self.new }
     {
         let own_count = self.length;
         let own_overflowing = self.overflowing;

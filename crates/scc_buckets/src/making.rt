@@ -4,6 +4,7 @@ ghost use Rattle.scc_buckets.specs.Bounded.{IsListed, IsResized};
 ghost use Rattle.scc_contents.specs.Contents.{entries, bucket_count, settings_of, refused_of, waiting_of, minimum_of, key_hash};
 ghost use Rattle.scc_contents.specs.Sizes.{IsArray, IsArraySize};
 ghost use Rattle.scc_contents.specs.Steps.{IsUnchanged};
+ghost use Rattle.scc_buckets.specs.Making.{AreNewBuckets, MakesBuckets, MakesFirstArray};
 ghost use Rattle.scc_buckets.specs.Tables.{AllEmpty};
 
 use super::Buckets;
@@ -22,13 +23,8 @@ where
     /// waits.
     pub fn new(alloc: Global, skipped: u32, hasher: H) -> Buckets<E, H>
         requires { skipped ≤ 4 }
-        ensures entries { entries result ≡ [] }
-        ensures listed { IsListed (λ e. key_hash H.BuildHasher H.Hasher.Hasher E.Key.hash_input result (E.key_of e))
-            result }
-        ensures buckets { bucket_count result ≡ 0 }
-        ensures settings { settings_of result ≡ record { hasher = hasher; skipped = skipped; asked = 0; reserved = 0 } }
-        ensures noted { refused_of result ≡ (false, false) }
-        ensures waiting { waiting_of result ≡ [] }
+        ensures { AreNewBuckets E.key_of (key_hash H.BuildHasher H.Hasher.Hasher E.Key.hash_input)
+            hasher skipped result }
     {
         Buckets {
             buckets: Array::none(alloc),
@@ -54,16 +50,8 @@ where
     where
         H: Drop,
         requires { skipped ≤ 4 }
-        ensures entries { IfOk result (λ t. entries t ≡ []) }
-        ensures listed { IfOk result (λ t. IsListed
-            (λ e. key_hash H.BuildHasher H.Hasher.Hasher E.Key.hash_input t (E.key_of e)) t) }
-        ensures none { IfOk result (λ t. slots ≡ 0 → bucket_count t ≡ 0) }
-        ensures size { IfOk result (λ t. 0 < slots → IsArraySize slots (32 * bucket_count t)) }
-        ensures settings { IfOk result (λ t. settings_of t
-            ≡ record { hasher = hasher; skipped = skipped; asked = 32 * bucket_count t; reserved = 0 }) }
-        ensures succeeds { slots ≡ 0 → IsOk result }
-        ensures noted { IfOk result (λ t. refused_of t ≡ (false, false)) }
-        ensures waiting { IfOk result (λ t. waiting_of t ≡ []) }
+        ensures { MakesBuckets E.key_of (key_hash H.BuildHasher H.Hasher.Hasher E.Key.hash_input)
+            hasher skipped slots result }
     {
         if slots == 0 {
             return Ok(Buckets::new(alloc, skipped, hasher));
@@ -88,16 +76,8 @@ where
     /// Makes the first array, of the size of the minimum.
     pub fn make_array(&mut self) -> Result<(), AllocError>
         requires { bucket_count self.old ≡ 0 }
-        ensures entries { entries self.old ≡ [] }
-        ensures still { entries self.new ≡ [] }
-        ensures size { OnOk result (IsArraySize (minimum_of self.old) (32 * bucket_count self.new)) }
-        ensures array { OnOk result (IsArray (bucket_count self.new)) }
-        ensures settings { settings_of self.new ≡ settings_of self.old }
-        ensures noted { refused_of self.new ≡ refused_of self.old }
-        ensures refused { OnErr result (IsUnchanged self.old self.new) }
-        ensures resized { OnOk result (IsResized (λ e. key_hash H.BuildHasher H.Hasher.Hasher E.Key.hash_input
-            self.old (E.key_of e)) self.old self.new) }
-        ensures same { OnErr result (self.new ≡ self.old) }
+        ensures { MakesFirstArray (λ e. key_hash H.BuildHasher H.Hasher.Hasher E.Key.hash_input self.old (E.key_of e))
+            self.old result self.new }
     {
         let count = buckets_for(self.asked + self.reserved);
         let alloc = self.buckets.allocator();

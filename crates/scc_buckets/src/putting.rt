@@ -4,6 +4,7 @@ ghost use Rattle.std.specs.List.{position};
 ghost use Rattle.scc_array.specs.ShelfWrites.{put_whole};
 ghost use Rattle.scc_contents.specs.Contents.{entries, bucket_count, settings_of, refused_of, key_hash, IsUniqueBy};
 ghost use Rattle.scc_buckets.specs.OneList.{HasSameLists, IsPutIn};
+ghost use Rattle.scc_buckets.specs.Insertions.{InsertsMadeInBucket, InsertsMadeInFirstArray};
 ghost use Rattle.scc_buckets.specs.Places.{IsSpot, IsInsertedAtSpot, index_of_spot};
 ghost use Rattle.scc_contents.specs.Routing.{bucket_number};
 ghost use Rattle.scc_contents.specs.Steps.{FirstArrayWhenDue, Grows, IsUnchanged};
@@ -51,12 +52,7 @@ where
         requires hashed { hash ≡ key_hash H.BuildHasher H.Hasher.Hasher E.Key.hash_input self.old
             (E.key_of (E.made_of parts)) }
         requires absent { position (λ e. E.Key.eq (E.key_of (E.made_of parts)) (E.key_of e)) (entries self.old) ≡ None }
-        ensures ok { IfOk result (IsInsertedAtSpot self.old (E.made_of parts) self.new) }
-        ensures err { IfErr result (λ p. (p ≡ parts) × IsUnchanged self.old self.new) }
-        ensures growth { Grows self.old self.new }
-        ensures first { OnOk result (FirstArrayWhenDue self.old self.new) }
-        ensures noted { refused_of self.new ≡ refused_of self.old }
-        ensures unique { IsUniqueBy E.Key.eq E.key_of self.new }
+        ensures { InsertsMadeInFirstArray E.Key.eq E.key_of self.old (E.made_of parts) parts result self.new }
     {
         match self.make_array() {
             Ok(()) => {}
@@ -87,13 +83,7 @@ where
         requires hashed { hash ≡ key_hash H.BuildHasher H.Hasher.Hasher E.Key.hash_input self.old
             (E.key_of (E.made_of parts)) }
         requires absent { position (λ e. E.Key.eq (E.key_of (E.made_of parts)) (E.key_of e)) (entries self.old) ≡ None }
-        ensures ok { IfOk result (IsInsertedAtSpot self.old (E.made_of parts) self.new) }
-        ensures exact { IfOk result (IsPutIn self.old bucket (E.made_of parts) self.new) }
-        ensures err { IfErr result (λ p. (p ≡ parts) × IsUnchanged self.old self.new) }
-        ensures stays { OnErr result (HasSameLists self.old self.new) }
-        ensures buckets { bucket_count self.new ≡ bucket_count self.old }
-        ensures refused { refused_of self.new ≡ refused_of self.old }
-        ensures unique { IsUniqueBy E.Key.eq E.key_of self.new }
+        ensures { InsertsMadeInBucket E.Key.eq E.key_of self.old bucket (E.made_of parts) parts result self.new }
     {
         if self.buckets.is_full(bucket) && is_overflow_full(self.overflowing) {
             return Err(parts);

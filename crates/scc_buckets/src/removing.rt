@@ -4,6 +4,7 @@ ghost use Rattle.std.specs.List.Sorted.{IsPermutation};
 ghost use Rattle.scc_contents.specs.Contents.{entries, bucket_count, settings_of, refused_of, minimum_of, IsUniqueBy};
 ghost use Rattle.scc_buckets.specs.OneList.{IsSwappedOutOf};
 ghost use Rattle.scc_buckets.specs.Places.{IsSpot, index_of_spot};
+ghost use Rattle.scc_buckets.specs.Removals.{SwapsOutAtSpot};
 ghost use Rattle.scc_contents.specs.Sizes.{IsSmaller};
 ghost use Rattle.scc_contents.specs.Steps.{Holds, ShrinksWhenDue};
 
@@ -22,13 +23,7 @@ where
     #[inline(always)]
     pub fn swap_take_at(&mut self, place: Place) -> E
         requires { IsSpot self.old place }
-        ensures entry { slice_get (entries self.old) (index_of_spot self.old place) ≡ Some result }
-        ensures others { IsPermutation (remove (entries self.old) (index_of_spot self.old place)) (entries self.new) }
-        ensures exact { IsSwappedOutOf self.old place self.new }
-        ensures buckets { bucket_count self.new ≡ bucket_count self.old }
-        ensures noted { refused_of self.new ≡ refused_of self.old }
-        ensures settings { settings_of self.new ≡ settings_of self.old }
-        ensures unique { IsUniqueBy E.Key.eq E.key_of self.new }
+        ensures { SwapsOutAtSpot E.Key.eq E.key_of self.old place result self.new }
     {
         let in_overflow = self.buckets.is_overflow(place.bucket, place.slot);
         self.length -= 1;

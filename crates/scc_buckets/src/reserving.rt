@@ -1,6 +1,7 @@
 //! How many slots are kept at least, and the note of a resize that was refused.
 ghost use Rattle.std.specs.Prelude.{◌≡◌, ◌≢◌, ◌≤◌, ◌<◌, ◌+◌, ◌-◌, ◌*◌, ◌^◌, ◌↔◌, IsTrue, false, true};
 ghost use Rattle.scc_contents.specs.Contents.{entries, bucket_count, settings_of, refused_of, minimum_of, pending_of, lists_of, spilled_of, IsUniqueBy};
+ghost use Rattle.scc_buckets.specs.Making.{SetsReservedSlots};
 ghost use Rattle.scc_contents.specs.Sizes.{IsArraySize};
 ghost use Rattle.scc_contents.specs.Steps.{IsUnchanged, ReachesMinimumWhenDue, Releases, Reserves, Resizes, ShrinksWhenDue};
 
@@ -69,12 +70,7 @@ where
     /// Sets the number of reserved slots alone.
     pub fn set_reserved(&mut self, reserved: usize)
         requires { (settings_of self.old).asked + reserved ≤ 2 ^ 63 }
-        ensures entries { entries self.new ≡ entries self.old }
-        ensures lists { lists_of self.new ≡ lists_of self.old }
-        ensures spilled { spilled_of self.new ≡ spilled_of self.old }
-        ensures buckets { bucket_count self.new ≡ bucket_count self.old }
-        ensures settings { settings_of self.new ≡ record (settings_of self.old) { reserved = reserved } }
-        ensures noted { refused_of self.new ≡ refused_of self.old }
+        ensures { SetsReservedSlots reserved self.old self.new }
     {
         self.reserved = reserved;
     }

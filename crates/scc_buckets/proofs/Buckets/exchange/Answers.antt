@@ -19,31 +19,18 @@ invariant_of-self g c =
       unique = subst (λ (bs : List (Shelf g.row.E.Denot)). IsDistinct g.E.Key.PartialEq.eq (map g.E.Keyed.key_of (flat_map shelf_entries bs))) now c.requires.unique;
     }
 
-pub returns-clause-lists : goal.returns-clause-lists
-returns-clause-lists g c = lists-view _ _ _ refl ∙ ap (map shelf_entries) c.replace-own.ensures.after
-
-pub returns-clause-settings : goal.returns-clause-settings
-returns-clause-settings g c = settings-view _ _ _ refl ∙ sym (settings-view c.self.inside.buckets _ c.args.self.now c.self.view_is)
-
-pub returns-clause-noted : goal.returns-clause-noted
-returns-clause-noted g c = refused-view _ _ _ refl ∙ sym (refused-view c.self.inside.buckets _ c.args.self.now c.self.view_is)
-
-pub returns-clause-spilled : goal.returns-clause-spilled
-returns-clause-spilled g c = spilled-view _ _ _ refl ∙ ap spilled_in c.replace-own.ensures.after ∙ sym c.requires.table.spilled
-
-pub returns-clause-waiting : goal.returns-clause-waiting
-returns-clause-waiting g c = waiting-view _ _ _ refl ∙ sym (waiting-view c.self.inside.buckets _ c.args.self.now c.self.view_is)
-
-pub returns-clause-owed : goal.returns-clause-owed
-returns-clause-owed g c = owed-view _ _ _ refl ∙ sym (owed-view c.self.inside.buckets _ c.args.self.now c.self.view_is)
-
-pub returns-clause-were : goal.returns-clause-were
-returns-clause-were g c = lists-view c.self.inside.buckets _ c.args.self.now c.self.view_is ∙ ap (map shelf_entries) (sym c.replace-own.ensures.value)
-
-pub returns-clause-overflowing : goal.returns-clause-overflowing
-returns-clause-overflowing g c = c.self.invariant.table.spilled ∙ sym (spilled-view c.self.inside.buckets _ c.args.self.now c.self.view_is)
-
-pub returns-clause-table : goal.returns-clause-table
-returns-clause-table g c =
-    let at = settings-view c.self.inside.buckets _ c.args.self.now c.self.view_is in
-    rw (at, c.replace-own.ensures.value) c.self.invariant.table
+pub returns : goal.returns
+returns g c =
+    record {
+      lists = (lists-view _ _ _ refl ∙ ap (map shelf_entries) c.replace-own.ensures.after);
+      settings = (settings-view _ _ _ refl ∙ sym (settings-view c.self.inside.buckets _ c.args.self.now c.self.view_is));
+      noted = (refused-view _ _ _ refl ∙ sym (refused-view c.self.inside.buckets _ c.args.self.now c.self.view_is));
+      spilled = (spilled-view _ _ _ refl ∙ ap spilled_in c.replace-own.ensures.after ∙ sym c.requires.table.spilled);
+      waiting = (waiting-view _ _ _ refl ∙ sym (waiting-view c.self.inside.buckets _ c.args.self.now c.self.view_is));
+      owed = (owed-view _ _ _ refl ∙ sym (owed-view c.self.inside.buckets _ c.args.self.now c.self.view_is));
+      were = (lists-view c.self.inside.buckets _ c.args.self.now c.self.view_is ∙ ap (map shelf_entries) (sym c.replace-own.ensures.value));
+      table = (
+          let at = settings-view c.self.inside.buckets _ c.args.self.now c.self.view_is in
+          rw (at, c.replace-own.ensures.value) c.self.invariant.table);
+      overflowing = (c.self.invariant.table.spilled ∙ sym (spilled-view c.self.inside.buckets _ c.args.self.now c.self.view_is));
+    }

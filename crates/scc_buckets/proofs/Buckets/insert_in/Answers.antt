@@ -13,24 +13,6 @@ use Rattle.scc_buckets.proofs.Arrays.{shelf-at, put-is, put-own}
 use Rattle.scc_buckets.proofs.Buckets.insert_in.Goals as goal
 use Rattle.scc_buckets.proofs.Buckets.insert_in.Goals.{else-is_full-via-then-is_full+else-is_overflow_full, else-is_full-via-else-is_full}
 
-pub returns-then-is_overflow_full-clause-full : goal.returns-then-is_overflow_full-clause-full
-returns-then-is_overflow_full-clause-full g c =
-    let t = c.self.inside in
-    let bs = t.buckets in
-    let i = c.args.bucket in
-    let count = count-view bs _ c.args.self.now c.self.view_is in
-    let l : i < length bs = rw count at c.requires.within in
-    let hashed = rw (settings-view bs _ c.args.self.now c.self.view_is) at c.requires.hashed in
-    let routed : i ≡ bucket_number t.skipped (length bs) (hash_of g.H.BuildHasher g.H.Hasher.Hasher t.hasher (g.E.Key.Hash.hash_input (g.E.Keyed.key_of c.args.entry))) =
-    let at = rw (settings-view bs _ c.args.self.now c.self.view_is, count) at c.requires.routed in at ∙ ap (bucket_number t.skipped (length bs)) hashed in
-    let held = count-in_bucket (λ e. hash_of g.H.BuildHasher g.H.Hasher.Hasher c.self.inside.hasher (g.E.Key.Hash.hash_input (g.E.Keyed.key_of e))) t.skipped t.length t.overflowing i bs (shelf_of c.self.inside.buckets c.args.bucket) c.self.invariant.table l (shelf-at c.self.inside.buckets c.args.bucket l) in
-    let full : 32 ≤ length (shelf_of c.self.inside.buckets c.args.bucket).slots = search rules in
-    rw (entries-view bs _ c.args.self.now c.self.view_is, count, settings-view bs _ c.args.self.now c.self.view_is, ← routed, held) (λ room. absurd (omega (arith, room.1, length-append (shelf_of c.self.inside.buckets c.args.bucket).slots (shelf_of c.self.inside.buckets c.args.bucket).overflow)))
-
-pub returns-then-is_overflow_full-clause-unique : goal.returns-then-is_overflow_full-clause-unique
-returns-then-is_overflow_full-clause-unique g c =
-    rw (entries-view c.self.inside.buckets _ c.args.self.now c.self.view_is) c.self.invariant.unique
-
 pub is_full-requires : goal.is_full-requires
 is_full-requires g c =
     let l = rw (count-view c.self.inside.buckets _ c.args.self.now c.self.view_is) at c.requires.within in
@@ -109,8 +91,32 @@ invariant_of-self-in-Err g c =
       unique = rw (refused-entries (λ e. hash_of g.H.BuildHasher g.H.Hasher.Hasher c.self.inside.hasher (g.E.Key.Hash.hash_input (g.E.Keyed.key_of e))) t.skipped t.length t.overflowing i bs c.self.invariant.table _ c.args.self.now c.self.view_is b l (shelf-at c.self.inside.buckets c.args.bucket l) (shelf_of c.insert.new.self c.args.bucket) (put-is c.self.inside.buckets c.args.bucket l c.insert.new.self _ c.in-Err.ensures.err.1)) c.self.invariant.unique;
     }
 
-pub returns-in-Ok-clause-ok : goal.returns-in-Ok-clause-ok
-returns-in-Ok-clause-ok g c =
+pub returns-then-is_overflow_full : goal.returns-then-is_overflow_full
+returns-then-is_overflow_full g c =
+    record {
+      ok = (search rules);
+      exact = (search rules);
+      err = (search rules);
+      stays = (search rules);
+      full = (
+          let t = c.self.inside in
+          let bs = t.buckets in
+          let i = c.args.bucket in
+          let count = count-view bs _ c.args.self.now c.self.view_is in
+          let l : i < length bs = rw count at c.requires.within in
+          let hashed = rw (settings-view bs _ c.args.self.now c.self.view_is) at c.requires.hashed in
+          let routed : i ≡ bucket_number t.skipped (length bs) (hash_of g.H.BuildHasher g.H.Hasher.Hasher t.hasher (g.E.Key.Hash.hash_input (g.E.Keyed.key_of c.args.entry))) =
+          let at = rw (settings-view bs _ c.args.self.now c.self.view_is, count) at c.requires.routed in at ∙ ap (bucket_number t.skipped (length bs)) hashed in
+          let held = count-in_bucket (λ e. hash_of g.H.BuildHasher g.H.Hasher.Hasher c.self.inside.hasher (g.E.Key.Hash.hash_input (g.E.Keyed.key_of e))) t.skipped t.length t.overflowing i bs (shelf_of c.self.inside.buckets c.args.bucket) c.self.invariant.table l (shelf-at c.self.inside.buckets c.args.bucket l) in
+          let full : 32 ≤ length (shelf_of c.self.inside.buckets c.args.bucket).slots = search rules in
+          rw (entries-view bs _ c.args.self.now c.self.view_is, count, settings-view bs _ c.args.self.now c.self.view_is, ← routed, held) (λ room. absurd (omega (arith, room.1, length-append (shelf_of c.self.inside.buckets c.args.bucket).slots (shelf_of c.self.inside.buckets c.args.bucket).overflow))));
+      buckets = (search rules);
+      refused = (search rules);
+      unique = (rw (entries-view c.self.inside.buckets _ c.args.self.now c.self.view_is) c.self.invariant.unique);
+    }
+
+pub returns-in-Ok : goal.returns-in-Ok
+returns-in-Ok g c =
     let t = c.self.inside in
     let bs = t.buckets in
     let i = c.args.bucket in
@@ -118,13 +124,27 @@ returns-in-Ok-clause-ok g c =
     let l : i < length bs = rw count at c.requires.within in
     let b = (shelf_of c.self.inside.buckets c.args.bucket) in
     let hashed = rw (settings-view bs _ c.args.self.now c.self.view_is) at c.requires.hashed in
-    let routed : i ≡ bucket_number t.skipped (length bs) (hash_of g.H.BuildHasher g.H.Hasher.Hasher t.hasher (g.E.Key.Hash.hash_input (g.E.Keyed.key_of c.args.entry))) =
-    let at = rw (settings-view bs _ c.args.self.now c.self.view_is, count) at c.requires.routed in at ∙ ap (bucket_number t.skipped (length bs)) hashed in
-    let stored = (put-is c.self.inside.buckets c.args.bucket l c.insert.new.self _ c.in-Ok.ensures.ok.1) ∙ ap (λ x. let r : Shelf g.row.E.Denot = record (with_entry b c.args.entry x) { room = (shelf_of c.insert.new.self c.args.bucket).room } in r) (c.tag.ensures ∙ ap tag_of hashed) in
-    rw (put-own c.self.inside.buckets c.args.bucket l c.insert.new.self _ c.in-Ok.ensures.ok.1) (inserted-at (λ e. hash_of g.H.BuildHasher g.H.Hasher.Hasher c.self.inside.hasher (g.E.Key.Hash.hash_input (g.E.Keyed.key_of e))) t.skipped t.length t.overflowing i bs c.self.invariant.table _ c.args.self.now c.self.view_is b l (shelf-at c.self.inside.buckets c.args.bucket l) (shelf_of c.insert.new.self c.args.bucket) c.args.entry c.in-Ok.slot stored c.in-Ok.ensures.ok.0)
+    record {
+      ok = (
+          let routed : i ≡ bucket_number t.skipped (length bs) (hash_of g.H.BuildHasher g.H.Hasher.Hasher t.hasher (g.E.Key.Hash.hash_input (g.E.Keyed.key_of c.args.entry))) =
+          let at = rw (settings-view bs _ c.args.self.now c.self.view_is, count) at c.requires.routed in at ∙ ap (bucket_number t.skipped (length bs)) hashed in
+          let stored = (put-is c.self.inside.buckets c.args.bucket l c.insert.new.self _ c.in-Ok.ensures.ok.1) ∙ ap (λ x. let r : Shelf g.row.E.Denot = record (with_entry b c.args.entry x) { room = (shelf_of c.insert.new.self c.args.bucket).room } in r) (c.tag.ensures ∙ ap tag_of hashed) in
+          rw (put-own c.self.inside.buckets c.args.bucket l c.insert.new.self _ c.in-Ok.ensures.ok.1) (inserted-at (λ e. hash_of g.H.BuildHasher g.H.Hasher.Hasher c.self.inside.hasher (g.E.Key.Hash.hash_input (g.E.Keyed.key_of e))) t.skipped t.length t.overflowing i bs c.self.invariant.table _ c.args.self.now c.self.view_is b l (shelf-at c.self.inside.buckets c.args.bucket l) (shelf_of c.insert.new.self c.args.bucket) c.args.entry c.in-Ok.slot stored c.in-Ok.ensures.ok.0));
+      exact = (rw (put-own c.self.inside.buckets c.args.bucket l c.insert.new.self _ c.in-Ok.ensures.ok.1) (put-in-list bs _ c.args.self.now c.self.view_is i b l (shelf-at c.self.inside.buckets c.args.bucket l) (shelf_of c.insert.new.self c.args.bucket) c.args.entry _ c.in-Ok.slot (c.self.invariant.table.own i b l (shelf-at c.self.inside.buckets c.args.bucket l)).within (put-is c.self.inside.buckets c.args.bucket l c.insert.new.self _ c.in-Ok.ensures.ok.1) c.in-Ok.ensures.ok.0));
+      err = (search rules);
+      stays = (search rules);
+      full = (search rules);
+      buckets = (count-view c.insert.new.self _ _ refl ∙ ap length c.in-Ok.ensures.ok.1 ∙ length-set bs c.args.bucket _ ∙ sym (count-view bs _ c.args.self.now c.self.view_is));
+      refused = (refused-view _ _ _ refl ∙ sym (refused-view c.self.inside.buckets _ c.args.self.now c.self.view_is));
+      unique = (
+          let routed : i ≡ bucket_number t.skipped (length bs) (hash_of g.H.BuildHasher g.H.Hasher.Hasher t.hasher (g.E.Key.Hash.hash_input (g.E.Keyed.key_of c.args.entry))) =
+          let at = rw (settings-view bs _ c.args.self.now c.self.view_is, count) at c.requires.routed in at ∙ ap (bucket_number t.skipped (length bs)) hashed in
+          let stored = (put-is c.self.inside.buckets c.args.bucket l c.insert.new.self _ c.in-Ok.ensures.ok.1) ∙ ap (λ x. let r : Shelf g.row.E.Denot = record (with_entry b c.args.entry x) { room = (shelf_of c.insert.new.self c.args.bucket).room } in r) (c.tag.ensures ∙ ap tag_of hashed) in
+          rw (put-own c.self.inside.buckets c.args.bucket l c.insert.new.self _ c.in-Ok.ensures.ok.1) (unique-inserted g.met.E.Key.Eq.laws g.E.Keyed.key_of c.args.entry (entries c.args.self.now) _ (rw (entries-view bs _ c.args.self.now c.self.view_is) c.self.invariant.unique) c.requires.absent (inserted-holds (λ e. hash_of g.H.BuildHasher g.H.Hasher.Hasher c.self.inside.hasher (g.E.Key.Hash.hash_input (g.E.Keyed.key_of e))) t.skipped t.length t.overflowing i bs c.self.invariant.table _ c.args.self.now c.self.view_is b l (shelf-at c.self.inside.buckets c.args.bucket l) (shelf_of c.insert.new.self c.args.bucket) c.args.entry c.in-Ok.slot stored c.in-Ok.ensures.ok.0).same));
+    }
 
-pub returns-in-Ok-clause-unique : goal.returns-in-Ok-clause-unique
-returns-in-Ok-clause-unique g c =
+pub returns-in-Err : goal.returns-in-Err
+returns-in-Err g c =
     let t = c.self.inside in
     let bs = t.buckets in
     let i = c.args.bucket in
@@ -132,78 +152,23 @@ returns-in-Ok-clause-unique g c =
     let l : i < length bs = rw count at c.requires.within in
     let b = (shelf_of c.self.inside.buckets c.args.bucket) in
     let hashed = rw (settings-view bs _ c.args.self.now c.self.view_is) at c.requires.hashed in
-    let routed : i ≡ bucket_number t.skipped (length bs) (hash_of g.H.BuildHasher g.H.Hasher.Hasher t.hasher (g.E.Key.Hash.hash_input (g.E.Keyed.key_of c.args.entry))) =
-    let at = rw (settings-view bs _ c.args.self.now c.self.view_is, count) at c.requires.routed in at ∙ ap (bucket_number t.skipped (length bs)) hashed in
-    let stored = (put-is c.self.inside.buckets c.args.bucket l c.insert.new.self _ c.in-Ok.ensures.ok.1) ∙ ap (λ x. let r : Shelf g.row.E.Denot = record (with_entry b c.args.entry x) { room = (shelf_of c.insert.new.self c.args.bucket).room } in r) (c.tag.ensures ∙ ap tag_of hashed) in
-    rw (put-own c.self.inside.buckets c.args.bucket l c.insert.new.self _ c.in-Ok.ensures.ok.1) (unique-inserted g.met.E.Key.Eq.laws g.E.Keyed.key_of c.args.entry (entries c.args.self.now) _ (rw (entries-view bs _ c.args.self.now c.self.view_is) c.self.invariant.unique) c.requires.absent (inserted-holds (λ e. hash_of g.H.BuildHasher g.H.Hasher.Hasher c.self.inside.hasher (g.E.Key.Hash.hash_input (g.E.Keyed.key_of e))) t.skipped t.length t.overflowing i bs c.self.invariant.table _ c.args.self.now c.self.view_is b l (shelf-at c.self.inside.buckets c.args.bucket l) (shelf_of c.insert.new.self c.args.bucket) c.args.entry c.in-Ok.slot stored c.in-Ok.ensures.ok.0).same)
-
-pub returns-in-Err-clause-err : goal.returns-in-Err-clause-err
-returns-in-Err-clause-err g c =
-    let t = c.self.inside in
-    let bs = t.buckets in
-    let i = c.args.bucket in
-    let count = count-view bs _ c.args.self.now c.self.view_is in
-    let l : i < length bs = rw count at c.requires.within in
-    let b = (shelf_of c.self.inside.buckets c.args.bucket) in
-    let hashed = rw (settings-view bs _ c.args.self.now c.self.view_is) at c.requires.hashed in
-    let routed : i ≡ bucket_number t.skipped (length bs) (hash_of g.H.BuildHasher g.H.Hasher.Hasher t.hasher (g.E.Key.Hash.hash_input (g.E.Keyed.key_of c.args.entry))) =
-    let at = rw (settings-view bs _ c.args.self.now c.self.view_is, count) at c.requires.routed in at ∙ ap (bucket_number t.skipped (length bs)) hashed in
-    rw (put-own c.self.inside.buckets c.args.bucket l c.insert.new.self _ c.in-Err.ensures.err.1) ((c.in-Err.ensures.err.0, refused-unchanged (λ e. hash_of g.H.BuildHasher g.H.Hasher.Hasher c.self.inside.hasher (g.E.Key.Hash.hash_input (g.E.Keyed.key_of e))) t.skipped t.length t.overflowing i bs c.self.invariant.table _ c.args.self.now c.self.view_is b l (shelf-at c.self.inside.buckets c.args.bucket l) (shelf_of c.insert.new.self c.args.bucket) (put-is c.self.inside.buckets c.args.bucket l c.insert.new.self _ c.in-Err.ensures.err.1)))
-
-pub returns-in-Err-clause-full : goal.returns-in-Err-clause-full
-returns-in-Err-clause-full g c =
-    let t = c.self.inside in
-    let bs = t.buckets in
-    let i = c.args.bucket in
-    let count = count-view bs _ c.args.self.now c.self.view_is in
-    let l : i < length bs = rw count at c.requires.within in
-    let b = (shelf_of c.self.inside.buckets c.args.bucket) in
-    let hashed = rw (settings-view bs _ c.args.self.now c.self.view_is) at c.requires.hashed in
-    let routed : i ≡ bucket_number t.skipped (length bs) (hash_of g.H.BuildHasher g.H.Hasher.Hasher t.hasher (g.E.Key.Hash.hash_input (g.E.Keyed.key_of c.args.entry))) =
-    let at = rw (settings-view bs _ c.args.self.now c.self.view_is, count) at c.requires.routed in at ∙ ap (bucket_number t.skipped (length bs)) hashed in
-    let held = count-in_bucket (λ e. hash_of g.H.BuildHasher g.H.Hasher.Hasher c.self.inside.hasher (g.E.Key.Hash.hash_input (g.E.Keyed.key_of e))) t.skipped t.length t.overflowing i bs b c.self.invariant.table l (shelf-at c.self.inside.buckets c.args.bucket l) in
-    rw (entries-view bs _ c.args.self.now c.self.view_is, count, settings-view bs _ c.args.self.now c.self.view_is, ← routed, held) (λ room. absurd (omega (arith, room.1, c.in-Err.ensures.err.2, length-append b.slots b.overflow)))
-
-pub returns-in-Err-clause-unique : goal.returns-in-Err-clause-unique
-returns-in-Err-clause-unique g c =
-    let t = c.self.inside in
-    let bs = t.buckets in
-    let i = c.args.bucket in
-    let count = count-view bs _ c.args.self.now c.self.view_is in
-    let l : i < length bs = rw count at c.requires.within in
-    let b = (shelf_of c.self.inside.buckets c.args.bucket) in
-    let hashed = rw (settings-view bs _ c.args.self.now c.self.view_is) at c.requires.hashed in
-    let routed : i ≡ bucket_number t.skipped (length bs) (hash_of g.H.BuildHasher g.H.Hasher.Hasher t.hasher (g.E.Key.Hash.hash_input (g.E.Keyed.key_of c.args.entry))) =
-    let at = rw (settings-view bs _ c.args.self.now c.self.view_is, count) at c.requires.routed in at ∙ ap (bucket_number t.skipped (length bs)) hashed in
-    rw (put-own c.self.inside.buckets c.args.bucket l c.insert.new.self _ c.in-Err.ensures.err.1) (rw ((refused-unchanged (λ e. hash_of g.H.BuildHasher g.H.Hasher.Hasher c.self.inside.hasher (g.E.Key.Hash.hash_input (g.E.Keyed.key_of e))) t.skipped t.length t.overflowing i bs c.self.invariant.table _ c.args.self.now c.self.view_is b l (shelf-at c.self.inside.buckets c.args.bucket l) (shelf_of c.insert.new.self c.args.bucket) (put-is c.self.inside.buckets c.args.bucket l c.insert.new.self _ c.in-Err.ensures.err.1)).exact, entries-view bs _ c.args.self.now c.self.view_is) c.self.invariant.unique)
-
-pub returns-in-Ok-clause-buckets : goal.returns-in-Ok-clause-buckets
-returns-in-Ok-clause-buckets g c =
-    let bs = c.self.inside.buckets in
-    count-view c.insert.new.self _ _ refl ∙ ap length c.in-Ok.ensures.ok.1 ∙ length-set bs c.args.bucket _ ∙ sym (count-view bs _ c.args.self.now c.self.view_is)
-
-pub returns-in-Err-clause-buckets : goal.returns-in-Err-clause-buckets
-returns-in-Err-clause-buckets g c =
-    let bs = c.self.inside.buckets in
-    count-view c.insert.new.self _ _ refl ∙ ap length c.in-Err.ensures.err.1 ∙ length-set bs c.args.bucket _ ∙ sym (count-view bs _ c.args.self.now c.self.view_is)
-
-pub returns-in-Ok-clause-refused : goal.returns-in-Ok-clause-refused
-returns-in-Ok-clause-refused g c = refused-view _ _ _ refl ∙ sym (refused-view c.self.inside.buckets _ c.args.self.now c.self.view_is)
-
-pub returns-in-Err-clause-refused : goal.returns-in-Err-clause-refused
-returns-in-Err-clause-refused g c = refused-view _ _ _ refl ∙ sym (refused-view c.self.inside.buckets _ c.args.self.now c.self.view_is)
-
-pub returns-in-Ok-clause-exact : goal.returns-in-Ok-clause-exact
-returns-in-Ok-clause-exact g c =
-    let t = c.self.inside in
-    let bs = t.buckets in
-    let i = c.args.bucket in
-    let l : i < length bs = rw (count-view bs _ c.args.self.now c.self.view_is) at c.requires.within in
-    let b = (shelf_of c.self.inside.buckets c.args.bucket) in
-    rw (put-own c.self.inside.buckets c.args.bucket l c.insert.new.self _ c.in-Ok.ensures.ok.1) (put-in-list bs _ c.args.self.now c.self.view_is i b l (shelf-at c.self.inside.buckets c.args.bucket l) (shelf_of c.insert.new.self c.args.bucket) c.args.entry _ c.in-Ok.slot (c.self.invariant.table.own i b l (shelf-at c.self.inside.buckets c.args.bucket l)).within (put-is c.self.inside.buckets c.args.bucket l c.insert.new.self _ c.in-Ok.ensures.ok.1) c.in-Ok.ensures.ok.0)
-
-pub returns-in-Err-clause-stays : goal.returns-in-Err-clause-stays
-returns-in-Err-clause-stays g c =
-    let bs = c.self.inside.buckets in
-    let l : c.args.bucket < length bs = rw (count-view bs _ c.args.self.now c.self.view_is) at c.requires.within in
-    rw (put-own c.self.inside.buckets c.args.bucket l c.insert.new.self _ c.in-Err.ensures.err.1) (same-in-lists bs _ c.args.self.now c.self.view_is c.args.bucket (shelf_of bs c.args.bucket) l (shelf-at bs c.args.bucket l) (shelf_of c.insert.new.self c.args.bucket) (put-is c.self.inside.buckets c.args.bucket l c.insert.new.self _ c.in-Err.ensures.err.1))
+    record {
+      ok = (search rules);
+      exact = (search rules);
+      err = (
+          let routed : i ≡ bucket_number t.skipped (length bs) (hash_of g.H.BuildHasher g.H.Hasher.Hasher t.hasher (g.E.Key.Hash.hash_input (g.E.Keyed.key_of c.args.entry))) =
+          let at = rw (settings-view bs _ c.args.self.now c.self.view_is, count) at c.requires.routed in at ∙ ap (bucket_number t.skipped (length bs)) hashed in
+          rw (put-own c.self.inside.buckets c.args.bucket l c.insert.new.self _ c.in-Err.ensures.err.1) ((c.in-Err.ensures.err.0, refused-unchanged (λ e. hash_of g.H.BuildHasher g.H.Hasher.Hasher c.self.inside.hasher (g.E.Key.Hash.hash_input (g.E.Keyed.key_of e))) t.skipped t.length t.overflowing i bs c.self.invariant.table _ c.args.self.now c.self.view_is b l (shelf-at c.self.inside.buckets c.args.bucket l) (shelf_of c.insert.new.self c.args.bucket) (put-is c.self.inside.buckets c.args.bucket l c.insert.new.self _ c.in-Err.ensures.err.1))));
+      stays = (rw (put-own c.self.inside.buckets c.args.bucket l c.insert.new.self _ c.in-Err.ensures.err.1) (same-in-lists bs _ c.args.self.now c.self.view_is c.args.bucket (shelf_of bs c.args.bucket) l (shelf-at bs c.args.bucket l) (shelf_of c.insert.new.self c.args.bucket) (put-is c.self.inside.buckets c.args.bucket l c.insert.new.self _ c.in-Err.ensures.err.1)));
+      full = (
+          let routed : i ≡ bucket_number t.skipped (length bs) (hash_of g.H.BuildHasher g.H.Hasher.Hasher t.hasher (g.E.Key.Hash.hash_input (g.E.Keyed.key_of c.args.entry))) =
+          let at = rw (settings-view bs _ c.args.self.now c.self.view_is, count) at c.requires.routed in at ∙ ap (bucket_number t.skipped (length bs)) hashed in
+          let held = count-in_bucket (λ e. hash_of g.H.BuildHasher g.H.Hasher.Hasher c.self.inside.hasher (g.E.Key.Hash.hash_input (g.E.Keyed.key_of e))) t.skipped t.length t.overflowing i bs b c.self.invariant.table l (shelf-at c.self.inside.buckets c.args.bucket l) in
+          rw (entries-view bs _ c.args.self.now c.self.view_is, count, settings-view bs _ c.args.self.now c.self.view_is, ← routed, held) (λ room. absurd (omega (arith, room.1, c.in-Err.ensures.err.2, length-append b.slots b.overflow))));
+      buckets = (count-view c.insert.new.self _ _ refl ∙ ap length c.in-Err.ensures.err.1 ∙ length-set bs c.args.bucket _ ∙ sym (count-view bs _ c.args.self.now c.self.view_is));
+      refused = (refused-view _ _ _ refl ∙ sym (refused-view c.self.inside.buckets _ c.args.self.now c.self.view_is));
+      unique = (
+          let routed : i ≡ bucket_number t.skipped (length bs) (hash_of g.H.BuildHasher g.H.Hasher.Hasher t.hasher (g.E.Key.Hash.hash_input (g.E.Keyed.key_of c.args.entry))) =
+          let at = rw (settings-view bs _ c.args.self.now c.self.view_is, count) at c.requires.routed in at ∙ ap (bucket_number t.skipped (length bs)) hashed in
+          rw (put-own c.self.inside.buckets c.args.bucket l c.insert.new.self _ c.in-Err.ensures.err.1) (rw ((refused-unchanged (λ e. hash_of g.H.BuildHasher g.H.Hasher.Hasher c.self.inside.hasher (g.E.Key.Hash.hash_input (g.E.Keyed.key_of e))) t.skipped t.length t.overflowing i bs c.self.invariant.table _ c.args.self.now c.self.view_is b l (shelf-at c.self.inside.buckets c.args.bucket l) (shelf_of c.insert.new.self c.args.bucket) (put-is c.self.inside.buckets c.args.bucket l c.insert.new.self _ c.in-Err.ensures.err.1)).exact, entries-view bs _ c.args.self.now c.self.view_is) c.self.invariant.unique));
+    }

@@ -1,6 +1,15 @@
+use Rattle.std.proofs.Common.{rules}
 use Rattle.std.specs.List.{IsDistinct}
 use Rattle.scc_buckets.proofs.Buckets.insert_made_first.Goals as goal
 
-pub returns-in-Err-clause-unique : goal.returns-in-Err-clause-unique
+pub returns-in-Err : goal.returns-in-Err
 unfolding IsDistinct
-returns-in-Err-clause-unique g c = rw c.make_array.ensures.still tt
+returns-in-Err g c =
+    record {
+      ok = (search rules);
+      err = (search rules);
+      growth = (search rules);
+      first = (search rules);
+      noted = (search rules);
+      unique = (rw c.make_array.ensures.still tt);
+    }

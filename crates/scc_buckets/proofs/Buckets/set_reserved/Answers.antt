@@ -11,21 +11,14 @@ invariant_of-self g c = record {
   unique = c.self.invariant.unique;
 }
 
-pub returns-clause-entries : goal.returns-clause-entries
-returns-clause-entries g c = entries-view c.self.inside.buckets _ _ refl ∙ sym (entries-view c.self.inside.buckets _ c.args.self.now c.self.view_is)
-
-pub returns-clause-buckets : goal.returns-clause-buckets
-returns-clause-buckets g c = count-view c.self.inside.buckets _ _ refl ∙ sym (count-view c.self.inside.buckets _ c.args.self.now c.self.view_is)
-
-pub returns-clause-settings : goal.returns-clause-settings
+pub returns : goal.returns
 unfolding settings_of
-returns-clause-settings g c = rw (settings-view c.self.inside.buckets _ c.args.self.now c.self.view_is)
-
-pub returns-clause-noted : goal.returns-clause-noted
-returns-clause-noted g c = refused-view _ _ _ refl ∙ sym (refused-view c.self.inside.buckets _ c.args.self.now c.self.view_is)
-
-pub returns-clause-lists : goal.returns-clause-lists
-returns-clause-lists g c = lists-view c.self.inside.buckets _ _ refl ∙ sym (lists-view c.self.inside.buckets _ c.args.self.now c.self.view_is)
-
-pub returns-clause-spilled : goal.returns-clause-spilled
-returns-clause-spilled g c = spilled-view c.self.inside.buckets _ _ refl ∙ sym (spilled-view c.self.inside.buckets _ c.args.self.now c.self.view_is)
+returns g c =
+    record {
+      entries = (entries-view c.self.inside.buckets _ _ refl ∙ sym (entries-view c.self.inside.buckets _ c.args.self.now c.self.view_is));
+      lists = (lists-view c.self.inside.buckets _ _ refl ∙ sym (lists-view c.self.inside.buckets _ c.args.self.now c.self.view_is));
+      spilled = (spilled-view c.self.inside.buckets _ _ refl ∙ sym (spilled-view c.self.inside.buckets _ c.args.self.now c.self.view_is));
+      buckets = (count-view c.self.inside.buckets _ _ refl ∙ sym (count-view c.self.inside.buckets _ c.args.self.now c.self.view_is));
+      settings = (rw (settings-view c.self.inside.buckets _ c.args.self.now c.self.view_is));
+      noted = (refused-view _ _ _ refl ∙ sym (refused-view c.self.inside.buckets _ c.args.self.now c.self.view_is));
+    }

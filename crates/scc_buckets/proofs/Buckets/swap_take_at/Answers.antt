@@ -92,8 +92,8 @@ invariant_of-self g c =
       unique = swapped-unique-flat (λ e. hash_of g.H.BuildHasher g.H.Hasher.Hasher c.self.inside.hasher (g.E.Key.Hash.hash_input (g.E.Keyed.key_of e))) t.skipped t.length t.overflowing c.args.place bs c.self.invariant.table _ c.args.self.now c.self.view_is b l (shelf-at c.self.inside.buckets c.args.place.bucket l) lk c.swap_remove_at-entry.result (shelf_of c.swap_remove_at-entry.new.self c.args.place.bucket) (put-is c.self.inside.buckets c.args.place.bucket l c.swap_remove_at-entry.new.self _ c.swap_remove_at-entry.ensures.others) g.met.E.Key.Eq.laws g.E.Keyed.key_of c.swap_remove_at-entry.result got c.self.invariant.unique;
     }
 
-pub returns-clause-entry : goal.returns-clause-entry
-returns-clause-entry g c =
+pub returns : goal.returns
+returns g c =
     let t = c.self.inside in
     let bs = t.buckets in
     let count = count-view bs _ c.args.self.now c.self.view_is in
@@ -102,57 +102,12 @@ returns-clause-entry g c =
     let lk : c.args.place.slot < length (shelf_entries b) = rw (list-view bs _ c.args.self.now c.self.view_is c.args.place.bucket b l (shelf-at c.self.inside.buckets c.args.place.bucket l)) at c.requires.slot in
     let got = place-get c.args.self.now c.args.place c.requires c.swap_remove_at-entry.result
     (rw (list-view bs _ c.args.self.now c.self.view_is c.args.place.bucket b l (shelf-at c.self.inside.buckets c.args.place.bucket l)) c.swap_remove_at-entry.ensures.entry) in
-    got
-
-pub returns-clause-others : goal.returns-clause-others
-returns-clause-others g c =
-    let t = c.self.inside in
-    let bs = t.buckets in
-    let count = count-view bs _ c.args.self.now c.self.view_is in
-    let l : c.args.place.bucket < length bs = rw count at c.requires.bucket in
-    let b = (shelf_of c.self.inside.buckets c.args.place.bucket) in
-    let lk : c.args.place.slot < length (shelf_entries b) = rw (list-view bs _ c.args.self.now c.self.view_is c.args.place.bucket b l (shelf-at c.self.inside.buckets c.args.place.bucket l)) at c.requires.slot in
-    rw (put-own c.self.inside.buckets c.args.place.bucket l c.swap_remove_at-entry.new.self _ c.swap_remove_at-entry.ensures.others) (swapped-holds (λ e. hash_of g.H.BuildHasher g.H.Hasher.Hasher c.self.inside.hasher (g.E.Key.Hash.hash_input (g.E.Keyed.key_of e))) t.skipped t.length t.overflowing c.args.place bs c.self.invariant.table _ c.args.self.now c.self.view_is b l (shelf-at c.self.inside.buckets c.args.place.bucket l) lk c.swap_remove_at-entry.result (shelf_of c.swap_remove_at-entry.new.self c.args.place.bucket) (put-is c.self.inside.buckets c.args.place.bucket l c.swap_remove_at-entry.new.self _ c.swap_remove_at-entry.ensures.others))
-
-pub returns-clause-buckets : goal.returns-clause-buckets
-returns-clause-buckets g c =
-    let t = c.self.inside in
-    let bs = t.buckets in
-    let count = count-view bs _ c.args.self.now c.self.view_is in
-    let l : c.args.place.bucket < length bs = rw count at c.requires.bucket in
-    let b = (shelf_of c.self.inside.buckets c.args.place.bucket) in
-    let lk : c.args.place.slot < length (shelf_entries b) = rw (list-view bs _ c.args.self.now c.self.view_is c.args.place.bucket b l (shelf-at c.self.inside.buckets c.args.place.bucket l)) at c.requires.slot in
-    rw (put-own c.self.inside.buckets c.args.place.bucket l c.swap_remove_at-entry.new.self _ c.swap_remove_at-entry.ensures.others) (swapped-count (λ e. hash_of g.H.BuildHasher g.H.Hasher.Hasher c.self.inside.hasher (g.E.Key.Hash.hash_input (g.E.Keyed.key_of e))) t.skipped t.length t.overflowing c.args.place bs c.self.invariant.table _ c.args.self.now c.self.view_is b l (shelf-at c.self.inside.buckets c.args.place.bucket l) lk c.swap_remove_at-entry.result (shelf_of c.swap_remove_at-entry.new.self c.args.place.bucket) (put-is c.self.inside.buckets c.args.place.bucket l c.swap_remove_at-entry.new.self _ c.swap_remove_at-entry.ensures.others))
-
-pub returns-clause-settings : goal.returns-clause-settings
-returns-clause-settings g c =
-    let t = c.self.inside in
-    let bs = t.buckets in
-    let count = count-view bs _ c.args.self.now c.self.view_is in
-    let l : c.args.place.bucket < length bs = rw count at c.requires.bucket in
-    let b = (shelf_of c.self.inside.buckets c.args.place.bucket) in
-    let lk : c.args.place.slot < length (shelf_entries b) = rw (list-view bs _ c.args.self.now c.self.view_is c.args.place.bucket b l (shelf-at c.self.inside.buckets c.args.place.bucket l)) at c.requires.slot in
-    rw (put-own c.self.inside.buckets c.args.place.bucket l c.swap_remove_at-entry.new.self _ c.swap_remove_at-entry.ensures.others) (swapped-settings (λ e. hash_of g.H.BuildHasher g.H.Hasher.Hasher c.self.inside.hasher (g.E.Key.Hash.hash_input (g.E.Keyed.key_of e))) t.skipped t.length t.overflowing c.args.place bs c.self.invariant.table _ c.args.self.now c.self.view_is b l (shelf-at c.self.inside.buckets c.args.place.bucket l) lk c.swap_remove_at-entry.result (shelf_of c.swap_remove_at-entry.new.self c.args.place.bucket) (put-is c.self.inside.buckets c.args.place.bucket l c.swap_remove_at-entry.new.self _ c.swap_remove_at-entry.ensures.others))
-
-pub returns-clause-unique : goal.returns-clause-unique
-returns-clause-unique g c =
-    let t = c.self.inside in
-    let bs = t.buckets in
-    let count = count-view bs _ c.args.self.now c.self.view_is in
-    let l : c.args.place.bucket < length bs = rw count at c.requires.bucket in
-    let b = (shelf_of c.self.inside.buckets c.args.place.bucket) in
-    let lk : c.args.place.slot < length (shelf_entries b) = rw (list-view bs _ c.args.self.now c.self.view_is c.args.place.bucket b l (shelf-at c.self.inside.buckets c.args.place.bucket l)) at c.requires.slot in
-    let got = place-get c.args.self.now c.args.place c.requires c.swap_remove_at-entry.result
-    (rw (list-view bs _ c.args.self.now c.self.view_is c.args.place.bucket b l (shelf-at c.self.inside.buckets c.args.place.bucket l)) c.swap_remove_at-entry.ensures.entry) in
-    rw (put-own c.self.inside.buckets c.args.place.bucket l c.swap_remove_at-entry.new.self _ c.swap_remove_at-entry.ensures.others) (swapped-unique (λ e. hash_of g.H.BuildHasher g.H.Hasher.Hasher c.self.inside.hasher (g.E.Key.Hash.hash_input (g.E.Keyed.key_of e))) t.skipped t.length t.overflowing c.args.place bs c.self.invariant.table _ c.args.self.now c.self.view_is b l (shelf-at c.self.inside.buckets c.args.place.bucket l) lk c.swap_remove_at-entry.result (shelf_of c.swap_remove_at-entry.new.self c.args.place.bucket) (put-is c.self.inside.buckets c.args.place.bucket l c.swap_remove_at-entry.new.self _ c.swap_remove_at-entry.ensures.others) g.met.E.Key.Eq.laws g.E.Keyed.key_of c.swap_remove_at-entry.result got c.self.invariant.unique)
-
-pub returns-clause-noted : goal.returns-clause-noted
-returns-clause-noted g c = refused-view _ _ _ refl ∙ sym (refused-view c.self.inside.buckets _ c.args.self.now c.self.view_is)
-
-pub returns-clause-exact : goal.returns-clause-exact
-returns-clause-exact g c =
-    let bs = c.self.inside.buckets in
-    let l : c.args.place.bucket < length bs = rw (count-view bs _ c.args.self.now c.self.view_is) at c.requires.bucket in
-    let b = (shelf_of c.self.inside.buckets c.args.place.bucket) in
-    let lk : c.args.place.slot < length (shelf_entries b) = rw (list-view bs _ c.args.self.now c.self.view_is c.args.place.bucket b l (shelf-at c.self.inside.buckets c.args.place.bucket l)) at c.requires.slot in
-    rw (put-own c.self.inside.buckets c.args.place.bucket l c.swap_remove_at-entry.new.self _ c.swap_remove_at-entry.ensures.others) (swapped-out-of-list bs _ c.args.self.now c.self.view_is c.args.place.bucket b l (shelf-at c.self.inside.buckets c.args.place.bucket l) (shelf_of c.swap_remove_at-entry.new.self c.args.place.bucket) c.args.place.slot c.swap_remove_at-entry.result lk (put-is c.self.inside.buckets c.args.place.bucket l c.swap_remove_at-entry.new.self _ c.swap_remove_at-entry.ensures.others))
+    record {
+      entry = got;
+      others = (rw (put-own c.self.inside.buckets c.args.place.bucket l c.swap_remove_at-entry.new.self _ c.swap_remove_at-entry.ensures.others) (swapped-holds (λ e. hash_of g.H.BuildHasher g.H.Hasher.Hasher c.self.inside.hasher (g.E.Key.Hash.hash_input (g.E.Keyed.key_of e))) t.skipped t.length t.overflowing c.args.place bs c.self.invariant.table _ c.args.self.now c.self.view_is b l (shelf-at c.self.inside.buckets c.args.place.bucket l) lk c.swap_remove_at-entry.result (shelf_of c.swap_remove_at-entry.new.self c.args.place.bucket) (put-is c.self.inside.buckets c.args.place.bucket l c.swap_remove_at-entry.new.self _ c.swap_remove_at-entry.ensures.others)));
+      exact = (rw (put-own c.self.inside.buckets c.args.place.bucket l c.swap_remove_at-entry.new.self _ c.swap_remove_at-entry.ensures.others) (swapped-out-of-list bs _ c.args.self.now c.self.view_is c.args.place.bucket b l (shelf-at c.self.inside.buckets c.args.place.bucket l) (shelf_of c.swap_remove_at-entry.new.self c.args.place.bucket) c.args.place.slot c.swap_remove_at-entry.result lk (put-is c.self.inside.buckets c.args.place.bucket l c.swap_remove_at-entry.new.self _ c.swap_remove_at-entry.ensures.others)));
+      buckets = (rw (put-own c.self.inside.buckets c.args.place.bucket l c.swap_remove_at-entry.new.self _ c.swap_remove_at-entry.ensures.others) (swapped-count (λ e. hash_of g.H.BuildHasher g.H.Hasher.Hasher c.self.inside.hasher (g.E.Key.Hash.hash_input (g.E.Keyed.key_of e))) t.skipped t.length t.overflowing c.args.place bs c.self.invariant.table _ c.args.self.now c.self.view_is b l (shelf-at c.self.inside.buckets c.args.place.bucket l) lk c.swap_remove_at-entry.result (shelf_of c.swap_remove_at-entry.new.self c.args.place.bucket) (put-is c.self.inside.buckets c.args.place.bucket l c.swap_remove_at-entry.new.self _ c.swap_remove_at-entry.ensures.others)));
+      noted = (refused-view _ _ _ refl ∙ sym (refused-view c.self.inside.buckets _ c.args.self.now c.self.view_is));
+      settings = (rw (put-own c.self.inside.buckets c.args.place.bucket l c.swap_remove_at-entry.new.self _ c.swap_remove_at-entry.ensures.others) (swapped-settings (λ e. hash_of g.H.BuildHasher g.H.Hasher.Hasher c.self.inside.hasher (g.E.Key.Hash.hash_input (g.E.Keyed.key_of e))) t.skipped t.length t.overflowing c.args.place bs c.self.invariant.table _ c.args.self.now c.self.view_is b l (shelf-at c.self.inside.buckets c.args.place.bucket l) lk c.swap_remove_at-entry.result (shelf_of c.swap_remove_at-entry.new.self c.args.place.bucket) (put-is c.self.inside.buckets c.args.place.bucket l c.swap_remove_at-entry.new.self _ c.swap_remove_at-entry.ensures.others)));
+      unique = (rw (put-own c.self.inside.buckets c.args.place.bucket l c.swap_remove_at-entry.new.self _ c.swap_remove_at-entry.ensures.others) (swapped-unique (λ e. hash_of g.H.BuildHasher g.H.Hasher.Hasher c.self.inside.hasher (g.E.Key.Hash.hash_input (g.E.Keyed.key_of e))) t.skipped t.length t.overflowing c.args.place bs c.self.invariant.table _ c.args.self.now c.self.view_is b l (shelf-at c.self.inside.buckets c.args.place.bucket l) lk c.swap_remove_at-entry.result (shelf_of c.swap_remove_at-entry.new.self c.args.place.bucket) (put-is c.self.inside.buckets c.args.place.bucket l c.swap_remove_at-entry.new.self _ c.swap_remove_at-entry.ensures.others) g.met.E.Key.Eq.laws g.E.Keyed.key_of c.swap_remove_at-entry.result got c.self.invariant.unique));
+    }

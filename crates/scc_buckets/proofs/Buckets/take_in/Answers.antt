@@ -94,98 +94,30 @@ invariant_of-self g c =
       unique = removed-unique-flat (λ e. hash_of g.H.BuildHasher g.H.Hasher.Hasher c.self.inside.hasher (g.E.Key.Hash.hash_input (g.E.Keyed.key_of e))) t.skipped t.length t.overflowing c.args.place bs c.self.invariant.table _ c.args.self.now c.self.view_is b l (shelf-at c.self.inside.buckets c.args.place.bucket l) lk (shelf_of c.remove_at-entry.new.self c.args.place.bucket) (put-is c.self.inside.buckets c.args.place.bucket l c.remove_at-entry.new.self _ c.remove_at-entry.ensures.others) g.met.E.Key.Eq.laws g.E.Keyed.key_of c.remove_at-entry.result got c.self.invariant.unique;
     }
 
-pub returns-clause-entry : goal.returns-clause-entry
-returns-clause-entry g c =
+pub returns : goal.returns
+returns g c =
     let t = c.self.inside in
-    let bs = t.buckets in
+    let bs = c.self.inside.buckets in
     let count = count-view bs _ c.args.self.now c.self.view_is in
-    let l : c.args.place.bucket < length bs = rw count at c.requires.bucket in
-    let b = (shelf_of c.self.inside.buckets c.args.place.bucket) in
-    let lk : c.args.place.slot < length (shelf_entries b) = rw (list-view bs _ c.args.self.now c.self.view_is c.args.place.bucket b l (shelf-at c.self.inside.buckets c.args.place.bucket l)) at c.requires.slot in
-    let got = place-get c.args.self.now c.args.place c.requires c.remove_at-entry.result
-    (rw (list-view bs _ c.args.self.now c.self.view_is c.args.place.bucket b l (shelf-at c.self.inside.buckets c.args.place.bucket l)) c.remove_at-entry.ensures.entry) in
-    got
-
-pub returns-clause-others : goal.returns-clause-others
-returns-clause-others g c =
-    let t = c.self.inside in
-    let bs = t.buckets in
-    let count = count-view bs _ c.args.self.now c.self.view_is in
-    let l : c.args.place.bucket < length bs = rw count at c.requires.bucket in
-    let b = (shelf_of c.self.inside.buckets c.args.place.bucket) in
-    let lk : c.args.place.slot < length (shelf_entries b) = rw (list-view bs _ c.args.self.now c.self.view_is c.args.place.bucket b l (shelf-at c.self.inside.buckets c.args.place.bucket l)) at c.requires.slot in
-    rw (put-own c.self.inside.buckets c.args.place.bucket l c.remove_at-entry.new.self _ c.remove_at-entry.ensures.others) (removed-exactly (λ e. hash_of g.H.BuildHasher g.H.Hasher.Hasher c.self.inside.hasher (g.E.Key.Hash.hash_input (g.E.Keyed.key_of e))) t.skipped t.length t.overflowing c.args.place bs c.self.invariant.table _ c.args.self.now c.self.view_is b l (shelf-at c.self.inside.buckets c.args.place.bucket l) lk (shelf_of c.remove_at-entry.new.self c.args.place.bucket) (put-is c.self.inside.buckets c.args.place.bucket l c.remove_at-entry.new.self _ c.remove_at-entry.ensures.others))
-
-pub returns-clause-unique : goal.returns-clause-unique
-returns-clause-unique g c =
-    let t = c.self.inside in
-    let bs = t.buckets in
-    let count = count-view bs _ c.args.self.now c.self.view_is in
-    let l : c.args.place.bucket < length bs = rw count at c.requires.bucket in
-    let b = (shelf_of c.self.inside.buckets c.args.place.bucket) in
-    let lk : c.args.place.slot < length (shelf_entries b) = rw (list-view bs _ c.args.self.now c.self.view_is c.args.place.bucket b l (shelf-at c.self.inside.buckets c.args.place.bucket l)) at c.requires.slot in
-    let got = place-get c.args.self.now c.args.place c.requires c.remove_at-entry.result
-    (rw (list-view bs _ c.args.self.now c.self.view_is c.args.place.bucket b l (shelf-at c.self.inside.buckets c.args.place.bucket l)) c.remove_at-entry.ensures.entry) in
-    rw (put-own c.self.inside.buckets c.args.place.bucket l c.remove_at-entry.new.self _ c.remove_at-entry.ensures.others) (removed-unique (λ e. hash_of g.H.BuildHasher g.H.Hasher.Hasher c.self.inside.hasher (g.E.Key.Hash.hash_input (g.E.Keyed.key_of e))) t.skipped t.length t.overflowing c.args.place bs c.self.invariant.table _ c.args.self.now c.self.view_is b l (shelf-at c.self.inside.buckets c.args.place.bucket l) lk (shelf_of c.remove_at-entry.new.self c.args.place.bucket) (put-is c.self.inside.buckets c.args.place.bucket l c.remove_at-entry.new.self _ c.remove_at-entry.ensures.others) g.met.E.Key.Eq.laws g.E.Keyed.key_of c.remove_at-entry.result got c.self.invariant.unique)
-
-pub returns-clause-follows : goal.returns-clause-follows
-returns-clause-follows g c =
-    let bs = c.self.inside.buckets in
-    let l : c.args.place.bucket < length bs = rw (count-view bs _ c.args.self.now c.self.view_is) at c.requires.bucket in
-    let b = (shelf_of c.self.inside.buckets c.args.place.bucket) in
-    let lk : c.args.place.slot < length (shelf_entries b) = rw (list-view bs _ c.args.self.now c.self.view_is c.args.place.bucket b l (shelf-at c.self.inside.buckets c.args.place.bucket l)) at c.requires.slot in
-    rw (put-own c.self.inside.buckets c.args.place.bucket l c.remove_at-entry.new.self _ c.remove_at-entry.ensures.others) (taken-index c.args.place bs _ c.args.self.now c.self.view_is b l lk (shelf_of c.remove_at-entry.new.self c.args.place.bucket) (put-is c.self.inside.buckets c.args.place.bucket l c.remove_at-entry.new.self _ c.remove_at-entry.ensures.others))
-
-pub returns-clause-list : goal.returns-clause-list
-returns-clause-list g c =
-    let bs = c.self.inside.buckets in
-    let l : c.args.place.bucket < length bs = rw (count-view bs _ c.args.self.now c.self.view_is) at c.requires.bucket in
-    let b = (shelf_of c.self.inside.buckets c.args.place.bucket) in
-    let lk : c.args.place.slot < length (shelf_entries b) = rw (list-view bs _ c.args.self.now c.self.view_is c.args.place.bucket b l (shelf-at c.self.inside.buckets c.args.place.bucket l)) at c.requires.slot in
-    rw (put-own c.self.inside.buckets c.args.place.bucket l c.remove_at-entry.new.self _ c.remove_at-entry.ensures.others) (taken-list c.args.place bs _ c.args.self.now c.self.view_is b l lk (shelf_of c.remove_at-entry.new.self c.args.place.bucket) (put-is c.self.inside.buckets c.args.place.bucket l c.remove_at-entry.new.self _ c.remove_at-entry.ensures.others))
-
-pub returns-clause-listed : goal.returns-clause-listed
-returns-clause-listed g c =
-    let bs = c.self.inside.buckets in
-    let l : c.args.place.bucket < length bs = rw (count-view bs _ c.args.self.now c.self.view_is) at c.requires.bucket in
-    let b = (shelf_of c.self.inside.buckets c.args.place.bucket) in
-    rw (list-view bs _ c.args.self.now c.self.view_is c.args.place.bucket b l (shelf-at c.self.inside.buckets c.args.place.bucket l)) c.remove_at-entry.ensures.entry
-
-pub returns-clause-lists : goal.returns-clause-lists
-returns-clause-lists g c =
-    let bs = c.self.inside.buckets in
-    let l : c.args.place.bucket < length bs = rw (count-view bs _ c.args.self.now c.self.view_is) at c.requires.bucket in
-    let b = (shelf_of c.self.inside.buckets c.args.place.bucket) in
-    let here = list-view bs _ c.args.self.now c.self.view_is c.args.place.bucket b l (shelf-at c.self.inside.buckets c.args.place.bucket l) in
-    let lk : c.args.place.slot < length (shelf_entries b) = rw here at c.requires.slot in
-    rw (put-own c.self.inside.buckets c.args.place.bucket l c.remove_at-entry.new.self _ c.remove_at-entry.ensures.others) (λ bounded. removed-list bs _ c.args.self.now c.self.view_is c.args.place.bucket b l (shelf-at c.self.inside.buckets c.args.place.bucket l) bounded (shelf_of c.remove_at-entry.new.self c.args.place.bucket) c.args.place.slot lk (put-is c.self.inside.buckets c.args.place.bucket l c.remove_at-entry.new.self _ c.remove_at-entry.ensures.others))
-
-pub returns-clause-gone : goal.returns-clause-gone
-returns-clause-gone g c =
-    let bs = c.self.inside.buckets in
     let l : c.args.place.bucket < length bs = rw (count-view bs _ c.args.self.now c.self.view_is) at c.requires.bucket in
     let b = (shelf_of c.self.inside.buckets c.args.place.bucket) in
     let lk : c.args.place.slot < length (shelf_entries b) = rw (list-view bs _ c.args.self.now c.self.view_is c.args.place.bucket b l (shelf-at c.self.inside.buckets c.args.place.bucket l)) at c.requires.slot in
     let got = place-get c.args.self.now c.args.place c.requires c.remove_at-entry.result
     (rw (list-view bs _ c.args.self.now c.self.view_is c.args.place.bucket b l (shelf-at c.self.inside.buckets c.args.place.bucket l)) c.remove_at-entry.ensures.entry) in
-    let others = removed-exactly (λ e. hash_of g.H.BuildHasher g.H.Hasher.Hasher c.self.inside.hasher (g.E.Key.Hash.hash_input (g.E.Keyed.key_of e))) c.self.inside.skipped c.self.inside.length c.self.inside.overflowing c.args.place bs c.self.invariant.table _ c.args.self.now c.self.view_is b l (shelf-at c.self.inside.buckets c.args.place.bucket l) lk (shelf_of c.remove_at-entry.new.self c.args.place.bucket) (put-is c.self.inside.buckets c.args.place.bucket l c.remove_at-entry.new.self _ c.remove_at-entry.ensures.others) in
-    rw (put-own c.self.inside.buckets c.args.place.bucket l c.remove_at-entry.new.self _ c.remove_at-entry.ensures.others) (rw others.exact (gone g.met.E.Key.Eq.laws g.E.Keyed.key_of (entries c.args.self.now) _ c.remove_at-entry.result got (rw (entries-view bs _ c.args.self.now c.self.view_is) c.self.invariant.unique)))
-
-pub returns-clause-short : goal.returns-clause-short
-returns-clause-short g c =
-    let bs = c.self.inside.buckets in
-    let l : c.args.place.bucket < length bs = rw (count-view bs _ c.args.self.now c.self.view_is) at c.requires.bucket in
-    let b = (shelf_of c.self.inside.buckets c.args.place.bucket) in
-    let lk : c.args.place.slot < length (shelf_entries b) = rw (list-view bs _ c.args.self.now c.self.view_is c.args.place.bucket b l (shelf-at c.self.inside.buckets c.args.place.bucket l)) at c.requires.slot in
-    rw (put-own c.self.inside.buckets c.args.place.bucket l c.remove_at-entry.new.self _ c.remove_at-entry.ensures.others) (λ bounded. removed-short bs _ c.args.self.now c.self.view_is c.args.place.bucket b l (shelf-at c.self.inside.buckets c.args.place.bucket l) bounded (shelf_of c.remove_at-entry.new.self c.args.place.bucket) c.args.place.slot lk (put-is c.self.inside.buckets c.args.place.bucket l c.remove_at-entry.new.self _ c.remove_at-entry.ensures.others) (c.self.invariant.table.own c.args.place.bucket b l (shelf-at c.self.inside.buckets c.args.place.bucket l)).within)
-
-pub returns-clause-noted : goal.returns-clause-noted
-returns-clause-noted g c = refused-view _ _ _ refl ∙ sym (refused-view c.self.inside.buckets _ c.args.self.now c.self.view_is)
-
-pub returns-clause-exact : goal.returns-clause-exact
-returns-clause-exact g c =
-    let bs = c.self.inside.buckets in
-    let l : c.args.place.bucket < length bs = rw (count-view bs _ c.args.self.now c.self.view_is) at c.requires.bucket in
-    let b = (shelf_of c.self.inside.buckets c.args.place.bucket) in
-    let lk : c.args.place.slot < length (shelf_entries b) = rw (list-view bs _ c.args.self.now c.self.view_is c.args.place.bucket b l (shelf-at c.self.inside.buckets c.args.place.bucket l)) at c.requires.slot in
-    rw (put-own c.self.inside.buckets c.args.place.bucket l c.remove_at-entry.new.self _ c.remove_at-entry.ensures.others) (taken-from-list bs _ c.args.self.now c.self.view_is c.args.place.bucket b l (shelf-at c.self.inside.buckets c.args.place.bucket l) (shelf_of c.remove_at-entry.new.self c.args.place.bucket) c.args.place.slot lk (put-is c.self.inside.buckets c.args.place.bucket l c.remove_at-entry.new.self _ c.remove_at-entry.ensures.others))
+    record {
+      entry = got;
+      follows = (rw (put-own c.self.inside.buckets c.args.place.bucket l c.remove_at-entry.new.self _ c.remove_at-entry.ensures.others) (taken-index c.args.place bs _ c.args.self.now c.self.view_is b l lk (shelf_of c.remove_at-entry.new.self c.args.place.bucket) (put-is c.self.inside.buckets c.args.place.bucket l c.remove_at-entry.new.self _ c.remove_at-entry.ensures.others)));
+      list = (rw (put-own c.self.inside.buckets c.args.place.bucket l c.remove_at-entry.new.self _ c.remove_at-entry.ensures.others) (taken-list c.args.place bs _ c.args.self.now c.self.view_is b l lk (shelf_of c.remove_at-entry.new.self c.args.place.bucket) (put-is c.self.inside.buckets c.args.place.bucket l c.remove_at-entry.new.self _ c.remove_at-entry.ensures.others)));
+      others = (rw (put-own c.self.inside.buckets c.args.place.bucket l c.remove_at-entry.new.self _ c.remove_at-entry.ensures.others) (removed-exactly (λ e. hash_of g.H.BuildHasher g.H.Hasher.Hasher c.self.inside.hasher (g.E.Key.Hash.hash_input (g.E.Keyed.key_of e))) t.skipped t.length t.overflowing c.args.place bs c.self.invariant.table _ c.args.self.now c.self.view_is b l (shelf-at c.self.inside.buckets c.args.place.bucket l) lk (shelf_of c.remove_at-entry.new.self c.args.place.bucket) (put-is c.self.inside.buckets c.args.place.bucket l c.remove_at-entry.new.self _ c.remove_at-entry.ensures.others)));
+      noted = (refused-view _ _ _ refl ∙ sym (refused-view c.self.inside.buckets _ c.args.self.now c.self.view_is));
+      listed = (rw (list-view bs _ c.args.self.now c.self.view_is c.args.place.bucket b l (shelf-at c.self.inside.buckets c.args.place.bucket l)) c.remove_at-entry.ensures.entry);
+      gone = (
+          let others = removed-exactly (λ e. hash_of g.H.BuildHasher g.H.Hasher.Hasher c.self.inside.hasher (g.E.Key.Hash.hash_input (g.E.Keyed.key_of e))) c.self.inside.skipped c.self.inside.length c.self.inside.overflowing c.args.place bs c.self.invariant.table _ c.args.self.now c.self.view_is b l (shelf-at c.self.inside.buckets c.args.place.bucket l) lk (shelf_of c.remove_at-entry.new.self c.args.place.bucket) (put-is c.self.inside.buckets c.args.place.bucket l c.remove_at-entry.new.self _ c.remove_at-entry.ensures.others) in
+          rw (put-own c.self.inside.buckets c.args.place.bucket l c.remove_at-entry.new.self _ c.remove_at-entry.ensures.others) (rw others.exact (gone g.met.E.Key.Eq.laws g.E.Keyed.key_of (entries c.args.self.now) _ c.remove_at-entry.result got (rw (entries-view bs _ c.args.self.now c.self.view_is) c.self.invariant.unique))));
+      short = (rw (put-own c.self.inside.buckets c.args.place.bucket l c.remove_at-entry.new.self _ c.remove_at-entry.ensures.others) (λ bounded. removed-short bs _ c.args.self.now c.self.view_is c.args.place.bucket b l (shelf-at c.self.inside.buckets c.args.place.bucket l) bounded (shelf_of c.remove_at-entry.new.self c.args.place.bucket) c.args.place.slot lk (put-is c.self.inside.buckets c.args.place.bucket l c.remove_at-entry.new.self _ c.remove_at-entry.ensures.others) (c.self.invariant.table.own c.args.place.bucket b l (shelf-at c.self.inside.buckets c.args.place.bucket l)).within));
+      lists = (
+          let here = list-view bs _ c.args.self.now c.self.view_is c.args.place.bucket b l (shelf-at c.self.inside.buckets c.args.place.bucket l) in
+          rw (put-own c.self.inside.buckets c.args.place.bucket l c.remove_at-entry.new.self _ c.remove_at-entry.ensures.others) (λ bounded. removed-list bs _ c.args.self.now c.self.view_is c.args.place.bucket b l (shelf-at c.self.inside.buckets c.args.place.bucket l) bounded (shelf_of c.remove_at-entry.new.self c.args.place.bucket) c.args.place.slot lk (put-is c.self.inside.buckets c.args.place.bucket l c.remove_at-entry.new.self _ c.remove_at-entry.ensures.others)));
+      exact = (rw (put-own c.self.inside.buckets c.args.place.bucket l c.remove_at-entry.new.self _ c.remove_at-entry.ensures.others) (taken-from-list bs _ c.args.self.now c.self.view_is c.args.place.bucket b l (shelf-at c.self.inside.buckets c.args.place.bucket l) (shelf_of c.remove_at-entry.new.self c.args.place.bucket) c.args.place.slot lk (put-is c.self.inside.buckets c.args.place.bucket l c.remove_at-entry.new.self _ c.remove_at-entry.ensures.others)));
+      unique = (rw (put-own c.self.inside.buckets c.args.place.bucket l c.remove_at-entry.new.self _ c.remove_at-entry.ensures.others) (removed-unique (λ e. hash_of g.H.BuildHasher g.H.Hasher.Hasher c.self.inside.hasher (g.E.Key.Hash.hash_input (g.E.Keyed.key_of e))) t.skipped t.length t.overflowing c.args.place bs c.self.invariant.table _ c.args.self.now c.self.view_is b l (shelf-at c.self.inside.buckets c.args.place.bucket l) lk (shelf_of c.remove_at-entry.new.self c.args.place.bucket) (put-is c.self.inside.buckets c.args.place.bucket l c.remove_at-entry.new.self _ c.remove_at-entry.ensures.others) g.met.E.Key.Eq.laws g.E.Keyed.key_of c.remove_at-entry.result got c.self.invariant.unique));
+    }

@@ -1,36 +1,29 @@
-use Rattle.std.proofs.Common.{refl, arith, inr, length}
+use Rattle.std.proofs.Common.{rules, refl, arith, inr, length}
 use Rattle.scc_contents.specs.Hashing.{hash_of}
 use Rattle.scc_contents.specs.Sizes.{IsLawful}
 use Rattle.scc_contents.specs.Contents.{refused_of, settings_of, waiting_of}
 use Rattle.scc_buckets.proofs.Bounds.{bounded-fresh, listed-view}
 use Rattle.scc_buckets.proofs.MakingLemmas.{kept-fresh, entries-fresh, table-empty}
-use Rattle.scc_buckets.proofs.Views.{count-view, settings-view}
+use Rattle.scc_buckets.proofs.Views.{count-view}
 use Rattle.scc_buckets.proofs.Buckets.with_capacity.Goals as goal
 
 pub invariant_of-result : goal.invariant_of-result
 invariant_of-result g c =
     kept-fresh _ _ _ c.args.skipped _ c.buckets_for-count.result 0 0 c.in-Ok.buckets c.in-Ok.ensures.empty c.in-Ok.ensures.count c.buckets_for-count.ensures.array c.requires (omega (arith, c.buckets_for-count.ensures.array.most)) refl refl
 
-pub returns-in-Ok-clause-entries : goal.returns-in-Ok-clause-entries
-returns-in-Ok-clause-entries g c = entries-fresh c.in-Ok.buckets _ _ c.in-Ok.ensures.empty
-
-pub returns-in-Ok-clause-size : goal.returns-in-Ok-clause-size
-returns-in-Ok-clause-size g c = λ _. rw (count-view c.in-Ok.buckets _ _ refl, c.in-Ok.ensures.count) c.buckets_for-count.ensures.size
-
-pub returns-in-Ok-clause-settings : goal.returns-in-Ok-clause-settings
-unfolding settings_of
-returns-in-Ok-clause-settings g c = rw (count-view c.in-Ok.buckets _ _ refl, c.in-Ok.ensures.count) refl
-
-pub returns-in-Ok-clause-listed : goal.returns-in-Ok-clause-listed
-returns-in-Ok-clause-listed g c =
-    let bs = c.in-Ok.buckets in
-    let lawful : IsLawful (length bs) = inr (rw c.in-Ok.ensures.count c.buckets_for-count.ensures.array) in
-    rw (settings-view bs _ _ refl) (listed-view _ 0 0 bs _ _ refl (table-empty (λ e. hash_of g.H.BuildHasher g.H.Hasher.Hasher c.args.hasher (g.E.Key.Hash.hash_input (g.E.Keyed.key_of e))) c.args.skipped bs c.in-Ok.ensures.empty lawful) (bounded-fresh _ bs _ c.in-Ok.ensures.empty))
-
-pub returns-in-Ok-clause-noted : goal.returns-in-Ok-clause-noted
-unfolding refused_of
-returns-in-Ok-clause-noted g c = refl
-
-pub returns-in-Ok-clause-waiting : goal.returns-in-Ok-clause-waiting
-unfolding waiting_of
-returns-in-Ok-clause-waiting g c = refl
+pub returns-in-Ok : goal.returns-in-Ok
+unfolding settings_of refused_of waiting_of
+returns-in-Ok g c =
+    record {
+      entries = (entries-fresh c.in-Ok.buckets _ _ c.in-Ok.ensures.empty);
+      listed = (
+          let bs = c.in-Ok.buckets in
+          let lawful : IsLawful (length bs) = inr (rw c.in-Ok.ensures.count c.buckets_for-count.ensures.array) in
+          (listed-view _ 0 0 bs _ _ refl (table-empty (λ e. hash_of g.H.BuildHasher g.H.Hasher.Hasher c.args.hasher (g.E.Key.Hash.hash_input (g.E.Keyed.key_of e))) c.args.skipped bs c.in-Ok.ensures.empty lawful) (bounded-fresh _ bs _ c.in-Ok.ensures.empty)));
+      none = (search rules);
+      size = (λ _. rw (count-view c.in-Ok.buckets _ _ refl, c.in-Ok.ensures.count) c.buckets_for-count.ensures.size);
+      settings = (rw (count-view c.in-Ok.buckets _ _ refl, c.in-Ok.ensures.count) refl);
+      succeeds = (search rules);
+      noted = refl;
+      waiting = refl;
+    }

@@ -1,0 +1,61 @@
+-- What an insertion of a new key does to buckets, in one word a call. A refusal hands back what was supplied.
+use Rattle.std.specs.Prelude.{◌≡◌, ℕ, Bool, Result, IfOk, IfErr}
+use Rattle.std.specs.Result.{OnOk, OnErr}
+use Rattle.scc_contents.specs.Contents.{Contents, bucket_count, refused_of, HasRoomBy, IsUniqueBy}
+use Rattle.scc_contents.specs.Steps.{FirstArrayWhenDue, Grows, IsUnchanged}
+use Rattle.scc_buckets.specs.OneList.{HasSameLists, IsPutIn}
+use Rattle.scc_buckets.specs.Places.{IsInsertedAtSpot}
+use Rattle.scc_buckets.specs.declared.place.Place.{Place}
+
+module _ {E K S : Type 0} (eq : K → K → Bool) (key : E → K) where
+  -- the new entry e is put into bucket i
+  pub record InsertsInBucket (hash : K → ℕ) (c : Contents E S) (i : ℕ) (e : E) (result : Result Place E) (d : Contents E S) : Type 0 where
+    -- the entry is put in, and the place is its place
+    pub ok : IfOk result (IsInsertedAtSpot c e d)
+    -- the list of the bucket alone got it
+    pub exact : IfOk result (IsPutIn c i e d)
+    -- refused, it comes back and nothing changed
+    pub err : IfErr result (λ f. (f ≡ e) × IsUnchanged c d)
+    -- each list is as it was then
+    pub stays : OnErr result (HasSameLists c d)
+    -- it is refused only where the key's bucket has no room
+    pub full : OnErr result (HasRoomBy hash key c (key e) → ⊥)
+    -- the number of buckets stays
+    pub buckets : bucket_count d ≡ bucket_count c
+    -- the note of refused memory stays
+    pub refused : refused_of d ≡ refused_of c
+    -- no two keys are equal
+    pub unique : IsUniqueBy eq key d
+
+  module _ {X : Type 0} where
+    -- the new entry e, made of x, is put into bucket i
+    pub record InsertsMadeInBucket (c : Contents E S) (i : ℕ) (e : E) (x : X) (result : Result Place X) (d : Contents E S) : Type 0 where
+      -- the entry is put in, and the place is its place
+      pub ok : IfOk result (IsInsertedAtSpot c e d)
+      -- the list of the bucket alone got it
+      pub exact : IfOk result (IsPutIn c i e d)
+      -- refused, the parts come back and nothing changed
+      pub err : IfErr result (λ y. (y ≡ x) × IsUnchanged c d)
+      -- each list is as it was then
+      pub stays : OnErr result (HasSameLists c d)
+      -- the number of buckets stays
+      pub buckets : bucket_count d ≡ bucket_count c
+      -- the note of refused memory stays
+      pub refused : refused_of d ≡ refused_of c
+      -- no two keys are equal
+      pub unique : IsUniqueBy eq key d
+
+    -- the new entry e, made of x, is put into the first array, which is made for it
+    pub record InsertsMadeInFirstArray (c : Contents E S) (e : E) (x : X) (result : Result Place X) (d : Contents E S) : Type 0 where
+      -- the entry is put in, and the place is its place
+      pub ok : IfOk result (IsInsertedAtSpot c e d)
+      -- refused, the parts come back and nothing changed
+      pub err : IfErr result (λ y. (y ≡ x) × IsUnchanged c d)
+      -- the number of buckets changes only by the first array
+      pub growth : Grows c d
+      -- the array has the size of the minimum
+      pub first : OnOk result (FirstArrayWhenDue c d)
+      -- the note of refused memory stays
+      pub noted : refused_of d ≡ refused_of c
+      -- no two keys are equal
+      pub unique : IsUniqueBy eq key d
