@@ -1,5 +1,5 @@
 //! The lists of the entries past the places, one a bucket, which are made with the first such entry.
-ghost use Rattle.std.specs.Prelude.{◌≡◌, ◌<◌, ◌≤◌, ◌+◌, ◌/◌, ◌^◌, ◌⊎◌, ℕ, [], false, true, length, slice_index_or, IfOk, OnOk, OnErr};
+ghost use Rattle.std.specs.Prelude.{◌≡◌, ◌<◌, ◌≤◌, ◌+◌, ◌/◌, ◌^◌, ◌⊎◌, [], false, true, length, IfOk, OnOk, OnErr};
 ghost use Rattle.scc_array.specs.Lists.{AreBare, AreSpent, Opens, Pushes, RaisesFlag, ReservesList};
 
 use std::alloc::{AllocError, Global};

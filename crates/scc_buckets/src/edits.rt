@@ -1,14 +1,11 @@
 //! How entries get into buckets and out of them.
-ghost use Rattle.std.specs.Prelude.{◌≡◌, ◌≤◌, ◌<◌, ◌+◌, ◌-◌, ◌*◌, ◌^◌, [], ◌∷◌, length, Some, None, IsTrue, IfOk, IfErr, OnOk, OnErr, slice_get, remove};
+ghost use Rattle.std.specs.Prelude.{◌≡◌, ◌≤◌, ◌<◌, ◌+◌, ◌-◌, ◌^◌, None, IsTrue};
 ghost use Rattle.std.specs.List.{position};
-ghost use Rattle.scc_buckets.specs.Bounded.{HasList, IsBounded};
-ghost use Rattle.scc_contents.specs.Contents.{entries, bucket_count, list_of, settings_of, refused_of, key_hash, bucket_of, IsUniqueBy, HasRoomBy};
-ghost use Rattle.scc_buckets.specs.OneList.{HasSameLists, IsPutIn, IsTakenFrom};
+ghost use Rattle.scc_contents.specs.Contents.{entries, bucket_count, settings_of, key_hash};
 ghost use Rattle.scc_buckets.specs.Insertions.{InsertsInBucket};
-ghost use Rattle.scc_buckets.specs.Places.{IsSpot, IsInsertedAtSpot, index_of_spot};
+ghost use Rattle.scc_buckets.specs.Places.{IsSpot};
 ghost use Rattle.scc_buckets.specs.Removals.{TakesAtSpot};
 ghost use Rattle.scc_contents.specs.Routing.{bucket_number};
-ghost use Rattle.scc_contents.specs.Steps.{FirstArrayWhenDue, Grows, GrowsWhenDue, HoldsExactly, IsUnchanged, Rests};
 
 use super::Buckets;
 use crate::place::Place;

@@ -1,8 +1,8 @@
 //! Another array in the place of the present one.
-ghost use Rattle.std.specs.Prelude.{◌≡◌, map};
+ghost use Rattle.std.specs.Prelude.{map};
 ghost use Rattle.std.specs.List.{flat_map, IsDistinct};
 ghost use Rattle.scc_array.specs.Shelf.{shelf_entries};
-ghost use Rattle.scc_contents.specs.Contents.{lists_of, settings_of, refused_of, spilled_of, waiting_of, owed_of, key_hash};
+ghost use Rattle.scc_contents.specs.Contents.{settings_of, key_hash};
 ghost use Rattle.scc_buckets.specs.Making.{ExchangesBuckets};
 ghost use Rattle.scc_buckets.specs.Tables.{IsBuckets};
 

@@ -1,9 +1,6 @@
 //! How buckets and their array are made.
-ghost use Rattle.std.specs.Prelude.{◌≡◌, ◌≤◌, ◌<◌, ◌+◌, ◌*◌, ◌^◌, [], false, length, IsOk, IfOk, OnOk, OnErr};
-ghost use Rattle.scc_buckets.specs.Bounded.{IsListed, IsResized};
-ghost use Rattle.scc_contents.specs.Contents.{entries, bucket_count, settings_of, refused_of, waiting_of, minimum_of, key_hash};
-ghost use Rattle.scc_contents.specs.Sizes.{IsArray, IsArraySize};
-ghost use Rattle.scc_contents.specs.Steps.{IsUnchanged};
+ghost use Rattle.std.specs.Prelude.{◌≡◌, ◌≤◌, ◌<◌, ◌+◌, ◌*◌, ◌^◌, [], false, length, IfOk};
+ghost use Rattle.scc_contents.specs.Contents.{entries, bucket_count, settings_of, refused_of, key_hash};
 ghost use Rattle.scc_buckets.specs.Making.{AreNewBuckets, MakesBuckets, MakesFirstArray};
 ghost use Rattle.scc_buckets.specs.Tables.{AllEmpty};
 

@@ -1,13 +1,11 @@
 //! Entries that are made when they are put in, and entries that take the place of others.
-ghost use Rattle.std.specs.Prelude.{◌≡◌, ◌<◌, Some, None, true, length, IfOk, IfErr, OnOk, OnErr, slice_get};
+ghost use Rattle.std.specs.Prelude.{◌≡◌, ◌<◌, Some, None, true, slice_get};
 ghost use Rattle.std.specs.List.{position};
 ghost use Rattle.scc_array.specs.ShelfWrites.{put_whole};
-ghost use Rattle.scc_contents.specs.Contents.{entries, bucket_count, settings_of, refused_of, key_hash, IsUniqueBy};
-ghost use Rattle.scc_buckets.specs.OneList.{HasSameLists, IsPutIn};
+ghost use Rattle.scc_contents.specs.Contents.{entries, bucket_count, settings_of, key_hash};
 ghost use Rattle.scc_buckets.specs.Insertions.{InsertsMadeInBucket, InsertsMadeInFirstArray};
-ghost use Rattle.scc_buckets.specs.Places.{IsSpot, IsInsertedAtSpot, index_of_spot};
+ghost use Rattle.scc_buckets.specs.Places.{IsSpot, index_of_spot};
 ghost use Rattle.scc_contents.specs.Routing.{bucket_number};
-ghost use Rattle.scc_contents.specs.Steps.{FirstArrayWhenDue, Grows, IsUnchanged};
 ghost use Rattle.scc_buckets.specs.Writes.{with_write_at_spot};
 
 use super::Buckets;

@@ -1,12 +1,6 @@
 //! How entries get out of buckets where the order of the others is free.
-ghost use Rattle.std.specs.Prelude.{◌≡◌, ◌≢◌, Some, length, slice_get, remove};
-ghost use Rattle.std.specs.List.Sorted.{IsPermutation};
-ghost use Rattle.scc_contents.specs.Contents.{entries, bucket_count, settings_of, refused_of, minimum_of, IsUniqueBy};
-ghost use Rattle.scc_buckets.specs.OneList.{IsSwappedOutOf};
-ghost use Rattle.scc_buckets.specs.Places.{IsSpot, index_of_spot};
+ghost use Rattle.scc_buckets.specs.Places.{IsSpot};
 ghost use Rattle.scc_buckets.specs.Removals.{SwapsOutAtSpot};
-ghost use Rattle.scc_contents.specs.Sizes.{IsSmaller};
-ghost use Rattle.scc_contents.specs.Steps.{Holds, ShrinksWhenDue};
 
 use super::Buckets;
 use super::edits::one_if;

@@ -1,9 +1,8 @@
 //! How many slots are kept at least, and the note of a resize that was refused.
-ghost use Rattle.std.specs.Prelude.{◌≡◌, ◌≢◌, ◌≤◌, ◌<◌, ◌+◌, ◌-◌, ◌*◌, ◌^◌, ◌↔◌, IsTrue, false, true};
-ghost use Rattle.scc_contents.specs.Contents.{entries, bucket_count, settings_of, refused_of, minimum_of, pending_of, lists_of, spilled_of, IsUniqueBy};
+ghost use Rattle.std.specs.Prelude.{◌≡◌, ◌≤◌, ◌<◌, ◌+◌, ◌-◌, ◌^◌, false};
+ghost use Rattle.scc_contents.specs.Contents.{settings_of, refused_of, minimum_of, lists_of, spilled_of, IsUniqueBy};
 ghost use Rattle.scc_buckets.specs.Making.{SetsReservedSlots};
-ghost use Rattle.scc_contents.specs.Sizes.{IsArraySize};
-ghost use Rattle.scc_contents.specs.Steps.{IsUnchanged, ReachesMinimumWhenDue, Releases, Reserves, Resizes, ShrinksWhenDue};
+ghost use Rattle.scc_contents.specs.Steps.{IsUnchanged};
 
 use super::Buckets;
 use super::edits::OVERFLOW_LIMIT;

@@ -111,22 +111,17 @@ returns-in-Ok g c =
     let l : i < length bs = rw count at c.requires.within in
     let b = (shelf_of c.self.inside.buckets c.args.bucket) in
     let hashed = rw (settings-view bs _ c.args.self.now c.self.view_is) at c.requires.hashed in
+    let routed : i ≡ bucket_number t.skipped (length bs) (hash_of g.H.BuildHasher g.H.Hasher.Hasher t.hasher (g.E.Key.Hash.hash_input (g.E.Keyed.key_of (g.E.Made.made_of c.args.parts)))) =
+    let at = rw (settings-view bs _ c.args.self.now c.self.view_is, count) at c.requires.routed in at ∙ ap (bucket_number t.skipped (length bs)) hashed in
+    let stored = (put-is c.self.inside.buckets c.args.bucket l c.insert_made.new.self _ c.in-Ok.ensures.ok.1) ∙ ap (λ x. let r : Shelf g.row.E.Denot = record (with_entry b (g.E.Made.made_of c.args.parts) x) { room = (shelf_of c.insert_made.new.self c.args.bucket).room } in r) (c.tag.ensures ∙ ap tag_of hashed) in
     record {
-      ok = (
-          let routed : i ≡ bucket_number t.skipped (length bs) (hash_of g.H.BuildHasher g.H.Hasher.Hasher t.hasher (g.E.Key.Hash.hash_input (g.E.Keyed.key_of (g.E.Made.made_of c.args.parts)))) =
-          let at = rw (settings-view bs _ c.args.self.now c.self.view_is, count) at c.requires.routed in at ∙ ap (bucket_number t.skipped (length bs)) hashed in
-          let stored = (put-is c.self.inside.buckets c.args.bucket l c.insert_made.new.self _ c.in-Ok.ensures.ok.1) ∙ ap (λ x. let r : Shelf g.row.E.Denot = record (with_entry b (g.E.Made.made_of c.args.parts) x) { room = (shelf_of c.insert_made.new.self c.args.bucket).room } in r) (c.tag.ensures ∙ ap tag_of hashed) in
-          rw (put-own c.self.inside.buckets c.args.bucket l c.insert_made.new.self _ c.in-Ok.ensures.ok.1) (inserted-at (λ e. hash_of g.H.BuildHasher g.H.Hasher.Hasher c.self.inside.hasher (g.E.Key.Hash.hash_input (g.E.Keyed.key_of e))) t.skipped t.length t.overflowing i bs c.self.invariant.table _ c.args.self.now c.self.view_is b l (shelf-at c.self.inside.buckets c.args.bucket l) (shelf_of c.insert_made.new.self c.args.bucket) (g.E.Made.made_of c.args.parts) c.in-Ok.slot stored c.in-Ok.ensures.ok.0));
+      ok = (rw (put-own c.self.inside.buckets c.args.bucket l c.insert_made.new.self _ c.in-Ok.ensures.ok.1) (inserted-at (λ e. hash_of g.H.BuildHasher g.H.Hasher.Hasher c.self.inside.hasher (g.E.Key.Hash.hash_input (g.E.Keyed.key_of e))) t.skipped t.length t.overflowing i bs c.self.invariant.table _ c.args.self.now c.self.view_is b l (shelf-at c.self.inside.buckets c.args.bucket l) (shelf_of c.insert_made.new.self c.args.bucket) (g.E.Made.made_of c.args.parts) c.in-Ok.slot stored c.in-Ok.ensures.ok.0));
       exact = (rw (put-own c.self.inside.buckets c.args.bucket l c.insert_made.new.self _ c.in-Ok.ensures.ok.1) (put-in-list bs _ c.args.self.now c.self.view_is i b l (shelf-at c.self.inside.buckets c.args.bucket l) (shelf_of c.insert_made.new.self c.args.bucket) (g.E.Made.made_of c.args.parts) _ c.in-Ok.slot (c.self.invariant.table.own i b l (shelf-at c.self.inside.buckets c.args.bucket l)).within (put-is c.self.inside.buckets c.args.bucket l c.insert_made.new.self _ c.in-Ok.ensures.ok.1) c.in-Ok.ensures.ok.0));
       err = (search rules);
       stays = (search rules);
       buckets = (count-view c.insert_made.new.self _ _ refl ∙ ap length c.in-Ok.ensures.ok.1 ∙ length-set bs c.args.bucket _ ∙ sym (count-view bs _ c.args.self.now c.self.view_is));
       refused = (refused-view _ _ _ refl ∙ sym (refused-view c.self.inside.buckets _ c.args.self.now c.self.view_is));
-      unique = (
-          let routed : i ≡ bucket_number t.skipped (length bs) (hash_of g.H.BuildHasher g.H.Hasher.Hasher t.hasher (g.E.Key.Hash.hash_input (g.E.Keyed.key_of (g.E.Made.made_of c.args.parts)))) =
-          let at = rw (settings-view bs _ c.args.self.now c.self.view_is, count) at c.requires.routed in at ∙ ap (bucket_number t.skipped (length bs)) hashed in
-          let stored = (put-is c.self.inside.buckets c.args.bucket l c.insert_made.new.self _ c.in-Ok.ensures.ok.1) ∙ ap (λ x. let r : Shelf g.row.E.Denot = record (with_entry b (g.E.Made.made_of c.args.parts) x) { room = (shelf_of c.insert_made.new.self c.args.bucket).room } in r) (c.tag.ensures ∙ ap tag_of hashed) in
-          rw (put-own c.self.inside.buckets c.args.bucket l c.insert_made.new.self _ c.in-Ok.ensures.ok.1) (unique-inserted g.met.E.Key.Eq.laws g.E.Keyed.key_of (g.E.Made.made_of c.args.parts) (entries c.args.self.now) _ (rw (entries-view bs _ c.args.self.now c.self.view_is) c.self.invariant.unique) c.requires.absent (inserted-holds (λ e. hash_of g.H.BuildHasher g.H.Hasher.Hasher c.self.inside.hasher (g.E.Key.Hash.hash_input (g.E.Keyed.key_of e))) t.skipped t.length t.overflowing i bs c.self.invariant.table _ c.args.self.now c.self.view_is b l (shelf-at c.self.inside.buckets c.args.bucket l) (shelf_of c.insert_made.new.self c.args.bucket) (g.E.Made.made_of c.args.parts) c.in-Ok.slot stored c.in-Ok.ensures.ok.0).same));
+      unique = (rw (put-own c.self.inside.buckets c.args.bucket l c.insert_made.new.self _ c.in-Ok.ensures.ok.1) (unique-inserted g.met.E.Key.Eq.laws g.E.Keyed.key_of (g.E.Made.made_of c.args.parts) (entries c.args.self.now) _ (rw (entries-view bs _ c.args.self.now c.self.view_is) c.self.invariant.unique) c.requires.absent (inserted-holds (λ e. hash_of g.H.BuildHasher g.H.Hasher.Hasher c.self.inside.hasher (g.E.Key.Hash.hash_input (g.E.Keyed.key_of e))) t.skipped t.length t.overflowing i bs c.self.invariant.table _ c.args.self.now c.self.view_is b l (shelf-at c.self.inside.buckets c.args.bucket l) (shelf_of c.insert_made.new.self c.args.bucket) (g.E.Made.made_of c.args.parts) c.in-Ok.slot stored c.in-Ok.ensures.ok.0).same));
     }
 
 pub returns-in-Err : goal.returns-in-Err
@@ -137,19 +132,12 @@ returns-in-Err g c =
     let count = count-view bs _ c.args.self.now c.self.view_is in
     let l : i < length bs = rw count at c.requires.within in
     let b = (shelf_of c.self.inside.buckets c.args.bucket) in
-    let hashed = rw (settings-view bs _ c.args.self.now c.self.view_is) at c.requires.hashed in
     record {
       ok = (search rules);
       exact = (search rules);
-      err = (
-          let routed : i ≡ bucket_number t.skipped (length bs) (hash_of g.H.BuildHasher g.H.Hasher.Hasher t.hasher (g.E.Key.Hash.hash_input (g.E.Keyed.key_of (g.E.Made.made_of c.args.parts)))) =
-          let at = rw (settings-view bs _ c.args.self.now c.self.view_is, count) at c.requires.routed in at ∙ ap (bucket_number t.skipped (length bs)) hashed in
-          rw (put-own c.self.inside.buckets c.args.bucket l c.insert_made.new.self _ c.in-Err.ensures.err.1) ((c.in-Err.ensures.err.0, refused-unchanged (λ e. hash_of g.H.BuildHasher g.H.Hasher.Hasher c.self.inside.hasher (g.E.Key.Hash.hash_input (g.E.Keyed.key_of e))) t.skipped t.length t.overflowing i bs c.self.invariant.table _ c.args.self.now c.self.view_is b l (shelf-at c.self.inside.buckets c.args.bucket l) (shelf_of c.insert_made.new.self c.args.bucket) (put-is c.self.inside.buckets c.args.bucket l c.insert_made.new.self _ c.in-Err.ensures.err.1))));
+      err = (rw (put-own c.self.inside.buckets c.args.bucket l c.insert_made.new.self _ c.in-Err.ensures.err.1) ((c.in-Err.ensures.err.0, refused-unchanged (λ e. hash_of g.H.BuildHasher g.H.Hasher.Hasher c.self.inside.hasher (g.E.Key.Hash.hash_input (g.E.Keyed.key_of e))) t.skipped t.length t.overflowing i bs c.self.invariant.table _ c.args.self.now c.self.view_is b l (shelf-at c.self.inside.buckets c.args.bucket l) (shelf_of c.insert_made.new.self c.args.bucket) (put-is c.self.inside.buckets c.args.bucket l c.insert_made.new.self _ c.in-Err.ensures.err.1))));
       stays = (rw (put-own c.self.inside.buckets c.args.bucket l c.insert_made.new.self _ c.in-Err.ensures.err.1) (same-in-lists bs _ c.args.self.now c.self.view_is c.args.bucket (shelf_of bs c.args.bucket) l (shelf-at bs c.args.bucket l) (shelf_of c.insert_made.new.self c.args.bucket) (put-is c.self.inside.buckets c.args.bucket l c.insert_made.new.self _ c.in-Err.ensures.err.1)));
       buckets = (count-view c.insert_made.new.self _ _ refl ∙ ap length c.in-Err.ensures.err.1 ∙ length-set bs c.args.bucket _ ∙ sym (count-view bs _ c.args.self.now c.self.view_is));
       refused = (refused-view _ _ _ refl ∙ sym (refused-view c.self.inside.buckets _ c.args.self.now c.self.view_is));
-      unique = (
-          let routed : i ≡ bucket_number t.skipped (length bs) (hash_of g.H.BuildHasher g.H.Hasher.Hasher t.hasher (g.E.Key.Hash.hash_input (g.E.Keyed.key_of (g.E.Made.made_of c.args.parts)))) =
-          let at = rw (settings-view bs _ c.args.self.now c.self.view_is, count) at c.requires.routed in at ∙ ap (bucket_number t.skipped (length bs)) hashed in
-          rw (put-own c.self.inside.buckets c.args.bucket l c.insert_made.new.self _ c.in-Err.ensures.err.1) (rw ((refused-unchanged (λ e. hash_of g.H.BuildHasher g.H.Hasher.Hasher c.self.inside.hasher (g.E.Key.Hash.hash_input (g.E.Keyed.key_of e))) t.skipped t.length t.overflowing i bs c.self.invariant.table _ c.args.self.now c.self.view_is b l (shelf-at c.self.inside.buckets c.args.bucket l) (shelf_of c.insert_made.new.self c.args.bucket) (put-is c.self.inside.buckets c.args.bucket l c.insert_made.new.self _ c.in-Err.ensures.err.1)).exact, entries-view bs _ c.args.self.now c.self.view_is) c.self.invariant.unique));
+      unique = (rw (put-own c.self.inside.buckets c.args.bucket l c.insert_made.new.self _ c.in-Err.ensures.err.1) (rw ((refused-unchanged (λ e. hash_of g.H.BuildHasher g.H.Hasher.Hasher c.self.inside.hasher (g.E.Key.Hash.hash_input (g.E.Keyed.key_of e))) t.skipped t.length t.overflowing i bs c.self.invariant.table _ c.args.self.now c.self.view_is b l (shelf-at c.self.inside.buckets c.args.bucket l) (shelf_of c.insert_made.new.self c.args.bucket) (put-is c.self.inside.buckets c.args.bucket l c.insert_made.new.self _ c.in-Err.ensures.err.1)).exact, entries-view bs _ c.args.self.now c.self.view_is) c.self.invariant.unique));
     }

@@ -97,9 +97,9 @@ invariant_of-self g c =
 pub returns : goal.returns
 returns g c =
     let t = c.self.inside in
-    let bs = c.self.inside.buckets in
+    let bs = t.buckets in
     let count = count-view bs _ c.args.self.now c.self.view_is in
-    let l : c.args.place.bucket < length bs = rw (count-view bs _ c.args.self.now c.self.view_is) at c.requires.bucket in
+    let l : c.args.place.bucket < length bs = rw count at c.requires.bucket in
     let b = (shelf_of c.self.inside.buckets c.args.place.bucket) in
     let lk : c.args.place.slot < length (shelf_entries b) = rw (list-view bs _ c.args.self.now c.self.view_is c.args.place.bucket b l (shelf-at c.self.inside.buckets c.args.place.bucket l)) at c.requires.slot in
     let got = place-get c.args.self.now c.args.place c.requires c.remove_at-entry.result
