@@ -3,17 +3,6 @@ use Rattle.std.proofs.lemmas.List.{set-set}
 use Rattle.scc_array.specs.Shelves.{shelf_of}
 use Rattle.scc_draining.proofs.moving.fill.Goals as goal
 
-pub returns-in_err-make_ready : goal.returns-in_err-make_ready
-returns-in_err-make_ready g c =
-    record {
-      ok = (search rules);
-      few = (search rules);
-      others = (search rules);
-      stays = (search rules);
-      err = (search rules);
-      refused = (search rules);
-    }
-
 pub returns : goal.returns
 returns g c =
     let i = c.args.task.target in

@@ -13,14 +13,3 @@ returns-then-is_tried g c =
       listed = (listed-later (λ s (e : g.row.E.Denot). hash_of g.H.BuildHasher g.H.Hasher.Hasher s.hasher (g.E.Key.Hash.hash_input (g.E.Keyed.key_of e))) c.args.self.now c.mark.new.self c.mark.ensures.lists c.mark.ensures.settings (c.mark.ensures.spilled ∙ c.requires.bounded) c.requires);
       unique = (search rules);
     }
-
-pub returns-else-is_tried : goal.returns-else-is_tried
-returns-else-is_tried g c =
-    record {
-      lists = (search rules);
-      settings = (search rules);
-      noted = (search rules);
-      waiting = (search rules);
-      listed = (search rules);
-      unique = (search rules);
-    }

@@ -1,4 +1,4 @@
-use Rattle.std.proofs.Common.{◌∙◌, ◌+◌, sym, subst, arith, rules}
+use Rattle.std.proofs.Common.{◌∙◌, ◌+◌, sym, subst, arith}
 use Rattle.scc_table.specs.TwoArrays.{pending_targets}
 use Rattle.scc_table.proofs.SettlingLemmas.{SettlesFirst, moved-all, settles-all, settles-start, settles-none, settles-one}
 use Rattle.scc_table.proofs.Viewed.{pending-seen}
@@ -34,18 +34,4 @@ returns-then-self-eq0 g c =
       moved = (moved-all (pending_targets c.args.self.now) c.loop.self c.loop.counter c.args.most c.loop.invariant.moved (omega arith) none);
       exact = (settles-all c.args.self.now c.loop.self c.loop.counter c.args.most c.loop.invariant (omega arith) none);
       bounded = c.loop.invariant.bounded;
-    }
-
-pub returns : goal.returns
-returns g c =
-    record {
-      lists = (search rules);
-      settings = (search rules);
-      noted = (search rules);
-      fewer = (search rules);
-      less = (search rules);
-      most = (search rules);
-      moved = (search rules);
-      exact = (search rules);
-      bounded = (search rules);
     }

@@ -23,16 +23,3 @@ returns-in-Ok g c =
       noted = (c.over.ensures.noted ∙ c.in-Ok.ensures.noted);
       waiting = c.over.ensures.waiting;
     }
-
-pub returns-in-Err : goal.returns-in-Err
-returns-in-Err g c =
-    record {
-      entries = (search rules);
-      listed = (search rules);
-      none = (search rules);
-      size = (search rules);
-      settings = (search rules);
-      succeeds = (search rules);
-      noted = (search rules);
-      waiting = (search rules);
-    }
