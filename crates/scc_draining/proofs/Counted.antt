@@ -3,6 +3,7 @@ use Rattle.std.proofs.Common.{◌≡◌, ◌==◌, ℕ, ◌+◌, ◌<◌, ◌≤
 use Rattle.std.specs.List.{flat_map, slice_get}
 use Rattle.std.proofs.lemmas.List.{append-nil, take_more}
 use Rattle.std.proofs.lemmas.List.Sums.{length-filter, count_by-le-length}
+use native.Mathlib.Decide.{dec_lt}
 use Rattle.scc_array.specs.Shelf.{Shelf, shelf_entries, empty_shelf}
 use Rattle.scc_array.proofs.ListsLemmas.{get-is}
 use Rattle.scc_array.specs.Shelves.{shelf_of}
@@ -58,3 +59,10 @@ part-le olds m l =
     let b : length (flat_map shelf_entries olds) ≡ length (flat_map shelf_entries (take (m + 1) olds)) + length (flat_map shelf_entries (drop (m + 1) olds)) =
     ap length (flat-parts (m + 1) olds) ∙ length-append (flat_map shelf_entries (take (m + 1) olds)) (flat_map shelf_entries (drop (m + 1) olds)) in
     omega arith
+
+-- a number that is m where it is more than 32 is no more than 32 where m isn't
+pub short-counted : (n m : ℕ) → (32 < n → n ≡ m) → m ≤ 32 → n ≤ 32
+short-counted n m exact few = elim (dec_lt 32 n) [
+  | yes l ↦ absurd (let same = exact l in omega arith)
+  | no l ↦ omega arith
+]

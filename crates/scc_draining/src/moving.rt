@@ -1,10 +1,11 @@
 //! How the entries of one bucket of the new array come out of the old one.
-ghost use Rattle.std.specs.Prelude.{◌≡◌, ◌==◌, ◌<◌, ◌≤◌, ◌+◌, ◌^◌, ◌*◌, ◌⊎◌, ℕ, [], length, map, take, false, slice_get, slice_index_or, slice_set, Some, IfOk, IsTrue, OnOk, OnErr};
+ghost use Rattle.std.specs.Prelude.{◌≡◌, ◌==◌, ◌<◌, ◌≤◌, ◌+◌, ◌^◌, ◌*◌, ◌⊎◌, ℕ, [], length, map, take, false, slice_get, slice_index_or, slice_set, Some, IsTrue, OnOk, OnErr};
 ghost use Rattle.std.specs.List.{flat_map, IsDistinct};
 ghost use Rattle.scc_array.specs.Shelves.{shelf_of};
 ghost use Rattle.scc_array.specs.Shelf.{empty_shelf, shelf_entries};
 ghost use Rattle.scc_array.specs.Sifts.{ups};
-ghost use Rattle.scc_draining.specs.Moves.{AreJoined, AreMultiples, AreOwn, AreSiblings, Drains, IsWithinSources, Pulls, TakesOver};
+ghost use Rattle.scc_draining.specs.Moves.{AreJoined, AreMultiples, AreOwn, AreSiblings, Drains, IsWithinSources, Pulls};
+ghost use Rattle.scc_draining.specs.Taking.{Fills, TakesIn};
 ghost use Rattle.scc_contents.specs.Contents.{bucket_count, key_hash, list_of, lists_of, settings_of, spilled_of};
 ghost use Rattle.scc_buckets.specs.Pour.{IsPacked, bound_for};
 ghost use Rattle.scc_contents.specs.Routing.{bucket_number};
@@ -233,16 +234,8 @@ where
         ≡ record empty_shelf { room = (shelf_of into.old task.target).room } }
     requires coming { length (bound_for (λ e. key_hash H.BuildHasher H.Hasher.Hasher E.Key.hash_input table.now
         (E.key_of e)) task.skipped count task.target (flat_map shelf_entries old.old)) ≤ coming }
-    ensures ok { OnOk result (Drains (λ e. key_hash H.BuildHasher H.Hasher.Hasher E.Key.hash_input table.now (E.key_of
-        e)) task.skipped count task.target old.old empty_shelf old.new (shelf_of into.new task.target)) }
-    ensures few { OnOk result (coming ≤ 32 + left) }
-    ensures others { into.new ≡ slice_set into.old task.target (shelf_of into.new task.target) }
-    ensures stays { OnErr result (shelf_of into.new task.target ≡ record empty_shelf {
-      room = (shelf_of into.new
-          task.target).room;
-    }) }
-    ensures err { OnErr result (old.new ≡ old.old) }
-    ensures refused { OnErr result (32 < coming) }
+    ensures { Fills (λ e. key_hash H.BuildHasher H.Hasher.Hasher E.Key.hash_input table.now (E.key_of e)) task.skipped
+        count task.target coming left into.old old.old result into.new old.new }
 {
     make_ready(into, task.target, coming, left)?;
     drain(into, old, task, table, count);
@@ -278,13 +271,8 @@ where
     requires unique { IsDistinct E.Key.eq (map E.key_of (flat_map (λ l. l) (slice_set (lists_of current.old) task.target
         (bound_for (λ e. key_hash H.BuildHasher H.Hasher.Hasher E.Key.hash_input current.old (E.key_of e)) task.skipped
         (bucket_count current.old) task.target (flat_map shelf_entries old.old))))) }
-    ensures ok { IfOk result (λ n. TakesOver (λ e. key_hash H.BuildHasher H.Hasher.Hasher E.Key.hash_input current.old
-        (E.key_of e)) task.target n current.old old.old current.new old.new) }
-    ensures few { OnOk result (spilled_of current.new + aside < 2 ^ 62) }
-    ensures short { OnOk result (coming ≤ 32 → spilled_of current.new ≤ spilled_of current.old) }
-    ensures err { OnErr result (current.new ≡ current.old) }
-    ensures stays { OnErr result (old.new ≡ old.old) }
-    ensures refused { OnErr result (32 < coming) }
+    ensures { TakesIn (λ e. key_hash H.BuildHasher H.Hasher.Hasher E.Key.hash_input current.old (E.key_of e))
+        task.target coming aside current.old old.old result current.new old.new }
 {
     current.keep_lists();
     let alloc = current.allocator();
@@ -504,16 +492,10 @@ where
     requires unique { IsDistinct E.Key.eq (map E.key_of (flat_map (λ l. l) (slice_set (lists_of current.old) target
         (bound_for (λ e. key_hash H.BuildHasher H.Hasher.Hasher E.Key.hash_input current.old (E.key_of e)) skipped
         (bucket_count current.old) target (flat_map shelf_entries old.old))))) }
-    ensures ok { IfOk result (λ n. TakesOver (λ e. key_hash H.BuildHasher H.Hasher.Hasher E.Key.hash_input current.old
-        (E.key_of e)) target n current.old old.old current.new old.new) }
-    ensures few { OnOk result (spilled_of current.new + aside < 2 ^ 62) }
-    ensures short { OnOk result (length (bound_for (λ e. key_hash H.BuildHasher H.Hasher.Hasher E.Key.hash_input
-        current.old (E.key_of e)) skipped (bucket_count current.old) target (flat_map shelf_entries old.old)) ≤ 32 →
-        spilled_of current.new ≤ spilled_of current.old) }
-    ensures err { OnErr result (current.new ≡ current.old) }
-    ensures stays { OnErr result (old.new ≡ old.old) }
-    ensures refused { OnErr result (32 < length (bound_for (λ e. key_hash H.BuildHasher H.Hasher.Hasher E.Key.hash_input
-        current.old (E.key_of e)) skipped (bucket_count current.old) target (flat_map shelf_entries old.old))) }
+    ensures { TakesIn (λ e. key_hash H.BuildHasher H.Hasher.Hasher E.Key.hash_input current.old (E.key_of e)) target
+        (length (bound_for (λ e. key_hash H.BuildHasher H.Hasher.Hasher E.Key.hash_input current.old (E.key_of e))
+        skipped (bucket_count current.old) target (flat_map shelf_entries old.old))) aside current.old old.old result
+        current.new old.new }
 {
     let before = old.len();
     let count = current.bucket_count();

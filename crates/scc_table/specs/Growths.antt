@@ -217,3 +217,18 @@ module _ {E K S : Type 0} (eq : K → K → Bool) (key : E → K) where
       pub all : 0 < bucket_count c → bucket_count d ≢ bucket_count c → pending_of d ≡ bucket_count d
       -- no two keys are equal
       pub unique : IsUniqueBy eq key d
+
+    -- the mark of a growth that was tried is taken away, and nothing else changed
+    pub record DropsRoomWithin (c d : Contents E S) : Type 0 where
+      -- each list stays
+      pub lists : lists_of d ≡ lists_of c
+      -- the settings stay
+      pub settings : settings_of d ≡ settings_of c
+      -- the note of refused memory stays, and no growth is marked as tried
+      pub noted : refused_of d ≡ ((refused_of c).0, false)
+      -- the same buckets wait
+      pub waiting : waiting_of d ≡ waiting_of c
+      -- each entry stands in the list of its hash
+      pub listed : IsListed (λ e. hash_in d (key e)) d
+      -- no two keys are equal
+      pub unique : IsUniqueBy eq key d

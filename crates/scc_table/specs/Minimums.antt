@@ -1,7 +1,8 @@
 -- What a change of the minimum does to a table of two arrays, in one word a call.
-use Rattle.std.specs.Prelude.{◌≡◌, ◌≤◌, ◌<◌, ◌+◌, ◌^◌, ◌↔◌, ℕ, Bool, Option, IfNone, IfSome, IsSome, IsTrue, OnSome}
-use Rattle.scc_contents.specs.Contents.{Contents, minimum_of, refused_of, settings_of, waiting_of, IsUniqueBy}
-use Rattle.scc_contents.specs.Steps.{IsUnchanged, ReachesMinimumWhenDue, Releases, Reserves, ShrinksWhenDue}
+use Rattle.std.specs.Prelude.{◌≡◌, ◌≢◌, ◌≤◌, ◌<◌, ◌+◌, ◌*◌, ◌^◌, ◌↔◌, ℕ, Bool, Option, IfNone, IfSome, IsSome, IsTrue, OnSome}
+use Rattle.scc_contents.specs.Contents.{Contents, bucket_count, minimum_of, refused_of, settings_of, waiting_of, IsUniqueBy}
+use Rattle.scc_contents.specs.Sizes.{IsArraySize}
+use Rattle.scc_contents.specs.Steps.{IsUnchanged, ReachesMinimumWhenDue, Releases, Reserves, Resizes, ShrinksWhenDue}
 use Rattle.scc_table.specs.Relocates.{IsGrowthDue, IsShrinkDue, Spreads}
 
 module _ {E K S : Type 0} (eq : K → K → Bool) (key : E → K) where
@@ -61,5 +62,20 @@ module _ {E K S : Type 0} (eq : K → K → Bool) (key : E → K) where
     pub noted : (IsTrue result → ⊥) → refused_of d ≡ refused_of c
     -- nor what waits
     pub waiting : (IsTrue result → ⊥) → waiting_of d ≡ waiting_of c
+    -- no two keys are equal
+    pub unique : IsUniqueBy eq key d
+
+  -- an array of fewer slots than the minimum grows to it, unless memory is refused
+  pub record GrowsToMinimum (c d : Contents E S) : Type 0 where
+    -- nothing changed but for one resize
+    pub resizes : Resizes c d
+    -- there are no fewer buckets than before
+    pub more : bucket_count c ≤ bucket_count d
+    -- another array takes the place of one, and has the size of the minimum
+    pub size : bucket_count d ≢ bucket_count c → (0 < bucket_count c) × IsArraySize (minimum_of c) (32 * bucket_count d)
+    -- the array reaches the minimum, unless memory is refused
+    pub due : ReachesMinimumWhenDue c d
+    -- every bucket of a larger one waits
+    pub spreads : Spreads (IsGrowthDue (minimum_of c) c) c d
     -- no two keys are equal
     pub unique : IsUniqueBy eq key d

@@ -1,11 +1,13 @@
 -- What calls do to the buckets that wait for their pairs to come from an old array.
-use Rattle.std.specs.Prelude.{◌≡◌, ◌≢◌, ℕ, ◌+◌, ◌<◌, ◌≤◌, false, length}
+use Rattle.std.specs.Prelude.{◌≡◌, ◌≢◌, ℕ, ◌+◌, ◌<◌, ◌≤◌, false, [], drop, length, Result}
 use Rattle.std.specs.List.{range_with_len}
-use Rattle.scc_contents.specs.Contents.{Contents, entries, bucket_count, minimum_of, pending_of, settings_of, waiting_of}
+use Rattle.std.specs.Result.{OnOk, OnErr}
+use Rattle.scc_contents.specs.Contents.{Contents, entries, bucket_count, list_of, lists_of, minimum_of, pending_of, refused_of, settings_of, waiting_of}
 use Rattle.scc_contents.specs.Routing.{bucket_number}
 use Rattle.scc_contents.specs.Sizes.{IsSmaller}
-use Rattle.scc_table.specs.Relocates.{AreMovedBeside, AreShort, left_after}
-use Rattle.scc_table.specs.TwoArrays.{IsWaiting, pending_targets, waits_at}
+use Rattle.scc_buckets.specs.Bounded.{IsBounded}
+use Rattle.scc_table.specs.Relocates.{AreMovedBeside, AreShort, IsMovedUpTo, left_after}
+use Rattle.scc_table.specs.TwoArrays.{IsFirstWaiting, IsWaiting, pending_targets, waits_at}
 
 module _ {E S : Type 0} where
   -- an insertion of a new key, also a refused one: of the same array none waits that didn't, and two at most do no more; of a larger array all wait but two at most; of a first one none does
@@ -32,3 +34,45 @@ module _ {E S : Type 0} where
     pub all : bucket_count d ≢ bucket_count c → pending_of d ≡ bucket_count d
     pub less : bucket_count d ≡ bucket_count c → pending_of d ≤ pending_of c
     pub waiting : ((n : ℕ) → IsSmaller (minimum_of c) (length (entries d)) (bucket_count c) n → ⊥) → waiting_of d ≡ waiting_of c
+
+  -- of the buckets that waited the first ones took their entries over, so many at most; one whose memory was refused counts among them, and still waits
+  pub record RelocatesUpTo (count : ℕ) (c d : Contents E S) : Type 0 where
+    -- each list stays
+    pub lists : lists_of d ≡ lists_of c
+    -- the settings stay
+    pub settings : settings_of d ≡ settings_of c
+    -- the note of refused memory stays
+    pub noted : refused_of d ≡ refused_of c
+    -- none waits that didn't
+    pub fewer : (i : ℕ) → IsWaiting d i → IsWaiting c i
+    -- no more wait than before
+    pub less : pending_of d ≤ pending_of c
+    -- and so many at most wait no more
+    pub most : pending_of c ≤ pending_of d + count
+    -- they are the first ones, and fewer only where none waits or memory was refused
+    pub moved : IsMovedUpTo count c d
+    -- they are just so many where none that waits is long
+    pub exact : AreShort c → pending_targets d ≡ drop count (pending_targets c)
+    -- short overflow lists stay short where no bucket that waits is long
+    pub bounded : IsBounded c → AreShort c → IsBounded d
+
+  -- all buckets that waited took their entries over, or memory was refused for one, and it and those after it still wait
+  pub record RelocatesAll {X : Type 0} (c : Contents E S) (result : Result (Unit {0}) X) (d : Contents E S) : Type 0 where
+    -- each list stays
+    pub lists : lists_of d ≡ lists_of c
+    -- the settings stay
+    pub settings : settings_of d ≡ settings_of c
+    -- the note of refused memory stays
+    pub noted : refused_of d ≡ refused_of c
+    -- none waits that didn't
+    pub fewer : (i : ℕ) → IsWaiting d i → IsWaiting c i
+    -- no more wait than before
+    pub less : pending_of d ≤ pending_of c
+    -- none waits where no memory was refused
+    pub ok : OnOk result (waiting_of d ≡ [])
+    -- it is refused only for the first that waits, to which more than 32 entries come
+    pub refused : OnErr result ((i : ℕ) × (IsFirstWaiting d i) × (32 < length (list_of d i)))
+    -- the first ones took theirs over
+    pub moved : IsMovedUpTo (pending_of c) c d
+    -- short overflow lists stay short where no bucket that waits is long
+    pub bounded : IsBounded c → AreShort c → IsBounded d

@@ -1,13 +1,12 @@
 //! How new keys get into a table of two arrays.
-ghost use Rattle.std.specs.Prelude.{◌≡◌, ◌≤◌, ◌<◌, ◌+◌, ℕ, false, None, drop};
+ghost use Rattle.std.specs.Prelude.{◌≡◌, ◌<◌, ◌+◌, false, None};
 ghost use Rattle.std.specs.List.{position};
-ghost use Rattle.scc_buckets.specs.Bounded.{IsBounded};
-ghost use Rattle.scc_contents.specs.Contents.{entries, bucket_count, key_hash, lists_of, pending_of, refused_of, settings_of, waiting_of, HasRoomBy};
+ghost use Rattle.scc_contents.specs.Contents.{entries, bucket_count, key_hash, settings_of, waiting_of, HasRoomBy};
 ghost use Rattle.scc_contents.specs.Routing.{bucket_number};
-ghost use Rattle.scc_table.specs.Relocates.{AreShort, IsMovedUpTo};
 ghost use Rattle.scc_table.specs.TwoArrays.{IsWaiting, pending_targets, waits_at};
 ghost use Rattle.scc_table.specs.Insertions.{InsertsAt, InsertsInto, InsertsNew};
 ghost use Rattle.scc_table.specs.Puts.{PutsInto};
+ghost use Rattle.scc_table.specs.Relocations.{RelocatesUpTo};
 
 use super::Table;
 use scc_buckets::Place;
@@ -149,15 +148,7 @@ where
     /// among them, and still waits.
     #[inline(always)]
     pub(super) fn relocate_some(&mut self, most: usize)
-        ensures lists { lists_of self.new ≡ lists_of self.old }
-        ensures settings { settings_of self.new ≡ settings_of self.old }
-        ensures noted { refused_of self.new ≡ refused_of self.old }
-        ensures fewer { (i : ℕ) → IsWaiting self.new i → IsWaiting self.old i }
-        ensures less { pending_of self.new ≤ pending_of self.old }
-        ensures most { pending_of self.old ≤ pending_of self.new + most }
-        ensures moved { IsMovedUpTo most self.old self.new }
-        ensures exact { AreShort self.old → pending_targets self.new ≡ drop most (pending_targets self.old) }
-        ensures bounded { IsBounded self.old → AreShort self.old → IsBounded self.new }
+        ensures { RelocatesUpTo most self.old self.new }
     {
         for _ in 0..most {
             if self.draining.pending == 0 {

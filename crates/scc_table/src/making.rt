@@ -1,9 +1,8 @@
 //! How a table of two arrays is made: with one.
 ghost use Rattle.std.specs.Arc.{arc_value};
-ghost use Rattle.std.specs.Prelude.{◌≡◌, ◌≤◌, ◌<◌, ◌*◌, [], false, IsOk, IfOk};
-ghost use Rattle.scc_buckets.specs.Bounded.{IsListed};
-ghost use Rattle.scc_contents.specs.Contents.{entries, bucket_count, key_hash, lists_of, refused_of, settings_of, spilled_of, waiting_of};
-ghost use Rattle.scc_contents.specs.Sizes.{IsArraySize};
+ghost use Rattle.std.specs.Prelude.{◌≡◌, ◌≤◌, ◌<◌, []};
+ghost use Rattle.scc_contents.specs.Contents.{key_hash, lists_of, refused_of, settings_of, spilled_of, waiting_of};
+ghost use Rattle.scc_table.specs.Making.{IsNewTable, MakesTable};
 
 use super::{Draining, Table};
 use scc_array::Array;
@@ -22,13 +21,7 @@ where
     /// waits.
     pub fn new(alloc: Global, skipped: u32, hasher: H) -> Table<E, H>
         requires { skipped ≤ 4 }
-        ensures entries { entries result ≡ [] }
-        ensures listed { IsListed (λ e. key_hash H.BuildHasher H.Hasher.Hasher E.Key.hash_input result (E.key_of e))
-            result }
-        ensures buckets { bucket_count result ≡ 0 }
-        ensures settings { settings_of result ≡ record { hasher = hasher; skipped = skipped; asked = 0; reserved = 0 } }
-        ensures noted { refused_of result ≡ (false, false) }
-        ensures waiting { waiting_of result ≡ [] }
+        ensures { IsNewTable E.key_of (key_hash H.BuildHasher H.Hasher.Hasher E.Key.hash_input) hasher skipped result }
     {
         Table::over(skipped, Buckets::new(alloc, skipped, hasher))
     }
@@ -44,16 +37,8 @@ where
     where
         H: Drop,
         requires { skipped ≤ 4 }
-        ensures entries { IfOk result (λ t. entries t ≡ []) }
-        ensures listed { IfOk result (λ t. IsListed
-            (λ e. key_hash H.BuildHasher H.Hasher.Hasher E.Key.hash_input t (E.key_of e)) t) }
-        ensures none { IfOk result (λ t. slots ≡ 0 → bucket_count t ≡ 0) }
-        ensures size { IfOk result (λ t. 0 < slots → IsArraySize slots (32 * bucket_count t)) }
-        ensures settings { IfOk result (λ t. settings_of t
-            ≡ record { hasher = hasher; skipped = skipped; asked = 32 * bucket_count t; reserved = 0 }) }
-        ensures succeeds { slots ≡ 0 → IsOk result }
-        ensures noted { IfOk result (λ t. refused_of t ≡ (false, false)) }
-        ensures waiting { IfOk result (λ t. waiting_of t ≡ []) }
+        ensures { MakesTable E.key_of (key_hash H.BuildHasher H.Hasher.Hasher E.Key.hash_input) hasher skipped slots
+            result }
     {
         match Buckets::with_capacity(alloc, skipped, slots, hasher) {
             Ok(current) => Ok(Table::over(skipped, current)),
@@ -109,16 +94,8 @@ where
     where
         H: Drop,
         requires { skipped ≤ 4 }
-        ensures entries { IfOk result (λ t. entries t ≡ []) }
-        ensures listed { IfOk result (λ t. IsListed
-            (λ e. key_hash H.BuildHasher H.Hasher.Hasher E.Key.hash_input t (E.key_of e)) t) }
-        ensures none { IfOk result (λ t. slots ≡ 0 → bucket_count t ≡ 0) }
-        ensures size { IfOk result (λ t. 0 < slots → IsArraySize slots (32 * bucket_count t)) }
-        ensures settings { IfOk result (λ t. settings_of t
-            ≡ record { hasher = arc_value hasher; skipped = skipped; asked = 32 * bucket_count t; reserved = 0 }) }
-        ensures succeeds { slots ≡ 0 → IsOk result }
-        ensures noted { IfOk result (λ t. refused_of t ≡ (false, false)) }
-        ensures waiting { IfOk result (λ t. waiting_of t ≡ []) }
+        ensures { MakesTable E.key_of (key_hash H.BuildHasher H.Hasher.Hasher E.Key.hash_input) (arc_value hasher)
+            skipped slots result }
     {
         Table::with_capacity(alloc, skipped, slots, Shared::new(hasher))
     }

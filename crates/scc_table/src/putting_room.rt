@@ -2,8 +2,8 @@
 //! would drive out.
 ghost use Rattle.std.specs.Prelude.{◌≡◌, ◌≤◌, ◌<◌, ◌^◌, false, length, Some, slice_get};
 ghost use Rattle.scc_buckets.specs.Bounded.{IsListed};
-ghost use Rattle.scc_contents.specs.Contents.{bucket_count, key_hash, list_of, lists_of, refused_of, settings_of, waiting_of, IsUniqueBy};
-ghost use Rattle.scc_table.specs.Growths.{MakesRoomWithin};
+ghost use Rattle.scc_contents.specs.Contents.{bucket_count, key_hash, list_of};
+ghost use Rattle.scc_table.specs.Growths.{DropsRoomWithin, MakesRoomWithin};
 
 use super::Table;
 use scc_entry::Keyed;
@@ -43,13 +43,8 @@ where
     pub fn drop_room_within(&mut self)
         requires { IsListed (λ e. key_hash H.BuildHasher H.Hasher.Hasher E.Key.hash_input self.old (E.key_of e))
             self.old }
-        ensures lists { lists_of self.new ≡ lists_of self.old }
-        ensures settings { settings_of self.new ≡ settings_of self.old }
-        ensures noted { refused_of self.new ≡ ((refused_of self.old).0, false) }
-        ensures waiting { waiting_of self.new ≡ waiting_of self.old }
-        ensures listed { IsListed (λ e. key_hash H.BuildHasher H.Hasher.Hasher E.Key.hash_input self.new (E.key_of e))
-            self.new }
-        ensures unique { IsUniqueBy E.Key.eq E.key_of self.new }
+        ensures { DropsRoomWithin E.Key.eq E.key_of (key_hash H.BuildHasher H.Hasher.Hasher E.Key.hash_input)
+            self.old self.new }
     {
         self.keep_lists();
         if self.is_tried() {

@@ -1,8 +1,9 @@
 //! How buckets take their entries over from the old array.
-ghost use Rattle.std.specs.Prelude.{◌≡◌, ◌<◌, ◌≤◌, ℕ, [], length, OnOk, OnErr};
+ghost use Rattle.std.specs.Prelude.{◌≡◌, ◌<◌, ◌≤◌, ℕ, length, OnOk, OnErr};
 ghost use Rattle.scc_buckets.specs.Bounded.{IsBounded};
-ghost use Rattle.scc_contents.specs.Contents.{list_of, lists_of, pending_of, refused_of, settings_of, waiting_of};
-ghost use Rattle.scc_table.specs.Relocates.{AreShort, IsMovedUpTo};
+ghost use Rattle.scc_contents.specs.Contents.{list_of, pending_of};
+ghost use Rattle.scc_table.specs.Relocates.{AreShort};
+ghost use Rattle.scc_table.specs.Relocations.{RelocatesAll};
 ghost use Rattle.scc_table.specs.TwoArrays.{IsFirstWaiting, IsRelocated, IsWaiting};
 
 use super::Table;
@@ -82,15 +83,7 @@ where
     /// Moves the entries of all buckets that wait to them, the first bucket first. Where memory is refused for one, it
     /// and those after it still wait.
     pub fn finish(&mut self) -> Result<(), AllocError>
-        ensures lists { lists_of self.new ≡ lists_of self.old }
-        ensures settings { settings_of self.new ≡ settings_of self.old }
-        ensures noted { refused_of self.new ≡ refused_of self.old }
-        ensures fewer { (i : ℕ) → IsWaiting self.new i → IsWaiting self.old i }
-        ensures less { pending_of self.new ≤ pending_of self.old }
-        ensures ok { OnOk result (waiting_of self.new ≡ []) }
-        ensures refused { OnErr result ((i : ℕ) × (IsFirstWaiting self.new i) × (32 < length (list_of self.new i))) }
-        ensures moved { IsMovedUpTo (pending_of self.old) self.old self.new }
-        ensures bounded { IsBounded self.old → AreShort self.old → IsBounded self.new }
+        ensures { RelocatesAll self.old result self.new }
     {
         for _ in 0..self.draining.pending {
             self.relocate_next()?;

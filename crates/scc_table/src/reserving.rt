@@ -1,11 +1,8 @@
 //! How many slots a table of two arrays keeps at least, and the tokens of reserved ones.
-ghost use Rattle.std.specs.Prelude.{◌≡◌, ◌≢◌, ◌≤◌, ◌<◌, ◌+◌, ◌*◌, ◌^◌};
-ghost use Rattle.scc_contents.specs.Contents.{bucket_count, settings_of, minimum_of, IsUniqueBy};
-ghost use Rattle.scc_contents.specs.Sizes.{IsArraySize};
-ghost use Rattle.scc_contents.specs.Steps.{ReachesMinimumWhenDue, Resizes};
-ghost use Rattle.scc_table.specs.Relocates.{IsGrowthDue, Spreads};
+ghost use Rattle.std.specs.Prelude.{◌≡◌, ◌≤◌, ◌<◌, ◌+◌, ◌^◌};
+ghost use Rattle.scc_contents.specs.Contents.{bucket_count, settings_of};
 ghost use Rattle.scc_table.specs.Starts.{SetsReserved};
-ghost use Rattle.scc_table.specs.Minimums.{LowersMinimum, RaisesMinimum, ReservesSlots};
+ghost use Rattle.scc_table.specs.Minimums.{GrowsToMinimum, LowersMinimum, RaisesMinimum, ReservesSlots};
 
 use super::Table;
 use scc_buckets::sizes::{GREATEST_CAPACITY, buckets_for};
@@ -95,13 +92,7 @@ where
 
     /// Lets an array of fewer slots than the minimum grow, unless memory is refused.
     fn grow_to_minimum(&mut self)
-        ensures resizes { Resizes self.old self.new }
-        ensures more { bucket_count self.old ≤ bucket_count self.new }
-        ensures size { bucket_count self.new ≢ bucket_count self.old
-            → (0 < bucket_count self.old) × IsArraySize (minimum_of self.old) (32 * bucket_count self.new) }
-        ensures due { ReachesMinimumWhenDue self.old self.new }
-        ensures spreads { Spreads (IsGrowthDue (minimum_of self.old) self.old) self.old self.new }
-        ensures unique { IsUniqueBy E.Key.eq E.key_of self.new }
+        ensures { GrowsToMinimum E.Key.eq E.key_of self.old self.new }
     {
         let count = self.bucket_count();
         let wanted = buckets_for(self.minimum());

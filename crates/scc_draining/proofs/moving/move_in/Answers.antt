@@ -194,90 +194,6 @@ exchange-none-requires-clause-unique g c =
     subst (λ (z : List (Shelf g.row.E.Denot)). IsDistinct g.E.Key.PartialEq.eq (map g.E.Keyed.key_of (flat_map shelf_entries z))) (sym others)
     (distinct-landed g.E.Key.PartialEq.eq g.E.Keyed.key_of cur bs were i d (bound_for hash t (length bs) i es) b l at bare (landed-list hash t i bs b es c.left_of-left.result d landed) c.keep_lists.ensures.unique there)
 
-pub returns-in-Ok-clause-ok : goal.returns-in-Ok-clause-ok
-returns-in-Ok-clause-ok g c =
-    let cur = c.args.current.now in
-    let bs = c.exchange-fresh.result.0 in
-    let i = c.args.task.target in
-    let hash = λ (e : g.row.E.Denot). key_hash g.H.BuildHasher g.H.Hasher.Hasher g.E.Key.Hash.hash_input cur (g.E.Keyed.key_of e) in
-    let were = c.exchange-fresh.ensures.were in
-    let counted = count-were cur bs were in
-    let l : i < length bs = omega (arith, c.requires.target) in
-    let b = shelf_of bs i in
-    let at = shelf-at bs i l in
-    let bare : shelf_entries b ≡ [] = sym (list-were cur bs were i b l at) ∙ c.requires.bare in
-    let es = flat_map shelf_entries c.args.old.now in
-    let t = (settings_of cur).skipped in
-    let n = c.fill-filled.new.into in
-    let d = shelf_of n i in
-    let others : n ≡ set bs i d = c.fill-filled.ensures.others in
-    let moved : c.bucket_len-moved.result ≡ length (shelf_entries d) = c.bucket_len-moved.ensures in
-    let spilled : c.overflow_len-spilled.result ≡ length d.overflow = c.overflow_len-spilled.ensures in
-    let buckets : c.len-buckets.result ≡ bucket_count cur = let z : c.len-buckets.result ≡ length bs = search rules in z ∙ sym counted in
-    let drains = rw (c.exchange-fresh.ensures.settings, c.requires.skips, buckets) at c.in-Ok.ensures.ok in
-    let es_are = drains.moved.entries_are in
-    record {
-      lists = c.exchange-none.ensures.lists ∙ ap (map shelf_entries) others ∙ lists-set g.E.Key.PartialEq.eq g.E.Keyed.key_of cur bs were i d ∙ ap (set (lists_of cur) i) es_are;
-      moved = moved ∙ ap length es_are;
-      settings = c.exchange-none.ensures.settings ∙ c.exchange-fresh.ensures.settings;
-      refused = c.exchange-none.ensures.noted ∙ c.exchange-fresh.ensures.noted;
-      count = drains.count;
-      kept = drains.kept;
-      own = drains.own;
-      overflow = drains.overflow;
-    }
-
-pub returns-in-Ok-clause-few : goal.returns-in-Ok-clause-few
-returns-in-Ok-clause-few g c =
-    let cur = c.args.current.now in
-    let bs = c.exchange-fresh.result.0 in
-    let i = c.args.task.target in
-    let hash = λ (e : g.row.E.Denot). key_hash g.H.BuildHasher g.H.Hasher.Hasher g.E.Key.Hash.hash_input cur (g.E.Keyed.key_of e) in
-    let were = c.exchange-fresh.ensures.were in
-    let counted = count-were cur bs were in
-    let l : i < length bs = omega (arith, c.requires.target) in
-    let b = shelf_of bs i in
-    let at = shelf-at bs i l in
-    let bare : shelf_entries b ≡ [] = sym (list-were cur bs were i b l at) ∙ c.requires.bare in
-    let es = flat_map shelf_entries c.args.old.now in
-    let t = (settings_of cur).skipped in
-    let n = c.fill-filled.new.into in
-    let d = shelf_of n i in
-    let others : n ≡ set bs i d = c.fill-filled.ensures.others in
-    let most : length (bound_for hash t (length bs) i es) ≤ c.args.coming = rw (c.requires.skips, counted) at c.requires.coming in
-    let ok = rw c.exchange-fresh.ensures.settings at c.fill-filled.ensures.ok in
-    let buckets : c.len-buckets.result ≡ length bs = search rules in
-    let landed = landed-from hash t i bs c.args.old.now c.fill-filled.new.old d c.left_of-left.result c.args.coming c.args.task.skipped c.len-buckets.result c.requires.skips buckets most c.fill-filled.result ok c.fill-filled.ensures.few c.fill-filled.ensures.stays in
-    let moved : c.bucket_len-moved.result ≡ length (shelf_entries d) = c.bucket_len-moved.ensures in
-    let spilled : c.overflow_len-spilled.result ≡ length d.overflow = c.overflow_len-spilled.ensures in
-    let less = landed-spilled hash t i bs b es c.left_of-left.result d landed in
-    omega (arith, c.exchange-none.ensures.spilled, c.exchange-fresh.ensures.overflowing, c.left_of-left.ensures)
-
-pub returns-in-Err-clause-err : goal.returns-in-Err-clause-err
-returns-in-Err-clause-err g c =
-    let cur = c.args.current.now in
-    let bs = c.exchange-fresh.result.0 in
-    let i = c.args.task.target in
-    let hash = λ (e : g.row.E.Denot). key_hash g.H.BuildHasher g.H.Hasher.Hasher g.E.Key.Hash.hash_input cur (g.E.Keyed.key_of e) in
-    let were = c.exchange-fresh.ensures.were in
-    let counted = count-were cur bs were in
-    let l : i < length bs = omega (arith, c.requires.target) in
-    let b = shelf_of bs i in
-    let at = shelf-at bs i l in
-    let bare : shelf_entries b ≡ [] = sym (list-were cur bs were i b l at) ∙ c.requires.bare in
-    let es = flat_map shelf_entries c.args.old.now in
-    let t = (settings_of cur).skipped in
-    let n = c.fill-filled.new.into in
-    let d = shelf_of n i in
-    let others : n ≡ set bs i d = c.fill-filled.ensures.others in
-    let moved : c.bucket_len-moved.result ≡ length (shelf_entries d) = c.bucket_len-moved.ensures in
-    let spilled : c.overflow_len-spilled.result ≡ length d.overflow = c.overflow_len-spilled.ensures in
-    let none : shelf_entries d ≡ [] = ap shelf_entries c.in-Err.ensures.stays in
-    let no_overflow : length d.overflow ≡ 0 = ap (λ z. length z.overflow) c.in-Err.ensures.stays in
-    same-contents cur c.exchange-none.new.self (c.exchange-none.ensures.lists ∙ ap (map shelf_entries) others ∙ lists-set g.E.Key.PartialEq.eq g.E.Keyed.key_of cur bs were i d ∙ same-lists g.E.Key.PartialEq.eq g.E.Keyed.key_of cur bs were i d b l at bare none)
-    (c.exchange-none.ensures.settings ∙ c.exchange-fresh.ensures.settings) (c.exchange-none.ensures.noted ∙ c.exchange-fresh.ensures.noted) (omega (arith, c.exchange-none.ensures.spilled, c.exchange-fresh.ensures.overflowing))
-    (c.exchange-none.ensures.waiting ∙ c.exchange-fresh.ensures.waiting) (c.exchange-none.ensures.owed ∙ c.exchange-fresh.ensures.owed)
-
 pub left_of-left-requires : goal.left_of-left-requires
 left_of-left-requires g c = omega (arith, c.exchange-fresh.ensures.overflowing, c.requires.aside)
 
@@ -315,8 +231,8 @@ destroy_empty-requires g c =
     let bare : length none ≡ 0 = sym (length-map none shelf_entries) ∙ ap length were ∙ ap (λ (z : List (Shelf g.row.E.Denot)). length (map shelf_entries z)) c.none.ensures in
     λ j l. absurd (omega arith)
 
-pub returns-in-Ok-clause-short : goal.returns-in-Ok-clause-short
-returns-in-Ok-clause-short g c =
+pub returns-in-Ok : goal.returns-in-Ok
+returns-in-Ok g c =
     let cur = c.args.current.now in
     let bs = c.exchange-fresh.result.0 in
     let i = c.args.task.target in
@@ -325,16 +241,73 @@ returns-in-Ok-clause-short g c =
     let counted = count-were cur bs were in
     let l : i < length bs = omega (arith, c.requires.target) in
     let b = shelf_of bs i in
+    let at = shelf-at bs i l in
+    let bare : shelf_entries b ≡ [] = sym (list-were cur bs were i b l at) ∙ c.requires.bare in
     let es = flat_map shelf_entries c.args.old.now in
     let t = (settings_of cur).skipped in
     let n = c.fill-filled.new.into in
     let d = shelf_of n i in
+    let others : n ≡ set bs i d = c.fill-filled.ensures.others in
     let most : length (bound_for hash t (length bs) i es) ≤ c.args.coming = rw (c.requires.skips, counted) at c.requires.coming in
     let ok = rw c.exchange-fresh.ensures.settings at c.fill-filled.ensures.ok in
     let buckets : c.len-buckets.result ≡ length bs = search rules in
+    let moved : c.bucket_len-moved.result ≡ length (shelf_entries d) = c.bucket_len-moved.ensures in
     let spilled : c.overflow_len-spilled.result ≡ length d.overflow = c.overflow_len-spilled.ensures in
-    λ few.
-    let none : c.args.coming ≤ 32 + 0 = few in
-    let landed = landed-from hash t i bs c.args.old.now c.fill-filled.new.old d 0 c.args.coming c.args.task.skipped c.len-buckets.result c.requires.skips buckets most c.fill-filled.result ok (any-ok c.fill-filled.result none) c.fill-filled.ensures.stays in
-    let less = landed-spilled hash t i bs b es 0 d landed in
-    omega (arith, c.exchange-none.ensures.spilled, c.exchange-fresh.ensures.overflowing)
+    record {
+      ok = (
+          let same : c.len-buckets.result ≡ bucket_count cur = buckets ∙ sym counted in
+          let drains = rw (c.exchange-fresh.ensures.settings, c.requires.skips, same) at c.in-Ok.ensures.ok in
+          let es_are = drains.moved.entries_are in
+          record {
+            lists = c.exchange-none.ensures.lists ∙ ap (map shelf_entries) others ∙ lists-set g.E.Key.PartialEq.eq g.E.Keyed.key_of cur bs were i d ∙ ap (set (lists_of cur) i) es_are;
+            moved = moved ∙ ap length es_are;
+            settings = c.exchange-none.ensures.settings ∙ c.exchange-fresh.ensures.settings;
+            refused = c.exchange-none.ensures.noted ∙ c.exchange-fresh.ensures.noted;
+            count = drains.count;
+            kept = drains.kept;
+            own = drains.own;
+            overflow = drains.overflow;
+          });
+      few = (
+          let landed = landed-from hash t i bs c.args.old.now c.fill-filled.new.old d c.left_of-left.result c.args.coming c.args.task.skipped c.len-buckets.result c.requires.skips buckets most c.fill-filled.result ok c.fill-filled.ensures.few c.fill-filled.ensures.stays in
+          let less = landed-spilled hash t i bs b es c.left_of-left.result d landed in
+          omega (arith, c.exchange-none.ensures.spilled, c.exchange-fresh.ensures.overflowing, c.left_of-left.ensures));
+      short = (
+          λ few.
+          let none : c.args.coming ≤ 32 + 0 = few in
+          let landed = landed-from hash t i bs c.args.old.now c.fill-filled.new.old d 0 c.args.coming c.args.task.skipped c.len-buckets.result c.requires.skips buckets most c.fill-filled.result ok (any-ok c.fill-filled.result none) c.fill-filled.ensures.stays in
+          let less = landed-spilled hash t i bs b es 0 d landed in
+          omega (arith, c.exchange-none.ensures.spilled, c.exchange-fresh.ensures.overflowing));
+      err = (search rules);
+      stays = (search rules);
+      refused = (search rules);
+    }
+
+pub returns-in-Err : goal.returns-in-Err
+returns-in-Err g c =
+    let cur = c.args.current.now in
+    let bs = c.exchange-fresh.result.0 in
+    let i = c.args.task.target in
+    let were = c.exchange-fresh.ensures.were in
+    let counted = count-were cur bs were in
+    let l : i < length bs = omega (arith, c.requires.target) in
+    let b = shelf_of bs i in
+    let at = shelf-at bs i l in
+    let bare : shelf_entries b ≡ [] = sym (list-were cur bs were i b l at) ∙ c.requires.bare in
+    let d = shelf_of c.fill-filled.new.into i in
+    let others : c.fill-filled.new.into ≡ set bs i d = c.fill-filled.ensures.others in
+    record {
+      ok = (search rules);
+      few = (search rules);
+      short = (search rules);
+      err = (
+          let moved : c.bucket_len-moved.result ≡ length (shelf_entries d) = c.bucket_len-moved.ensures in
+          let spilled : c.overflow_len-spilled.result ≡ length d.overflow = c.overflow_len-spilled.ensures in
+          let none : shelf_entries d ≡ [] = ap shelf_entries c.in-Err.ensures.stays in
+          let no_overflow : length d.overflow ≡ 0 = ap (λ z. length z.overflow) c.in-Err.ensures.stays in
+          same-contents cur c.exchange-none.new.self (c.exchange-none.ensures.lists ∙ ap (map shelf_entries) others ∙ lists-set g.E.Key.PartialEq.eq g.E.Keyed.key_of cur bs were i d ∙ same-lists g.E.Key.PartialEq.eq g.E.Keyed.key_of cur bs were i d b l at bare none)
+          (c.exchange-none.ensures.settings ∙ c.exchange-fresh.ensures.settings) (c.exchange-none.ensures.noted ∙ c.exchange-fresh.ensures.noted) (omega (arith, c.exchange-none.ensures.spilled, c.exchange-fresh.ensures.overflowing))
+          (c.exchange-none.ensures.waiting ∙ c.exchange-fresh.ensures.waiting) (c.exchange-none.ensures.owed ∙ c.exchange-fresh.ensures.owed));
+      stays = (search rules);
+      refused = (search rules);
+    }

@@ -1,6 +1,8 @@
-use Rattle.std.proofs.Common.{◌^◌, ◌<◌, ◌∙◌, sym, arith}
+use Rattle.std.proofs.Common.{◌^◌, ◌<◌, ◌∙◌, sym, arith, rules}
+use Rattle.std.proofs.lemmas.Result.{on_ok_weaker, on_err_weaker}
 use Rattle.scc_contents.specs.Contents.{bucket_count, key_hash}
 use Rattle.scc_buckets.specs.Tables.{spilled_in}
+use Rattle.scc_draining.proofs.Counted.{short-counted}
 use Rattle.scc_draining.proofs.FromBuckets.{within-sources, few-each, most-held}
 use Rattle.scc_draining.proofs.Joined.{whole-joined}
 use Rattle.scc_draining.proofs.moving.take.Goals as goal
@@ -75,3 +77,15 @@ move_in-requires-clause-joined g c =
     let whole = rw (c.len-before.ensures.count, c.bucket_count-count.ensures.count) at c.is_whole-whole.ensures in
     let joined = whole-joined hash c.args.skipped (bucket_count cur) c.args.target c.sources-first.result.0 c.sources-first.result.1 olds c.args.waiting.now c.is_whole-whole.result c.requires.own last all two c.requires.settled whole in
     joined
+
+pub returns : goal.returns
+returns g c =
+    let exact = rw c.bucket_count-count.ensures.count at c.count_coming-coming.ensures.exact in
+    record {
+      ok = (search rules);
+      few = (search rules);
+      short = (on_ok_weaker c.move_in.result (λ h few. h (short-counted c.count_coming-coming.result _ exact few)) c.move_in.ensures.short);
+      err = (search rules);
+      stays = (search rules);
+      refused = (on_err_weaker c.move_in.result (λ l. let same = exact l in omega arith) c.move_in.ensures.refused);
+    }

@@ -1,4 +1,4 @@
-use Rattle.std.proofs.Common.{◌≡◌, ◌≤◌, ◌∙◌, drop, refl, sym, subst, ap, arith}
+use Rattle.std.proofs.Common.{◌≡◌, ◌≤◌, ◌∙◌, drop, refl, sym, subst, ap, arith, rules}
 use Rattle.scc_table.specs.Relocates.{AreMovedFrom}
 use Rattle.scc_contents.specs.Contents.{pending_of, waiting_of}
 use Rattle.scc_table.proofs.Finishing.{finish-start, finish-step}
@@ -28,24 +28,39 @@ loop-preserved g c =
       targets-first moved.0 c.loop.self c.relocate_next.new.self moved.1 moved.2 ∙ ap (drop 1) c.loop.invariant.1 ∙ sym (drop-next c.loop.counter (pending_targets c.args.self.now)),
     )
 
-pub returns-clause-ok : goal.returns-clause-ok
-returns-clause-ok g c =
-    let t = c.self.inside in
-    let counted = ap pending_of (sym c.self.view_is) ∙ pending-together _ t.current t.draining.waiting.items t.draining.array ∙ sym c.self.invariant.counted in
-    c.loop.invariant.0.none (omega (arith, c.loop.invariant.0.left, counted))
-
-pub returns-clause-moved : goal.returns-clause-moved
-returns-clause-moved g c =
+pub returns : goal.returns
+returns g c =
     let t = c.self.inside in
     let a = c.args.self.now in
     let counted = ap pending_of (sym c.self.view_is) ∙ pending-together _ t.current t.draining.waiting.items t.draining.array ∙ sym c.self.invariant.counted in
-    moved-all (pending_targets a) c.loop.self c.loop.counter (pending_of a) (moved-most (pending_targets a) c.loop.self c.loop.counter c.loop.invariant.1) (omega (arith, c.loop.invariant.0.left)) (omega (arith, c.loop.invariant.0.left, counted))
+    record {
+      lists = (search rules);
+      settings = (search rules);
+      noted = (search rules);
+      fewer = (search rules);
+      less = (search rules);
+      ok = (c.loop.invariant.0.none (omega (arith, c.loop.invariant.0.left, counted)));
+      refused = (search rules);
+      moved = (moved-all (pending_targets a) c.loop.self c.loop.counter (pending_of a) (moved-most (pending_targets a) c.loop.self c.loop.counter c.loop.invariant.1) (omega (arith, c.loop.invariant.0.left)) (omega (arith, c.loop.invariant.0.left, counted)));
+      bounded = (search rules);
+    }
 
-pub returns-in_err-relocate_next-clause-moved : goal.returns-in_err-relocate_next-clause-moved
-returns-in_err-relocate_next-clause-moved g c =
-    let a = c.args.self.now in
-    let d = c.loop.self in
-    let long = c.in_err-relocate_next.ensures.refused in
-    let most : c.loop.counter ≤ pending_of a = omega (arith, c.loop.invariant.0.left) in
-    subst (λ z. AreMovedFrom (pending_targets a) (pending_of a) z) (sym c.in_err-relocate_next.ensures.err)
-    (moved-none (pending_targets a) d c.loop.counter (pending_of a) long.0 (moved-most (pending_targets a) d c.loop.counter c.loop.invariant.1) most long.1 long.2)
+pub returns-in_err-relocate_next : goal.returns-in_err-relocate_next
+returns-in_err-relocate_next g c =
+    record {
+      lists = (search rules);
+      settings = (search rules);
+      noted = (search rules);
+      fewer = (search rules);
+      less = (search rules);
+      ok = (search rules);
+      refused = (search rules);
+      moved = (
+          let a = c.args.self.now in
+          let d = c.loop.self in
+          let long = c.in_err-relocate_next.ensures.refused in
+          let most : c.loop.counter ≤ pending_of a = omega (arith, c.loop.invariant.0.left) in
+          subst (λ z. AreMovedFrom (pending_targets a) (pending_of a) z) (sym c.in_err-relocate_next.ensures.err)
+          (moved-none (pending_targets a) d c.loop.counter (pending_of a) long.0 (moved-most (pending_targets a) d c.loop.counter c.loop.invariant.1) most long.1 long.2));
+      bounded = (search rules);
+    }

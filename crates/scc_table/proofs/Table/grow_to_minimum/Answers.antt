@@ -1,4 +1,4 @@
-use Rattle.std.proofs.Common.{◌∙◌, ◌<◌, refl, sym, arith}
+use Rattle.std.proofs.Common.{◌∙◌, ◌<◌, refl, sym, arith, rules}
 use Rattle.std.proofs.lemmas.Bool.{true≢false}
 use Rattle.scc_contents.specs.Contents.{bucket_count}
 use Rattle.scc_buckets.proofs.Resizes.{reaches-due}
@@ -6,42 +6,58 @@ use Rattle.scc_table.proofs.Spreading.{growth-due, spreads-all, spreads-less}
 use Rattle.scc_table.proofs.Table.grow_to_minimum.Goals as goal
 use Rattle.scc_table.proofs.Table.grow_to_minimum.Goals.{then-count-eq0-via-then-count-eq0, then-count-eq0-via-else-count-eq0+then-count-wanted}
 
-pub returns-then-count-eq0-clause-due : goal.returns-then-count-eq0-clause-due
-returns-then-count-eq0-clause-due g c =
-    let size = rw c.minimum.ensures.value at c.buckets_for-wanted.ensures.size in
-    reaches-due c.buckets_for-wanted.result c.args.self.now c.args.self.now size
-    (λ some less few down. elim c.then-count-eq0.branch [
-      | then-count-eq0-via-then-count-eq0 w ↦ absurd (omega (arith, c.bucket_count-count.ensures.count))
-      | then-count-eq0-via-else-count-eq0+then-count-wanted w ↦ absurd (omega (arith, c.bucket_count-count.ensures.count))
-    ])
-    (λ low up. absurd (true≢false (sym up ∙ low))) (λ up low. absurd (true≢false (sym up ∙ low))) (λ ne. absurd (ne refl))
+pub returns-then-count-eq0 : goal.returns-then-count-eq0
+returns-then-count-eq0 g c =
+    record {
+      resizes = (search rules);
+      more = (search rules);
+      size = (search rules);
+      due = (
+          let size = rw c.minimum.ensures.value at c.buckets_for-wanted.ensures.size in
+          reaches-due c.buckets_for-wanted.result c.args.self.now c.args.self.now size
+          (λ some less few down. elim c.then-count-eq0.branch [
+            | then-count-eq0-via-then-count-eq0 w ↦ absurd (omega (arith, c.bucket_count-count.ensures.count))
+            | then-count-eq0-via-else-count-eq0+then-count-wanted w ↦ absurd (omega (arith, c.bucket_count-count.ensures.count))
+          ])
+          (λ low up. absurd (true≢false (sym up ∙ low))) (λ up low. absurd (true≢false (sym up ∙ low))) (λ ne. absurd (ne refl)));
+      spreads = (search rules);
+      unique = (search rules);
+    }
 
-pub returns-in-Ok-clause-due : goal.returns-in-Ok-clause-due
-returns-in-Ok-clause-due g c =
-    let size = rw (c.minimum.ensures.value, ← c.in-Ok.ensures.lists.settings) at c.buckets_for-wanted.ensures.size in
-    reaches-due c.buckets_for-wanted.result c.args.self.now c.resize_to.new.self size (λ _ _ _ _. c.in-Ok.ensures.lists.count) (λ low up. absurd (true≢false (sym up ∙ c.in-Ok.ensures.down)))
-    (λ _ _ e. let n = c.in-Ok.ensures.lists.count in let p = c.bucket_count-count.ensures.count in absurd (omega arith)) (λ _. c.in-Ok.ensures.down)
+pub returns-in-Ok : goal.returns-in-Ok
+returns-in-Ok g c =
+    record {
+      resizes = (search rules);
+      more = (search rules);
+      size = (search rules);
+      due = (
+          let size = rw (c.minimum.ensures.value, ← c.in-Ok.ensures.lists.settings) at c.buckets_for-wanted.ensures.size in
+          reaches-due c.buckets_for-wanted.result c.args.self.now c.resize_to.new.self size (λ _ _ _ _. c.in-Ok.ensures.lists.count) (λ low up. absurd (true≢false (sym up ∙ c.in-Ok.ensures.down)))
+          (λ _ _ e. let n = c.in-Ok.ensures.lists.count in let p = c.bucket_count-count.ensures.count in absurd (omega arith)) (λ _. c.in-Ok.ensures.down));
+      spreads = (
+          let size = rw c.minimum.ensures.value at c.buckets_for-wanted.ensures.size in
+          let z = c.if-count-eq0.false in
+          let n = c.bucket_count-count.ensures.count in
+          let less : bucket_count c.args.self.now < c.buckets_for-wanted.result = omega arith in
+          spreads-all c.args.self.now c.resize_to.new.self c.buckets_for-wanted.result c.in-Ok.ensures.lists.count (λ e. absurd (omega arith)) c.in-Ok.ensures.pending (growth-due _ c.buckets_for-wanted.result c.args.self.now (omega arith) size less));
+      unique = (search rules);
+    }
 
-pub returns-in-Err-clause-due : goal.returns-in-Err-clause-due
-returns-in-Err-clause-due g c =
-    let size = rw (c.minimum.ensures.value, ← c.in-Err.ensures.err.settings) at c.buckets_for-wanted.ensures.size in
-    let z = c.if-count-eq0.false in
+pub returns-in-Err : goal.returns-in-Err
+returns-in-Err g c =
     let n = c.bucket_count-count.ensures.count in
-    reaches-due c.buckets_for-wanted.result c.args.self.now c.resize_to.new.self size (λ _ _ _ down. absurd (true≢false (sym c.in-Err.ensures.up ∙ down)))
-    (λ low up. (omega arith, omega arith)) (λ _ down. absurd (true≢false (sym c.in-Err.ensures.up ∙ down))) (λ ne. absurd (ne c.in-Err.ensures.err.buckets))
-
-pub returns-in-Ok-clause-spreads : goal.returns-in-Ok-clause-spreads
-returns-in-Ok-clause-spreads g c =
-    let size = rw c.minimum.ensures.value at c.buckets_for-wanted.ensures.size in
     let z = c.if-count-eq0.false in
-    let n = c.bucket_count-count.ensures.count in
-    let less : bucket_count c.args.self.now < c.buckets_for-wanted.result = omega arith in
-    spreads-all c.args.self.now c.resize_to.new.self c.buckets_for-wanted.result c.in-Ok.ensures.lists.count (λ e. absurd (omega arith)) c.in-Ok.ensures.pending (growth-due _ c.buckets_for-wanted.result c.args.self.now (omega arith) size less)
-
-pub returns-in-Err-clause-spreads : goal.returns-in-Err-clause-spreads
-returns-in-Err-clause-spreads g c =
-    let size = rw c.minimum.ensures.value at c.buckets_for-wanted.ensures.size in
-    let z = c.if-count-eq0.false in
-    let n = c.bucket_count-count.ensures.count in
-    let less : bucket_count c.args.self.now < c.buckets_for-wanted.result = omega arith in
-    spreads-less c.args.self.now c.resize_to.new.self c.in-Err.ensures.err.buckets c.in-Err.ensures.fewer c.in-Err.ensures.less (growth-due _ c.buckets_for-wanted.result c.args.self.now (omega arith) size less)
+    record {
+      resizes = (search rules);
+      more = (search rules);
+      size = (search rules);
+      due = (
+          let size = rw (c.minimum.ensures.value, ← c.in-Err.ensures.err.settings) at c.buckets_for-wanted.ensures.size in
+          reaches-due c.buckets_for-wanted.result c.args.self.now c.resize_to.new.self size (λ _ _ _ down. absurd (true≢false (sym c.in-Err.ensures.up ∙ down)))
+          (λ low up. (omega arith, omega arith)) (λ _ down. absurd (true≢false (sym c.in-Err.ensures.up ∙ down))) (λ ne. absurd (ne c.in-Err.ensures.err.buckets)));
+      spreads = (
+          let size = rw c.minimum.ensures.value at c.buckets_for-wanted.ensures.size in
+          let less : bucket_count c.args.self.now < c.buckets_for-wanted.result = omega arith in
+          spreads-less c.args.self.now c.resize_to.new.self c.in-Err.ensures.err.buckets c.in-Err.ensures.fewer c.in-Err.ensures.less (growth-due _ c.buckets_for-wanted.result c.args.self.now (omega arith) size less));
+      unique = (search rules);
+    }
