@@ -186,6 +186,8 @@ module _ {G N K V S T : Type 0} {d : guard.Ghosts G (Contents (K × V) S)} {g : 
       pub refused : IfErr result Q
       -- only a vacant entry is refused
       pub vacant : OnErr result (IsVacant e)
+      -- it is refused only where the bucket of the key has no room
+      pub full : OnErr result (HasRoom (hash_in hash_of (d.kept (entry_guard e))) (d.kept (entry_guard e)) (entry_key e) → ⊥)
       -- the array grew only where a value was put in, and as an insertion of the key may and has to
       pub growth : IfOk result (GrowsThrough (hash_in hash_of (d.kept (entry_guard e))) e)
       -- those buckets wait that an insertion of the key leaves waiting, or the same where no value was put in

@@ -1,5 +1,5 @@
 -- Which entries of a list an occupied entry stands between, and which stands next.
-use Rattle.std.specs.Prelude.{◌≡◌, ◌≢◌, ◌++◌, Bool, Result, length}
+use Rattle.std.specs.Prelude.{◌≡◌, ◌≢◌, ◌++◌, [], Bool, Result, IfOk, IfErr, length}
 use Rattle.std.specs.Borrow.{Fml, RattleType, MutBor, RestsIfErr}
 use Rattle.std.specs.HashMap.Lent.{HashMembers}
 use Rattle.std.specs.declared.cmp.PartialEq as eq
@@ -62,6 +62,19 @@ module _ {G N K V S T : Type 0} {d : guard.Ghosts G (Contents (K × V) S)} {g : 
     pub relocates : RelocatesNone (held_map o) n
     -- no two keys are equal
     pub unique : IsUnique same n
+
+  -- what `remove_and_sync` of the entry o of a borrowed map, answered so, leaves
+  pub record RemovesAndSteps (same : K → K → Bool) (o : HeldEntry G N K V S T d g h b w) (result : Result ((K × V) × HeldEntry G N K V S T d g h b w) (K × V)) : Type 0 where
+    -- the answer has the pair of the entry
+    pub pair : IfOk result (λ r. r.0 ≡ occupied_pair o)
+    -- beside it the entry that stood next, past the pair that is out
+    pub next : IfOk result (λ r. IsNextPastRemoved o r.1)
+    -- the same buckets wait
+    pub waiting : IfOk result (λ r. waiting_of (held_map r.1) ≡ waiting_of (held_map o))
+    -- no two keys are equal
+    pub unique : IfOk result (λ r. IsUnique same (held_map r.1))
+    -- where no entry stood next, the answer is the pair alone
+    pub last : IfErr result (λ p. (p ≡ occupied_pair o) × (occupied_back o ≡ []))
 
 module _ (K V S T : RattleType) (key : HashMembers K.Denot) (build : builder.Ghosts S.Denot T.Denot) (feed : hasher.Ghosts T.Denot) where
   -- where r has no entry, the map behind o is left with the other pairs in their order, and the note of refused memory and what waits as they were

@@ -2,6 +2,7 @@ pub mod ClosureSteps
 pub mod Collections
 pub mod Entries
 pub mod EntrySteps
+pub mod Following
 pub mod Insertions
 pub mod Lends
 pub mod MapSizes

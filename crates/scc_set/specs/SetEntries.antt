@@ -1,5 +1,5 @@
 -- What the contracts of an entry cite: the key that it stands at, those before and after it, and what it leaves.
-use Rattle.std.specs.Prelude.{◌≡◌, ◌≢◌, Bool, List, ◌++◌, Option, Result, length}
+use Rattle.std.specs.Prelude.{◌≡◌, ◌≢◌, [], Bool, List, ◌++◌, Option, Result, IfOk, IfErr, length}
 use Rattle.std.specs.Borrow.{Fml, RattleType, MutBor, RestsIfErr, RestsIfNone}
 use Rattle.std.specs.HashMap.Lent.{HashMembers}
 use Rattle.std.specs.declared.cmp.PartialEq as eq
@@ -15,6 +15,7 @@ use Rattle.scc_buckets.specs.declared.place.Place.{Place}
 use Rattle.scc_set.specs.Keys.{IsUnique}
 use Rattle.scc_set.specs.Lends.{set_row}
 use Rattle.scc_set.specs.declared.owned.entry.OccupiedEntry.{OccupiedEntry}
+use Rattle.scc_set.specs.declared.owned.entry.Removed.{Removed}
 
 module _ {K S T : Type 0} {g : eq.Ghosts K} {h : hash.Ghosts K} {b : builder.Ghosts S T} {w : hasher.Ghosts T} where
   -- where the entry stands
@@ -62,6 +63,19 @@ module _ {K S T : Type 0} {g : eq.Ghosts K} {h : hash.Ghosts K} {b : builder.Gho
     pub relocates : RelocatesNone o.set.now n
     -- no two keys are equal
     pub unique : IsUnique same n
+
+  -- what `remove_and_sync` of the entry o, answered so, leaves
+  pub record RemovesAndSteps (same : K → K → Bool) (o : OccupiedEntry K S T g h b w) (result : Result (Removed K × OccupiedEntry K S T g h b w) K) : Type 0 where
+    -- the answer has the key of the entry
+    pub key : IfOk result (λ r. r.0.key ≡ occupied_key o)
+    -- beside it the entry that stood next, past the key that is out
+    pub next : IfOk result (λ r. IsNextPastRemoved o r.1)
+    -- the same buckets wait
+    pub waiting : IfOk result (λ r. waiting_of r.1.set.now ≡ waiting_of o.set.now)
+    -- no two keys are equal
+    pub unique : IfOk result (λ r. IsUnique same r.1.set.now)
+    -- where no entry stood next, the answer is the key alone
+    pub last : IfErr result (λ q. (q ≡ occupied_key o) × (occupied_back o ≡ []))
 
 module _ (K S T : RattleType) (key : HashMembers K.Denot) (build : builder.Ghosts S.Denot T.Denot) (feed : hasher.Ghosts T.Denot) where
   -- where r has no entry, the set behind m stays as it is

@@ -1,8 +1,6 @@
 //! How a part of a shared index keeps its share of what all parts together keep at least.
-ghost use Rattle.std.specs.Prelude.{◌≡◌, ◌-◌, ◌<◌, ◌≤◌, ◌^◌, ◌⊎◌};
-ghost use Rattle.scc_contents.specs.Contents.{settings_of, minimum_of, refused_of, waiting_of};
-ghost use Rattle.scc_contents.specs.Pairs.{IsUnique};
-ghost use Rattle.scc_contents.specs.Steps.{IsUnchanged, ReachesMinimumWhenDue, Releases, Reserves, ShrinksWhenDue};
+ghost use Rattle.std.specs.Prelude.{◌≤◌, ◌^◌};
+ghost use Rattle.scc_index.specs.Following.{KeepsShare};
 
 use super::Owned;
 use scc_common::{MakeError, Shared};
@@ -17,15 +15,7 @@ impl<K: Eq + Hash, V, H: BuildHasher> Owned<K, V, H> {
     /// for change nothing.
     pub fn keep_share(&mut self, share: usize)
         requires { share ≤ 2 ^ 63 }
-        ensures kept { (settings_of self.old).asked ≤ share → minimum_of self.new ≡ share }
-        ensures raised { minimum_of self.old < share
-            → Reserves (share - minimum_of self.old) self.old self.new × ReachesMinimumWhenDue self.old self.new }
-        ensures lowered { (settings_of self.old).asked ≤ share → share < minimum_of self.old
-            → Releases (minimum_of self.old - share) self.old self.new × ShrinksWhenDue self.old self.new }
-        ensures same { (share < (settings_of self.old).asked) ⊎ (share ≡ minimum_of self.old)
-            → IsUnchanged self.old self.new × (refused_of self.new ≡ refused_of self.old)
-            × (waiting_of self.new ≡ waiting_of self.old) }
-        ensures unique { IsUnique K.eq self.new }
+        ensures { KeepsShare K.eq self.old share self.new }
     {
         let minimum = *self.capacity_range().start();
         if share > minimum {
@@ -47,7 +37,10 @@ impl<K: Eq + Hash, V, H: BuildHasher> Follow for Owned<K, V, H> {
         self.capacity()
     }
 
-    fn follow(&mut self, share: usize) {
+    fn follow(&mut self, share: usize)
+        requires { share ≤ 2 ^ 63 }
+        ensures { KeepsShare K.eq self.old share self.new }
+    {
         self.keep_share(share);
     }
 }

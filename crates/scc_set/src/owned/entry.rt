@@ -1,10 +1,9 @@
 //! A key's place in a set, found once and held.
-ghost use Rattle.std.specs.Prelude.{◌≡◌, [], IfErr, IfNone, IfOk, IfSome, false};
+ghost use Rattle.std.specs.Prelude.{◌≡◌, [], IfNone, IfSome, false};
 ghost use Rattle.std.specs.Borrow.{sem};
 ghost use Rattle.std.specs.Fn.{CalledAt};
-ghost use Rattle.scc_contents.specs.Contents.{entries, waiting_of};
+ghost use Rattle.scc_contents.specs.Contents.{entries};
 ghost use Rattle.scc_table.specs.Places.{IsPlace};
-ghost use Rattle.scc_set.specs.Keys.{IsUnique};
 ghost use Rattle.scc_set.specs.SetWalks.{CallableWhile, PassesAt, PassesNone};
 
 use super::Owned;
@@ -70,7 +69,7 @@ impl<K: Eq + Hash, H: BuildHasher> Owned<K, H> {
 }
 
 impl<'a, K: Eq + Hash, H: BuildHasher> OccupiedEntry<'a, K, H> {
-    ghost use Rattle.scc_set.specs.SetEntries.{IsNext, IsNextPastRemoved, RemovesEntryByRule, occupied_key, occupied_back, rests_if_none, rests_removed};
+    ghost use Rattle.scc_set.specs.SetEntries.{IsNext, RemovesAndSteps, RemovesEntryByRule, occupied_key, occupied_back, rests_if_none, rests_removed};
 
     /// The stored key.
     pub fn get(&self) -> &K
@@ -113,11 +112,7 @@ impl<'a, K: Eq + Hash, H: BuildHasher> OccupiedEntry<'a, K, H> {
     /// Takes out the key, and answers it with the entry that stood next in the set's list; alone, as an `Err`, where it
     /// was the last. Nothing is resized.
     pub fn remove_and_sync(self) -> Result<(Removed<K>, OccupiedEntry<'a, K, H>), K>
-        ensures key { IfOk result (λ r. r.0.key ≡ occupied_key self.entry) }
-        ensures next { IfOk result (λ r. IsNextPastRemoved self.entry r.1) }
-        ensures waiting { IfOk result (λ r. waiting_of r.1.set.now ≡ waiting_of self.entry.set.now) }
-        ensures unique { IfOk result (λ r. IsUnique K.eq r.1.set.now) }
-        ensures last { IfErr result (λ q. (q ≡ occupied_key self.entry) × (occupied_back self.entry ≡ [])) }
+        ensures removes { RemovesAndSteps K.eq self.entry result }
         ensures* kept { sem 𝓛 (rests_removed K.row H.row H.Hasher.row K.Hash H.BuildHasher H.Hasher.Hasher self.entry
             result) }
     {

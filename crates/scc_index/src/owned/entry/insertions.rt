@@ -1,11 +1,10 @@
 //! The insertions of an entry of a borrowed index. Each goes on at the place that the search found. Where an entry is
 //! occupied, `len` is called for its contract: no two keys are equal.
-ghost use Rattle.std.specs.Prelude.{◌≡◌, Ok, IfOk, OnErr, IfErr};
+ghost use Rattle.std.specs.Prelude.{◌≡◌, Ok};
 ghost use Rattle.std.specs.Borrow.{sem};
 ghost use Rattle.std.specs.Fn.{FnOnceTakesAt, FnOnceReturnsAt};
-ghost use Rattle.scc_contents.specs.Contents.{hash_in};
 ghost use Rattle.scc_contents.specs.Pairs.{IsUnique};
-ghost use Rattle.scc_index.specs.Entries.{Memory, held_index, entry_guard, entry_key, GrowsThrough, IsVacant, OrInserts, OrInsertsSome, RefusesSome, RelocatesThrough, occupied_pair, rests_if_refused};
+ghost use Rattle.scc_index.specs.Entries.{held_index, entry_guard, entry_key, InsertsThrough, IsVacant, OrInserts, OrInsertsSome, Refuses, RefusesSome, occupied_pair, rests_if_refused};
 
 use super::OccupiedEntry;
 use crate::held::{HeldEntry, HeldPlace};
@@ -20,14 +19,8 @@ impl<'a, K: Eq + Hash, V, H: BuildHasher> HeldPlace<&'a mut Owned<K, V, H>, (), 
     pub fn or_insert(self, default: V) -> Result<OccupiedEntry<'a, K, V, H>, InsertError<K, V>>
     where
         V: Drop,
-        ensures entry { IfOk result (OrInserts self.entry default) }
-        ensures refused { IfErr result (λ e. e ≡ Memory (entry_key self.entry, default)) }
-        ensures vacant { OnErr result (IsVacant self.entry) }
-        ensures growth { IfOk result (GrowsThrough (hash_in ⟦<H as Hashes<K>>⟧.hash_of (entry_guard self.entry).now)
-            self.entry) }
-        ensures relocates { IfOk result (RelocatesThrough
-            (hash_in ⟦<H as Hashes<K>>⟧.hash_of (entry_guard self.entry).now) self.entry) }
-        ensures unique { IfOk result (λ o. IsUnique K.eq (held_index o)) }
+        ensures inserts { InsertsThrough K.eq ⟦<H as Hashes<K>>⟧.hash_of self.entry
+            (OrInserts self.entry default) (Refuses self.entry default) result }
         ensures* kept { sem 𝓛 (rests_if_refused K.row V.row H.row H.Hasher.row K.Hash H.BuildHasher H.Hasher.Hasher
             (entry_guard self.entry) (entry_key self.entry) result) }
     {
@@ -47,14 +40,8 @@ impl<'a, K: Eq + Hash, V, H: BuildHasher> HeldPlace<&'a mut Owned<K, V, H>, (), 
         f: F,
     ) -> Result<OccupiedEntry<'a, K, V, H>, InsertError<K, V>>
         requires { IsVacant self → F.pre f }
-        ensures entry { IfOk result (OrInsertsSome self.entry (λ k v. F.post f v)) }
-        ensures refused { IfErr result (RefusesSome self.entry (λ k v. F.post f v)) }
-        ensures vacant { OnErr result (IsVacant self.entry) }
-        ensures growth { IfOk result (GrowsThrough (hash_in ⟦<H as Hashes<K>>⟧.hash_of (entry_guard self.entry).now)
-            self.entry) }
-        ensures relocates { IfOk result (RelocatesThrough
-            (hash_in ⟦<H as Hashes<K>>⟧.hash_of (entry_guard self.entry).now) self.entry) }
-        ensures unique { IfOk result (λ o. IsUnique K.eq (held_index o)) }
+        ensures inserts { InsertsThrough K.eq ⟦<H as Hashes<K>>⟧.hash_of self.entry
+            (OrInsertsSome self.entry (λ k v. F.post f v)) (RefusesSome self.entry (λ k v. F.post f v)) result }
         ensures* kept { sem 𝓛 (rests_if_refused K.row V.row H.row H.Hasher.row K.Hash H.BuildHasher H.Hasher.Hasher
             (entry_guard self.entry) (entry_key self.entry) result) }
     {
@@ -74,14 +61,9 @@ impl<'a, K: Eq + Hash, V, H: BuildHasher> HeldPlace<&'a mut Owned<K, V, H>, (), 
         f: F,
     ) -> Result<OccupiedEntry<'a, K, V, H>, InsertError<K, V>>
         requires { IsVacant self → FnOnceTakesAt F.FnOnce f (entry_key self) }
-        ensures entry { IfOk result (OrInsertsSome self.entry (FnOnceReturnsAt F.FnOnce f)) }
-        ensures refused { IfErr result (RefusesSome self.entry (FnOnceReturnsAt F.FnOnce f)) }
-        ensures vacant { OnErr result (IsVacant self.entry) }
-        ensures growth { IfOk result (GrowsThrough (hash_in ⟦<H as Hashes<K>>⟧.hash_of (entry_guard self.entry).now)
-            self.entry) }
-        ensures relocates { IfOk result (RelocatesThrough
-            (hash_in ⟦<H as Hashes<K>>⟧.hash_of (entry_guard self.entry).now) self.entry) }
-        ensures unique { IfOk result (λ o. IsUnique K.eq (held_index o)) }
+        ensures inserts { InsertsThrough K.eq ⟦<H as Hashes<K>>⟧.hash_of self.entry
+            (OrInsertsSome self.entry (FnOnceReturnsAt F.FnOnce f))
+            (RefusesSome self.entry (FnOnceReturnsAt F.FnOnce f)) result }
         ensures* kept { sem 𝓛 (rests_if_refused K.row V.row H.row H.Hasher.row K.Hash H.BuildHasher H.Hasher.Hasher
             (entry_guard self.entry) (entry_key self.entry) result) }
     {
@@ -98,14 +80,8 @@ impl<'a, K: Eq + Hash, V, H: BuildHasher> HeldPlace<&'a mut Owned<K, V, H>, (), 
     pub fn or_default(self) -> Result<OccupiedEntry<'a, K, V, H>, InsertError<K, V>>
     where
         V: Default,
-        ensures entry { IfOk result (OrInsertsSome self.entry (λ k v. V.is_default v)) }
-        ensures refused { IfErr result (RefusesSome self.entry (λ k v. V.is_default v)) }
-        ensures vacant { OnErr result (IsVacant self.entry) }
-        ensures growth { IfOk result (GrowsThrough (hash_in ⟦<H as Hashes<K>>⟧.hash_of (entry_guard self.entry).now)
-            self.entry) }
-        ensures relocates { IfOk result (RelocatesThrough
-            (hash_in ⟦<H as Hashes<K>>⟧.hash_of (entry_guard self.entry).now) self.entry) }
-        ensures unique { IfOk result (λ o. IsUnique K.eq (held_index o)) }
+        ensures inserts { InsertsThrough K.eq ⟦<H as Hashes<K>>⟧.hash_of self.entry
+            (OrInsertsSome self.entry (λ k v. V.is_default v)) (RefusesSome self.entry (λ k v. V.is_default v)) result }
         ensures* kept { sem 𝓛 (rests_if_refused K.row V.row H.row H.Hasher.row K.Hash H.BuildHasher H.Hasher.Hasher
             (entry_guard self.entry) (entry_key self.entry) result) }
     {

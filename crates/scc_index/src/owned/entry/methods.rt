@@ -1,13 +1,13 @@
 //! What makes an entry of a borrowed index, and what lets the index go. The search is made once, and an entry holds its
 //! place.
-ghost use Rattle.std.specs.Prelude.{◌≡◌, ◌≢◌, ◌++◌, length, None, IfOk, IfErr, IfSome, IfNone};
+ghost use Rattle.std.specs.Prelude.{◌≡◌, ◌≢◌, ◌++◌, length, None, IfSome, IfNone};
 ghost use Rattle.std.specs.Borrow.{sem};
-ghost use Rattle.scc_contents.specs.Contents.{entries, bucket_count, minimum_of, hash_in};
+ghost use Rattle.scc_contents.specs.Contents.{entries, bucket_count, minimum_of};
 ghost use Rattle.scc_contents.specs.Pairs.{find, IsUnique};
 ghost use Rattle.scc_contents.specs.Sizes.{IsSmaller};
 ghost use Rattle.scc_contents.specs.Steps.{Holds, ShrinksWhenDue};
-ghost use Rattle.scc_table.specs.Relocations.{Relocates, RelocatesNone, RelocatesTwo};
-ghost use Rattle.scc_index.specs.Entries.{Memory, held_index, occupied_front, occupied_back, entry_guard, IsOccupiedAt, IsEntryOf, IsGrownFor, IsInserted, rests_if_refused, rests_if_none};
+ghost use Rattle.scc_table.specs.Relocations.{RelocatesNone};
+ghost use Rattle.scc_index.specs.Entries.{held_index, occupied_front, occupied_back, entry_guard, InsertsAtVacant, IsOccupiedAt, IsEntryOf, rests_if_refused, rests_if_none};
 
 use super::{Entry, OccupiedEntry};
 use crate::held::{HeldEntry, HeldPlace, HeldVacant};
@@ -98,15 +98,7 @@ impl<'a, K: Eq + Hash, V, H: BuildHasher> HeldVacant<&'a mut Owned<K, V, H>, (),
 
     /// Inserts the key with `value`, and answers its entry. Refused for want of memory, key and value come back.
     pub fn insert_entry(self, value: V) -> Result<OccupiedEntry<'a, K, V, H>, InsertError<K, V>>
-        ensures inserted { IfOk result (IsInserted self.entry value) }
-        ensures growth { IfOk result (λ o. IsGrownFor (hash_in ⟦<H as Hashes<K>>⟧.hash_of self.entry.guard.now)
-            self.entry.guard.now self.entry.key (held_index o)) }
-        ensures relocates { IfOk result (λ o. Relocates self.entry.guard.now (held_index o)) }
-        ensures two { IfOk result (λ o. RelocatesTwo
-            (hash_in ⟦<H as Hashes<K>>⟧.hash_of self.entry.guard.now self.entry.key) self.entry.guard.now
-            (held_index o)) }
-        ensures unique { IfOk result (λ o. IsUnique K.eq (held_index o)) }
-        ensures refused { IfErr result (λ e. e ≡ Memory (self.entry.key, value)) }
+        ensures inserts { InsertsAtVacant K.eq ⟦<H as Hashes<K>>⟧.hash_of self.entry value result }
         ensures* kept { sem 𝓛 (rests_if_refused K.row V.row H.row H.Hasher.row K.Hash H.BuildHasher H.Hasher.Hasher
             self.entry.guard self.entry.key result) }
     {

@@ -1,12 +1,10 @@
 //! The insertions of an entry of a borrowed map. Each goes on at the place that the search found, and all but
 //! `insert_entry` call `or_insert_with_key`. At an occupied entry that one calls `len` for its contract: no two keys
 //! are equal.
-ghost use Rattle.std.specs.Prelude.{◌≡◌, IfOk, OnErr, IfErr};
+ghost use Rattle.std.specs.Prelude.{◌≡◌};
 ghost use Rattle.std.specs.Borrow.{sem};
 ghost use Rattle.std.specs.Fn.{FnOnceTakesAt, FnOnceReturnsAt};
-ghost use Rattle.scc_contents.specs.Contents.{hash_in};
-ghost use Rattle.scc_contents.specs.Pairs.{HasRoom, IsUnique};
-ghost use Rattle.scc_map.specs.Entries.{Memory, held_map, entry_guard, entry_key, GrowsThrough, IsVacant, OrInserts, OrInsertsSome, RefusesSome, RelocatesThrough, SetsEntry, rests_if_refused};
+ghost use Rattle.scc_map.specs.Entries.{entry_guard, entry_key, InsertsThrough, IsVacant, OrInserts, OrInsertsSome, Refuses, RefusesSome, SetsEntry, rests_if_refused};
 
 use super::OccupiedEntry;
 use crate::held::{HeldEntry, HeldPlace, HeldVacant};
@@ -22,16 +20,8 @@ impl<'a, K: Eq + Hash, V, H: BuildHasher> HeldPlace<&'a mut Owned<K, V, H>, (), 
     pub fn or_insert(self, default: V) -> Result<OccupiedEntry<'a, K, V, H>, InsertError<K, V>>
     where
         V: Drop,
-        ensures entry { IfOk result (OrInserts self.entry default) }
-        ensures refused { IfErr result (λ e. e ≡ Memory (entry_key self.entry, default)) }
-        ensures vacant { OnErr result (IsVacant self.entry) }
-        ensures full { OnErr result (HasRoom (hash_in ⟦<H as Hashes<K>>⟧.hash_of (entry_guard self.entry).now)
-            (entry_guard self.entry).now (entry_key self.entry) → ⊥) }
-        ensures growth { IfOk result (GrowsThrough (hash_in ⟦<H as Hashes<K>>⟧.hash_of (entry_guard self.entry).now)
-            self.entry) }
-        ensures relocates { IfOk result (RelocatesThrough
-            (hash_in ⟦<H as Hashes<K>>⟧.hash_of (entry_guard self.entry).now) self.entry) }
-        ensures unique { IfOk result (λ o. IsUnique K.eq (held_map o)) }
+        ensures inserts { InsertsThrough K.eq ⟦<H as Hashes<K>>⟧.hash_of self.entry
+            (OrInserts self.entry default) (Refuses self.entry default) result }
         ensures* kept { sem 𝓛 (rests_if_refused K.row V.row H.row H.Hasher.row K.Hash H.BuildHasher H.Hasher.Hasher
             (entry_guard self.entry) (entry_key self.entry) result) }
     {
@@ -49,16 +39,8 @@ impl<'a, K: Eq + Hash, V, H: BuildHasher> HeldPlace<&'a mut Owned<K, V, H>, (), 
         f: F,
     ) -> Result<OccupiedEntry<'a, K, V, H>, InsertError<K, V>>
         requires { IsVacant self → F.pre f }
-        ensures entry { IfOk result (OrInsertsSome self.entry (λ k v. F.post f v)) }
-        ensures refused { IfErr result (RefusesSome self.entry (λ k v. F.post f v)) }
-        ensures vacant { OnErr result (IsVacant self.entry) }
-        ensures full { OnErr result (HasRoom (hash_in ⟦<H as Hashes<K>>⟧.hash_of (entry_guard self.entry).now)
-            (entry_guard self.entry).now (entry_key self.entry) → ⊥) }
-        ensures growth { IfOk result (GrowsThrough (hash_in ⟦<H as Hashes<K>>⟧.hash_of (entry_guard self.entry).now)
-            self.entry) }
-        ensures relocates { IfOk result (RelocatesThrough
-            (hash_in ⟦<H as Hashes<K>>⟧.hash_of (entry_guard self.entry).now) self.entry) }
-        ensures unique { IfOk result (λ o. IsUnique K.eq (held_map o)) }
+        ensures inserts { InsertsThrough K.eq ⟦<H as Hashes<K>>⟧.hash_of self.entry
+            (OrInsertsSome self.entry (λ k v. F.post f v)) (RefusesSome self.entry (λ k v. F.post f v)) result }
         ensures* kept { sem 𝓛 (rests_if_refused K.row V.row H.row H.Hasher.row K.Hash H.BuildHasher H.Hasher.Hasher
             (entry_guard self.entry) (entry_key self.entry) result) }
     {
@@ -77,16 +59,9 @@ impl<'a, K: Eq + Hash, V, H: BuildHasher> HeldPlace<&'a mut Owned<K, V, H>, (), 
         f: F,
     ) -> Result<OccupiedEntry<'a, K, V, H>, InsertError<K, V>>
         requires { IsVacant self → FnOnceTakesAt F.FnOnce f (entry_key self) }
-        ensures entry { IfOk result (OrInsertsSome self.entry (FnOnceReturnsAt F.FnOnce f)) }
-        ensures refused { IfErr result (RefusesSome self.entry (FnOnceReturnsAt F.FnOnce f)) }
-        ensures vacant { OnErr result (IsVacant self.entry) }
-        ensures full { OnErr result (HasRoom (hash_in ⟦<H as Hashes<K>>⟧.hash_of (entry_guard self.entry).now)
-            (entry_guard self.entry).now (entry_key self.entry) → ⊥) }
-        ensures growth { IfOk result (GrowsThrough (hash_in ⟦<H as Hashes<K>>⟧.hash_of (entry_guard self.entry).now)
-            self.entry) }
-        ensures relocates { IfOk result (RelocatesThrough
-            (hash_in ⟦<H as Hashes<K>>⟧.hash_of (entry_guard self.entry).now) self.entry) }
-        ensures unique { IfOk result (λ o. IsUnique K.eq (held_map o)) }
+        ensures inserts { InsertsThrough K.eq ⟦<H as Hashes<K>>⟧.hash_of self.entry
+            (OrInsertsSome self.entry (FnOnceReturnsAt F.FnOnce f))
+            (RefusesSome self.entry (FnOnceReturnsAt F.FnOnce f)) result }
         ensures* kept { sem 𝓛 (rests_if_refused K.row V.row H.row H.Hasher.row K.Hash H.BuildHasher H.Hasher.Hasher
             (entry_guard self.entry) (entry_key self.entry) result) }
     {
@@ -132,16 +107,8 @@ impl<'a, K: Eq + Hash, V, H: BuildHasher> HeldPlace<&'a mut Owned<K, V, H>, (), 
     pub fn or_default(self) -> Result<OccupiedEntry<'a, K, V, H>, InsertError<K, V>>
     where
         V: Default,
-        ensures entry { IfOk result (OrInsertsSome self.entry (λ k v. V.is_default v)) }
-        ensures refused { IfErr result (RefusesSome self.entry (λ k v. V.is_default v)) }
-        ensures vacant { OnErr result (IsVacant self.entry) }
-        ensures full { OnErr result (HasRoom (hash_in ⟦<H as Hashes<K>>⟧.hash_of (entry_guard self.entry).now)
-            (entry_guard self.entry).now (entry_key self.entry) → ⊥) }
-        ensures growth { IfOk result (GrowsThrough (hash_in ⟦<H as Hashes<K>>⟧.hash_of (entry_guard self.entry).now)
-            self.entry) }
-        ensures relocates { IfOk result (RelocatesThrough
-            (hash_in ⟦<H as Hashes<K>>⟧.hash_of (entry_guard self.entry).now) self.entry) }
-        ensures unique { IfOk result (λ o. IsUnique K.eq (held_map o)) }
+        ensures inserts { InsertsThrough K.eq ⟦<H as Hashes<K>>⟧.hash_of self.entry
+            (OrInsertsSome self.entry (λ k v. V.is_default v)) (RefusesSome self.entry (λ k v. V.is_default v)) result }
         ensures* kept { sem 𝓛 (rests_if_refused K.row V.row H.row H.Hasher.row K.Hash H.BuildHasher H.Hasher.Hasher
             (entry_guard self.entry) (entry_key self.entry) result) }
     {
@@ -156,16 +123,8 @@ impl<'a, K: Eq + Hash, V, H: BuildHasher> HeldPlace<&'a mut Owned<K, V, H>, (), 
     pub fn insert_entry(self, value: V) -> Result<OccupiedEntry<'a, K, V, H>, InsertError<K, V>>
     where
         V: Drop,
-        ensures entry { IfOk result (SetsEntry self.entry value) }
-        ensures refused { IfErr result (λ e. e ≡ Memory (entry_key self.entry, value)) }
-        ensures vacant { OnErr result (IsVacant self.entry) }
-        ensures full { OnErr result (HasRoom (hash_in ⟦<H as Hashes<K>>⟧.hash_of (entry_guard self.entry).now)
-            (entry_guard self.entry).now (entry_key self.entry) → ⊥) }
-        ensures growth { IfOk result (GrowsThrough (hash_in ⟦<H as Hashes<K>>⟧.hash_of (entry_guard self.entry).now)
-            self.entry) }
-        ensures relocates { IfOk result (RelocatesThrough
-            (hash_in ⟦<H as Hashes<K>>⟧.hash_of (entry_guard self.entry).now) self.entry) }
-        ensures unique { IfOk result (λ o. IsUnique K.eq (held_map o)) }
+        ensures inserts { InsertsThrough K.eq ⟦<H as Hashes<K>>⟧.hash_of self.entry
+            (SetsEntry self.entry value) (Refuses self.entry value) result }
         ensures* kept { sem 𝓛 (rests_if_refused K.row V.row H.row H.Hasher.row K.Hash H.BuildHasher H.Hasher.Hasher
             (entry_guard self.entry) (entry_key self.entry) result) }
     {

@@ -1,11 +1,10 @@
 //! What makes an entry of a borrowed map, and what lets the map go. The search is made once, and an entry holds its
 //! place.
-ghost use Rattle.std.specs.Prelude.{◌≡◌, None, IfOk, OnErr, IfErr, IfSome, IfNone};
+ghost use Rattle.std.specs.Prelude.{◌≡◌, None, IfSome, IfNone};
 ghost use Rattle.std.specs.Borrow.{sem};
-ghost use Rattle.scc_contents.specs.Contents.{entries, refused_of, waiting_of, hash_in};
-ghost use Rattle.scc_contents.specs.Pairs.{find, HasRoom, IsUnique};
-ghost use Rattle.scc_table.specs.Relocations.{Relocates, RelocatesTwo};
-ghost use Rattle.scc_map.specs.Entries.{Memory, held_map, entry_guard, IsOccupiedAt, IsEntryOf, IsGrownFor, IsInserted, rests_if_refused, rests_if_none, replaced_guard, Replaces};
+ghost use Rattle.scc_contents.specs.Contents.{entries, refused_of, waiting_of};
+ghost use Rattle.scc_contents.specs.Pairs.{find, IsUnique};
+ghost use Rattle.scc_map.specs.Entries.{entry_guard, InsertsAtVacant, IsOccupiedAt, IsEntryOf, rests_if_refused, rests_if_none, replaced_guard, Replaces};
 ghost use Rattle.scc_map.specs.EntrySteps.{RemovesEntryByRule, RemovesValueByRule};
 
 use super::{Entry, OccupiedEntry, ReplaceResult, VacantEntry};
@@ -132,17 +131,7 @@ impl<'a, K: Eq + Hash, V, H: BuildHasher> HeldVacant<&'a mut Owned<K, V, H>, (),
 
     /// Inserts the key with `value`, and answers its entry. Refused for want of memory, key and value come back.
     pub fn insert_entry(self, value: V) -> Result<OccupiedEntry<'a, K, V, H>, InsertError<K, V>>
-        ensures inserted { IfOk result (IsInserted self.entry value) }
-        ensures growth { IfOk result (λ o. IsGrownFor (hash_in ⟦<H as Hashes<K>>⟧.hash_of self.entry.guard.now)
-            self.entry.guard.now self.entry.key (held_map o)) }
-        ensures relocates { IfOk result (λ o. Relocates self.entry.guard.now (held_map o)) }
-        ensures two { IfOk result (λ o. RelocatesTwo
-            (hash_in ⟦<H as Hashes<K>>⟧.hash_of self.entry.guard.now self.entry.key) self.entry.guard.now
-            (held_map o)) }
-        ensures unique { IfOk result (λ o. IsUnique K.eq (held_map o)) }
-        ensures refused { IfErr result (λ e. e ≡ Memory (self.entry.key, value)) }
-        ensures full { OnErr result (HasRoom (hash_in ⟦<H as Hashes<K>>⟧.hash_of self.entry.guard.now)
-            self.entry.guard.now self.entry.key → ⊥) }
+        ensures inserts { InsertsAtVacant K.eq ⟦<H as Hashes<K>>⟧.hash_of self.entry value result }
         ensures* kept { sem 𝓛 (rests_if_refused K.row V.row H.row H.Hasher.row K.Hash H.BuildHasher H.Hasher.Hasher
             self.entry.guard self.entry.key result) }
     {

@@ -1,11 +1,10 @@
 //! Entries in the order of the map's list.
-ghost use Rattle.std.specs.Prelude.{◌≡◌, [], IfSome, IfNone, IfOk, IfErr, false};
+ghost use Rattle.std.specs.Prelude.{◌≡◌, [], IfSome, IfNone, false};
 ghost use Rattle.std.specs.Borrow.{sem};
-ghost use Rattle.scc_contents.specs.Contents.{entries, waiting_of};
-ghost use Rattle.scc_contents.specs.Pairs.{IsUnique};
+ghost use Rattle.scc_contents.specs.Contents.{entries};
 ghost use Rattle.scc_contents.specs.Walks.{CalledOn, CallableWhile};
-ghost use Rattle.scc_map.specs.Entries.{held_map, occupied_pair, occupied_front, occupied_back, rests_if_none};
-ghost use Rattle.scc_map.specs.EntrySteps.{StandsIn, IsNext, IsNextPastRemoved, rests_removed};
+ghost use Rattle.scc_map.specs.Entries.{occupied_pair, occupied_front, occupied_back, rests_if_none};
+ghost use Rattle.scc_map.specs.EntrySteps.{StandsIn, IsNext, RemovesAndSteps, rests_removed};
 ghost use Rattle.scc_contents.specs.PairWalks.{PassesAt, PassesNone};
 
 use super::OccupiedEntry;
@@ -86,11 +85,7 @@ impl<'a, K: Eq + Hash, V, H: BuildHasher> HeldEntry<&'a mut Owned<K, V, H>, (), 
     /// Takes out the pair, and answers it with the entry that stood next in the map's list; alone, as an `Err`, where
     /// it was the last. Nothing is resized.
     pub fn remove_and_sync(self) -> Result<((K, V), OccupiedEntry<'a, K, V, H>), (K, V)>
-        ensures pair { IfOk result (λ r. r.0 ≡ occupied_pair self.entry) }
-        ensures next { IfOk result (λ r. IsNextPastRemoved self.entry r.1) }
-        ensures waiting { IfOk result (λ r. waiting_of (held_map r.1) ≡ waiting_of (held_map self.entry)) }
-        ensures unique { IfOk result (λ r. IsUnique K.eq (held_map r.1)) }
-        ensures last { IfErr result (λ p. (p ≡ occupied_pair self.entry) × (occupied_back self.entry ≡ [])) }
+        ensures removes { RemovesAndSteps K.eq self.entry result }
         ensures* kept { sem 𝓛 (rests_removed K.row V.row H.row H.Hasher.row K.Hash H.BuildHasher H.Hasher.Hasher
             self.entry result) }
     {

@@ -12,7 +12,7 @@ pub returns-clause-counted : goal.returns-clause-counted
 unfolding entries
 returns-clause-counted c =
     let o = c.in_ok-counts.field-0 in
-    let h = finds-modify_or_insert nat_eq_equiv c.args.counts.now c.args.word _ _ c.entry_sync.result c.and_modify.result 1 o c.entry_sync.ensures.entry c.and_modify.ensures.modifies c.in_ok-counts.ensures.entry c.in_ok-counts.ensures.unique in
+    let h = finds-modify_or_insert nat_eq_equiv c.args.counts.now c.args.word _ _ c.entry_sync.result c.and_modify.result 1 o c.entry_sync.ensures.entry c.and_modify.ensures.modifies c.in_ok-counts.ensures.inserts.entry c.in_ok-counts.ensures.inserts.unique in
     let pair = counted c.args.counts.now c.args.word _ _ (λ m n says. search rules) c.entry_sync.result (occupied_pair o) c.entry_sync.ensures.entry h.0 in
     let finds : FindsInstead nat_eq (entries c.args.counts.now) c.args.word (Some (c.args.word, one_more (find nat_eq (entries c.args.counts.now) c.args.word))) (entries o.guard.now) =
     subst (λ q. FindsInstead nat_eq (entries c.args.counts.now) c.args.word (Some q) (entries o.guard.now)) pair h.1 in

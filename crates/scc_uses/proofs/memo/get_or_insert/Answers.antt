@@ -11,5 +11,5 @@ unfolding entries
 returns-clause-stored c =
     let o = c.in_ok-entry.entry in
     let h : FindsInstead nat_eq (entries c.args.values.now) c.args.key (Some (occupied_pair o)) (entries o.guard.now) =
-    finds-or_insert nat_eq_equiv c.args.values.now c.args.key c.entry_sync.result c.args.default o c.entry_sync.ensures.entry c.in_ok-entry.ensures.entry c.in_ok-entry.ensures.unique in
+    finds-or_insert nat_eq_equiv c.args.values.now c.args.key c.entry_sync.result c.args.default o c.entry_sync.ensures.entry c.in_ok-entry.ensures.inserts.entry c.in_ok-entry.ensures.inserts.unique in
     search rules

@@ -8,6 +8,7 @@ returns g c =
       entry = inserts-some c.args.self c.or_insert_with_key.result done.entry (λ k v put. put.1);
       refused = refuses-some c.args.self c.or_insert_with_key.result done.refused (λ v put. put.1);
       vacant = done.vacant;
+      full = done.full;
       growth = done.growth;
       relocates = done.relocates;
       unique = done.unique;

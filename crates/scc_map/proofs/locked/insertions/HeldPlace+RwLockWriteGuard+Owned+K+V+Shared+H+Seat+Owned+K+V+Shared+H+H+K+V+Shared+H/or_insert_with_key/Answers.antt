@@ -9,6 +9,7 @@ returns-in-Vacant g c =
       entry = (rw c.in-Vacant.is (map-ok _ _ c.insert_entry.result (λ o i. (c.f-value.result, (_, c.f-value.ensures, c.key.ensures), i)) put.inserted));
       refused = (rw c.in-Vacant.is (map-err _ _ c.insert_entry.result (λ e i. (c.f-value.result, (_, c.f-value.ensures, c.key.ensures), i)) put.refused));
       vacant = (search rules);
+      full = (rw c.in-Vacant.is put.full);
       growth = (rw c.in-Vacant.is put.growth);
       relocates = (rw c.in-Vacant.is (both-ok _ _ c.insert_entry.result put.relocates put.two));
       unique = put.unique;

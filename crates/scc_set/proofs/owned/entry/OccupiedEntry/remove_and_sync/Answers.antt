@@ -7,11 +7,13 @@ returns-in-Some g c =
     let next = rw c.in-Some.is at c.take_and_step-key.ensures.next in (
       (refl, λ w. refl, tt),
       record {
-        key = sym (entry_of-is _ _ c.args.self.within _ c.take_and_step-key.ensures.key);
-        next = record { same_set = refl; at = past-there _ _ _ _ _ c.take_and_step-key.ensures.others c.take_and_step-key.ensures.noted next.index };
-        waiting = c.take_and_step-key.ensures.waiting;
-        unique = c.take_and_step-key.ensures.unique;
-        last = tt;
+        removes = record {
+          key = sym (entry_of-is _ _ c.args.self.within _ c.take_and_step-key.ensures.key);
+          next = record { same_set = refl; at = past-there _ _ _ _ _ c.take_and_step-key.ensures.others c.take_and_step-key.ensures.noted next.index };
+          waiting = c.take_and_step-key.ensures.waiting;
+          unique = c.take_and_step-key.ensures.unique;
+          last = tt;
+        };
         kept = tt;
       },
     )
@@ -21,11 +23,13 @@ returns-in-None g c =
     let none = rw c.in-None.is at c.take_and_step-key.ensures.next in (
       (refl, λ _. tt, (left-there _ _ _ c.take_and_step-key.ensures.others, c.take_and_step-key.ensures.noted, c.take_and_step-key.ensures.unique, c.take_and_step-key.ensures.waiting)),
       record {
-        key = tt;
-        next = tt;
-        waiting = tt;
-        unique = tt;
-        last = (sym (entry_of-is _ _ c.args.self.within _ c.take_and_step-key.ensures.key), back-none _ _ none);
+        removes = record {
+          key = tt;
+          next = tt;
+          waiting = tt;
+          unique = tt;
+          last = (sym (entry_of-is _ _ c.args.self.within _ c.take_and_step-key.ensures.key), back-none _ _ none);
+        };
         kept = tt;
       },
     )

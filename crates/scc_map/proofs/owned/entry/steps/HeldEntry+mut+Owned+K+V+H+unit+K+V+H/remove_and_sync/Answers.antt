@@ -9,11 +9,13 @@ returns-in-Some g c =
     let next = rw c.in-Some.is at c.take_and_step-pair.ensures.next in (
       (refl, λ w. refl, tt),
       record {
-        pair = pair-is c.args.self c.args.self.guard.now c.take_and_step-pair.result.0 refl c.take_and_step-pair.ensures.pair;
-        next = next-past c.args.self _ refl c.take_and_step-pair.ensures.others c.take_and_step-pair.ensures.noted next.index;
-        waiting = c.take_and_step-pair.ensures.waiting;
-        unique = c.take_and_step-pair.ensures.unique;
-        last = tt;
+        removes = record {
+          pair = pair-is c.args.self c.args.self.guard.now c.take_and_step-pair.result.0 refl c.take_and_step-pair.ensures.pair;
+          next = next-past c.args.self _ refl c.take_and_step-pair.ensures.others c.take_and_step-pair.ensures.noted next.index;
+          waiting = c.take_and_step-pair.ensures.waiting;
+          unique = c.take_and_step-pair.ensures.unique;
+          last = tt;
+        };
         kept = tt;
       },
     )
@@ -23,11 +25,13 @@ returns-in-None g c =
     let none = rw c.in-None.is at c.take_and_step-pair.ensures.next in (
       (refl, λ _. tt, (left-there _ _ _ c.take_and_step-pair.ensures.others, c.take_and_step-pair.ensures.noted, c.take_and_step-pair.ensures.unique, c.take_and_step-pair.ensures.waiting)),
       record {
-        pair = tt;
-        next = tt;
-        waiting = tt;
-        unique = tt;
-        last = (pair-is c.args.self c.args.self.guard.now c.take_and_step-pair.result.0 refl c.take_and_step-pair.ensures.pair, back-none _ _ none);
+        removes = record {
+          pair = tt;
+          next = tt;
+          waiting = tt;
+          unique = tt;
+          last = (pair-is c.args.self c.args.self.guard.now c.take_and_step-pair.result.0 refl c.take_and_step-pair.ensures.pair, back-none _ _ none);
+        };
         kept = tt;
       },
     )
