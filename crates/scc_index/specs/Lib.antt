@@ -2,7 +2,6 @@ pub mod ClosureSteps
 pub mod Collections
 pub mod Entries
 pub mod EntrySteps
-pub mod Following
 pub mod IndexSizes
 pub mod IndexSteps
 pub mod IndexWalks

@@ -2,7 +2,6 @@ pub mod ClosureSteps
 pub mod Collections
 pub mod Entries
 pub mod EntrySteps
-pub mod Following
 pub mod Insertions
 pub mod Lends
 pub mod MapSizes

@@ -1,6 +1,6 @@
 //! How a part of a shared map keeps its share of what all parts together keep at least.
 ghost use Rattle.std.specs.Prelude.{◌≤◌, ◌^◌};
-ghost use Rattle.scc_map.specs.Following.{KeepsShare};
+ghost use Rattle.scc_stripes.specs.Following.{KeepsShare};
 
 use super::Owned;
 use scc_common::{MakeError, Shared};

@@ -1,4 +1,4 @@
--- How a part of a shared index keeps its share, in one word.
+-- How a part of a shared map or index keeps its share, in one word.
 use Rattle.std.specs.Prelude.{◌≡◌, ◌≤◌, ◌<◌, ◌-◌, ◌⊎◌, ℕ, Bool}
 use Rattle.scc_contents.specs.Contents.{Contents, minimum_of, refused_of, settings_of, waiting_of}
 use Rattle.scc_contents.specs.Pairs.{IsUnique}
