@@ -2,7 +2,6 @@
 use Rattle.std.specs.Prelude.{◌≡◌, ℕ, ◌*◌, ◌<◌, false, [], Result, IsOk, IfOk}
 use Rattle.scc_contents.specs.Contents.{Contents, entries, bucket_count, settings_of, refused_of, waiting_of}
 use Rattle.scc_contents.specs.Sizes.{IsArraySize}
-use Rattle.scc_buckets.specs.Bounded.{IsListed}
 
 module _ {E S : Type 0} where
   -- an empty container without an array, with that hasher and no minimum
@@ -30,41 +29,6 @@ module _ {E S : Type 0} where
     pub settings : IfOk result (λ c. settings_of c ≡ record { hasher = h c; skipped = skipped; asked = 32 * bucket_count c; reserved = 0 })
     -- it succeeds where no slots were asked for
     pub succeeds : capacity ≡ 0 → IsOk result
-    -- no resize was refused, and none is marked as tried
-    pub noted : IfOk result (λ c. refused_of c ≡ (false, false))
-    -- no bucket waits
-    pub waiting : IfOk result (λ c. waiting_of c ≡ [])
-
-module _ {E K S : Type 0} (key : E → K) (hash_in : Contents E S → K → ℕ) where
-  -- an empty table without an array, with that hasher, those bits of a hash skipped and no minimum
-  pub record IsNewTable (hasher : S) (skipped : ℕ) (c : Contents E S) : Type 0 where
-    -- there is no entry
-    pub entries : entries c ≡ []
-    -- each entry stands in the list of its hash
-    pub listed : IsListed (λ e. hash_in c (key e)) c
-    -- there is no array
-    pub buckets : bucket_count c ≡ 0
-    -- no slots were asked for, and none are reserved
-    pub settings : settings_of c ≡ record { hasher = hasher; skipped = skipped; asked = 0; reserved = 0 }
-    -- no resize was refused, and none is marked as tried
-    pub noted : refused_of c ≡ (false, false)
-    -- no bucket waits
-    pub waiting : waiting_of c ≡ []
-
-  -- a call that makes an empty table, with that hasher, those bits skipped and so many slots asked for
-  pub record MakesTable {X : Type 0} (hasher : S) (skipped slots : ℕ) (result : Result (Contents E S) X) : Type 0 where
-    -- there is no entry
-    pub entries : IfOk result (λ c. entries c ≡ [])
-    -- each entry stands in the list of its hash
-    pub listed : IfOk result (λ c. IsListed (λ e. hash_in c (key e)) c)
-    -- there is no array where no slots were asked for
-    pub none : IfOk result (λ c. slots ≡ 0 → bucket_count c ≡ 0)
-    -- else the slots are the least power of two, at least 64, that holds so many
-    pub size : IfOk result (λ c. 0 < slots → IsArraySize slots (32 * bucket_count c))
-    -- these slots are the minimum, and none are reserved
-    pub settings : IfOk result (λ c. settings_of c ≡ record { hasher = hasher; skipped = skipped; asked = 32 * bucket_count c; reserved = 0 })
-    -- it succeeds where no slots were asked for
-    pub succeeds : slots ≡ 0 → IsOk result
     -- no resize was refused, and none is marked as tried
     pub noted : IfOk result (λ c. refused_of c ≡ (false, false))
     -- no bucket waits

@@ -2,7 +2,7 @@
 ghost use Rattle.std.specs.Arc.{arc_value};
 ghost use Rattle.std.specs.Prelude.{◌≡◌, ◌≤◌, ◌<◌, []};
 ghost use Rattle.scc_contents.specs.Contents.{key_hash, lists_of, refused_of, settings_of, spilled_of, waiting_of};
-ghost use Rattle.scc_table.specs.Making.{IsNewTable, MakesTable};
+ghost use Rattle.scc_buckets.specs.Making.{AreNewBuckets, MakesBuckets};
 
 use super::{Draining, Table};
 use scc_array::Array;
@@ -21,7 +21,8 @@ where
     /// waits.
     pub fn new(alloc: Global, skipped: u32, hasher: H) -> Table<E, H>
         requires { skipped ≤ 4 }
-        ensures { IsNewTable E.key_of (key_hash H.BuildHasher H.Hasher.Hasher E.Key.hash_input) hasher skipped result }
+        ensures { AreNewBuckets E.key_of (key_hash H.BuildHasher H.Hasher.Hasher E.Key.hash_input) hasher skipped
+            result }
     {
         Table::over(skipped, Buckets::new(alloc, skipped, hasher))
     }
@@ -37,7 +38,7 @@ where
     where
         H: Drop,
         requires { skipped ≤ 4 }
-        ensures { MakesTable E.key_of (key_hash H.BuildHasher H.Hasher.Hasher E.Key.hash_input) hasher skipped slots
+        ensures { MakesBuckets E.key_of (key_hash H.BuildHasher H.Hasher.Hasher E.Key.hash_input) hasher skipped slots
             result }
     {
         match Buckets::with_capacity(alloc, skipped, slots, hasher) {
@@ -94,7 +95,7 @@ where
     where
         H: Drop,
         requires { skipped ≤ 4 }
-        ensures { MakesTable E.key_of (key_hash H.BuildHasher H.Hasher.Hasher E.Key.hash_input) (arc_value hasher)
+        ensures { MakesBuckets E.key_of (key_hash H.BuildHasher H.Hasher.Hasher E.Key.hash_input) (arc_value hasher)
             skipped slots result }
     {
         Table::with_capacity(alloc, skipped, slots, Shared::new(hasher))
