@@ -1,5 +1,6 @@
 // Insertions and puts that are refused: what was supplied comes back, the stripe is let go, the others stay, and the
 // next one is right.
+use crate::expect::expect_eq;
 use scc_shared_memory_kit::amiss::check_added;
 use scc_shared_memory_kit::caches::Cache;
 use scc_shared_memory_kit::fixtures::made;
@@ -27,7 +28,7 @@ fn expect_first_array<C: Kind + Drop, R: AllocGlobal + Abort + Print + Wait>(
             "by {way:?}"
         );
     }
-    assert_eq!(rt; shared.sizes(rt), (3, 64));
+    expect_eq(rt, shared.sizes(rt), (3, 64));
     Ok(())
 }
 
@@ -45,13 +46,13 @@ fn expect_growth<C: Kind + Drop, R: AllocGlobal + Abort + Print + Wait>(
             "by {way:?}"
         );
     }
-    assert_eq!(rt; shared.sizes(rt), (32, 64));
-    assert_eq!(rt; check_added(rt, &mut refusal, &shared, way, 32), Ok(()));
+    expect_eq(rt, shared.sizes(rt), (32, 64));
+    expect_eq(rt, check_added(rt, &mut refusal, &shared, way, 32), Ok(()));
     if shared.sizes(rt).1 == 64 {
         C::meet(rt, &mut refusal, What::Growth);
     }
-    assert_eq!(rt; check_added(rt, &mut refusal, &shared, way, 33), Ok(()));
-    assert_eq!(rt; shared.sizes(rt).1, 128);
+    expect_eq(rt, check_added(rt, &mut refusal, &shared, way, 33), Ok(()));
+    expect_eq(rt, shared.sizes(rt).1, 128);
     Ok(())
 }
 

@@ -1,5 +1,6 @@
 // Versions, updates and snapshots of a shared index that are refused: what was supplied comes back, the versions stay,
 // and the next call is right.
+use crate::expect::{expect, expect_eq};
 use scc::MakeError;
 use scc::hash_index::{Entry, Iter};
 use scc_shared_memory_kit::amiss::{check_added, check_keys};
@@ -19,7 +20,11 @@ fn of_two<R: AllocGlobal + Abort + Print + Wait>(
 ) -> Result<Index, Fail> {
     let index = made::<Index, R>(rt, refusal, 64)?;
     for key in 0..2u64 {
-        assert_eq!(rt; check_added(rt, refusal, &index, Way::Insert, key), Ok(()));
+        expect_eq(
+            rt,
+            check_added(rt, refusal, &index, Way::Insert, key),
+            Ok(()),
+        );
     }
     Ok(index)
 }
@@ -42,12 +47,12 @@ fn expect_updated<R: Abort + Print + Wait>(
         Ok(()) => {}
         Err(back) => {
             refusal.meet(rt, "an update in a shared index");
-            assert_eq!(rt; back, value);
-            assert_eq!(rt; (*entry.key(), Some(*entry.get())), (key, before));
-            assert_eq!(rt; entry.update(value), Ok(()));
+            expect_eq(rt, back, value);
+            expect_eq(rt, (*entry.key(), Some(*entry.get())), (key, before));
+            expect_eq(rt, entry.update(value), Ok(()));
         }
     }
-    assert_eq!(rt; (*entry.key(), *entry.get()), (key, value));
+    expect_eq(rt, (*entry.key(), *entry.get()), (key, value));
 }
 
 // A version that was peeked stays what it was, whatever is refused after it; it takes no memory.
@@ -60,12 +65,12 @@ fn a_refused_update_leaves_the_shared_version(rt: HostRuntime) -> Result<(), Fai
         return Ok(());
     };
     expect_updated(&rt, &mut refusal, &index, 1, 7);
-    assert_eq!(rt; (*peeked.key(), *peeked.value()), (1, !1));
-    assert_eq!(rt; index.read(&rt, 1), Some(7));
+    expect_eq(&rt, (*peeked.key(), *peeked.value()), (1, !1));
+    expect_eq(&rt, index.read(&rt, 1), Some(7));
     expect_updated(&rt, &mut refusal, &index, 1, !1);
-    assert_eq!(rt; check_keys(&rt, &index, Way::Insert, 2), Ok(()));
-    assert!(rt; index.remove(&rt, 1));
-    assert_eq!(rt; (*peeked.key(), *peeked.value()), (1, !1));
+    expect_eq(&rt, check_keys(&rt, &index, Way::Insert, 2), Ok(()));
+    expect(&rt, index.remove(&rt, 1));
+    expect_eq(&rt, (*peeked.key(), *peeked.value()), (1, !1));
     Ok(())
 }
 
@@ -79,22 +84,22 @@ fn expect_modified<R: Abort + Print + Wait>(
 ) {
     let before = index.read(rt, key);
     match index.entry_sync(rt, key).and_modify(|value| *value ^ 1) {
-        Ok(entry) => assert_eq!(rt; *entry.key(), key),
+        Ok(entry) => expect_eq(rt, *entry.key(), key),
         Err(back) => {
             refusal.meet(rt, "a modification in a shared index");
             let value = back.1;
-            assert_eq!(rt; before, Some(value ^ 1));
+            expect_eq(rt, before, Some(value ^ 1));
             let back = back.0;
             match back {
                 Entry::Occupied(mut entry) => {
-                    assert_eq!(rt; (*entry.key(), *entry.get()), (key, value ^ 1));
-                    assert_eq!(rt; entry.update(value), Ok(()));
+                    expect_eq(rt, (*entry.key(), *entry.get()), (key, value ^ 1));
+                    expect_eq(rt, entry.update(value), Ok(()));
                 }
                 Entry::Vacant(_) => assert!(rt; false, "the key is there"),
             }
         }
     }
-    assert_eq!(rt; index.read(rt, key).map(|value| value ^ 1), before);
+    expect_eq(rt, index.read(rt, key).map(|value| value ^ 1), before);
 }
 
 #[test]
@@ -103,7 +108,7 @@ fn a_refused_and_modify_leaves_the_shared_version(rt: HostRuntime) -> Result<(),
     let index = of_two(&rt, &mut refusal)?;
     expect_modified(&rt, &mut refusal, &index, 1);
     expect_modified(&rt, &mut refusal, &index, 1);
-    assert_eq!(rt; check_keys(&rt, &index, Way::Insert, 2), Ok(()));
+    expect_eq(&rt, check_keys(&rt, &index, Way::Insert, 2), Ok(()));
     Ok(())
 }
 
@@ -112,11 +117,11 @@ fn expect_versions<R: Abort>(rt: &R, versions: Iter<u64, u64>) {
     let mut left = versions;
     let mut seen = 0usize;
     for version in &mut left {
-        assert_eq!(rt; *version.value(), !*version.key());
+        expect_eq(rt, *version.value(), !*version.key());
         seen = seen.saturating_add(1);
     }
-    assert_eq!(rt; seen, 2);
-    assert!(rt; left.next().is_none());
+    expect_eq(rt, seen, 2);
+    expect(rt, left.next().is_none());
 }
 
 // A snapshot of two versions, asked for again where it was refused, which leaves the index.
@@ -129,7 +134,7 @@ fn snapshot<R: Abort + Print + Wait>(
         Ok(versions) => Ok(versions),
         Err(MakeError) => {
             refusal.meet(rt, "a snapshot of a shared index");
-            assert_eq!(rt; check_keys(rt, index, Way::Insert, 2), Ok(()));
+            expect_eq(rt, check_keys(rt, index, Way::Insert, 2), Ok(()));
             Ok(index.iter(rt)?)
         }
     }

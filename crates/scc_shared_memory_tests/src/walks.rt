@@ -1,5 +1,6 @@
 // Walks whose list of taken pairs finds no room: they end before the closure is called on the next pair, and the next
 // walk takes the rest.
+use crate::expect::{expect, expect_eq};
 use scc::{Verdict, WalkError};
 use scc_shared_memory_kit::amiss::{check_added, check_keys};
 use scc_shared_memory_kit::caches::Cache;
@@ -131,7 +132,7 @@ fn expect_taken<C: Takes, R: Abort + Wait>(rt: &R, shared: &C, taken: &[C::Item]
     for item in taken {
         match C::key_of(*item) {
             Some(key) => {
-                assert_eq!(rt; shared.read(rt, key), None);
+                expect_eq(rt, shared.read(rt, key), None);
                 sum = sum.saturating_add(key.saturating_add(1));
             }
             None => assert!(rt; false, "what the closure wrote goes with the pair"),
@@ -141,14 +142,14 @@ fn expect_taken<C: Takes, R: Abort + Wait>(rt: &R, shared: &C, taken: &[C::Item]
     for key in 0..3u64 {
         match shared.read(rt, key) {
             Some(value) => {
-                assert_eq!(rt; value, !key);
+                expect_eq(rt, value, !key);
                 left = left.saturating_add(key.saturating_add(1));
             }
             None => {}
         }
     }
-    assert_eq!(rt; sum.saturating_add(left), 6);
-    assert_eq!(rt; shared.sizes(rt).0.saturating_add(taken.len()), 3);
+    expect_eq(rt, sum.saturating_add(left), 6);
+    expect_eq(rt, shared.sizes(rt).0.saturating_add(taken.len()), 3);
 }
 
 // An empty list with room for so many, asked for again where it was refused.
@@ -175,15 +176,15 @@ fn expect_walk<C: Takes, R: AllocGlobal + Abort + Print + Wait>(
     let mut taken = listed::<C::Item, R>(rt, refusal, 1)?;
     let mut calls = 0usize;
     match shared.take(rt, &mut taken, &mut calls) {
-        Ok(ended) => assert!(rt; ended),
+        Ok(ended) => expect(rt, ended),
         Err(WalkError) => {
             C::meet_walk(rt, refusal);
-            assert_eq!(rt; (calls, taken.len()), (1, 1));
+            expect_eq(rt, (calls, taken.len()), (1, 1));
             expect_taken(rt, shared, taken.as_slice());
-            assert_eq!(rt; shared.take(rt, &mut taken, &mut calls), Ok(true));
+            expect_eq(rt, shared.take(rt, &mut taken, &mut calls), Ok(true));
         }
     }
-    assert_eq!(rt; (calls, taken.len()), (3, 3));
+    expect_eq(rt, (calls, taken.len()), (3, 3));
     expect_taken(rt, shared, taken.as_slice());
     Ok(())
 }
@@ -194,13 +195,14 @@ fn expect_walks<C: Takes + Drop, R: AllocGlobal + Abort + Print + Wait>(
     let mut refusal = Refusal::new();
     let shared = made::<C, R>(rt, &mut refusal, 64)?;
     for key in 0..3u64 {
-        assert_eq!(rt;
+        expect_eq(
+            rt,
             check_added(rt, &mut refusal, &shared, Way::Insert, key),
-            Ok(())
+            Ok(()),
         );
     }
     expect_walk(rt, &mut refusal, &shared)?;
-    assert_eq!(rt; check_keys(rt, &shared, Way::Insert, 0), Ok(()));
+    expect_eq(rt, check_keys(rt, &shared, Way::Insert, 0), Ok(()));
     Ok(())
 }
 

@@ -1,4 +1,5 @@
 // Workers whose run is refused: no turn is made, and the next run makes all.
+use crate::expect::{expect, expect_eq};
 use scc::stripes::{Open, RunError, Work, run};
 use scc_test_kit::refusals::Refusal;
 use std::process::Abort;
@@ -36,10 +37,10 @@ fn a_refused_run_of_workers_makes_no_turn(rt: HostRuntime) {
     let ended = run(&rt, rt.alloc(), &mut work, &Open);
     if matches!(ended, Err(RunError::Start)) {
         refusal.meet(&rt, "a run of workers");
-        assert_eq!(rt; turns_of(work.as_slice()), 0);
-        assert!(rt; run(&rt, rt.alloc(), &mut work, &Open).is_ok());
+        expect_eq(&rt, turns_of(work.as_slice()), 0);
+        expect(&rt, run(&rt, rt.alloc(), &mut work, &Open).is_ok());
     } else {
-        assert!(rt; ended.is_ok());
+        expect(&rt, ended.is_ok());
     }
-    assert_eq!(rt; turns_of(work.as_slice()), 6);
+    expect_eq(&rt, turns_of(work.as_slice()), 6);
 }

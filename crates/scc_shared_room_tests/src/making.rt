@@ -1,4 +1,5 @@
 // Constructors, clones and collections that are refused: nothing is made, and the next one is right.
+use crate::expect::{expect, expect_eq};
 use scc::{HashCache, HashIndex, HashMap, HashSet, MakeError};
 use scc_shared_memory_kit::amiss::{check_added, check_keys};
 use scc_shared_memory_kit::caches::Cache;
@@ -21,7 +22,7 @@ fn expect_size<C: Makes + Drop, R: AllocGlobal + Abort + Print + Wait>(
     capacity: usize,
 ) -> Result<(), Fail> {
     let shared = made::<C, R>(rt, refusal, asked)?;
-    assert_eq!(rt; shared.sizes(rt), (0, capacity));
+    expect_eq(rt, shared.sizes(rt), (0, capacity));
     Ok(())
 }
 
@@ -30,7 +31,7 @@ fn expect_constructors<C: Makes + Drop, R: AllocGlobal + Abort + Print + Wait>(
     rt: &R,
 ) -> Result<(), Fail> {
     let mut refusal = Refusal::new();
-    assert!(rt; C::make(rt.alloc(), usize::MAX).is_err());
+    expect(rt, C::make(rt.alloc(), usize::MAX).is_err());
     for (asked, capacity) in [(0, 0), (1, 64), (65, 128)] {
         expect_size::<C, R>(rt, &mut refusal, asked, capacity)?;
     }
@@ -94,8 +95,8 @@ fn collected<C: Kind, R: AllocGlobal + Abort + Print + Wait>(
 fn expect_items<C: Kind + Drop, R: AllocGlobal + Abort + Print + Wait>(rt: &R) -> Result<(), Fail> {
     let mut refusal = Refusal::new();
     let shared = collected::<C, R>(rt, &mut refusal)?;
-    assert_eq!(rt; check_keys(rt, &shared, Way::Insert, 3), Ok(()));
-    assert_eq!(rt; shared.sizes(rt).1, 64);
+    expect_eq(rt, check_keys(rt, &shared, Way::Insert, 3), Ok(()));
+    expect_eq(rt, shared.sizes(rt).1, 64);
     Ok(())
 }
 
@@ -167,8 +168,8 @@ fn copied<C: Copies, R: Abort + Print + Wait>(
         Ok(copy) => Ok(copy),
         Err(MakeError) => {
             C::meet_copy(rt, refusal);
-            assert_eq!(rt; check_keys(rt, shared, Way::Insert, 3), Ok(()));
-            assert_eq!(rt; shared.sizes(rt).1, 64);
+            expect_eq(rt, check_keys(rt, shared, Way::Insert, 3), Ok(()));
+            expect_eq(rt, shared.sizes(rt).1, 64);
             Ok(shared.copy(rt)?)
         }
     }
@@ -180,16 +181,17 @@ fn expect_clone<C: Copies + Drop, R: AllocGlobal + Abort + Print + Wait>(
     let mut refusal = Refusal::new();
     let shared = made::<C, R>(rt, &mut refusal, 64)?;
     for key in 0..3u64 {
-        assert_eq!(rt;
+        expect_eq(
+            rt,
             check_added(rt, &mut refusal, &shared, Way::Insert, key),
-            Ok(())
+            Ok(()),
         );
     }
     let copy = copied(rt, &mut refusal, &shared)?;
-    assert!(rt; shared.remove(rt, 2));
-    assert_eq!(rt; check_keys(rt, &shared, Way::Insert, 2), Ok(()));
-    assert_eq!(rt; check_keys(rt, &copy, Way::Insert, 3), Ok(()));
-    assert_eq!(rt; copy.sizes(rt).1, 64);
+    expect(rt, shared.remove(rt, 2));
+    expect_eq(rt, check_keys(rt, &shared, Way::Insert, 2), Ok(()));
+    expect_eq(rt, check_keys(rt, &copy, Way::Insert, 3), Ok(()));
+    expect_eq(rt, copy.sizes(rt).1, 64);
     Ok(())
 }
 

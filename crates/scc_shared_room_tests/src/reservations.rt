@@ -1,5 +1,6 @@
 // Reservations whose growth is refused: they are given all the same, and a later one grows. What they leave when they
 // are given back may be refused its shrink: the array stays, and the next removal shrinks it.
+use crate::expect::{expect, expect_eq};
 use scc::{hash_index, hash_map};
 use scc_shared_memory_kit::amiss::{check_added, check_keys};
 use scc_shared_memory_kit::fixtures::made;
@@ -99,10 +100,10 @@ fn expect_reserved<S: Reserves, R: Abort + Wait>(
 ) -> Option<S::Token> {
     let token = by.reserved(rt, slots);
     match &token {
-        Some(token) => assert_eq!(rt; S::slots_of(token), slots),
+        Some(token) => expect_eq(rt, S::slots_of(token), slots),
         None => assert!(rt; false, "so many can be reserved"),
     }
-    assert_eq!(rt; by.minimum(), minimum.saturating_add(slots));
+    expect_eq(rt, by.minimum(), minimum.saturating_add(slots));
     token
 }
 
@@ -115,37 +116,41 @@ fn expect_reservations<C: Kind, S: Reserves, R: Abort + Print + Wait>(
     by: S,
 ) {
     for key in 0..3u64 {
-        assert_eq!(rt; check_added(rt, refusal, shared, Way::Insert, key), Ok(()));
+        expect_eq(
+            rt,
+            check_added(rt, refusal, shared, Way::Insert, key),
+            Ok(()),
+        );
     }
     let first = expect_reserved(rt, by, 64, 64);
     let once = shared.sizes(rt).1;
     if once == 64 {
         S::meet_growth(rt, refusal);
     } else {
-        assert_eq!(rt; once, 128);
+        expect_eq(rt, once, 128);
     }
     let second = expect_reserved(rt, by, 1, 128);
     let twice = shared.sizes(rt).1;
     if twice == once {
         S::meet_growth(rt, refusal);
     } else {
-        assert_eq!(rt; twice, 256);
+        expect_eq(rt, twice, 256);
     }
-    assert_eq!(rt; check_keys(rt, shared, Way::Insert, 3), Ok(()));
+    expect_eq(rt, check_keys(rt, shared, Way::Insert, 3), Ok(()));
     drop(second);
     drop(first);
-    assert_eq!(rt; by.minimum(), 64);
-    assert!(rt; shared.remove(rt, 2));
-    assert_eq!(rt; check_keys(rt, shared, Way::Insert, 2), Ok(()));
+    expect_eq(rt, by.minimum(), 64);
+    expect(rt, shared.remove(rt, 2));
+    expect_eq(rt, check_keys(rt, shared, Way::Insert, 2), Ok(()));
     let left = shared.sizes(rt).1;
     if left == twice {
         C::meet(rt, refusal, What::Shrink);
     } else {
-        assert_eq!(rt; left, 64);
+        expect_eq(rt, left, 64);
     }
-    assert!(rt; shared.remove(rt, 1));
-    assert_eq!(rt; check_keys(rt, shared, Way::Insert, 1), Ok(()));
-    assert_eq!(rt; shared.sizes(rt).1, 64);
+    expect(rt, shared.remove(rt, 1));
+    expect_eq(rt, check_keys(rt, shared, Way::Insert, 1), Ok(()));
+    expect_eq(rt, shared.sizes(rt).1, 64);
 }
 
 #[test]
@@ -182,16 +187,16 @@ fn expect_no_array<C: Kind, S: Reserves, R: Abort + Print + Wait>(
     way: Way,
 ) {
     let token = expect_reserved(rt, by, GREATEST, 0);
-    assert_eq!(rt; shared.add(rt, way, 0), Added::Refused(0, way.value(0)));
-    assert_eq!(rt; check_keys(rt, shared, way, 0), Ok(()));
-    assert_eq!(rt; shared.sizes(rt), (0, 0));
+    expect_eq(rt, shared.add(rt, way, 0), Added::Refused(0, way.value(0)));
+    expect_eq(rt, check_keys(rt, shared, way, 0), Ok(()));
+    expect_eq(rt, shared.sizes(rt), (0, 0));
     drop(token);
-    assert_eq!(rt; check_added(rt, refusal, shared, way, 0), Ok(()));
-    assert_eq!(rt; shared.sizes(rt), (1, 64));
+    expect_eq(rt, check_added(rt, refusal, shared, way, 0), Ok(()));
+    expect_eq(rt, shared.sizes(rt), (1, 64));
     let again = expect_reserved(rt, by, GREATEST, 0);
-    assert_eq!(rt; shared.sizes(rt), (1, 64));
+    expect_eq(rt, shared.sizes(rt), (1, 64));
     drop(again);
-    assert_eq!(rt; check_added(rt, refusal, shared, way, 1), Ok(()));
+    expect_eq(rt, check_added(rt, refusal, shared, way, 1), Ok(()));
 }
 
 #[test]
@@ -236,9 +241,9 @@ fn expect_overflow<C: Kind, S: Reserves, R: Abort + Print + Wait>(
     };
     let kept = shared.sizes(rt).1;
     for key in 0..34u64 {
-        assert_eq!(rt; check_added(rt, refusal, shared, way, key), Ok(()));
+        expect_eq(rt, check_added(rt, refusal, shared, way, key), Ok(()));
     }
-    assert_eq!(rt; shared.sizes(rt).1, kept);
+    expect_eq(rt, shared.sizes(rt).1, kept);
     drop(second);
     drop(first);
 }

@@ -1,4 +1,5 @@
 // Shrinks that are refused: what was to go is gone, the array stays, and the next call shrinks it.
+use crate::expect::{expect, expect_eq};
 use scc_shared_memory_kit::amiss::{check_added, check_between, check_keys};
 use scc_shared_memory_kit::caches::Cache;
 use scc_shared_memory_kit::fixtures::made;
@@ -57,13 +58,21 @@ fn doubled<C: Kind, R: AllocGlobal + Abort + Print + Wait>(
 ) -> Result<C, Fail> {
     let shared = made::<C, R>(rt, refusal, 64)?;
     for key in 0..33u64 {
-        assert_eq!(rt; check_added(rt, refusal, &shared, Way::Insert, key), Ok(()));
+        expect_eq(
+            rt,
+            check_added(rt, refusal, &shared, Way::Insert, key),
+            Ok(()),
+        );
     }
     if shared.sizes(rt).1 == 64 {
         C::meet(rt, refusal, What::Growth);
-        assert_eq!(rt; check_added(rt, refusal, &shared, Way::Insert, 33), Ok(()));
+        expect_eq(
+            rt,
+            check_added(rt, refusal, &shared, Way::Insert, 33),
+            Ok(()),
+        );
     }
-    assert_eq!(rt; shared.sizes(rt).1, 128);
+    expect_eq(rt, shared.sizes(rt).1, 128);
     Ok(shared)
 }
 
@@ -77,7 +86,7 @@ fn expect_smaller<C: Kind, R: Abort + Print + Wait>(
     if capacity == 128 {
         C::meet(rt, refusal, What::Shrink);
     } else {
-        assert_eq!(rt; capacity, 64);
+        expect_eq(rt, capacity, 64);
     }
     capacity == 64
 }
@@ -94,18 +103,20 @@ fn expect_shrink_at_retain<C: Clears + Drop, R: AllocGlobal + Abort + Print + Wa
         33
     };
     shared.keep_below(rt, 4);
-    assert_eq!(rt;
+    expect_eq(
+        rt,
         check_between(rt, &shared, Way::Insert, C::first_kept(added), 4),
-        Ok(())
+        Ok(()),
     );
     if !expect_smaller(rt, &mut refusal, &shared) {
         shared.keep_below(rt, 4);
     }
-    assert_eq!(rt;
+    expect_eq(
+        rt,
         check_between(rt, &shared, Way::Insert, C::first_kept(added), 4),
-        Ok(())
+        Ok(()),
     );
-    assert_eq!(rt; shared.sizes(rt).1, 64);
+    expect_eq(rt, shared.sizes(rt).1, 64);
     Ok(())
 }
 
@@ -115,14 +126,15 @@ fn expect_shrink_at_clear<C: Clears + Drop, R: AllocGlobal + Abort + Print + Wai
     let mut refusal = Refusal::new();
     let shared = doubled::<C, R>(rt, &mut refusal)?;
     shared.clear(rt);
-    assert_eq!(rt; check_keys(rt, &shared, Way::Insert, 0), Ok(()));
+    expect_eq(rt, check_keys(rt, &shared, Way::Insert, 0), Ok(()));
     if !expect_smaller(rt, &mut refusal, &shared) {
         shared.clear(rt);
     }
-    assert_eq!(rt; shared.sizes(rt), (0, 64));
-    assert_eq!(rt;
+    expect_eq(rt, shared.sizes(rt), (0, 64));
+    expect_eq(
+        rt,
         check_added(rt, &mut refusal, &shared, Way::Insert, 0),
-        Ok(())
+        Ok(()),
     );
     Ok(())
 }
@@ -167,10 +179,10 @@ fn shared_cache_remove_refused_its_shrink(rt: HostRuntime) -> Result<(), Fail> {
             let _there = cache.remove(&rt, key);
         }
     }
-    assert_eq!(rt; cache.len(&rt), 16);
+    expect_eq(&rt, cache.len(&rt), 16);
     if !expect_smaller(&rt, &mut refusal, &cache) {
-        assert!(rt; cache.remove(&rt, 32));
+        expect(&rt, cache.remove(&rt, 32));
     }
-    assert_eq!(rt; cache.capacity(&rt), 64);
+    expect_eq(&rt, cache.capacity(&rt), 64);
     Ok(())
 }
