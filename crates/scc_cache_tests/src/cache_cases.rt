@@ -1,4 +1,5 @@
 // Worked cases of the owned cache. Under the hasher that finishes with 0 all keys stand in one bucket.
+use crate::expect::{expect, expect_eq};
 use scc::hash_cache::owned::ReplaceResult;
 use scc::hash_cache::{DEFAULT_MAXIMUM_CAPACITY, Owned};
 use scc::{InsertError, Verdict};
@@ -36,11 +37,11 @@ fn put<R: AllocGlobal + Abort>(
 fn cache_get_refreshes(rt: HostRuntime) -> Result<(), Fail> {
     let mut cache = full(&rt, 64)?;
     match cache.get_sync(&0) {
-        Some(entry) => assert_eq!(rt; (*entry.key(), *entry.get()), (0, 0)),
-        None => assert!(rt; false),
+        Some(entry) => expect_eq(&rt, (*entry.key(), *entry.get()), (0, 0)),
+        None => expect(&rt, false),
     }
-    assert_eq!(rt; put(&rt, &mut cache, 32), Some((1, 1)));
-    assert!(rt; cache.contains_sync(&0));
+    expect_eq(&rt, put(&rt, &mut cache, 32), Some((1, 1)));
+    expect(&rt, cache.contains_sync(&0));
     Ok(())
 }
 
@@ -48,9 +49,9 @@ fn cache_get_refreshes(rt: HostRuntime) -> Result<(), Fail> {
 fn cache_put_entry_refreshes(rt: HostRuntime) -> Result<(), Fail> {
     let mut cache = full(&rt, 64)?;
     let (evicted, _) = cache.entry_sync(0).put_entry(7)?;
-    assert!(rt; evicted.is_none());
-    assert_eq!(rt; put(&rt, &mut cache, 32), Some((1, 1)));
-    assert_eq!(rt; cache.read_sync(&0, |_, value| *value), Some(7));
+    expect(&rt, evicted.is_none());
+    expect_eq(&rt, put(&rt, &mut cache, 32), Some((1, 1)));
+    expect_eq(&rt, cache.read_sync(&0, |_, value| *value), Some(7));
     Ok(())
 }
 
@@ -58,82 +59,82 @@ fn cache_put_entry_refreshes(rt: HostRuntime) -> Result<(), Fail> {
 fn cache_which_calls_refresh(rt: HostRuntime) -> Result<(), Fail> {
     let mut cache = full(&rt, 64)?;
     match cache.replace_sync(0) {
-        ReplaceResult::Replaced(_, old) => assert_eq!(rt; old, 0),
-        ReplaceResult::NotReplaced(_) => assert!(rt; false),
+        ReplaceResult::Replaced(_, old) => expect_eq(&rt, old, 0),
+        ReplaceResult::NotReplaced(_) => expect(&rt, false),
     }
-    assert_eq!(rt; put(&rt, &mut cache, 32), Some((1, 1)));
+    expect_eq(&rt, put(&rt, &mut cache, 32), Some((1, 1)));
 
     let mut cache = full(&rt, 64)?;
-    assert_eq!(rt; *cache.entry_sync(0).key(), 0);
-    assert_eq!(rt; put(&rt, &mut cache, 32), Some((1, 1)));
+    expect_eq(&rt, *cache.entry_sync(0).key(), 0);
+    expect_eq(&rt, put(&rt, &mut cache, 32), Some((1, 1)));
 
     let mut cache = full(&rt, 64)?;
-    assert_eq!(rt; cache.read_sync(&0, |_, value| *value), Some(0));
-    assert_eq!(rt; put(&rt, &mut cache, 32), Some((0, 0)));
+    expect_eq(&rt, cache.read_sync(&0, |_, value| *value), Some(0));
+    expect_eq(&rt, put(&rt, &mut cache, 32), Some((0, 0)));
 
     let mut cache = full(&rt, 64)?;
-    assert!(rt; cache.contains_sync(&0));
-    assert_eq!(rt; put(&rt, &mut cache, 32), Some((0, 0)));
+    expect(&rt, cache.contains_sync(&0));
+    expect_eq(&rt, put(&rt, &mut cache, 32), Some((0, 0)));
     Ok(())
 }
 
 #[test]
 fn cache_doubles_then_evicts(rt: HostRuntime) -> Result<(), Fail> {
     let mut cache = full(&rt, 128)?;
-    assert_eq!(rt; cache.capacity(), 64);
-    assert_eq!(rt; put(&rt, &mut cache, 32), Some((0, 0)));
-    assert_eq!(rt; cache.capacity(), 128);
-    assert_eq!(rt; put(&rt, &mut cache, 33), Some((1, 1)));
-    assert_eq!(rt; (cache.capacity(), cache.len()), (128, 32));
+    expect_eq(&rt, cache.capacity(), 64);
+    expect_eq(&rt, put(&rt, &mut cache, 32), Some((0, 0)));
+    expect_eq(&rt, cache.capacity(), 128);
+    expect_eq(&rt, put(&rt, &mut cache, 33), Some((1, 1)));
+    expect_eq(&rt, (cache.capacity(), cache.len()), (128, 32));
     Ok(())
 }
 
 #[test]
 fn cache_capacities_and_ranges(rt: HostRuntime) -> Result<(), Fail> {
     let cache: Owned<u64, u64> = Owned::with_capacity(rt.alloc(), 1000, 2000)?;
-    assert_eq!(rt; cache.capacity(), 1024);
-    assert_eq!(rt; cache.capacity_range(), 1024..=2048);
+    expect_eq(&rt, cache.capacity(), 1024);
+    expect_eq(&rt, cache.capacity_range(), 1024..=2048);
     let cache: Owned<u64, u64> = Owned::with_capacity(rt.alloc(), 0, 0)?;
-    assert_eq!(rt; cache.capacity_range(), 0..=64);
+    expect_eq(&rt, cache.capacity_range(), 0..=64);
     let cache: Owned<u64, u64> = Owned::with_capacity(rt.alloc(), 100, 2000)?;
-    assert_eq!(rt; cache.capacity_range(), 128..=2048);
+    expect_eq(&rt, cache.capacity_range(), 128..=2048);
     let cache: Owned<u64, u64> = Owned::new(rt.alloc());
-    assert_eq!(rt; cache.capacity_range(), 0..=DEFAULT_MAXIMUM_CAPACITY);
-    assert_eq!(rt; (cache.capacity(), cache.pending()), (0, 0));
-    assert!(rt; cache.is_empty());
+    expect_eq(&rt, cache.capacity_range(), 0..=DEFAULT_MAXIMUM_CAPACITY);
+    expect_eq(&rt, (cache.capacity(), cache.pending()), (0, 0));
+    expect(&rt, cache.is_empty());
     Ok(())
 }
 
 #[test]
 fn cache_shrinks_and_evicts_again(rt: HostRuntime) -> Result<(), Fail> {
     let mut cache = full(&rt, 128)?;
-    assert_eq!(rt; put(&rt, &mut cache, 32), Some((0, 0)));
-    assert_eq!(rt; cache.capacity(), 128);
+    expect_eq(&rt, put(&rt, &mut cache, 32), Some((0, 0)));
+    expect_eq(&rt, cache.capacity(), 128);
     for key in 1..17u64 {
         assert_eq!(rt; cache.capacity(), 128, "before the removal of {key}");
-        assert_eq!(rt; cache.remove_sync(&key), Some((key, key)));
+        expect_eq(&rt, cache.remove_sync(&key), Some((key, key)));
     }
-    assert_eq!(rt; (cache.capacity(), cache.len()), (64, 16));
+    expect_eq(&rt, (cache.capacity(), cache.len()), (64, 16));
     for key in 33..49u64 {
-        assert_eq!(rt; put(&rt, &mut cache, key), None);
+        expect_eq(&rt, put(&rt, &mut cache, key), None);
     }
-    assert_eq!(rt; put(&rt, &mut cache, 49), Some((17, 17)));
-    assert_eq!(rt; cache.capacity(), 128);
+    expect_eq(&rt, put(&rt, &mut cache, 49), Some((17, 17)));
+    expect_eq(&rt, cache.capacity(), 128);
     Ok(())
 }
 
 #[test]
 fn cache_which_calls_leave_the_order(rt: HostRuntime) -> Result<(), Fail> {
     let mut cache = full(&rt, 64)?;
-    assert_eq!(rt; cache.read_sync(&0, |_, value| *value), Some(0));
-    assert!(rt; cache.contains_sync(&0));
-    assert!(rt; cache.iter_sync(|_, _| true));
+    expect_eq(&rt, cache.read_sync(&0, |_, value| *value), Some(0));
+    expect(&rt, cache.contains_sync(&0));
+    expect(&rt, cache.iter_sync(|_, _| true));
     match cache.put_sync(0, 9) {
-        Err(InsertError::Exists(pair)) => assert_eq!(rt; pair, (0, 9)),
-        _ => assert!(rt; false),
+        Err(InsertError::Exists(pair)) => expect_eq(&rt, pair, (0, 9)),
+        _ => expect(&rt, false),
     }
-    assert!(rt; cache.remove_if_sync(&0, |_| false).is_none());
-    assert_eq!(rt; put(&rt, &mut cache, 32), Some((0, 0)));
+    expect(&rt, cache.remove_if_sync(&0, |_| false).is_none());
+    expect_eq(&rt, put(&rt, &mut cache, 32), Some((0, 0)));
     Ok(())
 }
 
@@ -143,11 +144,11 @@ fn cache_evicts_from_the_keys_own_bucket(rt: HostRuntime) -> Result<(), Fail> {
     let other = 1u64 << 63;
     cache.put_sync(other, 0)?;
     for key in 0..32u64 {
-        assert!(rt; cache.put_sync(key, key)?.is_none());
+        expect(&rt, cache.put_sync(key, key)?.is_none());
     }
-    assert_eq!(rt; cache.put_sync(32, 32)?, Some((0, 0)));
-    assert!(rt; cache.contains_sync(&other));
-    assert_eq!(rt; (cache.len(), cache.capacity()), (33, 64));
+    expect_eq(&rt, cache.put_sync(32, 32)?, Some((0, 0)));
+    expect(&rt, cache.contains_sync(&other));
+    expect_eq(&rt, (cache.len(), cache.capacity()), (33, 64));
     Ok(())
 }
 
@@ -155,25 +156,25 @@ fn cache_evicts_from_the_keys_own_bucket(rt: HostRuntime) -> Result<(), Fail> {
 fn cache_entries_do_what_they_say(rt: HostRuntime) -> Result<(), Fail> {
     let mut cache: Owned<u64, u64> = Owned::new(rt.alloc());
     let (evicted, entry) = cache.entry_sync(1).or_put(10)?;
-    assert_eq!(rt; (evicted, *entry.get()), (None, 10));
+    expect_eq(&rt, (evicted, *entry.get()), (None, 10));
     let (_, entry) = cache.entry_sync(1).or_put_with(|| 11)?;
-    assert_eq!(rt; *entry.get(), 10);
+    expect_eq(&rt, *entry.get(), 10);
     let (_, entry) = cache
         .entry_sync(2)
         .or_put_with_key(|key| key.wrapping_mul(10))?;
-    assert_eq!(rt; (*entry.key(), *entry.get()), (2, 20));
+    expect_eq(&rt, (*entry.key(), *entry.get()), (2, 20));
     let (_, entry) = cache.entry_sync(3).or_default()?;
-    assert_eq!(rt; *entry.get(), 0);
+    expect_eq(&rt, *entry.get(), 0);
     let (_, mut entry) = cache
         .entry_sync(3)
         .and_modify(|value| *value = 7)
         .put_entry(8)?;
-    assert_eq!(rt; entry.put(9), 8);
+    expect_eq(&rt, entry.put(9), 8);
     *entry.get_mut() = 30;
-    assert_eq!(rt; entry.remove_entry(), (3, 30));
-    assert_eq!(rt; cache.len(), 2);
+    expect_eq(&rt, entry.remove_entry(), (3, 30));
+    expect_eq(&rt, cache.len(), 2);
     cache.clear_sync();
-    assert!(rt; cache.is_empty());
+    expect(&rt, cache.is_empty());
     Ok(())
 }
 
@@ -181,9 +182,9 @@ fn cache_entries_do_what_they_say(rt: HostRuntime) -> Result<(), Fail> {
 fn cache_try_from_iter_first_wins(rt: HostRuntime) -> Result<(), Fail> {
     let items = vec![in rt.alloc(); (1u64, 10u64), (1, 20)]?;
     let cache: Owned<u64, u64> = Owned::try_from_iter(rt.alloc(), items)?;
-    assert_eq!(rt; cache.read_sync(&1, |_, value| *value), Some(10));
-    assert_eq!(rt; (cache.len(), cache.capacity()), (1, 64));
-    assert_eq!(rt; cache.capacity_range(), 64..=64);
+    expect_eq(&rt, cache.read_sync(&1, |_, value| *value), Some(10));
+    expect_eq(&rt, (cache.len(), cache.capacity()), (1, 64));
+    expect_eq(&rt, cache.capacity_range(), 64..=64);
     Ok(())
 }
 
@@ -195,10 +196,10 @@ fn cache_equality_ignores_recency(rt: HostRuntime) -> Result<(), Fail> {
         first.put_sync(key, key)?;
         second.put_sync(3 - key, 3 - key)?;
     }
-    assert!(rt; first == second);
+    expect(&rt, first == second);
     first.put_sync(3, 3)?;
-    assert!(rt; !(first == second));
-    assert!(rt; !(second == first));
+    expect(&rt, !(first == second));
+    expect(&rt, !(second == first));
     Ok(())
 }
 
@@ -209,11 +210,11 @@ fn cache_walks_keep_the_order(rt: HostRuntime) -> Result<(), Fail> {
         *value = key.wrapping_add(100);
         *key % 2 == 1
     });
-    assert_eq!(rt; cache.len(), 16);
+    expect_eq(&rt, cache.len(), 16);
     for key in 32..48u64 {
-        assert_eq!(rt; put(&rt, &mut cache, key), None);
+        expect_eq(&rt, put(&rt, &mut cache, key), None);
     }
-    assert_eq!(rt; put(&rt, &mut cache, 48), Some((1, 101)));
+    expect_eq(&rt, put(&rt, &mut cache, 48), Some((1, 101)));
     let mut taken = Vec::new(rt.alloc());
     let result = cache.iter_mut_sync(
         |key, _| {
@@ -225,10 +226,10 @@ fn cache_walks_keep_the_order(rt: HostRuntime) -> Result<(), Fail> {
         },
         &mut taken,
     );
-    assert!(rt; matches!(result, Ok(true)));
-    assert_eq!(rt; taken.as_slice(), [(3, 103)].as_slice());
-    assert_eq!(rt; put(&rt, &mut cache, 49), None);
-    assert_eq!(rt; put(&rt, &mut cache, 50), Some((5, 105)));
+    expect(&rt, matches!(result, Ok(true)));
+    expect_eq(&rt, taken.as_slice(), [(3, 103)].as_slice());
+    expect_eq(&rt, put(&rt, &mut cache, 49), None);
+    expect_eq(&rt, put(&rt, &mut cache, 50), Some((5, 105)));
     Ok(())
 }
 
@@ -247,7 +248,7 @@ fn cache_iter_mut_stops_at_its_first_call(rt: HostRuntime) -> Result<(), Fail> {
             },
             &mut taken,
         );
-        assert!(rt; matches!(result, Ok(false)));
+        expect(&rt, matches!(result, Ok(false)));
         let mut nines = 0u64;
         cache.iter_sync(|_, value| {
             if *value == 9 {
@@ -256,10 +257,10 @@ fn cache_iter_mut_stops_at_its_first_call(rt: HostRuntime) -> Result<(), Fail> {
             true
         });
         let is_taken = matches!(verdict, Verdict::TakeStop);
-        assert_eq!(rt; nines, if is_taken { 0 } else { 1 });
-        assert_eq!(rt; cache.len(), if is_taken { 2 } else { 3 });
+        expect_eq(&rt, nines, if is_taken { 0 } else { 1 });
+        expect_eq(&rt, cache.len(), if is_taken { 2 } else { 3 });
     }
-    assert_eq!(rt; taken.len(), 1);
+    expect_eq(&rt, taken.len(), 1);
     Ok(())
 }
 
@@ -270,16 +271,16 @@ fn cache_false_remove_if_keeps_what_it_wrote(rt: HostRuntime) -> Result<(), Fail
         *value = 50;
         false
     });
-    assert!(rt; declined.is_none());
-    assert_eq!(rt; put(&rt, &mut cache, 32), Some((0, 50)));
+    expect(&rt, declined.is_none());
+    expect_eq(&rt, put(&rt, &mut cache, 32), Some((0, 50)));
     let removed = cache.remove_if_sync(&1, |value| {
         *value = 51;
         true
     });
-    assert_eq!(rt; removed, Some((1, 51)));
+    expect_eq(&rt, removed, Some((1, 51)));
     let missing = cache.remove_if_sync(&1, |_| true);
-    assert!(rt; missing.is_none());
-    assert_eq!(rt; cache.len(), 31);
+    expect(&rt, missing.is_none());
+    expect_eq(&rt, cache.len(), 31);
     Ok(())
 }
 
@@ -292,36 +293,38 @@ fn cache_replace_under_one_hash_keeps_values(rt: HostRuntime) -> Result<(), Fail
     for key in 0..32u64 {
         match cache.replace_sync(MaybeEqual(key, 200 + key)) {
             ReplaceResult::Replaced(entry, old) => {
-                assert_eq!(rt; (old.0, old.1), (key, 100 + key));
-                assert_eq!(rt; (entry.key().1, *entry.get()), (200 + key, key));
+                expect_eq(&rt, (old.0, old.1), (key, 100 + key));
+                expect_eq(&rt, (entry.key().1, *entry.get()), (200 + key, key));
             }
-            ReplaceResult::NotReplaced(_) => assert!(rt; false),
+            ReplaceResult::NotReplaced(_) => expect(&rt, false),
         }
     }
-    assert_eq!(rt; cache.len(), 32);
+    expect_eq(&rt, cache.len(), 32);
     Ok(())
 }
 
 #[test]
 fn cache_room_is_made_before_a_put(rt: HostRuntime) -> Result<(), Fail> {
     let mut cache = full(&rt, 128)?;
-    assert!(rt; cache.next_evicted(&31).is_none());
-    assert!(rt; cache.next_evicted(&32).is_some());
+    expect(&rt, cache.next_evicted(&31).is_none());
+    expect(&rt, cache.next_evicted(&32).is_some());
     cache.make_room(&32)?;
-    assert_eq!(rt;
+    expect_eq(
+        &rt,
         (cache.len(), cache.capacity(), cache.pending()),
-        (32, 128, 4)
+        (32, 128, 4),
     );
     match cache.next_evicted(&32) {
-        Some((key, value)) => assert_eq!(rt; (*key, *value), (0, 0)),
+        Some((key, value)) => expect_eq(&rt, (*key, *value), (0, 0)),
         None => assert!(rt; false, "the list is full"),
     }
     cache.drop_room();
-    assert_eq!(rt; put(&rt, &mut cache, 32), Some((0, 0)));
-    assert_eq!(rt;
+    expect_eq(&rt, put(&rt, &mut cache, 32), Some((0, 0)));
+    expect_eq(
+        &rt,
         (cache.len(), cache.capacity(), cache.pending()),
-        (32, 128, 2)
+        (32, 128, 2),
     );
-    assert!(rt; cache.next_evicted(&1).is_none());
+    expect(&rt, cache.next_evicted(&1).is_none());
     Ok(())
 }

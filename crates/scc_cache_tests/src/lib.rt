@@ -5,6 +5,8 @@
 #[cfg(test)]
 mod cache_cases;
 #[cfg(test)]
+mod expect;
+#[cfg(test)]
 mod memo_cases;
 #[cfg(test)]
 mod random_cache_calls;

@@ -3,6 +3,7 @@ ghost use Rattle.std.specs.Prelude.{◌*◌};
 ghost use Rattle.std.proofs.Common.{ap};
 ghost use Rattle.std.proofs.lemmas.Bool.{eqb-true};
 
+use crate::expect::{expect, expect_eq};
 use scc_memo::{Memo, Pure};
 use scc_test_kit::zero::Zero;
 use std::process::Abort;
@@ -31,30 +32,32 @@ impl Pure for Square {
 fn memo_of_squares(rt: HostRuntime) -> Result<(), Fail> {
     let mut memo = Memo::with_capacity_and_hasher(rt.alloc(), Square, 0, 64, Zero)?;
     for key in 0..32u64 {
-        assert_eq!(rt; memo.get(key), u128::from(key) * u128::from(key));
+        expect_eq(&rt, memo.get(key), u128::from(key) * u128::from(key));
     }
-    assert_eq!(rt; memo.get(0), 0);
-    assert_eq!(rt; memo.get(32), 1024);
-    assert_eq!(rt; memo.known(&0), Some(0));
-    assert_eq!(rt; memo.known(&1), None);
-    assert_eq!(rt; memo.get(1), 1);
-    assert_eq!(rt; memo.known(&2), None);
-    assert_eq!(rt; (memo.len(), memo.capacity()), (32, 64));
-    assert!(rt; memo.forget(&1));
-    assert!(rt; !memo.forget(&1));
+    expect_eq(&rt, memo.get(0), 0);
+    expect_eq(&rt, memo.get(32), 1024);
+    expect_eq(&rt, memo.known(&0), Some(0));
+    expect_eq(&rt, memo.known(&1), None);
+    expect_eq(&rt, memo.get(1), 1);
+    expect_eq(&rt, memo.known(&2), None);
+    expect_eq(&rt, (memo.len(), memo.capacity()), (32, 64));
+    expect(&rt, memo.forget(&1));
+    expect(&rt, !memo.forget(&1));
     Ok(())
 }
 
 #[test]
 fn memo_of_the_greatest_square(rt: HostRuntime) -> Result<(), Fail> {
     let mut memo = Memo::with_capacity_and_hasher(rt.alloc(), Square, 0, 64, Zero)?;
-    assert_eq!(rt;
+    expect_eq(
+        &rt,
         memo.get(18446744073709551615),
-        340282366920938463426481119284349108225
+        340282366920938463426481119284349108225,
     );
-    assert_eq!(rt;
+    expect_eq(
+        &rt,
         memo.known(&18446744073709551615),
-        Some(340282366920938463426481119284349108225)
+        Some(340282366920938463426481119284349108225),
     );
     Ok(())
 }

@@ -1,4 +1,5 @@
 // Random calls on a cache, whose answers and whose order have to be those of plain lists.
+use crate::expect::expect;
 use scc::hash_cache::Owned;
 use scc_script::same::Same;
 use scc_test_kit::alike::Alike;
@@ -11,14 +12,20 @@ use std::test::Fail;
 #[test]
 fn cache_random_calls_in_one_bucket(rt: HostRuntime) -> Result<(), Fail> {
     let mut cache = Owned::with_capacity_and_hasher(rt.alloc(), 0, 256, Zero)?;
-    assert!(rt; agrees_with_lists(rt.alloc(), &Zero, &mut cache, 35_000, 63)?);
+    expect(
+        &rt,
+        agrees_with_lists(rt.alloc(), &Zero, &mut cache, 35_000, 63)?,
+    );
     Ok(())
 }
 
 #[test]
 fn cache_random_calls_under_one_tag(rt: HostRuntime) -> Result<(), Fail> {
     let mut cache = Owned::with_capacity_and_hasher(rt.alloc(), 0, 512, Alike)?;
-    assert!(rt; agrees_with_lists(rt.alloc(), &Alike, &mut cache, 35_000, 511)?);
+    expect(
+        &rt,
+        agrees_with_lists(rt.alloc(), &Alike, &mut cache, 35_000, 511)?,
+    );
     Ok(())
 }
 
@@ -31,13 +38,19 @@ fn cache_random_calls_under_a_good_hasher(rt: HostRuntime) -> Result<(), Fail> {
         1024,
         BuildHasherDefault::new(),
     )?;
-    assert!(rt; agrees_with_lists(rt.alloc(), &hasher, &mut cache, 35_000, 1023)?);
+    expect(
+        &rt,
+        agrees_with_lists(rt.alloc(), &hasher, &mut cache, 35_000, 1023)?,
+    );
     Ok(())
 }
 
 #[test]
 fn cache_random_calls_under_their_own_hash(rt: HostRuntime) -> Result<(), Fail> {
     let mut cache = Owned::with_capacity_and_hasher(rt.alloc(), 0, 512, Same)?;
-    assert!(rt; agrees_with_lists(rt.alloc(), &Same, &mut cache, 35_000, 511)?);
+    expect(
+        &rt,
+        agrees_with_lists(rt.alloc(), &Same, &mut cache, 35_000, 511)?,
+    );
     Ok(())
 }

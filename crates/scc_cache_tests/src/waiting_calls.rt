@@ -1,4 +1,5 @@
 // Random calls on a cache most of whose buckets wait for their entries, and worked cases of one.
+use crate::expect::expect_eq;
 use scc::hash_cache::Owned;
 use scc_script::same::Same;
 use scc_test_kit::waiting_calls::{Tally, run_waiting};
@@ -7,8 +8,8 @@ use std::process::Abort;
 use std::test::Fail;
 
 // All answers were right, and most calls were made while buckets waited.
-fn expect<R: Abort>(rt: &R, tally: Tally) {
-    assert_eq!(rt; tally.wrong, 0);
+fn expect_tally<R: Abort>(rt: &R, tally: Tally) {
+    expect_eq(rt, tally.wrong, 0);
     assert!(rt;
         tally.holds(),
         "{} of {} calls waited",
@@ -25,9 +26,9 @@ fn cache_random_calls_while_buckets_wait(rt: HostRuntime) -> Result<(), Fail> {
         4096,
         BuildHasherDefault::<FoldHasher>::new(),
     )?;
-    expect(&rt, run_waiting(rt.alloc(), &mut cache, 12, 1023)?);
+    expect_tally(&rt, run_waiting(rt.alloc(), &mut cache, 12, 1023)?);
     let mut cache = Owned::with_capacity_and_hasher(rt.alloc(), 0, 4096, Same)?;
-    expect(&rt, run_waiting(rt.alloc(), &mut cache, 12, 1023)?);
+    expect_tally(&rt, run_waiting(rt.alloc(), &mut cache, 12, 1023)?);
     Ok(())
 }
 
@@ -39,15 +40,15 @@ fn cache_get_relocates_its_target(rt: HostRuntime) -> Result<(), Fail> {
         cache.put_sync(key, key)?;
     }
     cache.put_sync(half, 7)?;
-    assert_eq!(rt; (cache.capacity(), cache.pending()), (64, 0));
-    assert_eq!(rt; cache.put_sync(32, 32)?, Some((0, 0)));
-    assert_eq!(rt; (cache.capacity(), cache.pending()), (128, 2));
+    expect_eq(&rt, (cache.capacity(), cache.pending()), (64, 0));
+    expect_eq(&rt, cache.put_sync(32, 32)?, Some((0, 0)));
+    expect_eq(&rt, (cache.capacity(), cache.pending()), (128, 2));
     match cache.get_sync(&half) {
-        Some(entry) => assert_eq!(rt; *entry.get(), 7),
+        Some(entry) => expect_eq(&rt, *entry.get(), 7),
         None => assert!(rt; false, "the key is there"),
     }
-    assert_eq!(rt; cache.pending(), 1);
-    assert_eq!(rt; cache.put_sync(33, 33)?, Some((1, 1)));
-    assert_eq!(rt; cache.pending(), 0);
+    expect_eq(&rt, cache.pending(), 1);
+    expect_eq(&rt, cache.put_sync(33, 33)?, Some((1, 1)));
+    expect_eq(&rt, cache.pending(), 0);
     Ok(())
 }

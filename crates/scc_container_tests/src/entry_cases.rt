@@ -1,4 +1,5 @@
 // What entries do beside the worked cases: defaults, steps, removals.
+use crate::expect::expect_eq;
 use scc::hash_map::Owned;
 use scc::hash_map::owned::Entry;
 use scc_test_kit::zero::Zero;
@@ -8,11 +9,12 @@ use std::test::Fail;
 #[test]
 fn map_entries_insert_what_is_asked_for(rt: HostRuntime) -> Result<(), Fail> {
     let mut map: Owned<u64, u64> = Owned::new(rt.alloc());
-    assert_eq!(rt; *map.entry_sync(1).or_default()?.get(), 0);
-    assert_eq!(rt; *map.entry_sync(2).or_insert_with(|| 20)?.get(), 20);
-    assert_eq!(rt;
+    expect_eq(&rt, *map.entry_sync(1).or_default()?.get(), 0);
+    expect_eq(&rt, *map.entry_sync(2).or_insert_with(|| 20)?.get(), 20);
+    expect_eq(
+        &rt,
         *map.entry_sync(3).or_insert_with_key(|key| *key ^ 96)?.get(),
-        99
+        99,
     );
     let mut calls = 0u64;
     let second = *map
@@ -29,10 +31,10 @@ fn map_entries_insert_what_is_asked_for(rt: HostRuntime) -> Result<(), Fail> {
             7
         })?
         .get();
-    assert_eq!(rt; (second, third, calls), (20, 99, 0));
+    expect_eq(&rt, (second, third, calls), (20, 99, 0));
     *map.entry_sync(1).or_default()?.get_mut() = 5;
-    assert_eq!(rt; *map.entry_sync(1).or_default()?.get(), 5);
-    assert_eq!(rt; map.len(), 3);
+    expect_eq(&rt, *map.entry_sync(1).or_default()?.get(), 5);
+    expect_eq(&rt, map.len(), 3);
     Ok(())
 }
 
@@ -55,11 +57,11 @@ fn map_steps_from_entry_to_entry(rt: HostRuntime) -> Result<(), Fail> {
             }
         };
     }
-    assert_eq!(rt; (sum, steps), (10, 5));
+    expect_eq(&rt, (sum, steps), (10, 5));
     let found = map
         .any_sync(|_, value| *value == 3)
         .map(|entry| *entry.key());
-    assert_eq!(rt; found, Some(3));
+    expect_eq(&rt, found, Some(3));
     Ok(())
 }
 
@@ -70,12 +72,12 @@ fn map_removal_through_an_entry_shrinks(rt: HostRuntime) -> Result<(), Fail> {
         map.insert_sync(key, key)?;
     }
     for key in 0..24u64 {
-        assert_eq!(rt; map.capacity(), 128);
+        expect_eq(&rt, map.capacity(), 128);
         match map.entry_sync(key) {
-            Entry::Occupied(entry) => assert_eq!(rt; entry.remove(), key),
+            Entry::Occupied(entry) => expect_eq(&rt, entry.remove(), key),
             Entry::Vacant(_) => assert!(rt; false, "the key is there"),
         }
     }
-    assert_eq!(rt; (map.len(), map.capacity()), (16, 64));
+    expect_eq(&rt, (map.len(), map.capacity()), (16, 64));
     Ok(())
 }

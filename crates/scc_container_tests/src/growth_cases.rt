@@ -1,4 +1,5 @@
 // When an array grows, at the edges of the rules, and that nothing is leaked on the way.
+use crate::expect::{expect, expect_eq};
 use scc::Verdict;
 use scc::hash_map::Owned;
 use scc_script::same::Same;
@@ -26,26 +27,30 @@ fn crowded(rt: &impl AllocGlobal) -> Result<Owned<u64, u64, Same>, Fail> {
 #[test]
 fn map_grows_at_32_pairs_with_a_slot_free(rt: HostRuntime) -> Result<(), Fail> {
     let mut map = crowded(&rt)?;
-    assert_eq!(rt; (map.len(), map.capacity()), (65, 128));
-    assert_eq!(rt; map.remove_sync(&0), Some((0, 0)));
-    assert_eq!(rt; (map.len(), map.capacity()), (64, 128));
+    expect_eq(&rt, (map.len(), map.capacity()), (65, 128));
+    expect_eq(&rt, map.remove_sync(&0), Some((0, 0)));
+    expect_eq(&rt, (map.len(), map.capacity()), (64, 128));
     map.insert_sync(100, 100)?;
-    assert_eq!(rt; (map.len(), map.capacity()), (65, 256));
-    assert!(rt; !map.is_resize_refused());
+    expect_eq(&rt, (map.len(), map.capacity()), (65, 256));
+    expect(&rt, !map.is_resize_refused());
     Ok(())
 }
 
 #[test]
 fn map_past_65536_slots(rt: HostRuntime) -> Result<(), Fail> {
     let mut map: Owned<u64, u64> = Owned::with_capacity(rt.alloc(), 65_537)?;
-    assert_eq!(rt; map.capacity(), 131_072);
+    expect_eq(&rt, map.capacity(), 131_072);
     for key in 0..1000u64 {
         map.insert_sync(key << 40, key)?;
     }
     for key in 0..1000u64 {
-        assert_eq!(rt; map.read_sync(&(key << 40), |_, value| *value), Some(key));
+        expect_eq(
+            &rt,
+            map.read_sync(&(key << 40), |_, value| *value),
+            Some(key),
+        );
     }
-    assert_eq!(rt; (map.len(), map.capacity()), (1000, 131_072));
+    expect_eq(&rt, (map.len(), map.capacity()), (1000, 131_072));
     Ok(())
 }
 
@@ -55,16 +60,16 @@ fn share<R: AllocGlobal + Abort>(rt: &R, shared: &Rc<u64>) -> Result<(), Fail> {
     for key in 0..100u64 {
         map.insert_sync(key, shared.clone()?)?;
     }
-    assert_eq!(rt; Rc::strong_count(shared), 101);
-    assert!(rt; map.insert_sync(1, shared.clone()?).is_err());
+    expect_eq(rt, Rc::strong_count(shared), 101);
+    expect(rt, map.insert_sync(1, shared.clone()?).is_err());
     drop(map.upsert_sync(1, shared.clone()?)?);
-    assert_eq!(rt; Rc::strong_count(shared), 101);
+    expect_eq(rt, Rc::strong_count(shared), 101);
     for key in 0..10u64 {
         drop(map.remove_sync(&key));
     }
-    assert_eq!(rt; Rc::strong_count(shared), 91);
+    expect_eq(rt, Rc::strong_count(shared), 91);
     map.retain_sync(|key, _| *key % 2 == 0);
-    assert_eq!(rt; Rc::strong_count(shared), 46);
+    expect_eq(rt, Rc::strong_count(shared), 46);
     let mut taken = Vec::new(rt.alloc());
     map.iter_mut_sync(
         |key, _| {
@@ -76,11 +81,11 @@ fn share<R: AllocGlobal + Abort>(rt: &R, shared: &Rc<u64>) -> Result<(), Fail> {
         },
         &mut taken,
     )?;
-    assert_eq!(rt; (Rc::strong_count(shared), taken.len()), (46, 22));
+    expect_eq(rt, (Rc::strong_count(shared), taken.len()), (46, 22));
     drop(taken);
-    assert_eq!(rt; (Rc::strong_count(shared), map.len()), (24, 23));
+    expect_eq(rt, (Rc::strong_count(shared), map.len()), (24, 23));
     map.clear_sync();
-    assert_eq!(rt; Rc::strong_count(shared), 1);
+    expect_eq(rt, Rc::strong_count(shared), 1);
     map.insert_sync(1, shared.clone()?)?;
     Ok(())
 }
@@ -89,6 +94,6 @@ fn share<R: AllocGlobal + Abort>(rt: &R, shared: &Rc<u64>) -> Result<(), Fail> {
 fn map_drops_each_value_once(rt: HostRuntime) -> Result<(), Fail> {
     let shared = Rc::new(rt.alloc(), 7u64)?;
     share(&rt, &shared)?;
-    assert_eq!(rt; Rc::strong_count(&shared), 1);
+    expect_eq(&rt, Rc::strong_count(&shared), 1);
     Ok(())
 }

@@ -1,4 +1,5 @@
 // Worked cases of the owned index.
+use crate::expect::{expect, expect_eq};
 use scc::hash_index::Owned;
 use scc::hash_index::owned::{Entry, Iter};
 use scc::recorded::{Calls, IndexCall, Reply, run};
@@ -14,9 +15,9 @@ use std::test::Fail;
 fn index_try_from_iter_first_wins(rt: HostRuntime) -> Result<(), Fail> {
     let items = vec![in rt.alloc(); (1u64, 10u64), (1, 20)]?;
     let index: Owned<u64, u64> = Owned::try_from_iter(rt.alloc(), items)?;
-    assert_eq!(rt; index.peek_with(&1, |_, v| *v), Some(10));
-    assert_eq!(rt; index.len(), 1);
-    assert_eq!(rt; index.capacity(), 64);
+    expect_eq(&rt, index.peek_with(&1, |_, v| *v), Some(10));
+    expect_eq(&rt, index.len(), 1);
+    expect_eq(&rt, index.capacity(), 64);
     Ok(())
 }
 
@@ -32,13 +33,13 @@ fn index_snapshot_keeps_old_version(rt: HostRuntime) -> Result<(), Fail> {
     let _entry = index.entry_sync(37).or_insert(11)?;
     let mut versions = index.iter()?;
     match index.get_sync(&37) {
-        Some(mut entry) => assert_eq!(rt; entry.update(29), Ok(())),
+        Some(mut entry) => expect_eq(&rt, entry.update(29), Ok(())),
         None => assert!(rt; false, "the key is there"),
     }
-    assert_eq!(rt; next_value(&mut versions), Some(11));
-    assert_eq!(rt; next_value(&mut versions), None);
-    assert_eq!(rt; next_value(&mut versions), None);
-    assert_eq!(rt; index.peek_with(&37, |_, v| *v), Some(29));
+    expect_eq(&rt, next_value(&mut versions), Some(11));
+    expect_eq(&rt, next_value(&mut versions), None);
+    expect_eq(&rt, next_value(&mut versions), None);
+    expect_eq(&rt, index.peek_with(&37, |_, v| *v), Some(29));
     Ok(())
 }
 
@@ -56,9 +57,9 @@ fn index_remove_and_next(rt: HostRuntime) -> Result<(), Fail> {
         assert!(rt; false, "there is a second entry");
         return Ok(());
     };
-    assert_eq!(rt; *second.key(), 3u64.wrapping_sub(removed));
-    assert!(rt; second.remove_and_sync().is_none());
-    assert_eq!(rt; index.len(), 0);
+    expect_eq(&rt, *second.key(), 3u64.wrapping_sub(removed));
+    expect(&rt, second.remove_and_sync().is_none());
+    expect_eq(&rt, index.len(), 0);
     Ok(())
 }
 
@@ -85,43 +86,43 @@ fn index_calls_as_values(rt: HostRuntime) -> Result<(), Fail> {
         Reply::Has(true),
         Reply::Has(false),
     ];
-    assert_eq!(rt; replies.as_slice(), wanted.as_slice());
-    assert!(rt; index.is_empty());
-    assert!(rt; index.call(IndexCall::Len)? == Reply::Count(0));
+    expect_eq(&rt, replies.as_slice(), wanted.as_slice());
+    expect(&rt, index.is_empty());
+    expect(&rt, index.call(IndexCall::Len)? == Reply::Count(0));
     Ok(())
 }
 
 #[test]
 fn index_reserve_grows_and_gives_back(rt: HostRuntime) -> Result<(), Fail> {
     let mut index: Owned<u64, u64> = Owned::with_capacity(rt.alloc(), 800)?;
-    assert_eq!(rt; index.capacity(), 1024);
+    expect_eq(&rt, index.capacity(), 1024);
     let Some(token) = index.reserve(10_000) else {
         assert!(rt; false, "so many can be reserved");
         return Ok(());
     };
-    assert_eq!(rt; token.additional_capacity(), 10_000);
-    assert_eq!(rt; index.capacity(), 16_384);
-    assert!(rt; index.reserve(usize::MAX).is_none());
-    assert!(rt; index.reserve(0).is_none());
+    expect_eq(&rt, token.additional_capacity(), 10_000);
+    expect_eq(&rt, index.capacity(), 16_384);
+    expect(&rt, index.reserve(usize::MAX).is_none());
+    expect(&rt, index.reserve(0).is_none());
     for key in 0..16u64 {
         index.insert_sync(key, key)?;
     }
-    assert!(rt; index.release(token).is_ok());
-    assert_eq!(rt; index.capacity(), 1024);
-    assert_eq!(rt; index.pending(), 32);
+    expect(&rt, index.release(token).is_ok());
+    expect_eq(&rt, index.capacity(), 1024);
+    expect_eq(&rt, index.pending(), 32);
     Ok(())
 }
 
 #[test]
 fn index_reserve_without_array(rt: HostRuntime) -> Result<(), Fail> {
     let mut index: Owned<u64, u64> = Owned::new(rt.alloc());
-    assert_eq!(rt; index.capacity(), 0);
-    assert!(rt; index.reserve(1000).is_some());
-    assert_eq!(rt; index.capacity(), 0);
+    expect_eq(&rt, index.capacity(), 0);
+    expect(&rt, index.reserve(1000).is_some());
+    expect_eq(&rt, index.capacity(), 0);
     let range = index.capacity_range();
-    assert_eq!(rt; (*range.start(), *range.end()), (1000, 1 << 63));
+    expect_eq(&rt, (*range.start(), *range.end()), (1000, 1 << 63));
     index.insert_sync(1, 1)?;
-    assert_eq!(rt; index.capacity(), 1024);
+    expect_eq(&rt, index.capacity(), 1024);
     Ok(())
 }
 
@@ -131,7 +132,7 @@ fn index_keeps_the_stored_version(rt: HostRuntime) -> Result<(), Fail> {
     index.insert_sync(MaybeEqual(11, 7), 17u64)?;
     match index.insert_sync(MaybeEqual(11, 11), 18) {
         Err(InsertError::Exists((key, value))) => {
-            assert_eq!(rt; (key.0, key.1, value), (11, 11, 18));
+            expect_eq(&rt, (key.0, key.1, value), (11, 11, 18));
         }
         _ => assert!(rt; false, "the key is there"),
     }
@@ -139,14 +140,14 @@ fn index_keeps_the_stored_version(rt: HostRuntime) -> Result<(), Fail> {
         assert!(rt; false, "the key is there");
         return Ok(());
     };
-    assert_eq!(rt; (version.key().1, *version.value()), (7, 17));
-    assert!(rt; index.peek(&MaybeEqual(12, 0)).is_none());
-    assert!(rt; index.contains(&MaybeEqual(11, 3)));
-    assert!(rt; !index.remove_if_sync(&MaybeEqual(11, 0), |v| *v > 17));
-    assert!(rt; !index.remove_if_sync(&MaybeEqual(12, 0), |_| true));
-    assert!(rt; index.remove_if_sync(&MaybeEqual(11, 0), |v| *v == 17));
-    assert!(rt; !index.remove_sync(&MaybeEqual(11, 0)));
-    assert!(rt; index.is_empty());
+    expect_eq(&rt, (version.key().1, *version.value()), (7, 17));
+    expect(&rt, index.peek(&MaybeEqual(12, 0)).is_none());
+    expect(&rt, index.contains(&MaybeEqual(11, 3)));
+    expect(&rt, !index.remove_if_sync(&MaybeEqual(11, 0), |v| *v > 17));
+    expect(&rt, !index.remove_if_sync(&MaybeEqual(12, 0), |_| true));
+    expect(&rt, index.remove_if_sync(&MaybeEqual(11, 0), |v| *v == 17));
+    expect(&rt, !index.remove_sync(&MaybeEqual(11, 0)));
+    expect(&rt, index.is_empty());
     Ok(())
 }
 
@@ -159,7 +160,7 @@ fn modified<R: Abort, H: BuildHasher>(
     match index.entry_sync(key).and_modify(|v| v.wrapping_add(1)) {
         Ok(Entry::Occupied(entry)) => Some(*entry.get()),
         Ok(Entry::Vacant(entry)) => {
-            assert_eq!(rt; entry.into_key(), key);
+            expect_eq(rt, entry.into_key(), key);
             None
         }
         Err(_) => {
@@ -172,27 +173,27 @@ fn modified<R: Abort, H: BuildHasher>(
 #[test]
 fn index_entries(rt: HostRuntime) -> Result<(), Fail> {
     let mut index = Owned::with_capacity_and_hasher(rt.alloc(), 64, Same)?;
-    assert_eq!(rt; modified(&rt, &mut index, 3), None);
+    expect_eq(&rt, modified(&rt, &mut index, 3), None);
     let entry = index.entry_sync(3).or_insert_with(|| 8)?;
-    assert_eq!(rt; (*entry.key(), *entry.get()), (3, 8));
-    assert_eq!(rt; modified(&rt, &mut index, 3), Some(9));
+    expect_eq(&rt, (*entry.key(), *entry.get()), (3, 8));
+    expect_eq(&rt, modified(&rt, &mut index, 3), Some(9));
     let entry = index.entry_sync(4).or_insert_with_key(|k| *k)?;
-    assert_eq!(rt; *entry.get(), 4);
+    expect_eq(&rt, *entry.get(), 4);
     entry.remove_entry();
     let entry = index.entry_sync(4).or_default()?;
-    assert_eq!(rt; *entry.get(), 0);
+    expect_eq(&rt, *entry.get(), 0);
     let Some(entry) = index.any_sync(|_, v| *v == 9) else {
         assert!(rt; false, "there is one");
         return Ok(());
     };
-    assert_eq!(rt; *entry.key(), 3);
+    expect_eq(&rt, *entry.key(), 3);
     let Some(next) = entry.next_sync() else {
         assert!(rt; false, "there is a next one");
         return Ok(());
     };
-    assert_eq!(rt; *next.key(), 4);
-    assert!(rt; next.next_sync().is_none());
-    assert_eq!(rt; index.bucket_index(&9_223_372_036_854_775_808), 1);
+    expect_eq(&rt, *next.key(), 4);
+    expect(&rt, next.next_sync().is_none());
+    expect_eq(&rt, index.bucket_index(&9_223_372_036_854_775_808), 1);
     Ok(())
 }
 
@@ -202,27 +203,28 @@ fn index_walks_and_clones(rt: HostRuntime) -> Result<(), Fail> {
     for key in 0..40u64 {
         index.insert_sync(key, !key)?;
     }
-    assert_eq!(rt; index.capacity(), 128);
-    assert!(rt; !index.has_room(&40));
-    assert!(rt; index.iter_sync(|k, v| *v == !*k));
-    assert!(rt; !index.iter_sync(|k, _| *k != 20));
+    expect_eq(&rt, index.capacity(), 128);
+    expect(&rt, !index.has_room(&40));
+    expect(&rt, index.iter_sync(|k, v| *v == !*k));
+    expect(&rt, !index.iter_sync(|k, _| *k != 20));
     let mut copy = index.try_clone()?;
-    assert!(rt; copy == index);
+    expect(&rt, copy == index);
     let versions = index.iter()?;
     let again = versions.try_clone()?;
-    assert_eq!(rt; versions.count(), 40);
+    expect_eq(&rt, versions.count(), 40);
     index.retain_sync(|k, _| *k < 3);
-    assert_eq!(rt; (index.len(), index.capacity()), (3, 64));
-    assert!(rt; copy != index);
+    expect_eq(&rt, (index.len(), index.capacity()), (3, 64));
+    expect(&rt, copy != index);
     copy.clear_sync();
-    assert_eq!(rt; (copy.len(), copy.capacity()), (0, 128));
-    assert!(rt;
+    expect_eq(&rt, (copy.len(), copy.capacity()), (0, 128));
+    expect(
+        &rt,
         again
             .into_iter()
-            .all(|version| *version.value() == !*version.key())
+            .all(|version| *version.value() == !*version.key()),
     );
     let refused: Result<Owned<u64, u64>, MakeError> = Owned::with_capacity(rt.alloc(), usize::MAX);
-    assert!(rt; refused.is_err());
+    expect(&rt, refused.is_err());
     Ok(())
 }
 
@@ -232,15 +234,15 @@ fn index_grows_with_all_keys_in_one_bucket(rt: HostRuntime) -> Result<(), Fail> 
     for key in 0..32u64 {
         index.insert_sync(key, key)?;
     }
-    assert_eq!(rt; (index.capacity(), index.pending()), (64, 0));
+    expect_eq(&rt, (index.capacity(), index.pending()), (64, 0));
     index.insert_sync(32, 32)?;
-    assert_eq!(rt; (index.capacity(), index.pending()), (128, 2));
+    expect_eq(&rt, (index.capacity(), index.pending()), (128, 2));
     index.insert_sync(33, 33)?;
-    assert_eq!(rt; (index.capacity(), index.pending()), (128, 0));
+    expect_eq(&rt, (index.capacity(), index.pending()), (128, 0));
     for key in 34..65u64 {
         index.insert_sync(key, key)?;
     }
-    assert_eq!(rt; (index.capacity(), index.pending()), (256, 6));
-    assert!(rt; !index.is_resize_refused());
+    expect_eq(&rt, (index.capacity(), index.pending()), (256, 6));
+    expect(&rt, !index.is_resize_refused());
     Ok(())
 }

@@ -4,6 +4,8 @@
 #[cfg(test)]
 mod entry_cases;
 #[cfg(test)]
+mod expect;
+#[cfg(test)]
 mod growth_cases;
 #[cfg(test)]
 mod index_cases;

@@ -1,4 +1,5 @@
 // Random calls on a map, whose answers have to be those of a plain list.
+use crate::expect::expect;
 use scc::hash_map::Owned;
 use scc_script::same::Same;
 use scc_test_kit::random_calls::{agrees_with, agrees_with_a_list};
@@ -10,21 +11,21 @@ use std::test::Fail;
 #[test]
 fn map_random_calls_under_a_good_hasher(rt: HostRuntime) -> Result<(), Fail> {
     let mut map = Owned::with_hasher(rt.alloc(), BuildHasherDefault::<FoldHasher>::new());
-    assert!(rt; agrees_with_a_list(rt.alloc(), &mut map, 20_000, 2047)?);
+    expect(&rt, agrees_with_a_list(rt.alloc(), &mut map, 20_000, 2047)?);
     Ok(())
 }
 
 #[test]
 fn map_random_calls_under_their_own_hash(rt: HostRuntime) -> Result<(), Fail> {
     let mut map = Owned::with_hasher(rt.alloc(), Same);
-    assert!(rt; agrees_with_a_list(rt.alloc(), &mut map, 20_000, 511)?);
+    expect(&rt, agrees_with_a_list(rt.alloc(), &mut map, 20_000, 511)?);
     Ok(())
 }
 
 #[test]
 fn map_random_calls_in_one_bucket(rt: HostRuntime) -> Result<(), Fail> {
     let mut map = Owned::with_hasher(rt.alloc(), Zero);
-    assert!(rt; agrees_with_a_list(rt.alloc(), &mut map, 10_000, 255)?);
+    expect(&rt, agrees_with_a_list(rt.alloc(), &mut map, 10_000, 255)?);
     Ok(())
 }
 
@@ -33,8 +34,8 @@ fn a_lost_key_is_found_out(rt: HostRuntime) -> Result<(), Fail> {
     let mut map = Owned::with_hasher(rt.alloc(), Same);
     map.insert_sync(1, 10)?;
     let mut whole = vec![in rt.alloc(); (1, 10)]?;
-    assert!(rt; agrees_with(&mut map, &mut whole, 0, 2047)?);
+    expect(&rt, agrees_with(&mut map, &mut whole, 0, 2047)?);
     let mut more = vec![in rt.alloc(); (1, 10), (3, 30)]?;
-    assert!(rt; !agrees_with(&mut map, &mut more, 0, 2047)?);
+    expect(&rt, !agrees_with(&mut map, &mut more, 0, 2047)?);
     Ok(())
 }

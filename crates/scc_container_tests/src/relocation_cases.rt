@@ -1,4 +1,5 @@
 // Worked cases of resizes that are spread over insertions.
+use crate::expect::{expect, expect_eq};
 use scc::hash_map::Owned;
 use scc_script::same::Same;
 use scc_test_kit::zero::Zero;
@@ -20,15 +21,15 @@ fn map_relocates_two_targets_an_insertion(rt: HostRuntime) -> Result<(), Fail> {
         map.insert_sync(key, key)?;
     }
     map.insert_sync(HALF, 7)?;
-    assert_eq!(rt; sizes(&map), (64, 0));
+    expect_eq(&rt, sizes(&map), (64, 0));
     map.insert_sync(32, 32)?;
-    assert_eq!(rt; sizes(&map), (128, 2));
-    assert_eq!(rt; map.read_sync(&HALF, |_, value| *value), Some(7));
-    assert_eq!(rt; sizes(&map), (128, 2));
-    assert_eq!(rt; map.remove_sync(&HALF), Some((HALF, 7)));
-    assert_eq!(rt; sizes(&map), (128, 2));
+    expect_eq(&rt, sizes(&map), (128, 2));
+    expect_eq(&rt, map.read_sync(&HALF, |_, value| *value), Some(7));
+    expect_eq(&rt, sizes(&map), (128, 2));
+    expect_eq(&rt, map.remove_sync(&HALF), Some((HALF, 7)));
+    expect_eq(&rt, sizes(&map), (128, 2));
     map.insert_sync(33, 33)?;
-    assert_eq!(rt; sizes(&map), (128, 0));
+    expect_eq(&rt, sizes(&map), (128, 0));
     Ok(())
 }
 
@@ -39,9 +40,9 @@ fn map_pending_falls_by_two(rt: HostRuntime) -> Result<(), Fail> {
         map.insert_sync(key, key)?;
     }
     for (key, pending) in [(65u64, 4usize), (66, 2), (67, 0)] {
-        assert_eq!(rt; sizes(&map), (256, pending.wrapping_add(2)));
+        expect_eq(&rt, sizes(&map), (256, pending.wrapping_add(2)));
         map.insert_sync(key, key)?;
-        assert_eq!(rt; sizes(&map), (256, pending));
+        expect_eq(&rt, sizes(&map), (256, pending));
     }
     Ok(())
 }
@@ -52,16 +53,16 @@ fn map_reserve_and_release_leave_all_pending(rt: HostRuntime) -> Result<(), Fail
     for key in 0..33u64 {
         map.insert_sync(key, key)?;
     }
-    assert_eq!(rt; sizes(&map), (128, 2));
+    expect_eq(&rt, sizes(&map), (128, 2));
     let Some(token) = map.reserve(1000) else {
         assert!(rt; false, "so many can be reserved");
         return Ok(());
     };
-    assert_eq!(rt; sizes(&map), (1024, 32));
-    assert!(rt; map.release(token).is_ok());
-    assert_eq!(rt; sizes(&map), (128, 4));
+    expect_eq(&rt, sizes(&map), (1024, 32));
+    expect(&rt, map.release(token).is_ok());
+    expect_eq(&rt, sizes(&map), (128, 4));
     for key in 0..33u64 {
-        assert_eq!(rt; map.read_sync(&key, |_, value| *value), Some(key));
+        expect_eq(&rt, map.read_sync(&key, |_, value| *value), Some(key));
     }
     Ok(())
 }
@@ -73,8 +74,8 @@ fn map_clone_has_nothing_pending(rt: HostRuntime) -> Result<(), Fail> {
         map.insert_sync(key, key)?;
     }
     let copy = map.try_clone()?;
-    assert_eq!(rt; sizes(&copy), (128, 0));
-    assert_eq!(rt; sizes(&map), (128, 2));
-    assert!(rt; copy == map);
+    expect_eq(&rt, sizes(&copy), (128, 0));
+    expect_eq(&rt, sizes(&map), (128, 2));
+    expect(&rt, copy == map);
     Ok(())
 }

@@ -1,4 +1,5 @@
 // Worked cases of the owned set.
+use crate::expect::{expect, expect_eq};
 use scc::hash_set::Owned;
 use scc::recorded::{Calls, Reply, SetCall, run};
 use scc::{KeyError, Verdict};
@@ -10,46 +11,58 @@ use std::test::Fail;
 #[test]
 fn set_replace_inserts_then_swaps(rt: HostRuntime) -> Result<(), Fail> {
     let mut set = Owned::new(rt.alloc());
-    assert!(rt; set.replace_sync(MaybeEqual(11, 7))?.is_none());
+    expect(&rt, set.replace_sync(MaybeEqual(11, 7))?.is_none());
     match set.replace_sync(MaybeEqual(11, 11))? {
-        Some(old) => assert_eq!(rt; old.1, 7),
+        Some(old) => expect_eq(&rt, old.1, 7),
         None => assert!(rt; false, "the key is there"),
     }
-    assert_eq!(rt; set.len(), 1);
-    assert_eq!(rt; set.read_sync(&MaybeEqual(11, 0), |key| key.1), Some(11));
+    expect_eq(&rt, set.len(), 1);
+    expect_eq(
+        &rt,
+        set.read_sync(&MaybeEqual(11, 0), |key| key.1),
+        Some(11),
+    );
     match set.insert_sync(MaybeEqual(11, 3)) {
-        Err(KeyError::Exists(key)) => assert_eq!(rt; key.1, 3),
+        Err(KeyError::Exists(key)) => expect_eq(&rt, key.1, 3),
         _ => assert!(rt; false, "the key is there"),
     }
-    assert_eq!(rt; set.read_sync(&MaybeEqual(11, 0), |key| key.1), Some(11));
+    expect_eq(
+        &rt,
+        set.read_sync(&MaybeEqual(11, 0), |key| key.1),
+        Some(11),
+    );
     Ok(())
 }
 
 #[test]
 fn set_try_from_iter_counts_once(rt: HostRuntime) -> Result<(), Fail> {
     let set: Owned<u64> = Owned::try_from_iter(rt.alloc(), [1, 1])?;
-    assert_eq!(rt; set.len(), 1);
+    expect_eq(&rt, set.len(), 1);
     let first: Owned<MaybeEqual> = Owned::try_from_iter(
         rt.alloc(),
         [MaybeEqual(5, 1), MaybeEqual(5, 2)],
     )?;
-    assert_eq!(rt; first.read_sync(&MaybeEqual(5, 9), |key| key.1), Some(1));
+    expect_eq(
+        &rt,
+        first.read_sync(&MaybeEqual(5, 9), |key| key.1),
+        Some(1),
+    );
     Ok(())
 }
 
 #[test]
 fn set_begin_get_remove_entry(rt: HostRuntime) -> Result<(), Fail> {
     let mut set = Owned::with_hasher(rt.alloc(), RandomState::new(&rt)?);
-    assert!(rt; set.begin_sync().is_none());
+    expect(&rt, set.begin_sync().is_none());
     set.insert_sync(42u64)?;
     match set.begin_sync() {
         Some(entry) => {
-            assert_eq!(rt; *entry.get(), 42);
-            assert_eq!(rt; entry.remove_entry(), 42);
+            expect_eq(&rt, *entry.get(), 42);
+            expect_eq(&rt, entry.remove_entry(), 42);
         }
         None => assert!(rt; false, "there is a key"),
     }
-    assert_eq!(rt; set.len(), 0);
+    expect_eq(&rt, set.len(), 0);
     Ok(())
 }
 
@@ -58,18 +71,19 @@ fn set_asks_the_condition_only_for_a_key_that_is_there(rt: HostRuntime) -> Resul
     let mut set = Owned::new(rt.alloc());
     set.insert_sync(1u64)?;
     let mut asked = 0u64;
-    assert_eq!(rt;
+    expect_eq(
+        &rt,
         set.remove_if_sync(&2, || {
             asked = 1;
             true
         }),
-        None
+        None,
     );
-    assert_eq!(rt; asked, 0);
-    assert_eq!(rt; set.remove_if_sync(&1, || false), None);
-    assert!(rt; set.contains_sync(&1));
-    assert_eq!(rt; set.remove_if_sync(&1, || true), Some(1));
-    assert!(rt; set.is_empty());
+    expect_eq(&rt, asked, 0);
+    expect_eq(&rt, set.remove_if_sync(&1, || false), None);
+    expect(&rt, set.contains_sync(&1));
+    expect_eq(&rt, set.remove_if_sync(&1, || true), Some(1));
+    expect(&rt, set.is_empty());
     Ok(())
 }
 
@@ -80,26 +94,27 @@ fn set_walks_take_and_retain(rt: HostRuntime) -> Result<(), Fail> {
         set.insert_sync(key)?;
     }
     let mut taken = Vec::new(rt.alloc());
-    assert!(rt;
+    expect(
+        &rt,
         set.iter_mut_sync(
             |key| if key % 2 == 0 {
                 Verdict::Take
             } else {
                 Verdict::Keep
             },
-            &mut taken
-        )?
+            &mut taken,
+        )?,
     );
     taken.sort()?;
-    assert_eq!(rt; taken.as_slice(), [0u64, 2, 4].as_slice());
-    assert_eq!(rt; set.len(), 3);
-    assert!(rt; !set.iter_sync(|key| *key != 3));
+    expect_eq(&rt, taken.as_slice(), [0u64, 2, 4].as_slice());
+    expect_eq(&rt, set.len(), 3);
+    expect(&rt, !set.iter_sync(|key| *key != 3));
     set.retain_sync(|key| *key > 1);
-    assert_eq!(rt; set.len(), 2);
+    expect_eq(&rt, set.len(), 2);
     let copy = set.try_clone();
     set.clear_sync();
-    assert!(rt; set.is_empty());
-    assert!(rt; copy.is_ok());
+    expect(&rt, set.is_empty());
+    expect(&rt, copy.is_ok());
     Ok(())
 }
 
@@ -107,42 +122,42 @@ fn set_walks_take_and_retain(rt: HostRuntime) -> Result<(), Fail> {
 fn set_equality_looks_at_keys(rt: HostRuntime) -> Result<(), Fail> {
     let mut a: Owned<u64> = Owned::try_from_iter(rt.alloc(), [3, 1, 2])?;
     let b: Owned<u64> = Owned::try_from_iter(rt.alloc(), [1, 2, 3, 3])?;
-    assert!(rt; a == b);
-    assert!(rt; a == a.try_clone()?);
+    expect(&rt, a == b);
+    expect(&rt, a == a.try_clone()?);
     a.insert_sync(4)?;
-    assert!(rt; a != b);
+    expect(&rt, a != b);
     Ok(())
 }
 
 #[test]
 fn set_reserve_grows_and_gives_back(rt: HostRuntime) -> Result<(), Fail> {
     let mut set: Owned<u64> = Owned::with_capacity(rt.alloc(), 800)?;
-    assert_eq!(rt; set.capacity(), 1024);
+    expect_eq(&rt, set.capacity(), 1024);
     let held = set.reserve(10_000);
-    assert_eq!(rt; set.capacity(), 16_384);
-    assert!(rt; set.reserve(usize::MAX).is_none());
-    assert!(rt; set.reserve(0).is_none());
+    expect_eq(&rt, set.capacity(), 16_384);
+    expect(&rt, set.reserve(usize::MAX).is_none());
+    expect(&rt, set.reserve(0).is_none());
     for key in 0..16 {
         set.insert_sync(key)?;
     }
     match held {
-        Some(token) => assert!(rt; set.release(token).is_ok()),
+        Some(token) => expect(&rt, set.release(token).is_ok()),
         None => assert!(rt; false, "a reservation"),
     }
-    assert_eq!(rt; set.capacity(), 1024);
+    expect_eq(&rt, set.capacity(), 1024);
     Ok(())
 }
 
 #[test]
 fn set_reserve_without_array(rt: HostRuntime) -> Result<(), Fail> {
     let mut set: Owned<u64> = Owned::new(rt.alloc());
-    assert_eq!(rt; set.capacity(), 0);
-    assert_eq!(rt; *set.capacity_range().end(), 1 << 63);
+    expect_eq(&rt, set.capacity(), 0);
+    expect_eq(&rt, *set.capacity_range().end(), 1 << 63);
     let _held = set.reserve(1000);
-    assert_eq!(rt; set.capacity(), 0);
-    assert_eq!(rt; *set.capacity_range().start(), 1000);
+    expect_eq(&rt, set.capacity(), 0);
+    expect_eq(&rt, *set.capacity_range().start(), 1000);
     set.insert_sync(1)?;
-    assert_eq!(rt; set.capacity(), 1024);
+    expect_eq(&rt, set.capacity(), 1024);
     Ok(())
 }
 
@@ -175,7 +190,7 @@ fn set_calls_as_values(rt: HostRuntime) -> Result<(), Fail> {
         Reply::Cleared,
         Reply::Count(0),
     ];
-    assert_eq!(rt; replies.as_slice(), wanted.as_slice());
-    assert!(rt; set.call(SetCall::Read(6))? == Reply::Key(None));
+    expect_eq(&rt, replies.as_slice(), wanted.as_slice());
+    expect(&rt, set.call(SetCall::Read(6))? == Reply::Key(None));
     Ok(())
 }

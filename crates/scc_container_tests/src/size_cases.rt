@@ -1,4 +1,5 @@
 // Worked cases of the size of the owned map, and of whole maps.
+use crate::expect::{expect, expect_eq};
 use scc::hash_map::Owned;
 use scc_script::same::Same;
 use scc_test_kit::zero::Zero;
@@ -10,40 +11,40 @@ const GREATEST: usize = 9_223_372_036_854_775_808;
 // The minimum and the greatest capacity.
 fn expect_range<R: AllocGlobal + Abort>(rt: &R, map: &Owned<u64, u64>, minimum: usize) {
     let range = map.capacity_range();
-    assert_eq!(rt; (*range.start(), *range.end()), (minimum, GREATEST));
+    expect_eq(rt, (*range.start(), *range.end()), (minimum, GREATEST));
 }
 
 #[test]
 fn map_reserve_grows_and_gives_back(rt: HostRuntime) -> Result<(), Fail> {
     let mut map: Owned<u64, u64> = Owned::with_capacity(rt.alloc(), 800)?;
-    assert_eq!(rt; map.capacity(), 1024);
+    expect_eq(&rt, map.capacity(), 1024);
     let Some(token) = map.reserve(10_000) else {
         assert!(rt; false, "so many can be reserved");
         return Ok(());
     };
-    assert_eq!(rt; token.additional_capacity(), 10_000);
-    assert_eq!(rt; map.capacity(), 16_384);
-    assert!(rt; map.reserve(usize::MAX).is_none());
-    assert!(rt; map.reserve(0).is_none());
+    expect_eq(&rt, token.additional_capacity(), 10_000);
+    expect_eq(&rt, map.capacity(), 16_384);
+    expect(&rt, map.reserve(usize::MAX).is_none());
+    expect(&rt, map.reserve(0).is_none());
     for key in 0..16u64 {
         map.insert_sync(key, key)?;
     }
-    assert!(rt; map.release(token).is_ok());
-    assert_eq!(rt; map.capacity(), 1024);
-    assert_eq!(rt; map.pending(), 32);
+    expect(&rt, map.release(token).is_ok());
+    expect_eq(&rt, map.capacity(), 1024);
+    expect_eq(&rt, map.pending(), 32);
     Ok(())
 }
 
 #[test]
 fn map_reserve_without_array(rt: HostRuntime) -> Result<(), Fail> {
     let mut map: Owned<u64, u64> = Owned::new(rt.alloc());
-    assert_eq!(rt; map.capacity(), 0);
+    expect_eq(&rt, map.capacity(), 0);
     expect_range(&rt, &map, 0);
-    assert!(rt; map.reserve(1000).is_some());
-    assert_eq!(rt; map.capacity(), 0);
+    expect(&rt, map.reserve(1000).is_some());
+    expect_eq(&rt, map.capacity(), 0);
     expect_range(&rt, &map, 1000);
     map.insert_sync(1, 1)?;
-    assert_eq!(rt; map.capacity(), 1024);
+    expect_eq(&rt, map.capacity(), 1024);
     Ok(())
 }
 
@@ -52,15 +53,15 @@ fn map_grows_in_one_bucket_and_shrinks(rt: HostRuntime) -> Result<(), Fail> {
     let mut map = Owned::with_hasher(rt.alloc(), Zero);
     for key in 0..40u64 {
         map.insert_sync(key, key)?;
-        assert_eq!(rt; map.capacity(), if key < 32 { 64 } else { 128 });
+        expect_eq(&rt, map.capacity(), if key < 32 { 64 } else { 128 });
     }
-    assert_eq!(rt; map.len(), 40);
+    expect_eq(&rt, map.len(), 40);
     for key in 0..24u64 {
-        assert_eq!(rt; map.capacity(), 128);
-        assert_eq!(rt; map.remove_sync(&key), Some((key, key)));
+        expect_eq(&rt, map.capacity(), 128);
+        expect_eq(&rt, map.remove_sync(&key), Some((key, key)));
     }
-    assert_eq!(rt; map.len(), 16);
-    assert_eq!(rt; map.capacity(), 64);
+    expect_eq(&rt, map.len(), 16);
+    expect_eq(&rt, map.capacity(), 64);
     Ok(())
 }
 
@@ -70,13 +71,13 @@ fn map_reserve_to_the_greatest_capacity(rt: HostRuntime) {
     match map.reserve(GREATEST) {
         Some(token) => {
             expect_range(&rt, &map, GREATEST);
-            assert!(rt; map.reserve(1).is_none());
-            assert!(rt; map.release(token).is_ok());
+            expect(&rt, map.reserve(1).is_none());
+            expect(&rt, map.release(token).is_ok());
         }
         None => assert!(rt; false, "so many can be reserved"),
     }
     expect_range(&rt, &map, 0);
-    assert_eq!(rt; map.capacity(), 0);
+    expect_eq(&rt, map.capacity(), 0);
 }
 
 #[test]
@@ -86,10 +87,10 @@ fn map_refuses_a_foreign_token(rt: HostRuntime) {
     match a.reserve(100) {
         Some(token) => match b.release(token) {
             Err(back) => {
-                assert_eq!(rt; back.additional_capacity(), 100);
+                expect_eq(&rt, back.additional_capacity(), 100);
                 expect_range(&rt, &b, 0);
                 expect_range(&rt, &a, 100);
-                assert!(rt; a.release(back).is_ok());
+                expect(&rt, a.release(back).is_ok());
             }
             Ok(()) => assert!(rt; false, "nothing is reserved there"),
         },
@@ -118,11 +119,11 @@ fn map_doubles_at_half_its_capacity(rt: HostRuntime) -> Result<(), Fail> {
 #[test]
 fn map_bucket_index(rt: HostRuntime) -> Result<(), Fail> {
     let map: Owned<u64, u64> = Owned::new(rt.alloc());
-    assert_eq!(rt; map.bucket_index(&0), 0);
+    expect_eq(&rt, map.bucket_index(&0), 0);
     let map: Owned<u64, u64, Same> = Owned::with_capacity_and_hasher(rt.alloc(), 1024, Same)?;
-    assert_eq!(rt; map.bucket_index(&9_223_372_036_854_775_808), 16);
-    assert_eq!(rt; map.bucket_index(&0), 0);
-    assert_eq!(rt; map.capacity(), 1024);
+    expect_eq(&rt, map.bucket_index(&9_223_372_036_854_775_808), 16);
+    expect_eq(&rt, map.bucket_index(&0), 0);
+    expect_eq(&rt, map.capacity(), 1024);
     Ok(())
 }
 
@@ -130,17 +131,17 @@ fn map_bucket_index(rt: HostRuntime) -> Result<(), Fail> {
 fn map_equality_looks_both_ways(rt: HostRuntime) -> Result<(), Fail> {
     let mut a = Owned::with_hasher(rt.alloc(), Zero);
     let mut b = Owned::with_hasher(rt.alloc(), Zero);
-    assert!(rt; a == b);
+    expect(&rt, a == b);
     a.insert_sync(1u64, 10u64)?;
-    assert!(rt; a != b && b != a);
+    expect(&rt, a != b && b != a);
     b.insert_sync(2, 20)?;
-    assert!(rt; a != b);
+    expect(&rt, a != b);
     b.insert_sync(1, 10)?;
-    assert!(rt; a != b && b != a);
+    expect(&rt, a != b && b != a);
     a.insert_sync(2, 21)?;
-    assert!(rt; a != b && b != a);
+    expect(&rt, a != b && b != a);
     a.upsert_sync(2, 20)?;
-    assert!(rt; a == b && b == a);
+    expect(&rt, a == b && b == a);
     Ok(())
 }
 
@@ -151,25 +152,25 @@ fn map_clone_has_its_capacity_as_minimum(rt: HostRuntime) -> Result<(), Fail> {
         map.insert_sync(key, key)?;
     }
     let mut copy = map.try_clone()?;
-    assert!(rt; copy == map);
-    assert_eq!(rt; copy.capacity(), 128);
+    expect(&rt, copy == map);
+    expect_eq(&rt, copy.capacity(), 128);
     let range = copy.capacity_range();
-    assert_eq!(rt; (*range.start(), *range.end()), (128, GREATEST));
+    expect_eq(&rt, (*range.start(), *range.end()), (128, GREATEST));
     for key in 0..24u64 {
-        assert_eq!(rt; copy.remove_sync(&key), Some((key, key)));
+        expect_eq(&rt, copy.remove_sync(&key), Some((key, key)));
     }
-    assert_eq!(rt; copy.len(), 16);
-    assert_eq!(rt; copy.capacity(), 128);
-    assert_eq!(rt; map.len(), 40);
+    expect_eq(&rt, copy.len(), 16);
+    expect_eq(&rt, copy.capacity(), 128);
+    expect_eq(&rt, map.len(), 40);
     Ok(())
 }
 
 #[test]
 fn map_clone_without_array_has_none(rt: HostRuntime) -> Result<(), Fail> {
     let mut map: Owned<u64, u64> = Owned::new(rt.alloc());
-    assert!(rt; map.reserve(100).is_some());
+    expect(&rt, map.reserve(100).is_some());
     let copy = map.try_clone()?;
-    assert_eq!(rt; copy.capacity(), 0);
+    expect_eq(&rt, copy.capacity(), 0);
     expect_range(&rt, &copy, 0);
     Ok(())
 }
@@ -178,8 +179,8 @@ fn map_clone_without_array_has_none(rt: HostRuntime) -> Result<(), Fail> {
 fn map_try_from_iter_last_wins(rt: HostRuntime) -> Result<(), Fail> {
     let items = vec![in rt.alloc(); (1u64, 10u64), (1, 20)]?;
     let map: Owned<u64, u64> = Owned::try_from_iter(rt.alloc(), items)?;
-    assert_eq!(rt; map.read_sync(&1, |_, v| *v), Some(20));
-    assert_eq!(rt; map.len(), 1);
-    assert_eq!(rt; map.capacity(), 64);
+    expect_eq(&rt, map.read_sync(&1, |_, v| *v), Some(20));
+    expect_eq(&rt, map.len(), 1);
+    expect_eq(&rt, map.capacity(), 64);
     Ok(())
 }

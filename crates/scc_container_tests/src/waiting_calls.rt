@@ -1,4 +1,5 @@
 // Random calls on containers most of whose buckets wait for their entries.
+use crate::expect::{expect, expect_eq};
 use scc::recorded::{MapCall, Reply, run};
 use scc::{hash_index, hash_map, hash_set};
 use scc_script::same::Same;
@@ -11,8 +12,8 @@ use std::process::Abort;
 use std::test::Fail;
 
 // All answers were right, and most calls were made while buckets waited.
-fn expect<R: Abort>(rt: &R, tally: Tally) {
-    assert_eq!(rt; tally.wrong, 0);
+fn expect_tally<R: Abort>(rt: &R, tally: Tally) {
+    expect_eq(rt, tally.wrong, 0);
     assert!(rt;
         tally.holds(),
         "{} of {} calls waited",
@@ -24,18 +25,18 @@ fn expect<R: Abort>(rt: &R, tally: Tally) {
 #[test]
 fn map_random_calls_while_buckets_wait(rt: HostRuntime) -> Result<(), Fail> {
     let mut map = hash_map::Owned::with_hasher(rt.alloc(), BuildHasherDefault::<FoldHasher>::new());
-    expect(&rt, run_waiting(rt.alloc(), &mut map, 12, 1023)?);
+    expect_tally(&rt, run_waiting(rt.alloc(), &mut map, 12, 1023)?);
     let mut map = hash_map::Owned::with_hasher(rt.alloc(), Same);
-    expect(&rt, run_waiting(rt.alloc(), &mut map, 12, 1023)?);
+    expect_tally(&rt, run_waiting(rt.alloc(), &mut map, 12, 1023)?);
     Ok(())
 }
 
 #[test]
 fn set_random_calls_while_buckets_wait(rt: HostRuntime) -> Result<(), Fail> {
     let mut set = hash_set::Owned::with_hasher(rt.alloc(), BuildHasherDefault::<FoldHasher>::new());
-    expect(&rt, run_waiting(rt.alloc(), &mut set, 12, 1023)?);
+    expect_tally(&rt, run_waiting(rt.alloc(), &mut set, 12, 1023)?);
     let mut set = hash_set::Owned::with_hasher(rt.alloc(), Same);
-    expect(&rt, run_waiting(rt.alloc(), &mut set, 12, 1023)?);
+    expect_tally(&rt, run_waiting(rt.alloc(), &mut set, 12, 1023)?);
     Ok(())
 }
 
@@ -45,17 +46,17 @@ fn index_random_calls_while_buckets_wait(rt: HostRuntime) -> Result<(), Fail> {
         rt.alloc(),
         BuildHasherDefault::<FoldHasher>::new(),
     );
-    expect(&rt, run_waiting(rt.alloc(), &mut index, 12, 1023)?);
+    expect_tally(&rt, run_waiting(rt.alloc(), &mut index, 12, 1023)?);
     let mut index = hash_index::Owned::with_hasher(rt.alloc(), Same);
-    expect(&rt, run_waiting(rt.alloc(), &mut index, 12, 1023)?);
+    expect_tally(&rt, run_waiting(rt.alloc(), &mut index, 12, 1023)?);
     Ok(())
 }
 
 #[test]
 fn a_lost_key_is_found_out_while_buckets_wait(rt: HostRuntime) -> Result<(), Fail> {
     let tally = run_waiting(rt.alloc(), &mut Forgetful::new(rt.alloc()), 12, 1023)?;
-    assert!(rt; tally.wrong > 0);
-    assert!(rt; !tally.holds());
+    expect(&rt, tally.wrong > 0);
+    expect(&rt, !tally.holds());
     Ok(())
 }
 
@@ -97,6 +98,6 @@ fn map_run_is_the_same_with_capacity_asked_for(rt: HostRuntime) -> Result<(), Fa
     let calls = map_calls(rt.alloc())?;
     let growing = map_replies(rt.alloc(), calls.as_slice(), 0)?;
     let roomy = map_replies(rt.alloc(), calls.as_slice(), 4096)?;
-    assert!(rt; growing.as_slice() == roomy.as_slice());
+    expect(&rt, growing.as_slice() == roomy.as_slice());
     Ok(())
 }

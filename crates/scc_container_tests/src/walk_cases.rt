@@ -1,4 +1,5 @@
 // Worked cases of the walks of the owned map.
+use crate::expect::{expect, expect_eq};
 use scc::Verdict;
 use scc::hash_map::Owned;
 use scc_test_kit::zero::Zero;
@@ -22,10 +23,10 @@ fn map_take_stop_takes_and_stops(rt: HostRuntime) -> Result<(), Fail> {
         },
         &mut taken,
     )?;
-    assert!(rt; !ended);
-    assert_eq!(rt; taken.as_slice(), [(1, 0)].as_slice());
-    assert!(rt; !map.contains_sync(&1));
-    assert_eq!(rt; map.len(), 2);
+    expect(&rt, !ended);
+    expect_eq(&rt, taken.as_slice(), [(1, 0)].as_slice());
+    expect(&rt, !map.contains_sync(&1));
+    expect_eq(&rt, map.len(), 2);
     Ok(())
 }
 
@@ -57,13 +58,13 @@ fn map_remove_and_next_never_resizes(rt: HostRuntime) -> Result<(), Fail> {
     for key in 0..40u64 {
         map.insert_sync(key, key)?;
     }
-    assert_eq!(rt; map.capacity(), 128);
+    expect_eq(&rt, map.capacity(), 128);
     let sum = take_each_and_go_on(&mut map);
-    assert_eq!(rt; sum, 780);
-    assert_eq!(rt; map.len(), 0);
-    assert_eq!(rt; map.capacity(), 128);
+    expect_eq(&rt, sum, 780);
+    expect_eq(&rt, map.len(), 0);
+    expect_eq(&rt, map.capacity(), 128);
     map.clear_sync();
-    assert_eq!(rt; map.capacity(), 64);
+    expect_eq(&rt, map.capacity(), 64);
     Ok(())
 }
 
@@ -76,10 +77,10 @@ fn map_retain_writes_iter_stops(rt: HostRuntime) -> Result<(), Fail> {
         *v = 2;
         true
     });
-    assert_eq!(rt; map.read_sync(&1, |_, v| *v), Some(2));
-    assert_eq!(rt; map.read_sync(&2, |_, v| *v), Some(2));
+    expect_eq(&rt, map.read_sync(&1, |_, v| *v), Some(2));
+    expect_eq(&rt, map.read_sync(&2, |_, v| *v), Some(2));
     map.insert_sync(3, 2)?;
-    assert!(rt; !map.iter_sync(|k, _| *k == 3));
+    expect(&rt, !map.iter_sync(|k, _| *k == 3));
     Ok(())
 }
 
@@ -90,7 +91,7 @@ fn map_retain_removes_what_is_declined(rt: HostRuntime) -> Result<(), Fail> {
         map.insert_sync(key, key)?;
     }
     map.retain_sync(|k, _| *k % 2 == 0);
-    assert_eq!(rt; map.len(), 50);
-    assert!(rt; map.iter_sync(|k, _| *k % 2 == 0));
+    expect_eq(&rt, map.len(), 50);
+    expect(&rt, map.iter_sync(|k, _| *k % 2 == 0));
     Ok(())
 }

@@ -1,4 +1,5 @@
 // How often each walk calls its closure, stopped and not.
+use crate::expect::{expect, expect_eq};
 use scc::Verdict;
 use scc::hash_map::Owned;
 use scc_test_kit::zero::Zero;
@@ -18,21 +19,23 @@ fn map_of(rt: &impl AllocGlobal, keys: u64) -> Result<Owned<u64, u64, Zero>, Fai
 fn map_iter_calls_up_to_its_first_false(rt: HostRuntime) -> Result<(), Fail> {
     let map = map_of(&rt, 40)?;
     let mut calls = 0u64;
-    assert!(rt;
+    expect(
+        &rt,
         map.iter_sync(|_, _| {
             calls = calls.wrapping_add(1);
             true
-        })
+        }),
     );
-    assert_eq!(rt; calls, 40);
+    expect_eq(&rt, calls, 40);
     let mut stopped = 0u64;
-    assert!(rt;
+    expect(
+        &rt,
         !map.iter_sync(|_, _| {
             stopped = stopped.wrapping_add(1);
             stopped < 7
-        })
+        }),
     );
-    assert_eq!(rt; stopped, 7);
+    expect_eq(&rt, stopped, 7);
     Ok(())
 }
 
@@ -46,8 +49,8 @@ fn map_any_calls_up_to_the_pair_that_passes(rt: HostRuntime) -> Result<(), Fail>
             false
         })
         .is_none();
-    assert!(rt; none);
-    assert_eq!(rt; calls, 40);
+    expect(&rt, none);
+    expect_eq(&rt, calls, 40);
     let mut stopped = 0u64;
     let some = map
         .any_sync(|_, _| {
@@ -55,8 +58,8 @@ fn map_any_calls_up_to_the_pair_that_passes(rt: HostRuntime) -> Result<(), Fail>
             stopped == 7
         })
         .is_some();
-    assert!(rt; some);
-    assert_eq!(rt; stopped, 7);
+    expect(&rt, some);
+    expect_eq(&rt, stopped, 7);
     Ok(())
 }
 
@@ -68,8 +71,8 @@ fn map_retain_calls_once_a_pair(rt: HostRuntime) -> Result<(), Fail> {
         calls = calls.wrapping_add(1);
         *key % 2 == 0
     });
-    assert_eq!(rt; calls, 40);
-    assert_eq!(rt; map.len(), 20);
+    expect_eq(&rt, calls, 40);
+    expect_eq(&rt, map.len(), 20);
     Ok(())
 }
 
@@ -89,8 +92,8 @@ fn map_iter_mut_calls_up_to_each_stop(rt: HostRuntime) -> Result<(), Fail> {
         },
         &mut taken,
     )?;
-    assert!(rt; !ended);
-    assert_eq!(rt; (calls, taken.len(), map.len()), (7, 0, 40));
+    expect(&rt, !ended);
+    expect_eq(&rt, (calls, taken.len(), map.len()), (7, 0, 40));
     let mut more = 0u64;
     let ended = map.iter_mut_sync(
         |_, _| {
@@ -103,8 +106,8 @@ fn map_iter_mut_calls_up_to_each_stop(rt: HostRuntime) -> Result<(), Fail> {
         },
         &mut taken,
     )?;
-    assert!(rt; !ended);
-    assert_eq!(rt; (more, taken.len(), map.len()), (7, 7, 33));
+    expect(&rt, !ended);
+    expect_eq(&rt, (more, taken.len(), map.len()), (7, 7, 33));
     let mut all = 0u64;
     let ended = map.iter_mut_sync(
         |_, _| {
@@ -113,23 +116,23 @@ fn map_iter_mut_calls_up_to_each_stop(rt: HostRuntime) -> Result<(), Fail> {
         },
         &mut taken,
     )?;
-    assert!(rt; ended);
-    assert_eq!(rt; (all, taken.len(), map.len()), (33, 7, 33));
+    expect(&rt, ended);
+    expect_eq(&rt, (all, taken.len(), map.len()), (33, 7, 33));
     Ok(())
 }
 
 #[test]
 fn map_stop_in_a_sparse_map_shrinks_it(rt: HostRuntime) -> Result<(), Fail> {
     let mut map = map_of(&rt, 40)?;
-    assert_eq!(rt; map.capacity(), 128);
+    expect_eq(&rt, map.capacity(), 128);
     for key in 17..40u64 {
-        assert_eq!(rt; map.remove_sync(&key), Some((key, key)));
+        expect_eq(&rt, map.remove_sync(&key), Some((key, key)));
     }
-    assert_eq!(rt; (map.len(), map.capacity()), (17, 128));
+    expect_eq(&rt, (map.len(), map.capacity()), (17, 128));
     let mut taken = Vec::new(rt.alloc());
     let ended = map.iter_mut_sync(|_, _| Verdict::TakeStop, &mut taken)?;
-    assert!(rt; !ended);
-    assert_eq!(rt; (taken.len(), map.len(), map.capacity()), (1, 16, 64));
-    assert!(rt; !map.is_resize_refused());
+    expect(&rt, !ended);
+    expect_eq(&rt, (taken.len(), map.len(), map.capacity()), (1, 16, 64));
+    expect(&rt, !map.is_resize_refused());
     Ok(())
 }

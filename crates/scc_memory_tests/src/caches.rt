@@ -1,4 +1,5 @@
 // Calls of a cache that are refused: what they hand back, what they leave, and the next one is right.
+use crate::expect::{expect, expect_eq};
 use crate::fixtures::listed;
 use scc::hash_cache::Owned;
 use scc::{InsertError, MakeError, Verdict, WalkError};
@@ -12,11 +13,11 @@ type Cache = Owned<u64, u64, Zero>;
 
 // The cache has the keys from `first` on, before `end`, each with its complement as value, and no other pair.
 fn expect_keys<R: Abort>(rt: &R, cache: &Cache, first: u64, end: u64) {
-    assert_eq!(rt; cache.len() as u64, end.saturating_sub(first));
+    expect_eq(rt, cache.len() as u64, end.saturating_sub(first));
     for key in first..end {
-        assert_eq!(rt; cache.read_sync(&key, |_, value| *value), Some(!key));
+        expect_eq(rt, cache.read_sync(&key, |_, value| *value), Some(!key));
     }
-    assert!(rt; !cache.contains_sync(&end));
+    expect(rt, !cache.contains_sync(&end));
 }
 
 // Puts `key` after the keys below it. Refused, the pair comes back, which is so in a cache without an array alone, and
@@ -31,8 +32,8 @@ fn expect_put<R: Abort + Print>(
         Ok(evicted) => evicted,
         Err(InsertError::Memory(back)) => {
             refusal.meet(rt, "a put into a cache without an array");
-            assert_eq!(rt; back, (key, !key));
-            assert_eq!(rt; (key, cache.len(), cache.capacity()), (0, 0, 0));
+            expect_eq(rt, back, (key, !key));
+            expect_eq(rt, (key, cache.len(), cache.capacity()), (0, 0, 0));
             match cache.put_sync(key, !key) {
                 Ok(evicted) => evicted,
                 Err(_) => {
@@ -64,10 +65,13 @@ fn cache_put_hands_the_pair_back(rt: HostRuntime) -> Result<(), Fail> {
     let mut refusal = Refusal::new();
     let mut cache = empty(&rt, 64)?;
     for key in 0..32 {
-        assert!(rt; expect_put(&rt, &mut refusal, &mut cache, key).is_none());
+        expect(
+            &rt,
+            expect_put(&rt, &mut refusal, &mut cache, key).is_none(),
+        );
     }
     match cache.put_sync(32, !32) {
-        Ok(evicted) => assert_eq!(rt; evicted, Some((0, !0))),
+        Ok(evicted) => expect_eq(&rt, evicted, Some((0, !0))),
         Err(_) => assert!(rt; false, "a put into an array takes no memory"),
     }
     expect_keys(&rt, &cache, 1, 33);
@@ -79,20 +83,25 @@ fn cache_refused_array_evicts(rt: HostRuntime) -> Result<(), Fail> {
     let mut refusal = Refusal::new();
     let mut cache = empty(&rt, 128)?;
     for key in 0..32 {
-        assert!(rt; expect_put(&rt, &mut refusal, &mut cache, key).is_none());
+        expect(
+            &rt,
+            expect_put(&rt, &mut refusal, &mut cache, key).is_none(),
+        );
     }
-    assert_eq!(rt;
+    expect_eq(
+        &rt,
         expect_put(&rt, &mut refusal, &mut cache, 32),
-        Some((0, !0))
+        Some((0, !0)),
     );
     if cache.capacity() == 64 {
         refusal.meet(&rt, "a growth of a cache");
     }
-    assert_eq!(rt;
+    expect_eq(
+        &rt,
         expect_put(&rt, &mut refusal, &mut cache, 33),
-        Some((1, !1))
+        Some((1, !1)),
     );
-    assert_eq!(rt; cache.capacity(), 128);
+    expect_eq(&rt, cache.capacity(), 128);
     expect_keys(&rt, &cache, 2, 34);
     Ok(())
 }
@@ -108,7 +117,7 @@ fn cache_refused_shrink_keeps_the_array(rt: HostRuntime) -> Result<(), Fail> {
         refusal.meet(&rt, "a growth of a cache");
         let _ = expect_put(&rt, &mut refusal, &mut cache, 33);
     }
-    assert_eq!(rt; cache.capacity(), 128);
+    expect_eq(&rt, cache.capacity(), 128);
     let mut kept = cache.len();
     for key in 0..34u64 {
         if kept > 16 && cache.remove_sync(&key).is_some() {
@@ -117,9 +126,9 @@ fn cache_refused_shrink_keeps_the_array(rt: HostRuntime) -> Result<(), Fail> {
     }
     if cache.capacity() == 128 {
         refusal.meet(&rt, "a shrink of a cache");
-        assert!(rt; cache.remove_sync(&32).is_some());
+        expect(&rt, cache.remove_sync(&32).is_some());
     }
-    assert_eq!(rt; cache.capacity(), 64);
+    expect_eq(&rt, cache.capacity(), 64);
     Ok(())
 }
 
@@ -128,7 +137,7 @@ fn cache_constructor_makes_nothing(rt: HostRuntime) {
     let mut refusal = Refusal::new();
     let made: Result<Cache, MakeError> = Owned::with_capacity_and_hasher(rt.alloc(), 65, 128, Zero);
     match made {
-        Ok(cache) => assert_eq!(rt; (cache.len(), cache.capacity()), (0, 128)),
+        Ok(cache) => expect_eq(&rt, (cache.len(), cache.capacity()), (0, 128)),
         Err(MakeError) => refusal.meet(&rt, "a constructor of a cache"),
     }
 }
@@ -141,7 +150,7 @@ fn cache_of_items_or_none(rt: HostRuntime) {
         [(2u64, 1u64), (1, 1), (2, 3)],
     );
     match made {
-        Ok(cache) => assert_eq!(rt; (cache.len(), cache.capacity()), (2, 64)),
+        Ok(cache) => expect_eq(&rt, (cache.len(), cache.capacity()), (2, 64)),
         Err(MakeError) => refusal.meet(&rt, "a cache of items"),
     }
 }
@@ -151,22 +160,25 @@ fn cache_taking_walk_stops_without_room(rt: HostRuntime) -> Result<(), Fail> {
     let mut refusal = Refusal::new();
     let mut cache = empty(&rt, 64)?;
     for key in 0..12 {
-        assert!(rt; expect_put(&rt, &mut refusal, &mut cache, key).is_none());
+        expect(
+            &rt,
+            expect_put(&rt, &mut refusal, &mut cache, key).is_none(),
+        );
     }
     let mut taken = listed(&rt, &mut refusal, 0)?;
     match cache.iter_mut_sync(|_, _| Verdict::Take, &mut taken) {
-        Ok(went) => assert!(rt; went),
+        Ok(went) => expect(&rt, went),
         Err(WalkError) => {
             refusal.meet(&rt, "a taking walk of a cache");
-            assert_eq!(rt; cache.len().saturating_add(taken.len()), 12);
+            expect_eq(&rt, cache.len().saturating_add(taken.len()), 12);
             for (key, value) in taken.iter() {
-                assert_eq!(rt; *value, !*key);
-                assert!(rt; !cache.contains_sync(key));
+                expect_eq(&rt, *value, !*key);
+                expect(&rt, !cache.contains_sync(key));
             }
-            assert!(rt; cache.iter_mut_sync(|_, _| Verdict::Take, &mut taken)?);
+            expect(&rt, cache.iter_mut_sync(|_, _| Verdict::Take, &mut taken)?);
         }
     }
-    assert_eq!(rt; taken.len(), 12);
-    assert!(rt; cache.is_empty());
+    expect_eq(&rt, taken.len(), 12);
+    expect(&rt, cache.is_empty());
     Ok(())
 }

@@ -1,4 +1,5 @@
 // What every test here stands on: maps in which all keys share a bucket.
+use crate::expect::{expect, expect_eq};
 use scc::MakeError;
 use scc::hash_map::Owned;
 use scc_test_kit::refusals::Refusal;
@@ -19,12 +20,12 @@ pub(crate) fn made<R: AllocGlobal + Abort + Print>(
     let map = match Owned::with_capacity_and_hasher(rt.alloc(), capacity, Zero) {
         Ok(map) => map,
         Err(MakeError) => {
-            assert!(rt; capacity > 0);
+            expect(rt, capacity > 0);
             refusal.meet(rt, "a constructor with a hasher");
             Owned::with_capacity_and_hasher(rt.alloc(), capacity, Zero)?
         }
     };
-    assert!(rt; map.is_empty());
+    expect(rt, map.is_empty());
     Ok(map)
 }
 
@@ -45,9 +46,9 @@ pub(crate) fn listed<R: AllocGlobal + Abort + Print>(
 
 // The map holds the keys below `count`, each with its complement as value, and no other pair.
 pub(crate) fn expect_keys_below<R: Abort>(rt: &R, map: &Map, count: u64) {
-    assert_eq!(rt; map.len() as u64, count);
+    expect_eq(rt, map.len() as u64, count);
     for key in 0..count {
-        assert_eq!(rt; map.read_sync(&key, |_, value| *value), Some(!key));
+        expect_eq(rt, map.read_sync(&key, |_, value| *value), Some(!key));
     }
-    assert!(rt; !map.contains_sync(&count));
+    expect(rt, !map.contains_sync(&count));
 }

@@ -1,4 +1,5 @@
 // Calls of an index that are refused: what they hand back, what they leave, and the next one is right.
+use crate::expect::{expect, expect_eq};
 use scc::hash_index::Owned;
 use scc::hash_index::owned::{Entry, Iter};
 use scc::{InsertError, MakeError};
@@ -38,11 +39,11 @@ fn add(index: &mut Index, way: Way, key: u64, value: u64) -> Result<(), InsertEr
 
 // The index holds the keys below `count`, each with its complement as value, and no other pair.
 fn expect_keys_below<R: Abort>(rt: &R, index: &Index, count: u64) {
-    assert_eq!(rt; index.len() as u64, count);
+    expect_eq(rt, index.len() as u64, count);
     for key in 0..count {
-        assert_eq!(rt; index.peek_with(&key, |_, value| *value), Some(!key));
+        expect_eq(rt, index.peek_with(&key, |_, value| *value), Some(!key));
     }
-    assert!(rt; !index.contains(&count));
+    expect(rt, !index.contains(&count));
 }
 
 // Adds `key` to the keys below it. Refused, the pair comes back, the keys and the array stay, and the next call adds
@@ -85,7 +86,7 @@ fn expect_insertions<R: AllocGlobal + Abort + Print>(rt: &R, way: Way) {
     for key in 0..3u64 {
         expect_added(rt, &mut refusal, &mut index, way, key);
     }
-    assert_eq!(rt; index.capacity(), 64);
+    expect_eq(rt, index.capacity(), 64);
 }
 
 #[test]
@@ -121,12 +122,12 @@ fn expect_updated<R: Abort + Print>(
         Ok(()) => {}
         Err(back) => {
             refusal.meet(rt, "an update");
-            assert_eq!(rt; back, value);
-            assert_eq!(rt; Some(*entry.get()), before);
-            assert_eq!(rt; entry.update(value), Ok(()));
+            expect_eq(rt, back, value);
+            expect_eq(rt, Some(*entry.get()), before);
+            expect_eq(rt, entry.update(value), Ok(()));
         }
     }
-    assert_eq!(rt; (*entry.key(), *entry.get()), (key, value));
+    expect_eq(rt, (*entry.key(), *entry.get()), (key, value));
 }
 
 #[test]
@@ -143,23 +144,23 @@ fn a_refused_update_hands_the_value_back(rt: HostRuntime) {
 fn expect_modified<R: Abort + Print>(rt: &R, refusal: &mut Refusal, index: &mut Index, key: u64) {
     let before = index.peek_with(&key, |_, value| *value);
     match index.entry_sync(key).and_modify(|value| *value ^ 1) {
-        Ok(entry) => assert_eq!(rt; *entry.key(), key),
+        Ok(entry) => expect_eq(rt, *entry.key(), key),
         Err(back) => {
             refusal.meet(rt, "an entry's modification");
             let value = back.1;
-            assert_eq!(rt; before, Some(value ^ 1));
+            expect_eq(rt, before, Some(value ^ 1));
             let back = back.0;
             match back {
                 Entry::Occupied(mut entry) => {
-                    assert_eq!(rt; (*entry.key(), *entry.get()), (key, value ^ 1));
-                    assert_eq!(rt; entry.update(value), Ok(()));
+                    expect_eq(rt, (*entry.key(), *entry.get()), (key, value ^ 1));
+                    expect_eq(rt, entry.update(value), Ok(()));
                 }
                 Entry::Vacant(_) => assert!(rt; false, "the key is there"),
             }
         }
     }
     let after = index.peek_with(&key, |_, value| *value ^ 1);
-    assert_eq!(rt; after, before);
+    expect_eq(rt, after, before);
 }
 
 #[test]
@@ -176,11 +177,11 @@ fn expect_versions<R: Abort>(rt: &R, versions: Iter<u64, u64>, count: usize) {
     let mut left = versions;
     let mut seen = 0usize;
     for version in &mut left {
-        assert_eq!(rt; *version.value(), !*version.key());
+        expect_eq(rt, *version.value(), !*version.key());
         seen = seen.saturating_add(1);
     }
-    assert_eq!(rt; seen, count);
-    assert!(rt; left.next().is_none());
+    expect_eq(rt, seen, count);
+    expect(rt, left.next().is_none());
 }
 
 #[test]
@@ -222,7 +223,7 @@ fn a_refused_clone_of_an_index_leaves_the_original(rt: HostRuntime) -> Result<()
     };
     expect_keys_below(&rt, &index, 2);
     expect_keys_below(&rt, &copy, 2);
-    assert_eq!(rt; copy.capacity(), 64);
+    expect_eq(&rt, copy.capacity(), 64);
     Ok(())
 }
 
@@ -239,6 +240,6 @@ fn refused_items_make_no_index(rt: HostRuntime) -> Result<(), Fail> {
         }
     };
     expect_keys_below(&rt, &index, 3);
-    assert_eq!(rt; index.capacity(), 64);
+    expect_eq(&rt, index.capacity(), 64);
     Ok(())
 }

@@ -1,4 +1,5 @@
 // Insertions that are refused: the pair comes back, the others stay, and the next one is right.
+use crate::expect::expect_eq;
 use crate::fixtures::{Map, expect_keys_below, made};
 use scc::InsertError;
 use scc::hash_map::Owned;
@@ -78,16 +79,16 @@ fn expect_growth<R: AllocGlobal + Abort + Print>(rt: &R, way: Way) {
     let mut map = Owned::with_hasher(rt.alloc(), Zero);
     for key in 0..32u64 {
         expect_added(rt, &mut refusal, &mut map, way, key, 0);
-        assert_eq!(rt; map.capacity(), 64);
+        expect_eq(rt, map.capacity(), 64);
     }
     expect_added(rt, &mut refusal, &mut map, way, 32, 128);
     if map.capacity() == 64 {
         refusal.meet(rt, "a growth at an insertion");
     } else {
-        assert_eq!(rt; map.capacity(), 128);
+        expect_eq(rt, map.capacity(), 128);
     }
     expect_added(rt, &mut refusal, &mut map, way, 33, 128);
-    assert_eq!(rt; map.capacity(), 128);
+    expect_eq(rt, map.capacity(), 128);
 }
 
 #[test]
@@ -117,7 +118,7 @@ fn expect_overflow<R: AllocGlobal + Abort + Print>(rt: &R, way: Way) -> Result<(
     for key in 0..34u64 {
         expect_added(rt, &mut refusal, &mut map, way, key, 128);
     }
-    assert_eq!(rt; map.capacity(), 128);
+    expect_eq(rt, map.capacity(), 128);
     Ok(())
 }
 

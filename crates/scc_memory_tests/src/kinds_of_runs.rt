@@ -1,5 +1,6 @@
 // Runs of calls as values on a set, an index and a cache that are refused: nothing is touched, or the calls before the
 // refused one are made.
+use crate::expect::{expect, expect_eq};
 use scc::recorded::{CacheCall, IndexCall, Reply, SetCall, run};
 use scc::{hash_cache, hash_index, hash_set};
 use scc_test_kit::refusals::Refusal;
@@ -13,14 +14,14 @@ fn a_refused_run_touched_no_set(rt: HostRuntime) {
     let mut replies = Vec::new(rt.alloc());
     if run(&mut set, &calls, &mut replies).is_err() {
         refusal.meet(&rt, "a run on a set");
-        assert!(rt; replies.is_empty());
-        assert_eq!(rt; (set.len(), set.capacity()), (0, 0));
-        assert_eq!(rt; run(&mut set, &calls, &mut replies), Ok(()));
+        expect(&rt, replies.is_empty());
+        expect_eq(&rt, (set.len(), set.capacity()), (0, 0));
+        expect_eq(&rt, run(&mut set, &calls, &mut replies), Ok(()));
     }
     let all = [Reply::Inserted, Reply::Key(None), Reply::Count(2)];
-    assert_eq!(rt; replies.as_slice(), all.as_slice());
-    assert!(rt; set.contains_sync(&1));
-    assert!(rt; set.contains_sync(&2));
+    expect_eq(&rt, replies.as_slice(), all.as_slice());
+    expect(&rt, set.contains_sync(&1));
+    expect(&rt, set.contains_sync(&2));
 }
 
 #[test]
@@ -36,9 +37,9 @@ fn a_refused_run_touched_no_cache(rt: HostRuntime) {
     let mut replies = Vec::new(rt.alloc());
     if run(&mut cache, &calls, &mut replies).is_err() {
         refusal.meet(&rt, "a run on a cache");
-        assert!(rt; replies.is_empty());
-        assert_eq!(rt; (cache.len(), cache.capacity()), (0, 0));
-        assert_eq!(rt; run(&mut cache, &calls, &mut replies), Ok(()));
+        expect(&rt, replies.is_empty());
+        expect_eq(&rt, (cache.len(), cache.capacity()), (0, 0));
+        expect_eq(&rt, run(&mut cache, &calls, &mut replies), Ok(()));
     }
     let all = [
         Reply::Evicted(None),
@@ -46,8 +47,8 @@ fn a_refused_run_touched_no_cache(rt: HostRuntime) {
         Reply::Value(Some(10)),
         Reply::Count(2),
     ];
-    assert_eq!(rt; replies.as_slice(), all.as_slice());
-    assert_eq!(rt; cache.read_sync(&2, |_, value| *value), Some(20));
+    expect_eq(&rt, replies.as_slice(), all.as_slice());
+    expect_eq(&rt, cache.read_sync(&2, |_, value| *value), Some(20));
 }
 
 // What a look-up of 1 finds after so many of the calls.
@@ -79,13 +80,13 @@ fn a_refused_run_on_an_index_made_the_calls_before(rt: HostRuntime) {
     if run(&mut index, &calls, &mut replies).is_err() {
         refusal.meet(&rt, "a run on an index");
         let made = replies.len().min(3);
-        assert_eq!(rt; replies.as_slice(), &all[..made]);
+        expect_eq(&rt, replies.as_slice(), &all[..made]);
         let found = index.peek_with(&1, |_, value| *value);
-        assert_eq!(rt; found, found_after(made));
-        assert!(rt; !index.contains(&2));
-        assert_eq!(rt; run(&mut index, &calls[made..], &mut replies), Ok(()));
+        expect_eq(&rt, found, found_after(made));
+        expect(&rt, !index.contains(&2));
+        expect_eq(&rt, run(&mut index, &calls[made..], &mut replies), Ok(()));
     }
-    assert_eq!(rt; replies.as_slice(), all.as_slice());
-    assert_eq!(rt; index.peek_with(&1, |_, value| *value), Some(11));
-    assert_eq!(rt; index.peek_with(&2, |_, value| *value), Some(20));
+    expect_eq(&rt, replies.as_slice(), all.as_slice());
+    expect_eq(&rt, index.peek_with(&1, |_, value| *value), Some(11));
+    expect_eq(&rt, index.peek_with(&2, |_, value| *value), Some(20));
 }

@@ -5,6 +5,8 @@
 #[cfg(test)]
 mod caches;
 #[cfg(test)]
+mod expect;
+#[cfg(test)]
 mod fixtures;
 #[cfg(test)]
 mod indexes;

@@ -1,4 +1,5 @@
 // Constructors, clones and collections that are refused: nothing is made, and the next one is right.
+use crate::expect::{expect, expect_eq};
 use crate::fixtures::{Map, expect_keys_below, made};
 use crate::insertions::{Way, expect_added};
 use scc::MakeError;
@@ -13,13 +14,13 @@ fn a_refused_constructor_makes_nothing(rt: HostRuntime) -> Result<(), Fail> {
         let map: Owned<u64, u64> = match Owned::with_capacity(rt.alloc(), asked) {
             Ok(map) => map,
             Err(MakeError) => {
-                assert!(rt; asked > 0);
+                expect(&rt, asked > 0);
                 refusal.meet(&rt, "a constructor");
                 Owned::with_capacity(rt.alloc(), asked)?
             }
         };
-        assert!(rt; map.is_empty());
-        assert_eq!(rt; map.capacity(), capacity);
+        expect(&rt, map.is_empty());
+        expect_eq(&rt, map.capacity(), capacity);
     }
     Ok(())
 }
@@ -29,7 +30,7 @@ fn a_refused_constructor_with_a_hasher_makes_nothing(rt: HostRuntime) -> Result<
     let mut refusal = Refusal::new();
     for (asked, capacity) in [(0, 0), (1, 64), (65, 128)] {
         let map = made(&rt, &mut refusal, asked)?;
-        assert_eq!(rt; map.capacity(), capacity);
+        expect_eq(&rt, map.capacity(), capacity);
     }
     Ok(())
 }
@@ -46,13 +47,13 @@ fn a_refused_clone_leaves_the_original(rt: HostRuntime) -> Result<(), Fail> {
         Err(MakeError) => {
             refusal.meet(&rt, "a clone");
             expect_keys_below(&rt, &map, 34);
-            assert_eq!(rt; map.capacity(), 128);
+            expect_eq(&rt, map.capacity(), 128);
             map.try_clone()?
         }
     };
     for each in [&map, &copy] {
         expect_keys_below(&rt, each, 34);
-        assert_eq!(rt; each.capacity(), 128);
+        expect_eq(&rt, each.capacity(), 128);
     }
     Ok(())
 }
@@ -75,6 +76,6 @@ fn refused_items_make_nothing(rt: HostRuntime) -> Result<(), Fail> {
         }
     };
     expect_keys_below(&rt, &map, 34);
-    assert_eq!(rt; map.capacity(), 128);
+    expect_eq(&rt, map.capacity(), 128);
     Ok(())
 }

@@ -1,4 +1,5 @@
 // Shrinks that are refused: the removal is made, the array stays, and the next removal shrinks it.
+use crate::expect::{expect, expect_eq};
 use crate::fixtures::{Map, expect_keys_below, listed};
 use crate::insertions::{Way, expect_added};
 use scc::Verdict;
@@ -28,13 +29,13 @@ fn remove<R: AllocGlobal + Abort + Print>(
     key: u64,
 ) -> Result<(), Fail> {
     match removal {
-        Removal::Key => assert_eq!(rt; map.remove_sync(&key), Some((key, !key))),
+        Removal::Key => expect_eq(rt, map.remove_sync(&key), Some((key, !key))),
         Removal::Condition => {
             let removed = map.remove_if_sync(&key, |value| *value == !key);
-            assert_eq!(rt; removed, Some((key, !key)));
+            expect_eq(rt, removed, Some((key, !key)));
         }
         Removal::Entry => match map.get_sync(&key) {
-            Some(entry) => assert_eq!(rt; entry.remove_entry(), (key, !key)),
+            Some(entry) => expect_eq(rt, entry.remove_entry(), (key, !key)),
             None => assert!(rt; false, "the key is there"),
         },
         Removal::Retain => map.retain_sync(|other, _| *other != key),
@@ -50,8 +51,8 @@ fn remove<R: AllocGlobal + Abort + Print>(
                 },
                 &mut taken,
             )?;
-            assert!(rt; ended);
-            assert_eq!(rt; taken.as_slice(), [(key, !key)].as_slice());
+            expect(rt, ended);
+            expect_eq(rt, taken.as_slice(), [(key, !key)].as_slice());
         }
     }
     Ok(())
@@ -65,10 +66,10 @@ fn sparse<R: AllocGlobal + Abort + Print>(rt: &R, refusal: &mut Refusal) -> Map 
         expect_added(rt, refusal, &mut map, Way::Insert, key, 0);
     }
     match token {
-        Some(token) => assert!(rt; map.release(token).is_ok()),
+        Some(token) => expect(rt, map.release(token).is_ok()),
         None => assert!(rt; false, "so many can be reserved"),
     }
-    assert_eq!(rt; map.capacity(), 128);
+    expect_eq(rt, map.capacity(), 128);
     map
 }
 
@@ -82,11 +83,11 @@ fn expect_shrink<R: AllocGlobal + Abort + Print>(rt: &R, removal: Removal) -> Re
     if map.capacity() == 128 {
         refusal.meet(rt, "a shrink at a removal");
     } else {
-        assert_eq!(rt; map.capacity(), 64);
+        expect_eq(rt, map.capacity(), 64);
     }
     remove(rt, &mut refusal, &mut map, removal, 15)?;
     expect_keys_below(rt, &map, 15);
-    assert_eq!(rt; map.capacity(), 64);
+    expect_eq(rt, map.capacity(), 64);
     Ok(())
 }
 
@@ -125,6 +126,6 @@ fn a_refused_shrink_at_clear_leaves_the_array(rt: HostRuntime) {
         refusal.meet(&rt, "a shrink at clear");
         map.clear_sync();
     }
-    assert_eq!(rt; map.capacity(), 64);
+    expect_eq(&rt, map.capacity(), 64);
     expect_added(&rt, &mut refusal, &mut map, Way::Insert, 0, 64);
 }

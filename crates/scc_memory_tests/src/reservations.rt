@@ -1,5 +1,6 @@
 // Resizes of a reservation and of a release that are refused: the token is given or taken all the same, and a later
 // call resizes.
+use crate::expect::{expect, expect_eq};
 use crate::fixtures::{Map, expect_keys_below};
 use crate::insertions::{WAYS, Way, add, expect_added};
 use scc::InsertError;
@@ -14,8 +15,8 @@ const GREATEST: usize = 9_223_372_036_854_775_808;
 fn expect_reserved<R: Abort>(rt: &R, map: &mut Map, slots: usize, minimum: usize) -> usize {
     match map.reserve(slots) {
         Some(token) => {
-            assert_eq!(rt; token.additional_capacity(), slots);
-            assert_eq!(rt; *map.capacity_range().start(), minimum);
+            expect_eq(rt, token.additional_capacity(), slots);
+            expect_eq(rt, *map.capacity_range().start(), minimum);
         }
         None => assert!(rt; false, "so many can be reserved"),
     }
@@ -29,14 +30,14 @@ fn a_refused_growth_at_reserve_gives_the_token(rt: HostRuntime) {
     for key in 0..3u64 {
         expect_added(&rt, &mut refusal, &mut map, Way::Insert, key, 0);
     }
-    assert_eq!(rt; map.capacity(), 64);
+    expect_eq(&rt, map.capacity(), 64);
     if expect_reserved(&rt, &mut map, 100, 100) == 64 {
         refusal.meet(&rt, "a growth at reserve");
     } else {
-        assert_eq!(rt; map.capacity(), 128);
+        expect_eq(&rt, map.capacity(), 128);
     }
     expect_keys_below(&rt, &map, 3);
-    assert_eq!(rt; expect_reserved(&rt, &mut map, 28, 128), 128);
+    expect_eq(&rt, expect_reserved(&rt, &mut map, 28, 128), 128);
     expect_keys_below(&rt, &map, 3);
 }
 
@@ -48,21 +49,21 @@ fn a_refused_shrink_at_release_takes_the_token(rt: HostRuntime) {
     for key in 0..3u64 {
         expect_added(&rt, &mut refusal, &mut map, Way::Insert, key, 0);
     }
-    assert_eq!(rt; map.capacity(), 128);
+    expect_eq(&rt, map.capacity(), 128);
     match token {
-        Some(token) => assert!(rt; map.release(token).is_ok()),
+        Some(token) => expect(&rt, map.release(token).is_ok()),
         None => assert!(rt; false, "so many can be reserved"),
     }
-    assert_eq!(rt; *map.capacity_range().start(), 0);
+    expect_eq(&rt, *map.capacity_range().start(), 0);
     expect_keys_below(&rt, &map, 3);
     if map.capacity() == 128 {
         refusal.meet(&rt, "a shrink at release");
     } else {
-        assert_eq!(rt; map.capacity(), 64);
+        expect_eq(&rt, map.capacity(), 64);
     }
-    assert_eq!(rt; map.remove_sync(&2), Some((2, !2)));
+    expect_eq(&rt, map.remove_sync(&2), Some((2, !2)));
     expect_keys_below(&rt, &map, 2);
-    assert_eq!(rt; map.capacity(), 64);
+    expect_eq(&rt, map.capacity(), 64);
 }
 
 // An array of the greatest size is refused in every run.
@@ -80,11 +81,11 @@ fn an_array_that_no_memory_has_is_refused(rt: HostRuntime) {
         assert_eq!(rt; map.capacity(), 0, "by {way:?}");
     }
     match token {
-        Some(token) => assert!(rt; map.release(token).is_ok()),
+        Some(token) => expect(&rt, map.release(token).is_ok()),
         None => assert!(rt; false, "so many can be reserved"),
     }
     expect_added(&rt, &mut refusal, &mut map, Way::Insert, 0, 0);
-    assert_eq!(rt; expect_reserved(&rt, &mut map, GREATEST, GREATEST), 64);
+    expect_eq(&rt, expect_reserved(&rt, &mut map, GREATEST, GREATEST), 64);
     expect_keys_below(&rt, &map, 1);
     expect_added(&rt, &mut refusal, &mut map, Way::Insert, 1, 64);
 }

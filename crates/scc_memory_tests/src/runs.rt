@@ -1,4 +1,5 @@
 // Runs of calls as values that are refused: nothing is touched, or the calls before the refused one are made.
+use crate::expect::{expect, expect_eq};
 use crate::fixtures::{expect_keys_below, made};
 use crate::insertions::{Way, expect_added};
 use scc::hash_map::Owned;
@@ -34,12 +35,12 @@ fn a_refused_run_made_the_calls_before(rt: HostRuntime) -> Result<(), Fail> {
             }
             _ => assert!(rt; false, "no other call takes memory"),
         }
-        assert_eq!(rt; replies.as_slice(), &all[..made]);
-        assert_eq!(rt; run(&mut map, &calls[made..], &mut replies), Ok(()));
+        expect_eq(&rt, replies.as_slice(), &all[..made]);
+        expect_eq(&rt, run(&mut map, &calls[made..], &mut replies), Ok(()));
     }
-    assert_eq!(rt; replies.as_slice(), all.as_slice());
+    expect_eq(&rt, replies.as_slice(), all.as_slice());
     expect_keys_below(&rt, &map, 33);
-    assert_eq!(rt; map.capacity(), 128);
+    expect_eq(&rt, map.capacity(), 128);
     Ok(())
 }
 
@@ -53,14 +54,14 @@ fn a_refused_call_leaves_the_pairs(rt: HostRuntime) {
             Err(Refused) => {
                 refusal.meet(&rt, "a call as a value");
                 expect_keys_below(&rt, &map, 0);
-                assert_eq!(rt; map.capacity(), 0);
+                expect_eq(&rt, map.capacity(), 0);
                 match map.call(call) {
                     Ok(reply) => reply,
                     Err(Refused) => Reply::Cleared,
                 }
             }
         };
-        assert!(rt; reply == Reply::Inserted || reply == Reply::Old(None));
+        expect(&rt, reply == Reply::Inserted || reply == Reply::Old(None));
         expect_keys_below(&rt, &map, 1);
     }
 }

@@ -1,4 +1,5 @@
 // Scripts that are refused memory: the one text and the status, and the next run is right.
+use crate::expect::expect_eq;
 use scc_play::play::{BAD_CALL, FINISHED, NO_MEMORY, play};
 use scc_test_kit::refusals::Refusal;
 use std::io::Print;
@@ -22,13 +23,13 @@ fn expect_script<R: AllocGlobal + Abort + Print + Threads + Wait + Sync>(
         let answered = play(rt, rt.alloc(), &mut reader, &mut writer);
         let written = 64usize.saturating_sub(writer.len());
         if answered != NO_MEMORY {
-            assert_eq!(rt; answered, status);
-            assert_eq!(rt; place.get(..written), Some(text));
+            expect_eq(rt, answered, status);
+            expect_eq(rt, place.get(..written), Some(text));
             return;
         }
         refusal.meet(rt, "a script");
         let wanted = b"out of memory\n".as_slice();
-        assert_eq!(rt; place.get(..written), Some(wanted));
+        expect_eq(rt, place.get(..written), Some(wanted));
     }
 }
 

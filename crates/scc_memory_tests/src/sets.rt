@@ -1,4 +1,5 @@
 // Calls of a set that are refused: what they hand back, what they leave, and the next one is right.
+use crate::expect::{expect, expect_eq};
 use scc::hash_set::Owned;
 use scc::{KeyError, MakeError, Verdict, WalkError};
 use scc_test_kit::refusals::Refusal;
@@ -11,11 +12,11 @@ type Set = Owned<u64, Zero>;
 
 // The set has the keys below `count`, and no other key.
 fn expect_keys_below<R: Abort>(rt: &R, set: &Set, count: u64) {
-    assert_eq!(rt; set.len() as u64, count);
+    expect_eq(rt, set.len() as u64, count);
     for key in 0..count {
-        assert!(rt; set.contains_sync(&key));
+        expect(rt, set.contains_sync(&key));
     }
-    assert!(rt; !set.contains_sync(&count));
+    expect(rt, !set.contains_sync(&count));
 }
 
 // Inserts `key` after the keys below it. Refused, it comes back, the keys stay, and the next call inserts it.
@@ -24,9 +25,9 @@ fn expect_inserted<R: Abort + Print>(rt: &R, refusal: &mut Refusal, set: &mut Se
         Ok(()) => {}
         Err(KeyError::Memory(back)) => {
             refusal.meet(rt, "an insertion into a set");
-            assert_eq!(rt; back, key);
+            expect_eq(rt, back, key);
             expect_keys_below(rt, set, key);
-            assert!(rt; set.insert_sync(key).is_ok());
+            expect(rt, set.insert_sync(key).is_ok());
         }
         Err(KeyError::Exists(_)) => assert!(rt; false, "the key is missing"),
     }
@@ -36,12 +37,12 @@ fn expect_inserted<R: Abort + Print>(rt: &R, refusal: &mut Refusal, set: &mut Se
 // The same by a replacement.
 fn expect_replaced<R: Abort + Print>(rt: &R, refusal: &mut Refusal, set: &mut Set, key: u64) {
     match set.replace_sync(key) {
-        Ok(old) => assert!(rt; old.is_none()),
+        Ok(old) => expect(rt, old.is_none()),
         Err(KeyError::Memory(back)) => {
             refusal.meet(rt, "a replacement in a set");
-            assert_eq!(rt; back, key);
+            expect_eq(rt, back, key);
             expect_keys_below(rt, set, key);
-            assert!(rt; set.replace_sync(key).is_ok());
+            expect(rt, set.replace_sync(key).is_ok());
         }
         Err(KeyError::Exists(_)) => assert!(rt; false, "a replacement of a key that is there"),
     }
@@ -66,7 +67,7 @@ fn set_replacements_hand_the_key_back(rt: HostRuntime) {
     }
     for key in 0..40 {
         match set.replace_sync(key) {
-            Ok(old) => assert_eq!(rt; old, Some(key)),
+            Ok(old) => expect_eq(&rt, old, Some(key)),
             Err(_) => assert!(rt;
                 false,
                 "a replacement of a key that is there takes no memory"
@@ -95,7 +96,7 @@ fn set_of_items_or_none(rt: HostRuntime) {
     let mut refusal = Refusal::new();
     let made: Result<Owned<u64>, MakeError> = Owned::try_from_iter(rt.alloc(), [2, 1, 2]);
     match made {
-        Ok(set) => assert_eq!(rt; set.len(), 2),
+        Ok(set) => expect_eq(&rt, set.len(), 2),
         Err(MakeError) => refusal.meet(&rt, "a set of items"),
     }
 }
@@ -109,17 +110,17 @@ fn set_taking_walk_stops_without_room(rt: HostRuntime) -> Result<(), Fail> {
     }
     let mut taken = Vec::new(rt.alloc());
     match set.iter_mut_sync(|_| Verdict::Take, &mut taken) {
-        Ok(went) => assert!(rt; went),
+        Ok(went) => expect(&rt, went),
         Err(WalkError) => {
             refusal.meet(&rt, "a taking walk of a set");
-            assert_eq!(rt; set.len().saturating_add(taken.len()), 12);
+            expect_eq(&rt, set.len().saturating_add(taken.len()), 12);
             for key in taken.as_slice() {
-                assert!(rt; !set.contains_sync(key));
+                expect(&rt, !set.contains_sync(key));
             }
-            assert!(rt; set.iter_mut_sync(|_| Verdict::Take, &mut taken)?);
+            expect(&rt, set.iter_mut_sync(|_| Verdict::Take, &mut taken)?);
         }
     }
-    assert_eq!(rt; taken.len(), 12);
-    assert!(rt; set.is_empty());
+    expect_eq(&rt, taken.len(), 12);
+    expect(&rt, set.is_empty());
     Ok(())
 }

@@ -1,4 +1,5 @@
 // A walk whose list of taken pairs finds no room: it ends before the closure is called on the next pair.
+use crate::expect::{expect, expect_eq};
 use crate::fixtures::{expect_keys_below, listed, made};
 use crate::insertions::{Way, expect_added};
 use scc::{Verdict, WalkError};
@@ -28,18 +29,18 @@ fn expect_taken<R: AllocGlobal + Abort + Print>(
         },
         &mut taken,
     );
-    assert_eq!(rt; taken.len(), calls);
+    expect_eq(rt, taken.len(), calls);
     match walked {
-        Ok(ended) => assert!(rt; ended),
+        Ok(ended) => expect(rt, ended),
         Err(WalkError) => {
             refusal.meet(rt, "a list of taken pairs");
-            assert_eq!(rt; calls, at_refusal);
-            assert_eq!(rt; map.len(), 3usize.saturating_sub(at_refusal));
+            expect_eq(rt, calls, at_refusal);
+            expect_eq(rt, map.len(), 3usize.saturating_sub(at_refusal));
             for (key, value) in taken.iter() {
-                assert_eq!(rt; value, key);
-                assert!(rt; !map.contains_sync(key));
+                expect_eq(rt, value, key);
+                expect(rt, !map.contains_sync(key));
             }
-            assert!(rt; map.iter_sync(|key, value| *value == !*key));
+            expect(rt, map.iter_sync(|key, value| *value == !*key));
             let rest = map.iter_mut_sync(
                 |key, value| {
                     *value = *key;
@@ -47,13 +48,13 @@ fn expect_taken<R: AllocGlobal + Abort + Print>(
                 },
                 &mut taken,
             );
-            assert_eq!(rt; rest, Ok(true));
+            expect_eq(rt, rest, Ok(true));
         }
     }
     taken.sort_unstable();
-    assert_eq!(rt; taken.as_slice(), [(0, 0), (1, 1), (2, 2)].as_slice());
+    expect_eq(rt, taken.as_slice(), [(0, 0), (1, 1), (2, 2)].as_slice());
     expect_keys_below(rt, &map, 0);
-    assert_eq!(rt; map.capacity(), 64);
+    expect_eq(rt, map.capacity(), 64);
     Ok(())
 }
 

@@ -1,5 +1,6 @@
 // Indexes of 33 keys and more in one bucket, whose growth is refused, with more than 32 of them waiting and without:
 // the pair comes back, the others stay, and the next insertion is right.
+use crate::expect::{expect, expect_eq};
 use scc::hash_index::{HashIndex, Owned};
 use scc::{InsertError, MakeError};
 use scc_test_kit::refusals::Refusal;
@@ -15,11 +16,11 @@ type SharedIndex = HashIndex<u64, u64, Zero>;
 
 // The index holds the keys below `count`, each with its complement as value, and no other pair.
 fn expect_keys_below<R: Abort>(rt: &R, index: &Index, count: u64) {
-    assert_eq!(rt; index.len() as u64, count);
+    expect_eq(rt, index.len() as u64, count);
     for key in 0..count {
-        assert_eq!(rt; index.peek_with(&key, |_, value| *value), Some(!key));
+        expect_eq(rt, index.peek_with(&key, |_, value| *value), Some(!key));
     }
-    assert!(rt; !index.contains(&count));
+    expect(rt, !index.contains(&count));
 }
 
 // Inserts `key` after the keys below it. Refused, the pair comes back, the keys and the array stay, no more buckets
@@ -31,11 +32,11 @@ fn expect_inserted<R: Abort + Print>(rt: &R, refusal: &mut Refusal, index: &mut 
         Ok(()) => {}
         Err(InsertError::Memory(pair)) => {
             refusal.meet(rt, "an insertion into an index of many keys");
-            assert_eq!(rt; pair, (key, !key));
-            assert_eq!(rt; index.capacity(), capacity);
-            assert!(rt; index.pending() <= pending);
+            expect_eq(rt, pair, (key, !key));
+            expect_eq(rt, index.capacity(), capacity);
+            expect(rt, index.pending() <= pending);
             expect_keys_below(rt, index, key);
-            assert!(rt; index.insert_sync(key, !key).is_ok());
+            expect(rt, index.insert_sync(key, !key).is_ok());
         }
         Err(InsertError::Exists(_)) => assert!(rt; false, "the key is missing"),
     }
@@ -49,15 +50,15 @@ fn a_refused_growth_of_an_index_falls_back(rt: HostRuntime) {
     for key in 0..32 {
         expect_inserted(&rt, &mut refusal, &mut index, key);
     }
-    assert_eq!(rt; index.capacity(), 64);
+    expect_eq(&rt, index.capacity(), 64);
     expect_inserted(&rt, &mut refusal, &mut index, 32);
-    assert_eq!(rt; index.is_resize_refused(), index.capacity() == 64);
+    expect_eq(&rt, index.is_resize_refused(), index.capacity() == 64);
     if index.capacity() == 64 {
         refusal.meet(&rt, "a growth of an index");
     }
     expect_keys_below(&rt, &index, 33);
     expect_inserted(&rt, &mut refusal, &mut index, 33);
-    assert_eq!(rt; index.capacity(), 128);
+    expect_eq(&rt, index.capacity(), 128);
     expect_keys_below(&rt, &index, 34);
 }
 
@@ -81,29 +82,29 @@ fn a_refused_crowded_bucket_of_an_index_goes_on_waiting(rt: HostRuntime) -> Resu
     for key in 0..33 {
         expect_inserted(&rt, &mut refusal, &mut index, key);
     }
-    assert_eq!(rt; (index.capacity(), index.pending()), (128, 0));
-    assert!(rt; index.reserve(1).is_some());
+    expect_eq(&rt, (index.capacity(), index.pending()), (128, 0));
+    expect(&rt, index.reserve(1).is_some());
     if index.capacity() == 128 {
         refusal.meet(&rt, "a growth of an index with a crowded bucket");
         expect_keys_below(&rt, &index, 33);
-        assert!(rt; index.reserve(1).is_some());
+        expect(&rt, index.reserve(1).is_some());
     }
-    assert_eq!(rt; (index.capacity(), index.pending()), (256, 8));
+    expect_eq(&rt, (index.capacity(), index.pending()), (256, 8));
     expect_inserted(&rt, &mut refusal, &mut index, 33);
-    assert_eq!(rt; index.capacity(), 256);
-    assert!(rt; index.pending() <= 6);
+    expect_eq(&rt, index.capacity(), 256);
+    expect(&rt, index.pending() <= 6);
     expect_keys_below(&rt, &index, 34);
     Ok(())
 }
 
 // The shared index holds the keys below `count`, each with its complement as value, and no other pair.
 fn expect_shared_below<R: Abort + Wait>(rt: &R, index: &SharedIndex, count: u64) {
-    assert_eq!(rt; index.len(rt) as u64, count);
+    expect_eq(rt, index.len(rt) as u64, count);
     for key in 0..count {
         let value = index.peek_with(rt, &key, |_, value| *value);
-        assert_eq!(rt; value, Some(!key));
+        expect_eq(rt, value, Some(!key));
     }
-    assert!(rt; !index.contains(rt, &count));
+    expect(rt, !index.contains(rt, &count));
 }
 
 // Inserts `key` into a shared index after the keys below it, as above.
@@ -118,10 +119,10 @@ fn expect_shared<R: Abort + Print + Wait>(
         Ok(()) => {}
         Err(InsertError::Memory(pair)) => {
             refusal.meet(rt, "an insertion into a shared index of many keys");
-            assert_eq!(rt; pair, (key, !key));
-            assert_eq!(rt; index.capacity(rt), before);
+            expect_eq(rt, pair, (key, !key));
+            expect_eq(rt, index.capacity(rt), before);
             expect_shared_below(rt, index, key);
-            assert!(rt; index.insert_sync(rt, key, !key).is_ok());
+            expect(rt, index.insert_sync(rt, key, !key).is_ok());
         }
         Err(InsertError::Exists(_)) => assert!(rt; false, "the key is missing"),
     }
@@ -153,7 +154,7 @@ fn a_refused_growth_of_a_shared_index_falls_back(rt: HostRuntime) -> Result<(), 
     }
     expect_shared_below(&rt, &index, 33);
     expect_shared(&rt, &mut refusal, &index, 33);
-    assert_eq!(rt; index.capacity(&rt), 128);
+    expect_eq(&rt, index.capacity(&rt), 128);
     expect_shared_below(&rt, &index, 34);
     Ok(())
 }
@@ -175,7 +176,7 @@ fn a_refused_crowded_bucket_of_a_shared_index_goes_on_waiting(rt: HostRuntime) -
     expect_shared_below(&rt, &index, 33);
     expect_shared(&rt, &mut refusal, &index, 33);
     expect_shared_below(&rt, &index, 34);
-    assert!(rt; first.is_some());
-    assert!(rt; second.is_some());
+    expect(&rt, first.is_some());
+    expect(&rt, second.is_some());
     Ok(())
 }

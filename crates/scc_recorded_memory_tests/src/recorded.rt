@@ -3,6 +3,7 @@
 ghost use Rattle.std.specs.Prelude.{◌≡◌, Some};
 ghost use Rattle.scc_recorded.specs.Setups.{IsStripes, request_of};
 
+use crate::expect::{expect, expect_eq};
 use scc::MakeError;
 use scc::hash_map::Owned;
 use scc::recorded::{
@@ -79,7 +80,7 @@ fn expect_inserted<L: Ledger, M: Site<Shared<Zero>>, R: AllocGlobal + Abort + Pr
     let before = pass.receipts().len();
     let stamp = pass.clock().saturating_add(1);
     match recorded.call(rt, pass, call) {
-        Ok(reply) => assert_eq!(rt; reply, Reply::Inserted),
+        Ok(reply) => expect_eq(rt, reply, Reply::Inserted),
         Err(cause) => {
             match cause {
                 CallError::Room => refusal.meet(rt, "room for a recorded call"),
@@ -91,9 +92,9 @@ fn expect_inserted<L: Ledger, M: Site<Shared<Zero>>, R: AllocGlobal + Abort + Pr
                     }
                 }
             }
-            assert_eq!(rt; pass.receipts().len(), before);
-            assert_eq!(rt; pass.clock().saturating_add(1), stamp);
-            assert_eq!(rt; recorded.call(rt, pass, call), Ok(Reply::Inserted));
+            expect_eq(rt, pass.receipts().len(), before);
+            expect_eq(rt, pass.clock().saturating_add(1), stamp);
+            expect_eq(rt, recorded.call(rt, pass, call), Ok(Reply::Inserted));
         }
     }
     let last = Receipt {
@@ -102,9 +103,9 @@ fn expect_inserted<L: Ledger, M: Site<Shared<Zero>>, R: AllocGlobal + Abort + Pr
         call,
         reply: Reply::Inserted,
     };
-    assert_eq!(rt; pass.clock(), stamp);
-    assert_eq!(rt; pass.receipts().len(), before.saturating_add(1));
-    assert_eq!(rt; pass.receipts().get(before), Some(&last));
+    expect_eq(rt, pass.clock(), stamp);
+    expect_eq(rt, pass.receipts().len(), before.saturating_add(1));
+    expect_eq(rt, pass.receipts().get(before), Some(&last));
 }
 
 // Clears both stripes. Refused, the stripes before are cleared and recorded, and the next call clears both.
@@ -117,10 +118,10 @@ fn expect_cleared<L: Ledger, M: Site<Shared<Zero>>, R: AllocGlobal + Abort + Pri
     let mut before = pass.receipts().len();
     if let Err(cause) = recorded.clear(rt, pass) {
         refusal.meet(rt, "room for a recorded clear");
-        assert_eq!(rt; cause, CallError::Room);
-        assert!(rt; pass.receipts().len() < before.saturating_add(2));
+        expect_eq(rt, cause, CallError::Room);
+        expect(rt, pass.receipts().len() < before.saturating_add(2));
         before = pass.receipts().len();
-        assert_eq!(rt; recorded.clear(rt, pass), Ok(()));
+        expect_eq(rt, recorded.clear(rt, pass), Ok(()));
     }
     expect_both(rt, pass, before, MapCall::Clear);
 }
@@ -135,13 +136,13 @@ fn expect_counted<L: Ledger, M: Site<Shared<Zero>>, R: AllocGlobal + Abort + Pri
 ) {
     let mut before = pass.receipts().len();
     match recorded.len(rt, pass) {
-        Ok(counted) => assert_eq!(rt; counted, count),
+        Ok(counted) => expect_eq(rt, counted, count),
         Err(cause) => {
             refusal.meet(rt, "room for a recorded length");
-            assert_eq!(rt; cause, CallError::Room);
-            assert!(rt; pass.receipts().len() < before.saturating_add(2));
+            expect_eq(rt, cause, CallError::Room);
+            expect(rt, pass.receipts().len() < before.saturating_add(2));
             before = pass.receipts().len();
-            assert_eq!(rt; recorded.len(rt, pass), Ok(count));
+            expect_eq(rt, recorded.len(rt, pass), Ok(count));
         }
     }
     expect_both(rt, pass, before, MapCall::Len);
@@ -154,10 +155,10 @@ fn expect_both<L: Ledger, R: Abort>(
     before: usize,
     call: MapCall<u64, u64>,
 ) {
-    assert_eq!(rt; pass.receipts().len(), before.saturating_add(2));
-    assert_eq!(rt; pass.clock(), pass.receipts().len() as u64);
+    expect_eq(rt, pass.receipts().len(), before.saturating_add(2));
+    expect_eq(rt, pass.clock(), pass.receipts().len() as u64);
     for receipt in pass.receipts().iter().skip(before) {
-        assert_eq!(rt; receipt.call, call);
+        expect_eq(rt, receipt.call, call);
     }
 }
 
@@ -169,14 +170,15 @@ fn expect_back<L: Ledger, M: Site<Shared<Zero>>, R: Abort>(
     steps: usize,
     clock: u64,
 ) {
-    assert_eq!(rt; back.cause, FinishError::Memory);
-    assert_eq!(rt; back.recorded.stripes.len(), stripes);
-    assert_eq!(rt; steps_of(&back.recorded), steps);
-    assert_eq!(rt; back.passes.len(), 1);
+    expect_eq(rt, back.cause, FinishError::Memory);
+    expect_eq(rt, back.recorded.stripes.len(), stripes);
+    expect_eq(rt, steps_of(&back.recorded), steps);
+    expect_eq(rt, back.passes.len(), 1);
     for pass in back.passes.as_slice() {
-        assert_eq!(rt;
+        expect_eq(
+            rt,
             (pass.clock(), pass.receipts().len() as u64),
-            (clock, clock)
+            (clock, clock),
         );
     }
 }
@@ -211,18 +213,18 @@ fn expect_finished<L: Ledger, M: Site<Shared<Zero>>, R: AllocGlobal + Abort + Pr
     };
     match &finished {
         Some(finished) => {
-            assert_eq!(rt; finished.order.len(), steps);
-            assert_eq!(rt; finished.parts.len(), stripes);
+            expect_eq(rt, finished.order.len(), steps);
+            expect_eq(rt, finished.parts.len(), stripes);
             let mut stamps = 0u64;
             for place in finished.order.as_slice() {
                 let history = finished.histories.get(place.0);
                 let step = history.and_then(|history| history.get(place.1));
                 if let Some(Step::Call { stamp, .. }) = step {
                     stamps = stamps.saturating_add(1);
-                    assert_eq!(rt; *stamp, stamps);
+                    expect_eq(rt, *stamp, stamps);
                 }
             }
-            assert_eq!(rt; stamps, clock);
+            expect_eq(rt, stamps, clock);
         }
         None => assert!(rt; false, "a finish is refused again"),
     }
@@ -236,9 +238,9 @@ fn expect_keys_below<R: Abort>(rt: &R, finished: &Option<Finished<Map>>, count: 
         .and_then(|finished| finished.parts.first());
     match part {
         Some(map) => {
-            assert_eq!(rt; map.len() as u64, count);
+            expect_eq(rt, map.len() as u64, count);
             for key in 0..count {
-                assert_eq!(rt; map.read_sync(&key, |_, value| *value), Some(!key));
+                expect_eq(rt, map.read_sync(&key, |_, value| *value), Some(!key));
             }
         }
         None => assert!(rt; false, "the stripe is there"),
@@ -282,7 +284,7 @@ fn try_insertion<R: AllocGlobal + Abort + Print + Wait>(
 fn recorded_refused_room_and_finish(rt: HostRuntime) -> Result<(), Fail> {
     let mut refusal = Refusal::new();
     if !try_insertion(&rt, &mut refusal)? {
-        assert!(rt; try_insertion(&rt, &mut refusal)?);
+        expect(&rt, try_insertion(&rt, &mut refusal)?);
     }
     Ok(())
 }
@@ -329,7 +331,7 @@ fn try_counting<R: AllocGlobal + Abort + Print + Wait>(
 fn recorded_refused_clear_and_len(rt: HostRuntime) -> Result<(), Fail> {
     let mut refusal = Refusal::new();
     if !try_counting(&rt, &mut refusal)? {
-        assert!(rt; try_counting(&rt, &mut refusal)?);
+        expect(&rt, try_counting(&rt, &mut refusal)?);
     }
     Ok(())
 }
@@ -382,10 +384,10 @@ fn expect_growth<L: Ledger, M: Site<Shared<Zero>>, R: Abort + Print>(
     };
     if stripe.container.capacity() == 64 {
         refusal.meet(rt, "a growth of a recorded map");
-        assert_eq!(rt; stripe.history.len(), 33);
+        expect_eq(rt, stripe.history.len(), 33);
     } else {
-        assert_eq!(rt; stripe.history.len(), 34);
-        assert_eq!(rt; stripe.history.get(32), Some(&growth));
+        expect_eq(rt, stripe.history.len(), 34);
+        expect_eq(rt, stripe.history.get(32), Some(&growth));
     }
 }
 
@@ -401,7 +403,7 @@ fn try_growth<R: AllocGlobal + Abort + Print + Wait>(
 fn recorded_refused_call_keeps_its_growth(rt: HostRuntime) -> Result<(), Fail> {
     let mut refusal = Refusal::new();
     if !try_growth(&rt, &mut refusal)? {
-        assert!(rt; try_growth(&rt, &mut refusal)?);
+        expect(&rt, try_growth(&rt, &mut refusal)?);
     }
     Ok(())
 }

@@ -4,6 +4,7 @@ ghost use Rattle.std.specs.Prelude.{◌≡◌, IfOk, IsSome, Some};
 ghost use Rattle.scc_calls.specs.CacheCalls.{cache_key};
 ghost use Rattle.scc_recorded.specs.Setups.{request_of};
 
+use crate::expect::{expect, expect_eq};
 use crate::recorded::shared;
 use crate::recorded_texts::text;
 use scc::MakeError;
@@ -80,20 +81,20 @@ fn expect_put<L: Ledger, M: Site<Shared<Zero>>, R: AllocGlobal + Abort + Print +
     let clock = pass.clock();
     let call = put_of(rt, refusal, key)?;
     match recorded.call(rt, pass, call) {
-        Ok(reply) => assert!(rt; is_answer(key, &reply)),
+        Ok(reply) => expect(rt, is_answer(key, &reply)),
         Err(cause) => {
             match cause {
                 CallError::Room => refusal.meet(rt, "room for a recorded put of a text"),
                 CallError::Container => {
-                    assert_eq!(rt; key, 32);
+                    expect_eq(rt, key, 32);
                     refusal.meet(rt, "a copy of an evicted pair");
                 }
             }
-            assert_eq!(rt; (pass.clock(), pass.receipts().len()), (clock, before));
+            expect_eq(rt, (pass.clock(), pass.receipts().len()), (clock, before));
             expect_kept(rt, recorded, pass, key);
             let again = put_of(rt, refusal, key)?;
             match recorded.call(rt, pass, again) {
-                Ok(reply) => assert!(rt; is_answer(key, &reply)),
+                Ok(reply) => expect(rt, is_answer(key, &reply)),
                 Err(_cause) => assert!(rt; false, "a recorded put is refused again"),
             }
         }
@@ -108,10 +109,10 @@ fn expect_kept<L: Ledger, M: Site<Shared<Zero>>, R: AllocGlobal + Abort + Print 
     pass: &mut Pass<Names, L>,
     key: u64,
 ) {
-    assert_eq!(rt; recorded.len(rt, pass), Ok(key as usize));
+    expect_eq(rt, recorded.len(rt, pass), Ok(key as usize));
     if key > 0 {
         match recorded.call(rt, pass, CacheCall::Read(Word::Number(0))) {
-            Ok(Reply::Value(Some(value))) => assert!(rt; is_x(&value)),
+            Ok(Reply::Value(Some(value))) => expect(rt, is_x(&value)),
             _ => assert!(rt; false, "the pair of key 0 is there"),
         }
     }
@@ -127,7 +128,7 @@ fn put_all<L: Ledger, M: Site<Shared<Zero>>, R: AllocGlobal + Abort + Print + Wa
     for key in 0..33 {
         expect_put(rt, refusal, recorded, pass, key)?;
     }
-    assert_eq!(rt; recorded.len(rt, pass), Ok(32));
+    expect_eq(rt, recorded.len(rt, pass), Ok(32));
     Ok(())
 }
 
@@ -187,7 +188,7 @@ fn try_puts<R: AllocGlobal + Abort + Print + Wait>(
 fn recorded_strings_on_a_cache_refused_copy(rt: HostRuntime) -> Result<(), Fail> {
     let mut refusal = Refusal::new();
     if !try_puts(&rt, &mut refusal)? {
-        assert!(rt; try_puts(&rt, &mut refusal)?);
+        expect(&rt, try_puts(&rt, &mut refusal)?);
     }
     Ok(())
 }

@@ -4,6 +4,7 @@ ghost use Rattle.std.specs.Prelude.{◌≡◌, Some};
 ghost use Rattle.scc_calls.specs.Copies.{ClonesEqual};
 ghost use Rattle.scc_recorded.specs.Setups.{request_of};
 
+use crate::expect::{expect, expect_eq};
 use crate::recorded::shared;
 use scc::recorded::{
     CacheCall, CallError, Closed, IndexCall, Pass, Recorded, Reply, SetCall, Setup, Site,
@@ -140,12 +141,12 @@ fn expect_call<C: Tried, L: Ledger, M: Site<C::Hasher>, R: Abort + Print + Wait>
     let mut answer = make_call(rt, recorded, pass, number);
     if let Some(Err(_cause)) = answer {
         C::meet(rt, refusal);
-        assert_eq!(rt; (pass.clock(), pass.receipts().len()), (clock, receipts));
+        expect_eq(rt, (pass.clock(), pass.receipts().len()), (clock, receipts));
         answer = make_call(rt, recorded, pass, number);
     }
-    assert!(rt; matches!(answer, Some(Ok(true))));
-    assert_eq!(rt; pass.clock(), clock.saturating_add(1));
-    assert_eq!(rt; pass.receipts().len(), receipts.saturating_add(1));
+    expect(rt, matches!(answer, Some(Ok(true))));
+    expect_eq(rt, pass.clock(), clock.saturating_add(1));
+    expect_eq(rt, pass.receipts().len(), receipts.saturating_add(1));
 }
 
 // Counts the keys, and clears. Refused, the pass stays as it was, and the next call is right.
@@ -159,15 +160,15 @@ fn expect_whole<C: Tried, L: Ledger, M: Site<C::Hasher>, R: Abort + Print + Wait
     C::equal_replies();
     if recorded.len(rt, pass) != Ok(C::count()) {
         C::meet(rt, refusal);
-        assert_eq!(rt; pass.clock(), 2);
-        assert_eq!(rt; recorded.len(rt, pass), Ok(C::count()));
+        expect_eq(rt, pass.clock(), 2);
+        expect_eq(rt, recorded.len(rt, pass), Ok(C::count()));
     }
     if recorded.clear(rt, pass).is_err() {
         C::meet(rt, refusal);
-        assert_eq!(rt; pass.clock(), 3);
-        assert_eq!(rt; recorded.clear(rt, pass), Ok(()));
+        expect_eq(rt, pass.clock(), 3);
+        expect_eq(rt, recorded.clear(rt, pass), Ok(()));
     }
-    assert_eq!(rt; (pass.clock(), pass.receipts().len()), (4, 4));
+    expect_eq(rt, (pass.clock(), pass.receipts().len()), (4, 4));
 }
 
 // Finishes a run of four calls of one pass. Refused, everything comes back, and the next finish is right.
@@ -188,7 +189,7 @@ where
         }
     };
     match &finished {
-        Some(finished) => assert!(rt; finished.order.len() >= 4),
+        Some(finished) => expect(rt, finished.order.len() >= 4),
         None => assert!(rt; false, "a finish is refused again"),
     }
 }
@@ -242,7 +243,7 @@ fn try_set<R: AllocGlobal + Abort + Print + Wait>(
 fn recorded_set_is_refused_in_turn(rt: HostRuntime) -> Result<(), Fail> {
     let mut refusal = Refusal::new();
     if !try_set(&rt, &mut refusal)? {
-        assert!(rt; try_set(&rt, &mut refusal)?);
+        expect(&rt, try_set(&rt, &mut refusal)?);
     }
     Ok(())
 }
@@ -259,7 +260,7 @@ fn try_index<R: AllocGlobal + Abort + Print + Wait>(
 fn recorded_index_is_refused_in_turn(rt: HostRuntime) -> Result<(), Fail> {
     let mut refusal = Refusal::new();
     if !try_index(&rt, &mut refusal)? {
-        assert!(rt; try_index(&rt, &mut refusal)?);
+        expect(&rt, try_index(&rt, &mut refusal)?);
     }
     Ok(())
 }
@@ -276,7 +277,7 @@ fn try_cache<R: AllocGlobal + Abort + Print + Wait>(
 fn recorded_cache_is_refused_in_turn(rt: HostRuntime) -> Result<(), Fail> {
     let mut refusal = Refusal::new();
     if !try_cache(&rt, &mut refusal)? {
-        assert!(rt; try_cache(&rt, &mut refusal)?);
+        expect(&rt, try_cache(&rt, &mut refusal)?);
     }
     Ok(())
 }

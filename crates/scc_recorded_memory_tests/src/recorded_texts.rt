@@ -4,6 +4,7 @@ ghost use Rattle.std.specs.Prelude.{◌≡◌, IfOk, IsSome, Some};
 ghost use Rattle.scc_calls.specs.MapCalls.{map_key};
 ghost use Rattle.scc_recorded.specs.Setups.{request_of};
 
+use crate::expect::{expect, expect_eq};
 use crate::recorded::shared;
 use scc::MakeError;
 use scc::hash_map::Owned;
@@ -73,21 +74,21 @@ fn expect_answer<L: Ledger, M: Site<Shared<Zero>>, R: AllocGlobal + Abort + Prin
     let clock = pass.clock();
     let call = call_of(rt, refusal, number)?;
     match recorded.call(rt, pass, call) {
-        Ok(reply) => assert!(rt; is_answer(number, &reply)),
+        Ok(reply) => expect(rt, is_answer(number, &reply)),
         Err(_cause) => {
             refusal.meet(rt, "a recorded call of texts");
-            assert_eq!(rt; (pass.clock(), pass.receipts().len()), (clock, before));
+            expect_eq(rt, (pass.clock(), pass.receipts().len()), (clock, before));
             let again = call_of(rt, refusal, number)?;
             match recorded.call(rt, pass, again) {
-                Ok(reply) => assert!(rt; is_answer(number, &reply)),
+                Ok(reply) => expect(rt, is_answer(number, &reply)),
                 Err(_cause) => assert!(rt; false, "a recorded call is refused again"),
             }
         }
     }
-    assert_eq!(rt; pass.receipts().len(), before.saturating_add(1));
+    expect_eq(rt, pass.receipts().len(), before.saturating_add(1));
     for receipt in pass.receipts().iter().skip(before) {
-        assert_eq!(rt; receipt.stamp, pass.clock());
-        assert!(rt; is_answer(number, &receipt.reply));
+        expect_eq(rt, receipt.stamp, pass.clock());
+        expect(rt, is_answer(number, &receipt.reply));
     }
     Ok(())
 }
@@ -118,15 +119,15 @@ fn expect_told<R: Abort>(rt: &R, finished: &Finished<Names>) {
     for history in finished.histories.as_slice() {
         for step in history.as_slice() {
             if let Step::Call { stamp, reply, .. } = step {
-                assert!(rt; is_answer(told, reply));
+                expect(rt, is_answer(told, reply));
                 told = told.saturating_add(1);
-                assert_eq!(rt; *stamp, told);
+                expect_eq(rt, *stamp, told);
             }
         }
     }
-    assert_eq!(rt; told, 3);
+    expect_eq(rt, told, 3);
     for part in finished.parts.as_slice() {
-        assert!(rt; part.is_empty());
+        expect(rt, part.is_empty());
     }
 }
 
@@ -176,7 +177,7 @@ fn try_three<R: AllocGlobal + Abort + Print + Wait>(
 fn recorded_strings_on_a_map(rt: HostRuntime) -> Result<(), Fail> {
     let mut refusal = Refusal::new();
     if !try_three(&rt, &mut refusal)? {
-        assert!(rt; try_three(&rt, &mut refusal)?);
+        expect(&rt, try_three(&rt, &mut refusal)?);
     }
     Ok(())
 }

@@ -1,5 +1,6 @@
 // Scripts of two workers on two stripes that are refused memory: the one text and the status, never that of a run that
 // isn't finished, and the next run is right.
+use crate::expect::expect_eq;
 use scc_play::play::{FINISHED, NO_MEMORY, play};
 use scc_test_kit::refusals::Refusal;
 use std::io::Print;
@@ -22,13 +23,13 @@ fn expect_script<R: AllocGlobal + Abort + Print + Threads + Wait + Sync>(
         let answered = play(rt, rt.alloc(), &mut reader, &mut writer);
         let written = 128usize.saturating_sub(writer.len());
         if answered != NO_MEMORY {
-            assert_eq!(rt; answered, FINISHED);
-            assert_eq!(rt; place.get(..written), Some(text));
+            expect_eq(rt, answered, FINISHED);
+            expect_eq(rt, place.get(..written), Some(text));
             return;
         }
         refusal.meet(rt, "a script of two workers");
         let wanted = b"out of memory\n".as_slice();
-        assert_eq!(rt; place.get(..written), Some(wanted));
+        expect_eq(rt, place.get(..written), Some(wanted));
     }
 }
 

@@ -3,6 +3,7 @@ ghost use Rattle.std.specs.Prelude.{◌≡◌, ℕ, [], ◌∷◌, length, OnOk}
 ghost use Rattle.scc_calls.specs.Copies.{AreSame, ClonesEqual};
 ghost use Rattle.scc_contents.specs.Contents.{entries};
 
+use crate::expect::{expect, expect_eq};
 use scc::MakeError;
 use scc::hash_map::Owned;
 use scc::recorded::{Calls, MapCall, Refused, Reply, run};
@@ -35,7 +36,7 @@ fn counts_by_a_run(rt: HostRuntime) -> Result<(), Fail> {
     map.insert_sync(7, 5)?;
     let mut replies = Vec::new(rt.alloc());
     count(&mut map, &mut replies)?;
-    assert_eq!(rt; replies.as_slice(), [Reply::Count(1)].as_slice());
+    expect_eq(&rt, replies.as_slice(), [Reply::Count(1)].as_slice());
     Ok(())
 }
 
@@ -48,18 +49,27 @@ fn replies_are_equal()
 fn calls_keep_and_swap_the_stored_key(rt: HostRuntime) -> Result<(), Fail> {
     replies_are_equal();
     let mut map = Owned::new(rt.alloc());
-    assert!(rt; map.call(MapCall::Replace(MaybeEqual(11, 7)))? == Reply::Key(None));
-    assert!(rt; map.call(MapCall::Upsert(MaybeEqual(11, 7), 17u64))? == Reply::Old(None));
-    assert!(rt; map.call(MapCall::Upsert(MaybeEqual(11, 11), 18))? == Reply::Old(Some(17)));
+    expect(
+        &rt,
+        map.call(MapCall::Replace(MaybeEqual(11, 7)))? == Reply::Key(None),
+    );
+    expect(
+        &rt,
+        map.call(MapCall::Upsert(MaybeEqual(11, 7), 17u64))? == Reply::Old(None),
+    );
+    expect(
+        &rt,
+        map.call(MapCall::Upsert(MaybeEqual(11, 11), 18))? == Reply::Old(Some(17)),
+    );
     match map.call(MapCall::Replace(MaybeEqual(11, 11)))? {
-        Reply::Key(Some(old)) => assert_eq!(rt; old.1, 7),
+        Reply::Key(Some(old)) => expect_eq(&rt, old.1, 7),
         _ => assert!(rt; false, "the key is there"),
     }
     match map.call(MapCall::Remove(MaybeEqual(11, 0)))? {
-        Reply::Pair(Some((key, value))) => assert_eq!(rt; (key.1, value), (11, 18)),
+        Reply::Pair(Some((key, value))) => expect_eq(&rt, (key.1, value), (11, 18)),
         _ => assert!(rt; false, "the key is there"),
     }
-    assert!(rt; map.call(MapCall::Len)? == Reply::Count(0));
+    expect(&rt, map.call(MapCall::Len)? == Reply::Count(0));
     Ok(())
 }
 
@@ -179,14 +189,15 @@ fn stops_at_the_first_refusal(rt: HostRuntime) -> Result<(), Fail> {
         hasher: RandomState::new(&rt)?,
     };
     let mut replies = Vec::new(rt.alloc());
-    assert_eq!(rt;
+    expect_eq(
+        &rt,
         run(&mut tally, &[4, 3, 2, 1, 0], &mut replies),
-        Err(Refused)
+        Err(Refused),
     );
-    assert_eq!(rt; replies.as_slice(), [4, 7, 9].as_slice());
-    assert_eq!(rt; tally.total, 9);
+    expect_eq(&rt, replies.as_slice(), [4, 7, 9].as_slice());
+    expect_eq(&rt, tally.total, 9);
     run(&mut tally, &[0], &mut replies)?;
-    assert_eq!(rt; replies.as_slice(), [4, 7, 9, 9].as_slice());
+    expect_eq(&rt, replies.as_slice(), [4, 7, 9, 9].as_slice());
     let Tally {
         total: _,
         hasher: _,

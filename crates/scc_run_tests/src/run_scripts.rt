@@ -1,4 +1,5 @@
 // Scripts line by line: which are in the grammar, and the order of what is written.
+use crate::expect::{expect, expect_eq};
 use crate::run_cases::expect_run;
 use scc_play::play::{BAD_CALL, FINISHED, play};
 use std::process::Abort;
@@ -152,8 +153,8 @@ fn run_many_calls(rt: HostRuntime) -> Result<(), Fail> {
     let mut output = Vec::new(rt.alloc());
     let mut reader = script.as_bytes();
     let status = play(&rt, rt.alloc(), &mut reader, &mut output);
-    assert_eq!(rt; status, FINISHED);
-    assert!(rt; output.as_slice() == wanted.as_bytes());
+    expect_eq(&rt, status, FINISHED);
+    expect(&rt, output.as_slice() == wanted.as_bytes());
     Ok(())
 }
 

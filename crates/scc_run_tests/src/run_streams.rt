@@ -1,4 +1,5 @@
 // Streams that fail while a script is read or its output is written, at each byte in turn.
+use crate::expect::expect_eq;
 use scc_play::play::{BAD_CALL, FINISHED, NO_MEMORY, STREAM_FAILED, play};
 use std::io::{Error, ErrorKind, Read, Result, Write};
 use std::process::Abort;
@@ -41,9 +42,9 @@ fn expect_reader<R: AllocGlobal + Abort + Threads + Wait + Sync>(
             kind,
         };
         let mut writer = place.as_mut_slice();
-        assert_eq!(rt; play(rt, rt.alloc(), &mut reader, &mut writer), status);
+        expect_eq(rt, play(rt, rt.alloc(), &mut reader, &mut writer), status);
         let written = 64usize.saturating_sub(writer.len());
-        assert_eq!(rt; place.get(..written), Some(text));
+        expect_eq(rt, place.get(..written), Some(text));
     }
 }
 
@@ -116,12 +117,13 @@ fn expect_writer<R: AllocGlobal + Abort + Threads + Wait + Sync>(
             let mut reader = script;
             let mut writer = FailingWriter::new(room, fails_at_flush);
             let whole = room == text.len() && !fails_at_flush;
-            assert_eq!(rt;
+            expect_eq(
+                rt,
                 play(rt, rt.alloc(), &mut reader, &mut writer),
-                if whole { status } else { STREAM_FAILED }
+                if whole { status } else { STREAM_FAILED },
             );
-            assert_eq!(rt; writer.taken, room);
-            assert_eq!(rt; writer.place.get(..room), text.get(..room));
+            expect_eq(rt, writer.taken, room);
+            expect_eq(rt, writer.place.get(..room), text.get(..room));
         }
     }
 }

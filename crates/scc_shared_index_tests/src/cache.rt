@@ -1,6 +1,7 @@
 // Tests of the cache that threads share: worked cases, and eviction under four threads.
 mod as_owned;
 
+use crate::expect::{expect, expect_eq};
 use scc_cache::DEFAULT_MAXIMUM_CAPACITY;
 use scc_common::InsertError;
 use scc_script::same::Same;
@@ -16,11 +17,11 @@ use std::thread::map_indices;
 fn shared_cache_of_four_stripes_evicts(rt: HostRuntime) -> Result<(), Fail> {
     let cache = HashCache::with_hasher(rt.alloc(), Zero)?;
     for key in 0..32u64 {
-        assert!(rt; cache.put_sync(&rt, key, key)?.is_none());
+        expect(&rt, cache.put_sync(&rt, key, key)?.is_none());
     }
-    assert_eq!(rt; cache.put_sync(&rt, 32, 32)?, Some((0, 0)));
-    assert_eq!(rt; (cache.len(&rt), cache.capacity(&rt)), (32, 64));
-    assert_eq!(rt; cache.capacity_range(), 0..=DEFAULT_MAXIMUM_CAPACITY);
+    expect_eq(&rt, cache.put_sync(&rt, 32, 32)?, Some((0, 0)));
+    expect_eq(&rt, (cache.len(&rt), cache.capacity(&rt)), (32, 64));
+    expect_eq(&rt, cache.capacity_range(), 0..=DEFAULT_MAXIMUM_CAPACITY);
     Ok(())
 }
 
@@ -30,15 +31,18 @@ fn shared_cache_evicts_stripe_by_stripe(rt: HostRuntime) -> Result<(), Fail> {
     let cache = HashCache::with_hasher(rt.alloc(), Same)?;
     for quarter in 0..4u64 {
         for key in 0..32u64 {
-            assert!(rt; cache.put_sync(&rt, (quarter << 62) + key, key)?.is_none());
+            expect(
+                &rt,
+                cache.put_sync(&rt, (quarter << 62) + key, key)?.is_none(),
+            );
         }
     }
-    assert_eq!(rt; (cache.len(&rt), cache.capacity(&rt)), (128, 256));
+    expect_eq(&rt, (cache.len(&rt), cache.capacity(&rt)), (128, 256));
     for quarter in 0..4u64 {
         let first = quarter << 62;
-        assert_eq!(rt; cache.put_sync(&rt, first + 32, 32)?, Some((first, 0)));
+        expect_eq(&rt, cache.put_sync(&rt, first + 32, 32)?, Some((first, 0)));
     }
-    assert_eq!(rt; (cache.len(&rt), cache.capacity(&rt)), (128, 256));
+    expect_eq(&rt, (cache.len(&rt), cache.capacity(&rt)), (128, 256));
     Ok(())
 }
 
@@ -50,14 +54,14 @@ fn shared_cache_capacities(rt: HostRuntime) -> Result<(), Fail> {
         2000,
         Same,
     )?;
-    assert_eq!(rt; cache.capacity(&rt), 128);
-    assert_eq!(rt; cache.capacity_range(), 128..=2048);
+    expect_eq(&rt, cache.capacity(&rt), 128);
+    expect_eq(&rt, cache.capacity_range(), 128..=2048);
     let cache: HashCache<u64, u64> = HashCache::with_capacity(rt.alloc(), 0, 0)?;
-    assert_eq!(rt; cache.capacity_range(), 0..=64);
+    expect_eq(&rt, cache.capacity_range(), 0..=64);
     let cache: HashCache<u64, u64> = HashCache::new(rt.alloc())?;
-    assert_eq!(rt; cache.capacity(&rt), 0);
-    assert_eq!(rt; cache.capacity_range(), 0..=256);
-    assert!(rt; cache.is_empty(&rt));
+    expect_eq(&rt, cache.capacity(&rt), 0);
+    expect_eq(&rt, cache.capacity_range(), 0..=256);
+    expect(&rt, cache.is_empty(&rt));
     Ok(())
 }
 
@@ -65,20 +69,20 @@ fn shared_cache_capacities(rt: HostRuntime) -> Result<(), Fail> {
 fn shared_cache_which_calls_refresh(rt: HostRuntime) -> Result<(), Fail> {
     let cache = HashCache::with_capacity_and_hasher(rt.alloc(), 0, 64, Zero)?;
     for key in 0..32u64 {
-        assert!(rt; cache.put_sync(&rt, key, key)?.is_none());
+        expect(&rt, cache.put_sync(&rt, key, key)?.is_none());
     }
     drop(cache.get_sync(&rt, &0));
     drop(cache.entry_sync(&rt, 1));
     drop(cache.replace_sync(&rt, 2));
-    assert_eq!(rt; cache.read_sync(&rt, &3, |_, value| *value), Some(3));
-    assert!(rt; cache.contains_sync(&rt, &3));
-    assert!(rt; cache.remove_if_sync(&rt, &3, |_| false).is_none());
+    expect_eq(&rt, cache.read_sync(&rt, &3, |_, value| *value), Some(3));
+    expect(&rt, cache.contains_sync(&rt, &3));
+    expect(&rt, cache.remove_if_sync(&rt, &3, |_| false).is_none());
     for key in 3..32u64 {
-        assert_eq!(rt; cache.put_sync(&rt, key + 29, 0)?, Some((key, key)));
+        expect_eq(&rt, cache.put_sync(&rt, key + 29, 0)?, Some((key, key)));
     }
-    assert_eq!(rt; cache.put_sync(&rt, 61, 0)?, Some((0, 0)));
-    assert_eq!(rt; cache.put_sync(&rt, 62, 0)?, Some((1, 1)));
-    assert_eq!(rt; cache.put_sync(&rt, 63, 0)?, Some((2, 2)));
+    expect_eq(&rt, cache.put_sync(&rt, 61, 0)?, Some((0, 0)));
+    expect_eq(&rt, cache.put_sync(&rt, 62, 0)?, Some((1, 1)));
+    expect_eq(&rt, cache.put_sync(&rt, 63, 0)?, Some((2, 2)));
     Ok(())
 }
 
@@ -90,11 +94,11 @@ fn shared_cache_equality_ignores_recency(rt: HostRuntime) -> Result<(), Fail> {
         first.put_sync(&rt, key, key)?;
         second.put_sync(&rt, 3 - key, 3 - key)?;
     }
-    assert!(rt; first.eq_sync(&rt, &second));
-    assert!(rt; first.eq_sync(&rt, &first));
+    expect(&rt, first.eq_sync(&rt, &second));
+    expect(&rt, first.eq_sync(&rt, &first));
     first.put_sync(&rt, 3, 3)?;
-    assert!(rt; !first.eq_sync(&rt, &second));
-    assert!(rt; !second.eq_sync(&rt, &first));
+    expect(&rt, !first.eq_sync(&rt, &second));
+    expect(&rt, !second.eq_sync(&rt, &first));
     Ok(())
 }
 
@@ -102,9 +106,9 @@ fn shared_cache_equality_ignores_recency(rt: HostRuntime) -> Result<(), Fail> {
 fn shared_cache_try_from_iter_first_wins(rt: HostRuntime) -> Result<(), Fail> {
     let items = vec![in rt.alloc(); (1u64, 10u64), (1, 20)]?;
     let cache: HashCache<u64, u64> = HashCache::try_from_iter(&rt, rt.alloc(), items)?;
-    assert_eq!(rt; cache.read_sync(&rt, &1, |_, value| *value), Some(10));
-    assert_eq!(rt; (cache.len(&rt), cache.capacity(&rt)), (1, 64));
-    assert_eq!(rt; cache.capacity_range(), 64..=64);
+    expect_eq(&rt, cache.read_sync(&rt, &1, |_, value| *value), Some(10));
+    expect_eq(&rt, (cache.len(&rt), cache.capacity(&rt)), (1, 64));
+    expect_eq(&rt, cache.capacity_range(), 64..=64);
     Ok(())
 }
 
@@ -180,19 +184,20 @@ fn shared_cache_loses_no_pair_unseen(rt: HostRuntime) -> Result<(), Fail> {
         is_within: true,
     };
     for balance in balances.iter() {
-        assert!(rt; balance.is_within);
+        expect(&rt, balance.is_within);
         left.pairs = left.pairs.wrapping_add(balance.pairs);
         left.keys = left.keys.wrapping_add(balance.keys);
         left.values = left.values.wrapping_add(balance.values);
     }
-    assert!(rt;
+    expect(
+        &rt,
         cache.iter_sync(&rt, |k, v| {
             left.subtract((*k, *v));
             true
-        })
+        }),
     );
-    assert_eq!(rt; (left.pairs, left.keys, left.values), (0, 0, 0));
-    assert!(rt; cache.capacity(&rt) <= DEFAULT_MAXIMUM_CAPACITY);
-    assert!(rt; !cache.is_empty(&rt));
+    expect_eq(&rt, (left.pairs, left.keys, left.values), (0, 0, 0));
+    expect(&rt, cache.capacity(&rt) <= DEFAULT_MAXIMUM_CAPACITY);
+    expect(&rt, !cache.is_empty(&rt));
     Ok(())
 }

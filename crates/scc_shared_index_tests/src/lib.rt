@@ -5,4 +5,6 @@
 #[cfg(test)]
 mod cache;
 #[cfg(test)]
+mod expect;
+#[cfg(test)]
 mod index;

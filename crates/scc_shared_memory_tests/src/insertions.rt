@@ -1,77 +1,17 @@
 // Insertions and puts that are refused: what was supplied comes back, the stripe is let go, the others stay, and the
 // next one is right.
-use crate::caches::Cache;
-use crate::fixtures::made;
-use crate::indexes::Index;
-use crate::kinds::{Added, Kind, Way, What};
-use crate::maps::Map;
-use crate::sets::Set;
+use scc_shared_memory_kit::amiss::check_added;
+use scc_shared_memory_kit::caches::Cache;
+use scc_shared_memory_kit::fixtures::made;
+use scc_shared_memory_kit::indexes::Index;
+use scc_shared_memory_kit::kinds::{Kind, Way, What};
+use scc_shared_memory_kit::maps::Map;
+use scc_shared_memory_kit::sets::Set;
 use scc_test_kit::refusals::Refusal;
 use std::io::Print;
 use std::process::Abort;
 use std::sync::Wait;
 use std::test::Fail;
-
-// The keys from `first` on, before `end`, are there, each with the value of that way, and there is no other.
-pub(crate) fn expect_between<C: Kind, R: Abort + Wait>(
-    rt: &R,
-    shared: &C,
-    way: Way,
-    first: u64,
-    end: u64,
-) {
-    assert_eq!(rt; shared.sizes(rt).0 as u64, end.saturating_sub(first));
-    for key in first..end {
-        assert_eq!(rt; shared.read(rt, key), Some(way.value(key)));
-    }
-    assert_eq!(rt; shared.read(rt, end), None);
-}
-
-// Of the keys below `count` those are there that the kind keeps, and there is no other.
-pub(crate) fn expect_keys<C: Kind, R: Abort + Wait>(rt: &R, shared: &C, way: Way, count: u64) {
-    expect_between(rt, shared, way, C::first_kept(count), count);
-}
-
-// The pair that goes where `key` comes after the keys below it.
-fn evicted<C: Kind>(way: Way, key: u64) -> Option<(u64, u64)> {
-    let first = C::first_kept(key);
-    if first < C::first_kept(key.saturating_add(1)) {
-        Some((first, way.value(first)))
-    } else {
-        None
-    }
-}
-
-// The slots after a refused insertion: where a full bucket made the array grow before the overflow list was refused,
-// the growth stays.
-fn slots_after(key: u64, before: usize) -> usize {
-    if key >= 32 && before == 64 {
-        128
-    } else {
-        before
-    }
-}
-
-// Adds `key` to the keys below it. Refused, its pair comes back, the keys stay, and the next call adds it.
-pub(crate) fn expect_added<C: Kind, R: Abort + Print + Wait>(
-    rt: &R,
-    refusal: &mut Refusal,
-    shared: &C,
-    way: Way,
-    key: u64,
-) {
-    let wanted = Added::Done(evicted::<C>(way, key));
-    let before = shared.sizes(rt).1;
-    let added = shared.add(rt, way, key);
-    if added != wanted {
-        C::meet(rt, refusal, What::Insertion);
-        assert_eq!(rt; added, Added::Refused(key, way.value(key)), "by {way:?}");
-        expect_keys(rt, shared, way, key);
-        assert_eq!(rt; shared.sizes(rt).1, slots_after(key, before), "by {way:?}");
-        assert_eq!(rt; shared.add(rt, way, key), wanted, "by {way:?}");
-    }
-    expect_keys(rt, shared, way, key.saturating_add(1));
-}
 
 // Without arrays the first key makes one for its stripe.
 fn expect_first_array<C: Kind + Drop, R: AllocGlobal + Abort + Print + Wait>(
@@ -81,7 +21,11 @@ fn expect_first_array<C: Kind + Drop, R: AllocGlobal + Abort + Print + Wait>(
     let mut refusal = Refusal::new();
     let shared = made::<C, R>(rt, &mut refusal, 0)?;
     for key in 0..3u64 {
-        expect_added(rt, &mut refusal, &shared, way, key);
+        assert_eq!(rt;
+            check_added(rt, &mut refusal, &shared, way, key),
+            Ok(()),
+            "by {way:?}"
+        );
     }
     assert_eq!(rt; shared.sizes(rt), (3, 64));
     Ok(())
@@ -95,14 +39,18 @@ fn expect_growth<C: Kind + Drop, R: AllocGlobal + Abort + Print + Wait>(
     let mut refusal = Refusal::new();
     let shared = made::<C, R>(rt, &mut refusal, 64)?;
     for key in 0..32u64 {
-        expect_added(rt, &mut refusal, &shared, way, key);
+        assert_eq!(rt;
+            check_added(rt, &mut refusal, &shared, way, key),
+            Ok(()),
+            "by {way:?}"
+        );
     }
     assert_eq!(rt; shared.sizes(rt), (32, 64));
-    expect_added(rt, &mut refusal, &shared, way, 32);
+    assert_eq!(rt; check_added(rt, &mut refusal, &shared, way, 32), Ok(()));
     if shared.sizes(rt).1 == 64 {
         C::meet(rt, &mut refusal, What::Growth);
     }
-    expect_added(rt, &mut refusal, &shared, way, 33);
+    assert_eq!(rt; check_added(rt, &mut refusal, &shared, way, 33), Ok(()));
     assert_eq!(rt; shared.sizes(rt).1, 128);
     Ok(())
 }

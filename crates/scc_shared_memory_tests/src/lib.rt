@@ -3,25 +3,7 @@
 #![tactic(auto)]
 
 #[cfg(test)]
-mod caches;
-#[cfg(test)]
-mod fixtures;
-#[cfg(test)]
-mod indexes;
-#[cfg(test)]
 mod insertions;
-#[cfg(test)]
-mod kinds;
-#[cfg(test)]
-mod making;
-#[cfg(test)]
-mod maps;
-#[cfg(test)]
-mod reservations;
-#[cfg(test)]
-mod sets;
-#[cfg(test)]
-mod shrinks;
 #[cfg(test)]
 mod versions;
 #[cfg(test)]

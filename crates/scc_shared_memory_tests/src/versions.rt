@@ -1,11 +1,11 @@
 // Versions, updates and snapshots of a shared index that are refused: what was supplied comes back, the versions stay,
 // and the next call is right.
-use crate::fixtures::made;
-use crate::indexes::Index;
-use crate::insertions::{expect_added, expect_keys};
-use crate::kinds::{Kind, Way};
 use scc::MakeError;
 use scc::hash_index::{Entry, Iter};
+use scc_shared_memory_kit::amiss::{check_added, check_keys};
+use scc_shared_memory_kit::fixtures::made;
+use scc_shared_memory_kit::indexes::Index;
+use scc_shared_memory_kit::kinds::{Kind, Way};
 use scc_test_kit::refusals::Refusal;
 use std::io::Print;
 use std::process::Abort;
@@ -19,7 +19,7 @@ fn of_two<R: AllocGlobal + Abort + Print + Wait>(
 ) -> Result<Index, Fail> {
     let index = made::<Index, R>(rt, refusal, 64)?;
     for key in 0..2u64 {
-        expect_added(rt, refusal, &index, Way::Insert, key);
+        assert_eq!(rt; check_added(rt, refusal, &index, Way::Insert, key), Ok(()));
     }
     Ok(index)
 }
@@ -63,7 +63,7 @@ fn a_refused_update_leaves_the_shared_version(rt: HostRuntime) -> Result<(), Fai
     assert_eq!(rt; (*peeked.key(), *peeked.value()), (1, !1));
     assert_eq!(rt; index.read(&rt, 1), Some(7));
     expect_updated(&rt, &mut refusal, &index, 1, !1);
-    expect_keys(&rt, &index, Way::Insert, 2);
+    assert_eq!(rt; check_keys(&rt, &index, Way::Insert, 2), Ok(()));
     assert!(rt; index.remove(&rt, 1));
     assert_eq!(rt; (*peeked.key(), *peeked.value()), (1, !1));
     Ok(())
@@ -103,7 +103,7 @@ fn a_refused_and_modify_leaves_the_shared_version(rt: HostRuntime) -> Result<(),
     let index = of_two(&rt, &mut refusal)?;
     expect_modified(&rt, &mut refusal, &index, 1);
     expect_modified(&rt, &mut refusal, &index, 1);
-    expect_keys(&rt, &index, Way::Insert, 2);
+    assert_eq!(rt; check_keys(&rt, &index, Way::Insert, 2), Ok(()));
     Ok(())
 }
 
@@ -129,7 +129,7 @@ fn snapshot<R: Abort + Print + Wait>(
         Ok(versions) => Ok(versions),
         Err(MakeError) => {
             refusal.meet(rt, "a snapshot of a shared index");
-            expect_keys(rt, index, Way::Insert, 2);
+            assert_eq!(rt; check_keys(rt, index, Way::Insert, 2), Ok(()));
             Ok(index.iter(rt)?)
         }
     }

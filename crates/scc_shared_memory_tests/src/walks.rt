@@ -1,13 +1,14 @@
 // Walks whose list of taken pairs finds no room: they end before the closure is called on the next pair, and the next
 // walk takes the rest.
-use crate::caches::Cache;
-use crate::fixtures::{listed, made};
-use crate::insertions::{expect_added, expect_keys};
-use crate::kinds::{Kind, Way};
-use crate::maps::Map;
-use crate::sets::Set;
 use scc::{Verdict, WalkError};
+use scc_shared_memory_kit::amiss::{check_added, check_keys};
+use scc_shared_memory_kit::caches::Cache;
+use scc_shared_memory_kit::fixtures::made;
+use scc_shared_memory_kit::kinds::{Kind, Way};
+use scc_shared_memory_kit::maps::Map;
+use scc_shared_memory_kit::sets::Set;
 use scc_test_kit::refusals::Refusal;
+use std::alloc::AllocError;
 use std::io::Print;
 use std::process::Abort;
 use std::sync::Wait;
@@ -30,7 +31,7 @@ trait Takes: Kind {
     fn key_of(item: Self::Item) -> Option<u64>;
 
     // Says that the walk was refused.
-    fn meet_walk<R: Abort + Print>(rt: &R, refusal: &mut Refusal);
+    fn meet_walk<R: Print>(rt: &R, refusal: &mut Refusal);
 }
 
 // The key of a pair that has itself as value.
@@ -62,7 +63,7 @@ impl Takes for Map {
         key_of_pair(item)
     }
 
-    fn meet_walk<R: Abort + Print>(rt: &R, refusal: &mut Refusal) {
+    fn meet_walk<R: Print>(rt: &R, refusal: &mut Refusal) {
         refusal.meet(rt, "a taking walk of a shared map");
     }
 }
@@ -90,7 +91,7 @@ impl Takes for Set {
         Some(item)
     }
 
-    fn meet_walk<R: Abort + Print>(rt: &R, refusal: &mut Refusal) {
+    fn meet_walk<R: Print>(rt: &R, refusal: &mut Refusal) {
         refusal.meet(rt, "a taking walk of a shared set");
     }
 }
@@ -119,7 +120,7 @@ impl Takes for Cache {
         key_of_pair(item)
     }
 
-    fn meet_walk<R: Abort + Print>(rt: &R, refusal: &mut Refusal) {
+    fn meet_walk<R: Print>(rt: &R, refusal: &mut Refusal) {
         refusal.meet(rt, "a taking walk of a shared cache");
     }
 }
@@ -150,6 +151,21 @@ fn expect_taken<C: Takes, R: Abort + Wait>(rt: &R, shared: &C, taken: &[C::Item]
     assert_eq!(rt; shared.sizes(rt).0.saturating_add(taken.len()), 3);
 }
 
+// An empty list with room for so many, asked for again where it was refused.
+fn listed<T: Drop, R: AllocGlobal + Print>(
+    rt: &R,
+    refusal: &mut Refusal,
+    room: usize,
+) -> Result<Vec<T>, Fail> {
+    match Vec::with_capacity(rt.alloc(), room) {
+        Ok(list) => Ok(list),
+        Err(AllocError) => {
+            refusal.meet(rt, "a list of the test");
+            Ok(Vec::with_capacity(rt.alloc(), room)?)
+        }
+    }
+}
+
 // Takes three pairs into a list with room for one.
 fn expect_walk<C: Takes, R: AllocGlobal + Abort + Print + Wait>(
     rt: &R,
@@ -178,10 +194,13 @@ fn expect_walks<C: Takes + Drop, R: AllocGlobal + Abort + Print + Wait>(
     let mut refusal = Refusal::new();
     let shared = made::<C, R>(rt, &mut refusal, 64)?;
     for key in 0..3u64 {
-        expect_added(rt, &mut refusal, &shared, Way::Insert, key);
+        assert_eq!(rt;
+            check_added(rt, &mut refusal, &shared, Way::Insert, key),
+            Ok(())
+        );
     }
     expect_walk(rt, &mut refusal, &shared)?;
-    expect_keys(rt, &shared, Way::Insert, 0);
+    assert_eq!(rt; check_keys(rt, &shared, Way::Insert, 0), Ok(()));
     Ok(())
 }
 

@@ -4,6 +4,7 @@ ghost use Rattle.scc_calls.specs.Copies.{ClonesEqual};
 ghost use Rattle.scc_recorded.specs.Setups.{request_of};
 
 use crate::cases::shared;
+use crate::expect::expect;
 use scc_calls::{CacheCall, IndexCall, MapCall, SetCall, WholeCalls, run};
 use scc_common::{Shared, TryShare};
 use scc_recorded::{Recorded, Setup, Site};
@@ -151,7 +152,7 @@ fn recorded_map_as_run(rt: HostRuntime) -> Result<(), Fail> {
         Blank::new(1),
         calls.as_slice(),
     )?;
-    assert!(rt; same);
+    expect(&rt, same);
     Ok(())
 }
 
@@ -170,7 +171,7 @@ fn recorded_set_as_run(rt: HostRuntime) -> Result<(), Fail> {
         Blank::new(1),
         calls.as_slice(),
     )?;
-    assert!(rt; same);
+    expect(&rt, same);
     Ok(())
 }
 
@@ -189,7 +190,7 @@ fn recorded_index_as_run(rt: HostRuntime) -> Result<(), Fail> {
         Blank::new(1),
         calls.as_slice(),
     )?;
-    assert!(rt; same);
+    expect(&rt, same);
     Ok(())
 }
 
@@ -208,6 +209,6 @@ fn recorded_cache_as_run(rt: HostRuntime) -> Result<(), Fail> {
         Blank::new(1),
         calls.as_slice(),
     )?;
-    assert!(rt; same);
+    expect(&rt, same);
     Ok(())
 }

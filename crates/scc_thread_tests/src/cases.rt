@@ -2,6 +2,7 @@
 ghost use Rattle.std.specs.Prelude.{◌≡◌, Some};
 ghost use Rattle.scc_recorded.specs.Setups.{request_of};
 
+use crate::expect::expect;
 use scc_calls::{MapCall, Reply, Step};
 use scc_common::Shared;
 use scc_map::Owned;
@@ -198,7 +199,7 @@ fn recorded_stamps_and_order(rt: HostRuntime) -> Result<(), Fail> {
         (0, MapCall::Read(1)),
     ];
     let seen = two_on_two_stripes(&rt, rt.alloc(), &acts)?;
-    assert!(rt; has_seen(&seen, &[1, 2, 3], &[2], Some(10), &calls));
+    expect(&rt, has_seen(&seen, &[1, 2, 3], &[2], Some(10), &calls));
     Ok(())
 }
 
@@ -214,14 +215,14 @@ fn recorded_told_raises_clock(rt: HostRuntime) -> Result<(), Fail> {
         (1, MapCall::Insert(HIGH + 1, 20)),
     ];
     let seen = two_on_two_stripes(&rt, rt.alloc(), &acts)?;
-    assert!(rt; has_seen(&seen, &[1], &[2], Some(1), &calls));
+    expect(&rt, has_seen(&seen, &[1], &[2], Some(1), &calls));
     Ok(())
 }
 
 #[test]
 fn recorded_finish_wants_every_pass(rt: HostRuntime) -> Result<(), Fail> {
     let seen = two_on_two_stripes(&rt, rt.alloc(), &[])?;
-    assert!(rt; has_seen(&seen, &[], &[], None, &[]));
+    expect(&rt, has_seen(&seen, &[], &[], None, &[]));
     Ok(())
 }
 
@@ -240,6 +241,6 @@ fn recorded_clear_and_len_stamp_each_stripe(rt: HostRuntime) -> Result<(), Fail>
         (1, MapCall::Len),
     ];
     let seen = two_on_two_stripes(&rt, rt.alloc(), &acts)?;
-    assert!(rt; has_seen(&seen, &[1, 3, 4], &[2, 3], Some(0), &calls));
+    expect(&rt, has_seen(&seen, &[1, 3, 4], &[2, 3], Some(0), &calls));
     Ok(())
 }

@@ -6,4 +6,6 @@ mod as_run;
 #[cfg(test)]
 mod cases;
 #[cfg(test)]
+mod expect;
+#[cfg(test)]
 mod scripts;

@@ -1,5 +1,6 @@
 // The same random calls on a shared cache of one stripe and on an owned cache: each answers as the other, and both then
 // have the same pairs in as many slots.
+use crate::expect::expect;
 use scc_cache::{Owned, owned};
 use scc_common::{InsertError, Verdict};
 use scc_script::same::Same;
@@ -358,6 +359,6 @@ fn shared_as_owned(rt: HostRuntime) -> Result<(), Fail> {
             evictions = evictions.wrapping_add(1);
         }
     }
-    assert!(rt; evictions > 10);
+    expect(&rt, evictions > 10);
     Ok(())
 }

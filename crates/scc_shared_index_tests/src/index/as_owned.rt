@@ -3,6 +3,7 @@ use super::calls::{
     KEYS, Reply, owned_change, owned_insert, owned_look, owned_remove, owned_walk, shared_change,
     shared_insert, shared_look, shared_remove, shared_walk,
 };
+use crate::expect::expect;
 use scc_index::Owned;
 use scc_shared_index::HashIndex;
 use std::process::Abort;
@@ -81,12 +82,12 @@ fn shared_index_collects_as_owned(rt: HostRuntime) -> Result<(), Fail> {
     let more = vec![in rt.alloc(); (1u64, 10u64), (1, 20), (2, 30)]?;
     let shared: HashIndex<u64, u64> = HashIndex::try_from_iter(&rt, rt.alloc(), items)?;
     let owned: Owned<u64, u64> = Owned::try_from_iter(rt.alloc(), more)?;
-    assert!(rt; is_as(&rt, &shared, &owned));
+    expect(&rt, is_as(&rt, &shared, &owned));
     let copy = shared.try_clone(&rt)?;
-    assert!(rt; copy.eq_sync(&rt, &shared));
-    assert!(rt; shared.eq_sync(&rt, &shared));
-    assert!(rt; copy.remove_sync(&rt, &2));
-    assert!(rt; !copy.eq_sync(&rt, &shared));
-    assert!(rt; !shared.eq_sync(&rt, &copy));
+    expect(&rt, copy.eq_sync(&rt, &shared));
+    expect(&rt, shared.eq_sync(&rt, &shared));
+    expect(&rt, copy.remove_sync(&rt, &2));
+    expect(&rt, !copy.eq_sync(&rt, &shared));
+    expect(&rt, !shared.eq_sync(&rt, &copy));
     Ok(())
 }

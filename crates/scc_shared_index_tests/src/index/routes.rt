@@ -1,4 +1,5 @@
 // A routing table that two threads fill.
+use crate::expect::{expect, expect_eq};
 use scc_uses::routing::Route;
 use scc_uses::shared_routing::SharedRoutes;
 use std::process::Abort;
@@ -26,8 +27,8 @@ fn shared_routes_by_two_threads(rt: HostRuntime) -> Result<(), Fail> {
         ))?;
     }
     let (by_first, by_second) = routes.offer_both(&rt, first.as_slice(), second.as_slice());
-    assert_eq!(rt; by_first.ok(), Some(50));
-    assert_eq!(rt; by_second.ok(), Some(50));
+    expect_eq(&rt, by_first.ok(), Some(50));
+    expect_eq(&rt, by_second.ok(), Some(50));
     let Some(kept) = routes.look_up(&rt, 7)? else {
         assert!(rt; false, "there is a route");
         return Ok(());
@@ -36,15 +37,15 @@ fn shared_routes_by_two_threads(rt: HostRuntime) -> Result<(), Fail> {
         next_hop: 3,
         metric: 4,
     };
-    assert!(rt; routes.offer(&rt, 7, better).ok() == Some(true));
-    assert!(rt; routes.offer(&rt, 7, better).ok() == Some(false));
-    assert_eq!(rt; kept.value().metric, 9);
+    expect(&rt, routes.offer(&rt, 7, better).ok() == Some(true));
+    expect(&rt, routes.offer(&rt, 7, better).ok() == Some(false));
+    expect_eq(&rt, kept.value().metric, 9);
     match routes.look_up(&rt, 7)? {
-        Some(now) => assert_eq!(rt; now.value().metric, 4),
+        Some(now) => expect_eq(&rt, now.value().metric, 4),
         None => assert!(rt; false, "there is a route"),
     }
     routes.withdraw(&rt, 1);
-    assert!(rt; routes.look_up(&rt, 8)?.is_none());
-    assert!(rt; routes.look_up(&rt, 7)?.is_some());
+    expect(&rt, routes.look_up(&rt, 8)?.is_none());
+    expect(&rt, routes.look_up(&rt, 7)?.is_some());
     Ok(())
 }

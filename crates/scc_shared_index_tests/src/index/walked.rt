@@ -1,4 +1,5 @@
 // Walks and snapshots of an index beside threads that write into it.
+use crate::expect::expect;
 use scc_shared_index::HashIndex;
 use std::process::Abort;
 use std::sync::Wait;
@@ -53,7 +54,7 @@ fn walk_often(rt: &impl Wait, index: &HashIndex<u64, u64>) -> bool {
 fn walk_meets_untouched_keys_once(rt: HostRuntime) -> Result<(), Fail> {
     let index: HashIndex<u64, u64> = HashIndex::new(rt.alloc())?;
     for k in 0..UNTOUCHED {
-        assert!(rt; index.insert_sync(&rt, k, k).is_ok());
+        expect(&rt, index.insert_sync(&rt, k, k).is_ok());
     }
     let ((first, second), walked) = join(
         &rt,
@@ -66,9 +67,9 @@ fn walk_meets_untouched_keys_once(rt: HostRuntime) -> Result<(), Fail> {
         },
         || walk_often(&rt, &index),
     );
-    assert!(rt; first);
-    assert!(rt; second);
-    assert!(rt; walked);
+    expect(&rt, first);
+    expect(&rt, second);
+    expect(&rt, walked);
     Ok(())
 }
 
@@ -115,15 +116,15 @@ fn look_often(rt: &impl Wait, index: &HashIndex<u64, (u64, u64)>) -> bool {
 #[test]
 fn snapshot_versions_are_whole(rt: HostRuntime) -> Result<(), Fail> {
     let index: HashIndex<u64, (u64, u64)> = HashIndex::new(rt.alloc())?;
-    assert!(rt; index.insert_sync(&rt, 0, (0, 0)).is_ok());
-    assert!(rt; index.insert_sync(&rt, 1, (0, 0)).is_ok());
+    expect(&rt, index.insert_sync(&rt, 0, (0, 0)).is_ok());
+    expect(&rt, index.insert_sync(&rt, 1, (0, 0)).is_ok());
     let ((first, second), looked) = join(
         &rt,
         || join(&rt, || publish(&rt, &index, 0), || publish(&rt, &index, 1)),
         || look_often(&rt, &index),
     );
-    assert!(rt; first);
-    assert!(rt; second);
-    assert!(rt; looked);
+    expect(&rt, first);
+    expect(&rt, second);
+    expect(&rt, looked);
     Ok(())
 }

@@ -1,4 +1,5 @@
 // A shared map of one stripe answers as an owned one, call by call, and has the same pairs and capacity after each.
+use crate::expect::expect_eq;
 use scc_common::{InsertError, Verdict};
 use scc_map::Owned;
 use scc_map::held::{HeldPlace, HeldReplace};
@@ -402,7 +403,7 @@ fn shared_map_as_owned(rt: HostRuntime) -> Result<(), Fail> {
         );
         greatest = greatest.max(twins.owned.capacity());
     }
-    assert_eq!(rt; greatest, 128);
-    assert_eq!(rt; twins.owned.capacity(), 64);
+    expect_eq(&rt, greatest, 128);
+    expect_eq(&rt, twins.owned.capacity(), 64);
     Ok(())
 }

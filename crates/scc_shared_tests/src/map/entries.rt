@@ -1,4 +1,5 @@
 // An entry that is let go lets its lock go, in whatever state it is: the next call on its stripe comes through.
+use crate::expect::expect;
 use scc_map::held::{HeldPlace, HeldReplace};
 use scc_script::same::Same;
 use scc_shared_map::HashMap;
@@ -82,10 +83,10 @@ fn lets_go_replaced(rt: &impl Wait, map: &Map) -> bool {
 #[test]
 fn shared_map_entries_let_their_lock_go(rt: HostRuntime) -> Result<(), Fail> {
     let map: Map = HashMap::with_capacity_and_hasher(rt.alloc(), 64, Same)?;
-    assert!(rt; comes_through(&rt, &map));
-    assert!(rt; lets_go_occupied(&rt, &map));
-    assert!(rt; lets_go_vacant(&rt, &map));
-    assert!(rt; lets_go_changed(&rt, &map));
-    assert!(rt; lets_go_replaced(&rt, &map));
+    expect(&rt, comes_through(&rt, &map));
+    expect(&rt, lets_go_occupied(&rt, &map));
+    expect(&rt, lets_go_vacant(&rt, &map));
+    expect(&rt, lets_go_changed(&rt, &map));
+    expect(&rt, lets_go_replaced(&rt, &map));
     Ok(())
 }

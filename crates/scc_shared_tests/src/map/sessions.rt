@@ -1,4 +1,5 @@
 // A store of sessions that two workers share.
+use crate::expect::{expect, expect_eq};
 use scc_uses::session_store::SessionStore;
 use std::process::Abort;
 use std::sync::Wait;
@@ -33,18 +34,18 @@ fn expires(rt: &impl Wait, store: &SessionStore, now: u64) -> u64 {
 fn two_workers_share_a_session_store(rt: HostRuntime) -> Result<(), Fail> {
     let store = SessionStore::new(rt.alloc())?;
     let (even, odd) = join(&rt, || begins(&rt, &store, 0), || begins(&rt, &store, 1));
-    assert_eq!(rt; even, 200);
-    assert_eq!(rt; odd, 200);
-    assert!(rt; store.begin(&rt, 7, 9).is_err());
-    assert_eq!(rt; store.renew(&rt, 7, 1000), Some(1000));
-    assert_eq!(rt; store.renew(&rt, 7, 5), Some(1000));
+    expect_eq(&rt, even, 200);
+    expect_eq(&rt, odd, 200);
+    expect(&rt, store.begin(&rt, 7, 9).is_err());
+    expect_eq(&rt, store.renew(&rt, 7, 1000), Some(1000));
+    expect_eq(&rt, store.renew(&rt, 7, 5), Some(1000));
     let (one, other) = join(
         &rt,
         || expires(&rt, &store, 99),
         || expires(&rt, &store, 99),
     );
-    assert_eq!(rt; one.wrapping_add(other), 99);
-    assert_eq!(rt; store.expire(&rt, 7, 999), None);
-    assert_eq!(rt; store.expire(&rt, 7, 1000), Some((7, 1000)));
+    expect_eq(&rt, one.wrapping_add(other), 99);
+    expect_eq(&rt, store.expire(&rt, 7, 999), None);
+    expect_eq(&rt, store.expire(&rt, 7, 1000), Some((7, 1000)));
     Ok(())
 }

@@ -1,4 +1,5 @@
 // A shared map under two threads. Each look for the other thread has its limit.
+use crate::expect::{expect, expect_eq};
 use scc_script::same::Same;
 use scc_shared_map::HashMap;
 use std::hint::spin_loop;
@@ -66,16 +67,16 @@ fn inserts_beside(rt: &impl Wait, map: &Map, flags: &Flags) -> bool {
 #[test]
 fn held_entry_other_stripe(rt: HostRuntime) -> Result<(), Fail> {
     let map: Map = HashMap::with_capacity_and_hasher(rt.alloc(), 128, Same)?;
-    assert!(rt; map.insert_sync(&rt, 1, 10).is_ok());
+    expect(&rt, map.insert_sync(&rt, 1, 10).is_ok());
     let flags = Flags::new();
     let (first, second) = join(
         &rt,
         || holds_first(&rt, &map, &flags),
         || inserts_beside(&rt, &map, &flags),
     );
-    assert!(rt; first);
-    assert!(rt; second);
-    assert_eq!(rt; map.len(&rt), 2);
+    expect(&rt, first);
+    expect(&rt, second);
+    expect_eq(&rt, map.len(&rt), 2);
     Ok(())
 }
 
@@ -89,29 +90,29 @@ fn reads_until(rt: &impl Wait, map: &Map, mine: &AtomicU64, other: &AtomicU64) -
 #[test]
 fn two_readers_one_stripe(rt: HostRuntime) -> Result<(), Fail> {
     let map: Map = HashMap::with_capacity_and_hasher(rt.alloc(), 64, Same)?;
-    assert!(rt; map.insert_sync(&rt, 1, 10).is_ok());
+    expect(&rt, map.insert_sync(&rt, 1, 10).is_ok());
     let flags = Flags::new();
     let (first, second) = join(
         &rt,
         || reads_until(&rt, &map, &flags.first, &flags.second),
         || reads_until(&rt, &map, &flags.second, &flags.first),
     );
-    assert!(rt; first);
-    assert!(rt; second);
+    expect(&rt, first);
+    expect(&rt, second);
     Ok(())
 }
 
 #[test]
 fn reserve_drop_under_entry(rt: HostRuntime) -> Result<(), Fail> {
     let map: Map = HashMap::with_capacity_and_hasher(rt.alloc(), 64, Same)?;
-    assert!(rt; map.insert_sync(&rt, 1, 10).is_ok());
+    expect(&rt, map.insert_sync(&rt, 1, 10).is_ok());
     let reserve = map.reserve(&rt, 1000).ok_or("so many can be reserved")?;
     let mut entry = map.get_sync(&rt, &1).ok_or("it is there")?;
     drop(reserve);
-    assert_eq!(rt; entry.insert(11), 10);
-    assert_eq!(rt; *entry.get(), 11);
+    expect_eq(&rt, entry.insert(11), 10);
+    expect_eq(&rt, *entry.get(), 11);
     drop(entry);
-    assert_eq!(rt; map.capacity(&rt), 64);
+    expect_eq(&rt, map.capacity(&rt), 64);
     Ok(())
 }
 
@@ -141,16 +142,16 @@ fn steps_back(rt: &impl Wait, map: &Map, flags: &Flags) -> bool {
 #[test]
 fn next_lets_its_stripe_go_first(rt: HostRuntime) -> Result<(), Fail> {
     let map: Map = HashMap::with_capacity_and_hasher(rt.alloc(), 128, Same)?;
-    assert!(rt; map.insert_sync(&rt, 1, 10).is_ok());
-    assert!(rt; map.insert_sync(&rt, HALF, 20).is_ok());
+    expect(&rt, map.insert_sync(&rt, 1, 10).is_ok());
+    expect(&rt, map.insert_sync(&rt, HALF, 20).is_ok());
     let flags = Flags::new();
     let (on, back) = join(
         &rt,
         || steps_on(&rt, &map, &flags),
         || steps_back(&rt, &map, &flags),
     );
-    assert!(rt; on);
-    assert!(rt; back);
+    expect(&rt, on);
+    expect(&rt, back);
     Ok(())
 }
 
@@ -176,14 +177,14 @@ fn walks_round(rt: &impl Wait, map: &Map, from: u64, then: u64) -> bool {
 #[test]
 fn walks_in_opposite_ways_end(rt: HostRuntime) -> Result<(), Fail> {
     let map: Map = HashMap::with_capacity_and_hasher(rt.alloc(), 128, Same)?;
-    assert!(rt; map.insert_sync(&rt, 1, 10).is_ok());
-    assert!(rt; map.insert_sync(&rt, HALF, 20).is_ok());
+    expect(&rt, map.insert_sync(&rt, 1, 10).is_ok());
+    expect(&rt, map.insert_sync(&rt, HALF, 20).is_ok());
     let (on, back) = join(
         &rt,
         || walks_round(&rt, &map, 1, HALF),
         || walks_round(&rt, &map, HALF, 1),
     );
-    assert!(rt; on);
-    assert!(rt; back);
+    expect(&rt, on);
+    expect(&rt, back);
     Ok(())
 }

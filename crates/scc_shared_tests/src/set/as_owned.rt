@@ -1,4 +1,5 @@
 // A shared set of one stripe answers as an owned one, call by call, and has the same keys and capacity after each.
+use crate::expect::expect_eq;
 use scc_common::{KeyError, Verdict};
 use scc_script::same::Same;
 use scc_set::Owned;
@@ -293,7 +294,7 @@ fn shared_set_as_owned(rt: HostRuntime) -> Result<(), Fail> {
         );
         greatest = greatest.max(twins.owned.capacity());
     }
-    assert_eq!(rt; greatest, 128);
-    assert_eq!(rt; twins.owned.capacity(), 64);
+    expect_eq(&rt, greatest, 128);
+    expect_eq(&rt, twins.owned.capacity(), 64);
     Ok(())
 }

@@ -1,5 +1,6 @@
 // Keys of a shared set under several threads: an interner keeps one of equal words, and a walk beside writers meets
 // each key that nobody touches once.
+use crate::expect::{expect, expect_eq};
 use scc_shared_set::HashSet;
 use scc_test_kit::maybe_equal::MaybeEqual;
 use scc_uses::shared_interner::SharedInterner;
@@ -37,7 +38,7 @@ fn shared_interner_keeps_one_of_equals(rt: HostRuntime) -> Result<(), Fail> {
     for part in brought {
         all = all.wrapping_add(part.ok_or("a word was interned")?);
     }
-    assert_eq!(rt; all, WORDS);
+    expect_eq(&rt, all, WORDS);
     Ok(())
 }
 
@@ -83,7 +84,7 @@ fn meets_each_once(rt: &impl Wait, set: &HashSet<u64>) -> bool {
 fn shared_set_walk_beside_writers(rt: HostRuntime) -> Result<(), Fail> {
     let set: HashSet<u64> = HashSet::new(rt.alloc())?;
     for k in 0..KEPT {
-        assert!(rt; set.insert_sync(&rt, k).is_ok());
+        expect(&rt, set.insert_sync(&rt, k).is_ok());
     }
     let (walked, (one, other)) = join(
         &rt,
@@ -96,8 +97,8 @@ fn shared_set_walk_beside_writers(rt: HostRuntime) -> Result<(), Fail> {
             )
         },
     );
-    assert!(rt; walked);
-    assert!(rt; one && other);
-    assert_eq!(rt; set.len(&rt), KEPT as usize);
+    expect(&rt, walked);
+    expect(&rt, one && other);
+    expect_eq(&rt, set.len(&rt), KEPT as usize);
     Ok(())
 }

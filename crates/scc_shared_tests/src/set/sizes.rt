@@ -1,4 +1,5 @@
 // Reservations of a shared set, sets made of items, and comparisons.
+use crate::expect::{expect, expect_eq};
 use scc_shared_set::HashSet;
 use std::process::Abort;
 use std::test::Fail;
@@ -6,31 +7,31 @@ use std::test::Fail;
 #[test]
 fn shared_set_reserve_grows_and_gives_back(rt: HostRuntime) -> Result<(), Fail> {
     let set: HashSet<u64> = HashSet::with_capacity(rt.alloc(), 800)?;
-    assert_eq!(rt; set.capacity(&rt), 1024);
+    expect_eq(&rt, set.capacity(&rt), 1024);
     let reserve = set.reserve(&rt, 10_000).ok_or("so many can be reserved")?;
-    assert_eq!(rt; reserve.additional_capacity(), 10_000);
-    assert_eq!(rt; set.capacity(&rt), 16_384);
-    assert!(rt; set.reserve(&rt, usize::MAX).is_none());
-    assert!(rt; set.reserve(&rt, 0).is_none());
+    expect_eq(&rt, reserve.additional_capacity(), 10_000);
+    expect_eq(&rt, set.capacity(&rt), 16_384);
+    expect(&rt, set.reserve(&rt, usize::MAX).is_none());
+    expect(&rt, set.reserve(&rt, 0).is_none());
     for k in 0..16u64 {
-        assert!(rt; set.insert_sync(&rt, k).is_ok());
+        expect(&rt, set.insert_sync(&rt, k).is_ok());
     }
     drop(reserve);
-    assert_eq!(rt; set.capacity(&rt), 1024);
+    expect_eq(&rt, set.capacity(&rt), 1024);
     Ok(())
 }
 
 #[test]
 fn shared_set_reserve_without_array(rt: HostRuntime) -> Result<(), Fail> {
     let set: HashSet<u64> = HashSet::new(rt.alloc())?;
-    assert_eq!(rt; set.capacity(&rt), 0);
-    assert_eq!(rt; *set.capacity_range().start(), 0);
+    expect_eq(&rt, set.capacity(&rt), 0);
+    expect_eq(&rt, *set.capacity_range().start(), 0);
     let reserve = set.reserve(&rt, 1000).ok_or("so many can be reserved")?;
-    assert_eq!(rt; set.capacity(&rt), 0);
-    assert_eq!(rt; *set.capacity_range().start(), 1000);
-    assert_eq!(rt; *set.capacity_range().end(), 1 << 63);
-    assert!(rt; set.insert_sync(&rt, 1).is_ok());
-    assert_eq!(rt; set.capacity(&rt), 64);
+    expect_eq(&rt, set.capacity(&rt), 0);
+    expect_eq(&rt, *set.capacity_range().start(), 1000);
+    expect_eq(&rt, *set.capacity_range().end(), 1 << 63);
+    expect(&rt, set.insert_sync(&rt, 1).is_ok());
+    expect_eq(&rt, set.capacity(&rt), 64);
     drop(reserve);
     Ok(())
 }
@@ -40,11 +41,11 @@ fn shared_set_reserves_add_up(rt: HostRuntime) -> Result<(), Fail> {
     let set: HashSet<u64> = HashSet::new(rt.alloc())?;
     let first = set.reserve(&rt, 100).ok_or("so many can be reserved")?;
     let second = set.reserve(&rt, 200).ok_or("so many can be reserved")?;
-    assert_eq!(rt; *set.capacity_range().start(), 300);
+    expect_eq(&rt, *set.capacity_range().start(), 300);
     drop(first);
-    assert_eq!(rt; *set.capacity_range().start(), 200);
+    expect_eq(&rt, *set.capacity_range().start(), 200);
     drop(second);
-    assert_eq!(rt; *set.capacity_range().start(), 0);
+    expect_eq(&rt, *set.capacity_range().start(), 0);
     Ok(())
 }
 
@@ -52,11 +53,11 @@ fn shared_set_reserves_add_up(rt: HostRuntime) -> Result<(), Fail> {
 fn shared_set_try_from_iter_counts_once(rt: HostRuntime) -> Result<(), Fail> {
     let items = vec![in rt.alloc(); 1u64, 1, 2]?;
     let set: HashSet<u64> = HashSet::try_from_iter(&rt, rt.alloc(), items)?;
-    assert_eq!(rt; set.len(&rt), 2);
+    expect_eq(&rt, set.len(&rt), 2);
     let copy = set.try_clone(&rt)?;
-    assert!(rt; copy.eq_sync(&rt, &set));
-    assert!(rt; set.eq_sync(&rt, &set));
-    assert_eq!(rt; copy.remove_sync(&rt, &2), Some(2));
-    assert!(rt; !copy.eq_sync(&rt, &set));
+    expect(&rt, copy.eq_sync(&rt, &set));
+    expect(&rt, set.eq_sync(&rt, &set));
+    expect_eq(&rt, copy.remove_sync(&rt, &2), Some(2));
+    expect(&rt, !copy.eq_sync(&rt, &set));
     Ok(())
 }

@@ -33,6 +33,6 @@ returns-clause-offered c =
       | in-Vacant+in_ok-_entry-in-Vacant w ↦
           let at = rw c.self.view_is at w.in-Vacant.ensures.entry in
           let e = w.in_ok-_entry-in-Vacant in
-          let h : Offers (route_to c.args.self.now c.args.destination) c.args.self.now c.args.destination c.args.route e._entry.guard.now true = offer_first c.args.self.now c.args.destination c.args.route w.in-Vacant.free e._entry at e.ensures.inserted e.ensures.unique in
+          let h : Offers (route_to c.args.self.now c.args.destination) c.args.self.now c.args.destination c.args.route e._entry.guard.now true = offer_first c.args.self.now c.args.destination c.args.route w.in-Vacant.free e._entry at e.ensures.inserts.inserted e.ensures.inserts.unique in
           search rules
     ]

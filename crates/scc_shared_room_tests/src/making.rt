@@ -1,12 +1,12 @@
 // Constructors, clones and collections that are refused: nothing is made, and the next one is right.
-use crate::caches::Cache;
-use crate::fixtures::made;
-use crate::indexes::Index;
-use crate::insertions::{expect_added, expect_keys};
-use crate::kinds::{Kind, Makes, Way, What};
-use crate::maps::Map;
-use crate::sets::Set;
 use scc::{HashCache, HashIndex, HashMap, HashSet, MakeError};
+use scc_shared_memory_kit::amiss::{check_added, check_keys};
+use scc_shared_memory_kit::caches::Cache;
+use scc_shared_memory_kit::fixtures::made;
+use scc_shared_memory_kit::indexes::Index;
+use scc_shared_memory_kit::kinds::{Kind, Makes, Way, What};
+use scc_shared_memory_kit::maps::Map;
+use scc_shared_memory_kit::sets::Set;
 use scc_test_kit::refusals::Refusal;
 use std::io::Print;
 use std::process::Abort;
@@ -94,7 +94,7 @@ fn collected<C: Kind, R: AllocGlobal + Abort + Print + Wait>(
 fn expect_items<C: Kind + Drop, R: AllocGlobal + Abort + Print + Wait>(rt: &R) -> Result<(), Fail> {
     let mut refusal = Refusal::new();
     let shared = collected::<C, R>(rt, &mut refusal)?;
-    expect_keys(rt, &shared, Way::Insert, 3);
+    assert_eq!(rt; check_keys(rt, &shared, Way::Insert, 3), Ok(()));
     assert_eq!(rt; shared.sizes(rt).1, 64);
     Ok(())
 }
@@ -124,7 +124,7 @@ trait Copies: Kind {
     fn copy<R: Wait>(&self, rt: &R) -> Result<Self, MakeError>;
 
     // Says that a clone was refused.
-    fn meet_copy<R: Abort + Print>(rt: &R, refusal: &mut Refusal);
+    fn meet_copy<R: Print>(rt: &R, refusal: &mut Refusal);
 }
 
 impl Copies for Map {
@@ -132,7 +132,7 @@ impl Copies for Map {
         self.try_clone(rt)
     }
 
-    fn meet_copy<R: Abort + Print>(rt: &R, refusal: &mut Refusal) {
+    fn meet_copy<R: Print>(rt: &R, refusal: &mut Refusal) {
         refusal.meet(rt, "a clone of a shared map");
     }
 }
@@ -142,7 +142,7 @@ impl Copies for Set {
         self.try_clone(rt)
     }
 
-    fn meet_copy<R: Abort + Print>(rt: &R, refusal: &mut Refusal) {
+    fn meet_copy<R: Print>(rt: &R, refusal: &mut Refusal) {
         refusal.meet(rt, "a clone of a shared set");
     }
 }
@@ -152,7 +152,7 @@ impl Copies for Index {
         self.try_clone(rt)
     }
 
-    fn meet_copy<R: Abort + Print>(rt: &R, refusal: &mut Refusal) {
+    fn meet_copy<R: Print>(rt: &R, refusal: &mut Refusal) {
         refusal.meet(rt, "a clone of a shared index");
     }
 }
@@ -167,7 +167,7 @@ fn copied<C: Copies, R: Abort + Print + Wait>(
         Ok(copy) => Ok(copy),
         Err(MakeError) => {
             C::meet_copy(rt, refusal);
-            expect_keys(rt, shared, Way::Insert, 3);
+            assert_eq!(rt; check_keys(rt, shared, Way::Insert, 3), Ok(()));
             assert_eq!(rt; shared.sizes(rt).1, 64);
             Ok(shared.copy(rt)?)
         }
@@ -180,12 +180,15 @@ fn expect_clone<C: Copies + Drop, R: AllocGlobal + Abort + Print + Wait>(
     let mut refusal = Refusal::new();
     let shared = made::<C, R>(rt, &mut refusal, 64)?;
     for key in 0..3u64 {
-        expect_added(rt, &mut refusal, &shared, Way::Insert, key);
+        assert_eq!(rt;
+            check_added(rt, &mut refusal, &shared, Way::Insert, key),
+            Ok(())
+        );
     }
     let copy = copied(rt, &mut refusal, &shared)?;
     assert!(rt; shared.remove(rt, 2));
-    expect_keys(rt, &shared, Way::Insert, 2);
-    expect_keys(rt, &copy, Way::Insert, 3);
+    assert_eq!(rt; check_keys(rt, &shared, Way::Insert, 2), Ok(()));
+    assert_eq!(rt; check_keys(rt, &copy, Way::Insert, 3), Ok(()));
     assert_eq!(rt; copy.sizes(rt).1, 64);
     Ok(())
 }

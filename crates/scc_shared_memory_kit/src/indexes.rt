@@ -1,4 +1,4 @@
-// The index that threads share, as the tests call it.
+//! The index that threads share, as the tests call it.
 use crate::kinds::{Added, ITEMS, Kind, Makes, Way, What, entered, refused};
 use scc::MakeError;
 use scc::hash_index::{Entry, HashIndex};
@@ -6,10 +6,10 @@ use scc_test_kit::refusals::Refusal;
 use scc_test_kit::zero::Zero;
 use std::alloc::Global;
 use std::io::Print;
-use std::process::Abort;
 use std::sync::Wait;
 
-pub(crate) type Index = HashIndex<u64, u64, Zero>;
+/// The index in which all keys have the hash 0.
+pub type Index = HashIndex<u64, u64, Zero>;
 
 impl Makes for HashIndex<u64, u64> {
     fn make(alloc: Global, capacity: usize) -> Result<Self, MakeError> {
@@ -24,7 +24,7 @@ impl Makes for HashIndex<u64, u64> {
         (self.len(rt), self.capacity(rt))
     }
 
-    fn meet_making<R: Abort + Print>(rt: &R, refusal: &mut Refusal) {
+    fn meet_making<R: Print>(rt: &R, refusal: &mut Refusal) {
         refusal.meet(rt, "a constructor of a shared index");
     }
 }
@@ -42,13 +42,13 @@ impl Makes for Index {
         (self.len(rt), self.capacity(rt))
     }
 
-    fn meet_making<R: Abort + Print>(rt: &R, refusal: &mut Refusal) {
+    fn meet_making<R: Print>(rt: &R, refusal: &mut Refusal) {
         refusal.meet(rt, "a constructor of a shared index with a hasher");
     }
 }
 
 impl Kind for Index {
-    fn meet<R: Abort + Print>(rt: &R, refusal: &mut Refusal, what: What) {
+    fn meet<R: Print>(rt: &R, refusal: &mut Refusal, what: What) {
         match what {
             // An index of more than 32 keys makes too many requests for these tests.
             What::Insertion | What::Growth => refusal.meet(rt, "an insertion into a shared index"),

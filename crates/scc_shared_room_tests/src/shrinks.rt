@@ -1,10 +1,10 @@
 // Shrinks that are refused: what was to go is gone, the array stays, and the next call shrinks it.
-use crate::caches::Cache;
-use crate::fixtures::made;
-use crate::insertions::{expect_added, expect_between, expect_keys};
-use crate::kinds::{Kind, Way, What};
-use crate::maps::Map;
-use crate::sets::Set;
+use scc_shared_memory_kit::amiss::{check_added, check_between, check_keys};
+use scc_shared_memory_kit::caches::Cache;
+use scc_shared_memory_kit::fixtures::made;
+use scc_shared_memory_kit::kinds::{Kind, Way, What};
+use scc_shared_memory_kit::maps::Map;
+use scc_shared_memory_kit::sets::Set;
 use scc_test_kit::refusals::Refusal;
 use std::io::Print;
 use std::process::Abort;
@@ -57,11 +57,11 @@ fn doubled<C: Kind, R: AllocGlobal + Abort + Print + Wait>(
 ) -> Result<C, Fail> {
     let shared = made::<C, R>(rt, refusal, 64)?;
     for key in 0..33u64 {
-        expect_added(rt, refusal, &shared, Way::Insert, key);
+        assert_eq!(rt; check_added(rt, refusal, &shared, Way::Insert, key), Ok(()));
     }
     if shared.sizes(rt).1 == 64 {
         C::meet(rt, refusal, What::Growth);
-        expect_added(rt, refusal, &shared, Way::Insert, 33);
+        assert_eq!(rt; check_added(rt, refusal, &shared, Way::Insert, 33), Ok(()));
     }
     assert_eq!(rt; shared.sizes(rt).1, 128);
     Ok(shared)
@@ -94,11 +94,17 @@ fn expect_shrink_at_retain<C: Clears + Drop, R: AllocGlobal + Abort + Print + Wa
         33
     };
     shared.keep_below(rt, 4);
-    expect_between(rt, &shared, Way::Insert, C::first_kept(added), 4);
+    assert_eq!(rt;
+        check_between(rt, &shared, Way::Insert, C::first_kept(added), 4),
+        Ok(())
+    );
     if !expect_smaller(rt, &mut refusal, &shared) {
         shared.keep_below(rt, 4);
     }
-    expect_between(rt, &shared, Way::Insert, C::first_kept(added), 4);
+    assert_eq!(rt;
+        check_between(rt, &shared, Way::Insert, C::first_kept(added), 4),
+        Ok(())
+    );
     assert_eq!(rt; shared.sizes(rt).1, 64);
     Ok(())
 }
@@ -109,12 +115,15 @@ fn expect_shrink_at_clear<C: Clears + Drop, R: AllocGlobal + Abort + Print + Wai
     let mut refusal = Refusal::new();
     let shared = doubled::<C, R>(rt, &mut refusal)?;
     shared.clear(rt);
-    expect_keys(rt, &shared, Way::Insert, 0);
+    assert_eq!(rt; check_keys(rt, &shared, Way::Insert, 0), Ok(()));
     if !expect_smaller(rt, &mut refusal, &shared) {
         shared.clear(rt);
     }
     assert_eq!(rt; shared.sizes(rt), (0, 64));
-    expect_added(rt, &mut refusal, &shared, Way::Insert, 0);
+    assert_eq!(rt;
+        check_added(rt, &mut refusal, &shared, Way::Insert, 0),
+        Ok(())
+    );
     Ok(())
 }
 

@@ -1,4 +1,4 @@
-// The set that threads share, as the tests call it.
+//! The set that threads share, as the tests call it.
 use crate::kinds::{Added, KEYS, Kind, Makes, Way, What};
 use scc::hash_set::HashSet;
 use scc::{KeyError, MakeError};
@@ -6,10 +6,10 @@ use scc_test_kit::refusals::Refusal;
 use scc_test_kit::zero::Zero;
 use std::alloc::Global;
 use std::io::Print;
-use std::process::Abort;
 use std::sync::Wait;
 
-pub(crate) type Set = HashSet<u64, Zero>;
+/// The set in which all keys have the hash 0.
+pub type Set = HashSet<u64, Zero>;
 
 impl Makes for HashSet<u64> {
     fn make(alloc: Global, capacity: usize) -> Result<Self, MakeError> {
@@ -24,7 +24,7 @@ impl Makes for HashSet<u64> {
         (self.len(rt), self.capacity(rt))
     }
 
-    fn meet_making<R: Abort + Print>(rt: &R, refusal: &mut Refusal) {
+    fn meet_making<R: Print>(rt: &R, refusal: &mut Refusal) {
         refusal.meet(rt, "a constructor of a shared set");
     }
 }
@@ -42,7 +42,7 @@ impl Makes for Set {
         (self.len(rt), self.capacity(rt))
     }
 
-    fn meet_making<R: Abort + Print>(rt: &R, refusal: &mut Refusal) {
+    fn meet_making<R: Print>(rt: &R, refusal: &mut Refusal) {
         refusal.meet(rt, "a constructor of a shared set with a hasher");
     }
 }
@@ -56,7 +56,7 @@ fn refused_key(way: Way, error: KeyError<u64>) -> Added {
 }
 
 impl Kind for Set {
-    fn meet<R: Abort + Print>(rt: &R, refusal: &mut Refusal, what: What) {
+    fn meet<R: Print>(rt: &R, refusal: &mut Refusal, what: What) {
         match what {
             What::Insertion => refusal.meet(rt, "an insertion into a shared set"),
             What::Growth => refusal.meet(rt, "a growth of a shared set"),

@@ -1,12 +1,12 @@
 // Reservations whose growth is refused: they are given all the same, and a later one grows. What they leave when they
 // are given back may be refused its shrink: the array stays, and the next removal shrinks it.
-use crate::fixtures::made;
-use crate::indexes::Index;
-use crate::insertions::{expect_added, expect_keys};
-use crate::kinds::{Kind, Way, What};
-use crate::maps::Map;
-use crate::sets::Set;
 use scc::{hash_index, hash_map};
+use scc_shared_memory_kit::amiss::{check_added, check_keys};
+use scc_shared_memory_kit::fixtures::made;
+use scc_shared_memory_kit::indexes::Index;
+use scc_shared_memory_kit::kinds::{Added, Kind, Way, What};
+use scc_shared_memory_kit::maps::Map;
+use scc_shared_memory_kit::sets::Set;
 use scc_test_kit::refusals::Refusal;
 use scc_test_kit::zero::Zero;
 use std::io::Print;
@@ -27,7 +27,7 @@ trait Reserves: Copy {
     fn minimum(self) -> usize;
 
     // Says that the growth of a reservation was refused.
-    fn meet_growth<R: Abort + Print>(rt: &R, refusal: &mut Refusal);
+    fn meet_growth<R: Print>(rt: &R, refusal: &mut Refusal);
 }
 
 impl<'a> Reserves for &'a Map {
@@ -45,7 +45,7 @@ impl<'a> Reserves for &'a Map {
         *self.capacity_range().start()
     }
 
-    fn meet_growth<R: Abort + Print>(rt: &R, refusal: &mut Refusal) {
+    fn meet_growth<R: Print>(rt: &R, refusal: &mut Refusal) {
         refusal.meet(rt, "a growth at a reservation in a shared map");
     }
 }
@@ -65,7 +65,7 @@ impl<'a> Reserves for &'a Set {
         *self.capacity_range().start()
     }
 
-    fn meet_growth<R: Abort + Print>(rt: &R, refusal: &mut Refusal) {
+    fn meet_growth<R: Print>(rt: &R, refusal: &mut Refusal) {
         refusal.meet(rt, "a growth at a reservation in a shared set");
     }
 }
@@ -85,7 +85,7 @@ impl<'a> Reserves for &'a Index {
         *self.capacity_range().start()
     }
 
-    fn meet_growth<R: Abort + Print>(rt: &R, refusal: &mut Refusal) {
+    fn meet_growth<R: Print>(rt: &R, refusal: &mut Refusal) {
         refusal.meet(rt, "a growth at a reservation in a shared index");
     }
 }
@@ -115,7 +115,7 @@ fn expect_reservations<C: Kind, S: Reserves, R: Abort + Print + Wait>(
     by: S,
 ) {
     for key in 0..3u64 {
-        expect_added(rt, refusal, shared, Way::Insert, key);
+        assert_eq!(rt; check_added(rt, refusal, shared, Way::Insert, key), Ok(()));
     }
     let first = expect_reserved(rt, by, 64, 64);
     let once = shared.sizes(rt).1;
@@ -131,12 +131,12 @@ fn expect_reservations<C: Kind, S: Reserves, R: Abort + Print + Wait>(
     } else {
         assert_eq!(rt; twice, 256);
     }
-    expect_keys(rt, shared, Way::Insert, 3);
+    assert_eq!(rt; check_keys(rt, shared, Way::Insert, 3), Ok(()));
     drop(second);
     drop(first);
     assert_eq!(rt; by.minimum(), 64);
     assert!(rt; shared.remove(rt, 2));
-    expect_keys(rt, shared, Way::Insert, 2);
+    assert_eq!(rt; check_keys(rt, shared, Way::Insert, 2), Ok(()));
     let left = shared.sizes(rt).1;
     if left == twice {
         C::meet(rt, refusal, What::Shrink);
@@ -144,7 +144,7 @@ fn expect_reservations<C: Kind, S: Reserves, R: Abort + Print + Wait>(
         assert_eq!(rt; left, 64);
     }
     assert!(rt; shared.remove(rt, 1));
-    expect_keys(rt, shared, Way::Insert, 1);
+    assert_eq!(rt; check_keys(rt, shared, Way::Insert, 1), Ok(()));
     assert_eq!(rt; shared.sizes(rt).1, 64);
 }
 
@@ -182,19 +182,16 @@ fn expect_no_array<C: Kind, S: Reserves, R: Abort + Print + Wait>(
     way: Way,
 ) {
     let token = expect_reserved(rt, by, GREATEST, 0);
-    assert_eq!(rt;
-        shared.add(rt, way, 0),
-        crate::kinds::Added::Refused(0, way.value(0))
-    );
-    expect_keys(rt, shared, way, 0);
+    assert_eq!(rt; shared.add(rt, way, 0), Added::Refused(0, way.value(0)));
+    assert_eq!(rt; check_keys(rt, shared, way, 0), Ok(()));
     assert_eq!(rt; shared.sizes(rt), (0, 0));
     drop(token);
-    expect_added(rt, refusal, shared, way, 0);
+    assert_eq!(rt; check_added(rt, refusal, shared, way, 0), Ok(()));
     assert_eq!(rt; shared.sizes(rt), (1, 64));
     let again = expect_reserved(rt, by, GREATEST, 0);
     assert_eq!(rt; shared.sizes(rt), (1, 64));
     drop(again);
-    expect_added(rt, refusal, shared, way, 1);
+    assert_eq!(rt; check_added(rt, refusal, shared, way, 1), Ok(()));
 }
 
 #[test]
@@ -239,7 +236,7 @@ fn expect_overflow<C: Kind, S: Reserves, R: Abort + Print + Wait>(
     };
     let kept = shared.sizes(rt).1;
     for key in 0..34u64 {
-        expect_added(rt, refusal, shared, way, key);
+        assert_eq!(rt; check_added(rt, refusal, shared, way, key), Ok(()));
     }
     assert_eq!(rt; shared.sizes(rt).1, kept);
     drop(second);
