@@ -1,5 +1,5 @@
 -- Two runs of the same calls, where alike states give alike replies.
-use Rattle.std.proofs.Common.{◌≡◌, ◌∙◌, ℕ, Bool, true, false, List, [], ◌∷◌, length, Option, None, Some, refl, sym, ap, subst, arith, inl, inr}
+use Rattle.std.proofs.Common.{◌≡◌, ◌∙◌, ℕ, Bool, true, List, [], ◌∷◌, length, Option, None, Some, refl, sym, subst, arith, inl, inr}
 use Rattle.std.specs.Cmp.{IsEquivalence, IsPartialEquivalence}
 use Rattle.scc_calls.specs.Copies.{Alike}
 use Rattle.scc_calls.specs.Run.{IsRun, done, resize, answer}

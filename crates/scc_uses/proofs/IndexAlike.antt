@@ -1,8 +1,7 @@
 -- What a call of an index answers and leaves, up to equality of keys and values: equal calls where look-ups find alike values answer alike, and leave alike values.
-use Rattle.std.proofs.Common.{◌≡◌, ◌∙◌, ℕ, Bool, true, cond, List, length, Option, None, Some, refl, sym, ap, subst, inl, inr}
+use Rattle.std.proofs.Common.{◌≡◌, ◌∙◌, ℕ, Bool, true, List, length, Option, None, Some, refl, sym, subst, inl, inr}
 use Rattle.std.specs.Cmp.{IsEquivalence, IsPartialEquivalence}
-use Rattle.std.specs.Map.{keys_of, lookup}
-use Rattle.std.specs.Option.{is_some}
+use Rattle.std.specs.Map.{lookup}
 use Rattle.scc_buckets.proofs.Lookups.{distinct-IsPermutation}
 use Rattle.scc_calls.specs.Copies.{Alike, Means}
 use Rattle.scc_calls.specs.IndexCalls.{IndexMoves}
@@ -14,7 +13,7 @@ use Rattle.scc_calls.specs.declared.calls_as_values.IndexCall.TheVariants.{Inser
 use Rattle.scc_calls.specs.declared.replies.Reply.{Reply}
 use Rattle.scc_uses.specs.Alikeness.{Both, FindsAlike, RepliesAlike}
 use Rattle.scc_uses.specs.AlikeIndexes.{IndexCallsAlike}
-use Rattle.scc_uses.proofs.AlikeRuns.{Agrees, runs-alike, alike-symm, alike-trans, equal-symm, equal-trans, replies-given, replies-refl, replies-symm, replies-trans}
+use Rattle.scc_uses.proofs.AlikeRuns.{Agrees, runs-alike, alike-symm, alike-trans, equal-symm, equal-trans, replies-given, replies-symm, replies-trans}
 use Rattle.scc_uses.proofs.IndexIndependence.{answered, keeps-distinct, left, rearranged-values, settled, there}
 use Rattle.scc_uses.proofs.MapAlike.{AreAlike, as-many-there, both-cond, both-there, there-alike}
 

@@ -3,15 +3,15 @@ use Rattle.std.proofs.Common.{◌≡◌, ◌∙◌, ℕ, Bool, true, false, cond
 use Rattle.std.specs.Cmp.{IsEquivalence, IsPartialEquivalence}
 use Rattle.std.specs.List.{IsDistinct, remove}
 use Rattle.std.specs.List.Sorted.{IsPermutation}
-use Rattle.std.specs.Map.{keys_of, lookup, lookup_entry}
+use Rattle.std.specs.Map.{keys_of, lookup}
 use Rattle.std.specs.Option.{is_some, option_map}
 use Rattle.std.proofs.lemmas.List.Edits.{length-remove}
 use Rattle.std.proofs.lemmas.List.Sorted.{IsPermutation-sym}
 use Rattle.std.proofs.lemmas.Map.{lookup-set_value}
 use Rattle.std.proofs.lemmas.Map.Keys.{IsDistinct-tail}
 use Rattle.scc_contents.specs.Pairs.{find, without}
-use Rattle.scc_buckets.proofs.Lookups.{place-of_find, find-without, finds-added, distinct-IsPermutation}
-use Rattle.scc_buckets.proofs.PairSplits.{by_answer, cond-true, cond-false, found-place, without-at, distinct-without, place-below}
+use Rattle.scc_buckets.proofs.Lookups.{place-of_find, finds-added, distinct-IsPermutation}
+use Rattle.scc_buckets.proofs.PairSplits.{cond-true, found-place, without-at, distinct-without, place-below}
 use Rattle.scc_calls.specs.Copies.{Alike, Means}
 use Rattle.scc_calls.specs.MapCalls.{MapMoves, map_key}
 use Rattle.scc_calls.specs.Run.{IsRun}
@@ -23,7 +23,7 @@ use Rattle.scc_calls.specs.declared.replies.Reply.{Reply}
 use Rattle.scc_calls.specs.declared.replies.Reply.TheVariants.{Inserted, Exists, Old, Key, Pair, Value, Has, Cleared, Count}
 use Rattle.scc_calls.proofs.MapIndependence.{moves-distinct}
 use Rattle.scc_uses.specs.Alikeness.{Both, FindsAlike, MapCallsAlike, RepliesAlike}
-use Rattle.scc_uses.proofs.AlikeRuns.{Agrees, runs-alike, both-refl, both-symm, both-trans, both-same, alike-symm, alike-trans, equal-symm, equal-trans, replies-given, replies-symm, replies-trans}
+use Rattle.scc_uses.proofs.AlikeRuns.{Agrees, runs-alike, both-same, alike-symm, alike-trans, equal-symm, equal-trans, replies-given, replies-symm, replies-trans}
 use Rattle.scc_uses.proofs.IndexIndependence.{some-of, is_some-map, value, found-value, found-some, instead, others, tail-value, rearranged-values, value-set_key, kept, value-if}
 
 -- both are there or neither

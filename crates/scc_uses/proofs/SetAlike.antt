@@ -1,11 +1,9 @@
 -- What a call of a set answers and leaves, up to equality of keys: equal calls on sets that have equal keys answer alike, and leave equal keys.
-use Rattle.std.proofs.Common.{◌≡◌, ◌∙◌, ℕ, Bool, true, false, cond, List, [], ◌∷◌, length, suc, Option, None, Some, refl, sym, ap, subst, inl, inr}
+use Rattle.std.proofs.Common.{◌≡◌, ◌∙◌, Bool, true, false, cond, List, [], ◌∷◌, length, suc, Option, None, Some, refl, sym, ap, subst, inl, inr}
 use Rattle.std.specs.Cmp.{IsEquivalence, IsPartialEquivalence}
 use Rattle.std.specs.List.{IsDistinct}
-use Rattle.std.specs.List.Sorted.{IsPermutation}
 use Rattle.std.specs.Map.{lookup, lookup_entry}
-use Rattle.std.specs.Option.{is_some, option_map}
-use Rattle.std.proofs.lemmas.List.Sorted.{IsPermutation-sym}
+use Rattle.std.specs.Option.{is_some}
 use Rattle.std.proofs.lemmas.Map.Keys.{IsDistinct-IsPermutation}
 use Rattle.scc_map.specs.Sinks.{with_units}
 use Rattle.scc_set.specs.Keys.{find, without}
@@ -21,7 +19,7 @@ use Rattle.scc_calls.specs.declared.replies.Reply.{Reply}
 use Rattle.scc_uses.specs.Alikeness.{Both, HaveEqual, RepliesAlike}
 use Rattle.scc_uses.specs.AlikeSets.{SetCallsAlike}
 use Rattle.scc_uses.proofs.AlikeRuns.{Agrees, runs-alike, replies-given, replies-symm, replies-trans}
-use Rattle.scc_uses.proofs.IndexIndependence.{is_some-map, value, found-value}
+use Rattle.scc_uses.proofs.IndexIndependence.{is_some-map, found-value}
 use Rattle.scc_uses.proofs.KeyLemmas.{paired, find-alike, find-rearranged, find-units, units-distinct, without-units}
 use Rattle.scc_uses.proofs.MapAlike.{as-many-there, both-there}
 use Rattle.scc_uses.proofs.SetIndependence.{answered, found-equal, left, left-distinct, moves-distinct, settled, there}

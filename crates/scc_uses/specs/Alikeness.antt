@@ -1,5 +1,5 @@
 -- What two containers have in common that were given the same calls, over keys and values of which equal ones need not be the same.
-use Rattle.std.specs.Prelude.{◌≡◌, ℕ, Bool, true, List, [], ◌∷◌, Option, None, Some, is_some}
+use Rattle.std.specs.Prelude.{◌≡◌, Bool, true, List, [], ◌∷◌, Option, None, Some, is_some}
 use Rattle.std.specs.Map.{lookup}
 use Rattle.scc_set.specs.Keys.{find}
 use Rattle.scc_calls.specs.Copies.{Alike, AreSame}

@@ -1,5 +1,5 @@
 -- What the same calls on two containers of one kind do, each under a hasher and sizes of its own.
-use Rattle.std.specs.Prelude.{◌≡◌, ℕ, ◌+◌, ◌++◌, ◌⊎◌, Bool, List, Result, length}
+use Rattle.std.specs.Prelude.{◌≡◌, ◌+◌, ◌++◌, ◌⊎◌, Bool, List, Result, length}
 use Rattle.std.specs.Result.{OnOk, OnErr}
 use Rattle.scc_contents.specs.Contents.{Contents, entries}
 use Rattle.scc_calls.specs.Copies.{Means}

@@ -8,35 +8,33 @@ use Rattle.scc_uses.proofs.mirror.run_on_both.Goals as goal
 pub prove-unreachable-requires : goal.prove-unreachable-requires
 prove-unreachable-requires g c = c.if-prove.true (c.len.ensures.len ∙ sym (as-many-there g.met.K.Eq.laws _ _ c.len.ensures.unique c.len-2.ensures.unique (λ q. both-there _ _ _ (c.requires.alike q))) ∙ sym c.len-2.ensures.len)
 
-pub returns-clause : goal.returns-clause
-returns-clause g c =
+pub returns : goal.returns
+returns g c =
     let own = setting_of c.args.first.now in
     let other = setting_of c.args.second.now in
-    let start = record { first = c.len.ensures.unique; second = c.len-2.ensures.unique; finds = c.requires.alike } in
-    both-answered _ tt
+    both-answered _ _ _ _ _ _ _ _ _ _ _ _ tt
     (record {
       along = λ made others a b.
-          let q = map-runs-alike g.met.K.Eq.laws g.met.V.PartialEq.laws own other _ c.equal_map_calls.ensures _ c.equal_replies.ensures start a b in
+          let q = map-runs-alike g.met.K.Eq.laws g.met.V.PartialEq.laws own other _ c.equal_map_calls.ensures _ c.equal_replies.ensures (record { first = c.len.ensures.unique; second = c.len-2.ensures.unique; finds = c.requires.alike }) a b in
           (q.0, λ l. let ends = q.1 l in (ends.finds, as-many-there g.met.K.Eq.laws _ _ ends.first ends.second (λ k. both-there _ _ _ (ends.finds k))));
       all_same = λ z made others a b. map-runs-same g.met.K.Eq.laws own other c.len.ensures.unique z a b;
       first_same = λ z made others a b. map-runs-first g.met.K.Eq.laws own other c.len.ensures.unique z a b;
     })
     c.run.ensures.run c.run-2.ensures.run c.in_ok-run.ensures.all c.in_ok-run-2.ensures.all
 
-pub returns-in_err-run-2-clause : goal.returns-in_err-run-2-clause
-returns-in_err-run-2-clause g c =
+pub returns-in_err-run-2 : goal.returns-in_err-run-2
+returns-in_err-run-2 g c =
     let own = setting_of c.args.first.now in
     let other = setting_of c.args.second.now in
-    let start = record { first = c.len.ensures.unique; second = c.len-2.ensures.unique; finds = c.requires.alike } in
-    second-stopped c.from_residual-in_err-run-2.result (search rules)
+    second-stopped _ _ _ _ _ _ _ _ _ _ _ c.from_residual-in_err-run-2.result (search rules)
     (record {
       along = λ made others a b.
-          let q = map-runs-alike g.met.K.Eq.laws g.met.V.PartialEq.laws own other _ c.equal_map_calls.ensures _ c.equal_replies.ensures start a b in
+          let q = map-runs-alike g.met.K.Eq.laws g.met.V.PartialEq.laws own other _ c.equal_map_calls.ensures _ c.equal_replies.ensures (record { first = c.len.ensures.unique; second = c.len-2.ensures.unique; finds = c.requires.alike }) a b in
           (q.0, λ l. let ends = q.1 l in (ends.finds, as-many-there g.met.K.Eq.laws _ _ ends.first ends.second (λ k. both-there _ _ _ (ends.finds k))));
       all_same = λ z made others a b. map-runs-same g.met.K.Eq.laws own other c.len.ensures.unique z a b;
       first_same = λ z made others a b. map-runs-first g.met.K.Eq.laws own other c.len.ensures.unique z a b;
     })
     c.run.ensures.run c.run-2.ensures.run c.in_ok-run.ensures.all
 
-pub returns-in_err-run-clause : goal.returns-in_err-run-clause
-returns-in_err-run-clause g c = first-stopped c.from_residual.result (search rules) c.run.ensures.run refl
+pub returns-in_err-run : goal.returns-in_err-run
+returns-in_err-run g c = first-stopped _ _ _ _ _ _ _ _ _ _ _ c.from_residual.result (search rules) c.run.ensures.run refl

@@ -1,4 +1,4 @@
-use Rattle.std.proofs.Common.{◌≡◌, ◌+◌, length, refl, arith, ap, ◌∙◌, length-append}
+use Rattle.std.proofs.Common.{length, refl, ap, ◌∙◌, length-append}
 use Rattle.scc_uses.proofs.AuditLemmas.{when_ok}
 use Rattle.scc_uses.proofs.named_sessions.renew.Goals as goal
 
