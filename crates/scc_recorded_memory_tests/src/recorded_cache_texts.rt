@@ -92,12 +92,24 @@ fn expect_put<L: Ledger, M: Site<Shared<Zero>>, R: AllocGlobal + Abort + Print +
             }
             expect_eq(rt, (pass.clock(), pass.receipts().len()), (clock, before));
             expect_kept(rt, recorded, pass, key);
-            let again = put_of(rt, refusal, key)?;
-            match recorded.call(rt, pass, again) {
-                Ok(reply) => expect(rt, is_answer(key, &reply)),
-                Err(_cause) => assert!(rt; false, "a recorded put is refused again"),
-            }
+            put_again(rt, refusal, recorded, pass, key)?;
         }
+    }
+    Ok(())
+}
+
+// Makes the put of the key once more, which isn't refused.
+fn put_again<L: Ledger, M: Site<Shared<Zero>>, R: AllocGlobal + Abort + Print + Wait>(
+    rt: &R,
+    refusal: &mut Refusal,
+    recorded: &Recorded<Names, L, M>,
+    pass: &mut Pass<Names, L>,
+    key: u64,
+) -> Result<(), Fail> {
+    let call = put_of(rt, refusal, key)?;
+    match recorded.call(rt, pass, call) {
+        Ok(reply) => expect(rt, is_answer(key, &reply)),
+        Err(_cause) => assert!(rt; false, "a recorded put is refused again"),
     }
     Ok(())
 }
