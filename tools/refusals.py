@@ -8,7 +8,8 @@ Answers.antt stands at an answer to that goal, and doesn't complain of a name al
                       unreachable-requires that a place is never reached
     loop-.., ..-init  the invariant of a loop, which is in the function's Invariants.antt; decreases-.. that it ends
     overflow_..       arithmetic that fits its type
-Which of several calls of one callee a goal is about can't be told from the name.
+Which of several calls of one callee a goal is about can't be told from the name. A wrong body that breaks what a callee
+requires or the invariant of its own loop, and no more, is refused by that: what the function ensures then rests on it.
 """
 import os
 import re
@@ -62,10 +63,13 @@ def from_where(goals, function):
     loops = [goal for goal in goals if re.search(r"^loop-|-init$|-preserved|^decreases", goal) and goal not in calls]
     sums = [goal for goal in goals if goal.startswith("overflow_")]
     own = [goal for goal in goals if goal not in calls + loops + sums]
-    said = [f"{', '.join(own)} of {function.split('::')[-1]}"] if own else []
-    said += [f"not at the call of {goal.split('-')[0]}: {goal}" for goal in calls]
-    said += [f"not by the invariant of its loop: {goal}" for goal in loops]
-    said += [f"not within its type: {goal}" for goal in sums]
+    kinds = [
+        (own, f"{', '.join(own)} of {function.split('::')[-1]}"),
+        (calls, f"what a call requires: {', '.join(calls)}"),
+        (loops, f"the invariant of its loop: {', '.join(loops)}"),
+        (sums, f"arithmetic within its type: {', '.join(sums)}"),
+    ]
+    said = [text for found, text in kinds if found]
     return "; ".join(said)
 
 
