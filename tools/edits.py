@@ -74,7 +74,7 @@ def with_all_below(crates, names):
 
 
 def read_edit(folder, crate, name):
-    with open(os.path.join(folder, crate, name), encoding="utf-8") as file:
+    with open(os.path.join(folder, crate, name), encoding="utf-8", errors="replace") as file:
         return Edit(crate, name[: -len(ENDING)], file.read().split("\n"))
 
 
