@@ -1,6 +1,6 @@
 //! Tests of recorded containers, of scripts of several workers and of indexes of many keys, which make more requests
-//! for memory than others: each holds whichever request is refused, one request in a run, as `rt try --test
-//! --fail-alloc N` refuses the Nth of each test.
+//! for memory than others: each holds whichever request is refused, one request in a run, as `tools/refuse_memory`
+//! refuses the first of each test, then the second, and so on.
 #![tactic(auto)]
 
 #[cfg(test)]

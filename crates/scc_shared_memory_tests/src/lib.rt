@@ -1,5 +1,5 @@
 //! Tests of containers that threads share, and of workers, which hold whichever request for memory is refused, one
-//! request in a run: `rt try --test --fail-alloc N` refuses the Nth of each test.
+//! request in a run: `tools/refuse_memory` refuses the first of each test, then the second, and so on.
 #![tactic(auto)]
 
 #[cfg(test)]
