@@ -8,9 +8,12 @@ An edit is a file slips/CRATE/NAME.edit with these lines; others say nothing:
     new: TEXT         the text in its place
 """
 import os
+import sys
 from typing import List, NamedTuple, Tuple
 
-TOP = os.path.dirname(os.path.dirname(os.path.realpath(__file__)))
+sys.dont_write_bytecode = True
+from repository import TOP, listed, uses
+
 ENDING = ".edit"
 
 
@@ -50,15 +53,10 @@ class Edit(NamedTuple):
         return found
 
 
-def crates_of(root):
-    """The crates of a repository in the order of crates.txt, each with the crates below it."""
-    found = {}
-    with open(os.path.join(root, "crates.txt"), encoding="utf-8") as file:
-        for line in file:
-            name, colon, below = line.partition("#")[0].partition(":")
-            if colon:
-                found[name.split()[0]] = below.split()
-    return {name: [one for one in below if one in found] for name, below in found.items()}
+def crates_of_here():
+    """The crates of the repository in the order of crates.txt, each with the crates below it."""
+    lines = listed()
+    return {name: [one for one in uses(line) if one in lines] for name, line in lines.items()}
 
 
 def with_all_below(crates, names):
