@@ -2,8 +2,8 @@
 
 A goal of the function refuses an edit where search leaves it open ("`search` did not prove ..", "it is not proved that .."),
 or where its answer in the function's Answers.antt is refused, for more than a name that the edit took away. Where an
-answer or an invariant of the function names what is gone, a goal that is left open doesn't count: it may be one whose
-answer now has another name. An answer that is refused shows that it proves no longer what it proved; that no other
+answer or an invariant of the function names what is gone, a goal that is left open counts only if no answer of its
+kind is lost: else it may be one whose answer now has another name. An answer that is refused shows that it proves no longer what it proved; that no other
 answer would, a reader has to see. A goal's name says where it comes from:
     returns..         what the function ensures; returns-..-clause-step is its clause step
     invariant_of-..   the invariant of a type, which what the function leaves has to meet
@@ -72,13 +72,23 @@ def is_alone(said, function):
 
 
 def lost_names(said, function):
-    """The first complaint that a proof of the function names what isn't there."""
+    """The complaints that a proof of the function names what isn't there, each with the kind of the goal that it answers."""
     folder = os.path.dirname(answers_of(function)) + os.sep
-    for line in said.split("\n"):
-        error = ERROR.match(line)
-        if error and error[1].startswith(folder) and NAME_IS_GONE.search(error[3]):
-            return line[:LINE_LENGTH]
-    return ""
+    found = [(ERROR.match(line), line[:LINE_LENGTH]) for line in said.split("\n")]
+    return [(kind_of(error[2] or ""), line) for error, line in found if error and error[1].startswith(folder) and NAME_IS_GONE.search(error[3])]
+
+
+def kind_of(goal):
+    """The kind of a goal: what the function ensures, an invariant, what calls require; of others nothing is told apart."""
+    if "-requires" in goal:
+        return "requires"
+    return next((kind for kind in ("returns", "invariant_of") if goal.startswith(kind)), "")
+
+
+def is_answered_nowhere(goal, lost):
+    """Whether the answer of an open goal can't be among those that are lost."""
+    kinds = {kind for kind, _ in lost}
+    return "" not in kinds and kind_of(goal) not in kinds | {""}
 
 
 def from_where(goals, function):
@@ -108,11 +118,11 @@ def verdict_of(said, status, function, answers):
         return Verdict(BAD, unread[0][:LINE_LENGTH])
     lost = lost_names(said, function)
     unanswered = goals_without_answer(said, function)
-    goals = refused_answers(said, function, answers) + ([] if lost else unanswered)
+    goals = refused_answers(said, function, answers) + [goal for goal in unanswered if not lost or is_answered_nowhere(goal, lost)]
     if goals:
         return Verdict(REFUSED, from_where(list(dict.fromkeys(goals)), function))
     if lost:
-        return Verdict(NAME_ALONE, f"{lost}{'; open, but maybe for want of an answer: ' if unanswered else ''}{', '.join(dict.fromkeys(unanswered))}")
+        return Verdict(NAME_ALONE, f"{lost[0][1]}{'; open, but maybe for want of an answer: ' if unanswered else ''}{', '.join(dict.fromkeys(unanswered))}")
     line = re.search(rf"^fn {re.escape(function)}: (.*)$", said, re.MULTILINE)
     if status == 3:
         return Verdict(NOT_REFUSED, "by a goal, since the check could not tell")
