@@ -3,8 +3,8 @@
 A goal of the function refuses an edit where search leaves it open ("`search` did not prove ..", "it is not proved that .."),
 or where its answer in the function's Answers.antt is refused, for more than a name that the edit took away. Where an
 answer or an invariant of the function names what is gone, a goal that is left open counts only if no answer of its
-kind is lost: else it may be one whose answer now has another name. An answer that is refused shows that it proves no longer what it proved; that no other
-answer would, a reader has to see. A goal's name says where it comes from:
+kind is lost: else it may be one whose answer now has another name. An answer that is refused shows that it proves no
+longer what it proved; that no other answer would, a reader has to see. A goal's name says where it comes from:
     returns..         what the function ensures; returns-..-clause-step is its clause step
     invariant_of-..   the invariant of a type, which what the function leaves has to meet
     put-requires..    what put requires, where the function calls it; index-requires is an index within its list,
