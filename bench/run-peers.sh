@@ -1,5 +1,5 @@
 #!/bin/sh
-# run-peers.sh: builds the Rust peers outside the repository, runs them and scc_bench in turn, and prints one table.
+# run-peers.sh: builds the Rust peers outside the repository, runs them and bench_owned in turn, and prints one table.
 # It installs nothing: it names what is missing and goes on without it. README.md tells the rest.
 #
 #   BENCH_BUILD    folder for what is built and measured (default: hash-peers in the user's cache folder)
@@ -25,11 +25,11 @@ say() { echo "$*" >&2; }
 
 commands=$build/commands
 : > "$commands"
-ours=$here/../crates/scc_bench/out/scc_bench
+ours=$here/../crates/bench_owned/out/bench_owned
 if [ -x "$ours" ]; then
     echo "$ours" >> "$commands"
 else
-    say "missing: $ours (rt run in crates/scc_bench makes it)"
+    say "missing: $ours (rt run in crates/bench_owned makes it)"
 fi
 if ! command -v rustc > /dev/null 2>&1; then
     say "missing: rustc (needed for the Rust peers)"

@@ -4,10 +4,10 @@ use scc::hash_cache::owned::ReplaceResult;
 use scc::hash_cache::{DEFAULT_MAXIMUM_CAPACITY, Owned};
 use scc::{InsertError, Verdict};
 use scc_script::same::Same;
-use scc_test_kit::maybe_equal::MaybeEqual;
-use scc_test_kit::zero::Zero;
 use std::process::Abort;
 use std::test::Fail;
+use test_kit::maybe_equal::MaybeEqual;
+use test_kit::zero::Zero;
 
 // A cache of one bucket in use, with the keys from 0 to 31.
 fn full<R: AllocGlobal>(rt: &R, maximum: usize) -> Result<Owned<u64, u64, Zero>, Fail> {

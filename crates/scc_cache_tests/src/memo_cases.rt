@@ -5,9 +5,9 @@ ghost use Rattle.std.proofs.lemmas.Bool.{eqb-true};
 
 use crate::expect::{expect, expect_eq};
 use scc_memo::{Memo, Pure};
-use scc_test_kit::zero::Zero;
 use std::process::Abort;
 use std::test::Fail;
+use test_kit::zero::Zero;
 
 // The square of a number.
 #[derive(Drop)]

@@ -2,12 +2,12 @@
 use crate::expect::expect;
 use scc::hash_cache::Owned;
 use scc_script::same::Same;
-use scc_test_kit::alike::Alike;
-use scc_test_kit::random_cache_calls::agrees_with_lists;
-use scc_test_kit::zero::Zero;
 use std::hash::{BuildHasherDefault, FoldHasher};
 use std::process::Abort;
 use std::test::Fail;
+use test_kit::alike::Alike;
+use test_kit::random_cache_calls::agrees_with_lists;
+use test_kit::zero::Zero;
 
 #[test]
 fn cache_random_calls_in_one_bucket(rt: HostRuntime) -> Result<(), Fail> {

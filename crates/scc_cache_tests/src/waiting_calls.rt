@@ -2,10 +2,10 @@
 use crate::expect::expect_eq;
 use scc::hash_cache::Owned;
 use scc_script::same::Same;
-use scc_test_kit::waiting_calls::{Tally, run_waiting};
 use std::hash::{BuildHasherDefault, FoldHasher};
 use std::process::Abort;
 use std::test::Fail;
+use test_kit::waiting_calls::{Tally, run_waiting};
 
 // All answers were right, and most calls were made while buckets waited.
 fn expect_tally<R: Abort>(rt: &R, tally: Tally) {

@@ -2,9 +2,9 @@
 use crate::expect::expect_eq;
 use scc::hash_map::Owned;
 use scc::hash_map::owned::Entry;
-use scc_test_kit::zero::Zero;
 use std::process::Abort;
 use std::test::Fail;
+use test_kit::zero::Zero;
 
 #[test]
 fn map_entries_insert_what_is_asked_for(rt: HostRuntime) -> Result<(), Fail> {

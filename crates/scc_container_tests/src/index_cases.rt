@@ -5,11 +5,11 @@ use scc::hash_index::owned::{Entry, Iter};
 use scc::recorded::{Calls, IndexCall, Reply, run};
 use scc::{InsertError, MakeError};
 use scc_script::same::Same;
-use scc_test_kit::maybe_equal::MaybeEqual;
-use scc_test_kit::zero::Zero;
 use std::hash::BuildHasher;
 use std::process::Abort;
 use std::test::Fail;
+use test_kit::maybe_equal::MaybeEqual;
+use test_kit::zero::Zero;
 
 #[test]
 fn index_try_from_iter_first_wins(rt: HostRuntime) -> Result<(), Fail> {

@@ -4,11 +4,11 @@ use scc::hash_map::Owned;
 use scc::hash_map::owned::ReplaceResult;
 use scc::{InsertError, MakeError};
 use scc_script::same::Same;
-use scc_test_kit::maybe_equal::MaybeEqual;
-use scc_test_kit::zero::Zero;
 use std::hash::{BuildHasher, RandomState};
 use std::process::Abort;
 use std::test::Fail;
+use test_kit::maybe_equal::MaybeEqual;
+use test_kit::zero::Zero;
 
 #[test]
 fn map_has_room_until_its_bucket_is_full(rt: HostRuntime) -> Result<(), Fail> {

@@ -2,11 +2,11 @@
 use crate::expect::expect;
 use scc::hash_map::Owned;
 use scc_script::same::Same;
-use scc_test_kit::random_calls::{agrees_with, agrees_with_a_list};
-use scc_test_kit::zero::Zero;
 use std::hash::{BuildHasherDefault, FoldHasher};
 use std::process::Abort;
 use std::test::Fail;
+use test_kit::random_calls::{agrees_with, agrees_with_a_list};
+use test_kit::zero::Zero;
 
 #[test]
 fn map_random_calls_under_a_good_hasher(rt: HostRuntime) -> Result<(), Fail> {

@@ -2,10 +2,10 @@
 use crate::expect::{expect, expect_eq};
 use scc::hash_map::Owned;
 use scc_script::same::Same;
-use scc_test_kit::zero::Zero;
 use std::hash::BuildHasher;
 use std::process::Abort;
 use std::test::Fail;
+use test_kit::zero::Zero;
 
 const HALF: u64 = 9_223_372_036_854_775_808;
 

@@ -4,8 +4,8 @@ use crate::expect::expect_eq;
 use scc::hash_index::Owned as OwnedIndex;
 use scc::hash_map::Owned as OwnedMap;
 use scc::hash_set::Owned as OwnedSet;
-use scc_test_kit::zero::Zero;
 use std::test::Fail;
+use test_kit::zero::Zero;
 
 #[test]
 fn map_room_is_made_before_an_insertion(rt: HostRuntime) -> Result<(), Fail> {

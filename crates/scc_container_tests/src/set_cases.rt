@@ -3,10 +3,10 @@ use crate::expect::{expect, expect_eq};
 use scc::hash_set::Owned;
 use scc::recorded::{Calls, Reply, SetCall, run};
 use scc::{KeyError, Verdict};
-use scc_test_kit::maybe_equal::MaybeEqual;
-use scc_test_kit::zero::Zero;
 use std::hash::RandomState;
 use std::test::Fail;
+use test_kit::maybe_equal::MaybeEqual;
+use test_kit::zero::Zero;
 
 #[test]
 fn set_replace_inserts_then_swaps(rt: HostRuntime) -> Result<(), Fail> {

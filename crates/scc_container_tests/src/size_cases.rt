@@ -2,9 +2,9 @@
 use crate::expect::{expect, expect_eq};
 use scc::hash_map::Owned;
 use scc_script::same::Same;
-use scc_test_kit::zero::Zero;
 use std::process::Abort;
 use std::test::Fail;
+use test_kit::zero::Zero;
 
 const GREATEST: usize = 9_223_372_036_854_775_808;
 

@@ -3,13 +3,13 @@ use crate::expect::{expect, expect_eq};
 use scc::recorded::{MapCall, Reply, run};
 use scc::{hash_index, hash_map, hash_set};
 use scc_script::same::Same;
-use scc_test_kit::forgetful::Forgetful;
-use scc_test_kit::numbers::next;
-use scc_test_kit::waiting_calls::{Tally, run_waiting};
 use std::alloc::{AllocError, Global};
 use std::hash::{BuildHasherDefault, FoldHasher};
 use std::process::Abort;
 use std::test::Fail;
+use test_kit::forgetful::Forgetful;
+use test_kit::numbers::next;
+use test_kit::waiting_calls::{Tally, run_waiting};
 
 // All answers were right, and most calls were made while buckets waited.
 fn expect_tally<R: Abort>(rt: &R, tally: Tally) {

@@ -2,9 +2,9 @@
 use crate::expect::{expect, expect_eq};
 use scc::Verdict;
 use scc::hash_map::Owned;
-use scc_test_kit::zero::Zero;
 use std::process::Abort;
 use std::test::Fail;
+use test_kit::zero::Zero;
 
 #[test]
 fn map_take_stop_takes_and_stops(rt: HostRuntime) -> Result<(), Fail> {

@@ -2,9 +2,9 @@
 use crate::expect::{expect, expect_eq};
 use scc::Verdict;
 use scc::hash_map::Owned;
-use scc_test_kit::zero::Zero;
 use std::process::Abort;
 use std::test::Fail;
+use test_kit::zero::Zero;
 
 // A map of so many keys, all in one bucket.
 fn map_of(rt: &impl AllocGlobal, keys: u64) -> Result<Owned<u64, u64, Zero>, Fail> {

@@ -13,9 +13,9 @@ use lives::Lives;
 use scc_forms::lines::{REFUSED, say};
 use scc_script::same::Same;
 use scc_shared_forms::every::in_every_form;
-use scc_test_kit::zero::Zero;
 use std::process::ExitCode;
 use std::sync::Wait;
+use test_kit::zero::Zero;
 use token::Book;
 use versions::{peeked_lives_on, snapshot_keeps};
 

@@ -2,10 +2,10 @@
 
 use crate::token::{Book, Token};
 use scc::{HashIndex, hash_index};
-use scc_test_kit::zero::Zero;
 use std::alloc::{AllocError, Global};
 use std::rc::Rc;
 use std::sync::Wait;
+use test_kit::zero::Zero;
 
 const KEYS: u64 = 100;
 

@@ -1,8 +1,8 @@
 //! What a driver of a test asks of a container, and what it is answered.
 
 use scc::{InsertError, KeyError, Verdict};
-use scc_test_kit::maybe_equal::MaybeEqual;
 use std::alloc::Global;
+use test_kit::maybe_equal::MaybeEqual;
 
 /// A key or a value that tests know by numbers.
 pub trait Numbered {

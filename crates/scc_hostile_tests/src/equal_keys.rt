@@ -2,8 +2,8 @@
 
 use scc_forms::form::{Answer, Form, Kind, Seen};
 use scc_shared_forms::every::Case;
-use scc_test_kit::maybe_equal::MaybeEqual;
 use std::alloc::{AllocError, Global};
+use test_kit::maybe_equal::MaybeEqual;
 
 // As many keys as one bucket of a cache holds, and more than a bucket of the others has slots for.
 fn keys_of(kind: Kind) -> u64 {

@@ -13,11 +13,11 @@ use equal_keys::{Replaces, Updates};
 use scc::Verdict;
 use scc_script::same::Same;
 use scc_shared_forms::every::in_every_form;
-use scc_test_kit::alike::Alike;
-use scc_test_kit::zero::Zero;
 use std::process::ExitCode;
 use std::sync::Wait;
 use stops::{Stops, Walks};
+use test_kit::alike::Alike;
+use test_kit::zero::Zero;
 use tokens::run_tokens;
 
 // The walks that stop at their first call, and those that never do.

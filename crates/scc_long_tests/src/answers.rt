@@ -3,8 +3,8 @@
 use crate::calls::{Call, What};
 use crate::list::{List, are_same};
 use scc_forms::form::{Answer, Form, Kind, Rule, Seen};
-use scc_test_kit::maybe_equal::MaybeEqual;
 use std::alloc::{AllocError, Global};
+use test_kit::maybe_equal::MaybeEqual;
 
 // The pair of a call, as its kind shows it.
 fn pair_of(call: &Call, kind: Kind) -> Seen {

@@ -1,8 +1,8 @@
 //! Calls that look random, and are the same in each run: they fill a container for a while, and then empty it.
 
 use crate::list::List;
-use scc_test_kit::maybe_equal::MaybeEqual;
-use scc_test_kit::numbers::next;
+use test_kit::maybe_equal::MaybeEqual;
+use test_kit::numbers::next;
 
 /// What a call does.
 #[derive(Clone, Copy)]

@@ -4,8 +4,8 @@ use scc::{hash_index, hash_map, hash_set};
 use scc_forms::form::{Answer, Form, Kind, Seen};
 use scc_forms::lines::say;
 use scc_forms::reserving::Reserving;
-use scc_test_kit::zero::Zero;
 use std::alloc::Global;
+use test_kit::zero::Zero;
 
 // Numbers of pairs that wait for one bucket of 32 slots.
 const CROWDS: [u64; 2] = [40, 600];

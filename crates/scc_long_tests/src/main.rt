@@ -19,13 +19,13 @@ use run::Run;
 use scc_script::number::parse_number;
 use scc_script::same::Same;
 use scc_shared_forms::every::in_every_form;
-use scc_test_kit::alike::Alike;
-use scc_test_kit::zero::Zero;
 use sizes::run_sizes;
 use std::env;
 use std::process::ExitCode;
 use std::rt::Env;
 use std::sync::Wait;
+use test_kit::alike::Alike;
+use test_kit::zero::Zero;
 
 /// The calls of a run where no number is asked for.
 const USUAL_CALLS: u64 = 1000;

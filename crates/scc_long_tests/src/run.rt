@@ -5,8 +5,8 @@ use crate::calls::Calls;
 use crate::list::List;
 use scc_forms::form::{Form, Kind};
 use scc_shared_forms::every::Case;
-use scc_test_kit::maybe_equal::MaybeEqual;
 use std::alloc::{AllocError, Global};
+use test_kit::maybe_equal::MaybeEqual;
 
 /// After how many calls all pairs are compared.
 const LOOK: u64 = 200;

@@ -3,11 +3,11 @@ use crate::expect::{expect, expect_eq};
 use crate::fixtures::listed;
 use scc::hash_cache::Owned;
 use scc::{InsertError, MakeError, Verdict, WalkError};
-use scc_test_kit::refusals::Refusal;
-use scc_test_kit::zero::Zero;
 use std::io::Print;
 use std::process::Abort;
 use std::test::Fail;
+use test_kit::refusals::Refusal;
+use test_kit::zero::Zero;
 
 type Cache = Owned<u64, u64, Zero>;
 

@@ -2,12 +2,12 @@
 use crate::expect::{expect, expect_eq};
 use scc::MakeError;
 use scc::hash_map::Owned;
-use scc_test_kit::refusals::Refusal;
-use scc_test_kit::zero::Zero;
 use std::alloc::AllocError;
 use std::io::Print;
 use std::process::Abort;
 use std::test::Fail;
+use test_kit::refusals::Refusal;
+use test_kit::zero::Zero;
 
 pub(crate) type Map = Owned<u64, u64, Zero>;
 

@@ -3,11 +3,11 @@ use crate::expect::{expect, expect_eq};
 use scc::hash_index::Owned;
 use scc::hash_index::owned::{Entry, Iter};
 use scc::{InsertError, MakeError};
-use scc_test_kit::refusals::Refusal;
-use scc_test_kit::zero::Zero;
 use std::io::Print;
 use std::process::Abort;
 use std::test::Fail;
+use test_kit::refusals::Refusal;
+use test_kit::zero::Zero;
 
 type Index = Owned<u64, u64, Zero>;
 

@@ -4,11 +4,11 @@ use crate::fixtures::{Map, expect_keys_below, made};
 use scc::InsertError;
 use scc::hash_map::Owned;
 use scc::hash_map::owned::Entry;
-use scc_test_kit::refusals::Refusal;
-use scc_test_kit::zero::Zero;
 use std::io::Print;
 use std::process::Abort;
 use std::test::Fail;
+use test_kit::refusals::Refusal;
+use test_kit::zero::Zero;
 
 // The calls that add a pair.
 #[derive(Clone, Copy, Debug, PartialEq)]

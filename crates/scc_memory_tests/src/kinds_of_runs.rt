@@ -3,8 +3,8 @@
 use crate::expect::{expect, expect_eq};
 use scc::recorded::{CacheCall, IndexCall, Reply, SetCall, run};
 use scc::{hash_cache, hash_index, hash_set};
-use scc_test_kit::refusals::Refusal;
-use scc_test_kit::zero::Zero;
+use test_kit::refusals::Refusal;
+use test_kit::zero::Zero;
 
 #[test]
 fn a_refused_run_touched_no_set(rt: HostRuntime) {

@@ -4,8 +4,8 @@ use crate::fixtures::{Map, expect_keys_below, made};
 use crate::insertions::{Way, expect_added};
 use scc::MakeError;
 use scc::hash_map::Owned;
-use scc_test_kit::refusals::Refusal;
 use std::test::Fail;
+use test_kit::refusals::Refusal;
 
 #[test]
 fn a_refused_constructor_makes_nothing(rt: HostRuntime) -> Result<(), Fail> {

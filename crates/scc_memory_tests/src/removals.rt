@@ -4,11 +4,11 @@ use crate::fixtures::{Map, expect_keys_below, listed};
 use crate::insertions::{Way, expect_added};
 use scc::Verdict;
 use scc::hash_map::Owned;
-use scc_test_kit::refusals::Refusal;
-use scc_test_kit::zero::Zero;
 use std::io::Print;
 use std::process::Abort;
 use std::test::Fail;
+use test_kit::refusals::Refusal;
+use test_kit::zero::Zero;
 
 // The calls that may remove a pair and then shrink the array.
 #[derive(Clone, Copy, Debug, PartialEq)]

@@ -5,9 +5,9 @@ use crate::fixtures::{Map, expect_keys_below};
 use crate::insertions::{WAYS, Way, add, expect_added};
 use scc::InsertError;
 use scc::hash_map::Owned;
-use scc_test_kit::refusals::Refusal;
-use scc_test_kit::zero::Zero;
 use std::process::Abort;
+use test_kit::refusals::Refusal;
+use test_kit::zero::Zero;
 
 const GREATEST: usize = 9_223_372_036_854_775_808;
 

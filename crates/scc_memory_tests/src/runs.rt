@@ -4,9 +4,9 @@ use crate::fixtures::{expect_keys_below, made};
 use crate::insertions::{Way, expect_added};
 use scc::hash_map::Owned;
 use scc::recorded::{Calls, MapCall, Refused, Reply, run};
-use scc_test_kit::refusals::Refusal;
-use scc_test_kit::zero::Zero;
 use std::test::Fail;
+use test_kit::refusals::Refusal;
+use test_kit::zero::Zero;
 
 #[test]
 fn a_refused_run_made_the_calls_before(rt: HostRuntime) -> Result<(), Fail> {

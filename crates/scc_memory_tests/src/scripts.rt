@@ -1,11 +1,11 @@
 // Scripts that are refused memory: the one text and the status, and the next run is right.
 use crate::expect::expect_eq;
 use scc_play::play::{BAD_CALL, FINISHED, NO_MEMORY, play};
-use scc_test_kit::refusals::Refusal;
 use std::io::Print;
 use std::process::Abort;
 use std::sync::Wait;
 use std::thread::Threads;
+use test_kit::refusals::Refusal;
 
 // Plays a script into a place that takes no memory. Refused, it writes `out of memory` alone and ends in 3, and the
 // next run writes the text.

@@ -2,11 +2,11 @@
 use crate::expect::{expect, expect_eq};
 use scc::hash_set::Owned;
 use scc::{KeyError, MakeError, Verdict, WalkError};
-use scc_test_kit::refusals::Refusal;
-use scc_test_kit::zero::Zero;
 use std::io::Print;
 use std::process::Abort;
 use std::test::Fail;
+use test_kit::refusals::Refusal;
+use test_kit::zero::Zero;
 
 type Set = Owned<u64, Zero>;
 

@@ -3,10 +3,10 @@ use crate::expect::{expect, expect_eq};
 use crate::fixtures::{expect_keys_below, listed, made};
 use crate::insertions::{Way, expect_added};
 use scc::{Verdict, WalkError};
-use scc_test_kit::refusals::Refusal;
 use std::io::Print;
 use std::process::Abort;
 use std::test::Fail;
+use test_kit::refusals::Refusal;
 
 // Takes three pairs into a list with so much room, of which `at_refusal` are taken where it is refused more.
 fn expect_taken<R: AllocGlobal + Abort + Print>(

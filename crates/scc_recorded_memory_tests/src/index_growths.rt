@@ -3,12 +3,12 @@
 use crate::expect::{expect, expect_eq};
 use scc::hash_index::{HashIndex, Owned};
 use scc::{InsertError, MakeError};
-use scc_test_kit::refusals::Refusal;
-use scc_test_kit::zero::Zero;
 use std::io::Print;
 use std::process::Abort;
 use std::sync::Wait;
 use std::test::Fail;
+use test_kit::refusals::Refusal;
+use test_kit::zero::Zero;
 
 type Index = Owned<u64, u64, Zero>;
 

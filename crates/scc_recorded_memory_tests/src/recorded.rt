@@ -11,14 +11,14 @@ use scc::recorded::{
     Step, Unfinished,
 };
 use scc_common::Shared;
-use scc_test_kit::refusals::Refusal;
-use scc_test_kit::zero::Zero;
 use std::io::Print;
 use std::marker::Brand;
 use std::process::Abort;
 use std::sync::ledger::{Blank, Ledger};
 use std::sync::{Arc, Wait};
 use std::test::Fail;
+use test_kit::refusals::Refusal;
+use test_kit::zero::Zero;
 
 type Map = Owned<u64, u64, Shared<Zero>>;
 

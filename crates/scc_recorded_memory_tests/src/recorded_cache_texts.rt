@@ -11,14 +11,14 @@ use scc::MakeError;
 use scc::hash_cache::Owned;
 use scc::recorded::{CacheCall, CallError, Pass, Recorded, Reply, Setup, Site};
 use scc_common::Shared;
-use scc_test_kit::refusals::Refusal;
-use scc_test_kit::zero::Zero;
 use std::io::Print;
 use std::marker::Brand;
 use std::process::Abort;
 use std::sync::Wait;
 use std::sync::ledger::{Blank, Ledger};
 use std::test::Fail;
+use test_kit::refusals::Refusal;
+use test_kit::zero::Zero;
 
 // A key is a number, and a value a text or none: one type for both, since the borrow checker counts the types that are
 // met.

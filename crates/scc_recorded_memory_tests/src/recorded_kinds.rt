@@ -12,14 +12,14 @@ use scc::recorded::{
 };
 use scc::{MakeError, hash_cache, hash_index, hash_set};
 use scc_common::{Shared, TryShare};
-use scc_test_kit::refusals::Refusal;
-use scc_test_kit::zero::Zero;
 use std::io::Print;
 use std::marker::Brand;
 use std::process::Abort;
 use std::sync::Wait;
 use std::sync::ledger::{Blank, Ledger};
 use std::test::Fail;
+use test_kit::refusals::Refusal;
+use test_kit::zero::Zero;
 
 type Set = hash_set::Owned<u64, Shared<Zero>>;
 

@@ -10,14 +10,14 @@ use scc::MakeError;
 use scc::hash_map::Owned;
 use scc::recorded::{Closed, Finished, MapCall, Pass, Recorded, Reply, Setup, Site, Step};
 use scc_common::Shared;
-use scc_test_kit::refusals::Refusal;
-use scc_test_kit::zero::Zero;
 use std::io::Print;
 use std::marker::Brand;
 use std::process::Abort;
 use std::sync::Wait;
 use std::sync::ledger::{Blank, Ledger};
 use std::test::Fail;
+use test_kit::refusals::Refusal;
+use test_kit::zero::Zero;
 
 type Names = Owned<String, String, Shared<Zero>>;
 

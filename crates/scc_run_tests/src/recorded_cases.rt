@@ -7,10 +7,10 @@ use crate::expect::{expect, expect_eq};
 use scc::MakeError;
 use scc::hash_map::Owned;
 use scc::recorded::{Calls, MapCall, Refused, Reply, run};
-use scc_test_kit::maybe_equal::MaybeEqual;
 use std::alloc::Global;
 use std::hash::{BuildHasher, RandomState};
 use std::test::Fail;
+use test_kit::maybe_equal::MaybeEqual;
 
 // Calls of numbers that are equal are the same, and so are replies.
 fn are_exact()

@@ -6,12 +6,12 @@ use scc_cache::DEFAULT_MAXIMUM_CAPACITY;
 use scc_common::InsertError;
 use scc_script::same::Same;
 use scc_shared_cache::HashCache;
-use scc_test_kit::numbers::next;
-use scc_test_kit::zero::Zero;
 use std::process::Abort;
 use std::sync::Wait;
 use std::test::Fail;
 use std::thread::map_indices;
+use test_kit::numbers::next;
+use test_kit::zero::Zero;
 
 #[test]
 fn shared_cache_of_four_stripes_evicts(rt: HostRuntime) -> Result<(), Fail> {

@@ -1,8 +1,8 @@
 //! What isn't as it has to be in a shared container, which a test asserts that nothing is.
 use crate::kinds::{Added, Kind, Way, What};
-use scc_test_kit::refusals::Refusal;
 use std::io::Print;
 use std::sync::Wait;
+use test_kit::refusals::Refusal;
 
 /// What isn't as it has to be, and how it has to be.
 #[derive(Clone, Copy, Debug, PartialEq)]

@@ -2,11 +2,11 @@
 use crate::kinds::{Added, ITEMS, Kind, Makes, Way, What, entered, refused};
 use scc::MakeError;
 use scc::hash_cache::{Entry, HashCache};
-use scc_test_kit::refusals::Refusal;
-use scc_test_kit::zero::Zero;
 use std::alloc::Global;
 use std::io::Print;
 use std::sync::Wait;
+use test_kit::refusals::Refusal;
+use test_kit::zero::Zero;
 
 /// The cache in which all keys have the hash 0.
 pub type Cache = HashCache<u64, u64, Zero>;

@@ -1,8 +1,8 @@
 //! Containers that are asked for again where they were refused.
 use crate::kinds::Makes;
 use scc::MakeError;
-use scc_test_kit::refusals::Refusal;
 use std::io::Print;
+use test_kit::refusals::Refusal;
 
 /// A container with so many slots in all stripes, asked for again where it was refused.
 pub fn made<C: Makes, R: AllocGlobal + Print>(

@@ -1,9 +1,9 @@
 //! What the tests ask of a shared container, whatever its kind.
 use scc::{InsertError, MakeError};
-use scc_test_kit::refusals::Refusal;
 use std::alloc::Global;
 use std::io::Print;
 use std::sync::Wait;
+use test_kit::refusals::Refusal;
 
 /// The calls that add a pair of a missing key.
 #[derive(Clone, Copy, Debug, PartialEq)]

@@ -2,11 +2,11 @@
 use crate::kinds::{Added, KEYS, Kind, Makes, Way, What};
 use scc::hash_set::HashSet;
 use scc::{KeyError, MakeError};
-use scc_test_kit::refusals::Refusal;
-use scc_test_kit::zero::Zero;
 use std::alloc::Global;
 use std::io::Print;
 use std::sync::Wait;
+use test_kit::refusals::Refusal;
+use test_kit::zero::Zero;
 
 /// The set in which all keys have the hash 0.
 pub type Set = HashSet<u64, Zero>;

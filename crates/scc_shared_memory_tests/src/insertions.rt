@@ -8,11 +8,11 @@ use scc_shared_memory_kit::indexes::Index;
 use scc_shared_memory_kit::kinds::{Kind, Way, What};
 use scc_shared_memory_kit::maps::Map;
 use scc_shared_memory_kit::sets::Set;
-use scc_test_kit::refusals::Refusal;
 use std::io::Print;
 use std::process::Abort;
 use std::sync::Wait;
 use std::test::Fail;
+use test_kit::refusals::Refusal;
 
 // Without arrays the first key makes one for its stripe.
 fn expect_first_array<C: Kind + Drop, R: AllocGlobal + Abort + Print + Wait>(

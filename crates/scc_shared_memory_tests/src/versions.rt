@@ -7,11 +7,11 @@ use scc_shared_memory_kit::amiss::{check_added, check_keys};
 use scc_shared_memory_kit::fixtures::made;
 use scc_shared_memory_kit::indexes::Index;
 use scc_shared_memory_kit::kinds::{Kind, Way};
-use scc_test_kit::refusals::Refusal;
 use std::io::Print;
 use std::process::Abort;
 use std::sync::Wait;
 use std::test::Fail;
+use test_kit::refusals::Refusal;
 
 // An index of the keys below 2, in one stripe.
 fn of_two<R: AllocGlobal + Abort + Print + Wait>(

@@ -8,12 +8,12 @@ use scc_shared_memory_kit::fixtures::made;
 use scc_shared_memory_kit::kinds::{Kind, Way};
 use scc_shared_memory_kit::maps::Map;
 use scc_shared_memory_kit::sets::Set;
-use scc_test_kit::refusals::Refusal;
 use std::alloc::AllocError;
 use std::io::Print;
 use std::process::Abort;
 use std::sync::Wait;
 use std::test::Fail;
+use test_kit::refusals::Refusal;
 
 // A shared container whose walk takes pairs out.
 trait Takes: Kind {

@@ -1,8 +1,8 @@
 // Workers whose run is refused: who was started made all turns, who wasn't made none, and the next run makes all.
 use crate::expect::{expect, expect_eq};
 use scc::stripes::{Open, RunError, Work, run};
-use scc_test_kit::refusals::Refusal;
 use std::process::Abort;
+use test_kit::refusals::Refusal;
 
 // Three turns, which all answer true.
 #[derive(Drop)]

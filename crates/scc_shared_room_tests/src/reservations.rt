@@ -8,12 +8,12 @@ use scc_shared_memory_kit::indexes::Index;
 use scc_shared_memory_kit::kinds::{Added, Kind, Way, What};
 use scc_shared_memory_kit::maps::Map;
 use scc_shared_memory_kit::sets::Set;
-use scc_test_kit::refusals::Refusal;
-use scc_test_kit::zero::Zero;
 use std::io::Print;
 use std::process::Abort;
 use std::sync::Wait;
 use std::test::Fail;
+use test_kit::refusals::Refusal;
+use test_kit::zero::Zero;
 
 const GREATEST: usize = 9_223_372_036_854_775_808;
 

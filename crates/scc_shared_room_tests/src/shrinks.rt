@@ -6,11 +6,11 @@ use scc_shared_memory_kit::fixtures::made;
 use scc_shared_memory_kit::kinds::{Kind, Way, What};
 use scc_shared_memory_kit::maps::Map;
 use scc_shared_memory_kit::sets::Set;
-use scc_test_kit::refusals::Refusal;
 use std::io::Print;
 use std::process::Abort;
 use std::sync::Wait;
 use std::test::Fail;
+use test_kit::refusals::Refusal;
 
 // The calls of several keys that may remove some and then shrink the array.
 trait Clears: Kind {

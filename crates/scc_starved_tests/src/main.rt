@@ -17,10 +17,10 @@ mod versions;
 use insertions::{Insertions, Way};
 use scc_forms::lines::say;
 use scc_shared_forms::every::in_every_form;
-use scc_test_kit::zero::Zero;
 use std::env;
 use std::process::ExitCode;
 use std::sync::Wait;
+use test_kit::zero::Zero;
 
 // Insertions in every kind and form, by that call.
 fn run_way<R: Wait + AllocGlobal + Print>(rt: &R, is_hungry: bool, way: Way, what: &str) -> u8 {

@@ -4,9 +4,9 @@ use crate::hunger::Hunger;
 use scc::{
     HashCache, HashIndex, HashMap, HashSet, MakeError, hash_cache, hash_index, hash_map, hash_set,
 };
-use scc_test_kit::zero::Zero;
 use std::alloc::{AllocError, Global};
 use std::sync::Wait;
+use test_kit::zero::Zero;
 
 // The items of which containers are made.
 const ITEMS: [(u64, u64); 3] = [(0, 10), (1, 20), (0, 30)];

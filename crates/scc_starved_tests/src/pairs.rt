@@ -3,8 +3,8 @@
 use crate::hunger::Hunger;
 use scc::InsertError;
 use scc::hash_map::Owned;
-use scc_test_kit::zero::Zero;
 use std::alloc::{AllocError, Global};
+use test_kit::zero::Zero;
 
 type Map = Owned<u64, u64, Zero>;
 

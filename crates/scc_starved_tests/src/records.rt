@@ -9,11 +9,11 @@ use scc::recorded::{
     CallError, Closed, FinishError, MapCall, Pass, Recorded, Reply, Setup, Site, run,
 };
 use scc_common::Shared;
-use scc_test_kit::zero::Zero;
 use std::alloc::{AllocError, Global};
 use std::marker::Brand;
 use std::sync::ledger::{Blank, Ledger};
 use std::sync::{Arc, Wait};
+use test_kit::zero::Zero;
 
 type Map = Owned<u64, u64, Shared<Zero>>;
 

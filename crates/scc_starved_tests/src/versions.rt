@@ -4,8 +4,8 @@
 use crate::hunger::Hunger;
 use scc::hash_index::owned::Entry;
 use scc::{Verdict, hash_index, hash_map};
-use scc_test_kit::zero::Zero;
 use std::alloc::{AllocError, Global};
+use test_kit::zero::Zero;
 
 type Index = hash_index::Owned<u64, u64, Zero>;
 

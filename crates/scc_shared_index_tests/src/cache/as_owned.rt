@@ -5,10 +5,10 @@ use scc_cache::{Owned, owned};
 use scc_common::{InsertError, Verdict};
 use scc_script::same::Same;
 use scc_shared_cache::HashCache;
-use scc_test_kit::numbers::next;
 use std::process::Abort;
 use std::sync::Wait;
 use std::test::Fail;
+use test_kit::numbers::next;
 
 const CALLS: u64 = 200;
 

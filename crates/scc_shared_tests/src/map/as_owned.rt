@@ -5,12 +5,12 @@ use scc_map::Owned;
 use scc_map::held::{HeldPlace, HeldReplace};
 use scc_script::same::Same;
 use scc_shared_map::HashMap;
-use scc_test_kit::maybe_equal::MaybeEqual;
-use scc_test_kit::numbers::next;
 use std::alloc::Global;
 use std::process::Abort;
 use std::sync::Wait;
 use std::test::Fail;
+use test_kit::maybe_equal::MaybeEqual;
+use test_kit::numbers::next;
 
 const KEYS: u64 = 48;
 

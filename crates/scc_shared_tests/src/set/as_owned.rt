@@ -4,12 +4,12 @@ use scc_common::{KeyError, Verdict};
 use scc_script::same::Same;
 use scc_set::Owned;
 use scc_shared_set::HashSet;
-use scc_test_kit::maybe_equal::MaybeEqual;
-use scc_test_kit::numbers::next;
 use std::alloc::Global;
 use std::process::Abort;
 use std::sync::Wait;
 use std::test::Fail;
+use test_kit::maybe_equal::MaybeEqual;
+use test_kit::numbers::next;
 
 const KEYS: u64 = 48;
 

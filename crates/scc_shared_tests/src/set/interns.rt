@@ -2,12 +2,12 @@
 // each key that nobody touches once.
 use crate::expect::{expect, expect_eq};
 use scc_shared_set::HashSet;
-use scc_test_kit::maybe_equal::MaybeEqual;
 use scc_uses::shared_interner::SharedInterner;
 use std::process::Abort;
 use std::sync::Wait;
 use std::test::Fail;
 use std::thread::{join, map_indices};
+use test_kit::maybe_equal::MaybeEqual;
 
 const WORDS: u64 = 500;
 

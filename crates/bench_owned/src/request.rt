@@ -1,0 +1,97 @@
+//! What the arguments ask for.
+use bench_kit::streams::Streams;
+use std::io;
+
+#[derive(Clone, Copy, Drop)]
+pub enum PeerName {
+    Owned,
+    Kit,
+    Set,
+    Index,
+    Cache,
+}
+
+#[derive(Clone, Copy, Drop)]
+pub enum Group {
+    Own,
+    Tail,
+    Memory,
+    Curve,
+    Beside,
+    Cache,
+}
+
+/// A group of workloads on one peer, so many times.
+#[derive(Clone, Copy, Drop)]
+pub struct Request {
+    pub peer: PeerName,
+    pub group: Group,
+    pub runs: u64,
+    pub streams: Streams,
+}
+
+/// The entries where none are asked for.
+const USUAL_ENTRIES: u64 = 1 << 20;
+
+impl PeerName {
+    pub(crate) fn text(self) -> &'static str {
+        match self {
+            PeerName::Owned => "scc-owned",
+            PeerName::Kit => "kit-fold",
+            PeerName::Set => "scc-set",
+            PeerName::Index => "scc-index",
+            PeerName::Cache => "scc-cache",
+        }
+    }
+}
+
+/// The error of an argument that names nothing.
+pub(crate) fn bad_argument() -> io::Error {
+    io::Error::from(io::ErrorKind::InvalidInput)
+}
+
+fn parse_peer(word: &str) -> io::Result<PeerName> {
+    match word {
+        "scc-owned" => Ok(PeerName::Owned),
+        "kit-fold" => Ok(PeerName::Kit),
+        "scc-set" => Ok(PeerName::Set),
+        "scc-index" => Ok(PeerName::Index),
+        "scc-cache" => Ok(PeerName::Cache),
+        _ => Err(bad_argument()),
+    }
+}
+
+fn parse_group(word: &str) -> io::Result<Group> {
+    match word {
+        "own" => Ok(Group::Own),
+        "tail" => Ok(Group::Tail),
+        "mem" => Ok(Group::Memory),
+        "curve" => Ok(Group::Curve),
+        "beside" => Ok(Group::Beside),
+        "cache" => Ok(Group::Cache),
+        _ => Err(bad_argument()),
+    }
+}
+
+fn parse_number(words: &[String], place: usize, usual: u64) -> io::Result<u64> {
+    match words.get(place) {
+        Some(word) => word.parse::<u64>().map_err(|_| bad_argument()),
+        None => Ok(usual),
+    }
+}
+
+/// Reads the words `NAME GROUP RUNS ENTRIES SEED`, of which the last two may be left out.
+pub(crate) fn parse_request(words: &[String]) -> io::Result<Request> {
+    let [peer, group, ..] = words else {
+        return Err(bad_argument());
+    };
+    Ok(Request {
+        peer: parse_peer(peer.as_str())?,
+        group: parse_group(group.as_str())?,
+        runs: parse_number(words, 2, 1)?,
+        streams: Streams {
+            entries: parse_number(words, 3, USUAL_ENTRIES)?,
+            seed: parse_number(words, 4, 0)?,
+        },
+    })
+}

@@ -1,0 +1,132 @@
+//! Steps over a cache that get a key, and put it where it is missing.
+use crate::crew::{Outcome, out_of_memory, print_check, print_line, run};
+use crate::request::Request;
+use bench_kit::streams::{Streams, value};
+use scc_common::InsertError;
+use scc_shared_cache::HashCache;
+use std::alloc::{AllocError, Global};
+use std::io;
+use std::rt::Clock;
+use std::sync::Wait;
+use std::thread::Threads;
+
+/// The most pairs of a cache.
+const MOST: usize = 65_536;
+
+const PEER: &str = "scc-shared-cache";
+
+type Cache = HashCache<u64, u64>;
+
+/// The value of the key where it is there; its pair becomes the most recent of its bucket.
+#[inline(always)]
+fn get(rt: &impl Wait, cache: &Cache, key: u64) -> Option<u64> {
+    match cache.get_sync(rt, &key) {
+        Some(entry) => Some(*entry.get()),
+        None => None,
+    }
+}
+
+/// Gets each key, or else puts it; the sum of the values, or how many keys were there where they are counted.
+fn get_or_put_all(rt: &impl Wait, cache: &Cache, keys: &[u64], counted: bool) -> Option<u64> {
+    let mut sum = 0u64;
+    let mut hits = 0u64;
+    for key in keys {
+        match get(rt, cache, *key) {
+            Some(found) => {
+                sum = sum.wrapping_add(found);
+                hits = hits.wrapping_add(1);
+            }
+            None => {
+                match cache.put_sync(rt, *key, value(*key)) {
+                    Ok(_) => {}
+                    // Another thread has put it since.
+                    Err(InsertError::Exists(_)) => {}
+                    Err(InsertError::Memory(_)) => return None,
+                }
+                sum = sum.wrapping_add(value(*key));
+            }
+        }
+    }
+    if counted { Some(hits) } else { Some(sum) }
+}
+
+/// The keys of each of so many threads, from that step on.
+fn crew_keys(
+    alloc: Global,
+    streams: &Streams,
+    threads: u64,
+    from: u64,
+) -> Result<Vec<Vec<u64>>, AllocError> {
+    let mut all = Vec::new(alloc);
+    for thread in 0..threads {
+        let own = streams.ranked_of(alloc, thread, from)?;
+        match all.push(own) {
+            Ok(()) => {}
+            Err(_) => return Err(AllocError),
+        }
+    }
+    Ok(all)
+}
+
+fn go<R: Threads + Wait + Clock + Sync>(
+    rt: &R,
+    alloc: Global,
+    cache: &Cache,
+    keys: &[Vec<u64>],
+    counted: bool,
+) -> io::Result<Outcome> {
+    run(
+        rt,
+        alloc,
+        keys.len(),
+        &|thread| match keys.get(thread) {
+            Some(own) => get_or_put_all(rt, cache, own.as_slice(), counted),
+            None => None,
+        },
+    )
+}
+
+/// Goes through the first steps in an empty cache, and measures the next ones.
+fn run_once<R: Threads + Wait + Clock + Sync>(
+    rt: &R,
+    alloc: Global,
+    first: &[Vec<u64>],
+    next: &[Vec<u64>],
+    counted: bool,
+) -> io::Result<Outcome> {
+    let Ok(cache) = HashCache::with_capacity(alloc, 0, MOST) else {
+        return Err(out_of_memory());
+    };
+    go(rt, alloc, &cache, first, counted)?;
+    go(rt, alloc, &cache, next, counted)
+}
+
+/// Runs the steps once to count the keys that were there, and then `runs` times.
+pub(crate) fn measure<R: Threads + Wait + Clock + Print + Sync>(
+    rt: &R,
+    alloc: Global,
+    threads: u64,
+    request: Request,
+) -> io::Result<()> {
+    let streams = &request.streams;
+    let first = crew_keys(alloc, streams, threads, 0)?;
+    let next = crew_keys(alloc, streams, threads, streams.entries)?;
+    let count = streams.entries.saturating_mul(threads);
+    let hits = run_once(rt, alloc, first.as_slice(), next.as_slice(), true)?.sum;
+    print_line(
+        rt,
+        "hitrate",
+        PEER,
+        threads,
+        hits.saturating_mul(100),
+        count,
+        alloc,
+    )?;
+    let mut last = 0u64;
+    for _ in 0..request.runs {
+        let outcome = run_once(rt, alloc, first.as_slice(), next.as_slice(), false)?;
+        print_line(rt, "cache", PEER, threads, outcome.spent, count, alloc)?;
+        last = outcome.sum;
+    }
+    print_check(rt, "cache", PEER, threads, last, alloc)
+}

@@ -1,0 +1,77 @@
+//! Threads that each make their part of a workload, and what that took.
+ghost use Rattle.std.specs.Prelude.{ℕ, ◌<◌};
+
+use bench_kit::report::{check, line, nanos};
+use std::alloc::Global;
+use std::io;
+use std::rt::Clock;
+use std::thread::{Threads, map_indices};
+use std::time::Instant;
+
+/// What a workload took in nanoseconds, and the sum of what its threads answered.
+#[derive(Clone, Copy, Drop)]
+pub struct Outcome {
+    pub spent: u64,
+    pub sum: u64,
+}
+
+/// The error of a container that was refused memory.
+pub(crate) fn out_of_memory() -> io::Error {
+    io::Error::from(io::ErrorKind::OutOfMemory)
+}
+
+/// The sum of the answers; an error where one of them is missing.
+pub(crate) fn sum_of(answers: &[Option<u64>]) -> io::Result<u64> {
+    let mut total = 0u64;
+    for answer in answers {
+        match answer {
+            Some(sum) => total = total.wrapping_add(*sum),
+            None => return Err(out_of_memory()),
+        }
+    }
+    Ok(total)
+}
+
+/// Has each of so many threads do its part, and measures from before the first start to after the last end. A part that
+/// is refused memory answers None.
+pub(crate) fn run<R: Threads + Clock + Sync, F: Fn(usize) -> Option<u64> + Sync>(
+    rt: &R,
+    alloc: Global,
+    threads: usize,
+    part: &F,
+) -> io::Result<Outcome>
+    requires { (i : ℕ) → i < threads → F.pre part.now i }
+{
+    let start = Instant::now(rt)?;
+    let answers = map_indices(rt, alloc, threads, part)?;
+    let spent = nanos(start.elapsed(rt)?);
+    let sum = sum_of(answers.as_slice())?;
+    Ok(Outcome { spent, sum })
+}
+
+/// The name of a workload with its number of threads, as `shared_insert_t4`.
+pub(crate) fn print_line(
+    rt: &impl Print,
+    work: &str,
+    peer: &str,
+    threads: u64,
+    spent: u64,
+    count: u64,
+    alloc: Global,
+) -> io::Result<()> {
+    let name = format!(in alloc; "{work}_t{threads}")?;
+    line(rt, name.as_str(), peer, spent, count)
+}
+
+/// The sum of a workload, which all peers have to agree in.
+pub(crate) fn print_check(
+    rt: &impl Print,
+    work: &str,
+    peer: &str,
+    threads: u64,
+    sum: u64,
+    alloc: Global,
+) -> io::Result<()> {
+    let name = format!(in alloc; "{work}_t{threads}")?;
+    check(rt, name.as_str(), peer, sum)
+}

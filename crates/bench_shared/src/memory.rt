@@ -1,0 +1,54 @@
+//! How many bytes a pair takes in a map that threads share, by the pages that the process holds.
+use crate::crew::out_of_memory;
+use crate::reads::{Map, PEER, sum_of_values};
+use crate::request::Request;
+use bench_kit::report::{check, line};
+use bench_kit::resident::{most_resident, resident};
+use bench_kit::streams::{Streams, value};
+use scc_shared_map::HashMap;
+use std::alloc::Global;
+use std::io;
+use std::rt::Files;
+use std::sync::Wait;
+
+/// Inserts the keys from one place up to before another.
+fn insert_places(
+    rt: &impl Wait,
+    map: &Map,
+    streams: &Streams,
+    first: u64,
+    last: u64,
+) -> io::Result<()> {
+    for place in first..last {
+        let key = streams.inserted_key(place);
+        if map.insert_sync(rt, key, value(key)).is_err() {
+            return Err(out_of_memory());
+        }
+    }
+    Ok(())
+}
+
+/// Fills a map, and answers the bytes that it holds then and that it held at most.
+fn fill<R: Files + Alloc + Wait>(rt: &R, map: &Map, streams: &Streams) -> io::Result<(u64, u64)> {
+    insert_places(rt, map, streams, 0, 1)?;
+    let before = resident(rt)?;
+    insert_places(rt, map, streams, 1, streams.entries)?;
+    let live = resident(rt)?.saturating_sub(before);
+    let most = most_resident(rt)?.saturating_sub(before);
+    Ok((live, most))
+}
+
+/// Fills a map, and prints the bytes a pair that it holds then and that it held at most.
+pub(crate) fn measure<R: Files + Print + Alloc + Wait>(
+    rt: &R,
+    alloc: Global,
+    request: Request,
+) -> io::Result<()> {
+    let Ok(map) = HashMap::new(alloc) else {
+        return Err(out_of_memory());
+    };
+    let (live, most) = fill(rt, &map, &request.streams)?;
+    line(rt, "mem_live", PEER, live, request.streams.entries)?;
+    line(rt, "mem_peak", PEER, most, request.streams.entries)?;
+    check(rt, "mem_live", PEER, sum_of_values(rt, &map))
+}
