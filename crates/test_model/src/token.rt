@@ -4,11 +4,11 @@ ghost use Rattle.std.proofs.Common.{rules};
 ghost use Rattle.std.specs.Cmp.Rules.{comparing, hashing};
 ghost use Rattle.std.specs.Hash as fed;
 
-use scc_forms::form::Numbered;
 use std::alloc::{AllocError, Global};
 use std::cell::Cell;
 use std::hash::{Hash, Hasher};
 use std::rc::Rc;
+use test_kit::numbered::Numbered;
 
 /// How often each token that was made was dropped.
 #[derive(Drop)]
@@ -64,11 +64,11 @@ impl Book {
     }
 }
 
-/// A key or a value with a number, which alone is compared. Its clone is another token of that number.
+/// A key or a value with a number, which alone is compared. Its clone is another token of that number. The default one
+/// is in no book.
 pub struct Token {
     number: u64,
-    id: usize,
-    book: Rc<Book>,
+    place: Option<(usize, Rc<Book>)>,
 }
 
 impl Token {
@@ -80,20 +80,17 @@ impl Token {
         let id = owner.next()?;
         Ok(Token {
             number,
-            id,
-            book: owner,
+            place: Some((id, owner)),
         })
     }
 }
 
 impl Drop for Token {
     fn drop(self) {
-        self.book.note_drop(self.id);
-        let Token {
-            number: _,
-            id: _,
-            book: _,
-        } = self;
+        let Token { number: _, place } = self;
+        if let Some((id, book)) = place {
+            book.note_drop(id);
+        }
     }
 }
 
@@ -101,7 +98,24 @@ impl Clone for Token {
     ghost is_clone = { λ t copy. copy.number ≡ t.number };
 
     fn clone(&self) -> Result<Token, AllocError> {
-        Token::new(&self.book, self.number)
+        match &self.place {
+            Some(place) => Token::new(&place.1, self.number),
+            None => Ok(Token {
+                number: self.number,
+                place: None,
+            }),
+        }
+    }
+}
+
+impl Default for Token {
+    ghost is_default = { λ t. t.number ≡ 0 };
+
+    fn default() -> Token {
+        Token {
+            number: 0,
+            place: None,
+        }
     }
 }
 

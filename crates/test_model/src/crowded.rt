@@ -1,10 +1,12 @@
 //! Buckets with more pairs than slots, which wait for their pairs, take them over, and wait again.
 
 use scc::{hash_index, hash_map, hash_set};
-use scc_forms::form::{Answer, Form, Kind, Seen};
-use scc_forms::lines::say;
-use scc_forms::reserving::Reserving;
 use std::alloc::Global;
+use test_kit::answers::{Answer, Kind};
+use test_kit::form::{Form, Way};
+use test_kit::lines::say;
+use test_kit::numbered::Seen;
+use test_kit::reserving::Reserving;
 use test_kit::zero::Zero;
 
 // Numbers of pairs that wait for one bucket of 32 slots.
@@ -20,7 +22,7 @@ fn pair_of(kind: Kind, number: u64) -> Seen {
 fn fills<F: Form<u64, u64>>(form: &mut F, from: u64, to: u64) -> bool {
     let mut added = true;
     for number in from..to {
-        added &= form.insert(number, number) == Answer::Added(None);
+        added &= form.add(Way::Insert, number, number) == Answer::Added(None);
     }
     added
 }
@@ -31,7 +33,7 @@ fn finds<F: Form<u64, u64>>(form: &F, kind: Kind, to: u64) -> bool {
     for number in 0..to {
         found &= form.read(&number) == Answer::Found(Some(pair_of(kind, number)));
     }
-    found && form.sizes().0 as u64 == to
+    found && form.sizes().len as u64 == to
 }
 
 // Whether so many pairs, all in one bucket, wait with all buckets of an array of so many slots, are taken over by one
@@ -42,10 +44,10 @@ fn relocates<F: Form<u64, u64> + Reserving>(
     pairs: u64,
     slots: usize,
 ) -> bool {
-    let waits = form.sizes().1 == slots && form.waiting() == slots / 32;
+    let waits = form.sizes().capacity == slots && form.waiting() == Some(slots / 32);
     let found = finds(form, kind, pairs);
     let added = fills(form, pairs, pairs.saturating_add(1));
-    let relocated = form.waiting() == (slots / 32).saturating_sub(2);
+    let relocated = form.waiting() == Some((slots / 32).saturating_sub(2));
     waits && found && added && relocated && finds(form, kind, pairs.saturating_add(1))
 }
 

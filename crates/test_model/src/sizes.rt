@@ -1,11 +1,13 @@
 //! Containers with more than a million slots, a cache that fills its maximum, and a snapshot of many versions.
 
 use scc::{hash_cache, hash_index, hash_map, hash_set};
-use scc_forms::form::{Answer, Form, Kind, Seen};
-use scc_forms::lines::say;
-use scc_forms::reserving::Reserving;
-use scc_script::same::Same;
 use std::alloc::{AllocError, Global};
+use test_kit::answers::{Answer, Kind};
+use test_kit::form::{Form, Way};
+use test_kit::lines::say;
+use test_kit::numbered::Seen;
+use test_kit::reserving::Reserving;
+use test_kit::same::Same;
 
 /// As many keys as make an array grow past 2^20 slots, where half of its buckets are never used.
 const MANY: u64 = (1 << 19) + 1;
@@ -40,7 +42,7 @@ fn pair_of(kind: Kind, number: u64) -> Seen {
 fn fills<F: Form<u64, u64>>(form: &mut F, from: u64, to: u64) -> bool {
     let mut added = true;
     for number in from..to {
-        added &= form.insert(key_of(number), value_of(number)) == Answer::Added(None);
+        added &= form.add(Way::Insert, key_of(number), value_of(number)) == Answer::Added(None);
     }
     added
 }
@@ -72,26 +74,26 @@ fn goes<F: Form<u64, u64>>(form: &mut F, kind: Kind, from: u64, to: u64) -> bool
 // are gone.
 fn grows<F: Form<u64, u64>>(form: &mut F, kind: Kind) -> bool {
     fills(form, 0, MANY - 1)
-        && form.sizes() == (1 << 19, 1 << 20)
+        && form.sizes().used() == (1 << 19, 1 << 20)
         && fills(form, MANY - 1, MANY)
-        && form.sizes() == (1 + (1 << 19), 1 << 21)
+        && form.sizes().used() == (1 + (1 << 19), 1 << 21)
         && finds(form, kind, 0, MANY)
         && goes(form, kind, 16, MANY)
-        && form.sizes() == (16, 64)
+        && form.sizes().used() == (16, 64)
         && finds(form, kind, 0, 16)
 }
 
 // Whether a container of 1000 pairs that are found while all its buckets wait gets more than 2^20 slots by a
 // reservation, and gives them back with it.
 fn reserves<F: Form<u64, u64> + Reserving>(form: &mut F, kind: Kind) -> bool {
-    let filled = fills(form, 0, 1000) && form.sizes() == (1000, 2048);
+    let filled = fills(form, 0, 1000) && form.sizes().used() == (1000, 2048);
     let Some(token) = form.reserve_slots(1 + (1 << 20)) else {
         return false;
     };
-    let has_grown = form.sizes() == (1000, 1 << 21) && form.waiting() == 1 << 16;
+    let has_grown = form.sizes().used() == (1000, 1 << 21) && form.waiting() == Some(1 << 16);
     let found = finds(form, kind, 0, 1000);
-    let relocated = fills(form, 1000, 1001) && form.waiting() == (1 << 16) - 2;
-    let released = form.release_slots(token).is_ok() && form.sizes() == (1001, 2048);
+    let relocated = fills(form, 1000, 1001) && form.waiting() == Some((1 << 16) - 2);
+    let released = form.release_slots(token).is_ok() && form.sizes().used() == (1001, 2048);
     filled && has_grown && found && relocated && released && finds(form, kind, 0, 1001)
 }
 
@@ -121,7 +123,7 @@ fn evicts<F: Form<u64, u64>>(form: &mut F, from: u64, to: u64) -> bool {
         let key = number.reverse_bits();
         let least = number.wrapping_sub(MAXIMUM);
         let gone = (least.reverse_bits(), 0, value_of(least));
-        evicted &= form.insert(key, value_of(number)) == Answer::Added(Some(gone));
+        evicted &= form.add(Way::Insert, key, value_of(number)) == Answer::Added(Some(gone));
     }
     evicted
 }
@@ -136,12 +138,12 @@ fn of_caches(alloc: Global) -> Result<bool, AllocError> {
     };
     let mut added = true;
     for number in 0..MAXIMUM {
-        let answer = cache.insert(number.reverse_bits(), value_of(number));
+        let answer = cache.add(Way::Insert, number.reverse_bits(), value_of(number));
         added &= answer == Answer::Added(None);
     }
-    let full = cache.sizes() == (maximum, maximum);
+    let full = cache.sizes().used() == (maximum, maximum);
     let evicted = evicts(&mut cache, MAXIMUM, MAXIMUM + MAXIMUM / 2);
-    Ok(added && full && evicted && cache.sizes() == (maximum, maximum))
+    Ok(added && full && evicted && cache.sizes().used() == (maximum, maximum))
 }
 
 // Whether the snapshot has each version of the numbers once, and then none for ever.

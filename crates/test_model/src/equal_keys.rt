@@ -1,9 +1,14 @@
 //! Keys of which a part is compared, many under one hash: which of two equal keys is stored, and which comes back.
 
-use scc_forms::form::{Answer, Form, Kind, Seen};
-use scc_shared_forms::every::Case;
 use std::alloc::{AllocError, Global};
+use std::sync::Wait;
+use test_kit::alike::Alike;
+use test_kit::answers::{Answer, Kind};
+use test_kit::form::{Act, At, Form, Way};
 use test_kit::maybe_equal::MaybeEqual;
+use test_kit::numbered::Seen;
+use test_kit::zero::Zero;
+use test_kit_shared::every::{Case, in_every_form};
 
 // As many keys as one bucket of a cache holds, and more than a bucket of the others has slots for.
 fn keys_of(kind: Kind) -> u64 {
@@ -27,38 +32,34 @@ fn shown(kind: Kind, value: u64) -> u64 {
 }
 
 // Whether the keys (i, 100 + i) were added with the value i, and an equal one comes back.
-fn fills<F: Form<MaybeEqual, u64>>(form: &mut F, kind: Kind) -> bool {
+fn fills<F: Form<MaybeEqual, u64>>(form: &mut F) -> bool {
+    let kind = form.kind();
+    let mut added = true;
     for i in 0..keys_of(kind) {
-        if form.insert(key_of(i, 100), i) != Answer::Added(None) {
-            return false;
-        }
+        added &= form.add(Way::Insert, key_of(i, 100), i) == Answer::Added(None);
     }
     for i in 0..keys_of(kind) {
         let back = Answer::Exists(pair_of(i, 300, shown(kind, 7)));
-        if form.insert(key_of(i, 300), 7) != back {
-            return false;
-        }
+        added &= form.add(Way::Insert, key_of(i, 300), 7) == back;
     }
-    true
+    added
 }
 
 // Whether each key has that mark and that value more than its number, and goes with them.
-fn goes<F: Form<MaybeEqual, u64>>(form: &mut F, kind: Kind, mark: u64, value: u64) -> bool {
+fn goes<F: Form<MaybeEqual, u64>>(form: &mut F, mark: u64, value: u64) -> bool {
+    let kind = form.kind();
+    let mut gone = true;
     for i in 0..keys_of(kind) {
         let there = Answer::Found(Some(pair_of(i, mark, shown(kind, value.wrapping_add(i)))));
-        if form.read(&key_of(i, 500)) != there {
-            return false;
-        }
-        let gone = if kind == Kind::Index {
+        gone &= form.read(&key_of(i, 500)) == there;
+        let wanted = if kind == Kind::Index {
             Answer::Yes(true)
         } else {
             there
         };
-        if form.remove(&key_of(i, 600)) != gone {
-            return false;
-        }
+        gone &= form.remove(&key_of(i, 600)) == wanted;
     }
-    form.sizes().0 == 0
+    gone && form.sizes().len == 0
 }
 
 /// Each key (i, 100 + i) is replaced by (i, 200 + i), and values stay. An index replaces none.
@@ -66,7 +67,9 @@ fn goes<F: Form<MaybeEqual, u64>>(form: &mut F, kind: Kind, mark: u64, value: u6
 pub struct Replaces;
 
 // Whether each replacement answers the key that went.
-fn all_replaced<F: Form<MaybeEqual, u64>>(form: &mut F, kind: Kind) -> bool {
+fn all_replaced<F: Form<MaybeEqual, u64>>(form: &mut F) -> bool {
+    let kind = form.kind();
+    let mut replaced = true;
     for i in 0..keys_of(kind) {
         let after = if kind == Kind::Set {
             None
@@ -78,11 +81,9 @@ fn all_replaced<F: Form<MaybeEqual, u64>>(form: &mut F, kind: Kind) -> bool {
         } else {
             Answer::Swapped(Some(i.wrapping_add(100)), after)
         };
-        if form.replace(key_of(i, 200)) != wanted {
-            return false;
-        }
+        replaced &= form.replace(key_of(i, 200)) == wanted;
     }
-    true
+    replaced
 }
 
 impl Case<MaybeEqual, u64> for Replaces {
@@ -90,10 +91,9 @@ impl Case<MaybeEqual, u64> for Replaces {
         &self,
         _alloc: Global,
         form: &mut F,
-        kind: Kind,
     ) -> Result<bool, AllocError> {
-        let mark = if kind == Kind::Index { 100 } else { 200 };
-        Ok(fills(form, kind) && all_replaced(form, kind) && goes(form, kind, mark, 0))
+        let mark = if form.kind() == Kind::Index { 100 } else { 200 };
+        Ok(fills(form) && all_replaced(form) && goes(form, mark, 0))
     }
 
     fn has_ended(&self) -> bool {
@@ -105,8 +105,20 @@ impl Case<MaybeEqual, u64> for Replaces {
 #[derive(Clone, Copy)]
 pub struct Updates;
 
+// Writes the value of the key as its kind does.
+fn write<F: Form<MaybeEqual, u64>>(form: &mut F, i: u64) -> Answer {
+    let (key, value) = (key_of(i, 200), i.wrapping_add(400));
+    match form.kind() {
+        Kind::Index => form.act(At::Key, Act::Set, &key, value),
+        Kind::Cache => form.add(Way::InsertEntry, key, value),
+        _ => form.add(Way::Upsert, key, value),
+    }
+}
+
 // Whether each writing answers what its kind says.
-fn all_updated<F: Form<MaybeEqual, u64>>(form: &mut F, kind: Kind) -> bool {
+fn all_updated<F: Form<MaybeEqual, u64>>(form: &mut F) -> bool {
+    let kind = form.kind();
+    let mut updated = true;
     for i in 0..keys_of(kind) {
         let wanted = match kind {
             Kind::Map => Answer::Old(Some(i)),
@@ -114,11 +126,9 @@ fn all_updated<F: Form<MaybeEqual, u64>>(form: &mut F, kind: Kind) -> bool {
             Kind::Index => Answer::Yes(true),
             Kind::Cache => Answer::Entry(None, pair_of(i, 100, i.wrapping_add(400))),
         };
-        if form.upsert(key_of(i, 200), i.wrapping_add(400)) != wanted {
-            return false;
-        }
+        updated &= write(form, i) == wanted;
     }
-    true
+    updated
 }
 
 impl Case<MaybeEqual, u64> for Updates {
@@ -126,12 +136,20 @@ impl Case<MaybeEqual, u64> for Updates {
         &self,
         _alloc: Global,
         form: &mut F,
-        kind: Kind,
     ) -> Result<bool, AllocError> {
-        Ok(fills(form, kind) && all_updated(form, kind) && goes(form, kind, 100, 400))
+        Ok(fills(form) && all_updated(form) && goes(form, 100, 400))
     }
 
     fn has_ended(&self) -> bool {
         true
     }
+}
+
+/// A line for each case. The answer is the worst status.
+pub(crate) fn run_equal_keys<R: Wait + AllocGlobal + Print>(rt: &R) -> u8 {
+    let one = in_every_form(rt, &Replaces, "keys replaced, all hashes 0", Zero);
+    let two = in_every_form(rt, &Replaces, "keys replaced, one tag", Alike);
+    let three = in_every_form(rt, &Updates, "values written, all hashes 0", Zero);
+    let four = in_every_form(rt, &Updates, "values written, one tag", Alike);
+    one.max(two).max(three).max(four)
 }

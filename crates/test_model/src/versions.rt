@@ -5,6 +5,7 @@ use scc::{HashIndex, hash_index};
 use std::alloc::{AllocError, Global};
 use std::rc::Rc;
 use std::sync::Wait;
+use test_kit::lines::{REFUSED, say};
 use test_kit::zero::Zero;
 
 const KEYS: u64 = 100;
@@ -29,9 +30,9 @@ fn filled(
     Ok(index)
 }
 
-/// Whether a snapshot keeps all versions after the index was cleared, half of them gone with what was taken out of it,
-/// and none lives once it is gone.
-pub(crate) fn snapshot_keeps(alloc: Global, book: &Rc<Book>) -> Result<bool, AllocError> {
+// Whether a snapshot keeps all versions after the index was cleared, half of them gone with what was taken out of it,
+// and none lives once it is gone.
+fn snapshot_keeps(alloc: Global, book: &Rc<Book>) -> Result<bool, AllocError> {
     let mut index = filled(alloc, book)?;
     let Ok(mut versions) = index.iter() else {
         return Err(AllocError);
@@ -63,11 +64,8 @@ fn shared<R: Wait + AllocGlobal>(
     Ok(index)
 }
 
-/// Whether a version that was peeked lives on after its update, its removal and the index itself, and no other does.
-pub(crate) fn peeked_lives_on<R: Wait + AllocGlobal>(
-    rt: &R,
-    book: &Rc<Book>,
-) -> Result<bool, AllocError> {
+// Whether a version that was peeked lives on after its update, its removal and the index itself, and no other does.
+fn peeked_lives_on<R: Wait + AllocGlobal>(rt: &R, book: &Rc<Book>) -> Result<bool, AllocError> {
     let index = shared(rt, book)?;
     let key = Token::new(book, 7)?;
     let Ok(Some(kept)) = index.peek(rt, &key) else {
@@ -86,4 +84,15 @@ pub(crate) fn peeked_lives_on<R: Wait + AllocGlobal>(
     let alone = book.alive() == Some(2);
     drop(kept);
     Ok(updated && both && removed && one && alone && book.alive() == Some(0))
+}
+
+/// A line for each case. The answer is the worst status.
+pub(crate) fn run_versions<R: Wait + AllocGlobal + Print>(rt: &R) -> u8 {
+    let Ok(book) = Book::new(rt.alloc(), 1000) else {
+        return REFUSED;
+    };
+    let kept = snapshot_keeps(rt.alloc(), &book);
+    let snapshot = say(rt, "owned index", "versions of a snapshot", kept);
+    let peeked = peeked_lives_on(rt, &book);
+    snapshot.max(say(rt, "index of stripes", "a version that was peeked", peeked))
 }

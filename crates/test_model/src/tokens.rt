@@ -1,9 +1,9 @@
 //! Tokens of another container.
 
 use scc::{Reservation, hash_index, hash_map, hash_set};
-use scc_forms::lines::say;
-use scc_forms::reserving::Reserving;
 use std::alloc::Global;
+use test_kit::lines::say;
+use test_kit::reserving::Reserving;
 
 // Whether a token is refused and comes back with its slots.
 fn refuses<C: Reserving>(form: &mut C, token: Reservation, slots: usize) -> bool {
