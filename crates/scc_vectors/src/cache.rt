@@ -87,7 +87,7 @@ fn cache_put_entry_refreshes(rt: HostRuntime) -> Result<(), Fail> {
 
 // The calls that may make their pair the most recent.
 #[derive(Clone, Copy)]
-enum Touch {
+enum Visit {
     Replace,
     Entry,
     Read,
@@ -95,21 +95,21 @@ enum Touch {
 }
 
 // Makes the call on the key, and lets go of the entry. Whether the key was there.
-fn touch(cache: &mut Owned<u64, u64, Zero>, how: Touch, key: u64) -> bool {
+fn finds(cache: &mut Owned<u64, u64, Zero>, how: Visit, key: u64) -> bool {
     match how {
-        Touch::Replace => match cache.replace_sync(key) {
+        Visit::Replace => match cache.replace_sync(key) {
             ReplaceResult::Replaced(_, old) => old == key,
             ReplaceResult::NotReplaced(_) => false,
         },
-        Touch::Entry => *cache.entry_sync(key).key() == key,
-        Touch::Read => cache.read_sync(&key, |_, value| *value) == Some(key),
-        Touch::Contains => cache.contains_sync(&key),
+        Visit::Entry => *cache.entry_sync(key).key() == key,
+        Visit::Read => cache.read_sync(&key, |_, value| *value) == Some(key),
+        Visit::Contains => cache.contains_sync(&key),
     }
 }
 
 // The key that goes for key 32, after the call on key 0 of the keys 0 to 31.
-fn evicted_after(cache: &mut Owned<u64, u64, Zero>, how: Touch) -> Option<u64> {
-    if fill(cache, 0, 32) && touch(cache, how, 0) {
+fn evicted_after(cache: &mut Owned<u64, u64, Zero>, how: Visit) -> Option<u64> {
+    if fill(cache, 0, 32) && finds(cache, how, 0) {
         put(cache, 32)?
     } else {
         None
@@ -118,7 +118,12 @@ fn evicted_after(cache: &mut Owned<u64, u64, Zero>, how: Touch) -> Option<u64> {
 
 #[test]
 fn cache_which_calls_refresh(rt: HostRuntime) -> Result<(), Fail> {
-    let cases = [(Touch::Replace, 1), (Touch::Entry, 1), (Touch::Read, 0), (Touch::Contains, 0)];
+    let cases = [
+        (Visit::Replace, 1),
+        (Visit::Entry, 1),
+        (Visit::Read, 0),
+        (Visit::Contains, 0),
+    ];
     for (how, evicted) in cases {
         let mut cache = empty(rt.alloc(), 64)?;
         expect_eq(&rt, evicted_after(&mut cache, how), Some(evicted));
@@ -189,9 +194,21 @@ fn cache_get_relocates_its_target(rt: HostRuntime) -> Result<(), Fail> {
     let mut cache = Owned::with_capacity_and_hasher(rt.alloc(), 0, 128, Same)?;
     expect(&rt, fill(&mut cache, 0, 32));
     expect_eq(&rt, put(&mut cache, HALF), Some(None));
-    expect_eq(&rt, (put(&mut cache, 32), cache.pending()), (Some(Some(0)), 2));
-    expect_eq(&rt, (get(&mut cache, HALF), cache.pending()), (Some(HALF), 1));
-    expect_eq(&rt, (put(&mut cache, 33), cache.pending()), (Some(Some(1)), 0));
+    expect_eq(
+        &rt,
+        (put(&mut cache, 32), cache.pending()),
+        (Some(Some(0)), 2),
+    );
+    expect_eq(
+        &rt,
+        (get(&mut cache, HALF), cache.pending()),
+        (Some(HALF), 1),
+    );
+    expect_eq(
+        &rt,
+        (put(&mut cache, 33), cache.pending()),
+        (Some(Some(1)), 0),
+    );
     Ok(())
 }
 
@@ -255,7 +272,9 @@ type Marked = Owned<MaybeEqual, u64, Zero>;
 // Whether the key (i, 100 + i) went in with the value i.
 fn put_marked(cache: &mut Marked, i: u64) -> bool {
     let key = MaybeEqual(i, i.saturating_add(100));
-    cache.put_sync(key, i).is_ok_and(|evicted| evicted.is_none())
+    cache
+        .put_sync(key, i)
+        .is_ok_and(|evicted| evicted.is_none())
 }
 
 // Replaces a key. The mark of the old key, the mark of the new one and the value; None if there was none.

@@ -41,7 +41,11 @@ fn index_snapshot_keeps_old_version(rt: HostRuntime) -> Result<(), Fail> {
     expect(&rt, index.entry_sync(37).or_insert(11).is_ok());
     let mut versions = index.iter()?;
     expect(&rt, update(&mut index, 37, 29));
-    let came = [next_value(&mut versions), next_value(&mut versions), next_value(&mut versions)];
+    let came = [
+        next_value(&mut versions),
+        next_value(&mut versions),
+        next_value(&mut versions),
+    ];
     expect_eq(&rt, came, [Some(11), None, None]);
     expect_eq(&rt, value_of(&index, 37), Some(29));
     Ok(())
@@ -62,7 +66,10 @@ fn index_remove_and_next(rt: HostRuntime) {
     expect(&rt, index.insert_sync(1, 0).is_ok());
     expect(&rt, index.insert_sync(2, 0).is_ok());
     let taken = take_both(&mut index);
-    expect(&rt, taken == Some((1, 2, true)) || taken == Some((2, 1, true)));
+    expect(
+        &rt,
+        taken == Some((1, 2, true)) || taken == Some((2, 1, true)),
+    );
     expect_eq(&rt, index.len(), 0);
 }
 
@@ -70,14 +77,22 @@ fn index_remove_and_next(rt: HostRuntime) {
 fn index_reserve_grows_and_gives_back(rt: HostRuntime) -> Result<(), Fail> {
     let mut index: Owned<u64, u64> = Owned::with_capacity(rt.alloc(), 800)?;
     expect_eq(&rt, index.capacity(), 1024);
-    expect_eq(&rt, grows_and_gives_back(&mut index), (16_384, true, true, 1024));
+    expect_eq(
+        &rt,
+        grows_and_gives_back(&mut index),
+        (16_384, true, true, 1024),
+    );
     Ok(())
 }
 
 #[test]
 fn index_reserve_without_array(rt: HostRuntime) {
     let mut index: Owned<u64, u64> = Owned::new(rt.alloc());
-    let wanted = [(0, 0, GREATEST), (0, 1000, GREATEST), (1024, 1000, GREATEST)];
+    let wanted = [
+        (0, 0, GREATEST),
+        (0, 1000, GREATEST),
+        (1024, 1000, GREATEST),
+    ];
     expect_eq(&rt, sizes_without_array(&mut index), Some(wanted));
 }
 

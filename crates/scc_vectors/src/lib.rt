@@ -12,10 +12,18 @@ mod map;
 #[cfg(test)]
 mod memo;
 #[cfg(test)]
+mod recorded;
+#[cfg(test)]
 mod refusals;
 #[cfg(test)]
 mod reserving;
 #[cfg(test)]
+mod scripts;
+#[cfg(test)]
 mod set;
 #[cfg(test)]
+mod shared;
+#[cfg(test)]
 mod tags;
+#[cfg(test)]
+mod workers;

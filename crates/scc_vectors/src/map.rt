@@ -115,7 +115,11 @@ fn map_false_remove_if_keeps_what_it_wrote(rt: HostRuntime) {
         false
     });
     expect_eq(&rt, kept, None);
-    expect_eq(&rt, map.remove_if_sync(&1, |value| *value == 1), Some((1, 1)));
+    expect_eq(
+        &rt,
+        map.remove_if_sync(&1, |value| *value == 1),
+        Some((1, 1)),
+    );
 }
 
 // The number and the mark of the stored key, and its value.
@@ -246,7 +250,11 @@ fn map_retain_writes_iter_stops(rt: HostRuntime) {
         *value = 2;
         true
     });
-    expect_eq(&rt, (value_of(&map, 1), value_of(&map, 2)), (Some(2), Some(2)));
+    expect_eq(
+        &rt,
+        (value_of(&map, 1), value_of(&map, 2)),
+        (Some(2), Some(2)),
+    );
     expect(&rt, map.insert_sync(3, 2).is_ok());
     expect(&rt, !map.iter_sync(|key, _| *key == 3));
 }
@@ -332,14 +340,22 @@ fn replace_under_one_hash_keeps_values(rt: HostRuntime) {
 fn map_reserve_grows_and_gives_back(rt: HostRuntime) -> Result<(), Fail> {
     let mut map: Owned<u64, u64> = Owned::with_capacity(rt.alloc(), 800)?;
     expect_eq(&rt, map.capacity(), 1024);
-    expect_eq(&rt, grows_and_gives_back(&mut map), (16_384, true, true, 1024));
+    expect_eq(
+        &rt,
+        grows_and_gives_back(&mut map),
+        (16_384, true, true, 1024),
+    );
     Ok(())
 }
 
 #[test]
 fn map_reserve_without_array(rt: HostRuntime) {
     let mut map: Owned<u64, u64> = Owned::new(rt.alloc());
-    let wanted = [(0, 0, GREATEST), (0, 1000, GREATEST), (1024, 1000, GREATEST)];
+    let wanted = [
+        (0, 0, GREATEST),
+        (0, 1000, GREATEST),
+        (1024, 1000, GREATEST),
+    ];
     expect_eq(&rt, sizes_without_array(&mut map), Some(wanted));
 }
 
@@ -414,7 +430,11 @@ fn map_bucket_index(rt: HostRuntime) -> Result<(), Fail> {
     let bare: Owned<u64, u64> = Owned::new(rt.alloc());
     expect_eq(&rt, bare.bucket_index(&0), 0);
     let map: Owned<u64, u64, Same> = Owned::with_capacity_and_hasher(rt.alloc(), 1024, Same)?;
-    expect_eq(&rt, (map.bucket_index(&HALF), map.bucket_index(&0)), (16, 0));
+    expect_eq(
+        &rt,
+        (map.bucket_index(&HALF), map.bucket_index(&0)),
+        (16, 0),
+    );
     expect_eq(&rt, map.capacity(), 1024);
     Ok(())
 }

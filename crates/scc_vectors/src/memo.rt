@@ -45,6 +45,10 @@ fn memo_of_squares(rt: HostRuntime) -> Result<(), Fail> {
 fn memo_of_the_greatest_square(rt: HostRuntime) -> Result<(), Fail> {
     let mut memo = Memo::with_capacity_and_hasher(rt.alloc(), Square, 0, 64, Zero)?;
     let square = memo.get(18_446_744_073_709_551_615);
-    expect_eq(&rt, square, 340_282_366_920_938_463_426_481_119_284_349_108_225);
+    expect_eq(
+        &rt,
+        square,
+        340_282_366_920_938_463_426_481_119_284_349_108_225,
+    );
     Ok(())
 }

@@ -2,7 +2,9 @@
 use scc::{InsertError, KeyError};
 
 // The pair that came back since its key is there.
-pub(crate) fn existing<T: Drop, K: Drop, V: Drop>(answer: Result<T, InsertError<K, V>>) -> Option<(K, V)> {
+pub(crate) fn existing<T: Drop, K: Drop, V: Drop>(
+    answer: Result<T, InsertError<K, V>>,
+) -> Option<(K, V)> {
     match answer {
         Err(InsertError::Exists(pair)) => Some(pair),
         _ => None,

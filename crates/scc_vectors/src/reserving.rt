@@ -90,7 +90,9 @@ pub(crate) fn grows_and_gives_back<C: Reserving>(form: &mut C) -> (usize, bool, 
 }
 
 // The sizes of a new container, after it reserved 1000 slots, and after its first insertion.
-pub(crate) fn sizes_without_array<C: Reserving>(form: &mut C) -> Option<[(usize, usize, usize); 3]> {
+pub(crate) fn sizes_without_array<C: Reserving>(
+    form: &mut C,
+) -> Option<[(usize, usize, usize); 3]> {
     let bare = form.sizes();
     let _token = form.reserve_slots(1000)?;
     let reserved = form.sizes();
@@ -118,6 +120,8 @@ pub(crate) fn foreign_and_own_tokens<C: Reserving>(first: &mut C, second: &mut C
     let Some(foreign) = first.reserve_slots(100) else {
         return false;
     };
-    let taken = second.sizes().1 == 110 && second.release_slots(foreign).is_ok() && second.sizes().1 == 10;
+    let taken = second.sizes().1 == 110
+        && second.release_slots(foreign).is_ok()
+        && second.sizes().1 == 10;
     taken && refuses(second, sixty, 60) && refuses(second, fifty, 50) && second.sizes().1 == 10
 }

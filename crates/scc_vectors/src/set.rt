@@ -110,14 +110,22 @@ fn set_replace_under_one_hash_keeps_values(rt: HostRuntime) {
 fn set_reserve_grows_and_gives_back(rt: HostRuntime) -> Result<(), Fail> {
     let mut set: Owned<u64> = Owned::with_capacity(rt.alloc(), 800)?;
     expect_eq(&rt, set.capacity(), 1024);
-    expect_eq(&rt, grows_and_gives_back(&mut set), (16_384, true, true, 1024));
+    expect_eq(
+        &rt,
+        grows_and_gives_back(&mut set),
+        (16_384, true, true, 1024),
+    );
     Ok(())
 }
 
 #[test]
 fn set_reserve_without_array(rt: HostRuntime) {
     let mut set: Owned<u64> = Owned::new(rt.alloc());
-    let wanted = [(0, 0, GREATEST), (0, 1000, GREATEST), (1024, 1000, GREATEST)];
+    let wanted = [
+        (0, 0, GREATEST),
+        (0, 1000, GREATEST),
+        (1024, 1000, GREATEST),
+    ];
     expect_eq(&rt, sizes_without_array(&mut set), Some(wanted));
 }
 
