@@ -80,7 +80,10 @@ fn expect_evictions<R: Abort + Print>(rt: &R, refusal: &mut Refusal, cache: &mut
     for least in 0..TRIES {
         let key = least.saturating_add(32);
         expect_eq(rt, put(cache, key), Answer::Evicted(least, !least));
-        expect(rt, holds(cache, least.saturating_add(1), key.saturating_add(1)));
+        expect(
+            rt,
+            holds(cache, least.saturating_add(1), key.saturating_add(1)),
+        );
         if cache.capacity() == 128 {
             return;
         }

@@ -16,7 +16,9 @@ fn clocks_of<C: Calls, L: Ledger>(passes: &[Pass<C, L>]) -> (usize, u64, usize) 
 }
 
 // How many steps the stripes have recorded.
-fn steps_of<C: Calls + Drop, L: Ledger, M: Site<C::Hasher>>(closed: &Closed<C, L, M>) -> (usize, usize)
+fn steps_of<C: Calls + Drop, L: Ledger, M: Site<C::Hasher>>(
+    closed: &Closed<C, L, M>,
+) -> (usize, usize)
 where
     C::Hasher: Drop,
 {

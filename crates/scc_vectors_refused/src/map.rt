@@ -163,7 +163,11 @@ fn iter_mut_refused_room_stops(rt: HostRuntime) {
             break;
         }
     }
-    expect_eq(&rt, (insert(&mut map, 1), insert(&mut map, 2)), (Answer::Inserted, Answer::Inserted));
+    expect_eq(
+        &rt,
+        (insert(&mut map, 1), insert(&mut map, 2)),
+        (Answer::Inserted, Answer::Inserted),
+    );
     match listed(&rt, &mut refusal) {
         Some(mut taken) => {
             expect_taken(&rt, &mut refusal, &mut map, &mut taken);

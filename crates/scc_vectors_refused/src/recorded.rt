@@ -61,7 +61,11 @@ fn expect_run<R: Abort>(rt: &R, run: &Finished<Map>) {
     for part in run.parts.as_slice() {
         expect_eq(rt, part.read_sync(&1, |_, value| *value), Some(10));
     }
-    expect_eq(rt, (run.histories.len(), run.parts.len(), run.order.len()), (1, 1, 2));
+    expect_eq(
+        rt,
+        (run.histories.len(), run.parts.len(), run.order.len()),
+        (1, 1, 2),
+    );
 }
 
 // The insertion and the finish by the one pass.
@@ -113,7 +117,11 @@ fn on_one_stripe<L: Ledger, M: Site<Shared<Zero>>, R: AllocGlobal + Abort + Prin
 fn open<R: AllocGlobal + Abort + Print + Wait>(rt: &R, refusal: &mut Refusal) -> bool {
     match shared(rt, refusal) {
         Some(hasher) => on_one_stripe::<Brand, Brand, R>(
-            rt, refusal, hasher, Blank::new(1), Blank::new(1),
+            rt,
+            refusal,
+            hasher,
+            Blank::new(1),
+            Blank::new(1),
         ),
         None => false,
     }

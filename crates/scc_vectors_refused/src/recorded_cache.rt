@@ -6,9 +6,7 @@ ghost use Rattle.scc_recorded.specs.Setups.{request_of};
 use crate::expect::{expect, expect_eq};
 use crate::texts::{TRIES, shared, text};
 use scc::hash_cache::Owned;
-use scc::recorded::{
-    CacheCall, CallError, Pass, Recorded, Reply, Setup, Shared, Site,
-};
+use scc::recorded::{CacheCall, CallError, Pass, Recorded, Reply, Setup, Shared, Site};
 use std::io::Print;
 use std::marker::Brand;
 use std::process::Abort;
@@ -137,7 +135,11 @@ fn on_one_stripe<L: Ledger, M: Site<Shared<Zero>>, R: AllocGlobal + Abort + Prin
 fn open<R: AllocGlobal + Abort + Print + Wait>(rt: &R, refusal: &mut Refusal) -> bool {
     match shared(rt, refusal) {
         Some(hasher) => on_one_stripe::<Brand, Brand, R>(
-            rt, refusal, hasher, Blank::new(1), Blank::new(1),
+            rt,
+            refusal,
+            hasher,
+            Blank::new(1),
+            Blank::new(1),
         ),
         None => false,
     }

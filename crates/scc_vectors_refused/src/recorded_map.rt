@@ -150,7 +150,11 @@ fn on_one_stripe<L: Ledger, M: Site<Shared<Zero>>, R: AllocGlobal + Abort + Prin
 fn open<R: AllocGlobal + Abort + Print + Wait>(rt: &R, refusal: &mut Refusal) -> bool {
     match shared(rt, refusal) {
         Some(hasher) => on_one_stripe::<Brand, Brand, R>(
-            rt, refusal, hasher, Blank::new(1), Blank::new(1),
+            rt,
+            refusal,
+            hasher,
+            Blank::new(1),
+            Blank::new(1),
         ),
         None => false,
     }

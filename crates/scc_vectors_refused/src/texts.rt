@@ -1,9 +1,9 @@
 // What the recorded cases are made of, asked for again until it is given.
+use scc::recorded::Shared;
 use std::alloc::Global;
 use std::hash::BuildHasher;
 use std::io::Print;
 use std::sync::Arc;
-use scc::recorded::Shared;
 use test_kit::refusals::Refusal;
 use test_kit::zero::Zero;
 
@@ -26,7 +26,10 @@ pub(crate) fn text<R: AllocGlobal + Print>(
 }
 
 // One owner of the hasher.
-pub(crate) fn shared<R: AllocGlobal + Print>(rt: &R, refusal: &mut Refusal) -> Option<Shared<Zero>> {
+pub(crate) fn shared<R: AllocGlobal + Print>(
+    rt: &R,
+    refusal: &mut Refusal,
+) -> Option<Shared<Zero>> {
     for _ in 0..TRIES {
         match Arc::new(rt.alloc(), Zero) {
             Ok(owner) => return Some(Shared::new(owner)),

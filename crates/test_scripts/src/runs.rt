@@ -1,0 +1,206 @@
+// Calls as values: a caller of a run that knows its clauses alone, and runs of other containers.
+ghost use Rattle.std.specs.Prelude.{◌≡◌, ℕ, [], ◌∷◌, length, OnOk};
+ghost use Rattle.scc_calls.specs.Copies.{AreSame, ClonesEqual};
+ghost use Rattle.scc_contents.specs.Contents.{entries};
+
+use crate::expect::{expect, expect_eq};
+use scc::MakeError;
+use scc::hash_map::Owned;
+use scc::recorded::{Calls, MapCall, Refused, Reply, run};
+use std::alloc::Global;
+use std::hash::{BuildHasher, RandomState};
+use std::test::Fail;
+use test_kit::maybe_equal::MaybeEqual;
+
+// Calls of numbers that are equal are the same, and so are replies.
+fn are_exact()
+    ensures calls { AreSame ⟦<MapCall<u64, u64> as PartialEq>⟧.eq }
+    ensures replies { AreSame ⟦<Reply<u64, u64> as PartialEq>⟧.eq }
+{}
+
+// The number of pairs by a run of one call.
+fn count<H: BuildHasher>(
+    map: &mut Owned<u64, u64, H>,
+    replies: &mut Vec<Reply<u64, u64>>,
+) -> Result<(), Refused>
+    requires { replies.old.items ≡ [] }
+    ensures { OnOk result ((n : ℕ) × (replies.new.items ≡ Reply.Count n ∷ []) × (n ≡ length (entries map.old))) }
+{
+    are_exact();
+    run(map, &[MapCall::Len], replies)
+}
+
+#[test]
+fn counts_by_a_run(rt: HostRuntime) -> Result<(), Fail> {
+    let mut map = Owned::with_hasher(rt.alloc(), RandomState::new(&rt)?);
+    map.insert_sync(7, 5)?;
+    let mut replies = Vec::new(rt.alloc());
+    count(&mut map, &mut replies)?;
+    expect_eq(&rt, replies.as_slice(), [Reply::Count(1)].as_slice());
+    Ok(())
+}
+
+// Clones of replies equal them, also where keys are compared in part.
+fn replies_are_equal()
+    ensures { ClonesEqual ⟦<Reply<MaybeEqual, u64> as Clone>⟧.is_clone ⟦<Reply<MaybeEqual, u64> as PartialEq>⟧.eq }
+{}
+
+#[test]
+fn calls_keep_and_swap_the_stored_key(rt: HostRuntime) -> Result<(), Fail> {
+    replies_are_equal();
+    let mut map = Owned::new(rt.alloc());
+    expect(
+        &rt,
+        map.call(MapCall::Replace(MaybeEqual(11, 7)))? == Reply::Key(None),
+    );
+    expect(
+        &rt,
+        map.call(MapCall::Upsert(MaybeEqual(11, 7), 17u64))? == Reply::Old(None),
+    );
+    expect(
+        &rt,
+        map.call(MapCall::Upsert(MaybeEqual(11, 11), 18))? == Reply::Old(Some(17)),
+    );
+    match map.call(MapCall::Replace(MaybeEqual(11, 11)))? {
+        Reply::Key(Some(old)) => expect_eq(&rt, old.1, 7),
+        _ => assert!(rt; false, "the key is there"),
+    }
+    match map.call(MapCall::Remove(MaybeEqual(11, 0)))? {
+        Reply::Pair(Some((key, value))) => expect_eq(&rt, (key.1, value), (11, 18)),
+        _ => assert!(rt; false, "the key is there"),
+    }
+    expect(&rt, map.call(MapCall::Len)? == Reply::Count(0));
+    Ok(())
+}
+
+// Adds each call to its total, and refuses what would bring that above 9.
+#[derive(Drop)]
+struct Tally {
+    total: u8,
+    hasher: RandomState,
+}
+
+impl Calls for Tally {
+    type Key = u8;
+
+    type Hasher = RandomState;
+
+    type Call = u8;
+
+    type Reply = u8;
+
+    ghost use Rattle.std.specs.Prelude.{◌≡◌, ℕ, ◌+◌, ◌<◌, List, [], None};
+    ghost use Rattle.std.proofs.Common.{◌∙◌, ap, rules, sym};
+    ghost use Rattle.scc_calls.specs.Means.{the_very};
+    ghost use Rattle.scc_calls.specs.Parted.{PartMoves, PartResizes, parted_call, parted_resize};
+
+    ghost State = { ℕ };
+
+    ghost Whole = { List ℕ };
+
+    ghost setting = { λ t. record { hasher = t.hasher; skipped = 0; minimum = 0; maximum = 0 } };
+
+    ghost state = { λ t. t.total };
+
+    ghost size = { λ _. 0 };
+
+    ghost empty = { λ _. 0 };
+
+    ghost limits = { λ _ _ m. m ≡ 0 };
+
+    ghost keys = { λ _. [] };
+
+    ghost key_of = { λ _. None };
+
+    ghost moves = { λ _ s c r t. (t ≡ s + c) × (r ≡ t) };
+
+    ghost resizes = { λ _ _ _ _. ⊥ };
+
+    ghost may_refuse = { λ _ s c. 9 < s + c };
+
+    ghost adds = { λ _. ⊥ };
+
+    ghost is_ready = { λ t c r. r ≡ t.total + c };
+
+    ghost whole = { λ p. p };
+
+    ghost whole_moves = { λ _ _. PartMoves (λ s c r t. (t ≡ s + c) × (r ≡ t)) (λ _. None) (λ k. k) };
+
+    ghost whole_resizes = { λ _ _. PartResizes (λ _ _ _. ⊥) };
+
+    fn key(_call: &u8) -> Option<&u8> {
+        None
+    }
+
+    fn ready(&mut self, call: &u8) -> Result<(u8, u8), Refused> {
+        if self.total > 9 || *call > 9 - self.total {
+            return Err(Refused);
+        }
+        let total = self.total + *call;
+        Ok((total, total))
+    }
+
+    fn call(&mut self, call: u8) -> Result<u8, Refused> {
+        if self.total > 9 || call > 9 - self.total {
+            return Err(Refused);
+        }
+        self.total += call;
+        Ok(self.total)
+    }
+
+    fn buckets(&self) -> usize {
+        0
+    }
+
+    // A tally is made by hand alone.
+    fn make(
+        _alloc: Global,
+        _skipped: u32,
+        _slots: usize,
+        _maximum: usize,
+        _hasher: RandomState,
+    ) -> Result<Self, MakeError> {
+        Err(MakeError)
+    }
+
+    ghost one_limit = { λ _ _ m n p q. p ∙ sym q };
+
+    ghost moves_alike = { λ g old new call copy reply given pc pr c r m. let x : copy ≡ call = the_very
+        ⟦<u8 as PartialEq>⟧.eq (Prim.search rules) call copy c in let y : given ≡ reply = the_very
+        ⟦<u8 as PartialEq>⟧.eq (Prim.search rules) reply given r in (m.0 ∙ ap (λ z. old + z) (sym x), y ∙ m.1) };
+
+    ghost call_is_whole = { λ _ _ before after old new call reply _ key s. parted_call
+        (λ s c r t. (t ≡ s + c) × (r ≡ t)) (λ _. None) (λ k. k) before after old new call reply key s };
+
+    ghost resize_is_whole = { λ _ _ before after old new buckets _ s. parted_resize (λ _ _ _. ⊥) before after old new
+        buckets s };
+
+    ghost call_keeps = { λ _ _ _ _ _ _ _ _ _ _. tt };
+
+    ghost resize_keeps = { λ _ _ _ _ _ _ _ _. tt };
+
+    ghost empty_keeps = { λ _ _ _ _. tt };
+}
+
+#[test]
+fn stops_at_the_first_refusal(rt: HostRuntime) -> Result<(), Fail> {
+    let mut tally = Tally {
+        total: 0,
+        hasher: RandomState::new(&rt)?,
+    };
+    let mut replies = Vec::new(rt.alloc());
+    expect_eq(
+        &rt,
+        run(&mut tally, &[4, 3, 2, 1, 0], &mut replies),
+        Err(Refused),
+    );
+    expect_eq(&rt, replies.as_slice(), [4, 7, 9].as_slice());
+    expect_eq(&rt, tally.total, 9);
+    run(&mut tally, &[0], &mut replies)?;
+    expect_eq(&rt, replies.as_slice(), [4, 7, 9, 9].as_slice());
+    let Tally {
+        total: _,
+        hasher: _,
+    } = tally;
+    Ok(())
+}
