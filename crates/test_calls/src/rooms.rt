@@ -61,7 +61,7 @@ impl Making for hash_cache::Owned<MaybeEqual, u64, Zero> {
 // The number of pairs, the capacity, and how many buckets wait.
 fn sizes<F: Making>(form: &F) -> (usize, usize, usize) {
     let sizes = form.sizes();
-    (sizes.len, sizes.capacity, form.waiting())
+    (sizes.len, sizes.capacity, form.waiting().unwrap_or(0))
 }
 
 // Whether a key was added, with that answer.

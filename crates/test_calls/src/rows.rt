@@ -128,7 +128,7 @@ fn answer<F: Form<MaybeEqual, u64>>(alloc: Global, form: &mut F, call: Call) -> 
 // The number of pairs, the capacity, and how many buckets wait.
 fn sizes<F: Form<MaybeEqual, u64>>(form: &F) -> (usize, usize, usize) {
     let sizes = form.sizes();
-    (sizes.len, sizes.capacity, form.waiting())
+    (sizes.len, sizes.capacity, form.waiting().unwrap_or(0))
 }
 
 // The first row with another answer, by its number, and that answer.
