@@ -89,7 +89,7 @@ where
 {
     let setup = Setup {
         capacity: 0,
-        maximum: MAXIMUM,
+        maximum: 128,
         hasher,
     };
     let Ok((recorded, handed)) = Recorded::<C, L, M>::open(alloc, setup, 1, 1, receipts, records)
