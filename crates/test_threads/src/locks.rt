@@ -13,6 +13,16 @@ use std::thread::{Threads, join, map_indices};
 /// Slots for two stripes.
 const SLOTS: usize = 128;
 
+/// The ways over all keys, of which a cache has the first three.
+const WAYS: [Way; 6] = [
+    Way::Walk,
+    Way::Keep,
+    Way::Take,
+    Way::Ask,
+    Way::Next,
+    Way::Remove,
+];
+
 // At one key it tells that it is there, and waits until another thread has told the same.
 #[derive(Drop)]
 struct Meeting<'a> {
@@ -185,27 +195,18 @@ fn lets_go_first<C: Threaded + Sync + Drop, R: Threads + Wait + Sync>(
     Ok(told.iter().all(|right| *right))
 }
 
-// Whether each of the first ways does so.
+// Whether each of the first ways does so. The first that doesn't ends it.
 fn let_go_first<C: Threaded + Sync + Drop, R: Threads + Wait + Sync>(
     rt: &R,
     alloc: Global,
     ways: usize,
 ) -> Result<bool, AllocError> {
-    let mut all = true;
-    for way in [
-        Way::Walk,
-        Way::Keep,
-        Way::Take,
-        Way::Ask,
-        Way::Next,
-        Way::Remove,
-    ]
-    .iter()
-    .take(ways)
-    {
-        all = lets_go_first::<C, R>(rt, alloc, *way)? && all;
+    for way in WAYS.iter().take(ways) {
+        if !lets_go_first::<C, R>(rt, alloc, *way)? {
+            return Ok(false);
+        }
     }
-    Ok(all)
+    Ok(true)
 }
 
 #[test]
