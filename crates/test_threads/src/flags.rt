@@ -34,18 +34,13 @@ pub(crate) fn height(flag: &AtomicU64) -> u64 {
     flag.load(Ordering::SeqCst)
 }
 
-/// Whether a flag is raised that often before the last look.
-pub(crate) fn sees_height(flag: &AtomicU64, wanted: u64) -> bool {
+/// Whether a flag is raised before the last look.
+pub(crate) fn sees(flag: &AtomicU64) -> bool {
     for _ in 0..LOOKS {
-        if height(flag) >= wanted {
+        if height(flag) > 0 {
             return true;
         }
         yield_now();
     }
     false
-}
-
-/// Whether a flag is raised before the last look.
-pub(crate) fn sees(flag: &AtomicU64) -> bool {
-    sees_height(flag, 1)
 }

@@ -1,4 +1,4 @@
-//! Recorded containers beside runs on owned ones, and scripts of several workers.
+//! Recorded containers beside runs on owned ones, scripts of several workers, and workers at gates.
 #![tactic(auto)]
 
 #[cfg(test)]
@@ -6,8 +6,12 @@ mod as_run;
 #[cfg(test)]
 mod expect;
 #[cfg(test)]
+mod gates;
+#[cfg(test)]
 mod kinds;
 #[cfg(test)]
 mod scripts;
 #[cfg(test)]
 mod streams;
+#[cfg(test)]
+mod workers;

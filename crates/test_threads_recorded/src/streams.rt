@@ -5,7 +5,6 @@ ghost use Rattle.scc_calls.specs.Copies.{ClonesEqual};
 use scc_calls::{WholeCalls, run};
 use std::alloc::{AllocError, Global};
 use std::slice::from_ref;
-use test_kit::numbers::next;
 
 /// The slots that a cache has at most. Its buckets have 32, of which the keys lie in two.
 pub const MAXIMUM: usize = 128;
@@ -22,8 +21,14 @@ const CLEARING: u64 = 140;
 /// New keys come in again up to this one.
 const AGAIN: u64 = 175;
 
-/// The keys of the other calls, of which some two thirds are there.
+/// Half of them.
+const HALF: u64 = 40;
+
+/// All keys of the stream.
 const KEYS: u64 = 120;
+
+/// What the place of a call is multiplied by for its key.
+const SPREAD: u64 = 0x9e37_79b9_7f4a_7c15;
 
 /// A kind of container, by the calls that it has.
 pub trait Streamed: WholeCalls + Drop {
@@ -79,19 +84,27 @@ fn number_at<C: Streamed>(j: u64) -> u64 {
     }
 }
 
+// The number of the key at a place: a new one for a call that brings keys in, and else one that is mostly there or
+// mostly missing, in turns.
+fn drawn_at<C: Streamed>(j: u64) -> u64 {
+    if j < FIRST || CLEARING < j && j < AGAIN {
+        return j % FIRST;
+    }
+    let drawn = (j.wrapping_mul(SPREAD) >> 32) % HALF;
+    let turn = j / C::keyed().saturating_add(1);
+    if turn % 2 == 0 {
+        HALF.wrapping_add(drawn)
+    } else {
+        FIRST.wrapping_add(drawn)
+    }
+}
+
 /// The calls of a stream.
 pub(crate) fn stream<C: Streamed>(alloc: Global) -> Result<Vec<C::Call>, AllocError> {
     let mut calls = Vec::new(alloc);
-    let mut seed = 1u64;
     for j in 0..CALLS {
-        let number = number_at::<C>(j);
-        let drawn = next(&mut seed) % KEYS;
-        let key = if number == 0 && j % 8 != 7 {
-            j % FIRST
-        } else {
-            drawn
-        };
-        calls.push(C::call_of(number, key_of(key), j))?;
+        let key = key_of(drawn_at::<C>(j));
+        calls.push(C::call_of(number_at::<C>(j), key, j))?;
     }
     Ok(calls)
 }

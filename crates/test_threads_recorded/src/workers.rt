@@ -1,21 +1,24 @@
 // Workers that run side by side: each of them meets all others at each of its turns, which they couldn't on one thread.
 use crate::expect::expect_eq;
-use crate::flags::{Flags, height, raise, sees_height};
 use scc_workers::{Open, RunError, Work, run};
 use std::alloc::{AllocError, Global};
 use std::process::Abort;
 use std::sync::Wait;
+use std::sync::atomic::{AtomicU64, Ordering};
 use std::test::Fail;
-use std::thread::Threads;
+use std::thread::{Threads, yield_now};
 
 const WORKERS: u64 = 4;
 
 const TURNS: u64 = 3;
 
+// How often a worker looks for the others.
+const LOOKS: u32 = 1_000_000;
+
 // A worker whose turn ends once all workers have come to it.
 #[derive(Drop)]
 struct Meeting<'a> {
-    came: &'a Flags,
+    came: &'a AtomicU64,
 }
 
 impl Work for Meeting<'_> {
@@ -24,11 +27,15 @@ impl Work for Meeting<'_> {
     }
 
     fn turn(&mut self, j: usize) -> bool {
-        raise(&self.came.first);
-        sees_height(
-            &self.came.first,
-            WORKERS.wrapping_mul((j as u64).wrapping_add(1)),
-        )
+        let wanted = WORKERS.wrapping_mul((j as u64).wrapping_add(1));
+        self.came.fetch_add(1, Ordering::SeqCst);
+        for _ in 0..LOOKS {
+            if self.came.load(Ordering::SeqCst) >= wanted {
+                return true;
+            }
+            yield_now();
+        }
+        false
     }
 }
 
@@ -36,19 +43,19 @@ impl Work for Meeting<'_> {
 fn meet<R: Threads + Wait + Sync>(
     rt: &R,
     alloc: Global,
-    came: &Flags,
+    came: &AtomicU64,
 ) -> Result<(Result<(), RunError>, u64), AllocError> {
     let mut workers = Vec::new(alloc);
     for _ in 0..WORKERS {
         workers.push(Meeting { came })?;
     }
     let ended = run(rt, alloc, workers.as_mut_slice(), &Open);
-    Ok((ended, height(&came.first)))
+    Ok((ended, came.load(Ordering::SeqCst)))
 }
 
 #[test]
 fn workers_meet_at_each_turn(rt: HostRuntime) -> Result<(), Fail> {
-    let came = Flags::new();
+    let came = AtomicU64::new(0);
     let met = meet(&rt, rt.alloc(), &came)?;
     expect_eq(&rt, met, (Ok(()), WORKERS * TURNS));
     Ok(())

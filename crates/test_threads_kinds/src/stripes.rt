@@ -1,7 +1,6 @@
 // Stripes of a shared map: which key lies in which, what a reservation that ends does to one that is held, and what a
 // removal gives back.
 use crate::expect::{expect, expect_eq};
-use crate::kinds::{HALF, Map};
 use scc_script::same::Same;
 use scc_shared_map::HashMap;
 use std::alloc::{AllocError, Global};
@@ -9,6 +8,11 @@ use std::process::Abort;
 use std::sync::Wait;
 use std::test::Fail;
 use std::thread::join;
+
+type Map = HashMap<u64, u64, Same>;
+
+// The least key of the second of two stripes.
+const HALF: u64 = 1 << 63;
 
 // The stripe and the bucket of the greatest hash, and the capacity, of a map for so many slots.
 fn greatest(
