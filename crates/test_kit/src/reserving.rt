@@ -13,9 +13,6 @@ pub trait Reserving {
 
     /// The minimum.
     fn minimum(&self) -> usize;
-
-    /// How many buckets wait.
-    fn waiting(&self) -> usize;
 }
 
 impl<K: Eq + Hash, V, H: BuildHasher> Reserving for hash_map::Owned<K, V, H> {
@@ -29,10 +26,6 @@ impl<K: Eq + Hash, V, H: BuildHasher> Reserving for hash_map::Owned<K, V, H> {
 
     fn minimum(&self) -> usize {
         *self.capacity_range().start()
-    }
-
-    fn waiting(&self) -> usize {
-        self.pending()
     }
 }
 
@@ -48,10 +41,6 @@ impl<K: Eq + Hash, H: BuildHasher> Reserving for hash_set::Owned<K, H> {
     fn minimum(&self) -> usize {
         *self.capacity_range().start()
     }
-
-    fn waiting(&self) -> usize {
-        self.pending()
-    }
 }
 
 impl<K: Eq + Hash, V, H: BuildHasher> Reserving for hash_index::Owned<K, V, H> {
@@ -65,9 +54,5 @@ impl<K: Eq + Hash, V, H: BuildHasher> Reserving for hash_index::Owned<K, V, H> {
 
     fn minimum(&self) -> usize {
         *self.capacity_range().start()
-    }
-
-    fn waiting(&self) -> usize {
-        self.pending()
     }
 }

@@ -127,7 +127,7 @@ impl<K: Eq + Hash + Drop + Numbered, V: Default + Drop + Numbered, H: BuildHashe
     }
 
     fn act(&mut self, at: At, act: Act, key: &K, value: V) -> Answer {
-        if at != At::Key {
+        if at != At::Key || !act.is_of(Kind::Cache) {
             return Answer::Absent;
         }
         match self.get_sync(key) {
@@ -191,7 +191,7 @@ impl<K: Eq + Hash + Drop + Numbered, V: Default + Drop + Numbered, H: BuildHashe
         }
     }
 
-    fn waiting(&self) -> usize {
-        self.pending()
+    fn waiting(&self) -> Option<usize> {
+        Some(self.pending())
     }
 }

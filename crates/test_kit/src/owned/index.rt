@@ -237,7 +237,7 @@ impl<
         }
     }
 
-    fn waiting(&self) -> usize {
-        self.pending()
+    fn waiting(&self) -> Option<usize> {
+        Some(self.pending())
     }
 }

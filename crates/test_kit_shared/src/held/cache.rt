@@ -180,7 +180,7 @@ impl<
     }
 
     fn act(&mut self, at: At, act: Act, key: &K, value: V) -> Answer {
-        if at != At::Key {
+        if at != At::Key || !act.is_of(Kind::Cache) {
             return Answer::Absent;
         }
         act_in(self.rt, &self.shared, act, key, value)
@@ -250,5 +250,9 @@ impl<
             minimum: *range.start(),
             maximum: *range.end(),
         }
+    }
+
+    fn is_one(&self) -> bool {
+        self.is_one
     }
 }

@@ -325,4 +325,8 @@ impl<
             maximum: *range.end(),
         }
     }
+
+    fn is_one(&self) -> bool {
+        self.is_one
+    }
 }

@@ -241,4 +241,8 @@ impl<
             maximum: *range.end(),
         }
     }
+
+    fn is_one(&self) -> bool {
+        self.is_one
+    }
 }
