@@ -63,26 +63,30 @@ fn settles<'a, C: Called<'a> + Sync + Drop, R: Wait + Threads + Sync>(
     Ok(is_settled(rt, &container, told.as_slice()))
 }
 
-// The name of the first container whose counts don't add up in a round, or of which a value wasn't dropped once.
-fn first_uneven<R: Wait + Threads + Sync>(
+// Prints the name of a container whose counts don't add up, and says whether they do.
+fn tell(rt: &impl Print, name: &str, holds: bool) -> io::Result<bool> {
+    if !holds {
+        println!(rt; "{name}: what went in and out doesn't add up")?;
+    }
+    Ok(holds)
+}
+
+// Whether a round of each container adds up, and each value was dropped once.
+fn all_add_up<R: Wait + Threads + Sync + Print>(
     rt: &R,
     alloc: Global,
     request: Request,
-) -> io::Result<Option<&'static str>> {
+) -> io::Result<bool> {
     let counts = Counts::new();
-    if !settles::<Map<'_>, R>(rt, alloc, &counts, request)? || !counts.are_equal() {
-        return Ok(Some("map"));
-    }
-    if !settles::<Set, R>(rt, alloc, &counts, request)? {
-        return Ok(Some("set"));
-    }
-    if !settles::<Index<'_>, R>(rt, alloc, &counts, request)? || !counts.are_equal() {
-        return Ok(Some("index"));
-    }
-    if !settles::<Cache<'_>, R>(rt, alloc, &counts, request)? || !counts.are_equal() {
-        return Ok(Some("cache"));
-    }
-    Ok(None)
+    let map = settles::<Map<'_>, R>(rt, alloc, &counts, request)?;
+    let map = tell(rt, "map", map && counts.are_equal())?;
+    let set = settles::<Set, R>(rt, alloc, &counts, request)?;
+    let set = tell(rt, "set", set)?;
+    let index = settles::<Index<'_>, R>(rt, alloc, &counts, request)?;
+    let index = tell(rt, "index", index && counts.are_equal())?;
+    let cache = settles::<Cache<'_>, R>(rt, alloc, &counts, request)?;
+    let cache = tell(rt, "cache", cache && counts.are_equal())?;
+    Ok(map && set && index && cache)
 }
 
 /// Goes on with rounds until the time is over, and prints how many there were. It ends at the first whose counts don't
@@ -95,8 +99,7 @@ pub(crate) fn soak<R: Wait + Threads + Sync + Print + Clock>(
     let start = Instant::now(rt)?;
     let mut made = 0u64;
     for _ in 0..u64::MAX {
-        if let Some(name) = first_uneven(rt, alloc, request)? {
-            println!(rt; "{name}: what went in and out doesn't add up")?;
+        if !all_add_up(rt, alloc, request)? {
             return Ok(UNEVEN);
         }
         made = made.saturating_add(1);
