@@ -1,0 +1,197 @@
+//! The cache for one owner, as drivers see it.
+
+use crate::answers::{Answer, Kind, Rule, raise_and_keep, refused, verdict};
+use crate::form::{Act, At, Form, Sizes, Way};
+use crate::numbered::{Numbered, Seen, note_pairs, raise_to_even, seen, seen_pair, value_of};
+use scc::InsertError;
+use scc::hash_cache::owned::{Entry, OccupiedEntry, ReplaceResult};
+use scc::hash_cache::{EvictedEntry, Owned};
+use std::alloc::Global;
+use std::hash::{BuildHasher, Hash};
+
+// What a way answers that lends an entry.
+fn entered<K: Eq + Hash + Drop + Numbered, V: Drop + Numbered, H: BuildHasher>(
+    answer: Result<(EvictedEntry<K, V>, OccupiedEntry<'_, K, V, H>), InsertError<K, V>>,
+) -> Answer {
+    match answer {
+        Ok((evicted, entry)) => {
+            let here = seen(entry.key(), entry.get());
+            Answer::Entry(seen_pair(evicted), here)
+        }
+        Err(error) => refused(error),
+    }
+}
+
+// Puts the pair through its entry.
+fn enter<K: Eq + Hash + Drop + Numbered, V: Default + Drop + Numbered, H: BuildHasher>(
+    cache: &mut Owned<K, V, H>,
+    way: Way,
+    key: K,
+    value: V,
+) -> Answer {
+    let entry = cache.entry_sync(key);
+    entered(match way {
+        Way::OrInsertWith => entry.or_put_with(|| value),
+        Way::OrInsertWithKey => entry.or_put_with_key(|key| value_of(key, value)),
+        Way::OrDefault => entry.or_default(),
+        Way::InsertEntry => entry.put_entry(value),
+        _ => entry.or_put(value),
+    })
+}
+
+// Puts the pair through its vacant entry.
+fn fill<K: Eq + Hash + Drop + Numbered, V: Drop + Numbered, H: BuildHasher>(
+    cache: &mut Owned<K, V, H>,
+    key: K,
+    value: V,
+) -> Answer {
+    match cache.entry_sync(key) {
+        Entry::Vacant(entry) => entered(entry.put_entry(value)),
+        Entry::Occupied(entry) => Answer::Found(Some(seen(entry.key(), entry.get()))),
+    }
+}
+
+// Puts the key in the place of its equal, or puts the pair.
+fn replace_or_fill<K: Eq + Hash + Drop + Numbered, V: Drop + Numbered, H: BuildHasher>(
+    cache: &mut Owned<K, V, H>,
+    key: K,
+    value: V,
+) -> Answer {
+    match cache.replace_sync(key) {
+        ReplaceResult::Replaced(entry, old) => {
+            Answer::Swapped(Some(old.mark()), Some(seen(entry.key(), entry.get())))
+        }
+        ReplaceResult::NotReplaced(entry) => entered(entry.put_entry(value)),
+    }
+}
+
+// Does that with an entry.
+fn act_on<K: Eq + Hash + Drop + Numbered, V: Drop + Numbered, H: BuildHasher>(
+    entry: OccupiedEntry<'_, K, V, H>,
+    act: Act,
+    value: V,
+) -> Answer {
+    let mut entry = entry;
+    match act {
+        Act::Look => Answer::Found(Some(seen(entry.key(), entry.get()))),
+        Act::Write => {
+            entry.get_mut().write(value.number());
+            Answer::Found(Some(seen(entry.key(), entry.get())))
+        }
+        Act::Set => Answer::Old(Some(entry.put(value).number())),
+        Act::Remove => Answer::Old(Some(entry.remove().number())),
+        Act::RemoveEntry => Answer::Found(seen_pair(Some(entry.remove_entry()))),
+        _ => Answer::Absent,
+    }
+}
+
+impl<K: Eq + Hash + Drop + Numbered, V: Default + Drop + Numbered, H: BuildHasher + Drop> Form<K, V>
+    for Owned<K, V, H> {
+    fn kind(&self) -> Kind {
+        Kind::Cache
+    }
+
+    fn add(&mut self, way: Way, key: K, value: V) -> Answer {
+        match way {
+            Way::Insert => match self.put_sync(key, value) {
+                Ok(evicted) => Answer::Added(seen_pair(evicted)),
+                Err(error) => refused(error),
+            },
+            Way::Upsert => Answer::Absent,
+            Way::Replace => replace_or_fill(self, key, value),
+            Way::Vacant => fill(self, key, value),
+            _ => enter(self, way, key, value),
+        }
+    }
+
+    fn replace(&mut self, key: K) -> Answer {
+        match self.replace_sync(key) {
+            ReplaceResult::Replaced(entry, old) => {
+                Answer::Swapped(Some(old.mark()), Some(seen(entry.key(), entry.get())))
+            }
+            ReplaceResult::NotReplaced(_) => Answer::Swapped(None, None),
+        }
+    }
+
+    fn modify(&mut self, key: K, value: V) -> Answer {
+        match self
+            .entry_sync(key)
+            .and_modify(|old| old.write(value.number()))
+        {
+            Entry::Occupied(entry) => Answer::Found(Some(seen(entry.key(), entry.get()))),
+            Entry::Vacant(entry) => {
+                let number = entry.key().number();
+                Answer::Vacant(number, entry.into_key().mark())
+            }
+        }
+    }
+
+    fn act(&mut self, at: At, act: Act, key: &K, value: V) -> Answer {
+        if at != At::Key {
+            return Answer::Absent;
+        }
+        match self.get_sync(key) {
+            Some(entry) => act_on(entry, act, value),
+            None => Answer::Found(None),
+        }
+    }
+
+    fn remove(&mut self, key: &K) -> Answer {
+        Answer::Found(seen_pair(self.remove_sync(key)))
+    }
+
+    fn remove_if(&mut self, key: &K) -> Answer {
+        let taken = self.remove_if_sync(key, |value| raise_to_even(value));
+        Answer::Found(seen_pair(taken))
+    }
+
+    fn read(&self, key: &K) -> Answer {
+        let found = self.read_sync(key, |key, value| seen(key, value));
+        if self.contains_sync(key) == found.is_some() {
+            Answer::Found(found)
+        } else {
+            Answer::Wrong
+        }
+    }
+
+    fn retain(&mut self, rest: u64) {
+        self.retain_sync(|key, value| raise_and_keep(key, value, rest));
+    }
+
+    fn take(&mut self, alloc: Global, rule: Rule, met: &mut Vec<Seen>) -> Answer {
+        let mut pairs: Vec<(K, V)> = Vec::new(alloc);
+        let ended = self.iter_mut_sync(|key, value| verdict(rule, key, value), &mut pairs);
+        let noted = note_pairs(pairs.as_slice(), met);
+        match ended {
+            Ok(ended) if noted => Answer::Yes(ended),
+            _ => Answer::Refused(None),
+        }
+    }
+
+    fn collect(&self, met: &mut Vec<Seen>) -> bool {
+        self.iter_sync(|key, value| met.push(seen(key, value)).is_ok())
+    }
+
+    fn passes(&self, number: u64) -> bool {
+        self.iter_sync(|key, _| key.number() != number)
+    }
+
+    fn clear(&mut self) {
+        self.clear_sync();
+    }
+
+    fn sizes(&self) -> Sizes {
+        let range = self.capacity_range();
+        Sizes {
+            len: self.len(),
+            is_empty: self.is_empty(),
+            capacity: self.capacity(),
+            minimum: *range.start(),
+            maximum: *range.end(),
+        }
+    }
+
+    fn waiting(&self) -> usize {
+        self.pending()
+    }
+}

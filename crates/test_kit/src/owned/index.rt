@@ -1,0 +1,243 @@
+//! The index for one owner, as drivers see it.
+
+use crate::answers::{Answer, Kind, refused};
+use crate::form::{Act, At, Form, Sizes, Way};
+use crate::numbered::{Numbered, Seen, keeps, seen, value_of};
+use scc::InsertError;
+use scc::hash_index::Owned;
+use scc::hash_index::owned::{Entry, OccupiedEntry};
+use std::hash::{BuildHasher, Hash};
+
+// What a way answers that lends an entry.
+fn entered<K: Eq + Hash + Drop + Numbered, V: Drop + Numbered, H: BuildHasher>(
+    answer: Result<OccupiedEntry<'_, K, V, H>, InsertError<K, V>>,
+) -> Answer {
+    match answer {
+        Ok(entry) => Answer::Entry(None, seen(entry.key(), entry.get())),
+        Err(error) => refused(error),
+    }
+}
+
+// Adds the pair through its entry.
+fn enter<K: Eq + Hash + Drop + Numbered, V: Default + Drop + Numbered, H: BuildHasher>(
+    index: &mut Owned<K, V, H>,
+    way: Way,
+    key: K,
+    value: V,
+) -> Answer {
+    let entry = index.entry_sync(key);
+    entered(match way {
+        Way::OrInsertWith => entry.or_insert_with(|| value),
+        Way::OrInsertWithKey => entry.or_insert_with_key(|key| value_of(key, value)),
+        Way::OrDefault => entry.or_default(),
+        _ => entry.or_insert(value),
+    })
+}
+
+// Adds the pair through its vacant entry.
+fn fill<K: Eq + Hash + Drop + Numbered, V: Drop + Numbered, H: BuildHasher>(
+    index: &mut Owned<K, V, H>,
+    key: K,
+    value: V,
+) -> Answer {
+    match index.entry_sync(key) {
+        Entry::Vacant(entry) => entered(entry.insert_entry(value)),
+        Entry::Occupied(entry) => Answer::Found(Some(seen(entry.key(), entry.get()))),
+    }
+}
+
+// The pair of an entry, if there is one.
+fn shown<K: Eq + Hash + Drop + Numbered, V: Drop + Numbered, H: BuildHasher>(
+    entry: Option<OccupiedEntry<'_, K, V, H>>,
+) -> Option<Seen> {
+    match entry {
+        Some(entry) => Some(seen(entry.key(), entry.get())),
+        None => None,
+    }
+}
+
+// Does that with an entry.
+fn act_on<K: Eq + Hash + Clone + Drop + Numbered, V: Drop + Numbered, H: BuildHasher>(
+    entry: OccupiedEntry<'_, K, V, H>,
+    act: Act,
+    value: V,
+) -> Answer {
+    let mut entry = entry;
+    let here = seen(entry.key(), entry.get());
+    match act {
+        Act::Look => Answer::Found(Some(here)),
+        Act::Set => match entry.update(value) {
+            Ok(()) => Answer::Yes(true),
+            Err(back) => Answer::Refused(Some(seen(entry.key(), &back))),
+        },
+        Act::RemoveEntry => {
+            entry.remove_entry();
+            Answer::Yes(true)
+        }
+        Act::Next => Answer::Found(shown(entry.next_sync())),
+        Act::RemoveNext => Answer::Gone(here, shown(entry.remove_and_sync())),
+        _ => Answer::Absent,
+    }
+}
+
+impl<
+    K: Eq + Hash + Clone + Drop + Numbered,
+    V: Clone + Default + Drop + Numbered + PartialEq,
+    H: BuildHasher + Clone + Drop,
+> Form<K, V> for Owned<K, V, H> {
+    fn kind(&self) -> Kind {
+        Kind::Index
+    }
+
+    fn add(&mut self, way: Way, key: K, value: V) -> Answer {
+        match way {
+            Way::Insert => match self.insert_sync(key, value) {
+                Ok(()) => Answer::Added(None),
+                Err(error) => refused(error),
+            },
+            Way::Vacant => fill(self, key, value),
+            Way::Upsert | Way::Replace | Way::InsertEntry => Answer::Absent,
+            _ => enter(self, way, key, value),
+        }
+    }
+
+    fn modify(&mut self, key: K, value: V) -> Answer {
+        match self.entry_sync(key).and_modify(|_| value) {
+            Ok(Entry::Occupied(entry)) => Answer::Found(Some(seen(entry.key(), entry.get()))),
+            Ok(Entry::Vacant(entry)) => {
+                let number = entry.key().number();
+                Answer::Vacant(number, entry.into_key().mark())
+            }
+            Err((entry, back)) => Answer::Refused(Some(seen(entry.key(), &back))),
+        }
+    }
+
+    fn act(&mut self, at: At, act: Act, key: &K, value: V) -> Answer {
+        let number = key.number();
+        let entry = match at {
+            At::Key => self.get_sync(key),
+            At::Any => self.any_sync(|other, _| other.number() == number),
+            At::First => self.begin_sync(),
+        };
+        match entry {
+            Some(entry) => act_on(entry, act, value),
+            None => Answer::Found(None),
+        }
+    }
+
+    fn remove(&mut self, key: &K) -> Answer {
+        Answer::Yes(self.remove_sync(key))
+    }
+
+    fn remove_if(&mut self, key: &K) -> Answer {
+        Answer::Yes(self.remove_if_sync(key, |value| value.number() % 2 == 0))
+    }
+
+    fn read(&self, key: &K) -> Answer {
+        let found = self.peek_with(key, |key, value| seen(key, value));
+        let read = self.read_sync(key, |key, value| seen(key, value));
+        let peeked = match self.peek(key) {
+            Some(version) => Some(seen(version.key(), version.value())),
+            None => None,
+        };
+        if read == found && peeked == found && self.contains(key) == found.is_some() {
+            Answer::Found(found)
+        } else {
+            Answer::Wrong
+        }
+    }
+
+    fn place(&self, key: &K) -> Answer {
+        Answer::Place(self.bucket_index(key), true)
+    }
+
+    fn retain(&mut self, rest: u64) {
+        self.retain_sync(|key, _| keeps(key, rest));
+    }
+
+    fn collect(&self, met: &mut Vec<Seen>) -> bool {
+        self.iter_sync(|key, value| met.push(seen(key, value)).is_ok())
+    }
+
+    fn passes(&self, number: u64) -> bool {
+        self.iter_sync(|key, _| key.number() != number)
+    }
+
+    fn step(&mut self, most: usize, met: &mut Vec<Seen>) -> Answer {
+        let mut place = self.begin_sync();
+        for _ in 0..most {
+            let Some(entry) = place else {
+                break;
+            };
+            if met.push(seen(entry.key(), entry.get())).is_err() {
+                return Answer::Refused(None);
+            }
+            place = entry.next_sync();
+        }
+        Answer::Yes(true)
+    }
+
+    fn drain(&mut self, most: usize, met: &mut Vec<Seen>) -> Answer {
+        let mut place = self.begin_sync();
+        for _ in 0..most {
+            let Some(entry) = place else {
+                break;
+            };
+            if met.push(seen(entry.key(), entry.get())).is_err() {
+                return Answer::Refused(None);
+            }
+            place = entry.remove_and_sync();
+        }
+        Answer::Yes(true)
+    }
+
+    fn snapshot(&self, met: &mut Vec<Seen>) -> Answer {
+        let Ok(versions) = self.iter() else {
+            return Answer::Refused(None);
+        };
+        for version in versions {
+            if met.push(seen(version.key(), version.value())).is_err() {
+                return Answer::Refused(None);
+            }
+        }
+        Answer::Yes(true)
+    }
+
+    fn copy(&self) -> Answer {
+        match self.try_clone() {
+            Ok(copy) => Answer::Yes(copy == *self && *self == copy),
+            Err(_) => Answer::Refused(None),
+        }
+    }
+
+    fn clear(&mut self) {
+        self.clear_sync();
+    }
+
+    fn reserve(&mut self, slots: usize) -> Answer {
+        let Some(token) = Owned::reserve(self, slots) else {
+            return Answer::Refused(None);
+        };
+        let reserved = token.additional_capacity();
+        let sizes = (self.capacity(), *self.capacity_range().start());
+        match self.release(token) {
+            Ok(()) => Answer::Reserved(reserved, sizes.0, sizes.1),
+            Err(_) => Answer::Wrong,
+        }
+    }
+
+    fn sizes(&self) -> Sizes {
+        let range = self.capacity_range();
+        Sizes {
+            len: self.len(),
+            is_empty: self.is_empty(),
+            capacity: self.capacity(),
+            minimum: *range.start(),
+            maximum: *range.end(),
+        }
+    }
+
+    fn waiting(&self) -> usize {
+        self.pending()
+    }
+}

@@ -1,0 +1,284 @@
+//! The map for one owner, as drivers see it.
+
+use crate::answers::{Answer, Kind, Rule, raise_and_keep, refused, verdict};
+use crate::form::{Act, At, Form, Sizes, Way};
+use crate::numbered::{
+    Numbered, Seen, keeps, note_pairs, raise_to_even, seen, seen_pair, value_of,
+};
+use scc::hash_map::Owned;
+use scc::hash_map::owned::{Entry, OccupiedEntry, ReplaceResult};
+use scc::{InsertError, Reservation};
+use std::alloc::Global;
+use std::hash::{BuildHasher, Hash};
+
+// What a way answers that lends an entry.
+fn entered<K: Eq + Hash + Drop + Numbered, V: Drop + Numbered, H: BuildHasher>(
+    answer: Result<OccupiedEntry<'_, K, V, H>, InsertError<K, V>>,
+) -> Answer {
+    match answer {
+        Ok(entry) => Answer::Entry(None, seen(entry.key(), entry.get())),
+        Err(error) => refused(error),
+    }
+}
+
+// Adds the pair through its entry.
+fn enter<K: Eq + Hash + Drop + Numbered, V: Default + Drop + Numbered, H: BuildHasher>(
+    map: &mut Owned<K, V, H>,
+    way: Way,
+    key: K,
+    value: V,
+) -> Answer {
+    let entry = map.entry_sync(key);
+    entered(match way {
+        Way::OrInsertWith => entry.or_insert_with(|| value),
+        Way::OrInsertWithKey => entry.or_insert_with_key(|key| value_of(key, value)),
+        Way::OrDefault => entry.or_default(),
+        Way::InsertEntry => entry.insert_entry(value),
+        _ => entry.or_insert(value),
+    })
+}
+
+// Adds the pair through its vacant entry.
+fn fill<K: Eq + Hash + Drop + Numbered, V: Drop + Numbered, H: BuildHasher>(
+    map: &mut Owned<K, V, H>,
+    key: K,
+    value: V,
+) -> Answer {
+    match map.entry_sync(key) {
+        Entry::Vacant(entry) => entered(entry.insert_entry(value)),
+        Entry::Occupied(entry) => Answer::Found(Some(seen(entry.key(), entry.get()))),
+    }
+}
+
+// Puts the key in the place of its equal, or adds the pair.
+fn replace_or_fill<K: Eq + Hash + Drop + Numbered, V: Drop + Numbered, H: BuildHasher>(
+    map: &mut Owned<K, V, H>,
+    key: K,
+    value: V,
+) -> Answer {
+    match map.replace_sync(key) {
+        ReplaceResult::Replaced(entry, old) => {
+            Answer::Swapped(Some(old.mark()), Some(seen(entry.key(), entry.get())))
+        }
+        ReplaceResult::NotReplaced(entry) => entered(entry.insert_entry(value)),
+    }
+}
+
+// The pair of an entry, if there is one.
+fn shown<K: Eq + Hash + Drop + Numbered, V: Drop + Numbered, H: BuildHasher>(
+    entry: Option<OccupiedEntry<'_, K, V, H>>,
+) -> Option<Seen> {
+    match entry {
+        Some(entry) => Some(seen(entry.key(), entry.get())),
+        None => None,
+    }
+}
+
+// Does that with an entry.
+fn act_on<K: Eq + Hash + Drop + Numbered, V: Drop + Numbered, H: BuildHasher>(
+    entry: OccupiedEntry<'_, K, V, H>,
+    act: Act,
+    value: V,
+) -> Answer {
+    let mut entry = entry;
+    match act {
+        Act::Look => Answer::Found(Some(seen(entry.key(), entry.get()))),
+        Act::Write => {
+            entry.get_mut().write(value.number());
+            Answer::Found(Some(seen(entry.key(), entry.get())))
+        }
+        Act::Set => Answer::Old(Some(entry.insert(value).number())),
+        Act::Remove => Answer::Old(Some(entry.remove().number())),
+        Act::RemoveEntry => Answer::Found(seen_pair(Some(entry.remove_entry()))),
+        Act::Next => Answer::Found(shown(entry.next_sync())),
+        Act::RemoveNext => match entry.remove_and_sync() {
+            Ok((pair, next)) => {
+                Answer::Gone(seen(&pair.0, &pair.1), Some(seen(next.key(), next.get())))
+            }
+            Err(pair) => Answer::Gone(seen(&pair.0, &pair.1), None),
+        },
+    }
+}
+
+impl<
+    K: Eq + Hash + Clone + Drop + Numbered,
+    V: Clone + Default + Drop + Numbered + PartialEq,
+    H: BuildHasher + Clone + Drop,
+> Form<K, V> for Owned<K, V, H> {
+    fn kind(&self) -> Kind {
+        Kind::Map
+    }
+
+    fn add(&mut self, way: Way, key: K, value: V) -> Answer {
+        match way {
+            Way::Insert => match self.insert_sync(key, value) {
+                Ok(()) => Answer::Added(None),
+                Err(error) => refused(error),
+            },
+            Way::Upsert => match self.upsert_sync(key, value) {
+                Ok(old) => Answer::Old(old.map(|value| value.number())),
+                Err(error) => refused(error),
+            },
+            Way::Replace => replace_or_fill(self, key, value),
+            Way::Vacant => fill(self, key, value),
+            _ => enter(self, way, key, value),
+        }
+    }
+
+    fn replace(&mut self, key: K) -> Answer {
+        match self.replace_sync(key) {
+            ReplaceResult::Replaced(entry, old) => {
+                Answer::Swapped(Some(old.mark()), Some(seen(entry.key(), entry.get())))
+            }
+            ReplaceResult::NotReplaced(_) => Answer::Swapped(None, None),
+        }
+    }
+
+    fn update(&mut self, key: &K, value: V) -> Answer {
+        Answer::Old(self.update_sync(key, |_, old| {
+            let number = old.number();
+            *old = value;
+            number
+        }))
+    }
+
+    fn modify(&mut self, key: K, value: V) -> Answer {
+        match self
+            .entry_sync(key)
+            .and_modify(|old| old.write(value.number()))
+        {
+            Entry::Occupied(entry) => Answer::Found(Some(seen(entry.key(), entry.get()))),
+            Entry::Vacant(entry) => {
+                let number = entry.key().number();
+                Answer::Vacant(number, entry.into_key().mark())
+            }
+        }
+    }
+
+    fn act(&mut self, at: At, act: Act, key: &K, value: V) -> Answer {
+        let number = key.number();
+        let entry = match at {
+            At::Key => self.get_sync(key),
+            At::Any => self.any_sync(|other, _| other.number() == number),
+            At::First => self.begin_sync(),
+        };
+        match entry {
+            Some(entry) => act_on(entry, act, value),
+            None => Answer::Found(None),
+        }
+    }
+
+    fn remove(&mut self, key: &K) -> Answer {
+        Answer::Found(seen_pair(self.remove_sync(key)))
+    }
+
+    fn remove_if(&mut self, key: &K) -> Answer {
+        let taken = self.remove_if_sync(key, |value| raise_to_even(value));
+        Answer::Found(seen_pair(taken))
+    }
+
+    fn read(&self, key: &K) -> Answer {
+        let found = self.read_sync(key, |key, value| seen(key, value));
+        if self.contains_sync(key) == found.is_some() {
+            Answer::Found(found)
+        } else {
+            Answer::Wrong
+        }
+    }
+
+    fn place(&self, key: &K) -> Answer {
+        Answer::Place(self.bucket_index(key), self.has_room(key))
+    }
+
+    fn retain(&mut self, rest: u64) {
+        self.retain_sync(|key, value| raise_and_keep(key, value, rest));
+    }
+
+    fn take(&mut self, alloc: Global, rule: Rule, met: &mut Vec<Seen>) -> Answer {
+        let mut pairs: Vec<(K, V)> = Vec::new(alloc);
+        let ended = self.iter_mut_sync(|key, value| verdict(rule, key, value), &mut pairs);
+        let noted = note_pairs(pairs.as_slice(), met);
+        match ended {
+            Ok(ended) if noted => Answer::Yes(ended),
+            _ => Answer::Refused(None),
+        }
+    }
+
+    fn collect(&self, met: &mut Vec<Seen>) -> bool {
+        self.iter_sync(|key, value| met.push(seen(key, value)).is_ok())
+    }
+
+    fn passes(&self, number: u64) -> bool {
+        self.iter_sync(|key, _| key.number() != number)
+    }
+
+    fn step(&mut self, most: usize, met: &mut Vec<Seen>) -> Answer {
+        let mut place = self.begin_sync();
+        for _ in 0..most {
+            let Some(entry) = place else {
+                break;
+            };
+            if met.push(seen(entry.key(), entry.get())).is_err() {
+                return Answer::Refused(None);
+            }
+            place = entry.next_sync();
+        }
+        Answer::Yes(true)
+    }
+
+    fn drain(&mut self, most: usize, met: &mut Vec<Seen>) -> Answer {
+        let mut place = self.begin_sync();
+        for _ in 0..most {
+            let Some(entry) = place else {
+                break;
+            };
+            let (pair, next) = match entry.remove_and_sync() {
+                Ok((pair, next)) => (pair, Some(next)),
+                Err(pair) => (pair, None),
+            };
+            if met.push(seen(&pair.0, &pair.1)).is_err() {
+                return Answer::Refused(None);
+            }
+            place = next;
+        }
+        Answer::Yes(true)
+    }
+
+    fn copy(&self) -> Answer {
+        match self.try_clone() {
+            Ok(copy) => Answer::Yes(copy == *self && *self == copy),
+            Err(_) => Answer::Refused(None),
+        }
+    }
+
+    fn clear(&mut self) {
+        self.clear_sync();
+    }
+
+    fn reserve(&mut self, slots: usize) -> Answer {
+        let Some(token) = Owned::reserve(self, slots) else {
+            return Answer::Refused(None);
+        };
+        let reserved = token.additional_capacity();
+        let sizes = (self.capacity(), *self.capacity_range().start());
+        match self.release(token) {
+            Ok(()) => Answer::Reserved(reserved, sizes.0, sizes.1),
+            Err(_) => Answer::Wrong,
+        }
+    }
+
+    fn sizes(&self) -> Sizes {
+        let range = self.capacity_range();
+        Sizes {
+            len: self.len(),
+            is_empty: self.is_empty(),
+            capacity: self.capacity(),
+            minimum: *range.start(),
+            maximum: *range.end(),
+        }
+    }
+
+    fn waiting(&self) -> usize {
+        self.pending()
+    }
+}

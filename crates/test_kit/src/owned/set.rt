@@ -1,0 +1,195 @@
+//! The set for one owner, as drivers see it.
+
+use crate::answers::{Answer, Kind, Rule, key_verdict, refused_key};
+use crate::form::{Act, At, Form, Sizes, Way};
+use crate::numbered::{Numbered, Seen, keeps, note_keys, seen_key};
+use scc::hash_set::Owned;
+use scc::hash_set::owned::OccupiedEntry;
+use std::alloc::Global;
+use std::hash::{BuildHasher, Hash};
+
+// The key of an entry, if there is one.
+fn shown<K: Eq + Hash + Drop + Numbered, H: BuildHasher>(
+    entry: Option<OccupiedEntry<'_, K, H>>,
+) -> Option<Seen> {
+    match entry {
+        Some(entry) => Some(seen_key(entry.get())),
+        None => None,
+    }
+}
+
+// Does that with an entry.
+fn act_on<K: Eq + Hash + Drop + Numbered, H: BuildHasher>(
+    entry: OccupiedEntry<'_, K, H>,
+    act: Act,
+) -> Answer {
+    match act {
+        Act::Look => Answer::Found(Some(seen_key(entry.get()))),
+        Act::RemoveEntry => Answer::Found(Some(seen_key(&entry.remove_entry()))),
+        Act::Next => Answer::Found(shown(entry.next_sync())),
+        Act::RemoveNext => match entry.remove_and_sync() {
+            Ok((removed, next)) => Answer::Gone(seen_key(&removed.key), Some(seen_key(next.get()))),
+            Err(key) => Answer::Gone(seen_key(&key), None),
+        },
+        _ => Answer::Absent,
+    }
+}
+
+impl<
+    K: Eq + Hash + Clone + Drop + Numbered,
+    V: Drop + Numbered,
+    H: BuildHasher + Clone + Drop,
+> Form<K, V> for Owned<K, H> {
+    fn kind(&self) -> Kind {
+        Kind::Set
+    }
+
+    fn add(&mut self, way: Way, key: K, _value: V) -> Answer {
+        match way {
+            Way::Insert => match self.insert_sync(key) {
+                Ok(()) => Answer::Added(None),
+                Err(error) => refused_key(error),
+            },
+            Way::Replace => match self.replace_sync(key) {
+                Ok(old) => Answer::Swapped(old.map(|key| key.mark()), None),
+                Err(error) => refused_key(error),
+            },
+            _ => Answer::Absent,
+        }
+    }
+
+    fn replace(&mut self, key: K) -> Answer {
+        match self.replace_sync(key) {
+            Ok(old) => Answer::Swapped(old.map(|key| key.mark()), None),
+            Err(error) => refused_key(error),
+        }
+    }
+
+    fn act(&mut self, at: At, act: Act, key: &K, _value: V) -> Answer {
+        let number = key.number();
+        let entry = match at {
+            At::Key => return Answer::Absent,
+            At::Any => self.any_sync(|other| other.number() == number),
+            At::First => self.begin_sync(),
+        };
+        match entry {
+            Some(entry) => act_on(entry, act),
+            None => Answer::Found(None),
+        }
+    }
+
+    fn remove(&mut self, key: &K) -> Answer {
+        Answer::Found(self.remove_sync(key).map(|key| seen_key(&key)))
+    }
+
+    fn remove_if(&mut self, key: &K) -> Answer {
+        let is_even = key.number() % 2 == 0;
+        let taken = self.remove_if_sync(key, || is_even);
+        Answer::Found(taken.map(|key| seen_key(&key)))
+    }
+
+    fn read(&self, key: &K) -> Answer {
+        let found = self.read_sync(key, |key| seen_key(key));
+        if self.contains_sync(key) == found.is_some() {
+            Answer::Found(found)
+        } else {
+            Answer::Wrong
+        }
+    }
+
+    fn place(&self, key: &K) -> Answer {
+        Answer::Place(self.bucket_index(key), self.has_room(key))
+    }
+
+    fn retain(&mut self, rest: u64) {
+        self.retain_sync(|key| keeps(key, rest));
+    }
+
+    fn take(&mut self, alloc: Global, rule: Rule, met: &mut Vec<Seen>) -> Answer {
+        let mut keys: Vec<K> = Vec::new(alloc);
+        let ended = self.iter_mut_sync(|key| key_verdict(rule, key), &mut keys);
+        let noted = note_keys(keys.as_slice(), met);
+        match ended {
+            Ok(ended) if noted => Answer::Yes(ended),
+            _ => Answer::Refused(None),
+        }
+    }
+
+    fn collect(&self, met: &mut Vec<Seen>) -> bool {
+        self.iter_sync(|key| met.push(seen_key(key)).is_ok())
+    }
+
+    fn passes(&self, number: u64) -> bool {
+        self.iter_sync(|key| key.number() != number)
+    }
+
+    fn step(&mut self, most: usize, met: &mut Vec<Seen>) -> Answer {
+        let mut place = self.begin_sync();
+        for _ in 0..most {
+            let Some(entry) = place else {
+                break;
+            };
+            if met.push(seen_key(entry.get())).is_err() {
+                return Answer::Refused(None);
+            }
+            place = entry.next_sync();
+        }
+        Answer::Yes(true)
+    }
+
+    fn drain(&mut self, most: usize, met: &mut Vec<Seen>) -> Answer {
+        let mut place = self.begin_sync();
+        for _ in 0..most {
+            let Some(entry) = place else {
+                break;
+            };
+            let (key, next) = match entry.remove_and_sync() {
+                Ok((removed, next)) => (removed.key, Some(next)),
+                Err(key) => (key, None),
+            };
+            if met.push(seen_key(&key)).is_err() {
+                return Answer::Refused(None);
+            }
+            place = next;
+        }
+        Answer::Yes(true)
+    }
+
+    fn copy(&self) -> Answer {
+        match self.try_clone() {
+            Ok(copy) => Answer::Yes(copy == *self && *self == copy),
+            Err(_) => Answer::Refused(None),
+        }
+    }
+
+    fn clear(&mut self) {
+        self.clear_sync();
+    }
+
+    fn reserve(&mut self, slots: usize) -> Answer {
+        let Some(token) = Owned::reserve(self, slots) else {
+            return Answer::Refused(None);
+        };
+        let reserved = token.additional_capacity();
+        let sizes = (self.capacity(), *self.capacity_range().start());
+        match self.release(token) {
+            Ok(()) => Answer::Reserved(reserved, sizes.0, sizes.1),
+            Err(_) => Answer::Wrong,
+        }
+    }
+
+    fn sizes(&self) -> Sizes {
+        let range = self.capacity_range();
+        Sizes {
+            len: self.len(),
+            is_empty: self.is_empty(),
+            capacity: self.capacity(),
+            minimum: *range.start(),
+            maximum: *range.end(),
+        }
+    }
+
+    fn waiting(&self) -> usize {
+        self.pending()
+    }
+}

@@ -1,0 +1,254 @@
+//! The cache that threads share, as drivers see it.
+
+use crate::held::Held;
+use scc::InsertError;
+use scc::hash_cache::{Entry, EvictedEntry, HashCache, OccupiedEntry, ReplaceResult};
+use std::alloc::Global;
+use std::hash::{BuildHasher, Hash};
+use std::sync::Wait;
+use test_kit::answers::{Answer, Kind, Rule, raise_and_keep, refused, verdict};
+use test_kit::form::{Act, At, Form, Sizes, Way};
+use test_kit::numbered::{Numbered, Seen, note_pairs, raise_to_even, seen, seen_pair, value_of};
+
+// What a way answers that lends an entry.
+fn entered<K: Eq + Hash + Drop + Numbered, V: Drop + Numbered, H: BuildHasher>(
+    answer: Result<(EvictedEntry<K, V>, OccupiedEntry<'_, K, V, H>), InsertError<K, V>>,
+) -> Answer {
+    match answer {
+        Ok((evicted, entry)) => {
+            let here = seen(entry.key(), entry.get());
+            Answer::Entry(seen_pair(evicted), here)
+        }
+        Err(error) => refused(error),
+    }
+}
+
+// Puts the pair through its entry.
+fn enter<K: Eq + Hash + Drop + Numbered, V: Default + Drop + Numbered, H: BuildHasher>(
+    rt: &impl Wait,
+    cache: &HashCache<K, V, H>,
+    way: Way,
+    key: K,
+    value: V,
+) -> Answer {
+    let entry = cache.entry_sync(rt, key);
+    entered(match way {
+        Way::OrInsertWith => entry.or_put_with(|| value),
+        Way::OrInsertWithKey => entry.or_put_with_key(|key| value_of(key, value)),
+        Way::OrDefault => entry.or_default(),
+        Way::InsertEntry => entry.put_entry(value),
+        _ => entry.or_put(value),
+    })
+}
+
+// Puts the pair through its vacant entry.
+fn fill<K: Eq + Hash + Drop + Numbered, V: Drop + Numbered, H: BuildHasher>(
+    rt: &impl Wait,
+    cache: &HashCache<K, V, H>,
+    key: K,
+    value: V,
+) -> Answer {
+    match cache.entry_sync(rt, key) {
+        Entry::Vacant(entry) => entered(entry.put_entry(value)),
+        Entry::Occupied(entry) => {
+            let here = seen(entry.key(), entry.get());
+            Answer::Found(Some(here))
+        }
+    }
+}
+
+// Puts the key in the place of its equal, or puts the pair.
+fn replace_or_fill<K: Eq + Hash + Drop + Numbered, V: Drop + Numbered, H: BuildHasher>(
+    rt: &impl Wait,
+    cache: &HashCache<K, V, H>,
+    key: K,
+    value: V,
+) -> Answer {
+    match cache.replace_sync(rt, key) {
+        ReplaceResult::Replaced(entry, old) => {
+            let here = seen(entry.key(), entry.get());
+            Answer::Swapped(Some(old.mark()), Some(here))
+        }
+        ReplaceResult::NotReplaced(entry) => entered(entry.put_entry(value)),
+    }
+}
+
+// Puts the key in the place of its equal.
+fn replace_in<K: Eq + Hash + Drop + Numbered, V: Drop + Numbered, H: BuildHasher>(
+    rt: &impl Wait,
+    cache: &HashCache<K, V, H>,
+    key: K,
+) -> Answer {
+    match cache.replace_sync(rt, key) {
+        ReplaceResult::Replaced(entry, old) => {
+            let here = seen(entry.key(), entry.get());
+            Answer::Swapped(Some(old.mark()), Some(here))
+        }
+        ReplaceResult::NotReplaced(_) => Answer::Swapped(None, None),
+    }
+}
+
+// Sets the value of an entry that is there.
+fn modify_in<K: Eq + Hash + Drop + Numbered, V: Drop + Numbered, H: BuildHasher>(
+    rt: &impl Wait,
+    cache: &HashCache<K, V, H>,
+    key: K,
+    value: V,
+) -> Answer {
+    match cache
+        .entry_sync(rt, key)
+        .and_modify(|old| old.write(value.number()))
+    {
+        Entry::Occupied(entry) => {
+            let here = seen(entry.key(), entry.get());
+            Answer::Found(Some(here))
+        }
+        Entry::Vacant(entry) => {
+            let number = entry.key().number();
+            Answer::Vacant(number, entry.into_key().mark())
+        }
+    }
+}
+
+// Does that with an entry.
+fn act_on<K: Eq + Hash + Drop + Numbered, V: Drop + Numbered, H: BuildHasher>(
+    entry: OccupiedEntry<'_, K, V, H>,
+    act: Act,
+    value: V,
+) -> Answer {
+    let mut entry = entry;
+    match act {
+        Act::Look => {
+            let here = seen(entry.key(), entry.get());
+            Answer::Found(Some(here))
+        }
+        Act::Write => {
+            entry.get_mut().write(value.number());
+            let here = seen(entry.key(), entry.get());
+            Answer::Found(Some(here))
+        }
+        Act::Set => Answer::Old(Some(entry.put(value).number())),
+        Act::Remove => Answer::Old(Some(entry.remove().number())),
+        Act::RemoveEntry => Answer::Found(seen_pair(Some(entry.remove_entry()))),
+        _ => Answer::Absent,
+    }
+}
+
+// Does that with the entry of the key.
+fn act_in<K: Eq + Hash + Drop + Numbered, V: Drop + Numbered, H: BuildHasher>(
+    rt: &impl Wait,
+    cache: &HashCache<K, V, H>,
+    act: Act,
+    key: &K,
+    value: V,
+) -> Answer {
+    match cache.get_sync(rt, key) {
+        Some(entry) => act_on(entry, act, value),
+        None => Answer::Found(None),
+    }
+}
+
+impl<
+    K: Eq + Hash + Drop + Numbered,
+    V: Default + Drop + Numbered,
+    H: BuildHasher + Drop,
+    R: Wait,
+> Form<K, V> for Held<'_, R, HashCache<K, V, H>> {
+    fn kind(&self) -> Kind {
+        Kind::Cache
+    }
+
+    fn add(&mut self, way: Way, key: K, value: V) -> Answer {
+        match way {
+            Way::Insert => match self.shared.put_sync(self.rt, key, value) {
+                Ok(evicted) => Answer::Added(seen_pair(evicted)),
+                Err(error) => refused(error),
+            },
+            Way::Upsert => Answer::Absent,
+            Way::Replace => replace_or_fill(self.rt, &self.shared, key, value),
+            Way::Vacant => fill(self.rt, &self.shared, key, value),
+            _ => enter(self.rt, &self.shared, way, key, value),
+        }
+    }
+
+    fn replace(&mut self, key: K) -> Answer {
+        replace_in(self.rt, &self.shared, key)
+    }
+
+    fn modify(&mut self, key: K, value: V) -> Answer {
+        modify_in(self.rt, &self.shared, key, value)
+    }
+
+    fn act(&mut self, at: At, act: Act, key: &K, value: V) -> Answer {
+        if at != At::Key {
+            return Answer::Absent;
+        }
+        act_in(self.rt, &self.shared, act, key, value)
+    }
+
+    fn remove(&mut self, key: &K) -> Answer {
+        Answer::Found(seen_pair(self.shared.remove_sync(self.rt, key)))
+    }
+
+    fn remove_if(&mut self, key: &K) -> Answer {
+        let taken = self
+            .shared
+            .remove_if_sync(self.rt, key, |value| raise_to_even(value));
+        Answer::Found(seen_pair(taken))
+    }
+
+    fn read(&self, key: &K) -> Answer {
+        let found = self
+            .shared
+            .read_sync(self.rt, key, |key, value| seen(key, value));
+        if self.shared.contains_sync(self.rt, key) == found.is_some() {
+            Answer::Found(found)
+        } else {
+            Answer::Wrong
+        }
+    }
+
+    fn retain(&mut self, rest: u64) {
+        self.shared
+            .retain_sync(self.rt, |key, value| raise_and_keep(key, value, rest));
+    }
+
+    fn take(&mut self, alloc: Global, rule: Rule, met: &mut Vec<Seen>) -> Answer {
+        let mut pairs: Vec<(K, V)> = Vec::new(alloc);
+        let ended = self.shared.iter_mut_sync(
+            self.rt,
+            |key, value| verdict(rule, key, value),
+            &mut pairs,
+        );
+        let noted = note_pairs(pairs.as_slice(), met);
+        match ended {
+            Ok(ended) if noted => Answer::Yes(ended),
+            _ => Answer::Refused(None),
+        }
+    }
+
+    fn collect(&self, met: &mut Vec<Seen>) -> bool {
+        self.shared
+            .iter_sync(self.rt, |key, value| met.push(seen(key, value)).is_ok())
+    }
+
+    fn passes(&self, number: u64) -> bool {
+        self.shared
+            .iter_sync(self.rt, |key, _| key.number() != number)
+    }
+
+    fn clear(&mut self) {
+        self.shared.clear_sync(self.rt);
+    }
+
+    fn sizes(&self) -> Sizes {
+        let range = self.shared.capacity_range();
+        Sizes {
+            len: self.shared.len(self.rt),
+            is_empty: self.shared.is_empty(self.rt),
+            capacity: self.shared.capacity(self.rt),
+            minimum: *range.start(),
+            maximum: *range.end(),
+        }
+    }
+}

@@ -1,0 +1,328 @@
+//! The index that threads share, as drivers see it.
+
+use crate::held::Held;
+use scc::InsertError;
+use scc::hash_index::{Entry, HashIndex, OccupiedEntry};
+use std::hash::{BuildHasher, Hash};
+use std::sync::Wait;
+use test_kit::answers::{Answer, Kind, refused};
+use test_kit::form::{Act, At, Form, Sizes, Way};
+use test_kit::numbered::{Numbered, Seen, keeps, seen, value_of};
+
+// What a way answers that lends an entry.
+fn entered<K: Eq + Hash + Drop + Numbered, V: Drop + Numbered, H: BuildHasher>(
+    answer: Result<OccupiedEntry<'_, K, V, H>, InsertError<K, V>>,
+) -> Answer {
+    match answer {
+        Ok(entry) => {
+            let here = seen(entry.key(), entry.get());
+            Answer::Entry(None, here)
+        }
+        Err(error) => refused(error),
+    }
+}
+
+// Adds the pair through its entry.
+fn enter<K: Eq + Hash + Drop + Numbered, V: Default + Drop + Numbered, H: BuildHasher>(
+    rt: &impl Wait,
+    index: &HashIndex<K, V, H>,
+    way: Way,
+    key: K,
+    value: V,
+) -> Answer {
+    let entry = index.entry_sync(rt, key);
+    entered(match way {
+        Way::OrInsertWith => entry.or_insert_with(|| value),
+        Way::OrInsertWithKey => entry.or_insert_with_key(|key| value_of(key, value)),
+        Way::OrDefault => entry.or_default(),
+        _ => entry.or_insert(value),
+    })
+}
+
+// Adds the pair through its vacant entry.
+fn fill<K: Eq + Hash + Drop + Numbered, V: Drop + Numbered, H: BuildHasher>(
+    rt: &impl Wait,
+    index: &HashIndex<K, V, H>,
+    key: K,
+    value: V,
+) -> Answer {
+    match index.entry_sync(rt, key) {
+        Entry::Vacant(entry) => entered(entry.insert_entry(value)),
+        Entry::Occupied(entry) => {
+            let here = seen(entry.key(), entry.get());
+            Answer::Found(Some(here))
+        }
+    }
+}
+
+// Sets the value of an entry that is there.
+fn modify_in<K: Eq + Hash + Clone + Drop + Numbered, V: Drop + Numbered, H: BuildHasher>(
+    rt: &impl Wait,
+    index: &HashIndex<K, V, H>,
+    key: K,
+    value: V,
+) -> Answer {
+    match index.entry_sync(rt, key).and_modify(|_| value) {
+        Ok(Entry::Occupied(entry)) => {
+            let here = seen(entry.key(), entry.get());
+            Answer::Found(Some(here))
+        }
+        Ok(Entry::Vacant(entry)) => {
+            let number = entry.key().number();
+            Answer::Vacant(number, entry.into_key().mark())
+        }
+        Err((entry, back)) => {
+            let here = seen(entry.key(), &back);
+            Answer::Refused(Some(here))
+        }
+    }
+}
+
+// The pair of an entry, if there is one.
+fn shown<K: Eq + Hash + Drop + Numbered, V: Drop + Numbered, H: BuildHasher>(
+    entry: Option<OccupiedEntry<'_, K, V, H>>,
+) -> Option<Seen> {
+    match entry {
+        Some(entry) => {
+            let here = seen(entry.key(), entry.get());
+            Some(here)
+        }
+        None => None,
+    }
+}
+
+// Does that with an entry.
+fn act_on<K: Eq + Hash + Clone + Drop + Numbered, V: Drop + Numbered, H: BuildHasher>(
+    rt: &impl Wait,
+    entry: OccupiedEntry<'_, K, V, H>,
+    act: Act,
+    value: V,
+) -> Answer {
+    let mut entry = entry;
+    let here = seen(entry.key(), entry.get());
+    match act {
+        Act::Look => Answer::Found(Some(here)),
+        Act::Set => match entry.update(value) {
+            Ok(()) => Answer::Yes(true),
+            Err(back) => {
+                let kept = seen(entry.key(), &back);
+                Answer::Refused(Some(kept))
+            }
+        },
+        Act::RemoveEntry => {
+            entry.remove_entry();
+            Answer::Yes(true)
+        }
+        Act::Next => Answer::Found(shown(entry.next_sync(rt))),
+        Act::RemoveNext => Answer::Gone(here, shown(entry.remove_and_sync(rt))),
+        _ => Answer::Absent,
+    }
+}
+
+// Does that with the entry that is asked for.
+fn act_in<K: Eq + Hash + Clone + Drop + Numbered, V: Drop + Numbered, H: BuildHasher>(
+    rt: &impl Wait,
+    index: &HashIndex<K, V, H>,
+    at: At,
+    act: Act,
+    key: &K,
+    value: V,
+) -> Answer {
+    let number = key.number();
+    let entry = match at {
+        At::Key => index.get_sync(rt, key),
+        At::Any => index.any_sync(rt, |other, _| other.number() == number),
+        At::First => index.begin_sync(rt),
+    };
+    match entry {
+        Some(entry) => act_on(rt, entry, act, value),
+        None => Answer::Found(None),
+    }
+}
+
+// Goes from entry to entry.
+fn step_in<K: Eq + Hash + Drop + Numbered, V: Drop + Numbered, H: BuildHasher>(
+    rt: &impl Wait,
+    index: &HashIndex<K, V, H>,
+    most: usize,
+    met: &mut Vec<Seen>,
+) -> Answer {
+    let mut place = index.begin_sync(rt);
+    for _ in 0..most {
+        let Some(entry) = place else {
+            break;
+        };
+        if met.push(seen(entry.key(), entry.get())).is_err() {
+            return Answer::Refused(None);
+        }
+        place = entry.next_sync(rt);
+    }
+    Answer::Yes(true)
+}
+
+// Takes pairs out and goes from entry to entry.
+fn drain_in<K: Eq + Hash + Drop + Numbered, V: Drop + Numbered, H: BuildHasher>(
+    rt: &impl Wait,
+    index: &HashIndex<K, V, H>,
+    most: usize,
+    met: &mut Vec<Seen>,
+) -> Answer {
+    let mut place = index.begin_sync(rt);
+    for _ in 0..most {
+        let Some(entry) = place else {
+            break;
+        };
+        if met.push(seen(entry.key(), entry.get())).is_err() {
+            return Answer::Refused(None);
+        }
+        place = entry.remove_and_sync(rt);
+    }
+    Answer::Yes(true)
+}
+
+// Reserves so many slots and gives them back.
+fn reserve_in<K: Eq + Hash + Drop, V: Drop, H: BuildHasher>(
+    rt: &impl Wait,
+    index: &HashIndex<K, V, H>,
+    slots: usize,
+) -> Answer {
+    match index.reserve(rt, slots) {
+        Some(held) => {
+            let minimum = *index.capacity_range().start();
+            Answer::Reserved(
+                held.additional_capacity(),
+                held.as_ref().capacity(rt),
+                minimum,
+            )
+        }
+        None => Answer::Refused(None),
+    }
+}
+
+impl<
+    K: Eq + Hash + Clone + Drop + Numbered,
+    V: Clone + Default + Drop + Numbered + PartialEq,
+    H: BuildHasher + Drop,
+    R: Wait,
+> Form<K, V> for Held<'_, R, HashIndex<K, V, H>> {
+    fn kind(&self) -> Kind {
+        Kind::Index
+    }
+
+    fn add(&mut self, way: Way, key: K, value: V) -> Answer {
+        match way {
+            Way::Insert => match self.shared.insert_sync(self.rt, key, value) {
+                Ok(()) => Answer::Added(None),
+                Err(error) => refused(error),
+            },
+            Way::Vacant => fill(self.rt, &self.shared, key, value),
+            Way::Upsert | Way::Replace | Way::InsertEntry => Answer::Absent,
+            _ => enter(self.rt, &self.shared, way, key, value),
+        }
+    }
+
+    fn modify(&mut self, key: K, value: V) -> Answer {
+        modify_in(self.rt, &self.shared, key, value)
+    }
+
+    fn act(&mut self, at: At, act: Act, key: &K, value: V) -> Answer {
+        act_in(self.rt, &self.shared, at, act, key, value)
+    }
+
+    fn remove(&mut self, key: &K) -> Answer {
+        Answer::Yes(self.shared.remove_sync(self.rt, key))
+    }
+
+    fn remove_if(&mut self, key: &K) -> Answer {
+        let removed = self
+            .shared
+            .remove_if_sync(self.rt, key, |value| value.number() % 2 == 0);
+        Answer::Yes(removed)
+    }
+
+    fn read(&self, key: &K) -> Answer {
+        let found = self
+            .shared
+            .peek_with(self.rt, key, |key, value| seen(key, value));
+        let read = self
+            .shared
+            .read_sync(self.rt, key, |key, value| seen(key, value));
+        let peeked = match self.shared.peek(self.rt, key) {
+            Ok(Some(version)) => Some(seen(version.key(), version.value())),
+            Ok(None) => None,
+            Err(_) => return Answer::Refused(None),
+        };
+        let is_there = self.shared.contains(self.rt, key);
+        if read == found && peeked == found && is_there == found.is_some() {
+            Answer::Found(found)
+        } else {
+            Answer::Wrong
+        }
+    }
+
+    fn place(&self, key: &K) -> Answer {
+        Answer::Place(self.shared.bucket_index(self.rt, key), true)
+    }
+
+    fn retain(&mut self, rest: u64) {
+        self.shared.retain_sync(self.rt, |key, _| keeps(key, rest));
+    }
+
+    fn collect(&self, met: &mut Vec<Seen>) -> bool {
+        self.shared
+            .iter_sync(self.rt, |key, value| met.push(seen(key, value)).is_ok())
+    }
+
+    fn passes(&self, number: u64) -> bool {
+        self.shared
+            .iter_sync(self.rt, |key, _| key.number() != number)
+    }
+
+    fn step(&mut self, most: usize, met: &mut Vec<Seen>) -> Answer {
+        step_in(self.rt, &self.shared, most, met)
+    }
+
+    fn drain(&mut self, most: usize, met: &mut Vec<Seen>) -> Answer {
+        drain_in(self.rt, &self.shared, most, met)
+    }
+
+    fn snapshot(&self, met: &mut Vec<Seen>) -> Answer {
+        let Ok(versions) = self.shared.iter(self.rt) else {
+            return Answer::Refused(None);
+        };
+        for version in versions {
+            if met.push(seen(version.key(), version.value())).is_err() {
+                return Answer::Refused(None);
+            }
+        }
+        Answer::Yes(true)
+    }
+
+    fn copy(&self) -> Answer {
+        match self.shared.try_clone(self.rt) {
+            Ok(copy) => Answer::Yes(
+                copy.eq_sync(self.rt, &self.shared) && self.shared.eq_sync(self.rt, &copy),
+            ),
+            Err(_) => Answer::Refused(None),
+        }
+    }
+
+    fn clear(&mut self) {
+        self.shared.clear_sync(self.rt);
+    }
+
+    fn reserve(&mut self, slots: usize) -> Answer {
+        reserve_in(self.rt, &self.shared, slots)
+    }
+
+    fn sizes(&self) -> Sizes {
+        let range = self.shared.capacity_range();
+        Sizes {
+            len: self.shared.len(self.rt),
+            is_empty: self.shared.is_empty(self.rt),
+            capacity: self.shared.capacity(self.rt),
+            minimum: *range.start(),
+            maximum: *range.end(),
+        }
+    }
+}

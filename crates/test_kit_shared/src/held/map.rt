@@ -1,0 +1,377 @@
+//! The map that threads share, as drivers see it.
+
+use crate::held::Held;
+use scc::InsertError;
+use scc::hash_map::{Entry, HashMap, OccupiedEntry, ReplaceResult};
+use std::alloc::Global;
+use std::hash::{BuildHasher, Hash};
+use std::sync::Wait;
+use test_kit::answers::{Answer, Kind, Rule, raise_and_keep, refused, verdict};
+use test_kit::form::{Act, At, Form, Sizes, Way};
+use test_kit::numbered::{Numbered, Seen, note_pairs, raise_to_even, seen, seen_pair, value_of};
+
+// What a way answers that lends an entry.
+fn entered<K: Eq + Hash + Drop + Numbered, V: Drop + Numbered, H: BuildHasher>(
+    answer: Result<OccupiedEntry<'_, K, V, H>, InsertError<K, V>>,
+) -> Answer {
+    match answer {
+        Ok(entry) => {
+            let here = seen(entry.key(), entry.get());
+            Answer::Entry(None, here)
+        }
+        Err(error) => refused(error),
+    }
+}
+
+// Adds the pair through its entry.
+fn enter<K: Eq + Hash + Drop + Numbered, V: Default + Drop + Numbered, H: BuildHasher>(
+    rt: &impl Wait,
+    map: &HashMap<K, V, H>,
+    way: Way,
+    key: K,
+    value: V,
+) -> Answer {
+    let entry = map.entry_sync(rt, key);
+    entered(match way {
+        Way::OrInsertWith => entry.or_insert_with(|| value),
+        Way::OrInsertWithKey => entry.or_insert_with_key(|key| value_of(key, value)),
+        Way::OrDefault => entry.or_default(),
+        Way::InsertEntry => entry.insert_entry(value),
+        _ => entry.or_insert(value),
+    })
+}
+
+// Adds the pair through its vacant entry.
+fn fill<K: Eq + Hash + Drop + Numbered, V: Drop + Numbered, H: BuildHasher>(
+    rt: &impl Wait,
+    map: &HashMap<K, V, H>,
+    key: K,
+    value: V,
+) -> Answer {
+    match map.entry_sync(rt, key) {
+        Entry::Vacant(entry) => entered(entry.insert_entry(value)),
+        Entry::Occupied(entry) => {
+            let here = seen(entry.key(), entry.get());
+            Answer::Found(Some(here))
+        }
+    }
+}
+
+// Puts the key in the place of its equal, or adds the pair.
+fn replace_or_fill<K: Eq + Hash + Drop + Numbered, V: Drop + Numbered, H: BuildHasher>(
+    rt: &impl Wait,
+    map: &HashMap<K, V, H>,
+    key: K,
+    value: V,
+) -> Answer {
+    match map.replace_sync(rt, key) {
+        ReplaceResult::Replaced(entry, old) => {
+            let here = seen(entry.key(), entry.get());
+            Answer::Swapped(Some(old.mark()), Some(here))
+        }
+        ReplaceResult::NotReplaced(entry) => entered(entry.insert_entry(value)),
+    }
+}
+
+// Puts the key in the place of its equal.
+fn replace_in<K: Eq + Hash + Drop + Numbered, V: Drop + Numbered, H: BuildHasher>(
+    rt: &impl Wait,
+    map: &HashMap<K, V, H>,
+    key: K,
+) -> Answer {
+    match map.replace_sync(rt, key) {
+        ReplaceResult::Replaced(entry, old) => {
+            let here = seen(entry.key(), entry.get());
+            Answer::Swapped(Some(old.mark()), Some(here))
+        }
+        ReplaceResult::NotReplaced(_) => Answer::Swapped(None, None),
+    }
+}
+
+// Sets the value of an entry that is there.
+fn modify_in<K: Eq + Hash + Drop + Numbered, V: Drop + Numbered, H: BuildHasher>(
+    rt: &impl Wait,
+    map: &HashMap<K, V, H>,
+    key: K,
+    value: V,
+) -> Answer {
+    match map
+        .entry_sync(rt, key)
+        .and_modify(|old| old.write(value.number()))
+    {
+        Entry::Occupied(entry) => {
+            let here = seen(entry.key(), entry.get());
+            Answer::Found(Some(here))
+        }
+        Entry::Vacant(entry) => {
+            let number = entry.key().number();
+            Answer::Vacant(number, entry.into_key().mark())
+        }
+    }
+}
+
+// The pair of an entry, if there is one.
+fn shown<K: Eq + Hash + Drop + Numbered, V: Drop + Numbered, H: BuildHasher>(
+    entry: Option<OccupiedEntry<'_, K, V, H>>,
+) -> Option<Seen> {
+    match entry {
+        Some(entry) => {
+            let here = seen(entry.key(), entry.get());
+            Some(here)
+        }
+        None => None,
+    }
+}
+
+// Does that with an entry.
+fn act_on<K: Eq + Hash + Drop + Numbered, V: Drop + Numbered, H: BuildHasher>(
+    rt: &impl Wait,
+    entry: OccupiedEntry<'_, K, V, H>,
+    act: Act,
+    value: V,
+) -> Answer {
+    let mut entry = entry;
+    match act {
+        Act::Look => {
+            let here = seen(entry.key(), entry.get());
+            Answer::Found(Some(here))
+        }
+        Act::Write => {
+            entry.get_mut().write(value.number());
+            let here = seen(entry.key(), entry.get());
+            Answer::Found(Some(here))
+        }
+        Act::Set => Answer::Old(Some(entry.insert(value).number())),
+        Act::Remove => Answer::Old(Some(entry.remove().number())),
+        Act::RemoveEntry => Answer::Found(seen_pair(Some(entry.remove_entry()))),
+        Act::Next => Answer::Found(shown(entry.next_sync(rt))),
+        Act::RemoveNext => {
+            let (pair, next) = entry.remove_and_sync(rt);
+            Answer::Gone(seen(&pair.0, &pair.1), shown(next))
+        }
+    }
+}
+
+// Does that with the entry that is asked for.
+fn act_in<K: Eq + Hash + Drop + Numbered, V: Drop + Numbered, H: BuildHasher>(
+    rt: &impl Wait,
+    map: &HashMap<K, V, H>,
+    at: At,
+    act: Act,
+    key: &K,
+    value: V,
+) -> Answer {
+    let number = key.number();
+    let entry = match at {
+        At::Key => map.get_sync(rt, key),
+        At::Any => map.any_sync(rt, |other, _| other.number() == number),
+        At::First => map.begin_sync(rt),
+    };
+    match entry {
+        Some(entry) => act_on(rt, entry, act, value),
+        None => Answer::Found(None),
+    }
+}
+
+// Goes from entry to entry.
+fn step_in<K: Eq + Hash + Drop + Numbered, V: Drop + Numbered, H: BuildHasher>(
+    rt: &impl Wait,
+    map: &HashMap<K, V, H>,
+    most: usize,
+    met: &mut Vec<Seen>,
+) -> Answer {
+    let mut place = map.begin_sync(rt);
+    for _ in 0..most {
+        let Some(entry) = place else {
+            break;
+        };
+        if met.push(seen(entry.key(), entry.get())).is_err() {
+            return Answer::Refused(None);
+        }
+        place = entry.next_sync(rt);
+    }
+    Answer::Yes(true)
+}
+
+// Takes pairs out and goes from entry to entry.
+fn drain_in<K: Eq + Hash + Drop + Numbered, V: Drop + Numbered, H: BuildHasher>(
+    rt: &impl Wait,
+    map: &HashMap<K, V, H>,
+    most: usize,
+    met: &mut Vec<Seen>,
+) -> Answer {
+    let mut place = map.begin_sync(rt);
+    for _ in 0..most {
+        let Some(entry) = place else {
+            break;
+        };
+        let (pair, next) = entry.remove_and_sync(rt);
+        if met.push(seen(&pair.0, &pair.1)).is_err() {
+            return Answer::Refused(None);
+        }
+        place = next;
+    }
+    Answer::Yes(true)
+}
+
+// Reserves so many slots and gives them back.
+fn reserve_in<K: Eq + Hash + Drop, V: Drop, H: BuildHasher>(
+    rt: &impl Wait,
+    map: &HashMap<K, V, H>,
+    slots: usize,
+) -> Answer {
+    match map.reserve(rt, slots) {
+        Some(held) => {
+            let minimum = *map.capacity_range().start();
+            Answer::Reserved(
+                held.additional_capacity(),
+                held.as_ref().capacity(rt),
+                minimum,
+            )
+        }
+        None => Answer::Refused(None),
+    }
+}
+
+impl<
+    K: Eq + Hash + Clone + Drop + Numbered,
+    V: Clone + Default + Drop + Numbered + PartialEq,
+    H: BuildHasher + Drop,
+    R: Wait,
+> Form<K, V> for Held<'_, R, HashMap<K, V, H>> {
+    fn kind(&self) -> Kind {
+        Kind::Map
+    }
+
+    fn add(&mut self, way: Way, key: K, value: V) -> Answer {
+        match way {
+            Way::Insert => match self.shared.insert_sync(self.rt, key, value) {
+                Ok(()) => Answer::Added(None),
+                Err(error) => refused(error),
+            },
+            Way::Upsert => match self.shared.upsert_sync(self.rt, key, value) {
+                Ok(old) => Answer::Old(old.map(|value| value.number())),
+                Err(error) => refused(error),
+            },
+            Way::Replace => replace_or_fill(self.rt, &self.shared, key, value),
+            Way::Vacant => fill(self.rt, &self.shared, key, value),
+            _ => enter(self.rt, &self.shared, way, key, value),
+        }
+    }
+
+    fn replace(&mut self, key: K) -> Answer {
+        replace_in(self.rt, &self.shared, key)
+    }
+
+    fn update(&mut self, key: &K, value: V) -> Answer {
+        Answer::Old(
+            self.shared.update_sync(self.rt, key, |_, old| {
+                let number = old.number();
+                *old = value;
+                number
+            }),
+        )
+    }
+
+    fn modify(&mut self, key: K, value: V) -> Answer {
+        modify_in(self.rt, &self.shared, key, value)
+    }
+
+    fn act(&mut self, at: At, act: Act, key: &K, value: V) -> Answer {
+        act_in(self.rt, &self.shared, at, act, key, value)
+    }
+
+    fn remove(&mut self, key: &K) -> Answer {
+        Answer::Found(seen_pair(self.shared.remove_sync(self.rt, key)))
+    }
+
+    fn remove_if(&mut self, key: &K) -> Answer {
+        let taken = self
+            .shared
+            .remove_if_sync(self.rt, key, |value| raise_to_even(value));
+        Answer::Found(seen_pair(taken))
+    }
+
+    fn read(&self, key: &K) -> Answer {
+        let found = self
+            .shared
+            .read_sync(self.rt, key, |key, value| seen(key, value));
+        if self.shared.contains_sync(self.rt, key) == found.is_some() {
+            Answer::Found(found)
+        } else {
+            Answer::Wrong
+        }
+    }
+
+    fn place(&self, key: &K) -> Answer {
+        Answer::Place(
+            self.shared.bucket_index(self.rt, key),
+            self.shared.has_room(self.rt, key),
+        )
+    }
+
+    fn retain(&mut self, rest: u64) {
+        self.shared
+            .retain_sync(self.rt, |key, value| raise_and_keep(key, value, rest));
+    }
+
+    fn take(&mut self, alloc: Global, rule: Rule, met: &mut Vec<Seen>) -> Answer {
+        let mut pairs: Vec<(K, V)> = Vec::new(alloc);
+        let ended = self.shared.iter_mut_sync(
+            self.rt,
+            |key, value| verdict(rule, key, value),
+            &mut pairs,
+        );
+        let noted = note_pairs(pairs.as_slice(), met);
+        match ended {
+            Ok(ended) if noted => Answer::Yes(ended),
+            _ => Answer::Refused(None),
+        }
+    }
+
+    fn collect(&self, met: &mut Vec<Seen>) -> bool {
+        self.shared
+            .iter_sync(self.rt, |key, value| met.push(seen(key, value)).is_ok())
+    }
+
+    fn passes(&self, number: u64) -> bool {
+        self.shared
+            .iter_sync(self.rt, |key, _| key.number() != number)
+    }
+
+    fn step(&mut self, most: usize, met: &mut Vec<Seen>) -> Answer {
+        step_in(self.rt, &self.shared, most, met)
+    }
+
+    fn drain(&mut self, most: usize, met: &mut Vec<Seen>) -> Answer {
+        drain_in(self.rt, &self.shared, most, met)
+    }
+
+    fn copy(&self) -> Answer {
+        match self.shared.try_clone(self.rt) {
+            Ok(copy) => Answer::Yes(
+                copy.eq_sync(self.rt, &self.shared) && self.shared.eq_sync(self.rt, &copy),
+            ),
+            Err(_) => Answer::Refused(None),
+        }
+    }
+
+    fn clear(&mut self) {
+        self.shared.clear_sync(self.rt);
+    }
+
+    fn reserve(&mut self, slots: usize) -> Answer {
+        reserve_in(self.rt, &self.shared, slots)
+    }
+
+    fn sizes(&self) -> Sizes {
+        let range = self.shared.capacity_range();
+        Sizes {
+            len: self.shared.len(self.rt),
+            is_empty: self.shared.is_empty(self.rt),
+            capacity: self.shared.capacity(self.rt),
+            minimum: *range.start(),
+            maximum: *range.end(),
+        }
+    }
+}

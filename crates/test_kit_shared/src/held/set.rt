@@ -1,0 +1,244 @@
+//! The set that threads share, as drivers see it.
+
+use crate::held::Held;
+use scc::hash_set::{HashSet, OccupiedEntry};
+use std::alloc::Global;
+use std::hash::{BuildHasher, Hash};
+use std::sync::Wait;
+use test_kit::answers::{Answer, Kind, Rule, key_verdict, refused_key};
+use test_kit::form::{Act, At, Form, Sizes, Way};
+use test_kit::numbered::{Numbered, Seen, keeps, note_keys, seen_key};
+
+// The key of an entry, if there is one.
+fn shown<K: Eq + Hash + Drop + Numbered, H: BuildHasher>(
+    entry: Option<OccupiedEntry<'_, K, H>>,
+) -> Option<Seen> {
+    match entry {
+        Some(entry) => {
+            let here = seen_key(entry.get());
+            Some(here)
+        }
+        None => None,
+    }
+}
+
+// Does that with an entry.
+fn act_on<K: Eq + Hash + Drop + Numbered, H: BuildHasher>(
+    rt: &impl Wait,
+    entry: OccupiedEntry<'_, K, H>,
+    act: Act,
+) -> Answer {
+    match act {
+        Act::Look => {
+            let here = seen_key(entry.get());
+            Answer::Found(Some(here))
+        }
+        Act::RemoveEntry => Answer::Found(Some(seen_key(&entry.remove_entry()))),
+        Act::Next => Answer::Found(shown(entry.next_sync(rt))),
+        Act::RemoveNext => {
+            let (key, next) = entry.remove_and_sync(rt);
+            Answer::Gone(seen_key(&key), shown(next))
+        }
+        _ => Answer::Absent,
+    }
+}
+
+// Does that with the entry that is asked for.
+fn act_in<K: Eq + Hash + Drop + Numbered, H: BuildHasher>(
+    rt: &impl Wait,
+    set: &HashSet<K, H>,
+    at: At,
+    act: Act,
+    key: &K,
+) -> Answer {
+    let number = key.number();
+    let entry = match at {
+        At::Key => return Answer::Absent,
+        At::Any => set.any_sync(rt, |other| other.number() == number),
+        At::First => set.begin_sync(rt),
+    };
+    match entry {
+        Some(entry) => act_on(rt, entry, act),
+        None => Answer::Found(None),
+    }
+}
+
+// Goes from entry to entry.
+fn step_in<K: Eq + Hash + Drop + Numbered, H: BuildHasher>(
+    rt: &impl Wait,
+    set: &HashSet<K, H>,
+    most: usize,
+    met: &mut Vec<Seen>,
+) -> Answer {
+    let mut place = set.begin_sync(rt);
+    for _ in 0..most {
+        let Some(entry) = place else {
+            break;
+        };
+        if met.push(seen_key(entry.get())).is_err() {
+            return Answer::Refused(None);
+        }
+        place = entry.next_sync(rt);
+    }
+    Answer::Yes(true)
+}
+
+// Takes keys out and goes from entry to entry.
+fn drain_in<K: Eq + Hash + Drop + Numbered, H: BuildHasher>(
+    rt: &impl Wait,
+    set: &HashSet<K, H>,
+    most: usize,
+    met: &mut Vec<Seen>,
+) -> Answer {
+    let mut place = set.begin_sync(rt);
+    for _ in 0..most {
+        let Some(entry) = place else {
+            break;
+        };
+        let (key, next) = entry.remove_and_sync(rt);
+        if met.push(seen_key(&key)).is_err() {
+            return Answer::Refused(None);
+        }
+        place = next;
+    }
+    Answer::Yes(true)
+}
+
+// Reserves so many slots and gives them back.
+fn reserve_in<K: Eq + Hash + Drop, H: BuildHasher>(
+    rt: &impl Wait,
+    set: &HashSet<K, H>,
+    slots: usize,
+) -> Answer {
+    match set.reserve(rt, slots) {
+        Some(held) => {
+            let minimum = *set.capacity_range().start();
+            Answer::Reserved(held.additional_capacity(), set.capacity(rt), minimum)
+        }
+        None => Answer::Refused(None),
+    }
+}
+
+impl<
+    K: Eq + Hash + Clone + Drop + Numbered,
+    V: Drop + Numbered,
+    H: BuildHasher + Drop,
+    R: Wait,
+> Form<K, V> for Held<'_, R, HashSet<K, H>> {
+    fn kind(&self) -> Kind {
+        Kind::Set
+    }
+
+    fn add(&mut self, way: Way, key: K, _value: V) -> Answer {
+        match way {
+            Way::Insert => match self.shared.insert_sync(self.rt, key) {
+                Ok(()) => Answer::Added(None),
+                Err(error) => refused_key(error),
+            },
+            Way::Replace => match self.shared.replace_sync(self.rt, key) {
+                Ok(old) => Answer::Swapped(old.map(|key| key.mark()), None),
+                Err(error) => refused_key(error),
+            },
+            _ => Answer::Absent,
+        }
+    }
+
+    fn replace(&mut self, key: K) -> Answer {
+        match self.shared.replace_sync(self.rt, key) {
+            Ok(old) => Answer::Swapped(old.map(|key| key.mark()), None),
+            Err(error) => refused_key(error),
+        }
+    }
+
+    fn act(&mut self, at: At, act: Act, key: &K, _value: V) -> Answer {
+        act_in(self.rt, &self.shared, at, act, key)
+    }
+
+    fn remove(&mut self, key: &K) -> Answer {
+        let taken = self.shared.remove_sync(self.rt, key);
+        Answer::Found(taken.map(|key| seen_key(&key)))
+    }
+
+    fn remove_if(&mut self, key: &K) -> Answer {
+        let is_even = key.number() % 2 == 0;
+        let taken = self.shared.remove_if_sync(self.rt, key, || is_even);
+        Answer::Found(taken.map(|key| seen_key(&key)))
+    }
+
+    fn read(&self, key: &K) -> Answer {
+        let found = self.shared.read_sync(self.rt, key, |key| seen_key(key));
+        if self.shared.contains_sync(self.rt, key) == found.is_some() {
+            Answer::Found(found)
+        } else {
+            Answer::Wrong
+        }
+    }
+
+    fn place(&self, key: &K) -> Answer {
+        Answer::Place(
+            self.shared.bucket_index(self.rt, key),
+            self.shared.has_room(self.rt, key),
+        )
+    }
+
+    fn retain(&mut self, rest: u64) {
+        self.shared.retain_sync(self.rt, |key| keeps(key, rest));
+    }
+
+    fn take(&mut self, alloc: Global, rule: Rule, met: &mut Vec<Seen>) -> Answer {
+        let mut keys: Vec<K> = Vec::new(alloc);
+        let ended = self
+            .shared
+            .iter_mut_sync(self.rt, |key| key_verdict(rule, key), &mut keys);
+        let noted = note_keys(keys.as_slice(), met);
+        match ended {
+            Ok(ended) if noted => Answer::Yes(ended),
+            _ => Answer::Refused(None),
+        }
+    }
+
+    fn collect(&self, met: &mut Vec<Seen>) -> bool {
+        self.shared
+            .iter_sync(self.rt, |key| met.push(seen_key(key)).is_ok())
+    }
+
+    fn passes(&self, number: u64) -> bool {
+        self.shared.iter_sync(self.rt, |key| key.number() != number)
+    }
+
+    fn step(&mut self, most: usize, met: &mut Vec<Seen>) -> Answer {
+        step_in(self.rt, &self.shared, most, met)
+    }
+
+    fn drain(&mut self, most: usize, met: &mut Vec<Seen>) -> Answer {
+        drain_in(self.rt, &self.shared, most, met)
+    }
+
+    fn copy(&self) -> Answer {
+        match self.shared.try_clone(self.rt) {
+            Ok(copy) => Answer::Yes(
+                copy.eq_sync(self.rt, &self.shared) && self.shared.eq_sync(self.rt, &copy),
+            ),
+            Err(_) => Answer::Refused(None),
+        }
+    }
+
+    fn clear(&mut self) {
+        self.shared.clear_sync(self.rt);
+    }
+
+    fn reserve(&mut self, slots: usize) -> Answer {
+        reserve_in(self.rt, &self.shared, slots)
+    }
+
+    fn sizes(&self) -> Sizes {
+        let range = self.shared.capacity_range();
+        Sizes {
+            len: self.shared.len(self.rt),
+            is_empty: self.shared.is_empty(self.rt),
+            capacity: self.shared.capacity(self.rt),
+            minimum: *range.start(),
+            maximum: *range.end(),
+        }
+    }
+}
