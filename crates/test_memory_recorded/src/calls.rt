@@ -174,7 +174,8 @@ where
     }
 }
 
-// All calls by one pass: one key is there in the middle and none at the end, and then one again.
+// All calls by one pass: one key is there after them, none after the clearing, and then one again. The second stripe has
+// room for three steps, so that the clearing asks for more where the first one is cleared.
 fn call_all<C: Tried, L: Ledger, M: Site<C::Hasher>, R: Abort + Print + Wait>(
     rt: &R,
     refusal: &mut Refusal,
@@ -184,7 +185,9 @@ fn call_all<C: Tried, L: Ledger, M: Site<C::Hasher>, R: Abort + Print + Wait>(
     for number in 0..CALLS {
         expect_call(rt, refusal, recorded, pass, number);
     }
-    expect_length(rt, refusal, recorded, pass, 1);
+    for _ in 0..3 {
+        expect_length(rt, refusal, recorded, pass, 1);
+    }
     expect_clearing(rt, refusal, recorded, pass);
     expect_length(rt, refusal, recorded, pass, 0);
     expect_call(rt, refusal, recorded, pass, 0);
