@@ -1,7 +1,7 @@
 // Every removal that may shrink the array. Where that is refused the pair is removed all the same, the array stays, and
 // a later removal shrinks it.
 use crate::expect::expect_eq;
-use crate::looks::{Look, pair_of, put, value_of};
+use crate::looks::{Look, fill_to_growth, pair_of, value_of};
 use crate::makers::{Job, Maker, What};
 use crate::owned_makers::{OwnedCache, OwnedIndex, OwnedMap, OwnedSet};
 use crate::shared_makers::{SharedCache, SharedIndex, SharedMap, SharedSet};
