@@ -133,6 +133,13 @@ pub struct Sizes {
     pub maximum: usize,
 }
 
+impl Sizes {
+    /// The number of pairs, and the slots.
+    pub fn used(&self) -> (usize, usize) {
+        (self.len, self.capacity)
+    }
+}
+
 /// A container of any kind, in any form. A kind without a call answers `Absent`, and adds nothing to a list.
 pub trait Form<K: Drop + Numbered, V: Drop + Numbered> {
     /// Its kind.
@@ -220,8 +227,13 @@ pub trait Form<K: Drop + Numbered, V: Drop + Numbered> {
     /// Its sizes.
     fn sizes(&self) -> Sizes;
 
-    /// How many buckets wait, if it says so.
-    fn waiting(&self) -> usize {
-        0
+    /// How many buckets wait, if it says so: a container for one owner does.
+    fn waiting(&self) -> Option<usize> {
+        None
+    }
+
+    /// Whether it has one stripe, so that its buckets are those of one table.
+    fn is_one(&self) -> bool {
+        true
     }
 }

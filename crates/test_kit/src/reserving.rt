@@ -1,6 +1,6 @@
 //! Reservations of the containers for one owner, behind one trait.
 
-use scc::{Reservation, hash_index, hash_map, hash_set};
+use scc_table::Reservation;
 use std::hash::{BuildHasher, Hash};
 
 /// A container for one owner that takes reservations.
@@ -13,12 +13,9 @@ pub trait Reserving {
 
     /// The minimum.
     fn minimum(&self) -> usize;
-
-    /// How many buckets wait.
-    fn waiting(&self) -> usize;
 }
 
-impl<K: Eq + Hash, V, H: BuildHasher> Reserving for hash_map::Owned<K, V, H> {
+impl<K: Eq + Hash, V, H: BuildHasher> Reserving for scc_map::Owned<K, V, H> {
     fn reserve_slots(&mut self, additional: usize) -> Option<Reservation> {
         self.reserve(additional)
     }
@@ -30,13 +27,9 @@ impl<K: Eq + Hash, V, H: BuildHasher> Reserving for hash_map::Owned<K, V, H> {
     fn minimum(&self) -> usize {
         *self.capacity_range().start()
     }
-
-    fn waiting(&self) -> usize {
-        self.pending()
-    }
 }
 
-impl<K: Eq + Hash, H: BuildHasher> Reserving for hash_set::Owned<K, H> {
+impl<K: Eq + Hash, H: BuildHasher> Reserving for scc_set::Owned<K, H> {
     fn reserve_slots(&mut self, additional: usize) -> Option<Reservation> {
         self.reserve(additional)
     }
@@ -48,13 +41,9 @@ impl<K: Eq + Hash, H: BuildHasher> Reserving for hash_set::Owned<K, H> {
     fn minimum(&self) -> usize {
         *self.capacity_range().start()
     }
-
-    fn waiting(&self) -> usize {
-        self.pending()
-    }
 }
 
-impl<K: Eq + Hash, V, H: BuildHasher> Reserving for hash_index::Owned<K, V, H> {
+impl<K: Eq + Hash, V, H: BuildHasher> Reserving for scc_index::Owned<K, V, H> {
     fn reserve_slots(&mut self, additional: usize) -> Option<Reservation> {
         self.reserve(additional)
     }
@@ -65,9 +54,5 @@ impl<K: Eq + Hash, V, H: BuildHasher> Reserving for hash_index::Owned<K, V, H> {
 
     fn minimum(&self) -> usize {
         *self.capacity_range().start()
-    }
-
-    fn waiting(&self) -> usize {
-        self.pending()
     }
 }

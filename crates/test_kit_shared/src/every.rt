@@ -1,12 +1,15 @@
-//! A case that is tried in every kind and form of container, a line each.
+//! A case that is tried in every kind and form of container.
 
 use crate::held::Held;
-use scc::{HashCache, HashIndex, HashMap, HashSet, hash_cache, hash_index, hash_map, hash_set};
+use scc_shared_cache::HashCache;
+use scc_shared_index::HashIndex;
+use scc_shared_map::HashMap;
+use scc_shared_set::HashSet;
 use std::alloc::{AllocError, Global};
 use std::hash::{BuildHasher, Hash};
 use std::sync::Wait;
 use test_kit::form::Form;
-use test_kit::lines::say;
+use test_kit::lines::{HELD, say};
 use test_kit::numbered::Numbered;
 
 /// A case on keys and values of those types.
@@ -51,7 +54,7 @@ fn in_owned_map<
     H: BuildHasher + Copy,
     C: Case<K, V>,
 >(alloc: Global, case: &C, hasher: H) -> Result<bool, AllocError> {
-    let mut map: hash_map::Owned<K, V, H> = hash_map::Owned::with_hasher(alloc, hasher);
+    let mut map: scc_map::Owned<K, V, H> = scc_map::Owned::with_hasher(alloc, hasher);
     case.check(alloc, &mut map)
 }
 
@@ -61,7 +64,7 @@ fn in_owned_set<
     H: BuildHasher + Copy,
     C: Case<K, V>,
 >(alloc: Global, case: &C, hasher: H) -> Result<bool, AllocError> {
-    let mut set: hash_set::Owned<K, H> = hash_set::Owned::with_hasher(alloc, hasher);
+    let mut set: scc_set::Owned<K, H> = scc_set::Owned::with_hasher(alloc, hasher);
     case.check(alloc, &mut set)
 }
 
@@ -71,7 +74,7 @@ fn in_owned_index<
     H: BuildHasher + Copy,
     C: Case<K, V>,
 >(alloc: Global, case: &C, hasher: H) -> Result<bool, AllocError> {
-    let mut index: hash_index::Owned<K, V, H> = hash_index::Owned::with_hasher(alloc, hasher);
+    let mut index: scc_index::Owned<K, V, H> = scc_index::Owned::with_hasher(alloc, hasher);
     case.check(alloc, &mut index)
 }
 
@@ -81,7 +84,7 @@ fn in_owned_cache<
     H: BuildHasher + Copy,
     C: Case<K, V>,
 >(alloc: Global, case: &C, hasher: H) -> Result<bool, AllocError> {
-    let mut cache: hash_cache::Owned<K, V, H> = hash_cache::Owned::with_hasher(alloc, hasher);
+    let mut cache: scc_cache::Owned<K, V, H> = scc_cache::Owned::with_hasher(alloc, hasher);
     case.check(alloc, &mut cache)
 }
 
@@ -96,7 +99,7 @@ fn in_map<
     let Ok(map) = HashMap::<K, V, H>::with_capacity_and_hasher(alloc, size.slots, hasher) else {
         return Err(AllocError);
     };
-    case.check(alloc, &mut Held::new(rt, map))
+    case.check(alloc, &mut Held::of_stripes(rt, map, size.is_one))
 }
 
 fn in_set<
@@ -110,7 +113,7 @@ fn in_set<
     let Ok(set) = HashSet::<K, H>::with_capacity_and_hasher(alloc, size.slots, hasher) else {
         return Err(AllocError);
     };
-    case.check(alloc, &mut Held::new(rt, set))
+    case.check(alloc, &mut Held::of_stripes(rt, set, size.is_one))
 }
 
 fn in_index<
@@ -124,7 +127,7 @@ fn in_index<
     let Ok(index) = HashIndex::<K, V, H>::with_capacity_and_hasher(alloc, size.slots, hasher) else {
         return Err(AllocError);
     };
-    case.check(alloc, &mut Held::new(rt, index))
+    case.check(alloc, &mut Held::of_stripes(rt, index, size.is_one))
 }
 
 fn in_cache<
@@ -143,10 +146,10 @@ fn in_cache<
     ) else {
         return Err(AllocError);
     };
-    case.check(alloc, &mut Held::new(rt, cache))
+    case.check(alloc, &mut Held::of_stripes(rt, cache, size.is_one))
 }
 
-// Prints what became of a case whose container is gone.
+// What became of a case whose container is gone. It is printed if the case didn't hold.
 fn tell<R: Print, K: Drop + Numbered, V: Drop + Numbered, C: Case<K, V>>(
     rt: &R,
     case: &C,
@@ -154,15 +157,15 @@ fn tell<R: Print, K: Drop + Numbered, V: Drop + Numbered, C: Case<K, V>>(
     what: &str,
     outcome: Result<bool, AllocError>,
 ) -> u8 {
-    let whole = match outcome {
-        Ok(held) => Ok(case.has_ended() && held),
-        Err(refused) => Err(refused),
-    };
-    say(rt, form, what, whole)
+    match outcome {
+        Ok(held) if held && case.has_ended() => HELD,
+        Ok(_) => say(rt, form, what, Ok(false)),
+        Err(refused) => say(rt, form, what, Err(refused)),
+    }
 }
 
-/// Tries a case in each kind for one owner, a line each, and answers the worst status.
-pub fn in_owned_forms<
+// Tries a case in each kind for one owner, and answers the worst status.
+fn in_owned_forms<
     R: AllocGlobal + Print,
     K: Eq + Hash + Clone + Drop + Numbered,
     V: Clone + Default + Drop + Numbered + PartialEq,
@@ -170,35 +173,14 @@ pub fn in_owned_forms<
     C: Case<K, V>,
 >(rt: &R, case: &C, what: &str, hasher: H) -> u8 {
     let alloc = rt.alloc();
-    let map = tell(
-        rt,
-        case,
-        "owned map",
-        what,
-        in_owned_map(alloc, case, hasher),
-    );
-    let set = tell(
-        rt,
-        case,
-        "owned set",
-        what,
-        in_owned_set(alloc, case, hasher),
-    );
-    let index = tell(
-        rt,
-        case,
-        "owned index",
-        what,
-        in_owned_index(alloc, case, hasher),
-    );
-    let cache = tell(
-        rt,
-        case,
-        "owned cache",
-        what,
-        in_owned_cache(alloc, case, hasher),
-    );
-    map.max(set).max(index).max(cache)
+    let map = in_owned_map(alloc, case, hasher);
+    let worst = tell(rt, case, "owned map", what, map);
+    let set = in_owned_set(alloc, case, hasher);
+    let worst = worst.max(tell(rt, case, "owned set", what, set));
+    let index = in_owned_index(alloc, case, hasher);
+    let worst = worst.max(tell(rt, case, "owned index", what, index));
+    let cache = in_owned_cache(alloc, case, hasher);
+    worst.max(tell(rt, case, "owned cache", what, cache))
 }
 
 // The same in each shared kind of a size.
@@ -209,39 +191,22 @@ fn in_shared_forms<
     H: BuildHasher + Copy,
     C: Case<K, V>,
 >(rt: &R, case: &C, what: &str, hasher: H, size: Size) -> u8 {
-    let map = tell(
-        rt,
-        case,
-        size.name("map of one stripe", "map of stripes"),
-        what,
-        in_map(rt, case, hasher, size),
-    );
-    let set = tell(
-        rt,
-        case,
-        size.name("set of one stripe", "set of stripes"),
-        what,
-        in_set(rt, case, hasher, size),
-    );
-    let index = tell(
-        rt,
-        case,
-        size.name("index of one stripe", "index of stripes"),
-        what,
-        in_index(rt, case, hasher, size),
-    );
-    let cache = tell(
-        rt,
-        case,
-        size.name("cache of one stripe", "cache of stripes"),
-        what,
-        in_cache(rt, case, hasher, size),
-    );
-    map.max(set).max(index).max(cache)
+    let map = in_map(rt, case, hasher, size);
+    let form = size.name("map of one stripe", "map of stripes");
+    let worst = tell(rt, case, form, what, map);
+    let set = in_set(rt, case, hasher, size);
+    let form = size.name("set of one stripe", "set of stripes");
+    let worst = worst.max(tell(rt, case, form, what, set));
+    let index = in_index(rt, case, hasher, size);
+    let form = size.name("index of one stripe", "index of stripes");
+    let worst = worst.max(tell(rt, case, form, what, index));
+    let cache = in_cache(rt, case, hasher, size);
+    let form = size.name("cache of one stripe", "cache of stripes");
+    worst.max(tell(rt, case, form, what, cache))
 }
 
-/// Tries a case in each kind: for one owner, shared on one stripe, and shared on several. A line is printed for each,
-/// and the answer is the worst status.
+/// Tries a case in each kind: for one owner, shared on one stripe, and shared on several. Prints a line for the case,
+/// and one for each form in which it doesn't hold. The answer is the worst status.
 pub fn in_every_form<
     R: Wait + AllocGlobal + Print,
     K: Eq + Hash + Clone + Drop + Numbered,
@@ -252,5 +217,6 @@ pub fn in_every_form<
     let owned = in_owned_forms(rt, case, what, hasher);
     let one = in_shared_forms(rt, case, what, hasher, ONE_STRIPE);
     let several = in_shared_forms(rt, case, what, hasher, STRIPES);
-    owned.max(one).max(several)
+    let worst = owned.max(one).max(several);
+    worst.max(say(rt, "every form", what, Ok(worst == HELD)))
 }

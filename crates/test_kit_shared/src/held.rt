@@ -13,11 +13,21 @@ mod set;
 pub struct Held<'a, R, C> {
     rt: &'a R,
     shared: C,
+    is_one: bool,
 }
 
 impl<'a, R, C> Held<'a, R, C> {
-    /// That container.
+    /// That container, which may have several stripes.
     pub fn new(rt: &'a R, shared: C) -> Self {
-        Held { rt, shared }
+        Held {
+            rt,
+            shared,
+            is_one: false,
+        }
+    }
+
+    /// That container, and whether it has one stripe.
+    pub fn of_stripes(rt: &'a R, shared: C, is_one: bool) -> Self {
+        Held { rt, shared, is_one }
     }
 }

@@ -3,9 +3,9 @@
 use crate::answers::{Answer, Kind, Rule, raise_and_keep, refused, verdict};
 use crate::form::{Act, At, Form, Sizes, Way};
 use crate::numbered::{Numbered, Seen, note_pairs, raise_to_even, seen, seen_pair, value_of};
-use scc::InsertError;
-use scc::hash_cache::owned::{Entry, OccupiedEntry, ReplaceResult};
-use scc::hash_cache::{EvictedEntry, Owned};
+use scc_cache::owned::{Entry, OccupiedEntry, ReplaceResult};
+use scc_cache::{EvictedEntry, Owned};
+use scc_common::InsertError;
 use std::alloc::Global;
 use std::hash::{BuildHasher, Hash};
 
@@ -127,7 +127,7 @@ impl<K: Eq + Hash + Drop + Numbered, V: Default + Drop + Numbered, H: BuildHashe
     }
 
     fn act(&mut self, at: At, act: Act, key: &K, value: V) -> Answer {
-        if at != At::Key {
+        if at != At::Key || !act.is_of(Kind::Cache) {
             return Answer::Absent;
         }
         match self.get_sync(key) {
@@ -191,7 +191,7 @@ impl<K: Eq + Hash + Drop + Numbered, V: Default + Drop + Numbered, H: BuildHashe
         }
     }
 
-    fn waiting(&self) -> usize {
-        self.pending()
+    fn waiting(&self) -> Option<usize> {
+        Some(self.pending())
     }
 }

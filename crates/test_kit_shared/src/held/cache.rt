@@ -1,8 +1,10 @@
 //! The cache that threads share, as drivers see it.
 
 use crate::held::Held;
-use scc::InsertError;
-use scc::hash_cache::{Entry, EvictedEntry, HashCache, OccupiedEntry, ReplaceResult};
+use scc_cache::EvictedEntry;
+use scc_cache::locked::{Entry, OccupiedEntry, ReplaceResult};
+use scc_common::InsertError;
+use scc_shared_cache::HashCache;
 use std::alloc::Global;
 use std::hash::{BuildHasher, Hash};
 use std::sync::Wait;
@@ -180,7 +182,7 @@ impl<
     }
 
     fn act(&mut self, at: At, act: Act, key: &K, value: V) -> Answer {
-        if at != At::Key {
+        if at != At::Key || !act.is_of(Kind::Cache) {
             return Answer::Absent;
         }
         act_in(self.rt, &self.shared, act, key, value)
@@ -250,5 +252,9 @@ impl<
             minimum: *range.start(),
             maximum: *range.end(),
         }
+    }
+
+    fn is_one(&self) -> bool {
+        self.is_one
     }
 }

@@ -1,0 +1,107 @@
+//! Buckets with more pairs than slots, which wait for their pairs, take them over, and wait again.
+
+use std::alloc::Global;
+use test_kit::answers::{Answer, Kind};
+use test_kit::form::{Form, Way};
+use test_kit::lines::say;
+use test_kit::numbered::Seen;
+use test_kit::reserving::Reserving;
+use test_kit::zero::Zero;
+
+// Numbers of pairs that wait for one bucket of 32 slots.
+const CROWDS: [u64; 2] = [40, 600];
+
+// The pair of that number, as its kind shows it.
+fn pair_of(kind: Kind, number: u64) -> Seen {
+    let value = if kind.shows_values() { number } else { 0 };
+    (number, 0, value)
+}
+
+// Whether the pairs of these numbers are added.
+fn fills<F: Form<u64, u64>>(form: &mut F, from: u64, to: u64) -> bool {
+    let mut added = true;
+    for number in from..to {
+        added &= form.add(Way::Insert, number, number) == Answer::Added(None);
+    }
+    added
+}
+
+// Whether just the pairs below that number are there.
+fn finds<F: Form<u64, u64>>(form: &F, kind: Kind, to: u64) -> bool {
+    let mut found = form.read(&to) == Answer::Found(None);
+    for number in 0..to {
+        found &= form.read(&number) == Answer::Found(Some(pair_of(kind, number)));
+    }
+    found && form.sizes().len as u64 == to
+}
+
+// Whether so many pairs, all in one bucket, wait with all buckets of an array of so many slots, are taken over by one
+// insertion, and are found before and after.
+fn relocates<F: Form<u64, u64> + Reserving>(
+    form: &mut F,
+    kind: Kind,
+    pairs: u64,
+    slots: usize,
+) -> bool {
+    let waits = form.sizes().capacity == slots && form.waiting() == Some(slots / 32);
+    let found = finds(form, kind, pairs);
+    let added = fills(form, pairs, pairs.saturating_add(1));
+    let relocated = form.waiting() == Some((slots / 32).saturating_sub(2));
+    waits && found && added && relocated && finds(form, kind, pairs.saturating_add(1))
+}
+
+// Whether a crowded bucket waits and takes its pairs over three times: an array grows by a reservation, by a second
+// one, and shrinks as that is given back.
+fn crowds<F: Form<u64, u64> + Reserving>(form: &mut F, kind: Kind, pairs: u64) -> bool {
+    let filled = fills(form, 0, pairs);
+    let Some(_first) = form.reserve_slots(10_000) else {
+        return false;
+    };
+    let once = relocates(form, kind, pairs, 1 << 14);
+    let Some(second) = form.reserve_slots(20_000) else {
+        return false;
+    };
+    let twice = relocates(form, kind, pairs.saturating_add(1), 1 << 15);
+    let released = form.release_slots(second).is_ok();
+    let again = relocates(form, kind, pairs.saturating_add(2), 1 << 14);
+    filled && once && twice && released && again
+}
+
+fn of_maps(alloc: Global) -> bool {
+    let mut holds = true;
+    for pairs in CROWDS {
+        let mut map: scc_map::Owned<u64, u64, Zero> = scc_map::Owned::with_hasher(alloc, Zero);
+        holds &= crowds(&mut map, Kind::Map, pairs);
+    }
+    holds
+}
+
+fn of_sets(alloc: Global) -> bool {
+    let mut holds = true;
+    for pairs in CROWDS {
+        let mut set: scc_set::Owned<u64, Zero> = scc_set::Owned::with_hasher(alloc, Zero);
+        holds &= crowds(&mut set, Kind::Set, pairs);
+    }
+    holds
+}
+
+fn of_indexes(alloc: Global) -> bool {
+    let mut holds = true;
+    for pairs in CROWDS {
+        let mut index: scc_index::Owned<u64, u64, Zero> = scc_index::Owned::with_hasher(
+            alloc, Zero,
+        );
+        holds &= crowds(&mut index, Kind::Index, pairs);
+    }
+    holds
+}
+
+/// A line for each kind that has crowded buckets. The answer is the worst status.
+pub(crate) fn run_crowded<R: AllocGlobal + Print>(rt: &R) -> u8 {
+    let alloc = rt.alloc();
+    let what = "a crowded bucket waits three times";
+    let map = say(rt, "owned map", what, Ok(of_maps(alloc)));
+    let set = say(rt, "owned set", what, Ok(of_sets(alloc)));
+    let index = say(rt, "owned index", what, Ok(of_indexes(alloc)));
+    map.max(set).max(index)
+}

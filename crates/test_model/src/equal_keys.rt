@@ -1,0 +1,155 @@
+//! Keys of which a part is compared, many under one hash: which of two equal keys is stored, and which comes back.
+
+use std::alloc::{AllocError, Global};
+use std::sync::Wait;
+use test_kit::alike::Alike;
+use test_kit::answers::{Answer, Kind};
+use test_kit::form::{Act, At, Form, Way};
+use test_kit::maybe_equal::MaybeEqual;
+use test_kit::numbered::Seen;
+use test_kit::zero::Zero;
+use test_kit_shared::every::{Case, in_every_form};
+
+// As many keys as one bucket of a cache holds, and more than a bucket of the others has slots for.
+fn keys_of(kind: Kind) -> u64 {
+    if kind == Kind::Cache { 32 } else { 40 }
+}
+
+// The key of that number, far from the others, with a mark.
+fn key_of(i: u64, mark: u64) -> MaybeEqual {
+    MaybeEqual(i.wrapping_mul(0x9E37_79B9_7F4A_7C15), mark.wrapping_add(i))
+}
+
+// A pair of that key, as it is seen.
+fn pair_of(i: u64, mark: u64, value: u64) -> Seen {
+    let key = key_of(i, mark);
+    (key.0, key.1, value)
+}
+
+// A value, as far as the kind shows it.
+fn shown(kind: Kind, value: u64) -> u64 {
+    if kind.shows_values() { value } else { 0 }
+}
+
+// Whether the keys (i, 100 + i) were added with the value i, and an equal one comes back.
+fn fills<F: Form<MaybeEqual, u64>>(form: &mut F) -> bool {
+    let kind = form.kind();
+    let mut added = true;
+    for i in 0..keys_of(kind) {
+        added &= form.add(Way::Insert, key_of(i, 100), i) == Answer::Added(None);
+    }
+    for i in 0..keys_of(kind) {
+        let back = Answer::Exists(pair_of(i, 300, shown(kind, 7)));
+        added &= form.add(Way::Insert, key_of(i, 300), 7) == back;
+    }
+    added
+}
+
+// Whether each key has that mark and that value more than its number, and goes with them.
+fn goes<F: Form<MaybeEqual, u64>>(form: &mut F, mark: u64, value: u64) -> bool {
+    let kind = form.kind();
+    let mut gone = true;
+    for i in 0..keys_of(kind) {
+        let there = Answer::Found(Some(pair_of(i, mark, shown(kind, value.wrapping_add(i)))));
+        gone &= form.read(&key_of(i, 500)) == there;
+        let wanted = if kind == Kind::Index {
+            Answer::Yes(true)
+        } else {
+            there
+        };
+        gone &= form.remove(&key_of(i, 600)) == wanted;
+    }
+    gone && form.sizes().len == 0
+}
+
+/// Each key (i, 100 + i) is replaced by (i, 200 + i), and values stay. An index replaces none.
+#[derive(Clone, Copy)]
+pub struct Replaces;
+
+// Whether each replacement answers the key that went.
+fn all_replaced<F: Form<MaybeEqual, u64>>(form: &mut F) -> bool {
+    let kind = form.kind();
+    let mut replaced = true;
+    for i in 0..keys_of(kind) {
+        let after = if kind == Kind::Set {
+            None
+        } else {
+            Some(pair_of(i, 200, i))
+        };
+        let wanted = if kind == Kind::Index {
+            Answer::Absent
+        } else {
+            Answer::Swapped(Some(i.wrapping_add(100)), after)
+        };
+        replaced &= form.replace(key_of(i, 200)) == wanted;
+    }
+    replaced
+}
+
+impl Case<MaybeEqual, u64> for Replaces {
+    fn check<F: Form<MaybeEqual, u64>>(
+        &self,
+        _alloc: Global,
+        form: &mut F,
+    ) -> Result<bool, AllocError> {
+        let mark = if form.kind() == Kind::Index { 100 } else { 200 };
+        Ok(fills(form) && all_replaced(form) && goes(form, mark, 0))
+    }
+
+    fn has_ended(&self) -> bool {
+        true
+    }
+}
+
+/// The value of each key is written under an equal one, and the stored key stays. A set has no values.
+#[derive(Clone, Copy)]
+pub struct Updates;
+
+// Writes the value of the key as its kind does.
+fn write<F: Form<MaybeEqual, u64>>(form: &mut F, i: u64) -> Answer {
+    let (key, value) = (key_of(i, 200), i.wrapping_add(400));
+    match form.kind() {
+        Kind::Index => form.act(At::Key, Act::Set, &key, value),
+        Kind::Cache => form.add(Way::InsertEntry, key, value),
+        _ => form.add(Way::Upsert, key, value),
+    }
+}
+
+// Whether each writing answers what its kind says.
+fn all_updated<F: Form<MaybeEqual, u64>>(form: &mut F) -> bool {
+    let kind = form.kind();
+    let mut updated = true;
+    for i in 0..keys_of(kind) {
+        let wanted = match kind {
+            Kind::Map => Answer::Old(Some(i)),
+            Kind::Set => Answer::Absent,
+            Kind::Index => Answer::Yes(true),
+            Kind::Cache => Answer::Entry(None, pair_of(i, 100, i.wrapping_add(400))),
+        };
+        updated &= write(form, i) == wanted;
+    }
+    updated
+}
+
+impl Case<MaybeEqual, u64> for Updates {
+    fn check<F: Form<MaybeEqual, u64>>(
+        &self,
+        _alloc: Global,
+        form: &mut F,
+    ) -> Result<bool, AllocError> {
+        Ok(fills(form) && all_updated(form) && goes(form, 100, 400))
+    }
+
+    fn has_ended(&self) -> bool {
+        true
+    }
+}
+
+/// A line for each case. The answer is the worst status.
+pub(crate) fn run_equal_keys<R: Wait + AllocGlobal + Print>(rt: &R) -> u8 {
+    let one = in_every_form(rt, &Replaces, "keys replaced, all hashes 0", Zero);
+    let two = in_every_form(rt, &Replaces, "keys replaced, one tag", Alike);
+    let three = in_every_form(rt, &Updates, "values written, all hashes 0", Zero);
+    let four = in_every_form(rt, &Updates, "values written, one tag", Alike);
+    one.max(two).max(three).max(four)
+}

@@ -1,0 +1,134 @@
+//! A run of random calls on a container of any kind and form, and on a plain list.
+
+use crate::draws::{Call, Draws};
+use crate::tally::Tally;
+use std::alloc::{AllocError, Global};
+use std::hash::BuildHasher;
+use test_kit::agreeing::{Asked, agrees};
+use test_kit::calls::make;
+use test_kit::form::Form;
+use test_kit::list::List;
+use test_kit::maybe_equal::MaybeEqual;
+use test_kit_shared::every::Case;
+
+/// After how many calls all pairs are compared.
+const LOOK: u64 = 50;
+
+/// So many calls on keys up to a mask, under that hasher.
+#[derive(Clone, Copy)]
+pub struct Run<H> {
+    /// The hasher of the container.
+    pub hasher: H,
+    /// The number of calls.
+    pub calls: u64,
+    /// The greatest number of a key, one less than a power of two.
+    pub mask: u64,
+    /// Whether buckets of a container for one owner have to wait while an eighth of the calls are made.
+    pub waits: bool,
+}
+
+// The numbers of a call.
+fn asked<H: BuildHasher>(hasher: &H, call: &Call) -> Asked {
+    Asked {
+        what: call.what,
+        number: call.key.0,
+        mark: call.key.1,
+        hash: hasher.hash_one(call.key),
+        value: call.value,
+    }
+}
+
+// Whether a walk meets just the pairs of the list, and the sizes are right.
+fn is_as<F: Form<MaybeEqual, u64>>(
+    alloc: Global,
+    form: &F,
+    list: &List,
+) -> Result<bool, AllocError> {
+    let mut met = Vec::new(alloc);
+    let collected = form.collect(&mut met);
+    Ok(collected && list.is_met_by(alloc, met.as_slice())?)
+}
+
+// Whether the sizes are those of a container with so many pairs.
+fn fits<F: Form<MaybeEqual, u64>>(form: &F, list: &List) -> bool {
+    let sizes = form.sizes();
+    sizes.len == list.len()
+        && sizes.is_empty == (sizes.len == 0)
+        && sizes.minimum <= sizes.maximum
+        && sizes.capacity <= sizes.maximum
+}
+
+// Whether a call answers as the list, which then does the same.
+fn step<H: BuildHasher, F: Form<MaybeEqual, u64>>(
+    alloc: Global,
+    hasher: &H,
+    form: &mut F,
+    list: &mut List,
+    call: &Call,
+) -> Result<bool, AllocError> {
+    let mut met = Vec::new(alloc);
+    let answer = make(alloc, form, call.what, call.key, call.value, &mut met);
+    list.resize(alloc, form.sizes().capacity)?;
+    let is_right = agrees(alloc, list, &asked(hasher, call), answer, met.as_slice())?;
+    Ok(is_right && fits(form, list))
+}
+
+// Makes the calls, and answers whether all agreed.
+fn make_all<H: BuildHasher, F: Form<MaybeEqual, u64>>(
+    alloc: Global,
+    run: &Run<H>,
+    form: &mut F,
+    list: &mut List,
+    tally: &mut Tally,
+) -> Result<bool, AllocError> {
+    let mut draws = Draws::new(run.calls, run.mask);
+    let mut agree = true;
+    for number in 0..run.calls {
+        let waits = form.waiting().unwrap_or(0) > 0;
+        let call = draws.draw(list, waits);
+        tally.note(call.what, list.find(call.key.0).is_some(), waits)?;
+        let is_right = step(alloc, &run.hasher, form, list, &call)?;
+        let is_whole = number % LOOK > 0 || is_as(alloc, form, list)?;
+        agree = agree && is_right && is_whole;
+    }
+    Ok(agree && is_as(alloc, form, list)?)
+}
+
+impl<H: BuildHasher + Copy> Case<MaybeEqual, u64> for Run<H> {
+    fn check<F: Form<MaybeEqual, u64>>(
+        &self,
+        alloc: Global,
+        form: &mut F,
+    ) -> Result<bool, AllocError> {
+        let mut list = List::new(alloc, form.kind(), form.is_one());
+        let mut tally = Tally::new(alloc);
+        let agree = make_all(alloc, self, form, &mut list, &mut tally)?;
+        let waited = !self.waits || form.waiting().is_none() || tally.has_waited();
+        Ok(agree && waited && tally.is_whole())
+    }
+
+    fn has_ended(&self) -> bool {
+        true
+    }
+}
+
+/// A run beside a list that forgets one pair, which has to be found out.
+#[derive(Clone, Copy)]
+pub struct Forgetful<H>(pub Run<H>);
+
+impl<H: BuildHasher + Copy> Case<MaybeEqual, u64> for Forgetful<H> {
+    fn check<F: Form<MaybeEqual, u64>>(
+        &self,
+        alloc: Global,
+        form: &mut F,
+    ) -> Result<bool, AllocError> {
+        let mut list = List::forgetful(alloc, form.kind(), form.is_one(), 20);
+        let mut tally = Tally::new(alloc);
+        let agree = make_all(alloc, &self.0, form, &mut list, &mut tally)?;
+        Ok(!agree)
+    }
+
+    fn has_ended(&self) -> bool {
+        true
+    }
+}

@@ -1,0 +1,57 @@
+//! Tokens of another container.
+
+use scc_table::Reservation;
+use std::alloc::Global;
+use test_kit::lines::say;
+use test_kit::reserving::Reserving;
+
+// Whether a token is refused and comes back with its slots.
+fn refuses<C: Reserving>(form: &mut C, token: Reservation, slots: usize) -> bool {
+    match form.release_slots(token) {
+        Ok(()) => false,
+        Err(back) => back.additional_capacity() == slots,
+    }
+}
+
+// Whether the second container, which has reserved 50 and 60 slots, refuses a token of 200 of the first, takes one of
+// 100, and then refuses its own two.
+fn judges<C: Reserving>(first: &mut C, second: &mut C) -> bool {
+    let (Some(large), Some(small)) = (first.reserve_slots(200), first.reserve_slots(100)) else {
+        return false;
+    };
+    let (Some(fifty), Some(sixty)) = (second.reserve_slots(50), second.reserve_slots(60)) else {
+        return false;
+    };
+    let refused = refuses(second, large, 200) && second.minimum() == 110;
+    let taken = second.release_slots(small).is_ok() && second.minimum() == 10;
+    let own = refuses(second, sixty, 60) && refuses(second, fifty, 50);
+    refused && taken && own && second.minimum() == 10 && first.minimum() == 300
+}
+
+fn of_maps(alloc: Global) -> bool {
+    let mut first: scc_map::Owned<u64, u64> = scc_map::Owned::new(alloc);
+    let mut second: scc_map::Owned<u64, u64> = scc_map::Owned::new(alloc);
+    judges(&mut first, &mut second)
+}
+
+fn of_sets(alloc: Global) -> bool {
+    let mut first: scc_set::Owned<u64> = scc_set::Owned::new(alloc);
+    let mut second: scc_set::Owned<u64> = scc_set::Owned::new(alloc);
+    judges(&mut first, &mut second)
+}
+
+fn of_indexes(alloc: Global) -> bool {
+    let mut first: scc_index::Owned<u64, u64> = scc_index::Owned::new(alloc);
+    let mut second: scc_index::Owned<u64, u64> = scc_index::Owned::new(alloc);
+    judges(&mut first, &mut second)
+}
+
+/// A line for each kind that takes reservations. The answer is the worst status.
+pub(crate) fn run_tokens<R: AllocGlobal + Print>(rt: &R) -> u8 {
+    let what = "release of foreign and own tokens";
+    let alloc = rt.alloc();
+    let map = say(rt, "owned map", what, Ok(of_maps(alloc)));
+    let set = say(rt, "owned set", what, Ok(of_sets(alloc)));
+    let index = say(rt, "owned index", what, Ok(of_indexes(alloc)));
+    map.max(set).max(index)
+}
