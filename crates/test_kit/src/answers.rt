@@ -1,7 +1,7 @@
 //! What a container answers a driver, by numbers.
 
 use crate::numbered::{Numbered, Seen, keeps, raise, seen, seen_key};
-use scc::{InsertError, KeyError, Verdict};
+use scc_common::{InsertError, KeyError, Verdict};
 
 /// A kind of container.
 #[derive(Clone, Copy, Debug, PartialEq)]

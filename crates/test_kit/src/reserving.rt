@@ -1,6 +1,6 @@
 //! Reservations of the containers for one owner, behind one trait.
 
-use scc::{Reservation, hash_index, hash_map, hash_set};
+use scc_table::Reservation;
 use std::hash::{BuildHasher, Hash};
 
 /// A container for one owner that takes reservations.
@@ -15,7 +15,7 @@ pub trait Reserving {
     fn minimum(&self) -> usize;
 }
 
-impl<K: Eq + Hash, V, H: BuildHasher> Reserving for hash_map::Owned<K, V, H> {
+impl<K: Eq + Hash, V, H: BuildHasher> Reserving for scc_map::Owned<K, V, H> {
     fn reserve_slots(&mut self, additional: usize) -> Option<Reservation> {
         self.reserve(additional)
     }
@@ -29,7 +29,7 @@ impl<K: Eq + Hash, V, H: BuildHasher> Reserving for hash_map::Owned<K, V, H> {
     }
 }
 
-impl<K: Eq + Hash, H: BuildHasher> Reserving for hash_set::Owned<K, H> {
+impl<K: Eq + Hash, H: BuildHasher> Reserving for scc_set::Owned<K, H> {
     fn reserve_slots(&mut self, additional: usize) -> Option<Reservation> {
         self.reserve(additional)
     }
@@ -43,7 +43,7 @@ impl<K: Eq + Hash, H: BuildHasher> Reserving for hash_set::Owned<K, H> {
     }
 }
 
-impl<K: Eq + Hash, V, H: BuildHasher> Reserving for hash_index::Owned<K, V, H> {
+impl<K: Eq + Hash, V, H: BuildHasher> Reserving for scc_index::Owned<K, V, H> {
     fn reserve_slots(&mut self, additional: usize) -> Option<Reservation> {
         self.reserve(additional)
     }

@@ -1,7 +1,10 @@
 //! A case that is tried in every kind and form of container.
 
 use crate::held::Held;
-use scc::{HashCache, HashIndex, HashMap, HashSet, hash_cache, hash_index, hash_map, hash_set};
+use scc_shared_cache::HashCache;
+use scc_shared_index::HashIndex;
+use scc_shared_map::HashMap;
+use scc_shared_set::HashSet;
 use std::alloc::{AllocError, Global};
 use std::hash::{BuildHasher, Hash};
 use std::sync::Wait;
@@ -51,7 +54,7 @@ fn in_owned_map<
     H: BuildHasher + Copy,
     C: Case<K, V>,
 >(alloc: Global, case: &C, hasher: H) -> Result<bool, AllocError> {
-    let mut map: hash_map::Owned<K, V, H> = hash_map::Owned::with_hasher(alloc, hasher);
+    let mut map: scc_map::Owned<K, V, H> = scc_map::Owned::with_hasher(alloc, hasher);
     case.check(alloc, &mut map)
 }
 
@@ -61,7 +64,7 @@ fn in_owned_set<
     H: BuildHasher + Copy,
     C: Case<K, V>,
 >(alloc: Global, case: &C, hasher: H) -> Result<bool, AllocError> {
-    let mut set: hash_set::Owned<K, H> = hash_set::Owned::with_hasher(alloc, hasher);
+    let mut set: scc_set::Owned<K, H> = scc_set::Owned::with_hasher(alloc, hasher);
     case.check(alloc, &mut set)
 }
 
@@ -71,7 +74,7 @@ fn in_owned_index<
     H: BuildHasher + Copy,
     C: Case<K, V>,
 >(alloc: Global, case: &C, hasher: H) -> Result<bool, AllocError> {
-    let mut index: hash_index::Owned<K, V, H> = hash_index::Owned::with_hasher(alloc, hasher);
+    let mut index: scc_index::Owned<K, V, H> = scc_index::Owned::with_hasher(alloc, hasher);
     case.check(alloc, &mut index)
 }
 
@@ -81,7 +84,7 @@ fn in_owned_cache<
     H: BuildHasher + Copy,
     C: Case<K, V>,
 >(alloc: Global, case: &C, hasher: H) -> Result<bool, AllocError> {
-    let mut cache: hash_cache::Owned<K, V, H> = hash_cache::Owned::with_hasher(alloc, hasher);
+    let mut cache: scc_cache::Owned<K, V, H> = scc_cache::Owned::with_hasher(alloc, hasher);
     case.check(alloc, &mut cache)
 }
 

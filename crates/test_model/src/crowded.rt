@@ -1,6 +1,5 @@
 //! Buckets with more pairs than slots, which wait for their pairs, take them over, and wait again.
 
-use scc::{hash_index, hash_map, hash_set};
 use std::alloc::Global;
 use test_kit::answers::{Answer, Kind};
 use test_kit::form::{Form, Way};
@@ -71,7 +70,7 @@ fn crowds<F: Form<u64, u64> + Reserving>(form: &mut F, kind: Kind, pairs: u64) -
 fn of_maps(alloc: Global) -> bool {
     let mut holds = true;
     for pairs in CROWDS {
-        let mut map: hash_map::Owned<u64, u64, Zero> = hash_map::Owned::with_hasher(alloc, Zero);
+        let mut map: scc_map::Owned<u64, u64, Zero> = scc_map::Owned::with_hasher(alloc, Zero);
         holds &= crowds(&mut map, Kind::Map, pairs);
     }
     holds
@@ -80,7 +79,7 @@ fn of_maps(alloc: Global) -> bool {
 fn of_sets(alloc: Global) -> bool {
     let mut holds = true;
     for pairs in CROWDS {
-        let mut set: hash_set::Owned<u64, Zero> = hash_set::Owned::with_hasher(alloc, Zero);
+        let mut set: scc_set::Owned<u64, Zero> = scc_set::Owned::with_hasher(alloc, Zero);
         holds &= crowds(&mut set, Kind::Set, pairs);
     }
     holds
@@ -89,7 +88,7 @@ fn of_sets(alloc: Global) -> bool {
 fn of_indexes(alloc: Global) -> bool {
     let mut holds = true;
     for pairs in CROWDS {
-        let mut index: hash_index::Owned<u64, u64, Zero> = hash_index::Owned::with_hasher(
+        let mut index: scc_index::Owned<u64, u64, Zero> = scc_index::Owned::with_hasher(
             alloc, Zero,
         );
         holds &= crowds(&mut index, Kind::Index, pairs);

@@ -1,6 +1,5 @@
 //! Containers with more than a million slots, a cache that fills its maximum, and a snapshot of many versions.
 
-use scc::{hash_cache, hash_index, hash_map, hash_set};
 use std::alloc::{AllocError, Global};
 use test_kit::answers::{Answer, Kind};
 use test_kit::form::{Form, Way};
@@ -98,20 +97,20 @@ fn reserves<F: Form<u64, u64> + Reserving>(form: &mut F, kind: Kind) -> bool {
 }
 
 fn of_maps(alloc: Global) -> Result<bool, AllocError> {
-    let mut large: hash_map::Owned<u64, u64, Same> = hash_map::Owned::with_hasher(alloc, Same);
-    let mut small: hash_map::Owned<u64, u64, Same> = hash_map::Owned::with_hasher(alloc, Same);
+    let mut large: scc_map::Owned<u64, u64, Same> = scc_map::Owned::with_hasher(alloc, Same);
+    let mut small: scc_map::Owned<u64, u64, Same> = scc_map::Owned::with_hasher(alloc, Same);
     Ok(grows(&mut large, Kind::Map) && reserves(&mut small, Kind::Map))
 }
 
 fn of_sets(alloc: Global) -> Result<bool, AllocError> {
-    let mut large: hash_set::Owned<u64, Same> = hash_set::Owned::with_hasher(alloc, Same);
-    let mut small: hash_set::Owned<u64, Same> = hash_set::Owned::with_hasher(alloc, Same);
+    let mut large: scc_set::Owned<u64, Same> = scc_set::Owned::with_hasher(alloc, Same);
+    let mut small: scc_set::Owned<u64, Same> = scc_set::Owned::with_hasher(alloc, Same);
     Ok(grows(&mut large, Kind::Set) && reserves(&mut small, Kind::Set))
 }
 
 fn of_indexes(alloc: Global) -> Result<bool, AllocError> {
-    let mut large: hash_index::Owned<u64, u64, Same> = hash_index::Owned::with_hasher(alloc, Same);
-    let mut small: hash_index::Owned<u64, u64, Same> = hash_index::Owned::with_hasher(alloc, Same);
+    let mut large: scc_index::Owned<u64, u64, Same> = scc_index::Owned::with_hasher(alloc, Same);
+    let mut small: scc_index::Owned<u64, u64, Same> = scc_index::Owned::with_hasher(alloc, Same);
     Ok(grows(&mut large, Kind::Index) && reserves(&mut small, Kind::Index))
 }
 
@@ -131,7 +130,7 @@ fn evicts<F: Form<u64, u64>>(form: &mut F, from: u64, to: u64) -> bool {
 // Whether a cache takes as many pairs as its maximum without one that is driven out, and then one for each that goes.
 fn of_caches(alloc: Global) -> Result<bool, AllocError> {
     let maximum = MAXIMUM as usize;
-    let Ok(mut cache) = hash_cache::Owned::<u64, u64, Same>::with_capacity_and_hasher(
+    let Ok(mut cache) = scc_cache::Owned::<u64, u64, Same>::with_capacity_and_hasher(
         alloc, 0, maximum, Same,
     ) else {
         return Err(AllocError);
@@ -147,7 +146,7 @@ fn of_caches(alloc: Global) -> Result<bool, AllocError> {
 }
 
 // Whether the snapshot has each version of the numbers once, and then none for ever.
-fn has_each_once(alloc: Global, versions: hash_index::Iter<u64, u64>) -> Result<bool, AllocError> {
+fn has_each_once(alloc: Global, versions: scc_index::Iter<u64, u64>) -> Result<bool, AllocError> {
     let mut met = vec![in alloc; false; VERSIONS]?;
     let mut count = 0usize;
     let mut right = true;
@@ -169,7 +168,7 @@ fn has_each_once(alloc: Global, versions: hash_index::Iter<u64, u64>) -> Result<
 
 // Whether a snapshot of many versions outlives the pairs of its index.
 fn of_snapshots(alloc: Global) -> Result<bool, AllocError> {
-    let mut index: hash_index::Owned<u64, u64, Same> = hash_index::Owned::with_hasher(alloc, Same);
+    let mut index: scc_index::Owned<u64, u64, Same> = scc_index::Owned::with_hasher(alloc, Same);
     let filled = fills(&mut index, 0, VERSIONS as u64);
     let Ok(versions) = index.iter() else {
         return Err(AllocError);

@@ -1,6 +1,6 @@
 //! Walks whose closure writes 9 to each pair that it is called on.
 
-use scc::Verdict;
+use scc_common::Verdict;
 use std::alloc::{AllocError, Global};
 use std::sync::Wait;
 use test_kit::answers::{Answer, Kind, Rule};

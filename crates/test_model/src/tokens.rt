@@ -1,6 +1,6 @@
 //! Tokens of another container.
 
-use scc::{Reservation, hash_index, hash_map, hash_set};
+use scc_table::Reservation;
 use std::alloc::Global;
 use test_kit::lines::say;
 use test_kit::reserving::Reserving;
@@ -29,20 +29,20 @@ fn judges<C: Reserving>(first: &mut C, second: &mut C) -> bool {
 }
 
 fn of_maps(alloc: Global) -> bool {
-    let mut first: hash_map::Owned<u64, u64> = hash_map::Owned::new(alloc);
-    let mut second: hash_map::Owned<u64, u64> = hash_map::Owned::new(alloc);
+    let mut first: scc_map::Owned<u64, u64> = scc_map::Owned::new(alloc);
+    let mut second: scc_map::Owned<u64, u64> = scc_map::Owned::new(alloc);
     judges(&mut first, &mut second)
 }
 
 fn of_sets(alloc: Global) -> bool {
-    let mut first: hash_set::Owned<u64> = hash_set::Owned::new(alloc);
-    let mut second: hash_set::Owned<u64> = hash_set::Owned::new(alloc);
+    let mut first: scc_set::Owned<u64> = scc_set::Owned::new(alloc);
+    let mut second: scc_set::Owned<u64> = scc_set::Owned::new(alloc);
     judges(&mut first, &mut second)
 }
 
 fn of_indexes(alloc: Global) -> bool {
-    let mut first: hash_index::Owned<u64, u64> = hash_index::Owned::new(alloc);
-    let mut second: hash_index::Owned<u64, u64> = hash_index::Owned::new(alloc);
+    let mut first: scc_index::Owned<u64, u64> = scc_index::Owned::new(alloc);
+    let mut second: scc_index::Owned<u64, u64> = scc_index::Owned::new(alloc);
     judges(&mut first, &mut second)
 }
 

@@ -3,7 +3,10 @@
 
 use crate::draws::{Call, Draws};
 use crate::tally::Tally;
-use scc::{HashCache, HashIndex, HashMap, HashSet, hash_cache, hash_index, hash_map, hash_set};
+use scc_shared_cache::HashCache;
+use scc_shared_index::HashIndex;
+use scc_shared_map::HashMap;
+use scc_shared_set::HashSet;
 use std::alloc::{AllocError, Global};
 use std::sync::Wait;
 use test_kit::calls::make;
@@ -96,7 +99,7 @@ fn of_maps<R: Wait + AllocGlobal>(rt: &R) -> Result<bool, AllocError> {
     let alloc = rt.alloc();
     let (Ok(shared), Ok(mut owned)) = (
         HashMap::<MaybeEqual, u64, Same>::with_capacity_and_hasher(alloc, SLOTS, Same),
-        hash_map::Owned::<MaybeEqual, u64, Same>::with_capacity_and_hasher(alloc, SLOTS, Same),
+        scc_map::Owned::<MaybeEqual, u64, Same>::with_capacity_and_hasher(alloc, SLOTS, Same),
     ) else {
         return Err(AllocError);
     };
@@ -107,7 +110,7 @@ fn of_sets<R: Wait + AllocGlobal>(rt: &R) -> Result<bool, AllocError> {
     let alloc = rt.alloc();
     let (Ok(shared), Ok(mut owned)) = (
         HashSet::<MaybeEqual, Same>::with_capacity_and_hasher(alloc, SLOTS, Same),
-        hash_set::Owned::<MaybeEqual, Same>::with_capacity_and_hasher(alloc, SLOTS, Same),
+        scc_set::Owned::<MaybeEqual, Same>::with_capacity_and_hasher(alloc, SLOTS, Same),
     ) else {
         return Err(AllocError);
     };
@@ -118,7 +121,7 @@ fn of_indexes<R: Wait + AllocGlobal>(rt: &R) -> Result<bool, AllocError> {
     let alloc = rt.alloc();
     let (Ok(shared), Ok(mut owned)) = (
         HashIndex::<MaybeEqual, u64, Same>::with_capacity_and_hasher(alloc, SLOTS, Same),
-        hash_index::Owned::<MaybeEqual, u64, Same>::with_capacity_and_hasher(alloc, SLOTS, Same),
+        scc_index::Owned::<MaybeEqual, u64, Same>::with_capacity_and_hasher(alloc, SLOTS, Same),
     ) else {
         return Err(AllocError);
     };
@@ -129,7 +132,7 @@ fn of_caches<R: Wait + AllocGlobal>(rt: &R) -> Result<bool, AllocError> {
     let alloc = rt.alloc();
     let (Ok(shared), Ok(mut owned)) = (
         HashCache::<MaybeEqual, u64, Same>::with_capacity_and_hasher(alloc, SLOTS, MAXIMUM, Same),
-        hash_cache::Owned::<MaybeEqual, u64, Same>::with_capacity_and_hasher(
+        scc_cache::Owned::<MaybeEqual, u64, Same>::with_capacity_and_hasher(
             alloc, SLOTS, MAXIMUM, Same,
         ),
     ) else {

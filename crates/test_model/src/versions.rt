@@ -1,7 +1,7 @@
 //! Versions that a reader keeps: they live as long as somebody has them, and are dropped once.
 
 use crate::token::{Book, Token};
-use scc::{HashIndex, hash_index};
+use scc_shared_index::HashIndex;
 use std::alloc::{AllocError, Global};
 use std::rc::Rc;
 use std::sync::Wait;
@@ -19,8 +19,8 @@ fn pair(book: &Rc<Book>, number: u64) -> Result<(Token, Token), AllocError> {
 fn filled(
     alloc: Global,
     book: &Rc<Book>,
-) -> Result<hash_index::Owned<Token, Token, Zero>, AllocError> {
-    let mut index = hash_index::Owned::with_hasher(alloc, Zero);
+) -> Result<scc_index::Owned<Token, Token, Zero>, AllocError> {
+    let mut index = scc_index::Owned::with_hasher(alloc, Zero);
     for number in 0..KEYS {
         let (key, value) = pair(book, number)?;
         if index.insert_sync(key, value).is_err() {

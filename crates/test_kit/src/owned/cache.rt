@@ -3,9 +3,9 @@
 use crate::answers::{Answer, Kind, Rule, raise_and_keep, refused, verdict};
 use crate::form::{Act, At, Form, Sizes, Way};
 use crate::numbered::{Numbered, Seen, note_pairs, raise_to_even, seen, seen_pair, value_of};
-use scc::InsertError;
-use scc::hash_cache::owned::{Entry, OccupiedEntry, ReplaceResult};
-use scc::hash_cache::{EvictedEntry, Owned};
+use scc_cache::owned::{Entry, OccupiedEntry, ReplaceResult};
+use scc_cache::{EvictedEntry, Owned};
+use scc_common::InsertError;
 use std::alloc::Global;
 use std::hash::{BuildHasher, Hash};
 

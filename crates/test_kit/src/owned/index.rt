@@ -3,9 +3,9 @@
 use crate::answers::{Answer, Kind, refused};
 use crate::form::{Act, At, Form, Sizes, Way};
 use crate::numbered::{Numbered, Seen, keeps, seen, value_of};
-use scc::InsertError;
-use scc::hash_index::Owned;
-use scc::hash_index::owned::{Entry, OccupiedEntry};
+use scc_common::InsertError;
+use scc_index::Owned;
+use scc_index::owned::{Entry, OccupiedEntry};
 use std::hash::{BuildHasher, Hash};
 
 // What a way answers that lends an entry.

@@ -5,9 +5,9 @@ use crate::form::{Act, At, Form, Sizes, Way};
 use crate::numbered::{
     Numbered, Seen, keeps, note_pairs, raise_to_even, seen, seen_pair, value_of,
 };
-use scc::hash_map::Owned;
-use scc::hash_map::owned::{Entry, OccupiedEntry, ReplaceResult};
-use scc::{InsertError, Reservation};
+use scc_common::InsertError;
+use scc_map::Owned;
+use scc_map::owned::{Entry, OccupiedEntry, ReplaceResult};
 use std::alloc::Global;
 use std::hash::{BuildHasher, Hash};
 

@@ -1,8 +1,10 @@
 //! The cache that threads share, as drivers see it.
 
 use crate::held::Held;
-use scc::InsertError;
-use scc::hash_cache::{Entry, EvictedEntry, HashCache, OccupiedEntry, ReplaceResult};
+use scc_cache::EvictedEntry;
+use scc_cache::locked::{Entry, OccupiedEntry, ReplaceResult};
+use scc_common::InsertError;
+use scc_shared_cache::HashCache;
 use std::alloc::Global;
 use std::hash::{BuildHasher, Hash};
 use std::sync::Wait;

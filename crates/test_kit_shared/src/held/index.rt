@@ -1,8 +1,9 @@
 //! The index that threads share, as drivers see it.
 
 use crate::held::Held;
-use scc::InsertError;
-use scc::hash_index::{Entry, HashIndex, OccupiedEntry};
+use scc_common::InsertError;
+use scc_index::locked::{Entry, OccupiedEntry};
+use scc_shared_index::HashIndex;
 use std::hash::{BuildHasher, Hash};
 use std::sync::Wait;
 use test_kit::answers::{Answer, Kind, refused};

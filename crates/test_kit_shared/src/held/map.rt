@@ -1,8 +1,9 @@
 //! The map that threads share, as drivers see it.
 
 use crate::held::Held;
-use scc::InsertError;
-use scc::hash_map::{Entry, HashMap, OccupiedEntry, ReplaceResult};
+use scc_common::InsertError;
+use scc_map::locked::{Entry, OccupiedEntry, ReplaceResult};
+use scc_shared_map::HashMap;
 use std::alloc::Global;
 use std::hash::{BuildHasher, Hash};
 use std::sync::Wait;

@@ -1,7 +1,7 @@
 //! The set that threads share, as drivers see it.
 
 use crate::held::Held;
-use scc::hash_set::{HashSet, OccupiedEntry};
+use scc_shared_set::{HashSet, OccupiedEntry};
 use std::alloc::Global;
 use std::hash::{BuildHasher, Hash};
 use std::sync::Wait;

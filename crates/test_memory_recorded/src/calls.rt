@@ -1,0 +1,258 @@
+// Recorded containers of each kind whose calls are refused: the pass keeps its clock and its receipts, and the same
+// call, made again until it succeeds, is answered as if it had never been refused.
+ghost use Rattle.std.specs.Prelude.{◌≡◌, Some};
+ghost use Rattle.scc_recorded.specs.Setups.{request_of};
+
+use crate::expect::{expect, expect_eq};
+use crate::finishes::expect_finished;
+use crate::kinds::{CALLS, Cache, Index, Map, Set, Tried, What};
+use scc::recorded::{CallError, Pass, Recorded, Setup, Shared, Site, TryShare};
+use std::io::Print;
+use std::marker::Brand;
+use std::process::Abort;
+use std::sync::ledger::{Blank, Ledger};
+use std::sync::{Arc, Wait};
+use test_kit::refusals::{Refusal, TRIES};
+use test_kit::zero::Zero;
+
+// One owner of the hasher.
+pub(crate) fn shared<R: AllocGlobal + Abort + Print>(
+    rt: &R,
+    refusal: &mut Refusal,
+) -> Shared<Zero> {
+    let owner = refusal.outlast(
+        rt,
+        "a shared hasher",
+        || Arc::new(rt.alloc(), Zero),
+        || true,
+    );
+    Shared::new(owner.expect(rt, "a hasher is refused each time"))
+}
+
+// What a pass says, where it is the only one: its clock and its receipts go together.
+pub(crate) fn expect_clock<C: Tried, L: Ledger, R: Abort>(rt: &R, pass: &Pass<C, L>, clock: usize) {
+    expect_eq(
+        rt,
+        (pass.clock(), pass.receipts().len()),
+        (clock as u64, clock),
+    );
+}
+
+// Makes the call of that number once, and answers whether its answer was right: None where it has no key.
+fn make_call<C: Tried, L: Ledger, M: Site<C::Hasher>, R: Wait>(
+    rt: &R,
+    recorded: &Recorded<C, L, M>,
+    pass: &mut Pass<C, L>,
+    number: u64,
+) -> Option<Result<bool, CallError>> {
+    C::equal_calls();
+    C::equal_replies();
+    let (call, wanted) = C::call_of(number);
+    if let Some(_key) = C::key(&call) {
+        match recorded.call(rt, pass, call) {
+            Ok(reply) => Some(Ok(reply == wanted)),
+            Err(cause) => Some(Err(cause)),
+        }
+    } else {
+        None
+    }
+}
+
+// Makes the call of that number until it succeeds.
+fn expect_call<C: Tried, L: Ledger, M: Site<C::Hasher>, R: Abort + Print + Wait>(
+    rt: &R,
+    refusal: &mut Refusal,
+    recorded: &Recorded<C, L, M>,
+    pass: &mut Pass<C, L>,
+    number: u64,
+) {
+    let before = pass.receipts().len();
+    for _ in 0..TRIES {
+        match make_call(rt, recorded, pass, number) {
+            Some(Err(cause)) => {
+                C::meet(rt, refusal, What::Call(cause));
+                expect_clock(rt, pass, before);
+            }
+            answer => {
+                expect_eq(rt, answer, Some(Ok(true)));
+                break;
+            }
+        }
+    }
+    expect_clock(rt, pass, before.saturating_add(1));
+}
+
+// Counts the keys of both stripes. Refused, the stripes before are counted and recorded, and the next call counts both.
+fn expect_length<C: Tried, L: Ledger, M: Site<C::Hasher>, R: Abort + Print + Wait>(
+    rt: &R,
+    refusal: &mut Refusal,
+    recorded: &Recorded<C, L, M>,
+    pass: &mut Pass<C, L>,
+    count: usize,
+) {
+    C::equal_calls();
+    C::equal_replies();
+    for _ in 0..TRIES {
+        let before = pass.receipts().len();
+        let answer = recorded.len(rt, pass);
+        let added = pass.receipts().len().saturating_sub(before);
+        expect_clock(rt, pass, before.saturating_add(added));
+        match answer {
+            Ok(counted) => {
+                expect_eq(rt, (counted, added), (count, 2));
+                return;
+            }
+            Err(cause) => {
+                C::meet(rt, refusal, What::Length);
+                expect_eq(rt, (cause, added < 2), (CallError::Room, true));
+            }
+        }
+    }
+    expect(rt, false);
+}
+
+// The same of a clearing.
+fn expect_clearing<C: Tried, L: Ledger, M: Site<C::Hasher>, R: Abort + Print + Wait>(
+    rt: &R,
+    refusal: &mut Refusal,
+    recorded: &Recorded<C, L, M>,
+    pass: &mut Pass<C, L>,
+) {
+    C::equal_calls();
+    C::equal_replies();
+    for _ in 0..TRIES {
+        let before = pass.receipts().len();
+        let answer = recorded.clear(rt, pass);
+        let added = pass.receipts().len().saturating_sub(before);
+        expect_clock(rt, pass, before.saturating_add(added));
+        match answer {
+            Ok(()) => {
+                expect_eq(rt, added, 2);
+                return;
+            }
+            Err(cause) => {
+                C::meet(rt, refusal, What::Clearing);
+                expect_eq(rt, (cause, added < 2), (CallError::Room, true));
+            }
+        }
+    }
+    expect(rt, false);
+}
+
+// All calls on two stripes, of which the second stays empty, and the finish. False where the container was refused.
+fn call_and_finish<C: Tried, L: Ledger, M: Site<C::Hasher>, R: AllocGlobal + Abort + Print + Wait>(
+    rt: &R,
+    refusal: &mut Refusal,
+    hasher: C::Hasher,
+    receipts: Blank,
+    records: Blank,
+) -> bool
+where
+    C::Hasher: TryShare + Drop,
+    requires receipts { (receipts.name ≡ L.name) × (receipts.parts ≡ L.parts) × (receipts.parts ≡ 1) }
+    requires records { (records.name ≡ M.name) × (records.parts ≡ M.parts) × (records.parts ≡ 2) }
+    requires site { (M.chosen ≡ Some (request_of 0 64 hasher 2)) × (M.all ≡ 2) }
+{
+    let setup = Setup {
+        capacity: 0,
+        maximum: 64,
+        hasher,
+    };
+    match Recorded::<C, L, M>::open(rt.alloc(), setup, 2, 1, receipts, records) {
+        Ok((recorded, handed)) => {
+            let mut passes = handed;
+            for pass in passes.as_mut_slice() {
+                call_all(rt, refusal, &recorded, pass);
+            }
+            expect_finished(rt, refusal, recorded.close(), passes, 1);
+            true
+        }
+        Err(_) => {
+            C::meet(rt, refusal, What::Opening);
+            false
+        }
+    }
+}
+
+// All calls by one pass: one key is there after them, none after the clearing, and then one again. The second stripe has
+// room for three steps, so that the clearing asks for more where the first one is cleared.
+fn call_all<C: Tried, L: Ledger, M: Site<C::Hasher>, R: Abort + Print + Wait>(
+    rt: &R,
+    refusal: &mut Refusal,
+    recorded: &Recorded<C, L, M>,
+    pass: &mut Pass<C, L>,
+) {
+    for number in 0..CALLS {
+        expect_call(rt, refusal, recorded, pass, number);
+    }
+    for _ in 0..3 {
+        expect_length(rt, refusal, recorded, pass, 1);
+    }
+    expect_clearing(rt, refusal, recorded, pass);
+    expect_length(rt, refusal, recorded, pass, 0);
+    expect_call(rt, refusal, recorded, pass, 0);
+}
+
+// A kind that is tried on a hasher with several owners.
+trait Recording: Tried {
+    // Whether it was opened.
+    fn attempt<R: AllocGlobal + Abort + Print + Wait>(rt: &R, refusal: &mut Refusal) -> bool;
+}
+
+impl Recording for Map {
+    fn attempt<R: AllocGlobal + Abort + Print + Wait>(rt: &R, refusal: &mut Refusal) -> bool {
+        let hasher = shared(rt, refusal);
+        call_and_finish::<Map, Brand, Brand, R>(rt, refusal, hasher, Blank::new(1), Blank::new(2))
+    }
+}
+
+impl Recording for Set {
+    fn attempt<R: AllocGlobal + Abort + Print + Wait>(rt: &R, refusal: &mut Refusal) -> bool {
+        let hasher = shared(rt, refusal);
+        call_and_finish::<Set, Brand, Brand, R>(rt, refusal, hasher, Blank::new(1), Blank::new(2))
+    }
+}
+
+impl Recording for Index {
+    fn attempt<R: AllocGlobal + Abort + Print + Wait>(rt: &R, refusal: &mut Refusal) -> bool {
+        let hasher = shared(rt, refusal);
+        call_and_finish::<Index, Brand, Brand, R>(rt, refusal, hasher, Blank::new(1), Blank::new(2))
+    }
+}
+
+impl Recording for Cache {
+    fn attempt<R: AllocGlobal + Abort + Print + Wait>(rt: &R, refusal: &mut Refusal) -> bool {
+        let hasher = shared(rt, refusal);
+        call_and_finish::<Cache, Brand, Brand, R>(rt, refusal, hasher, Blank::new(1), Blank::new(2))
+    }
+}
+
+fn expect_recording<C: Recording, R: AllocGlobal + Abort + Print + Wait>(rt: &R) {
+    let mut refusal = Refusal::new();
+    for _ in 0..TRIES {
+        if C::attempt(rt, &mut refusal) {
+            return;
+        }
+    }
+    expect(rt, false);
+}
+
+#[test]
+fn recorded_map_is_refused_in_turn(rt: HostRuntime) {
+    expect_recording::<Map, HostRuntime>(&rt);
+}
+
+#[test]
+fn recorded_set_is_refused_in_turn(rt: HostRuntime) {
+    expect_recording::<Set, HostRuntime>(&rt);
+}
+
+#[test]
+fn recorded_index_is_refused_in_turn(rt: HostRuntime) {
+    expect_recording::<Index, HostRuntime>(&rt);
+}
+
+#[test]
+fn recorded_cache_is_refused_in_turn(rt: HostRuntime) {
+    expect_recording::<Cache, HostRuntime>(&rt);
+}

@@ -1,0 +1,147 @@
+// A recorded map whose bucket is full: the growth and the overflow list of the next insertion may both be refused, and
+// a growth that was made stays recorded, also where its call was refused.
+ghost use Rattle.std.specs.Prelude.{◌≡◌, Some};
+ghost use Rattle.scc_recorded.specs.Setups.{request_of};
+
+use crate::calls::{expect_clock, shared};
+use crate::expect::{expect, expect_eq};
+use crate::finishes::expect_finished;
+use crate::kinds::Map;
+use scc::recorded::{
+    CallError, Closed, MapCall, Pass, Receipt, Recorded, Reply, Setup, Shared, Site, Step,
+};
+use std::io::Print;
+use std::marker::Brand;
+use std::process::Abort;
+use std::sync::Wait;
+use std::sync::ledger::{Blank, Ledger};
+use test_kit::refusals::{Refusal, TRIES};
+use test_kit::zero::Zero;
+
+// Says what of an insertion was refused, which leaves the keys below.
+fn meet_insertion<R: Print>(rt: &R, refusal: &mut Refusal, cause: CallError, key: u64) {
+    match cause {
+        CallError::Room => refusal.meet(rt, "room for a recorded insertion"),
+        CallError::Container if key == 0 => refusal.meet(rt, "the array of a recorded insertion"),
+        CallError::Container => refusal.meet(rt, "the overflow list of a recorded insertion"),
+    }
+}
+
+// Inserts a key with its complement as value, after the keys below it, until that succeeds.
+fn expect_inserted<L: Ledger, M: Site<Shared<Zero>>, R: Abort + Print + Wait>(
+    rt: &R,
+    refusal: &mut Refusal,
+    recorded: &Recorded<Map, L, M>,
+    pass: &mut Pass<Map, L>,
+    key: u64,
+) {
+    let before = pass.receipts().len();
+    let call = MapCall::Insert(key, !key);
+    for _ in 0..TRIES {
+        match recorded.call(rt, pass, call) {
+            Ok(reply) => {
+                expect_eq(rt, reply, Reply::Inserted);
+                break;
+            }
+            Err(cause) => {
+                expect(rt, key == 0 || key == 32 || cause == CallError::Room);
+                meet_insertion(rt, refusal, cause, key);
+                expect_clock(rt, pass, before);
+            }
+        }
+    }
+    let last = Receipt {
+        stripe: 0,
+        stamp: key.saturating_add(1),
+        call,
+        reply: Reply::Inserted,
+    };
+    expect_clock(rt, pass, before.saturating_add(1));
+    expect_eq(rt, pass.receipts().get(before), Some(&last));
+}
+
+// The first array stands in the history before the first insertion, and the growth before the last one, unless it was
+// refused.
+fn expect_growth<L: Ledger, M: Site<Shared<Zero>>, R: Abort + Print>(
+    rt: &R,
+    refusal: &mut Refusal,
+    closed: &Closed<Map, L, M>,
+) {
+    let stripe = closed.stripe(0).expect(rt, "the stripe is there");
+    let growth = Step::Resize {
+        stamp: 33,
+        buckets: 4,
+    };
+    let steps = stripe.history.len();
+    if stripe.container.capacity() == 64 {
+        refusal.meet(rt, "a growth of a recorded map");
+        expect_eq(rt, steps, 34);
+    } else {
+        expect_eq(rt, (stripe.container.capacity(), steps), (128, 35));
+        expect_eq(rt, stripe.history.get(33), Some(&growth));
+    }
+}
+
+// Insertions up to the one that grows the array while its bucket is full, and the finish. False where the container
+// was refused.
+fn grow_and_finish<L: Ledger, M: Site<Shared<Zero>>, R: AllocGlobal + Abort + Print + Wait>(
+    rt: &R,
+    refusal: &mut Refusal,
+    hasher: Shared<Zero>,
+    receipts: Blank,
+    records: Blank,
+) -> bool
+    requires receipts { (receipts.name ≡ L.name) × (receipts.parts ≡ L.parts) × (receipts.parts ≡ 1) }
+    requires records { (records.name ≡ M.name) × (records.parts ≡ M.parts) × (records.parts ≡ 1) }
+    requires site { (M.chosen ≡ Some (request_of 0 0 hasher 1)) × (M.all ≡ 1) }
+{
+    let setup = Setup {
+        capacity: 0,
+        maximum: 0,
+        hasher,
+    };
+    match Recorded::<Map, L, M>::open(rt.alloc(), setup, 1, 1, receipts, records) {
+        Ok((recorded, handed)) => {
+            let mut passes = handed;
+            for pass in passes.as_mut_slice() {
+                insert_all(rt, refusal, &recorded, pass);
+            }
+            let closed = recorded.close();
+            expect_growth(rt, refusal, &closed);
+            expect_finished(rt, refusal, closed, passes, 33);
+            true
+        }
+        Err(_) => {
+            refusal.meet(rt, "a recorded map of one stripe");
+            false
+        }
+    }
+}
+
+// The insertions by one pass.
+fn insert_all<L: Ledger, M: Site<Shared<Zero>>, R: Abort + Print + Wait>(
+    rt: &R,
+    refusal: &mut Refusal,
+    recorded: &Recorded<Map, L, M>,
+    pass: &mut Pass<Map, L>,
+) {
+    for key in 0..33 {
+        expect_inserted(rt, refusal, recorded, pass, key);
+    }
+}
+
+fn attempt<R: AllocGlobal + Abort + Print + Wait>(rt: &R, refusal: &mut Refusal) -> bool {
+    let hasher = shared(rt, refusal);
+    grow_and_finish::<Brand, Brand, R>(rt, refusal, hasher, Blank::new(1), Blank::new(1))
+}
+
+#[test]
+fn recorded_refused_call_keeps_its_growth(rt: HostRuntime) {
+    let mut refusal = Refusal::new();
+    for _ in 0..TRIES {
+        if attempt(&rt, &mut refusal) {
+            return;
+        }
+    }
+    expect(&rt, false);
+}

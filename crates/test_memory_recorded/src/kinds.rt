@@ -1,0 +1,203 @@
+// The four kinds as recorded containers have them: calls as values with their answers, in an order in which each call
+// that inserts meets a missing key and one that is there.
+ghost use Rattle.scc_calls.specs.Copies.{ClonesEqual};
+
+use scc::recorded::{CacheCall, CallError, IndexCall, MapCall, Reply, SetCall, Shared, WholeCalls};
+use scc::{hash_cache, hash_index, hash_map, hash_set};
+use std::io::Print;
+use test_kit::refusals::Refusal;
+use test_kit::zero::Zero;
+
+pub(crate) type Map = hash_map::Owned<u64, u64, Shared<Zero>>;
+
+pub(crate) type Set = hash_set::Owned<u64, Shared<Zero>>;
+
+pub(crate) type Index = hash_index::Owned<u64, u64, Shared<Zero>>;
+
+pub(crate) type Cache = hash_cache::Owned<u64, u64, Shared<Zero>>;
+
+// What was refused.
+#[derive(Clone, Copy, Debug, PartialEq)]
+pub(crate) enum What {
+    Opening,
+    Call(CallError),
+    Length,
+    Clearing,
+    Finish,
+    Run,
+    Single,
+}
+
+// How many calls each kind makes.
+pub(crate) const CALLS: u64 = 8;
+
+// How many keys are there after so many of them.
+pub(crate) fn count_after(made: usize) -> usize {
+    match made {
+        0 => 0,
+        1 | 7 | 8 => 1,
+        _ => 2,
+    }
+}
+
+// A kind with its calls.
+pub(crate) trait Tried: WholeCalls + Drop {
+    // The call of that number, and its answer.
+    fn call_of(number: u64) -> (Self::Call, Self::Reply);
+
+    // How many keys are there.
+    fn count(&self) -> usize;
+
+    // Says what was refused.
+    fn meet<R: Print>(rt: &R, refusal: &mut Refusal, what: What);
+
+    fn equal_calls()
+        ensures { ClonesEqual Self.Call.is_clone Self.Call.eq };
+
+    fn equal_replies()
+        ensures { ClonesEqual Self.Reply.is_clone Self.Reply.eq };
+}
+
+impl Tried for Map {
+    fn call_of(number: u64) -> (MapCall<u64, u64>, Reply<u64, u64>) {
+        match number {
+            0 => (MapCall::Insert(1, 10), Reply::Inserted),
+            1 => (MapCall::Upsert(2, 20), Reply::Old(None)),
+            2 => (MapCall::Upsert(1, 11), Reply::Old(Some(10))),
+            3 => (MapCall::Insert(1, 5), Reply::Exists(1, 5)),
+            4 => (MapCall::Read(1), Reply::Value(Some(11))),
+            5 => (MapCall::Replace(2), Reply::Key(Some(2))),
+            6 => (MapCall::Remove(2), Reply::Pair(Some((2, 20)))),
+            _ => (MapCall::Contains(2), Reply::Has(false)),
+        }
+    }
+
+    fn count(&self) -> usize {
+        self.len()
+    }
+
+    fn meet<R: Print>(rt: &R, refusal: &mut Refusal, what: What) {
+        match what {
+            What::Opening => refusal.meet(rt, "a recorded map"),
+            What::Call(CallError::Room) => refusal.meet(rt, "room for a call of a recorded map"),
+            What::Call(CallError::Container) => refusal.meet(rt, "a call of a recorded map"),
+            What::Length => refusal.meet(rt, "a length of a recorded map"),
+            What::Clearing => refusal.meet(rt, "a clearing of a recorded map"),
+            What::Finish => refusal.meet(rt, "a finish of a recorded map"),
+            What::Run => refusal.meet(rt, "a run on a map"),
+            What::Single => refusal.meet(rt, "a call as a value of a map"),
+        }
+    }
+
+    fn equal_calls() {}
+
+    fn equal_replies() {}
+}
+
+impl Tried for Set {
+    fn call_of(number: u64) -> (SetCall<u64>, Reply<u64, ()>) {
+        match number {
+            0 => (SetCall::Insert(1), Reply::Inserted),
+            1 => (SetCall::Replace(2), Reply::Key(None)),
+            2 => (SetCall::Replace(1), Reply::Key(Some(1))),
+            3 => (SetCall::Insert(1), Reply::Exists(1, ())),
+            4 => (SetCall::Read(1), Reply::Key(Some(1))),
+            5 => (SetCall::Contains(2), Reply::Has(true)),
+            6 => (SetCall::Remove(2), Reply::Key(Some(2))),
+            _ => (SetCall::Contains(2), Reply::Has(false)),
+        }
+    }
+
+    fn count(&self) -> usize {
+        self.len()
+    }
+
+    fn meet<R: Print>(rt: &R, refusal: &mut Refusal, what: What) {
+        match what {
+            What::Opening => refusal.meet(rt, "a recorded set"),
+            What::Call(CallError::Room) => refusal.meet(rt, "room for a call of a recorded set"),
+            What::Call(CallError::Container) => refusal.meet(rt, "a call of a recorded set"),
+            What::Length => refusal.meet(rt, "a length of a recorded set"),
+            What::Clearing => refusal.meet(rt, "a clearing of a recorded set"),
+            What::Finish => refusal.meet(rt, "a finish of a recorded set"),
+            What::Run => refusal.meet(rt, "a run on a set"),
+            What::Single => refusal.meet(rt, "a call as a value of a set"),
+        }
+    }
+
+    fn equal_calls() {}
+
+    fn equal_replies() {}
+}
+
+impl Tried for Index {
+    fn call_of(number: u64) -> (IndexCall<u64, u64>, Reply<u64, u64>) {
+        match number {
+            0 => (IndexCall::Insert(1, 10), Reply::Inserted),
+            1 => (IndexCall::Insert(2, 20), Reply::Inserted),
+            2 => (IndexCall::Update(1, 11), Reply::Has(true)),
+            3 => (IndexCall::Insert(1, 5), Reply::Exists(1, 5)),
+            4 => (IndexCall::Read(1), Reply::Value(Some(11))),
+            5 => (IndexCall::Update(3, 30), Reply::Has(false)),
+            6 => (IndexCall::Remove(2), Reply::Has(true)),
+            _ => (IndexCall::Contains(2), Reply::Has(false)),
+        }
+    }
+
+    fn count(&self) -> usize {
+        self.len()
+    }
+
+    fn meet<R: Print>(rt: &R, refusal: &mut Refusal, what: What) {
+        match what {
+            What::Opening => refusal.meet(rt, "a recorded index"),
+            What::Call(CallError::Room) => refusal.meet(rt, "room for a call of a recorded index"),
+            What::Call(CallError::Container) => refusal.meet(rt, "a call of a recorded index"),
+            What::Length => refusal.meet(rt, "a length of a recorded index"),
+            What::Clearing => refusal.meet(rt, "a clearing of a recorded index"),
+            What::Finish => refusal.meet(rt, "a finish of a recorded index"),
+            What::Run => refusal.meet(rt, "a run on an index"),
+            What::Single => refusal.meet(rt, "a call as a value of an index"),
+        }
+    }
+
+    fn equal_calls() {}
+
+    fn equal_replies() {}
+}
+
+impl Tried for Cache {
+    fn call_of(number: u64) -> (CacheCall<u64, u64>, Reply<u64, u64>) {
+        match number {
+            0 => (CacheCall::Put(1, 10), Reply::Evicted(None)),
+            1 => (CacheCall::Put(2, 20), Reply::Evicted(None)),
+            2 => (CacheCall::Write(1, 11), Reply::Old(Some(10))),
+            3 => (CacheCall::Put(1, 5), Reply::Exists(1, 5)),
+            4 => (CacheCall::Get(1), Reply::Value(Some(11))),
+            5 => (CacheCall::Replace(2), Reply::Key(Some(2))),
+            6 => (CacheCall::Remove(2), Reply::Pair(Some((2, 20)))),
+            _ => (CacheCall::Read(2), Reply::Value(None)),
+        }
+    }
+
+    fn count(&self) -> usize {
+        self.len()
+    }
+
+    fn meet<R: Print>(rt: &R, refusal: &mut Refusal, what: What) {
+        match what {
+            What::Opening => refusal.meet(rt, "a recorded cache"),
+            What::Call(CallError::Room) => refusal.meet(rt, "room for a call of a recorded cache"),
+            What::Call(CallError::Container) => refusal.meet(rt, "a call of a recorded cache"),
+            What::Length => refusal.meet(rt, "a length of a recorded cache"),
+            What::Clearing => refusal.meet(rt, "a clearing of a recorded cache"),
+            What::Finish => refusal.meet(rt, "a finish of a recorded cache"),
+            What::Run => refusal.meet(rt, "a run on a cache"),
+            What::Single => refusal.meet(rt, "a call as a value of a cache"),
+        }
+    }
+
+    fn equal_calls() {}
+
+    fn equal_replies() {}
+}

@@ -1,0 +1,24 @@
+//! Tests of recorded containers, of runs of calls as values, of scripts and of workers, which hold whichever requests
+//! for memory are refused: a call that is refused leaves what it has to leave, and is made again until it succeeds.
+#![tactic(auto)]
+
+#[cfg(test)]
+mod cache_texts;
+#[cfg(test)]
+mod calls;
+#[cfg(test)]
+mod expect;
+#[cfg(test)]
+mod finishes;
+#[cfg(test)]
+mod growths;
+#[cfg(test)]
+mod kinds;
+#[cfg(test)]
+mod runs;
+#[cfg(test)]
+mod scripts;
+#[cfg(test)]
+mod texts;
+#[cfg(test)]
+mod workers;

@@ -1,0 +1,188 @@
+// Recorded maps of texts: every clone is made before anything is changed, so a refused call leaves all as it was, and
+// the call that succeeds is right.
+ghost use Rattle.std.specs.Prelude.{◌≡◌, IsSome, Some};
+ghost use Rattle.scc_calls.specs.MapCalls.{map_key};
+ghost use Rattle.scc_recorded.specs.Setups.{request_of};
+
+use crate::calls::shared;
+use crate::expect::{expect, expect_eq};
+use scc::hash_map::Owned;
+use scc::recorded::{Closed, Finished, MapCall, Pass, Recorded, Reply, Setup, Shared, Site, Step};
+use std::io::Print;
+use std::marker::Brand;
+use std::process::Abort;
+use std::sync::Wait;
+use std::sync::ledger::{Blank, Ledger};
+use test_kit::refusals::{Refusal, TRIES};
+use test_kit::zero::Zero;
+
+type Names = Owned<String, String, Shared<Zero>>;
+
+// A text.
+pub(crate) fn text<R: AllocGlobal + Abort + Print>(
+    rt: &R,
+    refusal: &mut Refusal,
+    of: &str,
+) -> String {
+    let made = refusal.outlast(rt, "a text", || String::from_str(rt.alloc(), of), || true);
+    made.expect(rt, "a text is refused each time")
+}
+
+// The call of that number, which has a key.
+fn call_of<R: AllocGlobal + Abort + Print>(
+    rt: &R,
+    refusal: &mut Refusal,
+    number: u64,
+) -> MapCall<String, String>
+    ensures { IsSome (map_key result) }
+{
+    let key = text(rt, refusal, "a");
+    match number {
+        0 => MapCall::Insert(key, text(rt, refusal, "x")),
+        1 => MapCall::Upsert(key, text(rt, refusal, "y")),
+        _ => MapCall::Remove(key),
+    }
+}
+
+// Whether that is what the call of that number answers.
+fn is_answer(number: u64, reply: &Reply<String, String>) -> bool {
+    match reply {
+        Reply::Inserted => number == 0,
+        Reply::Old(Some(old)) => number == 1 && old.as_str() == "x",
+        Reply::Pair(Some(pair)) => number == 2 && pair.0.as_str() == "a" && pair.1.as_str() == "y",
+        _ => false,
+    }
+}
+
+// Makes the call of that number until it succeeds. Refused, the pass stays as it was.
+fn expect_answer<L: Ledger, M: Site<Shared<Zero>>, R: AllocGlobal + Abort + Print + Wait>(
+    rt: &R,
+    refusal: &mut Refusal,
+    recorded: &Recorded<Names, L, M>,
+    pass: &mut Pass<Names, L>,
+    number: u64,
+) {
+    for _ in 0..TRIES {
+        let before = (pass.clock(), pass.receipts().len());
+        let call = call_of(rt, refusal, number);
+        match recorded.call(rt, pass, call) {
+            Ok(reply) => {
+                expect(rt, is_answer(number, &reply));
+                break;
+            }
+            Err(_cause) => {
+                refusal.meet(rt, "a recorded call of texts");
+                expect_eq(rt, (pass.clock(), pass.receipts().len()), before);
+            }
+        }
+    }
+    expect_receipt(rt, pass, number);
+}
+
+// The last receipt is that of the call of that number.
+fn expect_receipt<L: Ledger, R: Abort>(rt: &R, pass: &Pass<Names, L>, number: u64) {
+    let stamp = number.saturating_add(1);
+    expect_eq(
+        rt,
+        (pass.clock(), pass.receipts().len() as u64),
+        (stamp, stamp),
+    );
+    let is_last = match pass.receipts().last() {
+        Some(receipt) => receipt.stamp == stamp && is_answer(number, &receipt.reply),
+        None => false,
+    };
+    expect(rt, is_last);
+}
+
+// Finishes the run, until that succeeds.
+fn expect_three_records<L: Ledger, M: Site<Shared<Zero>>, R: Abort + Print>(
+    rt: &R,
+    refusal: &mut Refusal,
+    closed: Closed<Names, L, M>,
+    passes: Vec<Pass<Names, L>>,
+) {
+    let mut closed = closed;
+    let mut passes = passes;
+    for _ in 0..TRIES {
+        match closed.finish(passes) {
+            Ok(finished) => {
+                expect_told(rt, &finished);
+                return;
+            }
+            Err(back) => {
+                refusal.meet(rt, "a finish of texts");
+                closed = back.recorded;
+                passes = back.passes;
+            }
+        }
+    }
+    expect(rt, false);
+}
+
+// Three call records with the stamps 1, 2 and 3, each with its answer, and nothing is left.
+fn expect_told<R: Abort>(rt: &R, finished: &Finished<Names>) {
+    let mut told = 0u64;
+    let mut are_right = true;
+    for history in finished.histories.as_slice() {
+        for step in history.as_slice() {
+            if let Step::Call { stamp, reply, .. } = step {
+                are_right = are_right && is_answer(told, reply);
+                told = told.saturating_add(1);
+                are_right = are_right && *stamp == told;
+            }
+        }
+    }
+    let is_empty = finished.parts.first().map(|part| part.is_empty());
+    expect_eq(rt, (told, are_right, is_empty), (3, true, Some(true)));
+}
+
+// The three calls on one stripe, and the finish. False where the container was refused.
+fn three_calls<L: Ledger, M: Site<Shared<Zero>>, R: AllocGlobal + Abort + Print + Wait>(
+    rt: &R,
+    refusal: &mut Refusal,
+    hasher: Shared<Zero>,
+    receipts: Blank,
+    records: Blank,
+) -> bool
+    requires receipts { (receipts.name ≡ L.name) × (receipts.parts ≡ L.parts) × (receipts.parts ≡ 1) }
+    requires records { (records.name ≡ M.name) × (records.parts ≡ M.parts) × (records.parts ≡ 1) }
+    requires site { (M.chosen ≡ Some (request_of 0 0 hasher 1)) × (M.all ≡ 1) }
+{
+    let setup = Setup {
+        capacity: 0,
+        maximum: 0,
+        hasher,
+    };
+    match Recorded::<Names, L, M>::open(rt.alloc(), setup, 1, 1, receipts, records) {
+        Ok((recorded, handed)) => {
+            let mut passes = handed;
+            for pass in passes.as_mut_slice() {
+                for number in 0..3 {
+                    expect_answer(rt, refusal, &recorded, pass, number);
+                }
+            }
+            expect_three_records(rt, refusal, recorded.close(), passes);
+            true
+        }
+        Err(_) => {
+            refusal.meet(rt, "a recorded container of texts");
+            false
+        }
+    }
+}
+
+fn attempt<R: AllocGlobal + Abort + Print + Wait>(rt: &R, refusal: &mut Refusal) -> bool {
+    let hasher = shared(rt, refusal);
+    three_calls::<Brand, Brand, R>(rt, refusal, hasher, Blank::new(1), Blank::new(1))
+}
+
+#[test]
+fn recorded_strings_on_a_map(rt: HostRuntime) {
+    let mut refusal = Refusal::new();
+    for _ in 0..TRIES {
+        if attempt(&rt, &mut refusal) {
+            return;
+        }
+    }
+    expect(&rt, false);
+}
