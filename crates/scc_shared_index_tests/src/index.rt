@@ -1,7 +1,0 @@
-// The index that threads share.
-mod as_owned;
-mod calls;
-mod kept;
-mod routes;
-mod sizes;
-mod walked;

@@ -1,0 +1,54 @@
+// A memo of squares. Under `Zero` all keys share a bucket.
+ghost use Rattle.std.specs.Prelude.{◌*◌};
+ghost use Rattle.std.proofs.Common.{ap};
+ghost use Rattle.std.proofs.lemmas.Bool.{eqb-true};
+
+use crate::expect::expect_eq;
+use scc::memo::{Memo, Pure};
+use std::process::Abort;
+use std::test::Fail;
+use test_kit::zero::Zero;
+
+// The square of a number.
+#[derive(Drop)]
+struct Square;
+
+impl Pure for Square {
+    type Key = u64;
+
+    type Value = u128;
+
+    ghost value = { λ _ k. k * k };
+
+    ghost equal_alike = { λ p j k same. ap (λ n. n * n) (eqb-true j k same) };
+
+    fn of(&self, k: &u64) -> u128 {
+        let k = u128::from(*k);
+        k * k
+    }
+}
+
+#[test]
+fn memo_of_squares(rt: HostRuntime) -> Result<(), Fail> {
+    let mut memo = Memo::with_capacity_and_hasher(rt.alloc(), Square, 0, 64, Zero)?;
+    for key in 0..32u64 {
+        expect_eq(&rt, memo.get(key), u128::from(key) * u128::from(key));
+    }
+    expect_eq(&rt, (memo.get(0), memo.get(32)), (0, 1024));
+    expect_eq(&rt, (memo.known(&0), memo.known(&1)), (Some(0), None));
+    expect_eq(&rt, memo.get(1), 1);
+    expect_eq(&rt, memo.known(&2), None);
+    Ok(())
+}
+
+#[test]
+fn memo_of_the_greatest_square(rt: HostRuntime) -> Result<(), Fail> {
+    let mut memo = Memo::with_capacity_and_hasher(rt.alloc(), Square, 0, 64, Zero)?;
+    let square = memo.get(18_446_744_073_709_551_615);
+    expect_eq(
+        &rt,
+        square,
+        340_282_366_920_938_463_426_481_119_284_349_108_225,
+    );
+    Ok(())
+}

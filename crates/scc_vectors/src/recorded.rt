@@ -1,0 +1,354 @@
+// Recorded maps of two stripes with two passes, in one thread. Under `Same` the highest bit of a key names its stripe.
+ghost use Rattle.std.specs.Prelude.{◌≡◌, Some};
+ghost use Rattle.scc_recorded.specs.Setups.{request_of};
+
+use crate::expect::{expect, expect_eq};
+use scc::hash_map::Owned;
+use scc::recorded::{
+    Closed, FinishError, Finished, MapCall, Pass, Recorded, Reply, Setup, Shared, Site, Step,
+};
+use std::alloc::Global;
+use std::marker::Brand;
+use std::process::Abort;
+use std::sync::ledger::{Blank, Ledger};
+use std::sync::{Arc, Wait};
+use std::test::Fail;
+use test_kit::same::Same;
+
+type Map = Owned<u64, u64, Shared<Same>>;
+
+const HIGH: u64 = 1 << 63;
+
+// Who of the two makes a call: the one with pass 0, or the one with pass 1.
+#[derive(Clone, Copy, PartialEq)]
+enum Who {
+    First,
+    Second,
+}
+
+// What one of them does.
+#[derive(Clone, Copy)]
+enum Act {
+    Insert(u64, u64),
+    Read(u64),
+    Clear,
+    Len,
+    // It is told of the other.
+    Told,
+}
+
+// What was seen, in its order.
+#[derive(Clone, Copy, Debug, PartialEq)]
+enum Note {
+    // A call answered that.
+    Answer(Reply<u64, u64>),
+    // Nothing was answered, since nothing was called.
+    Told,
+    // A finish was refused. So many stripes and passes came back.
+    Back(FinishError, usize, usize),
+    // In the order of the finished run: a step in the stripe with that number.
+    Step(usize, Step<MapCall<u64, u64>, Reply<u64, u64>>),
+    // So many pairs are left in all stripes.
+    Left(usize),
+}
+
+// A call by a pass in a stripe, as its record has it.
+fn call(
+    stripe: usize,
+    stamp: u64,
+    pass: usize,
+    call: MapCall<u64, u64>,
+    reply: Reply<u64, u64>,
+) -> Note {
+    Note::Step(
+        stripe,
+        Step::Call {
+            stamp,
+            pass,
+            call,
+            reply,
+        },
+    )
+}
+
+// The array of two buckets that the first insertion in a stripe makes, as the history has it.
+fn array(stripe: usize, stamp: u64) -> Note {
+    Note::Step(stripe, Step::Resize { stamp, buckets: 2 })
+}
+
+// What the act of a pass answers, None where it is refused.
+fn answer<L: Ledger, M: Site<Shared<Same>>, R: Wait>(
+    rt: &R,
+    recorded: &Recorded<Map, L, M>,
+    mine: &mut Pass<Map, L>,
+    other: &Pass<Map, L>,
+    act: Act,
+) -> Option<Note> {
+    match act {
+        Act::Insert(key, value) => match recorded.call(rt, mine, MapCall::Insert(key, value)) {
+            Ok(reply) => Some(Note::Answer(reply)),
+            Err(_) => None,
+        },
+        Act::Read(key) => match recorded.call(rt, mine, MapCall::Read(key)) {
+            Ok(reply) => Some(Note::Answer(reply)),
+            Err(_) => None,
+        },
+        Act::Clear => match recorded.clear(rt, mine) {
+            Ok(()) => Some(Note::Answer(Reply::Cleared)),
+            Err(_) => None,
+        },
+        Act::Len => match recorded.len(rt, mine) {
+            Ok(count) => Some(Note::Answer(Reply::Count(count))),
+            Err(_) => None,
+        },
+        Act::Told => {
+            mine.told(other);
+            Some(Note::Told)
+        }
+    }
+}
+
+// Notes what each act answers. False where one was refused.
+fn act_in_turn<L: Ledger, M: Site<Shared<Same>>, R: Wait>(
+    rt: &R,
+    recorded: &Recorded<Map, L, M>,
+    first: &mut Pass<Map, L>,
+    second: &mut Pass<Map, L>,
+    acts: &[(Who, Act)],
+    notes: &mut Vec<Note>,
+) -> bool {
+    for (who, act) in acts {
+        let note = match *who {
+            Who::First => answer(rt, recorded, first, second, *act),
+            Who::Second => answer(rt, recorded, second, first, *act),
+        };
+        let is_noted = match note {
+            Some(note) => notes.push(note).is_ok(),
+            None => false,
+        };
+        if !is_noted {
+            return false;
+        }
+    }
+    true
+}
+
+// The step at that place.
+fn step_at(
+    finished: &Finished<Map>,
+    place: (usize, usize),
+) -> Option<Step<MapCall<u64, u64>, Reply<u64, u64>>> {
+    finished.histories.get(place.0)?.get(place.1).copied()
+}
+
+// Notes each step along the order of the run, and how many pairs are left.
+fn note_run(finished: &Finished<Map>, notes: &mut Vec<Note>) -> bool {
+    for place in finished.order.as_slice() {
+        let is_noted = match step_at(finished, *place) {
+            Some(step) => notes.push(Note::Step(place.0, step)).is_ok(),
+            None => false,
+        };
+        if !is_noted {
+            return false;
+        }
+    }
+    let mut left = 0usize;
+    for part in finished.parts.as_slice() {
+        left = left.saturating_add(part.len());
+    }
+    notes.push(Note::Left(left)).is_ok()
+}
+
+// Finishes the run with these passes, and notes it. What came back is answered.
+fn finish<L: Ledger, M: Site<Shared<Same>>>(
+    closed: Closed<Map, L, M>,
+    passes: Vec<Pass<Map, L>>,
+    notes: &mut Vec<Note>,
+) -> Option<(Closed<Map, L, M>, Vec<Pass<Map, L>>)> {
+    match closed.finish(passes) {
+        Ok(finished) => {
+            note_run(&finished, notes);
+            None
+        }
+        Err(back) => {
+            let note = Note::Back(back.cause, back.recorded.stripes.len(), back.passes.len());
+            if notes.push(note).is_err() {
+                return None;
+            }
+            Some((back.recorded, back.passes))
+        }
+    }
+}
+
+// Which passes the run is finished with.
+#[derive(Clone, Copy, PartialEq)]
+enum Ends {
+    // With both.
+    WithBoth,
+    // With the first alone, and then with both.
+    WithOneThenBoth,
+}
+
+// What two do by turns with their passes, and how the run ends, all noted. False where memory was refused.
+fn play<L: Ledger, M: Site<Shared<Same>>, R: Wait>(
+    rt: &R,
+    alloc: Global,
+    hasher: Shared<Same>,
+    receipts: Blank,
+    records: Blank,
+    acts: &[(Who, Act)],
+    ends: Ends,
+    notes: &mut Vec<Note>,
+) -> bool
+    requires receipts { (receipts.name ≡ L.name) × (receipts.parts ≡ L.parts) × (receipts.parts ≡ 2) }
+    requires records { (records.name ≡ M.name) × (records.parts ≡ M.parts) × (records.parts ≡ 2) }
+    requires site { (M.chosen ≡ Some (request_of 0 0 hasher 2)) × (M.all ≡ 2) }
+{
+    let setup = Setup {
+        capacity: 0,
+        maximum: 0,
+        hasher,
+    };
+    match Recorded::<Map, L, M>::open(alloc, setup, 2, 2, receipts, records) {
+        Ok((recorded, passes)) => play_on(rt, recorded, passes, acts, ends, notes),
+        Err(_) => false,
+    }
+}
+
+// The same with the two passes that were handed out.
+fn play_on<L: Ledger, M: Site<Shared<Same>>, R: Wait>(
+    rt: &R,
+    recorded: Recorded<Map, L, M>,
+    passes: Vec<Pass<Map, L>>,
+    acts: &[(Who, Act)],
+    ends: Ends,
+    notes: &mut Vec<Note>,
+) -> bool {
+    let mut passes = passes;
+    let (Some(mut second), Some(mut first)) = (passes.pop(), passes.pop()) else {
+        return false;
+    };
+    if !act_in_turn(rt, &recorded, &mut first, &mut second, acts, notes)
+        || passes.push(first).is_err()
+    {
+        return false;
+    }
+    let closed = recorded.close();
+    match ends {
+        Ends::WithBoth => passes.push(second).is_ok() && finish(closed, passes, notes).is_none(),
+        Ends::WithOneThenBoth => match finish(closed, passes, notes) {
+            Some((closed, passes)) => finish_with(closed, passes, second, notes),
+            None => false,
+        },
+    }
+}
+
+// Finishes the run with one pass more.
+fn finish_with<L: Ledger, M: Site<Shared<Same>>>(
+    closed: Closed<Map, L, M>,
+    passes: Vec<Pass<Map, L>>,
+    last: Pass<Map, L>,
+    notes: &mut Vec<Note>,
+) -> bool {
+    let mut passes = passes;
+    passes.push(last).is_ok() && finish(closed, passes, notes).is_none()
+}
+
+// Plays, and compares all that was noted.
+fn expect_notes<R: AllocGlobal + Abort + Wait>(
+    rt: &R,
+    acts: &[(Who, Act)],
+    ends: Ends,
+    wanted: &[Note],
+) -> Result<(), Fail> {
+    let mut notes = Vec::new(rt.alloc());
+    let hasher = Shared::new(Arc::new(rt.alloc(), Same)?);
+    let is_played = play::<Brand, Brand, R>(
+        rt,
+        rt.alloc(),
+        hasher,
+        Blank::new(2),
+        Blank::new(2),
+        acts,
+        ends,
+        &mut notes,
+    );
+    expect(rt, is_played);
+    expect_eq(rt, notes.as_slice(), wanted);
+    Ok(())
+}
+
+// A stamp is one more than the greater of what its pass knows of and the last one of its stripe, so two calls in two
+// stripes may have the same. The order of the run is by stamps, and for one stamp by stripes.
+#[test]
+fn recorded_stamps_and_order(rt: HostRuntime) -> Result<(), Fail> {
+    let acts = [
+        (Who::First, Act::Insert(1, 10)),
+        (Who::First, Act::Insert(HIGH + 1, 20)),
+        (Who::Second, Act::Read(1)),
+        (Who::First, Act::Read(1)),
+    ];
+    let ten = Reply::Value(Some(10));
+    let wanted = [
+        Note::Answer(Reply::Inserted),
+        Note::Answer(Reply::Inserted),
+        Note::Answer(ten),
+        Note::Answer(ten),
+        array(0, 1),
+        call(0, 1, 0, MapCall::Insert(1, 10), Reply::Inserted),
+        call(0, 2, 1, MapCall::Read(1), ten),
+        array(1, 2),
+        call(1, 2, 0, MapCall::Insert(HIGH + 1, 20), Reply::Inserted),
+        call(0, 3, 0, MapCall::Read(1), ten),
+        Note::Left(2),
+    ];
+    expect_notes(&rt, &acts, Ends::WithBoth, &wanted)
+}
+
+#[test]
+fn recorded_told_raises_clock(rt: HostRuntime) -> Result<(), Fail> {
+    let acts = [
+        (Who::First, Act::Insert(1, 10)),
+        (Who::Second, Act::Told),
+        (Who::Second, Act::Insert(HIGH + 1, 20)),
+    ];
+    let wanted = [
+        Note::Answer(Reply::Inserted),
+        Note::Told,
+        Note::Answer(Reply::Inserted),
+        array(0, 1),
+        call(0, 1, 0, MapCall::Insert(1, 10), Reply::Inserted),
+        array(1, 2),
+        call(1, 2, 1, MapCall::Insert(HIGH + 1, 20), Reply::Inserted),
+        Note::Left(2),
+    ];
+    expect_notes(&rt, &acts, Ends::WithBoth, &wanted)
+}
+
+#[test]
+fn recorded_finish_wants_every_pass(rt: HostRuntime) -> Result<(), Fail> {
+    let wanted = [Note::Back(FinishError::Missing, 2, 1), Note::Left(0)];
+    expect_notes(&rt, &[], Ends::WithOneThenBoth, &wanted)
+}
+
+#[test]
+fn recorded_clear_and_len_stamp_each_stripe(rt: HostRuntime) -> Result<(), Fail> {
+    let acts = [
+        (Who::First, Act::Insert(1, 10)),
+        (Who::Second, Act::Clear),
+        (Who::First, Act::Len),
+    ];
+    let wanted = [
+        Note::Answer(Reply::Inserted),
+        Note::Answer(Reply::Cleared),
+        Note::Answer(Reply::Count(0)),
+        array(0, 1),
+        call(0, 1, 0, MapCall::Insert(1, 10), Reply::Inserted),
+        call(0, 2, 1, MapCall::Clear, Reply::Cleared),
+        call(0, 3, 0, MapCall::Len, Reply::Count(0)),
+        call(1, 3, 1, MapCall::Clear, Reply::Cleared),
+        call(1, 4, 0, MapCall::Len, Reply::Count(0)),
+        Note::Left(0),
+    ];
+    expect_notes(&rt, &acts, Ends::WithBoth, &wanted)
+}

@@ -1,0 +1,68 @@
+// Workers on threads of their own, who make turns and pass a gate before each.
+use crate::expect::expect_eq;
+use scc::stripes::{Gate, Open, RunError, Work, run};
+use std::process::Abort;
+
+// A worker of five turns. It counts those that it made; one turn may answer false.
+#[derive(Drop)]
+struct Turns {
+    made: usize,
+    last: usize,
+}
+
+// All turns answer true.
+fn all() -> Turns {
+    Turns { made: 0, last: 5 }
+}
+
+// Turn `j` answers false.
+fn up_to(j: usize) -> Turns {
+    Turns { made: 0, last: j }
+}
+
+impl Work for Turns {
+    fn turns(&self) -> usize {
+        5
+    }
+
+    fn turn(&mut self, j: usize) -> bool {
+        self.made = self.made.saturating_add(1);
+        j != self.last
+    }
+}
+
+// Gives up worker 1 before its turn 3.
+#[derive(Drop)]
+struct GivesUp;
+
+impl Gate for GivesUp {
+    fn before(&self, worker: usize, j: usize) -> bool {
+        !(worker == 1 && j == 3)
+    }
+
+    fn after(&self, _worker: usize, _j: usize) {}
+}
+
+#[test]
+fn workers_gate_gives_up(rt: HostRuntime) {
+    let mut work = [all(), all()];
+    let ended = run(&rt, rt.alloc(), &mut work, &GivesUp);
+    expect_eq(&rt, ended, Err(RunError::Gate));
+    expect_eq(&rt, (work[0].made, work[1].made), (5, 3));
+}
+
+#[test]
+fn workers_false_turn_and_gate(rt: HostRuntime) {
+    let mut work = [up_to(2), all()];
+    let ended = run(&rt, rt.alloc(), &mut work, &GivesUp);
+    expect_eq(&rt, ended, Err(RunError::Gate));
+    expect_eq(&rt, (work[0].made, work[1].made), (3, 3));
+}
+
+#[test]
+fn workers_false_turn_alone(rt: HostRuntime) {
+    let mut work = [all(), all(), up_to(0)];
+    let ended = run(&rt, rt.alloc(), &mut work, &Open);
+    expect_eq(&rt, ended, Err(RunError::Stopped));
+    expect_eq(&rt, (work[0].made, work[1].made, work[2].made), (5, 5, 1));
+}

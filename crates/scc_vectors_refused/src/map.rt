@@ -1,0 +1,180 @@
+// Maps whose keys share a bucket of 32 slots: a new array, an overflow list and a list of taken pairs that are refused.
+use crate::expect::{expect, expect_eq};
+use scc::hash_map::Owned;
+use scc::{InsertError, Verdict};
+use std::io::Print;
+use std::process::Abort;
+use test_kit::refusals::Refusal;
+use test_kit::zero::Zero;
+
+type Map = Owned<u64, u64, Zero>;
+
+// More than the requests that are refused in a row.
+const TRIES: u64 = 32;
+
+// What an insertion answered: nothing, or the pair that came back for want of memory.
+#[derive(Clone, Copy, Debug, PartialEq)]
+enum Answer {
+    Inserted,
+    Refused(u64, u64),
+    Exists,
+}
+
+// Inserts a key with its complement as value.
+fn insert(map: &mut Map, key: u64) -> Answer {
+    match map.insert_sync(key, !key) {
+        Ok(()) => Answer::Inserted,
+        Err(InsertError::Memory(pair)) => Answer::Refused(pair.0, pair.1),
+        Err(InsertError::Exists(_)) => Answer::Exists,
+    }
+}
+
+// Whether the map holds the keys below `end`, each with its complement as value, and no other.
+fn holds_below(map: &Map, end: u64) -> bool {
+    for key in 0..end {
+        if map.read_sync(&key, |_, value| *value) != Some(!key) {
+            return false;
+        }
+    }
+    map.len() as u64 == end
+}
+
+// Inserts the keys 0 to 31, each again until it goes in. Only the first one takes memory, for its array.
+fn fill<R: Abort + Print>(rt: &R, refusal: &mut Refusal, map: &mut Map) {
+    for _ in 0..TRIES {
+        match insert(map, 0) {
+            Answer::Refused(key, value) => {
+                refusal.meet(rt, "the first array");
+                expect_eq(rt, (key, value), (0, !0));
+                expect_eq(rt, (map.len(), map.capacity()), (0, 0));
+            }
+            _ => break,
+        }
+    }
+    for key in 1..32 {
+        expect_eq(rt, insert(map, key), Answer::Inserted);
+    }
+    expect_eq(rt, map.capacity(), 64);
+    expect(rt, holds_below(map, 32));
+}
+
+// Inserts key 32 once. A refused insertion hands its pair back and leaves the others as they are.
+fn insert_next<R: Abort + Print>(rt: &R, map: &mut Map) -> bool {
+    let answer = insert(map, 32);
+    if answer == Answer::Inserted {
+        expect(rt, holds_below(map, 33));
+        return true;
+    }
+    expect_eq(rt, answer, Answer::Refused(32, !32));
+    expect(rt, holds_below(map, 32));
+    false
+}
+
+// A refused array leaves the old one, and the key goes to the overflow list. The next insertion asks for the array again.
+#[test]
+fn map_refused_array_uses_overflow(rt: HostRuntime) {
+    let mut refusal = Refusal::new();
+    let mut map = Owned::with_hasher(rt.alloc(), Zero);
+    fill(&rt, &mut refusal, &mut map);
+    let is_in = insert_next(&rt, &mut map);
+    if is_in && map.capacity() == 64 {
+        refusal.meet(&rt, "a new array alone");
+        expect_eq(&rt, insert(&mut map, 33), Answer::Inserted);
+        expect(&rt, holds_below(&map, 34));
+    }
+    if is_in {
+        expect_eq(&rt, map.capacity(), 128);
+    }
+}
+
+// Where the overflow list is refused as well, the pair comes back. The call is made again until it succeeds.
+#[test]
+fn map_refused_array_and_overflow(rt: HostRuntime) {
+    let mut refusal = Refusal::new();
+    let mut map = Owned::with_hasher(rt.alloc(), Zero);
+    fill(&rt, &mut refusal, &mut map);
+    for _ in 0..TRIES {
+        if insert_next(&rt, &mut map) {
+            return;
+        }
+        if map.capacity() == 64 {
+            refusal.meet(&rt, "a new array and the overflow list");
+        } else {
+            refusal.meet(&rt, "the overflow list of a new array");
+            expect_eq(&rt, map.capacity(), 128);
+        }
+    }
+    expect(&rt, false);
+}
+
+// An empty list with room for one pair.
+fn listed<R: AllocGlobal + Print>(rt: &R, refusal: &mut Refusal) -> Option<Vec<(u64, u64)>> {
+    for _ in 0..TRIES {
+        match Vec::with_capacity(rt.alloc(), 1) {
+            Ok(list) => return Some(list),
+            Err(_) => refusal.meet(rt, "a list with room for one"),
+        }
+    }
+    None
+}
+
+// Walks with a closure that takes each pair. How often it was called, and whether the walk came to its end.
+fn take_all(map: &mut Map, taken: &mut Vec<(u64, u64)>) -> (usize, bool) {
+    let mut calls = 0usize;
+    let ended = map.iter_mut_sync(
+        |_, _| {
+            calls = calls.wrapping_add(1);
+            Verdict::Take
+        },
+        taken,
+    );
+    (calls, ended == Ok(true))
+}
+
+// Takes all three pairs into a list with room for one. A refused walk has called its closure as often as it took a pair.
+fn expect_taken<R: Abort + Print>(
+    rt: &R,
+    refusal: &mut Refusal,
+    map: &mut Map,
+    taken: &mut Vec<(u64, u64)>,
+) {
+    let mut all = 0usize;
+    for _ in 0..TRIES {
+        let (calls, ended) = take_all(map, taken);
+        all = all.saturating_add(calls);
+        expect_eq(rt, taken.len(), all);
+        expect_eq(rt, map.len().saturating_add(all), 3);
+        if ended {
+            expect_eq(rt, all, 3);
+            return;
+        }
+        refusal.meet(rt, "more room for taken pairs");
+        expect_eq(rt, all, 1);
+    }
+    expect(rt, false);
+}
+
+#[test]
+fn iter_mut_refused_room_stops(rt: HostRuntime) {
+    let mut refusal = Refusal::new();
+    let mut map = Owned::with_hasher(rt.alloc(), Zero);
+    for _ in 0..TRIES {
+        if insert(&mut map, 0) == Answer::Inserted {
+            break;
+        }
+    }
+    expect_eq(
+        &rt,
+        (insert(&mut map, 1), insert(&mut map, 2)),
+        (Answer::Inserted, Answer::Inserted),
+    );
+    match listed(&rt, &mut refusal) {
+        Some(mut taken) => {
+            expect_taken(&rt, &mut refusal, &mut map, &mut taken);
+            taken.sort_unstable();
+            let wanted = [(0, !0), (1, !1), (2, !2)];
+            expect_eq(&rt, taken.as_slice(), wanted.as_slice());
+        }
+        None => expect(&rt, false),
+    }
+}

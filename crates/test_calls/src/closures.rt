@@ -1,0 +1,164 @@
+// How often each call of a map calls its closure.
+use crate::expect::{expect, expect_eq};
+use scc::Verdict;
+use scc::hash_map::Owned;
+use std::process::Abort;
+use test_kit::zero::Zero;
+
+type Map = Owned<u64, u64, Zero>;
+
+// Whether the keys below that one went in, all in one bucket.
+fn fill(map: &mut Map, end: u64) -> bool {
+    for key in 0..end {
+        if map.insert_sync(key, key).is_err() {
+            return false;
+        }
+    }
+    true
+}
+
+// A walk that stops at its call number `last`: what it answers, and its calls.
+fn walk(map: &Map, last: u64) -> (bool, u64) {
+    let mut calls = 0u64;
+    let ended = map.iter_sync(|_, _| {
+        calls = calls.wrapping_add(1);
+        calls != last
+    });
+    (ended, calls)
+}
+
+#[test]
+fn map_iter_calls_up_to_its_first_false(rt: HostRuntime) {
+    let mut map = Owned::with_hasher(rt.alloc(), Zero);
+    expect(&rt, fill(&mut map, 40));
+    expect_eq(
+        &rt,
+        (walk(&map, 0), walk(&map, 7)),
+        ((true, 40), (false, 7)),
+    );
+}
+
+// A search for the pair that comes as number `last`: whether it is found, and the calls.
+fn search(map: &mut Map, last: u64) -> (bool, u64) {
+    let mut calls = 0u64;
+    let is_found = map
+        .any_sync(|_, _| {
+            calls = calls.wrapping_add(1);
+            calls == last
+        })
+        .is_some();
+    (is_found, calls)
+}
+
+#[test]
+fn map_any_calls_up_to_the_pair_that_passes(rt: HostRuntime) {
+    let mut map = Owned::with_hasher(rt.alloc(), Zero);
+    expect(&rt, fill(&mut map, 40));
+    expect_eq(
+        &rt,
+        (search(&mut map, 0), search(&mut map, 7)),
+        ((false, 40), (true, 7)),
+    );
+}
+
+// A walk that keeps every second key: its calls, and how many are left.
+fn retain(map: &mut Map) -> (u64, usize) {
+    let mut calls = 0u64;
+    map.retain_sync(|key, _| {
+        calls = calls.wrapping_add(1);
+        *key % 2 == 0
+    });
+    (calls, map.len())
+}
+
+#[test]
+fn map_retain_calls_once_a_pair(rt: HostRuntime) {
+    let mut map = Owned::with_hasher(rt.alloc(), Zero);
+    expect(&rt, fill(&mut map, 40));
+    expect_eq(&rt, retain(&mut map), (40, 20));
+}
+
+// A walk that answers `each`, and at its call number 7 `seventh`: what it answers, its calls, and how many were taken and
+// are left.
+fn take(
+    map: &mut Map,
+    taken: &mut Vec<(u64, u64)>,
+    each: Verdict,
+    seventh: Verdict,
+) -> (bool, u64, usize, usize) {
+    let mut calls = 0u64;
+    let ended = map.iter_mut_sync(
+        |_, _| {
+            calls = calls.wrapping_add(1);
+            if calls == 7 { seventh } else { each }
+        },
+        taken,
+    );
+    (ended == Ok(true), calls, taken.len(), map.len())
+}
+
+#[test]
+fn map_iter_mut_calls_up_to_each_stop(rt: HostRuntime) {
+    let mut map = Owned::with_hasher(rt.alloc(), Zero);
+    expect(&rt, fill(&mut map, 40));
+    let mut taken = Vec::new(rt.alloc());
+    let kept = take(&mut map, &mut taken, Verdict::Keep, Verdict::KeepStop);
+    expect_eq(&rt, kept, (false, 7, 0, 40));
+    let stopped = take(&mut map, &mut taken, Verdict::Take, Verdict::TakeStop);
+    expect_eq(&rt, stopped, (false, 7, 7, 33));
+    let ended = take(&mut map, &mut taken, Verdict::Keep, Verdict::Keep);
+    expect_eq(&rt, ended, (true, 33, 7, 33));
+}
+
+// The value of a key after each way to insert it, and how often their closures were called.
+fn insert(map: &mut Map, key: u64) -> (Option<u64>, u64) {
+    let mut calls = 0u64;
+    let with = map
+        .entry_sync(key)
+        .or_insert_with(|| {
+            calls = calls.wrapping_add(1);
+            7
+        })
+        .is_ok();
+    let with_key = map
+        .entry_sync(key)
+        .or_insert_with_key(|_| {
+            calls = calls.wrapping_add(1);
+            8
+        })
+        .is_ok();
+    if with && with_key {
+        (map.read_sync(&key, |_, value| *value), calls)
+    } else {
+        (None, calls)
+    }
+}
+
+#[test]
+fn map_entries_call_only_where_the_key_is_missing(rt: HostRuntime) {
+    let mut map = Owned::with_hasher(rt.alloc(), Zero);
+    expect_eq(
+        &rt,
+        (insert(&mut map, 1), insert(&mut map, 1)),
+        ((Some(7), 1), (Some(7), 0)),
+    );
+}
+
+// What a removal answers whose condition says that, and how often it was asked.
+fn remove_if(map: &mut Map, key: u64, holds: bool) -> (Option<(u64, u64)>, u64) {
+    let mut calls = 0u64;
+    let removed = map.remove_if_sync(&key, |_| {
+        calls = calls.wrapping_add(1);
+        holds
+    });
+    (removed, calls)
+}
+
+#[test]
+fn map_asks_the_condition_only_for_a_key_that_is_there(rt: HostRuntime) {
+    let mut map = Owned::with_hasher(rt.alloc(), Zero);
+    expect(&rt, fill(&mut map, 2));
+    expect_eq(&rt, remove_if(&mut map, 2, true), (None, 0));
+    expect_eq(&rt, remove_if(&mut map, 1, false), (None, 1));
+    expect_eq(&rt, remove_if(&mut map, 1, true), (Some((1, 1)), 1));
+}

@@ -1,0 +1,19 @@
+//! Calls of containers for one owner in one thread: entries, walks, sizes, room, clones and comparisons.
+#![tactic(auto)]
+
+#[cfg(test)]
+mod caches;
+#[cfg(test)]
+mod closures;
+#[cfg(test)]
+mod entries;
+#[cfg(test)]
+mod expect;
+#[cfg(test)]
+mod growth;
+#[cfg(test)]
+mod rooms;
+#[cfg(test)]
+mod rows;
+#[cfg(test)]
+mod whole;

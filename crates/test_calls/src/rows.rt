@@ -1,0 +1,169 @@
+// Calls as rows of data, and who makes them on a container of any kind.
+use crate::expect::{expect, expect_eq};
+use std::alloc::Global;
+use std::process::Abort;
+use test_kit::answers::{Answer, Rule};
+use test_kit::form::{Act, At, Form, Way};
+use test_kit::maybe_equal::MaybeEqual;
+
+// A key is a number, by which keys are compared, and a mark, which tells equal keys apart.
+#[derive(Clone, Copy, Debug)]
+pub(crate) enum Call {
+    // Adds the keys from the first number on and before the second, each with itself as value: `Yes`.
+    Fill(u64, u64),
+    // Takes them out: `Yes`.
+    Empty(u64, u64),
+    // Takes them out, each through its entry: `Yes`.
+    EmptyByEntry(u64, u64),
+    // Adds so many keys that differ in their highest bits, and reads each: `Yes`.
+    Spread(u64),
+    // Adds a key of that number and mark with that value.
+    Add(Way, u64, u64, u64),
+    // Replaces the key of that number by one with that mark.
+    Replace(u64, u64),
+    // Sets the value of a key by its entry. The key that is asked for has mark 1.
+    Modify(u64, u64),
+    // Does that with an occupied entry, and that value.
+    On(At, Act, u64, u64),
+    Remove(u64),
+    // Adds 1 to the value, and takes the pair out if that is even.
+    RemoveIf(u64),
+    Read(u64),
+    Place(u64),
+    // Adds 1 to each value, and takes out the keys with that rest by 8: `Yes`.
+    Retain(u64),
+    Take(Rule),
+    // Whether a walk that stops at that key comes to its end: `Yes`.
+    Passes(u64),
+    Copy,
+    Clear,
+}
+
+// Whether each key from `first` on and before `end` was added.
+fn fill<F: Form<MaybeEqual, u64>>(form: &mut F, first: u64, end: u64) -> bool {
+    for key in first..end {
+        if form.add(Way::Insert, MaybeEqual(key, 0), key) != Answer::Added(None) {
+            return false;
+        }
+    }
+    true
+}
+
+// Whether each of them is gone.
+fn empty<F: Form<MaybeEqual, u64>>(form: &mut F, first: u64, end: u64) -> bool {
+    for key in first..end {
+        form.remove(&MaybeEqual(key, 0));
+        if form.read(&MaybeEqual(key, 0)) != Answer::Found(None) {
+            return false;
+        }
+    }
+    true
+}
+
+// The same through their entries.
+fn empty_by_entry<F: Form<MaybeEqual, u64>>(form: &mut F, first: u64, end: u64) -> bool {
+    for key in first..end {
+        form.act(At::Any, Act::RemoveEntry, &MaybeEqual(key, 0), 0);
+        if form.read(&MaybeEqual(key, 0)) != Answer::Found(None) {
+            return false;
+        }
+    }
+    true
+}
+
+// Whether so many keys that differ in their highest bits were added, and each is read.
+fn spread<F: Form<MaybeEqual, u64>>(form: &mut F, keys: u64) -> bool {
+    for i in 0..keys {
+        if form.add(Way::Insert, MaybeEqual(i << 40, i), 0) != Answer::Added(None) {
+            return false;
+        }
+    }
+    for i in 0..keys {
+        if form.read(&MaybeEqual(i << 40, 0)) != Answer::Found(Some((i << 40, i, 0))) {
+            return false;
+        }
+    }
+    true
+}
+
+// Makes a call on many keys or on all.
+fn answer_of_many<F: Form<MaybeEqual, u64>>(alloc: Global, form: &mut F, call: Call) -> Answer {
+    match call {
+        Call::Fill(first, end) => Answer::Yes(fill(form, first, end)),
+        Call::Empty(first, end) => Answer::Yes(empty(form, first, end)),
+        Call::EmptyByEntry(first, end) => Answer::Yes(empty_by_entry(form, first, end)),
+        Call::Spread(keys) => Answer::Yes(spread(form, keys)),
+        Call::Retain(rest) => {
+            form.retain(rest);
+            Answer::Yes(true)
+        }
+        Call::Take(rule) => {
+            let mut taken = Vec::new(alloc);
+            form.take(alloc, rule, &mut taken)
+        }
+        Call::Passes(number) => Answer::Yes(form.passes(number)),
+        Call::Copy => form.copy(),
+        _ => {
+            form.clear();
+            Answer::Yes(true)
+        }
+    }
+}
+
+// Makes a call.
+fn answer<F: Form<MaybeEqual, u64>>(alloc: Global, form: &mut F, call: Call) -> Answer {
+    match call {
+        Call::Add(way, number, mark, value) => form.add(way, MaybeEqual(number, mark), value),
+        Call::Replace(number, mark) => form.replace(MaybeEqual(number, mark)),
+        Call::Modify(number, value) => form.modify(MaybeEqual(number, 1), value),
+        Call::On(at, act, number, value) => form.act(at, act, &MaybeEqual(number, 0), value),
+        Call::Remove(number) => form.remove(&MaybeEqual(number, 0)),
+        Call::RemoveIf(number) => form.remove_if(&MaybeEqual(number, 0)),
+        Call::Read(number) => form.read(&MaybeEqual(number, 0)),
+        Call::Place(number) => form.place(&MaybeEqual(number, 0)),
+        call => answer_of_many(alloc, form, call),
+    }
+}
+
+// The number of pairs, the capacity, and how many buckets wait.
+fn sizes<F: Form<MaybeEqual, u64>>(form: &F) -> (usize, usize, usize) {
+    let sizes = form.sizes();
+    (sizes.len, sizes.capacity, form.waiting().unwrap_or(0))
+}
+
+// The first row with another answer, by its number, and that answer.
+fn first_other<F: Form<MaybeEqual, u64>>(
+    alloc: Global,
+    form: &mut F,
+    rows: &[(Call, Answer)],
+) -> Option<(usize, Answer)> {
+    for (number, row) in rows.iter().enumerate() {
+        let found = answer(alloc, form, row.0);
+        if found != row.1 {
+            return Some((number, found));
+        }
+    }
+    None
+}
+
+// Makes the calls in turn: each has its answer.
+pub(crate) fn expect_answers<R: AllocGlobal + Abort, F: Form<MaybeEqual, u64>>(
+    rt: &R,
+    form: &mut F,
+    rows: &[(Call, Answer)],
+) {
+    expect_eq(rt, first_other(rt.alloc(), form, rows), None);
+}
+
+// Makes calls on many keys in turn: each answers true, and then the number of pairs, the capacity and how many buckets
+// wait are as the row says.
+pub(crate) fn expect_sizes<R: AllocGlobal + Abort, F: Form<MaybeEqual, u64>>(
+    rt: &R,
+    form: &mut F,
+    rows: &[(Call, (usize, usize, usize))],
+) {
+    for (call, wanted) in rows {
+        expect(rt, answer(rt.alloc(), form, *call) == Answer::Yes(true));
+        expect_eq(rt, sizes(form), *wanted);
+    }
+}

@@ -1,0 +1,19 @@
+//! Scripts, streams that fail, runs of calls as values, and the texts of refusals.
+#![tactic(auto)]
+
+#[cfg(test)]
+mod expect;
+#[cfg(test)]
+mod hashes;
+#[cfg(test)]
+mod lines;
+#[cfg(test)]
+mod played;
+#[cfg(test)]
+mod replies;
+#[cfg(test)]
+mod runs;
+#[cfg(test)]
+mod streams;
+#[cfg(test)]
+mod texts;

@@ -1,0 +1,32 @@
+// Plays scripts.
+use crate::expect::expect_eq;
+use scc_play::play::{BAD_CALL, play};
+use std::process::Abort;
+use std::sync::Wait;
+use std::test::Fail;
+use std::thread::Threads;
+
+// Plays a script. It writes that text and ends in that status.
+pub(crate) fn expect_run<R: AllocGlobal + Abort + Threads + Wait + Sync>(
+    rt: &R,
+    script: &[u8],
+    text: &str,
+    status: u8,
+) {
+    let mut output = Vec::new(rt.alloc());
+    let mut reader = script;
+    let ended = play(rt, rt.alloc(), &mut reader, &mut output);
+    expect_eq(rt, str::from_utf8(output.as_slice()), Ok(text));
+    expect_eq(rt, ended, status);
+}
+
+// Plays a script whose first bad line has that number.
+pub(crate) fn expect_bad_line<R: AllocGlobal + Abort + Threads + Wait + Sync>(
+    rt: &R,
+    script: &[u8],
+    number: usize,
+) -> Result<(), Fail> {
+    let text = format!(in rt.alloc(); "line {number}: bad call\n")?;
+    expect_run(rt, script, text.as_str(), BAD_CALL);
+    Ok(())
+}

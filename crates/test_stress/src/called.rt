@@ -1,0 +1,266 @@
+//! The calls that threads make on each kind of container, and what of it is noted.
+
+use crate::counted::{Counted, Counts};
+use crate::tally::Tally;
+use scc_cache::EvictedEntry;
+use scc_common::{InsertError, KeyError};
+use scc_shared_cache::HashCache;
+use scc_shared_index::HashIndex;
+use scc_shared_map::HashMap;
+use scc_shared_set::HashSet;
+use std::alloc::Global;
+use std::sync::Wait;
+
+pub type Map<'a> = HashMap<u64, Counted<'a>>;
+
+pub type Set = HashSet<u64>;
+
+pub type Index<'a> = HashIndex<u64, Counted<'a>>;
+
+pub type Cache<'a> = HashCache<u64, Counted<'a>>;
+
+/// A container that threads call.
+pub trait Called<'a>: Sized {
+    /// An empty one; None where memory is refused.
+    fn make(alloc: Global) -> Option<Self>;
+
+    /// Makes one call of that kind, of eight, and notes what went in and out.
+    fn call<R: Wait>(&self, rt: &R, counts: &'a Counts, kind: u64, key: u64, tally: &mut Tally);
+
+    /// Takes every key that it has out of the tally.
+    fn settle<R: Wait>(&self, rt: &R, tally: &mut Tally);
+}
+
+// Notes what an insertion of a key answered.
+fn note_pair(inserted: Result<(), InsertError<u64, Counted<'_>>>, key: u64, tally: &mut Tally) {
+    match inserted {
+        Ok(()) => tally.add(key),
+        Err(InsertError::Exists(_)) => {}
+        Err(InsertError::Memory(_)) => tally.refuse(),
+    }
+}
+
+// Notes what an insertion of a key into a set answered.
+fn note_key(inserted: Result<(), KeyError<u64>>, key: u64, tally: &mut Tally) {
+    match inserted {
+        Ok(()) => tally.add(key),
+        Err(KeyError::Exists(_)) => {}
+        Err(KeyError::Memory(_)) => tally.refuse(),
+    }
+}
+
+// Notes that a key went in, and that another may have been driven out.
+fn note_put(evicted: EvictedEntry<u64, Counted<'_>>, key: u64, tally: &mut Tally) {
+    tally.add(key);
+    if let Some((old, _value)) = evicted {
+        tally.subtract(old);
+    }
+}
+
+// An insertion through the entry, where it is vacant.
+fn insert_vacant<'a, R: Wait>(
+    rt: &R,
+    map: &Map<'a>,
+    counts: &'a Counts,
+    key: u64,
+    tally: &mut Tally,
+) {
+    if let scc_map::locked::Entry::Vacant(entry) = map.entry_sync(rt, key) {
+        match entry.insert_entry(counts.make()) {
+            Ok(_entry) => tally.add(key),
+            Err(_) => tally.refuse(),
+        }
+    }
+}
+
+// An upsert.
+fn upsert<'a, R: Wait>(rt: &R, map: &Map<'a>, counts: &'a Counts, key: u64, tally: &mut Tally) {
+    match map.upsert_sync(rt, key, counts.make()) {
+        Ok(None) => tally.add(key),
+        Ok(Some(_)) => {}
+        Err(_) => tally.refuse(),
+    }
+}
+
+// A removal through the entry.
+fn remove_occupied<R: Wait>(rt: &R, map: &Map<'_>, key: u64, tally: &mut Tally) {
+    if let Some(entry) = map.get_sync(rt, &key) {
+        let _value = entry.remove();
+        tally.subtract(key);
+    }
+}
+
+impl<'a> Called<'a> for Map<'a> {
+    fn make(alloc: Global) -> Option<Map<'a>> {
+        HashMap::new(alloc).ok()
+    }
+
+    fn call<R: Wait>(&self, rt: &R, counts: &'a Counts, kind: u64, key: u64, tally: &mut Tally) {
+        match kind {
+            0 | 1 => note_pair(self.insert_sync(rt, key, counts.make()), key, tally),
+            2 => upsert(rt, self, counts, key, tally),
+            3 => insert_vacant(rt, self, counts, key, tally),
+            4 | 5 => {
+                if self.remove_sync(rt, &key).is_some() {
+                    tally.subtract(key);
+                }
+            }
+            6 => remove_occupied(rt, self, key, tally),
+            _ => {
+                let _there = self.contains_sync(rt, &key);
+            }
+        }
+    }
+
+    fn settle<R: Wait>(&self, rt: &R, tally: &mut Tally) {
+        self.iter_sync(rt, |key, _| {
+            tally.subtract(*key);
+            true
+        });
+    }
+}
+
+// A key that takes the place of its equal, or comes in.
+fn replace<R: Wait>(rt: &R, set: &Set, key: u64, tally: &mut Tally) {
+    match set.replace_sync(rt, key) {
+        Ok(None) => tally.add(key),
+        Ok(Some(_)) => {}
+        Err(_) => tally.refuse(),
+    }
+}
+
+impl<'a> Called<'a> for Set {
+    fn make(alloc: Global) -> Option<Set> {
+        HashSet::new(alloc).ok()
+    }
+
+    fn call<R: Wait>(&self, rt: &R, _counts: &'a Counts, kind: u64, key: u64, tally: &mut Tally) {
+        match kind {
+            0 | 1 | 2 => note_key(self.insert_sync(rt, key), key, tally),
+            3 => replace(rt, self, key, tally),
+            4 | 5 | 6 => {
+                if self.remove_sync(rt, &key).is_some() {
+                    tally.subtract(key);
+                }
+            }
+            _ => {
+                let _there = self.contains_sync(rt, &key);
+            }
+        }
+    }
+
+    fn settle<R: Wait>(&self, rt: &R, tally: &mut Tally) {
+        self.iter_sync(rt, |key| {
+            tally.subtract(*key);
+            true
+        });
+    }
+}
+
+// An insertion through the entry, or a new version.
+fn publish<'a, R: Wait>(
+    rt: &R,
+    index: &Index<'a>,
+    counts: &'a Counts,
+    key: u64,
+    tally: &mut Tally,
+) {
+    match index.entry_sync(rt, key) {
+        scc_index::locked::Entry::Occupied(mut entry) => {
+            if entry.update(counts.make()).is_err() {
+                tally.refuse();
+            }
+        }
+        scc_index::locked::Entry::Vacant(entry) => match entry.insert_entry(counts.make()) {
+            Ok(_entry) => tally.add(key),
+            Err(_) => tally.refuse(),
+        },
+    }
+}
+
+// A version that is handed out, and let go.
+fn peek<R: Wait>(rt: &R, index: &Index<'_>, key: u64, tally: &mut Tally) {
+    match index.peek(rt, &key) {
+        Ok(_version) => {}
+        Err(_) => tally.refuse(),
+    }
+}
+
+impl<'a> Called<'a> for Index<'a> {
+    fn make(alloc: Global) -> Option<Index<'a>> {
+        HashIndex::new(alloc).ok()
+    }
+
+    fn call<R: Wait>(&self, rt: &R, counts: &'a Counts, kind: u64, key: u64, tally: &mut Tally) {
+        match kind {
+            0 | 1 => note_pair(self.insert_sync(rt, key, counts.make()), key, tally),
+            2 | 3 => publish(rt, self, counts, key, tally),
+            4 | 5 | 6 => {
+                if self.remove_sync(rt, &key) {
+                    tally.subtract(key);
+                }
+            }
+            _ => peek(rt, self, key, tally),
+        }
+    }
+
+    fn settle<R: Wait>(&self, rt: &R, tally: &mut Tally) {
+        self.iter_sync(rt, |key, _| {
+            tally.subtract(*key);
+            true
+        });
+    }
+}
+
+// A put.
+fn put<'a, R: Wait>(rt: &R, cache: &Cache<'a>, counts: &'a Counts, key: u64, tally: &mut Tally) {
+    match cache.put_sync(rt, key, counts.make()) {
+        Ok(evicted) => note_put(evicted, key, tally),
+        Err(InsertError::Exists(_)) => {}
+        Err(InsertError::Memory(_)) => tally.refuse(),
+    }
+}
+
+// A put through the entry, where it is vacant.
+fn put_vacant<'a, R: Wait>(
+    rt: &R,
+    cache: &Cache<'a>,
+    counts: &'a Counts,
+    key: u64,
+    tally: &mut Tally,
+) {
+    if let scc_cache::locked::Entry::Vacant(entry) = cache.entry_sync(rt, key) {
+        match entry.put_entry(counts.make()) {
+            Ok((evicted, _entry)) => note_put(evicted, key, tally),
+            Err(_) => tally.refuse(),
+        }
+    }
+}
+
+impl<'a> Called<'a> for Cache<'a> {
+    fn make(alloc: Global) -> Option<Cache<'a>> {
+        HashCache::new(alloc).ok()
+    }
+
+    fn call<R: Wait>(&self, rt: &R, counts: &'a Counts, kind: u64, key: u64, tally: &mut Tally) {
+        match kind {
+            0 | 1 | 2 => put(rt, self, counts, key, tally),
+            3 | 4 => put_vacant(rt, self, counts, key, tally),
+            5 | 6 => {
+                if self.remove_sync(rt, &key).is_some() {
+                    tally.subtract(key);
+                }
+            }
+            _ => {
+                let _there = self.contains_sync(rt, &key);
+            }
+        }
+    }
+
+    fn settle<R: Wait>(&self, rt: &R, tally: &mut Tally) {
+        self.iter_sync(rt, |key, _| {
+            tally.subtract(*key);
+            true
+        });
+    }
+}

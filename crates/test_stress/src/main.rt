@@ -1,0 +1,66 @@
+//! Lets threads and workers call containers, and adds up what they were told.
+//!
+//! The first argument is `soak`, `crowds` or `all`; `SECONDS THREADS CALLS` of a soak may follow, and where one is left
+//! out, the usual number stands for it. The status is 0 where all held, 1 where a count or a case was wrong, 2 where an
+//! argument is none of these, and 3 where memory was refused or a line could not be written.
+#![tactic(auto)]
+
+mod called;
+mod counted;
+mod crews;
+mod finished;
+mod kinds;
+mod phases;
+mod plain;
+mod request;
+mod rounds;
+mod tally;
+mod turns;
+
+use crews::run_crews;
+use phases::run_phases;
+use request::{Request, parse_request};
+use rounds::soak;
+use std::alloc::AllocError;
+use std::process::ExitCode;
+use std::rt::Clock;
+use std::sync::Wait;
+use std::thread::Threads;
+use std::{env, io};
+
+/// An argument was none of those that there are.
+const BAD_ARGUMENT: u8 = 2;
+
+/// Memory was refused, or a line could not be written.
+const REFUSED: u8 = 3;
+
+/// The arguments, without the program's name.
+fn words(rt: &HostRuntime) -> io::Result<Vec<String>> {
+    let mut words = Vec::new(rt.alloc());
+    for word in env::args(rt)?.skip(1) {
+        words.push(word).map_err(AllocError::from)?;
+    }
+    Ok(words)
+}
+
+/// What is asked for, played, and its worst status.
+fn play<R: Threads + Wait + Sync + AllocGlobal + Print + Clock>(rt: &R, request: Request) -> u8 {
+    let mut status = 0u8;
+    if request.soaks {
+        status = status.max(soak(rt, rt.alloc(), request).unwrap_or(REFUSED));
+    }
+    if request.crowds {
+        status = status.max(run_crews(rt)).max(run_phases(rt));
+    }
+    status
+}
+
+fn main(rt: HostRuntime) -> ExitCode {
+    let Ok(words) = words(&rt) else {
+        return ExitCode::from(REFUSED);
+    };
+    match parse_request(words.as_slice()) {
+        Some(request) => ExitCode::from(play(&rt, request)),
+        None => ExitCode::from(BAD_ARGUMENT),
+    }
+}

@@ -1,0 +1,112 @@
+//! Rounds of calls on each kind of container, in which what went in and what came out has to add up.
+
+use crate::called::{Cache, Called, Index, Map, Set};
+use crate::counted::Counts;
+use crate::request::Request;
+use crate::tally::{Tally, draw_call};
+use std::alloc::Global;
+use std::io;
+use std::rt::Clock;
+use std::sync::Wait;
+use std::thread::{Threads, map_indices};
+use std::time::Instant;
+
+/// Every count added up.
+const EVEN: u8 = 0;
+
+/// A count didn't add up.
+const UNEVEN: u8 = 1;
+
+// What one thread was told in so many calls.
+fn work<'a, C: Called<'a>, R: Wait>(
+    rt: &R,
+    container: &C,
+    counts: &'a Counts,
+    thread: usize,
+    calls: u64,
+) -> Tally {
+    let mut seed = thread as u64;
+    let mut tally = Tally::new();
+    for _ in 0..calls {
+        let drawn = draw_call(&mut seed);
+        container.call(rt, counts, drawn.kind, drawn.key, &mut tally);
+    }
+    tally
+}
+
+// Whether what the threads were told adds up with what the container has.
+fn is_settled<'a, C: Called<'a>, R: Wait>(rt: &R, container: &C, told: &[Tally]) -> bool {
+    let mut left = Tally::new();
+    for tally in told {
+        left.join(tally);
+    }
+    container.settle(rt, &mut left);
+    left.is_even()
+}
+
+// Whether a round of one container adds up.
+fn settles<'a, C: Called<'a> + Sync + Drop, R: Wait + Threads + Sync>(
+    rt: &R,
+    alloc: Global,
+    counts: &'a Counts,
+    request: Request,
+) -> io::Result<bool> {
+    let Some(container) = C::make(alloc) else {
+        return Err(io::Error::from(io::ErrorKind::OutOfMemory));
+    };
+    let told = map_indices(
+        rt,
+        alloc,
+        request.threads as usize,
+        &|thread| work(rt, &container, counts, thread, request.calls),
+    )?;
+    Ok(is_settled(rt, &container, told.as_slice()))
+}
+
+// Prints the name of a container whose counts don't add up, and says whether they do.
+fn tell(rt: &impl Print, name: &str, holds: bool) -> io::Result<bool> {
+    if !holds {
+        println!(rt; "{name}: what went in and out doesn't add up")?;
+    }
+    Ok(holds)
+}
+
+// Whether a round of each container adds up, and each value was dropped once.
+fn all_add_up<R: Wait + Threads + Sync + Print>(
+    rt: &R,
+    alloc: Global,
+    request: Request,
+) -> io::Result<bool> {
+    let counts = Counts::new();
+    let map = settles::<Map<'_>, R>(rt, alloc, &counts, request)?;
+    let map = tell(rt, "map", map && counts.are_equal())?;
+    let set = settles::<Set, R>(rt, alloc, &counts, request)?;
+    let set = tell(rt, "set", set)?;
+    let index = settles::<Index<'_>, R>(rt, alloc, &counts, request)?;
+    let index = tell(rt, "index", index && counts.are_equal())?;
+    let cache = settles::<Cache<'_>, R>(rt, alloc, &counts, request)?;
+    let cache = tell(rt, "cache", cache && counts.are_equal())?;
+    Ok(map && set && index && cache)
+}
+
+/// Goes on with rounds until the time is over, and prints how many there were. It ends at the first whose counts don't
+/// add up.
+pub(crate) fn soak<R: Wait + Threads + Sync + Print + Clock>(
+    rt: &R,
+    alloc: Global,
+    request: Request,
+) -> io::Result<u8> {
+    let start = Instant::now(rt)?;
+    let mut made = 0u64;
+    for _ in 0..u64::MAX {
+        if !all_add_up(rt, alloc, request)? {
+            return Ok(UNEVEN);
+        }
+        made = made.saturating_add(1);
+        if start.elapsed(rt)?.as_secs() >= request.seconds {
+            break;
+        }
+    }
+    println!(rt; "rounds {made}: every count added up")?;
+    Ok(EVEN)
+}

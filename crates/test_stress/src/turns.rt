@@ -1,0 +1,175 @@
+//! What workers do on one recorded container, and the workers themselves.
+ghost use Rattle.scc_calls.specs.Copies.{ClonesEqual};
+
+use crate::plain::Plain;
+use scc_calls::Calls;
+use scc_recorded::{Pass, Recorded, Site};
+use scc_workers::Work;
+use std::alloc::{AllocError, Global};
+use std::sync::Wait;
+use std::sync::ledger::Ledger;
+
+pub(crate) const WORKERS: u64 = 8;
+
+const TURNS: u64 = 200;
+
+// How many keys all share.
+const SHARED: u64 = 8;
+
+// What workers do on a container of each kind.
+pub(crate) trait Turns: Calls + Drop {
+    // The call of a turn on a key of the worker's own, and what it is answered where nobody else is there, if that can
+    // be known.
+    fn own_turn(key: u64, j: u64) -> (Self::Call, Option<Self::Reply>);
+
+    // The call of a turn on a key that all share.
+    fn shared_turn(key: u64, j: u64) -> Self::Call;
+
+    // Makes a call on a plain list, and says whether its reply is the right one.
+    fn plays(
+        alloc: Global,
+        plain: &mut Plain,
+        call: &Self::Call,
+        reply: &Self::Reply,
+    ) -> Result<bool, AllocError>;
+
+    // Adds all pairs to the list in the order of a walk, and says whether there was room. A set's values are 0.
+    fn collect(&self, met: &mut Vec<(u64, u64)>) -> bool;
+
+    // How many keys are there.
+    fn count(&self) -> usize;
+
+    // Whether a walk meets pairs bucket by bucket, each bucket's by recency.
+    fn is_ordered() -> bool;
+
+    fn equal_calls()
+        ensures { ClonesEqual Self.Call.is_clone Self.Call.eq };
+
+    fn equal_replies()
+        ensures { ClonesEqual Self.Reply.is_clone Self.Reply.eq };
+}
+
+// The keys of a worker lie in different buckets, one for each eight turns.
+fn own_key(worker: u64, place: u64) -> u64 {
+    (place << 59) | (1 << 40) | (worker << 32)
+}
+
+// Every other call is on a key of the worker's own, the others are on keys that all share.
+fn turn_of<C: Turns>(worker: u64, j: u64) -> (C::Call, Option<C::Reply>) {
+    if j % 2 == 0 {
+        C::own_turn(own_key(worker, j / 8), j)
+    } else {
+        let key = worker.wrapping_add(j / 2) % SHARED;
+        (C::shared_turn(key, j), None)
+    }
+}
+
+fn turns_of<C: Turns>(
+    alloc: Global,
+    worker: u64,
+) -> Result<Vec<(C::Call, Option<C::Reply>)>, AllocError> {
+    let mut turns = Vec::new(alloc);
+    for j in 0..TURNS {
+        turns.push(turn_of::<C>(worker, j))?;
+    }
+    Ok(turns)
+}
+
+// The turns of all workers.
+pub(crate) fn all_turns<C: Turns>(
+    alloc: Global,
+) -> Result<Vec<Vec<(C::Call, Option<C::Reply>)>>, AllocError> {
+    let mut lists = Vec::new(alloc);
+    for worker in 0..WORKERS {
+        lists.push(turns_of::<C>(alloc, worker)?)?;
+    }
+    Ok(lists)
+}
+
+// Whether that was answered, if it can be known.
+fn matches_alone<A: PartialEq>(wanted: &Option<A>, answer: &A) -> bool {
+    match wanted {
+        Some(wanted) => wanted == answer,
+        None => true,
+    }
+}
+
+// One worker, with a pass of its own.
+#[derive(Drop)]
+pub(crate) struct Caller<'a, C: Turns, L: Ledger, M: Site<C::Hasher>, R: Wait> {
+    rt: &'a R,
+    recorded: &'a Recorded<C, L, M>,
+    turns: &'a [(C::Call, Option<C::Reply>)],
+    pass: Pass<C, L>,
+    // Whether each reply on its own keys was that of one thread.
+    as_alone: bool,
+}
+
+impl<C: Turns, L: Ledger, M: Site<C::Hasher>, R: Wait> Work for Caller<'_, C, L, M, R> {
+    fn turns(&self) -> usize {
+        self.turns.len()
+    }
+
+    fn turn(&mut self, j: usize) -> bool {
+        let Some((call, alone)) = self.turns.get(j) else {
+            return false;
+        };
+        let Ok(copy) = call.clone() else {
+            return false;
+        };
+        let Some(_key) = C::key(&copy) else {
+            return false;
+        };
+        C::equal_calls();
+        C::equal_replies();
+        match self.recorded.call(self.rt, &mut self.pass, copy) {
+            Ok(reply) => {
+                self.as_alone = self.as_alone && matches_alone(alone, &reply);
+                true
+            }
+            Err(_refused) => false,
+        }
+    }
+}
+
+// A worker for each pass.
+pub(crate) fn callers_of<'a, C: Turns, L: Ledger, M: Site<C::Hasher>, R: Wait>(
+    rt: &'a R,
+    alloc: Global,
+    recorded: &'a Recorded<C, L, M>,
+    passes: Vec<Pass<C, L>>,
+    lists: &'a [Vec<(C::Call, Option<C::Reply>)>],
+) -> Result<Vec<Caller<'a, C, L, M, R>>, AllocError> {
+    let mut callers = Vec::with_capacity(alloc, passes.len())?;
+    for (pass, turns) in passes.into_iter().zip(lists) {
+        callers.push(Caller {
+            rt,
+            recorded,
+            turns: turns.as_slice(),
+            pass,
+            as_alone: true,
+        })?;
+    }
+    Ok(callers)
+}
+
+// The passes of the workers, if each had its own keys to itself.
+pub(crate) fn passes_of<C: Turns, L: Ledger, M: Site<C::Hasher>, R: Wait>(
+    alloc: Global,
+    callers: Vec<Caller<'_, C, L, M, R>>,
+) -> Result<Option<Vec<Pass<C, L>>>, AllocError> {
+    let mut passes = Vec::with_capacity(alloc, callers.len())?;
+    let mut alone = true;
+    for caller in callers {
+        let Caller {
+            rt: _,
+            recorded: _,
+            turns: _,
+            pass,
+            as_alone,
+        } = caller;
+        alone = alone && as_alone;
+        passes.push(pass)?;
+    }
+    Ok(if alone { Some(passes) } else { None })
+}

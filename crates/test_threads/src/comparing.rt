@@ -1,0 +1,221 @@
+// Whole containers: comparisons beside a writer and both ways at once, clones, and those that are made of items.
+use crate::expect::{expect, expect_eq};
+use crate::kinds::{Cache, Index, Map, Set, Threaded};
+use scc_shared_cache::HashCache;
+use scc_shared_index::HashIndex;
+use scc_shared_map::HashMap;
+use scc_shared_set::HashSet;
+use std::alloc::{AllocError, Global};
+use std::process::Abort;
+use std::sync::Wait;
+use std::test::Fail;
+use std::thread::{Threads, join};
+
+const KEYS: u64 = 100;
+
+const ROUNDS: u64 = 200;
+
+/// Slots for two stripes.
+const SLOTS: usize = 512;
+
+// One with a hundred keys, in all stripes.
+fn filled<C: Threaded + Drop, R: Wait>(rt: &R, alloc: Global) -> Result<C, AllocError> {
+    let Some(made) = C::make(alloc, SLOTS) else {
+        return Err(AllocError);
+    };
+    let mut right = true;
+    for key in 0..KEYS {
+        right = made.add(rt, (key << 57) | key) && right;
+    }
+    if right { Ok(made) } else { Err(AllocError) }
+}
+
+fn compares<C: Threaded, R: Wait>(rt: &R, one: &C, other: &C) -> bool {
+    let mut same = true;
+    for _ in 0..ROUNDS {
+        same = one.equals(rt, other) && same;
+    }
+    same
+}
+
+fn writes<C: Threaded, R: Wait>(rt: &R, container: &C) -> bool {
+    let mut there = true;
+    for round in 0..ROUNDS {
+        for key in 0..KEYS {
+            there = container.rewrite(rt, (key << 57) | key, round) && there;
+        }
+    }
+    there
+}
+
+// Whether it equals itself each time, beside a writer too.
+fn equals_itself<C: Threaded + Sync + Drop, R: Threads + Wait + Sync>(
+    rt: &R,
+    alloc: Global,
+) -> Result<bool, AllocError> {
+    let container: C = filled(rt, alloc)?;
+    let before = container.equals(rt, &container);
+    let (compared, wrote) = join(
+        rt,
+        || compares(rt, &container, &container),
+        || writes(rt, &container),
+    );
+    Ok(before && compared && wrote)
+}
+
+#[test]
+fn equals_itself_beside_a_writer(rt: HostRuntime) -> Result<(), Fail> {
+    let alloc = rt.alloc();
+    let map = equals_itself::<Map, _>(&rt, alloc)?;
+    let set = equals_itself::<Set, _>(&rt, alloc)?;
+    let index = equals_itself::<Index, _>(&rt, alloc)?;
+    let cache = equals_itself::<Cache, _>(&rt, alloc)?;
+    expect_eq(&rt, [map, set, index, cache], [true; 4]);
+    Ok(())
+}
+
+// Compares in both ways at once while keys of both come and go, which may answer anything and has to end.
+fn compares_and_moves<C: Threaded, R: Wait>(rt: &R, one: &C, other: &C) -> bool {
+    let mut moved = true;
+    for key in 0..ROUNDS {
+        let _same = one.equals(rt, other);
+        moved = one.add(rt, (key << 57) | KEYS) && moved;
+        let _same = other.equals(rt, one);
+        moved = one.take(rt, (key << 57) | KEYS) && moved;
+    }
+    moved
+}
+
+// Whether two containers that are compared with one another by two threads come to an end, and are equal then.
+fn compares_both_ways<C: Threaded + Sync + Drop, R: Threads + Wait + Sync>(
+    rt: &R,
+    alloc: Global,
+) -> Result<bool, AllocError> {
+    let one: C = filled(rt, alloc)?;
+    let other: C = filled(rt, alloc)?;
+    let (first, second) = join(
+        rt,
+        || compares_and_moves(rt, &one, &other),
+        || compares_and_moves(rt, &other, &one),
+    );
+    Ok(first && second && one.equals(rt, &other) && other.equals(rt, &one))
+}
+
+#[test]
+fn comparisons_in_opposite_ways_end(rt: HostRuntime) -> Result<(), Fail> {
+    let alloc = rt.alloc();
+    let map = compares_both_ways::<Map, _>(&rt, alloc)?;
+    let set = compares_both_ways::<Set, _>(&rt, alloc)?;
+    let index = compares_both_ways::<Index, _>(&rt, alloc)?;
+    let cache = compares_both_ways::<Cache, _>(&rt, alloc)?;
+    expect_eq(&rt, [map, set, index, cache], [true; 4]);
+    Ok(())
+}
+
+// Whether a container differs from its equal as soon as it lacks a key, looked at from either side.
+fn differs<C: Threaded + Drop, R: Wait>(rt: &R, one: &C, other: &C) -> bool {
+    let same = one.equals(rt, other) && other.equals(rt, one);
+    let gone = one.take(rt, 0);
+    same && gone && !one.equals(rt, other) && !other.equals(rt, one)
+}
+
+#[test]
+fn shared_map_clone_equals(rt: HostRuntime) -> Result<(), Fail> {
+    let map: Map = filled(&rt, rt.alloc())?;
+    let copy = map.try_clone(&rt)?;
+    let capacities = (
+        map.capacity(&rt),
+        copy.capacity(&rt),
+        *copy.capacity_range().start(),
+    );
+    expect_eq(&rt, capacities, (512, 512, 512));
+    expect(&rt, copy.eq_sync(&rt, &map));
+    expect(&rt, copy.rewrite(&rt, (7 << 57) | 7, 8));
+    expect(&rt, !copy.eq_sync(&rt, &map));
+    expect(&rt, copy.rewrite(&rt, (7 << 57) | 7, (7 << 57) | 7));
+    expect(&rt, differs(&rt, &copy, &map));
+    Ok(())
+}
+
+#[test]
+fn shared_set_clone_equals(rt: HostRuntime) -> Result<(), Fail> {
+    let set: Set = filled(&rt, rt.alloc())?;
+    let copy = set.try_clone(&rt)?;
+    expect(&rt, differs(&rt, &copy, &set));
+    Ok(())
+}
+
+#[test]
+fn shared_index_clone_equals(rt: HostRuntime) -> Result<(), Fail> {
+    let index: Index = filled(&rt, rt.alloc())?;
+    let copy = index.try_clone(&rt)?;
+    expect(&rt, differs(&rt, &copy, &index));
+    Ok(())
+}
+
+// The order in which pairs were used is no part of what caches are compared by.
+#[test]
+fn shared_cache_equality_ignores_recency(rt: HostRuntime) -> Result<(), Fail> {
+    let first: Cache = filled(&rt, rt.alloc())?;
+    let second: Cache = filled(&rt, rt.alloc())?;
+    for key in 0..KEYS {
+        drop(second.get_sync(&rt, &((key % 3) << 57 | key % 3)));
+    }
+    expect(&rt, differs(&rt, &first, &second));
+    Ok(())
+}
+
+#[test]
+fn shared_map_try_from_iter_last_wins(rt: HostRuntime) -> Result<(), Fail> {
+    let items = vec![in rt.alloc(); (1u64, 10u64), (1, 20), (2, 30)]?;
+    let map: HashMap<u64, u64> = HashMap::try_from_iter(&rt, rt.alloc(), items)?;
+    let one = map.read_sync(&rt, &1, |_, value| *value);
+    let two = map.read_sync(&rt, &2, |_, value| *value);
+    expect_eq(
+        &rt,
+        (map.len(&rt), map.capacity(&rt), one, two),
+        (2, 64, Some(20), Some(30)),
+    );
+    Ok(())
+}
+
+#[test]
+fn shared_set_try_from_iter_counts_once(rt: HostRuntime) -> Result<(), Fail> {
+    let items = vec![in rt.alloc(); 1u64, 1, 2]?;
+    let set: HashSet<u64> = HashSet::try_from_iter(&rt, rt.alloc(), items)?;
+    let held = (
+        set.len(&rt),
+        set.contains_sync(&rt, &1),
+        set.contains_sync(&rt, &2),
+    );
+    expect_eq(&rt, held, (2, true, true));
+    Ok(())
+}
+
+#[test]
+fn shared_index_try_from_iter_first_wins(rt: HostRuntime) -> Result<(), Fail> {
+    let items = vec![in rt.alloc(); (1u64, 10u64), (1, 20), (2, 30)]?;
+    let index: HashIndex<u64, u64> = HashIndex::try_from_iter(&rt, rt.alloc(), items)?;
+    let one = index.peek_with(&rt, &1, |_, value| *value);
+    let two = index.peek_with(&rt, &2, |_, value| *value);
+    expect_eq(
+        &rt,
+        (index.len(&rt), index.capacity(&rt), one, two),
+        (2, 64, Some(10), Some(30)),
+    );
+    Ok(())
+}
+
+#[test]
+fn shared_cache_try_from_iter_first_wins(rt: HostRuntime) -> Result<(), Fail> {
+    let items = vec![in rt.alloc(); (1u64, 10u64), (1, 20)]?;
+    let cache: HashCache<u64, u64> = HashCache::try_from_iter(&rt, rt.alloc(), items)?;
+    let one = cache.read_sync(&rt, &1, |_, value| *value);
+    expect_eq(
+        &rt,
+        (cache.len(&rt), cache.capacity(&rt), one),
+        (1, 64, Some(10)),
+    );
+    expect_eq(&rt, cache.capacity_range(), 64..=64);
+    Ok(())
+}

@@ -1,0 +1,46 @@
+// What threads tell each other. Each look for another thread has its limit, so that a wrong lock fails a test and
+// doesn't hang it.
+use std::sync::atomic::{AtomicU64, Ordering};
+use std::thread::yield_now;
+
+/// How often a thread looks for another one.
+const LOOKS: u32 = 1_000_000;
+
+/// Three flags, none of them raised.
+#[derive(Drop)]
+pub struct Flags {
+    pub first: AtomicU64,
+    pub second: AtomicU64,
+    pub third: AtomicU64,
+}
+
+impl Flags {
+    pub(crate) fn new() -> Flags {
+        Flags {
+            first: AtomicU64::new(0),
+            second: AtomicU64::new(0),
+            third: AtomicU64::new(0),
+        }
+    }
+}
+
+/// Raises a flag by one.
+pub(crate) fn raise(flag: &AtomicU64) {
+    flag.fetch_add(1, Ordering::SeqCst);
+}
+
+/// How often a flag was raised.
+pub(crate) fn height(flag: &AtomicU64) -> u64 {
+    flag.load(Ordering::SeqCst)
+}
+
+/// Whether a flag is raised before the last look.
+pub(crate) fn sees(flag: &AtomicU64) -> bool {
+    for _ in 0..LOOKS {
+        if height(flag) > 0 {
+            return true;
+        }
+        yield_now();
+    }
+    false
+}

@@ -1,0 +1,124 @@
+// The index.
+use super::{Index, MOST, Threaded, Visit, Way};
+use scc_script::same::Same;
+use scc_shared_index::HashIndex;
+use std::alloc::Global;
+use std::sync::Wait;
+
+// From entry to entry.
+fn step_on<R: Wait, V: Visit>(rt: &R, index: &Index, visit: &mut V) -> bool {
+    let mut entry = index.begin_sync(rt);
+    for _ in 0..MOST {
+        let Some(here) = entry else {
+            return true;
+        };
+        visit.meet(*here.key());
+        entry = here.next_sync(rt);
+    }
+    false
+}
+
+// From entry to entry, each of which is taken out.
+fn remove_on<R: Wait, V: Visit>(rt: &R, index: &Index, visit: &mut V) -> bool {
+    let mut entry = index.begin_sync(rt);
+    for _ in 0..MOST {
+        let Some(here) = entry else {
+            return true;
+        };
+        visit.meet(*here.key());
+        entry = here.remove_and_sync(rt);
+    }
+    false
+}
+
+fn walk<R: Wait, V: Visit>(rt: &R, index: &Index, visit: &mut V) -> bool {
+    index.iter_sync(rt, |key, _| {
+        visit.meet(*key);
+        true
+    })
+}
+
+fn keep<R: Wait, V: Visit>(rt: &R, index: &Index, visit: &mut V) -> bool {
+    index.retain_sync(rt, |key, _| {
+        visit.meet(*key);
+        true
+    });
+    true
+}
+
+fn ask<R: Wait, V: Visit>(rt: &R, index: &Index, visit: &mut V) -> bool {
+    let found = index.any_sync(rt, |key, _| {
+        visit.meet(*key);
+        false
+    });
+    found.is_none()
+}
+
+fn snapshot<R: Wait, V: Visit>(rt: &R, index: &Index, visit: &mut V) -> bool {
+    let Ok(versions) = index.iter(rt) else {
+        return false;
+    };
+    for version in versions {
+        visit.meet(*version.key());
+    }
+    true
+}
+
+impl Threaded for Index {
+    fn make(alloc: Global, slots: usize) -> Option<Index> {
+        HashIndex::with_capacity_and_hasher(alloc, slots, Same).ok()
+    }
+
+    fn add<R: Wait>(&self, rt: &R, key: u64) -> bool {
+        self.insert_sync(rt, key, key).is_ok()
+    }
+
+    fn rewrite<R: Wait>(&self, rt: &R, key: u64, value: u64) -> bool {
+        match self.get_sync(rt, &key) {
+            Some(mut entry) => entry.update(value).is_ok(),
+            None => false,
+        }
+    }
+
+    fn take<R: Wait>(&self, rt: &R, key: u64) -> bool {
+        self.remove_sync(rt, &key)
+    }
+
+    fn go_over<R: Wait, V: Visit>(&self, rt: &R, _alloc: Global, way: Way, visit: &mut V) -> bool {
+        match way {
+            Way::Walk | Way::Take => walk(rt, self, visit),
+            Way::Keep => keep(rt, self, visit),
+            Way::Ask => ask(rt, self, visit),
+            Way::Next => step_on(rt, self, visit),
+            Way::Remove => remove_on(rt, self, visit),
+            Way::Snapshot => snapshot(rt, self, visit),
+            Way::Copy => match self.try_clone(rt) {
+                Ok(copy) => walk(rt, &copy, visit),
+                Err(_) => false,
+            },
+        }
+    }
+
+    fn at_entry<R: Wait, V: Visit>(&self, rt: &R, key: u64, visit: &mut V) -> bool {
+        match self.get_sync(rt, &key) {
+            Some(entry) => {
+                visit.meet(*entry.key());
+                true
+            }
+            None => false,
+        }
+    }
+
+    fn at_read<R: Wait, V: Visit>(&self, rt: &R, key: u64, visit: &mut V) -> bool {
+        self.read_sync(rt, &key, |key, _| visit.meet(*key))
+            .is_some()
+    }
+
+    fn count<R: Wait>(&self, rt: &R) -> usize {
+        self.len(rt)
+    }
+
+    fn equals<R: Wait>(&self, rt: &R, other: &Index) -> bool {
+        self.eq_sync(rt, other)
+    }
+}

@@ -1,0 +1,125 @@
+// The map.
+use super::{MOST, Map, Threaded, Visit, Way};
+use scc_common::Verdict;
+use scc_script::same::Same;
+use scc_shared_map::HashMap;
+use std::alloc::Global;
+use std::sync::Wait;
+
+// From entry to entry.
+fn step_on<R: Wait, V: Visit>(rt: &R, map: &Map, visit: &mut V) -> bool {
+    let mut entry = map.begin_sync(rt);
+    for _ in 0..MOST {
+        let Some(here) = entry else {
+            return true;
+        };
+        visit.meet(*here.key());
+        entry = here.next_sync(rt);
+    }
+    false
+}
+
+// From entry to entry, each of which is taken out.
+fn remove_on<R: Wait, V: Visit>(rt: &R, map: &Map, visit: &mut V) -> bool {
+    let mut entry = map.begin_sync(rt);
+    for _ in 0..MOST {
+        let Some(here) = entry else {
+            return true;
+        };
+        visit.meet(*here.key());
+        entry = here.remove_and_sync(rt).1;
+    }
+    false
+}
+
+fn walk<R: Wait, V: Visit>(rt: &R, map: &Map, visit: &mut V) -> bool {
+    map.iter_sync(rt, |key, _| {
+        visit.meet(*key);
+        true
+    })
+}
+
+fn keep<R: Wait, V: Visit>(rt: &R, map: &Map, visit: &mut V) -> bool {
+    map.retain_sync(rt, |key, _| {
+        visit.meet(*key);
+        true
+    });
+    true
+}
+
+fn take<R: Wait, V: Visit>(rt: &R, alloc: Global, map: &Map, visit: &mut V) -> bool {
+    let mut taken: Vec<(u64, u64)> = Vec::new(alloc);
+    let ended = map.iter_mut_sync(
+        rt,
+        |key, _| {
+            visit.meet(*key);
+            Verdict::Keep
+        },
+        &mut taken,
+    );
+    ended == Ok(true) && taken.is_empty()
+}
+
+fn ask<R: Wait, V: Visit>(rt: &R, map: &Map, visit: &mut V) -> bool {
+    let found = map.any_sync(rt, |key, _| {
+        visit.meet(*key);
+        false
+    });
+    found.is_none()
+}
+
+impl Threaded for Map {
+    fn make(alloc: Global, slots: usize) -> Option<Map> {
+        HashMap::with_capacity_and_hasher(alloc, slots, Same).ok()
+    }
+
+    fn add<R: Wait>(&self, rt: &R, key: u64) -> bool {
+        self.insert_sync(rt, key, key).is_ok()
+    }
+
+    fn rewrite<R: Wait>(&self, rt: &R, key: u64, value: u64) -> bool {
+        self.update_sync(rt, &key, |_, old| *old = value).is_some()
+    }
+
+    fn take<R: Wait>(&self, rt: &R, key: u64) -> bool {
+        self.remove_sync(rt, &key).is_some()
+    }
+
+    fn go_over<R: Wait, V: Visit>(&self, rt: &R, alloc: Global, way: Way, visit: &mut V) -> bool {
+        match way {
+            Way::Walk | Way::Snapshot => walk(rt, self, visit),
+            Way::Keep => keep(rt, self, visit),
+            Way::Take => take(rt, alloc, self, visit),
+            Way::Ask => ask(rt, self, visit),
+            Way::Next => step_on(rt, self, visit),
+            Way::Remove => remove_on(rt, self, visit),
+            Way::Copy => match self.try_clone(rt) {
+                Ok(copy) => walk(rt, &copy, visit),
+                Err(_) => false,
+            },
+        }
+    }
+
+    fn at_entry<R: Wait, V: Visit>(&self, rt: &R, key: u64, visit: &mut V) -> bool {
+        match self.get_sync(rt, &key) {
+            Some(entry) => {
+                visit.meet(*entry.key());
+                true
+            }
+            None => false,
+        }
+    }
+
+    fn at_read<R: Wait, V: Visit>(&self, rt: &R, key: u64, visit: &mut V) -> bool {
+        self.read_sync(rt, &key, |key, _| visit.meet(*key))
+            .is_some()
+    }
+
+    fn count<R: Wait>(&self, rt: &R) -> usize {
+        self.len(rt)
+    }
+
+    fn equals<R: Wait>(&self, rt: &R, other: &Map) -> bool {
+        self.eq_sync(rt, other)
+    }
+}

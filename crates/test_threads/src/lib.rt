@@ -1,0 +1,15 @@
+//! What containers of every kind do under several threads: their locks, walks beside writers, and comparisons.
+#![tactic(auto)]
+
+#[cfg(test)]
+mod comparing;
+#[cfg(test)]
+mod expect;
+#[cfg(test)]
+mod flags;
+#[cfg(test)]
+mod kinds;
+#[cfg(test)]
+mod locks;
+#[cfg(test)]
+mod walks;

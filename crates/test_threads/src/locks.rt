@@ -1,0 +1,221 @@
+// Which locks a call holds: a stripe's alone, readers share it, and a walk lets its stripe go before it takes the next
+// one. So neither one lock round the whole container nor one for each stripe that readers don't share passes.
+use crate::expect::expect_eq;
+use crate::flags::{Flags, raise, sees};
+use crate::kinds::{Cache, HALF, Index, Map, Set, Threaded, Visit, Way};
+use std::alloc::{AllocError, Global};
+use std::process::Abort;
+use std::sync::Wait;
+use std::sync::atomic::AtomicU64;
+use std::test::Fail;
+use std::thread::{Threads, join, map_indices};
+
+/// Slots for two stripes.
+const SLOTS: usize = 128;
+
+/// The ways over all keys, of which a cache has the first three.
+const WAYS: [Way; 6] = [
+    Way::Walk,
+    Way::Keep,
+    Way::Take,
+    Way::Ask,
+    Way::Next,
+    Way::Remove,
+];
+
+// At one key it tells that it is there, and waits until another thread has told the same.
+#[derive(Drop)]
+struct Meeting<'a> {
+    key: u64,
+    mine: &'a AtomicU64,
+    other: &'a AtomicU64,
+    met: bool,
+}
+
+impl Visit for Meeting<'_> {
+    fn meet(&mut self, key: u64) {
+        if key == self.key {
+            raise(self.mine);
+            self.met = sees(self.other);
+        }
+    }
+}
+
+fn make_meeting<'a>(key: u64, mine: &'a AtomicU64, other: &'a AtomicU64) -> Meeting<'a> {
+    Meeting {
+        key,
+        mine,
+        other,
+        met: false,
+    }
+}
+
+// A container with a key in each of its two stripes.
+fn two_keys<C: Threaded + Drop, R: Wait>(rt: &R, alloc: Global) -> Result<C, AllocError> {
+    match C::make(alloc, SLOTS) {
+        Some(made) => {
+            if made.add(rt, 1) && made.add(rt, HALF) {
+                Ok(made)
+            } else {
+                Err(AllocError)
+            }
+        }
+        None => Err(AllocError),
+    }
+}
+
+// Holds an entry until another thread has told that it is done.
+fn holds<C: Threaded, R: Wait>(
+    rt: &R,
+    container: &C,
+    key: u64,
+    mine: &AtomicU64,
+    other: &AtomicU64,
+) -> bool {
+    let mut meeting = make_meeting(key, mine, other);
+    container.at_entry(rt, key, &mut meeting) && meeting.met
+}
+
+// Reads a key until another thread reads it too.
+fn reads<C: Threaded, R: Wait>(rt: &R, container: &C, mine: &AtomicU64, other: &AtomicU64) -> bool {
+    let mut meeting = make_meeting(1, mine, other);
+    container.at_read(rt, 1, &mut meeting) && meeting.met
+}
+
+// Once another thread has told that it holds a lock, adds a key, and tells that it is done.
+fn adds_beside<C: Threaded, R: Wait>(
+    rt: &R,
+    container: &C,
+    key: u64,
+    other: &AtomicU64,
+    mine: &AtomicU64,
+) -> bool {
+    let held = sees(other);
+    let added = container.add(rt, key);
+    raise(mine);
+    held && added
+}
+
+// While an entry of the first stripe is held, a key gets into the second one.
+fn leaves_other_stripe<C: Threaded + Sync + Drop, R: Threads + Wait + Sync>(
+    rt: &R,
+    alloc: Global,
+) -> Result<bool, AllocError> {
+    let container: C = two_keys(rt, alloc)?;
+    let flags = Flags::new();
+    let (held, added) = join(
+        rt,
+        || holds(rt, &container, 1, &flags.first, &flags.second),
+        || { adds_beside(rt, &container, HALF + 1, &flags.first, &flags.second) },
+    );
+    Ok(held && added && container.count(rt) == 3)
+}
+
+#[test]
+fn held_entry_other_stripe(rt: HostRuntime) -> Result<(), Fail> {
+    let alloc = rt.alloc();
+    let map = leaves_other_stripe::<Map, _>(&rt, alloc)?;
+    let set = leaves_other_stripe::<Set, _>(&rt, alloc)?;
+    let index = leaves_other_stripe::<Index, _>(&rt, alloc)?;
+    let cache = leaves_other_stripe::<Cache, _>(&rt, alloc)?;
+    expect_eq(&rt, [map, set, index, cache], [true; 4]);
+    Ok(())
+}
+
+// Two threads read the same key at the same time.
+fn readers_share<C: Threaded + Sync + Drop, R: Threads + Wait + Sync>(
+    rt: &R,
+    alloc: Global,
+) -> Result<bool, AllocError> {
+    let container: C = two_keys(rt, alloc)?;
+    let flags = Flags::new();
+    let (one, other) = join(
+        rt,
+        || reads(rt, &container, &flags.first, &flags.second),
+        || reads(rt, &container, &flags.second, &flags.first),
+    );
+    Ok(one && other)
+}
+
+#[test]
+fn two_readers_one_stripe(rt: HostRuntime) -> Result<(), Fail> {
+    let alloc = rt.alloc();
+    let map = readers_share::<Map, _>(&rt, alloc)?;
+    let set = readers_share::<Set, _>(&rt, alloc)?;
+    let index = readers_share::<Index, _>(&rt, alloc)?;
+    let cache = readers_share::<Cache, _>(&rt, alloc)?;
+    expect_eq(&rt, [map, set, index, cache], [true; 4]);
+    Ok(())
+}
+
+// Once the second stripe is held, goes over all keys, and tells when it is in the first stripe.
+fn goes_over<C: Threaded, R: Wait>(
+    rt: &R,
+    alloc: Global,
+    container: &C,
+    way: Way,
+    flags: &Flags,
+) -> bool {
+    let mut meeting = make_meeting(1, &flags.first, &flags.second);
+    sees(&flags.second) && container.go_over(rt, alloc, way, &mut meeting) && meeting.met
+}
+
+// What one of three threads does. The first one goes over all keys. The second one holds the second stripe until the
+// third one has got into the first, where the first one is when it sets out.
+fn part<C: Threaded, R: Wait>(
+    rt: &R,
+    alloc: Global,
+    container: &C,
+    way: Way,
+    flags: &Flags,
+    thread: usize,
+) -> bool {
+    match thread {
+        0 => goes_over(rt, alloc, container, way, flags),
+        1 => holds(rt, container, HALF, &flags.second, &flags.third),
+        _ => adds_beside(rt, container, 2, &flags.first, &flags.third),
+    }
+}
+
+// Whether that way over all keys lets the first stripe go before it takes the second. One that didn't would keep the
+// third thread out for as long as the second one looks for it.
+fn lets_go_first<C: Threaded + Sync + Drop, R: Threads + Wait + Sync>(
+    rt: &R,
+    alloc: Global,
+    way: Way,
+) -> Result<bool, AllocError> {
+    let container: C = two_keys(rt, alloc)?;
+    let flags = Flags::new();
+    let told = map_indices(
+        rt,
+        alloc,
+        3,
+        &|thread| part(rt, alloc, &container, way, &flags, thread),
+    )?;
+    Ok(told.iter().all(|right| *right))
+}
+
+// Whether each of the first ways does so. The first that doesn't ends it.
+fn let_go_first<C: Threaded + Sync + Drop, R: Threads + Wait + Sync>(
+    rt: &R,
+    alloc: Global,
+    ways: usize,
+) -> Result<bool, AllocError> {
+    for way in WAYS.iter().take(ways) {
+        if !lets_go_first::<C, R>(rt, alloc, *way)? {
+            return Ok(false);
+        }
+    }
+    Ok(true)
+}
+
+#[test]
+fn next_lets_its_stripe_go_first(rt: HostRuntime) -> Result<(), Fail> {
+    let alloc = rt.alloc();
+    let map = let_go_first::<Map, _>(&rt, alloc, 6)?;
+    let set = let_go_first::<Set, _>(&rt, alloc, 6)?;
+    let index = let_go_first::<Index, _>(&rt, alloc, 6)?;
+    let cache = let_go_first::<Cache, _>(&rt, alloc, 3)?;
+    expect_eq(&rt, [map, set, index, cache], [true; 4]);
+    Ok(())
+}

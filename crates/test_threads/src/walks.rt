@@ -1,0 +1,190 @@
+// Walks of every way beside two threads that write: each of a hundred keys that nobody touches is met once, while
+// other keys come and go, arrays grow and shrink.
+use crate::expect::expect_eq;
+use crate::flags::{Flags, height, raise};
+use crate::kinds::{Cache, Index, Map, Set, Threaded, Visit, Way};
+use std::alloc::{AllocError, Global};
+use std::process::Abort;
+use std::sync::Wait;
+use std::test::Fail;
+use std::thread::{Threads, map_indices};
+
+/// How many keys nobody touches.
+const KEPT: usize = 100;
+
+/// How often a writer goes over its keys.
+const ROUNDS: u64 = 20;
+
+/// How many walks of each way there are at least.
+const LEAST: u64 = 10;
+
+/// How many walks of each way there are at most.
+const MOST: u64 = 100_000;
+
+/// Slots for 16 stripes of 8 buckets.
+const SLOTS: usize = 4096;
+
+const WAYS: [Way; 7] = [
+    Way::Walk,
+    Way::Keep,
+    Way::Take,
+    Way::Ask,
+    Way::Next,
+    Way::Copy,
+    Way::Snapshot,
+];
+
+// How often each kept key was met.
+#[derive(Drop)]
+struct Met {
+    times: Vec<u64>,
+}
+
+impl Visit for Met {
+    fn meet(&mut self, key: u64) {
+        let number = key % (1 << 57);
+        if number < 1 << 32 {
+            if let Some(times) = self.times.get_mut(number as usize) {
+                *times = times.saturating_add(1);
+            }
+        }
+    }
+}
+
+// A key that nobody touches, in the first bucket of one of the stripes.
+fn kept_key(number: u64) -> u64 {
+    (number << 60) | number
+}
+
+// A key of a writer, in another bucket of one of the stripes, so that a cache of that size has room for all.
+fn moved_key(writer: u64, number: u64) -> u64 {
+    let bucket = (number % 7).wrapping_add(1);
+    (number << 60) | (bucket << 57) | (writer << 32) | number
+}
+
+// Adds the keys of a writer and takes them out again, round after round, so that some are there at any time.
+fn come_and_go<C: Threaded, R: Wait>(rt: &R, container: &C, writer: u64, moved: u64) -> bool {
+    let mut done = true;
+    for round in 0..ROUNDS {
+        for number in 0..moved {
+            let key = moved_key(writer, number);
+            let went = if round % 2 == 0 {
+                container.add(rt, key)
+            } else {
+                container.take(rt, key)
+            };
+            done = done && went;
+        }
+    }
+    done
+}
+
+// Whether a walk meets each of the kept keys once.
+fn meets_each_once<C: Threaded, R: Wait>(
+    rt: &R,
+    alloc: Global,
+    container: &C,
+    way: Way,
+) -> Result<bool, AllocError> {
+    let mut met = Met {
+        times: vec![in alloc; 0u64; KEPT]?,
+    };
+    let ended = container.go_over(rt, alloc, way, &mut met);
+    Ok(ended && met.times.iter().all(|times| *times == 1))
+}
+
+// Walks of one way after another until both writers have ended.
+fn walk_often<C: Threaded, R: Wait>(
+    rt: &R,
+    alloc: Global,
+    container: &C,
+    ended: &Flags,
+) -> Result<bool, AllocError> {
+    let mut once = true;
+    for walks in 0..MOST {
+        if walks >= LEAST && height(&ended.first) == 2 {
+            break;
+        }
+        for way in WAYS {
+            once = meets_each_once(rt, alloc, container, way)? && once;
+        }
+    }
+    Ok(once)
+}
+
+// What one of three threads does: the first one walks, the others write.
+fn work<C: Threaded, R: Wait>(
+    rt: &R,
+    alloc: Global,
+    container: &C,
+    ended: &Flags,
+    thread: usize,
+    moved: u64,
+) -> Result<bool, AllocError> {
+    if thread == 0 {
+        return walk_often(rt, alloc, container, ended);
+    }
+    let done = come_and_go(rt, container, thread as u64, moved);
+    raise(&ended.first);
+    Ok(done)
+}
+
+// Whether the keys that nobody touches are added.
+fn fills<C: Threaded, R: Wait>(rt: &R, container: &C) -> bool {
+    let mut filled = true;
+    for number in 0..KEPT {
+        filled = container.add(rt, kept_key(number as u64)) && filled;
+    }
+    filled
+}
+
+// Whether all that the threads answered is right.
+fn are_right(told: Vec<Result<bool, AllocError>>) -> Result<bool, AllocError> {
+    let mut right = true;
+    for one in told {
+        right = one? && right;
+    }
+    Ok(right)
+}
+
+// Whether all walks beside writers of so many keys are right, in a container for so many slots.
+fn walks<C: Threaded + Sync + Drop, R: Threads + Wait + Sync>(
+    rt: &R,
+    alloc: Global,
+    slots: usize,
+    moved: u64,
+) -> Result<bool, AllocError> {
+    let Some(container) = C::make(alloc, slots) else {
+        return Err(AllocError);
+    };
+    let ended = Flags::new();
+    let filled = fills(rt, &container);
+    let told = map_indices(
+        rt,
+        alloc,
+        3,
+        &|thread| work(rt, alloc, &container, &ended, thread, moved),
+    )?;
+    Ok(are_right(told)? && filled && container.count(rt) == KEPT)
+}
+
+#[test]
+fn walks_meet_untouched_keys_once(rt: HostRuntime) -> Result<(), Fail> {
+    let alloc = rt.alloc();
+    let map = walks::<Map, _>(&rt, alloc, SLOTS, 100)?;
+    let set = walks::<Set, _>(&rt, alloc, SLOTS, 100)?;
+    let index = walks::<Index, _>(&rt, alloc, SLOTS, 100)?;
+    let cache = walks::<Cache, _>(&rt, alloc, SLOTS, 100)?;
+    expect_eq(&rt, [map, set, index, cache], [true; 4]);
+    Ok(())
+}
+
+#[test]
+fn walks_meet_untouched_keys_once_beside_growth(rt: HostRuntime) -> Result<(), Fail> {
+    let alloc = rt.alloc();
+    let map = walks::<Map, _>(&rt, alloc, 0, 400)?;
+    let set = walks::<Set, _>(&rt, alloc, 0, 400)?;
+    let index = walks::<Index, _>(&rt, alloc, 0, 400)?;
+    expect_eq(&rt, [map, set, index], [true; 3]);
+    Ok(())
+}

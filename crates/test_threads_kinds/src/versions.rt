@@ -1,0 +1,79 @@
+// Versions of a shared index: snapshots beside threads that publish new ones, and what an empty index hands out.
+use crate::expect::expect_eq;
+use scc_shared_index::HashIndex;
+use std::process::Abort;
+use std::sync::Wait;
+use std::test::Fail;
+use std::thread::join;
+
+type Pairs = HashIndex<u64, (u64, u64)>;
+
+const ROUNDS: u64 = 200;
+
+#[test]
+fn shared_index_missing_key(rt: HostRuntime) -> Result<(), Fail> {
+    let index: HashIndex<u64, u64> = HashIndex::new(rt.alloc())?;
+    let missing = (
+        index.peek(&rt, &1)?.is_none(),
+        index.get_sync(&rt, &1).is_none(),
+        index.begin_sync(&rt).is_none(),
+        index.iter(&rt)?.next().is_none(),
+    );
+    expect_eq(&rt, missing, (true, true, true, true));
+    Ok(())
+}
+
+// Publishes version after version of a key. Both halves of a value are equal.
+fn publish(rt: &impl Wait, index: &Pairs, k: u64) -> bool {
+    for j in 0..ROUNDS {
+        match index.get_sync(rt, &k) {
+            Some(mut entry) => {
+                if entry.update((j, j)).is_err() {
+                    return false;
+                }
+            }
+            None => return false,
+        }
+    }
+    true
+}
+
+// Whether each version of a snapshot is whole, and there are as many as keys.
+fn is_whole(rt: &impl Wait, index: &Pairs) -> bool {
+    let Ok(versions) = index.iter(rt) else {
+        return false;
+    };
+    let mut met = 0u64;
+    for version in versions {
+        let (a, b) = *version.value();
+        if a != b || *version.key() >= 2 {
+            return false;
+        }
+        met = met.wrapping_add(1);
+    }
+    met == 2
+}
+
+fn look_often(rt: &impl Wait, index: &Pairs) -> bool {
+    for _ in 0..ROUNDS {
+        if !is_whole(rt, index) {
+            return false;
+        }
+    }
+    true
+}
+
+#[test]
+fn snapshot_versions_are_whole(rt: HostRuntime) -> Result<(), Fail> {
+    let index: Pairs = HashIndex::new(rt.alloc())?;
+    let first = index.insert_sync(&rt, 0, (0, 0)).is_ok();
+    let second = index.insert_sync(&rt, 1, (0, 0)).is_ok();
+    expect_eq(&rt, (first, second), (true, true));
+    let told = join(
+        &rt,
+        || join(&rt, || publish(&rt, &index, 0), || publish(&rt, &index, 1)),
+        || look_often(&rt, &index),
+    );
+    expect_eq(&rt, told, ((true, true), true));
+    Ok(())
+}
