@@ -4,7 +4,7 @@ use std::sync::atomic::{AtomicU64, Ordering};
 use std::thread::yield_now;
 
 /// How often a thread looks for another one.
-const LOOKS: u32 = 1_000_000;
+const LOOKS: u32 = 500_000;
 
 /// Three flags, none of them raised.
 #[derive(Drop)]

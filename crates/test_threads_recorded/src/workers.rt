@@ -13,7 +13,7 @@ const WORKERS: u64 = 4;
 const TURNS: u64 = 3;
 
 // How often a worker looks for the others.
-const LOOKS: u32 = 1_000_000;
+const LOOKS: u32 = 200_000;
 
 // A worker whose turn ends once all workers have come to it.
 #[derive(Drop)]
