@@ -3,86 +3,23 @@
 use crate::answers::{Answer, Kind, Rule, raise_and_keep, refused, verdict};
 use crate::form::{Act, At, Form, Sizes, Way};
 use crate::numbered::{Numbered, Seen, note_pairs, raise_to_even, seen, seen_pair, value_of};
-use scc_cache::owned::{Entry, OccupiedEntry, ReplaceResult};
-use scc_cache::{EvictedEntry, Owned};
-use scc_common::InsertError;
+use scc_cache::Owned;
+use scc_cache::owned::{Entry, ReplaceResult};
 use std::alloc::Global;
 use std::hash::{BuildHasher, Hash};
 
-// What a way answers that lends an entry.
-fn entered<K: Eq + Hash + Drop + Numbered, V: Drop + Numbered, H: BuildHasher>(
-    answer: Result<(EvictedEntry<K, V>, OccupiedEntry<'_, K, V, H>), InsertError<K, V>>,
-) -> Answer {
-    match answer {
-        Ok((evicted, entry)) => {
-            let here = seen(entry.key(), entry.get());
-            Answer::Entry(seen_pair(evicted), here)
+// What a way answers that lends an entry. It is a macro, since the check doesn't follow an entry into a function.
+macro_rules! entered {
+    ($answer:expr) => {
+        match $answer {
+            Ok(placed) => {
+                let (evicted, entry) = placed;
+                let here = seen(entry.key(), entry.get());
+                Answer::Entry(seen_pair(evicted), here)
+            }
+            Err(error) => refused(error),
         }
-        Err(error) => refused(error),
-    }
-}
-
-// Puts the pair through its entry.
-fn enter<K: Eq + Hash + Drop + Numbered, V: Default + Drop + Numbered, H: BuildHasher>(
-    cache: &mut Owned<K, V, H>,
-    way: Way,
-    key: K,
-    value: V,
-) -> Answer {
-    let entry = cache.entry_sync(key);
-    entered(match way {
-        Way::OrInsertWith => entry.or_put_with(|| value),
-        Way::OrInsertWithKey => entry.or_put_with_key(|key| value_of(key, value)),
-        Way::OrDefault => entry.or_default(),
-        Way::InsertEntry => entry.put_entry(value),
-        _ => entry.or_put(value),
-    })
-}
-
-// Puts the pair through its vacant entry.
-fn fill<K: Eq + Hash + Drop + Numbered, V: Drop + Numbered, H: BuildHasher>(
-    cache: &mut Owned<K, V, H>,
-    key: K,
-    value: V,
-) -> Answer {
-    match cache.entry_sync(key) {
-        Entry::Vacant(entry) => entered(entry.put_entry(value)),
-        Entry::Occupied(entry) => Answer::Found(Some(seen(entry.key(), entry.get()))),
-    }
-}
-
-// Puts the key in the place of its equal, or puts the pair.
-fn replace_or_fill<K: Eq + Hash + Drop + Numbered, V: Drop + Numbered, H: BuildHasher>(
-    cache: &mut Owned<K, V, H>,
-    key: K,
-    value: V,
-) -> Answer {
-    match cache.replace_sync(key) {
-        ReplaceResult::Replaced(entry, old) => {
-            Answer::Swapped(Some(old.mark()), Some(seen(entry.key(), entry.get())))
-        }
-        ReplaceResult::NotReplaced(entry) => entered(entry.put_entry(value)),
-    }
-}
-
-// Does that with an entry.
-fn act_on<K: Eq + Hash + Drop + Numbered, V: Drop + Numbered, H: BuildHasher>(
-    entry: OccupiedEntry<'_, K, V, H>,
-    act: Act,
-    value: V,
-) -> Answer {
-    let mut entry = entry;
-    match act {
-        Act::Look => Answer::Found(Some(seen(entry.key(), entry.get()))),
-        Act::Write => {
-            entry.get_mut().write(value.number());
-            Answer::Found(Some(seen(entry.key(), entry.get())))
-        }
-        Act::Set => Answer::Old(Some(entry.put(value).number())),
-        Act::Remove => Answer::Old(Some(entry.remove().number())),
-        Act::RemoveEntry => Answer::Found(seen_pair(Some(entry.remove_entry()))),
-        _ => Answer::Absent,
-    }
+    };
 }
 
 impl<K: Eq + Hash + Drop + Numbered, V: Default + Drop + Numbered, H: BuildHasher + Drop> Form<K, V>
@@ -98,9 +35,25 @@ impl<K: Eq + Hash + Drop + Numbered, V: Default + Drop + Numbered, H: BuildHashe
                 Err(error) => refused(error),
             },
             Way::Upsert => Answer::Absent,
-            Way::Replace => replace_or_fill(self, key, value),
-            Way::Vacant => fill(self, key, value),
-            _ => enter(self, way, key, value),
+            Way::Replace => match self.replace_sync(key) {
+                ReplaceResult::Replaced(entry, old) => Answer::Swapped(
+                    Some(old.mark()),
+                    Some(seen(entry.key(), entry.get())),
+                ),
+                ReplaceResult::NotReplaced(entry) => entered!(entry.put_entry(value)),
+            },
+            Way::Vacant => match self.entry_sync(key) {
+                Entry::Vacant(entry) => entered!(entry.put_entry(value)),
+                Entry::Occupied(entry) => Answer::Found(Some(seen(entry.key(), entry.get()))),
+            },
+            Way::OrInsert => entered!(self.entry_sync(key).or_put(value)),
+            Way::OrInsertWith => entered!(self.entry_sync(key).or_put_with(|| value)),
+            Way::OrInsertWithKey => entered!(
+                self.entry_sync(key)
+                    .or_put_with_key(|key| value_of(key, value))
+            ),
+            Way::OrDefault => entered!(self.entry_sync(key).or_default()),
+            Way::InsertEntry => entered!(self.entry_sync(key).put_entry(value)),
         }
     }
 
@@ -127,12 +80,34 @@ impl<K: Eq + Hash + Drop + Numbered, V: Default + Drop + Numbered, H: BuildHashe
     }
 
     fn act(&mut self, at: At, act: Act, key: &K, value: V) -> Answer {
-        if at != At::Key || !act.is_of(Kind::Cache) {
+        if at != At::Key {
             return Answer::Absent;
         }
-        match self.get_sync(key) {
-            Some(entry) => act_on(entry, act, value),
-            None => Answer::Found(None),
+        match act {
+            Act::Look => match self.get_sync(key) {
+                Some(entry) => Answer::Found(Some(seen(entry.key(), entry.get()))),
+                None => Answer::Found(None),
+            },
+            Act::Write => match self.get_sync(key) {
+                Some(mut entry) => {
+                    entry.get_mut().write(value.number());
+                    Answer::Found(Some(seen(entry.key(), entry.get())))
+                }
+                None => Answer::Found(None),
+            },
+            Act::Set => match self.get_sync(key) {
+                Some(mut entry) => Answer::Old(Some(entry.put(value).number())),
+                None => Answer::Found(None),
+            },
+            Act::Remove => match self.get_sync(key) {
+                Some(entry) => Answer::Old(Some(entry.remove().number())),
+                None => Answer::Found(None),
+            },
+            Act::RemoveEntry => match self.get_sync(key) {
+                Some(entry) => Answer::Found(seen_pair(Some(entry.remove_entry()))),
+                None => Answer::Found(None),
+            },
+            Act::Next | Act::RemoveNext => Answer::Absent,
         }
     }
 

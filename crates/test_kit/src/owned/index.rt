@@ -3,81 +3,62 @@
 use crate::answers::{Answer, Kind, refused};
 use crate::form::{Act, At, Form, Sizes, Way};
 use crate::numbered::{Numbered, Seen, keeps, seen, value_of};
-use scc_common::InsertError;
 use scc_index::Owned;
-use scc_index::owned::{Entry, OccupiedEntry};
+use scc_index::owned::Entry;
 use std::hash::{BuildHasher, Hash};
 
-// What a way answers that lends an entry.
-fn entered<K: Eq + Hash + Drop + Numbered, V: Drop + Numbered, H: BuildHasher>(
-    answer: Result<OccupiedEntry<'_, K, V, H>, InsertError<K, V>>,
-) -> Answer {
-    match answer {
-        Ok(entry) => Answer::Entry(None, seen(entry.key(), entry.get())),
-        Err(error) => refused(error),
-    }
-}
-
-// Adds the pair through its entry.
-fn enter<K: Eq + Hash + Drop + Numbered, V: Default + Drop + Numbered, H: BuildHasher>(
-    index: &mut Owned<K, V, H>,
-    way: Way,
-    key: K,
-    value: V,
-) -> Answer {
-    let entry = index.entry_sync(key);
-    entered(match way {
-        Way::OrInsertWith => entry.or_insert_with(|| value),
-        Way::OrInsertWithKey => entry.or_insert_with_key(|key| value_of(key, value)),
-        Way::OrDefault => entry.or_default(),
-        _ => entry.or_insert(value),
-    })
-}
-
-// Adds the pair through its vacant entry.
-fn fill<K: Eq + Hash + Drop + Numbered, V: Drop + Numbered, H: BuildHasher>(
-    index: &mut Owned<K, V, H>,
-    key: K,
-    value: V,
-) -> Answer {
-    match index.entry_sync(key) {
-        Entry::Vacant(entry) => entered(entry.insert_entry(value)),
-        Entry::Occupied(entry) => Answer::Found(Some(seen(entry.key(), entry.get()))),
-    }
-}
-
-// The pair of an entry, if there is one.
-fn shown<K: Eq + Hash + Drop + Numbered, V: Drop + Numbered, H: BuildHasher>(
-    entry: Option<OccupiedEntry<'_, K, V, H>>,
-) -> Option<Seen> {
-    match entry {
-        Some(entry) => Some(seen(entry.key(), entry.get())),
-        None => None,
-    }
-}
-
-// Does that with an entry.
-fn act_on<K: Eq + Hash + Clone + Drop + Numbered, V: Drop + Numbered, H: BuildHasher>(
-    entry: OccupiedEntry<'_, K, V, H>,
-    act: Act,
-    value: V,
-) -> Answer {
-    let mut entry = entry;
-    let here = seen(entry.key(), entry.get());
-    match act {
-        Act::Look => Answer::Found(Some(here)),
-        Act::Set => match entry.update(value) {
-            Ok(()) => Answer::Yes(true),
-            Err(back) => Answer::Refused(Some(seen(entry.key(), &back))),
-        },
-        Act::RemoveEntry => {
-            entry.remove_entry();
-            Answer::Yes(true)
+// What a way answers that lends an entry. It is a macro, since the check doesn't follow an entry into a function.
+macro_rules! entered {
+    ($answer:expr) => {
+        match $answer {
+            Ok(entry) => Answer::Entry(None, seen(entry.key(), entry.get())),
+            Err(error) => refused(error),
         }
-        Act::Next => Answer::Found(shown(entry.next_sync())),
-        Act::RemoveNext => Answer::Gone(here, shown(entry.remove_and_sync())),
-        _ => Answer::Absent,
-    }
+    };
+}
+
+// Does that with the entry that is found.
+macro_rules! act_on {
+    ($found:expr, $act:expr, $value:expr) => {
+        match $act {
+            Act::Look => match $found {
+                Some(entry) => Answer::Found(Some(seen(entry.key(), entry.get()))),
+                None => Answer::Found(None),
+            },
+            Act::Set => match $found {
+                Some(mut entry) => match entry.update($value) {
+                    Ok(()) => Answer::Yes(true),
+                    Err(back) => Answer::Refused(Some(seen(entry.key(), &back))),
+                },
+                None => Answer::Found(None),
+            },
+            Act::RemoveEntry => match $found {
+                Some(entry) => {
+                    entry.remove_entry();
+                    Answer::Yes(true)
+                }
+                None => Answer::Found(None),
+            },
+            Act::Next => match $found {
+                Some(entry) => match entry.next_sync() {
+                    Some(next) => Answer::Found(Some(seen(next.key(), next.get()))),
+                    None => Answer::Found(None),
+                },
+                None => Answer::Found(None),
+            },
+            Act::RemoveNext => match $found {
+                Some(entry) => {
+                    let here = seen(entry.key(), entry.get());
+                    match entry.remove_and_sync() {
+                        Some(next) => Answer::Gone(here, Some(seen(next.key(), next.get()))),
+                        None => Answer::Gone(here, None),
+                    }
+                }
+                None => Answer::Found(None),
+            },
+            _ => Answer::Absent,
+        }
+    };
 }
 
 impl<
@@ -95,9 +76,18 @@ impl<
                 Ok(()) => Answer::Added(None),
                 Err(error) => refused(error),
             },
-            Way::Vacant => fill(self, key, value),
+            Way::Vacant => match self.entry_sync(key) {
+                Entry::Vacant(entry) => entered!(entry.insert_entry(value)),
+                Entry::Occupied(entry) => Answer::Found(Some(seen(entry.key(), entry.get()))),
+            },
+            Way::OrInsert => entered!(self.entry_sync(key).or_insert(value)),
+            Way::OrInsertWith => entered!(self.entry_sync(key).or_insert_with(|| value)),
+            Way::OrInsertWithKey => entered!(
+                self.entry_sync(key)
+                    .or_insert_with_key(|key| value_of(key, value))
+            ),
+            Way::OrDefault => entered!(self.entry_sync(key).or_default()),
             Way::Upsert | Way::Replace | Way::InsertEntry => Answer::Absent,
-            _ => enter(self, way, key, value),
         }
     }
 
@@ -114,14 +104,14 @@ impl<
 
     fn act(&mut self, at: At, act: Act, key: &K, value: V) -> Answer {
         let number = key.number();
-        let entry = match at {
-            At::Key => self.get_sync(key),
-            At::Any => self.any_sync(|other, _| other.number() == number),
-            At::First => self.begin_sync(),
-        };
-        match entry {
-            Some(entry) => act_on(entry, act, value),
-            None => Answer::Found(None),
+        match at {
+            At::Key => act_on!(self.get_sync(key), act, value),
+            At::Any => act_on!(
+                self.any_sync(|other, _| other.number() == number),
+                act,
+                value
+            ),
+            At::First => act_on!(self.begin_sync(), act, value),
         }
     }
 

@@ -5,99 +5,68 @@ use crate::form::{Act, At, Form, Sizes, Way};
 use crate::numbered::{
     Numbered, Seen, keeps, note_pairs, raise_to_even, seen, seen_pair, value_of,
 };
-use scc_common::InsertError;
 use scc_map::Owned;
-use scc_map::owned::{Entry, OccupiedEntry, ReplaceResult};
+use scc_map::owned::{Entry, ReplaceResult};
 use std::alloc::Global;
 use std::hash::{BuildHasher, Hash};
 
-// What a way answers that lends an entry.
-fn entered<K: Eq + Hash + Drop + Numbered, V: Drop + Numbered, H: BuildHasher>(
-    answer: Result<OccupiedEntry<'_, K, V, H>, InsertError<K, V>>,
-) -> Answer {
-    match answer {
-        Ok(entry) => Answer::Entry(None, seen(entry.key(), entry.get())),
-        Err(error) => refused(error),
-    }
-}
-
-// Adds the pair through its entry.
-fn enter<K: Eq + Hash + Drop + Numbered, V: Default + Drop + Numbered, H: BuildHasher>(
-    map: &mut Owned<K, V, H>,
-    way: Way,
-    key: K,
-    value: V,
-) -> Answer {
-    let entry = map.entry_sync(key);
-    entered(match way {
-        Way::OrInsertWith => entry.or_insert_with(|| value),
-        Way::OrInsertWithKey => entry.or_insert_with_key(|key| value_of(key, value)),
-        Way::OrDefault => entry.or_default(),
-        Way::InsertEntry => entry.insert_entry(value),
-        _ => entry.or_insert(value),
-    })
-}
-
-// Adds the pair through its vacant entry.
-fn fill<K: Eq + Hash + Drop + Numbered, V: Drop + Numbered, H: BuildHasher>(
-    map: &mut Owned<K, V, H>,
-    key: K,
-    value: V,
-) -> Answer {
-    match map.entry_sync(key) {
-        Entry::Vacant(entry) => entered(entry.insert_entry(value)),
-        Entry::Occupied(entry) => Answer::Found(Some(seen(entry.key(), entry.get()))),
-    }
-}
-
-// Puts the key in the place of its equal, or adds the pair.
-fn replace_or_fill<K: Eq + Hash + Drop + Numbered, V: Drop + Numbered, H: BuildHasher>(
-    map: &mut Owned<K, V, H>,
-    key: K,
-    value: V,
-) -> Answer {
-    match map.replace_sync(key) {
-        ReplaceResult::Replaced(entry, old) => {
-            Answer::Swapped(Some(old.mark()), Some(seen(entry.key(), entry.get())))
+// What a way answers that lends an entry. It is a macro, since the check doesn't follow an entry into a function.
+macro_rules! entered {
+    ($answer:expr) => {
+        match $answer {
+            Ok(entry) => Answer::Entry(None, seen(entry.key(), entry.get())),
+            Err(error) => refused(error),
         }
-        ReplaceResult::NotReplaced(entry) => entered(entry.insert_entry(value)),
-    }
+    };
 }
 
-// The pair of an entry, if there is one.
-fn shown<K: Eq + Hash + Drop + Numbered, V: Drop + Numbered, H: BuildHasher>(
-    entry: Option<OccupiedEntry<'_, K, V, H>>,
-) -> Option<Seen> {
-    match entry {
-        Some(entry) => Some(seen(entry.key(), entry.get())),
-        None => None,
-    }
-}
-
-// Does that with an entry.
-fn act_on<K: Eq + Hash + Drop + Numbered, V: Drop + Numbered, H: BuildHasher>(
-    entry: OccupiedEntry<'_, K, V, H>,
-    act: Act,
-    value: V,
-) -> Answer {
-    let mut entry = entry;
-    match act {
-        Act::Look => Answer::Found(Some(seen(entry.key(), entry.get()))),
-        Act::Write => {
-            entry.get_mut().write(value.number());
-            Answer::Found(Some(seen(entry.key(), entry.get())))
+// Does that with the entry that is found.
+macro_rules! act_on {
+    ($found:expr, $act:expr, $value:expr) => {
+        match $act {
+            Act::Look => match $found {
+                Some(entry) => Answer::Found(Some(seen(entry.key(), entry.get()))),
+                None => Answer::Found(None),
+            },
+            Act::Write => match $found {
+                Some(mut entry) => {
+                    entry.get_mut().write($value.number());
+                    Answer::Found(Some(seen(entry.key(), entry.get())))
+                }
+                None => Answer::Found(None),
+            },
+            Act::Set => match $found {
+                Some(mut entry) => Answer::Old(Some(entry.insert($value).number())),
+                None => Answer::Found(None),
+            },
+            Act::Remove => match $found {
+                Some(entry) => Answer::Old(Some(entry.remove().number())),
+                None => Answer::Found(None),
+            },
+            Act::RemoveEntry => match $found {
+                Some(entry) => Answer::Found(seen_pair(Some(entry.remove_entry()))),
+                None => Answer::Found(None),
+            },
+            Act::Next => match $found {
+                Some(entry) => match entry.next_sync() {
+                    Some(next) => Answer::Found(Some(seen(next.key(), next.get()))),
+                    None => Answer::Found(None),
+                },
+                None => Answer::Found(None),
+            },
+            Act::RemoveNext => match $found {
+                Some(entry) => match entry.remove_and_sync() {
+                    Ok(both) => {
+                        let (pair, next) = both;
+                        let gone = seen(&pair.0, &pair.1);
+                        Answer::Gone(gone, Some(seen(next.key(), next.get())))
+                    }
+                    Err(pair) => Answer::Gone(seen(&pair.0, &pair.1), None),
+                },
+                None => Answer::Found(None),
+            },
         }
-        Act::Set => Answer::Old(Some(entry.insert(value).number())),
-        Act::Remove => Answer::Old(Some(entry.remove().number())),
-        Act::RemoveEntry => Answer::Found(seen_pair(Some(entry.remove_entry()))),
-        Act::Next => Answer::Found(shown(entry.next_sync())),
-        Act::RemoveNext => match entry.remove_and_sync() {
-            Ok((pair, next)) => {
-                Answer::Gone(seen(&pair.0, &pair.1), Some(seen(next.key(), next.get())))
-            }
-            Err(pair) => Answer::Gone(seen(&pair.0, &pair.1), None),
-        },
-    }
+    };
 }
 
 impl<
@@ -119,9 +88,25 @@ impl<
                 Ok(old) => Answer::Old(old.map(|value| value.number())),
                 Err(error) => refused(error),
             },
-            Way::Replace => replace_or_fill(self, key, value),
-            Way::Vacant => fill(self, key, value),
-            _ => enter(self, way, key, value),
+            Way::Replace => match self.replace_sync(key) {
+                ReplaceResult::Replaced(entry, old) => Answer::Swapped(
+                    Some(old.mark()),
+                    Some(seen(entry.key(), entry.get())),
+                ),
+                ReplaceResult::NotReplaced(entry) => entered!(entry.insert_entry(value)),
+            },
+            Way::Vacant => match self.entry_sync(key) {
+                Entry::Vacant(entry) => entered!(entry.insert_entry(value)),
+                Entry::Occupied(entry) => Answer::Found(Some(seen(entry.key(), entry.get()))),
+            },
+            Way::OrInsert => entered!(self.entry_sync(key).or_insert(value)),
+            Way::OrInsertWith => entered!(self.entry_sync(key).or_insert_with(|| value)),
+            Way::OrInsertWithKey => entered!(
+                self.entry_sync(key)
+                    .or_insert_with_key(|key| value_of(key, value))
+            ),
+            Way::OrDefault => entered!(self.entry_sync(key).or_default()),
+            Way::InsertEntry => entered!(self.entry_sync(key).insert_entry(value)),
         }
     }
 
@@ -157,14 +142,14 @@ impl<
 
     fn act(&mut self, at: At, act: Act, key: &K, value: V) -> Answer {
         let number = key.number();
-        let entry = match at {
-            At::Key => self.get_sync(key),
-            At::Any => self.any_sync(|other, _| other.number() == number),
-            At::First => self.begin_sync(),
-        };
-        match entry {
-            Some(entry) => act_on(entry, act, value),
-            None => Answer::Found(None),
+        match at {
+            At::Key => act_on!(self.get_sync(key), act, value),
+            At::Any => act_on!(
+                self.any_sync(|other, _| other.number() == number),
+                act,
+                value
+            ),
+            At::First => act_on!(self.begin_sync(), act, value),
         }
     }
 
@@ -227,19 +212,20 @@ impl<
     }
 
     fn drain(&mut self, most: usize, met: &mut Vec<Seen>) -> Answer {
-        let mut place = self.begin_sync();
         for _ in 0..most {
-            let Some(entry) = place else {
-                break;
+            let gone = match self.begin_sync() {
+                Some(entry) => match entry.remove_and_sync() {
+                    Ok(both) => {
+                        let (pair, _next) = both;
+                        seen(&pair.0, &pair.1)
+                    }
+                    Err(pair) => seen(&pair.0, &pair.1),
+                },
+                None => break,
             };
-            let (pair, next) = match entry.remove_and_sync() {
-                Ok((pair, next)) => (pair, Some(next)),
-                Err(pair) => (pair, None),
-            };
-            if met.push(seen(&pair.0, &pair.1)).is_err() {
+            if met.push(gone).is_err() {
                 return Answer::Refused(None);
             }
-            place = next;
         }
         Answer::Yes(true)
     }

@@ -4,35 +4,42 @@ use crate::answers::{Answer, Kind, Rule, key_verdict, refused_key};
 use crate::form::{Act, At, Form, Sizes, Way};
 use crate::numbered::{Numbered, Seen, keeps, note_keys, seen_key};
 use scc_set::Owned;
-use scc_set::owned::OccupiedEntry;
 use std::alloc::Global;
 use std::hash::{BuildHasher, Hash};
 
-// The key of an entry, if there is one.
-fn shown<K: Eq + Hash + Drop + Numbered, H: BuildHasher>(
-    entry: Option<OccupiedEntry<'_, K, H>>,
-) -> Option<Seen> {
-    match entry {
-        Some(entry) => Some(seen_key(entry.get())),
-        None => None,
-    }
-}
-
-// Does that with an entry.
-fn act_on<K: Eq + Hash + Drop + Numbered, H: BuildHasher>(
-    entry: OccupiedEntry<'_, K, H>,
-    act: Act,
-) -> Answer {
-    match act {
-        Act::Look => Answer::Found(Some(seen_key(entry.get()))),
-        Act::RemoveEntry => Answer::Found(Some(seen_key(&entry.remove_entry()))),
-        Act::Next => Answer::Found(shown(entry.next_sync())),
-        Act::RemoveNext => match entry.remove_and_sync() {
-            Ok((removed, next)) => Answer::Gone(seen_key(&removed.key), Some(seen_key(next.get()))),
-            Err(key) => Answer::Gone(seen_key(&key), None),
-        },
-        _ => Answer::Absent,
-    }
+// Does that with the entry that is found. It is a macro, since the check doesn't follow an entry into a function.
+macro_rules! act_on {
+    ($found:expr, $act:expr) => {
+        match $act {
+            Act::Look => match $found {
+                Some(entry) => Answer::Found(Some(seen_key(entry.get()))),
+                None => Answer::Found(None),
+            },
+            Act::RemoveEntry => match $found {
+                Some(entry) => Answer::Found(Some(seen_key(&entry.remove_entry()))),
+                None => Answer::Found(None),
+            },
+            Act::Next => match $found {
+                Some(entry) => match entry.next_sync() {
+                    Some(next) => Answer::Found(Some(seen_key(next.get()))),
+                    None => Answer::Found(None),
+                },
+                None => Answer::Found(None),
+            },
+            Act::RemoveNext => match $found {
+                Some(entry) => match entry.remove_and_sync() {
+                    Ok(both) => {
+                        let (removed, next) = both;
+                        let gone = seen_key(&removed.key);
+                        Answer::Gone(gone, Some(seen_key(next.get())))
+                    }
+                    Err(key) => Answer::Gone(seen_key(&key), None),
+                },
+                None => Answer::Found(None),
+            },
+            _ => Answer::Absent,
+        }
+    };
 }
 
 impl<
@@ -67,14 +74,10 @@ impl<
 
     fn act(&mut self, at: At, act: Act, key: &K, _value: V) -> Answer {
         let number = key.number();
-        let entry = match at {
-            At::Key => return Answer::Absent,
-            At::Any => self.any_sync(|other| other.number() == number),
-            At::First => self.begin_sync(),
-        };
-        match entry {
-            Some(entry) => act_on(entry, act),
-            None => Answer::Found(None),
+        match at {
+            At::Key => Answer::Absent,
+            At::Any => act_on!(self.any_sync(|other| other.number() == number), act),
+            At::First => act_on!(self.begin_sync(), act),
         }
     }
 
@@ -138,19 +141,20 @@ impl<
     }
 
     fn drain(&mut self, most: usize, met: &mut Vec<Seen>) -> Answer {
-        let mut place = self.begin_sync();
         for _ in 0..most {
-            let Some(entry) = place else {
-                break;
+            let gone = match self.begin_sync() {
+                Some(entry) => match entry.remove_and_sync() {
+                    Ok(both) => {
+                        let (removed, _next) = both;
+                        seen_key(&removed.key)
+                    }
+                    Err(key) => seen_key(&key),
+                },
+                None => break,
             };
-            let (key, next) = match entry.remove_and_sync() {
-                Ok((removed, next)) => (removed.key, Some(next)),
-                Err(key) => (key, None),
-            };
-            if met.push(seen_key(&key)).is_err() {
+            if met.push(gone).is_err() {
                 return Answer::Refused(None);
             }
-            place = next;
         }
         Answer::Yes(true)
     }
