@@ -14,8 +14,6 @@ mod memo;
 #[cfg(test)]
 mod recorded;
 #[cfg(test)]
-mod refusals;
-#[cfg(test)]
 mod reserving;
 #[cfg(test)]
 mod scripts;

@@ -1,10 +1,9 @@
 // The map for one owner. Under `Zero` all keys share a bucket; under `Same` the highest bits of a key name its bucket.
 use crate::expect::{expect, expect_eq};
-use crate::refusals::existing;
 use crate::reserving::{foreign_and_own_tokens, grows_and_gives_back, sizes_without_array};
-use scc::Verdict;
 use scc::hash_map::Owned;
-use scc::hash_map::owned::{Entry, ReplaceResult};
+use scc::hash_map::owned::ReplaceResult;
+use scc::{InsertError, Verdict};
 use std::hash::BuildHasher;
 use std::process::Abort;
 use std::test::Fail;
@@ -71,11 +70,19 @@ fn insert_three(map: &mut Owned<u64, u64>, pairs: [(u64, u64); 3]) -> bool {
     true
 }
 
+// Inserts a pair of a key that is there: the pair that comes back.
+fn insert_again(map: &mut Owned<u64, u64>, key: u64, value: u64) -> Option<(u64, u64)> {
+    match map.insert_sync(key, value) {
+        Err(InsertError::Exists(pair)) => Some(pair),
+        _ => None,
+    }
+}
+
 #[test]
 fn map_insert_upsert_update_read_remove(rt: HostRuntime) {
     let mut map: Owned<u64, u64> = Owned::new(rt.alloc());
     expect(&rt, map.insert_sync(1, 0).is_ok());
-    expect_eq(&rt, existing(map.insert_sync(1, 1)), Some((1, 1)));
+    expect_eq(&rt, insert_again(&mut map, 1, 1), Some((1, 1)));
     expect_eq(&rt, map.upsert_sync(1, 1).ok(), Some(Some(0)));
     let updated = map.update_sync(&1, |_, value| {
         *value = 3;

@@ -262,8 +262,9 @@ fn take(
 // Takes out the pairs that were met, at most so many.
 fn drain(list: &mut List, asked: &Asked, met: &[Seen]) -> bool {
     let most = (asked.number % 8) as usize;
-    let is_right = list.has_all(met) && met.len() == most.min(list.len());
+    let mut is_right = met.len() == most.min(list.len());
     for pair in met {
+        is_right = is_right && list.has(*pair);
         list.remove(pair.0);
     }
     is_right
@@ -281,7 +282,7 @@ fn walk(
     Ok(match asked.what {
         What::Pass => answer == Answer::Yes(list.find(asked.number).is_none()),
         What::Collect => yes && list.is_met_by(alloc, met)?,
-        What::Step | What::Snapshot => yes && list.has_all(met) && met.len() == list.len(),
+        What::Step | What::Snapshot => yes && list.is_just(met),
         What::Take => yes && take(alloc, list, asked, Some(met))?,
         What::Retain => yes && take(alloc, list, asked, None)?,
         What::Drain => yes && drain(list, asked, met),

@@ -244,16 +244,15 @@ impl List {
             }
             return Ok(is_same);
         }
-        Ok(self.has_all(met) && self.pairs.len() == met.len())
+        Ok(self.is_just(met))
     }
 
-    /// Whether it has each of these pairs, and none of them stands there twice.
-    pub fn has_all(&self, met: &[Seen]) -> bool {
-        met.iter().all(|pair| self.has(*pair)) && has_each_once(met)
+    /// Whether these are its pairs, in any order.
+    pub fn is_just(&self, met: &[Seen]) -> bool {
+        self.pairs.len() == met.len()
+            && self
+                .pairs
+                .iter()
+                .all(|pair| met.iter().any(|other| *other == pair.1))
     }
-}
-
-/// Whether no pair stands twice in a list.
-pub fn has_each_once(pairs: &[Seen]) -> bool {
-    pairs.iter().all(|pair| pairs.iter().filter(|other| *other == pair).count() == 1)
 }

@@ -40,7 +40,7 @@ impl Job for Crowd {
             expect_added::<M, F, R>(rt, refusal, &mut looks, form, Way::Insert, key);
         }
         expect_eq(rt, form.sizes().capacity, 256);
-        expect(rt, form.waiting() <= 6);
+        expect(rt, form.waiting().unwrap_or(0) <= 6);
     }
 }
 

@@ -159,15 +159,20 @@ fn expect_growth<M: Maker, F: Form<u64, u64>, R: Abort + Print>(
     expect_eq(rt, form.sizes().capacity, 128);
 }
 
-// Tries each way that the kind has.
+// The ways that are tried where the keys before take much memory.
+const SOME: [Way; 4] = [Way::Insert, Way::Replace, Way::OrInsert, Way::Vacant];
+
+// Tries each of the ways that the kind has.
 fn expect_insertions<M: Maker, R: AllocGlobal + Abort + Print + Wait>(
     rt: &R,
     state: State,
     slots: usize,
+    ways: &[Way],
 ) {
     let mut refusal = Refusal::new();
     let mut tried = 0usize;
-    for way in WAYS {
+    for way in ways {
+        let way = *way;
         if way.is_of(M::KIND) {
             M::with(rt, &mut refusal, slots, &Insertion { way, state });
             tried = tried.saturating_add(1);
@@ -178,110 +183,110 @@ fn expect_insertions<M: Maker, R: AllocGlobal + Abort + Print + Wait>(
 
 #[test]
 fn map_insertions_refused_their_first_array(rt: HostRuntime) {
-    expect_insertions::<OwnedMap, HostRuntime>(&rt, State::Bare, 0);
+    expect_insertions::<OwnedMap, HostRuntime>(&rt, State::Bare, 0, &WAYS);
 }
 
 #[test]
 fn map_insertions_refused_their_full_bucket(rt: HostRuntime) {
-    expect_insertions::<OwnedMap, HostRuntime>(&rt, State::Full, 64);
+    expect_insertions::<OwnedMap, HostRuntime>(&rt, State::Full, 64, &WAYS);
 }
 
 #[test]
 fn map_insertions_refused_their_overflow_list(rt: HostRuntime) {
-    expect_insertions::<OwnedMap, HostRuntime>(&rt, State::Wide, OwnedMap::WIDE);
+    expect_insertions::<OwnedMap, HostRuntime>(&rt, State::Wide, OwnedMap::WIDE, &WAYS);
 }
 
 #[test]
 fn set_insertions_refused_their_first_array(rt: HostRuntime) {
-    expect_insertions::<OwnedSet, HostRuntime>(&rt, State::Bare, 0);
+    expect_insertions::<OwnedSet, HostRuntime>(&rt, State::Bare, 0, &WAYS);
 }
 
 #[test]
 fn set_insertions_refused_their_full_bucket(rt: HostRuntime) {
-    expect_insertions::<OwnedSet, HostRuntime>(&rt, State::Full, 64);
+    expect_insertions::<OwnedSet, HostRuntime>(&rt, State::Full, 64, &WAYS);
 }
 
 #[test]
 fn set_insertions_refused_their_overflow_list(rt: HostRuntime) {
-    expect_insertions::<OwnedSet, HostRuntime>(&rt, State::Wide, OwnedSet::WIDE);
+    expect_insertions::<OwnedSet, HostRuntime>(&rt, State::Wide, OwnedSet::WIDE, &WAYS);
 }
 
 #[test]
 fn index_insertions_refused_their_first_array(rt: HostRuntime) {
-    expect_insertions::<OwnedIndex, HostRuntime>(&rt, State::Bare, 0);
+    expect_insertions::<OwnedIndex, HostRuntime>(&rt, State::Bare, 0, &WAYS);
 }
 
 #[test]
 fn index_insertions_refused_their_full_bucket(rt: HostRuntime) {
-    expect_insertions::<OwnedIndex, HostRuntime>(&rt, State::Full, 64);
+    expect_insertions::<OwnedIndex, HostRuntime>(&rt, State::Full, 64, &SOME);
 }
 
 #[test]
 fn index_insertions_refused_their_overflow_list(rt: HostRuntime) {
-    expect_insertions::<OwnedIndex, HostRuntime>(&rt, State::Wide, OwnedIndex::WIDE);
+    expect_insertions::<OwnedIndex, HostRuntime>(&rt, State::Wide, OwnedIndex::WIDE, &SOME);
 }
 
 #[test]
 fn cache_puts_refused_their_first_array(rt: HostRuntime) {
-    expect_insertions::<OwnedCache, HostRuntime>(&rt, State::Bare, 0);
+    expect_insertions::<OwnedCache, HostRuntime>(&rt, State::Bare, 0, &WAYS);
 }
 
 #[test]
 fn cache_puts_refused_their_full_bucket(rt: HostRuntime) {
-    expect_insertions::<OwnedCache, HostRuntime>(&rt, State::Full, 64);
+    expect_insertions::<OwnedCache, HostRuntime>(&rt, State::Full, 64, &WAYS);
 }
 
 #[test]
 fn shared_map_insertions_refused_their_first_array(rt: HostRuntime) {
-    expect_insertions::<SharedMap, HostRuntime>(&rt, State::Bare, 0);
+    expect_insertions::<SharedMap, HostRuntime>(&rt, State::Bare, 0, &WAYS);
 }
 
 #[test]
 fn shared_map_insertions_refused_their_full_bucket(rt: HostRuntime) {
-    expect_insertions::<SharedMap, HostRuntime>(&rt, State::Full, 64);
+    expect_insertions::<SharedMap, HostRuntime>(&rt, State::Full, 64, &WAYS);
 }
 
 #[test]
 fn shared_map_insertions_refused_their_overflow_list(rt: HostRuntime) {
-    expect_insertions::<SharedMap, HostRuntime>(&rt, State::Wide, SharedMap::WIDE);
+    expect_insertions::<SharedMap, HostRuntime>(&rt, State::Wide, SharedMap::WIDE, &SOME);
 }
 
 #[test]
 fn shared_set_insertions_refused_their_first_array(rt: HostRuntime) {
-    expect_insertions::<SharedSet, HostRuntime>(&rt, State::Bare, 0);
+    expect_insertions::<SharedSet, HostRuntime>(&rt, State::Bare, 0, &WAYS);
 }
 
 #[test]
 fn shared_set_insertions_refused_their_full_bucket(rt: HostRuntime) {
-    expect_insertions::<SharedSet, HostRuntime>(&rt, State::Full, 64);
+    expect_insertions::<SharedSet, HostRuntime>(&rt, State::Full, 64, &WAYS);
 }
 
 #[test]
 fn shared_set_insertions_refused_their_overflow_list(rt: HostRuntime) {
-    expect_insertions::<SharedSet, HostRuntime>(&rt, State::Wide, SharedSet::WIDE);
+    expect_insertions::<SharedSet, HostRuntime>(&rt, State::Wide, SharedSet::WIDE, &SOME);
 }
 
 #[test]
 fn shared_index_insertions_refused_their_first_array(rt: HostRuntime) {
-    expect_insertions::<SharedIndex, HostRuntime>(&rt, State::Bare, 0);
+    expect_insertions::<SharedIndex, HostRuntime>(&rt, State::Bare, 0, &WAYS);
 }
 
 #[test]
 fn shared_index_insertions_refused_their_full_bucket(rt: HostRuntime) {
-    expect_insertions::<SharedIndex, HostRuntime>(&rt, State::Full, 64);
+    expect_insertions::<SharedIndex, HostRuntime>(&rt, State::Full, 64, &SOME);
 }
 
 #[test]
 fn shared_index_insertions_refused_their_overflow_list(rt: HostRuntime) {
-    expect_insertions::<SharedIndex, HostRuntime>(&rt, State::Wide, SharedIndex::WIDE);
+    expect_insertions::<SharedIndex, HostRuntime>(&rt, State::Wide, SharedIndex::WIDE, &SOME);
 }
 
 #[test]
 fn shared_cache_puts_refused_their_first_array(rt: HostRuntime) {
-    expect_insertions::<SharedCache, HostRuntime>(&rt, State::Bare, 0);
+    expect_insertions::<SharedCache, HostRuntime>(&rt, State::Bare, 0, &WAYS);
 }
 
 #[test]
 fn shared_cache_puts_refused_their_full_bucket(rt: HostRuntime) {
-    expect_insertions::<SharedCache, HostRuntime>(&rt, State::Full, 64);
+    expect_insertions::<SharedCache, HostRuntime>(&rt, State::Full, 64, &WAYS);
 }

@@ -4,6 +4,8 @@
 #![tactic(auto)]
 
 #[cfg(test)]
+mod clones;
+#[cfg(test)]
 mod copies;
 #[cfg(test)]
 mod crowds;

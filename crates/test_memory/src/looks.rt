@@ -77,7 +77,7 @@ pub(crate) fn fill_to_growth<F: Form<u64, u64>, R: Abort>(rt: &R, form: &mut F) 
 pub(crate) struct Look {
     pub(crate) pairs: Vec<Seen>,
     sizes: Option<Sizes>,
-    waiting: usize,
+    waiting: Option<usize>,
 }
 
 impl Look {
@@ -92,7 +92,7 @@ impl Look {
         Look {
             pairs: made.expect(rt, "a list is refused each time"),
             sizes: None,
-            waiting: 0,
+            waiting: None,
         }
     }
 
@@ -114,7 +114,7 @@ impl Look {
             }
             (old, new) => {
                 expect_eq(rt, new, old);
-                expect(rt, after.waiting <= self.waiting);
+                expect(rt, after.waiting.unwrap_or(0) <= self.waiting.unwrap_or(0));
             }
         }
     }

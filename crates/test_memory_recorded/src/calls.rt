@@ -193,6 +193,26 @@ fn call_all<C: Tried, L: Ledger, M: Site<C::Hasher>, R: Abort + Print + Wait>(
     expect_call(rt, refusal, recorded, pass, 0);
 }
 
+fn try_map<R: AllocGlobal + Abort + Print + Wait>(rt: &R, refusal: &mut Refusal) -> bool {
+    let hasher = shared(rt, refusal);
+    call_and_finish::<Map, Brand, Brand, R>(rt, refusal, hasher, Blank::new(1), Blank::new(2))
+}
+
+fn try_set<R: AllocGlobal + Abort + Print + Wait>(rt: &R, refusal: &mut Refusal) -> bool {
+    let hasher = shared(rt, refusal);
+    call_and_finish::<Set, Brand, Brand, R>(rt, refusal, hasher, Blank::new(1), Blank::new(2))
+}
+
+fn try_index<R: AllocGlobal + Abort + Print + Wait>(rt: &R, refusal: &mut Refusal) -> bool {
+    let hasher = shared(rt, refusal);
+    call_and_finish::<Index, Brand, Brand, R>(rt, refusal, hasher, Blank::new(1), Blank::new(2))
+}
+
+fn try_cache<R: AllocGlobal + Abort + Print + Wait>(rt: &R, refusal: &mut Refusal) -> bool {
+    let hasher = shared(rt, refusal);
+    call_and_finish::<Cache, Brand, Brand, R>(rt, refusal, hasher, Blank::new(1), Blank::new(2))
+}
+
 // A kind that is tried on a hasher with several owners.
 trait Recording: Tried {
     // Whether it was opened.
@@ -201,29 +221,25 @@ trait Recording: Tried {
 
 impl Recording for Map {
     fn attempt<R: AllocGlobal + Abort + Print + Wait>(rt: &R, refusal: &mut Refusal) -> bool {
-        let hasher = shared(rt, refusal);
-        call_and_finish::<Map, Brand, Brand, R>(rt, refusal, hasher, Blank::new(1), Blank::new(2))
+        try_map(rt, refusal)
     }
 }
 
 impl Recording for Set {
     fn attempt<R: AllocGlobal + Abort + Print + Wait>(rt: &R, refusal: &mut Refusal) -> bool {
-        let hasher = shared(rt, refusal);
-        call_and_finish::<Set, Brand, Brand, R>(rt, refusal, hasher, Blank::new(1), Blank::new(2))
+        try_set(rt, refusal)
     }
 }
 
 impl Recording for Index {
     fn attempt<R: AllocGlobal + Abort + Print + Wait>(rt: &R, refusal: &mut Refusal) -> bool {
-        let hasher = shared(rt, refusal);
-        call_and_finish::<Index, Brand, Brand, R>(rt, refusal, hasher, Blank::new(1), Blank::new(2))
+        try_index(rt, refusal)
     }
 }
 
 impl Recording for Cache {
     fn attempt<R: AllocGlobal + Abort + Print + Wait>(rt: &R, refusal: &mut Refusal) -> bool {
-        let hasher = shared(rt, refusal);
-        call_and_finish::<Cache, Brand, Brand, R>(rt, refusal, hasher, Blank::new(1), Blank::new(2))
+        try_cache(rt, refusal)
     }
 }
 

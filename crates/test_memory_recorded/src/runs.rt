@@ -107,7 +107,11 @@ fn expect_each<C: Tried, R: AllocGlobal + Abort + Print>(
                 }
             }
         }
-        expect_eq(rt, container.count(), count_after(number as usize + 1));
+        expect_eq(
+            rt,
+            container.count(),
+            count_after((number as usize).saturating_add(1)),
+        );
     }
 }
 
