@@ -58,15 +58,15 @@ fn fill<R: Abort + Print>(rt: &R, refusal: &mut Refusal, map: &mut Map) {
     expect(rt, holds_below(map, 32));
 }
 
-// Inserts key 32 once. A refused insertion hands its pair back and leaves the others as they are.
-fn insert_next<R: Abort + Print>(rt: &R, map: &mut Map) -> bool {
-    let answer = insert(map, 32);
+// Inserts the key after those below it once. A refused insertion hands its pair back and leaves the others as they are.
+fn insert_next<R: Abort + Print>(rt: &R, map: &mut Map, key: u64) -> bool {
+    let answer = insert(map, key);
     if answer == Answer::Inserted {
-        expect(rt, holds_below(map, 33));
+        expect(rt, holds_below(map, key.saturating_add(1)));
         return true;
     }
-    expect_eq(rt, answer, Answer::Refused(32, !32));
-    expect(rt, holds_below(map, 32));
+    expect_eq(rt, answer, Answer::Refused(key, !key));
+    expect(rt, holds_below(map, key));
     false
 }
 
@@ -76,15 +76,18 @@ fn map_refused_array_uses_overflow(rt: HostRuntime) {
     let mut refusal = Refusal::new();
     let mut map = Owned::with_hasher(rt.alloc(), Zero);
     fill(&rt, &mut refusal, &mut map);
-    let is_in = insert_next(&rt, &mut map);
-    if is_in && map.capacity() == 64 {
-        refusal.meet(&rt, "a new array alone");
-        expect_eq(&rt, insert(&mut map, 33), Answer::Inserted);
-        expect(&rt, holds_below(&map, 34));
+    let mut key = 32u64;
+    for _ in 0..TRIES {
+        if insert_next(&rt, &mut map, key) {
+            if map.capacity() == 128 {
+                return;
+            }
+            expect_eq(&rt, map.capacity(), 64);
+            refusal.meet(&rt, "a new array alone");
+            key = key.saturating_add(1);
+        }
     }
-    if is_in {
-        expect_eq(&rt, map.capacity(), 128);
-    }
+    expect(&rt, false);
 }
 
 // Where the overflow list is refused as well, the pair comes back. The call is made again until it succeeds.
@@ -94,7 +97,7 @@ fn map_refused_array_and_overflow(rt: HostRuntime) {
     let mut map = Owned::with_hasher(rt.alloc(), Zero);
     fill(&rt, &mut refusal, &mut map);
     for _ in 0..TRIES {
-        if insert_next(&rt, &mut map) {
+        if insert_next(&rt, &mut map, 32) {
             return;
         }
         if map.capacity() == 64 {

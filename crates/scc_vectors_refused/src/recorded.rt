@@ -19,26 +19,32 @@ use test_kit::zero::Zero;
 
 type Map = Owned<u64, u64, Shared<Zero>>;
 
-// Inserts (1, 10) until it goes in, under stamp 1. A refused call leaves the clock at 0 and no receipt.
+// Inserts (1, 10) until it goes in, under stamp 1. A refused call leaves the clock at 0 and no receipt. Whether one found
+// no room.
 fn insert<L: Ledger, M: Site<Shared<Zero>>, R: Abort + Print + Wait>(
     rt: &R,
     refusal: &mut Refusal,
     recorded: &Recorded<Map, L, M>,
     pass: &mut Pass<Map, L>,
-) {
+) -> bool {
+    let mut lacks_room = false;
     for _ in 0..TRIES {
         expect_eq(rt, (pass.clock(), pass.receipts().len()), (0, 0));
         match recorded.call(rt, pass, MapCall::Insert(1, 10)) {
             Ok(reply) => {
                 expect_eq(rt, reply, Reply::Inserted);
                 expect_eq(rt, (pass.clock(), pass.receipts().len()), (1, 1));
-                return;
+                return lacks_room;
             }
-            Err(CallError::Room) => refusal.meet(rt, "room for a record"),
+            Err(CallError::Room) => {
+                refusal.meet(rt, "room for a record");
+                lacks_room = true;
+            }
             Err(CallError::Container) => refusal.meet(rt, "the first array of a recorded map"),
         }
     }
     expect(rt, false);
+    lacks_room
 }
 
 // The run is the first array and the insertion, both under stamp 1, and the pair is there.
@@ -76,12 +82,17 @@ fn insert_and_finish<L: Ledger, M: Site<Shared<Zero>>, R: Abort + Print + Wait>(
     passes: Vec<Pass<Map, L>>,
 ) {
     let mut passes = passes;
+    let mut lacks_room = false;
     for pass in passes.as_mut_slice() {
-        insert(rt, refusal, &recorded, pass);
+        lacks_room = insert(rt, refusal, &recorded, pass);
     }
-    match finished(rt, refusal, recorded.close(), passes) {
+    let mut finish = Refusal::new();
+    match finished(rt, &mut finish, recorded.close(), passes) {
         Some(run) => expect_run(rt, &run),
         None => expect(rt, false),
+    }
+    if lacks_room && finish.is_met() {
+        refusal.meet(rt, "room for a record and then the finish");
     }
 }
 

@@ -2,9 +2,8 @@
 // the container grows, is cleared and grows again.
 ghost use Rattle.scc_calls.specs.Copies.{ClonesEqual};
 
-use scc_calls::{WholeCalls, run};
+use scc_calls::WholeCalls;
 use std::alloc::{AllocError, Global};
-use std::slice::from_ref;
 
 /// The slots that a cache has at most. Its buckets have 32, of which the keys lie in two.
 pub const MAXIMUM: usize = 128;
@@ -167,23 +166,17 @@ fn place_of<C: Streamed>(container: &C, call: &C::Call) -> usize {
 }
 
 // Makes one call, and notes what came.
-fn step<C: Streamed>(
-    alloc: Global,
-    container: &mut C,
-    call: &C::Call,
-    came: &mut Came,
-) -> Result<(), AllocError> {
+fn step<C: Streamed>(container: &mut C, call: &C::Call, came: &mut Came) -> Result<(), AllocError> {
     if let Some(times) = came.times.get_mut(place_of(container, call)) {
         *times = times.saturating_add(1);
     }
     let before = container.buckets();
-    let mut replies = Vec::new(alloc);
-    C::equal_calls();
+    let copy = call.clone()?;
     C::equal_replies();
-    if run(container, from_ref(call), &mut replies).is_err() {
+    let Ok(reply) = container.call(copy) else {
         return Err(AllocError);
-    }
-    if replies.iter().any(|reply| C::is_eviction(reply)) {
+    };
+    if C::is_eviction(&reply) {
         came.evictions = came.evictions.saturating_add(1);
     }
     if container.buckets() != before {
@@ -208,7 +201,7 @@ where
         evictions: 0,
     };
     for call in calls {
-        step(alloc, &mut container, call, &mut came)?;
+        step(&mut container, call, &mut came)?;
     }
     Ok(came)
 }
