@@ -4,6 +4,7 @@
  *                       name of a test and no option: so neither the runner nor what else it starts is refused
  *   REFUSE_FROM=N       the Nth request of the process is refused, counted from 1,
  *   REFUSE_TO=M         and all that follow it up to the Mth; without this word the Nth alone
+ *   REFUSE_AGAIN=D      each of these is refused once more, D requests later
  *   REFUSE_TOLD=FILE    each refusal appends the test's name to that file, which is there, on a line of its own
  *
  * A request is a call of malloc, calloc, realloc, aligned_alloc, memalign or posix_memalign, one by which a block
@@ -33,7 +34,7 @@ extern void *__libc_realloc(void *block, size bytes);
 extern void *__libc_memalign(size alignment, size bytes);
 
 static _Atomic long requests;
-static long first, last;
+static long first, last, again;
 static const char *told;
 static char line[LONGEST];
 
@@ -50,7 +51,7 @@ static int runs_a_test(int count, char **words) {
 
 /* Comes before main, with the words of the command line. */
 __attribute__((constructor)) static void begin(int count, char **words) {
-    const char *from = getenv("REFUSE_FROM"), *to = getenv("REFUSE_TO");
+    const char *from = getenv("REFUSE_FROM"), *to = getenv("REFUSE_TO"), *later = getenv("REFUSE_AGAIN");
     size length;
     if (!from || !runs_a_test(count, words) || (length = strlen(words[1])) >= sizeof line)
         return;
@@ -59,6 +60,7 @@ __attribute__((constructor)) static void begin(int count, char **words) {
     line[length] = '\n';
     first = strtol(from, 0, 10);
     last = to ? strtol(to, 0, 10) : first;
+    again = later ? strtol(later, 0, 10) : 0;
     requests = 0;
 }
 
@@ -74,7 +76,7 @@ static void tell(void) {
 /* Counts a request, and answers whether it is refused. */
 static int is_refused(void) {
     long number = ++requests;
-    if (number < first || number > last)
+    if ((number < first || number > last) && (number < first + again || number > last + again))
         return 0;
     tell();
     *__errno_location() = NO_MEMORY;
