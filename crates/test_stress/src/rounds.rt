@@ -44,23 +44,131 @@ fn is_settled<'a, C: Called<'a>, R: Wait>(rt: &R, container: &C, told: &[Tally])
     left.is_even()
 }
 
-// Whether a round of one container adds up.
-fn settles<'a, C: Called<'a> + Sync + Drop, R: Wait + Threads + Sync>(
+// The container, if memory for it was there.
+fn made<C: Drop>(container: Option<C>) -> io::Result<C> {
+    match container {
+        Some(container) => Ok(container),
+        None => Err(io::Error::from(io::ErrorKind::OutOfMemory)),
+    }
+}
+
+// What a thread is handed may not rest on a bound with a lifetime, so the threads of each kind are started by a function
+// of its own.
+
+// What each thread was told of a map.
+fn told_of_map<'a, R: Wait + Threads + Sync>(
     rt: &R,
     alloc: Global,
+    map: &Map<'a>,
     counts: &'a Counts,
     request: Request,
-) -> io::Result<bool> {
-    let Some(container) = C::make(alloc) else {
-        return Err(io::Error::from(io::ErrorKind::OutOfMemory));
-    };
-    let told = map_indices(
+) -> io::Result<Vec<Tally>> {
+    let calls = request.calls;
+    Ok(map_indices(
         rt,
         alloc,
         request.threads as usize,
-        &|thread| work(rt, &container, counts, thread, request.calls),
-    )?;
-    Ok(is_settled(rt, &container, told.as_slice()))
+        &|thread| work(rt, map, counts, thread, calls),
+    )?)
+}
+
+// Whether a round of a map adds up.
+fn map_adds_up<R: Wait + Threads + Sync>(
+    rt: &R,
+    alloc: Global,
+    counts: &Counts,
+    request: Request,
+) -> io::Result<bool> {
+    let map: Map<'_> = made(Called::make(alloc))?;
+    let told = told_of_map(rt, alloc, &map, counts, request)?;
+    Ok(is_settled(rt, &map, told.as_slice()))
+}
+
+// What each thread was told of a set.
+fn told_of_set<'a, R: Wait + Threads + Sync>(
+    rt: &R,
+    alloc: Global,
+    set: &Set,
+    counts: &'a Counts,
+    request: Request,
+) -> io::Result<Vec<Tally>> {
+    let calls = request.calls;
+    Ok(map_indices(
+        rt,
+        alloc,
+        request.threads as usize,
+        &|thread| work(rt, set, counts, thread, calls),
+    )?)
+}
+
+// Whether a round of a set adds up.
+fn set_adds_up<R: Wait + Threads + Sync>(
+    rt: &R,
+    alloc: Global,
+    counts: &Counts,
+    request: Request,
+) -> io::Result<bool> {
+    let set: Set = made(Called::make(alloc))?;
+    let told = told_of_set(rt, alloc, &set, counts, request)?;
+    Ok(is_settled(rt, &set, told.as_slice()))
+}
+
+// What each thread was told of an index.
+fn told_of_index<'a, R: Wait + Threads + Sync>(
+    rt: &R,
+    alloc: Global,
+    index: &Index<'a>,
+    counts: &'a Counts,
+    request: Request,
+) -> io::Result<Vec<Tally>> {
+    let calls = request.calls;
+    Ok(map_indices(
+        rt,
+        alloc,
+        request.threads as usize,
+        &|thread| work(rt, index, counts, thread, calls),
+    )?)
+}
+
+// Whether a round of an index adds up.
+fn index_adds_up<R: Wait + Threads + Sync>(
+    rt: &R,
+    alloc: Global,
+    counts: &Counts,
+    request: Request,
+) -> io::Result<bool> {
+    let index: Index<'_> = made(Called::make(alloc))?;
+    let told = told_of_index(rt, alloc, &index, counts, request)?;
+    Ok(is_settled(rt, &index, told.as_slice()))
+}
+
+// What each thread was told of a cache.
+fn told_of_cache<'a, R: Wait + Threads + Sync>(
+    rt: &R,
+    alloc: Global,
+    cache: &Cache<'a>,
+    counts: &'a Counts,
+    request: Request,
+) -> io::Result<Vec<Tally>> {
+    let calls = request.calls;
+    Ok(map_indices(
+        rt,
+        alloc,
+        request.threads as usize,
+        &|thread| work(rt, cache, counts, thread, calls),
+    )?)
+}
+
+// Whether a round of a cache adds up.
+fn cache_adds_up<R: Wait + Threads + Sync>(
+    rt: &R,
+    alloc: Global,
+    counts: &Counts,
+    request: Request,
+) -> io::Result<bool> {
+    let cache: Cache<'_> = made(Called::make(alloc))?;
+    let told = told_of_cache(rt, alloc, &cache, counts, request)?;
+    Ok(is_settled(rt, &cache, told.as_slice()))
 }
 
 // Prints the name of a container whose counts don't add up, and says whether they do.
@@ -78,13 +186,13 @@ fn all_add_up<R: Wait + Threads + Sync + Print>(
     request: Request,
 ) -> io::Result<bool> {
     let counts = Counts::new();
-    let map = settles::<Map<'_>, R>(rt, alloc, &counts, request)?;
+    let map = map_adds_up(rt, alloc, &counts, request)?;
     let map = tell(rt, "map", map && counts.are_equal())?;
-    let set = settles::<Set, R>(rt, alloc, &counts, request)?;
+    let set = set_adds_up(rt, alloc, &counts, request)?;
     let set = tell(rt, "set", set)?;
-    let index = settles::<Index<'_>, R>(rt, alloc, &counts, request)?;
+    let index = index_adds_up(rt, alloc, &counts, request)?;
     let index = tell(rt, "index", index && counts.are_equal())?;
-    let cache = settles::<Cache<'_>, R>(rt, alloc, &counts, request)?;
+    let cache = cache_adds_up(rt, alloc, &counts, request)?;
     let cache = tell(rt, "cache", cache && counts.are_equal())?;
     Ok(map && set && index && cache)
 }
