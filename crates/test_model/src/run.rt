@@ -23,7 +23,8 @@ pub struct Run<H> {
     pub calls: u64,
     /// The greatest number of a key, one less than a power of two.
     pub mask: u64,
-    /// Whether buckets of a container for one owner have to wait while an eighth of the calls are made.
+    /// Whether buckets of a container for one owner have to wait while an eighth of the calls are made: a run of the usual
+    /// length shows that they do.
     pub waits: bool,
 }
 
