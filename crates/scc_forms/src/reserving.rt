@@ -1,0 +1,73 @@
+//! Reservations of the containers for one owner, behind one trait.
+
+use scc::{Reservation, hash_index, hash_map, hash_set};
+use std::hash::{BuildHasher, Hash};
+
+/// A container for one owner that takes reservations.
+pub trait Reserving {
+    /// Raises the minimum by so many slots, and answers the token that gives them back.
+    fn reserve_slots(&mut self, additional: usize) -> Option<Reservation>;
+
+    /// Gives a token back.
+    fn release_slots(&mut self, token: Reservation) -> Result<(), Reservation>;
+
+    /// The minimum.
+    fn minimum(&self) -> usize;
+
+    /// How many buckets wait.
+    fn waiting(&self) -> usize;
+}
+
+impl<K: Eq + Hash, V, H: BuildHasher> Reserving for hash_map::Owned<K, V, H> {
+    fn reserve_slots(&mut self, additional: usize) -> Option<Reservation> {
+        self.reserve(additional)
+    }
+
+    fn release_slots(&mut self, token: Reservation) -> Result<(), Reservation> {
+        self.release(token)
+    }
+
+    fn minimum(&self) -> usize {
+        *self.capacity_range().start()
+    }
+
+    fn waiting(&self) -> usize {
+        self.pending()
+    }
+}
+
+impl<K: Eq + Hash, H: BuildHasher> Reserving for hash_set::Owned<K, H> {
+    fn reserve_slots(&mut self, additional: usize) -> Option<Reservation> {
+        self.reserve(additional)
+    }
+
+    fn release_slots(&mut self, token: Reservation) -> Result<(), Reservation> {
+        self.release(token)
+    }
+
+    fn minimum(&self) -> usize {
+        *self.capacity_range().start()
+    }
+
+    fn waiting(&self) -> usize {
+        self.pending()
+    }
+}
+
+impl<K: Eq + Hash, V, H: BuildHasher> Reserving for hash_index::Owned<K, V, H> {
+    fn reserve_slots(&mut self, additional: usize) -> Option<Reservation> {
+        self.reserve(additional)
+    }
+
+    fn release_slots(&mut self, token: Reservation) -> Result<(), Reservation> {
+        self.release(token)
+    }
+
+    fn minimum(&self) -> usize {
+        *self.capacity_range().start()
+    }
+
+    fn waiting(&self) -> usize {
+        self.pending()
+    }
+}
