@@ -9,6 +9,8 @@ mod expect;
 #[cfg(test)]
 mod fixtures;
 #[cfg(test)]
+mod index_growths;
+#[cfg(test)]
 mod indexes;
 #[cfg(test)]
 mod insertions;
