@@ -4,6 +4,5 @@ pub mod Collecting
 pub mod Entries
 pub mod EntrySteps
 pub mod Removing
-pub mod Snapshots
 pub mod Updates
 pub mod Visits
