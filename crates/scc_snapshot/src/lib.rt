@@ -1,5 +1,6 @@
 //! A snapshot of an index: the versions that it had, whatever becomes of it.
 #![tactic(auto)]
+
 ghost use Rattle.std.specs.Prelude.{◌≡◌, IfOk, map};
 ghost use Rattle.std.specs.Arc.{arc_value};
 ghost use Rattle.std.specs.Iterator.{YieldsFirstBy, item_count};
