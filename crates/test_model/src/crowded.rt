@@ -1,11 +1,11 @@
 //! Buckets with more pairs than slots, which wait for their pairs, take them over, and wait again.
 
 use std::alloc::Global;
-use test_kit::answers::{Answer, Kind};
-use test_kit::form::{Form, Way};
+use test_forms::answers::{Answer, Kind};
+use test_forms::form::{Form, Way};
+use test_forms::numbered::Seen;
+use test_forms::reserving::Reserving;
 use test_kit::lines::say;
-use test_kit::numbered::Seen;
-use test_kit::reserving::Reserving;
 use test_kit::zero::Zero;
 
 // Numbers of pairs that wait for one bucket of 32 slots.

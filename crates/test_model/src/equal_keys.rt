@@ -2,13 +2,13 @@
 
 use std::alloc::{AllocError, Global};
 use std::sync::Wait;
+use test_forms::answers::{Answer, Kind};
+use test_forms::form::{Act, At, Form, Way};
+use test_forms::numbered::Seen;
+use test_forms_shared::every::{Case, in_every_form};
 use test_kit::alike::Alike;
-use test_kit::answers::{Answer, Kind};
-use test_kit::form::{Act, At, Form, Way};
 use test_kit::maybe_equal::MaybeEqual;
-use test_kit::numbered::Seen;
 use test_kit::zero::Zero;
-use test_kit_shared::every::{Case, in_every_form};
 
 // As many keys as one bucket of a cache holds, and more than a bucket of the others has slots for.
 fn keys_of(kind: Kind) -> u64 {

@@ -5,13 +5,13 @@ use crate::token::{Book, Token};
 use std::alloc::{AllocError, Global};
 use std::rc::Rc;
 use std::sync::Wait;
-use test_kit::answers::{Kind, Rule};
-use test_kit::calls::{What, make};
-use test_kit::form::{Act, At, Form, Way};
+use test_forms::answers::{Kind, Rule};
+use test_forms::calls::{What, make};
+use test_forms::form::{Act, At, Form, Way};
+use test_forms_shared::every::{Case, in_every_form};
 use test_kit::lines::REFUSED;
 use test_kit::same::Same;
 use test_kit::zero::Zero;
-use test_kit_shared::every::{Case, in_every_form};
 
 // More tokens than a case makes in all kinds and forms.
 const ROOM: usize = 80_000;

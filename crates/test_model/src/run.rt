@@ -4,12 +4,12 @@ use crate::draws::{Call, Draws};
 use crate::tally::Tally;
 use std::alloc::{AllocError, Global};
 use std::hash::BuildHasher;
-use test_kit::agreeing::{Asked, agrees};
-use test_kit::calls::make;
-use test_kit::form::Form;
-use test_kit::list::List;
+use test_forms::agreeing::{Asked, agrees};
+use test_forms::calls::make;
+use test_forms::form::Form;
+use test_forms::list::List;
+use test_forms_shared::every::Case;
 use test_kit::maybe_equal::MaybeEqual;
-use test_kit_shared::every::Case;
 
 /// After how many calls all pairs are compared.
 const LOOK: u64 = 50;

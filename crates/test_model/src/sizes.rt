@@ -1,11 +1,11 @@
 //! Containers with more than a million slots, a cache that fills its maximum, and a snapshot of many versions.
 
 use std::alloc::{AllocError, Global};
-use test_kit::answers::{Answer, Kind};
-use test_kit::form::{Form, Way};
+use test_forms::answers::{Answer, Kind};
+use test_forms::form::{Form, Way};
+use test_forms::numbered::Seen;
+use test_forms::reserving::Reserving;
 use test_kit::lines::say;
-use test_kit::numbered::Seen;
-use test_kit::reserving::Reserving;
 use test_kit::same::Same;
 
 /// As many keys as make an array grow past 2^20 slots, where half of its buckets are never used.

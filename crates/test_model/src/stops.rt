@@ -3,12 +3,12 @@
 use scc_common::Verdict;
 use std::alloc::{AllocError, Global};
 use std::sync::Wait;
-use test_kit::answers::{Answer, Kind, Rule};
-use test_kit::form::{Form, Way};
-use test_kit::numbered::Seen;
+use test_forms::answers::{Answer, Kind, Rule};
+use test_forms::form::{Form, Way};
+use test_forms::numbered::Seen;
+use test_forms_shared::every::{Case, in_every_form};
 use test_kit::same::Same;
 use test_kit::zero::Zero;
-use test_kit_shared::every::{Case, in_every_form};
 
 // Under their own hashes these keys have a stripe each, where there are several.
 fn key_of(number: u64) -> u64 {

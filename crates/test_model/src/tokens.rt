@@ -2,8 +2,8 @@
 
 use scc_table::Reservation;
 use std::alloc::Global;
+use test_forms::reserving::Reserving;
 use test_kit::lines::say;
-use test_kit::reserving::Reserving;
 
 // Whether a token is refused and comes back with its slots.
 fn refuses<C: Reserving>(form: &mut C, token: Reservation, slots: usize) -> bool {

@@ -9,14 +9,14 @@ use scc_shared_map::HashMap;
 use scc_shared_set::HashSet;
 use std::alloc::{AllocError, Global};
 use std::sync::Wait;
-use test_kit::calls::{is_of, make};
-use test_kit::form::Form;
+use test_forms::calls::{is_of, make};
+use test_forms::form::Form;
+use test_forms::list::List;
+use test_forms::numbered::Seen;
+use test_forms_shared::held::Held;
 use test_kit::lines::say;
-use test_kit::list::List;
 use test_kit::maybe_equal::MaybeEqual;
-use test_kit::numbered::Seen;
 use test_kit::same::Same;
-use test_kit_shared::held::Held;
 
 /// How many calls both get.
 const CALLS: u64 = 1000;
