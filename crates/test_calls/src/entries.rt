@@ -1,13 +1,13 @@
 // What single calls and entries answer.
 use crate::rows::{Call, expect_answers};
 use scc::{hash_index, hash_map, hash_set};
+use scc_script::same::Same;
 use std::hash::RandomState;
 use std::process::Abort;
 use std::test::Fail;
-use test_kit::answers::Answer;
-use test_kit::form::{Act, At, Way};
+use test_forms::answers::Answer;
+use test_forms::form::{Act, At, Way};
 use test_kit::maybe_equal::MaybeEqual;
-use test_kit::same::Same;
 use test_kit::zero::Zero;
 
 // The same calls over any hasher: the answers don't depend on it.

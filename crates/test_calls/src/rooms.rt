@@ -4,8 +4,8 @@ use crate::expect::{expect, expect_eq};
 use scc::{hash_cache, hash_index, hash_map, hash_set};
 use std::process::Abort;
 use std::test::Fail;
-use test_kit::answers::Answer;
-use test_kit::form::{Form, Way};
+use test_forms::answers::Answer;
+use test_forms::form::{Form, Way};
 use test_kit::maybe_equal::MaybeEqual;
 use test_kit::zero::Zero;
 

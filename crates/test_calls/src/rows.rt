@@ -2,8 +2,8 @@
 use crate::expect::{expect, expect_eq};
 use std::alloc::Global;
 use std::process::Abort;
-use test_kit::answers::{Answer, Rule};
-use test_kit::form::{Act, At, Form, Way};
+use test_forms::answers::{Answer, Rule};
+use test_forms::form::{Act, At, Form, Way};
 use test_kit::maybe_equal::MaybeEqual;
 
 // A key is a number, by which keys are compared, and a mark, which tells equal keys apart.

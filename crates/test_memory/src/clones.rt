@@ -4,7 +4,7 @@ use crate::expect::{expect, expect_eq};
 use crate::looks::{expect_keys, fill, put};
 use scc::{HashIndex, HashMap, HashSet, hash_index, hash_map, hash_set};
 use std::process::Abort;
-use test_kit::form::{Form, Way};
+use test_forms::form::{Form, Way};
 use test_kit::refusals::Refusal;
 use test_kit::zero::Zero;
 

@@ -5,9 +5,9 @@ use crate::makers::{Job, Of, with};
 use std::io::Print;
 use std::process::Abort;
 use std::sync::Wait;
-use test_kit::answers::Answer;
-use test_kit::form::{Form, Way};
-use test_kit::numbered::Seen;
+use test_forms::answers::Answer;
+use test_forms::form::{Form, Way};
+use test_forms::numbered::Seen;
 use test_kit::refusals::{Refusal, TRIES};
 
 // Makes a clone of 34 keys in one bucket.

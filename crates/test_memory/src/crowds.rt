@@ -8,8 +8,8 @@ use crate::meetings;
 use std::io::Print;
 use std::process::Abort;
 use std::sync::Wait;
-use test_kit::answers::Answer;
-use test_kit::form::{Form, Way};
+use test_forms::answers::Answer;
+use test_forms::form::{Form, Way};
 use test_kit::refusals::{Refusal, TRIES};
 
 #[derive(Drop)]

@@ -7,9 +7,9 @@ use crate::meetings;
 use std::io::Print;
 use std::process::Abort;
 use std::sync::Wait;
-use test_kit::answers::{Answer, Kind};
-use test_kit::form::{Form, WAYS, Way};
-use test_kit::numbered::Seen;
+use test_forms::answers::{Answer, Kind};
+use test_forms::form::{Form, WAYS, Way};
+use test_forms::numbered::Seen;
 use test_kit::refusals::{Refusal, TRIES};
 
 // What a container is like before the insertion.

@@ -3,9 +3,9 @@ use crate::expect::{expect, expect_eq};
 use std::alloc::AllocError;
 use std::io::Print;
 use std::process::Abort;
-use test_kit::answers::{Answer, Kind};
-use test_kit::form::{Form, Sizes, Way};
-use test_kit::numbered::Seen;
+use test_forms::answers::{Answer, Kind};
+use test_forms::form::{Form, Sizes, Way};
+use test_forms::numbered::Seen;
 use test_kit::refusals::{Refusal, TRIES};
 
 // The value of a key that was added by that way: its complement, where the way doesn't give it another.

@@ -3,8 +3,8 @@ use crate::{owned_makers, shared_makers};
 use std::io::Print;
 use std::process::Abort;
 use std::sync::Wait;
-use test_kit::answers::Kind;
-use test_kit::form::Form;
+use test_forms::answers::Kind;
+use test_forms::form::Form;
 use test_kit::refusals::Refusal;
 
 // A kind in a form.

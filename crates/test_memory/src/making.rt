@@ -7,8 +7,8 @@ use scc::{HashCache, HashIndex, HashMap, HashSet, hash_cache, hash_index, hash_m
 use std::io::Print;
 use std::process::Abort;
 use std::sync::Wait;
-use test_kit::answers::Kind;
-use test_kit::form::{Form, Way};
+use test_forms::answers::Kind;
+use test_forms::form::{Form, Way};
 use test_kit::refusals::Refusal;
 
 // The slots that are asked for, and those that are made.

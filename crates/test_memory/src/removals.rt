@@ -8,8 +8,8 @@ use scc::Verdict;
 use std::io::Print;
 use std::process::Abort;
 use std::sync::Wait;
-use test_kit::answers::{Answer, Kind, Rule};
-use test_kit::form::{Act, At, Form, Way};
+use test_forms::answers::{Answer, Kind, Rule};
+use test_forms::form::{Act, At, Form, Way};
 use test_kit::refusals::{Refusal, TRIES};
 
 // The calls that may remove a pair and then shrink the array.

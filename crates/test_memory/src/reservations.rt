@@ -9,8 +9,8 @@ use crate::removals::expect_shrunk;
 use std::io::Print;
 use std::process::Abort;
 use std::sync::Wait;
-use test_kit::answers::Answer;
-use test_kit::form::{Form, Way};
+use test_forms::answers::Answer;
+use test_forms::form::{Form, Way};
 use test_kit::refusals::{Refusal, TRIES};
 
 // So many slots no memory has.

@@ -4,9 +4,9 @@ use scc::{HashCache, HashIndex, HashMap, HashSet};
 use std::io::Print;
 use std::process::Abort;
 use std::sync::Wait;
+use test_forms_shared::held::Held;
 use test_kit::refusals::Refusal;
 use test_kit::zero::Zero;
-use test_kit_shared::held::Held;
 
 pub(crate) fn with_map<J: Job, R: AllocGlobal + Abort + Print + Wait>(
     rt: &R,

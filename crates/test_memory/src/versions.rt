@@ -8,8 +8,8 @@ use scc::hash_index::owned::{Entry, Iter};
 use std::io::Print;
 use std::process::Abort;
 use std::sync::Wait;
-use test_kit::answers::{Answer, Kind};
-use test_kit::form::{Act, At, Form, Way};
+use test_forms::answers::{Answer, Kind};
+use test_forms::form::{Act, At, Form, Way};
 use test_kit::refusals::{Refusal, TRIES};
 use test_kit::zero::Zero;
 

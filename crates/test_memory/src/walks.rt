@@ -8,9 +8,9 @@ use scc::Verdict;
 use std::io::Print;
 use std::process::Abort;
 use std::sync::Wait;
-use test_kit::answers::{Answer, Kind, Rule};
-use test_kit::form::{Form, Way};
-use test_kit::numbered::Seen;
+use test_forms::answers::{Answer, Kind, Rule};
+use test_forms::form::{Form, Way};
+use test_forms::numbered::Seen;
 use test_kit::refusals::{Refusal, TRIES};
 
 const KEYS: u64 = 12;

@@ -6,10 +6,10 @@ use crate::reservations::GREATEST;
 use scc::{HashIndex, HashMap, HashSet, InsertError, KeyError, hash_index, hash_map, hash_set};
 use std::io::Print;
 use std::process::Abort;
-use test_kit::answers::Answer;
-use test_kit::form::{Form, WAYS, Way};
+use test_forms::answers::Answer;
+use test_forms::form::{Form, WAYS, Way};
+use test_forms::reserving::Reserving;
 use test_kit::refusals::{Refusal, TRIES};
-use test_kit::reserving::Reserving;
 use test_kit::zero::Zero;
 
 // Tries each way on a container for one owner.

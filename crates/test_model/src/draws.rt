@@ -1,9 +1,9 @@
 //! Calls that look random, and are the same in each run: they fill a container for a while, and then empty it.
 
-use test_kit::answers::Kind;
-use test_kit::calls::{DRASTIC, GENTLE, LOOKS, What, way_of};
-use test_kit::form::Way;
-use test_kit::list::List;
+use test_forms::answers::Kind;
+use test_forms::calls::{DRASTIC, GENTLE, LOOKS, What, way_of};
+use test_forms::form::Way;
+use test_forms::list::List;
 use test_kit::maybe_equal::MaybeEqual;
 use test_kit::numbers::next;
 

@@ -1,7 +1,7 @@
 //! How often each call was made, on a key that is there and on one that is missing.
 
 use std::alloc::{AllocError, Global};
-use test_kit::calls::{DRASTIC, GENTLE, What, has_key};
+use test_forms::calls::{DRASTIC, GENTLE, What, has_key};
 
 /// The calls that were made.
 #[derive(Drop)]

@@ -8,7 +8,7 @@ use std::alloc::{AllocError, Global};
 use std::cell::Cell;
 use std::hash::{Hash, Hasher};
 use std::rc::Rc;
-use test_kit::numbered::Numbered;
+use test_forms::numbered::Numbered;
 
 /// How often each token that was made was dropped.
 #[derive(Drop)]

@@ -5,9 +5,9 @@ use scc_shared_set::{HashSet, OccupiedEntry};
 use std::alloc::Global;
 use std::hash::{BuildHasher, Hash};
 use std::sync::Wait;
-use test_kit::answers::{Answer, Kind, Rule, key_verdict, refused_key};
-use test_kit::form::{Act, At, Form, Sizes, Way};
-use test_kit::numbered::{Numbered, Seen, keeps, note_keys, seen_key};
+use test_forms::answers::{Answer, Kind, Rule, key_verdict, refused_key};
+use test_forms::form::{Act, At, Form, Sizes, Way};
+use test_forms::numbered::{Numbered, Seen, keeps, note_keys, seen_key};
 
 // The key of an entry, if there is one.
 fn shown<K: Eq + Hash + Drop + Numbered, H: BuildHasher>(

@@ -7,9 +7,9 @@ use scc_shared_map::HashMap;
 use std::alloc::Global;
 use std::hash::{BuildHasher, Hash};
 use std::sync::Wait;
-use test_kit::answers::{Answer, Kind, Rule, raise_and_keep, refused, verdict};
-use test_kit::form::{Act, At, Form, Sizes, Way};
-use test_kit::numbered::{Numbered, Seen, note_pairs, raise_to_even, seen, seen_pair, value_of};
+use test_forms::answers::{Answer, Kind, Rule, raise_and_keep, refused, verdict};
+use test_forms::form::{Act, At, Form, Sizes, Way};
+use test_forms::numbered::{Numbered, Seen, note_pairs, raise_to_even, seen, seen_pair, value_of};
 
 // What a way answers that lends an entry.
 fn entered<K: Eq + Hash + Drop + Numbered, V: Drop + Numbered, H: BuildHasher>(

@@ -1,6 +1,6 @@
 //! Keys and values that tests know by their numbers.
 
-use crate::maybe_equal::MaybeEqual;
+use test_kit::maybe_equal::MaybeEqual;
 
 /// A key or a value that has a number.
 pub trait Numbered {

@@ -8,9 +8,9 @@ use scc_shared_set::HashSet;
 use std::alloc::{AllocError, Global};
 use std::hash::{BuildHasher, Hash};
 use std::sync::Wait;
-use test_kit::form::Form;
+use test_forms::form::Form;
+use test_forms::numbered::Numbered;
 use test_kit::lines::{HELD, say};
-use test_kit::numbered::Numbered;
 
 /// A case on keys and values of those types.
 pub trait Case<K: Drop + Numbered, V: Drop + Numbered> {

@@ -6,9 +6,9 @@ use scc_index::locked::{Entry, OccupiedEntry};
 use scc_shared_index::HashIndex;
 use std::hash::{BuildHasher, Hash};
 use std::sync::Wait;
-use test_kit::answers::{Answer, Kind, refused};
-use test_kit::form::{Act, At, Form, Sizes, Way};
-use test_kit::numbered::{Numbered, Seen, keeps, seen, value_of};
+use test_forms::answers::{Answer, Kind, refused};
+use test_forms::form::{Act, At, Form, Sizes, Way};
+use test_forms::numbered::{Numbered, Seen, keeps, seen, value_of};
 
 // What a way answers that lends an entry.
 fn entered<K: Eq + Hash + Drop + Numbered, V: Drop + Numbered, H: BuildHasher>(

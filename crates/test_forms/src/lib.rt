@@ -1,0 +1,11 @@
+//! Calls of a container of any kind and form, what they answer by numbers, and the plain list that has to answer so.
+#![tactic(auto)]
+
+pub mod agreeing;
+pub mod answers;
+pub mod calls;
+pub mod form;
+pub mod list;
+pub mod numbered;
+pub mod owned;
+pub mod reserving;
