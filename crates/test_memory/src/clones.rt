@@ -3,9 +3,11 @@
 use crate::expect::{expect, expect_eq};
 use crate::looks::{expect_keys, fill, put};
 use scc::{HashIndex, HashMap, HashSet, hash_index, hash_map, hash_set};
+use std::io::Print;
 use std::process::Abort;
+use std::sync::Wait;
 use test_forms::form::{Form, Way};
-use test_kit::refusals::Refusal;
+use test_kit::refusals::{Refusal, TRIES};
 use test_kit::zero::Zero;
 
 // A clone of three keys in 64 slots, to which a fourth is added.
@@ -21,119 +23,199 @@ fn expect_copy<F: Form<u64, u64>, R: Abort>(rt: &R, original: &F, copy: &mut F) 
     );
 }
 
+fn expect_map<R: AllocGlobal + Abort + Print>(
+    rt: &R,
+    refusal: &mut Refusal,
+    map: &hash_map::Owned<u64, u64, Zero>,
+) {
+    for _ in 0..TRIES {
+        match map.try_clone() {
+            Ok(mut copy) => return expect_copy(rt, map, &mut copy),
+            Err(_) => refusal.meet(rt, "a clone of a map"),
+        }
+        expect_eq(rt, map.len(), 3);
+    }
+    expect(rt, false);
+}
+
 #[test]
 fn a_clone_of_a_map_is_whole(rt: HostRuntime) {
-    let mut refusal = Refusal::new();
     let mut map: hash_map::Owned<u64, u64, Zero> = hash_map::Owned::with_hasher(rt.alloc(), Zero);
     fill(&rt, &mut map, Way::Insert, 3);
-    let made = refusal.outlast(
-        &rt,
-        "a clone of a map",
-        || map.try_clone(),
-        || map.len() == 3,
-    );
-    let mut copy = made.expect(&rt, "it is refused each time");
-    expect_copy(&rt, &map, &mut copy);
+    expect_map(&rt, &mut Refusal::new(), &map);
+}
+
+fn expect_set<R: AllocGlobal + Abort + Print>(
+    rt: &R,
+    refusal: &mut Refusal,
+    set: &hash_set::Owned<u64, Zero>,
+) {
+    for _ in 0..TRIES {
+        match set.try_clone() {
+            Ok(mut copy) => return expect_copy(rt, set, &mut copy),
+            Err(_) => refusal.meet(rt, "a clone of a set"),
+        }
+        expect_eq(rt, set.len(), 3);
+    }
+    expect(rt, false);
 }
 
 #[test]
 fn a_clone_of_a_set_is_whole(rt: HostRuntime) {
-    let mut refusal = Refusal::new();
     let mut set: hash_set::Owned<u64, Zero> = hash_set::Owned::with_hasher(rt.alloc(), Zero);
     fill(&rt, &mut set, Way::Insert, 3);
-    let made = refusal.outlast(
-        &rt,
-        "a clone of a set",
-        || set.try_clone(),
-        || set.len() == 3,
-    );
-    let mut copy = made.expect(&rt, "it is refused each time");
-    expect_copy(&rt, &set, &mut copy);
+    expect_set(&rt, &mut Refusal::new(), &set);
+}
+
+fn expect_index<R: AllocGlobal + Abort + Print>(
+    rt: &R,
+    refusal: &mut Refusal,
+    index: &hash_index::Owned<u64, u64, Zero>,
+) {
+    for _ in 0..TRIES {
+        match index.try_clone() {
+            Ok(mut copy) => return expect_copy(rt, index, &mut copy),
+            Err(_) => refusal.meet(rt, "a clone of an index"),
+        }
+        expect_eq(rt, index.len(), 3);
+    }
+    expect(rt, false);
 }
 
 #[test]
 fn a_clone_of_an_index_is_whole(rt: HostRuntime) {
-    let mut refusal = Refusal::new();
     let mut index: hash_index::Owned<u64, u64, Zero> = hash_index::Owned::with_hasher(
         rt.alloc(),
         Zero,
     );
     fill(&rt, &mut index, Way::Insert, 3);
-    let made = refusal.outlast(
-        &rt,
-        "a clone of an index",
-        || index.try_clone(),
-        || index.len() == 3,
-    );
-    let mut copy = made.expect(&rt, "it is refused each time");
-    expect_copy(&rt, &index, &mut copy);
+    expect_index(&rt, &mut Refusal::new(), &index);
+}
+
+// The one loses its key 2, and the other keeps it.
+fn expect_two_maps<R: Abort + Wait>(
+    rt: &R,
+    map: &HashMap<u64, u64, Zero>,
+    copy: &HashMap<u64, u64, Zero>,
+) {
+    expect(rt, map.remove_sync(rt, &2).is_some());
+    expect(rt, copy.contains_sync(rt, &2));
+    expect_eq(rt, (map.len(rt), copy.len(rt)), (2, 3));
+    expect_eq(rt, copy.capacity(rt), map.capacity(rt));
+}
+
+fn expect_shared_map<R: Abort + Print + Wait>(
+    rt: &R,
+    refusal: &mut Refusal,
+    map: &HashMap<u64, u64, Zero>,
+) {
+    for _ in 0..TRIES {
+        match map.try_clone(rt) {
+            Ok(copy) => return expect_two_maps(rt, map, &copy),
+            Err(_) => refusal.meet(rt, "a clone of a shared map"),
+        }
+        expect_eq(rt, map.len(rt), 3);
+    }
+    expect(rt, false);
 }
 
 #[test]
 fn a_clone_of_a_shared_map_is_whole(rt: HostRuntime) {
     let mut refusal = Refusal::new();
-    let made = refusal.outlast(
-        &rt,
-        "a shared map of three keys",
-        || HashMap::try_from_iter(&rt, rt.alloc(), [(0, !0), (1, !1), (2, !2)]),
-        || true,
-    );
-    let map: HashMap<u64, u64, Zero> = made.expect(&rt, "it is refused each time");
-    let made = refusal.outlast(
-        &rt,
-        "a clone of a shared map",
-        || map.try_clone(&rt),
-        || map.len(&rt) == 3,
-    );
-    let copy = made.expect(&rt, "it is refused each time");
-    expect(&rt, map.remove_sync(&rt, &2).is_some());
-    expect(&rt, copy.contains_sync(&rt, &2));
-    expect_eq(&rt, (map.len(&rt), copy.len(&rt)), (2, 3));
-    expect_eq(&rt, copy.capacity(&rt), map.capacity(&rt));
+    for _ in 0..TRIES {
+        let made: Result<HashMap<u64, u64, Zero>, _> = HashMap::try_from_iter(
+            &rt,
+            rt.alloc(),
+            [(0, !0), (1, !1), (2, !2)],
+        );
+        match made {
+            Ok(map) => return expect_shared_map(&rt, &mut refusal, &map),
+            Err(_) => refusal.meet(&rt, "a shared map of three keys"),
+        }
+    }
+    expect(&rt, false);
+}
+
+// The one loses its key 2, and the other keeps it.
+fn expect_two_sets<R: Abort + Wait>(rt: &R, set: &HashSet<u64, Zero>, copy: &HashSet<u64, Zero>) {
+    expect(rt, set.remove_sync(rt, &2).is_some());
+    expect(rt, copy.contains_sync(rt, &2));
+    expect_eq(rt, (set.len(rt), copy.len(rt)), (2, 3));
+    expect_eq(rt, copy.capacity(rt), set.capacity(rt));
+}
+
+fn expect_shared_set<R: Abort + Print + Wait>(
+    rt: &R,
+    refusal: &mut Refusal,
+    set: &HashSet<u64, Zero>,
+) {
+    for _ in 0..TRIES {
+        match set.try_clone(rt) {
+            Ok(copy) => return expect_two_sets(rt, set, &copy),
+            Err(_) => refusal.meet(rt, "a clone of a shared set"),
+        }
+        expect_eq(rt, set.len(rt), 3);
+    }
+    expect(rt, false);
 }
 
 #[test]
 fn a_clone_of_a_shared_set_is_whole(rt: HostRuntime) {
     let mut refusal = Refusal::new();
-    let made = refusal.outlast(
-        &rt,
-        "a shared set of three keys",
-        || HashSet::try_from_iter(&rt, rt.alloc(), [0, 1, 2]),
-        || true,
-    );
-    let set: HashSet<u64, Zero> = made.expect(&rt, "it is refused each time");
-    let made = refusal.outlast(
-        &rt,
-        "a clone of a shared set",
-        || set.try_clone(&rt),
-        || set.len(&rt) == 3,
-    );
-    let copy = made.expect(&rt, "it is refused each time");
-    expect(&rt, set.remove_sync(&rt, &2).is_some());
-    expect(&rt, copy.contains_sync(&rt, &2));
-    expect_eq(&rt, (set.len(&rt), copy.len(&rt)), (2, 3));
-    expect_eq(&rt, copy.capacity(&rt), set.capacity(&rt));
+    for _ in 0..TRIES {
+        let made: Result<HashSet<u64, Zero>, _> = HashSet::try_from_iter(
+            &rt,
+            rt.alloc(),
+            [0, 1, 2],
+        );
+        match made {
+            Ok(set) => return expect_shared_set(&rt, &mut refusal, &set),
+            Err(_) => refusal.meet(&rt, "a shared set of three keys"),
+        }
+    }
+    expect(&rt, false);
+}
+
+// The one loses its key 2, and the other keeps it.
+fn expect_two_indexs<R: Abort + Wait>(
+    rt: &R,
+    index: &HashIndex<u64, u64, Zero>,
+    copy: &HashIndex<u64, u64, Zero>,
+) {
+    expect(rt, index.remove_sync(rt, &2));
+    expect(rt, copy.contains(rt, &2));
+    expect_eq(rt, (index.len(rt), copy.len(rt)), (2, 3));
+    expect_eq(rt, copy.capacity(rt), index.capacity(rt));
+}
+
+fn expect_shared_index<R: Abort + Print + Wait>(
+    rt: &R,
+    refusal: &mut Refusal,
+    index: &HashIndex<u64, u64, Zero>,
+) {
+    for _ in 0..TRIES {
+        match index.try_clone(rt) {
+            Ok(copy) => return expect_two_indexs(rt, index, &copy),
+            Err(_) => refusal.meet(rt, "a clone of a shared index"),
+        }
+        expect_eq(rt, index.len(rt), 3);
+    }
+    expect(rt, false);
 }
 
 #[test]
 fn a_clone_of_a_shared_index_is_whole(rt: HostRuntime) {
     let mut refusal = Refusal::new();
-    let made = refusal.outlast(
-        &rt,
-        "a shared index of three keys",
-        || HashIndex::try_from_iter(&rt, rt.alloc(), [(0, !0), (1, !1), (2, !2)]),
-        || true,
-    );
-    let index: HashIndex<u64, u64, Zero> = made.expect(&rt, "it is refused each time");
-    let made = refusal.outlast(
-        &rt,
-        "a clone of a shared index",
-        || index.try_clone(&rt),
-        || index.len(&rt) == 3,
-    );
-    let copy = made.expect(&rt, "it is refused each time");
-    expect(&rt, index.remove_sync(&rt, &2));
-    expect(&rt, copy.contains(&rt, &2));
-    expect_eq(&rt, (index.len(&rt), copy.len(&rt)), (2, 3));
-    expect_eq(&rt, copy.capacity(&rt), index.capacity(&rt));
+    for _ in 0..TRIES {
+        let made: Result<HashIndex<u64, u64, Zero>, _> = HashIndex::try_from_iter(
+            &rt,
+            rt.alloc(),
+            [(0, !0), (1, !1), (2, !2)],
+        );
+        match made {
+            Ok(index) => return expect_shared_index(&rt, &mut refusal, &index),
+            Err(_) => refusal.meet(&rt, "a shared index of three keys"),
+        }
+    }
+    expect(&rt, false);
 }

@@ -1,6 +1,5 @@
 // What a container holds, looked at without asking for memory.
 use crate::expect::{expect, expect_eq};
-use std::alloc::AllocError;
 use std::io::Print;
 use std::process::Abort;
 use test_forms::answers::{Answer, Kind};
@@ -83,17 +82,19 @@ pub(crate) struct Look {
 impl Look {
     // An empty look with room for all pairs of a case.
     pub(crate) fn new<R: AllocGlobal + Abort + Print>(rt: &R, refusal: &mut Refusal) -> Look {
-        let made: Option<Vec<Seen>> = refusal.outlast::<_, AllocError, _, _, _>(
-            rt,
-            "a list of the test",
-            || Vec::with_capacity(rt.alloc(), 96),
-            || true,
-        );
-        Look {
-            pairs: made.expect(rt, "a list is refused each time"),
-            sizes: None,
-            waiting: None,
+        for _ in 0..TRIES {
+            match Vec::with_capacity(rt.alloc(), 96) {
+                Ok(pairs) => {
+                    return Look {
+                        pairs,
+                        sizes: None,
+                        waiting: None,
+                    };
+                }
+                Err(_) => refusal.meet(rt, "a list of the test"),
+            }
         }
+        panic!(rt; "a list is refused each time")
     }
 
     // Looks at the container.

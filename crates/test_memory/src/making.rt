@@ -9,7 +9,7 @@ use std::process::Abort;
 use std::sync::Wait;
 use test_forms::answers::Kind;
 use test_forms::form::{Form, Way};
-use test_kit::refusals::Refusal;
+use test_kit::refusals::{Refusal, TRIES};
 
 // The slots that are asked for, and those that are made.
 const SIZES: [(usize, usize); 3] = [(0, 0), (1, 64), (65, 128)];
@@ -101,154 +101,202 @@ fn shared_cache_is_made_whole_or_not(rt: HostRuntime) {
     expect_made(&rt, Of::SharedCache);
 }
 
+fn expect_map<R: AllocGlobal + Abort + Print>(
+    rt: &R,
+    refusal: &mut Refusal,
+    asked: usize,
+    capacity: usize,
+) {
+    for _ in 0..TRIES {
+        match hash_map::Owned::<u64, u64>::with_capacity(rt.alloc(), asked) {
+            Ok(map) => return expect_eq(rt, (map.len(), map.capacity()), (0, capacity)),
+            Err(_) => refusal.meet(rt, "a map of the common hasher"),
+        }
+    }
+    expect(rt, false);
+}
+
 #[test]
 fn map_with_capacity_is_made_whole_or_not(rt: HostRuntime) {
     let mut refusal = Refusal::new();
-    expect(
-        &rt,
-        hash_map::Owned::<u64, u64>::with_capacity(rt.alloc(), usize::MAX).is_err(),
-    );
+    let past_all = hash_map::Owned::<u64, u64>::with_capacity(rt.alloc(), usize::MAX);
+    expect(&rt, past_all.is_err());
     for (asked, capacity) in SIZES {
-        let made = refusal.outlast(
-            &rt,
-            "a map of the common hasher",
-            || hash_map::Owned::<u64, u64>::with_capacity(rt.alloc(), asked),
-            || true,
-        );
-        let map = made.expect(&rt, "it is refused each time");
-        expect_eq(&rt, (map.len(), map.capacity()), (0, capacity));
+        expect_map(&rt, &mut refusal, asked, capacity);
     }
+}
+
+fn expect_set<R: AllocGlobal + Abort + Print>(
+    rt: &R,
+    refusal: &mut Refusal,
+    asked: usize,
+    capacity: usize,
+) {
+    for _ in 0..TRIES {
+        match hash_set::Owned::<u64>::with_capacity(rt.alloc(), asked) {
+            Ok(set) => return expect_eq(rt, (set.len(), set.capacity()), (0, capacity)),
+            Err(_) => refusal.meet(rt, "a set of the common hasher"),
+        }
+    }
+    expect(rt, false);
 }
 
 #[test]
 fn set_with_capacity_is_made_whole_or_not(rt: HostRuntime) {
     let mut refusal = Refusal::new();
-    expect(
-        &rt,
-        hash_set::Owned::<u64>::with_capacity(rt.alloc(), usize::MAX).is_err(),
-    );
+    let past_all = hash_set::Owned::<u64>::with_capacity(rt.alloc(), usize::MAX);
+    expect(&rt, past_all.is_err());
     for (asked, capacity) in SIZES {
-        let made = refusal.outlast(
-            &rt,
-            "a set of the common hasher",
-            || hash_set::Owned::<u64>::with_capacity(rt.alloc(), asked),
-            || true,
-        );
-        let set = made.expect(&rt, "it is refused each time");
-        expect_eq(&rt, (set.len(), set.capacity()), (0, capacity));
+        expect_set(&rt, &mut refusal, asked, capacity);
     }
+}
+
+fn expect_index<R: AllocGlobal + Abort + Print>(
+    rt: &R,
+    refusal: &mut Refusal,
+    asked: usize,
+    capacity: usize,
+) {
+    for _ in 0..TRIES {
+        match hash_index::Owned::<u64, u64>::with_capacity(rt.alloc(), asked) {
+            Ok(index) => return expect_eq(rt, (index.len(), index.capacity()), (0, capacity)),
+            Err(_) => refusal.meet(rt, "an index of the common hasher"),
+        }
+    }
+    expect(rt, false);
 }
 
 #[test]
 fn index_with_capacity_is_made_whole_or_not(rt: HostRuntime) {
     let mut refusal = Refusal::new();
-    expect(
-        &rt,
-        hash_index::Owned::<u64, u64>::with_capacity(rt.alloc(), usize::MAX).is_err(),
-    );
+    let past_all = hash_index::Owned::<u64, u64>::with_capacity(rt.alloc(), usize::MAX);
+    expect(&rt, past_all.is_err());
     for (asked, capacity) in SIZES {
-        let made = refusal.outlast(
-            &rt,
-            "an index of the common hasher",
-            || hash_index::Owned::<u64, u64>::with_capacity(rt.alloc(), asked),
-            || true,
-        );
-        let index = made.expect(&rt, "it is refused each time");
-        expect_eq(&rt, (index.len(), index.capacity()), (0, capacity));
+        expect_index(&rt, &mut refusal, asked, capacity);
     }
+}
+
+fn expect_cache<R: AllocGlobal + Abort + Print>(
+    rt: &R,
+    refusal: &mut Refusal,
+    asked: usize,
+    capacity: usize,
+) {
+    for _ in 0..TRIES {
+        match hash_cache::Owned::<u64, u64>::with_capacity(rt.alloc(), asked, 128) {
+            Ok(cache) => return expect_eq(rt, (cache.len(), cache.capacity()), (0, capacity)),
+            Err(_) => refusal.meet(rt, "a cache of the common hasher"),
+        }
+    }
+    expect(rt, false);
 }
 
 #[test]
 fn cache_with_capacity_is_made_whole_or_not(rt: HostRuntime) {
     let mut refusal = Refusal::new();
-    expect(
-        &rt,
-        hash_cache::Owned::<u64, u64>::with_capacity(rt.alloc(), usize::MAX, usize::MAX).is_err(),
-    );
+    let past_all = hash_cache::Owned::<u64, u64>::with_capacity(rt.alloc(), usize::MAX, usize::MAX);
+    expect(&rt, past_all.is_err());
     for (asked, capacity) in SIZES {
-        let made = refusal.outlast(
-            &rt,
-            "a cache of the common hasher",
-            || hash_cache::Owned::<u64, u64>::with_capacity(rt.alloc(), asked, 128),
-            || true,
-        );
-        let cache = made.expect(&rt, "it is refused each time");
-        expect_eq(&rt, (cache.len(), cache.capacity()), (0, capacity));
+        expect_cache(&rt, &mut refusal, asked, capacity);
     }
+}
+
+fn expect_shared_map<R: AllocGlobal + Abort + Print + Wait>(
+    rt: &R,
+    refusal: &mut Refusal,
+    asked: usize,
+    capacity: usize,
+) {
+    for _ in 0..TRIES {
+        match HashMap::<u64, u64>::with_capacity(rt.alloc(), asked) {
+            Ok(map) => return expect_eq(rt, (map.len(rt), map.capacity(rt)), (0, capacity)),
+            Err(_) => refusal.meet(rt, "a shared map of the common hasher"),
+        }
+    }
+    expect(rt, false);
 }
 
 #[test]
 fn shared_map_with_capacity_is_made_whole_or_not(rt: HostRuntime) {
     let mut refusal = Refusal::new();
-    expect(
-        &rt,
-        HashMap::<u64, u64>::with_capacity(rt.alloc(), usize::MAX).is_err(),
-    );
+    let past_all = HashMap::<u64, u64>::with_capacity(rt.alloc(), usize::MAX);
+    expect(&rt, past_all.is_err());
     for (asked, capacity) in SIZES {
-        let made = refusal.outlast(
-            &rt,
-            "a shared map of the common hasher",
-            || HashMap::<u64, u64>::with_capacity(rt.alloc(), asked),
-            || true,
-        );
-        let map = made.expect(&rt, "it is refused each time");
-        expect_eq(&rt, (map.len(&rt), map.capacity(&rt)), (0, capacity));
+        expect_shared_map(&rt, &mut refusal, asked, capacity);
     }
+}
+
+fn expect_shared_set<R: AllocGlobal + Abort + Print + Wait>(
+    rt: &R,
+    refusal: &mut Refusal,
+    asked: usize,
+    capacity: usize,
+) {
+    for _ in 0..TRIES {
+        match HashSet::<u64>::with_capacity(rt.alloc(), asked) {
+            Ok(set) => return expect_eq(rt, (set.len(rt), set.capacity(rt)), (0, capacity)),
+            Err(_) => refusal.meet(rt, "a shared set of the common hasher"),
+        }
+    }
+    expect(rt, false);
 }
 
 #[test]
 fn shared_set_with_capacity_is_made_whole_or_not(rt: HostRuntime) {
     let mut refusal = Refusal::new();
-    expect(
-        &rt,
-        HashSet::<u64>::with_capacity(rt.alloc(), usize::MAX).is_err(),
-    );
+    let past_all = HashSet::<u64>::with_capacity(rt.alloc(), usize::MAX);
+    expect(&rt, past_all.is_err());
     for (asked, capacity) in SIZES {
-        let made = refusal.outlast(
-            &rt,
-            "a shared set of the common hasher",
-            || HashSet::<u64>::with_capacity(rt.alloc(), asked),
-            || true,
-        );
-        let set = made.expect(&rt, "it is refused each time");
-        expect_eq(&rt, (set.len(&rt), set.capacity(&rt)), (0, capacity));
+        expect_shared_set(&rt, &mut refusal, asked, capacity);
     }
+}
+
+fn expect_shared_index<R: AllocGlobal + Abort + Print + Wait>(
+    rt: &R,
+    refusal: &mut Refusal,
+    asked: usize,
+    capacity: usize,
+) {
+    for _ in 0..TRIES {
+        match HashIndex::<u64, u64>::with_capacity(rt.alloc(), asked) {
+            Ok(index) => return expect_eq(rt, (index.len(rt), index.capacity(rt)), (0, capacity)),
+            Err(_) => refusal.meet(rt, "a shared index of the common hasher"),
+        }
+    }
+    expect(rt, false);
 }
 
 #[test]
 fn shared_index_with_capacity_is_made_whole_or_not(rt: HostRuntime) {
     let mut refusal = Refusal::new();
-    expect(
-        &rt,
-        HashIndex::<u64, u64>::with_capacity(rt.alloc(), usize::MAX).is_err(),
-    );
+    let past_all = HashIndex::<u64, u64>::with_capacity(rt.alloc(), usize::MAX);
+    expect(&rt, past_all.is_err());
     for (asked, capacity) in SIZES {
-        let made = refusal.outlast(
-            &rt,
-            "a shared index of the common hasher",
-            || HashIndex::<u64, u64>::with_capacity(rt.alloc(), asked),
-            || true,
-        );
-        let index = made.expect(&rt, "it is refused each time");
-        expect_eq(&rt, (index.len(&rt), index.capacity(&rt)), (0, capacity));
+        expect_shared_index(&rt, &mut refusal, asked, capacity);
     }
+}
+
+fn expect_shared_cache<R: AllocGlobal + Abort + Print + Wait>(
+    rt: &R,
+    refusal: &mut Refusal,
+    asked: usize,
+    capacity: usize,
+) {
+    for _ in 0..TRIES {
+        match HashCache::<u64, u64>::with_capacity(rt.alloc(), asked, 128) {
+            Ok(cache) => return expect_eq(rt, (cache.len(rt), cache.capacity(rt)), (0, capacity)),
+            Err(_) => refusal.meet(rt, "a shared cache of the common hasher"),
+        }
+    }
+    expect(rt, false);
 }
 
 #[test]
 fn shared_cache_with_capacity_is_made_whole_or_not(rt: HostRuntime) {
     let mut refusal = Refusal::new();
-    expect(
-        &rt,
-        HashCache::<u64, u64>::with_capacity(rt.alloc(), usize::MAX, usize::MAX).is_err(),
-    );
+    let past_all = HashCache::<u64, u64>::with_capacity(rt.alloc(), usize::MAX, usize::MAX);
+    expect(&rt, past_all.is_err());
     for (asked, capacity) in SIZES {
-        let made = refusal.outlast(
-            &rt,
-            "a shared cache of the common hasher",
-            || HashCache::<u64, u64>::with_capacity(rt.alloc(), asked, 128),
-            || true,
-        );
-        let cache = made.expect(&rt, "it is refused each time");
-        expect_eq(&rt, (cache.len(&rt), cache.capacity(&rt)), (0, capacity));
+        expect_shared_cache(&rt, &mut refusal, asked, capacity);
     }
 }

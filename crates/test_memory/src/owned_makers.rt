@@ -4,7 +4,7 @@ use scc::{hash_cache, hash_index, hash_map, hash_set};
 use std::io::Print;
 use std::process::Abort;
 use std::sync::Wait;
-use test_kit::refusals::Refusal;
+use test_kit::refusals::{Refusal, TRIES};
 use test_kit::zero::Zero;
 
 pub(crate) fn with_map<J: Job, R: AllocGlobal + Abort + Print + Wait>(
@@ -13,14 +13,15 @@ pub(crate) fn with_map<J: Job, R: AllocGlobal + Abort + Print + Wait>(
     slots: usize,
     job: &J,
 ) {
-    let made = refusal.outlast(
-        rt,
-        "a constructor of a map",
-        || hash_map::Owned::with_capacity_and_hasher(rt.alloc(), slots, Zero),
-        || true,
-    );
-    let mut map: hash_map::Owned<u64, u64, Zero> = made.expect(rt, "it is refused each time");
-    job.run(rt, refusal, Of::Map, &mut map);
+    for _ in 0..TRIES {
+        let made: Result<hash_map::Owned<u64, u64, Zero>, _> =
+            hash_map::Owned::with_capacity_and_hasher(rt.alloc(), slots, Zero);
+        match made {
+            Ok(mut map) => return job.run(rt, refusal, Of::Map, &mut map),
+            Err(_) => refusal.meet(rt, "a constructor of a map"),
+        }
+    }
+    panic!(rt; "it is refused each time");
 }
 
 pub(crate) fn map_of_items<J: Job, R: AllocGlobal + Abort + Print + Wait>(
@@ -28,14 +29,17 @@ pub(crate) fn map_of_items<J: Job, R: AllocGlobal + Abort + Print + Wait>(
     refusal: &mut Refusal,
     job: &J,
 ) {
-    let made = refusal.outlast(
-        rt,
-        "a map of items",
-        || hash_map::Owned::try_from_iter(rt.alloc(), items()),
-        || true,
-    );
-    let mut map: hash_map::Owned<u64, u64, Zero> = made.expect(rt, "it is refused each time");
-    job.run(rt, refusal, Of::Map, &mut map);
+    for _ in 0..TRIES {
+        let made: Result<hash_map::Owned<u64, u64, Zero>, _> = hash_map::Owned::try_from_iter(
+            rt.alloc(),
+            items(),
+        );
+        match made {
+            Ok(mut map) => return job.run(rt, refusal, Of::Map, &mut map),
+            Err(_) => refusal.meet(rt, "a map of items"),
+        }
+    }
+    panic!(rt; "it is refused each time");
 }
 
 pub(crate) fn with_set<J: Job, R: AllocGlobal + Abort + Print + Wait>(
@@ -44,14 +48,18 @@ pub(crate) fn with_set<J: Job, R: AllocGlobal + Abort + Print + Wait>(
     slots: usize,
     job: &J,
 ) {
-    let made = refusal.outlast(
-        rt,
-        "a constructor of a set",
-        || hash_set::Owned::with_capacity_and_hasher(rt.alloc(), slots, Zero),
-        || true,
-    );
-    let mut set: hash_set::Owned<u64, Zero> = made.expect(rt, "it is refused each time");
-    job.run(rt, refusal, Of::Set, &mut set);
+    for _ in 0..TRIES {
+        let made: Result<hash_set::Owned<u64, Zero>, _> = hash_set::Owned::with_capacity_and_hasher(
+            rt.alloc(),
+            slots,
+            Zero,
+        );
+        match made {
+            Ok(mut set) => return job.run(rt, refusal, Of::Set, &mut set),
+            Err(_) => refusal.meet(rt, "a constructor of a set"),
+        }
+    }
+    panic!(rt; "it is refused each time");
 }
 
 pub(crate) fn set_of_items<J: Job, R: AllocGlobal + Abort + Print + Wait>(
@@ -59,14 +67,17 @@ pub(crate) fn set_of_items<J: Job, R: AllocGlobal + Abort + Print + Wait>(
     refusal: &mut Refusal,
     job: &J,
 ) {
-    let made = refusal.outlast(
-        rt,
-        "a set of items",
-        || hash_set::Owned::try_from_iter(rt.alloc(), keys()),
-        || true,
-    );
-    let mut set: hash_set::Owned<u64, Zero> = made.expect(rt, "it is refused each time");
-    job.run(rt, refusal, Of::Set, &mut set);
+    for _ in 0..TRIES {
+        let made: Result<hash_set::Owned<u64, Zero>, _> = hash_set::Owned::try_from_iter(
+            rt.alloc(),
+            keys(),
+        );
+        match made {
+            Ok(mut set) => return job.run(rt, refusal, Of::Set, &mut set),
+            Err(_) => refusal.meet(rt, "a set of items"),
+        }
+    }
+    panic!(rt; "it is refused each time");
 }
 
 pub(crate) fn with_index<J: Job, R: AllocGlobal + Abort + Print + Wait>(
@@ -75,14 +86,15 @@ pub(crate) fn with_index<J: Job, R: AllocGlobal + Abort + Print + Wait>(
     slots: usize,
     job: &J,
 ) {
-    let made = refusal.outlast(
-        rt,
-        "a constructor of an index",
-        || hash_index::Owned::with_capacity_and_hasher(rt.alloc(), slots, Zero),
-        || true,
-    );
-    let mut index: hash_index::Owned<u64, u64, Zero> = made.expect(rt, "it is refused each time");
-    job.run(rt, refusal, Of::Index, &mut index);
+    for _ in 0..TRIES {
+        let made: Result<hash_index::Owned<u64, u64, Zero>, _> =
+            hash_index::Owned::with_capacity_and_hasher(rt.alloc(), slots, Zero);
+        match made {
+            Ok(mut index) => return job.run(rt, refusal, Of::Index, &mut index),
+            Err(_) => refusal.meet(rt, "a constructor of an index"),
+        }
+    }
+    panic!(rt; "it is refused each time");
 }
 
 pub(crate) fn index_of_items<J: Job, R: AllocGlobal + Abort + Print + Wait>(
@@ -90,14 +102,17 @@ pub(crate) fn index_of_items<J: Job, R: AllocGlobal + Abort + Print + Wait>(
     refusal: &mut Refusal,
     job: &J,
 ) {
-    let made = refusal.outlast(
-        rt,
-        "an index of items",
-        || hash_index::Owned::try_from_iter(rt.alloc(), items()),
-        || true,
-    );
-    let mut index: hash_index::Owned<u64, u64, Zero> = made.expect(rt, "it is refused each time");
-    job.run(rt, refusal, Of::Index, &mut index);
+    for _ in 0..TRIES {
+        let made: Result<hash_index::Owned<u64, u64, Zero>, _> = hash_index::Owned::try_from_iter(
+            rt.alloc(),
+            items(),
+        );
+        match made {
+            Ok(mut index) => return job.run(rt, refusal, Of::Index, &mut index),
+            Err(_) => refusal.meet(rt, "an index of items"),
+        }
+    }
+    panic!(rt; "it is refused each time");
 }
 
 pub(crate) fn with_cache<J: Job, R: AllocGlobal + Abort + Print + Wait>(
@@ -106,14 +121,15 @@ pub(crate) fn with_cache<J: Job, R: AllocGlobal + Abort + Print + Wait>(
     slots: usize,
     job: &J,
 ) {
-    let made = refusal.outlast(
-        rt,
-        "a constructor of a cache",
-        || hash_cache::Owned::with_capacity_and_hasher(rt.alloc(), slots, 128, Zero),
-        || true,
-    );
-    let mut cache: hash_cache::Owned<u64, u64, Zero> = made.expect(rt, "it is refused each time");
-    job.run(rt, refusal, Of::Cache, &mut cache);
+    for _ in 0..TRIES {
+        let made: Result<hash_cache::Owned<u64, u64, Zero>, _> =
+            hash_cache::Owned::with_capacity_and_hasher(rt.alloc(), slots, 128, Zero);
+        match made {
+            Ok(mut cache) => return job.run(rt, refusal, Of::Cache, &mut cache),
+            Err(_) => refusal.meet(rt, "a constructor of a cache"),
+        }
+    }
+    panic!(rt; "it is refused each time");
 }
 
 pub(crate) fn cache_of_items<J: Job, R: AllocGlobal + Abort + Print + Wait>(
@@ -121,12 +137,15 @@ pub(crate) fn cache_of_items<J: Job, R: AllocGlobal + Abort + Print + Wait>(
     refusal: &mut Refusal,
     job: &J,
 ) {
-    let made = refusal.outlast(
-        rt,
-        "a cache of items",
-        || hash_cache::Owned::try_from_iter(rt.alloc(), items()),
-        || true,
-    );
-    let mut cache: hash_cache::Owned<u64, u64, Zero> = made.expect(rt, "it is refused each time");
-    job.run(rt, refusal, Of::Cache, &mut cache);
+    for _ in 0..TRIES {
+        let made: Result<hash_cache::Owned<u64, u64, Zero>, _> = hash_cache::Owned::try_from_iter(
+            rt.alloc(),
+            items(),
+        );
+        match made {
+            Ok(mut cache) => return job.run(rt, refusal, Of::Cache, &mut cache),
+            Err(_) => refusal.meet(rt, "a cache of items"),
+        }
+    }
+    panic!(rt; "it is refused each time");
 }

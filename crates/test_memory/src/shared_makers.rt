@@ -5,7 +5,7 @@ use std::io::Print;
 use std::process::Abort;
 use std::sync::Wait;
 use test_forms_shared::held::Held;
-use test_kit::refusals::Refusal;
+use test_kit::refusals::{Refusal, TRIES};
 use test_kit::zero::Zero;
 
 pub(crate) fn with_map<J: Job, R: AllocGlobal + Abort + Print + Wait>(
@@ -14,14 +14,18 @@ pub(crate) fn with_map<J: Job, R: AllocGlobal + Abort + Print + Wait>(
     slots: usize,
     job: &J,
 ) {
-    let made = refusal.outlast(
-        rt,
-        "a constructor of a shared map",
-        || HashMap::with_capacity_and_hasher(rt.alloc(), slots, Zero),
-        || true,
-    );
-    let map: HashMap<u64, u64, Zero> = made.expect(rt, "it is refused each time");
-    job.run(rt, refusal, Of::SharedMap, &mut Held::new(rt, map));
+    for _ in 0..TRIES {
+        let made: Result<HashMap<u64, u64, Zero>, _> = HashMap::with_capacity_and_hasher(
+            rt.alloc(),
+            slots,
+            Zero,
+        );
+        match made {
+            Ok(map) => return job.run(rt, refusal, Of::SharedMap, &mut Held::new(rt, map)),
+            Err(_) => refusal.meet(rt, "a constructor of a shared map"),
+        }
+    }
+    panic!(rt; "it is refused each time");
 }
 
 pub(crate) fn map_of_items<J: Job, R: AllocGlobal + Abort + Print + Wait>(
@@ -29,14 +33,18 @@ pub(crate) fn map_of_items<J: Job, R: AllocGlobal + Abort + Print + Wait>(
     refusal: &mut Refusal,
     job: &J,
 ) {
-    let made = refusal.outlast(
-        rt,
-        "a shared map of items",
-        || HashMap::try_from_iter(rt, rt.alloc(), items()),
-        || true,
-    );
-    let map: HashMap<u64, u64, Zero> = made.expect(rt, "it is refused each time");
-    job.run(rt, refusal, Of::SharedMap, &mut Held::new(rt, map));
+    for _ in 0..TRIES {
+        let made: Result<HashMap<u64, u64, Zero>, _> = HashMap::try_from_iter(
+            rt,
+            rt.alloc(),
+            items(),
+        );
+        match made {
+            Ok(map) => return job.run(rt, refusal, Of::SharedMap, &mut Held::new(rt, map)),
+            Err(_) => refusal.meet(rt, "a shared map of items"),
+        }
+    }
+    panic!(rt; "it is refused each time");
 }
 
 pub(crate) fn with_set<J: Job, R: AllocGlobal + Abort + Print + Wait>(
@@ -45,14 +53,18 @@ pub(crate) fn with_set<J: Job, R: AllocGlobal + Abort + Print + Wait>(
     slots: usize,
     job: &J,
 ) {
-    let made = refusal.outlast(
-        rt,
-        "a constructor of a shared set",
-        || HashSet::with_capacity_and_hasher(rt.alloc(), slots, Zero),
-        || true,
-    );
-    let set: HashSet<u64, Zero> = made.expect(rt, "it is refused each time");
-    job.run(rt, refusal, Of::SharedSet, &mut Held::new(rt, set));
+    for _ in 0..TRIES {
+        let made: Result<HashSet<u64, Zero>, _> = HashSet::with_capacity_and_hasher(
+            rt.alloc(),
+            slots,
+            Zero,
+        );
+        match made {
+            Ok(set) => return job.run(rt, refusal, Of::SharedSet, &mut Held::new(rt, set)),
+            Err(_) => refusal.meet(rt, "a constructor of a shared set"),
+        }
+    }
+    panic!(rt; "it is refused each time");
 }
 
 pub(crate) fn set_of_items<J: Job, R: AllocGlobal + Abort + Print + Wait>(
@@ -60,14 +72,14 @@ pub(crate) fn set_of_items<J: Job, R: AllocGlobal + Abort + Print + Wait>(
     refusal: &mut Refusal,
     job: &J,
 ) {
-    let made = refusal.outlast(
-        rt,
-        "a shared set of items",
-        || HashSet::try_from_iter(rt, rt.alloc(), keys()),
-        || true,
-    );
-    let set: HashSet<u64, Zero> = made.expect(rt, "it is refused each time");
-    job.run(rt, refusal, Of::SharedSet, &mut Held::new(rt, set));
+    for _ in 0..TRIES {
+        let made: Result<HashSet<u64, Zero>, _> = HashSet::try_from_iter(rt, rt.alloc(), keys());
+        match made {
+            Ok(set) => return job.run(rt, refusal, Of::SharedSet, &mut Held::new(rt, set)),
+            Err(_) => refusal.meet(rt, "a shared set of items"),
+        }
+    }
+    panic!(rt; "it is refused each time");
 }
 
 pub(crate) fn with_index<J: Job, R: AllocGlobal + Abort + Print + Wait>(
@@ -76,14 +88,18 @@ pub(crate) fn with_index<J: Job, R: AllocGlobal + Abort + Print + Wait>(
     slots: usize,
     job: &J,
 ) {
-    let made = refusal.outlast(
-        rt,
-        "a constructor of a shared index",
-        || HashIndex::with_capacity_and_hasher(rt.alloc(), slots, Zero),
-        || true,
-    );
-    let index: HashIndex<u64, u64, Zero> = made.expect(rt, "it is refused each time");
-    job.run(rt, refusal, Of::SharedIndex, &mut Held::new(rt, index));
+    for _ in 0..TRIES {
+        let made: Result<HashIndex<u64, u64, Zero>, _> = HashIndex::with_capacity_and_hasher(
+            rt.alloc(),
+            slots,
+            Zero,
+        );
+        match made {
+            Ok(index) => return job.run(rt, refusal, Of::SharedIndex, &mut Held::new(rt, index)),
+            Err(_) => refusal.meet(rt, "a constructor of a shared index"),
+        }
+    }
+    panic!(rt; "it is refused each time");
 }
 
 pub(crate) fn index_of_items<J: Job, R: AllocGlobal + Abort + Print + Wait>(
@@ -91,14 +107,18 @@ pub(crate) fn index_of_items<J: Job, R: AllocGlobal + Abort + Print + Wait>(
     refusal: &mut Refusal,
     job: &J,
 ) {
-    let made = refusal.outlast(
-        rt,
-        "a shared index of items",
-        || HashIndex::try_from_iter(rt, rt.alloc(), items()),
-        || true,
-    );
-    let index: HashIndex<u64, u64, Zero> = made.expect(rt, "it is refused each time");
-    job.run(rt, refusal, Of::SharedIndex, &mut Held::new(rt, index));
+    for _ in 0..TRIES {
+        let made: Result<HashIndex<u64, u64, Zero>, _> = HashIndex::try_from_iter(
+            rt,
+            rt.alloc(),
+            items(),
+        );
+        match made {
+            Ok(index) => return job.run(rt, refusal, Of::SharedIndex, &mut Held::new(rt, index)),
+            Err(_) => refusal.meet(rt, "a shared index of items"),
+        }
+    }
+    panic!(rt; "it is refused each time");
 }
 
 pub(crate) fn with_cache<J: Job, R: AllocGlobal + Abort + Print + Wait>(
@@ -107,14 +127,19 @@ pub(crate) fn with_cache<J: Job, R: AllocGlobal + Abort + Print + Wait>(
     slots: usize,
     job: &J,
 ) {
-    let made = refusal.outlast(
-        rt,
-        "a constructor of a shared cache",
-        || HashCache::with_capacity_and_hasher(rt.alloc(), slots, 128, Zero),
-        || true,
-    );
-    let cache: HashCache<u64, u64, Zero> = made.expect(rt, "it is refused each time");
-    job.run(rt, refusal, Of::SharedCache, &mut Held::new(rt, cache));
+    for _ in 0..TRIES {
+        let made: Result<HashCache<u64, u64, Zero>, _> = HashCache::with_capacity_and_hasher(
+            rt.alloc(),
+            slots,
+            128,
+            Zero,
+        );
+        match made {
+            Ok(cache) => return job.run(rt, refusal, Of::SharedCache, &mut Held::new(rt, cache)),
+            Err(_) => refusal.meet(rt, "a constructor of a shared cache"),
+        }
+    }
+    panic!(rt; "it is refused each time");
 }
 
 pub(crate) fn cache_of_items<J: Job, R: AllocGlobal + Abort + Print + Wait>(
@@ -122,12 +147,16 @@ pub(crate) fn cache_of_items<J: Job, R: AllocGlobal + Abort + Print + Wait>(
     refusal: &mut Refusal,
     job: &J,
 ) {
-    let made = refusal.outlast(
-        rt,
-        "a shared cache of items",
-        || HashCache::try_from_iter(rt, rt.alloc(), items()),
-        || true,
-    );
-    let cache: HashCache<u64, u64, Zero> = made.expect(rt, "it is refused each time");
-    job.run(rt, refusal, Of::SharedCache, &mut Held::new(rt, cache));
+    for _ in 0..TRIES {
+        let made: Result<HashCache<u64, u64, Zero>, _> = HashCache::try_from_iter(
+            rt,
+            rt.alloc(),
+            items(),
+        );
+        match made {
+            Ok(cache) => return job.run(rt, refusal, Of::SharedCache, &mut Held::new(rt, cache)),
+            Err(_) => refusal.meet(rt, "a shared cache of items"),
+        }
+    }
+    panic!(rt; "it is refused each time");
 }

@@ -2,7 +2,7 @@
 // and it is refused only where a version has as many owners as can be counted, more than any test can make.
 use crate::expect::{expect, expect_eq};
 use crate::versions::expect_versions;
-use scc::hash_index::{Entry, HashIndex};
+use scc::hash_index::{Entry, HashIndex, Iter};
 use std::io::Print;
 use std::process::Abort;
 use std::sync::Wait;
@@ -13,13 +13,13 @@ type Index = HashIndex<u64, u64, Zero>;
 
 // An index of the keys 0 and 1, each with its complement as value.
 fn of_two<R: AllocGlobal + Abort + Print + Wait>(rt: &R, refusal: &mut Refusal) -> Index {
-    let made = refusal.outlast(
-        rt,
-        "a shared index for two keys",
-        || HashIndex::try_from_iter(rt, rt.alloc(), [(0, !0), (1, !1)]),
-        || true,
-    );
-    made.expect(rt, "it is refused each time")
+    for _ in 0..TRIES {
+        match HashIndex::try_from_iter(rt, rt.alloc(), [(0, !0), (1, !1)]) {
+            Ok(index) => return index,
+            Err(_) => refusal.meet(rt, "a shared index for two keys"),
+        }
+    }
+    panic!(rt; "it is refused each time")
 }
 
 // Sets the value of key 1 by its entry until that isn't refused. The entry shows the old value as long as it is.
@@ -86,26 +86,38 @@ fn a_refused_shared_entry_publishes_by_its_next_call(rt: HostRuntime) {
     }
 }
 
+// A clone of the versions, and then they themselves, once the index is empty.
+fn expect_cloned<R: Abort + Print + Wait>(
+    rt: &R,
+    refusal: &mut Refusal,
+    index: &Index,
+    versions: Iter<u64, u64>,
+) {
+    for _ in 0..TRIES {
+        match versions.try_clone() {
+            Ok(again) => {
+                index.clear_sync(rt);
+                expect_versions(rt, again);
+                return expect_versions(rt, versions);
+            }
+            Err(_) => refusal.meet(rt, "a clone of a snapshot of a shared index"),
+        }
+        expect_eq(rt, index.len(rt), 2);
+    }
+    expect(rt, false);
+}
+
 // A snapshot and its clone keep their versions, whatever becomes of the index.
 #[test]
 fn a_refused_clone_of_a_snapshot_leaves_the_shared_snapshot(rt: HostRuntime) {
     let mut refusal = Refusal::new();
     let index = of_two(&rt, &mut refusal);
-    let made = refusal.outlast(
-        &rt,
-        "a snapshot of a shared index",
-        || index.iter(&rt),
-        || index.len(&rt) == 2,
-    );
-    let versions = made.expect(&rt, "it is refused each time");
-    let again = refusal.outlast(
-        &rt,
-        "a clone of a snapshot of a shared index",
-        || versions.try_clone(),
-        || index.len(&rt) == 2,
-    );
-    let again = again.expect(&rt, "it is refused each time");
-    index.clear_sync(&rt);
-    expect_versions(&rt, versions);
-    expect_versions(&rt, again);
+    for _ in 0..TRIES {
+        match index.iter(&rt) {
+            Ok(versions) => return expect_cloned(&rt, &mut refusal, &index, versions),
+            Err(_) => refusal.meet(&rt, "a snapshot of a shared index"),
+        }
+        expect_eq(&rt, index.len(&rt), 2);
+    }
+    expect(&rt, false);
 }

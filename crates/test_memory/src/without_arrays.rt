@@ -6,6 +6,7 @@ use crate::reservations::GREATEST;
 use scc::{HashIndex, HashMap, HashSet, InsertError, KeyError, hash_index, hash_map, hash_set};
 use std::io::Print;
 use std::process::Abort;
+use std::sync::Wait;
 use test_forms::answers::Answer;
 use test_forms::form::{Form, WAYS, Way};
 use test_forms::reserving::Reserving;
@@ -53,84 +54,96 @@ fn index_without_an_array_that_no_memory_has(rt: HostRuntime) {
     expect_no_array(&rt, &mut index);
 }
 
-#[test]
-fn shared_map_without_an_array_that_no_memory_has(rt: HostRuntime) {
-    let mut refusal = Refusal::new();
-    let made = refusal.outlast(
-        &rt,
-        "a shared map without an array",
-        || HashMap::with_hasher(rt.alloc(), Zero),
-        || true,
-    );
-    let map: HashMap<u64, u64, Zero> = made.expect(&rt, "it is refused each time");
-    let token = map.reserve(&rt, GREATEST);
-    expect(&rt, token.is_some());
-    let inserted = map.insert_sync(&rt, 0, 5);
-    expect(&rt, matches!(inserted, Err(InsertError::Memory((0, 5)))));
-    let upserted = map.upsert_sync(&rt, 0, 5);
-    expect(&rt, matches!(upserted, Err(InsertError::Memory((0, 5)))));
-    expect_eq(&rt, (map.len(&rt), map.capacity(&rt)), (0, 0));
+fn expect_no_array_in_map<R: Abort + Wait>(rt: &R, map: &HashMap<u64, u64, Zero>) {
+    let token = map.reserve(rt, GREATEST);
+    expect(rt, token.is_some());
+    let inserted = map.insert_sync(rt, 0, 5);
+    expect(rt, matches!(inserted, Err(InsertError::Memory((0, 5)))));
+    let upserted = map.upsert_sync(rt, 0, 5);
+    expect(rt, matches!(upserted, Err(InsertError::Memory((0, 5)))));
+    expect_eq(rt, (map.len(rt), map.capacity(rt)), (0, 0));
     drop(token);
     for _ in 0..TRIES {
-        if map.upsert_sync(&rt, 0, 5).is_ok() {
+        if map.upsert_sync(rt, 0, 5).is_ok() {
             break;
         }
     }
-    expect_eq(&rt, map.read_sync(&rt, &0, |_, value| *value), Some(5));
-    expect_eq(&rt, map.capacity(&rt), 64);
+    expect_eq(rt, map.read_sync(rt, &0, |_, value| *value), Some(5));
+    expect_eq(rt, map.capacity(rt), 64);
 }
 
 #[test]
-fn shared_set_without_an_array_that_no_memory_has(rt: HostRuntime) {
+fn shared_map_without_an_array_that_no_memory_has(rt: HostRuntime) {
     let mut refusal = Refusal::new();
-    let made = refusal.outlast(
-        &rt,
-        "a shared set without an array",
-        || HashSet::with_hasher(rt.alloc(), Zero),
-        || true,
-    );
-    let set: HashSet<u64, Zero> = made.expect(&rt, "it is refused each time");
-    let token = set.reserve(&rt, GREATEST);
-    expect(&rt, token.is_some());
-    let inserted = set.insert_sync(&rt, 7);
-    expect(&rt, matches!(inserted, Err(KeyError::Memory(7))));
-    let replaced = set.replace_sync(&rt, 7);
-    expect(&rt, matches!(replaced, Err(KeyError::Memory(7))));
-    expect_eq(&rt, (set.len(&rt), set.capacity(&rt)), (0, 0));
+    for _ in 0..TRIES {
+        let made: Result<HashMap<u64, u64, Zero>, _> = HashMap::with_hasher(rt.alloc(), Zero);
+        match made {
+            Ok(map) => return expect_no_array_in_map(&rt, &map),
+            Err(_) => refusal.meet(&rt, "a shared map without an array"),
+        }
+    }
+    expect(&rt, false);
+}
+
+fn expect_no_array_in_set<R: Abort + Wait>(rt: &R, set: &HashSet<u64, Zero>) {
+    let token = set.reserve(rt, GREATEST);
+    expect(rt, token.is_some());
+    let inserted = set.insert_sync(rt, 7);
+    expect(rt, matches!(inserted, Err(KeyError::Memory(7))));
+    let replaced = set.replace_sync(rt, 7);
+    expect(rt, matches!(replaced, Err(KeyError::Memory(7))));
+    expect_eq(rt, (set.len(rt), set.capacity(rt)), (0, 0));
     drop(token);
     for _ in 0..TRIES {
-        if set.replace_sync(&rt, 7).is_ok() {
+        if set.replace_sync(rt, 7).is_ok() {
             break;
         }
     }
     expect_eq(
-        &rt,
-        (set.contains_sync(&rt, &7), set.capacity(&rt)),
+        rt,
+        (set.contains_sync(rt, &7), set.capacity(rt)),
         (true, 64),
     );
 }
 
 #[test]
-fn shared_index_without_an_array_that_no_memory_has(rt: HostRuntime) {
+fn shared_set_without_an_array_that_no_memory_has(rt: HostRuntime) {
     let mut refusal = Refusal::new();
-    let made = refusal.outlast(
-        &rt,
-        "a shared index without an array",
-        || HashIndex::with_hasher(rt.alloc(), Zero),
-        || true,
-    );
-    let index: HashIndex<u64, u64, Zero> = made.expect(&rt, "it is refused each time");
-    let token = index.reserve(&rt, GREATEST);
-    expect(&rt, token.is_some());
-    let inserted = index.insert_sync(&rt, 0, 5);
-    expect(&rt, matches!(inserted, Err(InsertError::Memory((0, 5)))));
-    expect_eq(&rt, (index.len(&rt), index.capacity(&rt)), (0, 0));
+    for _ in 0..TRIES {
+        let made: Result<HashSet<u64, Zero>, _> = HashSet::with_hasher(rt.alloc(), Zero);
+        match made {
+            Ok(set) => return expect_no_array_in_set(&rt, &set),
+            Err(_) => refusal.meet(&rt, "a shared set without an array"),
+        }
+    }
+    expect(&rt, false);
+}
+
+fn expect_no_array_in_index<R: Abort + Wait>(rt: &R, index: &HashIndex<u64, u64, Zero>) {
+    let token = index.reserve(rt, GREATEST);
+    expect(rt, token.is_some());
+    let inserted = index.insert_sync(rt, 0, 5);
+    expect(rt, matches!(inserted, Err(InsertError::Memory((0, 5)))));
+    expect_eq(rt, (index.len(rt), index.capacity(rt)), (0, 0));
     drop(token);
     for _ in 0..TRIES {
-        if index.insert_sync(&rt, 0, 5).is_ok() {
+        if index.insert_sync(rt, 0, 5).is_ok() {
             break;
         }
     }
-    expect_eq(&rt, index.peek_with(&rt, &0, |_, value| *value), Some(5));
-    expect_eq(&rt, index.capacity(&rt), 64);
+    expect_eq(rt, index.peek_with(rt, &0, |_, value| *value), Some(5));
+    expect_eq(rt, index.capacity(rt), 64);
+}
+
+#[test]
+fn shared_index_without_an_array_that_no_memory_has(rt: HostRuntime) {
+    let mut refusal = Refusal::new();
+    for _ in 0..TRIES {
+        let made: Result<HashIndex<u64, u64, Zero>, _> = HashIndex::with_hasher(rt.alloc(), Zero);
+        match made {
+            Ok(index) => return expect_no_array_in_index(&rt, &index),
+            Err(_) => refusal.meet(&rt, "a shared index without an array"),
+        }
+    }
+    expect(&rt, false);
 }
