@@ -1,6 +1,6 @@
 //! The calls that threads make on each kind of container, and what of it is noted.
 
-use crate::counted::{Counted, Counts};
+use crate::counted::Counted;
 use crate::tally::Tally;
 use scc_cache::EvictedEntry;
 use scc_common::{InsertError, KeyError};
@@ -20,12 +20,12 @@ pub type Index<'a> = HashIndex<u64, Counted<'a>>;
 pub type Cache<'a> = HashCache<u64, Counted<'a>>;
 
 /// A container that threads call.
-pub trait Called<'a>: Sized {
+pub trait Called<V>: Sized {
     /// An empty one; None where memory is refused.
     fn make(alloc: Global) -> Option<Self>;
 
-    /// Makes one call of that kind, of eight, and notes what went in and out.
-    fn call<R: Wait>(&self, rt: &R, counts: &'a Counts, kind: u64, key: u64, tally: &mut Tally);
+    /// Makes one call of that kind, of eight, and notes what went in and out. The value is for calls that want one.
+    fn call<R: Wait>(&self, rt: &R, kind: u64, key: u64, value: V, tally: &mut Tally);
 
     /// Takes every key that it has out of the tally.
     fn settle<R: Wait>(&self, rt: &R, tally: &mut Tally);
@@ -61,12 +61,12 @@ fn note_put(evicted: EvictedEntry<u64, Counted<'_>>, key: u64, tally: &mut Tally
 fn insert_vacant<'a, R: Wait>(
     rt: &R,
     map: &Map<'a>,
-    counts: &'a Counts,
     key: u64,
+    value: Counted<'a>,
     tally: &mut Tally,
 ) {
     if let scc_map::locked::Entry::Vacant(entry) = map.entry_sync(rt, key) {
-        match entry.insert_entry(counts.make()) {
+        match entry.insert_entry(value) {
             Ok(_entry) => tally.add(key),
             Err(_) => tally.refuse(),
         }
@@ -74,8 +74,8 @@ fn insert_vacant<'a, R: Wait>(
 }
 
 // An upsert.
-fn upsert<'a, R: Wait>(rt: &R, map: &Map<'a>, counts: &'a Counts, key: u64, tally: &mut Tally) {
-    match map.upsert_sync(rt, key, counts.make()) {
+fn upsert<'a, R: Wait>(rt: &R, map: &Map<'a>, key: u64, value: Counted<'a>, tally: &mut Tally) {
+    match map.upsert_sync(rt, key, value) {
         Ok(None) => tally.add(key),
         Ok(Some(_)) => {}
         Err(_) => tally.refuse(),
@@ -90,16 +90,16 @@ fn remove_occupied<R: Wait>(rt: &R, map: &Map<'_>, key: u64, tally: &mut Tally) 
     }
 }
 
-impl<'a> Called<'a> for Map<'a> {
+impl<'a> Called<Counted<'a>> for Map<'a> {
     fn make(alloc: Global) -> Option<Map<'a>> {
         HashMap::new(alloc).ok()
     }
 
-    fn call<R: Wait>(&self, rt: &R, counts: &'a Counts, kind: u64, key: u64, tally: &mut Tally) {
+    fn call<R: Wait>(&self, rt: &R, kind: u64, key: u64, value: Counted<'a>, tally: &mut Tally) {
         match kind {
-            0 | 1 => note_pair(self.insert_sync(rt, key, counts.make()), key, tally),
-            2 => upsert(rt, self, counts, key, tally),
-            3 => insert_vacant(rt, self, counts, key, tally),
+            0 | 1 => note_pair(self.insert_sync(rt, key, value), key, tally),
+            2 => upsert(rt, self, key, value, tally),
+            3 => insert_vacant(rt, self, key, value, tally),
             4 | 5 => {
                 if self.remove_sync(rt, &key).is_some() {
                     tally.subtract(key);
@@ -129,12 +129,12 @@ fn replace<R: Wait>(rt: &R, set: &Set, key: u64, tally: &mut Tally) {
     }
 }
 
-impl<'a> Called<'a> for Set {
+impl<'a> Called<Counted<'a>> for Set {
     fn make(alloc: Global) -> Option<Set> {
         HashSet::new(alloc).ok()
     }
 
-    fn call<R: Wait>(&self, rt: &R, _counts: &'a Counts, kind: u64, key: u64, tally: &mut Tally) {
+    fn call<R: Wait>(&self, rt: &R, kind: u64, key: u64, _value: Counted<'a>, tally: &mut Tally) {
         match kind {
             0 | 1 | 2 => note_key(self.insert_sync(rt, key), key, tally),
             3 => replace(rt, self, key, tally),
@@ -161,17 +161,17 @@ impl<'a> Called<'a> for Set {
 fn publish<'a, R: Wait>(
     rt: &R,
     index: &Index<'a>,
-    counts: &'a Counts,
     key: u64,
+    value: Counted<'a>,
     tally: &mut Tally,
 ) {
     match index.entry_sync(rt, key) {
         scc_index::locked::Entry::Occupied(mut entry) => {
-            if entry.update(counts.make()).is_err() {
+            if entry.update(value).is_err() {
                 tally.refuse();
             }
         }
-        scc_index::locked::Entry::Vacant(entry) => match entry.insert_entry(counts.make()) {
+        scc_index::locked::Entry::Vacant(entry) => match entry.insert_entry(value) {
             Ok(_entry) => tally.add(key),
             Err(_) => tally.refuse(),
         },
@@ -186,15 +186,15 @@ fn peek<R: Wait>(rt: &R, index: &Index<'_>, key: u64, tally: &mut Tally) {
     }
 }
 
-impl<'a> Called<'a> for Index<'a> {
+impl<'a> Called<Counted<'a>> for Index<'a> {
     fn make(alloc: Global) -> Option<Index<'a>> {
         HashIndex::new(alloc).ok()
     }
 
-    fn call<R: Wait>(&self, rt: &R, counts: &'a Counts, kind: u64, key: u64, tally: &mut Tally) {
+    fn call<R: Wait>(&self, rt: &R, kind: u64, key: u64, value: Counted<'a>, tally: &mut Tally) {
         match kind {
-            0 | 1 => note_pair(self.insert_sync(rt, key, counts.make()), key, tally),
-            2 | 3 => publish(rt, self, counts, key, tally),
+            0 | 1 => note_pair(self.insert_sync(rt, key, value), key, tally),
+            2 | 3 => publish(rt, self, key, value, tally),
             4 | 5 | 6 => {
                 if self.remove_sync(rt, &key) {
                     tally.subtract(key);
@@ -213,8 +213,8 @@ impl<'a> Called<'a> for Index<'a> {
 }
 
 // A put.
-fn put<'a, R: Wait>(rt: &R, cache: &Cache<'a>, counts: &'a Counts, key: u64, tally: &mut Tally) {
-    match cache.put_sync(rt, key, counts.make()) {
+fn put<'a, R: Wait>(rt: &R, cache: &Cache<'a>, key: u64, value: Counted<'a>, tally: &mut Tally) {
+    match cache.put_sync(rt, key, value) {
         Ok(evicted) => note_put(evicted, key, tally),
         Err(InsertError::Exists(_)) => {}
         Err(InsertError::Memory(_)) => tally.refuse(),
@@ -225,27 +225,27 @@ fn put<'a, R: Wait>(rt: &R, cache: &Cache<'a>, counts: &'a Counts, key: u64, tal
 fn put_vacant<'a, R: Wait>(
     rt: &R,
     cache: &Cache<'a>,
-    counts: &'a Counts,
     key: u64,
+    value: Counted<'a>,
     tally: &mut Tally,
 ) {
     if let scc_cache::locked::Entry::Vacant(entry) = cache.entry_sync(rt, key) {
-        match entry.put_entry(counts.make()) {
+        match entry.put_entry(value) {
             Ok((evicted, _entry)) => note_put(evicted, key, tally),
             Err(_) => tally.refuse(),
         }
     }
 }
 
-impl<'a> Called<'a> for Cache<'a> {
+impl<'a> Called<Counted<'a>> for Cache<'a> {
     fn make(alloc: Global) -> Option<Cache<'a>> {
         HashCache::new(alloc).ok()
     }
 
-    fn call<R: Wait>(&self, rt: &R, counts: &'a Counts, kind: u64, key: u64, tally: &mut Tally) {
+    fn call<R: Wait>(&self, rt: &R, kind: u64, key: u64, value: Counted<'a>, tally: &mut Tally) {
         match kind {
-            0 | 1 | 2 => put(rt, self, counts, key, tally),
-            3 | 4 => put_vacant(rt, self, counts, key, tally),
+            0 | 1 | 2 => put(rt, self, key, value, tally),
+            3 | 4 => put_vacant(rt, self, key, value, tally),
             5 | 6 => {
                 if self.remove_sync(rt, &key).is_some() {
                     tally.subtract(key);

@@ -22,12 +22,6 @@ impl Counts {
     pub(crate) fn are_equal(&self) -> bool {
         self.made.load(Ordering::SeqCst) == self.dropped.load(Ordering::SeqCst)
     }
-
-    /// One more value.
-    pub(crate) fn make(&self) -> Counted<'_> {
-        self.made.fetch_add(1, Ordering::SeqCst);
-        Counted { counts: self }
-    }
 }
 
 /// A value whose drop is counted.
@@ -39,5 +33,25 @@ impl Drop for Counted<'_> {
     fn drop(self) {
         let Counted { counts } = self;
         counts.dropped.fetch_add(1, Ordering::SeqCst);
+    }
+}
+
+/// Makes values.
+pub trait Makes<V> {
+    fn make(&self) -> V;
+}
+
+/// Makes counted values.
+#[derive(Drop)]
+pub struct Maker<'a> {
+    pub counts: &'a Counts,
+}
+
+impl<'a> Makes<Counted<'a>> for Maker<'a> {
+    fn make(&self) -> Counted<'a> {
+        self.counts.made.fetch_add(1, Ordering::SeqCst);
+        Counted {
+            counts: self.counts,
+        }
     }
 }

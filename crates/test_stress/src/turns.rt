@@ -1,52 +1,41 @@
 //! What workers do on one recorded container, and the workers themselves.
-ghost use Rattle.scc_calls.specs.Copies.{ClonesEqual};
 
 use crate::plain::Plain;
-use scc_calls::Calls;
+use scc_print::printed::Printed;
 use scc_recorded::{Pass, Recorded, Site};
-use scc_workers::Work;
+use scc_workers::{Open, Work, run};
 use std::alloc::{AllocError, Global};
 use std::sync::Wait;
 use std::sync::ledger::Ledger;
+use std::thread::Threads;
 
-pub(crate) const WORKERS: u64 = 8;
+/// How many workers a crew has.
+pub(crate) const WORKERS: usize = 8;
 
-const TURNS: u64 = 200;
+/// The turns of each worker of a crew.
+pub(crate) const TURNS: usize = 200;
+
+/// The insertions of the worker of a phase.
+pub(crate) const CALLS: usize = 50;
 
 // How many keys all share.
 const SHARED: u64 = 8;
 
 // What workers do on a container of each kind.
-pub(crate) trait Turns: Calls + Drop {
-    // The call of a turn on a key of the worker's own, and what it is answered where nobody else is there, if that can
-    // be known.
-    fn own_turn(key: u64, j: u64) -> (Self::Call, Option<Self::Reply>);
+pub(crate) trait Turns: Printed + Drop {
+    /// Whether a walk meets pairs bucket by bucket, each bucket's by recency.
+    const IS_ORDERED: bool;
 
-    // The call of a turn on a key that all share.
-    fn shared_turn(key: u64, j: u64) -> Self::Call;
+    // The call of a turn, which is on a key of the worker's own where the turn is even, and else on one that all share.
+    // With it comes what it is answered where nobody else is there, if that can be known.
+    fn turn_on(key: u64, j: u64) -> (Self::Call, Option<Self::Reply>);
 
     // Makes a call on a plain list, and says whether its reply is the right one.
-    fn plays(
-        alloc: Global,
-        plain: &mut Plain,
-        call: &Self::Call,
-        reply: &Self::Reply,
-    ) -> Result<bool, AllocError>;
+    fn plays(plain: &mut Plain, call: &Self::Call, reply: &Self::Reply) -> bool;
 
-    // Adds all pairs to the list in the order of a walk, and says whether there was room. A set's values are 0.
+    // Adds all pairs to the list in the order of a walk, and says whether there was room, and as many came as are
+    // counted. A set's values are 0.
     fn collect(&self, met: &mut Vec<(u64, u64)>) -> bool;
-
-    // How many keys are there.
-    fn count(&self) -> usize;
-
-    // Whether a walk meets pairs bucket by bucket, each bucket's by recency.
-    fn is_ordered() -> bool;
-
-    fn equal_calls()
-        ensures { ClonesEqual Self.Call.is_clone Self.Call.eq };
-
-    fn equal_replies()
-        ensures { ClonesEqual Self.Reply.is_clone Self.Reply.eq };
 }
 
 // The keys of a worker lie in different buckets, one for each eight turns.
@@ -54,36 +43,31 @@ fn own_key(worker: u64, place: u64) -> u64 {
     (place << 59) | (1 << 40) | (worker << 32)
 }
 
-// Every other call is on a key of the worker's own, the others are on keys that all share.
-fn turn_of<C: Turns>(worker: u64, j: u64) -> (C::Call, Option<C::Reply>) {
-    if j % 2 == 0 {
-        C::own_turn(own_key(worker, j / 8), j)
+// A turn of a worker: of a crew, or of a phase, whose keys lie in the stripe of its number.
+fn turn_of<C: Turns>(in_crew: bool, worker: u64, j: u64) -> (C::Call, Option<C::Reply>) {
+    if !in_crew {
+        C::turn_on((worker << 63) | j, j.wrapping_mul(16))
+    } else if j % 2 == 0 {
+        C::turn_on(own_key(worker, j / 8), j)
     } else {
-        let key = worker.wrapping_add(j / 2) % SHARED;
-        (C::shared_turn(key, j), None)
+        C::turn_on(worker.wrapping_add(j / 2) % SHARED, j)
     }
 }
 
-fn turns_of<C: Turns>(
-    alloc: Global,
-    worker: u64,
-) -> Result<Vec<(C::Call, Option<C::Reply>)>, AllocError> {
-    let mut turns = Vec::new(alloc);
-    for j in 0..TURNS {
-        turns.push(turn_of::<C>(worker, j))?;
+// Makes a call, and says what it was answered; None where it was refused.
+fn ask<C: Turns, L: Ledger, M: Site<C::Hasher>, R: Wait>(
+    rt: &R,
+    recorded: &Recorded<C, L, M>,
+    pass: &mut Pass<C, L>,
+    call: C::Call,
+) -> Option<C::Reply> {
+    C::equal_calls();
+    C::equal_replies();
+    if let Some(_key) = C::key(&call) {
+        recorded.call(rt, pass, call).ok()
+    } else {
+        None
     }
-    Ok(turns)
-}
-
-// The turns of all workers.
-pub(crate) fn all_turns<C: Turns>(
-    alloc: Global,
-) -> Result<Vec<Vec<(C::Call, Option<C::Reply>)>>, AllocError> {
-    let mut lists = Vec::new(alloc);
-    for worker in 0..WORKERS {
-        lists.push(turns_of::<C>(alloc, worker)?)?;
-    }
-    Ok(lists)
 }
 
 // Whether that was answered, if it can be known.
@@ -99,77 +83,114 @@ fn matches_alone<A: PartialEq>(wanted: &Option<A>, answer: &A) -> bool {
 pub(crate) struct Caller<'a, C: Turns, L: Ledger, M: Site<C::Hasher>, R: Wait> {
     rt: &'a R,
     recorded: &'a Recorded<C, L, M>,
-    turns: &'a [(C::Call, Option<C::Reply>)],
     pass: Pass<C, L>,
-    // Whether each reply on its own keys was that of one thread.
+    // The number of the worker that makes the calls of a phase; None of a crew, whose workers all make theirs.
+    phase: Option<usize>,
+    // Whether each reply that can be known was that of one thread.
     as_alone: bool,
 }
 
 impl<C: Turns, L: Ledger, M: Site<C::Hasher>, R: Wait> Work for Caller<'_, C, L, M, R> {
     fn turns(&self) -> usize {
-        self.turns.len()
+        match self.phase {
+            None => TURNS,
+            Some(number) => {
+                if number == self.pass.number() {
+                    CALLS
+                } else {
+                    0
+                }
+            }
+        }
     }
 
     fn turn(&mut self, j: usize) -> bool {
-        let Some((call, alone)) = self.turns.get(j) else {
-            return false;
-        };
-        let Ok(copy) = call.clone() else {
-            return false;
-        };
-        let Some(_key) = C::key(&copy) else {
-            return false;
-        };
-        C::equal_calls();
-        C::equal_replies();
-        match self.recorded.call(self.rt, &mut self.pass, copy) {
-            Ok(reply) => {
-                self.as_alone = self.as_alone && matches_alone(alone, &reply);
+        let worker = self.pass.number() as u64;
+        let (call, wanted) = turn_of::<C>(self.phase.is_none(), worker, j as u64);
+        match ask(self.rt, self.recorded, &mut self.pass, call) {
+            Some(reply) => {
+                self.as_alone = self.as_alone && matches_alone(&wanted, &reply);
                 true
             }
-            Err(_refused) => false,
+            None => false,
         }
     }
 }
 
 // A worker for each pass.
-pub(crate) fn callers_of<'a, C: Turns, L: Ledger, M: Site<C::Hasher>, R: Wait>(
+fn callers_of<'a, C: Turns, L: Ledger, M: Site<C::Hasher>, R: Wait>(
     rt: &'a R,
     alloc: Global,
     recorded: &'a Recorded<C, L, M>,
     passes: Vec<Pass<C, L>>,
-    lists: &'a [Vec<(C::Call, Option<C::Reply>)>],
+    phase: Option<usize>,
 ) -> Result<Vec<Caller<'a, C, L, M, R>>, AllocError> {
-    let mut callers = Vec::with_capacity(alloc, passes.len())?;
-    for (pass, turns) in passes.into_iter().zip(lists) {
-        callers.push(Caller {
+    passes
+        .into_iter()
+        .map(|pass| Caller {
             rt,
             recorded,
-            turns: turns.as_slice(),
             pass,
+            phase,
             as_alone: true,
-        })?;
-    }
-    Ok(callers)
+        })
+        .collect(alloc)
 }
 
-// The passes of the workers, if each had its own keys to itself.
-pub(crate) fn passes_of<C: Turns, L: Ledger, M: Site<C::Hasher>, R: Wait>(
+// The passes of the workers.
+fn passes_of<C: Turns, L: Ledger, M: Site<C::Hasher>, R: Wait>(
     alloc: Global,
     callers: Vec<Caller<'_, C, L, M, R>>,
-) -> Result<Option<Vec<Pass<C, L>>>, AllocError> {
-    let mut passes = Vec::with_capacity(alloc, callers.len())?;
-    let mut alone = true;
-    for caller in callers {
-        let Caller {
-            rt: _,
-            recorded: _,
-            turns: _,
-            pass,
-            as_alone,
-        } = caller;
-        alone = alone && as_alone;
-        passes.push(pass)?;
-    }
-    Ok(if alone { Some(passes) } else { None })
+) -> Result<Vec<Pass<C, L>>, AllocError> {
+    callers
+        .into_iter()
+        .map(|caller| {
+            let Caller {
+                rt: _,
+                recorded: _,
+                pass,
+                phase: _,
+                as_alone: _,
+            } = caller;
+            pass
+        })
+        .collect(alloc)
+}
+
+// Whether all turns were made, and each worker had its own keys to itself.
+fn go<C, L, M, R>(rt: &R, alloc: Global, callers: &mut [Caller<'_, C, L, M, R>]) -> bool
+where
+    C: Turns + Send + Sync,
+    C::Call: Send + Sync,
+    C::Reply: Send + Sync,
+    C::Hasher: Send + Sync,
+    L: Ledger + Send + Sync,
+    M: Site<C::Hasher> + Send + Sync,
+    R: Threads + Wait + Sync,
+{
+    run(rt, alloc, callers, &Open).is_ok() && callers.iter().all(|caller| caller.as_alone)
+}
+
+/// The passes after all workers of a crew, or one of a phase, have made their calls on threads of their own, if each had
+/// its own keys to itself.
+pub(crate) fn work<C, L, M, R>(
+    rt: &R,
+    alloc: Global,
+    recorded: &Recorded<C, L, M>,
+    passes: Vec<Pass<C, L>>,
+    phase: Option<usize>,
+) -> Result<Option<Vec<Pass<C, L>>>, AllocError>
+where
+    C: Turns + Send + Sync,
+    C::Call: Send + Sync,
+    C::Reply: Send + Sync,
+    C::Hasher: Send + Sync,
+    L: Ledger + Send + Sync,
+    M: Site<C::Hasher> + Send + Sync,
+    R: Threads + Wait + Sync,
+{
+    let mut callers = callers_of(rt, alloc, recorded, passes, phase)?;
+    let right = go(rt, alloc, callers.as_mut_slice());
+    let passes = passes_of(alloc, callers)?;
+    Ok(if right { Some(passes) } else { None })
 }
