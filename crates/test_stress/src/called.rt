@@ -1,7 +1,7 @@
-//! The calls that threads make on each kind of container, and what of it is noted.
+//! The calls that threads make on each kind of container, and what they told.
 
 use crate::counted::Counted;
-use crate::tally::Tally;
+use crate::tally::{Tally, Told};
 use scc_cache::EvictedEntry;
 use scc_common::{InsertError, KeyError};
 use scc_shared_cache::HashCache;
@@ -24,69 +24,72 @@ pub trait Called<V>: Sized {
     /// An empty one; None where memory is refused.
     fn make(alloc: Global) -> Option<Self>;
 
-    /// Makes one call of that kind, of eight, and notes what went in and out. The value is for calls that want one.
-    fn call<R: Wait>(&self, rt: &R, kind: u64, key: u64, value: V, tally: &mut Tally);
+    /// Makes one call of that kind, of eight. The value is for calls that want one.
+    fn call<R: Wait>(&self, rt: &R, kind: u64, key: u64, value: V) -> Told;
 
     /// Takes every key that it has out of the tally.
     fn settle<R: Wait>(&self, rt: &R, tally: &mut Tally);
 }
 
-// Notes what an insertion of a key answered.
-fn note_pair(inserted: Result<(), InsertError<u64, Counted<'_>>>, key: u64, tally: &mut Tally) {
+// What a removal told.
+fn told_out(removed: bool) -> Told {
+    if removed { Told::Out } else { Told::Nothing }
+}
+
+// What an insertion of a pair told.
+fn told_of_pair(inserted: Result<(), InsertError<u64, Counted<'_>>>) -> Told {
     match inserted {
-        Ok(()) => tally.add(key),
-        Err(InsertError::Exists(_)) => {}
-        Err(InsertError::Memory(_)) => tally.refuse(),
+        Ok(()) => Told::In,
+        Err(InsertError::Exists(_)) => Told::Nothing,
+        Err(InsertError::Memory(_)) => Told::Refused,
     }
 }
 
-// Notes what an insertion of a key into a set answered.
-fn note_key(inserted: Result<(), KeyError<u64>>, key: u64, tally: &mut Tally) {
+// What an insertion of a key told.
+fn told_of_key(inserted: Result<(), KeyError<u64>>) -> Told {
     match inserted {
-        Ok(()) => tally.add(key),
-        Err(KeyError::Exists(_)) => {}
-        Err(KeyError::Memory(_)) => tally.refuse(),
+        Ok(()) => Told::In,
+        Err(KeyError::Exists(_)) => Told::Nothing,
+        Err(KeyError::Memory(_)) => Told::Refused,
     }
 }
 
-// Notes that a key went in, and that another may have been driven out.
-fn note_put(evicted: EvictedEntry<u64, Counted<'_>>, key: u64, tally: &mut Tally) {
-    tally.add(key);
-    if let Some((old, _value)) = evicted {
-        tally.subtract(old);
+// What a put told that drove out that pair.
+fn told_of_put(evicted: EvictedEntry<u64, Counted<'_>>) -> Told {
+    match evicted {
+        Some((old, _value)) => Told::Evicted(old),
+        None => Told::In,
     }
 }
 
 // An insertion through the entry, where it is vacant.
-fn insert_vacant<'a, R: Wait>(
-    rt: &R,
-    map: &Map<'a>,
-    key: u64,
-    value: Counted<'a>,
-    tally: &mut Tally,
-) {
-    if let scc_map::locked::Entry::Vacant(entry) = map.entry_sync(rt, key) {
-        match entry.insert_entry(value) {
-            Ok(_entry) => tally.add(key),
-            Err(_) => tally.refuse(),
-        }
+fn insert_vacant<'a, R: Wait>(rt: &R, map: &Map<'a>, key: u64, value: Counted<'a>) -> Told {
+    match map.entry_sync(rt, key) {
+        scc_map::locked::Entry::Vacant(entry) => match entry.insert_entry(value) {
+            Ok(_entry) => Told::In,
+            Err(_) => Told::Refused,
+        },
+        scc_map::locked::Entry::Occupied(_) => Told::Nothing,
     }
 }
 
 // An upsert.
-fn upsert<'a, R: Wait>(rt: &R, map: &Map<'a>, key: u64, value: Counted<'a>, tally: &mut Tally) {
+fn upsert<'a, R: Wait>(rt: &R, map: &Map<'a>, key: u64, value: Counted<'a>) -> Told {
     match map.upsert_sync(rt, key, value) {
-        Ok(None) => tally.add(key),
-        Ok(Some(_)) => {}
-        Err(_) => tally.refuse(),
+        Ok(None) => Told::In,
+        Ok(Some(_)) => Told::Nothing,
+        Err(_) => Told::Refused,
     }
 }
 
 // A removal through the entry.
-fn remove_occupied<R: Wait>(rt: &R, map: &Map<'_>, key: u64, tally: &mut Tally) {
-    if let Some(entry) = map.get_sync(rt, &key) {
-        let _value = entry.remove();
-        tally.subtract(key);
+fn remove_occupied<R: Wait>(rt: &R, map: &Map<'_>, key: u64) -> Told {
+    match map.get_sync(rt, &key) {
+        Some(entry) => {
+            drop(entry.remove());
+            Told::Out
+        }
+        None => Told::Nothing,
     }
 }
 
@@ -95,19 +98,16 @@ impl<'a> Called<Counted<'a>> for Map<'a> {
         HashMap::new(alloc).ok()
     }
 
-    fn call<R: Wait>(&self, rt: &R, kind: u64, key: u64, value: Counted<'a>, tally: &mut Tally) {
+    fn call<R: Wait>(&self, rt: &R, kind: u64, key: u64, value: Counted<'a>) -> Told {
         match kind {
-            0 | 1 => note_pair(self.insert_sync(rt, key, value), key, tally),
-            2 => upsert(rt, self, key, value, tally),
-            3 => insert_vacant(rt, self, key, value, tally),
-            4 | 5 => {
-                if self.remove_sync(rt, &key).is_some() {
-                    tally.subtract(key);
-                }
-            }
-            6 => remove_occupied(rt, self, key, tally),
+            0 | 1 => told_of_pair(self.insert_sync(rt, key, value)),
+            2 => upsert(rt, self, key, value),
+            3 => insert_vacant(rt, self, key, value),
+            4 | 5 => told_out(self.remove_sync(rt, &key).is_some()),
+            6 => remove_occupied(rt, self, key),
             _ => {
-                let _there = self.contains_sync(rt, &key);
+                self.contains_sync(rt, &key);
+                Told::Nothing
             }
         }
     }
@@ -121,11 +121,11 @@ impl<'a> Called<Counted<'a>> for Map<'a> {
 }
 
 // A key that takes the place of its equal, or comes in.
-fn replace<R: Wait>(rt: &R, set: &Set, key: u64, tally: &mut Tally) {
+fn replace<R: Wait>(rt: &R, set: &Set, key: u64) -> Told {
     match set.replace_sync(rt, key) {
-        Ok(None) => tally.add(key),
-        Ok(Some(_)) => {}
-        Err(_) => tally.refuse(),
+        Ok(None) => Told::In,
+        Ok(Some(_)) => Told::Nothing,
+        Err(_) => Told::Refused,
     }
 }
 
@@ -134,17 +134,14 @@ impl<'a> Called<Counted<'a>> for Set {
         HashSet::new(alloc).ok()
     }
 
-    fn call<R: Wait>(&self, rt: &R, kind: u64, key: u64, _value: Counted<'a>, tally: &mut Tally) {
+    fn call<R: Wait>(&self, rt: &R, kind: u64, key: u64, _value: Counted<'a>) -> Told {
         match kind {
-            0 | 1 | 2 => note_key(self.insert_sync(rt, key), key, tally),
-            3 => replace(rt, self, key, tally),
-            4 | 5 | 6 => {
-                if self.remove_sync(rt, &key).is_some() {
-                    tally.subtract(key);
-                }
-            }
+            0 | 1 | 2 => told_of_key(self.insert_sync(rt, key)),
+            3 => replace(rt, self, key),
+            4 | 5 | 6 => told_out(self.remove_sync(rt, &key).is_some()),
             _ => {
-                let _there = self.contains_sync(rt, &key);
+                self.contains_sync(rt, &key);
+                Told::Nothing
             }
         }
     }
@@ -158,31 +155,27 @@ impl<'a> Called<Counted<'a>> for Set {
 }
 
 // An insertion through the entry, or a new version.
-fn publish<'a, R: Wait>(
-    rt: &R,
-    index: &Index<'a>,
-    key: u64,
-    value: Counted<'a>,
-    tally: &mut Tally,
-) {
+fn publish<'a, R: Wait>(rt: &R, index: &Index<'a>, key: u64, value: Counted<'a>) -> Told {
     match index.entry_sync(rt, key) {
         scc_index::locked::Entry::Occupied(mut entry) => {
-            if entry.update(value).is_err() {
-                tally.refuse();
+            if entry.update(value).is_ok() {
+                Told::Nothing
+            } else {
+                Told::Refused
             }
         }
         scc_index::locked::Entry::Vacant(entry) => match entry.insert_entry(value) {
-            Ok(_entry) => tally.add(key),
-            Err(_) => tally.refuse(),
+            Ok(_entry) => Told::In,
+            Err(_) => Told::Refused,
         },
     }
 }
 
 // A version that is handed out, and let go.
-fn peek<R: Wait>(rt: &R, index: &Index<'_>, key: u64, tally: &mut Tally) {
+fn peek<R: Wait>(rt: &R, index: &Index<'_>, key: u64) -> Told {
     match index.peek(rt, &key) {
-        Ok(_version) => {}
-        Err(_) => tally.refuse(),
+        Ok(_version) => Told::Nothing,
+        Err(_) => Told::Refused,
     }
 }
 
@@ -191,16 +184,12 @@ impl<'a> Called<Counted<'a>> for Index<'a> {
         HashIndex::new(alloc).ok()
     }
 
-    fn call<R: Wait>(&self, rt: &R, kind: u64, key: u64, value: Counted<'a>, tally: &mut Tally) {
+    fn call<R: Wait>(&self, rt: &R, kind: u64, key: u64, value: Counted<'a>) -> Told {
         match kind {
-            0 | 1 => note_pair(self.insert_sync(rt, key, value), key, tally),
-            2 | 3 => publish(rt, self, key, value, tally),
-            4 | 5 | 6 => {
-                if self.remove_sync(rt, &key) {
-                    tally.subtract(key);
-                }
-            }
-            _ => peek(rt, self, key, tally),
+            0 | 1 => told_of_pair(self.insert_sync(rt, key, value)),
+            2 | 3 => publish(rt, self, key, value),
+            4 | 5 | 6 => told_out(self.remove_sync(rt, &key)),
+            _ => peek(rt, self, key),
         }
     }
 
@@ -213,27 +202,22 @@ impl<'a> Called<Counted<'a>> for Index<'a> {
 }
 
 // A put.
-fn put<'a, R: Wait>(rt: &R, cache: &Cache<'a>, key: u64, value: Counted<'a>, tally: &mut Tally) {
+fn put<'a, R: Wait>(rt: &R, cache: &Cache<'a>, key: u64, value: Counted<'a>) -> Told {
     match cache.put_sync(rt, key, value) {
-        Ok(evicted) => note_put(evicted, key, tally),
-        Err(InsertError::Exists(_)) => {}
-        Err(InsertError::Memory(_)) => tally.refuse(),
+        Ok(evicted) => told_of_put(evicted),
+        Err(InsertError::Exists(_)) => Told::Nothing,
+        Err(InsertError::Memory(_)) => Told::Refused,
     }
 }
 
 // A put through the entry, where it is vacant.
-fn put_vacant<'a, R: Wait>(
-    rt: &R,
-    cache: &Cache<'a>,
-    key: u64,
-    value: Counted<'a>,
-    tally: &mut Tally,
-) {
-    if let scc_cache::locked::Entry::Vacant(entry) = cache.entry_sync(rt, key) {
-        match entry.put_entry(value) {
-            Ok((evicted, _entry)) => note_put(evicted, key, tally),
-            Err(_) => tally.refuse(),
-        }
+fn put_vacant<'a, R: Wait>(rt: &R, cache: &Cache<'a>, key: u64, value: Counted<'a>) -> Told {
+    match cache.entry_sync(rt, key) {
+        scc_cache::locked::Entry::Vacant(entry) => match entry.put_entry(value) {
+            Ok((evicted, _entry)) => told_of_put(evicted),
+            Err(_) => Told::Refused,
+        },
+        scc_cache::locked::Entry::Occupied(_) => Told::Nothing,
     }
 }
 
@@ -242,17 +226,14 @@ impl<'a> Called<Counted<'a>> for Cache<'a> {
         HashCache::new(alloc).ok()
     }
 
-    fn call<R: Wait>(&self, rt: &R, kind: u64, key: u64, value: Counted<'a>, tally: &mut Tally) {
+    fn call<R: Wait>(&self, rt: &R, kind: u64, key: u64, value: Counted<'a>) -> Told {
         match kind {
-            0 | 1 | 2 => put(rt, self, key, value, tally),
-            3 | 4 => put_vacant(rt, self, key, value, tally),
-            5 | 6 => {
-                if self.remove_sync(rt, &key).is_some() {
-                    tally.subtract(key);
-                }
-            }
+            0 | 1 | 2 => put(rt, self, key, value),
+            3 | 4 => put_vacant(rt, self, key, value),
+            5 | 6 => told_out(self.remove_sync(rt, &key).is_some()),
             _ => {
-                let _there = self.contains_sync(rt, &key);
+                self.contains_sync(rt, &key);
+                Told::Nothing
             }
         }
     }

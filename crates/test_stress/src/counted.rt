@@ -36,19 +36,15 @@ impl Drop for Counted<'_> {
     }
 }
 
-/// Makes values.
-pub trait Makes<V> {
-    fn make(&self) -> V;
-}
-
 /// Makes counted values.
 #[derive(Drop)]
 pub struct Maker<'a> {
     pub counts: &'a Counts,
 }
 
-impl<'a> Makes<Counted<'a>> for Maker<'a> {
-    fn make(&self) -> Counted<'a> {
+impl<'a> Maker<'a> {
+    /// One more value.
+    pub(crate) fn make(&self) -> Counted<'a> {
         self.counts.made.fetch_add(1, Ordering::SeqCst);
         Counted {
             counts: self.counts,

@@ -5,7 +5,7 @@ ghost use Rattle.scc_recorded.specs.Setups.{IsStripes, request_of};
 
 use crate::finished::finishes_as_plain;
 use crate::kinds::{Cache, Index, Map, Set};
-use crate::turns::{Turns, WORKERS, work};
+use crate::turns::{Crewed, Turns, WORKERS, work};
 use scc_common::{Shared, TryShare};
 use scc_recorded::{Pass, Recorded, Setup, Site};
 use scc_script::same::Same;
@@ -56,10 +56,8 @@ fn work_on<C, L, M, R>(
     records: Blank,
 ) -> Result<bool, AllocError>
 where
-    C: Turns + Send + Sync,
-    C::Call: Send + Sync,
-    C::Reply: Send + Sync,
-    C::Hasher: TryShare + Drop + Send + Sync,
+    C: Crewed,
+    C::Hasher: TryShare + Drop,
     L: Ledger + Send + Sync,
     M: Site<C::Hasher> + Send + Sync,
     R: Threads + Wait + Sync,
@@ -81,10 +79,8 @@ fn crew_on<C, R>(
     hasher: Result<C::Hasher, AllocError>,
 ) -> Result<bool, AllocError>
 where
-    C: Turns + Send + Sync,
-    C::Call: Send + Sync,
-    C::Reply: Send + Sync,
-    C::Hasher: TryShare + Drop + Send + Sync,
+    C: Crewed,
+    C::Hasher: TryShare + Drop,
     R: Threads + Wait + Sync,
 {
     work_on::<C, Brand, Brand, R>(rt, alloc, hasher?, Blank::new(8), Blank::new(1))

@@ -5,39 +5,69 @@ use crate::plain::Plain;
 use crate::turns::{TURNS, Turns, WORKERS};
 use scc_calls::Step;
 use scc_history::Receipt;
-use scc_recorded::{FinishError, Finished, Pass, Recorded, Site, Unfinished};
+use scc_recorded::{Closed, FinishError, Finished, Pass, Recorded, Site, Unfinished};
 use std::alloc::{AllocError, Global};
 use std::sync::ledger::Ledger;
 
-// Adds the receipts of a pass to the list.
+// The same receipt again.
+fn same_receipt<C: Turns>(receipt: &Receipt<C::Call, C::Reply>) -> Receipt<C::Call, C::Reply> {
+    Receipt {
+        stripe: receipt.stripe,
+        stamp: receipt.stamp,
+        call: C::same_call(&receipt.call),
+        reply: C::same_reply(&receipt.reply),
+    }
+}
+
+// Adds the receipts of a pass to the list, and says whether there was room.
 fn add_receipts<C: Turns, L: Ledger>(
     receipts: &mut Vec<Receipt<C::Call, C::Reply>>,
     pass: &Pass<C, L>,
-) -> Result<(), AllocError> {
+) -> bool {
+    let mut added = true;
     for receipt in pass.receipts() {
-        receipts.push(Receipt {
-            stripe: receipt.stripe,
-            stamp: receipt.stamp,
-            call: C::same_call(&receipt.call),
-            reply: C::same_reply(&receipt.reply),
-        })?;
+        added = receipts.push(same_receipt::<C>(receipt)).is_ok() && added;
     }
-    Ok(())
+    added
 }
 
-// The receipts of all passes, one pass after another.
-fn receipts_of<C: Turns, L: Ledger>(
-    alloc: Global,
+// Adds the receipts of all passes, one pass after another, and says whether there was room.
+fn add_all_receipts<C: Turns, L: Ledger>(
+    receipts: &mut Vec<Receipt<C::Call, C::Reply>>,
     passes: &[Pass<C, L>],
-) -> Result<Vec<Receipt<C::Call, C::Reply>>, AllocError> {
-    let mut receipts = Vec::new(alloc);
+) -> bool {
+    let mut added = true;
     for pass in passes {
-        add_receipts(&mut receipts, pass)?;
+        added = add_receipts(receipts, pass) && added;
     }
-    Ok(receipts)
+    added
 }
 
-// The finished run, where only that pass was missing, and with the passes in another order.
+// The passes in another order with one more.
+fn joined<C: Turns, L: Ledger>(
+    passes: Vec<Pass<C, L>>,
+    last: Pass<C, L>,
+) -> Result<Vec<Pass<C, L>>, AllocError> {
+    let mut passes = passes;
+    passes.reverse();
+    match passes.push(last) {
+        Ok(()) => Ok(passes),
+        Err(_) => Err(AllocError),
+    }
+}
+
+// The finished run of all passes.
+fn finish_closed<C: Turns, L: Ledger, M: Site<C::Hasher>>(
+    closed: Closed<C, L, M>,
+    passes: Vec<Pass<C, L>>,
+) -> Option<Finished<C>>
+where
+    C::Hasher: Drop,
+{
+    closed.finish(passes).ok()
+}
+
+// The finished run, with the pass that was missing.
 fn finish_with<C: Turns, L: Ledger, M: Site<C::Hasher>>(
     unfinished: Unfinished<C, L, M>,
     last: Pass<C, L>,
@@ -48,15 +78,25 @@ where
     let Unfinished {
         recorded,
         passes,
-        cause,
+        cause: _,
     } = unfinished;
-    let mut passes = passes;
-    passes.reverse();
-    passes.push(last)?;
-    if cause == FinishError::Missing {
-        Ok(recorded.finish(passes).ok())
-    } else {
-        Ok(None)
+    match joined(passes, last) {
+        Ok(passes) => Ok(finish_closed(recorded, passes)),
+        Err(error) => Err(error),
+    }
+}
+
+// All that was handed in, where a pass was missing.
+fn unfinished<C: Turns, L: Ledger, M: Site<C::Hasher>>(
+    recorded: Recorded<C, L, M>,
+    passes: Vec<Pass<C, L>>,
+) -> Option<Unfinished<C, L, M>>
+where
+    C::Hasher: Drop,
+{
+    match recorded.finish(passes) {
+        Err(unfinished) if unfinished.cause == FinishError::Missing => Some(unfinished),
+        _ => None,
     }
 }
 
@@ -69,11 +109,11 @@ where
     C::Hasher: Drop,
 {
     let mut passes = passes;
-    let Some(last) = passes.pop() else {
-        return Ok(None);
-    };
-    match recorded.finish(passes).err() {
-        Some(unfinished) => finish_with(unfinished, last),
+    match passes.pop() {
+        Some(last) => match unfinished(recorded, passes) {
+            Some(unfinished) => finish_with(unfinished, last),
+            None => Ok(None),
+        },
         None => Ok(None),
     }
 }
@@ -97,18 +137,24 @@ fn steps_of<C: Turns>(finished: &Finished<C>, stripe: usize) -> usize {
     }
 }
 
+// Whether that is the next step of its stripe, of which the number is counted.
+fn is_next(next: &mut [usize; 2], place: (usize, usize)) -> bool {
+    match next.get_mut(place.0) {
+        Some(index) => {
+            let right = *index == place.1;
+            *index = index.saturating_add(1);
+            right
+        }
+        None => false,
+    }
+}
+
 // Whether the order has each step of each history once, in that history's order. There are two stripes at most.
 pub(crate) fn has_each_place<C: Turns>(finished: &Finished<C>) -> bool {
     let mut next = [0usize; 2];
     let mut right = finished.histories.len() <= 2;
     for place in finished.order.iter() {
-        match next.get_mut(place.0) {
-            Some(index) => {
-                right = right && *index == place.1;
-                *index = index.saturating_add(1);
-            }
-            None => right = false,
-        }
+        right = is_next(&mut next, *place) && right;
     }
     right && next == [steps_of(finished, 0), steps_of(finished, 1)]
 }
@@ -130,32 +176,71 @@ fn is_receipt<C: Turns>(
     }
 }
 
-// Whether the call records of each worker along the order are its receipts, one for one, and their stamps don't fall.
-fn are_receipts<C: Turns>(finished: &Finished<C>, receipts: &[Receipt<C::Call, C::Reply>]) -> bool {
-    let mut next = [0usize; WORKERS];
-    let mut last = 0u64;
-    let mut right = receipts.len() == WORKERS * TURNS;
-    for place in finished.order.iter() {
-        if let Some(
+// How many call records of each worker came so far, and the last stamp.
+#[derive(Drop)]
+struct Came {
+    next: [usize; WORKERS],
+    last: u64,
+}
+
+impl Came {
+    // The place of the worker's next receipt among all, which is counted; None where there is no such worker.
+    fn next_of(&mut self, worker: usize) -> Option<usize> {
+        match self.next.get_mut(worker) {
+            Some(made) => {
+                let place = worker.wrapping_mul(TURNS).wrapping_add(*made);
+                *made = made.saturating_add(1);
+                Some(place)
+            }
+            None => None,
+        }
+    }
+
+    // Whether a stamp doesn't fall behind the last one, which it becomes.
+    fn rises_to(&mut self, stamp: u64) -> bool {
+        let right = self.last <= stamp;
+        self.last = stamp;
+        right
+    }
+}
+
+// Whether a step of that stripe, if it is a call, is the next receipt of its worker, with a stamp that doesn't fall.
+fn comes_next<C: Turns>(
+    came: &mut Came,
+    receipts: &[Receipt<C::Call, C::Reply>],
+    stripe: usize,
+    step: Option<&Step<C::Call, C::Reply>>,
+) -> bool {
+    match step {
+        Some(
             Step::Call {
                 stamp,
                 pass,
                 call,
                 reply,
             },
-        ) = step_at(finished, *place)
-        {
-            let Some(made) = next.get_mut(*pass) else {
-                return false;
-            };
-            let receipt = receipts.get(pass.wrapping_mul(TURNS).wrapping_add(*made));
-            right = right && last <= *stamp;
-            right = is_receipt::<C>(receipt, (place.0, *stamp), call, reply) && right;
-            last = *stamp;
-            *made = made.saturating_add(1);
-        }
+        ) => match came.next_of(*pass) {
+            Some(place) => {
+                let right = is_receipt::<C>(receipts.get(place), (stripe, *stamp), call, reply);
+                came.rises_to(*stamp) && right
+            }
+            None => false,
+        },
+        _ => true,
     }
-    right && next == [TURNS; WORKERS]
+}
+
+// Whether the call records of each worker along the order are its receipts, one for one, and their stamps don't fall.
+fn are_receipts<C: Turns>(finished: &Finished<C>, receipts: &[Receipt<C::Call, C::Reply>]) -> bool {
+    let mut came = Came {
+        next: [0; WORKERS],
+        last: 0,
+    };
+    let mut right = receipts.len() == WORKERS * TURNS;
+    for place in finished.order.iter() {
+        right = comes_next::<C>(&mut came, receipts, place.0, step_at(finished, *place)) && right;
+    }
+    right && came.next == [TURNS; WORKERS]
 }
 
 // Whether the steps of a run on one stripe, one after another on a plain list, are answered as they were.
@@ -193,6 +278,19 @@ fn is_as_plain<C: Turns>(alloc: Global, finished: &Finished<C>) -> Result<bool, 
     }
 }
 
+// Whether all that is promised of a finished run of a crew on one stripe holds.
+fn is_right<C: Turns>(
+    alloc: Global,
+    finished: &Finished<C>,
+    receipts: &[Receipt<C::Call, C::Reply>],
+) -> Result<bool, AllocError> {
+    if has_each_place(finished) && are_receipts(finished, receipts) {
+        is_as_plain(alloc, finished)
+    } else {
+        Ok(false)
+    }
+}
+
 // Finishes a run of a crew on one stripe, and says whether all that is promised of it holds.
 pub(crate) fn finishes_as_plain<C: Turns, L: Ledger, M: Site<C::Hasher>>(
     alloc: Global,
@@ -202,12 +300,11 @@ pub(crate) fn finishes_as_plain<C: Turns, L: Ledger, M: Site<C::Hasher>>(
 where
     C::Hasher: Drop,
 {
-    let receipts = receipts_of(alloc, passes.as_slice())?;
-    match finish_late(recorded, passes)? {
-        Some(finished) => {
-            let right = has_each_place(&finished) && are_receipts(&finished, receipts.as_slice());
-            Ok(is_as_plain(alloc, &finished)? && right)
-        }
-        None => Ok(false),
+    let mut receipts = Vec::new(alloc);
+    let added = add_all_receipts(&mut receipts, passes.as_slice());
+    match finish_late(recorded, passes) {
+        Ok(Some(finished)) if added => is_right(alloc, &finished, receipts.as_slice()),
+        Ok(None) if added => Ok(false),
+        _ => Err(AllocError),
     }
 }

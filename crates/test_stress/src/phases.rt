@@ -17,36 +17,49 @@ use std::sync::ledger::{Blank, Ledger};
 use std::thread::Threads;
 use test_kit::lines::say;
 
-// Whether all receipts of a pass are of the stripe of its number, as many as it made calls, with stamps above that one.
-fn are_after<L: Ledger>(pass: &Pass<Map, L>, stamp: u64) -> bool {
+// Whether a pass has a receipt for each of its calls, all of that stripe, with stamps above one and up to another.
+fn are_between<L: Ledger>(pass: &Pass<Map, L>, stripe: usize, above: u64, last: u64) -> bool {
     let mut right = pass.receipts().len() == CALLS;
     for receipt in pass.receipts() {
-        right = right && receipt.stripe == pass.number() && receipt.stamp > stamp;
+        let stamp = receipt.stamp;
+        right = right && receipt.stripe == stripe && above < stamp && stamp <= last;
     }
     right
 }
 
-// Tells the second pass of the first, and says whether the first has its receipts, none of them above its clock.
-fn tell<L: Ledger>(passes: &mut [Pass<Map, L>]) -> bool {
+// Whether all receipts of the second pass have stamps above all of the first. Stamps begin at 1.
+fn is_later<L: Ledger>(passes: &[Pass<Map, L>]) -> bool {
     match passes {
         [first, second] => {
-            second.told(first);
             let clock = first.clock();
-            let mut right = first.receipts().len() == CALLS;
-            for receipt in first.receipts() {
-                right = right && receipt.stripe == 0 && receipt.stamp <= clock;
-            }
-            right
+            are_between(first, 0, 0, clock) && are_between(second, 1, clock, u64::MAX)
         }
         _ => false,
     }
 }
 
-// Whether all receipts of the second pass have stamps above all of the first.
-fn is_later<L: Ledger>(passes: &[Pass<Map, L>]) -> bool {
-    match passes {
-        [first, second] => are_after(second, first.clock()),
-        _ => false,
+// The passes with one more, which was told of the first.
+fn with_told<L: Ledger>(
+    passes: Vec<Pass<Map, L>>,
+    last: Pass<Map, L>,
+) -> Result<Vec<Pass<Map, L>>, AllocError> {
+    let mut passes = passes;
+    let mut last = last;
+    if let Some(first) = passes.first() {
+        last.told(first);
+    }
+    match passes.push(last) {
+        Ok(()) => Ok(passes),
+        Err(_) => Err(AllocError),
+    }
+}
+
+// The passes, of which the last was told of the first.
+fn tell<L: Ledger>(passes: Vec<Pass<Map, L>>) -> Result<Vec<Pass<Map, L>>, AllocError> {
+    let mut passes = passes;
+    match passes.pop() {
+        Some(last) => with_told(passes, last),
+        None => Ok(passes),
     }
 }
 
@@ -61,13 +74,10 @@ fn work_in_turn<
     recorded: &Recorded<Map, L, M>,
     passes: Vec<Pass<Map, L>>,
 ) -> Result<Option<Vec<Pass<Map, L>>>, AllocError> {
-    let Some(mut passes) = work(rt, alloc, recorded, passes, Some(0))? else {
-        return Ok(None);
-    };
-    if !tell(passes.as_mut_slice()) {
-        return Ok(None);
+    match work(rt, alloc, recorded, passes, Some(0))? {
+        Some(passes) => work(rt, alloc, recorded, tell(passes)?, Some(1)),
+        None => Ok(None),
     }
-    work(rt, alloc, recorded, passes, Some(1))
 }
 
 // Whether no step of the first stripe stands after one of the second.
@@ -79,6 +89,18 @@ fn goes_in_phases(finished: &Finished<Map>) -> bool {
         last = place.0;
     }
     right && last == 1
+}
+
+// Whether the run of both workers is finished, with the second one later.
+fn ends_in_phases<L: Ledger, M: Site<Shared<Same>>>(
+    recorded: Recorded<Map, L, M>,
+    passes: Vec<Pass<Map, L>>,
+) -> Result<bool, AllocError> {
+    let later = is_later(passes.as_slice());
+    match finish_late(recorded, passes)? {
+        Some(finished) => Ok(later && goes_in_phases(&finished) && has_each_place(&finished)),
+        None => Ok(false),
+    }
 }
 
 // Whether a worker that was told of another comes later.
@@ -98,12 +120,8 @@ fn work_in_phases<
     requires site { (M.chosen ≡ Some (request_of 0 128 hasher 2)) × (M.all ≡ 2) }
 {
     let (recorded, passes) = open::<Map, L, M>(alloc, hasher, 2, 2, receipts, records)?;
-    let Some(passes) = work_in_turn(rt, alloc, &recorded, passes)? else {
-        return Ok(false);
-    };
-    let later = is_later(passes.as_slice());
-    match finish_late(recorded, passes)? {
-        Some(finished) => Ok(later && goes_in_phases(&finished) && has_each_place(&finished)),
+    match work_in_turn(rt, alloc, &recorded, passes)? {
+        Some(passes) => ends_in_phases(recorded, passes),
         None => Ok(false),
     }
 }

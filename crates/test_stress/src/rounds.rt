@@ -1,7 +1,7 @@
 //! Rounds of calls on each kind of container, in which what went in and what came out has to add up.
 
 use crate::called::{Cache, Called, Index, Map, Set};
-use crate::counted::{Counted, Counts, Maker, Makes};
+use crate::counted::{Counted, Counts, Maker};
 use crate::request::Request;
 use crate::tally::{Tally, draw_call};
 use std::alloc::{AllocError, Global};
@@ -21,10 +21,10 @@ const UNEVEN: u8 = 1;
 const REFUSED: u8 = 3;
 
 // What one thread was told in so many calls.
-fn work<V: Drop, C: Called<V>, K: Makes<V>, R: Wait>(
+fn work<'a, C: Called<Counted<'a>>, R: Wait>(
     rt: &R,
     container: &C,
-    maker: &K,
+    maker: &Maker<'a>,
     thread: usize,
     calls: u64,
 ) -> Tally {
@@ -32,32 +32,95 @@ fn work<V: Drop, C: Called<V>, K: Makes<V>, R: Wait>(
     let mut tally = Tally::new();
     for _ in 0..calls {
         let drawn = draw_call(&mut seed);
-        container.call(rt, drawn.kind, drawn.key, maker.make(), &mut tally);
+        let told = container.call(rt, drawn.kind, drawn.key, maker.make());
+        tally.note(drawn.key, told);
     }
     tally
 }
 
-// What each thread was told.
-fn told_of<V, C, K, R>(
-    rt: &R,
-    alloc: Global,
-    container: &C,
-    maker: &K,
-    request: Request,
-) -> Result<Vec<Tally>, AllocError>
-where
-    V: Drop,
-    C: Called<V> + Sync,
-    K: Makes<V> + Sync,
-    R: Wait + Threads + Sync,
-{
-    let calls = request.calls;
-    map_indices(
-        rt,
-        alloc,
-        request.threads as usize,
-        &|thread| work::<V, C, K, R>(rt, container, maker, thread, calls),
-    )
+// What is handed to a thread may not rest on a bound of the function that starts it, so a kind starts the threads that
+// call it.
+trait Crowded<V, K>: Called<V> {
+    // What each thread was told.
+    fn told_of<R: Wait + Threads + Sync>(
+        &self,
+        rt: &R,
+        alloc: Global,
+        maker: &K,
+        request: Request,
+    ) -> Result<Vec<Tally>, AllocError>;
+}
+
+impl<'a> Crowded<Counted<'a>, Maker<'a>> for Map<'a> {
+    fn told_of<R: Wait + Threads + Sync>(
+        &self,
+        rt: &R,
+        alloc: Global,
+        maker: &Maker<'a>,
+        request: Request,
+    ) -> Result<Vec<Tally>, AllocError> {
+        let calls = request.calls;
+        map_indices(
+            rt,
+            alloc,
+            request.threads as usize,
+            &|thread| work(rt, self, maker, thread, calls),
+        )
+    }
+}
+
+impl<'a> Crowded<Counted<'a>, Maker<'a>> for Set {
+    fn told_of<R: Wait + Threads + Sync>(
+        &self,
+        rt: &R,
+        alloc: Global,
+        maker: &Maker<'a>,
+        request: Request,
+    ) -> Result<Vec<Tally>, AllocError> {
+        let calls = request.calls;
+        map_indices(
+            rt,
+            alloc,
+            request.threads as usize,
+            &|thread| work(rt, self, maker, thread, calls),
+        )
+    }
+}
+
+impl<'a> Crowded<Counted<'a>, Maker<'a>> for Index<'a> {
+    fn told_of<R: Wait + Threads + Sync>(
+        &self,
+        rt: &R,
+        alloc: Global,
+        maker: &Maker<'a>,
+        request: Request,
+    ) -> Result<Vec<Tally>, AllocError> {
+        let calls = request.calls;
+        map_indices(
+            rt,
+            alloc,
+            request.threads as usize,
+            &|thread| work(rt, self, maker, thread, calls),
+        )
+    }
+}
+
+impl<'a> Crowded<Counted<'a>, Maker<'a>> for Cache<'a> {
+    fn told_of<R: Wait + Threads + Sync>(
+        &self,
+        rt: &R,
+        alloc: Global,
+        maker: &Maker<'a>,
+        request: Request,
+    ) -> Result<Vec<Tally>, AllocError> {
+        let calls = request.calls;
+        map_indices(
+            rt,
+            alloc,
+            request.threads as usize,
+            &|thread| work(rt, self, maker, thread, calls),
+        )
+    }
 }
 
 // Whether what the threads were told adds up with what the container has.
@@ -71,34 +134,30 @@ fn is_settled<V: Drop, C: Called<V>, R: Wait>(rt: &R, container: &C, told: &[Tal
 }
 
 // Whether a round of a container of that kind adds up.
-fn adds_up<V, C, K, R>(
+fn adds_up<V: Drop, C: Crowded<V, K> + Drop, K, R: Wait + Threads + Sync>(
     rt: &R,
     alloc: Global,
     maker: &K,
     request: Request,
-) -> Result<bool, AllocError>
-where
-    V: Drop,
-    C: Called<V> + Sync + Drop,
-    K: Makes<V> + Sync,
-    R: Wait + Threads + Sync,
-{
+) -> Result<bool, AllocError> {
     let Some(container) = C::make(alloc) else {
         return Err(AllocError);
     };
-    let told = told_of::<V, C, K, R>(rt, alloc, &container, maker, request)?;
+    let told = container.told_of(rt, alloc, maker, request)?;
     Ok(is_settled::<V, C, R>(rt, &container, told.as_slice()))
 }
 
 // The status of a round of a container, after which each value has to be dropped once. Where it isn't even, its name is
 // printed.
 fn tell(rt: &impl Print, name: &str, counts: &Counts, outcome: Result<bool, AllocError>) -> u8 {
-    match outcome {
-        Ok(true) if counts.are_equal() => EVEN,
-        Ok(_) => match println!(rt; "{name}: what went in and out doesn't add up") {
-            Ok(()) => UNEVEN,
-            Err(_) => REFUSED,
-        },
+    let Ok(holds) = outcome else {
+        return REFUSED;
+    };
+    if holds && counts.are_equal() {
+        return EVEN;
+    }
+    match println!(rt; "{name}: what went in and out doesn't add up") {
+        Ok(()) => UNEVEN,
         Err(_) => REFUSED,
     }
 }

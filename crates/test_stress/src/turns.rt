@@ -1,8 +1,11 @@
 //! What workers do on one recorded container, and the workers themselves.
 
+use crate::kinds::{Cache, Index, Map, Set};
 use crate::plain::Plain;
+use scc_common::Shared;
 use scc_print::printed::Printed;
 use scc_recorded::{Pass, Recorded, Site};
+use scc_script::same::Same;
 use scc_workers::{Open, Work, run};
 use std::alloc::{AllocError, Global};
 use std::sync::Wait;
@@ -64,7 +67,10 @@ fn ask<C: Turns, L: Ledger, M: Site<C::Hasher>, R: Wait>(
     C::equal_calls();
     C::equal_replies();
     if let Some(_key) = C::key(&call) {
-        recorded.call(rt, pass, call).ok()
+        match recorded.call(rt, pass, call) {
+            Ok(reply) => Some(reply),
+            Err(_refused) => None,
+        }
     } else {
         None
     }
@@ -75,6 +81,22 @@ fn matches_alone<A: PartialEq>(wanted: &Option<A>, answer: &A) -> bool {
     match wanted {
         Some(wanted) => wanted == answer,
         None => true,
+    }
+}
+
+// Makes a turn, and says whether it was answered as if nobody else was there, if that can be known; None where it was
+// refused.
+fn make_turn<C: Turns, L: Ledger, M: Site<C::Hasher>, R: Wait>(
+    rt: &R,
+    recorded: &Recorded<C, L, M>,
+    pass: &mut Pass<C, L>,
+    in_crew: bool,
+    j: usize,
+) -> Option<bool> {
+    let (call, wanted) = turn_of::<C>(in_crew, pass.number() as u64, j as u64);
+    match ask(rt, recorded, pass, call) {
+        Some(reply) => Some(matches_alone(&wanted, &reply)),
+        None => None,
     }
 }
 
@@ -105,15 +127,30 @@ impl<C: Turns, L: Ledger, M: Site<C::Hasher>, R: Wait> Work for Caller<'_, C, L,
     }
 
     fn turn(&mut self, j: usize) -> bool {
-        let worker = self.pass.number() as u64;
-        let (call, wanted) = turn_of::<C>(self.phase.is_none(), worker, j as u64);
-        match ask(self.rt, self.recorded, &mut self.pass, call) {
-            Some(reply) => {
-                self.as_alone = self.as_alone && matches_alone(&wanted, &reply);
+        let in_crew = self.phase.is_none();
+        match make_turn(self.rt, self.recorded, &mut self.pass, in_crew, j) {
+            Some(alone) => {
+                self.as_alone = self.as_alone && alone;
                 true
             }
             None => false,
         }
+    }
+}
+
+// A worker with that pass.
+fn caller_of<'a, C: Turns, L: Ledger, M: Site<C::Hasher>, R: Wait>(
+    rt: &'a R,
+    recorded: &'a Recorded<C, L, M>,
+    pass: Pass<C, L>,
+    phase: Option<usize>,
+) -> Caller<'a, C, L, M, R> {
+    Caller {
+        rt,
+        recorded,
+        pass,
+        phase,
+        as_alone: true,
     }
 }
 
@@ -125,16 +162,12 @@ fn callers_of<'a, C: Turns, L: Ledger, M: Site<C::Hasher>, R: Wait>(
     passes: Vec<Pass<C, L>>,
     phase: Option<usize>,
 ) -> Result<Vec<Caller<'a, C, L, M, R>>, AllocError> {
-    passes
-        .into_iter()
-        .map(|pass| Caller {
-            rt,
-            recorded,
-            pass,
-            phase,
-            as_alone: true,
-        })
-        .collect(alloc)
+    let mut callers = Vec::new(alloc);
+    let mut added = true;
+    for pass in passes {
+        added = callers.push(caller_of(rt, recorded, pass, phase)).is_ok() && added;
+    }
+    if added { Ok(callers) } else { Err(AllocError) }
 }
 
 // The passes of the workers.
@@ -157,40 +190,100 @@ fn passes_of<C: Turns, L: Ledger, M: Site<C::Hasher>, R: Wait>(
         .collect(alloc)
 }
 
-// Whether all turns were made, and each worker had its own keys to itself.
-fn go<C, L, M, R>(rt: &R, alloc: Global, callers: &mut [Caller<'_, C, L, M, R>]) -> bool
-where
-    C: Turns + Send + Sync,
-    C::Call: Send + Sync,
-    C::Reply: Send + Sync,
-    C::Hasher: Send + Sync,
+// Whether each worker had its own keys to itself.
+fn are_as_alone<C: Turns, L: Ledger, M: Site<C::Hasher>, R: Wait>(
+    callers: &[Caller<'_, C, L, M, R>],
+) -> bool {
+    let mut alone = true;
+    for caller in callers {
+        alone = alone && caller.as_alone;
+    }
+    alone
+}
+
+/// A kind whose workers run on threads of their own. What is handed to a thread may not rest on a bound of the function
+/// that starts it, so each kind starts its own.
+pub(crate) trait Crewed: Turns {
+    /// Whether all turns were made.
+    fn run_all<
+        L: Ledger + Send + Sync,
+        M: Site<Self::Hasher> + Send + Sync,
+        R: Threads + Wait + Sync,
+    >(rt: &R, alloc: Global, callers: &mut [Caller<'_, Self, L, M, R>]) -> bool;
+}
+
+impl Crewed for Map {
+    fn run_all<
+        L: Ledger + Send + Sync,
+        M: Site<Shared<Same>> + Send + Sync,
+        R: Threads + Wait + Sync,
+    >(rt: &R, alloc: Global, callers: &mut [Caller<'_, Map, L, M, R>]) -> bool {
+        run(rt, alloc, callers, &Open).is_ok()
+    }
+}
+
+impl Crewed for Set {
+    fn run_all<
+        L: Ledger + Send + Sync,
+        M: Site<Shared<Same>> + Send + Sync,
+        R: Threads + Wait + Sync,
+    >(rt: &R, alloc: Global, callers: &mut [Caller<'_, Set, L, M, R>]) -> bool {
+        run(rt, alloc, callers, &Open).is_ok()
+    }
+}
+
+impl Crewed for Index {
+    fn run_all<
+        L: Ledger + Send + Sync,
+        M: Site<Shared<Same>> + Send + Sync,
+        R: Threads + Wait + Sync,
+    >(rt: &R, alloc: Global, callers: &mut [Caller<'_, Index, L, M, R>]) -> bool {
+        run(rt, alloc, callers, &Open).is_ok()
+    }
+}
+
+impl Crewed for Cache {
+    fn run_all<
+        L: Ledger + Send + Sync,
+        M: Site<Shared<Same>> + Send + Sync,
+        R: Threads + Wait + Sync,
+    >(rt: &R, alloc: Global, callers: &mut [Caller<'_, Cache, L, M, R>]) -> bool {
+        run(rt, alloc, callers, &Open).is_ok()
+    }
+}
+
+// The passes after the workers have made their calls, if each had its own keys to itself.
+fn send<
+    C: Crewed,
     L: Ledger + Send + Sync,
     M: Site<C::Hasher> + Send + Sync,
     R: Threads + Wait + Sync,
-{
-    run(rt, alloc, callers, &Open).is_ok() && callers.iter().all(|caller| caller.as_alone)
+>(
+    rt: &R,
+    alloc: Global,
+    callers: Vec<Caller<'_, C, L, M, R>>,
+) -> Result<Option<Vec<Pass<C, L>>>, AllocError> {
+    let mut callers = callers;
+    if C::run_all(rt, alloc, callers.as_mut_slice()) && are_as_alone(callers.as_slice()) {
+        Ok(Some(passes_of(alloc, callers)?))
+    } else {
+        Ok(None)
+    }
 }
 
 /// The passes after all workers of a crew, or one of a phase, have made their calls on threads of their own, if each had
 /// its own keys to itself.
-pub(crate) fn work<C, L, M, R>(
+pub(crate) fn work<
+    C: Crewed,
+    L: Ledger + Send + Sync,
+    M: Site<C::Hasher> + Send + Sync,
+    R: Threads + Wait + Sync,
+>(
     rt: &R,
     alloc: Global,
     recorded: &Recorded<C, L, M>,
     passes: Vec<Pass<C, L>>,
     phase: Option<usize>,
-) -> Result<Option<Vec<Pass<C, L>>>, AllocError>
-where
-    C: Turns + Send + Sync,
-    C::Call: Send + Sync,
-    C::Reply: Send + Sync,
-    C::Hasher: Send + Sync,
-    L: Ledger + Send + Sync,
-    M: Site<C::Hasher> + Send + Sync,
-    R: Threads + Wait + Sync,
-{
-    let mut callers = callers_of(rt, alloc, recorded, passes, phase)?;
-    let right = go(rt, alloc, callers.as_mut_slice());
-    let passes = passes_of(alloc, callers)?;
-    Ok(if right { Some(passes) } else { None })
+) -> Result<Option<Vec<Pass<C, L>>>, AllocError> {
+    send(rt, alloc, callers_of(rt, alloc, recorded, passes, phase)?)
 }
