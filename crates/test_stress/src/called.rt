@@ -1,7 +1,7 @@
-//! The calls that threads make on each kind of container, and what they told.
+//! The calls that threads make on each kind of container, and what of it is noted.
 
-use crate::counted::Counted;
-use crate::tally::{Tally, Told};
+use crate::counted::{Counted, Counts};
+use crate::tally::Tally;
 use scc_cache::EvictedEntry;
 use scc_common::{InsertError, KeyError};
 use scc_shared_cache::HashCache;
@@ -20,94 +20,94 @@ pub type Index<'a> = HashIndex<u64, Counted<'a>>;
 pub type Cache<'a> = HashCache<u64, Counted<'a>>;
 
 /// A container that threads call.
-pub trait Called<V>: Sized {
+pub trait Called<'a>: Sized {
     /// An empty one; None where memory is refused.
     fn make(alloc: Global) -> Option<Self>;
 
-    /// Makes one call of that kind, of eight. The value is for calls that want one.
-    fn call<R: Wait>(&self, rt: &R, kind: u64, key: u64, value: V) -> Told;
+    /// Makes one call of that kind, of eight, and notes what went in and out.
+    fn call<R: Wait>(&self, rt: &R, counts: &'a Counts, kind: u64, key: u64, tally: &mut Tally);
 
     /// Takes every key that it has out of the tally.
     fn settle<R: Wait>(&self, rt: &R, tally: &mut Tally);
 }
 
-// What a removal told.
-fn told_out(removed: bool) -> Told {
-    if removed { Told::Out } else { Told::Nothing }
-}
-
-// What an insertion of a pair told.
-fn told_of_pair(inserted: Result<(), InsertError<u64, Counted<'_>>>) -> Told {
+// Notes what an insertion of a key answered.
+fn note_pair(inserted: Result<(), InsertError<u64, Counted<'_>>>, key: u64, tally: &mut Tally) {
     match inserted {
-        Ok(()) => Told::In,
-        Err(InsertError::Exists(_)) => Told::Nothing,
-        Err(InsertError::Memory(_)) => Told::Refused,
+        Ok(()) => tally.add(key),
+        Err(InsertError::Exists(_)) => {}
+        Err(InsertError::Memory(_)) => tally.refuse(),
     }
 }
 
-// What an insertion of a key told.
-fn told_of_key(inserted: Result<(), KeyError<u64>>) -> Told {
+// Notes what an insertion of a key into a set answered.
+fn note_key(inserted: Result<(), KeyError<u64>>, key: u64, tally: &mut Tally) {
     match inserted {
-        Ok(()) => Told::In,
-        Err(KeyError::Exists(_)) => Told::Nothing,
-        Err(KeyError::Memory(_)) => Told::Refused,
+        Ok(()) => tally.add(key),
+        Err(KeyError::Exists(_)) => {}
+        Err(KeyError::Memory(_)) => tally.refuse(),
     }
 }
 
-// What a put told that drove out that pair.
-fn told_of_put(evicted: EvictedEntry<u64, Counted<'_>>) -> Told {
-    match evicted {
-        Some((old, _value)) => Told::Evicted(old),
-        None => Told::In,
+// Notes that a key went in, and that another may have been driven out.
+fn note_put(evicted: EvictedEntry<u64, Counted<'_>>, key: u64, tally: &mut Tally) {
+    tally.add(key);
+    if let Some((old, _value)) = evicted {
+        tally.subtract(old);
     }
 }
 
 // An insertion through the entry, where it is vacant.
-fn insert_vacant<'a, R: Wait>(rt: &R, map: &Map<'a>, key: u64, value: Counted<'a>) -> Told {
-    match map.entry_sync(rt, key) {
-        scc_map::locked::Entry::Vacant(entry) => match entry.insert_entry(value) {
-            Ok(_entry) => Told::In,
-            Err(_) => Told::Refused,
-        },
-        scc_map::locked::Entry::Occupied(_) => Told::Nothing,
+fn insert_vacant<'a, R: Wait>(
+    rt: &R,
+    map: &Map<'a>,
+    counts: &'a Counts,
+    key: u64,
+    tally: &mut Tally,
+) {
+    if let scc_map::locked::Entry::Vacant(entry) = map.entry_sync(rt, key) {
+        match entry.insert_entry(counts.make()) {
+            Ok(_entry) => tally.add(key),
+            Err(_) => tally.refuse(),
+        }
     }
 }
 
 // An upsert.
-fn upsert<'a, R: Wait>(rt: &R, map: &Map<'a>, key: u64, value: Counted<'a>) -> Told {
-    match map.upsert_sync(rt, key, value) {
-        Ok(None) => Told::In,
-        Ok(Some(_)) => Told::Nothing,
-        Err(_) => Told::Refused,
+fn upsert<'a, R: Wait>(rt: &R, map: &Map<'a>, counts: &'a Counts, key: u64, tally: &mut Tally) {
+    match map.upsert_sync(rt, key, counts.make()) {
+        Ok(None) => tally.add(key),
+        Ok(Some(_)) => {}
+        Err(_) => tally.refuse(),
     }
 }
 
 // A removal through the entry.
-fn remove_occupied<R: Wait>(rt: &R, map: &Map<'_>, key: u64) -> Told {
-    match map.get_sync(rt, &key) {
-        Some(entry) => {
-            drop(entry.remove());
-            Told::Out
-        }
-        None => Told::Nothing,
+fn remove_occupied<R: Wait>(rt: &R, map: &Map<'_>, key: u64, tally: &mut Tally) {
+    if let Some(entry) = map.get_sync(rt, &key) {
+        let _value = entry.remove();
+        tally.subtract(key);
     }
 }
 
-impl<'a> Called<Counted<'a>> for Map<'a> {
+impl<'a> Called<'a> for Map<'a> {
     fn make(alloc: Global) -> Option<Map<'a>> {
         HashMap::new(alloc).ok()
     }
 
-    fn call<R: Wait>(&self, rt: &R, kind: u64, key: u64, value: Counted<'a>) -> Told {
+    fn call<R: Wait>(&self, rt: &R, counts: &'a Counts, kind: u64, key: u64, tally: &mut Tally) {
         match kind {
-            0 | 1 => told_of_pair(self.insert_sync(rt, key, value)),
-            2 => upsert(rt, self, key, value),
-            3 => insert_vacant(rt, self, key, value),
-            4 | 5 => told_out(self.remove_sync(rt, &key).is_some()),
-            6 => remove_occupied(rt, self, key),
+            0 | 1 => note_pair(self.insert_sync(rt, key, counts.make()), key, tally),
+            2 => upsert(rt, self, counts, key, tally),
+            3 => insert_vacant(rt, self, counts, key, tally),
+            4 | 5 => {
+                if self.remove_sync(rt, &key).is_some() {
+                    tally.subtract(key);
+                }
+            }
+            6 => remove_occupied(rt, self, key, tally),
             _ => {
-                self.contains_sync(rt, &key);
-                Told::Nothing
+                let _there = self.contains_sync(rt, &key);
             }
         }
     }
@@ -121,27 +121,30 @@ impl<'a> Called<Counted<'a>> for Map<'a> {
 }
 
 // A key that takes the place of its equal, or comes in.
-fn replace<R: Wait>(rt: &R, set: &Set, key: u64) -> Told {
+fn replace<R: Wait>(rt: &R, set: &Set, key: u64, tally: &mut Tally) {
     match set.replace_sync(rt, key) {
-        Ok(None) => Told::In,
-        Ok(Some(_)) => Told::Nothing,
-        Err(_) => Told::Refused,
+        Ok(None) => tally.add(key),
+        Ok(Some(_)) => {}
+        Err(_) => tally.refuse(),
     }
 }
 
-impl<'a> Called<Counted<'a>> for Set {
+impl<'a> Called<'a> for Set {
     fn make(alloc: Global) -> Option<Set> {
         HashSet::new(alloc).ok()
     }
 
-    fn call<R: Wait>(&self, rt: &R, kind: u64, key: u64, _value: Counted<'a>) -> Told {
+    fn call<R: Wait>(&self, rt: &R, _counts: &'a Counts, kind: u64, key: u64, tally: &mut Tally) {
         match kind {
-            0 | 1 | 2 => told_of_key(self.insert_sync(rt, key)),
-            3 => replace(rt, self, key),
-            4 | 5 | 6 => told_out(self.remove_sync(rt, &key).is_some()),
+            0 | 1 | 2 => note_key(self.insert_sync(rt, key), key, tally),
+            3 => replace(rt, self, key, tally),
+            4 | 5 | 6 => {
+                if self.remove_sync(rt, &key).is_some() {
+                    tally.subtract(key);
+                }
+            }
             _ => {
-                self.contains_sync(rt, &key);
-                Told::Nothing
+                let _there = self.contains_sync(rt, &key);
             }
         }
     }
@@ -155,41 +158,49 @@ impl<'a> Called<Counted<'a>> for Set {
 }
 
 // An insertion through the entry, or a new version.
-fn publish<'a, R: Wait>(rt: &R, index: &Index<'a>, key: u64, value: Counted<'a>) -> Told {
+fn publish<'a, R: Wait>(
+    rt: &R,
+    index: &Index<'a>,
+    counts: &'a Counts,
+    key: u64,
+    tally: &mut Tally,
+) {
     match index.entry_sync(rt, key) {
         scc_index::locked::Entry::Occupied(mut entry) => {
-            if entry.update(value).is_ok() {
-                Told::Nothing
-            } else {
-                Told::Refused
+            if entry.update(counts.make()).is_err() {
+                tally.refuse();
             }
         }
-        scc_index::locked::Entry::Vacant(entry) => match entry.insert_entry(value) {
-            Ok(_entry) => Told::In,
-            Err(_) => Told::Refused,
+        scc_index::locked::Entry::Vacant(entry) => match entry.insert_entry(counts.make()) {
+            Ok(_entry) => tally.add(key),
+            Err(_) => tally.refuse(),
         },
     }
 }
 
 // A version that is handed out, and let go.
-fn peek<R: Wait>(rt: &R, index: &Index<'_>, key: u64) -> Told {
+fn peek<R: Wait>(rt: &R, index: &Index<'_>, key: u64, tally: &mut Tally) {
     match index.peek(rt, &key) {
-        Ok(_version) => Told::Nothing,
-        Err(_) => Told::Refused,
+        Ok(_version) => {}
+        Err(_) => tally.refuse(),
     }
 }
 
-impl<'a> Called<Counted<'a>> for Index<'a> {
+impl<'a> Called<'a> for Index<'a> {
     fn make(alloc: Global) -> Option<Index<'a>> {
         HashIndex::new(alloc).ok()
     }
 
-    fn call<R: Wait>(&self, rt: &R, kind: u64, key: u64, value: Counted<'a>) -> Told {
+    fn call<R: Wait>(&self, rt: &R, counts: &'a Counts, kind: u64, key: u64, tally: &mut Tally) {
         match kind {
-            0 | 1 => told_of_pair(self.insert_sync(rt, key, value)),
-            2 | 3 => publish(rt, self, key, value),
-            4 | 5 | 6 => told_out(self.remove_sync(rt, &key)),
-            _ => peek(rt, self, key),
+            0 | 1 => note_pair(self.insert_sync(rt, key, counts.make()), key, tally),
+            2 | 3 => publish(rt, self, counts, key, tally),
+            4 | 5 | 6 => {
+                if self.remove_sync(rt, &key) {
+                    tally.subtract(key);
+                }
+            }
+            _ => peek(rt, self, key, tally),
         }
     }
 
@@ -202,38 +213,46 @@ impl<'a> Called<Counted<'a>> for Index<'a> {
 }
 
 // A put.
-fn put<'a, R: Wait>(rt: &R, cache: &Cache<'a>, key: u64, value: Counted<'a>) -> Told {
-    match cache.put_sync(rt, key, value) {
-        Ok(evicted) => told_of_put(evicted),
-        Err(InsertError::Exists(_)) => Told::Nothing,
-        Err(InsertError::Memory(_)) => Told::Refused,
+fn put<'a, R: Wait>(rt: &R, cache: &Cache<'a>, counts: &'a Counts, key: u64, tally: &mut Tally) {
+    match cache.put_sync(rt, key, counts.make()) {
+        Ok(evicted) => note_put(evicted, key, tally),
+        Err(InsertError::Exists(_)) => {}
+        Err(InsertError::Memory(_)) => tally.refuse(),
     }
 }
 
 // A put through the entry, where it is vacant.
-fn put_vacant<'a, R: Wait>(rt: &R, cache: &Cache<'a>, key: u64, value: Counted<'a>) -> Told {
-    match cache.entry_sync(rt, key) {
-        scc_cache::locked::Entry::Vacant(entry) => match entry.put_entry(value) {
-            Ok((evicted, _entry)) => told_of_put(evicted),
-            Err(_) => Told::Refused,
-        },
-        scc_cache::locked::Entry::Occupied(_) => Told::Nothing,
+fn put_vacant<'a, R: Wait>(
+    rt: &R,
+    cache: &Cache<'a>,
+    counts: &'a Counts,
+    key: u64,
+    tally: &mut Tally,
+) {
+    if let scc_cache::locked::Entry::Vacant(entry) = cache.entry_sync(rt, key) {
+        match entry.put_entry(counts.make()) {
+            Ok((evicted, _entry)) => note_put(evicted, key, tally),
+            Err(_) => tally.refuse(),
+        }
     }
 }
 
-impl<'a> Called<Counted<'a>> for Cache<'a> {
+impl<'a> Called<'a> for Cache<'a> {
     fn make(alloc: Global) -> Option<Cache<'a>> {
         HashCache::new(alloc).ok()
     }
 
-    fn call<R: Wait>(&self, rt: &R, kind: u64, key: u64, value: Counted<'a>) -> Told {
+    fn call<R: Wait>(&self, rt: &R, counts: &'a Counts, kind: u64, key: u64, tally: &mut Tally) {
         match kind {
-            0 | 1 | 2 => put(rt, self, key, value),
-            3 | 4 => put_vacant(rt, self, key, value),
-            5 | 6 => told_out(self.remove_sync(rt, &key).is_some()),
+            0 | 1 | 2 => put(rt, self, counts, key, tally),
+            3 | 4 => put_vacant(rt, self, counts, key, tally),
+            5 | 6 => {
+                if self.remove_sync(rt, &key).is_some() {
+                    tally.subtract(key);
+                }
+            }
             _ => {
-                self.contains_sync(rt, &key);
-                Told::Nothing
+                let _there = self.contains_sync(rt, &key);
             }
         }
     }

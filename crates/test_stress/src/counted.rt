@@ -22,6 +22,12 @@ impl Counts {
     pub(crate) fn are_equal(&self) -> bool {
         self.made.load(Ordering::SeqCst) == self.dropped.load(Ordering::SeqCst)
     }
+
+    /// One more value.
+    pub(crate) fn make(&self) -> Counted<'_> {
+        self.made.fetch_add(1, Ordering::SeqCst);
+        Counted { counts: self }
+    }
 }
 
 /// A value whose drop is counted.
@@ -33,21 +39,5 @@ impl Drop for Counted<'_> {
     fn drop(self) {
         let Counted { counts } = self;
         counts.dropped.fetch_add(1, Ordering::SeqCst);
-    }
-}
-
-/// Makes counted values.
-#[derive(Drop)]
-pub struct Maker<'a> {
-    pub counts: &'a Counts,
-}
-
-impl<'a> Maker<'a> {
-    /// One more value.
-    pub(crate) fn make(&self) -> Counted<'a> {
-        self.counts.made.fetch_add(1, Ordering::SeqCst);
-        Counted {
-            counts: self.counts,
-        }
     }
 }

@@ -1,14 +1,16 @@
 //! Eight workers on one recorded stripe of each kind: every other call on a key of a worker's own, the others on eight
 //! keys that all share.
-ghost use Rattle.std.specs.Prelude.{◌≡◌, ◌<◌, Some};
-ghost use Rattle.scc_recorded.specs.Setups.{IsStripes, request_of};
+ghost use Rattle.std.specs.Prelude.{◌≡◌, Some};
+ghost use Rattle.scc_recorded.specs.Setups.{request_of};
 
-use crate::finished::finishes_as_plain;
+use crate::finished::finish_as_plain;
 use crate::kinds::{Cache, Index, Map, Set};
-use crate::turns::{Crewed, Turns, WORKERS, work};
+use crate::turns::{all_turns, callers_of, passes_of};
+use scc_calls::Calls;
 use scc_common::{Shared, TryShare};
 use scc_recorded::{Pass, Recorded, Setup, Site};
 use scc_script::same::Same;
+use scc_workers::{Open, run};
 use std::alloc::{AllocError, Global};
 use std::marker::Brand;
 use std::sync::ledger::{Blank, Ledger};
@@ -20,99 +22,185 @@ pub(crate) fn shared(alloc: Global) -> Result<Shared<Same>, AllocError> {
     Ok(Shared::new(Arc::new(alloc, Same)?))
 }
 
-/// So many stripes for so many passes.
-pub(crate) fn open<C: Turns, L: Ledger, M: Site<C::Hasher>>(
+// One stripe for eight passes.
+fn opened<C: Calls + Drop, L: Ledger, M: Site<C::Hasher>>(
     alloc: Global,
     hasher: C::Hasher,
-    stripes: usize,
-    passes: usize,
     receipts: Blank,
     records: Blank,
 ) -> Result<(Recorded<C, L, M>, Vec<Pass<C, L>>), AllocError>
 where
     C::Hasher: TryShare + Drop,
-    requires receipts { (receipts.name ≡ L.name) × (receipts.parts ≡ L.parts) × (receipts.parts ≡ passes) }
-    requires records { (records.name ≡ M.name) × (records.parts ≡ M.parts) × (records.parts ≡ stripes) }
-    requires site { (M.chosen ≡ Some (request_of 0 128 hasher stripes)) × (M.all ≡ stripes) }
-    requires numbers { IsStripes stripes × (0 < passes) }
+    requires receipts { (receipts.name ≡ L.name) × (receipts.parts ≡ L.parts) × (receipts.parts ≡ 8) }
+    requires records { (records.name ≡ M.name) × (records.parts ≡ M.parts) × (records.parts ≡ 1) }
+    requires site { (M.chosen ≡ Some (request_of 0 128 hasher 1)) × (M.all ≡ 1) }
 {
     let setup = Setup {
         capacity: 0,
         maximum: 128,
         hasher,
     };
-    match Recorded::<C, L, M>::open(alloc, setup, stripes, passes, receipts, records) {
+    match Recorded::<C, L, M>::open(alloc, setup, 1, 8, receipts, records) {
         Ok(opened) => Ok(opened),
         Err(_) => Err(AllocError),
     }
 }
 
-// Whether eight workers are answered as they should be, and their run is finished as is promised.
-fn work_on<C, L, M, R>(
+// The number of call records of eight workers on a map, if all went as in one thread.
+fn work_on_map<
+    L: Ledger + Send + Sync,
+    M: Site<Shared<Same>> + Send + Sync,
+    R: Threads + Wait + Sync,
+>(
     rt: &R,
     alloc: Global,
-    hasher: C::Hasher,
+    hasher: Shared<Same>,
     receipts: Blank,
     records: Blank,
-) -> Result<bool, AllocError>
-where
-    C: Crewed,
-    C::Hasher: TryShare + Drop,
-    L: Ledger + Send + Sync,
-    M: Site<C::Hasher> + Send + Sync,
-    R: Threads + Wait + Sync,
+) -> Result<Option<usize>, AllocError>
     requires receipts { (receipts.name ≡ L.name) × (receipts.parts ≡ L.parts) × (receipts.parts ≡ 8) }
     requires records { (records.name ≡ M.name) × (records.parts ≡ M.parts) × (records.parts ≡ 1) }
     requires site { (M.chosen ≡ Some (request_of 0 128 hasher 1)) × (M.all ≡ 1) }
 {
-    let (recorded, passes) = open::<C, L, M>(alloc, hasher, 1, WORKERS, receipts, records)?;
-    match work(rt, alloc, &recorded, passes, None)? {
-        Some(passes) => finishes_as_plain(alloc, recorded, passes),
-        None => Ok(false),
+    let lists = all_turns::<Map>(alloc)?;
+    let (recorded, handed) = opened::<Map, L, M>(alloc, hasher, receipts, records)?;
+    let mut callers = callers_of(rt, alloc, &recorded, handed, lists.as_slice())?;
+    let ended = run(rt, alloc, callers.as_mut_slice(), &Open).is_ok();
+    match passes_of(alloc, callers)? {
+        Some(passes) if ended => finish_as_plain(alloc, recorded, passes),
+        _ => Ok(None),
     }
 }
 
-// Whether a crew on a container of that kind is right.
-fn crew_on<C, R>(
+fn of_map<R: Threads + Wait + Sync>(rt: &R, alloc: Global) -> Result<bool, AllocError> {
+    let records = work_on_map::<Brand, Brand, _>(
+        rt,
+        alloc,
+        shared(alloc)?,
+        Blank::new(8),
+        Blank::new(1),
+    )?;
+    Ok(records == Some(1600))
+}
+
+// The number of call records of eight workers on a set, if all went as in one thread.
+fn work_on_set<
+    L: Ledger + Send + Sync,
+    M: Site<Shared<Same>> + Send + Sync,
+    R: Threads + Wait + Sync,
+>(
     rt: &R,
     alloc: Global,
-    hasher: Result<C::Hasher, AllocError>,
-) -> Result<bool, AllocError>
-where
-    C: Crewed,
-    C::Hasher: TryShare + Drop,
-    R: Threads + Wait + Sync,
+    hasher: Shared<Same>,
+    receipts: Blank,
+    records: Blank,
+) -> Result<Option<usize>, AllocError>
+    requires receipts { (receipts.name ≡ L.name) × (receipts.parts ≡ L.parts) × (receipts.parts ≡ 8) }
+    requires records { (records.name ≡ M.name) × (records.parts ≡ M.parts) × (records.parts ≡ 1) }
+    requires site { (M.chosen ≡ Some (request_of 0 128 hasher 1)) × (M.all ≡ 1) }
 {
-    work_on::<C, Brand, Brand, R>(rt, alloc, hasher?, Blank::new(8), Blank::new(1))
+    let lists = all_turns::<Set>(alloc)?;
+    let (recorded, handed) = opened::<Set, L, M>(alloc, hasher, receipts, records)?;
+    let mut callers = callers_of(rt, alloc, &recorded, handed, lists.as_slice())?;
+    let ended = run(rt, alloc, callers.as_mut_slice(), &Open).is_ok();
+    match passes_of(alloc, callers)? {
+        Some(passes) if ended => finish_as_plain(alloc, recorded, passes),
+        _ => Ok(None),
+    }
+}
+
+fn of_set<R: Threads + Wait + Sync>(rt: &R, alloc: Global) -> Result<bool, AllocError> {
+    let records = work_on_set::<Brand, Brand, _>(
+        rt,
+        alloc,
+        shared(alloc)?,
+        Blank::new(8),
+        Blank::new(1),
+    )?;
+    Ok(records == Some(1600))
+}
+
+// The number of call records of eight workers on an index, if all went as in one thread.
+fn work_on_index<
+    L: Ledger + Send + Sync,
+    M: Site<Shared<Same>> + Send + Sync,
+    R: Threads + Wait + Sync,
+>(
+    rt: &R,
+    alloc: Global,
+    hasher: Shared<Same>,
+    receipts: Blank,
+    records: Blank,
+) -> Result<Option<usize>, AllocError>
+    requires receipts { (receipts.name ≡ L.name) × (receipts.parts ≡ L.parts) × (receipts.parts ≡ 8) }
+    requires records { (records.name ≡ M.name) × (records.parts ≡ M.parts) × (records.parts ≡ 1) }
+    requires site { (M.chosen ≡ Some (request_of 0 128 hasher 1)) × (M.all ≡ 1) }
+{
+    let lists = all_turns::<Index>(alloc)?;
+    let (recorded, handed) = opened::<Index, L, M>(alloc, hasher, receipts, records)?;
+    let mut callers = callers_of(rt, alloc, &recorded, handed, lists.as_slice())?;
+    let ended = run(rt, alloc, callers.as_mut_slice(), &Open).is_ok();
+    match passes_of(alloc, callers)? {
+        Some(passes) if ended => finish_as_plain(alloc, recorded, passes),
+        _ => Ok(None),
+    }
+}
+
+fn of_index<R: Threads + Wait + Sync>(rt: &R, alloc: Global) -> Result<bool, AllocError> {
+    let records = work_on_index::<Brand, Brand, _>(
+        rt,
+        alloc,
+        shared(alloc)?,
+        Blank::new(8),
+        Blank::new(1),
+    )?;
+    Ok(records == Some(1600))
+}
+
+// The number of call records of eight workers on a cache, if all went as in one thread.
+fn work_on_cache<
+    L: Ledger + Send + Sync,
+    M: Site<Shared<Same>> + Send + Sync,
+    R: Threads + Wait + Sync,
+>(
+    rt: &R,
+    alloc: Global,
+    hasher: Shared<Same>,
+    receipts: Blank,
+    records: Blank,
+) -> Result<Option<usize>, AllocError>
+    requires receipts { (receipts.name ≡ L.name) × (receipts.parts ≡ L.parts) × (receipts.parts ≡ 8) }
+    requires records { (records.name ≡ M.name) × (records.parts ≡ M.parts) × (records.parts ≡ 1) }
+    requires site { (M.chosen ≡ Some (request_of 0 128 hasher 1)) × (M.all ≡ 1) }
+{
+    let lists = all_turns::<Cache>(alloc)?;
+    let (recorded, handed) = opened::<Cache, L, M>(alloc, hasher, receipts, records)?;
+    let mut callers = callers_of(rt, alloc, &recorded, handed, lists.as_slice())?;
+    let ended = run(rt, alloc, callers.as_mut_slice(), &Open).is_ok();
+    match passes_of(alloc, callers)? {
+        Some(passes) if ended => finish_as_plain(alloc, recorded, passes),
+        _ => Ok(None),
+    }
+}
+
+fn of_cache<R: Threads + Wait + Sync>(rt: &R, alloc: Global) -> Result<bool, AllocError> {
+    let records = work_on_cache::<Brand, Brand, _>(
+        rt,
+        alloc,
+        shared(alloc)?,
+        Blank::new(8),
+        Blank::new(1),
+    )?;
+    Ok(records == Some(1600))
 }
 
 /// A line for each kind. The answer is the worst status.
 pub(crate) fn run_crews<R: Threads + Wait + Sync + AllocGlobal + Print>(rt: &R) -> u8 {
     let alloc = rt.alloc();
     let what = "eight workers on one stripe";
-    let map = say(
-        rt,
-        "recorded map",
-        what,
-        crew_on::<Map, R>(rt, alloc, shared(alloc)),
-    );
-    let set = say(
-        rt,
-        "recorded set",
-        what,
-        crew_on::<Set, R>(rt, alloc, shared(alloc)),
-    );
-    let index = say(
-        rt,
-        "recorded index",
-        what,
-        crew_on::<Index, R>(rt, alloc, shared(alloc)),
-    );
-    let cache = say(
-        rt,
-        "recorded cache",
-        what,
-        crew_on::<Cache, R>(rt, alloc, shared(alloc)),
-    );
+    let map = say(rt, "recorded map", what, of_map(rt, alloc));
+    let set = say(rt, "recorded set", what, of_set(rt, alloc));
+    let index = say(rt, "recorded index", what, of_index(rt, alloc));
+    let cache = say(rt, "recorded cache", what, of_cache(rt, alloc));
     map.max(set).max(index).max(cache)
 }

@@ -2,106 +2,36 @@
 //! holds.
 
 use crate::plain::Plain;
-use crate::turns::{TURNS, Turns, WORKERS};
-use scc_calls::Step;
+use crate::turns::Turns;
+use scc_calls::{Calls, Step};
 use scc_history::Receipt;
-use scc_recorded::{Closed, FinishError, Finished, Pass, Recorded, Site, Unfinished};
+use scc_recorded::{FinishError, Finished, Pass, Recorded, Site};
 use std::alloc::{AllocError, Global};
 use std::sync::ledger::Ledger;
 
-// The same receipt again.
-fn same_receipt<C: Turns>(receipt: &Receipt<C::Call, C::Reply>) -> Receipt<C::Call, C::Reply> {
-    Receipt {
-        stripe: receipt.stripe,
-        stamp: receipt.stamp,
-        call: C::same_call(&receipt.call),
-        reply: C::same_reply(&receipt.reply),
-    }
-}
-
-// Adds the receipts of a pass to the list, and says whether there was room.
-fn add_receipts<C: Turns, L: Ledger>(
-    receipts: &mut Vec<Receipt<C::Call, C::Reply>>,
-    pass: &Pass<C, L>,
-) -> bool {
-    let mut added = true;
-    for receipt in pass.receipts() {
-        added = receipts.push(same_receipt::<C>(receipt)).is_ok() && added;
-    }
-    added
-}
-
-// Adds the receipts of all passes, one pass after another, and says whether there was room.
-fn add_all_receipts<C: Turns, L: Ledger>(
-    receipts: &mut Vec<Receipt<C::Call, C::Reply>>,
+// The receipts of each pass, by its number.
+fn receipts_of<C: Calls, L: Ledger>(
+    alloc: Global,
     passes: &[Pass<C, L>],
-) -> bool {
-    let mut added = true;
+) -> Result<Vec<Vec<Receipt<C::Call, C::Reply>>>, AllocError> {
+    let mut lists = Vec::new(alloc);
     for pass in passes {
-        added = add_receipts(receipts, pass) && added;
+        let mut list = Vec::new(alloc);
+        for receipt in pass.receipts() {
+            list.push(Receipt {
+                stripe: receipt.stripe,
+                stamp: receipt.stamp,
+                call: receipt.call.clone()?,
+                reply: receipt.reply.clone()?,
+            })?;
+        }
+        lists.push(list)?;
     }
-    added
-}
-
-// The passes in another order with one more.
-fn joined<C: Turns, L: Ledger>(
-    passes: Vec<Pass<C, L>>,
-    last: Pass<C, L>,
-) -> Result<Vec<Pass<C, L>>, AllocError> {
-    let mut passes = passes;
-    passes.reverse();
-    match passes.push(last) {
-        Ok(()) => Ok(passes),
-        Err(_) => Err(AllocError),
-    }
-}
-
-// The finished run of all passes.
-fn finish_closed<C: Turns, L: Ledger, M: Site<C::Hasher>>(
-    closed: Closed<C, L, M>,
-    passes: Vec<Pass<C, L>>,
-) -> Option<Finished<C>>
-where
-    C::Hasher: Drop,
-{
-    closed.finish(passes).ok()
-}
-
-// The finished run, with the pass that was missing.
-fn finish_with<C: Turns, L: Ledger, M: Site<C::Hasher>>(
-    unfinished: Unfinished<C, L, M>,
-    last: Pass<C, L>,
-) -> Result<Option<Finished<C>>, AllocError>
-where
-    C::Hasher: Drop,
-{
-    let Unfinished {
-        recorded,
-        passes,
-        cause: _,
-    } = unfinished;
-    match joined(passes, last) {
-        Ok(passes) => Ok(finish_closed(recorded, passes)),
-        Err(error) => Err(error),
-    }
-}
-
-// All that was handed in, where a pass was missing.
-fn unfinished<C: Turns, L: Ledger, M: Site<C::Hasher>>(
-    recorded: Recorded<C, L, M>,
-    passes: Vec<Pass<C, L>>,
-) -> Option<Unfinished<C, L, M>>
-where
-    C::Hasher: Drop,
-{
-    match recorded.finish(passes) {
-        Err(unfinished) if unfinished.cause == FinishError::Missing => Some(unfinished),
-        _ => None,
-    }
+    Ok(lists)
 }
 
 // The finished run, where it was refused as long as a pass was missing, and then made with the passes in another order.
-pub(crate) fn finish_late<C: Turns, L: Ledger, M: Site<C::Hasher>>(
+pub(crate) fn finish_late<C: Calls + Drop, L: Ledger, M: Site<C::Hasher>>(
     recorded: Recorded<C, L, M>,
     passes: Vec<Pass<C, L>>,
 ) -> Result<Option<Finished<C>>, AllocError>
@@ -109,64 +39,74 @@ where
     C::Hasher: Drop,
 {
     let mut passes = passes;
-    match passes.pop() {
-        Some(last) => match unfinished(recorded, passes) {
-            Some(unfinished) => finish_with(unfinished, last),
-            None => Ok(None),
-        },
-        None => Ok(None),
+    let Some(last) = passes.pop() else {
+        return Ok(None);
+    };
+    let Err(unfinished) = recorded.finish(passes) else {
+        return Ok(None);
+    };
+    let is_missing = unfinished.cause == FinishError::Missing;
+    let mut passes = unfinished.passes;
+    passes.reverse();
+    passes.push(last)?;
+    match unfinished.recorded.finish(passes) {
+        Ok(finished) if is_missing => Ok(Some(finished)),
+        _ => Ok(None),
     }
 }
 
 // The step at a place, if there is one.
-fn step_at<C: Turns>(
+fn step_at<C: Calls>(
     finished: &Finished<C>,
     place: (usize, usize),
 ) -> Option<&Step<C::Call, C::Reply>> {
-    match finished.histories.get(place.0) {
-        Some(history) => history.get(place.1),
-        None => None,
-    }
+    finished.histories.get(place.0)?.get(place.1)
 }
 
-// How many steps a stripe has.
-fn steps_of<C: Turns>(finished: &Finished<C>, stripe: usize) -> usize {
-    match finished.histories.get(stripe) {
-        Some(history) => history.len(),
-        None => 0,
-    }
-}
-
-// Whether that is the next step of its stripe, of which the number is counted.
-fn is_next(next: &mut [usize; 2], place: (usize, usize)) -> bool {
-    match next.get_mut(place.0) {
-        Some(index) => {
-            let right = *index == place.1;
-            *index = index.saturating_add(1);
-            right
-        }
-        None => false,
-    }
-}
-
-// Whether the order has each step of each history once, in that history's order. There are two stripes at most.
-pub(crate) fn has_each_place<C: Turns>(finished: &Finished<C>) -> bool {
-    let mut next = [0usize; 2];
-    let mut right = finished.histories.len() <= 2;
+// Whether the order has each step of each history once, in that history's order.
+pub(crate) fn has_each_place<C: Calls>(
+    alloc: Global,
+    finished: &Finished<C>,
+) -> Result<bool, AllocError> {
+    let mut next = vec![in alloc; 0usize; finished.histories.len()]?;
+    let mut right = true;
     for place in finished.order.iter() {
-        right = is_next(&mut next, *place) && right;
+        match next.get_mut(place.0) {
+            Some(index) => {
+                right = right && *index == place.1;
+                *index = index.saturating_add(1);
+            }
+            None => right = false,
+        }
     }
-    right && next == [steps_of(finished, 0), steps_of(finished, 1)]
+    for (count, history) in next.iter().zip(finished.histories.iter()) {
+        right = right && *count == history.len();
+    }
+    Ok(right)
+}
+
+// Whether the stamps of calls don't fall along the order.
+fn has_rising_stamps<C: Calls>(finished: &Finished<C>) -> bool {
+    let mut last = 0u64;
+    let mut right = true;
+    for place in finished.order.iter() {
+        if let Some(Step::Call { stamp, .. }) = step_at(finished, *place) {
+            right = right && last <= *stamp;
+            last = *stamp;
+        }
+    }
+    right
 }
 
 // Whether a record is the receipt at that place.
 fn is_receipt<C: Turns>(
-    receipt: Option<&Receipt<C::Call, C::Reply>>,
+    receipts: &[Receipt<C::Call, C::Reply>],
+    place: usize,
     at: (usize, u64),
     call: &C::Call,
     reply: &C::Reply,
 ) -> bool {
-    match receipt {
+    match receipts.get(place) {
         Some(receipt) => {
             (receipt.stripe, receipt.stamp) == at
                 && receipt.call == *call
@@ -176,135 +116,104 @@ fn is_receipt<C: Turns>(
     }
 }
 
-// How many call records of each worker came so far, and the last stamp.
-#[derive(Drop)]
-struct Came {
-    next: [usize; WORKERS],
-    last: u64,
-}
-
-impl Came {
-    // The place of the worker's next receipt among all, which is counted; None where there is no such worker.
-    fn next_of(&mut self, worker: usize) -> Option<usize> {
-        match self.next.get_mut(worker) {
-            Some(made) => {
-                let place = worker.wrapping_mul(TURNS).wrapping_add(*made);
-                *made = made.saturating_add(1);
-                Some(place)
-            }
-            None => None,
-        }
-    }
-
-    // Whether a stamp doesn't fall behind the last one, which it becomes.
-    fn rises_to(&mut self, stamp: u64) -> bool {
-        let right = self.last <= stamp;
-        self.last = stamp;
-        right
-    }
-}
-
-// Whether a step of that stripe, if it is a call, is the next receipt of its worker, with a stamp that doesn't fall.
-fn comes_next<C: Turns>(
-    came: &mut Came,
-    receipts: &[Receipt<C::Call, C::Reply>],
-    stripe: usize,
-    step: Option<&Step<C::Call, C::Reply>>,
-) -> bool {
-    match step {
-        Some(
+// The number of call records, where those of each pass along the order are its receipts, one for one.
+fn count_receipted<C: Turns>(
+    alloc: Global,
+    finished: &Finished<C>,
+    receipts: &[Vec<Receipt<C::Call, C::Reply>>],
+) -> Result<Option<usize>, AllocError> {
+    let mut next = vec![in alloc; 0usize; receipts.len()]?;
+    let mut right = true;
+    let mut count = 0usize;
+    for place in finished.order.iter() {
+        let Some(
             Step::Call {
                 stamp,
                 pass,
                 call,
                 reply,
             },
-        ) => match came.next_of(*pass) {
-            Some(place) => {
-                let right = is_receipt::<C>(receipts.get(place), (stripe, *stamp), call, reply);
-                came.rises_to(*stamp) && right
-            }
-            None => false,
-        },
-        _ => true,
+        ) = step_at(finished, *place)
+        else {
+            continue;
+        };
+        let (Some(list), Some(made)) = (receipts.get(*pass), next.get_mut(*pass)) else {
+            return Ok(None);
+        };
+        right = right && is_receipt::<C>(list.as_slice(), *made, (place.0, *stamp), call, reply);
+        *made = made.saturating_add(1);
+        count = count.saturating_add(1);
     }
-}
-
-// Whether the call records of each worker along the order are its receipts, one for one, and their stamps don't fall.
-fn are_receipts<C: Turns>(finished: &Finished<C>, receipts: &[Receipt<C::Call, C::Reply>]) -> bool {
-    let mut came = Came {
-        next: [0; WORKERS],
-        last: 0,
-    };
-    let mut right = receipts.len() == WORKERS * TURNS;
-    for place in finished.order.iter() {
-        right = comes_next::<C>(&mut came, receipts, place.0, step_at(finished, *place)) && right;
+    for (made, list) in next.iter().zip(receipts) {
+        right = right && *made == list.len();
     }
-    right && came.next == [TURNS; WORKERS]
+    Ok(if right { Some(count) } else { None })
 }
 
 // Whether the steps of a run on one stripe, one after another on a plain list, are answered as they were.
-fn plays_on<C: Turns>(plain: &mut Plain, finished: &Finished<C>) -> bool {
+fn plays_on<C: Turns>(
+    alloc: Global,
+    plain: &mut Plain,
+    finished: &Finished<C>,
+) -> Result<bool, AllocError> {
     let mut right = true;
     for place in finished.order.iter() {
         match step_at(finished, *place) {
-            Some(Step::Call { call, reply, .. }) => right = C::plays(plain, call, reply) && right,
-            Some(Step::Resize { buckets, .. }) => plain.regroup(*buckets),
+            Some(Step::Call { call, reply, .. }) => {
+                right = C::plays(alloc, plain, call, reply)? && right;
+            }
+            Some(Step::Resize { buckets, .. }) => plain.regroup(alloc, *buckets)?,
             None => right = false,
         }
     }
-    right
+    Ok(right)
 }
 
-// Whether the only part holds just what the list has.
-fn holds<C: Turns>(alloc: Global, plain: &mut Plain, parts: &[C]) -> bool {
+// Whether a part holds just what the list has.
+fn holds<C: Turns>(alloc: Global, plain: &mut Plain, part: &C) -> Result<bool, AllocError> {
     let mut met = Vec::new(alloc);
-    match parts {
-        [part] => part.collect(&mut met) && plain.is_met_by(met.as_mut_slice(), C::IS_ORDERED),
-        _ => false,
+    if !part.collect(&mut met) || part.count() != plain.len() {
+        return Ok(false);
     }
-}
-
-// Whether the records of a run on one stripe are answered on a plain list as they were, which then has what the stripe
-// holds.
-fn is_as_plain<C: Turns>(alloc: Global, finished: &Finished<C>) -> Result<bool, AllocError> {
-    let mut plain = Plain::new(alloc);
-    let right = plays_on(&mut plain, finished)
-        && holds(alloc, &mut plain, finished.parts.as_slice());
-    if plain.is_refused() {
-        Err(AllocError)
+    if C::is_ordered() {
+        plain.is_met_in_order_by(alloc, met.as_slice())
     } else {
-        Ok(right)
+        Ok(plain.is_met_by(met.as_slice()))
     }
 }
 
-// Whether all that is promised of a finished run of a crew on one stripe holds.
-fn is_right<C: Turns>(
+// The number of call records of a run on one stripe, where all that is promised of it holds.
+fn count_checked<C: Turns>(
     alloc: Global,
     finished: &Finished<C>,
-    receipts: &[Receipt<C::Call, C::Reply>],
-) -> Result<bool, AllocError> {
-    if has_each_place(finished) && are_receipts(finished, receipts) {
-        is_as_plain(alloc, finished)
+    receipts: &[Vec<Receipt<C::Call, C::Reply>>],
+) -> Result<Option<usize>, AllocError> {
+    let ordered = has_each_place(alloc, finished)? && has_rising_stamps(finished);
+    let mut plain = Plain::new(alloc);
+    let played = plays_on(alloc, &mut plain, finished)?;
+    let held = match finished.parts.first() {
+        Some(part) => finished.parts.len() == 1 && holds(alloc, &mut plain, part)?,
+        None => false,
+    };
+    if ordered && played && held {
+        count_receipted(alloc, finished, receipts)
     } else {
-        Ok(false)
+        Ok(None)
     }
 }
 
-// Finishes a run of a crew on one stripe, and says whether all that is promised of it holds.
-pub(crate) fn finishes_as_plain<C: Turns, L: Ledger, M: Site<C::Hasher>>(
+// Finishes a run on one stripe, and counts its call records where all that is promised of it holds.
+pub(crate) fn finish_as_plain<C: Turns, L: Ledger, M: Site<C::Hasher>>(
     alloc: Global,
     recorded: Recorded<C, L, M>,
     passes: Vec<Pass<C, L>>,
-) -> Result<bool, AllocError>
+) -> Result<Option<usize>, AllocError>
 where
     C::Hasher: Drop,
 {
-    let mut receipts = Vec::new(alloc);
-    let added = add_all_receipts(&mut receipts, passes.as_slice());
-    match finish_late(recorded, passes) {
-        Ok(Some(finished)) if added => is_right(alloc, &finished, receipts.as_slice()),
-        Ok(None) if added => Ok(false),
-        _ => Err(AllocError),
+    let receipts = receipts_of(alloc, passes.as_slice())?;
+    match finish_late(recorded, passes)? {
+        Some(finished) => count_checked(alloc, &finished, receipts.as_slice()),
+        None => Ok(None),
     }
 }

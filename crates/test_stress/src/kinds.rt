@@ -6,6 +6,7 @@ use crate::turns::Turns;
 use scc_calls::{CacheCall, IndexCall, MapCall, Reply, SetCall};
 use scc_common::Shared;
 use scc_script::same::Same;
+use std::alloc::{AllocError, Global};
 
 pub(crate) type Map = scc_map::Owned<u64, u64, Shared<Same>>;
 
@@ -15,19 +16,38 @@ pub(crate) type Index = scc_index::Owned<u64, u64, Shared<Same>>;
 
 pub(crate) type Cache = scc_cache::Owned<u64, u64, Shared<Same>>;
 
-// What an insertion into the list is answered.
-fn insert(plain: &mut Plain, key: u64, value: u64) -> Reply<u64, u64> {
-    if plain.value(key).is_some() {
-        return Reply::Exists(key, value);
+// An insertion into the list.
+fn insert(plain: &mut Plain, key: u64, value: u64) -> Result<Reply<u64, u64>, AllocError> {
+    if plain.has(key) {
+        return Ok(Reply::Exists(key, value));
     }
-    plain.set(key, value);
-    Reply::Inserted
+    plain.set(key, value)?;
+    Ok(Reply::Inserted)
+}
+
+// A put into the list, whose reply says what was driven out.
+fn put(
+    alloc: Global,
+    plain: &mut Plain,
+    pair: (u64, u64),
+    reply: &Reply<u64, u64>,
+) -> Result<bool, AllocError> {
+    let (key, value) = pair;
+    if plain.has(key) {
+        return Ok(*reply == Reply::Exists(key, value));
+    }
+    match reply {
+        Reply::Evicted(gone) => {
+            let is_right = plain.evict(alloc, key, *gone)?;
+            plain.set(key, value)?;
+            Ok(is_right)
+        }
+        _ => Ok(false),
+    }
 }
 
 impl Turns for Map {
-    const IS_ORDERED: bool = false;
-
-    fn turn_on(key: u64, j: u64) -> (MapCall<u64, u64>, Option<Reply<u64, u64>>) {
+    fn own_turn(key: u64, j: u64) -> (MapCall<u64, u64>, Option<Reply<u64, u64>>) {
         let before = j.wrapping_sub(2);
         match j % 16 {
             0 | 8 => (MapCall::Insert(key, j), Some(Reply::Inserted)),
@@ -37,90 +57,123 @@ impl Turns for Map {
                 Some(Reply::Old(Some(j.wrapping_sub(4)))),
             ),
             6 => (MapCall::Contains(key), Some(Reply::Has(true))),
-            14 => (MapCall::Remove(key), Some(Reply::Pair(Some((key, before))))),
-            1 | 9 => (MapCall::Upsert(key, j), None),
-            3 | 11 => (MapCall::Remove(key), None),
-            5 | 13 => (MapCall::Read(key), None),
-            _ => (MapCall::Insert(key, j), None),
+            _ => (MapCall::Remove(key), Some(Reply::Pair(Some((key, before))))),
         }
     }
 
-    fn plays(plain: &mut Plain, call: &MapCall<u64, u64>, reply: &Reply<u64, u64>) -> bool {
+    fn shared_turn(key: u64, j: u64) -> MapCall<u64, u64> {
+        match j % 8 {
+            1 => MapCall::Upsert(key, j),
+            3 => MapCall::Remove(key),
+            5 => MapCall::Read(key),
+            _ => MapCall::Insert(key, j),
+        }
+    }
+
+    fn plays(
+        _alloc: Global,
+        plain: &mut Plain,
+        call: &MapCall<u64, u64>,
+        reply: &Reply<u64, u64>,
+    ) -> Result<bool, AllocError> {
         let wanted = match call {
-            MapCall::Insert(key, value) => insert(plain, *key, *value),
+            MapCall::Insert(key, value) => insert(plain, *key, *value)?,
             MapCall::Upsert(key, value) => {
                 let old = plain.value(*key);
-                plain.set(*key, *value);
+                plain.set(*key, *value)?;
                 Reply::Old(old)
             }
             MapCall::Replace(key) => Reply::Key(plain.key(*key)),
             MapCall::Read(key) => Reply::Value(plain.value(*key)),
-            MapCall::Contains(key) => Reply::Has(plain.value(*key).is_some()),
+            MapCall::Contains(key) => Reply::Has(plain.has(*key)),
             MapCall::Remove(key) => Reply::Pair(plain.remove(*key)),
-            MapCall::Clear | MapCall::Len => return false,
+            MapCall::Clear | MapCall::Len => return Ok(false),
         };
-        *reply == wanted
+        Ok(*reply == wanted)
     }
 
     fn collect(&self, met: &mut Vec<(u64, u64)>) -> bool {
-        self.iter_sync(|key, value| met.push((*key, *value)).is_ok()) && self.len() == met.len()
+        self.iter_sync(|key, value| met.push((*key, *value)).is_ok())
     }
+
+    fn count(&self) -> usize {
+        self.len()
+    }
+
+    fn is_ordered() -> bool {
+        false
+    }
+
+    fn equal_calls() {}
+
+    fn equal_replies() {}
 }
 
 impl Turns for Set {
-    const IS_ORDERED: bool = false;
-
-    fn turn_on(key: u64, j: u64) -> (SetCall<u64>, Option<Reply<u64, ()>>) {
+    fn own_turn(key: u64, j: u64) -> (SetCall<u64>, Option<Reply<u64, ()>>) {
         let stored = Some(Reply::Key(Some(key)));
         match j % 16 {
             0 | 8 => (SetCall::Insert(key), Some(Reply::Inserted)),
             2 | 10 => (SetCall::Read(key), stored),
             4 | 12 => (SetCall::Replace(key), stored),
             6 => (SetCall::Contains(key), Some(Reply::Has(true))),
-            14 => (SetCall::Remove(key), stored),
-            1 | 9 => (SetCall::Replace(key), None),
-            3 | 11 => (SetCall::Remove(key), None),
-            5 | 13 => (SetCall::Read(key), None),
-            _ => (SetCall::Insert(key), None),
+            _ => (SetCall::Remove(key), stored),
         }
     }
 
-    fn plays(plain: &mut Plain, call: &SetCall<u64>, reply: &Reply<u64, ()>) -> bool {
+    fn shared_turn(key: u64, j: u64) -> SetCall<u64> {
+        match j % 8 {
+            1 => SetCall::Replace(key),
+            3 => SetCall::Remove(key),
+            5 => SetCall::Read(key),
+            _ => SetCall::Insert(key),
+        }
+    }
+
+    fn plays(
+        _alloc: Global,
+        plain: &mut Plain,
+        call: &SetCall<u64>,
+        reply: &Reply<u64, ()>,
+    ) -> Result<bool, AllocError> {
         let wanted = match call {
+            SetCall::Insert(key) if plain.has(*key) => Reply::Exists(*key, ()),
             SetCall::Insert(key) => {
-                if plain.value(*key).is_some() {
-                    Reply::Exists(*key, ())
-                } else {
-                    plain.set(*key, 0);
-                    Reply::Inserted
-                }
+                plain.set(*key, 0)?;
+                Reply::Inserted
             }
             SetCall::Replace(key) => {
                 let old = plain.key(*key);
-                plain.set(*key, 0);
+                plain.set(*key, 0)?;
                 Reply::Key(old)
             }
             SetCall::Read(key) => Reply::Key(plain.key(*key)),
-            SetCall::Contains(key) => Reply::Has(plain.value(*key).is_some()),
-            SetCall::Remove(key) => {
-                let old = plain.key(*key);
-                plain.remove(*key);
-                Reply::Key(old)
-            }
-            SetCall::Clear | SetCall::Len => return false,
+            SetCall::Contains(key) => Reply::Has(plain.has(*key)),
+            SetCall::Remove(key) => Reply::Key(plain.remove(*key).map(|pair| pair.0)),
+            SetCall::Clear | SetCall::Len => return Ok(false),
         };
-        *reply == wanted
+        Ok(*reply == wanted)
     }
 
     fn collect(&self, met: &mut Vec<(u64, u64)>) -> bool {
-        self.iter_sync(|key| met.push((*key, 0)).is_ok()) && self.len() == met.len()
+        self.iter_sync(|key| met.push((*key, 0)).is_ok())
     }
+
+    fn count(&self) -> usize {
+        self.len()
+    }
+
+    fn is_ordered() -> bool {
+        false
+    }
+
+    fn equal_calls() {}
+
+    fn equal_replies() {}
 }
 
 impl Turns for Index {
-    const IS_ORDERED: bool = false;
-
-    fn turn_on(key: u64, j: u64) -> (IndexCall<u64, u64>, Option<Reply<u64, u64>>) {
+    fn own_turn(key: u64, j: u64) -> (IndexCall<u64, u64>, Option<Reply<u64, u64>>) {
         let there = Some(Reply::Has(true));
         match j % 16 {
             0 | 8 => (IndexCall::Insert(key, j), Some(Reply::Inserted)),
@@ -130,85 +183,124 @@ impl Turns for Index {
             ),
             4 | 12 => (IndexCall::Update(key, j), there),
             6 => (IndexCall::Contains(key), there),
-            14 => (IndexCall::Remove(key), there),
-            1 | 9 => (IndexCall::Update(key, j), None),
-            3 | 11 => (IndexCall::Remove(key), None),
-            5 | 13 => (IndexCall::Read(key), None),
-            _ => (IndexCall::Insert(key, j), None),
+            _ => (IndexCall::Remove(key), there),
         }
     }
 
-    fn plays(plain: &mut Plain, call: &IndexCall<u64, u64>, reply: &Reply<u64, u64>) -> bool {
+    fn shared_turn(key: u64, j: u64) -> IndexCall<u64, u64> {
+        match j % 8 {
+            1 => IndexCall::Update(key, j),
+            3 => IndexCall::Remove(key),
+            5 => IndexCall::Read(key),
+            _ => IndexCall::Insert(key, j),
+        }
+    }
+
+    fn plays(
+        _alloc: Global,
+        plain: &mut Plain,
+        call: &IndexCall<u64, u64>,
+        reply: &Reply<u64, u64>,
+    ) -> Result<bool, AllocError> {
         let wanted = match call {
-            IndexCall::Insert(key, value) => insert(plain, *key, *value),
+            IndexCall::Insert(key, value) => insert(plain, *key, *value)?,
             IndexCall::Update(key, value) => {
-                let is_there = plain.value(*key).is_some();
+                let is_there = plain.has(*key);
                 if is_there {
-                    plain.set(*key, *value);
+                    plain.set(*key, *value)?;
                 }
                 Reply::Has(is_there)
             }
             IndexCall::Read(key) => Reply::Value(plain.value(*key)),
-            IndexCall::Contains(key) => Reply::Has(plain.value(*key).is_some()),
+            IndexCall::Contains(key) => Reply::Has(plain.has(*key)),
             IndexCall::Remove(key) => Reply::Has(plain.remove(*key).is_some()),
-            IndexCall::Clear | IndexCall::Len => return false,
+            IndexCall::Clear | IndexCall::Len => return Ok(false),
         };
-        *reply == wanted
+        Ok(*reply == wanted)
     }
 
     fn collect(&self, met: &mut Vec<(u64, u64)>) -> bool {
-        self.iter_sync(|key, value| met.push((*key, *value)).is_ok()) && self.len() == met.len()
+        self.iter_sync(|key, value| met.push((*key, *value)).is_ok())
     }
+
+    fn count(&self) -> usize {
+        self.len()
+    }
+
+    fn is_ordered() -> bool {
+        false
+    }
+
+    fn equal_calls() {}
+
+    fn equal_replies() {}
 }
 
 // A cache may have lost a worker's key to another's.
 impl Turns for Cache {
-    const IS_ORDERED: bool = true;
-
-    fn turn_on(key: u64, j: u64) -> (CacheCall<u64, u64>, Option<Reply<u64, u64>>) {
-        let call = match j % 16 {
-            2 | 10 | 5 | 13 => CacheCall::Get(key),
-            4 | 12 => CacheCall::Write(key, j),
-            6 => CacheCall::Contains(key),
-            14 | 3 | 11 => CacheCall::Remove(key),
-            1 | 9 => CacheCall::Replace(key),
-            _ => CacheCall::Put(key, j),
-        };
-        (call, None)
+    fn own_turn(key: u64, j: u64) -> (CacheCall<u64, u64>, Option<Reply<u64, u64>>) {
+        match j % 16 {
+            0 | 8 => (CacheCall::Put(key, j), None),
+            2 | 10 => (CacheCall::Get(key), None),
+            4 | 12 => (CacheCall::Write(key, j), None),
+            6 => (CacheCall::Contains(key), None),
+            _ => (CacheCall::Remove(key), None),
+        }
     }
 
-    fn plays(plain: &mut Plain, call: &CacheCall<u64, u64>, reply: &Reply<u64, u64>) -> bool {
+    fn shared_turn(key: u64, j: u64) -> CacheCall<u64, u64> {
+        match j % 8 {
+            1 => CacheCall::Replace(key),
+            3 => CacheCall::Remove(key),
+            5 => CacheCall::Get(key),
+            _ => CacheCall::Put(key, j),
+        }
+    }
+
+    fn plays(
+        alloc: Global,
+        plain: &mut Plain,
+        call: &CacheCall<u64, u64>,
+        reply: &Reply<u64, u64>,
+    ) -> Result<bool, AllocError> {
         let wanted = match call {
-            CacheCall::Put(key, value) => {
-                if plain.value(*key).is_some() {
-                    Reply::Exists(*key, *value)
-                } else {
-                    let gone = plain.evict(*key);
-                    plain.set(*key, *value);
-                    Reply::Evicted(gone)
-                }
-            }
+            CacheCall::Put(key, value) => return put(alloc, plain, (*key, *value), reply),
             CacheCall::Write(key, value) => {
                 let old = plain.value(*key);
                 if old.is_some() {
-                    plain.set(*key, *value);
+                    plain.set(*key, *value)?;
                 }
                 Reply::Old(old)
             }
-            CacheCall::Get(key) => Reply::Value(plain.touch(*key)),
+            CacheCall::Get(key) => {
+                plain.touch(*key)?;
+                Reply::Value(plain.value(*key))
+            }
             CacheCall::Replace(key) => {
-                plain.touch(*key);
+                plain.touch(*key)?;
                 Reply::Key(plain.key(*key))
             }
             CacheCall::Read(key) => Reply::Value(plain.value(*key)),
-            CacheCall::Contains(key) => Reply::Has(plain.value(*key).is_some()),
+            CacheCall::Contains(key) => Reply::Has(plain.has(*key)),
             CacheCall::Remove(key) => Reply::Pair(plain.remove(*key)),
-            CacheCall::Clear | CacheCall::Len => return false,
+            CacheCall::Clear | CacheCall::Len => return Ok(false),
         };
-        *reply == wanted
+        Ok(*reply == wanted)
     }
 
     fn collect(&self, met: &mut Vec<(u64, u64)>) -> bool {
-        self.iter_sync(|key, value| met.push((*key, *value)).is_ok()) && self.len() == met.len()
+        self.iter_sync(|key, value| met.push((*key, *value)).is_ok())
     }
+
+    fn count(&self) -> usize {
+        self.len()
+    }
+
+    fn is_ordered() -> bool {
+        true
+    }
+
+    fn equal_calls() {}
+
+    fn equal_replies() {}
 }

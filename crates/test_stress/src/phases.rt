@@ -3,13 +3,15 @@
 ghost use Rattle.std.specs.Prelude.{◌≡◌, Some};
 ghost use Rattle.scc_recorded.specs.Setups.{request_of};
 
-use crate::crews::{open, shared};
+use crate::crews::shared;
 use crate::finished::{finish_late, has_each_place};
 use crate::kinds::Map;
-use crate::turns::{CALLS, work};
+use crate::turns::{callers_of, passes_of};
+use scc_calls::{MapCall, Reply};
 use scc_common::Shared;
-use scc_recorded::{Finished, Pass, Recorded, Site};
+use scc_recorded::{Finished, Pass, Recorded, Setup, Site};
 use scc_script::same::Same;
+use scc_workers::{Open, run};
 use std::alloc::{AllocError, Global};
 use std::marker::Brand;
 use std::sync::Wait;
@@ -17,54 +19,28 @@ use std::sync::ledger::{Blank, Ledger};
 use std::thread::Threads;
 use test_kit::lines::say;
 
-// Whether a pass has a receipt for each of its calls, all of that stripe, with stamps above one and up to another.
-fn are_between<L: Ledger>(pass: &Pass<Map, L>, stripe: usize, above: u64, last: u64) -> bool {
-    let mut right = pass.receipts().len() == CALLS;
-    for receipt in pass.receipts() {
-        let stamp = receipt.stamp;
-        right = right && receipt.stripe == stripe && above < stamp && stamp <= last;
+/// The first key of the second stripe.
+const HIGH: u64 = 1 << 63;
+
+/// The calls of each worker.
+const CALLS: u64 = 50;
+
+type Made = (MapCall<u64, u64>, Option<Reply<u64, u64>>);
+
+// Insertions from that key on, in a list by itself.
+fn insertions(alloc: Global, first: u64) -> Result<Vec<Vec<Made>>, AllocError> {
+    let mut calls: Vec<Made> = Vec::new(alloc);
+    for number in 0..CALLS {
+        let call = MapCall::Insert(first | number, number);
+        calls.push((call, Some(Reply::Inserted)))?;
     }
-    right
+    let mut lists = Vec::new(alloc);
+    lists.push(calls)?;
+    Ok(lists)
 }
 
-// Whether all receipts of the second pass have stamps above all of the first. Stamps begin at 1.
-fn is_later<L: Ledger>(passes: &[Pass<Map, L>]) -> bool {
-    match passes {
-        [first, second] => {
-            let clock = first.clock();
-            are_between(first, 0, 0, clock) && are_between(second, 1, clock, u64::MAX)
-        }
-        _ => false,
-    }
-}
-
-// The passes with one more, which was told of the first.
-fn with_told<L: Ledger>(
-    passes: Vec<Pass<Map, L>>,
-    last: Pass<Map, L>,
-) -> Result<Vec<Pass<Map, L>>, AllocError> {
-    let mut passes = passes;
-    let mut last = last;
-    if let Some(first) = passes.first() {
-        last.told(first);
-    }
-    match passes.push(last) {
-        Ok(()) => Ok(passes),
-        Err(_) => Err(AllocError),
-    }
-}
-
-// The passes, of which the last was told of the first.
-fn tell<L: Ledger>(passes: Vec<Pass<Map, L>>) -> Result<Vec<Pass<Map, L>>, AllocError> {
-    let mut passes = passes;
-    match passes.pop() {
-        Some(last) => with_told(passes, last),
-        None => Ok(passes),
-    }
-}
-
-// The passes after both phases, if each worker was answered as it should be.
-fn work_in_turn<
+// The pass of a worker that made its calls on a thread of its own, if each was answered as it should be.
+fn work_alone<
     L: Ledger + Send + Sync,
     M: Site<Shared<Same>> + Send + Sync,
     R: Threads + Wait + Sync,
@@ -72,12 +48,33 @@ fn work_in_turn<
     rt: &R,
     alloc: Global,
     recorded: &Recorded<Map, L, M>,
-    passes: Vec<Pass<Map, L>>,
-) -> Result<Option<Vec<Pass<Map, L>>>, AllocError> {
-    match work(rt, alloc, recorded, passes, Some(0))? {
-        Some(passes) => work(rt, alloc, recorded, tell(passes)?, Some(1)),
-        None => Ok(None),
+    pass: Pass<Map, L>,
+    first: u64,
+) -> Result<Option<Pass<Map, L>>, AllocError> {
+    let lists = insertions(alloc, first)?;
+    let mut handed = Vec::new(alloc);
+    handed.push(pass)?;
+    let mut callers = callers_of(rt, alloc, recorded, handed, lists.as_slice())?;
+    let ended = run(rt, alloc, callers.as_mut_slice(), &Open).is_ok();
+    match passes_of(alloc, callers)? {
+        Some(mut passes) if ended => Ok(passes.pop()),
+        _ => Ok(None),
     }
+}
+
+// Whether all receipts of the second pass have stamps above all of the first.
+fn is_later<L: Ledger>(first: &Pass<Map, L>, second: &Pass<Map, L>) -> bool {
+    let clock = first.clock();
+    let made = (first.receipts().len(), second.receipts().len());
+    made == (CALLS as usize, CALLS as usize)
+        && first
+            .receipts()
+            .iter()
+            .all(|receipt| receipt.stripe == 0 && receipt.stamp <= clock)
+        && second
+            .receipts()
+            .iter()
+            .all(|receipt| receipt.stripe == 1 && receipt.stamp > clock)
 }
 
 // Whether no step of the first stripe stands after one of the second.
@@ -89,18 +86,6 @@ fn goes_in_phases(finished: &Finished<Map>) -> bool {
         last = place.0;
     }
     right && last == 1
-}
-
-// Whether the run of both workers is finished, with the second one later.
-fn ends_in_phases<L: Ledger, M: Site<Shared<Same>>>(
-    recorded: Recorded<Map, L, M>,
-    passes: Vec<Pass<Map, L>>,
-) -> Result<bool, AllocError> {
-    let later = is_later(passes.as_slice());
-    match finish_late(recorded, passes)? {
-        Some(finished) => Ok(later && goes_in_phases(&finished) && has_each_place(&finished)),
-        None => Ok(false),
-    }
 }
 
 // Whether a worker that was told of another comes later.
@@ -117,11 +102,35 @@ fn work_in_phases<
 ) -> Result<bool, AllocError>
     requires receipts { (receipts.name ≡ L.name) × (receipts.parts ≡ L.parts) × (receipts.parts ≡ 2) }
     requires records { (records.name ≡ M.name) × (records.parts ≡ M.parts) × (records.parts ≡ 2) }
-    requires site { (M.chosen ≡ Some (request_of 0 128 hasher 2)) × (M.all ≡ 2) }
+    requires site { (M.chosen ≡ Some (request_of 0 0 hasher 2)) × (M.all ≡ 2) }
 {
-    let (recorded, passes) = open::<Map, L, M>(alloc, hasher, 2, 2, receipts, records)?;
-    match work_in_turn(rt, alloc, &recorded, passes)? {
-        Some(passes) => ends_in_phases(recorded, passes),
+    let setup = Setup {
+        capacity: 0,
+        maximum: 0,
+        hasher,
+    };
+    let Ok((recorded, handed)) = Recorded::<Map, L, M>::open(alloc, setup, 2, 2, receipts, records)
+    else {
+        return Err(AllocError);
+    };
+    let mut passes = handed;
+    let (Some(mut second), Some(first)) = (passes.pop(), passes.pop()) else {
+        return Ok(false);
+    };
+    let Some(first) = work_alone(rt, alloc, &recorded, first, 0)? else {
+        return Ok(false);
+    };
+    second.told(&first);
+    let Some(second) = work_alone(rt, alloc, &recorded, second, HIGH)? else {
+        return Ok(false);
+    };
+    let later = is_later(&first, &second);
+    passes.push(first)?;
+    passes.push(second)?;
+    match finish_late(recorded, passes)? {
+        Some(finished) => {
+            Ok(later && goes_in_phases(&finished) && has_each_place(alloc, &finished)?)
+        }
         None => Ok(false),
     }
 }

@@ -1,17 +1,16 @@
 //! The plain list that the records of a run are played on once more.
 
-use std::alloc::Global;
+use std::alloc::{AllocError, Global};
 
 /// How many pairs a bucket of a cache holds.
 const BUCKET: usize = 32;
 
-/// Pairs, each bucket's from the one that was used least recently, the number of buckets, and whether memory was
-/// refused. A set's values are 0, and a hash is its key.
+/// Pairs, each bucket's from the one that was used least recently, and the number of buckets. A set's values are 0, and
+/// a hash is its key.
 #[derive(Drop)]
 pub struct Plain {
     pairs: Vec<(u64, u64)>,
     buckets: usize,
-    refused: bool,
 }
 
 // The bucket of a key, of so many: as many first bits as that number has zeros.
@@ -26,32 +25,30 @@ impl Plain {
         Plain {
             pairs: Vec::new(alloc),
             buckets: 0,
-            refused: false,
         }
     }
 
-    /// Whether memory was refused, so that it doesn't have what it should.
-    pub(crate) fn is_refused(&self) -> bool {
-        self.refused
+    /// The number of pairs.
+    pub(crate) fn len(&self) -> usize {
+        self.pairs.len()
     }
 
     /// The value of the key, where it is there.
     pub(crate) fn value(&self, key: u64) -> Option<u64> {
-        for pair in self.pairs.iter() {
-            if pair.0 == key {
-                return Some(pair.1);
-            }
-        }
-        None
+        self.pairs
+            .iter()
+            .find(|pair| pair.0 == key)
+            .map(|pair| pair.1)
     }
 
     /// The key, where it is there.
     pub(crate) fn key(&self, key: u64) -> Option<u64> {
-        if self.value(key).is_some() {
-            Some(key)
-        } else {
-            None
-        }
+        self.value(key).map(|_| key)
+    }
+
+    /// Whether the key is there.
+    pub(crate) fn has(&self, key: u64) -> bool {
+        self.value(key).is_some()
     }
 
     /// Takes out the pair of the key.
@@ -65,62 +62,85 @@ impl Plain {
     }
 
     /// Gives the key that value, and makes it the one used last.
-    pub(crate) fn set(&mut self, key: u64, value: u64) {
-        self.remove(key);
-        if self.pairs.push((key, value)).is_err() {
-            self.refused = true;
-        }
+    pub(crate) fn set(&mut self, key: u64, value: u64) -> Result<(), AllocError> {
+        let _old = self.remove(key);
+        self.pairs.push((key, value))?;
+        Ok(())
     }
 
-    /// The value of the key, which becomes the one used last, where it is there.
-    pub(crate) fn touch(&mut self, key: u64) -> Option<u64> {
-        let value = self.value(key);
-        if let Some(value) = value {
-            self.set(key, value);
+    /// Makes the key the one used last, where it is there.
+    pub(crate) fn touch(&mut self, key: u64) -> Result<(), AllocError> {
+        if let Some(pair) = self.remove(key) {
+            self.pairs.push(pair)?;
         }
-        value
+        Ok(())
     }
 
-    /// Takes out what is driven out for a new key: the pair of its full bucket that was used least recently, or none.
-    pub(crate) fn evict(&mut self, key: u64) -> Option<(u64, u64)> {
-        let bucket = bucket_of(key, self.buckets);
-        let mut least = None;
-        let mut count = 0usize;
+    // The pairs of a bucket.
+    fn bucket(&self, alloc: Global, bucket: usize) -> Result<Vec<(u64, u64)>, AllocError> {
+        let mut pairs = Vec::new(alloc);
         for pair in self.pairs.iter() {
             if bucket_of(pair.0, self.buckets) == bucket {
-                count = count.wrapping_add(1);
-                if least.is_none() {
-                    least = Some(pair.0);
-                }
+                pairs.push(*pair)?;
             }
         }
-        match least {
-            Some(least) if count >= BUCKET => self.remove(least),
-            _ => None,
+        Ok(pairs)
+    }
+
+    /// Takes out what was driven out for a new key, and says whether just that had to go: the pair of its full bucket
+    /// that was used least recently, or none.
+    pub(crate) fn evict(
+        &mut self,
+        alloc: Global,
+        key: u64,
+        evicted: Option<(u64, u64)>,
+    ) -> Result<bool, AllocError> {
+        let pairs = self.bucket(alloc, bucket_of(key, self.buckets))?;
+        let wanted = if pairs.len() < BUCKET {
+            None
+        } else {
+            pairs.first().copied()
+        };
+        if let Some(gone) = wanted {
+            let _pair = self.remove(gone.0);
         }
+        Ok(evicted == wanted)
     }
 
     /// Puts the pairs bucket by bucket, and goes over to another number of buckets.
-    pub(crate) fn regroup(&mut self, buckets: usize) {
-        let before = self.buckets;
-        if self
-            .pairs
-            .sort_by_key(|pair| bucket_of(pair.0, before))
-            .is_err()
-        {
-            self.refused = true;
+    pub(crate) fn regroup(&mut self, alloc: Global, buckets: usize) -> Result<(), AllocError> {
+        let mut pairs = Vec::new(alloc);
+        for bucket in 0..self.buckets {
+            let more = self.bucket(alloc, bucket)?;
+            for pair in more.iter() {
+                pairs.push(*pair)?;
+            }
         }
+        self.pairs = pairs;
         self.buckets = buckets;
+        Ok(())
     }
 
-    /// Whether a walk that met those pairs met just these, and in their order bucket by bucket where that is told.
-    pub(crate) fn is_met_by(&mut self, met: &mut [(u64, u64)], in_order: bool) -> bool {
-        if in_order {
-            self.regroup(self.buckets);
-        } else {
-            self.pairs.sort_unstable();
-            met.sort_unstable();
+    /// Whether a walk that met those pairs met just these.
+    pub(crate) fn is_met_by(&self, met: &[(u64, u64)]) -> bool {
+        self.pairs.len() == met.len()
+            && self
+                .pairs
+                .iter()
+                .all(|pair| met.iter().any(|other| *other == *pair))
+    }
+
+    /// Whether it met them bucket by bucket, in their order.
+    pub(crate) fn is_met_in_order_by(
+        &mut self,
+        alloc: Global,
+        met: &[(u64, u64)],
+    ) -> Result<bool, AllocError> {
+        self.regroup(alloc, self.buckets)?;
+        let mut same = self.pairs.len() == met.len();
+        for (pair, other) in self.pairs.iter().zip(met) {
+            same = same && *other == *pair;
         }
-        *self.pairs.as_slice() == *met
+        Ok(same)
     }
 }

@@ -1,10 +1,10 @@
 //! Rounds of calls on each kind of container, in which what went in and what came out has to add up.
 
 use crate::called::{Cache, Called, Index, Map, Set};
-use crate::counted::{Counted, Counts, Maker};
+use crate::counted::Counts;
 use crate::request::Request;
 use crate::tally::{Tally, draw_call};
-use std::alloc::{AllocError, Global};
+use std::alloc::Global;
 use std::io;
 use std::rt::Clock;
 use std::sync::Wait;
@@ -17,14 +17,11 @@ const EVEN: u8 = 0;
 /// A count didn't add up.
 const UNEVEN: u8 = 1;
 
-/// Memory was refused, or the line could not be written.
-const REFUSED: u8 = 3;
-
 // What one thread was told in so many calls.
-fn work<'a, C: Called<Counted<'a>>, R: Wait>(
+fn work<'a, C: Called<'a>, R: Wait>(
     rt: &R,
     container: &C,
-    maker: &Maker<'a>,
+    counts: &'a Counts,
     thread: usize,
     calls: u64,
 ) -> Tally {
@@ -32,99 +29,13 @@ fn work<'a, C: Called<Counted<'a>>, R: Wait>(
     let mut tally = Tally::new();
     for _ in 0..calls {
         let drawn = draw_call(&mut seed);
-        let told = container.call(rt, drawn.kind, drawn.key, maker.make());
-        tally.note(drawn.key, told);
+        container.call(rt, counts, drawn.kind, drawn.key, &mut tally);
     }
     tally
 }
 
-// What is handed to a thread may not rest on a bound of the function that starts it, so a kind starts the threads that
-// call it.
-trait Crowded<V, K>: Called<V> {
-    // What each thread was told.
-    fn told_of<R: Wait + Threads + Sync>(
-        &self,
-        rt: &R,
-        alloc: Global,
-        maker: &K,
-        request: Request,
-    ) -> Result<Vec<Tally>, AllocError>;
-}
-
-impl<'a> Crowded<Counted<'a>, Maker<'a>> for Map<'a> {
-    fn told_of<R: Wait + Threads + Sync>(
-        &self,
-        rt: &R,
-        alloc: Global,
-        maker: &Maker<'a>,
-        request: Request,
-    ) -> Result<Vec<Tally>, AllocError> {
-        let calls = request.calls;
-        map_indices(
-            rt,
-            alloc,
-            request.threads as usize,
-            &|thread| work(rt, self, maker, thread, calls),
-        )
-    }
-}
-
-impl<'a> Crowded<Counted<'a>, Maker<'a>> for Set {
-    fn told_of<R: Wait + Threads + Sync>(
-        &self,
-        rt: &R,
-        alloc: Global,
-        maker: &Maker<'a>,
-        request: Request,
-    ) -> Result<Vec<Tally>, AllocError> {
-        let calls = request.calls;
-        map_indices(
-            rt,
-            alloc,
-            request.threads as usize,
-            &|thread| work(rt, self, maker, thread, calls),
-        )
-    }
-}
-
-impl<'a> Crowded<Counted<'a>, Maker<'a>> for Index<'a> {
-    fn told_of<R: Wait + Threads + Sync>(
-        &self,
-        rt: &R,
-        alloc: Global,
-        maker: &Maker<'a>,
-        request: Request,
-    ) -> Result<Vec<Tally>, AllocError> {
-        let calls = request.calls;
-        map_indices(
-            rt,
-            alloc,
-            request.threads as usize,
-            &|thread| work(rt, self, maker, thread, calls),
-        )
-    }
-}
-
-impl<'a> Crowded<Counted<'a>, Maker<'a>> for Cache<'a> {
-    fn told_of<R: Wait + Threads + Sync>(
-        &self,
-        rt: &R,
-        alloc: Global,
-        maker: &Maker<'a>,
-        request: Request,
-    ) -> Result<Vec<Tally>, AllocError> {
-        let calls = request.calls;
-        map_indices(
-            rt,
-            alloc,
-            request.threads as usize,
-            &|thread| work(rt, self, maker, thread, calls),
-        )
-    }
-}
-
 // Whether what the threads were told adds up with what the container has.
-fn is_settled<V: Drop, C: Called<V>, R: Wait>(rt: &R, container: &C, told: &[Tally]) -> bool {
+fn is_settled<'a, C: Called<'a>, R: Wait>(rt: &R, container: &C, told: &[Tally]) -> bool {
     let mut left = Tally::new();
     for tally in told {
         left.join(tally);
@@ -133,51 +44,161 @@ fn is_settled<V: Drop, C: Called<V>, R: Wait>(rt: &R, container: &C, told: &[Tal
     left.is_even()
 }
 
-// Whether a round of a container of that kind adds up.
-fn adds_up<V: Drop, C: Crowded<V, K> + Drop, K, R: Wait + Threads + Sync>(
+// The container, if memory for it was there.
+fn made<C: Drop>(container: Option<C>) -> io::Result<C> {
+    match container {
+        Some(container) => Ok(container),
+        None => Err(io::Error::from(io::ErrorKind::OutOfMemory)),
+    }
+}
+
+// What a thread is handed may not rest on a bound with a lifetime, so the threads of each kind are started by a function
+// of its own.
+
+// What each thread was told of a map.
+fn told_of_map<'a, R: Wait + Threads + Sync>(
     rt: &R,
     alloc: Global,
-    maker: &K,
+    map: &Map<'a>,
+    counts: &'a Counts,
     request: Request,
-) -> Result<bool, AllocError> {
-    let Some(container) = C::make(alloc) else {
-        return Err(AllocError);
-    };
-    let told = container.told_of(rt, alloc, maker, request)?;
-    Ok(is_settled::<V, C, R>(rt, &container, told.as_slice()))
+) -> io::Result<Vec<Tally>> {
+    let calls = request.calls;
+    Ok(map_indices(
+        rt,
+        alloc,
+        request.threads as usize,
+        &|thread| work(rt, map, counts, thread, calls),
+    )?)
 }
 
-// The status of a round of a container, after which each value has to be dropped once. Where it isn't even, its name is
-// printed.
-fn tell(rt: &impl Print, name: &str, counts: &Counts, outcome: Result<bool, AllocError>) -> u8 {
-    let Ok(holds) = outcome else {
-        return REFUSED;
-    };
-    if holds && counts.are_equal() {
-        return EVEN;
-    }
-    match println!(rt; "{name}: what went in and out doesn't add up") {
-        Ok(()) => UNEVEN,
-        Err(_) => REFUSED,
-    }
+// Whether a round of a map adds up.
+fn map_adds_up<R: Wait + Threads + Sync>(
+    rt: &R,
+    alloc: Global,
+    counts: &Counts,
+    request: Request,
+) -> io::Result<bool> {
+    let map: Map<'_> = made(Called::make(alloc))?;
+    let told = told_of_map(rt, alloc, &map, counts, request)?;
+    Ok(is_settled(rt, &map, told.as_slice()))
 }
 
-// The worst status of a round of each container.
-fn play_round<R: Wait + Threads + Sync + Print>(rt: &R, alloc: Global, request: Request) -> u8 {
+// What each thread was told of a set.
+fn told_of_set<'a, R: Wait + Threads + Sync>(
+    rt: &R,
+    alloc: Global,
+    set: &Set,
+    counts: &'a Counts,
+    request: Request,
+) -> io::Result<Vec<Tally>> {
+    let calls = request.calls;
+    Ok(map_indices(
+        rt,
+        alloc,
+        request.threads as usize,
+        &|thread| work(rt, set, counts, thread, calls),
+    )?)
+}
+
+// Whether a round of a set adds up.
+fn set_adds_up<R: Wait + Threads + Sync>(
+    rt: &R,
+    alloc: Global,
+    counts: &Counts,
+    request: Request,
+) -> io::Result<bool> {
+    let set: Set = made(Called::make(alloc))?;
+    let told = told_of_set(rt, alloc, &set, counts, request)?;
+    Ok(is_settled(rt, &set, told.as_slice()))
+}
+
+// What each thread was told of an index.
+fn told_of_index<'a, R: Wait + Threads + Sync>(
+    rt: &R,
+    alloc: Global,
+    index: &Index<'a>,
+    counts: &'a Counts,
+    request: Request,
+) -> io::Result<Vec<Tally>> {
+    let calls = request.calls;
+    Ok(map_indices(
+        rt,
+        alloc,
+        request.threads as usize,
+        &|thread| work(rt, index, counts, thread, calls),
+    )?)
+}
+
+// Whether a round of an index adds up.
+fn index_adds_up<R: Wait + Threads + Sync>(
+    rt: &R,
+    alloc: Global,
+    counts: &Counts,
+    request: Request,
+) -> io::Result<bool> {
+    let index: Index<'_> = made(Called::make(alloc))?;
+    let told = told_of_index(rt, alloc, &index, counts, request)?;
+    Ok(is_settled(rt, &index, told.as_slice()))
+}
+
+// What each thread was told of a cache.
+fn told_of_cache<'a, R: Wait + Threads + Sync>(
+    rt: &R,
+    alloc: Global,
+    cache: &Cache<'a>,
+    counts: &'a Counts,
+    request: Request,
+) -> io::Result<Vec<Tally>> {
+    let calls = request.calls;
+    Ok(map_indices(
+        rt,
+        alloc,
+        request.threads as usize,
+        &|thread| work(rt, cache, counts, thread, calls),
+    )?)
+}
+
+// Whether a round of a cache adds up.
+fn cache_adds_up<R: Wait + Threads + Sync>(
+    rt: &R,
+    alloc: Global,
+    counts: &Counts,
+    request: Request,
+) -> io::Result<bool> {
+    let cache: Cache<'_> = made(Called::make(alloc))?;
+    let told = told_of_cache(rt, alloc, &cache, counts, request)?;
+    Ok(is_settled(rt, &cache, told.as_slice()))
+}
+
+// Prints the name of a container whose counts don't add up, and says whether they do.
+fn tell(rt: &impl Print, name: &str, holds: bool) -> io::Result<bool> {
+    if !holds {
+        println!(rt; "{name}: what went in and out doesn't add up")?;
+    }
+    Ok(holds)
+}
+
+// Whether a round of each container adds up, and each value was dropped once.
+fn all_add_up<R: Wait + Threads + Sync + Print>(
+    rt: &R,
+    alloc: Global,
+    request: Request,
+) -> io::Result<bool> {
     let counts = Counts::new();
-    let maker = Maker { counts: &counts };
-    let map = adds_up::<Counted, Map, Maker, R>(rt, alloc, &maker, request);
-    let map = tell(rt, "map", &counts, map);
-    let set = adds_up::<Counted, Set, Maker, R>(rt, alloc, &maker, request);
-    let set = tell(rt, "set", &counts, set);
-    let index = adds_up::<Counted, Index, Maker, R>(rt, alloc, &maker, request);
-    let index = tell(rt, "index", &counts, index);
-    let cache = adds_up::<Counted, Cache, Maker, R>(rt, alloc, &maker, request);
-    let cache = tell(rt, "cache", &counts, cache);
-    map.max(set).max(index).max(cache)
+    let map = map_adds_up(rt, alloc, &counts, request)?;
+    let map = tell(rt, "map", map && counts.are_equal())?;
+    let set = set_adds_up(rt, alloc, &counts, request)?;
+    let set = tell(rt, "set", set)?;
+    let index = index_adds_up(rt, alloc, &counts, request)?;
+    let index = tell(rt, "index", index && counts.are_equal())?;
+    let cache = cache_adds_up(rt, alloc, &counts, request)?;
+    let cache = tell(rt, "cache", cache && counts.are_equal())?;
+    Ok(map && set && index && cache)
 }
 
-/// Goes on with rounds until the time is over, and prints how many there were. It ends at the first that isn't even.
+/// Goes on with rounds until the time is over, and prints how many there were. It ends at the first whose counts don't
+/// add up.
 pub(crate) fn soak<R: Wait + Threads + Sync + Print + Clock>(
     rt: &R,
     alloc: Global,
@@ -186,9 +207,8 @@ pub(crate) fn soak<R: Wait + Threads + Sync + Print + Clock>(
     let start = Instant::now(rt)?;
     let mut made = 0u64;
     for _ in 0..u64::MAX {
-        let status = play_round(rt, alloc, request);
-        if status != EVEN {
-            return Ok(status);
+        if !all_add_up(rt, alloc, request)? {
+            return Ok(UNEVEN);
         }
         made = made.saturating_add(1);
         if start.elapsed(rt)?.as_secs() >= request.seconds {

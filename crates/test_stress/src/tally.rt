@@ -13,20 +13,6 @@ pub struct Tally {
 /// How many different keys the calls have.
 const KEYS: u64 = 1000;
 
-/// What a call told: which keys went in and came out.
-#[derive(Clone, Copy, Drop)]
-pub enum Told {
-    Nothing,
-    /// The key of the call went in.
-    In,
-    /// It came out.
-    Out,
-    /// It went in, and that key was driven out.
-    Evicted(u64),
-    /// The call was refused for want of memory.
-    Refused,
-}
-
 impl Tally {
     /// Nothing went in or out.
     pub(crate) fn new() -> Tally {
@@ -37,8 +23,8 @@ impl Tally {
         }
     }
 
-    // A key went in.
-    fn add(&mut self, key: u64) {
+    /// A key went in.
+    pub(crate) fn add(&mut self, key: u64) {
         self.number = self.number.wrapping_add(1);
         self.keys = self.keys.wrapping_add(key);
     }
@@ -49,18 +35,9 @@ impl Tally {
         self.keys = self.keys.wrapping_sub(key);
     }
 
-    /// Notes what a call with that key told.
-    pub(crate) fn note(&mut self, key: u64, told: Told) {
-        match told {
-            Told::Nothing => {}
-            Told::In => self.add(key),
-            Told::Out => self.subtract(key),
-            Told::Evicted(old) => {
-                self.add(key);
-                self.subtract(old);
-            }
-            Told::Refused => self.refused = true,
-        }
+    /// A call was refused for want of memory.
+    pub(crate) fn refuse(&mut self) {
+        self.refused = true;
     }
 
     /// What another thread was told comes to this.

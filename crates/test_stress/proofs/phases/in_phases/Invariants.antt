@@ -9,4 +9,4 @@ abbrev pub ghosts-work_in_phases-M-Ledger : goal.ghosts-work_in_phases-M-Ledger
 ghosts-work_in_phases-M-Ledger g a = record { name = a.records.name; parts = a.records.parts }
 
 abbrev pub ghosts-work_in_phases-M-Site : goal.ghosts-work_in_phases-M-Site
-ghosts-work_in_phases-M-Site g a = record { chosen = Some (request_of 0 128 a.hasher 2); all = 2 }
+ghosts-work_in_phases-M-Site g a = record { chosen = Some (request_of 0 0 a.hasher 2); all = 2 }
