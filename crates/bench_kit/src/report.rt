@@ -10,15 +10,74 @@ pub fn nanos(spent: Duration) -> u64 {
         .saturating_add(u64::from(spent.subsec_nanos()))
 }
 
+/// A quotient in hundredths, rounded down.
+fn hundredths(total: u64, count: u64) -> u64 {
+    total.saturating_mul(100) / count.max(1)
+}
+
 /// Prints a quotient to two places.
 pub fn line(rt: &impl Print, work: &str, peer: &str, total: u64, count: u64) -> io::Result<()> {
-    let hundredths = total.saturating_mul(100) / count.max(1);
-    let whole = hundredths / 100;
-    let rest = hundredths % 100;
-    println!(rt; "{work} {peer} {whole}.{rest:02}")
+    let quotient = hundredths(total, count);
+    println!(rt; "{work} {peer} {}.{:02}", quotient / 100, quotient % 100)
+}
+
+/// Prints a quotient to two places, of a workload with that many threads.
+pub fn crew_line(
+    rt: &impl Print,
+    work: &str,
+    threads: u64,
+    peer: &str,
+    total: u64,
+    count: u64,
+) -> io::Result<()> {
+    let quotient = hundredths(total, count);
+    println!(rt;
+        "{work}_t{threads} {peer} {}.{:02}",
+        quotient / 100,
+        quotient % 100
+    )
 }
 
 /// Prints a sum that all peers have to agree in.
 pub fn check(rt: &impl Print, work: &str, peer: &str, sum: u64) -> io::Result<()> {
     println!(rt; "check {work} {peer} {sum}")
+}
+
+/// Prints a sum that all peers have to agree in, of a workload with that many threads.
+pub fn crew_check(
+    rt: &impl Print,
+    work: &str,
+    threads: u64,
+    peer: &str,
+    sum: u64,
+) -> io::Result<()> {
+    println!(rt; "check {work}_t{threads} {peer} {sum}")
+}
+
+/// What half, 99 %, 99.9 % and all take at most, in thousandths.
+const QUANTILES: [usize; 4] = [500, 990, 999, 1000];
+
+/// The time at that many thousandths of the sorted ones.
+fn quantile(sorted: &[u64], thousandths: usize) -> u64 {
+    let place = sorted.len().saturating_sub(1).saturating_mul(thousandths) / 1000;
+    sorted.get(place).copied().unwrap_or(0)
+}
+
+/// Prints under these names what half, 99 %, 99.9 % and all of the sorted times are at most.
+pub fn print_quantiles(
+    rt: &impl Print,
+    names: [&str; 4],
+    peer: &str,
+    sorted: &[u64],
+) -> io::Result<()> {
+    for place in 0..4 {
+        line(
+            rt,
+            names[place],
+            peer,
+            quantile(sorted, QUANTILES[place]),
+            1,
+        )?;
+    }
+    Ok(())
 }

@@ -1,5 +1,6 @@
 //! The workloads of a cache of 65,536 pairs at most: steps that get a key or else put it, gets of keys that are there,
 //! and puts that evict.
+use bench_kit::arguments::out_of_memory;
 use bench_kit::report::{check, line, nanos};
 use bench_kit::streams::{Streams, value};
 use scc_cache::Owned;
@@ -27,10 +28,6 @@ struct Outcome {
     count: u64,
 }
 
-fn out_of_memory() -> io::Error {
-    io::Error::from(io::ErrorKind::OutOfMemory)
-}
-
 fn empty(alloc: Global) -> io::Result<Cache> {
     match Owned::with_capacity(alloc, 0, MOST) {
         Ok(cache) => Ok(cache),
@@ -56,11 +53,13 @@ fn get(cache: &mut Cache, key: u64) -> Option<u64> {
     }
 }
 
+/// The sum of the values, and how many keys were there or pairs were evicted.
+type Told = (u64, u64);
+
 /// Gets each key, or else puts it, and counts the keys that were there.
-fn get_or_put_all(clock: &impl Clock, cache: &mut Cache, keys: &[u64]) -> io::Result<Outcome> {
+fn get_or_put_all(cache: &mut Cache, keys: &[u64]) -> io::Result<Told> {
     let mut sum = 0u64;
     let mut count = 0u64;
-    let start = Instant::now(clock)?;
     for key in keys {
         match get(cache, *key) {
             Some(found) => {
@@ -73,147 +72,179 @@ fn get_or_put_all(clock: &impl Clock, cache: &mut Cache, keys: &[u64]) -> io::Re
             }
         }
     }
-    let spent = nanos(start.elapsed(clock)?);
-    Ok(Outcome { spent, sum, count })
+    Ok((sum, count))
 }
 
 /// Gets each key, and counts those that were there.
-fn get_all(clock: &impl Clock, cache: &mut Cache, keys: &[u64]) -> io::Result<Outcome> {
+fn get_all(cache: &mut Cache, keys: &[u64]) -> Told {
     let mut sum = 0u64;
     let mut count = 0u64;
-    let start = Instant::now(clock)?;
     for key in keys {
         if let Some(found) = get(cache, *key) {
             sum = sum.wrapping_add(found);
             count = count.wrapping_add(1);
         }
     }
-    let spent = nanos(start.elapsed(clock)?);
-    Ok(Outcome { spent, sum, count })
+    (sum, count)
 }
 
 /// Puts each key, and counts the pairs that were evicted.
-fn put_all(clock: &impl Clock, cache: &mut Cache, keys: &[u64]) -> io::Result<Outcome> {
+fn put_all(cache: &mut Cache, keys: &[u64]) -> io::Result<Told> {
     let mut count = 0u64;
-    let start = Instant::now(clock)?;
     for key in keys {
         if put(cache, *key)? {
             count = count.wrapping_add(1);
         }
     }
-    let spent = nanos(start.elapsed(clock)?);
-    Ok(Outcome {
-        spent,
-        sum: count,
-        count,
-    })
+    Ok((count, count))
 }
 
-/// The keys of a workload, made before the clock starts.
+/// One of the workloads.
+#[derive(Clone, Copy, Drop)]
+enum Work {
+    /// Steps that get a key or else put it.
+    Step,
+    /// Gets of few keys.
+    Get,
+    /// Puts that evict.
+    Evict,
+}
+
+impl Work {
+    fn name(self) -> &'static str {
+        match self {
+            Work::Step => "cache_t1",
+            Work::Get => "cache_get",
+            Work::Evict => "cache_evict",
+        }
+    }
+}
+
+/// The keys of a workload, those that come before the clock starts and those that are measured.
 #[derive(Drop)]
 struct Keys {
     first: Vec<u64>,
     measured: Vec<u64>,
 }
 
-fn step_keys(alloc: Global, streams: &Streams) -> Result<Keys, AllocError> {
-    Ok(Keys {
-        first: streams.ranked(alloc, 0)?,
-        measured: streams.ranked(alloc, streams.entries)?,
-    })
-}
-
-fn get_keys(alloc: Global, seed: u64) -> Result<Keys, AllocError> {
-    let few = Streams {
-        entries: KEPT,
-        seed,
+fn keys_of(alloc: Global, streams: &Streams, work: Work) -> Result<Keys, AllocError> {
+    let entries = match work {
+        Work::Step => streams.entries,
+        Work::Get => KEPT,
+        Work::Evict => FILLING,
     };
-    Ok(Keys {
-        first: few.inserted(alloc)?,
-        measured: few.accessed(alloc)?,
-    })
-}
-
-fn eviction_keys(alloc: Global, streams: &Streams) -> Result<Keys, AllocError> {
-    let filling = Streams {
-        entries: FILLING,
+    let early = Streams {
+        entries,
         seed: streams.seed,
     };
-    Ok(Keys {
-        first: filling.inserted(alloc)?,
-        measured: streams.missing(alloc)?,
-    })
+    let first = match work {
+        Work::Step => early.ranked(alloc, 0)?,
+        _ => early.inserted(alloc)?,
+    };
+    let measured = match work {
+        Work::Step => early.ranked(alloc, entries)?,
+        Work::Get => early.accessed(alloc)?,
+        Work::Evict => streams.missing(alloc)?,
+    };
+    Ok(Keys { first, measured })
 }
 
-/// Goes through keys in an empty cache, and then measures further ones.
-fn step(clock: &impl Clock, alloc: Global, keys: &Keys) -> io::Result<Outcome> {
+/// Makes the calls of a workload that are measured.
+fn go(cache: &mut Cache, keys: &[u64], work: Work) -> io::Result<Told> {
+    match work {
+        Work::Step => get_or_put_all(cache, keys),
+        Work::Get => Ok(get_all(cache, keys)),
+        Work::Evict => put_all(cache, keys),
+    }
+}
+
+/// Makes the calls of a workload before the clock starts.
+fn warm(cache: &mut Cache, keys: &[u64], work: Work) -> io::Result<Told> {
+    match work {
+        Work::Step => get_or_put_all(cache, keys),
+        _ => put_all(cache, keys),
+    }
+}
+
+/// Goes through a workload in an empty cache.
+fn timed(clock: &impl Clock, cache: &mut Cache, keys: &Keys, work: Work) -> io::Result<Outcome> {
+    warm(cache, keys.first.as_slice(), work)?;
+    let start = Instant::now(clock)?;
+    let (sum, count) = go(cache, keys.measured.as_slice(), work)?;
+    let spent = nanos(start.elapsed(clock)?);
+    Ok(Outcome { spent, sum, count })
+}
+
+/// Goes through a workload once, on a new cache.
+fn run_once(clock: &impl Clock, alloc: Global, keys: &Keys, work: Work) -> io::Result<Outcome> {
     let mut cache = empty(alloc)?;
-    get_or_put_all(clock, &mut cache, keys.first.as_slice())?;
-    get_or_put_all(clock, &mut cache, keys.measured.as_slice())
+    timed(clock, &mut cache, keys, work)
 }
 
-/// Puts few keys, and then measures how they are got.
-fn look(clock: &impl Clock, alloc: Global, keys: &Keys) -> io::Result<Outcome> {
-    let mut cache = empty(alloc)?;
-    put_all(clock, &mut cache, keys.first.as_slice())?;
-    get_all(clock, &mut cache, keys.measured.as_slice())
+/// Prints how many of a hundred keys were there, where that is told of a workload.
+fn print_hits(
+    rt: &impl Print,
+    peer: &str,
+    work: Work,
+    outcome: Outcome,
+    count: u64,
+) -> io::Result<()> {
+    match work {
+        Work::Step => line(
+            rt,
+            "hitrate_t1",
+            peer,
+            outcome.count.saturating_mul(100),
+            count,
+        ),
+        _ => Ok(()),
+    }
 }
 
-/// Fills a cache, and then measures puts that evict.
-fn evict(clock: &impl Clock, alloc: Global, keys: &Keys) -> io::Result<Outcome> {
-    let mut cache = empty(alloc)?;
-    put_all(clock, &mut cache, keys.first.as_slice())?;
-    put_all(clock, &mut cache, keys.measured.as_slice())
+/// Goes through a workload once, and prints its lines unless it is to warm up. The answer is its sum.
+fn run_and_print<R: Clock + Print>(
+    rt: &R,
+    alloc: Global,
+    peer: &str,
+    is_measured: bool,
+    keys: &Keys,
+    work: Work,
+) -> io::Result<u64> {
+    let outcome = run_once(rt, alloc, keys, work)?;
+    if is_measured {
+        let count = keys.measured.len() as u64;
+        line(rt, work.name(), peer, outcome.spent, count)?;
+        print_hits(rt, peer, work, outcome, count)?;
+    }
+    Ok(outcome.sum)
 }
 
-fn measure_steps<R: Clock + Print>(
+/// Goes through a workload once to warm up and then `runs` times with the same keys.
+fn measure_with<R: Clock + Print>(
+    rt: &R,
+    alloc: Global,
+    peer: &str,
+    runs: u64,
+    keys: &Keys,
+    work: Work,
+) -> io::Result<()> {
+    let mut last = 0u64;
+    for run in 0..=runs {
+        last = run_and_print(rt, alloc, peer, run > 0, keys, work)?;
+    }
+    check(rt, work.name(), peer, last)
+}
+
+fn measure_one<R: Clock + Print>(
     rt: &R,
     alloc: Global,
     peer: &str,
     runs: u64,
     streams: &Streams,
+    work: Work,
 ) -> io::Result<()> {
-    let keys = step_keys(alloc, streams)?;
-    let mut last = step(rt, alloc, &keys)?;
-    for _ in 0..runs {
-        last = step(rt, alloc, &keys)?;
-        line(rt, "cache_t1", peer, last.spent, streams.entries)?;
-        let hits = last.count.saturating_mul(100);
-        line(rt, "hitrate_t1", peer, hits, streams.entries)?;
-    }
-    check(rt, "cache_t1", peer, last.sum)
-}
-
-fn measure_gets<R: Clock + Print>(
-    rt: &R,
-    alloc: Global,
-    peer: &str,
-    runs: u64,
-    seed: u64,
-) -> io::Result<()> {
-    let keys = get_keys(alloc, seed)?;
-    let mut last = look(rt, alloc, &keys)?;
-    for _ in 0..runs {
-        last = look(rt, alloc, &keys)?;
-        line(rt, "cache_get", peer, last.spent, KEPT)?;
-    }
-    check(rt, "cache_get", peer, last.sum)
-}
-
-fn measure_evictions<R: Clock + Print>(
-    rt: &R,
-    alloc: Global,
-    peer: &str,
-    runs: u64,
-    streams: &Streams,
-) -> io::Result<()> {
-    let keys = eviction_keys(alloc, streams)?;
-    let mut last = evict(rt, alloc, &keys)?;
-    for _ in 0..runs {
-        last = evict(rt, alloc, &keys)?;
-        line(rt, "cache_evict", peer, last.spent, streams.entries)?;
-    }
-    check(rt, "cache_evict", peer, last.sum)
+    let keys = keys_of(alloc, streams, work)?;
+    measure_with(rt, alloc, peer, runs, &keys, work)
 }
 
 /// Goes through each workload once to warm up and then `runs` times, and prints a line for each time.
@@ -224,7 +255,8 @@ pub(crate) fn measure<R: Clock + Print>(
     runs: u64,
     streams: &Streams,
 ) -> io::Result<()> {
-    measure_steps(rt, alloc, peer, runs, streams)?;
-    measure_gets(rt, alloc, peer, runs, streams.seed)?;
-    measure_evictions(rt, alloc, peer, runs, streams)
+    for work in [Work::Step, Work::Get, Work::Evict] {
+        measure_one(rt, alloc, peer, runs, streams, work)?;
+    }
+    Ok(())
 }

@@ -11,21 +11,21 @@ mod peer;
 mod request;
 mod tail;
 
+use bench_kit::arguments::{bad_argument, words};
 use peer::Peer;
-use request::{Group, PeerName, Request, bad_argument, parse_request};
+use request::{Group, PeerName, Request, parse_request};
 use scc_map::Owned;
-use std::alloc::{AllocError, Global};
+use std::alloc::Global;
 use std::collections::HashMap;
+use std::io;
 use std::rt::{Clock, Files};
-use std::{env, io};
 
-fn list_peers(rt: &impl Print) -> io::Result<()> {
-    println!(rt; "scc-owned own,tail,mem,curve")?;
-    println!(rt; "kit-fold own,tail,mem,curve")?;
-    println!(rt; "scc-set mem,beside")?;
-    println!(rt; "scc-index own,mem,beside")?;
-    println!(rt; "scc-cache cache")
-}
+/// The peers and their groups.
+const PEERS: &str = "scc-owned own,tail,mem,curve
+kit-fold own,tail,mem,curve
+scc-set mem,beside
+scc-index own,mem,beside
+scc-cache cache";
 
 fn measure<M: Peer, R: Clock + Files + Print + Alloc>(
     rt: &R,
@@ -42,8 +42,7 @@ fn measure<M: Peer, R: Clock + Files + Print + Alloc>(
         Group::Beside => own::measure_beside::<Owned<u64, u64>, M, R>(
             rt,
             alloc,
-            "scc-owned",
-            name,
+            ["scc-owned", name],
             request.runs,
             &streams,
         ),
@@ -66,15 +65,6 @@ fn measure_cache<R: Clock + Print>(rt: &R, alloc: Global, request: Request) -> i
     }
 }
 
-/// The arguments, without the program's name.
-fn words(rt: &HostRuntime) -> io::Result<Vec<String>> {
-    let mut words = Vec::new(rt.alloc());
-    for word in env::args(rt)?.skip(1) {
-        words.push(word).map_err(AllocError::from)?;
-    }
-    Ok(words)
-}
-
 fn measure_peer(rt: &HostRuntime, request: Request) -> io::Result<()> {
     let alloc = rt.alloc();
     match request.peer {
@@ -89,7 +79,7 @@ fn measure_peer(rt: &HostRuntime, request: Request) -> io::Result<()> {
 fn main(rt: HostRuntime) -> io::Result<()> {
     let words = words(&rt)?;
     if words.is_empty() {
-        return list_peers(&rt);
+        return println!(&rt; "{PEERS}");
     }
     let request = parse_request(words.as_slice())?;
     measure_peer(&rt, request)

@@ -20,18 +20,46 @@ fn insert_places<M: Peer>(map: &mut M, streams: &Streams, first: u64, last: u64)
     Ok(())
 }
 
-/// Fills a map, and answers the bytes that it holds then and that it held at most.
+/// The bytes that the process holds now and that it held at most, above so many.
+fn held_above(rt: &(impl Files + Alloc), before: u64) -> io::Result<(u64, u64)> {
+    let live = resident(rt)?.saturating_sub(before);
+    let most = most_resident(rt)?.saturating_sub(before);
+    Ok((live, most))
+}
+
+/// The bytes that the process holds once an empty map has its first key.
+fn held_by_one<M: Peer, R: Files + Alloc>(
+    rt: &R,
+    map: &mut M,
+    streams: &Streams,
+) -> io::Result<u64> {
+    insert_at(map, streams, 0)?;
+    resident(rt)
+}
+
+/// Fills an empty map, and answers the bytes that it holds then and that it held at most.
 fn fill<M: Peer, R: Files + Alloc>(
     rt: &R,
     map: &mut M,
     streams: &Streams,
 ) -> io::Result<(u64, u64)> {
-    insert_at(map, streams, 0)?;
-    let before = resident(rt)?;
+    let before = held_by_one(rt, map, streams)?;
     insert_places(map, streams, 1, streams.entries)?;
-    let live = resident(rt)?.saturating_sub(before);
-    let most = most_resident(rt)?.saturating_sub(before);
-    Ok((live, most))
+    held_above(rt, before)
+}
+
+/// Fills an empty map, prints the bytes a pair that it holds then and that it held at most, and answers the sum of the
+/// values.
+fn fill_and_print<M: Peer, R: Files + Print + Alloc>(
+    rt: &R,
+    map: &mut M,
+    peer: &str,
+    streams: &Streams,
+) -> io::Result<u64> {
+    let (live, most) = fill(rt, map, streams)?;
+    line(rt, "mem_live", peer, live, streams.entries)?;
+    line(rt, "mem_peak", peer, most, streams.entries)?;
+    Ok(map.sum())
 }
 
 /// Fills a map, and prints the bytes a pair that it holds then and that it held at most.
@@ -42,10 +70,20 @@ pub(crate) fn measure<M: Peer, R: Files + Print + Alloc>(
     streams: &Streams,
 ) -> io::Result<()> {
     let mut map: M = Peer::make(alloc);
-    let (live, most) = fill(rt, &mut map, streams)?;
-    line(rt, "mem_live", peer, live, streams.entries)?;
-    line(rt, "mem_peak", peer, most, streams.entries)?;
-    check(rt, "mem_live", peer, map.sum())
+    let sum = fill_and_print(rt, &mut map, peer, streams)?;
+    check(rt, "mem_live", peer, sum)
+}
+
+/// The hundredths of bytes a pair that the process holds above so many, where that is one of the sixteen sizes, and else
+/// nothing.
+fn held_at(rt: &(impl Files + Alloc), entries: u64, before: u64, size: u64) -> io::Result<u64> {
+    let step = (entries / 16).max(1);
+    if size > entries && size % step == 0 {
+        let held = resident(rt)?.saturating_sub(before);
+        Ok(held.saturating_mul(100) / size)
+    } else {
+        Ok(0)
+    }
 }
 
 /// Fills a map to sixteen sizes, from just above the number of entries to twice as many, and answers the sum of the
@@ -55,17 +93,12 @@ fn fill_curve<M: Peer, R: Files + Alloc>(
     map: &mut M,
     streams: &Streams,
 ) -> io::Result<u64> {
-    insert_at(map, streams, 0)?;
-    let before = resident(rt)?;
-    let step = (streams.entries / 16).max(1);
+    let before = held_by_one(rt, map, streams)?;
     let mut hundredths = 0u64;
     for place in 1..streams.entries.saturating_mul(2) {
         insert_at(map, streams, place)?;
-        let size = place + 1;
-        if size > streams.entries && size % step == 0 {
-            let held = resident(rt)?.saturating_sub(before);
-            hundredths = hundredths.saturating_add(held.saturating_mul(100) / size);
-        }
+        let held = held_at(rt, streams.entries, before, place + 1)?;
+        hundredths = hundredths.saturating_add(held);
     }
     Ok(hundredths)
 }

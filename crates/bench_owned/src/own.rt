@@ -47,6 +47,23 @@ struct Outcome {
     sum: u64,
 }
 
+/// All workloads, in their order.
+const WORKS: [Work; 6] = [
+    Work::Insert,
+    Work::Hit,
+    Work::Miss,
+    Work::Update,
+    Work::Iterate,
+    Work::Remove,
+];
+
+/// What a workload took that was not gone through.
+const NOTHING: Outcome = Outcome {
+    work: Work::Insert,
+    spent: 0,
+    sum: 0,
+};
+
 fn make_lists(alloc: Global, streams: &Streams) -> Result<Lists, AllocError> {
     Ok(Lists {
         inserted: streams.inserted(alloc)?,
@@ -98,71 +115,50 @@ fn remove_all<M: Peer>(map: &mut M, keys: &[u64]) -> u64 {
     count
 }
 
-fn look<M: Peer>(clock: &impl Clock, map: &M, lists: &Lists) -> io::Result<[Outcome; 2]> {
-    let start = Instant::now(clock)?;
-    let sum = sum_of_hits(map, lists.accessed.as_slice());
-    let spent = nanos(start.elapsed(clock)?);
-    let hits = Outcome {
-        work: Work::Hit,
-        spent,
-        sum,
-    };
-    let start = Instant::now(clock)?;
-    let sum = count_misses(map, lists.missing.as_slice());
-    let spent = nanos(start.elapsed(clock)?);
-    Ok([
-        hits,
-        Outcome {
-            work: Work::Miss,
-            spent,
-            sum,
+/// Makes the calls of a workload, and answers what they come to, the sum of what was read or the number of what was
+/// written.
+fn go<M: Peer>(map: &mut M, lists: &Lists, work: Work) -> io::Result<u64> {
+    match work {
+        Work::Insert => match insert_all(map, lists.inserted.as_slice()) {
+            Ok(()) => Ok(0),
+            Err(error) => Err(error),
         },
-    ])
+        Work::Hit => Ok(sum_of_hits(map, lists.accessed.as_slice())),
+        Work::Miss => Ok(count_misses(map, lists.missing.as_slice())),
+        Work::Update => Ok(bump_all(map, lists.accessed.as_slice())),
+        Work::Iterate => Ok(map.sum()),
+        Work::Remove => Ok(remove_all(map, lists.accessed.as_slice())),
+    }
 }
 
-fn fill<M: Peer>(clock: &impl Clock, map: &mut M, lists: &Lists) -> io::Result<Outcome> {
+/// Goes through a workload on the clock. Insertions and removals are told by the sum of what is there afterwards too.
+fn timed<M: Peer>(
+    clock: &impl Clock,
+    map: &mut M,
+    lists: &Lists,
+    work: Work,
+) -> io::Result<Outcome> {
     let start = Instant::now(clock)?;
-    insert_all(map, lists.inserted.as_slice())?;
+    let sum = go(map, lists, work)?;
     let spent = nanos(start.elapsed(clock)?);
+    let left = match work {
+        Work::Insert | Work::Remove => map.sum(),
+        _ => 0,
+    };
     Ok(Outcome {
-        work: Work::Insert,
+        work,
         spent,
-        sum: map.sum(),
+        sum: sum.wrapping_add(left),
     })
 }
 
-fn write<M: Peer>(clock: &impl Clock, map: &mut M, lists: &Lists) -> io::Result<Outcome> {
-    let start = Instant::now(clock)?;
-    let sum = bump_all(map, lists.accessed.as_slice());
-    let spent = nanos(start.elapsed(clock)?);
-    Ok(Outcome {
-        work: Work::Update,
-        spent,
-        sum,
-    })
-}
-
-fn walk<M: Peer>(clock: &impl Clock, map: &M) -> io::Result<Outcome> {
-    let start = Instant::now(clock)?;
-    let sum = map.sum();
-    let spent = nanos(start.elapsed(clock)?);
-    Ok(Outcome {
-        work: Work::Iterate,
-        spent,
-        sum,
-    })
-}
-
-fn clear<M: Peer>(clock: &impl Clock, map: &mut M, lists: &Lists) -> io::Result<Outcome> {
-    let start = Instant::now(clock)?;
-    let count = remove_all(map, lists.accessed.as_slice());
-    let spent = nanos(start.elapsed(clock)?);
-    let sum = count.wrapping_add(map.sum());
-    Ok(Outcome {
-        work: Work::Remove,
-        spent,
-        sum,
-    })
+/// Goes through the workloads on an empty container.
+fn run_all<M: Peer>(clock: &impl Clock, map: &mut M, lists: &Lists) -> io::Result<[Outcome; 6]> {
+    let mut outcomes = [NOTHING; 6];
+    for place in 0..6 {
+        outcomes[place] = timed(clock, map, lists, WORKS[place])?;
+    }
+    Ok(outcomes)
 }
 
 /// Goes through the workloads once, on a new container.
@@ -172,12 +168,7 @@ fn run_once<M: Peer, C: Clock>(
     lists: &Lists,
 ) -> io::Result<[Outcome; 6]> {
     let mut map: M = Peer::make(alloc);
-    let filled = fill(clock, &mut map, lists)?;
-    let [hits, misses] = look(clock, &map, lists)?;
-    let written = write(clock, &mut map, lists)?;
-    let walked = walk(clock, &map)?;
-    let cleared = clear(clock, &mut map, lists)?;
-    Ok([filled, hits, misses, written, walked, cleared])
+    run_all(clock, &mut map, lists)
 }
 
 /// Prints the lines of a run.
@@ -194,23 +185,56 @@ fn print_lines(
     Ok(())
 }
 
-/// Prints the sums of a run.
-fn print_checks(rt: &impl Print, peer: &str, outcomes: &[Outcome]) -> io::Result<()> {
-    for outcome in outcomes {
-        check(rt, outcome.work.name(), peer, outcome.sum)?;
-    }
-    Ok(())
-}
-
-/// Prints the sums of a run, but for the walk's, which comes after writes that a set can't keep.
-fn print_shared_checks(rt: &impl Print, peer: &str, outcomes: &[Outcome]) -> io::Result<()> {
+/// Prints the sums of a run. Beside another peer the walk's is left out, which comes after writes that a set can't keep.
+fn print_checks(
+    rt: &impl Print,
+    peer: &str,
+    outcomes: &[Outcome],
+    is_beside: bool,
+) -> io::Result<()> {
     for outcome in outcomes {
         match outcome.work {
-            Work::Iterate => {}
+            Work::Iterate if is_beside => {}
             work => check(rt, work.name(), peer, outcome.sum)?,
         }
     }
     Ok(())
+}
+
+/// Goes through the workloads once, and prints a line for each unless it is to warm up.
+fn run_and_print<M: Peer, R: Clock + Print>(
+    rt: &R,
+    alloc: Global,
+    peer: &str,
+    is_measured: bool,
+    streams: &Streams,
+    lists: &Lists,
+) -> io::Result<[Outcome; 6]> {
+    let outcomes = run_once::<M, R>(rt, alloc, lists)?;
+    if is_measured {
+        print_lines(rt, peer, &outcomes, streams)?;
+    }
+    Ok(outcomes)
+}
+
+/// Goes through the workloads on a container and on another beside it with the same keys.
+fn go_beside<M: Peer, N: Peer, R: Clock + Print>(
+    rt: &R,
+    alloc: Global,
+    peers: [&str; 2],
+    runs: u64,
+    streams: &Streams,
+    lists: &Lists,
+) -> io::Result<()> {
+    let [first, second] = peers;
+    let mut firsts = [NOTHING; 6];
+    let mut seconds = [NOTHING; 6];
+    for run in 0..=runs {
+        firsts = run_and_print::<M, R>(rt, alloc, first, run > 0, streams, lists)?;
+        seconds = run_and_print::<N, R>(rt, alloc, second, run > 0, streams, lists)?;
+    }
+    print_checks(rt, first, &firsts, true)?;
+    print_checks(rt, second, &seconds, true)
 }
 
 /// Goes through the workloads on a container and on another beside it, in turn: once to warm up and then `runs` times.
@@ -218,22 +242,28 @@ fn print_shared_checks(rt: &impl Print, peer: &str, outcomes: &[Outcome]) -> io:
 pub(crate) fn measure_beside<M: Peer, N: Peer, R: Clock + Print>(
     rt: &R,
     alloc: Global,
-    first: &str,
-    second: &str,
+    peers: [&str; 2],
     runs: u64,
     streams: &Streams,
 ) -> io::Result<()> {
     let lists = make_lists(alloc, streams)?;
-    let mut firsts = run_once::<M, R>(rt, alloc, &lists)?;
-    let mut seconds = run_once::<N, R>(rt, alloc, &lists)?;
-    for _ in 0..runs {
-        firsts = run_once::<M, R>(rt, alloc, &lists)?;
-        seconds = run_once::<N, R>(rt, alloc, &lists)?;
-        print_lines(rt, first, &firsts, streams)?;
-        print_lines(rt, second, &seconds, streams)?;
+    go_beside::<M, N, R>(rt, alloc, peers, runs, streams, &lists)
+}
+
+/// Goes through the workloads with the same keys.
+fn go_alone<M: Peer, R: Clock + Print>(
+    rt: &R,
+    alloc: Global,
+    peer: &str,
+    runs: u64,
+    streams: &Streams,
+    lists: &Lists,
+) -> io::Result<()> {
+    let mut outcomes = [NOTHING; 6];
+    for run in 0..=runs {
+        outcomes = run_and_print::<M, R>(rt, alloc, peer, run > 0, streams, lists)?;
     }
-    print_shared_checks(rt, first, &firsts)?;
-    print_shared_checks(rt, second, &seconds)
+    print_checks(rt, peer, &outcomes, false)
 }
 
 /// Goes through the workloads once to warm up and then `runs` times, and prints a line for each.
@@ -245,10 +275,5 @@ pub(crate) fn measure<M: Peer, R: Clock + Print>(
     streams: &Streams,
 ) -> io::Result<()> {
     let lists = make_lists(alloc, streams)?;
-    let mut outcomes = run_once::<M, R>(rt, alloc, &lists)?;
-    for _ in 0..runs {
-        outcomes = run_once::<M, R>(rt, alloc, &lists)?;
-        print_lines(rt, peer, &outcomes, streams)?;
-    }
-    print_checks(rt, peer, &outcomes)
+    go_alone::<M, R>(rt, alloc, peer, runs, streams, &lists)
 }

@@ -1,4 +1,5 @@
 //! What the benchmark asks of a map, and the maps that it measures. A set and an index answer to the same.
+use bench_kit::arguments::out_of_memory;
 use bench_kit::streams::value as value_of;
 use scc_map::Owned;
 use std::alloc::Global;
@@ -21,10 +22,6 @@ pub trait Peer: Drop {
 
     /// The sum of all values.
     fn sum(&self) -> u64;
-}
-
-fn out_of_memory() -> io::Error {
-    io::Error::from(io::ErrorKind::OutOfMemory)
 }
 
 impl Peer for Owned<u64, u64> {

@@ -1,8 +1,9 @@
 //! How long single insertions take, growth with them.
 use crate::peer::Peer;
-use bench_kit::report::{check, line, nanos};
+use bench_kit::arguments::out_of_memory;
+use bench_kit::report::{check, nanos, print_quantiles};
 use bench_kit::streams::{Streams, value};
-use std::alloc::{AllocError, Global};
+use std::alloc::Global;
 use std::io;
 use std::rt::Clock;
 use std::time::Instant;
@@ -25,23 +26,15 @@ fn insert_timed<M: Peer>(
     let mut times = Vec::with_capacity(alloc, keys.len())?;
     for key in keys {
         let spent = insert_one(clock, map, *key)?;
-        times.push(spent).map_err(AllocError::from)?;
+        if times.push(spent).is_err() {
+            return Err(out_of_memory());
+        }
     }
     Ok(times)
 }
 
-/// The time at that many thousandths of the sorted ones.
-fn quantile(sorted: &[u64], thousandths: usize) -> u64 {
-    let place = sorted.len().saturating_sub(1).saturating_mul(thousandths) / 1000;
-    sorted.get(place).copied().unwrap_or(0)
-}
-
-fn print_quantiles(rt: &impl Print, peer: &str, sorted: &[u64]) -> io::Result<()> {
-    line(rt, "tail_p50", peer, quantile(sorted, 500), 1)?;
-    line(rt, "tail_p99", peer, quantile(sorted, 990), 1)?;
-    line(rt, "tail_p999", peer, quantile(sorted, 999), 1)?;
-    line(rt, "tail_max", peer, quantile(sorted, 1000), 1)
-}
+/// The names of the lines.
+const NAMES: [&str; 4] = ["tail_p50", "tail_p99", "tail_p999", "tail_max"];
 
 /// What each insertion of a run took, in rising order, and the sum of the values.
 #[derive(Drop)]
@@ -59,6 +52,37 @@ fn run_once<M: Peer, C: Clock>(clock: &C, alloc: Global, keys: &[u64]) -> io::Re
     Ok(Outcome { times, sum })
 }
 
+/// Fills an empty map, prints what half, 99 %, 99.9 % and all of the insertions take at most unless it is to warm up, and
+/// answers the sum of the values.
+fn run_and_print<M: Peer, R: Clock + Print>(
+    rt: &R,
+    alloc: Global,
+    peer: &str,
+    is_measured: bool,
+    keys: &[u64],
+) -> io::Result<u64> {
+    let outcome = run_once::<M, R>(rt, alloc, keys)?;
+    if is_measured {
+        print_quantiles(rt, NAMES, peer, outcome.times.as_slice())?;
+    }
+    Ok(outcome.sum)
+}
+
+/// Fills an empty map with the same keys once to warm up and then `runs` times.
+fn go<M: Peer, R: Clock + Print>(
+    rt: &R,
+    alloc: Global,
+    peer: &str,
+    runs: u64,
+    keys: &[u64],
+) -> io::Result<()> {
+    let mut last = 0u64;
+    for run in 0..=runs {
+        last = run_and_print::<M, R>(rt, alloc, peer, run > 0, keys)?;
+    }
+    check(rt, "tail", peer, last)
+}
+
 /// Fills an empty map once to warm up and then `runs` times, and prints what half, 99 %, 99.9 % and all of the
 /// insertions take at most.
 pub(crate) fn measure<M: Peer, R: Clock + Print>(
@@ -69,11 +93,5 @@ pub(crate) fn measure<M: Peer, R: Clock + Print>(
     streams: &Streams,
 ) -> io::Result<()> {
     let keys = streams.inserted(alloc)?;
-    let mut last = run_once::<M, R>(rt, alloc, keys.as_slice())?.sum;
-    for _ in 0..runs {
-        let outcome = run_once::<M, R>(rt, alloc, keys.as_slice())?;
-        print_quantiles(rt, peer, outcome.times.as_slice())?;
-        last = outcome.sum;
-    }
-    check(rt, "tail", peer, last)
+    go::<M, R>(rt, alloc, peer, runs, keys.as_slice())
 }

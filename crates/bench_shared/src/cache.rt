@@ -1,6 +1,8 @@
 //! Steps over a cache that get a key, and put it where it is missing.
-use crate::crew::{Outcome, out_of_memory, print_check, print_line, run};
+use crate::crew::{Outcome, run};
 use crate::request::Request;
+use bench_kit::arguments::out_of_memory;
+use bench_kit::report::{crew_check, crew_line};
 use bench_kit::streams::{Streams, value};
 use scc_common::InsertError;
 use scc_shared_cache::HashCache;
@@ -51,7 +53,7 @@ fn get_or_put_all(rt: &impl Wait, cache: &Cache, keys: &[u64], counted: bool) ->
 }
 
 /// The keys of each of so many threads, from that step on.
-fn crew_keys(
+pub(crate) fn crew_keys(
     alloc: Global,
     streams: &Streams,
     threads: u64,
@@ -59,11 +61,7 @@ fn crew_keys(
 ) -> Result<Vec<Vec<u64>>, AllocError> {
     let mut all = Vec::new(alloc);
     for thread in 0..threads {
-        let own = streams.ranked_of(alloc, thread, from)?;
-        match all.push(own) {
-            Ok(()) => {}
-            Err(_) => return Err(AllocError),
-        }
+        all.push(streams.ranked_of(alloc, thread, from)?)?;
     }
     Ok(all)
 }
@@ -101,7 +99,63 @@ fn run_once<R: Threads + Wait + Clock + Sync>(
     go(rt, alloc, &cache, next, counted)
 }
 
+/// The first steps of each thread, and the next ones.
+#[derive(Clone, Copy, Drop)]
+struct Steps<'a> {
+    first: &'a [Vec<u64>],
+    next: &'a [Vec<u64>],
+}
+
+/// Prints how many of a hundred keys were there.
+fn print_hits<R: Threads + Wait + Clock + Print + Sync>(
+    rt: &R,
+    alloc: Global,
+    threads: u64,
+    steps: Steps<'_>,
+    count: u64,
+) -> io::Result<()> {
+    let hits = run_once(rt, alloc, steps.first, steps.next, true)?.sum;
+    crew_line(
+        rt,
+        "hitrate",
+        threads,
+        PEER,
+        hits.saturating_mul(100),
+        count,
+    )
+}
+
+/// Runs the steps once, prints a line, and answers the sum.
+fn run_and_print<R: Threads + Wait + Clock + Print + Sync>(
+    rt: &R,
+    alloc: Global,
+    threads: u64,
+    steps: Steps<'_>,
+    count: u64,
+) -> io::Result<u64> {
+    let outcome = run_once(rt, alloc, steps.first, steps.next, false)?;
+    crew_line(rt, "cache", threads, PEER, outcome.spent, count)?;
+    Ok(outcome.sum)
+}
+
 /// Runs the steps once to count the keys that were there, and then `runs` times.
+fn go_often<R: Threads + Wait + Clock + Print + Sync>(
+    rt: &R,
+    alloc: Global,
+    threads: u64,
+    steps: Steps<'_>,
+    request: Request,
+) -> io::Result<()> {
+    let count = request.streams.entries.saturating_mul(threads);
+    print_hits(rt, alloc, threads, steps, count)?;
+    let mut last = 0u64;
+    for _ in 0..request.runs {
+        last = run_and_print(rt, alloc, threads, steps, count)?;
+    }
+    crew_check(rt, "cache", threads, PEER, last)
+}
+
+/// Measures the workload with so many threads.
 pub(crate) fn measure<R: Threads + Wait + Clock + Print + Sync>(
     rt: &R,
     alloc: Global,
@@ -111,22 +165,9 @@ pub(crate) fn measure<R: Threads + Wait + Clock + Print + Sync>(
     let streams = &request.streams;
     let first = crew_keys(alloc, streams, threads, 0)?;
     let next = crew_keys(alloc, streams, threads, streams.entries)?;
-    let count = streams.entries.saturating_mul(threads);
-    let hits = run_once(rt, alloc, first.as_slice(), next.as_slice(), true)?.sum;
-    print_line(
-        rt,
-        "hitrate",
-        PEER,
-        threads,
-        hits.saturating_mul(100),
-        count,
-        alloc,
-    )?;
-    let mut last = 0u64;
-    for _ in 0..request.runs {
-        let outcome = run_once(rt, alloc, first.as_slice(), next.as_slice(), false)?;
-        print_line(rt, "cache", PEER, threads, outcome.spent, count, alloc)?;
-        last = outcome.sum;
-    }
-    print_check(rt, "cache", PEER, threads, last, alloc)
+    let steps = Steps {
+        first: first.as_slice(),
+        next: next.as_slice(),
+    };
+    go_often(rt, alloc, threads, steps, request)
 }

@@ -1,7 +1,8 @@
 //! Threads that each make their part of a workload, and what that took.
 ghost use Rattle.std.specs.Prelude.{ℕ, ◌<◌};
 
-use bench_kit::report::{check, line, nanos};
+use bench_kit::arguments::out_of_memory;
+use bench_kit::report::nanos;
 use std::alloc::Global;
 use std::io;
 use std::rt::Clock;
@@ -13,11 +14,6 @@ use std::time::Instant;
 pub struct Outcome {
     pub spent: u64,
     pub sum: u64,
-}
-
-/// The error of a container that was refused memory.
-pub(crate) fn out_of_memory() -> io::Error {
-    io::Error::from(io::ErrorKind::OutOfMemory)
 }
 
 /// The sum of the answers; an error where one of them is missing.
@@ -47,31 +43,4 @@ pub(crate) fn run<R: Threads + Clock + Sync, F: Fn(usize) -> Option<u64> + Sync>
     let spent = nanos(start.elapsed(rt)?);
     let sum = sum_of(answers.as_slice())?;
     Ok(Outcome { spent, sum })
-}
-
-/// The name of a workload with its number of threads, as `shared_insert_t4`.
-pub(crate) fn print_line(
-    rt: &impl Print,
-    work: &str,
-    peer: &str,
-    threads: u64,
-    spent: u64,
-    count: u64,
-    alloc: Global,
-) -> io::Result<()> {
-    let name = format!(in alloc; "{work}_t{threads}")?;
-    line(rt, name.as_str(), peer, spent, count)
-}
-
-/// The sum of a workload, which all peers have to agree in.
-pub(crate) fn print_check(
-    rt: &impl Print,
-    work: &str,
-    peer: &str,
-    threads: u64,
-    sum: u64,
-    alloc: Global,
-) -> io::Result<()> {
-    let name = format!(in alloc; "{work}_t{threads}")?;
-    check(rt, name.as_str(), peer, sum)
 }

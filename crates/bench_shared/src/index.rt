@@ -1,6 +1,8 @@
 //! Peeks into an index that nobody writes.
-use crate::crew::{Outcome, out_of_memory, print_check, print_line, run};
+use crate::crew::{Outcome, run};
 use crate::request::Request;
+use bench_kit::arguments::out_of_memory;
+use bench_kit::report::{crew_check, crew_line};
 use bench_kit::streams::{Streams, value};
 use scc_shared_index::HashIndex;
 use std::alloc::Global;
@@ -13,17 +15,22 @@ type Index = HashIndex<u64, u64>;
 
 const PEER: &str = "scc-shared-index";
 
-fn filled(rt: &impl Wait, alloc: Global, streams: &Streams) -> io::Result<Index> {
-    let Ok(index) = HashIndex::new(alloc) else {
-        return Err(out_of_memory());
-    };
+/// Fills the index, and says whether there was memory.
+fn fill(rt: &impl Wait, index: &Index, streams: &Streams) -> bool {
     for place in 0..streams.entries {
         let key = streams.inserted_key(place);
         if index.insert_sync(rt, key, value(key)).is_err() {
-            return Err(out_of_memory());
+            return false;
         }
     }
-    Ok(index)
+    true
+}
+
+fn filled(rt: &impl Wait, alloc: Global, streams: &Streams) -> io::Result<Index> {
+    match HashIndex::new(alloc) {
+        Ok(index) if fill(rt, &index, streams) => Ok(index),
+        _ => Err(out_of_memory()),
+    }
 }
 
 /// The sum of the values of the keys.
@@ -58,24 +65,51 @@ fn run_once<R: Threads + Wait + Clock + Sync>(
     )
 }
 
+/// Peeks at all keys once, prints a line unless it is to warm up, and answers the sum.
+fn run_and_print<R: Threads + Wait + Clock + Print + Sync>(
+    rt: &R,
+    alloc: Global,
+    index: &Index,
+    keys: &[u64],
+    threads: u64,
+    is_measured: bool,
+) -> io::Result<u64> {
+    let outcome = run_once(rt, alloc, index, keys, threads as usize)?;
+    if is_measured {
+        let count = (keys.len() as u64).saturating_mul(threads);
+        crew_line(rt, "index_peek", threads, PEER, outcome.spent, count)?;
+    }
+    Ok(outcome.sum)
+}
+
 fn measure_one<R: Threads + Wait + Clock + Print + Sync>(
     rt: &R,
     alloc: Global,
     index: &Index,
     keys: &[u64],
     threads: u64,
-    request: Request,
+    runs: u64,
 ) -> io::Result<()> {
-    let count = request.streams.entries.saturating_mul(threads);
-    let mut last = run_once(rt, alloc, index, keys, threads as usize)?;
-    for _ in 0..request.runs {
-        last = run_once(rt, alloc, index, keys, threads as usize)?;
-        print_line(rt, "index_peek", PEER, threads, last.spent, count, alloc)?;
+    let mut last = 0u64;
+    for run in 0..=runs {
+        last = run_and_print(rt, alloc, index, keys, threads, run > 0)?;
     }
-    print_check(rt, "index_peek", PEER, threads, last.sum, alloc)
+    crew_check(rt, "index_peek", threads, PEER, last)
 }
 
 /// One thread and four.
+fn measure_both<R: Threads + Wait + Clock + Print + Sync>(
+    rt: &R,
+    alloc: Global,
+    index: &Index,
+    keys: &[u64],
+    runs: u64,
+) -> io::Result<()> {
+    measure_one(rt, alloc, index, keys, 1, runs)?;
+    measure_one(rt, alloc, index, keys, 4, runs)
+}
+
+/// Fills an index, and measures peeks at its keys.
 pub(crate) fn measure<R: Threads + Wait + Clock + Print + Sync>(
     rt: &R,
     alloc: Global,
@@ -83,6 +117,5 @@ pub(crate) fn measure<R: Threads + Wait + Clock + Print + Sync>(
 ) -> io::Result<()> {
     let keys = request.streams.accessed(alloc)?;
     let index = filled(rt, alloc, &request.streams)?;
-    measure_one(rt, alloc, &index, keys.as_slice(), 1, request)?;
-    measure_one(rt, alloc, &index, keys.as_slice(), 4, request)
+    measure_both(rt, alloc, &index, keys.as_slice(), request.runs)
 }

@@ -1,11 +1,12 @@
 //! Insertions into an empty map by several threads, together and one by one.
-use crate::crew::{Outcome, out_of_memory, print_check, print_line, run};
+use crate::crew::{Outcome, run};
 use crate::reads::{Map, PEER, sum_of_values};
 use crate::request::Request;
-use bench_kit::report::{line, nanos};
+use bench_kit::arguments::out_of_memory;
+use bench_kit::report::{crew_check, crew_line, nanos, print_quantiles};
 use bench_kit::streams::value;
 use scc_shared_map::HashMap;
-use std::alloc::{AllocError, Global};
+use std::alloc::Global;
 use std::io;
 use std::rt::Clock;
 use std::sync::Wait;
@@ -58,7 +59,38 @@ fn run_once<R: Threads + Wait + Clock + Sync>(
     })
 }
 
-/// Fills an empty map once to warm up and then `runs` times.
+/// Fills an empty map, prints a line unless it is to warm up, and answers the sum of its values.
+fn run_and_print<R: Threads + Wait + Clock + Print + Sync>(
+    rt: &R,
+    alloc: Global,
+    keys: &[u64],
+    threads: u64,
+    is_measured: bool,
+) -> io::Result<u64> {
+    let outcome = run_once(rt, alloc, keys, threads as usize)?;
+    if is_measured {
+        let count = keys.len() as u64;
+        crew_line(rt, "shared_insert", threads, PEER, outcome.spent, count)?;
+    }
+    Ok(outcome.sum)
+}
+
+/// Fills an empty map with the same keys once to warm up and then `runs` times.
+fn run_often<R: Threads + Wait + Clock + Print + Sync>(
+    rt: &R,
+    alloc: Global,
+    keys: &[u64],
+    threads: u64,
+    runs: u64,
+) -> io::Result<()> {
+    let mut last = 0u64;
+    for run in 0..=runs {
+        last = run_and_print(rt, alloc, keys, threads, run > 0)?;
+    }
+    crew_check(rt, "shared_insert", threads, PEER, last)
+}
+
+/// Measures insertions by so many threads.
 pub(crate) fn measure<R: Threads + Wait + Clock + Print + Sync>(
     rt: &R,
     alloc: Global,
@@ -66,14 +98,7 @@ pub(crate) fn measure<R: Threads + Wait + Clock + Print + Sync>(
     request: Request,
 ) -> io::Result<()> {
     let keys = request.streams.inserted(alloc)?;
-    let crew = threads as usize;
-    let count = request.streams.entries;
-    let mut last = run_once(rt, alloc, keys.as_slice(), crew)?;
-    for _ in 0..request.runs {
-        last = run_once(rt, alloc, keys.as_slice(), crew)?;
-        print_line(rt, "shared_insert", PEER, threads, last.spent, count, alloc)?;
-    }
-    print_check(rt, "shared_insert", PEER, threads, last.sum, alloc)
+    run_often(rt, alloc, keys.as_slice(), threads, request.runs)
 }
 
 /// Inserts a key, and answers what that took in nanoseconds; None where memory was refused or the clock can't be read.
@@ -101,16 +126,22 @@ fn insert_timed<R: Wait + Clock>(
     Some(times)
 }
 
+/// Adds the times of a part to the list; an error where a part was refused memory.
+fn add_times(all: &mut Vec<u64>, part: &Option<Vec<u64>>) -> io::Result<()> {
+    match part {
+        Some(times) => match all.extend_from_slice(times.as_slice()) {
+            Ok(()) => Ok(()),
+            Err(_) => Err(out_of_memory()),
+        },
+        None => Err(out_of_memory()),
+    }
+}
+
 /// The times of all parts, in rising order.
 fn joined(alloc: Global, parts: &[Option<Vec<u64>>]) -> io::Result<Vec<u64>> {
     let mut all = Vec::new(alloc);
     for part in parts {
-        let Some(times) = part else {
-            return Err(out_of_memory());
-        };
-        for time in times.as_slice() {
-            all.push(*time).map_err(AllocError::from)?;
-        }
+        add_times(&mut all, part)?;
     }
     all.sort_unstable();
     Ok(all)
@@ -132,30 +163,34 @@ fn times_of<R: Threads + Wait + Clock + Sync>(
     joined(alloc, parts.as_slice())
 }
 
-/// The time at that many thousandths of the sorted ones.
-fn quantile(sorted: &[u64], thousandths: usize) -> u64 {
-    let place = sorted.len().saturating_sub(1).saturating_mul(thousandths) / 1000;
-    sorted.get(place).copied().unwrap_or(0)
+/// The names of the lines of single insertions.
+const NAMES: [&str; 4] = ["tail4_p50", "tail4_p99", "tail4_p999", "tail4_max"];
+
+/// Fills an empty map by four threads, and prints what half, 99 %, 99.9 % and all of the single insertions take at most,
+/// unless it is to warm up.
+fn print_tail<R: Threads + Wait + Clock + Print + Sync>(
+    rt: &R,
+    alloc: Global,
+    keys: &[u64],
+    is_measured: bool,
+) -> io::Result<()> {
+    let times = times_of(rt, alloc, keys)?;
+    if is_measured {
+        print_quantiles(rt, NAMES, PEER, times.as_slice())
+    } else {
+        Ok(())
+    }
 }
 
-fn print_quantiles(rt: &impl Print, sorted: &[u64]) -> io::Result<()> {
-    line(rt, "tail4_p50", PEER, quantile(sorted, 500), 1)?;
-    line(rt, "tail4_p99", PEER, quantile(sorted, 990), 1)?;
-    line(rt, "tail4_p999", PEER, quantile(sorted, 999), 1)?;
-    line(rt, "tail4_max", PEER, quantile(sorted, 1000), 1)
-}
-
-/// What half, 99 %, 99.9 % and all of the single insertions take at most, on four threads.
+/// The same once to warm up and then `runs` times.
 pub(crate) fn measure_tail<R: Threads + Wait + Clock + Print + Sync>(
     rt: &R,
     alloc: Global,
     request: Request,
 ) -> io::Result<()> {
     let keys = request.streams.inserted(alloc)?;
-    let _ = times_of(rt, alloc, keys.as_slice())?;
-    for _ in 0..request.runs {
-        let times = times_of(rt, alloc, keys.as_slice())?;
-        print_quantiles(rt, times.as_slice())?;
+    for run in 0..=request.runs {
+        print_tail(rt, alloc, keys.as_slice(), run > 0)?;
     }
     Ok(())
 }

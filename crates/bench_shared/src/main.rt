@@ -13,28 +13,19 @@ mod mixed;
 mod reads;
 mod request;
 
-use request::{Group, Request, bad_argument, parse_request};
-use std::alloc::{AllocError, Global};
+use bench_kit::arguments::words;
+use request::{Group, Request, parse_request};
+use std::alloc::Global;
+use std::io;
 use std::rt::{Clock, Files};
 use std::sync::Wait;
 use std::thread::Threads;
-use std::{env, io};
 
-fn list_peers(rt: &impl Print) -> io::Result<()> {
-    println!(rt; "scc-shared shared,tail4,mem")?;
-    println!(rt; "scc-shared-index index")?;
-    println!(rt; "scc-shared-cache cache")?;
-    println!(rt; "scc-memo memo")
-}
-
-/// The arguments, without the program's name.
-fn words(rt: &HostRuntime) -> io::Result<Vec<String>> {
-    let mut words = Vec::new(rt.alloc());
-    for word in env::args(rt)?.skip(1) {
-        words.push(word).map_err(AllocError::from)?;
-    }
-    Ok(words)
-}
+/// The peers and their groups.
+const PEERS: &str = "scc-shared shared,tail4,mem
+scc-shared-index index
+scc-shared-cache cache
+scc-memo memo";
 
 /// The numbers of threads of the workloads of the map and of the cache.
 const CREWS: [u64; 3] = [1, 2, 4];
@@ -92,8 +83,8 @@ fn measure<R: Clock + Files + Print + Alloc + Threads + Wait + Sync>(
 fn main(rt: HostRuntime) -> io::Result<()> {
     let words = words(&rt)?;
     if words.is_empty() {
-        return list_peers(&rt);
+        return println!(&rt; "{PEERS}");
     }
-    let request = parse_request(words.as_slice()).map_err(|_| bad_argument())?;
+    let request = parse_request(words.as_slice())?;
     measure(&rt, rt.alloc(), request)
 }

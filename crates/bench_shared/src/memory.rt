@@ -1,7 +1,7 @@
 //! How many bytes a pair takes in a map that threads share, by the pages that the process holds.
-use crate::crew::out_of_memory;
 use crate::reads::{Map, PEER, sum_of_values};
 use crate::request::Request;
+use bench_kit::arguments::out_of_memory;
 use bench_kit::report::{check, line};
 use bench_kit::resident::{most_resident, resident};
 use bench_kit::streams::{Streams, value};
@@ -28,27 +28,46 @@ fn insert_places(
     Ok(())
 }
 
-/// Fills a map, and answers the bytes that it holds then and that it held at most.
-fn fill<R: Files + Alloc + Wait>(rt: &R, map: &Map, streams: &Streams) -> io::Result<(u64, u64)> {
-    insert_places(rt, map, streams, 0, 1)?;
-    let before = resident(rt)?;
-    insert_places(rt, map, streams, 1, streams.entries)?;
+/// The bytes that the process holds now and that it held at most, above so many.
+fn held_above(rt: &(impl Files + Alloc), before: u64) -> io::Result<(u64, u64)> {
     let live = resident(rt)?.saturating_sub(before);
     let most = most_resident(rt)?.saturating_sub(before);
     Ok((live, most))
 }
 
-/// Fills a map, and prints the bytes a pair that it holds then and that it held at most.
+/// The bytes that the process holds once an empty map has its first key.
+fn held_by_one<R: Files + Alloc + Wait>(rt: &R, map: &Map, streams: &Streams) -> io::Result<u64> {
+    insert_places(rt, map, streams, 0, 1)?;
+    resident(rt)
+}
+
+/// Fills an empty map, and answers the bytes that it holds then and that it held at most.
+fn fill<R: Files + Alloc + Wait>(rt: &R, map: &Map, streams: &Streams) -> io::Result<(u64, u64)> {
+    let before = held_by_one(rt, map, streams)?;
+    insert_places(rt, map, streams, 1, streams.entries)?;
+    held_above(rt, before)
+}
+
+/// Fills an empty map, and prints the bytes a pair that it holds then and that it held at most.
+fn fill_and_print<R: Files + Print + Alloc + Wait>(
+    rt: &R,
+    map: &Map,
+    streams: &Streams,
+) -> io::Result<()> {
+    let (live, most) = fill(rt, map, streams)?;
+    line(rt, "mem_live", PEER, live, streams.entries)?;
+    line(rt, "mem_peak", PEER, most, streams.entries)?;
+    check(rt, "mem_live", PEER, sum_of_values(rt, map))
+}
+
+/// Measures what a new map holds.
 pub(crate) fn measure<R: Files + Print + Alloc + Wait>(
     rt: &R,
     alloc: Global,
     request: Request,
 ) -> io::Result<()> {
-    let Ok(map) = HashMap::new(alloc) else {
-        return Err(out_of_memory());
-    };
-    let (live, most) = fill(rt, &map, &request.streams)?;
-    line(rt, "mem_live", PEER, live, request.streams.entries)?;
-    line(rt, "mem_peak", PEER, most, request.streams.entries)?;
-    check(rt, "mem_live", PEER, sum_of_values(rt, &map))
+    match HashMap::new(alloc) {
+        Ok(map) => fill_and_print(rt, &map, &request.streams),
+        Err(_) => Err(out_of_memory()),
+    }
 }

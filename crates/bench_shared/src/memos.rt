@@ -3,10 +3,13 @@ ghost use Rattle.std.specs.Prelude.{◌*◌};
 ghost use Rattle.std.proofs.Common.{ap};
 ghost use Rattle.std.proofs.lemmas.Bool.{eqb-true};
 
-use crate::crew::{out_of_memory, print_line, run};
+use crate::cache::crew_keys;
+use crate::crew::run;
 use crate::request::Request;
+use bench_kit::arguments::out_of_memory;
+use bench_kit::report::crew_line;
 use scc_memo::{Memo, Pure};
-use std::alloc::{AllocError, Global};
+use std::alloc::Global;
 use std::hash::{BuildHasherDefault, FoldHasher};
 use std::io;
 use std::rt::Clock;
@@ -78,19 +81,6 @@ fn get_all_locked(rt: &impl Wait, memo: &Mutex<Squares>, keys: &[u64]) -> u64 {
     sum
 }
 
-/// The keys of each of so many threads.
-fn crew_keys(alloc: Global, threads: u64, request: Request) -> Result<Vec<Vec<u64>>, AllocError> {
-    let mut all = Vec::new(alloc);
-    for thread in 0..threads {
-        let own = request.streams.ranked_of(alloc, thread, 0)?;
-        match all.push(own) {
-            Ok(()) => {}
-            Err(_) => return Err(AllocError),
-        }
-    }
-    Ok(all)
-}
-
 /// A memo for each thread.
 fn run_each<R: Threads + Clock + Sync>(
     rt: &R,
@@ -131,6 +121,20 @@ fn run_locked<R: Threads + Wait + Clock + Sync>(
     Ok(outcome.spent)
 }
 
+/// Measures both once.
+fn run_both<R: Threads + Wait + Clock + Print + Sync>(
+    rt: &R,
+    alloc: Global,
+    keys: &[Vec<u64>],
+    threads: u64,
+    count: u64,
+) -> io::Result<()> {
+    let each = run_each(rt, alloc, keys)?;
+    crew_line(rt, "memo_each", threads, PEER, each, count)?;
+    let locked = run_locked(rt, alloc, keys)?;
+    crew_line(rt, "memo_locked", threads, PEER, locked, count)
+}
+
 /// Measures both, `runs` times.
 pub(crate) fn measure<R: Threads + Wait + Clock + Print + Sync>(
     rt: &R,
@@ -138,13 +142,10 @@ pub(crate) fn measure<R: Threads + Wait + Clock + Print + Sync>(
     threads: u64,
     request: Request,
 ) -> io::Result<()> {
-    let keys = crew_keys(alloc, threads, request)?;
+    let keys = crew_keys(alloc, &request.streams, threads, 0)?;
     let count = request.streams.entries.saturating_mul(threads);
     for _ in 0..request.runs {
-        let each = run_each(rt, alloc, keys.as_slice())?;
-        print_line(rt, "memo_each", PEER, threads, each, count, alloc)?;
-        let locked = run_locked(rt, alloc, keys.as_slice())?;
-        print_line(rt, "memo_locked", PEER, threads, locked, count, alloc)?;
+        run_both(rt, alloc, keys.as_slice(), threads, count)?;
     }
     Ok(())
 }

@@ -1,8 +1,7 @@
 //! Insertions, removals and reads of keys of which half are there.
-use crate::crew::{Outcome, print_check, print_line, run};
-use crate::reads::{Map, PEER, filled, read, sum_of_values};
+use crate::reads::{Checked, Map, Work, measure_one, read};
 use crate::request::Request;
-use bench_kit::steps::{Spread, Step, crew_steps};
+use bench_kit::steps::{Spread, Step};
 use bench_kit::streams::value;
 use scc_common::InsertError;
 use std::alloc::Global;
@@ -23,7 +22,7 @@ fn insert_missing(rt: &impl Wait, map: &Map, key: u64) -> Option<bool> {
 
 /// Inserts at the steps of the first tenth, removes at those of the second, and reads at the others; how many were
 /// inserted and removed, and the sum of what was read.
-fn mix(rt: &impl Wait, map: &Map, steps: &[Step]) -> Option<u64> {
+pub(crate) fn mix(rt: &impl Wait, map: &Map, steps: &[Step]) -> Option<u64> {
     let mut sum = 0u64;
     for step in steps {
         if step.percentile < 10 {
@@ -39,48 +38,6 @@ fn mix(rt: &impl Wait, map: &Map, steps: &[Step]) -> Option<u64> {
     Some(sum)
 }
 
-fn run_once<R: Threads + Wait + Clock + Sync>(
-    rt: &R,
-    alloc: Global,
-    map: &Map,
-    steps: &[Vec<Step>],
-) -> io::Result<Outcome> {
-    run(
-        rt,
-        alloc,
-        steps.len(),
-        &|thread| match steps.get(thread) {
-            Some(own) => mix(rt, map, own.as_slice()),
-            None => None,
-        },
-    )
-}
-
-/// Runs one of the two workloads once to warm up, the one whose sum is printed where `checked`, and then `runs` times.
-fn measure_one<R: Threads + Wait + Clock + Print + Sync>(
-    rt: &R,
-    alloc: Global,
-    threads: u64,
-    request: Request,
-    work: &str,
-    spread: Spread,
-    checked: bool,
-) -> io::Result<()> {
-    let steps = crew_steps(alloc, &request.streams, spread, threads)?;
-    let map = filled(rt, alloc, &request.streams)?;
-    let count = request.streams.entries.saturating_mul(threads);
-    let first = run_once(rt, alloc, &map, steps.as_slice())?;
-    if checked {
-        let sum = first.sum.wrapping_add(sum_of_values(rt, &map));
-        print_check(rt, work, PEER, threads, sum, alloc)?;
-    }
-    for _ in 0..request.runs {
-        let outcome = run_once(rt, alloc, &map, steps.as_slice())?;
-        print_line(rt, work, PEER, threads, outcome.spent, count, alloc)?;
-    }
-    Ok(())
-}
-
 /// Keys of which each thread has its own, and then keys of which most steps have the same few: the answers of several
 /// threads then depend on the schedule, so only those of one are checked.
 pub(crate) fn measure<R: Threads + Wait + Clock + Print + Sync>(
@@ -89,22 +46,22 @@ pub(crate) fn measure<R: Threads + Wait + Clock + Print + Sync>(
     threads: u64,
     request: Request,
 ) -> io::Result<()> {
-    measure_one(
-        rt,
-        alloc,
-        threads,
-        request,
-        "shared_mixed_disjoint",
-        Spread::Disjoint,
-        true,
-    )?;
-    measure_one(
-        rt,
-        alloc,
-        threads,
-        request,
-        "shared_mixed_hot",
-        Spread::Hot,
-        threads == 1,
-    )
+    let disjoint = Work {
+        name: "shared_mixed_disjoint",
+        spread: Spread::Disjoint,
+        percent: None,
+        checked: Checked::First,
+    };
+    let hot = Work {
+        name: "shared_mixed_hot",
+        spread: Spread::Hot,
+        percent: None,
+        checked: if threads == 1 {
+            Checked::First
+        } else {
+            Checked::Never
+        },
+    };
+    measure_one(rt, alloc, threads, request, disjoint)?;
+    measure_one(rt, alloc, threads, request, hot)
 }

@@ -1,6 +1,9 @@
 //! Reads and writes of keys that are there.
-use crate::crew::{Outcome, out_of_memory, print_check, print_line, run};
+use crate::crew::{Outcome, run};
+use crate::mixed::mix;
 use crate::request::Request;
+use bench_kit::arguments::out_of_memory;
+use bench_kit::report::{crew_check, crew_line};
 use bench_kit::steps::{Spread, Step, crew_steps};
 use bench_kit::streams::{Streams, value};
 use scc_shared_map::HashMap;
@@ -16,18 +19,23 @@ pub type Map = HashMap<u64, u64>;
 /// The name of the map among the peers.
 pub const PEER: &str = "scc-shared";
 
-/// A map of all inserted keys.
-pub(crate) fn filled(rt: &impl Wait, alloc: Global, streams: &Streams) -> io::Result<Map> {
-    let Ok(map) = HashMap::new(alloc) else {
-        return Err(out_of_memory());
-    };
+/// Fills a map, and says whether there was memory.
+fn fill(rt: &impl Wait, map: &Map, streams: &Streams) -> bool {
     for place in 0..streams.entries {
         let key = streams.inserted_key(place);
         if map.insert_sync(rt, key, value(key)).is_err() {
-            return Err(out_of_memory());
+            return false;
         }
     }
-    Ok(map)
+    true
+}
+
+/// A map of all inserted keys.
+fn filled(rt: &impl Wait, alloc: Global, streams: &Streams) -> io::Result<Map> {
+    match HashMap::new(alloc) {
+        Ok(map) if fill(rt, &map, streams) => Ok(map),
+        _ => Err(out_of_memory()),
+    }
 }
 
 /// The sum of all values.
@@ -59,45 +67,131 @@ fn read_or_write(rt: &impl Wait, map: &Map, steps: &[Step], percent: u64) -> Opt
     Some(sum)
 }
 
+/// What is done at the steps of a workload, which keys they have, and which run's sum is printed.
+#[derive(Clone, Copy, Drop)]
+pub struct Work {
+    pub name: &'static str,
+    pub spread: Spread,
+    /// Below that percentile keys are read, else written; None where they are inserted and removed too.
+    pub percent: Option<u64>,
+    pub checked: Checked,
+}
+
+/// Which run's sum is printed: the last one's, that of the run that warms up, or none's.
+#[derive(Clone, Copy, Drop)]
+pub enum Checked {
+    Last,
+    First,
+    Never,
+}
+
+/// Goes through the steps of each thread once.
 fn run_once<R: Threads + Wait + Clock + Sync>(
     rt: &R,
     alloc: Global,
     map: &Map,
     steps: &[Vec<Step>],
-    percent: u64,
+    percent: Option<u64>,
 ) -> io::Result<Outcome> {
     run(
         rt,
         alloc,
         steps.len(),
-        &|thread| match steps.get(thread) {
-            Some(own) => read_or_write(rt, map, own.as_slice(), percent),
-            None => None,
+        &|thread| match (steps.get(thread), percent) {
+            (Some(own), Some(percent)) => read_or_write(rt, map, own.as_slice(), percent),
+            (Some(own), None) => mix(rt, map, own.as_slice()),
+            (None, _) => None,
         },
     )
 }
 
-/// Runs one of the two workloads once to warm up and then `runs` times.
-fn measure_one<R: Threads + Wait + Clock + Print + Sync>(
+/// Goes through the steps once, and prints the line of a run unless it is to warm up, and the sum where it is this run's
+/// that is told.
+fn run_and_print<R: Threads + Wait + Clock + Print + Sync>(
+    rt: &R,
+    alloc: Global,
+    map: &Map,
+    steps: &[Vec<Step>],
+    work: Work,
+    is_measured: bool,
+) -> io::Result<u64> {
+    let threads = steps.len() as u64;
+    let outcome = run_once(rt, alloc, map, steps, work.percent)?;
+    if is_measured {
+        let entries = match steps.first() {
+            Some(own) => own.len() as u64,
+            None => 0,
+        };
+        let count = entries.saturating_mul(threads);
+        crew_line(rt, work.name, threads, PEER, outcome.spent, count)?;
+    }
+    Ok(outcome.sum)
+}
+
+/// Prints the sum of a run with that of the map's values.
+fn print_sum<R: Wait + Print>(
+    rt: &R,
+    map: &Map,
+    work: Work,
+    threads: u64,
+    sum: u64,
+) -> io::Result<()> {
+    let sum = sum.wrapping_add(sum_of_values(rt, map));
+    crew_check(rt, work.name, threads, PEER, sum)
+}
+
+/// Runs a workload on a map once to warm up and then `runs` times.
+fn run_often<R: Threads + Wait + Clock + Print + Sync>(
+    rt: &R,
+    alloc: Global,
+    map: &Map,
+    steps: &[Vec<Step>],
+    work: Work,
+    runs: u64,
+) -> io::Result<()> {
+    let threads = steps.len() as u64;
+    for run in 0..=runs {
+        let sum = run_and_print(rt, alloc, map, steps, work, run > 0)?;
+        let is_told = match work.checked {
+            Checked::Last => run == runs,
+            Checked::First => run == 0,
+            Checked::Never => false,
+        };
+        if is_told {
+            print_sum(rt, map, work, threads, sum)?;
+        }
+    }
+    Ok(())
+}
+
+/// Runs a workload with so many threads.
+pub(crate) fn measure_one<R: Threads + Wait + Clock + Print + Sync>(
     rt: &R,
     alloc: Global,
     threads: u64,
     request: Request,
-    work: &str,
-    spread: Spread,
-    percent: u64,
+    work: Work,
 ) -> io::Result<()> {
-    let steps = crew_steps(alloc, &request.streams, spread, threads)?;
+    let steps = crew_steps(alloc, &request.streams, work.spread, threads)?;
     let map = filled(rt, alloc, &request.streams)?;
-    let count = request.streams.entries.saturating_mul(threads);
-    let mut last = run_once(rt, alloc, &map, steps.as_slice(), percent)?;
-    for _ in 0..request.runs {
-        last = run_once(rt, alloc, &map, steps.as_slice(), percent)?;
-        print_line(rt, work, PEER, threads, last.spent, count, alloc)?;
-    }
-    let sum = last.sum.wrapping_add(sum_of_values(rt, &map));
-    print_check(rt, work, PEER, threads, sum, alloc)
+    run_often(rt, alloc, &map, steps.as_slice(), work, request.runs)
 }
+
+/// Nineteen reads to a write.
+const MOSTLY_READS: Work = Work {
+    name: "shared_read95",
+    spread: Spread::ReadMostly,
+    percent: Some(95),
+    checked: Checked::Last,
+};
+
+/// As many writes as reads.
+const HALF_READS: Work = Work {
+    name: "shared_read50",
+    spread: Spread::Half,
+    percent: Some(50),
+    checked: Checked::Last,
+};
 
 /// Nineteen reads to a write, and then as many writes as reads.
 pub(crate) fn measure<R: Threads + Wait + Clock + Print + Sync>(
@@ -106,22 +200,6 @@ pub(crate) fn measure<R: Threads + Wait + Clock + Print + Sync>(
     threads: u64,
     request: Request,
 ) -> io::Result<()> {
-    measure_one(
-        rt,
-        alloc,
-        threads,
-        request,
-        "shared_read95",
-        Spread::ReadMostly,
-        95,
-    )?;
-    measure_one(
-        rt,
-        alloc,
-        threads,
-        request,
-        "shared_read50",
-        Spread::Half,
-        50,
-    )
+    measure_one(rt, alloc, threads, request, MOSTLY_READS)?;
+    measure_one(rt, alloc, threads, request, HALF_READS)
 }

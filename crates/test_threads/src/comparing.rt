@@ -5,7 +5,7 @@ use scc_shared_cache::HashCache;
 use scc_shared_index::HashIndex;
 use scc_shared_map::HashMap;
 use scc_shared_set::HashSet;
-use std::alloc::{AllocError, Global};
+use std::alloc::Global;
 use std::process::Abort;
 use std::sync::Wait;
 use std::test::Fail;
@@ -18,16 +18,21 @@ const ROUNDS: u64 = 200;
 /// Slots for two stripes.
 const SLOTS: usize = 512;
 
-// One with a hundred keys, in all stripes.
-fn filled<C: Threaded + Drop, R: Wait>(rt: &R, alloc: Global) -> Result<C, AllocError> {
-    let Some(made) = C::make(alloc, SLOTS) else {
-        return Err(AllocError);
-    };
+// Whether a hundred keys in all stripes are added.
+fn fills<C: Threaded, R: Wait>(rt: &R, container: &C) -> bool {
     let mut right = true;
     for key in 0..KEYS {
-        right = made.add(rt, (key << 57) | key) && right;
+        right = container.add(rt, (key << 57) | key) && right;
     }
-    if right { Ok(made) } else { Err(AllocError) }
+    right
+}
+
+// One with these keys; None where memory is refused.
+fn filled<C: Threaded + Drop, R: Wait>(rt: &R, alloc: Global) -> Option<C> {
+    match C::make(alloc, SLOTS) {
+        Some(made) if fills(rt, &made) => Some(made),
+        _ => None,
+    }
 }
 
 fn compares<C: Threaded, R: Wait>(rt: &R, one: &C, other: &C) -> bool {
@@ -48,30 +53,36 @@ fn writes<C: Threaded, R: Wait>(rt: &R, container: &C) -> bool {
     there
 }
 
-// Whether it equals itself each time, beside a writer too.
+// Whether a container equals itself each time, beside a writer too.
+fn is_itself<C: Threaded + Sync, R: Threads + Wait + Sync>(rt: &R, container: &C) -> bool {
+    let before = container.equals(rt, container);
+    let (compared, wrote) = join(
+        rt,
+        || compares(rt, container, container),
+        || writes(rt, container),
+    );
+    before && compared && wrote
+}
+
 fn equals_itself<C: Threaded + Sync + Drop, R: Threads + Wait + Sync>(
     rt: &R,
     alloc: Global,
-) -> Result<bool, AllocError> {
-    let container: C = filled(rt, alloc)?;
-    let before = container.equals(rt, &container);
-    let (compared, wrote) = join(
-        rt,
-        || compares(rt, &container, &container),
-        || writes(rt, &container),
-    );
-    Ok(before && compared && wrote)
+) -> bool {
+    match filled::<C, R>(rt, alloc) {
+        Some(container) => is_itself(rt, &container),
+        None => false,
+    }
 }
 
 #[test]
-fn equals_itself_beside_a_writer(rt: HostRuntime) -> Result<(), Fail> {
-    let alloc = rt.alloc();
-    let map = equals_itself::<Map, _>(&rt, alloc)?;
-    let set = equals_itself::<Set, _>(&rt, alloc)?;
-    let index = equals_itself::<Index, _>(&rt, alloc)?;
-    let cache = equals_itself::<Cache, _>(&rt, alloc)?;
-    expect_eq(&rt, [map, set, index, cache], [true; 4]);
-    Ok(())
+fn equals_itself_beside_a_writer(rt: HostRuntime) {
+    let right = [
+        equals_itself::<Map, _>(&rt, rt.alloc()),
+        equals_itself::<Set, _>(&rt, rt.alloc()),
+        equals_itself::<Index, _>(&rt, rt.alloc()),
+        equals_itself::<Cache, _>(&rt, rt.alloc()),
+    ];
+    expect_eq(&rt, right, [true; 4]);
 }
 
 // Compares in both ways at once while keys of both come and go, which may answer anything and has to end.
@@ -87,59 +98,71 @@ fn compares_and_moves<C: Threaded, R: Wait>(rt: &R, one: &C, other: &C) -> bool 
 }
 
 // Whether two containers that are compared with one another by two threads come to an end, and are equal then.
+fn compare_both_ways<C: Threaded + Sync, R: Threads + Wait + Sync>(
+    rt: &R,
+    one: &C,
+    other: &C,
+) -> bool {
+    let (first, second) = join(
+        rt,
+        || compares_and_moves(rt, one, other),
+        || compares_and_moves(rt, other, one),
+    );
+    first && second && one.equals(rt, other) && other.equals(rt, one)
+}
+
 fn compares_both_ways<C: Threaded + Sync + Drop, R: Threads + Wait + Sync>(
     rt: &R,
     alloc: Global,
-) -> Result<bool, AllocError> {
-    let one: C = filled(rt, alloc)?;
-    let other: C = filled(rt, alloc)?;
-    let (first, second) = join(
-        rt,
-        || compares_and_moves(rt, &one, &other),
-        || compares_and_moves(rt, &other, &one),
-    );
-    Ok(first && second && one.equals(rt, &other) && other.equals(rt, &one))
+) -> bool {
+    match (filled::<C, R>(rt, alloc), filled::<C, R>(rt, alloc)) {
+        (Some(one), Some(other)) => compare_both_ways(rt, &one, &other),
+        _ => false,
+    }
 }
 
 #[test]
-fn comparisons_in_opposite_ways_end(rt: HostRuntime) -> Result<(), Fail> {
-    let alloc = rt.alloc();
-    let map = compares_both_ways::<Map, _>(&rt, alloc)?;
-    let set = compares_both_ways::<Set, _>(&rt, alloc)?;
-    let index = compares_both_ways::<Index, _>(&rt, alloc)?;
-    let cache = compares_both_ways::<Cache, _>(&rt, alloc)?;
-    expect_eq(&rt, [map, set, index, cache], [true; 4]);
-    Ok(())
+fn comparisons_in_opposite_ways_end(rt: HostRuntime) {
+    let right = [
+        compares_both_ways::<Map, _>(&rt, rt.alloc()),
+        compares_both_ways::<Set, _>(&rt, rt.alloc()),
+        compares_both_ways::<Index, _>(&rt, rt.alloc()),
+        compares_both_ways::<Cache, _>(&rt, rt.alloc()),
+    ];
+    expect_eq(&rt, right, [true; 4]);
 }
 
 // Whether a container differs from its equal as soon as it lacks a key, looked at from either side.
-fn differs<C: Threaded + Drop, R: Wait>(rt: &R, one: &C, other: &C) -> bool {
+fn differs<C: Threaded, R: Wait>(rt: &R, one: &C, other: &C) -> bool {
     let same = one.equals(rt, other) && other.equals(rt, one);
     let gone = one.take(rt, 0);
     same && gone && !one.equals(rt, other) && !other.equals(rt, one)
 }
 
-#[test]
-fn shared_map_clone_equals(rt: HostRuntime) -> Result<(), Fail> {
-    let map: Map = filled(&rt, rt.alloc())?;
-    let copy = map.try_clone(&rt)?;
-    let capacities = (
-        map.capacity(&rt),
-        copy.capacity(&rt),
+// Whether a map's clone has its slots, and equals it for as long as their values are the same.
+fn is_clone(rt: &impl Wait, map: &Map, copy: &Map) -> bool {
+    let slots = (
+        map.capacity(rt),
+        copy.capacity(rt),
         *copy.capacity_range().start(),
     );
-    expect_eq(&rt, capacities, (512, 512, 512));
-    expect(&rt, copy.eq_sync(&rt, &map));
-    expect(&rt, copy.rewrite(&rt, (7 << 57) | 7, 8));
-    expect(&rt, !copy.eq_sync(&rt, &map));
-    expect(&rt, copy.rewrite(&rt, (7 << 57) | 7, (7 << 57) | 7));
-    expect(&rt, differs(&rt, &copy, &map));
+    let same = copy.eq_sync(rt, map);
+    let written = copy.rewrite(rt, (7 << 57) | 7, 8) && !copy.eq_sync(rt, map);
+    let again = copy.rewrite(rt, (7 << 57) | 7, (7 << 57) | 7);
+    slots == (512, 512, 512) && same && written && again
+}
+
+#[test]
+fn shared_map_clone_equals(rt: HostRuntime) -> Result<(), Fail> {
+    let map: Map = filled(&rt, rt.alloc()).ok_or("there is memory")?;
+    let copy = map.try_clone(&rt)?;
+    expect(&rt, is_clone(&rt, &map, &copy) && differs(&rt, &copy, &map));
     Ok(())
 }
 
 #[test]
 fn shared_set_clone_equals(rt: HostRuntime) -> Result<(), Fail> {
-    let set: Set = filled(&rt, rt.alloc())?;
+    let set: Set = filled(&rt, rt.alloc()).ok_or("there is memory")?;
     let copy = set.try_clone(&rt)?;
     expect(&rt, differs(&rt, &copy, &set));
     Ok(())
@@ -147,20 +170,25 @@ fn shared_set_clone_equals(rt: HostRuntime) -> Result<(), Fail> {
 
 #[test]
 fn shared_index_clone_equals(rt: HostRuntime) -> Result<(), Fail> {
-    let index: Index = filled(&rt, rt.alloc())?;
+    let index: Index = filled(&rt, rt.alloc()).ok_or("there is memory")?;
     let copy = index.try_clone(&rt)?;
     expect(&rt, differs(&rt, &copy, &index));
     Ok(())
 }
 
+// Gets some keys of a cache, which are then those that were used last.
+fn refreshes(rt: &impl Wait, cache: &Cache) {
+    for key in 0..KEYS {
+        drop(cache.get_sync(rt, &((key % 3) << 57 | key % 3)));
+    }
+}
+
 // The order in which pairs were used is no part of what caches are compared by.
 #[test]
 fn shared_cache_equality_ignores_recency(rt: HostRuntime) -> Result<(), Fail> {
-    let first: Cache = filled(&rt, rt.alloc())?;
-    let second: Cache = filled(&rt, rt.alloc())?;
-    for key in 0..KEYS {
-        drop(second.get_sync(&rt, &((key % 3) << 57 | key % 3)));
-    }
+    let first: Cache = filled(&rt, rt.alloc()).ok_or("there is memory")?;
+    let second: Cache = filled(&rt, rt.alloc()).ok_or("there is memory")?;
+    refreshes(&rt, &second);
     expect(&rt, differs(&rt, &first, &second));
     Ok(())
 }
@@ -211,11 +239,12 @@ fn shared_cache_try_from_iter_first_wins(rt: HostRuntime) -> Result<(), Fail> {
     let items = vec![in rt.alloc(); (1u64, 10u64), (1, 20)]?;
     let cache: HashCache<u64, u64> = HashCache::try_from_iter(&rt, rt.alloc(), items)?;
     let one = cache.read_sync(&rt, &1, |_, value| *value);
+    let range = cache.capacity_range();
+    let slots = (cache.capacity(&rt), *range.start(), *range.end());
     expect_eq(
         &rt,
-        (cache.len(&rt), cache.capacity(&rt), one),
-        (1, 64, Some(10)),
+        (cache.len(&rt), one, slots),
+        (1, Some(10), (64, 64, 64)),
     );
-    expect_eq(&rt, cache.capacity_range(), 64..=64);
     Ok(())
 }

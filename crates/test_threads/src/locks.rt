@@ -3,11 +3,10 @@
 use crate::expect::{expect, expect_eq};
 use crate::flags::{Flags, raise, sees};
 use crate::kinds::{Cache, HALF, Index, Map, Set, Threaded, Visit, Way};
-use std::alloc::{AllocError, Global};
+use std::alloc::Global;
 use std::process::Abort;
 use std::sync::Wait;
 use std::sync::atomic::AtomicU64;
-use std::test::Fail;
 use std::thread::{Threads, join, map_indices};
 
 /// Slots for two stripes.
@@ -50,17 +49,11 @@ fn make_meeting<'a>(key: u64, mine: &'a AtomicU64, other: &'a AtomicU64) -> Meet
     }
 }
 
-// A container with a key in each of its two stripes.
-fn two_keys<C: Threaded + Drop, R: Wait>(rt: &R, alloc: Global) -> Result<C, AllocError> {
+// A container with a key in each of its two stripes; None where memory is refused.
+fn two_keys<C: Threaded + Drop, R: Wait>(rt: &R, alloc: Global) -> Option<C> {
     match C::make(alloc, SLOTS) {
-        Some(made) => {
-            if made.add(rt, 1) && made.add(rt, HALF) {
-                Ok(made)
-            } else {
-                Err(AllocError)
-            }
-        }
-        None => Err(AllocError),
+        Some(made) if made.add(rt, 1) && made.add(rt, HALF) => Some(made),
+        _ => None,
     }
 }
 
@@ -97,55 +90,67 @@ fn adds_beside<C: Threaded, R: Wait>(
 }
 
 // While an entry of the first stripe is held, a key gets into the second one.
-fn leaves_other_stripe<C: Threaded + Sync + Drop, R: Threads + Wait + Sync>(
-    rt: &R,
-    alloc: Global,
-) -> Result<bool, AllocError> {
-    let container: C = two_keys(rt, alloc)?;
+fn leaves_other<C: Threaded + Sync, R: Threads + Wait + Sync>(rt: &R, container: &C) -> bool {
     let flags = Flags::new();
     let (held, added) = join(
         rt,
-        || holds(rt, &container, 1, &flags.first, &flags.second),
-        || { adds_beside(rt, &container, HALF + 1, &flags.first, &flags.second) },
+        || holds(rt, container, 1, &flags.first, &flags.second),
+        || { adds_beside(rt, container, HALF + 1, &flags.first, &flags.second) },
     );
-    Ok(held && added && container.count(rt) == 3)
+    held && added && container.count(rt) == 3
+}
+
+fn leaves_other_stripe<C: Threaded + Sync + Drop, R: Threads + Wait + Sync>(
+    rt: &R,
+    alloc: Global,
+) -> bool {
+    match two_keys::<C, R>(rt, alloc) {
+        Some(container) => leaves_other(rt, &container),
+        None => false,
+    }
 }
 
 #[test]
-fn held_entry_other_stripe(rt: HostRuntime) -> Result<(), Fail> {
-    let alloc = rt.alloc();
-    let map = leaves_other_stripe::<Map, _>(&rt, alloc)?;
-    let set = leaves_other_stripe::<Set, _>(&rt, alloc)?;
-    let index = leaves_other_stripe::<Index, _>(&rt, alloc)?;
-    let cache = leaves_other_stripe::<Cache, _>(&rt, alloc)?;
-    expect_eq(&rt, [map, set, index, cache], [true; 4]);
-    Ok(())
+fn held_entry_other_stripe(rt: HostRuntime) {
+    let right = [
+        leaves_other_stripe::<Map, _>(&rt, rt.alloc()),
+        leaves_other_stripe::<Set, _>(&rt, rt.alloc()),
+        leaves_other_stripe::<Index, _>(&rt, rt.alloc()),
+        leaves_other_stripe::<Cache, _>(&rt, rt.alloc()),
+    ];
+    expect_eq(&rt, right, [true; 4]);
 }
 
 // Two threads read the same key at the same time.
-fn readers_share<C: Threaded + Sync + Drop, R: Threads + Wait + Sync>(
-    rt: &R,
-    alloc: Global,
-) -> Result<bool, AllocError> {
-    let container: C = two_keys(rt, alloc)?;
+fn share<C: Threaded + Sync, R: Threads + Wait + Sync>(rt: &R, container: &C) -> bool {
     let flags = Flags::new();
     let (one, other) = join(
         rt,
-        || reads(rt, &container, &flags.first, &flags.second),
-        || reads(rt, &container, &flags.second, &flags.first),
+        || reads(rt, container, &flags.first, &flags.second),
+        || reads(rt, container, &flags.second, &flags.first),
     );
-    Ok(one && other)
+    one && other
+}
+
+fn readers_share<C: Threaded + Sync + Drop, R: Threads + Wait + Sync>(
+    rt: &R,
+    alloc: Global,
+) -> bool {
+    match two_keys::<C, R>(rt, alloc) {
+        Some(container) => share(rt, &container),
+        None => false,
+    }
 }
 
 #[test]
-fn two_readers_one_stripe(rt: HostRuntime) -> Result<(), Fail> {
-    let alloc = rt.alloc();
-    let map = readers_share::<Map, _>(&rt, alloc)?;
-    let set = readers_share::<Set, _>(&rt, alloc)?;
-    let index = readers_share::<Index, _>(&rt, alloc)?;
-    let cache = readers_share::<Cache, _>(&rt, alloc)?;
-    expect_eq(&rt, [map, set, index, cache], [true; 4]);
-    Ok(())
+fn two_readers_one_stripe(rt: HostRuntime) {
+    let right = [
+        readers_share::<Map, _>(&rt, rt.alloc()),
+        readers_share::<Set, _>(&rt, rt.alloc()),
+        readers_share::<Index, _>(&rt, rt.alloc()),
+        readers_share::<Cache, _>(&rt, rt.alloc()),
+    ];
+    expect_eq(&rt, right, [true; 4]);
 }
 
 // Once the second stripe is held, goes over all keys, and tells when it is in the first stripe.
@@ -179,20 +184,33 @@ fn part<C: Threaded, R: Wait>(
 
 // Whether that way over all keys lets the first stripe go before it takes the second. One that didn't would keep the
 // third thread out for as long as the second one looks for it.
+fn lets_go<C: Threaded + Sync, R: Threads + Wait + Sync>(
+    rt: &R,
+    alloc: Global,
+    container: &C,
+    way: Way,
+) -> bool {
+    let flags = Flags::new();
+    match map_indices(
+        rt,
+        alloc,
+        3,
+        &|thread| part(rt, alloc, container, way, &flags, thread),
+    ) {
+        Ok(told) => told.as_slice() == [true; 3].as_slice(),
+        Err(_) => false,
+    }
+}
+
 fn lets_go_first<C: Threaded + Sync + Drop, R: Threads + Wait + Sync>(
     rt: &R,
     alloc: Global,
     way: Way,
-) -> Result<bool, AllocError> {
-    let container: C = two_keys(rt, alloc)?;
-    let flags = Flags::new();
-    let told = map_indices(
-        rt,
-        alloc,
-        3,
-        &|thread| part(rt, alloc, &container, way, &flags, thread),
-    )?;
-    Ok(told.iter().all(|right| *right))
+) -> bool {
+    match two_keys::<C, R>(rt, alloc) {
+        Some(container) => lets_go(rt, alloc, &container, way),
+        None => false,
+    }
 }
 
 // Whether each of the first ways does so. The first that doesn't ends it.
@@ -200,35 +218,31 @@ fn let_go_first<C: Threaded + Sync + Drop, R: Threads + Wait + Sync>(
     rt: &R,
     alloc: Global,
     ways: usize,
-) -> Result<bool, AllocError> {
+) -> bool {
     for way in WAYS.iter().take(ways) {
-        if !lets_go_first::<C, R>(rt, alloc, *way)? {
-            return Ok(false);
+        if !lets_go_first::<C, R>(rt, alloc, *way) {
+            return false;
         }
     }
-    Ok(true)
+    true
 }
 
 #[test]
-fn next_lets_its_stripe_go_first(rt: HostRuntime) -> Result<(), Fail> {
-    expect(&rt, let_go_first::<Map, _>(&rt, rt.alloc(), 6)?);
-    Ok(())
+fn next_lets_its_stripe_go_first(rt: HostRuntime) {
+    expect(&rt, let_go_first::<Map, _>(&rt, rt.alloc(), 6));
 }
 
 #[test]
-fn next_of_a_set_lets_its_stripe_go_first(rt: HostRuntime) -> Result<(), Fail> {
-    expect(&rt, let_go_first::<Set, _>(&rt, rt.alloc(), 6)?);
-    Ok(())
+fn next_of_a_set_lets_its_stripe_go_first(rt: HostRuntime) {
+    expect(&rt, let_go_first::<Set, _>(&rt, rt.alloc(), 6));
 }
 
 #[test]
-fn next_of_an_index_lets_its_stripe_go_first(rt: HostRuntime) -> Result<(), Fail> {
-    expect(&rt, let_go_first::<Index, _>(&rt, rt.alloc(), 6)?);
-    Ok(())
+fn next_of_an_index_lets_its_stripe_go_first(rt: HostRuntime) {
+    expect(&rt, let_go_first::<Index, _>(&rt, rt.alloc(), 6));
 }
 
 #[test]
-fn walk_over_a_cache_lets_its_stripe_go_first(rt: HostRuntime) -> Result<(), Fail> {
-    expect(&rt, let_go_first::<Cache, _>(&rt, rt.alloc(), 3)?);
-    Ok(())
+fn walk_over_a_cache_lets_its_stripe_go_first(rt: HostRuntime) {
+    expect(&rt, let_go_first::<Cache, _>(&rt, rt.alloc(), 3));
 }

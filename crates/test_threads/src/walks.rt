@@ -3,10 +3,9 @@
 use crate::expect::expect_eq;
 use crate::flags::{Flags, height, raise};
 use crate::kinds::{Cache, Index, Map, Set, Threaded, Visit, Way};
-use std::alloc::{AllocError, Global};
+use std::alloc::Global;
 use std::process::Abort;
 use std::sync::Wait;
-use std::test::Fail;
 use std::thread::{Threads, map_indices};
 
 /// How many keys nobody touches.
@@ -37,7 +36,7 @@ const WAYS: [Way; 7] = [
 // How often each kept key was met.
 #[derive(Drop)]
 struct Met {
-    times: Vec<u64>,
+    times: [u64; KEPT],
 }
 
 impl Visit for Met {
@@ -80,36 +79,23 @@ fn come_and_go<C: Threaded, R: Wait>(rt: &R, container: &C, writer: u64, moved: 
 }
 
 // Whether a walk meets each of the kept keys once.
-fn meets_each_once<C: Threaded, R: Wait>(
-    rt: &R,
-    alloc: Global,
-    container: &C,
-    way: Way,
-) -> Result<bool, AllocError> {
-    let mut met = Met {
-        times: vec![in alloc; 0u64; KEPT]?,
-    };
-    let ended = container.go_over(rt, alloc, way, &mut met);
-    Ok(ended && met.times.iter().all(|times| *times == 1))
+fn meets_each_once<C: Threaded, R: Wait>(rt: &R, alloc: Global, container: &C, way: Way) -> bool {
+    let mut met = Met { times: [0; KEPT] };
+    container.go_over(rt, alloc, way, &mut met) && met.times == [1; KEPT]
 }
 
 // Walks of one way after another until both writers have ended.
-fn walk_often<C: Threaded, R: Wait>(
-    rt: &R,
-    alloc: Global,
-    container: &C,
-    ended: &Flags,
-) -> Result<bool, AllocError> {
+fn walk_often<C: Threaded, R: Wait>(rt: &R, alloc: Global, container: &C, ended: &Flags) -> bool {
     let mut once = true;
     for walks in 0..MOST {
         if walks >= LEAST && height(&ended.first) == 2 {
             break;
         }
         for way in WAYS {
-            once = meets_each_once(rt, alloc, container, way)? && once;
+            once = meets_each_once(rt, alloc, container, way) && once;
         }
     }
-    Ok(once)
+    once
 }
 
 // What one of three threads does: the first one walks, the others write.
@@ -120,13 +106,13 @@ fn work<C: Threaded, R: Wait>(
     ended: &Flags,
     thread: usize,
     moved: u64,
-) -> Result<bool, AllocError> {
+) -> bool {
     if thread == 0 {
         return walk_often(rt, alloc, container, ended);
     }
     let done = come_and_go(rt, container, thread as u64, moved);
     raise(&ended.first);
-    Ok(done)
+    done
 }
 
 // Whether the keys that nobody touches are added.
@@ -138,53 +124,55 @@ fn fills<C: Threaded, R: Wait>(rt: &R, container: &C) -> bool {
     filled
 }
 
-// Whether all that the threads answered is right.
-fn are_right(told: Vec<Result<bool, AllocError>>) -> Result<bool, AllocError> {
-    let mut right = true;
-    for one in told {
-        right = one? && right;
+// Whether all walks beside writers of so many keys are right.
+fn walk_beside<C: Threaded + Sync, R: Threads + Wait + Sync>(
+    rt: &R,
+    alloc: Global,
+    container: &C,
+    moved: u64,
+) -> bool {
+    let ended = Flags::new();
+    match map_indices(
+        rt,
+        alloc,
+        3,
+        &|thread| work(rt, alloc, container, &ended, thread, moved),
+    ) {
+        Ok(told) => told.as_slice() == [true; 3].as_slice() && container.count(rt) == KEPT,
+        Err(_) => false,
     }
-    Ok(right)
 }
 
-// Whether all walks beside writers of so many keys are right, in a container for so many slots.
+// Whether they are right in a container for so many slots.
 fn walks<C: Threaded + Sync + Drop, R: Threads + Wait + Sync>(
     rt: &R,
     alloc: Global,
     slots: usize,
     moved: u64,
-) -> Result<bool, AllocError> {
-    let Some(container) = C::make(alloc, slots) else {
-        return Err(AllocError);
-    };
-    let ended = Flags::new();
-    let filled = fills(rt, &container);
-    let told = map_indices(
-        rt,
-        alloc,
-        3,
-        &|thread| work(rt, alloc, &container, &ended, thread, moved),
-    )?;
-    Ok(are_right(told)? && filled && container.count(rt) == KEPT)
+) -> bool {
+    match C::make(alloc, slots) {
+        Some(container) => fills(rt, &container) && walk_beside(rt, alloc, &container, moved),
+        None => false,
+    }
 }
 
 #[test]
-fn walks_meet_untouched_keys_once(rt: HostRuntime) -> Result<(), Fail> {
-    let alloc = rt.alloc();
-    let map = walks::<Map, _>(&rt, alloc, SLOTS, 100)?;
-    let set = walks::<Set, _>(&rt, alloc, SLOTS, 100)?;
-    let index = walks::<Index, _>(&rt, alloc, SLOTS, 100)?;
-    let cache = walks::<Cache, _>(&rt, alloc, SLOTS, 100)?;
-    expect_eq(&rt, [map, set, index, cache], [true; 4]);
-    Ok(())
+fn walks_meet_untouched_keys_once(rt: HostRuntime) {
+    let right = [
+        walks::<Map, _>(&rt, rt.alloc(), SLOTS, 100),
+        walks::<Set, _>(&rt, rt.alloc(), SLOTS, 100),
+        walks::<Index, _>(&rt, rt.alloc(), SLOTS, 100),
+        walks::<Cache, _>(&rt, rt.alloc(), SLOTS, 100),
+    ];
+    expect_eq(&rt, right, [true; 4]);
 }
 
 #[test]
-fn walks_meet_untouched_keys_once_beside_growth(rt: HostRuntime) -> Result<(), Fail> {
-    let alloc = rt.alloc();
-    let map = walks::<Map, _>(&rt, alloc, 0, 400)?;
-    let set = walks::<Set, _>(&rt, alloc, 0, 400)?;
-    let index = walks::<Index, _>(&rt, alloc, 0, 400)?;
-    expect_eq(&rt, [map, set, index], [true; 3]);
-    Ok(())
+fn walks_meet_untouched_keys_once_beside_growth(rt: HostRuntime) {
+    let right = [
+        walks::<Map, _>(&rt, rt.alloc(), 0, 400),
+        walks::<Set, _>(&rt, rt.alloc(), 0, 400),
+        walks::<Index, _>(&rt, rt.alloc(), 0, 400),
+    ];
+    expect_eq(&rt, right, [true; 3]);
 }

@@ -5,16 +5,17 @@ ghost use Rattle.scc_recorded.specs.Setups.{request_of};
 
 use crate::expect::expect_eq;
 use crate::kinds::{Cache, Index, Map, Set};
-use crate::streams::{MAXIMUM, Streamed, count, looks, stream};
+use crate::streams::{LOOKS, MAXIMUM, Streamed, count, look, stream};
 use scc_calls::{Step, run};
-use scc_common::TryShare;
+use scc_common::{Shared, TryShare};
 use scc_history::Receipt;
 use scc_recorded::{Finished, Pass, Recorded, Setup, Site};
+use scc_script::same::Same;
 use std::alloc::{AllocError, Global};
 use std::marker::Brand;
 use std::process::Abort;
-use std::sync::Wait;
 use std::sync::ledger::{Blank, Ledger};
+use std::sync::{Arc, Wait};
 use std::test::Fail;
 
 // Makes one call on the recorded container, and says whether it was answered as wanted.
@@ -22,22 +23,24 @@ fn answers<C: Streamed, L: Ledger, M: Site<C::Hasher>, R: Wait>(
     rt: &R,
     recorded: &Recorded<C, L, M>,
     pass: &mut Pass<C, L>,
-    call: &C::Call,
+    call: C::Call,
     wanted: &C::Reply,
-) -> Result<bool, AllocError> {
-    let copy = call.clone()?;
+) -> bool {
     C::equal_calls();
     C::equal_replies();
-    if let Some(_key) = C::key(&copy) {
-        return Ok(match recorded.call(rt, pass, copy) {
+    if let Some(_key) = C::key(&call) {
+        return match recorded.call(rt, pass, call) {
             Ok(reply) => reply == *wanted,
             Err(_refused) => false,
-        });
+        };
     }
-    Ok(match C::counted(wanted) {
-        Some(number) => recorded.len(rt, pass).ok() == Some(number),
+    match C::counted(wanted) {
+        Some(number) => match recorded.len(rt, pass) {
+            Ok(count) => count == number,
+            Err(_refused) => false,
+        },
         None => recorded.clear(rt, pass).is_ok(),
-    })
+    }
 }
 
 // Whether each call was answered as wanted.
@@ -47,12 +50,12 @@ fn answers_all<C: Streamed, L: Ledger, M: Site<C::Hasher>, R: Wait>(
     pass: &mut Pass<C, L>,
     calls: &[C::Call],
     wanted: &[C::Reply],
-) -> Result<bool, AllocError> {
+) -> bool {
     let mut right = calls.len() == wanted.len();
     for (call, reply) in calls.iter().zip(wanted) {
-        right = answers(rt, recorded, pass, call, reply)? && right;
+        right = answers(rt, recorded, pass, C::same_call(call), reply) && right;
     }
-    Ok(right)
+    right
 }
 
 // Whether there is a receipt for each call, in their order, with the wanted reply.
@@ -69,6 +72,23 @@ fn are_receipts<C: Streamed>(
         right = right && receipt.reply == *reply;
     }
     right
+}
+
+// Whether the only pass has each call answered and noted as wanted.
+fn is_answered<C: Streamed, L: Ledger, M: Site<C::Hasher>, R: Wait>(
+    rt: &R,
+    recorded: &Recorded<C, L, M>,
+    passes: &mut [Pass<C, L>],
+    calls: &[C::Call],
+    wanted: &[C::Reply],
+) -> bool {
+    match passes {
+        [pass] => {
+            answers_all(rt, recorded, pass, calls, wanted)
+                && are_receipts::<C>(pass.receipts(), calls, wanted)
+        }
+        _ => false,
+    }
 }
 
 // The finished run of the calls on one recorded stripe, if each was answered as wanted.
@@ -92,92 +112,74 @@ where
         maximum: 128,
         hasher,
     };
-    let Ok((recorded, handed)) = Recorded::<C, L, M>::open(alloc, setup, 1, 1, receipts, records)
-    else {
-        return Err(AllocError);
-    };
-    let mut passes = handed;
-    let Some(mut pass) = passes.pop() else {
-        return Ok(None);
-    };
-    let answered = answers_all(rt, &recorded, &mut pass, calls, wanted)?;
-    let received = are_receipts::<C>(pass.receipts(), calls, wanted);
-    if passes.push(pass).is_err() {
-        return Err(AllocError);
-    }
-    match recorded.finish(passes) {
-        Ok(finished) if answered && received => Ok(Some(finished)),
-        _ => Ok(None),
+    match Recorded::<C, L, M>::open(alloc, setup, 1, 1, receipts, records) {
+        Ok((recorded, handed)) => {
+            let mut passes = handed;
+            if is_answered(rt, &recorded, passes.as_mut_slice(), calls, wanted) {
+                Ok(recorded.finish(passes).ok())
+            } else {
+                Ok(None)
+            }
+        }
+        Err(_) => Err(AllocError),
     }
 }
 
-// The numbers of buckets that a history names.
-fn sizes_of<A, B>(alloc: Global, history: &[Step<A, B>]) -> Result<Vec<usize>, AllocError> {
-    let mut sizes = Vec::new(alloc);
+// Whether a history names just these numbers of buckets.
+fn has_sizes<A, B>(history: &[Step<A, B>], sizes: &[usize]) -> bool {
+    let mut met = 0usize;
+    let mut right = true;
     for step in history {
         if let Step::Resize { buckets, .. } = step {
-            sizes.push(*buckets)?;
+            right = right && sizes.get(met) == Some(buckets);
+            met = met.wrapping_add(1);
         }
     }
-    Ok(sizes)
+    right && met == sizes.len()
+}
+
+// Whether two containers answer a call alike.
+fn answer_alike<C: Streamed>(one: &mut C, other: &mut C, call: &C::Call) -> bool {
+    C::equal_replies();
+    match (one.call(C::same_call(call)), other.call(C::same_call(call))) {
+        (Ok(first), Ok(second)) => first == second,
+        _ => false,
+    }
 }
 
 // Whether two containers have as many buckets, and answer the same calls alike from now on.
-fn are_alike<C: Streamed>(
-    alloc: Global,
-    one: &mut C,
-    other: &mut C,
-    calls: &[C::Call],
-) -> Result<bool, AllocError> {
-    let before = one.buckets() == other.buckets();
-    let mut first = Vec::new(alloc);
-    let mut second = Vec::new(alloc);
-    C::equal_calls();
-    C::equal_replies();
-    if run(one, calls, &mut first).is_err() || run(other, calls, &mut second).is_err() {
-        return Err(AllocError);
+fn are_alike<C: Streamed>(one: &mut C, other: &mut C) -> bool {
+    let mut alike = one.buckets() == other.buckets();
+    for number in 0..LOOKS {
+        alike = answer_alike(one, other, &look::<C>(number)) && alike;
     }
-    let after = one.buckets() == other.buckets();
-    Ok(before && after && first.as_slice() == second.as_slice())
+    alike && one.buckets() == other.buckets()
 }
 
 // Whether the one part of a finished run is as a container, and had those numbers of buckets.
-fn is_as<C: Streamed>(
-    alloc: Global,
-    finished: Finished<C>,
-    alone: &mut C,
-    sizes: &[usize],
-) -> Result<bool, AllocError> {
-    let Finished {
-        mut parts,
-        histories,
-        opened: _,
-        order: _,
-    } = finished;
-    let had = match histories.first() {
-        Some(history) => sizes_of(alloc, history.as_slice())?,
-        None => Vec::new(alloc),
+fn is_as<C: Streamed>(finished: Finished<C>, alone: &mut C, sizes: &[usize]) -> bool {
+    let mut finished = finished;
+    let had = match finished.histories.as_slice() {
+        [history] => has_sizes(history.as_slice(), sizes),
+        _ => false,
     };
-    let calls = looks::<C>(alloc)?;
-    match parts.pop() {
-        Some(mut part) => {
-            let alike = are_alike(alloc, &mut part, alone, calls.as_slice())?;
-            Ok(alike && parts.is_empty() && had.as_slice() == sizes)
-        }
-        None => Ok(false),
+    match finished.parts.as_mut_slice() {
+        [part] => are_alike(part, alone) && had,
+        _ => false,
     }
 }
 
 // The calls made on an owned container, and their replies added to a list.
 fn run_alone<C: Streamed>(
     alloc: Global,
+    hasher: C::Hasher,
     calls: &[C::Call],
     replies: &mut Vec<C::Reply>,
 ) -> Result<C, AllocError>
 where
     C::Hasher: Drop,
 {
-    let Ok(made) = C::make(alloc, 0, 0, MAXIMUM, C::hasher(alloc)?) else {
+    let Ok(made) = C::make(alloc, 0, 0, MAXIMUM, hasher) else {
         return Err(AllocError);
     };
     let mut alone = made;
@@ -193,6 +195,7 @@ where
 fn compare<C: Streamed, R: Wait>(
     rt: &R,
     alloc: Global,
+    hasher: &C::Hasher,
     calls: &[C::Call],
     sizes: &[usize],
 ) -> Result<bool, AllocError>
@@ -200,18 +203,18 @@ where
     C::Hasher: TryShare + Drop,
 {
     let mut replies = Vec::new(alloc);
-    let mut alone: C = run_alone(alloc, calls, &mut replies)?;
+    let mut alone: C = run_alone(alloc, hasher.share()?, calls, &mut replies)?;
     let finished = record::<C, Brand, Brand, R>(
         rt,
         alloc,
-        C::hasher(alloc)?,
+        hasher.share()?,
         Blank::new(1),
         Blank::new(1),
         calls,
         replies.as_slice(),
     )?;
     match finished {
-        Some(finished) => is_as(alloc, finished, &mut alone, sizes),
+        Some(finished) => Ok(is_as(finished, &mut alone, sizes)),
         None => Ok(false),
     }
 }
@@ -229,19 +232,37 @@ struct Shown {
     as_run: bool,
 }
 
-fn show<C: Streamed, R: Wait>(rt: &R, alloc: Global) -> Result<Shown, AllocError>
+// What these calls show.
+fn show_calls<C: Streamed, R: Wait>(
+    rt: &R,
+    alloc: Global,
+    hasher: &C::Hasher,
+    calls: &[C::Call],
+) -> Result<Shown, AllocError>
 where
     C::Hasher: TryShare + Drop,
 {
-    let calls = stream::<C>(alloc)?;
-    let came = count::<C>(alloc, calls.as_slice())?;
-    let as_run = compare::<C, R>(rt, alloc, calls.as_slice(), came.sizes.as_slice())?;
+    let came = count::<C>(alloc, hasher.share()?, calls)?;
+    let as_run = compare::<C, R>(rt, alloc, hasher, calls, came.sizes.as_slice())?;
     Ok(Shown {
-        all_calls: came.has_all(),
+        all_calls: came.has_all(C::KEYED.saturating_add(2)),
         growth: came.has_grown(),
         evictions: came.evictions > 0,
         as_run,
     })
+}
+
+// What the stream of a kind shows.
+fn show<C: Streamed, R: Wait>(rt: &R, alloc: Global, hasher: C::Hasher) -> Result<Shown, AllocError>
+where
+    C::Hasher: TryShare + Drop,
+{
+    let calls = stream::<C>(alloc)?;
+    show_calls::<C, R>(rt, alloc, &hasher, calls.as_slice())
+}
+
+fn shared(alloc: Global) -> Result<Shared<Same>, AllocError> {
+    Ok(Shared::new(Arc::new(alloc, Same)?))
 }
 
 const WANTED: Shown = Shown {
@@ -253,19 +274,31 @@ const WANTED: Shown = Shown {
 
 #[test]
 fn recorded_map_as_run(rt: HostRuntime) -> Result<(), Fail> {
-    expect_eq(&rt, show::<Map, _>(&rt, rt.alloc())?, WANTED);
+    expect_eq(
+        &rt,
+        show::<Map, _>(&rt, rt.alloc(), shared(rt.alloc())?)?,
+        WANTED,
+    );
     Ok(())
 }
 
 #[test]
 fn recorded_set_as_run(rt: HostRuntime) -> Result<(), Fail> {
-    expect_eq(&rt, show::<Set, _>(&rt, rt.alloc())?, WANTED);
+    expect_eq(
+        &rt,
+        show::<Set, _>(&rt, rt.alloc(), shared(rt.alloc())?)?,
+        WANTED,
+    );
     Ok(())
 }
 
 #[test]
 fn recorded_index_as_run(rt: HostRuntime) -> Result<(), Fail> {
-    expect_eq(&rt, show::<Index, _>(&rt, rt.alloc())?, WANTED);
+    expect_eq(
+        &rt,
+        show::<Index, _>(&rt, rt.alloc(), shared(rt.alloc())?)?,
+        WANTED,
+    );
     Ok(())
 }
 
@@ -275,6 +308,10 @@ fn recorded_cache_as_run(rt: HostRuntime) -> Result<(), Fail> {
         evictions: true,
         ..WANTED
     };
-    expect_eq(&rt, show::<Cache, _>(&rt, rt.alloc())?, wanted);
+    expect_eq(
+        &rt,
+        show::<Cache, _>(&rt, rt.alloc(), shared(rt.alloc())?)?,
+        wanted,
+    );
     Ok(())
 }

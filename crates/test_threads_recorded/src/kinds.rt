@@ -3,8 +3,6 @@ use crate::streams::Streamed;
 use scc_calls::{CacheCall, IndexCall, MapCall, Reply, SetCall};
 use scc_common::Shared;
 use scc_script::same::Same;
-use std::alloc::{AllocError, Global};
-use std::sync::Arc;
 
 pub type Map = scc_map::Owned<u64, u64, Shared<Same>>;
 
@@ -14,14 +12,10 @@ pub type Index = scc_index::Owned<u64, u64, Shared<Same>>;
 
 pub type Cache = scc_cache::Owned<u64, u64, Shared<Same>>;
 
-fn shared(alloc: Global) -> Result<Shared<Same>, AllocError> {
-    Ok(Shared::new(Arc::new(alloc, Same)?))
-}
-
 impl Streamed for Map {
-    fn keyed() -> u64 {
-        6
-    }
+    const KEYED: u64 = 6;
+
+    const LOOK: u64 = 3;
 
     fn call_of(number: u64, key: u64, value: u64) -> MapCall<u64, u64> {
         match number {
@@ -34,10 +28,6 @@ impl Streamed for Map {
             6 => MapCall::Len,
             _ => MapCall::Clear,
         }
-    }
-
-    fn look(key: u64) -> MapCall<u64, u64> {
-        MapCall::Read(key)
     }
 
     fn number_of(call: &MapCall<u64, u64>) -> usize {
@@ -53,31 +43,22 @@ impl Streamed for Map {
         }
     }
 
-    fn has(&self, key: &u64) -> bool {
-        self.contains_sync(key)
-    }
-
-    fn has_none(&self) -> bool {
-        self.is_empty()
+    fn has(&self, key: Option<&u64>) -> bool {
+        match key {
+            Some(key) => self.contains_sync(key),
+            None => !self.is_empty(),
+        }
     }
 
     fn is_eviction(_reply: &Reply<u64, u64>) -> bool {
         false
     }
-
-    fn hasher(alloc: Global) -> Result<Shared<Same>, AllocError> {
-        shared(alloc)
-    }
-
-    fn equal_calls() {}
-
-    fn equal_replies() {}
 }
 
 impl Streamed for Set {
-    fn keyed() -> u64 {
-        5
-    }
+    const KEYED: u64 = 5;
+
+    const LOOK: u64 = 2;
 
     fn call_of(number: u64, key: u64, _value: u64) -> SetCall<u64> {
         match number {
@@ -89,10 +70,6 @@ impl Streamed for Set {
             5 => SetCall::Len,
             _ => SetCall::Clear,
         }
-    }
-
-    fn look(key: u64) -> SetCall<u64> {
-        SetCall::Read(key)
     }
 
     fn number_of(call: &SetCall<u64>) -> usize {
@@ -107,31 +84,22 @@ impl Streamed for Set {
         }
     }
 
-    fn has(&self, key: &u64) -> bool {
-        self.contains_sync(key)
-    }
-
-    fn has_none(&self) -> bool {
-        self.is_empty()
+    fn has(&self, key: Option<&u64>) -> bool {
+        match key {
+            Some(key) => self.contains_sync(key),
+            None => !self.is_empty(),
+        }
     }
 
     fn is_eviction(_reply: &Reply<u64, ()>) -> bool {
         false
     }
-
-    fn hasher(alloc: Global) -> Result<Shared<Same>, AllocError> {
-        shared(alloc)
-    }
-
-    fn equal_calls() {}
-
-    fn equal_replies() {}
 }
 
 impl Streamed for Index {
-    fn keyed() -> u64 {
-        5
-    }
+    const KEYED: u64 = 5;
+
+    const LOOK: u64 = 2;
 
     fn call_of(number: u64, key: u64, value: u64) -> IndexCall<u64, u64> {
         match number {
@@ -143,10 +111,6 @@ impl Streamed for Index {
             5 => IndexCall::Len,
             _ => IndexCall::Clear,
         }
-    }
-
-    fn look(key: u64) -> IndexCall<u64, u64> {
-        IndexCall::Read(key)
     }
 
     fn number_of(call: &IndexCall<u64, u64>) -> usize {
@@ -161,31 +125,22 @@ impl Streamed for Index {
         }
     }
 
-    fn has(&self, key: &u64) -> bool {
-        self.contains(key)
-    }
-
-    fn has_none(&self) -> bool {
-        self.is_empty()
+    fn has(&self, key: Option<&u64>) -> bool {
+        match key {
+            Some(key) => self.contains(key),
+            None => !self.is_empty(),
+        }
     }
 
     fn is_eviction(_reply: &Reply<u64, u64>) -> bool {
         false
     }
-
-    fn hasher(alloc: Global) -> Result<Shared<Same>, AllocError> {
-        shared(alloc)
-    }
-
-    fn equal_calls() {}
-
-    fn equal_replies() {}
 }
 
 impl Streamed for Cache {
-    fn keyed() -> u64 {
-        7
-    }
+    const KEYED: u64 = 7;
+
+    const LOOK: u64 = 4;
 
     fn call_of(number: u64, key: u64, value: u64) -> CacheCall<u64, u64> {
         match number {
@@ -199,10 +154,6 @@ impl Streamed for Cache {
             7 => CacheCall::Len,
             _ => CacheCall::Clear,
         }
-    }
-
-    fn look(key: u64) -> CacheCall<u64, u64> {
-        CacheCall::Read(key)
     }
 
     fn number_of(call: &CacheCall<u64, u64>) -> usize {
@@ -219,23 +170,14 @@ impl Streamed for Cache {
         }
     }
 
-    fn has(&self, key: &u64) -> bool {
-        self.contains_sync(key)
-    }
-
-    fn has_none(&self) -> bool {
-        self.is_empty()
+    fn has(&self, key: Option<&u64>) -> bool {
+        match key {
+            Some(key) => self.contains_sync(key),
+            None => !self.is_empty(),
+        }
     }
 
     fn is_eviction(reply: &Reply<u64, u64>) -> bool {
         matches!(reply, Reply::Evicted(Some(_)))
     }
-
-    fn hasher(alloc: Global) -> Result<Shared<Same>, AllocError> {
-        shared(alloc)
-    }
-
-    fn equal_calls() {}
-
-    fn equal_replies() {}
 }

@@ -1,8 +1,7 @@
 // Streams of calls on which each call of a kind comes, with keys that are there and with keys that are missing, while
 // the container grows, is cleared and grows again.
-ghost use Rattle.scc_calls.specs.Copies.{ClonesEqual};
-
-use scc_calls::WholeCalls;
+use scc_calls::Calls;
+use scc_print::printed::Printed;
 use std::alloc::{AllocError, Global};
 
 /// The slots that a cache has at most. Its buckets have 32, of which the keys lie in two.
@@ -29,38 +28,29 @@ const KEYS: u64 = 120;
 /// What the place of a call is multiplied by for its key.
 const SPREAD: u64 = 0x9e37_79b9_7f4a_7c15;
 
+/// The calls of the kind that has the most, those without a key among them.
+const MOST: usize = 9;
+
 /// A kind of container, by the calls that it has.
-pub trait Streamed: WholeCalls + Drop {
+pub trait Streamed: Printed + Drop {
     /// How many calls with a key it has. They are numbered from 0, then follow the call that counts and the one that
     /// clears.
-    fn keyed() -> u64;
+    const KEYED: u64;
+
+    /// The number of a call that reads a key.
+    const LOOK: u64;
 
     /// The call of that number. Number 0 brings a key in.
     fn call_of(number: u64, key: u64, value: u64) -> Self::Call;
 
-    /// A call that reads a key.
-    fn look(key: u64) -> Self::Call;
-
     /// The number of a call.
     fn number_of(call: &Self::Call) -> usize;
 
-    /// Whether the key is there.
-    fn has(&self, key: &Self::Key) -> bool;
-
-    /// Whether no key is there.
-    fn has_none(&self) -> bool;
+    /// Whether the key is there; without one, whether any key is there.
+    fn has(&self, key: Option<&Self::Key>) -> bool;
 
     /// Whether a reply tells of a pair that was driven out.
     fn is_eviction(reply: &Self::Reply) -> bool;
-
-    /// A hasher.
-    fn hasher(alloc: Global) -> Result<Self::Hasher, AllocError>;
-
-    fn equal_calls()
-        ensures { ClonesEqual Self.Call.is_clone Self.Call.eq };
-
-    fn equal_replies()
-        ensures { ClonesEqual Self.Reply.is_clone Self.Reply.eq };
 }
 
 // Even keys lie in the first quarter of all hashes, odd ones in the second.
@@ -73,13 +63,13 @@ fn number_at<C: Streamed>(j: u64) -> u64 {
     if j < FIRST {
         0
     } else if j == CLEARING || j == CLEARING + 1 {
-        C::keyed().wrapping_add(1)
+        C::KEYED.wrapping_add(1)
     } else if j == CLEARING + 2 {
-        C::keyed()
+        C::KEYED
     } else if CLEARING < j && j < AGAIN {
         0
     } else {
-        j % C::keyed().saturating_add(1)
+        j % C::KEYED.saturating_add(1)
     }
 }
 
@@ -90,7 +80,7 @@ fn drawn_at<C: Streamed>(j: u64) -> u64 {
         return j % FIRST;
     }
     let drawn = (j.wrapping_mul(SPREAD) >> 32) % HALF;
-    let turn = j / C::keyed().saturating_add(1);
+    let turn = j / C::KEYED.saturating_add(1);
     if turn % 2 == 0 {
         HALF.wrapping_add(drawn)
     } else {
@@ -108,20 +98,19 @@ pub(crate) fn stream<C: Streamed>(alloc: Global) -> Result<Vec<C::Call>, AllocEr
     Ok(calls)
 }
 
-/// Calls that show what a container has and in which order it lets it go: reads of all keys, new ones, and reads again.
-pub(crate) fn looks<C: Streamed>(alloc: Global) -> Result<Vec<C::Call>, AllocError> {
-    let mut calls = Vec::new(alloc);
-    for number in 0..KEYS {
-        calls.push(C::look(key_of(number)))?;
+/// How many calls show what a container has.
+pub const LOOKS: u64 = 400;
+
+/// One of the calls that show what a container has and in which order it lets it go: reads of all keys, new ones, and
+/// reads again.
+pub(crate) fn look<C: Streamed>(number: u64) -> C::Call {
+    if number < KEYS {
+        C::call_of(C::LOOK, key_of(number), 0)
+    } else if number < KEYS + FIRST {
+        C::call_of(0, key_of(number), number)
+    } else {
+        C::call_of(C::LOOK, key_of(number.wrapping_sub(KEYS + FIRST)), 0)
     }
-    for number in 0..FIRST {
-        let key = key_of(number.wrapping_add(KEYS));
-        calls.push(C::call_of(0, key, number))?;
-    }
-    for number in 0..KEYS.wrapping_add(FIRST) {
-        calls.push(C::look(key_of(number)))?;
-    }
-    Ok(calls)
 }
 
 /// What came on a stream.
@@ -129,7 +118,7 @@ pub(crate) fn looks<C: Streamed>(alloc: Global) -> Result<Vec<C::Call>, AllocErr
 pub struct Came {
     // How often each call came with a missing key and with one that is there, or on an empty container and on one with
     // keys.
-    times: Vec<u64>,
+    times: [[u64; 2]; MOST],
     /// The numbers of buckets, each time that they changed.
     pub sizes: Vec<usize>,
     /// How many pairs were driven out.
@@ -137,9 +126,13 @@ pub struct Came {
 }
 
 impl Came {
-    /// Whether each call came with both.
-    pub(crate) fn has_all(&self) -> bool {
-        self.times.iter().all(|times| *times > 0)
+    /// Whether each of the first calls came with both.
+    pub(crate) fn has_all(&self, calls: u64) -> bool {
+        let mut all = true;
+        for times in self.times.iter().take(calls as usize) {
+            all = all && times[0] > 0 && times[1] > 0;
+        }
+        all
     }
 
     /// Whether an array grew to twice its buckets.
@@ -152,56 +145,71 @@ impl Came {
         }
         grown
     }
+
+    // Notes that a call came, where its key is there or not.
+    fn note(&mut self, number: usize, there: bool) {
+        if let Some(times) = self.times.get_mut(number) {
+            let place = usize::from(there);
+            times[place] = times[place].saturating_add(1);
+        }
+    }
 }
 
-// The place of a call among the times, as it stands before that container.
-fn place_of<C: Streamed>(container: &C, call: &C::Call) -> usize {
-    let there = match C::key(call) {
-        Some(key) => container.has(key),
-        None => !container.has_none(),
-    };
-    C::number_of(call)
-        .saturating_mul(2)
-        .saturating_add(usize::from(there))
+// Makes one call, and answers whether a pair was driven out; None where it was refused.
+fn make<C: Streamed>(container: &mut C, call: &C::Call) -> Option<bool> {
+    C::equal_replies();
+    match container.call(C::same_call(call)) {
+        Ok(reply) => Some(C::is_eviction(&reply)),
+        Err(_) => None,
+    }
 }
 
 // Makes one call, and notes what came.
 fn step<C: Streamed>(container: &mut C, call: &C::Call, came: &mut Came) -> Result<(), AllocError> {
-    if let Some(times) = came.times.get_mut(place_of(container, call)) {
-        *times = times.saturating_add(1);
-    }
+    came.note(C::number_of(call), container.has(C::key(call)));
     let before = container.buckets();
-    let copy = call.clone()?;
-    C::equal_replies();
-    let Ok(reply) = container.call(copy) else {
-        return Err(AllocError);
-    };
-    if C::is_eviction(&reply) {
-        came.evictions = came.evictions.saturating_add(1);
+    match make(container, call) {
+        Some(evicted) => came.evictions = came.evictions.saturating_add(u64::from(evicted)),
+        None => return Err(AllocError),
     }
-    if container.buckets() != before {
-        came.sizes.push(container.buckets())?;
+    let after = container.buckets();
+    if after != before {
+        came.sizes.push(after)?;
     }
     Ok(())
 }
 
-/// Makes the calls one after another on a container of its own, and says what came.
-pub(crate) fn count<C: Streamed>(alloc: Global, calls: &[C::Call]) -> Result<Came, AllocError>
-where
-    C::Hasher: Drop,
-{
-    let Ok(made) = C::make(alloc, 0, 0, MAXIMUM, C::hasher(alloc)?) else {
-        return Err(AllocError);
-    };
-    let mut container = made;
-    let numbers = C::keyed().saturating_add(2).saturating_mul(2);
+// Makes the calls one after another, and says what came.
+fn count_on<C: Streamed>(
+    alloc: Global,
+    container: &mut C,
+    calls: &[C::Call],
+) -> Result<Came, AllocError> {
     let mut came = Came {
-        times: vec![in alloc; 0u64; numbers as usize]?,
+        times: [[0; 2]; MOST],
         sizes: Vec::new(alloc),
         evictions: 0,
     };
     for call in calls {
-        step(&mut container, call, &mut came)?;
+        step(container, call, &mut came)?;
     }
     Ok(came)
+}
+
+/// Makes the calls one after another on a container of its own, and says what came.
+pub(crate) fn count<C: Streamed>(
+    alloc: Global,
+    hasher: C::Hasher,
+    calls: &[C::Call],
+) -> Result<Came, AllocError>
+where
+    C::Hasher: Drop,
+{
+    match C::make(alloc, 0, 0, MAXIMUM, hasher) {
+        Ok(made) => {
+            let mut container: C = made;
+            count_on(alloc, &mut container, calls)
+        }
+        Err(_) => Err(AllocError),
+    }
 }
