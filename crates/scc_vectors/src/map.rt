@@ -4,6 +4,7 @@ use crate::reserving::{foreign_and_own_tokens, grows_and_gives_back, sizes_witho
 use scc::hash_map::Owned;
 use scc::hash_map::owned::ReplaceResult;
 use scc::{InsertError, Verdict};
+use std::alloc::Global;
 use std::hash::BuildHasher;
 use std::process::Abort;
 use test_kit::maybe_equal::MaybeEqual;
@@ -33,8 +34,6 @@ enum Call {
     Update(u64, u64),
     // Removes a key that has this value.
     Remove(u64, u64),
-    // Takes out the first pair, and each that comes after it. So many pairs go, and that is the sum of their values.
-    TakeEach(u64, u64),
     // Removes all.
     Clear,
     // Sets each value to 2, by a walk that keeps each pair.
@@ -108,24 +107,6 @@ fn reads_below<H: BuildHasher>(map: &Numbers<H>, end: u64) -> bool {
     true
 }
 
-fn take_each<H: BuildHasher>(map: &mut Numbers<H>) -> (u64, u64) {
-    let (mut pairs, mut sum) = (0u64, 0u64);
-    let mut here = map.begin_sync();
-    for _ in 0..64 {
-        let Some(entry) = here else {
-            return (pairs, sum);
-        };
-        let (pair, next) = match entry.remove_and_sync() {
-            Ok((pair, next)) => (pair, Some(next)),
-            Err(pair) => (pair, None),
-        };
-        pairs = pairs.wrapping_add(1);
-        sum = sum.wrapping_add(pair.1);
-        here = next;
-    }
-    (pairs, sum)
-}
-
 fn waiting<H: BuildHasher>(map: &Numbers<H>) -> (usize, usize) {
     (map.capacity(), map.pending())
 }
@@ -137,7 +118,7 @@ fn reserves<H: BuildHasher>(map: &mut Numbers<H>, slots: usize, then: (usize, us
     }
 }
 
-// Whether a call on single keys answers what it has to.
+// Whether a call answers what it has to.
 fn holds<H: BuildHasher>(map: &mut Numbers<H>, call: Call) -> bool {
     match call {
         Call::Fill(first, end) => fill(map, first, end),
@@ -156,7 +137,6 @@ fn holds<H: BuildHasher>(map: &mut Numbers<H>, call: Call) -> bool {
 // The same of a call on all pairs.
 fn holds_of_all<H: BuildHasher>(map: &mut Numbers<H>, call: Call) -> bool {
     match call {
-        Call::TakeEach(pairs, sum) => take_each(map) == (pairs, sum),
         Call::WriteTwos => {
             write_twos(map);
             true
@@ -229,19 +209,35 @@ fn map_has_room_until_its_bucket_is_full(rt: HostRuntime) {
     );
 }
 
+// Takes out the first pair, and each that comes after it. How many they are, and the sum of their values.
+fn take_each(map: &mut Numbers<Zero>) -> (u64, u64) {
+    let (mut pairs, mut sum) = (0u64, 0u64);
+    let mut here = map.begin_sync();
+    for _ in 0..64 {
+        let Some(entry) = here else {
+            return (pairs, sum);
+        };
+        let (pair, next) = match entry.remove_and_sync() {
+            Ok((pair, next)) => (pair, Some(next)),
+            Err(pair) => (pair, None),
+        };
+        pairs = pairs.wrapping_add(1);
+        sum = sum.wrapping_add(pair.1);
+        here = next;
+    }
+    (pairs, sum)
+}
+
 #[test]
 fn map_remove_and_next_never_resizes(rt: HostRuntime) {
-    expect_under(
+    let mut map = Owned::with_hasher(rt.alloc(), Zero);
+    let filled = first_other(&mut map, &[Call::Fill(0, 40), Call::Sizes(40, 128)]);
+    let taken = take_each(&mut map);
+    let left = [Call::Sizes(0, 128), Call::Clear, Call::Sizes(0, 64)];
+    expect_eq(
         &rt,
-        Zero,
-        &[
-            Call::Fill(0, 40),
-            Call::Sizes(40, 128),
-            Call::TakeEach(40, 780),
-            Call::Sizes(0, 128),
-            Call::Clear,
-            Call::Sizes(0, 64),
-        ],
+        (filled, taken, first_other(&mut map, &left)),
+        (None, (40, 780), None),
     );
 }
 
@@ -752,20 +748,29 @@ fn map_clone_has_its_capacity_as_minimum(rt: HostRuntime) {
     );
 }
 
+// The bucket of a key in a map without an array.
+fn place_without_array(alloc: Global) -> usize {
+    let map: Owned<u64, u64> = Owned::new(alloc);
+    map.bucket_index(&0)
+}
+
+// The capacity of a map with room for 1024 pairs, and the buckets of two keys in it.
+fn places(alloc: Global) -> Option<(usize, usize, usize)> {
+    match Numbers::with_capacity_and_hasher(alloc, 1024, Same) {
+        Ok(map) => Some((
+            map.capacity(),
+            map.bucket_index(&HALF),
+            map.bucket_index(&0),
+        )),
+        Err(_) => None,
+    }
+}
+
 #[test]
 fn map_bucket_index(rt: HostRuntime) {
-    let bare: Owned<u64, u64> = Owned::new(rt.alloc());
-    expect_eq(&rt, bare.bucket_index(&0), 0);
-    match Numbers::with_capacity_and_hasher(rt.alloc(), 1024, Same) {
-        Ok(map) => expect_eq(
-            &rt,
-            (
-                map.bucket_index(&HALF),
-                map.bucket_index(&0),
-                map.capacity(),
-            ),
-            (16, 0, 1024),
-        ),
-        Err(_) => expect(&rt, false),
-    }
+    expect_eq(
+        &rt,
+        (place_without_array(rt.alloc()), places(rt.alloc())),
+        (0, Some((1024, 16, 0))),
+    );
 }
