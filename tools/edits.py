@@ -1,8 +1,8 @@
 """Edits, which are wrong bodies in files: reads them, and finds what is wrong with them.
 
-An edit is a file slips/CRATE/NAME.edit with these lines; others say nothing:
+An edit is a file crates/CRATE/must-fail/NAME.edit if `rt ci` tries it each time, and slips/CRATE/NAME.edit if not. Those of
+must-fail/ are the named ones of docs/CLAUSES.md. It has these lines; others say nothing:
     function: PATH    the function whose contract has to refuse the edit, by its whole path, as a check prints it
-    named: yes        where the edit is in the table "Named wrong bodies" of docs/CLAUSES.md
     file: src/lib.rt  the file of the crate that the next pairs change
     old: TEXT         a text that stands in that file exactly once
     new: TEXT         the text in its place
@@ -15,11 +15,13 @@ sys.dont_write_bytecode = True
 from repository import TOP, listed, uses
 
 ENDING = ".edit"
+GATED = "must-fail"
 
 
 class Edit(NamedTuple):
     crate: str
     name: str
+    is_named: bool
     lines: List[str]
 
     def words(self, word):
@@ -33,10 +35,6 @@ class Edit(NamedTuple):
     @property
     def function(self):
         return "".join(self.words("function")[:1])
-
-    @property
-    def is_named(self):
-        return self.words("named") == ["yes"]
 
     def changes(self) -> List[Tuple[str, str, str]]:
         """The changes, each with its file, its old text and its new one."""
@@ -71,20 +69,25 @@ def with_all_below(crates, names):
     return [name for name in crates if name in wanted]
 
 
-def read_edit(folder, crate, name):
-    with open(os.path.join(folder, crate, name), encoding="utf-8", errors="replace") as file:
-        return Edit(crate, name[: -len(ENDING)], file.read().split("\n"))
+def folders_of(crate):
+    """Where the edits of a crate lie, each with whether they are the named ones."""
+    return [(os.path.join(TOP, "crates", crate, GATED), True), (os.path.join(TOP, "slips", crate), False)]
 
 
-def edits_of(folder, crates):
-    """The edits of a folder, in the order of their crates."""
-    return [
-        read_edit(folder, crate, name)
-        for crate in crates
-        if os.path.isdir(os.path.join(folder, crate))
-        for name in sorted(os.listdir(os.path.join(folder, crate)))
-        if name.endswith(ENDING)
-    ]
+def edits_in(folder, crate, is_named):
+    """The edits of a crate that lie in a folder, by their names."""
+    found = []
+    for name in sorted(os.listdir(folder)) if os.path.isdir(folder) else []:
+        if name.endswith(ENDING):
+            with open(os.path.join(folder, name), encoding="utf-8", errors="replace") as file:
+                found.append(Edit(crate, name[: -len(ENDING)], is_named, file.read().split("\n")))
+    return found
+
+
+def edits_of(crates, folder=None):
+    """All edits, in the order of their crates; those of FOLDER/CRATE alone if a folder is given."""
+    homes = {crate: [(os.path.join(folder, crate), False)] if folder else folders_of(crate) for crate in crates}
+    return [edit for crate, places in homes.items() for place, is_named in places for edit in edits_in(place, crate, is_named)]
 
 
 def edited(edit, crate_folder):
@@ -111,18 +114,17 @@ def wrong_with(edit):
     """What is wrong with an edit, as can be seen without a proof; nothing where all is right."""
     if len(edit.words("function")) != 1 or not edit.function.startswith(edit.crate + "::"):
         return "it needs one line function: with the path of a function of its crate"
-    if edit.words("named") not in ([], ["yes"]):
-        return "its line named: says something else than yes"
     return edited(edit, os.path.join(TOP, "crates", edit.crate))[1]
 
 
-def strangers(folder, crates):
+def strangers(crates):
     """What stands in a folder of edits and is none."""
-    for crate in sorted(os.listdir(folder)):
-        inside = os.path.join(folder, crate)
-        if crate not in crates or not os.path.isdir(inside):
-            yield f"{crate}: crates.txt has no such crate"
-            continue
-        for name in sorted(os.listdir(inside)):
-            if not name.endswith(ENDING) or not os.path.isfile(os.path.join(inside, name)):
-                yield f"{crate}/{name}: an edit is a file whose name ends in {ENDING}"
+    slips = os.path.join(TOP, "slips")
+    for crate in sorted(os.listdir(slips)):
+        if crate not in crates or not os.path.isdir(os.path.join(slips, crate)):
+            yield f"slips/{crate}: crates.txt has no such crate"
+    for crate in crates:
+        for folder, _ in folders_of(crate):
+            for name in sorted(os.listdir(folder)) if os.path.isdir(folder) else []:
+                if not name.endswith(ENDING) or not os.path.isfile(os.path.join(folder, name)):
+                    yield f"{os.path.relpath(folder, TOP)}/{name}: an edit is a file whose name ends in {ENDING}"

@@ -3,11 +3,11 @@ use crate::expect::{expect, expect_eq};
 use scc::Verdict;
 use scc::hash_cache::Owned;
 use scc::hash_cache::owned::ReplaceResult;
+use scc_script::same::Same;
 use std::alloc::Global;
 use std::hash::BuildHasher;
 use std::process::Abort;
 use test_kit::maybe_equal::MaybeEqual;
-use test_kit::same::Same;
 use test_kit::zero::Zero;
 
 const HALF: u64 = 1 << 63;

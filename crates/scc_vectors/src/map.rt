@@ -4,11 +4,11 @@ use crate::reserving::{foreign_and_own_tokens, grows_and_gives_back, sizes_witho
 use scc::hash_map::Owned;
 use scc::hash_map::owned::ReplaceResult;
 use scc::{InsertError, Verdict};
+use scc_script::same::Same;
 use std::alloc::Global;
 use std::hash::BuildHasher;
 use std::process::Abort;
 use test_kit::maybe_equal::MaybeEqual;
-use test_kit::same::Same;
 use test_kit::zero::Zero;
 
 const HALF: u64 = 1 << 63;

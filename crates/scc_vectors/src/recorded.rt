@@ -7,12 +7,12 @@ use scc::hash_map::Owned;
 use scc::recorded::{
     Closed, FinishError, Finished, MapCall, Pass, Recorded, Reply, Setup, Shared, Site, Step,
 };
+use scc_script::same::Same;
 use std::alloc::Global;
 use std::marker::Brand;
 use std::process::Abort;
 use std::sync::ledger::{Blank, Ledger};
 use std::sync::{Arc, Wait};
-use test_kit::same::Same;
 
 type Map = Owned<u64, u64, Shared<Same>>;
 

@@ -2,10 +2,10 @@
 // highest bits of a key name its stripe, and those after them its bucket.
 use crate::expect::{expect, expect_eq};
 use scc::{HashCache, HashIndex, HashMap, HashSet};
+use scc_script::same::Same;
 use std::hash::BuildHasher;
 use std::process::Abort;
 use std::sync::Wait;
-use test_kit::same::Same;
 use test_kit::zero::Zero;
 
 const HALF: u64 = 1 << 63;

@@ -2,11 +2,11 @@
 use crate::expect::{expect, expect_eq};
 use crate::rows::{Call, expect_answers};
 use scc::hash_cache::Owned;
+use scc_script::same::Same;
 use std::process::Abort;
 use test_forms::answers::{Answer, Rule};
 use test_forms::form::{Act, At, Form, Way};
 use test_kit::maybe_equal::MaybeEqual;
-use test_kit::same::Same;
 use test_kit::zero::Zero;
 
 type Row = (Call, Answer);

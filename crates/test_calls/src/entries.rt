@@ -2,12 +2,12 @@
 use crate::expect::expect;
 use crate::rows::{Call, expect_answers};
 use scc::{hash_index, hash_map, hash_set};
+use scc_script::same::Same;
 use std::hash::{BuildHasher, RandomState};
 use std::process::Abort;
 use test_forms::answers::Answer;
 use test_forms::form::{Act, At, Way};
 use test_kit::maybe_equal::MaybeEqual;
-use test_kit::same::Same;
 use test_kit::zero::Zero;
 
 // The same calls over any hasher: the answers don't depend on it.

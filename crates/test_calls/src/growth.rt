@@ -2,12 +2,12 @@
 use crate::expect::{expect, expect_eq};
 use crate::rows::{Call, expect_answers, expect_sizes};
 use scc::{Verdict, hash_index, hash_map, hash_set};
+use scc_script::same::Same;
 use std::hash::BuildHasher;
 use std::process::Abort;
 use test_forms::answers::{Answer, Rule};
 use test_forms::form::Form;
 use test_kit::maybe_equal::MaybeEqual;
-use test_kit::same::Same;
 use test_kit::zero::Zero;
 
 const HALF: u64 = 1 << 63;

@@ -6,7 +6,8 @@ use test_forms::form::{Form, Way};
 use test_forms::numbered::Seen;
 use test_forms::reserving::Reserving;
 use test_kit::lines::say;
-use test_kit::zero::Zero;
+use test_kit::masked::{Masked, ZERO};
+use test_kit::maybe_equal::MaybeEqual;
 
 // Numbers of pairs that wait for one bucket of 32 slots.
 const CROWDS: [u64; 2] = [40, 600];
@@ -18,26 +19,26 @@ fn pair_of(kind: Kind, number: u64) -> Seen {
 }
 
 // Whether the pairs of these numbers are added.
-fn fills<F: Form<u64, u64>>(form: &mut F, from: u64, to: u64) -> bool {
+fn fills<F: Form<MaybeEqual, u64>>(form: &mut F, from: u64, to: u64) -> bool {
     let mut added = true;
     for number in from..to {
-        added &= form.add(Way::Insert, number, number) == Answer::Added(None);
+        added &= form.add(Way::Insert, MaybeEqual(number, 0), number) == Answer::Added(None);
     }
     added
 }
 
 // Whether just the pairs below that number are there.
-fn finds<F: Form<u64, u64>>(form: &F, kind: Kind, to: u64) -> bool {
-    let mut found = form.read(&to) == Answer::Found(None);
+fn finds<F: Form<MaybeEqual, u64>>(form: &F, kind: Kind, to: u64) -> bool {
+    let mut found = form.read(&MaybeEqual(to, 0)) == Answer::Found(None);
     for number in 0..to {
-        found &= form.read(&number) == Answer::Found(Some(pair_of(kind, number)));
+        found &= form.read(&MaybeEqual(number, 0)) == Answer::Found(Some(pair_of(kind, number)));
     }
     found && form.sizes().len as u64 == to
 }
 
 // Whether so many pairs, all in one bucket, wait with all buckets of an array of so many slots, are taken over by one
 // insertion, and are found before and after.
-fn relocates<F: Form<u64, u64> + Reserving>(
+fn relocates<F: Form<MaybeEqual, u64> + Reserving>(
     form: &mut F,
     kind: Kind,
     pairs: u64,
@@ -52,7 +53,7 @@ fn relocates<F: Form<u64, u64> + Reserving>(
 
 // Whether a crowded bucket waits and takes its pairs over three times: an array grows by a reservation, by a second
 // one, and shrinks as that is given back.
-fn crowds<F: Form<u64, u64> + Reserving>(form: &mut F, kind: Kind, pairs: u64) -> bool {
+fn crowds<F: Form<MaybeEqual, u64> + Reserving>(form: &mut F, kind: Kind, pairs: u64) -> bool {
     let filled = fills(form, 0, pairs);
     let Some(_first) = form.reserve_slots(10_000) else {
         return false;
@@ -70,7 +71,9 @@ fn crowds<F: Form<u64, u64> + Reserving>(form: &mut F, kind: Kind, pairs: u64) -
 fn of_maps(alloc: Global) -> bool {
     let mut holds = true;
     for pairs in CROWDS {
-        let mut map: scc_map::Owned<u64, u64, Zero> = scc_map::Owned::with_hasher(alloc, Zero);
+        let mut map: scc_map::Owned<MaybeEqual, u64, Masked> = scc_map::Owned::with_hasher(
+            alloc, ZERO,
+        );
         holds &= crowds(&mut map, Kind::Map, pairs);
     }
     holds
@@ -79,7 +82,7 @@ fn of_maps(alloc: Global) -> bool {
 fn of_sets(alloc: Global) -> bool {
     let mut holds = true;
     for pairs in CROWDS {
-        let mut set: scc_set::Owned<u64, Zero> = scc_set::Owned::with_hasher(alloc, Zero);
+        let mut set: scc_set::Owned<MaybeEqual, Masked> = scc_set::Owned::with_hasher(alloc, ZERO);
         holds &= crowds(&mut set, Kind::Set, pairs);
     }
     holds
@@ -88,8 +91,8 @@ fn of_sets(alloc: Global) -> bool {
 fn of_indexes(alloc: Global) -> bool {
     let mut holds = true;
     for pairs in CROWDS {
-        let mut index: scc_index::Owned<u64, u64, Zero> = scc_index::Owned::with_hasher(
-            alloc, Zero,
+        let mut index: scc_index::Owned<MaybeEqual, u64, Masked> = scc_index::Owned::with_hasher(
+            alloc, ZERO,
         );
         holds &= crowds(&mut index, Kind::Index, pairs);
     }

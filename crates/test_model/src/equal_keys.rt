@@ -6,9 +6,8 @@ use test_forms::answers::{Answer, Kind};
 use test_forms::form::{Act, At, Form, Way};
 use test_forms::numbered::Seen;
 use test_forms_shared::every::{Case, in_every_form};
-use test_kit::alike::Alike;
+use test_kit::masked::{ALIKE, ZERO};
 use test_kit::maybe_equal::MaybeEqual;
-use test_kit::zero::Zero;
 
 // As many keys as one bucket of a cache holds, and more than a bucket of the others has slots for.
 fn keys_of(kind: Kind) -> u64 {
@@ -147,9 +146,9 @@ impl Case<MaybeEqual, u64> for Updates {
 
 /// A line for each case. The answer is the worst status.
 pub(crate) fn run_equal_keys<R: Wait + AllocGlobal + Print>(rt: &R) -> u8 {
-    let one = in_every_form(rt, &Replaces, "keys replaced, all hashes 0", Zero);
-    let two = in_every_form(rt, &Replaces, "keys replaced, one tag", Alike);
-    let three = in_every_form(rt, &Updates, "values written, all hashes 0", Zero);
-    let four = in_every_form(rt, &Updates, "values written, one tag", Alike);
+    let one = in_every_form(rt, &Replaces, "keys replaced, all hashes 0", ZERO);
+    let two = in_every_form(rt, &Replaces, "keys replaced, one tag", ALIKE);
+    let three = in_every_form(rt, &Updates, "values written, all hashes 0", ZERO);
+    let four = in_every_form(rt, &Updates, "values written, one tag", ALIKE);
     one.max(two).max(three).max(four)
 }

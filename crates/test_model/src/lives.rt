@@ -10,8 +10,7 @@ use test_forms::calls::{What, make};
 use test_forms::form::{Act, At, Form, Way};
 use test_forms_shared::every::{Case, in_every_form};
 use test_kit::lines::REFUSED;
-use test_kit::same::Same;
-use test_kit::zero::Zero;
+use test_kit::masked::{SAME, ZERO};
 
 // More tokens than a case makes in all kinds and forms.
 const ROOM: usize = 80_000;
@@ -130,8 +129,8 @@ fn run_to<R: Wait + AllocGlobal + Print>(rt: &R, last: u64, what: &str, good: &s
         last,
     };
     let other = Lives { book: spread, last };
-    let zero = in_every_form(rt, &one, what, Zero);
-    zero.max(in_every_form(rt, &other, good, Same))
+    let zero = in_every_form(rt, &one, what, ZERO);
+    zero.max(in_every_form(rt, &other, good, SAME))
 }
 
 /// A line for each case. The answer is the worst status.

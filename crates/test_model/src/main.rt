@@ -25,15 +25,12 @@ use lives::run_lives;
 use run::{Forgetful, Run};
 use sizes::run_sizes;
 use std::env;
-use std::hash::BuildHasher;
 use std::process::ExitCode;
 use std::rt::Env;
 use std::sync::Wait;
 use stops::run_stops;
 use test_forms_shared::every::in_every_form;
-use test_kit::alike::Alike;
-use test_kit::same::Same;
-use test_kit::zero::Zero;
+use test_kit::masked::{ALIKE, SAME, ZERO};
 use tokens::run_tokens;
 use twins::run_twins;
 use versions::run_versions;
@@ -42,12 +39,7 @@ use versions::run_versions;
 const USUAL_CALLS: u64 = 1000;
 
 // A run under that hasher, and one whose list forgets a pair.
-fn run_under<R: Wait + AllocGlobal + Print, H: BuildHasher + Copy>(
-    rt: &R,
-    run: Run<H>,
-    what: &str,
-    wrong: &str,
-) -> u8 {
+fn run_under<R: Wait + AllocGlobal + Print>(rt: &R, run: Run, what: &str, wrong: &str) -> u8 {
     let right = in_every_form(rt, &run, what, run.hasher);
     right.max(in_every_form(rt, &Forgetful(run), wrong, run.hasher))
 }
@@ -55,19 +47,19 @@ fn run_under<R: Wait + AllocGlobal + Print, H: BuildHasher + Copy>(
 // Runs of so many calls under each hasher.
 fn run_all<R: Wait + AllocGlobal + Print>(rt: &R, calls: u64) -> u8 {
     let zero = Run {
-        hasher: Zero,
+        hasher: ZERO,
         calls,
         mask: 255,
         waits: false,
     };
     let alike = Run {
-        hasher: Alike,
+        hasher: ALIKE,
         calls,
         mask: 511,
         waits: calls == USUAL_CALLS,
     };
     let same = Run {
-        hasher: Same,
+        hasher: SAME,
         calls,
         mask: 511,
         waits: calls == USUAL_CALLS,

@@ -9,6 +9,7 @@ use test_forms::calls::make;
 use test_forms::form::Form;
 use test_forms::list::List;
 use test_forms_shared::every::Case;
+use test_kit::masked::Masked;
 use test_kit::maybe_equal::MaybeEqual;
 
 /// After how many calls all pairs are compared.
@@ -16,9 +17,9 @@ const LOOK: u64 = 50;
 
 /// So many calls on keys up to a mask, under that hasher.
 #[derive(Clone, Copy)]
-pub struct Run<H> {
+pub struct Run {
     /// The hasher of the container.
-    pub hasher: H,
+    pub hasher: Masked,
     /// The number of calls.
     pub calls: u64,
     /// The greatest number of a key, one less than a power of two.
@@ -29,7 +30,7 @@ pub struct Run<H> {
 }
 
 // The numbers of a call.
-fn asked<H: BuildHasher>(hasher: &H, call: &Call) -> Asked {
+fn asked(hasher: &Masked, call: &Call) -> Asked {
     Asked {
         what: call.what,
         number: call.key.0,
@@ -60,9 +61,9 @@ fn fits<F: Form<MaybeEqual, u64>>(form: &F, list: &List) -> bool {
 }
 
 // Whether a call answers as the list, which then does the same.
-fn step<H: BuildHasher, F: Form<MaybeEqual, u64>>(
+fn step<F: Form<MaybeEqual, u64>>(
     alloc: Global,
-    hasher: &H,
+    hasher: &Masked,
     form: &mut F,
     list: &mut List,
     call: &Call,
@@ -75,9 +76,9 @@ fn step<H: BuildHasher, F: Form<MaybeEqual, u64>>(
 }
 
 // Makes the calls, and answers whether all agreed.
-fn make_all<H: BuildHasher, F: Form<MaybeEqual, u64>>(
+fn make_all<F: Form<MaybeEqual, u64>>(
     alloc: Global,
-    run: &Run<H>,
+    run: &Run,
     form: &mut F,
     list: &mut List,
     tally: &mut Tally,
@@ -95,7 +96,7 @@ fn make_all<H: BuildHasher, F: Form<MaybeEqual, u64>>(
     Ok(agree && is_as(alloc, form, list)?)
 }
 
-impl<H: BuildHasher + Copy> Case<MaybeEqual, u64> for Run<H> {
+impl Case<MaybeEqual, u64> for Run {
     fn check<F: Form<MaybeEqual, u64>>(
         &self,
         alloc: Global,
@@ -115,9 +116,9 @@ impl<H: BuildHasher + Copy> Case<MaybeEqual, u64> for Run<H> {
 
 /// A run beside a list that forgets one pair, which has to be found out.
 #[derive(Clone, Copy)]
-pub struct Forgetful<H>(pub Run<H>);
+pub struct Forgetful(pub Run);
 
-impl<H: BuildHasher + Copy> Case<MaybeEqual, u64> for Forgetful<H> {
+impl Case<MaybeEqual, u64> for Forgetful {
     fn check<F: Form<MaybeEqual, u64>>(
         &self,
         alloc: Global,

@@ -6,7 +6,8 @@ use test_forms::form::{Form, Way};
 use test_forms::numbered::Seen;
 use test_forms::reserving::Reserving;
 use test_kit::lines::say;
-use test_kit::same::Same;
+use test_kit::masked::{Masked, SAME};
+use test_kit::maybe_equal::MaybeEqual;
 
 /// As many keys as make an array grow past 2^20 slots, where half of its buckets are never used.
 const MANY: u64 = (1 << 19) + 1;
@@ -18,8 +19,8 @@ const MAXIMUM: u64 = 1 << 17;
 const VERSIONS: usize = 100_000;
 
 // The key of that number. Under their own hashes these keys fill the first half of all buckets evenly.
-fn key_of(number: u64) -> u64 {
-    number.reverse_bits() / 2
+fn key_of(number: u64) -> MaybeEqual {
+    MaybeEqual(number.reverse_bits() / 2, 0)
 }
 
 // The value of that number.
@@ -34,11 +35,11 @@ fn pair_of(kind: Kind, number: u64) -> Seen {
     } else {
         0
     };
-    (key_of(number), 0, value)
+    (key_of(number).0, 0, value)
 }
 
 // Whether the pairs of these numbers are added.
-fn fills<F: Form<u64, u64>>(form: &mut F, from: u64, to: u64) -> bool {
+fn fills<F: Form<MaybeEqual, u64>>(form: &mut F, from: u64, to: u64) -> bool {
     let mut added = true;
     for number in from..to {
         added &= form.add(Way::Insert, key_of(number), value_of(number)) == Answer::Added(None);
@@ -47,7 +48,7 @@ fn fills<F: Form<u64, u64>>(form: &mut F, from: u64, to: u64) -> bool {
 }
 
 // Whether the pairs of these numbers are there, and the next is not.
-fn finds<F: Form<u64, u64>>(form: &F, kind: Kind, from: u64, to: u64) -> bool {
+fn finds<F: Form<MaybeEqual, u64>>(form: &F, kind: Kind, from: u64, to: u64) -> bool {
     let mut found = form.read(&key_of(to)) == Answer::Found(None);
     for number in from..to {
         found &= form.read(&key_of(number)) == Answer::Found(Some(pair_of(kind, number)));
@@ -56,7 +57,7 @@ fn finds<F: Form<u64, u64>>(form: &F, kind: Kind, from: u64, to: u64) -> bool {
 }
 
 // Whether the pairs of these numbers go.
-fn goes<F: Form<u64, u64>>(form: &mut F, kind: Kind, from: u64, to: u64) -> bool {
+fn goes<F: Form<MaybeEqual, u64>>(form: &mut F, kind: Kind, from: u64, to: u64) -> bool {
     let mut gone = true;
     for number in from..to {
         let wanted = if kind == Kind::Index {
@@ -71,7 +72,7 @@ fn goes<F: Form<u64, u64>>(form: &mut F, kind: Kind, from: u64, to: u64) -> bool
 
 // Whether an empty container grows past 2^20 slots by insertions, and shrinks to the least array once all but 16 pairs
 // are gone.
-fn grows<F: Form<u64, u64>>(form: &mut F, kind: Kind) -> bool {
+fn grows<F: Form<MaybeEqual, u64>>(form: &mut F, kind: Kind) -> bool {
     fills(form, 0, MANY - 1)
         && form.sizes().used() == (1 << 19, 1 << 20)
         && fills(form, MANY - 1, MANY)
@@ -84,7 +85,7 @@ fn grows<F: Form<u64, u64>>(form: &mut F, kind: Kind) -> bool {
 
 // Whether a container of 1000 pairs that are found while all its buckets wait gets more than 2^20 slots by a
 // reservation, and gives them back with it.
-fn reserves<F: Form<u64, u64> + Reserving>(form: &mut F, kind: Kind) -> bool {
+fn reserves<F: Form<MaybeEqual, u64> + Reserving>(form: &mut F, kind: Kind) -> bool {
     let filled = fills(form, 0, 1000) && form.sizes().used() == (1000, 2048);
     let Some(token) = form.reserve_slots(1 + (1 << 20)) else {
         return false;
@@ -97,29 +98,37 @@ fn reserves<F: Form<u64, u64> + Reserving>(form: &mut F, kind: Kind) -> bool {
 }
 
 fn of_maps(alloc: Global) -> Result<bool, AllocError> {
-    let mut large: scc_map::Owned<u64, u64, Same> = scc_map::Owned::with_hasher(alloc, Same);
-    let mut small: scc_map::Owned<u64, u64, Same> = scc_map::Owned::with_hasher(alloc, Same);
+    let mut large: scc_map::Owned<MaybeEqual, u64, Masked> = scc_map::Owned::with_hasher(
+        alloc, SAME,
+    );
+    let mut small: scc_map::Owned<MaybeEqual, u64, Masked> = scc_map::Owned::with_hasher(
+        alloc, SAME,
+    );
     Ok(grows(&mut large, Kind::Map) && reserves(&mut small, Kind::Map))
 }
 
 fn of_sets(alloc: Global) -> Result<bool, AllocError> {
-    let mut large: scc_set::Owned<u64, Same> = scc_set::Owned::with_hasher(alloc, Same);
-    let mut small: scc_set::Owned<u64, Same> = scc_set::Owned::with_hasher(alloc, Same);
+    let mut large: scc_set::Owned<MaybeEqual, Masked> = scc_set::Owned::with_hasher(alloc, SAME);
+    let mut small: scc_set::Owned<MaybeEqual, Masked> = scc_set::Owned::with_hasher(alloc, SAME);
     Ok(grows(&mut large, Kind::Set) && reserves(&mut small, Kind::Set))
 }
 
 fn of_indexes(alloc: Global) -> Result<bool, AllocError> {
-    let mut large: scc_index::Owned<u64, u64, Same> = scc_index::Owned::with_hasher(alloc, Same);
-    let mut small: scc_index::Owned<u64, u64, Same> = scc_index::Owned::with_hasher(alloc, Same);
+    let mut large: scc_index::Owned<MaybeEqual, u64, Masked> = scc_index::Owned::with_hasher(
+        alloc, SAME,
+    );
+    let mut small: scc_index::Owned<MaybeEqual, u64, Masked> = scc_index::Owned::with_hasher(
+        alloc, SAME,
+    );
     Ok(grows(&mut large, Kind::Index) && reserves(&mut small, Kind::Index))
 }
 
 // Whether each put of these numbers drives out the pair that was put so many before it, the least recent one of its
 // bucket.
-fn evicts<F: Form<u64, u64>>(form: &mut F, from: u64, to: u64) -> bool {
+fn evicts<F: Form<MaybeEqual, u64>>(form: &mut F, from: u64, to: u64) -> bool {
     let mut evicted = true;
     for number in from..to {
-        let key = number.reverse_bits();
+        let key = MaybeEqual(number.reverse_bits(), 0);
         let least = number.wrapping_sub(MAXIMUM);
         let gone = (least.reverse_bits(), 0, value_of(least));
         evicted &= form.add(Way::Insert, key, value_of(number)) == Answer::Added(Some(gone));
@@ -130,14 +139,15 @@ fn evicts<F: Form<u64, u64>>(form: &mut F, from: u64, to: u64) -> bool {
 // Whether a cache takes as many pairs as its maximum without one that is driven out, and then one for each that goes.
 fn of_caches(alloc: Global) -> Result<bool, AllocError> {
     let maximum = MAXIMUM as usize;
-    let Ok(mut cache) = scc_cache::Owned::<u64, u64, Same>::with_capacity_and_hasher(
-        alloc, 0, maximum, Same,
+    let Ok(mut cache) = scc_cache::Owned::<MaybeEqual, u64, Masked>::with_capacity_and_hasher(
+        alloc, 0, maximum, SAME,
     ) else {
         return Err(AllocError);
     };
     let mut added = true;
     for number in 0..MAXIMUM {
-        let answer = cache.add(Way::Insert, number.reverse_bits(), value_of(number));
+        let key = MaybeEqual(number.reverse_bits(), 0);
+        let answer = cache.add(Way::Insert, key, value_of(number));
         added &= answer == Answer::Added(None);
     }
     let full = cache.sizes().used() == (maximum, maximum);
@@ -146,7 +156,10 @@ fn of_caches(alloc: Global) -> Result<bool, AllocError> {
 }
 
 // Whether the snapshot has each version of the numbers once, and then none for ever.
-fn has_each_once(alloc: Global, versions: scc_index::Iter<u64, u64>) -> Result<bool, AllocError> {
+fn has_each_once(
+    alloc: Global,
+    versions: scc_index::Iter<MaybeEqual, u64>,
+) -> Result<bool, AllocError> {
     let mut met = vec![in alloc; false; VERSIONS]?;
     let mut count = 0usize;
     let mut right = true;
@@ -155,7 +168,7 @@ fn has_each_once(alloc: Global, versions: scc_index::Iter<u64, u64>) -> Result<b
         let Some(version) = versions.next() else {
             break;
         };
-        let number = version.key().wrapping_mul(2).reverse_bits();
+        let number = version.key().0.wrapping_mul(2).reverse_bits();
         let place = number as usize;
         if let Some(is_met) = met.get_mut(place) {
             right &= !*is_met && *version.value() == value_of(number);
@@ -168,7 +181,9 @@ fn has_each_once(alloc: Global, versions: scc_index::Iter<u64, u64>) -> Result<b
 
 // Whether a snapshot of many versions outlives the pairs of its index.
 fn of_snapshots(alloc: Global) -> Result<bool, AllocError> {
-    let mut index: scc_index::Owned<u64, u64, Same> = scc_index::Owned::with_hasher(alloc, Same);
+    let mut index: scc_index::Owned<MaybeEqual, u64, Masked> = scc_index::Owned::with_hasher(
+        alloc, SAME,
+    );
     let filled = fills(&mut index, 0, VERSIONS as u64);
     let Ok(versions) = index.iter() else {
         return Err(AllocError);

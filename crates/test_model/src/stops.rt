@@ -7,16 +7,16 @@ use test_forms::answers::{Answer, Kind, Rule};
 use test_forms::form::{Form, Way};
 use test_forms::numbered::Seen;
 use test_forms_shared::every::{Case, in_every_form};
-use test_kit::same::Same;
-use test_kit::zero::Zero;
+use test_kit::masked::{SAME, ZERO};
+use test_kit::maybe_equal::MaybeEqual;
 
 // Under their own hashes these keys have a stripe each, where there are several.
-fn key_of(number: u64) -> u64 {
-    (number << 60).wrapping_add(number)
+fn key_of(number: u64) -> MaybeEqual {
+    MaybeEqual((number << 60).wrapping_add(number), 0)
 }
 
 // Whether so many keys were added, each with the value 0.
-fn fills<F: Form<u64, u64>>(form: &mut F, keys: u64) -> bool {
+fn fills<F: Form<MaybeEqual, u64>>(form: &mut F, keys: u64) -> bool {
     let mut added = true;
     for number in 1..keys.saturating_add(1) {
         added &= form.add(Way::Insert, key_of(number), 0) == Answer::Added(None);
@@ -38,7 +38,7 @@ struct Walked {
 }
 
 // A walk over so many pairs, whose closure always answers that.
-fn walk<F: Form<u64, u64>>(
+fn walk<F: Form<MaybeEqual, u64>>(
     alloc: Global,
     form: &mut F,
     keys: u64,
@@ -83,8 +83,12 @@ fn has_none(walked: &Walked, pairs: usize) -> bool {
     walked.answer == Answer::Absent && walked.left.len() == pairs
 }
 
-impl Case<u64, u64> for Stops {
-    fn check<F: Form<u64, u64>>(&self, alloc: Global, form: &mut F) -> Result<bool, AllocError> {
+impl Case<MaybeEqual, u64> for Stops {
+    fn check<F: Form<MaybeEqual, u64>>(
+        &self,
+        alloc: Global,
+        form: &mut F,
+    ) -> Result<bool, AllocError> {
         let kind = form.kind();
         let Some(walked) = walk(alloc, form, 3, self.0) else {
             return Ok(false);
@@ -119,8 +123,12 @@ fn has_visited(walked: &Walked, verdict: Verdict, kind: Kind) -> bool {
         && count_of(full, written) == 32
 }
 
-impl Case<u64, u64> for Walks {
-    fn check<F: Form<u64, u64>>(&self, alloc: Global, form: &mut F) -> Result<bool, AllocError> {
+impl Case<MaybeEqual, u64> for Walks {
+    fn check<F: Form<MaybeEqual, u64>>(
+        &self,
+        alloc: Global,
+        form: &mut F,
+    ) -> Result<bool, AllocError> {
         let kind = form.kind();
         let Some(walked) = walk(alloc, form, 32, self.0) else {
             return Ok(false);
@@ -141,10 +149,10 @@ impl Case<u64, u64> for Walks {
 pub(crate) fn run_stops<R: Wait + AllocGlobal + Print>(rt: &R) -> u8 {
     let take_stop = Stops(Verdict::TakeStop);
     let keep_stop = Stops(Verdict::KeepStop);
-    let one = in_every_form(rt, &take_stop, "take and stop at the first call", Same);
-    let two = in_every_form(rt, &keep_stop, "keep and stop at the first call", Same);
-    let three = in_every_form(rt, &Walks(Verdict::Take), "take all", Zero);
+    let one = in_every_form(rt, &take_stop, "take and stop at the first call", SAME);
+    let two = in_every_form(rt, &keep_stop, "keep and stop at the first call", SAME);
+    let three = in_every_form(rt, &Walks(Verdict::Take), "take all", ZERO);
     let all = Walks(Verdict::Keep);
-    let four = in_every_form(rt, &all, "write all and keep them", Zero);
+    let four = in_every_form(rt, &all, "write all and keep them", ZERO);
     one.max(two).max(three).max(four)
 }

@@ -4,6 +4,8 @@ use scc_table::Reservation;
 use std::alloc::Global;
 use test_forms::reserving::Reserving;
 use test_kit::lines::say;
+use test_kit::masked::{Masked, SAME};
+use test_kit::maybe_equal::MaybeEqual;
 
 // Whether a token is refused and comes back with its slots.
 fn refuses<C: Reserving>(form: &mut C, token: Reservation, slots: usize) -> bool {
@@ -29,20 +31,28 @@ fn judges<C: Reserving>(first: &mut C, second: &mut C) -> bool {
 }
 
 fn of_maps(alloc: Global) -> bool {
-    let mut first: scc_map::Owned<u64, u64> = scc_map::Owned::new(alloc);
-    let mut second: scc_map::Owned<u64, u64> = scc_map::Owned::new(alloc);
+    let mut first: scc_map::Owned<MaybeEqual, u64, Masked> = scc_map::Owned::with_hasher(
+        alloc, SAME,
+    );
+    let mut second: scc_map::Owned<MaybeEqual, u64, Masked> = scc_map::Owned::with_hasher(
+        alloc, SAME,
+    );
     judges(&mut first, &mut second)
 }
 
 fn of_sets(alloc: Global) -> bool {
-    let mut first: scc_set::Owned<u64> = scc_set::Owned::new(alloc);
-    let mut second: scc_set::Owned<u64> = scc_set::Owned::new(alloc);
+    let mut first: scc_set::Owned<MaybeEqual, Masked> = scc_set::Owned::with_hasher(alloc, SAME);
+    let mut second: scc_set::Owned<MaybeEqual, Masked> = scc_set::Owned::with_hasher(alloc, SAME);
     judges(&mut first, &mut second)
 }
 
 fn of_indexes(alloc: Global) -> bool {
-    let mut first: scc_index::Owned<u64, u64> = scc_index::Owned::new(alloc);
-    let mut second: scc_index::Owned<u64, u64> = scc_index::Owned::new(alloc);
+    let mut first: scc_index::Owned<MaybeEqual, u64, Masked> = scc_index::Owned::with_hasher(
+        alloc, SAME,
+    );
+    let mut second: scc_index::Owned<MaybeEqual, u64, Masked> = scc_index::Owned::with_hasher(
+        alloc, SAME,
+    );
     judges(&mut first, &mut second)
 }
 

@@ -15,8 +15,8 @@ use test_forms::list::List;
 use test_forms::numbered::Seen;
 use test_forms_shared::held::Held;
 use test_kit::lines::say;
+use test_kit::masked::{Masked, SAME};
 use test_kit::maybe_equal::MaybeEqual;
-use test_kit::same::Same;
 
 /// How many calls both get.
 const CALLS: u64 = 1000;
@@ -99,8 +99,8 @@ fn agree<A: Form<MaybeEqual, u64>, B: Form<MaybeEqual, u64>>(
 fn of_maps<R: Wait + AllocGlobal>(rt: &R) -> Result<bool, AllocError> {
     let alloc = rt.alloc();
     let (Ok(shared), Ok(mut owned)) = (
-        HashMap::<MaybeEqual, u64, Same>::with_capacity_and_hasher(alloc, SLOTS, Same),
-        scc_map::Owned::<MaybeEqual, u64, Same>::with_capacity_and_hasher(alloc, SLOTS, Same),
+        HashMap::<MaybeEqual, u64, Masked>::with_capacity_and_hasher(alloc, SLOTS, SAME),
+        scc_map::Owned::<MaybeEqual, u64, Masked>::with_capacity_and_hasher(alloc, SLOTS, SAME),
     ) else {
         return Err(AllocError);
     };
@@ -110,8 +110,8 @@ fn of_maps<R: Wait + AllocGlobal>(rt: &R) -> Result<bool, AllocError> {
 fn of_sets<R: Wait + AllocGlobal>(rt: &R) -> Result<bool, AllocError> {
     let alloc = rt.alloc();
     let (Ok(shared), Ok(mut owned)) = (
-        HashSet::<MaybeEqual, Same>::with_capacity_and_hasher(alloc, SLOTS, Same),
-        scc_set::Owned::<MaybeEqual, Same>::with_capacity_and_hasher(alloc, SLOTS, Same),
+        HashSet::<MaybeEqual, Masked>::with_capacity_and_hasher(alloc, SLOTS, SAME),
+        scc_set::Owned::<MaybeEqual, Masked>::with_capacity_and_hasher(alloc, SLOTS, SAME),
     ) else {
         return Err(AllocError);
     };
@@ -121,8 +121,8 @@ fn of_sets<R: Wait + AllocGlobal>(rt: &R) -> Result<bool, AllocError> {
 fn of_indexes<R: Wait + AllocGlobal>(rt: &R) -> Result<bool, AllocError> {
     let alloc = rt.alloc();
     let (Ok(shared), Ok(mut owned)) = (
-        HashIndex::<MaybeEqual, u64, Same>::with_capacity_and_hasher(alloc, SLOTS, Same),
-        scc_index::Owned::<MaybeEqual, u64, Same>::with_capacity_and_hasher(alloc, SLOTS, Same),
+        HashIndex::<MaybeEqual, u64, Masked>::with_capacity_and_hasher(alloc, SLOTS, SAME),
+        scc_index::Owned::<MaybeEqual, u64, Masked>::with_capacity_and_hasher(alloc, SLOTS, SAME),
     ) else {
         return Err(AllocError);
     };
@@ -132,9 +132,9 @@ fn of_indexes<R: Wait + AllocGlobal>(rt: &R) -> Result<bool, AllocError> {
 fn of_caches<R: Wait + AllocGlobal>(rt: &R) -> Result<bool, AllocError> {
     let alloc = rt.alloc();
     let (Ok(shared), Ok(mut owned)) = (
-        HashCache::<MaybeEqual, u64, Same>::with_capacity_and_hasher(alloc, SLOTS, MAXIMUM, Same),
-        scc_cache::Owned::<MaybeEqual, u64, Same>::with_capacity_and_hasher(
-            alloc, SLOTS, MAXIMUM, Same,
+        HashCache::<MaybeEqual, u64, Masked>::with_capacity_and_hasher(alloc, SLOTS, MAXIMUM, SAME),
+        scc_cache::Owned::<MaybeEqual, u64, Masked>::with_capacity_and_hasher(
+            alloc, SLOTS, MAXIMUM, SAME,
         ),
     ) else {
         return Err(AllocError);

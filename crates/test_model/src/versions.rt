@@ -6,7 +6,7 @@ use std::alloc::{AllocError, Global};
 use std::rc::Rc;
 use std::sync::Wait;
 use test_kit::lines::{REFUSED, say};
-use test_kit::zero::Zero;
+use test_kit::masked::{Masked, ZERO};
 
 const KEYS: u64 = 100;
 
@@ -19,8 +19,8 @@ fn pair(book: &Rc<Book>, number: u64) -> Result<(Token, Token), AllocError> {
 fn filled(
     alloc: Global,
     book: &Rc<Book>,
-) -> Result<scc_index::Owned<Token, Token, Zero>, AllocError> {
-    let mut index = scc_index::Owned::with_hasher(alloc, Zero);
+) -> Result<scc_index::Owned<Token, Token, Masked>, AllocError> {
+    let mut index = scc_index::Owned::with_hasher(alloc, ZERO);
     for number in 0..KEYS {
         let (key, value) = pair(book, number)?;
         if index.insert_sync(key, value).is_err() {
@@ -51,8 +51,8 @@ fn snapshot_keeps(alloc: Global, book: &Rc<Book>) -> Result<bool, AllocError> {
 fn shared<R: Wait + AllocGlobal>(
     rt: &R,
     book: &Rc<Book>,
-) -> Result<HashIndex<Token, Token, Zero>, AllocError> {
-    let Ok(index) = HashIndex::with_hasher(rt.alloc(), Zero) else {
+) -> Result<HashIndex<Token, Token, Masked>, AllocError> {
+    let Ok(index) = HashIndex::with_hasher(rt.alloc(), ZERO) else {
         return Err(AllocError);
     };
     for number in 0..KEYS {

@@ -1,7 +1,7 @@
 // The hash of a script's keys.
 use crate::expect::expect_eq;
+use scc_script::same::Same;
 use std::hash::{BuildHasher, Hasher};
-use test_kit::same::Same;
 
 #[test]
 fn same_hashes_a_key_to_itself(rt: HostRuntime) {

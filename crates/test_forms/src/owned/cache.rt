@@ -3,23 +3,126 @@
 use crate::answers::{Answer, Kind, Rule, raise_and_keep, refused, verdict};
 use crate::form::{Act, At, Form, Sizes, Way};
 use crate::numbered::{Numbered, Seen, note_pairs, raise_to_even, seen, seen_pair, value_of};
-use scc_cache::Owned;
-use scc_cache::owned::{Entry, ReplaceResult};
+use scc_cache::owned::{Entry, OccupiedEntry, ReplaceResult};
+use scc_cache::{EvictedEntry, Owned};
+use scc_common::InsertError;
 use std::alloc::Global;
 use std::hash::{BuildHasher, Hash};
 
-// What a way answers that lends an entry. It is a macro, since the check doesn't follow an entry into a function.
-macro_rules! entered {
-    ($answer:expr) => {
-        match $answer {
+/// What an entry answers that puts a pair: what that drove out, and the entry of the pair.
+type Placed<'a, K, V, H> = Result<
+    (EvictedEntry<K, V>, OccupiedEntry<'a, K, V, H>),
+    InsertError<K, V>,
+>;
+
+// Puts the pair through its entry.
+fn enter<'a, K: Eq + Hash + Drop + Numbered, V: Default + Drop + Numbered, H: BuildHasher + Drop>(
+    cache: &'a mut Owned<K, V, H>,
+    way: Way,
+    key: K,
+    value: V,
+) -> Placed<'a, K, V, H> {
+    let entry = cache.entry_sync(key);
+    match way {
+        Way::OrInsertWith => entry.or_put_with(|| value),
+        Way::OrInsertWithKey => entry.or_put_with_key(|key| value_of(key, value)),
+        Way::OrDefault => entry.or_default(),
+        Way::InsertEntry => entry.put_entry(value),
+        _ => entry.or_put(value),
+    }
+}
+
+// What a way answers that lends an entry.
+fn entered<K: Eq + Hash + Drop + Numbered, V: Default + Drop + Numbered, H: BuildHasher + Drop>(
+    cache: &mut Owned<K, V, H>,
+    way: Way,
+    key: K,
+    value: V,
+) -> Answer {
+    match enter(cache, way, key, value) {
+        Ok(placed) => {
+            let (evicted, entry) = placed;
+            let here = seen(entry.key(), entry.get());
+            Answer::Entry(seen_pair(evicted), here)
+        }
+        Err(error) => refused(error),
+    }
+}
+
+// Puts the pair through its vacant entry.
+fn fill<K: Eq + Hash + Drop + Numbered, V: Drop + Numbered, H: BuildHasher + Drop>(
+    cache: &mut Owned<K, V, H>,
+    key: K,
+    value: V,
+) -> Answer {
+    match cache.entry_sync(key) {
+        Entry::Vacant(entry) => match entry.put_entry(value) {
             Ok(placed) => {
                 let (evicted, entry) = placed;
                 let here = seen(entry.key(), entry.get());
                 Answer::Entry(seen_pair(evicted), here)
             }
             Err(error) => refused(error),
+        },
+        Entry::Occupied(entry) => Answer::Found(Some(seen(entry.key(), entry.get()))),
+    }
+}
+
+// Puts the key in the place of its equal, or puts the pair.
+fn replace_or_fill<K: Eq + Hash + Drop + Numbered, V: Drop + Numbered, H: BuildHasher + Drop>(
+    cache: &mut Owned<K, V, H>,
+    key: K,
+    value: V,
+) -> Answer {
+    match cache.replace_sync(key) {
+        ReplaceResult::Replaced(entry, old) => {
+            let here = seen(entry.key(), entry.get());
+            Answer::Swapped(Some(old.mark()), Some(here))
         }
-    };
+        ReplaceResult::NotReplaced(entry) => match entry.put_entry(value) {
+            Ok(placed) => {
+                let (evicted, entry) = placed;
+                let here = seen(entry.key(), entry.get());
+                Answer::Entry(seen_pair(evicted), here)
+            }
+            Err(error) => refused(error),
+        },
+    }
+}
+
+// Does that with the entry of the key, and keeps its pair.
+fn act_and_keep<K: Eq + Hash + Drop + Numbered, V: Drop + Numbered, H: BuildHasher + Drop>(
+    cache: &mut Owned<K, V, H>,
+    act: Act,
+    key: &K,
+    value: V,
+) -> Answer {
+    match cache.get_sync(key) {
+        Some(mut entry) => match act {
+            Act::Set => Answer::Old(Some(entry.put(value).number())),
+            Act::Write => {
+                entry.get_mut().write(value.number());
+                Answer::Found(Some(seen(entry.key(), entry.get())))
+            }
+            _ => Answer::Found(Some(seen(entry.key(), entry.get()))),
+        },
+        None => Answer::Found(None),
+    }
+}
+
+// Takes the pair of the entry out.
+fn act_and_remove<K: Eq + Hash + Drop + Numbered, V: Drop + Numbered, H: BuildHasher + Drop>(
+    cache: &mut Owned<K, V, H>,
+    act: Act,
+    key: &K,
+) -> Answer {
+    match cache.get_sync(key) {
+        Some(entry) => match act {
+            Act::Remove => Answer::Old(Some(entry.remove().number())),
+            _ => Answer::Found(seen_pair(Some(entry.remove_entry()))),
+        },
+        None => Answer::Found(None),
+    }
 }
 
 impl<K: Eq + Hash + Drop + Numbered, V: Default + Drop + Numbered, H: BuildHasher + Drop> Form<K, V>
@@ -35,25 +138,9 @@ impl<K: Eq + Hash + Drop + Numbered, V: Default + Drop + Numbered, H: BuildHashe
                 Err(error) => refused(error),
             },
             Way::Upsert => Answer::Absent,
-            Way::Replace => match self.replace_sync(key) {
-                ReplaceResult::Replaced(entry, old) => Answer::Swapped(
-                    Some(old.mark()),
-                    Some(seen(entry.key(), entry.get())),
-                ),
-                ReplaceResult::NotReplaced(entry) => entered!(entry.put_entry(value)),
-            },
-            Way::Vacant => match self.entry_sync(key) {
-                Entry::Vacant(entry) => entered!(entry.put_entry(value)),
-                Entry::Occupied(entry) => Answer::Found(Some(seen(entry.key(), entry.get()))),
-            },
-            Way::OrInsert => entered!(self.entry_sync(key).or_put(value)),
-            Way::OrInsertWith => entered!(self.entry_sync(key).or_put_with(|| value)),
-            Way::OrInsertWithKey => entered!(
-                self.entry_sync(key)
-                    .or_put_with_key(|key| value_of(key, value))
-            ),
-            Way::OrDefault => entered!(self.entry_sync(key).or_default()),
-            Way::InsertEntry => entered!(self.entry_sync(key).put_entry(value)),
+            Way::Replace => replace_or_fill(self, key, value),
+            Way::Vacant => fill(self, key, value),
+            _ => entered(self, way, key, value),
         }
     }
 
@@ -84,29 +171,8 @@ impl<K: Eq + Hash + Drop + Numbered, V: Default + Drop + Numbered, H: BuildHashe
             return Answer::Absent;
         }
         match act {
-            Act::Look => match self.get_sync(key) {
-                Some(entry) => Answer::Found(Some(seen(entry.key(), entry.get()))),
-                None => Answer::Found(None),
-            },
-            Act::Write => match self.get_sync(key) {
-                Some(mut entry) => {
-                    entry.get_mut().write(value.number());
-                    Answer::Found(Some(seen(entry.key(), entry.get())))
-                }
-                None => Answer::Found(None),
-            },
-            Act::Set => match self.get_sync(key) {
-                Some(mut entry) => Answer::Old(Some(entry.put(value).number())),
-                None => Answer::Found(None),
-            },
-            Act::Remove => match self.get_sync(key) {
-                Some(entry) => Answer::Old(Some(entry.remove().number())),
-                None => Answer::Found(None),
-            },
-            Act::RemoveEntry => match self.get_sync(key) {
-                Some(entry) => Answer::Found(seen_pair(Some(entry.remove_entry()))),
-                None => Answer::Found(None),
-            },
+            Act::Look | Act::Write | Act::Set => act_and_keep(self, act, key, value),
+            Act::Remove | Act::RemoveEntry => act_and_remove(self, act, key),
             Act::Next | Act::RemoveNext => Answer::Absent,
         }
     }

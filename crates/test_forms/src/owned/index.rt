@@ -3,62 +3,135 @@
 use crate::answers::{Answer, Kind, refused};
 use crate::form::{Act, At, Form, Sizes, Way};
 use crate::numbered::{Numbered, Seen, keeps, seen, value_of};
+use scc_common::InsertError;
 use scc_index::Owned;
-use scc_index::owned::Entry;
+use scc_index::owned::{Entry, OccupiedEntry};
 use std::hash::{BuildHasher, Hash};
 
-// What a way answers that lends an entry. It is a macro, since the check doesn't follow an entry into a function.
-macro_rules! entered {
-    ($answer:expr) => {
-        match $answer {
-            Ok(entry) => Answer::Entry(None, seen(entry.key(), entry.get())),
-            Err(error) => refused(error),
-        }
-    };
+// Adds the pair through its entry.
+fn enter<'a, K: Eq + Hash + Drop + Numbered, V: Default + Drop + Numbered, H: BuildHasher + Drop>(
+    index: &'a mut Owned<K, V, H>,
+    way: Way,
+    key: K,
+    value: V,
+) -> Result<OccupiedEntry<'a, K, V, H>, InsertError<K, V>> {
+    let entry = index.entry_sync(key);
+    match way {
+        Way::OrInsertWith => entry.or_insert_with(|| value),
+        Way::OrInsertWithKey => entry.or_insert_with_key(|key| value_of(key, value)),
+        Way::OrDefault => entry.or_default(),
+        _ => entry.or_insert(value),
+    }
 }
 
-// Does that with the entry that is found.
-macro_rules! act_on {
-    ($found:expr, $act:expr, $value:expr) => {
-        match $act {
-            Act::Look => match $found {
-                Some(entry) => Answer::Found(Some(seen(entry.key(), entry.get()))),
-                None => Answer::Found(None),
-            },
-            Act::Set => match $found {
-                Some(mut entry) => match entry.update($value) {
-                    Ok(()) => Answer::Yes(true),
-                    Err(back) => Answer::Refused(Some(seen(entry.key(), &back))),
-                },
-                None => Answer::Found(None),
-            },
-            Act::RemoveEntry => match $found {
-                Some(entry) => {
-                    entry.remove_entry();
-                    Answer::Yes(true)
-                }
-                None => Answer::Found(None),
-            },
-            Act::Next => match $found {
-                Some(entry) => match entry.next_sync() {
-                    Some(next) => Answer::Found(Some(seen(next.key(), next.get()))),
-                    None => Answer::Found(None),
-                },
-                None => Answer::Found(None),
-            },
-            Act::RemoveNext => match $found {
-                Some(entry) => {
-                    let here = seen(entry.key(), entry.get());
-                    match entry.remove_and_sync() {
-                        Some(next) => Answer::Gone(here, Some(seen(next.key(), next.get()))),
-                        None => Answer::Gone(here, None),
-                    }
-                }
-                None => Answer::Found(None),
-            },
-            _ => Answer::Absent,
+// What a way answers that lends an entry.
+fn entered<K: Eq + Hash + Drop + Numbered, V: Default + Drop + Numbered, H: BuildHasher + Drop>(
+    index: &mut Owned<K, V, H>,
+    way: Way,
+    key: K,
+    value: V,
+) -> Answer {
+    match enter(index, way, key, value) {
+        Ok(entry) => Answer::Entry(None, seen(entry.key(), entry.get())),
+        Err(error) => refused(error),
+    }
+}
+
+// Adds the pair through its vacant entry.
+fn fill<K: Eq + Hash + Drop + Numbered, V: Drop + Numbered, H: BuildHasher + Drop>(
+    index: &mut Owned<K, V, H>,
+    key: K,
+    value: V,
+) -> Answer {
+    match index.entry_sync(key) {
+        Entry::Vacant(entry) => match entry.insert_entry(value) {
+            Ok(entry) => Answer::Entry(None, seen(entry.key(), entry.get())),
+            Err(error) => refused(error),
+        },
+        Entry::Occupied(entry) => Answer::Found(Some(seen(entry.key(), entry.get()))),
+    }
+}
+
+// The occupied entry that is asked for.
+fn find<'a, K: Eq + Hash + Drop + Numbered, V: Drop + Numbered, H: BuildHasher + Drop>(
+    index: &'a mut Owned<K, V, H>,
+    at: At,
+    key: &K,
+) -> Option<OccupiedEntry<'a, K, V, H>> {
+    let number = key.number();
+    match at {
+        At::Key => index.get_sync(key),
+        At::Any => index.any_sync(|other, _| other.number() == number),
+        At::First => index.begin_sync(),
+    }
+}
+
+// Looks at the entry that is asked for, or takes its pair out.
+fn act_and_end<K: Eq + Hash + Drop + Numbered, V: Drop + Numbered, H: BuildHasher + Drop>(
+    index: &mut Owned<K, V, H>,
+    at: At,
+    act: Act,
+    key: &K,
+) -> Answer {
+    match find(index, at, key) {
+        Some(entry) => match act {
+            Act::RemoveEntry => {
+                entry.remove_entry();
+                Answer::Yes(true)
+            }
+            _ => Answer::Found(Some(seen(entry.key(), entry.get()))),
+        },
+        None => Answer::Found(None),
+    }
+}
+
+// Makes a new version at the entry.
+fn act_and_set<K: Eq + Hash + Clone + Drop + Numbered, V: Drop + Numbered, H: BuildHasher + Drop>(
+    index: &mut Owned<K, V, H>,
+    at: At,
+    key: &K,
+    value: V,
+) -> Answer {
+    match find(index, at, key) {
+        Some(mut entry) => match entry.update(value) {
+            Ok(()) => Answer::Yes(true),
+            Err(back) => Answer::Refused(Some(seen(entry.key(), &back))),
+        },
+        None => Answer::Found(None),
+    }
+}
+
+// Goes on to the next entry.
+fn act_and_step<K: Eq + Hash + Drop + Numbered, V: Drop + Numbered, H: BuildHasher + Drop>(
+    index: &mut Owned<K, V, H>,
+    at: At,
+    key: &K,
+) -> Answer {
+    match find(index, at, key) {
+        Some(entry) => match entry.next_sync() {
+            Some(next) => Answer::Found(Some(seen(next.key(), next.get()))),
+            None => Answer::Found(None),
+        },
+        None => Answer::Found(None),
+    }
+}
+
+// Takes the pair of the entry out, and goes on to the next entry.
+fn act_and_go_on<K: Eq + Hash + Drop + Numbered, V: Drop + Numbered, H: BuildHasher + Drop>(
+    index: &mut Owned<K, V, H>,
+    at: At,
+    key: &K,
+) -> Answer {
+    match find(index, at, key) {
+        Some(entry) => {
+            let here = seen(entry.key(), entry.get());
+            match entry.remove_and_sync() {
+                Some(next) => Answer::Gone(here, Some(seen(next.key(), next.get()))),
+                None => Answer::Gone(here, None),
+            }
         }
-    };
+        None => Answer::Found(None),
+    }
 }
 
 impl<
@@ -76,18 +149,9 @@ impl<
                 Ok(()) => Answer::Added(None),
                 Err(error) => refused(error),
             },
-            Way::Vacant => match self.entry_sync(key) {
-                Entry::Vacant(entry) => entered!(entry.insert_entry(value)),
-                Entry::Occupied(entry) => Answer::Found(Some(seen(entry.key(), entry.get()))),
-            },
-            Way::OrInsert => entered!(self.entry_sync(key).or_insert(value)),
-            Way::OrInsertWith => entered!(self.entry_sync(key).or_insert_with(|| value)),
-            Way::OrInsertWithKey => entered!(
-                self.entry_sync(key)
-                    .or_insert_with_key(|key| value_of(key, value))
-            ),
-            Way::OrDefault => entered!(self.entry_sync(key).or_default()),
+            Way::Vacant => fill(self, key, value),
             Way::Upsert | Way::Replace | Way::InsertEntry => Answer::Absent,
+            _ => entered(self, way, key, value),
         }
     }
 
@@ -103,15 +167,12 @@ impl<
     }
 
     fn act(&mut self, at: At, act: Act, key: &K, value: V) -> Answer {
-        let number = key.number();
-        match at {
-            At::Key => act_on!(self.get_sync(key), act, value),
-            At::Any => act_on!(
-                self.any_sync(|other, _| other.number() == number),
-                act,
-                value
-            ),
-            At::First => act_on!(self.begin_sync(), act, value),
+        match act {
+            Act::Look | Act::RemoveEntry => act_and_end(self, at, act, key),
+            Act::Set => act_and_set(self, at, key, value),
+            Act::Next => act_and_step(self, at, key),
+            Act::RemoveNext => act_and_go_on(self, at, key),
+            _ => Answer::Absent,
         }
     }
 

@@ -5,68 +5,158 @@ use crate::form::{Act, At, Form, Sizes, Way};
 use crate::numbered::{
     Numbered, Seen, keeps, note_pairs, raise_to_even, seen, seen_pair, value_of,
 };
+use scc_common::InsertError;
 use scc_map::Owned;
-use scc_map::owned::{Entry, ReplaceResult};
+use scc_map::owned::{Entry, OccupiedEntry, ReplaceResult};
 use std::alloc::Global;
 use std::hash::{BuildHasher, Hash};
 
-// What a way answers that lends an entry. It is a macro, since the check doesn't follow an entry into a function.
-macro_rules! entered {
-    ($answer:expr) => {
-        match $answer {
-            Ok(entry) => Answer::Entry(None, seen(entry.key(), entry.get())),
-            Err(error) => refused(error),
-        }
-    };
+// Adds the pair through its entry.
+fn enter<'a, K: Eq + Hash + Drop + Numbered, V: Default + Drop + Numbered, H: BuildHasher + Drop>(
+    map: &'a mut Owned<K, V, H>,
+    way: Way,
+    key: K,
+    value: V,
+) -> Result<OccupiedEntry<'a, K, V, H>, InsertError<K, V>> {
+    let entry = map.entry_sync(key);
+    match way {
+        Way::OrInsertWith => entry.or_insert_with(|| value),
+        Way::OrInsertWithKey => entry.or_insert_with_key(|key| value_of(key, value)),
+        Way::OrDefault => entry.or_default(),
+        Way::InsertEntry => entry.insert_entry(value),
+        _ => entry.or_insert(value),
+    }
 }
 
-// Does that with the entry that is found.
-macro_rules! act_on {
-    ($found:expr, $act:expr, $value:expr) => {
-        match $act {
-            Act::Look => match $found {
-                Some(entry) => Answer::Found(Some(seen(entry.key(), entry.get()))),
-                None => Answer::Found(None),
-            },
-            Act::Write => match $found {
-                Some(mut entry) => {
-                    entry.get_mut().write($value.number());
-                    Answer::Found(Some(seen(entry.key(), entry.get())))
-                }
-                None => Answer::Found(None),
-            },
-            Act::Set => match $found {
-                Some(mut entry) => Answer::Old(Some(entry.insert($value).number())),
-                None => Answer::Found(None),
-            },
-            Act::Remove => match $found {
-                Some(entry) => Answer::Old(Some(entry.remove().number())),
-                None => Answer::Found(None),
-            },
-            Act::RemoveEntry => match $found {
-                Some(entry) => Answer::Found(seen_pair(Some(entry.remove_entry()))),
-                None => Answer::Found(None),
-            },
-            Act::Next => match $found {
-                Some(entry) => match entry.next_sync() {
-                    Some(next) => Answer::Found(Some(seen(next.key(), next.get()))),
-                    None => Answer::Found(None),
-                },
-                None => Answer::Found(None),
-            },
-            Act::RemoveNext => match $found {
-                Some(entry) => match entry.remove_and_sync() {
-                    Ok(both) => {
-                        let (pair, next) = both;
-                        let gone = seen(&pair.0, &pair.1);
-                        Answer::Gone(gone, Some(seen(next.key(), next.get())))
-                    }
-                    Err(pair) => Answer::Gone(seen(&pair.0, &pair.1), None),
-                },
-                None => Answer::Found(None),
-            },
+// What a way answers that lends an entry.
+fn entered<K: Eq + Hash + Drop + Numbered, V: Default + Drop + Numbered, H: BuildHasher + Drop>(
+    map: &mut Owned<K, V, H>,
+    way: Way,
+    key: K,
+    value: V,
+) -> Answer {
+    match enter(map, way, key, value) {
+        Ok(entry) => Answer::Entry(None, seen(entry.key(), entry.get())),
+        Err(error) => refused(error),
+    }
+}
+
+// Adds the pair through its vacant entry.
+fn fill<K: Eq + Hash + Drop + Numbered, V: Drop + Numbered, H: BuildHasher + Drop>(
+    map: &mut Owned<K, V, H>,
+    key: K,
+    value: V,
+) -> Answer {
+    match map.entry_sync(key) {
+        Entry::Vacant(entry) => match entry.insert_entry(value) {
+            Ok(entry) => Answer::Entry(None, seen(entry.key(), entry.get())),
+            Err(error) => refused(error),
+        },
+        Entry::Occupied(entry) => Answer::Found(Some(seen(entry.key(), entry.get()))),
+    }
+}
+
+// Puts the key in the place of its equal, or adds the pair.
+fn replace_or_fill<K: Eq + Hash + Drop + Numbered, V: Drop + Numbered, H: BuildHasher + Drop>(
+    map: &mut Owned<K, V, H>,
+    key: K,
+    value: V,
+) -> Answer {
+    match map.replace_sync(key) {
+        ReplaceResult::Replaced(entry, old) => {
+            let here = seen(entry.key(), entry.get());
+            Answer::Swapped(Some(old.mark()), Some(here))
         }
-    };
+        ReplaceResult::NotReplaced(entry) => match entry.insert_entry(value) {
+            Ok(entry) => Answer::Entry(None, seen(entry.key(), entry.get())),
+            Err(error) => refused(error),
+        },
+    }
+}
+
+// The occupied entry that is asked for.
+fn find<'a, K: Eq + Hash + Drop + Numbered, V: Drop + Numbered, H: BuildHasher + Drop>(
+    map: &'a mut Owned<K, V, H>,
+    at: At,
+    key: &K,
+) -> Option<OccupiedEntry<'a, K, V, H>> {
+    let number = key.number();
+    match at {
+        At::Key => map.get_sync(key),
+        At::Any => map.any_sync(|other, _| other.number() == number),
+        At::First => map.begin_sync(),
+    }
+}
+
+// Does that with the entry that is asked for, and keeps its pair.
+fn act_and_keep<K: Eq + Hash + Drop + Numbered, V: Drop + Numbered, H: BuildHasher + Drop>(
+    map: &mut Owned<K, V, H>,
+    at: At,
+    act: Act,
+    key: &K,
+    value: V,
+) -> Answer {
+    match find(map, at, key) {
+        Some(mut entry) => match act {
+            Act::Set => Answer::Old(Some(entry.insert(value).number())),
+            Act::Write => {
+                entry.get_mut().write(value.number());
+                Answer::Found(Some(seen(entry.key(), entry.get())))
+            }
+            _ => Answer::Found(Some(seen(entry.key(), entry.get()))),
+        },
+        None => Answer::Found(None),
+    }
+}
+
+// Takes the pair of the entry out.
+fn act_and_remove<K: Eq + Hash + Drop + Numbered, V: Drop + Numbered, H: BuildHasher + Drop>(
+    map: &mut Owned<K, V, H>,
+    at: At,
+    act: Act,
+    key: &K,
+) -> Answer {
+    match find(map, at, key) {
+        Some(entry) => match act {
+            Act::Remove => Answer::Old(Some(entry.remove().number())),
+            _ => Answer::Found(seen_pair(Some(entry.remove_entry()))),
+        },
+        None => Answer::Found(None),
+    }
+}
+
+// Goes on to the next entry.
+fn act_and_step<K: Eq + Hash + Drop + Numbered, V: Drop + Numbered, H: BuildHasher + Drop>(
+    map: &mut Owned<K, V, H>,
+    at: At,
+    key: &K,
+) -> Answer {
+    match find(map, at, key) {
+        Some(entry) => match entry.next_sync() {
+            Some(next) => Answer::Found(Some(seen(next.key(), next.get()))),
+            None => Answer::Found(None),
+        },
+        None => Answer::Found(None),
+    }
+}
+
+// Takes the pair of the entry out, and goes on to the next entry.
+fn act_and_go_on<K: Eq + Hash + Drop + Numbered, V: Drop + Numbered, H: BuildHasher + Drop>(
+    map: &mut Owned<K, V, H>,
+    at: At,
+    key: &K,
+) -> Answer {
+    match find(map, at, key) {
+        Some(entry) => match entry.remove_and_sync() {
+            Ok(both) => {
+                let (pair, next) = both;
+                let gone = seen(&pair.0, &pair.1);
+                Answer::Gone(gone, Some(seen(next.key(), next.get())))
+            }
+            Err(pair) => Answer::Gone(seen(&pair.0, &pair.1), None),
+        },
+        None => Answer::Found(None),
+    }
 }
 
 impl<
@@ -88,25 +178,9 @@ impl<
                 Ok(old) => Answer::Old(old.map(|value| value.number())),
                 Err(error) => refused(error),
             },
-            Way::Replace => match self.replace_sync(key) {
-                ReplaceResult::Replaced(entry, old) => Answer::Swapped(
-                    Some(old.mark()),
-                    Some(seen(entry.key(), entry.get())),
-                ),
-                ReplaceResult::NotReplaced(entry) => entered!(entry.insert_entry(value)),
-            },
-            Way::Vacant => match self.entry_sync(key) {
-                Entry::Vacant(entry) => entered!(entry.insert_entry(value)),
-                Entry::Occupied(entry) => Answer::Found(Some(seen(entry.key(), entry.get()))),
-            },
-            Way::OrInsert => entered!(self.entry_sync(key).or_insert(value)),
-            Way::OrInsertWith => entered!(self.entry_sync(key).or_insert_with(|| value)),
-            Way::OrInsertWithKey => entered!(
-                self.entry_sync(key)
-                    .or_insert_with_key(|key| value_of(key, value))
-            ),
-            Way::OrDefault => entered!(self.entry_sync(key).or_default()),
-            Way::InsertEntry => entered!(self.entry_sync(key).insert_entry(value)),
+            Way::Replace => replace_or_fill(self, key, value),
+            Way::Vacant => fill(self, key, value),
+            _ => entered(self, way, key, value),
         }
     }
 
@@ -141,15 +215,11 @@ impl<
     }
 
     fn act(&mut self, at: At, act: Act, key: &K, value: V) -> Answer {
-        let number = key.number();
-        match at {
-            At::Key => act_on!(self.get_sync(key), act, value),
-            At::Any => act_on!(
-                self.any_sync(|other, _| other.number() == number),
-                act,
-                value
-            ),
-            At::First => act_on!(self.begin_sync(), act, value),
+        match act {
+            Act::Look | Act::Write | Act::Set => act_and_keep(self, at, act, key, value),
+            Act::Remove | Act::RemoveEntry => act_and_remove(self, at, act, key),
+            Act::Next => act_and_step(self, at, key),
+            Act::RemoveNext => act_and_go_on(self, at, key),
         }
     }
 

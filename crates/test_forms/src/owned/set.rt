@@ -4,42 +4,71 @@ use crate::answers::{Answer, Kind, Rule, key_verdict, refused_key};
 use crate::form::{Act, At, Form, Sizes, Way};
 use crate::numbered::{Numbered, Seen, keeps, note_keys, seen_key};
 use scc_set::Owned;
+use scc_set::owned::OccupiedEntry;
 use std::alloc::Global;
 use std::hash::{BuildHasher, Hash};
 
-// Does that with the entry that is found. It is a macro, since the check doesn't follow an entry into a function.
-macro_rules! act_on {
-    ($found:expr, $act:expr) => {
-        match $act {
-            Act::Look => match $found {
-                Some(entry) => Answer::Found(Some(seen_key(entry.get()))),
-                None => Answer::Found(None),
-            },
-            Act::RemoveEntry => match $found {
-                Some(entry) => Answer::Found(Some(seen_key(&entry.remove_entry()))),
-                None => Answer::Found(None),
-            },
-            Act::Next => match $found {
-                Some(entry) => match entry.next_sync() {
-                    Some(next) => Answer::Found(Some(seen_key(next.get()))),
-                    None => Answer::Found(None),
-                },
-                None => Answer::Found(None),
-            },
-            Act::RemoveNext => match $found {
-                Some(entry) => match entry.remove_and_sync() {
-                    Ok(both) => {
-                        let (removed, next) = both;
-                        let gone = seen_key(&removed.key);
-                        Answer::Gone(gone, Some(seen_key(next.get())))
-                    }
-                    Err(key) => Answer::Gone(seen_key(&key), None),
-                },
-                None => Answer::Found(None),
-            },
-            _ => Answer::Absent,
-        }
-    };
+// The entry that is asked for: the first one with the key's number, or the first one of all.
+fn find<'a, K: Eq + Hash + Drop + Numbered, H: BuildHasher + Drop>(
+    set: &'a mut Owned<K, H>,
+    at: At,
+    key: &K,
+) -> Option<OccupiedEntry<'a, K, H>> {
+    let number = key.number();
+    match at {
+        At::First => set.begin_sync(),
+        _ => set.any_sync(|other| other.number() == number),
+    }
+}
+
+// Looks at the entry that is asked for, or takes its key out.
+fn act_and_end<K: Eq + Hash + Drop + Numbered, H: BuildHasher + Drop>(
+    set: &mut Owned<K, H>,
+    at: At,
+    act: Act,
+    key: &K,
+) -> Answer {
+    match find(set, at, key) {
+        Some(entry) => match act {
+            Act::RemoveEntry => Answer::Found(Some(seen_key(&entry.remove_entry()))),
+            _ => Answer::Found(Some(seen_key(entry.get()))),
+        },
+        None => Answer::Found(None),
+    }
+}
+
+// Goes on to the next entry.
+fn act_and_step<K: Eq + Hash + Drop + Numbered, H: BuildHasher + Drop>(
+    set: &mut Owned<K, H>,
+    at: At,
+    key: &K,
+) -> Answer {
+    match find(set, at, key) {
+        Some(entry) => match entry.next_sync() {
+            Some(next) => Answer::Found(Some(seen_key(next.get()))),
+            None => Answer::Found(None),
+        },
+        None => Answer::Found(None),
+    }
+}
+
+// Takes the key of the entry out, and goes on to the next entry.
+fn act_and_go_on<K: Eq + Hash + Drop + Numbered, H: BuildHasher + Drop>(
+    set: &mut Owned<K, H>,
+    at: At,
+    key: &K,
+) -> Answer {
+    match find(set, at, key) {
+        Some(entry) => match entry.remove_and_sync() {
+            Ok(both) => {
+                let (removed, next) = both;
+                let gone = seen_key(&removed.key);
+                Answer::Gone(gone, Some(seen_key(next.get())))
+            }
+            Err(key) => Answer::Gone(seen_key(&key), None),
+        },
+        None => Answer::Found(None),
+    }
 }
 
 impl<
@@ -73,11 +102,14 @@ impl<
     }
 
     fn act(&mut self, at: At, act: Act, key: &K, _value: V) -> Answer {
-        let number = key.number();
-        match at {
-            At::Key => Answer::Absent,
-            At::Any => act_on!(self.any_sync(|other| other.number() == number), act),
-            At::First => act_on!(self.begin_sync(), act),
+        if at == At::Key {
+            return Answer::Absent;
+        }
+        match act {
+            Act::Look | Act::RemoveEntry => act_and_end(self, at, act, key),
+            Act::Next => act_and_step(self, at, key),
+            Act::RemoveNext => act_and_go_on(self, at, key),
+            _ => Answer::Absent,
         }
     }
 

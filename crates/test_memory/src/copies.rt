@@ -1,0 +1,116 @@
+// Clones and snapshots: nothing is made, or the whole, and the original stays.
+use crate::expect::expect_eq;
+use crate::looks::{Look, expect_keys, fill, put};
+use crate::makers::{Job, Of, with};
+use std::io::Print;
+use std::process::Abort;
+use std::sync::Wait;
+use test_forms::answers::Answer;
+use test_forms::form::{Form, Way};
+use test_forms::numbered::Seen;
+use test_kit::refusals::{Refusal, TRIES};
+
+// Makes a clone of 34 keys in one bucket.
+#[derive(Drop)]
+struct Copying;
+
+impl Job for Copying {
+    fn run<F: Form<u64, u64>, R: AllocGlobal + Abort + Print + Wait>(
+        &self,
+        rt: &R,
+        refusal: &mut Refusal,
+        of: Of,
+        form: &mut F,
+    ) {
+        let mut before = Look::new(rt, refusal);
+        let mut after = Look::new(rt, refusal);
+        fill(rt, form, Way::Insert, 34);
+        before.see(rt, form);
+        for _ in 0..TRIES {
+            let answer = form.copy();
+            after.see(rt, form);
+            before.expect_same(rt, &after, false);
+            if answer == Answer::Yes(true) {
+                return;
+            }
+            expect_eq(rt, answer, Answer::Refused(None));
+            refusal.meet(rt, "a clone");
+        }
+        expect_eq(rt, Some(TRIES), None);
+    }
+}
+
+// Takes a snapshot of three versions.
+#[derive(Drop)]
+struct Snapshot;
+
+impl Job for Snapshot {
+    fn run<F: Form<u64, u64>, R: AllocGlobal + Abort + Print + Wait>(
+        &self,
+        rt: &R,
+        refusal: &mut Refusal,
+        of: Of,
+        form: &mut F,
+    ) {
+        let mut look = Look::new(rt, refusal);
+        for key in [2, 0, 1] {
+            put(form, key, !key);
+        }
+        for _ in 0..TRIES {
+            let answer = form.snapshot(&mut look.pairs);
+            expect_keys(rt, form, Way::Insert, 0, 3);
+            if answer == Answer::Yes(true) {
+                break;
+            }
+            expect_eq(rt, (answer, look.pairs.len()), (Answer::Refused(None), 0));
+            refusal.meet(rt, "a snapshot");
+        }
+        look.pairs.sort_unstable();
+        let wanted: [Seen; 3] = [(0, 0, !0), (1, 0, !1), (2, 0, !2)];
+        expect_eq(rt, look.pairs.as_slice(), wanted.as_slice());
+    }
+}
+
+fn expect_job<J: Job, R: AllocGlobal + Abort + Print + Wait>(rt: &R, of: Of, job: &J) {
+    with(rt, &mut Refusal::new(), of, 64, job);
+}
+
+#[test]
+fn a_refused_clone_leaves_the_map(rt: HostRuntime) {
+    expect_job(&rt, Of::Map, &Copying);
+}
+
+#[test]
+fn a_refused_clone_leaves_the_set(rt: HostRuntime) {
+    expect_job(&rt, Of::Set, &Copying);
+}
+
+#[test]
+fn a_refused_clone_leaves_the_index(rt: HostRuntime) {
+    expect_job(&rt, Of::Index, &Copying);
+}
+
+#[test]
+fn a_refused_clone_leaves_the_shared_map(rt: HostRuntime) {
+    expect_job(&rt, Of::SharedMap, &Copying);
+}
+
+#[test]
+fn a_refused_clone_leaves_the_shared_set(rt: HostRuntime) {
+    expect_job(&rt, Of::SharedSet, &Copying);
+}
+
+#[test]
+fn a_refused_clone_leaves_the_shared_index(rt: HostRuntime) {
+    expect_job(&rt, Of::SharedIndex, &Copying);
+}
+
+#[test]
+fn a_refused_snapshot_leaves_the_index(rt: HostRuntime) {
+    expect_job(&rt, Of::Index, &Snapshot);
+}
+
+#[test]
+fn a_refused_snapshot_leaves_the_shared_index(rt: HostRuntime) {
+    expect_job(&rt, Of::SharedIndex, &Snapshot);
+}

@@ -1,0 +1,55 @@
+// An index of which all keys, 33 or more in one bucket, wait in the old array: the next insertion takes memory for all of them at
+// once, and where that is refused, they go on waiting.
+use crate::expect::{expect, expect_eq};
+use crate::insertions::{Looks, expect_added};
+use crate::looks::{expect_keys, fill_to_growth};
+use crate::makers::{Job, Of, with};
+use crate::meetings;
+use std::io::Print;
+use std::process::Abort;
+use std::sync::Wait;
+use test_forms::answers::Answer;
+use test_forms::form::{Form, Way};
+use test_kit::refusals::{Refusal, TRIES};
+
+#[derive(Drop)]
+struct Crowd;
+
+impl Job for Crowd {
+    fn run<F: Form<u64, u64>, R: AllocGlobal + Abort + Print + Wait>(
+        &self,
+        rt: &R,
+        refusal: &mut Refusal,
+        of: Of,
+        form: &mut F,
+    ) {
+        let mut looks = Looks::new(rt, refusal);
+        let count = fill_to_growth(rt, form);
+        for _ in 0..TRIES {
+            let answer = form.reserve(65);
+            expect_keys(rt, form, Way::Insert, 0, count);
+            if answer == Answer::Reserved(65, 256, 129) {
+                break;
+            }
+            expect_eq(rt, answer, Answer::Reserved(65, 128, 129));
+            meetings::reservation(rt, refusal, of);
+        }
+        expect_eq(rt, form.sizes().capacity, 256);
+        let end = count.saturating_add(2);
+        for key in count..end {
+            expect_added(rt, refusal, of, &mut looks, form, Way::Insert, key);
+        }
+        expect_eq(rt, form.sizes().capacity, 256);
+        expect(rt, form.waiting().unwrap_or(0) <= 6);
+    }
+}
+
+#[test]
+fn a_refused_crowded_bucket_of_an_index_goes_on_waiting(rt: HostRuntime) {
+    with(&rt, &mut Refusal::new(), Of::Index, 64, &Crowd);
+}
+
+#[test]
+fn a_refused_crowded_bucket_of_a_shared_index_goes_on_waiting(rt: HostRuntime) {
+    with(&rt, &mut Refusal::new(), Of::SharedIndex, 64, &Crowd);
+}

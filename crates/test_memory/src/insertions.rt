@@ -1,0 +1,301 @@
+// Every way to add a pair, in each state in which it asks for memory. Refused, it hands the pair back and changes
+// nothing; made again until it succeeds, it adds the pair.
+use crate::expect::{expect, expect_eq};
+use crate::looks::{Look, expect_keys, fill, pair_of, value_of};
+use crate::makers::{Job, Of, with};
+use crate::meetings;
+use std::io::Print;
+use std::process::Abort;
+use std::sync::Wait;
+use test_forms::answers::{Answer, Kind};
+use test_forms::form::{Form, WAYS, Way};
+use test_forms::numbered::Seen;
+use test_kit::refusals::{Refusal, TRIES};
+
+// What a container is like before the insertion.
+#[derive(Clone, Copy, Debug, PartialEq)]
+enum State {
+    // It has no array: one is asked for.
+    Bare,
+    // It has 64 slots, of which half are in use, and all of the key's bucket: a growth is asked for, and then, but in
+    // a cache, the overflow list.
+    Full,
+    // Its array has 128 slots, of which less than half are in use, and all of the key's bucket: the overflow list is
+    // asked for alone.
+    Wide,
+}
+
+// The pairs that an insertion of the key drives out of a bucket of 32.
+fn driven_out(kind: Kind, way: Way, key: u64) -> Option<Seen> {
+    if kind == Kind::Cache && key >= 32 {
+        let oldest = key.saturating_sub(32);
+        Some(pair_of(kind, oldest, value_of(way, oldest)))
+    } else {
+        None
+    }
+}
+
+// What the way answers where the key is missing, and memory is there.
+fn wanted(kind: Kind, way: Way, key: u64) -> Answer {
+    let evicted = driven_out(kind, way, key);
+    if way.lends(kind) {
+        return Answer::Entry(evicted, pair_of(kind, key, value_of(way, key)));
+    }
+    match way {
+        Way::Upsert => Answer::Old(None),
+        Way::Replace => Answer::Swapped(None, None),
+        _ => Answer::Added(evicted),
+    }
+}
+
+// The first of the keys that are there once so many were added, from 0 on.
+fn first_kept(kind: Kind, count: u64) -> u64 {
+    if kind == Kind::Cache {
+        count.saturating_sub(32)
+    } else {
+        0
+    }
+}
+
+// Two looks, from before and after a call.
+#[derive(Drop)]
+pub(crate) struct Looks {
+    before: Look,
+    after: Look,
+}
+
+impl Looks {
+    pub(crate) fn new<R: AllocGlobal + Abort + Print>(rt: &R, refusal: &mut Refusal) -> Looks {
+        let before = Look::new(rt, refusal);
+        let after = Look::new(rt, refusal);
+        Looks { before, after }
+    }
+}
+
+// Adds the key by that way, after the keys below it, until that succeeds.
+pub(crate) fn expect_added<F: Form<u64, u64>, R: Abort + Print>(
+    rt: &R,
+    refusal: &mut Refusal,
+    of: Of,
+    looks: &mut Looks,
+    form: &mut F,
+    way: Way,
+    key: u64,
+) {
+    let kind = form.kind();
+    let pair = pair_of(kind, key, value_of(way, key));
+    for _ in 0..TRIES {
+        looks.before.see(rt, form);
+        let answer = form.add(way, key, !key);
+        if !matches!(answer, Answer::Refused(_)) {
+            expect_eq(rt, answer, wanted(kind, way, key));
+            break;
+        }
+        meetings::insertion(rt, refusal, of);
+        expect_eq(rt, answer, Answer::Refused(Some(pair)));
+        looks.after.see(rt, form);
+        let may_grow = kind != Kind::Index && key >= 32;
+        looks.before.expect_same(rt, &looks.after, may_grow);
+    }
+    let end = key.saturating_add(1);
+    expect_keys(rt, form, way, first_kept(kind, end), end);
+}
+
+// An insertion by a way in a state.
+#[derive(Drop)]
+struct Insertion {
+    way: Way,
+    state: State,
+}
+
+impl Job for Insertion {
+    fn run<F: Form<u64, u64>, R: AllocGlobal + Abort + Print + Wait>(
+        &self,
+        rt: &R,
+        refusal: &mut Refusal,
+        of: Of,
+        form: &mut F,
+    ) {
+        let mut looks = Looks::new(rt, refusal);
+        let before = form.sizes().capacity;
+        match self.state {
+            State::Bare => {
+                expect_added(rt, refusal, of, &mut looks, form, self.way, 0);
+                expect_eq(rt, (before, form.sizes().capacity), (0, 64));
+            }
+            State::Full => {
+                fill(rt, form, self.way, 32);
+                expect_growth(rt, refusal, of, &mut looks, form, self.way);
+            }
+            State::Wide => {
+                fill(rt, form, self.way, 32);
+                for key in 32..34u64 {
+                    expect_added(rt, refusal, of, &mut looks, form, self.way, key);
+                }
+                expect_eq(rt, form.sizes().capacity, before);
+            }
+        }
+    }
+}
+
+// Adds keys to a full bucket until the array has doubled. The first one does that; where the growth is refused, it is
+// added all the same, and the next one tries again.
+fn expect_growth<F: Form<u64, u64>, R: Abort + Print>(
+    rt: &R,
+    refusal: &mut Refusal,
+    of: Of,
+    looks: &mut Looks,
+    form: &mut F,
+    way: Way,
+) {
+    let mut key = 32u64;
+    for _ in 0..TRIES {
+        expect_eq(rt, form.sizes().capacity, 64);
+        expect_added(rt, refusal, of, looks, form, way, key);
+        if form.sizes().capacity != 64 {
+            break;
+        }
+        meetings::growth(rt, refusal, of);
+        key = key.saturating_add(1);
+    }
+    expect_eq(rt, form.sizes().capacity, 128);
+}
+
+// The ways that are tried where the keys before take much memory.
+const SOME: [Way; 4] = [Way::Insert, Way::Replace, Way::OrInsert, Way::Vacant];
+
+// Tries each of the ways that the kind has.
+fn expect_insertions<R: AllocGlobal + Abort + Print + Wait>(
+    rt: &R,
+    of: Of,
+    state: State,
+    slots: usize,
+    ways: &[Way],
+) {
+    let mut refusal = Refusal::new();
+    let mut tried = 0usize;
+    for way in ways {
+        let way = *way;
+        if way.is_of(of.kind()) {
+            with(rt, &mut refusal, of, slots, &Insertion { way, state });
+            tried = tried.saturating_add(1);
+        }
+    }
+    expect(rt, tried >= 2);
+}
+
+#[test]
+fn map_insertions_refused_their_first_array(rt: HostRuntime) {
+    expect_insertions(&rt, Of::Map, State::Bare, 0, &WAYS);
+}
+
+#[test]
+fn map_insertions_refused_their_full_bucket(rt: HostRuntime) {
+    expect_insertions(&rt, Of::Map, State::Full, 64, &WAYS);
+}
+
+#[test]
+fn map_insertions_refused_their_overflow_list(rt: HostRuntime) {
+    expect_insertions(&rt, Of::Map, State::Wide, Of::Map.wide(), &WAYS);
+}
+
+#[test]
+fn set_insertions_refused_their_first_array(rt: HostRuntime) {
+    expect_insertions(&rt, Of::Set, State::Bare, 0, &WAYS);
+}
+
+#[test]
+fn set_insertions_refused_their_full_bucket(rt: HostRuntime) {
+    expect_insertions(&rt, Of::Set, State::Full, 64, &WAYS);
+}
+
+#[test]
+fn set_insertions_refused_their_overflow_list(rt: HostRuntime) {
+    expect_insertions(&rt, Of::Set, State::Wide, Of::Set.wide(), &WAYS);
+}
+
+#[test]
+fn index_insertions_refused_their_first_array(rt: HostRuntime) {
+    expect_insertions(&rt, Of::Index, State::Bare, 0, &WAYS);
+}
+
+#[test]
+fn index_insertions_refused_their_full_bucket(rt: HostRuntime) {
+    expect_insertions(&rt, Of::Index, State::Full, 64, &SOME);
+}
+
+#[test]
+fn index_insertions_refused_their_overflow_list(rt: HostRuntime) {
+    expect_insertions(&rt, Of::Index, State::Wide, Of::Index.wide(), &SOME);
+}
+
+#[test]
+fn cache_puts_refused_their_first_array(rt: HostRuntime) {
+    expect_insertions(&rt, Of::Cache, State::Bare, 0, &WAYS);
+}
+
+#[test]
+fn cache_puts_refused_their_full_bucket(rt: HostRuntime) {
+    expect_insertions(&rt, Of::Cache, State::Full, 64, &WAYS);
+}
+
+#[test]
+fn shared_map_insertions_refused_their_first_array(rt: HostRuntime) {
+    expect_insertions(&rt, Of::SharedMap, State::Bare, 0, &WAYS);
+}
+
+#[test]
+fn shared_map_insertions_refused_their_full_bucket(rt: HostRuntime) {
+    expect_insertions(&rt, Of::SharedMap, State::Full, 64, &WAYS);
+}
+
+#[test]
+fn shared_map_insertions_refused_their_overflow_list(rt: HostRuntime) {
+    expect_insertions(&rt, Of::SharedMap, State::Wide, Of::SharedMap.wide(), &SOME);
+}
+
+#[test]
+fn shared_set_insertions_refused_their_first_array(rt: HostRuntime) {
+    expect_insertions(&rt, Of::SharedSet, State::Bare, 0, &WAYS);
+}
+
+#[test]
+fn shared_set_insertions_refused_their_full_bucket(rt: HostRuntime) {
+    expect_insertions(&rt, Of::SharedSet, State::Full, 64, &WAYS);
+}
+
+#[test]
+fn shared_set_insertions_refused_their_overflow_list(rt: HostRuntime) {
+    expect_insertions(&rt, Of::SharedSet, State::Wide, Of::SharedSet.wide(), &SOME);
+}
+
+#[test]
+fn shared_index_insertions_refused_their_first_array(rt: HostRuntime) {
+    expect_insertions(&rt, Of::SharedIndex, State::Bare, 0, &WAYS);
+}
+
+#[test]
+fn shared_index_insertions_refused_their_full_bucket(rt: HostRuntime) {
+    expect_insertions(&rt, Of::SharedIndex, State::Full, 64, &SOME);
+}
+
+#[test]
+fn shared_index_insertions_refused_their_overflow_list(rt: HostRuntime) {
+    expect_insertions(
+        &rt,
+        Of::SharedIndex,
+        State::Wide,
+        Of::SharedIndex.wide(),
+        &SOME,
+    );
+}
+
+#[test]
+fn shared_cache_puts_refused_their_first_array(rt: HostRuntime) {
+    expect_insertions(&rt, Of::SharedCache, State::Bare, 0, &WAYS);
+}
+
+#[test]
+fn shared_cache_puts_refused_their_full_bucket(rt: HostRuntime) {
+    expect_insertions(&rt, Of::SharedCache, State::Full, 64, &WAYS);
+}

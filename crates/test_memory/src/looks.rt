@@ -1,0 +1,121 @@
+// What a container holds, looked at without asking for memory.
+use crate::expect::{expect, expect_eq};
+use std::alloc::AllocError;
+use std::io::Print;
+use std::process::Abort;
+use test_forms::answers::{Answer, Kind};
+use test_forms::form::{Form, Sizes, Way};
+use test_forms::numbered::Seen;
+use test_kit::refusals::{Refusal, TRIES};
+
+// The value of a key that was added by that way: its complement, where the way doesn't give it another.
+pub(crate) fn value_of(way: Way, key: u64) -> u64 {
+    way.value(key, !key)
+}
+
+// The numbers of a pair; a set shows no value.
+pub(crate) fn pair_of(kind: Kind, key: u64, value: u64) -> Seen {
+    if kind.shows_values() {
+        (key, 0, value)
+    } else {
+        (key, 0, 0)
+    }
+}
+
+// Fails where one of the keys from `first` on, before `end`, is missing or hasn't the value of that way, or where
+// another key is there.
+pub(crate) fn expect_keys<F: Form<u64, u64>, R: Abort>(
+    rt: &R,
+    form: &F,
+    way: Way,
+    first: u64,
+    end: u64,
+) {
+    let kind = form.kind();
+    expect_eq(rt, form.sizes().len as u64, end.saturating_sub(first));
+    for key in first..end {
+        let pair = pair_of(kind, key, value_of(way, key));
+        expect_eq(rt, form.read(&key), Answer::Found(Some(pair)));
+    }
+    expect_eq(rt, form.read(&end), Answer::Found(None));
+}
+
+// Adds a key until it isn't refused.
+pub(crate) fn put<F: Form<u64, u64>>(form: &mut F, key: u64, value: u64) {
+    for _ in 0..TRIES {
+        if !matches!(form.add(Way::Insert, key, value), Answer::Refused(_)) {
+            return;
+        }
+    }
+}
+
+// Adds the keys below `count`, with the values of that way.
+pub(crate) fn fill<F: Form<u64, u64>, R: Abort>(rt: &R, form: &mut F, way: Way, count: u64) {
+    for key in 0..count {
+        put(form, key, value_of(way, key));
+    }
+    expect_keys(rt, form, way, 0, count);
+}
+
+// Adds keys, each with its complement as value, to a container of 64 slots until it has 128, which the 33rd key does if
+// the growth isn't refused. Answers how many there are then; a cache has lost all but the last 32.
+pub(crate) fn fill_to_growth<F: Form<u64, u64>, R: Abort>(rt: &R, form: &mut F) -> u64 {
+    let mut count = 0u64;
+    for _ in 0..80 {
+        if form.sizes().capacity == 128 {
+            break;
+        }
+        put(form, count, !count);
+        count = count.saturating_add(1);
+    }
+    expect_eq(rt, (form.sizes().capacity, count >= 33), (128, true));
+    count
+}
+
+// The pairs in the order of a walk, how large the container is, and how many buckets wait.
+#[derive(Drop)]
+pub(crate) struct Look {
+    pub(crate) pairs: Vec<Seen>,
+    sizes: Option<Sizes>,
+    waiting: Option<usize>,
+}
+
+impl Look {
+    // An empty look with room for all pairs of a case.
+    pub(crate) fn new<R: AllocGlobal + Abort + Print>(rt: &R, refusal: &mut Refusal) -> Look {
+        let made: Option<Vec<Seen>> = refusal.outlast::<_, AllocError, _, _, _>(
+            rt,
+            "a list of the test",
+            || Vec::with_capacity(rt.alloc(), 96),
+            || true,
+        );
+        Look {
+            pairs: made.expect(rt, "a list is refused each time"),
+            sizes: None,
+            waiting: None,
+        }
+    }
+
+    // Looks at the container.
+    pub(crate) fn see<F: Form<u64, u64>, R: Abort>(&mut self, rt: &R, form: &F) {
+        self.pairs.clear();
+        expect(rt, form.collect(&mut self.pairs));
+        self.sizes = Some(form.sizes());
+        self.waiting = form.waiting();
+    }
+
+    // Fails where a look after a refused call shows other pairs, another order of them or other sizes than this one
+    // from before. A growth that came before the refusal stays; an index makes none.
+    pub(crate) fn expect_same<R: Abort>(&self, rt: &R, after: &Look, may_grow: bool) {
+        expect_eq(rt, after.pairs.as_slice(), self.pairs.as_slice());
+        match (self.sizes, after.sizes) {
+            (Some(old), Some(new)) if may_grow && new.capacity == old.capacity.wrapping_mul(2) => {
+                expect_eq(rt, (new.minimum, new.maximum), (old.minimum, old.maximum));
+            }
+            (old, new) => {
+                expect_eq(rt, new, old);
+                expect(rt, after.waiting.unwrap_or(0) <= self.waiting.unwrap_or(0));
+            }
+        }
+    }
+}

@@ -1,0 +1,72 @@
+// What a kind in a form says of a call that was refused.
+use crate::makers::Of;
+use std::io::Print;
+use test_kit::refusals::Refusal;
+
+// An insertion was refused.
+pub(crate) fn insertion<R: Print>(rt: &R, refusal: &mut Refusal, of: Of) {
+    match of {
+        Of::Map => refusal.meet(rt, "an insertion into a map"),
+        Of::Set => refusal.meet(rt, "an insertion into a set"),
+        Of::Index => refusal.meet(rt, "an insertion into an index"),
+        Of::Cache => refusal.meet(rt, "a put into a cache"),
+        Of::SharedMap => refusal.meet(rt, "an insertion into a shared map"),
+        Of::SharedSet => refusal.meet(rt, "an insertion into a shared set"),
+        Of::SharedIndex => refusal.meet(rt, "an insertion into a shared index"),
+        Of::SharedCache => refusal.meet(rt, "a put into a shared cache"),
+    }
+}
+
+// A growth was refused, and the pair is in all the same.
+pub(crate) fn growth<R: Print>(rt: &R, refusal: &mut Refusal, of: Of) {
+    match of {
+        Of::Map => refusal.meet(rt, "a growth of a map"),
+        Of::Set => refusal.meet(rt, "a growth of a set"),
+        Of::Index => refusal.meet(rt, "a growth of an index"),
+        Of::Cache => refusal.meet(rt, "a growth of a cache"),
+        Of::SharedMap => refusal.meet(rt, "a growth of a shared map"),
+        Of::SharedSet => refusal.meet(rt, "a growth of a shared set"),
+        Of::SharedIndex => refusal.meet(rt, "a growth of a shared index"),
+        Of::SharedCache => refusal.meet(rt, "a growth of a shared cache"),
+    }
+}
+
+// A shrink was refused, and the pair is out all the same.
+pub(crate) fn shrink<R: Print>(rt: &R, refusal: &mut Refusal, of: Of) {
+    match of {
+        Of::Map => refusal.meet(rt, "a shrink of a map"),
+        Of::Set => refusal.meet(rt, "a shrink of a set"),
+        Of::Index => refusal.meet(rt, "a shrink of an index"),
+        Of::Cache => refusal.meet(rt, "a shrink of a cache"),
+        Of::SharedMap => refusal.meet(rt, "a shrink of a shared map"),
+        Of::SharedSet => refusal.meet(rt, "a shrink of a shared set"),
+        Of::SharedIndex => refusal.meet(rt, "a shrink of a shared index"),
+        Of::SharedCache => refusal.meet(rt, "a shrink of a shared cache"),
+    }
+}
+
+// A walk that takes pairs out was refused room in its list.
+pub(crate) fn walk<R: Print>(rt: &R, refusal: &mut Refusal, of: Of) {
+    match of {
+        Of::Map => refusal.meet(rt, "a taking walk of a map"),
+        Of::Set => refusal.meet(rt, "a taking walk of a set"),
+        Of::Cache => refusal.meet(rt, "a taking walk of a cache"),
+        Of::SharedMap => refusal.meet(rt, "a taking walk of a shared map"),
+        Of::SharedSet => refusal.meet(rt, "a taking walk of a shared set"),
+        Of::SharedCache => refusal.meet(rt, "a taking walk of a shared cache"),
+        _ => {}
+    }
+}
+
+// A growth at a reservation was refused, and the slots are reserved all the same.
+pub(crate) fn reservation<R: Print>(rt: &R, refusal: &mut Refusal, of: Of) {
+    match of {
+        Of::Map => refusal.meet(rt, "a growth at a reservation of a map"),
+        Of::Set => refusal.meet(rt, "a growth at a reservation of a set"),
+        Of::Index => refusal.meet(rt, "a growth at a reservation of an index"),
+        Of::SharedMap => refusal.meet(rt, "a growth at a reservation of a shared map"),
+        Of::SharedSet => refusal.meet(rt, "a growth at a reservation of a shared set"),
+        Of::SharedIndex => refusal.meet(rt, "a growth at a reservation of a shared index"),
+        _ => {}
+    }
+}

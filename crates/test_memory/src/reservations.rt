@@ -1,0 +1,108 @@
+// Reservations whose growth is refused: they are given all the same, and a later one grows. Given back, they may be
+// refused their shrink, and a later removal makes it.
+use crate::expect::expect_eq;
+use crate::insertions::{Looks, expect_added};
+use crate::looks::{expect_keys, fill};
+use crate::makers::{Job, Of, with};
+use crate::meetings;
+use crate::removals::expect_shrunk;
+use std::io::Print;
+use std::process::Abort;
+use std::sync::Wait;
+use test_forms::answers::Answer;
+use test_forms::form::{Form, Way};
+use test_kit::refusals::{Refusal, TRIES};
+
+// So many slots no memory has.
+pub(crate) const GREATEST: usize = 9_223_372_036_854_775_808;
+
+// Three keys in 64 slots, for which 64 more are reserved.
+#[derive(Drop)]
+struct Reservation;
+
+impl Job for Reservation {
+    fn run<F: Form<u64, u64>, R: AllocGlobal + Abort + Print + Wait>(
+        &self,
+        rt: &R,
+        refusal: &mut Refusal,
+        of: Of,
+        form: &mut F,
+    ) {
+        fill(rt, form, Way::Insert, 3);
+        for _ in 0..TRIES {
+            let before = form.sizes().capacity;
+            let answer = form.reserve(64);
+            expect_keys(rt, form, Way::Insert, 0, 3);
+            expect_eq(rt, form.sizes().minimum, 64);
+            if answer == Answer::Reserved(64, 128, 128) {
+                break;
+            }
+            expect_eq(rt, (before, answer), (64, Answer::Reserved(64, 64, 128)));
+            meetings::reservation(rt, refusal, of);
+        }
+        expect_shrunk(rt, refusal, of, form, 0);
+    }
+}
+
+// A growth that no memory has room for is refused in each run, and the reservation is given all the same. One by which
+// the minimum would pass the greatest isn't given.
+#[derive(Drop)]
+struct Greatest;
+
+impl Job for Greatest {
+    fn run<F: Form<u64, u64>, R: AllocGlobal + Abort + Print + Wait>(
+        &self,
+        rt: &R,
+        refusal: &mut Refusal,
+        of: Of,
+        form: &mut F,
+    ) {
+        let mut looks = Looks::new(rt, refusal);
+        let whole = Answer::Reserved(GREATEST, 0, GREATEST);
+        expect_eq(rt, form.reserve(GREATEST), whole);
+        expect_eq(rt, form.reserve(0), Answer::Refused(None));
+        expect_added(rt, refusal, of, &mut looks, form, Way::Insert, 0);
+        let beside = Answer::Reserved(GREATEST, 64, GREATEST);
+        expect_eq(rt, form.reserve(GREATEST), beside);
+        expect_keys(rt, form, Way::Insert, 0, 1);
+        expect_added(rt, refusal, of, &mut looks, form, Way::Insert, 1);
+        expect_eq(rt, form.sizes().capacity, 64);
+    }
+}
+
+// Both, the second on a container without an array.
+fn expect_reservations<R: AllocGlobal + Abort + Print + Wait>(rt: &R, of: Of) {
+    let mut refusal = Refusal::new();
+    with(rt, &mut refusal, of, 64, &Reservation);
+    with(rt, &mut refusal, of, 0, &Greatest);
+}
+
+#[test]
+fn map_reserves_without_memory(rt: HostRuntime) {
+    expect_reservations(&rt, Of::Map);
+}
+
+#[test]
+fn set_reserves_without_memory(rt: HostRuntime) {
+    expect_reservations(&rt, Of::Set);
+}
+
+#[test]
+fn index_reserves_without_memory(rt: HostRuntime) {
+    expect_reservations(&rt, Of::Index);
+}
+
+#[test]
+fn shared_map_reserves_without_memory(rt: HostRuntime) {
+    expect_reservations(&rt, Of::SharedMap);
+}
+
+#[test]
+fn shared_set_reserves_without_memory(rt: HostRuntime) {
+    expect_reservations(&rt, Of::SharedSet);
+}
+
+#[test]
+fn shared_index_reserves_without_memory(rt: HostRuntime) {
+    expect_reservations(&rt, Of::SharedIndex);
+}

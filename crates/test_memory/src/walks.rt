@@ -1,0 +1,97 @@
+// Walks whose list of taken pairs finds no room: they end before the closure is called on the next pair, and the next
+// walk takes the rest.
+use crate::expect::expect_eq;
+use crate::looks::{Look, fill, pair_of};
+use crate::makers::{Job, Of, with};
+use crate::meetings;
+use scc::Verdict;
+use std::io::Print;
+use std::process::Abort;
+use std::sync::Wait;
+use test_forms::answers::{Answer, Kind, Rule};
+use test_forms::form::{Form, Way};
+use test_forms::numbered::Seen;
+use test_kit::refusals::{Refusal, TRIES};
+
+const KEYS: u64 = 12;
+
+// Whether a pair was taken, with the 9 that the closure wrote.
+fn is_taken(kind: Kind, taken: &[Seen], key: u64) -> bool {
+    let pair = pair_of(kind, key, 9);
+    taken.iter().any(|other| *other == pair)
+}
+
+// Each key is in the list, or in the container with the value that it had.
+fn expect_parted<F: Form<u64, u64>, R: Abort>(rt: &R, form: &F, taken: &[Seen]) {
+    let kind = form.kind();
+    let all = form.sizes().len.saturating_add(taken.len());
+    expect_eq(rt, all as u64, KEYS);
+    for key in 0..KEYS {
+        let left = if is_taken(kind, taken, key) {
+            None
+        } else {
+            Some(pair_of(kind, key, !key))
+        };
+        expect_eq(rt, form.read(&key), Answer::Found(left));
+    }
+}
+
+#[derive(Drop)]
+struct Taking;
+
+impl Job for Taking {
+    fn run<F: Form<u64, u64>, R: AllocGlobal + Abort + Print + Wait>(
+        &self,
+        rt: &R,
+        refusal: &mut Refusal,
+        of: Of,
+        form: &mut F,
+    ) {
+        let mut look = Look::new(rt, refusal);
+        fill(rt, form, Way::Insert, KEYS);
+        for _ in 0..TRIES {
+            let answer = form.take(rt.alloc(), Rule::Always(Verdict::Take), &mut look.pairs);
+            expect_parted(rt, form, look.pairs.as_slice());
+            if answer == Answer::Yes(true) {
+                break;
+            }
+            expect_eq(rt, answer, Answer::Refused(None));
+            meetings::walk(rt, refusal, of);
+        }
+        expect_eq(rt, look.pairs.len() as u64, KEYS);
+    }
+}
+
+fn expect_walk<R: AllocGlobal + Abort + Print + Wait>(rt: &R, of: Of) {
+    with(rt, &mut Refusal::new(), of, 64, &Taking);
+}
+
+#[test]
+fn map_walk_stops_without_room(rt: HostRuntime) {
+    expect_walk(&rt, Of::Map);
+}
+
+#[test]
+fn set_walk_stops_without_room(rt: HostRuntime) {
+    expect_walk(&rt, Of::Set);
+}
+
+#[test]
+fn cache_walk_stops_without_room(rt: HostRuntime) {
+    expect_walk(&rt, Of::Cache);
+}
+
+#[test]
+fn shared_map_walk_stops_without_room(rt: HostRuntime) {
+    expect_walk(&rt, Of::SharedMap);
+}
+
+#[test]
+fn shared_set_walk_stops_without_room(rt: HostRuntime) {
+    expect_walk(&rt, Of::SharedSet);
+}
+
+#[test]
+fn shared_cache_walk_stops_without_room(rt: HostRuntime) {
+    expect_walk(&rt, Of::SharedCache);
+}

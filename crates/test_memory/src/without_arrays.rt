@@ -1,0 +1,136 @@
+// A first array that no memory has, since so many slots are reserved: each way to add a pair is refused in each run, and
+// hands the pair back. Once the reservation is given back, the next insertion is right.
+use crate::expect::{expect, expect_eq};
+use crate::looks::{expect_keys, pair_of, put, value_of};
+use crate::reservations::GREATEST;
+use scc::{HashIndex, HashMap, HashSet, InsertError, KeyError, hash_index, hash_map, hash_set};
+use std::io::Print;
+use std::process::Abort;
+use test_forms::answers::Answer;
+use test_forms::form::{Form, WAYS, Way};
+use test_forms::reserving::Reserving;
+use test_kit::refusals::{Refusal, TRIES};
+use test_kit::zero::Zero;
+
+// Tries each way on a container for one owner.
+fn expect_no_array<C: Form<u64, u64> + Reserving, R: Abort>(rt: &R, owned: &mut C) {
+    let token = owned
+        .reserve_slots(GREATEST)
+        .expect(rt, "so many can be reserved");
+    let kind = owned.kind();
+    for way in WAYS {
+        if way.is_of(kind) {
+            let pair = pair_of(kind, 0, value_of(way, 0));
+            expect_eq(rt, owned.add(way, 0, !0), Answer::Refused(Some(pair)));
+            expect_keys(rt, owned, way, 0, 0);
+        }
+    }
+    expect_eq(rt, owned.sizes().capacity, 0);
+    expect(rt, owned.release_slots(token).is_ok());
+    put(owned, 0, !0);
+    expect_keys(rt, owned, Way::Insert, 0, 1);
+    expect_eq(rt, owned.sizes().capacity, 64);
+}
+
+#[test]
+fn map_without_an_array_that_no_memory_has(rt: HostRuntime) {
+    let mut map: hash_map::Owned<u64, u64, Zero> = hash_map::Owned::with_hasher(rt.alloc(), Zero);
+    expect_no_array(&rt, &mut map);
+}
+
+#[test]
+fn set_without_an_array_that_no_memory_has(rt: HostRuntime) {
+    let mut set: hash_set::Owned<u64, Zero> = hash_set::Owned::with_hasher(rt.alloc(), Zero);
+    expect_no_array(&rt, &mut set);
+}
+
+#[test]
+fn index_without_an_array_that_no_memory_has(rt: HostRuntime) {
+    let mut index: hash_index::Owned<u64, u64, Zero> = hash_index::Owned::with_hasher(
+        rt.alloc(),
+        Zero,
+    );
+    expect_no_array(&rt, &mut index);
+}
+
+#[test]
+fn shared_map_without_an_array_that_no_memory_has(rt: HostRuntime) {
+    let mut refusal = Refusal::new();
+    let made = refusal.outlast(
+        &rt,
+        "a shared map without an array",
+        || HashMap::with_hasher(rt.alloc(), Zero),
+        || true,
+    );
+    let map: HashMap<u64, u64, Zero> = made.expect(&rt, "it is refused each time");
+    let token = map.reserve(&rt, GREATEST);
+    expect(&rt, token.is_some());
+    let inserted = map.insert_sync(&rt, 0, 5);
+    expect(&rt, matches!(inserted, Err(InsertError::Memory((0, 5)))));
+    let upserted = map.upsert_sync(&rt, 0, 5);
+    expect(&rt, matches!(upserted, Err(InsertError::Memory((0, 5)))));
+    expect_eq(&rt, (map.len(&rt), map.capacity(&rt)), (0, 0));
+    drop(token);
+    for _ in 0..TRIES {
+        if map.upsert_sync(&rt, 0, 5).is_ok() {
+            break;
+        }
+    }
+    expect_eq(&rt, map.read_sync(&rt, &0, |_, value| *value), Some(5));
+    expect_eq(&rt, map.capacity(&rt), 64);
+}
+
+#[test]
+fn shared_set_without_an_array_that_no_memory_has(rt: HostRuntime) {
+    let mut refusal = Refusal::new();
+    let made = refusal.outlast(
+        &rt,
+        "a shared set without an array",
+        || HashSet::with_hasher(rt.alloc(), Zero),
+        || true,
+    );
+    let set: HashSet<u64, Zero> = made.expect(&rt, "it is refused each time");
+    let token = set.reserve(&rt, GREATEST);
+    expect(&rt, token.is_some());
+    let inserted = set.insert_sync(&rt, 7);
+    expect(&rt, matches!(inserted, Err(KeyError::Memory(7))));
+    let replaced = set.replace_sync(&rt, 7);
+    expect(&rt, matches!(replaced, Err(KeyError::Memory(7))));
+    expect_eq(&rt, (set.len(&rt), set.capacity(&rt)), (0, 0));
+    drop(token);
+    for _ in 0..TRIES {
+        if set.replace_sync(&rt, 7).is_ok() {
+            break;
+        }
+    }
+    expect_eq(
+        &rt,
+        (set.contains_sync(&rt, &7), set.capacity(&rt)),
+        (true, 64),
+    );
+}
+
+#[test]
+fn shared_index_without_an_array_that_no_memory_has(rt: HostRuntime) {
+    let mut refusal = Refusal::new();
+    let made = refusal.outlast(
+        &rt,
+        "a shared index without an array",
+        || HashIndex::with_hasher(rt.alloc(), Zero),
+        || true,
+    );
+    let index: HashIndex<u64, u64, Zero> = made.expect(&rt, "it is refused each time");
+    let token = index.reserve(&rt, GREATEST);
+    expect(&rt, token.is_some());
+    let inserted = index.insert_sync(&rt, 0, 5);
+    expect(&rt, matches!(inserted, Err(InsertError::Memory((0, 5)))));
+    expect_eq(&rt, (index.len(&rt), index.capacity(&rt)), (0, 0));
+    drop(token);
+    for _ in 0..TRIES {
+        if index.insert_sync(&rt, 0, 5).is_ok() {
+            break;
+        }
+    }
+    expect_eq(&rt, index.peek_with(&rt, &0, |_, value| *value), Some(5));
+    expect_eq(&rt, index.capacity(&rt), 64);
+}
