@@ -2,7 +2,8 @@
 use crate::expect::expect;
 use crate::played::{expect_bad_line, expect_run};
 use scc_play::play::FINISHED;
-use std::fmt::{Result, Write};
+use std::alloc::AllocError;
+use std::fmt::Write;
 use std::process::Abort;
 use std::sync::Wait;
 use std::thread::Threads;
@@ -128,8 +129,8 @@ fn run_line_ends(rt: HostRuntime) {
 }
 
 // Writes 100,000 insertions, whose keys come again after each 1000.
-fn write_calls(text: &mut String) -> Result {
-    text.write_str("map 1 1\n")?;
+fn write_calls(text: &mut String) -> Result<(), AllocError> {
+    text.push_str("map 1 1\n")?;
     for i in 0..100_000u64 {
         write_line(text, "0 insert ", i % 1000, i)?;
     }
@@ -137,11 +138,11 @@ fn write_calls(text: &mut String) -> Result {
 }
 
 // Writes their replies: the first of a key goes in, and each later one comes back.
-fn write_replies(text: &mut String) -> Result {
-    text.write_str("worker 0\n")?;
+fn write_replies(text: &mut String) -> Result<(), AllocError> {
+    text.push_str("worker 0\n")?;
     for i in 0..100_000u64 {
         if i < 1000 {
-            text.write_str("ok\n")?;
+            text.push_str("ok\n")?;
         } else {
             write_line(text, "exists ", i % 1000, i)?;
         }
@@ -150,16 +151,16 @@ fn write_replies(text: &mut String) -> Result {
 }
 
 // Writes the contents after them.
-fn write_contents(text: &mut String) -> Result {
-    text.write_str("contents 1000\n")?;
+fn write_contents(text: &mut String) -> Result<(), AllocError> {
+    text.push_str("contents 1000\n")?;
     for key in 0..1000u64 {
         write_line(text, "", key, key)?;
     }
-    text.write_str("records 100000\n")
+    text.push_str("records 100000\n")
 }
 
 // Writes a line that ends with two numbers.
-fn write_line(text: &mut String, begin: &str, first: u64, second: u64) -> Result {
+fn write_line(text: &mut String, begin: &str, first: u64, second: u64) -> Result<(), AllocError> {
     writeln!(text, "{begin}{first} {second}")
 }
 

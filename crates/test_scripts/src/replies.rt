@@ -2,7 +2,8 @@
 use crate::expect::expect;
 use crate::played::{expect_bad_line, expect_run};
 use scc_play::play::FINISHED;
-use std::fmt::{Result, Write};
+use std::alloc::AllocError;
+use std::fmt::Write;
 use std::process::Abort;
 
 #[test]
@@ -98,7 +99,7 @@ fn run_each_kind_on_stripes(rt: HostRuntime) {
 }
 
 // Writes the insertion and the reading of a worker's keys, 8 keys with themselves as values.
-fn write_calls(script: &mut String, worker: u64) -> Result {
+fn write_calls(script: &mut String, worker: u64) -> Result<(), AllocError> {
     for j in 0..8u64 {
         let key = (j << 61) + worker % 16;
         writeln!(script, "{worker} insert {key} {key}\n{worker} read {key}")?;
@@ -107,8 +108,8 @@ fn write_calls(script: &mut String, worker: u64) -> Result {
 }
 
 // Writes the calls of all workers.
-fn write_script(script: &mut String) -> Result {
-    script.write_str("map 16 16\n")?;
+fn write_script(script: &mut String) -> Result<(), AllocError> {
+    script.push_str("map 16 16\n")?;
     for worker in 0..16u64 {
         write_calls(script, worker)?;
     }
@@ -116,7 +117,7 @@ fn write_script(script: &mut String) -> Result {
 }
 
 // Writes what a worker is told of its calls.
-fn write_replies(text: &mut String, worker: u64) -> Result {
+fn write_replies(text: &mut String, worker: u64) -> Result<(), AllocError> {
     writeln!(text, "worker {worker}")?;
     for j in 0..8u64 {
         let key = (j << 61) + worker % 16;
@@ -126,7 +127,7 @@ fn write_replies(text: &mut String, worker: u64) -> Result {
 }
 
 // Writes what all workers are told.
-fn write_all_replies(text: &mut String) -> Result {
+fn write_all_replies(text: &mut String) -> Result<(), AllocError> {
     for worker in 0..16u64 {
         write_replies(text, worker)?;
     }
@@ -134,15 +135,15 @@ fn write_all_replies(text: &mut String) -> Result {
 }
 
 // Writes the keys of all workers in rising order.
-fn write_contents(text: &mut String) -> Result {
-    text.write_str("contents 128\n")?;
+fn write_contents(text: &mut String) -> Result<(), AllocError> {
+    text.push_str("contents 128\n")?;
     for j in 0..8u64 {
         for worker in 0..16u64 {
             let key = (j << 61) + worker;
             writeln!(text, "{key} {key}")?;
         }
     }
-    text.write_str("records 256\n")
+    text.push_str("records 256\n")
 }
 
 #[test]
