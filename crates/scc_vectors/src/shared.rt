@@ -192,8 +192,8 @@ fn shared_index_peeked_version_stays(rt: HostRuntime) {
     }
 }
 
-// A container that takes reservations, each for as long as it is held.
-trait Reserving {
+// A container that is filled, and refuses reservations.
+trait Filling {
     // Adds a key that is missing.
     fn add<R: Wait>(&self, rt: &R, key: u64) -> bool;
 
@@ -202,7 +202,10 @@ trait Reserving {
 
     // Whether so many slots are refused.
     fn refuses<R: Wait>(&self, rt: &R, slots: usize) -> bool;
+}
 
+// One that takes reservations, each for as long as it is held.
+trait Reserving: Filling {
     // The sizes with so many slots reserved, and then with the keys from `first` on and before `end` as well. None where
     // the reservation has another number of slots, the greatest number of slots or none isn't refused, or a key doesn't go
     // in.
@@ -213,7 +216,7 @@ trait Reserving {
 }
 
 // Whether the greatest number of slots and none are refused, and the keys go in.
-fn refuses_and_adds<C: Reserving, R: Wait>(rt: &R, form: &C, first: u64, end: u64) -> bool {
+fn refuses_and_adds<C: Filling, R: Wait>(rt: &R, form: &C, first: u64, end: u64) -> bool {
     for key in first..end {
         if !form.add(rt, key) {
             return false;
@@ -222,7 +225,7 @@ fn refuses_and_adds<C: Reserving, R: Wait>(rt: &R, form: &C, first: u64, end: u6
     form.refuses(rt, usize::MAX) && form.refuses(rt, 0)
 }
 
-impl Reserving for HashMap<u64, u64> {
+impl Filling for HashMap<u64, u64> {
     fn add<R: Wait>(&self, rt: &R, key: u64) -> bool {
         self.insert_sync(rt, key, key).is_ok()
     }
@@ -235,7 +238,9 @@ impl Reserving for HashMap<u64, u64> {
     fn refuses<R: Wait>(&self, rt: &R, slots: usize) -> bool {
         self.reserve(rt, slots).is_none()
     }
+}
 
+impl Reserving for HashMap<u64, u64> {
     fn hold<R: Wait>(&self, rt: &R, slots: usize, first: u64, end: u64) -> Option<[[usize; 3]; 2]> {
         let Some(held) = self.reserve(rt, slots) else {
             return None;
@@ -263,7 +268,7 @@ impl Reserving for HashMap<u64, u64> {
     }
 }
 
-impl Reserving for HashSet<u64> {
+impl Filling for HashSet<u64> {
     fn add<R: Wait>(&self, rt: &R, key: u64) -> bool {
         self.insert_sync(rt, key).is_ok()
     }
@@ -276,7 +281,9 @@ impl Reserving for HashSet<u64> {
     fn refuses<R: Wait>(&self, rt: &R, slots: usize) -> bool {
         self.reserve(rt, slots).is_none()
     }
+}
 
+impl Reserving for HashSet<u64> {
     fn hold<R: Wait>(&self, rt: &R, slots: usize, first: u64, end: u64) -> Option<[[usize; 3]; 2]> {
         let Some(held) = self.reserve(rt, slots) else {
             return None;
@@ -304,7 +311,7 @@ impl Reserving for HashSet<u64> {
     }
 }
 
-impl Reserving for HashIndex<u64, u64> {
+impl Filling for HashIndex<u64, u64> {
     fn add<R: Wait>(&self, rt: &R, key: u64) -> bool {
         self.insert_sync(rt, key, key).is_ok()
     }
@@ -317,7 +324,9 @@ impl Reserving for HashIndex<u64, u64> {
     fn refuses<R: Wait>(&self, rt: &R, slots: usize) -> bool {
         self.reserve(rt, slots).is_none()
     }
+}
 
+impl Reserving for HashIndex<u64, u64> {
     fn hold<R: Wait>(&self, rt: &R, slots: usize, first: u64, end: u64) -> Option<[[usize; 3]; 2]> {
         let Some(held) = self.reserve(rt, slots) else {
             return None;
