@@ -127,29 +127,24 @@ fn expect_receipt<L: Ledger, R: Abort>(rt: &R, pass: &Pass<Names, L>, number: u6
     expect(rt, is_last);
 }
 
-// Finishes the run, until that succeeds.
-fn expect_three_records<L: Ledger, M: Site<Shared<Zero>>, R: Abort + Print>(
+// The finished run. None where it is refused each time.
+fn finished<L: Ledger, M: Site<Shared<Zero>>, R: Print>(
     rt: &R,
     refusal: &mut Refusal,
     closed: Closed<Names, L, M>,
     passes: Vec<Pass<Names, L>>,
-) {
-    let mut closed = closed;
-    let mut passes = passes;
+) -> Option<Finished<Names>> {
+    let mut held = (closed, passes);
     for _ in 0..TRIES {
-        match closed.finish(passes) {
-            Ok(finished) => {
-                expect_told(rt, &finished);
-                return;
-            }
+        match held.0.finish(held.1) {
+            Ok(run) => return Some(run),
             Err(back) => {
                 refusal.meet(rt, "a finish of texts");
-                closed = back.recorded;
-                passes = back.passes;
+                held = (back.recorded, back.passes);
             }
         }
     }
-    expect(rt, false);
+    None
 }
 
 // Whether the steps are call records with the stamps from 1 on, each with its answer, beside resizes; and how many calls
@@ -191,7 +186,10 @@ fn call_and_finish<L: Ledger, M: Site<Shared<Zero>>, R: AllocGlobal + Abort + Pr
             expect_answer(rt, refusal, &recorded, pass, number);
         }
     }
-    expect_three_records(rt, refusal, recorded.close(), passes);
+    match finished(rt, refusal, recorded.close(), passes) {
+        Some(run) => expect_told(rt, &run),
+        None => expect(rt, false),
+    }
 }
 
 // All on one stripe. False where the container was refused.
