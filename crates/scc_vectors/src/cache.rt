@@ -1,33 +1,56 @@
 // The cache for one owner. Under `Zero` all keys share a bucket; under `Same` the highest bits of a key name its bucket.
 use crate::expect::{expect, expect_eq};
+use scc::Verdict;
 use scc::hash_cache::Owned;
 use scc::hash_cache::owned::ReplaceResult;
-use scc::{MakeError, Verdict};
 use scc_script::same::Same;
 use std::alloc::Global;
-use std::hash::{BuildHasher, Hash};
+use std::hash::BuildHasher;
 use std::process::Abort;
-use std::test::Fail;
 use test_kit::maybe_equal::MaybeEqual;
 use test_kit::zero::Zero;
 
 const HALF: u64 = 1 << 63;
 
-// An empty cache without an array, all of whose keys share a bucket.
-fn empty<K: Eq + Hash>(alloc: Global, maximum: usize) -> Result<Owned<K, u64, Zero>, MakeError> {
-    Owned::with_capacity_and_hasher(alloc, 0, maximum, Zero)
+type Numbers<H> = Owned<u64, u64, H>;
+
+// A call on a cache, and what it has to answer. Each key is put with itself as value.
+#[derive(Clone, Copy)]
+enum Call {
+    // Puts the keys from the first on and before the second: no pair goes for one.
+    Fill(u64, u64),
+    // Removes them: each answers its pair.
+    Empty(u64, u64),
+    // Puts the first key, for which the second one goes.
+    Evict(u64, u64),
+    // The key has itself as value, by a call that makes it the most recent.
+    Get(u64),
+    // Sets the value of a key that is there, through its entry.
+    PutEntry(u64, u64),
+    // Replaces the key, which is there.
+    Replace(u64),
+    // Asks for the entry of the key.
+    Enter(u64),
+    // The key has that value, by a call that leaves the order.
+    Read(u64, u64),
+    // The key is there.
+    Contains(u64),
+    // The length and the capacity.
+    Sizes(usize, usize),
+    // How many buckets wait for their pairs.
+    Waiting(usize),
 }
 
-// Puts a key with itself as value. The key that went for it, if one did; None if the put was refused.
-fn put<H: BuildHasher>(cache: &mut Owned<u64, u64, H>, key: u64) -> Option<Option<u64>> {
+// The key that goes for a key that is put, if one does; None if the put was refused.
+fn put<H: BuildHasher>(cache: &mut Numbers<H>, key: u64) -> Option<Option<u64>> {
     match cache.put_sync(key, key) {
-        Ok(evicted) => Some(evicted.map(|pair| pair.0)),
+        Ok(Some(pair)) => Some(Some(pair.0)),
+        Ok(None) => Some(None),
         Err(_) => None,
     }
 }
 
-// Puts the keys from `first` on and before `end`. Whether no pair went for one.
-fn fill<H: BuildHasher>(cache: &mut Owned<u64, u64, H>, first: u64, end: u64) -> bool {
+fn fill<H: BuildHasher>(cache: &mut Numbers<H>, first: u64, end: u64) -> bool {
     for key in first..end {
         if put(cache, key) != Some(None) {
             return false;
@@ -36,8 +59,7 @@ fn fill<H: BuildHasher>(cache: &mut Owned<u64, u64, H>, first: u64, end: u64) ->
     true
 }
 
-// Removes the keys from `first` on and before `end`, if each is there.
-fn remove<H: BuildHasher>(cache: &mut Owned<u64, u64, H>, first: u64, end: u64) -> bool {
+fn empty<H: BuildHasher>(cache: &mut Numbers<H>, first: u64, end: u64) -> bool {
     for key in first..end {
         if cache.remove_sync(&key) != Some((key, key)) {
             return false;
@@ -46,101 +68,174 @@ fn remove<H: BuildHasher>(cache: &mut Owned<u64, u64, H>, first: u64, end: u64) 
     true
 }
 
-// The length and the capacity.
-fn sizes<H: BuildHasher>(cache: &Owned<u64, u64, H>) -> (usize, usize) {
-    (cache.len(), cache.capacity())
+fn get<H: BuildHasher>(cache: &mut Numbers<H>, key: u64) -> Option<u64> {
+    match cache.get_sync(&key) {
+        Some(entry) => Some(*entry.get()),
+        None => None,
+    }
 }
 
-// The value of the key, by a call that makes it the most recent.
-fn get<H: BuildHasher>(cache: &mut Owned<u64, u64, H>, key: u64) -> Option<u64> {
-    let entry = cache.get_sync(&key)?;
-    Some(*entry.get())
-}
-
-#[test]
-fn cache_get_refreshes(rt: HostRuntime) -> Result<(), Fail> {
-    let mut cache = empty(rt.alloc(), 64)?;
-    expect(&rt, fill(&mut cache, 0, 32));
-    expect_eq(&rt, get(&mut cache, 0), Some(0));
-    expect_eq(&rt, put(&mut cache, 32), Some(Some(1)));
-    expect(&rt, cache.contains_sync(&0));
-    Ok(())
-}
-
-// Whether the key was there and has that value now, set through its entry.
-fn put_through_entry(cache: &mut Owned<u64, u64, Zero>, key: u64, value: u64) -> bool {
+fn puts_entry<H: BuildHasher>(cache: &mut Numbers<H>, key: u64, value: u64) -> bool {
     match cache.entry_sync(key).put_entry(value) {
         Ok((evicted, entry)) => evicted.is_none() && *entry.get() == value,
         Err(_) => false,
     }
 }
 
-#[test]
-fn cache_put_entry_refreshes(rt: HostRuntime) -> Result<(), Fail> {
-    let mut cache = empty(rt.alloc(), 64)?;
-    expect(&rt, fill(&mut cache, 0, 32));
-    expect(&rt, put_through_entry(&mut cache, 0, 7));
-    expect_eq(&rt, put(&mut cache, 32), Some(Some(1)));
-    expect_eq(&rt, cache.read_sync(&0, |_, value| *value), Some(7));
-    Ok(())
-}
-
-// The calls that may make their pair the most recent.
-#[derive(Clone, Copy)]
-enum Visit {
-    Replace,
-    Entry,
-    Read,
-    Contains,
-}
-
-// Makes the call on the key, and lets go of the entry. Whether the key was there.
-fn finds(cache: &mut Owned<u64, u64, Zero>, how: Visit, key: u64) -> bool {
-    match how {
-        Visit::Replace => match cache.replace_sync(key) {
-            ReplaceResult::Replaced(_, old) => old == key,
-            ReplaceResult::NotReplaced(_) => false,
-        },
-        Visit::Entry => *cache.entry_sync(key).key() == key,
-        Visit::Read => cache.read_sync(&key, |_, value| *value) == Some(key),
-        Visit::Contains => cache.contains_sync(&key),
+fn replaces<H: BuildHasher>(cache: &mut Numbers<H>, key: u64) -> bool {
+    match cache.replace_sync(key) {
+        ReplaceResult::Replaced(_, old) => old == key,
+        ReplaceResult::NotReplaced(_) => false,
     }
 }
 
-// The key that goes for key 32, after the call on key 0 of the keys 0 to 31.
-fn evicted_after(cache: &mut Owned<u64, u64, Zero>, how: Visit) -> Option<u64> {
-    if fill(cache, 0, 32) && finds(cache, how, 0) {
-        put(cache, 32)?
-    } else {
-        None
+fn read<H: BuildHasher>(cache: &Numbers<H>, key: u64) -> Option<u64> {
+    cache.read_sync(&key, |_, value| *value)
+}
+
+// Whether a call answers what it has to.
+fn holds<H: BuildHasher>(cache: &mut Numbers<H>, call: Call) -> bool {
+    match call {
+        Call::Fill(first, end) => fill(cache, first, end),
+        Call::Empty(first, end) => empty(cache, first, end),
+        Call::Evict(key, gone) => put(cache, key) == Some(Some(gone)),
+        Call::Get(key) => get(cache, key) == Some(key),
+        Call::PutEntry(key, value) => puts_entry(cache, key, value),
+        Call::Replace(key) => replaces(cache, key),
+        Call::Enter(key) => *cache.entry_sync(key).key() == key,
+        Call::Read(key, value) => read(cache, key) == Some(value),
+        Call::Contains(key) => cache.contains_sync(&key),
+        Call::Sizes(len, capacity) => (cache.len(), cache.capacity()) == (len, capacity),
+        Call::Waiting(pending) => cache.pending() == pending,
+    }
+}
+
+// The number of the first call that answers something else.
+fn first_other<H: BuildHasher>(cache: &mut Numbers<H>, calls: &[Call]) -> Option<usize> {
+    for (number, call) in calls.iter().enumerate() {
+        if !holds(cache, *call) {
+            return Some(number);
+        }
+    }
+    None
+}
+
+// Makes the calls in turn on a cache without an array, of at most so many slots.
+fn expect_calls<H: BuildHasher + Drop, R: AllocGlobal + Abort>(
+    rt: &R,
+    hasher: H,
+    maximum: usize,
+    calls: &[Call],
+) {
+    match Owned::with_capacity_and_hasher(rt.alloc(), 0, maximum, hasher) {
+        Ok(mut cache) => expect_eq(rt, first_other(&mut cache, calls), None),
+        Err(_) => expect(rt, false),
     }
 }
 
 #[test]
-fn cache_which_calls_refresh(rt: HostRuntime) -> Result<(), Fail> {
-    let cases = [
-        (Visit::Replace, 1),
-        (Visit::Entry, 1),
-        (Visit::Read, 0),
-        (Visit::Contains, 0),
-    ];
-    for (how, evicted) in cases {
-        let mut cache = empty(rt.alloc(), 64)?;
-        expect_eq(&rt, evicted_after(&mut cache, how), Some(evicted));
-    }
-    Ok(())
+fn cache_get_refreshes(rt: HostRuntime) {
+    expect_calls(
+        &rt,
+        Zero,
+        64,
+        &[
+            Call::Fill(0, 32),
+            Call::Get(0),
+            Call::Evict(32, 1),
+            Call::Contains(0),
+        ],
+    );
 }
 
 #[test]
-fn cache_doubles_then_evicts(rt: HostRuntime) -> Result<(), Fail> {
-    let mut cache = empty(rt.alloc(), 128)?;
-    expect(&rt, fill(&mut cache, 0, 32));
-    expect_eq(&rt, sizes(&cache), (32, 64));
-    expect_eq(&rt, put(&mut cache, 32), Some(Some(0)));
-    expect_eq(&rt, sizes(&cache), (32, 128));
-    expect_eq(&rt, put(&mut cache, 33), Some(Some(1)));
-    expect_eq(&rt, sizes(&cache), (32, 128));
-    Ok(())
+fn cache_put_entry_refreshes(rt: HostRuntime) {
+    expect_calls(
+        &rt,
+        Zero,
+        64,
+        &[
+            Call::Fill(0, 32),
+            Call::PutEntry(0, 7),
+            Call::Evict(32, 1),
+            Call::Read(0, 7),
+        ],
+    );
+}
+
+// A call on key 0 of the keys 0 to 31, and the key that then goes for key 32.
+#[test]
+fn cache_which_calls_refresh(rt: HostRuntime) {
+    for (call, evicted) in [
+        (Call::Replace(0), 1),
+        (Call::Enter(0), 1),
+        (Call::Read(0, 0), 0),
+        (Call::Contains(0), 0),
+    ] {
+        expect_calls(
+            &rt,
+            Zero,
+            64,
+            &[Call::Fill(0, 32), call, Call::Evict(32, evicted)],
+        );
+    }
+}
+
+#[test]
+fn cache_doubles_then_evicts(rt: HostRuntime) {
+    expect_calls(
+        &rt,
+        Zero,
+        128,
+        &[
+            Call::Fill(0, 32),
+            Call::Sizes(32, 64),
+            Call::Evict(32, 0),
+            Call::Sizes(32, 128),
+            Call::Evict(33, 1),
+            Call::Sizes(32, 128),
+        ],
+    );
+}
+
+#[test]
+fn cache_shrinks_and_evicts_again(rt: HostRuntime) {
+    expect_calls(
+        &rt,
+        Zero,
+        128,
+        &[
+            Call::Fill(0, 32),
+            Call::Evict(32, 0),
+            Call::Sizes(32, 128),
+            Call::Empty(1, 16),
+            Call::Sizes(17, 128),
+            Call::Empty(16, 17),
+            Call::Sizes(16, 64),
+            Call::Fill(33, 49),
+            Call::Evict(49, 17),
+            Call::Sizes(32, 128),
+        ],
+    );
+}
+
+#[test]
+fn cache_get_relocates_its_target(rt: HostRuntime) {
+    expect_calls(
+        &rt,
+        Same,
+        128,
+        &[
+            Call::Fill(0, 32),
+            Call::Fill(HALF, HALF + 1),
+            Call::Evict(32, 0),
+            Call::Waiting(2),
+            Call::Get(HALF),
+            Call::Waiting(1),
+            Call::Evict(33, 1),
+            Call::Waiting(0),
+        ],
+    );
 }
 
 // The capacity and both ends of its range.
@@ -149,92 +244,67 @@ fn range_of(cache: &Owned<u64, u64>) -> (usize, usize, usize) {
     (cache.capacity(), *range.start(), *range.end())
 }
 
-#[test]
-fn cache_capacities_and_ranges(rt: HostRuntime) -> Result<(), Fail> {
-    let cases = [
-        (1000, 2000, (1024, 1024, 2048)),
-        (0, 0, (0, 0, 64)),
-        (100, 2000, (128, 128, 2048)),
-    ];
-    for (minimum, maximum, wanted) in cases {
-        let cache = Owned::with_capacity(rt.alloc(), minimum, maximum)?;
-        expect_eq(&rt, range_of(&cache), wanted);
+// Those of a cache that is made with at least and at most so many slots.
+fn range_between(alloc: Global, minimum: usize, maximum: usize) -> Option<(usize, usize, usize)> {
+    match Owned::with_capacity(alloc, minimum, maximum) {
+        Ok(cache) => Some(range_of(&cache)),
+        Err(_) => None,
     }
-    let cache = Owned::new(rt.alloc());
-    expect_eq(&rt, range_of(&cache), (0, 0, 256));
-    Ok(())
 }
 
 #[test]
-fn cache_shrinks_and_evicts_again(rt: HostRuntime) -> Result<(), Fail> {
-    let mut cache = empty(rt.alloc(), 128)?;
-    expect(&rt, fill(&mut cache, 0, 32));
-    expect_eq(&rt, put(&mut cache, 32), Some(Some(0)));
-    expect_eq(&rt, sizes(&cache), (32, 128));
-    expect(&rt, remove(&mut cache, 1, 16));
-    expect_eq(&rt, sizes(&cache), (17, 128));
-    expect(&rt, remove(&mut cache, 16, 17));
-    expect_eq(&rt, sizes(&cache), (16, 64));
-    expect(&rt, fill(&mut cache, 33, 49));
-    expect_eq(&rt, put(&mut cache, 49), Some(Some(17)));
-    expect_eq(&rt, sizes(&cache), (32, 128));
-    Ok(())
+fn cache_capacities_and_ranges(rt: HostRuntime) {
+    let made = [
+        range_between(rt.alloc(), 1000, 2000),
+        range_between(rt.alloc(), 0, 0),
+        range_between(rt.alloc(), 100, 2000),
+        Some(range_of(&Owned::new(rt.alloc()))),
+    ];
+    let wanted = [
+        Some((1024, 1024, 2048)),
+        Some((0, 0, 64)),
+        Some((128, 128, 2048)),
+        Some((0, 0, 256)),
+    ];
+    expect_eq(&rt, made, wanted);
 }
 
 #[test]
-fn cache_try_from_iter_first_wins(rt: HostRuntime) -> Result<(), Fail> {
-    let cache: Owned<u64, u64> = Owned::try_from_iter(rt.alloc(), [(1, 10), (1, 20)])?;
-    expect_eq(&rt, cache.read_sync(&1, |_, value| *value), Some(10));
-    expect_eq(&rt, range_of(&cache), (64, 64, 64));
-    Ok(())
+fn cache_try_from_iter_first_wins(rt: HostRuntime) {
+    match Owned::<u64, u64>::try_from_iter(rt.alloc(), [(1, 10), (1, 20)]) {
+        Ok(cache) => expect_eq(
+            &rt,
+            (read(&cache, 1), range_of(&cache)),
+            (Some(10), (64, 64, 64)),
+        ),
+        Err(_) => expect(&rt, false),
+    }
 }
 
-#[test]
-fn cache_get_relocates_its_target(rt: HostRuntime) -> Result<(), Fail> {
-    let mut cache = Owned::with_capacity_and_hasher(rt.alloc(), 0, 128, Same)?;
-    expect(&rt, fill(&mut cache, 0, 32));
-    expect_eq(&rt, put(&mut cache, HALF), Some(None));
-    expect_eq(
-        &rt,
-        (put(&mut cache, 32), cache.pending()),
-        (Some(Some(0)), 2),
-    );
-    expect_eq(
-        &rt,
-        (get(&mut cache, HALF), cache.pending()),
-        (Some(HALF), 1),
-    );
-    expect_eq(
-        &rt,
-        (put(&mut cache, 33), cache.pending()),
-        (Some(Some(1)), 0),
-    );
-    Ok(())
+// Puts 1, 2 and 3, each with the value 0.
+fn put_three(cache: &mut Owned<u64, u64>) -> bool {
+    for key in 1..4 {
+        if cache.put_sync(key, 0).is_err() {
+            return false;
+        }
+    }
+    true
 }
 
-// Puts 1, 2 and 3, each with the value 0, and walks with a closure that writes 9 and stops at its first call. Whether
-// the walk was stopped, how many pairs were taken and how many of those have 9, how many of those that are left have 9
-// and how many have 0.
-fn stop_at_first(
+// A walk with a closure that writes 9 and stops at its first call: whether it stopped.
+fn write_and_stop(
     cache: &mut Owned<u64, u64>,
     taken: &mut Vec<(u64, u64)>,
     verdict: Verdict,
-) -> (bool, usize, usize, usize, usize) {
-    for key in 1..4 {
-        if cache.put_sync(key, 0).is_err() {
-            return (false, 0, 0, 0, 0);
-        }
-    }
-    let stopped = cache.iter_mut_sync(
+) -> bool {
+    let ended = cache.iter_mut_sync(
         |_, value| {
             *value = 9;
             verdict
         },
         taken,
-    ) == Ok(false);
-    let nines = taken.iter().filter(|pair| pair.1 == 9).count();
-    let (left_nines, left_zeros) = nines_and_zeros(cache);
-    (stopped, taken.len(), nines, left_nines, left_zeros)
+    );
+    ended == Ok(false)
 }
 
 // How many pairs have the value 9, and how many 0.
@@ -251,30 +321,54 @@ fn nines_and_zeros(cache: &Owned<u64, u64>) -> (usize, usize) {
     (nines, zeros)
 }
 
+// How many of the pairs have the value 9.
+fn nines_of(pairs: &[(u64, u64)]) -> usize {
+    let mut nines = 0usize;
+    for pair in pairs {
+        if pair.1 == 9 {
+            nines = nines.wrapping_add(1);
+        }
+    }
+    nines
+}
+
+// Puts 1, 2 and 3, and walks so. The walk stops; that are how many pairs were taken, how many of those have 9, and of
+// those that are left how many have 9 and how many 0.
+fn expect_stop<R: AllocGlobal + Abort>(rt: &R, verdict: Verdict, wanted: [usize; 4]) {
+    let mut cache: Owned<u64, u64> = Owned::new(rt.alloc());
+    let mut taken = Vec::new(rt.alloc());
+    let stopped = put_three(&mut cache) && write_and_stop(&mut cache, &mut taken, verdict);
+    let (left_nines, left_zeros) = nines_and_zeros(&cache);
+    let seen = [
+        taken.len(),
+        nines_of(taken.as_slice()),
+        left_nines,
+        left_zeros,
+    ];
+    expect_eq(rt, (stopped, seen), (true, wanted));
+}
+
 #[test]
 fn cache_iter_mut_take_stop_at_first(rt: HostRuntime) {
-    let mut cache = Owned::new(rt.alloc());
-    let mut taken = Vec::new(rt.alloc());
-    let seen = stop_at_first(&mut cache, &mut taken, Verdict::TakeStop);
-    expect_eq(&rt, seen, (true, 1, 1, 0, 2));
+    expect_stop(&rt, Verdict::TakeStop, [1, 1, 0, 2]);
 }
 
 #[test]
 fn cache_iter_mut_keep_stop_at_first(rt: HostRuntime) {
-    let mut cache = Owned::new(rt.alloc());
-    let mut taken = Vec::new(rt.alloc());
-    let seen = stop_at_first(&mut cache, &mut taken, Verdict::KeepStop);
-    expect_eq(&rt, seen, (true, 0, 0, 1, 2));
+    expect_stop(&rt, Verdict::KeepStop, [0, 0, 1, 2]);
 }
 
 type Marked = Owned<MaybeEqual, u64, Zero>;
 
-// Whether the key (i, 100 + i) went in with the value i.
-fn put_marked(cache: &mut Marked, i: u64) -> bool {
-    let key = MaybeEqual(i, i.saturating_add(100));
-    cache
-        .put_sync(key, i)
-        .is_ok_and(|evicted| evicted.is_none())
+// Whether the keys (i, 100 + i) went in, each with the value i, and no pair went for one.
+fn put_marked(cache: &mut Marked, end: u64) -> bool {
+    for i in 0..end {
+        match cache.put_sync(MaybeEqual(i, i.saturating_add(100)), i) {
+            Ok(None) => {}
+            _ => return false,
+        }
+    }
+    true
 }
 
 // Replaces a key. The mark of the old key, the mark of the new one and the value; None if there was none.
@@ -285,35 +379,70 @@ fn replace(cache: &mut Marked, number: u64, mark: u64) -> Option<(u64, u64, u64)
     }
 }
 
-#[test]
-fn cache_replace_under_one_hash_keeps_values(rt: HostRuntime) -> Result<(), Fail> {
-    let mut cache = empty(rt.alloc(), 64)?;
-    for i in 0..32u64 {
-        expect(&rt, put_marked(&mut cache, i));
+// Whether each of them is replaced by the key (i, 200 + i).
+fn replace_marked(cache: &mut Marked, end: u64) -> bool {
+    for i in 0..end {
+        let (old, new) = (i.saturating_add(100), i.saturating_add(200));
+        if replace(cache, i, new) != Some((old, new, i)) {
+            return false;
+        }
     }
-    for i in 0..32u64 {
-        let replaced = replace(&mut cache, i, 200 + i);
-        expect_eq(&rt, replaced, Some((100 + i, 200 + i, i)));
-    }
-    for i in 0..32u64 {
+    true
+}
+
+// Whether each is stored so, with its value.
+fn are_replaced(cache: &Marked, end: u64) -> bool {
+    for i in 0..end {
         let stored = cache.read_sync(&MaybeEqual(i, 0), |key, value| (key.1, *value));
-        expect_eq(&rt, stored, Some((200 + i, i)));
+        if stored != Some((i.saturating_add(200), i)) {
+            return false;
+        }
     }
-    expect_eq(&rt, cache.len(), 32);
-    Ok(())
+    true
 }
 
 #[test]
-fn cache_equality_ignores_recency(rt: HostRuntime) -> Result<(), Fail> {
-    let mut first = empty(rt.alloc(), 64)?;
-    let mut second = empty(rt.alloc(), 64)?;
-    for key in 1..3u64 {
-        expect_eq(&rt, put(&mut first, key), Some(None));
-        expect_eq(&rt, put(&mut second, 3 - key), Some(None));
+fn cache_replace_under_one_hash_keeps_values(rt: HostRuntime) {
+    match Owned::with_capacity_and_hasher(rt.alloc(), 0, 64, Zero) {
+        Ok(mut cache) => {
+            let held = [
+                put_marked(&mut cache, 32),
+                replace_marked(&mut cache, 32),
+                are_replaced(&cache, 32),
+            ];
+            expect_eq(&rt, (held, cache.len()), ([true; 3], 32));
+        }
+        Err(_) => expect(&rt, false),
     }
-    expect(&rt, first == second);
-    expect_eq(&rt, put(&mut first, 3), Some(None));
-    expect(&rt, !(first == second));
-    expect(&rt, !(second == first));
-    Ok(())
+}
+
+// Puts the keys 1 and 2 into both, in another order, and then 3 into the first. Whether each put took no other pair's
+// place, and whether each is equal to the other, before and after that.
+fn compare(first: &mut Numbers<Zero>, second: &mut Numbers<Zero>) -> [bool; 6] {
+    let filled = fill(first, 1, 3) && fill(second, 2, 3) && fill(second, 1, 2);
+    let before = [first == second, second == first];
+    let filled_again = fill(first, 3, 4);
+    [
+        filled,
+        before[0],
+        before[1],
+        filled_again,
+        first == second,
+        second == first,
+    ]
+}
+
+#[test]
+fn cache_equality_ignores_recency(rt: HostRuntime) {
+    match Owned::with_capacity_and_hasher(rt.alloc(), 0, 64, Zero) {
+        Ok(mut first) => match Owned::with_capacity_and_hasher(rt.alloc(), 0, 64, Zero) {
+            Ok(mut second) => expect_eq(
+                &rt,
+                compare(&mut first, &mut second),
+                [true, true, true, true, false, false],
+            ),
+            Err(_) => expect(&rt, false),
+        },
+        Err(_) => expect(&rt, false),
+    }
 }

@@ -4,7 +4,6 @@ use crate::reserving::{foreign_and_own_tokens, grows_and_gives_back, sizes_witho
 use scc::hash_index::Owned;
 use scc::hash_index::owned::Iter;
 use std::process::Abort;
-use std::test::Fail;
 
 const GREATEST: usize = 1 << 63;
 
@@ -14,17 +13,23 @@ fn value_of(index: &Owned<u64, u64>, key: u64) -> Option<u64> {
 }
 
 #[test]
-fn index_try_from_iter_first_wins(rt: HostRuntime) -> Result<(), Fail> {
-    let index: Owned<u64, u64> = Owned::try_from_iter(rt.alloc(), [(1, 10), (1, 20)])?;
-    expect_eq(&rt, value_of(&index, 1), Some(10));
-    expect_eq(&rt, (index.len(), index.capacity()), (1, 64));
-    Ok(())
+fn index_try_from_iter_first_wins(rt: HostRuntime) {
+    match Owned::<u64, u64>::try_from_iter(rt.alloc(), [(1, 10), (1, 20)]) {
+        Ok(index) => expect_eq(
+            &rt,
+            (value_of(&index, 1), index.len(), index.capacity()),
+            (Some(10), 1, 64),
+        ),
+        Err(_) => expect(&rt, false),
+    }
 }
 
 // The value of the next version, None once each came.
 fn next_value(versions: &mut Iter<u64, u64>) -> Option<u64> {
-    let version = versions.next()?;
-    Some(*version.value())
+    match versions.next() {
+        Some(version) => Some(*version.value()),
+        None => None,
+    }
 }
 
 // Whether the key was there and has that value now.
@@ -35,27 +40,48 @@ fn update(index: &mut Owned<u64, u64>, key: u64, value: u64) -> bool {
     }
 }
 
+// What a snapshot shows that is taken before the key's value is updated: its first three values, and whether the update
+// succeeds.
+fn update_beside_snapshot(
+    index: &mut Owned<u64, u64>,
+    key: u64,
+    value: u64,
+) -> ([Option<u64>; 3], bool) {
+    match index.iter() {
+        Ok(mut versions) => {
+            let is_updated = update(index, key, value);
+            let came = [
+                next_value(&mut versions),
+                next_value(&mut versions),
+                next_value(&mut versions),
+            ];
+            (came, is_updated)
+        }
+        Err(_) => ([None; 3], false),
+    }
+}
+
 #[test]
-fn index_snapshot_keeps_old_version(rt: HostRuntime) -> Result<(), Fail> {
+fn index_snapshot_keeps_old_version(rt: HostRuntime) {
     let mut index: Owned<u64, u64> = Owned::new(rt.alloc());
-    expect(&rt, index.entry_sync(37).or_insert(11).is_ok());
-    let mut versions = index.iter()?;
-    expect(&rt, update(&mut index, 37, 29));
-    let came = [
-        next_value(&mut versions),
-        next_value(&mut versions),
-        next_value(&mut versions),
-    ];
-    expect_eq(&rt, came, [Some(11), None, None]);
-    expect_eq(&rt, value_of(&index, 37), Some(29));
-    Ok(())
+    let is_inserted = index.entry_sync(37).or_insert(11).is_ok();
+    let came = update_beside_snapshot(&mut index, 37, 29);
+    expect_eq(
+        &rt,
+        (is_inserted, came, value_of(&index, 37)),
+        (true, ([Some(11), None, None], true), Some(29)),
+    );
 }
 
 // Takes out the first entry and the one that comes after it. Their keys, and whether none came after the second.
 fn take_both(index: &mut Owned<u64, u64>) -> Option<(u64, u64, bool)> {
-    let first = index.begin_sync()?;
+    let Some(first) = index.begin_sync() else {
+        return None;
+    };
     let one = *first.key();
-    let second = first.remove_and_sync()?;
+    let Some(second) = first.remove_and_sync() else {
+        return None;
+    };
     let other = *second.key();
     Some((one, other, second.remove_and_sync().is_none()))
 }
@@ -63,37 +89,33 @@ fn take_both(index: &mut Owned<u64, u64>) -> Option<(u64, u64, bool)> {
 #[test]
 fn index_remove_and_next(rt: HostRuntime) {
     let mut index: Owned<u64, u64> = Owned::new(rt.alloc());
-    expect(&rt, index.insert_sync(1, 0).is_ok());
-    expect(&rt, index.insert_sync(2, 0).is_ok());
+    let is_filled = index.insert_sync(1, 0).is_ok() && index.insert_sync(2, 0).is_ok();
     let taken = take_both(&mut index);
-    expect(
-        &rt,
-        taken == Some((1, 2, true)) || taken == Some((2, 1, true)),
-    );
-    expect_eq(&rt, index.len(), 0);
+    let are_taken = taken == Some((1, 2, true)) || taken == Some((2, 1, true));
+    expect_eq(&rt, (is_filled, are_taken, index.len()), (true, true, 0));
 }
 
 #[test]
-fn index_reserve_grows_and_gives_back(rt: HostRuntime) -> Result<(), Fail> {
-    let mut index: Owned<u64, u64> = Owned::with_capacity(rt.alloc(), 800)?;
-    expect_eq(&rt, index.capacity(), 1024);
-    expect_eq(
-        &rt,
-        grows_and_gives_back(&mut index),
-        (16_384, true, true, 1024),
-    );
-    Ok(())
+fn index_reserve_grows_and_gives_back(rt: HostRuntime) {
+    match Owned::<u64, u64>::with_capacity(rt.alloc(), 800) {
+        Ok(mut index) => expect_eq(
+            &rt,
+            grows_and_gives_back(&mut index),
+            (1024, 16_384, true, true, 1024),
+        ),
+        Err(_) => expect(&rt, false),
+    }
 }
 
 #[test]
 fn index_reserve_without_array(rt: HostRuntime) {
-    let mut index: Owned<u64, u64> = Owned::new(rt.alloc());
+    let sizes = sizes_without_array(&mut Owned::<u64, u64>::new(rt.alloc()));
     let wanted = [
         (0, 0, GREATEST),
         (0, 1000, GREATEST),
         (1024, 1000, GREATEST),
     ];
-    expect_eq(&rt, sizes_without_array(&mut index), Some(wanted));
+    expect_eq(&rt, sizes, Some(wanted));
 }
 
 #[test]

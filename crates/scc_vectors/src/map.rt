@@ -5,9 +5,9 @@ use scc::hash_map::Owned;
 use scc::hash_map::owned::ReplaceResult;
 use scc::{InsertError, Verdict};
 use scc_script::same::Same;
+use std::alloc::Global;
 use std::hash::BuildHasher;
 use std::process::Abort;
-use std::test::Fail;
 use test_kit::maybe_equal::MaybeEqual;
 use test_kit::zero::Zero;
 
@@ -15,212 +15,202 @@ const HALF: u64 = 1 << 63;
 
 const GREATEST: usize = 1 << 63;
 
-// The length and the capacity.
-fn sizes<H: BuildHasher>(map: &Owned<u64, u64, H>) -> (usize, usize) {
-    (map.len(), map.capacity())
+type Numbers<H> = Owned<u64, u64, H>;
+
+// A call on a map, and what it has to answer.
+#[derive(Clone, Copy)]
+enum Call {
+    // Inserts the keys from the first on and before the second, each with itself as value: each goes in.
+    Fill(u64, u64),
+    // Removes them: each answers its pair.
+    Empty(u64, u64),
+    // Inserts a pair, which goes in.
+    Insert(u64, u64),
+    // Inserts a pair of a key that is there, which comes back.
+    InsertAgain(u64, u64),
+    // Sets the value of a key that has the second number, to the third.
+    Upsert(u64, u64, u64),
+    // The same by a closure.
+    Update(u64, u64),
+    // Removes a key that has this value.
+    Remove(u64, u64),
+    // Removes all.
+    Clear,
+    // Sets each value to 2, by a walk that keeps each pair.
+    WriteTwos,
+    // A walk stops at that key.
+    StopsAt(u64),
+    // Whether the bucket of the key has room.
+    Room(u64, bool),
+    // The key has that value.
+    Read(u64, u64),
+    // Each key before that one has itself as value.
+    ReadBelow(u64),
+    // The length and the capacity.
+    Sizes(usize, usize),
+    // The capacity, and how many buckets wait for their pairs.
+    Waiting(usize, usize),
+    // Reserves so many slots, and gives them back. In between, that are the capacity and the waiting buckets.
+    Reserve(usize, usize, usize),
 }
 
-// The capacity, and how many buckets wait for their pairs.
-fn waiting<H: BuildHasher>(map: &Owned<u64, u64, H>) -> (usize, usize) {
-    (map.capacity(), map.pending())
-}
-
-// The value of a key.
-fn value_of<H: BuildHasher>(map: &Owned<u64, u64, H>, key: u64) -> Option<u64> {
-    map.read_sync(&key, |_, value| *value)
-}
-
-// Inserts the keys from `first` on and before `end`, each with itself as value. The length and the capacity after them,
-// None if one wasn't inserted.
-fn insert<H: BuildHasher>(
-    map: &mut Owned<u64, u64, H>,
-    first: u64,
-    end: u64,
-) -> Option<(usize, usize)> {
+fn fill<H: BuildHasher>(map: &mut Numbers<H>, first: u64, end: u64) -> bool {
     for key in first..end {
         if map.insert_sync(key, key).is_err() {
-            return None;
-        }
-    }
-    Some(sizes(map))
-}
-
-// Removes the keys from `first` on and before `end`. The length and the capacity after them, None if a removal didn't
-// answer its pair.
-fn remove<H: BuildHasher>(
-    map: &mut Owned<u64, u64, H>,
-    first: u64,
-    end: u64,
-) -> Option<(usize, usize)> {
-    for key in first..end {
-        if map.remove_sync(&key) != Some((key, key)) {
-            return None;
-        }
-    }
-    Some(sizes(map))
-}
-
-// Inserts three pairs, each key with that value.
-fn insert_three(map: &mut Owned<u64, u64>, pairs: [(u64, u64); 3]) -> bool {
-    for (key, value) in pairs {
-        if map.insert_sync(key, value).is_err() {
             return false;
         }
     }
     true
 }
 
-// Inserts a pair of a key that is there: the pair that comes back.
-fn insert_again(map: &mut Owned<u64, u64>, key: u64, value: u64) -> Option<(u64, u64)> {
-    match map.insert_sync(key, value) {
-        Err(InsertError::Exists(pair)) => Some(pair),
-        _ => None,
+fn empty<H: BuildHasher>(map: &mut Numbers<H>, first: u64, end: u64) -> bool {
+    for key in first..end {
+        if map.remove_sync(&key) != Some((key, key)) {
+            return false;
+        }
     }
+    true
+}
+
+fn comes_back<H: BuildHasher>(map: &mut Numbers<H>, key: u64, value: u64) -> bool {
+    match map.insert_sync(key, value) {
+        Err(InsertError::Exists(pair)) => pair == (key, value),
+        _ => false,
+    }
+}
+
+fn updates<H: BuildHasher>(map: &mut Numbers<H>, key: u64, to: u64) -> bool {
+    let updated = map.update_sync(&key, |_, value| {
+        *value = to;
+        *value
+    });
+    updated == Some(to)
+}
+
+fn write_twos<H: BuildHasher>(map: &mut Numbers<H>) {
+    map.retain_sync(|_, value| {
+        *value = 2;
+        true
+    });
+}
+
+fn read<H: BuildHasher>(map: &Numbers<H>, key: u64) -> Option<u64> {
+    map.read_sync(&key, |_, value| *value)
+}
+
+fn reads_below<H: BuildHasher>(map: &Numbers<H>, end: u64) -> bool {
+    for key in 0..end {
+        if read(map, key) != Some(key) {
+            return false;
+        }
+    }
+    true
+}
+
+fn waiting<H: BuildHasher>(map: &Numbers<H>) -> (usize, usize) {
+    (map.capacity(), map.pending())
+}
+
+fn reserves<H: BuildHasher>(map: &mut Numbers<H>, slots: usize, then: (usize, usize)) -> bool {
+    match map.reserve(slots) {
+        Some(token) => waiting(map) == then && map.release(token).is_ok(),
+        None => false,
+    }
+}
+
+// Whether a call answers what it has to.
+fn holds<H: BuildHasher>(map: &mut Numbers<H>, call: Call) -> bool {
+    match call {
+        Call::Fill(first, end) => fill(map, first, end),
+        Call::Empty(first, end) => empty(map, first, end),
+        Call::Insert(key, value) => map.insert_sync(key, value).is_ok(),
+        Call::InsertAgain(key, value) => comes_back(map, key, value),
+        Call::Upsert(key, old, value) => map.upsert_sync(key, value).ok() == Some(Some(old)),
+        Call::Update(key, value) => updates(map, key, value),
+        Call::Remove(key, value) => map.remove_sync(&key) == Some((key, value)),
+        Call::Room(key, room) => map.has_room(&key) == room,
+        Call::Read(key, value) => read(map, key) == Some(value),
+        _ => holds_of_all(map, call),
+    }
+}
+
+// The same of a call on all pairs.
+fn holds_of_all<H: BuildHasher>(map: &mut Numbers<H>, call: Call) -> bool {
+    match call {
+        Call::WriteTwos => {
+            write_twos(map);
+            true
+        }
+        Call::StopsAt(last) => !map.iter_sync(|key, _| *key == last),
+        Call::ReadBelow(end) => reads_below(map, end),
+        Call::Sizes(len, capacity) => (map.len(), map.capacity()) == (len, capacity),
+        Call::Waiting(capacity, pending) => waiting(map) == (capacity, pending),
+        Call::Reserve(slots, capacity, pending) => reserves(map, slots, (capacity, pending)),
+        _ => {
+            map.clear_sync();
+            true
+        }
+    }
+}
+
+// The number of the first call that answers something else.
+fn first_other<H: BuildHasher>(map: &mut Numbers<H>, calls: &[Call]) -> Option<usize> {
+    for (number, call) in calls.iter().enumerate() {
+        if !holds(map, *call) {
+            return Some(number);
+        }
+    }
+    None
+}
+
+// Makes the calls in turn on a map under that hasher.
+fn expect_under<H: BuildHasher + Drop, R: AllocGlobal + Abort>(rt: &R, hasher: H, calls: &[Call]) {
+    let mut map = Owned::with_hasher(rt.alloc(), hasher);
+    expect_eq(rt, first_other(&mut map, calls), None);
+}
+
+// Makes them on a map under the default hasher.
+fn expect_calls<R: AllocGlobal + Abort>(rt: &R, calls: &[Call]) {
+    let mut map = Owned::new(rt.alloc());
+    expect_eq(rt, first_other(&mut map, calls), None);
 }
 
 #[test]
 fn map_insert_upsert_update_read_remove(rt: HostRuntime) {
-    let mut map: Owned<u64, u64> = Owned::new(rt.alloc());
-    expect(&rt, map.insert_sync(1, 0).is_ok());
-    expect_eq(&rt, insert_again(&mut map, 1, 1), Some((1, 1)));
-    expect_eq(&rt, map.upsert_sync(1, 1).ok(), Some(Some(0)));
-    let updated = map.update_sync(&1, |_, value| {
-        *value = 3;
-        *value
-    });
-    expect_eq(&rt, updated, Some(3));
-    expect_eq(&rt, value_of(&map, 1), Some(3));
-    expect_eq(&rt, map.remove_sync(&1), Some((1, 3)));
-}
-
-// Adds one to the count of a letter.
-fn count(map: &mut Owned<char, u64>, letter: char) -> bool {
-    map.entry_sync(letter)
-        .and_modify(|count| *count = count.saturating_add(1))
-        .or_insert(1)
-        .is_ok()
-}
-
-#[test]
-fn map_counts_characters_through_entries(rt: HostRuntime) {
-    let mut map: Owned<char, u64> = Owned::new(rt.alloc());
-    for letter in "a short treatise on fungi".chars() {
-        expect(&rt, count(&mut map, letter));
-    }
-    for (letter, times) in [('s', Some(2)), ('t', Some(3)), ('y', None)] {
-        expect_eq(&rt, map.read_sync(&letter, |_, count| *count), times);
-    }
-    expect_eq(&rt, map.len(), 13);
-}
-
-#[test]
-fn map_false_remove_if_keeps_what_it_wrote(rt: HostRuntime) {
-    let mut map: Owned<u64, u64> = Owned::new(rt.alloc());
-    expect(&rt, map.insert_sync(1, 0).is_ok());
-    let kept = map.remove_if_sync(&1, |value| {
-        *value = value.saturating_add(1);
-        false
-    });
-    expect_eq(&rt, kept, None);
-    expect_eq(
+    expect_calls(
         &rt,
-        map.remove_if_sync(&1, |value| *value == 1),
-        Some((1, 1)),
+        &[
+            Call::Insert(1, 0),
+            Call::InsertAgain(1, 1),
+            Call::Upsert(1, 0, 1),
+            Call::Update(1, 3),
+            Call::Read(1, 3),
+            Call::Remove(1, 3),
+        ],
     );
-}
-
-// The number and the mark of the stored key, and its value.
-fn marked(map: &Owned<MaybeEqual, u64>, number: u64) -> Option<(u64, u64, u64)> {
-    map.read_sync(&MaybeEqual(number, 0), |key, value| (key.0, key.1, *value))
-}
-
-// Replaces a key. The mark of the old key, the mark of the new one and the value; None if there was none.
-fn replace<H: BuildHasher>(
-    map: &mut Owned<MaybeEqual, u64, H>,
-    number: u64,
-    mark: u64,
-) -> Option<(u64, u64, u64)> {
-    match map.replace_sync(MaybeEqual(number, mark)) {
-        ReplaceResult::Replaced(entry, old) => Some((old.1, entry.key().1, *entry.get())),
-        ReplaceResult::NotReplaced(_) => None,
-    }
-}
-
-#[test]
-fn map_upsert_keeps_key_replace_swaps_it(rt: HostRuntime) {
-    let mut map: Owned<MaybeEqual, u64> = Owned::new(rt.alloc());
-    expect_eq(&rt, map.upsert_sync(MaybeEqual(11, 7), 17).ok(), Some(None));
-    let again = map.upsert_sync(MaybeEqual(11, 11), 18).ok();
-    expect_eq(&rt, again, Some(Some(17)));
-    expect_eq(&rt, marked(&map, 11), Some((11, 7, 18)));
-    expect_eq(&rt, replace(&mut map, 11, 11), Some((7, 11, 18)));
-    expect_eq(&rt, marked(&map, 11), Some((11, 11, 18)));
-}
-
-// Sets the value of a key through its entry. The number and the mark of the stored key, and its value.
-fn set_through_entry(
-    map: &mut Owned<MaybeEqual, u64>,
-    key: MaybeEqual,
-    value: u64,
-) -> Option<(u64, u64, u64)> {
-    let entry = map.entry_sync(key).insert_entry(value).ok()?;
-    Some((entry.key().0, entry.key().1, *entry.get()))
-}
-
-#[test]
-fn map_insert_entry_keeps_the_stored_key(rt: HostRuntime) {
-    let mut map: Owned<MaybeEqual, u64> = Owned::new(rt.alloc());
-    expect(&rt, map.insert_sync(MaybeEqual(11, 7), 17).is_ok());
-    let set = set_through_entry(&mut map, MaybeEqual(11, 11), 18);
-    expect_eq(&rt, set, Some((11, 7, 18)));
-    expect_eq(&rt, marked(&map, 11), Some((11, 7, 18)));
-    expect_eq(&rt, map.len(), 1);
 }
 
 #[test]
 fn map_has_room_until_its_bucket_is_full(rt: HostRuntime) {
-    let mut map = Owned::with_hasher(rt.alloc(), Zero);
-    expect(&rt, !map.has_room(&0));
-    expect(&rt, insert(&mut map, 0, 31).is_some());
-    expect(&rt, map.has_room(&99));
-    expect(&rt, insert(&mut map, 31, 32).is_some());
-    expect(&rt, !map.has_room(&99));
-    expect_eq(&rt, insert(&mut map, 32, 33), Some((33, 128)));
-    expect_eq(&rt, remove(&mut map, 32, 33), Some((32, 128)));
-}
-
-#[test]
-fn map_try_from_iter_last_wins(rt: HostRuntime) -> Result<(), Fail> {
-    let map: Owned<u64, u64> = Owned::try_from_iter(rt.alloc(), [(1, 10), (1, 20)])?;
-    expect_eq(&rt, value_of(&map, 1), Some(20));
-    expect_eq(&rt, sizes(&map), (1, 64));
-    Ok(())
-}
-
-#[test]
-fn map_take_stop_takes_and_stops(rt: HostRuntime) -> Result<(), Fail> {
-    let mut map: Owned<u64, u64> = Owned::new(rt.alloc());
-    expect(&rt, insert_three(&mut map, [(1, 0), (2, 1), (3, 2)]));
-    let mut taken = Vec::new(rt.alloc());
-    let ended = map.iter_mut_sync(
-        |key, _| {
-            if *key == 1 {
-                Verdict::TakeStop
-            } else {
-                Verdict::Keep
-            }
-        },
-        &mut taken,
+    expect_under(
+        &rt,
+        Zero,
+        &[
+            Call::Room(0, false),
+            Call::Fill(0, 31),
+            Call::Room(99, true),
+            Call::Fill(31, 32),
+            Call::Room(99, false),
+            Call::Fill(32, 33),
+            Call::Sizes(33, 128),
+            Call::Empty(32, 33),
+            Call::Sizes(32, 128),
+        ],
     );
-    expect_eq(&rt, ended, Ok(false));
-    expect_eq(&rt, taken.as_slice(), [(1, 0)].as_slice());
-    expect(&rt, !map.contains_sync(&1));
-    expect_eq(&rt, map.len(), 2);
-    Ok(())
 }
 
 // Takes out the first pair, and each that comes after it. How many they are, and the sum of their values.
-fn take_each(map: &mut Owned<u64, u64, Zero>) -> (u64, u64) {
+fn take_each(map: &mut Numbers<Zero>) -> (u64, u64) {
     let (mut pairs, mut sum) = (0u64, 0u64);
     let mut here = map.begin_sync();
     for _ in 0..64 {
@@ -241,50 +231,350 @@ fn take_each(map: &mut Owned<u64, u64, Zero>) -> (u64, u64) {
 #[test]
 fn map_remove_and_next_never_resizes(rt: HostRuntime) {
     let mut map = Owned::with_hasher(rt.alloc(), Zero);
-    expect_eq(&rt, insert(&mut map, 0, 40), Some((40, 128)));
-    expect_eq(&rt, take_each(&mut map), (40, 780));
-    expect_eq(&rt, sizes(&map), (0, 128));
-    map.clear_sync();
-    expect_eq(&rt, sizes(&map), (0, 64));
+    let filled = first_other(&mut map, &[Call::Fill(0, 40), Call::Sizes(40, 128)]);
+    let taken = take_each(&mut map);
+    let left = [Call::Sizes(0, 128), Call::Clear, Call::Sizes(0, 64)];
+    expect_eq(
+        &rt,
+        (filled, taken, first_other(&mut map, &left)),
+        (None, (40, 780), None),
+    );
 }
 
 #[test]
 fn map_retain_writes_iter_stops(rt: HostRuntime) {
-    let mut map: Owned<u64, u64> = Owned::new(rt.alloc());
-    expect(&rt, map.insert_sync(1, 0).is_ok());
-    expect(&rt, map.insert_sync(2, 1).is_ok());
-    map.retain_sync(|_, value| {
-        *value = 2;
-        true
-    });
-    expect_eq(
+    expect_calls(
         &rt,
-        (value_of(&map, 1), value_of(&map, 2)),
-        (Some(2), Some(2)),
+        &[
+            Call::Insert(1, 0),
+            Call::Insert(2, 1),
+            Call::WriteTwos,
+            Call::Read(1, 2),
+            Call::Read(2, 2),
+            Call::Insert(3, 2),
+            Call::StopsAt(3),
+        ],
     );
-    expect(&rt, map.insert_sync(3, 2).is_ok());
-    expect(&rt, !map.iter_sync(|key, _| *key == 3));
 }
 
-// Inserts (1, 0), (2, 0) and (3, 0), and walks with a closure that writes 9 and stops at its first call. What the walk
-// answers, how many pairs were taken and how many of those have 9, how many of those that are left have 9 and how many
-// have 0.
-fn stop_at_first(
+#[test]
+fn map_grows_in_one_bucket_and_shrinks(rt: HostRuntime) {
+    expect_under(
+        &rt,
+        Zero,
+        &[
+            Call::Fill(0, 32),
+            Call::Sizes(32, 64),
+            Call::Fill(32, 33),
+            Call::Sizes(33, 128),
+            Call::Fill(33, 40),
+            Call::Sizes(40, 128),
+            Call::Empty(0, 23),
+            Call::Sizes(17, 128),
+            Call::Empty(23, 24),
+            Call::Sizes(16, 64),
+        ],
+    );
+}
+
+#[test]
+fn map_doubles_at_half_its_capacity(rt: HostRuntime) {
+    expect_under(
+        &rt,
+        Zero,
+        &[
+            Call::Fill(0, 32),
+            Call::Sizes(32, 64),
+            Call::Fill(32, 33),
+            Call::Sizes(33, 128),
+            Call::Fill(33, 64),
+            Call::Sizes(64, 128),
+            Call::Fill(64, 65),
+            Call::Sizes(65, 256),
+        ],
+    );
+}
+
+#[test]
+fn map_relocates_two_targets_an_insertion(rt: HostRuntime) {
+    expect_under(
+        &rt,
+        Same,
+        &[
+            Call::Fill(0, 32),
+            Call::Insert(HALF, 7),
+            Call::Waiting(64, 0),
+            Call::Fill(32, 33),
+            Call::Waiting(128, 2),
+            Call::Read(HALF, 7),
+            Call::Waiting(128, 2),
+            Call::Remove(HALF, 7),
+            Call::Waiting(128, 2),
+            Call::Fill(33, 34),
+            Call::Waiting(128, 0),
+        ],
+    );
+}
+
+#[test]
+fn map_pending_falls_by_two(rt: HostRuntime) {
+    expect_under(
+        &rt,
+        Zero,
+        &[
+            Call::Fill(0, 65),
+            Call::Sizes(65, 256),
+            Call::Waiting(256, 6),
+            Call::Fill(65, 66),
+            Call::Waiting(256, 4),
+            Call::Fill(66, 67),
+            Call::Waiting(256, 2),
+            Call::Fill(67, 68),
+            Call::Waiting(256, 0),
+        ],
+    );
+}
+
+#[test]
+fn map_reserve_and_release_leave_all_pending(rt: HostRuntime) {
+    expect_under(
+        &rt,
+        Zero,
+        &[
+            Call::Fill(0, 33),
+            Call::Sizes(33, 128),
+            Call::Waiting(128, 2),
+            Call::Reserve(1000, 1024, 32),
+            Call::Waiting(128, 4),
+            Call::ReadBelow(33),
+        ],
+    );
+}
+
+// Adds one to the count of each letter.
+fn count_all(map: &mut Owned<char, u64>, text: &str) -> bool {
+    for letter in text.chars() {
+        let is_counted = map
+            .entry_sync(letter)
+            .and_modify(|count| *count = count.saturating_add(1))
+            .or_insert(1)
+            .is_ok();
+        if !is_counted {
+            return false;
+        }
+    }
+    true
+}
+
+// The count of a letter.
+fn count_of(map: &Owned<char, u64>, letter: char) -> Option<u64> {
+    map.read_sync(&letter, |_, count| *count)
+}
+
+#[test]
+fn map_counts_characters_through_entries(rt: HostRuntime) {
+    let mut map: Owned<char, u64> = Owned::new(rt.alloc());
+    let is_counted = count_all(&mut map, "a short treatise on fungi");
+    let counts = [
+        count_of(&map, 's'),
+        count_of(&map, 't'),
+        count_of(&map, 'y'),
+    ];
+    expect_eq(
+        &rt,
+        (is_counted, counts, map.len()),
+        (true, [Some(2), Some(3), None], 13),
+    );
+}
+
+// Inserts (1, 0), and asks for its removal under two conditions: one writes 1 and declines, and one wants what was
+// written.
+fn decline_and_remove(map: &mut Owned<u64, u64>) -> [Option<(u64, u64)>; 2] {
+    if map.insert_sync(1, 0).is_err() {
+        return [None, None];
+    }
+    let kept = map.remove_if_sync(&1, |value| {
+        *value = value.saturating_add(1);
+        false
+    });
+    [kept, map.remove_if_sync(&1, |value| *value == 1)]
+}
+
+#[test]
+fn map_false_remove_if_keeps_what_it_wrote(rt: HostRuntime) {
+    let answers = decline_and_remove(&mut Owned::new(rt.alloc()));
+    expect_eq(&rt, answers, [None, Some((1, 1))]);
+}
+
+type Marked<H> = Owned<MaybeEqual, u64, H>;
+
+// The number and the mark of the stored key, and its value.
+fn marked<H: BuildHasher>(map: &Marked<H>, number: u64) -> Option<(u64, u64, u64)> {
+    map.read_sync(&MaybeEqual(number, 0), |key, value| (key.0, key.1, *value))
+}
+
+// Replaces a key. The mark of the old key, the mark of the new one and the value; None if there was none.
+fn replace<H: BuildHasher>(map: &mut Marked<H>, number: u64, mark: u64) -> Option<(u64, u64, u64)> {
+    match map.replace_sync(MaybeEqual(number, mark)) {
+        ReplaceResult::Replaced(entry, old) => Some((old.1, entry.key().1, *entry.get())),
+        ReplaceResult::NotReplaced(_) => None,
+    }
+}
+
+// Sets a value twice, each time by a key with another mark. What was there before, and the stored key with its value.
+fn upsert_twice<H: BuildHasher>(
+    map: &mut Marked<H>,
+) -> ([Option<Option<u64>>; 2], Option<(u64, u64, u64)>) {
+    let old = [
+        map.upsert_sync(MaybeEqual(11, 7), 17).ok(),
+        map.upsert_sync(MaybeEqual(11, 11), 18).ok(),
+    ];
+    (old, marked(map, 11))
+}
+
+#[test]
+fn map_upsert_keeps_key_replace_swaps_it(rt: HostRuntime) {
+    let mut map: Owned<MaybeEqual, u64> = Owned::new(rt.alloc());
+    let upserted = upsert_twice(&mut map);
+    let swapped = (replace(&mut map, 11, 11), marked(&map, 11));
+    expect_eq(
+        &rt,
+        (upserted, swapped),
+        (
+            ([Some(None), Some(Some(17))], Some((11, 7, 18))),
+            (Some((7, 11, 18)), Some((11, 11, 18))),
+        ),
+    );
+}
+
+// Sets the value of a key through its entry. The number and the mark of the stored key, and its value.
+fn set_through_entry<H: BuildHasher>(
+    map: &mut Marked<H>,
+    key: MaybeEqual,
+    value: u64,
+) -> Option<(u64, u64, u64)> {
+    match map.entry_sync(key).insert_entry(value) {
+        Ok(entry) => Some((entry.key().0, entry.key().1, *entry.get())),
+        Err(_) => None,
+    }
+}
+
+#[test]
+fn map_insert_entry_keeps_the_stored_key(rt: HostRuntime) {
+    let mut map: Owned<MaybeEqual, u64> = Owned::new(rt.alloc());
+    let is_inserted = map.insert_sync(MaybeEqual(11, 7), 17).is_ok();
+    let set = set_through_entry(&mut map, MaybeEqual(11, 11), 18);
+    expect_eq(
+        &rt,
+        (is_inserted, set, marked(&map, 11), map.len()),
+        (true, Some((11, 7, 18)), Some((11, 7, 18)), 1),
+    );
+}
+
+// Whether the keys (i, 100 + i) went in, each with the value i.
+fn insert_marked(map: &mut Marked<Zero>, end: u64) -> bool {
+    for i in 0..end {
+        let key = MaybeEqual(i, i.saturating_add(100));
+        if map.insert_sync(key, i).is_err() {
+            return false;
+        }
+    }
+    true
+}
+
+// Whether each of them is replaced by the key (i, 200 + i).
+fn replace_marked(map: &mut Marked<Zero>, end: u64) -> bool {
+    for i in 0..end {
+        let (old, new) = (i.saturating_add(100), i.saturating_add(200));
+        if replace(map, i, new) != Some((old, new, i)) {
+            return false;
+        }
+    }
+    true
+}
+
+// Whether each is stored so, with its value.
+fn are_replaced(map: &Marked<Zero>, end: u64) -> bool {
+    for i in 0..end {
+        if marked(map, i) != Some((i, i.saturating_add(200), i)) {
+            return false;
+        }
+    }
+    true
+}
+
+#[test]
+fn replace_under_one_hash_keeps_values(rt: HostRuntime) {
+    let mut map = Owned::with_hasher(rt.alloc(), Zero);
+    let held = [
+        insert_marked(&mut map, 40),
+        replace_marked(&mut map, 40),
+        are_replaced(&map, 40),
+    ];
+    expect_eq(&rt, (held, map.len()), ([true; 3], 40));
+}
+
+#[test]
+fn map_try_from_iter_last_wins(rt: HostRuntime) {
+    match Owned::<u64, u64>::try_from_iter(rt.alloc(), [(1, 10), (1, 20)]) {
+        Ok(map) => expect_eq(
+            &rt,
+            (read(&map, 1), map.len(), map.capacity()),
+            (Some(20), 1, 64),
+        ),
+        Err(_) => expect(&rt, false),
+    }
+}
+
+// Inserts three pairs, the keys 1, 2 and 3 with these values.
+fn insert_three(map: &mut Owned<u64, u64>, values: [u64; 3]) -> bool {
+    map.insert_sync(1, values[0]).is_ok()
+        && map.insert_sync(2, values[1]).is_ok()
+        && map.insert_sync(3, values[2]).is_ok()
+}
+
+// A walk that takes out key 1 and stops: whether it stopped.
+fn take_one(map: &mut Owned<u64, u64>, taken: &mut Vec<(u64, u64)>) -> bool {
+    let ended = map.iter_mut_sync(
+        |key, _| {
+            if *key == 1 {
+                Verdict::TakeStop
+            } else {
+                Verdict::Keep
+            }
+        },
+        taken,
+    );
+    ended == Ok(false)
+}
+
+#[test]
+fn map_take_stop_takes_and_stops(rt: HostRuntime) {
+    let mut map: Owned<u64, u64> = Owned::new(rt.alloc());
+    let mut taken = Vec::new(rt.alloc());
+    let held = [
+        insert_three(&mut map, [0, 1, 2]),
+        take_one(&mut map, &mut taken),
+        taken.as_slice() == [(1, 0)].as_slice(),
+        !map.contains_sync(&1),
+    ];
+    expect_eq(&rt, (held, map.len()), ([true; 4], 2));
+}
+
+// A walk with a closure that writes 9 and stops at its first call: whether it stopped.
+fn write_and_stop(
     map: &mut Owned<u64, u64>,
     taken: &mut Vec<(u64, u64)>,
     verdict: Verdict,
-) -> (bool, usize, usize, usize, usize) {
-    let stopped = insert_three(map, [(1, 0), (2, 0), (3, 0)])
-        && map.iter_mut_sync(
-            |_, value| {
-                *value = 9;
-                verdict
-            },
-            taken,
-        ) == Ok(false);
-    let nines = taken.iter().filter(|pair| pair.1 == 9).count();
-    let (left_nines, left_zeros) = nines_and_zeros(map);
-    (stopped, taken.len(), nines, left_nines, left_zeros)
+) -> bool {
+    let ended = map.iter_mut_sync(
+        |_, value| {
+            *value = 9;
+            verdict
+        },
+        taken,
+    );
+    ended == Ok(false)
 }
 
 // How many pairs have the value 9, and how many 0.
@@ -301,69 +591,64 @@ fn nines_and_zeros(map: &Owned<u64, u64>) -> (usize, usize) {
     (nines, zeros)
 }
 
+// How many of the pairs have the value 9.
+fn nines_of(pairs: &[(u64, u64)]) -> usize {
+    let mut nines = 0usize;
+    for pair in pairs {
+        if pair.1 == 9 {
+            nines = nines.wrapping_add(1);
+        }
+    }
+    nines
+}
+
+// Inserts (1, 0), (2, 0) and (3, 0), and walks so. The walk stops; that are how many pairs were taken, how many of those
+// have 9, and of those that are left how many have 9 and how many 0.
+fn expect_stop<R: AllocGlobal + Abort>(rt: &R, verdict: Verdict, wanted: [usize; 4]) {
+    let mut map: Owned<u64, u64> = Owned::new(rt.alloc());
+    let mut taken = Vec::new(rt.alloc());
+    let stopped = insert_three(&mut map, [0; 3]) && write_and_stop(&mut map, &mut taken, verdict);
+    let (left_nines, left_zeros) = nines_and_zeros(&map);
+    let seen = [
+        taken.len(),
+        nines_of(taken.as_slice()),
+        left_nines,
+        left_zeros,
+    ];
+    expect_eq(rt, (stopped, seen), (true, wanted));
+}
+
 #[test]
 fn iter_mut_take_stop_at_first(rt: HostRuntime) {
-    let mut map = Owned::new(rt.alloc());
-    let mut taken = Vec::new(rt.alloc());
-    let seen = stop_at_first(&mut map, &mut taken, Verdict::TakeStop);
-    expect_eq(&rt, seen, (true, 1, 1, 0, 2));
+    expect_stop(&rt, Verdict::TakeStop, [1, 1, 0, 2]);
 }
 
 #[test]
 fn iter_mut_keep_stop_at_first(rt: HostRuntime) {
-    let mut map = Owned::new(rt.alloc());
-    let mut taken = Vec::new(rt.alloc());
-    let seen = stop_at_first(&mut map, &mut taken, Verdict::KeepStop);
-    expect_eq(&rt, seen, (true, 0, 0, 1, 2));
-}
-
-// Whether the keys (i, 100 + i) went in, each with the value i.
-fn insert_marked(map: &mut Owned<MaybeEqual, u64, Zero>, end: u64) -> bool {
-    for i in 0..end {
-        let key = MaybeEqual(i, i.saturating_add(100));
-        if map.insert_sync(key, i).is_err() {
-            return false;
-        }
-    }
-    true
+    expect_stop(&rt, Verdict::KeepStop, [0, 0, 1, 2]);
 }
 
 #[test]
-fn replace_under_one_hash_keeps_values(rt: HostRuntime) {
-    let mut map = Owned::with_hasher(rt.alloc(), Zero);
-    expect(&rt, insert_marked(&mut map, 40));
-    for i in 0..40u64 {
-        let replaced = replace(&mut map, i, 200 + i);
-        expect_eq(&rt, replaced, Some((100 + i, 200 + i, i)));
+fn map_reserve_grows_and_gives_back(rt: HostRuntime) {
+    match Owned::<u64, u64>::with_capacity(rt.alloc(), 800) {
+        Ok(mut map) => expect_eq(
+            &rt,
+            grows_and_gives_back(&mut map),
+            (1024, 16_384, true, true, 1024),
+        ),
+        Err(_) => expect(&rt, false),
     }
-    for i in 0..40u64 {
-        let stored = map.read_sync(&MaybeEqual(i, 0), |key, value| (key.1, *value));
-        expect_eq(&rt, stored, Some((200 + i, i)));
-    }
-    expect_eq(&rt, map.len(), 40);
-}
-
-#[test]
-fn map_reserve_grows_and_gives_back(rt: HostRuntime) -> Result<(), Fail> {
-    let mut map: Owned<u64, u64> = Owned::with_capacity(rt.alloc(), 800)?;
-    expect_eq(&rt, map.capacity(), 1024);
-    expect_eq(
-        &rt,
-        grows_and_gives_back(&mut map),
-        (16_384, true, true, 1024),
-    );
-    Ok(())
 }
 
 #[test]
 fn map_reserve_without_array(rt: HostRuntime) {
-    let mut map: Owned<u64, u64> = Owned::new(rt.alloc());
+    let sizes = sizes_without_array(&mut Owned::<u64, u64>::new(rt.alloc()));
     let wanted = [
         (0, 0, GREATEST),
         (0, 1000, GREATEST),
         (1024, 1000, GREATEST),
     ];
-    expect_eq(&rt, sizes_without_array(&mut map), Some(wanted));
+    expect_eq(&rt, sizes, Some(wanted));
 }
 
 #[test]
@@ -373,116 +658,119 @@ fn release_of_foreign_and_own_tokens(rt: HostRuntime) {
     expect(&rt, foreign_and_own_tokens(&mut first, &mut second));
 }
 
-#[test]
-fn map_grows_in_one_bucket_and_shrinks(rt: HostRuntime) {
-    let mut map = Owned::with_hasher(rt.alloc(), Zero);
-    expect_eq(&rt, insert(&mut map, 0, 32), Some((32, 64)));
-    expect_eq(&rt, insert(&mut map, 32, 33), Some((33, 128)));
-    expect_eq(&rt, insert(&mut map, 33, 40), Some((40, 128)));
-    expect_eq(&rt, remove(&mut map, 0, 23), Some((17, 128)));
-    expect_eq(&rt, remove(&mut map, 23, 24), Some((16, 64)));
+// The capacity, and both ends of its range.
+fn range_of(map: &Owned<u64, u64>) -> (usize, usize, usize) {
+    let range = map.capacity_range();
+    (map.capacity(), *range.start(), *range.end())
+}
+
+// Reserves the greatest capacity. The minimum and the maximum then, whether one more slot is refused, and whether the
+// token is taken back.
+fn reserve_all(map: &mut Owned<u64, u64>) -> (usize, usize, bool, bool) {
+    match map.reserve(GREATEST) {
+        Some(token) => {
+            let (_, minimum, maximum) = range_of(map);
+            let refused = map.reserve(1).is_none();
+            (minimum, maximum, refused, map.release(token).is_ok())
+        }
+        None => (0, 0, false, false),
+    }
 }
 
 #[test]
 fn map_reserve_to_the_greatest_capacity(rt: HostRuntime) {
-    let mut map: Owned<u64, u64> = Owned::new(rt.alloc());
-    let token = map.reserve(GREATEST);
-    expect_eq(&rt, map.capacity_range(), GREATEST..=GREATEST);
-    expect(&rt, map.reserve(1).is_none());
-    expect(&rt, token.is_some_and(|token| map.release(token).is_ok()));
-    expect_eq(&rt, map.capacity_range(), 0..=GREATEST);
-    expect_eq(&rt, map.capacity(), 0);
+    let mut map = Owned::new(rt.alloc());
+    let reserved = reserve_all(&mut map);
+    expect_eq(
+        &rt,
+        (reserved, range_of(&map)),
+        ((GREATEST, GREATEST, true, true), (0, 0, GREATEST)),
+    );
+}
+
+// Reserves 100 slots of the first map, and gives the token to the second. How many slots the token has that comes back,
+// the minimum of each then, and whether the first map takes it.
+fn release_elsewhere(
+    first: &mut Owned<u64, u64>,
+    second: &mut Owned<u64, u64>,
+) -> Option<(usize, [(usize, usize, usize); 2], bool)> {
+    let Some(token) = first.reserve(100) else {
+        return None;
+    };
+    match second.release(token) {
+        Ok(()) => None,
+        Err(back) => {
+            let ranges = [range_of(second), range_of(first)];
+            let slots = back.additional_capacity();
+            Some((slots, ranges, first.release(back).is_ok()))
+        }
+    }
 }
 
 #[test]
 fn map_refuses_a_foreign_token(rt: HostRuntime) {
-    let mut a: Owned<u64, u64> = Owned::new(rt.alloc());
-    let mut b: Owned<u64, u64> = Owned::new(rt.alloc());
-    let back = match a.reserve(100) {
-        Some(token) => b.release(token).err(),
-        None => None,
-    };
-    expect_eq(&rt, b.capacity_range(), 0..=GREATEST);
-    expect_eq(&rt, a.capacity_range(), 100..=GREATEST);
-    let slots = back.as_ref().map(|token| token.additional_capacity());
-    expect_eq(&rt, slots, Some(100));
-    expect(&rt, back.is_some_and(|token| a.release(token).is_ok()));
-    expect_eq(&rt, a.capacity_range(), 0..=GREATEST);
-}
-
-#[test]
-fn map_doubles_at_half_its_capacity(rt: HostRuntime) {
-    let mut map = Owned::with_hasher(rt.alloc(), Zero);
-    expect_eq(&rt, insert(&mut map, 0, 32), Some((32, 64)));
-    expect_eq(&rt, insert(&mut map, 32, 33), Some((33, 128)));
-    expect_eq(&rt, insert(&mut map, 33, 64), Some((64, 128)));
-    expect_eq(&rt, insert(&mut map, 64, 65), Some((65, 256)));
-}
-
-#[test]
-fn map_clone_has_its_capacity_as_minimum(rt: HostRuntime) -> Result<(), Fail> {
-    let mut map = Owned::with_hasher(rt.alloc(), Zero);
-    expect_eq(&rt, insert(&mut map, 0, 40), Some((40, 128)));
-    let mut copy = map.try_clone()?;
-    expect(&rt, copy == map);
-    expect_eq(&rt, sizes(&copy), (40, 128));
-    expect_eq(&rt, copy.capacity_range(), 128..=GREATEST);
-    expect_eq(&rt, remove(&mut copy, 0, 24), Some((16, 128)));
-    expect_eq(&rt, map.len(), 40);
-    Ok(())
-}
-
-#[test]
-fn map_bucket_index(rt: HostRuntime) -> Result<(), Fail> {
-    let bare: Owned<u64, u64> = Owned::new(rt.alloc());
-    expect_eq(&rt, bare.bucket_index(&0), 0);
-    let map: Owned<u64, u64, Same> = Owned::with_capacity_and_hasher(rt.alloc(), 1024, Same)?;
+    let mut first = Owned::new(rt.alloc());
+    let mut second = Owned::new(rt.alloc());
+    let back = release_elsewhere(&mut first, &mut second);
+    let ranges = [(0, 0, GREATEST), (0, 100, GREATEST)];
     expect_eq(
         &rt,
-        (map.bucket_index(&HALF), map.bucket_index(&0)),
-        (16, 0),
+        (back, range_of(&first)),
+        (Some((100, ranges, true)), (0, 0, GREATEST)),
     );
-    expect_eq(&rt, map.capacity(), 1024);
-    Ok(())
 }
 
-#[test]
-fn map_relocates_two_targets_an_insertion(rt: HostRuntime) {
-    let mut map = Owned::with_hasher(rt.alloc(), Same);
-    expect(&rt, insert(&mut map, 0, 32).is_some());
-    expect(&rt, map.insert_sync(HALF, 7).is_ok());
-    expect_eq(&rt, waiting(&map), (64, 0));
-    expect(&rt, insert(&mut map, 32, 33).is_some());
-    expect_eq(&rt, waiting(&map), (128, 2));
-    expect_eq(&rt, value_of(&map, HALF), Some(7));
-    expect_eq(&rt, waiting(&map), (128, 2));
-    expect_eq(&rt, map.remove_sync(&HALF), Some((HALF, 7)));
-    expect_eq(&rt, waiting(&map), (128, 2));
-    expect(&rt, insert(&mut map, 33, 34).is_some());
-    expect_eq(&rt, waiting(&map), (128, 0));
-}
-
-#[test]
-fn map_pending_falls_by_two(rt: HostRuntime) {
-    let mut map = Owned::with_hasher(rt.alloc(), Zero);
-    expect_eq(&rt, insert(&mut map, 0, 65), Some((65, 256)));
-    expect_eq(&rt, waiting(&map), (256, 6));
-    for (key, pending) in [(65, 4), (66, 2), (67, 0)] {
-        expect(&rt, map.insert_sync(key, key).is_ok());
-        expect_eq(&rt, waiting(&map), (256, pending));
+// What a clone is: whether it equals its original, its length and capacity, and both ends of its range; and whether the
+// first 24 keys can be removed from it, and its length and capacity then.
+fn shrink_clone(map: &Numbers<Zero>) -> Option<(bool, [usize; 4], bool, [usize; 2])> {
+    match map.try_clone() {
+        Ok(mut copy) => {
+            let is_equal = copy == *map;
+            let range = copy.capacity_range();
+            let before = [copy.len(), copy.capacity(), *range.start(), *range.end()];
+            let is_emptied = empty(&mut copy, 0, 24);
+            Some((is_equal, before, is_emptied, [copy.len(), copy.capacity()]))
+        }
+        Err(_) => None,
     }
 }
 
 #[test]
-fn map_reserve_and_release_leave_all_pending(rt: HostRuntime) {
+fn map_clone_has_its_capacity_as_minimum(rt: HostRuntime) {
     let mut map = Owned::with_hasher(rt.alloc(), Zero);
-    expect_eq(&rt, insert(&mut map, 0, 33), Some((33, 128)));
-    expect_eq(&rt, waiting(&map), (128, 2));
-    let token = map.reserve(1000);
-    expect_eq(&rt, waiting(&map), (1024, 32));
-    expect(&rt, token.is_some_and(|token| map.release(token).is_ok()));
-    expect_eq(&rt, waiting(&map), (128, 4));
-    for key in 0..33u64 {
-        expect_eq(&rt, value_of(&map, key), Some(key));
+    let filled = (fill(&mut map, 0, 40), map.len(), map.capacity());
+    let seen = shrink_clone(&map);
+    let wanted = (true, [40, 128, 128, GREATEST], true, [16, 128]);
+    expect_eq(
+        &rt,
+        (filled, seen, map.len()),
+        ((true, 40, 128), Some(wanted), 40),
+    );
+}
+
+// The bucket of a key in a map without an array.
+fn place_without_array(alloc: Global) -> usize {
+    let map: Owned<u64, u64> = Owned::new(alloc);
+    map.bucket_index(&0)
+}
+
+// The capacity of a map with room for 1024 pairs, and the buckets of two keys in it.
+fn places(alloc: Global) -> Option<(usize, usize, usize)> {
+    match Numbers::with_capacity_and_hasher(alloc, 1024, Same) {
+        Ok(map) => Some((
+            map.capacity(),
+            map.bucket_index(&HALF),
+            map.bucket_index(&0),
+        )),
+        Err(_) => None,
     }
+}
+
+#[test]
+fn map_bucket_index(rt: HostRuntime) {
+    expect_eq(
+        &rt,
+        (place_without_array(rt.alloc()), places(rt.alloc())),
+        (0, Some((1024, 16, 0))),
+    );
 }

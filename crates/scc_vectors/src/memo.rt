@@ -3,10 +3,9 @@ ghost use Rattle.std.specs.Prelude.{◌*◌};
 ghost use Rattle.std.proofs.Common.{ap};
 ghost use Rattle.std.proofs.lemmas.Bool.{eqb-true};
 
-use crate::expect::expect_eq;
+use crate::expect::{expect, expect_eq};
 use scc::memo::{Memo, Pure};
 use std::process::Abort;
-use std::test::Fail;
 use test_kit::zero::Zero;
 
 // The square of a number.
@@ -28,27 +27,42 @@ impl Pure for Square {
     }
 }
 
-#[test]
-fn memo_of_squares(rt: HostRuntime) -> Result<(), Fail> {
-    let mut memo = Memo::with_capacity_and_hasher(rt.alloc(), Square, 0, 64, Zero)?;
+// Whether each key below 32 has its square.
+fn has_squares(memo: &mut Memo<Square, Zero>) -> bool {
     for key in 0..32u64 {
-        expect_eq(&rt, memo.get(key), u128::from(key) * u128::from(key));
+        if memo.get(key) != u128::from(key) * u128::from(key) {
+            return false;
+        }
     }
-    expect_eq(&rt, (memo.get(0), memo.get(32)), (0, 1024));
-    expect_eq(&rt, (memo.known(&0), memo.known(&1)), (Some(0), None));
-    expect_eq(&rt, memo.get(1), 1);
-    expect_eq(&rt, memo.known(&2), None);
-    Ok(())
+    true
 }
 
 #[test]
-fn memo_of_the_greatest_square(rt: HostRuntime) -> Result<(), Fail> {
-    let mut memo = Memo::with_capacity_and_hasher(rt.alloc(), Square, 0, 64, Zero)?;
-    let square = memo.get(18_446_744_073_709_551_615);
-    expect_eq(
-        &rt,
-        square,
-        340_282_366_920_938_463_426_481_119_284_349_108_225,
-    );
-    Ok(())
+fn memo_of_squares(rt: HostRuntime) {
+    match Memo::with_capacity_and_hasher(rt.alloc(), Square, 0, 64, Zero) {
+        Ok(mut memo) => {
+            let are_squares = has_squares(&mut memo);
+            let got = [memo.get(0), memo.get(32)];
+            let known = [memo.known(&0), memo.known(&1)];
+            let later = (memo.get(1), memo.known(&2));
+            expect_eq(
+                &rt,
+                (are_squares, got, known, later),
+                (true, [0, 1024], [Some(0), None], (1, None)),
+            );
+        }
+        Err(_) => expect(&rt, false),
+    }
+}
+
+#[test]
+fn memo_of_the_greatest_square(rt: HostRuntime) {
+    match Memo::with_capacity_and_hasher(rt.alloc(), Square, 0, 64, Zero) {
+        Ok(mut memo) => expect_eq(
+            &rt,
+            memo.get(18_446_744_073_709_551_615),
+            340_282_366_920_938_463_426_481_119_284_349_108_225,
+        ),
+        Err(_) => expect(&rt, false),
+    }
 }

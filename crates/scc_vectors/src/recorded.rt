@@ -2,7 +2,7 @@
 ghost use Rattle.std.specs.Prelude.{◌≡◌, Some};
 ghost use Rattle.scc_recorded.specs.Setups.{request_of};
 
-use crate::expect::{expect, expect_eq};
+use crate::expect::expect_eq;
 use scc::hash_map::Owned;
 use scc::recorded::{
     Closed, FinishError, Finished, MapCall, Pass, Recorded, Reply, Setup, Shared, Site, Step,
@@ -13,14 +13,13 @@ use std::marker::Brand;
 use std::process::Abort;
 use std::sync::ledger::{Blank, Ledger};
 use std::sync::{Arc, Wait};
-use std::test::Fail;
 
 type Map = Owned<u64, u64, Shared<Same>>;
 
 const HIGH: u64 = 1 << 63;
 
 // Who of the two makes a call: the one with pass 0, or the one with pass 1.
-#[derive(Clone, Copy, PartialEq)]
+#[derive(Clone, Copy)]
 enum Who {
     First,
     Second,
@@ -44,6 +43,8 @@ enum Note {
     Answer(Reply<u64, u64>),
     // Nothing was answered, since nothing was called.
     Told,
+    // Memory was refused.
+    Refused,
     // A finish was refused. So many stripes and passes came back.
     Back(FinishError, usize, usize),
     // In the order of the finished run: a step in the stripe with that number.
@@ -76,39 +77,39 @@ fn array(stripe: usize, stamp: u64) -> Note {
     Note::Step(stripe, Step::Resize { stamp, buckets: 2 })
 }
 
-// What the act of a pass answers, None where it is refused.
+// What the act of a pass answers.
 fn answer<L: Ledger, M: Site<Shared<Same>>, R: Wait>(
     rt: &R,
     recorded: &Recorded<Map, L, M>,
     mine: &mut Pass<Map, L>,
     other: &Pass<Map, L>,
     act: Act,
-) -> Option<Note> {
+) -> Note {
     match act {
         Act::Insert(key, value) => match recorded.call(rt, mine, MapCall::Insert(key, value)) {
-            Ok(reply) => Some(Note::Answer(reply)),
-            Err(_) => None,
+            Ok(reply) => Note::Answer(reply),
+            Err(_) => Note::Refused,
         },
         Act::Read(key) => match recorded.call(rt, mine, MapCall::Read(key)) {
-            Ok(reply) => Some(Note::Answer(reply)),
-            Err(_) => None,
+            Ok(reply) => Note::Answer(reply),
+            Err(_) => Note::Refused,
         },
         Act::Clear => match recorded.clear(rt, mine) {
-            Ok(()) => Some(Note::Answer(Reply::Cleared)),
-            Err(_) => None,
+            Ok(()) => Note::Answer(Reply::Cleared),
+            Err(_) => Note::Refused,
         },
         Act::Len => match recorded.len(rt, mine) {
-            Ok(count) => Some(Note::Answer(Reply::Count(count))),
-            Err(_) => None,
+            Ok(count) => Note::Answer(Reply::Count(count)),
+            Err(_) => Note::Refused,
         },
         Act::Told => {
             mine.told(other);
-            Some(Note::Told)
+            Note::Told
         }
     }
 }
 
-// Notes what each act answers. False where one was refused.
+// Notes what each act answers.
 fn act_in_turn<L: Ledger, M: Site<Shared<Same>>, R: Wait>(
     rt: &R,
     recorded: &Recorded<Map, L, M>,
@@ -116,47 +117,45 @@ fn act_in_turn<L: Ledger, M: Site<Shared<Same>>, R: Wait>(
     second: &mut Pass<Map, L>,
     acts: &[(Who, Act)],
     notes: &mut Vec<Note>,
-) -> bool {
+) {
     for (who, act) in acts {
         let note = match *who {
             Who::First => answer(rt, recorded, first, second, *act),
             Who::Second => answer(rt, recorded, second, first, *act),
         };
-        let is_noted = match note {
-            Some(note) => notes.push(note).is_ok(),
-            None => false,
-        };
-        if !is_noted {
-            return false;
-        }
+        add(notes, note);
     }
-    true
 }
 
-// The step at that place.
-fn step_at(
-    finished: &Finished<Map>,
-    place: (usize, usize),
-) -> Option<Step<MapCall<u64, u64>, Reply<u64, u64>>> {
-    finished.histories.get(place.0)?.get(place.1).copied()
+// Adds a note. One that finds no room is missing where all are compared.
+fn add(notes: &mut Vec<Note>, note: Note) {
+    let _ = notes.push(note);
+}
+
+// Notes the step at that place.
+fn note_step(finished: &Finished<Map>, place: (usize, usize), notes: &mut Vec<Note>) {
+    if let Some(history) = finished.histories.get(place.0) {
+        if let Some(step) = history.get(place.1) {
+            add(notes, Note::Step(place.0, *step));
+        }
+    }
+}
+
+// How many pairs are left in all stripes.
+fn left_in(parts: &[Map]) -> usize {
+    let mut left = 0usize;
+    for part in parts {
+        left = left.saturating_add(part.len());
+    }
+    left
 }
 
 // Notes each step along the order of the run, and how many pairs are left.
-fn note_run(finished: &Finished<Map>, notes: &mut Vec<Note>) -> bool {
+fn note_run(finished: &Finished<Map>, notes: &mut Vec<Note>) {
     for place in finished.order.as_slice() {
-        let is_noted = match step_at(finished, *place) {
-            Some(step) => notes.push(Note::Step(place.0, step)).is_ok(),
-            None => false,
-        };
-        if !is_noted {
-            return false;
-        }
+        note_step(finished, *place, notes);
     }
-    let mut left = 0usize;
-    for part in finished.parts.as_slice() {
-        left = left.saturating_add(part.len());
-    }
-    notes.push(Note::Left(left)).is_ok()
+    add(notes, Note::Left(left_in(finished.parts.as_slice())));
 }
 
 // Finishes the run with these passes, and notes it. What came back is answered.
@@ -171,17 +170,42 @@ fn finish<L: Ledger, M: Site<Shared<Same>>>(
             None
         }
         Err(back) => {
-            let note = Note::Back(back.cause, back.recorded.stripes.len(), back.passes.len());
-            if notes.push(note).is_err() {
-                return None;
-            }
+            let sizes = (back.recorded.stripes.len(), back.passes.len());
+            add(notes, Note::Back(back.cause, sizes.0, sizes.1));
             Some((back.recorded, back.passes))
         }
     }
 }
 
+// Finishes the run with the first pass alone, and then with both.
+fn finish_again<L: Ledger, M: Site<Shared<Same>>>(
+    closed: Closed<Map, L, M>,
+    passes: Vec<Pass<Map, L>>,
+    notes: &mut Vec<Note>,
+) -> bool {
+    let mut passes = passes;
+    let Some(last) = passes.pop() else {
+        return false;
+    };
+    match finish(closed, passes, notes) {
+        Some((closed, passes)) => finish_with(closed, passes, last, notes),
+        None => false,
+    }
+}
+
+// Finishes the run with one pass more.
+fn finish_with<L: Ledger, M: Site<Shared<Same>>>(
+    closed: Closed<Map, L, M>,
+    passes: Vec<Pass<Map, L>>,
+    last: Pass<Map, L>,
+    notes: &mut Vec<Note>,
+) -> bool {
+    let mut passes = passes;
+    passes.push(last).is_ok() && finish(closed, passes, notes).is_none()
+}
+
 // Which passes the run is finished with.
-#[derive(Clone, Copy, PartialEq)]
+#[derive(Clone, Copy)]
 enum Ends {
     // With both.
     WithBoth,
@@ -225,33 +249,25 @@ fn play_on<L: Ledger, M: Site<Shared<Same>>, R: Wait>(
     notes: &mut Vec<Note>,
 ) -> bool {
     let mut passes = passes;
-    let (Some(mut second), Some(mut first)) = (passes.pop(), passes.pop()) else {
-        return false;
-    };
-    if !act_in_turn(rt, &recorded, &mut first, &mut second, acts, notes)
-        || passes.push(first).is_err()
-    {
-        return false;
-    }
+    act_by_both(rt, &recorded, passes.as_mut_slice(), acts, notes);
     let closed = recorded.close();
     match ends {
-        Ends::WithBoth => passes.push(second).is_ok() && finish(closed, passes, notes).is_none(),
-        Ends::WithOneThenBoth => match finish(closed, passes, notes) {
-            Some((closed, passes)) => finish_with(closed, passes, second, notes),
-            None => false,
-        },
+        Ends::WithBoth => finish(closed, passes, notes).is_none(),
+        Ends::WithOneThenBoth => finish_again(closed, passes, notes),
     }
 }
 
-// Finishes the run with one pass more.
-fn finish_with<L: Ledger, M: Site<Shared<Same>>>(
-    closed: Closed<Map, L, M>,
-    passes: Vec<Pass<Map, L>>,
-    last: Pass<Map, L>,
+// Has both act with their passes.
+fn act_by_both<L: Ledger, M: Site<Shared<Same>>, R: Wait>(
+    rt: &R,
+    recorded: &Recorded<Map, L, M>,
+    passes: &mut [Pass<Map, L>],
+    acts: &[(Who, Act)],
     notes: &mut Vec<Note>,
-) -> bool {
-    let mut passes = passes;
-    passes.push(last).is_ok() && finish(closed, passes, notes).is_none()
+) {
+    if let [first, second] = passes {
+        act_in_turn(rt, recorded, first, second, acts, notes);
+    }
 }
 
 // Plays, and compares all that was noted.
@@ -260,28 +276,28 @@ fn expect_notes<R: AllocGlobal + Abort + Wait>(
     acts: &[(Who, Act)],
     ends: Ends,
     wanted: &[Note],
-) -> Result<(), Fail> {
+) {
     let mut notes = Vec::new(rt.alloc());
-    let hasher = Shared::new(Arc::new(rt.alloc(), Same)?);
-    let is_played = play::<Brand, Brand, R>(
-        rt,
-        rt.alloc(),
-        hasher,
-        Blank::new(2),
-        Blank::new(2),
-        acts,
-        ends,
-        &mut notes,
-    );
-    expect(rt, is_played);
-    expect_eq(rt, notes.as_slice(), wanted);
-    Ok(())
+    let is_played = match Arc::new(rt.alloc(), Same) {
+        Ok(owner) => play::<Brand, Brand, R>(
+            rt,
+            rt.alloc(),
+            Shared::new(owner),
+            Blank::new(2),
+            Blank::new(2),
+            acts,
+            ends,
+            &mut notes,
+        ),
+        Err(_) => false,
+    };
+    expect_eq(rt, (is_played, notes.as_slice()), (true, wanted));
 }
 
 // A stamp is one more than the greater of what its pass knows of and the last one of its stripe, so two calls in two
 // stripes may have the same. The order of the run is by stamps, and for one stamp by stripes.
 #[test]
-fn recorded_stamps_and_order(rt: HostRuntime) -> Result<(), Fail> {
+fn recorded_stamps_and_order(rt: HostRuntime) {
     let acts = [
         (Who::First, Act::Insert(1, 10)),
         (Who::First, Act::Insert(HIGH + 1, 20)),
@@ -302,11 +318,11 @@ fn recorded_stamps_and_order(rt: HostRuntime) -> Result<(), Fail> {
         call(0, 3, 0, MapCall::Read(1), ten),
         Note::Left(2),
     ];
-    expect_notes(&rt, &acts, Ends::WithBoth, &wanted)
+    expect_notes(&rt, &acts, Ends::WithBoth, &wanted);
 }
 
 #[test]
-fn recorded_told_raises_clock(rt: HostRuntime) -> Result<(), Fail> {
+fn recorded_told_raises_clock(rt: HostRuntime) {
     let acts = [
         (Who::First, Act::Insert(1, 10)),
         (Who::Second, Act::Told),
@@ -322,17 +338,17 @@ fn recorded_told_raises_clock(rt: HostRuntime) -> Result<(), Fail> {
         call(1, 2, 1, MapCall::Insert(HIGH + 1, 20), Reply::Inserted),
         Note::Left(2),
     ];
-    expect_notes(&rt, &acts, Ends::WithBoth, &wanted)
+    expect_notes(&rt, &acts, Ends::WithBoth, &wanted);
 }
 
 #[test]
-fn recorded_finish_wants_every_pass(rt: HostRuntime) -> Result<(), Fail> {
+fn recorded_finish_wants_every_pass(rt: HostRuntime) {
     let wanted = [Note::Back(FinishError::Missing, 2, 1), Note::Left(0)];
-    expect_notes(&rt, &[], Ends::WithOneThenBoth, &wanted)
+    expect_notes(&rt, &[], Ends::WithOneThenBoth, &wanted);
 }
 
 #[test]
-fn recorded_clear_and_len_stamp_each_stripe(rt: HostRuntime) -> Result<(), Fail> {
+fn recorded_clear_and_len_stamp_each_stripe(rt: HostRuntime) {
     let acts = [
         (Who::First, Act::Insert(1, 10)),
         (Who::Second, Act::Clear),
@@ -350,5 +366,5 @@ fn recorded_clear_and_len_stamp_each_stripe(rt: HostRuntime) -> Result<(), Fail>
         call(1, 4, 0, MapCall::Len, Reply::Count(0)),
         Note::Left(0),
     ];
-    expect_notes(&rt, &acts, Ends::WithBoth, &wanted)
+    expect_notes(&rt, &acts, Ends::WithBoth, &wanted);
 }

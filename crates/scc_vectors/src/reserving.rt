@@ -74,19 +74,30 @@ impl Reserving for hash_index::Owned<u64, u64> {
 }
 
 // Reserves 10000 slots, then the greatest number and 0, inserts the keys 0 to 15, and gives the slots back. The capacity
-// after the first call, whether the other two answered nothing, whether each key went in, and the capacity at the end.
-pub(crate) fn grows_and_gives_back<C: Reserving>(form: &mut C) -> (usize, bool, bool, usize) {
+// before and after the first call, whether the other two answered nothing, whether each key went in, and the capacity at
+// the end.
+pub(crate) fn grows_and_gives_back<C: Reserving>(
+    form: &mut C,
+) -> (usize, usize, bool, bool, usize) {
+    let before = form.sizes().0;
     let Some(token) = form.reserve_slots(10_000) else {
-        return (0, false, false, 0);
+        return (before, 0, false, false, 0);
     };
     let grown = form.sizes().0;
     let refused = form.reserve_slots(usize::MAX).is_none() && form.reserve_slots(0).is_none();
-    let mut added = true;
-    for key in 0..16 {
-        added = form.add(key) && added;
-    }
+    let added = add_sixteen(form);
     let is_back = token.additional_capacity() == 10_000 && form.release_slots(token).is_ok();
-    (grown, refused, added && is_back, form.sizes().0)
+    (before, grown, refused, added && is_back, form.sizes().0)
+}
+
+// Whether the keys 0 to 15 went in.
+fn add_sixteen<C: Reserving>(form: &mut C) -> bool {
+    for key in 0..16 {
+        if !form.add(key) {
+            return false;
+        }
+    }
+    true
 }
 
 // The sizes of a new container, after it reserved 1000 slots, and after its first insertion.

@@ -3,7 +3,6 @@ use crate::expect::expect_eq;
 use scc_play::play::{BAD_CALL, FINISHED, play};
 use std::process::Abort;
 use std::sync::Wait;
-use std::test::Fail;
 use std::thread::Threads;
 
 // Plays a script. It writes that text and ends in that status.
@@ -64,28 +63,23 @@ fn run_map_on_two_stripes_len_and_clear(rt: HostRuntime) {
 
 // Keys 0 to 32 share a bucket of 32 slots, so the last put takes the place of the first.
 #[test]
-fn run_cache_evicts_the_first(rt: HostRuntime) -> Result<(), Fail> {
-    let mut script = String::from_str(rt.alloc(), "cache 1 1\n")?;
-    let mut text = String::from_str(rt.alloc(), "worker 0\n")?;
-    let mut contents = String::from_str(rt.alloc(), "contents 32\n")?;
-    for key in 0..33u64 {
-        add_line(&mut script, "0 put ", key)?;
-        text.push_str(if key < 32 { "ok\n" } else { "evicted 0 0\n" })?;
-        if key > 0 {
-            add_line(&mut contents, "", key)?;
-        }
-    }
-    text.push_str(contents.as_str())?;
-    text.push_str("records 33\n")?;
-    expect_run(&rt, script.as_str(), text.as_str(), FINISHED);
-    Ok(())
-}
-
-// Adds a line that ends with a key and the same number as its value.
-fn add_line(text: &mut String, begin: &str, key: u64) -> Result<(), Fail> {
-    use std::fmt::Write;
-    writeln!(text, "{begin}{key} {key}")?;
-    Ok(())
+fn run_cache_evicts_the_first(rt: HostRuntime) {
+    expect_run(
+        &rt,
+        "cache 1 1\n\
+         0 put 0 0\n0 put 1 1\n0 put 2 2\n0 put 3 3\n0 put 4 4\n0 put 5 5\n0 put 6 6\n0 put 7 7\n\
+         0 put 8 8\n0 put 9 9\n0 put 10 10\n0 put 11 11\n0 put 12 12\n0 put 13 13\n0 put 14 14\n0 put 15 15\n\
+         0 put 16 16\n0 put 17 17\n0 put 18 18\n0 put 19 19\n0 put 20 20\n0 put 21 21\n0 put 22 22\n0 put 23 23\n\
+         0 put 24 24\n0 put 25 25\n0 put 26 26\n0 put 27 27\n0 put 28 28\n0 put 29 29\n0 put 30 30\n0 put 31 31\n\
+         0 put 32 32\n",
+        "worker 0\nok\nok\nok\nok\nok\nok\nok\nok\nok\nok\nok\nok\nok\nok\nok\nok\n\
+         ok\nok\nok\nok\nok\nok\nok\nok\nok\nok\nok\nok\nok\nok\nok\nok\nevicted 0 0\ncontents 32\n\
+         1 1\n2 2\n3 3\n4 4\n5 5\n6 6\n7 7\n8 8\n9 9\n10 10\n11 11\n12 12\n\
+         13 13\n14 14\n15 15\n16 16\n17 17\n18 18\n19 19\n20 20\n21 21\n22 22\n23 23\n24 24\n\
+         25 25\n26 26\n27 27\n28 28\n29 29\n30 30\n31 31\n32 32\n\
+         records 33\n",
+        FINISHED,
+    );
 }
 
 #[test]

@@ -6,10 +6,11 @@ use scc_script::same::Same;
 use std::hash::BuildHasher;
 use std::process::Abort;
 use std::sync::Wait;
-use std::test::Fail;
 use test_kit::zero::Zero;
 
 const HALF: u64 = 1 << 63;
+
+const GREATEST: usize = 1 << 63;
 
 // Whether a thread that holds the entry of key 1 gets through a call on another key. In one stripe it would wait for
 // itself, up to the limit of a test.
@@ -20,16 +21,32 @@ fn comes_through(rt: &impl Wait, map: &HashMap<u64, u64, Same>, other: u64) -> b
     }
 }
 
+// Inserts a key of each stripe. Whether both went in, and the stripes of both and of the greatest key.
+fn insert_in_both(rt: &impl Wait, map: &HashMap<u64, u64, Same>) -> (bool, [usize; 3]) {
+    let are_inserted = map.insert_sync(rt, 1, 10).is_ok()
+        && map.insert_sync(rt, HALF + 1, 20).is_ok();
+    let stripes = [
+        map.stripe_of(&1),
+        map.stripe_of(&(HALF + 1)),
+        map.stripe_of(&u64::MAX),
+    ];
+    (are_inserted, stripes)
+}
+
 #[test]
-fn shared_map_of_two_stripes(rt: HostRuntime) -> Result<(), Fail> {
-    let map: HashMap<u64, u64, Same> = HashMap::with_capacity_and_hasher(rt.alloc(), 128, Same)?;
-    expect(&rt, map.insert_sync(&rt, 1, 10).is_ok());
-    expect(&rt, map.insert_sync(&rt, HALF + 1, 20).is_ok());
-    expect_eq(&rt, (map.stripe_of(&1), map.stripe_of(&(HALF + 1))), (0, 1));
-    expect_eq(&rt, map.stripe_of(&u64::MAX), 1);
-    expect(&rt, comes_through(&rt, &map, HALF + 1));
-    expect_eq(&rt, (map.len(&rt), map.capacity(&rt)), (2, 128));
-    Ok(())
+fn shared_map_of_two_stripes(rt: HostRuntime) {
+    match HashMap::with_capacity_and_hasher(rt.alloc(), 128, Same) {
+        Ok(map) => {
+            let inserted = insert_in_both(&rt, &map);
+            let comes = comes_through(&rt, &map, HALF + 1);
+            expect_eq(
+                &rt,
+                (inserted, comes, map.len(&rt), map.capacity(&rt)),
+                ((true, [0, 1, 1]), true, 2, 128),
+            );
+        }
+        Err(_) => expect(&rt, false),
+    }
 }
 
 // Puts a key with itself as value. The key that went for it, if one did; None if the put was refused.
@@ -39,7 +56,8 @@ fn put<H: BuildHasher>(
     key: u64,
 ) -> Option<Option<u64>> {
     match cache.put_sync(rt, key, key) {
-        Ok(evicted) => Some(evicted.map(|pair| pair.0)),
+        Ok(Some(pair)) => Some(Some(pair.0)),
+        Ok(None) => Some(None),
         Err(_) => None,
     }
 }
@@ -54,20 +72,31 @@ fn fill<H: BuildHasher>(rt: &impl Wait, cache: &HashCache<u64, u64, H>) -> bool 
     true
 }
 
-// The length and the capacity.
-fn cache_sizes<H: BuildHasher>(rt: &impl Wait, cache: &HashCache<u64, u64, H>) -> (usize, usize) {
-    (cache.len(rt), cache.capacity(rt))
+// The length and the capacity, and both ends of its range.
+fn cache_sizes<H: BuildHasher>(rt: &impl Wait, cache: &HashCache<u64, u64, H>) -> [usize; 4] {
+    let range = cache.capacity_range();
+    [
+        cache.len(rt),
+        cache.capacity(rt),
+        *range.start(),
+        *range.end(),
+    ]
 }
 
 // Each of the four stripes has at most 64 slots, so that 32 pairs in a bucket double nothing.
 #[test]
-fn shared_cache_of_four_stripes_evicts(rt: HostRuntime) -> Result<(), Fail> {
-    let cache = HashCache::with_hasher(rt.alloc(), Zero)?;
-    expect(&rt, fill(&rt, &cache));
-    expect_eq(&rt, put(&rt, &cache, 32), Some(Some(0)));
-    expect_eq(&rt, cache_sizes(&rt, &cache), (32, 64));
-    expect_eq(&rt, cache.capacity_range(), 0..=256);
-    Ok(())
+fn shared_cache_of_four_stripes_evicts(rt: HostRuntime) {
+    match HashCache::with_hasher(rt.alloc(), Zero) {
+        Ok(cache) => {
+            let put = (fill(&rt, &cache), put(&rt, &cache, 32));
+            expect_eq(
+                &rt,
+                (put, cache_sizes(&rt, &cache)),
+                ((true, Some(Some(0))), [32, 64, 0, 256]),
+            );
+        }
+        Err(_) => expect(&rt, false),
+    }
 }
 
 // Whether a thread that holds the entry of key 1 gets through a put of another key. In one stripe it would wait for
@@ -82,26 +111,47 @@ fn puts_beside_an_entry(rt: &impl Wait, cache: &HashCache<u64, u64, Same>, other
 // Two stripes of 64 slots each: the 33rd key of a bucket finds its stripe half full, which doubles, and the other stays.
 // One stripe of 128 slots wouldn't be half full, and four would have 256.
 #[test]
-fn shared_cache_capacities(rt: HostRuntime) -> Result<(), Fail> {
-    let cache = HashCache::with_capacity_and_hasher(rt.alloc(), 100, 2000, Same)?;
-    expect_eq(&rt, cache_sizes(&rt, &cache), (0, 128));
-    expect_eq(&rt, cache.capacity_range(), 128..=2048);
-    expect(&rt, fill(&rt, &cache));
-    expect(&rt, puts_beside_an_entry(&rt, &cache, HALF + 1));
-    expect_eq(&rt, cache_sizes(&rt, &cache), (33, 128));
-    expect_eq(&rt, put(&rt, &cache, 32), Some(Some(0)));
-    expect_eq(&rt, cache_sizes(&rt, &cache), (33, 192));
-    Ok(())
+fn shared_cache_capacities(rt: HostRuntime) {
+    match HashCache::with_capacity_and_hasher(rt.alloc(), 100, 2000, Same) {
+        Ok(cache) => {
+            let bare = cache_sizes(&rt, &cache);
+            let put_beside = fill(&rt, &cache) && puts_beside_an_entry(&rt, &cache, HALF + 1);
+            let filled = cache_sizes(&rt, &cache);
+            let evicted = put(&rt, &cache, 32);
+            expect_eq(
+                &rt,
+                (
+                    put_beside,
+                    evicted,
+                    [bare, filled, cache_sizes(&rt, &cache)],
+                ),
+                (
+                    true,
+                    Some(Some(0)),
+                    [
+                        [0, 128, 128, 2048],
+                        [33, 128, 128, 2048],
+                        [33, 192, 128, 2048],
+                    ],
+                ),
+            );
+        }
+        Err(_) => expect(&rt, false),
+    }
 }
 
 // The value of each of the next three versions, None where none came.
 fn next_three(index: &HashIndex<u64, u64>, rt: &impl Wait) -> Option<[Option<u64>; 3]> {
-    let mut versions = index.iter(rt).ok()?;
-    let mut values = [None; 3];
-    for value in values.iter_mut() {
-        *value = versions.next().map(|version| *version.value());
+    match index.iter(rt) {
+        Ok(mut versions) => {
+            let mut values = [None; 3];
+            for value in values.iter_mut() {
+                *value = versions.next().map(|version| *version.value());
+            }
+            Some(values)
+        }
+        Err(_) => None,
     }
-    Some(values)
 }
 
 // Whether the key was there and has that value now.
@@ -112,175 +162,302 @@ fn update(index: &HashIndex<u64, u64>, rt: &impl Wait, key: u64, value: u64) -> 
     }
 }
 
-#[test]
-fn shared_index_peeked_version_stays(rt: HostRuntime) -> Result<(), Fail> {
-    let index: HashIndex<u64, u64> = HashIndex::new(rt.alloc())?;
-    expect(&rt, index.entry_sync(&rt, 37).or_insert(11).is_ok());
-    let peeked = index.peek(&rt, &37)?;
-    expect(&rt, update(&index, &rt, 37, 29));
-    expect_eq(&rt, index.peek_with(&rt, &37, |_, value| *value), Some(29));
-    expect_eq(&rt, next_three(&index, &rt), Some([Some(29), None, None]));
+// Whether the key has that value, now that it got it, and whether a walk over versions shows that alone.
+fn shows_alone(index: &HashIndex<u64, u64>, rt: &impl Wait, key: u64, value: u64) -> bool {
+    index.peek_with(rt, &key, |_, value| *value) == Some(value)
+        && next_three(index, rt) == Some([Some(value), None, None])
+}
+
+// The value of a version of the key that is held while the index gets another one, and goes. None where a call on the
+// index answers something else.
+fn peek_across<R: Wait>(rt: &R, index: HashIndex<u64, u64>) -> Option<u64> {
+    if index.entry_sync(rt, 37).or_insert(11).is_err() {
+        return None;
+    }
+    let Ok(Some(peeked)) = index.peek(rt, &37) else {
+        return None;
+    };
+    if !update(&index, rt, 37, 29) || !shows_alone(&index, rt, 37, 29) {
+        return None;
+    }
     drop(index);
-    expect_eq(&rt, peeked.map(|version| *version.value()), Some(11));
-    Ok(())
+    Some(*peeked.value())
 }
 
 #[test]
-fn shared_map_reserve_grows_and_gives_back(rt: HostRuntime) -> Result<(), Fail> {
-    let map: HashMap<u64, u64> = HashMap::with_capacity(rt.alloc(), 800)?;
-    expect_eq(&rt, map.capacity(&rt), 1024);
-    let held = map.reserve(&rt, 10_000);
-    expect_eq(&rt, map.capacity(&rt), 16_384);
-    expect(&rt, map.reserve(&rt, usize::MAX).is_none());
-    expect(&rt, map.reserve(&rt, 0).is_none());
-    for key in 0..16 {
-        expect(&rt, map.insert_sync(&rt, key, key).is_ok());
+fn shared_index_peeked_version_stays(rt: HostRuntime) {
+    match HashIndex::new(rt.alloc()) {
+        Ok(index) => expect_eq(&rt, peek_across(&rt, index), Some(11)),
+        Err(_) => expect(&rt, false),
     }
+}
+
+// A container that is filled, and refuses reservations.
+trait Filling {
+    // Adds a key that is missing.
+    fn add<R: Wait>(&self, rt: &R, key: u64) -> bool;
+
+    // The capacity, and both ends of its range.
+    fn sizes<R: Wait>(&self, rt: &R) -> [usize; 3];
+
+    // Whether so many slots are refused.
+    fn refuses<R: Wait>(&self, rt: &R, slots: usize) -> bool;
+}
+
+// One that takes reservations, each for as long as it is held.
+trait Reserving: Filling {
+    // The sizes with so many slots reserved, and then with the keys from `first` on and before `end` as well. None where
+    // the reservation has another number of slots, the greatest number of slots or none isn't refused, or a key doesn't go
+    // in.
+    fn hold<R: Wait>(&self, rt: &R, slots: usize, first: u64, end: u64) -> Option<[[usize; 3]; 2]>;
+
+    // The sizes with 100 and 200 slots reserved, then with 200 alone, and then with none.
+    fn hold_both<R: Wait>(&self, rt: &R) -> Option<[[usize; 3]; 3]>;
+}
+
+// Whether the greatest number of slots and none are refused, and the keys go in.
+fn refuses_and_adds<C: Filling, R: Wait>(rt: &R, form: &C, first: u64, end: u64) -> bool {
+    for key in first..end {
+        if !form.add(rt, key) {
+            return false;
+        }
+    }
+    form.refuses(rt, usize::MAX) && form.refuses(rt, 0)
+}
+
+impl Filling for HashMap<u64, u64> {
+    fn add<R: Wait>(&self, rt: &R, key: u64) -> bool {
+        self.insert_sync(rt, key, key).is_ok()
+    }
+
+    fn sizes<R: Wait>(&self, rt: &R) -> [usize; 3] {
+        let range = self.capacity_range();
+        [self.capacity(rt), *range.start(), *range.end()]
+    }
+
+    fn refuses<R: Wait>(&self, rt: &R, slots: usize) -> bool {
+        self.reserve(rt, slots).is_none()
+    }
+}
+
+impl Reserving for HashMap<u64, u64> {
+    fn hold<R: Wait>(&self, rt: &R, slots: usize, first: u64, end: u64) -> Option<[[usize; 3]; 2]> {
+        let Some(held) = self.reserve(rt, slots) else {
+            return None;
+        };
+        let sizes = self.sizes(rt);
+        if refuses_and_adds(rt, self, first, end) && held.additional_capacity() == slots {
+            Some([sizes, self.sizes(rt)])
+        } else {
+            None
+        }
+    }
+
+    fn hold_both<R: Wait>(&self, rt: &R) -> Option<[[usize; 3]; 3]> {
+        let Some(first) = self.reserve(rt, 100) else {
+            return None;
+        };
+        let Some(second) = self.reserve(rt, 200) else {
+            return None;
+        };
+        let both = self.sizes(rt);
+        drop(first);
+        let one = self.sizes(rt);
+        drop(second);
+        Some([both, one, self.sizes(rt)])
+    }
+}
+
+impl Filling for HashSet<u64> {
+    fn add<R: Wait>(&self, rt: &R, key: u64) -> bool {
+        self.insert_sync(rt, key).is_ok()
+    }
+
+    fn sizes<R: Wait>(&self, rt: &R) -> [usize; 3] {
+        let range = self.capacity_range();
+        [self.capacity(rt), *range.start(), *range.end()]
+    }
+
+    fn refuses<R: Wait>(&self, rt: &R, slots: usize) -> bool {
+        self.reserve(rt, slots).is_none()
+    }
+}
+
+impl Reserving for HashSet<u64> {
+    fn hold<R: Wait>(&self, rt: &R, slots: usize, first: u64, end: u64) -> Option<[[usize; 3]; 2]> {
+        let Some(held) = self.reserve(rt, slots) else {
+            return None;
+        };
+        let sizes = self.sizes(rt);
+        if refuses_and_adds(rt, self, first, end) && held.additional_capacity() == slots {
+            Some([sizes, self.sizes(rt)])
+        } else {
+            None
+        }
+    }
+
+    fn hold_both<R: Wait>(&self, rt: &R) -> Option<[[usize; 3]; 3]> {
+        let Some(first) = self.reserve(rt, 100) else {
+            return None;
+        };
+        let Some(second) = self.reserve(rt, 200) else {
+            return None;
+        };
+        let both = self.sizes(rt);
+        drop(first);
+        let one = self.sizes(rt);
+        drop(second);
+        Some([both, one, self.sizes(rt)])
+    }
+}
+
+impl Filling for HashIndex<u64, u64> {
+    fn add<R: Wait>(&self, rt: &R, key: u64) -> bool {
+        self.insert_sync(rt, key, key).is_ok()
+    }
+
+    fn sizes<R: Wait>(&self, rt: &R) -> [usize; 3] {
+        let range = self.capacity_range();
+        [self.capacity(rt), *range.start(), *range.end()]
+    }
+
+    fn refuses<R: Wait>(&self, rt: &R, slots: usize) -> bool {
+        self.reserve(rt, slots).is_none()
+    }
+}
+
+impl Reserving for HashIndex<u64, u64> {
+    fn hold<R: Wait>(&self, rt: &R, slots: usize, first: u64, end: u64) -> Option<[[usize; 3]; 2]> {
+        let Some(held) = self.reserve(rt, slots) else {
+            return None;
+        };
+        let sizes = self.sizes(rt);
+        if refuses_and_adds(rt, self, first, end) && held.additional_capacity() == slots {
+            Some([sizes, self.sizes(rt)])
+        } else {
+            None
+        }
+    }
+
+    fn hold_both<R: Wait>(&self, rt: &R) -> Option<[[usize; 3]; 3]> {
+        let Some(first) = self.reserve(rt, 100) else {
+            return None;
+        };
+        let Some(second) = self.reserve(rt, 200) else {
+            return None;
+        };
+        let both = self.sizes(rt);
+        drop(first);
+        let one = self.sizes(rt);
+        drop(second);
+        Some([both, one, self.sizes(rt)])
+    }
+}
+
+// A container of 1024 slots grows by a reservation, and gives back what it took, also with 16 keys.
+fn expect_growth<C: Reserving, R: Abort + Wait>(rt: &R, form: &C) {
+    let bare = form.sizes(rt);
+    let held = form.hold(rt, 10_000, 0, 16);
+    let grown = [16_384, 11_024, GREATEST];
     expect_eq(
-        &rt,
-        held.map(|reserve| reserve.additional_capacity()),
-        Some(10_000),
+        rt,
+        (bare, held, form.sizes(rt)),
+        (
+            [1024, 1024, GREATEST],
+            Some([grown, grown]),
+            [1024, 1024, GREATEST],
+        ),
     );
-    expect_eq(&rt, map.capacity(&rt), 1024);
-    Ok(())
 }
 
 #[test]
-fn shared_set_reserve_grows_and_gives_back(rt: HostRuntime) -> Result<(), Fail> {
-    let set: HashSet<u64> = HashSet::with_capacity(rt.alloc(), 800)?;
-    expect_eq(&rt, set.capacity(&rt), 1024);
-    let held = set.reserve(&rt, 10_000);
-    expect_eq(&rt, set.capacity(&rt), 16_384);
-    expect(&rt, set.reserve(&rt, usize::MAX).is_none());
-    expect(&rt, set.reserve(&rt, 0).is_none());
-    for key in 0..16 {
-        expect(&rt, set.insert_sync(&rt, key).is_ok());
+fn shared_map_reserve_grows_and_gives_back(rt: HostRuntime) {
+    match HashMap::<u64, u64>::with_capacity(rt.alloc(), 800) {
+        Ok(map) => expect_growth(&rt, &map),
+        Err(_) => expect(&rt, false),
     }
-    expect_eq(
-        &rt,
-        held.map(|reserve| reserve.additional_capacity()),
-        Some(10_000),
-    );
-    expect_eq(&rt, set.capacity(&rt), 1024);
-    Ok(())
 }
 
 #[test]
-fn shared_index_reserve_grows_and_gives_back(rt: HostRuntime) -> Result<(), Fail> {
-    let index: HashIndex<u64, u64> = HashIndex::with_capacity(rt.alloc(), 800)?;
-    expect_eq(&rt, index.capacity(&rt), 1024);
-    let held = index.reserve(&rt, 10_000);
-    expect_eq(&rt, index.capacity(&rt), 16_384);
-    expect(&rt, index.reserve(&rt, usize::MAX).is_none());
-    expect(&rt, index.reserve(&rt, 0).is_none());
-    for key in 0..16 {
-        expect(&rt, index.insert_sync(&rt, key, key).is_ok());
+fn shared_set_reserve_grows_and_gives_back(rt: HostRuntime) {
+    match HashSet::<u64>::with_capacity(rt.alloc(), 800) {
+        Ok(set) => expect_growth(&rt, &set),
+        Err(_) => expect(&rt, false),
     }
-    expect_eq(
-        &rt,
-        held.map(|reserve| reserve.additional_capacity()),
-        Some(10_000),
-    );
-    expect_eq(&rt, index.capacity(&rt), 1024);
-    Ok(())
+}
+
+#[test]
+fn shared_index_reserve_grows_and_gives_back(rt: HostRuntime) {
+    match HashIndex::<u64, u64>::with_capacity(rt.alloc(), 800) {
+        Ok(index) => expect_growth(&rt, &index),
+        Err(_) => expect(&rt, false),
+    }
 }
 
 // Each of the 16 stripes has its sixteenth of the 1000 slots, rounded up: 63, for which an array of 64 slots is made.
-#[test]
-fn shared_map_reserve_without_array(rt: HostRuntime) -> Result<(), Fail> {
-    let map: HashMap<u64, u64> = HashMap::new(rt.alloc())?;
+fn expect_first_array<C: Reserving, R: Abort + Wait>(rt: &R, form: &C) {
+    let bare = form.sizes(rt);
+    let held = form.hold(rt, 1000, 1, 2);
     expect_eq(
-        &rt,
-        (map.capacity(&rt), map.capacity_range()),
-        (0, 0..=1 << 63),
+        rt,
+        (bare, held),
+        (
+            [0, 0, GREATEST],
+            Some([[0, 1000, GREATEST], [64, 1000, GREATEST]]),
+        ),
     );
-    let held = map.reserve(&rt, 1000);
-    expect_eq(
-        &rt,
-        (map.capacity(&rt), map.capacity_range()),
-        (0, 1000..=1 << 63),
-    );
-    expect(&rt, map.insert_sync(&rt, 1, 1).is_ok());
-    expect_eq(&rt, (map.capacity(&rt), held.is_some()), (64, true));
-    Ok(())
 }
 
 #[test]
-fn shared_set_reserve_without_array(rt: HostRuntime) -> Result<(), Fail> {
-    let set: HashSet<u64> = HashSet::new(rt.alloc())?;
-    expect_eq(
-        &rt,
-        (set.capacity(&rt), set.capacity_range()),
-        (0, 0..=1 << 63),
-    );
-    let held = set.reserve(&rt, 1000);
-    expect_eq(
-        &rt,
-        (set.capacity(&rt), set.capacity_range()),
-        (0, 1000..=1 << 63),
-    );
-    expect(&rt, set.insert_sync(&rt, 1).is_ok());
-    expect_eq(&rt, (set.capacity(&rt), held.is_some()), (64, true));
-    Ok(())
+fn shared_map_reserve_without_array(rt: HostRuntime) {
+    match HashMap::<u64, u64>::new(rt.alloc()) {
+        Ok(map) => expect_first_array(&rt, &map),
+        Err(_) => expect(&rt, false),
+    }
 }
 
 #[test]
-fn shared_index_reserve_without_array(rt: HostRuntime) -> Result<(), Fail> {
-    let index: HashIndex<u64, u64> = HashIndex::new(rt.alloc())?;
-    expect_eq(
-        &rt,
-        (index.capacity(&rt), index.capacity_range()),
-        (0, 0..=1 << 63),
-    );
-    let held = index.reserve(&rt, 1000);
-    expect_eq(
-        &rt,
-        (index.capacity(&rt), index.capacity_range()),
-        (0, 1000..=1 << 63),
-    );
-    expect(&rt, index.insert_sync(&rt, 1, 1).is_ok());
-    expect_eq(&rt, (index.capacity(&rt), held.is_some()), (64, true));
-    Ok(())
+fn shared_set_reserve_without_array(rt: HostRuntime) {
+    match HashSet::<u64>::new(rt.alloc()) {
+        Ok(set) => expect_first_array(&rt, &set),
+        Err(_) => expect(&rt, false),
+    }
 }
 
 #[test]
-fn shared_reserves_add_up(rt: HostRuntime) -> Result<(), Fail> {
-    let map: HashMap<u64, u64> = HashMap::new(rt.alloc())?;
-    let first = map.reserve(&rt, 100);
-    let second = map.reserve(&rt, 200);
-    expect(&rt, first.is_some() && second.is_some());
-    expect_eq(&rt, map.capacity_range(), 300..=1 << 63);
-    drop(first);
-    expect_eq(&rt, map.capacity_range(), 200..=1 << 63);
-    drop(second);
-    expect_eq(&rt, map.capacity_range(), 0..=1 << 63);
-    Ok(())
+fn shared_index_reserve_without_array(rt: HostRuntime) {
+    match HashIndex::<u64, u64>::new(rt.alloc()) {
+        Ok(index) => expect_first_array(&rt, &index),
+        Err(_) => expect(&rt, false),
+    }
+}
+
+// Two reservations add up, and each gives back its own.
+fn expect_sums<C: Reserving, R: Abort + Wait>(rt: &R, form: &C) {
+    let sums = [[0, 300, GREATEST], [0, 200, GREATEST], [0, 0, GREATEST]];
+    expect_eq(rt, form.hold_both(rt), Some(sums));
 }
 
 #[test]
-fn shared_set_reserves_add_up(rt: HostRuntime) -> Result<(), Fail> {
-    let set: HashSet<u64> = HashSet::new(rt.alloc())?;
-    let first = set.reserve(&rt, 100);
-    let second = set.reserve(&rt, 200);
-    expect(&rt, first.is_some() && second.is_some());
-    expect_eq(&rt, set.capacity_range(), 300..=1 << 63);
-    drop(first);
-    expect_eq(&rt, set.capacity_range(), 200..=1 << 63);
-    drop(second);
-    expect_eq(&rt, set.capacity_range(), 0..=1 << 63);
-    Ok(())
+fn shared_reserves_add_up(rt: HostRuntime) {
+    match HashMap::<u64, u64>::new(rt.alloc()) {
+        Ok(map) => expect_sums(&rt, &map),
+        Err(_) => expect(&rt, false),
+    }
 }
 
 #[test]
-fn shared_index_reserves_add_up(rt: HostRuntime) -> Result<(), Fail> {
-    let index: HashIndex<u64, u64> = HashIndex::new(rt.alloc())?;
-    let first = index.reserve(&rt, 100);
-    let second = index.reserve(&rt, 200);
-    expect(&rt, first.is_some() && second.is_some());
-    expect_eq(&rt, index.capacity_range(), 300..=1 << 63);
-    drop(first);
-    expect_eq(&rt, index.capacity_range(), 200..=1 << 63);
-    drop(second);
-    expect_eq(&rt, index.capacity_range(), 0..=1 << 63);
-    Ok(())
+fn shared_set_reserves_add_up(rt: HostRuntime) {
+    match HashSet::<u64>::new(rt.alloc()) {
+        Ok(set) => expect_sums(&rt, &set),
+        Err(_) => expect(&rt, false),
+    }
+}
+
+#[test]
+fn shared_index_reserves_add_up(rt: HostRuntime) {
+    match HashIndex::<u64, u64>::new(rt.alloc()) {
+        Ok(index) => expect_sums(&rt, &index),
+        Err(_) => expect(&rt, false),
+    }
 }

@@ -10,14 +10,9 @@ struct Turns {
     last: usize,
 }
 
-// All turns answer true.
-fn all() -> Turns {
-    Turns { made: 0, last: 5 }
-}
-
-// Turn `j` answers false.
-fn up_to(j: usize) -> Turns {
-    Turns { made: 0, last: j }
+// A worker whose turn with that number answers false, if it has one.
+fn up_to(last: usize) -> Turns {
+    Turns { made: 0, last }
 }
 
 impl Work for Turns {
@@ -45,24 +40,33 @@ impl Gate for GivesUp {
 
 #[test]
 fn workers_gate_gives_up(rt: HostRuntime) {
-    let mut work = [all(), all()];
+    let mut work = [up_to(5), up_to(5)];
     let ended = run(&rt, rt.alloc(), &mut work, &GivesUp);
-    expect_eq(&rt, ended, Err(RunError::Gate));
-    expect_eq(&rt, (work[0].made, work[1].made), (5, 3));
+    expect_eq(
+        &rt,
+        (ended, work[0].made, work[1].made),
+        (Err(RunError::Gate), 5, 3),
+    );
 }
 
 #[test]
 fn workers_false_turn_and_gate(rt: HostRuntime) {
-    let mut work = [up_to(2), all()];
+    let mut work = [up_to(2), up_to(5)];
     let ended = run(&rt, rt.alloc(), &mut work, &GivesUp);
-    expect_eq(&rt, ended, Err(RunError::Gate));
-    expect_eq(&rt, (work[0].made, work[1].made), (3, 3));
+    expect_eq(
+        &rt,
+        (ended, work[0].made, work[1].made),
+        (Err(RunError::Gate), 3, 3),
+    );
 }
 
 #[test]
 fn workers_false_turn_alone(rt: HostRuntime) {
-    let mut work = [all(), all(), up_to(0)];
+    let mut work = [up_to(5), up_to(5), up_to(0)];
     let ended = run(&rt, rt.alloc(), &mut work, &Open);
-    expect_eq(&rt, ended, Err(RunError::Stopped));
-    expect_eq(&rt, (work[0].made, work[1].made, work[2].made), (5, 5, 1));
+    expect_eq(
+        &rt,
+        (ended, work[0].made, work[1].made, work[2].made),
+        (Err(RunError::Stopped), 5, 5, 1),
+    );
 }

@@ -1,7 +1,9 @@
 // A finish that is refused hands all back, and is made again until it succeeds.
+use crate::expect::expect_eq;
 use crate::texts::TRIES;
-use scc::recorded::{Calls, Closed, FinishError, Finished, Pass, Site};
+use scc::recorded::{Calls, Closed, FinishError, Finished, Pass, Site, Unfinished};
 use std::io::Print;
+use std::process::Abort;
 use std::sync::ledger::Ledger;
 use test_kit::refusals::Refusal;
 
@@ -29,8 +31,37 @@ where
     (closed.stripes.len(), steps)
 }
 
-// The finished run, and how often it was refused. None where a refusal handed back anything else than was handed in.
-pub(crate) fn finished<C: Calls + Drop, L: Ledger, M: Site<C::Hasher>, R: Print>(
+// What can be seen of a run that isn't finished: its stripes and their steps, its passes, their clocks and receipts.
+fn seen_of<C: Calls + Drop, L: Ledger, M: Site<C::Hasher>>(
+    closed: &Closed<C, L, M>,
+    passes: &[Pass<C, L>],
+) -> [usize; 5]
+where
+    C::Hasher: Drop,
+{
+    let (stripes, steps) = steps_of(closed);
+    let (passes, clocks, receipts) = clocks_of(passes);
+    [stripes, steps, passes, clocks as usize, receipts]
+}
+
+// What a refused finish handed back, which is what was handed in.
+fn handed_back<C: Calls + Drop, L: Ledger, M: Site<C::Hasher>, R: Abort + Print>(
+    rt: &R,
+    refusal: &mut Refusal,
+    back: Unfinished<C, L, M>,
+    before: [usize; 5],
+) -> (Closed<C, L, M>, Vec<Pass<C, L>>)
+where
+    C::Hasher: Drop,
+{
+    refusal.meet(rt, "a finish");
+    let after = seen_of(&back.recorded, back.passes.as_slice());
+    expect_eq(rt, (back.cause, after), (FinishError::Memory, before));
+    (back.recorded, back.passes)
+}
+
+// The finished run. None where it is refused each time.
+pub(crate) fn finished<C: Calls + Drop, L: Ledger, M: Site<C::Hasher>, R: Abort + Print>(
     rt: &R,
     refusal: &mut Refusal,
     closed: Closed<C, L, M>,
@@ -41,19 +72,12 @@ where
     C::Call: Drop,
     C::Reply: Drop,
 {
-    let before = (steps_of(&closed), clocks_of(passes.as_slice()));
+    let before = seen_of(&closed, passes.as_slice());
     let mut held = (closed, passes);
     for _ in 0..TRIES {
         match held.0.finish(held.1) {
             Ok(run) => return Some(run),
-            Err(back) => {
-                refusal.meet(rt, "a finish");
-                let after = (steps_of(&back.recorded), clocks_of(back.passes.as_slice()));
-                if back.cause != FinishError::Memory || after != before {
-                    return None;
-                }
-                held = (back.recorded, back.passes);
-            }
+            Err(back) => held = handed_back(rt, refusal, back, before),
         }
     }
     None

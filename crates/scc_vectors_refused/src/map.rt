@@ -12,20 +12,12 @@ type Map = Owned<u64, u64, Zero>;
 // More than the requests that are refused in a row.
 const TRIES: u64 = 32;
 
-// What an insertion answered: nothing, or the pair that came back for want of memory.
-#[derive(Clone, Copy, Debug, PartialEq)]
-enum Answer {
-    Inserted,
-    Refused(u64, u64),
-    Exists,
-}
-
-// Inserts a key with its complement as value.
-fn insert(map: &mut Map, key: u64) -> Answer {
+// Inserts a key with its complement as value. The pair comes back for want of memory, and None where an equal key is there.
+fn insert(map: &mut Map, key: u64) -> Result<(), Option<(u64, u64)>> {
     match map.insert_sync(key, !key) {
-        Ok(()) => Answer::Inserted,
-        Err(InsertError::Memory(pair)) => Answer::Refused(pair.0, pair.1),
-        Err(InsertError::Exists(_)) => Answer::Exists,
+        Ok(()) => Ok(()),
+        Err(InsertError::Memory(pair)) => Err(Some(pair)),
+        Err(InsertError::Exists(_)) => Err(None),
     }
 }
 
@@ -39,34 +31,43 @@ fn holds_below(map: &Map, end: u64) -> bool {
     map.len() as u64 == end
 }
 
+// Whether the keys 1 to 31 go in.
+fn insert_after_the_first(map: &mut Map) -> bool {
+    for key in 1..32 {
+        if insert(map, key).is_err() {
+            return false;
+        }
+    }
+    true
+}
+
 // Inserts the keys 0 to 31, each again until it goes in. Only the first one takes memory, for its array.
 fn fill<R: Abort + Print>(rt: &R, refusal: &mut Refusal, map: &mut Map) {
     for _ in 0..TRIES {
         match insert(map, 0) {
-            Answer::Refused(key, value) => {
+            Err(Some(pair)) => {
                 refusal.meet(rt, "the first array");
-                expect_eq(rt, (key, value), (0, !0));
-                expect_eq(rt, (map.len(), map.capacity()), (0, 0));
+                expect_eq(rt, (pair, map.len(), map.capacity()), ((0, !0), 0, 0));
             }
             _ => break,
         }
     }
-    for key in 1..32 {
-        expect_eq(rt, insert(map, key), Answer::Inserted);
-    }
-    expect_eq(rt, map.capacity(), 64);
-    expect(rt, holds_below(map, 32));
+    expect(rt, insert_after_the_first(map));
+    expect_eq(rt, (map.capacity(), holds_below(map, 32)), (64, true));
 }
 
 // Inserts the key after those below it once. A refused insertion hands its pair back and leaves the others as they are.
 fn insert_next<R: Abort + Print>(rt: &R, map: &mut Map, key: u64) -> bool {
     let answer = insert(map, key);
-    if answer == Answer::Inserted {
+    if answer.is_ok() {
         expect(rt, holds_below(map, key.saturating_add(1)));
         return true;
     }
-    expect_eq(rt, answer, Answer::Refused(key, !key));
-    expect(rt, holds_below(map, key));
+    expect_eq(
+        rt,
+        (answer, holds_below(map, key)),
+        (Err(Some((key, !key))), true),
+    );
     false
 }
 
@@ -162,14 +163,14 @@ fn iter_mut_refused_room_stops(rt: HostRuntime) {
     let mut refusal = Refusal::new();
     let mut map = Owned::with_hasher(rt.alloc(), Zero);
     for _ in 0..TRIES {
-        if insert(&mut map, 0) == Answer::Inserted {
+        if insert(&mut map, 0).is_ok() {
             break;
         }
     }
     expect_eq(
         &rt,
         (insert(&mut map, 1), insert(&mut map, 2)),
-        (Answer::Inserted, Answer::Inserted),
+        (Ok(()), Ok(())),
     );
     match listed(&rt, &mut refusal) {
         Some(mut taken) => {

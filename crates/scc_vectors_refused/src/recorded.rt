@@ -19,6 +19,11 @@ use test_kit::zero::Zero;
 
 type Map = Owned<u64, u64, Shared<Zero>>;
 
+// What a pass says: its clock, and how many receipts it has.
+fn said<L: Ledger>(pass: &Pass<Map, L>) -> (u64, usize) {
+    (pass.clock(), pass.receipts().len())
+}
+
 // Inserts (1, 10) until it goes in, under stamp 1. A refused call leaves the clock at 0 and no receipt. Whether one found
 // no room.
 fn insert<L: Ledger, M: Site<Shared<Zero>>, R: Abort + Print + Wait>(
@@ -29,11 +34,10 @@ fn insert<L: Ledger, M: Site<Shared<Zero>>, R: Abort + Print + Wait>(
 ) -> bool {
     let mut lacks_room = false;
     for _ in 0..TRIES {
-        expect_eq(rt, (pass.clock(), pass.receipts().len()), (0, 0));
+        expect_eq(rt, said(pass), (0, 0));
         match recorded.call(rt, pass, MapCall::Insert(1, 10)) {
             Ok(reply) => {
-                expect_eq(rt, reply, Reply::Inserted);
-                expect_eq(rt, (pass.clock(), pass.receipts().len()), (1, 1));
+                expect_eq(rt, (reply, said(pass)), (Reply::Inserted, (1, 1)));
                 return lacks_room;
             }
             Err(CallError::Room) => {

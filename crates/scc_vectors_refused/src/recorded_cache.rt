@@ -42,64 +42,68 @@ fn length<L: Ledger, M: Site<Shared<Zero>>, R: AllocGlobal + Print + Wait>(
     None
 }
 
-// Puts a key once: key 0 with the text "x", and every other with an empty one, which takes no memory. False where it was
-// refused, and then the pass is as it was, and the pairs below the key are there.
-fn put<L: Ledger, M: Site<Shared<Zero>>, R: AllocGlobal + Abort + Print + Wait>(
-    rt: &R,
-    refusal: &mut Refusal,
-    recorded: &Recorded<Names, L, M>,
-    pass: &mut Pass<Names, L>,
-    key: u64,
-) -> bool {
-    let Some(value) = text(rt, refusal, if key == 0 { "x" } else { "" }) else {
-        return false;
-    };
-    let before = (pass.clock(), pass.receipts().len());
-    match recorded.call(rt, pass, CacheCall::Put(key, value)) {
-        Ok(reply) => {
-            expect(rt, is_answer(key, &reply));
-            return true;
-        }
-        Err(CallError::Room) => refusal.meet(rt, "room for a recorded put of a text"),
-        Err(CallError::Container) => {
-            refusal.meet(rt, "a copy of an evicted pair");
-            expect_eq(rt, key, 32);
-        }
-    }
-    expect_eq(rt, (pass.clock(), pass.receipts().len()), before);
-    expect_eq(rt, length(rt, refusal, recorded, pass), Some(key as usize));
-    false
+// What a pass says: its clock, and how many receipts it has.
+fn said<L: Ledger>(pass: &Pass<Names, L>) -> (u64, usize) {
+    (pass.clock(), pass.receipts().len())
 }
 
-// Puts a key until it goes in.
-fn put_in<L: Ledger, M: Site<Shared<Zero>>, R: AllocGlobal + Abort + Print + Wait>(
+// Puts a key once, key 0 with the text "x", and every other with an empty one, which takes no memory: whether its answer
+// is right. None where it was refused, as only that of key 32 is for its container.
+fn put<L: Ledger, M: Site<Shared<Zero>>, R: AllocGlobal + Print + Wait>(
     rt: &R,
     refusal: &mut Refusal,
     recorded: &Recorded<Names, L, M>,
     pass: &mut Pass<Names, L>,
     key: u64,
-) -> bool {
-    for _ in 0..TRIES {
-        if put(rt, refusal, recorded, pass, key) {
-            return true;
+) -> Option<bool> {
+    let Some(value) = text(rt, refusal, if key == 0 { "x" } else { "" }) else {
+        return None;
+    };
+    match recorded.call(rt, pass, CacheCall::Put(key, value)) {
+        Ok(reply) => Some(is_answer(key, &reply)),
+        Err(CallError::Room) => {
+            refusal.meet(rt, "room for a recorded put of a text");
+            None
+        }
+        Err(CallError::Container) => {
+            refusal.meet(rt, "a copy of an evicted pair");
+            if key == 32 { None } else { Some(false) }
         }
     }
-    false
+}
+
+// Puts a key until it goes in. A refused put leaves the pass as it was, and the pairs below the key.
+fn expect_put<L: Ledger, M: Site<Shared<Zero>>, R: AllocGlobal + Abort + Print + Wait>(
+    rt: &R,
+    refusal: &mut Refusal,
+    recorded: &Recorded<Names, L, M>,
+    pass: &mut Pass<Names, L>,
+    key: u64,
+) {
+    for _ in 0..TRIES {
+        let before = said(pass);
+        if let Some(is_right) = put(rt, refusal, recorded, pass, key) {
+            return expect(rt, is_right);
+        }
+        let after = said(pass);
+        let count = length(rt, refusal, recorded, pass);
+        expect_eq(rt, (after, count), (before, Some(key as usize)));
+    }
+    expect(rt, false);
 }
 
 // The puts of the keys 0 to 32 by the one pass, in a bucket of 32 slots.
 fn put_all<L: Ledger, M: Site<Shared<Zero>>, R: AllocGlobal + Abort + Print + Wait>(
     rt: &R,
     refusal: &mut Refusal,
-    recorded: Recorded<Names, L, M>,
-    passes: Vec<Pass<Names, L>>,
+    recorded: &Recorded<Names, L, M>,
+    passes: &mut [Pass<Names, L>],
 ) {
-    let mut passes = passes;
-    for pass in passes.as_mut_slice() {
+    for pass in passes {
         for key in 0..33 {
-            expect(rt, put_in(rt, refusal, &recorded, pass, key));
+            expect_put(rt, refusal, recorded, pass, key);
         }
-        expect_eq(rt, length(rt, refusal, &recorded, pass), Some(32));
+        expect_eq(rt, length(rt, refusal, recorded, pass), Some(32));
     }
 }
 
@@ -122,7 +126,8 @@ fn on_one_stripe<L: Ledger, M: Site<Shared<Zero>>, R: AllocGlobal + Abort + Prin
     };
     match Recorded::<Names, L, M>::open(rt.alloc(), setup, 1, 1, receipts, records) {
         Ok((recorded, passes)) => {
-            put_all(rt, refusal, recorded, passes);
+            let mut passes = passes;
+            put_all(rt, refusal, &recorded, passes.as_mut_slice());
             true
         }
         Err(_) => {

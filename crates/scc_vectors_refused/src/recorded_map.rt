@@ -1,5 +1,5 @@
 // A recorded map of texts. Each clone is made before anything is changed, so a refused call leaves all as it was.
-ghost use Rattle.std.specs.Prelude.{◌≡◌, IsSome, Some};
+ghost use Rattle.std.specs.Prelude.{◌≡◌, IfSome, IsSome, Some};
 ghost use Rattle.scc_calls.specs.MapCalls.{map_key};
 ghost use Rattle.scc_recorded.specs.Setups.{request_of};
 
@@ -39,64 +39,90 @@ fn is_answer(number: u64, reply: &Reply<String, String>) -> bool {
     }
 }
 
-// Makes the call of that number once. False where it was refused, and then the pass is as it was.
-fn call<L: Ledger, M: Site<Shared<Zero>>, R: AllocGlobal + Abort + Print + Wait>(
+// The call of that number with its texts. None where a text is refused each time.
+fn made<R: AllocGlobal + Print>(
+    rt: &R,
+    refusal: &mut Refusal,
+    number: u64,
+) -> Option<MapCall<String, String>>
+    ensures { IfSome result (λ call. IsSome (map_key call)) }
+{
+    let Some(key) = text(rt, refusal, "a") else {
+        return None;
+    };
+    match text(rt, refusal, if number == 0 { "x" } else { "y" }) {
+        Some(value) => Some(call_of(number, key, value)),
+        None => None,
+    }
+}
+
+// What a pass says: its clock, and how many receipts it has.
+fn said<L: Ledger>(pass: &Pass<Names, L>) -> (u64, usize) {
+    (pass.clock(), pass.receipts().len())
+}
+
+// Makes the call of that number once: whether its answer is right. None where it was refused.
+fn ask<L: Ledger, M: Site<Shared<Zero>>, R: AllocGlobal + Print + Wait>(
     rt: &R,
     refusal: &mut Refusal,
     recorded: &Recorded<Names, L, M>,
     pass: &mut Pass<Names, L>,
     number: u64,
-) -> bool {
-    let value = if number == 0 { "x" } else { "y" };
-    let (Some(key), Some(value)) = (text(rt, refusal, "a"), text(rt, refusal, value)) else {
-        return false;
+) -> Option<bool> {
+    let Some(call) = made(rt, refusal, number) else {
+        return None;
     };
-    let before = (pass.clock(), pass.receipts().len());
-    match recorded.call(rt, pass, call_of(number, key, value)) {
-        Ok(reply) => {
-            expect(rt, is_answer(number, &reply));
-            true
-        }
+    match recorded.call(rt, pass, call) {
+        Ok(reply) => Some(is_answer(number, &reply)),
         Err(_) => {
             refusal.meet(rt, "a recorded call of texts");
-            expect_eq(rt, (pass.clock(), pass.receipts().len()), before);
-            false
+            None
         }
     }
 }
 
-// Makes the call of that number until it is answered.
-fn answered<L: Ledger, M: Site<Shared<Zero>>, R: AllocGlobal + Abort + Print + Wait>(
+// Makes the call of that number until it is answered. A refused one leaves the pass as it was.
+fn expect_answer<L: Ledger, M: Site<Shared<Zero>>, R: AllocGlobal + Abort + Print + Wait>(
     rt: &R,
     refusal: &mut Refusal,
     recorded: &Recorded<Names, L, M>,
     pass: &mut Pass<Names, L>,
     number: u64,
-) -> bool {
+) {
+    let before = said(pass);
     for _ in 0..TRIES {
-        if call(rt, refusal, recorded, pass, number) {
-            return true;
+        if let Some(is_right) = ask(rt, refusal, recorded, pass, number) {
+            return expect(rt, is_right);
         }
+        expect_eq(rt, said(pass), before);
     }
-    false
+    expect(rt, false);
 }
 
-// Three call records with the stamps 1, 2 and 3, each with its answer, and nothing is left.
-fn expect_run<R: Abort>(rt: &R, run: &Finished<Names>) {
+// Whether the steps are call records with the stamps from 1 on, each with its answer, beside resizes; and how many calls
+// they are.
+fn records_of(history: &[Step<MapCall<String, String>, Reply<String, String>>]) -> (bool, u64) {
     let mut records = 0u64;
-    for history in run.histories.as_slice() {
-        for step in history.as_slice() {
-            if let Step::Call { stamp, reply, .. } = step {
-                expect(rt, is_answer(records, reply));
-                records = records.saturating_add(1);
-                expect_eq(rt, *stamp, records);
-            }
+    let mut are_right = true;
+    for step in history {
+        if let Step::Call { stamp, reply, .. } = step {
+            are_right = are_right && is_answer(records, reply);
+            records = records.saturating_add(1);
+            are_right = are_right && *stamp == records;
         }
     }
-    expect_eq(rt, records, 3);
+    (are_right, records)
+}
+
+// The one stripe has three call records, and nothing is left.
+fn expect_run<R: Abort>(rt: &R, run: &Finished<Names>) {
+    for history in run.histories.as_slice() {
+        expect_eq(rt, records_of(history.as_slice()), (true, 3));
+    }
     for part in run.parts.as_slice() {
         expect(rt, part.is_empty());
     }
+    expect_eq(rt, (run.histories.len(), run.parts.len()), (1, 1));
 }
 
 // The three calls by the one pass, and the finish.
@@ -109,7 +135,7 @@ fn call_and_finish<L: Ledger, M: Site<Shared<Zero>>, R: AllocGlobal + Abort + Pr
     let mut passes = passes;
     for pass in passes.as_mut_slice() {
         for number in 0..3 {
-            expect(rt, answered(rt, refusal, &recorded, pass, number));
+            expect_answer(rt, refusal, &recorded, pass, number);
         }
     }
     match finished(rt, refusal, recorded.close(), passes) {

@@ -1,10 +1,9 @@
 // What the calls of a cache answer, and which of them leave the order of a bucket.
-use crate::expect::expect_eq;
+use crate::expect::{expect, expect_eq};
 use crate::rows::{Call, expect_answers};
 use scc::hash_cache::Owned;
 use scc_script::same::Same;
 use std::process::Abort;
-use std::test::Fail;
 use test_forms::answers::{Answer, Rule};
 use test_forms::form::{Act, At, Form, Way};
 use test_kit::maybe_equal::MaybeEqual;
@@ -22,14 +21,15 @@ fn puts(key: u64, evicted: (u64, u64)) -> Row {
 }
 
 // Makes the calls on a cache whose keys share a bucket of 32 slots.
-fn expect_in_one_bucket<R: AllocGlobal + Abort>(rt: &R, rows: &[Row]) -> Result<(), Fail> {
-    let mut cache = Owned::with_capacity_and_hasher(rt.alloc(), 0, 64, Zero)?;
-    expect_answers(rt, &mut cache, rows);
-    Ok(())
+fn expect_in_one_bucket<R: AllocGlobal + Abort>(rt: &R, rows: &[Row]) {
+    match Owned::with_capacity_and_hasher(rt.alloc(), 0, 64, Zero) {
+        Ok(mut cache) => expect_answers(rt, &mut cache, rows),
+        Err(_) => expect(rt, false),
+    }
 }
 
 #[test]
-fn cache_which_calls_leave_the_order(rt: HostRuntime) -> Result<(), Fail> {
+fn cache_which_calls_leave_the_order(rt: HostRuntime) {
     let rows = [
         (Call::Fill(0, 32), Answer::Yes(true)),
         (Call::Read(0), Answer::Found(Some((0, 0, 0)))),
@@ -38,12 +38,12 @@ fn cache_which_calls_leave_the_order(rt: HostRuntime) -> Result<(), Fail> {
         (Call::RemoveIf(0), Answer::Found(None)),
         puts(32, (0, 1)),
     ];
-    expect_in_one_bucket(&rt, &rows)
+    expect_in_one_bucket(&rt, &rows);
 }
 
 // What a declined removal wrote stays, and what an accepted one wrote comes back.
 #[test]
-fn cache_false_remove_if_keeps_what_it_wrote(rt: HostRuntime) -> Result<(), Fail> {
+fn cache_false_remove_if_keeps_what_it_wrote(rt: HostRuntime) {
     let rows = [
         (Call::Fill(0, 32), Answer::Yes(true)),
         (Call::RemoveIf(0), Answer::Found(None)),
@@ -51,12 +51,12 @@ fn cache_false_remove_if_keeps_what_it_wrote(rt: HostRuntime) -> Result<(), Fail
         (Call::RemoveIf(1), Answer::Found(Some((1, 0, 2)))),
         (Call::RemoveIf(1), Answer::Found(None)),
     ];
-    expect_in_one_bucket(&rt, &rows)
+    expect_in_one_bucket(&rt, &rows);
 }
 
 // Walks add 1 to each value that they come to, and keep the order of the pairs that stay.
 #[test]
-fn cache_walks_keep_the_order(rt: HostRuntime) -> Result<(), Fail> {
+fn cache_walks_keep_the_order(rt: HostRuntime) {
     let rows = [
         (Call::Fill(0, 32), Answer::Yes(true)),
         (Call::Retain(0), Answer::Yes(true)),
@@ -68,12 +68,12 @@ fn cache_walks_keep_the_order(rt: HostRuntime) -> Result<(), Fail> {
         (Call::Fill(41, 42), Answer::Yes(true)),
         puts(42, (3, 5)),
     ];
-    expect_in_one_bucket(&rt, &rows)
+    expect_in_one_bucket(&rt, &rows);
 }
 
 // A put drives out a pair of its own bucket alone.
 #[test]
-fn cache_evicts_from_the_keys_own_bucket(rt: HostRuntime) -> Result<(), Fail> {
+fn cache_evicts_from_the_keys_own_bucket(rt: HostRuntime) {
     let other = 1 << 63;
     let rows = [
         (Call::Fill(other, other + 1), Answer::Yes(true)),
@@ -81,11 +81,14 @@ fn cache_evicts_from_the_keys_own_bucket(rt: HostRuntime) -> Result<(), Fail> {
         puts(32, (0, 0)),
         (Call::Read(other), Answer::Found(Some((other, 0, other)))),
     ];
-    let mut cache = Owned::with_capacity_and_hasher(rt.alloc(), 64, 64, Same)?;
-    expect_answers(&rt, &mut cache, &rows);
-    let sizes = Form::<MaybeEqual, u64>::sizes(&cache);
-    expect_eq(&rt, (sizes.len, sizes.capacity), (33, 64));
-    Ok(())
+    match Owned::with_capacity_and_hasher(rt.alloc(), 64, 64, Same) {
+        Ok(mut cache) => {
+            expect_answers(&rt, &mut cache, &rows);
+            let sizes = Form::<MaybeEqual, u64>::sizes(&cache);
+            expect_eq(&rt, (sizes.len, sizes.capacity), (33, 64));
+        }
+        Err(_) => expect(&rt, false),
+    }
 }
 
 #[test]

@@ -1,5 +1,5 @@
 // How often each call of a map calls its closure.
-use crate::expect::{expect, expect_eq};
+use crate::expect::expect_eq;
 use scc::Verdict;
 use scc::hash_map::Owned;
 use std::process::Abort;
@@ -30,11 +30,11 @@ fn walk(map: &Map, last: u64) -> (bool, u64) {
 #[test]
 fn map_iter_calls_up_to_its_first_false(rt: HostRuntime) {
     let mut map = Owned::with_hasher(rt.alloc(), Zero);
-    expect(&rt, fill(&mut map, 40));
+    let is_filled = fill(&mut map, 40);
     expect_eq(
         &rt,
-        (walk(&map, 0), walk(&map, 7)),
-        ((true, 40), (false, 7)),
+        (is_filled, walk(&map, 0), walk(&map, 7)),
+        (true, (true, 40), (false, 7)),
     );
 }
 
@@ -53,11 +53,11 @@ fn search(map: &mut Map, last: u64) -> (bool, u64) {
 #[test]
 fn map_any_calls_up_to_the_pair_that_passes(rt: HostRuntime) {
     let mut map = Owned::with_hasher(rt.alloc(), Zero);
-    expect(&rt, fill(&mut map, 40));
+    let is_filled = fill(&mut map, 40);
     expect_eq(
         &rt,
-        (search(&mut map, 0), search(&mut map, 7)),
-        ((false, 40), (true, 7)),
+        (is_filled, search(&mut map, 0), search(&mut map, 7)),
+        (true, (false, 40), (true, 7)),
     );
 }
 
@@ -74,8 +74,8 @@ fn retain(map: &mut Map) -> (u64, usize) {
 #[test]
 fn map_retain_calls_once_a_pair(rt: HostRuntime) {
     let mut map = Owned::with_hasher(rt.alloc(), Zero);
-    expect(&rt, fill(&mut map, 40));
-    expect_eq(&rt, retain(&mut map), (40, 20));
+    let is_filled = fill(&mut map, 40);
+    expect_eq(&rt, (is_filled, retain(&mut map)), (true, (40, 20)));
 }
 
 // A walk that answers `each`, and at its call number 7 `seventh`: what it answers, its calls, and how many were taken and
@@ -100,14 +100,15 @@ fn take(
 #[test]
 fn map_iter_mut_calls_up_to_each_stop(rt: HostRuntime) {
     let mut map = Owned::with_hasher(rt.alloc(), Zero);
-    expect(&rt, fill(&mut map, 40));
     let mut taken = Vec::new(rt.alloc());
-    let kept = take(&mut map, &mut taken, Verdict::Keep, Verdict::KeepStop);
-    expect_eq(&rt, kept, (false, 7, 0, 40));
-    let stopped = take(&mut map, &mut taken, Verdict::Take, Verdict::TakeStop);
-    expect_eq(&rt, stopped, (false, 7, 7, 33));
-    let ended = take(&mut map, &mut taken, Verdict::Keep, Verdict::Keep);
-    expect_eq(&rt, ended, (true, 33, 7, 33));
+    let is_filled = fill(&mut map, 40);
+    let walks = [
+        take(&mut map, &mut taken, Verdict::Keep, Verdict::KeepStop),
+        take(&mut map, &mut taken, Verdict::Take, Verdict::TakeStop),
+        take(&mut map, &mut taken, Verdict::Keep, Verdict::Keep),
+    ];
+    let wanted = [(false, 7, 0, 40), (false, 7, 7, 33), (true, 33, 7, 33)];
+    expect_eq(&rt, (is_filled, walks), (true, wanted));
 }
 
 // The value of a key after each way to insert it, and how often their closures were called.
@@ -157,8 +158,12 @@ fn remove_if(map: &mut Map, key: u64, holds: bool) -> (Option<(u64, u64)>, u64) 
 #[test]
 fn map_asks_the_condition_only_for_a_key_that_is_there(rt: HostRuntime) {
     let mut map = Owned::with_hasher(rt.alloc(), Zero);
-    expect(&rt, fill(&mut map, 2));
-    expect_eq(&rt, remove_if(&mut map, 2, true), (None, 0));
-    expect_eq(&rt, remove_if(&mut map, 1, false), (None, 1));
-    expect_eq(&rt, remove_if(&mut map, 1, true), (Some((1, 1)), 1));
+    let is_filled = fill(&mut map, 2);
+    let removed = [
+        remove_if(&mut map, 2, true),
+        remove_if(&mut map, 1, false),
+        remove_if(&mut map, 1, true),
+    ];
+    let wanted = [(None, 0), (None, 1), (Some((1, 1)), 1)];
+    expect_eq(&rt, (is_filled, removed), (true, wanted));
 }

@@ -1,10 +1,10 @@
 // What single calls and entries answer.
+use crate::expect::expect;
 use crate::rows::{Call, expect_answers};
 use scc::{hash_index, hash_map, hash_set};
 use scc_script::same::Same;
-use std::hash::RandomState;
+use std::hash::{BuildHasher, RandomState};
 use std::process::Abort;
-use std::test::Fail;
 use test_forms::answers::Answer;
 use test_forms::form::{Act, At, Way};
 use test_kit::maybe_equal::MaybeEqual;
@@ -28,19 +28,24 @@ const CALLS: [(Call, Answer); 11] = [
     (Call::Read(12), Answer::Found(Some((12, 0, 19)))),
 ];
 
-#[test]
-fn map_calls_under_each_hasher(rt: HostRuntime) -> Result<(), Fail> {
-    let alloc = rt.alloc();
-    expect_answers(&rt, &mut hash_map::Owned::new(alloc), &CALLS);
-    expect_answers(&rt, &mut hash_map::Owned::with_hasher(alloc, Zero), &CALLS);
-    expect_answers(&rt, &mut hash_map::Owned::with_hasher(alloc, Same), &CALLS);
-    let seeded = RandomState::new(&rt)?;
+// Makes the calls on a map under that hasher.
+fn expect_under<H: BuildHasher + Clone + Drop, R: AllocGlobal + Abort>(rt: &R, hasher: H) {
     expect_answers(
-        &rt,
-        &mut hash_map::Owned::with_hasher(alloc, seeded),
+        rt,
+        &mut hash_map::Owned::with_hasher(rt.alloc(), hasher),
         &CALLS,
     );
-    Ok(())
+}
+
+#[test]
+fn map_calls_under_each_hasher(rt: HostRuntime) {
+    expect_answers(&rt, &mut hash_map::Owned::new(rt.alloc()), &CALLS);
+    expect_under(&rt, Zero);
+    expect_under(&rt, Same);
+    match RandomState::new(&rt) {
+        Ok(seeded) => expect_under(&rt, seeded),
+        Err(_) => expect(&rt, false),
+    }
 }
 
 // A way through the entry of a key that is there keeps the stored key, and but for `insert_entry` the value.
@@ -155,10 +160,11 @@ const INDEX_ENTRIES: [(Call, Answer); 10] = [
 ];
 
 #[test]
-fn index_entries(rt: HostRuntime) -> Result<(), Fail> {
-    let mut index = hash_index::Owned::with_capacity_and_hasher(rt.alloc(), 64, Same)?;
-    expect_answers(&rt, &mut index, &INDEX_ENTRIES);
-    Ok(())
+fn index_entries(rt: HostRuntime) {
+    match hash_index::Owned::with_capacity_and_hasher(rt.alloc(), 64, Same) {
+        Ok(mut index) => expect_answers(&rt, &mut index, &INDEX_ENTRIES),
+        Err(_) => expect(&rt, false),
+    }
 }
 
 const SET_CALLS: [(Call, Answer); 10] = [

@@ -3,7 +3,6 @@
 use crate::expect::{expect, expect_eq};
 use scc::{hash_cache, hash_index, hash_map, hash_set};
 use std::process::Abort;
-use std::test::Fail;
 use test_forms::answers::Answer;
 use test_forms::form::{Form, Way};
 use test_kit::maybe_equal::MaybeEqual;
@@ -64,25 +63,38 @@ fn sizes<F: Making>(form: &F) -> (usize, usize, usize) {
     (sizes.len, sizes.capacity, form.waiting().unwrap_or(0))
 }
 
-// Whether a key was added, with that answer.
-fn add<F: Making>(form: &mut F, key: u64, answer: Answer) -> bool {
-    form.add(Way::Insert, MaybeEqual(key, 0), key) == answer
+// Whether the keys from `first` on and before `end` were added, each with that answer.
+fn add<F: Making>(form: &mut F, first: u64, end: u64, answer: Answer) -> bool {
+    for key in first..end {
+        if form.add(Way::Insert, MaybeEqual(key, 0), key) != answer {
+            return false;
+        }
+    }
+    true
 }
 
 // Makes room for keys that share a bucket of 32 slots. The last insertion answers that, and leaves so many pairs.
 fn expect_rooms<R: Abort, F: Making>(rt: &R, form: &mut F, last: Answer, pairs: usize) {
-    expect(rt, form.make(0));
-    expect_eq(rt, sizes(form), (0, 64, 0));
-    for key in 0..32 {
-        expect(rt, add(form, key, Answer::Added(None)));
-    }
-    expect(rt, form.make(31));
-    expect_eq(rt, sizes(form), (32, 64, 0));
-    expect(rt, form.make(32) && form.make(33));
-    expect_eq(rt, sizes(form), (32, 128, 4));
+    let first = (form.make(0), sizes(form));
+    let filled = add(form, 0, 32, Answer::Added(None));
+    let there = (form.make(31), sizes(form));
+    let full = (form.make(32) && form.make(33), sizes(form));
     form.let_go();
-    expect(rt, add(form, 32, last));
-    expect_eq(rt, sizes(form), (pairs, 128, 2));
+    let added = add(form, 32, 33, last);
+    expect_eq(
+        rt,
+        (filled, added, [first, there, full, (true, sizes(form))]),
+        (
+            true,
+            true,
+            [
+                (true, (0, 64, 0)),
+                (true, (32, 64, 0)),
+                (true, (32, 128, 4)),
+                (true, (pairs, 128, 2)),
+            ],
+        ),
+    );
 }
 
 #[test]
@@ -104,34 +116,59 @@ fn index_room_is_made_before_an_insertion(rt: HostRuntime) {
 }
 
 #[test]
-fn cache_room_is_made_before_a_put(rt: HostRuntime) -> Result<(), Fail> {
-    let mut cache = hash_cache::Owned::with_capacity_and_hasher(rt.alloc(), 0, 128, Zero)?;
-    expect_rooms(&rt, &mut cache, Answer::Added(Some((0, 0, 0))), 32);
-    Ok(())
+fn cache_room_is_made_before_a_put(rt: HostRuntime) {
+    match hash_cache::Owned::with_capacity_and_hasher(rt.alloc(), 0, 128, Zero) {
+        Ok(mut cache) => expect_rooms(&rt, &mut cache, Answer::Added(Some((0, 0, 0))), 32),
+        Err(_) => expect(&rt, false),
+    }
 }
 
-// The key that a put would drive out.
-fn next_out(cache: &hash_cache::Owned<u64, u64, Zero>, key: u64) -> Option<(u64, u64)> {
+type Cache = hash_cache::Owned<u64, u64, Zero>;
+
+// The pair that a put would drive out.
+fn next_out(cache: &Cache, key: u64) -> Option<(u64, u64)> {
     match cache.next_evicted(&key) {
         Some((key, value)) => Some((*key, *value)),
         None => None,
     }
 }
 
+// Puts the keys 0 to 31, each with the next number as value. Whether each went in, and none was to be driven out before.
+fn fill(cache: &mut Cache) -> bool {
+    for key in 0..32u64 {
+        if next_out(cache, key).is_some() || cache.put_sync(key, key.saturating_add(1)).is_err() {
+            return false;
+        }
+    }
+    true
+}
+
+// What a put would drive out of a full bucket: of a key that is there, and of one that is missing; what it does drive out
+// then, and what the next one would.
+fn outs(
+    cache: &mut Cache,
+) -> (
+    [Option<(u64, u64)>; 2],
+    Option<(u64, u64)>,
+    Option<(u64, u64)>,
+) {
+    let before = [next_out(cache, 31), next_out(cache, 32)];
+    let out = match cache.put_sync(32, 0) {
+        Ok(out) => out,
+        Err(_) => None,
+    };
+    (before, out, next_out(cache, 33))
+}
+
 // It is told before the put: none for a key that is there or where a slot is free.
 #[test]
-fn cache_next_evicted_is_told_before_a_put(rt: HostRuntime) -> Result<(), Fail> {
-    let mut cache = hash_cache::Owned::with_capacity_and_hasher(rt.alloc(), 0, 64, Zero)?;
-    for key in 0..32 {
-        expect_eq(&rt, next_out(&cache, key), None);
-        expect(&rt, cache.put_sync(key, key + 1).is_ok());
+fn cache_next_evicted_is_told_before_a_put(rt: HostRuntime) {
+    match hash_cache::Owned::with_capacity_and_hasher(rt.alloc(), 0, 64, Zero) {
+        Ok(mut cache) => {
+            let is_filled = fill(&mut cache);
+            let wanted = ([None, Some((0, 1))], Some((0, 1)), Some((1, 2)));
+            expect_eq(&rt, (is_filled, outs(&mut cache)), (true, wanted));
+        }
+        Err(_) => expect(&rt, false),
     }
-    expect_eq(
-        &rt,
-        (next_out(&cache, 31), next_out(&cache, 32)),
-        (None, Some((0, 1))),
-    );
-    expect_eq(&rt, cache.put_sync(32, 0).ok(), Some(Some((0, 1))));
-    expect_eq(&rt, next_out(&cache, 33), Some((1, 2)));
-    Ok(())
 }

@@ -7,7 +7,7 @@ use test_forms::form::{Act, At, Form, Way};
 use test_kit::maybe_equal::MaybeEqual;
 
 // A key is a number, by which keys are compared, and a mark, which tells equal keys apart.
-#[derive(Clone, Copy, Debug)]
+#[derive(Clone, Copy)]
 pub(crate) enum Call {
     // Adds the keys from the first number on and before the second, each with itself as value: `Yes`.
     Fill(u64, u64),

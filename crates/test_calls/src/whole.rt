@@ -1,72 +1,100 @@
 // Whole containers: how large they are made, clones, comparisons, and steps from entry to entry.
 use crate::expect::{expect, expect_eq};
 use crate::rows::{Call, expect_sizes};
-use scc::{MakeError, hash_index, hash_map, hash_set};
+use scc::{hash_index, hash_map, hash_set};
+use std::alloc::Global;
 use std::process::Abort;
-use std::test::Fail;
 use test_forms::answers::Answer;
 use test_forms::form::Form;
+use test_forms::numbered::Seen;
 use test_kit::maybe_equal::MaybeEqual;
 use test_kit::zero::Zero;
 
 // Slots that are asked for, and the capacity.
 const CAPACITIES: [(usize, usize); 5] = [(0, 0), (1, 64), (64, 64), (65, 128), (800, 1024)];
 
-#[test]
-fn map_with_capacity_rounds_up(rt: HostRuntime) -> Result<(), Fail> {
-    for (asked, capacity) in CAPACITIES {
-        let map: hash_map::Owned<u64, u64> = hash_map::Owned::with_capacity(rt.alloc(), asked)?;
-        expect_eq(&rt, (map.len(), map.capacity()), (0, capacity));
+// The length and the capacity of a map with room for so many pairs, None if it is refused.
+fn sizes_of_map(alloc: Global, slots: usize) -> Option<(usize, usize)> {
+    match hash_map::Owned::<u64, u64>::with_capacity(alloc, slots) {
+        Ok(map) => Some((map.len(), map.capacity())),
+        Err(_) => None,
     }
-    let none: Result<hash_map::Owned<u64, u64>, MakeError> = hash_map::Owned::with_capacity(
-        rt.alloc(),
-        usize::MAX,
-    );
-    expect(&rt, none.is_err());
-    Ok(())
 }
 
 #[test]
-fn index_with_capacity_rounds_up(rt: HostRuntime) -> Result<(), Fail> {
+fn map_with_capacity_rounds_up(rt: HostRuntime) {
     for (asked, capacity) in CAPACITIES {
-        let index: hash_index::Owned<u64, u64> = hash_index::Owned::with_capacity(
-            rt.alloc(),
-            asked,
-        )?;
-        expect_eq(&rt, (index.len(), index.capacity()), (0, capacity));
+        expect_eq(&rt, sizes_of_map(rt.alloc(), asked), Some((0, capacity)));
     }
-    let none: Result<hash_index::Owned<u64, u64>, MakeError> = hash_index::Owned::with_capacity(
-        rt.alloc(),
-        usize::MAX,
-    );
-    expect(&rt, none.is_err());
-    Ok(())
+    expect_eq(&rt, sizes_of_map(rt.alloc(), usize::MAX), None);
+}
+
+// The same of an index.
+fn sizes_of_index(alloc: Global, slots: usize) -> Option<(usize, usize)> {
+    match hash_index::Owned::<u64, u64>::with_capacity(alloc, slots) {
+        Ok(index) => Some((index.len(), index.capacity())),
+        Err(_) => None,
+    }
+}
+
+#[test]
+fn index_with_capacity_rounds_up(rt: HostRuntime) {
+    for (asked, capacity) in CAPACITIES {
+        expect_eq(&rt, sizes_of_index(rt.alloc(), asked), Some((0, capacity)));
+    }
+    expect_eq(&rt, sizes_of_index(rt.alloc(), usize::MAX), None);
+}
+
+// Whether its clone equals the map, and the clone's capacity and how many of its buckets wait. None if it is refused.
+fn clone_of(map: &Map) -> Option<(bool, usize, usize)> {
+    match map.try_clone() {
+        Ok(copy) => Some((copy == *map, copy.capacity(), copy.pending())),
+        Err(_) => None,
+    }
+}
+
+// Whether the keys from `first` on and before `end` went in.
+fn fill(map: &mut Map, first: u64, end: u64) -> bool {
+    for key in first..end {
+        if map.insert_sync(key, key).is_err() {
+            return false;
+        }
+    }
+    true
 }
 
 // Its clone has its pairs and its capacity, and nothing waits in it.
 #[test]
-fn map_clone_has_nothing_pending(rt: HostRuntime) -> Result<(), Fail> {
+fn map_clone_has_nothing_pending(rt: HostRuntime) {
     let mut map = hash_map::Owned::with_hasher(rt.alloc(), Zero);
-    expect_sizes(&rt, &mut map, &[(Call::Fill(0, 33), (33, 128, 2))]);
-    let copy = map.try_clone()?;
-    expect(&rt, copy == map);
-    expect_eq(&rt, (copy.capacity(), copy.pending()), (128, 0));
-    expect_eq(&rt, map.pending(), 2);
-    Ok(())
+    let is_filled = fill(&mut map, 0, 33);
+    let sizes = (map.len(), map.capacity(), map.pending());
+    expect_eq(
+        &rt,
+        (is_filled, sizes, clone_of(&map), map.pending()),
+        (true, (33, 128, 2), Some((true, 128, 0)), 2),
+    );
+}
+
+// The capacity of a clone of the map with 100 slots reserved, and both ends of its range.
+fn clone_reserved(map: &mut hash_map::Owned<u64, u64>) -> Option<[usize; 3]> {
+    if map.reserve(100).is_none() {
+        return None;
+    }
+    match map.try_clone() {
+        Ok(copy) => {
+            let range = copy.capacity_range();
+            Some([copy.capacity(), *range.start(), *range.end()])
+        }
+        Err(_) => None,
+    }
 }
 
 // What is reserved isn't cloned.
 #[test]
-fn map_clone_without_array_has_none(rt: HostRuntime) -> Result<(), Fail> {
-    let mut map: hash_map::Owned<u64, u64> = hash_map::Owned::new(rt.alloc());
-    expect(&rt, map.reserve(100).is_some());
-    let copy = map.try_clone()?;
-    expect_eq(
-        &rt,
-        (copy.capacity(), copy.capacity_range()),
-        (0, 0..=1 << 63),
-    );
-    Ok(())
+fn map_clone_without_array_has_none(rt: HostRuntime) {
+    let sizes = clone_reserved(&mut hash_map::Owned::new(rt.alloc()));
+    expect_eq(&rt, sizes, Some([0, 0, 1 << 63]));
 }
 
 type Map = hash_map::Owned<u64, u64, Zero>;
@@ -76,58 +104,101 @@ fn equal(a: &Map, b: &Map) -> (bool, bool) {
     (*a == *b, *b == *a)
 }
 
+// Compares two empty maps, and again after each step on the way to the same pairs in both. Whether each step succeeds.
+fn compare(a: &mut Map, b: &mut Map) -> ([(bool, bool); 5], bool) {
+    let bare = equal(a, b);
+    let first = a.insert_sync(1, 10).is_ok();
+    let one = equal(a, b);
+    let second = b.insert_sync(2, 20).is_ok() && b.insert_sync(1, 10).is_ok();
+    let two = equal(a, b);
+    let third = a.insert_sync(2, 21).is_ok();
+    let other = equal(a, b);
+    let fourth = a.upsert_sync(2, 20).is_ok();
+    let all = first && second && third && fourth;
+    ([bare, one, two, other, equal(a, b)], all)
+}
+
 #[test]
 fn map_equality_looks_both_ways(rt: HostRuntime) {
     let mut a = hash_map::Owned::with_hasher(rt.alloc(), Zero);
     let mut b = hash_map::Owned::with_hasher(rt.alloc(), Zero);
-    expect_eq(&rt, equal(&a, &b), (true, true));
-    expect(&rt, a.insert_sync(1, 10).is_ok());
-    expect_eq(&rt, equal(&a, &b), (false, false));
-    expect(
+    let (same, other) = ((true, true), (false, false));
+    expect_eq(
         &rt,
-        b.insert_sync(2, 20).is_ok() && b.insert_sync(1, 10).is_ok(),
+        compare(&mut a, &mut b),
+        ([same, other, other, other, same], true),
     );
-    expect_eq(&rt, equal(&a, &b), (false, false));
-    expect(&rt, a.insert_sync(2, 21).is_ok());
-    expect_eq(&rt, equal(&a, &b), (false, false));
-    expect(&rt, a.upsert_sync(2, 20).is_ok());
-    expect_eq(&rt, equal(&a, &b), (true, true));
+}
+
+type Keys = hash_set::Owned<u64>;
+
+// Whether the sets are equal, and whether they differ once the first has one key more, which goes in.
+fn compare_keys(a: &mut Keys, b: &Keys) -> [bool; 3] {
+    let before = *a == *b;
+    [before, a.insert_sync(4).is_ok(), *a != *b]
 }
 
 #[test]
-fn set_equality_looks_at_keys(rt: HostRuntime) -> Result<(), Fail> {
-    let mut a: hash_set::Owned<u64> = hash_set::Owned::try_from_iter(rt.alloc(), [3, 1, 2])?;
-    let b: hash_set::Owned<u64> = hash_set::Owned::try_from_iter(rt.alloc(), [1, 2, 3, 3])?;
-    expect(&rt, a == b);
-    expect(&rt, a.insert_sync(4).is_ok());
-    expect(&rt, a != b);
-    Ok(())
+fn set_equality_looks_at_keys(rt: HostRuntime) {
+    match Keys::try_from_iter(rt.alloc(), [3, 1, 2]) {
+        Ok(mut a) => match Keys::try_from_iter(rt.alloc(), [1, 2, 3, 3]) {
+            Ok(b) => expect_eq(&rt, compare_keys(&mut a, &b), [true; 3]),
+            Err(_) => expect(&rt, false),
+        },
+        Err(_) => expect(&rt, false),
+    }
 }
 
 // The first of equal keys stays in a set of items.
 #[test]
-fn set_of_items_keeps_the_first_key(rt: HostRuntime) -> Result<(), Fail> {
-    let items = [MaybeEqual(5, 1), MaybeEqual(5, 2)];
-    let set: hash_set::Owned<MaybeEqual> = hash_set::Owned::try_from_iter(rt.alloc(), items)?;
-    expect_eq(&rt, set.read_sync(&MaybeEqual(5, 9), |key| key.1), Some(1));
-    Ok(())
+fn set_of_items_keeps_the_first_key(rt: HostRuntime) {
+    match hash_set::Owned::try_from_iter(rt.alloc(), [MaybeEqual(5, 1), MaybeEqual(5, 2)]) {
+        Ok(set) => expect_first_mark(&rt, &set),
+        Err(_) => expect(&rt, false),
+    }
+}
+
+fn expect_first_mark<R: Abort>(rt: &R, set: &hash_set::Owned<MaybeEqual>) {
+    expect_eq(rt, set.read_sync(&MaybeEqual(5, 9), |key| key.1), Some(1));
 }
 
 // The pairs by steps from entry to entry, and by taking each out on the way, are those of a walk, in its order.
 fn expect_steps<R: AllocGlobal + Abort, F: Form<MaybeEqual, u64>>(rt: &R, form: &mut F) {
     expect_sizes(rt, form, &[(Call::Fill(0, 40), (40, 128, 0))]);
     let mut walked = Vec::new(rt.alloc());
-    let mut stepped = Vec::new(rt.alloc());
-    expect(
-        rt,
-        form.collect(&mut walked) && form.step(64, &mut stepped) == Answer::Yes(true),
-    );
-    expect_eq(rt, stepped.as_slice(), walked.as_slice());
-    let mut drained = Vec::new(rt.alloc());
-    expect(rt, form.drain(64, &mut drained) == Answer::Yes(true));
-    expect_eq(rt, drained.as_slice(), walked.as_slice());
+    expect(rt, form.collect(&mut walked));
+    expect_same_steps(rt, form, walked.as_slice());
+    expect_same_drain(rt, form, walked.as_slice());
     let sizes = form.sizes();
     expect_eq(rt, (walked.len(), sizes.len, sizes.capacity), (40, 0, 128));
+}
+
+fn expect_same_steps<R: AllocGlobal + Abort, F: Form<MaybeEqual, u64>>(
+    rt: &R,
+    form: &mut F,
+    walked: &[Seen],
+) {
+    let mut stepped = Vec::new(rt.alloc());
+    let answer = form.step(64, &mut stepped);
+    expect_eq(
+        rt,
+        (answer, stepped.as_slice()),
+        (Answer::Yes(true), walked),
+    );
+}
+
+fn expect_same_drain<R: AllocGlobal + Abort, F: Form<MaybeEqual, u64>>(
+    rt: &R,
+    form: &mut F,
+    walked: &[Seen],
+) {
+    let mut drained = Vec::new(rt.alloc());
+    let answer = form.drain(64, &mut drained);
+    expect_eq(
+        rt,
+        (answer, drained.as_slice()),
+        (Answer::Yes(true), walked),
+    );
 }
 
 #[test]
@@ -146,19 +217,18 @@ fn index_steps_from_entry_to_entry(rt: HostRuntime) {
 }
 
 // A snapshot has each version once.
-#[test]
-fn index_snapshot_has_each_version(rt: HostRuntime) {
-    let mut index: hash_index::Owned<MaybeEqual, u64, Zero> = hash_index::Owned::with_hasher(
-        rt.alloc(),
-        Zero,
-    );
-    expect_sizes(&rt, &mut index, &[(Call::Fill(0, 40), (40, 128, 0))]);
+fn expect_snapshot<R: AllocGlobal + Abort, F: Form<MaybeEqual, u64>>(rt: &R, form: &mut F) {
+    expect_sizes(rt, form, &[(Call::Fill(0, 40), (40, 128, 0))]);
     let mut walked = Vec::new(rt.alloc());
     let mut met = Vec::new(rt.alloc());
     expect(
-        &rt,
-        index.collect(&mut walked) && index.snapshot(&mut met) == Answer::Yes(true),
+        rt,
+        form.collect(&mut walked) && form.snapshot(&mut met) == Answer::Yes(true),
     );
-    expect_eq(&rt, met.as_slice(), walked.as_slice());
-    expect_eq(&rt, met.len(), 40);
+    expect_eq(rt, (met.as_slice(), met.len()), (walked.as_slice(), 40));
+}
+
+#[test]
+fn index_snapshot_has_each_version(rt: HostRuntime) {
+    expect_snapshot(&rt, &mut hash_index::Owned::with_hasher(rt.alloc(), Zero));
 }

@@ -1,7 +1,6 @@
 // A recorded cache of texts: the copies of an evicted pair are made before anything is changed, so a refused put evicts
 // nothing, and the put that succeeds is right.
-ghost use Rattle.std.specs.Prelude.{◌≡◌, IsSome, Some};
-ghost use Rattle.scc_calls.specs.CacheCalls.{cache_key};
+ghost use Rattle.std.specs.Prelude.{◌≡◌, Some};
 ghost use Rattle.scc_recorded.specs.Setups.{request_of};
 
 use crate::calls::shared;
@@ -19,7 +18,7 @@ use test_kit::zero::Zero;
 
 // A key is a number, and a value a text or none: one type for both, since the borrow checker counts the types that are
 // met.
-#[derive(Clone, Debug, PartialEq, Eq, Hash, Drop)]
+#[derive(Clone, PartialEq, Eq, Hash, Drop)]
 enum Word {
     Number(u64),
     Text(String),
@@ -27,20 +26,16 @@ enum Word {
 
 type Names = Owned<Word, Word, Shared<Zero>>;
 
-// The put of a key: key 0 has a text, and every other a number, which takes no memory.
-fn put_of<R: AllocGlobal + Abort + Print>(
-    rt: &R,
-    refusal: &mut Refusal,
-    key: u64,
-) -> CacheCall<Word, Word>
-    ensures { IsSome (cache_key result) }
-{
-    let value = if key == 0 {
-        Word::Text(text(rt, refusal, "x"))
-    } else {
-        Word::Number(0)
-    };
-    CacheCall::Put(Word::Number(key), value)
+// The value of a key: key 0 has a text, and every other a number, which takes no memory. None where the text is refused
+// each time.
+fn value_of<R: AllocGlobal + Print>(rt: &R, refusal: &mut Refusal, key: u64) -> Option<Word> {
+    if key > 0 {
+        return Some(Word::Number(0));
+    }
+    match text(rt, refusal, "x") {
+        Some(text) => Some(Word::Text(text)),
+        None => None,
+    }
 }
 
 // Whether that is what the put of the key answers: that of key 32 evicts key 0, and no other evicts.
@@ -66,6 +61,30 @@ fn is_x(word: &Word) -> bool {
     }
 }
 
+// Puts a key once: whether its answer is right. None where it was refused, as only that of key 32 is for its container.
+fn put<L: Ledger, M: Site<Shared<Zero>>, R: AllocGlobal + Print + Wait>(
+    rt: &R,
+    refusal: &mut Refusal,
+    recorded: &Recorded<Names, L, M>,
+    pass: &mut Pass<Names, L>,
+    key: u64,
+) -> Option<bool> {
+    let Some(value) = value_of(rt, refusal, key) else {
+        return None;
+    };
+    match recorded.call(rt, pass, CacheCall::Put(Word::Number(key), value)) {
+        Ok(reply) => Some(is_answer(key, &reply)),
+        Err(CallError::Room) => {
+            refusal.meet(rt, "room for a recorded put of a text");
+            None
+        }
+        Err(CallError::Container) => {
+            refusal.meet(rt, "a copy of an evicted pair");
+            if key == 32 { None } else { Some(false) }
+        }
+    }
+}
+
 // Makes the put of the key until it succeeds. Refused, the pass stays as it was, and nothing is evicted.
 fn expect_put<L: Ledger, M: Site<Shared<Zero>>, R: AllocGlobal + Abort + Print + Wait>(
     rt: &R,
@@ -76,59 +95,63 @@ fn expect_put<L: Ledger, M: Site<Shared<Zero>>, R: AllocGlobal + Abort + Print +
 ) {
     for _ in 0..TRIES {
         let before = (pass.clock(), pass.receipts().len());
-        let call = put_of(rt, refusal, key);
-        match recorded.call(rt, pass, call) {
-            Ok(reply) => {
-                expect(rt, is_answer(key, &reply));
-                return;
-            }
-            Err(cause) => {
-                match cause {
-                    CallError::Room => refusal.meet(rt, "room for a recorded put of a text"),
-                    CallError::Container => refusal.meet(rt, "a copy of an evicted pair"),
-                }
-                expect_eq(
-                    rt,
-                    (
-                        cause == CallError::Room || key == 32,
-                        pass.clock(),
-                        pass.receipts().len(),
-                    ),
-                    (true, before.0, before.1),
-                );
-                expect_kept(rt, refusal, recorded, pass, key);
-            }
+        if let Some(is_right) = put(rt, refusal, recorded, pass, key) {
+            return expect(rt, is_right);
+        }
+        expect_eq(rt, (pass.clock(), pass.receipts().len()), before);
+        expect_length(rt, refusal, recorded, pass, key);
+        expect_first(rt, refusal, recorded, pass, key);
+    }
+    expect(rt, false);
+}
+
+// The cache holds so many keys.
+fn expect_length<L: Ledger, M: Site<Shared<Zero>>, R: Abort + Print + Wait>(
+    rt: &R,
+    refusal: &mut Refusal,
+    recorded: &Recorded<Names, L, M>,
+    pass: &mut Pass<Names, L>,
+    keys: u64,
+) {
+    for _ in 0..TRIES {
+        match recorded.len(rt, pass) {
+            Ok(count) => return expect_eq(rt, count as u64, keys),
+            Err(_) => refusal.meet(rt, "a length after a refused put"),
         }
     }
     expect(rt, false);
 }
 
-// The cache holds the keys below that one, and key 0 with its text.
-fn expect_kept<L: Ledger, M: Site<Shared<Zero>>, R: AllocGlobal + Abort + Print + Wait>(
+// Looks for key 0 once: whether it has its text if there are keys, and is missing if there are none. None where the look
+// was refused.
+fn look<L: Ledger, M: Site<Shared<Zero>>, R: Print + Wait>(
     rt: &R,
     refusal: &mut Refusal,
     recorded: &Recorded<Names, L, M>,
     pass: &mut Pass<Names, L>,
-    key: u64,
+    keys: u64,
+) -> Option<bool> {
+    match recorded.call(rt, pass, CacheCall::Read(Word::Number(0))) {
+        Ok(Reply::Value(Some(value))) => Some(keys > 0 && is_x(&value)),
+        Ok(_) => Some(keys == 0),
+        Err(_) => {
+            refusal.meet(rt, "a look after a refused put");
+            None
+        }
+    }
+}
+
+// Looks for key 0 until that succeeds.
+fn expect_first<L: Ledger, M: Site<Shared<Zero>>, R: Abort + Print + Wait>(
+    rt: &R,
+    refusal: &mut Refusal,
+    recorded: &Recorded<Names, L, M>,
+    pass: &mut Pass<Names, L>,
+    keys: u64,
 ) {
     for _ in 0..TRIES {
-        if let Ok(count) = recorded.len(rt, pass) {
-            expect_eq(rt, count as u64, key);
-            break;
-        }
-        refusal.meet(rt, "a length after a refused put");
-    }
-    for _ in 0..TRIES {
-        match recorded.call(rt, pass, CacheCall::Read(Word::Number(0))) {
-            Ok(Reply::Value(Some(value))) => {
-                expect(rt, key > 0 && is_x(&value));
-                return;
-            }
-            Ok(_) => {
-                expect_eq(rt, key, 0);
-                return;
-            }
-            Err(_) => refusal.meet(rt, "a look after a refused put"),
+        if let Some(is_right) = look(rt, refusal, recorded, pass, keys) {
+            return expect(rt, is_right);
         }
     }
     expect(rt, false);
@@ -139,10 +162,12 @@ fn put_all<L: Ledger, M: Site<Shared<Zero>>, R: AllocGlobal + Abort + Print + Wa
     rt: &R,
     refusal: &mut Refusal,
     recorded: &Recorded<Names, L, M>,
-    pass: &mut Pass<Names, L>,
+    passes: &mut [Pass<Names, L>],
 ) {
-    for key in 0..33 {
-        expect_put(rt, refusal, recorded, pass, key);
+    for pass in passes {
+        for key in 0..33 {
+            expect_put(rt, refusal, recorded, pass, key);
+        }
     }
 }
 
@@ -166,9 +191,7 @@ fn puts<L: Ledger, M: Site<Shared<Zero>>, R: AllocGlobal + Abort + Print + Wait>
     match Recorded::<Names, L, M>::open(rt.alloc(), setup, 1, 1, receipts, records) {
         Ok((recorded, handed)) => {
             let mut passes = handed;
-            for pass in passes.as_mut_slice() {
-                put_all(rt, refusal, &recorded, pass);
-            }
+            put_all(rt, refusal, &recorded, passes.as_mut_slice());
             true
         }
         Err(_) => {
@@ -179,8 +202,10 @@ fn puts<L: Ledger, M: Site<Shared<Zero>>, R: AllocGlobal + Abort + Print + Wait>
 }
 
 fn attempt<R: AllocGlobal + Abort + Print + Wait>(rt: &R, refusal: &mut Refusal) -> bool {
-    let hasher = shared(rt, refusal);
-    puts::<Brand, Brand, R>(rt, refusal, hasher, Blank::new(1), Blank::new(1))
+    match shared(rt, refusal) {
+        Some(hasher) => puts::<Brand, Brand, R>(rt, refusal, hasher, Blank::new(1), Blank::new(1)),
+        None => false,
+    }
 }
 
 #[test]

@@ -15,18 +15,18 @@ use std::sync::{Arc, Wait};
 use test_kit::refusals::{Refusal, TRIES};
 use test_kit::zero::Zero;
 
-// One owner of the hasher.
-pub(crate) fn shared<R: AllocGlobal + Abort + Print>(
+// One owner of the hasher. None where it is refused each time.
+pub(crate) fn shared<R: AllocGlobal + Print>(
     rt: &R,
     refusal: &mut Refusal,
-) -> Shared<Zero> {
-    let owner = refusal.outlast(
-        rt,
-        "a shared hasher",
-        || Arc::new(rt.alloc(), Zero),
-        || true,
-    );
-    Shared::new(owner.expect(rt, "a hasher is refused each time"))
+) -> Option<Shared<Zero>> {
+    for _ in 0..TRIES {
+        match Arc::new(rt.alloc(), Zero) {
+            Ok(owner) => return Some(Shared::new(owner)),
+            Err(_) => refusal.meet(rt, "a shared hasher"),
+        }
+    }
+    None
 }
 
 // What a pass says, where it is the only one: its clock and its receipts go together.
@@ -193,60 +193,27 @@ fn call_all<C: Tried, L: Ledger, M: Site<C::Hasher>, R: Abort + Print + Wait>(
     expect_call(rt, refusal, recorded, pass, 0);
 }
 
-fn try_map<R: AllocGlobal + Abort + Print + Wait>(rt: &R, refusal: &mut Refusal) -> bool {
-    let hasher = shared(rt, refusal);
-    call_and_finish::<Map, Brand, Brand, R>(rt, refusal, hasher, Blank::new(1), Blank::new(2))
-}
-
-fn try_set<R: AllocGlobal + Abort + Print + Wait>(rt: &R, refusal: &mut Refusal) -> bool {
-    let hasher = shared(rt, refusal);
-    call_and_finish::<Set, Brand, Brand, R>(rt, refusal, hasher, Blank::new(1), Blank::new(2))
-}
-
-fn try_index<R: AllocGlobal + Abort + Print + Wait>(rt: &R, refusal: &mut Refusal) -> bool {
-    let hasher = shared(rt, refusal);
-    call_and_finish::<Index, Brand, Brand, R>(rt, refusal, hasher, Blank::new(1), Blank::new(2))
-}
-
-fn try_cache<R: AllocGlobal + Abort + Print + Wait>(rt: &R, refusal: &mut Refusal) -> bool {
-    let hasher = shared(rt, refusal);
-    call_and_finish::<Cache, Brand, Brand, R>(rt, refusal, hasher, Blank::new(1), Blank::new(2))
-}
-
-// A kind that is tried on a hasher with several owners.
-trait Recording: Tried {
-    // Whether it was opened.
-    fn attempt<R: AllocGlobal + Abort + Print + Wait>(rt: &R, refusal: &mut Refusal) -> bool;
-}
-
-impl Recording for Map {
-    fn attempt<R: AllocGlobal + Abort + Print + Wait>(rt: &R, refusal: &mut Refusal) -> bool {
-        try_map(rt, refusal)
+// Whether a container was opened, whose hasher has several owners.
+fn attempt<C: Tried, R: AllocGlobal + Abort + Print + Wait>(rt: &R, refusal: &mut Refusal) -> bool
+where
+    C::Hasher: TryShare + Drop,
+{
+    match shared(rt, refusal) {
+        Some(owner) => {
+            let hasher = C::hasher(owner);
+            call_and_finish::<C, Brand, Brand, R>(rt, refusal, hasher, Blank::new(1), Blank::new(2))
+        }
+        None => false,
     }
 }
 
-impl Recording for Set {
-    fn attempt<R: AllocGlobal + Abort + Print + Wait>(rt: &R, refusal: &mut Refusal) -> bool {
-        try_set(rt, refusal)
-    }
-}
-
-impl Recording for Index {
-    fn attempt<R: AllocGlobal + Abort + Print + Wait>(rt: &R, refusal: &mut Refusal) -> bool {
-        try_index(rt, refusal)
-    }
-}
-
-impl Recording for Cache {
-    fn attempt<R: AllocGlobal + Abort + Print + Wait>(rt: &R, refusal: &mut Refusal) -> bool {
-        try_cache(rt, refusal)
-    }
-}
-
-fn expect_recording<C: Recording, R: AllocGlobal + Abort + Print + Wait>(rt: &R) {
+fn expect_recording<C: Tried, R: AllocGlobal + Abort + Print + Wait>(rt: &R)
+where
+    C::Hasher: TryShare + Drop,
+{
     let mut refusal = Refusal::new();
     for _ in 0..TRIES {
-        if C::attempt(rt, &mut refusal) {
+        if attempt::<C, R>(rt, &mut refusal) {
             return;
         }
     }

@@ -21,24 +21,27 @@ fn clock_of<C: Tried, L: Ledger>(passes: &[Pass<C, L>]) -> Option<u64> {
     passes.first().map(|pass| pass.clock())
 }
 
-// What was handed in came back as it was.
-fn expect_back<C: Tried, L: Ledger, M: Site<C::Hasher>, R: Abort>(
+// What a refused finish handed back, which is what was handed in.
+fn handed_back<C: Tried, L: Ledger, M: Site<C::Hasher>, R: Abort + Print>(
     rt: &R,
-    back: &Unfinished<C, L, M>,
+    refusal: &mut Refusal,
+    back: Unfinished<C, L, M>,
     steps: usize,
     clock: Option<u64>,
-) {
-    expect_eq(rt, back.cause, FinishError::Memory);
+) -> (Closed<C, L, M>, Vec<Pass<C, L>>)
+where
+    C::Hasher: Drop,
+{
+    C::meet(rt, refusal, What::Finish);
+    let stripes = back.recorded.stripes.len();
+    let sizes = (stripes > 0, steps_of(&back.recorded), back.passes.len());
+    let after = clock_of(back.passes.as_slice());
     expect_eq(
         rt,
-        (back.recorded.stripes.len() > 0, steps_of(&back.recorded)),
-        (true, steps),
+        (back.cause, sizes, after),
+        (FinishError::Memory, (true, steps, 1), clock),
     );
-    expect_eq(
-        rt,
-        (back.passes.len(), clock_of(back.passes.as_slice())),
-        (1, clock),
-    );
+    (back.recorded, back.passes)
 }
 
 // The order has all steps, and the calls in it have the stamps from 1 on.
@@ -62,6 +65,28 @@ fn expect_told<C: Tried, R: Abort>(
     expect_eq(rt, (are_in_turn, Some(stamps)), (true, clock));
 }
 
+// The finished run. None where it is refused each time.
+fn finished<C: Tried, L: Ledger, M: Site<C::Hasher>, R: Abort + Print>(
+    rt: &R,
+    refusal: &mut Refusal,
+    closed: Closed<C, L, M>,
+    passes: Vec<Pass<C, L>>,
+    steps: usize,
+    clock: Option<u64>,
+) -> Option<Finished<C>>
+where
+    C::Hasher: Drop,
+{
+    let mut held = (closed, passes);
+    for _ in 0..TRIES {
+        match held.0.finish(held.1) {
+            Ok(run) => return Some(run),
+            Err(back) => held = handed_back(rt, refusal, back, steps, clock),
+        }
+    }
+    None
+}
+
 // Finishes a run of one pass, until that succeeds. So many keys are there then, in the first stripe.
 pub(crate) fn expect_finished<C: Tried, L: Ledger, M: Site<C::Hasher>, R: Abort + Print>(
     rt: &R,
@@ -75,23 +100,19 @@ where
 {
     let steps = steps_of(&closed);
     let clock = clock_of(passes.as_slice());
-    let mut closed = closed;
-    let mut passes = passes;
-    for _ in 0..TRIES {
-        match closed.finish(passes) {
-            Ok(finished) => {
-                expect_told(rt, &finished, steps, clock);
-                let found = finished.parts.first().map(|part| part.count());
-                expect_eq(rt, found, Some(count));
-                return;
-            }
-            Err(back) => {
-                C::meet(rt, refusal, What::Finish);
-                expect_back(rt, &back, steps, clock);
-                closed = back.recorded;
-                passes = back.passes;
-            }
+    match finished(rt, refusal, closed, passes, steps, clock) {
+        Some(run) => {
+            expect_told(rt, &run, steps, clock);
+            expect_eq(rt, count_of(run.parts.as_slice()), Some(count));
         }
+        None => expect(rt, false),
     }
-    expect(rt, false);
+}
+
+// How many keys the first part has.
+fn count_of<C: Tried>(parts: &[C]) -> Option<usize> {
+    match parts.first() {
+        Some(part) => Some(part.count()),
+        None => None,
+    }
 }

@@ -102,13 +102,7 @@ fn grow_and_finish<L: Ledger, M: Site<Shared<Zero>>, R: AllocGlobal + Abort + Pr
     };
     match Recorded::<Map, L, M>::open(rt.alloc(), setup, 1, 1, receipts, records) {
         Ok((recorded, handed)) => {
-            let mut passes = handed;
-            for pass in passes.as_mut_slice() {
-                insert_all(rt, refusal, &recorded, pass);
-            }
-            let closed = recorded.close();
-            expect_growth(rt, refusal, &closed);
-            expect_finished(rt, refusal, closed, passes, 33);
+            insert_and_finish(rt, refusal, recorded, handed);
             true
         }
         Err(_) => {
@@ -118,21 +112,35 @@ fn grow_and_finish<L: Ledger, M: Site<Shared<Zero>>, R: AllocGlobal + Abort + Pr
     }
 }
 
-// The insertions by one pass.
-fn insert_all<L: Ledger, M: Site<Shared<Zero>>, R: Abort + Print + Wait>(
+// The insertions by the one pass, and the finish.
+fn insert_and_finish<L: Ledger, M: Site<Shared<Zero>>, R: Abort + Print + Wait>(
     rt: &R,
     refusal: &mut Refusal,
-    recorded: &Recorded<Map, L, M>,
-    pass: &mut Pass<Map, L>,
+    recorded: Recorded<Map, L, M>,
+    passes: Vec<Pass<Map, L>>,
 ) {
-    for key in 0..33 {
-        expect_inserted(rt, refusal, recorded, pass, key);
+    let mut passes = passes;
+    for pass in passes.as_mut_slice() {
+        for key in 0..33 {
+            expect_inserted(rt, refusal, &recorded, pass, key);
+        }
     }
+    let closed = recorded.close();
+    expect_growth(rt, refusal, &closed);
+    expect_finished(rt, refusal, closed, passes, 33);
 }
 
 fn attempt<R: AllocGlobal + Abort + Print + Wait>(rt: &R, refusal: &mut Refusal) -> bool {
-    let hasher = shared(rt, refusal);
-    grow_and_finish::<Brand, Brand, R>(rt, refusal, hasher, Blank::new(1), Blank::new(1))
+    match shared(rt, refusal) {
+        Some(hasher) => grow_and_finish::<Brand, Brand, R>(
+            rt,
+            refusal,
+            hasher,
+            Blank::new(1),
+            Blank::new(1),
+        ),
+        None => false,
+    }
 }
 
 #[test]

@@ -4,6 +4,7 @@ ghost use Rattle.scc_calls.specs.Copies.{ClonesEqual};
 
 use scc::recorded::{CacheCall, CallError, IndexCall, MapCall, Reply, SetCall, Shared, WholeCalls};
 use scc::{hash_cache, hash_index, hash_map, hash_set};
+use std::alloc::Global;
 use std::io::Print;
 use test_kit::refusals::Refusal;
 use test_kit::zero::Zero;
@@ -17,7 +18,7 @@ pub(crate) type Index = hash_index::Owned<u64, u64, Shared<Zero>>;
 pub(crate) type Cache = hash_cache::Owned<u64, u64, Shared<Zero>>;
 
 // What was refused.
-#[derive(Clone, Copy, Debug, PartialEq)]
+#[derive(Clone, Copy)]
 pub(crate) enum What {
     Opening,
     Call(CallError),
@@ -48,6 +49,12 @@ pub(crate) trait Tried: WholeCalls + Drop {
     // How many keys are there.
     fn count(&self) -> usize;
 
+    // An empty container.
+    fn made(alloc: Global, hasher: Shared<Zero>) -> Self;
+
+    // The hasher that it is made with.
+    fn hasher(hasher: Shared<Zero>) -> Self::Hasher;
+
     // Says what was refused.
     fn meet<R: Print>(rt: &R, refusal: &mut Refusal, what: What);
 
@@ -74,6 +81,14 @@ impl Tried for Map {
 
     fn count(&self) -> usize {
         self.len()
+    }
+
+    fn made(alloc: Global, hasher: Shared<Zero>) -> Map {
+        hash_map::Owned::with_hasher(alloc, hasher)
+    }
+
+    fn hasher(hasher: Shared<Zero>) -> Shared<Zero> {
+        hasher
     }
 
     fn meet<R: Print>(rt: &R, refusal: &mut Refusal, what: What) {
@@ -112,6 +127,14 @@ impl Tried for Set {
         self.len()
     }
 
+    fn made(alloc: Global, hasher: Shared<Zero>) -> Set {
+        hash_set::Owned::with_hasher(alloc, hasher)
+    }
+
+    fn hasher(hasher: Shared<Zero>) -> Shared<Zero> {
+        hasher
+    }
+
     fn meet<R: Print>(rt: &R, refusal: &mut Refusal, what: What) {
         match what {
             What::Opening => refusal.meet(rt, "a recorded set"),
@@ -148,6 +171,14 @@ impl Tried for Index {
         self.len()
     }
 
+    fn made(alloc: Global, hasher: Shared<Zero>) -> Index {
+        hash_index::Owned::with_hasher(alloc, hasher)
+    }
+
+    fn hasher(hasher: Shared<Zero>) -> Shared<Zero> {
+        hasher
+    }
+
     fn meet<R: Print>(rt: &R, refusal: &mut Refusal, what: What) {
         match what {
             What::Opening => refusal.meet(rt, "a recorded index"),
@@ -182,6 +213,14 @@ impl Tried for Cache {
 
     fn count(&self) -> usize {
         self.len()
+    }
+
+    fn made(alloc: Global, hasher: Shared<Zero>) -> Cache {
+        hash_cache::Owned::with_hasher(alloc, hasher)
+    }
+
+    fn hasher(hasher: Shared<Zero>) -> Shared<Zero> {
+        hasher
     }
 
     fn meet<R: Print>(rt: &R, refusal: &mut Refusal, what: What) {

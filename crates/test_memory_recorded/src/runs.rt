@@ -3,43 +3,82 @@
 use crate::calls::shared;
 use crate::expect::{expect, expect_eq};
 use crate::kinds::{CALLS, Cache, Index, Map, Set, Tried, What, count_after};
+use scc::hash_map;
 use scc::recorded::{Calls, MapCall, Reply, run};
-use scc::{hash_cache, hash_index, hash_map, hash_set};
 use std::io::Print;
 use std::process::Abort;
 use test_kit::refusals::{Refusal, TRIES};
 use test_kit::zero::Zero;
 
-// A list with room for the calls.
-fn listed<T: Drop, R: AllocGlobal + Abort + Print>(rt: &R, refusal: &mut Refusal) -> Vec<T> {
-    let list = refusal.outlast(
-        rt,
-        "a list of the test",
-        || Vec::with_capacity(rt.alloc(), 8),
-        || true,
-    );
-    list.expect(rt, "a list is refused each time")
+// A list with room for the calls. None where it is refused each time.
+fn listed<T: Drop, R: AllocGlobal + Print>(rt: &R, refusal: &mut Refusal) -> Option<Vec<T>> {
+    for _ in 0..TRIES {
+        match Vec::with_capacity(rt.alloc(), 8) {
+            Ok(list) => return Some(list),
+            Err(_) => refusal.meet(rt, "a list of the test"),
+        }
+    }
+    None
 }
 
-// The calls of a kind, and their replies.
-fn calls_of<C: Tried, R: AllocGlobal + Abort + Print>(
-    rt: &R,
-    refusal: &mut Refusal,
-) -> (Vec<C::Call>, Vec<C::Reply>)
+// Adds the calls of a kind, and their replies. Whether there was room.
+fn list_calls<C: Tried>(calls: &mut Vec<C::Call>, wanted: &mut Vec<C::Reply>) -> bool
 where
     C::Call: Drop,
     C::Reply: Drop,
 {
-    let mut calls = listed(rt, refusal);
-    let mut wanted = listed(rt, refusal);
     for number in 0..CALLS {
         let (call, reply) = C::call_of(number);
-        expect(rt, calls.push(call).is_ok() && wanted.push(reply).is_ok());
+        if calls.push(call).is_err() || wanted.push(reply).is_err() {
+            return false;
+        }
     }
-    (calls, wanted)
+    true
 }
 
-// Runs all calls, and where that is refused, those that weren't made.
+// Runs the calls that weren't made, of which those before have their replies. Whether all are made now.
+fn run_rest<C: Tried, R: Abort + Print>(
+    rt: &R,
+    refusal: &mut Refusal,
+    container: &mut C,
+    calls: &[C::Call],
+    wanted: &[C::Reply],
+    replies: &mut Vec<C::Reply>,
+) -> bool {
+    C::equal_calls();
+    C::equal_replies();
+    let ended = run(
+        container,
+        calls.get(replies.len()..).unwrap_or(&[]),
+        replies,
+    );
+    let made = replies.len();
+    expect_eq(rt, container.count(), count_after(made));
+    expect(rt, wanted.get(..made) == Some(replies.as_slice()));
+    if ended.is_err() {
+        C::meet(rt, refusal, What::Run);
+    }
+    ended.is_ok()
+}
+
+// Runs all calls, and if that is refused, those that weren't made. How many were made.
+fn run_all<C: Tried, R: Abort + Print>(
+    rt: &R,
+    refusal: &mut Refusal,
+    container: &mut C,
+    calls: &[C::Call],
+    wanted: &[C::Reply],
+    replies: &mut Vec<C::Reply>,
+) -> u64 {
+    for _ in 0..TRIES {
+        if run_rest(rt, refusal, container, calls, wanted, replies) {
+            break;
+        }
+    }
+    replies.len() as u64
+}
+
+// Runs the calls of a kind on a container of it.
 fn expect_run<C: Tried, R: AllocGlobal + Abort + Print>(
     rt: &R,
     refusal: &mut Refusal,
@@ -49,134 +88,175 @@ where
     C::Call: Drop,
     C::Reply: Drop,
 {
-    C::equal_calls();
-    C::equal_replies();
-    let (calls, wanted) = calls_of::<C, R>(rt, refusal);
+    let Some(mut calls) = listed(rt, refusal) else {
+        return expect(rt, false);
+    };
+    let Some(mut wanted) = listed(rt, refusal) else {
+        return expect(rt, false);
+    };
+    expect(rt, list_calls::<C>(&mut calls, &mut wanted));
     let mut replies = Vec::new(rt.alloc());
-    for _ in 0..TRIES {
-        let before = replies.len();
-        let ended = run(container, calls.get(before..).unwrap_or(&[]), &mut replies);
-        let made = replies.len();
-        expect_eq(rt, container.count(), count_after(made));
-        expect(rt, wanted.get(..made) == Some(replies.as_slice()));
-        if ended.is_ok() {
-            break;
-        }
-        C::meet(rt, refusal, What::Run);
-    }
-    expect_eq(rt, replies.len() as u64, CALLS);
-}
-
-// A map of 128 slots with the keys below 31, which all share a bucket.
-fn nearly_full<R: AllocGlobal + Abort + Print>(
-    rt: &R,
-    refusal: &mut Refusal,
-) -> hash_map::Owned<u64, u64, Zero> {
-    let made = refusal.outlast(
+    let made = run_all(
         rt,
-        "a map of 128 slots",
-        || hash_map::Owned::with_capacity_and_hasher(rt.alloc(), 128, Zero),
-        || true,
+        refusal,
+        container,
+        calls.as_slice(),
+        wanted.as_slice(),
+        &mut replies,
     );
-    let mut map = made.expect(rt, "a map is refused each time");
-    for key in 0..31u64 {
-        expect(rt, map.insert_sync(key, !key).is_ok());
-    }
-    map
+    expect_eq(rt, made, CALLS);
 }
 
-// Makes each call until it isn't refused, which leaves as many keys.
-fn expect_each<C: Tried, R: AllocGlobal + Abort + Print>(
+// The same on a new container, whose hasher has several owners.
+fn expect_run_on_new<C: Tried, R: AllocGlobal + Abort + Print>(rt: &R)
+where
+    C::Call: Drop,
+    C::Reply: Drop,
+{
+    let mut refusal = Refusal::new();
+    match shared(rt, &mut refusal) {
+        Some(hasher) => expect_run(rt, &mut refusal, &mut C::made(rt.alloc(), hasher)),
+        None => expect(rt, false),
+    }
+}
+
+// Makes the call of that number once: whether its reply is right. None where it was refused.
+fn ask<C: Tried, R: Print>(
     rt: &R,
     refusal: &mut Refusal,
     container: &mut C,
-) {
+    number: u64,
+) -> Option<bool> {
     C::equal_replies();
-    for number in 0..CALLS {
-        let before = container.count();
-        for _ in 0..TRIES {
-            let (call, wanted) = C::call_of(number);
-            match container.call(call) {
-                Ok(reply) => {
-                    expect(rt, reply == wanted);
-                    break;
-                }
-                Err(_) => {
-                    C::meet(rt, refusal, What::Single);
-                    expect_eq(rt, container.count(), before);
-                }
-            }
+    let (call, wanted) = C::call_of(number);
+    match container.call(call) {
+        Ok(reply) => Some(reply == wanted),
+        Err(_) => {
+            C::meet(rt, refusal, What::Single);
+            None
         }
-        expect_eq(
-            rt,
-            container.count(),
-            count_after((number as usize).saturating_add(1)),
-        );
+    }
+}
+
+// Makes the call of that number until it isn't refused, which leaves as many keys.
+fn expect_call<C: Tried, R: Abort + Print>(
+    rt: &R,
+    refusal: &mut Refusal,
+    container: &mut C,
+    number: u64,
+) {
+    let before = container.count();
+    for _ in 0..TRIES {
+        if let Some(is_right) = ask(rt, refusal, container, number) {
+            return expect(rt, is_right);
+        }
+        expect_eq(rt, container.count(), before);
+    }
+    expect(rt, false);
+}
+
+// Makes each call of a kind on a new container, whose hasher has several owners.
+fn expect_each<C: Tried, R: AllocGlobal + Abort + Print>(rt: &R) {
+    let mut refusal = Refusal::new();
+    let Some(hasher) = shared(rt, &mut refusal) else {
+        return expect(rt, false);
+    };
+    let mut container = C::made(rt.alloc(), hasher);
+    for number in 0..CALLS {
+        expect_call(rt, &mut refusal, &mut container, number);
+        let made = (number as usize).saturating_add(1);
+        expect_eq(rt, container.count(), count_after(made));
     }
 }
 
 #[test]
 fn a_refused_run_on_a_map_made_the_calls_before(rt: HostRuntime) {
-    let mut refusal = Refusal::new();
-    let hasher = shared(&rt, &mut refusal);
-    let mut map: Map = hash_map::Owned::with_hasher(rt.alloc(), hasher);
-    expect_run(&rt, &mut refusal, &mut map);
+    expect_run_on_new::<Map, HostRuntime>(&rt);
 }
 
 #[test]
 fn a_refused_run_on_a_set_made_the_calls_before(rt: HostRuntime) {
-    let mut refusal = Refusal::new();
-    let hasher = shared(&rt, &mut refusal);
-    let mut set: Set = hash_set::Owned::with_hasher(rt.alloc(), hasher);
-    expect_run(&rt, &mut refusal, &mut set);
+    expect_run_on_new::<Set, HostRuntime>(&rt);
 }
 
 #[test]
 fn a_refused_run_on_an_index_made_the_calls_before(rt: HostRuntime) {
-    let mut refusal = Refusal::new();
-    let hasher = shared(&rt, &mut refusal);
-    let mut index: Index = hash_index::Owned::with_hasher(rt.alloc(), hasher);
-    expect_run(&rt, &mut refusal, &mut index);
+    expect_run_on_new::<Index, HostRuntime>(&rt);
 }
 
 #[test]
 fn a_refused_run_on_a_cache_made_the_calls_before(rt: HostRuntime) {
-    let mut refusal = Refusal::new();
-    let hasher = shared(&rt, &mut refusal);
-    let mut cache: Cache = hash_cache::Owned::with_hasher(rt.alloc(), hasher);
-    expect_run(&rt, &mut refusal, &mut cache);
+    expect_run_on_new::<Cache, HostRuntime>(&rt);
 }
 
 #[test]
 fn a_refused_call_of_a_map_changes_nothing(rt: HostRuntime) {
-    let mut refusal = Refusal::new();
-    let hasher = shared(&rt, &mut refusal);
-    let mut map: Map = hash_map::Owned::with_hasher(rt.alloc(), hasher);
-    expect_each(&rt, &mut refusal, &mut map);
+    expect_each::<Map, HostRuntime>(&rt);
 }
 
 #[test]
 fn a_refused_call_of_a_set_changes_nothing(rt: HostRuntime) {
-    let mut refusal = Refusal::new();
-    let hasher = shared(&rt, &mut refusal);
-    let mut set: Set = hash_set::Owned::with_hasher(rt.alloc(), hasher);
-    expect_each(&rt, &mut refusal, &mut set);
+    expect_each::<Set, HostRuntime>(&rt);
 }
 
 #[test]
 fn a_refused_call_of_an_index_changes_nothing(rt: HostRuntime) {
-    let mut refusal = Refusal::new();
-    let hasher = shared(&rt, &mut refusal);
-    let mut index: Index = hash_index::Owned::with_hasher(rt.alloc(), hasher);
-    expect_each(&rt, &mut refusal, &mut index);
+    expect_each::<Index, HostRuntime>(&rt);
 }
 
 #[test]
 fn a_refused_call_of_a_cache_changes_nothing(rt: HostRuntime) {
-    let mut refusal = Refusal::new();
-    let hasher = shared(&rt, &mut refusal);
-    let mut cache: Cache = hash_cache::Owned::with_hasher(rt.alloc(), hasher);
-    expect_each(&rt, &mut refusal, &mut cache);
+    expect_each::<Cache, HostRuntime>(&rt);
+}
+
+type Numbers = hash_map::Owned<u64, u64, Zero>;
+
+// A map of 128 slots. None where it is refused each time.
+fn sized<R: AllocGlobal + Print>(rt: &R, refusal: &mut Refusal) -> Option<Numbers> {
+    for _ in 0..TRIES {
+        match hash_map::Owned::with_capacity_and_hasher(rt.alloc(), 128, Zero) {
+            Ok(map) => return Some(map),
+            Err(_) => refusal.meet(rt, "a map of 128 slots"),
+        }
+    }
+    None
+}
+
+// Whether the keys below 31 went in.
+fn fill(map: &mut Numbers) -> bool {
+    for key in 0..31u64 {
+        if map.insert_sync(key, !key).is_err() {
+            return false;
+        }
+    }
+    true
+}
+
+// Runs those of two insertions and a count that weren't made. Whether all are made now.
+fn insert_rest<R: Abort + Print>(
+    rt: &R,
+    refusal: &mut Refusal,
+    map: &mut Numbers,
+    replies: &mut Vec<Reply<u64, u64>>,
+) -> bool {
+    let calls = [
+        MapCall::Insert(31, !31),
+        MapCall::Upsert(32, !32),
+        MapCall::Len,
+    ];
+    let all = [Reply::Inserted, Reply::Old(None), Reply::Count(33)];
+    let ended = run(map, calls.get(replies.len()..).unwrap_or(&[]), replies);
+    let made = replies.len();
+    expect_eq(rt, Some(replies.as_slice()), all.get(..made));
+    let left = made.min(2).saturating_add(31);
+    expect_eq(rt, (map.len(), map.capacity()), (left, 128));
+    if ended.is_err() {
+        match made {
+            0 => refusal.meet(rt, "room for replies"),
+            _ => refusal.meet(rt, "an overflow list in a run"),
+        }
+    }
+    ended.is_ok()
 }
 
 // A map of the keys below 31 in a bucket that is nearly full, in slots of which less than half are in use: of the run's
@@ -184,27 +264,14 @@ fn a_refused_call_of_a_cache_changes_nothing(rt: HostRuntime) {
 #[test]
 fn a_refused_run_ends_at_its_overflow_list(rt: HostRuntime) {
     let mut refusal = Refusal::new();
-    let mut map = nearly_full(&rt, &mut refusal);
-    let calls = [
-        MapCall::Insert(31, !31),
-        MapCall::Upsert(32, !32),
-        MapCall::Len,
-    ];
-    let all = [Reply::Inserted, Reply::Old(None), Reply::Count(33)];
+    let Some(mut map) = sized(&rt, &mut refusal) else {
+        return expect(&rt, false);
+    };
+    expect(&rt, fill(&mut map));
     let mut replies = Vec::new(rt.alloc());
     for _ in 0..TRIES {
-        let before = replies.len();
-        let ended = run(&mut map, calls.get(before..).unwrap_or(&[]), &mut replies);
-        let made = replies.len();
-        expect_eq(&rt, Some(replies.as_slice()), all.get(..made));
-        expect_eq(&rt, map.len(), made.min(2).saturating_add(31));
-        expect_eq(&rt, map.capacity(), 128);
-        if ended.is_ok() {
+        if insert_rest(&rt, &mut refusal, &mut map, &mut replies) {
             break;
-        }
-        match made {
-            0 => refusal.meet(&rt, "room for replies"),
-            _ => refusal.meet(&rt, "an overflow list in a run"),
         }
     }
     expect_eq(&rt, replies.len(), 3);

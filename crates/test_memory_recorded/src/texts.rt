@@ -1,6 +1,6 @@
 // Recorded maps of texts: every clone is made before anything is changed, so a refused call leaves all as it was, and
 // the call that succeeds is right.
-ghost use Rattle.std.specs.Prelude.{◌≡◌, IsSome, Some};
+ghost use Rattle.std.specs.Prelude.{◌≡◌, IfSome, IsSome, Some};
 ghost use Rattle.scc_calls.specs.MapCalls.{map_key};
 ghost use Rattle.scc_recorded.specs.Setups.{request_of};
 
@@ -18,29 +18,46 @@ use test_kit::zero::Zero;
 
 type Names = Owned<String, String, Shared<Zero>>;
 
-// A text.
-pub(crate) fn text<R: AllocGlobal + Abort + Print>(
+// A text. None where it is refused each time.
+pub(crate) fn text<R: AllocGlobal + Print>(
     rt: &R,
     refusal: &mut Refusal,
     of: &str,
-) -> String {
-    let made = refusal.outlast(rt, "a text", || String::from_str(rt.alloc(), of), || true);
-    made.expect(rt, "a text is refused each time")
+) -> Option<String> {
+    for _ in 0..TRIES {
+        match String::from_str(rt.alloc(), of) {
+            Ok(text) => return Some(text),
+            Err(_) => refusal.meet(rt, "a text"),
+        }
+    }
+    None
 }
 
-// The call of that number, which has a key.
-fn call_of<R: AllocGlobal + Abort + Print>(
+// The call of that number: an insertion, an upsertion, a removal.
+fn call_of(number: u64, key: String, value: String) -> MapCall<String, String>
+    ensures { IsSome (map_key result) }
+{
+    match number {
+        0 => MapCall::Insert(key, value),
+        1 => MapCall::Upsert(key, value),
+        _ => MapCall::Remove(key),
+    }
+}
+
+// That call with its texts. None where a text is refused each time.
+fn made<R: AllocGlobal + Print>(
     rt: &R,
     refusal: &mut Refusal,
     number: u64,
-) -> MapCall<String, String>
-    ensures { IsSome (map_key result) }
+) -> Option<MapCall<String, String>>
+    ensures { IfSome result (λ call. IsSome (map_key call)) }
 {
-    let key = text(rt, refusal, "a");
-    match number {
-        0 => MapCall::Insert(key, text(rt, refusal, "x")),
-        1 => MapCall::Upsert(key, text(rt, refusal, "y")),
-        _ => MapCall::Remove(key),
+    let Some(key) = text(rt, refusal, "a") else {
+        return None;
+    };
+    match text(rt, refusal, if number == 0 { "x" } else { "y" }) {
+        Some(value) => Some(call_of(number, key, value)),
+        None => None,
     }
 }
 
@@ -54,6 +71,26 @@ fn is_answer(number: u64, reply: &Reply<String, String>) -> bool {
     }
 }
 
+// Makes the call of that number once: whether its answer is right. None where it was refused.
+fn ask<L: Ledger, M: Site<Shared<Zero>>, R: AllocGlobal + Print + Wait>(
+    rt: &R,
+    refusal: &mut Refusal,
+    recorded: &Recorded<Names, L, M>,
+    pass: &mut Pass<Names, L>,
+    number: u64,
+) -> Option<bool> {
+    let Some(call) = made(rt, refusal, number) else {
+        return None;
+    };
+    match recorded.call(rt, pass, call) {
+        Ok(reply) => Some(is_answer(number, &reply)),
+        Err(_) => {
+            refusal.meet(rt, "a recorded call of texts");
+            None
+        }
+    }
+}
+
 // Makes the call of that number until it succeeds. Refused, the pass stays as it was.
 fn expect_answer<L: Ledger, M: Site<Shared<Zero>>, R: AllocGlobal + Abort + Print + Wait>(
     rt: &R,
@@ -62,18 +99,14 @@ fn expect_answer<L: Ledger, M: Site<Shared<Zero>>, R: AllocGlobal + Abort + Prin
     pass: &mut Pass<Names, L>,
     number: u64,
 ) {
+    let before = (pass.clock(), pass.receipts().len());
     for _ in 0..TRIES {
-        let before = (pass.clock(), pass.receipts().len());
-        let call = call_of(rt, refusal, number);
-        match recorded.call(rt, pass, call) {
-            Ok(reply) => {
-                expect(rt, is_answer(number, &reply));
+        match ask(rt, refusal, recorded, pass, number) {
+            Some(is_right) => {
+                expect(rt, is_right);
                 break;
             }
-            Err(_cause) => {
-                refusal.meet(rt, "a recorded call of texts");
-                expect_eq(rt, (pass.clock(), pass.receipts().len()), before);
-            }
+            None => expect_eq(rt, (pass.clock(), pass.receipts().len()), before),
         }
     }
     expect_receipt(rt, pass, number);
@@ -94,49 +127,72 @@ fn expect_receipt<L: Ledger, R: Abort>(rt: &R, pass: &Pass<Names, L>, number: u6
     expect(rt, is_last);
 }
 
-// Finishes the run, until that succeeds.
-fn expect_three_records<L: Ledger, M: Site<Shared<Zero>>, R: Abort + Print>(
+// The finished run. None where it is refused each time.
+fn finished<L: Ledger, M: Site<Shared<Zero>>, R: Print>(
     rt: &R,
     refusal: &mut Refusal,
     closed: Closed<Names, L, M>,
     passes: Vec<Pass<Names, L>>,
-) {
-    let mut closed = closed;
-    let mut passes = passes;
+) -> Option<Finished<Names>> {
+    let mut held = (closed, passes);
     for _ in 0..TRIES {
-        match closed.finish(passes) {
-            Ok(finished) => {
-                expect_told(rt, &finished);
-                return;
-            }
+        match held.0.finish(held.1) {
+            Ok(run) => return Some(run),
             Err(back) => {
                 refusal.meet(rt, "a finish of texts");
-                closed = back.recorded;
-                passes = back.passes;
+                held = (back.recorded, back.passes);
             }
         }
     }
-    expect(rt, false);
+    None
 }
 
-// Three call records with the stamps 1, 2 and 3, each with its answer, and nothing is left.
-fn expect_told<R: Abort>(rt: &R, finished: &Finished<Names>) {
+// Whether the steps are call records with the stamps from 1 on, each with its answer, beside resizes; and how many calls
+// they are.
+fn records_of(history: &[Step<MapCall<String, String>, Reply<String, String>>]) -> (bool, u64) {
     let mut told = 0u64;
     let mut are_right = true;
-    for history in finished.histories.as_slice() {
-        for step in history.as_slice() {
-            if let Step::Call { stamp, reply, .. } = step {
-                are_right = are_right && is_answer(told, reply);
-                told = told.saturating_add(1);
-                are_right = are_right && *stamp == told;
-            }
+    for step in history {
+        if let Step::Call { stamp, reply, .. } = step {
+            are_right = are_right && is_answer(told, reply);
+            told = told.saturating_add(1);
+            are_right = are_right && *stamp == told;
         }
     }
-    let is_empty = finished.parts.first().map(|part| part.is_empty());
-    expect_eq(rt, (told, are_right, is_empty), (3, true, Some(true)));
+    (are_right, told)
 }
 
-// The three calls on one stripe, and the finish. False where the container was refused.
+// The one stripe has three call records, and nothing is left.
+fn expect_told<R: Abort>(rt: &R, finished: &Finished<Names>) {
+    for history in finished.histories.as_slice() {
+        expect_eq(rt, records_of(history.as_slice()), (true, 3));
+    }
+    for part in finished.parts.as_slice() {
+        expect(rt, part.is_empty());
+    }
+    expect_eq(rt, (finished.histories.len(), finished.parts.len()), (1, 1));
+}
+
+// The three calls by the one pass, and the finish.
+fn call_and_finish<L: Ledger, M: Site<Shared<Zero>>, R: AllocGlobal + Abort + Print + Wait>(
+    rt: &R,
+    refusal: &mut Refusal,
+    recorded: Recorded<Names, L, M>,
+    passes: Vec<Pass<Names, L>>,
+) {
+    let mut passes = passes;
+    for pass in passes.as_mut_slice() {
+        for number in 0..3 {
+            expect_answer(rt, refusal, &recorded, pass, number);
+        }
+    }
+    match finished(rt, refusal, recorded.close(), passes) {
+        Some(run) => expect_told(rt, &run),
+        None => expect(rt, false),
+    }
+}
+
+// All on one stripe. False where the container was refused.
 fn three_calls<L: Ledger, M: Site<Shared<Zero>>, R: AllocGlobal + Abort + Print + Wait>(
     rt: &R,
     refusal: &mut Refusal,
@@ -155,13 +211,7 @@ fn three_calls<L: Ledger, M: Site<Shared<Zero>>, R: AllocGlobal + Abort + Print 
     };
     match Recorded::<Names, L, M>::open(rt.alloc(), setup, 1, 1, receipts, records) {
         Ok((recorded, handed)) => {
-            let mut passes = handed;
-            for pass in passes.as_mut_slice() {
-                for number in 0..3 {
-                    expect_answer(rt, refusal, &recorded, pass, number);
-                }
-            }
-            expect_three_records(rt, refusal, recorded.close(), passes);
+            call_and_finish(rt, refusal, recorded, handed);
             true
         }
         Err(_) => {
@@ -172,8 +222,16 @@ fn three_calls<L: Ledger, M: Site<Shared<Zero>>, R: AllocGlobal + Abort + Print 
 }
 
 fn attempt<R: AllocGlobal + Abort + Print + Wait>(rt: &R, refusal: &mut Refusal) -> bool {
-    let hasher = shared(rt, refusal);
-    three_calls::<Brand, Brand, R>(rt, refusal, hasher, Blank::new(1), Blank::new(1))
+    match shared(rt, refusal) {
+        Some(hasher) => three_calls::<Brand, Brand, R>(
+            rt,
+            refusal,
+            hasher,
+            Blank::new(1),
+            Blank::new(1),
+        ),
+        None => false,
+    }
 }
 
 #[test]

@@ -1,8 +1,12 @@
 // Scripts line by line: which are in the grammar, and the order of what is written.
+use crate::expect::expect;
 use crate::played::{expect_bad_line, expect_run};
 use scc_play::play::FINISHED;
+use std::alloc::AllocError;
+use std::fmt::Write;
 use std::process::Abort;
-use std::test::Fail;
+use std::sync::Wait;
+use std::thread::Threads;
 
 #[test]
 fn run_contents_in_rising_order(rt: HostRuntime) {
@@ -15,38 +19,45 @@ fn run_contents_in_rising_order(rt: HostRuntime) {
 }
 
 #[test]
-fn run_bad_headers(rt: HostRuntime) -> Result<(), Fail> {
+fn run_bad_headers(rt: HostRuntime) {
     for script in [
-        b"\n".as_slice(),
-        b"\r\n".as_slice(),
-        b"\nmap 1 1\n".as_slice(),
-        b"map".as_slice(),
-        b"map 1".as_slice(),
-        b"map 1 1 \n".as_slice(),
-        b"map 1 1 1\n".as_slice(),
-        b" map 1 1\n".as_slice(),
-        b"map  1 1\n".as_slice(),
-        b"Map 1 1\n".as_slice(),
-        b"map 0 1\n".as_slice(),
-        b"map 17 1\n".as_slice(),
-        b"map 1 0\n".as_slice(),
-        b"map 1 3\n".as_slice(),
-        b"map 1 5\n".as_slice(),
-        b"map 1 32\n".as_slice(),
-        b"cache 1 8\n".as_slice(),
-        b"cache 1 16\n".as_slice(),
-        b"map +1 1\n".as_slice(),
-        b"map 1 1\r\r\n".as_slice(),
-        b"map 1 18446744073709551617\n".as_slice(),
-        b"map 1 1\xff\n".as_slice(),
+        "\n",
+        "\r\n",
+        "\nmap 1 1\n",
+        "map",
+        "map 1",
+        "map 1 1 \n",
+        "map 1 1 1\n",
+        " map 1 1\n",
+        "map  1 1\n",
+        "Map 1 1\n",
+        "map 0 1\n",
+        "map 17 1\n",
+        "map 1 0\n",
+        "map 1 3\n",
+        "map 1 5\n",
+        "map 1 32\n",
+        "cache 1 8\n",
+        "cache 1 16\n",
+        "map +1 1\n",
+        "map 1 1\r\r\n",
+        "map 1 18446744073709551617\n",
     ] {
-        expect_bad_line(&rt, script, 1)?;
+        expect_bad_line(&rt, script.as_bytes(), 1);
     }
-    Ok(())
+    expect_bad_line(&rt, b"map 1 1\xff\n", 1);
+}
+
+// Plays a script in which that line is the first bad one.
+fn expect_bad_call<R: AllocGlobal + Abort + Threads + Wait + Sync>(rt: &R, line: &str) {
+    match format!(in rt.alloc(); "map 1 1\n0 len\n\n{line}\n0 bad\n") {
+        Ok(script) => expect_bad_line(rt, script.as_bytes(), 4),
+        Err(_) => expect(rt, false),
+    }
 }
 
 #[test]
-fn run_bad_lines(rt: HostRuntime) -> Result<(), Fail> {
+fn run_bad_lines(rt: HostRuntime) {
     for line in [
         "0",
         "0 ",
@@ -87,66 +98,81 @@ fn run_bad_lines(rt: HostRuntime) -> Result<(), Fail> {
         "0\tlen",
         "0 len\r\r",
     ] {
-        let script = format!(in rt.alloc(); "map 1 1\n0 len\n\n{line}\n0 bad\n")?;
-        expect_bad_line(&rt, script.as_bytes(), 4)?;
+        expect_bad_call(&rt, line);
     }
-    Ok(())
 }
 
 #[test]
-fn run_bytes_that_are_no_text(rt: HostRuntime) -> Result<(), Fail> {
-    expect_bad_line(&rt, b"map 1 1\n0 len\n\xff\xfe\n", 3)?;
-    expect_bad_line(&rt, b"map 1 1\n0 read \x80\n", 2)?;
-    expect_bad_line(&rt, b"map 1 1\n0 len\n\0\n", 3)?;
-    Ok(())
+fn run_bytes_that_are_no_text(rt: HostRuntime) {
+    expect_bad_line(&rt, b"map 1 1\n0 len\n\xff\xfe\n", 3);
+    expect_bad_line(&rt, b"map 1 1\n0 read \x80\n", 2);
+    expect_bad_line(&rt, b"map 1 1\n0 len\n\0\n", 3);
 }
 
 #[test]
 fn run_line_ends(rt: HostRuntime) {
     let text = "worker 0\nok\ncount 1\ncontents 1\n1 2\nrecords 2\n";
     for script in [
-        b"map 1 1\n0 insert 1 2\n0 len\n".as_slice(),
-        b"map 1 1\n0 insert 1 2\n0 len".as_slice(),
-        b"map 1 1\r\n0 insert 1 2\r\n0 len\r\n".as_slice(),
-        b"map 1 1\r\n0 insert 1 2\n0 len\r".as_slice(),
-        b"map 1 1\n\n0 insert 1 2\n\r\n\n0 len\n\n\r".as_slice(),
-        b"map 01 0001\n00 insert 01 02\n0 len\n\n\n".as_slice(),
+        "map 1 1\n0 insert 1 2\n0 len\n",
+        "map 1 1\n0 insert 1 2\n0 len",
+        "map 1 1\r\n0 insert 1 2\r\n0 len\r\n",
+        "map 1 1\r\n0 insert 1 2\n0 len\r",
+        "map 1 1\n\n0 insert 1 2\n\r\n\n0 len\n\n\r",
+        "map 01 0001\n00 insert 01 02\n0 len\n\n\n",
     ] {
-        expect_run(&rt, script, text, FINISHED);
+        expect_run(&rt, script.as_bytes(), text, FINISHED);
     }
-    let nothing = "worker 0\ncontents 0\nrecords 0\n";
-    expect_run(&rt, b"map 1 1", nothing, FINISHED);
-    expect_run(&rt, b"map 1 1\n", nothing, FINISHED);
-    expect_run(&rt, b"map 1 1\r\n\n", nothing, FINISHED);
+    for script in ["map 1 1", "map 1 1\n", "map 1 1\r\n\n"] {
+        let nothing = "worker 0\ncontents 0\nrecords 0\n";
+        expect_run(&rt, script.as_bytes(), nothing, FINISHED);
+    }
+}
+
+// Writes 100,000 insertions, whose keys come again after each 1000.
+fn write_calls(text: &mut String) -> Result<(), AllocError> {
+    text.push_str("map 1 1\n")?;
+    for i in 0..100_000u64 {
+        write_line(text, "0 insert ", i % 1000, i)?;
+    }
+    Ok(())
+}
+
+// Writes their replies: the first of a key goes in, and each later one comes back.
+fn write_replies(text: &mut String) -> Result<(), AllocError> {
+    text.push_str("worker 0\n")?;
+    for i in 0..100_000u64 {
+        if i < 1000 {
+            text.push_str("ok\n")?;
+        } else {
+            write_line(text, "exists ", i % 1000, i)?;
+        }
+    }
+    Ok(())
+}
+
+// Writes the contents after them.
+fn write_contents(text: &mut String) -> Result<(), AllocError> {
+    text.push_str("contents 1000\n")?;
+    for key in 0..1000u64 {
+        write_line(text, "", key, key)?;
+    }
+    text.push_str("records 100000\n")
+}
+
+// Writes a line that ends with two numbers.
+fn write_line(text: &mut String, begin: &str, first: u64, second: u64) -> Result<(), AllocError> {
+    writeln!(text, "{begin}{first} {second}")
 }
 
 #[test]
-fn run_many_calls(rt: HostRuntime) -> Result<(), Fail> {
-    let mut script = String::from_str(rt.alloc(), "map 1 1\n")?;
-    let mut wanted = String::from_str(rt.alloc(), "worker 0\n")?;
-    for i in 0..100_000u64 {
-        let key = i % 1000;
-        write_line(&mut script, "0 insert ", key, i)?;
-        if i < 1000 {
-            wanted.push_str("ok\n")?;
-        } else {
-            write_line(&mut wanted, "exists ", key, i)?;
-        }
-    }
-    wanted.push_str("contents 1000\n")?;
-    for key in 0..1000u64 {
-        write_line(&mut wanted, "", key, key)?;
-    }
-    wanted.push_str("records 100000\n")?;
-    expect_run(&rt, script.as_bytes(), wanted.as_str(), FINISHED);
-    Ok(())
-}
-
-// Adds a line that ends with two numbers.
-fn write_line(text: &mut String, begin: &str, first: u64, second: u64) -> Result<(), Fail> {
-    use std::fmt::Write;
-    writeln!(text, "{begin}{first} {second}")?;
-    Ok(())
+fn run_many_calls(rt: HostRuntime) {
+    let mut script = String::new(rt.alloc());
+    let mut text = String::new(rt.alloc());
+    let is_written = write_calls(&mut script).is_ok()
+        && write_replies(&mut text).is_ok()
+        && write_contents(&mut text).is_ok();
+    expect(&rt, is_written);
+    expect_run(&rt, script.as_bytes(), text.as_str(), FINISHED);
 }
 
 #[test]
@@ -160,6 +186,6 @@ fn run_contents_at_both_ends_of_the_numbers(rt: HostRuntime) {
 }
 
 #[test]
-fn run_bad_workers_and_stripes(rt: HostRuntime) -> Result<(), Fail> {
-    expect_bad_line(&rt, b"map 2 2\n1 len\n2 len\n", 3)
+fn run_bad_workers_and_stripes(rt: HostRuntime) {
+    expect_bad_line(&rt, b"map 2 2\n1 len\n2 len\n", 3);
 }

@@ -1,8 +1,10 @@
 // The replies of each kind, on one stripe and on several, and which calls a kind has.
+use crate::expect::expect;
 use crate::played::{expect_bad_line, expect_run};
 use scc_play::play::FINISHED;
+use std::alloc::AllocError;
+use std::fmt::Write;
 use std::process::Abort;
-use std::test::Fail;
 
 #[test]
 fn run_map_each_reply(rt: HostRuntime) {
@@ -55,51 +57,49 @@ fn run_cache_each_other_reply(rt: HostRuntime) {
 }
 
 #[test]
-fn run_kinds_have_their_own_calls(rt: HostRuntime) -> Result<(), Fail> {
+fn run_kinds_have_their_own_calls(rt: HostRuntime) {
     for script in [
-        b"set 1 1\n0 insert 5 6\n".as_slice(),
-        b"set 1 1\n0 upsert 5\n".as_slice(),
-        b"index 1 1\n0 upsert 5 6\n".as_slice(),
-        b"index 1 1\n0 replace 5\n".as_slice(),
-        b"map 1 1\n0 update 5 6\n".as_slice(),
-        b"map 1 1\n0 get 5\n".as_slice(),
-        b"map 1 1\n0 put 5 6\n".as_slice(),
-        b"cache 1 1\n0 insert 5 6\n".as_slice(),
-        b"cache 1 1\n0 put 5\n".as_slice(),
-        b"cache 1 1\n0 upsert 5 6\n".as_slice(),
+        "set 1 1\n0 insert 5 6\n",
+        "set 1 1\n0 upsert 5\n",
+        "index 1 1\n0 upsert 5 6\n",
+        "index 1 1\n0 replace 5\n",
+        "map 1 1\n0 update 5 6\n",
+        "map 1 1\n0 get 5\n",
+        "map 1 1\n0 put 5 6\n",
+        "cache 1 1\n0 insert 5 6\n",
+        "cache 1 1\n0 put 5\n",
+        "cache 1 1\n0 upsert 5 6\n",
     ] {
-        expect_bad_line(&rt, script, 2)?;
+        expect_bad_line(&rt, script.as_bytes(), 2);
     }
-    Ok(())
 }
 
 #[test]
 fn run_each_kind_on_stripes(rt: HostRuntime) {
     for (script, text) in [
         (
-            b"set 1 4\n0 insert 5\n0 insert 5\n0 replace 6\n0 remove 5\n0 len\n".as_slice(),
+            "set 1 4\n0 insert 5\n0 insert 5\n0 replace 6\n0 remove 5\n0 len\n",
             "worker 0\nok\nexists 5\nnone\nkey 5\ncount 1\ncontents 1\n6\nrecords 8\n",
         ),
         (
-            b"index 1 16\n0 update 1 5\n0 insert 1 4\n0 update 1 5\n0 read 1\n0 contains 2\n".as_slice(),
+            "index 1 16\n0 update 1 5\n0 insert 1 4\n0 update 1 5\n0 read 1\n0 contains 2\n",
             "worker 0\nfalse\nok\ntrue\nvalue 5\nfalse\ncontents 1\n1 5\nrecords 5\n",
         ),
         (
-            b"cache 2 4\n1 write 1 5\n1 put 1 6\n1 get 1\n1 clear\n".as_slice(),
+            "cache 2 4\n1 write 1 5\n1 put 1 6\n1 get 1\n1 clear\n",
             "worker 0\nworker 1\nnone\nok\nvalue 6\nok\ncontents 0\nrecords 7\n",
         ),
         (
-            b"map 16 1\n15 insert 7 8\n".as_slice(),
+            "map 16 1\n15 insert 7 8\n",
             "worker 0\nworker 1\nworker 2\nworker 3\nworker 4\nworker 5\nworker 6\nworker 7\nworker 8\nworker 9\nworker 10\nworker 11\nworker 12\nworker 13\nworker 14\nworker 15\nok\ncontents 1\n7 8\nrecords 1\n",
         ),
     ] {
-        expect_run(&rt, script, text, FINISHED);
+        expect_run(&rt, script.as_bytes(), text, FINISHED);
     }
 }
 
-// Adds the insertion and the reading of a worker's keys, 8 keys with themselves as values.
-fn add_calls(script: &mut String, worker: u64) -> Result<(), Fail> {
-    use std::fmt::Write;
+// Writes the insertion and the reading of a worker's keys, 8 keys with themselves as values.
+fn write_calls(script: &mut String, worker: u64) -> Result<(), AllocError> {
     for j in 0..8u64 {
         let key = (j << 61) + worker % 16;
         writeln!(script, "{worker} insert {key} {key}\n{worker} read {key}")?;
@@ -107,9 +107,17 @@ fn add_calls(script: &mut String, worker: u64) -> Result<(), Fail> {
     Ok(())
 }
 
-// Adds what a worker is told of these calls.
-fn add_replies(text: &mut String, worker: u64) -> Result<(), Fail> {
-    use std::fmt::Write;
+// Writes the calls of all workers.
+fn write_script(script: &mut String) -> Result<(), AllocError> {
+    script.push_str("map 16 16\n")?;
+    for worker in 0..16u64 {
+        write_calls(script, worker)?;
+    }
+    Ok(())
+}
+
+// Writes what a worker is told of its calls.
+fn write_replies(text: &mut String, worker: u64) -> Result<(), AllocError> {
     writeln!(text, "worker {worker}")?;
     for j in 0..8u64 {
         let key = (j << 61) + worker % 16;
@@ -118,31 +126,35 @@ fn add_replies(text: &mut String, worker: u64) -> Result<(), Fail> {
     Ok(())
 }
 
-// Adds the keys of all workers in rising order.
-fn add_contents(text: &mut String) -> Result<(), Fail> {
-    use std::fmt::Write;
-    writeln!(text, "contents 128")?;
+// Writes what all workers are told.
+fn write_all_replies(text: &mut String) -> Result<(), AllocError> {
+    for worker in 0..16u64 {
+        write_replies(text, worker)?;
+    }
+    Ok(())
+}
+
+// Writes the keys of all workers in rising order.
+fn write_contents(text: &mut String) -> Result<(), AllocError> {
+    text.push_str("contents 128\n")?;
     for j in 0..8u64 {
         for worker in 0..16u64 {
             let key = (j << 61) + worker;
             writeln!(text, "{key} {key}")?;
         }
     }
-    writeln!(text, "records 256")?;
-    Ok(())
+    text.push_str("records 256\n")
 }
 
 #[test]
-fn run_of_sixteen_workers_is_the_same_each_time(rt: HostRuntime) -> Result<(), Fail> {
-    let mut script = String::from_str(rt.alloc(), "map 16 16\n")?;
+fn run_of_sixteen_workers_is_the_same_each_time(rt: HostRuntime) {
+    let mut script = String::new(rt.alloc());
     let mut text = String::new(rt.alloc());
-    for worker in 0..16u64 {
-        add_calls(&mut script, worker)?;
-        add_replies(&mut text, worker)?;
-    }
-    add_contents(&mut text)?;
+    let is_written = write_script(&mut script).is_ok()
+        && write_all_replies(&mut text).is_ok()
+        && write_contents(&mut text).is_ok();
+    expect(&rt, is_written);
     for _ in 0..20 {
         expect_run(&rt, script.as_bytes(), text.as_str(), FINISHED);
     }
-    Ok(())
 }

@@ -30,14 +30,32 @@ fn count<H: BuildHasher>(
     run(map, &[MapCall::Len], replies)
 }
 
+// Inserts a pair, and counts by a run.
+fn insert_and_count<H: BuildHasher>(
+    map: &mut Owned<u64, u64, H>,
+    replies: &mut Vec<Reply<u64, u64>>,
+) -> bool
+    requires { replies.old.items ≡ [] }
+{
+    map.insert_sync(7, 5).is_ok() && count(map, replies).is_ok()
+}
+
 #[test]
-fn counts_by_a_run(rt: HostRuntime) -> Result<(), Fail> {
-    let mut map = Owned::with_hasher(rt.alloc(), RandomState::new(&rt)?);
-    map.insert_sync(7, 5)?;
-    let mut replies = Vec::new(rt.alloc());
-    count(&mut map, &mut replies)?;
-    expect_eq(&rt, replies.as_slice(), [Reply::Count(1)].as_slice());
-    Ok(())
+fn counts_by_a_run(rt: HostRuntime) {
+    match RandomState::new(&rt) {
+        Ok(hasher) => {
+            let mut replies = Vec::new(rt.alloc());
+            let mut map = Owned::with_hasher(rt.alloc(), hasher);
+            let is_counted = insert_and_count(&mut map, &mut replies);
+            let wanted = [Reply::Count(1)];
+            expect_eq(
+                &rt,
+                (is_counted, replies.as_slice()),
+                (true, wanted.as_slice()),
+            );
+        }
+        Err(_) => expect(&rt, false),
+    }
 }
 
 // Clones of replies equal them, also where keys are compared in part.
@@ -45,32 +63,66 @@ fn replies_are_equal()
     ensures { ClonesEqual ⟦<Reply<MaybeEqual, u64> as Clone>⟧.is_clone ⟦<Reply<MaybeEqual, u64> as PartialEq>⟧.eq }
 {}
 
-#[test]
-fn calls_keep_and_swap_the_stored_key(rt: HostRuntime) -> Result<(), Fail> {
+type Marked = Owned<MaybeEqual, u64>;
+
+// Whether a call is answered so.
+fn answers(
+    map: &mut Marked,
+    call: MapCall<MaybeEqual, u64>,
+    reply: &Reply<MaybeEqual, u64>,
+) -> bool {
     replies_are_equal();
+    match map.call(call) {
+        Ok(found) => found == *reply,
+        Err(_) => false,
+    }
+}
+
+// Replaces key 11 by one with the mark 11: the mark of the old one.
+fn swap(map: &mut Marked) -> Option<u64> {
+    replies_are_equal();
+    match map.call(MapCall::Replace(MaybeEqual(11, 11))) {
+        Ok(Reply::Key(Some(old))) => Some(old.1),
+        _ => None,
+    }
+}
+
+// Removes key 11: the mark of the stored one, and its value.
+fn remove(map: &mut Marked) -> Option<(u64, u64)> {
+    replies_are_equal();
+    match map.call(MapCall::Remove(MaybeEqual(11, 0))) {
+        Ok(Reply::Pair(Some(pair))) => Some((pair.0.1, pair.1)),
+        _ => None,
+    }
+}
+
+#[test]
+fn calls_keep_and_swap_the_stored_key(rt: HostRuntime) {
     let mut map = Owned::new(rt.alloc());
-    expect(
+    let before = [
+        answers(
+            &mut map,
+            MapCall::Replace(MaybeEqual(11, 7)),
+            &Reply::Key(None),
+        ),
+        answers(
+            &mut map,
+            MapCall::Upsert(MaybeEqual(11, 7), 17),
+            &Reply::Old(None),
+        ),
+        answers(
+            &mut map,
+            MapCall::Upsert(MaybeEqual(11, 11), 18),
+            &Reply::Old(Some(17)),
+        ),
+    ];
+    let after = (swap(&mut map), remove(&mut map));
+    let is_empty = answers(&mut map, MapCall::Len, &Reply::Count(0));
+    expect_eq(
         &rt,
-        map.call(MapCall::Replace(MaybeEqual(11, 7)))? == Reply::Key(None),
+        (before, after, is_empty),
+        ([true; 3], (Some(7), Some((11, 18))), true),
     );
-    expect(
-        &rt,
-        map.call(MapCall::Upsert(MaybeEqual(11, 7), 17u64))? == Reply::Old(None),
-    );
-    expect(
-        &rt,
-        map.call(MapCall::Upsert(MaybeEqual(11, 11), 18))? == Reply::Old(Some(17)),
-    );
-    match map.call(MapCall::Replace(MaybeEqual(11, 11)))? {
-        Reply::Key(Some(old)) => expect_eq(&rt, old.1, 7),
-        _ => assert!(rt; false, "the key is there"),
-    }
-    match map.call(MapCall::Remove(MaybeEqual(11, 0)))? {
-        Reply::Pair(Some((key, value))) => expect_eq(&rt, (key.1, value), (11, 18)),
-        _ => assert!(rt; false, "the key is there"),
-    }
-    expect(&rt, map.call(MapCall::Len)? == Reply::Count(0));
-    Ok(())
 }
 
 // Adds each call to its total, and refuses what would bring that above 9.

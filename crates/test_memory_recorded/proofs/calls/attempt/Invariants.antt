@@ -1,6 +1,6 @@
 use Rattle.std.proofs.Common.{Some}
 use Rattle.scc_recorded.specs.Setups.{request_of}
-use Rattle.test_memory_recorded.proofs.calls.try_map.Given as goal
+use Rattle.test_memory_recorded.proofs.calls.attempt.Given as goal
 
 abbrev pub ghosts-call_and_finish-L-Ledger : goal.ghosts-call_and_finish-L-Ledger
 ghosts-call_and_finish-L-Ledger g a = record { name = a.receipts.name; parts = a.receipts.parts }
