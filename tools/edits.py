@@ -1,8 +1,9 @@
 """Edits, which are wrong bodies in files: reads them, and finds what is wrong with them.
 
-An edit is a file crates/CRATE/must-fail/NAME.edit if `rt ci` tries it each time, and slips/CRATE/NAME.edit if not. Those of
-must-fail/ are the named ones of docs/CLAUSES.md. It has these lines; others say nothing:
+An edit is a file crates/CRATE/must-fail/NAME.edit if `rt ci`, and so the gate, tries it each time, and slips/CRATE/NAME.edit
+if the command `./test --slips` alone does. It has these lines; others say nothing:
     function: PATH    the function whose contract has to refuse the edit, by its whole path, as a check prints it
+    named: yes        if the edit is in the table "Named wrong bodies" of docs/CLAUSES.md
     file: src/lib.rt  the file of the crate that the next pairs change
     old: TEXT         a text that stands in that file exactly once
     new: TEXT         the text in its place
@@ -21,7 +22,6 @@ GATED = "must-fail"
 class Edit(NamedTuple):
     crate: str
     name: str
-    is_named: bool
     lines: List[str]
 
     def words(self, word):
@@ -35,6 +35,10 @@ class Edit(NamedTuple):
     @property
     def function(self):
         return "".join(self.words("function")[:1])
+
+    @property
+    def is_named(self):
+        return self.words("named") == ["yes"]
 
     def changes(self) -> List[Tuple[str, str, str]]:
         """The changes, each with its file, its old text and its new one."""
@@ -70,24 +74,23 @@ def with_all_below(crates, names):
 
 
 def folders_of(crate):
-    """Where the edits of a crate lie, each with whether they are the named ones."""
-    return [(os.path.join(TOP, "crates", crate, GATED), True), (os.path.join(TOP, "slips", crate), False)]
+    """Where the edits of a crate lie."""
+    return [os.path.join(TOP, "crates", crate, GATED), os.path.join(TOP, "slips", crate)]
 
 
-def edits_in(folder, crate, is_named):
+def edits_in(folder, crate):
     """The edits of a crate that lie in a folder, by their names."""
     found = []
     for name in sorted(os.listdir(folder)) if os.path.isdir(folder) else []:
         if name.endswith(ENDING):
             with open(os.path.join(folder, name), encoding="utf-8", errors="replace") as file:
-                found.append(Edit(crate, name[: -len(ENDING)], is_named, file.read().split("\n")))
+                found.append(Edit(crate, name[: -len(ENDING)], file.read().split("\n")))
     return found
 
 
 def edits_of(crates, folder=None):
     """All edits, in the order of their crates; those of FOLDER/CRATE alone if a folder is given."""
-    homes = {crate: [(os.path.join(folder, crate), False)] if folder else folders_of(crate) for crate in crates}
-    return [edit for crate, places in homes.items() for place, is_named in places for edit in edits_in(place, crate, is_named)]
+    return [edit for crate in crates for home in ([os.path.join(folder, crate)] if folder else folders_of(crate)) for edit in edits_in(home, crate)]
 
 
 def edited(edit, crate_folder):
@@ -114,6 +117,8 @@ def wrong_with(edit):
     """What is wrong with an edit, as can be seen without a proof; nothing where all is right."""
     if len(edit.words("function")) != 1 or not edit.function.startswith(edit.crate + "::"):
         return "it needs one line function: with the path of a function of its crate"
+    if edit.words("named") not in ([], ["yes"]):
+        return "its line named: says something else than yes"
     return edited(edit, os.path.join(TOP, "crates", edit.crate))[1]
 
 
@@ -124,7 +129,7 @@ def strangers(crates):
         if crate not in crates or not os.path.isdir(os.path.join(slips, crate)):
             yield f"slips/{crate}: crates.txt has no such crate"
     for crate in crates:
-        for folder, _ in folders_of(crate):
+        for folder in folders_of(crate):
             for name in sorted(os.listdir(folder)) if os.path.isdir(folder) else []:
                 if not name.endswith(ENDING) or not os.path.isfile(os.path.join(folder, name)):
                     yield f"{os.path.relpath(folder, TOP)}/{name}: an edit is a file whose name ends in {ENDING}"
