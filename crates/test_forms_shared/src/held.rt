@@ -8,6 +8,8 @@ mod index;
 mod map;
 mod set;
 
+use test_forms::answers::Answer;
+
 /// A shared container and what its calls wait by.
 #[derive(Drop)]
 pub struct Held<'a, R, C> {
@@ -29,5 +31,14 @@ impl<'a, R, C> Held<'a, R, C> {
     /// That container, and whether it has one stripe.
     pub fn of_stripes(rt: &'a R, shared: C, is_one: bool) -> Self {
         Held { rt, shared, is_one }
+    }
+}
+
+// What a walk answers that adds to a list, or says that it had no room.
+fn walked(had_room: bool) -> Answer {
+    if had_room {
+        Answer::Yes(true)
+    } else {
+        Answer::Refused(None)
     }
 }

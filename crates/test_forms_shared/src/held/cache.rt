@@ -59,34 +59,22 @@ fn fill<K: Eq + Hash + Drop + Numbered, V: Drop + Numbered, H: BuildHasher>(
     }
 }
 
-// Puts the key in the place of its equal, or puts the pair.
-fn replace_or_fill<K: Eq + Hash + Drop + Numbered, V: Drop + Numbered, H: BuildHasher>(
+// Puts the key in the place of its equal. A missing key gets the value, if there is one.
+fn swap<K: Eq + Hash + Drop + Numbered, V: Drop + Numbered, H: BuildHasher>(
     rt: &impl Wait,
     cache: &HashCache<K, V, H>,
     key: K,
-    value: V,
+    value: Option<V>,
 ) -> Answer {
     match cache.replace_sync(rt, key) {
         ReplaceResult::Replaced(entry, old) => {
             let here = seen(entry.key(), entry.get());
             Answer::Swapped(Some(old.mark()), Some(here))
         }
-        ReplaceResult::NotReplaced(entry) => entered(entry.put_entry(value)),
-    }
-}
-
-// Puts the key in the place of its equal.
-fn replace_in<K: Eq + Hash + Drop + Numbered, V: Drop + Numbered, H: BuildHasher>(
-    rt: &impl Wait,
-    cache: &HashCache<K, V, H>,
-    key: K,
-) -> Answer {
-    match cache.replace_sync(rt, key) {
-        ReplaceResult::Replaced(entry, old) => {
-            let here = seen(entry.key(), entry.get());
-            Answer::Swapped(Some(old.mark()), Some(here))
-        }
-        ReplaceResult::NotReplaced(_) => Answer::Swapped(None, None),
+        ReplaceResult::NotReplaced(entry) => match value {
+            Some(value) => entered(entry.put_entry(value)),
+            None => Answer::Swapped(None, None),
+        },
     }
 }
 
@@ -95,41 +83,54 @@ fn modify_in<K: Eq + Hash + Drop + Numbered, V: Drop + Numbered, H: BuildHasher>
     rt: &impl Wait,
     cache: &HashCache<K, V, H>,
     key: K,
-    value: V,
+    number: u64,
 ) -> Answer {
     match cache
         .entry_sync(rt, key)
-        .and_modify(|old| old.write(value.number()))
+        .and_modify(|old| old.write(number))
     {
         Entry::Occupied(entry) => {
             let here = seen(entry.key(), entry.get());
             Answer::Found(Some(here))
         }
         Entry::Vacant(entry) => {
-            let number = entry.key().number();
-            Answer::Vacant(number, entry.into_key().mark())
+            let kept = entry.key().number();
+            Answer::Vacant(kept, entry.into_key().mark())
         }
     }
+}
+
+// Looks at an entry, once its value is written if that is to be.
+fn look<K: Eq + Hash + Drop + Numbered, V: Drop + Numbered, H: BuildHasher>(
+    entry: OccupiedEntry<'_, K, V, H>,
+    written: Option<u64>,
+) -> Answer {
+    let mut entry = entry;
+    if let Some(number) = written {
+        entry.get_mut().write(number);
+    }
+    let here = seen(entry.key(), entry.get());
+    Answer::Found(Some(here))
+}
+
+// Sets the value of an entry.
+fn set<K: Eq + Hash + Drop + Numbered, V: Drop + Numbered, H: BuildHasher>(
+    entry: OccupiedEntry<'_, K, V, H>,
+    value: V,
+) -> Answer {
+    let mut entry = entry;
+    Answer::Old(Some(entry.put(value).number()))
 }
 
 // Does that with an entry.
 fn act_on<K: Eq + Hash + Drop + Numbered, V: Drop + Numbered, H: BuildHasher>(
     entry: OccupiedEntry<'_, K, V, H>,
     act: Act,
-    value: V,
+    number: u64,
 ) -> Answer {
-    let mut entry = entry;
     match act {
-        Act::Look => {
-            let here = seen(entry.key(), entry.get());
-            Answer::Found(Some(here))
-        }
-        Act::Write => {
-            entry.get_mut().write(value.number());
-            let here = seen(entry.key(), entry.get());
-            Answer::Found(Some(here))
-        }
-        Act::Set => Answer::Old(Some(entry.put(value).number())),
+        Act::Look => look(entry, None),
+        Act::Write => look(entry, Some(number)),
         Act::Remove => Answer::Old(Some(entry.remove().number())),
         Act::RemoveEntry => Answer::Found(seen_pair(Some(entry.remove_entry()))),
         _ => Answer::Absent,
@@ -145,7 +146,10 @@ fn act_in<K: Eq + Hash + Drop + Numbered, V: Drop + Numbered, H: BuildHasher>(
     value: V,
 ) -> Answer {
     match cache.get_sync(rt, key) {
-        Some(entry) => act_on(entry, act, value),
+        Some(entry) => match act {
+            Act::Set => set(entry, value),
+            _ => act_on(entry, act, value.number()),
+        },
         None => Answer::Found(None),
     }
 }
@@ -167,18 +171,18 @@ impl<
                 Err(error) => refused(error),
             },
             Way::Upsert => Answer::Absent,
-            Way::Replace => replace_or_fill(self.rt, &self.shared, key, value),
+            Way::Replace => swap(self.rt, &self.shared, key, Some(value)),
             Way::Vacant => fill(self.rt, &self.shared, key, value),
             _ => enter(self.rt, &self.shared, way, key, value),
         }
     }
 
     fn replace(&mut self, key: K) -> Answer {
-        replace_in(self.rt, &self.shared, key)
+        swap(self.rt, &self.shared, key, None)
     }
 
     fn modify(&mut self, key: K, value: V) -> Answer {
-        modify_in(self.rt, &self.shared, key, value)
+        modify_in(self.rt, &self.shared, key, value.number())
     }
 
     fn act(&mut self, at: At, act: Act, key: &K, value: V) -> Answer {

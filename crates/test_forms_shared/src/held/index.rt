@@ -1,6 +1,6 @@
 //! The index that threads share, as drivers see it.
 
-use crate::held::Held;
+use crate::held::{Held, walked};
 use scc_common::InsertError;
 use scc_index::locked::{Entry, OccupiedEntry};
 use scc_shared_index::HashIndex;
@@ -92,30 +92,52 @@ fn shown<K: Eq + Hash + Drop + Numbered, V: Drop + Numbered, H: BuildHasher>(
     }
 }
 
-// Does that with an entry.
-fn act_on<K: Eq + Hash + Clone + Drop + Numbered, V: Drop + Numbered, H: BuildHasher>(
-    rt: &impl Wait,
+// Looks at an entry.
+fn look<K: Eq + Hash + Drop + Numbered, V: Drop + Numbered, H: BuildHasher>(
     entry: OccupiedEntry<'_, K, V, H>,
-    act: Act,
+) -> Answer {
+    let here = seen(entry.key(), entry.get());
+    Answer::Found(Some(here))
+}
+
+// Makes a new version at an entry.
+fn set<K: Eq + Hash + Clone + Drop + Numbered, V: Drop + Numbered, H: BuildHasher>(
+    entry: OccupiedEntry<'_, K, V, H>,
     value: V,
 ) -> Answer {
     let mut entry = entry;
-    let here = seen(entry.key(), entry.get());
+    match entry.update(value) {
+        Ok(()) => Answer::Yes(true),
+        Err(back) => {
+            let kept = seen(entry.key(), &back);
+            Answer::Refused(Some(kept))
+        }
+    }
+}
+
+// Takes the pair of an entry out, and goes on to the next entry.
+fn go_on<K: Eq + Hash + Drop + Numbered, V: Drop + Numbered, H: BuildHasher>(
+    rt: &impl Wait,
+    entry: OccupiedEntry<'_, K, V, H>,
+) -> Answer {
+    let gone = seen(entry.key(), entry.get());
+    Answer::Gone(gone, shown(entry.remove_and_sync(rt)))
+}
+
+// Does that with an entry.
+fn act_on<K: Eq + Hash + Drop + Numbered, V: Drop + Numbered, H: BuildHasher>(
+    rt: &impl Wait,
+    entry: OccupiedEntry<'_, K, V, H>,
+    act: Act,
+) -> Answer {
     match act {
-        Act::Look => Answer::Found(Some(here)),
-        Act::Set => match entry.update(value) {
-            Ok(()) => Answer::Yes(true),
-            Err(back) => {
-                let kept = seen(entry.key(), &back);
-                Answer::Refused(Some(kept))
-            }
-        },
+        Act::Look => look(entry),
         Act::RemoveEntry => {
             entry.remove_entry();
             Answer::Yes(true)
         }
         Act::Next => Answer::Found(shown(entry.next_sync(rt))),
-        Act::RemoveNext => Answer::Gone(here, shown(entry.remove_and_sync(rt))),
+        Act::RemoveNext => go_on(rt, entry),
         _ => Answer::Absent,
     }
 }
@@ -136,7 +158,10 @@ fn act_in<K: Eq + Hash + Clone + Drop + Numbered, V: Drop + Numbered, H: BuildHa
         At::First => index.begin_sync(rt),
     };
     match entry {
-        Some(entry) => act_on(rt, entry, act, value),
+        Some(entry) => match act {
+            Act::Set => set(entry, value),
+            _ => act_on(rt, entry, act),
+        },
         None => Answer::Found(None),
     }
 }
@@ -148,17 +173,16 @@ fn step_in<K: Eq + Hash + Drop + Numbered, V: Drop + Numbered, H: BuildHasher>(
     most: usize,
     met: &mut Vec<Seen>,
 ) -> Answer {
+    let mut had_room = true;
     let mut place = index.begin_sync(rt);
     for _ in 0..most {
         let Some(entry) = place else {
             break;
         };
-        if met.push(seen(entry.key(), entry.get())).is_err() {
-            return Answer::Refused(None);
-        }
+        had_room = met.push(seen(entry.key(), entry.get())).is_ok() && had_room;
         place = entry.next_sync(rt);
     }
-    Answer::Yes(true)
+    walked(had_room)
 }
 
 // Takes pairs out and goes from entry to entry.
@@ -168,17 +192,16 @@ fn drain_in<K: Eq + Hash + Drop + Numbered, V: Drop + Numbered, H: BuildHasher>(
     most: usize,
     met: &mut Vec<Seen>,
 ) -> Answer {
+    let mut had_room = true;
     let mut place = index.begin_sync(rt);
     for _ in 0..most {
         let Some(entry) = place else {
             break;
         };
-        if met.push(seen(entry.key(), entry.get())).is_err() {
-            return Answer::Refused(None);
-        }
+        had_room = met.push(seen(entry.key(), entry.get())).is_ok() && had_room;
         place = entry.remove_and_sync(rt);
     }
-    Answer::Yes(true)
+    walked(had_room)
 }
 
 // Reserves so many slots and gives them back.

@@ -1,6 +1,6 @@
 //! The map that threads share, as drivers see it.
 
-use crate::held::Held;
+use crate::held::{Held, walked};
 use scc_common::InsertError;
 use scc_map::locked::{Entry, OccupiedEntry, ReplaceResult};
 use scc_shared_map::HashMap;
@@ -58,34 +58,22 @@ fn fill<K: Eq + Hash + Drop + Numbered, V: Drop + Numbered, H: BuildHasher>(
     }
 }
 
-// Puts the key in the place of its equal, or adds the pair.
-fn replace_or_fill<K: Eq + Hash + Drop + Numbered, V: Drop + Numbered, H: BuildHasher>(
+// Puts the key in the place of its equal. A missing key gets the value, if there is one.
+fn swap<K: Eq + Hash + Drop + Numbered, V: Drop + Numbered, H: BuildHasher>(
     rt: &impl Wait,
     map: &HashMap<K, V, H>,
     key: K,
-    value: V,
+    value: Option<V>,
 ) -> Answer {
     match map.replace_sync(rt, key) {
         ReplaceResult::Replaced(entry, old) => {
             let here = seen(entry.key(), entry.get());
             Answer::Swapped(Some(old.mark()), Some(here))
         }
-        ReplaceResult::NotReplaced(entry) => entered(entry.insert_entry(value)),
-    }
-}
-
-// Puts the key in the place of its equal.
-fn replace_in<K: Eq + Hash + Drop + Numbered, V: Drop + Numbered, H: BuildHasher>(
-    rt: &impl Wait,
-    map: &HashMap<K, V, H>,
-    key: K,
-) -> Answer {
-    match map.replace_sync(rt, key) {
-        ReplaceResult::Replaced(entry, old) => {
-            let here = seen(entry.key(), entry.get());
-            Answer::Swapped(Some(old.mark()), Some(here))
-        }
-        ReplaceResult::NotReplaced(_) => Answer::Swapped(None, None),
+        ReplaceResult::NotReplaced(entry) => match value {
+            Some(value) => entered(entry.insert_entry(value)),
+            None => Answer::Swapped(None, None),
+        },
     }
 }
 
@@ -94,19 +82,16 @@ fn modify_in<K: Eq + Hash + Drop + Numbered, V: Drop + Numbered, H: BuildHasher>
     rt: &impl Wait,
     map: &HashMap<K, V, H>,
     key: K,
-    value: V,
+    number: u64,
 ) -> Answer {
-    match map
-        .entry_sync(rt, key)
-        .and_modify(|old| old.write(value.number()))
-    {
+    match map.entry_sync(rt, key).and_modify(|old| old.write(number)) {
         Entry::Occupied(entry) => {
             let here = seen(entry.key(), entry.get());
             Answer::Found(Some(here))
         }
         Entry::Vacant(entry) => {
-            let number = entry.key().number();
-            Answer::Vacant(number, entry.into_key().mark())
+            let kept = entry.key().number();
+            Answer::Vacant(kept, entry.into_key().mark())
         }
     }
 }
@@ -124,32 +109,52 @@ fn shown<K: Eq + Hash + Drop + Numbered, V: Drop + Numbered, H: BuildHasher>(
     }
 }
 
+// Looks at an entry, once its value is written if that is to be.
+fn look<K: Eq + Hash + Drop + Numbered, V: Drop + Numbered, H: BuildHasher>(
+    entry: OccupiedEntry<'_, K, V, H>,
+    written: Option<u64>,
+) -> Answer {
+    let mut entry = entry;
+    if let Some(number) = written {
+        entry.get_mut().write(number);
+    }
+    let here = seen(entry.key(), entry.get());
+    Answer::Found(Some(here))
+}
+
+// Sets the value of an entry.
+fn set<K: Eq + Hash + Drop + Numbered, V: Drop + Numbered, H: BuildHasher>(
+    entry: OccupiedEntry<'_, K, V, H>,
+    value: V,
+) -> Answer {
+    let mut entry = entry;
+    Answer::Old(Some(entry.insert(value).number()))
+}
+
+// Takes the pair of an entry out, and goes on to the next entry.
+fn go_on<K: Eq + Hash + Drop + Numbered, V: Drop + Numbered, H: BuildHasher>(
+    rt: &impl Wait,
+    entry: OccupiedEntry<'_, K, V, H>,
+) -> Answer {
+    let (pair, next) = entry.remove_and_sync(rt);
+    let gone = seen(&pair.0, &pair.1);
+    Answer::Gone(gone, shown(next))
+}
+
 // Does that with an entry.
 fn act_on<K: Eq + Hash + Drop + Numbered, V: Drop + Numbered, H: BuildHasher>(
     rt: &impl Wait,
     entry: OccupiedEntry<'_, K, V, H>,
     act: Act,
-    value: V,
+    number: u64,
 ) -> Answer {
-    let mut entry = entry;
     match act {
-        Act::Look => {
-            let here = seen(entry.key(), entry.get());
-            Answer::Found(Some(here))
-        }
-        Act::Write => {
-            entry.get_mut().write(value.number());
-            let here = seen(entry.key(), entry.get());
-            Answer::Found(Some(here))
-        }
-        Act::Set => Answer::Old(Some(entry.insert(value).number())),
+        Act::Write => look(entry, Some(number)),
         Act::Remove => Answer::Old(Some(entry.remove().number())),
         Act::RemoveEntry => Answer::Found(seen_pair(Some(entry.remove_entry()))),
         Act::Next => Answer::Found(shown(entry.next_sync(rt))),
-        Act::RemoveNext => {
-            let (pair, next) = entry.remove_and_sync(rt);
-            Answer::Gone(seen(&pair.0, &pair.1), shown(next))
-        }
+        Act::RemoveNext => go_on(rt, entry),
+        _ => look(entry, None),
     }
 }
 
@@ -169,7 +174,10 @@ fn act_in<K: Eq + Hash + Drop + Numbered, V: Drop + Numbered, H: BuildHasher>(
         At::First => map.begin_sync(rt),
     };
     match entry {
-        Some(entry) => act_on(rt, entry, act, value),
+        Some(entry) => match act {
+            Act::Set => set(entry, value),
+            _ => act_on(rt, entry, act, value.number()),
+        },
         None => Answer::Found(None),
     }
 }
@@ -181,17 +189,16 @@ fn step_in<K: Eq + Hash + Drop + Numbered, V: Drop + Numbered, H: BuildHasher>(
     most: usize,
     met: &mut Vec<Seen>,
 ) -> Answer {
+    let mut had_room = true;
     let mut place = map.begin_sync(rt);
     for _ in 0..most {
         let Some(entry) = place else {
             break;
         };
-        if met.push(seen(entry.key(), entry.get())).is_err() {
-            return Answer::Refused(None);
-        }
+        had_room = met.push(seen(entry.key(), entry.get())).is_ok() && had_room;
         place = entry.next_sync(rt);
     }
-    Answer::Yes(true)
+    walked(had_room)
 }
 
 // Takes pairs out and goes from entry to entry.
@@ -201,18 +208,17 @@ fn drain_in<K: Eq + Hash + Drop + Numbered, V: Drop + Numbered, H: BuildHasher>(
     most: usize,
     met: &mut Vec<Seen>,
 ) -> Answer {
+    let mut had_room = true;
     let mut place = map.begin_sync(rt);
     for _ in 0..most {
         let Some(entry) = place else {
             break;
         };
         let (pair, next) = entry.remove_and_sync(rt);
-        if met.push(seen(&pair.0, &pair.1)).is_err() {
-            return Answer::Refused(None);
-        }
+        had_room = met.push(seen(&pair.0, &pair.1)).is_ok() && had_room;
         place = next;
     }
-    Answer::Yes(true)
+    walked(had_room)
 }
 
 // Reserves so many slots and gives them back.
@@ -254,14 +260,14 @@ impl<
                 Ok(old) => Answer::Old(old.map(|value| value.number())),
                 Err(error) => refused(error),
             },
-            Way::Replace => replace_or_fill(self.rt, &self.shared, key, value),
+            Way::Replace => swap(self.rt, &self.shared, key, Some(value)),
             Way::Vacant => fill(self.rt, &self.shared, key, value),
             _ => enter(self.rt, &self.shared, way, key, value),
         }
     }
 
     fn replace(&mut self, key: K) -> Answer {
-        replace_in(self.rt, &self.shared, key)
+        swap(self.rt, &self.shared, key, None)
     }
 
     fn update(&mut self, key: &K, value: V) -> Answer {
@@ -275,7 +281,7 @@ impl<
     }
 
     fn modify(&mut self, key: K, value: V) -> Answer {
-        modify_in(self.rt, &self.shared, key, value)
+        modify_in(self.rt, &self.shared, key, value.number())
     }
 
     fn act(&mut self, at: At, act: Act, key: &K, value: V) -> Answer {

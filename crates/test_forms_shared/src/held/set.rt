@@ -1,6 +1,6 @@
 //! The set that threads share, as drivers see it.
 
-use crate::held::Held;
+use crate::held::{Held, walked};
 use scc_shared_set::{HashSet, OccupiedEntry};
 use std::alloc::Global;
 use std::hash::{BuildHasher, Hash};
@@ -70,17 +70,16 @@ fn step_in<K: Eq + Hash + Drop + Numbered, H: BuildHasher>(
     most: usize,
     met: &mut Vec<Seen>,
 ) -> Answer {
+    let mut had_room = true;
     let mut place = set.begin_sync(rt);
     for _ in 0..most {
         let Some(entry) = place else {
             break;
         };
-        if met.push(seen_key(entry.get())).is_err() {
-            return Answer::Refused(None);
-        }
+        had_room = met.push(seen_key(entry.get())).is_ok() && had_room;
         place = entry.next_sync(rt);
     }
-    Answer::Yes(true)
+    walked(had_room)
 }
 
 // Takes keys out and goes from entry to entry.
@@ -90,18 +89,17 @@ fn drain_in<K: Eq + Hash + Drop + Numbered, H: BuildHasher>(
     most: usize,
     met: &mut Vec<Seen>,
 ) -> Answer {
+    let mut had_room = true;
     let mut place = set.begin_sync(rt);
     for _ in 0..most {
         let Some(entry) = place else {
             break;
         };
         let (key, next) = entry.remove_and_sync(rt);
-        if met.push(seen_key(&key)).is_err() {
-            return Answer::Refused(None);
-        }
+        had_room = met.push(seen_key(&key)).is_ok() && had_room;
         place = next;
     }
-    Answer::Yes(true)
+    walked(had_room)
 }
 
 // Reserves so many slots and gives them back.
