@@ -38,7 +38,7 @@ fn audit<C: Calls + Drop, L: Ledger, M: Site<C::Hasher>>(
 ) -> io::Result<Finished<C>>
 where
     C::Hasher: Drop,
-    ensures { IfOk result (λ f. IsFinished (make_kind C.limits C.empty C.key_of C.moves C.resizes C.whole C.whole_moves
+    ensures { IfOk result (λ f. IsFinished (make_kind C.limits C.empty C.key_of C.means C.resizes C.whole C.whole_means
         C.whole_resizes C.setting C.state C.Call.eq C.Reply.eq (stripe_of C.Hasher.BuildHasher C.Hasher.Hasher.Hasher
         C.Key.Hash.hash_input))
         (λ p. p.log.number) (λ p. p.log.receipts.items) recorded.hasher recorded.passes

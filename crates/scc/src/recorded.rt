@@ -3,7 +3,7 @@
 
 pub use scc_calls::{
     CacheCall, Calls, IndexCall, MapCall, Refused, Reply, Request, SetCall, Setting, Step,
-    WholeCalls, every_merge_is_a_run, route, run,
+    WholeCalls, every_merge_is_a_run, route, run, runs_mean,
 };
 pub use scc_common::{Shared, TryShare};
 pub use scc_history::{CallError, Log, Receipt, Stripe};

@@ -15,8 +15,9 @@ use Rattle.scc_cache.proofs.Caching.{list-is, shrunk-within}
 use Rattle.scc_cache.proofs.Found.{missing-found, there-found}
 use Rattle.scc_calls.specs.CacheCalls.{cache_answer, cache_setting, first_of_full, CacheIsMade, CacheMoves, CacheResizes}
 use Rattle.scc_calls.specs.Changes.{Changes}
-use Rattle.scc_calls.specs.Copies.{Alike, Means}
-use Rattle.scc_calls.specs.Means.{meant}
+use Rattle.scc_calls.specs.Copies.{Answers}
+use Rattle.scc_calls.specs.Means.{answered}
+use Rattle.scc_calls.specs.Stems.{CacheStems}
 use Rattle.scc_calls.specs.declared.calls_as_values.CacheCall.{CacheCall}
 use Rattle.scc_calls.specs.declared.calls_as_values.CacheCall.TheVariants.{Put, Get, Write, Replace, Remove, Read, Contains, Clear, Len}
 use Rattle.scc_calls.specs.declared.replies.Reply.{Reply}
@@ -162,18 +163,17 @@ count-lists c = refl
 pub moves-same : {K V : Type 0} (eq : K → K → Bool) (number : ℕ → K → ℕ) (s t u : List (List (K × V))) (call : CacheCall K V) (reply : Reply K V) → CacheMoves eq number s call reply t → u ≡ t → CacheMoves eq number s call reply u
 moves-same eq number s t u call reply m same = subst (λ x. CacheMoves eq number s call reply x) (sym same) m
 
--- a call that was made, and what stands for it and its reply
+-- a call that was made, with the reply that stems from the one that it gives
+pub answers-own : {K V H : Type 0} (clone : V → V → Type 0) (hash : K → ℕ) (eq : K → K → Bool) (c d : Cached (K × V) H) (call own : CacheCall K V) → call ≡ own → (given reply : Reply K V) → CacheStems clone own given reply
+    → Changes length (CacheMoves eq (number_in hash c.contents)) (CacheResizes (cache_setting c) (number_in hash c.contents)) (lists_of c.contents) own given (lists_of d.contents)
+    → Changes length (Answers (CacheStems clone) (CacheMoves eq (number_in hash c.contents))) (CacheResizes (cache_setting c) (number_in hash c.contents)) (lists_of c.contents) call reply (lists_of d.contents)
+answers-own clone hash eq c d call own is given reply from raw =
+    let number : ℕ → K → ℕ = number_in hash c.contents in
+    rw is (answered (CacheStems clone) (CacheMoves eq number) length (CacheResizes (cache_setting c) number) (lists_of c.contents) (lists_of d.contents) own given reply from raw)
+
+-- a call that was made, and the copies of its reply
 module _ {K V H : Type 0} {calls : CacheCall K V → CacheCall K V → Bool} {replies : Reply K V → Reply K V → Bool} (pc : IsPartialEquivalence calls) (pr : IsPartialEquivalence replies) (hash : K → ℕ) (eq : K → K → Bool) (c d : Cached (K × V) H) (call own : CacheCall K V) (is : call ≡ own) (made : Reply K V)
     (raw : Changes length (CacheMoves eq (number_in hash c.contents)) (CacheResizes (cache_setting c) (number_in hash c.contents)) (lists_of c.contents) own made (lists_of d.contents)) where
-  -- the reply may be another one that equals its own
-  pub means-given : (given : Reply K V) → Alike replies made given → Changes length (Means calls replies (CacheMoves eq (number_in hash c.contents))) (CacheResizes (cache_setting c) (number_in hash c.contents)) (lists_of c.contents) call given (lists_of d.contents)
-  means-given given same =
-      let number : ℕ → K → ℕ = number_in hash c.contents in
-      rw is (meant calls replies (CacheMoves eq number) length (CacheResizes (cache_setting c) number) (lists_of c.contents) (lists_of d.contents) own made given same raw)
-
-  pub means-made : Changes length (Means calls replies (CacheMoves eq (number_in hash c.contents))) (CacheResizes (cache_setting c) (number_in hash c.contents)) (lists_of c.contents) call made (lists_of d.contents)
-  means-made = means-given made (inl refl)
-
   -- what equals the reply of the lists equals its own
   pub answers-made : (copy : Reply K V) → length (lists_of d.contents) ≤ length (lists_of c.contents) → replies (cache_answer eq (number_in hash c.contents) (lists_of c.contents) call) copy ≡ true → replies made copy ≡ true
   answers-made copy less asked =

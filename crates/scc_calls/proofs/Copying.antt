@@ -19,3 +19,10 @@ module _ {X Z : Type 0} {clone : Z → Z → Type 0} {same : Z → Z → Bool} (
   copied_whole (Some x) (Some y) h = clones (wrap (Some x)) (wrap (Some y)) (some x y h)
   copied_whole None (Some y) h = absurd h
   copied_whole (Some x) None h = absurd h
+
+-- a clone of a part of what is there
+pub copied-part : {X Y Z : Type 0} (copy : Y → Z → Type 0) (get : X → Y) (o : Option X) (w : Option Z) → IsCopied (λ x z. copy (get x) z) o w → IsCopied copy (option_map get o) w
+copied-part copy get None None h = h
+copied-part copy get (Some x) (Some z) h = h
+copied-part copy get None (Some z) h = absurd h
+copied-part copy get (Some x) None h = absurd h

@@ -33,22 +33,22 @@ set_key-alike : {K V : Type 0} (t u : K → Bool) → ((x : K) → t x ≡ u x) 
 set_key-alike t u h [] q = refl
 set_key-alike t u h (x ∷ es) q = λ i. cond (h x.0 i) ((q, x.1) ∷ es) (x ∷ set_key-alike t u h es q i)
 
-module _ {K V H : Type 0} (eq : K → K → Bool) (c d : Contents (K × V) H) where
+module _ {K V H : Type 0} (eq : K → K → Bool) (clone : K → K → Type 0) (c d : Contents (K × V) H) where
   -- an insertion of a new key
   pub inserted : (k : K) (v : V) (u : Unit {0}) → Inserts eq c (k, v) (Ok u) d
-      → Changes (λ s. s.1) (IndexMoves eq) (ResizesTo (setting_of c)) (state_of c) (Insert k v) Inserted (state_of d)
-  inserted k v u h = holds-changes (IndexMoves eq) (Insert k v) Inserted c d ((k, v) ∷ entries c) h.1 (λ number l p. (h.0, (p, refl)))
+      → Changes (λ s. s.1) (IndexMoves eq clone) (ResizesTo (setting_of c)) (state_of c) (Insert k v) Inserted (state_of d)
+  inserted k v u h = holds-changes (IndexMoves eq clone) (Insert k v) Inserted c d ((k, v) ∷ entries c) h.1 (λ number l p. (h.0, (p, refl)))
 
   -- a clearing
-  pub cleared : Holds c [] d → Changes (λ s. s.1) (IndexMoves eq) (ResizesTo (setting_of c)) (state_of c) Clear Cleared (state_of d)
-  cleared h = holds-changes (IndexMoves eq) Clear Cleared c d [] h (λ number l p. (none-left l p, refl))
+  pub cleared : Holds c [] d → Changes (λ s. s.1) (IndexMoves eq clone) (ResizesTo (setting_of c)) (state_of c) Clear Cleared (state_of d)
+  cleared h = holds-changes (IndexMoves eq clone) Clear Cleared c d [] h (λ number l p. (none-left l p, refl))
 
   -- a removal
-  pub removed : (k : K) (b : Bool) → Removes eq c k b d → Changes (λ s. s.1) (IndexMoves eq) (ResizesTo (setting_of c)) (state_of c) (Remove k) (Has b) (state_of d)
-  removed k false h = unchanged-changes (IndexMoves eq) (Remove k) (Has false) c d h.1 (λ e. (h.0, e))
+  pub removed : (k : K) (b : Bool) → Removes eq c k b d → Changes (λ s. s.1) (IndexMoves eq clone) (ResizesTo (setting_of c)) (state_of c) (Remove k) (Has b) (state_of d)
+  removed k false h = unchanged-changes (IndexMoves eq clone) (Remove k) (Has false) c d h.1 (λ e. (h.0, e))
   removed k true h =
       let p = some-of (find eq (entries c) k) h.0 in
-      holds-changes (IndexMoves eq) (Remove k) (Has true) c d (without eq (entries c) k) h.1 (λ number l q. (p.0, (p.1, (q, refl))))
+      holds-changes (IndexMoves eq clone) (Remove k) (Has true) c d (without eq (entries c) k) h.1 (λ number l q. (p.0, (p.1, (q, refl))))
 
   pub removed-setting : (k : K) (b : Bool) → Removes eq c k b d → setting_of d ≡ setting_of c
   removed-setting k false h = ap setting_by h.1.settings
@@ -60,7 +60,7 @@ module _ {G N K V S T : Type 0} {d : guard.Ghosts G (Contents (K × V) S)} {g : 
   near = laws.congr k (occupied_pair o).0 up.key at.equal ∙ laws.symm (occupied_pair o).0 up.key ∙ up.equal
 
   -- an update of a present key
-  pub updated : Changes (λ s. s.1) (IndexMoves eq) (ResizesTo (setting_of c)) (state_of c) (Update k v) (Has true) (state_of (d.kept p.guard))
+  pub updated : Changes (λ s. s.1) (IndexMoves eq C) (ResizesTo (setting_of c)) (state_of c) (Update k v) (Has true) (state_of (d.kept p.guard))
   updated =
       let buckets : bucket_count (d.kept p.guard) ≡ bucket_count c = up.at.contents.buckets ∙ ap bucket_count at.contents in
       inl (
@@ -71,6 +71,7 @@ module _ {G N K V S T : Type 0} {d : guard.Ghosts G (Contents (K × V) S)} {g : 
           (occupied_pair o).0,
           (occupied_pair o).1,
           near,
+          up.cloned,
           ((occupied_pair o).0, at.found, (refl, refl)),
           (
             v,

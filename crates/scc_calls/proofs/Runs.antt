@@ -40,12 +40,12 @@ run-as as-other done = done
 run-as as-other (resize h r) = resize h (run-as as-other r)
 run-as as-other (answer {s} {t} {call} {reply} m r) = answer (as-other s call reply t m) (run-as as-other r)
 
--- what holds of each step of a call holds of the call with its resize
-pub changes-as : {S C R : Type 0} (size : S → ℕ) (resizes : S → ℕ → S → Type 0) (moves : S → C → R → S → Type 0) (call copy : C) (reply given : R) (old new : S) → ((s t : S) → moves s call reply t → moves s copy given t)
-    → Changes size moves resizes old call reply new → Changes size moves resizes old copy given new
-changes-as size resizes moves call copy reply given old new f (inl c) = inl (c.0, f old new c.1)
-changes-as size resizes moves call copy reply given old new f (inr (inl c)) = inr (inl (c.0, (c.1.0, c.1.1, f c.1.0 new c.1.2)))
-changes-as size resizes moves call copy reply given old new f (inr (inr c)) = inr (inr (c.0, (c.1.0, f old c.1.0 c.1.1, c.1.2)))
+-- what each step of a call is by another meaning, the call with its resize is too
+pub changes-by : {S C D R Q : Type 0} (size : S → ℕ) (resizes : S → ℕ → S → Type 0) (moves : S → C → R → S → Type 0) (others : S → D → Q → S → Type 0) (call : C) (copy : D) (reply : R) (given : Q) (old new : S) → ((s t : S) → moves s call reply t → others s copy given t)
+    → Changes size moves resizes old call reply new → Changes size others resizes old copy given new
+changes-by size resizes moves others call copy reply given old new f (inl c) = inl (c.0, f old new c.1)
+changes-by size resizes moves others call copy reply given old new f (inr (inl c)) = inr (inl (c.0, (c.1.0, c.1.1, f c.1.0 new c.1.2)))
+changes-by size resizes moves others call copy reply given old new f (inr (inr c)) = inr (inr (c.0, (c.1.0, f old c.1.0 c.1.1, c.1.2)))
 
 -- what stays stays
 pub stays-same : {S : Type 0} (size : S → ℕ) (resizes : S → ℕ → S → Type 0) (s : S) → Stays size resizes s s

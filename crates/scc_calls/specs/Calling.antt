@@ -4,7 +4,11 @@ use Rattle.std.specs.Result.{OnErr}
 use Rattle.scc_calls.specs.Changes.{Changes, Stays}
 use Rattle.scc_calls.specs.Copies.{MayNotClone}
 
-module _ {T G S K C R X : Type 0} (setting_of : T → G) (state_of : T → S) (size : S → ℕ) (key_of : C → Option K) (resizes : G → S → ℕ → S → Type 0) (may_refuse : G → S → C → Type 0) (may_add : C → Type 0) (is_ready : T → C → R → Type 0) (is_infallible : R → Type 0) where
+-- a clone may be refused of the reply that the call gives in this state, or after one resize of it
+abbrev pub MayNotReply : {S C R : Type 0} → (S → ℕ) → (S → ℕ → S → Type 0) → (S → C → R) → (R → Type 0) → S → C → Type 0
+MayNotReply {S} size resizes answer is_infallible s call = (t : S) × Stays size resizes s t × MayNotClone is_infallible (answer t call)
+
+module _ {T G S K C R X : Type 0} (setting_of : T → G) (state_of : T → S) (size : S → ℕ) (key_of : C → Option K) (answer : G → S → C → R) (resizes : G → S → ℕ → S → Type 0) (may_refuse : G → S → C → Type 0) (may_add : C → Type 0) (is_ready : T → C → R → Type 0) (is_infallible : R → Type 0) where
   -- what `ready` for the call, answered so, does to the container c
   pub record ReadiesByRule (c : T) (call : C) (result : Result (R × R) X) (d : T) : Type 0 where
     -- the setting stays
@@ -17,22 +21,22 @@ module _ {T G S K C R X : Type 0} (setting_of : T → G) (state_of : T → S) (s
     pub adds : size (state_of d) ≢ size (state_of c) → may_add call
     -- both copies are ones that the call is ready to answer
     pub ready : IfOk result (λ r. is_ready d call r.0 × is_ready d call r.1)
-    -- it fails only where memory for the call may be refused, or where a reply to a call with a key may not be cloned
-    pub refused : OnErr result (may_refuse (setting_of c) (state_of c) call ⊎ (IsSome (key_of call) × MayNotClone is_infallible))
+    -- it fails only if memory for the call may be refused, or, if the call has a key, a clone of the reply that the call gives then
+    pub refused : OnErr result (may_refuse (setting_of c) (state_of c) call ⊎ (IsSome (key_of call) × MayNotClone is_infallible (answer (setting_of d) (state_of d) call)))
     -- and where memory may be refused after it, it might have been before
     pub still : may_refuse (setting_of c) (state_of d) call → may_refuse (setting_of c) (state_of c) call
 
-  -- what the call, answered so, does to the container c, where it moves its state so and these replies are equal
+  -- what the call, answered so, does to the container c, if it moves the state so and these replies are equal
   pub record CallsByRule (moves : G → S → C → R → S → Type 0) (eq : R → R → Bool) (c : T) (call : C) (result : Result R X) (d : T) : Type 0 where
     -- the setting stays
     pub setting : setting_of d ≡ setting_of c
-    -- where it succeeds, the call was made with this reply, and with at most one resize
+    -- if it succeeds, this very call was made with this very reply, and with at most one resize
     pub ok : IfOk result (λ r. Changes size (moves (setting_of c)) (resizes (setting_of c)) (state_of c) call r (state_of d))
     -- where it fails, the state stays but for one resize
     pub err : OnErr result (Stays size (resizes (setting_of c)) (state_of c) (state_of d))
-    -- it fails only where memory for the call may be refused, or where a reply to a call with a key may not be cloned
-    pub refused : OnErr result (may_refuse (setting_of c) (state_of c) call ⊎ (IsSome (key_of call) × MayNotClone is_infallible))
-    -- once all is made that it wants, it succeeds, and the reply equals the copy
+    -- it fails only if memory for the call may be refused, or, if the call has a key, a clone of the reply that the call gives
+    pub refused : OnErr result (may_refuse (setting_of c) (state_of c) call ⊎ (IsSome (key_of call) × MayNotClone is_infallible (answer (setting_of c) (state_of c) call)))
+    -- once all is made that it wants, a reply that it answers equals the copy
     pub answer : (copy : R) → is_ready c call copy → IfOk result (λ r. eq r copy ≡ true)
     -- and it makes no growth
     pub made : (copy : R) → is_ready c call copy → size (state_of d) ≤ size (state_of c)

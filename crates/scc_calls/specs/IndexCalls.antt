@@ -29,18 +29,18 @@ module _ {K V : Type 0} where
   index_adds call = ⊥
 
   module _ (eq : K → K → Bool) where
-    -- the call may give the reply and leave t, with no resize. An update of a present key is an upsert and then a replacement of the stored key by one that equals it, its clone
-    abbrev pub IndexMoves : State (K × V) → IndexCall K V → Reply K V → State (K × V) → Type 0
-    IndexMoves s (Insert k v) r t = MapMoves eq s (MapInsert k v) r t
-    IndexMoves s (Update k v) (Has false) t = MapMoves eq s (MapReplace k) (Key None) t
-    IndexMoves s (Update k v) (Has true) t = (u : State (K × V)) × (q : K) × (l : K) × (w : V) × (eq k q ≡ true) × MapMoves eq s (MapUpsert k v) (Old (Some w)) u × MapMoves eq u (MapReplace q) (Key (Some l)) t
-    IndexMoves s (Remove k) (Has false) t = MapMoves eq s (MapRemove k) (Pair None) t
-    IndexMoves s (Remove k) (Has true) t = (p : K × V) × MapMoves eq s (MapRemove k) (Pair (Some p)) t
-    IndexMoves s (Read k) r t = MapMoves eq s (MapRead k) r t
-    IndexMoves s (Contains k) r t = MapMoves eq s (MapContains k) r t
-    IndexMoves s Clear r t = MapMoves eq s MapClear r t
-    IndexMoves s Len r t = MapMoves eq s MapLen r t
-    IndexMoves s call reply t = ⊥
+    -- the call may give the reply and leave t, with no resize, where `clone` says which key is a clone of which. An update of a present key is an upsert and then a replacement of the stored key by a clone of it, which equals it
+    abbrev pub IndexMoves : (K → K → Type 0) → State (K × V) → IndexCall K V → Reply K V → State (K × V) → Type 0
+    IndexMoves clone s (Insert k v) r t = MapMoves eq s (MapInsert k v) r t
+    IndexMoves clone s (Update k v) (Has false) t = MapMoves eq s (MapReplace k) (Key None) t
+    IndexMoves clone s (Update k v) (Has true) t = (u : State (K × V)) × (q : K) × (l : K) × (w : V) × (eq k q ≡ true) × clone l q × MapMoves eq s (MapUpsert k v) (Old (Some w)) u × MapMoves eq u (MapReplace q) (Key (Some l)) t
+    IndexMoves clone s (Remove k) (Has false) t = MapMoves eq s (MapRemove k) (Pair None) t
+    IndexMoves clone s (Remove k) (Has true) t = (p : K × V) × MapMoves eq s (MapRemove k) (Pair (Some p)) t
+    IndexMoves clone s (Read k) r t = MapMoves eq s (MapRead k) r t
+    IndexMoves clone s (Contains k) r t = MapMoves eq s (MapContains k) r t
+    IndexMoves clone s Clear r t = MapMoves eq s MapClear r t
+    IndexMoves clone s Len r t = MapMoves eq s MapLen r t
+    IndexMoves clone s call reply t = ⊥
 
     -- memory may be refused to an insertion of a new key and to an update of a present one, each of which makes a version, and to no other call
     abbrev pub IndexMayRefuse : State (K × V) → IndexCall K V → Type 0

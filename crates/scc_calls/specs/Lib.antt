@@ -20,5 +20,6 @@ pub mod SetCalls
 pub mod SetLaws
 pub mod SetWhole
 pub mod States
+pub mod Stems
 pub mod WholeKinds
 pub mod WholeLaws

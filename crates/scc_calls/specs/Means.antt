@@ -2,7 +2,7 @@
 use Rattle.std.proofs.Common.{◌≡◌, ℕ, Bool, true, Option, None, Some, refl, sym, ap, ◌∙◌, subst, inl, inr}
 use Rattle.std.specs.Cmp.{IsPartialEquivalence}
 use Rattle.scc_calls.specs.Changes.{Changes}
-use Rattle.scc_calls.specs.Copies.{Alike, Means}
+use Rattle.scc_calls.specs.Copies.{Alike, Answers, Means}
 use Rattle.scc_calls.specs.Parts.{KeyRouted}
 
 -- both have no key, or equal ones
@@ -37,6 +37,12 @@ pub the_very : {X : Type 0} (eq : X → X → Bool) → ((a b : X) → eq a b �
 the_very eq only a b (inl same) = same
 the_very eq only a b (inr equal) = only a b equal
 
+-- what a call with this reply changes, it answers with one that stems from it
+pub answered : {S C R : Type 0} (stems : C → R → R → Type 0) (moves : S → C → R → S → Type 0) (size : S → ℕ) (resizes : S → ℕ → S → Type 0) (old new : S) (call : C) (given reply : R) → stems call given reply → Changes size moves resizes old call given new → Changes size (Answers stems moves) resizes old call reply new
+answered stems moves size resizes old new call given reply from (inl c) = inl (c.0, (given, from, c.1))
+answered stems moves size resizes old new call given reply from (inr (inl c)) = inr (inl (c.0, (c.1.0, c.1.1, (given, from, c.1.2))))
+answered stems moves size resizes old new call given reply from (inr (inr c)) = inr (inr (c.0, (c.1.0, (given, from, c.1.1), c.1.2)))
+
 module _ {S C R : Type 0} (calls : C → C → Bool) (replies : R → R → Bool) (moves : S → C → R → S → Type 0) where
   -- what is meant by a call and a reply is meant by those that equal them
   pub means_alike : IsPartialEquivalence calls → IsPartialEquivalence replies → (old new : S) (call copy : C) (reply given : R) → Alike calls call copy → Alike replies reply given → Means calls replies moves old call reply new → Means calls replies moves old copy given new
@@ -46,11 +52,9 @@ module _ {S C R : Type 0} (calls : C → C → Bool) (replies : R → R → Bool
   pub means_own : (old new : S) (call : C) (made given : R) → Alike replies made given → moves old call made new → Means calls replies moves old call given new
   means_own old new call made given same m = (call, made, inl refl, same, m)
 
-  -- what a call with this reply changes, it means with a reply that is alike
-  pub meant : (size : S → ℕ) (resizes : S → ℕ → S → Type 0) (old new : S) (call : C) (made given : R) → Alike replies made given → Changes size moves resizes old call made new → Changes size (Means calls replies moves) resizes old call given new
-  meant size resizes old new call made given same (inl c) = inl (c.0, means_own old new call made given same c.1)
-  meant size resizes old new call made given same (inr (inl c)) = inr (inl (c.0, (c.1.0, c.1.1, means_own c.1.0 new call made given same c.1.2)))
-  meant size resizes old new call made given same (inr (inr c)) = inr (inr (c.0, (c.1.0, means_own old c.1.0 call made given same c.1.1, c.1.2)))
+  -- and by a reply that stems from its own, where such replies are alike
+  pub means_answer : (stems : C → R → R → Type 0) → ((call : C) (given reply : R) → stems call given reply → Alike replies given reply) → (old new : S) (call : C) (reply : R) → Answers stems moves old call reply new → Means calls replies moves old call reply new
+  means_answer stems like old new call reply h = means_own old new call h.0 reply (like call h.0 reply h.1) h.2
 
   -- where equal calls are the same, and equal replies too, what is meant is what is made
   pub means_same : ((a b : C) → calls a b ≡ true → b ≡ a) → ((a b : R) → replies a b ≡ true → b ≡ a) → (old new : S) (call : C) (reply : R) → Means calls replies moves old call reply new → moves old call reply new

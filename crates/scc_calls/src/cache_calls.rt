@@ -30,10 +30,11 @@ impl<K: Eq + Hash + Clone, V: Clone + PartialEq, H: BuildHasher> Calls for Owned
     ghost use Rattle.scc_contents.specs.Hashing.{hash_of};
     ghost use Rattle.scc_contents.specs.Sizes.{IsArraySize};
     ghost use Rattle.scc_contents.specs.Contents.{key_hash};
-    ghost use Rattle.scc_calls.specs.CacheCalls.{cache_adds, cache_key, cache_setting, keys_in, number_by, CacheIsReady, CacheMoves, CacheMayRefuse, CacheResizes};
-    ghost use Rattle.scc_calls.specs.Copies.{Means};
-    ghost use Rattle.scc_calls.specs.Means.{means_alike, means_keeps, means_whole};
-    ghost use Rattle.std.proofs.Common.{rules};
+    ghost use Rattle.scc_calls.specs.CacheCalls.{cache_adds, cache_answer, cache_key, cache_setting, keys_in, number_by, CacheIsReady, CacheMoves, CacheMayRefuse, CacheResizes};
+    ghost use Rattle.scc_calls.specs.Copies.{Answers, Means};
+    ghost use Rattle.scc_calls.specs.Means.{means_alike, means_answer, means_keeps, means_whole};
+    ghost use Rattle.scc_calls.specs.Stems.{cache_stems_alike, CacheStems};
+    ghost use Rattle.std.proofs.Common.{refl, rules};
     ghost use Rattle.scc_calls.specs.CacheLaws.{one_size, cache_call_keeps, cache_resize_keeps, empty_keys};
     ghost use Rattle.scc_calls.specs.MapLaws.{routes_alike};
     ghost use Rattle.scc_calls.specs.Parted.{PartMoves, PartResizes, parted_call, parted_resize};
@@ -57,7 +58,13 @@ impl<K: Eq + Hash + Clone, V: Clone + PartialEq, H: BuildHasher> Calls for Owned
 
     ghost key_of = { cache_key };
 
-    ghost moves = { λ g. Means ⟦<CacheCall<K, V> as PartialEq>⟧.eq ⟦<Reply<K, V> as PartialEq>⟧.eq
+    ghost answer = { λ g. cache_answer K.eq (number_by (λ h k. hash_of H.BuildHasher H.Hasher.Hasher h
+        (K.hash_input k)) g) };
+
+    ghost moves = { λ g. Answers (CacheStems V.is_clone) (CacheMoves K.eq (number_by (λ h k. hash_of H.BuildHasher
+        H.Hasher.Hasher h (K.hash_input k)) g)) };
+
+    ghost means = { λ g. Means ⟦<CacheCall<K, V> as PartialEq>⟧.eq ⟦<Reply<K, V> as PartialEq>⟧.eq
         (CacheMoves K.eq (number_by (λ h k. hash_of H.BuildHasher H.Hasher.Hasher h (K.hash_input k)) g)) };
 
     ghost resizes = { λ g. CacheResizes g (number_by (λ h k. hash_of H.BuildHasher H.Hasher.Hasher h (K.hash_input k))
@@ -73,7 +80,7 @@ impl<K: Eq + Hash + Clone, V: Clone + PartialEq, H: BuildHasher> Calls for Owned
 
     ghost whole = { λ parts. parts };
 
-    ghost whole_moves = { λ g n i. PartMoves (Means ⟦<CacheCall<K, V> as PartialEq>⟧.eq ⟦<Reply<K, V> as PartialEq>⟧.eq
+    ghost whole_means = { λ g n i. PartMoves (Means ⟦<CacheCall<K, V> as PartialEq>⟧.eq ⟦<Reply<K, V> as PartialEq>⟧.eq
         (CacheMoves K.eq (number_by (λ h k. hash_of H.BuildHasher H.Hasher.Hasher h (K.hash_input k)) g))) cache_key
         (λ k. stripe_number n (hash_of H.BuildHasher H.Hasher.Hasher g.hasher (K.hash_input k))) i };
 
@@ -168,7 +175,12 @@ impl<K: Eq + Hash + Clone, V: Clone + PartialEq, H: BuildHasher> Calls for Owned
 
     ghost one_limit = { λ asked slots m n p q. one_size (max asked slots) m n p q };
 
-    ghost moves_alike = { λ g old new call copy reply given pc pr c r m. means_alike ⟦<CacheCall<K, V> as PartialEq>⟧.eq
+    ghost moves_mean = { λ clones g old new call reply m. means_answer ⟦<CacheCall<K, V> as PartialEq>⟧.eq
+        ⟦<Reply<K, V> as PartialEq>⟧.eq (CacheMoves K.eq (number_by (λ h k. hash_of H.BuildHasher H.Hasher.Hasher h
+        (K.hash_input k)) g)) (CacheStems V.is_clone) (cache_stems_alike clones V.is_clone refl (λ x y h. h)) old new
+        call reply m };
+
+    ghost means_alike = { λ g old new call copy reply given pc pr c r m. means_alike ⟦<CacheCall<K, V> as PartialEq>⟧.eq
         ⟦<Reply<K, V> as PartialEq>⟧.eq (CacheMoves K.eq (number_by (λ h k. hash_of H.BuildHasher H.Hasher.Hasher h
         (K.hash_input k)) g)) pc pr old new call copy reply given c r m };
 
@@ -234,7 +246,9 @@ fn copies<K: Eq + Hash + Clone, V: Clone + PartialEq, H: BuildHasher>(
         × (⟦<Reply<K, V> as PartialEq>⟧.eq
         (cache_answer K.eq (number_in (key_hash H.BuildHasher H.Hasher.Hasher K.hash_input cache.now.contents)
         cache.now.contents) (lists_of cache.now.contents) call.now) r.1 ≡ true)) }
-    ensures refused { OnErr result (IsSome (cache_key call.now) × MayNotClone ⟦<Reply<K, V> as Clone>⟧.is_infallible) }
+    ensures refused { OnErr result (IsSome (cache_key call.now) × MayNotClone ⟦<Reply<K, V> as Clone>⟧.is_infallible
+        (cache_answer K.eq (number_in (key_hash H.BuildHasher H.Hasher.Hasher K.hash_input cache.now.contents)
+        cache.now.contents) (lists_of cache.now.contents) call.now)) }
 {
     let first = copy(cache, call)?;
     let second = copy(cache, call)?;
@@ -250,7 +264,9 @@ fn copy<K: Eq + Hash + Clone, V: Clone + PartialEq, H: BuildHasher>(
     ensures ok { IfOk result (λ r. ⟦<Reply<K, V> as PartialEq>⟧.eq
         (cache_answer K.eq (number_in (key_hash H.BuildHasher H.Hasher.Hasher K.hash_input cache.now.contents)
         cache.now.contents) (lists_of cache.now.contents) call.now) r ≡ true) }
-    ensures refused { OnErr result (IsSome (cache_key call.now) × MayNotClone ⟦<Reply<K, V> as Clone>⟧.is_infallible) }
+    ensures refused { OnErr result (IsSome (cache_key call.now) × MayNotClone ⟦<Reply<K, V> as Clone>⟧.is_infallible
+        (cache_answer K.eq (number_in (key_hash H.BuildHasher H.Hasher.Hasher K.hash_input cache.now.contents)
+        cache.now.contents) (lists_of cache.now.contents) call.now)) }
 {
     match call {
         CacheCall::Put(k, v) => {
@@ -303,7 +319,10 @@ fn copy_evicted<K: Eq + Hash + Clone, V: Clone + PartialEq, H: BuildHasher>(
         (Evicted (first_of_full (list_of cache.now.contents
         (number_in (key_hash H.BuildHasher H.Hasher.Hasher K.hash_input cache.now.contents) cache.now.contents
         (bucket_count cache.now.contents) k.now)))) r ≡ true) }
-    ensures refused { OnErr result (MayNotClone ⟦<Reply<K, V> as Clone>⟧.is_infallible) }
+    ensures refused { OnErr result (MayNotClone ⟦<Reply<K, V> as Clone>⟧.is_infallible
+        (Evicted (first_of_full (list_of cache.now.contents
+        (number_in (key_hash H.BuildHasher H.Hasher.Hasher K.hash_input cache.now.contents) cache.now.contents
+        (bucket_count cache.now.contents) k.now))))) }
 {
     match cache.next_evicted(k) {
         Some((key, value)) => {

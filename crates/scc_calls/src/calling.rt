@@ -53,8 +53,14 @@ pub trait Calls: Sized {
     // The key of a call, if it has one.
     ghost key_of: { Self.Call → Option Self.Key };
 
-    // The call may give the reply and lead from the first state to the second, without a resize.
+    // The reply that the call gives in this state, if it makes no growth.
+    ghost answer: { Setting Self.Hasher → State → Self.Call → Self.Reply };
+
+    // This very call may answer this very reply and lead from the first state to the second, without a resize.
     ghost moves: { Setting Self.Hasher → State → Self.Call → Self.Reply → State → Type 0 };
+
+    // What a record of the call and the reply says: the step of a call and a reply that equal them.
+    ghost means: { Setting Self.Hasher → State → Self.Call → Self.Reply → State → Type 0 };
 
     // A resize to so many buckets may lead from the first state to the second.
     ghost resizes: { Setting Self.Hasher → State → ℕ → State → Type 0 };
@@ -71,9 +77,9 @@ pub trait Calls: Sized {
 
     ghost whole: { List State → Whole };
 
-    // In a container of so many parts, the call of the part with that number may give the reply and lead from the first
-    // whole to the second.
-    ghost whole_moves: { Setting Self.Hasher → ℕ → ℕ → Whole → Self.Call → Self.Reply → Whole → Type 0 };
+    // What a record of the call and the reply says of the whole, if the part with that number recorded it, of so many
+    // parts.
+    ghost whole_means: { Setting Self.Hasher → ℕ → ℕ → Whole → Self.Call → Self.Reply → Whole → Type 0 };
 
     // A resize of the part with that number to so many buckets may lead from the first whole to the second.
     ghost whole_resizes: { Setting Self.Hasher → ℕ → ℕ → Whole → ℕ → Whole → Type 0 };
@@ -86,14 +92,14 @@ pub trait Calls: Sized {
     /// that the call gives next. Where it is refused, the contents are unchanged.
     fn ready(&mut self, call: &Self::Call) -> Result<(Self::Reply, Self::Reply), Refused>
         requires clones { ClonesEqual Self.Reply.is_clone Self.Reply.eq }
-        ensures { ReadiesByRule setting state size key_of resizes may_refuse adds is_ready Self.Reply.is_infallible
-            self.old call.now result self.new };
+        ensures { ReadiesByRule setting state size key_of answer resizes may_refuse adds is_ready
+            Self.Reply.is_infallible self.old call.now result self.new };
 
     /// Makes the call.
     fn call(&mut self, call: Self::Call) -> Result<Self::Reply, Refused>
         requires clones { ClonesEqual Self.Reply.is_clone Self.Reply.eq }
-        ensures { CallsByRule setting state size key_of resizes may_refuse adds is_ready Self.Reply.is_infallible moves
-            Self.Reply.eq self.old call result self.new };
+        ensures { CallsByRule setting state size key_of answer resizes may_refuse adds is_ready
+            Self.Reply.is_infallible moves Self.Reply.eq self.old call result self.new };
 
     /// The number of buckets, 0 where there is no array.
     fn buckets(&self) -> usize
@@ -120,10 +126,14 @@ pub trait Calls: Sized {
     // Parts that are made alike have one maximum.
     ghost one_limit: { (asked slots m n : ℕ) → limits asked slots m → limits asked slots n → m ≡ n };
 
-    // A call and a reply mean the same as those that equal them.
-    ghost moves_alike: { (g : Setting Self.Hasher) (old new : State) (call copy : Self.Call) (reply given : Self.Reply)
+    // What a call does and answers is what a record of it says.
+    ghost moves_mean: { ClonesEqual Self.Reply.is_clone Self.Reply.eq → (g : Setting Self.Hasher) (old new : State)
+        (call : Self.Call) (reply : Self.Reply) → moves g old call reply new → means g old call reply new };
+
+    // A record says the same as those of a call and a reply that equal its own.
+    ghost means_alike: { (g : Setting Self.Hasher) (old new : State) (call copy : Self.Call) (reply given : Self.Reply)
         → IsPartialEquivalence Self.Call.eq → IsPartialEquivalence Self.Reply.eq → Alike Self.Call.eq call copy → Alike
-        Self.Reply.eq reply given → moves g old call reply new → moves g old copy given new };
+        Self.Reply.eq reply given → means g old call reply new → means g old copy given new };
 
     // Where every key of every part, and the call's, routes to its own part, a step of one part is a step of the whole.
     ghost call_is_whole: { (g : Setting Self.Hasher) (n : ℕ) (before after : List State) (old new : State)
@@ -131,8 +141,8 @@ pub trait Calls: Sized {
         → RoutedFrom (stripe_of Self.Hasher.BuildHasher Self.Hasher.Hasher.Hasher Self.Key.Hash.hash_input g.hasher n)
         keys 0 (before ++ old ∷ after) → KeyRouted (stripe_of Self.Hasher.BuildHasher Self.Hasher.Hasher.Hasher
         Self.Key.Hash.hash_input g.hasher n) (length before) (key_of call)
-        → moves g old call reply new
-        → whole_moves g n (length before) (whole (before ++ old ∷ after)) call reply (whole (before ++ new ∷ after)) };
+        → means g old call reply new
+        → whole_means g n (length before) (whole (before ++ old ∷ after)) call reply (whole (before ++ new ∷ after)) };
 
     ghost resize_is_whole: { (g : Setting Self.Hasher) (n : ℕ) (before after : List State) (old new : State)
         (buckets : ℕ)
@@ -145,7 +155,7 @@ pub trait Calls: Sized {
     ghost call_keeps: { (g : Setting Self.Hasher) (n i : ℕ) (old new : State) (call : Self.Call) (reply : Self.Reply)
         → Routed (stripe_of Self.Hasher.BuildHasher Self.Hasher.Hasher.Hasher Self.Key.Hash.hash_input g.hasher n) i
         (keys old) → KeyRouted (stripe_of Self.Hasher.BuildHasher Self.Hasher.Hasher.Hasher Self.Key.Hash.hash_input
-        g.hasher n) i (key_of call) → moves g old call reply new → Routed (stripe_of Self.Hasher.BuildHasher
+        g.hasher n) i (key_of call) → means g old call reply new → Routed (stripe_of Self.Hasher.BuildHasher
         Self.Hasher.Hasher.Hasher Self.Key.Hash.hash_input g.hasher n) i (keys new) };
 
     ghost resize_keeps: { (g : Setting Self.Hasher) (n i : ℕ) (old new : State) (buckets : ℕ)

@@ -31,10 +31,11 @@ impl<K: Eq + Hash + Clone, V: Clone + PartialEq, H: BuildHasher> Calls for Owned
     ghost use Rattle.scc_calls.specs.MapWhole.{joined};
     ghost use Rattle.scc_calls.specs.IndexWhole.{IndexWholeMoves};
     ghost use Rattle.scc_contents.specs.Routing.{stripe_number};
-    ghost use Rattle.scc_calls.specs.IndexCalls.{index_adds, index_key, IndexIsReady, IndexMoves, IndexMayRefuse};
-    ghost use Rattle.scc_calls.specs.Copies.{Means};
-    ghost use Rattle.scc_calls.specs.Means.{means_alike, means_keeps, means_whole};
-    ghost use Rattle.std.proofs.Common.{rules};
+    ghost use Rattle.scc_calls.specs.IndexCalls.{index_adds, index_answer, index_key, IndexIsReady, IndexMoves, IndexMayRefuse};
+    ghost use Rattle.scc_calls.specs.Copies.{Answers, Means};
+    ghost use Rattle.scc_calls.specs.Means.{means_alike, means_answer, means_keeps, means_whole};
+    ghost use Rattle.scc_calls.specs.Stems.{index_stems_alike, IndexStems};
+    ghost use Rattle.std.proofs.Common.{refl, rules};
     ghost use Rattle.scc_contents.specs.Contents.{key_hash};
     ghost use Rattle.scc_calls.specs.States.{State, state_of, setting_of, ResizesTo};
 
@@ -56,7 +57,12 @@ impl<K: Eq + Hash + Clone, V: Clone + PartialEq, H: BuildHasher> Calls for Owned
 
     ghost key_of = { index_key };
 
-    ghost moves = { λ _. Means ⟦<IndexCall<K, V> as PartialEq>⟧.eq ⟦<Reply<K, V> as PartialEq>⟧.eq (IndexMoves K.eq) };
+    ghost answer = { λ _ s. index_answer K.eq s.0 };
+
+    ghost moves = { λ _. Answers (IndexStems V.is_clone) (IndexMoves K.eq K.is_clone) };
+
+    ghost means = { λ _. Means ⟦<IndexCall<K, V> as PartialEq>⟧.eq ⟦<Reply<K, V> as PartialEq>⟧.eq
+        (IndexMoves K.eq K.is_clone) };
 
     ghost resizes = { ResizesTo };
 
@@ -69,9 +75,9 @@ impl<K: Eq + Hash + Clone, V: Clone + PartialEq, H: BuildHasher> Calls for Owned
 
     ghost whole = { joined };
 
-    ghost whole_moves = { λ g n i. Means ⟦<IndexCall<K, V> as PartialEq>⟧.eq ⟦<Reply<K, V> as PartialEq>⟧.eq
-        (IndexWholeMoves K.eq (λ k. stripe_number n (hash_of H.BuildHasher H.Hasher.Hasher g.hasher (K.hash_input k))
-        == i)) };
+    ghost whole_means = { λ g n i. Means ⟦<IndexCall<K, V> as PartialEq>⟧.eq ⟦<Reply<K, V> as PartialEq>⟧.eq
+        (IndexWholeMoves K.eq K.is_clone (λ k. stripe_number n
+        (hash_of H.BuildHasher H.Hasher.Hasher g.hasher (K.hash_input k)) == i)) };
 
     ghost whole_resizes = { λ _ _ _ w _ v. IsPermutation w v };
 
@@ -146,17 +152,21 @@ impl<K: Eq + Hash + Clone, V: Clone + PartialEq, H: BuildHasher> Calls for Owned
 
     ghost one_limit = { λ _ _ m n p q. both_same m n 0 p q };
 
-    ghost moves_alike = { λ g old new call copy reply given pc pr c r m. means_alike ⟦<IndexCall<K, V> as PartialEq>⟧.eq
-        ⟦<Reply<K, V> as PartialEq>⟧.eq (IndexMoves K.eq) pc pr old new call copy reply given c r m };
+    ghost moves_mean = { λ clones g old new call reply m. means_answer ⟦<IndexCall<K, V> as PartialEq>⟧.eq
+        ⟦<Reply<K, V> as PartialEq>⟧.eq (IndexMoves K.eq K.is_clone) (IndexStems V.is_clone)
+        (index_stems_alike clones V.is_clone refl (λ x y h. h)) old new call reply m };
+
+    ghost means_alike = { λ g old new call copy reply given pc pr c r m. means_alike ⟦<IndexCall<K, V> as PartialEq>⟧.eq
+        ⟦<Reply<K, V> as PartialEq>⟧.eq (IndexMoves K.eq K.is_clone) pc pr old new call copy reply given c r m };
 
     ghost call_is_whole = { λ g n before after old new call reply routed key s. means_whole
-        ⟦<IndexCall<K, V> as PartialEq>⟧.eq ⟦<Reply<K, V> as PartialEq>⟧.eq (IndexMoves K.eq) K.eq index_key
+        ⟦<IndexCall<K, V> as PartialEq>⟧.eq ⟦<Reply<K, V> as PartialEq>⟧.eq (IndexMoves K.eq K.is_clone) K.eq index_key
         (Prim.search rules) (λ k. stripe_number n (hash_of H.BuildHasher H.Hasher.Hasher g.hasher (K.hash_input k)))
         (routes_alike K.eq K.hash_input (λ w. stripe_number n (hash_of H.BuildHasher H.Hasher.Hasher g.hasher w))
-        K.Hash.respects_eq) (IndexWholeMoves K.eq (λ k. stripe_number n (hash_of H.BuildHasher H.Hasher.Hasher g.hasher
-        (K.hash_input k)) == length before)) (length before) old new (joined (before ++ old ∷ after))
+        K.Hash.respects_eq) (IndexWholeMoves K.eq K.is_clone (λ k. stripe_number n
+        (hash_of H.BuildHasher H.Hasher.Hasher g.hasher (K.hash_input k)) == length before)) (length before) old new (joined (before ++ old ∷ after))
         (joined (before ++ new ∷ after)) call reply key (λ made given k m. index_call_is_whole K.eq
-        (λ k. stripe_number n (hash_of H.BuildHasher H.Hasher.Hasher g.hasher (K.hash_input k)))
+        K.is_clone         (λ k. stripe_number n (hash_of H.BuildHasher H.Hasher.Hasher g.hasher (K.hash_input k)))
         (routes_alike K.eq K.hash_input (λ w. stripe_number n (hash_of H.BuildHasher H.Hasher.Hasher g.hasher w))
         K.Hash.respects_eq) before after old new made given routed k m) s };
 
@@ -164,11 +174,11 @@ impl<K: Eq + Hash + Clone, V: Clone + PartialEq, H: BuildHasher> Calls for Owned
         s };
 
     ghost call_keeps = { λ g n i old new call reply routed key s. means_keeps ⟦<IndexCall<K, V> as PartialEq>⟧.eq
-        ⟦<Reply<K, V> as PartialEq>⟧.eq (IndexMoves K.eq) K.eq index_key (Prim.search rules)
+        ⟦<Reply<K, V> as PartialEq>⟧.eq (IndexMoves K.eq K.is_clone) K.eq index_key (Prim.search rules)
         (λ k. stripe_number n (hash_of H.BuildHasher H.Hasher.Hasher g.hasher (K.hash_input k)))
         (routes_alike K.eq K.hash_input (λ w. stripe_number n (hash_of H.BuildHasher H.Hasher.Hasher g.hasher w))
         K.Hash.respects_eq) i old new call reply key (λ made given k m. index_call_keeps K.eq
-        (λ k. stripe_number n (hash_of H.BuildHasher H.Hasher.Hasher g.hasher (K.hash_input k)))
+        K.is_clone         (λ k. stripe_number n (hash_of H.BuildHasher H.Hasher.Hasher g.hasher (K.hash_input k)))
         (routes_alike K.eq K.hash_input (λ w. stripe_number n (hash_of H.BuildHasher H.Hasher.Hasher g.hasher w))
         K.Hash.respects_eq) i old new made given routed k m) s };
 
@@ -219,7 +229,8 @@ fn copies<K: Eq + Hash + Clone, V: Clone + PartialEq, H: BuildHasher>(
     requires clones { ClonesEqual ⟦<Reply<K, V> as Clone>⟧.is_clone ⟦<Reply<K, V> as PartialEq>⟧.eq }
     ensures ok { IfOk result (λ r. (⟦<Reply<K, V> as PartialEq>⟧.eq (index_answer K.eq (entries index.now) call.now)
         r.0 ≡ true) × (⟦<Reply<K, V> as PartialEq>⟧.eq (index_answer K.eq (entries index.now) call.now) r.1 ≡ true)) }
-    ensures refused { OnErr result (IsSome (index_key call.now) × MayNotClone ⟦<Reply<K, V> as Clone>⟧.is_infallible) }
+    ensures refused { OnErr result (IsSome (index_key call.now) × MayNotClone ⟦<Reply<K, V> as Clone>⟧.is_infallible
+        (index_answer K.eq (entries index.now) call.now)) }
 {
     let first = copy(index, call)?;
     let second = copy(index, call)?;
@@ -234,7 +245,8 @@ fn copy<K: Eq + Hash + Clone, V: Clone + PartialEq, H: BuildHasher>(
     requires clones { ClonesEqual ⟦<Reply<K, V> as Clone>⟧.is_clone ⟦<Reply<K, V> as PartialEq>⟧.eq }
     ensures ok { IfOk result (λ r. ⟦<Reply<K, V> as PartialEq>⟧.eq (index_answer K.eq (entries index.now) call.now) r
         ≡ true) }
-    ensures refused { OnErr result (IsSome (index_key call.now) × MayNotClone ⟦<Reply<K, V> as Clone>⟧.is_infallible) }
+    ensures refused { OnErr result (IsSome (index_key call.now) × MayNotClone ⟦<Reply<K, V> as Clone>⟧.is_infallible
+        (index_answer K.eq (entries index.now) call.now)) }
 {
     match call {
         IndexCall::Insert(k, v) => {

@@ -21,7 +21,7 @@ mod whole_kinds;
 pub use calling::Calls;
 pub use calls_as_values::{CacheCall, IndexCall, MapCall, SetCall};
 pub use fixed::{Request, Setting};
-pub use law::{every_kind_has_parts, every_merge_is_a_run};
+pub use law::{every_kind_has_parts, every_merge_is_a_run, runs_mean};
 pub use opening::two_parts;
 pub use refusals::Refused;
 pub use replies::Reply;

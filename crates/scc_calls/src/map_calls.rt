@@ -30,10 +30,11 @@ impl<K: Eq + Hash + Clone, V: Clone + PartialEq, H: BuildHasher> Calls for Owned
     ghost use Rattle.scc_calls.specs.MapLaws.{routes_alike, both_same, map_call_is_whole, map_call_keeps, map_resize_keeps, resize_joined};
     ghost use Rattle.scc_calls.specs.MapWhole.{joined, MapWholeMoves};
     ghost use Rattle.scc_contents.specs.Routing.{stripe_number};
-    ghost use Rattle.scc_calls.specs.MapCalls.{map_adds, map_key, MapIsReady, MapMoves, MapMayRefuse};
-    ghost use Rattle.scc_calls.specs.Copies.{Means};
-    ghost use Rattle.scc_calls.specs.Means.{means_alike, means_keeps, means_whole};
-    ghost use Rattle.std.proofs.Common.{rules};
+    ghost use Rattle.scc_calls.specs.MapCalls.{map_adds, map_answer, map_key, MapIsReady, MapMoves, MapMayRefuse};
+    ghost use Rattle.scc_calls.specs.Copies.{Answers, Means};
+    ghost use Rattle.scc_calls.specs.Means.{means_alike, means_answer, means_keeps, means_whole};
+    ghost use Rattle.scc_calls.specs.Stems.{map_stems_alike, MapStems};
+    ghost use Rattle.std.proofs.Common.{refl, rules};
     ghost use Rattle.scc_contents.specs.Contents.{key_hash};
     ghost use Rattle.scc_calls.specs.States.{State, state_of, setting_of, ResizesTo};
 
@@ -55,7 +56,11 @@ impl<K: Eq + Hash + Clone, V: Clone + PartialEq, H: BuildHasher> Calls for Owned
 
     ghost key_of = { map_key };
 
-    ghost moves = { λ _. Means ⟦<MapCall<K, V> as PartialEq>⟧.eq ⟦<Reply<K, V> as PartialEq>⟧.eq (MapMoves K.eq) };
+    ghost answer = { λ _ s. map_answer K.eq s.0 };
+
+    ghost moves = { λ _. Answers (MapStems V.is_clone) (MapMoves K.eq) };
+
+    ghost means = { λ _. Means ⟦<MapCall<K, V> as PartialEq>⟧.eq ⟦<Reply<K, V> as PartialEq>⟧.eq (MapMoves K.eq) };
 
     ghost resizes = { ResizesTo };
 
@@ -68,7 +73,7 @@ impl<K: Eq + Hash + Clone, V: Clone + PartialEq, H: BuildHasher> Calls for Owned
 
     ghost whole = { joined };
 
-    ghost whole_moves = { λ g n i. Means ⟦<MapCall<K, V> as PartialEq>⟧.eq ⟦<Reply<K, V> as PartialEq>⟧.eq
+    ghost whole_means = { λ g n i. Means ⟦<MapCall<K, V> as PartialEq>⟧.eq ⟦<Reply<K, V> as PartialEq>⟧.eq
         (MapWholeMoves K.eq (λ k. stripe_number n (hash_of H.BuildHasher H.Hasher.Hasher g.hasher (K.hash_input k))
         == i)) };
 
@@ -150,7 +155,11 @@ impl<K: Eq + Hash + Clone, V: Clone + PartialEq, H: BuildHasher> Calls for Owned
 
     ghost one_limit = { λ _ _ m n p q. both_same m n 0 p q };
 
-    ghost moves_alike = { λ g old new call copy reply given pc pr c r m. means_alike ⟦<MapCall<K, V> as PartialEq>⟧.eq
+    ghost moves_mean = { λ clones g old new call reply m. means_answer ⟦<MapCall<K, V> as PartialEq>⟧.eq
+        ⟦<Reply<K, V> as PartialEq>⟧.eq (MapMoves K.eq) (MapStems V.is_clone)
+        (map_stems_alike clones V.is_clone refl (λ x y h. h)) old new call reply m };
+
+    ghost means_alike = { λ g old new call copy reply given pc pr c r m. means_alike ⟦<MapCall<K, V> as PartialEq>⟧.eq
         ⟦<Reply<K, V> as PartialEq>⟧.eq (MapMoves K.eq) pc pr old new call copy reply given c r m };
 
     ghost call_is_whole = { λ g n before after old new call reply routed key s. means_whole
@@ -224,7 +233,8 @@ fn copies<K: Eq + Hash + Clone, V: Clone + PartialEq, H: BuildHasher>(
     requires clones { ClonesEqual ⟦<Reply<K, V> as Clone>⟧.is_clone ⟦<Reply<K, V> as PartialEq>⟧.eq }
     ensures ok { IfOk result (λ r. (⟦<Reply<K, V> as PartialEq>⟧.eq (map_answer K.eq (entries map.now) call.now) r.0
         ≡ true) × (⟦<Reply<K, V> as PartialEq>⟧.eq (map_answer K.eq (entries map.now) call.now) r.1 ≡ true)) }
-    ensures refused { OnErr result (IsSome (map_key call.now) × MayNotClone ⟦<Reply<K, V> as Clone>⟧.is_infallible) }
+    ensures refused { OnErr result (IsSome (map_key call.now) × MayNotClone ⟦<Reply<K, V> as Clone>⟧.is_infallible
+        (map_answer K.eq (entries map.now) call.now)) }
 {
     let first = copy(map, call)?;
     let second = copy(map, call)?;
@@ -239,7 +249,8 @@ fn copy<K: Eq + Hash + Clone, V: Clone + PartialEq, H: BuildHasher>(
     requires clones { ClonesEqual ⟦<Reply<K, V> as Clone>⟧.is_clone ⟦<Reply<K, V> as PartialEq>⟧.eq }
     ensures ok { IfOk result (λ r. ⟦<Reply<K, V> as PartialEq>⟧.eq (map_answer K.eq (entries map.now) call.now) r
         ≡ true) }
-    ensures refused { OnErr result (IsSome (map_key call.now) × MayNotClone ⟦<Reply<K, V> as Clone>⟧.is_infallible) }
+    ensures refused { OnErr result (IsSome (map_key call.now) × MayNotClone ⟦<Reply<K, V> as Clone>⟧.is_infallible
+        (map_answer K.eq (entries map.now) call.now)) }
 {
     match call {
         MapCall::Insert(k, v) => {

@@ -30,10 +30,11 @@ impl<K: Eq + Hash + Clone, H: BuildHasher> Calls for Owned<K, H> {
     ghost use Rattle.scc_calls.specs.MapLaws.{routes_alike, both_same, resize_joined};
     ghost use Rattle.scc_calls.specs.MapWhole.{joined};
     ghost use Rattle.scc_contents.specs.Routing.{stripe_number};
-    ghost use Rattle.scc_calls.specs.SetCalls.{key_of_set, set_adds, SetIsReady, SetMoves, SetMayRefuse};
-    ghost use Rattle.scc_calls.specs.Copies.{Means};
-    ghost use Rattle.scc_calls.specs.Means.{means_alike, means_keeps, means_whole};
-    ghost use Rattle.std.proofs.Common.{rules};
+    ghost use Rattle.scc_calls.specs.SetCalls.{key_of_set, set_adds, set_answer, SetIsReady, SetMoves, SetMayRefuse};
+    ghost use Rattle.scc_calls.specs.Copies.{Answers, Means};
+    ghost use Rattle.scc_calls.specs.Means.{means_alike, means_answer, means_keeps, means_whole};
+    ghost use Rattle.scc_calls.specs.Stems.{set_stems_alike, SetStems};
+    ghost use Rattle.std.proofs.Common.{refl, rules};
     ghost use Rattle.scc_contents.specs.Contents.{key_hash};
     ghost use Rattle.scc_calls.specs.SetLaws.{set_call_is_whole, set_call_keeps, set_resize_keeps};
     ghost use Rattle.scc_calls.specs.SetWhole.{SetWholeMoves};
@@ -57,7 +58,11 @@ impl<K: Eq + Hash + Clone, H: BuildHasher> Calls for Owned<K, H> {
 
     ghost key_of = { key_of_set };
 
-    ghost moves = { λ _. Means ⟦<SetCall<K> as PartialEq>⟧.eq ⟦<Reply<K, ()> as PartialEq>⟧.eq (SetMoves K.eq) };
+    ghost answer = { λ _ s. set_answer K.eq s.0 };
+
+    ghost moves = { λ _. Answers (SetStems K.is_clone) (SetMoves K.eq) };
+
+    ghost means = { λ _. Means ⟦<SetCall<K> as PartialEq>⟧.eq ⟦<Reply<K, ()> as PartialEq>⟧.eq (SetMoves K.eq) };
 
     ghost resizes = { ResizesTo };
 
@@ -70,7 +75,7 @@ impl<K: Eq + Hash + Clone, H: BuildHasher> Calls for Owned<K, H> {
 
     ghost whole = { joined };
 
-    ghost whole_moves = { λ g n i. Means ⟦<SetCall<K> as PartialEq>⟧.eq ⟦<Reply<K, ()> as PartialEq>⟧.eq
+    ghost whole_means = { λ g n i. Means ⟦<SetCall<K> as PartialEq>⟧.eq ⟦<Reply<K, ()> as PartialEq>⟧.eq
         (SetWholeMoves K.eq (λ k. stripe_number n (hash_of H.BuildHasher H.Hasher.Hasher g.hasher (K.hash_input k))
         == i)) };
 
@@ -144,7 +149,11 @@ impl<K: Eq + Hash + Clone, H: BuildHasher> Calls for Owned<K, H> {
 
     ghost one_limit = { λ _ _ m n p q. both_same m n 0 p q };
 
-    ghost moves_alike = { λ g old new call copy reply given pc pr c r m. means_alike ⟦<SetCall<K> as PartialEq>⟧.eq
+    ghost moves_mean = { λ clones g old new call reply m. means_answer ⟦<SetCall<K> as PartialEq>⟧.eq
+        ⟦<Reply<K, ()> as PartialEq>⟧.eq (SetMoves K.eq) (SetStems K.is_clone)
+        (set_stems_alike clones K.is_clone refl (λ x y h. h)) old new call reply m };
+
+    ghost means_alike = { λ g old new call copy reply given pc pr c r m. means_alike ⟦<SetCall<K> as PartialEq>⟧.eq
         ⟦<Reply<K, ()> as PartialEq>⟧.eq (SetMoves K.eq) pc pr old new call copy reply given c r m };
 
     ghost call_is_whole = { λ g n before after old new call reply routed key s. means_whole
@@ -216,7 +225,7 @@ fn copies<K: Eq + Hash + Clone, H: BuildHasher>(
     ensures ok { IfOk result (λ r. (⟦<Reply<K, ()> as PartialEq>⟧.eq (set_answer K.eq (entries set.now) call.now) r.0
         ≡ true) × (⟦<Reply<K, ()> as PartialEq>⟧.eq (set_answer K.eq (entries set.now) call.now) r.1 ≡ true)) }
     ensures refused { OnErr result (IsSome (key_of_set call.now)
-        × MayNotClone ⟦<Reply<K, ()> as Clone>⟧.is_infallible) }
+        × MayNotClone ⟦<Reply<K, ()> as Clone>⟧.is_infallible (set_answer K.eq (entries set.now) call.now)) }
 {
     let first = copy(set, call)?;
     let second = copy(set, call)?;
@@ -232,7 +241,7 @@ fn copy<K: Eq + Hash + Clone, H: BuildHasher>(
     ensures ok { IfOk result (λ r. ⟦<Reply<K, ()> as PartialEq>⟧.eq (set_answer K.eq (entries set.now) call.now) r
         ≡ true) }
     ensures refused { OnErr result (IsSome (key_of_set call.now)
-        × MayNotClone ⟦<Reply<K, ()> as Clone>⟧.is_infallible) }
+        × MayNotClone ⟦<Reply<K, ()> as Clone>⟧.is_infallible (set_answer K.eq (entries set.now) call.now)) }
 {
     match call {
         SetCall::Insert(k) => {
@@ -261,7 +270,8 @@ fn copy_key<K: Eq + Hash + Clone, H: BuildHasher>(
     requires clones { ClonesEqual ⟦<Reply<K, ()> as Clone>⟧.is_clone ⟦<Reply<K, ()> as PartialEq>⟧.eq }
     ensures ok { IfOk result (λ r. ⟦<Reply<K, ()> as PartialEq>⟧.eq (Key (find K.eq (entries set.now) k.now)) r
         ≡ true) }
-    ensures refused { OnErr result (MayNotClone ⟦<Reply<K, ()> as Clone>⟧.is_infallible) }
+    ensures refused { OnErr result (MayNotClone ⟦<Reply<K, ()> as Clone>⟧.is_infallible
+        (Key (find K.eq (entries set.now) k.now))) }
 {
     match set.cloned_key(k) {
         Ok(key) => Ok(Reply::Key(key)),

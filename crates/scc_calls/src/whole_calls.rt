@@ -29,11 +29,11 @@ pub trait WholeCalls: Calls {
 
     // Once it is cleared, a part has no keys.
     ghost clears_all: { (Self.key_of clears ≡ None) × ((g : Setting Self.Hasher) (s t : Self.State) (r : Self.Reply)
-        → Self.moves g s clears r t → Self.keys t ≡ []) };
+        → Self.means g s clears r t → Self.keys t ≡ []) };
 
     // The count of a part is the number of its keys.
     ghost counts_all: { (Self.key_of counts ≡ None) × ((g : Setting Self.Hasher) (s t : Self.State) (r : Self.Reply)
-        → Self.moves g s counts r t → counted r ≡ Some (length (Self.keys s))) };
+        → Self.means g s counts r t → counted r ≡ Some (length (Self.keys s))) };
 
     // Neither is ever refused for memory.
     ghost never_refused: { (g : Setting Self.Hasher) (s : Self.State) → (Self.may_refuse g s clears → ⊥)

@@ -75,14 +75,14 @@ impl<K: Eq + Hash + Clone, V: Clone + PartialEq, H: BuildHasher> WholeCalls
     ghost clears_all = { (
       refl,
       λ g s t r m. means_of ⟦<IndexCall<K, V> as PartialEq>⟧.eq
-          ⟦<Reply<K, V> as PartialEq>⟧.eq (IndexMoves K.eq) Clear (Prim.search rules) s t r
+          ⟦<Reply<K, V> as PartialEq>⟧.eq (IndexMoves K.eq K.is_clone) Clear (Prim.search rules) s t r
           (λ given a h. map_clears K.eq s t given h) m,
     ) };
 
     ghost counts_all = { (
       refl,
       λ g s t r m. means_of ⟦<IndexCall<K, V> as PartialEq>⟧.eq
-          ⟦<Reply<K, V> as PartialEq>⟧.eq (IndexMoves K.eq) Len (Prim.search rules) s t r
+          ⟦<Reply<K, V> as PartialEq>⟧.eq (IndexMoves K.eq K.is_clone) Len (Prim.search rules) s t r
           (λ given a h. told_alike ⟦<Reply<K, V> as PartialEq>⟧.eq counted_by (Prim.search rules) given r a ∙ map_counts
           K.eq s t given h) m,
     ) };

@@ -8,7 +8,8 @@ use Rattle.std.specs.declared.hash.Hash as hash
 use Rattle.std.specs.declared.hash.Hasher as hasher
 use Rattle.std.specs.declared.hash.BuildHasher as builder
 use Rattle.scc_calls.specs.Changes.{Changes, Stays}
-use Rattle.scc_calls.specs.Copies.{AreCopies, MayNotClone}
+use Rattle.scc_calls.specs.Calling.{MayNotReply}
+use Rattle.scc_calls.specs.Copies.{AreCopies}
 use Rattle.scc_calls.specs.declared.calling.Calls as calls
 use Rattle.scc_history.specs.Stamps.{recorded, resized, receipt}
 use Rattle.scc_history.specs.declared.log.Log.{Log}
@@ -27,7 +28,7 @@ module _ {C K H A R T : Type 0} {m : calls.Ghosts C K H A R T} {h : hash.Ghosts 
     pub history : IfOk result (λ r. (copy : A) × (given : R) × AreCopies call_clones.is_clone reply_equality.eq call r copy given × (new.history.items ≡ old.history.items ++ recorded (m.size (m.state old.container)) (m.size (m.state new.container)) new.last before.number copy given))
     -- and the log one receipt of such, with the number of the stripe
     pub receipt : IfOk result (λ r. (copy : A) × (given : R) × AreCopies call_clones.is_clone reply_equality.eq call r copy given × (after.receipts.items ≡ before.receipts.items ++ receipt old.number new.last copy given ∷ []))
-    -- and the container made the call, with at most one resize
+    -- and the container made the very call, which answered the very reply, with at most one resize
     pub step : IfOk result (λ r. Changes m.size (m.moves (m.setting old.container)) (m.resizes (m.setting old.container)) (m.state old.container) call r (m.state new.container))
     -- refused, it leaves the last stamp, the clock and the receipts
     pub err : OnErr result ((new.last ≡ old.last) × (after.clock ≡ before.clock) × (after.receipts.items ≡ before.receipts.items))
@@ -35,8 +36,8 @@ module _ {C K H A R T : Type 0} {m : calls.Ghosts C K H A R T} {h : hash.Ghosts 
     pub resize : OnErr result (new.history.items ≡ old.history.items ++ resized (m.size (m.state old.container)) (m.size (m.state new.container)) (max before.clock old.last + 1))
     -- and the container made at most that resize
     pub stays : OnErr result (Stays m.size (m.resizes (m.setting old.container)) (m.state old.container) (m.state new.container))
-    -- the container refuses only a call for which memory may be refused, or a call with a key where a clone of a reply may be
-    pub refused : result ≡ Err Container → m.may_refuse (m.setting old.container) (m.state old.container) call ⊎ (IsSome (m.key_of call) × MayNotClone reply_clones.is_infallible)
+    -- the container refuses only a call for which memory may be refused, or, if the call has a key, a clone of the reply that the call gives
+    pub refused : result ≡ Err Container → m.may_refuse (m.setting old.container) (m.state old.container) call ⊎ (IsSome (m.key_of call) × MayNotReply m.size (m.resizes (m.setting old.container)) (m.answer (m.setting old.container)) reply_clones.is_infallible (m.state old.container) call)
     -- without room, container and history stay
     pub room : result ≡ Err Room → (new.container ≡ old.container) × (new.history.items ≡ old.history.items)
     -- there was no room for the record or the receipt, no stamp was left, or a clone of a call may be refused

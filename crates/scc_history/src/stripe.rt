@@ -22,7 +22,7 @@ pub struct Stripe<C: Calls> {
     pub last: u64,
     /// The number of buckets at opening.
     pub opened: usize,
-    pub ghost replays: { ∥ Replay (C.moves (C.setting container)) (C.resizes (C.setting container)) (C.empty opened)
+    pub ghost replays: { ∥ Replay (C.means (C.setting container)) (C.resizes (C.setting container)) (C.empty opened)
         history.items (C.state container) ∥₁ },
     pub ghost rising: { Rises 0 history.items last } by { Rises-prop 0 history.items last },
     pub ghost short: { last < 18446744073709551616 },

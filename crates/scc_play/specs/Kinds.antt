@@ -91,10 +91,10 @@ module _ (hash : ℕ → ℕ) where
     limits = λ _ _ m. m ≡ 0;
     empty = λ b. ([], b);
     key_of = index_key;
-    moves = λ _. IndexMoves nat_eq;
+    moves = λ _. IndexMoves nat_eq (λ k l. l ≡ k);
     resizes = ResizesTo;
     whole = joined;
-    whole_moves = λ g n i. IndexWholeMoves nat_eq (λ k. route_by n k == i);
+    whole_moves = λ g n i. IndexWholeMoves nat_eq (λ k l. l ≡ k) (λ k. route_by n k == i);
     whole_resizes = λ _ _ _ w _ v. IsPermutation w v;
     counted = counted_by;
     count = Count;

@@ -26,7 +26,7 @@ fn make_call<P: Printed, L: Ledger, M: Site<P::Hasher>, R: Wait>(
     pass: &mut Pass<P, L>,
     call: P::Call,
 ) -> bool
-    ensures made { result ≡ true → AddsCall P.key_of P.Call.is_clone P.Reply.eq P.moves
+    ensures made { result ≡ true → AddsCall P.key_of P.Call.is_clone P.Reply.eq P.means
         (stripe_of P.Hasher.BuildHasher P.Hasher.Hasher.Hasher P.Key.Hash.hash_input recorded.now.hasher
         recorded.now.stripes) recorded.now.stripes call pass.old.log.clock pass.new.log.clock
         pass.old.log.receipts.items pass.new.log.receipts.items }
@@ -55,7 +55,7 @@ impl<P: Printed, L: Ledger, M: Site<P::Hasher>, R: Wait> Work for Worker<'_, P, 
 
     fn turn(&mut self, j: usize) -> bool
         ensures made { result ≡ true → IsSomeAnd (slice_get self.old.calls.now j)
-            (λ call. AddsCall P.key_of P.Call.is_clone P.Reply.eq P.moves
+            (λ call. AddsCall P.key_of P.Call.is_clone P.Reply.eq P.means
             (stripe_of P.Hasher.BuildHasher P.Hasher.Hasher.Hasher P.Key.Hash.hash_input self.old.recorded.now.hasher
             self.old.recorded.now.stripes) self.old.recorded.now.stripes call self.old.pass.log.clock
             self.new.pass.log.clock self.old.pass.log.receipts.items self.new.pass.log.receipts.items) }

@@ -113,10 +113,10 @@ where
           limits = P.limits;
           empty = P.empty;
           key_of = P.key_of;
-          moves = P.moves;
+          moves = P.means;
           resizes = P.resizes;
           whole = P.whole;
-          whole_moves = P.whole_moves;
+          whole_moves = P.whole_means;
           whole_resizes = P.whole_resizes;
           counted = P.counted;
           count = P.count_reply;

@@ -55,7 +55,7 @@ SetOutput calls text = (setting : Setting Same) × IsOutput (SetMoves nat_eq) (R
 
 -- the text is that of a run of the calls on an empty index
 abbrev pub IndexOutput : List (IndexCall ℕ ℕ) → List ℕ → Type 0
-IndexOutput calls text = (setting : Setting Same) × IsOutput (IndexMoves nat_eq) (ResizesTo setting) ([], 0) (λ s. s.0) pair_cmp reply_line content_line calls text
+IndexOutput calls text = (setting : Setting Same) × IsOutput (IndexMoves nat_eq (λ k l. l ≡ k)) (ResizesTo setting) ([], 0) (λ s. s.0) pair_cmp reply_line content_line calls text
 
 -- the setting of a script's cache: no bit of a hash is skipped, nothing is asked for, and the maximum is 256 slots
 abbrev pub script_setting : Setting Same

@@ -6,7 +6,7 @@ ghost use Rattle.scc_print.specs.Finished.{IsOutputOf, MapOutput, SetOutput, Ind
 use crate::printed::{Printed, are_exact};
 use crate::texts::output_text;
 use scc_cache::Owned as OwnedCache;
-use scc_calls::{CacheCall, IndexCall, MapCall, SetCall, run};
+use scc_calls::{CacheCall, IndexCall, MapCall, SetCall, run, runs_mean};
 use scc_index::Owned as OwnedIndex;
 use scc_map::Owned as OwnedMap;
 use scc_script::same::Same;
@@ -19,12 +19,13 @@ fn run_on<P: Printed>(
     container: &mut P,
     calls: &[P::Call],
 ) -> Result<String, AllocError>
-    ensures { IfOk result (λ text. IsOutputOf P.state P.shown (P.moves (P.setting container.old))
+    ensures { IfOk result (λ text. IsOutputOf P.state P.shown (P.means (P.setting container.old))
         (P.resizes (P.setting container.old)) (P.state container.old) P.Item.cmp P.reply_line P.item_line calls.now
         (string_bytes text)) }
 {
     P::equal_calls();
     P::equal_replies();
+    runs_mean::<P>();
     let mut replies = Vec::new(alloc);
     if run(container, calls, &mut replies).is_err() {
         return Err(AllocError);

@@ -1,9 +1,11 @@
 -- One receipt more for each stripe.
-use Rattle.std.proofs.Common.{◌≡◌, ℕ, ◌+◌, ◌<◌, List, [], ◌∷◌, ◌++◌, inl, inr, refl, sym, ap, ◌∙◌, arith, append_assoc}
+use Rattle.std.proofs.Common.{◌≡◌, ℕ, ◌+◌, ◌<◌, List, [], ◌∷◌, ◌++◌, ◌⊎◌, inl, inr, refl, sym, ap, ◌∙◌, arith, append_assoc}
 use Rattle.std.proofs.Math.Logic.{∥∥₁_map}
 use Rattle.std.specs.Prelude.{Result, Ok, Err, IfOk}
 use Rattle.std.proofs.lemmas.List.{append-nil}
+use Rattle.scc_calls.specs.Calling.{MayNotReply}
 use Rattle.scc_calls.specs.Changes.{Changes}
+use Rattle.scc_calls.specs.Copies.{MayNotClone}
 use Rattle.scc_history.specs.declared.receipts.Receipt.{Receipt}
 use Rattle.scc_recorded.specs.Adds.{Adds, MayAnswer, Told}
 
@@ -14,9 +16,15 @@ module _ {G S A R : Type 0} (moves : G → S → A → R → S → Type 0) (call
   may-answer g size resizes old new reply (inr (inl c)) = ∣ (g, c.1.0, new, c.1.2) ∣₁
   may-answer g size resizes old new reply (inr (inr c)) = ∣ (g, old, c.1.0, c.1.1) ∣₁
 
-  -- and a reply that means the same
-  pub may-answer-alike : (reply given : R) → ((g : G) (s t : S) → moves g s call reply t → moves g s call given t) → MayAnswer moves call reply → MayAnswer moves call given
-  may-answer-alike reply given like may = ∥∥₁_map may (λ m. (m.0, m.1, m.2, like m.0 m.1 m.2 m.3))
+  -- and a reply that is recorded for it
+  pub may-answer-alike : (means : G → S → A → R → S → Type 0) (reply given : R) → ((g : G) (s t : S) → moves g s call reply t → means g s call given t) → MayAnswer moves call reply → MayAnswer means call given
+  may-answer-alike means reply given like may = ∥∥₁_map may (λ m. (m.0, m.1, m.2, like m.0 m.1 m.2 m.3))
+
+-- what a part may refuse, some part may refuse in some state
+pub may-refuse : {G S A R K : Type 0} {may_refuse : G → S → A → Type 0} {size : S → ℕ} {resizes : G → S → ℕ → S → Type 0} {answer : G → S → A → R} {is_infallible : R → Type 0} (g : G) (s : S) (call : A)
+    → may_refuse g s call ⊎ (K × MayNotReply size (resizes g) (answer g) is_infallible s call) → ∥ ((h : G) × (t : S) × (may_refuse h t call ⊎ (K × MayNotClone is_infallible (answer h t call)))) ∥₁
+may-refuse g s call (inl m) = ∣ (g, s, inl m) ∣₁
+may-refuse g s call (inr m) = ∣ (g, m.1.0, inr (m.0, m.1.1.1)) ∣₁
 
 module _ (A R : Type 0) (such : Receipt A R → Type 0) where
   pub adds_none : (clock : ℕ) (old : List (Receipt A R)) → Adds such clock clock 0 old old

@@ -50,14 +50,14 @@ where
         ensures parts { IfOk result (λ f. (f.parts.items ≡ map (λ s. s.stripe.container) self.stripes.items)
             × (map (λ h. h.items) f.histories.items ≡ map (λ s. s.stripe.history.items) self.stripes.items)
             × (f.opened.items ≡ map (λ s. s.stripe.opened) self.stripes.items)) }
-        ensures finished { IfOk result (λ f. IsFinished (make_kind C.limits C.empty C.key_of C.moves C.resizes C.whole
-            C.whole_moves C.whole_resizes C.setting C.state C.Call.eq C.Reply.eq
+        ensures finished { IfOk result (λ f. IsFinished (make_kind C.limits C.empty C.key_of C.means C.resizes C.whole
+            C.whole_means C.whole_resizes C.setting C.state C.Call.eq C.Reply.eq
             (stripe_of C.Hasher.BuildHasher C.Hasher.Hasher.Hasher C.Key.Hash.hash_input))
             (λ p. p.log.number) (λ p. p.log.receipts.items) self.hasher self.passes
             (map (λ h. h.items) f.histories.items) passes.items M.chosen f.parts.items f.opened.items f.order.items) }
         ensures back { IfErr result (λ u. (u.recorded ≡ self) × (u.passes ≡ passes)) }
-        ensures refused { IfErr result (λ u. IsRefused (make_kind C.limits C.empty C.key_of C.moves C.resizes C.whole
-            C.whole_moves C.whole_resizes C.setting C.state C.Call.eq C.Reply.eq
+        ensures refused { IfErr result (λ u. IsRefused (make_kind C.limits C.empty C.key_of C.means C.resizes C.whole
+            C.whole_means C.whole_resizes C.setting C.state C.Call.eq C.Reply.eq
             (stripe_of C.Hasher.BuildHasher C.Hasher.Hasher.Hasher C.Key.Hash.hash_input))
             (λ p. p.log.number) (λ p. p.log.receipts.items) u.recorded.hasher u.recorded.passes
             (map (λ s. s.stripe.history.items) u.recorded.stripes.items) u.passes.items u.cause) }
@@ -112,8 +112,8 @@ where
         ensures receipts { IfOk result (λ v. AllMatch C.Call.eq C.Reply.eq (λ p. p.log.number)
             (λ p. p.log.receipts.items) passes.now
             (λ n. calls_of n (steps_at (map (λ s. s.stripe.history.items) self.now.stripes.items) v.items))) }
-        ensures refused { IfErr result (λ cause. IsRefused (make_kind C.limits C.empty C.key_of C.moves C.resizes
-            C.whole C.whole_moves C.whole_resizes C.setting C.state C.Call.eq C.Reply.eq
+        ensures refused { IfErr result (λ cause. IsRefused (make_kind C.limits C.empty C.key_of C.means C.resizes
+            C.whole C.whole_means C.whole_resizes C.setting C.state C.Call.eq C.Reply.eq
             (stripe_of C.Hasher.BuildHasher C.Hasher.Hasher.Hasher C.Key.Hash.hash_input))
             (λ p. p.log.number) (λ p. p.log.receipts.items) self.now.hasher self.now.passes
             (map (λ s. s.stripe.history.items) self.now.stripes.items) passes.now cause) }
@@ -152,16 +152,16 @@ where
     /// What the run was: [`Recorded::close`], and then [`Closed::finish`], with its costs and its refusals. Where it is
     /// refused, the stripes come back out of their locks, so a further try is [`Closed::finish`].
     pub fn finish(self, passes: Vec<Pass<C, L>>) -> Result<Finished<C>, Unfinished<C, L, M>>
-        ensures finished { IfOk result (λ f. IsFinished (make_kind C.limits C.empty C.key_of C.moves C.resizes C.whole
-            C.whole_moves C.whole_resizes C.setting C.state C.Call.eq C.Reply.eq
+        ensures finished { IfOk result (λ f. IsFinished (make_kind C.limits C.empty C.key_of C.means C.resizes C.whole
+            C.whole_means C.whole_resizes C.setting C.state C.Call.eq C.Reply.eq
             (stripe_of C.Hasher.BuildHasher C.Hasher.Hasher.Hasher C.Key.Hash.hash_input))
             (λ p. p.log.number) (λ p. p.log.receipts.items) self.hasher self.passes
             (map (λ h. h.items) f.histories.items) passes.items M.chosen f.parts.items f.opened.items f.order.items) }
         ensures stripes { IfOk result (λ f. vec_len f.parts ≡ self.stripes) }
         ensures back { IfErr result (λ u. (u.passes ≡ passes) × (vec_len u.recorded.stripes ≡ self.stripes)
             × (u.recorded.passes ≡ self.passes) × (u.recorded.hasher ≡ self.hasher)) }
-        ensures refused { IfErr result (λ u. IsRefused (make_kind C.limits C.empty C.key_of C.moves C.resizes C.whole
-            C.whole_moves C.whole_resizes C.setting C.state C.Call.eq C.Reply.eq
+        ensures refused { IfErr result (λ u. IsRefused (make_kind C.limits C.empty C.key_of C.means C.resizes C.whole
+            C.whole_means C.whole_resizes C.setting C.state C.Call.eq C.Reply.eq
             (stripe_of C.Hasher.BuildHasher C.Hasher.Hasher.Hasher C.Key.Hash.hash_input))
             (λ p. p.log.number) (λ p. p.log.receipts.items) u.recorded.hasher u.recorded.passes
             (map (λ s. s.stripe.history.items) u.recorded.stripes.items) u.passes.items u.cause) }

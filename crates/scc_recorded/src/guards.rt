@@ -4,7 +4,8 @@ ghost use Rattle.scc_calls.specs.Made.{IsMadeFor};
 ghost use Rattle.scc_calls.specs.declared.fixed.Request.{Request};
 ghost use Rattle.scc_history.specs.Stamps.{calls_in};
 ghost use Rattle.scc_history.specs.Kept.{AddsReceipt};
-ghost use Rattle.scc_calls.specs.Copies.{ClonesEqual, MayNotClone};
+ghost use Rattle.scc_calls.specs.Calling.{MayNotReply};
+ghost use Rattle.scc_calls.specs.Copies.{ClonesEqual};
 ghost use Rattle.scc_recorded.specs.Adds.{MayAnswer};
 
 use crate::counts::Count;
@@ -75,7 +76,9 @@ impl<C: Calls, M: Site<C::Hasher>> Guarded<C, M> {
         ensures answers { IfOk result (λ r. MayAnswer C.moves call r) }
         ensures refused { result ≡ Err CallError.Container
             → C.may_refuse (C.setting self.old.stripe.container) (C.state self.old.stripe.container) call
-            ⊎ (IsSome (C.key_of call) × MayNotClone C.Reply.is_infallible) }
+            ⊎ (IsSome (C.key_of call) × MayNotReply C.size (C.resizes (C.setting self.old.stripe.container))
+            (C.answer (C.setting self.old.stripe.container)) C.Reply.is_infallible (C.state self.old.stripe.container)
+            call) }
     {
         let Guarded {
             stripe,

@@ -66,7 +66,8 @@ impl<C: Calls, M: Site<C::Hasher>> Locked<C, M> {
         ensures answers { IfOk result (λ r. MayAnswer C.moves call r) }
         ensures refused { result ≡ Err CallError.Container
             → ∥ ((g : Setting C.Hasher) × (s : C.State)
-            × (C.may_refuse g s call ⊎ (IsSome (C.key_of call) × MayNotClone C.Reply.is_infallible))) ∥₁ }
+            × (C.may_refuse g s call ⊎ (IsSome (C.key_of call) × MayNotClone C.Reply.is_infallible (C.answer g s call))))
+            ∥₁ }
     {
         self.lock.lock(rt).step(rt, self.number, pass, count, call)
     }
@@ -85,7 +86,8 @@ impl<C: Calls, L: Ledger, M: Site<C::Hasher>> Recorded<C, L, M> {
     /// may wait for that stripe's lock.
     ///
     /// `Room` comes where memory for the record or the receipt was refused, or no stamp is left; then nothing was
-    /// touched. `Container` comes only to calls that a container may refuse for memory.
+    /// touched. `Container` comes only if the container may refuse the call for memory, or a clone of its reply may be
+    /// refused.
     pub fn call<R: Wait>(
         &self,
         rt: &R,
@@ -106,7 +108,8 @@ impl<C: Calls, L: Ledger, M: Site<C::Hasher>> Recorded<C, L, M> {
         ensures answers { IfOk result (λ r. MayAnswer C.moves call r) }
         ensures refused { result ≡ Err CallError.Container
             → ∥ ((g : Setting C.Hasher) × (s : C.State)
-            × (C.may_refuse g s call ⊎ (IsSome (C.key_of call) × MayNotClone C.Reply.is_infallible))) ∥₁ }
+            × (C.may_refuse g s call ⊎ (IsSome (C.key_of call) × MayNotClone C.Reply.is_infallible (C.answer g s call))))
+            ∥₁ }
     {
         let Some(key) = C::key(&call) else {
             unreachable!();

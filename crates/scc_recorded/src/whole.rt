@@ -19,10 +19,10 @@ impl<C: WholeCalls, L: Ledger, M: Site<C::Hasher>> Recorded<C, L, M> {
         requires calls { ClonesEqual C.Call.is_clone C.Call.eq }
         requires replies { ClonesEqual C.Reply.is_clone C.Reply.eq }
         ensures number { pass.new.log.number ≡ pass.old.log.number }
-        ensures ok { OnOk result (Adds (IsOf C.Call.is_clone C.moves C.clears) pass.old.log.clock pass.new.log.clock
+        ensures ok { OnOk result (Adds (IsOf C.Call.is_clone C.means C.clears) pass.old.log.clock pass.new.log.clock
             self.now.stripes pass.old.log.receipts.items pass.new.log.receipts.items) }
         ensures err { OnErr result ((n : ℕ) × (n < self.now.stripes)
-            × Adds (IsOf C.Call.is_clone C.moves C.clears) pass.old.log.clock pass.new.log.clock n
+            × Adds (IsOf C.Call.is_clone C.means C.clears) pass.old.log.clock pass.new.log.clock n
             pass.old.log.receipts.items pass.new.log.receipts.items) }
         ensures room { result ≡ Err CallError.Container → ⊥ }
     {
@@ -44,10 +44,10 @@ impl<C: WholeCalls, L: Ledger, M: Site<C::Hasher>> Recorded<C, L, M> {
         requires calls { ClonesEqual C.Call.is_clone C.Call.eq }
         requires replies { ClonesEqual C.Reply.is_clone C.Reply.eq }
         ensures number { pass.new.log.number ≡ pass.old.log.number }
-        ensures ok { OnOk result (Adds (IsOf C.Call.is_clone C.moves C.counts) pass.old.log.clock pass.new.log.clock
+        ensures ok { OnOk result (Adds (IsOf C.Call.is_clone C.means C.counts) pass.old.log.clock pass.new.log.clock
             self.now.stripes pass.old.log.receipts.items pass.new.log.receipts.items) }
         ensures err { OnErr result ((n : ℕ) × (n < self.now.stripes)
-            × Adds (IsOf C.Call.is_clone C.moves C.counts) pass.old.log.clock pass.new.log.clock n
+            × Adds (IsOf C.Call.is_clone C.means C.counts) pass.old.log.clock pass.new.log.clock n
             pass.old.log.receipts.items pass.new.log.receipts.items) }
         ensures room { result ≡ Err CallError.Container → ⊥ }
         ensures sum { IfOk result (λ n. n ≡ min 18446744073709551615

@@ -90,19 +90,19 @@ module _ {K V : Type 0} {eq : K → K → Bool} {values : V → V → Bool} (law
   left-alike Len Len o p x y q h f i = i
   left-alike a b o p x y q h f i = absurd h
 
-module _ {K V H I : Type 0} {eq : K → K → Bool} {values : V → V → Bool} (laws : IsEquivalence eq) (part : IsPartialEquivalence values) (g : Setting H) (h : Setting I)
+module _ {K V H I : Type 0} {eq : K → K → Bool} {clone : K → K → Type 0} {values : V → V → Bool} (laws : IsEquivalence eq) (part : IsPartialEquivalence values) (g : Setting H) (h : Setting I)
     (calls : IndexCall K V → IndexCall K V → Bool) (like-calls : (a b : IndexCall K V) → calls a b ≡ true → IndexCallsAlike eq values a b)
     (replies : Reply K V → Reply K V → Bool) (like-replies : (a b : Reply K V) → replies a b ≡ true → RepliesAlike eq values a b) where
   calls-given : (made call : IndexCall K V) → Alike calls made call → IndexCallsAlike eq values made call
   calls-given made call (inl same) = subst (IndexCallsAlike eq values made) (sym same) (calls-refl laws part made)
   calls-given made call (inr e) = like-calls made call e
 
-  moves-alike : (s t u v : State (K × V)) (call : IndexCall K V) (q r : Reply K V) → AreAlike eq values s t → Means calls replies (IndexMoves eq) s call q u → Means calls replies (IndexMoves eq) t call r v → RepliesAlike eq values q r × AreAlike eq values u v
+  moves-alike : (s t u v : State (K × V)) (call : IndexCall K V) (q r : Reply K V) → AreAlike eq values s t → Means calls replies (IndexMoves eq clone) s call q u → Means calls replies (IndexMoves eq clone) t call r v → RepliesAlike eq values q r × AreAlike eq values u v
   moves-alike s t u v call q r l m n =
-      let d = keeps-distinct laws s u m.0 m.1 l.first m.4 in
-      let e = keeps-distinct laws t v n.0 n.1 l.second n.4 in
-      let a = settled laws s m.0 m.1 u l.first d m.4 in
-      let b = settled laws t n.0 n.1 v l.second e n.4 in
+      let d = keeps-distinct laws clone s u m.0 m.1 l.first m.4 in
+      let e = keeps-distinct laws clone t v n.0 n.1 l.second n.4 in
+      let a = settled laws clone s m.0 m.1 u l.first d m.4 in
+      let b = settled laws clone t n.0 n.1 v l.second e n.4 in
       let made = calls-euclid laws part call m.0 n.0 (calls-given m.0 call m.2) (calls-given n.0 call n.2) in
       let o : Both (Alike values) a.0 b.0 = subst (λ z. Both (Alike values) z b.0) a.1 (subst (Both (Alike values) (there eq s.0 m.0)) b.1 (calls-there laws part m.0 n.0 s.0 t.0 made l.finds)) in
       let count : length s.0 ≡ length t.0 = sym (as-many-there laws s.0 t.0 l.first l.second (λ q. both-there (Alike values) (lookup (eq q) s.0) (lookup (eq q) t.0) (l.finds q))) in
@@ -121,7 +121,7 @@ module _ {K V H I : Type 0} {eq : K → K → Bool} {values : V → V → Bool} 
 
   -- two runs of the same calls from alike values, each with its own hasher, sizes and resizes
   pub index-runs-alike : {s t u v : State (K × V)} {list : List (IndexCall K V)} {made others : List (Reply K V)}
-      → AreAlike eq values s t → IsRun (Means calls replies (IndexMoves eq)) (ResizesTo g) s list made u → IsRun (Means calls replies (IndexMoves eq)) (ResizesTo h) t list others v
+      → AreAlike eq values s t → IsRun (Means calls replies (IndexMoves eq clone)) (ResizesTo g) s list made u → IsRun (Means calls replies (IndexMoves eq clone)) (ResizesTo h) t list others v
       → Agrees (AreAlike eq values) (RepliesAlike eq values) made others u v
   index-runs-alike l a b =
       runs-alike (AreAlike eq values) (RepliesAlike eq values) moves-alike

@@ -130,49 +130,49 @@ module _ {K V : Type 0} {eq : K → K → Bool} (laws : IsEquivalence eq) where
   kept s t e q = ap (λ (z : State (K × V)). lookup (eq q) z.0) e
 
   -- a move answers and leaves just that
-  pub settled : (s : State (K × V)) (call : IndexCall K V) (reply : Reply K V) (t : State (K × V)) → IsDistinct eq (keys_of s.0) → IsDistinct eq (keys_of t.0) → IndexMoves eq s call reply t
+  pub settled : (clone : K → K → Type 0) (s : State (K × V)) (call : IndexCall K V) (reply : Reply K V) (t : State (K × V)) → IsDistinct eq (keys_of s.0) → IsDistinct eq (keys_of t.0) → IndexMoves eq clone s call reply t
       → (o : Option V) × (there eq s.0 call ≡ o) × (reply ≡ answered eq o (length s.0) call) × ((q : K) → lookup (eq q) t.0 ≡ left eq o (lookup (eq q) s.0) q call)
-  settled s (Insert k v) Inserted t d e m =
+  settled clone s (Insert k v) Inserted t d e m =
       (None, found-value (eq k) s.0 ∙ ap value m.0, refl, λ q. instead eq s.0 t.0 k (Some (k, v)) (λ q. (finds-added laws s.0 t.0 (k, v) m.1.0 e).finds q) q)
-  settled s (Insert k v) (Exists l w) t d e m =
+  settled clone s (Insert k v) (Exists l w) t d e m =
       let p = some-of (find eq s.0 k) m.1 in
       (Some p.0.1, found-value (eq k) s.0 ∙ ap value p.1, ap (λ q. Exists q.0 q.1) m.0, kept s t m.2)
-  settled s (Update k v) (Has false) t d e m = (None, found-value (eq k) s.0 ∙ ap value m.0, refl, kept s t m.1)
-  settled s (Update k v) (Has true) t d e m =
-      let w = m.5 in
+  settled clone s (Update k v) (Has false) t d e m = (None, found-value (eq k) s.0 ∙ ap value m.0, refl, kept s t m.1)
+  settled clone s (Update k v) (Has true) t d e m =
+      let w = m.6 in
       let here : lookup (eq k) s.0 ≡ Some m.3 = found-value (eq k) s.0 ∙ ap value w.1 in (
         Some m.3,
         here,
         refl,
         λ q.
-            ap (lookup (eq q)) m.6.2.0 ∙ value-set_key laws m.1 q m.0.0 ∙ ap (lookup (eq q)) w.2.0
+            ap (lookup (eq q)) m.7.2.0 ∙ value-set_key laws m.1 q m.0.0 ∙ ap (lookup (eq q)) w.2.0
             ∙ lookup-set_value laws (eq k) (λ x y h. laws.congr k x y h) q v s.0 (ap is_some here) ∙ ap (λ b. cond b (Some v) (lookup (eq q) s.0)) (laws.symm k q),
       )
-  settled s (Remove k) (Has false) t d e m = (None, found-value (eq k) s.0 ∙ ap value m.0, refl, kept s t m.1)
-  settled s (Remove k) (Has true) t d e m =
+  settled clone s (Remove k) (Has false) t d e m = (None, found-value (eq k) s.0 ∙ ap value m.0, refl, kept s t m.1)
+  settled clone s (Remove k) (Has true) t d e m =
       let perm : IsPermutation (without eq s.0 k) t.0 = m.1.1.0 in
       let apart = distinct-IsPermutation laws t.0 (without eq s.0 k) (IsPermutation-sym (without eq s.0 k) t.0 perm) e in
       (Some m.0.1, found-value (eq k) s.0 ∙ ap value m.1.0, refl, λ q. rearranged-values laws (without eq s.0 k) t.0 q perm apart ∙ others laws s.0 k q d)
-  settled s (Read k) (Value r) t d e m = (lookup (eq k) s.0, refl, ap Value (m.0 ∙ sym (found-value (eq k) s.0)), kept s t m.1)
-  settled s (Contains k) (Has b) t d e m =
+  settled clone s (Read k) (Value r) t d e m = (lookup (eq k) s.0, refl, ap Value (m.0 ∙ sym (found-value (eq k) s.0)), kept s t m.1)
+  settled clone s (Contains k) (Has b) t d e m =
       (lookup (eq k) s.0, refl, ap Has (m.0 ∙ sym (is_some-map (λ p. p.1) (find eq s.0 k)) ∙ ap is_some (sym (found-value (eq k) s.0))), kept s t m.1)
-  settled s Clear Cleared t d e m = (None, refl, refl, λ q. ap (lookup (eq q)) m.0)
-  settled s Len (Count n) t d e m = (None, refl, ap Count m.0, kept s t m.1)
-  settled s call reply t d e m = absurd m
+  settled clone s Clear Cleared t d e m = (None, refl, refl, λ q. ap (lookup (eq q)) m.0)
+  settled clone s Len (Count n) t d e m = (None, refl, ap Count m.0, kept s t m.1)
+  settled clone s call reply t d e m = absurd m
 
   -- a move keeps the keys distinct
-  pub keeps-distinct : (s t : State (K × V)) (call : IndexCall K V) (reply : Reply K V) → IsDistinct eq (keys_of s.0) → IndexMoves eq s call reply t → IsDistinct eq (keys_of t.0)
-  keeps-distinct s t (Insert k v) r d m = moves-distinct laws s t (MapInsert k v) r d m
-  keeps-distinct s t (Update k v) (Has false) d m = moves-distinct laws s t (MapReplace k) (Key None) d m
-  keeps-distinct s t (Update k v) (Has true) d m =
-      moves-distinct laws m.0 t (MapReplace m.1) (Key (Some m.2)) (moves-distinct laws s m.0 (MapUpsert k v) (Old (Some m.3)) d m.5) m.6
-  keeps-distinct s t (Remove k) (Has false) d m = moves-distinct laws s t (MapRemove k) (Pair None) d m
-  keeps-distinct s t (Remove k) (Has true) d m = moves-distinct laws s t (MapRemove k) (Pair (Some m.0)) d m.1
-  keeps-distinct s t (Read k) r d m = moves-distinct laws s t (MapRead k) r d m
-  keeps-distinct s t (Contains k) r d m = moves-distinct laws s t (MapContains k) r d m
-  keeps-distinct s t Clear r d m = moves-distinct laws s t MapClear r d m
-  keeps-distinct s t Len r d m = moves-distinct laws s t MapLen r d m
-  keeps-distinct s t call reply d m = absurd m
+  pub keeps-distinct : (clone : K → K → Type 0) (s t : State (K × V)) (call : IndexCall K V) (reply : Reply K V) → IsDistinct eq (keys_of s.0) → IndexMoves eq clone s call reply t → IsDistinct eq (keys_of t.0)
+  keeps-distinct clone s t (Insert k v) r d m = moves-distinct laws s t (MapInsert k v) r d m
+  keeps-distinct clone s t (Update k v) (Has false) d m = moves-distinct laws s t (MapReplace k) (Key None) d m
+  keeps-distinct clone s t (Update k v) (Has true) d m =
+      moves-distinct laws m.0 t (MapReplace m.1) (Key (Some m.2)) (moves-distinct laws s m.0 (MapUpsert k v) (Old (Some m.3)) d m.6) m.7
+  keeps-distinct clone s t (Remove k) (Has false) d m = moves-distinct laws s t (MapRemove k) (Pair None) d m
+  keeps-distinct clone s t (Remove k) (Has true) d m = moves-distinct laws s t (MapRemove k) (Pair (Some m.0)) d m.1
+  keeps-distinct clone s t (Read k) r d m = moves-distinct laws s t (MapRead k) r d m
+  keeps-distinct clone s t (Contains k) r d m = moves-distinct laws s t (MapContains k) r d m
+  keeps-distinct clone s t Clear r d m = moves-distinct laws s t MapClear r d m
+  keeps-distinct clone s t Len r d m = moves-distinct laws s t MapLen r d m
+  keeps-distinct clone s t call reply d m = absurd m
 
 module _ {K V : Type 0} (eq : K → K → Bool) where
   -- look-ups find the same values, and no two keys of either are equal
@@ -187,12 +187,12 @@ module _ {K V : Type 0} {eq : K → K → Bool} (laws : IsEquivalence eq) where
   there-alike s t (Some k) l = l.values k
 
   -- the same call where look-ups find the same values gives the same reply, and leaves the same values
-  moves-alike : (s t u v : State (K × V)) (call : IndexCall K V) (q r : Reply K V) → IsAlike eq s t → IndexMoves eq s call q u → IndexMoves eq t call r v → (q ≡ r) × IsAlike eq u v
-  moves-alike s t u v call q r l m n =
-      let d = keeps-distinct laws s u call q l.first m in
-      let e = keeps-distinct laws t v call r l.second n in
-      let a = settled laws s call q u l.first d m in
-      let b = settled laws t call r v l.second e n in
+  moves-alike : (clone : K → K → Type 0) (s t u v : State (K × V)) (call : IndexCall K V) (q r : Reply K V) → IsAlike eq s t → IndexMoves eq clone s call q u → IndexMoves eq clone t call r v → (q ≡ r) × IsAlike eq u v
+  moves-alike clone s t u v call q r l m n =
+      let d = keeps-distinct laws clone s u call q l.first m in
+      let e = keeps-distinct laws clone t v call r l.second n in
+      let a = settled laws clone s call q u l.first d m in
+      let b = settled laws clone t call r v l.second e n in
       let o : a.0 ≡ b.0 = sym a.1 ∙ sym (there-alike s t (index_key call) l) ∙ b.1 in
       let count : length t.0 ≡ length s.0 = same-count laws s.0 t.0 l.first l.second l.values in (
         a.2 ∙ ap (λ z. answered eq z (length s.0) call) o ∙ ap (λ z. answered eq b.0 z call) (sym count) ∙ sym b.2,
@@ -203,19 +203,19 @@ module _ {K V : Type 0} {eq : K → K → Bool} (laws : IsEquivalence eq) where
         },
       )
 
-module _ {K V H I : Type 0} {eq : K → K → Bool} (laws : IsEquivalence eq) (g : Setting H) (h : Setting I) where
+module _ {K V H I : Type 0} {eq : K → K → Bool} {clone : K → K → Type 0} (laws : IsEquivalence eq) (g : Setting H) (h : Setting I) where
   -- two runs of the same calls from the same values, each with its own hasher, sizes and resizes, agree
   index-runs-agree : {s t u v : State (K × V)} {calls : List (IndexCall K V)} {made others : List (Reply K V)}
-      → IsAlike eq s t → IsRun (IndexMoves eq) (ResizesTo g) s calls made u → IsRun (IndexMoves eq) (ResizesTo h) t calls others v → Agrees (IsAlike eq) made others u v
+      → IsAlike eq s t → IsRun (IndexMoves eq clone) (ResizesTo g) s calls made u → IsRun (IndexMoves eq clone) (ResizesTo h) t calls others v → Agrees (IsAlike eq) made others u v
   index-runs-agree l a b =
       runs-agree (IsAlike eq)
-      (λ s t u v call q r l m n. moves-alike laws s t u v call q r l m n)
+      (λ s t u v call q r l m n. moves-alike laws clone s t u v call q r l m n)
       (λ s t u number l z. record { first = distinct-IsPermutation laws s.0 u.0 z.same l.first; second = l.second; values = λ q. l.values q ∙ sym (rearranged-values laws s.0 u.0 q z.same l.first) })
       (λ s t u number l z. record { first = l.first; second = distinct-IsPermutation laws t.0 u.0 z.same l.second; values = λ q. rearranged-values laws t.0 u.0 q z.same l.second ∙ l.values q })
       l a b
 
   module _ {s t u v : State (K × V)} {calls : List (IndexCall K V)} {made others : List (Reply K V)} (l : IsAlike eq s t)
-      (a : IsRun (IndexMoves eq) (ResizesTo g) s calls made u) (b : IsRun (IndexMoves eq) (ResizesTo h) t calls others v) (all : length made ≡ length calls) where
+      (a : IsRun (IndexMoves eq clone) (ResizesTo g) s calls made u) (b : IsRun (IndexMoves eq clone) (ResizesTo h) t calls others v) (all : length made ≡ length calls) where
     -- two runs that answer every call
     pub index-runs-same : length others ≡ length calls → (made ≡ others) × IsAlike eq u v
     index-runs-same too = equally-many (IsAlike eq) made others u v (index-runs-agree l a b) (all ∙ sym too)

@@ -7,7 +7,7 @@ ghost use Rattle.scc_uses.specs.Alikeness.{FindsAlike, RepliesAlike};
 ghost use Rattle.scc_uses.specs.Mirrored.{RunsOnBoth};
 
 use crate::alike::{equal_map_calls, equal_replies};
-use scc_calls::{MapCall, Refused, Reply, run};
+use scc_calls::{MapCall, Refused, Reply, run, runs_mean};
 use scc_map::Owned;
 use std::hash::{BuildHasher, Hash};
 
@@ -37,6 +37,8 @@ pub fn run_on_both<K: Eq + Hash + Clone, V: Clone + PartialEq, H: BuildHasher, I
     equal_map_calls::<K, V>();
     equal_replies::<K, V>();
     prove!(first.len() == second.len());
+    runs_mean::<Owned<K, V, H>>();
+    runs_mean::<Owned<K, V, I>>();
     run(first, calls, firsts)?;
     run(second, calls, seconds)?;
     Ok(())

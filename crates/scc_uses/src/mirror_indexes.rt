@@ -6,7 +6,7 @@ ghost use Rattle.scc_uses.specs.Alikeness.{FindsAlike, FindsSame, RepliesAlike};
 ghost use Rattle.scc_uses.specs.Mirrored.{RunsOnBoth};
 
 use crate::alike::{equal_index_calls, equal_replies};
-use scc_calls::{IndexCall, Refused, Reply, run};
+use scc_calls::{IndexCall, Refused, Reply, run, runs_mean};
 use scc_index::Owned;
 use std::hash::{BuildHasher, Hash};
 
@@ -36,13 +36,15 @@ pub fn run_on_both_indexes<
     requires alike { FindsAlike K.eq V.eq (entries first.old) (entries second.old) }
     requires calls { ClonesEqual ⟦<IndexCall<K, V> as Clone>⟧.is_clone ⟦<IndexCall<K, V> as PartialEq>⟧.eq }
     requires replies { ClonesEqual ⟦<Reply<K, V> as Clone>⟧.is_clone ⟦<Reply<K, V> as PartialEq>⟧.eq }
-    ensures { RunsOnBoth ⟦<IndexCall<K, V> as PartialEq>⟧.eq ⟦<Reply<K, V> as PartialEq>⟧.eq (IndexMoves K.eq)
+    ensures { RunsOnBoth ⟦<IndexCall<K, V> as PartialEq>⟧.eq ⟦<Reply<K, V> as PartialEq>⟧.eq (IndexMoves K.eq K.is_clone)
         (RepliesAlike K.eq V.eq) (FindsAlike K.eq V.eq) (FindsSame K.eq) calls.now (first.old, firsts.old.items)
         (second.old, seconds.old.items) result (first.new, firsts.new.items) (second.new, seconds.new.items) }
 {
     equal_index_calls::<K, V>();
     equal_replies::<K, V>();
     prove!(first.len() == second.len());
+    runs_mean::<Owned<K, V, H>>();
+    runs_mean::<Owned<K, V, I>>();
     run(first, calls, firsts)?;
     run(second, calls, seconds)?;
     Ok(())

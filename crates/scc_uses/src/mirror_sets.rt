@@ -8,7 +8,7 @@ ghost use Rattle.scc_uses.specs.Alikeness.{HaveEqual, RepliesAlike};
 ghost use Rattle.scc_uses.specs.Mirrored.{RunsOnBoth};
 
 use crate::alike::{equal_key_replies, equal_set_calls};
-use scc_calls::{Refused, Reply, SetCall, run};
+use scc_calls::{Refused, Reply, SetCall, run, runs_mean};
 use scc_set::Owned;
 use std::hash::{BuildHasher, Hash};
 
@@ -38,6 +38,8 @@ pub fn run_on_both_sets<K: Eq + Hash + Clone, H: BuildHasher, I: BuildHasher>(
     equal_set_calls::<K>();
     equal_key_replies::<K>();
     prove!(first.len() == second.len());
+    runs_mean::<Owned<K, H>>();
+    runs_mean::<Owned<K, I>>();
     run(first, calls, firsts)?;
     run(second, calls, seconds)?;
     Ok(())

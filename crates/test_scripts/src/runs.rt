@@ -6,7 +6,7 @@ ghost use Rattle.scc_contents.specs.Contents.{entries};
 use crate::expect::{expect, expect_eq};
 use scc::MakeError;
 use scc::hash_map::Owned;
-use scc::recorded::{Calls, MapCall, Refused, Reply, run};
+use scc::recorded::{Calls, MapCall, Refused, Reply, run, runs_mean};
 use std::alloc::Global;
 use std::hash::{BuildHasher, RandomState};
 use std::test::Fail;
@@ -27,6 +27,7 @@ fn count<H: BuildHasher>(
     ensures { OnOk result ((n : ℕ) × (replies.new.items ≡ Reply.Count n ∷ []) × (n ≡ length (entries map.old))) }
 {
     are_exact();
+    runs_mean::<Owned<u64, u64, H>>();
     run(map, &[MapCall::Len], replies)
 }
 
@@ -164,7 +165,11 @@ impl Calls for Tally {
 
     ghost key_of = { λ _. None };
 
+    ghost answer = { λ _ s c. s + c };
+
     ghost moves = { λ _ s c r t. (t ≡ s + c) × (r ≡ t) };
+
+    ghost means = { λ _ s c r t. (t ≡ s + c) × (r ≡ t) };
 
     ghost resizes = { λ _ _ _ _. ⊥ };
 
@@ -176,7 +181,7 @@ impl Calls for Tally {
 
     ghost whole = { λ p. p };
 
-    ghost whole_moves = { λ _ _. PartMoves (λ s c r t. (t ≡ s + c) × (r ≡ t)) (λ _. None) (λ k. k) };
+    ghost whole_means = { λ _ _. PartMoves (λ s c r t. (t ≡ s + c) × (r ≡ t)) (λ _. None) (λ k. k) };
 
     ghost whole_resizes = { λ _ _. PartResizes (λ _ _ _. ⊥) };
 
@@ -217,7 +222,9 @@ impl Calls for Tally {
 
     ghost one_limit = { λ _ _ m n p q. p ∙ sym q };
 
-    ghost moves_alike = { λ g old new call copy reply given pc pr c r m. let x : copy ≡ call = the_very
+    ghost moves_mean = { λ _ _ _ _ _ _ m. m };
+
+    ghost means_alike = { λ g old new call copy reply given pc pr c r m. let x : copy ≡ call = the_very
         ⟦<u8 as PartialEq>⟧.eq (Prim.search rules) call copy c in let y : given ≡ reply = the_very
         ⟦<u8 as PartialEq>⟧.eq (Prim.search rules) reply given r in (m.0 ∙ ap (λ z. old + z) (sym x), y ∙ m.1) };
 

@@ -1,5 +1,5 @@
 //! Clones of what a cache holds. The order of the pairs stays.
-ghost use Rattle.std.specs.Prelude.{IfOk, OnErr};
+ghost use Rattle.std.specs.Prelude.{◌≡◌, Some, IfOk, OnErr};
 ghost use Rattle.scc_contents.specs.Contents.{hash_in};
 ghost use Rattle.scc_cache.specs.CacheSteps.{pair_of};
 ghost use Rattle.scc_contents.specs.Copies.{IsCopied};
@@ -16,7 +16,8 @@ impl<K: Eq + Hash, V, H: BuildHasher> Owned<K, V, H> {
         V: Clone,
         ensures ok { IfOk result (IsCopied (λ p w. V.is_clone p.1 w)
             (pair_of (hash_in ⟦<H as Hashes<K>>⟧.hash_of self.now.contents) K.eq self.now.contents k.now)) }
-        ensures err { OnErr result ((v : V) × (V.is_infallible v → ⊥)) }
+        ensures err { OnErr result ((p : K × V) × (pair_of (hash_in ⟦<H as Hashes<K>>⟧.hash_of self.now.contents) K.eq
+            self.now.contents k.now ≡ Some p) × (V.is_infallible p.1 → ⊥)) }
     {
         let hash = self.table.hash(k);
         match self.find(hash, k) {
@@ -31,7 +32,8 @@ impl<K: Eq + Hash, V, H: BuildHasher> Owned<K, V, H> {
         K: Clone,
         ensures ok { IfOk result (IsCopied (λ p l. K.is_clone p.0 l)
             (pair_of (hash_in ⟦<H as Hashes<K>>⟧.hash_of self.now.contents) K.eq self.now.contents k.now)) }
-        ensures err { OnErr result ((l : K) × (K.is_infallible l → ⊥)) }
+        ensures err { OnErr result ((p : K × V) × (pair_of (hash_in ⟦<H as Hashes<K>>⟧.hash_of self.now.contents) K.eq
+            self.now.contents k.now ≡ Some p) × (K.is_infallible p.0 → ⊥)) }
     {
         let hash = self.table.hash(k);
         match self.find(hash, k) {
@@ -47,7 +49,8 @@ impl<K: Eq + Hash, V, H: BuildHasher> Owned<K, V, H> {
         V: Clone,
         ensures ok { IfOk result (IsCopied (λ p q. K.is_clone p.0 q.0 × V.is_clone p.1 q.1)
             (pair_of (hash_in ⟦<H as Hashes<K>>⟧.hash_of self.now.contents) K.eq self.now.contents k.now)) }
-        ensures err { OnErr result ((p : K × V) × (K.is_infallible p.0 × V.is_infallible p.1 → ⊥)) }
+        ensures err { OnErr result ((p : K × V) × (pair_of (hash_in ⟦<H as Hashes<K>>⟧.hash_of self.now.contents) K.eq
+            self.now.contents k.now ≡ Some p) × (K.is_infallible p.0 × V.is_infallible p.1 → ⊥)) }
     {
         let hash = self.table.hash(k);
         match self.find(hash, k) {

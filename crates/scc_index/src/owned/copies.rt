@@ -1,5 +1,5 @@
 //! Clones of what an index holds.
-ghost use Rattle.std.specs.Prelude.{◌≡◌, IfOk, OnErr};
+ghost use Rattle.std.specs.Prelude.{◌≡◌, Some, IfOk, OnErr};
 ghost use Rattle.scc_contents.specs.Contents.{entries};
 ghost use Rattle.scc_contents.specs.Pairs.{find};
 ghost use Rattle.scc_contents.specs.Copies.{IsCopied};
@@ -14,7 +14,8 @@ impl<K: Eq + Hash, V, H: BuildHasher> Owned<K, V, H> {
     where
         V: Clone,
         ensures ok { IfOk result (IsCopied (λ p w. V.is_clone p.1 w) (find K.eq (entries self.now) k.now)) }
-        ensures err { OnErr result ((v : V) × (V.is_infallible v → ⊥)) }
+        ensures err { OnErr result ((p : K × V) × (find K.eq (entries self.now) k.now ≡ Some p)
+            × (V.is_infallible p.1 → ⊥)) }
     {
         match self.peek(k) {
             Some(version) => Ok(Some(version.value().clone()?)),

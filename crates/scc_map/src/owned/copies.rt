@@ -1,5 +1,5 @@
 //! Clones of what a map holds.
-ghost use Rattle.std.specs.Prelude.{◌≡◌, IfOk, OnErr};
+ghost use Rattle.std.specs.Prelude.{◌≡◌, Some, IfOk, OnErr};
 ghost use Rattle.scc_contents.specs.Contents.{entries};
 ghost use Rattle.scc_contents.specs.Pairs.{find};
 ghost use Rattle.scc_contents.specs.Copies.{IsCopied};
@@ -14,7 +14,8 @@ impl<K: Eq + Hash, V, H: BuildHasher> Owned<K, V, H> {
     where
         V: Clone,
         ensures ok { IfOk result (IsCopied (λ p w. V.is_clone p.1 w) (find K.eq (entries self.now) k.now)) }
-        ensures err { OnErr result ((v : V) × (V.is_infallible v → ⊥)) }
+        ensures err { OnErr result ((p : K × V) × (find K.eq (entries self.now) k.now ≡ Some p)
+            × (V.is_infallible p.1 → ⊥)) }
     {
         let hash = self.table.hash(k);
         match self.table.find(hash, k) {
@@ -28,7 +29,8 @@ impl<K: Eq + Hash, V, H: BuildHasher> Owned<K, V, H> {
     where
         K: Clone,
         ensures ok { IfOk result (IsCopied (λ p l. K.is_clone p.0 l) (find K.eq (entries self.now) k.now)) }
-        ensures err { OnErr result ((l : K) × (K.is_infallible l → ⊥)) }
+        ensures err { OnErr result ((p : K × V) × (find K.eq (entries self.now) k.now ≡ Some p)
+            × (K.is_infallible p.0 → ⊥)) }
     {
         let hash = self.table.hash(k);
         match self.table.find(hash, k) {
@@ -44,7 +46,8 @@ impl<K: Eq + Hash, V, H: BuildHasher> Owned<K, V, H> {
         V: Clone,
         ensures ok { IfOk result (IsCopied (λ p q. K.is_clone p.0 q.0 × V.is_clone p.1 q.1)
             (find K.eq (entries self.now) k.now)) }
-        ensures err { OnErr result ((p : K × V) × (K.is_infallible p.0 × V.is_infallible p.1 → ⊥)) }
+        ensures err { OnErr result ((p : K × V) × (find K.eq (entries self.now) k.now ≡ Some p)
+            × (K.is_infallible p.0 × V.is_infallible p.1 → ⊥)) }
     {
         let hash = self.table.hash(k);
         match self.table.find(hash, k) {

@@ -1,5 +1,5 @@
 //! Clones of what a set holds.
-ghost use Rattle.std.specs.Prelude.{◌≡◌, IfOk, OnErr};
+ghost use Rattle.std.specs.Prelude.{◌≡◌, Some, IfOk, OnErr};
 ghost use Rattle.scc_contents.specs.Contents.{entries};
 ghost use Rattle.scc_set.specs.Keys.{find};
 ghost use Rattle.scc_contents.specs.Copies.{IsCopied};
@@ -14,7 +14,7 @@ impl<K: Eq + Hash, H: BuildHasher> Owned<K, H> {
     where
         K: Clone,
         ensures ok { IfOk result (IsCopied K.is_clone (find K.eq (entries self.now) k.now)) }
-        ensures err { OnErr result ((l : K) × (K.is_infallible l → ⊥)) }
+        ensures err { OnErr result ((l : K) × (find K.eq (entries self.now) k.now ≡ Some l) × (K.is_infallible l → ⊥)) }
     {
         self.map.cloned_key(k)
     }

@@ -8,10 +8,14 @@ use Rattle.scc_calls.proofs.Copying.{copied}
 use Rattle.scc_calls.proofs.index_calls.copy.Goals as goal
 
 pub returns-in_default-clause-refused : goal.returns-in_default-clause-refused
-returns-in_default-clause-refused g c = (rw c.in-Insert.is refl, (Exists c.in-Insert.k c.in-Insert.v, λ h. c.in_default.ensures.cases h.0))
+returns-in_default-clause-refused g c =
+    let there : IsSome (find g.K.PartialEq.eq (entries c.args.index.now) c.in-Insert.k) = search rules in
+    (rw c.in-Insert.is refl, rw (c.in-Insert.is, there) (λ h. c.in_default.ensures.cases h.0))
 
 pub returns-in_default-clone-clause-refused : goal.returns-in_default-clone-clause-refused
-returns-in_default-clone-clause-refused g c = (rw c.in-Insert.is refl, (Exists c.in-Insert.k c.in-Insert.v, λ h. c.in_default-clone.ensures.cases h.1))
+returns-in_default-clone-clause-refused g c =
+    let there : IsSome (find g.K.PartialEq.eq (entries c.args.index.now) c.in-Insert.k) = search rules in
+    (rw c.in-Insert.is refl, rw (c.in-Insert.is, there) (λ h. c.in_default-clone.ensures.cases h.1))
 
 pub returns-in-Ok-clone-clause-ok : goal.returns-in-Ok-clone-clause-ok
 returns-in-Ok-clone-clause-ok g c =
@@ -25,4 +29,4 @@ pub returns-in-Len-clause-ok : goal.returns-in-Len-clause-ok
 returns-in-Len-clause-ok g c = rw c.in-Len.is (let e = c.len.ensures.len in grind (arith, nat_tests, e))
 
 pub returns-in-Err-clause-refused : goal.returns-in-Err-clause-refused
-returns-in-Err-clause-refused g c = (rw c.in-Read.is refl, (Value (Some c.in-Err.ensures.err.0), λ h. c.in-Err.ensures.err.1 h))
+returns-in-Err-clause-refused g c = (rw c.in-Read.is refl, rw (c.in-Read.is, c.in-Err.ensures.err.1.0) (λ h. c.in-Err.ensures.err.1.1 h))

@@ -1,7 +1,8 @@
 use Rattle.std.proofs.Common.{rules, ◌≡◌, ◌∙◌, ◌++◌, ◌∷◌, [], suc, refl, sym, ap, drop, length, arith, append_assoc, append-nil, length-append, add-one, drop-cons, inl, inr}
 use Rattle.std.proofs.lemmas.Option.{slice_get_read}
+use Rattle.scc_calls.specs.Copies.{ByClone}
 use Rattle.scc_calls.specs.Run.{done}
-use Rattle.scc_calls.proofs.Runs.{changes, changes-as, rests, stays-same, when_err}
+use Rattle.scc_calls.proofs.Runs.{changes, changes-by, rests, stays-same, when_err}
 use Rattle.scc_calls.proofs.running.run.Goals as goal
 
 pub returns-then-is_err-clause-run : goal.returns-then-is_err-clause-run
@@ -66,11 +67,10 @@ loop-call-preserved g c =
     let rest : drop c.loop-call.call-index c.args.calls.now ≡ c.call-item.result ∷ drop (suc c.loop-call.call-index) c.args.calls.now =
     drop-cons c.args.calls.now c.loop-call.call-index c.call-item.result c.loop-call-test.true ∙ ap (λ x. x ∷ drop (suc c.loop-call.call-index) c.args.calls.now) (sym c.call-item.is) in
     let made = rw c.loop-call.invariant.setting at c.in_ok-reply.ensures.ok in
-    let equal = g.met.C.Call.PartialEq.laws.symm c.in-Ok.copy c.call-item.result ∙ (c.requires.calls c.call-item.result c.in-Ok.copy c.in-Ok.ensures.cases) in
     let old = g.C.Calls.state c.loop-call.c in
     let new = g.C.Calls.state c.call.new.self in
     let setting = g.C.Calls.setting c.args.c.now in
-    let step = changes-as g.C.Calls.size (g.C.Calls.resizes setting) (g.C.Calls.moves setting) c.in-Ok.copy c.call-item.result c.in_ok-reply.reply c.in_ok-reply.reply old new (λ s t. g.met.C.Calls.moves_alike setting s t c.in-Ok.copy c.call-item.result c.in_ok-reply.reply c.in_ok-reply.reply g.met.C.Call.PartialEq.laws g.met.C.Reply.PartialEq.laws (inr equal) (inl refl)) made in
+    let step = changes-by g.C.Calls.size (g.C.Calls.resizes setting) (g.C.Calls.moves setting) (ByClone g.C.Call.Clone.is_clone (g.C.Calls.moves setting)) c.in-Ok.copy c.call-item.result c.in_ok-reply.reply c.in_ok-reply.reply old new (λ s t h. (c.in-Ok.copy, c.in-Ok.ensures.cases, h)) made in
     record {
       setting = c.call.ensures.setting ∙ c.loop-call.invariant.setting;
       made = (

@@ -13,7 +13,9 @@ returns-in-Ok-clause-ok g c =
     rw (c.in-Insert.is, there) (c.requires.clones (Exists c.in-Insert.k tt) (Exists c.in-Ok.key tt) (c.in-Ok.ensures.cases, refl))
 
 pub returns-in-Err-clause-refused : goal.returns-in-Err-clause-refused
-returns-in-Err-clause-refused g c = (rw c.in-Insert.is refl, (Exists c.in-Insert.k tt, λ h. c.in-Err.ensures.cases h.0))
+returns-in-Err-clause-refused g c =
+    let there : IsSome (find g.K.PartialEq.eq (entries c.args.set.now) c.in-Insert.k) = search rules in
+    (rw c.in-Insert.is refl, rw (c.in-Insert.is, there) (λ h. c.in-Err.ensures.cases h.0))
 
 pub returns-in-Len-clause-ok : goal.returns-in-Len-clause-ok
 returns-in-Len-clause-ok g c = rw c.in-Len.is (let e = c.len.ensures.len in grind (arith, nat_tests, e))

@@ -8,10 +8,12 @@ use Rattle.scc_cache.proofs.Entries.{moved-written}
 use Rattle.scc_calls.specs.CacheCalls.{cache_setting, CacheMoves, CacheResizes}
 use Rattle.scc_calls.specs.Changes.{Changes}
 use Rattle.scc_calls.specs.declared.calls_as_values.CacheCall.TheVariants.{Put, Get, Write, Replace, Remove, Read, Contains, Clear, Len}
+use Rattle.scc_calls.specs.Stems.{ClonesValue}
+use Rattle.scc_calls.specs.declared.replies.Reply.{Reply}
 use Rattle.scc_calls.specs.declared.replies.Reply.TheVariants.{Evicted, Exists, Old, Key, Pair, Value, Has, Cleared, Count}
 use Rattle.scc_calls.proofs.CacheCalls.{put-changes, exists-changes, memory-refused, remove-changes, clear-changes, contains-changes, len-changes, get-changes, get-moves, replace-changes, replace-moves, write-changes, write-moves}
-use Rattle.scc_calls.proofs.CacheReplies.{answers-given, answers-made, clear-less, means-given, means-made, moves-same, put-more, put-once, read-moves, refresh-same, remove-less}
-use Rattle.scc_calls.proofs.Copying.{copied}
+use Rattle.scc_calls.proofs.CacheReplies.{answers-given, answers-made, answers-own, changes-answer, clear-less, moves-same, put-more, put-once, read-moves, refresh-same, remove-less}
+use Rattle.scc_calls.proofs.Copying.{copied, copied-part}
 use Rattle.scc_calls.proofs.cache_calls.OwnedCalls.call.Goals as goal
 
 pub returns-in-Ok : goal.returns-in-Ok
@@ -22,7 +24,7 @@ returns-in-Ok g c =
     let raw : Changes length (CacheMoves eq (number_in hash s.contents)) (CacheResizes (cache_setting s) (number_in hash s.contents)) (lists_of s.contents) (Put c.in-Put.k c.in-Put.v) (Evicted c.in-Ok.evicted) (lists_of c.put_sync.new.self.contents) = put-changes hash eq s c.put_sync.new.self c.in-Put.k c.in-Put.v c.in-Ok.evicted c.in-Ok.ensures.step c.in-Ok.ensures.state.within in
     record {
       setting = (search rules);
-      ok = (means-made c.equals.ensures c.equals-2.ensures hash eq s c.put_sync.new.self c.args.call (Put c.in-Put.k c.in-Put.v) c.in-Put.is (Evicted c.in-Ok.evicted) raw);
+      ok = (answers-own g.V.Clone.is_clone hash eq s c.put_sync.new.self c.args.call (Put c.in-Put.k c.in-Put.v) c.in-Put.is (Evicted c.in-Ok.evicted) (Evicted c.in-Ok.evicted) refl raw);
       err = (search rules);
       refused = (search rules);
       answer = (
@@ -43,7 +45,7 @@ returns-in-Err-Exists g c =
     let raw : Changes length (CacheMoves eq (number_in hash s.contents)) (CacheResizes (cache_setting s) (number_in hash s.contents)) (lists_of s.contents) (Put c.in-Put.k c.in-Put.v) (Exists c.in-Err-Exists.k c.in-Err-Exists.v) (lists_of c.put_sync.new.self.contents) = exists-changes hash eq s c.put_sync.new.self c.in-Put.k c.in-Put.v (c.in-Err-Exists.k, c.in-Err-Exists.v) step in
     record {
       setting = (search rules);
-      ok = (means-made c.equals.ensures c.equals-2.ensures hash eq s c.put_sync.new.self c.args.call (Put c.in-Put.k c.in-Put.v) c.in-Put.is (Exists c.in-Err-Exists.k c.in-Err-Exists.v) raw);
+      ok = (answers-own g.V.Clone.is_clone hash eq s c.put_sync.new.self c.args.call (Put c.in-Put.k c.in-Put.v) c.in-Put.is (Exists c.in-Err-Exists.k c.in-Err-Exists.v) (Exists c.in-Err-Exists.k c.in-Err-Exists.v) refl raw);
       err = (search rules);
       refused = (search rules);
       answer = (
@@ -83,7 +85,10 @@ returns-in-Some g c =
       ok = (
           let m : CacheMoves eq (number_in hash s.contents) (lists_of s.contents) (Get c.in-Get.k) (Value (Some (occupied_pair c.in-Some._entry).1)) (lists_of c.in-Some._entry.guard.now.contents) = get-moves hash eq s c.in-Some._entry.guard.now c.in-Get.k (occupied_pair c.in-Some._entry) (occupied_pair c.in-Some._entry).1 refl c.in-Some.ensures.entry.changes in
           let n = refresh-same hash eq s c.in-Some._entry.guard.now c.in-Get.k (occupied_pair c.in-Some._entry) (occupied_pair c.in-Some._entry) c.in-Some.ensures.entry.changes in
-          inl (search (rules, n), (c.args.call, Value (Some (occupied_pair c.in-Some._entry).1), inl refl, inr same, rw c.in-Get.is (moves-same eq (number_in hash s.contents) (lists_of s.contents) (lists_of c.in-Some._entry.guard.now.contents) _ (Get c.in-Get.k) (Value (Some (occupied_pair c.in-Some._entry).1)) m (search rules)))));
+          let here : ClonesValue g.V.Clone.is_clone (Value (Some (occupied_pair c.in-Some._entry).1)) (Value c.in-Ok-cloned_value.value) =
+          subst (λ (r : Reply g.row.K.Denot g.row.V.Denot). ClonesValue g.V.Clone.is_clone r (Value c.in-Ok-cloned_value.value)) (changes-answer eq (number_in hash s.contents) (CacheResizes (cache_setting s) (number_in hash s.contents)) (lists_of s.contents) (lists_of c.in-Some._entry.guard.now.contents) (Get c.in-Get.k) (Value (Some (occupied_pair c.in-Some._entry).1)) less raw)
+          (copied-part g.V.Clone.is_clone (λ p. p.1) (pair_of hash eq s.contents c.in-Get.k) c.in-Ok-cloned_value.value c.in-Ok-cloned_value.ensures.ok) in
+          inl (search (rules, n), (Value (Some (occupied_pair c.in-Some._entry).1), rw c.in-Get.is here, rw c.in-Get.is (moves-same eq (number_in hash s.contents) (lists_of s.contents) (lists_of c.in-Some._entry.guard.now.contents) _ (Get c.in-Get.k) (Value (Some (occupied_pair c.in-Some._entry).1)) m (search rules)))));
       err = (search rules);
       refused = (search rules);
       answer = (λ copy ready. answers-given c.equals.ensures c.equals-2.ensures hash eq s c.in-Some._entry.guard.now c.args.call (Get c.in-Get.k) c.in-Get.is (Value (Some (occupied_pair c.in-Some._entry).1)) raw (Value c.in-Ok-cloned_value.value) copy same less ready.1);
@@ -100,7 +105,7 @@ returns-in-Ok-cloned_value g c =
       setting = (search rules);
       ok = (
           let m : CacheMoves eq (number_in hash s.contents) (lists_of s.contents) (Get c.in-Get.k) (Value None) (lists_of s.contents) = (c.in-None.ensures.missing, refl) in
-          inl (search rules, (c.args.call, Value None, inl refl, inl refl, rw c.in-Get.is (search (rules, m)))));
+          inl (search rules, (Value None, rw c.in-Get.is tt, rw c.in-Get.is (search (rules, m)))));
       err = (search rules);
       refused = (search rules);
       answer = (
@@ -117,7 +122,7 @@ returns-in-Get g c =
       setting = (search rules);
       ok = (search rules);
       err = (search rules);
-      refused = (inr (rw c.in-Get.is refl, (Value (Some c.in-Err.ensures.err.0), λ h. c.in-Err.ensures.err.1 h)));
+      refused = (inr (rw c.in-Get.is refl, rw (c.in-Get.is, c.in-Err.ensures.err.1.0) (λ h. c.in-Err.ensures.err.1.1 h)));
       answer = (search rules);
       made = (search rules);
       kept = (search rules);
@@ -134,7 +139,7 @@ returns-in-Occupied g c =
       ok = (
           let m : CacheMoves eq (number_in hash s.contents) (lists_of s.contents) (Write c.in-Write.k c.in-Write.v) (Old (Some c.put.result)) (lists_of c.put.new.self.guard.now.contents) = write-moves hash eq s c.put.new.self.guard.now c.in-Write.k (occupied_pair c.in-Occupied.entry) c.put.result c.in-Write.v c.put.ensures.old (moved-written eq s c.in-Write.k (occupied_pair c.in-Occupied.entry) c.in-Occupied.entry c.put.new.self c.in-Write.v c.in-Occupied.ensures.entry c.put.ensures.written) in
           let n = refresh-same hash eq s c.put.new.self.guard.now c.in-Write.k (occupied_pair c.in-Occupied.entry) ((occupied_pair c.in-Occupied.entry).0, c.in-Write.v) (moved-written eq s c.in-Write.k (occupied_pair c.in-Occupied.entry) c.in-Occupied.entry c.put.new.self c.in-Write.v c.in-Occupied.ensures.entry c.put.ensures.written) in
-          inl (search (rules, n), (c.args.call, Old (Some c.put.result), inl refl, inl refl, rw c.in-Write.is (moves-same eq (number_in hash s.contents) (lists_of s.contents) (lists_of c.put.new.self.guard.now.contents) _ (Write c.in-Write.k c.in-Write.v) (Old (Some c.put.result)) m (search rules)))));
+          inl (search (rules, n), (Old (Some c.put.result), rw c.in-Write.is refl, rw c.in-Write.is (moves-same eq (number_in hash s.contents) (lists_of s.contents) (lists_of c.put.new.self.guard.now.contents) _ (Write c.in-Write.k c.in-Write.v) (Old (Some c.put.result)) m (search rules)))));
       err = (search rules);
       refused = (search rules);
       answer = (
@@ -148,7 +153,7 @@ pub returns-in-Write : goal.returns-in-Write
 returns-in-Write g c =
     record {
       setting = (search rules);
-      ok = (inl (search rules, (c.args.call, Old None, inl refl, inl refl, rw c.in-Write.is (search rules))));
+      ok = (inl (search rules, (Old None, rw c.in-Write.is refl, rw c.in-Write.is (search rules))));
       err = (search rules);
       refused = (search rules);
       answer = (
@@ -173,7 +178,7 @@ returns-in-Replaced g c =
       ok = (
           let m : CacheMoves eq (number_in hash s.contents) (lists_of s.contents) (Replace c.in-Replace.k) (Key (Some c.in-Replaced.old)) (lists_of c.in-Replaced._entry.guard.now.contents) = replace-moves hash eq s c.in-Replaced._entry.guard.now c.in-Replace.k c.in-Replaced.old c.in-Replaced.ensures.step.value (occupied_pair c.in-Replaced._entry) c.in-Replaced.ensures.step.pair c.in-Replaced.ensures.step.moved.changes in
           let n = refresh-same hash eq s c.in-Replaced._entry.guard.now c.in-Replace.k (c.in-Replaced.old, c.in-Replaced.ensures.step.value) (occupied_pair c.in-Replaced._entry) c.in-Replaced.ensures.step.moved.changes in
-          inl (search (rules, n), (c.args.call, Key (Some c.in-Replaced.old), inl refl, inl refl, rw c.in-Replace.is (moves-same eq (number_in hash s.contents) (lists_of s.contents) (lists_of c.in-Replaced._entry.guard.now.contents) _ (Replace c.in-Replace.k) (Key (Some c.in-Replaced.old)) m (search rules)))));
+          inl (search (rules, n), (Key (Some c.in-Replaced.old), rw c.in-Replace.is refl, rw c.in-Replace.is (moves-same eq (number_in hash s.contents) (lists_of s.contents) (lists_of c.in-Replaced._entry.guard.now.contents) _ (Replace c.in-Replace.k) (Key (Some c.in-Replaced.old)) m (search rules)))));
       err = (search rules);
       refused = (search rules);
       answer = (
@@ -187,7 +192,7 @@ pub returns-in-Replace : goal.returns-in-Replace
 returns-in-Replace g c =
     record {
       setting = (search rules);
-      ok = (inl (search rules, (c.args.call, Key None, inl refl, inl refl, rw c.in-Replace.is (search rules))));
+      ok = (inl (search rules, (Key None, rw c.in-Replace.is refl, rw c.in-Replace.is (search rules))));
       err = (search rules);
       refused = (search rules);
       answer = (
@@ -210,7 +215,7 @@ returns-in-Remove g c =
     let less : length (lists_of c.remove_sync.new.self.contents) ≤ length (lists_of s.contents) = remove-less hash eq s c.remove_sync.new.self c.in-Remove.k c.remove_sync.result c.remove_sync.ensures.step in
     record {
       setting = (search rules);
-      ok = (means-made c.equals.ensures c.equals-2.ensures hash eq s c.remove_sync.new.self c.args.call (Remove c.in-Remove.k) c.in-Remove.is (Pair c.remove_sync.result) raw);
+      ok = (answers-own g.V.Clone.is_clone hash eq s c.remove_sync.new.self c.args.call (Remove c.in-Remove.k) c.in-Remove.is (Pair c.remove_sync.result) (Pair c.remove_sync.result) refl raw);
       err = (search rules);
       refused = (search rules);
       answer = (λ copy ready. answers-made c.equals.ensures c.equals-2.ensures hash eq s c.remove_sync.new.self c.args.call (Remove c.in-Remove.k) c.in-Remove.is (Pair c.remove_sync.result) raw copy less ready.1);
@@ -228,7 +233,7 @@ returns-in-Ok-cloned_value-2 g c =
     let same = answers-made c.equals.ensures c.equals-2.ensures hash eq s s (Read c.in-Read.k) (Read c.in-Read.k) refl (Value (option_map (λ p. p.1) (pair_of hash eq s.contents c.in-Read.k))) raw (Value c.in-Ok-cloned_value-2.value) less (copied c.requires.clones Value _ (λ p. p.1) refl (λ x y h. h) (pair_of hash eq s.contents c.in-Read.k) c.in-Ok-cloned_value-2.value c.in-Ok-cloned_value-2.ensures.ok) in
     record {
       setting = (search rules);
-      ok = (means-given c.equals.ensures c.equals-2.ensures hash eq s s c.args.call (Read c.in-Read.k) c.in-Read.is (Value (option_map (λ p. p.1) (pair_of hash eq s.contents c.in-Read.k))) raw (Value c.in-Ok-cloned_value-2.value) (inr same));
+      ok = (answers-own g.V.Clone.is_clone hash eq s s c.args.call (Read c.in-Read.k) c.in-Read.is (Value (option_map (λ p. p.1) (pair_of hash eq s.contents c.in-Read.k))) (Value c.in-Ok-cloned_value-2.value) (copied-part g.V.Clone.is_clone (λ p. p.1) (pair_of hash eq s.contents c.in-Read.k) c.in-Ok-cloned_value-2.value c.in-Ok-cloned_value-2.ensures.ok) raw);
       err = (search rules);
       refused = (search rules);
       answer = (λ copy ready. answers-given c.equals.ensures c.equals-2.ensures hash eq s s c.args.call (Read c.in-Read.k) c.in-Read.is (Value (option_map (λ p. p.1) (pair_of hash eq s.contents c.in-Read.k))) raw (Value c.in-Ok-cloned_value-2.value) copy same less ready.1);
@@ -242,7 +247,7 @@ returns-in-Read g c =
       setting = (search rules);
       ok = (search rules);
       err = (search rules);
-      refused = (inr (rw c.in-Read.is refl, (Value (Some c.in-Err-cloned_value.ensures.err.0), λ h. c.in-Err-cloned_value.ensures.err.1 h)));
+      refused = (inr (rw c.in-Read.is refl, rw (c.in-Read.is, c.in-Err-cloned_value.ensures.err.1.0) (λ h. c.in-Err-cloned_value.ensures.err.1.1 h)));
       answer = (search rules);
       made = (search rules);
       kept = (search rules);
@@ -256,7 +261,7 @@ returns-in-Contains g c =
     let raw : Changes length (CacheMoves eq (number_in hash s.contents)) (CacheResizes (cache_setting s) (number_in hash s.contents)) (lists_of s.contents) (Contains c.in-Contains.k) (Has c.contains_sync.result) (lists_of s.contents) = contains-changes hash eq s c.in-Contains.k c.contains_sync.result c.contains_sync.ensures.yes c.contains_sync.ensures.no in
     record {
       setting = (search rules);
-      ok = (means-made c.equals.ensures c.equals-2.ensures hash eq s s c.args.call (Contains c.in-Contains.k) c.in-Contains.is (Has c.contains_sync.result) raw);
+      ok = (answers-own g.V.Clone.is_clone hash eq s s c.args.call (Contains c.in-Contains.k) c.in-Contains.is (Has c.contains_sync.result) (Has c.contains_sync.result) refl raw);
       err = (search rules);
       refused = (search rules);
       answer = (
@@ -275,7 +280,7 @@ returns-in-Clear g c =
       setting = (search rules);
       ok = (
           let raw : Changes length (CacheMoves eq (number_in hash s.contents)) (CacheResizes (cache_setting s) (number_in hash s.contents)) (lists_of s.contents) (Clear) (Cleared) (lists_of c.clear_sync.new.self.contents) = clear-changes hash eq s c.clear_sync.new.self c.clear_sync.ensures.step c.clear_sync.ensures.state.lists.short c.clear_sync.ensures.state.within in
-          means-made c.equals.ensures c.equals-2.ensures hash eq s c.clear_sync.new.self c.args.call (Clear) c.in-Clear.is (Cleared) raw);
+          answers-own g.V.Clone.is_clone hash eq s c.clear_sync.new.self c.args.call (Clear) c.in-Clear.is (Cleared) (Cleared) refl raw);
       err = (search rules);
       refused = (search rules);
       answer = (search rules);
@@ -293,7 +298,7 @@ returns g c =
     let raw : Changes length (CacheMoves eq (number_in hash s.contents)) (CacheResizes (cache_setting s) (number_in hash s.contents)) (lists_of s.contents) (Len) (Count c.len.result) (lists_of s.contents) = len-changes hash eq s c.len.result c.len.ensures.len in
     record {
       setting = (search rules);
-      ok = (means-made c.equals.ensures c.equals-2.ensures hash eq s s c.args.call (Len) c.in-Len.is (Count c.len.result) raw);
+      ok = (answers-own g.V.Clone.is_clone hash eq s s c.args.call (Len) c.in-Len.is (Count c.len.result) (Count c.len.result) refl raw);
       err = (search rules);
       refused = (search rules);
       answer = (

@@ -4,10 +4,12 @@ use Rattle.std.specs.Option.{option_map}
 use Rattle.scc_contents.specs.Contents.{Contents, entries}
 use Rattle.scc_contents.specs.Pairs.{find}
 use Rattle.scc_calls.specs.Changes.{Changes}
+use Rattle.scc_calls.specs.Means.{answered}
+use Rattle.scc_calls.specs.Stems.{IndexStems}
 use Rattle.scc_calls.specs.IndexCalls.{IndexMoves}
 use Rattle.scc_calls.specs.States.{State, ResizesTo, setting_of, state_of}
 use Rattle.scc_calls.specs.declared.replies.Reply.TheVariants.{Inserted, Exists, Value, Has, Cleared, Count}
-use Rattle.scc_calls.proofs.Copying.{copied}
+use Rattle.scc_calls.proofs.Copying.{copied, copied-part}
 use Rattle.scc_calls.proofs.IndexCalls.{cleared, inserted, removed, updated}
 use Rattle.scc_calls.proofs.index_calls.OwnedCalls.call.Goals as goal
 
@@ -16,14 +18,8 @@ returns-in-Ok g c =
     record {
       setting = (search rules);
       ok = (
-          let raw : Changes (λ (s : State (g.row.K.Denot × g.row.V.Denot)). s.1) (IndexMoves g.K.PartialEq.eq) (ResizesTo (setting_of c.args.self.now)) (state_of c.args.self.now) c.args.call Inserted (state_of c.insert_sync.new.self) = rw c.in-Insert.is (inserted g.K.PartialEq.eq c.args.self.now c.insert_sync.new.self c.in-Insert.k c.in-Insert.v c.in-Ok.field-0 c.in-Ok.ensures.step) in
-          (elim raw [
-            | inl x ↦ inl (x.0, (c.args.call, Inserted, inl refl, inl refl, x.1))
-            | inr y ↦ elim y [
-              | inl z ↦ inr (inl (z.0, (z.1.0, z.1.1, (c.args.call, Inserted, inl refl, inl refl, z.1.2))))
-              | inr z ↦ inr (inr (z.0, (z.1.0, (c.args.call, Inserted, inl refl, inl refl, z.1.1), z.1.2)))
-            ]
-          ]));
+          let raw : Changes (λ (s : State (g.row.K.Denot × g.row.V.Denot)). s.1) (IndexMoves g.K.PartialEq.eq g.K.Clone.is_clone) (ResizesTo (setting_of c.args.self.now)) (state_of c.args.self.now) c.args.call Inserted (state_of c.insert_sync.new.self) = rw c.in-Insert.is (inserted g.K.PartialEq.eq g.K.Clone.is_clone c.args.self.now c.insert_sync.new.self c.in-Insert.k c.in-Insert.v c.in-Ok.field-0 c.in-Ok.ensures.step) in
+          answered (IndexStems g.V.Clone.is_clone) (IndexMoves g.K.PartialEq.eq g.K.Clone.is_clone) (λ (s : State (g.row.K.Denot × g.row.V.Denot)). s.1) (ResizesTo (setting_of c.args.self.now)) _ _ c.args.call Inserted Inserted (rw c.in-Insert.is refl) raw);
       err = (search rules);
       refused = (search rules);
       answer = (search rules);
@@ -36,14 +32,8 @@ returns-in-Err-Exists g c =
     record {
       setting = (search rules);
       ok = (
-          let raw : Changes (λ (s : State (g.row.K.Denot × g.row.V.Denot)). s.1) (IndexMoves g.K.PartialEq.eq) (ResizesTo (setting_of c.args.self.now)) (state_of c.args.self.now) c.args.call (Exists c.in-Err-Exists.k c.in-Err-Exists.v) (state_of c.insert_sync.new.self) = search rules in
-          (elim raw [
-            | inl x ↦ inl (x.0, (c.args.call, (Exists c.in-Err-Exists.k c.in-Err-Exists.v), inl refl, inl refl, x.1))
-            | inr y ↦ elim y [
-              | inl z ↦ inr (inl (z.0, (z.1.0, z.1.1, (c.args.call, (Exists c.in-Err-Exists.k c.in-Err-Exists.v), inl refl, inl refl, z.1.2))))
-              | inr z ↦ inr (inr (z.0, (z.1.0, (c.args.call, (Exists c.in-Err-Exists.k c.in-Err-Exists.v), inl refl, inl refl, z.1.1), z.1.2)))
-            ]
-          ]));
+          let raw : Changes (λ (s : State (g.row.K.Denot × g.row.V.Denot)). s.1) (IndexMoves g.K.PartialEq.eq g.K.Clone.is_clone) (ResizesTo (setting_of c.args.self.now)) (state_of c.args.self.now) c.args.call (Exists c.in-Err-Exists.k c.in-Err-Exists.v) (state_of c.insert_sync.new.self) = search rules in
+          answered (IndexStems g.V.Clone.is_clone) (IndexMoves g.K.PartialEq.eq g.K.Clone.is_clone) (λ (s : State (g.row.K.Denot × g.row.V.Denot)). s.1) (ResizesTo (setting_of c.args.self.now)) _ _ c.args.call (Exists c.in-Err-Exists.k c.in-Err-Exists.v) (Exists c.in-Err-Exists.k c.in-Err-Exists.v) (rw c.in-Insert.is refl) raw);
       err = (search rules);
       refused = (search rules);
       answer = (search rules);
@@ -56,16 +46,10 @@ returns-in-Ok-update g c =
     record {
       setting = (search rules);
       ok = (
-          let raw : Changes (λ (s : State (g.row.K.Denot × g.row.V.Denot)). s.1) (IndexMoves g.K.PartialEq.eq) (ResizesTo (setting_of c.args.self.now)) (state_of c.args.self.now) c.args.call (Has true) (state_of c.self-1.given.0) = let still : c.update.new.self.guard.ghost_name ≡ c.in-Some.entry.guard.ghost_name = ap (λ (m : MutBor (Contents (g.row.K.Denot × g.row.V.Denot) g.row.H.Denot)). m.ghost_name) c.in-Ok-update.ensures.updated.same_guard in
+          let raw : Changes (λ (s : State (g.row.K.Denot × g.row.V.Denot)). s.1) (IndexMoves g.K.PartialEq.eq g.K.Clone.is_clone) (ResizesTo (setting_of c.args.self.now)) (state_of c.args.self.now) c.args.call (Has true) (state_of c.self-1.given.0) = let still : c.update.new.self.guard.ghost_name ≡ c.in-Some.entry.guard.ghost_name = ap (λ (m : MutBor (Contents (g.row.K.Denot × g.row.V.Denot) g.row.H.Denot)). m.ghost_name) c.in-Ok-update.ensures.updated.same_guard in
           let now = c.self-1.given.1 (sym c.in-Some.ensures.same_index ∙ sym still) in
           rw (now, c.in-Update.is) (updated g.met.K.Eq.laws g.K.Clone.is_clone c.args.self.now c.in-Update.k c.in-Update.v c.in-Some.entry c.update.new.self c.in-Some.ensures.entry c.in-Ok-update.ensures.updated) in
-          (elim raw [
-            | inl x ↦ inl (x.0, (c.args.call, (Has true), inl refl, inl refl, x.1))
-            | inr y ↦ elim y [
-              | inl z ↦ inr (inl (z.0, (z.1.0, z.1.1, (c.args.call, (Has true), inl refl, inl refl, z.1.2))))
-              | inr z ↦ inr (inr (z.0, (z.1.0, (c.args.call, (Has true), inl refl, inl refl, z.1.1), z.1.2)))
-            ]
-          ]));
+          answered (IndexStems g.V.Clone.is_clone) (IndexMoves g.K.PartialEq.eq g.K.Clone.is_clone) (λ (s : State (g.row.K.Denot × g.row.V.Denot)). s.1) (ResizesTo (setting_of c.args.self.now)) _ _ c.args.call (Has true) (Has true) (rw c.in-Update.is refl) raw);
       err = (search rules);
       refused = (search rules);
       answer = (search rules);
@@ -78,14 +62,8 @@ returns-in-Update g c =
     record {
       setting = (search rules);
       ok = (
-          let raw : Changes (λ (s : State (g.row.K.Denot × g.row.V.Denot)). s.1) (IndexMoves g.K.PartialEq.eq) (ResizesTo (setting_of c.args.self.now)) (state_of c.args.self.now) c.args.call (Has false) (state_of c.get_sync.follows.lender-at-none) = search rules in
-          (elim raw [
-            | inl x ↦ inl (x.0, (c.args.call, (Has false), inl refl, inl refl, x.1))
-            | inr y ↦ elim y [
-              | inl z ↦ inr (inl (z.0, (z.1.0, z.1.1, (c.args.call, (Has false), inl refl, inl refl, z.1.2))))
-              | inr z ↦ inr (inr (z.0, (z.1.0, (c.args.call, (Has false), inl refl, inl refl, z.1.1), z.1.2)))
-            ]
-          ]));
+          let raw : Changes (λ (s : State (g.row.K.Denot × g.row.V.Denot)). s.1) (IndexMoves g.K.PartialEq.eq g.K.Clone.is_clone) (ResizesTo (setting_of c.args.self.now)) (state_of c.args.self.now) c.args.call (Has false) (state_of c.get_sync.follows.lender-at-none) = search rules in
+          answered (IndexStems g.V.Clone.is_clone) (IndexMoves g.K.PartialEq.eq g.K.Clone.is_clone) (λ (s : State (g.row.K.Denot × g.row.V.Denot)). s.1) (ResizesTo (setting_of c.args.self.now)) _ _ c.args.call (Has false) (Has false) (rw c.in-Update.is refl) raw);
       err = (search rules);
       refused = (search rules);
       answer = (search rules);
@@ -98,14 +76,8 @@ returns-in-Remove g c =
     record {
       setting = (search rules);
       ok = (
-          let raw : Changes (λ (s : State (g.row.K.Denot × g.row.V.Denot)). s.1) (IndexMoves g.K.PartialEq.eq) (ResizesTo (setting_of c.args.self.now)) (state_of c.args.self.now) c.args.call (Has c.remove_sync.result) (state_of c.remove_sync.new.self) = rw c.in-Remove.is (removed g.K.PartialEq.eq c.args.self.now c.remove_sync.new.self c.in-Remove.k c.remove_sync.result c.remove_sync.ensures.step) in
-          (elim raw [
-            | inl x ↦ inl (x.0, (c.args.call, (Has c.remove_sync.result), inl refl, inl refl, x.1))
-            | inr y ↦ elim y [
-              | inl z ↦ inr (inl (z.0, (z.1.0, z.1.1, (c.args.call, (Has c.remove_sync.result), inl refl, inl refl, z.1.2))))
-              | inr z ↦ inr (inr (z.0, (z.1.0, (c.args.call, (Has c.remove_sync.result), inl refl, inl refl, z.1.1), z.1.2)))
-            ]
-          ]));
+          let raw : Changes (λ (s : State (g.row.K.Denot × g.row.V.Denot)). s.1) (IndexMoves g.K.PartialEq.eq g.K.Clone.is_clone) (ResizesTo (setting_of c.args.self.now)) (state_of c.args.self.now) c.args.call (Has c.remove_sync.result) (state_of c.remove_sync.new.self) = rw c.in-Remove.is (removed g.K.PartialEq.eq g.K.Clone.is_clone c.args.self.now c.remove_sync.new.self c.in-Remove.k c.remove_sync.result c.remove_sync.ensures.step) in
+          answered (IndexStems g.V.Clone.is_clone) (IndexMoves g.K.PartialEq.eq g.K.Clone.is_clone) (λ (s : State (g.row.K.Denot × g.row.V.Denot)). s.1) (ResizesTo (setting_of c.args.self.now)) _ _ c.args.call (Has c.remove_sync.result) (Has c.remove_sync.result) (rw c.in-Remove.is refl) raw);
       err = (search rules);
       refused = (search rules);
       answer = (search rules);
@@ -118,14 +90,8 @@ returns-in-Ok-cloned_value g c =
     record {
       setting = (search rules);
       ok = (
-          let raw : Changes (λ (s : State (g.row.K.Denot × g.row.V.Denot)). s.1) (IndexMoves g.K.PartialEq.eq) (ResizesTo (setting_of c.args.self.now)) (state_of c.args.self.now) c.args.call (Value (option_map (λ p. p.1) (find g.K.PartialEq.eq (entries c.args.self.now) c.in-Read.k))) (state_of c.args.self.now) = inl (refl, rw c.in-Read.is (refl, refl)) in
-          (elim raw [
-            | inl x ↦ inl (x.0, (c.args.call, (Value (option_map (λ p. p.1) (find g.K.PartialEq.eq (entries c.args.self.now) c.in-Read.k))), inl refl, inr (copied c.requires.clones Value _ (λ p. p.1) refl (λ x y h. h) (find g.K.PartialEq.eq (entries c.args.self.now) c.in-Read.k) c.in-Ok-cloned_value.value c.in-Ok-cloned_value.ensures.ok), x.1))
-            | inr y ↦ elim y [
-              | inl z ↦ inr (inl (z.0, (z.1.0, z.1.1, (c.args.call, (Value (option_map (λ p. p.1) (find g.K.PartialEq.eq (entries c.args.self.now) c.in-Read.k))), inl refl, inr (copied c.requires.clones Value _ (λ p. p.1) refl (λ x y h. h) (find g.K.PartialEq.eq (entries c.args.self.now) c.in-Read.k) c.in-Ok-cloned_value.value c.in-Ok-cloned_value.ensures.ok), z.1.2))))
-              | inr z ↦ inr (inr (z.0, (z.1.0, (c.args.call, (Value (option_map (λ p. p.1) (find g.K.PartialEq.eq (entries c.args.self.now) c.in-Read.k))), inl refl, inr (copied c.requires.clones Value _ (λ p. p.1) refl (λ x y h. h) (find g.K.PartialEq.eq (entries c.args.self.now) c.in-Read.k) c.in-Ok-cloned_value.value c.in-Ok-cloned_value.ensures.ok), z.1.1), z.1.2)))
-            ]
-          ]));
+          let raw : Changes (λ (s : State (g.row.K.Denot × g.row.V.Denot)). s.1) (IndexMoves g.K.PartialEq.eq g.K.Clone.is_clone) (ResizesTo (setting_of c.args.self.now)) (state_of c.args.self.now) c.args.call (Value (option_map (λ p. p.1) (find g.K.PartialEq.eq (entries c.args.self.now) c.in-Read.k))) (state_of c.args.self.now) = inl (refl, rw c.in-Read.is (refl, refl)) in
+          answered (IndexStems g.V.Clone.is_clone) (IndexMoves g.K.PartialEq.eq g.K.Clone.is_clone) (λ (s : State (g.row.K.Denot × g.row.V.Denot)). s.1) (ResizesTo (setting_of c.args.self.now)) _ _ c.args.call (Value (option_map (λ p. p.1) (find g.K.PartialEq.eq (entries c.args.self.now) c.in-Read.k))) (Value c.in-Ok-cloned_value.value) (rw c.in-Read.is (copied-part g.V.Clone.is_clone (λ p. p.1) (find g.K.PartialEq.eq (entries c.args.self.now) c.in-Read.k) c.in-Ok-cloned_value.value c.in-Ok-cloned_value.ensures.ok)) raw);
       err = (search rules);
       refused = (search rules);
       answer = (
@@ -143,7 +109,7 @@ returns-in-Read g c =
       setting = (search rules);
       ok = (search rules);
       err = (search rules);
-      refused = (inr (rw c.in-Read.is refl, (Value (Some c.in-Err-cloned_value.ensures.err.0), λ h. c.in-Err-cloned_value.ensures.err.1 h)));
+      refused = (inr (rw c.in-Read.is refl, rw (c.in-Read.is, c.in-Err-cloned_value.ensures.err.1.0) (λ h. c.in-Err-cloned_value.ensures.err.1.1 h)));
       answer = (search rules);
       made = (search rules);
       kept = (search rules);
@@ -154,14 +120,8 @@ returns-in-Contains g c =
     record {
       setting = (search rules);
       ok = (
-          let raw : Changes (λ (s : State (g.row.K.Denot × g.row.V.Denot)). s.1) (IndexMoves g.K.PartialEq.eq) (ResizesTo (setting_of c.args.self.now)) (state_of c.args.self.now) c.args.call (Has c.contains.result) (state_of c.args.self.now) = search rules in
-          (elim raw [
-            | inl x ↦ inl (x.0, (c.args.call, (Has c.contains.result), inl refl, inl refl, x.1))
-            | inr y ↦ elim y [
-              | inl z ↦ inr (inl (z.0, (z.1.0, z.1.1, (c.args.call, (Has c.contains.result), inl refl, inl refl, z.1.2))))
-              | inr z ↦ inr (inr (z.0, (z.1.0, (c.args.call, (Has c.contains.result), inl refl, inl refl, z.1.1), z.1.2)))
-            ]
-          ]));
+          let raw : Changes (λ (s : State (g.row.K.Denot × g.row.V.Denot)). s.1) (IndexMoves g.K.PartialEq.eq g.K.Clone.is_clone) (ResizesTo (setting_of c.args.self.now)) (state_of c.args.self.now) c.args.call (Has c.contains.result) (state_of c.args.self.now) = search rules in
+          answered (IndexStems g.V.Clone.is_clone) (IndexMoves g.K.PartialEq.eq g.K.Clone.is_clone) (λ (s : State (g.row.K.Denot × g.row.V.Denot)). s.1) (ResizesTo (setting_of c.args.self.now)) _ _ c.args.call (Has c.contains.result) (Has c.contains.result) (rw c.in-Contains.is refl) raw);
       err = (search rules);
       refused = (search rules);
       answer = (search rules);
@@ -174,14 +134,8 @@ returns-in-Clear g c =
     record {
       setting = (search rules);
       ok = (
-          let raw : Changes (λ (s : State (g.row.K.Denot × g.row.V.Denot)). s.1) (IndexMoves g.K.PartialEq.eq) (ResizesTo (setting_of c.args.self.now)) (state_of c.args.self.now) c.args.call Cleared (state_of c.clear_sync.new.self) = rw c.in-Clear.is (cleared g.K.PartialEq.eq c.args.self.now c.clear_sync.new.self c.clear_sync.ensures.holds) in
-          (elim raw [
-            | inl x ↦ inl (x.0, (c.args.call, Cleared, inl refl, inl refl, x.1))
-            | inr y ↦ elim y [
-              | inl z ↦ inr (inl (z.0, (z.1.0, z.1.1, (c.args.call, Cleared, inl refl, inl refl, z.1.2))))
-              | inr z ↦ inr (inr (z.0, (z.1.0, (c.args.call, Cleared, inl refl, inl refl, z.1.1), z.1.2)))
-            ]
-          ]));
+          let raw : Changes (λ (s : State (g.row.K.Denot × g.row.V.Denot)). s.1) (IndexMoves g.K.PartialEq.eq g.K.Clone.is_clone) (ResizesTo (setting_of c.args.self.now)) (state_of c.args.self.now) c.args.call Cleared (state_of c.clear_sync.new.self) = rw c.in-Clear.is (cleared g.K.PartialEq.eq g.K.Clone.is_clone c.args.self.now c.clear_sync.new.self c.clear_sync.ensures.holds) in
+          answered (IndexStems g.V.Clone.is_clone) (IndexMoves g.K.PartialEq.eq g.K.Clone.is_clone) (λ (s : State (g.row.K.Denot × g.row.V.Denot)). s.1) (ResizesTo (setting_of c.args.self.now)) _ _ c.args.call Cleared Cleared (rw c.in-Clear.is refl) raw);
       err = (search rules);
       refused = (search rules);
       answer = (search rules);
@@ -194,14 +148,8 @@ returns g c =
     record {
       setting = (search rules);
       ok = (
-          let raw : Changes (λ (s : State (g.row.K.Denot × g.row.V.Denot)). s.1) (IndexMoves g.K.PartialEq.eq) (ResizesTo (setting_of c.args.self.now)) (state_of c.args.self.now) c.args.call (Count c.len.result) (state_of c.args.self.now) = search rules in
-          (elim raw [
-            | inl x ↦ inl (x.0, (c.args.call, (Count c.len.result), inl refl, inl refl, x.1))
-            | inr y ↦ elim y [
-              | inl z ↦ inr (inl (z.0, (z.1.0, z.1.1, (c.args.call, (Count c.len.result), inl refl, inl refl, z.1.2))))
-              | inr z ↦ inr (inr (z.0, (z.1.0, (c.args.call, (Count c.len.result), inl refl, inl refl, z.1.1), z.1.2)))
-            ]
-          ]));
+          let raw : Changes (λ (s : State (g.row.K.Denot × g.row.V.Denot)). s.1) (IndexMoves g.K.PartialEq.eq g.K.Clone.is_clone) (ResizesTo (setting_of c.args.self.now)) (state_of c.args.self.now) c.args.call (Count c.len.result) (state_of c.args.self.now) = search rules in
+          answered (IndexStems g.V.Clone.is_clone) (IndexMoves g.K.PartialEq.eq g.K.Clone.is_clone) (λ (s : State (g.row.K.Denot × g.row.V.Denot)). s.1) (ResizesTo (setting_of c.args.self.now)) _ _ c.args.call (Count c.len.result) (Count c.len.result) (rw c.in-Len.is refl) raw);
       err = (search rules);
       refused = (search rules);
       answer = (search rules);

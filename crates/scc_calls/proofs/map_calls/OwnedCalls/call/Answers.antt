@@ -1,13 +1,15 @@
 use Rattle.std.proofs.Common.{Some, None, ◌∙◌, rules, inl, inr, refl}
 use Rattle.scc_contents.specs.Hashing.{hash_of}
 use Rattle.scc_calls.specs.Changes.{Changes}
+use Rattle.scc_calls.specs.Means.{answered}
+use Rattle.scc_calls.specs.Stems.{MapStems}
 use Rattle.scc_calls.specs.MapCalls.{MapMoves}
 use Rattle.scc_calls.specs.States.{State, ResizesTo, setting_of, state_of}
 use Rattle.scc_calls.specs.declared.replies.Reply.TheVariants.{Inserted, Exists, Old, Key, Pair, Value, Has, Cleared, Count}
 use Rattle.std.specs.Option.{option_map}
 use Rattle.scc_contents.specs.Contents.{entries}
 use Rattle.scc_contents.specs.Pairs.{find}
-use Rattle.scc_calls.proofs.Copying.{copied}
+use Rattle.scc_calls.proofs.Copying.{copied, copied-part}
 use Rattle.scc_calls.proofs.MapCalls.{cleared, inserted, upserted, removed, removed-setting}
 use Rattle.scc_calls.proofs.map_calls.OwnedCalls.call.Goals as goal
 
@@ -17,13 +19,7 @@ returns-in-Ok g c =
       setting = (search rules);
       ok = (
           let raw : Changes (λ (s : State (g.row.K.Denot × g.row.V.Denot)). s.1) (MapMoves g.K.PartialEq.eq) (ResizesTo (setting_of c.args.self.now)) (state_of c.args.self.now) c.args.call Inserted (state_of c.insert_sync.new.self) = rw c.in-Insert.is (inserted g.K.PartialEq.eq (λ h k. hash_of g.H.BuildHasher g.H.Hasher.Hasher h (g.K.Hash.hash_input k)) c.args.self.now c.insert_sync.new.self c.in-Insert.k c.in-Insert.v c.in-Ok.field-0 c.in-Ok.ensures.step) in
-          (elim raw [
-            | inl x ↦ inl (x.0, (c.args.call, Inserted, inl refl, inl refl, x.1))
-            | inr y ↦ elim y [
-              | inl z ↦ inr (inl (z.0, (z.1.0, z.1.1, (c.args.call, Inserted, inl refl, inl refl, z.1.2))))
-              | inr z ↦ inr (inr (z.0, (z.1.0, (c.args.call, Inserted, inl refl, inl refl, z.1.1), z.1.2)))
-            ]
-          ]));
+          answered (MapStems g.V.Clone.is_clone) (MapMoves g.K.PartialEq.eq) (λ (s : State (g.row.K.Denot × g.row.V.Denot)). s.1) (ResizesTo (setting_of c.args.self.now)) _ _ c.args.call Inserted Inserted (rw c.in-Insert.is refl) raw);
       err = (search rules);
       refused = (search rules);
       answer = (search rules);
@@ -37,13 +33,7 @@ returns-in-Remove g c =
       setting = (removed-setting g.K.PartialEq.eq c.args.self.now c.remove_sync.new.self c.in-Remove.k c.remove_sync.result c.remove_sync.ensures.step);
       ok = (
           let raw : Changes (λ (s : State (g.row.K.Denot × g.row.V.Denot)). s.1) (MapMoves g.K.PartialEq.eq) (ResizesTo (setting_of c.args.self.now)) (state_of c.args.self.now) c.args.call (Pair c.remove_sync.result) (state_of c.remove_sync.new.self) = rw c.in-Remove.is (removed g.K.PartialEq.eq c.args.self.now c.remove_sync.new.self c.in-Remove.k c.remove_sync.result c.remove_sync.ensures.step) in
-          (elim raw [
-            | inl x ↦ inl (x.0, (c.args.call, (Pair c.remove_sync.result), inl refl, inl refl, x.1))
-            | inr y ↦ elim y [
-              | inl z ↦ inr (inl (z.0, (z.1.0, z.1.1, (c.args.call, (Pair c.remove_sync.result), inl refl, inl refl, z.1.2))))
-              | inr z ↦ inr (inr (z.0, (z.1.0, (c.args.call, (Pair c.remove_sync.result), inl refl, inl refl, z.1.1), z.1.2)))
-            ]
-          ]));
+          answered (MapStems g.V.Clone.is_clone) (MapMoves g.K.PartialEq.eq) (λ (s : State (g.row.K.Denot × g.row.V.Denot)). s.1) (ResizesTo (setting_of c.args.self.now)) _ _ c.args.call (Pair c.remove_sync.result) (Pair c.remove_sync.result) (rw c.in-Remove.is refl) raw);
       err = (search rules);
       refused = (search rules);
       answer = (search rules);
@@ -57,13 +47,7 @@ returns-in-Ok-upsert_sync g c =
       setting = (search rules);
       ok = (
           let raw : Changes (λ (s : State (g.row.K.Denot × g.row.V.Denot)). s.1) (MapMoves g.K.PartialEq.eq) (ResizesTo (setting_of c.args.self.now)) (state_of c.args.self.now) c.args.call (Old c.in-Ok-upsert_sync.old) (state_of c.upsert_sync.new.self) = rw c.in-Upsert.is (upserted g.K.PartialEq.eq (λ h k. hash_of g.H.BuildHasher g.H.Hasher.Hasher h (g.K.Hash.hash_input k)) c.args.self.now c.upsert_sync.new.self c.in-Upsert.k c.in-Upsert.v c.in-Ok-upsert_sync.old c.in-Ok-upsert_sync.ensures.step) in
-          (elim raw [
-            | inl x ↦ inl (x.0, (c.args.call, (Old c.in-Ok-upsert_sync.old), inl refl, inl refl, x.1))
-            | inr y ↦ elim y [
-              | inl z ↦ inr (inl (z.0, (z.1.0, z.1.1, (c.args.call, (Old c.in-Ok-upsert_sync.old), inl refl, inl refl, z.1.2))))
-              | inr z ↦ inr (inr (z.0, (z.1.0, (c.args.call, (Old c.in-Ok-upsert_sync.old), inl refl, inl refl, z.1.1), z.1.2)))
-            ]
-          ]));
+          answered (MapStems g.V.Clone.is_clone) (MapMoves g.K.PartialEq.eq) (λ (s : State (g.row.K.Denot × g.row.V.Denot)). s.1) (ResizesTo (setting_of c.args.self.now)) _ _ c.args.call (Old c.in-Ok-upsert_sync.old) (Old c.in-Ok-upsert_sync.old) (rw c.in-Upsert.is refl) raw);
       err = (search rules);
       refused = (search rules);
       answer = (search rules);
@@ -77,13 +61,7 @@ returns-in-Clear g c =
       setting = (search rules);
       ok = (
           let raw : Changes (λ (s : State (g.row.K.Denot × g.row.V.Denot)). s.1) (MapMoves g.K.PartialEq.eq) (ResizesTo (setting_of c.args.self.now)) (state_of c.args.self.now) c.args.call Cleared (state_of c.clear_sync.new.self) = rw c.in-Clear.is (cleared g.K.PartialEq.eq c.args.self.now c.clear_sync.new.self c.clear_sync.ensures.holds) in
-          (elim raw [
-            | inl x ↦ inl (x.0, (c.args.call, Cleared, inl refl, inl refl, x.1))
-            | inr y ↦ elim y [
-              | inl z ↦ inr (inl (z.0, (z.1.0, z.1.1, (c.args.call, Cleared, inl refl, inl refl, z.1.2))))
-              | inr z ↦ inr (inr (z.0, (z.1.0, (c.args.call, Cleared, inl refl, inl refl, z.1.1), z.1.2)))
-            ]
-          ]));
+          answered (MapStems g.V.Clone.is_clone) (MapMoves g.K.PartialEq.eq) (λ (s : State (g.row.K.Denot × g.row.V.Denot)). s.1) (ResizesTo (setting_of c.args.self.now)) _ _ c.args.call Cleared Cleared (rw c.in-Clear.is refl) raw);
       err = (search rules);
       refused = (search rules);
       answer = (search rules);
@@ -97,7 +75,7 @@ returns-in-Read g c =
       setting = (search rules);
       ok = (search rules);
       err = (search rules);
-      refused = (inr (rw c.in-Read.is refl, (Value (Some c.in-Err-cloned_value.ensures.err.0), λ h. c.in-Err-cloned_value.ensures.err.1 h)));
+      refused = (inr (rw c.in-Read.is refl, rw (c.in-Read.is, c.in-Err-cloned_value.ensures.err.1.0) (λ h. c.in-Err-cloned_value.ensures.err.1.1 h)));
       answer = (search rules);
       made = (search rules);
       kept = (search rules);
@@ -109,13 +87,7 @@ returns-in-Err-Exists g c =
       setting = (search rules);
       ok = (
           let raw : Changes (λ (s : State (g.row.K.Denot × g.row.V.Denot)). s.1) (MapMoves g.K.PartialEq.eq) (ResizesTo (setting_of c.args.self.now)) (state_of c.args.self.now) c.args.call (Exists c.in-Err-Exists.k c.in-Err-Exists.v) (state_of c.insert_sync.new.self) = search rules in
-          (elim raw [
-            | inl x ↦ inl (x.0, (c.args.call, (Exists c.in-Err-Exists.k c.in-Err-Exists.v), inl refl, inl refl, x.1))
-            | inr y ↦ elim y [
-              | inl z ↦ inr (inl (z.0, (z.1.0, z.1.1, (c.args.call, (Exists c.in-Err-Exists.k c.in-Err-Exists.v), inl refl, inl refl, z.1.2))))
-              | inr z ↦ inr (inr (z.0, (z.1.0, (c.args.call, (Exists c.in-Err-Exists.k c.in-Err-Exists.v), inl refl, inl refl, z.1.1), z.1.2)))
-            ]
-          ]));
+          answered (MapStems g.V.Clone.is_clone) (MapMoves g.K.PartialEq.eq) (λ (s : State (g.row.K.Denot × g.row.V.Denot)). s.1) (ResizesTo (setting_of c.args.self.now)) _ _ c.args.call (Exists c.in-Err-Exists.k c.in-Err-Exists.v) (Exists c.in-Err-Exists.k c.in-Err-Exists.v) (rw c.in-Insert.is refl) raw);
       err = (search rules);
       refused = (search rules);
       answer = (search rules);
@@ -129,13 +101,7 @@ returns-in-Contains g c =
       setting = (search rules);
       ok = (
           let raw : Changes (λ (s : State (g.row.K.Denot × g.row.V.Denot)). s.1) (MapMoves g.K.PartialEq.eq) (ResizesTo (setting_of c.args.self.now)) (state_of c.args.self.now) c.args.call (Has c.contains_sync.result) (state_of c.args.self.now) = search rules in
-          (elim raw [
-            | inl x ↦ inl (x.0, (c.args.call, (Has c.contains_sync.result), inl refl, inl refl, x.1))
-            | inr y ↦ elim y [
-              | inl z ↦ inr (inl (z.0, (z.1.0, z.1.1, (c.args.call, (Has c.contains_sync.result), inl refl, inl refl, z.1.2))))
-              | inr z ↦ inr (inr (z.0, (z.1.0, (c.args.call, (Has c.contains_sync.result), inl refl, inl refl, z.1.1), z.1.2)))
-            ]
-          ]));
+          answered (MapStems g.V.Clone.is_clone) (MapMoves g.K.PartialEq.eq) (λ (s : State (g.row.K.Denot × g.row.V.Denot)). s.1) (ResizesTo (setting_of c.args.self.now)) _ _ c.args.call (Has c.contains_sync.result) (Has c.contains_sync.result) (rw c.in-Contains.is refl) raw);
       err = (search rules);
       refused = (search rules);
       answer = (search rules);
@@ -149,13 +115,7 @@ returns-in-Ok-cloned_value g c =
       setting = (search rules);
       ok = (
           let raw : Changes (λ (s : State (g.row.K.Denot × g.row.V.Denot)). s.1) (MapMoves g.K.PartialEq.eq) (ResizesTo (setting_of c.args.self.now)) (state_of c.args.self.now) c.args.call (Value (option_map (λ p. p.1) (find g.K.PartialEq.eq (entries c.args.self.now) c.in-Read.k))) (state_of c.args.self.now) = inl (refl, rw c.in-Read.is (refl, refl)) in
-          (elim raw [
-            | inl x ↦ inl (x.0, (c.args.call, (Value (option_map (λ p. p.1) (find g.K.PartialEq.eq (entries c.args.self.now) c.in-Read.k))), inl refl, inr (copied c.requires.clones Value _ (λ p. p.1) refl (λ x y h. h) (find g.K.PartialEq.eq (entries c.args.self.now) c.in-Read.k) c.in-Ok-cloned_value.value c.in-Ok-cloned_value.ensures.ok), x.1))
-            | inr y ↦ elim y [
-              | inl z ↦ inr (inl (z.0, (z.1.0, z.1.1, (c.args.call, (Value (option_map (λ p. p.1) (find g.K.PartialEq.eq (entries c.args.self.now) c.in-Read.k))), inl refl, inr (copied c.requires.clones Value _ (λ p. p.1) refl (λ x y h. h) (find g.K.PartialEq.eq (entries c.args.self.now) c.in-Read.k) c.in-Ok-cloned_value.value c.in-Ok-cloned_value.ensures.ok), z.1.2))))
-              | inr z ↦ inr (inr (z.0, (z.1.0, (c.args.call, (Value (option_map (λ p. p.1) (find g.K.PartialEq.eq (entries c.args.self.now) c.in-Read.k))), inl refl, inr (copied c.requires.clones Value _ (λ p. p.1) refl (λ x y h. h) (find g.K.PartialEq.eq (entries c.args.self.now) c.in-Read.k) c.in-Ok-cloned_value.value c.in-Ok-cloned_value.ensures.ok), z.1.1), z.1.2)))
-            ]
-          ]));
+          answered (MapStems g.V.Clone.is_clone) (MapMoves g.K.PartialEq.eq) (λ (s : State (g.row.K.Denot × g.row.V.Denot)). s.1) (ResizesTo (setting_of c.args.self.now)) _ _ c.args.call (Value (option_map (λ p. p.1) (find g.K.PartialEq.eq (entries c.args.self.now) c.in-Read.k))) (Value c.in-Ok-cloned_value.value) (rw c.in-Read.is (copied-part g.V.Clone.is_clone (λ p. p.1) (find g.K.PartialEq.eq (entries c.args.self.now) c.in-Read.k) c.in-Ok-cloned_value.value c.in-Ok-cloned_value.ensures.ok)) raw);
       err = (search rules);
       refused = (search rules);
       answer = (
@@ -173,13 +133,7 @@ returns g c =
       setting = (search rules);
       ok = (
           let raw : Changes (λ (s : State (g.row.K.Denot × g.row.V.Denot)). s.1) (MapMoves g.K.PartialEq.eq) (ResizesTo (setting_of c.args.self.now)) (state_of c.args.self.now) c.args.call (Count c.len.result) (state_of c.args.self.now) = search rules in
-          (elim raw [
-            | inl x ↦ inl (x.0, (c.args.call, (Count c.len.result), inl refl, inl refl, x.1))
-            | inr y ↦ elim y [
-              | inl z ↦ inr (inl (z.0, (z.1.0, z.1.1, (c.args.call, (Count c.len.result), inl refl, inl refl, z.1.2))))
-              | inr z ↦ inr (inr (z.0, (z.1.0, (c.args.call, (Count c.len.result), inl refl, inl refl, z.1.1), z.1.2)))
-            ]
-          ]));
+          answered (MapStems g.V.Clone.is_clone) (MapMoves g.K.PartialEq.eq) (λ (s : State (g.row.K.Denot × g.row.V.Denot)). s.1) (ResizesTo (setting_of c.args.self.now)) _ _ c.args.call (Count c.len.result) (Count c.len.result) (rw c.in-Len.is refl) raw);
       err = (search rules);
       refused = (search rules);
       answer = (search rules);
@@ -191,7 +145,7 @@ pub returns-in-Replaced : goal.returns-in-Replaced
 returns-in-Replaced g c =
     record {
       setting = (search rules);
-      ok = (inl (search rules, (c.args.call, Key (Some c.in-Replaced.old), inl refl, inl refl, rw c.in-Replace.is (search rules))));
+      ok = (inl (search rules, (Key (Some c.in-Replaced.old), rw c.in-Replace.is refl, rw c.in-Replace.is (search rules))));
       err = (search rules);
       refused = (search rules);
       answer = (search rules);
@@ -203,7 +157,7 @@ pub returns-in-Replace : goal.returns-in-Replace
 returns-in-Replace g c =
     record {
       setting = (search rules);
-      ok = (inl (search rules, (c.args.call, Key None, inl refl, inl refl, rw c.in-Replace.is (search rules))));
+      ok = (inl (search rules, (Key None, rw c.in-Replace.is refl, rw c.in-Replace.is (search rules))));
       err = (search rules);
       refused = (search rules);
       answer = (search rules);

@@ -1,4 +1,4 @@
-use Rattle.std.proofs.Common.{rules}
+use Rattle.std.proofs.Common.{inr, rules}
 use Rattle.scc_calls.proofs.States.{unchanged-state}
 use Rattle.scc_calls.proofs.map_calls.OwnedCalls.ready.Goals as goal
 
@@ -10,7 +10,9 @@ returns-in-Err g c =
       grows = (search rules);
       adds = (search rules);
       ready = (search rules);
-      refused = (search rules);
+      refused = (
+          let same = unchanged-state c.make_room.new.map c.drop_room.new.self c.drop_room.ensures.same in
+          inr (rw same c.in-Err.ensures.refused));
       still = (
           let same = unchanged-state c.make_room.new.map c.drop_room.new.self c.drop_room.ensures.same in
           λ h. c.make_room.ensures.still (rw same at h));

@@ -3,6 +3,8 @@ use Rattle.scc_contents.specs.Contents.{entries}
 use Rattle.scc_contents.specs.Hashing.{hash_of}
 use Rattle.scc_set.specs.Keys.{find}
 use Rattle.scc_calls.specs.Changes.{Changes}
+use Rattle.scc_calls.specs.Means.{answered}
+use Rattle.scc_calls.specs.Stems.{SetStems}
 use Rattle.scc_calls.specs.SetCalls.{SetMoves}
 use Rattle.scc_calls.specs.States.{State, ResizesTo, setting_of, state_of}
 use Rattle.scc_calls.specs.declared.replies.Reply.TheVariants.{Inserted, Exists, Key, Has, Cleared, Count}
@@ -16,13 +18,7 @@ returns-in-Ok g c =
       setting = (search rules);
       ok = (
           let raw : Changes (λ (s : State g.row.K.Denot). s.1) (SetMoves g.K.PartialEq.eq) (ResizesTo (setting_of c.args.self.now)) (state_of c.args.self.now) c.args.call Inserted (state_of c.insert_sync.new.self) = rw c.in-Insert.is (inserted g.K.PartialEq.eq (λ h k. hash_of g.H.BuildHasher g.H.Hasher.Hasher h (g.K.Hash.hash_input k)) c.args.self.now c.insert_sync.new.self c.in-Insert.k c.in-Ok.field-0 c.in-Ok.ensures.step) in
-          (elim raw [
-            | inl x ↦ inl (x.0, (c.args.call, Inserted, inl refl, inl refl, x.1))
-            | inr y ↦ elim y [
-              | inl z ↦ inr (inl (z.0, (z.1.0, z.1.1, (c.args.call, Inserted, inl refl, inl refl, z.1.2))))
-              | inr z ↦ inr (inr (z.0, (z.1.0, (c.args.call, Inserted, inl refl, inl refl, z.1.1), z.1.2)))
-            ]
-          ]));
+          answered (SetStems g.K.Clone.is_clone) (SetMoves g.K.PartialEq.eq) (λ (s : State g.row.K.Denot). s.1) (ResizesTo (setting_of c.args.self.now)) _ _ c.args.call Inserted Inserted (rw c.in-Insert.is refl) raw);
       err = (search rules);
       refused = (search rules);
       answer = (search rules);
@@ -36,13 +32,7 @@ returns-in-Err-Exists g c =
       setting = (search rules);
       ok = (
           let raw : Changes (λ (s : State g.row.K.Denot). s.1) (SetMoves g.K.PartialEq.eq) (ResizesTo (setting_of c.args.self.now)) (state_of c.args.self.now) c.args.call (Exists c.in-Err-Exists.k tt) (state_of c.insert_sync.new.self) = search rules in
-          (elim raw [
-            | inl x ↦ inl (x.0, (c.args.call, (Exists c.in-Err-Exists.k tt), inl refl, inl refl, x.1))
-            | inr y ↦ elim y [
-              | inl z ↦ inr (inl (z.0, (z.1.0, z.1.1, (c.args.call, (Exists c.in-Err-Exists.k tt), inl refl, inl refl, z.1.2))))
-              | inr z ↦ inr (inr (z.0, (z.1.0, (c.args.call, (Exists c.in-Err-Exists.k tt), inl refl, inl refl, z.1.1), z.1.2)))
-            ]
-          ]));
+          answered (SetStems g.K.Clone.is_clone) (SetMoves g.K.PartialEq.eq) (λ (s : State g.row.K.Denot). s.1) (ResizesTo (setting_of c.args.self.now)) _ _ c.args.call (Exists c.in-Err-Exists.k tt) (Exists c.in-Err-Exists.k tt) (rw c.in-Insert.is refl) raw);
       err = (search rules);
       refused = (search rules);
       answer = (search rules);
@@ -56,13 +46,7 @@ returns-in-Ok-replace_sync g c =
       setting = (search rules);
       ok = (
           let raw : Changes (λ (s : State g.row.K.Denot). s.1) (SetMoves g.K.PartialEq.eq) (ResizesTo (setting_of c.args.self.now)) (state_of c.args.self.now) c.args.call (Key c.in-Ok-replace_sync.old) (state_of c.replace_sync.new.self) = rw c.in-Replace.is (replaced g.K.PartialEq.eq (λ h k. hash_of g.H.BuildHasher g.H.Hasher.Hasher h (g.K.Hash.hash_input k)) c.args.self.now c.replace_sync.new.self c.in-Replace.k c.in-Ok-replace_sync.old c.in-Ok-replace_sync.ensures.step) in
-          (elim raw [
-            | inl x ↦ inl (x.0, (c.args.call, (Key c.in-Ok-replace_sync.old), inl refl, inl refl, x.1))
-            | inr y ↦ elim y [
-              | inl z ↦ inr (inl (z.0, (z.1.0, z.1.1, (c.args.call, (Key c.in-Ok-replace_sync.old), inl refl, inl refl, z.1.2))))
-              | inr z ↦ inr (inr (z.0, (z.1.0, (c.args.call, (Key c.in-Ok-replace_sync.old), inl refl, inl refl, z.1.1), z.1.2)))
-            ]
-          ]));
+          answered (SetStems g.K.Clone.is_clone) (SetMoves g.K.PartialEq.eq) (λ (s : State g.row.K.Denot). s.1) (ResizesTo (setting_of c.args.self.now)) _ _ c.args.call (Key c.in-Ok-replace_sync.old) (Key c.in-Ok-replace_sync.old) (rw c.in-Replace.is refl) raw);
       err = (search rules);
       refused = (search rules);
       answer = (search rules);
@@ -76,13 +60,7 @@ returns-in-Remove g c =
       setting = (search rules);
       ok = (
           let raw : Changes (λ (s : State g.row.K.Denot). s.1) (SetMoves g.K.PartialEq.eq) (ResizesTo (setting_of c.args.self.now)) (state_of c.args.self.now) c.args.call (Key c.remove_sync.result) (state_of c.remove_sync.new.self) = rw c.in-Remove.is (removed g.K.PartialEq.eq c.args.self.now c.remove_sync.new.self c.in-Remove.k c.remove_sync.result c.remove_sync.ensures.step) in
-          (elim raw [
-            | inl x ↦ inl (x.0, (c.args.call, (Key c.remove_sync.result), inl refl, inl refl, x.1))
-            | inr y ↦ elim y [
-              | inl z ↦ inr (inl (z.0, (z.1.0, z.1.1, (c.args.call, (Key c.remove_sync.result), inl refl, inl refl, z.1.2))))
-              | inr z ↦ inr (inr (z.0, (z.1.0, (c.args.call, (Key c.remove_sync.result), inl refl, inl refl, z.1.1), z.1.2)))
-            ]
-          ]));
+          answered (SetStems g.K.Clone.is_clone) (SetMoves g.K.PartialEq.eq) (λ (s : State g.row.K.Denot). s.1) (ResizesTo (setting_of c.args.self.now)) _ _ c.args.call (Key c.remove_sync.result) (Key c.remove_sync.result) (rw c.in-Remove.is refl) raw);
       err = (search rules);
       refused = (search rules);
       answer = (search rules);
@@ -96,13 +74,7 @@ returns-in-Ok-cloned_key g c =
       setting = (search rules);
       ok = (
           let raw : Changes (λ (s : State g.row.K.Denot). s.1) (SetMoves g.K.PartialEq.eq) (ResizesTo (setting_of c.args.self.now)) (state_of c.args.self.now) c.args.call (Key (find g.K.PartialEq.eq (entries c.args.self.now) c.in-Read.k)) (state_of c.args.self.now) = inl (refl, rw c.in-Read.is (refl, refl)) in
-          (elim raw [
-            | inl x ↦ inl (x.0, (c.args.call, (Key (find g.K.PartialEq.eq (entries c.args.self.now) c.in-Read.k)), inl refl, inr (copied_whole c.requires.clones Key _ refl (λ x y h. h) (find g.K.PartialEq.eq (entries c.args.self.now) c.in-Read.k) c.in-Ok-cloned_key.key c.in-Ok-cloned_key.ensures.ok), x.1))
-            | inr y ↦ elim y [
-              | inl z ↦ inr (inl (z.0, (z.1.0, z.1.1, (c.args.call, (Key (find g.K.PartialEq.eq (entries c.args.self.now) c.in-Read.k)), inl refl, inr (copied_whole c.requires.clones Key _ refl (λ x y h. h) (find g.K.PartialEq.eq (entries c.args.self.now) c.in-Read.k) c.in-Ok-cloned_key.key c.in-Ok-cloned_key.ensures.ok), z.1.2))))
-              | inr z ↦ inr (inr (z.0, (z.1.0, (c.args.call, (Key (find g.K.PartialEq.eq (entries c.args.self.now) c.in-Read.k)), inl refl, inr (copied_whole c.requires.clones Key _ refl (λ x y h. h) (find g.K.PartialEq.eq (entries c.args.self.now) c.in-Read.k) c.in-Ok-cloned_key.key c.in-Ok-cloned_key.ensures.ok), z.1.1), z.1.2)))
-            ]
-          ]));
+          answered (SetStems g.K.Clone.is_clone) (SetMoves g.K.PartialEq.eq) (λ (s : State g.row.K.Denot). s.1) (ResizesTo (setting_of c.args.self.now)) _ _ c.args.call (Key (find g.K.PartialEq.eq (entries c.args.self.now) c.in-Read.k)) (Key c.in-Ok-cloned_key.key) (rw c.in-Read.is c.in-Ok-cloned_key.ensures.ok) raw);
       err = (search rules);
       refused = (search rules);
       answer = (
@@ -120,7 +92,7 @@ returns-in-Read g c =
       setting = (search rules);
       ok = (search rules);
       err = (search rules);
-      refused = (inr (rw c.in-Read.is refl, (Key (Some c.in-Err-cloned_key.ensures.err.0), λ h. c.in-Err-cloned_key.ensures.err.1 h)));
+      refused = (inr (rw c.in-Read.is refl, rw (c.in-Read.is, c.in-Err-cloned_key.ensures.err.1.0) (λ h. c.in-Err-cloned_key.ensures.err.1.1 h)));
       answer = (search rules);
       made = (search rules);
       kept = (search rules);
@@ -132,13 +104,7 @@ returns-in-Contains g c =
       setting = (search rules);
       ok = (
           let raw : Changes (λ (s : State g.row.K.Denot). s.1) (SetMoves g.K.PartialEq.eq) (ResizesTo (setting_of c.args.self.now)) (state_of c.args.self.now) c.args.call (Has c.contains_sync.result) (state_of c.args.self.now) = search rules in
-          (elim raw [
-            | inl x ↦ inl (x.0, (c.args.call, (Has c.contains_sync.result), inl refl, inl refl, x.1))
-            | inr y ↦ elim y [
-              | inl z ↦ inr (inl (z.0, (z.1.0, z.1.1, (c.args.call, (Has c.contains_sync.result), inl refl, inl refl, z.1.2))))
-              | inr z ↦ inr (inr (z.0, (z.1.0, (c.args.call, (Has c.contains_sync.result), inl refl, inl refl, z.1.1), z.1.2)))
-            ]
-          ]));
+          answered (SetStems g.K.Clone.is_clone) (SetMoves g.K.PartialEq.eq) (λ (s : State g.row.K.Denot). s.1) (ResizesTo (setting_of c.args.self.now)) _ _ c.args.call (Has c.contains_sync.result) (Has c.contains_sync.result) (rw c.in-Contains.is refl) raw);
       err = (search rules);
       refused = (search rules);
       answer = (search rules);
@@ -152,13 +118,7 @@ returns-in-Clear g c =
       setting = (search rules);
       ok = (
           let raw : Changes (λ (s : State g.row.K.Denot). s.1) (SetMoves g.K.PartialEq.eq) (ResizesTo (setting_of c.args.self.now)) (state_of c.args.self.now) c.args.call Cleared (state_of c.clear_sync.new.self) = rw c.in-Clear.is (cleared g.K.PartialEq.eq c.args.self.now c.clear_sync.new.self c.clear_sync.ensures.holds) in
-          (elim raw [
-            | inl x ↦ inl (x.0, (c.args.call, Cleared, inl refl, inl refl, x.1))
-            | inr y ↦ elim y [
-              | inl z ↦ inr (inl (z.0, (z.1.0, z.1.1, (c.args.call, Cleared, inl refl, inl refl, z.1.2))))
-              | inr z ↦ inr (inr (z.0, (z.1.0, (c.args.call, Cleared, inl refl, inl refl, z.1.1), z.1.2)))
-            ]
-          ]));
+          answered (SetStems g.K.Clone.is_clone) (SetMoves g.K.PartialEq.eq) (λ (s : State g.row.K.Denot). s.1) (ResizesTo (setting_of c.args.self.now)) _ _ c.args.call Cleared Cleared (rw c.in-Clear.is refl) raw);
       err = (search rules);
       refused = (search rules);
       answer = (search rules);
@@ -172,13 +132,7 @@ returns g c =
       setting = (search rules);
       ok = (
           let raw : Changes (λ (s : State g.row.K.Denot). s.1) (SetMoves g.K.PartialEq.eq) (ResizesTo (setting_of c.args.self.now)) (state_of c.args.self.now) c.args.call (Count c.len.result) (state_of c.args.self.now) = search rules in
-          (elim raw [
-            | inl x ↦ inl (x.0, (c.args.call, (Count c.len.result), inl refl, inl refl, x.1))
-            | inr y ↦ elim y [
-              | inl z ↦ inr (inl (z.0, (z.1.0, z.1.1, (c.args.call, (Count c.len.result), inl refl, inl refl, z.1.2))))
-              | inr z ↦ inr (inr (z.0, (z.1.0, (c.args.call, (Count c.len.result), inl refl, inl refl, z.1.1), z.1.2)))
-            ]
-          ]));
+          answered (SetStems g.K.Clone.is_clone) (SetMoves g.K.PartialEq.eq) (λ (s : State g.row.K.Denot). s.1) (ResizesTo (setting_of c.args.self.now)) _ _ c.args.call (Count c.len.result) (Count c.len.result) (rw c.in-Len.is refl) raw);
       err = (search rules);
       refused = (search rules);
       answer = (search rules);

@@ -1,11 +1,11 @@
 use Rattle.std.proofs.Common.{rules, ◌≡◌, ◌+◌, ◌<◌, ◌≤◌, ◌⊎◌, [], ◌∷◌, ◌++◌, ◌∙◌, true, max, arith, inl, inr}
 use Rattle.std.specs.Prelude.{IsSome}
 use Rattle.std.specs.Result.{is_err}
-use Rattle.scc_calls.specs.Copies.{MayNotClone}
+use Rattle.scc_calls.specs.Calling.{MayNotReply}
 use Rattle.scc_history.specs.Stamps.{recorded, resized, receipt}
 use Rattle.scc_history.proofs.Growing.{grown, Replay-recorded, Replay-resized, Rises-recorded, Rises-resized, RisesTo-push}
 use Rattle.scc_history.proofs.Readying.{err-holds, no-resize, ready-changes, ready-stays, stays-same}
-use Rattle.scc_calls.proofs.Runs.{changes-as}
+use Rattle.scc_calls.proofs.Runs.{changes-by}
 use Rattle.scc_history.proofs.stripe.Stripe.step.Goals as goal
 use Rattle.scc_history.proofs.stripe.Stripe.step.Goals.{then-is_err-via-then-is_err, then-is_err-via-else-is_err+then-is_err-2}
 
@@ -18,7 +18,7 @@ invariant_of-self-in_default-ready g c =
     let e : c.note_refused.new.history.items ≡ old.history.items ++ resized (m.size (m.state old.container)) (m.size (m.state new)) stamp = cc in
     let h : old.last ≤ stamp = omega arith in
     record {
-      replays = grown _ _ _ _ m.moves m.resizes m.empty old.opened (m.setting old.container) (m.setting new) (m.state old.container) (m.state new) _ _ _ c.ready.ensures.setting e old.replays (Replay-resized _ _ _ (m.moves (m.setting old.container)) (m.resizes (m.setting old.container)) m.size (m.state old.container) (m.state new) stamp c.ready.ensures.stays);
+      replays = grown _ _ _ _ m.means m.resizes m.empty old.opened (m.setting old.container) (m.setting new) (m.state old.container) (m.state new) _ _ _ c.ready.ensures.setting e old.replays (Replay-resized _ _ _ (m.means (m.setting old.container)) (m.resizes (m.setting old.container)) m.size (m.state old.container) (m.state new) stamp c.ready.ensures.stays);
       short = old.short;
       rising = rw e (Rises-resized _ _ old.last (m.size (m.state old.container)) (m.size (m.state new)) stamp old.history.items old.rising h);
     }
@@ -34,7 +34,7 @@ invariant_of-self-in-Err g c =
     let h : old.last ≤ stamp = omega arith in
     let stays = ready-stays m.size (m.resizes (m.setting old.container)) (m.state old.container) (m.state mid) (m.state new) c.ready.ensures.stays c.ready.ensures.grows (λ ne. c.call.ensures.kept (c.ready.ensures.adds ne)) (c.call.ensures.made c.in-Ok-ready.given c.in-Ok-ready.ensures.ready.0) (rw c.ready.ensures.setting at c.in-Err.ensures.err) in
     record {
-      replays = grown _ _ _ _ m.moves m.resizes m.empty old.opened (m.setting old.container) (m.setting new) (m.state old.container) (m.state new) _ _ _ (c.call.ensures.setting ∙ c.ready.ensures.setting) e old.replays (Replay-resized _ _ _ (m.moves (m.setting old.container)) (m.resizes (m.setting old.container)) m.size (m.state old.container) (m.state new) stamp stays);
+      replays = grown _ _ _ _ m.means m.resizes m.empty old.opened (m.setting old.container) (m.setting new) (m.state old.container) (m.state new) _ _ _ (c.call.ensures.setting ∙ c.ready.ensures.setting) e old.replays (Replay-resized _ _ _ (m.means (m.setting old.container)) (m.resizes (m.setting old.container)) m.size (m.state old.container) (m.state new) stamp stays);
       short = old.short;
       rising = rw e (Rises-resized _ _ old.last (m.size (m.state old.container)) (m.size (m.state new)) stamp old.history.items old.rising h);
     }
@@ -52,9 +52,9 @@ invariant_of-self-in-Ok-call g c =
     let made = ready-changes m.size (m.resizes (m.setting old.container)) (m.moves (m.setting old.container)) c.args.call c.in-Ok-call.reply (m.state old.container) (m.state mid) (m.state new) c.ready.ensures.stays c.ready.ensures.grows (λ ne. c.call.ensures.kept (c.ready.ensures.adds ne)) (c.call.ensures.made c.in-Ok-ready.given c.in-Ok-ready.ensures.ready.0) (rw c.ready.ensures.setting at c.in-Ok-call.ensures.ok) in
     let equal = c.in-Ok-call.ensures.answer c.in-Ok-ready.given c.in-Ok-ready.ensures.ready.0 in
     let same = c.requires.calls c.args.call c.in-Ok.noted c.in-Ok.ensures.cases in
-    let noted = changes-as m.size (m.resizes (m.setting old.container)) (m.moves (m.setting old.container)) c.args.call c.in-Ok.noted c.in-Ok-call.reply c.in-Ok-ready.given (m.state old.container) (m.state new) (λ s t. g.met.C.Calls.moves_alike (m.setting old.container) s t c.args.call c.in-Ok.noted c.in-Ok-call.reply c.in-Ok-ready.given g.met.C.Call.PartialEq.laws g.met.C.Reply.PartialEq.laws (inr same) (inr equal)) made in
+    let noted = changes-by m.size (m.resizes (m.setting old.container)) (m.moves (m.setting old.container)) (m.means (m.setting old.container)) c.args.call c.in-Ok.noted c.in-Ok-call.reply c.in-Ok-ready.given (m.state old.container) (m.state new) (λ s t h. g.met.C.Calls.means_alike (m.setting old.container) s t c.args.call c.in-Ok.noted c.in-Ok-call.reply c.in-Ok-ready.given g.met.C.Call.PartialEq.laws g.met.C.Reply.PartialEq.laws (inr same) (inr equal) (g.met.C.Calls.moves_mean c.requires.replies (m.setting old.container) s t c.args.call c.in-Ok-call.reply h)) made in
     record {
-      replays = grown _ _ _ _ m.moves m.resizes m.empty old.opened (m.setting old.container) (m.setting new) (m.state old.container) (m.state new) _ _ _ (c.call.ensures.setting ∙ c.ready.ensures.setting) e old.replays (Replay-recorded _ _ _ (m.moves (m.setting old.container)) (m.resizes (m.setting old.container)) m.size (m.state old.container) (m.state new) stamp number c.in-Ok.noted c.in-Ok-ready.given noted);
+      replays = grown _ _ _ _ m.means m.resizes m.empty old.opened (m.setting old.container) (m.setting new) (m.state old.container) (m.state new) _ _ _ (c.call.ensures.setting ∙ c.ready.ensures.setting) e old.replays (Replay-recorded _ _ _ (m.means (m.setting old.container)) (m.resizes (m.setting old.container)) m.size (m.state old.container) (m.state new) stamp number c.in-Ok.noted c.in-Ok-ready.given noted);
       short = omega arith;
       rising = rw e (Rises-recorded _ _ old.last (m.size (m.state old.container)) (m.size (m.state new)) stamp number c.in-Ok.noted c.in-Ok-ready.given old.history.items old.rising h);
     }
@@ -145,9 +145,9 @@ returns-in-Err g c =
       err = (search rules);
       resize = cc;
       stays = ready-stays m.size (m.resizes (m.setting old.container)) (m.state old.container) (m.state mid) (m.state new) c.ready.ensures.stays c.ready.ensures.grows (λ ne. c.call.ensures.kept (c.ready.ensures.adds ne)) (c.call.ensures.made c.in-Ok-ready.given c.in-Ok-ready.ensures.ready.0) (rw c.ready.ensures.setting at c.in-Err.ensures.err);
-      refused = (λ _. elim (rw c.ready.ensures.setting at c.in-Err.ensures.refused) as (λ _. m.may_refuse (m.setting old.container) (m.state old.container) c.args.call ⊎ (IsSome (m.key_of c.args.call) × MayNotClone g.C.Reply.Clone.is_infallible)) [
+      refused = (λ _. elim (rw c.ready.ensures.setting at c.in-Err.ensures.refused) as (λ _. m.may_refuse (m.setting old.container) (m.state old.container) c.args.call ⊎ (IsSome (m.key_of c.args.call) × MayNotReply m.size (m.resizes (m.setting old.container)) (m.answer (m.setting old.container)) g.C.Reply.Clone.is_infallible (m.state old.container) c.args.call)) [
         | inl may ↦ inl (c.ready.ensures.still may)
-        | inr may ↦ inr may
+        | inr may ↦ inr (may.0, (m.state mid, c.ready.ensures.stays, may.1))
       ]);
       room = (search rules);
       full = (search rules);

@@ -16,4 +16,6 @@ returns-in-None-clause-ok g c =
     rw (← c.self.view_is, none) tt
 
 pub returns-in_err-clone-in-Some-clause-err : goal.returns-in_err-clone-in-Some-clause-err
-returns-in_err-clone-in-Some-clause-err g c = any-err c.from_residual.result (c.in-Some.pair.now, c.in_err-clone-in-Some.ensures.cases)
+returns-in_err-clone-in-Some-clause-err g c =
+    let here : find g.K.PartialEq.eq (entries c.self.inside.table) c.args.k.now ≡ Some c.in-Some.pair.now = lookup-find (g.K.PartialEq.eq c.args.k.now) (entries c.self.inside.table) ∙ sym c.in-Some.ensures in
+    any-err c.from_residual.result (c.in-Some.pair.now, rw (← c.self.view_is) here, c.in_err-clone-in-Some.ensures.cases)

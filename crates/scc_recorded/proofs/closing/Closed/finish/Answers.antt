@@ -24,9 +24,9 @@ returns-clause-finished g c =
     let n : length hs ≡ vec_len self.stripes = omega (arith, b, ap length e, self.stripes.ok.0) in
     let some : 0 < length parts = omega (arith, ap length c.move_out.ensures.parts, p, self.some, self.stripes.ok.0) in
     let routed : CallsRouted m.key_of (stripe_of g.C.Hasher.BuildHasher g.C.Hasher.Hasher.Hasher g.C.Key.Hash.hash_input self.hasher (length hs)) 0 hs = rw (n, e) c.in-Ok.ensures.routed in
-    let replays : (k : Setting _) → AllByRecursion (λ x. m.setting x ≡ k) parts → ∥ Replays (m.moves k) (m.resizes k) (map m.empty c.move_out.new.opened.items) hs (map m.state parts) ∥₁ = λ k all.
+    let replays : (k : Setting _) → AllByRecursion (λ x. m.setting x ≡ k) parts → ∥ Replays (m.means k) (m.resizes k) (map m.empty c.move_out.new.opened.items) hs (map m.state parts) ∥₁ = λ k all.
     rw (c.move_out.ensures.opened, e, c.move_out.ensures.parts)
-    (all_replay m.moves m.resizes m.empty m.setting m.state (λ s. s.stripe.container) (λ s. s.stripe.opened) (λ s. s.stripe.history.items) k (λ s. s.stripe.replays) self.stripes.items (rw c.move_out.ensures.parts at all)) in
+    (all_replay m.means m.resizes m.empty m.setting m.state (λ s. s.stripe.container) (λ s. s.stripe.opened) (λ s. s.stripe.history.items) k (λ s. s.stripe.replays) self.stripes.items (rw c.move_out.ensures.parts at all)) in
     let like = ∥∥₁_elim self.placed squash₁ (λ p. ∥∥₁_map
     (alike m.limits g.met.C.Calls.one_limit m.setting (λ s. s.stripe.container) g.M.Site.chosen (λ s. s.placed) p.0 p.1 self.stripes.items (omega (arith, self.some, self.stripes.ok.0)))
     (λ a. (p.0, p.1, p.2, a))) in

@@ -1,4 +1,5 @@
+use Rattle.scc_recorded.proofs.Adding.{may-refuse}
 use Rattle.scc_recorded.proofs.locked.Locked.step.Goals as goal
 
 pub returns-clause-refused : goal.returns-clause-refused
-returns-clause-refused g c e = ∣ (_, _, c.step.ensures.refused e) ∣₁
+returns-clause-refused g c e = may-refuse _ _ _ (c.step.ensures.refused e)

@@ -16,13 +16,13 @@ loop-i-preserved g c =
     let ok = c.in_default.ensures.ok in
     let made = ok.1 in
     let given = c.in_default.field-0 in
-    let like : (k : Setting _) (s t : m.State) → m.moves k s word given t → m.moves k s word made.1 t = λ k s t h. g.met.C.Calls.moves_alike k s t word word given made.1 g.met.C.Call.PartialEq.laws g.met.C.Reply.PartialEq.laws (inl refl) (inr made.2.1) h in
+    let like : (k : Setting _) (s t : m.State) → m.moves k s word given t → m.means k s word made.1 t = λ k s t h. g.met.C.Calls.means_alike k s t word word given made.1 g.met.C.Call.PartialEq.laws g.met.C.Reply.PartialEq.laws (inl refl) (inr made.2.1) (g.met.C.Calls.moves_mean c.requires.replies k s t word given h) in
     let may : MayAnswer m.moves word given = rw c.clear_call.ensures at c.in_default.ensures.answers in
     let such : g.C.Call.Clone.is_clone word made.0 = rw c.clear_call.ensures at made.2.0 in
     record {
       number = c.in_default.ensures.number ∙ c.loop-i.invariant.number;
-      adds = adds_more _ _ (IsOf g.C.Call.Clone.is_clone m.moves word) c.args.pass.now.log.clock c.loop-i.pass.log.clock c.loop-i.i (receipt c.locked-cleared.result.now.number c.step.new.pass.log.clock made.0 made.1)
-          c.args.pass.now.log.receipts.items c.loop-i.pass.log.receipts.items c.step.new.pass.log.receipts.items c.loop-i.invariant.adds made.3 c.locked-cleared.ensures ok.0 (such, may-answer-alike m.moves word given made.1 like may);
+      adds = adds_more _ _ (IsOf g.C.Call.Clone.is_clone m.means word) c.args.pass.now.log.clock c.loop-i.pass.log.clock c.loop-i.i (receipt c.locked-cleared.result.now.number c.step.new.pass.log.clock made.0 made.1)
+          c.args.pass.now.log.receipts.items c.loop-i.pass.log.receipts.items c.step.new.pass.log.receipts.items c.loop-i.invariant.adds made.3 c.locked-cleared.ensures ok.0 (such, may-answer-alike m.moves word m.means given made.1 like may);
     }
 
 pub returns-in-Err-clause-err : goal.returns-in-Err-clause-err
