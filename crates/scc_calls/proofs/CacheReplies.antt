@@ -167,7 +167,7 @@ moves-same eq number s t u call reply m same = subst (λ x. CacheMoves eq number
 pub answers-own : {K V H : Type 0} (clone : V → V → Type 0) (hash : K → ℕ) (eq : K → K → Bool) (c d : Cached (K × V) H) (call own : CacheCall K V) → call ≡ own → (given reply : Reply K V) → CacheStems clone own given reply
     → Changes length (CacheMoves eq (number_in hash c.contents)) (CacheResizes (cache_setting c) (number_in hash c.contents)) (lists_of c.contents) own given (lists_of d.contents)
     → Changes length (Answers (CacheStems clone) (CacheMoves eq (number_in hash c.contents))) (CacheResizes (cache_setting c) (number_in hash c.contents)) (lists_of c.contents) call reply (lists_of d.contents)
-answers-own clone hash eq c d call own is given reply from raw =
+answers-own {K = K} clone hash eq c d call own is given reply from raw =
     let number : ℕ → K → ℕ = number_in hash c.contents in
     rw is (answered (CacheStems clone) (CacheMoves eq number) length (CacheResizes (cache_setting c) number) (lists_of c.contents) (lists_of d.contents) own given reply from raw)
 

@@ -1,5 +1,5 @@
 -- How the reply that a call answers stems from the one that it gives: a read answers a clone of what is stored, each other call the very reply.
-use Rattle.std.specs.Prelude.{◌≡◌, ◌⊎◌, Bool, true, Option, None, Some, inl, inr}
+use Rattle.std.proofs.Common.{◌≡◌, ◌⊎◌, Bool, true, Option, None, Some, inl, inr}
 use Rattle.scc_contents.specs.Copies.{IsCopied}
 use Rattle.scc_calls.specs.Copies.{Alike, ClonesEqual}
 use Rattle.scc_calls.specs.declared.replies.Reply.{Reply}

@@ -85,8 +85,8 @@ returns-in-Some g c =
       ok = (
           let m : CacheMoves eq (number_in hash s.contents) (lists_of s.contents) (Get c.in-Get.k) (Value (Some (occupied_pair c.in-Some._entry).1)) (lists_of c.in-Some._entry.guard.now.contents) = get-moves hash eq s c.in-Some._entry.guard.now c.in-Get.k (occupied_pair c.in-Some._entry) (occupied_pair c.in-Some._entry).1 refl c.in-Some.ensures.entry.changes in
           let n = refresh-same hash eq s c.in-Some._entry.guard.now c.in-Get.k (occupied_pair c.in-Some._entry) (occupied_pair c.in-Some._entry) c.in-Some.ensures.entry.changes in
-          let here : ClonesValue g.V.Clone.is_clone (Value (Some (occupied_pair c.in-Some._entry).1)) (Value c.in-Ok-cloned_value.value) =
-          subst (λ (r : Reply g.row.K.Denot g.row.V.Denot). ClonesValue g.V.Clone.is_clone r (Value c.in-Ok-cloned_value.value)) (changes-answer eq (number_in hash s.contents) (CacheResizes (cache_setting s) (number_in hash s.contents)) (lists_of s.contents) (lists_of c.in-Some._entry.guard.now.contents) (Get c.in-Get.k) (Value (Some (occupied_pair c.in-Some._entry).1)) less raw)
+          let here : ClonesValue {K = g.row.K.Denot} g.V.Clone.is_clone (Value (Some (occupied_pair c.in-Some._entry).1)) (Value c.in-Ok-cloned_value.value) =
+          subst (λ (r : Reply g.row.K.Denot g.row.V.Denot). ClonesValue {K = g.row.K.Denot} g.V.Clone.is_clone r (Value c.in-Ok-cloned_value.value)) (changes-answer eq (number_in hash s.contents) (CacheResizes (cache_setting s) (number_in hash s.contents)) (lists_of s.contents) (lists_of c.in-Some._entry.guard.now.contents) (Get c.in-Get.k) (Value (Some (occupied_pair c.in-Some._entry).1)) less raw)
           (copied-part g.V.Clone.is_clone (λ p. p.1) (pair_of hash eq s.contents c.in-Get.k) c.in-Ok-cloned_value.value c.in-Ok-cloned_value.ensures.ok) in
           inl (search (rules, n), (Value (Some (occupied_pair c.in-Some._entry).1), rw c.in-Get.is here, rw c.in-Get.is (moves-same eq (number_in hash s.contents) (lists_of s.contents) (lists_of c.in-Some._entry.guard.now.contents) _ (Get c.in-Get.k) (Value (Some (occupied_pair c.in-Some._entry).1)) m (search rules)))));
       err = (search rules);

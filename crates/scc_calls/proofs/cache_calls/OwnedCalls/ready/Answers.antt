@@ -5,10 +5,10 @@ pub returns-in-Err : goal.returns-in-Err
 returns-in-Err g c =
     record {
       setting = (search rules);
-      stays = (search rules);
-      grows = (search rules);
-      adds = (search rules);
+      stays = (rw c.drop_room.ensures.lists c.make_room.ensures.stays);
+      grows = (rw c.drop_room.ensures.lists c.make_room.ensures.grows);
+      adds = (rw c.drop_room.ensures.lists c.make_room.ensures.adds);
       ready = (search rules);
       refused = (inr (rw (c.drop_room.ensures.lists, c.drop_room.ensures.settings) c.in-Err.ensures.refused));
-      still = (search rules);
+      still = (rw c.drop_room.ensures.lists c.make_room.ensures.still);
     }
