@@ -8,7 +8,7 @@ use Rattle.scc_calls.specs.Copies.{MayNotClone}
 abbrev pub MayNotReply : {S C R : Type 0} → (S → ℕ) → (S → ℕ → S → Type 0) → (S → C → R) → (R → Type 0) → S → C → Type 0
 MayNotReply {S} size resizes answer is_infallible s call = (t : S) × Stays size resizes s t × MayNotClone is_infallible (answer t call)
 
-module _ {T G S K C R X : Type 0} (setting_of : T → G) (state_of : T → S) (size : S → ℕ) (key_of : C → Option K) (gives : G → S → C → R) (resizes : G → S → ℕ → S → Type 0) (may_refuse : G → S → C → Type 0) (may_add : C → Type 0) (is_ready : T → C → R → Type 0) (is_infallible : R → Type 0) where
+module _ {T G S K C R X : Type 0} (setting_of : T → G) (state_of : T → S) (size : S → ℕ) (key_of : C → Option K) (gives : G → S → C → R) (resizes : G → S → ℕ → S → Type 0) (may_refuse : G → S → C → Type 0) (may_add : C → Type 0) (is_ready : T → C → R → Type 0) (is_marked : T → Bool) (is_infallible : R → Type 0) where
   -- what `ready` for the call, answered so, does to the container c
   pub record ReadiesByRule (c : T) (call : C) (result : Result (R × R) X) (d : T) : Type 0 where
     -- the setting stays
@@ -23,7 +23,9 @@ module _ {T G S K C R X : Type 0} (setting_of : T → G) (state_of : T → S) (s
     pub ready : IfOk result (λ r. is_ready d call r.0 × is_ready d call r.1)
     -- it fails only if memory for the call may be refused, or, if the call has a key, a clone of the reply that the call gives then
     pub refused : OnErr result (may_refuse (setting_of c) (state_of c) call ⊎ (IsSome (key_of call) × MayNotClone is_infallible (gives (setting_of d) (state_of d) call)))
-    -- and where memory may be refused after it, it might have been before
+    -- then it leaves no mark of a growth that was tried, but one that was there before
+    pub unmarked : OnErr result (is_marked d ≡ true → is_marked c ≡ true)
+    -- and if memory may be refused after it, it might have been before
     pub still : may_refuse (setting_of c) (state_of d) call → may_refuse (setting_of c) (state_of c) call
 
   -- what the call, answered so, does to the container c, if it moves the state so and these replies are equal

@@ -1,7 +1,7 @@
 -- What making room for a call does to a container, in one word a kind.
-use Rattle.std.specs.Prelude.{◌≡◌, ◌≢◌, ℕ, ◌≤◌, Bool, List, length, None, Result}
+use Rattle.std.specs.Prelude.{◌≡◌, ◌≢◌, ℕ, ◌≤◌, Bool, true, List, length, None, Result}
 use Rattle.std.specs.Result.{OnOk, OnErr}
-use Rattle.scc_contents.specs.Contents.{Contents, lists_of, settings_of}
+use Rattle.scc_contents.specs.Contents.{Contents, lists_of, refused_of, settings_of}
 use Rattle.scc_contents.specs.Pairs.{find}
 use Rattle.scc_cache.specs.Caches.{Cached}
 use Rattle.scc_calls.specs.CacheCalls.{cache_adds, cache_setting, number_by, CacheIsMade, CacheMayRefuse, CacheResizes}
@@ -16,8 +16,8 @@ use Rattle.scc_calls.specs.declared.calls_as_values.MapCall.{MapCall}
 use Rattle.scc_calls.specs.declared.calls_as_values.SetCall.{SetCall}
 
 module _ {G S X R : Type 0} (size : S → ℕ) (resizes : S → ℕ → S → Type 0) where
-  -- what making room for the insertion of a key, answered so, does to the settings g and the state s, where it has to make `wants`, and memory may be refused in the states that `refuses` names
-  pub record MakesRoomFor (wants : Type 0) (refuses : S → Type 0) (g : G) (s : S) (result : Result X R) (h : G) (t : S) : Type 0 where
+  -- what making room for the insertion of a key, answered so, does to the settings g and the state s, where it has to make `wants`, memory may be refused in the states that `refuses` names, and `unmarks` says that it leaves no mark but one that was there
+  pub record MakesRoomFor (wants unmarks : Type 0) (refuses : S → Type 0) (g : G) (s : S) (result : Result X R) (h : G) (t : S) : Type 0 where
     -- where it succeeds, all is made that is wanted
     pub made : OnOk result wants
     -- the state stays but for one resize
@@ -28,11 +28,13 @@ module _ {G S X R : Type 0} (size : S → ℕ) (resizes : S → ℕ → S → Ty
     pub grows : size s ≤ size t
     -- it fails only where memory may be refused
     pub refused : OnErr result (refuses s)
+    -- then it leaves no mark of a growth that was tried, but one that was there before
+    pub unmarked : OnErr result unmarks
     -- and where memory may be refused after it, it might have been before
     pub still : refuses t → refuses s
 
-  -- what making room for a call, answered so, does to the settings g and the state s, where `brings` says that the call may bring in a key
-  pub record MakesRoom (wants brings : Type 0) (refuses : S → Type 0) (g : G) (s : S) (result : Result X R) (h : G) (t : S) : Type 0 where
+  -- what making room for a call, answered so, does to the settings g and the state s, where `brings` says that the call may bring in a key, and `unmarks` that it leaves no mark but one that was there
+  pub record MakesRoom (wants brings unmarks : Type 0) (refuses : S → Type 0) (g : G) (s : S) (result : Result X R) (h : G) (t : S) : Type 0 where
     -- where it succeeds, all is made that the call wants
     pub made : OnOk result wants
     -- the state stays but for one resize
@@ -45,35 +47,37 @@ module _ {G S X R : Type 0} (size : S → ℕ) (resizes : S → ℕ → S → Ty
     pub adds : size t ≢ size s → brings
     -- it fails only where memory for the call may be refused
     pub refused : OnErr result (refuses s)
+    -- then it leaves no mark of a growth that was tried, but one that was there before
+    pub unmarked : OnErr result unmarks
     -- and where memory may be refused after it, it might have been before
     pub still : refuses t → refuses s
 
 module _ {K V H X R : Type 0} (eq : K → K → Bool) (hash : H → K → ℕ) where
   -- what making room for the insertion of k into a map does
   abbrev pub MapMakesRoomFor : Contents (K × V) H → K → Result X R → Contents (K × V) H → Type 0
-  MapMakesRoomFor c k result d = MakesRoomFor (λ (s : State (K × V)). s.1) (ResizesTo (setting_of c)) (MapIsMadeFor eq (hash (settings_of d).hasher) d k) (λ s. MapRefuses eq hash (setting_of c) s k) (settings_of c) (state_of c) result (settings_of d) (state_of d)
+  MapMakesRoomFor c k result d = MakesRoomFor (λ (s : State (K × V)). s.1) (ResizesTo (setting_of c)) (MapIsMadeFor eq (hash (settings_of d).hasher) d k) ((refused_of d).1 ≡ true → (refused_of c).1 ≡ true) (λ s. MapRefuses eq hash (setting_of c) s k) (settings_of c) (state_of c) result (settings_of d) (state_of d)
 
   -- what making room for a call of a map does
   abbrev pub MapMakesRoom : Contents (K × V) H → MapCall K V → Result X R → Contents (K × V) H → Type 0
-  MapMakesRoom c call result d = MakesRoom (λ (s : State (K × V)). s.1) (ResizesTo (setting_of c)) (MapIsMade eq (hash (settings_of d).hasher) d call) (map_adds call) (λ s. MapMayRefuse eq hash (setting_of c) s call) (settings_of c) (state_of c) result (settings_of d) (state_of d)
+  MapMakesRoom c call result d = MakesRoom (λ (s : State (K × V)). s.1) (ResizesTo (setting_of c)) (MapIsMade eq (hash (settings_of d).hasher) d call) (map_adds call) ((refused_of d).1 ≡ true → (refused_of c).1 ≡ true) (λ s. MapMayRefuse eq hash (setting_of c) s call) (settings_of c) (state_of c) result (settings_of d) (state_of d)
 
   -- what making room for the insertion of k into an index does
   abbrev pub IndexMakesRoomFor : Contents (K × V) H → K → Result X R → Contents (K × V) H → Type 0
-  IndexMakesRoomFor c k result d = MakesRoomFor (λ (s : State (K × V)). s.1) (ResizesTo (setting_of c)) (IndexIsMadeFor eq (hash (settings_of d).hasher) d k) (λ s. find eq s.0 k ≡ None) (settings_of c) (state_of c) result (settings_of d) (state_of d)
+  IndexMakesRoomFor c k result d = MakesRoomFor (λ (s : State (K × V)). s.1) (ResizesTo (setting_of c)) (IndexIsMadeFor eq (hash (settings_of d).hasher) d k) ((refused_of d).1 ≡ true → (refused_of c).1 ≡ true) (λ s. find eq s.0 k ≡ None) (settings_of c) (state_of c) result (settings_of d) (state_of d)
 
   -- what making room for a call of an index does
   abbrev pub IndexMakesRoom : Contents (K × V) H → IndexCall K V → Result X R → Contents (K × V) H → Type 0
-  IndexMakesRoom c call result d = MakesRoom (λ (s : State (K × V)). s.1) (ResizesTo (setting_of c)) (IndexIsMade eq (hash (settings_of d).hasher) d call) (index_adds call) (λ s. IndexMayRefuse eq s call) (settings_of c) (state_of c) result (settings_of d) (state_of d)
+  IndexMakesRoom c call result d = MakesRoom (λ (s : State (K × V)). s.1) (ResizesTo (setting_of c)) (IndexIsMade eq (hash (settings_of d).hasher) d call) (index_adds call) ((refused_of d).1 ≡ true → (refused_of c).1 ≡ true) (λ s. IndexMayRefuse eq s call) (settings_of c) (state_of c) result (settings_of d) (state_of d)
 
   -- what making room for a call of a cache does
   abbrev pub CacheMakesRoom : Cached (K × V) H → CacheCall K V → Result X R → Cached (K × V) H → Type 0
-  CacheMakesRoom c call result d = MakesRoom {S = List (List (K × V))} length (CacheResizes (cache_setting c) (number_by hash (cache_setting c))) (CacheIsMade eq (hash (settings_of d.contents).hasher) d call) (cache_adds call) (λ s. CacheMayRefuse eq (number_by hash (cache_setting c)) s call) (cache_setting c) (lists_of c.contents) result (cache_setting d) (lists_of d.contents)
+  CacheMakesRoom c call result d = MakesRoom {S = List (List (K × V))} length (CacheResizes (cache_setting c) (number_by hash (cache_setting c))) (CacheIsMade eq (hash (settings_of d.contents).hasher) d call) (cache_adds call) ((refused_of d.contents).1 ≡ true → (refused_of c.contents).1 ≡ true) (λ s. CacheMayRefuse eq (number_by hash (cache_setting c)) s call) (cache_setting c) (lists_of c.contents) result (cache_setting d) (lists_of d.contents)
 
 module _ {K H X R : Type 0} (eq : K → K → Bool) (hash : H → K → ℕ) where
   -- what making room for the insertion of k into a set does
   abbrev pub SetMakesRoomFor : Contents K H → K → Result X R → Contents K H → Type 0
-  SetMakesRoomFor c k result d = MakesRoomFor (λ (s : State K). s.1) (ResizesTo (setting_of c)) (SetIsMadeFor eq (hash (settings_of d).hasher) d k) (λ s. SetRefuses eq hash (setting_of c) s k) (settings_of c) (state_of c) result (settings_of d) (state_of d)
+  SetMakesRoomFor c k result d = MakesRoomFor (λ (s : State K). s.1) (ResizesTo (setting_of c)) (SetIsMadeFor eq (hash (settings_of d).hasher) d k) ((refused_of d).1 ≡ true → (refused_of c).1 ≡ true) (λ s. SetRefuses eq hash (setting_of c) s k) (settings_of c) (state_of c) result (settings_of d) (state_of d)
 
   -- what making room for a call of a set does
   abbrev pub SetMakesRoom : Contents K H → SetCall K → Result X R → Contents K H → Type 0
-  SetMakesRoom c call result d = MakesRoom (λ (s : State K). s.1) (ResizesTo (setting_of c)) (SetIsMade eq (hash (settings_of d).hasher) d call) (set_adds call) (λ s. SetMayRefuse eq hash (setting_of c) s call) (settings_of c) (state_of c) result (settings_of d) (state_of d)
+  SetMakesRoom c call result d = MakesRoom (λ (s : State K). s.1) (ResizesTo (setting_of c)) (SetIsMade eq (hash (settings_of d).hasher) d call) (set_adds call) ((refused_of d).1 ≡ true → (refused_of c).1 ≡ true) (λ s. SetMayRefuse eq hash (setting_of c) s call) (settings_of c) (state_of c) result (settings_of d) (state_of d)

@@ -29,7 +29,7 @@ impl<K: Eq + Hash + Clone, V: Clone + PartialEq, H: BuildHasher> Calls for Owned
     ghost use Rattle.scc_contents.specs.Contents.{lists_of};
     ghost use Rattle.scc_contents.specs.Hashing.{hash_of};
     ghost use Rattle.scc_contents.specs.Sizes.{IsArraySize};
-    ghost use Rattle.scc_contents.specs.Contents.{key_hash};
+    ghost use Rattle.scc_contents.specs.Contents.{key_hash, refused_of};
     ghost use Rattle.scc_calls.specs.CacheCalls.{cache_adds, cache_answer, cache_key, cache_setting, keys_in, number_by, CacheIsReady, CacheMoves, CacheMayRefuse, CacheResizes};
     ghost use Rattle.scc_calls.specs.Copies.{Answers, Means};
     ghost use Rattle.scc_calls.specs.Means.{means_alike, means_answer, means_keeps, means_whole};
@@ -77,6 +77,8 @@ impl<K: Eq + Hash + Clone, V: Clone + PartialEq, H: BuildHasher> Calls for Owned
 
     ghost is_ready = { λ c. CacheIsReady K.eq (key_hash H.BuildHasher H.Hasher.Hasher K.hash_input c.contents) c
         ⟦<Reply<K, V> as PartialEq>⟧.eq };
+
+    ghost is_marked = { λ c. (refused_of c.contents).1 };
 
     ghost whole = { λ parts. parts };
 

@@ -35,7 +35,7 @@ impl<K: Eq + Hash + Clone, H: BuildHasher> Calls for Owned<K, H> {
     ghost use Rattle.scc_calls.specs.Means.{means_alike, means_answer, means_keeps, means_whole};
     ghost use Rattle.scc_calls.specs.Stems.{set_stems_alike, SetStems};
     ghost use Rattle.std.proofs.Common.{refl, rules};
-    ghost use Rattle.scc_contents.specs.Contents.{key_hash};
+    ghost use Rattle.scc_contents.specs.Contents.{key_hash, refused_of};
     ghost use Rattle.scc_calls.specs.SetLaws.{set_call_is_whole, set_call_keeps, set_resize_keeps};
     ghost use Rattle.scc_calls.specs.SetWhole.{SetWholeMoves};
     ghost use Rattle.scc_calls.specs.States.{State, state_of, setting_of, ResizesTo};
@@ -72,6 +72,8 @@ impl<K: Eq + Hash + Clone, H: BuildHasher> Calls for Owned<K, H> {
 
     ghost is_ready = { λ m. SetIsReady K.eq (key_hash H.BuildHasher H.Hasher.Hasher K.hash_input m) m
         ⟦<Reply<K, ()> as PartialEq>⟧.eq };
+
+    ghost is_marked = { λ m. (refused_of m).1 };
 
     ghost whole = { joined };
 

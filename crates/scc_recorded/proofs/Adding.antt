@@ -24,7 +24,7 @@ module _ {G S A R : Type 0} (moves : G → S → A → R → S → Type 0) (call
 pub may-refuse : {G S A R K : Type 0} {may_refuse : G → S → A → Type 0} {size : S → ℕ} {resizes : G → S → ℕ → S → Type 0} {answer : G → S → A → R} {is_infallible : R → Type 0} (g : G) (s : S) (call : A)
     → may_refuse g s call ⊎ (K × MayNotReply size (resizes g) (answer g) is_infallible s call) → ∥ ((h : G) × (t : S) × (may_refuse h t call ⊎ (K × MayNotClone is_infallible (answer h t call)))) ∥₁
 may-refuse g s call (inl m) = ∣ (g, s, inl m) ∣₁
-may-refuse g s call (inr m) = ∣ (g, m.1.0, inr (m.0, m.1.1.1)) ∣₁
+may-refuse g s call (inr m) = ∣ (g, m.1.0, inr (m.0, m.1.2)) ∣₁
 
 module _ (A R : Type 0) (such : Receipt A R → Type 0) where
   pub adds_none : (clock : ℕ) (old : List (Receipt A R)) → Adds such clock clock 0 old old

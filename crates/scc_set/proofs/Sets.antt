@@ -307,4 +307,4 @@ copied-key eq copy c k r h = rw (found eq c k) (copied-answer copy (find_pair eq
 
 pub refused-key : {K S R E : Type 0} (eq : K → K → Bool) (safe : K → Type 0) (c : Contents (K × Unit {0}) S) (k : K) (r : Result R E) → OnErr r ((p : K × Unit {0}) × (find_pair eq (entries c) k ≡ Some p) × (safe p.0 → ⊥)) → OnErr r ((l : K) × (find eq (entries (of_map c)) k ≡ Some l) × (safe l → ⊥))
 refused-key eq safe c k (Ok x) h = tt
-refused-key eq safe c k (Err e) h = (h.0.0, (found-some eq c k h.0 h.1.0, h.1.1))
+refused-key eq safe c k (Err e) h = (h.0.0, found-some eq c k h.0 h.1, h.2)

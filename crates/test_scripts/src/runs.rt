@@ -142,7 +142,7 @@ impl Calls for Tally {
 
     type Reply = u8;
 
-    ghost use Rattle.std.specs.Prelude.{◌≡◌, ℕ, ◌+◌, ◌<◌, List, [], None};
+    ghost use Rattle.std.specs.Prelude.{◌≡◌, false, ℕ, ◌+◌, ◌<◌, List, [], None};
     ghost use Rattle.std.proofs.Common.{◌∙◌, ap, rules, sym};
     ghost use Rattle.scc_calls.specs.Means.{the_very};
     ghost use Rattle.scc_calls.specs.Parted.{PartMoves, PartResizes, parted_call, parted_resize};
@@ -178,6 +178,8 @@ impl Calls for Tally {
     ghost adds = { λ _. ⊥ };
 
     ghost is_ready = { λ t c r. r ≡ t.total + c };
+
+    ghost is_marked = { λ _. false };
 
     ghost whole = { λ p. p };
 

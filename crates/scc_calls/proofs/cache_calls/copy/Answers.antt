@@ -33,31 +33,31 @@ pub returns-in-Ok-cloned_value-clause-ok : goal.returns-in-Ok-cloned_value-claus
 returns-in-Ok-cloned_value-clause-ok g c = rw c.in-Get.is (copied c.requires.clones Value _ (λ p. p.1) refl (λ x y h. h) (pair_of (key_hash g.H.BuildHasher g.H.Hasher.Hasher g.K.Hash.hash_input c.args.cache.now.contents) g.K.PartialEq.eq c.args.cache.now.contents c.in-Get.k) c.in-Ok-cloned_value.value c.in-Ok-cloned_value.ensures.ok)
 
 pub returns-in-Err-clause-refused : goal.returns-in-Err-clause-refused
-returns-in-Err-clause-refused g c = (rw c.in-Get.is refl, rw (c.in-Get.is, c.in-Err.ensures.err.1.0) (λ h. c.in-Err.ensures.err.1.1 h))
+returns-in-Err-clause-refused g c = (rw c.in-Get.is refl, rw (c.in-Get.is, c.in-Err.ensures.err.1) (λ h. c.in-Err.ensures.err.2 h))
 
 pub returns-in-Ok-cloned_value-2-clause-ok : goal.returns-in-Ok-cloned_value-2-clause-ok
 returns-in-Ok-cloned_value-2-clause-ok g c = rw c.in-Write.is (copied c.requires.clones Old _ (λ p. p.1) refl (λ x y h. h) (pair_of (key_hash g.H.BuildHasher g.H.Hasher.Hasher g.K.Hash.hash_input c.args.cache.now.contents) g.K.PartialEq.eq c.args.cache.now.contents c.in-Write.k) c.in-Ok-cloned_value-2.value c.in-Ok-cloned_value-2.ensures.ok)
 
 pub returns-in-Err-cloned_value-clause-refused : goal.returns-in-Err-cloned_value-clause-refused
-returns-in-Err-cloned_value-clause-refused g c = (rw c.in-Write.is refl, rw (c.in-Write.is, c.in-Err-cloned_value.ensures.err.1.0) (λ h. c.in-Err-cloned_value.ensures.err.1.1 h))
+returns-in-Err-cloned_value-clause-refused g c = (rw c.in-Write.is refl, rw (c.in-Write.is, c.in-Err-cloned_value.ensures.err.1) (λ h. c.in-Err-cloned_value.ensures.err.2 h))
 
 pub returns-in-Ok-cloned_key-clause-ok : goal.returns-in-Ok-cloned_key-clause-ok
 returns-in-Ok-cloned_key-clause-ok g c = rw c.in-Replace.is (copied c.requires.clones Key _ (λ p. p.0) refl (λ x y h. h) (pair_of (key_hash g.H.BuildHasher g.H.Hasher.Hasher g.K.Hash.hash_input c.args.cache.now.contents) g.K.PartialEq.eq c.args.cache.now.contents c.in-Replace.k) c.in-Ok-cloned_key.key c.in-Ok-cloned_key.ensures.ok)
 
 pub returns-in-Err-cloned_key-clause-refused : goal.returns-in-Err-cloned_key-clause-refused
-returns-in-Err-cloned_key-clause-refused g c = (rw c.in-Replace.is refl, rw (c.in-Replace.is, c.in-Err-cloned_key.ensures.err.1.0) (λ h. c.in-Err-cloned_key.ensures.err.1.1 h))
+returns-in-Err-cloned_key-clause-refused g c = (rw c.in-Replace.is refl, rw (c.in-Replace.is, c.in-Err-cloned_key.ensures.err.1) (λ h. c.in-Err-cloned_key.ensures.err.2 h))
 
 pub returns-in-Ok-cloned_pair-clause-ok : goal.returns-in-Ok-cloned_pair-clause-ok
 returns-in-Ok-cloned_pair-clause-ok g c = rw c.in-Remove.is (copied_whole c.requires.clones Pair _ refl (λ x y h. h) (pair_of (key_hash g.H.BuildHasher g.H.Hasher.Hasher g.K.Hash.hash_input c.args.cache.now.contents) g.K.PartialEq.eq c.args.cache.now.contents c.in-Remove.k) c.in-Ok-cloned_pair.pair c.in-Ok-cloned_pair.ensures.ok)
 
 pub returns-in-Err-cloned_pair-clause-refused : goal.returns-in-Err-cloned_pair-clause-refused
-returns-in-Err-cloned_pair-clause-refused g c = (rw c.in-Remove.is refl, rw (c.in-Remove.is, c.in-Err-cloned_pair.ensures.err.1.0) (λ h. c.in-Err-cloned_pair.ensures.err.1.1 h))
+returns-in-Err-cloned_pair-clause-refused g c = (rw c.in-Remove.is refl, rw (c.in-Remove.is, c.in-Err-cloned_pair.ensures.err.1) (λ h. c.in-Err-cloned_pair.ensures.err.2 h))
 
 pub returns-in-Ok-cloned_value-3-clause-ok : goal.returns-in-Ok-cloned_value-3-clause-ok
 returns-in-Ok-cloned_value-3-clause-ok g c = rw c.in-Read.is (copied c.requires.clones Value _ (λ p. p.1) refl (λ x y h. h) (pair_of (key_hash g.H.BuildHasher g.H.Hasher.Hasher g.K.Hash.hash_input c.args.cache.now.contents) g.K.PartialEq.eq c.args.cache.now.contents c.in-Read.k) c.in-Ok-cloned_value-3.value c.in-Ok-cloned_value-3.ensures.ok)
 
 pub returns-in-Err-cloned_value-2-clause-refused : goal.returns-in-Err-cloned_value-2-clause-refused
-returns-in-Err-cloned_value-2-clause-refused g c = (rw c.in-Read.is refl, rw (c.in-Read.is, c.in-Err-cloned_value-2.ensures.err.1.0) (λ h. c.in-Err-cloned_value-2.ensures.err.1.1 h))
+returns-in-Err-cloned_value-2-clause-refused g c = (rw c.in-Read.is refl, rw (c.in-Read.is, c.in-Err-cloned_value-2.ensures.err.1) (λ h. c.in-Err-cloned_value-2.ensures.err.2 h))
 
 pub returns-in-Contains-clause-ok : goal.returns-in-Contains-clause-ok
 returns-in-Contains-clause-ok g c =

@@ -32,6 +32,7 @@ returns-in-Ok g c =
           (λ none. room-more hash g.K.PartialEq.eq a d k (c.in-Ok.ensures.ok none)));
       adds = (search rules);
       refused = (search rules);
+      unmarked = (search rules);
       still = (
           rw c.in-Put.is (by_place g.K.PartialEq.eq (number_in hash a.contents) (lists_of a.contents) k
           (λ i p at. let same = (c.in-Ok.ensures.present p (i, at)).1 in rw same (λ h. h))
@@ -48,5 +49,6 @@ returns-in-Err g c =
       grows = (search rules);
       adds = (search rules);
       refused = (rw c.in-Put.is c.in-Err.ensures.err);
+      unmarked = (rw c.in-Err.ensures.same (λ h. h));
       still = (rw c.in-Err.ensures.same (λ h. h));
     }

@@ -29,4 +29,4 @@ pub returns-in-Len-clause-ok : goal.returns-in-Len-clause-ok
 returns-in-Len-clause-ok g c = rw c.in-Len.is (let e = c.len.ensures.len in grind (arith, nat_tests, e))
 
 pub returns-in-Err-clause-refused : goal.returns-in-Err-clause-refused
-returns-in-Err-clause-refused g c = (rw c.in-Read.is refl, rw (c.in-Read.is, c.in-Err.ensures.err.1.0) (λ h. c.in-Err.ensures.err.1.1 h))
+returns-in-Err-clause-refused g c = (rw c.in-Read.is refl, rw (c.in-Read.is, c.in-Err.ensures.err.1) (λ h. c.in-Err.ensures.err.2 h))

@@ -9,5 +9,6 @@ returns-in-Insert g c =
       grows = c.make_room_for.ensures.grows;
       adds = (rw c.in-Insert.is (λ more. tt));
       refused = (rw c.in-Insert.is c.make_room_for.ensures.refused);
+      unmarked = c.make_room_for.ensures.unmarked;
       still = (rw c.in-Insert.is c.make_room_for.ensures.still);
     }

@@ -38,13 +38,13 @@ pub returns-in-Len-clause-ok : goal.returns-in-Len-clause-ok
 returns-in-Len-clause-ok g c = rw c.in-Len.is (let e = c.len.ensures.len in grind (arith, nat_tests, e))
 
 pub returns-in-Err-clause-refused : goal.returns-in-Err-clause-refused
-returns-in-Err-clause-refused g c = (rw c.in-Upsert.is refl, rw (c.in-Upsert.is, c.in-Err.ensures.err.1.0) (λ h. c.in-Err.ensures.err.1.1 h))
+returns-in-Err-clause-refused g c = (rw c.in-Upsert.is refl, rw (c.in-Upsert.is, c.in-Err.ensures.err.1) (λ h. c.in-Err.ensures.err.2 h))
 
 pub returns-in-Err-cloned_key-clause-refused : goal.returns-in-Err-cloned_key-clause-refused
-returns-in-Err-cloned_key-clause-refused g c = (rw c.in-Replace.is refl, rw (c.in-Replace.is, c.in-Err-cloned_key.ensures.err.1.0) (λ h. c.in-Err-cloned_key.ensures.err.1.1 h))
+returns-in-Err-cloned_key-clause-refused g c = (rw c.in-Replace.is refl, rw (c.in-Replace.is, c.in-Err-cloned_key.ensures.err.1) (λ h. c.in-Err-cloned_key.ensures.err.2 h))
 
 pub returns-in-Err-cloned_value-clause-refused : goal.returns-in-Err-cloned_value-clause-refused
-returns-in-Err-cloned_value-clause-refused g c = (rw c.in-Read.is refl, rw (c.in-Read.is, c.in-Err-cloned_value.ensures.err.1.0) (λ h. c.in-Err-cloned_value.ensures.err.1.1 h))
+returns-in-Err-cloned_value-clause-refused g c = (rw c.in-Read.is refl, rw (c.in-Read.is, c.in-Err-cloned_value.ensures.err.1) (λ h. c.in-Err-cloned_value.ensures.err.2 h))
 
 pub returns-in-Err-cloned_pair-clause-refused : goal.returns-in-Err-cloned_pair-clause-refused
-returns-in-Err-cloned_pair-clause-refused g c = (rw c.in-Remove.is refl, rw (c.in-Remove.is, c.in-Err-cloned_pair.ensures.err.1.0) (λ h. c.in-Err-cloned_pair.ensures.err.1.1 h))
+returns-in-Err-cloned_pair-clause-refused g c = (rw c.in-Remove.is refl, rw (c.in-Remove.is, c.in-Err-cloned_pair.ensures.err.1) (λ h. c.in-Err-cloned_pair.ensures.err.2 h))

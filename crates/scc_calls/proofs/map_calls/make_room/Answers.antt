@@ -9,6 +9,7 @@ returns-in-Insert g c =
       grows = c.make_room_for.ensures.grows;
       adds = (rw c.in-Insert.is (λ more. tt));
       refused = (rw c.in-Insert.is c.make_room_for.ensures.refused);
+      unmarked = c.make_room_for.ensures.unmarked;
       still = (rw c.in-Insert.is c.make_room_for.ensures.still);
     }
 
@@ -21,5 +22,6 @@ returns-in-Upsert g c =
       grows = c.make_room_for-in-Upsert.ensures.grows;
       adds = (rw c.in-Upsert.is (λ more. tt));
       refused = (rw c.in-Upsert.is c.make_room_for-in-Upsert.ensures.refused);
+      unmarked = c.make_room_for-in-Upsert.ensures.unmarked;
       still = (rw c.in-Upsert.is c.make_room_for-in-Upsert.ensures.still);
     }

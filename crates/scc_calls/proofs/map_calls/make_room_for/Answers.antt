@@ -21,5 +21,6 @@ returns-in-Ok g c =
       settings = (search rules);
       grows = (search rules);
       refused = (search rules);
+      unmarked = (search rules);
       still = (search rules);
     }

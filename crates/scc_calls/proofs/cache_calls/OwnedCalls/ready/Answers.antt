@@ -1,4 +1,4 @@
-use Rattle.std.proofs.Common.{inr, rules}
+use Rattle.std.proofs.Common.{◌≡◌, ◌∙◌, true, false, inr, sym, ap, rules}
 use Rattle.scc_calls.proofs.cache_calls.OwnedCalls.ready.Goals as goal
 
 pub returns-in-Err : goal.returns-in-Err
@@ -10,5 +10,6 @@ returns-in-Err g c =
       adds = (rw c.drop_room.ensures.lists c.make_room.ensures.adds);
       ready = (search rules);
       refused = (inr (rw (c.drop_room.ensures.lists, c.drop_room.ensures.settings) c.in-Err.ensures.refused));
+      unmarked = (λ h. let n = ap (λ p. p.1) c.drop_room.ensures.noted in absurd (let z : true ≡ false = sym h ∙ n in cc));
       still = (rw c.drop_room.ensures.lists c.make_room.ensures.still);
     }

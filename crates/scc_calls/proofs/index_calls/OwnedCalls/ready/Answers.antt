@@ -1,4 +1,4 @@
-use Rattle.std.proofs.Common.{inr, rules}
+use Rattle.std.proofs.Common.{◌≡◌, ◌∙◌, true, false, inr, sym, ap, rules}
 use Rattle.scc_calls.proofs.States.{unchanged-state}
 use Rattle.scc_calls.proofs.index_calls.OwnedCalls.ready.Goals as goal
 
@@ -13,6 +13,7 @@ returns-in-Err g c =
       refused = (
           let same = unchanged-state c.make_room.new.index c.drop_room.new.self c.drop_room.ensures.same in
           inr (rw same c.in-Err.ensures.refused));
+      unmarked = (λ h. let n = ap (λ p. p.1) c.drop_room.ensures.noted in absurd (let z : true ≡ false = sym h ∙ n in cc));
       still = (
           let same = unchanged-state c.make_room.new.index c.drop_room.new.self c.drop_room.ensures.same in
           λ h. c.make_room.ensures.still (rw same at h));
