@@ -10,9 +10,7 @@ returns-in-Err g c =
       grows = (search rules);
       adds = (search rules);
       ready = (search rules);
-      refused = (
-          let same = unchanged-state c.make_room.new.set c.drop_room.new.self c.drop_room.ensures.same in
-          inr (rw same c.in-Err.ensures.refused));
+      refused = (inr (rw c.drop_room.ensures.same.exact c.in-Err.ensures.refused));
       unmarked = (λ h. let n = ap (λ p. p.1) c.drop_room.ensures.noted in absurd (let z : true ≡ false = sym h ∙ n in cc));
       still = (
           let same = unchanged-state c.make_room.new.set c.drop_room.new.self c.drop_room.ensures.same in
