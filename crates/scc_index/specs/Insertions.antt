@@ -1,10 +1,11 @@
 -- What an insertion does to an index and to its array, and what room made for one does, in one word a call.
-use Rattle.std.specs.Prelude.{◌≡◌, ℕ, Bool, None, Some, Result, IsSome, IsOk, IfOk, IfErr}
+use Rattle.std.specs.Prelude.{◌≡◌, ◌⊎◌, ℕ, Bool, true, None, Some, Result, IsSome, IsOk, IfOk, IfErr}
 use Rattle.std.specs.Result.{OnOk, OnErr}
 use Rattle.scc_buckets.specs.declared.place.Place.{Place}
 use Rattle.scc_contents.specs.Contents.{Contents, entries, bucket_count, settings_of, refused_of, waiting_of}
 use Rattle.scc_contents.specs.Pairs.{find, FindsInstead, HasRoom, IsUnique}
 use Rattle.scc_contents.specs.Steps.{FirstArrayWhenDue, Grows, GrowsFor, GrowsWhenDue, IsReadyFor, IsUnchanged, MakesRoom, RaisesWhenDue}
+use Rattle.scc_table.specs.Marks.{MarksRoom}
 use Rattle.scc_table.specs.Places.{IsInsertedAt}
 use Rattle.scc_table.specs.Relocations.{Relocates, RelocatesTwo}
 use Rattle.scc_index.specs.IndexSteps.{Inserts}
@@ -73,10 +74,14 @@ module _ {K V S : Type 0} (eq : K → K → Bool) (hash_of : S → K → ℕ) wh
     pub present : IsSome (find eq (entries c) k) → IsOk result × (d ≡ c)
     -- for a new key all is made that its insertion wants
     pub ok : find eq (entries c) k ≡ None → OnOk result (MakesRoom (hash_of (settings_of c).hasher) (λ x. x.0) c (hash_of (settings_of c).hasher k) d)
+    -- what becomes of the note of refused memory and of the mark of a growth that was tried
+    pub marks : find eq (entries c) k ≡ None → MarksRoom (hash_of (settings_of c).hasher) (λ x. x.0) c (hash_of (settings_of c).hasher k) d
+    -- a growth is marked as tried only where it was before, or where refused memory is noted
+    pub marked : (refused_of d).1 ≡ true → ((refused_of c).1 ≡ true) ⊎ ((refused_of d).0 ≡ true)
     -- it fails only where the first array is refused to a new key
     pub err : OnErr result ((find eq (entries c) k ≡ None) × (bucket_count c ≡ 0))
     -- and then nothing changed
-    pub same : OnErr result (IsUnchanged c d)
+    pub same : OnErr result (d ≡ c)
     -- hasher and sizes stay
     pub settings : settings_of d ≡ settings_of c
     -- no two keys are equal

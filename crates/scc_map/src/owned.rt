@@ -4,7 +4,7 @@ ghost use Rattle.std.specs.Arc.{arc_value};
 ghost use Rattle.std.specs.Borrow.{Bor, MutBor, sem};
 ghost use Rattle.std.specs.Fn.{FnOnceTakesAtMut};
 ghost use Rattle.std.specs.List.Sorted.{IsPermutation};
-ghost use Rattle.scc_contents.specs.Contents.{entries, bucket_count, settings_of, refused_of, waiting_of, hash_in};
+ghost use Rattle.scc_contents.specs.Contents.{entries, bucket_count, lists_of, settings_of, refused_of, waiting_of, hash_in};
 ghost use Rattle.scc_contents.specs.Pairs.{find, HasRoom, IsUnique, with_pair_key, with_pair_value};
 ghost use Rattle.scc_contents.specs.Walks.{CalledOn, CallableWhile, Walks};
 ghost use Rattle.scc_table.specs.Places.{IsPlace, IsFoundAt, index_of};
@@ -221,9 +221,10 @@ impl<K: Eq + Hash, V, H: BuildHasher> Owned<K, V, H> {
     }
 
     /// Makes what an insertion of `k` wants, at most one resize: the first array, or twice as many buckets where that
-    /// is due, all of which wait then. A key that is there wants nothing. A growth that is refused is not tried again
-    /// by the insertion of `k` that follows, so that it makes no resize in any case; this fails only where the first
-    /// array is refused.
+    /// is due, all of which wait then. A key that is there wants nothing. A growth that is refused is noted,
+    /// and marked: the insertion of `k` that follows doesn't try it again, so that it makes no resize in any case. A
+    /// growth that is made takes note and mark away; where none is due, both stay. This fails only where the first
+    /// array is refused, and then nothing changes.
     pub fn make_room(&mut self, k: &K) -> Result<(), MakeError>
         ensures { MakesRoomByRule K.eq ⟦<H as Hashes<K>>⟧.hash_of self.old k.now result self.new }
     {
@@ -241,6 +242,7 @@ impl<K: Eq + Hash, V, H: BuildHasher> Owned<K, V, H> {
     /// where `make_room` was refused it.
     pub fn drop_room(&mut self)
         ensures same { IsUnchanged self.old self.new }
+        ensures lists { lists_of self.new ≡ lists_of self.old }
         ensures waiting { waiting_of self.new ≡ waiting_of self.old }
         ensures noted { refused_of self.new ≡ ((refused_of self.old).0, false) }
         ensures unique { IsUnique K.eq self.new }

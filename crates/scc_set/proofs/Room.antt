@@ -1,18 +1,23 @@
 -- What the map's words of room say of pairs, the set's say of keys.
-use Rattle.std.proofs.Common.{◌≡◌, ℕ, inl, inr, map, sym, ap, subst, ◌∙◌}
+use Rattle.std.proofs.Common.{◌≡◌, ◌⊎◌, ℕ, inl, inr, map, true, sym, ap, subst, ◌∙◌}
 use Rattle.std.specs.Hash.{HashWrites}
 use Rattle.std.specs.declared.hash.Hasher as hasher
 use Rattle.std.specs.declared.hash.BuildHasher as builder
-use Rattle.scc_contents.specs.Contents.{Contents, lists_of, key_hash}
+use Rattle.scc_contents.specs.Contents.{Contents, lists_of, key_hash, refused_of}
 use Rattle.scc_contents.specs.Mapped.{mapped}
 use Rattle.scc_contents.specs.Steps.{IsReadyFor, MakesRoom}
 use Rattle.scc_buckets.proofs.Mapped.{Rests-mapped, Grows-mapped, HasRoomBy-mapped, HasRoomBy-from_mapped}
+use Rattle.scc_table.specs.Marks.{IsGrowthDue, MarksRoom}
 use Rattle.scc_set.specs.Keys.{of_map}
 use Rattle.scc_set.proofs.Sets.{hash-same, shows, waiting-keys}
 
-lists-keys : {K S : Type 0} (c d : Contents (K × Unit {0}) S) → lists_of d ≡ lists_of c → lists_of (of_map d) ≡ lists_of (of_map c)
+pub lists-keys : {K S : Type 0} (c d : Contents (K × Unit {0}) S) → lists_of d ≡ lists_of c → lists_of (of_map d) ≡ lists_of (of_map c)
 unfolding mapped lists_of
 lists-keys c d e = ap (λ ls. map (λ l. map (λ p. p.0) l) ls) e
+
+-- where the map's mark is up, the set's is
+pub marked-keys : {K S : Type 0} (c d : Contents (K × Unit {0}) S) → ((refused_of d).1 ≡ true → ((refused_of c).1 ≡ true) ⊎ ((refused_of d).0 ≡ true)) → (refused_of (of_map d)).1 ≡ true → ((refused_of (of_map c)).1 ≡ true) ⊎ ((refused_of (of_map d)).0 ≡ true)
+marked-keys c d h = rw ((shows c).refused, (shows d).refused) h
 
 module _ {K S : Type 0} (hash : K → ℕ) (k : K) where
   -- all is made in the set that is made in the map
@@ -53,6 +58,43 @@ module _ {K S : Type 0} (hash : K → ℕ) (k : K) where
         same = λ some e. let r = h.same (rw s.buckets at some) (sym t.buckets ∙ e ∙ s.buckets) in (lists-keys c d r.0, waiting-keys c d r.1);
       }
 
+  -- a growth is due in the set where it is in the map
+  due-keys : (c : Contents (K × Unit {0}) S) → IsGrowthDue hash (λ (p : K × Unit {0}). p.0) c (hash k) → IsGrowthDue hash (λ q. q) (of_map c) (hash k)
+  due-keys c h =
+      let s = shows c in
+      record {
+        array = rw s.buckets h.array;
+        settled = s.pending ∙ h.settled;
+        full = λ room. h.full (HasRoomBy-from_mapped (λ (p : K × Unit {0}). p.0) (λ q. q) hash c k room);
+        half = rw (s.buckets, s.length) h.half;
+        below = rw s.buckets h.below;
+      }
+
+  -- and in the map where it is in the set
+  due-pairs : (c : Contents (K × Unit {0}) S) → IsGrowthDue hash (λ q. q) (of_map c) (hash k) → IsGrowthDue hash (λ (p : K × Unit {0}). p.0) c (hash k)
+  due-pairs c h =
+      let s = shows c in
+      record {
+        array = rw s.buckets at h.array;
+        settled = sym s.pending ∙ h.settled;
+        full = λ room. h.full (HasRoomBy-mapped (λ (p : K × Unit {0}). p.0) (λ q. q) hash c k room);
+        half = rw (s.buckets, s.length) at h.half;
+        below = rw s.buckets at h.below;
+      }
+
+  -- note and mark become in the set what they become in the map
+  pub marks-keys : (c d : Contents (K × Unit {0}) S) → MarksRoom hash (λ (p : K × Unit {0}). p.0) c (hash k) d → MarksRoom hash (λ q. q) (of_map c) (hash k) (of_map d)
+  marks-keys c d h =
+      let s = shows c in
+      let t = shows d in
+      record {
+        stays = λ none. t.refused ∙ h.stays (λ due. none (due-keys c due)) ∙ sym s.refused;
+        grown = λ some ne. t.refused ∙ h.grown (rw s.buckets at some) (λ e. ne (t.buckets ∙ e ∙ sym s.buckets));
+        denied = λ due same. t.refused ∙ h.denied (due-pairs c due) (sym t.buckets ∙ same ∙ s.buckets);
+        once = λ some tried. t.buckets ∙ h.once (rw s.buckets at some) (rw s.refused at tried) ∙ sym s.buckets;
+        marked = rw (s.refused, t.refused) h.marked;
+      }
+
 module _ {K S T : Type 0} (build : builder.Ghosts S T) (feed : hasher.Ghosts T) (input : K → HashWrites) (c : Contents (K × Unit {0}) S) (k : K) where
   pub ready-hashed : IsReadyFor (key_hash build feed input (of_map c)) (λ q. q) (of_map c) k → IsReadyFor (key_hash build feed input c) (λ (p : K × Unit {0}). p.0) c k
   ready-hashed h = ready-pairs (key_hash build feed input c) k c (subst (λ (hash : K → ℕ). IsReadyFor hash (λ q. q) (of_map c) k) (hash-same build feed input c) h)
@@ -60,3 +102,7 @@ module _ {K S T : Type 0} (build : builder.Ghosts S T) (feed : hasher.Ghosts T) 
   pub room-hashed : (d : Contents (K × Unit {0}) S) → MakesRoom (key_hash build feed input c) (λ (p : K × Unit {0}). p.0) c (key_hash build feed input c k) d
       → MakesRoom (key_hash build feed input (of_map c)) (λ q. q) (of_map c) (key_hash build feed input (of_map c) k) (of_map d)
   room-hashed d h = subst (λ (hash : K → ℕ). MakesRoom hash (λ q. q) (of_map c) (hash k) (of_map d)) (sym (hash-same build feed input c)) (room-keys (key_hash build feed input c) k c d h)
+
+  pub marks-hashed : (d : Contents (K × Unit {0}) S) → MarksRoom (key_hash build feed input c) (λ (p : K × Unit {0}). p.0) c (key_hash build feed input c k) d
+      → MarksRoom (key_hash build feed input (of_map c)) (λ q. q) (of_map c) (key_hash build feed input (of_map c) k) (of_map d)
+  marks-hashed d h = subst (λ (hash : K → ℕ). MarksRoom hash (λ q. q) (of_map c) (hash k) (of_map d)) (sym (hash-same build feed input c)) (marks-keys (key_hash build feed input c) k c d h)

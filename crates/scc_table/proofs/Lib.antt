@@ -20,6 +20,7 @@ pub mod Listing
 pub mod Lone
 pub mod MappedPlaces
 pub mod MappedRelocations
+mod Marked
 pub mod Nexts
 pub mod Noting
 pub mod OldChanges

@@ -10,6 +10,7 @@ use Rattle.scc_buckets.specs.Bounded.{IsListed, KeepsLists}
 use Rattle.scc_buckets.specs.Pour.{IsRegrouped}
 use Rattle.scc_buckets.specs.declared.place.Place.{Place}
 use Rattle.scc_table.specs.Bounded.{DoublesBelow, GrowsBelow, IsDoublingDue, IsReadyBelow}
+use Rattle.scc_table.specs.Marks.{IsGrowthDue}
 use Rattle.scc_table.specs.Places.{IsInsertedAt}
 use Rattle.scc_table.specs.Relocates.{left_after, AreMovedBeside, AreShortAmong, AreShortBut}
 use Rattle.scc_table.specs.TwoArrays.{pending_targets, waits_at}
@@ -44,6 +45,10 @@ module _ {E K S : Type 0} (eq : K → K → Bool) (key : E → K) where
       pub once : (refused_of c).1 ≡ true → bucket_count d ≡ bucket_count c
       -- none is marked where it was due
       pub unmarked : 32 * bucket_count c ≤ 2 * length (entries c) → 32 * bucket_count c < 2 ^ 63 → (refused_of d).1 ≡ false
+      -- nothing is noted or marked where it wasn't due
+      pub noted : ((32 * bucket_count c ≤ 2 * length (entries c)) × (32 * bucket_count c < 2 ^ 63) → ⊥) → refused_of d ≡ refused_of c
+      -- none is marked that wasn't
+      pub marked : (refused_of d).1 ≡ true → refused_of d ≡ refused_of c
       -- no two keys are equal
       pub unique : IsUniqueBy eq key d
 
@@ -87,8 +92,14 @@ module _ {E K S : Type 0} (eq : K → K → Bool) (key : E → K) where
       pub unmarked : 0 < bucket_count c → pending_of c ≡ 0 → (HasRoomAt hash_of key c hash → ⊥) → 32 * bucket_count c ≤ 2 * length (entries c) → 32 * bucket_count c < 2 ^ 63 → (refused_of d).1 ≡ false
       -- it is refused only where there is no array
       pub none : OnErr result (bucket_count c ≡ 0)
-      -- a refusal changes nothing
+      -- a refusal changes no entry, bucket or setting
       pub refused : OnErr result (IsUnchanged c d)
+      -- nor anything else
+      pub same : OnErr result (d ≡ c)
+      -- nothing is noted or marked where no growth is due
+      pub noted : (IsGrowthDue hash_of key c hash → ⊥) → refused_of d ≡ refused_of c
+      -- no growth is marked that wasn't
+      pub marked : (refused_of d).1 ≡ true → refused_of d ≡ refused_of c
       -- no two keys are equal
       pub unique : IsUniqueBy eq key d
 

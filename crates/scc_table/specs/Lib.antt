@@ -4,6 +4,7 @@ pub mod Insertions
 pub mod LendsTable
 pub mod MadeInsertions
 pub mod Making
+pub mod Marks
 pub mod Minimums
 pub mod Placed
 pub mod Places

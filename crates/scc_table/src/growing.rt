@@ -4,6 +4,7 @@ ghost use Rattle.scc_contents.specs.Contents.{bucket_count, key_hash, lists_of, 
 ghost use Rattle.scc_contents.specs.Steps.{IsUnchanged, MakesRoom};
 ghost use Rattle.scc_table.specs.Starts.{MakesFirst};
 ghost use Rattle.scc_table.specs.Growths.{FindsBucketForNew, GrowsHalfFull};
+ghost use Rattle.scc_table.specs.Marks.{MarksRoom};
 
 use super::Table;
 use scc_buckets::sizes::MOST_BUCKETS;
@@ -37,13 +38,15 @@ where
     }
 
     /// Makes what an insertion of a new key of that hash wants: the first array, or twice as many buckets, all of which
-    /// wait then. A growth that is refused is not tried again by the insertion. Fails only where the first array is
-    /// refused.
+    /// wait then. A growth that is refused is noted, and marked: the insertion doesn't try it again. Fails only where
+    /// the first array is refused, and then nothing changes.
     pub fn make_room(&mut self, hash: u64) -> Result<(), AllocError>
         ensures ok { OnOk result (MakesRoom (key_hash H.BuildHasher H.Hasher.Hasher E.Key.hash_input self.old)
             E.key_of self.old hash self.new) }
         ensures err { OnErr result (bucket_count self.old ≡ 0) }
-        ensures same { OnErr result (IsUnchanged self.old self.new) }
+        ensures same { OnErr result (self.new ≡ self.old) }
+        ensures marks { MarksRoom (key_hash H.BuildHasher H.Hasher.Hasher E.Key.hash_input self.old) E.key_of
+            self.old hash self.new }
         ensures settings { settings_of self.new ≡ settings_of self.old }
         ensures unique { IsUniqueBy E.Key.eq E.key_of self.new }
     {

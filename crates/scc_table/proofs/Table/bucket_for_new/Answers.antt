@@ -1,6 +1,6 @@
 use Rattle.std.proofs.Common.{◌≡◌, ◌==◌, ◌∙◌, ◌<◌, length, sym, ap, arith, rules}
 use Rattle.std.specs.List.{count_by}
-use Rattle.scc_contents.specs.Contents.{HasRoomAt, bucket_count, entries, key_hash, list_of, settings_of}
+use Rattle.scc_contents.specs.Contents.{HasRoomAt, bucket_count, entries, key_hash, list_of, pending_of, settings_of}
 use Rattle.scc_contents.specs.Routing.{bucket_number}
 use Rattle.scc_table.proofs.Listed.{count-listed}
 use Rattle.scc_table.proofs.Table.bucket_for_new.Goals as goal
@@ -35,6 +35,9 @@ returns-then-list_len-lt32 g c =
       unmarked = (λ some none full. absurd (full (some, omega arith)));
       none = (search rules);
       refused = (search rules);
+      same = (search rules);
+      noted = (search rules);
+      marked = (search rules);
       unique = (search rules);
     }
 
@@ -73,5 +76,12 @@ returns g c =
       unmarked = (search rules);
       none = (search rules);
       refused = (search rules);
+      same = (search rules);
+      noted = (
+          let full : HasRoomAt hk g.E.Keyed.key_of a c.args.hash → ⊥ = λ room. absurd (let r = room.1 in omega arith) in
+          let some : 0 < bucket_count a = let z = c.if-bucket_count-eq0.false in let m = c.bucket_count.ensures.count in omega arith in
+          let none : pending_of a ≡ 0 = let z = c.if-pending-gt0.false in omega arith in
+          λ none_due. c.grow.ensures.noted (λ p. none_due record { array = some; settled = none; full = full; half = p.0; below = p.1 }));
+      marked = (search rules);
       unique = (search rules);
     }

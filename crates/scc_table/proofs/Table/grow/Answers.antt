@@ -35,6 +35,8 @@ returns-in-Ok g c =
       array = (search rules);
       once = (search rules);
       unmarked = (search rules);
+      noted = (search rules);
+      marked = (search rules);
       unique = (search rules);
     }
 
@@ -56,6 +58,8 @@ returns-in-Err g c =
       array = (let same = count-same c.args.self.now c.start.new.self c.in-Err.ensures.err in omega (arith, c.requires.some));
       once = (search rules);
       unmarked = (search rules);
+      noted = (search rules);
+      marked = (search rules);
       unique = (search rules);
     }
 
@@ -77,5 +81,7 @@ returns-then-is_tried g c =
       array = (let same = count-same c.args.self.now c.note.new.self c.note.ensures.lists in omega (arith, c.requires.some));
       once = (λ tried. count-same c.args.self.now c.note.new.self c.note.ensures.lists);
       unmarked = (search rules);
+      noted = (search rules);
+      marked = (search rules);
       unique = (search rules);
     }

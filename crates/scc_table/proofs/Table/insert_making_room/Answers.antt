@@ -66,7 +66,7 @@ returns-in-Ok g c =
       once = (
           let hk = key_hash g.H.BuildHasher g.H.Hasher.Hasher g.E.Key.Hash.hash_input a in
           λ ready. c.insert_at.ensures.buckets ∙ once-made hk g.E.Keyed.key_of a b c.args.hash made.growth (λ had. ap bucket_count (made.still had)) (λ some why. made.once some why) (rw (← c.requires.hashed) at ready));
-      fewer = (search rules);
+      fewer = (λ some kept i up. let w = made.waiting some (sym same ∙ kept) in rw (sym w) (c.insert_at.ensures.fewer i up));
       less = (
           λ some same.
           let w = c.bucket_for_new.ensures.waiting some (sym c.insert_at.ensures.buckets ∙ same) in
