@@ -4,4 +4,5 @@ pub mod Causes
 pub mod ComparingLemmas
 pub mod Handing
 pub mod Placed
+pub mod Same
 pub mod Seen

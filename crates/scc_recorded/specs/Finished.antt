@@ -1,6 +1,6 @@
 -- What a finished run says by itself, and what a refused one.
 use Rattle.std.specs.Prelude.{◌≡◌, ℕ, Bool, List, length, map, Option, Some}
-use Rattle.std.specs.List.{AllByRecursion}
+use Rattle.std.specs.List.{AllByRecursion, sum_by}
 use Rattle.scc_calls.specs.Histories.{Replays, CallsRouted, Run, FirstMisrouted}
 use Rattle.scc_calls.specs.Made.{IsMadeFor}
 use Rattle.scc_calls.specs.declared.fixed.Request.{Request}
@@ -8,6 +8,7 @@ use Rattle.scc_calls.specs.declared.fixed.Setting.{Setting}
 use Rattle.scc_calls.specs.declared.steps.Step.{Step}
 use Rattle.scc_history.specs.Orders.{IsMergeOrder, IsOnlyStampOrder, StampsRise, steps_at}
 use Rattle.scc_history.specs.Receipts.{AreAll, calls_of}
+use Rattle.scc_history.specs.Stamps.{calls_in}
 use Rattle.scc_history.specs.declared.receipts.Receipt.{Receipt}
 use Rattle.scc_recorded.specs.Closing.{AllMatch, FirstDisagrees}
 use Rattle.scc_recorded.specs.declared.refusals.FinishError.{FinishError}
@@ -68,6 +69,8 @@ module _ {C H S W A R K T : Type 0} (kind : Kind C H S W A R K) (number : T → 
     pub complete : AreAll handed (map number passes)
     -- along the order the receipts of each pass are the records of its calls, one for one: in stripe, stamp, call and reply
     pub receipts : AllMatch kind.calls kind.replies number told passes (λ n. calls_of n (steps_at histories places))
+    -- all histories together have as many call records as the passes have receipts
+    pub count : sum_by calls_in histories ≡ sum_by (λ p. length (told p)) passes
 
   -- why a run isn't finished: what speaks against it is named, the first of its kind, and what is looked for earlier isn't there
   pub record IsRefused (cause : FinishError) : Type 0 where

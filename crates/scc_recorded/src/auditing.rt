@@ -1,5 +1,5 @@
 //! The ledgers tell that there are as many call records as receipts.
-ghost use Rattle.std.specs.Prelude.{◌≡◌, ◌+◌, ◌<◌, length, map, vec_len};
+ghost use Rattle.std.specs.Prelude.{◌≡◌, ◌+◌, ◌<◌, length, vec_len};
 ghost use Rattle.std.specs.List.{sum_by};
 ghost use Rattle.scc_history.specs.Stamps.{calls_in};
 
@@ -9,16 +9,13 @@ use scc_calls::{Calls, Step};
 use std::sync::ledger::{Book, Ledger, Share};
 
 impl<C: Calls, L: Ledger, M: Site<C::Hasher>> Closed<C, L, M> {
-    /// Compares nothing, and shows by the ledgers that all passes together have as many receipts as all stripes have
-    /// call records. It may come before `finish`, and after a refused one.
+    /// Compares nothing and changes nothing, and shows by the ledgers that all passes together have as many receipts as
+    /// all stripes have call records. `finish` does so too.
     pub fn audit(&mut self, passes: &mut [Pass<C, L>])
-        requires passes { (length passes.old ≡ L.parts) × (0 < L.parts) }
-        requires stripes { (M.all ≡ M.parts) × (0 < M.parts) }
+        requires { length passes.old ≡ self.old.passes }
         ensures equal { sum_by (λ s. calls_in s.stripe.history.items) self.old.stripes.items
             ≡ sum_by (λ p. length p.log.receipts.items) passes.old }
-        ensures stripes { map (λ s. s.stripe) self.new.stripes.items ≡ map (λ s. s.stripe) self.old.stripes.items }
-        ensures passes { map (λ p. p.log) passes.new ≡ map (λ p. p.log) passes.old }
-        ensures same { (self.new.passes ≡ self.old.passes) × (self.new.hasher ≡ self.old.hasher) }
+        ensures same { (self.new ≡ self.old) × (passes.new ≡ passes.old) }
     {
         let Closed {
             stripes,
@@ -26,6 +23,8 @@ impl<C: Calls, L: Ledger, M: Site<C::Hasher>> Closed<C, L, M> {
             passes: _,
             count,
             alloc: _,
+            handed: _,
+            divided: _,
         } = self;
         let Count { receipts, records } = count;
         Pass::audit_all(passes, receipts);
@@ -38,8 +37,7 @@ impl<C: Calls, L: Ledger> Pass<C, L> {
     fn audit_all(passes: &mut [Pass<C, L>], book: &mut Book<L>)
         requires { (length passes.old ≡ L.parts) × (0 < L.parts) }
         ensures total { book.old.total ≡ sum_by (λ p. length p.log.receipts.items) passes.old }
-        ensures same { book.new.total ≡ book.old.total }
-        ensures passes { map (λ p. p.log) passes.new ≡ map (λ p. p.log) passes.old }
+        ensures same { (book.new.total ≡ book.old.total) × (passes.new ≡ passes.old) }
     {
         let first = &mut passes[0];
         let Pass { log: _, share } = first;
@@ -54,7 +52,7 @@ impl<C: Calls, L: Ledger> Pass<C, L> {
         ensures total { book.old.total ≡ seen.old.amount + sum_by (λ p. length p.log.receipts.items) passes.old }
         ensures same { (book.new.total ≡ book.old.total) × (seen.new.parts ≡ seen.old.parts)
             × (seen.new.amount ≡ seen.old.amount) }
-        ensures passes { map (λ p. p.log) passes.new ≡ map (λ p. p.log) passes.old }
+        ensures passes { passes.new ≡ passes.old }
     {
         if passes.is_empty() {
             book.audit(seen);
@@ -75,8 +73,7 @@ impl<C: Calls, M: Site<C::Hasher>> Guarded<C, M> {
     fn audit_all(stripes: &mut [Guarded<C, M>], book: &mut Book<M>)
         requires { (length stripes.old ≡ M.parts) × (0 < M.parts) }
         ensures total { book.old.total ≡ sum_by (λ s. calls_in s.stripe.history.items) stripes.old }
-        ensures same { book.new.total ≡ book.old.total }
-        ensures stripes { map (λ s. s.stripe) stripes.new ≡ map (λ s. s.stripe) stripes.old }
+        ensures same { (book.new.total ≡ book.old.total) × (stripes.new ≡ stripes.old) }
     {
         let first = &mut stripes[0];
         let Guarded { stripe: _, share } = first;
@@ -91,7 +88,7 @@ impl<C: Calls, M: Site<C::Hasher>> Guarded<C, M> {
         ensures total { book.old.total ≡ seen.old.amount + sum_by (λ s. calls_in s.stripe.history.items) stripes.old }
         ensures same { (book.new.total ≡ book.old.total) × (seen.new.parts ≡ seen.old.parts)
             × (seen.new.amount ≡ seen.old.amount) }
-        ensures stripes { map (λ s. s.stripe) stripes.new ≡ map (λ s. s.stripe) stripes.old }
+        ensures stripes { stripes.new ≡ stripes.old }
     {
         if stripes.is_empty() {
             book.audit(seen);

@@ -3,7 +3,7 @@ ghost use Rattle.std.specs.Prelude.{◌≡◌, ℕ, ◌+◌, ◌<◌, ◌≤◌,
 ghost use Rattle.scc_calls.specs.declared.fixed.Request.{Request};
 ghost use Rattle.scc_history.specs.Stamps.{Rises};
 
-use crate::counts::Count;
+use crate::counts::{Count, Parts};
 use crate::locked::Locked;
 use crate::rooms::Room;
 use crate::{Guarded, Recorded, Site};
@@ -21,9 +21,13 @@ pub struct Closed<C: Calls, L: Ledger, M: Site<C::Hasher>> {
     pub passes: usize,
     pub(crate) count: Count<L, M>,
     pub(crate) alloc: Global,
+    pub(crate) handed: Parts<L>,
+    pub(crate) divided: Parts<M>,
     pub ghost placed: { ∥ ((r : Request C.Hasher) × (M.chosen ≡ Some r) × (r.hasher ≡ hasher)) ∥₁ },
     pub ghost some: { 0 < vec_len stripes },
     pub ghost all: { vec_len stripes ≡ M.all },
+    pub ghost handed_all: { handed.count ≡ passes },
+    pub ghost divided_all: { divided.count ≡ vec_len stripes },
 }
 
 impl<C: Calls + Drop, L: Ledger, M: Site<C::Hasher>> Recorded<C, L, M>
@@ -44,6 +48,8 @@ where
             passes,
             alloc,
             room,
+            handed,
+            divided,
         } = self;
         let mut locks = locks;
         let Room { list } = room.into_inner();
@@ -58,6 +64,8 @@ where
             passes,
             count: count.into_inner(),
             alloc,
+            handed,
+            divided,
         }
     }
 }

@@ -1,7 +1,31 @@
-//! The two books under one lock.
+//! The two books under one lock, and how many parts a ledger has.
 ghost use Rattle.std.specs.Prelude.{◌≡◌, ◌+◌, ◌<◌};
 
+use std::marker::PhantomData;
 use std::sync::ledger::{Book, Ledger, Share};
+
+/// The number of the parts of a ledger. It stands apart from the tokens, since a fact beside one can't name that number.
+#[derive(Drop)]
+pub struct Parts<L: Ledger> {
+    pub count: usize,
+    of: PhantomData<L>,
+    pub ghost all: { count ≡ L.parts },
+    pub ghost some: { 0 < count },
+}
+
+impl<L: Ledger> Parts<L> {
+    // The ledger has so many.
+    pub(crate) fn new(count: usize) -> Parts<L>
+        requires all { count ≡ L.parts }
+        requires some { 0 < count }
+        ensures { result.count ≡ count }
+    {
+        Parts {
+            count,
+            of: PhantomData,
+        }
+    }
+}
 
 /// The numbers of all receipts and of all call records, which are equal.
 #[derive(Drop)]

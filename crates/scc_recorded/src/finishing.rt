@@ -1,9 +1,11 @@
 //! What a run was.
 ghost use Rattle.std.specs.Prelude.{◌≡◌, ℕ, ◌+◌, ◌<◌, ◌≤◌, List, [], length, map, Err, IfOk, IfErr, Some, slice_get, vec_len, vec_capacity};
+ghost use Rattle.std.specs.List.{sum_by};
 ghost use Rattle.scc_calls.specs.Histories.{CallsRouted};
 ghost use Rattle.scc_contents.specs.Routing.{stripe_of};
 ghost use Rattle.scc_history.specs.Orders.{IsOnlyStampOrder, steps_at};
 ghost use Rattle.scc_history.specs.Receipts.{AreAll, calls_of};
+ghost use Rattle.scc_history.specs.Stamps.{calls_in};
 ghost use Rattle.scc_recorded.specs.Closing.{AllMatch};
 ghost use Rattle.scc_recorded.specs.Finished.{IsFinished, IsRefused, make_kind};
 
@@ -41,12 +43,54 @@ where
     C::Hasher: Drop,
 {
     /// What the run was, where the passes are all that were handed out, each call stands in the stripe of its key, and
-    /// each pass has a receipt for each of its call records and no other.
+    /// each pass has a receipt for each of its call records and no other. Where the passes are all, they have as many
+    /// receipts together as the stripes have call records, also if it is refused.
     ///
     /// It takes time by the number of records times the logarithm of the number of stripes. Where it is refused, all
     /// that was handed in comes back unchanged. `Missing` comes first, then `Misrouted`, then `Disagrees`; `Memory`
     /// only where memory for a list was refused.
     pub fn finish(self, passes: Vec<Pass<C, L>>) -> Result<Finished<C>, Unfinished<C, L, M>>
+        ensures parts { IfOk result (λ f. (f.parts.items ≡ map (λ s. s.stripe.container) self.stripes.items)
+            × (map (λ h. h.items) f.histories.items ≡ map (λ s. s.stripe.history.items) self.stripes.items)
+            × (f.opened.items ≡ map (λ s. s.stripe.opened) self.stripes.items)) }
+        ensures finished { IfOk result (λ f. IsFinished (make_kind C.limits C.empty C.key_of C.means C.resizes C.whole
+            C.whole_means C.whole_resizes C.setting C.state C.Call.eq C.Reply.eq
+            (stripe_of C.Hasher.BuildHasher C.Hasher.Hasher.Hasher C.Key.Hash.hash_input))
+            (λ p. p.log.number) (λ p. p.log.receipts.items) self.hasher self.passes
+            (map (λ h. h.items) f.histories.items) passes.items M.chosen f.parts.items f.opened.items f.order.items) }
+        ensures back { IfErr result (λ u. (u.recorded ≡ self) × (u.passes ≡ passes)) }
+        ensures refused { IfErr result (λ u. IsRefused (make_kind C.limits C.empty C.key_of C.means C.resizes C.whole
+            C.whole_means C.whole_resizes C.setting C.state C.Call.eq C.Reply.eq
+            (stripe_of C.Hasher.BuildHasher C.Hasher.Hasher.Hasher C.Key.Hash.hash_input))
+            (λ p. p.log.number) (λ p. p.log.receipts.items) u.recorded.hasher u.recorded.passes
+            (map (λ s. s.stripe.history.items) u.recorded.stripes.items) u.passes.items u.cause) }
+        ensures counted { IfErr result (λ u. AreAll u.recorded.passes (map (λ p. p.log.number) u.passes.items)
+            → sum_by (λ s. calls_in s.stripe.history.items) u.recorded.stripes.items
+            ≡ sum_by (λ p. length p.log.receipts.items) u.passes.items) }
+    {
+        let mut closed = self;
+        let mut passes = passes;
+        closed.count(&mut passes);
+        closed.finish_counted(passes)
+    }
+
+    // Shows that there are as many call records as receipts, where there are as many passes as were handed out.
+    fn count(&mut self, passes: &mut Vec<Pass<C, L>>)
+        ensures same { (self.new ≡ self.old) × (passes.new ≡ passes.old) }
+        ensures equal { AreAll self.old.passes (map (λ p. p.log.number) passes.old.items)
+            → sum_by (λ s. calls_in s.stripe.history.items) self.old.stripes.items
+            ≡ sum_by (λ p. length p.log.receipts.items) passes.old.items }
+    {
+        if passes.len() == self.passes {
+            self.audit(passes.as_mut_slice());
+        }
+    }
+
+    // What the run was, where there are as many call records as receipts if the passes are all.
+    fn finish_counted(self, passes: Vec<Pass<C, L>>) -> Result<Finished<C>, Unfinished<C, L, M>>
+        requires { AreAll self.passes (map (λ p. p.log.number) passes.items)
+            → sum_by (λ s. calls_in s.stripe.history.items) self.stripes.items
+            ≡ sum_by (λ p. length p.log.receipts.items) passes.items }
         ensures parts { IfOk result (λ f. (f.parts.items ≡ map (λ s. s.stripe.container) self.stripes.items)
             × (map (λ h. h.items) f.histories.items ≡ map (λ s. s.stripe.history.items) self.stripes.items)
             × (f.opened.items ≡ map (λ s. s.stripe.opened) self.stripes.items)) }
@@ -91,6 +135,8 @@ where
             passes: _,
             count: _,
             alloc: _,
+            handed: _,
+            divided: _,
         } = self;
         move_out(stripes, &mut parts, &mut histories, &mut opened);
         Ok(Finished {
@@ -165,6 +211,9 @@ where
             (stripe_of C.Hasher.BuildHasher C.Hasher.Hasher.Hasher C.Key.Hash.hash_input))
             (λ p. p.log.number) (λ p. p.log.receipts.items) u.recorded.hasher u.recorded.passes
             (map (λ s. s.stripe.history.items) u.recorded.stripes.items) u.passes.items u.cause) }
+        ensures counted { IfErr result (λ u. AreAll u.recorded.passes (map (λ p. p.log.number) u.passes.items)
+            → sum_by (λ s. calls_in s.stripe.history.items) u.recorded.stripes.items
+            ≡ sum_by (λ p. length p.log.receipts.items) u.passes.items) }
     {
         self.close().finish(passes)
     }

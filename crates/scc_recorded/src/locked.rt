@@ -8,7 +8,7 @@ ghost use Rattle.scc_calls.specs.Copies.{ClonesEqual, MayNotClone};
 ghost use Rattle.scc_contents.specs.Routing.{stripe_of};
 ghost use Rattle.scc_recorded.specs.Adds.{MayAnswer};
 
-use crate::counts::Count;
+use crate::counts::{Count, Parts};
 use crate::rooms::Room;
 use crate::{Guarded, Pass, Site};
 use scc_calls::{Calls, route};
@@ -32,10 +32,14 @@ pub struct Recorded<C: Calls, L: Ledger, M: Site<C::Hasher>> {
     pub hasher: C::Hasher,
     pub(crate) alloc: Global,
     pub(crate) room: Mutex<Room<C, M>>,
+    pub(crate) handed: Parts<L>,
+    pub(crate) divided: Parts<M>,
     pub ghost placed: { ∥ ((r : Request C.Hasher) × (M.chosen ≡ Some r) × (r.hasher ≡ hasher)) ∥₁ },
     pub ghost number: { vec_len locks ≡ stripes },
     pub ghost some: { 0 < stripes },
     pub ghost all: { M.all ≡ stripes },
+    pub ghost handed_all: { handed.count ≡ passes },
+    pub ghost divided_all: { divided.count ≡ stripes },
     pub ghost numbers: { map (λ l. l.number) locks.items ≡ range_with_len 0 stripes },
 }
 

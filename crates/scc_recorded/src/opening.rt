@@ -3,7 +3,7 @@ ghost use Rattle.std.specs.Prelude.{◌≡◌, ℕ, ◌+◌, ◌<◌, ◌≤◌,
 ghost use Rattle.std.specs.List.{AllByRecursion, range_with_len};
 ghost use Rattle.scc_recorded.specs.Setups.{IsStripes, request_of, share_of, skipped_for};
 
-use crate::counts::Count;
+use crate::counts::{Count, Parts};
 use crate::lists::list_for;
 use crate::locked::Locked;
 use crate::rooms::Room;
@@ -69,6 +69,8 @@ where
             hasher,
             alloc,
             room: Mutex::new(Room { list }),
+            handed: Parts::new(passes),
+            divided: Parts::new(stripes),
         };
         Ok((recorded, handed))
     }
