@@ -8,3 +8,4 @@ pub mod IndexWalks
 pub mod Insertions
 pub mod Lends
 pub mod Removals
+pub mod Seats

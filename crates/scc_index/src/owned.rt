@@ -362,7 +362,7 @@ impl<K: Eq + Hash, V, H: BuildHasher> Owned<K, V, H> {
 
     /// The key and the value at the place.
     #[inline(always)]
-    pub(crate) fn pair_at(&self, place: Place) -> (&K, &V)
+    pub fn pair_at(&self, place: Place) -> (&K, &V)
         requires { IsPlace self.now place }
         ensures { slice_get (entries self.now) (index_of self.now place) ≡ Some (result.0.now, result.1.now) }
     {

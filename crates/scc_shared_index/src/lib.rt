@@ -6,6 +6,7 @@ ghost use Rattle.std.specs.Prelude.{◌≤◌, ◌^◌};
 mod calls;
 mod entries;
 mod sizes;
+mod unlocked;
 mod walks;
 mod whole;
 
@@ -85,34 +86,7 @@ impl<K: Eq + Hash, V, H: BuildHasher> HashIndex<K, V, H> {
         let Ok(owner) = Arc::new(alloc, hasher) else {
             return Err(MakeError);
         };
-        HashIndex::under(alloc, bits, slots, owner)
-    }
-
-    /// The same under a hasher that others may own too.
-    fn under(alloc: Global, bits: u32, slots: usize, owner: Arc<H>) -> Result<Self, MakeError>
-    where
-        K: Drop,
-        V: Drop,
-        H: Drop,
-        requires bits { bits ≤ 4 }
-        requires most { slots ≤ 2 ^ 63 }
-    {
         let stripes = Striped::make(alloc, bits, slots, 0, owner)?;
         Ok(HashIndex { stripes, alloc })
-    }
-
-    /// An empty index under the same hasher.
-    fn alike(&self, capacity: usize) -> Result<Self, MakeError>
-    where
-        K: Drop,
-        V: Drop,
-        H: Drop,
-    {
-        let owner = self.stripes.owner()?;
-        if capacity == 0 {
-            return HashIndex::under(self.alloc, 4, 0, owner);
-        }
-        let slots = slots_for(capacity);
-        HashIndex::under(self.alloc, bits_for(slots), slots, owner)
     }
 }

@@ -1,9 +1,11 @@
 //! What is done with a whole index: comparisons, clones, indexes made of items. They look at the stripes one after
 //! another.
-ghost use Rattle.std.specs.Prelude.{◌<◌, vec_len};
+ghost use Rattle.std.specs.Prelude.{◌≡◌, ◌<◌, IfOk, vec_len};
 ghost use Rattle.std.specs.Iterator.{IsFinite};
+ghost use Rattle.scc_shared_index.specs.Stripes.{hasher_of};
 
 use super::HashIndex;
+use super::unlocked::Unlocked;
 use scc_common::{InsertError, MakeError};
 use std::alloc::Global;
 use std::cell::Cell;
@@ -71,29 +73,18 @@ impl<K: Eq + Hash, V: PartialEq, H: BuildHasher> HashIndex<K, V, H> {
 
 impl<K: Eq + Hash + Clone + Drop, V: Clone + Drop, H: BuildHasher + Drop> HashIndex<K, V, H> {
     /// An index with clones of the pairs that each stripe has when it is looked at, under the same hasher. It asks for
-    /// the capacity of this one.
-    pub fn try_clone(&self, rt: &impl Wait) -> Result<Self, MakeError> {
-        let made = self.alike(self.capacity(rt))?;
+    /// the capacity of this one. One stripe of this one is held at a time, for reading, and no lock is round the clones
+    /// before all are there.
+    pub fn try_clone(&self, rt: &impl Wait) -> Result<Self, MakeError>
+        ensures hasher { IfOk result (λ m. hasher_of m ≡ hasher_of self.now) }
+    {
+        let mut made = Unlocked::alike(self.alloc, self, self.capacity(rt))?;
         for stripe in 0..self.stripes.stripes() {
-            if !self
-                .stripes
-                .read(rt, stripe)
-                .iter_sync(|k, v| made.put_clones(rt, k, v))
-            {
+            if !made.put_all(&self.stripes.read(rt, stripe)) {
                 return Err(MakeError);
             }
         }
-        Ok(made)
-    }
-
-    fn put_clones(&self, rt: &impl Wait, k: &K, v: &V) -> bool {
-        let Ok(key) = k.clone() else {
-            return false;
-        };
-        let Ok(value) = v.clone() else {
-            return false;
-        };
-        self.insert_sync(rt, key, value).is_ok()
+        made.lock(self.alloc)
     }
 }
 

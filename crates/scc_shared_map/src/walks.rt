@@ -1,5 +1,6 @@
 //! Walks over all stripes, one after another. The closure is lent to each stripe in turn.
-ghost use Rattle.std.specs.Prelude.{◌≡◌, ◌++◌, List};
+ghost use Rattle.std.specs.Prelude.{◌≡◌, ◌≤◌, ◌++◌, List, length, OnErr};
+ghost use Rattle.std.specs.Vec.{vec_len, vec_capacity};
 ghost use Rattle.scc_contents.specs.Walks.{CalledOn, Walks};
 ghost use Rattle.scc_contents.specs.PairWalks.{CalledToWrite, Retains, Takes};
 
@@ -54,6 +55,8 @@ impl<K: Eq + Hash, V, H: BuildHasher> HashMap<K, V, H> {
         requires { F.IsAlwaysCallable f }
         ensures calls { (es : List (K × V)) × (stay : List (K × V)) × (more : List (K × V)) × (last : F)
             × Takes (CalledToWrite F.FnMut) f es stay more result last × (taken.new.items ≡ taken.old.items ++ more) }
+        ensures full { OnErr result (vec_capacity taken.new ≤ vec_len taken.new) }
+        ensures room { vec_capacity taken.old ≤ vec_capacity taken.new }
     {
         self.iter_mut_into(rt, f, taken)
     }
@@ -69,6 +72,8 @@ impl<K: Eq + Hash, V, H: BuildHasher> HashMap<K, V, H> {
         ensures calls { (es : List (K × V)) × (stay : List (K × V)) × (more : List (K × V)) × (last : F)
             × Takes (CalledToWrite F.FnMut) f es stay more result last
             × (L.pairs taken.new ≡ L.pairs taken.old ++ more) }
+        ensures full { OnErr result (L.capacity taken.new ≤ length (L.pairs taken.new)) }
+        ensures room { L.capacity taken.old ≤ L.capacity taken.new }
     {
         for stripe in 0..self.stripes.stripes() {
             let mut guard = self.stripes.write(rt, stripe);

@@ -3,8 +3,12 @@
 #![tactic(auto)]
 
 pub mod book;
+pub mod parts;
+pub mod seats;
 pub mod shares;
 pub mod striped;
 
 pub use book::{Added, ReserveBook};
-pub use striped::{Follow, Part, Seat, Striped};
+pub use parts::Parts;
+pub use seats::Seat;
+pub use striped::{Follow, Part, Striped};

@@ -4,6 +4,7 @@ ghost use Rattle.std.specs.Arc.{arc_value};
 ghost use Rattle.scc_contents.specs.Routing.{stripe_of};
 
 use crate::book::{Added, ReserveBook};
+use crate::parts::Parts;
 use crate::shares::share;
 use scc_buckets::route::bucket_index;
 use scc_common::MakeError;
@@ -44,10 +45,10 @@ pub trait Part<H>: Sized {
 /// share it by reference.
 #[derive(Drop)]
 pub struct Striped<O, H> {
-    locks: Vec<RwLock<O>>,
-    hasher: Arc<H>,
-    bits: u32,
-    book: ReserveBook,
+    pub(crate) locks: Vec<RwLock<O>>,
+    pub(crate) hasher: Arc<H>,
+    pub(crate) bits: u32,
+    pub(crate) book: ReserveBook,
     pub ghost few: { bits ≤ 4 },
     pub ghost number: { vec_len locks ≡ 2 ^ bits },
 }
@@ -70,24 +71,7 @@ impl<O, H> Striped<O, H> {
         ensures bits { IfOk result (λ s. s.bits ≡ bits) }
         ensures hasher { IfOk result (λ s. arc_value s.hasher ≡ arc_value hasher) }
     {
-        let count = 1usize << bits;
-        let mut locks = Vec::new(alloc);
-        for made in 0..count {
-            prove!(locks.len() == made);
-            let Ok(owner) = Arc::try_clone(&hasher) else {
-                return Err(MakeError);
-            };
-            let part = O::make_part(alloc, bits, share(bits, slots), share(bits, maximum), owner)?;
-            if locks.push(RwLock::new(part)).is_err() {
-                return Err(MakeError);
-            }
-        }
-        Ok(Striped {
-            locks,
-            hasher,
-            bits,
-            book: ReserveBook::new(slots),
-        })
+        Parts::make(alloc, bits, slots, maximum, hasher)?.lock(alloc)
     }
 
     /// One more owner of the hasher.
@@ -235,43 +219,5 @@ impl<O, H> Striped<O, H> {
             self.follow(&mut *guard);
         }
         Some(added)
-    }
-}
-
-/// Which of the stripes is held, for those who go on to the later ones.
-#[derive(Drop)]
-pub struct Seat<'a, O, H> {
-    stripes: &'a Striped<O, H>,
-    stripe: usize,
-}
-
-impl<'a, O, H> Seat<'a, O, H> {
-    /// A seat in the stripe of that number.
-    pub fn new(stripes: &'a Striped<O, H>, stripe: usize) -> Self
-        ensures stripes { result.stripes.now ≡ stripes.now }
-        ensures stripe { result.stripe ≡ stripe }
-    {
-        Seat { stripes, stripe }
-    }
-
-    /// The stripe after this one, held for writing; None where this is the last.
-    pub fn later(self, rt: &impl Wait) -> Option<(RwLockWriteGuard<'a, O>, Self)>
-        ensures { IfSome result (λ r. self.entry.stripe < r.1.stripe) }
-    {
-        let Seat { stripes, stripe } = self;
-        if stripe >= stripes.locks.len() || stripes.locks.len() - stripe < 2 {
-            return None;
-        }
-        let stripe = stripe + 1;
-        let guard = stripes.locks[stripe].write(rt);
-        Some((guard, Seat { stripes, stripe }))
-    }
-
-    /// Gives the container that is held its share of the minimum as it is now.
-    pub fn follow(&self, container: &mut O)
-    where
-        O: Follow,
-    {
-        self.stripes.follow(container);
     }
 }

@@ -4,6 +4,7 @@ ghost use Rattle.scc_contents.specs.Contents.{entries};
 ghost use Rattle.scc_contents.specs.Pairs.{find, IsUnique};
 ghost use Rattle.scc_index.specs.Entries.{entry_guard, occupied_pair, occupied_front, IsOccupiedAt, IsEntryOf};
 ghost use Rattle.scc_index.specs.EntrySteps.{StandsIn};
+ghost use Rattle.scc_index.specs.Seats.{entry_rest, held_rest};
 ghost use Rattle.scc_contents.specs.Walks.{CalledOn, CallableWhile};
 ghost use Rattle.scc_contents.specs.PairWalks.{Declines, PassesAt};
 
@@ -20,6 +21,7 @@ impl<G: Guard<Kept = Owned<K, V, H>>, N, K: Eq + Hash, V, H: BuildHasher> HeldPl
     where
         K: Drop,
         ensures guard { entry_guard result ≡ guard }
+        ensures rest { entry_rest result ≡ rest }
         ensures entry { IsEntryOf K.eq (G.kept guard) k result }
         ensures unique { IsUnique K.eq (G.kept guard) }
     {
@@ -49,6 +51,7 @@ impl<G: Guard<Kept = Owned<K, V, H>>, N, K: Eq + Hash, V, H: BuildHasher> HeldEn
         G: Drop,
         N: Drop,
         ensures guard { IfSome result (λ o. o.guard ≡ guard) }
+        ensures rest { IfSome result (λ o. held_rest o ≡ rest) }
         ensures entry { IfSome result (IsOccupiedAt K.eq (G.kept guard) k.now) }
         ensures missing { IfNone result (find K.eq (entries (G.kept guard)) k.now ≡ None) }
         ensures unique { IsUnique K.eq (G.kept guard) }
@@ -71,6 +74,7 @@ impl<G: Guard<Kept = Owned<K, V, H>>, N, K: Eq + Hash, V, H: BuildHasher> HeldEn
     where
         G: Drop,
         ensures guard { IfOk result (λ o. o.guard ≡ guard) }
+        ensures rest { IfOk result (λ o. held_rest o ≡ rest) }
         ensures first { IfOk result (λ o. StandsIn (G.kept guard) o × (occupied_front o ≡ [])) }
         ensures empty { IfErr result (λ n. (n ≡ rest) × (entries (G.kept guard) ≡ [])) }
     {
@@ -93,6 +97,7 @@ impl<G: Guard<Kept = Owned<K, V, H>>, N, K: Eq + Hash, V, H: BuildHasher> HeldEn
     where
         G: Drop,
         requires { CallableWhile P.FnMut false p.old (entries (G.kept guard)) }
+        ensures rest { IfOk result (λ o. held_rest o ≡ rest) }
         ensures here { IfOk result (StandsIn (G.kept guard)) }
         ensures first { IfOk result (λ o. PassesAt (CalledOn P.FnMut) p.old (occupied_front o) (occupied_pair o)) }
         ensures none { IfErr result (λ n. (n ≡ rest)

@@ -105,14 +105,14 @@ impl<K: Eq + Hash, V, H: BuildHasher> Owned<K, V, H> {
     }
 
     /// The place of the first version of the list, or None where the index is empty.
-    pub(crate) fn first_place(&self) -> Option<Place>
+    pub fn first_place(&self) -> Option<Place>
         ensures { MatchOption result (entries self.now ≡ []) (StandsAt self.now 0) }
     {
         self.table.first_place()
     }
 
     /// The place after that one, or None where it is the last.
-    pub(crate) fn next_place(&self, place: Place) -> Option<Place>
+    pub fn next_place(&self, place: Place) -> Option<Place>
         requires { IsPlace self.now place }
         ensures { MatchOption result (suc (index_of self.now place) ≡ length (entries self.now))
             (StandsAt self.now (suc (index_of self.now place))) }

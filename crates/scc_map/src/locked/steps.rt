@@ -3,6 +3,8 @@
 ghost use Rattle.std.specs.Prelude.{◌≡◌, [], IfSome, IsSomeAnd};
 ghost use Rattle.scc_map.specs.Entries.{held_map, occupied_pair, occupied_front, occupied_back};
 ghost use Rattle.scc_map.specs.EntrySteps.{StandsIn, IsNext, IsNextPastRemoved};
+ghost use Rattle.scc_map.specs.Seats.{held_rest, HoldsLater, KeepsRest};
+ghost use Rattle.scc_stripes.specs.Seats.{IsLaterSeat};
 
 use super::OccupiedEntry;
 use crate::held::HeldEntry;
@@ -13,12 +15,13 @@ use std::hash::{BuildHasher, Hash};
 use std::marker::PhantomData;
 use std::sync::{RwLockWriteGuard, Wait};
 
-/// The first entry of the stripes after the one of the seat.
+/// The first entry of the stripes after that of the seat. It has the seat of its own stripe.
 pub fn first_later<'a, K: Eq + Hash, V, H: BuildHasher>(
     rt: &impl Wait,
     seat: Seat<'a, Owned<K, V, Shared<H>>, H>,
 ) -> Option<OccupiedEntry<'a, K, V, H>>
-    ensures { IfSome result (λ n. StandsIn (held_map n) n × (occupied_front n ≡ [])) }
+    ensures first { IfSome result (λ n. StandsIn (held_map n) n × (occupied_front n ≡ [])) }
+    ensures seat { IfSome result (λ n. IsLaterSeat seat.entry (held_rest n)) }
 {
     let mut seat = seat;
     for _ in 0..16u8 {
@@ -44,6 +47,8 @@ impl<'a, K: Eq + Hash, V, H: BuildHasher> HeldEntry<
         ensures next { (occupied_back self.entry ≡ [] → ⊥) → IsSomeAnd result (IsNext self.entry) }
         ensures later { occupied_back self.entry ≡ []
             → IfSome result (λ n. StandsIn (held_map n) n × (occupied_front n ≡ [])) }
+        ensures stays { (occupied_back self.entry ≡ [] → ⊥) → IfSome result (KeepsRest self.entry) }
+        ensures goes_on { occupied_back self.entry ≡ [] → IfSome result (HoldsLater self.entry) }
     {
         let HeldEntry {
             guard,
@@ -72,6 +77,8 @@ impl<'a, K: Eq + Hash, V, H: BuildHasher> HeldEntry<
         ensures next { (occupied_back self.entry ≡ [] → ⊥) → IsSomeAnd result.1 (IsNextPastRemoved self.entry) }
         ensures later { occupied_back self.entry ≡ []
             → IfSome result.1 (λ n. StandsIn (held_map n) n × (occupied_front n ≡ [])) }
+        ensures stays { (occupied_back self.entry ≡ [] → ⊥) → IfSome result.1 (KeepsRest self.entry) }
+        ensures goes_on { occupied_back self.entry ≡ [] → IfSome result.1 (HoldsLater self.entry) }
     {
         let HeldEntry {
             mut guard,

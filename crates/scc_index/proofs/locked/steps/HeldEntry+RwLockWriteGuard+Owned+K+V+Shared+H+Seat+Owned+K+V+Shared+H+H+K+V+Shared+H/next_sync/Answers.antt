@@ -17,3 +17,9 @@ returns-in-Some-clause-later g c = λ none. let at = rw c.deref.ensures at c.in-
 
 pub returns-in-None-clause-next : goal.returns-in-None-clause-next
 returns-in-None-clause-next g c = λ some. let last = rw c.deref.ensures at c.in-None.ensures in absurd (some (back-none _ _ last))
+
+pub returns-in-Some-clause-goes_on : goal.returns-in-Some-clause-goes_on
+returns-in-Some-clause-goes_on g c = λ none. let at = rw c.deref.ensures at c.in-Some.ensures in none-after _ c.args.self.place c.in-Some.place c.args.self.within at.within at.index none
+
+pub returns-in-None-clause-stays : goal.returns-in-None-clause-stays
+returns-in-None-clause-stays g c = λ some. let last = rw c.deref.ensures at c.in-None.ensures in absurd (some (back-none _ _ last))

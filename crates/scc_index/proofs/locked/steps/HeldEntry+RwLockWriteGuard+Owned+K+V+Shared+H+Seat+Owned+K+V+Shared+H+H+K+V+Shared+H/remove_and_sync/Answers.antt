@@ -18,3 +18,11 @@ returns-in-Some-clause-later g c = λ none.
 
 pub returns-in-None-clause-next : goal.returns-in-None-clause-next
 returns-in-None-clause-next g c = λ some. let last = rw (c.in-None.is, c.deref_mut.ensures.value) at c.take_and_step.ensures.next in absurd (some (back-none _ _ last))
+
+pub returns-in-Some-clause-goes_on : goal.returns-in-Some-clause-goes_on
+returns-in-Some-clause-goes_on g c = λ none.
+    let at = rw (c.in-Some.is, c.deref_mut.ensures.value) at c.take_and_step.ensures.next in
+    none-past _ c.args.self.place c.in-Some.place _ at.within (rw c.deref_mut.ensures.value at c.take_and_step.ensures.others) (rw c.deref_mut.ensures.value at c.take_and_step.ensures.noted) at.index none
+
+pub returns-in-None-clause-stays : goal.returns-in-None-clause-stays
+returns-in-None-clause-stays g c = λ some. let last = rw (c.in-None.is, c.deref_mut.ensures.value) at c.take_and_step.ensures.next in absurd (some (back-none _ _ last))

@@ -1,0 +1,89 @@
+//! An index before a lock is round any of its stripes.
+ghost use Rattle.std.specs.Prelude.{◌≡◌, IfOk};
+ghost use Rattle.std.specs.Arc.{arc_value};
+ghost use Rattle.scc_shared_index.specs.Stripes.{hasher_of};
+
+use super::HashIndex;
+use scc_buckets::sizes::slots_for;
+use scc_common::{MakeError, Shared};
+use scc_index::Owned;
+use scc_stripes::Parts;
+use scc_stripes::shares::bits_for;
+use std::alloc::Global;
+use std::hash::{BuildHasher, Hash};
+
+/// An index that is filled before threads share it.
+#[derive(Drop)]
+pub(crate) struct Unlocked<K: Eq + Hash, V, H: BuildHasher> {
+    parts: Parts<Owned<K, V, Shared<H>>, H>,
+}
+
+impl<K: Eq + Hash + Drop, V: Drop, H: BuildHasher + Drop> Unlocked<K, V, H> {
+    /// An empty one of that capacity, under the hasher of the index.
+    pub(crate) fn alike(
+        alloc: Global,
+        index: &HashIndex<K, V, H>,
+        capacity: usize,
+    ) -> Result<Self, MakeError>
+        ensures hasher { IfOk result (λ u. arc_value u.parts.hasher ≡ hasher_of index.now) }
+    {
+        let owner = index.stripes.owner()?;
+        let (bits, slots) = if capacity == 0 {
+            (4, 0)
+        } else {
+            let slots = slots_for(capacity);
+            (bits_for(slots), slots)
+        };
+        match Parts::make(alloc, bits, slots, 0, owner) {
+            Ok(parts) => Ok(Unlocked { parts }),
+            Err(e) => Err(e),
+        }
+    }
+
+    /// Puts a lock round each stripe.
+    pub(crate) fn lock(self, alloc: Global) -> Result<HashIndex<K, V, H>, MakeError>
+        ensures hasher { IfOk result (λ m. hasher_of m ≡ arc_value self.parts.hasher) }
+    {
+        match self.parts.lock(alloc) {
+            Ok(stripes) => Ok(HashIndex { stripes, alloc }),
+            Err(e) => Err(e),
+        }
+    }
+
+    /// Puts in clones of all pairs, up to the first that can't be put in, and answers whether there was none.
+    pub(crate) fn put_all(&mut self, from: &Owned<K, V, Shared<H>>) -> bool
+    where
+        K: Clone,
+        V: Clone,
+        ensures hasher { self.new.parts.hasher ≡ self.old.parts.hasher }
+    {
+        let mut at = from.first_place();
+        while let Some(place) = at {
+            let (k, v) = from.pair_at(place);
+            if !self.put_clones(k, v) {
+                return false;
+            }
+            at = from.next_place(place);
+        }
+        true
+    }
+
+    /// Puts in clones of a key and a value, and answers whether that was done: each clone was made, no key equals that
+    /// of the key, and memory wasn't refused.
+    fn put_clones(&mut self, k: &K, v: &V) -> bool
+    where
+        K: Clone,
+        V: Clone,
+        ensures hasher { self.new.parts.hasher ≡ self.old.parts.hasher }
+    {
+        let Ok(key) = k.clone() else {
+            return false;
+        };
+        let Ok(value) = v.clone() else {
+            return false;
+        };
+        let part = self.parts.route(&key);
+        self.parts
+            .change(part, move |owned| owned.insert_sync(key, value).is_ok())
+    }
+}

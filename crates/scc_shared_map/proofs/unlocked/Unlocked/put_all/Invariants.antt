@@ -1,0 +1,14 @@
+use Rattle.std.proofs.Common.{◌≡◌, ◌-◌, length, IfSome}
+use Rattle.scc_contents.specs.Contents.{entries}
+use Rattle.scc_table.specs.Places.{IsPlace}
+use Rattle.scc_table.proofs.Reached.{reached}
+use Rattle.scc_shared_map.proofs.unlocked.Unlocked.put_all.Given as goal
+
+abbrev pub invariant-loop-at : goal.invariant-loop-at
+invariant-loop-at g l = record {
+  within : IfSome l.at (IsPlace l.from);
+  hasher : l.self.parts.hasher ≡ l.fn.self.parts.hasher;
+}
+
+abbrev pub decreases-loop-at : goal.decreases-loop-at
+decreases-loop-at g l = length (entries l.from) - reached l.from l.at

@@ -1,0 +1,14 @@
+-- The stripes of a map, and its hasher.
+use Rattle.std.specs.Arc.{arc_value}
+use Rattle.scc_contents.specs.Contents.{Contents}
+use Rattle.scc_stripes.specs.declared.striped.Striped.{Striped}
+use Rattle.scc_shared_map.specs.declared.HashMap.{HashMap}
+
+module _ {K V H T : Type 0} where
+  -- the stripes
+  abbrev pub stripes_of : HashMap K V H T → Striped (Contents (K × V) H) H
+  stripes_of m = m.stripes
+
+  -- the hasher, which all stripes share
+  abbrev pub hasher_of : HashMap K V H T → H
+  hasher_of m = arc_value m.stripes.hasher

@@ -1,0 +1,116 @@
+//! Containers that will be stripes, before a lock is round any of them.
+ghost use Rattle.std.specs.Prelude.{◌≡◌, ◌≤◌, ◌<◌, ◌^◌, IfOk, Some, slice_get, slice_set, vec_len};
+ghost use Rattle.std.specs.Fn.{FnOnceReturnsAtMut};
+ghost use Rattle.std.specs.Arc.{arc_value};
+ghost use Rattle.scc_contents.specs.Routing.{stripe_of};
+
+use crate::book::ReserveBook;
+use crate::shares::share;
+use crate::striped::{Part, Striped};
+use scc_buckets::route::bucket_index;
+use scc_common::MakeError;
+use std::alloc::Global;
+use std::hash::{BuildHasher, Hash};
+use std::sync::{Arc, RwLock};
+
+/// As many containers as so many bits can number, under one hasher. No lock is round them yet, and whoever has them can
+/// fill them without waiting.
+#[derive(Drop)]
+pub struct Parts<O, H> {
+    parts: Vec<O>,
+    hasher: Arc<H>,
+    bits: u32,
+    slots: usize,
+    pub ghost few: { bits ≤ 4 },
+    pub ghost number: { vec_len parts ≡ 2 ^ bits },
+}
+
+impl<O, H> Parts<O, H> {
+    /// As many empty containers as so many bits can number, each with its share of the slots and of the maximum.
+    pub fn make(
+        alloc: Global,
+        bits: u32,
+        slots: usize,
+        maximum: usize,
+        hasher: Arc<H>,
+    ) -> Result<Self, MakeError>
+    where
+        O: Part<H> + Drop,
+        H: Drop,
+        requires few { bits ≤ 4 }
+        requires slots { slots ≤ 2 ^ 63 }
+        requires maximum { maximum ≤ 2 ^ 63 }
+        ensures bits { IfOk result (λ p. p.bits ≡ bits) }
+        ensures hasher { IfOk result (λ p. arc_value p.hasher ≡ arc_value hasher) }
+    {
+        let count = 1usize << bits;
+        let mut parts = Vec::new(alloc);
+        for made in 0..count {
+            prove!(parts.len() == made);
+            let Ok(owner) = Arc::try_clone(&hasher) else {
+                return Err(MakeError);
+            };
+            let part = O::make_part(alloc, bits, share(bits, slots), share(bits, maximum), owner)?;
+            if parts.push(part).is_err() {
+                return Err(MakeError);
+            }
+        }
+        Ok(Parts {
+            parts,
+            hasher,
+            bits,
+            slots,
+        })
+    }
+
+    /// The number of the part of a key: that of the stripe that routing names.
+    pub fn route<K: Hash>(&self, k: &K) -> usize
+    where
+        H: BuildHasher,
+        ensures value { result ≡ stripe_of H.BuildHasher H.Hasher.Hasher K.hash_input (arc_value self.now.hasher)
+            (vec_len self.now.parts) k.now }
+        ensures within { result < vec_len self.now.parts }
+    {
+        bucket_index(self.hasher.hash_one(k), 0, self.parts.len())
+    }
+
+    /// Lends the part of that number to `f`, and answers what `f` answered.
+    pub fn change<R, F: FnOnce(&mut O) -> R>(&mut self, part: usize, f: F) -> R
+        requires part { part < vec_len self.old.parts }
+        requires callable { F.IsAlwaysCallable f }
+        ensures hasher { self.new.hasher ≡ self.old.hasher }
+        ensures change { (old : O) × (new : O) × (slice_get self.old.parts.items part ≡ Some old)
+            × FnOnceReturnsAtMut F.FnOnce f old result new
+            × (self.new.parts.items ≡ slice_set self.old.parts.items part new) }
+    {
+        f(&mut self.parts[part])
+    }
+
+    /// Puts a lock round each part.
+    pub fn lock(self, alloc: Global) -> Result<Striped<O, H>, MakeError>
+    where
+        O: Drop,
+        H: Drop,
+        ensures bits { IfOk result (λ s. s.bits ≡ self.bits) }
+        ensures hasher { IfOk result (λ s. arc_value s.hasher ≡ arc_value self.hasher) }
+    {
+        let Parts {
+            parts,
+            hasher,
+            bits,
+            slots,
+        } = self;
+        let mut locks = Vec::new(alloc);
+        for part in parts {
+            if locks.push(RwLock::new(part)).is_err() {
+                return Err(MakeError);
+            }
+        }
+        Ok(Striped {
+            locks,
+            hasher,
+            bits,
+            book: ReserveBook::new(slots),
+        })
+    }
+}
