@@ -166,9 +166,9 @@ impl<K: Eq + Hash + Clone, V: Clone + PartialEq, H: BuildHasher> Calls for Owned
         (Prim.search rules) (λ k. stripe_number n (hash_of H.BuildHasher H.Hasher.Hasher g.hasher (K.hash_input k)))
         (routes_alike K.eq K.hash_input (λ w. stripe_number n (hash_of H.BuildHasher H.Hasher.Hasher g.hasher w))
         K.Hash.respects_eq) (IndexWholeMoves K.eq K.is_clone (λ k. stripe_number n
-        (hash_of H.BuildHasher H.Hasher.Hasher g.hasher (K.hash_input k)) == length before)) (length before) old new (joined (before ++ old ∷ after))
-        (joined (before ++ new ∷ after)) call reply key (λ made given k m. index_call_is_whole K.eq
-        K.is_clone         (λ k. stripe_number n (hash_of H.BuildHasher H.Hasher.Hasher g.hasher (K.hash_input k)))
+        (hash_of H.BuildHasher H.Hasher.Hasher g.hasher (K.hash_input k)) == length before)) (length before) old new
+        (joined (before ++ old ∷ after)) (joined (before ++ new ∷ after)) call reply key (λ made given k m. index_call_is_whole K.eq
+        K.is_clone (λ k. stripe_number n (hash_of H.BuildHasher H.Hasher.Hasher g.hasher (K.hash_input k)))
         (routes_alike K.eq K.hash_input (λ w. stripe_number n (hash_of H.BuildHasher H.Hasher.Hasher g.hasher w))
         K.Hash.respects_eq) before after old new made given routed k m) s };
 
@@ -180,7 +180,7 @@ impl<K: Eq + Hash + Clone, V: Clone + PartialEq, H: BuildHasher> Calls for Owned
         (λ k. stripe_number n (hash_of H.BuildHasher H.Hasher.Hasher g.hasher (K.hash_input k)))
         (routes_alike K.eq K.hash_input (λ w. stripe_number n (hash_of H.BuildHasher H.Hasher.Hasher g.hasher w))
         K.Hash.respects_eq) i old new call reply key (λ made given k m. index_call_keeps K.eq
-        K.is_clone         (λ k. stripe_number n (hash_of H.BuildHasher H.Hasher.Hasher g.hasher (K.hash_input k)))
+        K.is_clone (λ k. stripe_number n (hash_of H.BuildHasher H.Hasher.Hasher g.hasher (K.hash_input k)))
         (routes_alike K.eq K.hash_input (λ w. stripe_number n (hash_of H.BuildHasher H.Hasher.Hasher g.hasher w))
         K.Hash.respects_eq) i old new made given routed k m) s };
 
