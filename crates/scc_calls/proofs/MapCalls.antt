@@ -1,15 +1,17 @@
 -- The calls of a map as calls on its state.
-use Rattle.std.proofs.Common.{◌≡◌, ℕ, suc, arith, length, List, [], Bool, ◌∷◌, Option, None, Some, Ok, refl, ap}
+use Rattle.std.proofs.Common.{◌≡◌, ℕ, suc, arith, length, List, [], Bool, ◌∷◌, Option, None, Some, Ok, refl, sym, subst, inl, inr, ap}
 use Rattle.std.specs.List.Sorted.{IsPermutation}
 use Rattle.std.proofs.lemmas.List.Sorted.{length_permutation}
 use Rattle.std.specs.Map.{set_value}
-use Rattle.scc_contents.specs.Contents.{Contents, entries, settings_of}
-use Rattle.scc_contents.specs.Pairs.{without}
-use Rattle.scc_contents.specs.Steps.{Holds}
+use Rattle.std.proofs.lemmas.Bool.{cases_order}
+use Rattle.scc_contents.specs.Contents.{Contents, bucket_count, entries, settings_of}
+use Rattle.scc_contents.specs.Pairs.{find, without}
+use Rattle.scc_contents.specs.Steps.{Holds, MakesRoom}
+use Rattle.scc_table.proofs.Same.{entries-same}
 use Rattle.scc_map.specs.MapSteps.{Inserts, Upserts, Removes}
 use Rattle.scc_calls.specs.Changes.{Changes}
-use Rattle.scc_calls.specs.States.{ResizesTo, state_of, setting_of, setting_by}
-use Rattle.scc_calls.specs.MapCalls.{MapMoves}
+use Rattle.scc_calls.specs.States.{State, ResizesTo, state_of, setting_of, setting_by}
+use Rattle.scc_calls.specs.MapCalls.{MapHasRoom, MapMoves, MapRefuses}
 use Rattle.scc_calls.specs.declared.calls_as_values.MapCall.TheVariants.{Insert, Upsert, Remove, Clear}
 use Rattle.scc_calls.specs.declared.replies.Reply.TheVariants.{Inserted, Old, Pair, Cleared}
 use Rattle.scc_calls.proofs.States.{holds-changes, exactly-changes, unchanged-changes}
@@ -49,3 +51,17 @@ module _ {K V H : Type 0} (eq : K → K → Bool) (c d : Contents (K × V) H) wh
 pub by-find : {X : Type 0} {P : Type 0} (o : Option X) → ((x : X) → o ≡ Some x → P) → (o ≡ None → P) → P
 by-find (Some x) f n = f x refl
 by-find None f n = n refl
+
+-- where room was made and memory may be refused still, it might have been before
+pub refuses-still : {K V H : Type 0} (eq : K → K → Bool) (hash : H → K → ℕ) (c d : Contents (K × V) H) (k : K) → find eq (entries c) k ≡ None → MakesRoom (hash (settings_of c).hasher) (λ p. p.0) c (hash (settings_of c).hasher k) d
+    → MapRefuses eq hash (setting_of c) (state_of d) k → MapRefuses eq hash (setting_of c) (state_of c) k
+refuses-still {K} {V} {H} eq hash c d k none room h = (
+  none,
+  λ has. elim (cases_order (bucket_count d) (bucket_count c)) as (λ _. ⊥) [
+    | inl e ↦
+        let same : state_of d ≡ state_of c = let l = entries-same c d (room.same has.0 e).0 in cc in
+        let P : State (K × V) → Type 0 = λ s. MapHasRoom eq hash (setting_of c) s k in
+        h.1 (subst P (sym same) has)
+    | inr o ↦ room.due (λ e. elim o as (λ _. ⊥) [ inl less ↦ omega (arith, less, e) | inr more ↦ omega (arith, more, e) ]) has
+  ],
+)
