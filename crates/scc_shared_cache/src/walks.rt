@@ -1,6 +1,7 @@
 //! Walks over all stripes, one after another. The closure is lent to each stripe in turn. No walk makes a pair more
 //! recent.
-ghost use Rattle.std.specs.Prelude.{◌≡◌, ◌++◌, List};
+ghost use Rattle.std.specs.Prelude.{◌≡◌, ◌≤◌, ◌++◌, List, OnErr};
+ghost use Rattle.std.specs.Vec.{vec_len, vec_capacity};
 ghost use Rattle.scc_contents.specs.Walks.{CalledOn, Walks};
 ghost use Rattle.scc_contents.specs.PairWalks.{CalledToWrite, Retains, Takes};
 
@@ -52,6 +53,8 @@ impl<K: Eq + Hash, V, H: BuildHasher> HashCache<K, V, H> {
         requires { F.IsAlwaysCallable f }
         ensures calls { (es : List (K × V)) × (stay : List (K × V)) × (more : List (K × V)) × (last : F)
             × Takes (CalledToWrite F.FnMut) f es stay more result last × (taken.new.items ≡ taken.old.items ++ more) }
+        ensures full { OnErr result (vec_capacity taken.new ≤ vec_len taken.new) }
+        ensures room { vec_capacity taken.old ≤ vec_capacity taken.new }
     {
         for stripe in 0..self.stripes.stripes() {
             match self.stripes.write(rt, stripe).iter_mut_lent(&mut f, taken) {

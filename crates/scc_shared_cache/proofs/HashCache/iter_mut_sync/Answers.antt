@@ -1,29 +1,29 @@
-use Rattle.std.proofs.Common.{[], ◌++◌, ◌∙◌, ap, sym, append-nil, append_assoc}
+use Rattle.std.proofs.Common.{arith, rules, [], ◌++◌, ◌∙◌, ap, sym, append-nil, append_assoc}
 use Rattle.scc_contents.specs.PairWalks.{ended}
 use Rattle.scc_table.proofs.WalkReached.{CallableToWrite-always}
 use Rattle.scc_table.proofs.Joined.{takes-always, takes-join}
 use Rattle.scc_shared_cache.proofs.HashCache.iter_mut_sync.Goals as goal
 
 pub loop-stripe-init : goal.loop-stripe-init
-loop-stripe-init g c = record { always = c.requires; seen = ([], [], [], ended, sym (append-nil _)) }
+loop-stripe-init g c = record { always = c.requires; seen = ([], [], [], ended, sym (append-nil _)); room = search rules }
 
 pub iter_mut_lent-requires : goal.iter_mut_lent-requires
 iter_mut_lent-requires g c = λ es same. CallableToWrite-always g.F.FnMut _ c.loop-stripe.f es c.loop-stripe.invariant.always
 
-pub returns-in-Ok-false : goal.returns-in-Ok-false
-returns-in-Ok-false g c =
+pub returns-in-Ok-false-clause-calls : goal.returns-in-Ok-false-clause-calls
+returns-in-Ok-false-clause-calls g c =
     let seen = c.loop-stripe.invariant.seen in
     let x = rw c.in-Ok-false.field-0-test at c.in-Ok-false.ensures.step in
-    record { calls = (_, _, _, _, takes-join seen.3 x.5, x.6 ∙ ap (λ z. z ++ x.2) seen.4 ∙ append_assoc c.args.taken.now.items seen.2 x.2) }
+    (_, _, _, _, takes-join seen.3 x.5, x.6 ∙ ap (λ z. z ++ x.2) seen.4 ∙ append_assoc c.args.taken.now.items seen.2 x.2)
 
-pub returns-in-Err : goal.returns-in-Err
-returns-in-Err g c =
+pub returns-in-Err-clause-calls : goal.returns-in-Err-clause-calls
+returns-in-Err-clause-calls g c =
     let seen = c.loop-stripe.invariant.seen in
     let x = c.in-Err.ensures.step in
-    record { calls = (_, _, _, _, takes-join seen.3 x.5, x.6 ∙ ap (λ z. z ++ x.2) seen.4 ∙ append_assoc c.args.taken.now.items seen.2 x.2) }
+    (_, _, _, _, takes-join seen.3 x.5, x.6 ∙ ap (λ z. z ++ x.2) seen.4 ∙ append_assoc c.args.taken.now.items seen.2 x.2)
 
 pub loop-stripe-preserved : goal.loop-stripe-preserved
 loop-stripe-preserved g c =
     let seen = c.loop-stripe.invariant.seen in
     let x = rw c.in-Ok-true.field-0-test at c.in-Ok-true.ensures.step in
-    record { always = takes-always g.F.FnMut x.5 c.loop-stripe.invariant.always; seen = (_, _, _, takes-join seen.3 x.5, x.6 ∙ ap (λ z. z ++ x.2) seen.4 ∙ append_assoc c.args.taken.now.items seen.2 x.2) }
+    record { always = takes-always g.F.FnMut x.5 c.loop-stripe.invariant.always; seen = (_, _, _, takes-join seen.3 x.5, x.6 ∙ ap (λ z. z ++ x.2) seen.4 ∙ append_assoc c.args.taken.now.items seen.2 x.2); room = omega (arith, c.loop-stripe.invariant.room, c.in-Ok-true.ensures.room) }
