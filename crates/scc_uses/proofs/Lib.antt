@@ -7,6 +7,7 @@ pub mod IndexIndependence
 pub mod KeyLemmas
 pub mod MapAlike
 pub mod Mirrors
+pub mod RecentCounting
 pub mod Replies
 pub mod RouteLemmas
 pub mod SetAlike

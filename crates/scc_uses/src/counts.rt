@@ -1,5 +1,5 @@
 //! Counting by entries: one search for each word.
-ghost use Rattle.std.specs.Prelude.{nat_eq, Some, OnOk, OnErr};
+ghost use Rattle.std.specs.Prelude.{◌≡◌, nat_eq, Some, OnOk, OnErr, MatchOption};
 ghost use Rattle.scc_contents.specs.Contents.{entries};
 ghost use Rattle.scc_contents.specs.Pairs.{find, FindsInstead};
 ghost use Rattle.scc_contents.specs.Steps.{Rests};
@@ -7,6 +7,7 @@ ghost use Rattle.scc_uses.specs.Counts.{one_more};
 
 use scc_common::InsertError;
 use scc_map::Owned;
+use scc_map::owned::Entry;
 
 /// Counts a word once more. A count stays at the greatest number once it is there.
 pub fn count_word(counts: &mut Owned<u64, u64>, word: u64) -> Result<(), InsertError<u64, u64>>
@@ -19,4 +20,18 @@ pub fn count_word(counts: &mut Owned<u64, u64>, word: u64) -> Result<(), InsertE
         .and_modify(|n| *n = n.saturating_add(1))
         .or_insert(1)?;
     Ok(())
+}
+
+/// How often a word was counted. The entry is let go, and every count stays.
+pub fn count_of(counts: &mut Owned<u64, u64>, word: u64) -> u64
+    ensures answer { MatchOption (find nat_eq (entries counts.old) word) (result ≡ 0) (λ p. result ≡ p.1) }
+    ensures same { counts.new ≡ counts.old }
+{
+    match counts.entry_sync(word) {
+        Entry::Occupied(entry) => *entry.get(),
+        Entry::Vacant(entry) => {
+            entry.into_key();
+            0
+        }
+    }
 }

@@ -21,6 +21,7 @@ pub mod mirror_sets;
 pub mod named_sessions;
 pub mod parts;
 pub mod prepared;
+pub mod recent_counts;
 pub mod request_cache;
 pub mod requests;
 pub mod routing;

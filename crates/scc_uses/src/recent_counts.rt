@@ -1,0 +1,37 @@
+//! Counts of the words that came last: a cache forgets those that didn't come for long.
+ghost use Rattle.std.specs.Prelude.{◌≡◌, ℕ, nat_eq, None, Some, Ok, OnErr, IfOk};
+ghost use Rattle.std.specs.Hash as fed;
+ghost use Rattle.scc_contents.specs.Contents.{key_hash};
+ghost use Rattle.scc_cache.specs.CacheSteps.{Changes, IsAbsent, IsPresent, PutsNew, number_in};
+ghost use Rattle.scc_cache.specs.ListSteps.{RefreshesAs};
+ghost use Rattle.scc_uses.specs.Counts.{one_more};
+
+use scc_cache::Owned;
+use scc_common::InsertError;
+use std::hash::BuildHasher;
+
+/// Counts a word once more, and makes it the most recent of its bucket. A count stays at the greatest number once it is
+/// there. The answer is the word, with its count, that a new word drove out.
+pub fn count_recent<H: BuildHasher>(
+    counts: &mut Owned<u64, u64, H>,
+    word: u64,
+) -> Result<Option<(u64, u64)>, InsertError<u64, u64>>
+    ensures again { (p : ℕ × ℕ) → IsPresent (key_hash H.BuildHasher H.Hasher.Hasher fed.u64 counts.old.contents) nat_eq
+        counts.old.contents word p → (result ≡ Ok None)
+        × Changes (RefreshesAs (number_in (key_hash H.BuildHasher H.Hasher.Hasher fed.u64 counts.old.contents)
+        counts.old.contents) nat_eq word p (p.0, one_more (Some p))) counts.old counts.new }
+    ensures first { IsAbsent (key_hash H.BuildHasher H.Hasher.Hasher fed.u64 counts.old.contents) nat_eq
+        counts.old.contents word
+        → IfOk result (λ x. PutsNew (key_hash H.BuildHasher H.Hasher.Hasher fed.u64 counts.old.contents) nat_eq
+        counts.old (word, 1) x counts.new) }
+    ensures refused { OnErr result (counts.new ≡ counts.old) }
+{
+    match counts
+        .entry_sync(word)
+        .and_modify(|n| *n = n.saturating_add(1))
+        .or_put(1)
+    {
+        Ok((evicted, _entry)) => Ok(evicted),
+        Err(e) => Err(e),
+    }
+}
