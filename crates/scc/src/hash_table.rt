@@ -1,4 +1,6 @@
-//! The table of the containers, and what an entry of a table is.
+//! The table of the containers, the buckets of one array, and what an entry of a table is.
+
+pub mod bucket;
 
 pub use scc_array::tags;
 pub use scc_buckets::Place;

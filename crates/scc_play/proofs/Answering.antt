@@ -1,8 +1,10 @@
 -- What calls become, one call after another.
-use Rattle.std.proofs.Common.{◌≡◌, ℕ, ◌+◌, ◌<◌, ◌≤◌, List, [], ◌∷◌, ◌++◌, length, drop, Option, get_or, refl, sym, subst, ap, ◌∙◌}
-use Rattle.std.proofs.lemmas.List.{drop_more, drop_all, append_assoc}
+use Rattle.std.proofs.Common.{◌≡◌, ◌≢◌, ℕ, ◌+◌, ◌<◌, ◌≤◌, List, [], ◌∷◌, ◌++◌, length, map, min, drop, Option, Some, get_or, refl, sym, subst, ap, ◌∙◌, arith}
+use Rattle.std.proofs.lemmas.List.{drop_more, drop_all}
+use Rattle.std.specs.List.{sum_by}
+use Rattle.scc_recorded.proofs.Same.{sum-of-map}
 use Rattle.scc_history.specs.declared.receipts.Receipt.{Receipt}
-use Rattle.scc_play.specs.Answered.{AreAnswered, IsAnswered}
+use Rattle.scc_play.specs.Answered.{AreAnswered, IsAnswered, IsJoint, number_of}
 
 module _ {A R K : Type 0} (key_of : A → Option K) (counted : R → Option ℕ) (count : ℕ → R) (stripes : ℕ) where
   -- one call more at the front
@@ -15,3 +17,11 @@ module _ {A R K : Type 0} (key_of : A → Option K) (counted : R → Option ℕ)
   -- no call is left
   pub none-left : (calls : List A) (i : ℕ) (left : List (Receipt A R)) → length calls ≤ i → left ≡ [] → AreAnswered key_of counted count stripes (drop i calls) left []
   none-left calls i left end none = subst (λ l. AreAnswered key_of counted count stripes l left []) (sym (drop_all i calls end)) (none, refl)
+
+module _ {A R K : Type 0} (key_of : A → Option K) (counted : R → Option ℕ) (count : ℕ → R) where
+  -- the sum of what several stripes count is their reply to a call that counts
+  pub several-count : (records : List (Receipt A R)) (first : Receipt A R) (n total : ℕ) → length records ≢ 1 → 0 < length records → counted (get_or records 0 first).reply ≡ Some n
+      → total ≡ min 18446744073709551615 (sum_by (λ r. number_of (counted r.reply)) records) → IsJoint key_of counted count (map (λ r. r.reply) records) (count total)
+  several-count [] first n total one some c t = absurd (omega (arith, some))
+  several-count (r ∷ []) first n total one some c t = absurd (one refl)
+  several-count (r ∷ s ∷ more) first n total one some c t = rw c (ap count (t ∙ ap (λ k. min 18446744073709551615 k) (sym (sum-of-map (λ x. number_of (counted x)) (λ x. x.reply) (r ∷ s ∷ more)))))

@@ -1,5 +1,5 @@
 -- A script's key is its own hash, and its stripes are made for one request.
-use Rattle.std.proofs.Common.{◌≡◌, ℕ, List, Option, None, Some, Result, Ok, Err, sym, ap, subst}
+use Rattle.std.proofs.Common.{◌≡◌, ℕ, List, None, Some, Result, Ok, Err, sym, ap, subst}
 use Rattle.std.proofs.Math.Logic.{∥∥₁_map}
 use Rattle.std.specs.Result.{IfOk}
 use Rattle.scc_calls.specs.declared.fixed.Request.{Request}
@@ -11,7 +11,7 @@ use Rattle.scc_play.specs.Ended.{IfPlayed}
 use Rattle.scc_play.specs.Kinds.{finished_hash, own_hash, route_by, script_request}
 use Rattle.scc_play.specs.Played.{IsPlayed, Machine}
 use Rattle.scc_play.specs.declared.ends.End.{End}
-use Rattle.scc_play.specs.declared.ends.End.TheVariants.{Played, Unfinished}
+use Rattle.scc_play.specs.declared.ends.End.TheVariants.{Played, Unfinished, Differs}
 
 own : finished_hash ≡ own_hash
 own = λ i k. own-hash k i
@@ -32,4 +32,5 @@ module _ {C S W A R X : Type 0} (machine : (ℕ → ℕ) → Machine C Same S W 
 pub if-played : {E : Type 0} {P Q : List ℕ → Type 0} (r : Result End E) → IfOk r (λ e. IfPlayed e P) → ((text : List ℕ) → P text → Q text) → IfOk r (λ e. IfPlayed e Q)
 if-played (Ok (Played text)) p f = f _ p
 if-played (Ok (Unfinished cause)) p f = tt
+if-played (Ok Differs) p f = tt
 if-played (Err e) p f = tt

@@ -1,7 +1,10 @@
+pub mod Alone
 pub mod Answering
 pub mod Assembling
 pub mod Ending
 pub mod Exact
 pub mod Keys
 pub mod Listing
+pub mod Owners
+pub mod Single
 pub mod Telling

@@ -20,15 +20,16 @@ number_of None = 0
 number_of (Some n) = n
 
 module _ {A R K : Type 0} (key_of : A → Option K) (counted : R → Option ℕ) (count : ℕ → R) where
-  -- the reply to a call of all stripes, by what the first stripe counted: the sum of what they count, where it counts; else what the first replied
+  -- the reply to a call of several stripes, by what the first counted: the sum of what they count, where it counts; else what the first replied
   abbrev pub joint_by : Option ℕ → R → List R → R
   joint_by None first replies = first
   joint_by (Some n) first replies = count (min 18446744073709551615 (sum_by (λ r. number_of (counted r)) replies))
 
-  -- the reply to a call of all stripes, from those of the stripes
+  -- the reply to a call of all stripes, from those of the stripes: that of a stripe alone, or of several by what the first counted
   abbrev pub IsJoint : List R → R → Type 0
   IsJoint [] reply = ⊥
-  IsJoint (first ∷ more) reply = reply ≡ joint_by (counted first) first (first ∷ more)
+  IsJoint (first ∷ []) reply = reply ≡ first
+  IsJoint (first ∷ second ∷ more) reply = reply ≡ joint_by (counted first) first (first ∷ second ∷ more)
 
   -- a call with a key is one record; one without is a record of that call in each stripe, stripe 0 first
   abbrev pub IsAnsweredBy : Option K → ℕ → A → List (Receipt A R) → R → Type 0

@@ -1,5 +1,6 @@
 -- What a script is answered with, and how its program ends.
-use Rattle.std.specs.Prelude.{◌≡◌, ◌⊎◌, ◌==◌, ◌&&◌, ℕ, List, ◌++◌, map, MatchBool, Option, codes}
+use Rattle.std.specs.Prelude.{◌≡◌, ◌⊎◌, ◌<◌, ℕ, List, [], ◌++◌, map, Option, codes}
+use Rattle.std.specs.List.{AllByRecursion}
 use Rattle.std.specs.Fmt.{decimal}
 use Rattle.std.specs.Io.KnownBytes.{Appends}
 use Rattle.scc_print.specs.Finished.{MapOutput, SetOutput, IndexOutput, CacheOutput}
@@ -7,7 +8,7 @@ use Rattle.scc_script.specs.Grammar.{Meaning, map_calls, set_calls, index_calls,
 use Rattle.scc_script.specs.declared.line.WorkerCall.{WorkerCall}
 use Rattle.scc_play.specs.Kinds.{MapPlayed, SetPlayed, IndexPlayed, CachePlayed}
 use Rattle.scc_play.specs.declared.ends.Cause.{Cause}
-use Rattle.scc_play.specs.declared.ends.Cause.TheVariants.{Missing, Misrouted, Disagrees, Differs}
+use Rattle.scc_play.specs.declared.ends.Cause.TheVariants.{Missing, Misrouted, Disagrees}
 
 -- the text of a script whose first bad line has this number
 abbrev pub bad_line_text : ℕ → List ℕ
@@ -18,19 +19,24 @@ abbrev pub finish_text : Cause → List ℕ
 finish_text Missing = codes "finish 7\n"
 finish_text Misrouted = codes "finish 8\n"
 finish_text Disagrees = codes "finish 9\n"
-finish_text Differs = codes "finish 9\n"
 
 -- the calls of all workers, in their order
 abbrev pub all_calls : {A : Type 0} → List (WorkerCall A) → List A
 all_calls calls = map (λ c. c.call) calls
 
--- several workers or stripes: the output of what the workers did, or why the run wasn't finished
-abbrev pub AnswersAmong : (List ℕ → Type 0) → ℕ → List ℕ → Type 0
-AnswersAmong among status text = ((status ≡ 0) × among text) ⊎ ((cause : Cause) × (status ≡ 5) × (text ≡ finish_text cause))
-
--- one worker on one stripe: the output of a run, and nothing else
+-- the output of what the workers did, which with one worker on one stripe is that of a run of the script's calls; or why the run wasn't finished; or nothing, where what was recorded isn't what the script has
 abbrev pub AnswersBy : (List ℕ → Type 0) → (List ℕ → Type 0) → ℕ → ℕ → ℕ → List ℕ → Type 0
-AnswersBy alone among workers stripes status text = MatchBool ((workers == 1) && (stripes == 1)) ((status ≡ 0) × alone text) (AnswersAmong among status text)
+AnswersBy alone among workers stripes status text =
+    ((status ≡ 0) × among text × (workers ≡ 1 → stripes ≡ 1 → ∥ alone text ∥₁))
+    ⊎ (((cause : Cause) × (status ≡ 5) × (text ≡ finish_text cause)) ⊎ ((status ≡ 6) × (text ≡ [])))
+
+-- each call is by one of the workers
+abbrev pub HasOwners : Meaning → Type 0
+HasOwners (map_calls workers stripes calls) = AllByRecursion (λ c. c.worker < workers) calls
+HasOwners (set_calls workers stripes calls) = AllByRecursion (λ c. c.worker < workers) calls
+HasOwners (index_calls workers stripes calls) = AllByRecursion (λ c. c.worker < workers) calls
+HasOwners (cache_calls workers stripes calls) = AllByRecursion (λ c. c.worker < workers) calls
+HasOwners (bad_line number) = Unit {0}
 
 -- the status and the text that answer a script
 abbrev pub Answers : Meaning → ℕ → List ℕ → Type 0

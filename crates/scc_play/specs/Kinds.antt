@@ -1,5 +1,5 @@
 -- What scripts of each kind do: a key is its own hash.
-use Rattle.std.specs.Prelude.{Option, Some, ◌≡◌, ℕ, ◌%◌, ◌^◌, ◌==◌, List, [], length, max, replicate, nat_eq}
+use Rattle.std.specs.Prelude.{Option, Some, ◌≡◌, ℕ, ◌%◌, ◌^◌, ◌==◌, List, [], max, replicate, nat_eq}
 use Rattle.std.specs.Hash.{le_bytes}
 use Rattle.std.specs.List.Sorted.{IsPermutation}
 use Rattle.std.specs.Ordering.{nat_cmp}

@@ -1,10 +1,8 @@
 -- What several workers did on a container in stripes, and the text of it.
-use Rattle.std.specs.Prelude.{◌≡◌, ℕ, ◌<◌, ◌%◌, ◌^◌, ◌==◌, List, [], length, map, replicate, Option, Some, slice_get, nat_eq, max}
+use Rattle.std.specs.Prelude.{◌≡◌, ℕ, ◌<◌, List, length, map, replicate, Option, Some, slice_get}
 use Rattle.std.specs.List.{AllByRecursion, flat_map, sum_by}
 use Rattle.std.specs.List.Sorted.{IsPermutation, IsSorted}
-use Rattle.std.specs.Ordering.{nat_cmp}
 use Rattle.std.specs.declared.cmp.Ordering.{Ordering}
-use Rattle.scc_contents.specs.Sizes.{IsArraySize}
 use Rattle.scc_calls.specs.Histories.{Replays, CallsRouted, Run}
 use Rattle.scc_calls.specs.Made.{IsMadeFor}
 use Rattle.scc_calls.specs.declared.fixed.Request.{Request}

@@ -5,9 +5,9 @@
 #![tactic(auto)]
 
 mod crew;
-mod ends;
+pub mod ends;
 mod kinds;
 pub mod play;
 mod receipts;
-mod stripes;
+pub mod stripes;
 mod whole;

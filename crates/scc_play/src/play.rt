@@ -1,18 +1,18 @@
 //! Plays a script.
-ghost use Rattle.std.specs.Prelude.{◌≡◌, ◌≢◌, ◌⊎◌, ◌==◌, ◌&&◌, IfOk, IfSome, map};
+ghost use Rattle.std.specs.Prelude.{◌≡◌, ◌≢◌, ◌⊎◌, ◌<◌, [], IfOk, IfSome, map};
+ghost use Rattle.std.specs.List.{AllByRecursion};
 ghost use Rattle.std.specs.String.{string_bytes};
 ghost use Rattle.std.specs.Io.KnownBytes.{Appends};
 ghost use Rattle.scc_print.specs.Finished.{MapOutput, SetOutput, IndexOutput, CacheOutput};
 ghost use Rattle.scc_script.specs.Grammar.{script_of, IsCrew, IsDivision};
 ghost use Rattle.scc_script.specs.Scripts.{HasCrew, meaning_of};
-ghost use Rattle.scc_play.specs.Endings.{Answers, AnswersAmong, AnswersBy, Ends, all_calls, bad_line_text, finish_text};
+ghost use Rattle.scc_play.specs.Endings.{Answers, AnswersBy, Ends, HasOwners, all_calls, bad_line_text, finish_text};
 ghost use Rattle.scc_play.specs.Ended.{IfPlayed, MatchEnd};
 ghost use Rattle.scc_play.specs.Kinds.{MapPlayed, SetPlayed, IndexPlayed, CachePlayed};
 
 use crate::ends::{Cause, End};
 use crate::kinds::{play_cache, play_index, play_map, play_set};
 use scc_calls::{CacheCall, IndexCall, MapCall, SetCall};
-use scc_print::alone::{run_cache, run_index, run_map, run_set};
 use scc_script::line::WorkerCall;
 use scc_script::script::{Script, parse_script};
 use std::alloc::{AllocError, Global};
@@ -34,6 +34,9 @@ pub const STREAM_FAILED: u8 = 4;
 
 /// The histories of the stripes don't finish.
 pub const UNFINISHED: u8 = 5;
+
+/// What was recorded isn't what the script has.
+pub const DIFFERS: u8 = 6;
 
 // What is printed where memory is refused.
 const OUT_OF_MEMORY: &str = "out of memory\n";
@@ -60,43 +63,29 @@ fn unfinished_text(alloc: Global, cause: Cause) -> Result<String, AllocError>
         Cause::Missing => String::from_str(alloc, "finish 7\n"),
         Cause::Misrouted => String::from_str(alloc, "finish 8\n"),
         Cause::Disagrees => String::from_str(alloc, "finish 9\n"),
-        Cause::Differs => String::from_str(alloc, "finish 9\n"),
     }
 }
 
-// The answer of one worker on one stripe.
-fn answer_alone(text: String) -> Answer
-    ensures { (result.status ≡ 0) × (result.text ≡ text) }
-{
-    Answer {
-        text,
-        status: FINISHED,
-    }
-}
-
-// The answer of several workers or stripes.
-fn answer_among(alloc: Global, end: End) -> Result<Answer, AllocError>
-    ensures played { IfOk result (λ a. MatchEnd end (λ text. (a.status ≡ 0) × (string_bytes a.text ≡ text))
-        (λ cause. (a.status ≡ 5) × (string_bytes a.text ≡ finish_text cause))) }
+// The answer of a run that is over.
+fn answer_end(alloc: Global, end: End) -> Result<Answer, AllocError>
+    ensures { IfOk result (λ a. MatchEnd end (λ text. (a.status ≡ 0) × (string_bytes a.text ≡ text))
+        (λ cause. (a.status ≡ 5) × (string_bytes a.text ≡ finish_text cause))
+        ((a.status ≡ 6) × (string_bytes a.text ≡ []))) }
 {
     match end {
-        End::Played(text) => Ok(answer_alone(text)),
+        End::Played(text) => Ok(Answer {
+            text,
+            status: FINISHED,
+        }),
         End::Unfinished(cause) => Ok(Answer {
             text: unfinished_text(alloc, cause)?,
             status: UNFINISHED,
         }),
+        End::Differs => Ok(Answer {
+            text: String::new(alloc),
+            status: DIFFERS,
+        }),
     }
-}
-
-// The calls of all workers, in their order.
-fn calls_alone<A: Copy>(alloc: Global, calls: &[WorkerCall<A>]) -> Result<Vec<A>, AllocError>
-    ensures { IfOk result (λ v. v.items ≡ all_calls calls.now) }
-{
-    let mut all = Vec::with_capacity(alloc, calls.len())?;
-    for call in calls {
-        all.push(call.call)?;
-    }
-    Ok(all)
 }
 
 // Plays a script of a map.
@@ -107,16 +96,12 @@ fn answer_map<R: Threads + Wait + Sync>(
     stripes: usize,
     calls: &[WorkerCall<MapCall<u64, u64>>],
 ) -> Result<Answer, AllocError>
-    requires { IsCrew workers × IsDivision stripes }
+    requires crew { IsCrew workers × IsDivision stripes }
+    requires owners { AllByRecursion (λ c. c.worker < workers) calls.now }
     ensures { IfOk result (λ a. AnswersBy (MapOutput (all_calls calls.now)) (MapPlayed workers stripes calls.now)
         workers stripes a.status (string_bytes a.text)) }
 {
-    if workers == 1 && stripes == 1 {
-        let all = calls_alone(alloc, calls)?;
-        Ok(answer_alone(run_map(alloc, all.as_slice())?))
-    } else {
-        answer_among(alloc, play_map(rt, alloc, workers, stripes, calls)?)
-    }
+    answer_end(alloc, play_map(rt, alloc, workers, stripes, calls)?)
 }
 
 // Plays a script of a set.
@@ -127,16 +112,12 @@ fn answer_set<R: Threads + Wait + Sync>(
     stripes: usize,
     calls: &[WorkerCall<SetCall<u64>>],
 ) -> Result<Answer, AllocError>
-    requires { IsCrew workers × IsDivision stripes }
+    requires crew { IsCrew workers × IsDivision stripes }
+    requires owners { AllByRecursion (λ c. c.worker < workers) calls.now }
     ensures { IfOk result (λ a. AnswersBy (SetOutput (all_calls calls.now)) (SetPlayed workers stripes calls.now)
         workers stripes a.status (string_bytes a.text)) }
 {
-    if workers == 1 && stripes == 1 {
-        let all = calls_alone(alloc, calls)?;
-        Ok(answer_alone(run_set(alloc, all.as_slice())?))
-    } else {
-        answer_among(alloc, play_set(rt, alloc, workers, stripes, calls)?)
-    }
+    answer_end(alloc, play_set(rt, alloc, workers, stripes, calls)?)
 }
 
 // Plays a script of an index.
@@ -147,16 +128,12 @@ fn answer_index<R: Threads + Wait + Sync>(
     stripes: usize,
     calls: &[WorkerCall<IndexCall<u64, u64>>],
 ) -> Result<Answer, AllocError>
-    requires { IsCrew workers × IsDivision stripes }
+    requires crew { IsCrew workers × IsDivision stripes }
+    requires owners { AllByRecursion (λ c. c.worker < workers) calls.now }
     ensures { IfOk result (λ a. AnswersBy (IndexOutput (all_calls calls.now)) (IndexPlayed workers stripes calls.now)
         workers stripes a.status (string_bytes a.text)) }
 {
-    if workers == 1 && stripes == 1 {
-        let all = calls_alone(alloc, calls)?;
-        Ok(answer_alone(run_index(alloc, all.as_slice())?))
-    } else {
-        answer_among(alloc, play_index(rt, alloc, workers, stripes, calls)?)
-    }
+    answer_end(alloc, play_index(rt, alloc, workers, stripes, calls)?)
 }
 
 // Plays a script of a cache.
@@ -167,16 +144,12 @@ fn answer_cache<R: Threads + Wait + Sync>(
     stripes: usize,
     calls: &[WorkerCall<CacheCall<u64, u64>>],
 ) -> Result<Answer, AllocError>
-    requires { IsCrew workers × IsDivision stripes }
+    requires crew { IsCrew workers × IsDivision stripes }
+    requires owners { AllByRecursion (λ c. c.worker < workers) calls.now }
     ensures { IfOk result (λ a. AnswersBy (CacheOutput (all_calls calls.now)) (CachePlayed workers stripes calls.now)
         workers stripes a.status (string_bytes a.text)) }
 {
-    if workers == 1 && stripes == 1 {
-        let all = calls_alone(alloc, calls)?;
-        Ok(answer_alone(run_cache(alloc, all.as_slice())?))
-    } else {
-        answer_among(alloc, play_cache(rt, alloc, workers, stripes, calls)?)
-    }
+    answer_end(alloc, play_cache(rt, alloc, workers, stripes, calls)?)
 }
 
 // Makes the calls of a script, or names its first bad line.
@@ -185,7 +158,8 @@ fn answer_by_kind<R: Threads + Wait + Sync>(
     alloc: Global,
     script: Script,
 ) -> Result<Answer, AllocError>
-    requires { HasCrew script }
+    requires crew { HasCrew script }
+    requires owners { HasOwners (meaning_of script) }
     ensures { IfOk result (λ a. Answers (meaning_of script) a.status (string_bytes a.text)) }
 {
     match script {
@@ -236,7 +210,7 @@ fn finish<W: Write>(writer: &mut W, text: &str, status: u8) -> u8
 ///
 /// The script is read whole before any line is checked, every line is checked before any call is made, and the whole
 /// output is written last. Each worker makes its calls on a thread of its own, on a recorded container in as many
-/// stripes as the script names; those of one worker on one stripe are made on an owned container.
+/// stripes as the script names.
 ///
 /// - [`FINISHED`]: written are for each worker from 0 the line `worker W` and a line for each of its calls' replies,
 ///   then `contents N`, N lines `KEY VALUE`, of a set `KEY`, in rising order of keys, and `records R`, where R is the
@@ -246,7 +220,8 @@ fn finish<W: Write>(writer: &mut W, text: &str, status: u8) -> u8
 /// - [`NO_MEMORY`]: written is the line `out of memory` alone.
 /// - [`STREAM_FAILED`]: nothing was written where the read failed; where a write failed, nothing after it.
 /// - [`UNFINISHED`]: written is the line `finish N` alone: 7 where a pass is missing, 8 where a record is misrouted, 9
-///   where a receipt isn't its record, or what was recorded isn't what the script has.
+///   where a receipt isn't its record.
+/// - [`DIFFERS`]: nothing is written. Receipts that came back aren't those of the script's calls.
 pub fn play<T: Threads + Wait + Sync, R: Read, W: Write>(
     rt: &T,
     alloc: Global,
@@ -256,7 +231,7 @@ pub fn play<T: Threads + Wait + Sync, R: Read, W: Write>(
     ensures ends { IfSome (R.remaining reader.old)
         (λ script. Ends (W.contents writer.old) (W.contents writer.new) (script_of script) result) }
     ensures status { (result ≡ FINISHED) ⊎ ((result ≡ BAD_CALL)
-        ⊎ ((result ≡ NO_MEMORY) ⊎ ((result ≡ STREAM_FAILED) ⊎ (result ≡ UNFINISHED)))) }
+        ⊎ ((result ≡ NO_MEMORY) ⊎ ((result ≡ STREAM_FAILED) ⊎ ((result ≡ UNFINISHED) ⊎ (result ≡ DIFFERS))))) }
 {
     let mut script = Vec::new(alloc);
     if let Err(error) = reader.read_to_end(&mut script) {

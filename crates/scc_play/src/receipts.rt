@@ -66,6 +66,9 @@ fn joint_reply<P: Printed>(receipts: &[Receipt<P::Call, P::Reply>]) -> P::Reply
     requires { 0 < length receipts.now }
     ensures { IsJoint P.key_of P.counted P.count_reply (map (λ r. r.reply) receipts.now) result }
 {
+    if receipts.len() == 1 {
+        return P::same_reply(&receipts[0].reply);
+    }
     match P::counted(&receipts[0].reply) {
         None => P::same_reply(&receipts[0].reply),
         Some(_) => P::count_reply(sum_of::<P>(receipts)),

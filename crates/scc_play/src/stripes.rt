@@ -70,7 +70,6 @@ fn cause_of(error: FinishError) -> Result<Cause, AllocError>
     ensures missing { result ≡ Ok Cause.Missing → error ≡ FinishError.Missing }
     ensures misrouted { result ≡ Ok Cause.Misrouted → (i : ℕ) × (j : ℕ) × (error ≡ FinishError.Misrouted i j) }
     ensures disagrees { result ≡ Ok Cause.Disagrees → (n : ℕ) × (k : ℕ) × (error ≡ FinishError.Disagrees n k) }
-    ensures differs { result ≡ Ok Cause.Differs → ⊥ }
 {
     match error {
         FinishError::Missing => Ok(Cause::Missing),
@@ -80,8 +79,8 @@ fn cause_of(error: FinishError) -> Result<Cause, AllocError>
     }
 }
 
-/// The output of a run that is over, or why it isn't finished.
-pub(crate) fn finish_run<P: Printed + Drop, L: Ledger, M: Site<P::Hasher>>(
+/// The output of a run that is over, or why it isn't finished, or that its receipts aren't those of the script's calls.
+pub fn finish_run<P: Printed + Drop, L: Ledger, M: Site<P::Hasher>>(
     alloc: Global,
     workers: usize,
     stripes: usize,
@@ -104,7 +103,7 @@ where
         × IsOnlyStampOrder (map (λ s. s.stripe.history.items) closed.stripes.items) places
         × FirstDisagrees P.Call.eq P.Reply.eq (λ p. p.log.number) (λ p. p.log.receipts.items) passes.items
         (λ m. records_of m (steps_at (map (λ s. s.stripe.history.items) closed.stripes.items) places)) n k) ∥₁ }
-    ensures differs { result ≡ Ok (End.Unfinished Cause.Differs)
+    ensures differs { result ≡ Ok End.Differs
         → AreAll closed.passes (map (λ p. p.log.number) passes.items)
         × CallsRouted P.key_of (stripe_of P.Hasher.BuildHasher P.Hasher.Hasher.Hasher P.Key.Hash.hash_input
         closed.hasher (vec_len closed.stripes)) 0 (map (λ s. s.stripe.history.items) closed.stripes.items) }
@@ -140,10 +139,10 @@ where
         }
     };
     let Some(told) = listed else {
-        return Ok(End::Unfinished(Cause::Differs));
+        return Ok(End::Differs);
     };
     match whole_text::<P>(alloc, workers, told.as_slice(), finished)? {
         Some(text) => Ok(End::Played(text)),
-        None => Ok(End::Unfinished(Cause::Differs)),
+        None => Ok(End::Differs),
     }
 }

@@ -1,14 +1,19 @@
 //! Reads a script of calls from standard input, makes them on the container that it names, and writes what they
 //! answered.
 //!
-//! The process ends with the status that [`play`] answers.
+//! The process ends with the status that [`play`] answers. Where what was recorded isn't what the script has, a line on
+//! standard error says so.
 #![tactic(auto)]
 
-use scc_play::play::play;
+use scc_play::play::DIFFERS;
+pub use scc_play::play::play;
 use std::io;
 use std::process::ExitCode;
 
 fn main(rt: HostRuntime) -> ExitCode {
     let status = play(&rt, rt.alloc(), &mut rt.reader(), &mut io::writer(&rt));
+    if status == DIFFERS {
+        let _ = eprintln!(rt; "a reply isn't of the script");
+    }
     ExitCode::from(status)
 }

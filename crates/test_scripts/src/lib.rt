@@ -1,6 +1,8 @@
-//! Scripts, streams that fail, runs of calls as values, and the texts of refusals.
+//! Scripts and how their runs end, streams that fail, runs of calls as values, and the texts of refusals.
 #![tactic(auto)]
 
+#[cfg(test)]
+mod differing;
 #[cfg(test)]
 mod expect;
 #[cfg(test)]

@@ -1,4 +1,3 @@
-use Rattle.std.proofs.Common.{◌≡◌}
 use Rattle.std.specs.String.{string_bytes}
 use Rattle.scc_play.proofs.Ending.{ends_read}
 use Rattle.scc_play.proofs.play.play.Goals as goal

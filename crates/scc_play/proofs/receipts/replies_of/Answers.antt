@@ -1,6 +1,5 @@
-use Rattle.std.proofs.Common.{rules, ◌≡◌, ◌+◌, ◌<◌, ◌≤◌, length, arith, [], ◌∷◌, ◌++◌, get_or, sym, subst}
+use Rattle.std.proofs.Common.{rules, ◌≡◌, ◌<◌, ◌≤◌, length, arith, [], ◌∷◌, ◌++◌, get_or}
 use Rattle.std.proofs.lemmas.List.{append_assoc, nil_from_length, append-nil}
-use Rattle.scc_play.specs.Answered.{AreAnswered}
 use Rattle.scc_play.proofs.Answering.{one-more, none-left}
 use Rattle.scc_play.proofs.receipts.replies_of.Goals as goal
 

@@ -1,4 +1,4 @@
-use Rattle.std.proofs.Common.{◌≡◌, ◌∙◌, Ok, map, length, vec_len, string_bytes, ap, sym, arith}
+use Rattle.std.proofs.Common.{◌≡◌, Ok, map, length, vec_len, string_bytes, ap, arith}
 use Rattle.std.proofs.lemmas.List.{length-map}
 use Rattle.scc_play.specs.declared.ends.Cause.TheVariants.{Misrouted, Disagrees}
 use Rattle.scc_play.proofs.Assembling.{assembled}
