@@ -7,10 +7,13 @@ use Rattle.std.specs.declared.hash.Hasher as hasher
 use Rattle.std.specs.declared.hash.BuildHasher as builder
 use Rattle.scc_map.specs.Entries.{occupied_pair, occupied_front as pairs_before, occupied_back as pairs_after}
 use Rattle.scc_map.specs.EntrySteps as pairs
+use Rattle.scc_map.specs.Seats as seats
 use Rattle.scc_contents.specs.Contents.{Contents}
 use Rattle.scc_common.specs.declared.guard.Guard as guard
 use Rattle.scc_map.specs.declared.held.HeldEntry.{HeldEntry}
 use Rattle.scc_shared_set.specs.declared.entries.HeldKey.{HeldKey}
+use Rattle.scc_stripes.specs.declared.seats.Seat.{Seat}
+use Rattle.scc_stripes.specs.declared.striped.Striped.{Striped}
 
 module _ {G N K S T : Type 0} {d : guard.Ghosts G (Contents (K × Unit {0}) S)} {g : eq.Ghosts K} {h : hash.Ghosts K} {b : builder.Ghosts S T} {w : hasher.Ghosts T} where
   -- the key of the entry, and the keys before and after it in the list of its stripe
@@ -40,3 +43,16 @@ module _ {G N K S T : Type 0} {d : guard.Ghosts G (Contents (K × Unit {0}) S)} 
   -- o is the first of its stripe
   abbrev pub IsFirstOfStripe : HeldKey (HeldEntry G N K (Unit {0}) S T d g h b w) → Type 0
   IsFirstOfStripe o = pairs_before o.entry ≡ []
+
+  -- p holds the same stripe as o
+  abbrev pub KeepsRest : HeldKey (HeldEntry G N K (Unit {0}) S T d g h b w) → HeldKey (HeldEntry G N K (Unit {0}) S T d g h b w) → Type 0
+  KeepsRest o p = seats.KeepsRest o.entry p.entry
+
+module _ {G O H K S T : Type 0} {d : guard.Ghosts G (Contents (K × Unit {0}) S)} {g : eq.Ghosts K} {h : hash.Ghosts K} {b : builder.Ghosts S T} {w : hasher.Ghosts T} where
+  -- o holds one of those stripes
+  abbrev pub HoldsOneOf : Striped O H → HeldKey (HeldEntry G (Seat O H) K (Unit {0}) S T d g h b w) → Type 0
+  HoldsOneOf stripes o = seats.HoldsOneOf stripes o.entry
+
+  -- p holds a later stripe than o, among the same stripes
+  abbrev pub HoldsLater : HeldKey (HeldEntry G (Seat O H) K (Unit {0}) S T d g h b w) → HeldKey (HeldEntry G (Seat O H) K (Unit {0}) S T d g h b w) → Type 0
+  HoldsLater o p = seats.HoldsLater o.entry p.entry

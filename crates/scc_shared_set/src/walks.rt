@@ -1,5 +1,6 @@
 //! Walks over all stripes of a set, one after another.
-ghost use Rattle.std.specs.Prelude.{◌≡◌, ◌++◌, List};
+ghost use Rattle.std.specs.Prelude.{◌≡◌, ◌≤◌, ◌++◌, List, OnErr};
+ghost use Rattle.std.specs.Vec.{vec_len, vec_capacity};
 ghost use Rattle.std.specs.Fn.{CalledAt, TakesAt};
 ghost use Rattle.scc_set.specs.SetWalks.{Retains, Takes, Walks};
 
@@ -53,6 +54,8 @@ impl<K: Eq + Hash, H: BuildHasher> HashSet<K, H> {
         requires { F.IsAlwaysCallable f }
         ensures calls { (ks : List K) × (stay : List K) × (more : List K) × (last : F)
             × Takes (CalledAt F.FnMut) f ks stay more result last × (taken.new.items ≡ taken.old.items ++ more) }
+        ensures full { OnErr result (vec_capacity taken.new ≤ vec_len taken.new) }
+        ensures room { vec_capacity taken.old ≤ vec_capacity taken.new }
     {
         self.map.iter_mut_into(
             rt,

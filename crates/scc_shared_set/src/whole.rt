@@ -1,5 +1,7 @@
 //! What is done with a whole set: comparisons, clones, sets made of items. They look at the stripes one after another.
+ghost use Rattle.std.specs.Prelude.{◌≡◌, IfOk};
 ghost use Rattle.std.specs.Iterator.{IsFinite};
+ghost use Rattle.scc_shared_set.specs.Stripes.{hasher_of};
 
 use super::HashSet;
 use scc_common::{KeyError, MakeError};
@@ -18,7 +20,9 @@ impl<K: Eq + Hash, H: BuildHasher> HashSet<K, H> {
 impl<K: Eq + Hash + Clone + Drop, H: BuildHasher + Drop> HashSet<K, H> {
     /// A set with clones of the keys that each stripe has when it is looked at, under the same hasher. It asks for the
     /// capacity of this one. It is refused for want of memory, and where a clone can't be had.
-    pub fn try_clone(&self, rt: &impl Wait) -> Result<Self, MakeError> {
+    pub fn try_clone(&self, rt: &impl Wait) -> Result<Self, MakeError>
+        ensures hasher { IfOk result (λ s. hasher_of s ≡ hasher_of self.now) }
+    {
         match self.map.try_clone(rt) {
             Ok(map) => Ok(HashSet { map }),
             Err(e) => Err(e),

@@ -5,7 +5,7 @@ use Rattle.scc_shared_set.proofs.HashSet.any_sync.Goals as goal
 pub any_sync-requires : goal.any_sync-requires
 any_sync-requires g c = mut_by _ (λ s. always_mut g.P.FnMut s.0) (λ s a i. always-takes g.P.FnMut s.0 a.0.now i) (λ s a r t i e. always-after g.P.FnMut s.0 _ _ _ e.met i) _ c.requires
 
-pub returns-in-Some : goal.returns-in-Some
-returns-in-Some g c =
+pub returns-in-Some-clause-first : goal.returns-in-Some-clause-first
+returns-in-Some-clause-first g c =
     let x = c.in-Some.ensures.first in
-    record { first = (_, x.1.0, Declines-keys _ g.P.FnMut (λ s. s.0) (λ s key value r t h. h.met) _ x.0 x.1 x.2, PassesAt-keys _ g.P.FnMut (λ s. s.0) (λ s key value r t h. h.met) x.1 _ _ x.3) }
+    (_, x.1.0, Declines-keys _ g.P.FnMut (λ s. s.0) (λ s key value r t h. h.met) _ x.0 x.1 x.2, PassesAt-keys _ g.P.FnMut (λ s. s.0) (λ s key value r t h. h.met) x.1 _ _ x.3)

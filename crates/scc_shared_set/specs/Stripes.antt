@@ -1,0 +1,14 @@
+-- The stripes and the hasher of a set, which are those of its map.
+use Rattle.scc_contents.specs.Contents.{Contents}
+use Rattle.scc_stripes.specs.declared.striped.Striped.{Striped}
+use Rattle.scc_shared_map.specs.Stripes as map
+use Rattle.scc_shared_set.specs.declared.HashSet.{HashSet}
+
+module _ {K H T : Type 0} where
+  -- the stripes
+  abbrev pub stripes_of : HashSet K H T → Striped (Contents (K × Unit {0}) H) H
+  stripes_of s = map.stripes_of s.map
+
+  -- the hasher, which all stripes share
+  abbrev pub hasher_of : HashSet K H T → H
+  hasher_of s = map.hasher_of s.map
