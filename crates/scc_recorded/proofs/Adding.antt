@@ -21,10 +21,10 @@ module _ {G S A R : Type 0} (moves : G → S → A → R → S → Type 0) (call
   may-answer-alike means reply given like may = ∥∥₁_map may (λ m. (m.0, m.1, m.2, like m.0 m.1 m.2 m.3))
 
 -- what a part may refuse, some part may refuse in some state
-pub may-refuse : {G S A R K : Type 0} {may_refuse : G → S → A → Type 0} {size : S → ℕ} {resizes : G → S → ℕ → S → Type 0} {answer : G → S → A → R} {is_infallible : R → Type 0} (g : G) (s : S) (call : A)
-    → may_refuse g s call ⊎ (K × MayNotReply size (resizes g) (answer g) is_infallible s call) → ∥ ((h : G) × (t : S) × (may_refuse h t call ⊎ (K × MayNotClone is_infallible (answer h t call)))) ∥₁
-may-refuse g s call (inl m) = ∣ (g, s, inl m) ∣₁
-may-refuse g s call (inr m) = ∣ (g, m.1.0, inr (m.0, m.1.2)) ∣₁
+pub may-refuse : {G S A R K : Type 0} (refuses : G → S → A → Type 0) (size : S → ℕ) (resizes : G → S → ℕ → S → Type 0) (answer : G → S → A → R) (is_infallible : R → Type 0) (g : G) (s : S) (call : A)
+    → refuses g s call ⊎ (K × MayNotReply size (resizes g) (answer g) is_infallible s call) → ∥ ((h : G) × (t : S) × (refuses h t call ⊎ (K × MayNotClone is_infallible (answer h t call)))) ∥₁
+may-refuse refuses size resizes answer is_infallible g s call (inl m) = ∣ (g, s, inl m) ∣₁
+may-refuse refuses size resizes answer is_infallible g s call (inr m) = ∣ (g, m.1.0, inr (m.0, m.1.2)) ∣₁
 
 module _ (A R : Type 0) (such : Receipt A R → Type 0) where
   pub adds_none : (clock : ℕ) (old : List (Receipt A R)) → Adds such clock clock 0 old old
