@@ -90,15 +90,15 @@ module _ {K V : Type 0} {eq : K → K → Bool} {values : V → V → Bool} (law
   left-alike Len Len o p x y q h f i = i
   left-alike a b o p x y q h f i = absurd h
 
-module _ {K V H I : Type 0} {eq : K → K → Bool} {clone : K → K → Type 0} {values : V → V → Bool} (laws : IsEquivalence eq) (part : IsPartialEquivalence values) (g : Setting H) (h : Setting I)
+module _ {K V H I : Type 0} {eq : K → K → Bool} {values : V → V → Bool} (laws : IsEquivalence eq) (part : IsPartialEquivalence values) (g : Setting H) (h : Setting I)
     (calls : IndexCall K V → IndexCall K V → Bool) (like-calls : (a b : IndexCall K V) → calls a b ≡ true → IndexCallsAlike eq values a b)
     (replies : Reply K V → Reply K V → Bool) (like-replies : (a b : Reply K V) → replies a b ≡ true → RepliesAlike eq values a b) where
   calls-given : (made call : IndexCall K V) → Alike calls made call → IndexCallsAlike eq values made call
   calls-given made call (inl same) = subst (IndexCallsAlike eq values made) (sym same) (calls-refl laws part made)
   calls-given made call (inr e) = like-calls made call e
 
-  moves-alike : (s t u v : State (K × V)) (call : IndexCall K V) (q r : Reply K V) → AreAlike eq values s t → Means calls replies (IndexMoves eq clone) s call q u → Means calls replies (IndexMoves eq clone) t call r v → RepliesAlike eq values q r × AreAlike eq values u v
-  moves-alike s t u v call q r l m n =
+  moves-alike : (clone : K → K → Type 0) (s t u v : State (K × V)) (call : IndexCall K V) (q r : Reply K V) → AreAlike eq values s t → Means calls replies (IndexMoves eq clone) s call q u → Means calls replies (IndexMoves eq clone) t call r v → RepliesAlike eq values q r × AreAlike eq values u v
+  moves-alike clone s t u v call q r l m n =
       let d = keeps-distinct laws clone s u m.0 m.1 l.first m.4 in
       let e = keeps-distinct laws clone t v n.0 n.1 l.second n.4 in
       let a = settled laws clone s m.0 m.1 u l.first d m.4 in
@@ -120,11 +120,11 @@ module _ {K V H I : Type 0} {eq : K → K → Bool} {clone : K → K → Type 0}
       )
 
   -- two runs of the same calls from alike values, each with its own hasher, sizes and resizes
-  pub index-runs-alike : {s t u v : State (K × V)} {list : List (IndexCall K V)} {made others : List (Reply K V)}
+  pub index-runs-alike : {clone : K → K → Type 0} {s t u v : State (K × V)} {list : List (IndexCall K V)} {made others : List (Reply K V)}
       → AreAlike eq values s t → IsRun (Means calls replies (IndexMoves eq clone)) (ResizesTo g) s list made u → IsRun (Means calls replies (IndexMoves eq clone)) (ResizesTo h) t list others v
       → Agrees (AreAlike eq values) (RepliesAlike eq values) made others u v
-  index-runs-alike l a b =
-      runs-alike (AreAlike eq values) (RepliesAlike eq values) moves-alike
+  index-runs-alike {clone} l a b =
+      runs-alike (AreAlike eq values) (RepliesAlike eq values) (moves-alike clone)
       (λ s t u number l z. record {
         first = distinct-IsPermutation laws s.0 u.0 z.same l.first;
         second = l.second;

@@ -12,8 +12,6 @@ pub returns : goal.returns
 returns g c =
     let r = c.run.ensures.run in
     let q = c.run-2.ensures.run in
-    let first = (r.0, r.1, c.runs_mean.ensures _ _ _ _ _ r.2) in
-    let second = (q.0, q.1, c.runs_mean-2.ensures _ _ _ _ _ q.2) in
     let own = setting_of c.args.first.now in
     let other = setting_of c.args.second.now in
     both-answered _ _ _ _ _ _ _ _ _ _ _ _ tt
@@ -24,14 +22,12 @@ returns g c =
       all_same = λ z made others a b. map-runs-same g.met.K.Eq.laws own other c.len.ensures.unique z a b;
       first_same = λ z made others a b. map-runs-first g.met.K.Eq.laws own other c.len.ensures.unique z a b;
     })
-    first second c.in_ok-run.ensures.all c.in_ok-run-2.ensures.all
+    (r.0, r.1, c.runs_mean.ensures _ _ _ _ _ r.2) (q.0, q.1, c.runs_mean-2.ensures _ _ _ _ _ q.2) c.in_ok-run.ensures.all c.in_ok-run-2.ensures.all
 
 pub returns-in_err-run-2 : goal.returns-in_err-run-2
 returns-in_err-run-2 g c =
     let r = c.run.ensures.run in
     let q = c.run-2.ensures.run in
-    let first = (r.0, r.1, c.runs_mean.ensures _ _ _ _ _ r.2) in
-    let second = (q.0, q.1, c.runs_mean-2.ensures _ _ _ _ _ q.2) in
     let own = setting_of c.args.first.now in
     let other = setting_of c.args.second.now in
     second-stopped _ _ _ _ _ _ _ _ _ _ _ c.from_residual-in_err-run-2.result (search rules)
@@ -42,7 +38,7 @@ returns-in_err-run-2 g c =
       all_same = λ z made others a b. map-runs-same g.met.K.Eq.laws own other c.len.ensures.unique z a b;
       first_same = λ z made others a b. map-runs-first g.met.K.Eq.laws own other c.len.ensures.unique z a b;
     })
-    first second c.in_ok-run.ensures.all
+    (r.0, r.1, c.runs_mean.ensures _ _ _ _ _ r.2) (q.0, q.1, c.runs_mean-2.ensures _ _ _ _ _ q.2) c.in_ok-run.ensures.all
 
 pub returns-in_err-run : goal.returns-in_err-run
 returns-in_err-run g c = first-stopped _ _ _ _ _ _ _ _ _ _ _ c.from_residual.result (search rules) (let r = c.run.ensures.run in (r.0, r.1, c.runs_mean.ensures _ _ _ _ _ r.2)) refl

@@ -13,8 +13,6 @@ pub returns : goal.returns
 returns g c =
     let r = c.run.ensures.run in
     let q = c.run-2.ensures.run in
-    let first = (r.0, r.1, c.runs_mean.ensures _ _ _ _ _ r.2) in
-    let second = (q.0, q.1, c.runs_mean-2.ensures _ _ _ _ _ q.2) in
     let own = setting_of c.args.first.now in
     let other = setting_of c.args.second.now in
     both-answered _ _ _ _ _ _ _ _ _ _ _ _ tt
@@ -25,14 +23,12 @@ returns g c =
       all_same = λ z made others a b m n. let q = index-runs-same g.met.K.Eq.laws own other (record { first = c.len.ensures.unique; second = c.len-2.ensures.unique; values = z }) a b m n in (q.0, q.1.values);
       first_same = λ z made others a b. index-runs-first g.met.K.Eq.laws own other (record { first = c.len.ensures.unique; second = c.len-2.ensures.unique; values = z }) a b;
     })
-    first second c.in_ok-run.ensures.all c.in_ok-run-2.ensures.all
+    (r.0, r.1, c.runs_mean.ensures _ _ _ _ _ r.2) (q.0, q.1, c.runs_mean-2.ensures _ _ _ _ _ q.2) c.in_ok-run.ensures.all c.in_ok-run-2.ensures.all
 
 pub returns-in_err-run-2 : goal.returns-in_err-run-2
 returns-in_err-run-2 g c =
     let r = c.run.ensures.run in
     let q = c.run-2.ensures.run in
-    let first = (r.0, r.1, c.runs_mean.ensures _ _ _ _ _ r.2) in
-    let second = (q.0, q.1, c.runs_mean-2.ensures _ _ _ _ _ q.2) in
     let own = setting_of c.args.first.now in
     let other = setting_of c.args.second.now in
     second-stopped _ _ _ _ _ _ _ _ _ _ _ c.from_residual-in_err-run-2.result (search rules)
@@ -43,7 +39,7 @@ returns-in_err-run-2 g c =
       all_same = λ z made others a b m n. let q = index-runs-same g.met.K.Eq.laws own other (record { first = c.len.ensures.unique; second = c.len-2.ensures.unique; values = z }) a b m n in (q.0, q.1.values);
       first_same = λ z made others a b. index-runs-first g.met.K.Eq.laws own other (record { first = c.len.ensures.unique; second = c.len-2.ensures.unique; values = z }) a b;
     })
-    first second c.in_ok-run.ensures.all
+    (r.0, r.1, c.runs_mean.ensures _ _ _ _ _ r.2) (q.0, q.1, c.runs_mean-2.ensures _ _ _ _ _ q.2) c.in_ok-run.ensures.all
 
 pub returns-in_err-run : goal.returns-in_err-run
 returns-in_err-run g c = first-stopped _ _ _ _ _ _ _ _ _ _ _ c.from_residual.result (search rules) (let r = c.run.ensures.run in (r.0, r.1, c.runs_mean.ensures _ _ _ _ _ r.2)) refl
