@@ -3,6 +3,7 @@ pub mod AuditLemmas
 pub mod Counting
 pub mod Ends
 pub mod IndexAlike
+pub mod IndexCounting
 pub mod IndexIndependence
 pub mod KeyLemmas
 pub mod MapAlike

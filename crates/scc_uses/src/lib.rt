@@ -12,6 +12,7 @@ pub mod difference;
 pub mod distinct;
 pub mod evaluator;
 pub mod fresh;
+pub mod index_counts;
 pub mod interner;
 pub mod marks;
 pub mod memo;

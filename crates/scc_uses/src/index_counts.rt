@@ -1,0 +1,32 @@
+//! Counting by entries of an index: one search for each word, and each new count is a version of its own.
+ghost use Rattle.std.specs.Prelude.{◌≡◌, nat_eq, Some, IfErr, OnOk, OnErr};
+ghost use Rattle.scc_contents.specs.Contents.{entries};
+ghost use Rattle.scc_contents.specs.Pairs.{find, FindsInstead};
+ghost use Rattle.scc_contents.specs.Steps.{IsUnchanged};
+ghost use Rattle.scc_index.specs.Entries.{Memory};
+ghost use Rattle.scc_uses.specs.Counts.{one_more};
+
+use scc_common::InsertError;
+use scc_index::Owned;
+use scc_index::owned::Entry;
+
+/// Counts a word once more: a new version has the new count, and who kept the old one keeps its count. A count stays at
+/// the greatest number once it is there. Refused for want of memory, the word comes back with the count that it would
+/// have, and the index holds the pairs that it held.
+pub fn count_word(counts: &mut Owned<u64, u64>, word: u64) -> Result<(), InsertError<u64, u64>>
+    ensures counted { OnOk result (FindsInstead nat_eq (entries counts.old) word
+        (Some (word, one_more (find nat_eq (entries counts.old) word))) (entries counts.new)) }
+    ensures refused { IfErr result (λ e. e ≡ Memory (word, one_more (find nat_eq (entries counts.old) word))) }
+    ensures unchanged { OnErr result (IsUnchanged counts.old counts.new) }
+{
+    match counts.entry_sync(word).and_modify(|n| n.saturating_add(1)) {
+        Ok(entry) => {
+            entry.or_insert(1)?;
+            Ok(())
+        }
+        Err((entry, count)) => match entry {
+            Entry::Occupied(_entry) => Err(InsertError::Memory((word, count))),
+            Entry::Vacant(_entry) => unreachable!(),
+        },
+    }
+}
