@@ -1,3 +1,4 @@
 pub mod Following
+pub mod Parts
 pub mod Seats
 pub mod Stripes

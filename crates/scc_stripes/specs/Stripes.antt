@@ -1,5 +1,25 @@
--- What each stripe gets.
-use Rattle.std.specs.Prelude.{ℕ, ◌+◌, ◌-◌, ◌/◌, ◌^◌}
+-- What stripes are, and what each gets.
+use Rattle.std.specs.Prelude.{ℕ, ◌+◌, ◌-◌, ◌/◌, ◌^◌, vec_len}
+use Rattle.std.specs.Arc.{arc_value}
+use Rattle.scc_stripes.specs.declared.book.Added.{Added}
+use Rattle.scc_stripes.specs.declared.striped.Striped.{Striped}
+
+module _ {O H : Type 0} where
+  -- the number of stripes
+  abbrev pub stripe_count : Striped O H → ℕ
+  stripe_count s = vec_len s.locks
+
+  -- the number of first bits of a hash that pick the stripe
+  abbrev pub stripe_bits : Striped O H → ℕ
+  stripe_bits s = s.bits
+
+  -- the hasher, which all stripes share
+  abbrev pub stripes_hasher : Striped O H → H
+  stripes_hasher s = arc_value s.hasher
+
+-- the number of slots that were added
+abbrev pub added_slots : Added → ℕ
+added_slots a = a.additional
 
 -- the share of one of 2 ^ bits stripes, rounded up
 abbrev pub share_of : ℕ → ℕ → ℕ

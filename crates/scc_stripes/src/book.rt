@@ -1,5 +1,6 @@
 //! The slots that callers of a shared container have reserved.
 ghost use Rattle.std.specs.Prelude.{◌≡◌, ◌≤◌, ◌<◌, ◌^◌, IfSome};
+ghost use Rattle.scc_stripes.specs.Stripes.{added_slots};
 
 use scc_buckets::sizes::GREATEST_CAPACITY;
 use std::sync::atomic::{AtomicU64, Ordering};
@@ -30,7 +31,7 @@ impl ReserveBook {
 
     /// Adds so many slots, unless that is 0 or the sum would be above the greatest capacity. One caller adds at a time.
     pub fn add(&self, rt: &impl Wait, additional: usize) -> Option<Added<'_>>
-        ensures { IfSome result (λ r. (r.additional ≡ additional) × (0 < additional) × (additional ≤ 2 ^ 63)) }
+        ensures { IfSome result (λ r. (added_slots r ≡ additional) × (0 < additional) × (additional ≤ 2 ^ 63)) }
     {
         let _turn = self.adding.lock(rt);
         if additional == 0 || additional > GREATEST_CAPACITY - self.minimum() {
@@ -53,7 +54,7 @@ pub struct Added<'h> {
 impl<'h> Added<'h> {
     /// How many slots they are.
     pub fn additional_capacity(&self) -> usize
-        ensures { result ≡ self.now.additional }
+        ensures { result ≡ added_slots self.now }
     {
         self.additional
     }

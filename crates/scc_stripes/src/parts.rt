@@ -26,6 +26,9 @@ pub struct Parts<O, H> {
 }
 
 impl<O, H> Parts<O, H> {
+    ghost use Rattle.scc_stripes.specs.Parts.{part_bits, part_count, parts_hasher, parts_of, parts_owner};
+    ghost use Rattle.scc_stripes.specs.Stripes.{stripe_bits, stripes_hasher};
+
     /// As many empty containers as so many bits can number, each with its share of the slots and of the maximum.
     pub fn make(
         alloc: Global,
@@ -40,8 +43,8 @@ impl<O, H> Parts<O, H> {
         requires few { bits ≤ 4 }
         requires slots { slots ≤ 2 ^ 63 }
         requires maximum { maximum ≤ 2 ^ 63 }
-        ensures bits { IfOk result (λ p. p.bits ≡ bits) }
-        ensures hasher { IfOk result (λ p. arc_value p.hasher ≡ arc_value hasher) }
+        ensures bits { IfOk result (λ p. part_bits p ≡ bits) }
+        ensures hasher { IfOk result (λ p. parts_hasher p ≡ arc_value hasher) }
     {
         let count = 1usize << bits;
         let mut parts = Vec::new(alloc);
@@ -67,21 +70,21 @@ impl<O, H> Parts<O, H> {
     pub fn route<K: Hash>(&self, k: &K) -> usize
     where
         H: BuildHasher,
-        ensures value { result ≡ stripe_of H.BuildHasher H.Hasher.Hasher K.hash_input (arc_value self.now.hasher)
-            (vec_len self.now.parts) k.now }
-        ensures within { result < vec_len self.now.parts }
+        ensures value { result ≡ stripe_of H.BuildHasher H.Hasher.Hasher K.hash_input (parts_hasher self.now)
+            (part_count self.now) k.now }
+        ensures within { result < part_count self.now }
     {
         bucket_index(self.hasher.hash_one(k), 0, self.parts.len())
     }
 
     /// Lends the part of that number to `f`, and answers what `f` answered.
     pub fn change<R, F: FnOnce(&mut O) -> R>(&mut self, part: usize, f: F) -> R
-        requires part { part < vec_len self.old.parts }
+        requires part { part < part_count self.old }
         requires callable { F.IsAlwaysCallable f }
-        ensures hasher { self.new.hasher ≡ self.old.hasher }
-        ensures change { (old : O) × (new : O) × (slice_get self.old.parts.items part ≡ Some old)
+        ensures hasher { parts_owner self.new ≡ parts_owner self.old }
+        ensures change { (old : O) × (new : O) × (slice_get (parts_of self.old) part ≡ Some old)
             × FnOnceReturnsAtMut F.FnOnce f old result new
-            × (self.new.parts.items ≡ slice_set self.old.parts.items part new) }
+            × (parts_of self.new ≡ slice_set (parts_of self.old) part new) }
     {
         f(&mut self.parts[part])
     }
@@ -91,8 +94,8 @@ impl<O, H> Parts<O, H> {
     where
         O: Drop,
         H: Drop,
-        ensures bits { IfOk result (λ s. s.bits ≡ self.bits) }
-        ensures hasher { IfOk result (λ s. arc_value s.hasher ≡ arc_value self.hasher) }
+        ensures bits { IfOk result (λ s. stripe_bits s ≡ part_bits self) }
+        ensures hasher { IfOk result (λ s. stripes_hasher s ≡ parts_hasher self) }
     {
         let Parts {
             parts,

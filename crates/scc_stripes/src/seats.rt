@@ -1,6 +1,7 @@
 //! The stripe that an entry holds. A seat is made beside the guard of its stripe, and nowhere else.
-ghost use Rattle.std.specs.Prelude.{◌≤◌, ◌<◌, suc, IfNone, IfSome, vec_len};
-ghost use Rattle.scc_stripes.specs.Seats.{seat_stripe, IsNextSeat, IsSeatIn};
+ghost use Rattle.std.specs.Prelude.{◌≤◌, ◌<◌, suc, IfNone, IfSome};
+ghost use Rattle.scc_stripes.specs.Seats.{seat_stripe, seat_stripes, IsNextSeat, IsSeatIn};
+ghost use Rattle.scc_stripes.specs.Stripes.{stripe_count};
 
 use crate::striped::{Follow, Striped};
 use std::sync::{RwLockWriteGuard, Wait};
@@ -8,7 +9,7 @@ use std::sync::{RwLockWriteGuard, Wait};
 impl<O, H> Striped<O, H> {
     /// Waits as `write` does, and answers the seat of the stripe beside its container.
     pub fn hold(&self, rt: &impl Wait, stripe: usize) -> (RwLockWriteGuard<'_, O>, Seat<'_, O, H>)
-        requires { stripe < vec_len self.now.locks }
+        requires { stripe < stripe_count self.now }
         ensures seat { IsSeatIn self.now stripe result.1 }
     {
         let stripes = self;
@@ -23,7 +24,7 @@ impl<O, H> Striped<O, H> {
     ) -> (RwLockWriteGuard<'_, O>, Seat<'_, O, H>)
     where
         O: Follow,
-        requires { stripe < vec_len self.now.locks }
+        requires { stripe < stripe_count self.now }
         ensures seat { IsSeatIn self.now stripe result.1 }
     {
         let stripes = self;
@@ -42,7 +43,7 @@ impl<'a, O, H> Seat<'a, O, H> {
     /// The stripe after this one, held for writing; None where this is the last.
     pub fn later(self, rt: &impl Wait) -> Option<(RwLockWriteGuard<'a, O>, Self)>
         ensures next { IfSome result (λ r. IsNextSeat self.entry r.1) }
-        ensures last { IfNone result (vec_len self.entry.stripes.now.locks ≤ suc (seat_stripe self.entry)) }
+        ensures last { IfNone result (stripe_count (seat_stripes self.entry) ≤ suc (seat_stripe self.entry)) }
     {
         let Seat { stripes, stripe } = self;
         if stripe >= stripes.locks.len() || stripes.locks.len() - stripe < 2 {

@@ -54,6 +54,8 @@ pub struct Striped<O, H> {
 }
 
 impl<O, H> Striped<O, H> {
+    ghost use Rattle.scc_stripes.specs.Stripes.{added_slots, stripe_bits, stripe_count, stripes_hasher};
+
     /// As many empty containers as so many bits can number, each with its share of the slots and of the maximum.
     pub fn make(
         alloc: Global,
@@ -68,15 +70,15 @@ impl<O, H> Striped<O, H> {
         requires few { bits ≤ 4 }
         requires slots { slots ≤ 2 ^ 63 }
         requires maximum { maximum ≤ 2 ^ 63 }
-        ensures bits { IfOk result (λ s. s.bits ≡ bits) }
-        ensures hasher { IfOk result (λ s. arc_value s.hasher ≡ arc_value hasher) }
+        ensures bits { IfOk result (λ s. stripe_bits s ≡ bits) }
+        ensures hasher { IfOk result (λ s. stripes_hasher s ≡ arc_value hasher) }
     {
         Parts::make(alloc, bits, slots, maximum, hasher)?.lock(alloc)
     }
 
     /// One more owner of the hasher.
     pub fn owner(&self) -> Result<Arc<H>, MakeError>
-        ensures { IfOk result (λ h. arc_value h ≡ arc_value self.now.hasher) }
+        ensures { IfOk result (λ h. arc_value h ≡ stripes_hasher self.now) }
     {
         match Arc::try_clone(&self.hasher) {
             Ok(owner) => Ok(owner),
@@ -86,14 +88,14 @@ impl<O, H> Striped<O, H> {
 
     /// How many containers there are.
     pub fn stripes(&self) -> usize
-        ensures { result ≡ vec_len self.now.locks }
+        ensures { result ≡ stripe_count self.now }
     {
         self.locks.len()
     }
 
     /// How many first bits of a hash pick the stripe.
     pub fn bits(&self) -> u32
-        ensures value { result ≡ self.now.bits }
+        ensures value { result ≡ stripe_bits self.now }
         ensures few { result ≤ 4 }
     {
         self.bits
@@ -103,30 +105,30 @@ impl<O, H> Striped<O, H> {
     pub fn route<K: Hash>(&self, k: &K) -> usize
     where
         H: BuildHasher,
-        ensures value { result ≡ stripe_of H.BuildHasher H.Hasher.Hasher K.hash_input (arc_value self.now.hasher)
-            (vec_len self.now.locks) k.now }
-        ensures within { result < vec_len self.now.locks }
+        ensures value { result ≡ stripe_of H.BuildHasher H.Hasher.Hasher K.hash_input (stripes_hasher self.now)
+            (stripe_count self.now) k.now }
+        ensures within { result < stripe_count self.now }
     {
         bucket_index(self.hasher.hash_one(k), 0, self.locks.len())
     }
 
     /// Waits until nobody writes into the stripe, and keeps writers out.
     pub fn read(&self, rt: &impl Wait, stripe: usize) -> RwLockReadGuard<'_, O>
-        requires { stripe < vec_len self.now.locks }
+        requires { stripe < stripe_count self.now }
     {
         self.locks[stripe].read(rt)
     }
 
     /// Keeps writers out of the stripe; None where one has it or waits for it. It waits for nobody.
     pub fn try_read(&self, stripe: usize) -> Option<RwLockReadGuard<'_, O>>
-        requires { stripe < vec_len self.now.locks }
+        requires { stripe < stripe_count self.now }
     {
         self.locks[stripe].try_read()
     }
 
     /// Waits until nobody has the stripe, and keeps all others out.
     pub fn write(&self, rt: &impl Wait, stripe: usize) -> RwLockWriteGuard<'_, O>
-        requires { stripe < vec_len self.now.locks }
+        requires { stripe < stripe_count self.now }
     {
         self.locks[stripe].write(rt)
     }
@@ -135,7 +137,7 @@ impl<O, H> Striped<O, H> {
     pub fn write_to_insert(&self, rt: &impl Wait, stripe: usize) -> RwLockWriteGuard<'_, O>
     where
         O: Follow,
-        requires { stripe < vec_len self.now.locks }
+        requires { stripe < stripe_count self.now }
     {
         let mut guard = self.locks[stripe].write(rt);
         if guard.slots() == 0 {
@@ -211,7 +213,7 @@ impl<O, H> Striped<O, H> {
     pub fn reserve(&self, rt: &impl Wait, additional: usize) -> Option<Added<'_>>
     where
         O: Follow,
-        ensures { IfSome result (λ r. (r.additional ≡ additional) × (0 < additional) × (additional ≤ 2 ^ 63)) }
+        ensures { IfSome result (λ r. (added_slots r ≡ additional) × (0 < additional) × (additional ≤ 2 ^ 63)) }
     {
         let added = self.book.add(rt, additional)?;
         for stripe in 0..self.locks.len() {
