@@ -1,6 +1,7 @@
-//! The Rust peers with one owner. `peers NAME GROUP RUNS ENTRIES SEED` prints the lines that README.md describes.
+//! The Rust peers with one owner, and those that threads share. `peers NAME GROUP RUNS ENTRIES SEED` prints the lines that README.md describes.
 //! With no argument it lists its peers and their groups.
 
+mod shared;
 mod streams;
 
 use std::collections::HashMap as StdMap;
@@ -151,12 +152,10 @@ fn own<M: Owned>(peer: &str, runs: u32, streams: &Streams) {
     }
 }
 
-fn quantiles(peer: &str, sorted: &[u64]) {
-    let at = |thousandths: usize| sorted[(sorted.len() - 1) * thousandths / 1000] as f64;
-    line("tail_p50", peer, at(500));
-    line("tail_p99", peer, at(990));
-    line("tail_p999", peer, at(999));
-    line("tail_max", peer, at(1000));
+fn quantiles(group: &str, peer: &str, sorted: &[u64]) {
+    for (name, thousandths) in [("p50", 500), ("p99", 990), ("p999", 999), ("max", 1000)] {
+        line(&format!("{group}_{name}"), peer, sorted[(sorted.len() - 1) * thousandths / 1000] as f64);
+    }
 }
 
 fn tail<M: Owned>(peer: &str, runs: u32, streams: &Streams) {
@@ -171,7 +170,7 @@ fn tail<M: Owned>(peer: &str, runs: u32, streams: &Streams) {
         }
         times.sort_unstable();
         if run > 0 {
-            quantiles(peer, &times);
+            quantiles("tail", peer, &times);
         }
         if run == runs {
             check("tail", peer, m.sum());
@@ -332,7 +331,10 @@ fn list() {
     #[cfg(with_hashbrown)]
     println!("hashbrown own,tail,mem,curve\nhashbrown-fold own,tail,mem,curve");
     #[cfg(with_lru)]
-    println!("lru-own cache");
+    println!("lru-own cache\nlru-mutex cache\nlru-shard16 cache");
+    println!("std-shard16-fold shared,tail4,index\nstd-frozen-fold index");
+    #[cfg(with_dashmap)]
+    println!("dashmap-fold shared,tail4,index");
 }
 
 fn main() {
@@ -357,6 +359,14 @@ fn main() {
         "hashbrown-fold" => run_owned::<hashbrown::HashMap<u64, u64, Fold>>(p, g, runs, &streams),
         #[cfg(with_lru)]
         "lru-own" if g == "cache" => cache(p, runs, &streams),
+        "std-shard16-fold" => shared::run_shared::<shared::Sharded>(p, g, runs, &streams),
+        "std-frozen-fold" if g == "index" => shared::run_frozen(p, runs, &streams),
+        #[cfg(with_dashmap)]
+        "dashmap-fold" => shared::run_shared::<dashmap::DashMap<u64, u64, Fold>>(p, g, runs, &streams),
+        #[cfg(with_lru)]
+        "lru-mutex" if g == "cache" => shared::run_cache::<shared::OneCache>(p, runs, &streams),
+        #[cfg(with_lru)]
+        "lru-shard16" if g == "cache" => shared::run_cache::<shared::ShardedCache>(p, runs, &streams),
         _ => eprintln!("there is no peer {p}"),
     }
 }
