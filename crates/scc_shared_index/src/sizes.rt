@@ -1,5 +1,6 @@
 //! Sizes and reservations. They look at the stripes one after another.
 ghost use Rattle.std.specs.Prelude.{◌≡◌, ◌<◌, ◌≤◌, ◌^◌, IfSome};
+ghost use Rattle.scc_shared_index.specs.Reserves.{reserved_in, reserved_slots};
 
 use super::HashIndex;
 use scc_buckets::sizes::GREATEST_CAPACITY;
@@ -40,8 +41,8 @@ impl<K: Eq + Hash, V, H: BuildHasher> HashIndex<K, V, H> {
     /// Raises the minimum by so many slots until the answer is dropped; None for 0, and where the minimum would pass
     /// the greatest capacity. Arrays with fewer slots than their share grow, unless memory is refused.
     pub fn reserve(&self, rt: &impl Wait, additional: usize) -> Option<Reserve<'_, K, V, H>>
-        ensures { IfSome result (λ r. (r.added.additional ≡ additional) × (0 < additional) × (additional ≤ 2 ^ 63)
-            × (r.of.now ≡ self.now)) }
+        ensures { IfSome result (λ r. (reserved_slots r ≡ additional) × (0 < additional) × (additional ≤ 2 ^ 63)
+            × (reserved_in r ≡ self.now)) }
     {
         let added = self.stripes.reserve(rt, additional)?;
         Some(Reserve { of: self, added })
@@ -58,14 +59,14 @@ pub struct Reserve<'h, K: Eq + Hash, V, H: BuildHasher = BuildHasherDefault<Fold
 impl<'h, K: Eq + Hash, V, H: BuildHasher> Reserve<'h, K, V, H> {
     /// How many slots it stands for.
     pub fn additional_capacity(&self) -> usize
-        ensures { result ≡ self.now.added.additional }
+        ensures { result ≡ reserved_slots self.now }
     {
         self.added.additional_capacity()
     }
 
     /// The index in which they are reserved.
     pub fn as_ref(&self) -> &HashIndex<K, V, H>
-        ensures { result.now ≡ self.now.of.now }
+        ensures { result.now ≡ reserved_in self.now }
     {
         self.of
     }

@@ -1,7 +1,8 @@
 //! What is done with a whole index: comparisons, clones, indexes made of items. They look at the stripes one after
 //! another.
-ghost use Rattle.std.specs.Prelude.{◌≡◌, ◌<◌, IfOk, vec_len};
+ghost use Rattle.std.specs.Prelude.{◌≡◌, ◌<◌, IfOk};
 ghost use Rattle.std.specs.Iterator.{IsFinite};
+ghost use Rattle.scc_stripes.specs.Stripes.{stripe_count};
 ghost use Rattle.scc_shared_index.specs.Stripes.{hasher_of};
 
 use super::HashIndex;
@@ -31,7 +32,7 @@ impl<K: Eq + Hash, V: PartialEq, H: BuildHasher> HashIndex<K, V, H> {
     /// Whether each pair of a stripe is in the other index. It never waits while it holds the stripe: where it meets a
     /// stripe of the other index that it can't read at once, it lets its own go, waits for that one, and begins anew.
     fn is_stripe_within(&self, rt: &impl Wait, stripe: usize, other: &Self) -> bool
-        requires { stripe < vec_len self.now.stripes.locks }
+        requires { stripe < stripe_count self.now.stripes }
     {
         for _ in rt.forever() {
             let busy = Cell::new(None);

@@ -1,7 +1,7 @@
 -- The stripes of a map, and its hasher.
-use Rattle.std.specs.Arc.{arc_value}
 use Rattle.scc_contents.specs.Contents.{Contents}
 use Rattle.scc_stripes.specs.declared.striped.Striped.{Striped}
+use Rattle.scc_stripes.specs.Stripes.{stripes_hasher}
 use Rattle.scc_shared_map.specs.declared.HashMap.{HashMap}
 
 module _ {K V H T : Type 0} where
@@ -11,4 +11,4 @@ module _ {K V H T : Type 0} where
 
   -- the hasher, which all stripes share
   abbrev pub hasher_of : HashMap K V H T → H
-  hasher_of m = arc_value m.stripes.hasher
+  hasher_of m = stripes_hasher m.stripes

@@ -1,7 +1,9 @@
 //! Sizes and reservations. They look at the stripes one after another.
-ghost use Rattle.std.specs.Prelude.{◌≡◌, ◌<◌, ◌≤◌, ◌^◌, IfSome, vec_len};
-ghost use Rattle.std.specs.Arc.{arc_value};
+ghost use Rattle.std.specs.Prelude.{◌≡◌, ◌<◌, ◌≤◌, ◌^◌, IfSome};
 ghost use Rattle.scc_contents.specs.Routing.{stripe_of};
+ghost use Rattle.scc_stripes.specs.Stripes.{stripe_count};
+ghost use Rattle.scc_shared_map.specs.Stripes.{hasher_of, stripes_of};
+ghost use Rattle.scc_shared_map.specs.Reserves.{reserved_in, reserved_slots};
 
 use super::HashMap;
 use scc_buckets::sizes::GREATEST_CAPACITY;
@@ -36,8 +38,8 @@ impl<K: Eq + Hash, V, H: BuildHasher> HashMap<K, V, H> {
 
     /// The number of the stripe of `k`, by which hash and routing name it.
     pub fn stripe_of(&self, k: &K) -> usize
-        ensures { result ≡ stripe_of H.BuildHasher H.Hasher.Hasher K.hash_input (arc_value self.now.stripes.hasher)
-            (vec_len self.now.stripes.locks) k.now }
+        ensures { result ≡ stripe_of H.BuildHasher H.Hasher.Hasher K.hash_input (hasher_of self.now)
+            (stripe_count (stripes_of self.now)) k.now }
     {
         self.stripes.route(k)
     }
@@ -55,8 +57,8 @@ impl<K: Eq + Hash, V, H: BuildHasher> HashMap<K, V, H> {
     /// Raises the minimum by so many slots until the answer is dropped; None for 0, and where the minimum would pass
     /// the greatest capacity. Arrays with fewer slots than their share grow, unless memory is refused.
     pub fn reserve(&self, rt: &impl Wait, additional: usize) -> Option<Reserve<'_, K, V, H>>
-        ensures { IfSome result (λ r. (r.added.additional ≡ additional) × (0 < additional) × (additional ≤ 2 ^ 63)
-            × (r.of.now ≡ self.now)) }
+        ensures { IfSome result (λ r. (reserved_slots r ≡ additional) × (0 < additional) × (additional ≤ 2 ^ 63)
+            × (reserved_in r ≡ self.now)) }
     {
         let added = self.stripes.reserve(rt, additional)?;
         Some(Reserve { of: self, added })
@@ -73,14 +75,14 @@ pub struct Reserve<'h, K: Eq + Hash, V, H: BuildHasher = BuildHasherDefault<Fold
 impl<'h, K: Eq + Hash, V, H: BuildHasher> Reserve<'h, K, V, H> {
     /// How many slots it stands for.
     pub fn additional_capacity(&self) -> usize
-        ensures { result ≡ self.now.added.additional }
+        ensures { result ≡ reserved_slots self.now }
     {
         self.added.additional_capacity()
     }
 
     /// The map in which they are reserved.
     pub fn as_ref(&self) -> &HashMap<K, V, H>
-        ensures { result.now ≡ self.now.of.now }
+        ensures { result.now ≡ reserved_in self.now }
     {
         self.of
     }

@@ -1,6 +1,6 @@
 //! A map before a lock is round any of its stripes.
 ghost use Rattle.std.specs.Prelude.{◌≡◌, IfOk};
-ghost use Rattle.std.specs.Arc.{arc_value};
+ghost use Rattle.scc_stripes.specs.Parts.{parts_hasher, parts_owner};
 ghost use Rattle.scc_shared_map.specs.Stripes.{hasher_of};
 
 use super::HashMap;
@@ -25,7 +25,7 @@ impl<K: Eq + Hash + Drop, V: Drop, H: BuildHasher + Drop> Unlocked<K, V, H> {
         map: &HashMap<K, V, H>,
         capacity: usize,
     ) -> Result<Self, MakeError>
-        ensures hasher { IfOk result (λ u. arc_value u.parts.hasher ≡ hasher_of map.now) }
+        ensures hasher { IfOk result (λ u. parts_hasher u.parts ≡ hasher_of map.now) }
     {
         let owner = map.stripes.owner()?;
         let (bits, slots) = if capacity == 0 {
@@ -42,7 +42,7 @@ impl<K: Eq + Hash + Drop, V: Drop, H: BuildHasher + Drop> Unlocked<K, V, H> {
 
     /// Puts a lock round each stripe.
     pub(crate) fn lock(self, alloc: Global) -> Result<HashMap<K, V, H>, MakeError>
-        ensures hasher { IfOk result (λ m. hasher_of m ≡ arc_value self.parts.hasher) }
+        ensures hasher { IfOk result (λ m. hasher_of m ≡ parts_hasher self.parts) }
     {
         match self.parts.lock(alloc) {
             Ok(stripes) => Ok(HashMap { stripes, alloc }),
@@ -55,7 +55,7 @@ impl<K: Eq + Hash + Drop, V: Drop, H: BuildHasher + Drop> Unlocked<K, V, H> {
     where
         K: Clone,
         V: Clone,
-        ensures hasher { self.new.parts.hasher ≡ self.old.parts.hasher }
+        ensures hasher { parts_owner self.new.parts ≡ parts_owner self.old.parts }
     {
         let mut at = from.first_place();
         while let Some(place) = at {
@@ -74,7 +74,7 @@ impl<K: Eq + Hash + Drop, V: Drop, H: BuildHasher + Drop> Unlocked<K, V, H> {
     where
         K: Clone,
         V: Clone,
-        ensures hasher { self.new.parts.hasher ≡ self.old.parts.hasher }
+        ensures hasher { parts_owner self.new.parts ≡ parts_owner self.old.parts }
     {
         let Ok(key) = k.clone() else {
             return false;

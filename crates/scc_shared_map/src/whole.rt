@@ -1,6 +1,7 @@
 //! What is done with a whole map: comparisons, clones, maps made of items. They look at the stripes one after another.
-ghost use Rattle.std.specs.Prelude.{◌≡◌, ◌<◌, IfOk, vec_len};
+ghost use Rattle.std.specs.Prelude.{◌≡◌, ◌<◌, IfOk};
 ghost use Rattle.std.specs.Iterator.{IsFinite};
+ghost use Rattle.scc_stripes.specs.Stripes.{stripe_count};
 ghost use Rattle.scc_shared_map.specs.Stripes.{hasher_of};
 
 use super::HashMap;
@@ -30,7 +31,7 @@ impl<K: Eq + Hash, V: PartialEq, H: BuildHasher> HashMap<K, V, H> {
     /// Whether each pair of a stripe is in the other map. It never waits while it holds the stripe: where it meets a
     /// stripe of the other map that it can't read at once, it lets its own go, waits for that one, and begins anew.
     fn is_stripe_within(&self, rt: &impl Wait, stripe: usize, other: &Self) -> bool
-        requires { stripe < vec_len self.now.stripes.locks }
+        requires { stripe < stripe_count self.now.stripes }
     {
         for _ in rt.forever() {
             let busy = Cell::new(None);

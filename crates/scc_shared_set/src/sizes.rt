@@ -1,5 +1,6 @@
 //! Sizes and reservations of a set. They look at the stripes one after another.
 ghost use Rattle.std.specs.Prelude.{◌≡◌, ◌<◌, ◌≤◌, ◌^◌, IfSome};
+ghost use Rattle.scc_shared_map.specs.Reserves.{reserved_slots};
 
 use super::{HashSet, Reserve};
 use std::hash::{BuildHasher, Hash};
@@ -43,7 +44,7 @@ impl<K: Eq + Hash, H: BuildHasher> HashSet<K, H> {
     /// Raises the minimum by so many slots until the answer is dropped; None for 0, and where the minimum would pass
     /// the greatest capacity. Arrays with fewer slots than their share grow, unless memory is refused.
     pub fn reserve(&self, rt: &impl Wait, additional: usize) -> Option<Reserve<'_, K, H>>
-        ensures { IfSome result (λ r. (r.added.additional ≡ additional) × (0 < additional) × (additional ≤ 2 ^ 63)) }
+        ensures { IfSome result (λ r. (reserved_slots r ≡ additional) × (0 < additional) × (additional ≤ 2 ^ 63)) }
     {
         self.map.reserve(rt, additional)
     }

@@ -1,6 +1,7 @@
 use Rattle.std.proofs.Common.{◌≡◌}
-use Rattle.std.specs.Arc.{arc_value}
+use Rattle.scc_stripes.specs.Parts.{parts_hasher}
+use Rattle.scc_stripes.specs.Stripes.{stripes_hasher}
 use Rattle.scc_shared_map.proofs.HashMap.try_clone.Given as goal
 
 abbrev pub invariant-loop-stripe : goal.invariant-loop-stripe
-invariant-loop-stripe g l = arc_value l.made.parts.hasher ≡ arc_value l.self.stripes.hasher
+invariant-loop-stripe g l = parts_hasher l.made.parts ≡ stripes_hasher l.self.stripes

@@ -1,5 +1,6 @@
 use Rattle.std.proofs.Common.{◌≡◌, ◌-◌, length, IfSome}
 use Rattle.scc_contents.specs.Contents.{entries}
+use Rattle.scc_stripes.specs.Parts.{parts_owner}
 use Rattle.scc_table.specs.Places.{IsPlace}
 use Rattle.scc_table.proofs.Reached.{reached}
 use Rattle.scc_shared_index.proofs.unlocked.Unlocked.put_all.Given as goal
@@ -7,7 +8,7 @@ use Rattle.scc_shared_index.proofs.unlocked.Unlocked.put_all.Given as goal
 abbrev pub invariant-loop-at : goal.invariant-loop-at
 invariant-loop-at g l = record {
   within : IfSome l.at (IsPlace l.from);
-  hasher : l.self.parts.hasher ≡ l.fn.self.parts.hasher;
+  hasher : parts_owner l.self.parts ≡ parts_owner l.fn.self.parts;
 }
 
 abbrev pub decreases-loop-at : goal.decreases-loop-at
