@@ -9,6 +9,7 @@ ghost use Rattle.scc_calls.specs.Copies.{ClonesEqual, MayNotClone};
 ghost use Rattle.scc_calls.specs.Rooms.{CacheMakesRoom};
 ghost use Rattle.scc_calls.specs.declared.replies.Reply.TheVariants.{Evicted};
 
+use crate::replies::equal_replies;
 use crate::{CacheCall, Calls, Refused, Reply};
 use scc_cache::Owned;
 use scc_cache::owned::{Entry, ReplaceResult};
@@ -252,7 +253,12 @@ fn copies<K: Eq + Hash + Clone, V: Clone + PartialEq, H: BuildHasher>(
         (cache_answer K.eq (number_in (key_hash H.BuildHasher H.Hasher.Hasher K.hash_input cache.now.contents)
         cache.now.contents) (lists_of cache.now.contents) call.now)) }
 {
+    equal_replies::<Reply<K, V>>();
     let first = copy(cache, call)?;
+    if let Ok(second) = first.clone() {
+        return Ok((first, second));
+    }
+    // That a clone of the copy is refused says nothing of the reply, so the reply is copied once more.
     let second = copy(cache, call)?;
     Ok((first, second))
 }

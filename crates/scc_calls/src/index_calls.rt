@@ -1,12 +1,12 @@
 //! The calls of the owned index as values.
 ghost use Rattle.std.specs.Prelude.{◌≡◌, ◌⊎◌, true, None, Some, IfOk, IsSome, OnErr};
-ghost use Rattle.std.specs.Cmp.{IsPartialEquivalence};
 ghost use Rattle.scc_contents.specs.Contents.{entries};
 ghost use Rattle.scc_contents.specs.Hashing.{hash_of};
 ghost use Rattle.scc_calls.specs.Copies.{ClonesEqual, MayNotClone};
 ghost use Rattle.scc_calls.specs.IndexCalls.{index_answer, index_key};
 ghost use Rattle.scc_calls.specs.Rooms.{IndexMakesRoom, IndexMakesRoomFor};
 
+use crate::replies::equal_replies;
 use crate::{Calls, IndexCall, Refused, Reply};
 use scc_common::{InsertError, MakeError};
 use scc_index::Owned;
@@ -190,11 +190,6 @@ impl<K: Eq + Hash + Clone, V: Clone + PartialEq, H: BuildHasher> Calls for Owned
     ghost empty_keeps = { λ _ _ _ _. tt };
 }
 
-// What `==` of replies is. It does nothing.
-fn equal_replies<R: PartialEq>()
-    ensures { IsPartialEquivalence R.eq }
-{}
-
 // Makes what the call wants but its version, if it may bring in a key.
 fn make_room<K: Eq + Hash, V, H: BuildHasher>(
     index: &mut Owned<K, V, H>,
@@ -234,7 +229,12 @@ fn copies<K: Eq + Hash + Clone, V: Clone + PartialEq, H: BuildHasher>(
     ensures refused { OnErr result (IsSome (index_key call.now) × MayNotClone ⟦<Reply<K, V> as Clone>⟧.is_infallible
         (index_answer K.eq (entries index.now) call.now)) }
 {
+    equal_replies::<Reply<K, V>>();
     let first = copy(index, call)?;
+    if let Ok(second) = first.clone() {
+        return Ok((first, second));
+    }
+    // That a clone of the copy is refused says nothing of the reply, so the reply is copied once more.
     let second = copy(index, call)?;
     Ok((first, second))
 }

@@ -1,4 +1,5 @@
 //! What calls as values answer.
+ghost use Rattle.std.specs.Cmp.{IsPartialEquivalence};
 
 use std::fmt::Debug;
 
@@ -26,3 +27,8 @@ pub enum Reply<K, V> {
     /// The number of entries.
     Count(usize),
 }
+
+// What `==` of replies is. It does nothing.
+pub(crate) fn equal_replies<R: PartialEq>()
+    ensures { IsPartialEquivalence R.eq }
+{}

@@ -1,6 +1,5 @@
 //! The calls of the owned set as values.
 ghost use Rattle.std.specs.Prelude.{◌≡◌, ◌⊎◌, true, None, Some, IfOk, IsSome, OnErr};
-ghost use Rattle.std.specs.Cmp.{IsPartialEquivalence};
 ghost use Rattle.scc_contents.specs.Contents.{entries};
 ghost use Rattle.scc_contents.specs.Hashing.{hash_of};
 ghost use Rattle.scc_set.specs.Keys.{find};
@@ -9,6 +8,7 @@ ghost use Rattle.scc_calls.specs.SetCalls.{key_of_set, set_answer};
 ghost use Rattle.scc_calls.specs.Rooms.{SetMakesRoom, SetMakesRoomFor};
 ghost use Rattle.scc_calls.specs.declared.replies.Reply.TheVariants.{Key};
 
+use crate::replies::equal_replies;
 use crate::{Calls, Refused, Reply, SetCall};
 use scc_common::{KeyError, MakeError};
 use scc_set::Owned;
@@ -187,11 +187,6 @@ impl<K: Eq + Hash + Clone, H: BuildHasher> Calls for Owned<K, H> {
     ghost empty_keeps = { λ _ _ _ _. tt };
 }
 
-// What `==` of replies is. It does nothing.
-fn equal_replies<R: PartialEq>()
-    ensures { IsPartialEquivalence R.eq }
-{}
-
 // Makes what the call wants, if it may bring in a key.
 fn make_room<K: Eq + Hash, H: BuildHasher>(
     set: &mut Owned<K, H>,
@@ -229,7 +224,12 @@ fn copies<K: Eq + Hash + Clone, H: BuildHasher>(
     ensures refused { OnErr result (IsSome (key_of_set call.now)
         × MayNotClone ⟦<Reply<K, ()> as Clone>⟧.is_infallible (set_answer K.eq (entries set.now) call.now)) }
 {
+    equal_replies::<Reply<K, ()>>();
     let first = copy(set, call)?;
+    if let Ok(second) = first.clone() {
+        return Ok((first, second));
+    }
+    // That a clone of the copy is refused says nothing of the reply, so the reply is copied once more.
     let second = copy(set, call)?;
     Ok((first, second))
 }
