@@ -10,6 +10,7 @@ use scc_buckets::route::bucket_index;
 use scc_common::MakeError;
 use std::alloc::Global;
 use std::hash::{BuildHasher, Hash};
+use std::hint::spin_loop;
 use std::sync::{Arc, RwLock, RwLockReadGuard, RwLockWriteGuard, Wait};
 
 /// A container that keeps its share of what all stripes together are to keep at least.
@@ -40,6 +41,9 @@ pub trait Part<H>: Sized {
         H: Drop,
         requires { skipped ≤ 4 };
 }
+
+/// How often a call looks again at a lock that is taken, before it waits.
+const LOOKS: u32 = 200;
 
 /// A fixed number of containers, each behind a lock, under one hasher, and the book of what they keep at least. Threads
 /// share it by reference.
@@ -102,6 +106,7 @@ impl<O, H> Striped<O, H> {
     }
 
     /// The number of the stripe of a key: the one that routing names.
+    #[inline(always)]
     pub fn route<K: Hash>(&self, k: &K) -> usize
     where
         H: BuildHasher,
@@ -113,10 +118,15 @@ impl<O, H> Striped<O, H> {
     }
 
     /// Waits until nobody writes into the stripe, and keeps writers out.
+    #[inline(always)]
     pub fn read(&self, rt: &impl Wait, stripe: usize) -> RwLockReadGuard<'_, O>
         requires { stripe < stripe_count self.now }
     {
-        self.locks[stripe].read(rt)
+        let lock = &self.locks[stripe];
+        match lock.try_read() {
+            Some(guard) => guard,
+            None => wait_to_read(rt, lock),
+        }
     }
 
     /// Keeps writers out of the stripe; None where one has it or waits for it. It waits for nobody.
@@ -127,19 +137,25 @@ impl<O, H> Striped<O, H> {
     }
 
     /// Waits until nobody has the stripe, and keeps all others out.
+    #[inline(always)]
     pub fn write(&self, rt: &impl Wait, stripe: usize) -> RwLockWriteGuard<'_, O>
         requires { stripe < stripe_count self.now }
     {
-        self.locks[stripe].write(rt)
+        let lock = &self.locks[stripe];
+        match lock.try_write() {
+            Some(guard) => guard,
+            None => wait_to_write(rt, lock),
+        }
     }
 
     /// The same for a call that may insert: where the stripe has no array, it gets its share of the minimum first.
+    #[inline(always)]
     pub fn write_to_insert(&self, rt: &impl Wait, stripe: usize) -> RwLockWriteGuard<'_, O>
     where
         O: Follow,
         requires { stripe < stripe_count self.now }
     {
-        let mut guard = self.locks[stripe].write(rt);
+        let mut guard = self.write(rt, stripe);
         if guard.slots() == 0 {
             self.follow(&mut *guard);
         }
@@ -175,7 +191,7 @@ impl<O, H> Striped<O, H> {
     {
         let mut sum = 0usize;
         for stripe in 0..self.locks.len() {
-            sum = sum.saturating_add(self.locks[stripe].read(rt).count());
+            sum = sum.saturating_add(self.read(rt, stripe).count());
         }
         sum
     }
@@ -186,7 +202,7 @@ impl<O, H> Striped<O, H> {
         O: Follow,
     {
         for stripe in 0..self.locks.len() {
-            if self.locks[stripe].read(rt).count() > 0 {
+            if self.read(rt, stripe).count() > 0 {
                 return false;
             }
         }
@@ -201,7 +217,7 @@ impl<O, H> Striped<O, H> {
     {
         let mut sum = 0usize;
         for stripe in 0..self.locks.len() {
-            let mut guard = self.locks[stripe].write(rt);
+            let mut guard = self.write(rt, stripe);
             self.follow(&mut *guard);
             sum = sum.saturating_add(guard.slots());
         }
@@ -217,9 +233,34 @@ impl<O, H> Striped<O, H> {
     {
         let added = self.book.add(rt, additional)?;
         for stripe in 0..self.locks.len() {
-            let mut guard = self.locks[stripe].write(rt);
+            let mut guard = self.write(rt, stripe);
             self.follow(&mut *guard);
         }
         Some(added)
     }
+}
+
+/// Looks often at a lock that was taken, and then waits until nobody writes. It stands apart, so that where the first
+/// look gets the lock the guard is an address that is known before: loads through it needn't wait for the exchange.
+#[cold]
+fn wait_to_read<'a, O>(rt: &impl Wait, lock: &'a RwLock<O>) -> RwLockReadGuard<'a, O> {
+    for _ in 0..LOOKS {
+        spin_loop();
+        if let Some(guard) = lock.try_read() {
+            return guard;
+        }
+    }
+    lock.read(rt)
+}
+
+/// The same until nobody has the lock.
+#[cold]
+fn wait_to_write<'a, O>(rt: &impl Wait, lock: &'a RwLock<O>) -> RwLockWriteGuard<'a, O> {
+    for _ in 0..LOOKS {
+        spin_loop();
+        if let Some(guard) = lock.try_write() {
+            return guard;
+        }
+    }
+    lock.write(rt)
 }
