@@ -12,4 +12,6 @@ mod kinds;
 #[cfg(test)]
 mod locks;
 #[cfg(test)]
+mod waits;
+#[cfg(test)]
 mod walks;
