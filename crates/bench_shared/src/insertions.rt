@@ -24,7 +24,7 @@ fn empty(alloc: Global) -> io::Result<Map> {
 }
 
 /// The keys of one of so many threads: each has as many in a row.
-fn part_of(keys: &[u64], thread: usize, threads: usize) -> &[u64] {
+pub(crate) fn part_of<K>(keys: &[K], thread: usize, threads: usize) -> &[K] {
     let each = keys.len().checked_div(threads).unwrap_or(0);
     let from = thread.saturating_mul(each);
     keys.get(from..from.saturating_add(each)).unwrap_or(&[])

@@ -12,17 +12,20 @@ mod memos;
 mod mixed;
 mod reads;
 mod request;
+mod texts;
 
 use bench_kit::arguments::words;
 use request::{Group, Request, parse_request};
 use std::alloc::Global;
+use std::hash::RandomState;
 use std::io;
+use std::random::RandomSource;
 use std::rt::{Clock, Files};
 use std::sync::Wait;
 use std::thread::Threads;
 
 /// The peers and their groups.
-const PEERS: &str = "scc-shared shared,tail4,mem
+const PEERS: &str = "scc-shared shared,tail4,mem,texts
 scc-shared-index index
 scc-shared-cache cache
 scc-memo memo";
@@ -65,7 +68,15 @@ fn measure_memos<R: Clock + Print + Threads + Wait + Sync>(
     Ok(())
 }
 
-fn measure<R: Clock + Files + Print + Alloc + Threads + Wait + Sync>(
+fn measure_texts<R: Clock + Print + RandomSource + Threads + Wait + Sync>(
+    rt: &R,
+    alloc: Global,
+    request: Request,
+) -> io::Result<()> {
+    texts::measure(rt, alloc, RandomState::new(rt)?, request)
+}
+
+fn measure<R: Clock + Files + Print + Alloc + RandomSource + Threads + Wait + Sync>(
     rt: &R,
     alloc: Global,
     request: Request,
@@ -77,6 +88,7 @@ fn measure<R: Clock + Files + Print + Alloc + Threads + Wait + Sync>(
         Group::Index => index::measure(rt, alloc, request),
         Group::Cache => measure_caches(rt, alloc, request),
         Group::Memos => measure_memos(rt, alloc, request),
+        Group::Texts => measure_texts(rt, alloc, request),
     }
 }
 

@@ -11,6 +11,7 @@ pub enum Group {
     Index,
     Cache,
     Memos,
+    Texts,
 }
 
 /// A group of workloads, so many times.
@@ -29,6 +30,7 @@ fn parse_group(peer: &str, group: &str) -> io::Result<Group> {
         ("scc-shared-index", "index") => Ok(Group::Index),
         ("scc-shared-cache", "cache") => Ok(Group::Cache),
         ("scc-memo", "memo") => Ok(Group::Memos),
+        ("scc-shared", "texts") => Ok(Group::Texts),
         _ => Err(bad_argument()),
     }
 }
