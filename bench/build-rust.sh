@@ -55,4 +55,14 @@ if ls -d "$crates"/lru-[0-9]* > /dev/null 2>&1; then
 else
     echo "missing: librust-lru-dev (needed for lru)" >&2
 fi
+if ls -d "$crates"/dashmap-[0-9]* > /dev/null 2>&1; then
+    build scopeguard
+    build smallvec
+    build lock_api --cfg has_const_fn_trait_bound $(on scopeguard)
+    build parking_lot_core $(on cfg_if libc smallvec)
+    build dashmap $(on cfg_if hashbrown lock_api once_cell parking_lot_core)
+    flags="$flags --cfg with_dashmap $(on dashmap)"
+else
+    echo "missing: librust-dashmap-dev (needed for dashmap)" >&2
+fi
 rustc $flags --edition 2021 --cfg with_hashbrown $(on hashbrown) -o "$out/peers-rust" "$here/rust/main.rs"

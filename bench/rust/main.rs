@@ -1,8 +1,9 @@
-//! The Rust peers with one owner, and those that threads share. `peers NAME GROUP RUNS ENTRIES SEED` prints the lines that README.md describes.
-//! With no argument it lists its peers and their groups.
+//! The Rust peers with one owner, and those that threads share. `peers NAME GROUP RUNS ENTRIES SEED` prints the lines
+//! that README.md describes. With no argument it lists its peers and their groups.
 
 mod shared;
 mod streams;
+mod texts;
 
 use std::collections::HashMap as StdMap;
 use std::hash::{BuildHasher, Hasher};
@@ -332,9 +333,9 @@ fn list() {
     println!("hashbrown own,tail,mem,curve\nhashbrown-fold own,tail,mem,curve");
     #[cfg(with_lru)]
     println!("lru-own cache\nlru-mutex cache\nlru-shard16 cache");
-    println!("std-shard16-fold shared,tail4,index\nstd-frozen-fold index");
+    println!("std-shard16-fold shared,tail4,index\nstd-frozen-fold index\nstd-shard16 texts");
     #[cfg(with_dashmap)]
-    println!("dashmap-fold shared,tail4,index");
+    println!("dashmap-fold shared,tail4,index\ndashmap texts");
 }
 
 fn main() {
@@ -367,6 +368,11 @@ fn main() {
         "lru-mutex" if g == "cache" => shared::run_cache::<shared::OneCache>(p, runs, &streams),
         #[cfg(with_lru)]
         "lru-shard16" if g == "cache" => shared::run_cache::<shared::ShardedCache>(p, runs, &streams),
+        "std-shard16" if g == "texts" => texts::texts::<texts::Sharded>(p, runs, &streams),
+        #[cfg(with_dashmap)]
+        "dashmap" if g == "texts" => {
+            texts::texts::<dashmap::DashMap<String, u64, std::collections::hash_map::RandomState>>(p, runs, &streams)
+        }
         _ => eprintln!("there is no peer {p}"),
     }
 }
