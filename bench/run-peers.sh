@@ -1,5 +1,6 @@
 #!/bin/sh
-# run-peers.sh: builds the Rust peers outside the repository, runs them and bench_owned in turn, and prints one table.
+# run-peers.sh: builds the Rust peers outside the repository, runs them, bench_owned and bench_shared in turn, and prints
+# one table.
 # It installs nothing: it names what is missing and goes on without it. README.md tells the rest.
 #
 #   BENCH_BUILD    folder for what is built and measured (default: hash-peers in the user's cache folder)
@@ -7,7 +8,7 @@
 #   SEED           seed of the keys (0)
 #   RUNS           measured runs of each workload in a process (1)
 #   ROUNDS         how often all is gone through (5); several rounds spread a passing load over all peers
-#   ONLY_GROUPS    some of: own tail mem curve cache
+#   ONLY_GROUPS    some of: own tail mem curve cache shared tail4 index texts
 #   ONLY_PEERS     names of peers, as the first column of a listing has them
 #   EXTRA_PEERS    further programs, one path a line, that keep to the conventions of README.md
 #   WIDE           1: also the wide tables
@@ -18,19 +19,21 @@ entries=${ENTRIES:-1048576}
 seed=${SEED:-0}
 runs=${RUNS:-1}
 rounds=${ROUNDS:-5}
-groups=${ONLY_GROUPS:-own tail mem curve cache}
+groups=${ONLY_GROUPS:-own tail mem curve cache shared tail4 index texts}
 mkdir -p "$build"
 
 say() { echo "$*" >&2; }
 
 commands=$build/commands
 : > "$commands"
-ours=$here/../crates/bench_owned/out/bench_owned
-if [ -x "$ours" ]; then
-    echo "$ours" >> "$commands"
-else
-    say "missing: $ours (rt run in crates/bench_owned makes it)"
-fi
+for ours in bench_owned bench_shared; do
+    program=$here/../crates/$ours/out/$ours
+    if [ -x "$program" ]; then
+        echo "$program" >> "$commands"
+    else
+        say "missing: $program (rt run in crates/$ours makes it)"
+    fi
+done
 if ! command -v rustc > /dev/null 2>&1; then
     say "missing: rustc (needed for the Rust peers)"
 elif sh "$here/build-rust.sh" "$build" >&2; then
