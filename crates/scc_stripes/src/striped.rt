@@ -163,6 +163,7 @@ impl<O, H> Striped<O, H> {
     }
 
     /// Gives a container its share of the minimum as it is now.
+    #[inline(always)]
     pub fn follow(&self, container: &mut O)
     where
         O: Follow,

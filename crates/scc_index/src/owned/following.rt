@@ -13,7 +13,21 @@ impl<K: Eq + Hash, V, H: BuildHasher> Owned<K, V, H> {
     /// Makes so many slots the minimum, what was asked for at making among them. A raised minimum lets an array that is
     /// there grow to it, a lowered one lets it become smaller, unless memory is refused. Fewer slots than were asked
     /// for change nothing.
+    #[inline(always)]
     pub fn keep_share(&mut self, share: usize)
+        requires { share ≤ 2 ^ 63 }
+        ensures { KeepsShare K.eq self.old share self.new }
+    {
+        if *self.capacity_range().start() == share {
+            let _ = self.len();
+        } else {
+            self.change_share(share);
+        }
+    }
+
+    /// The same apart from the callers: a share seldom changes.
+    #[cold]
+    fn change_share(&mut self, share: usize)
         requires { share ≤ 2 ^ 63 }
         ensures { KeepsShare K.eq self.old share self.new }
     {
@@ -37,6 +51,7 @@ impl<K: Eq + Hash, V, H: BuildHasher> Follow for Owned<K, V, H> {
         self.capacity()
     }
 
+    #[inline(always)]
     fn follow(&mut self, share: usize)
         requires { share ≤ 2 ^ 63 }
         ensures { KeepsShare K.eq self.old share self.new }

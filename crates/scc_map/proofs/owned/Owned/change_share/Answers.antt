@@ -1,6 +1,6 @@
 use Rattle.std.proofs.Common.{◌≡◌, ◌∙◌, ◌↔◌, Bool, IsTrue, arith, rules}
 use Rattle.scc_contents.specs.Contents.{minimum_of}
-use Rattle.scc_index.proofs.owned.Owned.keep_share.Goals as goal
+use Rattle.scc_map.proofs.owned.Owned.change_share.Goals as goal
 
 taken : {A B C : Type 0} {b : Bool} → (IsTrue b ↔ A) → (IsTrue b → B) → (IsTrue b → C) → A → B × C
 taken answer gives due a = let t = answer.1 a in (gives t, due t)
