@@ -7,6 +7,7 @@ pub mod Empty
 pub mod Finds
 pub mod Gathering
 pub mod Gets
+pub mod Hinted
 pub mod Joined
 pub mod ListPushing
 pub mod ListsLemmas

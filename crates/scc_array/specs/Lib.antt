@@ -1,3 +1,4 @@
+pub mod Hints
 pub mod LendsArray
 pub mod LendsColumns
 pub mod Lists

@@ -9,6 +9,7 @@ ghost use Rattle.scc_array.specs.Windows.{empty_window, window_of, pushed, poppe
 ghost use Rattle.scc_slots.specs.Places.{IsDrained};
 
 mod finding;
+mod hinting;
 mod taking;
 
 use crate::shifts::close_gap;

@@ -9,6 +9,7 @@ ghost use Rattle.std.specs.List.{position};
 pub mod columns;
 mod ending;
 mod finding;
+mod hinting;
 mod lists;
 mod reads;
 mod room;

@@ -6,6 +6,7 @@ pub mod Counting
 pub mod FindingLemmas
 pub mod Finds
 pub mod Fresh
+pub mod Hinted
 pub mod Inserts
 pub mod KeyWrites
 pub mod Latest

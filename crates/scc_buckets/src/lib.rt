@@ -15,6 +15,7 @@ mod cloning;
 mod edits;
 mod exchange;
 mod finding;
+mod hinting;
 mod making;
 pub mod place;
 mod putting;

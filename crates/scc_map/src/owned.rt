@@ -204,6 +204,19 @@ impl<K: Eq + Hash, V, H: BuildHasher> Owned<K, V, H> {
         }
     }
 
+    /// The same, by the hash of `k` under some hasher. Where the map's own hasher gives the same, and the pair is there,
+    /// `k` isn't hashed again, but for a pair past its bucket's places or while some bucket waits.
+    #[inline(always)]
+    pub fn read_by_hint<R, F: FnOnce(&K, &V) -> R>(&self, hint: u64, k: &K, f: F) -> Option<R>
+        requires { (a : Bor K) (b : Bor V) → find K.eq (entries self.now) k.now ≡ Some (a.now, b.now) → F.pre f a b }
+        ensures answer { Reads F.FnOnce f (find K.eq (entries self.now) k.now) result }
+    {
+        match self.table.find_by_hint(hint, k) {
+            Some(pair) => Some(f(&pair.0, &pair.1)),
+            None => None,
+        }
+    }
+
     /// Inserts the pair where no key equals `k`. Where one does, the map stays as it is, and the supplied pair comes
     /// back; so it does where a growth that the insertion needs is refused.
     #[inline(always)]

@@ -51,7 +51,10 @@ impl<K: Eq + Hash, V, H: BuildHasher> HashMap<K, V, H> {
         requires { F.IsAlwaysCallable f }
         ensures answer { IfSome result (ReadsEqual K.eq F.FnOnce f k.now) }
     {
-        self.stripes.read(rt, self.stripes.route(k)).read_sync(k, f)
+        let hash = self.stripes.hash(k);
+        self.stripes
+            .read(rt, self.stripes.route_hash(hash))
+            .read_by_hint(hash, k, f)
     }
 
     /// Whether a key equals `k`.

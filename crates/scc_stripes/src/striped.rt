@@ -1,7 +1,8 @@
 //! Containers behind locks, and the one to which a key belongs.
 ghost use Rattle.std.specs.Prelude.{◌≡◌, ◌≤◌, ◌<◌, ◌^◌, IfOk, IfSome, vec_len};
 ghost use Rattle.std.specs.Arc.{arc_value};
-ghost use Rattle.scc_contents.specs.Routing.{stripe_of};
+ghost use Rattle.scc_contents.specs.Hashing.{hash_of};
+ghost use Rattle.scc_contents.specs.Routing.{stripe_number, stripe_of};
 
 use crate::book::{Added, ReserveBook};
 use crate::parts::Parts;
@@ -115,6 +116,25 @@ impl<O, H> Striped<O, H> {
         ensures within { result < stripe_count self.now }
     {
         bucket_index(self.hasher.hash_one(k), 0, self.locks.len())
+    }
+
+    /// The hash of a key.
+    #[inline(always)]
+    pub fn hash<K: Hash>(&self, k: &K) -> u64
+    where
+        H: BuildHasher,
+        ensures { result ≡ hash_of H.BuildHasher H.Hasher.Hasher (arc_value self.now.hasher) (K.hash_input k.now) }
+    {
+        self.hasher.hash_one(k)
+    }
+
+    /// The number of the stripe of a hash.
+    #[inline(always)]
+    pub fn route_hash(&self, hash: u64) -> usize
+        ensures value { result ≡ stripe_number (vec_len self.now.locks) hash }
+        ensures within { result < vec_len self.now.locks }
+    {
+        bucket_index(hash, 0, self.locks.len())
     }
 
     /// Waits until nobody writes into the stripe, and keeps writers out.

@@ -27,7 +27,7 @@ where
 
     /// The same where some bucket waits.
     #[cold]
-    fn find_both(&self, hash: u64, key: &E::Key) -> Option<&E>
+    pub(super) fn find_both(&self, hash: u64, key: &E::Key) -> Option<&E>
         requires pending { 0 < pending_of self.now }
         requires hashed { hash ≡ key_hash H.BuildHasher H.Hasher.Hasher E.Key.hash_input self.now key.now }
         ensures { option_copied result ≡ find (λ e. E.Key.eq key.now (E.key_of e)) (entries self.now) }

@@ -11,6 +11,7 @@ mod bounded;
 mod cloning;
 mod doubling;
 mod finding;
+mod hinting;
 mod growing;
 mod inserting;
 mod lasting;

@@ -3,4 +3,4 @@ use Rattle.scc_map.proofs.Replies.{reads-equal}
 use Rattle.scc_shared_map.proofs.HashMap.read_sync.Goals as goal
 
 pub returns : goal.returns
-returns g c = record { answer = reads-equal g.K.PartialEq.eq g.F.FnOnce c.args.f (entries c.deref.result.now) c.args.k.now c.read_sync.result c.read_sync.ensures.answer }
+returns g c = record { answer = reads-equal g.K.PartialEq.eq g.F.FnOnce c.args.f (entries c.deref.result.now) c.args.k.now c.read_by_hint.result c.read_by_hint.ensures.answer }

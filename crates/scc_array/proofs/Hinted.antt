@@ -1,0 +1,28 @@
+-- An entry of a part is one of the whole.
+use Rattle.std.proofs.Common.{◌≡◌, ℕ, zero, suc, ◌+◌, ◌<◌, Bool, Option, Some, None, List, [], ◌∷◌, ◌++◌, length, get_or, refl, sym, ap, ◌∙◌, subst, arith}
+use Rattle.std.specs.List.{flat_map, slice_get}
+use Rattle.scc_array.specs.Hints.{IsPassing}
+
+pub get-left : {X : Type 0} (xs ys : List X) (j : ℕ) (x : X) → slice_get xs j ≡ Some x → slice_get (xs ++ ys) j ≡ Some x
+get-left [] ys j x h = absurd (let s : None ≡ Some x = h in cc)
+get-left (z ∷ xs) ys zero x h = h
+get-left (z ∷ xs) ys (suc j) x h = get-left xs ys j x h
+
+get-right : {X : Type 0} (xs ys : List X) (j : ℕ) (x : X) → slice_get ys j ≡ Some x → slice_get (xs ++ ys) (length xs + j) ≡ Some x
+get-right [] ys j x h = let same : j ≡ 0 + j = omega arith in subst (λ n. slice_get ys n ≡ Some x) same h
+get-right (z ∷ xs) ys j x h =
+    let same : suc (length xs + j) ≡ suc (length xs) + j = omega arith in
+    subst (λ n. slice_get (z ∷ (xs ++ ys)) n ≡ Some x) same (get-right xs ys j x h)
+
+-- of a list that the same list begins, with more behind it
+pub moved : {X : Type 0} (p : X → Bool) {xs zs : List X} {x : X} → xs ≡ zs → (ys : List X) → IsPassing p xs x → IsPassing p (zs ++ ys) x
+moved p {xs} {zs} {x} same ys r = record { passes = r.passes; place = (r.place.0, get-left zs ys r.place.0 x (ap (λ l. slice_get l r.place.0) (sym same) ∙ r.place.1)) }
+
+place-flat : {X Y : Type 0} (f : X → List Y) (d : X) (xs : List X) (i j : ℕ) (y : Y) → slice_get (f (get_or xs i d)) j ≡ Some y → i < length xs → (k : ℕ) × (slice_get (flat_map f xs) k ≡ Some y)
+place-flat f d [] i j y h l = absurd (omega arith)
+place-flat f d (x ∷ xs) zero j y h l = (j, get-left (f x) (flat_map f xs) j y h)
+place-flat f d (x ∷ xs) (suc i) j y h l = let r = place-flat f d xs i j y h (omega arith) in (length (f x) + r.0, get-right (f x) (flat_map f xs) r.0 y r.1)
+
+-- of one list of several
+pub passing-flat : {X Y : Type 0} (p : Y → Bool) (f : X → List Y) (d : X) (xs : List X) (i : ℕ) (y : Y) → IsPassing p (f (get_or xs i d)) y → i < length xs → IsPassing p (flat_map f xs) y
+passing-flat p f d xs i y r l = record { passes = r.passes; place = place-flat f d xs i r.place.0 y r.place.1 l }

@@ -1,0 +1,10 @@
+use Rattle.std.proofs.Common.{◌≡◌, ◌<◌, ℕ, length}
+use Rattle.std.specs.Int.{bit_at}
+use Rattle.scc_array.proofs.columns.Columns.find_hinted.Given as goal
+use Rattle.scc_array.specs.Windows.{window_of}
+
+abbrev pub invariant-hits : goal.invariant-hits
+invariant-hits g l = (j : ℕ) → bit_at l.bits j ≡ 1 → j < length (window_of l.self l.bucket).slots
+
+abbrev pub decreases-hits : goal.decreases-hits
+decreases-hits g l = l.bits

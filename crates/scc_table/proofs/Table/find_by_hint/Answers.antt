@@ -1,0 +1,32 @@
+use Rattle.std.proofs.Common.{◌∙◌, sym, ap, arith}
+use Rattle.std.specs.List.{find}
+use Rattle.scc_contents.specs.Contents.{entries, key_hash, pending_of}
+use Rattle.scc_contents.specs.Hashing.{hash_of}
+use Rattle.scc_table.proofs.Joining.{pending-together}
+use Rattle.scc_table.proofs.Seen.{settings-seen}
+use Rattle.scc_table.proofs.SearchingLemmas.{entries-settled}
+use Rattle.scc_table.proofs.Table.find_by_hint.Goals as goal
+
+pub find_both-requires-clause-pending : goal.find_both-requires-clause-pending
+find_both-requires-clause-pending g c =
+    let t = c.self.inside in
+    let cur = t.current in
+    let ws = t.draining.waiting.items in
+    let olds = t.draining.array in
+    let inv = c.self.invariant in
+    let hk = key_hash g.H.BuildHasher g.H.Hasher.Hasher g.E.Key.Hash.hash_input cur in
+    let hash = λ (e : g.row.E.Denot). hk (g.E.Keyed.key_of e) in
+    let counted = ap pending_of (sym c.self.view_is) ∙ pending-together hash cur ws olds in
+    omega (arith, counted, inv.counted, c.if-self-eq0.false)
+
+pub returns-then-self-eq0 : goal.returns-then-self-eq0
+returns-then-self-eq0 g c =
+    let t = c.self.inside in
+    let cur = t.current in
+    let ws = t.draining.waiting.items in
+    let olds = t.draining.array in
+    let inv = c.self.invariant in
+    let hk = key_hash g.H.BuildHasher g.H.Hasher.Hasher g.E.Key.Hash.hash_input cur in
+    let hash = λ (e : g.row.E.Denot). hk (g.E.Keyed.key_of e) in
+    let passes = λ (e : g.row.E.Denot). g.E.Key.PartialEq.eq c.args.key.now (g.E.Keyed.key_of e) in
+    c.find_by_hint.ensures ∙ ap (find passes) (sym (entries-settled hash cur olds ws (inv.none c.if-self-eq0.true))) ∙ ap (λ d. find passes (entries d)) c.self.view_is
