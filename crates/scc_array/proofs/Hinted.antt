@@ -1,6 +1,7 @@
 -- An entry of a part is one of the whole.
-use Rattle.std.proofs.Common.{◌≡◌, ℕ, zero, suc, ◌+◌, ◌<◌, Bool, Option, Some, None, List, [], ◌∷◌, ◌++◌, length, get_or, refl, sym, ap, ◌∙◌, subst, arith}
-use Rattle.std.specs.List.{flat_map, slice_get}
+use Rattle.std.proofs.Common.{◌≡◌, ℕ, zero, suc, ◌+◌, ◌<◌, Bool, true, Option, Some, None, List, [], ◌∷◌, ◌++◌, length, get_or, refl, sym, ap, ◌∙◌, subst, inl, inr, arith}
+use Rattle.std.specs.List.{find, flat_map, slice_get}
+use Rattle.scc_array.proofs.Joined.{true-or-false}
 use Rattle.scc_array.specs.Hints.{IsPassing}
 
 pub get-left : {X : Type 0} (xs ys : List X) (j : ℕ) (x : X) → slice_get xs j ≡ Some x → slice_get (xs ++ ys) j ≡ Some x
@@ -26,3 +27,20 @@ place-flat f d (x ∷ xs) (suc i) j y h l = let r = place-flat f d xs i j y h (o
 -- of one list of several
 pub passing-flat : {X Y : Type 0} (p : Y → Bool) (f : X → List Y) (d : X) (xs : List X) (i : ℕ) (y : Y) → IsPassing p (f (get_or xs i d)) y → i < length xs → IsPassing p (flat_map f xs) y
 passing-flat p f d xs i y r l = record { passes = r.passes; place = place-flat f d xs i r.place.0 y r.place.1 l }
+
+-- of a list with more before it
+pub behind : {X : Type 0} (p : X → Bool) (xs : List X) {ys : List X} {x : X} → IsPassing p ys x → IsPassing p (xs ++ ys) x
+behind p xs {ys} {x} r = record { passes = r.passes; place = (length xs + r.place.0, get-right xs ys r.place.0 x r.place.1) }
+
+-- the first that passes
+pub found-passing : {X : Type 0} (p : X → Bool) (xs : List X) (x : X) → find p xs ≡ Some x → IsPassing p xs x
+found-passing p [] x h = absurd (let s : None ≡ Some x = h in cc)
+found-passing p (z ∷ xs) x h = elim (true-or-false (p z)) [
+  | inl y ↦
+      let s : Some z ≡ Some x = rw y at h in
+      let same : z ≡ x = cc in
+      record { passes = subst (λ e. p e ≡ true) same y; place = (0, s) }
+  | inr n ↦
+      let r = found-passing p xs x (rw n at h) in
+      record { passes = r.passes; place = (suc r.place.0, r.place.1) }
+]

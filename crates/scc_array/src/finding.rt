@@ -35,7 +35,7 @@ where
 
     /// The first entry past the places of the bucket with that key.
     #[cold]
-    fn find_past(&self, bucket: usize, key: &E::Key) -> Option<&E>
+    pub(crate) fn find_past(&self, bucket: usize, key: &E::Key) -> Option<&E>
         requires { bucket < length self.now }
         ensures { option_copied result ≡ find (λ e. E.Key.eq key.now (E.key_of e)) (shelf_of self.now bucket).overflow }
     {
