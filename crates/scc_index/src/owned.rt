@@ -207,6 +207,42 @@ impl<K: Eq + Hash, V, H: BuildHasher> Owned<K, V, H> {
         }
     }
 
+    /// The same as `contains`, by the hash of `k` under some hasher: where the index's own hasher gives the same, the
+    /// version is there and no bucket waits, `k` isn't hashed again.
+    #[inline(always)]
+    pub fn contains_by_hint(&self, hint: u64, k: &K) -> bool
+        ensures { IsTrue result ↔ IsSome (find K.eq (entries self.now) k.now) }
+    {
+        match self.table.find_by_hint(hint, k) {
+            Some(_) => true,
+            None => false,
+        }
+    }
+
+    /// The same as `peek`, by such a hash.
+    #[inline(always)]
+    pub fn peek_by_hint(&self, hint: u64, k: &K) -> Option<&Version<K, V>>
+        ensures { MatchOption result (find K.eq (entries self.now) k.now ≡ None)
+            (λ v. find K.eq (entries self.now) k.now ≡ Some v.now) }
+    {
+        match self.table.find_by_hint(hint, k) {
+            Some(shared) => Some(shared.version()),
+            None => None,
+        }
+    }
+
+    /// The same as `peek_with`, by such a hash.
+    #[inline(always)]
+    pub fn peek_with_by_hint<R, F: FnOnce(&K, &V) -> R>(&self, hint: u64, k: &K, f: F) -> Option<R>
+        requires { (a : Bor K) (b : Bor V) → find K.eq (entries self.now) k.now ≡ Some (a.now, b.now) → F.pre f a b }
+        ensures answer { Reads F.FnOnce f (find K.eq (entries self.now) k.now) result }
+    {
+        match self.peek_by_hint(hint, k) {
+            Some(version) => Some(f(version.key(), version.value())),
+            None => None,
+        }
+    }
+
     /// The version of `k` to keep, or None where there is none. The version stays what it is and lives as long as its
     /// holders. It takes no memory, and is refused where the version has 2^63 - 1 owners.
     pub fn peek_shared(&self, k: &K) -> Result<Option<Arc<Version<K, V>>>, MakeError>

@@ -191,6 +191,17 @@ impl<K: Eq + Hash, V, H: BuildHasher> Owned<K, V, H> {
         }
     }
 
+    /// The same, by the hash of `k` under some hasher, as `read_by_hint`.
+    #[inline(always)]
+    pub fn contains_by_hint(&self, hint: u64, k: &K) -> bool
+        ensures { IsTrue result ↔ IsSome (find K.eq (entries self.now) k.now) }
+    {
+        match self.table.find_by_hint(hint, k) {
+            Some(_) => true,
+            None => false,
+        }
+    }
+
     /// The answer of `f` on the pair of `k`, or None where there is none; then `f` isn't called.
     #[inline(always)]
     pub fn read_sync<R, F: FnOnce(&K, &V) -> R>(&self, k: &K, f: F) -> Option<R>

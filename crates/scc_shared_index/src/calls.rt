@@ -34,7 +34,10 @@ impl<K: Eq + Hash, V, H: BuildHasher> HashIndex<K, V, H> {
         requires { F.IsAlwaysCallable f }
         ensures answer { IfSome result (ReadsEqual K.eq F.FnOnce f k.now) }
     {
-        self.stripes.read(rt, self.stripes.route(k)).peek_with(k, f)
+        let hash = self.stripes.hash(k);
+        self.stripes
+            .read(rt, self.stripes.route_hash(hash))
+            .peek_with_by_hint(hash, k, f)
     }
 
     /// The same as `peek_with`.
@@ -47,7 +50,10 @@ impl<K: Eq + Hash, V, H: BuildHasher> HashIndex<K, V, H> {
 
     /// Whether a key equals `k`. No owner is counted.
     pub fn contains(&self, rt: &impl Wait, k: &K) -> bool {
-        self.stripes.read(rt, self.stripes.route(k)).contains(k)
+        let hash = self.stripes.hash(k);
+        self.stripes
+            .read(rt, self.stripes.route_hash(hash))
+            .contains_by_hint(hash, k)
     }
 
     /// Takes out the version whose key equals `k`, and answers whether there was one. Who kept the version keeps it.

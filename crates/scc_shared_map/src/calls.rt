@@ -59,9 +59,10 @@ impl<K: Eq + Hash, V, H: BuildHasher> HashMap<K, V, H> {
 
     /// Whether a key equals `k`.
     pub fn contains_sync(&self, rt: &impl Wait, k: &K) -> bool {
+        let hash = self.stripes.hash(k);
         self.stripes
-            .read(rt, self.stripes.route(k))
-            .contains_sync(k)
+            .read(rt, self.stripes.route_hash(hash))
+            .contains_by_hint(hash, k)
     }
 
     /// Takes out the pair of `k` where `f` answers true on its value. What `f` wrote goes with the pair, and stays
