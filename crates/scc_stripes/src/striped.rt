@@ -123,7 +123,7 @@ impl<O, H> Striped<O, H> {
     pub fn hash<K: Hash>(&self, k: &K) -> u64
     where
         H: BuildHasher,
-        ensures { result ≡ hash_of H.BuildHasher H.Hasher.Hasher (arc_value self.now.hasher) (K.hash_input k.now) }
+        ensures { result ≡ hash_of H.BuildHasher H.Hasher.Hasher (stripes_hasher self.now) (K.hash_input k.now) }
     {
         self.hasher.hash_one(k)
     }
@@ -131,8 +131,8 @@ impl<O, H> Striped<O, H> {
     /// The number of the stripe of a hash.
     #[inline(always)]
     pub fn route_hash(&self, hash: u64) -> usize
-        ensures value { result ≡ stripe_number (vec_len self.now.locks) hash }
-        ensures within { result < vec_len self.now.locks }
+        ensures value { result ≡ stripe_number (stripe_count self.now) hash }
+        ensures within { result < stripe_count self.now }
     {
         bucket_index(hash, 0, self.locks.len())
     }
