@@ -20,9 +20,9 @@ pub trait Shared: Sync {
 
 /// Each in lines of memory of its own.
 #[repr(align(128))]
-struct Padded<T>(T);
+pub struct Padded<T>(pub T);
 
-fn sixteen<T>(make: impl Fn() -> T) -> Vec<Padded<T>> {
+pub fn sixteen<T>(make: impl Fn() -> T) -> Vec<Padded<T>> {
     (0..16).map(|_| Padded(make())).collect()
 }
 
@@ -101,7 +101,7 @@ impl Shared for dashmap::DashMap<u64, u64, Fold> {
 }
 
 /// Has each thread do its part: the nanoseconds of all together, and the sum of the answers.
-fn run<T: Sync>(parts: &[T], part: impl Fn(&T) -> u64 + Sync) -> (f64, u64) {
+pub fn run<T: Sync>(parts: &[T], part: impl Fn(&T) -> u64 + Sync) -> (f64, u64) {
     let part = &part;
     let t = Instant::now();
     let sum = std::thread::scope(|s| {
@@ -203,7 +203,8 @@ fn work_often<M: Shared>(peer: &str, runs: u32, streams: &Streams, work: &Work, 
     }
 }
 
-fn parts(keys: &[u64], threads: usize) -> Vec<&[u64]> {
+/// As many keys in a row for each thread.
+pub fn parts<K>(keys: &[K], threads: usize) -> Vec<&[K]> {
     let each = keys.len() / threads;
     (0..threads).map(|i| &keys[i * each..(i + 1) * each]).collect()
 }

@@ -1,12 +1,12 @@
 //! The group `texts`: peers that threads share, on texts of 20 bytes under the standard library's own hasher.
 
+use crate::shared::{self, parts, sixteen, Padded};
 use crate::streams::{value, Streams};
 use crate::{check, line};
 use std::collections::hash_map::RandomState;
 use std::collections::HashMap;
 use std::hash::{BuildHasher, Hash, Hasher};
 use std::sync::RwLock;
-use std::time::Instant;
 
 /// A map of texts that threads share.
 pub trait Texts: Sync {
@@ -15,9 +15,6 @@ pub trait Texts: Sync {
     fn get(&self, k: &String) -> Option<u64>;
     fn sum(&self) -> u64;
 }
-
-#[repr(align(128))]
-struct Padded<T>(T);
 
 /// Sixteen locks round sixteen maps, as one would write it by hand: the hash picks the map, which hashes anew.
 pub struct Sharded {
@@ -36,8 +33,7 @@ impl Sharded {
 impl Texts for Sharded {
     fn new() -> Self {
         let hasher = RandomState::new();
-        let one = || Padded(RwLock::new(HashMap::with_hasher(hasher.clone())));
-        Sharded { shards: (0..16).map(|_| one()).collect(), hasher }
+        Sharded { shards: sixteen(|| RwLock::new(HashMap::with_hasher(hasher.clone()))), hasher }
     }
     fn insert(&self, k: String, v: u64) {
         self.shard(&k).write().unwrap().insert(k, v);
@@ -86,14 +82,8 @@ fn read_all<M: Texts>(m: &M, lines: &[Line]) -> u64 {
 
 /// Has each of so many threads go through its part: nanoseconds an operation, and the sum of the answers.
 fn run<M: Texts>(m: &M, lines: &[Line], threads: usize, part: fn(&M, &[Line]) -> u64) -> (f64, u64) {
-    let each = lines.len() / threads;
-    let t = Instant::now();
-    let sum = std::thread::scope(|s| {
-        let of = |i: usize| s.spawn(move || part(m, &lines[i * each..(i + 1) * each]));
-        let crew: Vec<_> = (0..threads).map(of).collect();
-        crew.into_iter().fold(0u64, |sum, one| sum.wrapping_add(one.join().unwrap()))
-    });
-    (t.elapsed().as_nanos() as f64 / lines.len() as f64, sum)
+    let (ns, sum) = shared::run(&parts(lines, threads), |own: &&[Line]| part(m, own));
+    (ns / lines.len() as f64, sum)
 }
 
 /// Runs a workload once to warm up and then `runs` times. `once` answers nanoseconds an operation and the sum.
