@@ -1,24 +1,62 @@
 //! Two columns: a row of 32 tags for each bucket, and 32 places for entries. The entries of a bucket lie in the first
 //! of its places, and the tag of a free place is 0.
-ghost use Rattle.std.specs.Prelude.{◌≡◌, ◌^◌, ◌≤◌, ◌<◌, ◌+◌, ◌↔◌, ℕ, Some, length, replicate, slice_set, IfOk, IsTrue, slice_get, slice_index, []};
+ghost use Rattle.scc_array.specs.Sifts.{all_up, kept_of, picked_of, ups, window_with};
+ghost use Rattle.scc_array.specs.Takes.{TakesFirstOf};
+ghost use Rattle.scc_array.specs.Windows.{window_of, IsTagged, empty_window, pushed, popped_over, shifted_out, IsColumns};
+ghost use Rattle.scc_slots.specs.Places.{IsDrained};
 ghost use Rattle.std.specs.Borrow.{sem};
 ghost use Rattle.std.specs.Int.{bit_at};
 ghost use Rattle.std.specs.List.{position};
-ghost use Rattle.scc_array.specs.Sifts.{all_up, kept_of, picked_of, ups, window_with};
-ghost use Rattle.scc_array.specs.Windows.{empty_window, window_of, pushed, popped_over, shifted_out, IsColumns, IsTagged};
-ghost use Rattle.scc_slots.specs.Places.{IsDrained};
+ghost use Rattle.std.specs.Prelude.{◌<◌, length, ◌≡◌, ◌^◌, ◌≤◌, ◌+◌, ℕ, Some, replicate, slice_set, IfOk, slice_get, slice_index, []};
 
-mod finding;
-mod hinting;
-mod taking;
+mod lookup;
 
-use crate::shifts::close_gap;
-use crate::sifting::{pour, sift};
+use crate::sifting::{close_gap, pour, sift};
 use crate::tags::{lowest_bit, tag_mask, without_lowest_bit};
 use scc_entry::Keyed;
 use scc_slots::Slots;
 use std::alloc::{AllocError, Global};
 use std::marker::Model;
+
+impl<E: Keyed> Columns<E>
+where
+    E::Key: Eq,
+{
+    /// Takes out the first entry of the bucket with that key, and answers it; the last one of the bucket takes its
+    /// place. Only places with the tag are compared, in rising order.
+    #[inline(always)]
+    pub(crate) fn take_first(&mut self, bucket: usize, key: &E::Key, tag: u8) -> Option<E>
+        requires bucket { bucket < length self.old }
+        requires tag { 0 < tag }
+        requires tagged { IsTagged (λ e. E.Key.eq key.now (E.key_of e)) tag (window_of self.old bucket) }
+        ensures { TakesFirstOf (λ e. E.Key.eq key.now (E.key_of e)) self.old bucket self.new result }
+    {
+        match self.find(bucket, key, tag) {
+            Some(place) => Some(self.swap_remove(bucket, place)),
+            None => None,
+        }
+    }
+
+    /// The place of the first entry of the bucket with that key. Only places with the tag are compared, in rising
+    /// order.
+    #[inline(always)]
+    pub fn find(&self, bucket: usize, key: &E::Key, tag: u8) -> Option<usize>
+        requires bucket { bucket < length self.now }
+        requires tag { 0 < tag }
+        requires tagged { IsTagged (λ e. E.Key.eq key.now (E.key_of e)) tag (window_of self.now bucket) }
+        ensures { result ≡ position (λ e. E.Key.eq key.now (E.key_of e)) (window_of self.now bucket).slots }
+    {
+        let mut bits = self.hits(bucket, tag);
+        'hits: while bits != 0 {
+            let place = lowest_bit(bits);
+            if *key == *self.entry_at(bucket, place).key() {
+                return Some(place);
+            }
+            bits = without_lowest_bit(bits);
+        }
+        None
+    }
+}
 
 /// Buckets of 32 places. A contract sees the entries of each bucket, and their tags.
 pub struct Columns<E> {
@@ -188,9 +226,7 @@ impl<E> Columns<E> {
             first,
         );
     }
-}
 
-impl<E> Columns<E> {
     ghost use Rattle.scc_array.specs.LendsColumns.{lends_slot};
 
     /// Takes an entry out. The last one of its bucket takes its place.
@@ -245,31 +281,6 @@ impl<E> Columns<E> {
     {
         let Columns { tags: _, slots } = self;
         slots.destroy_empty();
-    }
-}
-
-impl<E: Keyed> Columns<E>
-where
-    E::Key: Eq,
-{
-    /// The place of the first entry of the bucket with that key. Only places with the tag are compared, in rising
-    /// order.
-    #[inline(always)]
-    pub fn find(&self, bucket: usize, key: &E::Key, tag: u8) -> Option<usize>
-        requires bucket { bucket < length self.now }
-        requires tag { 0 < tag }
-        requires tagged { IsTagged (λ e. E.Key.eq key.now (E.key_of e)) tag (window_of self.now bucket) }
-        ensures { result ≡ position (λ e. E.Key.eq key.now (E.key_of e)) (window_of self.now bucket).slots }
-    {
-        let mut bits = self.hits(bucket, tag);
-        'hits: while bits != 0 {
-            let place = lowest_bit(bits);
-            if *key == *self.entry_at(bucket, place).key() {
-                return Some(place);
-            }
-            bits = without_lowest_bit(bits);
-        }
-        None
     }
 }
 

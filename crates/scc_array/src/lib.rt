@@ -1,25 +1,19 @@
 //! The array of buckets of the hash containers, in two columns: 32 tags a bucket, and 32 places for entries a bucket.
 #![tactic(auto)]
 
-ghost use Rattle.std.specs.Prelude.{◌≡◌, [], ◌+◌, ◌^◌, ◌≤◌, ◌<◌, ◌↔◌, length, replicate, slice_set, slice_index_or, IfOk, IfErr, OnErr, IsFalse, IsTrue, slice_get, Some, None};
+ghost use Rattle.scc_array.specs.Shelf.{shelf_entries, empty_shelf, with_slot, with_overflow, with_entry, next_place, HasTag};
 ghost use Rattle.scc_array.specs.Shelves.{shelf_of};
-ghost use Rattle.scc_array.specs.Shelf.{shelf_entries, empty_shelf, with_slot, with_overflow, with_entry, next_place, without_place, swapped_out, HasTag};
 ghost use Rattle.std.specs.List.{position};
+ghost use Rattle.std.specs.Prelude.{◌≡◌, [], ◌+◌, ◌^◌, ◌≤◌, ◌<◌, ◌↔◌, length, replicate, slice_set, IfOk, IfErr, OnErr, IsFalse, IsTrue, slice_get, Some, None};
 
 pub mod columns;
-mod ending;
-mod finding;
-mod hinting;
 mod lists;
-mod reads;
+mod lookup;
+mod remove;
 mod room;
-mod shifts;
 mod sifting;
-mod splitting;
 pub mod tags;
-mod taking;
-mod updating;
-mod writes;
+mod write;
 
 use crate::lists::{flag_of, open_lists, push_to, raise};
 pub use columns::Columns;
@@ -196,7 +190,7 @@ impl<E> Array<E> {
 
     /// The entry stands at the end of the list past the places of the bucket.
     #[cold]
-    fn push_list(&mut self, bucket: usize, entry: E) -> Result<usize, E>
+    pub(crate) fn push_list(&mut self, bucket: usize, entry: E) -> Result<usize, E>
         requires bucket { bucket < length self.old }
         ensures ok { IfOk result (λ p. (p ≡ 32 + length (shelf_of self.old bucket).overflow)
             × (self.new ≡ slice_set self.old bucket
@@ -231,38 +225,6 @@ impl<E> Array<E> {
         }
         &self.overflow[bucket][place - count]
     }
-
-    /// Takes an entry out. The entries after it in the places, or in the list past them, move up by one.
-    #[inline(always)]
-    pub fn remove_at(&mut self, bucket: usize, place: usize) -> E
-        requires bucket { bucket < length self.old }
-        requires place { place < length (shelf_entries (shelf_of self.old bucket)) }
-        ensures entry { slice_get (shelf_entries (shelf_of self.old bucket)) place ≡ Some result }
-        ensures others { self.new ≡ slice_set self.old bucket (without_place (shelf_of self.old bucket) place) }
-    {
-        let count = self.count_past(bucket, place);
-        if place < count {
-            return self.columns.remove(bucket, place);
-        }
-        let list = &mut self.overflow[bucket];
-        list.remove(place - count)
-    }
-
-    /// Takes an entry out. The last entry of the places, or of the list past them, takes its place.
-    #[inline(always)]
-    pub fn swap_remove_at(&mut self, bucket: usize, place: usize) -> E
-        requires bucket { bucket < length self.old }
-        requires place { place < length (shelf_entries (shelf_of self.old bucket)) }
-        ensures entry { slice_get (shelf_entries (shelf_of self.old bucket)) place ≡ Some result }
-        ensures others { self.new ≡ slice_set self.old bucket (swapped_out (shelf_of self.old bucket) place result) }
-    {
-        let count = self.count_past(bucket, place);
-        if place < count {
-            return self.columns.swap_remove(bucket, place);
-        }
-        let list = &mut self.overflow[bucket];
-        list.swap_remove(place - count)
-    }
 }
 
 impl<E: Keyed> Array<E>
@@ -290,7 +252,7 @@ where
     }
 
     /// The same past the places, where none of them has the key.
-    fn search_list(&self, bucket: usize, key: &E::Key) -> Option<usize>
+    pub(crate) fn search_list(&self, bucket: usize, key: &E::Key) -> Option<usize>
         requires bucket { bucket < length self.now }
         requires missed { position (λ e. E.Key.eq key.now (E.key_of e)) (shelf_of self.now bucket).slots ≡ None }
         ensures { result ≡ position (λ e. E.Key.eq key.now (E.key_of e)) (shelf_entries (shelf_of self.now bucket)) }

@@ -1,6 +1,6 @@
 //! The lists of the entries past the places, one a bucket, which are made with the first such entry.
-ghost use Rattle.std.specs.Prelude.{◌≡◌, ◌<◌, ◌≤◌, ◌+◌, ◌/◌, ◌^◌, ◌⊎◌, [], false, true, length, IfOk, OnOk, OnErr};
 ghost use Rattle.scc_array.specs.Lists.{AreBare, AreSpent, Opens, Pushes, RaisesFlag, ReservesList};
+ghost use Rattle.std.specs.Prelude.{◌≡◌, ◌<◌, ◌≤◌, ◌+◌, ◌/◌, ◌^◌, ◌⊎◌, [], false, true, length, IfOk, OnOk, OnErr};
 
 use std::alloc::{AllocError, Global};
 use std::mem;

@@ -1,9 +1,9 @@
 //! Room that is made before an entry is there.
-ghost use Rattle.std.specs.Prelude.{◌≡◌, ◌≤◌, ◌<◌, ◌+◌, ◌^◌, length, slice_set, IfOk, IfErr, OnOk, OnErr};
-ghost use Rattle.scc_array.specs.Shelves.{shelf_of};
 ghost use Rattle.scc_array.specs.Shelf.{shelf_entries, with_entry, with_overflow, next_place, ShelfHasRoom};
+ghost use Rattle.scc_array.specs.Shelves.{shelf_of};
+ghost use Rattle.std.specs.Prelude.{◌≡◌, ◌≤◌, ◌<◌, ◌+◌, ◌^◌, length, slice_set, IfOk, IfErr, OnOk, OnErr};
 
-use super::Array;
+use crate::Array;
 use crate::lists::{open_lists, push_to, raise, reserve_in};
 use scc_entry::Made;
 use std::alloc::{AllocError, Global};

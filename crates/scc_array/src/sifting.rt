@@ -1,12 +1,42 @@
 //! The entries of a bucket are parted: some go to other columns, and the others close their ranks.
-ghost use Rattle.std.specs.Prelude.{◌≡◌, ◌<◌, ◌≤◌, ◌+◌, ◌⊎◌, ◌^◌, ℕ, Bool, List, length, slice_index_or, slice_set, None};
-ghost use Rattle.scc_array.specs.Sifts.{all_up, kept_of, picked_of, window_with, AreAt, AreKept, AreLeft, Moves, ups};
+ghost use Rattle.scc_array.specs.Shelves.{shelf_of};
+ghost use Rattle.scc_array.specs.Shifts.{Closes};
+ghost use Rattle.scc_array.specs.Sifts.{all_up, kept_of, picked_of, window_with, AreAt, AreKept, AreLeft, Moves, ups, shelf_kept, shelf_with};
 ghost use Rattle.scc_array.specs.Windows.{Window, window_of};
 ghost use Rattle.scc_slots.specs.Places.{IsFilled};
+ghost use Rattle.std.specs.Prelude.{◌≡◌, ◌<◌, ◌≤◌, ◌+◌, ◌^◌, ℕ, length, slice_index_or, None, ◌⊎◌, Bool, List, slice_set};
 
+use crate::Array;
 use crate::columns::Columns;
 use crate::tags::{lowest_bit, tag_mask, without_lowest_bit};
 use scc_slots::Slots;
+
+/// Moves the entries after the free place up by one, to the last one, and their tags in the row, where the last one is
+/// 0 then. The places of the row begin at `base`. One loop does both, since its end is as good as random.
+#[inline(always)]
+pub(crate) fn close_gap<E>(
+    slots: &mut Slots<E>,
+    row: &mut [u8; 32],
+    base: usize,
+    gap: usize,
+    last: usize,
+)
+    requires order { gap ≤ last }
+    requires places { last < 32 }
+    requires small { base + last < 2 ^ 64 }
+    requires within { base + last < length slots.old }
+    requires free { slice_index_or slots.old (base + gap) None ≡ None }
+    requires filled { (q : ℕ) → base + gap < q → q ≤ base + last → IsFilled slots.old q }
+    ensures entries { Closes None slots.old (base + gap) (base + last) slots.new }
+    ensures tags { Closes 0 row.old gap last row.new }
+{
+    for p in gap..last {
+        slots.move_place(base + p + 1, base + p);
+        let tag = row[p + 1];
+        row[p] = tag;
+    }
+    row[last] = 0;
+}
 
 /// Moves an entry and its tag to an earlier place, which is free, or leaves it where it is. The places of the row begin
 /// at `base`.
@@ -158,5 +188,36 @@ pub(crate) fn pour<E>(
         let entry = slots.take(base + p);
         into.push_at(target, next, entry, tag);
         next += 1;
+    }
+}
+
+impl<E> Array<E> {
+    /// Moves the entries in places whose flag is 1 to the next places of a bucket of another array, in order. The
+    /// others stay in their order, and so does what lies past the places. Each entry is looked at once, and no memory
+    /// is taken.
+    #[inline(always)]
+    pub fn split(&mut self, bucket: usize, flags: &[u8; 32], into: &mut Array<E>, target: usize)
+        requires bucket { bucket < length self.old }
+        requires target { target < length into.old }
+        requires room { length (shelf_of into.old target).slots + length (shelf_of self.old bucket).slots ≤ 32 }
+        ensures stays { self.new ≡ slice_set self.old bucket (shelf_kept (ups flags.now) (shelf_of self.old bucket)) }
+        ensures moved { into.new ≡ slice_set into.old target
+            (shelf_with (shelf_of into.old target) (ups flags.now) (shelf_of self.old bucket)) }
+    {
+        self.columns.split(bucket, flags, &mut into.columns, target);
+    }
+
+    /// Moves all entries in the places of a bucket to the next places of a bucket of another array, in order. What lies
+    /// past the places stays, and no memory is taken.
+    #[inline(always)]
+    pub fn pour(&mut self, bucket: usize, into: &mut Array<E>, target: usize)
+        requires bucket { bucket < length self.old }
+        requires target { target < length into.old }
+        requires room { length (shelf_of into.old target).slots + length (shelf_of self.old bucket).slots ≤ 32 }
+        ensures stays { self.new ≡ slice_set self.old bucket (shelf_kept all_up (shelf_of self.old bucket)) }
+        ensures moved { into.new ≡ slice_set into.old target
+            (shelf_with (shelf_of into.old target) all_up (shelf_of self.old bucket)) }
+    {
+        self.columns.pour(bucket, &mut into.columns, target);
     }
 }

@@ -1,6 +1,6 @@
 //! The search of 32 tags at once.
-ghost use Rattle.std.specs.Prelude.{◌≡◌, ◌≢◌, ◌==◌, ◌<◌, ◌≤◌, ℕ, map, length};
 ghost use Rattle.std.specs.Int.{bit_at, trailing_zeros, w32};
+ghost use Rattle.std.specs.Prelude.{◌≡◌, ◌≢◌, ◌==◌, ◌<◌, ◌≤◌, ℕ, map};
 ghost use lib.Lanes.{mask_l};
 
 use std::simd::prelude::*;

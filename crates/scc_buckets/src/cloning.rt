@@ -1,13 +1,13 @@
 //! How buckets are made that hold clones of others' entries.
-ghost use Rattle.std.specs.Prelude.{◌≡◌, ◌*◌, ◌^◌, ◌<◌, [], ◌∷◌, false, length, IfOk, OnOk};
-ghost use Rattle.scc_array.specs.Shelves.{shelf_of};
 ghost use Rattle.scc_array.specs.Shelf.{shelf_entries};
+ghost use Rattle.scc_array.specs.Shelves.{shelf_of};
 ghost use Rattle.scc_contents.specs.Clones.{AddsClones, HasClones};
 ghost use Rattle.scc_contents.specs.Contents.{entries, bucket_count, refused_of, settings_of, waiting_of};
+ghost use Rattle.std.specs.Prelude.{◌≡◌, ◌*◌, ◌^◌, ◌<◌, [], ◌∷◌, false, length, IfOk, OnOk};
 
-use super::Buckets;
-use super::making::fresh_buckets;
-use crate::route::bucket_index;
+use crate::Buckets;
+use crate::make::fresh_buckets;
+use crate::place::bucket_index;
 use scc_array::Array;
 use scc_common::MakeError;
 use scc_entry::Keyed;

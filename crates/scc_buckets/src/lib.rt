@@ -2,34 +2,26 @@
 //! one of them, or two while entries move from one to the other.
 #![tactic(auto)]
 
-ghost use Rattle.std.specs.Prelude.{◌≡◌, ◌≤◌, ◌<◌, ◌+◌, ◌*◌, ◌^◌, ℕ, [], ◌∷◌, ◌↔◌, length, Some, None, IsTrue, IfOk, OnOk, IfErr, OnErr, MatchOption, slice_get};
-ghost use Rattle.std.specs.List.{flat_map, position};
-ghost use Rattle.scc_contents.specs.Contents.{entries, bucket_count, settings_of, minimum_of, refused_of, spilled_of, key_hash, bucket_of, IsUniqueBy, HasRoomBy};
-ghost use Rattle.scc_buckets.specs.Places.{IsSpot, IsFoundAtSpot, index_of_spot};
-ghost use Rattle.scc_array.specs.Shelves.{shelf_of};
 ghost use Rattle.scc_array.specs.Shelf.{shelf_entries};
+ghost use Rattle.scc_array.specs.Shelves.{shelf_of};
+ghost use Rattle.scc_buckets.specs.Places.{IsFoundAtSpot};
+ghost use Rattle.scc_contents.specs.Contents.{entries, bucket_count, refused_of, spilled_of, key_hash, bucket_of, IsUniqueBy};
 ghost use Rattle.scc_contents.specs.Sizes.{IsLawful};
+ghost use Rattle.std.specs.List.{flat_map, position};
+ghost use Rattle.std.specs.Prelude.{◌≡◌, ◌≤◌, ◌<◌, ◌+◌, ◌*◌, ◌^◌, ℕ, [], length, Some, None, MatchOption};
 
 mod bounded;
 mod cloning;
-mod edits;
-mod exchange;
-mod finding;
-mod hinting;
-mod making;
+mod insert;
+mod lookup;
+mod make;
 pub mod place;
-mod putting;
-mod removing;
-mod reserving;
-pub mod route;
+mod remove;
 pub mod sizes;
-mod taking;
-mod updating;
-pub mod versions;
-pub mod walks;
-mod writes;
+mod walk;
+mod write;
 
-use crate::route::{bucket_index, tag};
+use crate::place::{bucket_index, tag};
 pub use place::Place;
 use scc_array::Array;
 use scc_entry::Keyed;
@@ -43,15 +35,15 @@ pub struct Buckets<E: Keyed, H: BuildHasher>
 where
     E::Key: Eq + Hash,
 {
+    skipped: u32,
+    refused: bool,
+    tried: bool,
+    hasher: H,
     buckets: Array<E>,
     length: usize,
     overflowing: usize,
     asked: usize,
     reserved: usize,
-    skipped: u32,
-    refused: bool,
-    tried: bool,
-    hasher: H,
 }
 
 impl<E: Keyed, H: BuildHasher> Model for Buckets<E, H>

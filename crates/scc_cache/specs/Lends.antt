@@ -7,7 +7,7 @@ use Rattle.scc_contents.specs.Pairs.{with_pair_key, with_pair_value}
 use Rattle.scc_buckets.specs.declared.place.Place.{Place}
 use Rattle.scc_table.specs.Places.{with_write_at}
 use Rattle.scc_cache.specs.Caches.{Cached}
-use Rattle.scc_cache.specs.contracts.owned.Owned.{the_row}
+use Rattle.scc_cache.specs.contracts.Owned.{the_row}
 
 module _ {K V S : Type 0} where
   -- the cache, with v as the value at the place

@@ -1,14 +1,14 @@
 //! An entry of a cache: a key's place, found once and held. It holds its cache by a guard, a `&mut` in the owned form,
 //! and is generic in it.
-ghost use Rattle.std.specs.Prelude.{◌≡◌};
+ghost use Rattle.scc_cache.specs.CacheSteps.{IsLacking};
 ghost use Rattle.scc_contents.specs.Contents.{key_hash};
 ghost use Rattle.scc_table.specs.Places.{IsPlace};
-ghost use Rattle.scc_cache.specs.CacheSteps.{IsLacking};
+ghost use Rattle.std.specs.Prelude.{◌≡◌};
 
 mod making;
 mod methods;
 
-use super::Owned;
+use crate::Owned;
 use scc_buckets::Place;
 use scc_common::Guard;
 use std::hash::{BuildHasher, Hash};

@@ -1,14 +1,204 @@
 //! A hash cache over the table of `scc_table`, for one owner.
 #![tactic(auto)]
 
+ghost use Rattle.scc_cache.specs.CacheSteps.{AnswersOn, IsAbsent, IsPresent, Removes};
+ghost use Rattle.scc_cache.specs.CacheWalks.{RemovesIf};
+ghost use Rattle.scc_cache.specs.Caches.{IsCacheState};
+ghost use Rattle.scc_cache.specs.Putting.{PutsByRule};
+ghost use Rattle.scc_cache.specs.Relocations.{RelocatesNone};
+ghost use Rattle.scc_contents.specs.Contents.{entries, bucket_count, minimum_of, pending_of, waiting_of, key_hash, hash_in};
+ghost use Rattle.std.specs.Borrow.{Bor};
+ghost use Rattle.std.specs.Fn.{FnOnceTakesAtMut};
+ghost use Rattle.std.specs.Prelude.{◌≡◌, ◌≤◌, ◌<◌, ◌*◌, ◌↔◌, [], false, length, None, Some, IsTrue, MatchOption};
+
+pub mod borrowed;
 pub mod held;
 pub mod locked;
-pub mod owned;
+mod make;
+mod part;
+mod places;
+mod prepare;
+mod walk;
+mod whole;
 
-pub use owned::Owned;
+pub use borrowed::{Entry, OccupiedEntry, ReplaceResult, VacantEntry};
+use scc_common::InsertError;
+use scc_contents::Hashes;
+use scc_table::Table;
+use std::hash::{BuildHasher, BuildHasherDefault, FoldHasher, Hash};
+use std::marker::Model;
+use std::ops::RangeInclusive;
 
 /// The pair that a put dropped, where it dropped one.
 pub type EvictedEntry<K, V> = Option<(K, V)>;
 
 /// The maximum of a cache that is made without one.
 pub const DEFAULT_MAXIMUM_CAPACITY: usize = 256;
+
+/// A cache from keys to values, no two keys equal. A contract sees the lists of its buckets, each from the least to the
+/// most recent pair, its settings, and the most slots that it may have as `c.maximum`.
+///
+/// The default hasher has a fixed seed. For keys that an attacker picks, write `Owned::with_hasher(alloc,
+/// RandomState::new(&rt)?)`.
+#[derive(Drop)]
+pub struct Owned<K: Eq + Hash, V, H: BuildHasher = BuildHasherDefault<FoldHasher>> {
+    pub(crate) table: Table<(K, V), H>,
+    pub(crate) maximum: usize,
+}
+
+impl<K: Eq + Hash, V, H: BuildHasher> Model for Owned<K, V, H> {
+    ghost use Rattle.std.specs.Coded.{coded×};
+    ghost use Rattle.scc_contents.specs.Contents.{key_hash};
+    ghost use Rattle.scc_cache.specs.Caches.{Cached, cached_code, IsCacheState};
+
+    ghost Value = { Cached (K × V) H };
+
+    ghost coded = { cached_code (coded× K.code V.code) H.code };
+
+    ghost view = { λ c. record { contents = c.table; maximum = c.maximum } };
+
+    ghost invariant = { λ c. IsCacheState K.eq (key_hash H.BuildHasher H.Hasher.Hasher K.hash_input c.table)
+        (record { contents = c.table; maximum = c.maximum }) };
+}
+
+impl<K: Eq + Hash, V, H: BuildHasher> Owned<K, V, H> {
+    /// The number of pairs.
+    #[inline(always)]
+    pub fn len(&self) -> usize
+        ensures len { result ≡ length (entries self.now.contents) }
+        ensures most { result ≤ 32 * bucket_count self.now.contents }
+        ensures state { IsCacheState K.eq (hash_in ⟦<H as Hashes<K>>⟧.hash_of self.now.contents) self.now }
+    {
+        self.table.len()
+    }
+
+    /// Whether there is no pair.
+    #[inline(always)]
+    pub fn is_empty(&self) -> bool
+        ensures { IsTrue result ↔ (entries self.now.contents ≡ []) }
+    {
+        self.table.len() == 0
+    }
+
+    /// The slots of the array, 32 a bucket; 0 without an array. There are never more pairs.
+    #[inline(always)]
+    pub fn capacity(&self) -> usize
+        ensures size { result ≡ 32 * bucket_count self.now.contents }
+        ensures within { result ≤ self.now.maximum }
+    {
+        32 * self.table.bucket_count()
+    }
+
+    /// From the slots that the array keeps at least to those that it may grow to.
+    pub fn capacity_range(&self) -> RangeInclusive<usize>
+        ensures low { result.start ≡ minimum_of self.now.contents }
+        ensures high { result.end ≡ self.now.maximum }
+        ensures order { minimum_of self.now.contents ≤ self.now.maximum }
+    {
+        self.table.minimum()..=self.maximum
+    }
+
+    /// How many buckets wait for their pairs to come from an old array.
+    pub fn pending(&self) -> usize
+        ensures { result ≡ pending_of self.now.contents }
+    {
+        self.table.pending()
+    }
+
+    /// Whether a key equals `k`. The order of the pairs stays.
+    #[inline(always)]
+    pub fn contains_sync(&self, k: &K) -> bool
+        ensures yes { IsTrue result → (p : K × V)
+            × IsPresent (hash_in ⟦<H as Hashes<K>>⟧.hash_of self.now.contents) K.eq self.now.contents k.now p }
+        ensures no { (IsTrue result → ⊥) → IsAbsent (hash_in ⟦<H as Hashes<K>>⟧.hash_of self.now.contents) K.eq
+            self.now.contents k.now }
+    {
+        let hash = self.table.hash(k);
+        match self.find(hash, k) {
+            Some(_) => true,
+            None => false,
+        }
+    }
+
+    /// The answer of `f` on the pair of `k`, or None where there is none; then `f` isn't called. The order of the pairs
+    /// stays.
+    #[inline(always)]
+    pub fn read_sync<R, F: FnOnce(&K, &V) -> R>(&self, k: &K, f: F) -> Option<R>
+        requires { (a : Bor K) (b : Bor V) → IsPresent (hash_in ⟦<H as Hashes<K>>⟧.hash_of self.now.contents) K.eq
+            self.now.contents k.now (a.now, b.now) → F.pre f a b }
+        ensures answer { MatchOption result (IsAbsent (hash_in ⟦<H as Hashes<K>>⟧.hash_of self.now.contents) K.eq
+            self.now.contents k.now) (AnswersOn (hash_in ⟦<H as Hashes<K>>⟧.hash_of self.now.contents) K.eq F.FnOnce f
+            self.now.contents k.now) }
+    {
+        let hash = self.table.hash(k);
+        match self.find(hash, k) {
+            Some(place) => {
+                let (key, value) = self.pair_in(place);
+                Some(f(key, value))
+            }
+            None => None,
+        }
+    }
+
+    /// Puts in the pair where no key equals `k`, as the most recent of its bucket. Where that holds 32 pairs, the array
+    /// is doubled first if at least half its slots are in use and it is below the maximum; where the bucket of `k` then
+    /// holds 32 pairs, the least recent of them is driven out and answered. Where a key equals `k` nothing changes, and
+    /// the supplied pair comes back; so it does where there is no array and none can be had. With an array it can't be
+    /// refused. Where buckets wait, that of `k` takes its pairs over first, and then the first ones that wait, two in
+    /// all; after a doubling all others wait. Where `make_room` was made for `k` just before, no array is made and none
+    /// is doubled. The mark of a refused doubling goes.
+    #[inline(always)]
+    pub fn put_sync(&mut self, k: K, v: V) -> Result<EvictedEntry<K, V>, InsertError<K, V>>
+        ensures { PutsByRule K.eq ⟦<H as Hashes<K>>⟧.hash_of self.old (k, v) result self.new }
+    {
+        let hash = self.table.hash(&k);
+        match self.find(hash, &k) {
+            Some(_) => Err(InsertError::Exists((k, v))),
+            None => match self.put_at(hash, k, v) {
+                Ok((evicted, _)) => Ok(evicted),
+                Err(pair) => Err(InsertError::Memory(pair)),
+            },
+        }
+    }
+
+    /// Takes out the pair whose key equals `k`, and answers it. Where few pairs are left, the array may become smaller,
+    /// and then every bucket of the new one waits.
+    #[inline(always)]
+    pub fn remove_sync(&mut self, k: &K) -> Option<(K, V)>
+        ensures step { Removes (hash_in ⟦<H as Hashes<K>>⟧.hash_of self.old.contents) K.eq self.old k.now result
+            self.new }
+        ensures state { IsCacheState K.eq (hash_in ⟦<H as Hashes<K>>⟧.hash_of self.new.contents) self.new }
+        ensures relocates { RelocatesNone (λ p. hash_in ⟦<H as Hashes<K>>⟧.hash_of self.old.contents p.0)
+            self.old.contents self.new.contents }
+    {
+        let hash = self.table.hash(k);
+        match self.find(hash, k) {
+            Some(place) => Some(self.remove_at(place)),
+            None => None,
+        }
+    }
+
+    /// Takes out the pair of `k` where `f` answers true on its value. What `f` wrote goes with the pair, and stays
+    /// where it answers false; then the answer is None, and the order of the pairs stays. Where few pairs are left
+    /// after a removal, the array may become smaller.
+    #[inline(always)]
+    pub fn remove_if_sync<F: FnOnce(&mut V) -> bool>(&mut self, k: &K, f: F) -> Option<(K, V)>
+        requires { (p : K × V) → IsPresent (hash_in ⟦<H as Hashes<K>>⟧.hash_of self.old.contents) K.eq
+            self.old.contents k.now p → FnOnceTakesAtMut F.FnOnce f p.1 }
+        ensures step { RemovesIf (hash_in ⟦<H as Hashes<K>>⟧.hash_of self.old.contents) K.eq F.FnOnce f self.old k.now
+            result self.new }
+        ensures state { IsCacheState K.eq (hash_in ⟦<H as Hashes<K>>⟧.hash_of self.new.contents) self.new }
+        ensures relocates { RelocatesNone (λ p. hash_in ⟦<H as Hashes<K>>⟧.hash_of self.old.contents p.0)
+            self.old.contents self.new.contents }
+        ensures rests { result ≡ None → waiting_of self.new.contents ≡ waiting_of self.old.contents }
+    {
+        let hash = self.table.hash(k);
+        let place = self.find(hash, k)?;
+        if f(self.value_mut_at(place)) {
+            Some(self.remove_at(place))
+        } else {
+            let _ = self.len();
+            None
+        }
+    }
+}

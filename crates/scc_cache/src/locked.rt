@@ -1,9 +1,10 @@
 //! The entries of a stripe that is locked. An entry keeps the lock of its stripe until it is let go.
+
 mod insertions;
 mod methods;
 
-use super::Owned;
-use super::held::{HeldEntry, HeldPlace, HeldReplace, HeldVacant};
+use crate::Owned;
+use crate::held::{HeldEntry, HeldPlace, HeldReplace, HeldVacant};
 use scc_common::Shared;
 use std::hash::{BuildHasherDefault, FoldHasher};
 use std::sync::RwLockWriteGuard;

@@ -12,7 +12,7 @@ ghost use Rattle.scc_calls.specs.declared.replies.Reply.TheVariants.{Evicted};
 use crate::replies::equal_replies;
 use crate::{CacheCall, Calls, Refused, Reply};
 use scc_cache::Owned;
-use scc_cache::owned::{Entry, ReplaceResult};
+use scc_cache::borrowed::{Entry, ReplaceResult};
 use scc_common::{InsertError, MakeError};
 use std::alloc::Global;
 use std::hash::{BuildHasher, Hash};

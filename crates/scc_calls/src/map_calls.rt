@@ -10,7 +10,7 @@ use crate::replies::equal_replies;
 use crate::{Calls, MapCall, Refused, Reply};
 use scc_common::{InsertError, MakeError};
 use scc_map::Owned;
-use scc_map::owned::ReplaceResult;
+use scc_map::borrowed::ReplaceResult;
 use std::alloc::Global;
 use std::hash::{BuildHasher, Hash};
 

@@ -3,7 +3,7 @@ ghost use Rattle.std.specs.Prelude.{◌≡◌, ◌<◌};
 ghost use Rattle.scc_contents.specs.Routing.{stripe_of};
 
 use crate::Calls;
-use scc_buckets::route::bucket_index;
+use scc_buckets::place::bucket_index;
 use std::hash::BuildHasher;
 
 /// The part of a key, of so many parts: the number that the first bits of its hash write.

@@ -2,16 +2,12 @@
 //! the steps from entry to entry there, and a new array whose buckets wait.
 #![tactic(auto)]
 
-mod cloning;
-mod counting;
-mod fresh;
-mod limit;
-mod moving;
-mod stepping;
+mod count;
+mod make;
+mod relocate;
+mod walk;
 
-pub use cloning::insert_clones_of;
-pub use counting::count_bound;
-pub use fresh::fresh_waiting;
-pub use limit::is_overflow_full;
-pub use moving::{count_all, sources, take};
-pub use stepping::{end_past, spot_from};
+pub use count::{count_bound, is_overflow_full};
+pub use make::{fresh_waiting, insert_clones_of};
+pub use relocate::{count_all, sources, take};
+pub use walk::{end_past, spot_from};

@@ -5,7 +5,7 @@ use Rattle.std.proofs.lemmas.Bool.Decides.{nat_tests}
 use Rattle.std.proofs.Math.Logic.{∥∥₁_map}
 use Rattle.scc_calls.specs.declared.steps.Step.{Step}
 use Rattle.scc_calls.specs.declared.steps.Step.TheVariants.{Call, Resize}
-use Rattle.scc_history.specs.declared.receipts.Receipt.{Receipt}
+use Rattle.scc_history.specs.declared.log.Receipt.{Receipt}
 use Rattle.scc_calls.specs.Changes.{Changes, Stays}
 use Rattle.scc_calls.specs.Histories.{Replay}
 use Rattle.scc_history.specs.Stamps.{Rises, RisesTo, recorded, resized, receipt, calls_in}

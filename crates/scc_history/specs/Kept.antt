@@ -1,6 +1,6 @@
 -- What a caller gets of one call.
 use Rattle.std.specs.Prelude.{◌≡◌, ℕ, Bool, List, [], ◌∷◌, ◌++◌}
-use Rattle.scc_history.specs.declared.receipts.Receipt.{Receipt}
+use Rattle.scc_history.specs.declared.log.Receipt.{Receipt}
 use Rattle.scc_history.specs.Stamps.{receipt}
 use Rattle.scc_calls.specs.Copies.{AreCopies}
 

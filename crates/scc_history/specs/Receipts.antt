@@ -4,7 +4,7 @@ use Rattle.std.specs.Borrow.{Bor}
 use Rattle.std.specs.List.{AllByRecursion, AllPairs}
 use Rattle.scc_calls.specs.declared.steps.Step.{Step}
 use Rattle.scc_calls.specs.declared.steps.Step.TheVariants.{Call, Resize}
-use Rattle.scc_history.specs.declared.receipts.Receipt.{Receipt}
+use Rattle.scc_history.specs.declared.log.Receipt.{Receipt}
 use Rattle.scc_history.specs.Stamps.{receipt}
 
 -- the call records of the caller with that number, each beside its stripe, in this order, as receipts

@@ -3,7 +3,7 @@ use Rattle.std.specs.Prelude.{ℕ, ◌+◌, ◌<◌, ◌≤◌, List, [], ◌∷
 use Rattle.std.specs.Coded.{×_prop, le_prop}
 use Rattle.scc_calls.specs.declared.steps.Step.{Step}
 use Rattle.scc_calls.specs.declared.steps.Step.TheVariants.{Call, Resize}
-use Rattle.scc_history.specs.declared.receipts.Receipt.{Receipt}
+use Rattle.scc_history.specs.declared.log.Receipt.{Receipt}
 
 -- From low on, each call has a greater stamp than the call before it, the last call has the stamp last, and a resize has at least the stamp of the call before it
 abbrev pub Rises : {A R : Type 0} → ℕ → List (Step A R) → ℕ → Type 0

@@ -13,9 +13,9 @@ use Rattle.scc_calls.specs.Copies.{AreCopies}
 use Rattle.scc_calls.specs.declared.calling.Calls as calls
 use Rattle.scc_history.specs.Stamps.{recorded, resized, receipt}
 use Rattle.scc_history.specs.declared.log.Log.{Log}
-use Rattle.scc_history.specs.declared.refusals.CallError.{CallError}
-use Rattle.scc_history.specs.declared.refusals.CallError.TheVariants.{Room, Container}
-use Rattle.scc_history.specs.declared.stripe.Stripe.{Stripe}
+use Rattle.scc_history.specs.declared.CallError.{CallError}
+use Rattle.scc_history.specs.declared.CallError.TheVariants.{Room, Container}
+use Rattle.scc_history.specs.declared.Stripe.{Stripe}
 
 module _ {C K H A R T : Type 0} {m : calls.Ghosts C K H A R T} {h : hash.Ghosts K} {g : eq.Ghosts K} {b : builder.Ghosts H T} {w : hasher.Ghosts T} {call_clones : clone.Ghosts A} {call_equality : eq.Ghosts A} {reply_clones : clone.Ghosts R} {reply_equality : eq.Ghosts R} where
   -- what `step` makes of the stripe old and the log before, once it answered the call so: the stripe new and the log after

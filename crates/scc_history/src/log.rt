@@ -1,10 +1,10 @@
-//! What a caller keeps of all its calls.
-ghost use Rattle.std.specs.Prelude.{◌≡◌, max, []};
+//! What a caller keeps of its calls.
 ghost use Rattle.scc_history.specs.Stamps.{RisesTo, RisesTo-prop};
+ghost use Rattle.std.specs.Prelude.{◌≡◌, max, []};
 
-use crate::Receipt;
 use scc_calls::Calls;
 use std::alloc::Global;
+use std::fmt::Debug;
 
 /// The number of a caller, the greatest stamp that it knows of, and its receipts in the order of its calls.
 #[derive(Drop)]
@@ -39,4 +39,14 @@ impl<C: Calls> Log<C> {
             self.clock = other.clock;
         }
     }
+}
+
+/// What was answered to a call, and the stamp of its record.
+#[derive(Clone, Copy, Debug, PartialEq)]
+pub struct Receipt<A, R> {
+    /// The number of the stripe that was called.
+    pub stripe: usize,
+    pub stamp: u64,
+    pub call: A,
+    pub reply: R,
 }

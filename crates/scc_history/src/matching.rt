@@ -1,9 +1,10 @@
 //! A caller's receipts beside the records of its calls.
-ghost use Rattle.std.specs.Prelude.{◌≡◌, ℕ, ◌+◌, ◌<◌, ◌≤◌, List, [], ◌∷◌, ◌++◌, ◌↔◌, length, map, true, IfNone, IfSome, IfOk, OnOk, IsTrue, slice_get, slice_index_or, vec_len};
 ghost use Rattle.scc_history.specs.Orders.{AllStand, steps_at};
 ghost use Rattle.scc_history.specs.Receipts.{DiffersFirst, Matches, calls_of, seen};
+ghost use Rattle.std.specs.Prelude.{◌≡◌, ℕ, ◌+◌, ◌<◌, [], ◌∷◌, ◌++◌, ◌↔◌, map, true, IfNone, IfSome, IfOk, OnOk, IsTrue, slice_index_or, vec_len};
 
-use crate::{Histories, Receipt};
+use crate::log::Receipt;
+use crate::order::Histories;
 use scc_calls::Step;
 use std::alloc::{AllocError, Global};
 

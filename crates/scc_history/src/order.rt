@@ -1,11 +1,11 @@
 //! The steps of all stripes in the order of their stamps.
-ghost use Rattle.std.specs.Prelude.{◌≡◌, ℕ, ◌+◌, ◌<◌, ◌≤◌, List, length, map, drop, IfOk, OnOk};
 ghost use Rattle.scc_calls.specs.declared.steps.Step.{Step};
 ghost use Rattle.scc_history.specs.Orders.{IsOnlyStampOrder, least};
 ghost use Rattle.scc_history.specs.Stamps.{Rises};
 ghost use Rattle.scc_history.specs.Waiting.{NextJoins, Waiting};
 ghost use Rattle.std.specs.BinaryHeap.{IsHeap, heap_items};
 ghost use Rattle.std.specs.Ordering.{nat_cmp, ordering_then};
+ghost use Rattle.std.specs.Prelude.{◌≡◌, ℕ, ◌+◌, ◌<◌, ◌≤◌, List, length, map, drop, IfOk, OnOk};
 
 use scc_calls::Step;
 use std::alloc::{AllocError, Global};

@@ -3,7 +3,7 @@ use Rattle.std.specs.Borrow.{RattleType}
 use Rattle.std.specs.HashMap.Lent.{HashMembers}
 use Rattle.std.specs.declared.hash.Hasher as hasher
 use Rattle.std.specs.declared.hash.BuildHasher as builder
-use Rattle.scc_index.specs.contracts.owned.Owned.{the_row}
+use Rattle.scc_index.specs.contracts.Owned.{the_row}
 
 module _ (K V S H : RattleType) (key : HashMembers K.Denot) (build : builder.Ghosts S.Denot H.Denot) (feed : hasher.Ghosts H.Denot) where
   -- the index's type, as the logic holds it

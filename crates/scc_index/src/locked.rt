@@ -1,15 +1,16 @@
 //! The entries of a stripe that is locked. An entry keeps the lock of its stripe until it is let go.
+
 mod insertions;
 mod methods;
-mod steps;
+pub mod walk;
 
-use super::Owned;
-use super::held::{HeldEntry, HeldPlace, HeldVacant};
+use crate::Owned;
+use crate::held::{HeldEntry, HeldPlace, HeldVacant};
+pub use crate::locked::walk::first_later;
 use scc_common::Shared;
 use scc_stripes::Seat;
 use std::hash::{BuildHasherDefault, FoldHasher};
 use std::sync::RwLockWriteGuard;
-pub use steps::first_later;
 
 /// The entry of a key, with the lock of its stripe held.
 pub type Entry<'a, K, V, H = BuildHasherDefault<FoldHasher>> = HeldPlace<

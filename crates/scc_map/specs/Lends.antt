@@ -7,7 +7,7 @@ use Rattle.scc_contents.specs.Contents.{Contents}
 use Rattle.scc_contents.specs.Pairs.{with_pair_value}
 use Rattle.scc_table.specs.Places.{with_write_at}
 use Rattle.scc_buckets.specs.declared.place.Place.{Place}
-use Rattle.scc_map.specs.contracts.owned.Owned.{the_row}
+use Rattle.scc_map.specs.contracts.Owned.{the_row}
 
 module _ (K V S H : RattleType) (key : HashMembers K.Denot) (build : builder.Ghosts S.Denot H.Denot) (feed : hasher.Ghosts H.Denot) where
   -- the map's type, as the logic holds it

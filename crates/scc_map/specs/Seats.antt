@@ -8,7 +8,7 @@ use Rattle.scc_common.specs.declared.guard.Guard as guard
 use Rattle.scc_contents.specs.Contents.{Contents}
 use Rattle.scc_stripes.specs.Seats.{seat_stripe, IsLaterSeat, IsSeatIn}
 use Rattle.scc_stripes.specs.declared.seats.Seat.{Seat}
-use Rattle.scc_stripes.specs.declared.striped.Striped.{Striped}
+use Rattle.scc_stripes.specs.declared.Striped.{Striped}
 use Rattle.scc_map.specs.declared.held.HeldEntry.{HeldEntry}
 use Rattle.scc_map.specs.declared.held.HeldPlace.{HeldPlace}
 use Rattle.scc_map.specs.declared.held.HeldPlace.TheVariants.{Occupied, Vacant}

@@ -1,14 +1,14 @@
 //! An entry of a map: a key's place, found once and held. It holds its map by a guard, a `&mut` in the owned form, and
 //! is generic in it.
-ghost use Rattle.std.specs.Prelude.{◌≡◌, None};
 ghost use Rattle.scc_contents.specs.Contents.{entries, key_hash};
 ghost use Rattle.scc_contents.specs.Pairs.{find};
 ghost use Rattle.scc_table.specs.Places.{IsPlace};
+ghost use Rattle.std.specs.Prelude.{◌≡◌, None};
 
 mod making;
 mod methods;
 
-use super::Owned;
+use crate::Owned;
 use scc_buckets::Place;
 use scc_common::Guard;
 use std::hash::{BuildHasher, Hash};

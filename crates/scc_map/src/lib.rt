@@ -1,10 +1,259 @@
 //! A hash map over the table of `scc_table`, for one owner, and the entries of one that stands behind a lock.
 #![tactic(auto)]
 
+ghost use Rattle.scc_contents.specs.Closures.{Reads};
+ghost use Rattle.scc_contents.specs.Contents.{entries, bucket_count, lists_of, settings_of, refused_of, waiting_of, hash_in};
+ghost use Rattle.scc_contents.specs.Pairs.{find, HasRoom, IsUnique};
+ghost use Rattle.scc_contents.specs.Steps.{IsUnchanged};
+ghost use Rattle.scc_contents.specs.Walks.{CalledOn, CallableWhile, Walks};
+ghost use Rattle.scc_map.specs.ClosureSteps.{RemovesIf, UpdatesByRule};
+ghost use Rattle.scc_map.specs.Insertions.{InsertsByRule, MakesRoomByRule, UpsertsByRule};
+ghost use Rattle.scc_map.specs.MapSteps.{Removes};
+ghost use Rattle.scc_map.specs.Removals.{RemovesByRule};
+ghost use Rattle.std.specs.Borrow.{Bor, MutBor};
+ghost use Rattle.std.specs.Fn.{FnOnceTakesAtMut};
+ghost use Rattle.std.specs.List.Sorted.{IsPermutation};
+ghost use Rattle.std.specs.Prelude.{◌≡◌, ◌<◌, ◌*◌, ◌↔◌, List, [], length, Some, None, IsTrue, IsSome, ◌==◌, true, false};
+
+pub mod borrowed;
 pub mod held;
 pub mod locked;
-pub mod owned;
-pub mod sink;
+mod make;
+mod part;
+mod places;
+mod sizes;
+mod walk;
+mod whole;
 
-pub use owned::Owned;
-pub use sink::Sink;
+pub use borrowed::{Entry, OccupiedEntry, ReplaceResult, VacantEntry};
+use scc_common::{InsertError, MakeError};
+use scc_contents::Hashes;
+use scc_table::Table;
+use std::hash::{BuildHasher, BuildHasherDefault, FoldHasher, Hash};
+use std::marker::Model;
+pub use walk::sink::Sink;
+
+/// A map from keys to values, no two keys equal. A contract sees its pairs in the map's own order as `entries m`, the
+/// number of its buckets as `bucket_count m`, and its hasher and sizes as `settings_of m`.
+///
+/// The default hasher has a fixed seed. For keys that an attacker picks, write `Owned::with_hasher(alloc,
+/// RandomState::new(&rt)?)`.
+#[derive(Drop)]
+pub struct Owned<K: Eq + Hash, V, H: BuildHasher = BuildHasherDefault<FoldHasher>> {
+    pub(crate) table: Table<(K, V), H>,
+}
+
+impl<K: Eq + Hash, V, H: BuildHasher> Model for Owned<K, V, H> {
+    ghost use Rattle.scc_contents.specs.Contents.{Contents};
+
+    ghost Value = { Contents (K × V) H };
+
+    ghost view = { λ m. m.table };
+}
+
+impl<K: Eq + Hash, V, H: BuildHasher> Owned<K, V, H> {
+    /// The number of pairs.
+    #[inline(always)]
+    pub fn len(&self) -> usize
+        ensures len { result ≡ length (entries self.now) }
+        ensures unique { IsUnique K.eq self.now }
+    {
+        self.table.len()
+    }
+
+    /// Whether there is no pair.
+    #[inline(always)]
+    pub fn is_empty(&self) -> bool
+        ensures { IsTrue result ↔ (entries self.now ≡ []) }
+    {
+        self.table.len() == 0
+    }
+
+    /// Whether memory was refused for the last resize that was due. The next one that is made lowers it. Where it is
+    /// false after a call that had to resize, the map has the size that the rules ask for.
+    #[inline(always)]
+    pub fn is_resize_refused(&self) -> bool
+        ensures { result ≡ (refused_of self.now).0 }
+    {
+        self.table.is_resize_refused()
+    }
+
+    /// The slots of the array, 32 a bucket; 0 without an array. It is no bound on the number of pairs.
+    #[inline(always)]
+    pub fn capacity(&self) -> usize
+        ensures { result ≡ 32 * bucket_count self.now }
+    {
+        32 * self.table.bucket_count()
+    }
+
+    /// Whether there is an array and the bucket of `k` holds fewer than 32 pairs. An insertion of `k` then takes no
+    /// memory and can't be refused.
+    #[inline(always)]
+    pub fn has_room(&self, k: &K) -> bool
+        ensures { IsTrue result ↔ HasRoom (hash_in ⟦<H as Hashes<K>>⟧.hash_of self.now) self.now k.now }
+    {
+        self.table.has_room(k)
+    }
+
+    /// Whether a key equals `k`.
+    #[inline(always)]
+    pub fn contains_sync(&self, k: &K) -> bool
+        ensures { IsTrue result ↔ IsSome (find K.eq (entries self.now) k.now) }
+    {
+        let hash = self.table.hash(k);
+        match self.table.search(hash, k) {
+            Some(_) => true,
+            None => false,
+        }
+    }
+
+    /// The same, by the hash of `k` under some hasher, as `read_by_hint`.
+    #[inline(always)]
+    pub fn contains_by_hint(&self, hint: u64, k: &K) -> bool
+        ensures { IsTrue result ↔ IsSome (find K.eq (entries self.now) k.now) }
+    {
+        match self.table.find_by_hint(hint, k) {
+            Some(_) => true,
+            None => false,
+        }
+    }
+
+    /// The answer of `f` on the pair of `k`, or None where there is none; then `f` isn't called.
+    #[inline(always)]
+    pub fn read_sync<R, F: FnOnce(&K, &V) -> R>(&self, k: &K, f: F) -> Option<R>
+        requires { (a : Bor K) (b : Bor V) → find K.eq (entries self.now) k.now ≡ Some (a.now, b.now) → F.pre f a b }
+        ensures answer { Reads F.FnOnce f (find K.eq (entries self.now) k.now) result }
+    {
+        let hash = self.table.hash(k);
+        match self.table.find(hash, k) {
+            Some(pair) => Some(f(&pair.0, &pair.1)),
+            None => None,
+        }
+    }
+
+    /// The same, by the hash of `k` under some hasher. Where the map's own hasher gives the same, and the pair is there,
+    /// `k` isn't hashed again, but for a pair past its bucket's places or while some bucket waits.
+    #[inline(always)]
+    pub fn read_by_hint<R, F: FnOnce(&K, &V) -> R>(&self, hint: u64, k: &K, f: F) -> Option<R>
+        requires { (a : Bor K) (b : Bor V) → find K.eq (entries self.now) k.now ≡ Some (a.now, b.now) → F.pre f a b }
+        ensures answer { Reads F.FnOnce f (find K.eq (entries self.now) k.now) result }
+    {
+        match self.table.find_by_hint(hint, k) {
+            Some(pair) => Some(f(&pair.0, &pair.1)),
+            None => None,
+        }
+    }
+
+    /// Inserts the pair where no key equals `k`. Where one does, the map stays as it is, and the supplied pair comes
+    /// back; so it does where a growth that the insertion needs is refused.
+    #[inline(always)]
+    pub fn insert_sync(&mut self, k: K, v: V) -> Result<(), InsertError<K, V>>
+        ensures { InsertsByRule K.eq ⟦<H as Hashes<K>>⟧.hash_of self.old (k, v) result self.new }
+    {
+        let hash = self.table.hash(&k);
+        match self.table.search(hash, &k) {
+            Some(_) => Err(InsertError::Exists((k, v))),
+            None => match self.table.insert_new(hash, (k, v)) {
+                Ok(_) => Ok(()),
+                Err(pair) => Err(InsertError::Memory(pair)),
+            },
+        }
+    }
+
+    /// Makes what an insertion of `k` wants, at most one resize: the first array, or twice as many buckets where that
+    /// is due, all of which wait then. A key that is there wants nothing. A growth that is refused is noted,
+    /// and marked: the insertion of `k` that follows doesn't try it again, so that it makes no resize in any case. A
+    /// growth that is made takes note and mark away; where none is due, both stay. This fails only where the first
+    /// array is refused, and then nothing changes.
+    pub fn make_room(&mut self, k: &K) -> Result<(), MakeError>
+        ensures { MakesRoomByRule K.eq ⟦<H as Hashes<K>>⟧.hash_of self.old k.now result self.new }
+    {
+        let hash = self.table.hash(k);
+        match self.table.search(hash, k) {
+            Some(_) => Ok(()),
+            None => match self.table.make_room(hash) {
+                Ok(()) => Ok(()),
+                Err(_) => Err(MakeError),
+            },
+        }
+    }
+
+    /// Takes the mark of a refused growth away, and changes nothing else: an insertion tries a growth that is due, also
+    /// where `make_room` was refused it.
+    pub fn drop_room(&mut self)
+        ensures same { IsUnchanged self.old self.new }
+        ensures lists { lists_of self.new ≡ lists_of self.old }
+        ensures waiting { waiting_of self.new ≡ waiting_of self.old }
+        ensures noted { refused_of self.new ≡ ((refused_of self.old).0, false) }
+        ensures unique { IsUnique K.eq self.new }
+    {
+        self.table.drop_room();
+    }
+
+    /// Stores `v` at `k`. A key that is there stays the stored one, the supplied one is dropped, and the old value is
+    /// answered; this takes no memory. A new key is inserted, and None is answered; refused, the pair comes back.
+    #[inline(always)]
+    pub fn upsert_sync(&mut self, k: K, v: V) -> Result<Option<V>, InsertError<K, V>>
+    where
+        K: Drop,
+        ensures { UpsertsByRule K.eq ⟦<H as Hashes<K>>⟧.hash_of self.old (k, v) result self.new }
+    {
+        let hash = self.table.hash(&k);
+        match self.table.search(hash, &k) {
+            Some(place) => Ok(Some(std::mem::replace(self.value_mut_at(place), v))),
+            None => match self.table.insert_new(hash, (k, v)) {
+                Ok(_) => Ok(None),
+                Err(pair) => Err(InsertError::Memory(pair)),
+            },
+        }
+    }
+
+    /// Lends the pair of `k` to `u`, the value to write, and answers what `u` answered; None where there is no such
+    /// pair, and then `u` isn't called.
+    #[inline(always)]
+    pub fn update_sync<R, U: FnOnce(&K, &mut V) -> R>(&mut self, k: &K, u: U) -> Option<R>
+        requires { (a : Bor K) (b : MutBor V) → find K.eq (entries self.old) k.now ≡ Some (a.now, b.now) → U.pre u a b }
+        ensures { UpdatesByRule U.FnOnce u K.eq self.old k.now self.new result }
+    {
+        let hash = self.table.hash(k);
+        self.table.update(hash, k, u)
+    }
+
+    /// Takes out the pair of `k` where `f` answers true on its value. What `f` wrote goes with the pair, and stays
+    /// where it answers false; then the answer is None. After a removal the array may become smaller.
+    #[inline(always)]
+    pub fn remove_if_sync<F: FnOnce(&mut V) -> bool>(&mut self, k: &K, f: F) -> Option<(K, V)>
+        requires { (p : K × V) → find K.eq (entries self.old) k.now ≡ Some p → FnOnceTakesAtMut F.FnOnce f p.1 }
+        ensures { RemovesByRule K.eq (RemovesIf F.FnOnce f K.eq self.old k.now result self.new
+            (find K.eq (entries self.old) k.now)) self.old k.now result self.new }
+    {
+        let hash = self.table.hash(k);
+        let place = self.table.search(hash, k)?;
+        if f(self.value_mut_at(place)) {
+            Some(self.remove_at(place))
+        } else {
+            None
+        }
+    }
+
+    /// Takes out the pair whose key equals `k`, and answers it, or None where there is none. After a removal the array
+    /// may become smaller.
+    #[inline(always)]
+    pub fn remove_sync(&mut self, k: &K) -> Option<(K, V)>
+        ensures { RemovesByRule K.eq (Removes K.eq self.old k.now result self.new) self.old k.now result self.new }
+    {
+        let hash = self.table.hash(k);
+        self.table.remove(hash, k)
+    }
+
+    /// Calls `f` on the pairs in some order, each at most once, until its first false, and answers false where it
+    /// stopped.
+    #[inline(always)]
+    pub fn iter_sync<F: FnMut(&K, &V) -> bool>(&self, f: F) -> bool
+        requires { (es : List (K × V)) → IsPermutation (entries self.now) es → CallableWhile F.FnMut true f es }
+        ensures { (es : List (K × V)) × (last : F) × IsPermutation (entries self.now) es
+            × Walks (CalledOn F.FnMut) f es result last }
+    {
+        self.table.walk(f)
+    }
+}

@@ -10,7 +10,7 @@ ghost use Rattle.scc_memo.specs.Making.{MakesEmpty};
 ghost use Rattle.scc_memo.specs.Memos.{HasValues, Remembers};
 
 use scc_cache::Owned;
-use scc_cache::owned::Entry;
+use scc_cache::borrowed::Entry;
 use scc_common::MakeError;
 use std::alloc::Global;
 use std::hash::{BuildHasher, Hash};

@@ -13,7 +13,7 @@ use Rattle.scc_calls.specs.declared.steps.Step.TheVariants.{Call, Resize}
 use Rattle.scc_history.specs.Orders.{IsMergeOrder, steps_at}
 use Rattle.scc_history.specs.Receipts.{calls_of}
 use Rattle.scc_history.specs.Stamps.{calls_in, receipt}
-use Rattle.scc_history.specs.declared.receipts.Receipt.{Receipt}
+use Rattle.scc_history.specs.declared.log.Receipt.{Receipt}
 use Rattle.scc_history.proofs.Places.{merge_of}
 use Rattle.scc_print.specs.Finished.{IsOutput}
 use Rattle.scc_print.specs.Output.{output_of}

@@ -12,7 +12,7 @@ use Rattle.scc_calls.specs.declared.steps.Step.{Step}
 use Rattle.scc_history.specs.Orders.{IsMergeOrder, IsStampOrder, StampsRise, steps_at}
 use Rattle.scc_history.specs.Receipts.{calls_of}
 use Rattle.scc_history.specs.Stamps.{calls_in}
-use Rattle.scc_history.specs.declared.receipts.Receipt.{Receipt}
+use Rattle.scc_history.specs.declared.log.Receipt.{Receipt}
 use Rattle.scc_recorded.specs.Closing.{AllMatch}
 use Rattle.scc_print.specs.Output.{output_of}
 use Rattle.scc_script.specs.declared.line.WorkerCall.{WorkerCall}

@@ -3,7 +3,7 @@ use Rattle.std.proofs.Common.{◌≡◌, ℕ, zero, suc, ◌+◌, ◌<◌, ◌�
 use Rattle.std.specs.Prelude.{slice_get}
 use Rattle.std.proofs.lemmas.List.{drop_more, drop_all}
 use Rattle.scc_history.specs.Receipts.{Matches, SameAt}
-use Rattle.scc_history.specs.declared.receipts.Receipt.{Receipt}
+use Rattle.scc_history.specs.declared.log.Receipt.{Receipt}
 use Rattle.scc_script.specs.declared.line.WorkerCall.{WorkerCall}
 use Rattle.scc_play.specs.Answered.{AreAnswered, calls_by}
 use Rattle.scc_play.specs.Telling.{AreTold}

@@ -1,7 +1,7 @@
 -- What a turn of a worker adds to its receipts.
 use Rattle.std.specs.Prelude.{ℕ, ◌<◌, Bool, List, Option, None, Some}
 use Rattle.scc_history.specs.Kept.{AddsReceipt}
-use Rattle.scc_history.specs.declared.receipts.Receipt.{Receipt}
+use Rattle.scc_history.specs.declared.log.Receipt.{Receipt}
 use Rattle.scc_recorded.specs.Adds.{Adds, IsOf}
 
 module _ {G S A R K : Type 0} (key_of : A → Option K) (is_clone : A → A → Type 0) (replies : R → R → Bool) (moves : G → S → A → R → S → Type 0) (route : K → ℕ) (stripes : ℕ) (call : A) where

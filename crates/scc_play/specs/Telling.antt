@@ -1,6 +1,6 @@
 -- What each worker was told, beside its receipts.
 use Rattle.std.specs.Prelude.{◌≡◌, ℕ, ◌+◌, List, [], ◌∷◌, Option}
-use Rattle.scc_history.specs.declared.receipts.Receipt.{Receipt}
+use Rattle.scc_history.specs.declared.log.Receipt.{Receipt}
 use Rattle.scc_script.specs.declared.line.WorkerCall.{WorkerCall}
 use Rattle.scc_play.specs.Answered.{AreAnswered, calls_by}
 

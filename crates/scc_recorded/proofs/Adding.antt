@@ -6,7 +6,7 @@ use Rattle.std.proofs.lemmas.List.{append-nil}
 use Rattle.scc_calls.specs.Calling.{MayNotReply}
 use Rattle.scc_calls.specs.Changes.{Changes}
 use Rattle.scc_calls.specs.Copies.{MayNotClone}
-use Rattle.scc_history.specs.declared.receipts.Receipt.{Receipt}
+use Rattle.scc_history.specs.declared.log.Receipt.{Receipt}
 use Rattle.scc_recorded.specs.Adds.{Adds, MayAnswer, Told}
 
 module _ {G S A R : Type 0} (moves : G → S → A → R → S → Type 0) (call : A) where

@@ -1,6 +1,6 @@
 -- Equal causes have equal numbers.
 use Rattle.std.proofs.Common.{◌≡◌, ℕ}
-use Rattle.scc_recorded.specs.declared.refusals.FinishError.TheVariants.{Disagrees, Misrouted}
+use Rattle.scc_recorded.specs.declared.finishing.FinishError.TheVariants.{Disagrees, Misrouted}
 
 pub same_disagreement : (a b n k : ℕ) → Disagrees a b ≡ Disagrees n k → (a ≡ n) × (b ≡ k)
 same_disagreement a b n k e = let f : a ≡ n = cc in let g : b ≡ k = cc in (f, g)

@@ -4,7 +4,7 @@ use Rattle.std.specs.Prelude.{slice_get, nat_lt, if◌then◌else◌, MatchOptio
 use Rattle.std.specs.List.{AllByRecursion}
 use Rattle.std.proofs.lemmas.Bool.{cases_lt}
 use Rattle.std.proofs.lemmas.Bool.Decides.{nat_tests}
-use Rattle.scc_history.specs.declared.receipts.Receipt.{Receipt}
+use Rattle.scc_history.specs.declared.log.Receipt.{Receipt}
 use Rattle.scc_history.specs.Receipts.{DiffersFirst, Matches}
 use Rattle.scc_recorded.specs.Closing.{AllMatch, FirstDisagrees, lesser_of}
 

@@ -18,10 +18,10 @@ use Rattle.scc_calls.specs.Made.{IsMadeFor}
 use Rattle.scc_calls.specs.declared.fixed.Request.{Request}
 use Rattle.scc_history.specs.Stamps.{calls_in}
 use Rattle.scc_recorded.specs.declared.closing.Closed.{Closed}
-use Rattle.scc_recorded.specs.declared.counts.Count.{Count}
-use Rattle.scc_recorded.specs.declared.guards.Guarded.{Guarded}
+use Rattle.scc_recorded.specs.declared.counted.Count.{Count}
+use Rattle.scc_recorded.specs.declared.counted.Guarded.{Guarded}
 use Rattle.scc_recorded.specs.declared.passes.Pass.{Pass}
-use Rattle.scc_recorded.specs.declared.sites.Site as sites
+use Rattle.scc_recorded.specs.declared.setups.Site as sites
 use mathlib.Core.HLevel.{is_prop→PathP}
 
 module _ {C L K H A R T : Type 0} {m : calls.Ghosts C K H A R T} {h : hash.Ghosts K} {g : eq.Ghosts K} {b : builder.Ghosts H T} {w : hasher.Ghosts T} {call_clones : clone.Ghosts A} {call_equality : eq.Ghosts A} {reply_clones : clone.Ghosts R} {reply_equality : eq.Ghosts R} where

@@ -1,6 +1,6 @@
 -- What calls of all stripes add to a pass.
 use Rattle.std.specs.Prelude.{◌≡◌, ℕ, ◌+◌, ◌<◌, List, [], ◌∷◌, ◌++◌, Option, None, Some}
-use Rattle.scc_history.specs.declared.receipts.Receipt.{Receipt}
+use Rattle.scc_history.specs.declared.log.Receipt.{Receipt}
 
 -- some part may give the reply to the call
 abbrev pub MayAnswer : {G S A R : Type 0} → (G → S → A → R → S → Type 0) → A → R → Type 0

@@ -1,6 +1,6 @@
 -- What passes show beside the call records of their numbers.
 use Rattle.std.specs.Prelude.{◌≡◌, ℕ, ◌<◌, List, Bool, Option, None, Some, slice_get, nat_lt, if◌then◌else◌}
-use Rattle.scc_history.specs.declared.receipts.Receipt.{Receipt}
+use Rattle.scc_history.specs.declared.log.Receipt.{Receipt}
 use Rattle.scc_history.specs.Receipts.{DiffersFirst, Matches}
 
 module _ {T A R : Type 0} (calls : A → A → Bool) (replies : R → R → Bool) (number : T → ℕ) (receipts : T → List (Receipt A R)) (passes : List T) (records : ℕ → List (Receipt A R)) where

@@ -9,10 +9,10 @@ use Rattle.scc_calls.specs.declared.steps.Step.{Step}
 use Rattle.scc_history.specs.Orders.{IsMergeOrder, IsOnlyStampOrder, StampsRise, steps_at}
 use Rattle.scc_history.specs.Receipts.{AreAll, calls_of}
 use Rattle.scc_history.specs.Stamps.{calls_in}
-use Rattle.scc_history.specs.declared.receipts.Receipt.{Receipt}
+use Rattle.scc_history.specs.declared.log.Receipt.{Receipt}
 use Rattle.scc_recorded.specs.Closing.{AllMatch, FirstDisagrees}
-use Rattle.scc_recorded.specs.declared.refusals.FinishError.{FinishError}
-use Rattle.scc_recorded.specs.declared.refusals.FinishError.TheVariants.{Missing, Misrouted, Disagrees}
+use Rattle.scc_recorded.specs.declared.finishing.FinishError.{FinishError}
+use Rattle.scc_recorded.specs.declared.finishing.FinishError.TheVariants.{Missing, Misrouted, Disagrees}
 
 -- what the parts of a container of a kind hold and do, what the whole does, and which stripe a key routes to
 pub record Kind (C H S W A R K : Type 0) : Type 1 where

@@ -1,10 +1,12 @@
 //! The ledgers tell that there are as many call records as receipts.
-ghost use Rattle.std.specs.Prelude.{◌≡◌, ◌+◌, ◌<◌, length, vec_len};
-ghost use Rattle.std.specs.List.{sum_by};
 ghost use Rattle.scc_history.specs.Stamps.{calls_in};
+ghost use Rattle.std.specs.List.{sum_by};
+ghost use Rattle.std.specs.Prelude.{◌≡◌, ◌+◌, ◌<◌, length};
 
-use crate::counts::Count;
-use crate::{Closed, Guarded, Pass, Site};
+use crate::closing::Closed;
+use crate::counted::{Count, Guarded};
+use crate::passes::Pass;
+use crate::setups::Site;
 use scc_calls::{Calls, Step};
 use std::sync::ledger::{Book, Ledger, Share};
 

@@ -1,15 +1,13 @@
 //! Stripes out of their locks.
-ghost use Rattle.std.specs.Prelude.{◌≡◌, ℕ, ◌+◌, ◌<◌, ◌≤◌, List, length, map, MatchOption, Some, slice_get, vec_len};
 ghost use Rattle.scc_calls.specs.declared.fixed.Request.{Request};
-ghost use Rattle.scc_history.specs.Stamps.{Rises};
+ghost use Rattle.std.specs.Prelude.{◌≡◌, ◌+◌, ◌<◌, ◌≤◌, map, MatchOption, Some, slice_get, vec_len, [], vec_capacity, IfOk};
 
-use crate::counts::{Count, Parts};
-use crate::locked::Locked;
-use crate::rooms::Room;
-use crate::{Guarded, Recorded, Site};
+use crate::counted::{Count, Guarded, Parts};
+use crate::setups::Site;
+use crate::{Locked, Recorded};
 use scc_calls::{Calls, Step};
 use scc_history::{Histories, Stripe};
-use std::alloc::Global;
+use std::alloc::{AllocError, Global};
 use std::sync::ledger::Ledger;
 
 /// The stripes of a container that nobody calls any more.
@@ -116,4 +114,19 @@ impl<C: Calls, M: Site<C::Hasher>> Guarded<C, M> {
         } = stripe;
         (container, history, opened)
     }
+}
+
+// An empty list with room for all stripes. It stands under a lock, so that threads may share what holds it.
+#[derive(Drop)]
+pub struct Room<C: Calls, M: Site<C::Hasher>> {
+    pub(crate) list: Vec<Guarded<C, M>>,
+    pub ghost empty: { list.items ≡ [] },
+    pub ghost reserved: { M.all ≤ vec_capacity list },
+}
+
+// An empty list with room for so many.
+pub(crate) fn list_for<T>(alloc: Global, count: usize) -> Result<Vec<T>, AllocError>
+    ensures { IfOk result (λ v. (v.items ≡ []) × (count ≤ vec_capacity v)) }
+{
+    Vec::with_capacity(alloc, count)
 }

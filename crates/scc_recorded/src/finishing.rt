@@ -1,6 +1,4 @@
 //! What a run was.
-ghost use Rattle.std.specs.Prelude.{◌≡◌, ℕ, ◌+◌, ◌<◌, ◌≤◌, List, [], length, map, Err, IfOk, IfErr, Some, slice_get, vec_len, vec_capacity};
-ghost use Rattle.std.specs.List.{sum_by};
 ghost use Rattle.scc_calls.specs.Histories.{CallsRouted};
 ghost use Rattle.scc_contents.specs.Routing.{stripe_of};
 ghost use Rattle.scc_history.specs.Orders.{IsOnlyStampOrder, steps_at};
@@ -8,14 +6,20 @@ ghost use Rattle.scc_history.specs.Receipts.{AreAll, calls_of};
 ghost use Rattle.scc_history.specs.Stamps.{calls_in};
 ghost use Rattle.scc_recorded.specs.Closing.{AllMatch};
 ghost use Rattle.scc_recorded.specs.Finished.{IsFinished, IsRefused, make_kind};
+ghost use Rattle.std.specs.List.{sum_by};
+ghost use Rattle.std.specs.Prelude.{◌≡◌, ◌+◌, ◌<◌, ◌≤◌, [], length, map, Err, IfOk, IfErr, Some, vec_len, vec_capacity};
 
-use crate::checks::{are_all, misrouted};
-use crate::comparing::first_disagreement;
-use crate::lists::list_for;
-use crate::{Closed, FinishError, Guarded, Pass, Recorded, Site};
+use crate::Recorded;
+use crate::checks::{are_all, first_disagreement, misrouted};
+use crate::closing::{Closed, list_for};
+use crate::counted::Guarded;
+use crate::passes::Pass;
+use crate::setups::Site;
 use scc_calls::{Calls, Step, every_merge_is_a_run};
 use scc_history::{records_by_pass, stamp_order};
+use std::fmt::Debug;
 use std::sync::ledger::Ledger;
+use thiserror::Error;
 
 /// What a run was.
 #[derive(Drop)]
@@ -240,4 +244,22 @@ fn move_out<C: Calls + Drop, M: Site<C::Hasher>>(
         histories.push_reserved(history);
         opened.push_reserved(buckets);
     }
+}
+
+/// Why a run was not finished.
+#[derive(Clone, Copy, Debug, PartialEq, Error)]
+pub enum FinishError {
+    /// The passes aren't all that were handed out, each once.
+    #[error("a pass is missing")]
+    Missing,
+    /// The key of that record doesn't route to that stripe. It is the first such, by stripe and then by index.
+    #[error("misrouted record")]
+    Misrouted { stripe: usize, index: usize },
+    /// That receipt of that pass and that call record of its number differ, or one of them is missing. It is the first
+    /// such, by pass and then by receipt.
+    #[error("receipt disagrees")]
+    Disagrees { pass: usize, receipt: usize },
+    /// Memory for a list was refused.
+    #[error("out of memory")]
+    Memory,
 }

@@ -1,28 +1,142 @@
 //! Containers in parts behind locks, whose calls are recorded, and what their histories prove at the end.
 #![tactic(auto)]
 
+ghost use Rattle.scc_calls.specs.Copies.{ClonesEqual, MayNotClone};
+ghost use Rattle.scc_calls.specs.declared.fixed.Request.{Request};
+ghost use Rattle.scc_calls.specs.declared.fixed.Setting.{Setting};
+ghost use Rattle.scc_contents.specs.Routing.{stripe_of};
+ghost use Rattle.scc_history.specs.Kept.{AddsReceipt};
+ghost use Rattle.scc_recorded.specs.Adds.{MayAnswer};
+ghost use Rattle.std.specs.List.{range_with_len};
+ghost use Rattle.std.specs.Prelude.{◌≡◌, ◌<◌, ◌⊎◌, Err, IfOk, OnErr, IsSome, Some, map, vec_len};
+
 mod auditing;
 mod checks;
 mod closing;
-mod comparing;
-mod counts;
+mod counted;
 mod finishing;
-mod guards;
-mod lists;
-mod locked;
 mod opening;
 mod passes;
-mod refusals;
-mod rooms;
 mod setups;
-mod sites;
 mod whole;
 
+use crate::closing::Room;
+use crate::counted::{Count, Guarded, Parts};
+use crate::passes::Pass;
+use crate::setups::Site;
 pub use closing::Closed;
-pub use finishing::{Finished, Unfinished};
-pub use guards::Guarded;
-pub use locked::Recorded;
+pub use counted::Guarded;
+pub use finishing::{FinishError, Finished, Unfinished};
 pub use passes::Pass;
-pub use refusals::FinishError;
-pub use setups::Setup;
-pub use sites::Site;
+use scc_calls::{Calls, route};
+use scc_history::CallError;
+pub use setups::{Setup, Site};
+use std::alloc::Global;
+use std::sync::ledger::Ledger;
+use std::sync::{Mutex, Wait};
+
+/// A container in stripes, each behind a lock with its history. Threads share it by reference.
+///
+/// L is the ledger of the receipts, in one part for each pass; M that of the call records, in one part for each stripe,
+/// and it names what the stripes were made for.
+#[derive(Drop)]
+pub struct Recorded<C: Calls, L: Ledger, M: Site<C::Hasher>> {
+    /// The number of stripes.
+    pub stripes: usize,
+    /// The number of passes that were handed out.
+    pub passes: usize,
+    pub(crate) locks: Vec<Locked<C, M>>,
+    pub(crate) count: Mutex<Count<L, M>>,
+    pub hasher: C::Hasher,
+    pub(crate) alloc: Global,
+    pub(crate) room: Mutex<Room<C, M>>,
+    pub(crate) handed: Parts<L>,
+    pub(crate) divided: Parts<M>,
+    pub ghost placed: { ∥ ((r : Request C.Hasher) × (M.chosen ≡ Some r) × (r.hasher ≡ hasher)) ∥₁ },
+    pub ghost number: { vec_len locks ≡ stripes },
+    pub ghost some: { 0 < stripes },
+    pub ghost all: { M.all ≡ stripes },
+    pub ghost handed_all: { handed.count ≡ passes },
+    pub ghost divided_all: { divided.count ≡ stripes },
+    pub ghost numbers: { map (λ l. l.number) locks.items ≡ range_with_len 0 stripes },
+}
+
+// A stripe behind its lock, with its number.
+#[derive(Drop)]
+pub(crate) struct Locked<C: Calls, M: Site<C::Hasher>> {
+    pub(crate) number: usize,
+    pub(crate) lock: Mutex<Guarded<C, M>>,
+}
+
+impl<C: Calls, M: Site<C::Hasher>> Locked<C, M> {
+    // One step of the stripe, whose receipt bears this number.
+    pub(crate) fn step<L: Ledger, R: Wait>(
+        &self,
+        rt: &R,
+        pass: &mut Pass<C, L>,
+        count: &Mutex<Count<L, M>>,
+        call: C::Call,
+    ) -> Result<C::Reply, CallError>
+        requires calls { ClonesEqual C.Call.is_clone C.Call.eq }
+        requires replies { ClonesEqual C.Reply.is_clone C.Reply.eq }
+        ensures number { pass.new.log.number ≡ pass.old.log.number }
+        ensures ok { IfOk result (λ r. (pass.old.log.clock < pass.new.log.clock)
+            × AddsReceipt C.Call.is_clone C.Reply.eq self.now.number pass.new.log.clock call r
+            pass.old.log.receipts.items pass.new.log.receipts.items) }
+        ensures err { OnErr result ((pass.new.log.clock ≡ pass.old.log.clock)
+            × (pass.new.log.receipts.items ≡ pass.old.log.receipts.items)) }
+        ensures answers { IfOk result (λ r. MayAnswer C.moves call r) }
+        ensures refused { result ≡ Err CallError.Container
+            → ∥ ((g : Setting C.Hasher) × (s : C.State)
+            × (C.may_refuse g s call ⊎ (IsSome (C.key_of call) × MayNotClone C.Reply.is_infallible (C.answer g s call))))
+            ∥₁ }
+    {
+        self.lock.lock(rt).step(rt, self.number, pass, count, call)
+    }
+}
+
+impl<C: Calls, L: Ledger, M: Site<C::Hasher>> Recorded<C, L, M> {
+    // The stripe of that number.
+    pub(crate) fn locked(&self, i: usize) -> &Locked<C, M>
+        requires { i < self.now.stripes }
+        ensures { result.now.number ≡ i }
+    {
+        &self.locks[i]
+    }
+
+    /// Makes a call with a key, in the stripe of its key, whose number its receipt bears. Any thread may call it, and
+    /// may wait for that stripe's lock.
+    ///
+    /// `Room` comes where memory for the record or the receipt was refused, or no stamp is left; then nothing was
+    /// touched. `Container` comes only if the container may refuse the call for memory, or a clone of its reply may be
+    /// refused.
+    pub fn call<R: Wait>(
+        &self,
+        rt: &R,
+        pass: &mut Pass<C, L>,
+        call: C::Call,
+    ) -> Result<C::Reply, CallError>
+        requires keyed { IsSome (C.key_of call) }
+        requires calls { ClonesEqual C.Call.is_clone C.Call.eq }
+        requires replies { ClonesEqual C.Reply.is_clone C.Reply.eq }
+        ensures number { pass.new.log.number ≡ pass.old.log.number }
+        ensures ok { IfOk result (λ r. (pass.old.log.clock < pass.new.log.clock)
+            × ((k : C.Key) → C.key_of call ≡ Some k
+            → AddsReceipt C.Call.is_clone C.Reply.eq
+            (stripe_of C.Hasher.BuildHasher C.Hasher.Hasher.Hasher C.Key.Hash.hash_input self.now.hasher
+            self.now.stripes k) pass.new.log.clock call r pass.old.log.receipts.items pass.new.log.receipts.items)) }
+        ensures err { OnErr result ((pass.new.log.clock ≡ pass.old.log.clock)
+            × (pass.new.log.receipts.items ≡ pass.old.log.receipts.items)) }
+        ensures answers { IfOk result (λ r. MayAnswer C.moves call r) }
+        ensures refused { result ≡ Err CallError.Container
+            → ∥ ((g : Setting C.Hasher) × (s : C.State)
+            × (C.may_refuse g s call ⊎ (IsSome (C.key_of call) × MayNotClone C.Reply.is_infallible (C.answer g s call))))
+            ∥₁ }
+    {
+        let Some(key) = C::key(&call) else {
+            unreachable!();
+        };
+        let place = route::<C>(&self.hasher, self.stripes, key);
+        self.locked(place).step(rt, pass, &self.count, call)
+    }
+}

@@ -1,14 +1,13 @@
 //! Recorded containers are opened.
-ghost use Rattle.std.specs.Prelude.{◌≡◌, ℕ, ◌+◌, ◌<◌, ◌≤◌, [], IfOk, Some, map, vec_len};
+ghost use Rattle.scc_recorded.specs.Setups.{IsStripes, request_of};
 ghost use Rattle.std.specs.List.{AllByRecursion, range_with_len};
-ghost use Rattle.scc_recorded.specs.Setups.{IsStripes, request_of, share_of, skipped_for};
+ghost use Rattle.std.specs.Prelude.{◌≡◌, ◌+◌, ◌<◌, ◌≤◌, [], IfOk, Some, map, vec_len};
 
-use crate::counts::{Count, Parts};
-use crate::lists::list_for;
-use crate::locked::Locked;
-use crate::rooms::Room;
-use crate::setups::{bits_for, slots_for};
-use crate::{Guarded, Pass, Recorded, Setup, Site};
+use crate::closing::{Room, list_for};
+use crate::counted::{Count, Guarded, Parts};
+use crate::passes::Pass;
+use crate::setups::{Setup, Site, bits_for, slots_for};
+use crate::{Locked, Recorded};
 use scc_calls::Calls;
 use scc_common::{MakeError, TryShare};
 use std::alloc::Global;

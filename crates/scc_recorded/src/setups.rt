@@ -1,6 +1,11 @@
-//! What a recorded container is made with.
-ghost use Rattle.std.specs.Prelude.{◌≡◌, ◌≤◌, ◌<◌, ◌^◌, ◌⊎◌};
+//! What a recorded container is made with, and what its stripes were made for.
+ghost use Rattle.scc_calls.specs.declared.fixed.Request.{Request};
 ghost use Rattle.scc_recorded.specs.Setups.{IsStripes, skipped_for, share_of};
+ghost use Rattle.std.specs.Prelude.{◌≡◌, ◌≤◌, ◌<◌, ℕ, None, Option};
+
+use scc_calls::Request;
+use std::marker::Brand;
+use std::sync::ledger::Ledger;
 
 /// What a recorded container is made with.
 #[derive(Drop)]
@@ -38,4 +43,18 @@ pub(crate) fn slots_for(slots: usize, stripes: usize) -> usize
     } else {
         whole + 1
     }
+}
+
+/// A ledger of stripes that were all made for one request. Who opens them chooses it.
+pub trait Site<H>: Ledger {
+    ghost chosen: { Option (Request H) };
+
+    // The number of the stripes.
+    ghost all: { ℕ };
+}
+
+impl<H> Site<H> for Brand {
+    ghost chosen = { None };
+
+    ghost all = { 0 };
 }

@@ -1,10 +1,12 @@
 //! Calls of every stripe, one after another.
-ghost use Rattle.std.specs.Prelude.{◌≡◌, ℕ, ◌+◌, ◌<◌, ◌≤◌, List, ◌++◌, Err, OnOk, OnErr, IfOk, min, length, drop};
-ghost use Rattle.std.specs.List.{sum_by};
 ghost use Rattle.scc_calls.specs.Copies.{ClonesEqual};
 ghost use Rattle.scc_recorded.specs.Adds.{Adds, IsOf, number_of};
+ghost use Rattle.std.specs.List.{sum_by};
+ghost use Rattle.std.specs.Prelude.{◌≡◌, ℕ, ◌<◌, Err, OnOk, OnErr, IfOk, min, length, drop};
 
-use crate::{Pass, Recorded, Site};
+use crate::Recorded;
+use crate::passes::Pass;
+use crate::setups::Site;
 use scc_calls::WholeCalls;
 use scc_history::{CallError, Receipt};
 use std::sync::Wait;

@@ -3,7 +3,7 @@ use Rattle.std.specs.Borrow.{RattleType}
 use Rattle.std.specs.HashMap.Lent.{HashMembers}
 use Rattle.std.specs.declared.hash.Hasher as hasher
 use Rattle.std.specs.declared.hash.BuildHasher as builder
-use Rattle.scc_set.specs.contracts.owned.Owned.{the_row}
+use Rattle.scc_set.specs.contracts.Owned.{the_row}
 
 -- how a set stands in memory
 abbrev pub set_row : (K S H : RattleType) → HashMembers K.Denot → builder.Ghosts S.Denot H.Denot → hasher.Ghosts H.Denot → RattleType

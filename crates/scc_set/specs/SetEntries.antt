@@ -14,8 +14,8 @@ use Rattle.scc_contents.specs.Steps.{Holds, HoldsExactly, ShrinksWhenDue}
 use Rattle.scc_buckets.specs.declared.place.Place.{Place}
 use Rattle.scc_set.specs.Keys.{IsUnique}
 use Rattle.scc_set.specs.Lends.{set_row}
-use Rattle.scc_set.specs.declared.owned.entry.OccupiedEntry.{OccupiedEntry}
-use Rattle.scc_set.specs.declared.owned.entry.Removed.{Removed}
+use Rattle.scc_set.specs.declared.entry.OccupiedEntry.{OccupiedEntry}
+use Rattle.scc_set.specs.declared.entry.Removed.{Removed}
 
 module _ {K S T : Type 0} {g : eq.Ghosts K} {h : hash.Ghosts K} {b : builder.Ghosts S T} {w : hasher.Ghosts T} where
   -- where the entry stands

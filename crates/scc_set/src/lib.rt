@@ -1,6 +1,248 @@
 //! A hash set over the map of `scc_map`, for one owner.
 #![tactic(auto)]
 
-pub mod owned;
+ghost use Rattle.scc_contents.specs.Contents.{entries, bucket_count, lists_of, settings_of, refused_of, waiting_of, hash_in};
+ghost use Rattle.scc_contents.specs.Pairs.{IsUnique as IsUniqueMap};
+ghost use Rattle.scc_contents.specs.Pairs.{find as find_pair};
+ghost use Rattle.scc_contents.specs.Steps.{HoldsExactly, IsUnchanged};
+ghost use Rattle.scc_set.specs.Insertions.{InsertsByRule, MakesRoomByRule, ReplacesByRule};
+ghost use Rattle.scc_set.specs.Keys.{find, with_key, FindsInstead, HasRoom, IsUnique};
+ghost use Rattle.scc_set.specs.Removals.{RemovesByRule};
+ghost use Rattle.scc_set.specs.SetSteps.{Reads, Removes, RemovesIf};
+ghost use Rattle.scc_set.specs.SetSteps.{key_answer as key_answer_of};
+ghost use Rattle.std.specs.Fn.{FnOnceTakesAt, FnOnceReturnsAt};
+ghost use Rattle.std.specs.Map.{set_key};
+ghost use Rattle.std.specs.Option.{option_map};
+ghost use Rattle.std.specs.Prelude.{◌≡◌, ◌<◌, ◌*◌, ◌↔◌, [], length, Some, None, IsTrue, IsSome, IfErr, IfOk, false};
 
-pub use owned::Owned;
+pub mod entry;
+mod key_places;
+mod make;
+mod sizes;
+mod walk;
+mod whole;
+
+pub use entry::{OccupiedEntry, Removed};
+use scc_common::{InsertError, KeyError, MakeError};
+use scc_contents::Hashes;
+use scc_map::borrowed::ReplaceResult;
+use std::hash::{BuildHasher, BuildHasherDefault, FoldHasher, Hash};
+use std::marker::Model;
+
+/// A set of keys, no two equal. A contract sees the keys in the set's own order as `entries s`, the number of its
+/// buckets as `bucket_count s`, and its hasher and sizes as `settings_of s`.
+///
+/// The default hasher has a fixed seed. For keys that an attacker picks, write `Owned::with_hasher(alloc,
+/// RandomState::new(&rt)?)`.
+#[derive(Drop)]
+pub struct Owned<K: Eq + Hash, H: BuildHasher = BuildHasherDefault<FoldHasher>> {
+    pub(crate) map: scc_map::Owned<K, (), H>,
+}
+
+impl<K: Eq + Hash, H: BuildHasher> Model for Owned<K, H> {
+    ghost use Rattle.scc_contents.specs.Contents.{Contents};
+    ghost use Rattle.scc_set.specs.Keys.{of_map};
+
+    ghost Value = { Contents K H };
+
+    ghost view = { λ s. of_map s.map };
+}
+
+impl<K: Eq + Hash, H: BuildHasher> Owned<K, H> {
+    /// The number of keys.
+    #[inline(always)]
+    pub fn len(&self) -> usize
+        ensures len { result ≡ length (entries self.now) }
+        ensures unique { IsUnique K.eq self.now }
+    {
+        self.map.len()
+    }
+
+    /// Whether there is no key.
+    #[inline(always)]
+    pub fn is_empty(&self) -> bool
+        ensures { IsTrue result ↔ (entries self.now ≡ []) }
+    {
+        self.map.is_empty()
+    }
+
+    /// The slots of the array, 32 a bucket; 0 without an array. It is no bound on the number of keys.
+    #[inline(always)]
+    pub fn capacity(&self) -> usize
+        ensures { result ≡ 32 * bucket_count self.now }
+    {
+        self.map.capacity()
+    }
+
+    /// Whether memory was refused for the last resize that was due. The next one that is made lowers it. Where it is
+    /// false after a call that had to resize, the set has the size that the rules ask for.
+    #[inline(always)]
+    pub fn is_resize_refused(&self) -> bool
+        ensures { result ≡ (refused_of self.now).0 }
+    {
+        self.map.is_resize_refused()
+    }
+
+    /// Whether there is an array and the bucket of `k` holds fewer than 32 keys. An insertion of `k` then takes no
+    /// memory and can't be refused.
+    #[inline(always)]
+    pub fn has_room(&self, k: &K) -> bool
+        ensures { IsTrue result ↔ HasRoom (hash_in ⟦<H as Hashes<K>>⟧.hash_of self.now) self.now k.now }
+    {
+        self.map.has_room(k)
+    }
+
+    /// Whether a key equals `k`.
+    #[inline(always)]
+    pub fn contains_sync(&self, k: &K) -> bool
+        ensures { IsTrue result ↔ IsSome (find K.eq (entries self.now) k.now) }
+    {
+        self.map.contains_sync(k)
+    }
+
+    /// The answer of `f` on the key that equals `k`, or None where there is none; then `f` isn't called.
+    #[inline(always)]
+    pub fn read_sync<R, F: FnOnce(&K) -> R>(&self, k: &K, f: F) -> Option<R>
+        requires { (q : K) → find K.eq (entries self.now) k.now ≡ Some q → FnOnceTakesAt F.FnOnce f q }
+        ensures answer { Reads F.FnOnce f (find K.eq (entries self.now) k.now) result }
+    {
+        self.map.read_sync(
+            k,
+            move |key: &K, _value: &()| -> R
+                requires { FnOnceTakesAt F.FnOnce f key.now }
+                ensures { FnOnceReturnsAt F.FnOnce f key.now result }
+            { f(key) },
+        )
+    }
+
+    /// Inserts the key where no key equals it. Where one does, the set stays as it is, and the supplied key comes back;
+    /// so it does where a growth that the insertion needs is refused.
+    #[inline(always)]
+    pub fn insert_sync(&mut self, k: K) -> Result<(), KeyError<K>>
+        ensures { InsertsByRule K.eq ⟦<H as Hashes<K>>⟧.hash_of self.old k result self.new }
+    {
+        key_answer(self.map.insert_sync(k, ()))
+    }
+
+    /// Makes what an insertion of `k` wants, at most one resize: the first array, or twice as many buckets where that
+    /// is due, all of which wait then. A key that is there wants nothing. A growth that is refused is noted,
+    /// and marked: the insertion of `k` that follows doesn't try it again, so that it makes no resize in any case. A
+    /// growth that is made takes note and mark away; where none is due, both stay. This fails only where the first
+    /// array is refused, and then nothing changes.
+    pub fn make_room(&mut self, k: &K) -> Result<(), MakeError>
+        ensures { MakesRoomByRule K.eq ⟦<H as Hashes<K>>⟧.hash_of self.old k.now result self.new }
+    {
+        self.map.make_room(k)
+    }
+
+    /// Takes the mark of a refused growth away, and changes nothing else: an insertion tries a growth that is due, also
+    /// where `make_room` was refused it.
+    pub fn drop_room(&mut self)
+        ensures same { IsUnchanged self.old self.new }
+        ensures lists { lists_of self.new ≡ lists_of self.old }
+        ensures waiting { waiting_of self.new ≡ waiting_of self.old }
+        ensures noted { refused_of self.new ≡ ((refused_of self.old).0, false) }
+        ensures unique { IsUnique K.eq self.new }
+    {
+        self.map.drop_room();
+    }
+
+    /// Puts `k` in the place of the key that equals it, and answers the old one; this takes no memory. Where no key
+    /// equals it, it is inserted, and None is answered; refused, it comes back.
+    #[inline(always)]
+    pub fn replace_sync(&mut self, k: K) -> Result<Option<K>, KeyError<K>>
+        ensures { ReplacesByRule K.eq ⟦<H as Hashes<K>>⟧.hash_of self.old k result self.new }
+    {
+        match self.swap_key(k) {
+            Ok(old) => Ok(Some(old)),
+            Err(key) => match self.insert_sync(key) {
+                Ok(()) => Ok(None),
+                Err(e) => Err(e),
+            },
+        }
+    }
+
+    /// Puts `k` in the place of the key that equals it, and answers the old one; `k` itself, as an `Err`, where there
+    /// is none.
+    pub(crate) fn swap_key(&mut self, k: K) -> Result<K, K>
+        ensures swapped { IfOk result (λ old. (find K.eq (entries self.old) k ≡ Some old)
+            × HoldsExactly self.old (with_key K.eq (entries self.old) k) self.new
+            × FindsInstead K.eq (entries self.old) k (Some k) (entries self.new)) }
+        ensures noted { refused_of self.new ≡ refused_of self.old }
+        ensures waiting { waiting_of self.new ≡ waiting_of self.old }
+        ensures missing { IfErr result (λ q. (q ≡ k) × (find K.eq (entries self.old) k ≡ None)
+            × (self.new ≡ self.old)) }
+        ensures unique { IsUnique K.eq self.new }
+    {
+        swap_in_map(&mut self.map, k)
+    }
+
+    /// Takes out the key that equals `k` where `f` answers true; the condition is asked only where there is one. Else
+    /// the answer is None. After a removal the array may become smaller.
+    #[inline(always)]
+    pub fn remove_if_sync<F: FnOnce() -> bool>(&mut self, k: &K, f: F) -> Option<K>
+        requires { IsSome (find K.eq (entries self.old) k.now) → F.pre f }
+        ensures { RemovesByRule K.eq (RemovesIf F.FnOnce f K.eq self.old k.now result self.new
+            (find K.eq (entries self.old) k.now)) self.old k.now result self.new }
+    {
+        let pair = self.map.remove_if_sync(
+            k,
+            move |_value: &mut ()| -> bool
+                requires { F.pre f }
+                ensures { F.post f result }
+            { f() },
+        );
+        key_alone(pair)
+    }
+
+    /// Takes out the key that equals `k`, and answers it, or None where there is none. After a removal the array may
+    /// become smaller.
+    #[inline(always)]
+    pub fn remove_sync(&mut self, k: &K) -> Option<K>
+        ensures { RemovesByRule K.eq (Removes K.eq self.old k.now result self.new) self.old k.now result self.new }
+    {
+        key_alone(self.map.remove_sync(k))
+    }
+}
+
+/// The answer of the map without the unit value.
+#[inline(always)]
+fn key_answer<K, R>(answer: Result<R, InsertError<K, ()>>) -> Result<R, KeyError<K>>
+    ensures { result ≡ key_answer_of answer }
+{
+    match answer {
+        Ok(r) => Ok(r),
+        Err(InsertError::Exists((key, _))) => Err(KeyError::Exists(key)),
+        Err(InsertError::Memory((key, _))) => Err(KeyError::Memory(key)),
+    }
+}
+
+/// Puts `k` in the place of the map's key that equals it, and answers the old one; `k` itself, as an `Err`, where there
+/// is none.
+fn swap_in_map<K: Eq + Hash, H: BuildHasher>(
+    map: &mut scc_map::Owned<K, (), H>,
+    k: K,
+) -> Result<K, K>
+    ensures swapped { IfOk result (λ old. (find_pair K.eq (entries map.old) k ≡ Some (old, tt))
+        × HoldsExactly map.old (set_key (K.eq k) (entries map.old) k) map.new) }
+    ensures noted { refused_of map.new ≡ refused_of map.old }
+    ensures waiting { waiting_of map.new ≡ waiting_of map.old }
+    ensures missing { IfErr result (λ q. (q ≡ k) × (find_pair K.eq (entries map.old) k ≡ None) × (map.new ≡ map.old)) }
+    ensures unique { IsUniqueMap K.eq map.new }
+{
+    match map.replace_sync(k) {
+        ReplaceResult::Replaced(_entry, old) => Ok(old),
+        ReplaceResult::NotReplaced(vacant) => Err(vacant.into_key()),
+    }
+}
+
+/// The key of the pair, if there is one.
+#[inline(always)]
+fn key_alone<K>(pair: Option<(K, ())>) -> Option<K>
+    ensures { result ≡ option_map (λ p. p.0) pair }
+{
+    match pair {
+        Some((key, _)) => Some(key),
+        None => None,
+    }
+}

@@ -12,7 +12,7 @@ ghost use Rattle.scc_contents.specs.PairWalks.{Declines, PassesAt};
 
 use super::{Entry, HashIndex, OccupiedEntry};
 use scc_index::held::{HeldEntry, HeldPlace};
-use scc_index::locked::first_later;
+use scc_index::locked::walk::first_later;
 use std::hash::{BuildHasher, Hash};
 use std::sync::Wait;
 

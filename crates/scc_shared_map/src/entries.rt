@@ -13,7 +13,7 @@ ghost use Rattle.scc_contents.specs.PairWalks.{Declines, PassesAt};
 
 use super::{Entry, HashMap, OccupiedEntry, ReplaceResult};
 use scc_map::held::{HeldEntry, HeldPlace, HeldReplace};
-use scc_map::locked::first_later;
+use scc_map::locked::walk::first_later;
 use std::hash::{BuildHasher, Hash};
 use std::sync::Wait;
 

@@ -13,7 +13,7 @@ use Rattle.scc_common.specs.declared.guard.Guard as guard
 use Rattle.scc_map.specs.declared.held.HeldEntry.{HeldEntry}
 use Rattle.scc_shared_set.specs.declared.entries.HeldKey.{HeldKey}
 use Rattle.scc_stripes.specs.declared.seats.Seat.{Seat}
-use Rattle.scc_stripes.specs.declared.striped.Striped.{Striped}
+use Rattle.scc_stripes.specs.declared.Striped.{Striped}
 
 module _ {G N K S T : Type 0} {d : guard.Ghosts G (Contents (K × Unit {0}) S)} {g : eq.Ghosts K} {h : hash.Ghosts K} {b : builder.Ghosts S T} {w : hasher.Ghosts T} where
   -- the key of the entry, and the keys before and after it in the list of its stripe

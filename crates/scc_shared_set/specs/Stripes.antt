@@ -1,6 +1,6 @@
 -- The stripes and the hasher of a set, which are those of its map.
 use Rattle.scc_contents.specs.Contents.{Contents}
-use Rattle.scc_stripes.specs.declared.striped.Striped.{Striped}
+use Rattle.scc_stripes.specs.declared.Striped.{Striped}
 use Rattle.scc_shared_map.specs.Stripes as map
 use Rattle.scc_shared_set.specs.declared.HashSet.{HashSet}
 

@@ -1,7 +1,7 @@
 -- What places end as, once a `&mut` to one of their entries has ended.
 use Rattle.std.specs.Prelude.{ℕ, List, slice_set, Option, Some}
 use Rattle.std.specs.Borrow.{Fml, RattleType, MutBor, Lends}
-use Rattle.scc_slots.specs.contracts.slots.Slots.{the_row}
+use Rattle.scc_slots.specs.contracts.cells.Slots.{the_row}
 
 -- the entry at place i is lent: once it is given back, the place holds what was written
 abbrev pub lends_slot : (R : RattleType) → MutBor (List (Option R.Denot)) → ℕ → MutBor R.Denot → Fml

@@ -2,8 +2,8 @@
 //! to know.
 #![tactic(auto)]
 
+mod cells;
 mod row;
-mod slots;
 
 #[doc(hidden)]
 pub use row::{Right, Row, Start};

@@ -1,12 +1,12 @@
 //! The places themselves, behind a pointer, and the right to give their block back. The only code of the containers
 //! that goes by a raw pointer.
-ghost use Rattle.std.specs.Prelude.{◌≡◌, ℕ, ◌<◌, [], List, Option, Some, None, length, replicate, slice_index_or, slice_set, IfOk};
+ghost use Rattle.scc_slots.specs.Owned.{row_owns, row_shows, right_owns};
+ghost use Rattle.scc_slots.specs.Places.{IsFilled, IsVacant};
 ghost use Rattle.std.specs.Borrow.{sem};
+ghost use Rattle.std.specs.Prelude.{◌≡◌, ℕ, ◌<◌, [], List, Option, Some, None, replicate, slice_index_or, slice_set, IfOk};
 ghost use Rattle.std.specs.Vec.Ownership.{FitsInBlock};
 ghost use base.Fml.{ftrue};
 ghost use denote.RawPtr.{Ptr, null_ptr};
-ghost use Rattle.scc_slots.specs.Owned.{row_owns, row_shows, right_owns};
-ghost use Rattle.scc_slots.specs.Places.{IsFilled, IsVacant};
 
 use std::alloc::{AllocError, Allocator};
 use std::marker::{Model, PhantomData, Send, Sync};

@@ -5,7 +5,7 @@ use Rattle.std.specs.declared.hash.Hasher as hasher
 use Rattle.std.specs.declared.hash.BuildHasher as builder
 use Rattle.scc_contents.specs.Routing.{stripe_of}
 use Rattle.scc_stripes.specs.declared.seats.Seat.{Seat}
-use Rattle.scc_stripes.specs.declared.striped.Striped.{Striped}
+use Rattle.scc_stripes.specs.declared.Striped.{Striped}
 use Rattle.scc_stripes.specs.Stripes.{stripe_count, stripes_hasher}
 
 module _ {O H : Type 0} where

@@ -1,8 +1,8 @@
 -- What stripes are, and what each gets.
 use Rattle.std.specs.Prelude.{ℕ, ◌+◌, ◌-◌, ◌/◌, ◌^◌, vec_len}
 use Rattle.std.specs.Arc.{arc_value}
-use Rattle.scc_stripes.specs.declared.book.Added.{Added}
-use Rattle.scc_stripes.specs.declared.striped.Striped.{Striped}
+use Rattle.scc_stripes.specs.declared.shares.Added.{Added}
+use Rattle.scc_stripes.specs.declared.Striped.{Striped}
 
 module _ {O H : Type 0} where
   -- the number of stripes

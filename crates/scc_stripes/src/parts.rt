@@ -1,13 +1,12 @@
 //! Containers that will be stripes, before a lock is round any of them.
-ghost use Rattle.std.specs.Prelude.{◌≡◌, ◌≤◌, ◌<◌, ◌^◌, IfOk, Some, slice_get, slice_set, vec_len};
-ghost use Rattle.std.specs.Fn.{FnOnceReturnsAtMut};
-ghost use Rattle.std.specs.Arc.{arc_value};
 ghost use Rattle.scc_contents.specs.Routing.{stripe_of};
+ghost use Rattle.std.specs.Arc.{arc_value};
+ghost use Rattle.std.specs.Fn.{FnOnceReturnsAtMut};
+ghost use Rattle.std.specs.Prelude.{◌≡◌, ◌≤◌, ◌<◌, ◌^◌, IfOk, Some, slice_get, slice_set, vec_len};
 
-use crate::book::ReserveBook;
-use crate::shares::share;
-use crate::striped::{Part, Striped};
-use scc_buckets::route::bucket_index;
+use crate::shares::{ReserveBook, share};
+use crate::{Part, Striped};
+use scc_buckets::place::bucket_index;
 use scc_common::MakeError;
 use std::alloc::Global;
 use std::hash::{BuildHasher, Hash};

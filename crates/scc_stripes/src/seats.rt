@@ -1,9 +1,9 @@
 //! The stripe that an entry holds. A seat is made beside the guard of its stripe, and nowhere else.
-ghost use Rattle.std.specs.Prelude.{◌≤◌, ◌<◌, suc, IfNone, IfSome};
 ghost use Rattle.scc_stripes.specs.Seats.{seat_stripe, seat_stripes, IsNextSeat, IsSeatIn};
 ghost use Rattle.scc_stripes.specs.Stripes.{stripe_count};
+ghost use Rattle.std.specs.Prelude.{◌≤◌, ◌<◌, suc, IfNone, IfSome};
 
-use crate::striped::{Follow, Striped};
+use crate::{Follow, Striped};
 use std::sync::{RwLockWriteGuard, Wait};
 
 impl<O, H> Striped<O, H> {

@@ -1,6 +1,10 @@
-//! Into how many stripes a container is split, and what each gets.
-ghost use Rattle.std.specs.Prelude.{◌≡◌, ◌≤◌, ◌<◌, ◌+◌, ◌*◌, ◌^◌, ◌⊎◌};
-ghost use Rattle.scc_stripes.specs.Stripes.{share_of};
+//! What each stripe gets, and the slots that callers of a shared container have reserved.
+ghost use Rattle.scc_stripes.specs.Stripes.{share_of, added_slots};
+ghost use Rattle.std.specs.Prelude.{◌≡◌, ◌≤◌, ◌<◌, ◌+◌, ◌*◌, ◌^◌, ◌⊎◌, IfSome};
+
+use scc_buckets::sizes::GREATEST_CAPACITY;
+use std::sync::atomic::{AtomicU64, Ordering};
+use std::sync::{Mutex, Wait};
 
 /// How many first bits of a hash pick a stripe where all stripes together have at least so many slots: as many stripes
 /// as are left 64 slots each, 16 at most.
@@ -31,4 +35,65 @@ pub fn share(bits: u32, slots: usize) -> usize
 {
     let stripes = 1usize << bits;
     (slots + (stripes - 1)) / stripes
+}
+
+/// The least number of slots: those asked for at making, and those reserved. It is one word that any thread may load.
+#[derive(Drop)]
+pub struct ReserveBook {
+    minimum: AtomicU64,
+    adding: Mutex<()>,
+}
+
+impl ReserveBook {
+    /// A book in which nothing is reserved.
+    pub fn new(asked: usize) -> ReserveBook {
+        ReserveBook {
+            minimum: AtomicU64::new(asked as u64),
+            adding: Mutex::new(()),
+        }
+    }
+
+    /// The minimum that was loaded, cut at the greatest capacity.
+    pub fn minimum(&self) -> usize
+        ensures { result ≤ 2 ^ 63 }
+    {
+        (self.minimum.load(Ordering::SeqCst) as usize).min(GREATEST_CAPACITY)
+    }
+
+    /// Adds so many slots, unless that is 0 or the sum would be above the greatest capacity. One caller adds at a time.
+    pub fn add(&self, rt: &impl Wait, additional: usize) -> Option<Added<'_>>
+        ensures { IfSome result (λ r. (added_slots r ≡ additional) × (0 < additional) × (additional ≤ 2 ^ 63)) }
+    {
+        let _turn = self.adding.lock(rt);
+        if additional == 0 || additional > GREATEST_CAPACITY - self.minimum() {
+            return None;
+        }
+        self.minimum.fetch_add(additional as u64, Ordering::SeqCst);
+        Some(Added {
+            book: self,
+            additional,
+        })
+    }
+}
+
+/// Slots that were added, and are given back when this is dropped. The drop waits for nobody.
+pub struct Added<'h> {
+    book: &'h ReserveBook,
+    additional: usize,
+}
+
+impl<'h> Added<'h> {
+    /// How many slots they are.
+    pub fn additional_capacity(&self) -> usize
+        ensures { result ≡ added_slots self.now }
+    {
+        self.additional
+    }
+}
+
+impl<'h> Drop for Added<'h> {
+    fn drop(self) {
+        let Added { book, additional } = self;
+        book.minimum.fetch_sub(additional as u64, Ordering::SeqCst);
+    }
 }

@@ -2,38 +2,21 @@
 //! until their bucket in the new one takes them over.
 #![tactic(auto)]
 
-ghost use Rattle.std.specs.Prelude.{◌≡◌, ◌<◌, ◌≤◌, ◌^◌, ◌↔◌, true, IsTrue};
 ghost use Rattle.scc_contents.specs.Contents.{bucket_count, pending_of, refused_of, IsUniqueBy};
 ghost use Rattle.scc_contents.specs.Sizes.{IsLawful};
 ghost use Rattle.scc_table.specs.TwoArrays.{IsWaiting};
+ghost use Rattle.std.specs.Prelude.{◌≡◌, ◌<◌, ◌≤◌, ◌^◌, ◌↔◌, IsTrue};
 
 mod bounded;
-mod cloning;
-mod doubling;
-mod finding;
-mod growing;
-mod hinting;
-mod inserting;
-mod lasting;
-mod making;
-mod pairs;
-mod putting;
-mod putting_room;
-mod reading;
-mod relocating;
-mod removing;
-mod reserving;
-mod searching;
-mod settling;
-mod shrinking;
-mod starting;
-mod steps;
-mod taking;
-mod updating;
-mod walking;
-mod writing;
+mod insert;
+mod insert_made;
+mod lookup;
+mod make;
+mod remove;
+mod resize;
+mod walk;
 
-pub use reserving::Reservation;
+pub use resize::reserve::Reservation;
 use scc_array::Array;
 use scc_buckets::Buckets;
 use scc_entry::Keyed;
@@ -47,9 +30,9 @@ pub struct Table<E: Keyed, H: BuildHasher>
 where
     E::Key: Eq + Hash,
 {
-    current: Buckets<E, H>,
-    draining: Draining<E>,
     skipped: u32,
+    draining: Draining<E>,
+    current: Buckets<E, H>,
 }
 
 /// The old array, and which buckets of the present one wait for its entries: so many, none of them before `next`. It
@@ -58,10 +41,10 @@ where
 struct Draining<E> {
     array: Array<E>,
     waiting: Vec<bool>,
-    pending: usize,
     next: usize,
     left: usize,
     left_overflow: usize,
+    pending: usize,
 }
 
 impl<E: Keyed, H: BuildHasher> Model for Table<E, H>

@@ -1,7 +1,7 @@
 -- Lists that agree one for one are equally long.
 use Rattle.std.proofs.Common.{◌≡◌, suc, List, [], ◌∷◌, length, Bool, refl, ap}
 use Rattle.std.specs.Prelude.{Result, Ok, Err, IfOk}
-use Rattle.scc_history.specs.declared.receipts.Receipt.{Receipt}
+use Rattle.scc_history.specs.declared.log.Receipt.{Receipt}
 use Rattle.scc_history.specs.Receipts.{Matches}
 
 pub as_many : {A R : Type 0} (calls : A → A → Bool) (replies : R → R → Bool) (xs ys : List (Receipt A R)) → Matches calls replies xs ys → length xs ≡ length ys

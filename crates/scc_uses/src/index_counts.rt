@@ -8,7 +8,7 @@ ghost use Rattle.scc_uses.specs.Counts.{one_more};
 
 use scc_common::InsertError;
 use scc_index::Owned;
-use scc_index::owned::Entry;
+use scc_index::borrowed::Entry;
 
 /// Counts a word once more: a new version has the new count, and who kept the old one keeps its count. A count stays at
 /// the greatest number once it is there. Refused for want of memory, the word comes back with the count that it would

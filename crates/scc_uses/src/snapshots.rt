@@ -5,7 +5,7 @@ ghost use Rattle.scc_uses.specs.Sums.{sum_from};
 
 use scc_common::MakeError;
 use scc_index::Owned;
-use scc_index::owned::Iter;
+use scc_index::Iter;
 
 /// The sum of the values of a snapshot, modulo 2^64. It is that of the pairs when the snapshot was taken, since their
 /// versions never change.

@@ -1,13 +1,13 @@
 //! How an entry is made of what holds a cache, the same under each. The pair of the key becomes the most recent of its
 //! bucket first.
-ghost use Rattle.std.specs.Prelude.{◌≡◌, IfSome, IfNone};
-ghost use Rattle.scc_contents.specs.Contents.{hash_in};
 ghost use Rattle.scc_cache.specs.CacheSteps.{IsAbsent};
 ghost use Rattle.scc_cache.specs.Caches.{IsCacheState};
 ghost use Rattle.scc_cache.specs.Entries.{entry_guard, held_cache, IsEntryOf, IsRefreshed, replaced_guard, Replaces};
+ghost use Rattle.scc_contents.specs.Contents.{hash_in};
+ghost use Rattle.std.specs.Prelude.{◌≡◌, IfSome, IfNone};
 
-use super::{HeldEntry, HeldPlace, HeldReplace, HeldVacant};
-use crate::owned::Owned;
+use crate::Owned;
+use crate::held::{HeldEntry, HeldPlace, HeldReplace, HeldVacant};
 use scc_common::Guard;
 use scc_contents::Hashes;
 use std::hash::{BuildHasher, Hash};

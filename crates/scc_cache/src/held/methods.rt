@@ -1,10 +1,10 @@
 //! What an entry does while it keeps its guard, the same under each.
-ghost use Rattle.std.specs.Prelude.{◌≡◌};
-ghost use Rattle.std.specs.Borrow.{sem};
 ghost use Rattle.scc_cache.specs.Entries.{occupied_pair, occupied_lends, entry_key, IsWritten, with_value, TakesEntry, Modifies};
+ghost use Rattle.std.specs.Borrow.{sem};
+ghost use Rattle.std.specs.Prelude.{◌≡◌};
 
-use super::{HeldEntry, HeldPlace, HeldVacant};
-use crate::owned::Owned;
+use crate::Owned;
+use crate::held::{HeldEntry, HeldPlace, HeldVacant};
 use scc_common::Guard;
 use std::hash::{BuildHasher, Hash};
 

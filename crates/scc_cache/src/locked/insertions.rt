@@ -1,12 +1,11 @@
 //! The insertions of an entry of a locked stripe.
-ghost use Rattle.std.specs.Prelude.{IfOk, IfErr};
-ghost use Rattle.std.specs.Fn.{FnOnceTakesAt, FnOnceReturnsAt};
 ghost use Rattle.scc_cache.specs.Entries.{entry_key, IsVacant, OrPuts, OrPutsSome, Refuses, RefusesSome, SetsEntry};
+ghost use Rattle.std.specs.Fn.{FnOnceTakesAt, FnOnceReturnsAt};
+ghost use Rattle.std.specs.Prelude.{IfOk, IfErr};
 
-use super::OccupiedEntry;
-use crate::EvictedEntry;
 use crate::held::HeldPlace;
-use crate::owned::Owned;
+use crate::locked::OccupiedEntry;
+use crate::{EvictedEntry, Owned};
 use scc_common::{InsertError, Shared};
 use std::hash::{BuildHasher, Hash};
 use std::sync::RwLockWriteGuard;

@@ -1,13 +1,12 @@
 //! What lets a locked stripe go, and what puts a pair into it.
+ghost use Rattle.scc_cache.specs.Entries.{Memory, occupied_pair, IsPut};
+ghost use Rattle.scc_contents.specs.Contents.{bucket_count};
 ghost use Rattle.std.specs.Prelude.{◌≡◌, IfOk, IfErr};
 ghost use Rattle.std.specs.Sync.RwLock.{write_guard_value};
-ghost use Rattle.scc_contents.specs.Contents.{bucket_count};
-ghost use Rattle.scc_cache.specs.Entries.{Memory, occupied_pair, IsPut};
 
-use super::OccupiedEntry;
-use crate::EvictedEntry;
 use crate::held::{HeldEntry, HeldVacant};
-use crate::owned::Owned;
+use crate::locked::OccupiedEntry;
+use crate::{EvictedEntry, Owned};
 use scc_common::{InsertError, Shared};
 use std::hash::{BuildHasher, Hash};
 use std::marker::PhantomData;

@@ -1,11 +1,11 @@
 //! What an entry does while it keeps its guard, the same under each.
-ghost use Rattle.std.specs.Prelude.{◌≡◌, IfOk, IfErr, OnOk};
 ghost use Rattle.scc_contents.specs.Contents.{waiting_of};
 ghost use Rattle.scc_contents.specs.Pairs.{IsUnique};
 ghost use Rattle.scc_index.specs.Entries.{held_index, occupied_pair, entry_guard, entry_key, IsUpdated, TakesEntry, Modifies, RefusesModify};
+ghost use Rattle.std.specs.Prelude.{◌≡◌, IfOk, IfErr, OnOk};
 
-use super::{HeldEntry, HeldPlace, HeldVacant};
-use crate::owned::Owned;
+use crate::Owned;
+use crate::held::{HeldEntry, HeldPlace, HeldVacant};
 use scc_common::Guard;
 use std::hash::{BuildHasher, Hash};
 

@@ -1,10 +1,10 @@
 //! The insertions of an entry of a locked stripe.
-ghost use Rattle.std.specs.Fn.{FnOnceReturnsAt, FnOnceTakesAt};
 ghost use Rattle.scc_index.specs.Entries.{entry_key, InsertsThrough, IsVacant, OrInserts, OrInsertsSome, Refuses, RefusesSome};
+ghost use Rattle.std.specs.Fn.{FnOnceReturnsAt, FnOnceTakesAt};
 
-use super::OccupiedEntry;
+use crate::Owned;
 use crate::held::HeldPlace;
-use crate::owned::Owned;
+use crate::locked::OccupiedEntry;
 use scc_common::{InsertError, Shared};
 use scc_contents::Hashes;
 use scc_stripes::Seat;

@@ -1,15 +1,15 @@
 //! How an entry is made of what holds a map, the same under each.
-ghost use Rattle.std.specs.Prelude.{◌≡◌, [], None, false, IfOk, IfErr, IfSome, IfNone};
 ghost use Rattle.scc_contents.specs.Contents.{entries, refused_of, waiting_of};
+ghost use Rattle.scc_contents.specs.PairWalks.{Declines, PassesAt};
 ghost use Rattle.scc_contents.specs.Pairs.{find, IsUnique};
+ghost use Rattle.scc_contents.specs.Walks.{CalledOn, CallableWhile};
 ghost use Rattle.scc_map.specs.Entries.{entry_guard, occupied_pair, occupied_front, IsOccupiedAt, IsEntryOf, replaced_guard, Replaces};
 ghost use Rattle.scc_map.specs.EntrySteps.{StandsIn};
 ghost use Rattle.scc_map.specs.Seats.{entry_rest, held_rest, replaced_rest};
-ghost use Rattle.scc_contents.specs.Walks.{CalledOn, CallableWhile};
-ghost use Rattle.scc_contents.specs.PairWalks.{Declines, PassesAt};
+ghost use Rattle.std.specs.Prelude.{◌≡◌, [], None, false, IfOk, IfErr, IfSome, IfNone};
 
-use super::{HeldEntry, HeldPlace, HeldReplace, HeldVacant};
-use crate::owned::Owned;
+use crate::Owned;
+use crate::held::{HeldEntry, HeldPlace, HeldReplace, HeldVacant};
 use scc_common::Guard;
 use std::hash::{BuildHasher, Hash};
 use std::marker::PhantomData;
@@ -88,9 +88,7 @@ impl<G: Guard<Kept = Owned<K, V, H>>, N, K: Eq + Hash, V, H: BuildHasher> HeldEn
             None => Err(rest),
         }
     }
-}
 
-impl<G: Guard<Kept = Owned<K, V, H>>, N, K: Eq + Hash, V, H: BuildHasher> HeldEntry<G, N, K, V, H> {
     /// The first entry of the map that is held on whose pair `p` answers true; where there is none, the map is let go,
     /// and what is kept for going on comes back.
     pub fn passing<P: FnMut(&K, &V) -> bool>(guard: G, p: &mut P, rest: N) -> Result<Self, N>

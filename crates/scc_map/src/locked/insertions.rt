@@ -1,11 +1,11 @@
 //! The insertions of an entry of a locked stripe. All but `insert_entry` call `or_insert_with_key`.
-ghost use Rattle.std.specs.Prelude.{◌≡◌};
-ghost use Rattle.std.specs.Fn.{FnOnceTakesAt, FnOnceReturnsAt};
 ghost use Rattle.scc_map.specs.Entries.{entry_key, InsertsThrough, IsVacant, OrInserts, OrInsertsSome, Refuses, RefusesSome, SetsEntry};
+ghost use Rattle.std.specs.Fn.{FnOnceTakesAt, FnOnceReturnsAt};
+ghost use Rattle.std.specs.Prelude.{◌≡◌};
 
-use super::OccupiedEntry;
+use crate::Owned;
 use crate::held::HeldPlace;
-use crate::owned::Owned;
+use crate::locked::OccupiedEntry;
 use scc_common::{InsertError, Shared};
 use scc_contents::Hashes;
 use scc_stripes::Seat;

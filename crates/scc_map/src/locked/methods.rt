@@ -1,10 +1,10 @@
 //! What lets a locked stripe go, and what inserts into it.
-ghost use Rattle.std.specs.Prelude.{◌≡◌};
 ghost use Rattle.scc_map.specs.Entries.{occupied_pair, InsertsAtVacant};
+ghost use Rattle.std.specs.Prelude.{◌≡◌};
 
-use super::{OccupiedEntry, VacantEntry};
+use crate::Owned;
 use crate::held::{HeldEntry, HeldVacant};
-use crate::owned::Owned;
+use crate::locked::OccupiedEntry;
 use scc_common::{InsertError, Shared};
 use scc_contents::Hashes;
 use scc_stripes::Seat;

@@ -3,7 +3,7 @@
 use crate::answers::{Answer, Kind, Rule, raise_and_keep, refused, verdict};
 use crate::form::{Act, At, Form, Sizes, Way};
 use crate::numbered::{Numbered, Seen, note_pairs, raise_to_even, seen, seen_pair, value_of};
-use scc_cache::owned::{Entry, OccupiedEntry, ReplaceResult};
+use scc_cache::borrowed::{Entry, OccupiedEntry, ReplaceResult};
 use scc_cache::{EvictedEntry, Owned};
 use scc_common::InsertError;
 use std::alloc::Global;

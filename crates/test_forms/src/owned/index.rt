@@ -5,7 +5,7 @@ use crate::form::{Act, At, Form, Sizes, Way};
 use crate::numbered::{Numbered, Seen, keeps, seen, value_of};
 use scc_common::InsertError;
 use scc_index::Owned;
-use scc_index::owned::{Entry, OccupiedEntry};
+use scc_index::borrowed::{Entry, OccupiedEntry};
 use std::hash::{BuildHasher, Hash};
 
 // Adds the pair through its entry.

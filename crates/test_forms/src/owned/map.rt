@@ -7,7 +7,7 @@ use crate::numbered::{
 };
 use scc_common::InsertError;
 use scc_map::Owned;
-use scc_map::owned::{Entry, OccupiedEntry, ReplaceResult};
+use scc_map::borrowed::{Entry, OccupiedEntry, ReplaceResult};
 use std::alloc::Global;
 use std::hash::{BuildHasher, Hash};
 

@@ -4,7 +4,7 @@ use crate::answers::{Answer, Kind, Rule, key_verdict, refused_key};
 use crate::form::{Act, At, Form, Sizes, Way};
 use crate::numbered::{Numbered, Seen, keeps, note_keys, seen_key};
 use scc_set::Owned;
-use scc_set::owned::OccupiedEntry;
+use scc_set::entry::OccupiedEntry;
 use std::alloc::Global;
 use std::hash::{BuildHasher, Hash};
 

@@ -1,0 +1,50 @@
+//! Searches that lend the entry itself.
+ghost use Rattle.scc_array.specs.Hints.{IsPassing};
+ghost use Rattle.scc_array.specs.Windows.{window_of, IsTagged};
+ghost use Rattle.std.specs.List.{find, position};
+ghost use Rattle.std.specs.Option.{option_copied};
+ghost use Rattle.std.specs.Prelude.{◌≡◌, ◌<◌, length, MatchOption, None};
+
+use crate::columns::Columns;
+use crate::tags::{lowest_bit, without_lowest_bit};
+use scc_entry::Keyed;
+
+impl<E: Keyed> Columns<E>
+where
+    E::Key: Eq,
+{
+    /// The first entry of the bucket with that key. Only places with the tag are compared, in rising order.
+    #[inline(always)]
+    pub(crate) fn find_entry(&self, bucket: usize, key: &E::Key, tag: u8) -> Option<&E>
+        requires bucket { bucket < length self.now }
+        requires tag { 0 < tag }
+        requires tagged { IsTagged (λ e. E.Key.eq key.now (E.key_of e)) tag (window_of self.now bucket) }
+        ensures { option_copied result ≡ find (λ e. E.Key.eq key.now (E.key_of e)) (window_of self.now bucket).slots }
+    {
+        match self.find(bucket, key, tag) {
+            Some(place) => Some(self.entry_at(bucket, place)),
+            None => None,
+        }
+    }
+
+    /// An entry of the bucket with that key. Where the answer is None and the tag is the key's, there is none.
+    #[inline(always)]
+    pub(crate) fn find_hinted(&self, bucket: usize, key: &E::Key, tag: u8) -> Option<&E>
+        requires bucket { bucket < length self.now }
+        requires tag { 0 < tag }
+        ensures { MatchOption result (IsTagged (λ e. E.Key.eq key.now (E.key_of e)) tag (window_of self.now bucket)
+            → position (λ e. E.Key.eq key.now (E.key_of e)) (window_of self.now bucket).slots ≡ None)
+            (λ b. IsPassing (λ e. E.Key.eq key.now (E.key_of e)) (window_of self.now bucket).slots b.now) }
+    {
+        let mut bits = self.hits(bucket, tag);
+        'hits: while bits != 0 {
+            let place = lowest_bit(bits);
+            let entry = self.entry_at(bucket, place);
+            if *key == *entry.key() {
+                return Some(entry);
+            }
+            bits = without_lowest_bit(bits);
+        }
+        None
+    }
+}

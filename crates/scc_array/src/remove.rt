@@ -1,0 +1,89 @@
+//! How entries get out of an array, and how it ends without one.
+ghost use Rattle.scc_array.specs.Shelf.{shelf_entries, without_place, swapped_out, HasTag};
+ghost use Rattle.scc_array.specs.Shelves.{shelf_of};
+ghost use Rattle.scc_array.specs.Takes.{TakesInPlaces, TakesPastPlaces};
+ghost use Rattle.std.specs.List.{position};
+ghost use Rattle.std.specs.Prelude.{◌≡◌, [], ◌<◌, length, slice_set, slice_get, Some, None, ℕ};
+
+use crate::Array;
+pub use crate::columns::Columns;
+use crate::lists::destroy_lists;
+use scc_entry::Keyed;
+
+impl<E> Array<E> {
+    /// Takes an entry out. The entries after it in the places, or in the list past them, move up by one.
+    #[inline(always)]
+    pub fn remove_at(&mut self, bucket: usize, place: usize) -> E
+        requires bucket { bucket < length self.old }
+        requires place { place < length (shelf_entries (shelf_of self.old bucket)) }
+        ensures entry { slice_get (shelf_entries (shelf_of self.old bucket)) place ≡ Some result }
+        ensures others { self.new ≡ slice_set self.old bucket (without_place (shelf_of self.old bucket) place) }
+    {
+        let count = self.count_past(bucket, place);
+        if place < count {
+            return self.columns.remove(bucket, place);
+        }
+        let list = &mut self.overflow[bucket];
+        list.remove(place - count)
+    }
+
+    /// Takes an entry out. The last entry of the places, or of the list past them, takes its place.
+    #[inline(always)]
+    pub fn swap_remove_at(&mut self, bucket: usize, place: usize) -> E
+        requires bucket { bucket < length self.old }
+        requires place { place < length (shelf_entries (shelf_of self.old bucket)) }
+        ensures entry { slice_get (shelf_entries (shelf_of self.old bucket)) place ≡ Some result }
+        ensures others { self.new ≡ slice_set self.old bucket (swapped_out (shelf_of self.old bucket) place result) }
+    {
+        let count = self.count_past(bucket, place);
+        if place < count {
+            return self.columns.swap_remove(bucket, place);
+        }
+        let list = &mut self.overflow[bucket];
+        list.swap_remove(place - count)
+    }
+
+    /// Gives the array back, which holds no entry.
+    pub fn destroy_empty(self)
+        requires { (i : ℕ) → i < length self → shelf_entries (shelf_of self i) ≡ [] }
+    {
+        let Array {
+            columns,
+            overflow,
+            crowded: _,
+            alloc: _,
+        } = self;
+        columns.destroy_empty();
+        destroy_lists(overflow);
+    }
+}
+
+impl<E: Keyed> Array<E>
+where
+    E::Key: Eq,
+{
+    /// Takes out the first entry with that key among those in the places of the bucket, and answers it; the last of
+    /// them takes its place. Only places with the tag are compared, in rising order.
+    #[inline(always)]
+    pub fn take_in_places(&mut self, bucket: usize, key: &E::Key, tag: u8) -> Option<E>
+        requires bucket { bucket < length self.old }
+        requires tag { 0 < tag }
+        requires tagged { HasTag (λ e. E.Key.eq key.now (E.key_of e)) tag (shelf_of self.old bucket) }
+        ensures { TakesInPlaces (λ e. E.Key.eq key.now (E.key_of e)) self.old bucket self.new result }
+    {
+        self.columns.take_first(bucket, key, tag)
+    }
+
+    /// The same past the places, where none of them has the key.
+    #[cold]
+    pub fn take_past_places(&mut self, bucket: usize, key: &E::Key) -> Option<E>
+        requires bucket { bucket < length self.old }
+        requires missed { position (λ e. E.Key.eq key.now (E.key_of e)) (shelf_of self.old bucket).slots ≡ None }
+        ensures { TakesPastPlaces (λ e. E.Key.eq key.now (E.key_of e)) self.old bucket self.new result }
+    {
+        match self.search_list(bucket, key) {
+            Some(place) => Some(self.swap_remove_at(bucket, place)),
+            None => None,
+        }
+    }
+}

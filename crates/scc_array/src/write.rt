@@ -1,0 +1,153 @@
+//! Writes into the entries of an array.
+ghost use Rattle.scc_array.specs.LendsArray.{lends_array_value};
+ghost use Rattle.scc_array.specs.Shelf.{shelf_entries, HasTag};
+ghost use Rattle.scc_array.specs.ShelfWrites.{shelf_write_at, put_whole};
+ghost use Rattle.scc_array.specs.Shelves.{shelf_of};
+ghost use Rattle.scc_array.specs.Updates.{UpdatesShelf};
+ghost use Rattle.std.specs.Borrow.{Bor, MutBor, sem};
+ghost use Rattle.std.specs.List.{find, position};
+ghost use Rattle.std.specs.Prelude.{◌≡◌, ◌<◌, length, slice_get, None, Some, slice_set};
+
+use crate::Array;
+use scc_entry::Valued;
+use std::mem;
+
+impl<E: Valued> Array<E>
+where
+    E::Key: Eq,
+{
+    /// Lends the key of the first entry of the bucket with that key to `u`, and its value to write, and answers what
+    /// `u` answered; None where there is no such entry. Only places with the tag are compared, in rising order, and
+    /// then the entries past them. An entry that was found isn't looked for again.
+    #[inline(always)]
+    pub fn update<R, U: FnOnce(&E::Key, &mut E::Value) -> R>(
+        &mut self,
+        bucket: usize,
+        key: &E::Key,
+        tag: u8,
+        u: U,
+    ) -> Option<R>
+        requires bucket { bucket < length self.old }
+        requires tag { 0 < tag }
+        requires tagged { HasTag (λ e. E.Key.eq key.now (E.Keyed.key_of e)) tag (shelf_of self.old bucket) }
+        requires takes { (e : E) (a : Bor E.Key) (b : MutBor E.Value)
+            → find (λ e. E.Key.eq key.now (E.Keyed.key_of e)) (shelf_entries (shelf_of self.old bucket)) ≡ Some e
+            → a.now ≡ E.Keyed.key_of e → b.now ≡ E.value_of e → U.pre u a b }
+        ensures { UpdatesShelf U.FnOnce u E.Keyed.key_of E.value_of E.with_value
+            (λ e. E.Key.eq key.now (E.Keyed.key_of e)) self.old bucket self.new result }
+    {
+        match self.columns.find(bucket, key, tag) {
+            Some(place) => {
+                let (own, value) = self.parts_mut_in(bucket, place);
+                Some(u(own, value))
+            }
+            None => {
+                if !self.is_crowded(bucket) {
+                    return None;
+                }
+                self.update_list(bucket, key, u)
+            }
+        }
+    }
+
+    /// The same past the places, where none of them has the key.
+    #[cold]
+    fn update_list<R, U: FnOnce(&E::Key, &mut E::Value) -> R>(
+        &mut self,
+        bucket: usize,
+        key: &E::Key,
+        u: U,
+    ) -> Option<R>
+        requires bucket { bucket < length self.old }
+        requires missed { position (λ e. E.Key.eq key.now (E.Keyed.key_of e)) (shelf_of self.old bucket).slots ≡ None }
+        requires takes { (e : E) (a : Bor E.Key) (b : MutBor E.Value)
+            → find (λ e. E.Key.eq key.now (E.Keyed.key_of e)) (shelf_entries (shelf_of self.old bucket)) ≡ Some e
+            → a.now ≡ E.Keyed.key_of e → b.now ≡ E.value_of e → U.pre u a b }
+        ensures { UpdatesShelf U.FnOnce u E.Keyed.key_of E.value_of E.with_value
+            (λ e. E.Key.eq key.now (E.Keyed.key_of e)) self.old bucket self.new result }
+    {
+        match self.search_list(bucket, key) {
+            Some(place) => {
+                let (own, value) = self.parts_mut_at(bucket, place);
+                Some(u(own, value))
+            }
+            None => None,
+        }
+    }
+}
+
+impl<E: Valued> Array<E> {
+    /// The key of the entry in a place in use, and its value to write.
+    #[inline(always)]
+    fn parts_mut_in(&mut self, bucket: usize, place: usize) -> (&E::Key, &mut E::Value)
+        requires bucket { bucket < length self.old }
+        requires place { place < length (shelf_of self.old bucket).slots }
+        ensures* writes_back { sem 𝓛 (lends_array_value E.row E.Value.row E.with_value self.entry bucket place
+            result.1) }
+        ensures parts { (e : E) × (slice_get (shelf_entries (shelf_of self.old bucket)) place ≡ Some e)
+            × (result.0.now ≡ E.Keyed.key_of e) × (result.1.now ≡ E.value_of e) }
+    {
+        let entry = self.columns.entry_mut(bucket, place);
+        entry.parts_mut()
+    }
+
+    /// The key of the entry at the place, and its value to write.
+    #[inline(always)]
+    pub fn parts_mut_at(&mut self, bucket: usize, place: usize) -> (&E::Key, &mut E::Value)
+        requires bucket { bucket < length self.old }
+        requires place { place < length (shelf_entries (shelf_of self.old bucket)) }
+        ensures* writes_back { sem 𝓛 (lends_array_value E.row E.Value.row E.with_value self.entry bucket place
+            result.1) }
+        ensures parts { (e : E) × (slice_get (shelf_entries (shelf_of self.old bucket)) place ≡ Some e)
+            × (result.0.now ≡ E.Keyed.key_of e) × (result.1.now ≡ E.value_of e) }
+    {
+        let count = self.count_past(bucket, place);
+        if place < count {
+            let entry = self.columns.entry_mut(bucket, place);
+            entry.parts_mut()
+        } else {
+            let list = &mut self.overflow[bucket];
+            let entry = &mut list[place - count];
+            entry.parts_mut()
+        }
+    }
+
+    /// Puts the key in the place of the one of the entry there, and answers that one.
+    pub fn replace_key_at(&mut self, bucket: usize, place: usize, key: E::Key) -> E::Key
+        requires bucket { bucket < length self.old }
+        requires place { place < length (shelf_entries (shelf_of self.old bucket)) }
+        ensures old { (e : E) × (slice_get (shelf_entries (shelf_of self.old bucket)) place ≡ Some e)
+            × (result ≡ E.Keyed.key_of e) }
+        ensures new { self.new ≡ slice_set self.old bucket
+            (shelf_write_at E.with_key (shelf_of self.old bucket) place key) }
+    {
+        let count = self.count_past(bucket, place);
+        if place < count {
+            let entry = self.columns.entry_mut(bucket, place);
+            return entry.replace_key(key);
+        }
+        let list = &mut self.overflow[bucket];
+        let entry = &mut list[place - count];
+        entry.replace_key(key)
+    }
+}
+
+impl<E> Array<E> {
+    /// Puts the entry in the place of the one there, and answers that one. The tag stays.
+    pub fn replace_at(&mut self, bucket: usize, place: usize, entry: E) -> E
+        requires bucket { bucket < length self.old }
+        requires place { place < length (shelf_entries (shelf_of self.old bucket)) }
+        ensures old { slice_get (shelf_entries (shelf_of self.old bucket)) place ≡ Some result }
+        ensures new { self.new ≡ slice_set self.old bucket
+            (shelf_write_at put_whole (shelf_of self.old bucket) place entry) }
+    {
+        let count = self.count_past(bucket, place);
+        if place < count {
+            let there = self.columns.entry_mut(bucket, place);
+            return mem::replace(there, entry);
+        }
+        let list = &mut self.overflow[bucket];
+        let there = &mut list[place - count];
+        mem::replace(there, entry)
+    }
+}

@@ -1,0 +1,121 @@
+//! How entries get into buckets, also those that are made when they are put in.
+ghost use Rattle.scc_buckets.specs.Insertions.{InsertsInBucket, InsertsMadeInBucket, InsertsMadeInFirstArray};
+ghost use Rattle.scc_contents.specs.Contents.{entries, bucket_count, settings_of, key_hash};
+ghost use Rattle.scc_contents.specs.Routing.{bucket_number};
+ghost use Rattle.std.specs.List.{position};
+ghost use Rattle.std.specs.Prelude.{◌≡◌, ◌≤◌, ◌<◌, ◌+◌, ◌-◌, ◌^◌, None, IsTrue};
+
+use crate::Buckets;
+use crate::place::{Place, tag};
+use scc_entry::{Keyed, Made};
+use std::hash::{BuildHasher, Hash};
+
+/// How many entries may lie in the overflow lists of all buckets: fewer than this.
+pub const OVERFLOW_LIMIT: usize = 1 << 62;
+
+/// 1 where it holds, else 0.
+#[inline(always)]
+pub(crate) fn one_if(holds: bool) -> usize
+    ensures yes { IsTrue holds → result ≡ 1 }
+    ensures no { (IsTrue holds → ⊥) → result ≡ 0 }
+{
+    if holds { 1 } else { 0 }
+}
+
+/// Whether so many entries in overflow lists are the most that there may be.
+#[inline(always)]
+pub(crate) fn is_overflow_full(overflowing: usize) -> bool
+    ensures full { IsTrue result → 2 ^ 62 - 1 ≤ overflowing }
+    ensures room { (IsTrue result → ⊥) → overflowing < 2 ^ 62 - 1 }
+{
+    overflowing >= OVERFLOW_LIMIT - 1
+}
+
+impl<E: Keyed, H: BuildHasher> Buckets<E, H>
+where
+    E::Key: Eq + Hash,
+{
+    /// Puts in an entry whose key is new, into that bucket, the one of the hash, and answers its place. The entry is
+    /// handed back where the bucket is full and the overflow list can't grow.
+    #[inline(always)]
+    pub fn insert_in(&mut self, bucket: usize, hash: u64, entry: E) -> Result<Place, E>
+        requires within { bucket < bucket_count self.old }
+        requires routed { bucket ≡ bucket_number (settings_of self.old).skipped (bucket_count self.old) hash }
+        requires hashed { hash ≡ key_hash H.BuildHasher H.Hasher.Hasher E.Key.hash_input self.old (E.key_of entry) }
+        requires absent { position (λ e. E.Key.eq (E.key_of entry) (E.key_of e)) (entries self.old) ≡ None }
+        ensures { InsertsInBucket E.Key.eq E.key_of (key_hash H.BuildHasher H.Hasher.Hasher E.Key.hash_input self.old)
+            self.old bucket entry result self.new }
+    {
+        if self.buckets.is_full(bucket) && is_overflow_full(self.overflowing) {
+            return Err(entry);
+        }
+        match self.buckets.insert(bucket, entry, tag(hash)) {
+            Ok(slot) => {
+                self.length += 1;
+                self.overflowing += one_if(slot >= 32);
+                Ok(Place { bucket, slot })
+            }
+            Err(back) => Err(back),
+        }
+    }
+}
+
+impl<E: Keyed + Made, H: BuildHasher> Buckets<E, H>
+where
+    E::Key: Eq + Hash,
+{
+    /// Puts in an entry of the parts, whose key is new, where there is no array, and answers its place. The array is
+    /// made, of the size of the minimum. The parts are handed back, and nothing changed, where memory for it is refused
+    /// and where the entry can't be made.
+    #[cold]
+    pub fn insert_made_first(&mut self, hash: u64, parts: E::Parts) -> Result<Place, E::Parts>
+        requires none { bucket_count self.old ≡ 0 }
+        requires hashed { hash ≡ key_hash H.BuildHasher H.Hasher.Hasher E.Key.hash_input self.old
+            (E.key_of (E.made_of parts)) }
+        requires absent { position (λ e. E.Key.eq (E.key_of (E.made_of parts)) (E.key_of e)) (entries self.old) ≡ None }
+        ensures { InsertsMadeInFirstArray E.Key.eq E.key_of self.old (E.made_of parts) parts result self.new }
+    {
+        match self.make_array() {
+            Ok(()) => {}
+            Err(_) => return Err(parts),
+        }
+        let bucket = self.bucket_at(hash);
+        match self.insert_made_in(bucket, hash, parts) {
+            Ok(place) => Ok(place),
+            Err(back) => {
+                self.drop_array();
+                Err(back)
+            }
+        }
+    }
+
+    /// Puts in an entry of the parts, whose key is new, into that bucket, the one of the hash, and answers its place.
+    /// The parts are handed back where the bucket is full and the overflow list can't grow, and where the entry can't
+    /// be made.
+    #[inline(always)]
+    pub fn insert_made_in(
+        &mut self,
+        bucket: usize,
+        hash: u64,
+        parts: E::Parts,
+    ) -> Result<Place, E::Parts>
+        requires within { bucket < bucket_count self.old }
+        requires routed { bucket ≡ bucket_number (settings_of self.old).skipped (bucket_count self.old) hash }
+        requires hashed { hash ≡ key_hash H.BuildHasher H.Hasher.Hasher E.Key.hash_input self.old
+            (E.key_of (E.made_of parts)) }
+        requires absent { position (λ e. E.Key.eq (E.key_of (E.made_of parts)) (E.key_of e)) (entries self.old) ≡ None }
+        ensures { InsertsMadeInBucket E.Key.eq E.key_of self.old bucket (E.made_of parts) parts result self.new }
+    {
+        if self.buckets.is_full(bucket) && is_overflow_full(self.overflowing) {
+            return Err(parts);
+        }
+        match self.buckets.insert_made(bucket, parts, tag(hash)) {
+            Ok(slot) => {
+                self.length += 1;
+                self.overflowing += one_if(slot >= 32);
+                Ok(Place { bucket, slot })
+            }
+            Err(back) => Err(back),
+        }
+    }
+}

@@ -1,0 +1,150 @@
+//! Searches that lend an entry or answer its slot, and reads.
+ghost use Rattle.scc_buckets.specs.Bounded.{IsBounded, IsListed, IsListedAtSpot, IsUnlisted};
+ghost use Rattle.scc_buckets.specs.Places.{IsSpot};
+ghost use Rattle.scc_contents.specs.Contents.{entries, key_hash, bucket_count, list_of, settings_of, IsUniqueBy, IsRouted};
+ghost use Rattle.scc_contents.specs.Routing.{bucket_number};
+ghost use Rattle.std.specs.List.{find, position};
+ghost use Rattle.std.specs.Option.{option_copied};
+ghost use Rattle.std.specs.Prelude.{◌≡◌, MatchOption, Some, None, ◌<◌, length, slice_get};
+
+use crate::Buckets;
+use crate::place::{Place, bucket_index, tag};
+use scc_entry::Keyed;
+use std::hash::{BuildHasher, Hash};
+
+impl<E: Keyed, H: BuildHasher> Buckets<E, H>
+where
+    E::Key: Eq + Hash,
+{
+    /// The entry with that key. `hash` is the key's hash.
+    #[inline(always)]
+    pub fn find(&self, hash: u64, key: &E::Key) -> Option<&E>
+        requires { hash ≡ key_hash H.BuildHasher H.Hasher.Hasher E.Key.hash_input self.now key.now }
+        ensures { option_copied result ≡ find (λ e. E.Key.eq key.now (E.key_of e)) (entries self.now) }
+    {
+        let count = self.buckets.len();
+        if count == 0 {
+            return None;
+        }
+        let bucket = bucket_index(hash, self.skipped, count);
+        self.buckets.find(bucket, key, tag(hash))
+    }
+
+    /// The entry with that key. Where `hint` is the key's hash and the entry is there, the key isn't hashed.
+    #[inline(always)]
+    pub fn find_by_hint(&self, hint: u64, key: &E::Key) -> Option<&E>
+        ensures { option_copied result ≡ find (λ e. E.Key.eq key.now (E.key_of e)) (entries self.now) }
+    {
+        match self.find_hinted(hint, key) {
+            Some(entry) => Some(entry),
+            None => {
+                let hash = self.hash(key);
+                if hash == hint {
+                    return None;
+                }
+                self.find_anew(hash, key)
+            }
+        }
+    }
+
+    /// The entry with that key, whose hash wasn't the hint.
+    #[cold]
+    fn find_anew(&self, hash: u64, key: &E::Key) -> Option<&E>
+        requires { hash ≡ key_hash H.BuildHasher H.Hasher.Hasher E.Key.hash_input self.now key.now }
+        ensures { option_copied result ≡ find (λ e. E.Key.eq key.now (E.key_of e)) (entries self.now) }
+    {
+        self.find(hash, key)
+    }
+
+    /// The entry with that key in the bucket of the hint. Where the answer is None and the hint is the key's hash, there
+    /// is none.
+    #[inline(always)]
+    fn find_hinted(&self, hint: u64, key: &E::Key) -> Option<&E>
+        ensures { MatchOption result (hint ≡ key_hash H.BuildHasher H.Hasher.Hasher E.Key.hash_input self.now key.now
+            → find (λ e. E.Key.eq key.now (E.key_of e)) (entries self.now) ≡ None)
+            (λ b. find (λ e. E.Key.eq key.now (E.key_of e)) (entries self.now) ≡ Some b.now) }
+    {
+        let count = self.buckets.len();
+        if count == 0 {
+            return None;
+        }
+        let bucket = bucket_index(hint, self.skipped, count);
+        match self.buckets.find_hinted(bucket, key, tag(hint)) {
+            Some(entry) => Some(entry),
+            None => None,
+        }
+    }
+
+    /// The place in the list of the bucket, the one of the hash, of the entry with that key.
+    #[inline(always)]
+    pub fn search_in(&self, bucket: usize, hash: u64, key: &E::Key) -> Option<usize>
+        requires within { bucket < bucket_count self.now }
+        requires routed { bucket ≡ bucket_number (settings_of self.now).skipped (bucket_count self.now) hash }
+        requires hashed { hash ≡ key_hash H.BuildHasher H.Hasher.Hasher E.Key.hash_input self.now key.now }
+        ensures place { result ≡ position (λ e. E.Key.eq key.now (E.key_of e)) (list_of self.now bucket) }
+        ensures missed { result ≡ None → position (λ e. E.Key.eq key.now (E.key_of e)) (entries self.now) ≡ None }
+    {
+        self.buckets.search(bucket, key, tag(hash))
+    }
+
+    /// Where the entry with that key stands in the list of its bucket. `hash` is the key's hash.
+    #[inline(always)]
+    pub fn search_place(&self, hash: u64, key: &E::Key) -> Option<Place>
+        requires { hash ≡ key_hash H.BuildHasher H.Hasher.Hasher E.Key.hash_input self.now key.now }
+        ensures { MatchOption result (IsUnlisted (λ e. E.Key.eq key.now (E.key_of e)) self.now
+            (bucket_number (settings_of self.now).skipped (bucket_count self.now) hash))
+            (IsListedAtSpot (λ e. E.Key.eq key.now (E.key_of e)) self.now
+            (bucket_number (settings_of self.now).skipped (bucket_count self.now) hash)) }
+    {
+        if self.bucket_count() == 0 {
+            return None;
+        }
+        let bucket = self.bucket_at(hash);
+        match self.search_in(bucket, hash, key) {
+            Some(slot) => Some(Place { bucket, slot }),
+            None => None,
+        }
+    }
+
+    /// What the buckets keep of their lists at any time. It does nothing, and is there for its contract.
+    #[inline(always)]
+    pub fn keep_lists(&self)
+        ensures routed { IsRouted (λ e. key_hash H.BuildHasher H.Hasher.Hasher E.Key.hash_input self.now (E.key_of e))
+            self.now }
+        ensures listed { IsBounded self.now → IsListed
+            (λ e. key_hash H.BuildHasher H.Hasher.Hasher E.Key.hash_input self.now (E.key_of e)) self.now }
+        ensures unique { IsUniqueBy E.Key.eq E.key_of self.now }
+    {
+        let _ = self.buckets.len();
+    }
+
+    /// The entry at the place, seen in the list of its bucket.
+    #[inline(always)]
+    pub fn entry_in(&self, place: Place) -> &E
+        requires { IsSpot self.now place }
+        ensures { slice_get (list_of self.now place.bucket) place.slot ≡ Some result.now }
+    {
+        self.buckets.entry_at(place.bucket, place.slot)
+    }
+
+    /// How many entries the bucket holds.
+    #[inline(always)]
+    pub fn list_len(&self, bucket: usize) -> usize
+        requires { bucket < bucket_count self.now }
+        ensures { result ≡ length (list_of self.now bucket) }
+    {
+        self.buckets.bucket_len(bucket)
+    }
+
+    /// The number of the bucket of a hash, 0 where there is no array.
+    #[inline(always)]
+    pub fn bucket_at(&self, hash: u64) -> usize
+        ensures value { result ≡ bucket_number (settings_of self.now).skipped (bucket_count self.now) hash }
+        ensures within { 0 < bucket_count self.now → result < bucket_count self.now }
+        ensures routed { IsRouted (λ e. key_hash H.BuildHasher H.Hasher.Hasher E.Key.hash_input self.now (E.key_of e))
+            self.now }
+        ensures unique { IsUniqueBy E.Key.eq E.key_of self.now }
+    {
+        bucket_index(hash, self.skipped, self.buckets.len())
+    }
+}

@@ -1,0 +1,139 @@
+//! How buckets and their array are made, and another array in the place of the present one.
+ghost use Rattle.scc_array.specs.Shelf.{shelf_entries};
+ghost use Rattle.scc_buckets.specs.Making.{AreNewBuckets, MakesBuckets, MakesFirstArray, ExchangesBuckets};
+ghost use Rattle.scc_buckets.specs.Tables.{AllEmpty, IsBuckets};
+ghost use Rattle.scc_contents.specs.Contents.{entries, bucket_count, settings_of, key_hash, refused_of};
+ghost use Rattle.std.specs.List.{flat_map, IsDistinct};
+ghost use Rattle.std.specs.Prelude.{◌≡◌, ◌<◌, ◌≤◌, ◌+◌, ◌*◌, ◌^◌, [], false, length, IfOk, map};
+
+use crate::Buckets;
+use crate::sizes::buckets_for;
+use scc_array::Array;
+use scc_common::MakeError;
+use scc_entry::Keyed;
+use std::alloc::{AllocError, Global};
+use std::hash::{BuildHasher, Hash};
+
+impl<E: Keyed, H: BuildHasher> Buckets<E, H>
+where
+    E::Key: Eq + Hash,
+{
+    /// What the buckets take their memory from.
+    pub fn allocator(&self) -> Global {
+        self.buckets.allocator()
+    }
+
+    /// No buckets and no array, to skip so many bits of each hash. No resize of it was refused, and nothing
+    /// waits.
+    pub fn new(alloc: Global, skipped: u32, hasher: H) -> Buckets<E, H>
+        requires { skipped ≤ 4 }
+        ensures { AreNewBuckets E.key_of (key_hash H.BuildHasher H.Hasher.Hasher E.Key.hash_input)
+            hasher skipped result }
+    {
+        Buckets {
+            buckets: Array::none(alloc),
+            length: 0,
+            overflowing: 0,
+            asked: 0,
+            reserved: 0,
+            skipped,
+            refused: false,
+            tried: false,
+            hasher,
+        }
+    }
+
+    /// Empty buckets, an array of the size of so many slots, which are then the slots asked for; without an array
+    /// for 0. A size that can't be had is refused.
+    pub fn with_capacity(
+        alloc: Global,
+        skipped: u32,
+        slots: usize,
+        hasher: H,
+    ) -> Result<Buckets<E, H>, MakeError>
+    where
+        H: Drop,
+        requires { skipped ≤ 4 }
+        ensures { MakesBuckets E.key_of (key_hash H.BuildHasher H.Hasher.Hasher E.Key.hash_input)
+            hasher skipped slots result }
+    {
+        if slots == 0 {
+            return Ok(Buckets::new(alloc, skipped, hasher));
+        }
+        let count = buckets_for(slots);
+        match fresh_buckets(alloc, count) {
+            Ok(buckets) => Ok(Buckets {
+                buckets,
+                length: 0,
+                overflowing: 0,
+                asked: 32 * count,
+                reserved: 0,
+                skipped,
+                refused: false,
+                tried: false,
+                hasher,
+            }),
+            Err(_) => Err(MakeError),
+        }
+    }
+
+    /// Makes the first array, of the size of the minimum.
+    pub fn make_array(&mut self) -> Result<(), AllocError>
+        requires { bucket_count self.old ≡ 0 }
+        ensures { MakesFirstArray (λ e. key_hash H.BuildHasher H.Hasher.Hasher E.Key.hash_input self.old (E.key_of e))
+            self.old result self.new }
+    {
+        let count = buckets_for(self.asked + self.reserved);
+        let alloc = self.buckets.allocator();
+        let buckets = fresh_buckets(alloc, count)?;
+        let old = std::mem::replace(&mut self.buckets, buckets);
+        old.destroy_empty();
+        Ok(())
+    }
+
+    /// Gives the array back, in which no entry lies.
+    pub(crate) fn drop_array(&mut self)
+        requires { entries self.old ≡ [] }
+        ensures still { entries self.new ≡ [] }
+        ensures buckets { bucket_count self.new ≡ 0 }
+        ensures settings { settings_of self.new ≡ settings_of self.old }
+        ensures noted { refused_of self.new ≡ refused_of self.old }
+    {
+        self.length = 0;
+        self.overflowing = 0;
+        let none = Array::none(self.buckets.allocator());
+        let old = std::mem::replace(&mut self.buckets, none);
+        old.destroy_empty();
+    }
+
+    /// Puts other buckets, with so many entries and so many of them in overflow lists, in the place of those here,
+    /// and answers those with their two numbers. Neither array is looked at.
+    pub fn exchange(
+        &mut self,
+        buckets: Array<E>,
+        count: usize,
+        overflowing: usize,
+    ) -> (Array<E>, usize, usize)
+        requires table { IsBuckets (λ e. key_hash H.BuildHasher H.Hasher.Hasher E.Key.hash_input self.old
+            (E.key_of e)) (settings_of self.old).skipped buckets count overflowing }
+        requires unique { IsDistinct E.Key.eq (map E.key_of (flat_map shelf_entries buckets)) }
+        ensures { ExchangesBuckets (λ e. key_hash H.BuildHasher H.Hasher.Hasher E.Key.hash_input self.old (E.key_of e))
+            self.old buckets overflowing result self.new }
+    {
+        let own_count = self.length;
+        let own_overflowing = self.overflowing;
+        self.length = count;
+        self.overflowing = overflowing;
+        let own = std::mem::replace(&mut self.buckets, buckets);
+        (own, own_count, own_overflowing)
+    }
+}
+
+/// So many empty buckets.
+pub(crate) fn fresh_buckets<E>(alloc: Global, count: usize) -> Result<Array<E>, AllocError>
+    requires { count ≤ 2 ^ 58 }
+    ensures count { IfOk result (λ a. length a ≡ count) }
+    ensures empty { IfOk result (λ a. AllEmpty a) }
+{
+    Array::with_buckets(alloc, count)
+}

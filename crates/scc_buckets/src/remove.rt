@@ -1,0 +1,78 @@
+//! How entries get out of buckets.
+ghost use Rattle.scc_buckets.specs.Places.{IsSpot};
+ghost use Rattle.scc_buckets.specs.Removals.{TakesAtSpot, SwapsOutAtSpot};
+ghost use Rattle.scc_buckets.specs.Takes.{TakesFirstSpot};
+ghost use Rattle.scc_contents.specs.Contents.{key_hash};
+ghost use Rattle.std.specs.Prelude.{◌≡◌, ◌<◌, ◌+◌, ◌-◌, None};
+
+use crate::Buckets;
+use crate::insert::one_if;
+use crate::place::{Place, bucket_index, tag};
+use scc_entry::Keyed;
+use scc_entry::keyed::Keyed;
+use std::hash::{BuildHasher, Hash};
+
+impl<E: Keyed, H: BuildHasher> Buckets<E, H>
+where
+    E::Key: Eq + Hash,
+{
+    /// Takes the entry out of its place: the others stay in their order, and the one after it has as many before it as
+    /// it had.
+    pub fn take_in(&mut self, place: Place) -> E
+        requires { IsSpot self.old place }
+        ensures { TakesAtSpot E.Key.eq E.key_of self.old place result self.new }
+    {
+        let in_overflow = self.buckets.is_overflow(place.bucket, place.slot);
+        let entry = self.buckets.remove_at(place.bucket, place.slot);
+        self.length -= 1;
+        self.overflowing -= one_if(in_overflow);
+        entry
+    }
+
+    /// Takes the entry out of its place. The last entry of its bucket's slots, or of its overflow list, may take its
+    /// place.
+    #[inline(always)]
+    pub fn swap_take_at(&mut self, place: Place) -> E
+        requires { IsSpot self.old place }
+        ensures { SwapsOutAtSpot E.Key.eq E.key_of self.old place result self.new }
+    {
+        let in_overflow = self.buckets.is_overflow(place.bucket, place.slot);
+        self.length -= 1;
+        let entry = self.buckets.swap_remove_at(place.bucket, place.slot);
+        self.overflowing -= one_if(in_overflow);
+        entry
+    }
+
+    /// Takes out the entry with that key, and answers it; None where there is no such entry. The last entry of its
+    /// bucket's slots, or of its overflow list, may take its place. `hash` is the key's hash.
+    #[inline(always)]
+    pub fn take_first(&mut self, hash: u64, key: &E::Key) -> Option<E>
+        requires { hash ≡ key_hash H.BuildHasher H.Hasher.Hasher E.Key.hash_input self.old key.now }
+        ensures { TakesFirstSpot (λ e. E.Key.eq key.now (E.key_of e)) self.old self.new result }
+    {
+        let count = self.buckets.len();
+        if count == 0 {
+            return None;
+        }
+        let bucket = bucket_index(hash, self.skipped, count);
+        match self.buckets.take_in_places(bucket, key, tag(hash)) {
+            Some(entry) => {
+                self.length -= 1;
+                Some(entry)
+            }
+            None => {
+                if !self.buckets.is_crowded(bucket) {
+                    return None;
+                }
+                match self.buckets.take_past_places(bucket, key) {
+                    Some(entry) => {
+                        self.length -= 1;
+                        self.overflowing -= 1;
+                        Some(entry)
+                    }
+                    None => None,
+                }
+            }
+        }
+    }
+}

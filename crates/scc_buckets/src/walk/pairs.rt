@@ -1,0 +1,73 @@
+//! Walks over pairs, which lend a key and a value to a closure.
+ghost use Rattle.scc_array.specs.Shelf.{shelf_entries};
+ghost use Rattle.scc_array.specs.Shelves.{shelf_of};
+ghost use Rattle.scc_contents.specs.Contents.{entries};
+ghost use Rattle.scc_contents.specs.Walks.{CalledOn, CallableWhile, Walks};
+ghost use Rattle.std.specs.Prelude.{◌≡◌, ◌<◌, ◌^◌, drop, length, true};
+
+use crate::Buckets;
+use scc_array::Array;
+use std::hash::{BuildHasher, Hash};
+
+/// Calls `f` on the pairs of a bucket past its places in turn, until its first false. The answer is false where it
+/// stopped.
+#[inline(always)]
+fn walk_list<K, V, F: FnMut(&K, &V) -> bool>(
+    array: &Array<(K, V)>,
+    bucket: usize,
+    slots: usize,
+    f: &mut F,
+) -> bool
+    requires within { bucket < length array.now }
+    requires slots { slots ≡ length (shelf_of array.now bucket).slots }
+    requires few { length (shelf_entries (shelf_of array.now bucket)) < 2 ^ 63 }
+    requires callable { CallableWhile F.FnMut true f.old (drop slots (shelf_entries (shelf_of array.now bucket))) }
+    ensures { Walks (CalledOn F.FnMut) f.old (drop slots (shelf_entries (shelf_of array.now bucket))) result f.new }
+{
+    for place in slots..slots + array.overflow_len(bucket) {
+        let pair = array.entry_of(bucket, place, slots);
+        if !f(&pair.0, &pair.1) {
+            return false;
+        }
+    }
+    true
+}
+
+/// Calls `f` on a bucket's pairs in turn, until its first false. The answer is false where it stopped. The pairs in
+/// places have a loop of their own, which asks for no list.
+#[inline(always)]
+fn walk_bucket<K, V, F: FnMut(&K, &V) -> bool>(
+    array: &Array<(K, V)>,
+    bucket: usize,
+    f: &mut F,
+) -> bool
+    requires within { bucket < length array.now }
+    requires few { length (shelf_entries (shelf_of array.now bucket)) < 2 ^ 63 }
+    requires callable { CallableWhile F.FnMut true f.old (shelf_entries (shelf_of array.now bucket)) }
+    ensures { Walks (CalledOn F.FnMut) f.old (shelf_entries (shelf_of array.now bucket)) result f.new }
+{
+    let slots = array.slot_count(bucket);
+    for place in 0..slots {
+        let pair = array.entry_of(bucket, place, slots);
+        if !f(&pair.0, &pair.1) {
+            return false;
+        }
+    }
+    walk_list(array, bucket, slots, f)
+}
+
+impl<K: Eq + Hash, V, H: BuildHasher> Buckets<(K, V), H> {
+    /// Calls `f` on all pairs in the order of the buckets, until its first false.
+    pub fn walk<F: FnMut(&K, &V) -> bool>(&self, mut f: F) -> bool
+        requires { CallableWhile F.FnMut true f (entries self.now) }
+        ensures { (last : F) × Walks (CalledOn F.FnMut) f (entries self.now) result last }
+    {
+        let array = self.array();
+        for bucket in 0..array.len() {
+            if !walk_bucket(array, bucket, &mut f) {
+                return false;
+            }
+        }
+        true
+    }
+}

@@ -1,0 +1,84 @@
+//! Writes into the entries of buckets. No write changes a place, and none takes memory.
+ghost use Rattle.scc_array.specs.ShelfWrites.{put_whole};
+ghost use Rattle.scc_buckets.specs.LendsBuckets.{lends_value};
+ghost use Rattle.scc_buckets.specs.Places.{IsSpot, index_of_spot};
+ghost use Rattle.scc_buckets.specs.Updates.{UpdatesFirstSpot};
+ghost use Rattle.scc_buckets.specs.Writes.{with_write_at_spot};
+ghost use Rattle.scc_contents.specs.Contents.{entries, key_hash};
+ghost use Rattle.std.specs.Borrow.{Bor, MutBor, sem};
+ghost use Rattle.std.specs.List.{find};
+ghost use Rattle.std.specs.Prelude.{◌≡◌, ◌<◌, Some, None, true, slice_get};
+
+use crate::Buckets;
+use crate::place::{Place, bucket_index, tag};
+use scc_entry::{Keyed, Valued};
+use std::hash::{BuildHasher, Hash};
+
+impl<E: Keyed, H: BuildHasher> Buckets<E, H>
+where
+    E::Key: Eq + Hash,
+{
+    /// Puts the entry in the place of the one there, whose key it equals, and answers that one.
+    pub fn replace_at(&mut self, place: Place, entry: E) -> E
+        requires within { IsSpot self.old place }
+        requires same { (e : E) → slice_get (entries self.old) (index_of_spot self.old place) ≡ Some e
+            → E.Key.eq (E.key_of entry) (E.key_of e) ≡ true }
+        ensures old { slice_get (entries self.old) (index_of_spot self.old place) ≡ Some result }
+        ensures new { self.new ≡ with_write_at_spot put_whole self.old place entry }
+    {
+        self.buckets.replace_at(place.bucket, place.slot, entry)
+    }
+}
+
+impl<E: Valued, H: BuildHasher> Buckets<E, H>
+where
+    E::Key: Eq + Hash,
+{
+    /// Lends the key of the entry with that key to `u`, and its value to write, and answers what `u` answered; None
+    /// where there is no such entry. `hash` is the key's hash.
+    #[inline(always)]
+    pub fn update<R, U: FnOnce(&E::Key, &mut E::Value) -> R>(
+        &mut self,
+        hash: u64,
+        key: &E::Key,
+        u: U,
+    ) -> Option<R>
+        requires hashed { hash ≡ key_hash H.BuildHasher H.Hasher.Hasher E.Key.hash_input self.old key.now }
+        requires takes { (e : E) (a : Bor E.Key) (b : MutBor E.Value)
+            → find (λ e. E.Key.eq key.now (E.Keyed.key_of e)) (entries self.old) ≡ Some e → a.now ≡ E.Keyed.key_of e
+            → b.now ≡ E.value_of e → U.pre u a b }
+        ensures { UpdatesFirstSpot U.FnOnce u E.Keyed.key_of E.value_of E.with_value
+            (λ e. E.Key.eq key.now (E.Keyed.key_of e)) self.old self.new result }
+    {
+        let count = self.buckets.len();
+        if count == 0 {
+            return None;
+        }
+        let bucket = bucket_index(hash, self.skipped, count);
+        self.buckets.update(bucket, key, tag(hash), u)
+    }
+
+    /// The key of the entry at the place, and its value to write.
+    #[inline(always)]
+    pub fn parts_mut_at(&mut self, place: Place) -> (&E::Key, &mut E::Value)
+        requires { IsSpot self.old place }
+        ensures* writes_back { sem 𝓛 (lends_value E.row H.row E.Key.row H.Hasher.row E.Value.row E.Keyed E.Key.Hash
+            H.BuildHasher H.Hasher.Hasher E.with_value self.entry place result.1) }
+        ensures parts { (e : E) × (slice_get (entries self.old) (index_of_spot self.old place) ≡ Some e)
+            × (result.0.now ≡ E.Keyed.key_of e) × (result.1.now ≡ E.value_of e) }
+    {
+        self.buckets.parts_mut_at(place.bucket, place.slot)
+    }
+
+    /// Puts the key in the place of the one there, which it equals, and answers that one.
+    pub fn replace_key_at(&mut self, place: Place, key: E::Key) -> E::Key
+        requires within { IsSpot self.old place }
+        requires same { (e : E) → slice_get (entries self.old) (index_of_spot self.old place) ≡ Some e
+            → E.Key.eq key (E.Keyed.key_of e) ≡ true }
+        ensures old { (e : E) × (slice_get (entries self.old) (index_of_spot self.old place) ≡ Some e)
+            × (result ≡ E.Keyed.key_of e) }
+        ensures new { self.new ≡ with_write_at_spot E.with_key self.old place key }
+    {
+        self.buckets.replace_key_at(place.bucket, place.slot, key)
+    }
+}

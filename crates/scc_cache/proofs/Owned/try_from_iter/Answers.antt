@@ -1,0 +1,30 @@
+use Rattle.std.proofs.Common.{◌≡◌, length, ap, ◌∙◌}
+use Rattle.scc_contents.specs.Contents.{key_hash}
+use Rattle.scc_cache.proofs.Collecting.{collected-maximum, collected-settings}
+use Rattle.scc_cache.proofs.Owned.try_from_iter.Goals as goal
+
+pub returns-clause-items : goal.returns-clause-items
+returns-clause-items g c =
+    let ran = c.in-Ok.ensures.ran in
+    let count : c.len-count.result ≡ length ran.1 = c.len-count.ensures ∙ ran.4.1 in
+    let last = ran.3.2 tt in
+    let hash = key_hash g.H.BuildHasher g.H.Hasher.Hasher g.K.Hash.hash_input in
+    let made = c.in_ok-made.made in (
+      ran.0,
+      ran.1,
+      ran.2,
+      (last.0, (ran.3.0, ran.3.1, last.1)),
+      record {
+        made = made;
+        empty = c.in_ok-made.ensures.entries;
+        none = λ z. c.in_ok-made.ensures.none (count ∙ z);
+        size = λ l. rw (← count) (c.in_ok-made.ensures.size (rw count l));
+        maximum = rw (← count) c.in_ok-made.ensures.maximum;
+        asked = ap (λ s. s.asked) c.in_ok-made.ensures.settings;
+        reserved = ap (λ s. s.reserved) c.in_ok-made.ensures.settings;
+        skipped = ap (λ s. s.skipped) c.in_ok-made.ensures.settings;
+        settings = collected-settings g.K.PartialEq.eq hash made _ _ c.in_ok-put_all.ensures;
+        most = collected-maximum g.K.PartialEq.eq hash made _ _ c.in_ok-put_all.ensures;
+        run = rw (← ran.4.0) c.in_ok-put_all.ensures;
+      },
+    )

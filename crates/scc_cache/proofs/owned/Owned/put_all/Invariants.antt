@@ -1,6 +1,0 @@
-use Rattle.scc_contents.specs.Contents.{key_hash}
-use Rattle.scc_cache.specs.Collections.{PutsAll}
-use Rattle.scc_cache.proofs.owned.Owned.put_all.Given as goal
-
-abbrev pub invariant-loop-k : goal.invariant-loop-k
-invariant-loop-k g l = PutsAll g.K.PartialEq.eq (key_hash g.H.BuildHasher g.H.Hasher.Hasher g.K.Hash.hash_input) l.fn.self l.yielded l.self

@@ -1,0 +1,156 @@
+//! The insertions of an entry of a borrowed cache. Each goes on at the place that the search found.
+ghost use Rattle.scc_cache.specs.Entries.{entry_guard, entry_key, IsVacant, OrPuts, OrPutsSome, Refuses, RefusesSome, SetsEntry, rests_if_refused};
+ghost use Rattle.std.specs.Borrow.{sem};
+ghost use Rattle.std.specs.Fn.{FnOnceTakesAt, FnOnceReturnsAt};
+ghost use Rattle.std.specs.Prelude.{◌≡◌, None, Ok, IfOk, IfErr};
+
+use crate::borrowed::OccupiedEntry;
+use crate::held::{HeldEntry, HeldPlace};
+use crate::{EvictedEntry, Owned};
+use scc_common::InsertError;
+use std::hash::{BuildHasher, Hash};
+
+impl<'a, K: Eq + Hash, V, H: BuildHasher> HeldPlace<&'a mut Owned<K, V, H>, (), K, V, H> {
+    /// Puts in `default` where the entry is vacant, by the rules of `put_sync`, and answers the pair that it drove out
+    /// and the occupied entry. An occupied one stays as it is, and can't be refused.
+    pub fn or_put(
+        self,
+        default: V,
+    ) -> Result<(EvictedEntry<K, V>, OccupiedEntry<'a, K, V, H>), InsertError<K, V>>
+    where
+        V: Drop,
+        ensures entry { IfOk result (λ r. OrPuts K.eq self.entry default r.0 r.1) }
+        ensures refused { IfErr result (Refuses self.entry default) }
+        ensures* kept { sem 𝓛 (rests_if_refused K.row V.row H.row H.Hasher.row K.Hash H.BuildHasher H.Hasher.Hasher
+            (entry_guard self.entry) result) }
+    {
+        match self {
+            HeldPlace::Occupied(entry) => {
+                drop(default);
+                entry.as_it_is()
+            }
+            HeldPlace::Vacant(entry) => entry.put_entry(default),
+        }
+    }
+
+    /// Puts in the answer of `f` where the entry is vacant, as `or_put`. `f` isn't called on an occupied one.
+    pub fn or_put_with<F: FnOnce() -> V>(
+        self,
+        f: F,
+    ) -> Result<(EvictedEntry<K, V>, OccupiedEntry<'a, K, V, H>), InsertError<K, V>>
+        requires { IsVacant self → F.pre f }
+        ensures entry { IfOk result (λ r. OrPutsSome K.eq self.entry (λ k v. F.post f v) r.0 r.1) }
+        ensures refused { IfErr result (RefusesSome self.entry (λ k v. F.post f v)) }
+        ensures* kept { sem 𝓛 (rests_if_refused K.row V.row H.row H.Hasher.row K.Hash H.BuildHasher H.Hasher.Hasher
+            (entry_guard self.entry) result) }
+    {
+        match self {
+            HeldPlace::Occupied(entry) => entry.as_it_is(),
+            HeldPlace::Vacant(entry) => {
+                let value = f();
+                entry.put_entry(value)
+            }
+        }
+    }
+
+    /// Puts in the answer of `f` on the key where the entry is vacant, as `or_put`. `f` isn't called on an occupied
+    /// one.
+    pub fn or_put_with_key<F: FnOnce(&K) -> V>(
+        self,
+        f: F,
+    ) -> Result<(EvictedEntry<K, V>, OccupiedEntry<'a, K, V, H>), InsertError<K, V>>
+        requires { IsVacant self → FnOnceTakesAt F.FnOnce f (entry_key self) }
+        ensures entry { IfOk result (λ r. OrPutsSome K.eq self.entry (FnOnceReturnsAt F.FnOnce f) r.0 r.1) }
+        ensures refused { IfErr result (RefusesSome self.entry (FnOnceReturnsAt F.FnOnce f)) }
+        ensures* kept { sem 𝓛 (rests_if_refused K.row V.row H.row H.Hasher.row K.Hash H.BuildHasher H.Hasher.Hasher
+            (entry_guard self.entry) result) }
+    {
+        match self {
+            HeldPlace::Occupied(entry) => entry.as_it_is(),
+            HeldPlace::Vacant(entry) => {
+                let value = f(entry.key());
+                entry.put_entry(value)
+            }
+        }
+    }
+
+    /// Puts in the default value where the entry is vacant, as `or_put`.
+    pub fn or_default(
+        self,
+    ) -> Result<(EvictedEntry<K, V>, OccupiedEntry<'a, K, V, H>), InsertError<K, V>>
+    where
+        V: Default,
+        ensures entry { IfOk result (λ r. OrPutsSome K.eq self.entry (λ k v. V.is_default v) r.0 r.1) }
+        ensures refused { IfErr result (RefusesSome self.entry (λ k v. V.is_default v)) }
+        ensures* kept { sem 𝓛 (rests_if_refused K.row V.row H.row H.Hasher.row K.Hash H.BuildHasher H.Hasher.Hasher
+            (entry_guard self.entry) result) }
+    {
+        match self {
+            HeldPlace::Occupied(entry) => entry.as_it_is(),
+            HeldPlace::Vacant(entry) => {
+                let value = V::default();
+                entry.put_entry(value)
+            }
+        }
+    }
+
+    /// Sets the value of an occupied entry, which keeps its key and its place; puts it in at a vacant one, as `or_put`.
+    pub fn put_entry(
+        self,
+        value: V,
+    ) -> Result<(EvictedEntry<K, V>, OccupiedEntry<'a, K, V, H>), InsertError<K, V>>
+    where
+        V: Drop,
+        ensures entry { IfOk result (λ r. SetsEntry K.eq self.entry value r.0 r.1) }
+        ensures refused { IfErr result (Refuses self.entry value) }
+        ensures* kept { sem 𝓛 (rests_if_refused K.row V.row H.row H.Hasher.row K.Hash H.BuildHasher H.Hasher.Hasher
+            (entry_guard self.entry) result) }
+    {
+        match self {
+            HeldPlace::Occupied(entry) => {
+                let HeldEntry {
+                    guard,
+                    place,
+                    rest,
+                    of,
+                } = entry;
+                let _old = guard.write_at(place, value);
+                Ok((
+                    None,
+                    HeldEntry {
+                        guard,
+                        place,
+                        rest,
+                        of,
+                    },
+                ))
+            }
+            HeldPlace::Vacant(entry) => entry.put_entry(value),
+        }
+    }
+}
+
+impl<'a, K: Eq + Hash, V, H: BuildHasher> HeldEntry<&'a mut Owned<K, V, H>, (), K, V, H> {
+    /// The entry as it is, as a put that drives nothing out answers it.
+    fn as_it_is(self) -> Result<(EvictedEntry<K, V>, OccupiedEntry<'a, K, V, H>), InsertError<K, V>>
+        ensures same { result ≡ Ok (None, self.entry) }
+        ensures* kept { sem 𝓛 (rests_if_refused K.row V.row H.row H.Hasher.row K.Hash H.BuildHasher H.Hasher.Hasher
+            self.entry.guard result) }
+    {
+        let HeldEntry {
+            guard,
+            place,
+            rest,
+            of,
+        } = self;
+        Ok((
+            None,
+            HeldEntry {
+                guard,
+                place,
+                rest,
+                of,
+            },
+        ))
+    }
+}

@@ -1,0 +1,199 @@
+//! What makes an entry of a borrowed cache, and what lets the cache go. The search is made once, and an entry holds its
+//! place.
+ghost use Rattle.scc_cache.specs.CacheSteps.{IsAbsent, Puts, TakesAt};
+ghost use Rattle.scc_cache.specs.Caches.{IsCacheState};
+ghost use Rattle.scc_cache.specs.Entries.{Memory, held_cache, occupied_pair, entry_guard, IsEntryOf, IsRefreshed, IsPut, rests_if_refused, rests_if_none, replaced_guard, Replaces};
+ghost use Rattle.scc_cache.specs.Relocations.{RelocatesNone, RelocatesTwo};
+ghost use Rattle.scc_contents.specs.Contents.{bucket_count, hash_in};
+ghost use Rattle.std.specs.Borrow.{sem};
+ghost use Rattle.std.specs.Prelude.{◌≡◌, IfOk, IfErr, OnOk, IfSome, IfNone};
+
+use crate::borrowed::{Entry, OccupiedEntry, ReplaceResult};
+use crate::held::{HeldEntry, HeldPlace, HeldReplace, HeldVacant};
+use crate::{EvictedEntry, Owned};
+use scc_common::InsertError;
+use scc_contents::Hashes;
+use std::hash::{BuildHasher, Hash};
+use std::marker::PhantomData;
+
+impl<K: Eq + Hash, V, H: BuildHasher> Owned<K, V, H> {
+    /// The entry of `k`: occupied at the stored pair, which becomes the most recent of its bucket, or vacant with `k`,
+    /// and then nothing changes. It takes no memory and makes no array. Where the bucket of a stored pair waits, it
+    /// takes its pairs over first, and no other does.
+    pub fn entry_sync(&mut self, k: K) -> Entry<'_, K, V, H>
+    where
+        K: Drop,
+        ensures same_cache { (entry_guard result).ghost_name ≡ self.entry.ghost_name }
+        ensures entry { IsEntryOf K.eq self.old k result }
+    {
+        let hash = self.table.hash(&k);
+        match self.refresh(hash, &k) {
+            Some(place) => HeldPlace::Occupied(HeldEntry {
+                guard: self,
+                place,
+                rest: (),
+                of: PhantomData,
+            }),
+            None => HeldPlace::Vacant(HeldVacant {
+                guard: self,
+                key: k,
+                hash,
+                rest: (),
+                of: PhantomData,
+            }),
+        }
+    }
+
+    /// The occupied entry of `k`, whose pair becomes the most recent of its bucket; None where no key equals it, and
+    /// then nothing changes. It takes no memory. Where that bucket waits, it takes its pairs over first, and no other
+    /// does.
+    pub fn get_sync(&mut self, k: &K) -> Option<OccupiedEntry<'_, K, V, H>>
+        ensures same_cache { IfSome result (λ o. o.guard.ghost_name ≡ self.entry.ghost_name) }
+        ensures entry { IfSome result (IsRefreshed K.eq self.old k.now) }
+        ensures missing { IfNone result (IsAbsent (hash_in ⟦<H as Hashes<K>>⟧.hash_of self.old.contents) K.eq
+            self.old.contents k.now) }
+        ensures* kept { sem 𝓛 (rests_if_none K.row V.row H.row H.Hasher.row K.Hash H.BuildHasher H.Hasher.Hasher
+            self.entry result) }
+    {
+        let hash = self.table.hash(k);
+        match self.refresh(hash, k) {
+            Some(place) => Some(HeldEntry {
+                guard: self,
+                place,
+                rest: (),
+                of: PhantomData,
+            }),
+            None => None,
+        }
+    }
+
+    /// Puts `k` in the place of the key that equals it, keeps the value, makes the pair the most recent of its bucket,
+    /// and answers the entry with the old key. Where no key equals it, nothing changes, and it answers the vacant
+    /// entry. It takes no memory. Where the bucket of a stored pair waits, it takes its pairs over first, and no other
+    /// does.
+    pub fn replace_sync(&mut self, k: K) -> ReplaceResult<'_, K, V, H>
+        ensures same_cache { (replaced_guard result).ghost_name ≡ self.entry.ghost_name }
+        ensures step { Replaces K.eq self.old k result }
+    {
+        let hash = self.table.hash(&k);
+        match self.refresh(hash, &k) {
+            Some(place) => {
+                let old = self.replace_key_at(place, k);
+                HeldReplace::Replaced(
+                    HeldEntry {
+                        guard: self,
+                        place,
+                        rest: (),
+                        of: PhantomData,
+                    },
+                    old,
+                )
+            }
+            None => HeldReplace::NotReplaced(HeldVacant {
+                guard: self,
+                key: k,
+                hash,
+                rest: (),
+                of: PhantomData,
+            }),
+        }
+    }
+}
+
+impl<'a, N, K: Eq + Hash, V, H: BuildHasher> HeldEntry<&'a mut Owned<K, V, H>, N, K, V, H> {
+    /// Removes the pair, and answers its value. The array may become smaller.
+    pub fn remove(self) -> V
+    where
+        N: Drop,
+        K: Drop,
+        ensures value { result ≡ (occupied_pair self.entry).1 }
+        ensures removed { TakesAt (hash_in ⟦<H as Hashes<K>>⟧.hash_of (held_cache self.entry).contents)
+            (held_cache self.entry) self.entry.place self.exit.0.now }
+        ensures state { IsCacheState K.eq (hash_in ⟦<H as Hashes<K>>⟧.hash_of self.exit.0.now.contents)
+            self.exit.0.now }
+        ensures relocates { RelocatesNone (λ p. hash_in ⟦<H as Hashes<K>>⟧.hash_of (held_cache self.entry).contents
+            p.0) (held_cache self.entry).contents self.exit.0.now.contents }
+    {
+        let (_key, value) = self.remove_entry();
+        value
+    }
+
+    /// Removes the pair, and answers it. The array may become smaller.
+    pub fn remove_entry(self) -> (K, V)
+    where
+        N: Drop,
+        ensures pair { result ≡ occupied_pair self.entry }
+        ensures removed { TakesAt (hash_in ⟦<H as Hashes<K>>⟧.hash_of (held_cache self.entry).contents)
+            (held_cache self.entry) self.entry.place self.exit.0.now }
+        ensures state { IsCacheState K.eq (hash_in ⟦<H as Hashes<K>>⟧.hash_of self.exit.0.now.contents)
+            self.exit.0.now }
+        ensures relocates { RelocatesNone (λ p. hash_in ⟦<H as Hashes<K>>⟧.hash_of (held_cache self.entry).contents
+            p.0) (held_cache self.entry).contents self.exit.0.now.contents }
+    {
+        let place = self.place;
+        self.guard.remove_at(place)
+    }
+}
+
+impl<'a, K: Eq + Hash, V, H: BuildHasher> HeldVacant<&'a mut Owned<K, V, H>, (), K, V, H> {
+    /// Gives the key back, and leaves the cache as it is.
+    pub fn into_key(self) -> K
+        ensures key { result ≡ self.entry.key }
+        ensures unchanged { self.exit.0.now ≡ self.entry.guard.now }
+    {
+        self.key
+    }
+
+    /// Puts in the key with `value`, as `put_entry` does, and lets the cache go: the answer is the pair that it drove
+    /// out.
+    pub fn put(self, value: V) -> Result<EvictedEntry<K, V>, InsertError<K, V>>
+        ensures step { Puts (hash_in ⟦<H as Hashes<K>>⟧.hash_of self.entry.guard.now.contents) K.eq
+            self.entry.guard.now (self.entry.key, value) result self.exit.0.now }
+        ensures relocates { OnOk result (RelocatesTwo
+            (hash_in ⟦<H as Hashes<K>>⟧.hash_of self.entry.guard.now.contents self.entry.key)
+            self.entry.guard.now.contents self.exit.0.now.contents) }
+        ensures state { IsCacheState K.eq (hash_in ⟦<H as Hashes<K>>⟧.hash_of self.exit.0.now.contents)
+            self.exit.0.now }
+    {
+        let hash = self.hash;
+        let key = self.key;
+        match self.guard.put_at(hash, key, value) {
+            Ok((evicted, _)) => Ok(evicted),
+            Err(pair) => Err(InsertError::Memory(pair)),
+        }
+    }
+
+    /// Puts in the key with `value` as the most recent pair of its bucket, by the rules of `put_sync`, and answers the
+    /// pair that it drove out and its entry. Refused for want of memory, which comes only where there is no array, key
+    /// and value come back and nothing changed.
+    pub fn put_entry(
+        self,
+        value: V,
+    ) -> Result<(EvictedEntry<K, V>, OccupiedEntry<'a, K, V, H>), InsertError<K, V>>
+        ensures put { IfOk result (λ r. IsPut K.eq self.entry value r.0 r.1) }
+        ensures refused { IfErr result (λ e. (e ≡ Memory (self.entry.key, value))
+            × (bucket_count self.entry.guard.now.contents ≡ 0)) }
+        ensures* kept { sem 𝓛 (rests_if_refused K.row V.row H.row H.Hasher.row K.Hash H.BuildHasher H.Hasher.Hasher
+            self.entry.guard result) }
+    {
+        let HeldVacant {
+            guard,
+            key,
+            hash,
+            rest,
+            of: _,
+        } = self;
+        match guard.put_at(hash, key, value) {
+            Ok((evicted, place)) => Ok((
+                evicted,
+                HeldEntry {
+                    guard,
+                    place,
+                    rest,
+                    of: PhantomData,
+                },
+            )),
+            Err(pair) => Err(InsertError::Memory(pair)),
+        }
+    }
+}

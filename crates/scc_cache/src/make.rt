@@ -1,0 +1,147 @@
+//! How a cache is made: empty, or of items.
+ghost use Rattle.scc_cache.specs.Caches.{IsCacheState};
+ghost use Rattle.scc_cache.specs.Collections.{IsCollected, PutsAll};
+ghost use Rattle.scc_cache.specs.Making.{IsNew, MakesEmpty};
+ghost use Rattle.scc_contents.specs.Contents.{settings_of, hash_in};
+ghost use Rattle.std.specs.Arc.{arc_value};
+ghost use Rattle.std.specs.Iterator.{Drains, IsFinite};
+ghost use Rattle.std.specs.Prelude.{◌≤◌, List, IfOk, OnOk};
+
+use crate::{DEFAULT_MAXIMUM_CAPACITY, Owned};
+use scc_buckets::sizes::slots_for;
+use scc_common::{InsertError, MakeError, Shared};
+use scc_contents::Hashes;
+use scc_table::Table;
+use std::alloc::Global;
+use std::hash::{BuildHasher, BuildHasherDefault, Hash};
+use std::sync::Arc;
+
+impl<K: Eq + Hash, V> Owned<K, V> {
+    /// An empty cache without an array, with a maximum of 256 slots. It takes no memory.
+    pub fn new(alloc: Global) -> Self
+        ensures { IsNew (settings_of result.contents).hasher result }
+    {
+        Owned::with_hasher(alloc, BuildHasherDefault::new())
+    }
+
+    /// An empty cache by the rules of `with_capacity_and_hasher`.
+    pub fn with_capacity(alloc: Global, capacity: usize, maximum: usize) -> Result<Self, MakeError>
+        ensures { MakesEmpty (λ c. (settings_of c.contents).hasher) 0 capacity maximum result }
+    {
+        Owned::with_capacity_and_hasher(alloc, capacity, maximum, BuildHasherDefault::new())
+    }
+}
+
+impl<K: Eq + Hash, V, H: BuildHasher> Owned<K, V, Shared<H>> {
+    /// An empty cache that skips so many bits of each hash, and hashes as each other part of that hasher does. Else as
+    /// `with_capacity_and_hasher`.
+    pub fn part(
+        alloc: Global,
+        skipped: u32,
+        capacity: usize,
+        maximum: usize,
+        hasher: Arc<H>,
+    ) -> Result<Self, MakeError>
+    where
+        H: Drop,
+        requires { skipped ≤ 4 }
+        ensures { MakesEmpty (λ _. arc_value hasher) skipped capacity maximum result }
+    {
+        Owned::skipping(alloc, skipped, capacity, maximum, Shared::new(hasher))
+    }
+}
+
+impl<K: Eq + Hash, V, H: BuildHasher> Owned<K, V, H> {
+    /// An empty cache without an array, with a maximum of 256 slots. It takes no memory.
+    pub fn with_hasher(alloc: Global, hasher: H) -> Self
+        ensures { IsNew hasher result }
+    {
+        Owned {
+            table: Table::new(alloc, 0, hasher),
+            maximum: DEFAULT_MAXIMUM_CAPACITY,
+        }
+    }
+
+    /// An empty cache with an array of the least power of two of slots that is at least `capacity` and at least 64;
+    /// without an array for 0. These slots are then its minimum. Its maximum is the greatest of `maximum`, the slots
+    /// made and 64, raised to a power of two, at most 2 ^ 63. A size that can't be had is refused.
+    pub fn with_capacity_and_hasher(
+        alloc: Global,
+        capacity: usize,
+        maximum: usize,
+        hasher: H,
+    ) -> Result<Self, MakeError>
+    where
+        H: Drop,
+        ensures { MakesEmpty (λ _. hasher) 0 capacity maximum result }
+    {
+        Owned::skipping(alloc, 0, capacity, maximum, hasher)
+    }
+
+    /// As `with_capacity_and_hasher`, but skips so many bits of each hash.
+    pub fn skipping(
+        alloc: Global,
+        skipped: u32,
+        capacity: usize,
+        maximum: usize,
+        hasher: H,
+    ) -> Result<Self, MakeError>
+    where
+        H: Drop,
+        requires { skipped ≤ 4 }
+        ensures { MakesEmpty (λ _. hasher) skipped capacity maximum result }
+    {
+        match Table::with_capacity(alloc, skipped, capacity, hasher) {
+            Ok(table) => {
+                let maximum = slots_for(maximum.max(32 * table.bucket_count()));
+                Ok(Owned { table, maximum })
+            }
+            Err(e) => Err(e),
+        }
+    }
+
+    /// A cache of the items, put in their order, so that the first value of a key stays unless it was driven out in
+    /// between. Capacity and maximum are asked for as many pairs as there are items. It is refused for want of memory,
+    /// and then the items are dropped. The iterator has to end.
+    pub fn try_from_iter<I: IntoIterator<Item = (K, V)>>(
+        alloc: Global,
+        items: I,
+    ) -> Result<Self, MakeError>
+    where
+        K: Drop,
+        V: Drop,
+        H: Default + Drop,
+        requires { (it : I.IntoIter) → I.into_iter_gives items it
+            → I.IntoIter.can_next it × IsFinite (I.IntoIter.remaining it) }
+        ensures items { IfOk result (λ c. (it : I.IntoIter) × (xs : List (K × V)) × I.into_iter_gives items it
+            × Drains I.IntoIter.next_gives it xs × IsCollected K.eq (hash_in ⟦<H as Hashes<K>>⟧.hash_of) xs c) }
+        ensures state { IfOk result (λ c. IsCacheState K.eq (hash_in ⟦<H as Hashes<K>>⟧.hash_of c.contents) c) }
+    {
+        let Ok(pairs) = Vec::from_iter(alloc, items) else {
+            return Err(MakeError);
+        };
+        let count = pairs.len();
+        let mut made = Owned::with_capacity_and_hasher(alloc, count, count, H::default())?;
+        made.put_all(pairs)?;
+        let _ = made.len();
+        Ok(made)
+    }
+
+    /// Puts the pairs in their order, up to the first that is refused for want of memory. A pair whose key is there is
+    /// dropped.
+    fn put_all(&mut self, pairs: Vec<(K, V)>) -> Result<(), MakeError>
+    where
+        K: Drop,
+        V: Drop,
+        ensures { OnOk result (PutsAll K.eq (hash_in ⟦<H as Hashes<K>>⟧.hash_of) self.old pairs.items self.new) }
+    {
+        for (k, v) in pairs {
+            match self.put_sync(k, v) {
+                Ok(_) => {}
+                Err(InsertError::Exists(_)) => {}
+                Err(InsertError::Memory(_)) => return Err(MakeError),
+            }
+        }
+        Ok(())
+    }
+}

@@ -1,0 +1,203 @@
+//! What is done at a place of a cache.
+ghost use Rattle.scc_cache.specs.CacheSteps.{IsFound, IsLacking, IsLastAt, TakesAt};
+ghost use Rattle.scc_cache.specs.Caches.{IsCacheState};
+ghost use Rattle.scc_cache.specs.Lends.{lends_value, with_key_at, with_value_at};
+ghost use Rattle.scc_cache.specs.Putting.{PutsNewByRule};
+ghost use Rattle.scc_cache.specs.Relocations.{RelocatesNone, RelocatesOne};
+ghost use Rattle.scc_contents.specs.Contents.{entries, bucket_count, list_of, hash_in, settings_of, waiting_of};
+ghost use Rattle.scc_contents.specs.Routing.{bucket_number};
+ghost use Rattle.scc_table.specs.Places.{IsPlace, index_of, spot_of};
+ghost use Rattle.scc_table.specs.TwoArrays.{IsWaiting};
+ghost use Rattle.std.specs.Borrow.{sem};
+ghost use Rattle.std.specs.Prelude.{◌≡◌, ◌<◌, true, Some, OnSome, MatchOption, slice_get};
+
+use crate::{EvictedEntry, Owned};
+use scc_buckets::Place;
+use scc_contents::Hashes;
+use std::hash::{BuildHasher, Hash};
+
+impl<K: Eq + Hash, V, H: BuildHasher> Owned<K, V, H> {
+    /// The hash of a key.
+    pub(crate) fn hash_of(&self, k: &K) -> u64
+        ensures { result ≡ hash_in ⟦<H as Hashes<K>>⟧.hash_of self.now.contents k.now }
+    {
+        self.table.hash(k)
+    }
+
+    /// Where the pair of `k` stands. `hash` is the hash of `k`.
+    #[inline(always)]
+    pub(crate) fn find(&self, hash: u64, k: &K) -> Option<Place>
+        requires { hash ≡ hash_in ⟦<H as Hashes<K>>⟧.hash_of self.now.contents k.now }
+        ensures { MatchOption result (IsLacking (hash_in ⟦<H as Hashes<K>>⟧.hash_of self.now.contents) K.eq
+            self.now.contents k.now) (IsFound (hash_in ⟦<H as Hashes<K>>⟧.hash_of self.now.contents) K.eq
+            self.now.contents k.now) }
+    {
+        self.table.search_place(hash, k)
+    }
+
+    /// The key and the value at the place.
+    #[inline(always)]
+    pub(crate) fn pair_in(&self, place: Place) -> (&K, &V)
+        requires { IsPlace self.now.contents place }
+        ensures { slice_get (list_of self.now.contents (spot_of self.now.contents place).bucket)
+            (spot_of self.now.contents place).slot ≡ Some (result.0.now, result.1.now) }
+    {
+        self.table.pair_at(place)
+    }
+
+    /// Puts in a pair whose key is new, and answers what it drove out, and its place. The mark of a refused growth
+    /// goes.
+    #[inline(always)]
+    pub(crate) fn put_at(
+        &mut self,
+        hash: u64,
+        k: K,
+        v: V,
+    ) -> Result<(EvictedEntry<K, V>, Place), (K, V)>
+        requires hashed { hash ≡ hash_in ⟦<H as Hashes<K>>⟧.hash_of self.old.contents k }
+        requires lacking { IsLacking (hash_in ⟦<H as Hashes<K>>⟧.hash_of self.old.contents) K.eq self.old.contents k }
+        ensures { PutsNewByRule K.eq ⟦<H as Hashes<K>>⟧.hash_of self.old (k, v) result self.new }
+    {
+        match self.table.bucket_within(hash, self.maximum) {
+            Ok(bucket) => {
+                self.table.drop_room_within();
+                let evicted = self.table.put_within(bucket, hash, (k, v));
+                let slot = self.table.list_len(bucket) - 1;
+                Ok((evicted, Place { bucket, slot }))
+            }
+            Err(_) => Err((k, v)),
+        }
+    }
+
+    /// Makes the pair of `k` the most recent of its bucket, and answers where it then stands. `hash` is the hash of
+    /// `k`. Where the bucket waits, it takes its pairs over first.
+    #[inline(always)]
+    pub(crate) fn refresh(&mut self, hash: u64, k: &K) -> Option<Place>
+        requires { hash ≡ hash_in ⟦<H as Hashes<K>>⟧.hash_of self.old.contents k.now }
+        ensures step { MatchOption result (IsLacking (hash_in ⟦<H as Hashes<K>>⟧.hash_of self.old.contents) K.eq
+            self.old.contents k.now × (self.new ≡ self.old))
+            (IsLastAt (hash_in ⟦<H as Hashes<K>>⟧.hash_of self.old.contents) K.eq self.old k.now self.new) }
+        ensures state { IsCacheState K.eq (hash_in ⟦<H as Hashes<K>>⟧.hash_of self.new.contents) self.new }
+        ensures relocates { OnSome result (RelocatesOne (hash_in ⟦<H as Hashes<K>>⟧.hash_of self.old.contents k.now)
+            self.old.contents self.new.contents) }
+    {
+        if self.table.bucket_count() == 0 {
+            return None;
+        }
+        let bucket = self.table.bucket_at(hash);
+        if self.table.is_waiting(bucket) {
+            return self.refresh_waiting(bucket, hash, k);
+        }
+        self.refresh_settled(bucket, hash, k)
+    }
+
+    /// The same where the bucket of the hash, which is of that number, waits.
+    #[cold]
+    fn refresh_waiting(&mut self, bucket: usize, hash: u64, k: &K) -> Option<Place>
+        requires within { bucket < bucket_count self.old.contents }
+        requires routed { bucket ≡ bucket_number (settings_of self.old.contents).skipped
+            (bucket_count self.old.contents) hash }
+        requires hashed { hash ≡ hash_in ⟦<H as Hashes<K>>⟧.hash_of self.old.contents k.now }
+        requires waits { IsWaiting self.old.contents bucket }
+        ensures step { MatchOption result (IsLacking (hash_in ⟦<H as Hashes<K>>⟧.hash_of self.old.contents) K.eq
+            self.old.contents k.now × (self.new ≡ self.old))
+            (IsLastAt (hash_in ⟦<H as Hashes<K>>⟧.hash_of self.old.contents) K.eq self.old k.now self.new) }
+        ensures state { IsCacheState K.eq (hash_in ⟦<H as Hashes<K>>⟧.hash_of self.new.contents) self.new }
+        ensures relocates { OnSome result (RelocatesOne (hash_in ⟦<H as Hashes<K>>⟧.hash_of self.old.contents k.now)
+            self.old.contents self.new.contents) }
+    {
+        self.table.search_place(hash, k)?;
+        self.table.settle(bucket);
+        self.refresh_settled(bucket, hash, k)
+    }
+
+    /// The same where it doesn't wait.
+    #[inline(always)]
+    fn refresh_settled(&mut self, bucket: usize, hash: u64, k: &K) -> Option<Place>
+        requires within { bucket < bucket_count self.old.contents }
+        requires routed { bucket ≡ bucket_number (settings_of self.old.contents).skipped
+            (bucket_count self.old.contents) hash }
+        requires hashed { hash ≡ hash_in ⟦<H as Hashes<K>>⟧.hash_of self.old.contents k.now }
+        requires settled { IsWaiting self.old.contents bucket → ⊥ }
+        ensures step { MatchOption result (IsLacking (hash_in ⟦<H as Hashes<K>>⟧.hash_of self.old.contents) K.eq
+            self.old.contents k.now × (self.new ≡ self.old))
+            (IsLastAt (hash_in ⟦<H as Hashes<K>>⟧.hash_of self.old.contents) K.eq self.old k.now self.new) }
+        ensures state { IsCacheState K.eq (hash_in ⟦<H as Hashes<K>>⟧.hash_of self.new.contents) self.new }
+        ensures waiting { waiting_of self.new.contents ≡ waiting_of self.old.contents }
+    {
+        let slot = self.table.search_in(bucket, hash, k)?;
+        self.table.touch(bucket, slot, hash);
+        let slot = self.table.list_len(bucket) - 1;
+        Some(Place { bucket, slot })
+    }
+
+    /// Takes the pair out of its place. The others of its list stay in their order; then the array may become smaller.
+    #[inline(always)]
+    pub(crate) fn remove_at(&mut self, place: Place) -> (K, V)
+        requires { IsPlace self.old.contents place }
+        ensures pair { slice_get (list_of self.old.contents (spot_of self.old.contents place).bucket)
+            (spot_of self.old.contents place).slot ≡ Some result }
+        ensures left { TakesAt (hash_in ⟦<H as Hashes<K>>⟧.hash_of self.old.contents) self.old place self.new }
+        ensures state { IsCacheState K.eq (hash_in ⟦<H as Hashes<K>>⟧.hash_of self.new.contents) self.new }
+        ensures relocates { RelocatesNone (λ p. hash_in ⟦<H as Hashes<K>>⟧.hash_of self.old.contents p.0)
+            self.old.contents self.new.contents }
+    {
+        let pair = self.table.take_in(place);
+        self.table.shrink_within();
+        pair
+    }
+
+    /// The value at the place, to write. The order of the pairs stays.
+    pub(crate) fn value_mut_at(&mut self, place: Place) -> &mut V
+        requires { IsPlace self.old.contents place }
+        ensures* writes_back { sem 𝓛 (lends_value K.row V.row H.row H.Hasher.row K.Hash H.BuildHasher H.Hasher.Hasher
+            self.entry place result) }
+        ensures value { (p : K × V) × (slice_get (list_of self.old.contents (spot_of self.old.contents place).bucket)
+            (spot_of self.old.contents place).slot ≡ Some p) × (result.now ≡ p.1) }
+        ensures state { (v : V) → IsCacheState K.eq
+            (hash_in ⟦<H as Hashes<K>>⟧.hash_of (with_value_at self.old place v).contents)
+            (with_value_at self.old place v) }
+    {
+        self.table.value_mut_at(place)
+    }
+
+    /// The key at the place, and the value to write. The order of the pairs stays.
+    pub(crate) fn parts_mut_at(&mut self, place: Place) -> (&K, &mut V)
+        requires { IsPlace self.old.contents place }
+        ensures* writes_back { sem 𝓛 (lends_value K.row V.row H.row H.Hasher.row K.Hash H.BuildHasher H.Hasher.Hasher
+            self.entry place result.1) }
+        ensures parts { slice_get (entries self.old.contents) (index_of self.old.contents place)
+            ≡ Some (result.0.now, result.1.now) }
+    {
+        self.table.parts_mut_at(place)
+    }
+
+    /// Writes the value at the place, and answers the old one.
+    pub(crate) fn write_at(&mut self, place: Place, value: V) -> V
+        requires { IsPlace self.old.contents place }
+        ensures old { (p : K × V) × (slice_get (list_of self.old.contents (spot_of self.old.contents place).bucket)
+            (spot_of self.old.contents place).slot ≡ Some p) × (result ≡ p.1) }
+        ensures new { self.new ≡ with_value_at self.old place value }
+        ensures state { IsCacheState K.eq (hash_in ⟦<H as Hashes<K>>⟧.hash_of self.new.contents) self.new }
+    {
+        std::mem::replace(self.value_mut_at(place), value)
+    }
+
+    /// Puts the key in the place of the one there, which it equals, and answers that one.
+    pub(crate) fn replace_key_at(&mut self, place: Place, key: K) -> K
+        requires within { IsPlace self.old.contents place }
+        requires same { (p : K × V) → slice_get (list_of self.old.contents (spot_of self.old.contents place).bucket)
+            (spot_of self.old.contents place).slot ≡ Some p → K.eq key p.0 ≡ true }
+        ensures old { (p : K × V) × (slice_get (list_of self.old.contents (spot_of self.old.contents place).bucket)
+            (spot_of self.old.contents place).slot ≡ Some p) × (result ≡ p.0) }
+        ensures new { self.new ≡ with_key_at self.old place key }
+        ensures within { IsPlace self.new.contents place }
+        ensures alike { (p : K × V) → slice_get (list_of self.new.contents (spot_of self.new.contents place).bucket)
+            (spot_of self.new.contents place).slot ≡ Some p → K.eq result p.0 ≡ true }
+        ensures state { IsCacheState K.eq (hash_in ⟦<H as Hashes<K>>⟧.hash_of self.new.contents) self.new }
+    {
+        let old = self.table.replace_key_at(place, key);
+        let _ = self.table.len();
+        old
+    }
+}

@@ -1,0 +1,98 @@
+//! Walks over the pairs of a cache. No walk makes a pair more recent.
+ghost use Rattle.scc_cache.specs.CacheSteps.{Clears};
+ghost use Rattle.scc_cache.specs.Caches.{IsCacheState};
+ghost use Rattle.scc_cache.specs.Relocations.{RelocatesNone};
+ghost use Rattle.scc_cache.specs.TakingWalks.{StepsOut};
+ghost use Rattle.scc_contents.specs.Contents.{entries, refused_of, waiting_of, hash_in};
+ghost use Rattle.scc_contents.specs.Steps.{HoldsExactly};
+ghost use Rattle.scc_contents.specs.Walks.{CalledOn, CallableWhile, Walks};
+ghost use Rattle.scc_table.specs.Places.{IsPlace, StandsAt, index_of};
+ghost use Rattle.std.specs.List.Sorted.{IsPermutation};
+ghost use Rattle.std.specs.Prelude.{◌≡◌, suc, List, [], length, true, Some, MatchOption};
+
+use crate::Owned;
+use scc_buckets::Place;
+use scc_contents::Hashes;
+use std::hash::{BuildHasher, Hash};
+
+impl<K: Eq + Hash, V, H: BuildHasher> Owned<K, V, H> {
+    /// Calls `f` on the pairs in some order, each at most once, until its first false, and answers false where it
+    /// stopped. The order of the pairs stays.
+    #[inline(always)]
+    pub fn iter_sync<F: FnMut(&K, &V) -> bool>(&self, f: F) -> bool
+        requires { (es : List (K × V)) → IsPermutation (entries self.now.contents) es
+            → CallableWhile F.FnMut true f es }
+        ensures { (es : List (K × V)) × (last : F) × IsPermutation (entries self.now.contents) es
+            × Walks (CalledOn F.FnMut) f es result last }
+    {
+        self.table.walk(f)
+    }
+
+    /// Takes out all pairs. Then the array may become smaller, and every bucket of the new one waits.
+    pub fn clear_sync(&mut self)
+    where
+        K: Drop,
+        V: Drop,
+        ensures empty { entries self.new.contents ≡ [] }
+        ensures step { Clears (hash_in ⟦<H as Hashes<K>>⟧.hash_of self.old.contents) self.old self.new }
+        ensures state { IsCacheState K.eq (hash_in ⟦<H as Hashes<K>>⟧.hash_of self.new.contents) self.new }
+        ensures relocates { RelocatesNone (λ p. hash_in ⟦<H as Hashes<K>>⟧.hash_of self.old.contents p.0)
+            self.old.contents self.new.contents }
+    {
+        self.take_all();
+        self.table.shrink_within();
+    }
+
+    /// Takes out all pairs, with no resize.
+    fn take_all(&mut self)
+    where
+        K: Drop,
+        V: Drop,
+        ensures empty { HoldsExactly self.old.contents [] self.new.contents }
+        ensures refused { refused_of self.new.contents ≡ refused_of self.old.contents }
+        ensures maximum { self.new.maximum ≡ self.old.maximum }
+        ensures waiting { waiting_of self.new.contents ≡ waiting_of self.old.contents }
+        ensures state { IsCacheState K.eq (hash_in ⟦<H as Hashes<K>>⟧.hash_of self.new.contents) self.new }
+    {
+        let mut at = self.table.first_place();
+        while let Some(place) = at {
+            let (_pair, next) = self.take_and_step(place);
+            at = next;
+        }
+        let _ = self.len();
+    }
+
+    /// The place after that one, or None where it is the last.
+    pub(crate) fn next_place(&self, place: Place) -> Option<Place>
+        requires { IsPlace self.now.contents place }
+        ensures { MatchOption result (suc (index_of self.now.contents place) ≡ length (entries self.now.contents))
+            (StandsAt self.now.contents (suc (index_of self.now.contents place))) }
+    {
+        self.table.next_place(place)
+    }
+
+    /// Takes the pair out of its place, with no resize, and answers it with the place of the pair that followed.
+    pub(crate) fn take_and_step(&mut self, place: Place) -> ((K, V), Option<Place>)
+        requires { IsPlace self.old.contents place }
+        ensures { StepsOut self.old place result self.new }
+    {
+        self.table.take_and_step(place)
+    }
+
+    /// Calls `f` on the pairs in the order of the lists until its first false, and answers false where it stopped. The
+    /// closure is lent, and goes on to other caches.
+    pub fn iter_lent<F: FnMut(&K, &V) -> bool>(&self, f: &mut F) -> bool
+        requires { CallableWhile F.FnMut true f.old (entries self.now.contents) }
+        ensures { Walks (CalledOn F.FnMut) f.old (entries self.now.contents) result f.new }
+    {
+        let mut at = self.table.first_place();
+        while let Some(place) = at {
+            let (key, value) = self.table.pair_at(place);
+            if !f(key, value) {
+                return false;
+            }
+            at = self.next_place(place);
+        }
+        true
+    }
+}

@@ -1,0 +1,40 @@
+use Rattle.std.proofs.Common.{◌≤◌, ◌∙◌, sym, ap, arith, length}
+use Rattle.scc_array.specs.Shelves.{shelf_of}
+use Rattle.scc_array.specs.Shelf.{shelf_entries}
+use Rattle.scc_contents.specs.Contents.{key_hash}
+use Rattle.scc_contents.specs.Routing.{bucket_number}
+use Rattle.scc_buckets.specs.Pour.{bound_for}
+use Rattle.scc_draining.proofs.Stepped.{before-end, bound-skip}
+use Rattle.scc_draining.proofs.walk.slot_from.Goals as goal
+
+pub returns-then-bucket_index-target : goal.returns-then-bucket_index-target
+returns-then-bucket_index-target g c =
+    let hash = λ (e : g.row.E.Denot). key_hash g.H.BuildHasher g.H.Hasher.Hasher g.E.Key.Hash.hash_input c.args.table.now (g.E.Keyed.key_of e) in
+    let olds = c.args.old.now in
+    let j = c.args.source in
+    let s = c.loop-place.place in
+    let hashed = c.hash-hash.ensures ∙ ap (λ k. key_hash g.H.BuildHasher g.H.Hasher.Hasher g.E.Key.Hash.hash_input c.args.table.now k) c.key.ensures in
+    let number = c.bucket_index.ensures.value ∙ ap (bucket_number c.args.skipped c.args.count) hashed in
+    record { entry = c.entry_at.result.now; within = c.requires.source; here = c.entry_at.ensures; target = sym number ∙ c.if-bucket_index-target.true; before = c.loop-place.invariant.none }
+
+pub loop-place-preserved : goal.loop-place-preserved
+loop-place-preserved g c =
+    let hash = λ (e : g.row.E.Denot). key_hash g.H.BuildHasher g.H.Hasher.Hasher g.E.Key.Hash.hash_input c.args.table.now (g.E.Keyed.key_of e) in
+    let olds = c.args.old.now in
+    let j = c.args.source in
+    let s = c.loop-place.place in
+    let hashed = c.hash-hash.ensures ∙ ap (λ k. key_hash g.H.BuildHasher g.H.Hasher.Hasher g.E.Key.Hash.hash_input c.args.table.now k) c.key.ensures in
+    let number = c.bucket_index.ensures.value ∙ ap (bucket_number c.args.skipped c.args.count) hashed in
+    record {
+      on = omega (arith, c.loop-place.invariant.on);
+      none = bound-skip olds j hash c.args.skipped c.args.count c.args.target s c.entry_at.result.now c.entry_at.ensures (λ z. c.if-bucket_index-target.false (number ∙ sym z)) ∙ c.loop-place.invariant.none;
+    }
+
+pub returns : goal.returns
+returns g c =
+    let hash = λ (e : g.row.E.Denot). key_hash g.H.BuildHasher g.H.Hasher.Hasher g.E.Key.Hash.hash_input c.args.table.now (g.E.Keyed.key_of e) in
+    let olds = c.args.old.now in
+    let j = c.args.source in
+    let s = c.loop-place.place in
+    let far : length (shelf_entries (shelf_of olds j)) ≤ s = omega (arith, c.bucket_len-place-end.ensures) in
+    sym c.loop-place.invariant.none ∙ ap (bound_for hash c.args.skipped c.args.count c.args.target) (before-end olds j s c.requires.source far)

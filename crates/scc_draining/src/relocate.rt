@@ -1,0 +1,513 @@
+//! How the entries of one bucket of the new array come out of the old one.
+ghost use Rattle.scc_array.specs.Shelf.{empty_shelf, shelf_entries};
+ghost use Rattle.scc_array.specs.Shelves.{shelf_of};
+ghost use Rattle.scc_array.specs.Sifts.{ups};
+ghost use Rattle.scc_buckets.specs.Pour.{IsPacked, bound_for};
+ghost use Rattle.scc_buckets.specs.Tables.{spilled_in, IsOwn};
+ghost use Rattle.scc_contents.specs.Contents.{bucket_count, key_hash, list_of, lists_of, settings_of, spilled_of};
+ghost use Rattle.scc_contents.specs.Routing.{bucket_number};
+ghost use Rattle.scc_contents.specs.Sizes.{IsArray};
+ghost use Rattle.scc_draining.specs.Moves.{AreJoined, AreMultiples, AreOwn, AreSiblings, Drains, IsWithinSources, Pulls};
+ghost use Rattle.scc_draining.specs.Taking.{Fills, TakesIn};
+ghost use Rattle.std.specs.List.{flat_map, IsDistinct};
+ghost use Rattle.std.specs.Prelude.{◌≡◌, ◌==◌, ◌<◌, ◌≤◌, ◌+◌, ◌^◌, ◌*◌, ◌⊎◌, ℕ, [], length, map, take, false, slice_get, slice_index_or, slice_set, Some, IsTrue, OnOk, OnErr};
+
+use crate::count::left_of;
+use scc_array::Array;
+use scc_buckets::Buckets;
+use scc_buckets::place::{bucket_index, tag};
+use scc_entry::Keyed;
+use std::alloc::AllocError;
+use std::hash::{BuildHasher, Hash};
+
+/// What one relocation moves: the entries of the target, which lie in the old buckets from `first` up to before `last`,
+/// and no others do where `whole`. `skipped` bits of each hash are left out.
+#[derive(Clone, Copy)]
+struct Relocation {
+    target: usize,
+    first: usize,
+    last: usize,
+    whole: bool,
+    skipped: u32,
+}
+
+/// Sets the flag of each place of an old bucket to 1 where its entry belongs to the target, and to 0 where it doesn't.
+/// `table` has the hasher.
+#[inline(always)]
+fn flags_of<E: Keyed, H: BuildHasher>(
+    old: &Array<E>,
+    source: usize,
+    task: Relocation,
+    table: &Buckets<E, H>,
+    count: usize,
+    flags: &mut [u8; 32],
+)
+where
+    E::Key: Eq + Hash,
+    requires bits { task.skipped < 64 }
+    requires source { source < length old.now }
+    ensures { (j : ℕ) (e : E) → slice_get (shelf_of old.now source).slots j ≡ Some e
+        → slice_get (ups flags.new) j ≡ Some (bucket_number task.skipped count (key_hash H.BuildHasher H.Hasher.Hasher
+        E.Key.hash_input table.now (E.key_of e)) == task.target) }
+{
+    let slots = old.slot_count(source);
+    for place in 0..slots {
+        let hash = table.hash(old.entry_of(source, place, slots).key());
+        flags[place] = (bucket_index(hash, task.skipped, count) == task.target) as u8;
+    }
+}
+
+/// The same, entry by entry, for buckets with entries past their places.
+#[cold]
+fn pull_each<E: Keyed, H: BuildHasher>(
+    into: &mut Array<E>,
+    old: &mut Array<E>,
+    source: usize,
+    task: Relocation,
+    table: &Buckets<E, H>,
+    count: usize,
+)
+where
+    E::Key: Eq + Hash,
+    requires bits { task.skipped < 64 }
+    requires source { source < length old.old }
+    requires few { length (shelf_of old.old source).overflow < 2 ^ 62 }
+    requires own { IsOwn (λ e. key_hash H.BuildHasher H.Hasher.Hasher E.Key.hash_input table.now (E.key_of e))
+        task.skipped (length old.old) source (shelf_of old.old source) }
+    requires target { task.target < length into.old }
+    requires packed { IsPacked (λ e. key_hash H.BuildHasher H.Hasher.Hasher E.Key.hash_input table.now (E.key_of e))
+        (shelf_of into.old task.target) }
+    requires room { length (shelf_entries (shelf_of into.old task.target)) + length (bound_for (λ e. key_hash
+        H.BuildHasher H.Hasher.Hasher E.Key.hash_input table.now (E.key_of e)) task.skipped count task.target
+        (shelf_entries (shelf_of old.old source))) ≤ 32 + (shelf_of into.old task.target).room }
+    ensures pulls { Pulls (λ e. key_hash H.BuildHasher H.Hasher.Hasher E.Key.hash_input table.now (E.key_of e))
+        task.skipped count task.target source old.old (shelf_of into.old task.target) old.new (shelf_of into.new
+        task.target) }
+    ensures others { into.new ≡ slice_set into.old task.target (shelf_of into.new task.target) }
+{
+    let held = old.bucket_len(source);
+    let mut place = 0;
+    for seen in 0..held {
+        let hash = table.hash(old.entry_at(source, place).key());
+        if bucket_index(hash, task.skipped, count) == task.target {
+            let entry = old.remove_at(source, place);
+            into.insert_within(task.target, entry, tag(hash));
+        } else {
+            place += 1;
+        }
+    }
+}
+
+/// Moves the entries of one old bucket that belong to the target to the end of the bucket of that number, in order. It
+/// has room for them, so no memory is taken. The others stay in their order. Where the bucket holds no others
+/// (`whole`), none is hashed. `table` has the hasher.
+fn pull<E: Keyed, H: BuildHasher>(
+    into: &mut Array<E>,
+    old: &mut Array<E>,
+    source: usize,
+    task: Relocation,
+    table: &Buckets<E, H>,
+    count: usize,
+)
+where
+    E::Key: Eq + Hash,
+    requires bits { task.skipped < 64 }
+    requires source { source < length old.old }
+    requires few { length (shelf_of old.old source).overflow < 2 ^ 62 }
+    requires own { IsOwn (λ e. key_hash H.BuildHasher H.Hasher.Hasher E.Key.hash_input table.now (E.key_of e))
+        task.skipped (length old.old) source (shelf_of old.old source) }
+    requires joined { IsTrue task.whole → bound_for (λ e. key_hash H.BuildHasher H.Hasher.Hasher E.Key.hash_input
+        table.now (E.key_of e)) task.skipped count task.target (shelf_entries (shelf_of old.old source)) ≡ shelf_entries
+        (shelf_of old.old source) }
+    requires target { task.target < length into.old }
+    requires packed { IsPacked (λ e. key_hash H.BuildHasher H.Hasher.Hasher E.Key.hash_input table.now (E.key_of e))
+        (shelf_of into.old task.target) }
+    requires room { length (shelf_entries (shelf_of into.old task.target)) + length (bound_for (λ e. key_hash
+        H.BuildHasher H.Hasher.Hasher E.Key.hash_input table.now (E.key_of e)) task.skipped count task.target
+        (shelf_entries (shelf_of old.old source))) ≤ 32 + (shelf_of into.old task.target).room }
+    ensures pulls { Pulls (λ e. key_hash H.BuildHasher H.Hasher.Hasher E.Key.hash_input table.now (E.key_of e))
+        task.skipped count task.target source old.old (shelf_of into.old task.target) old.new (shelf_of into.new
+        task.target) }
+    ensures others { into.new ≡ slice_set into.old task.target (shelf_of into.new task.target) }
+{
+    if old.bucket_len(source) == 0 {
+        return;
+    }
+    if old.overflow_len(source) == 0
+        && into.slot_count(task.target) + old.slot_count(source) <= 32
+    {
+        if task.whole {
+            old.pour(source, into, task.target);
+            return;
+        }
+        let mut flags = [0u8; 32];
+        flags_of(old, source, task, table, count, &mut flags);
+        old.split(source, &flags, into, task.target);
+        return;
+    }
+    pull_each(into, old, source, task, table, count);
+}
+
+/// Moves the entries of all old buckets that belong to the target to the end of the bucket of that number, in order,
+/// where only the old buckets from `first` up to before `last` hold such entries, and no others if `whole`. It has room
+/// for them. The others stay in their order.
+fn drain<E: Keyed, H: BuildHasher>(
+    into: &mut Array<E>,
+    old: &mut Array<E>,
+    task: Relocation,
+    table: &Buckets<E, H>,
+    count: usize,
+)
+where
+    E::Key: Eq + Hash,
+    requires bits { task.skipped < 64 }
+    requires sources { IsWithinSources (λ e. key_hash H.BuildHasher H.Hasher.Hasher E.Key.hash_input table.now (E.key_of
+        e)) task.skipped count task.target task.first task.last old.old }
+    requires joined { IsTrue task.whole → AreJoined (λ e. key_hash H.BuildHasher H.Hasher.Hasher E.Key.hash_input
+        table.now (E.key_of e)) task.skipped count task.target task.first task.last old.old }
+    requires few { (j : ℕ) → length (shelf_of old.old j).overflow < 2 ^ 62 }
+    requires own { AreOwn (λ e. key_hash H.BuildHasher H.Hasher.Hasher E.Key.hash_input table.now (E.key_of e))
+        task.skipped old.old }
+    requires target { task.target < length into.old }
+    requires packed { IsPacked (λ e. key_hash H.BuildHasher H.Hasher.Hasher E.Key.hash_input table.now (E.key_of e))
+        (shelf_of into.old task.target) }
+    requires room { length (shelf_entries (shelf_of into.old task.target)) + length (bound_for (λ e. key_hash
+        H.BuildHasher H.Hasher.Hasher E.Key.hash_input table.now (E.key_of e)) task.skipped count task.target (flat_map
+        shelf_entries old.old)) ≤ 32 + (shelf_of into.old task.target).room }
+    ensures drains { Drains (λ e. key_hash H.BuildHasher H.Hasher.Hasher E.Key.hash_input table.now (E.key_of e))
+        task.skipped count task.target old.old (shelf_of into.old task.target) old.new (shelf_of into.new task.target) }
+    ensures others { into.new ≡ slice_set into.old task.target (shelf_of into.new task.target) }
+{
+    for source in task.first..task.last {
+        pull(into, old, source, task, table, count);
+    }
+}
+
+/// Makes room in an empty bucket for so many entries, at most `left` of them past its places.
+fn make_ready<E>(
+    into: &mut Array<E>,
+    bucket: usize,
+    coming: usize,
+    left: usize,
+) -> Result<(), AllocError>
+    requires bucket { bucket < length into.old }
+    requires empty { shelf_of into.old bucket ≡ record empty_shelf { room = (shelf_of into.old bucket).room } }
+    ensures value { into.new
+        ≡ slice_set into.old bucket (record empty_shelf { room = (shelf_of into.new bucket).room }) }
+    ensures room { OnOk result (coming ≤ 32 + (shelf_of into.new bucket).room) }
+    ensures few { OnOk result (coming ≤ 32 + left) }
+    ensures refused { OnErr result (32 < coming) }
+{
+    if coming <= 32 {
+        return Ok(());
+    }
+    if coming - 32 > left {
+        return Err(AllocError);
+    }
+    into.reserve_overflow(bucket, coming - 32)
+}
+
+/// Moves the entries of all old buckets that belong to the target into the bucket of that number, which is empty, in
+/// order. `coming` is how many they are, at least; at most `left` of them may lie past its places. Where memory is
+/// refused, all stays.
+fn fill<E: Keyed, H: BuildHasher>(
+    into: &mut Array<E>,
+    coming: usize,
+    left: usize,
+    old: &mut Array<E>,
+    task: Relocation,
+    table: &Buckets<E, H>,
+    count: usize,
+) -> Result<(), AllocError>
+where
+    E::Key: Eq + Hash,
+    requires bits { task.skipped < 64 }
+    requires sources { IsWithinSources (λ e. key_hash H.BuildHasher H.Hasher.Hasher E.Key.hash_input table.now (E.key_of
+        e)) task.skipped count task.target task.first task.last old.old }
+    requires joined { IsTrue task.whole → AreJoined (λ e. key_hash H.BuildHasher H.Hasher.Hasher E.Key.hash_input
+        table.now (E.key_of e)) task.skipped count task.target task.first task.last old.old }
+    requires few { (j : ℕ) → length (shelf_of old.old j).overflow < 2 ^ 62 }
+    requires own { AreOwn (λ e. key_hash H.BuildHasher H.Hasher.Hasher E.Key.hash_input table.now (E.key_of e))
+        task.skipped old.old }
+    requires target { task.target < length into.old }
+    requires empty { shelf_of into.old task.target
+        ≡ record empty_shelf { room = (shelf_of into.old task.target).room } }
+    requires coming { length (bound_for (λ e. key_hash H.BuildHasher H.Hasher.Hasher E.Key.hash_input table.now
+        (E.key_of e)) task.skipped count task.target (flat_map shelf_entries old.old)) ≤ coming }
+    ensures { Fills (λ e. key_hash H.BuildHasher H.Hasher.Hasher E.Key.hash_input table.now (E.key_of e)) task.skipped
+        count task.target coming left into.old old.old result into.new old.new }
+{
+    make_ready(into, task.target, coming, left)?;
+    drain(into, old, task, table, count);
+    Ok(())
+}
+
+/// Moves the entries of all old buckets that belong to the target into the table's bucket of that number, which is
+/// empty, in order, and answers how many they are. `coming` is no less; `aside` entries are counted as if they lay in
+/// overflow lists too. Where memory is refused, all stays.
+fn move_in<E: Keyed, H: BuildHasher>(
+    current: &mut Buckets<E, H>,
+    old: &mut Array<E>,
+    task: Relocation,
+    coming: usize,
+    aside: usize,
+) -> Result<usize, AllocError>
+where
+    E::Key: Eq + Hash,
+    requires bits { task.skipped < 64 }
+    requires skips { task.skipped ≡ (settings_of current.old).skipped }
+    requires target { task.target < bucket_count current.old }
+    requires bare { list_of current.old task.target ≡ [] }
+    requires sources { IsWithinSources (λ e. key_hash H.BuildHasher H.Hasher.Hasher E.Key.hash_input current.old
+        (E.key_of e)) task.skipped (bucket_count current.old) task.target task.first task.last old.old }
+    requires joined { IsTrue task.whole → AreJoined (λ e. key_hash H.BuildHasher H.Hasher.Hasher E.Key.hash_input
+        current.old (E.key_of e)) task.skipped (bucket_count current.old) task.target task.first task.last old.old }
+    requires few { (j : ℕ) → length (shelf_of old.old j).overflow < 2 ^ 62 }
+    requires own { AreOwn (λ e. key_hash H.BuildHasher H.Hasher.Hasher E.Key.hash_input current.old (E.key_of e))
+        task.skipped old.old }
+    requires coming { length (bound_for (λ e. key_hash H.BuildHasher H.Hasher.Hasher E.Key.hash_input current.old
+        (E.key_of e)) task.skipped (bucket_count current.old) task.target (flat_map shelf_entries old.old)) ≤ coming }
+    requires aside { spilled_of current.old + aside < 2 ^ 62 }
+    requires unique { IsDistinct E.Key.eq (map E.key_of (flat_map (λ l. l) (slice_set (lists_of current.old) task.target
+        (bound_for (λ e. key_hash H.BuildHasher H.Hasher.Hasher E.Key.hash_input current.old (E.key_of e)) task.skipped
+        (bucket_count current.old) task.target (flat_map shelf_entries old.old))))) }
+    ensures { TakesIn (λ e. key_hash H.BuildHasher H.Hasher.Hasher E.Key.hash_input current.old (E.key_of e))
+        task.target coming aside current.old old.old result current.new old.new }
+{
+    current.keep_lists();
+    let alloc = current.allocator();
+    let (mut fresh, count, overflowing) = current.exchange(Array::none(alloc), 0, 0);
+    let buckets = fresh.len();
+    let left = left_of(overflowing, aside);
+    let filled = fill(&mut fresh, coming, left, old, task, current, buckets);
+    let moved = fresh.bucket_len(task.target);
+    let spilled = fresh.overflow_len(task.target);
+    let (none, _, _) = current.exchange(fresh, count + moved, overflowing + spilled);
+    none.destroy_empty();
+    match filled {
+        Ok(()) => Ok(moved),
+        Err(e) => Err(e),
+    }
+}
+
+/// The old buckets in which entries of the target lie: from the first answer up to before the second. Where there are
+/// fewer buckets than before, they hold no others; where there are twice as many, it is one old bucket, which two
+/// targets have in common.
+pub fn sources(old: usize, count: usize, target: usize) -> (usize, usize)
+    requires some { 0 < old }
+    requires most { old ≤ 2 ^ 58 }
+    requires target { target < count }
+    requires multiples { AreMultiples old count }
+    ensures order { result.0 ≤ result.1 }
+    ensures within { result.1 ≤ old }
+    ensures only { (skipped hash : ℕ) → bucket_number skipped count hash ≡ target → (result.0 ≤ bucket_number skipped
+        old hash) × (bucket_number skipped old hash < result.1) }
+    ensures joined { count < old → (skipped hash : ℕ) → result.0 ≤ bucket_number skipped old hash → bucket_number
+        skipped old hash < result.1 → bucket_number skipped count hash ≡ target }
+    ensures doubled { count ≡ 2 * old → (result.1 ≡ result.0 + 1) × ((target ≡ 2 * result.0) ⊎ (target ≡ 2 * result.0 +
+        1)) }
+{
+    if count == 2 * old {
+        return (target / 2, target / 2 + 1);
+    }
+    if old <= count {
+        let targets = count / old;
+        let source = target / targets;
+        return (source, source + 1);
+    }
+    let spread = old / count;
+    (target * spread, target * spread + spread)
+}
+
+/// The other one of the two targets that have an old bucket in common where the array doubles.
+fn sibling(target: usize) -> usize
+    requires { target + 1 < 2 ^ 64 }
+    ensures { AreSiblings target result }
+{
+    if target % 2 == 0 {
+        return target + 1;
+    }
+    target - 1
+}
+
+/// Whether the old buckets that hold entries of the target hold no others: there are fewer buckets than before, or
+/// twice as many, and the target's sibling no longer waits.
+fn is_whole(old: usize, count: usize, target: usize, waiting: &[bool]) -> bool
+    requires most { old ≤ 2 ^ 58 }
+    requires target { target < count }
+    requires flags { length waiting.now ≡ count }
+    ensures { IsTrue result → (count < old) ⊎ ((count ≡ 2 * old) × (k : ℕ) × (AreSiblings target k) × (k < count) ×
+        (slice_index_or waiting.now k false ≡ false)) }
+{
+    if count == 2 * old {
+        return !waiting[sibling(target)];
+    }
+    count < old
+}
+
+/// How many entries of one old bucket belong to the target.
+fn count_in<E: Keyed, H: BuildHasher>(
+    old: &Array<E>,
+    source: usize,
+    target: usize,
+    table: &Buckets<E, H>,
+    skipped: u32,
+    count: usize,
+) -> usize
+where
+    E::Key: Eq + Hash,
+    requires bits { skipped < 64 }
+    requires source { source < length old.now }
+    requires few { length (shelf_entries (shelf_of old.now source)) < 2 ^ 63 }
+    ensures { result ≡ length (bound_for (λ e. key_hash H.BuildHasher H.Hasher.Hasher E.Key.hash_input table.now
+        (E.key_of e)) skipped count target (shelf_entries (shelf_of old.now source))) }
+{
+    let held = old.bucket_len(source);
+    let mut found = 0;
+    for place in 0..held {
+        let hash = table.hash(old.entry_at(source, place).key());
+        if bucket_index(hash, skipped, count) == target {
+            found += 1;
+        }
+    }
+    found
+}
+
+/// How many entries of all old buckets belong to the target, where only those from `first` up to before `last` hold
+/// such entries.
+pub fn count_all<E: Keyed, H: BuildHasher>(
+    old: &Array<E>,
+    first: usize,
+    last: usize,
+    target: usize,
+    table: &Buckets<E, H>,
+    skipped: u32,
+    count: usize,
+) -> usize
+where
+    E::Key: Eq + Hash,
+    requires bits { skipped < 64 }
+    requires sources { IsWithinSources (λ e. key_hash H.BuildHasher H.Hasher.Hasher E.Key.hash_input table.now (E.key_of
+        e)) skipped count target first last old.now }
+    requires few { (j : ℕ) → length (shelf_of old.now j).overflow < 2 ^ 62 }
+    requires own { AreOwn (λ e. key_hash H.BuildHasher H.Hasher.Hasher E.Key.hash_input table.now (E.key_of e)) skipped
+        old.now }
+    requires most { length (flat_map shelf_entries old.now) < 2 ^ 64 }
+    ensures { result ≡ length (bound_for (λ e. key_hash H.BuildHasher H.Hasher.Hasher E.Key.hash_input table.now
+        (E.key_of e)) skipped count target (flat_map shelf_entries old.now)) }
+{
+    let mut found = 0;
+    for source in first..last {
+        found += count_in(old, source, target, table, skipped, count);
+    }
+    found
+}
+
+/// How many entries the old buckets from `first` up to before `last` hold.
+fn len_between<E>(old: &Array<E>, first: usize, last: usize) -> usize
+    requires order { first ≤ last }
+    requires within { last ≤ length old.now }
+    requires few { (j : ℕ) → j < length old.now → length (shelf_entries (shelf_of old.now j)) < 2 ^ 63 }
+    requires most { length (flat_map shelf_entries old.now) < 2 ^ 64 }
+    ensures { length (flat_map shelf_entries (take first old.now)) + result ≡ length (flat_map shelf_entries (take last
+        old.now)) }
+{
+    let mut held = 0;
+    for source in first..last {
+        held += old.bucket_len(source);
+    }
+    held
+}
+
+/// No fewer than the entries of all old buckets that belong to the target, and just as many where it is more than 32.
+/// One old bucket that holds no more isn't looked through, and where the old ones hold no others (`whole`), none is
+/// hashed.
+fn count_coming<E: Keyed, H: BuildHasher>(
+    old: &Array<E>,
+    task: Relocation,
+    table: &Buckets<E, H>,
+    count: usize,
+) -> usize
+where
+    E::Key: Eq + Hash,
+    requires bits { task.skipped < 64 }
+    requires sources { IsWithinSources (λ e. key_hash H.BuildHasher H.Hasher.Hasher E.Key.hash_input table.now (E.key_of
+        e)) task.skipped count task.target task.first task.last old.now }
+    requires joined { IsTrue task.whole → AreJoined (λ e. key_hash H.BuildHasher H.Hasher.Hasher E.Key.hash_input
+        table.now (E.key_of e)) task.skipped count task.target task.first task.last old.now }
+    requires few { (j : ℕ) → length (shelf_of old.now j).overflow < 2 ^ 62 }
+    requires own { AreOwn (λ e. key_hash H.BuildHasher H.Hasher.Hasher E.Key.hash_input table.now (E.key_of e))
+        task.skipped old.now }
+    requires most { length (flat_map shelf_entries old.now) < 2 ^ 64 }
+    ensures enough { length (bound_for (λ e. key_hash H.BuildHasher H.Hasher.Hasher E.Key.hash_input table.now (E.key_of
+        e)) task.skipped count task.target (flat_map shelf_entries old.now)) ≤ result }
+    ensures exact { 32 < result → result ≡ length (bound_for (λ e. key_hash H.BuildHasher H.Hasher.Hasher
+        E.Key.hash_input table.now (E.key_of e)) task.skipped count task.target (flat_map shelf_entries old.now)) }
+{
+    if task.last - task.first == 1 && old.bucket_len(task.first) <= 32 {
+        return 32;
+    }
+    if task.whole {
+        return len_between(old, task.first, task.last);
+    }
+    count_all(
+        old,
+        task.first,
+        task.last,
+        task.target,
+        table,
+        task.skipped,
+        count,
+    )
+}
+
+/// Moves the entries of all old buckets that belong to the target into the table's bucket of that number, which is
+/// empty, in order, and answers how many they are. `aside` entries, no fewer than lie in the overflow lists of the old
+/// array, are counted as if they lay in overflow lists too. `waiting` has the flags of the buckets: the old array holds
+/// no entries of one whose flag is down. Where memory is refused, all stays.
+pub fn take<E: Keyed, H: BuildHasher>(
+    current: &mut Buckets<E, H>,
+    old: &mut Array<E>,
+    target: usize,
+    aside: usize,
+    skipped: u32,
+    waiting: &[bool],
+) -> Result<usize, AllocError>
+where
+    E::Key: Eq + Hash,
+    requires bits { skipped < 64 }
+    requires skips { skipped ≡ (settings_of current.old).skipped }
+    requires target { target < bucket_count current.old }
+    requires bare { list_of current.old target ≡ [] }
+    requires sized { IsArray (length old.old) }
+    requires multiples { AreMultiples (length old.old) (bucket_count current.old) }
+    requires own { AreOwn (λ e. key_hash H.BuildHasher H.Hasher.Hasher E.Key.hash_input current.old (E.key_of e))
+        skipped old.old }
+    requires spilled { spilled_in old.old ≤ aside }
+    requires aside { spilled_of current.old + aside < 2 ^ 62 }
+    requires flags { length waiting.now ≡ bucket_count current.old }
+    requires settled { (i : ℕ) → i < bucket_count current.old → slice_index_or waiting.now i false ≡ false → bound_for
+        (λ e. key_hash H.BuildHasher H.Hasher.Hasher E.Key.hash_input current.old (E.key_of e)) skipped (bucket_count
+        current.old) i (flat_map shelf_entries old.old) ≡ [] }
+    requires unique { IsDistinct E.Key.eq (map E.key_of (flat_map (λ l. l) (slice_set (lists_of current.old) target
+        (bound_for (λ e. key_hash H.BuildHasher H.Hasher.Hasher E.Key.hash_input current.old (E.key_of e)) skipped
+        (bucket_count current.old) target (flat_map shelf_entries old.old))))) }
+    ensures { TakesIn (λ e. key_hash H.BuildHasher H.Hasher.Hasher E.Key.hash_input current.old (E.key_of e)) target
+        (length (bound_for (λ e. key_hash H.BuildHasher H.Hasher.Hasher E.Key.hash_input current.old (E.key_of e))
+        skipped (bucket_count current.old) target (flat_map shelf_entries old.old))) aside current.old old.old result
+        current.new old.new }
+{
+    let before = old.len();
+    let count = current.bucket_count();
+    let (first, last) = sources(before, count, target);
+    let whole = is_whole(before, count, target, waiting);
+    let task = Relocation {
+        target,
+        first,
+        last,
+        whole,
+        skipped,
+    };
+    let coming = count_coming(old, task, current, count);
+    move_in(current, old, task, coming, aside)
+}

@@ -1,0 +1,120 @@
+//! The insertions of an entry of a borrowed index. Each goes on at the place that the search found. Where an entry is
+//! occupied, `len` is called for its contract: no two keys are equal.
+ghost use Rattle.scc_contents.specs.Pairs.{IsUnique};
+ghost use Rattle.scc_index.specs.Entries.{held_index, entry_guard, entry_key, InsertsThrough, IsVacant, OrInserts, OrInsertsSome, Refuses, RefusesSome, occupied_pair, rests_if_refused};
+ghost use Rattle.std.specs.Borrow.{sem};
+ghost use Rattle.std.specs.Fn.{FnOnceTakesAt, FnOnceReturnsAt};
+ghost use Rattle.std.specs.Prelude.{◌≡◌, Ok};
+
+use crate::Owned;
+use crate::borrowed::OccupiedEntry;
+use crate::held::{HeldEntry, HeldPlace};
+use scc_common::InsertError;
+use scc_contents::Hashes;
+use std::hash::{BuildHasher, Hash};
+
+impl<'a, K: Eq + Hash, V, H: BuildHasher> HeldPlace<&'a mut Owned<K, V, H>, (), K, V, H> {
+    /// Inserts `default` where the entry is vacant, and answers the occupied entry. An occupied one stays as it is, and
+    /// can't be refused.
+    pub fn or_insert(self, default: V) -> Result<OccupiedEntry<'a, K, V, H>, InsertError<K, V>>
+    where
+        V: Drop,
+        ensures inserts { InsertsThrough K.eq ⟦<H as Hashes<K>>⟧.hash_of self.entry
+            (OrInserts self.entry default) (Refuses self.entry default) result }
+        ensures* kept { sem 𝓛 (rests_if_refused K.row V.row H.row H.Hasher.row K.Hash H.BuildHasher H.Hasher.Hasher
+            (entry_guard self.entry) (entry_key self.entry) result) }
+    {
+        match self {
+            HeldPlace::Occupied(entry) => {
+                drop(default);
+                entry.as_it_is()
+            }
+            HeldPlace::Vacant(entry) => entry.insert_entry(default),
+        }
+    }
+
+    /// Inserts the answer of `f` where the entry is vacant, and answers the occupied entry. `f` isn't called on an
+    /// occupied one.
+    pub fn or_insert_with<F: FnOnce() -> V>(
+        self,
+        f: F,
+    ) -> Result<OccupiedEntry<'a, K, V, H>, InsertError<K, V>>
+        requires { IsVacant self → F.pre f }
+        ensures inserts { InsertsThrough K.eq ⟦<H as Hashes<K>>⟧.hash_of self.entry
+            (OrInsertsSome self.entry (λ k v. F.post f v)) (RefusesSome self.entry (λ k v. F.post f v)) result }
+        ensures* kept { sem 𝓛 (rests_if_refused K.row V.row H.row H.Hasher.row K.Hash H.BuildHasher H.Hasher.Hasher
+            (entry_guard self.entry) (entry_key self.entry) result) }
+    {
+        match self {
+            HeldPlace::Occupied(entry) => entry.as_it_is(),
+            HeldPlace::Vacant(entry) => {
+                let value = f();
+                entry.insert_entry(value)
+            }
+        }
+    }
+
+    /// Inserts the answer of `f` on the key where the entry is vacant, and answers the occupied entry. `f` isn't called
+    /// on an occupied one.
+    pub fn or_insert_with_key<F: FnOnce(&K) -> V>(
+        self,
+        f: F,
+    ) -> Result<OccupiedEntry<'a, K, V, H>, InsertError<K, V>>
+        requires { IsVacant self → FnOnceTakesAt F.FnOnce f (entry_key self) }
+        ensures inserts { InsertsThrough K.eq ⟦<H as Hashes<K>>⟧.hash_of self.entry
+            (OrInsertsSome self.entry (FnOnceReturnsAt F.FnOnce f))
+            (RefusesSome self.entry (FnOnceReturnsAt F.FnOnce f)) result }
+        ensures* kept { sem 𝓛 (rests_if_refused K.row V.row H.row H.Hasher.row K.Hash H.BuildHasher H.Hasher.Hasher
+            (entry_guard self.entry) (entry_key self.entry) result) }
+    {
+        match self {
+            HeldPlace::Occupied(entry) => entry.as_it_is(),
+            HeldPlace::Vacant(entry) => {
+                let value = f(entry.key());
+                entry.insert_entry(value)
+            }
+        }
+    }
+
+    /// Inserts the default value where the entry is vacant, and answers the occupied entry.
+    pub fn or_default(self) -> Result<OccupiedEntry<'a, K, V, H>, InsertError<K, V>>
+    where
+        V: Default,
+        ensures inserts { InsertsThrough K.eq ⟦<H as Hashes<K>>⟧.hash_of self.entry
+            (OrInsertsSome self.entry (λ k v. V.is_default v)) (RefusesSome self.entry (λ k v. V.is_default v)) result }
+        ensures* kept { sem 𝓛 (rests_if_refused K.row V.row H.row H.Hasher.row K.Hash H.BuildHasher H.Hasher.Hasher
+            (entry_guard self.entry) (entry_key self.entry) result) }
+    {
+        match self {
+            HeldPlace::Occupied(entry) => entry.as_it_is(),
+            HeldPlace::Vacant(entry) => {
+                let value = V::default();
+                entry.insert_entry(value)
+            }
+        }
+    }
+}
+
+impl<'a, K: Eq + Hash, V, H: BuildHasher> HeldEntry<&'a mut Owned<K, V, H>, (), K, V, H> {
+    /// The entry as it is, as an insertion answers it.
+    fn as_it_is(self) -> Result<OccupiedEntry<'a, K, V, H>, InsertError<K, V>>
+        ensures same { result ≡ Ok self.entry }
+        ensures unique { IsUnique K.eq (held_index self.entry) }
+        ensures* kept { sem 𝓛 (rests_if_refused K.row V.row H.row H.Hasher.row K.Hash H.BuildHasher H.Hasher.Hasher
+            self.entry.guard (occupied_pair self.entry).0 result) }
+    {
+        let HeldEntry {
+            guard,
+            place,
+            rest,
+            of,
+        } = self;
+        let _ = guard.len();
+        Ok(HeldEntry {
+            guard,
+            place,
+            rest,
+            of,
+        })
+    }
+}

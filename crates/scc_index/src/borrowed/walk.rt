@@ -1,0 +1,115 @@
+//! Entries in the order of the index's list.
+ghost use Rattle.scc_contents.specs.Contents.{entries, waiting_of};
+ghost use Rattle.scc_contents.specs.PairWalks.{PassesAt, PassesNone};
+ghost use Rattle.scc_contents.specs.Pairs.{IsUnique};
+ghost use Rattle.scc_contents.specs.Walks.{CalledOn, CallableWhile};
+ghost use Rattle.scc_index.specs.Entries.{held_index, occupied_pair, occupied_front, occupied_back, rests_if_none};
+ghost use Rattle.scc_index.specs.EntrySteps.{StandsIn, IsNext, IsNextPastRemoved, rests_removed};
+ghost use Rattle.std.specs.Borrow.{sem};
+ghost use Rattle.std.specs.Prelude.{◌≡◌, [], IfSome, IfNone, false};
+
+use crate::Owned;
+use crate::borrowed::OccupiedEntry;
+use crate::held::HeldEntry;
+use std::hash::{BuildHasher, Hash};
+use std::marker::PhantomData;
+
+impl<K: Eq + Hash, V, H: BuildHasher> Owned<K, V, H> {
+    /// The first entry of the index's list, or None where the index is empty.
+    pub fn begin_sync(&mut self) -> Option<OccupiedEntry<'_, K, V, H>>
+        ensures same_index { IfSome result (λ o. o.guard.ghost_name ≡ self.entry.ghost_name) }
+        ensures first { IfSome result (λ o. StandsIn self.old o × (occupied_front o ≡ [])) }
+        ensures empty { IfNone result (entries self.old ≡ []) }
+        ensures* kept { sem 𝓛 (rests_if_none K.row V.row H.row H.Hasher.row K.Hash H.BuildHasher H.Hasher.Hasher
+            self.entry result) }
+    {
+        match self.table.first_place() {
+            Some(place) => Some(HeldEntry {
+                guard: self,
+                place,
+                rest: (),
+                of: PhantomData,
+            }),
+            None => None,
+        }
+    }
+
+    /// The first entry of the index's list on whose pair `p` answers true, or None where there is none. `p` is called
+    /// on the pairs in the order of the list, up to that one.
+    pub fn any_sync<P: FnMut(&K, &V) -> bool>(&mut self, p: P) -> Option<OccupiedEntry<'_, K, V, H>>
+        requires { CallableWhile P.FnMut false p (entries self.old) }
+        ensures same_index { IfSome result (λ o. o.guard.ghost_name ≡ self.entry.ghost_name) }
+        ensures here { IfSome result (StandsIn self.old) }
+        ensures first { IfSome result (λ o. PassesAt (CalledOn P.FnMut) p (occupied_front o) (occupied_pair o)) }
+        ensures none { IfNone result (PassesNone (CalledOn P.FnMut) p (entries self.old)) }
+        ensures* kept { sem 𝓛 (rests_if_none K.row V.row H.row H.Hasher.row K.Hash H.BuildHasher H.Hasher.Hasher
+            self.entry result) }
+    {
+        let mut p = p;
+        match self.first_passing(&mut p) {
+            Some(place) => Some(HeldEntry {
+                guard: self,
+                place,
+                rest: (),
+                of: PhantomData,
+            }),
+            None => None,
+        }
+    }
+}
+
+impl<'a, K: Eq + Hash, V, H: BuildHasher> HeldEntry<&'a mut Owned<K, V, H>, (), K, V, H> {
+    /// The entry that stands next in the index's list, or None where this one is the last. Nothing is resized.
+    pub fn next_sync(self) -> Option<OccupiedEntry<'a, K, V, H>>
+        ensures next { IfSome result (IsNext self.entry) }
+        ensures last { IfNone result (occupied_back self.entry ≡ []) }
+        ensures* kept { sem 𝓛 (rests_if_none K.row V.row H.row H.Hasher.row K.Hash H.BuildHasher H.Hasher.Hasher
+            self.entry.guard result) }
+    {
+        let HeldEntry {
+            guard,
+            place,
+            rest,
+            of: _,
+        } = self;
+        match guard.next_place(place) {
+            Some(place) => Some(HeldEntry {
+                guard,
+                place,
+                rest,
+                of: PhantomData,
+            }),
+            None => None,
+        }
+    }
+
+    /// Removes the version, and answers the entry that stood next in the index's list, or None where it was the last.
+    /// Nothing is resized. Who kept the version keeps it.
+    pub fn remove_and_sync(self) -> Option<OccupiedEntry<'a, K, V, H>>
+    where
+        K: Drop,
+        V: Drop,
+        ensures next { IfSome result (IsNextPastRemoved self.entry) }
+        ensures waiting { IfSome result (λ o. waiting_of (held_index o) ≡ waiting_of (held_index self.entry)) }
+        ensures unique { IfSome result (λ o. IsUnique K.eq (held_index o)) }
+        ensures last { IfNone result (occupied_back self.entry ≡ []) }
+        ensures* kept { sem 𝓛 (rests_removed K.row V.row H.row H.Hasher.row K.Hash H.BuildHasher H.Hasher.Hasher
+            self.entry result) }
+    {
+        let HeldEntry {
+            guard,
+            place,
+            rest,
+            of: _,
+        } = self;
+        match guard.take_and_step(place) {
+            Some(place) => Some(HeldEntry {
+                guard,
+                place,
+                rest,
+                of: PhantomData,
+            }),
+            None => None,
+        }
+    }
+}

@@ -1,0 +1,143 @@
+//! How an index is made: empty, or of items.
+ghost use Rattle.scc_contents.specs.Contents.{entries, settings_of};
+ghost use Rattle.scc_contents.specs.Pairs.{IsUnique};
+ghost use Rattle.scc_index.specs.Collections.{FindsFirst, InsertsAll, IsCollected, StopsAt};
+ghost use Rattle.scc_table.specs.Making.{IsNew, MakesEmpty};
+ghost use Rattle.std.specs.Arc.{arc_value};
+ghost use Rattle.std.specs.Iterator.{Drains, IsFinite};
+ghost use Rattle.std.specs.Prelude.{◌<◌, ◌≤◌, List, IfOk, IfErr, OnOk};
+
+use crate::Owned;
+pub use crate::borrowed::{Entry, OccupiedEntry, VacantEntry};
+use scc_common::{InsertError, MakeError, Shared};
+pub use scc_snapshot::Iter;
+use scc_table::Table;
+use std::alloc::Global;
+use std::hash::{BuildHasher, BuildHasherDefault, Hash};
+use std::sync::Arc;
+
+impl<K: Eq + Hash, V> Owned<K, V> {
+    /// An empty index without an array. It takes no memory.
+    pub fn new(alloc: Global) -> Self
+        ensures { IsNew (settings_of result).hasher result }
+    {
+        Owned::with_hasher(alloc, BuildHasherDefault::new())
+    }
+
+    /// An empty index with an array for at least so many pairs at one a slot, by the rules of
+    /// `with_capacity_and_hasher`.
+    pub fn with_capacity(alloc: Global, capacity: usize) -> Result<Self, MakeError>
+        ensures { MakesEmpty (λ m. (settings_of m).hasher) 0 capacity result }
+    {
+        Owned::with_capacity_and_hasher(alloc, capacity, BuildHasherDefault::new())
+    }
+}
+
+impl<K: Eq + Hash, V, H: BuildHasher> Owned<K, V, Shared<H>> {
+    /// An empty index that skips so many bits of each hash, and hashes as each other part of that hasher does. Else as
+    /// `with_capacity_and_hasher`.
+    pub fn part(
+        alloc: Global,
+        skipped: u32,
+        capacity: usize,
+        hasher: Arc<H>,
+    ) -> Result<Self, MakeError>
+    where
+        H: Drop,
+        requires { skipped ≤ 4 }
+        ensures { MakesEmpty (λ _. arc_value hasher) skipped capacity result }
+    {
+        Owned::skipping(alloc, skipped, capacity, Shared::new(hasher))
+    }
+}
+
+impl<K: Eq + Hash, V, H: BuildHasher> Owned<K, V, H> {
+    /// An empty index without an array. It takes no memory.
+    pub fn with_hasher(alloc: Global, hasher: H) -> Self
+        ensures { IsNew hasher result }
+    {
+        Owned {
+            table: Table::new(alloc, 0, hasher),
+        }
+    }
+
+    /// An empty index with an array of the least power of two of slots that is at least `capacity` and at least 64;
+    /// without an array for 0. These slots are then its minimum. A size that can't be had is refused.
+    pub fn with_capacity_and_hasher(
+        alloc: Global,
+        capacity: usize,
+        hasher: H,
+    ) -> Result<Self, MakeError>
+    where
+        H: Drop,
+        ensures { MakesEmpty (λ _. hasher) 0 capacity result }
+    {
+        match Table::with_capacity(alloc, 0, capacity, hasher) {
+            Ok(table) => Ok(Owned { table }),
+            Err(e) => Err(e),
+        }
+    }
+
+    /// As `with_capacity_and_hasher`, but skips so many bits of each hash.
+    pub fn skipping(
+        alloc: Global,
+        skipped: u32,
+        capacity: usize,
+        hasher: H,
+    ) -> Result<Self, MakeError>
+    where
+        H: Drop,
+        requires { skipped ≤ 4 }
+        ensures { MakesEmpty (λ _. hasher) skipped capacity result }
+    {
+        match Table::with_capacity(alloc, skipped, capacity, hasher) {
+            Ok(table) => Ok(Owned { table }),
+            Err(e) => Err(e),
+        }
+    }
+
+    /// An index of the items, inserted in their order, so that the first of equal keys stays. Its array is made for as
+    /// many pairs as there are items; without items there is none. It is refused for want of memory, and then the items
+    /// are dropped. The iterator has to end.
+    pub fn try_from_iter<I: IntoIterator<Item = (K, V)>>(
+        alloc: Global,
+        items: I,
+    ) -> Result<Self, MakeError>
+    where
+        K: Drop,
+        V: Drop,
+        H: Default + Drop,
+        requires { (it : I.IntoIter) → I.into_iter_gives items it
+            → I.IntoIter.can_next it × IsFinite (I.IntoIter.remaining it) }
+        ensures items { IfOk result (λ m. (it : I.IntoIter) × (xs : List (K × V)) × I.into_iter_gives items it
+            × Drains I.IntoIter.next_gives it xs × IsCollected K.eq xs m × FindsFirst K.eq xs (entries m)) }
+        ensures unique { IfOk result (λ m. IsUnique K.eq m) }
+    {
+        let Ok(pairs) = Vec::from_iter(alloc, items) else {
+            return Err(MakeError);
+        };
+        let mut made = Owned::with_capacity_and_hasher(alloc, pairs.len(), H::default())?;
+        let Ok(()) = made.insert_all(pairs) else {
+            return Err(MakeError);
+        };
+        Ok(made)
+    }
+
+    /// Inserts the pairs in their order, up to the first for which memory is refused, which comes back.
+    fn insert_all(&mut self, pairs: Vec<(K, V)>) -> Result<(), (K, V)>
+    where
+        K: Drop,
+        V: Drop,
+        ensures refused { IfErr result (λ p. StopsAt K.eq self.old pairs.items p self.new) }
+        ensures run { OnOk result (InsertsAll K.eq self.old pairs.items self.new) }
+    {
+        for (k, v) in pairs {
+            match self.insert_sync(k, v) {
+                Ok(()) => {}
+                Err(InsertError::Exists(_pair)) => {}
+                Err(InsertError::Memory(pair)) => return Err(pair),
+            }
+        }
+        Ok(())
+    }
+}

@@ -1,0 +1,113 @@
+//! What is done at a place of an index.
+ghost use Rattle.scc_array.specs.ShelfWrites.{put_whole};
+ghost use Rattle.scc_contents.specs.Contents.{entries, bucket_count, minimum_of, hash_in};
+ghost use Rattle.scc_contents.specs.Pairs.{find, IsUnique};
+ghost use Rattle.scc_contents.specs.Sizes.{IsSmaller};
+ghost use Rattle.scc_contents.specs.Steps.{Holds, ShrinksWhenDue};
+ghost use Rattle.scc_index.specs.Insertions.{InsertsNewByRule};
+ghost use Rattle.scc_table.specs.Places.{IsPlace, IsFoundAt, index_of, with_write_at};
+ghost use Rattle.scc_table.specs.Relocations.{RelocatesNone};
+ghost use Rattle.std.specs.Prelude.{◌≡◌, ◌≢◌, ◌<◌, ◌*◌, length, Some, None, IfOk, true, IfErr, MatchOption, slice_get, remove};
+
+pub use crate::borrowed::{Entry, OccupiedEntry, VacantEntry};
+use scc_buckets::Place;
+use scc_contents::Hashes;
+use scc_entry::SharedVersion;
+pub use scc_snapshot::Iter;
+use std::hash::{BuildHasher, Hash};
+
+impl<K: Eq + Hash, V, H: BuildHasher> Owned<K, V, H> {
+    /// The hash of a key.
+    pub(crate) fn hash_of(&self, k: &K) -> u64
+        ensures { result ≡ hash_in ⟦<H as Hashes<K>>⟧.hash_of self.now k.now }
+    {
+        self.table.hash(k)
+    }
+
+    /// The place of the version of `k`, whose hash it is.
+    pub(crate) fn place_of(&self, hash: u64, k: &K) -> Option<Place>
+        requires { hash ≡ hash_in ⟦<H as Hashes<K>>⟧.hash_of self.now k.now }
+        ensures place { MatchOption result (find K.eq (entries self.now) k.now ≡ None)
+            (IsFoundAt (λ e. K.eq k.now e.0) self.now) }
+        ensures unique { IsUnique K.eq self.now }
+    {
+        self.table.search(hash, k)
+    }
+
+    /// The key and the value at the place.
+    #[inline(always)]
+    pub fn pair_at(&self, place: Place) -> (&K, &V)
+        requires { IsPlace self.now place }
+        ensures { slice_get (entries self.now) (index_of self.now place) ≡ Some (result.0.now, result.1.now) }
+    {
+        let version = self.table.version_at(place);
+        (version.key(), version.value())
+    }
+
+    /// Takes the version out of its place.
+    pub(crate) fn remove_at(&mut self, place: Place)
+    where
+        K: Drop,
+        V: Drop,
+        requires { IsPlace self.old place }
+        ensures others { Holds self.old (remove (entries self.old) (index_of self.old place)) self.new }
+        ensures smaller { bucket_count self.new ≢ bucket_count self.old
+            → IsSmaller (minimum_of self.old) (length (entries self.new)) (bucket_count self.old)
+            (bucket_count self.new) }
+        ensures due { ShrinksWhenDue self.old self.new }
+        ensures relocates { RelocatesNone self.old self.new }
+        ensures unique { IsUnique K.eq self.new }
+    {
+        let _version = self.table.remove_at(place);
+    }
+
+    /// Puts in a version of a pair whose key is new, and answers its place.
+    pub(crate) fn insert_new(&mut self, hash: u64, k: K, v: V) -> Result<Place, (K, V)>
+        requires hashed { hash ≡ hash_in ⟦<H as Hashes<K>>⟧.hash_of self.old k }
+        requires absent { find K.eq (entries self.old) k ≡ None }
+        ensures { InsertsNewByRule K.eq ⟦<H as Hashes<K>>⟧.hash_of self.old (k, v) result self.new }
+    {
+        self.table.insert_made(hash, (k, v))
+    }
+
+    /// A version of the value and a clone of the key at the place. Refused for want of memory, and where the clone
+    /// can't be had or differs from the key, it hands the value back.
+    pub(crate) fn next_version(&self, place: Place, value: V) -> Result<SharedVersion<K, V>, V>
+    where
+        K: Clone + Drop,
+        requires { IsPlace self.now place }
+        ensures made { IfOk result (λ e. (p : K × V)
+            × (slice_get (entries self.now) (index_of self.now place) ≡ Some p) × K.is_clone p.0 e.0
+            × (K.eq e.0 p.0 ≡ true) × (e.1 ≡ value)) }
+        ensures refused { IfErr result (λ v. v ≡ value) }
+        ensures unique { IsUnique K.eq self.now }
+    {
+        let _ = self.len();
+        let stored = self.table.version_at(place).key();
+        let Ok(key) = stored.clone() else {
+            return Err(value);
+        };
+        if key != *stored {
+            return Err(value);
+        }
+        match SharedVersion::make(self.table.allocator(), (key, value)) {
+            Ok(version) => Ok(version),
+            Err((_key, value)) => Err(value),
+        }
+    }
+
+    /// Puts the version in the place of the one there, whose key it equals.
+    pub(crate) fn put_at(&mut self, place: Place, version: SharedVersion<K, V>)
+    where
+        K: Drop,
+        V: Drop,
+        requires within { IsPlace self.old place }
+        requires same { (p : K × V) → slice_get (entries self.old) (index_of self.old place) ≡ Some p
+            → K.eq version.0 p.0 ≡ true }
+        ensures new { self.new ≡ with_write_at put_whole self.old place version }
+        ensures unique { IsUnique K.eq self.new }
+    {
+        let _old = self.table.replace_at(place, version);
+        let _ = self.len();
+    }
+}

@@ -1,0 +1,56 @@
+//! Snapshots of an index.
+ghost use Rattle.scc_contents.specs.Contents.{entries};
+ghost use Rattle.std.specs.Arc.{arc_value};
+ghost use Rattle.std.specs.Prelude.{◌≡◌, ◌++◌, ℕ, IfOk, OnOk, OnErr, map, take};
+
+use crate::Owned;
+use scc_common::MakeError;
+use scc_entry::Version;
+use scc_snapshot::Iter;
+use std::hash::{BuildHasher, Hash};
+use std::sync::Arc;
+
+impl<K: Eq + Hash, V, H: BuildHasher> Owned<K, V, H> {
+    /// A snapshot of the versions, in the index's own order. It is refused for want of memory, and where a version has
+    /// 2^63 - 1 owners.
+    pub fn iter(&self) -> Result<Iter<K, V>, MakeError>
+    where
+        K: Drop,
+        V: Drop,
+        ensures { IfOk result (λ s. s ≡ entries self.now) }
+    {
+        let mut versions = match Vec::with_capacity(self.table.allocator(), self.len()) {
+            Ok(versions) => versions,
+            Err(_) => return Err(MakeError),
+        };
+        match self.iter_into(&mut versions) {
+            Ok(()) => Ok(Iter::of(versions)),
+            Err(e) => Err(e),
+        }
+    }
+
+    /// Adds the versions to a list, in the index's own order. It is refused for want of memory, and where a version has
+    /// 2^63 - 1 owners; then the first versions were added.
+    pub fn iter_into(&self, versions: &mut Vec<Arc<Version<K, V>>>) -> Result<(), MakeError>
+    where
+        K: Drop,
+        V: Drop,
+        ensures all { OnOk result (map arc_value versions.new.items
+            ≡ map arc_value versions.old.items ++ entries self.now) }
+        ensures refused { OnErr result ((n : ℕ) × (map arc_value versions.new.items
+            ≡ map arc_value versions.old.items ++ take n (entries self.now))) }
+    {
+        let mut at = self.table.first_place();
+        while let Some(place) = at {
+            let Ok(version) = self.table.entry_at(place).share() else {
+                return Err(MakeError);
+            };
+            match versions.push(version) {
+                Ok(()) => {}
+                Err(_back) => return Err(MakeError),
+            }
+            at = self.next_place(place);
+        }
+        Ok(())
+    }
+}

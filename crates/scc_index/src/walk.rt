@@ -1,0 +1,174 @@
+//! Walks over the pairs of an index, from place to place.
+ghost use Rattle.scc_contents.specs.Contents.{entries, bucket_count, minimum_of, refused_of, waiting_of};
+ghost use Rattle.scc_contents.specs.PairWalks.{Declines, PassesFirst};
+ghost use Rattle.scc_contents.specs.Pairs.{IsUnique};
+ghost use Rattle.scc_contents.specs.Sizes.{IsSmaller};
+ghost use Rattle.scc_contents.specs.Steps.{Holds, HoldsExactly, ShrinksWhenDue};
+ghost use Rattle.scc_contents.specs.Walks.{CalledOn, CallableWhile, Walks};
+ghost use Rattle.scc_index.specs.IndexWalks.{CallableOnAll, Retains};
+ghost use Rattle.scc_index.specs.Removals.{ClearsByRule};
+ghost use Rattle.scc_table.specs.Places.{IsPlace, StandsAt, index_of};
+ghost use Rattle.scc_table.specs.Relocations.{RelocatesNone};
+ghost use Rattle.std.specs.List.Sorted.{IsPermutation};
+ghost use Rattle.std.specs.Prelude.{◌≡◌, ◌≢◌, suc, List, [], length, remove, MatchOption, false, true};
+
+use crate::Owned;
+use scc_buckets::Place;
+use std::hash::{BuildHasher, Hash};
+
+impl<K: Eq + Hash, V, H: BuildHasher> Owned<K, V, H> {
+    /// Takes out all versions. Then the array may become smaller.
+    pub fn clear_sync(&mut self)
+    where
+        K: Drop,
+        V: Drop,
+        ensures { ClearsByRule K.eq self.old self.new }
+    {
+        self.take_all();
+        self.table.shrink();
+    }
+
+    /// Takes out all versions, with no resize.
+    fn take_all(&mut self)
+    where
+        K: Drop,
+        V: Drop,
+        ensures step { HoldsExactly self.old [] self.new }
+        ensures noted { refused_of self.new ≡ refused_of self.old }
+        ensures waiting { waiting_of self.new ≡ waiting_of self.old }
+    {
+        let mut at = self.table.first_place();
+        while let Some(place) = at {
+            at = self.take_and_step(place);
+        }
+    }
+
+    /// Calls `f` on every pair once, in some order, and takes out the versions of the pairs on which it answers false.
+    /// Then the array may become smaller.
+    pub fn retain_sync<F: FnMut(&K, &V) -> bool>(&mut self, f: F)
+    where
+        K: Drop,
+        V: Drop,
+        requires { (es : List (K × V)) → IsPermutation (entries self.old) es → CallableOnAll F.FnMut f es }
+        ensures step { (es : List (K × V)) × (stay : List (K × V)) × (last : F) × IsPermutation (entries self.old) es
+            × Retains (CalledOn F.FnMut) f es stay last × Holds self.old stay self.new }
+        ensures smaller { bucket_count self.new ≢ bucket_count self.old
+            → IsSmaller (minimum_of self.old) (length (entries self.new)) (bucket_count self.old)
+            (bucket_count self.new) }
+        ensures due { ShrinksWhenDue self.old self.new }
+        ensures relocates { RelocatesNone self.old self.new }
+        ensures unique { IsUnique K.eq self.new }
+    {
+        let mut f = f;
+        self.retain_lent(&mut f);
+    }
+
+    /// As `retain_sync`, with a closure that is lent, and goes on to other indexes.
+    pub fn retain_lent<F: FnMut(&K, &V) -> bool>(&mut self, f: &mut F)
+    where
+        K: Drop,
+        V: Drop,
+        requires { (es : List (K × V)) → IsPermutation (entries self.old) es → CallableOnAll F.FnMut f.old es }
+        ensures step { (es : List (K × V)) × (stay : List (K × V)) × IsPermutation (entries self.old) es
+            × Retains (CalledOn F.FnMut) f.old es stay f.new × Holds self.old stay self.new }
+        ensures smaller { bucket_count self.new ≢ bucket_count self.old
+            → IsSmaller (minimum_of self.old) (length (entries self.new)) (bucket_count self.old)
+            (bucket_count self.new) }
+        ensures due { ShrinksWhenDue self.old self.new }
+        ensures relocates { RelocatesNone self.old self.new }
+        ensures unique { IsUnique K.eq self.new }
+    {
+        self.retain_all(f);
+        self.table.shrink();
+    }
+
+    /// The same in the order of the list, with no resize.
+    fn retain_all<F: FnMut(&K, &V) -> bool>(&mut self, f: &mut F)
+    where
+        K: Drop,
+        V: Drop,
+        requires { CallableOnAll F.FnMut f.old (entries self.old) }
+        ensures step { (stay : List (K × V)) × Retains (CalledOn F.FnMut) f.old (entries self.old) stay f.new
+            × HoldsExactly self.old stay self.new }
+        ensures noted { refused_of self.new ≡ refused_of self.old }
+        ensures waiting { waiting_of self.new ≡ waiting_of self.old }
+    {
+        let mut at = self.table.first_place();
+        while let Some(place) = at {
+            let (key, value) = self.pair_at(place);
+            if f(key, value) {
+                at = self.next_place(place);
+            } else {
+                at = self.take_and_step(place);
+            }
+        }
+    }
+
+    /// The place of the first version of the list, or None where the index is empty.
+    pub fn first_place(&self) -> Option<Place>
+        ensures { MatchOption result (entries self.now ≡ []) (StandsAt self.now 0) }
+    {
+        self.table.first_place()
+    }
+
+    /// The place after that one, or None where it is the last.
+    pub fn next_place(&self, place: Place) -> Option<Place>
+        requires { IsPlace self.now place }
+        ensures { MatchOption result (suc (index_of self.now place) ≡ length (entries self.now))
+            (StandsAt self.now (suc (index_of self.now place))) }
+    {
+        self.table.next_place(place)
+    }
+
+    /// Takes the version out of its place, with no resize, and answers the place of the one that followed.
+    pub(crate) fn take_and_step(&mut self, place: Place) -> Option<Place>
+    where
+        K: Drop,
+        V: Drop,
+        requires { IsPlace self.old place }
+        ensures others { HoldsExactly self.old (remove (entries self.old) (index_of self.old place)) self.new }
+        ensures noted { refused_of self.new ≡ refused_of self.old }
+        ensures waiting { waiting_of self.new ≡ waiting_of self.old }
+        ensures next { MatchOption result (suc (index_of self.old place) ≡ length (entries self.old))
+            (StandsAt self.new (index_of self.old place)) }
+        ensures unique { IsUnique K.eq self.new }
+    {
+        let (_version, next) = self.table.take_and_step(place);
+        next
+    }
+
+    /// The place of the first pair on which `p` answers true. It is called on the pairs in their order, up to that one.
+    pub(crate) fn first_passing<P: FnMut(&K, &V) -> bool>(&self, p: &mut P) -> Option<Place>
+        requires { CallableWhile P.FnMut false p.old (entries self.now) }
+        ensures { MatchOption result (Declines (CalledOn P.FnMut) p.old (entries self.now) p.new)
+            (λ place. IsPlace self.now place
+            × PassesFirst (CalledOn P.FnMut) p.old (entries self.now) (index_of self.now place)) }
+    {
+        let mut at = self.table.first_place();
+        while let Some(place) = at {
+            let (key, value) = self.pair_at(place);
+            if p(key, value) {
+                return Some(place);
+            }
+            at = self.next_place(place);
+        }
+        None
+    }
+
+    /// Calls `f` on the pairs in the order of the list until its first false, and answers false where it stopped. The
+    /// closure is lent, and goes on to other indexes.
+    pub fn iter_lent<F: FnMut(&K, &V) -> bool>(&self, f: &mut F) -> bool
+        requires { CallableWhile F.FnMut true f.old (entries self.now) }
+        ensures { Walks (CalledOn F.FnMut) f.old (entries self.now) result f.new }
+    {
+        let mut at = self.table.first_place();
+        while let Some(place) = at {
+            let (key, value) = self.pair_at(place);
+            if !f(key, value) {
+                return false;
+            }
+            at = self.next_place(place);
+        }
+        true
+    }
+}

@@ -1,0 +1,12 @@
+use Rattle.std.proofs.Common.{rules}
+use Rattle.scc_contents.specs.Contents.{entries}
+use Rattle.scc_buckets.proofs.Lookups.{find-position, find-position_none}
+use Rattle.scc_map.proofs.Owned.contains_sync.Goals as goal
+
+pub returns-in-Some : goal.returns-in-Some
+returns-in-Some g c =
+    let f = find-position (g.K.PartialEq.eq c.args.k.now) (entries c.self.inside.table) _ c.in-Some.ensures.place.found in
+    rw (← c.self.view_is, f.2) (search rules)
+
+pub returns-in-None : goal.returns-in-None
+returns-in-None g c = rw (← c.self.view_is, find-position_none (g.K.PartialEq.eq c.args.k.now) (entries c.self.inside.table) c.in-None.ensures.place) (search rules)

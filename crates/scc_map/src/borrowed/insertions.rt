@@ -1,0 +1,167 @@
+//! The insertions of an entry of a borrowed map. Each goes on at the place that the search found, and all but
+//! `insert_entry` call `or_insert_with_key`. At an occupied entry that one calls `len` for its contract: no two keys
+//! are equal.
+ghost use Rattle.scc_map.specs.Entries.{entry_guard, entry_key, InsertsThrough, IsVacant, OrInserts, OrInsertsSome, Refuses, RefusesSome, SetsEntry, rests_if_refused};
+ghost use Rattle.std.specs.Borrow.{sem};
+ghost use Rattle.std.specs.Fn.{FnOnceTakesAt, FnOnceReturnsAt};
+ghost use Rattle.std.specs.Prelude.{◌≡◌};
+
+use crate::Owned;
+use crate::borrowed::OccupiedEntry;
+use crate::held::{HeldEntry, HeldPlace, HeldVacant};
+use scc_common::InsertError;
+use scc_contents::Hashes;
+use std::hash::{BuildHasher, Hash};
+use std::marker::PhantomData;
+
+impl<'a, K: Eq + Hash, V, H: BuildHasher> HeldPlace<&'a mut Owned<K, V, H>, (), K, V, H> {
+    /// Inserts `default` where the entry is vacant, and answers the occupied entry. An occupied one stays as it is, and
+    /// can't be refused.
+    pub fn or_insert(self, default: V) -> Result<OccupiedEntry<'a, K, V, H>, InsertError<K, V>>
+    where
+        V: Drop,
+        ensures inserts { InsertsThrough K.eq ⟦<H as Hashes<K>>⟧.hash_of self.entry
+            (OrInserts self.entry default) (Refuses self.entry default) result }
+        ensures* kept { sem 𝓛 (rests_if_refused K.row V.row H.row H.Hasher.row K.Hash H.BuildHasher H.Hasher.Hasher
+            (entry_guard self.entry) (entry_key self.entry) result) }
+    {
+        self.or_insert_with_key(
+            move |_key: &K| -> V
+                ensures { result ≡ default }
+            { default },
+        )
+    }
+
+    /// Inserts the answer of `f` where the entry is vacant, and answers the occupied entry. `f` isn't called on an
+    /// occupied one.
+    pub fn or_insert_with<F: FnOnce() -> V>(
+        self,
+        f: F,
+    ) -> Result<OccupiedEntry<'a, K, V, H>, InsertError<K, V>>
+        requires { IsVacant self → F.pre f }
+        ensures inserts { InsertsThrough K.eq ⟦<H as Hashes<K>>⟧.hash_of self.entry
+            (OrInsertsSome self.entry (λ k v. F.post f v)) (RefusesSome self.entry (λ k v. F.post f v)) result }
+        ensures* kept { sem 𝓛 (rests_if_refused K.row V.row H.row H.Hasher.row K.Hash H.BuildHasher H.Hasher.Hasher
+            (entry_guard self.entry) (entry_key self.entry) result) }
+    {
+        self.or_insert_with_key(
+            move |_key: &K| -> V
+                requires { F.pre f }
+                ensures { F.post f result }
+            { f() },
+        )
+    }
+
+    /// Inserts the answer of `f` on the key where the entry is vacant, and answers the occupied entry. `f` isn't called
+    /// on an occupied one.
+    pub fn or_insert_with_key<F: FnOnce(&K) -> V>(
+        self,
+        f: F,
+    ) -> Result<OccupiedEntry<'a, K, V, H>, InsertError<K, V>>
+        requires { IsVacant self → FnOnceTakesAt F.FnOnce f (entry_key self) }
+        ensures inserts { InsertsThrough K.eq ⟦<H as Hashes<K>>⟧.hash_of self.entry
+            (OrInsertsSome self.entry (FnOnceReturnsAt F.FnOnce f))
+            (RefusesSome self.entry (FnOnceReturnsAt F.FnOnce f)) result }
+        ensures* kept { sem 𝓛 (rests_if_refused K.row V.row H.row H.Hasher.row K.Hash H.BuildHasher H.Hasher.Hasher
+            (entry_guard self.entry) (entry_key self.entry) result) }
+    {
+        match self {
+            HeldPlace::Occupied(entry) => {
+                let HeldEntry {
+                    guard,
+                    place,
+                    rest,
+                    of,
+                } = entry;
+                let _ = guard.len();
+                Ok(HeldEntry {
+                    guard,
+                    place,
+                    rest,
+                    of,
+                })
+            }
+            HeldPlace::Vacant(entry) => {
+                let HeldVacant {
+                    guard,
+                    key,
+                    hash,
+                    rest,
+                    of: _,
+                } = entry;
+                let value = f(&key);
+                match guard.insert_new(hash, key, value) {
+                    Ok(place) => Ok(HeldEntry {
+                        guard,
+                        place,
+                        rest,
+                        of: PhantomData,
+                    }),
+                    Err(pair) => Err(InsertError::Memory(pair)),
+                }
+            }
+        }
+    }
+
+    /// Inserts the default value where the entry is vacant, and answers the occupied entry.
+    pub fn or_default(self) -> Result<OccupiedEntry<'a, K, V, H>, InsertError<K, V>>
+    where
+        V: Default,
+        ensures inserts { InsertsThrough K.eq ⟦<H as Hashes<K>>⟧.hash_of self.entry
+            (OrInsertsSome self.entry (λ k v. V.is_default v)) (RefusesSome self.entry (λ k v. V.is_default v)) result }
+        ensures* kept { sem 𝓛 (rests_if_refused K.row V.row H.row H.Hasher.row K.Hash H.BuildHasher H.Hasher.Hasher
+            (entry_guard self.entry) (entry_key self.entry) result) }
+    {
+        self.or_insert_with_key(
+            move |_key: &K| -> V
+                ensures { V.is_default result }
+            { V::default() },
+        )
+    }
+
+    /// Sets the value of an occupied entry, which keeps its key; inserts it at a vacant one. It answers the entry.
+    pub fn insert_entry(self, value: V) -> Result<OccupiedEntry<'a, K, V, H>, InsertError<K, V>>
+    where
+        V: Drop,
+        ensures inserts { InsertsThrough K.eq ⟦<H as Hashes<K>>⟧.hash_of self.entry
+            (SetsEntry self.entry value) (Refuses self.entry value) result }
+        ensures* kept { sem 𝓛 (rests_if_refused K.row V.row H.row H.Hasher.row K.Hash H.BuildHasher H.Hasher.Hasher
+            (entry_guard self.entry) (entry_key self.entry) result) }
+    {
+        match self {
+            HeldPlace::Occupied(entry) => {
+                let HeldEntry {
+                    guard,
+                    place,
+                    rest,
+                    of,
+                } = entry;
+                let _old = guard.write_at(place, value);
+                Ok(HeldEntry {
+                    guard,
+                    place,
+                    rest,
+                    of,
+                })
+            }
+            HeldPlace::Vacant(entry) => {
+                let HeldVacant {
+                    guard,
+                    key,
+                    hash,
+                    rest,
+                    of: _,
+                } = entry;
+                match guard.insert_new(hash, key, value) {
+                    Ok(place) => Ok(HeldEntry {
+                        guard,
+                        place,
+                        rest,
+                        of: PhantomData,
+                    }),
+                    Err(pair) => Err(InsertError::Memory(pair)),
+                }
+            }
+        }
+    }
+}

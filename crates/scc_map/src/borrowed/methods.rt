@@ -1,0 +1,155 @@
+//! What makes an entry of a borrowed map, and what lets the map go. The search is made once, and an entry holds its
+//! place.
+ghost use Rattle.scc_contents.specs.Contents.{entries, refused_of, waiting_of};
+ghost use Rattle.scc_contents.specs.Pairs.{find, IsUnique};
+ghost use Rattle.scc_map.specs.Entries.{entry_guard, InsertsAtVacant, IsOccupiedAt, IsEntryOf, rests_if_refused, rests_if_none, replaced_guard, Replaces};
+ghost use Rattle.scc_map.specs.EntrySteps.{RemovesEntryByRule, RemovesValueByRule};
+ghost use Rattle.std.specs.Borrow.{sem};
+ghost use Rattle.std.specs.Prelude.{◌≡◌, None, IfSome, IfNone};
+
+use crate::Owned;
+use crate::borrowed::{Entry, OccupiedEntry, ReplaceResult};
+use crate::held::{HeldEntry, HeldPlace, HeldReplace, HeldVacant};
+use scc_common::InsertError;
+use scc_contents::Hashes;
+use std::hash::{BuildHasher, Hash};
+use std::marker::PhantomData;
+
+impl<K: Eq + Hash, V, H: BuildHasher> Owned<K, V, H> {
+    /// The entry of `k`: occupied at the stored pair, or vacant with `k`. It takes no memory and makes no array.
+    pub fn entry_sync(&mut self, k: K) -> Entry<'_, K, V, H>
+    where
+        K: Drop,
+        ensures same_map { (entry_guard result).ghost_name ≡ self.entry.ghost_name }
+        ensures entry { IsEntryOf K.eq self.old k result }
+        ensures unique { IsUnique K.eq self.old }
+    {
+        let hash = self.table.hash(&k);
+        match self.table.search(hash, &k) {
+            Some(place) => HeldPlace::Occupied(HeldEntry {
+                guard: self,
+                place,
+                rest: (),
+                of: PhantomData,
+            }),
+            None => HeldPlace::Vacant(HeldVacant {
+                guard: self,
+                key: k,
+                hash,
+                rest: (),
+                of: PhantomData,
+            }),
+        }
+    }
+
+    /// The occupied entry of `k`, or None where no key equals it.
+    pub fn get_sync(&mut self, k: &K) -> Option<OccupiedEntry<'_, K, V, H>>
+        ensures same_map { IfSome result (λ o. o.guard.ghost_name ≡ self.entry.ghost_name) }
+        ensures entry { IfSome result (IsOccupiedAt K.eq self.old k.now) }
+        ensures unique { IsUnique K.eq self.old }
+        ensures missing { IfNone result (find K.eq (entries self.old) k.now ≡ None) }
+        ensures* kept { sem 𝓛 (rests_if_none K.row V.row H.row H.Hasher.row K.Hash H.BuildHasher H.Hasher.Hasher
+            self.entry result) }
+    {
+        let hash = self.table.hash(k);
+        match self.table.search(hash, k) {
+            Some(place) => Some(HeldEntry {
+                guard: self,
+                place,
+                rest: (),
+                of: PhantomData,
+            }),
+            None => None,
+        }
+    }
+
+    /// Puts `k` in the place of the key that equals it, keeps the value, and answers the entry with the old key. Where
+    /// no key equals it, it inserts nothing and answers the vacant entry. It takes no memory.
+    pub fn replace_sync(&mut self, k: K) -> ReplaceResult<'_, K, V, H>
+        ensures same_map { (replaced_guard result).ghost_name ≡ self.entry.ghost_name }
+        ensures step { Replaces K.eq self.old k result }
+        ensures noted { refused_of (replaced_guard result).now ≡ refused_of self.old }
+        ensures waiting { waiting_of (replaced_guard result).now ≡ waiting_of self.old }
+        ensures unique { IsUnique K.eq (replaced_guard result).now }
+    {
+        let hash = self.table.hash(&k);
+        match self.table.search(hash, &k) {
+            Some(place) => {
+                let old = self.replace_key_at(place, k);
+                HeldReplace::Replaced(
+                    HeldEntry {
+                        guard: self,
+                        place,
+                        rest: (),
+                        of: PhantomData,
+                    },
+                    old,
+                )
+            }
+            None => HeldReplace::NotReplaced(HeldVacant {
+                guard: self,
+                key: k,
+                hash,
+                rest: (),
+                of: PhantomData,
+            }),
+        }
+    }
+}
+
+impl<'a, N, K: Eq + Hash, V, H: BuildHasher> HeldEntry<&'a mut Owned<K, V, H>, N, K, V, H> {
+    /// Removes the pair, and answers its value. The array may become smaller.
+    pub fn remove(self) -> V
+    where
+        N: Drop,
+        K: Drop,
+        ensures { RemovesValueByRule K.eq self.entry result self.exit.0.now }
+    {
+        let (_key, value) = self.remove_entry();
+        value
+    }
+
+    /// Removes the pair, and answers it. The array may become smaller.
+    pub fn remove_entry(self) -> (K, V)
+    where
+        N: Drop,
+        ensures { RemovesEntryByRule K.eq self.entry result self.exit.0.now }
+    {
+        let place = self.place;
+        self.guard.remove_at(place)
+    }
+}
+
+impl<'a, K: Eq + Hash, V, H: BuildHasher> HeldVacant<&'a mut Owned<K, V, H>, (), K, V, H> {
+    /// Gives the key back, and leaves the map as it is.
+    pub fn into_key(self) -> K
+        ensures key { result ≡ self.entry.key }
+        ensures unchanged { self.exit.0.now ≡ self.entry.guard.now }
+    {
+        self.key
+    }
+
+    /// Inserts the key with `value`, and answers its entry. Refused for want of memory, key and value come back.
+    pub fn insert_entry(self, value: V) -> Result<OccupiedEntry<'a, K, V, H>, InsertError<K, V>>
+        ensures inserts { InsertsAtVacant K.eq ⟦<H as Hashes<K>>⟧.hash_of self.entry value result }
+        ensures* kept { sem 𝓛 (rests_if_refused K.row V.row H.row H.Hasher.row K.Hash H.BuildHasher H.Hasher.Hasher
+            self.entry.guard self.entry.key result) }
+    {
+        let HeldVacant {
+            guard,
+            key,
+            hash,
+            rest,
+            of: _,
+        } = self;
+        match guard.insert_new(hash, key, value) {
+            Ok(place) => Ok(HeldEntry {
+                guard,
+                place,
+                rest,
+                of: PhantomData,
+            }),
+            Err(pair) => Err(InsertError::Memory(pair)),
+        }
+    }
+}

@@ -1,0 +1,112 @@
+//! Entries in the order of the map's list.
+ghost use Rattle.scc_contents.specs.Contents.{entries};
+ghost use Rattle.scc_contents.specs.PairWalks.{PassesAt, PassesNone};
+ghost use Rattle.scc_contents.specs.Walks.{CalledOn, CallableWhile};
+ghost use Rattle.scc_map.specs.Entries.{occupied_pair, occupied_front, occupied_back, rests_if_none};
+ghost use Rattle.scc_map.specs.EntrySteps.{StandsIn, IsNext, RemovesAndSteps, rests_removed};
+ghost use Rattle.std.specs.Borrow.{sem};
+ghost use Rattle.std.specs.Prelude.{◌≡◌, [], IfSome, IfNone, false};
+
+use crate::Owned;
+use crate::borrowed::OccupiedEntry;
+use crate::held::HeldEntry;
+use std::hash::{BuildHasher, Hash};
+use std::marker::PhantomData;
+
+impl<K: Eq + Hash, V, H: BuildHasher> Owned<K, V, H> {
+    /// The first entry of the map's list, or None where the map is empty.
+    pub fn begin_sync(&mut self) -> Option<OccupiedEntry<'_, K, V, H>>
+        ensures same_map { IfSome result (λ o. o.guard.ghost_name ≡ self.entry.ghost_name) }
+        ensures first { IfSome result (λ o. StandsIn self.old o × (occupied_front o ≡ [])) }
+        ensures empty { IfNone result (entries self.old ≡ []) }
+        ensures* kept { sem 𝓛 (rests_if_none K.row V.row H.row H.Hasher.row K.Hash H.BuildHasher H.Hasher.Hasher
+            self.entry result) }
+    {
+        match self.table.first_place() {
+            Some(place) => Some(HeldEntry {
+                guard: self,
+                place,
+                rest: (),
+                of: PhantomData,
+            }),
+            None => None,
+        }
+    }
+
+    /// The first entry of the map's list on whose pair `p` answers true, or None where there is none. `p` is called on
+    /// the pairs in the order of the list, up to that one.
+    pub fn any_sync<P: FnMut(&K, &V) -> bool>(&mut self, p: P) -> Option<OccupiedEntry<'_, K, V, H>>
+        requires { CallableWhile P.FnMut false p (entries self.old) }
+        ensures same_map { IfSome result (λ o. o.guard.ghost_name ≡ self.entry.ghost_name) }
+        ensures here { IfSome result (StandsIn self.old) }
+        ensures first { IfSome result (λ o. PassesAt (CalledOn P.FnMut) p (occupied_front o) (occupied_pair o)) }
+        ensures none { IfNone result (PassesNone (CalledOn P.FnMut) p (entries self.old)) }
+        ensures* kept { sem 𝓛 (rests_if_none K.row V.row H.row H.Hasher.row K.Hash H.BuildHasher H.Hasher.Hasher
+            self.entry result) }
+    {
+        let mut p = p;
+        match self.first_passing(&mut p) {
+            Some(place) => Some(HeldEntry {
+                guard: self,
+                place,
+                rest: (),
+                of: PhantomData,
+            }),
+            None => None,
+        }
+    }
+}
+
+impl<'a, K: Eq + Hash, V, H: BuildHasher> HeldEntry<&'a mut Owned<K, V, H>, (), K, V, H> {
+    /// The entry that stands next in the map's list, or None where this one is the last. Nothing is resized.
+    pub fn next_sync(self) -> Option<OccupiedEntry<'a, K, V, H>>
+        ensures next { IfSome result (IsNext self.entry) }
+        ensures last { IfNone result (occupied_back self.entry ≡ []) }
+        ensures* kept { sem 𝓛 (rests_if_none K.row V.row H.row H.Hasher.row K.Hash H.BuildHasher H.Hasher.Hasher
+            self.entry.guard result) }
+    {
+        let HeldEntry {
+            guard,
+            place,
+            rest,
+            of: _,
+        } = self;
+        match guard.next_place(place) {
+            Some(place) => Some(HeldEntry {
+                guard,
+                place,
+                rest,
+                of: PhantomData,
+            }),
+            None => None,
+        }
+    }
+
+    /// Takes out the pair, and answers it with the entry that stood next in the map's list; alone, as an `Err`, where
+    /// it was the last. Nothing is resized.
+    pub fn remove_and_sync(self) -> Result<((K, V), OccupiedEntry<'a, K, V, H>), (K, V)>
+        ensures removes { RemovesAndSteps K.eq self.entry result }
+        ensures* kept { sem 𝓛 (rests_removed K.row V.row H.row H.Hasher.row K.Hash H.BuildHasher H.Hasher.Hasher
+            self.entry result) }
+    {
+        let HeldEntry {
+            guard,
+            place,
+            rest,
+            of: _,
+        } = self;
+        let (pair, next) = guard.take_and_step(place);
+        match next {
+            Some(place) => Ok((
+                pair,
+                HeldEntry {
+                    guard,
+                    place,
+                    rest,
+                    of: PhantomData,
+                },
+            )),
+            None => Err(pair),
+        }
+    }
+}

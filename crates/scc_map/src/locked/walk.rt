@@ -1,0 +1,106 @@
+//! From entry to entry, inside a stripe and on to later ones. The lock of a stripe is let go before the next one is
+//! taken.
+ghost use Rattle.scc_map.specs.Entries.{held_map, occupied_pair, occupied_front, occupied_back};
+ghost use Rattle.scc_map.specs.EntrySteps.{StandsIn, IsNext, IsNextPastRemoved};
+ghost use Rattle.scc_map.specs.Seats.{held_rest, HoldsLater, KeepsRest};
+ghost use Rattle.scc_stripes.specs.Seats.{IsLaterSeat};
+ghost use Rattle.std.specs.Prelude.{◌≡◌, [], IfSome, IsSomeAnd};
+
+use crate::Owned;
+use crate::held::HeldEntry;
+use crate::locked::OccupiedEntry;
+use scc_common::Shared;
+use scc_stripes::Seat;
+use std::hash::{BuildHasher, Hash};
+use std::marker::PhantomData;
+use std::sync::{RwLockWriteGuard, Wait};
+
+/// The first entry of the stripes after that of the seat. It has the seat of its own stripe.
+pub fn first_later<'a, K: Eq + Hash, V, H: BuildHasher>(
+    rt: &impl Wait,
+    seat: Seat<'a, Owned<K, V, Shared<H>>, H>,
+) -> Option<OccupiedEntry<'a, K, V, H>>
+    ensures first { IfSome result (λ n. StandsIn (held_map n) n × (occupied_front n ≡ [])) }
+    ensures seat { IfSome result (λ n. IsLaterSeat seat.entry (held_rest n)) }
+{
+    let mut seat = seat;
+    for _ in 0..16u8 {
+        let (guard, here) = seat.later(rt)?;
+        match HeldEntry::first(guard, here) {
+            Ok(entry) => return Some(entry),
+            Err(here) => seat = here,
+        }
+    }
+    None
+}
+
+impl<'a, K: Eq + Hash, V, H: BuildHasher> HeldEntry<
+    RwLockWriteGuard<'a, Owned<K, V, Shared<H>>>,
+    Seat<'a, Owned<K, V, Shared<H>>, H>,
+    K,
+    V,
+    Shared<H>,
+> {
+    /// The entry that stands next in the stripe's list; where this one is the last of its stripe, the first of a later
+    /// stripe.
+    pub fn next_sync(self, rt: &impl Wait) -> Option<OccupiedEntry<'a, K, V, H>>
+        ensures next { (occupied_back self.entry ≡ [] → ⊥) → IsSomeAnd result (IsNext self.entry) }
+        ensures later { occupied_back self.entry ≡ []
+            → IfSome result (λ n. StandsIn (held_map n) n × (occupied_front n ≡ [])) }
+        ensures stays { (occupied_back self.entry ≡ [] → ⊥) → IfSome result (KeepsRest self.entry) }
+        ensures goes_on { occupied_back self.entry ≡ [] → IfSome result (HoldsLater self.entry) }
+    {
+        let HeldEntry {
+            guard,
+            place,
+            rest,
+            of: _,
+        } = self;
+        match guard.next_place(place) {
+            Some(place) => Some(HeldEntry {
+                guard,
+                place,
+                rest,
+                of: PhantomData,
+            }),
+            None => {
+                drop(guard);
+                first_later(rt, rest)
+            }
+        }
+    }
+
+    /// Takes out the pair, and answers it with the entry that stood next in the stripe's list; where it was the last of
+    /// its stripe, with the first of a later stripe. Nothing is resized.
+    pub fn remove_and_sync(self, rt: &impl Wait) -> ((K, V), Option<OccupiedEntry<'a, K, V, H>>)
+        ensures pair { result.0 ≡ occupied_pair self.entry }
+        ensures next { (occupied_back self.entry ≡ [] → ⊥) → IsSomeAnd result.1 (IsNextPastRemoved self.entry) }
+        ensures later { occupied_back self.entry ≡ []
+            → IfSome result.1 (λ n. StandsIn (held_map n) n × (occupied_front n ≡ [])) }
+        ensures stays { (occupied_back self.entry ≡ [] → ⊥) → IfSome result.1 (KeepsRest self.entry) }
+        ensures goes_on { occupied_back self.entry ≡ [] → IfSome result.1 (HoldsLater self.entry) }
+    {
+        let HeldEntry {
+            mut guard,
+            place,
+            rest,
+            of: _,
+        } = self;
+        let (pair, next) = guard.take_and_step(place);
+        match next {
+            Some(place) => (
+                pair,
+                Some(HeldEntry {
+                    guard,
+                    place,
+                    rest,
+                    of: PhantomData,
+                }),
+            ),
+            None => {
+                drop(guard);
+                (pair, first_later(rt, rest))
+            }
+        }
+    }
+}

@@ -1,0 +1,140 @@
+//! How a map is made: empty, or of items.
+ghost use Rattle.scc_contents.specs.Contents.{entries, settings_of, hash_in};
+ghost use Rattle.scc_contents.specs.Pairs.{IsUnique};
+ghost use Rattle.scc_map.specs.Collections.{FindsItems, IsCollected, UpsertsAll};
+ghost use Rattle.scc_table.specs.Making.{IsNew, MakesEmpty};
+ghost use Rattle.std.specs.Arc.{arc_value};
+ghost use Rattle.std.specs.Iterator.{Drains, IsFinite};
+ghost use Rattle.std.specs.Prelude.{◌<◌, ◌≤◌, List, IfOk, OnOk};
+
+use crate::Owned;
+pub use crate::borrowed::{Entry, OccupiedEntry, ReplaceResult, VacantEntry};
+use scc_common::{MakeError, Shared};
+use scc_contents::Hashes;
+use scc_table::Table;
+use std::alloc::Global;
+use std::hash::{BuildHasher, BuildHasherDefault, Hash};
+use std::sync::Arc;
+
+impl<K: Eq + Hash, V> Owned<K, V> {
+    /// An empty map without an array. It takes no memory.
+    pub fn new(alloc: Global) -> Self
+        ensures { IsNew (settings_of result).hasher result }
+    {
+        Owned::with_hasher(alloc, BuildHasherDefault::new())
+    }
+
+    /// An empty map with an array for at least so many pairs at one a slot, by the rules of `with_capacity_and_hasher`.
+    pub fn with_capacity(alloc: Global, capacity: usize) -> Result<Self, MakeError>
+        ensures { MakesEmpty (λ m. (settings_of m).hasher) 0 capacity result }
+    {
+        Owned::with_capacity_and_hasher(alloc, capacity, BuildHasherDefault::new())
+    }
+}
+
+impl<K: Eq + Hash, V, H: BuildHasher> Owned<K, V, Shared<H>> {
+    /// An empty map that skips so many bits of each hash, and hashes as each other part of that hasher does. Else as
+    /// `with_capacity_and_hasher`.
+    pub fn part(
+        alloc: Global,
+        skipped: u32,
+        capacity: usize,
+        hasher: Arc<H>,
+    ) -> Result<Self, MakeError>
+    where
+        H: Drop,
+        requires { skipped ≤ 4 }
+        ensures { MakesEmpty (λ _. arc_value hasher) skipped capacity result }
+    {
+        Owned::skipping(alloc, skipped, capacity, Shared::new(hasher))
+    }
+}
+
+impl<K: Eq + Hash, V, H: BuildHasher> Owned<K, V, H> {
+    /// An empty map without an array. It takes no memory.
+    pub fn with_hasher(alloc: Global, hasher: H) -> Self
+        ensures { IsNew hasher result }
+    {
+        Owned {
+            table: Table::new(alloc, 0, hasher),
+        }
+    }
+
+    /// An empty map with an array of the least power of two of slots that is at least `capacity` and at least 64;
+    /// without an array for 0. These slots are then its minimum. A size that can't be had is refused.
+    pub fn with_capacity_and_hasher(
+        alloc: Global,
+        capacity: usize,
+        hasher: H,
+    ) -> Result<Self, MakeError>
+    where
+        H: Drop,
+        ensures { MakesEmpty (λ _. hasher) 0 capacity result }
+    {
+        match Table::with_capacity(alloc, 0, capacity, hasher) {
+            Ok(table) => Ok(Owned { table }),
+            Err(e) => Err(e),
+        }
+    }
+
+    /// As `with_capacity_and_hasher`, but skips so many bits of each hash.
+    pub fn skipping(
+        alloc: Global,
+        skipped: u32,
+        capacity: usize,
+        hasher: H,
+    ) -> Result<Self, MakeError>
+    where
+        H: Drop,
+        requires { skipped ≤ 4 }
+        ensures { MakesEmpty (λ _. hasher) skipped capacity result }
+    {
+        match Table::with_capacity(alloc, skipped, capacity, hasher) {
+            Ok(table) => Ok(Owned { table }),
+            Err(e) => Err(e),
+        }
+    }
+
+    /// A map of the items, upserted in their order, so that the last value of a key wins. Its array is made for as many
+    /// pairs as there are items; without items there is none. It is refused for want of memory, and then the items are
+    /// dropped. The iterator has to end.
+    pub fn try_from_iter<I: IntoIterator<Item = (K, V)>>(
+        alloc: Global,
+        items: I,
+    ) -> Result<Self, MakeError>
+    where
+        K: Drop,
+        V: Drop,
+        H: Default + Drop,
+        requires { (it : I.IntoIter) → I.into_iter_gives items it
+            → I.IntoIter.can_next it × IsFinite (I.IntoIter.remaining it) }
+        ensures items { IfOk result (λ m. (it : I.IntoIter) × (xs : List (K × V)) × I.into_iter_gives items it
+            × Drains I.IntoIter.next_gives it xs × IsCollected K.eq (hash_in ⟦<H as Hashes<K>>⟧.hash_of) xs m
+            × FindsItems K.eq xs (entries m)) }
+        ensures unique { IfOk result (λ m. IsUnique K.eq m) }
+    {
+        let Ok(pairs) = Vec::from_iter(alloc, items) else {
+            return Err(MakeError);
+        };
+        let mut made = Owned::with_capacity_and_hasher(alloc, pairs.len(), H::default())?;
+        made.upsert_all(pairs)?;
+        Ok(made)
+    }
+
+    /// Upserts the pairs in their order, up to the first that is refused.
+    fn upsert_all(&mut self, pairs: Vec<(K, V)>) -> Result<(), MakeError>
+    where
+        K: Drop,
+        V: Drop,
+        ensures { OnOk result (UpsertsAll K.eq (hash_in ⟦<H as Hashes<K>>⟧.hash_of self.old) self.old pairs.items
+            self.new) }
+    {
+        for (k, v) in pairs {
+            match self.upsert_sync(k, v) {
+                Ok(_) => {}
+                Err(_) => return Err(MakeError),
+            }
+        }
+        Ok(())
+    }
+}

@@ -1,0 +1,77 @@
+//! How a part of a shared map keeps its share of what all parts together keep at least.
+ghost use Rattle.scc_stripes.specs.Following.{KeepsShare};
+ghost use Rattle.std.specs.Prelude.{◌≤◌, ◌^◌};
+
+use crate::Owned;
+use scc_common::{MakeError, Shared};
+use scc_stripes::{Follow, Part};
+use std::alloc::Global;
+use std::hash::{BuildHasher, Hash};
+use std::sync::Arc;
+
+impl<K: Eq + Hash, V, H: BuildHasher> Owned<K, V, H> {
+    /// Makes so many slots the minimum, what was asked for at making among them. A raised minimum lets an array that is
+    /// there grow to it, a lowered one lets it become smaller, unless memory is refused. Fewer slots than were asked
+    /// for change nothing.
+    #[inline(always)]
+    pub fn keep_share(&mut self, share: usize)
+        requires { share ≤ 2 ^ 63 }
+        ensures { KeepsShare K.eq self.old share self.new }
+    {
+        if *self.capacity_range().start() == share {
+            let _ = self.len();
+        } else {
+            self.change_share(share);
+        }
+    }
+
+    /// The same apart from the callers: a share seldom changes.
+    #[cold]
+    fn change_share(&mut self, share: usize)
+        requires { share ≤ 2 ^ 63 }
+        ensures { KeepsShare K.eq self.old share self.new }
+    {
+        let minimum = *self.capacity_range().start();
+        if share > minimum {
+            let _ = self.table.raise_minimum(share - minimum);
+        } else if share < minimum {
+            let _ = self.table.lower_minimum(minimum - share);
+        } else {
+            let _ = self.len();
+        }
+    }
+}
+
+impl<K: Eq + Hash, V, H: BuildHasher> Follow for Owned<K, V, H> {
+    fn count(&self) -> usize {
+        self.len()
+    }
+
+    fn slots(&self) -> usize {
+        self.capacity()
+    }
+
+    #[inline(always)]
+    fn follow(&mut self, share: usize)
+        requires { share ≤ 2 ^ 63 }
+        ensures { KeepsShare K.eq self.old share self.new }
+    {
+        self.keep_share(share);
+    }
+}
+
+impl<K: Eq + Hash, V, H: BuildHasher> Part<H> for Owned<K, V, Shared<H>> {
+    fn make_part(
+        alloc: Global,
+        skipped: u32,
+        slots: usize,
+        _maximum: usize,
+        owner: Arc<H>,
+    ) -> Result<Self, MakeError>
+    where
+        H: Drop,
+        requires { skipped ≤ 4 }
+    {
+        Owned::part(alloc, skipped, slots, owner)
+    }
+}

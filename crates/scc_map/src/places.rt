@@ -1,0 +1,102 @@
+//! What is done at a place of a map.
+ghost use Rattle.scc_contents.specs.Contents.{entries, hash_in};
+ghost use Rattle.scc_contents.specs.Pairs.{find, IsUnique, with_pair_key, with_pair_value};
+ghost use Rattle.scc_map.specs.Insertions.{InsertsNewByRule};
+ghost use Rattle.scc_map.specs.Lends.{lends_value};
+ghost use Rattle.scc_map.specs.Shrinking.{RemovesAtByRule};
+ghost use Rattle.scc_table.specs.Places.{IsPlace, IsFoundAt, index_of, with_write_at};
+ghost use Rattle.std.specs.Borrow.{sem};
+ghost use Rattle.std.specs.Prelude.{◌≡◌, ◌<◌, ◌*◌, Some, None, true, MatchOption, slice_get};
+
+pub use crate::borrowed::{Entry, OccupiedEntry, ReplaceResult, VacantEntry};
+use scc_buckets::Place;
+use scc_contents::Hashes;
+use std::hash::{BuildHasher, Hash};
+
+impl<K: Eq + Hash, V, H: BuildHasher> Owned<K, V, H> {
+    /// The hash of a key.
+    pub(crate) fn hash_of(&self, k: &K) -> u64
+        ensures { result ≡ hash_in ⟦<H as Hashes<K>>⟧.hash_of self.now k.now }
+    {
+        self.table.hash(k)
+    }
+
+    /// The place of the pair of `k`, whose hash it is.
+    pub(crate) fn place_of(&self, hash: u64, k: &K) -> Option<Place>
+        requires { hash ≡ hash_in ⟦<H as Hashes<K>>⟧.hash_of self.now k.now }
+        ensures place { MatchOption result (find K.eq (entries self.now) k.now ≡ None)
+            (IsFoundAt (λ e. K.eq k.now e.0) self.now) }
+        ensures unique { IsUnique K.eq self.now }
+    {
+        self.table.search(hash, k)
+    }
+
+    /// The pair at the place.
+    pub fn pair_at(&self, place: Place) -> (&K, &V)
+        requires { IsPlace self.now place }
+        ensures { slice_get (entries self.now) (index_of self.now place) ≡ Some (result.0.now, result.1.now) }
+    {
+        self.table.pair_at(place)
+    }
+
+    /// The value at the place, to write.
+    pub(crate) fn value_mut_at(&mut self, place: Place) -> &mut V
+        requires { IsPlace self.old place }
+        ensures* writes_back { sem 𝓛 (lends_value K.row V.row H.row H.Hasher.row K.Hash H.BuildHasher H.Hasher.Hasher
+            self.entry place result) }
+        ensures value { (p : K × V) × (slice_get (entries self.old) (index_of self.old place) ≡ Some p)
+            × (result.now ≡ p.1) }
+    {
+        self.table.value_mut_at(place)
+    }
+
+    /// Writes the value at the place, and answers the old one.
+    pub(crate) fn write_at(&mut self, place: Place, value: V) -> V
+        requires { IsPlace self.old place }
+        ensures old { (p : K × V) × (slice_get (entries self.old) (index_of self.old place) ≡ Some p) × (result ≡ p.1) }
+        ensures new { self.new ≡ with_write_at with_pair_value self.old place value }
+        ensures unique { IsUnique K.eq self.new }
+    {
+        let old = std::mem::replace(self.value_mut_at(place), value);
+        let _ = self.len();
+        old
+    }
+
+    /// The key at the place, and the value to write.
+    pub(crate) fn parts_mut_at(&mut self, place: Place) -> (&K, &mut V)
+        requires { IsPlace self.old place }
+        ensures* writes_back { sem 𝓛 (lends_value K.row V.row H.row H.Hasher.row K.Hash H.BuildHasher H.Hasher.Hasher
+            self.entry place result.1) }
+        ensures parts { slice_get (entries self.old) (index_of self.old place) ≡ Some (result.0.now, result.1.now) }
+    {
+        self.table.parts_mut_at(place)
+    }
+
+    /// Puts the key in the place of the one there, which it equals.
+    pub(crate) fn replace_key_at(&mut self, place: Place, key: K) -> K
+        requires within { IsPlace self.old place }
+        requires same { (p : K × V) → slice_get (entries self.old) (index_of self.old place) ≡ Some p
+            → K.eq key p.0 ≡ true }
+        ensures old { (p : K × V) × (slice_get (entries self.old) (index_of self.old place) ≡ Some p) × (result ≡ p.0) }
+        ensures new { self.new ≡ with_write_at with_pair_key self.old place key }
+    {
+        self.table.replace_key_at(place, key)
+    }
+
+    /// Takes the pair out of its place, and answers it. Then the array may become smaller.
+    pub fn remove_at(&mut self, place: Place) -> (K, V)
+        requires { IsPlace self.old place }
+        ensures { RemovesAtByRule (IsUnique K.eq) self.old place result self.new }
+    {
+        self.table.remove_at(place)
+    }
+
+    /// Puts in a pair whose key is new, and answers its place.
+    pub(crate) fn insert_new(&mut self, hash: u64, k: K, v: V) -> Result<Place, (K, V)>
+        requires hashed { hash ≡ hash_in ⟦<H as Hashes<K>>⟧.hash_of self.old k }
+        requires absent { find K.eq (entries self.old) k ≡ None }
+        ensures { InsertsNewByRule K.eq ⟦<H as Hashes<K>>⟧.hash_of self.old (k, v) result self.new }
+    {
+        self.table.insert_new(hash, (k, v))
+    }
+}

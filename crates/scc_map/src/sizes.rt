@@ -1,0 +1,58 @@
+//! The calls about the size of a map: reservations, the range of the capacity, the bucket of a key.
+ghost use Rattle.scc_contents.specs.Contents.{minimum_of, pending_of, hash_in, bucket_of};
+ghost use Rattle.scc_contents.specs.Pairs.{IsUnique};
+ghost use Rattle.scc_map.specs.MapSizes.{ReservesByRule, ReleasesByRule};
+ghost use Rattle.std.specs.Prelude.{◌≡◌, ◌^◌};
+
+use crate::Owned;
+use scc_buckets::sizes::GREATEST_CAPACITY;
+use scc_contents::Hashes;
+use scc_table::Reservation;
+use std::hash::{BuildHasher, Hash};
+use std::ops::RangeInclusive;
+
+impl<K: Eq + Hash, V, H: BuildHasher> Owned<K, V, H> {
+    /// Raises the minimum by so many slots, and answers the token that gives them back; None for 0, and where the
+    /// minimum would pass the greatest capacity. An array with fewer slots than the minimum grows, unless memory is
+    /// refused; the token comes all the same.
+    pub fn reserve(&mut self, additional: usize) -> Option<Reservation>
+        ensures { ReservesByRule (IsUnique K.eq) additional self.old result self.new }
+    {
+        self.table.reserve(additional)
+    }
+
+    /// Gives reserved slots back, and tries to make the array smaller. A token for more slots than what is reserved
+    /// here comes back, and nothing changes.
+    pub fn release(&mut self, reservation: Reservation) -> Result<(), Reservation>
+        ensures { ReleasesByRule (IsUnique K.eq) reservation self.old result self.new }
+    {
+        if self.table.lower_minimum(reservation.additional_capacity()) {
+            Ok(())
+        } else {
+            Err(reservation)
+        }
+    }
+
+    /// From the slots that the array keeps at least to those that it may grow to.
+    pub fn capacity_range(&self) -> RangeInclusive<usize>
+        ensures low { result.start ≡ minimum_of self.now }
+        ensures high { result.end ≡ 2 ^ 63 }
+    {
+        self.table.minimum()..=GREATEST_CAPACITY
+    }
+
+    /// The number of the bucket of `k`, 0 without an array.
+    pub fn bucket_index(&self, k: &K) -> usize
+        ensures index { result ≡ bucket_of (hash_in ⟦<H as Hashes<K>>⟧.hash_of self.now) self.now k.now }
+    {
+        self.table.bucket_index(k)
+    }
+
+    /// How many buckets wait for their pairs to come from an old array. Each insertion of a new key lets two of them
+    /// take their pairs over.
+    pub fn pending(&self) -> usize
+        ensures { result ≡ pending_of self.now }
+    {
+        self.table.pending()
+    }
+}

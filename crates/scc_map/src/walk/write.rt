@@ -1,0 +1,109 @@
+//! Walks that write into the pairs of a map, and take pairs out of it.
+ghost use Rattle.scc_contents.specs.Contents.{entries, refused_of, waiting_of};
+ghost use Rattle.scc_contents.specs.PairWalks.{CallableToWrite, CalledToWrite, Retains, TakesToWrite};
+ghost use Rattle.scc_contents.specs.Pairs.{IsUnique, with_pair_value};
+ghost use Rattle.scc_contents.specs.Steps.{Holds, HoldsExactly};
+ghost use Rattle.scc_map.specs.Shrinking.{ClearsByRule, RetainsByRule};
+ghost use Rattle.scc_table.specs.Places.{IsPlace, index_of, with_write_at};
+ghost use Rattle.std.specs.List.Sorted.{IsPermutation};
+ghost use Rattle.std.specs.Prelude.{◌≡◌, List, [], Some, slice_get, ⊤};
+
+use crate::Owned;
+use scc_buckets::Place;
+use std::hash::{BuildHasher, Hash};
+
+impl<K: Eq + Hash, V, H: BuildHasher> Owned<K, V, H> {
+    /// Takes out all pairs. Then the array may become smaller.
+    pub fn clear_sync(&mut self)
+    where
+        K: Drop,
+        V: Drop,
+        ensures { ClearsByRule (IsUnique K.eq) self.old self.new }
+    {
+        self.take_all();
+        self.table.shrink();
+    }
+
+    /// Takes out all pairs, with no resize.
+    fn take_all(&mut self)
+    where
+        K: Drop,
+        V: Drop,
+        ensures step { HoldsExactly self.old [] self.new }
+        ensures noted { refused_of self.new ≡ refused_of self.old }
+        ensures waiting { waiting_of self.new ≡ waiting_of self.old }
+    {
+        let mut at = self.table.first_place();
+        while let Some(place) = at {
+            let (_pair, next) = self.take_and_step(place);
+            at = next;
+        }
+    }
+
+    /// Calls `f` on every pair once, in some order, with the value to write, and takes out the pairs on which it
+    /// answers false. Then the array may become smaller.
+    pub fn retain_sync<F: FnMut(&K, &mut V) -> bool>(&mut self, f: F)
+    where
+        K: Drop,
+        V: Drop,
+        requires { (es : List (K × V)) → IsPermutation (entries self.old) es
+            → CallableToWrite F.FnMut (λ answer. ⊤) f es }
+        ensures { RetainsByRule (IsUnique K.eq) ((es : List (K × V)) × (stay : List (K × V)) × (last : F)
+            × IsPermutation (entries self.old) es × Retains (CalledToWrite F.FnMut) f es stay last
+            × Holds self.old stay self.new) self.old self.new }
+    {
+        let mut f = f;
+        self.retain_lent(&mut f);
+    }
+
+    /// As `retain_sync`, with a closure that is lent, and goes on to other maps.
+    pub fn retain_lent<F: FnMut(&K, &mut V) -> bool>(&mut self, f: &mut F)
+    where
+        K: Drop,
+        V: Drop,
+        requires { (es : List (K × V)) → IsPermutation (entries self.old) es
+            → CallableToWrite F.FnMut (λ answer. ⊤) f.old es }
+        ensures { RetainsByRule (IsUnique K.eq) ((es : List (K × V)) × (stay : List (K × V))
+            × IsPermutation (entries self.old) es × Retains (CalledToWrite F.FnMut) f.old es stay f.new
+            × Holds self.old stay self.new) self.old self.new }
+    {
+        let _ = self.len();
+        self.retain_all(f);
+        self.table.shrink();
+    }
+
+    /// The same in the order of the list, with no resize.
+    fn retain_all<F: FnMut(&K, &mut V) -> bool>(&mut self, f: &mut F)
+    where
+        K: Drop,
+        V: Drop,
+        requires { CallableToWrite F.FnMut (λ answer. ⊤) f.old (entries self.old) }
+        ensures step { (stay : List (K × V)) × Retains (CalledToWrite F.FnMut) f.old (entries self.old) stay f.new
+            × HoldsExactly self.old stay self.new }
+        ensures noted { refused_of self.new ≡ refused_of self.old }
+        ensures waiting { waiting_of self.new ≡ waiting_of self.old }
+    {
+        let mut at = self.table.first_place();
+        while let Some(place) = at {
+            if self.visit(place, f) {
+                at = self.next_place(place);
+            } else {
+                let (_pair, next) = self.take_and_step(place);
+                at = next;
+            }
+        }
+    }
+
+    /// Calls `f` on the pair at the place, with the value to write.
+    pub(crate) fn visit<R, F: FnMut(&K, &mut V) -> R>(&mut self, place: Place, f: &mut F) -> R
+        requires within { IsPlace self.old place }
+        requires callable { (p : K × V) → slice_get (entries self.old) (index_of self.old place) ≡ Some p
+            → TakesToWrite F.FnMut f.old p }
+        ensures { (p : K × V) × (w : V) × (slice_get (entries self.old) (index_of self.old place) ≡ Some p)
+            × CalledToWrite F.FnMut f.old p result w f.new
+            × (self.new ≡ with_write_at with_pair_value self.old place w) }
+    {
+        let (key, value) = self.parts_mut_at(place);
+        f(key, value)
+    }
+}

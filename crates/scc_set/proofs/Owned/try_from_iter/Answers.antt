@@ -1,0 +1,28 @@
+use Rattle.std.proofs.Common.{ap, ◌∙◌}
+use Rattle.scc_set.proofs.Owned.try_from_iter.Goals as goal
+
+pub returns-clause-items : goal.returns-clause-items
+returns-clause-items g c =
+    let ran = c.in-Ok.ensures.ran in
+    let count = c.len.ensures ∙ ran.4.1 in
+    let last = ran.3.2 tt in
+    let made = c.in_ok-made.made in
+    let none = c.in_ok-made.ensures.entries in
+    let finds = c.in-Ok-insert_all.ensures.finds in (
+      ran.0,
+      ran.1,
+      ran.2,
+      (last.0, (ran.3.0, ran.3.1, last.1)),
+      record {
+        made = made;
+        empty = none;
+        none = λ z. c.in_ok-made.ensures.none (count ∙ z);
+        size = λ l. rw (← count) (c.in_ok-made.ensures.size (rw count l));
+        asked = ap (λ s. s.asked) c.in_ok-made.ensures.settings;
+        reserved = ap (λ s. s.reserved) c.in_ok-made.ensures.settings;
+        skipped = ap (λ s. s.skipped) c.in_ok-made.ensures.settings;
+        settings = c.in-Ok-insert_all.ensures.settings;
+        run = rw (← ran.4.0) c.in-Ok-insert_all.ensures.run;
+      },
+      record { finds = λ k. rw (← ran.4.0) (rw none at finds k) },
+    )

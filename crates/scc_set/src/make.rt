@@ -1,0 +1,145 @@
+//! How a set is made: empty, or of items.
+ghost use Rattle.scc_contents.specs.Contents.{entries, settings_of};
+ghost use Rattle.scc_set.specs.Collections.{FindsItems, InsertsAll, IsCollected, StopsAt};
+ghost use Rattle.scc_set.specs.Keys.{find, IsUnique};
+ghost use Rattle.scc_table.specs.Making.{IsNew, MakesEmpty};
+ghost use Rattle.std.specs.Arc.{arc_value};
+ghost use Rattle.std.specs.Iterator.{Drains, IsFinite};
+ghost use Rattle.std.specs.Option.{option_or};
+ghost use Rattle.std.specs.Prelude.{◌≡◌, ◌<◌, ◌≤◌, IfErr, IfOk, List, OnOk};
+
+use crate::Owned;
+pub use crate::entry::{OccupiedEntry, Removed};
+use scc_common::{KeyError, MakeError, Shared};
+use std::alloc::Global;
+use std::hash::{BuildHasher, BuildHasherDefault, Hash};
+use std::sync::Arc;
+
+impl<K: Eq + Hash> Owned<K> {
+    /// An empty set without an array. It takes no memory.
+    pub fn new(alloc: Global) -> Self
+        ensures { IsNew (settings_of result).hasher result }
+    {
+        Owned::with_hasher(alloc, BuildHasherDefault::new())
+    }
+
+    /// An empty set with an array for at least so many keys at one a slot, by the rules of `with_capacity_and_hasher`.
+    pub fn with_capacity(alloc: Global, capacity: usize) -> Result<Self, MakeError>
+        ensures { MakesEmpty (λ s. (settings_of s).hasher) 0 capacity result }
+    {
+        Owned::with_capacity_and_hasher(alloc, capacity, BuildHasherDefault::new())
+    }
+}
+
+impl<K: Eq + Hash, H: BuildHasher> Owned<K, Shared<H>> {
+    /// An empty set that skips so many bits of each hash, and hashes as each other part of that hasher does. Else as
+    /// `with_capacity_and_hasher`.
+    pub fn part(
+        alloc: Global,
+        skipped: u32,
+        capacity: usize,
+        hasher: Arc<H>,
+    ) -> Result<Self, MakeError>
+    where
+        H: Drop,
+        requires { skipped ≤ 4 }
+        ensures { MakesEmpty (λ _. arc_value hasher) skipped capacity result }
+    {
+        Owned::skipping(alloc, skipped, capacity, Shared::new(hasher))
+    }
+}
+
+impl<K: Eq + Hash, H: BuildHasher> Owned<K, H> {
+    /// An empty set without an array. It takes no memory.
+    pub fn with_hasher(alloc: Global, hasher: H) -> Self
+        ensures { IsNew hasher result }
+    {
+        Owned {
+            map: scc_map::Owned::with_hasher(alloc, hasher),
+        }
+    }
+
+    /// An empty set with an array of the least power of two of slots that is at least `capacity` and at least 64;
+    /// without an array for 0. These slots are then its minimum. A size that can't be had is refused.
+    pub fn with_capacity_and_hasher(
+        alloc: Global,
+        capacity: usize,
+        hasher: H,
+    ) -> Result<Self, MakeError>
+    where
+        H: Drop,
+        ensures { MakesEmpty (λ _. hasher) 0 capacity result }
+    {
+        match scc_map::Owned::with_capacity_and_hasher(alloc, capacity, hasher) {
+            Ok(map) => Ok(Owned { map }),
+            Err(e) => Err(e),
+        }
+    }
+
+    /// As `with_capacity_and_hasher`, but skips so many bits of each hash.
+    pub fn skipping(
+        alloc: Global,
+        skipped: u32,
+        capacity: usize,
+        hasher: H,
+    ) -> Result<Self, MakeError>
+    where
+        H: Drop,
+        requires { skipped ≤ 4 }
+        ensures { MakesEmpty (λ _. hasher) skipped capacity result }
+    {
+        match scc_map::Owned::skipping(alloc, skipped, capacity, hasher) {
+            Ok(map) => Ok(Owned { map }),
+            Err(e) => Err(e),
+        }
+    }
+
+    /// A set of the items, inserted in their order, so that the first of equal keys stays. Its array is made for as
+    /// many keys as there are items; without items there is none. It is refused for want of memory, and then the items
+    /// are dropped. The iterator has to end.
+    pub fn try_from_iter<I: IntoIterator<Item = K>>(
+        alloc: Global,
+        items: I,
+    ) -> Result<Self, MakeError>
+    where
+        K: Drop,
+        H: Default + Drop,
+        requires { (it : I.IntoIter) → I.into_iter_gives items it
+            → I.IntoIter.can_next it × IsFinite (I.IntoIter.remaining it) }
+        ensures items { IfOk result (λ s. (it : I.IntoIter) × (xs : List K) × I.into_iter_gives items it
+            × Drains I.IntoIter.next_gives it xs × IsCollected K.eq xs s × FindsItems K.eq xs (entries s)) }
+        ensures unique { IfOk result (λ s. IsUnique K.eq s) }
+    {
+        let Ok(keys) = Vec::from_iter(alloc, items) else {
+            return Err(MakeError);
+        };
+        let mut made = Owned::with_capacity_and_hasher(alloc, keys.len(), H::default())?;
+        let Ok(()) = made.insert_all(keys) else {
+            return Err(MakeError);
+        };
+        Ok(made)
+    }
+
+    /// Inserts the keys in their order, up to the first for which memory is refused, which comes back. The call of
+    /// `len` is there for its contract: no two keys are equal.
+    fn insert_all(&mut self, keys: Vec<K>) -> Result<(), K>
+    where
+        K: Drop,
+        ensures refused { IfErr result (λ k. StopsAt K.eq self.old keys.items k self.new) }
+        ensures run { OnOk result (InsertsAll K.eq self.old keys.items self.new) }
+        ensures settings { OnOk result (settings_of self.new ≡ settings_of self.old) }
+        ensures finds { OnOk result ((q : K) → find K.eq (entries self.new) q
+            ≡ option_or (find K.eq (entries self.old) q) (find K.eq keys.items q)) }
+        ensures unique { OnOk result (IsUnique K.eq self.new) }
+    {
+        for k in keys {
+            match self.insert_sync(k) {
+                Ok(()) => {}
+                Err(KeyError::Exists(_)) => {}
+                Err(KeyError::Memory(k)) => return Err(k),
+            }
+        }
+        let _ = self.len();
+        Ok(())
+    }
+}

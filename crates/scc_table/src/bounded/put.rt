@@ -1,0 +1,125 @@
+//! Entries that go in at the end of a list of 32 at most, and move there. None of it asks for memory.
+ghost use Rattle.scc_buckets.specs.Bounded.{IsListed, IsBounded};
+ghost use Rattle.scc_contents.specs.Contents.{entries, bucket_count, key_hash, settings_of, waiting_of, IsUniqueBy, list_of};
+ghost use Rattle.scc_contents.specs.Routing.{bucket_number};
+ghost use Rattle.scc_table.specs.Puts.{PutsWithin, MovesToEnd, PutsAtEnd};
+ghost use Rattle.scc_table.specs.Relocates.{left_after};
+ghost use Rattle.scc_table.specs.TwoArrays.{IsRelocated, IsWaiting, pending_targets, waits_at};
+ghost use Rattle.std.specs.List.{filter, position};
+ghost use Rattle.std.specs.Prelude.{◌≡◌, ◌==◌, ◌<◌, false, drop, None, not, length, Some, slice_get};
+
+use crate::Table;
+use scc_entry::Keyed;
+use std::hash::{BuildHasher, Hash};
+
+impl<E: Keyed, H: BuildHasher> Table<E, H>
+where
+    E::Key: Eq + Hash,
+{
+    /// Moves the entries of a bucket that waits to it, in their order. It takes no memory.
+    #[cold]
+    pub fn settle(&mut self, bucket: usize)
+        requires waits { IsWaiting self.old bucket }
+        requires listed { IsListed (λ e. key_hash H.BuildHasher H.Hasher.Hasher E.Key.hash_input self.old
+            (E.key_of e)) self.old }
+        ensures moved { IsRelocated bucket self.old self.new }
+        ensures listed { IsListed (λ e. key_hash H.BuildHasher H.Hasher.Hasher E.Key.hash_input self.new (E.key_of e))
+            self.new }
+        ensures settled { waits_at (waiting_of self.new) bucket ≡ false }
+        ensures targets { pending_targets self.new ≡ filter (λ t. not (t == bucket)) (pending_targets self.old) }
+        ensures unique { IsUniqueBy E.Key.eq E.key_of self.new }
+    {
+        match self.relocate(bucket) {
+            Ok(()) => self.keep_lists(),
+            Err(_) => unreachable!(),
+        }
+    }
+
+    /// Puts an entry whose key is new at the end of the list of its bucket. Where that holds 32, its first one goes and
+    /// is answered. Where the bucket waits, it takes its entries over first, and then the first ones that wait, two in
+    /// all. It takes no memory.
+    #[inline(always)]
+    pub fn put_within(&mut self, bucket: usize, hash: u64, entry: E) -> Option<E>
+        requires within { bucket < bucket_count self.old }
+        requires routed { bucket ≡ bucket_number (settings_of self.old).skipped (bucket_count self.old) hash }
+        requires hashed { hash ≡ key_hash H.BuildHasher H.Hasher.Hasher E.Key.hash_input self.old (E.key_of entry) }
+        requires absent { position (λ e. E.Key.eq (E.key_of entry) (E.key_of e)) (entries self.old) ≡ None }
+        requires listed { IsListed (λ e. key_hash H.BuildHasher H.Hasher.Hasher E.Key.hash_input self.old
+            (E.key_of e)) self.old }
+        ensures { PutsWithin E.Key.eq E.key_of (key_hash H.BuildHasher H.Hasher.Hasher E.Key.hash_input) self.old
+            bucket entry (left_after bucket (pending_targets self.old)) 2 result self.new }
+    {
+        if self.is_waiting(bucket) {
+            return self.put_waiting(bucket, hash, entry);
+        }
+        self.put_settled(bucket, hash, entry, 2)
+    }
+
+    /// The same where the bucket waits.
+    #[cold]
+    fn put_waiting(&mut self, bucket: usize, hash: u64, entry: E) -> Option<E>
+        requires within { bucket < bucket_count self.old }
+        requires waits { IsWaiting self.old bucket }
+        requires routed { bucket ≡ bucket_number (settings_of self.old).skipped (bucket_count self.old) hash }
+        requires hashed { hash ≡ key_hash H.BuildHasher H.Hasher.Hasher E.Key.hash_input self.old (E.key_of entry) }
+        requires absent { position (λ e. E.Key.eq (E.key_of entry) (E.key_of e)) (entries self.old) ≡ None }
+        requires listed { IsListed (λ e. key_hash H.BuildHasher H.Hasher.Hasher E.Key.hash_input self.old
+            (E.key_of e)) self.old }
+        ensures { PutsWithin E.Key.eq E.key_of (key_hash H.BuildHasher H.Hasher.Hasher E.Key.hash_input) self.old
+            bucket entry (left_after bucket (pending_targets self.old)) 2 result self.new }
+    {
+        self.settle(bucket);
+        self.put_settled(bucket, hash, entry, 1)
+    }
+
+    /// The same where the bucket doesn't wait, and so many others take their entries over afterwards.
+    #[inline(always)]
+    fn put_settled(&mut self, bucket: usize, hash: u64, entry: E, most: usize) -> Option<E>
+        requires within { bucket < bucket_count self.old }
+        requires settled { waits_at (waiting_of self.old) bucket ≡ false }
+        requires routed { bucket ≡ bucket_number (settings_of self.old).skipped (bucket_count self.old) hash }
+        requires hashed { hash ≡ key_hash H.BuildHasher H.Hasher.Hasher E.Key.hash_input self.old (E.key_of entry) }
+        requires absent { position (λ e. E.Key.eq (E.key_of entry) (E.key_of e)) (entries self.old) ≡ None }
+        requires listed { IsListed (λ e. key_hash H.BuildHasher H.Hasher.Hasher E.Key.hash_input self.old
+            (E.key_of e)) self.old }
+        ensures { PutsWithin E.Key.eq E.key_of (key_hash H.BuildHasher H.Hasher.Hasher E.Key.hash_input) self.old
+            bucket entry (drop most (pending_targets self.old)) most result self.new }
+    {
+        let first = self.put_last(bucket, hash, entry);
+        self.relocate_some(most);
+        first
+    }
+
+    /// Puts an entry whose key is new at the end of the list of its bucket. Where that holds 32, its first one goes and
+    /// is answered. It takes no memory.
+    #[inline(always)]
+    pub fn put_last(&mut self, bucket: usize, hash: u64, entry: E) -> Option<E>
+        requires within { bucket < bucket_count self.old }
+        requires settled { IsWaiting self.old bucket → ⊥ }
+        requires routed { bucket ≡ bucket_number (settings_of self.old).skipped (bucket_count self.old) hash }
+        requires hashed { hash ≡ key_hash H.BuildHasher H.Hasher.Hasher E.Key.hash_input self.old (E.key_of entry) }
+        requires absent { position (λ e. E.Key.eq (E.key_of entry) (E.key_of e)) (entries self.old) ≡ None }
+        requires bounded { IsBounded self.old }
+        ensures { PutsAtEnd E.Key.eq E.key_of (key_hash H.BuildHasher H.Hasher.Hasher E.Key.hash_input) self.old
+            bucket entry result self.new }
+    {
+        self.current.keep_lists();
+        self.current.put_last(bucket, hash, entry)
+    }
+
+    /// Moves the entry to the end of the list of its bucket, the one of the hash, unless it stands there.
+    #[inline(always)]
+    pub fn touch(&mut self, bucket: usize, slot: usize, hash: u64)
+        requires within { bucket < bucket_count self.old }
+        requires settled { IsWaiting self.old bucket → ⊥ }
+        requires slot { slot < length (list_of self.old bucket) }
+        requires routed { bucket ≡ bucket_number (settings_of self.old).skipped (bucket_count self.old) hash }
+        requires bounded { IsBounded self.old }
+        requires hashed { (e : E) → slice_get (list_of self.old bucket) slot ≡ Some e
+            → hash ≡ key_hash H.BuildHasher H.Hasher.Hasher E.Key.hash_input self.old (E.key_of e) }
+        ensures { MovesToEnd E.Key.eq E.key_of (key_hash H.BuildHasher H.Hasher.Hasher E.Key.hash_input) self.old
+            bucket slot self.new }
+    {
+        self.current.touch(bucket, slot, hash);
+    }
+}

@@ -1,0 +1,169 @@
+//! Arrays that grow and shrink so that no list gets longer than 32.
+ghost use Rattle.scc_buckets.specs.Bounded.{IsListed, MayNarrow, ShrinksBounded};
+ghost use Rattle.scc_buckets.specs.Pour.{bound_for};
+ghost use Rattle.scc_contents.specs.Contents.{entries, bucket_count, key_hash, settings_of, IsUniqueBy};
+ghost use Rattle.scc_contents.specs.Sizes.{IsArray};
+ghost use Rattle.scc_table.specs.Growths.{DoublesWithin, FindsBucketWithin};
+ghost use Rattle.scc_table.specs.Relocates.{Spreads};
+ghost use Rattle.std.specs.List.Sorted.{IsPermutation};
+ghost use Rattle.std.specs.Prelude.{◌≡◌, ◌≤◌, ◌<◌, ◌*◌, ◌^◌, ◌↔◌, ℕ, length, IsTrue};
+
+use crate::Table;
+use scc_buckets::sizes::buckets_for;
+use scc_entry::Keyed;
+use std::alloc::AllocError;
+use std::hash::{BuildHasher, Hash};
+
+impl<E: Keyed, H: BuildHasher> Table<E, H>
+where
+    E::Key: Eq + Hash,
+{
+    /// The bucket for a new key of that hash. An array is made where there is none, and doubled where no bucket waits,
+    /// that one holds 32 entries, the table at least half as many entries as slots and fewer slots than `most`: then
+    /// every bucket of the new array waits. Where memory for the doubling is refused, or was just before, the array
+    /// stays.
+    #[inline(always)]
+    pub fn bucket_within(&mut self, hash: u64, most: usize) -> Result<usize, AllocError>
+        requires listed { IsListed (λ e. key_hash H.BuildHasher H.Hasher.Hasher E.Key.hash_input self.old
+            (E.key_of e)) self.old }
+        requires most { most ≤ 2 ^ 63 }
+        ensures { FindsBucketWithin E.Key.eq E.key_of (key_hash H.BuildHasher H.Hasher.Hasher E.Key.hash_input)
+            most self.old hash result self.new }
+    {
+        if self.bucket_count() == 0 {
+            self.make_array()?;
+            return Ok(self.bucket_at(hash));
+        }
+        let bucket = self.bucket_at(hash);
+        if self.list_len(bucket) < 32 {
+            return Ok(bucket);
+        }
+        let _ = self.double_within(most);
+        Ok(self.bucket_at(hash))
+    }
+
+    /// Doubles the number of buckets where no bucket waits, at least half as many entries as slots are held and fewer
+    /// slots than `most`, unless memory is refused or was just before: then every bucket of the new array waits.
+    /// Answers whether it was due and was not made. Takes time by the number of buckets.
+    #[cold]
+    pub(crate) fn double_within(&mut self, most: usize) -> bool
+        requires array { 0 < bucket_count self.old }
+        requires listed { IsListed (λ e. key_hash H.BuildHasher H.Hasher.Hasher E.Key.hash_input self.old
+            (E.key_of e)) self.old }
+        requires most { most ≤ 2 ^ 63 }
+        ensures { DoublesWithin E.Key.eq E.key_of (key_hash H.BuildHasher H.Hasher.Hasher E.Key.hash_input) most
+            self.old result self.new }
+    {
+        let count = self.bucket_count();
+        let length = self.len();
+        if self.pending() > 0 || length < 16 * count || 32 * count >= most {
+            return false;
+        }
+        if self.is_tried() {
+            self.note(true);
+            return true;
+        }
+        match self.start(2 * count) {
+            Ok(()) => {
+                self.keep_lists();
+                false
+            }
+            Err(_) => true,
+        }
+    }
+
+    /// Makes the array smaller where at most an eighth as many entries as slots are held, a smaller array has enough
+    /// slots and each of its buckets gets at most 32 entries, unless memory is refused: the buckets that wait take
+    /// their entries over first, and then every bucket of the new array waits. Takes time by the number of buckets
+    /// where it tries, and of entries that waited, else none to speak of.
+    #[inline(always)]
+    pub fn shrink_within(&mut self)
+        requires { IsListed (λ e. key_hash H.BuildHasher H.Hasher.Hasher E.Key.hash_input self.old (E.key_of e))
+            self.old }
+        ensures shrinks { ShrinksBounded (λ e. key_hash H.BuildHasher H.Hasher.Hasher E.Key.hash_input self.old
+            (E.key_of e)) self.old self.new }
+        ensures listed { IsListed (λ e. key_hash H.BuildHasher H.Hasher.Hasher E.Key.hash_input self.new (E.key_of e))
+            self.new }
+        ensures same { IsPermutation (entries self.old) (entries self.new) }
+        ensures spreads { Spreads ((n : ℕ) × MayNarrow
+            (λ e. key_hash H.BuildHasher H.Hasher.Hasher E.Key.hash_input self.old (E.key_of e)) self.old n) self.old
+            self.new }
+        ensures unique { IsUniqueBy E.Key.eq E.key_of self.new }
+    {
+        let present = self.bucket_count();
+        let length = self.len();
+        if present <= 2 || length > 4 * present {
+            return;
+        }
+        self.narrow();
+    }
+
+    /// The same where so few entries are held.
+    #[cold]
+    fn narrow(&mut self)
+        requires listed { IsListed (λ e. key_hash H.BuildHasher H.Hasher.Hasher E.Key.hash_input self.old
+            (E.key_of e)) self.old }
+        requires few { length (entries self.old) ≤ 4 * bucket_count self.old }
+        ensures shrinks { ShrinksBounded (λ e. key_hash H.BuildHasher H.Hasher.Hasher E.Key.hash_input self.old
+            (E.key_of e)) self.old self.new }
+        ensures listed { IsListed (λ e. key_hash H.BuildHasher H.Hasher.Hasher E.Key.hash_input self.new (E.key_of e))
+            self.new }
+        ensures same { IsPermutation (entries self.old) (entries self.new) }
+        ensures spreads { Spreads ((n : ℕ) × MayNarrow
+            (λ e. key_hash H.BuildHasher H.Hasher.Hasher E.Key.hash_input self.old (E.key_of e)) self.old n) self.old
+            self.new }
+        ensures unique { IsUniqueBy E.Key.eq E.key_of self.new }
+    {
+        let present = self.bucket_count();
+        let count = buckets_for(self.minimum()).max(buckets_for(2 * self.len()));
+        if count >= present {
+            return;
+        }
+        if !self.is_short_in(count) {
+            return;
+        }
+        match self.resize_to(count) {
+            Ok(()) => self.keep_lists(),
+            Err(_) => {}
+        }
+    }
+
+    /// Whether each of so many buckets, fewer than there are, would get at most 32 entries.
+    fn is_short_in(&self, count: usize) -> bool
+        requires array { IsArray count }
+        requires fewer { count < bucket_count self.now }
+        requires listed { IsListed (λ e. key_hash H.BuildHasher H.Hasher.Hasher E.Key.hash_input self.now
+            (E.key_of e)) self.now }
+        ensures { IsTrue result ↔ ((i : ℕ) → i < count
+            → length (bound_for (λ e. key_hash H.BuildHasher H.Hasher.Hasher E.Key.hash_input self.now (E.key_of e))
+            (settings_of self.now).skipped count i (entries self.now)) ≤ 32) }
+    {
+        let spread = self.bucket_count() / count;
+        for target in 0..count {
+            if self.joined_len(target, count, spread) > 32 {
+                return false;
+            }
+        }
+        true
+    }
+
+    /// How many entries belong to the target among `count` buckets, `spread` times fewer than there are: those of so
+    /// many present buckets in a row.
+    fn joined_len(&self, target: usize, count: usize, spread: usize) -> usize
+        requires listed { IsListed (λ e. key_hash H.BuildHasher H.Hasher.Hasher E.Key.hash_input self.now
+            (E.key_of e)) self.now }
+        requires spread { count * spread ≡ bucket_count self.now }
+        requires some { 0 < spread }
+        requires within { target < count }
+        ensures { result ≡ length (bound_for
+            (λ e. key_hash H.BuildHasher H.Hasher.Hasher E.Key.hash_input self.now (E.key_of e))
+            (settings_of self.now).skipped count target (entries self.now)) }
+    {
+        let first = target * spread;
+        let mut total = 0;
+        for bucket in first..first + spread {
+            total += self.list_len(bucket);
+        }
+        total
+    }
+}

@@ -1,0 +1,57 @@
+//! Searches in the list of one bucket, and its first entry.
+ghost use Rattle.scc_buckets.specs.Bounded.{IsUnlisted};
+ghost use Rattle.scc_contents.specs.Contents.{entries, bucket_count, list_of, settings_of, key_hash};
+ghost use Rattle.scc_contents.specs.Routing.{bucket_number};
+ghost use Rattle.scc_table.specs.Bounded.{IsListedAt};
+ghost use Rattle.scc_table.specs.TwoArrays.{IsWaiting};
+ghost use Rattle.std.specs.List.{position};
+ghost use Rattle.std.specs.Prelude.{◌≡◌, ◌<◌, length, None, Some, slice_get, MatchOption};
+
+use crate::Table;
+use scc_buckets::Place;
+use scc_entry::Keyed;
+use std::hash::{BuildHasher, Hash};
+
+impl<E: Keyed, H: BuildHasher> Table<E, H>
+where
+    E::Key: Eq + Hash,
+{
+    /// The place in the list of the bucket, the one of the hash, of the entry with that key.
+    #[inline(always)]
+    pub fn search_in(&self, bucket: usize, hash: u64, key: &E::Key) -> Option<usize>
+        requires within { bucket < bucket_count self.now }
+        requires settled { IsWaiting self.now bucket → ⊥ }
+        requires routed { bucket ≡ bucket_number (settings_of self.now).skipped (bucket_count self.now) hash }
+        requires hashed { hash ≡ key_hash H.BuildHasher H.Hasher.Hasher E.Key.hash_input self.now key.now }
+        ensures place { result ≡ position (λ e. E.Key.eq key.now (E.key_of e)) (list_of self.now bucket) }
+        ensures missed { result ≡ None → position (λ e. E.Key.eq key.now (E.key_of e)) (entries self.now) ≡ None }
+    {
+        self.current.keep_lists();
+        self.current.search_in(bucket, hash, key)
+    }
+
+    /// Where the entry with that key stands in the list of its bucket. `hash` is the key's hash.
+    #[inline(always)]
+    pub fn search_place(&self, hash: u64, key: &E::Key) -> Option<Place>
+        requires { hash ≡ key_hash H.BuildHasher H.Hasher.Hasher E.Key.hash_input self.now key.now }
+        ensures { MatchOption result (IsUnlisted (λ e. E.Key.eq key.now (E.key_of e)) self.now
+            (bucket_number (settings_of self.now).skipped (bucket_count self.now) hash))
+            (IsListedAt (λ e. E.Key.eq key.now (E.key_of e)) self.now
+            (bucket_number (settings_of self.now).skipped (bucket_count self.now) hash)) }
+    {
+        let _ = self.bucket_at(hash);
+        self.search(hash, key)
+    }
+
+    /// The first entry of a bucket that holds some.
+    pub fn first_entry(&self, bucket: usize) -> &E
+        requires within { bucket < bucket_count self.now }
+        requires some { 0 < length (list_of self.now bucket) }
+        ensures { slice_get (list_of self.now bucket) 0 ≡ Some result.now }
+    {
+        match self.first_in(bucket) {
+            Some(place) => self.entry_at(place),
+            None => unreachable!(),
+        }
+    }
+}

@@ -1,0 +1,192 @@
+//! How an entry that is made gets into twice as many buckets.
+ghost use Rattle.scc_array.specs.Shelf.{empty_shelf};
+ghost use Rattle.scc_buckets.specs.Pour.{bound_for};
+ghost use Rattle.scc_contents.specs.Contents.{entries, bucket_count, key_hash, list_of, pending_of, settings_of, waiting_of};
+ghost use Rattle.scc_contents.specs.Routing.{bucket_number};
+ghost use Rattle.scc_contents.specs.Sizes.{IsArray};
+ghost use Rattle.scc_table.specs.Growths.{DoublesAround, InsertsGrown};
+ghost use Rattle.scc_table.specs.MadeInsertions.{InsertsMadeCrowded, InsertsMadeWith};
+ghost use Rattle.scc_table.specs.TwoArrays.{waits_at};
+ghost use Rattle.std.specs.List.{position};
+ghost use Rattle.std.specs.Prelude.{◌≡◌, ◌<◌, ◌*◌, ◌^◌, false, true, None, Some, length, replicate, slice_get};
+
+use crate::Table;
+use scc_array::Array;
+use scc_buckets::Place;
+use scc_buckets::place::bucket_index;
+use scc_draining::count_bound;
+use scc_entry::{Keyed, Made};
+use std::hash::{BuildHasher, Hash};
+
+impl<E: Keyed, H: BuildHasher> Table<E, H>
+where
+    E::Key: Eq + Hash,
+{
+    /// Whether the bucket of the hash would hold 32 entries or more among twice as many buckets. That bucket is the one
+    /// of the hash now, and doesn't wait.
+    pub(crate) fn is_crowded(&self, bucket: usize, hash: u64) -> bool
+        requires within { bucket < bucket_count self.now }
+        requires routed { bucket ≡ bucket_number (settings_of self.now).skipped (bucket_count self.now) hash }
+        requires settled { waits_at (waiting_of self.now) bucket ≡ false }
+        requires below { 32 * bucket_count self.now < 2 ^ 63 }
+        ensures { result ≡ false → length (bound_for
+            (λ e. key_hash H.BuildHasher H.Hasher.Hasher E.Key.hash_input self.now (E.key_of e))
+            (settings_of self.now).skipped (2 * bucket_count self.now)
+            (bucket_number (settings_of self.now).skipped (2 * bucket_count self.now) hash) (entries self.now)) < 32 }
+    {
+        self.keep_lists();
+        let count = 2 * self.bucket_count();
+        let target = bucket_index(hash, self.skipped, count);
+        let held = self.list_len(bucket);
+        count_bound(&self.current, bucket, held, target, self.skipped, count) >= 32
+    }
+
+    /// Puts twice as many empty buckets in the place of the present ones, and answers where the entry at the place
+    /// stands then, whose hash that is. Its bucket of the new array takes its entries over at once, then the first one
+    /// that waits does, and all others wait. Where memory for that bucket is refused, the buckets stay.
+    fn double_around(&mut self, place: Place, fresh: Array<E>, flags: Vec<bool>, hash: u64) -> Place
+        requires within { place.bucket < bucket_count self.old }
+        requires slot { place.slot < length (list_of self.old place.bucket) }
+        requires hashed { (e : E) → slice_get (list_of self.old place.bucket) place.slot ≡ Some e
+            → hash ≡ key_hash H.BuildHasher H.Hasher.Hasher E.Key.hash_input self.old (E.key_of e) }
+        requires pending { pending_of self.old ≡ 0 }
+        requires below { 32 * bucket_count self.old < 2 ^ 63 }
+        requires empty { fresh ≡ replicate (2 * bucket_count self.old) empty_shelf }
+        requires flags { flags.items ≡ replicate (2 * bucket_count self.old) true }
+        ensures { DoublesAround E.Key.eq E.key_of (key_hash H.BuildHasher H.Hasher.Hasher E.Key.hash_input self.old)
+            self.old place hash result self.new }
+    {
+        self.keep_lists();
+        let count = 2 * self.bucket_count();
+        let bucket = bucket_index(hash, self.skipped, count);
+        let slot = count_bound(
+            &self.current,
+            place.bucket,
+            place.slot,
+            bucket,
+            self.skipped,
+            count,
+        );
+        match self.start_at(count, fresh, flags, bucket) {
+            Ok(()) => {
+                self.note(false);
+                self.relocate_some(1);
+                Place { bucket, slot }
+            }
+            Err(_) => {
+                self.note(true);
+                place
+            }
+        }
+    }
+
+    /// Puts an entry whose key is new into empty buckets that take the place of the present ones, which drain from then
+    /// on, and answers its place. Its bucket takes its own entries over, fewer than 32, and then the first one that
+    /// waits does.
+    fn insert_grown(
+        &mut self,
+        count: usize,
+        fresh: Array<E>,
+        flags: Vec<bool>,
+        hash: u64,
+        entry: E,
+    ) -> Place
+        requires pending { pending_of self.old ≡ 0 }
+        requires array { IsArray count }
+        requires some { 0 < bucket_count self.old }
+        requires more { bucket_count self.old < count }
+        requires empty { fresh ≡ replicate count empty_shelf }
+        requires flags { flags.items ≡ replicate count true }
+        requires room { length (bound_for (λ e. key_hash H.BuildHasher H.Hasher.Hasher E.Key.hash_input self.old
+            (E.key_of e)) (settings_of self.old).skipped count
+            (bucket_number (settings_of self.old).skipped count hash) (entries self.old)) < 32 }
+        requires hashed { hash ≡ key_hash H.BuildHasher H.Hasher.Hasher E.Key.hash_input self.old (E.key_of entry) }
+        requires absent { position (λ e. E.Key.eq (E.key_of entry) (E.key_of e)) (entries self.old) ≡ None }
+        ensures { InsertsGrown E.Key.eq E.key_of (key_hash H.BuildHasher H.Hasher.Hasher E.Key.hash_input self.old)
+            self.old count hash entry result self.new }
+    {
+        self.begin(count, fresh, flags);
+        self.note(false);
+        let bucket = self.bucket_at(hash);
+        match self.insert_at(bucket, hash, entry) {
+            Ok(place) => place,
+            Err(_) => unreachable!(),
+        }
+    }
+}
+
+impl<E: Keyed + Made, H: BuildHasher> Table<E, H>
+where
+    E::Key: Eq + Hash,
+{
+    /// The same with an entry of the parts, which is made first. Where it can't be, the parts are handed back, that the
+    /// growth wasn't made is noted, and nothing else changed.
+    pub(crate) fn insert_made_with(
+        &mut self,
+        count: usize,
+        fresh: Array<E>,
+        flags: Vec<bool>,
+        hash: u64,
+        parts: E::Parts,
+    ) -> Result<Place, E::Parts>
+        requires pending { pending_of self.old ≡ 0 }
+        requires array { IsArray count }
+        requires some { 0 < bucket_count self.old }
+        requires more { bucket_count self.old < count }
+        requires empty { fresh ≡ replicate count empty_shelf }
+        requires flags { flags.items ≡ replicate count true }
+        requires room { length (bound_for (λ e. key_hash H.BuildHasher H.Hasher.Hasher E.Key.hash_input self.old
+            (E.key_of e)) (settings_of self.old).skipped count
+            (bucket_number (settings_of self.old).skipped count hash) (entries self.old)) < 32 }
+        requires hashed { hash ≡ key_hash H.BuildHasher H.Hasher.Hasher E.Key.hash_input self.old
+            (E.key_of (E.made_of parts)) }
+        requires absent { position (λ e. E.Key.eq (E.key_of (E.made_of parts)) (E.key_of e)) (entries self.old) ≡ None }
+        ensures { InsertsMadeWith E.Key.eq E.key_of
+            (key_hash H.BuildHasher H.Hasher.Hasher E.Key.hash_input self.old) self.old count hash
+            (E.made_of parts) parts result self.new }
+    {
+        match E::make(self.current.allocator(), parts) {
+            Ok(entry) => Ok(self.insert_grown(count, fresh, flags, hash, entry)),
+            Err(back) => {
+                fresh.destroy_empty();
+                self.note(true);
+                Err(back)
+            }
+        }
+    }
+
+    /// The same into the present buckets, in whose place twice as many empty ones come afterwards: that bucket, the one
+    /// of the hash, has the entry first, and then the one of the hash among the new ones takes it over, where memory
+    /// isn't refused. Where the entry can't be put in, that the growth wasn't made is noted, and nothing else changed.
+    #[cold]
+    pub(crate) fn insert_made_crowded(
+        &mut self,
+        bucket: usize,
+        fresh: Array<E>,
+        flags: Vec<bool>,
+        hash: u64,
+        parts: E::Parts,
+    ) -> Result<Place, E::Parts>
+        requires within { bucket < bucket_count self.old }
+        requires routed { bucket ≡ bucket_number (settings_of self.old).skipped (bucket_count self.old) hash }
+        requires hashed { hash ≡ key_hash H.BuildHasher H.Hasher.Hasher E.Key.hash_input self.old
+            (E.key_of (E.made_of parts)) }
+        requires absent { position (λ e. E.Key.eq (E.key_of (E.made_of parts)) (E.key_of e)) (entries self.old) ≡ None }
+        requires pending { pending_of self.old ≡ 0 }
+        requires below { 32 * bucket_count self.old < 2 ^ 63 }
+        requires empty { fresh ≡ replicate (2 * bucket_count self.old) empty_shelf }
+        requires flags { flags.items ≡ replicate (2 * bucket_count self.old) true }
+        ensures { InsertsMadeCrowded E.Key.eq E.key_of
+            (key_hash H.BuildHasher H.Hasher.Hasher E.Key.hash_input self.old) self.old hash (E.made_of parts)
+            parts result self.new }
+    {
+        match self.put_made_in(bucket, hash, parts) {
+            Ok(place) => Ok(self.double_around(place, fresh, flags, hash)),
+            Err(back) => {
+                fresh.destroy_empty();
+                self.note(true);
+                Err(back)
+            }
+        }
+    }
+}

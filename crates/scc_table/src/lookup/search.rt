@@ -1,0 +1,120 @@
+//! The search for a key: its place, or the entry itself, also from a hash that may be another key's.
+ghost use Rattle.scc_contents.specs.Contents.{entries, key_hash, pending_of, IsRouted, IsUniqueBy};
+ghost use Rattle.scc_table.specs.Places.{IsFoundAt};
+ghost use Rattle.std.specs.List.{position, find};
+ghost use Rattle.std.specs.Option.{option_copied};
+ghost use Rattle.std.specs.Prelude.{◌≡◌, ◌<◌, ◌≤◌, ◌^◌, None, MatchOption};
+
+use crate::Table;
+use scc_buckets::Place;
+use scc_buckets::place::{bucket_index, tag};
+use scc_entry::Keyed;
+use std::hash::{BuildHasher, Hash};
+
+/// No array has a bucket of that number.
+pub(crate) const NOWHERE: usize = 1 << 60;
+
+impl<E: Keyed, H: BuildHasher> Table<E, H>
+where
+    E::Key: Eq + Hash,
+{
+    /// Where the entry with that key stands. `hash` is the key's hash.
+    #[inline(always)]
+    pub fn search(&self, hash: u64, key: &E::Key) -> Option<Place>
+        requires { hash ≡ key_hash H.BuildHasher H.Hasher.Hasher E.Key.hash_input self.now key.now }
+        ensures place { MatchOption result (position (λ e. E.Key.eq key.now (E.key_of e)) (entries self.now) ≡ None)
+            (IsFoundAt (λ e. E.Key.eq key.now (E.key_of e)) self.now) }
+        ensures unique { IsUniqueBy E.Key.eq E.key_of self.now }
+    {
+        if self.draining.pending == 0 {
+            return self.current.search(hash, key);
+        }
+        let place = self.search_both(hash, key);
+        if place.bucket < NOWHERE {
+            Some(place)
+        } else {
+            None
+        }
+    }
+
+    /// What every table keeps of its lists. It does nothing, and is there for its contract.
+    #[inline(always)]
+    pub fn keep_lists(&self)
+        ensures routed { IsRouted (λ e. key_hash H.BuildHasher H.Hasher.Hasher E.Key.hash_input self.now (E.key_of e))
+            self.now }
+        ensures unique { IsUniqueBy E.Key.eq E.key_of self.now }
+    {
+        self.current.keep_lists();
+    }
+
+    /// The same where some bucket waits. There is no such entry where the answer's bucket is `NOWHERE`. A place comes
+    /// back in two registers; an Option of one goes through the caller's memory, also where no bucket waits.
+    #[cold]
+    pub(crate) fn search_both(&self, hash: u64, key: &E::Key) -> Place
+        requires pending { 0 < pending_of self.now }
+        requires hashed { hash ≡ key_hash H.BuildHasher H.Hasher.Hasher E.Key.hash_input self.now key.now }
+        ensures found { result.bucket < 2 ^ 60 → IsFoundAt (λ e. E.Key.eq key.now (E.key_of e)) self.now result }
+        ensures missed { 2 ^ 60 ≤ result.bucket → position (λ e. E.Key.eq key.now (E.key_of e)) (entries self.now)
+            ≡ None }
+    {
+        let nowhere = Place {
+            bucket: NOWHERE,
+            slot: 0,
+        };
+        let count = self.current.bucket_count();
+        let bucket = self.current.bucket_at(hash);
+        if self.draining.waiting[bucket] {
+            let source = bucket_index(hash, self.skipped, self.draining.array.len());
+            return match self.draining.array.search(source, key, tag(hash)) {
+                Some(slot) => Place {
+                    bucket: count + source,
+                    slot,
+                },
+                None => nowhere,
+            };
+        }
+        match self.current.search_place(hash, key) {
+            Some(place) => place,
+            None => nowhere,
+        }
+    }
+
+    /// The entry with that key. `hash` is the key's hash.
+    #[inline(always)]
+    pub fn find(&self, hash: u64, key: &E::Key) -> Option<&E>
+        requires { hash ≡ key_hash H.BuildHasher H.Hasher.Hasher E.Key.hash_input self.now key.now }
+        ensures { option_copied result ≡ find (λ e. E.Key.eq key.now (E.key_of e)) (entries self.now) }
+    {
+        if self.draining.pending == 0 {
+            return self.current.find(hash, key);
+        }
+        self.find_both(hash, key)
+    }
+
+    /// The same where some bucket waits.
+    #[cold]
+    pub(crate) fn find_both(&self, hash: u64, key: &E::Key) -> Option<&E>
+        requires pending { 0 < pending_of self.now }
+        requires hashed { hash ≡ key_hash H.BuildHasher H.Hasher.Hasher E.Key.hash_input self.now key.now }
+        ensures { option_copied result ≡ find (λ e. E.Key.eq key.now (E.key_of e)) (entries self.now) }
+    {
+        let bucket = self.current.bucket_at(hash);
+        if self.draining.waiting[bucket] {
+            let source = bucket_index(hash, self.skipped, self.draining.array.len());
+            return self.draining.array.find(source, key, tag(hash));
+        }
+        self.current.find(hash, key)
+    }
+
+    /// The entry with that key. Where `hint` is the key's hash, no bucket waits and the entry lies in a place, the key
+    /// isn't hashed.
+    #[inline(always)]
+    pub fn find_by_hint(&self, hint: u64, key: &E::Key) -> Option<&E>
+        ensures { option_copied result ≡ find (λ e. E.Key.eq key.now (E.key_of e)) (entries self.now) }
+    {
+        if self.draining.pending == 0 {
+            return self.current.find_by_hint(hint, key);
+        }
+        self.find_both(self.hash(key), key)
+    }
+}

@@ -1,0 +1,87 @@
+//! Removals with no resize. They relocate nothing: the same buckets wait as before.
+ghost use Rattle.scc_buckets.specs.OneList.{IsTakenFrom};
+ghost use Rattle.scc_contents.specs.Contents.{entries, bucket_count, waiting_of, owed_of, IsUniqueBy};
+ghost use Rattle.scc_table.specs.Places.{IsPlace, index_of, spot_of};
+ghost use Rattle.scc_table.specs.Removals.{SwapTakesAt, TakesAndSteps, TakesIn};
+ghost use Rattle.scc_table.specs.Takes.{owed_taken};
+ghost use Rattle.std.specs.Prelude.{◌≡◌, ◌≤◌, Some, slice_get};
+
+use crate::Table;
+use scc_buckets::Place;
+use scc_entry::Keyed;
+use std::hash::{BuildHasher, Hash};
+
+impl<E: Keyed, H: BuildHasher> Table<E, H>
+where
+    E::Key: Eq + Hash,
+{
+    /// Takes the entry out of its place, with no resize: the others stay in their order. Seen in the list of its bucket
+    /// too.
+    pub fn take_in(&mut self, place: Place) -> E
+        requires { IsPlace self.old place }
+        ensures { TakesIn E.Key.eq E.key_of self.old place result self.new }
+    {
+        self.take_exactly(place)
+    }
+
+    /// The same, seen in the list of its bucket alone.
+    #[inline(always)]
+    fn take_exactly(&mut self, place: Place) -> E
+        requires { IsPlace self.old place }
+        ensures entry { slice_get (entries self.old) (index_of self.old place) ≡ Some result }
+        ensures waiting { waiting_of self.new ≡ waiting_of self.old }
+        ensures owed { owed_of self.new ≡ owed_taken (bucket_count self.old) (owed_of self.old) place }
+        ensures exact { IsTakenFrom self.old (spot_of self.old place) self.new }
+        ensures unique { IsUniqueBy E.Key.eq E.key_of self.old }
+    {
+        if place.bucket < self.bucket_count() {
+            return self.current.take_in(place);
+        }
+        self.take_old(place)
+    }
+
+    /// The same out of a place of the old array.
+    #[inline(always)]
+    fn take_old(&mut self, place: Place) -> E
+        requires place { IsPlace self.old place }
+        requires old { bucket_count self.old ≤ place.bucket }
+        ensures entry { slice_get (entries self.old) (index_of self.old place) ≡ Some result }
+        ensures waiting { waiting_of self.new ≡ waiting_of self.old }
+        ensures owed { owed_of self.new ≡ owed_taken (bucket_count self.old) (owed_of self.old) place }
+        ensures exact { IsTakenFrom self.old (spot_of self.old place) self.new }
+        ensures unique { IsUniqueBy E.Key.eq E.key_of self.old }
+    {
+        let count = self.current.bucket_count();
+        let entry = self
+            .draining
+            .array
+            .remove_at(place.bucket - count, place.slot);
+        self.draining.left -= 1;
+        entry
+    }
+
+    /// Takes the entry out of its place, with no resize, and answers the place of the one that stood next, or None
+    /// where it was the last: the others stay in their order.
+    pub fn take_and_step(&mut self, place: Place) -> (E, Option<Place>)
+        requires { IsPlace self.old place }
+        ensures { TakesAndSteps E.Key.eq E.key_of self.old place result self.new }
+    {
+        let target = self.target_of(place);
+        let entry = self.take_in(place);
+        let next = self.place_on(target, place.bucket, place.slot);
+        (entry, next)
+    }
+
+    /// Takes the entry out of its place, with no resize. The last entry of its bucket's slots, or of its overflow list,
+    /// may take its place.
+    #[inline(always)]
+    pub fn swap_take_at(&mut self, place: Place) -> E
+        requires { IsPlace self.old place }
+        ensures { SwapTakesAt E.Key.eq E.key_of self.old place result self.new }
+    {
+        if self.draining.pending == 0 || place.bucket < self.bucket_count() {
+            return self.current.swap_take_at(place);
+        }
+        self.take_old(place)
+    }
+}

@@ -1,0 +1,146 @@
+//! How a new array takes the place of the present one, which drains from then on.
+ghost use Rattle.scc_array.specs.Shelf.{empty_shelf};
+ghost use Rattle.scc_contents.specs.Contents.{bucket_count, key_hash, pending_of};
+ghost use Rattle.scc_contents.specs.Sizes.{IsArray};
+ghost use Rattle.scc_table.specs.Starts.{Begins, Notes, ResizesArray, StartsArray, StartsAt};
+ghost use Rattle.std.specs.Prelude.{◌≡◌, ◌≢◌, ◌<◌, true, false, replicate};
+
+use crate::Table;
+use scc_array::Array;
+use scc_draining::{fresh_waiting, take};
+use scc_entry::Keyed;
+use std::alloc::AllocError;
+use std::hash::{BuildHasher, Hash};
+
+impl<E: Keyed, H: BuildHasher> Table<E, H>
+where
+    E::Key: Eq + Hash,
+{
+    /// Moves to an array of so many buckets: those that wait take their entries over first, and then every bucket of
+    /// the new array waits. Where memory is refused, each list is as it was, and the buckets that took their entries
+    /// over still have them. Whether it was is noted.
+    pub(crate) fn resize_to(&mut self, count: usize) -> Result<(), AllocError>
+        requires array { IsArray count }
+        requires some { 0 < bucket_count self.old }
+        requires other { count ≢ bucket_count self.old }
+        ensures { ResizesArray E.Key.eq E.key_of
+            (λ e. key_hash H.BuildHasher H.Hasher.Hasher E.Key.hash_input self.old (E.key_of e)) count
+            self.old result self.new }
+    {
+        match self.finish() {
+            Ok(()) => self.start(count),
+            Err(e) => {
+                self.note(true);
+                Err(e)
+            }
+        }
+    }
+
+    /// The same where no bucket waits. Where memory is refused, none does afterwards either.
+    pub(crate) fn start(&mut self, count: usize) -> Result<(), AllocError>
+        requires settled { pending_of self.old ≡ 0 }
+        requires array { IsArray count }
+        requires some { 0 < bucket_count self.old }
+        requires other { count ≢ bucket_count self.old }
+        ensures { StartsArray E.Key.eq E.key_of
+            (λ e. key_hash H.BuildHasher H.Hasher.Hasher E.Key.hash_input self.old (E.key_of e)) count
+            self.old result self.new }
+    {
+        match fresh_waiting(self.current.allocator(), count) {
+            Ok((fresh, flags)) => {
+                self.begin(count, fresh, flags);
+                self.note(false);
+                Ok(())
+            }
+            Err(e) => {
+                self.note(true);
+                Err(e)
+            }
+        }
+    }
+
+    /// Sets the note of refused memory alone.
+    pub(crate) fn note(&mut self, refused: bool)
+        ensures { Notes E.Key.eq E.key_of (refused, false) self.old self.new }
+    {
+        self.current.note(refused);
+    }
+
+    /// Sets the note of refused memory, and whether the next insertion is not to try the growth again.
+    pub(crate) fn mark(&mut self, refused: bool, tried: bool)
+        ensures { Notes E.Key.eq E.key_of (refused, tried) self.old self.new }
+    {
+        self.current.mark(refused, tried);
+    }
+
+    /// Puts the empty buckets in the place of the present ones, which drain from then on: every one of the new buckets
+    /// waits, as the flags say.
+    pub(crate) fn begin(&mut self, count: usize, fresh: Array<E>, flags: Vec<bool>)
+        requires settled { pending_of self.old ≡ 0 }
+        requires array { IsArray count }
+        requires some { 0 < bucket_count self.old }
+        requires other { count ≢ bucket_count self.old }
+        requires empty { fresh ≡ replicate count empty_shelf }
+        requires flags { flags.items ≡ replicate count true }
+        ensures { Begins (λ e. key_hash H.BuildHasher H.Hasher.Hasher E.Key.hash_input self.old (E.key_of e))
+            count self.old self.new }
+    {
+        let (old, left, left_overflow) = self.current.exchange(fresh, 0, 0);
+        let bare = std::mem::replace(&mut self.draining.array, old);
+        bare.destroy_empty();
+        self.draining.waiting = flags;
+        self.draining.pending = count;
+        self.draining.next = 0;
+        self.draining.left = left;
+        self.draining.left_overflow = left_overflow;
+    }
+
+    /// Puts the empty buckets in the place of the present ones, where none waits. That bucket of the new array takes
+    /// its entries over at once, and every other one waits, as the flags say. Where memory for that bucket is refused,
+    /// all stays.
+    pub(crate) fn start_at(
+        &mut self,
+        count: usize,
+        fresh: Array<E>,
+        mut flags: Vec<bool>,
+        bucket: usize,
+    ) -> Result<(), AllocError>
+        requires settled { pending_of self.old ≡ 0 }
+        requires array { IsArray count }
+        requires some { 0 < bucket_count self.old }
+        requires other { count ≢ bucket_count self.old }
+        requires within { bucket < count }
+        requires empty { fresh ≡ replicate count empty_shelf }
+        requires flags { flags.items ≡ replicate count true }
+        ensures { StartsAt E.Key.eq E.key_of
+            (λ e. key_hash H.BuildHasher H.Hasher.Hasher E.Key.hash_input self.old (E.key_of e)) count
+            bucket self.old result self.new }
+    {
+        let (mut old, left, overflow) = self.current.exchange(fresh, 0, 0);
+        match take(
+            &mut self.current,
+            &mut old,
+            bucket,
+            overflow,
+            self.skipped,
+            flags.as_slice(),
+        ) {
+            Ok(moved) => {
+                let bare = std::mem::replace(&mut self.draining.array, old);
+                bare.destroy_empty();
+                flags[bucket] = false;
+                self.draining.waiting = flags;
+                self.draining.pending = count - 1;
+                self.draining.next = 0;
+                self.draining.left = left - moved;
+                self.draining.left_overflow = overflow;
+                Ok(())
+            }
+            Err(e) => {
+                let (bare, _, _) = self.current.exchange(old, left, overflow);
+                bare.destroy_empty();
+                Err(e)
+            }
+        }
+    }
+}

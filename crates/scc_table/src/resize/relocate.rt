@@ -1,0 +1,110 @@
+//! How buckets take their entries over from the old array.
+ghost use Rattle.scc_buckets.specs.Bounded.{IsBounded};
+ghost use Rattle.scc_contents.specs.Contents.{entries, list_of, pending_of};
+ghost use Rattle.scc_table.specs.Relocates.{AreShort};
+ghost use Rattle.scc_table.specs.Relocations.{RelocatesUpTo, RelocatesAll};
+ghost use Rattle.scc_table.specs.TwoArrays.{IsWaiting, IsFirstWaiting, IsRelocated};
+ghost use Rattle.std.specs.Prelude.{◌≡◌, ◌<◌, ◌+◌, false, ◌≤◌, ℕ, length, OnOk, OnErr};
+
+use crate::Table;
+use scc_array::Array;
+use scc_draining::take;
+use scc_entry::Keyed;
+use std::alloc::AllocError;
+use std::hash::{BuildHasher, Hash};
+
+impl<E: Keyed, H: BuildHasher> Table<E, H>
+where
+    E::Key: Eq + Hash,
+{
+    /// Moves the entries of the first buckets that wait to them, of so many buckets. One whose memory is refused counts
+    /// among them, and still waits.
+    #[inline(always)]
+    pub(crate) fn relocate_some(&mut self, most: usize)
+        ensures { RelocatesUpTo most self.old self.new }
+    {
+        for _ in 0..most {
+            if self.draining.pending == 0 {
+                return;
+            }
+            match self.relocate_next() {
+                Ok(()) => {}
+                Err(_) => {}
+            }
+        }
+    }
+
+    /// Moves the entries of a bucket that waits to it, in their order. It asks for memory only where more than 32 come;
+    /// where that is refused, nothing changes. The last bucket that waits gives the old array back. Takes time by the
+    /// number of entries in the old buckets that they come from.
+    pub(crate) fn relocate(&mut self, bucket: usize) -> Result<(), AllocError>
+        requires { IsWaiting self.old bucket }
+        ensures ok { OnOk result (IsRelocated bucket self.old self.new) }
+        ensures err { OnErr result (self.new ≡ self.old) }
+        ensures refused { OnErr result (32 < length (list_of self.old bucket)) }
+        ensures bounded { IsBounded self.old → length (list_of self.old bucket) ≤ 32 → IsBounded self.new }
+    {
+        let aside = self.draining.left_overflow;
+        match take(
+            &mut self.current,
+            &mut self.draining.array,
+            bucket,
+            aside,
+            self.skipped,
+            self.draining.waiting.as_slice(),
+        ) {
+            Ok(moved) => {
+                self.draining.left -= moved;
+                self.draining.pending -= 1;
+                self.draining.waiting[bucket] = false;
+                if self.draining.pending == 0 {
+                    self.draining.waiting.clear();
+                    let none = Array::none(self.current.allocator());
+                    let bare = std::mem::replace(&mut self.draining.array, none);
+                    bare.destroy_empty();
+                    self.draining.left_overflow = 0;
+                }
+                Ok(())
+            }
+            Err(e) => Err(e),
+        }
+    }
+
+    /// The number of the first bucket that waits.
+    fn first_waiting(&self) -> usize
+        requires { 0 < pending_of self.now }
+        ensures { IsFirstWaiting self.now result }
+    {
+        for bucket in self.draining.next..self.draining.waiting.len() {
+            if self.draining.waiting[bucket] {
+                return bucket;
+            }
+        }
+        unreachable!()
+    }
+
+    /// Moves the entries of the first bucket that waits to it, as `relocate` does. The buckets before it aren't looked
+    /// at again.
+    pub(crate) fn relocate_next(&mut self) -> Result<(), AllocError>
+        requires { 0 < pending_of self.old }
+        ensures ok { OnOk result ((i : ℕ) × (IsFirstWaiting self.old i) × (IsRelocated i self.old self.new)) }
+        ensures err { OnErr result (self.new ≡ self.old) }
+        ensures refused { OnErr result ((i : ℕ) × (IsFirstWaiting self.old i) × (32 < length (list_of self.old i))) }
+        ensures bounded { IsBounded self.old → AreShort self.old → IsBounded self.new }
+    {
+        let bucket = self.first_waiting();
+        self.draining.next = bucket;
+        self.relocate(bucket)
+    }
+
+    /// Moves the entries of all buckets that wait to them, the first bucket first. Where memory is refused for one, it
+    /// and those after it still wait.
+    pub fn finish(&mut self) -> Result<(), AllocError>
+        ensures { RelocatesAll self.old result self.new }
+    {
+        for _ in 0..self.draining.pending {
+            self.relocate_next()?;
+        }
+        Ok(())
+    }
+}

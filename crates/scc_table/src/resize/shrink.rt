@@ -1,0 +1,54 @@
+//! How a table of two arrays gives back slots that it no longer needs.
+ghost use Rattle.scc_contents.specs.Contents.{entries, bucket_count, minimum_of, IsUniqueBy};
+ghost use Rattle.scc_contents.specs.Steps.{Resizes, Shrinks, ShrinksWhenDue};
+ghost use Rattle.scc_table.specs.Relocates.{IsShrinkDue, Spreads};
+ghost use Rattle.std.specs.Prelude.{◌≤◌, ◌*◌, length};
+
+use crate::Table;
+use scc_buckets::sizes::buckets_for;
+use scc_entry::Keyed;
+use std::hash::{BuildHasher, Hash};
+
+impl<E: Keyed, H: BuildHasher> Table<E, H>
+where
+    E::Key: Eq + Hash,
+{
+    /// Makes the array smaller where at most an eighth as many entries as slots are held and a smaller array has enough
+    /// slots, unless memory is refused: then every bucket of the new array waits. Takes time by the number of buckets,
+    /// and of entries that waited, where it does, else none to speak of.
+    #[inline(always)]
+    pub fn shrink(&mut self)
+        ensures resizes { Resizes self.old self.new }
+        ensures shrinks { Shrinks self.old self.new }
+        ensures due { ShrinksWhenDue self.old self.new }
+        ensures spreads { Spreads (IsShrinkDue (minimum_of self.old) self.old) self.old self.new }
+        ensures unique { IsUniqueBy E.Key.eq E.key_of self.new }
+    {
+        let count = self.bucket_count();
+        let length = self.len();
+        if count <= 2 || length > 4 * count {
+            return;
+        }
+        self.shrink_sparse();
+    }
+
+    /// The same where so few entries are held.
+    fn shrink_sparse(&mut self)
+        requires { length (entries self.old) ≤ 4 * bucket_count self.old }
+        ensures resizes { Resizes self.old self.new }
+        ensures shrinks { Shrinks self.old self.new }
+        ensures due { ShrinksWhenDue self.old self.new }
+        ensures spreads { Spreads (IsShrinkDue (minimum_of self.old) self.old) self.old self.new }
+        ensures unique { IsUniqueBy E.Key.eq E.key_of self.new }
+    {
+        let present = self.bucket_count();
+        let count = buckets_for(self.minimum()).max(buckets_for(2 * self.len()));
+        if count >= present {
+            return;
+        }
+        match self.resize_to(count) {
+            Ok(()) => {}
+            Err(_) => {}
+        }
+    }
+}

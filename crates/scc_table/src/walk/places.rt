@@ -1,0 +1,145 @@
+//! Steps from place to place, in the order of the entries.
+ghost use Rattle.scc_buckets.specs.Places as spots;
+ghost use Rattle.scc_contents.specs.Contents.{entries, bucket_count, owed_of, list_of};
+ghost use Rattle.scc_table.specs.Places.{IsPlace, index_of, spot_of, StandsAt};
+ghost use Rattle.scc_table.specs.Stepping.{index_on, rank_on, IsStart};
+ghost use Rattle.scc_table.specs.TwoArrays.{IsWaiting};
+ghost use Rattle.std.specs.Prelude.{◌≡◌, ◌≤◌, ◌<◌, ◌^◌, ◌+◌, [], length, suc, MatchOption};
+
+use crate::Table;
+use scc_buckets::Place;
+use scc_buckets::place::bucket_index;
+use scc_draining::{end_past, sources, spot_from};
+use scc_entry::Keyed;
+use std::hash::{BuildHasher, Hash};
+
+impl<E: Keyed, H: BuildHasher> Table<E, H>
+where
+    E::Key: Eq + Hash,
+{
+    /// The place of the first entry, or None where there is none.
+    pub fn first_place(&self) -> Option<Place>
+        ensures { MatchOption result (entries self.now ≡ []) (StandsAt self.now 0) }
+    {
+        self.place_past(0)
+    }
+
+    /// The place of the entry after that one, or None where it is the last.
+    pub fn next_place(&self, place: Place) -> Option<Place>
+        requires { IsPlace self.now place }
+        ensures { MatchOption result (suc (index_of self.now place) ≡ length (entries self.now))
+            (StandsAt self.now (suc (index_of self.now place))) }
+    {
+        let target = self.target_of(place);
+        self.place_on(target, place.bucket, place.slot + 1)
+    }
+
+    /// The number of the bucket in whose list the entry at the place stands.
+    pub(crate) fn target_of(&self, place: Place) -> usize
+        requires { IsPlace self.now place }
+        ensures value { result ≡ (spot_of self.now place).bucket }
+        ensures next { IsStart self.now result place.bucket (place.slot + 1) }
+        ensures index { index_on self.now result place.bucket (place.slot + 1) ≡ suc (index_of self.now place) }
+        ensures within { result < bucket_count self.now }
+        ensures small { place.slot + 1 < 2 ^ 64 }
+    {
+        let _ = self.current.len();
+        let count = self.current.bucket_count();
+        if place.bucket < count {
+            return place.bucket;
+        }
+        let entry = self
+            .draining
+            .array
+            .entry_at(place.bucket - count, place.slot);
+        bucket_index(self.current.hash(entry.key()), self.skipped, count)
+    }
+
+    /// The first place, from number `slot` of the bucket on, of an entry of the target, or of a bucket after the
+    /// target; None where no entry follows. `bucket` is the target itself, or, where that waits, one of the old array.
+    pub(crate) fn place_on(&self, target: usize, bucket: usize, slot: usize) -> Option<Place>
+        requires target { target < bucket_count self.now }
+        requires start { IsStart self.now target bucket slot }
+        ensures { MatchOption result (index_on self.now target bucket slot ≡ length (entries self.now))
+            (StandsAt self.now (index_on self.now target bucket slot)) }
+    {
+        let count = self.current.bucket_count();
+        if bucket < count {
+            if slot < self.current.list_len(bucket) {
+                return Some(Place { bucket, slot });
+            }
+            return self.place_past(bucket + 1);
+        }
+        if let Some(place) = self.old_place(target, bucket - count, slot) {
+            return Some(place);
+        }
+        self.place_past(target + 1)
+    }
+
+    /// The place of the first entry of the bucket or of one after it.
+    fn place_past(&self, bucket: usize) -> Option<Place>
+        requires { bucket ≤ bucket_count self.now }
+        ensures { MatchOption result (spots.index_of_spot self.now (record { bucket = bucket; slot = 0 })
+            ≡ length (entries self.now))
+            (StandsAt self.now (spots.index_of_spot self.now (record { bucket = bucket; slot = 0 }))) }
+    {
+        for next in bucket..self.current.bucket_count() {
+            if let Some(place) = self.first_in(next) {
+                return Some(place);
+            }
+        }
+        None
+    }
+
+    /// The place of the first entry of the bucket.
+    pub(crate) fn first_in(&self, bucket: usize) -> Option<Place>
+        requires { bucket < bucket_count self.now }
+        ensures { MatchOption result (list_of self.now bucket ≡ [])
+            (StandsAt self.now (spots.index_of_spot self.now (record { bucket = bucket; slot = 0 }))) }
+    {
+        if self.is_waiting(bucket) {
+            let (first, _) = sources(
+                self.draining.array.len(),
+                self.current.bucket_count(),
+                bucket,
+            );
+            if first >= self.draining.array.len() {
+                return None;
+            }
+            return self.old_place(bucket, first, 0);
+        }
+        if self.current.list_len(bucket) == 0 {
+            return None;
+        }
+        Some(Place { bucket, slot: 0 })
+    }
+
+    /// The place of the first entry of a bucket that waits, from number `slot` of that old bucket on.
+    fn old_place(&self, target: usize, source: usize, slot: usize) -> Option<Place>
+        requires waits { IsWaiting self.now target }
+        requires source { source < length (owed_of self.now) }
+        ensures { MatchOption result (rank_on self.now target source slot ≡ length (list_of self.now target))
+            (StandsAt self.now (spots.index_of_spot self.now
+            (record { bucket = target; slot = rank_on self.now target source slot }))) }
+    {
+        let count = self.current.bucket_count();
+        let (_, end) = sources(self.draining.array.len(), count, target);
+        let last = end_past(end, source);
+        match spot_from(
+            &self.draining.array,
+            source,
+            slot,
+            last,
+            target,
+            &self.current,
+            self.skipped,
+            count,
+        ) {
+            Some((old, number)) => Some(Place {
+                bucket: count + old,
+                slot: number,
+            }),
+            None => None,
+        }
+    }
+}
