@@ -5,7 +5,7 @@ use crate::parts::{
     Fold, Map, Outcome, PARTS, fold_hasher, locked_map, nanos, out_of_memory, sum_of, upsert,
 };
 use scc_calls::route;
-use scc_common::TryShare;
+use scc_common::CloneOwner;
 use std::alloc::{AllocError, Global};
 use std::io;
 use std::rt::Clock;

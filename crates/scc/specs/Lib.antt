@@ -4,7 +4,7 @@ pub use Rattle.scc_buckets.specs.LendsBuckets
 pub use Rattle.scc_buckets.specs.Tables
 pub use Rattle.scc_buckets.specs.Writes
 pub use Rattle.scc_calls.specs.CacheCalls
-pub use Rattle.scc_calls.specs.Changes
+pub use Rattle.scc_calls.specs.Resized
 pub use Rattle.scc_calls.specs.Histories
 pub use Rattle.scc_calls.specs.IndexCalls
 pub use Rattle.scc_calls.specs.Made

@@ -5,8 +5,8 @@ pub use scc_calls::{
     CacheCall, Calls, IndexCall, MapCall, Refused, Reply, Request, SetCall, Setting, Step,
     WholeCalls, every_merge_is_a_run, route, run, runs_mean,
 };
-pub use scc_common::{Shared, TryShare};
+pub use scc_common::{CloneOwner, Shared};
 pub use scc_history::{CallError, Log, Receipt, Stripe};
 pub use scc_recorded::{
-    Closed, FinishError, Finished, Guarded, Pass, Recorded, Setup, Site, Unfinished,
+    Closed, CountedStripe, FinishError, Finished, Pass, Recorded, Setup, Site, Unfinished,
 };

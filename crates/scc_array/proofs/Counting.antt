@@ -50,15 +50,15 @@ pub tag-there : (t : ℕ) → 0 < t → tag_there t ≡ Some t
 tag-there zero h = absurd (omega arith)
 tag-there (suc t) h = refl
 
-module _ {E : Type 0} (rows : List (List ℕ)) (places : List (Option E)) (i : ℕ) (xs : List E) (ts : List ℕ) (p : IsPackedWindow rows places i xs ts) where
+module _ {E : Type 0} (rows : List (List ℕ)) (cells : List (Option E)) (i : ℕ) (xs : List E) (ts : List ℕ) (p : IsPackedWindow rows cells i xs ts) where
   abbrev row : List ℕ
   row = get_or rows i []
 
-  pub place-used : (j : ℕ) → j < length xs → (x : E) × (get_or places (32 * i + j) None ≡ Some x)
-  place-used j h = let m = p.most in let g = get-some xs j h in (g.0, p.places_are j (omega arith) ∙ g.1)
+  pub slot-used : (j : ℕ) → j < length xs → (x : E) × (get_or cells (32 * i + j) None ≡ Some x)
+  slot-used j h = let m = p.most in let g = get-some xs j h in (g.0, p.cells_are j (omega arith) ∙ g.1)
 
-  pub place-free : (j : ℕ) → length xs ≤ j → j < 32 → get_or places (32 * i + j) None ≡ None
-  place-free j h l = p.places_are j l ∙ get-past xs j h
+  pub slot-free : (j : ℕ) → length xs ≤ j → j < 32 → get_or cells (32 * i + j) None ≡ None
+  slot-free j h l = p.cells_are j l ∙ get-past xs j h
 
   pub tag-used : (j : ℕ) → j < length xs → 0 < get_or row j 0
   tag-used j h = let m = p.most in let n = p.same in let g = get-some ts j (omega arith) in some-positive (get_or row j 0) g.0 (p.tags_are j (omega arith) ∙ g.1)

@@ -5,12 +5,12 @@ use Rattle.scc_array.proofs.Gets.{get-set_other}
 use Rattle.scc_array.proofs.Shelves.{bare-spilled, shelf-is, overflow-is, opened-count}
 use Rattle.scc_array.proofs.Windows.{same_or_not}
 use Rattle.scc_array.specs.Lists.{Opens, Pushes, ReservesList, were_there, were_made}
-use Rattle.scc_array.specs.Shelves.{shelf_of, spilled, spare, shelves, IsArray, IsFlagged}
+use Rattle.scc_array.specs.Shelves.{shelf_of, spilled, list_room, shelves, HasListEach, IsFlagged}
 use Rattle.scc_array.specs.Windows.{Window}
 use Rattle.scc_array.specs.Shelf.{Shelf}
 
 -- no lists, or as many as before
-pub array-set : {E A : Type 0} (ws : List (Window E)) (os : List (Vec E A)) (b : ℕ) (v : Vec E A) → IsArray ws os → IsArray ws (set os b v)
+pub array-set : {E A : Type 0} (ws : List (Window E)) (os : List (Vec E A)) (b : ℕ) (v : Vec E A) → HasListEach ws os → HasListEach ws (set os b v)
 array-set {E} {A} ws os b v kept = record {
   lists = elim kept.lists [
     | inl e ↦ inl (ap (λ (l : List (Vec E A)). set l b v) e)
@@ -29,7 +29,7 @@ module _ {E A : Type 0} (ws : List (Window E)) (os : List (Vec E A)) (fs : List 
     flags = kept.flags;
     told = λ i down. elim (same_or_not i b) [
       | inl e ↦ absurd (let z : true ≡ false = sym up ∙ ap (λ j. get_or fs (j / 16) false) (sym e) ∙ down in cc)
-      | inr e ↦ let k = kept.told i down in let g = get-set_other os b i v e in (ap spilled g ∙ k.0, ap spare g ∙ k.1)
+      | inr e ↦ let k = kept.told i down in let g = get-set_other os b i v e in (ap spilled g ∙ k.0, ap list_room g ∙ k.1)
     ];
   }
 
@@ -56,17 +56,17 @@ module _ {E A : Type 0} (ws : List (Window E)) (os : List (Vec E A)) (fs : List 
     room-flag some = by_flag (get_or fs (b / 16) false) (λ q. q) (λ q. absurd (let z = no-room q in omega arith))
 
 -- an entry was pushed to a list, or handed back
-pub pushed-both : {E A : Type 0} (ws : List (Window E)) (os : List (Vec E A)) (fs : List Bool) (b : ℕ) (e : E) (r : Result ℕ E) (ds : List (Vec E A)) → IsArray ws os → IsFlagged ws os fs → get_or fs (b / 16) false ≡ true → Pushes os b e r ds
-    → IsArray ws ds × IsFlagged ws ds fs
-pushed-both {E} {A} ws os fs b e (Ok p) ds kept told up (u, v, held, is, items, grown, changed) = subst (λ (l : List (Vec E A)). IsArray ws l × IsFlagged ws l fs) (sym changed) (array-set ws os b v kept, flagged-list ws os fs told b v up)
-pushed-both {E} {A} ws os fs b e (Err x) ds kept told up (same, (u, v, held, items, changed, full)) = subst (λ (l : List (Vec E A)). IsArray ws l × IsFlagged ws l fs) (sym changed) (array-set ws os b v kept, flagged-list ws os fs told b v up)
+pub pushed-both : {E A : Type 0} (ws : List (Window E)) (os : List (Vec E A)) (fs : List Bool) (b : ℕ) (e : E) (r : Result ℕ E) (ds : List (Vec E A)) → HasListEach ws os → IsFlagged ws os fs → get_or fs (b / 16) false ≡ true → Pushes os b e r ds
+    → HasListEach ws ds × IsFlagged ws ds fs
+pushed-both {E} {A} ws os fs b e (Ok p) ds kept told up (u, v, entry_count, is, items, grown, changed) = subst (λ (l : List (Vec E A)). HasListEach ws l × IsFlagged ws l fs) (sym changed) (array-set ws os b v kept, flagged-list ws os fs told b v up)
+pushed-both {E} {A} ws os fs b e (Err x) ds kept told up (same, (u, v, entry_count, items, changed, full)) = subst (λ (l : List (Vec E A)). HasListEach ws l × IsFlagged ws l fs) (sym changed) (array-set ws os b v kept, flagged-list ws os fs told b v up)
 
 -- room was made in a list, or refused
-pub reserved-both : {E A X : Type 0} (ws : List (Window E)) (os : List (Vec E A)) (fs : List Bool) (b n : ℕ) (r : Result (Unit {0}) X) (ds : List (Vec E A)) → IsArray ws os → IsFlagged ws os fs → get_or fs (b / 16) false ≡ true → ReservesList os b n r ds
-    → IsArray ws ds × IsFlagged ws ds fs
-reserved-both {E} {A} ws os fs b n (Ok p) ds kept told up (u, v, held, items, grown, room, changed) = subst (λ (l : List (Vec E A)). IsArray ws l × IsFlagged ws l fs) (sym changed) (array-set ws os b v kept, flagged-list ws os fs told b v up)
-reserved-both {E} {A} ws os fs b n (Err x) ds kept told up (u, v, held, items, grown, changed) = subst (λ (l : List (Vec E A)). IsArray ws l × IsFlagged ws l fs) (sym changed) (array-set ws os b v kept, flagged-list ws os fs told b v up)
+pub reserved-both : {E A X : Type 0} (ws : List (Window E)) (os : List (Vec E A)) (fs : List Bool) (b n : ℕ) (r : Result (Unit {0}) X) (ds : List (Vec E A)) → HasListEach ws os → IsFlagged ws os fs → get_or fs (b / 16) false ≡ true → ReservesList os b n r ds
+    → HasListEach ws ds × IsFlagged ws ds fs
+reserved-both {E} {A} ws os fs b n (Ok p) ds kept told up (u, v, entry_count, items, grown, room, changed) = subst (λ (l : List (Vec E A)). HasListEach ws l × IsFlagged ws l fs) (sym changed) (array-set ws os b v kept, flagged-list ws os fs told b v up)
+reserved-both {E} {A} ws os fs b n (Err x) ds kept told up (u, v, entry_count, items, grown, changed) = subst (λ (l : List (Vec E A)). HasListEach ws l × IsFlagged ws l fs) (sym changed) (array-set ws os b v kept, flagged-list ws os fs told b v up)
 
 -- lists were made, or were there
-pub opened-array : {E A : Type 0} (ws : List (Window E)) (os ds : List (Vec E A)) (n : ℕ) → IsArray ws os → n ≡ length ws → Opens os n ds → IsArray ws ds
+pub opened-array : {E A : Type 0} (ws : List (Window E)) (os ds : List (Vec E A)) (n : ℕ) → HasListEach ws os → n ≡ length ws → Opens os n ds → HasListEach ws ds
 opened-array ws os ds n kept count opens = record { lists = inr (opened-count ws os ds (shelves ws os) refl kept n count opens) }

@@ -17,15 +17,15 @@ module _ {X : Type 0} (p : X → Bool) where
         absurd (let s : None ≡ Some i = sym (none_by p xs (position_or_len p xs) refl far) ∙ e in cc)
   ]
 
-  first-place : (xs : List X) (i : ℕ) → position p xs ≡ Some i → position_or_len p xs ≡ i
-  first-place xs i e = let s : Some (position_or_len p xs) ≡ Some i = sym (found p xs (position_or_len p xs) (first-below xs i e) refl) ∙ e in cc
+  first-slot : (xs : List X) (i : ℕ) → position p xs ≡ Some i → position_or_len p xs ≡ i
+  first-slot xs i e = let s : Some (position_or_len p xs) ≡ Some i = sym (found p xs (position_or_len p xs) (first-below xs i e) refl) ∙ e in cc
 
-  pub place-below : (xs : List X) (i : ℕ) → position p xs ≡ Some i → i < length xs
-  place-below xs i e = omega (arith, first-below xs i e, first-place xs i e)
+  pub slot-below : (xs : List X) (i : ℕ) → position p xs ≡ Some i → i < length xs
+  slot-below xs i e = omega (arith, first-below xs i e, first-slot xs i e)
 
   -- it stands at the first place that passes
   pub find-position : (xs : List X) (i : ℕ) → position p xs ≡ Some i → find p xs ≡ slice_get xs i
-  find-position xs i e = find_at p xs ∙ ap (slice_get xs) (first-place xs i e)
+  find-position xs i e = find_at p xs ∙ ap (slice_get xs) (first-slot xs i e)
 
   pub find-missed : (xs : List X) → position p xs ≡ None → find p xs ≡ None
   find-missed xs e = elim (dec_lt (position_or_len p xs) (length xs)) [

@@ -17,20 +17,20 @@ get-right (z ∷ xs) ys j x h =
 
 -- of a list that the same list begins, with more behind it
 pub moved : {X : Type 0} (p : X → Bool) {xs zs : List X} {x : X} → xs ≡ zs → (ys : List X) → IsPassing p xs x → IsPassing p (zs ++ ys) x
-moved p {xs} {zs} {x} same ys r = record { passes = r.passes; place = (r.place.0, get-left zs ys r.place.0 x (ap (λ l. slice_get l r.place.0) (sym same) ∙ r.place.1)) }
+moved p {xs} {zs} {x} same ys r = record { passes = r.passes; slot = (r.slot.0, get-left zs ys r.slot.0 x (ap (λ l. slice_get l r.slot.0) (sym same) ∙ r.slot.1)) }
 
-place-flat : {X Y : Type 0} (f : X → List Y) (d : X) (xs : List X) (i j : ℕ) (y : Y) → slice_get (f (get_or xs i d)) j ≡ Some y → i < length xs → (k : ℕ) × (slice_get (flat_map f xs) k ≡ Some y)
-place-flat f d [] i j y h l = absurd (omega arith)
-place-flat f d (x ∷ xs) zero j y h l = (j, get-left (f x) (flat_map f xs) j y h)
-place-flat f d (x ∷ xs) (suc i) j y h l = let r = place-flat f d xs i j y h (omega arith) in (length (f x) + r.0, get-right (f x) (flat_map f xs) r.0 y r.1)
+slot-flat : {X Y : Type 0} (f : X → List Y) (d : X) (xs : List X) (i j : ℕ) (y : Y) → slice_get (f (get_or xs i d)) j ≡ Some y → i < length xs → (k : ℕ) × (slice_get (flat_map f xs) k ≡ Some y)
+slot-flat f d [] i j y h l = absurd (omega arith)
+slot-flat f d (x ∷ xs) zero j y h l = (j, get-left (f x) (flat_map f xs) j y h)
+slot-flat f d (x ∷ xs) (suc i) j y h l = let r = slot-flat f d xs i j y h (omega arith) in (length (f x) + r.0, get-right (f x) (flat_map f xs) r.0 y r.1)
 
 -- of one list of several
 pub passing-flat : {X Y : Type 0} (p : Y → Bool) (f : X → List Y) (d : X) (xs : List X) (i : ℕ) (y : Y) → IsPassing p (f (get_or xs i d)) y → i < length xs → IsPassing p (flat_map f xs) y
-passing-flat p f d xs i y r l = record { passes = r.passes; place = place-flat f d xs i r.place.0 y r.place.1 l }
+passing-flat p f d xs i y r l = record { passes = r.passes; slot = slot-flat f d xs i r.slot.0 y r.slot.1 l }
 
 -- of a list with more before it
 pub behind : {X : Type 0} (p : X → Bool) (xs : List X) {ys : List X} {x : X} → IsPassing p ys x → IsPassing p (xs ++ ys) x
-behind p xs {ys} {x} r = record { passes = r.passes; place = (length xs + r.place.0, get-right xs ys r.place.0 x r.place.1) }
+behind p xs {ys} {x} r = record { passes = r.passes; slot = (length xs + r.slot.0, get-right xs ys r.slot.0 x r.slot.1) }
 
 -- the first that passes
 pub found-passing : {X : Type 0} (p : X → Bool) (xs : List X) (x : X) → find p xs ≡ Some x → IsPassing p xs x
@@ -39,8 +39,8 @@ found-passing p (z ∷ xs) x h = elim (true-or-false (p z)) [
   | inl y ↦
       let s : Some z ≡ Some x = rw y at h in
       let same : z ≡ x = cc in
-      record { passes = subst (λ e. p e ≡ true) same y; place = (0, s) }
+      record { passes = subst (λ e. p e ≡ true) same y; slot = (0, s) }
   | inr n ↦
       let r = found-passing p xs x (rw n at h) in
-      record { passes = r.passes; place = (suc r.place.0, r.place.1) }
+      record { passes = r.passes; slot = (suc r.slot.0, r.slot.1) }
 ]

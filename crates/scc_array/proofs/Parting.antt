@@ -6,12 +6,12 @@ use native.Mathlib.Decide.{dec_lt}
 use Rattle.scc_array.proofs.Counting.{tag-some, some-positive}
 use Rattle.scc_array.proofs.Gets.{get-past, get-some, get-end, get-before_end}
 use Rattle.scc_array.proofs.Windows.{same_or_not, windows-changed, columns-changed}
-use Rattle.scc_array.specs.Sifts.{picked, kept, picked_of, kept_of, window_with, AreAt}
+use Rattle.scc_array.specs.Sifts.{picked, unflagged, picked_of, unflagged_of, window_with, AreAt}
 use Rattle.scc_array.specs.Windows.{Window, empty_window, window_of, windows, pushed, tag_there, IsPackedWindow, IsColumns}
 
 module _ {X : Type 0} where
   -- the flags up to one more place, whose flag is up
-  pub kept-up : (fs : List Bool) (xs : List X) (n : ℕ) → slice_get fs n ≡ Some true → kept (take (suc n) fs) xs ≡ kept (take n fs) xs
+  pub kept-up : (fs : List Bool) (xs : List X) (n : ℕ) → slice_get fs n ≡ Some true → unflagged (take (suc n) fs) xs ≡ unflagged (take n fs) xs
   kept-up [] xs n e = absurd (let z : None ≡ Some true = e in cc)
   kept-up (f ∷ fs) [] zero e = refl
   kept-up (f ∷ fs) [] (suc n) e = refl
@@ -32,14 +32,14 @@ module _ {X : Type 0} where
   picked-down (f ∷ fs) (x ∷ xs) zero e = let t : f ≡ false = cc in ap (λ b. cond b (x ∷ []) []) t
   picked-down (f ∷ fs) (x ∷ xs) (suc n) e = ap (λ z. cond f (x ∷ z) z) (picked-down fs xs n e)
 
-  pub kept-down : (fs : List Bool) (xs : List X) (n : ℕ) (x : X) → slice_get fs n ≡ Some false → slice_get xs n ≡ Some x → kept (take (suc n) fs) xs ≡ kept (take n fs) xs ++ x ∷ []
+  pub kept-down : (fs : List Bool) (xs : List X) (n : ℕ) (x : X) → slice_get fs n ≡ Some false → slice_get xs n ≡ Some x → unflagged (take (suc n) fs) xs ≡ unflagged (take n fs) xs ++ x ∷ []
   kept-down [] xs n x e h = absurd (let z : None ≡ Some false = e in cc)
   kept-down (f ∷ fs) [] n x e h = absurd (let z : None ≡ Some x = h in cc)
   kept-down (f ∷ fs) (y ∷ xs) zero x e h = let t : f ≡ false = cc in let s : y ≡ x = cc in ap (λ b. cond b [] (y ∷ [])) t ∙ ap (λ z. z ∷ []) s
-  kept-down (f ∷ fs) (y ∷ xs) (suc n) x e h = ap (λ z. cond f z (y ∷ z)) (kept-down fs xs n x e h) ∙ (elim f as (λ b. cond b (kept (take n fs) xs ++ x ∷ []) (y ∷ (kept (take n fs) xs ++ x ∷ [])) ≡ cond b (kept (take n fs) xs) (y ∷ kept (take n fs) xs) ++ x ∷ []) [ true ↦ refl | false ↦ refl ])
+  kept-down (f ∷ fs) (y ∷ xs) (suc n) x e h = ap (λ z. cond f z (y ∷ z)) (kept-down fs xs n x e h) ∙ (elim f as (λ b. cond b (unflagged (take n fs) xs ++ x ∷ []) (y ∷ (unflagged (take n fs) xs ++ x ∷ [])) ≡ cond b (unflagged (take n fs) xs) (y ∷ unflagged (take n fs) xs) ++ x ∷ []) [ true ↦ refl | false ↦ refl ])
 
   -- flags past the last element say nothing
-  pub kept-all : (fs : List Bool) (xs : List X) (n : ℕ) → length xs ≤ n → kept (take n fs) xs ≡ kept fs xs
+  pub kept-all : (fs : List Bool) (xs : List X) (n : ℕ) → length xs ≤ n → unflagged (take n fs) xs ≡ unflagged fs xs
   kept-all [] [] zero h = refl
   kept-all [] [] (suc n) h = refl
   kept-all [] (x ∷ xs) zero h = absurd (omega arith)
@@ -59,19 +59,19 @@ module _ {X : Type 0} where
   picked-all (f ∷ fs) (x ∷ xs) zero h = absurd (omega arith)
   picked-all (f ∷ fs) (x ∷ xs) (suc n) h = ap (λ z. cond f (x ∷ z) z) (picked-all fs xs n (omega arith))
 
-  pub length-kept : {Y : Type 0} (fs : List Bool) (xs : List X) (ys : List Y) → length ys ≡ length xs → length (kept fs ys) ≡ length (kept fs xs)
+  pub length-kept : {Y : Type 0} (fs : List Bool) (xs : List X) (ys : List Y) → length ys ≡ length xs → length (unflagged fs ys) ≡ length (unflagged fs xs)
   length-kept [] xs ys h = refl
   length-kept (f ∷ fs) [] [] h = refl
   length-kept (f ∷ fs) [] (y ∷ ys) h = absurd (omega arith)
   length-kept (f ∷ fs) (x ∷ xs) [] h = absurd (omega arith)
   length-kept (f ∷ fs) (x ∷ xs) (y ∷ ys) h =
       let ih = length-kept fs xs ys (omega arith) in
-      elim f as (λ b. length (cond b (kept fs ys) (y ∷ kept fs ys)) ≡ length (cond b (kept fs xs) (x ∷ kept fs xs))) [ true ↦ ih | false ↦ ap suc ih ]
+      elim f as (λ b. length (cond b (unflagged fs ys) (y ∷ unflagged fs ys)) ≡ length (cond b (unflagged fs xs) (x ∷ unflagged fs xs))) [ true ↦ ih | false ↦ ap suc ih ]
 
-  pub kept-fewer : (fs : List Bool) (xs : List X) → length (kept fs xs) ≤ length xs
+  pub kept-fewer : (fs : List Bool) (xs : List X) → length (unflagged fs xs) ≤ length xs
   kept-fewer [] xs = omega arith
   kept-fewer (f ∷ fs) [] = omega arith
-  kept-fewer (f ∷ fs) (x ∷ xs) = let ih = kept-fewer fs xs in elim f as (λ b. length (cond b (kept fs xs) (x ∷ kept fs xs)) ≤ suc (length xs)) [ true ↦ omega arith | false ↦ omega arith ]
+  kept-fewer (f ∷ fs) (x ∷ xs) = let ih = kept-fewer fs xs in elim f as (λ b. length (cond b (unflagged fs xs) (x ∷ unflagged fs xs)) ≤ suc (length xs)) [ true ↦ omega arith | false ↦ omega arith ]
 
 -- f0 was seen at the places of a row; now the first n were looked at, and of these ks stayed
 pub record Middle {X : Type 0} (f0 f : ℕ → Option X) (ks : List X) (n : ℕ) : Type 0 where
@@ -120,28 +120,28 @@ module _ {X : Type 0} where
     ]
 
 abbrev pub place_view : {E : Type 0} → List (Option E) → ℕ → ℕ → Option E
-place_view places base j = get_or places (base + j) None
+place_view cells base j = get_or cells (base + j) None
 
 abbrev pub tag_view : List ℕ → ℕ → Option ℕ
 tag_view row j = tag_there (get_or row j 0)
 
 -- p entries of the bucket w were looked at: so many stay, and the others stand at the end of a bucket of ws, whose next place is known
-pub record Sifts {E : Type 0} (fs : List Bool) (base target first : ℕ) (w : Window E) (ws : List (Window E)) (places0 places : List (Option E)) (row0 row : List ℕ) (into : List (Window E)) (p stays next : ℕ) : Type 0 where
-  pub places_are : Middle (place_view places0 base) (place_view places base) (kept (take p fs) w.slots) p
-  pub tags_are : Middle (tag_view row0) (tag_view row) (kept (take p fs) w.tags) p
-  pub stayed : stays ≡ length (kept (take p fs) w.slots)
+pub record Sifts {E : Type 0} (fs : List Bool) (base target first : ℕ) (w : Window E) (ws : List (Window E)) (places0 cells : List (Option E)) (row0 row : List ℕ) (into : List (Window E)) (p stays next : ℕ) : Type 0 where
+  pub cells_are : Middle (place_view places0 base) (place_view cells base) (unflagged (take p fs) w.slots) p
+  pub tags_are : Middle (tag_view row0) (tag_view row) (unflagged (take p fs) w.tags) p
+  pub stayed : stays ≡ length (unflagged (take p fs) w.slots)
   pub moved : into ≡ set ws target (window_with (window_of ws target) (picked_of (take p fs) w))
   pub filled : next ≡ first + length (picked (take p fs) w.slots)
   pub all : next + stays ≡ first + p
 
 module _ {E : Type 0} (fs : List Bool) (base target first : ℕ) (w : Window E) (ws : List (Window E)) (places0 : List (Option E)) (row0 : List ℕ) (at : AreAt places0 row0 base w)
-    (places : List (Option E)) (row : List ℕ) (into : List (Window E)) (p stays next : ℕ) (s : Sifts fs base target first w ws places0 places row0 row into p stays next) where
-  tags-as_many : length (kept (take p fs) w.tags) ≡ stays
+    (cells : List (Option E)) (row : List ℕ) (into : List (Window E)) (p stays next : ℕ) (s : Sifts fs base target first w ws places0 cells row0 row into p stays next) where
+  tags-as_many : length (unflagged (take p fs) w.tags) ≡ stays
   tags-as_many = length-kept (take p fs) w.slots w.tags at.same ∙ sym s.stayed
 
   module _ (l : p < length w.slots) where
-    pub sifted-entry : (x : E) × (get_or places (base + p) None ≡ Some x) × (slice_get w.slots p ≡ Some x)
-    sifted-entry = let m = at.most in let g = get-some w.slots p l in (g.0, s.places_are.high p (omega arith) (omega arith) ∙ at.places_are p (omega arith) ∙ g.1, g.1)
+    pub sifted-entry : (x : E) × (get_or cells (base + p) None ≡ Some x) × (slice_get w.slots p ≡ Some x)
+    sifted-entry = let m = at.most in let g = get-some w.slots p l in (g.0, s.cells_are.high p (omega arith) (omega arith) ∙ at.cells_are p (omega arith) ∙ g.1, g.1)
 
     sifted-tag : (t : ℕ) × (tag_view row p ≡ Some t) × (slice_get w.tags p ≡ Some t)
     sifted-tag = let m = at.most in let n = at.same in let g = get-some w.tags p (omega arith) in (g.0, s.tags_are.high p (omega arith) (omega arith) ∙ at.tags_are p (omega arith) ∙ g.1, g.1)
@@ -153,11 +153,11 @@ module _ {E : Type 0} (fs : List Bool) (base target first : ℕ) (w : Window E) 
     one_more = let e : p + 1 ≡ suc p = omega arith in ap (λ m. take m fs) e
 
     -- its flag is up
-    pub sifts-out : slice_get fs p ≡ Some true → base + p < length places → p < length row → target < length ws → (e : E) → get_or places (base + p) None ≡ Some e → (later : List (Window E))
-        → later ≡ set into target (pushed (window_of into target) e (get_or row p 0)) → Sifts fs base target first w ws places0 (set places (base + p) None) row0 (set row p 0) later (p + 1) stays (next + 1)
+    pub sifts-out : slice_get fs p ≡ Some true → base + p < length cells → p < length row → target < length ws → (e : E) → get_or cells (base + p) None ≡ Some e → (later : List (Window E))
+        → later ≡ set into target (pushed (window_of into target) e (get_or row p 0)) → Sifts fs base target first w ws places0 (set cells (base + p) None) row0 (set row p 0) later (p + 1) stays (next + 1)
     sifts-out up lp lr lt e was later put =
         let m = at.most in
-        let k1 : (X : Type 0) (xs : List X) → kept (take (p + 1) fs) xs ≡ kept (take p fs) xs = λ X xs. ap (λ f. kept f xs) one_more ∙ kept-up fs xs p up in
+        let k1 : (X : Type 0) (xs : List X) → unflagged (take (p + 1) fs) xs ≡ unflagged (take p fs) xs = λ X xs. ap (λ f. unflagged f xs) one_more ∙ kept-up fs xs p up in
         let got : slice_get w.slots p ≡ Some e = sifted-entry.2 ∙ sym sifted-entry.1 ∙ was in
         let t : slice_get w.tags p ≡ Some (get_or row p 0) = sifted-tag.2 ∙ ap Some (sym (tag-some (get_or row p 0) sifted-tag.0 sifted-tag.1)) in
         let q1 : picked (take (p + 1) fs) w.slots ≡ picked (take p fs) w.slots ++ e ∷ [] = ap (λ f. picked f w.slots) one_more ∙ picked-up fs w.slots p e up got in
@@ -169,8 +169,8 @@ module _ {E : Type 0} (fs : List Bool) (base target first : ℕ) (w : Window E) 
         ap (λ (z : List E). let r : Window E = record { slots = z; tags = (v.tags ++ picked (take p fs) w.tags) ++ get_or row p 0 ∷ [] } in r) (append_assoc v.slots (picked (take p fs) w.slots) (e ∷ []) ∙ ap (λ z. v.slots ++ z) (sym q1))
         ∙ ap (λ (z : List ℕ). let r : Window E = record { slots = v.slots ++ picked (take (p + 1) fs) w.slots; tags = z } in r) (append_assoc v.tags (picked (take p fs) w.tags) (get_or row p 0 ∷ []) ∙ ap (λ z. v.tags ++ z) (sym q2)) in
         record {
-          places_are = subst (λ ks. Middle (place_view places0 base) (place_view (set places (base + p) None) base) ks (p + 1)) (sym (k1 E w.slots))
-              (middle-out _ _ _ p s.places_are (place_view (set places (base + p) None) base) (omega arith) (get_or-set_same places (base + p) None None lp) (λ j h. get_or-set_other places (base + p) (base + j) None None (λ z. h (omega arith))));
+          cells_are = subst (λ ks. Middle (place_view places0 base) (place_view (set cells (base + p) None) base) ks (p + 1)) (sym (k1 E w.slots))
+              (middle-out _ _ _ p s.cells_are (place_view (set cells (base + p) None) base) (omega arith) (get_or-set_same cells (base + p) None None lp) (λ j h. get_or-set_other cells (base + p) (base + j) None None (λ z. h (omega arith))));
           tags_are = subst (λ ks. Middle (tag_view row0) (tag_view (set row p 0)) ks (p + 1)) (sym (k1 ℕ w.tags))
               (middle-out _ _ _ p s.tags_are (tag_view (set row p 0)) (omega arith) (ap tag_there (get_or-set_same row p 0 0 lr)) (λ j h. ap tag_there (get_or-set_other row p j 0 0 h)));
           stayed = s.stayed ∙ ap length (sym (k1 E w.slots));
@@ -182,18 +182,18 @@ module _ {E : Type 0} (fs : List Bool) (base target first : ℕ) (w : Window E) 
   -- all were looked at
   module _ (h : length w.slots ≤ p) where
     none-past : (j : ℕ) → p ≤ j → j < 32 → place_view places0 base j ≡ None
-    none-past j a b = at.places_are j b ∙ get-past w.slots j (omega arith)
+    none-past j a b = at.cells_are j b ∙ get-past w.slots j (omega arith)
 
     none-tagged : (j : ℕ) → p ≤ j → j < 32 → tag_view row0 j ≡ None
     none-tagged j a b = let n = at.same in at.tags_are j b ∙ get-past w.tags j (omega arith)
 
-    pub sifts-kept : AreAt places row base (kept_of fs w)
+    pub sifts-kept : AreAt cells row base (unflagged_of fs w)
     sifts-kept =
         let n = at.same in
         let k1 = kept-all fs w.slots p h in
         let k2 = kept-all fs w.tags p (omega arith) in
         record {
-          places_are = λ j l. middle-end _ _ _ p s.places_are none-past j l ∙ ap (λ z. slice_get z j) k1;
+          cells_are = λ j l. middle-end _ _ _ p s.cells_are none-past j l ∙ ap (λ z. slice_get z j) k1;
           tags_are = λ j l. middle-end _ _ _ p s.tags_are none-tagged j l ∙ ap (λ z. slice_get z j) k2;
           most = let f = kept-fewer fs w.slots in let m = at.most in omega arith;
           same = length-kept fs w.slots w.tags at.same;
@@ -206,16 +206,16 @@ module _ {E : Type 0} (fs : List Bool) (base target first : ℕ) (w : Window E) 
         ∙ ap (λ (z : List ℕ). set ws target (let r : Window E = record { slots = (window_of ws target).slots ++ picked fs w.slots; tags = (window_of ws target).tags ++ z } in r)) (picked-all fs w.tags p (omega arith))
 
 -- the bucket b of columns is seen in its places and its row
-pub packed-at : {E : Type 0} (rows : List (List ℕ)) (places : List (Option E)) (b : ℕ) (w : Window E) (row : List ℕ) → IsPackedWindow rows places b w.slots w.tags → get_or rows b [] ≡ row → AreAt places row (32 * b) w
-packed-at rows places b w row p e = record { places_are = p.places_are; tags_are = λ j h. ap (λ (r : List ℕ). tag_view r j) (sym e) ∙ p.tags_are j h; most = p.most; same = p.same }
+pub packed-at : {E : Type 0} (rows : List (List ℕ)) (cells : List (Option E)) (b : ℕ) (w : Window E) (row : List ℕ) → IsPackedWindow rows cells b w.slots w.tags → get_or rows b [] ≡ row → AreAt cells row (32 * b) w
+packed-at rows cells b w row p e = record { cells_are = p.cells_are; tags_are = λ j h. ap (λ (r : List ℕ). tag_view r j) (sym e) ∙ p.tags_are j h; most = p.most; same = p.same }
 
 at-packed : {E : Type 0} (rows : List (List ℕ)) (new : List (Option E)) (b : ℕ) (w : Window E) (row : List ℕ) → b < length rows → AreAt new row (32 * b) w → IsPackedWindow (set rows b row) new b w.slots w.tags
-at-packed rows new b w row l a = record { places_are = a.places_are; tags_are = λ j h. ap (λ (r : List ℕ). tag_view r j) (get_or-set_same rows b row [] l) ∙ a.tags_are j h; most = a.most; same = a.same }
+at-packed rows new b w row l a = record { cells_are = a.cells_are; tags_are = λ j h. ap (λ (r : List ℕ). tag_view r j) (get_or-set_same rows b row [] l) ∙ a.tags_are j h; most = a.most; same = a.same }
 
-module _ {E : Type 0} (rows : List (List ℕ)) (places : List (Option E)) (kept_there : IsColumns rows places) (b : ℕ) (within : b < length rows) (new : List (Option E)) (row : List ℕ) (wide : length row ≡ 32) (count : length new ≡ length places)
-    (outside : (q : ℕ) → (q < 32 * b) ⊎ (32 * b + 32 ≤ q) → get_or new q None ≡ get_or places q None) (w : Window E) (at : AreAt new row (32 * b) w) where
-  pub windows-parted : windows (set rows b row) new ≡ set (windows rows places) b w
-  windows-parted = windows-changed rows places new kept_there b row within wide count outside w (at-packed rows new b w row within at)
+module _ {E : Type 0} (rows : List (List ℕ)) (cells : List (Option E)) (kept_there : IsColumns rows cells) (b : ℕ) (within : b < length rows) (new : List (Option E)) (row : List ℕ) (wide : length row ≡ 32) (count : length new ≡ length cells)
+    (outside : (q : ℕ) → (q < 32 * b) ⊎ (32 * b + 32 ≤ q) → get_or new q None ≡ get_or cells q None) (w : Window E) (at : AreAt new row (32 * b) w) where
+  pub windows-parted : windows (set rows b row) new ≡ set (windows rows cells) b w
+  windows-parted = windows-changed rows cells new kept_there b row within wide count outside w (at-packed rows new b w row within at)
 
   pub columns-parted : IsColumns (set rows b row) new
-  columns-parted = columns-changed rows places new kept_there b row within wide count outside w (at-packed rows new b w row within at)
+  columns-parted = columns-changed rows cells new kept_there b row within wide count outside w (at-packed rows new b w row within at)

@@ -11,7 +11,7 @@ use Rattle.scc_array.proofs.Counting.{lane-set, lane-is, tag-some, some-positive
 use Rattle.scc_array.proofs.Gets.{get-past, get-some}
 use Rattle.scc_array.proofs.Parting.{kept-down, length-kept, kept-fewer, middle-end, middle-stay, picked-up, place_view, tag_view, middle-start, Middle}
 use Rattle.scc_array.proofs.Windows.{same_or_not}
-use Rattle.scc_array.specs.Sifts.{picked, kept, picked_of, kept_of, left_at, window_with, AreAt, AreKept, AreLeft, Moves}
+use Rattle.scc_array.specs.Sifts.{picked, unflagged, picked_of, unflagged_of, left_at, window_with, AreAt, AreUnflagged, AreLeft, MovesCell}
 use Rattle.scc_array.specs.Windows.{Window, empty_window, window_of, pushed, tag_there}
 
 -- a flag that is up is there
@@ -50,24 +50,24 @@ module _ {X : Type 0} where
   picked-end (f ∷ fs) (x ∷ xs) (suc n) h = ap (λ z. cond f (x ∷ z) z) (picked-end fs xs n (λ k a z. h (suc k) (omega arith) (omega arith)))
 
   -- flags that are up keep nothing
-  pub kept-skip : (fs : List Bool) (xs : List X) (n b : ℕ) → n ≤ b → ((k : ℕ) → n ≤ k → k < b → get_or fs k false ≡ true) → kept (take b fs) xs ≡ kept (take n fs) xs
+  pub kept-skip : (fs : List Bool) (xs : List X) (n b : ℕ) → n ≤ b → ((k : ℕ) → n ≤ k → k < b → get_or fs k false ≡ true) → unflagged (take b fs) xs ≡ unflagged (take n fs) xs
   kept-skip [] xs zero zero l h = refl
   kept-skip [] xs zero (suc b) l h = refl
   kept-skip [] xs (suc n) zero l h = refl
   kept-skip [] xs (suc n) (suc b) l h = refl
   kept-skip (f ∷ fs) xs zero zero l h = refl
   kept-skip (f ∷ fs) [] zero (suc b) l h = refl
-  kept-skip (f ∷ fs) (x ∷ xs) zero (suc b) l h = ap (λ c. cond c (kept (take b fs) xs) (x ∷ kept (take b fs) xs)) (h 0 (omega arith) (omega arith)) ∙ kept-skip fs xs zero b (omega arith) (λ k a z. h (suc k) (omega arith) (omega arith))
+  kept-skip (f ∷ fs) (x ∷ xs) zero (suc b) l h = ap (λ c. cond c (unflagged (take b fs) xs) (x ∷ unflagged (take b fs) xs)) (h 0 (omega arith) (omega arith)) ∙ kept-skip fs xs zero b (omega arith) (λ k a z. h (suc k) (omega arith) (omega arith))
   kept-skip (f ∷ fs) xs (suc n) zero l h = absurd (omega arith)
   kept-skip (f ∷ fs) [] (suc n) (suc b) l h = refl
   kept-skip (f ∷ fs) (x ∷ xs) (suc n) (suc b) l h = ap (λ z. cond f z (x ∷ z)) (kept-skip fs xs n b (omega arith) (λ k a z. h (suc k) (omega arith) (omega arith)))
 
-  pub kept-end : (fs : List Bool) (xs : List X) (n : ℕ) → ((k : ℕ) → n ≤ k → k < length xs → get_or fs k false ≡ true) → kept (take n fs) xs ≡ kept fs xs
+  pub kept-end : (fs : List Bool) (xs : List X) (n : ℕ) → ((k : ℕ) → n ≤ k → k < length xs → get_or fs k false ≡ true) → unflagged (take n fs) xs ≡ unflagged fs xs
   kept-end [] xs zero h = refl
   kept-end [] xs (suc n) h = refl
   kept-end (f ∷ fs) [] zero h = refl
   kept-end (f ∷ fs) [] (suc n) h = refl
-  kept-end (f ∷ fs) (x ∷ xs) zero h = sym (ap (λ c. cond c (kept fs xs) (x ∷ kept fs xs)) (h 0 (omega arith) (omega arith)) ∙ sym (kept-end fs xs zero (λ k a z. h (suc k) (omega arith) (omega arith))))
+  kept-end (f ∷ fs) (x ∷ xs) zero h = sym (ap (λ c. cond c (unflagged fs xs) (x ∷ unflagged fs xs)) (h 0 (omega arith) (omega arith)) ∙ sym (kept-end fs xs zero (λ k a z. h (suc k) (omega arith) (omega arith))))
   kept-end (f ∷ fs) (x ∷ xs) (suc n) h = ap (λ z. cond f z (x ∷ z)) (kept-end fs xs n (λ k a z. h (suc k) (omega arith) (omega arith)))
 
   -- what is left where a flag is up, and where it is down
@@ -143,9 +143,9 @@ flags-small : (fs : List Bool) → length fs ≡ 32 → mask_l fs < 2 ^ 32
 flags-small fs wide = let m = mask_l-lt fs in rw wide at m
 
 -- of the bucket w those before place n whose flag is up stand at the end of a bucket of ws, and each bit that is left is one that is to come
-pub record Picks {E : Type 0} (fs : List Bool) (base target first : ℕ) (w : Window E) (ws : List (Window E)) (places : List (Option E)) (row : List ℕ) (into : List (Window E)) (bits next : ℕ) : Type 0 where
+pub record Picks {E : Type 0} (fs : List Bool) (base target first : ℕ) (w : Window E) (ws : List (Window E)) (cells : List (Option E)) (row : List ℕ) (into : List (Window E)) (bits next : ℕ) : Type 0 where
   pub n : ℕ
-  pub places_are : (j : ℕ) → j < 32 → place_view places base j ≡ left_at (take n fs) w.slots j
+  pub cells_are : (j : ℕ) → j < 32 → place_view cells base j ≡ left_at (take n fs) w.slots j
   pub tags_are : (j : ℕ) → j < 32 → tag_view row j ≡ left_at (take n fs) w.tags j
   pub moved : into ≡ set ws target (window_with (window_of ws target) (picked_of (take n fs) w))
   pub filled : next ≡ first + length (picked (take n fs) w.slots)
@@ -179,12 +179,12 @@ picked-first (f ∷ fs) (x ∷ xs) (suc n) = let ih = picked-first fs xs n in el
 
 module _ {E : Type 0} (fs : List Bool) (base target : ℕ) (w : Window E) (ws : List (Window E)) where
   -- nothing is out at first
-  pub picks-start : (first : ℕ) (places : List (Option E)) (row : List ℕ) (bits : ℕ) → first ≡ length (window_of ws target).slots → AreAt places row base w
+  pub picks-start : (first : ℕ) (cells : List (Option E)) (row : List ℕ) (bits : ℕ) → first ≡ length (window_of ws target).slots → AreAt cells row base w
       → ((k : ℕ) → k < length w.slots → get_or fs k false ≡ true → bit_at bits k ≡ 1) → ((k : ℕ) → bit_at bits k ≡ 1 → (k < length w.slots) × (get_or fs k false ≡ true))
-      → Picks fs base target first w ws places row ws bits first
-  picks-start first places row bits is at up only = record {
+      → Picks fs base target first w ws cells row ws bits first
+  picks-start first cells row bits is at up only = record {
     n = 0;
-    places_are = λ j h. at.places_are j h ∙ sym (left-down (take 0 fs) w.slots j (take-above fs 0 j (omega arith)));
+    cells_are = λ j h. at.cells_are j h ∙ sym (left-down (take 0 fs) w.slots j (take-above fs 0 j (omega arith)));
     tags_are = λ j h. at.tags_are j h ∙ sym (left-down (take 0 fs) w.tags j (take-above fs 0 j (omega arith)));
     moved = sym (ap (λ v. set ws target v) (window-with_none (window_of ws target) (picked (take 0 fs) w.slots) (picked (take 0 fs) w.tags) (picked-none fs w.slots) (picked-none fs w.tags)) ∙ set-get_or ws target empty_window);
     filled = let n = ap length (picked-none fs w.slots) in omega arith;
@@ -192,7 +192,7 @@ module _ {E : Type 0} (fs : List Bool) (base target : ℕ) (w : Window E) (ws : 
     only = λ k e. let o = only k e in (omega arith, o.0, o.1);
   }
 
-  module _ (first : ℕ) (same : length w.tags ≡ length w.slots) (most : length w.slots ≤ 32) (places : List (Option E)) (row : List ℕ) (into : List (Window E)) (bits next : ℕ) (s : Picks fs base target first w ws places row into bits next) where
+  module _ (first : ℕ) (same : length w.tags ≡ length w.slots) (most : length w.slots ≤ 32) (cells : List (Option E)) (row : List ℕ) (into : List (Window E)) (bits next : ℕ) (s : Picks fs base target first w ws cells row into bits next) where
     -- the entry of a bit
     module _ (p : ℕ) (set_there : bit_at bits p ≡ 1) where
       here : (s.n ≤ p) × (p < length w.slots) × (get_or fs p false ≡ true)
@@ -201,10 +201,10 @@ module _ {E : Type 0} (fs : List Bool) (base target : ℕ) (w : Window E) (ws : 
       pub picks-within : p < 32
       picks-within = let h = here in omega arith
 
-      pub picks-entry : (x : E) × (get_or places (base + p) None ≡ Some x) × (slice_get w.slots p ≡ Some x)
+      pub picks-entry : (x : E) × (get_or cells (base + p) None ≡ Some x) × (slice_get w.slots p ≡ Some x)
       picks-entry =
           let h = here in let g = get-some w.slots p h.1 in
-          (g.0, s.places_are p picks-within ∙ left-down (take s.n fs) w.slots p (take-above fs s.n p h.0) ∙ g.1, g.1)
+          (g.0, s.cells_are p picks-within ∙ left-down (take s.n fs) w.slots p (take-above fs s.n p h.0) ∙ g.1, g.1)
 
       pub picks-tag : (t : ℕ) × (tag_view row p ≡ Some t) × (slice_get w.tags p ≡ Some t)
       picks-tag =
@@ -222,9 +222,9 @@ module _ {E : Type 0} (fs : List Bool) (base target : ℕ) (w : Window E) (ws : 
           omega arith
 
       -- the first bit that is left comes out
-      pub picks-out : ((k : ℕ) → bit_at bits k ≡ 1 → p ≤ k) → base + p < length places → p < length row → target < length ws → (e : E) → get_or places (base + p) None ≡ Some e → (later : List (Window E))
+      pub picks-out : ((k : ℕ) → bit_at bits k ≡ 1 → p ≤ k) → base + p < length cells → p < length row → target < length ws → (e : E) → get_or cells (base + p) None ≡ Some e → (later : List (Window E))
           → later ≡ set into target (pushed (window_of into target) e (get_or row p 0)) → (rest : ℕ) → ((k : ℕ) → bit_at bits k ≡ 1 → k ≢ p → bit_at rest k ≡ 1) → ((k : ℕ) → bit_at rest k ≡ 1 → (bit_at bits k ≡ 1) × (k ≢ p))
-          → Picks fs base target first w ws (set places (base + p) None) (set row p 0) later rest (next + 1)
+          → Picks fs base target first w ws (set cells (base + p) None) (set row p 0) later rest (next + 1)
       picks-out least lp lr lt e was later put rest others only =
           let h = here in
           let down : (k : ℕ) → s.n ≤ k → k < p → get_or fs k false ≡ false = λ k a z. false_or (get_or fs k false) (λ t. let q = least k (s.up k a (omega arith) t) in omega arith) in
@@ -243,9 +243,9 @@ module _ {E : Type 0} (fs : List Bool) (base target : ℕ) (w : Window E) (ws : 
           let gone : get_or (take (p + 1) fs) p false ≡ true = take-below fs (p + 1) p (omega arith) ∙ h.2 in
           record {
             n = p + 1;
-            places_are = λ j l. elim (same_or_not j p) [
-              | inl is ↦ ap (λ i. get_or (set places (base + p) None) (base + i) None) is ∙ get_or-set_same places (base + p) None None lp ∙ sym (ap (λ i. left_at (take (p + 1) fs) w.slots i) is ∙ left-up (take (p + 1) fs) w.slots p gone)
-              | inr ne ↦ get_or-set_other places (base + p) (base + j) None None (λ z. ne (omega arith)) ∙ s.places_are j l ∙ sym (left-out fs w.slots s.n p h.0 down j ne)
+            cells_are = λ j l. elim (same_or_not j p) [
+              | inl is ↦ ap (λ i. get_or (set cells (base + p) None) (base + i) None) is ∙ get_or-set_same cells (base + p) None None lp ∙ sym (ap (λ i. left_at (take (p + 1) fs) w.slots i) is ∙ left-up (take (p + 1) fs) w.slots p gone)
+              | inr ne ↦ get_or-set_other cells (base + p) (base + j) None None (λ z. ne (omega arith)) ∙ s.cells_are j l ∙ sym (left-out fs w.slots s.n p h.0 down j ne)
             ];
             tags_are = λ j l. elim (same_or_not j p) [
               | inl is ↦ ap (λ i. tag_view (set row p 0) i) is ∙ ap tag_there (get_or-set_same row p 0 0 lr) ∙ sym (ap (λ i. left_at (take (p + 1) fs) w.tags i) is ∙ left-up (take (p + 1) fs) w.tags p gone)
@@ -262,10 +262,10 @@ module _ {E : Type 0} (fs : List Bool) (base target : ℕ) (w : Window E) (ws : 
       rest-down : (k : ℕ) → s.n ≤ k → k < length w.slots → get_or fs k false ≡ false
       rest-down k a z = false_or (get_or fs k false) (λ t. let one : bit_at 0 k ≡ 1 = subst (λ b. bit_at b k ≡ 1) none (s.up k a z t) in let o = bit_at-zero k in omega arith)
 
-      pub picks-left : length fs ≡ 32 → AreLeft places row base fs w
+      pub picks-left : length fs ≡ 32 → AreLeft cells row base fs w
       picks-left flags = record {
         flags = flags;
-        places_are = λ j l. s.places_are j l ∙ left-end fs w.slots s.n rest-down j;
+        cells_are = λ j l. s.cells_are j l ∙ left-end fs w.slots s.n rest-down j;
         tags_are = λ j l. s.tags_are j l ∙ left-end fs w.tags s.n (λ k a z. rest-down k a (omega arith)) j;
         most = most;
         same = same;
@@ -277,15 +277,15 @@ module _ {E : Type 0} (fs : List Bool) (base target : ℕ) (w : Window E) (ws : 
           ∙ ap (λ (z : List ℕ). set ws target (let r : Window E = record { slots = (window_of ws target).slots ++ picked fs w.slots; tags = (window_of ws target).tags ++ z } in r)) (picked-end fs w.tags s.n (λ k a z. rest-down k a (omega arith)))
 
 -- of those that were left, the ones before place n stand in the first places, and each bit that is left is one that is to move
-pub record Ranks {E : Type 0} (fs : List Bool) (base : ℕ) (w : Window E) (places0 places : List (Option E)) (row0 row : List ℕ) (bits stays : ℕ) : Type 0 where
+pub record Ranks {E : Type 0} (fs : List Bool) (base : ℕ) (w : Window E) (places0 cells : List (Option E)) (row0 row : List ℕ) (bits stays : ℕ) : Type 0 where
   pub n : ℕ
-  pub places_are : Middle (place_view places0 base) (place_view places base) (kept (take n fs) w.slots) n
-  pub tags_are : Middle (tag_view row0) (tag_view row) (kept (take n fs) w.tags) n
-  pub stayed : stays ≡ length (kept (take n fs) w.slots)
+  pub cells_are : Middle (place_view places0 base) (place_view cells base) (unflagged (take n fs) w.slots) n
+  pub tags_are : Middle (tag_view row0) (tag_view row) (unflagged (take n fs) w.tags) n
+  pub stayed : stays ≡ length (unflagged (take n fs) w.slots)
   pub all : (k : ℕ) → n ≤ k → k < length w.slots → get_or fs k false ≡ false → bit_at bits k ≡ 1
   pub only : (k : ℕ) → bit_at bits k ≡ 1 → (n ≤ k) × (k < length w.slots) × (get_or fs k false ≡ false)
 
-kept-none : {X : Type 0} (fs : List Bool) (xs : List X) → kept (take 0 fs) xs ≡ []
+kept-none : {X : Type 0} (fs : List Bool) (xs : List X) → unflagged (take 0 fs) xs ≡ []
 kept-none [] xs = refl
 kept-none (f ∷ fs) xs = refl
 
@@ -299,17 +299,17 @@ middle-skip f0 f ks n b e l none m = let s = m.short in record {
 }
 
 module _ {E : Type 0} (fs : List Bool) (base : ℕ) (w : Window E) (places0 : List (Option E)) (row0 : List ℕ) (left : AreLeft places0 row0 base fs w) where
-  pub ranks-start : (bits : ℕ) → AreKept fs w bits → Ranks fs base w places0 places0 row0 row0 bits 0
+  pub ranks-start : (bits : ℕ) → AreUnflagged fs w bits → Ranks fs base w places0 places0 row0 row0 bits 0
   ranks-start bits k = record {
     n = 0;
-    places_are = subst (λ ks. Middle (place_view places0 base) (place_view places0 base) ks 0) (sym (kept-none fs w.slots)) (middle-start (place_view places0 base));
+    cells_are = subst (λ ks. Middle (place_view places0 base) (place_view places0 base) ks 0) (sym (kept-none fs w.slots)) (middle-start (place_view places0 base));
     tags_are = subst (λ ks. Middle (tag_view row0) (tag_view row0) ks 0) (sym (kept-none fs w.tags)) (middle-start (tag_view row0));
     stayed = sym (ap length (kept-none fs w.slots));
     all = λ i a z e. k.all i z e;
     only = λ i e. let o = k.only i e in (omega arith, o.0, o.1);
   }
 
-  module _ (places : List (Option E)) (row : List ℕ) (bits stays : ℕ) (s : Ranks fs base w places0 places row0 row bits stays) where
+  module _ (cells : List (Option E)) (row : List ℕ) (bits stays : ℕ) (s : Ranks fs base w places0 cells row0 row bits stays) where
     module _ (p : ℕ) (set_there : bit_at bits p ≡ 1) (least : (k : ℕ) → bit_at bits k ≡ 1 → p ≤ k) where
       stands : (s.n ≤ p) × (p < length w.slots) × (get_or fs p false ≡ false)
       stands = s.only p set_there
@@ -318,13 +318,13 @@ module _ {E : Type 0} (fs : List Bool) (base : ℕ) (w : Window E) (places0 : Li
       between k a z = true_or (get_or fs k false) (λ down. let h = stands in let q = least k (s.all k a (omega arith) down) in omega arith)
 
       pub ranks-within : (p < 32) × (stays ≤ p)
-      ranks-within = let h = stands in let m = left.most in let t = s.stayed in let o = s.places_are.short in (omega arith, omega arith)
+      ranks-within = let h = stands in let m = left.most in let t = s.stayed in let o = s.cells_are.short in (omega arith, omega arith)
 
-      pub ranks-entry : (x : E) × (get_or places (base + p) None ≡ Some x) × (place_view places0 base p ≡ Some x) × (slice_get w.slots p ≡ Some x)
+      pub ranks-entry : (x : E) × (get_or cells (base + p) None ≡ Some x) × (place_view places0 base p ≡ Some x) × (slice_get w.slots p ≡ Some x)
       ranks-entry =
           let h = stands in let g = get-some w.slots p h.1 in
-          let was : place_view places0 base p ≡ Some g.0 = left.places_are p ranks-within.0 ∙ left-down fs w.slots p h.2 ∙ g.1 in
-          (g.0, s.places_are.high p h.0 ranks-within.0 ∙ was, was, g.1)
+          let was : place_view places0 base p ≡ Some g.0 = left.cells_are p ranks-within.0 ∙ left-down fs w.slots p h.2 ∙ g.1 in
+          (g.0, s.cells_are.high p h.0 ranks-within.0 ∙ was, was, g.1)
 
       ranks-tag : (t : ℕ) × (tag_view row0 p ≡ Some t) × (slice_get w.tags p ≡ Some t)
       ranks-tag =
@@ -332,16 +332,16 @@ module _ {E : Type 0} (fs : List Bool) (base : ℕ) (w : Window E) (places0 : Li
           (g.0, left.tags_are p ranks-within.0 ∙ left-down fs w.tags p h.2 ∙ g.1, g.1)
 
       -- the place for it is free, where it is another one
-      pub ranks-free : stays < p → get_or places (base + stays) None ≡ None
+      pub ranks-free : stays < p → get_or cells (base + stays) None ≡ None
       ranks-free l =
           let r = ranks-within in let t = s.stayed in
           elim (dec_lt stays s.n) [
-            | yes y ↦ s.places_are.hole stays (omega arith) y
-            | no y ↦ s.places_are.high stays (omega arith) (omega arith) ∙ left.places_are stays (omega arith) ∙ left-up fs w.slots stays (between stays (omega arith) l)
+            | yes y ↦ s.cells_are.hole stays (omega arith) y
+            | no y ↦ s.cells_are.high stays (omega arith) (omega arith) ∙ left.cells_are stays (omega arith) ∙ left-up fs w.slots stays (between stays (omega arith) l)
           ]
 
       -- it moves there
-      pub ranks-stay : (places_left : List (Option E)) (row_left : List ℕ) → Moves None places (base + p) (base + stays) places_left → Moves 0 row p stays row_left
+      pub ranks-stay : (places_left : List (Option E)) (row_left : List ℕ) → MovesCell None cells (base + p) (base + stays) places_left → MovesCell 0 row p stays row_left
           → (rest : ℕ) → ((k : ℕ) → bit_at bits k ≡ 1 → k ≢ p → bit_at rest k ≡ 1) → ((k : ℕ) → bit_at rest k ≡ 1 → (bit_at bits k ≡ 1) × (k ≢ p)) → Ranks fs base w places0 places_left row0 row_left rest (stays + 1)
       ranks-stay places_left row_left mp mr rest others only =
           let h = stands in
@@ -350,27 +350,27 @@ module _ {E : Type 0} (fs : List Bool) (base : ℕ) (w : Window E) (places0 : Li
           let t = ranks-tag.0 in
           let one : take (p + 1) fs ≡ take (suc p) fs = let n : p + 1 ≡ suc p = omega arith in ap (λ m. take m fs) n in
           let down : slice_get fs p ≡ Some false = get-down fs p (let f = left.flags in omega arith) h.2 in
-          let skip1 : kept (take p fs) w.slots ≡ kept (take s.n fs) w.slots = kept-skip fs w.slots s.n p h.0 between in
-          let skip2 : kept (take p fs) w.tags ≡ kept (take s.n fs) w.tags = kept-skip fs w.tags s.n p h.0 between in
-          let k1 : kept (take (p + 1) fs) w.slots ≡ kept (take p fs) w.slots ++ x ∷ [] = ap (λ f. kept f w.slots) one ∙ kept-down fs w.slots p x down ranks-entry.3 in
-          let k2 : kept (take (p + 1) fs) w.tags ≡ kept (take p fs) w.tags ++ t ∷ [] = ap (λ f. kept f w.tags) one ∙ kept-down fs w.tags p t down ranks-tag.2 in
-          let n1 : length (kept (take p fs) w.slots) ≡ stays = ap length skip1 ∙ sym s.stayed in
-          let n2 : length (kept (take p fs) w.tags) ≡ stays = length-kept (take p fs) w.slots w.tags left.same ∙ n1 in
-          let m1 : Middle (place_view places0 base) (place_view places base) (kept (take p fs) w.slots) p =
-          subst (λ ks. Middle (place_view places0 base) (place_view places base) ks p) (sym skip1)
-          (middle-skip (place_view places0 base) (place_view places base) (kept (take s.n fs) w.slots) s.n p h.0 (omega arith) (λ k a z. left.places_are k (omega arith) ∙ left-up fs w.slots k (between k a z)) s.places_are) in
-          let m2 : Middle (tag_view row0) (tag_view row) (kept (take p fs) w.tags) p =
+          let skip1 : unflagged (take p fs) w.slots ≡ unflagged (take s.n fs) w.slots = kept-skip fs w.slots s.n p h.0 between in
+          let skip2 : unflagged (take p fs) w.tags ≡ unflagged (take s.n fs) w.tags = kept-skip fs w.tags s.n p h.0 between in
+          let k1 : unflagged (take (p + 1) fs) w.slots ≡ unflagged (take p fs) w.slots ++ x ∷ [] = ap (λ f. unflagged f w.slots) one ∙ kept-down fs w.slots p x down ranks-entry.3 in
+          let k2 : unflagged (take (p + 1) fs) w.tags ≡ unflagged (take p fs) w.tags ++ t ∷ [] = ap (λ f. unflagged f w.tags) one ∙ kept-down fs w.tags p t down ranks-tag.2 in
+          let n1 : length (unflagged (take p fs) w.slots) ≡ stays = ap length skip1 ∙ sym s.stayed in
+          let n2 : length (unflagged (take p fs) w.tags) ≡ stays = length-kept (take p fs) w.slots w.tags left.same ∙ n1 in
+          let m1 : Middle (place_view places0 base) (place_view cells base) (unflagged (take p fs) w.slots) p =
+          subst (λ ks. Middle (place_view places0 base) (place_view cells base) ks p) (sym skip1)
+          (middle-skip (place_view places0 base) (place_view cells base) (unflagged (take s.n fs) w.slots) s.n p h.0 (omega arith) (λ k a z. left.cells_are k (omega arith) ∙ left-up fs w.slots k (between k a z)) s.cells_are) in
+          let m2 : Middle (tag_view row0) (tag_view row) (unflagged (take p fs) w.tags) p =
           subst (λ ks. Middle (tag_view row0) (tag_view row) ks p) (sym skip2)
-          (middle-skip (tag_view row0) (tag_view row) (kept (take s.n fs) w.tags) s.n p h.0 (omega arith) (λ k a z. left.tags_are k (omega arith) ∙ left-up fs w.tags k (between k a z)) s.tags_are) in
+          (middle-skip (tag_view row0) (tag_view row) (unflagged (take s.n fs) w.tags) s.n p h.0 (omega arith) (λ k a z. left.tags_are k (omega arith) ∙ left-up fs w.tags k (between k a z)) s.tags_are) in
           record {
             n = p + 1;
-            places_are = subst (λ ks. Middle (place_view places0 base) (place_view places_left base) ks (p + 1)) (sym k1)
-                (middle-stay (place_view places0 base) (place_view places base) (kept (take p fs) w.slots) p m1 (place_view places_left base) x (omega arith) ranks-entry.2
+            cells_are = subst (λ ks. Middle (place_view places0 base) (place_view places_left base) ks (p + 1)) (sym k1)
+                (middle-stay (place_view places0 base) (place_view cells base) (unflagged (take p fs) w.slots) p m1 (place_view places_left base) x (omega arith) ranks-entry.2
                 (ap (λ n. get_or places_left (base + n) None) n1 ∙ mp.there) (λ ne. mp.gone (λ z. ne (omega arith))) (λ j a b. mp.others (base + j) (λ z. a (omega arith)) (λ z. b (omega arith))));
             tags_are = subst (λ ks. Middle (tag_view row0) (tag_view row_left) ks (p + 1)) (sym k2)
-                (middle-stay (tag_view row0) (tag_view row) (kept (take p fs) w.tags) p m2 (tag_view row_left) t (omega arith) ranks-tag.1
+                (middle-stay (tag_view row0) (tag_view row) (unflagged (take p fs) w.tags) p m2 (tag_view row_left) t (omega arith) ranks-tag.1
                 (ap (λ n. tag_view row_left n) n2 ∙ ap tag_there mr.there) (λ ne. ap tag_there (mr.gone (λ z. ne (omega arith)))) (λ j a b. ap tag_there (mr.others j a (λ z. b (omega arith)))));
-            stayed = let n = ap length k1 ∙ length-append (kept (take p fs) w.slots) (x ∷ []) in omega arith;
+            stayed = let n = ap length k1 ∙ length-append (unflagged (take p fs) w.slots) (x ∷ []) in omega arith;
             all = λ k a z e. others k (s.all k (omega arith) z e) (λ is. omega arith);
             only = λ k b. let o = only k b in let q = s.only k o.0 in let r = least k o.0 in let ne = o.1 in (elim (dec_lt p k) [ yes y ↦ omega arith | no y ↦ absurd (ne (omega arith)) ], q.1, q.2);
           }
@@ -384,24 +384,24 @@ module _ {E : Type 0} (fs : List Bool) (base : ℕ) (w : Window E) (places0 : Li
       rest-tagged k a z = rest-up k a (let n = left.same in omega arith)
 
       bare : (k : ℕ) → s.n ≤ k → k < 32 → place_view places0 base k ≡ None
-      bare k a z = left.places_are k z ∙ (elim (dec_lt k (length w.slots)) [ yes y ↦ left-up fs w.slots k (rest-up k a y) | no y ↦ left-past fs w.slots k (omega arith) ])
+      bare k a z = left.cells_are k z ∙ (elim (dec_lt k (length w.slots)) [ yes y ↦ left-up fs w.slots k (rest-up k a y) | no y ↦ left-past fs w.slots k (omega arith) ])
 
       untagged : (k : ℕ) → s.n ≤ k → k < 32 → tag_view row0 k ≡ None
       untagged k a z = left.tags_are k z ∙ (elim (dec_lt k (length w.tags)) [ yes y ↦ left-up fs w.tags k (rest-tagged k a y) | no y ↦ left-past fs w.tags k (omega arith) ])
 
-      pub ranks-kept : AreAt places row base (kept_of fs w)
+      pub ranks-kept : AreAt cells row base (unflagged_of fs w)
       ranks-kept =
           let k1 = kept-end fs w.slots s.n rest-up in
           let k2 = kept-end fs w.tags s.n rest-tagged in
           record {
-            places_are = λ j l. middle-end (place_view places0 base) (place_view places base) (kept (take s.n fs) w.slots) s.n s.places_are bare j l ∙ ap (λ z. slice_get z j) k1;
-            tags_are = λ j l. middle-end (tag_view row0) (tag_view row) (kept (take s.n fs) w.tags) s.n s.tags_are untagged j l ∙ ap (λ z. slice_get z j) k2;
+            cells_are = λ j l. middle-end (place_view places0 base) (place_view cells base) (unflagged (take s.n fs) w.slots) s.n s.cells_are bare j l ∙ ap (λ z. slice_get z j) k1;
+            tags_are = λ j l. middle-end (tag_view row0) (tag_view row) (unflagged (take s.n fs) w.tags) s.n s.tags_are untagged j l ∙ ap (λ z. slice_get z j) k2;
             most = let f = kept-fewer fs w.slots in let m = left.most in omega arith;
             same = length-kept fs w.slots w.tags left.same;
           }
 
 -- the bits of the masks
-module _ {E : Type 0} (row : List ℕ) (wide : length row ≡ 32) (fs : List Bool) (flags : length fs ≡ 32) (base : ℕ) (places : List (Option E)) (w : Window E) (at : AreAt places row base w) where
+module _ {E : Type 0} (row : List ℕ) (wide : length row ≡ 32) (fs : List Bool) (flags : length fs ≡ 32) (base : ℕ) (cells : List (Option E)) (w : Window E) (at : AreAt cells row base w) where
   abbrev pub free_mask : ℕ
   free_mask = mask_l (map (λ x. x == 0) row)
 
@@ -443,7 +443,7 @@ module _ {E : Type 0} (row : List ℕ) (wide : length row ≡ 32) (fs : List Boo
       let f : bit_at (mask_l fs) k ≡ 1 = omega arith in
       (used-only k u, cond-one (get_or fs k false) (sym (bit_mask_l fs k) ∙ f))
 
-  pub kept-bits : AreKept fs w (bit_and (bit_not w32 free_mask) (bit_not w32 (mask_l fs)))
+  pub kept-bits : AreUnflagged fs w (bit_and (bit_not w32 free_mask) (bit_not w32 (mask_l fs)))
   kept-bits = record {
     all = λ k l e.
         let m = at.most in

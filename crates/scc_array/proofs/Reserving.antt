@@ -6,7 +6,7 @@ use Rattle.std.specs.Vec.{vec_capacity}
 use Rattle.std.specs.declared.vec.Vec.{Vec}
 use Rattle.scc_array.proofs.Shelves.{list-is, list-within, room-is, seen-list, shelf-is, own-room}
 use Rattle.scc_array.specs.Lists.{Pushes, ReservesList}
-use Rattle.scc_array.specs.Shelves.{shelf_of, spilled, spare, shelves, IsArray}
+use Rattle.scc_array.specs.Shelves.{shelf_of, spilled, list_room, shelves, HasListEach}
 use Rattle.scc_array.specs.Windows.{Window, window_of}
 use Rattle.scc_array.proofs.Joined.{true-or-false}
 use Rattle.scc_array.specs.Shelf.{Shelf, empty_shelf, with_entry}
@@ -16,12 +16,12 @@ pub shelf-put : {E : Type 0} (bs ds : List (Shelf E)) (b : ℕ) (s : Shelf E) �
 shelf-put bs ds b s h e = ap (λ v. shelf_of v b) e ∙ get_or-set_same bs b s empty_shelf h
 
 module _ {E A : Type 0} (ws : List (Window E)) (ds : List (Vec E A)) (bs : List (Shelf E)) (view : shelves ws ds ≡ bs) (b : ℕ) (within : b < length bs) (there : b < length ds) where
-  module _ (u v : Vec E A) (held : slice_get ds b ≡ Some u) (items : v.items ≡ u.items) (es : List (Vec E A)) (changed : es ≡ set ds b v) where
+  module _ (u v : Vec E A) (entry_count : slice_get ds b ≡ Some u) (items : v.items ≡ u.items) (es : List (Vec E A)) (changed : es ≡ set ds b v) where
     grown : shelves ws es ≡ set bs b (record (shelf_of bs b) { room = vec_capacity v })
     grown =
         ap (shelves ws) changed
         ∙ seen-list ws ds bs view b within (λ s. record { slots = s.slots; tags = s.tags; overflow = s.overflow; room = vec_capacity v }) v u.items (vec_capacity v) there items refl
-        (ap (λ (l : List E). record { slots = (window_of ws b).slots; tags = (window_of ws b).tags; overflow = l; room = vec_capacity v }) (ap spilled held))
+        (ap (λ (l : List E). record { slots = (window_of ws b).slots; tags = (window_of ws b).tags; overflow = l; room = vec_capacity v }) (ap spilled entry_count))
 
     grown-value : shelves ws es ≡ set bs b (record (shelf_of bs b) { room = (shelf_of (shelves ws es) b).room })
     grown-value = own-room (shelves ws es) bs b (record (shelf_of bs b) { room = vec_capacity v }) within grown
@@ -30,42 +30,42 @@ module _ {E A : Type 0} (ws : List (Window E)) (ds : List (Vec E A)) (bs : List 
     grown-room = ap (λ (s : Shelf E). s.room) (shelf-put bs (shelves ws es) b (record (shelf_of bs b) { room = vec_capacity v }) within grown)
 
     grown-list : length (shelf_of (shelves ws es) b).overflow ≡ length u.items
-    grown-list = ap (λ (s : Shelf E). length s.overflow) (shelf-put bs (shelves ws es) b (record (shelf_of bs b) { room = vec_capacity v }) within grown) ∙ ap length (sym (list-is ws ds bs view b within u held))
+    grown-list = ap (λ (s : Shelf E). length s.overflow) (shelf-put bs (shelves ws es) b (record (shelf_of bs b) { room = vec_capacity v }) within grown) ∙ ap length (sym (list-is ws ds bs view b within u entry_count))
 
   module _ {X : Type 0} (n : ℕ) (es : List (Vec E A)) where
     pub reserved-value : (r : Result (Unit {0}) X) → ReservesList ds b n r es → shelves ws es ≡ set bs b (record (shelf_of bs b) { room = (shelf_of (shelves ws es) b).room })
-    reserved-value (Ok _) (u, v, held, items, more, room, changed) = grown-value u v held items es changed
-    reserved-value (Err _) (u, v, held, items, more, changed) = grown-value u v held items es changed
+    reserved-value (Ok _) (u, v, entry_count, items, more, room, changed) = grown-value u v entry_count items es changed
+    reserved-value (Err _) (u, v, entry_count, items, more, changed) = grown-value u v entry_count items es changed
 
     pub reserved-more : (r : Result (Unit {0}) X) → ReservesList ds b n r es → (shelf_of bs b).room ≤ (shelf_of (shelves ws es) b).room
-    reserved-more (Ok _) (u, v, held, items, more, room, changed) = let r = grown-room u v held items es changed in let o = room-is ws ds bs view b within u held in omega arith
-    reserved-more (Err _) (u, v, held, items, more, changed) = let r = grown-room u v held items es changed in let o = room-is ws ds bs view b within u held in omega arith
+    reserved-more (Ok _) (u, v, entry_count, items, more, room, changed) = let r = grown-room u v entry_count items es changed in let o = room-is ws ds bs view b within u entry_count in omega arith
+    reserved-more (Err _) (u, v, entry_count, items, more, changed) = let r = grown-room u v entry_count items es changed in let o = room-is ws ds bs view b within u entry_count in omega arith
 
     pub reserved-room : (r : Result (Unit {0}) X) → ReservesList ds b n r es → OnOk r (length (shelf_of (shelves ws es) b).overflow + n ≤ (shelf_of (shelves ws es) b).room)
-    reserved-room (Ok _) (u, v, held, items, more, room, changed) = let r = grown-room u v held items es changed in let l = grown-list u v held items es changed in omega arith
+    reserved-room (Ok _) (u, v, entry_count, items, more, room, changed) = let r = grown-room u v entry_count items es changed in let l = grown-list u v entry_count items es changed in omega arith
     reserved-room (Err _) h = tt
 
   -- an entry that was pushed leaves no less room
   pub pushed-more : (e : E) (es : List (Vec E A)) (p : ℕ) → Pushes ds b e (Ok p) es → (shelf_of bs b).room ≤ (shelf_of (shelves ws es) b).room
-  pushed-more e es p (u, v, held, is, items, more, changed) =
+  pushed-more e es p (u, v, entry_count, is, items, more, changed) =
       let seen : shelves ws es ≡ set bs b (record { slots = (shelf_of bs b).slots; tags = (shelf_of bs b).tags; overflow = (shelf_of bs b).overflow ++ e ∷ []; room = vec_capacity v }) =
       ap (shelves ws) changed
       ∙ seen-list ws ds bs view b within (λ s. record { slots = s.slots; tags = s.tags; overflow = s.overflow ++ e ∷ []; room = vec_capacity v }) v (u.items ++ e ∷ []) (vec_capacity v) there items refl
-      (ap (λ (l : List E). record { slots = (window_of ws b).slots; tags = (window_of ws b).tags; overflow = l ++ e ∷ []; room = vec_capacity v }) (ap spilled held)) in
+      (ap (λ (l : List E). record { slots = (window_of ws b).slots; tags = (window_of ws b).tags; overflow = l ++ e ∷ []; room = vec_capacity v }) (ap spilled entry_count)) in
       let r : (shelf_of (shelves ws es) b).room ≡ vec_capacity v = ap (λ (s : Shelf E). s.room) (shelf-put bs (shelves ws es) b _ within seen) in
-      let o = room-is ws ds bs view b within u held in omega arith
+      let o = room-is ws ds bs view b within u entry_count in omega arith
 
   -- a list with room refuses nothing
   pub has-room : (e : E) (es : List (Vec E A)) (x : E) → Pushes ds b e (Err x) es → length (shelf_of bs b).overflow < (shelf_of bs b).room → ⊥
-  has-room e es x (same, (u, v, held, items, changed, full)) room =
-      let o = room-is ws ds bs view b within u held in let l = ap length (list-is ws ds bs view b within u held) in absurd (omega arith)
+  has-room e es x (same, (u, v, entry_count, items, changed, full)) room =
+      let o = room-is ws ds bs view b within u entry_count in let l = ap length (list-is ws ds bs view b within u entry_count) in absurd (omega arith)
 
 -- there are lists where one has room
-pub list-room : {E A : Type 0} (ws : List (Window E)) (os : List (Vec E A)) (bs : List (Shelf E)) (view : shelves ws os ≡ bs) (b : ℕ) (within : b < length bs) → IsArray ws os → length (shelf_of bs b).overflow < (shelf_of bs b).room → b < length os
+pub list-room : {E A : Type 0} (ws : List (Window E)) (os : List (Vec E A)) (bs : List (Shelf E)) (view : shelves ws os ≡ bs) (b : ℕ) (within : b < length bs) → HasListEach ws os → length (shelf_of bs b).overflow < (shelf_of bs b).room → b < length os
 list-room ws os bs view b within kept room =
     list-within ws os bs view b within kept
-    (λ e. let z : spare (slice_get os b) ≡ 0 = ap (λ l. spare (slice_get l b)) e in
-    let r : spare (slice_get os b) ≡ (shelf_of bs b).room = ap (λ (s : Shelf _). s.room) (sym (shelf-is ws os bs view b within)) in
+    (λ e. let z : list_room (slice_get os b) ≡ 0 = ap (λ l. list_room (slice_get l b)) e in
+    let r : list_room (slice_get os b) ≡ (shelf_of bs b).room = ap (λ (s : Shelf _). s.room) (sym (shelf-is ws os bs view b within)) in
     omega arith)
 
 with-room : {E : Type 0} (s : Shelf E) (r q : ℕ) (e : E) (t : ℕ) → ◌≡◌ {A = Shelf E} (record (with_entry (record s { room = r }) e t) { room = q }) (record (with_entry s e t) { room = q })

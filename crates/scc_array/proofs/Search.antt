@@ -35,10 +35,10 @@ hits_start p b tag tags h le n e = record {
       bit_mask_l (map (λ x. x == tag) tags) j ∙ bit_of_true _ (lane ∙ eq-eqb _ _ stored);
 }
 
-pub hits_next : {X : Type 0} (p : X → Bool) (xs : List X) (bits rest place : ℕ) → HitsLeft p xs bits → place ≡ trailing_zeros w32 bits
-    → ((d : X) → place < length xs → p (get_or xs place d) ≡ true → ⊥) → ((k : ℕ) → bit_at bits k ≡ 1 → k ≢ trailing_zeros w32 bits → bit_at rest k ≡ 1) → HitsLeft p xs rest
-hits_next p xs bits rest place h e miss others = record {
-  hits = λ j d l t. others j (h.hits j d l t) (λ z. let same : j ≡ place = z ∙ sym e in miss d (omega arith) (subst (λ k. p (get_or xs k d) ≡ true) same t));
+pub hits_next : {X : Type 0} (p : X → Bool) (xs : List X) (bits rest slot : ℕ) → HitsLeft p xs bits → slot ≡ trailing_zeros w32 bits
+    → ((d : X) → slot < length xs → p (get_or xs slot d) ≡ true → ⊥) → ((k : ℕ) → bit_at bits k ≡ 1 → k ≢ trailing_zeros w32 bits → bit_at rest k ≡ 1) → HitsLeft p xs rest
+hits_next p xs bits rest slot h e miss others = record {
+  hits = λ j d l t. others j (h.hits j d l t) (λ z. let same : j ≡ slot = z ∙ sym e in miss d (omega arith) (subst (λ k. p (get_or xs k d) ≡ true) same t));
 }
 
 pub missed_slots : {X : Type 0} (p : X → Bool) (xs : List X) (bits : ℕ) → HitsLeft p xs bits → bits ≡ 0 → MissedBelow p xs (length xs)

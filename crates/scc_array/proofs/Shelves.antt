@@ -9,7 +9,7 @@ use native.Mathlib.Decide.{dec_lt}
 use Rattle.scc_array.proofs.Gets.{get-set, get-set_other, get-past, get-some, get-is}
 use Rattle.scc_array.specs.Lists.{AreBare, Opens, were_there, were_made}
 use Rattle.scc_array.proofs.Windows.{same_or_not}
-use Rattle.scc_array.specs.Shelves.{shelf_of, spilled, spare, shelf_at, shelves, IsArray}
+use Rattle.scc_array.specs.Shelves.{shelf_of, spilled, list_room, shelf_at, shelves, HasListEach}
 use Rattle.scc_array.specs.Windows.{Window, empty_window, window_of}
 use Rattle.scc_array.specs.Shelf.{Shelf, empty_shelf}
 
@@ -25,16 +25,16 @@ module _ {E A : Type 0} (ws : List (Window E)) (os : List (Vec E A)) where
 
 module _ {E A : Type 0} (ws : List (Window E)) (os : List (Vec E A)) (b : ℕ) (within : b < length ws) where
   -- the places of one bucket changed
-  pub shelves-window : (w : Window E) → shelves (set ws b w) os ≡ set (shelves ws os) b (record { slots = w.slots; tags = w.tags; overflow = spilled (slice_get os b); room = spare (slice_get os b) })
+  pub shelves-window : (w : Window E) → shelves (set ws b w) os ≡ set (shelves ws os) b (record { slots = w.slots; tags = w.tags; overflow = spilled (slice_get os b); room = list_room (slice_get os b) })
   shelves-window w =
-      let s : Shelf E = record { slots = w.slots; tags = w.tags; overflow = spilled (slice_get os b); room = spare (slice_get os b) } in
+      let s : Shelf E = record { slots = w.slots; tags = w.tags; overflow = spilled (slice_get os b); room = list_room (slice_get os b) } in
       let n = length-set ws b w in
       shelves-are (set ws b w) os (set (shelves ws os) b s) (length-set (shelves ws os) b s ∙ length-shelves ws os ∙ sym n)
       (λ i h. elim (same_or_not i b) [
         | inl e ↦ subst (λ k. shelf_at (set ws b w) os k ≡ shelf_of (set (shelves ws os) b s) k) (sym e)
-            (ap (λ (v : Window E). record { slots = v.slots; tags = v.tags; overflow = spilled (slice_get os b); room = spare (slice_get os b) }) (get_or-set_same ws b w empty_window within)
+            (ap (λ (v : Window E). record { slots = v.slots; tags = v.tags; overflow = spilled (slice_get os b); room = list_room (slice_get os b) }) (get_or-set_same ws b w empty_window within)
             ∙ sym (get_or-set_same (shelves ws os) b s empty_shelf (let m = length-shelves ws os in omega arith)))
-        | inr e ↦ ap (λ (v : Window E). record { slots = v.slots; tags = v.tags; overflow = spilled (slice_get os i); room = spare (slice_get os i) }) (get_or-set_other ws b i w empty_window e)
+        | inr e ↦ ap (λ (v : Window E). record { slots = v.slots; tags = v.tags; overflow = spilled (slice_get os i); room = list_room (slice_get os i) }) (get_or-set_other ws b i w empty_window e)
             ∙ sym (shelf-there ws os i (omega arith)) ∙ sym (get_or-set_other (shelves ws os) b i s empty_shelf e)
       ])
 
@@ -45,9 +45,9 @@ module _ {E A : Type 0} (ws : List (Window E)) (os : List (Vec E A)) (b : ℕ) (
       shelves-are ws (set os b v) (set (shelves ws os) b s) (length-set (shelves ws os) b s ∙ length-shelves ws os)
       (λ i h. elim (same_or_not i b) [
         | inl e ↦ subst (λ k. shelf_at ws (set os b v) k ≡ shelf_of (set (shelves ws os) b s) k) (sym e)
-            (ap (λ (o : Option (Vec E A)). record { slots = (window_of ws b).slots; tags = (window_of ws b).tags; overflow = spilled o; room = spare o }) (get-set os b v there)
+            (ap (λ (o : Option (Vec E A)). record { slots = (window_of ws b).slots; tags = (window_of ws b).tags; overflow = spilled o; room = list_room o }) (get-set os b v there)
             ∙ sym (get_or-set_same (shelves ws os) b s empty_shelf (let m = length-shelves ws os in omega arith)))
-        | inr e ↦ ap (λ (o : Option (Vec E A)). record { slots = (window_of ws i).slots; tags = (window_of ws i).tags; overflow = spilled o; room = spare o }) (get-set_other os b i v e)
+        | inr e ↦ ap (λ (o : Option (Vec E A)). record { slots = (window_of ws i).slots; tags = (window_of ws i).tags; overflow = spilled o; room = list_room o }) (get-set_other os b i v e)
             ∙ sym (shelf-there ws os i h) ∙ sym (get_or-set_other (shelves ws os) b i s empty_shelf e)
       ])
 
@@ -65,22 +65,22 @@ module _ {E A : Type 0} (ws : List (Window E)) (os : List (Vec E A)) (bs : List 
   pub overflow-is : spilled (slice_get os b) ≡ (shelf_of bs b).overflow
   overflow-is = ap (λ (s : Shelf E). s.overflow) (sym shelf-is)
 
-  pub list-within : IsArray ws os → os ≢ [] → b < length os
+  pub list-within : HasListEach ws os → os ≢ [] → b < length os
   list-within kept some = elim kept.lists [ inl e ↦ absurd (some e) | inr e ↦ let l = window-within in omega arith ]
 
   -- there are lists where the bucket has an entry in one
-  pub spilled-there : IsArray ws os → 0 < length (shelf_of bs b).overflow → b < length os
+  pub spilled-there : HasListEach ws os → 0 < length (shelf_of bs b).overflow → b < length os
   spilled-there kept some = list-within kept (λ e. let z : length (shelf_of bs b).overflow ≡ 0 = ap length (sym overflow-is ∙ ap (λ l. spilled (slice_get l b)) e) in omega arith)
 
   pub list-is : (v : Vec E A) → slice_get os b ≡ Some v → v.items ≡ (shelf_of bs b).overflow
   list-is v e = ap spilled (sym e) ∙ overflow-is
 
   pub room-is : (v : Vec E A) → slice_get os b ≡ Some v → vec_capacity v ≡ (shelf_of bs b).room
-  room-is v e = ap spare (sym e) ∙ ap (λ (s : Shelf E). s.room) (sym shelf-is)
+  room-is v e = ap list_room (sym e) ∙ ap (λ (s : Shelf E). s.room) (sym shelf-is)
 
 module _ {E A : Type 0} (ws : List (Window E)) (os : List (Vec E A)) (bs : List (Shelf E)) (view : shelves ws os ≡ bs) (b : ℕ) (within : b < length bs) (F : Shelf E → Shelf E) where
   -- F is what happened to the places of the bucket
-  pub seen-window : (w : Window E) → F (shelf_at ws os b) ≡ record { slots = w.slots; tags = w.tags; overflow = spilled (slice_get os b); room = spare (slice_get os b) } → shelves (set ws b w) os ≡ set bs b (F (shelf_of bs b))
+  pub seen-window : (w : Window E) → F (shelf_at ws os b) ≡ record { slots = w.slots; tags = w.tags; overflow = spilled (slice_get os b); room = list_room (slice_get os b) } → shelves (set ws b w) os ≡ set bs b (F (shelf_of bs b))
   seen-window w e =
       shelves-window ws os b (window-within ws os bs view b within) w ∙ ap (λ s. set (shelves ws os) b s) (sym e)
       ∙ ap (λ v. set v b (F (shelf_at ws os b))) view ∙ ap (λ s. set bs b (F s)) (sym (shelf-is ws os bs view b within))
@@ -125,13 +125,13 @@ own-room seen bs b s h e =
     e ∙ ap (λ r. set bs b (record s { room = r })) r
 
 -- lists that were made are seen as none
-module _ {E A : Type 0} (ws : List (Window E)) (os ds : List (Vec E A)) (bs : List (Shelf E)) (view : shelves ws os ≡ bs) (kept : IsArray ws os) (n : ℕ) (count : n ≡ length ws) where
-  pub bare-spilled : AreBare ds → (i : ℕ) → (spilled (slice_get ds i) ≡ []) × (spare (slice_get ds i) ≡ 0)
+module _ {E A : Type 0} (ws : List (Window E)) (os ds : List (Vec E A)) (bs : List (Shelf E)) (view : shelves ws os ≡ bs) (kept : HasListEach ws os) (n : ℕ) (count : n ≡ length ws) where
+  pub bare-spilled : AreBare ds → (i : ℕ) → (spilled (slice_get ds i) ≡ []) × (list_room (slice_get ds i) ≡ 0)
   bare-spilled h i = elim (dec_lt i (length ds)) [
     | yes l ↦
         let v = get-some ds i l in let k = h.bare i v.0 l (get-is ds i v.0 v.0 v.1) in
-        (ap spilled v.1 ∙ k.0, ap spare v.1 ∙ k.1)
-    | no k ↦ let past : slice_get ds i ≡ None = get-past ds i (omega arith) in (ap spilled past, ap spare past)
+        (ap spilled v.1 ∙ k.0, ap list_room v.1 ∙ k.1)
+    | no k ↦ let past : slice_get ds i ≡ None = get-past ds i (omega arith) in (ap spilled past, ap list_room past)
   ]
 
   pub opened-view : Opens os n ds → shelves ws ds ≡ bs
@@ -139,8 +139,8 @@ module _ {E A : Type 0} (ws : List (Window E)) (os ds : List (Vec E A)) (bs : Li
   opened-view (were_made e l bare) =
       shelves-are ws ds (shelves ws os) (length-shelves ws os) (λ i h.
       let k = bare-spilled bare i in
-      ap (λ (l : List E). record { slots = (window_of ws i).slots; tags = (window_of ws i).tags; overflow = l; room = spare (slice_get ds i) }) (k.0 ∙ sym (no-list os i e))
-      ∙ ap (λ (r : ℕ). record { slots = (window_of ws i).slots; tags = (window_of ws i).tags; overflow = spilled (slice_get os i); room = r }) (k.1 ∙ sym (ap (λ l. spare (slice_get l i)) e))
+      ap (λ (l : List E). record { slots = (window_of ws i).slots; tags = (window_of ws i).tags; overflow = l; room = list_room (slice_get ds i) }) (k.0 ∙ sym (no-list os i e))
+      ∙ ap (λ (r : ℕ). record { slots = (window_of ws i).slots; tags = (window_of ws i).tags; overflow = spilled (slice_get os i); room = r }) (k.1 ∙ sym (ap (λ l. list_room (slice_get l i)) e))
       ∙ sym (shelf-there ws os i h)) ∙ view
 
   pub opened-count : Opens os n ds → length ds ≡ length ws

@@ -8,9 +8,9 @@ use Rattle.scc_array.proofs.Windows.{windows-changed, columns-changed, same_or_n
 use Rattle.scc_array.specs.Shifts.{Closes}
 use Rattle.scc_array.specs.Windows.{Window, windows, tag_there, IsPackedWindow, IsColumns}
 
-module _ {E : Type 0} (rows : List (List ℕ)) (places : List (Option E)) (kept : IsColumns rows places) (b : ℕ) (within : b < length rows)
-    (xs : List E) (ts : List ℕ) (packed : IsPackedWindow rows places b xs ts) (i : ℕ) (there : i < length xs)
-    (new : List (Option E)) (row_left : List ℕ) (closed : Closes None (set places (32 * b + i) None) (32 * b + i) (32 * b + (length xs - 1)) new) (closed_row : Closes 0 (get_or rows b []) i (length xs - 1) row_left) where
+module _ {E : Type 0} (rows : List (List ℕ)) (cells : List (Option E)) (kept : IsColumns rows cells) (b : ℕ) (within : b < length rows)
+    (xs : List E) (ts : List ℕ) (packed : IsPackedWindow rows cells b xs ts) (i : ℕ) (there : i < length xs)
+    (new : List (Option E)) (row_left : List ℕ) (closed : Closes None (set cells (32 * b + i) None) (32 * b + i) (32 * b + (length xs - 1)) new) (closed_row : Closes 0 (get_or rows b []) i (length xs - 1) row_left) where
   abbrev last : ℕ
   last = length xs - 1
 
@@ -20,29 +20,29 @@ module _ {E : Type 0} (rows : List (List ℕ)) (places : List (Option E)) (kept 
   wide : length row_left ≡ 32
   wide = closed_row.count ∙ kept.lanes b within
 
-  count : length new ≡ length places
-  count = closed.count ∙ length-set places (32 * b + i) None
+  count : length new ≡ length cells
+  count = closed.count ∙ length-set cells (32 * b + i) None
 
-  gap-other : (p : ℕ) → p ≢ 32 * b + i → get_or (set places (32 * b + i) None) p None ≡ get_or places p None
-  gap-other p e = get_or-set_other places (32 * b + i) p None None e
+  gap-other : (p : ℕ) → p ≢ 32 * b + i → get_or (set cells (32 * b + i) None) p None ≡ get_or cells p None
+  gap-other p e = get_or-set_other cells (32 * b + i) p None None e
 
-  outside : (p : ℕ) → (p < 32 * b) ⊎ (32 * b + 32 ≤ p) → get_or new p None ≡ get_or places p None
+  outside : (p : ℕ) → (p < 32 * b) ⊎ (32 * b + 32 ≤ p) → get_or new p None ≡ get_or cells p None
   outside p o =
       let m = packed.most in
       elim o [ inl l ↦ closed.others p (inl (omega arith)) ∙ gap-other p (λ e. omega arith) | inr l ↦ closed.others p (inr (omega arith)) ∙ gap-other p (λ e. omega arith) ]
 
-  place-left : (j : ℕ) → j < 32 → get_or new (32 * b + j) None ≡ slice_get (remove xs i) j
-  place-left j h =
+  slot-left : (j : ℕ) → j < 32 → get_or new (32 * b + j) None ≡ slice_get (remove xs i) j
+  slot-left j h =
       let m = packed.most in
       elim (dec_lt j i) [
-        | yes l ↦ closed.others (32 * b + j) (inl (omega arith)) ∙ gap-other (32 * b + j) (λ e. omega arith) ∙ packed.places_are j h ∙ sym (get-removed_before xs i j l)
+        | yes l ↦ closed.others (32 * b + j) (inl (omega arith)) ∙ gap-other (32 * b + j) (λ e. omega arith) ∙ packed.cells_are j h ∙ sym (get-removed_before xs i j l)
         | no l ↦ elim (dec_lt j last) [
           | yes k ↦
               let next : (32 * b + j) + 1 ≡ 32 * b + suc j = omega arith in
-              closed.moved (32 * b + j) (omega arith) (omega arith) ∙ gap-other ((32 * b + j) + 1) (λ e. omega arith) ∙ ap (λ p. get_or places p None) next ∙ packed.places_are (suc j) (omega arith) ∙ sym (get-removed_after xs i j (omega arith))
+              closed.moved (32 * b + j) (omega arith) (omega arith) ∙ gap-other ((32 * b + j) + 1) (λ e. omega arith) ∙ ap (λ p. get_or cells p None) next ∙ packed.cells_are (suc j) (omega arith) ∙ sym (get-removed_after xs i j (omega arith))
           | no k ↦ elim (same_or_not j last) [
             | inl e ↦ ap (λ n. get_or new (32 * b + n) None) e ∙ closed.end ∙ sym (get-past xs (suc j) (omega arith)) ∙ sym (get-removed_after xs i j (omega arith))
-            | inr e ↦ closed.others (32 * b + j) (inr (omega arith)) ∙ gap-other (32 * b + j) (λ h. omega arith) ∙ packed.places_are j h ∙ get-past xs j (omega arith) ∙ sym (get-past xs (suc j) (omega arith)) ∙ sym (get-removed_after xs i j (omega arith))
+            | inr e ↦ closed.others (32 * b + j) (inr (omega arith)) ∙ gap-other (32 * b + j) (λ h. omega arith) ∙ packed.cells_are j h ∙ get-past xs j (omega arith) ∙ sym (get-past xs (suc j) (omega arith)) ∙ sym (get-removed_after xs i j (omega arith))
           ]
         ]
       ]
@@ -65,14 +65,14 @@ module _ {E : Type 0} (rows : List (List ℕ)) (places : List (Option E)) (kept 
 
   packed-left : IsPackedWindow (set rows b row_left) new b (remove xs i) (remove ts i)
   packed-left = record {
-    places_are = place-left;
+    cells_are = slot-left;
     tags_are = λ j h. ap (λ (r : List ℕ). tag_there (get_or r j 0)) (get_or-set_same rows b row_left [] within) ∙ tag-left j h;
     most = let n = length-removed xs i there in let m = packed.most in omega arith;
     same = let s = packed.same in let n = length-removed xs i there in let l = length-removed ts i (omega arith) in omega arith;
   }
 
-  pub windows-shifted : windows (set rows b row_left) new ≡ set (windows rows places) b window
-  windows-shifted = windows-changed rows places new kept b row_left within wide count outside window packed-left
+  pub windows-shifted : windows (set rows b row_left) new ≡ set (windows rows cells) b window
+  windows-shifted = windows-changed rows cells new kept b row_left within wide count outside window packed-left
 
   pub columns-shifted : IsColumns (set rows b row_left) new
-  columns-shifted = columns-changed rows places new kept b row_left within wide count outside window packed-left
+  columns-shifted = columns-changed rows cells new kept b row_left within wide count outside window packed-left

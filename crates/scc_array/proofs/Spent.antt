@@ -3,7 +3,7 @@ use Rattle.std.proofs.Common.{◌≡◌, ℕ, ◌<◌, List, [], ◌∷◌, ◌+
 use Rattle.std.specs.declared.vec.Vec.{Vec}
 use Rattle.scc_array.proofs.Shelves.{length-shelves, slots-are, list-is, list-read}
 use Rattle.scc_array.specs.Lists.{AreSpent}
-use Rattle.scc_array.specs.Shelves.{shelf_of, shelves, IsArray}
+use Rattle.scc_array.specs.Shelves.{shelf_of, shelves, HasListEach}
 use Rattle.scc_array.specs.Windows.{Window, window_of}
 use Rattle.scc_array.specs.Shelf.{Shelf, shelf_entries}
 
@@ -21,7 +21,7 @@ module _ {E A : Type 0} (ws : List (Window E)) (os : List (Vec E A)) (bs : List 
       let l : i < length bs = let n = length-shelves ws os in let m = ap length view in omega arith in
       slots-are ws os bs view i l ∙ none-left (shelf_of bs i).slots (shelf_of bs i).overflow (none i l)
 
-  pub no-spilled : IsArray ws os → AreSpent os
+  pub no-spilled : HasListEach ws os → AreSpent os
   no-spilled kept = record {
     spent = λ i v h at.
         let l : i < length bs = let n = length-shelves ws os in let m = ap length view in elim kept.lists [ inl z ↦ absurd (let k : length os ≡ 0 = ap length z in omega arith) | inr k ↦ omega arith ] in

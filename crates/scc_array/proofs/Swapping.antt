@@ -7,8 +7,8 @@ use Rattle.scc_array.proofs.Gets.{get-past, get-swapped_here, get-swapped_other,
 use Rattle.scc_array.proofs.Windows.{windows-changed, columns-changed, same_or_not}
 use Rattle.scc_array.specs.Windows.{Window, windows, tag_there, IsPackedWindow, IsColumns}
 
-module _ {E : Type 0} (rows : List (List ℕ)) (places : List (Option E)) (kept : IsColumns rows places) (b : ℕ) (within : b < length rows)
-    (xs : List E) (ts : List ℕ) (packed : IsPackedWindow rows places b xs ts) (i : ℕ) (there : i < length xs) (x : E) where
+module _ {E : Type 0} (rows : List (List ℕ)) (cells : List (Option E)) (kept : IsColumns rows cells) (b : ℕ) (within : b < length rows)
+    (xs : List E) (ts : List ℕ) (packed : IsPackedWindow rows cells b xs ts) (i : ℕ) (there : i < length xs) (x : E) where
   abbrev pub last : ℕ
   last = length xs - 1
 
@@ -40,20 +40,20 @@ module _ {E : Type 0} (rows : List (List ℕ)) (places : List (Option E)) (kept 
         ]
       ]
 
-  module _ (new : List (Option E)) (count : length new ≡ length places) (outside : (p : ℕ) → (p < 32 * b) ⊎ (32 * b + 32 ≤ p) → get_or new p None ≡ get_or places p None)
-      (at_last : get_or new (32 * b + last) None ≡ None) (at_place : i ≢ last → get_or new (32 * b + i) None ≡ get_or places (32 * b + last) None)
-      (others : (j : ℕ) → j ≢ i → j ≢ last → get_or new (32 * b + j) None ≡ get_or places (32 * b + j) None) where
-    place-left : (j : ℕ) → j < 32 → get_or new (32 * b + j) None ≡ slice_get (swap_remove xs i x) j
-    place-left j h =
+  module _ (new : List (Option E)) (count : length new ≡ length cells) (outside : (p : ℕ) → (p < 32 * b) ⊎ (32 * b + 32 ≤ p) → get_or new p None ≡ get_or cells p None)
+      (at_last : get_or new (32 * b + last) None ≡ None) (at_place : i ≢ last → get_or new (32 * b + i) None ≡ get_or cells (32 * b + last) None)
+      (others : (j : ℕ) → j ≢ i → j ≢ last → get_or new (32 * b + j) None ≡ get_or cells (32 * b + j) None) where
+    slot-left : (j : ℕ) → j < 32 → get_or new (32 * b + j) None ≡ slice_get (swap_remove xs i x) j
+    slot-left j h =
         let m = packed.most in
         elim (same_or_not j last) [
           | inl q ↦ ap (λ k. get_or new (32 * b + k) None) q ∙ at_last ∙ sym (get-swapped_past xs i x there j (omega arith))
           | inr q ↦ elim (dec_lt j last) [
             | yes k ↦ elim (same_or_not j i) [
-              | inl p ↦ ap (λ n. get_or new (32 * b + n) None) p ∙ at_place (λ e. q (p ∙ e)) ∙ packed.places_are last (omega arith) ∙ sym (get-swapped_here xs i x there (omega arith)) ∙ ap (slice_get (swap_remove xs i x)) (sym p)
-              | inr p ↦ others j p q ∙ packed.places_are j h ∙ sym (get-swapped_other xs i x there j k p)
+              | inl p ↦ ap (λ n. get_or new (32 * b + n) None) p ∙ at_place (λ e. q (p ∙ e)) ∙ packed.cells_are last (omega arith) ∙ sym (get-swapped_here xs i x there (omega arith)) ∙ ap (slice_get (swap_remove xs i x)) (sym p)
+              | inr p ↦ others j p q ∙ packed.cells_are j h ∙ sym (get-swapped_other xs i x there j k p)
             ]
-            | no k ↦ others j (λ e. q (omega arith)) q ∙ packed.places_are j h ∙ get-past xs j (omega arith) ∙ sym (get-swapped_past xs i x there j (omega arith))
+            | no k ↦ others j (λ e. q (omega arith)) q ∙ packed.cells_are j h ∙ get-past xs j (omega arith) ∙ sym (get-swapped_past xs i x there j (omega arith))
           ]
         ]
 
@@ -61,57 +61,57 @@ module _ {E : Type 0} (rows : List (List ℕ)) (places : List (Option E)) (kept 
     packed-left =
         let m = packed.most in let n = length-swapped xs i x there in
         record {
-          places_are = place-left;
+          cells_are = slot-left;
           tags_are = λ j h. ap (λ (r : List ℕ). tag_there (get_or r j 0)) (get_or-set_same rows b row_left [] within) ∙ tag-left j h;
           most = omega arith;
           same = length-swapped ts i 0 (let s = packed.same in omega arith) ∙ ap (λ k. k - 1) packed.same ∙ sym n;
         }
 
-    pub windows-swapped : windows (set rows b row_left) new ≡ set (windows rows places) b window
-    windows-swapped = windows-changed rows places new kept b row_left within wide count outside window packed-left
+    pub windows-swapped : windows (set rows b row_left) new ≡ set (windows rows cells) b window
+    windows-swapped = windows-changed rows cells new kept b row_left within wide count outside window packed-left
 
     pub columns-swapped : IsColumns (set rows b row_left) new
-    columns-swapped = columns-changed rows places new kept b row_left within wide count outside window packed-left
+    columns-swapped = columns-changed rows cells new kept b row_left within wide count outside window packed-left
 
   -- the places after the last one was taken, and those after it was put where the other was
   abbrev pub without_last : List (Option E)
-  without_last = set places (32 * b + last) None
+  without_last = set cells (32 * b + last) None
 
   abbrev pub over_place : E → List (Option E)
   over_place y = set without_last (32 * b + i) (Some y)
 
-  last-within : 32 * b + last < length places
+  last-within : 32 * b + last < length cells
   last-within = let s = kept.sized in let m = packed.most in omega arith
 
   clear : (p : ℕ) → (p < 32 * b) ⊎ (32 * b + 32 ≤ p) → (j : ℕ) → j < 32 → p ≢ 32 * b + j
   clear p o j h e = elim o [ inl l ↦ omega arith | inr l ↦ omega arith ]
 
   module _ (is_last : i ≡ last) where
-    pub windows-last : windows (set rows b row_left) without_last ≡ set (windows rows places) b window
-    windows-last = let m = packed.most in windows-swapped without_last (length-set places (32 * b + last) None) (λ p o. get_or-set_other places (32 * b + last) p None None (clear p o last (omega arith)))
-        (get_or-set_same places (32 * b + last) None None last-within) (λ e. absurd (e is_last)) (λ j p q. get_or-set_other places (32 * b + last) (32 * b + j) None None (λ e. q (omega arith)))
+    pub windows-last : windows (set rows b row_left) without_last ≡ set (windows rows cells) b window
+    windows-last = let m = packed.most in windows-swapped without_last (length-set cells (32 * b + last) None) (λ p o. get_or-set_other cells (32 * b + last) p None None (clear p o last (omega arith)))
+        (get_or-set_same cells (32 * b + last) None None last-within) (λ e. absurd (e is_last)) (λ j p q. get_or-set_other cells (32 * b + last) (32 * b + j) None None (λ e. q (omega arith)))
 
     pub columns-last : IsColumns (set rows b row_left) without_last
-    columns-last = let m = packed.most in columns-swapped without_last (length-set places (32 * b + last) None) (λ p o. get_or-set_other places (32 * b + last) p None None (clear p o last (omega arith)))
-        (get_or-set_same places (32 * b + last) None None last-within) (λ e. absurd (e is_last)) (λ j p q. get_or-set_other places (32 * b + last) (32 * b + j) None None (λ e. q (omega arith)))
+    columns-last = let m = packed.most in columns-swapped without_last (length-set cells (32 * b + last) None) (λ p o. get_or-set_other cells (32 * b + last) p None None (clear p o last (omega arith)))
+        (get_or-set_same cells (32 * b + last) None None last-within) (λ e. absurd (e is_last)) (λ j p q. get_or-set_other cells (32 * b + last) (32 * b + j) None None (λ e. q (omega arith)))
 
-  module _ (y : E) (moved : get_or places (32 * b + last) None ≡ Some y) (not_last : i ≢ last) where
-    count_over : length (over_place y) ≡ length places
-    count_over = length-set without_last (32 * b + i) (Some y) ∙ length-set places (32 * b + last) None
+  module _ (y : E) (moved : get_or cells (32 * b + last) None ≡ Some y) (not_last : i ≢ last) where
+    count_over : length (over_place y) ≡ length cells
+    count_over = length-set without_last (32 * b + i) (Some y) ∙ length-set cells (32 * b + last) None
 
-    outside_over : (p : ℕ) → (p < 32 * b) ⊎ (32 * b + 32 ≤ p) → get_or (over_place y) p None ≡ get_or places p None
-    outside_over p o = let m = packed.most in get_or-set_other without_last (32 * b + i) p (Some y) None (clear p o i (omega arith)) ∙ get_or-set_other places (32 * b + last) p None None (clear p o last (omega arith))
+    outside_over : (p : ℕ) → (p < 32 * b) ⊎ (32 * b + 32 ≤ p) → get_or (over_place y) p None ≡ get_or cells p None
+    outside_over p o = let m = packed.most in get_or-set_other without_last (32 * b + i) p (Some y) None (clear p o i (omega arith)) ∙ get_or-set_other cells (32 * b + last) p None None (clear p o last (omega arith))
 
     at_last_over : get_or (over_place y) (32 * b + last) None ≡ None
-    at_last_over = get_or-set_other without_last (32 * b + i) (32 * b + last) (Some y) None (λ e. not_last (omega arith)) ∙ get_or-set_same places (32 * b + last) None None last-within
+    at_last_over = get_or-set_other without_last (32 * b + i) (32 * b + last) (Some y) None (λ e. not_last (omega arith)) ∙ get_or-set_same cells (32 * b + last) None None last-within
 
-    at_place_over : i ≢ last → get_or (over_place y) (32 * b + i) None ≡ get_or places (32 * b + last) None
-    at_place_over e = let s = kept.sized in let m = packed.most in let n = length-set places (32 * b + last) None in get_or-set_same without_last (32 * b + i) (Some y) None (omega arith) ∙ sym moved
+    at_place_over : i ≢ last → get_or (over_place y) (32 * b + i) None ≡ get_or cells (32 * b + last) None
+    at_place_over e = let s = kept.sized in let m = packed.most in let n = length-set cells (32 * b + last) None in get_or-set_same without_last (32 * b + i) (Some y) None (omega arith) ∙ sym moved
 
-    others_over : (j : ℕ) → j ≢ i → j ≢ last → get_or (over_place y) (32 * b + j) None ≡ get_or places (32 * b + j) None
-    others_over j p q = get_or-set_other without_last (32 * b + i) (32 * b + j) (Some y) None (λ e. p (omega arith)) ∙ get_or-set_other places (32 * b + last) (32 * b + j) None None (λ e. q (omega arith))
+    others_over : (j : ℕ) → j ≢ i → j ≢ last → get_or (over_place y) (32 * b + j) None ≡ get_or cells (32 * b + j) None
+    others_over j p q = get_or-set_other without_last (32 * b + i) (32 * b + j) (Some y) None (λ e. p (omega arith)) ∙ get_or-set_other cells (32 * b + last) (32 * b + j) None None (λ e. q (omega arith))
 
-    pub windows-over : windows (set rows b row_left) (over_place y) ≡ set (windows rows places) b window
+    pub windows-over : windows (set rows b row_left) (over_place y) ≡ set (windows rows cells) b window
     windows-over = windows-swapped (over_place y) count_over outside_over at_last_over at_place_over others_over
 
     pub columns-over : IsColumns (set rows b row_left) (over_place y)

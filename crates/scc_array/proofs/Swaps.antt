@@ -6,7 +6,7 @@ use Rattle.std.proofs.Math.Seq.{take-set-lt}
 use Rattle.std.proofs.lemmas.List.{get_or-map, get_or-take, length-map, length-take-le, map-set, take-map, take-take}
 use Rattle.std.proofs.lemmas.List.Sorted.{length_permutation, IsPermutation-append_comm, IsPermutation-append_left, IsPermutation-append_right, IsPermutation-cons, IsPermutation-refl}
 use native.Mathlib.Decide.{dec_lt}
-use Rattle.scc_array.specs.Shelf.{Shelf, shelf_entries, without_place, swapped_out}
+use Rattle.scc_array.specs.Shelf.{Shelf, shelf_entries, without_slot, swapped_out}
 
 -- the tags of the slots that are left, once the last one was written to place i
 pub tags_swapped : (tags : List ℕ) (n k i : ℕ) → i < n → n ≤ length tags → k + 1 ≡ n → take k (set tags i (get_or tags (n - 1) 0)) ≡ swap_remove (take n tags) i 0
@@ -61,7 +61,7 @@ map-swap_remove f xs i d e h =
     ∙ ap (λ y. take n (set (map f xs) i y)) last ∙ ap (take n) (sym (map-set f xs i (get_or xs n d))) ∙ take-map f n (set xs i (get_or xs n d))
 
 module _ {E : Type 0} (b : Shelf E) (k : ℕ) (x : E) (lk : k < length (shelf_entries b)) where
-  pub entries-swapped : IsPermutation (shelf_entries (without_place b k)) (shelf_entries (swapped_out b k x))
+  pub entries-swapped : IsPermutation (shelf_entries (without_slot b k)) (shelf_entries (swapped_out b k x))
   entries-swapped = elim (dec_lt k (length b.slots)) [
     | yes q ↦
         let c : nat_lt k (length b.slots) ≡ true = search rules in
@@ -73,7 +73,7 @@ module _ {E : Type 0} (b : Shelf E) (k : ℕ) (x : E) (lk : k < length (shelf_en
   ]
 
   -- each part is as long as if the others had moved up
-  pub slots-swapped : length (swapped_out b k x).slots ≡ length (without_place b k).slots
+  pub slots-swapped : length (swapped_out b k x).slots ≡ length (without_slot b k).slots
   slots-swapped = elim (dec_lt k (length b.slots)) [
     | yes q ↦
         let c : nat_lt k (length b.slots) ≡ true = search rules in
@@ -81,7 +81,7 @@ module _ {E : Type 0} (b : Shelf E) (k : ℕ) (x : E) (lk : k < length (shelf_en
     | no q ↦ let c : nat_lt k (length b.slots) ≡ false = let far : length b.slots ≤ k = omega arith in search rules in rw c refl
   ]
 
-  pub overflow-swapped : length (swapped_out b k x).overflow ≡ length (without_place b k).overflow
+  pub overflow-swapped : length (swapped_out b k x).overflow ≡ length (without_slot b k).overflow
   overflow-swapped = elim (dec_lt k (length b.slots)) [
     | yes q ↦ let c : nat_lt k (length b.slots) ≡ true = search rules in rw c refl
     | no q ↦

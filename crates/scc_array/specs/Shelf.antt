@@ -37,16 +37,16 @@ abbrev pub with_entry : {E : Type 0} → Shelf E → E → ℕ → Shelf E
 with_entry b e t = cond (nat_lt (length b.slots) 32) (with_slot b e t) (with_overflow b e)
 
 -- where that entry stands
-abbrev pub next_place : {E : Type 0} → Shelf E → ℕ
-next_place b = cond (nat_lt (length b.slots) 32) (length b.slots) (length (shelf_entries b))
+abbrev pub next_slot : {E : Type 0} → Shelf E → ℕ
+next_slot b = cond (nat_lt (length b.slots) 32) (length b.slots) (length (shelf_entries b))
 
 -- a slot is free, or the overflow list has room
 abbrev pub ShelfHasRoom : {E : Type 0} → Shelf E → Type 0
 ShelfHasRoom b = (length b.slots < 32) ⊎ (length b.overflow < b.room)
 
 -- the bucket without the entry at place i
-abbrev pub without_place : {E : Type 0} → Shelf E → ℕ → Shelf E
-without_place b i = cond (nat_lt i (length b.slots))
+abbrev pub without_slot : {E : Type 0} → Shelf E → ℕ → Shelf E
+without_slot b i = cond (nat_lt i (length b.slots))
     (record { slots = remove b.slots i; tags = remove b.tags i; overflow = b.overflow; room = b.room })
     (record { slots = b.slots; tags = b.tags; overflow = remove b.overflow (i - length b.slots); room = b.room })
 

@@ -17,24 +17,24 @@ module _ {E A : Type 0} where
   spilled (Some v) = v.items
 
   -- how many entries the list of a bucket has room for; 0 without one
-  abbrev pub spare : Option (Vec E A) → ℕ
-  spare None = 0
-  spare (Some v) = vec_capacity v
+  abbrev pub list_room : Option (Vec E A) → ℕ
+  list_room None = 0
+  list_room (Some v) = vec_capacity v
 
   module _ (ws : List (Window E)) (os : List (Vec E A)) where
     -- bucket i, by its places and its overflow list
     abbrev pub shelf_at : ℕ → Shelf E
-    shelf_at i = record { slots = (window_of ws i).slots; tags = (window_of ws i).tags; overflow = spilled (slice_get os i); room = spare (slice_get os i) }
+    shelf_at i = record { slots = (window_of ws i).slots; tags = (window_of ws i).tags; overflow = spilled (slice_get os i); room = list_room (slice_get os i) }
 
     -- all buckets, in their order
     abbrev pub shelves : List (Shelf E)
     shelves = map shelf_at (range_with_len 0 (length ws))
 
     -- there are no lists yet, or one for each bucket
-    pub record IsArray : Type 0 where
+    pub record HasListEach : Type 0 where
       pub lists : (os ≡ []) ⊎ (length os ≡ length ws)
 
   -- of the flags of the buckets, one for 16 in a row: there are none yet, or one for each group; a bucket whose flag is down has no entry in a list, and no room there
   pub record IsFlagged (ws : List (Window E)) (os : List (Vec E A)) (fs : List Bool) : Type 0 where
     pub flags : (fs ≡ []) ⊎ (length fs ≡ length ws / 16 + 1)
-    pub told : (b : ℕ) → slice_index_or fs (b / 16) false ≡ false → (spilled (slice_get os b) ≡ []) × (spare (slice_get os b) ≡ 0)
+    pub told : (b : ℕ) → slice_index_or fs (b / 16) false ≡ false → (spilled (slice_get os b) ≡ []) × (list_room (slice_get os b) ≡ 0)

@@ -22,11 +22,11 @@ module _ {E : Type 0} (p : E → Bool) (bs : List (Shelf E)) (b : ℕ) (ds : Lis
     pub others : ds ≡ slice_set bs b (swapped_out (shelf_of bs b) i x)
 
   -- it stood in the places of the bucket; where none of them passes, nothing changed
-  abbrev pub TakesInPlaces : Option E → Type 0
-  TakesInPlaces None = (position p (shelf_of bs b).slots ≡ None) × (ds ≡ bs)
-  TakesInPlaces (Some x) = (i : ℕ) × (i < length (shelf_of bs b).slots) × IsTakenOut i x
+  abbrev pub TakesInSlots : Option E → Type 0
+  TakesInSlots None = (position p (shelf_of bs b).slots ≡ None) × (ds ≡ bs)
+  TakesInSlots (Some x) = (i : ℕ) × (i < length (shelf_of bs b).slots) × IsTakenOut i x
 
   -- it stood past them; where none of the bucket passes, nothing changed
-  abbrev pub TakesPastPlaces : Option E → Type 0
-  TakesPastPlaces None = (position p (shelf_entries (shelf_of bs b)) ≡ None) × (ds ≡ bs)
-  TakesPastPlaces (Some x) = (i : ℕ) × (length (shelf_of bs b).slots ≤ i) × IsTakenOut i x
+  abbrev pub TakesInOverflow : Option E → Type 0
+  TakesInOverflow None = (position p (shelf_entries (shelf_of bs b)) ≡ None) × (ds ≡ bs)
+  TakesInOverflow (Some x) = (i : ℕ) × (length (shelf_of bs b).slots ≤ i) × IsTakenOut i x

@@ -50,10 +50,10 @@ unfoldable pub gather : {X : Type 0} → (ℕ → Option X) → ℕ → List X
 gather f zero = []
 gather f (suc n) = elim (f 0) [ None ↦ [] | Some x ↦ x ∷ gather (λ j. f (suc j)) n ]
 
-module _ {E : Type 0} (rows : List (List ℕ)) (places : List (Option E)) where
+module _ {E : Type 0} (rows : List (List ℕ)) (cells : List (Option E)) where
   -- the place j of the bucket i, and its tag
-  abbrev pub place_at : ℕ → ℕ → Option E
-  place_at i j = slice_index_or places (32 * i + j) None
+  abbrev pub cell_at : ℕ → ℕ → Option E
+  cell_at i j = slice_index_or cells (32 * i + j) None
 
   -- the tag at place j of bucket i; none where the place is free
   abbrev pub tag_at : ℕ → ℕ → Option ℕ
@@ -61,7 +61,7 @@ module _ {E : Type 0} (rows : List (List ℕ)) (places : List (Option E)) where
 
   -- the places of bucket i that are in use, with their tags
   abbrev pub window_at : ℕ → Window E
-  window_at i = record { slots = gather (place_at i) 32; tags = gather (tag_at i) 32 }
+  window_at i = record { slots = gather (cell_at i) 32; tags = gather (tag_at i) 32 }
 
   -- the buckets
   abbrev pub windows : List (Window E)
@@ -69,7 +69,7 @@ module _ {E : Type 0} (rows : List (List ℕ)) (places : List (Option E)) where
 
   -- the bucket i has the entries xs with the tags ts, and its other places are free
   pub record IsPackedWindow (i : ℕ) (xs : List E) (ts : List ℕ) : Type 0 where
-    pub places_are : (j : ℕ) → j < 32 → place_at i j ≡ slice_get xs j
+    pub cells_are : (j : ℕ) → j < 32 → cell_at i j ≡ slice_get xs j
     pub tags_are : (j : ℕ) → j < 32 → tag_at i j ≡ slice_get ts j
     pub most : length xs ≤ 32
     pub same : length ts ≡ length xs
@@ -77,6 +77,6 @@ module _ {E : Type 0} (rows : List (List ℕ)) (places : List (Option E)) where
   -- of the fields of columns
   pub record IsColumns : Type 0 where
     pub few : length rows ≤ 2 ^ 58
-    pub sized : length places ≡ 32 * length rows
+    pub sized : length cells ≡ 32 * length rows
     pub lanes : (i : ℕ) → i < length rows → length (slice_index_or rows i []) ≡ 32
     pub packed : (i : ℕ) → i < length rows → IsPackedWindow i (window_at i).slots (window_at i).tags

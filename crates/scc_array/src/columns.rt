@@ -1,9 +1,9 @@
 //! Two columns: a row of 32 tags for each bucket, and 32 places for entries. The entries of a bucket lie in the first
 //! of its places, and the tag of a free place is 0.
-ghost use Rattle.scc_array.specs.Sifts.{all_up, kept_of, picked_of, ups, window_with};
+ghost use Rattle.scc_array.specs.Sifts.{all_up, unflagged_of, picked_of, ups, window_with};
 ghost use Rattle.scc_array.specs.Takes.{TakesFirstOf};
 ghost use Rattle.scc_array.specs.Windows.{window_of, IsTagged, empty_window, pushed, popped_over, shifted_out, IsColumns};
-ghost use Rattle.scc_slots.specs.Places.{IsDrained};
+ghost use Rattle.scc_slots.specs.CellWords.{IsDrained};
 ghost use Rattle.std.specs.Borrow.{sem};
 ghost use Rattle.std.specs.Int.{bit_at};
 ghost use Rattle.std.specs.List.{position};
@@ -14,7 +14,7 @@ mod lookup;
 use crate::sifting::{close_gap, pour, sift};
 use crate::tags::{lowest_bit, tag_mask, without_lowest_bit};
 use scc_entry::Keyed;
-use scc_slots::Slots;
+use scc_slots::Cells;
 use std::alloc::{AllocError, Global};
 use std::marker::Model;
 
@@ -32,7 +32,7 @@ where
         ensures { TakesFirstOf (λ e. E.Key.eq key.now (E.key_of e)) self.old bucket self.new result }
     {
         match self.find(bucket, key, tag) {
-            Some(place) => Some(self.swap_remove(bucket, place)),
+            Some(slot) => Some(self.swap_remove(bucket, slot)),
             None => None,
         }
     }
@@ -48,9 +48,9 @@ where
     {
         let mut bits = self.hits(bucket, tag);
         'hits: while bits != 0 {
-            let place = lowest_bit(bits);
-            if *key == *self.entry_at(bucket, place).key() {
-                return Some(place);
+            let slot = lowest_bit(bits);
+            if *key == *self.entry_at(bucket, slot).key() {
+                return Some(slot);
             }
             bits = without_lowest_bit(bits);
         }
@@ -61,7 +61,7 @@ where
 /// Buckets of 32 places. A contract sees the entries of each bucket, and their tags.
 pub struct Columns<E> {
     tags: Vec<[u8; 32]>,
-    slots: Slots<E>,
+    slots: Cells<E>,
 }
 
 impl<E> Model for Columns<E> {
@@ -85,7 +85,7 @@ impl<E> Columns<E> {
     {
         Columns {
             tags: Vec::new(alloc),
-            slots: Slots::none(alloc),
+            slots: Cells::none(alloc),
         }
     }
 
@@ -94,7 +94,7 @@ impl<E> Columns<E> {
         requires { count ≤ 2 ^ 58 }
         ensures { IfOk result (λ c. c ≡ replicate count empty_window) }
     {
-        let slots = Slots::with_places(alloc, 32 * count)?;
+        let slots = Cells::with_cells(alloc, 32 * count)?;
         match vec![in alloc; [0u8; 32]; count] {
             Ok(tags) => Ok(Columns { tags, slots }),
             Err(e) => {
@@ -127,12 +127,12 @@ impl<E> Columns<E> {
     /// How many entries the bucket has, where none stands at the place; where one does, a number above that of the
     /// place. It looks at one tag first.
     #[inline(always)]
-    pub(crate) fn count_past(&self, bucket: usize, place: usize) -> usize
+    pub(crate) fn slots_before_overflow(&self, bucket: usize, slot: usize) -> usize
         requires { bucket < length self.now }
-        ensures within { place < result → place < length (window_of self.now bucket).slots }
-        ensures past { result ≤ place → result ≡ length (window_of self.now bucket).slots }
+        ensures within { slot < result → slot < length (window_of self.now bucket).slots }
+        ensures past { result ≤ slot → result ≡ length (window_of self.now bucket).slots }
     {
-        if place < 32 && self.tags[bucket][place] != 0 {
+        if slot < 32 && self.tags[bucket][slot] != 0 {
             return 32;
         }
         self.count(bucket)
@@ -140,12 +140,12 @@ impl<E> Columns<E> {
 
     /// The entry at a place.
     #[inline(always)]
-    pub fn entry_at(&self, bucket: usize, place: usize) -> &E
+    pub fn entry_at(&self, bucket: usize, slot: usize) -> &E
         requires bucket { bucket < length self.now }
-        requires place { place < length (window_of self.now bucket).slots }
-        ensures { slice_get (window_of self.now bucket).slots place ≡ Some result.now }
+        requires slot { slot < length (window_of self.now bucket).slots }
+        ensures { slice_get (window_of self.now bucket).slots slot ≡ Some result.now }
     {
-        self.slots.get(32 * bucket + place)
+        self.slots.get(32 * bucket + slot)
     }
 
     /// The places of the bucket with that tag, a bit each.
@@ -168,22 +168,22 @@ impl<E> Columns<E> {
         requires tag { 0 < tag }
         ensures { self.new ≡ slice_set self.old bucket (pushed (window_of self.old bucket) entry tag) }
     {
-        let place = self.count(bucket);
-        self.push_at(bucket, place, entry, tag);
+        let slot = self.count(bucket);
+        self.push_at(bucket, slot, entry, tag);
     }
 
     /// The same where it is known which place is the next one.
     #[inline(always)]
-    pub(crate) fn push_at(&mut self, bucket: usize, place: usize, entry: E, tag: u8)
+    pub(crate) fn push_at(&mut self, bucket: usize, slot: usize, entry: E, tag: u8)
         requires bucket { bucket < length self.old }
-        requires place { place ≡ length (window_of self.old bucket).slots }
-        requires room { place < 32 }
+        requires slot { slot ≡ length (window_of self.old bucket).slots }
+        requires room { slot < 32 }
         requires tag { 0 < tag }
         ensures { self.new ≡ slice_set self.old bucket (pushed (window_of self.old bucket) entry tag) }
     {
         let row = &mut self.tags[bucket];
-        row[place] = tag;
-        self.slots.put(32 * bucket + place, entry);
+        row[slot] = tag;
+        self.slots.put(32 * bucket + slot, entry);
     }
 
     /// Moves the entries whose flag is 1 to the end of a bucket of other columns, in order. The others stay in their
@@ -193,7 +193,7 @@ impl<E> Columns<E> {
         requires bucket { bucket < length self.old }
         requires target { target < length into.old }
         requires room { length (window_of into.old target).slots + length (window_of self.old bucket).slots ≤ 32 }
-        ensures stays { self.new ≡ slice_set self.old bucket (kept_of (ups flags.now) (window_of self.old bucket)) }
+        ensures stays { self.new ≡ slice_set self.old bucket (unflagged_of (ups flags.now) (window_of self.old bucket)) }
         ensures moved { into.new ≡ slice_set into.old target
             (window_with (window_of into.old target) (picked_of (ups flags.now) (window_of self.old bucket))) }
     {
@@ -209,70 +209,70 @@ impl<E> Columns<E> {
         requires bucket { bucket < length self.old }
         requires target { target < length into.old }
         requires room { length (window_of into.old target).slots + length (window_of self.old bucket).slots ≤ 32 }
-        ensures stays { self.new ≡ slice_set self.old bucket (kept_of all_up (window_of self.old bucket)) }
+        ensures stays { self.new ≡ slice_set self.old bucket (unflagged_of all_up (window_of self.old bucket)) }
         ensures moved { into.new ≡ slice_set into.old target
             (window_with (window_of into.old target) (picked_of all_up (window_of self.old bucket))) }
     {
-        let held = self.count(bucket);
+        let entry_count = self.count(bucket);
         let first = into.count(target);
         let base = 32 * bucket;
         pour(
             &mut self.slots,
             &mut self.tags[bucket],
             base,
-            held,
+            entry_count,
             into,
             target,
             first,
         );
     }
 
-    ghost use Rattle.scc_array.specs.LendsColumns.{lends_slot};
+    ghost use Rattle.scc_array.specs.LendsColumns.{lends_cell};
 
     /// Takes an entry out. The last one of its bucket takes its place.
     #[inline(always)]
-    pub fn swap_remove(&mut self, bucket: usize, place: usize) -> E
+    pub fn swap_remove(&mut self, bucket: usize, slot: usize) -> E
         requires bucket { bucket < length self.old }
-        requires place { place < length (window_of self.old bucket).slots }
-        ensures entry { slice_get (window_of self.old bucket).slots place ≡ Some result }
-        ensures others { self.new ≡ slice_set self.old bucket (popped_over (window_of self.old bucket) place result) }
+        requires slot { slot < length (window_of self.old bucket).slots }
+        ensures entry { slice_get (window_of self.old bucket).slots slot ≡ Some result }
+        ensures others { self.new ≡ slice_set self.old bucket (popped_over (window_of self.old bucket) slot result) }
     {
         let last = self.count(bucket) - 1;
         let row = &mut self.tags[bucket];
         let tag = row[last];
-        row[place] = tag;
+        row[slot] = tag;
         row[last] = 0;
         let base = 32 * bucket;
         let end = self.slots.take(base + last);
-        if place == last {
+        if slot == last {
             return end;
         }
-        self.slots.replace(base + place, end)
+        self.slots.replace(base + slot, end)
     }
 
     /// Takes an entry out. Those after it move up by one place.
-    pub fn remove(&mut self, bucket: usize, place: usize) -> E
+    pub fn remove(&mut self, bucket: usize, slot: usize) -> E
         requires bucket { bucket < length self.old }
-        requires place { place < length (window_of self.old bucket).slots }
-        ensures entry { slice_get (window_of self.old bucket).slots place ≡ Some result }
-        ensures others { self.new ≡ slice_set self.old bucket (shifted_out (window_of self.old bucket) place) }
+        requires slot { slot < length (window_of self.old bucket).slots }
+        ensures entry { slice_get (window_of self.old bucket).slots slot ≡ Some result }
+        ensures others { self.new ≡ slice_set self.old bucket (shifted_out (window_of self.old bucket) slot) }
     {
         let last = self.count(bucket) - 1;
         let base = 32 * bucket;
-        let entry = self.slots.take(base + place);
-        close_gap(&mut self.slots, &mut self.tags[bucket], base, place, last);
+        let entry = self.slots.take(base + slot);
+        close_gap(&mut self.slots, &mut self.tags[bucket], base, slot, last);
         entry
     }
 
     /// The entry at a place, to write to.
     #[inline(always)]
-    pub(crate) fn entry_mut(&mut self, bucket: usize, place: usize) -> &mut E
+    pub(crate) fn entry_mut(&mut self, bucket: usize, slot: usize) -> &mut E
         requires bucket { bucket < length self.old }
-        requires place { place < length (window_of self.old bucket).slots }
-        ensures* writes_back { sem 𝓛 (lends_slot E.row self.entry bucket place result) }
-        ensures entry { slice_get (window_of self.old bucket).slots place ≡ Some result.now }
+        requires slot { slot < length (window_of self.old bucket).slots }
+        ensures* writes_back { sem 𝓛 (lends_cell E.row self.entry bucket slot result) }
+        ensures entry { slice_get (window_of self.old bucket).slots slot ≡ Some result.now }
     {
-        self.slots.get_mut(32 * bucket + place)
+        self.slots.get_mut(32 * bucket + slot)
     }
 
     /// Gives the columns back, which hold no entry.
@@ -285,11 +285,11 @@ impl<E> Columns<E> {
 }
 
 /// Drops what the places hold whose tag isn't 0.
-fn drop_places<E: Drop>(tags: &[[u8; 32]], slots: &mut Slots<E>)
+fn drop_cells<E: Drop>(tags: &[[u8; 32]], slots: &mut Cells<E>)
     requires { IsColumns tags.now slots.old }
     ensures { IsDrained slots.new }
 {
-    for p in 0..slots.places() {
+    for p in 0..slots.cells() {
         if tags[p / 32][p % 32] != 0 {
             drop(slots.take(p));
         }
@@ -299,7 +299,7 @@ fn drop_places<E: Drop>(tags: &[[u8; 32]], slots: &mut Slots<E>)
 impl<E: Drop> Drop for Columns<E> {
     fn drop(self) {
         let Columns { tags, mut slots } = self;
-        drop_places(tags.as_slice(), &mut slots);
+        drop_cells(tags.as_slice(), &mut slots);
         slots.destroy_empty();
     }
 }

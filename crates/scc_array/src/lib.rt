@@ -1,7 +1,7 @@
 //! The array of buckets of the hash containers, in two columns: 32 tags a bucket, and 32 places for entries a bucket.
 #![tactic(auto)]
 
-ghost use Rattle.scc_array.specs.Shelf.{shelf_entries, empty_shelf, with_slot, with_overflow, with_entry, next_place, HasTag};
+ghost use Rattle.scc_array.specs.Shelf.{shelf_entries, empty_shelf, with_slot, with_overflow, with_entry, next_slot, HasTag};
 ghost use Rattle.scc_array.specs.Shelves.{shelf_of};
 ghost use Rattle.std.specs.List.{position};
 ghost use Rattle.std.specs.Prelude.{◌≡◌, [], ◌+◌, ◌^◌, ◌≤◌, ◌<◌, ◌↔◌, length, replicate, slice_set, IfOk, IfErr, OnErr, IsFalse, IsTrue, slice_get, Some, None};
@@ -34,7 +34,7 @@ pub struct Array<E> {
 impl<E> Model for Array<E> {
     ghost use Rattle.std.specs.Prelude.{List};
     ghost use Rattle.std.specs.Coded.{coded_list};
-    ghost use Rattle.scc_array.specs.Shelves.{shelves, IsArray, IsFlagged};
+    ghost use Rattle.scc_array.specs.Shelves.{shelves, HasListEach, IsFlagged};
     ghost use Rattle.scc_array.specs.Shelf.{Shelf, shelf_code};
 
     ghost Value = { List (Shelf E) };
@@ -43,7 +43,7 @@ impl<E> Model for Array<E> {
 
     ghost view = { λ a. shelves a.columns a.overflow.items };
 
-    ghost invariant = { λ a. IsArray a.columns a.overflow.items × IsFlagged a.columns a.overflow.items
+    ghost invariant = { λ a. HasListEach a.columns a.overflow.items × IsFlagged a.columns a.overflow.items
         a.crowded.items };
 }
 
@@ -94,28 +94,28 @@ impl<E> Array<E> {
 
     /// Whether the entry at a place lies past the places in use.
     #[inline(always)]
-    pub fn is_overflow(&self, bucket: usize, place: usize) -> bool
+    pub fn is_overflow(&self, bucket: usize, slot: usize) -> bool
         requires bucket { bucket < length self.now }
-        requires place { place < length (shelf_entries (shelf_of self.now bucket)) }
-        ensures { IsTrue result ↔ (length (shelf_of self.now bucket).slots ≤ place) }
+        requires slot { slot < length (shelf_entries (shelf_of self.now bucket)) }
+        ensures { IsTrue result ↔ (length (shelf_of self.now bucket).slots ≤ slot) }
     {
-        place >= self.count_past(bucket, place)
+        slot >= self.slots_before_overflow(bucket, slot)
     }
 
     /// How many places of the bucket are in use, where the entry at the place lies past them; where it doesn't, a
     /// number above that of the place. While no bucket has a list no tag is read.
     #[inline(always)]
-    pub(crate) fn count_past(&self, bucket: usize, place: usize) -> usize
+    pub(crate) fn slots_before_overflow(&self, bucket: usize, slot: usize) -> usize
         requires bucket { bucket < length self.now }
-        requires place { place < length (shelf_entries (shelf_of self.now bucket)) }
-        ensures within { place < result → place < length (shelf_of self.now bucket).slots }
-        ensures past { result ≤ place → result ≡ length (shelf_of self.now bucket).slots }
+        requires slot { slot < length (shelf_entries (shelf_of self.now bucket)) }
+        ensures within { slot < result → slot < length (shelf_of self.now bucket).slots }
+        ensures past { result ≤ slot → result ≡ length (shelf_of self.now bucket).slots }
     {
         // The number comes first: a search that looked at tags has shown it.
-        if place < 32 && self.overflow.len() == 0 {
+        if slot < 32 && self.overflow.len() == 0 {
             return 32;
         }
-        self.columns.count_past(bucket, place)
+        self.columns.slots_before_overflow(bucket, slot)
     }
 
     /// Whether the bucket may have entries past its places.
@@ -171,7 +171,7 @@ impl<E> Array<E> {
         requires bucket { bucket < length self.old }
         requires few { length (shelf_entries (shelf_of self.old bucket)) < 2 ^ 63 }
         requires tag { 0 < tag }
-        ensures ok { IfOk result (λ p. (p ≡ next_place (shelf_of self.old bucket))
+        ensures ok { IfOk result (λ p. (p ≡ next_slot (shelf_of self.old bucket))
             × (self.new ≡ slice_set self.old bucket
             (record (with_entry (shelf_of self.old bucket) entry tag) { room = (shelf_of self.new bucket).room }))) }
         ensures err { IfErr result (λ e. (e ≡ entry)
@@ -214,16 +214,16 @@ impl<E> Array<E> {
 
     /// The entry at a place.
     #[inline(always)]
-    pub fn entry_at(&self, bucket: usize, place: usize) -> &E
+    pub fn entry_at(&self, bucket: usize, slot: usize) -> &E
         requires bucket { bucket < length self.now }
-        requires place { place < length (shelf_entries (shelf_of self.now bucket)) }
-        ensures { slice_get (shelf_entries (shelf_of self.now bucket)) place ≡ Some result.now }
+        requires slot { slot < length (shelf_entries (shelf_of self.now bucket)) }
+        ensures { slice_get (shelf_entries (shelf_of self.now bucket)) slot ≡ Some result.now }
     {
-        let count = self.count_past(bucket, place);
-        if place < count {
-            return self.columns.entry_at(bucket, place);
+        let count = self.slots_before_overflow(bucket, slot);
+        if slot < count {
+            return self.columns.entry_at(bucket, slot);
         }
-        &self.overflow[bucket][place - count]
+        &self.overflow[bucket][slot - count]
     }
 }
 
@@ -241,7 +241,7 @@ where
         ensures { result ≡ position (λ e. E.Key.eq key.now (E.key_of e)) (shelf_entries (shelf_of self.now bucket)) }
     {
         match self.columns.find(bucket, key, tag) {
-            Some(place) => Some(place),
+            Some(slot) => Some(slot),
             None => {
                 if !self.is_crowded(bucket) {
                     return None;

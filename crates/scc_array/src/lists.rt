@@ -74,9 +74,9 @@ pub(crate) fn push_to<E>(lists: &mut Vec<Vec<E>>, bucket: usize, entry: E) -> Re
     ensures { Pushes lists.old.items bucket entry result lists.new.items }
 {
     let list = &mut lists[bucket];
-    let place = 32 + list.len();
+    let slot = 32 + list.len();
     match list.push(entry) {
-        Ok(()) => Ok(place),
+        Ok(()) => Ok(slot),
         Err(refused) => Err(refused.value),
     }
 }

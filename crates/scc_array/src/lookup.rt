@@ -29,14 +29,14 @@ where
                 if !self.is_crowded(bucket) {
                     return None;
                 }
-                self.find_past(bucket, key)
+                self.find_in_overflow(bucket, key)
             }
         }
     }
 
     /// The first entry past the places of the bucket with that key.
     #[cold]
-    pub(crate) fn find_past(&self, bucket: usize, key: &E::Key) -> Option<&E>
+    pub(crate) fn find_in_overflow(&self, bucket: usize, key: &E::Key) -> Option<&E>
         requires { bucket < length self.now }
         ensures { option_copied result ≡ find (λ e. E.Key.eq key.now (E.key_of e)) (shelf_of self.now bucket).overflow }
     {
@@ -65,7 +65,7 @@ where
                 if !self.is_crowded(bucket) {
                     return None;
                 }
-                match self.find_past(bucket, key) {
+                match self.find_in_overflow(bucket, key) {
                     Some(entry) => Some(entry),
                     None => None,
                 }
@@ -88,15 +88,15 @@ impl<E> Array<E> {
     /// The entry at a place, where it is known how many places of the bucket are in use. A walk asks for that once a
     /// bucket.
     #[inline(always)]
-    pub fn entry_of(&self, bucket: usize, place: usize, slots: usize) -> &E
+    pub fn entry_of(&self, bucket: usize, slot: usize, slots: usize) -> &E
         requires bucket { bucket < length self.now }
-        requires place { place < length (shelf_entries (shelf_of self.now bucket)) }
+        requires slot { slot < length (shelf_entries (shelf_of self.now bucket)) }
         requires slots { slots ≡ length (shelf_of self.now bucket).slots }
-        ensures { slice_get (shelf_entries (shelf_of self.now bucket)) place ≡ Some result.now }
+        ensures { slice_get (shelf_entries (shelf_of self.now bucket)) slot ≡ Some result.now }
     {
-        if place < slots {
-            return self.columns.entry_at(bucket, place);
+        if slot < slots {
+            return self.columns.entry_at(bucket, slot);
         }
-        &self.overflow[bucket][place - slots]
+        &self.overflow[bucket][slot - slots]
     }
 }

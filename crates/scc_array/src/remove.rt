@@ -1,7 +1,7 @@
 //! How entries get out of an array, and how it ends without one.
-ghost use Rattle.scc_array.specs.Shelf.{shelf_entries, without_place, swapped_out, HasTag};
+ghost use Rattle.scc_array.specs.Shelf.{shelf_entries, without_slot, swapped_out, HasTag};
 ghost use Rattle.scc_array.specs.Shelves.{shelf_of};
-ghost use Rattle.scc_array.specs.Takes.{TakesInPlaces, TakesPastPlaces};
+ghost use Rattle.scc_array.specs.Takes.{TakesInSlots, TakesInOverflow};
 ghost use Rattle.std.specs.List.{position};
 ghost use Rattle.std.specs.Prelude.{◌≡◌, [], ◌<◌, length, slice_set, slice_get, Some, None, ℕ};
 
@@ -13,34 +13,34 @@ use scc_entry::Keyed;
 impl<E> Array<E> {
     /// Takes an entry out. The entries after it in the places, or in the list past them, move up by one.
     #[inline(always)]
-    pub fn remove_at(&mut self, bucket: usize, place: usize) -> E
+    pub fn remove_at(&mut self, bucket: usize, slot: usize) -> E
         requires bucket { bucket < length self.old }
-        requires place { place < length (shelf_entries (shelf_of self.old bucket)) }
-        ensures entry { slice_get (shelf_entries (shelf_of self.old bucket)) place ≡ Some result }
-        ensures others { self.new ≡ slice_set self.old bucket (without_place (shelf_of self.old bucket) place) }
+        requires slot { slot < length (shelf_entries (shelf_of self.old bucket)) }
+        ensures entry { slice_get (shelf_entries (shelf_of self.old bucket)) slot ≡ Some result }
+        ensures others { self.new ≡ slice_set self.old bucket (without_slot (shelf_of self.old bucket) slot) }
     {
-        let count = self.count_past(bucket, place);
-        if place < count {
-            return self.columns.remove(bucket, place);
+        let count = self.slots_before_overflow(bucket, slot);
+        if slot < count {
+            return self.columns.remove(bucket, slot);
         }
         let list = &mut self.overflow[bucket];
-        list.remove(place - count)
+        list.remove(slot - count)
     }
 
     /// Takes an entry out. The last entry of the places, or of the list past them, takes its place.
     #[inline(always)]
-    pub fn swap_remove_at(&mut self, bucket: usize, place: usize) -> E
+    pub fn swap_remove_at(&mut self, bucket: usize, slot: usize) -> E
         requires bucket { bucket < length self.old }
-        requires place { place < length (shelf_entries (shelf_of self.old bucket)) }
-        ensures entry { slice_get (shelf_entries (shelf_of self.old bucket)) place ≡ Some result }
-        ensures others { self.new ≡ slice_set self.old bucket (swapped_out (shelf_of self.old bucket) place result) }
+        requires slot { slot < length (shelf_entries (shelf_of self.old bucket)) }
+        ensures entry { slice_get (shelf_entries (shelf_of self.old bucket)) slot ≡ Some result }
+        ensures others { self.new ≡ slice_set self.old bucket (swapped_out (shelf_of self.old bucket) slot result) }
     {
-        let count = self.count_past(bucket, place);
-        if place < count {
-            return self.columns.swap_remove(bucket, place);
+        let count = self.slots_before_overflow(bucket, slot);
+        if slot < count {
+            return self.columns.swap_remove(bucket, slot);
         }
         let list = &mut self.overflow[bucket];
-        list.swap_remove(place - count)
+        list.swap_remove(slot - count)
     }
 
     /// Gives the array back, which holds no entry.
@@ -65,24 +65,24 @@ where
     /// Takes out the first entry with that key among those in the places of the bucket, and answers it; the last of
     /// them takes its place. Only places with the tag are compared, in rising order.
     #[inline(always)]
-    pub fn take_in_places(&mut self, bucket: usize, key: &E::Key, tag: u8) -> Option<E>
+    pub fn take_in_slots(&mut self, bucket: usize, key: &E::Key, tag: u8) -> Option<E>
         requires bucket { bucket < length self.old }
         requires tag { 0 < tag }
         requires tagged { HasTag (λ e. E.Key.eq key.now (E.key_of e)) tag (shelf_of self.old bucket) }
-        ensures { TakesInPlaces (λ e. E.Key.eq key.now (E.key_of e)) self.old bucket self.new result }
+        ensures { TakesInSlots (λ e. E.Key.eq key.now (E.key_of e)) self.old bucket self.new result }
     {
         self.columns.take_first(bucket, key, tag)
     }
 
     /// The same past the places, where none of them has the key.
     #[cold]
-    pub fn take_past_places(&mut self, bucket: usize, key: &E::Key) -> Option<E>
+    pub fn take_in_overflow(&mut self, bucket: usize, key: &E::Key) -> Option<E>
         requires bucket { bucket < length self.old }
         requires missed { position (λ e. E.Key.eq key.now (E.key_of e)) (shelf_of self.old bucket).slots ≡ None }
-        ensures { TakesPastPlaces (λ e. E.Key.eq key.now (E.key_of e)) self.old bucket self.new result }
+        ensures { TakesInOverflow (λ e. E.Key.eq key.now (E.key_of e)) self.old bucket self.new result }
     {
         match self.search_list(bucket, key) {
-            Some(place) => Some(self.swap_remove_at(bucket, place)),
+            Some(slot) => Some(self.swap_remove_at(bucket, slot)),
             None => None,
         }
     }

@@ -1,5 +1,5 @@
 //! Room that is made before an entry is there.
-ghost use Rattle.scc_array.specs.Shelf.{shelf_entries, with_entry, with_overflow, next_place, ShelfHasRoom};
+ghost use Rattle.scc_array.specs.Shelf.{shelf_entries, with_entry, with_overflow, next_slot, ShelfHasRoom};
 ghost use Rattle.scc_array.specs.Shelves.{shelf_of};
 ghost use Rattle.std.specs.Prelude.{◌≡◌, ◌≤◌, ◌<◌, ◌+◌, ◌^◌, length, slice_set, IfOk, IfErr, OnOk, OnErr};
 
@@ -17,7 +17,7 @@ impl<E> Array<E> {
 
     /// The entry stands in the next place of the bucket, or at the end of the list past its places, which has room.
     #[inline(always)]
-    pub fn insert_within(&mut self, bucket: usize, entry: E, tag: u8)
+    pub fn insert_in_room(&mut self, bucket: usize, entry: E, tag: u8)
         requires bucket { bucket < length self.old }
         requires room { ShelfHasRoom (shelf_of self.old bucket) }
         requires tag { 0 < tag }
@@ -29,13 +29,13 @@ impl<E> Array<E> {
         if count < 32 {
             self.columns.push_at(bucket, count, entry, tag);
         } else {
-            self.push_within(bucket, entry);
+            self.push_in_room(bucket, entry);
         }
     }
 
     /// The entry stands at the end of the list past the places of the bucket, which has room.
     #[cold]
-    fn push_within(&mut self, bucket: usize, entry: E)
+    fn push_in_room(&mut self, bucket: usize, entry: E)
         requires bucket { bucket < length self.old }
         requires room { length (shelf_of self.old bucket).overflow < (shelf_of self.old bucket).room }
         ensures value { self.new ≡ slice_set self.old bucket
@@ -86,10 +86,10 @@ impl<E> Array<E> {
 
     /// Where the next entry of the bucket will stand.
     #[inline(always)]
-    fn next_place(&self, bucket: usize) -> usize
+    fn next_slot(&self, bucket: usize) -> usize
         requires bucket { bucket < length self.now }
         requires few { length (shelf_entries (shelf_of self.now bucket)) < 2 ^ 63 }
-        ensures { result ≡ next_place (shelf_of self.now bucket) }
+        ensures { result ≡ next_slot (shelf_of self.now bucket) }
     {
         let count = self.columns.count(bucket);
         if count < 32 {
@@ -113,7 +113,7 @@ impl<E: Made> Array<E> {
         requires bucket { bucket < length self.old }
         requires few { length (shelf_entries (shelf_of self.old bucket)) < 2 ^ 63 }
         requires tag { 0 < tag }
-        ensures ok { IfOk result (λ p. (p ≡ next_place (shelf_of self.old bucket))
+        ensures ok { IfOk result (λ p. (p ≡ next_slot (shelf_of self.old bucket))
             × (self.new ≡ slice_set self.old bucket
             (record (with_entry (shelf_of self.old bucket) (E.made_of parts) tag)
             { room = (shelf_of self.new bucket).room }))) }
@@ -125,11 +125,11 @@ impl<E: Made> Array<E> {
             Ok(()) => {}
             Err(_) => return Err(parts),
         }
-        let place = self.next_place(bucket);
+        let slot = self.next_slot(bucket);
         match E::make(self.alloc, parts) {
             Ok(entry) => {
-                self.insert_within(bucket, entry, tag);
-                Ok(place)
+                self.insert_in_room(bucket, entry, tag);
+                Ok(slot)
             }
             Err(parts) => Err(parts),
         }

@@ -1,28 +1,28 @@
 //! The entries of a bucket are parted: some go to other columns, and the others close their ranks.
 ghost use Rattle.scc_array.specs.Shelves.{shelf_of};
 ghost use Rattle.scc_array.specs.Shifts.{Closes};
-ghost use Rattle.scc_array.specs.Sifts.{all_up, kept_of, picked_of, window_with, AreAt, AreKept, AreLeft, Moves, ups, shelf_kept, shelf_with};
+ghost use Rattle.scc_array.specs.Sifts.{all_up, unflagged_of, picked_of, window_with, AreAt, AreUnflagged, AreLeft, MovesCell, ups, shelf_unflagged, shelf_with};
 ghost use Rattle.scc_array.specs.Windows.{Window, window_of};
-ghost use Rattle.scc_slots.specs.Places.{IsFilled};
+ghost use Rattle.scc_slots.specs.CellWords.{IsFilled};
 ghost use Rattle.std.specs.Prelude.{◌≡◌, ◌<◌, ◌≤◌, ◌+◌, ◌^◌, ℕ, length, slice_index_or, None, ◌⊎◌, Bool, List, slice_set};
 
 use crate::Array;
 use crate::columns::Columns;
 use crate::tags::{lowest_bit, tag_mask, without_lowest_bit};
-use scc_slots::Slots;
+use scc_slots::Cells;
 
 /// Moves the entries after the free place up by one, to the last one, and their tags in the row, where the last one is
 /// 0 then. The places of the row begin at `base`. One loop does both, since its end is as good as random.
 #[inline(always)]
 pub(crate) fn close_gap<E>(
-    slots: &mut Slots<E>,
+    slots: &mut Cells<E>,
     row: &mut [u8; 32],
     base: usize,
     gap: usize,
     last: usize,
 )
     requires order { gap ≤ last }
-    requires places { last < 32 }
+    requires cells { last < 32 }
     requires small { base + last < 2 ^ 64 }
     requires within { base + last < length slots.old }
     requires free { slice_index_or slots.old (base + gap) None ≡ None }
@@ -31,7 +31,7 @@ pub(crate) fn close_gap<E>(
     ensures tags { Closes 0 row.old gap last row.new }
 {
     for p in gap..last {
-        slots.move_place(base + p + 1, base + p);
+        slots.move_cell(base + p + 1, base + p);
         let tag = row[p + 1];
         row[p] = tag;
     }
@@ -41,20 +41,20 @@ pub(crate) fn close_gap<E>(
 /// Moves an entry and its tag to an earlier place, which is free, or leaves it where it is. The places of the row begin
 /// at `base`.
 #[inline(always)]
-fn keep_at<E>(slots: &mut Slots<E>, row: &mut [u8; 32], base: usize, from: usize, to: usize)
+fn move_up<E>(slots: &mut Cells<E>, row: &mut [u8; 32], base: usize, from: usize, to: usize)
     requires order { to ≤ from }
-    requires places { from < 32 }
+    requires cells { from < 32 }
     requires small { base + from < 2 ^ 64 }
     requires within { base + from < length slots.old }
     requires filled { IsFilled slots.old (base + from) }
     requires free { to < from → slice_index_or slots.old (base + to) None ≡ None }
-    ensures entries { Moves None slots.old (base + from) (base + to) slots.new }
-    ensures tags { Moves 0 row.old from to row.new }
+    ensures entries { MovesCell None slots.old (base + from) (base + to) slots.new }
+    ensures tags { MovesCell 0 row.old from to row.new }
 {
     if to == from {
         return;
     }
-    slots.move_place(base + from, base + to);
+    slots.move_cell(base + from, base + to);
     let tag = row[from];
     row[to] = tag;
     row[from] = 0;
@@ -64,7 +64,7 @@ fn keep_at<E>(slots: &mut Slots<E>, row: &mut [u8; 32], base: usize, from: usize
 /// Their places are free then. The places of the row begin at `base`.
 #[inline(always)]
 fn pick<E>(
-    slots: &mut Slots<E>,
+    slots: &mut Cells<E>,
     row: &mut [u8; 32],
     base: usize,
     flags: &[u8; 32],
@@ -76,7 +76,7 @@ fn pick<E>(
     requires first { first ≡ length (window_of into.old target).slots }
     requires small { base + 32 < 2 ^ 64 }
     requires within { base + 32 ≤ length slots.old }
-    requires held { (w : Window E) × AreAt slots.old row.old base w × (first + length w.slots ≤ 32) }
+    requires entry_count { (w : Window E) × AreAt slots.old row.old base w × (first + length w.slots ≤ 32) }
     ensures left { (w : Window E) → AreAt slots.old row.old base w → AreLeft slots.new row.new base (ups flags.now) w }
     ensures moved { (w : Window E) → AreAt slots.old row.old base w
         → into.new ≡ slice_set into.old target (window_with (window_of into.old target) (picked_of (ups flags.now) w)) }
@@ -101,12 +101,12 @@ fn pick<E>(
 /// Moves the entries of a row with gaps to its first places, in order. `bits` has a bit for each of them. The places of
 /// the row begin at `base`.
 #[inline(always)]
-fn close_ranks<E>(slots: &mut Slots<E>, row: &mut [u8; 32], base: usize, bits: u32)
+fn close_ranks<E>(slots: &mut Cells<E>, row: &mut [u8; 32], base: usize, bits: u32)
     requires small { base + 32 < 2 ^ 64 }
     requires within { base + 32 ≤ length slots.old }
-    requires held { (fs : List Bool) × (w : Window E) × AreLeft slots.old row.old base fs w × AreKept fs w bits }
-    ensures stays { (fs : List Bool) (w : Window E) → AreLeft slots.old row.old base fs w → AreKept fs w bits
-        → AreAt slots.new row.new base (kept_of fs w) }
+    requires entry_count { (fs : List Bool) × (w : Window E) × AreLeft slots.old row.old base fs w × AreUnflagged fs w bits }
+    ensures stays { (fs : List Bool) (w : Window E) → AreLeft slots.old row.old base fs w → AreUnflagged fs w bits
+        → AreAt slots.new row.new base (unflagged_of fs w) }
     ensures count { length slots.new ≡ length slots.old }
     ensures wide { length row.new ≡ length row.old }
     ensures others { (q : ℕ) → (q < base) ⊎ (base + 32 ≤ q)
@@ -116,7 +116,7 @@ fn close_ranks<E>(slots: &mut Slots<E>, row: &mut [u8; 32], base: usize, bits: u
     let mut stays = 0;
     'ranks: while rest != 0 {
         let p = lowest_bit(rest);
-        keep_at(slots, row, base, p, stays);
+        move_up(slots, row, base, p, stays);
         stays += 1;
         rest = without_lowest_bit(rest);
     }
@@ -127,7 +127,7 @@ fn close_ranks<E>(slots: &mut Slots<E>, row: &mut [u8; 32], base: usize, bits: u
 /// once, and no flag is tested: the loops go by the bits of two masks.
 #[inline(always)]
 pub(crate) fn sift<E>(
-    slots: &mut Slots<E>,
+    slots: &mut Cells<E>,
     row: &mut [u8; 32],
     base: usize,
     flags: &[u8; 32],
@@ -139,9 +139,9 @@ pub(crate) fn sift<E>(
     requires first { first ≡ length (window_of into.old target).slots }
     requires small { base + 32 < 2 ^ 64 }
     requires within { base + 32 ≤ length slots.old }
-    requires held { (w : Window E) × AreAt slots.old row.old base w × (first + length w.slots ≤ 32) }
+    requires entry_count { (w : Window E) × AreAt slots.old row.old base w × (first + length w.slots ≤ 32) }
     ensures stays { (w : Window E) → AreAt slots.old row.old base w
-        → AreAt slots.new row.new base (kept_of (ups flags.now) w) }
+        → AreAt slots.new row.new base (unflagged_of (ups flags.now) w) }
     ensures moved { (w : Window E) → AreAt slots.old row.old base w
         → into.new ≡ slice_set into.old target (window_with (window_of into.old target) (picked_of (ups flags.now) w)) }
     ensures count { length slots.new ≡ length slots.old }
@@ -158,23 +158,23 @@ pub(crate) fn sift<E>(
 /// row begin at `base`, and so many are in use.
 #[inline(always)]
 pub(crate) fn pour<E>(
-    slots: &mut Slots<E>,
+    slots: &mut Cells<E>,
     row: &mut [u8; 32],
     base: usize,
-    held: usize,
+    entry_count: usize,
     into: &mut Columns<E>,
     target: usize,
     first: usize,
 )
     requires target { target < length into.old }
     requires first { first ≡ length (window_of into.old target).slots }
-    requires room { first + held ≤ 32 }
+    requires room { first + entry_count ≤ 32 }
     requires small { base + 32 < 2 ^ 64 }
     requires within { base + 32 ≤ length slots.old }
-    requires held { (w : Window E) × AreAt slots.old row.old base w × (held ≡ length w.slots) }
-    ensures stays { (w : Window E) → AreAt slots.old row.old base w → held ≡ length w.slots
-        → AreAt slots.new row.new base (kept_of all_up w) }
-    ensures moved { (w : Window E) → AreAt slots.old row.old base w → held ≡ length w.slots
+    requires entry_count { (w : Window E) × AreAt slots.old row.old base w × (entry_count ≡ length w.slots) }
+    ensures stays { (w : Window E) → AreAt slots.old row.old base w → entry_count ≡ length w.slots
+        → AreAt slots.new row.new base (unflagged_of all_up w) }
+    ensures moved { (w : Window E) → AreAt slots.old row.old base w → entry_count ≡ length w.slots
         → into.new ≡ slice_set into.old target (window_with (window_of into.old target) (picked_of all_up w)) }
     ensures count { length slots.new ≡ length slots.old }
     ensures wide { length row.new ≡ length row.old }
@@ -182,7 +182,7 @@ pub(crate) fn pour<E>(
         → slice_index_or slots.new q None ≡ slice_index_or slots.old q None }
 {
     let mut next = first;
-    for p in 0..held {
+    for p in 0..entry_count {
         let tag = row[p];
         row[p] = 0;
         let entry = slots.take(base + p);
@@ -200,7 +200,7 @@ impl<E> Array<E> {
         requires bucket { bucket < length self.old }
         requires target { target < length into.old }
         requires room { length (shelf_of into.old target).slots + length (shelf_of self.old bucket).slots ≤ 32 }
-        ensures stays { self.new ≡ slice_set self.old bucket (shelf_kept (ups flags.now) (shelf_of self.old bucket)) }
+        ensures stays { self.new ≡ slice_set self.old bucket (shelf_unflagged (ups flags.now) (shelf_of self.old bucket)) }
         ensures moved { into.new ≡ slice_set into.old target
             (shelf_with (shelf_of into.old target) (ups flags.now) (shelf_of self.old bucket)) }
     {
@@ -214,7 +214,7 @@ impl<E> Array<E> {
         requires bucket { bucket < length self.old }
         requires target { target < length into.old }
         requires room { length (shelf_of into.old target).slots + length (shelf_of self.old bucket).slots ≤ 32 }
-        ensures stays { self.new ≡ slice_set self.old bucket (shelf_kept all_up (shelf_of self.old bucket)) }
+        ensures stays { self.new ≡ slice_set self.old bucket (shelf_unflagged all_up (shelf_of self.old bucket)) }
         ensures moved { into.new ≡ slice_set into.old target
             (shelf_with (shelf_of into.old target) all_up (shelf_of self.old bucket)) }
     {

@@ -37,8 +37,8 @@ where
             (λ e. E.Key.eq key.now (E.Keyed.key_of e)) self.old bucket self.new result }
     {
         match self.columns.find(bucket, key, tag) {
-            Some(place) => {
-                let (own, value) = self.parts_mut_in(bucket, place);
+            Some(slot) => {
+                let (own, value) = self.parts_mut_in(bucket, slot);
                 Some(u(own, value))
             }
             None => {
@@ -67,8 +67,8 @@ where
             (λ e. E.Key.eq key.now (E.Keyed.key_of e)) self.old bucket self.new result }
     {
         match self.search_list(bucket, key) {
-            Some(place) => {
-                let (own, value) = self.parts_mut_at(bucket, place);
+            Some(slot) => {
+                let (own, value) = self.parts_mut_at(bucket, slot);
                 Some(u(own, value))
             }
             None => None,
@@ -79,75 +79,75 @@ where
 impl<E: Valued> Array<E> {
     /// The key of the entry in a place in use, and its value to write.
     #[inline(always)]
-    fn parts_mut_in(&mut self, bucket: usize, place: usize) -> (&E::Key, &mut E::Value)
+    fn parts_mut_in(&mut self, bucket: usize, slot: usize) -> (&E::Key, &mut E::Value)
         requires bucket { bucket < length self.old }
-        requires place { place < length (shelf_of self.old bucket).slots }
-        ensures* writes_back { sem 𝓛 (lends_array_value E.row E.Value.row E.with_value self.entry bucket place
+        requires slot { slot < length (shelf_of self.old bucket).slots }
+        ensures* writes_back { sem 𝓛 (lends_array_value E.row E.Value.row E.with_value self.entry bucket slot
             result.1) }
-        ensures parts { (e : E) × (slice_get (shelf_entries (shelf_of self.old bucket)) place ≡ Some e)
+        ensures parts { (e : E) × (slice_get (shelf_entries (shelf_of self.old bucket)) slot ≡ Some e)
             × (result.0.now ≡ E.Keyed.key_of e) × (result.1.now ≡ E.value_of e) }
     {
-        let entry = self.columns.entry_mut(bucket, place);
+        let entry = self.columns.entry_mut(bucket, slot);
         entry.parts_mut()
     }
 
     /// The key of the entry at the place, and its value to write.
     #[inline(always)]
-    pub fn parts_mut_at(&mut self, bucket: usize, place: usize) -> (&E::Key, &mut E::Value)
+    pub fn parts_mut_at(&mut self, bucket: usize, slot: usize) -> (&E::Key, &mut E::Value)
         requires bucket { bucket < length self.old }
-        requires place { place < length (shelf_entries (shelf_of self.old bucket)) }
-        ensures* writes_back { sem 𝓛 (lends_array_value E.row E.Value.row E.with_value self.entry bucket place
+        requires slot { slot < length (shelf_entries (shelf_of self.old bucket)) }
+        ensures* writes_back { sem 𝓛 (lends_array_value E.row E.Value.row E.with_value self.entry bucket slot
             result.1) }
-        ensures parts { (e : E) × (slice_get (shelf_entries (shelf_of self.old bucket)) place ≡ Some e)
+        ensures parts { (e : E) × (slice_get (shelf_entries (shelf_of self.old bucket)) slot ≡ Some e)
             × (result.0.now ≡ E.Keyed.key_of e) × (result.1.now ≡ E.value_of e) }
     {
-        let count = self.count_past(bucket, place);
-        if place < count {
-            let entry = self.columns.entry_mut(bucket, place);
+        let count = self.slots_before_overflow(bucket, slot);
+        if slot < count {
+            let entry = self.columns.entry_mut(bucket, slot);
             entry.parts_mut()
         } else {
             let list = &mut self.overflow[bucket];
-            let entry = &mut list[place - count];
+            let entry = &mut list[slot - count];
             entry.parts_mut()
         }
     }
 
     /// Puts the key in the place of the one of the entry there, and answers that one.
-    pub fn replace_key_at(&mut self, bucket: usize, place: usize, key: E::Key) -> E::Key
+    pub fn replace_key_at(&mut self, bucket: usize, slot: usize, key: E::Key) -> E::Key
         requires bucket { bucket < length self.old }
-        requires place { place < length (shelf_entries (shelf_of self.old bucket)) }
-        ensures old { (e : E) × (slice_get (shelf_entries (shelf_of self.old bucket)) place ≡ Some e)
+        requires slot { slot < length (shelf_entries (shelf_of self.old bucket)) }
+        ensures old { (e : E) × (slice_get (shelf_entries (shelf_of self.old bucket)) slot ≡ Some e)
             × (result ≡ E.Keyed.key_of e) }
         ensures new { self.new ≡ slice_set self.old bucket
-            (shelf_write_at E.with_key (shelf_of self.old bucket) place key) }
+            (shelf_write_at E.with_key (shelf_of self.old bucket) slot key) }
     {
-        let count = self.count_past(bucket, place);
-        if place < count {
-            let entry = self.columns.entry_mut(bucket, place);
+        let count = self.slots_before_overflow(bucket, slot);
+        if slot < count {
+            let entry = self.columns.entry_mut(bucket, slot);
             return entry.replace_key(key);
         }
         let list = &mut self.overflow[bucket];
-        let entry = &mut list[place - count];
+        let entry = &mut list[slot - count];
         entry.replace_key(key)
     }
 }
 
 impl<E> Array<E> {
     /// Puts the entry in the place of the one there, and answers that one. The tag stays.
-    pub fn replace_at(&mut self, bucket: usize, place: usize, entry: E) -> E
+    pub fn replace_at(&mut self, bucket: usize, slot: usize, entry: E) -> E
         requires bucket { bucket < length self.old }
-        requires place { place < length (shelf_entries (shelf_of self.old bucket)) }
-        ensures old { slice_get (shelf_entries (shelf_of self.old bucket)) place ≡ Some result }
+        requires slot { slot < length (shelf_entries (shelf_of self.old bucket)) }
+        ensures old { slice_get (shelf_entries (shelf_of self.old bucket)) slot ≡ Some result }
         ensures new { self.new ≡ slice_set self.old bucket
-            (shelf_write_at put_whole (shelf_of self.old bucket) place entry) }
+            (shelf_write_at put_whole (shelf_of self.old bucket) slot entry) }
     {
-        let count = self.count_past(bucket, place);
-        if place < count {
-            let there = self.columns.entry_mut(bucket, place);
+        let count = self.slots_before_overflow(bucket, slot);
+        if slot < count {
+            let there = self.columns.entry_mut(bucket, slot);
             return mem::replace(there, entry);
         }
         let list = &mut self.overflow[bucket];
-        let there = &mut list[place - count];
+        let there = &mut list[slot - count];
         mem::replace(there, entry)
     }
 }

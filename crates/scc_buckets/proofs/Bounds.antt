@@ -10,12 +10,12 @@ use Rattle.std.proofs.lemmas.List.Sorted.{IsPermutation-remove, IsPermutation-ma
 use Rattle.std.proofs.lemmas.Map.Keys.{IsDistinct-head, IsDistinct-IsPermutation}
 use native.Mathlib.Decide.{dec_lt}
 use Rattle.scc_array.proofs.ListsLemmas.{get-below, get-is}
-use Rattle.scc_buckets.specs.Bounded.{IsBounded, IsListed, IsResized, IsUnlisted, HasList, KeepsLists}
+use Rattle.scc_buckets.specs.Bounded.{IsBounded, IsListed, IsResized, IsUnlisted, HasList, HasListsOf}
 use Rattle.scc_contents.specs.Routing.{bucket_number}
-use Rattle.scc_contents.specs.Sizes.{IsArray}
-use Rattle.scc_contents.specs.Contents.{Contents, Settings, entries, bucket_count, settings_of, refused_of, list_of, lists_of, spilled_of, IsRouted}
-use Rattle.scc_buckets.specs.Tables.{AllEmpty, IsBuckets, spilled_in}
-use Rattle.scc_array.specs.Shelf.{Shelf, shelf_entries, empty_shelf, with_slot, with_entry, next_place, without_place}
+use Rattle.scc_contents.specs.Sizes.{IsBucketCount}
+use Rattle.scc_contents.specs.Contents.{Contents, Settings, entries, bucket_count, settings_of, refused_of, list_of, lists_of, overflow_of, IsRouted}
+use Rattle.scc_buckets.specs.Tables.{AllEmpty, IsBuckets, overflow_in}
+use Rattle.scc_array.specs.Shelf.{Shelf, shelf_entries, empty_shelf, with_slot, with_entry, next_slot, without_slot}
 use Rattle.scc_buckets.proofs.FindingLemmas.{position_hit, position_cons}
 use Rattle.scc_buckets.proofs.Inserts.{by_answer, none_left}
 use Rattle.scc_buckets.proofs.MakingLemmas.{sums-empty}
@@ -41,7 +41,7 @@ absent-removed p (x ∷ xs) (suc i) n = by_answer (p x)
     (λ y. position_cons p x (remove xs i) y ∙ ap (λ o. option_map suc o) (absent-removed p xs i (absent-rest p x xs n)))
 
 -- an entry in the next slot is an entry put in
-pub slot-entry : {E : Type 0} (b : Shelf E) (e : E) (t : ℕ) → length b.slots < 32 → (with_slot b e t ≡ record (with_entry b e t) { room = (with_slot b e t).room }) × (next_place b ≡ length b.slots)
+pub slot-entry : {E : Type 0} (b : Shelf E) (e : E) (t : ℕ) → length b.slots < 32 → (with_slot b e t ≡ record (with_entry b e t) { room = (with_slot b e t).room }) × (next_slot b ≡ length b.slots)
 slot-entry b e t l = let c : nat_lt (length b.slots) 32 ≡ true = search rules in rw c (refl, refl)
 
 pub stored-slot : {E : Type 0} (b d : Shelf E) (e : E) (t : ℕ) → length b.slots < 32 → d ≡ with_slot b e t → d ≡ record (with_entry b e t) { room = d.room }
@@ -86,7 +86,7 @@ module _ {E S : Type 0} (bs : List (Shelf E)) (s : Settings S) (c : Contents E S
       let over : Shelf E → ℕ = λ x. length x.overflow in
       let m = get_or-le-sum_by over bs i b l in
       let e : over (get_or bs i b) ≡ over b = ap over (sym at) in
-      let n : spilled_in bs ≡ 0 = sym (spilled-view bs s c view) ∙ bounded in
+      let n : overflow_in bs ≡ 0 = sym (spilled-view bs s c view) ∙ bounded in
       omega arith
 
   pub slots-are : shelf_entries b ≡ b.slots
@@ -94,7 +94,7 @@ module _ {E S : Type 0} (bs : List (Shelf E)) (s : Settings S) (c : Contents E S
 
   -- one bucket changed is one list changed
   pub has-list : (d : Shelf E) (es : List E) → shelf_entries d ≡ es → length d.overflow ≡ length b.overflow → HasList c i es (view_of f (set bs i d) s)
-  unfolding lists_of spilled_of settings_of refused_of
+  unfolding lists_of overflow_of settings_of refused_of
   has-list d es w o = record {
     lists = map-set shelf_entries bs i d ∙ ap (set (map shelf_entries bs) i) w ∙ ap (λ z. set z i es) (sym (lists-view bs s c view));
     settings = sym (settings-view bs s c view);
@@ -103,7 +103,7 @@ module _ {E S : Type 0} (bs : List (Shelf E)) (s : Settings S) (c : Contents E S
         let over : Shelf E → ℕ = λ x. length x.overflow in
         let sums = sum_by-set over bs i d b l in
         let e : over (get_or bs i b) ≡ over b = ap over (sym at) in
-        let n : spilled_in bs ≡ 0 = sym (spilled-view bs s c view) ∙ bounded in
+        let n : overflow_in bs ≡ 0 = sym (spilled-view bs s c view) ∙ bounded in
         omega (arith, o);
   }
 
@@ -112,14 +112,14 @@ module _ {E S : Type 0} (bs : List (Shelf E)) (s : Settings S) (c : Contents E S
       let none = nil_from_length b.overflow overflow-less in
       ap shelf_entries w ∙ ap (λ z. (b.slots ++ e ∷ []) ++ z) none ∙ append-nil (b.slots ++ e ∷ []) ∙ ap (λ z. z ++ e ∷ []) (sym slots-are)
 
-  pub removed-list : (d : Shelf E) (k : ℕ) → k < length (shelf_entries b) → d ≡ without_place b k → HasList c i (remove (list_of c i) k) (view_of f (set bs i d) s)
+  pub removed-list : (d : Shelf E) (k : ℕ) → k < length (shelf_entries b) → d ≡ without_slot b k → HasList c i (remove (list_of c i) k) (view_of f (set bs i d) s)
   removed-list d k lk w =
       let none = overflow-less in
       let here = list-view bs s c view i b l at in
       let low : k < length b.slots = let m = ap length slots-are in omega arith in
       has-list d (remove (list_of c i) k) (ap shelf_entries w ∙ entries_without b k lk ∙ ap (λ z. remove z k) (sym here)) (ap (λ x. length x.overflow) w ∙ (overflow_without b k lk).0 low)
 
-  pub removed-short : (d : Shelf E) (k : ℕ) → k < length (shelf_entries b) → d ≡ without_place b k → length b.slots ≤ 32 → length (list_of (view_of f (set bs i d) s) i) < 32
+  pub removed-short : (d : Shelf E) (k : ℕ) → k < length (shelf_entries b) → d ≡ without_slot b k → length b.slots ≤ 32 → length (list_of (view_of f (set bs i d) s) i) < 32
   removed-short d k lk w h =
       let here = list-view bs s c view i b l at in
       let il : i < bucket_count c = rw (count-view bs s c view) l in
@@ -130,10 +130,10 @@ module _ {E S : Type 0} (bs : List (Shelf E)) (s : Settings S) (c : Contents E S
 
 -- an empty table is a resize of one without entries
 pub bounded-fresh : {E S : Type 0} (f : Bool × Bool) (bs : List (Shelf E)) (s : Settings S) → AllEmpty bs → IsBounded (view_of f bs s)
-unfolding spilled_of
+unfolding overflow_of
 bounded-fresh f bs s h = (sums-empty bs h).1
 
-pub resized-fresh : {E S : Type 0} (hash : E → ℕ) (f : Bool × Bool) (bs : List (Shelf E)) (s : Settings S) (c : Contents E S) → entries c ≡ [] → AllEmpty bs → IsArray (length bs) → s ≡ settings_of c → IsResized hash c (view_of f bs s)
+pub resized-fresh : {E S : Type 0} (hash : E → ℕ) (f : Bool × Bool) (bs : List (Shelf E)) (s : Settings S) (c : Contents E S) → entries c ≡ [] → AllEmpty bs → IsBucketCount (length bs) → s ≡ settings_of c → IsResized hash c (view_of f bs s)
 unfolding list_of
 resized-fresh {E} {S} hash f bs s c none h a e =
     let d : Contents E S = view_of f bs s in
@@ -201,10 +201,10 @@ module _ {E S : Type 0} (hash : E → ℕ) (n o : ℕ) (bs : List (Shelf E)) (s 
     routed = routed-view.routed;
   }
 
-pub keeps-count : {E S : Type 0} (c d : Contents E S) → KeepsLists c d → bucket_count d ≡ bucket_count c
+pub keeps-count : {E S : Type 0} (c d : Contents E S) → HasListsOf c d → bucket_count d ≡ bucket_count c
 unfolding bucket_count lists_of
 keeps-count c d k = ap length k.lists
 
-pub keeps-entries : {E S : Type 0} (c d : Contents E S) → KeepsLists c d → entries d ≡ entries c
+pub keeps-entries : {E S : Type 0} (c d : Contents E S) → HasListsOf c d → entries d ≡ entries c
 unfolding entries lists_of
 keeps-entries c d k = ap (flat_map (λ l. l)) k.lists

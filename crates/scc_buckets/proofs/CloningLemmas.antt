@@ -5,7 +5,7 @@ use Rattle.std.specs.List.Sorted.{IsPermutation}
 use Rattle.std.proofs.lemmas.List.Sorted.{IsPermutation-append_comm, IsPermutation-append_left, IsPermutation-append_right, IsPermutation-trans, IsPermutation-refl}
 use Rattle.scc_contents.specs.Clones.{AddsClones, HasClones}
 use Rattle.scc_contents.specs.Contents.{Contents, entries, bucket_count, settings_of}
-use Rattle.scc_contents.specs.Sizes.{IsLawful, IsArray}
+use Rattle.scc_contents.specs.Sizes.{IsLawful, IsBucketCount}
 
 zip-append : {E : Type 0} (C : E → E → Type 0) (xs cs ys ds : List E) → AllZip C xs cs → AllZip C ys ds → AllZip C (xs ++ ys) (cs ++ ds)
 zip-append C [] [] ys ds h k = k
@@ -57,7 +57,7 @@ module _ {E S : Type 0} (C : E → E → Type 0) where
       }
 
 -- a lawful number of buckets that isn't 0 is that of an array
-pub array-of_some : (n : ℕ) → IsLawful n → (n ≡ 0 → ⊥) → IsArray n
+pub array-of_some : (n : ℕ) → IsLawful n → (n ≡ 0 → ⊥) → IsBucketCount n
 array-of_some n (inl none) some = absurd (some none)
 array-of_some n (inr array) some = array
 

@@ -14,7 +14,7 @@ use native.Mathlib.Decide.{dec_lt}
 use Rattle.scc_contents.specs.Contents.{Contents, Settings, entries, bucket_count, settings_of, list_of}
 use Rattle.scc_buckets.specs.Places.{IsInsertedAtSpot, index_of_spot}
 use Rattle.scc_contents.specs.Routing.{bucket_number, tag_of}
-use Rattle.scc_array.specs.Shelf.{Shelf, shelf_entries, with_entry, next_place}
+use Rattle.scc_array.specs.Shelf.{Shelf, shelf_entries, with_entry, next_slot}
 use Rattle.scc_contents.specs.Steps.{Holds, IsUnchanged}
 use Rattle.scc_contents.specs.Sizes.{IsLawful}
 use Rattle.scc_buckets.specs.Tables.{IsOwn, IsBuckets}
@@ -55,7 +55,7 @@ table_set hash t n o m q i bs b c h l at own w v few =
           ]);
     }
 
-pub entries_insert : {E : Type 0} (b : Shelf E) (e : E) (t : ℕ) → shelf_entries (with_entry b e t) ≡ insert (shelf_entries b) (next_place b) e
+pub entries_insert : {E : Type 0} (b : Shelf E) (e : E) (t : ℕ) → shelf_entries (with_entry b e t) ≡ insert (shelf_entries b) (next_slot b) e
 entries_insert b e t = elim (dec_lt (length b.slots) 32) [
   | yes q ↦
       let c : nat_lt (length b.slots) 32 ≡ true = search rules in
@@ -65,7 +65,7 @@ entries_insert b e t = elim (dec_lt (length b.slots) 32) [
       rw c (sym (insert_end (b.slots ++ b.overflow) e ∙ append_assoc b.slots b.overflow (e ∷ [])))
 ]
 
-pub place_le : {E : Type 0} (b : Shelf E) → next_place b ≤ length (shelf_entries b)
+pub place_le : {E : Type 0} (b : Shelf E) → next_slot b ≤ length (shelf_entries b)
 place_le b = elim (dec_lt (length b.slots) 32) [
   | yes q ↦ let c : nat_lt (length b.slots) 32 ≡ true = search rules in rw c (omega (arith, length-append b.slots b.overflow))
   | no q ↦ let c : nat_lt (length b.slots) 32 ≡ false = let r : 32 ≤ length b.slots = omega arith in search rules in rw c (omega arith)
@@ -85,7 +85,7 @@ slots_push b e t h = elim (dec_lt (length b.slots) 32) [
 
 -- whether the overflow list grew shows in the place
 pub overflow_push : {E : Type 0} (b : Shelf E) (e : E) (t : ℕ) → length b.slots ≤ 32
-    → (next_place b < 32 → (length (with_entry b e t).overflow ≡ length b.overflow) × (length b.slots < 32)) × (32 ≤ next_place b → (length (with_entry b e t).overflow ≡ length b.overflow + 1) × (32 ≤ length b.slots))
+    → (next_slot b < 32 → (length (with_entry b e t).overflow ≡ length b.overflow) × (length b.slots < 32)) × (32 ≤ next_slot b → (length (with_entry b e t).overflow ≡ length b.overflow + 1) × (32 ≤ length b.slots))
 overflow_push b e t h = elim (dec_lt (length b.slots) 32) [
   | yes q ↦ let c : nat_lt (length b.slots) 32 ≡ true = search rules in rw c (λ z. (refl, q), λ z. absurd (omega arith))
   | no q ↦ let c : nat_lt (length b.slots) 32 ≡ false = let r : 32 ≤ length b.slots = omega arith in search rules in
@@ -110,9 +110,9 @@ own_push : {E : Type 0} (hash : E → ℕ) (t k i : ℕ) (b c : Shelf E) (e : E)
 own_push hash t k i b c e o h w = record {
   tagged = ap (λ x. x.tags) w ∙ tags_push hash b e o.tagged ∙ sym (ap (λ x. map (λ y. tag_of (hash y)) x.slots) w);
   routed = λ j d l.
-      let all : shelf_entries c ≡ insert (shelf_entries b) (next_place b) e = ap shelf_entries w ∙ entries_insert b e _ in
+      let all : shelf_entries c ≡ insert (shelf_entries b) (next_slot b) e = ap shelf_entries w ∙ entries_insert b e _ in
       ap (λ z. bucket_number t k (hash (get_or z j d))) all
-      ∙ routed_insert (λ x. bucket_number t k (hash x)) i (next_place b) (shelf_entries b) e o.routed (sym h) (place_le b) j d (subst (λ z. j < length z) all l);
+      ∙ routed_insert (λ x. bucket_number t k (hash x)) i (next_slot b) (shelf_entries b) e o.routed (sym h) (place_le b) j d (subst (λ z. j < length z) all l);
   within = rw w (slots_push b e _ o.within);
 }
 
@@ -174,7 +174,7 @@ module _ {E S : Type 0} (hash : E → ℕ) (t n o i : ℕ) (bs : List (Shelf E))
   unfolding entries
   entries-lists = ap (λ (x : Contents E S). flat_map (λ l. l) x.lists) (sym view)
 
-  module _ (d : Shelf E) (e : E) (slot : ℕ) (new : d ≡ record (with_entry b e (tag_of (hash e))) { room = d.room }) (place : slot ≡ next_place b) where
+  module _ (d : Shelf E) (e : E) (slot : ℕ) (new : d ≡ record (with_entry b e (tag_of (hash e))) { room = d.room }) (place : slot ≡ next_slot b) where
     new-list : shelf_entries d ≡ insert (get_or (map shelf_entries bs) i []) slot e
     new-list = ap shelf_entries new ∙ entries_insert b e _ ∙ ap (λ k. insert (shelf_entries b) k e) (sym place) ∙ ap (λ z. insert z slot e) (sym list-here)
 
@@ -227,7 +227,7 @@ module _ {E S : Type 0} (hash : E → ℕ) (t n o i : ℕ) (bs : List (Shelf E))
 
     pub inserted-table : (q : ℕ) → i ≡ bucket_number t (length bs) (hash e) → q + length b.overflow ≡ o + length d.overflow → q < 2 ^ 62 → IsBuckets hash t (set bs i d) (n + 1) q
     inserted-table q r v few =
-        let grown : length (shelf_entries d) ≡ length (shelf_entries b) + 1 = ap (λ x. length (shelf_entries x)) new ∙ ap length (entries_insert b e _) ∙ length-insert (shelf_entries b) (next_place b) e (place_le b) in
+        let grown : length (shelf_entries d) ≡ length (shelf_entries b) + 1 = ap (λ x. length (shelf_entries x)) new ∙ ap length (entries_insert b e _) ∙ length-insert (shelf_entries b) (next_slot b) e (place_le b) in
         table_set hash t n o (n + 1) q i bs b d h l at (own_push hash t (length bs) i b d e (h.own i b l at) r new) (omega arith) v few
 
     pub overflow-full : 32 ≤ slot → 32 ≤ length b.slots

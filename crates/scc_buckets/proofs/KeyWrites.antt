@@ -126,4 +126,4 @@ key-got c p within q e got =
 
 -- where the number of buckets stays, nothing grew
 pub grows-same : {E S : Type 0} (c d : Contents E S) → bucket_count d ≡ bucket_count c → Grows c d
-grows-same c d e = record { first = λ z n. absurd (n e); half = λ z n. absurd (n e); below = λ z n. absurd (n e); doubled = λ z n. absurd (n e); settled = λ z n. absurd (n e) }
+grows-same c d e = record { first = λ z n. absurd (n e); half = λ z n. absurd (n e); below = λ z n. absurd (n e); doubled = λ z n. absurd (n e); not_waiting = λ z n. absurd (n e) }

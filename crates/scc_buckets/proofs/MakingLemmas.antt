@@ -7,8 +7,8 @@ use Rattle.std.proofs.lemmas.List.{nil_from_length}
 use Rattle.std.proofs.lemmas.List.Sums.{sum_by-cons}
 use Rattle.scc_contents.specs.Routing.{tag_of}
 use Rattle.scc_array.specs.Shelf.{Shelf, shelf_entries}
-use Rattle.scc_contents.specs.Sizes.{IsArray, IsLawful}
-use Rattle.scc_buckets.specs.Tables.{IsBuckets, IsKept, AllEmpty}
+use Rattle.scc_contents.specs.Sizes.{IsBucketCount, IsLawful}
+use Rattle.scc_buckets.specs.Tables.{IsBuckets, AreBuckets, AllEmpty}
 
 pub flat-empty : {E : Type 0} (bs : List (Shelf E)) → AllEmpty bs → flat_map shelf_entries bs ≡ []
 flat-empty [] h = refl
@@ -50,7 +50,7 @@ table-empty hash t bs h size =
           };
     }
 
-pub kept-empty : {E K : Type 0} (eq : K → K → Bool) (key : E → K) (hash : K → ℕ) (t minimum : ℕ) (bs : List (Shelf E)) → AllEmpty bs → IsLawful (length bs) → t ≤ 4 → minimum ≤ 2 ^ 63 → IsKept eq key hash t minimum bs 0 0
+pub kept-empty : {E K : Type 0} (eq : K → K → Bool) (key : E → K) (hash : K → ℕ) (t minimum : ℕ) (bs : List (Shelf E)) → AllEmpty bs → IsLawful (length bs) → t ≤ 4 → minimum ≤ 2 ^ 63 → AreBuckets eq key hash t minimum bs 0 0
 unfolding IsDistinct
 kept-empty eq key hash t minimum bs h size few small =
     record { table = table-empty (λ e. hash (key e)) t bs h size; few_bits = few; small_minimum = small; unique = rw (flat-empty bs h) tt }
@@ -58,7 +58,7 @@ kept-empty eq key hash t minimum bs h size few small =
 pub none-empty : {E : Type 0} → AllEmpty {E = E} []
 none-empty = record { empty = λ i b l at. absurd (omega arith) }
 
-pub kept-none : {E K : Type 0} (eq : K → K → Bool) (key : E → K) (hash : K → ℕ) (t minimum : ℕ) → t ≤ 4 → minimum ≤ 2 ^ 63 → IsKept eq key hash t minimum [] 0 0
+pub kept-none : {E K : Type 0} (eq : K → K → Bool) (key : E → K) (hash : K → ℕ) (t minimum : ℕ) → t ≤ 4 → minimum ≤ 2 ^ 63 → AreBuckets eq key hash t minimum [] 0 0
 kept-none eq key hash t minimum few small = kept-empty eq key hash t minimum [] none-empty (inl refl) few small
 
 -- without buckets nothing is counted
@@ -66,8 +66,8 @@ pub counts-none : {E : Type 0} (hash : E → ℕ) (t n o : ℕ) (bs : List (Shel
 counts-none hash t n o [] l h = (h.counted, h.spilled)
 counts-none hash t n o (b ∷ bs) l h = absurd (omega arith)
 
-pub kept-fresh : {E K : Type 0} (eq : K → K → Bool) (key : E → K) (hash : K → ℕ) (t minimum count n o : ℕ) (bs : List (Shelf E)) → AllEmpty bs → length bs ≡ count → IsArray count → t ≤ 4 → minimum ≤ 2 ^ 63 → n ≡ 0 → o ≡ 0
-    → IsKept eq key hash t minimum bs n o
+pub kept-fresh : {E K : Type 0} (eq : K → K → Bool) (key : E → K) (hash : K → ℕ) (t minimum count n o : ℕ) (bs : List (Shelf E)) → AllEmpty bs → length bs ≡ count → IsBucketCount count → t ≤ 4 → minimum ≤ 2 ^ 63 → n ≡ 0 → o ≡ 0
+    → AreBuckets eq key hash t minimum bs n o
 kept-fresh eq key hash t minimum count n o bs h e a few small en eo = rw (en, eo) (kept-empty eq key hash t minimum bs h (inr (rw e a)) few small)
 
 -- an empty table has no entries

@@ -111,7 +111,7 @@ module _ {E F S : Type 0} (f : E → F) where
     half = rw (bucket_count-mapped c, bucket_count-mapped d, length-mapped c) h.half;
     below = rw (bucket_count-mapped c, bucket_count-mapped d) h.below;
     doubled = rw (bucket_count-mapped c, bucket_count-mapped d) h.doubled;
-    settled = λ some ne. pending_of-mapped c ∙ h.settled (rw (bucket_count-mapped c) at some) (rw (bucket_count-mapped c, bucket_count-mapped d) at ne);
+    not_waiting = λ some ne. pending_of-mapped c ∙ h.not_waiting (rw (bucket_count-mapped c) at some) (rw (bucket_count-mapped c, bucket_count-mapped d) at ne);
   }
 
   pub FirstArrayWhenDue-mapped : (c d : Contents E S) → FirstArrayWhenDue c d → FirstArrayWhenDue (mapped f c) (mapped f d)

@@ -1,7 +1,7 @@
 -- Powers of two.
 use Rattle.std.proofs.Common.{◌≡◌, ℕ, ◌+◌, ◌-◌, ◌*◌, ◌/◌, ◌^◌, ◌<◌, ◌≤◌, inl, inr, max, sym, ap, ◌∙◌, subst, refl, arith}
 use Rattle.std.specs.Int.{IsPowerOfTwo}
-use Rattle.scc_contents.specs.Sizes.{IsArray, IsArraySize, IsLawful, IsSmaller}
+use Rattle.scc_contents.specs.Sizes.{IsBucketCount, IsArraySize, IsLawful, IsSmaller}
 use native.Mathlib.Decide.{dec_lt}
 use lib.Pow.{pow_mono, pow-add}
 
@@ -40,13 +40,13 @@ by_32 p k e l = elim (dec_lt k 5) [
       (omega arith, omega arith)
 ]
 
-pub array-of_size : (n p : ℕ) → IsArraySize n p → IsArray (p / 32) × (32 * (p / 32) ≡ p)
+pub array-of_size : (n p : ℕ) → IsArraySize n p → IsBucketCount (p / 32) × (32 * (p / 32) ≡ p)
 array-of_size n p h =
     let b = by_32 p h.power.0 h.power.1 h.least in
     (record { power = (h.power.0 - 5, b.0); least = omega (arith, h.least); most = omega (arith, h.most) }, b.1)
 
 -- twice an array's buckets may be an array's
-pub double-array : (n : ℕ) → IsLawful n → 0 < n → n < 2 ^ 58 → IsArray (2 * n)
+pub double-array : (n : ℕ) → IsLawful n → 0 < n → n < 2 ^ 58 → IsBucketCount (2 * n)
 double-array n h pos l = elim h [
   | inl z ↦ absurd (omega arith)
   | inr a ↦
@@ -70,10 +70,10 @@ size-once n p q a b =
     let m = b.fewest p a.power a.least a.enough in
     omega arith
 
-pub max-array : (a b : ℕ) → IsArray a → IsArray b → IsArray (max a b)
+pub max-array : (a b : ℕ) → IsBucketCount a → IsBucketCount b → IsBucketCount (max a b)
 max-array a b p q = elim (dec_lt a b) [
-  | yes h ↦ let e : b ≡ max a b = omega arith in subst IsArray e q
-  | no h ↦ let e : a ≡ max a b = omega arith in subst IsArray e p
+  | yes h ↦ let e : b ≡ max a b = omega arith in subst IsBucketCount e q
+  | no h ↦ let e : a ≡ max a b = omega arith in subst IsBucketCount e p
 ]
 
 -- the number of buckets that an array may shrink to is the greater of two

@@ -11,7 +11,7 @@ use native.Mathlib.Decide.{dec_lt}
 use Rattle.scc_contents.specs.Contents.{Contents, Settings, entries, bucket_count, settings_of, IsUniqueBy}
 use Rattle.scc_buckets.specs.Places.{index_of_spot}
 use Rattle.scc_contents.specs.Routing.{bucket_number, tag_of}
-use Rattle.scc_array.specs.Shelf.{Shelf, shelf_entries, without_place}
+use Rattle.scc_array.specs.Shelf.{Shelf, shelf_entries, without_slot}
 use Rattle.scc_contents.specs.Steps.{HoldsExactly}
 use Rattle.scc_buckets.specs.Tables.{IsOwn, IsBuckets}
 use Rattle.scc_buckets.specs.declared.place.Place.{Place}
@@ -27,33 +27,33 @@ map-remove f (x ∷ xs) zero = refl
 map-remove f (x ∷ xs) (suc i) = ap (λ z. f x ∷ z) (map-remove f xs i)
 
 module _ {E : Type 0} (b : Shelf E) (k : ℕ) (lk : k < length (shelf_entries b)) where
-  pub entries_without : shelf_entries (without_place b k) ≡ remove (shelf_entries b) k
+  pub entries_without : shelf_entries (without_slot b k) ≡ remove (shelf_entries b) k
   entries_without = elim (dec_lt k (length b.slots)) [
     | yes q ↦ let c : nat_lt k (length b.slots) ≡ true = search rules in rw c (sym (remove-append_left b.slots b.overflow k q))
     | no q ↦ let far : length b.slots ≤ k = omega arith in let c : nat_lt k (length b.slots) ≡ false = search rules in
         rw c (sym (remove-append_right b.slots b.overflow (length b.slots) k refl far))
   ]
 
-  pub overflow_without : (k < length b.slots → length (without_place b k).overflow ≡ length b.overflow) × (length b.slots ≤ k → length (without_place b k).overflow + 1 ≡ length b.overflow)
+  pub overflow_without : (k < length b.slots → length (without_slot b k).overflow ≡ length b.overflow) × (length b.slots ≤ k → length (without_slot b k).overflow + 1 ≡ length b.overflow)
   overflow_without = elim (dec_lt k (length b.slots)) [
     | yes q ↦ let c : nat_lt k (length b.slots) ≡ true = search rules in rw c (λ z. refl, λ z. absurd (omega arith))
     | no q ↦ let far : length b.slots ≤ k = omega arith in let c : nat_lt k (length b.slots) ≡ false = search rules in
         rw c (λ z. absurd (omega arith), λ z. length-remove b.overflow (k - length b.slots) (omega (arith, length-append b.slots b.overflow)))
   ]
 
-  slots_without : length b.slots ≤ 32 → length (without_place b k).slots ≤ 32
+  slots_without : length b.slots ≤ 32 → length (without_slot b k).slots ≤ 32
   slots_without h = elim (dec_lt k (length b.slots)) [
     | yes q ↦ let c : nat_lt k (length b.slots) ≡ true = search rules in rw c (omega (arith, length-remove b.slots k q))
     | no q ↦ let far : length b.slots ≤ k = omega arith in let c : nat_lt k (length b.slots) ≡ false = search rules in rw c h
   ]
 
-  tags_without : (f : E → ℕ) → b.tags ≡ map f b.slots → (without_place b k).tags ≡ map f (without_place b k).slots
+  tags_without : (f : E → ℕ) → b.tags ≡ map f b.slots → (without_slot b k).tags ≡ map f (without_slot b k).slots
   tags_without f h = elim (dec_lt k (length b.slots)) [
     | yes q ↦ let c : nat_lt k (length b.slots) ≡ true = search rules in rw c (ap (λ z. remove z k) h ∙ map-remove f b.slots k)
     | no q ↦ let far : length b.slots ≤ k = omega arith in let c : nat_lt k (length b.slots) ≡ false = search rules in rw c h
   ]
 
-  pub own_without : (hash : E → ℕ) (t m i : ℕ) → IsOwn hash t m i b → IsOwn hash t m i (without_place b k)
+  pub own_without : (hash : E → ℕ) (t m i : ℕ) → IsOwn hash t m i b → IsOwn hash t m i (without_slot b k)
   own_without hash t m i o = record {
     tagged = tags_without (λ e. tag_of (hash e)) o.tagged;
     routed = λ j d lj.
@@ -73,7 +73,7 @@ unique-removed {eq = eq} laws key es i x l at d =
     IsDistinct-tail eq (key x) (map key (remove es i)) (IsDistinct-IsPermutation eq laws.symm (map key es) (key x ∷ map key (remove es i)) (IsPermutation-map key es (x ∷ remove es i) (IsPermutation-remove es i x l at)) d)
 
 module _ {E S : Type 0} (hash : E → ℕ) (t n o : ℕ) (p : Place) (bs : List (Shelf E)) (h : IsBuckets hash t bs n o) (s : Settings S) {f : Bool × Bool} (c : Contents E S) (view : view_of f bs s ≡ c) (b : Shelf E) (l : p.bucket < length bs) (at : b ≡ get_or bs p.bucket b)
-    (lk : p.slot < length (shelf_entries b)) (d : Shelf E) (new : d ≡ without_place b p.slot) where
+    (lk : p.slot < length (shelf_entries b)) (d : Shelf E) (new : d ≡ without_slot b p.slot) where
   list-there : get_or (map shelf_entries bs) p.bucket [] ≡ shelf_entries b
   list-there = get_or-map shelf_entries bs p.bucket b [] l ∙ ap shelf_entries (sym at)
 
@@ -99,7 +99,7 @@ module _ {E S : Type 0} (hash : E → ℕ) (t n o : ℕ) (p : Place) (bs : List 
       let one = at-least-one in
       let spilled = at-least-spilled in
       let w = overflow_without b p.slot lk in
-      let over : length d.overflow ≡ length (without_place b p.slot).overflow = ap (λ x. length x.overflow) new in
+      let over : length d.overflow ≡ length (without_slot b p.slot).overflow = ap (λ x. length x.overflow) new in
       let few = h.few in
       elim (dec_lt p.slot (length b.slots)) [
         | yes q ↦

@@ -8,7 +8,7 @@ use native.Mathlib.Decide.{dec_lt}
 use Rattle.scc_contents.specs.Contents.{Contents, entries, bucket_count, settings_of, minimum_of, refused_of}
 use Rattle.scc_buckets.specs.Places.{IsInsertedAtSpot}
 use Rattle.scc_buckets.specs.Pour.{IsRegrouped}
-use Rattle.scc_contents.specs.Sizes.{IsArray, IsArraySize, IsSmaller}
+use Rattle.scc_contents.specs.Sizes.{IsBucketCount, IsArraySize, IsSmaller}
 use Rattle.scc_contents.specs.Steps.{Holds, KeepsSize, IsShrunk, IsUnchanged, Resizes, ReachesMinimumWhenDue, Rests, Shrinks, ShrinksWhenDue}
 use Rattle.scc_buckets.specs.declared.place.Place.{Place}
 use Rattle.scc_buckets.proofs.FindingLemmas.{position_hit, position_cons, position_none}
@@ -28,7 +28,7 @@ absent-permuted p xs ys h n = position_none p ys (record { fails = All-permutati
 module _ {E S : Type 0} where
   pub keeps-size_then : (a b c : Contents E S) → settings_of b ≡ settings_of a → KeepsSize a b → KeepsSize b c → KeepsSize a c
   keeps-size_then a b c e p q = record {
-    lawful = elim q.lawful [ inl z ↦ elim p.lawful [ inl y ↦ inl (z ∙ y) | inr y ↦ inr (subst IsArray (sym z) y) ] | inr z ↦ inr z ];
+    lawful = elim q.lawful [ inl z ↦ elim p.lawful [ inl y ↦ inl (z ∙ y) | inr y ↦ inr (subst IsBucketCount (sym z) y) ] | inr z ↦ inr z ];
     minimum = λ less.
         let same : minimum_of b ≡ minimum_of a = ap (λ s. s.asked + s.reserved) e in
         elim (dec_lt (bucket_count c) (bucket_count b)) [
@@ -74,7 +74,7 @@ module _ {E S : Type 0} where
   }
 
   -- a resize to a lawful number of buckets, not below the minimum
-  pub regrouped-resizes : (hash : E → ℕ) (n : ℕ) (a b : Contents E S) → IsRegrouped hash n a b → IsPermutation (entries a) (entries b) → IsArray n → (n < bucket_count a → minimum_of a ≤ 32 * n) → Resizes a b
+  pub regrouped-resizes : (hash : E → ℕ) (n : ℕ) (a b : Contents E S) → IsRegrouped hash n a b → IsPermutation (entries a) (entries b) → IsBucketCount n → (n < bucket_count a → minimum_of a ≤ 32 * n) → Resizes a b
   regrouped-resizes hash n a b g h w m = record {
     same = h;
     size = record { lawful = inr (rw g.count w); minimum = λ less. rw g.count (m (rw g.count at less)) };
@@ -82,7 +82,7 @@ module _ {E S : Type 0} where
   }
 
   -- a resize to fewer buckets, of the greater of two sizes
-  pub regrouped-shrunk : (hash : E → ℕ) (k l : ℕ) (a b : Contents E S) → IsRegrouped hash (max k l) a b → IsPermutation (entries a) (entries b) → IsArray k → IsArray l → IsArraySize (minimum_of a) (32 * k) → IsArraySize (2 * length (entries a)) (32 * l)
+  pub regrouped-shrunk : (hash : E → ℕ) (k l : ℕ) (a b : Contents E S) → IsRegrouped hash (max k l) a b → IsPermutation (entries a) (entries b) → IsBucketCount k → IsBucketCount l → IsArraySize (minimum_of a) (32 * k) → IsArraySize (2 * length (entries a)) (32 * l)
       → minimum_of a ≤ 2 ^ 63 → length (entries a) ≤ 4 * bucket_count a → max k l < bucket_count a → IsShrunk a b
   regrouped-shrunk hash k l a b g h w v sm sl small few less = record {
     resizes = regrouped-resizes hash (max k l) a b g h (max-array k l w v) (λ z. omega (arith, sm.enough));

@@ -5,7 +5,7 @@ use Rattle.std.proofs.lemmas.List.{map-set}
 use Rattle.std.proofs.lemmas.List.Edits.{length-remove}
 use Rattle.scc_contents.specs.Contents.{Contents, Settings, entries, bucket_count, list_of}
 use Rattle.scc_buckets.specs.Places.{IsSpot, index_of_spot}
-use Rattle.scc_array.specs.Shelf.{Shelf, shelf_entries, without_place}
+use Rattle.scc_array.specs.Shelf.{Shelf, shelf_entries, without_slot}
 use Rattle.scc_buckets.specs.declared.place.Place.{Place}
 use Rattle.scc_buckets.proofs.Removes.{entries_without}
 use Rattle.scc_array.proofs.ListsLemmas.{get-below}
@@ -74,7 +74,7 @@ take-set [] (suc i) x = refl
 take-set (y ∷ xs) zero x = refl
 take-set (y ∷ xs) (suc i) x = ap (λ z. y ∷ z) (take-set xs i x)
 
-module _ {E S : Type 0} (p : Place) (bs : List (Shelf E)) (s : Settings S) {f : Bool × Bool} (c : Contents E S) (view : view_of f bs s ≡ c) (b : Shelf E) (l : p.bucket < length bs) (lk : p.slot < length (shelf_entries b)) (d : Shelf E) (new : d ≡ without_place b p.slot) where
+module _ {E S : Type 0} (p : Place) (bs : List (Shelf E)) (s : Settings S) {f : Bool × Bool} (c : Contents E S) (view : view_of f bs s ≡ c) (b : Shelf E) (l : p.bucket < length bs) (lk : p.slot < length (shelf_entries b)) (d : Shelf E) (new : d ≡ without_slot b p.slot) where
   -- as many entries stand before a place once the one there is taken out
   pub taken-index : index_of_spot (view_of f (set bs p.bucket d) s) p ≡ index_of_spot c p
   unfolding index_of_spot

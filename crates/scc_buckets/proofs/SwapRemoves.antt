@@ -9,7 +9,7 @@ use Rattle.std.proofs.lemmas.Map.Keys.{IsDistinct-IsPermutation}
 use Rattle.scc_contents.specs.Contents.{Contents, Settings, entries, bucket_count, settings_of, IsUniqueBy}
 use Rattle.scc_buckets.specs.Places.{index_of_spot}
 use Rattle.scc_contents.specs.Routing.{bucket_number, tag_of}
-use Rattle.scc_array.specs.Shelf.{Shelf, shelf_entries, without_place, swapped_out}
+use Rattle.scc_array.specs.Shelf.{Shelf, shelf_entries, without_slot, swapped_out}
 use Rattle.scc_buckets.specs.Tables.{IsOwn, IsBuckets}
 use Rattle.scc_buckets.specs.declared.place.Place.{Place}
 use Rattle.scc_buckets.proofs.Inserts.{table_set}
@@ -22,7 +22,7 @@ own-swapped b k x lk hash t m i o =
     let w = own_without b k lk hash t m i o in
     record {
       tagged = tags-swapped b k x lk (λ e. tag_of (hash e)) o.tagged;
-      routed = All-permutation (λ e. bucket_number t m (hash e) ≡ i) (shelf_entries (without_place b k)) (shelf_entries (swapped_out b k x)) (entries-swapped b k x lk) w.routed;
+      routed = All-permutation (λ e. bucket_number t m (hash e) ≡ i) (shelf_entries (without_slot b k)) (shelf_entries (swapped_out b k x)) (entries-swapped b k x lk) w.routed;
       within = let z = slots-swapped b k x lk in let v = w.within in omega arith;
     }
 
@@ -35,7 +35,7 @@ module _ {E S : Type 0} (hash : E → ℕ) (t n o : ℕ) (p : Place) (bs : List 
     (lk : p.slot < length (shelf_entries b)) (x : E) (d : Shelf E) (new : d ≡ swapped_out b p.slot x) where
   -- the bucket, had the others moved up
   abbrev up : Shelf E
-  up = without_place b p.slot
+  up = without_slot b p.slot
 
   moved : IsPermutation (shelf_entries up) (shelf_entries d)
   moved = rw new (entries-swapped b p.slot x lk)

@@ -5,7 +5,7 @@ use Rattle.std.specs.List.{flat_map, position, slice_get, IsDistinct}
 use Rattle.scc_array.proofs.Joined.{position-joined, or_later}
 use Rattle.scc_array.specs.Shelves.{shelf_of}
 use Rattle.scc_array.specs.Takes.{IsTakenOut}
-use Rattle.scc_array.specs.Shelf.{Shelf, shelf_entries, without_place, swapped_out}
+use Rattle.scc_array.specs.Shelf.{Shelf, shelf_entries, without_slot, swapped_out}
 use Rattle.scc_contents.specs.Contents.{Contents, Settings, entries}
 use Rattle.scc_contents.specs.Routing.{bucket_number}
 use Rattle.scc_buckets.specs.OneList.{IsSwappedOutOf}
@@ -57,7 +57,7 @@ module _ {E S : Type 0} (p : E → Bool) (hash : E → ℕ) (h t n o i : ℕ) (b
     left = put-is bs i l ds _ out.others
 
     pub taken-some : 1 ≤ n
-    taken-some = at-least-one hash t n o spot bs own s c view bucket l (shelf-at bs i l) within (without_place bucket j) refl
+    taken-some = at-least-one hash t n o spot bs own s c view bucket l (shelf-at bs i l) within (without_slot bucket j) refl
 
     table : (r : ℕ) → (j < length (shelf_of bs i).slots → r ≡ 0) → (length (shelf_of bs i).slots ≤ j → r ≡ 1) → IsBuckets hash t ds (n - 1) (o - r) × (r ≤ o)
     table r lower upper =

@@ -2,8 +2,8 @@
 use Rattle.std.proofs.Common.{◌≡◌, ℕ, ◌<◌, Bool, List, [], ◌∷◌, ◌++◌, length, map, get_or, refl, sym, ap, ◌∙◌}
 use Rattle.std.specs.List.{flat_map}
 use Rattle.std.proofs.lemmas.List.{get_or-map, length-map}
-use Rattle.scc_contents.specs.Contents.{Contents, Settings, entries, bucket_count, settings_of, refused_of, list_of, lists_of, spilled_of, waiting_of, owed_of}
-use Rattle.scc_buckets.specs.Tables.{spilled_in}
+use Rattle.scc_contents.specs.Contents.{Contents, Settings, entries, bucket_count, settings_of, refused_of, list_of, lists_of, overflow_of, waiting_of, owed_of}
+use Rattle.scc_buckets.specs.Tables.{overflow_in}
 use Rattle.scc_array.specs.Shelf.{Shelf, shelf_entries}
 
 pub flat_lists : {E : Type 0} (bs : List (Shelf E)) → flat_map (λ l. l) (map shelf_entries bs) ≡ flat_map shelf_entries bs
@@ -12,7 +12,7 @@ flat_lists (b ∷ bs) = ap (λ z. shelf_entries b ++ z) (flat_lists bs)
 
 -- what a clause sees of this flag, these buckets and settings
 abbrev pub view_of : {E S : Type 0} → Bool × Bool → List (Shelf E) → Settings S → Contents E S
-view_of f bs s = record { lists = map shelf_entries bs; settings = s; refused = f; spilled = spilled_in bs; waiting = []; owed = [] }
+view_of f bs s = record { lists = map shelf_entries bs; settings = s; refused = f; spilled = overflow_in bs; waiting = []; owed = [] }
 
 module _ {E S : Type 0} (bs : List (Shelf E)) (s : Settings S) {f : Bool × Bool} (c : Contents E S) (view : view_of f bs s ≡ c) where
   pub entries-view : entries c ≡ flat_map shelf_entries bs
@@ -39,8 +39,8 @@ module _ {E S : Type 0} (bs : List (Shelf E)) (s : Settings S) {f : Bool × Bool
   unfolding lists_of
   lists-view = ap (λ (x : Contents E S). x.lists) (sym view)
 
-  pub spilled-view : spilled_of c ≡ spilled_in bs
-  unfolding spilled_of
+  pub spilled-view : overflow_of c ≡ overflow_in bs
+  unfolding overflow_of
   spilled-view = ap (λ (x : Contents E S). x.spilled) (sym view)
 
   -- nothing waits

@@ -11,7 +11,7 @@ use Rattle.scc_contents.specs.Routing.{bucket_number, tag_of}
 use Rattle.scc_array.specs.Shelf.{Shelf, shelf_entries}
 use Rattle.scc_contents.specs.Steps.{HoldsExactly}
 use Rattle.std.proofs.lemmas.List.Sums.{sum_by-set}
-use Rattle.scc_buckets.specs.Tables.{IsOwn, IsBuckets, spilled_in}
+use Rattle.scc_buckets.specs.Tables.{IsOwn, IsBuckets, overflow_in}
 use Rattle.scc_array.specs.ShelfWrites.{write_at, shelf_write_at, length-write_at}
 use Rattle.scc_buckets.specs.Writes.{with_write_at_spot}
 use Rattle.scc_buckets.specs.declared.place.Place.{Place}
@@ -135,13 +135,13 @@ module _ {E S X : Type 0} (put : E → X → E) (hash : E → ℕ) (t n o : ℕ)
   written-view =
       let here : get_or (map shelf_entries bs) p.bucket [] ≡ shelf_entries b = get_or-map shelf_entries bs p.bucket b [] l ∙ ap shelf_entries (sym at) in
       let over = (slots_write put b p.slot w).1 in
-      let spill : spilled_in (set bs p.bucket (shelf_write_at put b p.slot w)) ≡ spilled_in bs =
+      let spill : overflow_in (set bs p.bucket (shelf_write_at put b p.slot w)) ≡ overflow_in bs =
       let f : Shelf E → ℕ = λ x. length x.overflow in
       let sums = sum_by-set f bs p.bucket (shelf_write_at put b p.slot w) b l in
       let e : f (get_or bs p.bucket b) ≡ f b = ap f (sym at) in
       omega (arith, over) in
       ap (λ n. let r : Contents E S = record { lists = map shelf_entries (set bs p.bucket (shelf_write_at put b p.slot w)); settings = s; refused = f; spilled = n; waiting = []; owed = [] } in r) spill
-      ∙ ap (λ z. let r : Contents E S = record { lists = z; settings = s; refused = f; spilled = spilled_in bs; waiting = []; owed = [] } in r)
+      ∙ ap (λ z. let r : Contents E S = record { lists = z; settings = s; refused = f; spilled = overflow_in bs; waiting = []; owed = [] } in r)
       (map-set shelf_entries bs p.bucket (shelf_write_at put b p.slot w) ∙ ap (set (map shelf_entries bs) p.bucket) (entries_write put b p.slot w ∙ ap (λ z. write_at put z p.slot w) (sym here)))
       ∙ ap (λ (x : Contents E S). let r : Contents E S = record { lists = set x.lists p.bucket (write_at put (get_or x.lists p.bucket []) p.slot w); settings = x.settings; refused = x.refused; spilled = x.spilled; waiting = x.waiting; owed = x.owed } in r) view
 

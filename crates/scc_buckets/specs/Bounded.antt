@@ -1,17 +1,17 @@
 -- Tables whose buckets hold at most 32 entries each, none in an overflow list, in the order of their lists.
 use Rattle.std.specs.Prelude.{◌≡◌, ℕ, Bool, false, true, ◌*◌, ◌<◌, ◌≤◌, List, [], ◌∷◌, ◌++◌, length, Option, None, Some}
 use Rattle.std.specs.List.{slice_get, slice_set, position}
-use Rattle.scc_contents.specs.Contents.{Contents, entries, bucket_count, settings_of, minimum_of, refused_of, list_of, lists_of, spilled_of}
+use Rattle.scc_contents.specs.Contents.{Contents, entries, bucket_count, settings_of, minimum_of, refused_of, list_of, lists_of, overflow_of}
 use Rattle.scc_buckets.specs.Places.{IsSpot}
 use Rattle.scc_buckets.specs.Pour.{IsRegrouped, bound_for}
 use Rattle.scc_contents.specs.Routing.{bucket_number}
-use Rattle.scc_contents.specs.Sizes.{IsArray, IsLawful, IsSmaller}
+use Rattle.scc_contents.specs.Sizes.{IsBucketCount, IsLawful, IsSmaller}
 use Rattle.scc_buckets.specs.declared.place.Place.{Place}
 
 module _ {E S : Type 0} where
   -- no entry lies in an overflow list
   abbrev pub IsBounded : Contents E S → Type 0
-  IsBounded c = spilled_of c ≡ 0
+  IsBounded c = overflow_of c ≡ 0
 
   -- there is no array, or one of a lawful size; no list is longer than 32, and each entry stands in the list that its hash names
   pub record IsListed (hash : E → ℕ) (c : Contents E S) : Type 0 where
@@ -32,10 +32,10 @@ module _ {E S : Type 0} where
     pub found : position passes (list_of c i) ≡ Some p.slot
 
   -- the lists and the settings are those of c, with as many entries in overflow lists; whether memory was refused is left free
-  pub record KeepsLists (c d : Contents E S) : Type 0 where
+  pub record HasListsOf (c d : Contents E S) : Type 0 where
     pub lists : lists_of d ≡ lists_of c
     pub settings : settings_of d ≡ settings_of c
-    pub spilled : spilled_of d ≡ spilled_of c
+    pub spilled : overflow_of d ≡ overflow_of c
 
   -- list i of d is es; the other lists, the settings and whether memory was refused are those of c
   pub record HasList (c : Contents E S) (i : ℕ) (es : List E) (d : Contents E S) : Type 0 where
@@ -51,18 +51,18 @@ module _ {E S : Type 0} where
 
   -- d has an array of lawful size with the entries of c: list i has those that belong to it, in the order that they had in c, and none has more than 32
   pub record IsResized (hash : E → ℕ) (c d : Contents E S) : Type 0 where
-    pub array : IsArray (bucket_count d)
+    pub array : IsBucketCount (bucket_count d)
     pub lists : IsRegrouped hash (bucket_count d) c d
     pub bounded : IsBounded d
 
   -- the size of an array that the entries let become smaller: the number of buckets is the greater of those for the minimum and for twice the entries
-  pub record MayNarrow (hash : E → ℕ) (c : Contents E S) (n : ℕ) : Type 0 where
-    pub array : IsArray n
+  pub record MayShrinkWithin (hash : E → ℕ) (c : Contents E S) (n : ℕ) : Type 0 where
+    pub array : IsBucketCount n
     pub smaller : IsSmaller (minimum_of c) (length (entries c)) (bucket_count c) n
     pub short : (i : ℕ) → i < n → length (bound_for hash (settings_of c).skipped n i (entries c)) ≤ 32
 
   -- the array becomes smaller, not below the minimum, where that is due, which it isn't where a bucket would get more than 32 entries; where it is due and memory for it is refused, that is noted and nothing else changes
   pub data ShrinksBounded (hash : E → ℕ) (c d : Contents E S) : Type 0 where
-    stays_wide : ((n : ℕ) → MayNarrow hash c n → ⊥) → d ≡ c → ShrinksBounded hash c d
-    denied_narrow : (n : ℕ) → MayNarrow hash c n → (refused_of d).0 ≡ true → KeepsLists c d → ShrinksBounded hash c d
+    stays_wide : ((n : ℕ) → MayShrinkWithin hash c n → ⊥) → d ≡ c → ShrinksBounded hash c d
+    denied_narrow : (n : ℕ) → MayShrinkWithin hash c n → (refused_of d).0 ≡ true → HasListsOf c d → ShrinksBounded hash c d
     narrows : IsSmaller (minimum_of c) (length (entries c)) (bucket_count c) (bucket_count d) → minimum_of c ≤ 32 * bucket_count d → (refused_of d).0 ≡ false → IsResized hash c d → ShrinksBounded hash c d

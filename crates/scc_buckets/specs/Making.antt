@@ -2,8 +2,8 @@
 use Rattle.std.specs.Prelude.{◌≡◌, ◌<◌, ◌*◌, ℕ, [], List, false, map, Result, IsOk, IfOk}
 use Rattle.std.specs.Result.{OnOk, OnErr}
 use Rattle.scc_array.specs.Shelf.{Shelf, shelf_entries}
-use Rattle.scc_contents.specs.Contents.{Contents, entries, bucket_count, lists_of, minimum_of, owed_of, refused_of, settings_of, spilled_of, waiting_of}
-use Rattle.scc_contents.specs.Sizes.{IsArray, IsArraySize}
+use Rattle.scc_contents.specs.Contents.{Contents, entries, bucket_count, lists_of, minimum_of, owed_of, refused_of, settings_of, overflow_of, waiting_of}
+use Rattle.scc_contents.specs.Sizes.{IsBucketCount, IsArraySize}
 use Rattle.scc_contents.specs.Steps.{IsUnchanged}
 use Rattle.scc_buckets.specs.Bounded.{IsListed, IsResized}
 use Rattle.scc_buckets.specs.Tables.{IsBuckets}
@@ -46,7 +46,7 @@ module _ {E S : Type 0} where
 
   module _ (hash : E → ℕ) where
     -- the first array is made, of the size of the minimum
-    pub record MakesFirstArray {X : Type 0} (c : Contents E S) (result : Result (Unit {0}) X) (d : Contents E S) : Type 0 where
+    pub record InstallsFirstArray {X : Type 0} (c : Contents E S) (result : Result (Unit {0}) X) (d : Contents E S) : Type 0 where
       -- no entry is held
       pub still : entries d ≡ []
       -- and none was
@@ -54,7 +54,7 @@ module _ {E S : Type 0} where
       -- the array has the size of the minimum
       pub size : OnOk result (IsArraySize (minimum_of c) (32 * bucket_count d))
       -- the size is one that an array may have
-      pub array : OnOk result (IsArray (bucket_count d))
+      pub array : OnOk result (IsBucketCount (bucket_count d))
       -- the settings stay
       pub settings : settings_of d ≡ settings_of c
       -- the note of refused memory stays
@@ -67,7 +67,7 @@ module _ {E S : Type 0} where
       pub same : OnErr result (d ≡ c)
 
     -- the buckets of an array, so many of whose entries lie in overflow lists, take the place of the present ones, which are answered with their two numbers
-    pub record ExchangesBuckets (c : Contents E S) (buckets : List (Shelf E)) (over : ℕ) (result : List (Shelf E) × ℕ × ℕ) (d : Contents E S) : Type 0 where
+    pub record InstallsBuckets (c : Contents E S) (buckets : List (Shelf E)) (over : ℕ) (result : List (Shelf E) × ℕ × ℕ) (d : Contents E S) : Type 0 where
       -- the lists are those of the array
       pub lists : lists_of d ≡ map shelf_entries buckets
       -- the settings stay
@@ -75,7 +75,7 @@ module _ {E S : Type 0} where
       -- the note of refused memory stays
       pub noted : refused_of d ≡ refused_of c
       -- so many entries lie in overflow lists
-      pub spilled : spilled_of d ≡ over
+      pub spilled : overflow_of d ≡ over
       -- the same buckets wait
       pub waiting : waiting_of d ≡ waiting_of c
       -- the old array stays
@@ -85,7 +85,7 @@ module _ {E S : Type 0} where
       -- it keeps what buckets keep, and so many entries are in it and in its overflow lists
       pub table : IsBuckets hash (settings_of c).skipped result.0 result.1 result.2
       -- those in overflow lists are as many as were
-      pub overflowing : result.2 ≡ spilled_of c
+      pub overflowing : result.2 ≡ overflow_of c
 
   -- only the number of reserved slots changed
   pub record SetsReservedSlots (reserved : ℕ) (c d : Contents E S) : Type 0 where
@@ -94,7 +94,7 @@ module _ {E S : Type 0} where
     -- each list stays
     pub lists : lists_of d ≡ lists_of c
     -- as many entries lie in overflow lists
-    pub spilled : spilled_of d ≡ spilled_of c
+    pub spilled : overflow_of d ≡ overflow_of c
     -- the number of buckets stays
     pub buckets : bucket_count d ≡ bucket_count c
     -- so many slots are reserved now

@@ -2,7 +2,7 @@
 use Rattle.std.specs.Prelude.{◌≡◌, ℕ, ◌+◌, ◌<◌, ◌≤◌, List, length, slice_set, remove}
 use Rattle.std.specs.List.{insert}
 use Rattle.std.specs.List.Sorted.{IsPermutation}
-use Rattle.scc_contents.specs.Contents.{Contents, list_of, lists_of, settings_of, refused_of, spilled_of}
+use Rattle.scc_contents.specs.Contents.{Contents, list_of, lists_of, settings_of, refused_of, overflow_of}
 use Rattle.scc_buckets.specs.declared.place.Place.{Place}
 
 module _ {E S : Type 0} where
@@ -13,22 +13,22 @@ module _ {E S : Type 0} where
     pub lists : lists_of d ≡ slice_set (lists_of c) i (insert (list_of c i) p.slot e)
     pub settings : settings_of d ≡ settings_of c
     pub refused : refused_of d ≡ refused_of c
-    pub spilled : spilled_of d ≤ spilled_of c + 1
-    pub short : length (list_of c i) < 32 → spilled_of d ≤ spilled_of c
+    pub spilled : overflow_of d ≤ overflow_of c + 1
+    pub short : length (list_of c i) < 32 → overflow_of d ≤ overflow_of c
 
   -- lists, settings and the note of refused memory are those of c, with no more entries in overflow lists
   pub record HasSameLists (c d : Contents E S) : Type 0 where
     pub lists : lists_of d ≡ lists_of c
     pub settings : settings_of d ≡ settings_of c
     pub refused : refused_of d ≡ refused_of c
-    pub spilled : spilled_of d ≤ spilled_of c
+    pub spilled : overflow_of d ≤ overflow_of c
 
   -- the entry at p is gone from its list, the others in their order; the other lists, the settings and the note of refused memory are those of c
   pub record IsTakenFrom (c : Contents E S) (p : Place) (d : Contents E S) : Type 0 where
     pub lists : lists_of d ≡ slice_set (lists_of c) p.bucket (remove (list_of c p.bucket) p.slot)
     pub settings : settings_of d ≡ settings_of c
     pub refused : refused_of d ≡ refused_of c
-    pub spilled : spilled_of d ≤ spilled_of c
+    pub spilled : overflow_of d ≤ overflow_of c
 
   -- the same, the others of that list in some order
   pub record IsSwappedOutOf (c : Contents E S) (p : Place) (d : Contents E S) : Type 0 where
@@ -37,4 +37,4 @@ module _ {E S : Type 0} where
     pub lists : lists_of d ≡ slice_set (lists_of c) p.bucket left
     pub settings : settings_of d ≡ settings_of c
     pub refused : refused_of d ≡ refused_of c
-    pub spilled : spilled_of d ≤ spilled_of c
+    pub spilled : overflow_of d ≤ overflow_of c

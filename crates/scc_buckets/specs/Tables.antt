@@ -6,8 +6,8 @@ use Rattle.scc_array.specs.Shelf.{Shelf, shelf_entries}
 use Rattle.scc_contents.specs.Sizes.{IsLawful}
 
 -- how many entries of the buckets lie in overflow lists
-abbrev pub spilled_in : {E : Type 0} → List (Shelf E) → ℕ
-spilled_in bs = sum_by (λ b. length b.overflow) bs
+abbrev pub overflow_in : {E : Type 0} → List (Shelf E) → ℕ
+overflow_in bs = sum_by (λ b. length b.overflow) bs
 
 -- one bucket: its tags are those of its entries, each of which belongs to it
 pub record IsOwn {E : Type 0} (hash : E → ℕ) (skipped count i : ℕ) (b : Shelf E) : Type 0 where
@@ -24,7 +24,7 @@ pub record IsBuckets {E : Type 0} (hash : E → ℕ) (skipped : ℕ) (bs : List 
   pub own : (i : ℕ) (b : Shelf E) → i < length bs → b ≡ slice_index_or bs i b → IsOwn hash skipped (length bs) i b
 
 -- of all fields of buckets
-pub record IsKept {E K : Type 0} (eq : K → K → Bool) (key : E → K) (hash : K → ℕ) (skipped minimum : ℕ) (bs : List (Shelf E)) (count overflowing : ℕ) : Type 0 where
+pub record AreBuckets {E K : Type 0} (eq : K → K → Bool) (key : E → K) (hash : K → ℕ) (skipped minimum : ℕ) (bs : List (Shelf E)) (count overflowing : ℕ) : Type 0 where
   pub table : IsBuckets (λ e. hash (key e)) skipped bs count overflowing
   pub few_bits : skipped ≤ 4
   pub small_minimum : minimum ≤ 2 ^ 63

@@ -71,7 +71,7 @@ where
         ensures unique { IsUniqueBy E.Key.eq E.key_of self.new }
     {
         if self.list_len(bucket) - slot == 1 {
-            self.keep_lists();
+            self.list_facts();
             return;
         }
         let entry = self.take_in(Place { bucket, slot });

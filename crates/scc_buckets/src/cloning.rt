@@ -65,7 +65,7 @@ where
                 reserved: 0,
                 skipped: self.skipped,
                 refused: false,
-                tried: false,
+                marked: false,
                 hasher,
             }),
             Err(_) => Err(MakeError),

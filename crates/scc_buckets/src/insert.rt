@@ -75,7 +75,7 @@ where
         requires absent { position (λ e. E.Key.eq (E.key_of (E.made_of parts)) (E.key_of e)) (entries self.old) ≡ None }
         ensures { InsertsMadeInFirstArray E.Key.eq E.key_of self.old (E.made_of parts) parts result self.new }
     {
-        match self.make_array() {
+        match self.install_first() {
             Ok(()) => {}
             Err(_) => return Err(parts),
         }

@@ -5,7 +5,7 @@
 ghost use Rattle.scc_array.specs.Shelf.{shelf_entries};
 ghost use Rattle.scc_array.specs.Shelves.{shelf_of};
 ghost use Rattle.scc_buckets.specs.Places.{IsFoundAtSpot};
-ghost use Rattle.scc_contents.specs.Contents.{entries, bucket_count, refused_of, spilled_of, key_hash, bucket_of, IsUniqueBy};
+ghost use Rattle.scc_contents.specs.Contents.{entries, bucket_count, refused_of, overflow_of, key_hash, bucket_of, IsUniqueBy};
 ghost use Rattle.scc_contents.specs.Sizes.{IsLawful};
 ghost use Rattle.std.specs.List.{flat_map, position};
 ghost use Rattle.std.specs.Prelude.{◌≡◌, ◌≤◌, ◌<◌, ◌+◌, ◌*◌, ◌^◌, ℕ, [], length, Some, None, MatchOption};
@@ -37,7 +37,7 @@ where
 {
     skipped: u32,
     refused: bool,
-    tried: bool,
+    marked: bool,
     hasher: H,
     buckets: Array<E>,
     length: usize,
@@ -59,19 +59,19 @@ where
 
     ghost use Rattle.scc_contents.specs.Hashing.{hash_of};
     ghost use Rattle.scc_array.specs.Shelf.{shelf_entries};
-    ghost use Rattle.scc_buckets.specs.Tables.{IsKept, spilled_in};
+    ghost use Rattle.scc_buckets.specs.Tables.{AreBuckets, overflow_in};
 
     ghost view = { λ t. record {
       lists = map shelf_entries t.buckets;
       settings = record
           { hasher = t.hasher; skipped = t.skipped; asked = t.asked; reserved = t.reserved };
-      refused = (t.refused, t.tried);
-      spilled = spilled_in t.buckets;
+      refused = (t.refused, t.marked);
+      spilled = overflow_in t.buckets;
       waiting = [];
       owed = [];
     } };
 
-    ghost invariant = { λ t. IsKept E.Key.eq E.key_of (λ k. hash_of H.BuildHasher H.Hasher.Hasher t.hasher
+    ghost invariant = { λ t. AreBuckets E.Key.eq E.key_of (λ k. hash_of H.BuildHasher H.Hasher.Hasher t.hasher
         (E.Key.hash_input k)) t.skipped (t.asked + t.reserved) t.buckets t.length t.overflowing };
 }
 
@@ -83,7 +83,7 @@ where
     #[inline(always)]
     pub fn len(&self) -> usize
         ensures len { result ≡ length (entries self.now) }
-        ensures most { result ≤ 32 * bucket_count self.now + spilled_of self.now }
+        ensures most { result ≤ 32 * bucket_count self.now + overflow_of self.now }
         ensures unique { IsUniqueBy E.Key.eq E.key_of self.now }
     {
         self.length
@@ -92,7 +92,7 @@ where
     /// How many entries lie in overflow lists.
     #[inline(always)]
     pub fn overflow_len(&self) -> usize
-        ensures value { result ≡ spilled_of self.now }
+        ensures value { result ≡ overflow_of self.now }
         ensures most { result < 2 ^ 62 }
     {
         self.overflowing

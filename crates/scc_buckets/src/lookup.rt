@@ -108,7 +108,7 @@ where
 
     /// What the buckets keep of their lists at any time. It does nothing, and is there for its contract.
     #[inline(always)]
-    pub fn keep_lists(&self)
+    pub fn list_facts(&self)
         ensures routed { IsRouted (λ e. key_hash H.BuildHasher H.Hasher.Hasher E.Key.hash_input self.now (E.key_of e))
             self.now }
         ensures listed { IsBounded self.now → IsListed

@@ -1,6 +1,6 @@
 //! How buckets and their array are made, and another array in the place of the present one.
 ghost use Rattle.scc_array.specs.Shelf.{shelf_entries};
-ghost use Rattle.scc_buckets.specs.Making.{AreNewBuckets, MakesBuckets, MakesFirstArray, ExchangesBuckets};
+ghost use Rattle.scc_buckets.specs.Making.{AreNewBuckets, MakesBuckets, InstallsFirstArray, InstallsBuckets};
 ghost use Rattle.scc_buckets.specs.Tables.{AllEmpty, IsBuckets};
 ghost use Rattle.scc_contents.specs.Contents.{entries, bucket_count, settings_of, key_hash, refused_of};
 ghost use Rattle.std.specs.List.{flat_map, IsDistinct};
@@ -38,7 +38,7 @@ where
             reserved: 0,
             skipped,
             refused: false,
-            tried: false,
+            marked: false,
             hasher,
         }
     }
@@ -70,7 +70,7 @@ where
                 reserved: 0,
                 skipped,
                 refused: false,
-                tried: false,
+                marked: false,
                 hasher,
             }),
             Err(_) => Err(MakeError),
@@ -78,9 +78,9 @@ where
     }
 
     /// Makes the first array, of the size of the minimum.
-    pub fn make_array(&mut self) -> Result<(), AllocError>
+    pub fn install_first(&mut self) -> Result<(), AllocError>
         requires { bucket_count self.old ≡ 0 }
-        ensures { MakesFirstArray (λ e. key_hash H.BuildHasher H.Hasher.Hasher E.Key.hash_input self.old (E.key_of e))
+        ensures { InstallsFirstArray (λ e. key_hash H.BuildHasher H.Hasher.Hasher E.Key.hash_input self.old (E.key_of e))
             self.old result self.new }
     {
         let count = buckets_for(self.asked + self.reserved);
@@ -108,7 +108,7 @@ where
 
     /// Puts other buckets, with so many entries and so many of them in overflow lists, in the place of those here,
     /// and answers those with their two numbers. Neither array is looked at.
-    pub fn exchange(
+    pub fn install(
         &mut self,
         buckets: Array<E>,
         count: usize,
@@ -117,7 +117,7 @@ where
         requires table { IsBuckets (λ e. key_hash H.BuildHasher H.Hasher.Hasher E.Key.hash_input self.old
             (E.key_of e)) (settings_of self.old).skipped buckets count overflowing }
         requires unique { IsDistinct E.Key.eq (map E.key_of (flat_map shelf_entries buckets)) }
-        ensures { ExchangesBuckets (λ e. key_hash H.BuildHasher H.Hasher.Hasher E.Key.hash_input self.old (E.key_of e))
+        ensures { InstallsBuckets (λ e. key_hash H.BuildHasher H.Hasher.Hasher E.Key.hash_input self.old (E.key_of e))
             self.old buckets overflowing result self.new }
     {
         let own_count = self.length;

@@ -55,7 +55,7 @@ where
             return None;
         }
         let bucket = bucket_index(hash, self.skipped, count);
-        match self.buckets.take_in_places(bucket, key, tag(hash)) {
+        match self.buckets.take_in_slots(bucket, key, tag(hash)) {
             Some(entry) => {
                 self.length -= 1;
                 Some(entry)
@@ -64,7 +64,7 @@ where
                 if !self.buckets.is_crowded(bucket) {
                     return None;
                 }
-                match self.buckets.take_past_places(bucket, key) {
+                match self.buckets.take_in_overflow(bucket, key) {
                     Some(entry) => {
                         self.length -= 1;
                         self.overflowing -= 1;

@@ -1,7 +1,7 @@
 //! How large an array is, how many slots are kept at least, and the note of a resize that was refused.
 ghost use Rattle.scc_buckets.specs.Making.{SetsReservedSlots};
-ghost use Rattle.scc_contents.specs.Contents.{settings_of, refused_of, minimum_of, lists_of, spilled_of, IsUniqueBy};
-ghost use Rattle.scc_contents.specs.Sizes.{IsArray, IsArraySize};
+ghost use Rattle.scc_contents.specs.Contents.{settings_of, refused_of, minimum_of, lists_of, overflow_of, IsUniqueBy};
+ghost use Rattle.scc_contents.specs.Sizes.{IsBucketCount, IsArraySize};
 ghost use Rattle.scc_contents.specs.Steps.{IsUnchanged};
 ghost use Rattle.std.specs.Prelude.{◌≡◌, ◌*◌, ◌≤◌, ◌<◌, ◌+◌, ◌-◌, ◌^◌, false};
 
@@ -31,7 +31,7 @@ pub fn slots_for(slots: usize) -> usize
 
 /// The buckets of that array, of 32 slots each.
 pub fn buckets_for(slots: usize) -> usize
-    ensures array { IsArray result }
+    ensures array { IsBucketCount result }
     ensures size { IsArraySize slots (32 * result) }
 {
     slots_for(slots) / 32
@@ -66,31 +66,31 @@ where
         ensures unchanged { IsUnchanged self.old self.new }
         ensures lists { lists_of self.new ≡ lists_of self.old }
         ensures settings { settings_of self.new ≡ settings_of self.old }
-        ensures spilled { spilled_of self.new ≡ spilled_of self.old }
+        ensures spilled { overflow_of self.new ≡ overflow_of self.old }
         ensures noted { refused_of self.new ≡ (refused, false) }
     {
         self.refused = refused;
-        self.tried = false;
+        self.marked = false;
     }
 
     /// Whether the next insertion is not to try the growth that is due: it was refused just before.
     #[inline(always)]
-    pub fn is_tried(&self) -> bool
+    pub fn is_marked(&self) -> bool
         ensures { result ≡ (refused_of self.now).1 }
     {
-        self.tried
+        self.marked
     }
 
     /// Notes that memory was refused, and whether the next insertion is not to try the growth again.
-    pub fn mark(&mut self, refused: bool, tried: bool)
+    pub fn mark(&mut self, refused: bool, marked: bool)
         ensures unchanged { IsUnchanged self.old self.new }
         ensures lists { lists_of self.new ≡ lists_of self.old }
         ensures settings { settings_of self.new ≡ settings_of self.old }
-        ensures spilled { spilled_of self.new ≡ spilled_of self.old }
-        ensures noted { refused_of self.new ≡ (refused, tried) }
+        ensures spilled { overflow_of self.new ≡ overflow_of self.old }
+        ensures noted { refused_of self.new ≡ (refused, marked) }
     {
         self.refused = refused;
-        self.tried = tried;
+        self.marked = marked;
     }
 
     /// Sets the number of reserved slots alone.

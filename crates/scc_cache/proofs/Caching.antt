@@ -13,11 +13,11 @@ use Rattle.scc_buckets.proofs.FindingLemmas.{position_hit, position_cons}
 use Rattle.scc_buckets.proofs.Inserts.{by_answer}
 use Rattle.scc_buckets.specs.Places as spots
 use Rattle.scc_buckets.specs.declared.place.Place.{Place}
-use Rattle.scc_table.specs.Bounded.{IsListedAt, IsReadyBelow, GrowsBelow, makes, has_room, is_full, stays, denied, doubles}
+use Rattle.scc_table.specs.Bounded.{IsListedAt, IsPreparedBelow, GrowsBelow, makes, has_room, is_full, stays, denied, doubles}
 use Rattle.scc_table.specs.Places.{IsPlace, spot_of}
 use Rattle.scc_table.specs.TwoArrays.{waits_at}
 use Rattle.scc_table.proofs.OldSpots.{spot-own}
-use Rattle.scc_cache.specs.CacheSteps.{IsFound, IsLacking, IsPresent, TakesAt, TakesThen, number_in}
+use Rattle.scc_cache.specs.CacheSteps.{IsFound, IsLacking, IsPresent, TakesAt, TakesThen, list_number}
 use Rattle.scc_cache.specs.Caches.{Cached, IsCacheState}
 use Rattle.scc_cache.specs.ListSteps.{list_for, with_list, IsMissing, IsThere, PutsPair}
 
@@ -98,17 +98,17 @@ module _ {E S : Type 0} where
   puts-count c d i e (Some x) h = (list-count c d i _ h.1.2, h.1.2.settings)
 
   pub grown-within : (hash : E → ℕ) (c d : Contents E S) (m i : ℕ) → GrowsBelow hash m i c d → IsPowerOfTwo m → 64 ≤ m → 32 * bucket_count c ≤ m → minimum_of c ≤ m → 32 * bucket_count d ≤ m
-  grown-within hash c d m i (makes none size r) w least within least_slots = size.fewest m w least (omega arith)
-  grown-within hash c d m i (has_room some room e) w least within least_slots = subst (λ z. 32 * bucket_count z ≤ m) (sym e) within
-  grown-within hash c d m i (is_full some full (stays due e)) w least within least_slots = subst (λ z. 32 * bucket_count z ≤ m) (sym e) within
-  grown-within hash c d m i (is_full some full (denied due up k)) w least within least_slots = let e = keeps-count c d k in omega arith
-  grown-within hash c d m i (is_full some full (doubles due untried down twice r)) w least within least_slots =
+  grown-within hash c d m i (makes none size r) w least_slots within least_slots = size.fewest m w least_slots (omega arith)
+  grown-within hash c d m i (has_room some room e) w least_slots within least_slots = subst (λ z. 32 * bucket_count z ≤ m) (sym e) within
+  grown-within hash c d m i (is_full some full (stays due e)) w least_slots within least_slots = subst (λ z. 32 * bucket_count z ≤ m) (sym e) within
+  grown-within hash c d m i (is_full some full (denied due up k)) w least_slots within least_slots = let e = keeps-count c d k in omega arith
+  grown-within hash c d m i (is_full some full (doubles due untried down twice r)) w least_slots within least_slots =
       let p = r.array.power in
       let below = due.below in
       below-double (32 * bucket_count d) m (p.0 + 5) w.0 (slots-power (bucket_count d) p.0 p.1) w.1 (omega arith)
 
   -- where all is made that a new entry wants, its growth leaves the number of buckets
-  pub once-grown : (hash : E → ℕ) (c d : Contents E S) (m i : ℕ) → GrowsBelow hash m i c d → IsReadyBelow m i c → bucket_count d ≡ bucket_count c
+  pub once-grown : (hash : E → ℕ) (c d : Contents E S) (m i : ℕ) → GrowsBelow hash m i c d → IsPreparedBelow m i c → bucket_count d ≡ bucket_count c
   once-grown hash c d m i (makes none size r) ready = absurd (let some = ready.0 in omega arith)
   once-grown hash c d m i (has_room some room e) ready = ap bucket_count e
   once-grown hash c d m i (is_full some full (stays due e)) ready = ap bucket_count e
@@ -124,16 +124,16 @@ module _ {E S : Type 0} where
   pub shrunk-within : (hash : E → ℕ) (c d : Contents E S) → ShrinksBounded hash c d → (bucket_count d ≤ bucket_count c) × (settings_of d ≡ settings_of c)
   shrunk-within hash c d (stays_wide due e) = (subst (λ z. bucket_count z ≤ bucket_count c) (sym e) (omega arith), ap settings_of e)
   shrunk-within hash c d (denied_narrow n s up k) = (let e = keeps-count c d k in omega arith, k.settings)
-  shrunk-within hash c d (narrows s least down r) = (let f = s.fewer in omega arith, r.lists.settings)
+  shrunk-within hash c d (narrows s least_slots down r) = (let f = s.fewer in omega arith, r.lists.settings)
 
 module _ {K V S : Type 0} (eq : K → K → Bool) where
   -- a state goes on where lists, slots and minimum stay lawful
   pub state-after : (hash hash' : K → ℕ) (c d : Contents (K × V) S) (m : ℕ) → IsCacheState eq hash (record { contents = c; maximum = m }) → IsListed (λ p. hash' p.0) d → IsUnique eq d → settings_of d ≡ settings_of c → 32 * bucket_count d ≤ m
       → IsCacheState eq hash' (record { contents = d; maximum = m })
   state-after hash hash' c d m h lists unique settings within =
-      let least = h.minimum in
+      let least_slots = h.minimum in
       let same : minimum_of d ≡ minimum_of c = ap (λ s. s.asked + s.reserved) settings in
-      record { lists = lists; unique = unique; within = within; power = h.power; least = h.least; most = h.most; minimum = omega arith }
+      record { lists = lists; unique = unique; within = within; power = h.power; least_slots = h.least_slots; most = h.most; minimum = omega arith }
 
   pub missing-grown : (number : ℕ → K → ℕ) (c : Contents (K × V) S) (k : K) → position (λ p. eq k p.0) (entries c) ≡ None → IsMissing number eq (lists_of c) k
   unfolding entries lists_of
@@ -173,27 +173,27 @@ module _ {K V S : Type 0} (eq : K → K → Bool) where
 
   pub state-empty : (hash : K → ℕ) (c : Contents (K × V) S) (m : ℕ) → IsListed (λ p. hash p.0) c → entries c ≡ [] → IsPowerOfTwo m → 64 ≤ m → m ≤ 2 ^ 63 → 32 * bucket_count c ≤ m → minimum_of c ≤ m → IsCacheState eq hash (record { contents = c; maximum = m })
   unfolding IsDistinct
-  state-empty hash c m lists none power least most within minimum =
-      record { lists = lists; unique = rw none tt; within = within; power = power; least = least; most = most; minimum = minimum }
+  state-empty hash c m lists none power least_slots most within minimum =
+      record { lists = lists; unique = rw none tt; within = within; power = power; least_slots = least_slots; most = most; minimum = minimum }
 
 module _ {K V S : Type 0} (hash : K → ℕ) (eq : K → K → Bool) (c : Contents (K × V) S) (k : K) where
-  pub is-lacking : (i : ℕ) → i ≡ number_in hash c (bucket_count c) k → IsUnlisted (λ p. eq k p.0) c i → IsLacking hash eq c k
-  is-lacking i e h = record { absent = is-missing eq (number_in hash c) c k i e h.list; all = h.all }
+  pub is-lacking : (i : ℕ) → i ≡ list_number hash c (bucket_count c) k → IsUnlisted (λ p. eq k p.0) c i → IsLacking hash eq c k
+  is-lacking i e h = record { absent = is-missing eq (list_number hash c) c k i e h.list; all = h.all }
 
-  pub is-found : (i : ℕ) (p : Place) → i ≡ number_in hash c (bucket_count c) k → IsListedAt (λ q. eq k q.0) c i p → IsFound hash eq c k p
+  pub is-found : (i : ℕ) (p : Place) → i ≡ list_number hash c (bucket_count c) k → IsListedAt (λ q. eq k q.0) c i p → IsFound hash eq c k p
   is-found i p e h =
       let s = spot_of c p in
       let q = there (list_of c s.bucket) s.slot h.within.slot in
-      let same : s.bucket ≡ number_in hash c (bucket_count c) k = h.bucket ∙ e in
+      let same : s.bucket ≡ list_number hash c (bucket_count c) k = h.bucket ∙ e in
       record {
         within = h.within;
         bucket = same;
         pair = q.0;
-        there = is-there eq (number_in hash c) c k s.bucket same s.slot q.0 (ap (λ j. position (λ (x : K × V). eq k x.0) (list_of c j)) h.bucket ∙ h.found) q.1;
+        there = is-there eq (list_number hash c) c k s.bucket same s.slot q.0 (ap (λ j. position (λ (x : K × V). eq k x.0) (list_of c j)) h.bucket ∙ h.found) q.1;
         here = q.1;
       }
 
-  pub found-or-lacking : (i : ℕ) (r : Option Place) → i ≡ number_in hash c (bucket_count c) k → MatchOption r (IsUnlisted (λ p. eq k p.0) c i) (IsListedAt (λ q. eq k q.0) c i) → MatchOption r (IsLacking hash eq c k) (IsFound hash eq c k)
+  pub found-or-lacking : (i : ℕ) (r : Option Place) → i ≡ list_number hash c (bucket_count c) k → MatchOption r (IsUnlisted (λ p. eq k p.0) c i) (IsListedAt (λ q. eq k q.0) c i) → MatchOption r (IsLacking hash eq c k) (IsFound hash eq c k)
   found-or-lacking i None e m = is-lacking i e m
   found-or-lacking i (Some p) e m = is-found i p e m
 
@@ -241,7 +241,7 @@ takes-found hash eq c d k p x f got (left, change, shrinks) =
     let t : (f.pair ≡ x) = let s : Some f.pair ≡ Some x = sym f.here ∙ got in cc in (
       left,
       record {
-        lists = ((spot_of c.contents p).slot, subst (λ y. IsThere (number_in hash c.contents) eq (lists_of c.contents) k (spot_of c.contents p).slot y) t f.there, change.lists ∙ ap (λ j. slice_set c.contents.lists j (remove (slice_index_or c.contents.lists j []) (spot_of c.contents p).slot)) e);
+        lists = ((spot_of c.contents p).slot, subst (λ y. IsThere (list_number hash c.contents) eq (lists_of c.contents) k (spot_of c.contents p).slot y) t f.there, change.lists ∙ ap (λ j. slice_set c.contents.lists j (remove (slice_index_or c.contents.lists j []) (spot_of c.contents p).slot)) e);
         settings = change.settings;
         refused = change.refused;
         maximum = change.maximum;
@@ -253,7 +253,7 @@ takes-found hash eq c d k p x f got (left, change, shrinks) =
 pub shows-pair : {K V S : Type 0} (hash : K → ℕ) (eq : K → K → Bool) (c : Contents (K × V) S) (k : K) (p : Place) (x : K × V) → IsFound hash eq c k p → slice_get (list_of c (spot_of c p).bucket) (spot_of c p).slot ≡ Some x → IsPresent hash eq c k x
 shows-pair hash eq c k p x f got =
     let t : f.pair ≡ x = let s : Some f.pair ≡ Some x = sym f.here ∙ got in cc in
-    ((spot_of c p).slot, subst (λ y. IsThere (number_in hash c) eq (lists_of c) k (spot_of c p).slot y) t f.there)
+    ((spot_of c p).slot, subst (λ y. IsThere (list_number hash c) eq (lists_of c) k (spot_of c p).slot y) t f.there)
 
 -- the key of what stands at the place of a key equals it
 pub found-equal : {K V S : Type 0} (hash : K → ℕ) (eq : K → K → Bool) (c : Contents (K × V) S) (k : K) (p : Place) (x : K × V) → IsFound hash eq c k p → slice_get (list_of c (spot_of c p).bucket) (spot_of c p).slot ≡ Some x → eq k x.0 ≡ true

@@ -5,7 +5,7 @@ use Rattle.scc_buckets.specs.Bounded.{IsResized, ShrinksBounded, stays_wide, den
 use Rattle.scc_contents.specs.Contents.{Contents, entries, bucket_count, list_of, lists_of}
 use Rattle.scc_buckets.proofs.PairSplits.{by_answer, cond-true, cond-false}
 use Rattle.scc_table.specs.Bounded.{GrowsBelow, makes, has_room, is_full, DoublesBelow, stays, denied, doubles}
-use Rattle.scc_cache.specs.CacheSteps.{PutsNew, TakesThen, number_in}
+use Rattle.scc_cache.specs.CacheSteps.{PutsNew, TakesThen, list_number}
 use Rattle.scc_cache.specs.Caches.{Cached}
 use Rattle.scc_cache.specs.ListSteps.{IsThere, PutsPair, Refreshes, list_for}
 use Rattle.scc_cache.proofs.Caching.{position-passes}
@@ -79,7 +79,7 @@ module _ {X : Type 0} (P : X → Type 0) where
     each-shrunk : (c d : Contents X S) → ShrinksBounded hash c d → Each (lists_of c) → Each (lists_of d)
     each-shrunk c d (stays_wide due e) h = subst (λ z. Each (lists_of z)) (sym e) h
     each-shrunk c d (denied_narrow n smaller up k) h = subst (λ z. Each z) (sym k.lists) h
-    each-shrunk c d (narrows smaller least down r) h = each-resized c d r h
+    each-shrunk c d (narrows smaller least_slots down r) h = each-resized c d r h
 
     each-grown : (most i : ℕ) (c d : Contents X S) → GrowsBelow hash most i c d → Each (lists_of c) → Each (lists_of d)
     each-grown most i c d (makes none size r) h = each-resized c d r h
@@ -104,12 +104,12 @@ module _ {K V : Type 0} (P : K × V → Type 0) (eq : K → K → Bool) where
 
   -- a new pair of which it holds
   pub each-new : {S : Type 0} (hash : K → ℕ) (c d : Cached (K × V) S) (p : K × V) (x : Option (K × V)) → PutsNew hash eq c p x d → P p → Each P (lists_of c.contents) → Each P (lists_of d.contents)
-  each-new hash c d p x (grown, grows, puts) h each = each-put (number_in hash c.contents) p x (lists_of grown.contents) (lists_of d.contents) puts.lists h (each-grown P (λ e. hash e.0) c.maximum (number_in hash c.contents (bucket_count c.contents) p.0) c.contents grown.contents grows.grows each)
+  each-new hash c d p x (grown, grows, puts) h each = each-put (list_number hash c.contents) p x (lists_of grown.contents) (lists_of d.contents) puts.lists h (each-grown P (λ e. hash e.0) c.maximum (list_number hash c.contents (bucket_count c.contents) p.0) c.contents grown.contents grows.grows each)
 
   -- what is left of them after a removal
   pub each-taken : {S : Type 0} (hash : K → ℕ) (c d : Cached (K × V) S) (k : K) (p : K × V) → TakesThen hash eq c k p d → Each P (lists_of c.contents) → Each P (lists_of d.contents)
   each-taken hash c d k p (left, change, shrinks) each =
-      let number = number_in hash c.contents in
+      let number = list_number hash c.contents in
       let ls = lists_of c.contents in
       let list = list_for number ls k in
       let i = change.lists.0 in

@@ -18,15 +18,15 @@ use Rattle.scc_buckets.specs.declared.place.Place.{Place}
 use Rattle.scc_array.specs.ShelfWrites.{length-write_at}
 use Rattle.scc_buckets.proofs.KeyWrites.{get-write_at}
 use Rattle.scc_table.proofs.AtPlaces.{place-prop}
-use Rattle.scc_cache.specs.CacheSteps.{Changes, IsFound, IsLastAt, PutsNew, number_in}
+use Rattle.scc_cache.specs.CacheSteps.{ChangesLists, IsFound, IsLastAt, PutsNew, list_number}
 use Rattle.scc_cache.specs.Caches.{Cached}
 use Rattle.scc_common.specs.declared.errors.InsertError.{InsertError}
 use Rattle.scc_cache.specs.Entries.{Memory, Occupied, Vacant, occupied_pair, IsMoved, IsPut, IsRefreshed, IsReplacedBy, IsWritten, OrPuts, OrPutsSome, Refuses, RefusesSome, SetsEntry, written_cache, still_within, with_value}
 use Rattle.scc_cache.specs.Lends.{with_key_at, with_value_at}
 use Rattle.scc_cache.specs.ListSteps.{Refreshes, RefreshesAs, Rewrites}
-use Rattle.scc_cache.specs.Relocations.{RelocatesOne, RelocatesTwo}
+use Rattle.scc_cache.specs.Relocations.{RelocatesOne, RelocatesTwoWithin}
+use Rattle.scc_cache.specs.declared.held.HeldOccupied.{HeldOccupied}
 use Rattle.scc_cache.specs.declared.held.HeldEntry.{HeldEntry}
-use Rattle.scc_cache.specs.declared.held.HeldPlace.{HeldPlace}
 use Rattle.scc_cache.specs.declared.held.HeldVacant.{HeldVacant}
 use Rattle.scc_cache.proofs.Caching.{position-passes}
 use Rattle.scc_cache.proofs.Relocations.{waiting-keyed, waiting-written, written-one}
@@ -43,7 +43,7 @@ module _ {E S : Type 0} (c : Contents E S) (p : Place) (h : IsPlace c p) where
 
 module _ {K V S : Type 0} (c : Cached (K × V) S) (p : Place) (h : IsPlace c.contents p) where
   -- a value written is one list changed
-  pub changes-written : (v : V) → Changes (λ ls ms. ms ≡ slice_set ls (spot_of c.contents p).bucket (slice_set (slice_index_or ls (spot_of c.contents p).bucket []) (spot_of c.contents p).slot ((entry_of c.contents p h).0, v))) c (with_value_at c p v)
+  pub changes-written : (v : V) → ChangesLists (λ ls ms. ms ≡ slice_set ls (spot_of c.contents p).bucket (slice_set (slice_index_or ls (spot_of c.contents p).bucket []) (spot_of c.contents p).slot ((entry_of c.contents p h).0, v))) c (with_value_at c p v)
   unfolding writes.with_write_at_spot lists_of list_of settings_of refused_of
   changes-written v = record {
     lists = ap (slice_set c.contents.lists (spot_of c.contents p).bucket) (write-set with_pair_value (slice_index_or c.contents.lists (spot_of c.contents p).bucket []) (spot_of c.contents p).slot v (entry_of c.contents p h) (listed-entry c.contents p h));
@@ -80,19 +80,19 @@ moved-last number same k p q r ls ms ns b s (i, there, e) at within last made =
     )
 
 -- a key put in the place of its equal, which went to the end of its list
-pub moved-key : {K V S : Type 0} (hash : K → ℕ) (same : K → K → Bool) (c d : Cached (K × V) S) (k : K) (p : Place) (f : IsLastAt hash same c k d p) → Changes (RefreshesAs (number_in hash c.contents) same k f.pair (k, f.pair.1)) c (with_key_at d p k)
+pub moved-key : {K V S : Type 0} (hash : K → ℕ) (same : K → K → Bool) (c d : Cached (K × V) S) (k : K) (p : Place) (f : IsLastAt hash same c k d p) → ChangesLists (RefreshesAs (list_number hash c.contents) same k f.pair (k, f.pair.1)) c (with_key_at d p k)
 unfolding writes.with_write_at_spot lists_of list_of settings_of refused_of bucket_count
 moved-key hash same c d k p f =
     let at = spot_of d.contents p in
     record {
-      lists = moved-last (number_in hash c.contents) same k f.pair f.pair (k, f.pair.1) c.contents.lists d.contents.lists _ at.bucket at.slot f.changes.lists f.bucket f.within.bucket f.last (ap (slice_set d.contents.lists at.bucket) (write-set with_pair_key (slice_index_or d.contents.lists at.bucket []) at.slot k f.pair f.here));
+      lists = moved-last (list_number hash c.contents) same k f.pair f.pair (k, f.pair.1) c.contents.lists d.contents.lists _ at.bucket at.slot f.changes.lists f.bucket f.within.bucket f.last (ap (slice_set d.contents.lists at.bucket) (write-set with_pair_key (slice_index_or d.contents.lists at.bucket []) at.slot k f.pair f.here));
       settings = f.changes.settings;
       refused = f.changes.refused;
       maximum = f.changes.maximum;
     }
 
 -- so is a value put in the place of the old one
-pub changes-value : {K V S : Type 0} (hash : K → ℕ) (same : K → K → Bool) (c : Cached (K × V) S) (k : K) (p : Place) (f : IsFound hash same c.contents k p) (v : V) → Changes (Rewrites (number_in hash c.contents) same k f.pair (f.pair.0, v)) c (with_value_at c p v)
+pub changes-value : {K V S : Type 0} (hash : K → ℕ) (same : K → K → Bool) (c : Cached (K × V) S) (k : K) (p : Place) (f : IsFound hash same c.contents k p) (v : V) → ChangesLists (Rewrites (list_number hash c.contents) same k f.pair (f.pair.0, v)) c (with_value_at c p v)
 unfolding writes.with_write_at_spot lists_of list_of settings_of refused_of bucket_count
 changes-value hash same c k p f v = record {
   lists = ((spot_of c.contents p).slot, f.there, ap (slice_set c.contents.lists (spot_of c.contents p).bucket) (write-set with_pair_value (slice_index_or c.contents.lists (spot_of c.contents p).bucket []) (spot_of c.contents p).slot v f.pair f.here) ∙ ap (λ j. slice_set c.contents.lists j (slice_set (slice_index_or c.contents.lists j []) (spot_of c.contents p).slot (f.pair.0, v))) f.bucket);
@@ -143,33 +143,33 @@ none-refused r same P = subst (λ x. IfErr x P) (sym same) tt
 
 module _ {G N K V S T : Type 0} {d : guard.Ghosts G (Cached (K × V) S)} {g : eq.Ghosts K} {h : hash.Ghosts K} {b : builder.Ghosts S T} {w : hasher.Ghosts T} where
   -- what the guard showed at the place is the pair
-  pub pair-is : (o : HeldEntry G N K V S T d g h b w) (m : Cached (K × V) S) (p : K × V) → m ≡ d.kept o.guard → slice_get (list_of m.contents (spot_of m.contents o.place).bucket) (spot_of m.contents o.place).slot ≡ Some p → p ≡ occupied_pair o
-  pair-is o m p is got = entry-listed (d.kept o.guard).contents o.place o.within p (subst (λ (x : Cached (K × V) S). slice_get (list_of x.contents (spot_of x.contents o.place).bucket) (spot_of x.contents o.place).slot ≡ Some p) is got)
+  pub pair-is : (o : HeldOccupied G N K V S T d g h b w) (m : Cached (K × V) S) (p : K × V) → m ≡ d.inner o.guard → slice_get (list_of m.contents (spot_of m.contents o.place).bucket) (spot_of m.contents o.place).slot ≡ Some p → p ≡ occupied_pair o
+  pair-is o m p is got = entry-listed (d.inner o.guard).contents o.place o.within p (subst (λ (x : Cached (K × V) S). slice_get (list_of x.contents (spot_of x.contents o.place).bucket) (spot_of x.contents o.place).slot ≡ Some p) is got)
 
   -- the entry of a key that was found stands at the pair that was moved
-  pub refreshed_at : (same : K → K → Bool) (c : Cached (K × V) S) (k : K) (o : HeldEntry G N K V S T d g h b w) → IsLastAt (key_hash b w h.hash_input c.contents) same c k (d.kept o.guard) o.place → RelocatesOne (key_hash b w h.hash_input c.contents k) c.contents (d.kept o.guard).contents → IsRefreshed same c k o
+  pub refreshed_at : (same : K → K → Bool) (c : Cached (K × V) S) (k : K) (o : HeldOccupied G N K V S T d g h b w) → IsLastAt (key_hash b w h.hash_input c.contents) same c k (d.inner o.guard) o.place → RelocatesOne (key_hash b w h.hash_input c.contents k) c.contents (d.inner o.guard).contents → IsRefreshed same c k o
   refreshed_at same c k o s r = record {
-    changes = subst (λ x. Changes (Refreshes (number_in (key_hash b w h.hash_input c.contents) c.contents) same k x) c (d.kept o.guard)) (pair-is o (d.kept o.guard) s.pair refl s.here) s.changes;
+    changes = subst (λ x. ChangesLists (Refreshes (list_number (key_hash b w h.hash_input c.contents) c.contents) same k x) c (d.inner o.guard)) (pair-is o (d.inner o.guard) s.pair refl s.here) s.changes;
     relocates = r;
     bucket = s.bucket;
     last = s.last;
   }
 
   -- so it does once another key was put in there
-  pub replaced-at : (same : K → K → Bool) (c m : Cached (K × V) S) (k : K) (o : HeldEntry G N K V S T d g h b w) (s : IsLastAt (key_hash b w h.hash_input c.contents) same c k m o.place) → RelocatesOne (key_hash b w h.hash_input c.contents k) c.contents m.contents → d.kept o.guard ≡ with_key_at m o.place k
+  pub replaced-at : (same : K → K → Bool) (c m : Cached (K × V) S) (k : K) (o : HeldOccupied G N K V S T d g h b w) (s : IsLastAt (key_hash b w h.hash_input c.contents) same c k m o.place) → RelocatesOne (key_hash b w h.hash_input c.contents k) c.contents m.contents → d.inner o.guard ≡ with_key_at m o.place k
       → (occupied_pair o ≡ (k, s.pair.1)) × IsMoved same c k s.pair o
   replaced-at same c m k o s r made =
       let n = with_key_at m o.place k in
       let at = spot_of m.contents o.place in
       let spot : spot_of n.contents o.place ≡ at = spot-with_write_at with_pair_key m.contents at k o.place in
-      let pair : occupied_pair o ≡ (k, s.pair.1) = pair-keyed m (d.kept o.guard) o.place s.within s.pair k s.here made o.within in
+      let pair : occupied_pair o ≡ (k, s.pair.1) = pair-keyed m (d.inner o.guard) o.place s.within s.pair k s.here made o.within in
       let long : length (list_of n.contents at.bucket) ≡ length (list_of m.contents at.bucket) = ap length (written-list with_pair_key m.contents at s.within k) ∙ length-write_at with_pair_key (list_of m.contents at.bucket) at.slot k in (
         pair,
         record {
           changes =
-              subst (λ x. Changes (RefreshesAs (number_in (key_hash b w h.hash_input c.contents) c.contents) same k s.pair x) c (d.kept o.guard)) (sym pair)
-              (subst (λ x. Changes (RefreshesAs (number_in (key_hash b w h.hash_input c.contents) c.contents) same k s.pair (k, s.pair.1)) c x) (sym made) (moved-key (key_hash b w h.hash_input c.contents) same c m k o.place s));
-          relocates = written-one _ c.contents m.contents (d.kept o.guard).contents r (ap (λ x. waiting_of x.contents) made ∙ waiting-keyed m o.place k);
+              subst (λ x. ChangesLists (RefreshesAs (list_number (key_hash b w h.hash_input c.contents) c.contents) same k s.pair x) c (d.inner o.guard)) (sym pair)
+              (subst (λ x. ChangesLists (RefreshesAs (list_number (key_hash b w h.hash_input c.contents) c.contents) same k s.pair (k, s.pair.1)) c x) (sym made) (moved-key (key_hash b w h.hash_input c.contents) same c m k o.place s));
+          relocates = written-one _ c.contents m.contents (d.inner o.guard).contents r (ap (λ x. waiting_of x.contents) made ∙ waiting-keyed m o.place k);
           bucket = ap (λ x. (spot_of x.contents o.place).bucket) made ∙ ap (λ (q : Place). q.bucket) spot ∙ s.bucket;
           last =
               let Last : Cached (K × V) S → Place → Type 0 = λ x q. q.slot + 1 ≡ length (list_of x.contents q.bucket) in
@@ -178,8 +178,8 @@ module _ {G N K V S T : Type 0} {d : guard.Ghosts G (Cached (K × V) S)} {g : eq
       )
 
   -- the same of the old key that was answered
-  pub replaced_as : (same : K → K → Bool) (c m : Cached (K × V) S) (k old : K) (o : HeldEntry G N K V S T d g h b w) → IsLastAt (key_hash b w h.hash_input c.contents) same c k m o.place → RelocatesOne (key_hash b w h.hash_input c.contents k) c.contents m.contents
-      → (p : K × V) × (slice_get (list_of m.contents (spot_of m.contents o.place).bucket) (spot_of m.contents o.place).slot ≡ Some p) × (old ≡ p.0) → d.kept o.guard ≡ with_key_at m o.place k → IsReplacedBy same c k old o
+  pub replaced_as : (same : K → K → Bool) (c m : Cached (K × V) S) (k old : K) (o : HeldOccupied G N K V S T d g h b w) → IsLastAt (key_hash b w h.hash_input c.contents) same c k m o.place → RelocatesOne (key_hash b w h.hash_input c.contents k) c.contents m.contents
+      → (p : K × V) × (slice_get (list_of m.contents (spot_of m.contents o.place).bucket) (spot_of m.contents o.place).slot ≡ Some p) × (old ≡ p.0) → d.inner o.guard ≡ with_key_at m o.place k → IsReplacedBy same c k old o
   replaced_as same c m k old o s r (p, got, is) made =
       let moved = replaced-at same c m k o s r made in
       let shown : p ≡ s.pair = let z : Some p ≡ Some s.pair = sym got ∙ s.here in cc in
@@ -187,75 +187,75 @@ module _ {G N K V S T : Type 0} {d : guard.Ghosts G (Cached (K × V) S)} {g : eq
       record { value = s.pair.1; pair = moved.0; moved = subst (λ q. IsMoved same c k q o) pair moved.1 }
 
   -- a value written there later moves nothing further
-  pub moved-written : (same : K → K → Bool) (c : Cached (K × V) S) (k : K) (p : K × V) (o q : HeldEntry G N K V S T d g h b w) (v : V) → IsMoved same c k p o → IsWritten o v q → Changes (RefreshesAs (number_in (key_hash b w h.hash_input c.contents) c.contents) same k p ((occupied_pair o).0, v)) c (d.kept q.guard)
+  pub moved-written : (same : K → K → Bool) (c : Cached (K × V) S) (k : K) (p : K × V) (o q : HeldOccupied G N K V S T d g h b w) (v : V) → IsMoved same c k p o → IsWritten o v q → ChangesLists (RefreshesAs (list_number (key_hash b w h.hash_input c.contents) c.contents) same k p ((occupied_pair o).0, v)) c (d.inner q.guard)
   unfolding bucket_count lists_of list_of
   moved-written same c k p o q v m e = record {
-    lists = moved-last (number_in (key_hash b w h.hash_input c.contents) c.contents) same k p (occupied_pair o) ((occupied_pair o).0, v) (lists_of c.contents) (lists_of (d.kept o.guard).contents) (lists_of (d.kept q.guard).contents) _ _ m.changes.lists m.bucket o.within.bucket m.last e.changes.lists;
+    lists = moved-last (list_number (key_hash b w h.hash_input c.contents) c.contents) same k p (occupied_pair o) ((occupied_pair o).0, v) (lists_of c.contents) (lists_of (d.inner o.guard).contents) (lists_of (d.inner q.guard).contents) _ _ m.changes.lists m.bucket o.within.bucket m.last e.changes.lists;
     settings = e.changes.settings ∙ m.changes.settings;
     refused = e.changes.refused ∙ m.changes.refused;
     maximum = e.changes.maximum ∙ m.changes.maximum;
   }
 
   -- the place is one in what the guard then keeps
-  pub within-written : (o : HeldEntry G N K V S T d g h b w) (m : Cached (K × V) S) (v : V) → m ≡ d.kept o.guard → IsPlace (d.kept (d.keeping o.guard (with_value_at m o.place v))).contents o.place
-  within-written o m v is = subst (λ c. IsPlace (d.kept (d.keeping o.guard (with_value_at c o.place v))).contents o.place) (sym is) (still_within o v)
+  pub within-written : (o : HeldOccupied G N K V S T d g h b w) (m : Cached (K × V) S) (v : V) → m ≡ d.inner o.guard → IsPlace (d.inner (d.with_inner o.guard (with_value_at m o.place v))).contents o.place
+  within-written o m v is = subst (λ c. IsPlace (d.inner (d.with_inner o.guard (with_value_at c o.place v))).contents o.place) (sym is) (still_within o v)
 
   -- the entry is the same by whatever proof that its place is one
-  pub written-same : (o : HeldEntry G N K V S T d g h b w) (m : Cached (K × V) S) (v : V) → (is : m ≡ d.kept o.guard) → (p : IsPlace (d.kept (d.keeping o.guard (with_value_at m o.place v))).contents o.place)
-      → record { guard = d.keeping o.guard (with_value_at m o.place v); place = o.place; rest = o.rest; of = o.of; within = p } ≡ with_value o v
+  pub written-same : (o : HeldOccupied G N K V S T d g h b w) (m : Cached (K × V) S) (v : V) → (is : m ≡ d.inner o.guard) → (p : IsPlace (d.inner (d.with_inner o.guard (with_value_at m o.place v))).contents o.place)
+      → record { guard = d.with_inner o.guard (with_value_at m o.place v); place = o.place; rest = o.rest; of = o.of; within = p } ≡ with_value o v
   written-same o m v is =
-      let Written : Cached (K × V) S → Type 0 = λ c. (p : IsPlace (d.kept (d.keeping o.guard (with_value_at c o.place v))).contents o.place) → record { guard = d.keeping o.guard (with_value_at c o.place v); place = o.place; rest = o.rest; of = o.of; within = p } ≡ with_value o v in
+      let Written : Cached (K × V) S → Type 0 = λ c. (p : IsPlace (d.inner (d.with_inner o.guard (with_value_at c o.place v))).contents o.place) → record { guard = d.with_inner o.guard (with_value_at c o.place v); place = o.place; rest = o.rest; of = o.of; within = p } ≡ with_value o v in
       subst Written (sym is) (λ p. ap (λ r. record (with_value o v) { within = r }) (place-prop _ _ p (still_within o v)))
 
-  pub within-after : (o : HeldEntry G N K V S T d g h b w) (m n : Cached (K × V) S) (v : V) → m ≡ d.kept o.guard → n ≡ with_value_at m o.place v → IsPlace (d.kept (d.keeping o.guard n)).contents o.place
-  within-after o m n v is made = subst (λ c. IsPlace (d.kept (d.keeping o.guard c)).contents o.place) (sym made) (within-written o m v is)
+  pub within-after : (o : HeldOccupied G N K V S T d g h b w) (m n : Cached (K × V) S) (v : V) → m ≡ d.inner o.guard → n ≡ with_value_at m o.place v → IsPlace (d.inner (d.with_inner o.guard n)).contents o.place
+  within-after o m n v is made = subst (λ c. IsPlace (d.inner (d.with_inner o.guard c)).contents o.place) (sym made) (within-written o m v is)
 
   -- what was written through the guard is written in the entry
-  pub written-after : (o : HeldEntry G N K V S T d g h b w) (m n : Cached (K × V) S) (v : V) → m ≡ d.kept o.guard → n ≡ with_value_at m o.place v → (p : IsPlace (d.kept (d.keeping o.guard n)).contents o.place)
-      → IsWritten o v (record { guard = d.keeping o.guard n; place = o.place; rest = o.rest; of = o.of; within = p })
+  pub written-after : (o : HeldOccupied G N K V S T d g h b w) (m n : Cached (K × V) S) (v : V) → m ≡ d.inner o.guard → n ≡ with_value_at m o.place v → (p : IsPlace (d.inner (d.with_inner o.guard n)).contents o.place)
+      → IsWritten o v (record { guard = d.with_inner o.guard n; place = o.place; rest = o.rest; of = o.of; within = p })
   written-after o m n v is made p =
-      let e : d.kept (d.keeping o.guard n) ≡ with_value_at (d.kept o.guard) o.place v = d.keeps o.guard n ∙ made ∙ ap (λ c. with_value_at c o.place v) is in
+      let e : d.inner (d.with_inner o.guard n) ≡ with_value_at (d.inner o.guard) o.place v = d.inner_law o.guard n ∙ made ∙ ap (λ c. with_value_at c o.place v) is in
       record {
-        same_guard = ap (d.keeping o.guard) (sym (d.keeps o.guard n));
+        same_guard = ap (d.with_inner o.guard) (sym (d.inner_law o.guard n));
         rest = refl;
         place = refl;
-        changes = rw e (changes-written (d.kept o.guard) o.place o.within v);
-        waiting = ap (λ x. waiting_of x.contents) e ∙ waiting-written (d.kept o.guard) o.place v;
+        changes = rw e (changes-written (d.inner o.guard) o.place o.within v);
+        waiting = ap (λ x. waiting_of x.contents) e ∙ waiting-written (d.inner o.guard) o.place v;
         pair =
             let Pair : Cached (K × V) S → Type 0 = λ x. (q : IsPlace x.contents o.place) → entry_of x.contents o.place q ≡ ((occupied_pair o).0, v) in
-            subst Pair (sym e) (pair-written (d.kept o.guard) o.place o.within v) p;
+            subst Pair (sym e) (pair-written (d.inner o.guard) o.place o.within v) p;
       }
 
-  pub written-with : (o : HeldEntry G N K V S T d g h b w) (v : V) → IsWritten o v (with_value o v)
-  written-with o v = written-after o (d.kept o.guard) (written_cache o v) v refl refl (still_within o v)
+  pub written-with : (o : HeldOccupied G N K V S T d g h b w) (v : V) → IsWritten o v (with_value o v)
+  written-with o v = written-after o (d.inner o.guard) (written_cache o v) v refl refl (still_within o v)
 
   -- what was put in through the guard stands at the entry
-  pub put-after : (same : K → K → Bool) (e : HeldVacant G N K V S T d g h b w) (m n : Cached (K × V) S) (v : V) (x : Option (K × V)) (o : HeldEntry G N K V S T d g h b w) → o.guard ≡ d.keeping e.guard n → o.rest ≡ e.rest → m ≡ d.kept e.guard
-      → PutsNew (key_hash b w h.hash_input m.contents) same m (e.key, v) x n → RelocatesTwo (key_hash b w h.hash_input m.contents e.key) m.contents n.contents → slice_get (list_of n.contents (spot_of n.contents o.place).bucket) (spot_of n.contents o.place).slot ≡ Some (e.key, v) → IsPut same e v x o
+  pub put-after : (same : K → K → Bool) (e : HeldVacant G N K V S T d g h b w) (m n : Cached (K × V) S) (v : V) (x : Option (K × V)) (o : HeldOccupied G N K V S T d g h b w) → o.guard ≡ d.with_inner e.guard n → o.rest ≡ e.rest → m ≡ d.inner e.guard
+      → PutsNew (key_hash b w h.hash_input m.contents) same m (e.key, v) x n → RelocatesTwoWithin (key_hash b w h.hash_input m.contents e.key) m.contents n.contents → slice_get (list_of n.contents (spot_of n.contents o.place).bucket) (spot_of n.contents o.place).slot ≡ Some (e.key, v) → IsPut same e v x o
   put-after same e m n v x o guarded rests is step moved got =
-      let k : d.kept o.guard ≡ n = ap d.kept guarded ∙ d.keeps e.guard n in
+      let k : d.inner o.guard ≡ n = ap d.inner guarded ∙ d.inner_law e.guard n in
       record {
-        same_guard = guarded ∙ ap (d.keeping e.guard) (sym k);
+        same_guard = guarded ∙ ap (d.with_inner e.guard) (sym k);
         rest = rests;
-        step = subst (λ c. PutsNew (key_hash b w h.hash_input c.contents) same c (e.key, v) x (d.kept o.guard)) is (subst (λ c. PutsNew (key_hash b w h.hash_input m.contents) same m (e.key, v) x c) (sym k) step);
-        relocates = subst (λ c. RelocatesTwo (key_hash b w h.hash_input c.contents e.key) c.contents (d.kept o.guard).contents) is (subst (λ c. RelocatesTwo (key_hash b w h.hash_input m.contents e.key) m.contents c.contents) (sym k) moved);
+        step = subst (λ c. PutsNew (key_hash b w h.hash_input c.contents) same c (e.key, v) x (d.inner o.guard)) is (subst (λ c. PutsNew (key_hash b w h.hash_input m.contents) same m (e.key, v) x c) (sym k) step);
+        relocates = subst (λ c. RelocatesTwoWithin (key_hash b w h.hash_input c.contents e.key) c.contents (d.inner o.guard).contents) is (subst (λ c. RelocatesTwoWithin (key_hash b w h.hash_input m.contents e.key) m.contents c.contents) (sym k) moved);
         pair = sym (pair-is o n (e.key, v) (sym k) got);
       }
 
   -- an entry that is made anew of its parts
-  pub same-entry : (o : HeldEntry G N K V S T d g h b w) (p : IsPlace (d.kept o.guard).contents o.place) → record o { within = p } ≡ o
-  same-entry o p = ap (λ r. record o { within = r }) (place-prop (d.kept o.guard).contents o.place p o.within)
+  pub same-entry : (o : HeldOccupied G N K V S T d g h b w) (p : IsPlace (d.inner o.guard).contents o.place) → record o { within = p } ≡ o
+  same-entry o p = ap (λ r. record o { within = r }) (place-prop (d.inner o.guard).contents o.place p o.within)
 
   -- so does the entry that is made of what was lent, once the pair was moved through the loan
-  pub refreshed-under : (same : K → K → Bool) (s : G) (m n : Cached (K × V) S) (k : K) (o : HeldEntry G N K V S T d g h b w) → m ≡ d.kept s → o.guard ≡ d.keeping s n → IsLastAt (key_hash b w h.hash_input m.contents) same m k n o.place → RelocatesOne (key_hash b w h.hash_input m.contents k) m.contents n.contents → IsRefreshed same (d.kept s) k o
+  pub refreshed-under : (same : K → K → Bool) (s : G) (m n : Cached (K × V) S) (k : K) (o : HeldOccupied G N K V S T d g h b w) → m ≡ d.inner s → o.guard ≡ d.with_inner s n → IsLastAt (key_hash b w h.hash_input m.contents) same m k n o.place → RelocatesOne (key_hash b w h.hash_input m.contents k) m.contents n.contents → IsRefreshed same (d.inner s) k o
   refreshed-under same s m n k o is guarded at r =
-      let kept : d.kept o.guard ≡ n = ap d.kept guarded ∙ d.keeps s n in
+      let kept : d.inner o.guard ≡ n = ap d.inner guarded ∙ d.inner_law s n in
       let Last : Cached (K × V) S → Cached (K × V) S → Type 0 = λ c x. IsLastAt (key_hash b w h.hash_input c.contents) same c k x o.place in
       let One : Cached (K × V) S → Cached (K × V) S → Type 0 = λ c x. RelocatesOne (key_hash b w h.hash_input c.contents k) c.contents x.contents in
-      refreshed_at same (d.kept s) k o (subst (λ c. Last c (d.kept o.guard)) is (subst (Last m) (sym kept) at)) (subst (λ c. One c (d.kept o.guard)) is (subst (One m) (sym kept) r))
+      refreshed_at same (d.inner s) k o (subst (λ c. Last c (d.inner o.guard)) is (subst (Last m) (sym kept) at)) (subst (λ c. One c (d.inner o.guard)) is (subst (One m) (sym kept) r))
 
   -- an occupied entry is handed on as it is
-  module _ (same-key : K → K → Bool) (e : HeldPlace G N K V S T d g h b w) (o : HeldEntry G N K V S T d g h b w) (r : Result (Option (K × V) × HeldEntry G N K V S T d g h b w) (InsertError K V)) (is : e ≡ Occupied o) (same : r ≡ Ok (None, o)) where
+  module _ (same-key : K → K → Bool) (e : HeldEntry G N K V S T d g h b w) (o : HeldOccupied G N K V S T d g h b w) (r : Result (Option (K × V) × HeldOccupied G N K V S T d g h b w) (InsertError K V)) (is : e ≡ Occupied o) (same : r ≡ Ok (None, o)) where
     pub or-handed : (v : V) → IfOk r (λ x. OrPuts same-key e v x.0 x.1)
     or-handed v = subst (λ z. IfOk r (λ x. OrPuts same-key z v x.0 x.1)) (sym is) (subst (λ y. IfOk y (λ x. OrPuts same-key (Occupied o) v x.0 x.1)) (sym same) (refl, refl))
 
@@ -263,12 +263,12 @@ module _ {G N K V S T : Type 0} {d : guard.Ghosts G (Cached (K × V) S)} {g : eq
     some-handed P = subst (λ z. IfOk r (λ x. OrPutsSome same-key z P x.0 x.1)) (sym is) (subst (λ y. IfOk y (λ x. OrPutsSome same-key (Occupied o) P x.0 x.1)) (sym same) (refl, refl))
 
   -- through a vacant one a value is put in
-  module _ (e : HeldPlace G N K V S T d g h b w) (x : HeldVacant G N K V S T d g h b w) (r : Result (Option (K × V) × HeldEntry G N K V S T d g h b w) (InsertError K V)) (is : e ≡ Vacant x) where
-    pub or-refused : (v : V) → IfErr r (λ i. (i ≡ Memory (x.key, v)) × (bucket_count (d.kept x.guard).contents ≡ 0)) → IfErr r (Refuses e v)
-    or-refused v back = subst (λ z. IfErr r (Refuses z v)) (sym is) (map-err (λ i. (i ≡ Memory (x.key, v)) × (bucket_count (d.kept x.guard).contents ≡ 0)) (Refuses (Vacant x) v) r (λ i b. (b.1, b.0)) back)
+  module _ (e : HeldEntry G N K V S T d g h b w) (x : HeldVacant G N K V S T d g h b w) (r : Result (Option (K × V) × HeldOccupied G N K V S T d g h b w) (InsertError K V)) (is : e ≡ Vacant x) where
+    pub or-refused : (v : V) → IfErr r (λ i. (i ≡ Memory (x.key, v)) × (bucket_count (d.inner x.guard).contents ≡ 0)) → IfErr r (Refuses e v)
+    or-refused v back = subst (λ z. IfErr r (Refuses z v)) (sym is) (map-err (λ i. (i ≡ Memory (x.key, v)) × (bucket_count (d.inner x.guard).contents ≡ 0)) (Refuses (Vacant x) v) r (λ i b. (b.1, b.0)) back)
 
-    pub some-refused : (P : K → V → Type 0) (v : V) → P x.key v → IfErr r (λ i. (i ≡ Memory (x.key, v)) × (bucket_count (d.kept x.guard).contents ≡ 0)) → IfErr r (RefusesSome e P)
-    some-refused P v gave back = subst (λ z. IfErr r (RefusesSome z P)) (sym is) (map-err (λ i. (i ≡ Memory (x.key, v)) × (bucket_count (d.kept x.guard).contents ≡ 0)) (RefusesSome (Vacant x) P) r (λ i b. (b.1, (v, gave, b.0))) back)
+    pub some-refused : (P : K → V → Type 0) (v : V) → P x.key v → IfErr r (λ i. (i ≡ Memory (x.key, v)) × (bucket_count (d.inner x.guard).contents ≡ 0)) → IfErr r (RefusesSome e P)
+    some-refused P v gave back = subst (λ z. IfErr r (RefusesSome z P)) (sym is) (map-err (λ i. (i ≡ Memory (x.key, v)) × (bucket_count (d.inner x.guard).contents ≡ 0)) (RefusesSome (Vacant x) P) r (λ i b. (b.1, (v, gave, b.0))) back)
 
     pub or-put : (same-key : K → K → Bool) (v : V) → IfOk r (λ y. IsPut same-key x v y.0 y.1) → IfOk r (λ y. OrPuts same-key e v y.0 y.1)
     or-put same-key v put = subst (λ z. IfOk r (λ y. OrPuts same-key z v y.0 y.1)) (sym is) put

@@ -2,7 +2,7 @@
 use Rattle.std.proofs.Common.{◌≡◌, ◌≢◌, ◌==◌, ℕ, ◌+◌, ◌<◌, ◌≤◌, inl, inr, Bool, Option, None, Some, false, not, [], length, refl, sym, ap, ◌∙◌, subst, arith}
 use Rattle.std.specs.Prelude.{OnSome, MatchOption}
 use Rattle.std.specs.List.{count_by, filter, position}
-use Rattle.scc_buckets.specs.Bounded.{MayNarrow, ShrinksBounded, stays_wide, denied_narrow, narrows}
+use Rattle.scc_buckets.specs.Bounded.{MayShrinkWithin, ShrinksBounded, stays_wide, denied_narrow, narrows}
 use Rattle.scc_contents.specs.Contents.{Contents, Settings, entries, bucket_count, lists_of, pending_of, refused_of, settings_of, waiting_of}
 use Rattle.scc_contents.specs.Routing.{bucket_number}
 use Rattle.scc_contents.specs.Sizes.{IsLawful}
@@ -15,11 +15,11 @@ use Rattle.scc_table.proofs.Finishing.{pending-is}
 use Rattle.scc_table.proofs.Placing.{none-left}
 use Rattle.scc_table.proofs.Same.{count-same, pending-same}
 use Rattle.scc_table.proofs.Targets.{targets-length, targets-same, targets-without}
-use Rattle.scc_cache.specs.CacheSteps.{Changes, IsLacking, IsLastAt, number_in}
+use Rattle.scc_cache.specs.CacheSteps.{ChangesLists, IsLacking, IsLastAt, list_number}
 use Rattle.scc_cache.specs.Caches.{Cached}
 use Rattle.scc_cache.specs.Lends.{with_key_at, with_value_at}
 use Rattle.scc_cache.specs.ListSteps.{Refreshes}
-use Rattle.scc_cache.specs.Relocations.{RelocatesNone, RelocatesOne, RelocatesTwo}
+use Rattle.scc_cache.specs.Relocations.{RelocatesNoneWithin, RelocatesOne, RelocatesTwoWithin}
 
 module _ {K V S : Type 0} (c : Cached (K × V) S) (p : Place) where
   -- a write leaves the same buckets waiting
@@ -33,7 +33,7 @@ module _ {K V S : Type 0} (c : Cached (K × V) S) (p : Place) where
 
 module _ {E S : Type 0} (hash : E → ℕ) where
   -- contents with the same entries, settings and number of buckets may narrow alike
-  narrow-same : (b d : Contents E S) (n : ℕ) → entries d ≡ entries b → settings_of d ≡ settings_of b → bucket_count d ≡ bucket_count b → MayNarrow hash b n → MayNarrow hash d n
+  narrow-same : (b d : Contents E S) (n : ℕ) → entries d ≡ entries b → settings_of d ≡ settings_of b → bucket_count d ≡ bucket_count b → MayShrinkWithin hash b n → MayShrinkWithin hash d n
   narrow-same b d n all settings count m = record {
     array = m.array;
     smaller = rw (ap (λ s. s.asked + s.reserved) settings, all, count) m.smaller;
@@ -41,10 +41,10 @@ module _ {E S : Type 0} (hash : E → ℕ) where
   }
 
   -- a change that kept the array and what waits, with no resize
-  pub kept-none : (a b : Contents E S) → bucket_count b ≡ bucket_count a → waiting_of b ≡ waiting_of a → RelocatesNone hash a b
+  pub kept-none : (a b : Contents E S) → bucket_count b ≡ bucket_count a → waiting_of b ≡ waiting_of a → RelocatesNoneWithin hash a b
   kept-none a b count waiting = record { all = λ ne. absurd (ne count); less = λ e. omega (arith, pending-same a b waiting); waiting = λ e undue. waiting }
 
-  pub none-after : (a b d : Contents E S) → bucket_count b ≡ bucket_count a → waiting_of b ≡ waiting_of a → RelocatesNone hash b d → RelocatesNone hash a d
+  pub none-after : (a b d : Contents E S) → bucket_count b ≡ bucket_count a → waiting_of b ≡ waiting_of a → RelocatesNoneWithin hash b d → RelocatesNoneWithin hash a d
   none-after a b d count waiting r = record {
     all = λ ne. r.all (λ e. ne (e ∙ count));
     less = λ e. let z = r.less (e ∙ sym count) in omega (arith, pending-same a b waiting);
@@ -52,48 +52,48 @@ module _ {E S : Type 0} (hash : E → ℕ) where
   }
 
   -- a shrink that was tried after a change that kept the array and what waits
-  pub shrunk-none : (a b d : Contents E S) → bucket_count b ≡ bucket_count a → waiting_of b ≡ waiting_of a → ShrinksBounded hash b d → Spreads ((n : ℕ) × MayNarrow hash b n) b d → RelocatesNone hash a d
+  pub shrunk-none : (a b d : Contents E S) → bucket_count b ≡ bucket_count a → waiting_of b ≡ waiting_of a → ShrinksBounded hash b d → Spreads ((n : ℕ) × MayShrinkWithin hash b n) b d → RelocatesNoneWithin hash a d
   shrunk-none a b d count waiting shrinks s = record {
     all = λ ne. s.all (λ e. ne (e ∙ count));
     less = λ e. let z = s.less (e ∙ sym count) in omega (arith, pending-same a b waiting);
     waiting = λ e undue. waits shrinks (λ m. s.waiting m ∙ waiting) (e ∙ sym count) undue;
   }
     where
-      waits : ShrinksBounded hash b d → ((((n : ℕ) × MayNarrow hash b n) → ⊥) → waiting_of d ≡ waiting_of a) → bucket_count d ≡ bucket_count b → ((n : ℕ) → MayNarrow hash d n → ⊥) → waiting_of d ≡ waiting_of a
+      waits : ShrinksBounded hash b d → ((((n : ℕ) × MayShrinkWithin hash b n) → ⊥) → waiting_of d ≡ waiting_of a) → bucket_count d ≡ bucket_count b → ((n : ℕ) → MayShrinkWithin hash d n → ⊥) → waiting_of d ≡ waiting_of a
       waits (stays_wide none e) f same undue = f (λ m. none m.0 m.1)
       waits (denied_narrow n small up keeps) f same undue = f (λ m. undue m.0 (narrow-same b d m.0 (keeps-entries b d keeps) keeps.settings (keeps-count b d keeps) m.1))
-      waits (narrows small least down moved) f same undue = absurd (let z = small.fewer in omega arith)
+      waits (narrows small least_slots down moved) f same undue = absurd (let z = small.fewer in omega arith)
 
 module _ {E S : Type 0} (h : ℕ) where
   -- what waits after a get in a bucket that doesn't wait
-  pub settled-one : (c d : Contents E S) → waiting_of d ≡ waiting_of c → waits_at (waiting_of c) (bucket_number (settings_of c).skipped (bucket_count c) h) ≡ false → RelocatesOne h c d
-  settled-one c d same down =
+  pub not_waiting-one : (c d : Contents E S) → waiting_of d ≡ waiting_of c → waits_at (waiting_of c) (bucket_number (settings_of c).skipped (bucket_count c) h) ≡ false → RelocatesOne h c d
+  not_waiting-one c d same down =
       let i = bucket_number (settings_of c).skipped (bucket_count c) h in
-      record { settled = ap (λ w. waits_at w i) same ∙ down; targets = targets-same c d same ∙ sym (targets-without i c down) }
+      record { not_waiting = ap (λ w. waits_at w i) same ∙ down; targets = targets-same c d same ∙ sym (targets-without i c down) }
 
   -- a write after it leaves that as it is
   pub written-one : (c d w : Contents E S) → RelocatesOne h c d → waiting_of w ≡ waiting_of d → RelocatesOne h c w
-  written-one c d w r same = record { settled = ap (λ x. waits_at x (bucket_number (settings_of c).skipped (bucket_count c) h)) same ∙ r.settled; targets = targets-same d w same ∙ r.targets }
+  written-one c d w r same = record { not_waiting = ap (λ x. waits_at x (bucket_number (settings_of c).skipped (bucket_count c) h)) same ∙ r.not_waiting; targets = targets-same d w same ∙ r.targets }
 
   -- and in one that took its pairs over first
   pub relocated-one : (c b d : Contents E S) (i : ℕ) → i ≡ bucket_number (settings_of c).skipped (bucket_count c) h → pending_targets b ≡ filter (λ t. not (t == i)) (pending_targets c) → waits_at (waiting_of b) i ≡ false → waiting_of d ≡ waiting_of b → RelocatesOne h c d
   relocated-one c b d i at targets down same = record {
-    settled = ap (λ j. waits_at (waiting_of d) j) (sym at) ∙ ap (λ w. waits_at w i) same ∙ down;
+    not_waiting = ap (λ j. waits_at (waiting_of d) j) (sym at) ∙ ap (λ w. waits_at w i) same ∙ down;
     targets = targets-same b d same ∙ targets ∙ ap (λ j. filter (λ t. not (t == j)) (pending_targets c)) at;
   }
 
 -- what waits after a put: m is the cache once it grew where that was due, and i the bucket of the key
 module _ {E S : Type 0} (hash i : ℕ) (c m d : Contents E S) (at : i ≡ bucket_number (settings_of c).skipped (bucket_count m) hash) (count : bucket_count d ≡ bucket_count m) (some : i < bucket_count m) (lawful : IsLawful (bucket_count m)) where
   pub put-relocates : (bucket_count c ≡ 0 → waiting_of m ≡ []) → (0 < bucket_count c → bucket_count m ≡ bucket_count c → waiting_of m ≡ waiting_of c) → (0 < bucket_count c → bucket_count m ≢ bucket_count c → pending_of m ≡ bucket_count m)
-      → waits_at (waiting_of d) i ≡ false → pending_targets d ≡ left_after i (pending_targets m) → (2 ≤ pending_of m → pending_of d + 2 ≡ pending_of m) → RelocatesTwo hash c d
-  put-relocates first waiting all settled exact two = record {
-    settled = ap (waits_at (waiting_of d)) (sym (at ∙ ap (λ n. bucket_number (settings_of c).skipped n hash) (sym count))) ∙ settled;
+      → waits_at (waiting_of d) i ≡ false → pending_targets d ≡ left_after i (pending_targets m) → (2 ≤ pending_of m → pending_of d + 2 ≡ pending_of m) → RelocatesTwoWithin hash c d
+  put-relocates first waiting all not_waiting exact two = record {
+    not_waiting = ap (waits_at (waiting_of d)) (sym (at ∙ ap (λ n. bucket_number (settings_of c).skipped n hash) (sym count))) ∙ not_waiting;
     exact = λ one same.
         let stay : bucket_count m ≡ bucket_count c = sym count ∙ same in
         exact ∙ ap (left_after i) (targets-same c m (waiting one stay)) ∙ ap (λ j. left_after j (pending_targets c)) (at ∙ ap (λ n. bucket_number (settings_of c).skipped n hash) stay);
     grown = λ one other.
         let pending = all one (λ e. other (count ∙ e)) in
-        let least : 2 ≤ bucket_count m = elim lawful [ inl z ↦ absurd (omega arith) | inr z ↦ z.least ] in
+        let least_slots : 2 ≤ bucket_count m = elim lawful [ inl z ↦ absurd (omega arith) | inr z ↦ z.least_slots ] in
         let both = two (omega arith) in
         omega arith;
     first = λ zero.
@@ -109,7 +109,7 @@ any-some (Some x) p = p
 
 -- what a get found in a bucket that took its pairs over first, seen from the cache before
 module _ {K V S : Type 0} (hash : Settings S → K → ℕ) (eq : K → K → Bool) (a b d : Cached (K × V) S) (k : K) (lists : lists_of b.contents ≡ lists_of a.contents) (settings : settings_of b.contents ≡ settings_of a.contents) (refused : refused_of b.contents ≡ refused_of a.contents) (maximum : b.maximum ≡ a.maximum) where
-  changes-from : (p : K × V) → Changes (Refreshes (number_in (hash (settings_of b.contents)) b.contents) eq k p) b d → Changes (Refreshes (number_in (hash (settings_of a.contents)) a.contents) eq k p) a d
+  changes-from : (p : K × V) → ChangesLists (Refreshes (list_number (hash (settings_of b.contents)) b.contents) eq k p) b d → ChangesLists (Refreshes (list_number (hash (settings_of a.contents)) a.contents) eq k p) a d
   changes-from p c = record {
     lists =
         subst (λ s. Refreshes (λ n j. bucket_number s.skipped n (hash s j)) eq k p (lists_of a.contents) (lists_of d.contents)) settings

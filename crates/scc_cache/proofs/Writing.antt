@@ -4,7 +4,7 @@ use Rattle.std.specs.List.{IsDistinct, flat_map, slice_get}
 use Rattle.std.proofs.lemmas.List.{map-append}
 use native.Mathlib.Decide.{dec_lt}
 use Rattle.scc_buckets.specs.Bounded.{IsListed}
-use Rattle.scc_contents.specs.Contents.{Contents, Settings, entries, bucket_count, settings_of, spilled_of, list_of}
+use Rattle.scc_contents.specs.Contents.{Contents, Settings, entries, bucket_count, settings_of, overflow_of, list_of}
 use Rattle.scc_contents.specs.Pairs.{IsUnique, with_pair_key, with_pair_value}
 use Rattle.scc_buckets.specs.Places.{IsSpot, index_of_spot}
 use Rattle.scc_array.specs.ShelfWrites.{write_at, length-write_at}
@@ -81,8 +81,8 @@ module _ {E S X : Type 0} (put : E → X → E) (c : Contents E S) (p : Place) (
   unfolding settings_of with_write_at_spot
   written-settings = refl
 
-  pub written-spilled : spilled_of (with_write_at_spot put c p w) ≡ spilled_of c
-  unfolding spilled_of with_write_at_spot
+  pub written-spilled : overflow_of (with_write_at_spot put c p w) ≡ overflow_of c
+  unfolding overflow_of with_write_at_spot
   written-spilled = refl
 
   pub listed-written : (hash : E → ℕ) → ((e : E) → slice_get (list_of c p.bucket) p.slot ≡ Some e → hash (put e w) ≡ hash e) → IsListed hash c → IsListed hash (with_write_at_spot put c p w)
@@ -117,7 +117,7 @@ module _ {K V S : Type 0} (eq : K → K → Bool) (hash : K → ℕ) (c : Cached
     unique = value-unique v;
     within = rw (written-count with_pair_value c.contents (spot_of c.contents p) within v) h.within;
     power = h.power;
-    least = h.least;
+    least_slots = h.least_slots;
     most = h.most;
     minimum = rw (written-settings with_pair_value c.contents (spot_of c.contents p) within v) h.minimum;
   }
@@ -129,7 +129,7 @@ module _ {K V S : Type 0} (eq : K → K → Bool) (hash : K → ℕ) (c : Cached
     unique = unique;
     within = rw (written-count with_pair_key c.contents (spot_of c.contents p) within k) h.within;
     power = h.power;
-    least = h.least;
+    least_slots = h.least_slots;
     most = h.most;
     minimum = rw (written-settings with_pair_key c.contents (spot_of c.contents p) within k) h.minimum;
   }

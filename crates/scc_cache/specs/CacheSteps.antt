@@ -7,7 +7,7 @@ use Rattle.scc_buckets.specs.Bounded.{IsListed, ShrinksBounded}
 use Rattle.scc_contents.specs.Contents.{Contents, entries, bucket_count, list_of, lists_of, pending_of, refused_of, settings_of, waiting_of}
 use Rattle.scc_contents.specs.Routing.{bucket_number}
 use Rattle.scc_buckets.specs.declared.place.Place.{Place}
-use Rattle.scc_table.specs.Bounded.{GrowsBelow, IsReadyBelow}
+use Rattle.scc_table.specs.Bounded.{GrowsBelow, IsPreparedBelow}
 use Rattle.scc_table.specs.Places.{IsPlace, spot_of}
 use Rattle.scc_common.specs.declared.errors.InsertError.{InsertError}
 use Rattle.scc_common.specs.declared.errors.InsertError.TheVariants.{Exists, Memory}
@@ -16,21 +16,21 @@ use Rattle.scc_cache.specs.ListSteps.{IsMissing, IsThere, PutsPair, Refreshes, T
 
 module _ {E S : Type 0} where
   -- the lists change as R says; settings, maximum and whether memory was refused stay
-  pub record Changes (R : List (List E) → List (List E) → Type 0) (c d : Cached E S) : Type 0 where
+  pub record ChangesLists (R : List (List E) → List (List E) → Type 0) (c d : Cached E S) : Type 0 where
     pub lists : R (lists_of c.contents) (lists_of d.contents)
     pub settings : settings_of d.contents ≡ settings_of c.contents
     pub refused : refused_of d.contents ≡ refused_of c.contents
     pub maximum : d.maximum ≡ c.maximum
 
   -- the lists change as R says; settings, maximum and whether memory was refused stay, and no growth is marked as refused just before
-  pub record ChangesUnmarked (R : List (List E) → List (List E) → Type 0) (c d : Cached E S) : Type 0 where
+  pub record ChangesListsUnmarked (R : List (List E) → List (List E) → Type 0) (c d : Cached E S) : Type 0 where
     pub lists : R (lists_of c.contents) (lists_of d.contents)
     pub settings : settings_of d.contents ≡ settings_of c.contents
     pub refused : refused_of d.contents ≡ ((refused_of c.contents).0, false)
     pub maximum : d.maximum ≡ c.maximum
 
   -- the growth that a new pair of list i lets happen first
-  pub record GrowsFor (hash : E → ℕ) (i : ℕ) (c d : Cached E S) : Type 0 where
+  pub record GrowsForPut (hash : E → ℕ) (i : ℕ) (c d : Cached E S) : Type 0 where
     pub grows : GrowsBelow hash c.maximum i c.contents d.contents
     pub listed : IsListed hash d.contents
     pub settings : settings_of d.contents ≡ settings_of c.contents
@@ -43,11 +43,11 @@ module _ {E S : Type 0} where
 
   -- what stood at the place was taken out, the others of its list stay in their order; then the array may become smaller
   abbrev pub TakesAtBy : (E → ℕ) → Cached E S → Place → Cached E S → Type 0
-  TakesAtBy hash c p d = (left : Cached E S) × Changes (λ ls ms. ms ≡ slice_set ls (spot_of c.contents p).bucket (remove (slice_index_or ls (spot_of c.contents p).bucket []) (spot_of c.contents p).slot)) c left × ShrinksTo hash left d
+  TakesAtBy hash c p d = (left : Cached E S) × ChangesLists (λ ls ms. ms ≡ slice_set ls (spot_of c.contents p).bucket (remove (slice_index_or ls (spot_of c.contents p).bucket []) (spot_of c.contents p).slot)) c left × ShrinksTo hash left d
 
   -- all pairs were taken out; then the array may become smaller
   abbrev pub ClearsBy : (E → ℕ) → Cached E S → Cached E S → Type 0
-  ClearsBy hash c d = (left : Cached E S) × Changes (λ ls ms. ms ≡ map (λ _. []) ls) c left × ShrinksTo hash left d
+  ClearsBy hash c d = (left : Cached E S) × ChangesLists (λ ls ms. ms ≡ map (λ _. []) ls) c left × ShrinksTo hash left d
 
 module _ {K V S : Type 0} (hash : K → ℕ) where
   -- each bucket keeps no pair, by the hash of the pairs' keys
@@ -59,17 +59,17 @@ module _ {K V S : Type 0} (hash : K → ℕ) where
   TakesAt = TakesAtBy (λ p. hash p.0)
 
   -- the number of the list of a key, of n lists, behind the skipped bits of c
-  abbrev pub number_in : Contents (K × V) S → ℕ → K → ℕ
-  number_in c n k = bucket_number (settings_of c).skipped n (hash k)
+  abbrev pub list_number : Contents (K × V) S → ℕ → K → ℕ
+  list_number c n k = bucket_number (settings_of c).skipped n (hash k)
 
   -- all is made that a put of the new key k wants: there is an array, and the key's list has room, no doubling is due, or it was refused just before
-  abbrev pub IsReadyFor : Cached (K × V) S → K → Type 0
-  IsReadyFor c k = IsReadyBelow c.maximum (number_in c.contents (bucket_count c.contents) k) c.contents
+  abbrev pub IsPreparedForPut : Cached (K × V) S → K → Type 0
+  IsPreparedForPut c k = IsPreparedBelow c.maximum (list_number c.contents (bucket_count c.contents) k) c.contents
 
   -- room was made for a put of the new key k: the growth that it lets happen was made, and no pair moved. A doubling that was refused is marked
-  pub record MakesRoom (c : Cached (K × V) S) (k : K) (d : Cached (K × V) S) : Type 0 where
-    pub grows : GrowsFor (λ e. hash e.0) (number_in c.contents (bucket_count c.contents) k) c d
-    pub ready : IsReadyFor d k
+  pub record PreparesPut (c : Cached (K × V) S) (k : K) (d : Cached (K × V) S) : Type 0 where
+    pub grows : GrowsForPut (λ e. hash e.0) (list_number c.contents (bucket_count c.contents) k) c d
+    pub ready : IsPreparedForPut d k
     pub marked : (refused_of d.contents).1 ≡ true → ((refused_of c.contents).1 ≡ true) ⊎ ((refused_of d.contents).0 ≡ true)
     pub first : bucket_count c.contents ≡ 0 → pending_of d.contents ≡ 0
     pub waiting : 0 < bucket_count c.contents → bucket_count d.contents ≡ bucket_count c.contents → waiting_of d.contents ≡ waiting_of c.contents
@@ -78,11 +78,11 @@ module _ {K V S : Type 0} (hash : K → ℕ) where
   module _ (eq : K → K → Bool) where
     -- no key equals k
     abbrev pub IsAbsent : Contents (K × V) S → K → Type 0
-    IsAbsent c k = IsMissing (number_in c) eq (lists_of c) k
+    IsAbsent c k = IsMissing (list_number c) eq (lists_of c) k
 
     -- p is the pair of k, and stands there in its list
     abbrev pub IsPresentAt : Contents (K × V) S → K → ℕ → K × V → Type 0
-    IsPresentAt c k i p = IsThere (number_in c) eq (lists_of c) k i p
+    IsPresentAt c k i p = IsThere (list_number c) eq (lists_of c) k i p
 
     -- p is the pair of k
     abbrev pub IsPresent : Contents (K × V) S → K → K × V → Type 0
@@ -90,17 +90,17 @@ module _ {K V S : Type 0} (hash : K → ℕ) where
 
     -- a put of k would drive nothing out without a growth: the key is there, or its list has room
     abbrev pub DrivesNoneOut : Contents (K × V) S → K → Type 0
-    DrivesNoneOut c k = ((p : K × V) × IsPresent c k p) ⊎ (length (list_of c (number_in c (bucket_count c) k)) < 32)
+    DrivesNoneOut c k = ((p : K × V) × IsPresent c k p) ⊎ (length (list_of c (list_number c (bucket_count c) k)) < 32)
 
     -- a put of the new key k would drive p out without a growth: p is the least recent of a full list
     pub record DrivesOut (c : Contents (K × V) S) (k : K) (p : K × V) : Type 0 where
       pub absent : IsAbsent c k
-      pub full : 32 ≤ length (list_of c (number_in c (bucket_count c) k))
-      pub first : slice_get (list_of c (number_in c (bucket_count c) k)) 0 ≡ Some p
+      pub full : 32 ≤ length (list_of c (list_number c (bucket_count c) k))
+      pub first : slice_get (list_of c (list_number c (bucket_count c) k)) 0 ≡ Some p
 
     -- the pair of k, where there is one
     abbrev pub pair_of : Contents (K × V) S → K → Option (K × V)
-    pair_of c k = pair_for (number_in c) eq (lists_of c) k
+    pair_of c k = pair_for (list_number c) eq (lists_of c) k
 
     -- no key equals k, in its list or in any
     pub record IsLacking (c : Contents (K × V) S) (k : K) : Type 0 where
@@ -110,7 +110,7 @@ module _ {K V S : Type 0} (hash : K → ℕ) where
     -- the pair of k stands at the place
     pub record IsFound (c : Contents (K × V) S) (k : K) (p : Place) : Type 0 where
       pub within : IsPlace c p
-      pub bucket : (spot_of c p).bucket ≡ number_in c (bucket_count c) k
+      pub bucket : (spot_of c p).bucket ≡ list_number c (bucket_count c) k
       pub pair : K × V
       pub there : IsPresentAt c k (spot_of c p).slot pair
       pub here : slice_get (list_of c (spot_of c p).bucket) (spot_of c p).slot ≡ Some pair
@@ -120,13 +120,13 @@ module _ {K V S : Type 0} (hash : K → ℕ) where
       pub within : IsPlace d.contents at
       pub pair : K × V
       pub here : slice_get (list_of d.contents (spot_of d.contents at).bucket) (spot_of d.contents at).slot ≡ Some pair
-      pub changes : Changes (Refreshes (number_in c.contents) eq k pair) c d
-      pub bucket : (spot_of d.contents at).bucket ≡ number_in c.contents (bucket_count c.contents) k
+      pub changes : ChangesLists (Refreshes (list_number c.contents) eq k pair) c d
+      pub bucket : (spot_of d.contents at).bucket ≡ list_number c.contents (bucket_count c.contents) k
       pub last : (spot_of d.contents at).slot + 1 ≡ length (list_of d.contents (spot_of d.contents at).bucket)
 
     -- the new pair p was put in after a growth, where that is due; x is what it drove out
     abbrev pub PutsNew : Cached (K × V) S → K × V → Option (K × V) → Cached (K × V) S → Type 0
-    PutsNew c p x d = (grown : Cached (K × V) S) × GrowsFor (λ e. hash e.0) (number_in c.contents (bucket_count c.contents) p.0) c grown × ChangesUnmarked (PutsPair (number_in c.contents) eq p x) grown d
+    PutsNew c p x d = (grown : Cached (K × V) S) × GrowsForPut (λ e. hash e.0) (list_number c.contents (bucket_count c.contents) p.0) c grown × ChangesListsUnmarked (PutsPair (list_number c.contents) eq p x) grown d
 
     -- a put of the pair p. A key that is there changes nothing, and p comes back; so it does where there is no array and none can be had
     abbrev pub Puts : Cached (K × V) S → K × V → Result (Option (K × V)) (InsertError K V) → Cached (K × V) S → Type 0
@@ -136,7 +136,7 @@ module _ {K V S : Type 0} (hash : K → ℕ) where
 
     -- p, the pair of k, was taken out; then the array may become smaller
     abbrev pub TakesThen : Cached (K × V) S → K → K × V → Cached (K × V) S → Type 0
-    TakesThen c k p d = (left : Cached (K × V) S) × Changes (TakesOut (number_in c.contents) eq k p) c left × ShrinksTo (λ e. hash e.0) left d
+    TakesThen c k p d = (left : Cached (K × V) S) × ChangesLists (TakesOut (list_number c.contents) eq k p) c left × ShrinksTo (λ e. hash e.0) left d
 
     -- a removal of k: its pair is answered, and the others of its list stay in their order
     abbrev pub Removes : Cached (K × V) S → K → Option (K × V) → Cached (K × V) S → Type 0

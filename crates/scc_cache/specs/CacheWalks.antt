@@ -5,7 +5,7 @@ use Rattle.std.specs.Fn.{Once, FnOnceReturnsAtMut}
 use Rattle.std.specs.List.Sorted.{IsPermutation}
 use Rattle.scc_contents.specs.Contents.{Contents, entries, bucket_count, list_of, refused_of, settings_of}
 use Rattle.scc_buckets.specs.Pour.{bound_for}
-use Rattle.scc_cache.specs.CacheSteps.{Changes, IsAbsent, ShrinksTo, TakesThen, number_in}
+use Rattle.scc_cache.specs.CacheSteps.{ChangesLists, IsAbsent, ShrinksTo, TakesThen, list_number}
 use Rattle.scc_cache.specs.Caches.{Cached}
 use Rattle.scc_cache.specs.ListSteps.{Rewrites}
 
@@ -33,5 +33,5 @@ module _ {K V S : Type 0} (hash : K → ℕ) where
     -- a missing key changes nothing; a pair on which the closure answered false stays with what that wrote; one on which it answered true goes and is the answer
     pub data RemovesIf (r : Option (K × V)) (d : Cached (K × V) S) : Type 0 where
       missing : IsAbsent hash eq c.contents k → r ≡ None → d ≡ c → RemovesIf r d
-      declined : (p : K × V) (w : V) → FnOnceReturnsAtMut g f p.1 false w → r ≡ None → Changes (Rewrites (number_in hash c.contents) eq k p (p.0, w)) c d → RemovesIf r d
+      declined : (p : K × V) (w : V) → FnOnceReturnsAtMut g f p.1 false w → r ≡ None → ChangesLists (Rewrites (list_number hash c.contents) eq k p (p.0, w)) c d → RemovesIf r d
       removed : (p : K × V) (w : V) → FnOnceReturnsAtMut g f p.1 true w → r ≡ Some (p.0, w) → TakesThen hash eq c k p d → RemovesIf r d

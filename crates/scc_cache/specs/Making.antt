@@ -6,7 +6,7 @@ use Rattle.scc_cache.specs.Caches.{Cached}
 
 module _ {E S : Type 0} where
   -- an empty cache without an array, with that hasher, no minimum and a maximum of 256 slots
-  pub record IsNew (hasher : S) (c : Cached E S) : Type 0 where
+  pub record IsNewCache (hasher : S) (c : Cached E S) : Type 0 where
     -- there is no pair
     pub entries : entries c.contents ≡ []
     -- there is no array
@@ -21,7 +21,7 @@ module _ {E S : Type 0} where
     pub waiting : waiting_of c.contents ≡ []
 
   -- a call that makes an empty cache, with the hasher that h answers of it, those bits skipped, so many slots asked for and that maximum
-  pub record MakesEmpty {X : Type 0} (h : Cached E S → S) (skipped capacity most : ℕ) (result : Result (Cached E S) X) : Type 0 where
+  pub record MakesEmptyCache {X : Type 0} (h : Cached E S → S) (skipped capacity most : ℕ) (result : Result (Cached E S) X) : Type 0 where
     -- there is no pair
     pub entries : IfOk result (λ c. entries c.contents ≡ [])
     -- there is no array where no slots were asked for

@@ -5,9 +5,9 @@ use Rattle.scc_buckets.specs.declared.place.Place.{Place}
 use Rattle.scc_contents.specs.Contents.{bucket_count, list_of, lists_of, refused_of, settings_of, waiting_of}
 use Rattle.scc_table.specs.Places.{IsPlace, spot_of}
 use Rattle.scc_common.specs.declared.errors.InsertError.{InsertError}
-use Rattle.scc_cache.specs.CacheSteps.{IsAbsent, IsPresent, IsReadyFor, MakesRoom, Puts, PutsNew}
+use Rattle.scc_cache.specs.CacheSteps.{IsAbsent, IsPresent, IsPreparedForPut, PreparesPut, Puts, PutsNew}
 use Rattle.scc_cache.specs.Caches.{Cached, IsCacheState}
-use Rattle.scc_cache.specs.Relocations.{RelocatesTwo}
+use Rattle.scc_cache.specs.Relocations.{RelocatesTwoWithin}
 
 module _ {K V S : Type 0} (eq : K → K → Bool) (hash_of : S → K → ℕ) where
   -- what `put_sync` of the pair p, answered so, does to the pairs and to the array
@@ -19,9 +19,9 @@ module _ {K V S : Type 0} (eq : K → K → Bool) (hash_of : S → K → ℕ) wh
     -- the cache is one still
     pub state : IsCacheState eq (hash_of (settings_of d.contents).hasher) d
     -- a new key relocates two buckets, its own first
-    pub relocates : OnOk result (RelocatesTwo (hash_of (settings_of c.contents).hasher p.0) c.contents d.contents)
+    pub relocates : OnOk result (RelocatesTwoWithin (hash_of (settings_of c.contents).hasher p.0) c.contents d.contents)
     -- the number of buckets stays where room was made before
-    pub once : IsReadyFor (hash_of (settings_of c.contents).hasher) c p.0 → bucket_count d.contents ≡ bucket_count c.contents
+    pub once : IsPreparedForPut (hash_of (settings_of c.contents).hasher) c p.0 → bucket_count d.contents ≡ bucket_count c.contents
     -- and the mark of a refused doubling goes
     pub unmarked : OnOk result ((refused_of d.contents).1 ≡ false)
 
@@ -36,18 +36,18 @@ module _ {K V S : Type 0} (eq : K → K → Bool) (hash_of : S → K → ℕ) wh
     -- the cache is one still
     pub state : IsCacheState eq (hash_of (settings_of d.contents).hasher) d
     -- it relocates two buckets, its own first
-    pub relocates : OnOk result (RelocatesTwo (hash_of (settings_of c.contents).hasher p.0) c.contents d.contents)
+    pub relocates : OnOk result (RelocatesTwoWithin (hash_of (settings_of c.contents).hasher p.0) c.contents d.contents)
     -- the number of buckets stays where room was made before
-    pub once : IsReadyFor (hash_of (settings_of c.contents).hasher) c p.0 → bucket_count d.contents ≡ bucket_count c.contents
+    pub once : IsPreparedForPut (hash_of (settings_of c.contents).hasher) c p.0 → bucket_count d.contents ≡ bucket_count c.contents
     -- and the mark of a refused doubling goes
     pub unmarked : OnOk result ((refused_of d.contents).1 ≡ false)
 
-  -- what `make_room` for the key k, answered so, does to a cache
-  pub record MakesRoomByRule {X : Type 0} (c : Cached (K × V) S) (k : K) (result : Result (Unit {0}) X) (d : Cached (K × V) S) : Type 0 where
+  -- what `prepare` for the key k, answered so, does to a cache
+  pub record PreparesByRule {X : Type 0} (c : Cached (K × V) S) (k : K) (result : Result (Unit {0}) X) (d : Cached (K × V) S) : Type 0 where
     -- a key that is there wants nothing
     pub present : (p : K × V) → IsPresent (hash_of (settings_of c.contents).hasher) eq c.contents k p → IsOk result × (d ≡ c)
     -- for a new key all is made that its put wants
-    pub ok : IsAbsent (hash_of (settings_of c.contents).hasher) eq c.contents k → OnOk result (MakesRoom (hash_of (settings_of c.contents).hasher) c k d)
+    pub ok : IsAbsent (hash_of (settings_of c.contents).hasher) eq c.contents k → OnOk result (PreparesPut (hash_of (settings_of c.contents).hasher) c k d)
     -- it fails only where the first array is refused to a new key
     pub err : OnErr result (IsAbsent (hash_of (settings_of c.contents).hasher) eq c.contents k × (bucket_count c.contents ≡ 0))
     -- and then nothing changed
@@ -59,8 +59,8 @@ module _ {K V S : Type 0} (eq : K → K → Bool) (hash_of : S → K → ℕ) wh
     -- the cache is one still
     pub state : IsCacheState eq (hash_of (settings_of d.contents).hasher) d
 
-  -- what `drop_room` does to a cache
-  pub record DropsRoom (c d : Cached (K × V) S) : Type 0 where
+  -- what `drop_mark` does to a cache
+  pub record DropsMark (c d : Cached (K × V) S) : Type 0 where
     -- no list changes
     pub lists : lists_of d.contents ≡ lists_of c.contents
     -- hasher and sizes stay

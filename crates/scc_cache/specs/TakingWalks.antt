@@ -9,7 +9,7 @@ use Rattle.scc_contents.specs.Pairs.{IsUnique}
 use Rattle.scc_contents.specs.Steps.{HoldsExactly}
 use Rattle.scc_table.specs.Places.{StandsAt, index_of}
 use Rattle.scc_cache.specs.Caches.{Cached, IsCacheState}
-use Rattle.scc_cache.specs.Relocations.{RelocatesNone}
+use Rattle.scc_cache.specs.Relocations.{RelocatesNoneWithin}
 
 module _ {K V S Z X : Type 0} where
   -- what a walk, answered so, does to the array and to the list, where Step says what it does to the pairs
@@ -25,7 +25,7 @@ module _ {K V S Z X : Type 0} where
     -- the cache is one still
     pub state : IsCacheState eq (hash_of (settings_of d.contents).hasher) d
     -- no bucket takes its pairs over
-    pub relocates : RelocatesNone (λ p. hash_of (settings_of c.contents).hasher p.0) c.contents d.contents
+    pub relocates : RelocatesNoneWithin (λ p. hash_of (settings_of c.contents).hasher p.0) c.contents d.contents
     -- and where no pair was taken, the same buckets wait
     pub rests : length (entries d.contents) ≡ length (entries c.contents) → waiting_of d.contents ≡ waiting_of c.contents
 
@@ -46,7 +46,7 @@ module _ {K V S Z X : Type 0} where
 
 module _ {K V S : Type 0} where
   -- the pair went out of its place, with no resize; the answer is it and the place of the one that followed
-  pub record StepsOut (c : Cached (K × V) S) (place : Place) (result : (K × V) × Option Place) (d : Cached (K × V) S) : Type 0 where
+  pub record TakesOutWithNext (c : Cached (K × V) S) (place : Place) (result : (K × V) × Option Place) (d : Cached (K × V) S) : Type 0 where
     -- the pair that stood there is answered
     pub pair : slice_get (entries c.contents) (index_of c.contents place) ≡ Some result.0
     -- the others stay in their order

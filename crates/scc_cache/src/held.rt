@@ -16,37 +16,37 @@ use std::marker::PhantomData;
 
 /// An entry that the cache has, at its place.
 #[derive(Drop)]
-pub struct HeldEntry<G: Guard<Kept = Owned<K, V, H>>, N, K: Eq + Hash, V, H: BuildHasher> {
+pub struct HeldOccupied<G: Guard<Inner = Owned<K, V, H>>, N, K: Eq + Hash, V, H: BuildHasher> {
     pub(crate) guard: G,
     pub(crate) place: Place,
     pub(crate) rest: N,
     pub(crate) of: PhantomData<(K, V, H)>,
-    ghost within: { IsPlace (G.kept guard).contents place },
+    ghost within: { IsPlace (G.inner guard).contents place },
 }
 
 /// A key that the cache lacks, with its hash.
 #[derive(Drop)]
-pub struct HeldVacant<G: Guard<Kept = Owned<K, V, H>>, N, K: Eq + Hash, V, H: BuildHasher> {
+pub struct HeldVacant<G: Guard<Inner = Owned<K, V, H>>, N, K: Eq + Hash, V, H: BuildHasher> {
     pub(crate) guard: G,
     pub(crate) key: K,
     pub(crate) hash: u64,
     pub(crate) rest: N,
     pub(crate) of: PhantomData<(V, H)>,
-    ghost lacking: { IsLacking (key_hash H.BuildHasher H.Hasher.Hasher K.hash_input (G.kept guard).contents) K.eq
-        (G.kept guard).contents key },
-    ghost hashed: { hash ≡ key_hash H.BuildHasher H.Hasher.Hasher K.hash_input (G.kept guard).contents key },
+    ghost lacking: { IsLacking (key_hash H.BuildHasher H.Hasher.Hasher K.hash_input (G.inner guard).contents) K.eq
+        (G.inner guard).contents key },
+    ghost hashed: { hash ≡ key_hash H.BuildHasher H.Hasher.Hasher K.hash_input (G.inner guard).contents key },
 }
 
 /// The entry of a key.
 #[derive(Drop)]
-pub enum HeldPlace<G: Guard<Kept = Owned<K, V, H>>, N, K: Eq + Hash, V, H: BuildHasher> {
-    Occupied(HeldEntry<G, N, K, V, H>),
+pub enum HeldEntry<G: Guard<Inner = Owned<K, V, H>>, N, K: Eq + Hash, V, H: BuildHasher> {
+    Occupied(HeldOccupied<G, N, K, V, H>),
     Vacant(HeldVacant<G, N, K, V, H>),
 }
 
 /// The answer of `replace_sync`: the entry with its new key and the old key, or the key that the cache lacks.
 #[derive(Drop)]
-pub enum HeldReplace<G: Guard<Kept = Owned<K, V, H>>, N, K: Eq + Hash, V, H: BuildHasher> {
-    Replaced(HeldEntry<G, N, K, V, H>, K),
+pub enum HeldReplace<G: Guard<Inner = Owned<K, V, H>>, N, K: Eq + Hash, V, H: BuildHasher> {
+    Replaced(HeldOccupied<G, N, K, V, H>, K),
     NotReplaced(HeldVacant<G, N, K, V, H>),
 }

@@ -5,7 +5,7 @@ ghost use Rattle.scc_cache.specs.CacheSteps.{AnswersOn, IsAbsent, IsPresent, Rem
 ghost use Rattle.scc_cache.specs.CacheWalks.{RemovesIf};
 ghost use Rattle.scc_cache.specs.Caches.{IsCacheState};
 ghost use Rattle.scc_cache.specs.Putting.{PutsByRule};
-ghost use Rattle.scc_cache.specs.Relocations.{RelocatesNone};
+ghost use Rattle.scc_cache.specs.Relocations.{RelocatesNoneWithin};
 ghost use Rattle.scc_contents.specs.Contents.{entries, bucket_count, minimum_of, pending_of, waiting_of, key_hash, hash_in};
 ghost use Rattle.std.specs.Borrow.{Bor};
 ghost use Rattle.std.specs.Fn.{FnOnceTakesAtMut};
@@ -145,7 +145,7 @@ impl<K: Eq + Hash, V, H: BuildHasher> Owned<K, V, H> {
     /// holds 32 pairs, the least recent of them is driven out and answered. Where a key equals `k` nothing changes, and
     /// the supplied pair comes back; so it does where there is no array and none can be had. With an array it can't be
     /// refused. Where buckets wait, that of `k` takes its pairs over first, and then the first ones that wait, two in
-    /// all; after a doubling all others wait. Where `make_room` was made for `k` just before, no array is made and none
+    /// all; after a doubling all others wait. Where `prepare` was made for `k` just before, no array is made and none
     /// is doubled. The mark of a refused doubling goes.
     #[inline(always)]
     pub fn put_sync(&mut self, k: K, v: V) -> Result<EvictedEntry<K, V>, InsertError<K, V>>
@@ -168,7 +168,7 @@ impl<K: Eq + Hash, V, H: BuildHasher> Owned<K, V, H> {
         ensures step { Removes (hash_in ⟦<H as Hashes<K>>⟧.hash_of self.old.contents) K.eq self.old k.now result
             self.new }
         ensures state { IsCacheState K.eq (hash_in ⟦<H as Hashes<K>>⟧.hash_of self.new.contents) self.new }
-        ensures relocates { RelocatesNone (λ p. hash_in ⟦<H as Hashes<K>>⟧.hash_of self.old.contents p.0)
+        ensures relocates { RelocatesNoneWithin (λ p. hash_in ⟦<H as Hashes<K>>⟧.hash_of self.old.contents p.0)
             self.old.contents self.new.contents }
     {
         let hash = self.table.hash(k);
@@ -188,7 +188,7 @@ impl<K: Eq + Hash, V, H: BuildHasher> Owned<K, V, H> {
         ensures step { RemovesIf (hash_in ⟦<H as Hashes<K>>⟧.hash_of self.old.contents) K.eq F.FnOnce f self.old k.now
             result self.new }
         ensures state { IsCacheState K.eq (hash_in ⟦<H as Hashes<K>>⟧.hash_of self.new.contents) self.new }
-        ensures relocates { RelocatesNone (λ p. hash_in ⟦<H as Hashes<K>>⟧.hash_of self.old.contents p.0)
+        ensures relocates { RelocatesNoneWithin (λ p. hash_in ⟦<H as Hashes<K>>⟧.hash_of self.old.contents p.0)
             self.old.contents self.new.contents }
         ensures rests { result ≡ None → waiting_of self.new.contents ≡ waiting_of self.old.contents }
     {

@@ -4,13 +4,13 @@ mod insertions;
 mod methods;
 
 use crate::Owned;
-use crate::held::{HeldEntry, HeldPlace, HeldReplace, HeldVacant};
+use crate::held::{HeldEntry, HeldOccupied, HeldReplace, HeldVacant};
 use scc_common::Shared;
 use std::hash::{BuildHasherDefault, FoldHasher};
 use std::sync::RwLockWriteGuard;
 
 /// The entry of a key, with the lock of its stripe held.
-pub type Entry<'a, K, V, H = BuildHasherDefault<FoldHasher>> = HeldPlace<
+pub type Entry<'a, K, V, H = BuildHasherDefault<FoldHasher>> = HeldEntry<
     RwLockWriteGuard<'a, Owned<K, V, Shared<H>>>,
     (),
     K,
@@ -19,7 +19,7 @@ pub type Entry<'a, K, V, H = BuildHasherDefault<FoldHasher>> = HeldPlace<
 >;
 
 /// An entry that is there, with the lock of its stripe held.
-pub type OccupiedEntry<'a, K, V, H = BuildHasherDefault<FoldHasher>> = HeldEntry<
+pub type OccupiedEntry<'a, K, V, H = BuildHasherDefault<FoldHasher>> = HeldOccupied<
     RwLockWriteGuard<'a, Owned<K, V, Shared<H>>>,
     (),
     K,

@@ -1,7 +1,7 @@
 //! How a cache is made: empty, or of items.
 ghost use Rattle.scc_cache.specs.Caches.{IsCacheState};
 ghost use Rattle.scc_cache.specs.Collections.{IsCollected, PutsAll};
-ghost use Rattle.scc_cache.specs.Making.{IsNew, MakesEmpty};
+ghost use Rattle.scc_cache.specs.Making.{IsNewCache, MakesEmptyCache};
 ghost use Rattle.scc_contents.specs.Contents.{settings_of, hash_in};
 ghost use Rattle.std.specs.Arc.{arc_value};
 ghost use Rattle.std.specs.Iterator.{Drains, IsFinite};
@@ -19,14 +19,14 @@ use std::sync::Arc;
 impl<K: Eq + Hash, V> Owned<K, V> {
     /// An empty cache without an array, with a maximum of 256 slots. It takes no memory.
     pub fn new(alloc: Global) -> Self
-        ensures { IsNew (settings_of result.contents).hasher result }
+        ensures { IsNewCache (settings_of result.contents).hasher result }
     {
         Owned::with_hasher(alloc, BuildHasherDefault::new())
     }
 
     /// An empty cache by the rules of `with_capacity_and_hasher`.
     pub fn with_capacity(alloc: Global, capacity: usize, maximum: usize) -> Result<Self, MakeError>
-        ensures { MakesEmpty (λ c. (settings_of c.contents).hasher) 0 capacity maximum result }
+        ensures { MakesEmptyCache (λ c. (settings_of c.contents).hasher) 0 capacity maximum result }
     {
         Owned::with_capacity_and_hasher(alloc, capacity, maximum, BuildHasherDefault::new())
     }
@@ -45,7 +45,7 @@ impl<K: Eq + Hash, V, H: BuildHasher> Owned<K, V, Shared<H>> {
     where
         H: Drop,
         requires { skipped ≤ 4 }
-        ensures { MakesEmpty (λ _. arc_value hasher) skipped capacity maximum result }
+        ensures { MakesEmptyCache (λ _. arc_value hasher) skipped capacity maximum result }
     {
         Owned::skipping(alloc, skipped, capacity, maximum, Shared::new(hasher))
     }
@@ -54,7 +54,7 @@ impl<K: Eq + Hash, V, H: BuildHasher> Owned<K, V, Shared<H>> {
 impl<K: Eq + Hash, V, H: BuildHasher> Owned<K, V, H> {
     /// An empty cache without an array, with a maximum of 256 slots. It takes no memory.
     pub fn with_hasher(alloc: Global, hasher: H) -> Self
-        ensures { IsNew hasher result }
+        ensures { IsNewCache hasher result }
     {
         Owned {
             table: Table::new(alloc, 0, hasher),
@@ -73,7 +73,7 @@ impl<K: Eq + Hash, V, H: BuildHasher> Owned<K, V, H> {
     ) -> Result<Self, MakeError>
     where
         H: Drop,
-        ensures { MakesEmpty (λ _. hasher) 0 capacity maximum result }
+        ensures { MakesEmptyCache (λ _. hasher) 0 capacity maximum result }
     {
         Owned::skipping(alloc, 0, capacity, maximum, hasher)
     }
@@ -89,7 +89,7 @@ impl<K: Eq + Hash, V, H: BuildHasher> Owned<K, V, H> {
     where
         H: Drop,
         requires { skipped ≤ 4 }
-        ensures { MakesEmpty (λ _. hasher) skipped capacity maximum result }
+        ensures { MakesEmptyCache (λ _. hasher) skipped capacity maximum result }
     {
         match Table::with_capacity(alloc, skipped, capacity, hasher) {
             Ok(table) => {

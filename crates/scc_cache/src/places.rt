@@ -3,7 +3,7 @@ ghost use Rattle.scc_cache.specs.CacheSteps.{IsFound, IsLacking, IsLastAt, Takes
 ghost use Rattle.scc_cache.specs.Caches.{IsCacheState};
 ghost use Rattle.scc_cache.specs.Lends.{lends_value, with_key_at, with_value_at};
 ghost use Rattle.scc_cache.specs.Putting.{PutsNewByRule};
-ghost use Rattle.scc_cache.specs.Relocations.{RelocatesNone, RelocatesOne};
+ghost use Rattle.scc_cache.specs.Relocations.{RelocatesNoneWithin, RelocatesOne};
 ghost use Rattle.scc_contents.specs.Contents.{entries, bucket_count, list_of, hash_in, settings_of, waiting_of};
 ghost use Rattle.scc_contents.specs.Routing.{bucket_number};
 ghost use Rattle.scc_table.specs.Places.{IsPlace, index_of, spot_of};
@@ -60,7 +60,7 @@ impl<K: Eq + Hash, V, H: BuildHasher> Owned<K, V, H> {
     {
         match self.table.bucket_within(hash, self.maximum) {
             Ok(bucket) => {
-                self.table.drop_room_within();
+                self.table.drop_mark_within();
                 let evicted = self.table.put_within(bucket, hash, (k, v));
                 let slot = self.table.list_len(bucket) - 1;
                 Ok((evicted, Place { bucket, slot }))
@@ -86,14 +86,14 @@ impl<K: Eq + Hash, V, H: BuildHasher> Owned<K, V, H> {
         }
         let bucket = self.table.bucket_at(hash);
         if self.table.is_waiting(bucket) {
-            return self.refresh_waiting(bucket, hash, k);
+            return self.refresh_after_relocation(bucket, hash, k);
         }
-        self.refresh_settled(bucket, hash, k)
+        self.refresh_in_bucket(bucket, hash, k)
     }
 
     /// The same where the bucket of the hash, which is of that number, waits.
     #[cold]
-    fn refresh_waiting(&mut self, bucket: usize, hash: u64, k: &K) -> Option<Place>
+    fn refresh_after_relocation(&mut self, bucket: usize, hash: u64, k: &K) -> Option<Place>
         requires within { bucket < bucket_count self.old.contents }
         requires routed { bucket ≡ bucket_number (settings_of self.old.contents).skipped
             (bucket_count self.old.contents) hash }
@@ -107,18 +107,18 @@ impl<K: Eq + Hash, V, H: BuildHasher> Owned<K, V, H> {
             self.old.contents self.new.contents) }
     {
         self.table.search_place(hash, k)?;
-        self.table.settle(bucket);
-        self.refresh_settled(bucket, hash, k)
+        self.table.relocate_within(bucket);
+        self.refresh_in_bucket(bucket, hash, k)
     }
 
     /// The same where it doesn't wait.
     #[inline(always)]
-    fn refresh_settled(&mut self, bucket: usize, hash: u64, k: &K) -> Option<Place>
+    fn refresh_in_bucket(&mut self, bucket: usize, hash: u64, k: &K) -> Option<Place>
         requires within { bucket < bucket_count self.old.contents }
         requires routed { bucket ≡ bucket_number (settings_of self.old.contents).skipped
             (bucket_count self.old.contents) hash }
         requires hashed { hash ≡ hash_in ⟦<H as Hashes<K>>⟧.hash_of self.old.contents k.now }
-        requires settled { IsWaiting self.old.contents bucket → ⊥ }
+        requires not_waiting { IsWaiting self.old.contents bucket → ⊥ }
         ensures step { MatchOption result (IsLacking (hash_in ⟦<H as Hashes<K>>⟧.hash_of self.old.contents) K.eq
             self.old.contents k.now × (self.new ≡ self.old))
             (IsLastAt (hash_in ⟦<H as Hashes<K>>⟧.hash_of self.old.contents) K.eq self.old k.now self.new) }
@@ -139,7 +139,7 @@ impl<K: Eq + Hash, V, H: BuildHasher> Owned<K, V, H> {
             (spot_of self.old.contents place).slot ≡ Some result }
         ensures left { TakesAt (hash_in ⟦<H as Hashes<K>>⟧.hash_of self.old.contents) self.old place self.new }
         ensures state { IsCacheState K.eq (hash_in ⟦<H as Hashes<K>>⟧.hash_of self.new.contents) self.new }
-        ensures relocates { RelocatesNone (λ p. hash_in ⟦<H as Hashes<K>>⟧.hash_of self.old.contents p.0)
+        ensures relocates { RelocatesNoneWithin (λ p. hash_in ⟦<H as Hashes<K>>⟧.hash_of self.old.contents p.0)
             self.old.contents self.new.contents }
     {
         let pair = self.table.take_in(place);

@@ -1,6 +1,6 @@
 //! Room for a put before it is made, and what the put would drive out.
 ghost use Rattle.scc_cache.specs.CacheSteps.{DrivesNoneOut, DrivesOut};
-ghost use Rattle.scc_cache.specs.Putting.{DropsRoom, MakesRoomByRule};
+ghost use Rattle.scc_cache.specs.Putting.{DropsMark, PreparesByRule};
 ghost use Rattle.scc_contents.specs.Contents.{bucket_count, hash_in, list_of, settings_of};
 ghost use Rattle.scc_contents.specs.Routing.{bucket_number};
 ghost use Rattle.std.specs.Prelude.{◌≡◌, ◌<◌, ◌≤◌, length, Some, IfSome, IfNone, slice_get};
@@ -15,13 +15,13 @@ impl<K: Eq + Hash, V, H: BuildHasher> Owned<K, V, H> {
     /// where that is due, all of which wait then. A key that is there wants nothing. A doubling that is refused is
     /// marked: the put of `k` that follows doesn't try it again, so that it makes no resize in any case. This fails
     /// only where the first array is refused.
-    pub fn make_room(&mut self, k: &K) -> Result<(), MakeError>
-        ensures { MakesRoomByRule K.eq ⟦<H as Hashes<K>>⟧.hash_of self.old k.now result self.new }
+    pub fn prepare(&mut self, k: &K) -> Result<(), MakeError>
+        ensures { PreparesByRule K.eq ⟦<H as Hashes<K>>⟧.hash_of self.old k.now result self.new }
     {
         let hash = self.table.hash(k);
         match self.find(hash, k) {
             Some(_) => Ok(()),
-            None => match self.table.make_room_within(hash, self.maximum) {
+            None => match self.table.prepare_within(hash, self.maximum) {
                 Ok(()) => Ok(()),
                 Err(_) => Err(MakeError),
             },
@@ -29,11 +29,11 @@ impl<K: Eq + Hash, V, H: BuildHasher> Owned<K, V, H> {
     }
 
     /// Takes the mark of a refused doubling away, and changes nothing else: a put tries a doubling that is due, also
-    /// where `make_room` was refused it.
-    pub fn drop_room(&mut self)
-        ensures { DropsRoom K.eq ⟦<H as Hashes<K>>⟧.hash_of self.old self.new }
+    /// where `prepare` was refused it.
+    pub fn drop_mark(&mut self)
+        ensures { DropsMark K.eq ⟦<H as Hashes<K>>⟧.hash_of self.old self.new }
     {
-        self.table.drop_room_within();
+        self.table.drop_mark_within();
     }
 
     /// The pair that a put of `k` would drive out without a resize: the least recent of its bucket. None where a key

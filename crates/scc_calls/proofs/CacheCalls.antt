@@ -3,10 +3,10 @@ use Rattle.std.proofs.Common.{◌≡◌, ◌==◌, ◌∙◌, ℕ, ◌+◌, ◌*
 use Rattle.std.specs.List.{filter, flat_map}
 use Rattle.std.proofs.lemmas.List.{length-map}
 use Rattle.scc_contents.specs.Routing.{bucket_number}
-use Rattle.scc_buckets.specs.Bounded.{IsResized, KeepsLists, stays_wide, denied_narrow, narrows}
+use Rattle.scc_buckets.specs.Bounded.{IsResized, HasListsOf, stays_wide, denied_narrow, narrows}
 use Rattle.scc_table.specs.Bounded.{makes, has_room, is_full, stays, denied, doubles}
 use Rattle.scc_contents.specs.Contents.{Contents, Settings, entries, bucket_count, settings_of, minimum_of, list_of, lists_of}
-use Rattle.scc_cache.specs.CacheSteps.{AnswersOn, GrowsFor, IsAbsent, IsPresent, IsPresentAt, ShrinksTo, Puts, Removes, TakesThen, Clears, number_in}
+use Rattle.scc_cache.specs.CacheSteps.{AnswersOn, GrowsForPut, IsAbsent, IsPresent, IsPresentAt, ShrinksTo, Puts, Removes, TakesThen, Clears, list_number}
 use Rattle.scc_cache.specs.Caches.{Cached}
 use Rattle.scc_cache.specs.CacheSteps as steps
 use Rattle.scc_cache.specs.ListSteps.{IsThere, PutsPair, Refreshes, RefreshesAs, TakesOut}
@@ -15,7 +15,7 @@ use Rattle.std.specs.Borrow.{Bor}
 use Rattle.std.specs.Fn.{Once}
 use Rattle.scc_cache.proofs.Caching.{shrunk-within}
 use Rattle.scc_calls.specs.CacheCalls.{cache_setting, CacheMayRefuse, CacheMoves, CacheResizes}
-use Rattle.scc_calls.specs.Changes.{Changes, Stays}
+use Rattle.scc_calls.specs.Resized.{MovesResized, Stays}
 use Rattle.scc_calls.specs.declared.calls_as_values.CacheCall.TheVariants.{Put, Get, Write, Replace, Remove, Read, Contains, Clear, Len}
 use Rattle.scc_calls.specs.declared.fixed.Setting.{Setting}
 use Rattle.scc_calls.specs.declared.replies.Reply.TheVariants.{Evicted, Exists, Old, Key, Pair, Value, Has, Cleared, Count}
@@ -32,11 +32,11 @@ module _ {E H : Type 0} where
       ap (λ (s : Settings H). let r : Setting H = record { hasher = s.hasher; skipped = s.skipped; minimum = s.asked + s.reserved; maximum = d.maximum } in r) e
       ∙ ap (λ x. let r : Setting H = record { hasher = (settings_of c.contents).hasher; skipped = (settings_of c.contents).skipped; minimum = (settings_of c.contents).asked + (settings_of c.contents).reserved; maximum = x } in r) m
 
-  lists-same : (c d : Contents E H) → KeepsLists c d → lists_of d ≡ lists_of c
+  lists-same : (c d : Contents E H) → HasListsOf c d → lists_of d ≡ lists_of c
   lists-same c d k = k.lists
 
   -- a growth for a new pair leaves the lists, or makes more of them
-  pub grown : (hash : E → ℕ) (i : ℕ) (c d : Cached E H) → GrowsFor hash i c d → (lists_of d.contents ≡ lists_of c.contents) ⊎ ((bucket_count c.contents < bucket_count d.contents) × IsResized hash c.contents d.contents)
+  pub grown : (hash : E → ℕ) (i : ℕ) (c d : Cached E H) → GrowsForPut hash i c d → (lists_of d.contents ≡ lists_of c.contents) ⊎ ((bucket_count c.contents < bucket_count d.contents) × IsResized hash c.contents d.contents)
   grown hash i c d g = elim g.grows [
     | makes none size r ↦ inr (let l = r.array.least in omega arith, r)
     | has_room some room e ↦ inl (ap lists_of e)
@@ -67,7 +67,7 @@ module _ {K V H : Type 0} (hash : K → ℕ) where
   -- a resize of the table is one of the lists, under the setting of the cache that the call began with
   pub resized : (o c d : Cached (K × V) H) → settings_of c.contents ≡ settings_of o.contents → c.maximum ≡ o.maximum → IsResized (λ e. hash e.0) c.contents d.contents → ((i : ℕ) → length (list_of d.contents i) ≤ 32) → 32 * bucket_count d.contents ≤ c.maximum
       → (bucket_count d.contents < bucket_count c.contents → minimum_of c.contents ≤ 32 * bucket_count d.contents)
-      → CacheResizes (cache_setting o) (number_in hash o.contents) (lists_of c.contents) (bucket_count d.contents) (lists_of d.contents)
+      → CacheResizes (cache_setting o) (list_number hash o.contents) (lists_of c.contents) (bucket_count d.contents) (lists_of d.contents)
   unfolding bucket_count lists_of list_of entries
   resized o c d e m r short within least = record {
     count = refl;
@@ -81,15 +81,15 @@ module _ {K V H : Type 0} (hash : K → ℕ) where
   module _ (eq : K → K → Bool) where
     -- a put of a new key
     pub put-changes : (c d : Cached (K × V) H) (k : K) (v : V) (x : Option (K × V)) → Puts hash eq c (k, v) (Ok x) d → 32 * bucket_count d.contents ≤ d.maximum
-        → Changes length (CacheMoves eq (number_in hash c.contents)) (CacheResizes (cache_setting c) (number_in hash c.contents)) (lists_of c.contents) (Put k v) (Evicted x) (lists_of d.contents)
+        → MovesResized length (CacheMoves eq (list_number hash c.contents)) (CacheResizes (cache_setting c) (list_number hash c.contents)) (lists_of c.contents) (Put k v) (Evicted x) (lists_of d.contents)
     unfolding bucket_count lists_of
     put-changes c d k v x h within =
-        let number : ℕ → K → ℕ = number_in hash c.contents in
+        let number : ℕ → K → ℕ = list_number hash c.contents in
         let g = h.1.0 in
         let grows = h.1.1 in
         let puts = h.1.2 in
         let size = puts-length eq number (k, v) x (lists_of g.contents) (lists_of d.contents) puts.lists in
-        elim (grown (λ e. hash e.0) _ c g grows) as (λ _. Changes length (CacheMoves eq number) (CacheResizes (cache_setting c) number) (lists_of c.contents) (Put k v) (Evicted x) (lists_of d.contents)) [
+        elim (grown (λ e. hash e.0) _ c g grows) as (λ _. MovesResized length (CacheMoves eq number) (CacheResizes (cache_setting c) number) (lists_of c.contents) (Put k v) (Evicted x) (lists_of d.contents)) [
           | inl e ↦ inl (size ∙ ap length e, subst (λ s. PutsPair number eq (k, v) x s (lists_of d.contents)) e puts.lists)
           | inr r ↦ inr (inl (
             omega (arith, r.0),
@@ -103,42 +103,42 @@ module _ {K V H : Type 0} (hash : K → ℕ) where
 
     -- a removal
     pub takes-changes : (c d : Cached (K × V) H) (k : K) (p : K × V) → TakesThen hash eq c k p d → ((i : ℕ) → length (list_of d.contents i) ≤ 32) → 32 * bucket_count d.contents ≤ d.maximum
-        → Changes length (CacheMoves eq (number_in hash c.contents)) (CacheResizes (cache_setting c) (number_in hash c.contents)) (lists_of c.contents) (Remove k) (Pair (Some p)) (lists_of d.contents)
+        → MovesResized length (CacheMoves eq (list_number hash c.contents)) (CacheResizes (cache_setting c) (list_number hash c.contents)) (lists_of c.contents) (Remove k) (Pair (Some p)) (lists_of d.contents)
     unfolding bucket_count lists_of
     takes-changes c d k p h short within =
-        let number : ℕ → K → ℕ = number_in hash c.contents in
+        let number : ℕ → K → ℕ = list_number hash c.contents in
         let left = h.0 in
         let takes = h.1 in
         let size = takes-length eq number k p (lists_of c.contents) (lists_of left.contents) takes.lists in
-        elim (shrunk (λ e. hash e.0) left d h.2) as (λ _. Changes length (CacheMoves eq number) (CacheResizes (cache_setting c) number) (lists_of c.contents) (Remove k) (Pair (Some p)) (lists_of d.contents)) [
+        elim (shrunk (λ e. hash e.0) left d h.2) as (λ _. MovesResized length (CacheMoves eq number) (CacheResizes (cache_setting c) number) (lists_of c.contents) (Remove k) (Pair (Some p)) (lists_of d.contents)) [
           | inl e ↦ inl (ap length e ∙ size, subst (λ s. TakesOut number eq k p (lists_of c.contents) s) (sym e) takes.lists)
           | inr r ↦ inr (inr (omega (arith, r.0), (lists_of left.contents, takes.lists, resized c left d takes.settings takes.maximum r.2 short (let m = h.2.maximum in omega arith) (λ less. r.1))))
         ]
 
     pub clear-changes : (c d : Cached (K × V) H) → Clears hash c d → ((i : ℕ) → length (list_of d.contents i) ≤ 32) → 32 * bucket_count d.contents ≤ d.maximum
-        → Changes length (CacheMoves eq (number_in hash c.contents)) (CacheResizes (cache_setting c) (number_in hash c.contents)) (lists_of c.contents) Clear Cleared (lists_of d.contents)
+        → MovesResized length (CacheMoves eq (list_number hash c.contents)) (CacheResizes (cache_setting c) (list_number hash c.contents)) (lists_of c.contents) Clear Cleared (lists_of d.contents)
     unfolding bucket_count lists_of
     clear-changes c d h short within =
-        let number : ℕ → K → ℕ = number_in hash c.contents in
+        let number : ℕ → K → ℕ = list_number hash c.contents in
         let left = h.0 in
         let change = h.1 in
         let size : length (lists_of left.contents) ≡ length (lists_of c.contents) = ap length change.lists ∙ length-map (lists_of c.contents) (λ _. []) in
-        elim (shrunk (λ e. hash e.0) left d h.2) as (λ _. Changes length (CacheMoves eq number) (CacheResizes (cache_setting c) number) (lists_of c.contents) Clear Cleared (lists_of d.contents)) [
+        elim (shrunk (λ e. hash e.0) left d h.2) as (λ _. MovesResized length (CacheMoves eq number) (CacheResizes (cache_setting c) number) (lists_of c.contents) Clear Cleared (lists_of d.contents)) [
           | inl e ↦ inl (ap length e ∙ size, e ∙ change.lists)
           | inr r ↦ inr (inr (omega (arith, r.0), (lists_of left.contents, change.lists, resized c left d change.settings change.maximum r.2 short (let m = h.2.maximum in omega arith) (λ less. r.1))))
         ]
 
     -- a put of a key that is there
     pub exists-changes : (c d : Cached (K × V) H) (k : K) (v : V) (q : K × V) → Puts hash eq c (k, v) (Err (error.Exists q)) d
-        → Changes length (CacheMoves eq (number_in hash c.contents)) (CacheResizes (cache_setting c) (number_in hash c.contents)) (lists_of c.contents) (Put k v) (Exists q.0 q.1) (lists_of d.contents)
+        → MovesResized length (CacheMoves eq (list_number hash c.contents)) (CacheResizes (cache_setting c) (list_number hash c.contents)) (lists_of c.contents) (Put k v) (Exists q.0 q.1) (lists_of d.contents)
     exists-changes c d k v q h = let e = ap (λ x. lists_of x.contents) h.2 in inl (ap length e, (ap (λ (p : K × V). p.0) h.0, ap (λ (p : K × V). p.1) h.0, (h.1.0, h.1.1.0, h.1.1.1), e))
 
-    pub memory-refused : (c d : Cached (K × V) H) (k : K) (v : V) (q : K × V) → Puts hash eq c (k, v) (Err (Memory q)) d → CacheMayRefuse eq (number_in hash c.contents) (lists_of c.contents) (Put k v)
+    pub memory-refused : (c d : Cached (K × V) H) (k : K) (v : V) (q : K × V) → Puts hash eq c (k, v) (Err (Memory q)) d → CacheMayRefuse eq (list_number hash c.contents) (lists_of c.contents) (Put k v)
     unfolding bucket_count lists_of
     memory-refused c d k v q h = (h.1, h.2)
 
     pub remove-changes : (c d : Cached (K × V) H) (k : K) (o : Option (K × V)) → Removes hash eq c k o d → ((i : ℕ) → length (list_of d.contents i) ≤ 32) → 32 * bucket_count d.contents ≤ d.maximum
-        → Changes length (CacheMoves eq (number_in hash c.contents)) (CacheResizes (cache_setting c) (number_in hash c.contents)) (lists_of c.contents) (Remove k) (Pair o) (lists_of d.contents)
+        → MovesResized length (CacheMoves eq (list_number hash c.contents)) (CacheResizes (cache_setting c) (list_number hash c.contents)) (lists_of c.contents) (Remove k) (Pair o) (lists_of d.contents)
     remove-changes c d k None h short within = let e = ap (λ x. lists_of x.contents) h.1 in inl (ap length e, (h.0, e))
     remove-changes c d k (Some p) h short within = takes-changes c d k p h short within
 
@@ -158,45 +158,45 @@ module _ {K V H : Type 0} (hash : K → ℕ) where
 
     -- a look-up
     pub contains-changes : (c : Cached (K × V) H) (k : K) (b : Bool) → (IsTrue b → (p : K × V) × IsPresent hash eq c.contents k p) → ((IsTrue b → ⊥) → IsAbsent hash eq c.contents k)
-        → Changes length (CacheMoves eq (number_in hash c.contents)) (CacheResizes (cache_setting c) (number_in hash c.contents)) (lists_of c.contents) (Contains k) (Has b) (lists_of c.contents)
+        → MovesResized length (CacheMoves eq (list_number hash c.contents)) (CacheResizes (cache_setting c) (list_number hash c.contents)) (lists_of c.contents) (Contains k) (Has b) (lists_of c.contents)
     contains-changes c k true there none = let yes_it : IsTrue true = search rules in let y = there yes_it in inl (refl, ((y.0, y.1.0, y.1.1), refl))
     contains-changes c k false there none = let never : IsTrue false → ⊥ = search rules in inl (refl, (none never, refl))
 
     pub read-changes : {F : Type 0} (g : Once F (Bor K × (Bor V × Unit {0})) V) (f : F) (c : Cached (K × V) H) (k : K) (r : Option V) → MatchOption r (IsAbsent hash eq c.contents k) (AnswersOn hash eq g f c.contents k)
         → ((a : Bor K) (b : Bor V) (x : V) → g.post f (a, (b, tt)) x → x ≡ b.now)
-        → Changes length (CacheMoves eq (number_in hash c.contents)) (CacheResizes (cache_setting c) (number_in hash c.contents)) (lists_of c.contents) (Read k) (Value r) (lists_of c.contents)
+        → MovesResized length (CacheMoves eq (list_number hash c.contents)) (CacheResizes (cache_setting c) (list_number hash c.contents)) (lists_of c.contents) (Read k) (Value r) (lists_of c.contents)
     read-changes g f c k None m reads = inl (refl, (m, refl))
     read-changes g f c k (Some x) m reads =
         let is : m.value.now ≡ x = sym (reads m.key m.value x m.met) in
-        inl (refl, ((m.key.now, m.shows.0, subst (λ y. IsThere (number_in hash c.contents) eq (lists_of c.contents) k m.shows.0 (m.key.now, y)) is m.shows.1), refl))
+        inl (refl, ((m.key.now, m.shows.0, subst (λ y. IsThere (list_number hash c.contents) eq (lists_of c.contents) k m.shows.0 (m.key.now, y)) is m.shows.1), refl))
 
     pub len-changes : (c : Cached (K × V) H) (n : ℕ) → n ≡ length (entries c.contents)
-        → Changes length (CacheMoves eq (number_in hash c.contents)) (CacheResizes (cache_setting c) (number_in hash c.contents)) (lists_of c.contents) Len (Count n) (lists_of c.contents)
+        → MovesResized length (CacheMoves eq (list_number hash c.contents)) (CacheResizes (cache_setting c) (list_number hash c.contents)) (lists_of c.contents) Len (Count n) (lists_of c.contents)
     unfolding entries lists_of
     len-changes c n e = inl (refl, (e, refl))
 
     -- a get that finds its key
-    pub get-moves : (c d : Cached (K × V) H) (k : K) (p : K × V) (v : V) → v ≡ p.1 → steps.Changes (Refreshes (number_in hash c.contents) eq k p) c d → CacheMoves eq (number_in hash c.contents) (lists_of c.contents) (Get k) (Value (Some v)) (lists_of d.contents)
-    get-moves c d k p v is h = (p.0, subst (λ x. Refreshes (number_in hash c.contents) eq k (p.0, x) (lists_of c.contents) (lists_of d.contents)) (sym is) h.lists)
+    pub get-moves : (c d : Cached (K × V) H) (k : K) (p : K × V) (v : V) → v ≡ p.1 → steps.MovesResized (Refreshes (list_number hash c.contents) eq k p) c d → CacheMoves eq (list_number hash c.contents) (lists_of c.contents) (Get k) (Value (Some v)) (lists_of d.contents)
+    get-moves c d k p v is h = (p.0, subst (λ x. Refreshes (list_number hash c.contents) eq k (p.0, x) (lists_of c.contents) (lists_of d.contents)) (sym is) h.lists)
 
-    pub get-changes : (c d : Cached (K × V) H) (k : K) (p : K × V) (v : V) → v ≡ p.1 → steps.Changes (Refreshes (number_in hash c.contents) eq k p) c d
-        → Changes length (CacheMoves eq (number_in hash c.contents)) (CacheResizes (cache_setting c) (number_in hash c.contents)) (lists_of c.contents) (Get k) (Value (Some v)) (lists_of d.contents)
+    pub get-changes : (c d : Cached (K × V) H) (k : K) (p : K × V) (v : V) → v ≡ p.1 → steps.MovesResized (Refreshes (list_number hash c.contents) eq k p) c d
+        → MovesResized length (CacheMoves eq (list_number hash c.contents)) (CacheResizes (cache_setting c) (list_number hash c.contents)) (lists_of c.contents) (Get k) (Value (Some v)) (lists_of d.contents)
     get-changes c d k p v is h = inl (ap length h.lists.2 ∙ length-set (lists_of c.contents) _ _, get-moves c d k p v is h)
 
     -- a write of a value
-    pub write-moves : (c d : Cached (K × V) H) (k : K) (p : K × V) (w v : V) → w ≡ p.1 → steps.Changes (RefreshesAs (number_in hash c.contents) eq k p (p.0, v)) c d
-        → CacheMoves eq (number_in hash c.contents) (lists_of c.contents) (Write k v) (Old (Some w)) (lists_of d.contents)
-    write-moves c d k p w v is h = (p.0, subst (λ x. RefreshesAs (number_in hash c.contents) eq k (p.0, x) (p.0, v) (lists_of c.contents) (lists_of d.contents)) (sym is) h.lists)
+    pub write-moves : (c d : Cached (K × V) H) (k : K) (p : K × V) (w v : V) → w ≡ p.1 → steps.MovesResized (RefreshesAs (list_number hash c.contents) eq k p (p.0, v)) c d
+        → CacheMoves eq (list_number hash c.contents) (lists_of c.contents) (Write k v) (Old (Some w)) (lists_of d.contents)
+    write-moves c d k p w v is h = (p.0, subst (λ x. RefreshesAs (list_number hash c.contents) eq k (p.0, x) (p.0, v) (lists_of c.contents) (lists_of d.contents)) (sym is) h.lists)
 
-    pub write-changes : (c d : Cached (K × V) H) (k : K) (p : K × V) (w v : V) → w ≡ p.1 → steps.Changes (RefreshesAs (number_in hash c.contents) eq k p (p.0, v)) c d
-        → Changes length (CacheMoves eq (number_in hash c.contents)) (CacheResizes (cache_setting c) (number_in hash c.contents)) (lists_of c.contents) (Write k v) (Old (Some w)) (lists_of d.contents)
+    pub write-changes : (c d : Cached (K × V) H) (k : K) (p : K × V) (w v : V) → w ≡ p.1 → steps.MovesResized (RefreshesAs (list_number hash c.contents) eq k p (p.0, v)) c d
+        → MovesResized length (CacheMoves eq (list_number hash c.contents)) (CacheResizes (cache_setting c) (list_number hash c.contents)) (lists_of c.contents) (Write k v) (Old (Some w)) (lists_of d.contents)
     write-changes c d k p w v is h = inl (ap length h.lists.2 ∙ length-set (lists_of c.contents) _ _, write-moves c d k p w v is h)
 
     -- a replacement of a key
-    pub replace-moves : (c d : Cached (K × V) H) (k l : K) (v : V) (q : K × V) → q ≡ (k, v) → steps.Changes (RefreshesAs (number_in hash c.contents) eq k (l, v) q) c d
-        → CacheMoves eq (number_in hash c.contents) (lists_of c.contents) (Replace k) (Key (Some l)) (lists_of d.contents)
-    replace-moves c d k l v q is h = (v, subst (λ x. RefreshesAs (number_in hash c.contents) eq k (l, v) x (lists_of c.contents) (lists_of d.contents)) is h.lists)
+    pub replace-moves : (c d : Cached (K × V) H) (k l : K) (v : V) (q : K × V) → q ≡ (k, v) → steps.MovesResized (RefreshesAs (list_number hash c.contents) eq k (l, v) q) c d
+        → CacheMoves eq (list_number hash c.contents) (lists_of c.contents) (Replace k) (Key (Some l)) (lists_of d.contents)
+    replace-moves c d k l v q is h = (v, subst (λ x. RefreshesAs (list_number hash c.contents) eq k (l, v) x (lists_of c.contents) (lists_of d.contents)) is h.lists)
 
-    pub replace-changes : (c d : Cached (K × V) H) (k l : K) (v : V) (q : K × V) → q ≡ (k, v) → steps.Changes (RefreshesAs (number_in hash c.contents) eq k (l, v) q) c d
-        → Changes length (CacheMoves eq (number_in hash c.contents)) (CacheResizes (cache_setting c) (number_in hash c.contents)) (lists_of c.contents) (Replace k) (Key (Some l)) (lists_of d.contents)
+    pub replace-changes : (c d : Cached (K × V) H) (k l : K) (v : V) (q : K × V) → q ≡ (k, v) → steps.MovesResized (RefreshesAs (list_number hash c.contents) eq k (l, v) q) c d
+        → MovesResized length (CacheMoves eq (list_number hash c.contents)) (CacheResizes (cache_setting c) (list_number hash c.contents)) (lists_of c.contents) (Replace k) (Key (Some l)) (lists_of d.contents)
     replace-changes c d k l v q is h = inl (ap length h.lists.2 ∙ length-set (lists_of c.contents) _ _, replace-moves c d k l v q is h)

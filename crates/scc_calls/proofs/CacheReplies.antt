@@ -8,13 +8,13 @@ use Rattle.std.proofs.lemmas.List.{length-map}
 use Rattle.scc_contents.specs.Contents.{Contents, bucket_count, entries, list_of, lists_of}
 use Rattle.scc_buckets.proofs.Lookups.{find-position}
 use Rattle.scc_cache.specs.CacheSteps as steps
-use Rattle.scc_cache.specs.CacheSteps.{Clears, DrivesNoneOut, DrivesOut, IsAbsent, IsPresent, IsReadyFor, Puts, Removes, number_in, pair_of}
+use Rattle.scc_cache.specs.CacheSteps.{Clears, DrivesNoneOut, DrivesOut, IsAbsent, IsPresent, IsPreparedForPut, Puts, Removes, list_number, pair_of}
 use Rattle.scc_cache.specs.Caches.{Cached}
 use Rattle.scc_cache.specs.ListSteps.{list_for, pair_for, IsMissing, IsThere, PutsPair, RefreshesAs}
 use Rattle.scc_cache.proofs.Caching.{list-is, shrunk-within}
 use Rattle.scc_cache.proofs.Found.{missing-found, there-found}
 use Rattle.scc_calls.specs.CacheCalls.{cache_answer, cache_setting, first_of_full, CacheIsMade, CacheMoves, CacheResizes}
-use Rattle.scc_calls.specs.Changes.{Changes}
+use Rattle.scc_calls.specs.Resized.{MovesResized}
 use Rattle.scc_calls.specs.Copies.{Answers}
 use Rattle.scc_calls.specs.Means.{answered}
 use Rattle.scc_calls.specs.Stems.{CacheStems}
@@ -70,7 +70,7 @@ module _ {K V : Type 0} (eq : K → K → Bool) (number : ℕ → K → ℕ) whe
   moves-answer s t call reply m = absurd m
 
   -- and so it does with a resize, unless that is a growth
-  pub changes-answer : (R : List (List (K × V)) → ℕ → List (List (K × V)) → Type 0) (s t : List (List (K × V))) (call : CacheCall K V) (reply : Reply K V) → length t ≤ length s → Changes length (CacheMoves eq number) R s call reply t → cache_answer eq number s call ≡ reply
+  pub changes-answer : (R : List (List (K × V)) → ℕ → List (List (K × V)) → Type 0) (s t : List (List (K × V))) (call : CacheCall K V) (reply : Reply K V) → length t ≤ length s → MovesResized length (CacheMoves eq number) R s call reply t → cache_answer eq number s call ≡ reply
   changes-answer R s t call reply less (inl c) = moves-answer s t call reply c.1
   changes-answer R s t call reply less (inr (inl c)) = absurd (let more = c.0 in omega arith)
   changes-answer R s t call reply less (inr (inr c)) = moves-answer s c.1.0 call reply c.1.1
@@ -95,14 +95,14 @@ module _ {K V H : Type 0} (hash : K → ℕ) (eq : K → K → Bool) (c d : Cach
   pub put-more : (k : K) (v : V) (x : Option (K × V)) → Puts hash eq c (k, v) (Ok x) d → length (lists_of c.contents) ≤ length (lists_of d.contents)
   unfolding bucket_count lists_of
   put-more k v x h =
-      let size = puts-length eq (number_in hash c.contents) (k, v) x (lists_of h.1.0.contents) (lists_of d.contents) h.1.2.lists in
+      let size = puts-length eq (list_number hash c.contents) (k, v) x (lists_of h.1.0.contents) (lists_of d.contents) h.1.2.lists in
       elim (grown (λ e. hash e.0) _ c h.1.0 h.1.1) as (λ _. length (lists_of c.contents) ≤ length (lists_of d.contents)) [
         | inl e ↦ let n = ap length e in omega arith
         | inr r ↦ let l = r.0 in omega arith
       ]
 
   -- nor more, where all is made that it wants
-  pub put-once : (k : K) (v : V) (x : Option (K × V)) → Puts hash eq c (k, v) (Ok x) d → (IsReadyFor hash c k → bucket_count d.contents ≡ bucket_count c.contents) → CacheIsMade eq hash c (Put k v) → length (lists_of d.contents) ≤ length (lists_of c.contents)
+  pub put-once : (k : K) (v : V) (x : Option (K × V)) → Puts hash eq c (k, v) (Ok x) d → (IsPreparedForPut hash c k → bucket_count d.contents ≡ bucket_count c.contents) → CacheIsMade eq hash c (Put k v) → length (lists_of d.contents) ≤ length (lists_of c.contents)
   unfolding bucket_count lists_of
   put-once k v x h once (inl p) = absurd (let z : None ≡ Some p.1.0 = sym h.0 ∙ p.1.1.first in cc)
   put-once k v x h once (inr ready) = let e = once ready in omega arith
@@ -112,7 +112,7 @@ module _ {K V H : Type 0} (hash : K → ℕ) (eq : K → K → Bool) (c d : Cach
   unfolding bucket_count lists_of
   remove-less k None h = let e = ap (λ x. length (lists_of x.contents)) h.1 in omega arith
   remove-less k (Some p) h =
-      let size = takes-length eq (number_in hash c.contents) k p (lists_of c.contents) (lists_of h.0.contents) h.1.lists in
+      let size = takes-length eq (list_number hash c.contents) k p (lists_of c.contents) (lists_of h.0.contents) h.1.lists in
       let less = (shrunk-within (λ e. hash e.0) h.0.contents d.contents h.2.shrinks).0 in
       omega arith
 
@@ -124,36 +124,36 @@ module _ {K V H : Type 0} (hash : K → ℕ) (eq : K → K → Bool) (c d : Cach
       omega arith
 
   -- a pair that is moved within its list leaves them
-  pub refresh-same : (k : K) (p q : K × V) → steps.Changes (RefreshesAs (number_in hash c.contents) eq k p q) c d → length (lists_of d.contents) ≡ length (lists_of c.contents)
+  pub refresh-same : (k : K) (p q : K × V) → steps.MovesResized (RefreshesAs (list_number hash c.contents) eq k p q) c d → length (lists_of d.contents) ≡ length (lists_of c.contents)
   refresh-same k p q h = ap length h.lists.2 ∙ length-set (lists_of c.contents) _ _
 
 module _ {K V S : Type 0} (hash : K → ℕ) (eq : K → K → Bool) (c : Contents (K × V) S) (k : K) where
   -- what a put would drive out
-  pub drives-out : (p : K × V) → DrivesOut hash eq c k p → first_of_full (list_of c (number_in hash c (bucket_count c) k)) ≡ Some p
-  drives-out p h = full-first (list_of c (number_in hash c (bucket_count c) k)) h.full ∙ h.first
+  pub drives-out : (p : K × V) → DrivesOut hash eq c k p → first_of_full (list_of c (list_number hash c (bucket_count c) k)) ≡ Some p
+  drives-out p h = full-first (list_of c (list_number hash c (bucket_count c) k)) h.full ∙ h.first
 
-  pub drives-none : IsAbsent hash eq c k → DrivesNoneOut hash eq c k → first_of_full (list_of c (number_in hash c (bucket_count c) k)) ≡ None
+  pub drives-none : IsAbsent hash eq c k → DrivesNoneOut hash eq c k → first_of_full (list_of c (list_number hash c (bucket_count c) k)) ≡ None
   drives-none absent (inl p) = absurd (let z : None ≡ Some p.1.0 = sym absent ∙ p.1.1.first in cc)
-  drives-none absent (inr room) = roomy-none (list_of c (number_in hash c (bucket_count c) k)) room
+  drives-none absent (inr room) = roomy-none (list_of c (list_number hash c (bucket_count c) k)) room
 
   -- the list of the key
-  pub list-here : list_for (number_in hash c) (lists_of c) k ≡ list_of c (number_in hash c (bucket_count c) k)
-  list-here = sym (list-is eq (number_in hash c) c k (number_in hash c (bucket_count c) k) refl)
+  pub list-here : list_for (list_number hash c) (lists_of c) k ≡ list_of c (list_number hash c (bucket_count c) k)
+  list-here = sym (list-is eq (list_number hash c) c k (list_number hash c (bucket_count c) k) refl)
 
 module _ {K V S : Type 0} (hash : K → ℕ) (eq : K → K → Bool) (c : Contents (K × V) S) (k : K) where
   -- the replies to a put of a new key, and of one that is there
-  pub put-new : (v : V) → IsAbsent hash eq c k → cache_answer eq (number_in hash c) (lists_of c) (Put k v) ≡ Evicted (first_of_full (list_of c (number_in hash c (bucket_count c) k)))
+  pub put-new : (v : V) → IsAbsent hash eq c k → cache_answer eq (list_number hash c) (lists_of c) (Put k v) ≡ Evicted (first_of_full (list_of c (list_number hash c (bucket_count c) k)))
   put-new v absent =
-      ap (λ (o : Option (K × V)). cond (is_some o) (Exists k v) (Evicted (first_of_full (list_for (number_in hash c) (lists_of c) k)))) (missing-found (number_in hash c) eq (lists_of c) k absent)
+      ap (λ (o : Option (K × V)). cond (is_some o) (Exists k v) (Evicted (first_of_full (list_for (list_number hash c) (lists_of c) k)))) (missing-found (list_number hash c) eq (lists_of c) k absent)
       ∙ ap (λ (l : List (K × V)). let r : Reply K V = Evicted (first_of_full l) in r) (list-here hash eq c k)
 
-  pub put-there : (v : V) → (p : K × V) × IsPresent hash eq c k p → cache_answer eq (number_in hash c) (lists_of c) (Put k v) ≡ Exists k v
-  put-there v p = ap (λ (o : Option (K × V)). cond (is_some o) (Exists k v) (Evicted (first_of_full (list_for (number_in hash c) (lists_of c) k)))) (there-found (number_in hash c) eq (lists_of c) k p.1.0 p.0 p.1.1)
+  pub put-there : (v : V) → (p : K × V) × IsPresent hash eq c k p → cache_answer eq (list_number hash c) (lists_of c) (Put k v) ≡ Exists k v
+  put-there v p = ap (λ (o : Option (K × V)). cond (is_some o) (Exists k v) (Evicted (first_of_full (list_for (list_number hash c) (lists_of c) k)))) (there-found (list_number hash c) eq (lists_of c) k p.1.0 p.0 p.1.1)
 
   -- what a look-up tells
   pub told-there : (b : Bool) → (IsTrue b → (p : K × V) × IsPresent hash eq c k p) → ((IsTrue b → ⊥) → IsAbsent hash eq c k) → is_some (pair_of hash eq c k) ≡ b
-  told-there true there none = let y : IsTrue true = search rules in let p = there y in ap (λ (o : Option (K × V)). is_some o) (there-found (number_in hash c) eq (lists_of c) k p.1.0 p.0 p.1.1)
-  told-there false there none = let never : IsTrue false → ⊥ = search rules in ap (λ (o : Option (K × V)). is_some o) (missing-found (number_in hash c) eq (lists_of c) k (none never))
+  told-there true there none = let y : IsTrue true = search rules in let p = there y in ap (λ (o : Option (K × V)). is_some o) (there-found (list_number hash c) eq (lists_of c) k p.1.0 p.0 p.1.1)
+  told-there false there none = let never : IsTrue false → ⊥ = search rules in ap (λ (o : Option (K × V)). is_some o) (missing-found (list_number hash c) eq (lists_of c) k (none never))
 
 pub count-lists : {E S : Type 0} (c : Contents E S) → length (flat_map (λ l. l) (lists_of c)) ≡ length (entries c)
 unfolding entries lists_of
@@ -165,21 +165,21 @@ moves-same eq number s t u call reply m same = subst (λ x. CacheMoves eq number
 
 -- a call that was made, with the reply that stems from the one that it gives
 pub answers-own : {K V H : Type 0} (clone : V → V → Type 0) (hash : K → ℕ) (eq : K → K → Bool) (c d : Cached (K × V) H) (call own : CacheCall K V) → call ≡ own → (given reply : Reply K V) → CacheStems clone own given reply
-    → Changes length (CacheMoves eq (number_in hash c.contents)) (CacheResizes (cache_setting c) (number_in hash c.contents)) (lists_of c.contents) own given (lists_of d.contents)
-    → Changes length (Answers (CacheStems clone) (CacheMoves eq (number_in hash c.contents))) (CacheResizes (cache_setting c) (number_in hash c.contents)) (lists_of c.contents) call reply (lists_of d.contents)
+    → MovesResized length (CacheMoves eq (list_number hash c.contents)) (CacheResizes (cache_setting c) (list_number hash c.contents)) (lists_of c.contents) own given (lists_of d.contents)
+    → MovesResized length (Answers (CacheStems clone) (CacheMoves eq (list_number hash c.contents))) (CacheResizes (cache_setting c) (list_number hash c.contents)) (lists_of c.contents) call reply (lists_of d.contents)
 answers-own {K = K} clone hash eq c d call own is given reply from raw =
-    let number : ℕ → K → ℕ = number_in hash c.contents in
+    let number : ℕ → K → ℕ = list_number hash c.contents in
     rw is (answered (CacheStems clone) (CacheMoves eq number) length (CacheResizes (cache_setting c) number) (lists_of c.contents) (lists_of d.contents) own given reply from raw)
 
 -- a call that was made, and the copies of its reply
 module _ {K V H : Type 0} {calls : CacheCall K V → CacheCall K V → Bool} {replies : Reply K V → Reply K V → Bool} (pc : IsPartialEquivalence calls) (pr : IsPartialEquivalence replies) (hash : K → ℕ) (eq : K → K → Bool) (c d : Cached (K × V) H) (call own : CacheCall K V) (is : call ≡ own) (made : Reply K V)
-    (raw : Changes length (CacheMoves eq (number_in hash c.contents)) (CacheResizes (cache_setting c) (number_in hash c.contents)) (lists_of c.contents) own made (lists_of d.contents)) where
+    (raw : MovesResized length (CacheMoves eq (list_number hash c.contents)) (CacheResizes (cache_setting c) (list_number hash c.contents)) (lists_of c.contents) own made (lists_of d.contents)) where
   -- what equals the reply of the lists equals its own
-  pub answers-made : (copy : Reply K V) → length (lists_of d.contents) ≤ length (lists_of c.contents) → replies (cache_answer eq (number_in hash c.contents) (lists_of c.contents) call) copy ≡ true → replies made copy ≡ true
+  pub answers-made : (copy : Reply K V) → length (lists_of d.contents) ≤ length (lists_of c.contents) → replies (cache_answer eq (list_number hash c.contents) (lists_of c.contents) call) copy ≡ true → replies made copy ≡ true
   answers-made copy less asked =
-      let number : ℕ → K → ℕ = number_in hash c.contents in
+      let number : ℕ → K → ℕ = list_number hash c.contents in
       let given : cache_answer eq number (lists_of c.contents) call ≡ made = ap (cache_answer eq number (lists_of c.contents)) is ∙ changes-answer eq number (CacheResizes (cache_setting c) number) (lists_of c.contents) (lists_of d.contents) own made less raw in
       subst (λ r. replies r copy ≡ true) given asked
 
-  pub answers-given : (given copy : Reply K V) → replies made given ≡ true → length (lists_of d.contents) ≤ length (lists_of c.contents) → replies (cache_answer eq (number_in hash c.contents) (lists_of c.contents) call) copy ≡ true → replies given copy ≡ true
+  pub answers-given : (given copy : Reply K V) → replies made given ≡ true → length (lists_of d.contents) ≤ length (lists_of c.contents) → replies (cache_answer eq (list_number hash c.contents) (lists_of c.contents) call) copy ≡ true → replies given copy ≡ true
   answers-given given copy same less asked = pr.trans given made copy (pr.symm given made ∙ same) (answers-made copy less asked)

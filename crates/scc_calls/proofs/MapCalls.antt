@@ -6,10 +6,10 @@ use Rattle.std.specs.Map.{set_value}
 use Rattle.std.proofs.lemmas.Bool.{cases_order}
 use Rattle.scc_contents.specs.Contents.{Contents, bucket_count, entries, settings_of}
 use Rattle.scc_contents.specs.Pairs.{find, without}
-use Rattle.scc_contents.specs.Steps.{Holds, MakesRoom}
+use Rattle.scc_contents.specs.Steps.{Holds, Prepares}
 use Rattle.scc_table.proofs.Same.{entries-same}
 use Rattle.scc_map.specs.MapSteps.{Inserts, Upserts, Removes}
-use Rattle.scc_calls.specs.Changes.{Changes}
+use Rattle.scc_calls.specs.Resized.{MovesResized}
 use Rattle.scc_calls.specs.States.{State, ResizesTo, state_of, setting_of, setting_by}
 use Rattle.scc_calls.specs.MapCalls.{MapHasRoom, MapMoves, MapRefuses}
 use Rattle.scc_calls.specs.declared.calls_as_values.MapCall.TheVariants.{Insert, Upsert, Remove, Clear}
@@ -23,23 +23,23 @@ none-left (x ∷ l) p = absurd (let n : suc (length l) ≡ 0 = length_permutatio
 module _ {K V H : Type 0} (eq : K → K → Bool) (hash : H → K → ℕ) (c d : Contents (K × V) H) where
   -- an insertion of a new key
   pub inserted : (k : K) (v : V) (u : Unit {0}) → Inserts eq (hash (settings_of c).hasher) c (k, v) (Ok u) d
-      → Changes (λ s. s.1) (MapMoves eq) (ResizesTo (setting_of c)) (state_of c) (Insert k v) Inserted (state_of d)
+      → MovesResized (λ s. s.1) (MapMoves eq) (ResizesTo (setting_of c)) (state_of c) (Insert k v) Inserted (state_of d)
   inserted k v u h = holds-changes (MapMoves eq) (Insert k v) Inserted c d ((k, v) ∷ entries c) h.1 (λ number l p. (h.0, (p, refl)))
 
   -- an upsert that is not refused
   pub upserted : (k : K) (v : V) (o : Option V) → Upserts eq (hash (settings_of c).hasher) c (k, v) (Ok o) d
-      → Changes (λ s. s.1) (MapMoves eq) (ResizesTo (setting_of c)) (state_of c) (Upsert k v) (Old o) (state_of d)
+      → MovesResized (λ s. s.1) (MapMoves eq) (ResizesTo (setting_of c)) (state_of c) (Upsert k v) (Old o) (state_of d)
   upserted k v None h = holds-changes (MapMoves eq) (Upsert k v) (Old None) c d ((k, v) ∷ entries c) h.1 (λ number l p. (h.0, (p, refl)))
   upserted k v (Some w) h = exactly-changes (MapMoves eq) (Upsert k v) (Old (Some w)) c d (set_value (eq k) (entries c) v) h.2 (λ e b. (h.0, h.1, (e, b)))
 
 module _ {K V H : Type 0} (eq : K → K → Bool) (c d : Contents (K × V) H) where
   -- a clearing
-  pub cleared : Holds c [] d → Changes (λ s. s.1) (MapMoves eq) (ResizesTo (setting_of c)) (state_of c) Clear Cleared (state_of d)
+  pub cleared : Holds c [] d → MovesResized (λ s. s.1) (MapMoves eq) (ResizesTo (setting_of c)) (state_of c) Clear Cleared (state_of d)
   cleared h = holds-changes (MapMoves eq) Clear Cleared c d [] h (λ number l p. (none-left l p, refl))
 
   -- a removal
   pub removed : (k : K) (o : Option (K × V)) → Removes eq c k o d
-      → Changes (λ s. s.1) (MapMoves eq) (ResizesTo (setting_of c)) (state_of c) (Remove k) (Pair o) (state_of d)
+      → MovesResized (λ s. s.1) (MapMoves eq) (ResizesTo (setting_of c)) (state_of c) (Remove k) (Pair o) (state_of d)
   removed k None h = unchanged-changes (MapMoves eq) (Remove k) (Pair None) c d h.1 (λ e. (h.0, e))
   removed k (Some p) h = holds-changes (MapMoves eq) (Remove k) (Pair (Some p)) c d (without eq (entries c) k) h.1 (λ number l q. (h.0, (q, refl)))
 
@@ -53,7 +53,7 @@ by-find (Some x) f n = f x refl
 by-find None f n = n refl
 
 -- where room was made and memory may be refused still, it might have been before
-pub refuses-still : {K V H : Type 0} (eq : K → K → Bool) (hash : H → K → ℕ) (c d : Contents (K × V) H) (k : K) → find eq (entries c) k ≡ None → MakesRoom (hash (settings_of c).hasher) (λ p. p.0) c (hash (settings_of c).hasher k) d
+pub refuses-still : {K V H : Type 0} (eq : K → K → Bool) (hash : H → K → ℕ) (c d : Contents (K × V) H) (k : K) → find eq (entries c) k ≡ None → Prepares (hash (settings_of c).hasher) (λ p. p.0) c (hash (settings_of c).hasher k) d
     → MapRefuses eq hash (setting_of c) (state_of d) k → MapRefuses eq hash (setting_of c) (state_of c) k
 refuses-still {K} {V} {H} eq hash c d k none room h = (
   none,

@@ -124,25 +124,25 @@ module _ {K V : Type 0} (eq : K → K → Bool) where
   left o es Len = es
 
   -- a move answers and leaves just that
-  settled : (s : State (K × V)) (call : MapCall K V) (reply : Reply K V) (t : State (K × V)) → MapMoves eq s call reply t
+  not_waiting : (s : State (K × V)) (call : MapCall K V) (reply : Reply K V) (t : State (K × V)) → MapMoves eq s call reply t
       → (o : Option (K × V)) × (there s.0 call ≡ o) × (reply ≡ answered o s.0 call) × IsPermutation (left o s.0 call) t.0
-  settled s (Insert k v) Inserted t m = (None, m.0, refl, m.1.0)
-  settled s (Insert k v) (Exists l w) t m =
+  not_waiting s (Insert k v) Inserted t m = (None, m.0, refl, m.1.0)
+  not_waiting s (Insert k v) (Exists l w) t m =
       let p = some-of (find eq s.0 k) m.1 in
       (Some p.0, p.1, ap (λ q. Exists q.0 q.1) m.0, same s t m.2)
-  settled s (Upsert k v) (Old None) t m = (None, m.0, refl, m.1.0)
-  settled s (Upsert k v) (Old (Some w)) t m =
+  not_waiting s (Upsert k v) (Old None) t m = (None, m.0, refl, m.1.0)
+  not_waiting s (Upsert k v) (Old (Some w)) t m =
       (Some (m.0, w), m.1, refl, subst (IsPermutation ((m.0, v) ∷ without eq s.0 k)) (sym m.2.0) (IsPermutation-sym (set_value (eq k) s.0 v) ((m.0, v) ∷ without eq s.0 k) (value-apart eq s.0 k (m.0, w) v m.1)))
-  settled s (Replace k) (Key None) t m = (None, m.0, refl, same s t m.1)
-  settled s (Replace k) (Key (Some l)) t m =
+  not_waiting s (Replace k) (Key None) t m = (None, m.0, refl, same s t m.1)
+  not_waiting s (Replace k) (Key (Some l)) t m =
       (Some (l, m.0), m.1, refl, subst (IsPermutation ((k, m.0) ∷ without eq s.0 k)) (sym m.2.0) (IsPermutation-sym (set_key (eq k) s.0 k) ((k, m.0) ∷ without eq s.0 k) (key-apart eq s.0 k (l, m.0) k m.1)))
-  settled s (Read k) (Value r) t m = (find eq s.0 k, refl, ap Value m.0, same s t m.1)
-  settled s (Contains k) (Has b) t m = (find eq s.0 k, refl, ap Has m.0, same s t m.1)
-  settled s (Remove k) (Pair None) t m = (None, m.0, refl, same s t m.1)
-  settled s (Remove k) (Pair (Some p)) t m = (Some p, m.0, refl, m.1.0)
-  settled s Clear Cleared t m = (None, refl, refl, subst (IsPermutation []) (sym m.0) (IsPermutation-refl []))
-  settled s Len (Count n) t m = (None, refl, ap Count m.0, same s t m.1)
-  settled s call reply t m = absurd m
+  not_waiting s (Read k) (Value r) t m = (find eq s.0 k, refl, ap Value m.0, same s t m.1)
+  not_waiting s (Contains k) (Has b) t m = (find eq s.0 k, refl, ap Has m.0, same s t m.1)
+  not_waiting s (Remove k) (Pair None) t m = (None, m.0, refl, same s t m.1)
+  not_waiting s (Remove k) (Pair (Some p)) t m = (Some p, m.0, refl, m.1.0)
+  not_waiting s Clear Cleared t m = (None, refl, refl, subst (IsPermutation []) (sym m.0) (IsPermutation-refl []))
+  not_waiting s Len (Count n) t m = (None, refl, ap Count m.0, same s t m.1)
+  not_waiting s call reply t m = absurd m
 
 module _ {K V : Type 0} {eq : K → K → Bool} (laws : IsEquivalence eq) where
   there-alike : (es ds : List (K × V)) (k : Option K) → IsDistinct eq (keys_of es) → IsPermutation es ds → find-if eq ds k ≡ find-if eq es k
@@ -185,14 +185,14 @@ module _ {K V : Type 0} {eq : K → K → Bool} (laws : IsEquivalence eq) where
   -- a move keeps the keys distinct
   pub moves-distinct : (s t : State (K × V)) (call : MapCall K V) (reply : Reply K V) → IsDistinct eq (keys_of s.0) → MapMoves eq s call reply t → IsDistinct eq (keys_of t.0)
   moves-distinct s t call reply d m =
-      let a = settled eq s call reply t m in
+      let a = not_waiting eq s call reply t m in
       distinct-IsPermutation laws (left eq a.0 s.0 call) t.0 a.3 (left-distinct a.0 s.0 call a.1 d)
 
   -- the same call on the same pairs in another order gives the same reply, and leaves the same pairs in some order
   pub moves-alike : (s t u v : State (K × V)) (call : MapCall K V) (q r : Reply K V) → IsDistinct eq (keys_of s.0) → IsPermutation s.0 t.0 → MapMoves eq s call q u → MapMoves eq t call r v → (q ≡ r) × IsPermutation u.0 v.0
   moves-alike s t u v call q r d perm m n =
-      let a = settled eq s call q u m in
-      let b = settled eq t call r v n in
+      let a = not_waiting eq s call q u m in
+      let b = not_waiting eq t call r v n in
       let o : a.0 ≡ b.0 = sym a.1 ∙ sym (there-alike s.0 t.0 (map_key call) d perm) ∙ b.1 in (
         a.2 ∙ answered-alike a.0 s.0 t.0 call perm ∙ ap (λ z. answered eq z t.0 call) o ∙ sym b.2,
         IsPermutation-trans u.0 (left eq a.0 s.0 call) v.0 (IsPermutation-sym (left eq a.0 s.0 call) u.0 a.3)

@@ -2,7 +2,7 @@
 use Rattle.std.proofs.Common.{◌≡◌, ℕ, Bool, true, false, List, ◌∷◌, ◌⊎◌, inl, inr, subst, refl, arith}
 use Rattle.std.proofs.lemmas.Bool.Decides.{nat_tests}
 use Rattle.std.specs.Prelude.{MatchBool, ◌==◌, Result, Ok, Err, OnErr}
-use Rattle.scc_calls.specs.Changes.{Changes, Stays}
+use Rattle.scc_calls.specs.Resized.{MovesResized, Stays}
 use Rattle.scc_calls.specs.Run.{IsRun, done, resize, answer}
 
 either : {P Q : Type 0} (b : Bool) → MatchBool b P Q → P ⊎ Q
@@ -15,7 +15,7 @@ when_err (Err e) p = p
 
 module _ {S C R : Type 0} (size : S → ℕ) {moves : S → C → R → S → Type 0} {resizes : S → ℕ → S → Type 0} where
   -- a call with at most one resize, and then a run
-  pub changes : {s t u : S} {call : C} {calls : List C} {reply : R} {replies : List R} → Changes size moves resizes s call reply t → IsRun moves resizes t calls replies u → IsRun moves resizes s (call ∷ calls) (reply ∷ replies) u
+  pub changes : {s t u : S} {call : C} {calls : List C} {reply : R} {replies : List R} → MovesResized size moves resizes s call reply t → IsRun moves resizes t calls replies u → IsRun moves resizes s (call ∷ calls) (reply ∷ replies) u
   changes {s} {t} {u} {call} {calls} {reply} {replies} h r =
       elim h as (λ _. IsRun moves resizes s (call ∷ calls) (reply ∷ replies) u) [
         | inl kept ↦ answer kept.1 r
@@ -42,7 +42,7 @@ run-as as-other (answer {s} {t} {call} {reply} m r) = answer (as-other s call re
 
 -- what each step of a call is by another meaning, the call with its resize is too
 pub changes-by : {S C D R Q : Type 0} (size : S → ℕ) (resizes : S → ℕ → S → Type 0) (moves : S → C → R → S → Type 0) (others : S → D → Q → S → Type 0) (call : C) (copy : D) (reply : R) (given : Q) (old new : S) → ((s t : S) → moves s call reply t → others s copy given t)
-    → Changes size moves resizes old call reply new → Changes size others resizes old copy given new
+    → MovesResized size moves resizes old call reply new → MovesResized size others resizes old copy given new
 changes-by size resizes moves others call copy reply given old new f (inl c) = inl (c.0, f old new c.1)
 changes-by size resizes moves others call copy reply given old new f (inr (inl c)) = inr (inl (c.0, (c.1.0, c.1.1, f c.1.0 new c.1.2)))
 changes-by size resizes moves others call copy reply given old new f (inr (inr c)) = inr (inr (c.0, (c.1.0, f old c.1.0 c.1.1, c.1.2)))

@@ -5,8 +5,8 @@ use Rattle.std.specs.Option.{option_map}
 use Rattle.std.specs.Map.{keys_of}
 use Rattle.scc_contents.specs.Contents.{lists_of, settings_of}
 use Rattle.scc_contents.specs.Routing.{bucket_number}
-use Rattle.scc_contents.specs.Sizes.{IsArray}
-use Rattle.scc_cache.specs.CacheSteps.{number_in, IsPresent, IsReadyFor}
+use Rattle.scc_contents.specs.Sizes.{IsBucketCount}
+use Rattle.scc_cache.specs.CacheSteps.{list_number, IsPresent, IsPreparedForPut}
 use Rattle.scc_cache.specs.Caches.{Cached}
 use Rattle.scc_cache.specs.ListSteps.{list_for, pair_for, IsMissing, IsThere, PutsPair, Refreshes, RefreshesAs, TakesOut}
 use Rattle.scc_calls.specs.declared.fixed.Setting.{Setting}
@@ -52,7 +52,7 @@ module _ {K V : Type 0} where
   -- a resize to n lists: list i gets the pairs that belong to it, in the order that they had, and none more than 32; the number is lawful, within the maximum, and not lowered below the minimum
   pub record CacheResizes {H : Type 0} (g : Setting H) (number : ℕ → K → ℕ) (s : List (List (K × V))) (n : ℕ) (t : List (List (K × V))) : Type 0 where
     pub count : length t ≡ n
-    pub lawful : IsArray n
+    pub lawful : IsBucketCount n
     pub lists : (i : ℕ) → i < n → slice_index_or t i [] ≡ filter (λ p. number n p.0 == i) (flat_map (λ l. l) s)
     pub short : (i : ℕ) → length (slice_index_or t i []) ≤ 32
     pub within : 32 * n ≤ g.maximum
@@ -99,9 +99,9 @@ module _ {K V : Type 0} where
   module _ {S : Type 0} (eq : K → K → Bool) (hash : K → ℕ) (c : Cached (K × V) S) where
     -- the call makes no growth: a put of k finds k, or all is made that it wants
     abbrev pub CacheIsMade : CacheCall K V → Type 0
-    CacheIsMade (Put k v) = ((p : K × V) × IsPresent hash eq c.contents k p) ⊎ IsReadyFor hash c k
+    CacheIsMade (Put k v) = ((p : K × V) × IsPresent hash eq c.contents k p) ⊎ IsPreparedForPut hash c k
     CacheIsMade call = Unit {0}
 
     -- the call makes no growth, and the reply equals the one that it gives
-    abbrev pub CacheIsReady : (Reply K V → Reply K V → Bool) → CacheCall K V → Reply K V → Type 0
-    CacheIsReady same call copy = CacheIsMade call × (same (cache_answer eq (number_in hash c.contents) (lists_of c.contents) call) copy ≡ true)
+    abbrev pub CacheIsPrepared : (Reply K V → Reply K V → Bool) → CacheCall K V → Reply K V → Type 0
+    CacheIsPrepared same call copy = CacheIsMade call × (same (cache_answer eq (list_number hash c.contents) (lists_of c.contents) call) copy ≡ true)

@@ -1,16 +1,16 @@
 -- What making ready for a call and making it do to a container, in one word each.
 use Rattle.std.specs.Prelude.{◌≡◌, ◌≢◌, ◌⊎◌, ℕ, ◌≤◌, Bool, true, Option, Result, IfOk, IsSome}
 use Rattle.std.specs.Result.{OnErr}
-use Rattle.scc_calls.specs.Changes.{Changes, Stays}
+use Rattle.scc_calls.specs.Resized.{MovesResized, Stays}
 use Rattle.scc_calls.specs.Copies.{MayNotClone}
 
 -- a clone may be refused of the reply that the call gives in this state, or after one resize of it
 abbrev pub MayNotReply : {S C R : Type 0} → (S → ℕ) → (S → ℕ → S → Type 0) → (S → C → R) → (R → Type 0) → S → C → Type 0
 MayNotReply {S} size resizes answer is_infallible s call = (t : S) × Stays size resizes s t × MayNotClone is_infallible (answer t call)
 
-module _ {T G S K C R X : Type 0} (setting_of : T → G) (state_of : T → S) (size : S → ℕ) (key_of : C → Option K) (gives : G → S → C → R) (resizes : G → S → ℕ → S → Type 0) (may_refuse : G → S → C → Type 0) (may_add : C → Type 0) (is_ready : T → C → R → Type 0) (is_marked : T → Bool) (is_infallible : R → Type 0) where
+module _ {T G S K C R X : Type 0} (setting_of : T → G) (state_of : T → S) (size : S → ℕ) (key_of : C → Option K) (gives : G → S → C → R) (resizes : G → S → ℕ → S → Type 0) (may_refuse : G → S → C → Type 0) (may_add : C → Type 0) (is_prepared : T → C → R → Type 0) (is_marked : T → Bool) (is_infallible : R → Type 0) where
   -- what `ready` for the call, answered so, does to the container c
-  pub record ReadiesByRule (c : T) (call : C) (result : Result (R × R) X) (d : T) : Type 0 where
+  pub record PreparesCallByRule (c : T) (call : C) (result : Result (R × R) X) (d : T) : Type 0 where
     -- the setting stays
     pub setting : setting_of d ≡ setting_of c
     -- the state stays but for one resize
@@ -20,7 +20,7 @@ module _ {T G S K C R X : Type 0} (setting_of : T → G) (state_of : T → S) (s
     -- and their number changes only where the call may bring in a key
     pub adds : size (state_of d) ≢ size (state_of c) → may_add call
     -- both copies are ones that the call is ready to answer
-    pub ready : IfOk result (λ r. is_ready d call r.0 × is_ready d call r.1)
+    pub ready : IfOk result (λ r. is_prepared d call r.0 × is_prepared d call r.1)
     -- it fails only if memory for the call may be refused, or, if the call has a key, a clone of the reply that the call gives then
     pub refused : OnErr result (may_refuse (setting_of c) (state_of c) call ⊎ (IsSome (key_of call) × MayNotClone is_infallible (gives (setting_of d) (state_of d) call)))
     -- then it leaves no mark of a growth that was tried, but one that was there before
@@ -33,14 +33,14 @@ module _ {T G S K C R X : Type 0} (setting_of : T → G) (state_of : T → S) (s
     -- the setting stays
     pub setting : setting_of d ≡ setting_of c
     -- if it succeeds, this very call was made with this very reply, and with at most one resize
-    pub ok : IfOk result (λ r. Changes size (moves (setting_of c)) (resizes (setting_of c)) (state_of c) call r (state_of d))
+    pub ok : IfOk result (λ r. MovesResized size (moves (setting_of c)) (resizes (setting_of c)) (state_of c) call r (state_of d))
     -- where it fails, the state stays but for one resize
     pub err : OnErr result (Stays size (resizes (setting_of c)) (state_of c) (state_of d))
     -- it fails only if memory for the call may be refused, or, if the call has a key, a clone of the reply that the call gives
     pub refused : OnErr result (may_refuse (setting_of c) (state_of c) call ⊎ (IsSome (key_of call) × MayNotClone is_infallible (gives (setting_of c) (state_of c) call)))
     -- once all is made that it wants, a reply that it answers equals the copy
-    pub answer : (copy : R) → is_ready c call copy → IfOk result (λ r. eq r copy ≡ true)
+    pub answer : (copy : R) → is_prepared c call copy → IfOk result (λ r. eq r copy ≡ true)
     -- and it makes no growth
-    pub made : (copy : R) → is_ready c call copy → size (state_of d) ≤ size (state_of c)
+    pub made : (copy : R) → is_prepared c call copy → size (state_of d) ≤ size (state_of c)
     -- a call that may bring in a key makes the buckets no fewer
     pub kept : may_add call → size (state_of c) ≤ size (state_of d)

@@ -3,7 +3,7 @@ use Rattle.std.specs.Prelude.{◌≡◌, ℕ, ◌⊎◌, Bool, true, false, cond
 use Rattle.std.specs.Option.{option_map}
 use Rattle.scc_contents.specs.Contents.{Contents, entries}
 use Rattle.scc_contents.specs.Pairs.{find}
-use Rattle.scc_contents.specs.Steps.{IsReadyFor}
+use Rattle.scc_contents.specs.Steps.{IsPreparedFor}
 use Rattle.scc_calls.specs.MapCalls.{MapMoves}
 use Rattle.scc_calls.specs.States.{State}
 use Rattle.scc_calls.specs.declared.calls_as_values.IndexCall.{IndexCall}
@@ -61,7 +61,7 @@ module _ {K V : Type 0} where
     module _ {S : Type 0} (hash : K → ℕ) (c : Contents (K × V) S) where
       -- an insertion of k makes no resize: k is there, or all is made that it wants
       abbrev pub IndexIsMadeFor : K → Type 0
-      IndexIsMadeFor k = IsSome (find eq (entries c) k) ⊎ IsReadyFor hash (λ p. p.0) c k
+      IndexIsMadeFor k = IsSome (find eq (entries c) k) ⊎ IsPreparedFor hash (λ p. p.0) c k
 
       -- the call makes no growth
       abbrev pub IndexIsMade : IndexCall K V → Type 0
@@ -69,5 +69,5 @@ module _ {K V : Type 0} where
       IndexIsMade call = Unit {0}
 
       -- the call makes no growth, and the reply equals the one that it gives
-      abbrev pub IndexIsReady : (Reply K V → Reply K V → Bool) → IndexCall K V → Reply K V → Type 0
-      IndexIsReady same call copy = IndexIsMade call × (same (index_answer (entries c) call) copy ≡ true)
+      abbrev pub IndexIsPrepared : (Reply K V → Reply K V → Bool) → IndexCall K V → Reply K V → Type 0
+      IndexIsPrepared same call copy = IndexIsMade call × (same (index_answer (entries c) call) copy ≡ true)

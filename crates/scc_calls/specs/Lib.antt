@@ -1,7 +1,6 @@
 pub mod CacheCalls
 pub mod CacheLaws
 pub mod Calling
-pub mod Changes
 pub mod Copies
 pub mod Histories
 pub mod IndexCalls
@@ -14,7 +13,8 @@ pub mod MapWhole
 pub mod Means
 pub mod Parted
 pub mod Parts
-pub mod Rooms
+pub mod Preparations
+pub mod Resized
 pub mod Run
 pub mod SetCalls
 pub mod SetLaws

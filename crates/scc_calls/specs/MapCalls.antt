@@ -5,7 +5,7 @@ use Rattle.std.specs.List.Sorted.{IsPermutation}
 use Rattle.scc_contents.specs.PairSteps.{AddsPair, HandsBack, SetsValue, SwapsKey, LacksKey, TakesPair}
 use Rattle.scc_contents.specs.Contents.{Contents, entries}
 use Rattle.scc_contents.specs.Pairs.{find}
-use Rattle.scc_contents.specs.Steps.{IsReadyFor}
+use Rattle.scc_contents.specs.Steps.{IsPreparedFor}
 use Rattle.scc_contents.specs.Routing.{bucket_number}
 use Rattle.scc_calls.specs.States.{State}
 use Rattle.scc_calls.specs.declared.fixed.Setting.{Setting}
@@ -71,7 +71,7 @@ module _ {K V : Type 0} where
     module _ {S : Type 0} (hash : K → ℕ) (c : Contents (K × V) S) where
       -- an insertion of k makes no resize: k is there, or all is made that it wants
       abbrev pub MapIsMadeFor : K → Type 0
-      MapIsMadeFor k = IsSome (find eq (entries c) k) ⊎ IsReadyFor hash (λ p. p.0) c k
+      MapIsMadeFor k = IsSome (find eq (entries c) k) ⊎ IsPreparedFor hash (λ p. p.0) c k
 
       -- the call makes no growth
       abbrev pub MapIsMade : MapCall K V → Type 0
@@ -80,8 +80,8 @@ module _ {K V : Type 0} where
       MapIsMade call = Unit {0}
 
       -- the call makes no growth, and the reply equals the one that it gives
-      abbrev pub MapIsReady : (Reply K V → Reply K V → Bool) → MapCall K V → Reply K V → Type 0
-      MapIsReady same call copy = MapIsMade call × (same (map_answer (entries c) call) copy ≡ true)
+      abbrev pub MapIsPrepared : (Reply K V → Reply K V → Bool) → MapCall K V → Reply K V → Type 0
+      MapIsPrepared same call copy = MapIsMade call × (same (map_answer (entries c) call) copy ≡ true)
 
     module _ {H : Type 0} (hash : H → K → ℕ) where
       -- there is an array, and the bucket of k holds fewer than 32 pairs

@@ -1,7 +1,7 @@
 -- A call and a reply, and those that equal them.
 use Rattle.std.proofs.Common.{◌≡◌, ℕ, Bool, true, Option, None, Some, refl, sym, ap, ◌∙◌, subst, inl, inr}
 use Rattle.std.specs.Cmp.{IsPartialEquivalence}
-use Rattle.scc_calls.specs.Changes.{Changes}
+use Rattle.scc_calls.specs.Resized.{MovesResized}
 use Rattle.scc_calls.specs.Copies.{Alike, Answers, Means}
 use Rattle.scc_calls.specs.Parts.{KeyRouted}
 
@@ -38,7 +38,7 @@ the_very eq only a b (inl same) = same
 the_very eq only a b (inr equal) = only a b equal
 
 -- what a call with this reply changes, it answers with one that stems from it
-pub answered : {S C R : Type 0} (stems : C → R → R → Type 0) (moves : S → C → R → S → Type 0) (size : S → ℕ) (resizes : S → ℕ → S → Type 0) (old new : S) (call : C) (given reply : R) → stems call given reply → Changes size moves resizes old call given new → Changes size (Answers stems moves) resizes old call reply new
+pub answered : {S C R : Type 0} (stems : C → R → R → Type 0) (moves : S → C → R → S → Type 0) (size : S → ℕ) (resizes : S → ℕ → S → Type 0) (old new : S) (call : C) (given reply : R) → stems call given reply → MovesResized size moves resizes old call given new → MovesResized size (Answers stems moves) resizes old call reply new
 answered stems moves size resizes old new call given reply from (inl c) = inl (c.0, (given, from, c.1))
 answered stems moves size resizes old new call given reply from (inr (inl c)) = inr (inl (c.0, (c.1.0, c.1.1, (given, from, c.1.2))))
 answered stems moves size resizes old new call given reply from (inr (inr c)) = inr (inr (c.0, (c.1.0, (given, from, c.1.1), c.1.2)))

@@ -1,7 +1,7 @@
 -- A list of calls with their replies.
 use Rattle.std.specs.Prelude.{◌≡◌, ℕ, List, [], ◌∷◌, length, Some}
 use Rattle.std.specs.List.{slice_get}
-use Rattle.scc_calls.specs.Changes.{Stays}
+use Rattle.scc_calls.specs.Resized.{Stays}
 
 -- From s, the replies answer the first of the calls, one after another, and lead to the last state. Resizes may stand anywhere
 pub data IsRun {S C R : Type 0} (moves : S → C → R → S → Type 0) (resizes : S → ℕ → S → Type 0) : S → List C → List R → S → Type 0 where

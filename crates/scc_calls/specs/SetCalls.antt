@@ -3,7 +3,7 @@ use Rattle.std.specs.Prelude.{◌≡◌, ℕ, ◌<◌, ◌==◌, ◌⊎◌, Bool
 use Rattle.std.specs.List.Sorted.{IsPermutation}
 use Rattle.scc_contents.specs.Contents.{Contents, entries}
 use Rattle.scc_contents.specs.Routing.{bucket_number}
-use Rattle.scc_contents.specs.Steps.{IsReadyFor}
+use Rattle.scc_contents.specs.Steps.{IsPreparedFor}
 use Rattle.scc_set.specs.Keys.{find, without, with_key}
 use Rattle.scc_calls.specs.States.{State}
 use Rattle.scc_calls.specs.declared.fixed.Setting.{Setting}
@@ -57,7 +57,7 @@ module _ {K : Type 0} where
     module _ {S : Type 0} (hash : K → ℕ) (c : Contents K S) where
       -- an insertion of k makes no resize: k is there, or all is made that it wants
       abbrev pub SetIsMadeFor : K → Type 0
-      SetIsMadeFor k = IsSome (find eq (entries c) k) ⊎ IsReadyFor hash (λ q. q) c k
+      SetIsMadeFor k = IsSome (find eq (entries c) k) ⊎ IsPreparedFor hash (λ q. q) c k
 
       -- the call makes no growth
       abbrev pub SetIsMade : SetCall K → Type 0
@@ -66,8 +66,8 @@ module _ {K : Type 0} where
       SetIsMade call = Unit {0}
 
       -- the call makes no growth, and the reply equals the one that it gives
-      abbrev pub SetIsReady : (Reply K (Unit {0}) → Reply K (Unit {0}) → Bool) → SetCall K → Reply K (Unit {0}) → Type 0
-      SetIsReady same call copy = SetIsMade call × (same (set_answer (entries c) call) copy ≡ true)
+      abbrev pub SetIsPrepared : (Reply K (Unit {0}) → Reply K (Unit {0}) → Bool) → SetCall K → Reply K (Unit {0}) → Type 0
+      SetIsPrepared same call copy = SetIsMade call × (same (set_answer (entries c) call) copy ≡ true)
 
     module _ {H : Type 0} (hash : H → K → ℕ) where
       -- there is an array, and the bucket of k holds fewer than 32 keys

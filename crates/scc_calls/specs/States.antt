@@ -2,7 +2,7 @@
 use Rattle.std.specs.Prelude.{◌≡◌, ℕ, ◌+◌, ◌*◌, ◌<◌, ◌≤◌, List}
 use Rattle.std.specs.List.Sorted.{IsPermutation}
 use Rattle.scc_contents.specs.Contents.{Contents, Settings, entries, bucket_count, settings_of}
-use Rattle.scc_contents.specs.Sizes.{IsArray}
+use Rattle.scc_contents.specs.Sizes.{IsBucketCount}
 use Rattle.scc_calls.specs.declared.fixed.Setting.{Setting}
 
 -- the entries in the container's order, and the number of buckets
@@ -26,5 +26,5 @@ module _ {E H : Type 0} where
   pub record ResizesTo (g : Setting H) (s : State E) (number : ℕ) (t : State E) : Type 0 where
     pub same : IsPermutation s.0 t.0
     pub buckets : t.1 ≡ number
-    pub lawful : IsArray number
+    pub lawful : IsBucketCount number
     pub minimum : number < s.1 → g.minimum ≤ 32 * number

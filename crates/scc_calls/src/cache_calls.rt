@@ -3,10 +3,10 @@ ghost use Rattle.std.specs.Prelude.{◌≡◌, ◌⊎◌, true, None, Some, IfOk
 ghost use Rattle.std.specs.Cmp.{IsPartialEquivalence};
 ghost use Rattle.scc_contents.specs.Contents.{bucket_count, list_of, lists_of, key_hash};
 ghost use Rattle.scc_contents.specs.Hashing.{hash_of};
-ghost use Rattle.scc_cache.specs.CacheSteps.{number_in, IsAbsent};
+ghost use Rattle.scc_cache.specs.CacheSteps.{list_number, IsAbsent};
 ghost use Rattle.scc_calls.specs.CacheCalls.{cache_answer, cache_key, first_of_full};
 ghost use Rattle.scc_calls.specs.Copies.{ClonesEqual, MayNotClone};
-ghost use Rattle.scc_calls.specs.Rooms.{CacheMakesRoom};
+ghost use Rattle.scc_calls.specs.Preparations.{CachePreparesCall};
 ghost use Rattle.scc_calls.specs.declared.replies.Reply.TheVariants.{Evicted};
 
 use crate::replies::equal_replies;
@@ -31,7 +31,7 @@ impl<K: Eq + Hash + Clone, V: Clone + PartialEq, H: BuildHasher> Calls for Owned
     ghost use Rattle.scc_contents.specs.Hashing.{hash_of};
     ghost use Rattle.scc_contents.specs.Sizes.{IsArraySize};
     ghost use Rattle.scc_contents.specs.Contents.{key_hash, refused_of};
-    ghost use Rattle.scc_calls.specs.CacheCalls.{cache_adds, cache_answer, cache_key, cache_setting, keys_in, number_by, CacheIsReady, CacheMoves, CacheMayRefuse, CacheResizes};
+    ghost use Rattle.scc_calls.specs.CacheCalls.{cache_adds, cache_answer, cache_key, cache_setting, keys_in, number_by, CacheIsPrepared, CacheMoves, CacheMayRefuse, CacheResizes};
     ghost use Rattle.scc_calls.specs.Copies.{Answers, Means};
     ghost use Rattle.scc_calls.specs.Means.{means_alike, means_answer, means_keeps, means_whole};
     ghost use Rattle.scc_calls.specs.Stems.{cache_stems_alike, CacheStems};
@@ -76,7 +76,7 @@ impl<K: Eq + Hash + Clone, V: Clone + PartialEq, H: BuildHasher> Calls for Owned
 
     ghost adds = { cache_adds };
 
-    ghost is_ready = { λ c. CacheIsReady K.eq (key_hash H.BuildHasher H.Hasher.Hasher K.hash_input c.contents) c
+    ghost is_prepared = { λ c. CacheIsPrepared K.eq (key_hash H.BuildHasher H.Hasher.Hasher K.hash_input c.contents) c
         ⟦<Reply<K, V> as PartialEq>⟧.eq };
 
     ghost is_marked = { λ c. (refused_of c.contents).1 };
@@ -104,12 +104,15 @@ impl<K: Eq + Hash + Clone, V: Clone + PartialEq, H: BuildHasher> Calls for Owned
         }
     }
 
-    fn ready(&mut self, call: &CacheCall<K, V>) -> Result<(Reply<K, V>, Reply<K, V>), Refused> {
-        make_room(self, call)?;
+    fn prepare_call(
+        &mut self,
+        call: &CacheCall<K, V>,
+    ) -> Result<(Reply<K, V>, Reply<K, V>), Refused> {
+        prepare(self, call)?;
         match copies(self, call) {
             Ok(both) => Ok(both),
             Err(Refused) => {
-                self.drop_room();
+                self.drop_mark();
                 Err(Refused)
             }
         }
@@ -221,15 +224,15 @@ fn equals<X: PartialEq>()
 {}
 
 // Makes what the call wants, if it may bring in a key.
-fn make_room<K: Eq + Hash, V, H: BuildHasher>(
+fn prepare<K: Eq + Hash, V, H: BuildHasher>(
     cache: &mut Owned<K, V, H>,
     call: &CacheCall<K, V>,
 ) -> Result<(), Refused>
-    ensures { CacheMakesRoom K.eq (λ h k. hash_of H.BuildHasher H.Hasher.Hasher h (K.hash_input k))
+    ensures { CachePreparesCall K.eq (λ h k. hash_of H.BuildHasher H.Hasher.Hasher h (K.hash_input k))
         cache.old call.now result cache.new }
 {
     match call {
-        CacheCall::Put(k, _) => match cache.make_room(k) {
+        CacheCall::Put(k, _) => match cache.prepare(k) {
             Ok(()) => Ok(()),
             Err(_) => Err(Refused),
         },
@@ -244,13 +247,13 @@ fn copies<K: Eq + Hash + Clone, V: Clone + PartialEq, H: BuildHasher>(
 ) -> Result<(Reply<K, V>, Reply<K, V>), Refused>
     requires clones { ClonesEqual ⟦<Reply<K, V> as Clone>⟧.is_clone ⟦<Reply<K, V> as PartialEq>⟧.eq }
     ensures ok { IfOk result (λ r. (⟦<Reply<K, V> as PartialEq>⟧.eq
-        (cache_answer K.eq (number_in (key_hash H.BuildHasher H.Hasher.Hasher K.hash_input cache.now.contents)
+        (cache_answer K.eq (list_number (key_hash H.BuildHasher H.Hasher.Hasher K.hash_input cache.now.contents)
         cache.now.contents) (lists_of cache.now.contents) call.now) r.0 ≡ true)
         × (⟦<Reply<K, V> as PartialEq>⟧.eq
-        (cache_answer K.eq (number_in (key_hash H.BuildHasher H.Hasher.Hasher K.hash_input cache.now.contents)
+        (cache_answer K.eq (list_number (key_hash H.BuildHasher H.Hasher.Hasher K.hash_input cache.now.contents)
         cache.now.contents) (lists_of cache.now.contents) call.now) r.1 ≡ true)) }
     ensures refused { OnErr result (IsSome (cache_key call.now) × MayNotClone ⟦<Reply<K, V> as Clone>⟧.is_infallible
-        (cache_answer K.eq (number_in (key_hash H.BuildHasher H.Hasher.Hasher K.hash_input cache.now.contents)
+        (cache_answer K.eq (list_number (key_hash H.BuildHasher H.Hasher.Hasher K.hash_input cache.now.contents)
         cache.now.contents) (lists_of cache.now.contents) call.now)) }
 {
     equal_replies::<Reply<K, V>>();
@@ -270,10 +273,10 @@ fn copy<K: Eq + Hash + Clone, V: Clone + PartialEq, H: BuildHasher>(
 ) -> Result<Reply<K, V>, Refused>
     requires clones { ClonesEqual ⟦<Reply<K, V> as Clone>⟧.is_clone ⟦<Reply<K, V> as PartialEq>⟧.eq }
     ensures ok { IfOk result (λ r. ⟦<Reply<K, V> as PartialEq>⟧.eq
-        (cache_answer K.eq (number_in (key_hash H.BuildHasher H.Hasher.Hasher K.hash_input cache.now.contents)
+        (cache_answer K.eq (list_number (key_hash H.BuildHasher H.Hasher.Hasher K.hash_input cache.now.contents)
         cache.now.contents) (lists_of cache.now.contents) call.now) r ≡ true) }
     ensures refused { OnErr result (IsSome (cache_key call.now) × MayNotClone ⟦<Reply<K, V> as Clone>⟧.is_infallible
-        (cache_answer K.eq (number_in (key_hash H.BuildHasher H.Hasher.Hasher K.hash_input cache.now.contents)
+        (cache_answer K.eq (list_number (key_hash H.BuildHasher H.Hasher.Hasher K.hash_input cache.now.contents)
         cache.now.contents) (lists_of cache.now.contents) call.now)) }
 {
     match call {
@@ -325,11 +328,11 @@ fn copy_evicted<K: Eq + Hash + Clone, V: Clone + PartialEq, H: BuildHasher>(
         cache.now.contents k.now }
     ensures ok { IfOk result (λ r. ⟦<Reply<K, V> as PartialEq>⟧.eq
         (Evicted (first_of_full (list_of cache.now.contents
-        (number_in (key_hash H.BuildHasher H.Hasher.Hasher K.hash_input cache.now.contents) cache.now.contents
+        (list_number (key_hash H.BuildHasher H.Hasher.Hasher K.hash_input cache.now.contents) cache.now.contents
         (bucket_count cache.now.contents) k.now)))) r ≡ true) }
     ensures refused { OnErr result (MayNotClone ⟦<Reply<K, V> as Clone>⟧.is_infallible
         (Evicted (first_of_full (list_of cache.now.contents
-        (number_in (key_hash H.BuildHasher H.Hasher.Hasher K.hash_input cache.now.contents) cache.now.contents
+        (list_number (key_hash H.BuildHasher H.Hasher.Hasher K.hash_input cache.now.contents) cache.now.contents
         (bucket_count cache.now.contents) k.now))))) }
 {
     match cache.next_evicted(k) {

@@ -1,7 +1,7 @@
 //! Containers whose calls are values.
 ghost use Rattle.std.specs.Prelude.{◌≡◌, Bool, ℕ, ◌*◌, ◌<◌, ◌≤◌, List, ◌∷◌, ◌++◌, length, Option, Some, None, IfOk, MatchOption};
 ghost use Rattle.std.specs.Cmp.{IsPartialEquivalence};
-ghost use Rattle.scc_calls.specs.Calling.{CallsByRule, ReadiesByRule};
+ghost use Rattle.scc_calls.specs.Calling.{CallsByRule, PreparesCallByRule};
 ghost use Rattle.scc_calls.specs.Copies.{Alike, ClonesEqual};
 ghost use Rattle.scc_calls.specs.Made.{IsMadeFor};
 ghost use Rattle.scc_calls.specs.Parts.{Routed, KeyRouted, RoutedFrom};
@@ -73,7 +73,7 @@ pub trait Calls: Sized {
     ghost adds: { Self.Call → Type 0 };
 
     // All is made that the call wants: it makes no growth now, and its reply equals this one.
-    ghost is_ready: { Self → Self.Call → Self.Reply → Type 0 };
+    ghost is_prepared: { Self → Self.Call → Self.Reply → Type 0 };
 
     // A growth is marked as tried, so that no insertion tries it again.
     ghost is_marked: { Self → Bool };
@@ -94,15 +94,15 @@ pub trait Calls: Sized {
     /// Makes the first array or the growth that the call wants, at most one resize, and answers two copies of the reply
     /// that the call gives next. If it is refused, the contents are unchanged, and no growth stays marked as tried that
     /// wasn't marked before.
-    fn ready(&mut self, call: &Self::Call) -> Result<(Self::Reply, Self::Reply), Refused>
+    fn prepare_call(&mut self, call: &Self::Call) -> Result<(Self::Reply, Self::Reply), Refused>
         requires clones { ClonesEqual Self.Reply.is_clone Self.Reply.eq }
-        ensures { ReadiesByRule setting state size key_of answer resizes may_refuse adds is_ready is_marked
+        ensures { PreparesCallByRule setting state size key_of answer resizes may_refuse adds is_prepared is_marked
             Self.Reply.is_infallible self.old call.now result self.new };
 
     /// Makes the call.
     fn call(&mut self, call: Self::Call) -> Result<Self::Reply, Refused>
         requires clones { ClonesEqual Self.Reply.is_clone Self.Reply.eq }
-        ensures { CallsByRule setting state size key_of answer resizes may_refuse adds is_ready is_marked
+        ensures { CallsByRule setting state size key_of answer resizes may_refuse adds is_prepared is_marked
             Self.Reply.is_infallible moves Self.Reply.eq self.old call result self.new };
 
     /// The number of buckets, 0 where there is no array.

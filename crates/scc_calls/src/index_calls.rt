@@ -4,7 +4,7 @@ ghost use Rattle.scc_contents.specs.Contents.{entries};
 ghost use Rattle.scc_contents.specs.Hashing.{hash_of};
 ghost use Rattle.scc_calls.specs.Copies.{ClonesEqual, MayNotClone};
 ghost use Rattle.scc_calls.specs.IndexCalls.{index_answer, index_key};
-ghost use Rattle.scc_calls.specs.Rooms.{IndexMakesRoom, IndexMakesRoomFor};
+ghost use Rattle.scc_calls.specs.Preparations.{IndexPreparesCall, IndexPreparesKey};
 
 use crate::replies::equal_replies;
 use crate::{Calls, IndexCall, Refused, Reply};
@@ -31,7 +31,7 @@ impl<K: Eq + Hash + Clone, V: Clone + PartialEq, H: BuildHasher> Calls for Owned
     ghost use Rattle.scc_calls.specs.MapWhole.{joined};
     ghost use Rattle.scc_calls.specs.IndexWhole.{IndexWholeMoves};
     ghost use Rattle.scc_contents.specs.Routing.{stripe_number};
-    ghost use Rattle.scc_calls.specs.IndexCalls.{index_adds, index_answer, index_key, IndexIsReady, IndexMoves, IndexMayRefuse};
+    ghost use Rattle.scc_calls.specs.IndexCalls.{index_adds, index_answer, index_key, IndexIsPrepared, IndexMoves, IndexMayRefuse};
     ghost use Rattle.scc_calls.specs.Copies.{Answers, Means};
     ghost use Rattle.scc_calls.specs.Means.{means_alike, means_answer, means_keeps, means_whole};
     ghost use Rattle.scc_calls.specs.Stems.{index_stems_alike, IndexStems};
@@ -70,7 +70,7 @@ impl<K: Eq + Hash + Clone, V: Clone + PartialEq, H: BuildHasher> Calls for Owned
 
     ghost adds = { index_adds };
 
-    ghost is_ready = { λ m. IndexIsReady K.eq (key_hash H.BuildHasher H.Hasher.Hasher K.hash_input m) m
+    ghost is_prepared = { λ m. IndexIsPrepared K.eq (key_hash H.BuildHasher H.Hasher.Hasher K.hash_input m) m
         ⟦<Reply<K, V> as PartialEq>⟧.eq };
 
     ghost is_marked = { λ m. (refused_of m).1 };
@@ -95,12 +95,15 @@ impl<K: Eq + Hash + Clone, V: Clone + PartialEq, H: BuildHasher> Calls for Owned
         }
     }
 
-    fn ready(&mut self, call: &IndexCall<K, V>) -> Result<(Reply<K, V>, Reply<K, V>), Refused> {
-        make_room(self, call)?;
+    fn prepare_call(
+        &mut self,
+        call: &IndexCall<K, V>,
+    ) -> Result<(Reply<K, V>, Reply<K, V>), Refused> {
+        prepare(self, call)?;
         match copies(self, call) {
             Ok(both) => Ok(both),
             Err(Refused) => {
-                self.drop_room();
+                self.drop_mark();
                 Err(Refused)
             }
         }
@@ -191,28 +194,28 @@ impl<K: Eq + Hash + Clone, V: Clone + PartialEq, H: BuildHasher> Calls for Owned
 }
 
 // Makes what the call wants but its version, if it may bring in a key.
-fn make_room<K: Eq + Hash, V, H: BuildHasher>(
+fn prepare<K: Eq + Hash, V, H: BuildHasher>(
     index: &mut Owned<K, V, H>,
     call: &IndexCall<K, V>,
 ) -> Result<(), Refused>
-    ensures { IndexMakesRoom K.eq (λ h k. hash_of H.BuildHasher H.Hasher.Hasher h (K.hash_input k))
+    ensures { IndexPreparesCall K.eq (λ h k. hash_of H.BuildHasher H.Hasher.Hasher h (K.hash_input k))
         index.old call.now result index.new }
 {
     match call {
-        IndexCall::Insert(k, _) => make_room_for(index, k),
+        IndexCall::Insert(k, _) => prepare_key(index, k),
         _ => Ok(()),
     }
 }
 
 // Makes what an insertion of the key wants but its version.
-fn make_room_for<K: Eq + Hash, V, H: BuildHasher>(
+fn prepare_key<K: Eq + Hash, V, H: BuildHasher>(
     index: &mut Owned<K, V, H>,
     k: &K,
 ) -> Result<(), Refused>
-    ensures { IndexMakesRoomFor K.eq (λ h k. hash_of H.BuildHasher H.Hasher.Hasher h (K.hash_input k))
+    ensures { IndexPreparesKey K.eq (λ h k. hash_of H.BuildHasher H.Hasher.Hasher h (K.hash_input k))
         index.old k.now result index.new }
 {
-    match index.make_room(k) {
+    match index.prepare(k) {
         Ok(()) => Ok(()),
         Err(_) => Err(Refused),
     }

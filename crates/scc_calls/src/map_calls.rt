@@ -4,7 +4,7 @@ ghost use Rattle.scc_contents.specs.Contents.{entries};
 ghost use Rattle.scc_contents.specs.Hashing.{hash_of};
 ghost use Rattle.scc_calls.specs.Copies.{ClonesEqual, MayNotClone};
 ghost use Rattle.scc_calls.specs.MapCalls.{map_answer, map_key};
-ghost use Rattle.scc_calls.specs.Rooms.{MapMakesRoom, MapMakesRoomFor};
+ghost use Rattle.scc_calls.specs.Preparations.{MapPreparesCall, MapPreparesKey};
 
 use crate::replies::equal_replies;
 use crate::{Calls, MapCall, Refused, Reply};
@@ -30,7 +30,7 @@ impl<K: Eq + Hash + Clone, V: Clone + PartialEq, H: BuildHasher> Calls for Owned
     ghost use Rattle.scc_calls.specs.MapLaws.{routes_alike, both_same, map_call_is_whole, map_call_keeps, map_resize_keeps, resize_joined};
     ghost use Rattle.scc_calls.specs.MapWhole.{joined, MapWholeMoves};
     ghost use Rattle.scc_contents.specs.Routing.{stripe_number};
-    ghost use Rattle.scc_calls.specs.MapCalls.{map_adds, map_answer, map_key, MapIsReady, MapMoves, MapMayRefuse};
+    ghost use Rattle.scc_calls.specs.MapCalls.{map_adds, map_answer, map_key, MapIsPrepared, MapMoves, MapMayRefuse};
     ghost use Rattle.scc_calls.specs.Copies.{Answers, Means};
     ghost use Rattle.scc_calls.specs.Means.{means_alike, means_answer, means_keeps, means_whole};
     ghost use Rattle.scc_calls.specs.Stems.{map_stems_alike, MapStems};
@@ -68,7 +68,7 @@ impl<K: Eq + Hash + Clone, V: Clone + PartialEq, H: BuildHasher> Calls for Owned
 
     ghost adds = { map_adds };
 
-    ghost is_ready = { λ m. MapIsReady K.eq (key_hash H.BuildHasher H.Hasher.Hasher K.hash_input m) m
+    ghost is_prepared = { λ m. MapIsPrepared K.eq (key_hash H.BuildHasher H.Hasher.Hasher K.hash_input m) m
         ⟦<Reply<K, V> as PartialEq>⟧.eq };
 
     ghost is_marked = { λ m. (refused_of m).1 };
@@ -94,12 +94,15 @@ impl<K: Eq + Hash + Clone, V: Clone + PartialEq, H: BuildHasher> Calls for Owned
         }
     }
 
-    fn ready(&mut self, call: &MapCall<K, V>) -> Result<(Reply<K, V>, Reply<K, V>), Refused> {
-        make_room(self, call)?;
+    fn prepare_call(
+        &mut self,
+        call: &MapCall<K, V>,
+    ) -> Result<(Reply<K, V>, Reply<K, V>), Refused> {
+        prepare(self, call)?;
         match copies(self, call) {
             Ok(both) => Ok(both),
             Err(Refused) => {
-                self.drop_room();
+                self.drop_mark();
                 Err(Refused)
             }
         }
@@ -194,29 +197,29 @@ impl<K: Eq + Hash + Clone, V: Clone + PartialEq, H: BuildHasher> Calls for Owned
 }
 
 // Makes what the call wants, if it may bring in a key.
-fn make_room<K: Eq + Hash, V, H: BuildHasher>(
+fn prepare<K: Eq + Hash, V, H: BuildHasher>(
     map: &mut Owned<K, V, H>,
     call: &MapCall<K, V>,
 ) -> Result<(), Refused>
-    ensures { MapMakesRoom K.eq (λ h k. hash_of H.BuildHasher H.Hasher.Hasher h (K.hash_input k))
+    ensures { MapPreparesCall K.eq (λ h k. hash_of H.BuildHasher H.Hasher.Hasher h (K.hash_input k))
         map.old call.now result map.new }
 {
     match call {
-        MapCall::Insert(k, _) => make_room_for(map, k),
-        MapCall::Upsert(k, _) => make_room_for(map, k),
+        MapCall::Insert(k, _) => prepare_key(map, k),
+        MapCall::Upsert(k, _) => prepare_key(map, k),
         _ => Ok(()),
     }
 }
 
 // Makes what an insertion of the key wants.
-fn make_room_for<K: Eq + Hash, V, H: BuildHasher>(
+fn prepare_key<K: Eq + Hash, V, H: BuildHasher>(
     map: &mut Owned<K, V, H>,
     k: &K,
 ) -> Result<(), Refused>
-    ensures { MapMakesRoomFor K.eq (λ h k. hash_of H.BuildHasher H.Hasher.Hasher h (K.hash_input k))
+    ensures { MapPreparesKey K.eq (λ h k. hash_of H.BuildHasher H.Hasher.Hasher h (K.hash_input k))
         map.old k.now result map.new }
 {
-    match map.make_room(k) {
+    match map.prepare(k) {
         Ok(()) => Ok(()),
         Err(_) => Err(Refused),
     }

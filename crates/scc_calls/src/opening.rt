@@ -2,7 +2,7 @@
 ghost use Rattle.std.specs.Prelude.{◌≡◌, IfOk};
 
 use crate::Calls;
-use scc_common::{MakeError, TryShare};
+use scc_common::{CloneOwner, MakeError};
 use std::alloc::Global;
 
 /// Two empty parts under one hasher. Nothing tells them apart.
@@ -13,13 +13,13 @@ pub fn two_parts<C: Calls + Drop>(
     hasher: C::Hasher,
 ) -> Result<(C, C), MakeError>
 where
-    C::Hasher: TryShare + Drop,
+    C::Hasher: CloneOwner + Drop,
     ensures setting { IfOk result (λ p. C.setting p.0 ≡ C.setting p.1) }
     ensures state { IfOk result (λ p. C.state p.0 ≡ C.state p.1) }
     ensures skipped { IfOk result (λ p. (C.setting p.0).skipped ≡ 1) }
     ensures hasher { IfOk result (λ p. (C.setting p.0).hasher ≡ hasher) }
 {
-    let Ok(another) = hasher.share() else {
+    let Ok(another) = hasher.clone_owner() else {
         return Err(MakeError);
     };
     let first = C::make(alloc, 1, slots, maximum, hasher)?;

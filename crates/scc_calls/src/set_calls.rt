@@ -5,7 +5,7 @@ ghost use Rattle.scc_contents.specs.Hashing.{hash_of};
 ghost use Rattle.scc_set.specs.Keys.{find};
 ghost use Rattle.scc_calls.specs.Copies.{ClonesEqual, MayNotClone};
 ghost use Rattle.scc_calls.specs.SetCalls.{key_of_set, set_answer};
-ghost use Rattle.scc_calls.specs.Rooms.{SetMakesRoom, SetMakesRoomFor};
+ghost use Rattle.scc_calls.specs.Preparations.{SetPreparesCall, SetPreparesKey};
 ghost use Rattle.scc_calls.specs.declared.replies.Reply.TheVariants.{Key};
 
 use crate::replies::equal_replies;
@@ -30,7 +30,7 @@ impl<K: Eq + Hash + Clone, H: BuildHasher> Calls for Owned<K, H> {
     ghost use Rattle.scc_calls.specs.MapLaws.{routes_alike, both_same, resize_joined};
     ghost use Rattle.scc_calls.specs.MapWhole.{joined};
     ghost use Rattle.scc_contents.specs.Routing.{stripe_number};
-    ghost use Rattle.scc_calls.specs.SetCalls.{key_of_set, set_adds, set_answer, SetIsReady, SetMoves, SetMayRefuse};
+    ghost use Rattle.scc_calls.specs.SetCalls.{key_of_set, set_adds, set_answer, SetIsPrepared, SetMoves, SetMayRefuse};
     ghost use Rattle.scc_calls.specs.Copies.{Answers, Means};
     ghost use Rattle.scc_calls.specs.Means.{means_alike, means_answer, means_keeps, means_whole};
     ghost use Rattle.scc_calls.specs.Stems.{set_stems_alike, SetStems};
@@ -70,7 +70,7 @@ impl<K: Eq + Hash + Clone, H: BuildHasher> Calls for Owned<K, H> {
 
     ghost adds = { set_adds };
 
-    ghost is_ready = { λ m. SetIsReady K.eq (key_hash H.BuildHasher H.Hasher.Hasher K.hash_input m) m
+    ghost is_prepared = { λ m. SetIsPrepared K.eq (key_hash H.BuildHasher H.Hasher.Hasher K.hash_input m) m
         ⟦<Reply<K, ()> as PartialEq>⟧.eq };
 
     ghost is_marked = { λ m. (refused_of m).1 };
@@ -95,12 +95,12 @@ impl<K: Eq + Hash + Clone, H: BuildHasher> Calls for Owned<K, H> {
         }
     }
 
-    fn ready(&mut self, call: &SetCall<K>) -> Result<(Reply<K, ()>, Reply<K, ()>), Refused> {
-        make_room(self, call)?;
+    fn prepare_call(&mut self, call: &SetCall<K>) -> Result<(Reply<K, ()>, Reply<K, ()>), Refused> {
+        prepare(self, call)?;
         match copies(self, call) {
             Ok(both) => Ok(both),
             Err(Refused) => {
-                self.drop_room();
+                self.drop_mark();
                 Err(Refused)
             }
         }
@@ -188,26 +188,26 @@ impl<K: Eq + Hash + Clone, H: BuildHasher> Calls for Owned<K, H> {
 }
 
 // Makes what the call wants, if it may bring in a key.
-fn make_room<K: Eq + Hash, H: BuildHasher>(
+fn prepare<K: Eq + Hash, H: BuildHasher>(
     set: &mut Owned<K, H>,
     call: &SetCall<K>,
 ) -> Result<(), Refused>
-    ensures { SetMakesRoom K.eq (λ h k. hash_of H.BuildHasher H.Hasher.Hasher h (K.hash_input k))
+    ensures { SetPreparesCall K.eq (λ h k. hash_of H.BuildHasher H.Hasher.Hasher h (K.hash_input k))
         set.old call.now result set.new }
 {
     match call {
-        SetCall::Insert(k) => make_room_for(set, k),
-        SetCall::Replace(k) => make_room_for(set, k),
+        SetCall::Insert(k) => prepare_key(set, k),
+        SetCall::Replace(k) => prepare_key(set, k),
         _ => Ok(()),
     }
 }
 
 // Makes what an insertion of the key wants.
-fn make_room_for<K: Eq + Hash, H: BuildHasher>(set: &mut Owned<K, H>, k: &K) -> Result<(), Refused>
-    ensures { SetMakesRoomFor K.eq (λ h k. hash_of H.BuildHasher H.Hasher.Hasher h (K.hash_input k))
+fn prepare_key<K: Eq + Hash, H: BuildHasher>(set: &mut Owned<K, H>, k: &K) -> Result<(), Refused>
+    ensures { SetPreparesKey K.eq (λ h k. hash_of H.BuildHasher H.Hasher.Hasher h (K.hash_input k))
         set.old k.now result set.new }
 {
-    match set.make_room(k) {
+    match set.prepare(k) {
         Ok(()) => Ok(()),
         Err(_) => Err(Refused),
     }

@@ -9,34 +9,34 @@ use std::sync::RwLockWriteGuard;
 /// through a borrow and one held under a lock share code.
 pub trait Guard {
     /// The value that is held.
-    type Kept;
+    type Inner;
 
-    ghost kept: { Self → Self.Kept };
+    ghost inner: { Self → Self.Inner };
 
-    ghost keeping: { Self → Self.Kept → Self };
+    ghost with_inner: { Self → Self.Inner → Self };
 
-    ghost keeps: { (s : Self) (x : Self.Kept) → kept (keeping s x) ≡ x };
+    ghost inner_law: { (s : Self) (x : Self.Inner) → kept (with_inner s x) ≡ x };
 
     /// The value.
-    fn look(&self) -> &Self::Kept
-        ensures { result.now ≡ kept self.now };
+    fn look(&self) -> &Self::Inner
+        ensures { result.now ≡ inner self.now };
 
     /// The value, to write.
-    fn lend(&mut self) -> &mut Self::Kept
-        ensures* writes_back { sem 𝓛 (Lends Self.row Self.Kept.row self.entry result (keeping self.old)) }
-        ensures value { result.now ≡ kept self.old };
+    fn lend(&mut self) -> &mut Self::Inner
+        ensures* writes_back { sem 𝓛 (Lends Self.row Self.Inner.row self.entry result (with_inner self.old)) }
+        ensures value { result.now ≡ inner self.old };
 }
 
 impl<'a, T> Guard for RwLockWriteGuard<'a, T> {
-    type Kept = T;
+    type Inner = T;
 
     ghost use Rattle.std.proofs.Common.{refl};
 
-    ghost kept = { write_guard_value };
+    ghost inner = { write_guard_value };
 
-    ghost keeping = { write_guard_with_value };
+    ghost with_inner = { write_guard_with_value };
 
-    ghost keeps = { λ s x. refl };
+    ghost inner_law = { λ s x. refl };
 
     fn look(&self) -> &T {
         &**self
@@ -48,16 +48,16 @@ impl<'a, T> Guard for RwLockWriteGuard<'a, T> {
 }
 
 impl<'a, T> Guard for &'a mut T {
-    type Kept = T;
+    type Inner = T;
 
     ghost use Rattle.std.proofs.Common.{refl};
     ghost use denote.Ref.{at_last};
 
-    ghost kept = { λ s. s.now };
+    ghost inner = { λ s. s.now };
 
-    ghost keeping = { at_last };
+    ghost with_inner = { at_last };
 
-    ghost keeps = { λ s x. refl };
+    ghost inner_law = { λ s x. refl };
 
     fn look(&self) -> &T {
         &**self

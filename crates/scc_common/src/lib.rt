@@ -8,5 +8,5 @@ pub mod verdict;
 
 pub use errors::{InsertError, KeyError, MakeError, WalkError};
 pub use guard::Guard;
-pub use shared::{Shared, TryShare};
+pub use shared::{CloneOwner, Shared};
 pub use verdict::Verdict;

@@ -34,15 +34,15 @@ impl<H> Shared<H> {
 }
 
 /// What can be handed out once more, the same.
-pub trait TryShare: Sized {
+pub trait CloneOwner: Sized {
     /// The same once more.
-    fn share(&self) -> Result<Self, AllocError>
+    fn clone_owner(&self) -> Result<Self, AllocError>
         ensures { IfOk result (λ s. s ≡ self.now) };
 }
 
-impl<H> TryShare for Shared<H> {
+impl<H> CloneOwner for Shared<H> {
     /// One more owner of the same hasher. It is refused where there are 2^63 - 1 of them.
-    fn share(&self) -> Result<Shared<H>, AllocError> {
+    fn clone_owner(&self) -> Result<Shared<H>, AllocError> {
         Ok(Shared {
             owner: Arc::try_clone(&self.owner)?,
         })

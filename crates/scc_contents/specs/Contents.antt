@@ -58,8 +58,8 @@ module _ {E S : Type 0} where
   lists_of c = c.lists
 
   -- how many entries lie in overflow lists
-  unfoldable pub spilled_of : Contents E S → ℕ
-  spilled_of c = c.spilled
+  unfoldable pub overflow_of : Contents E S → ℕ
+  overflow_of c = c.spilled
 
   -- of each bucket whether its entries wait in an old array; empty where none does
   unfoldable pub waiting_of : Contents E S → List Bool

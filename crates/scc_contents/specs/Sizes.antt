@@ -11,14 +11,14 @@ pub record IsArraySize (wanted slots : ℕ) : Type 0 where
   pub fewest : (other : ℕ) → IsPowerOfTwo other → 64 ≤ other → min wanted (2 ^ 63) ≤ other → slots ≤ other
 
 -- an array may have so many buckets, of 32 slots each
-pub record IsArray (buckets : ℕ) : Type 0 where
+pub record IsBucketCount (buckets : ℕ) : Type 0 where
   pub power : IsPowerOfTwo buckets
   pub least : 2 ≤ buckets
   pub most : buckets ≤ 2 ^ 58
 
 -- there is no array, or one of a lawful size
 abbrev pub IsLawful : ℕ → Type 0
-IsLawful buckets = (buckets ≡ 0) ⊎ IsArray buckets
+IsLawful buckets = (buckets ≡ 0) ⊎ IsBucketCount buckets
 
 -- an array of `from` buckets may be replaced by one of `to` where so many entries are held: they are at most an eighth of its slots, and the new slots are the greater of the sizes for the minimum and for twice the entries
 pub record IsSmaller (minimum held from to : ℕ) : Type 0 where

@@ -2,7 +2,7 @@
 use Rattle.std.specs.Prelude.{◌≡◌, ◌≢◌, ℕ, ◌+◌, ◌-◌, ◌*◌, ◌^◌, ◌<◌, ◌≤◌, ◌⊎◌, false, true, List, length, max}
 use Rattle.std.specs.List.Sorted.{IsPermutation}
 use Rattle.scc_contents.specs.Contents.{Contents, Settings, entries, bucket_count, settings_of, lists_of, minimum_of, refused_of, pending_of, waiting_of, HasRoomAt, HasRoomBy}
-use Rattle.scc_contents.specs.Sizes.{IsArray, IsArraySize, IsSmaller}
+use Rattle.scc_contents.specs.Sizes.{IsBucketCount, IsArraySize, IsSmaller}
 
 module _ {E S : Type 0} where
   -- d has the entries of the list in their order, with the buckets and the settings of c
@@ -17,7 +17,7 @@ module _ {E S : Type 0} where
 
   -- the number of buckets stays or is lawful, and is not lowered below the minimum
   pub record KeepsSize (c d : Contents E S) : Type 0 where
-    pub lawful : (bucket_count d ≡ bucket_count c) ⊎ IsArray (bucket_count d)
+    pub lawful : (bucket_count d ≡ bucket_count c) ⊎ IsBucketCount (bucket_count d)
     pub minimum : bucket_count d < bucket_count c → minimum_of c ≤ 32 * bucket_count d
 
   -- d has the entries of the list in some order, and the settings of c; it may have been resized
@@ -40,7 +40,7 @@ module _ {E S : Type 0} where
     pub half : 0 < bucket_count c → bucket_count d ≢ bucket_count c → 32 * bucket_count c ≤ 2 * length (entries c)
     pub below : 0 < bucket_count c → bucket_count d ≢ bucket_count c → 32 * bucket_count c < 2 ^ 63
     pub doubled : 0 < bucket_count c → bucket_count d ≢ bucket_count c → bucket_count d ≡ 2 * bucket_count c
-    pub settled : 0 < bucket_count c → bucket_count d ≢ bucket_count c → pending_of c ≡ 0
+    pub not_waiting : 0 < bucket_count c → bucket_count d ≢ bucket_count c → pending_of c ≡ 0
 
   -- the entries moved to fewer buckets
   pub record IsShrunk (c d : Contents E S) : Type 0 where
@@ -54,7 +54,7 @@ module _ {E S : Type 0} where
   -- d has the entries of c in some order, and the settings s; it may have been resized, but not below their minimum
   pub record HoldsWith (c : Contents E S) (s : Settings S) (d : Contents E S) : Type 0 where
     pub same : IsPermutation (entries c) (entries d)
-    pub lawful : (bucket_count d ≡ bucket_count c) ⊎ IsArray (bucket_count d)
+    pub lawful : (bucket_count d ≡ bucket_count c) ⊎ IsBucketCount (bucket_count d)
     pub minimum : bucket_count d < bucket_count c → s.asked + s.reserved ≤ 32 * bucket_count d
     pub settings : settings_of d ≡ s
 
@@ -100,25 +100,25 @@ module _ {E S : Type 0} where
     pub down : bucket_count d ≢ bucket_count c → (refused_of d).0 ≡ false
 
   -- all is made that an insertion of a new key of hash h wants: there is an array, and the key's bucket has room, some bucket waits, fewer than half as many entries as slots are held, the array is the greatest, or the growth was tried just before
-  abbrev pub IsReadyAt : {K : Type 0} → (K → ℕ) → (E → K) → Contents E S → ℕ → Type 0
-  IsReadyAt hash key c h = (0 < bucket_count c) × (HasRoomAt hash key c h ⊎ ((0 < pending_of c) ⊎ ((2 * length (entries c) < 32 * bucket_count c) ⊎ ((2 ^ 63 ≤ 32 * bucket_count c) ⊎ ((refused_of c).1 ≡ true)))))
+  abbrev pub IsPreparedAt : {K : Type 0} → (K → ℕ) → (E → K) → Contents E S → ℕ → Type 0
+  IsPreparedAt hash key c h = (0 < bucket_count c) × (HasRoomAt hash key c h ⊎ ((0 < pending_of c) ⊎ ((2 * length (entries c) < 32 * bucket_count c) ⊎ ((2 ^ 63 ≤ 32 * bucket_count c) ⊎ ((refused_of c).1 ≡ true)))))
 
   -- the same of a new key k
-  abbrev pub IsReadyFor : {K : Type 0} → (K → ℕ) → (E → K) → Contents E S → K → Type 0
-  IsReadyFor hash key c k = IsReadyAt hash key c (hash k)
+  abbrev pub IsPreparedFor : {K : Type 0} → (K → ℕ) → (E → K) → Contents E S → K → Type 0
+  IsPreparedFor hash key c k = IsPreparedAt hash key c (hash k)
 
   -- room was made for a new key of that hash: nothing changed, or there is the first array, or one of twice as many buckets, all of which wait
-  pub record MakesRoom {K : Type 0} (hash : K → ℕ) (key : E → K) (c : Contents E S) (h : ℕ) (d : Contents E S) : Type 0 where
+  pub record Prepares {K : Type 0} (hash : K → ℕ) (key : E → K) (c : Contents E S) (h : ℕ) (d : Contents E S) : Type 0 where
     pub rests : Rests c d
     pub growth : Grows c d
-    pub made : IsReadyAt hash key d h
+    pub made : IsPreparedAt hash key d h
     pub due : bucket_count d ≢ bucket_count c → HasRoomAt hash key c h → ⊥
     pub all : 0 < bucket_count c → bucket_count d ≢ bucket_count c → pending_of d ≡ bucket_count d
     pub first : bucket_count c ≡ 0 → pending_of d ≡ 0
     pub same : 0 < bucket_count c → bucket_count d ≡ bucket_count c → (lists_of d ≡ lists_of c) × (waiting_of d ≡ waiting_of c)
 
   -- what an insertion of a new key k may do to the number of buckets, and has to: nothing where the bucket of k has room
-  pub record GrowsFor {K : Type 0} (hash : K → ℕ) (key : E → K) (c : Contents E S) (k : K) (d : Contents E S) : Type 0 where
+  pub record GrowsForInsertion {K : Type 0} (hash : K → ℕ) (key : E → K) (c : Contents E S) (k : K) (d : Contents E S) : Type 0 where
     pub growth : Grows c d
     pub due : GrowsWhenDue hash key c k d
     pub kept : HasRoomBy hash key c k → bucket_count d ≡ bucket_count c

@@ -9,8 +9,8 @@ use Rattle.scc_array.specs.Shelves.{shelf_of}
 use Rattle.scc_array.specs.Shelf.{Shelf, shelf_entries, empty_shelf}
 use Rattle.scc_buckets.specs.Pour.{bound_for}
 use Rattle.scc_contents.specs.Routing.{bucket_number}
-use Rattle.scc_contents.specs.Sizes.{IsArray}
-use Rattle.scc_buckets.specs.Tables.{IsOwn, IsBuckets, spilled_in}
+use Rattle.scc_contents.specs.Sizes.{IsBucketCount}
+use Rattle.scc_buckets.specs.Tables.{IsOwn, IsBuckets, overflow_in}
 use Rattle.scc_buckets.proofs.Inserts.{table-bound}
 use Rattle.scc_buckets.proofs.PairSplits.{by_answer}
 use Rattle.scc_draining.specs.Moves.{AreOwn, IsWithinSources}
@@ -39,7 +39,7 @@ within-sources hash t n i first last olds own order within only = record {
 }
 
 -- no old bucket has many entries past its places
-pub few-each : {E : Type 0} (olds : List (Shelf E)) (aside : ℕ) → spilled_in olds ≤ aside → aside < 2 ^ 62 → (j : ℕ) → length (shelf_of olds j).overflow < 2 ^ 62
+pub few-each : {E : Type 0} (olds : List (Shelf E)) (aside : ℕ) → overflow_in olds ≤ aside → aside < 2 ^ 62 → (j : ℕ) → length (shelf_of olds j).overflow < 2 ^ 62
 few-each {E} olds aside le few j = elim (dec_lt j (length olds)) [
   | yes l ↦ let f : Shelf E → ℕ = λ x. length x.overflow in let m : f (get_or olds j empty_shelf) ≤ sum_by f olds = get_or-le-sum_by f olds j empty_shelf l in omega arith
   | no l ↦ let z : length (shelf_of olds j).overflow ≡ 0 = ap (λ x. length x.overflow) (get_or_past olds j empty_shelf (omega arith)) in
@@ -48,16 +48,16 @@ few-each {E} olds aside le few j = elim (dec_lt j (length olds)) [
 ]
 
 -- the old array holds fewer entries than a word counts
-pub most-held : {E : Type 0} (hash : E → ℕ) (t : ℕ) (olds : List (Shelf E)) → IsArray (length olds) → AreOwn hash t olds → spilled_in olds < 2 ^ 62 → length (flat_map shelf_entries olds) < 2 ^ 63 + 2 ^ 62
-most-held {E} hash t olds sized own few =
+pub most-entry_count : {E : Type 0} (hash : E → ℕ) (t : ℕ) (olds : List (Shelf E)) → IsBucketCount (length olds) → AreOwn hash t olds → overflow_in olds < 2 ^ 62 → length (flat_map shelf_entries olds) < 2 ^ 63 + 2 ^ 62
+most-entry_count {E} hash t olds sized own few =
     let f : Shelf E → ℕ = λ b. length (shelf_entries b) in
-    let table : IsBuckets hash t olds (sum_by f olds) (spilled_in olds) = record {
+    let table : IsBuckets hash t olds (sum_by f olds) (overflow_in olds) = record {
       sized = inr sized;
       counted = refl;
       spilled = refl;
       few = few;
       own = λ j b l at. subst (IsOwn hash t (length olds) j) (sym (at ∙ get_or_default olds j b empty_shelf l)) (own.own j l);
     } in
-    let bound = table-bound hash t (sum_by f olds) (spilled_in olds) olds table in
+    let bound = table-bound hash t (sum_by f olds) (overflow_in olds) olds table in
     let e : length (flat_map shelf_entries olds) ≡ sum_by f olds = length-flat_map shelf_entries olds in
     omega arith

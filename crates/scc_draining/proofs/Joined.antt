@@ -95,11 +95,11 @@ module _ {E : Type 0} (hash : E → ℕ) (t n i : ℕ) where
       → ((k : ℕ) → k < n → get_or flags k false ≡ false → bound_for hash t n k (flat_map shelf_entries olds) ≡ [])
       → (IsTrue whole → (n < length olds) ⊎ ((n ≡ 2 * length olds) × (k : ℕ) × (AreSiblings i k) × (k < n) × (get_or flags k false ≡ false)))
       → IsTrue whole → AreJoined hash t n i first last olds
-  whole-joined first last olds flags whole own within joined doubled settled answer is = elim (answer is) [
+  whole-joined first last olds flags whole own within joined doubled not_waiting answer is = elim (answer is) [
     | inl less ↦ are-joined first last olds own within (joined less)
     | inr z ↦
         let d = doubled z.0 in
-        alone-joined first last z.1 olds own within z.0 d.0 d.1 z.2 (settled z.1 z.3 z.4)
+        alone-joined first last z.1 olds own within z.0 d.0 d.1 z.2 (not_waiting z.1 z.3 z.4)
   ]
 
   -- each of them belongs there

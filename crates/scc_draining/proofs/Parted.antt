@@ -3,7 +3,7 @@ use Rattle.std.proofs.Common.{◌≡◌, ◌==◌, ℕ, zero, suc, ◌+◌, ◌<
 use Rattle.std.specs.List.{slice_get, filter}
 use Rattle.std.proofs.lemmas.List.{append-nil, map-append}
 use Rattle.scc_array.specs.Shelves.{shelf_of}
-use Rattle.scc_array.specs.Sifts.{picked, kept, shelf_kept, shelf_with}
+use Rattle.scc_array.specs.Sifts.{picked, unflagged, shelf_unflagged, shelf_with}
 use Rattle.scc_array.specs.Shelf.{Shelf, shelf_entries}
 use Rattle.scc_buckets.proofs.Arrays.{put-is, put-own}
 use Rattle.scc_buckets.specs.Pour.{bound_for, IsPacked}
@@ -27,27 +27,27 @@ module _ {X : Type 0} where
     turned true ks x = refl
     turned false ks x = refl
 
-    pub kept-filter : (fs : List Bool) (xs : List X) → ((j : ℕ) (x : X) → slice_get xs j ≡ Some x → slice_get fs j ≡ Some (q x)) → kept fs xs ≡ filter (λ x. not (q x)) xs
+    pub kept-filter : (fs : List Bool) (xs : List X) → ((j : ℕ) (x : X) → slice_get xs j ≡ Some x → slice_get fs j ≡ Some (q x)) → unflagged fs xs ≡ filter (λ x. not (q x)) xs
     kept-filter [] [] h = refl
     kept-filter (f ∷ fs) [] h = refl
     kept-filter [] (x ∷ xs) h = absurd (let z : None ≡ Some (q x) = h 0 x refl in cc)
     kept-filter (f ∷ fs) (x ∷ xs) h =
         let z : Some f ≡ Some (q x) = h 0 x refl in
         let e : f ≡ q x = cc in
-        ap (λ b. cond b (kept fs xs) (x ∷ kept fs xs)) e ∙ ap (λ (l : List X). cond (q x) l (x ∷ l)) (kept-filter fs xs (λ j y. h (suc j) y)) ∙ turned (q x) (filter (λ x. not (q x)) xs) x
+        ap (λ b. cond b (unflagged fs xs) (x ∷ unflagged fs xs)) e ∙ ap (λ (l : List X). cond (q x) l (x ∷ l)) (kept-filter fs xs (λ j y. h (suc j) y)) ∙ turned (q x) (filter (λ x. not (q x)) xs) x
 
   pub picked-map : {Y : Type 0} (f : X → Y) (fs : List Bool) (xs : List X) → picked fs (map f xs) ≡ map f (picked fs xs)
   picked-map f [] xs = refl
   picked-map f (b ∷ fs) [] = refl
   picked-map f (b ∷ fs) (x ∷ xs) = ap (λ l. cond b (f x ∷ l) l) (picked-map f fs xs) ∙ (elim b as (λ c. cond c (f x ∷ map f (picked fs xs)) (map f (picked fs xs)) ≡ map f (cond c (x ∷ picked fs xs) (picked fs xs))) [ true ↦ refl | false ↦ refl ])
 
-  pub kept-map : {Y : Type 0} (f : X → Y) (fs : List Bool) (xs : List X) → kept fs (map f xs) ≡ map f (kept fs xs)
+  pub kept-map : {Y : Type 0} (f : X → Y) (fs : List Bool) (xs : List X) → unflagged fs (map f xs) ≡ map f (unflagged fs xs)
   kept-map f [] xs = refl
   kept-map f (b ∷ fs) [] = refl
-  kept-map f (b ∷ fs) (x ∷ xs) = ap (λ l. cond b l (f x ∷ l)) (kept-map f fs xs) ∙ (elim b as (λ c. cond c (map f (kept fs xs)) (f x ∷ map f (kept fs xs)) ≡ map f (cond c (kept fs xs) (x ∷ kept fs xs))) [ true ↦ refl | false ↦ refl ])
+  kept-map f (b ∷ fs) (x ∷ xs) = ap (λ l. cond b l (f x ∷ l)) (kept-map f fs xs) ∙ (elim b as (λ c. cond c (map f (unflagged fs xs)) (f x ∷ map f (unflagged fs xs)) ≡ map f (cond c (unflagged fs xs) (x ∷ unflagged fs xs))) [ true ↦ refl | false ↦ refl ])
 
   -- each that stays was there
-  pub kept-from : (fs : List Bool) (xs : List X) (j : ℕ) (d : X) → j < length (kept fs xs) → (k : ℕ) × (k < length xs) × (get_or (kept fs xs) j d ≡ get_or xs k d)
+  pub kept-from : (fs : List Bool) (xs : List X) (j : ℕ) (d : X) → j < length (unflagged fs xs) → (k : ℕ) × (k < length xs) × (get_or (unflagged fs xs) j d ≡ get_or xs k d)
   kept-from [] xs j d l = absurd (omega arith)
   kept-from (f ∷ fs) [] j d l = absurd (omega arith)
   kept-from (true ∷ fs) (x ∷ xs) j d l = let r = kept-from fs xs j d l in (suc r.0, omega (arith, r.1), r.2)
@@ -59,10 +59,10 @@ module _ {X : Type 0} where
   picked-fewer (f ∷ fs) [] = omega arith
   picked-fewer (f ∷ fs) (x ∷ xs) = let h = picked-fewer fs xs in elim f as (λ b. length (cond b (x ∷ picked fs xs) (picked fs xs)) ≤ suc (length xs)) [ true ↦ omega arith | false ↦ omega arith ]
 
-  pub kept-fewer : (fs : List Bool) (xs : List X) → length (kept fs xs) ≤ length xs
+  pub kept-fewer : (fs : List Bool) (xs : List X) → length (unflagged fs xs) ≤ length xs
   kept-fewer [] xs = omega arith
   kept-fewer (f ∷ fs) [] = omega arith
-  kept-fewer (f ∷ fs) (x ∷ xs) = let h = kept-fewer fs xs in elim f as (λ b. length (cond b (kept fs xs) (x ∷ kept fs xs)) ≤ suc (length xs)) [ true ↦ omega arith | false ↦ omega arith ]
+  kept-fewer (f ∷ fs) (x ∷ xs) = let h = kept-fewer fs xs in elim f as (λ b. length (cond b (unflagged fs xs) (x ∷ unflagged fs xs)) ≤ suc (length xs)) [ true ↦ omega arith | false ↦ omega arith ]
 
   pub no-elements : (xs : List X) → length xs ≡ 0 → xs ≡ []
   no-elements [] e = refl
@@ -85,14 +85,14 @@ module _ {E : Type 0} (hash : E → ℕ) (t n i j : ℕ) (olds : List (Shelf E))
   bound-picked : bound_for hash t n i (shelf_entries s) ≡ picked fs xs
   bound-picked = ap (bound_for hash t n i) all-slots ∙ sym (picked-filter (λ e. bucket_number t n (hash e) == i) fs xs flags)
 
-  others-kept : kept fs xs ++ s.overflow ≡ others_for hash t n i (shelf_entries s)
-  others-kept = ap (λ o. kept fs xs ++ o) bare ∙ append-nil (kept fs xs) ∙ kept-filter (λ e. bucket_number t n (hash e) == i) fs xs flags ∙ ap (others_for hash t n i) (sym all-slots)
+  others-kept : unflagged fs xs ++ s.overflow ≡ others_for hash t n i (shelf_entries s)
+  others-kept = ap (λ o. unflagged fs xs ++ o) bare ∙ append-nil (unflagged fs xs) ∙ kept-filter (λ e. bucket_number t n (hash e) == i) fs xs flags ∙ ap (others_for hash t n i) (sym all-slots)
 
-  kept-own : IsOwn hash t (length olds) j (shelf_kept fs s)
+  kept-own : IsOwn hash t (length olds) j (shelf_unflagged fs s)
   kept-own = record {
-    tagged = ap (kept fs) own.tagged ∙ kept-map tag_by fs xs;
+    tagged = ap (unflagged fs) own.tagged ∙ kept-map tag_by fs xs;
     routed = λ k d h.
-        let flat : kept fs xs ++ s.overflow ≡ kept fs xs = ap (λ o. kept fs xs ++ o) bare ∙ append-nil (kept fs xs) in
+        let flat : unflagged fs xs ++ s.overflow ≡ unflagged fs xs = ap (λ o. unflagged fs xs ++ o) bare ∙ append-nil (unflagged fs xs) in
         let r = kept-from fs xs k d (let m = ap length flat in omega arith) in
         let m = ap length all-slots in
         ap (λ (z : List E). bucket_number t (length olds) (hash (get_or z k d))) flat ∙ ap (λ e. bucket_number t (length olds) (hash e)) (r.2 ∙ ap (λ z. get_or z r.0 d) (sym all-slots)) ∙ own.routed r.0 d (omega (arith, r.1));
@@ -117,13 +117,13 @@ module _ {E : Type 0} (hash : E → ℕ) (t n i j : ℕ) (olds : List (Shelf E))
         within = omega arith;
       }
 
-  module _ (news : List (Shelf E)) (put : news ≡ set olds j (shelf_kept fs s)) (b : Shelf E) (is : b ≡ shelf_with a fs s) where
+  module _ (news : List (Shelf E)) (put : news ≡ set olds j (shelf_unflagged fs s)) (b : Shelf E) (is : b ≡ shelf_with a fs s) where
     pub parted-pulls : Pulls hash t n i j olds a news b
     parted-pulls =
-        let here = put-is olds j l news (shelf_kept fs s) put in
+        let here = put-is olds j l news (shelf_unflagged fs s) put in
         record {
-          same = put-own olds j l news (shelf_kept fs s) put;
-          kept = ap shelf_entries here ∙ others-kept;
+          same = put-own olds j l news (shelf_unflagged fs s) put;
+          unflagged = ap shelf_entries here ∙ others-kept;
           own = rw here kept-own;
           overflow = let e = ap (λ (z : Shelf E). length z.overflow) here in omega arith;
           moved = rw is (record { entries_are = with-entries ∙ ap (λ z. shelf_entries a ++ z) (sym bound-picked); room = omega arith; packed = with-packed });

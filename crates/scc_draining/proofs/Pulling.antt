@@ -6,7 +6,7 @@ use Rattle.std.proofs.lemmas.List.Edits.{remove-append_right}
 use Rattle.std.proofs.lemmas.List.Elements.{filter-append}
 use Rattle.std.proofs.lemmas.List.Sums.{length-filter, count_by-le-length}
 use Rattle.scc_array.specs.Shelves.{shelf_of}
-use Rattle.scc_array.specs.Shelf.{Shelf, shelf_entries, empty_shelf, with_entry, without_place, ShelfHasRoom}
+use Rattle.scc_array.specs.Shelf.{Shelf, shelf_entries, empty_shelf, with_entry, without_slot, ShelfHasRoom}
 use native.Mathlib.Decide.{dec_lt}
 use Rattle.scc_array.proofs.ListsLemmas.{get-right}
 use Rattle.scc_buckets.specs.Pour.{bound_for, Extends, IsPacked}
@@ -134,25 +134,25 @@ module _ {E : Type 0} (hash : E → ℕ) (t n i j : ℕ) (olds : List (Shelf E))
               room_by b p.moved.packed.within big
 
           -- it moves there
-          pub pull-move : j < length olds → (later : List (Shelf E)) (c : Shelf E) → later ≡ set news j (without_place (shelf_of news j) place)
+          pub pull-move : j < length olds → (later : List (Shelf E)) (c : Shelf E) → later ≡ set news j (without_slot (shelf_of news j) place)
               → c ≡ record (with_entry b e (tag_of (hash e))) { room = c.room } → b.room ≤ c.room → PullsUntil hash t n i j olds a later c (k + 1) place
           pull-move lj later c new put more =
               let es = shelf_entries (shelf_of olds j) in
               let os = others_for hash t n i (take k es) in
               let s = shelf_of news j in
               let long : length news ≡ length olds = ap length p.same ∙ length-set olds j s in
-              let here : shelf_of later j ≡ without_place s place = ap (λ z. shelf_of z j) new ∙ get_or-set_same news j (without_place s place) empty_shelf (omega arith) in
+              let here : shelf_of later j ≡ without_slot s place = ap (λ z. shelf_of z j) new ∙ get_or-set_same news j (without_slot s place) empty_shelf (omega arith) in
               let none : others_for hash t n i (take (k + 1) es) ≡ os =
               ap (others_for hash t n i) seen-more ∙ others_append hash t n i (take k es) (e ∷ []) ∙ ap (λ z. os ++ z) (others_here hash t n i e [] h) ∙ append-nil os in
               let zero_left : place - length os ≡ 0 = omega (arith, p.stayed) in
               let rest : remove (shelf_entries s) place ≡ os ++ drop (k + 1) es =
               ap (λ z. remove z place) (p.kept ∙ ap (λ z. os ++ z) seen-left) ∙ remove-append_right os (e ∷ drop (k + 1) es) (length os) place refl (omega (arith, p.stayed)) ∙ ap (λ m. os ++ remove (e ∷ drop (k + 1) es) m) zero_left in
               record {
-                same = new ∙ ap (λ z. set z j (without_place s place)) p.same ∙ set-set olds j s (without_place s place) ∙ ap (set olds j) (sym here);
+                same = new ∙ ap (λ z. set z j (without_slot s place)) p.same ∙ set-set olds j s (without_slot s place) ∙ ap (set olds j) (sym here);
                 kept = ap shelf_entries here ∙ entries_without s place pull-within ∙ rest ∙ ap (λ z. z ++ drop (k + 1) es) (sym none);
                 stayed = p.stayed ∙ ap length (sym none);
                 own = subst (IsOwn hash t (length olds) j) (sym here) (own_without s place pull-within hash t (length olds) j p.own);
-                overflow = let fewer = overflow_without s place pull-within in let eq : length (shelf_of later j).overflow ≡ length (without_place s place).overflow = ap (λ z. length z.overflow) here in
+                overflow = let fewer = overflow_without s place pull-within in let eq : length (shelf_of later j).overflow ≡ length (without_slot s place).overflow = ap (λ z. length z.overflow) here in
                     elim (dec_lt place (length s.slots)) [ yes q ↦ let z = fewer.0 q in omega (arith, p.overflow) | no q ↦ let z = fewer.1 (omega arith) in omega (arith, p.overflow) ];
                 moved = subst (λ z. Extends hash a c z) (sym bound-more) (extends_push hash a b c e (bound_for hash t n i (take k es)) p.moved put more);
               }

@@ -3,12 +3,12 @@ ghost use Rattle.scc_array.specs.Shelf.{empty_shelf, shelf_entries};
 ghost use Rattle.scc_array.specs.Shelves.{shelf_of};
 ghost use Rattle.scc_array.specs.Sifts.{ups};
 ghost use Rattle.scc_buckets.specs.Pour.{IsPacked, bound_for};
-ghost use Rattle.scc_buckets.specs.Tables.{spilled_in, IsOwn};
-ghost use Rattle.scc_contents.specs.Contents.{bucket_count, key_hash, list_of, lists_of, settings_of, spilled_of};
+ghost use Rattle.scc_buckets.specs.Tables.{overflow_in, IsOwn};
+ghost use Rattle.scc_contents.specs.Contents.{bucket_count, key_hash, list_of, lists_of, settings_of, overflow_of};
 ghost use Rattle.scc_contents.specs.Routing.{bucket_number};
-ghost use Rattle.scc_contents.specs.Sizes.{IsArray};
+ghost use Rattle.scc_contents.specs.Sizes.{IsBucketCount};
 ghost use Rattle.scc_draining.specs.Moves.{AreJoined, AreMultiples, AreOwn, AreSiblings, Drains, IsWithinSources, Pulls};
-ghost use Rattle.scc_draining.specs.Taking.{Fills, TakesIn};
+ghost use Rattle.scc_draining.specs.Filling.{Fills, MovesTarget};
 ghost use Rattle.std.specs.List.{flat_map, IsDistinct};
 ghost use Rattle.std.specs.Prelude.{◌≡◌, ◌==◌, ◌<◌, ◌≤◌, ◌+◌, ◌^◌, ◌*◌, ◌⊎◌, ℕ, [], length, map, take, false, slice_get, slice_index_or, slice_set, Some, IsTrue, OnOk, OnErr};
 
@@ -85,13 +85,13 @@ where
         task.target) }
     ensures others { into.new ≡ slice_set into.old task.target (shelf_of into.new task.target) }
 {
-    let held = old.bucket_len(source);
+    let entry_count = old.bucket_len(source);
     let mut place = 0;
-    for seen in 0..held {
+    for seen in 0..entry_count {
         let hash = table.hash(old.entry_at(source, place).key());
         if bucket_index(hash, task.skipped, count) == task.target {
             let entry = old.remove_at(source, place);
-            into.insert_within(task.target, entry, tag(hash));
+            into.insert_in_room(task.target, entry, tag(hash));
         } else {
             place += 1;
         }
@@ -184,7 +184,7 @@ where
 }
 
 /// Makes room in an empty bucket for so many entries, at most `left` of them past its places.
-fn make_ready<E>(
+fn make_room_for<E>(
     into: &mut Array<E>,
     bucket: usize,
     coming: usize,
@@ -237,7 +237,7 @@ where
     ensures { Fills (λ e. key_hash H.BuildHasher H.Hasher.Hasher E.Key.hash_input table.now (E.key_of e)) task.skipped
         count task.target coming left into.old old.old result into.new old.new }
 {
-    make_ready(into, task.target, coming, left)?;
+    make_room_for(into, task.target, coming, left)?;
     drain(into, old, task, table, count);
     Ok(())
 }
@@ -267,22 +267,22 @@ where
         task.skipped old.old }
     requires coming { length (bound_for (λ e. key_hash H.BuildHasher H.Hasher.Hasher E.Key.hash_input current.old
         (E.key_of e)) task.skipped (bucket_count current.old) task.target (flat_map shelf_entries old.old)) ≤ coming }
-    requires aside { spilled_of current.old + aside < 2 ^ 62 }
+    requires aside { overflow_of current.old + aside < 2 ^ 62 }
     requires unique { IsDistinct E.Key.eq (map E.key_of (flat_map (λ l. l) (slice_set (lists_of current.old) task.target
         (bound_for (λ e. key_hash H.BuildHasher H.Hasher.Hasher E.Key.hash_input current.old (E.key_of e)) task.skipped
         (bucket_count current.old) task.target (flat_map shelf_entries old.old))))) }
-    ensures { TakesIn (λ e. key_hash H.BuildHasher H.Hasher.Hasher E.Key.hash_input current.old (E.key_of e))
+    ensures { MovesTarget (λ e. key_hash H.BuildHasher H.Hasher.Hasher E.Key.hash_input current.old (E.key_of e))
         task.target coming aside current.old old.old result current.new old.new }
 {
-    current.keep_lists();
+    current.list_facts();
     let alloc = current.allocator();
-    let (mut fresh, count, overflowing) = current.exchange(Array::none(alloc), 0, 0);
+    let (mut fresh, count, overflowing) = current.install(Array::none(alloc), 0, 0);
     let buckets = fresh.len();
     let left = left_of(overflowing, aside);
     let filled = fill(&mut fresh, coming, left, old, task, current, buckets);
     let moved = fresh.bucket_len(task.target);
     let spilled = fresh.overflow_len(task.target);
-    let (none, _, _) = current.exchange(fresh, count + moved, overflowing + spilled);
+    let (none, _, _) = current.install(fresh, count + moved, overflowing + spilled);
     none.destroy_empty();
     match filled {
         Ok(()) => Ok(moved),
@@ -362,9 +362,9 @@ where
     ensures { result ≡ length (bound_for (λ e. key_hash H.BuildHasher H.Hasher.Hasher E.Key.hash_input table.now
         (E.key_of e)) skipped count target (shelf_entries (shelf_of old.now source))) }
 {
-    let held = old.bucket_len(source);
+    let entry_count = old.bucket_len(source);
     let mut found = 0;
-    for place in 0..held {
+    for place in 0..entry_count {
         let hash = table.hash(old.entry_at(source, place).key());
         if bucket_index(hash, skipped, count) == target {
             found += 1;
@@ -412,11 +412,11 @@ fn len_between<E>(old: &Array<E>, first: usize, last: usize) -> usize
     ensures { length (flat_map shelf_entries (take first old.now)) + result ≡ length (flat_map shelf_entries (take last
         old.now)) }
 {
-    let mut held = 0;
+    let mut entry_count = 0;
     for source in first..last {
-        held += old.bucket_len(source);
+        entry_count += old.bucket_len(source);
     }
-    held
+    entry_count
 }
 
 /// No fewer than the entries of all old buckets that belong to the target, and just as many where it is more than 32.
@@ -465,7 +465,7 @@ where
 /// empty, in order, and answers how many they are. `aside` entries, no fewer than lie in the overflow lists of the old
 /// array, are counted as if they lay in overflow lists too. `waiting` has the flags of the buckets: the old array holds
 /// no entries of one whose flag is down. Where memory is refused, all stays.
-pub fn take<E: Keyed, H: BuildHasher>(
+pub fn move_target<E: Keyed, H: BuildHasher>(
     current: &mut Buckets<E, H>,
     old: &mut Array<E>,
     target: usize,
@@ -479,20 +479,20 @@ where
     requires skips { skipped ≡ (settings_of current.old).skipped }
     requires target { target < bucket_count current.old }
     requires bare { list_of current.old target ≡ [] }
-    requires sized { IsArray (length old.old) }
+    requires sized { IsBucketCount (length old.old) }
     requires multiples { AreMultiples (length old.old) (bucket_count current.old) }
     requires own { AreOwn (λ e. key_hash H.BuildHasher H.Hasher.Hasher E.Key.hash_input current.old (E.key_of e))
         skipped old.old }
-    requires spilled { spilled_in old.old ≤ aside }
-    requires aside { spilled_of current.old + aside < 2 ^ 62 }
+    requires spilled { overflow_in old.old ≤ aside }
+    requires aside { overflow_of current.old + aside < 2 ^ 62 }
     requires flags { length waiting.now ≡ bucket_count current.old }
-    requires settled { (i : ℕ) → i < bucket_count current.old → slice_index_or waiting.now i false ≡ false → bound_for
+    requires not_waiting { (i : ℕ) → i < bucket_count current.old → slice_index_or waiting.now i false ≡ false → bound_for
         (λ e. key_hash H.BuildHasher H.Hasher.Hasher E.Key.hash_input current.old (E.key_of e)) skipped (bucket_count
         current.old) i (flat_map shelf_entries old.old) ≡ [] }
     requires unique { IsDistinct E.Key.eq (map E.key_of (flat_map (λ l. l) (slice_set (lists_of current.old) target
         (bound_for (λ e. key_hash H.BuildHasher H.Hasher.Hasher E.Key.hash_input current.old (E.key_of e)) skipped
         (bucket_count current.old) target (flat_map shelf_entries old.old))))) }
-    ensures { TakesIn (λ e. key_hash H.BuildHasher H.Hasher.Hasher E.Key.hash_input current.old (E.key_of e)) target
+    ensures { MovesTarget (λ e. key_hash H.BuildHasher H.Hasher.Hasher E.Key.hash_input current.old (E.key_of e)) target
         (length (bound_for (λ e. key_hash H.BuildHasher H.Hasher.Hasher E.Key.hash_input current.old (E.key_of e))
         skipped (bucket_count current.old) target (flat_map shelf_entries old.old))) aside current.old old.old result
         current.new old.new }

@@ -85,7 +85,7 @@ impl<K, V> SharedVersion<K, V> {
 
     /// One more owner of the version. It is refused where there are 2^63 - 1 of them.
     #[inline(always)]
-    pub fn share(&self) -> Result<Arc<Version<K, V>>, AllocError>
+    pub fn clone_owner(&self) -> Result<Arc<Version<K, V>>, AllocError>
         ensures { IfOk result (λ a. arc_value a ≡ self.now) }
     {
         Arc::try_clone(&self.owner)

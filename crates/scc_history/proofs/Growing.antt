@@ -6,7 +6,7 @@ use Rattle.std.proofs.Math.Logic.{∥∥₁_map}
 use Rattle.scc_calls.specs.declared.steps.Step.{Step}
 use Rattle.scc_calls.specs.declared.steps.Step.TheVariants.{Call, Resize}
 use Rattle.scc_history.specs.declared.log.Receipt.{Receipt}
-use Rattle.scc_calls.specs.Changes.{Changes, Stays}
+use Rattle.scc_calls.specs.Resized.{MovesResized, Stays}
 use Rattle.scc_calls.specs.Histories.{Replay}
 use Rattle.scc_history.specs.Stamps.{Rises, RisesTo, recorded, resized, receipt, calls_in}
 
@@ -15,7 +15,7 @@ module _ (S A R : Type 0) (moves : S → A → R → S → Type 0) (resizes : S 
   Replay-append old mid new [] ys r s = subst (λ o. Replay moves resizes o ys new) r s
   Replay-append old mid new (x ∷ xs) ys r s = (r.0, r.1, Replay-append r.0 mid new xs ys r.2 s)
 
-  pub Replay-recorded : (old new : S) (stamp pass : ℕ) (call : A) (reply : R) → Changes size moves resizes old call reply new → Replay moves resizes old (recorded (size old) (size new) stamp pass call reply) new
+  pub Replay-recorded : (old new : S) (stamp pass : ℕ) (call : A) (reply : R) → MovesResized size moves resizes old call reply new → Replay moves resizes old (recorded (size old) (size new) stamp pass call reply) new
   Replay-recorded old new stamp pass call reply (inl c) =
       let a : nat_lt (size old) (size new) ≡ false = grind (arith, nat_tests, c.0) in
       let b : nat_lt (size new) (size old) ≡ false = grind (arith, nat_tests, c.0) in

@@ -3,7 +3,7 @@ use Rattle.std.proofs.Common.{◌≡◌, ◌≢◌, ℕ, ◌≤◌, Bool, true, 
 use Rattle.std.specs.Prelude.{◌==◌, MatchBool}
 use Rattle.std.specs.Result.{OnErr, is_err}
 use Rattle.std.proofs.lemmas.Bool.Decides.{nat_tests}
-use Rattle.scc_calls.specs.Changes.{Changes, Stays}
+use Rattle.scc_calls.specs.Resized.{MovesResized, Stays}
 use Rattle.scc_calls.specs.declared.steps.Step.{Step}
 use Rattle.scc_history.specs.Stamps.{resized}
 
@@ -21,13 +21,13 @@ module _ {S : Type 0} (size : S → ℕ) (resizes : S → ℕ → S → Type 0) 
 
   -- where room was made, a call that makes no growth, and no shrink where the room was a growth, is one call with at most one resize
   pub ready-changes : {C R : Type 0} (moves : S → C → R → S → Type 0) (call : C) (reply : R) (old mid new : S) → Stays size resizes old mid → size old ≤ size mid → (size mid ≢ size old → size mid ≤ size new) → size new ≤ size mid
-      → Changes size moves resizes mid call reply new → Changes size moves resizes old call reply new
+      → MovesResized size moves resizes mid call reply new → MovesResized size moves resizes old call reply new
   ready-changes moves call reply old mid new stays grows kept made h =
-      elim (parted old mid stays) as (λ _. Changes size moves resizes old call reply new) [
-        | inl same ↦ subst (λ s. Changes size moves resizes s call reply new) same h
-        | inr grown ↦ let up = kept grown.0 in elim h as (λ _. Changes size moves resizes old call reply new) [
+      elim (parted old mid stays) as (λ _. MovesResized size moves resizes old call reply new) [
+        | inl same ↦ subst (λ s. MovesResized size moves resizes s call reply new) same h
+        | inr grown ↦ let up = kept grown.0 in elim h as (λ _. MovesResized size moves resizes old call reply new) [
           | inl c ↦ let ne = grown.0 in inr (inl (omega (arith, ne, c.0), (mid, subst (λ n. resizes old n mid) (sym c.0) grown.1, c.1)))
-          | inr c ↦ elim c as (λ _. Changes size moves resizes old call reply new) [
+          | inr c ↦ elim c as (λ _. MovesResized size moves resizes old call reply new) [
             | inl more ↦ absurd (omega (arith, more.0))
             | inr less ↦ absurd (omega (arith, less.0))
           ]

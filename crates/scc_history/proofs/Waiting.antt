@@ -13,8 +13,8 @@ use Rattle.std.proofs.lemmas.List.Sorted.{All-permutation, sum_by_pushed, sum_by
 use Rattle.scc_calls.specs.declared.steps.Step.{Step}
 use Rattle.scc_history.specs.Orders.{order_number, Comes, least}
 use Rattle.scc_history.proofs.Ordering.{length_at, number_at}
-use Rattle.scc_history.specs.Waiting as words
-use Rattle.scc_history.specs.Waiting.{NextJoins, Waiting}
+use Rattle.scc_history.specs.Queues as words
+use Rattle.scc_history.specs.Queues.{JoinsQueue, Queued}
 
 -- the lesser of two pairs, by their first numbers and then by their second
 pub lesser : (a b c d : ℕ) → is_lt (ordering_then (nat_cmp c a) (nat_cmp d b)) ≡ false → (a < c) ⊎ ((a ≡ c) × (b ≤ d))
@@ -45,20 +45,20 @@ module _ {X A R : Type 0} (key : X → ℕ × ℕ) (hs : List (List (Step A R)))
   abbrev one : ℕ → X → ℕ
   one = words.one key hs
 
-  abbrev IsNext : List ℕ → X → Type 0
-  IsNext = words.IsNext key hs
+  abbrev IsNextStep : List ℕ → X → Type 0
+  IsNextStep = words.IsNextStep key hs
 
   abbrev due : ℕ → List ℕ → ℕ → ℕ
   due = words.due key hs
 
   -- the same of all lists but list i, which has nothing here
   pub record Taken (i n : ℕ) (done : List ℕ) (items : List X) : Type 0 where
-    pub each : All (IsNext done) items
+    pub each : All (IsNextStep done) items
     pub none : sum_by (one i) items ≡ 0
     pub once : (k : ℕ) → (k ≡ i → ⊥) → sum_by (one k) items ≡ due n done k
 
   -- what stands for a step that is the next of its list
-  pub next_is : (done : List ℕ) (i number : ℕ) (h : List (Step A R)) (x : X) → i < length hs → slice_get hs i ≡ Some h → slice_index done i < length h → number ≡ least (drop (slice_index done i) h) → key x ≡ (number, i) → IsNext done x
+  pub next_is : (done : List ℕ) (i number : ℕ) (h : List (Step A R)) (x : X) → i < length hs → slice_get hs i ≡ Some h → slice_index done i < length h → number ≡ least (drop (slice_index done i) h) → key x ≡ (number, i) → IsNextStep done x
   next_is done i number h x within at less e is =
       let a : (key x).1 ≡ i = ap (λ p. p.1) is in
       let b : (key x).0 ≡ number = ap (λ p. p.0) is in
@@ -91,9 +91,9 @@ module _ {X A R : Type 0} (key : X → ℕ × ℕ) (hs : List (List (Step A R)))
       All-cons (λ x. ((key x).1 ≡ i → ⊥) × P x) x xs here (apart i P xs (omega arith) (All-tail P x xs a))
 
   -- the first one is taken
-  module _ (n : ℕ) (done : List ℕ) (items rest : List X) (x : X) (w : Waiting key hs n done items) (perm : IsPermutation items (x ∷ rest)) where
-    pub here : IsNext done x
-    here = All-head (IsNext done) x rest (All-permutation (IsNext done) _ _ perm w.each)
+  module _ (n : ℕ) (done : List ℕ) (items rest : List X) (x : X) (w : Queued key hs n done items) (perm : IsPermutation items (x ∷ rest)) where
+    pub here : IsNextStep done x
+    here = All-head (IsNextStep done) x rest (All-permutation (IsNextStep done) _ _ perm w.each)
 
     pub least_here : AllByRecursion (λ y. is_lt (ordering_then (nat_cmp (key y).0 (key x).0) (nat_cmp (key y).1 (key x).1)) ≡ false) items → length hs ≤ n
         → (k : ℕ) → k < length hs → slice_index done k < slice_index (map length hs) k → Comes hs ((key x).1, slice_index done (key x).1) (k, slice_index done k)
@@ -101,7 +101,7 @@ module _ {X A R : Type 0} (key : X → ℕ × ℕ) (hs : List (List (Step A R)))
         let s : nat_lt k n ≡ true = grind (arith, nat_tests) in
         let t : nat_lt (slice_index done k) (slice_index (map length hs) k) ≡ true = grind (arith, nat_tests) in
         let d : due n done k ≡ 1 = rw (s, t) refl in
-        let y = find_one k (IsNext done) _ items (by_parts (IsNext done) items w.each) top (omega (arith, w.once k, d)) in
+        let y = find_one k (IsNextStep done) _ items (by_parts (IsNextStep done) items w.each) top (omega (arith, w.once k, d)) in
         let number : (key y.0).0 ≡ order_number hs (k, slice_index done k) = subst (λ j. (key y.0).0 ≡ order_number hs (j, slice_index done j)) y.1 y.2.2 in
         let mine = here.2 in
         elim (lesser (key x).0 (key x).1 (key y.0).0 (key y.0).1 y.3) as (λ _. Comes hs ((key x).1, slice_index done (key x).1) (k, slice_index done k)) [
@@ -119,13 +119,13 @@ module _ {X A R : Type 0} (key : X → ℕ × ℕ) (hs : List (List (Step A R)))
         let d : due n done i ≡ 1 = rw (s, t) refl in
         let zero_left : sum_by (one i) rest ≡ 0 = omega (arith, count i, d, is_one i x refl) in
         record {
-          each = weaker (λ y. ((key y).1 ≡ i → ⊥) × IsNext done y) (IsNext (slice_set done i v)) rest (λ y p. let e = get_or-set_other done i (key y).1 v 0 p.0 in (p.1.0, rw e p.1.1, rw e p.1.2)) (apart i (IsNext done) rest zero_left (All-tail (IsNext done) x rest (All-permutation (IsNext done) _ _ perm w.each)));
+          each = weaker (λ y. ((key y).1 ≡ i → ⊥) × IsNextStep done y) (IsNextStep (slice_set done i v)) rest (λ y p. let e = get_or-set_other done i (key y).1 v 0 p.0 in (p.1.0, rw e p.1.1, rw e p.1.2)) (apart i (IsNextStep done) rest zero_left (All-tail (IsNextStep done) x rest (All-permutation (IsNextStep done) _ _ perm w.each)));
           none = zero_left;
           once = λ k ne. let e = get_or-set_other done i k v 0 ne in rw e (omega (arith, count k, isn't_one k x (λ q. ne (sym q))));
         }
 
   -- one more list, before its first step comes
-  pub opened : (i : ℕ) (done : List ℕ) (items : List X) → Waiting key hs i done items → Taken i (i + 1) done items
+  pub opened : (i : ℕ) (done : List ℕ) (items : List X) → Queued key hs i done items → Taken i (i + 1) done items
   opened i done items w =
       let s : nat_lt i i ≡ false = grind (arith, nat_tests) in
       let d : due i done i ≡ 0 = rw s refl in
@@ -137,7 +137,7 @@ module _ {X A R : Type 0} (key : X → ℕ × ℕ) (hs : List (List (Step A R)))
 
   module _ (i n : ℕ) (done : List ℕ) (items : List X) (w : Taken i n done items) where
     -- list i is done
-    pub skipped : slice_index (map length hs) i ≤ slice_index done i → Waiting key hs n done items
+    pub skipped : slice_index (map length hs) i ≤ slice_index done i → Queued key hs n done items
     skipped h =
         let t : nat_lt (slice_index done i) (slice_index (map length hs) i) ≡ false = grind (arith, nat_tests) in
         record { each = w.each; once = λ k. elim (cases_eq k i) as (λ _. sum_by (one k) items ≡ due n done k) [ inl e ↦ rw e (skipped_by (nat_lt i n) t) | inr ne ↦ w.once k ne ] }
@@ -147,14 +147,14 @@ module _ {X A R : Type 0} (key : X → ℕ × ℕ) (hs : List (List (Step A R)))
         skipped_by false t = w.none
 
     -- the next step of list i comes
-    pub added : (x : X) (new : List X) → (key x).1 ≡ i → i < n → IsNext done x → IsPermutation (x ∷ items) new → Waiting key hs n done new
+    pub added : (x : X) (new : List X) → (key x).1 ≡ i → i < n → IsNextStep done x → IsPermutation (x ∷ items) new → Queued key hs n done new
     added x new e h next perm =
         let s : nat_lt i n ≡ true = grind (arith, nat_tests) in
         let more = subst (λ j. slice_index done j < slice_index (map length hs) j) e next.1 in
         let t : nat_lt (slice_index done i) (slice_index (map length hs) i) ≡ true = grind (arith, nat_tests) in
         let d : due n done i ≡ 1 = rw (s, t) refl in
         record {
-          each = All-permutation (IsNext done) _ _ perm (All-cons (IsNext done) x items next w.each);
+          each = All-permutation (IsNextStep done) _ _ perm (All-cons (IsNextStep done) x items next w.each);
           once = λ k. let c = sum_by_pushed (one k) x items new perm in elim (cases_eq k i) as (λ _. sum_by (one k) new ≡ due n done k) [
             | inl f ↦ let u = is_one k x (e ∙ sym f) in let z : sum_by (one k) items ≡ 0 = rw f w.none in let y : due n done k ≡ 1 = rw f d in omega arith
             | inr ne ↦ let u = isn't_one k x (λ q. ne (sym q ∙ e)) in omega (arith, c, u, w.once k ne)
@@ -162,10 +162,10 @@ module _ {X A R : Type 0} (key : X → ℕ × ℕ) (hs : List (List (Step A R)))
         }
 
   -- list i goes on, or is done
-  pub advanced : (i n j : ℕ) (done : List ℕ) (items new : List X) (h : List (Step A R)) → Taken i n done items → i < n → i < length hs → slice_get hs i ≡ Some h → slice_index done i ≡ j → NextJoins key h j i items new → Waiting key hs n done new
+  pub advanced : (i n j : ℕ) (done : List ℕ) (items new : List X) (h : List (Step A R)) → Taken i n done items → i < n → i < length hs → slice_get hs i ≡ Some h → slice_index done i ≡ j → JoinsQueue key h j i items new → Queued key hs n done new
   advanced i n j done items new h w within long at is joins = by (nat_lt j (length h)) refl joins
     where
-      by : (b : Bool) → nat_lt j (length h) ≡ b → MatchBool b ((x : X) × (key x ≡ (least (drop j h), i)) × IsPermutation (x ∷ items) new) (new ≡ items) → Waiting key hs n done new
+      by : (b : Bool) → nat_lt j (length h) ≡ b → MatchBool b ((x : X) × (key x ≡ (least (drop j h), i)) × IsPermutation (x ∷ items) new) (new ≡ items) → Queued key hs n done new
       by true t m =
           let less : slice_index done i < length h = grind (arith, nat_tests) in
           added i n done items w m.0 new (ap (λ p. p.1) m.1) within (next_is done i (least (drop j h)) h m.0 long at less (ap (λ k. least (drop k h)) (sym is)) m.1) m.2
@@ -173,11 +173,11 @@ module _ {X A R : Type 0} (key : X → ℕ × ℕ) (hs : List (List (Step A R)))
           let more : slice_index (map length hs) i ≤ slice_index done i = let l = length_at (Unit {0}) A R (λ _. []) hs i h at in let r : length h ≤ j = grind (arith, nat_tests) in omega arith in
           rw m (skipped i n done items w more)
 
-  pub waiting_none : (done : List ℕ) → Waiting key hs 0 done []
+  pub waiting_none : (done : List ℕ) → Queued key hs 0 done []
   waiting_none done = record { each = All-nil _; once = λ k. let s : nat_lt k 0 ≡ false = grind (arith, nat_tests) in rw s refl }
 
   -- where nothing waits, each list is done
-  pub all_done : (n : ℕ) (done : List ℕ) → Waiting key hs n done [] → (k : ℕ) → k < n → slice_index (map length hs) k ≤ slice_index done k
+  pub all_done : (n : ℕ) (done : List ℕ) → Queued key hs n done [] → (k : ℕ) → k < n → slice_index (map length hs) k ≤ slice_index done k
   all_done n done w k h = elim (cases_lt (slice_index done k) (slice_index (map length hs) k)) as (λ _. slice_index (map length hs) k ≤ slice_index done k) [
     | inl less ↦
         let s : nat_lt k n ≡ true = grind (arith, nat_tests) in

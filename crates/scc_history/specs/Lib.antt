@@ -1,6 +1,6 @@
-pub mod Kept
+pub mod Added
 pub mod Orders
+pub mod Queues
 pub mod Receipts
 pub mod Stamps
 pub mod Steps
-pub mod Waiting

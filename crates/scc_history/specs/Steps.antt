@@ -7,7 +7,7 @@ use Rattle.std.specs.declared.cmp.PartialEq as eq
 use Rattle.std.specs.declared.hash.Hash as hash
 use Rattle.std.specs.declared.hash.Hasher as hasher
 use Rattle.std.specs.declared.hash.BuildHasher as builder
-use Rattle.scc_calls.specs.Changes.{Changes, Stays}
+use Rattle.scc_calls.specs.Resized.{MovesResized, Stays}
 use Rattle.scc_calls.specs.Calling.{MayNotReply}
 use Rattle.scc_calls.specs.Copies.{AreCopies}
 use Rattle.scc_calls.specs.declared.calling.Calls as calls
@@ -19,7 +19,7 @@ use Rattle.scc_history.specs.declared.Stripe.{Stripe}
 
 module _ {C K H A R T : Type 0} {m : calls.Ghosts C K H A R T} {h : hash.Ghosts K} {g : eq.Ghosts K} {b : builder.Ghosts H T} {w : hasher.Ghosts T} {call_clones : clone.Ghosts A} {call_equality : eq.Ghosts A} {reply_clones : clone.Ghosts R} {reply_equality : eq.Ghosts R} where
   -- what `step` makes of the stripe old and the log before, once it answered the call so: the stripe new and the log after
-  pub record StepsByRule (old : Stripe C K H A R T m h g b w call_clones call_equality reply_clones reply_equality) (before : Log C K H A R T m h g b w call_clones call_equality reply_clones reply_equality) (call : A) (result : Result R CallError) (new : Stripe C K H A R T m h g b w call_clones call_equality reply_clones reply_equality) (after : Log C K H A R T m h g b w call_clones call_equality reply_clones reply_equality) : Type 0 where
+  pub record RecordsByRule (old : Stripe C K H A R T m h g b w call_clones call_equality reply_clones reply_equality) (before : Log C K H A R T m h g b w call_clones call_equality reply_clones reply_equality) (call : A) (result : Result R CallError) (new : Stripe C K H A R T m h g b w call_clones call_equality reply_clones reply_equality) (after : Log C K H A R T m h g b w call_clones call_equality reply_clones reply_equality) : Type 0 where
     -- the setting, the buckets at opening and both numbers stay
     pub same : (m.setting new.container ≡ m.setting old.container) × (new.opened ≡ old.opened) × (new.number ≡ old.number) × (after.number ≡ before.number)
     -- where it succeeds, the last stamp and the clock are one more than the greater of the two was
@@ -29,7 +29,7 @@ module _ {C K H A R T : Type 0} {m : calls.Ghosts C K H A R T} {h : hash.Ghosts 
     -- and the log one receipt of such, with the number of the stripe
     pub receipt : IfOk result (λ r. (copy : A) × (given : R) × AreCopies call_clones.is_clone reply_equality.eq call r copy given × (after.receipts.items ≡ before.receipts.items ++ receipt old.number new.last copy given ∷ []))
     -- and the container made the very call, which answered the very reply, with at most one resize
-    pub step : IfOk result (λ r. Changes m.size (m.moves (m.setting old.container)) (m.resizes (m.setting old.container)) (m.state old.container) call r (m.state new.container))
+    pub step : IfOk result (λ r. MovesResized m.size (m.moves (m.setting old.container)) (m.resizes (m.setting old.container)) (m.state old.container) call r (m.state new.container))
     -- refused, it leaves the last stamp, the clock and the receipts
     pub err : OnErr result ((new.last ≡ old.last) × (after.clock ≡ before.clock) × (after.receipts.items ≡ before.receipts.items))
     -- and the history got at most a resize

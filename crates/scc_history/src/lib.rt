@@ -13,7 +13,7 @@ mod order;
 mod recording;
 
 use crate::log::{Log, Receipt};
-use crate::recording::{note, note_refused};
+use crate::recording::{record_call, record_refused};
 pub use log::{Log, Receipt};
 pub use matching::{first_difference, records_by_pass};
 pub use order::{Histories, stamp_order};
@@ -41,7 +41,7 @@ pub struct Stripe<C: Calls> {
 }
 
 impl<C: Calls> Stripe<C> {
-    ghost use Rattle.scc_history.specs.Steps.{StepsByRule};
+    ghost use Rattle.scc_history.specs.Steps.{RecordsByRule};
 
     /// An empty part with an empty history. Fails where memory for the array is refused.
     pub fn open(
@@ -78,10 +78,10 @@ impl<C: Calls> Stripe<C> {
     ///
     /// `Room` comes before anything is touched; `Container` where the container refused the call. Amortized constant
     /// beside the call.
-    pub fn step(&mut self, log: &mut Log<C>, call: C::Call) -> Result<C::Reply, CallError>
+    pub fn call(&mut self, log: &mut Log<C>, call: C::Call) -> Result<C::Reply, CallError>
         requires calls { ClonesEqual C.Call.is_clone C.Call.eq }
         requires replies { ClonesEqual C.Reply.is_clone C.Reply.eq }
-        ensures { StepsByRule self.old log.old call result self.new log.new }
+        ensures { RecordsByRule self.old log.old call result self.new log.new }
     {
         if self.history.reserve(2).is_err() || log.receipts.reserve(1).is_err() {
             return Err(CallError::Room);
@@ -105,13 +105,13 @@ impl<C: Calls> Stripe<C> {
             opened: _,
         } = self;
         let before = container.buckets();
-        let Ok((given, told)) = container.ready(&call) else {
-            note_refused(history, before, container.buckets(), stamp);
+        let Ok((given, told)) = container.prepare_call(&call) else {
+            record_refused(history, before, container.buckets(), stamp);
             return Err(CallError::Container);
         };
         match container.call(call) {
             Err(Refused) => {
-                note_refused(history, before, container.buckets(), stamp);
+                record_refused(history, before, container.buckets(), stamp);
                 Err(CallError::Container)
             }
             Ok(reply) => {

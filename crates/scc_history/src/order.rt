@@ -2,7 +2,7 @@
 ghost use Rattle.scc_calls.specs.declared.steps.Step.{Step};
 ghost use Rattle.scc_history.specs.Orders.{IsOnlyStampOrder, least};
 ghost use Rattle.scc_history.specs.Stamps.{Rises};
-ghost use Rattle.scc_history.specs.Waiting.{NextJoins, Waiting};
+ghost use Rattle.scc_history.specs.Queues.{JoinsQueue, Queued};
 ghost use Rattle.std.specs.BinaryHeap.{IsHeap, heap_items};
 ghost use Rattle.std.specs.Ordering.{nat_cmp, ordering_then};
 ghost use Rattle.std.specs.Prelude.{◌≡◌, ℕ, ◌+◌, ◌<◌, ◌≤◌, List, length, map, drop, IfOk, OnOk};
@@ -48,14 +48,14 @@ fn number_at<A, R>(history: &[Step<A, R>], from: usize) -> u64
 }
 
 // Puts the step at that place of a history among those that wait, if it is there.
-fn await_step<A, R>(
+fn queue_step<A, R>(
     next: &mut BinaryHeap<Reverse<(u64, usize)>>,
     history: &[Step<A, R>],
     place: usize,
     stripe: usize,
 ) -> Result<(), AllocError>
     requires { (last : ℕ) × Rises 0 history.now last × (last ≤ 18446744073709551615) }
-    ensures joins { OnOk result (NextJoins (λ x. x.0) history.now place stripe (heap_items next.old)
+    ensures joins { OnOk result (JoinsQueue (λ x. x.0) history.now place stripe (heap_items next.old)
         (heap_items next.new)) }
     ensures heap { OnOk result (IsHeap (λ x y. ordering_then (nat_cmp y.0.0 x.0.0) (nat_cmp y.0.1 x.0.1))
         (heap_items next.old) → IsHeap (λ x y. ordering_then (nat_cmp y.0.0 x.0.0) (nat_cmp y.0.1 x.0.1))
@@ -72,14 +72,14 @@ fn first_steps<H: Histories>(
     alloc: Global,
     stripes: &[H],
 ) -> Result<BinaryHeap<Reverse<(u64, usize)>>, AllocError>
-    ensures waiting { IfOk result (λ h. Waiting (λ x. x.0) (map H.history stripes.now) (length stripes.now)
+    ensures waiting { IfOk result (λ h. Queued (λ x. x.0) (map H.history stripes.now) (length stripes.now)
         (map (λ _. 0) stripes.now) (heap_items h)) }
     ensures heap { IfOk result (λ h. IsHeap (λ x y. ordering_then (nat_cmp y.0.0 x.0.0) (nat_cmp y.0.1 x.0.1))
         (heap_items h)) }
 {
     let mut next = BinaryHeap::new(alloc);
     for i in 0..stripes.len() {
-        await_step(&mut next, stripes[i].history(), 0, i)?;
+        queue_step(&mut next, stripes[i].history(), 0, i)?;
     }
     Ok(next)
 }
@@ -100,7 +100,7 @@ pub fn stamp_order<H: Histories>(
         let j = done[i];
         order.push((i, j))?;
         done[i] = j + 1;
-        await_step(&mut next, history, j + 1, i)?;
+        queue_step(&mut next, history, j + 1, i)?;
     }
     Ok(order)
 }

@@ -5,7 +5,7 @@ ghost use Rattle.std.specs.Prelude.{◌≡◌, ◌+◌, ◌≤◌, ◌++◌, vec
 use scc_calls::Step;
 
 // Notes a call, with a growth before it or a shrink after it.
-pub(crate) fn note<A: Drop, R: Drop>(
+pub(crate) fn record_call<A: Drop, R: Drop>(
     history: &mut Vec<Step<A, R>>,
     before: usize,
     after: usize,
@@ -39,7 +39,7 @@ pub(crate) fn note<A: Drop, R: Drop>(
 }
 
 // Notes what a refused call did.
-pub(crate) fn note_refused<A: Drop, R: Drop>(
+pub(crate) fn record_refused<A: Drop, R: Drop>(
     history: &mut Vec<Step<A, R>>,
     before: usize,
     after: usize,

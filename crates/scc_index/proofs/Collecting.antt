@@ -8,7 +8,7 @@ use Rattle.scc_contents.specs.Contents.{Contents, entries, settings_of}
 use Rattle.scc_contents.specs.Pairs.{find, IsUnique}
 use Rattle.scc_common.specs.declared.errors.InsertError.{InsertError}
 use Rattle.scc_common.specs.declared.errors.InsertError.TheVariants.{Exists, Memory}
-use Rattle.scc_index.specs.Collections.{FindsFirst, InsertsAll, IsAnswered}
+use Rattle.scc_index.specs.Collections.{FindsFirst, InsertsAll, IsAnswerOf}
 use Rattle.scc_index.specs.IndexSteps.{Inserts}
 use Rattle.scc_index.proofs.AfterSteps.{finds-inserted, finds-unchanged, find-equal}
 use Rattle.scc_buckets.proofs.Lookups.{distinct-IsPermutation}
@@ -29,12 +29,12 @@ or-cond false x None f = refl
 or-cond false x (Some p) f = refl
 
 module _ {K V S : Type 0} {eq : K → K → Bool} (laws : IsEquivalence eq) where
-  insert-distinct : (c : Contents (K × V) S) (p : K × V) (r : Result (Unit {0}) (InsertError K V)) (d : Contents (K × V) S) → IsAnswered r → Inserts eq c p r d → IsUnique eq c → IsUnique eq d
+  insert-distinct : (c : Contents (K × V) S) (p : K × V) (r : Result (Unit {0}) (InsertError K V)) (d : Contents (K × V) S) → IsAnswerOf r → Inserts eq c p r d → IsUnique eq c → IsUnique eq d
   insert-distinct c p (Ok _) d a s u = distinct-IsPermutation laws (p ∷ entries c) (entries d) s.1.same (distinct-added laws (entries c) p u s.0)
   insert-distinct c p (Err (Exists q)) d a s u = subst (λ (es : List (K × V)). IsDistinct eq (keys_of es)) (sym s.2.exact) u
   insert-distinct c p (Err (Memory q)) d a s u = absurd a
 
-  insert-finds : (c : Contents (K × V) S) (p : K × V) (r : Result (Unit {0}) (InsertError K V)) (d : Contents (K × V) S) → IsAnswered r → Inserts eq c p r d → IsUnique eq d → (q : K) → find eq (entries d) q ≡ option_or (find eq (entries c) q) (cond (eq q p.0) (Some p) None)
+  insert-finds : (c : Contents (K × V) S) (p : K × V) (r : Result (Unit {0}) (InsertError K V)) (d : Contents (K × V) S) → IsAnswerOf r → Inserts eq c p r d → IsUnique eq d → (q : K) → find eq (entries d) q ≡ option_or (find eq (entries c) q) (cond (eq q p.0) (Some p) None)
   insert-finds c p (Ok _) d a s u q = (finds-inserted laws c d p s.1 u).finds q ∙ by_answer (eq q p.0)
       (λ y. cond-true (Some p) (find eq (entries c) q) y ∙ sym (ap (λ o. option_or o (cond (eq q p.0) (Some p) None)) (find-equal laws (entries c) q p.0 y ∙ s.0) ∙ cond-true (Some p) None y))
       (λ y. cond-false (Some p) (find eq (entries c) q) y ∙ sym (ap (option_or (find eq (entries c) q)) (cond-false (Some p) None y) ∙ or-none (find eq (entries c) q)))
@@ -43,7 +43,7 @@ module _ {K V S : Type 0} {eq : K → K → Bool} (laws : IsEquivalence eq) wher
       (λ y. sym (ap (option_or (find eq (entries c) q)) (cond-false (Some p) None y) ∙ or-none (find eq (entries c) q)))
   insert-finds c p (Err (Memory x)) d a s u q = absurd a
 
-  insert-settings : (c : Contents (K × V) S) (p : K × V) (r : Result (Unit {0}) (InsertError K V)) (d : Contents (K × V) S) → IsAnswered r → Inserts eq c p r d → settings_of d ≡ settings_of c
+  insert-settings : (c : Contents (K × V) S) (p : K × V) (r : Result (Unit {0}) (InsertError K V)) (d : Contents (K × V) S) → IsAnswerOf r → Inserts eq c p r d → settings_of d ≡ settings_of c
   insert-settings c p (Ok _) d a s = s.1.settings
   insert-settings c p (Err (Exists q)) d a s = s.2.settings
   insert-settings c p (Err (Memory q)) d a s = absurd a

@@ -23,8 +23,8 @@ use Rattle.scc_table.specs.Relocations.{Relocates, RelocatesTwo}
 use Rattle.scc_index.specs.Entries.{Memory, Occupied, Vacant, entry_guard, entry_key, occupied_pair, GrowsThrough, IsGrownFor, IsOccupiedAt, IsUpdated, IsInserted, IsVacant, OrInserts, OrInsertsSome, RefusesSome, RelocatesThrough}
 use Rattle.scc_table.proofs.Relocations.{waiting-write}
 use Rattle.scc_index.proofs.Updates.{finds-replaced}
+use Rattle.scc_index.specs.declared.held.HeldOccupied.{HeldOccupied}
 use Rattle.scc_index.specs.declared.held.HeldEntry.{HeldEntry}
-use Rattle.scc_index.specs.declared.held.HeldPlace.{HeldPlace}
 use Rattle.scc_index.specs.declared.held.HeldVacant.{HeldVacant}
 
 pub both-ok : {A B : Type 0} (P Q : A → Type 0) (r : Result A B) → IfOk r P → IfOk r Q → IfOk r (λ a. P a × Q a)
@@ -45,15 +45,15 @@ any-err (Err e) = tt
 
 module _ {G N K V S T : Type 0} {d : guard.Ghosts G (Contents (K × V) S)} {g : eq.Ghosts K} {h : hash.Ghosts K} {b : builder.Ghosts S T} {w : hasher.Ghosts T} where
   -- what the guard showed at the place is the pair
-  pub pair-is : (o : HeldEntry G N K V S T d g h b w) (m : Contents (K × V) S) (p : K × V) → m ≡ d.kept o.guard → slice_get (entries m) (index_of m o.place) ≡ Some p → p ≡ occupied_pair o
-  pair-is o m p is got = sym (entry_of-is (d.kept o.guard) o.place o.within p (subst (λ (c : Contents (K × V) S). slice_get (entries c) (index_of c o.place) ≡ Some p) is got))
+  pub pair-is : (o : HeldOccupied G N K V S T d g h b w) (m : Contents (K × V) S) (p : K × V) → m ≡ d.inner o.guard → slice_get (entries m) (index_of m o.place) ≡ Some p → p ≡ occupied_pair o
+  pair-is o m p is got = sym (entry_of-is (d.inner o.guard) o.place o.within p (subst (λ (c : Contents (K × V) S). slice_get (entries c) (index_of c o.place) ≡ Some p) is got))
 
   -- the entry that a search found is that of the key
-  pub occupied-at : {same : K → K → Bool} (laws : IsEquivalence same) (k : K) (o : HeldEntry G N K V S T d g h b w) → IsDistinct same (keys_of (entries (d.kept o.guard))) → IsFoundAt (λ e. same k e.0) (d.kept o.guard) o.place
-      → IsOccupiedAt same (d.kept o.guard) k o
+  pub occupied-at : {same : K → K → Bool} (laws : IsEquivalence same) (k : K) (o : HeldOccupied G N K V S T d g h b w) → IsDistinct same (keys_of (entries (d.inner o.guard))) → IsFoundAt (λ e. same k e.0) (d.inner o.guard) o.place
+      → IsOccupiedAt same (d.inner o.guard) k o
   unfolding spots.front_of_spot spots.back_of_spot
   occupied-at {same = same} laws k o u found =
-      let c : Contents (K × V) S = d.kept o.guard in
+      let c : Contents (K × V) S = d.inner o.guard in
       let f = place-found same c k o.place found in
       let e : occupied_pair o ≡ f.0 = entry_of-is c o.place o.within f.0 f.1 in
       record {
@@ -66,53 +66,53 @@ module _ {G N K V S T : Type 0} {d : guard.Ghosts G (Contents (K × V) S)} {g : 
       }
 
   -- a place stays one in what the guard keeps once a version was put there
-  pub within-after : (o : HeldEntry G N K V S T d g h b w) (m n : Contents (K × V) S) (e : K × V) → m ≡ d.kept o.guard → n ≡ with_write_at put_whole m o.place e → IsPlace (d.kept (d.keeping o.guard n)) o.place
+  pub within-after : (o : HeldOccupied G N K V S T d g h b w) (m n : Contents (K × V) S) (e : K × V) → m ≡ d.inner o.guard → n ≡ with_write_at put_whole m o.place e → IsPlace (d.inner (d.with_inner o.guard n)) o.place
   within-after o m n e is made =
       let P : Contents (K × V) S → Type 0 = λ c. IsPlace c o.place in
-      subst P (sym (d.keeps o.guard n)) (subst P (sym made) (IsPlace-with_write_at put_whole m o.place e (subst P (sym is) o.within)))
+      subst P (sym (d.inner_law o.guard n)) (subst P (sym made) (IsPlace-with_write_at put_whole m o.place e (subst P (sym is) o.within)))
 
   -- the version that was put in through the guard stands in the entry
-  pub updated-after : (C : K → K → Type 0) {same : K → K → Bool} (laws : IsEquivalence same) (o : HeldEntry G N K V S T d g h b w) (m n : Contents (K × V) S) (e : K × V) → m ≡ d.kept o.guard → n ≡ with_write_at put_whole m o.place e → C (occupied_pair o).0 e.0 → same e.0 (occupied_pair o).0 ≡ true
-      → IsDistinct same (keys_of (entries m)) → (p : IsPlace (d.kept (d.keeping o.guard n)) o.place) → IsUpdated C same o e.1 (record { guard = d.keeping o.guard n; place = o.place; rest = o.rest; of = o.of; within = p })
+  pub updated-after : (C : K → K → Type 0) {same : K → K → Bool} (laws : IsEquivalence same) (o : HeldOccupied G N K V S T d g h b w) (m n : Contents (K × V) S) (e : K × V) → m ≡ d.inner o.guard → n ≡ with_write_at put_whole m o.place e → C (occupied_pair o).0 e.0 → same e.0 (occupied_pair o).0 ≡ true
+      → IsDistinct same (keys_of (entries m)) → (p : IsPlace (d.inner (d.with_inner o.guard n)) o.place) → IsUpdated C same o e.1 (record { guard = d.with_inner o.guard n; place = o.place; rest = o.rest; of = o.of; within = p })
   updated-after C laws o m n e is made cloned equal u p =
-      let at = written-there put_whole (d.kept o.guard) o.place o.within e (d.kept (d.keeping o.guard n)) p (d.keeps o.guard n ∙ made ∙ ap (λ c. with_write_at put_whole c o.place e) is) in
-      let split = splits-there (d.kept o.guard) o.place o.within in
+      let at = written-there put_whole (d.inner o.guard) o.place o.within e (d.inner (d.with_inner o.guard n)) p (d.inner_law o.guard n ∙ made ∙ ap (λ c. with_write_at put_whole c o.place e) is) in
+      let split = splits-there (d.inner o.guard) o.place o.within in
       record {
-        same_guard = ap (d.keeping o.guard) (sym (d.keeps o.guard n));
+        same_guard = ap (d.with_inner o.guard) (sym (d.inner_law o.guard n));
         rest = refl;
         key = e.0;
         cloned = cloned;
         equal = equal;
         at = at;
-        finds = finds-replaced laws (front_of (d.kept o.guard) o.place) (back_of (d.kept o.guard) o.place) (occupied_pair o) e (entries (d.kept o.guard)) (entries (d.kept (d.keeping o.guard n))) split.splits at.contents.exact equal (rw is at u);
+        finds = finds-replaced laws (front_of (d.inner o.guard) o.place) (back_of (d.inner o.guard) o.place) (occupied_pair o) e (entries (d.inner o.guard)) (entries (d.inner (d.with_inner o.guard n))) split.splits at.contents.exact equal (rw is at u);
       }
 
   -- the same buckets wait once a version was put there
-  pub waiting-after : (o : HeldEntry G N K V S T d g h b w) (m n : Contents (K × V) S) (e : K × V) → m ≡ d.kept o.guard → n ≡ with_write_at put_whole m o.place e → waiting_of (d.kept (d.keeping o.guard n)) ≡ waiting_of (d.kept o.guard)
-  waiting-after o m n e is made = ap waiting_of (d.keeps o.guard n ∙ made) ∙ waiting-write put_whole m o.place e ∙ ap waiting_of is
+  pub waiting-after : (o : HeldOccupied G N K V S T d g h b w) (m n : Contents (K × V) S) (e : K × V) → m ≡ d.inner o.guard → n ≡ with_write_at put_whole m o.place e → waiting_of (d.inner (d.with_inner o.guard n)) ≡ waiting_of (d.inner o.guard)
+  waiting-after o m n e is made = ap waiting_of (d.inner_law o.guard n ∙ made) ∙ waiting-write put_whole m o.place e ∙ ap waiting_of is
 
   -- what was put in through the guard stands at the entry
-  pub inserted-after : (e : HeldVacant G N K V S T d g h b w) (m n : Contents (K × V) S) (v : V) (o : HeldEntry G N K V S T d g h b w) → o.guard ≡ d.keeping e.guard n → o.rest ≡ e.rest → m ≡ d.kept e.guard → IsInsertedAt m (e.key, v) n o.place → IsInserted e v o
+  pub inserted-after : (e : HeldVacant G N K V S T d g h b w) (m n : Contents (K × V) S) (v : V) (o : HeldOccupied G N K V S T d g h b w) → o.guard ≡ d.with_inner e.guard n → o.rest ≡ e.rest → m ≡ d.inner e.guard → IsInsertedAt m (e.key, v) n o.place → IsInserted e v o
   inserted-after e m n v o guarded rests is i =
-      let k : d.kept o.guard ≡ n = ap d.kept guarded ∙ d.keeps e.guard n in
+      let k : d.inner o.guard ≡ n = ap d.inner guarded ∙ d.inner_law e.guard n in
       record {
-        same_guard = guarded ∙ ap (d.keeping e.guard) (sym k);
+        same_guard = guarded ∙ ap (d.with_inner e.guard) (sym k);
         rest = rests;
-        at = put-there (d.kept e.guard) (e.key, v) (d.kept o.guard) o.place o.within (subst (λ c. IsInsertedAt c (e.key, v) (d.kept o.guard) o.place) is (subst (λ c. IsInsertedAt m (e.key, v) c o.place) (sym k) i));
+        at = put-there (d.inner e.guard) (e.key, v) (d.inner o.guard) o.place o.within (subst (λ c. IsInsertedAt c (e.key, v) (d.inner o.guard) o.place) is (subst (λ c. IsInsertedAt m (e.key, v) c o.place) (sym k) i));
       }
 
   -- an entry that is made anew of its parts
-  pub same-entry : (o : HeldEntry G N K V S T d g h b w) (p : IsPlace (d.kept o.guard) o.place) → record o { within = p } ≡ o
-  same-entry o p = ap (λ r. record o { within = r }) (place-prop (d.kept o.guard) o.place p o.within)
+  pub same-entry : (o : HeldOccupied G N K V S T d g h b w) (p : IsPlace (d.inner o.guard) o.place) → record o { within = p } ≡ o
+  same-entry o p = ap (λ r. record o { within = r }) (place-prop (d.inner o.guard) o.place p o.within)
 
   -- what an insertion through the entry ensures of the array, whatever is put in
-  pub record Ends (e : HeldPlace G N K V S T d g h b w) (r : Result (HeldEntry G N K V S T d g h b w) (InsertError K V)) : Type 0 where
+  pub record Ends (e : HeldEntry G N K V S T d g h b w) (r : Result (HeldOccupied G N K V S T d g h b w) (InsertError K V)) : Type 0 where
     pub vacant : OnErr r (IsVacant e)
-    pub growth : IfOk r (GrowsThrough (key_hash b w h.hash_input (d.kept (entry_guard e))) e)
-    pub relocates : IfOk r (RelocatesThrough (key_hash b w h.hash_input (d.kept (entry_guard e))) e)
+    pub growth : IfOk r (GrowsThrough (key_hash b w h.hash_input (d.inner (entry_guard e))) e)
+    pub relocates : IfOk r (RelocatesThrough (key_hash b w h.hash_input (d.inner (entry_guard e))) e)
 
   -- an occupied entry is handed on as it is
-  module _ (e : HeldPlace G N K V S T d g h b w) (o : HeldEntry G N K V S T d g h b w) (r : Result (HeldEntry G N K V S T d g h b w) (InsertError K V)) (is : e ≡ Occupied o) (same : r ≡ Ok o) where
+  module _ (e : HeldEntry G N K V S T d g h b w) (o : HeldOccupied G N K V S T d g h b w) (r : Result (HeldOccupied G N K V S T d g h b w) (InsertError K V)) (is : e ≡ Occupied o) (same : r ≡ Ok o) where
     pub ends-handed : Ends e r
     ends-handed = subst (λ z. Ends z r) (sym is) (subst (Ends (Occupied o)) (sym same) (record { vacant = tt; growth = tt; relocates = refl }))
 
@@ -125,12 +125,12 @@ module _ {G N K V S T : Type 0} {d : guard.Ghosts G (Contents (K × V) S)} {g : 
     pub none-refused : (P : InsertError K V → Type 0) → IfErr r P
     none-refused P = subst (λ x. IfErr x P) (sym same) tt
 
-    pub still-unique : (same-key : K → K → Bool) → IsUnique same-key (d.kept o.guard) → IfOk r (λ x. IsUnique same-key (d.kept x.guard))
-    still-unique same-key u = subst (λ x. IfOk x (λ y. IsUnique same-key (d.kept y.guard))) (sym same) u
+    pub still-unique : (same-key : K → K → Bool) → IsUnique same-key (d.inner o.guard) → IfOk r (λ x. IsUnique same-key (d.inner x.guard))
+    still-unique same-key u = subst (λ x. IfOk x (λ y. IsUnique same-key (d.inner y.guard))) (sym same) u
 
   -- through a vacant one a value is put in
-  module _ (e : HeldPlace G N K V S T d g h b w) (x : HeldVacant G N K V S T d g h b w) (r : Result (HeldEntry G N K V S T d g h b w) (InsertError K V)) (is : e ≡ Vacant x) where
-    pub ends-put : IfOk r (λ o. IsGrownFor (key_hash b w h.hash_input (d.kept x.guard)) (d.kept x.guard) x.key (d.kept o.guard)) → IfOk r (λ o. Relocates (d.kept x.guard) (d.kept o.guard)) → IfOk r (λ o. RelocatesTwo (key_hash b w h.hash_input (d.kept x.guard) x.key) (d.kept x.guard) (d.kept o.guard)) → Ends e r
+  module _ (e : HeldEntry G N K V S T d g h b w) (x : HeldVacant G N K V S T d g h b w) (r : Result (HeldOccupied G N K V S T d g h b w) (InsertError K V)) (is : e ≡ Vacant x) where
+    pub ends-put : IfOk r (λ o. IsGrownFor (key_hash b w h.hash_input (d.inner x.guard)) (d.inner x.guard) x.key (d.inner o.guard)) → IfOk r (λ o. Relocates (d.inner x.guard) (d.inner o.guard)) → IfOk r (λ o. RelocatesTwo (key_hash b w h.hash_input (d.inner x.guard) x.key) (d.inner x.guard) (d.inner o.guard)) → Ends e r
     ends-put growth moves two = subst (λ z. Ends z r) (sym is) (record { vacant = any-err r; growth = growth; relocates = both-ok _ _ r moves two })
 
     pub or-put : (v : V) → IfOk r (IsInserted x v) → IfOk r (OrInserts e v)

@@ -13,21 +13,21 @@ use Rattle.scc_contents.specs.Steps.{HoldsExactly}
 use Rattle.scc_common.specs.declared.guard.Guard as guard
 use Rattle.scc_table.proofs.AtPlaces.{splits-there, next-there, past-there}
 use Rattle.scc_index.specs.EntrySteps.{StandsIn, IsNext, IsNextPastRemoved}
-use Rattle.scc_index.specs.declared.held.HeldEntry.{HeldEntry}
+use Rattle.scc_index.specs.declared.held.HeldOccupied.{HeldOccupied}
 
 module _ {G N K V S T : Type 0} {d : guard.Ghosts G (Contents (K × V) S)} {g : eq.Ghosts K} {h : hash.Ghosts K} {b : builder.Ghosts S T} {w : hasher.Ghosts T} where
   -- the list is the pairs before an entry, its own, and those after it
-  pub stands-in : (o : HeldEntry G N K V S T d g h b w) → StandsIn (d.kept o.guard) o
-  stands-in o = record { contents = refl; at = splits-there (d.kept o.guard) o.place o.within }
+  pub stands-in : (o : HeldOccupied G N K V S T d g h b w) → StandsIn (d.inner o.guard) o
+  stands-in o = record { contents = refl; at = splits-there (d.inner o.guard) o.place o.within }
 
   -- the entry at the next place
-  pub next-at : (o p : HeldEntry G N K V S T d g h b w) → p.guard ≡ d.keeping o.guard (d.kept p.guard) → d.kept p.guard ≡ d.kept o.guard → index_of (d.kept o.guard) p.place ≡ suc (index_of (d.kept o.guard) o.place) → IsNext o p
-  next-at o p same now index = record { same_guard = same; at = next-there (d.kept o.guard) o.place o.within (d.kept p.guard) p.place p.within now index }
+  pub next-at : (o p : HeldOccupied G N K V S T d g h b w) → p.guard ≡ d.with_inner o.guard (d.inner p.guard) → d.inner p.guard ≡ d.inner o.guard → index_of (d.inner o.guard) p.place ≡ suc (index_of (d.inner o.guard) o.place) → IsNext o p
+  next-at o p same now index = record { same_guard = same; at = next-there (d.inner o.guard) o.place o.within (d.inner p.guard) p.place p.within now index }
 
   -- the entry at the place of the one that was taken out
-  pub next-past : (o p : HeldEntry G N K V S T d g h b w) → p.guard ≡ d.keeping o.guard (d.kept p.guard) → HoldsExactly (d.kept o.guard) (remove (entries (d.kept o.guard)) (index_of (d.kept o.guard) o.place)) (d.kept p.guard)
-      → refused_of (d.kept p.guard) ≡ refused_of (d.kept o.guard) → index_of (d.kept p.guard) p.place ≡ index_of (d.kept o.guard) o.place → IsNextPastRemoved o p
-  next-past o p same others noted index = record { same_guard = same; at = past-there (d.kept o.guard) o.place (d.kept p.guard) p.place p.within others noted index }
+  pub next-past : (o p : HeldOccupied G N K V S T d g h b w) → p.guard ≡ d.with_inner o.guard (d.inner p.guard) → HoldsExactly (d.inner o.guard) (remove (entries (d.inner o.guard)) (index_of (d.inner o.guard) o.place)) (d.inner p.guard)
+      → refused_of (d.inner p.guard) ≡ refused_of (d.inner o.guard) → index_of (d.inner p.guard) p.place ≡ index_of (d.inner o.guard) o.place → IsNextPastRemoved o p
+  next-past o p same others noted index = record { same_guard = same; at = past-there (d.inner o.guard) o.place (d.inner p.guard) p.place p.within others noted index }
 
 module _ {K V S P : Type 0} (c : Contents (K × V) S) (p q : Place) where
   -- where one stands next, the pairs after an entry aren't none

@@ -11,15 +11,15 @@ use Rattle.scc_common.specs.declared.errors.InsertError.TheVariants.{Exists, Mem
 use Rattle.scc_index.specs.IndexSteps.{Inserts}
 
 -- not refused for want of memory
-abbrev pub IsAnswered : {K V : Type 0} → Result (Unit {0}) (InsertError K V) → Type 0
-IsAnswered (Ok _) = Unit {0}
-IsAnswered (Err (Exists q)) = Unit {0}
-IsAnswered (Err (Memory q)) = ⊥
+abbrev pub IsAnswerOf : {K V : Type 0} → Result (Unit {0}) (InsertError K V) → Type 0
+IsAnswerOf (Ok _) = Unit {0}
+IsAnswerOf (Err (Exists q)) = Unit {0}
+IsAnswerOf (Err (Memory q)) = ⊥
 
 module _ {K V S : Type 0} (eq : K → K → Bool) where
   -- an insertion that is not refused for want of memory
   abbrev pub InsertsOne : Contents (K × V) S → K × V → Contents (K × V) S → Type 0
-  InsertsOne c p d = (r : Result (Unit {0}) (InsertError K V)) × IsAnswered r × Inserts eq c p r d
+  InsertsOne c p d = (r : Result (Unit {0}) (InsertError K V)) × IsAnswerOf r × Inserts eq c p r d
 
   -- the pairs were inserted in their order
   abbrev pub InsertsAll : Contents (K × V) S → List (K × V) → Contents (K × V) S → Type 0

@@ -13,26 +13,26 @@ use Rattle.scc_contents.specs.Steps.{HoldsExactly}
 use Rattle.scc_common.specs.declared.guard.Guard as guard
 use Rattle.scc_index.specs.Entries.{occupied_front, occupied_back, Borrowed}
 use Rattle.scc_index.specs.Lends.{index_row}
-use Rattle.scc_index.specs.declared.held.HeldEntry.{HeldEntry}
+use Rattle.scc_index.specs.declared.held.HeldOccupied.{HeldOccupied}
 
 module _ {G N K V S T : Type 0} {d : guard.Ghosts G (Contents (K × V) S)} {g : eq.Ghosts K} {h : hash.Ghosts K} {b : builder.Ghosts S T} {w : hasher.Ghosts T} where
   -- the index stays, and its list is the pairs before o, that of o, and those after it
-  pub record StandsIn (c : Contents (K × V) S) (o : HeldEntry G N K V S T d g h b w) : Type 0 where
-    pub contents : d.kept o.guard ≡ c
-    pub at : SplitsAt (d.kept o.guard) o.place o.within
+  pub record StandsIn (c : Contents (K × V) S) (o : HeldOccupied G N K V S T d g h b w) : Type 0 where
+    pub contents : d.inner o.guard ≡ c
+    pub at : SplitsAt (d.inner o.guard) o.place o.within
 
   -- p stands next after o in the list, which stays
-  pub record IsNext (o p : HeldEntry G N K V S T d g h b w) : Type 0 where
-    pub same_guard : p.guard ≡ d.keeping o.guard (d.kept p.guard)
-    pub at : IsNextAt (d.kept o.guard) o.place o.within (d.kept p.guard) p.place p.within
+  pub record IsNext (o p : HeldOccupied G N K V S T d g h b w) : Type 0 where
+    pub same_guard : p.guard ≡ d.with_inner o.guard (d.inner p.guard)
+    pub at : IsNextAt (d.inner o.guard) o.place o.within (d.inner p.guard) p.place p.within
 
   -- the pair of o is out, the others stay in their order, and p stands at the one that stood next after it
-  pub record IsNextPastRemoved (o p : HeldEntry G N K V S T d g h b w) : Type 0 where
-    pub same_guard : p.guard ≡ d.keeping o.guard (d.kept p.guard)
-    pub at : IsNextPastRemovedAt (d.kept o.guard) o.place (d.kept p.guard) p.place p.within
+  pub record IsNextPastRemoved (o p : HeldOccupied G N K V S T d g h b w) : Type 0 where
+    pub same_guard : p.guard ≡ d.with_inner o.guard (d.inner p.guard)
+    pub at : IsNextPastRemovedAt (d.inner o.guard) o.place (d.inner p.guard) p.place p.within
 
 module _ (K V S T : RattleType) (key : HashMembers K.Denot) (build : builder.Ghosts S.Denot T.Denot) (feed : hasher.Ghosts T.Denot) where
   -- where r has no entry, the index behind o is left with the other pairs in their order, and the note of refused memory and what waits as they were
   abbrev pub rests_removed : {N : Type 0} {d : guard.Ghosts (MutBor (Contents (K.Denot × V.Denot) S.Denot)) (Contents (K.Denot × V.Denot) S.Denot)} {g : eq.Ghosts K.Denot} {h : hash.Ghosts K.Denot} {b : builder.Ghosts S.Denot T.Denot} {w : hasher.Ghosts T.Denot}
       → Borrowed K V S T key build feed N d g h b w → Option (Borrowed K V S T key build feed N d g h b w) → Fml
-  rests_removed {d = d} o r = RestsIfNone (index_row K V S T key build feed) o.guard (λ p. p.guard.ghost_name) r (λ n. HoldsExactly (d.kept o.guard) (occupied_front o ++ occupied_back o) n × (refused_of n ≡ refused_of (d.kept o.guard)) × IsUnique key.eq n × (waiting_of n ≡ waiting_of (d.kept o.guard)))
+  rests_removed {d = d} o r = RestsIfNone (index_row K V S T key build feed) o.guard (λ p. p.guard.ghost_name) r (λ n. HoldsExactly (d.inner o.guard) (occupied_front o ++ occupied_back o) n × (refused_of n ≡ refused_of (d.inner o.guard)) × IsUnique key.eq n × (waiting_of n ≡ waiting_of (d.inner o.guard)))

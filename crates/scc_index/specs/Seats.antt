@@ -9,33 +9,33 @@ use Rattle.scc_contents.specs.Contents.{Contents}
 use Rattle.scc_stripes.specs.Seats.{seat_stripe, IsLaterSeat, IsSeatIn}
 use Rattle.scc_stripes.specs.declared.seats.Seat.{Seat}
 use Rattle.scc_stripes.specs.declared.Striped.{Striped}
+use Rattle.scc_index.specs.declared.held.HeldOccupied.{HeldOccupied}
 use Rattle.scc_index.specs.declared.held.HeldEntry.{HeldEntry}
-use Rattle.scc_index.specs.declared.held.HeldPlace.{HeldPlace}
-use Rattle.scc_index.specs.declared.held.HeldPlace.TheVariants.{Occupied, Vacant}
+use Rattle.scc_index.specs.declared.held.HeldEntry.TheVariants.{Occupied, Vacant}
 
 module _ {G N K V S T : Type 0} {d : guard.Ghosts G (Contents (K × V) S)} {g : eq.Ghosts K} {h : hash.Ghosts K} {b : builder.Ghosts S T} {w : hasher.Ghosts T} where
   -- what an entry keeps for going on
-  abbrev pub held_rest : HeldEntry G N K V S T d g h b w → N
-  held_rest o = o.rest
+  abbrev pub occupied_rest : HeldOccupied G N K V S T d g h b w → N
+  occupied_rest o = o.rest
 
   -- the same of the entry of a key
-  abbrev pub entry_rest : HeldPlace G N K V S T d g h b w → N
+  abbrev pub entry_rest : HeldEntry G N K V S T d g h b w → N
   entry_rest (Occupied o) = o.rest
   entry_rest (Vacant e) = e.rest
 
   -- p goes on from where o does
-  abbrev pub KeepsRest : HeldEntry G N K V S T d g h b w → HeldEntry G N K V S T d g h b w → Type 0
-  KeepsRest o p = p.rest ≡ o.rest
+  abbrev pub HasSameRest : HeldOccupied G N K V S T d g h b w → HeldOccupied G N K V S T d g h b w → Type 0
+  HasSameRest o p = p.rest ≡ o.rest
 
 module _ {G O H K V S T : Type 0} {d : guard.Ghosts G (Contents (K × V) S)} {g : eq.Ghosts K} {h : hash.Ghosts K} {b : builder.Ghosts S T} {w : hasher.Ghosts T} where
   -- the number of the stripe that an entry holds
-  abbrev pub held_stripe : HeldEntry G (Seat O H) K V S T d g h b w → ℕ
-  held_stripe o = seat_stripe o.rest
+  abbrev pub occupied_stripe : HeldOccupied G (Seat O H) K V S T d g h b w → ℕ
+  occupied_stripe o = seat_stripe o.rest
 
   -- an entry holds one of those stripes
-  abbrev pub HoldsOneOf : Striped O H → HeldEntry G (Seat O H) K V S T d g h b w → Type 0
-  HoldsOneOf stripes o = IsSeatIn stripes (seat_stripe o.rest) o.rest
+  abbrev pub HasSeatIn : Striped O H → HeldOccupied G (Seat O H) K V S T d g h b w → Type 0
+  HasSeatIn stripes o = IsSeatIn stripes (seat_stripe o.rest) o.rest
 
   -- p holds a later stripe than o, among the same stripes
-  abbrev pub HoldsLater : HeldEntry G (Seat O H) K V S T d g h b w → HeldEntry G (Seat O H) K V S T d g h b w → Type 0
-  HoldsLater o p = IsLaterSeat o.rest p.rest
+  abbrev pub HasLaterSeat : HeldOccupied G (Seat O H) K V S T d g h b w → HeldOccupied G (Seat O H) K V S T d g h b w → Type 0
+  HasLaterSeat o p = IsLaterSeat o.rest p.rest

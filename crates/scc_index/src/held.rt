@@ -16,29 +16,29 @@ use std::marker::PhantomData;
 
 /// An entry that the index has, at its place.
 #[derive(Drop)]
-pub struct HeldEntry<G: Guard<Kept = Owned<K, V, H>>, N, K: Eq + Hash, V, H: BuildHasher> {
+pub struct HeldOccupied<G: Guard<Inner = Owned<K, V, H>>, N, K: Eq + Hash, V, H: BuildHasher> {
     pub(crate) guard: G,
     pub(crate) place: Place,
     pub(crate) rest: N,
     pub(crate) of: PhantomData<(K, V, H)>,
-    ghost within: { IsPlace (G.kept guard) place },
+    ghost within: { IsPlace (G.inner guard) place },
 }
 
 /// A key that the index lacks, with its hash.
 #[derive(Drop)]
-pub struct HeldVacant<G: Guard<Kept = Owned<K, V, H>>, N, K: Eq + Hash, V, H: BuildHasher> {
+pub struct HeldVacant<G: Guard<Inner = Owned<K, V, H>>, N, K: Eq + Hash, V, H: BuildHasher> {
     pub(crate) guard: G,
     pub(crate) key: K,
     pub(crate) hash: u64,
     pub(crate) rest: N,
     pub(crate) of: PhantomData<(V, H)>,
-    ghost absent: { find K.eq (entries (G.kept guard)) key ≡ None },
-    ghost hashed: { hash ≡ key_hash H.BuildHasher H.Hasher.Hasher K.hash_input (G.kept guard) key },
+    ghost absent: { find K.eq (entries (G.inner guard)) key ≡ None },
+    ghost hashed: { hash ≡ key_hash H.BuildHasher H.Hasher.Hasher K.hash_input (G.inner guard) key },
 }
 
 /// The entry of a key.
 #[derive(Drop)]
-pub enum HeldPlace<G: Guard<Kept = Owned<K, V, H>>, N, K: Eq + Hash, V, H: BuildHasher> {
-    Occupied(HeldEntry<G, N, K, V, H>),
+pub enum HeldEntry<G: Guard<Inner = Owned<K, V, H>>, N, K: Eq + Hash, V, H: BuildHasher> {
+    Occupied(HeldOccupied<G, N, K, V, H>),
     Vacant(HeldVacant<G, N, K, V, H>),
 }

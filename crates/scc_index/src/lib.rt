@@ -9,7 +9,7 @@ ghost use Rattle.scc_contents.specs.Steps.{IsUnchanged};
 ghost use Rattle.scc_contents.specs.Walks.{CalledOn, CallableWhile, Walks};
 ghost use Rattle.scc_index.specs.ClosureSteps.{RemovesIf};
 ghost use Rattle.scc_index.specs.IndexSteps.{Removes};
-ghost use Rattle.scc_index.specs.Insertions.{InsertsByRule, MakesRoomByRule};
+ghost use Rattle.scc_index.specs.Insertions.{InsertsByRule, PreparesByRule};
 ghost use Rattle.scc_index.specs.Removals.{RemovesByRule};
 ghost use Rattle.std.specs.Arc.{arc_value};
 ghost use Rattle.std.specs.Borrow.{Bor};
@@ -171,7 +171,7 @@ impl<K: Eq + Hash, V, H: BuildHasher> Owned<K, V, H> {
     {
         let hash = self.table.hash(k);
         match self.table.find(hash, k) {
-            Some(shared) => match shared.share() {
+            Some(shared) => match shared.clone_owner() {
                 Ok(version) => Ok(Some(version)),
                 Err(_) => Err(MakeError),
             },
@@ -222,13 +222,13 @@ impl<K: Eq + Hash, V, H: BuildHasher> Owned<K, V, H> {
     /// is noted, and marked: the insertion of `k` that follows doesn't try it again, so that it makes no resize in any
     /// case. A growth that is made takes note and mark away; where none is due, both stay. This fails only where the
     /// first array is refused, and then nothing changes.
-    pub fn make_room(&mut self, k: &K) -> Result<(), MakeError>
-        ensures { MakesRoomByRule K.eq ⟦<H as Hashes<K>>⟧.hash_of self.old k.now result self.new }
+    pub fn prepare(&mut self, k: &K) -> Result<(), MakeError>
+        ensures { PreparesByRule K.eq ⟦<H as Hashes<K>>⟧.hash_of self.old k.now result self.new }
     {
         let hash = self.table.hash(k);
         match self.table.search(hash, k) {
             Some(_) => Ok(()),
-            None => match self.table.make_room(hash) {
+            None => match self.table.prepare(hash) {
                 Ok(()) => Ok(()),
                 Err(_) => Err(MakeError),
             },
@@ -236,15 +236,15 @@ impl<K: Eq + Hash, V, H: BuildHasher> Owned<K, V, H> {
     }
 
     /// Takes the mark of a refused growth away, and changes nothing else: an insertion tries a growth that is due, also
-    /// where `make_room` was refused it.
-    pub fn drop_room(&mut self)
+    /// where `prepare` was refused it.
+    pub fn drop_mark(&mut self)
         ensures same { IsUnchanged self.old self.new }
         ensures lists { lists_of self.new ≡ lists_of self.old }
         ensures waiting { waiting_of self.new ≡ waiting_of self.old }
         ensures noted { refused_of self.new ≡ ((refused_of self.old).0, false) }
         ensures unique { IsUnique K.eq self.new }
     {
-        self.table.drop_room();
+        self.table.drop_mark();
     }
 
     /// Takes out the version whose key equals `k`, and answers whether there was one. Who kept the version keeps it.

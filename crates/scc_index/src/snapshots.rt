@@ -42,7 +42,7 @@ impl<K: Eq + Hash, V, H: BuildHasher> Owned<K, V, H> {
     {
         let mut at = self.table.first_place();
         while let Some(place) = at {
-            let Ok(version) = self.table.entry_at(place).share() else {
+            let Ok(version) = self.table.entry_at(place).clone_owner() else {
                 return Err(MakeError);
             };
             match versions.push(version) {

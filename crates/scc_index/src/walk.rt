@@ -39,7 +39,7 @@ impl<K: Eq + Hash, V, H: BuildHasher> Owned<K, V, H> {
     {
         let mut at = self.table.first_place();
         while let Some(place) = at {
-            at = self.take_and_step(place);
+            at = self.take_with_next(place);
         }
     }
 
@@ -99,7 +99,7 @@ impl<K: Eq + Hash, V, H: BuildHasher> Owned<K, V, H> {
             if f(key, value) {
                 at = self.next_place(place);
             } else {
-                at = self.take_and_step(place);
+                at = self.take_with_next(place);
             }
         }
     }
@@ -121,7 +121,7 @@ impl<K: Eq + Hash, V, H: BuildHasher> Owned<K, V, H> {
     }
 
     /// Takes the version out of its place, with no resize, and answers the place of the one that followed.
-    pub(crate) fn take_and_step(&mut self, place: Place) -> Option<Place>
+    pub(crate) fn take_with_next(&mut self, place: Place) -> Option<Place>
     where
         K: Drop,
         V: Drop,
@@ -133,7 +133,7 @@ impl<K: Eq + Hash, V, H: BuildHasher> Owned<K, V, H> {
             (StandsAt self.new (index_of self.old place)) }
         ensures unique { IsUnique K.eq self.new }
     {
-        let (_version, next) = self.table.take_and_step(place);
+        let (_version, next) = self.table.take_with_next(place);
         next
     }
 

@@ -16,8 +16,8 @@ use Rattle.std.specs.declared.hash.Hasher as hasher
 use Rattle.std.specs.declared.hash.BuildHasher as builder
 use Rattle.scc_common.specs.declared.guard.Guard as guard
 use Rattle.scc_map.specs.Entries.{Occupied, Vacant, occupied_pair, IsOccupiedAt, IsVacantAt, IsEntryOf, IsWritten, IsInserted, OrInserts, Modifies}
+use Rattle.scc_map.specs.declared.held.HeldOccupied.{HeldOccupied}
 use Rattle.scc_map.specs.declared.held.HeldEntry.{HeldEntry}
-use Rattle.scc_map.specs.declared.held.HeldPlace.{HeldPlace}
 use Rattle.scc_map.specs.declared.held.HeldVacant.{HeldVacant}
 use Rattle.scc_map.specs.MapSteps.{Removes}
 use Rattle.scc_map.proofs.Entries.{occupied-by}
@@ -140,22 +140,22 @@ module _ {K V : Type 0} {eq : K → K → Bool} (laws : IsEquivalence eq) where
 
 module _ {G N K V S T : Type 0} {keep : guard.Ghosts G (Contents (K × V) S)} {g : equality.Ghosts K} {h : hash.Ghosts K} {b : builder.Ghosts S T} {w : hasher.Ghosts T} {eq : K → K → Bool} (laws : IsEquivalence eq) (c : Contents (K × V) S) (k : K) where
   -- what look-ups find once an occupied entry was written
-  pub finds-written : (o d : HeldEntry G N K V S T keep g h b w) (v : V) → IsOccupiedAt eq c k o → IsWritten o v d → FindsInstead eq (entries c) k (Some ((occupied_pair o).0, v)) (entries (keep.kept d.guard))
+  pub finds-written : (o d : HeldOccupied G N K V S T keep g h b w) (v : V) → IsOccupiedAt eq c k o → IsWritten o v d → FindsInstead eq (entries c) k (Some ((occupied_pair o).0, v)) (entries (keep.inner d.guard))
   finds-written o d v at written = record {
     finds = λ q.
         ap (λ es. find eq es q) (written.at.contents.exact ∙ at.writes v) ∙ find-written laws (entries c) k q (occupied_pair o) v at.found;
   }
 
   -- what they find once a value was put in through a vacant one
-  pub finds-put : (e : HeldVacant G N K V S T keep g h b w) (o : HeldEntry G N K V S T keep g h b w) (v : V) → IsVacantAt eq c k e → IsInserted e v o → IsUnique eq (keep.kept o.guard) → FindsInstead eq (entries c) k (Some (k, v)) (entries (keep.kept o.guard))
+  pub finds-put : (e : HeldVacant G N K V S T keep g h b w) (o : HeldOccupied G N K V S T keep g h b w) (v : V) → IsVacantAt eq c k e → IsInserted e v o → IsUnique eq (keep.inner o.guard) → FindsInstead eq (entries c) k (Some (k, v)) (entries (keep.inner o.guard))
   finds-put e o v at put u = record {
     finds = λ q.
-        (finds-inserted laws (keep.kept e.guard) (keep.kept o.guard) (e.key, v) put.at.contents u).finds q
+        (finds-inserted laws (keep.inner e.guard) (keep.inner o.guard) (e.key, v) put.at.contents u).finds q
         ∙ (λ i. cond (eq q (at.key i)) (Some (at.key i, v)) (find eq (entries (at.contents i)) q));
   }
 
   -- what they find of an occupied entry that was let go
-  finds-held : (o : HeldEntry G N K V S T keep g h b w) → IsOccupiedAt eq c k o → FindsInstead eq (entries c) k (Some (occupied_pair o)) (entries (keep.kept o.guard))
+  finds-held : (o : HeldOccupied G N K V S T keep g h b w) → IsOccupiedAt eq c k o → FindsInstead eq (entries c) k (Some (occupied_pair o)) (entries (keep.inner o.guard))
   finds-held o at = record {
     finds = λ q. ap (λ d. find eq (entries d) q) at.contents ∙ by_answer (eq q k)
         (λ y. find-equal laws (entries c) q k y ∙ at.found ∙ sym (cond-true (Some (occupied_pair o)) (find eq (entries c) q) y))
@@ -163,24 +163,24 @@ module _ {G N K V S T : Type 0} {keep : guard.Ghosts G (Contents (K × V) S)} {g
   }
 
   -- what they find after `or_insert`: the pair of its entry
-  pub finds-or_insert : (e : HeldPlace G N K V S T keep g h b w) (v : V) (o : HeldEntry G N K V S T keep g h b w) → IsEntryOf eq c k e → OrInserts e v o → IsUnique eq (keep.kept o.guard) → FindsInstead eq (entries c) k (Some (occupied_pair o)) (entries (keep.kept o.guard))
-  finds-or_insert (Occupied p) v o at is u = subst (λ q. FindsInstead eq (entries c) k (Some (occupied_pair q)) (entries (keep.kept q.guard))) (sym is) (finds-held p at)
-  finds-or_insert (Vacant e) v o at is u = subst (λ q. FindsInstead eq (entries c) k (Some q) (entries (keep.kept o.guard))) (ap (λ x. (x, v)) (sym at.key) ∙ sym is.at.here) (finds-put e o v at is u)
+  pub finds-or_insert : (e : HeldEntry G N K V S T keep g h b w) (v : V) (o : HeldOccupied G N K V S T keep g h b w) → IsEntryOf eq c k e → OrInserts e v o → IsUnique eq (keep.inner o.guard) → FindsInstead eq (entries c) k (Some (occupied_pair o)) (entries (keep.inner o.guard))
+  finds-or_insert (Occupied p) v o at is u = subst (λ q. FindsInstead eq (entries c) k (Some (occupied_pair q)) (entries (keep.inner q.guard))) (sym is) (finds-held p at)
+  finds-or_insert (Vacant e) v o at is u = subst (λ q. FindsInstead eq (entries c) k (Some q) (entries (keep.inner o.guard))) (ap (λ x. (x, v)) (sym at.key) ∙ sym is.at.here) (finds-put e o v at is u)
 
   module _ {F : Type 0} (f : Once F (MutBor V × Unit {0}) (Unit {0} × (MutBor V × Unit {0}))) (x : F) where
     -- the pair of the entry after `and_modify` and `or_insert`
-    abbrev pub ModifiedOr : HeldPlace G N K V S T keep g h b w → V → K × V → Type 0
+    abbrev pub ModifiedOr : HeldEntry G N K V S T keep g h b w → V → K × V → Type 0
     ModifiedOr (Occupied p) v q = (q.0 ≡ (occupied_pair p).0) × FnOnceReturnsAtMut f x (occupied_pair p).1 tt q.1
     ModifiedOr (Vacant e) v q = q ≡ (k, v)
 
     -- what look-ups find after `and_modify` and `or_insert`: the pair of the entry
-    pub finds-modify_or_insert : (e e2 : HeldPlace G N K V S T keep g h b w) (v : V) (o : HeldEntry G N K V S T keep g h b w) → IsEntryOf eq c k e → Modifies f x e e2 → OrInserts e2 v o → IsUnique eq (keep.kept o.guard)
-        → ModifiedOr e v (occupied_pair o) × FindsInstead eq (entries c) k (Some (occupied_pair o)) (entries (keep.kept o.guard))
+    pub finds-modify_or_insert : (e e2 : HeldEntry G N K V S T keep g h b w) (v : V) (o : HeldOccupied G N K V S T keep g h b w) → IsEntryOf eq c k e → Modifies f x e e2 → OrInserts e2 v o → IsUnique eq (keep.inner o.guard)
+        → ModifiedOr e v (occupied_pair o) × FindsInstead eq (entries c) k (Some (occupied_pair o)) (entries (keep.inner o.guard))
     finds-modify_or_insert (Occupied p) (Occupied d) v o at is ins u =
         let pair : occupied_pair o ≡ ((occupied_pair p).0, is.0) = ap (λ q. occupied_pair q) ins ∙ is.2.at.here in (
           rw pair (refl, is.1),
-          subst (λ q. FindsInstead eq (entries c) k (Some (occupied_pair q)) (entries (keep.kept q.guard))) (sym ins)
-              (subst (λ q. FindsInstead eq (entries c) k (Some q) (entries (keep.kept d.guard))) (sym is.2.at.here) (finds-written p d is.0 at is.2)),
+          subst (λ q. FindsInstead eq (entries c) k (Some (occupied_pair q)) (entries (keep.inner q.guard))) (sym ins)
+              (subst (λ q. FindsInstead eq (entries c) k (Some q) (entries (keep.inner d.guard))) (sym is.2.at.here) (finds-written p d is.0 at is.2)),
         )
     finds-modify_or_insert (Vacant e) (Vacant d) v o at is ins u =
         let through : IsInserted e v o = subst (λ z. IsInserted z v o) is ins in
@@ -194,7 +194,7 @@ find-rearranged laws xs ys q same u = find-IsPermutation laws xs ys q same u
 
 module _ {G N K V S T : Type 0} {keep : guard.Ghosts G (Contents (K × V) S)} {g : equality.Ghosts K} {h : hash.Ghosts K} {b : builder.Ghosts S T} {w : hasher.Ghosts T} {eq : K → K → Bool} (laws : IsEquivalence eq) where
   -- an entry is that of its own key, whichever call it came from
-  pub occupied-of-unique : (o : HeldEntry G N K V S T keep g h b w) → IsUnique eq (keep.kept o.guard) → IsOccupiedAt eq (keep.kept o.guard) (occupied_pair o).0 o
+  pub occupied-of-unique : (o : HeldOccupied G N K V S T keep g h b w) → IsUnique eq (keep.inner o.guard) → IsOccupiedAt eq (keep.inner o.guard) (occupied_pair o).0 o
   occupied-of-unique o u =
-      let c : Contents (K × V) S = keep.kept o.guard in
+      let c : Contents (K × V) S = keep.inner o.guard in
       occupied-by laws (occupied_pair o).0 o u (found-place laws (occupied_pair o).0 (entries c) (index_of c o.place) (occupied_pair o) u (entry_of-get c o.place o.within) (laws.refl (occupied_pair o).0))

@@ -22,8 +22,8 @@ use Rattle.scc_buckets.proofs.PairWrites.{IsPlaceOf}
 use Rattle.scc_table.proofs.AtPlaces.{place-prop, entry_of-is, written-there, put-there}
 use Rattle.scc_table.proofs.Relocations.{waiting-write}
 use Rattle.scc_map.specs.Entries.{Occupied, Vacant, Memory, entry_key, occupied_pair, IsOccupiedAt, IsWritten, IsInserted, OrInserts, OrInsertsSome, written_map, still_within, with_value}
+use Rattle.scc_map.specs.declared.held.HeldOccupied.{HeldOccupied}
 use Rattle.scc_map.specs.declared.held.HeldEntry.{HeldEntry}
-use Rattle.scc_map.specs.declared.held.HeldPlace.{HeldPlace}
 use Rattle.scc_map.specs.declared.held.HeldVacant.{HeldVacant}
 
 -- the same buckets wait once a value was written
@@ -32,15 +32,15 @@ waiting-put m p v n made = ap waiting_of made ∙ waiting-write with_pair_value 
 
 module _ {G N K V S T : Type 0} {d : guard.Ghosts G (Contents (K × V) S)} {g : eq.Ghosts K} {h : hash.Ghosts K} {b : builder.Ghosts S T} {w : hasher.Ghosts T} where
   -- what the guard showed at the place is the pair
-  pub pair-is : (o : HeldEntry G N K V S T d g h b w) (m : Contents (K × V) S) (p : K × V) → m ≡ d.kept o.guard → slice_get (entries m) (index_of m o.place) ≡ Some p → p ≡ occupied_pair o
-  pair-is o m p is got = sym (entry_of-is (d.kept o.guard) o.place o.within p (subst (λ (c : Contents (K × V) S). slice_get (entries c) (index_of c o.place) ≡ Some p) is got))
+  pub pair-is : (o : HeldOccupied G N K V S T d g h b w) (m : Contents (K × V) S) (p : K × V) → m ≡ d.inner o.guard → slice_get (entries m) (index_of m o.place) ≡ Some p → p ≡ occupied_pair o
+  pair-is o m p is got = sym (entry_of-is (d.inner o.guard) o.place o.within p (subst (λ (c : Contents (K × V) S). slice_get (entries c) (index_of c o.place) ≡ Some p) is got))
 
   -- an entry at the place of a key is that of the key
-  pub occupied-by : {same : K → K → Bool} (laws : IsEquivalence same) (k : K) (o : HeldEntry G N K V S T d g h b w) → IsDistinct same (keys_of (entries (d.kept o.guard))) → IsPlaceOf same (entries (d.kept o.guard)) k (index_of (d.kept o.guard) o.place)
-      → IsOccupiedAt same (d.kept o.guard) k o
+  pub occupied-by : {same : K → K → Bool} (laws : IsEquivalence same) (k : K) (o : HeldOccupied G N K V S T d g h b w) → IsDistinct same (keys_of (entries (d.inner o.guard))) → IsPlaceOf same (entries (d.inner o.guard)) k (index_of (d.inner o.guard) o.place)
+      → IsOccupiedAt same (d.inner o.guard) k o
   unfolding spots.front_of_spot spots.back_of_spot
   occupied-by {same = same} laws k o u f =
-      let c : Contents (K × V) S = d.kept o.guard in
+      let c : Contents (K × V) S = d.inner o.guard in
       let e : occupied_pair o ≡ f.0 = entry_of-is c o.place o.within f.0 f.1 in
       record {
         contents = refl;
@@ -51,72 +51,72 @@ module _ {G N K V S T : Type 0} {d : guard.Ghosts G (Contents (K × V) S)} {g : 
       }
 
   -- the entry that a search found is that of the key
-  pub occupied-at : {same : K → K → Bool} (laws : IsEquivalence same) (k : K) (o : HeldEntry G N K V S T d g h b w) → IsDistinct same (keys_of (entries (d.kept o.guard))) → IsFoundAt (λ e. same k e.0) (d.kept o.guard) o.place
-      → IsOccupiedAt same (d.kept o.guard) k o
-  occupied-at {same = same} laws k o u found = occupied-by laws k o u (place-found same (d.kept o.guard) k o.place found)
+  pub occupied-at : {same : K → K → Bool} (laws : IsEquivalence same) (k : K) (o : HeldOccupied G N K V S T d g h b w) → IsDistinct same (keys_of (entries (d.inner o.guard))) → IsFoundAt (λ e. same k e.0) (d.inner o.guard) o.place
+      → IsOccupiedAt same (d.inner o.guard) k o
+  occupied-at {same = same} laws k o u found = occupied-by laws k o u (place-found same (d.inner o.guard) k o.place found)
 
   -- the place is one in what the guard then keeps
-  pub within-written : (o : HeldEntry G N K V S T d g h b w) (m : Contents (K × V) S) (v : V) → m ≡ d.kept o.guard → IsPlace (d.kept (d.keeping o.guard (with_write_at with_pair_value m o.place v))) o.place
-  within-written o m v is = subst (λ c. IsPlace (d.kept (d.keeping o.guard (with_write_at with_pair_value c o.place v))) o.place) (sym is) (still_within o v)
+  pub within-written : (o : HeldOccupied G N K V S T d g h b w) (m : Contents (K × V) S) (v : V) → m ≡ d.inner o.guard → IsPlace (d.inner (d.with_inner o.guard (with_write_at with_pair_value m o.place v))) o.place
+  within-written o m v is = subst (λ c. IsPlace (d.inner (d.with_inner o.guard (with_write_at with_pair_value c o.place v))) o.place) (sym is) (still_within o v)
 
   -- the entry is the same by whatever proof that its place is one
-  pub written-same : (o : HeldEntry G N K V S T d g h b w) (m : Contents (K × V) S) (v : V) → (is : m ≡ d.kept o.guard) → (p : IsPlace (d.kept (d.keeping o.guard (with_write_at with_pair_value m o.place v))) o.place)
-      → record { guard = d.keeping o.guard (with_write_at with_pair_value m o.place v); place = o.place; rest = o.rest; of = o.of; within = p } ≡ with_value o v
+  pub written-same : (o : HeldOccupied G N K V S T d g h b w) (m : Contents (K × V) S) (v : V) → (is : m ≡ d.inner o.guard) → (p : IsPlace (d.inner (d.with_inner o.guard (with_write_at with_pair_value m o.place v))) o.place)
+      → record { guard = d.with_inner o.guard (with_write_at with_pair_value m o.place v); place = o.place; rest = o.rest; of = o.of; within = p } ≡ with_value o v
   written-same o m v is =
-      let Written : Contents (K × V) S → Type 0 = λ c. (p : IsPlace (d.kept (d.keeping o.guard (with_write_at with_pair_value c o.place v))) o.place) → record { guard = d.keeping o.guard (with_write_at with_pair_value c o.place v); place = o.place; rest = o.rest; of = o.of; within = p } ≡ with_value o v in
+      let Written : Contents (K × V) S → Type 0 = λ c. (p : IsPlace (d.inner (d.with_inner o.guard (with_write_at with_pair_value c o.place v))) o.place) → record { guard = d.with_inner o.guard (with_write_at with_pair_value c o.place v); place = o.place; rest = o.rest; of = o.of; within = p } ≡ with_value o v in
       subst Written (sym is) (λ p. ap (λ r. record (with_value o v) { within = r }) (place-prop _ _ p (still_within o v)))
 
-  pub within-after : (o : HeldEntry G N K V S T d g h b w) (m n : Contents (K × V) S) (v : V) → m ≡ d.kept o.guard → n ≡ with_write_at with_pair_value m o.place v → IsPlace (d.kept (d.keeping o.guard n)) o.place
-  within-after o m n v is made = subst (λ c. IsPlace (d.kept (d.keeping o.guard c)) o.place) (sym made) (within-written o m v is)
+  pub within-after : (o : HeldOccupied G N K V S T d g h b w) (m n : Contents (K × V) S) (v : V) → m ≡ d.inner o.guard → n ≡ with_write_at with_pair_value m o.place v → IsPlace (d.inner (d.with_inner o.guard n)) o.place
+  within-after o m n v is made = subst (λ c. IsPlace (d.inner (d.with_inner o.guard c)) o.place) (sym made) (within-written o m v is)
 
   -- what was written through the guard is written in the entry
-  pub written-after : (o : HeldEntry G N K V S T d g h b w) (m n : Contents (K × V) S) (v : V) → m ≡ d.kept o.guard → n ≡ with_write_at with_pair_value m o.place v → (p : IsPlace (d.kept (d.keeping o.guard n)) o.place)
-      → IsWritten o v (record { guard = d.keeping o.guard n; place = o.place; rest = o.rest; of = o.of; within = p })
+  pub written-after : (o : HeldOccupied G N K V S T d g h b w) (m n : Contents (K × V) S) (v : V) → m ≡ d.inner o.guard → n ≡ with_write_at with_pair_value m o.place v → (p : IsPlace (d.inner (d.with_inner o.guard n)) o.place)
+      → IsWritten o v (record { guard = d.with_inner o.guard n; place = o.place; rest = o.rest; of = o.of; within = p })
   written-after o m n v is made p = record {
-    same_guard = ap (d.keeping o.guard) (sym (d.keeps o.guard n));
+    same_guard = ap (d.with_inner o.guard) (sym (d.inner_law o.guard n));
     rest = refl;
-    at = written-there with_pair_value (d.kept o.guard) o.place o.within v (d.kept (d.keeping o.guard n)) p (d.keeps o.guard n ∙ made ∙ ap (λ c. with_write_at with_pair_value c o.place v) is);
+    at = written-there with_pair_value (d.inner o.guard) o.place o.within v (d.inner (d.with_inner o.guard n)) p (d.inner_law o.guard n ∙ made ∙ ap (λ c. with_write_at with_pair_value c o.place v) is);
   }
 
-  pub written-with : (o : HeldEntry G N K V S T d g h b w) (v : V) → IsWritten o v (with_value o v)
-  written-with o v = written-after o (d.kept o.guard) (written_map o v) v refl refl (still_within o v)
+  pub written-with : (o : HeldOccupied G N K V S T d g h b w) (v : V) → IsWritten o v (with_value o v)
+  written-with o v = written-after o (d.inner o.guard) (written_map o v) v refl refl (still_within o v)
 
   -- the same buckets wait in what a guard keeps once a value was written
-  pub waiting-after : (o : HeldEntry G N K V S T d g h b w) (m n : Contents (K × V) S) (v : V) → m ≡ d.kept o.guard → n ≡ with_write_at with_pair_value m o.place v → waiting_of (d.kept (d.keeping o.guard n)) ≡ waiting_of (d.kept o.guard)
-  waiting-after o m n v is made = ap waiting_of (d.keeps o.guard n ∙ made) ∙ waiting-write with_pair_value m o.place v ∙ ap waiting_of is
+  pub waiting-after : (o : HeldOccupied G N K V S T d g h b w) (m n : Contents (K × V) S) (v : V) → m ≡ d.inner o.guard → n ≡ with_write_at with_pair_value m o.place v → waiting_of (d.inner (d.with_inner o.guard n)) ≡ waiting_of (d.inner o.guard)
+  waiting-after o m n v is made = ap waiting_of (d.inner_law o.guard n ∙ made) ∙ waiting-write with_pair_value m o.place v ∙ ap waiting_of is
 
   -- what was put in through the guard stands at the entry
-  pub inserted-after : (e : HeldVacant G N K V S T d g h b w) (m n : Contents (K × V) S) (v : V) (o : HeldEntry G N K V S T d g h b w) → o.guard ≡ d.keeping e.guard n → o.rest ≡ e.rest → m ≡ d.kept e.guard → IsInsertedAt m (e.key, v) n o.place → IsInserted e v o
+  pub inserted-after : (e : HeldVacant G N K V S T d g h b w) (m n : Contents (K × V) S) (v : V) (o : HeldOccupied G N K V S T d g h b w) → o.guard ≡ d.with_inner e.guard n → o.rest ≡ e.rest → m ≡ d.inner e.guard → IsInsertedAt m (e.key, v) n o.place → IsInserted e v o
   inserted-after e m n v o guarded rests is i =
-      let k : d.kept o.guard ≡ n = ap d.kept guarded ∙ d.keeps e.guard n in
+      let k : d.inner o.guard ≡ n = ap d.inner guarded ∙ d.inner_law e.guard n in
       record {
-        same_guard = guarded ∙ ap (d.keeping e.guard) (sym k);
+        same_guard = guarded ∙ ap (d.with_inner e.guard) (sym k);
         rest = rests;
-        at = put-there (d.kept e.guard) (e.key, v) (d.kept o.guard) o.place o.within (subst (λ c. IsInsertedAt c (e.key, v) (d.kept o.guard) o.place) is (subst (λ c. IsInsertedAt m (e.key, v) c o.place) (sym k) i));
+        at = put-there (d.inner e.guard) (e.key, v) (d.inner o.guard) o.place o.within (subst (λ c. IsInsertedAt c (e.key, v) (d.inner o.guard) o.place) is (subst (λ c. IsInsertedAt m (e.key, v) c o.place) (sym k) i));
       }
 
   -- an entry that is made anew of its parts
-  pub same-entry : (o : HeldEntry G N K V S T d g h b w) (p : IsPlace (d.kept o.guard) o.place) → record o { within = p } ≡ o
-  same-entry o p = ap (λ r. record o { within = r }) (place-prop (d.kept o.guard) o.place p o.within)
+  pub same-entry : (o : HeldOccupied G N K V S T d g h b w) (p : IsPlace (d.inner o.guard) o.place) → record o { within = p } ≡ o
+  same-entry o p = ap (λ r. record o { within = r }) (place-prop (d.inner o.guard) o.place p o.within)
 
   -- what an insertion put in, said with a weaker word
-  pub inserts-some : {X : Type 0} {P Q : K → V → Type 0} (e : HeldPlace G N K V S T d g h b w) (r : Result (HeldEntry G N K V S T d g h b w) X) → IfOk r (OrInsertsSome e P) → ((k : K) (v : V) → P k v → Q k v) → IfOk r (OrInsertsSome e Q)
+  pub inserts-some : {X : Type 0} {P Q : K → V → Type 0} (e : HeldEntry G N K V S T d g h b w) (r : Result (HeldOccupied G N K V S T d g h b w) X) → IfOk r (OrInsertsSome e P) → ((k : K) (v : V) → P k v → Q k v) → IfOk r (OrInsertsSome e Q)
   inserts-some (Occupied p) (Ok o) i f = i
   inserts-some (Vacant e) (Ok o) i f = (i.0, f e.key i.0 i.1, i.2)
   inserts-some e (Err x) i f = tt
 
   -- and where one value alone may be put in
-  pub inserts-this : {X : Type 0} {P : K → V → Type 0} {x : V} (e : HeldPlace G N K V S T d g h b w) (r : Result (HeldEntry G N K V S T d g h b w) X) → IfOk r (OrInsertsSome e P) → ((k : K) (v : V) → P k v → v ≡ x) → IfOk r (OrInserts e x)
+  pub inserts-this : {X : Type 0} {P : K → V → Type 0} {x : V} (e : HeldEntry G N K V S T d g h b w) (r : Result (HeldOccupied G N K V S T d g h b w) X) → IfOk r (OrInsertsSome e P) → ((k : K) (v : V) → P k v → v ≡ x) → IfOk r (OrInserts e x)
   inserts-this (Occupied p) (Ok o) i f = i
   inserts-this (Vacant e) (Ok o) i f = subst (λ v. IsInserted e v o) (f e.key i.0 i.1) i.2
   inserts-this e (Err x) i f = tt
 
   -- the same of what a refusal gives back
-  pub refuses-some : {A : Type 0} {P Q : V → Type 0} (e : HeldPlace G N K V S T d g h b w) (r : Result A (InsertError K V)) → IfErr r (λ y. (v : V) × P v × (y ≡ Memory (entry_key e, v))) → ((v : V) → P v → Q v) → IfErr r (λ y. (v : V) × Q v × (y ≡ Memory (entry_key e, v)))
+  pub refuses-some : {A : Type 0} {P Q : V → Type 0} (e : HeldEntry G N K V S T d g h b w) (r : Result A (InsertError K V)) → IfErr r (λ y. (v : V) × P v × (y ≡ Memory (entry_key e, v))) → ((v : V) → P v → Q v) → IfErr r (λ y. (v : V) × Q v × (y ≡ Memory (entry_key e, v)))
   refuses-some e (Ok a) i f = tt
   refuses-some e (Err y) i f = (i.0, f i.0 i.1, i.2)
 
-  pub refuses-this : {A : Type 0} {P : V → Type 0} {x : V} (e : HeldPlace G N K V S T d g h b w) (r : Result A (InsertError K V)) → IfErr r (λ y. (v : V) × P v × (y ≡ Memory (entry_key e, v))) → ((v : V) → P v → v ≡ x) → IfErr r (λ y. y ≡ Memory (entry_key e, x))
+  pub refuses-this : {A : Type 0} {P : V → Type 0} {x : V} (e : HeldEntry G N K V S T d g h b w) (r : Result A (InsertError K V)) → IfErr r (λ y. (v : V) × P v × (y ≡ Memory (entry_key e, v))) → ((v : V) → P v → v ≡ x) → IfErr r (λ y. y ≡ Memory (entry_key e, x))
   refuses-this e (Ok a) i f = tt
   refuses-this e (Err y) i f = subst (λ v. y ≡ Memory (entry_key e, v)) (f i.0 i.1) i.2
 

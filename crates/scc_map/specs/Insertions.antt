@@ -3,9 +3,9 @@ use Rattle.std.specs.Prelude.{◌≡◌, ◌⊎◌, ℕ, Bool, true, None, Optio
 use Rattle.std.specs.Result.{OnOk, OnErr}
 use Rattle.scc_contents.specs.Contents.{Contents, entries, bucket_count, settings_of, refused_of, waiting_of}
 use Rattle.scc_contents.specs.Pairs.{find, FindsInstead, HasRoom, IsUnique}
-use Rattle.scc_contents.specs.Steps.{FirstArrayWhenDue, Grows, GrowsFor, GrowsWhenDue, IsReadyFor, MakesRoom, Rests}
+use Rattle.scc_contents.specs.Steps.{FirstArrayWhenDue, Grows, GrowsForInsertion, GrowsWhenDue, IsPreparedFor, Prepares, Rests}
 use Rattle.scc_buckets.specs.declared.place.Place.{Place}
-use Rattle.scc_table.specs.Marks.{MarksRoom}
+use Rattle.scc_table.specs.Marks.{MarksPreparation}
 use Rattle.scc_table.specs.Places.{IsInsertedAt}
 use Rattle.scc_table.specs.Relocations.{Relocates, RelocatesTwo}
 use Rattle.scc_map.specs.MapSteps.{Inserts, Upserts}
@@ -27,7 +27,7 @@ module _ {K V S : Type 0} (eq : K → K → Bool) (hash_of : S → K → ℕ) wh
     -- it stays where the key is new and its bucket has room
     pub kept : find eq (entries c) p.0 ≡ None → HasRoom (hash_of (settings_of c).hasher) c p.0 → bucket_count d ≡ bucket_count c
     -- and where room was made before
-    pub once : IsReadyFor (hash_of (settings_of c).hasher) (λ x. x.0) c p.0 → bucket_count d ≡ bucket_count c
+    pub once : IsPreparedFor (hash_of (settings_of c).hasher) (λ x. x.0) c p.0 → bucket_count d ≡ bucket_count c
     -- it is doubled where the key is new and a growth is due, unless memory for that was refused
     pub due : find eq (entries c) p.0 ≡ None → GrowsWhenDue (hash_of (settings_of c).hasher) (λ x. x.0) c p.0 d
     -- the first array has the size of the minimum
@@ -58,7 +58,7 @@ module _ {K V S : Type 0} (eq : K → K → Bool) (hash_of : S → K → ℕ) wh
     -- it stays where the key is new and its bucket has room
     pub kept : find eq (entries c) p.0 ≡ None → HasRoom (hash_of (settings_of c).hasher) c p.0 → bucket_count d ≡ bucket_count c
     -- and where room was made before
-    pub once : IsReadyFor (hash_of (settings_of c).hasher) (λ x. x.0) c p.0 → bucket_count d ≡ bucket_count c
+    pub once : IsPreparedFor (hash_of (settings_of c).hasher) (λ x. x.0) c p.0 → bucket_count d ≡ bucket_count c
     -- it is doubled where the key is new and a growth is due, unless memory for that was refused
     pub due : find eq (entries c) p.0 ≡ None → GrowsWhenDue (hash_of (settings_of c).hasher) (λ x. x.0) c p.0 d
     -- the first array has the size of the minimum
@@ -85,7 +85,7 @@ module _ {K V S : Type 0} (eq : K → K → Bool) (hash_of : S → K → ℕ) wh
     -- it is refused only where the key's bucket has no room
     pub full : OnErr result (HasRoom (hash_of (settings_of c).hasher) c p.0 → ⊥)
     -- the array grows as an insertion of the key may and has to
-    pub grows : GrowsFor (hash_of (settings_of c).hasher) (λ q. q.0) c p.0 d
+    pub grows : GrowsForInsertion (hash_of (settings_of c).hasher) (λ q. q.0) c p.0 d
     -- the first array has the size of the minimum
     pub first : OnOk result (FirstArrayWhenDue c d)
     -- two buckets at most are relocated
@@ -95,14 +95,14 @@ module _ {K V S : Type 0} (eq : K → K → Bool) (hash_of : S → K → ℕ) wh
     -- no two keys are equal
     pub unique : IsUnique eq d
 
-  -- what `make_room` for the key k, answered so, does to the array
-  pub record MakesRoomByRule {R : Type 0} (c : Contents (K × V) S) (k : K) (result : Result (Unit {0}) R) (d : Contents (K × V) S) : Type 0 where
+  -- what `prepare` for the key k, answered so, does to the array
+  pub record PreparesByRule {R : Type 0} (c : Contents (K × V) S) (k : K) (result : Result (Unit {0}) R) (d : Contents (K × V) S) : Type 0 where
     -- a key that is there wants nothing
     pub present : IsSome (find eq (entries c) k) → IsOk result × (d ≡ c)
     -- for a new key all is made that its insertion wants
-    pub ok : find eq (entries c) k ≡ None → OnOk result (MakesRoom (hash_of (settings_of c).hasher) (λ p. p.0) c (hash_of (settings_of c).hasher k) d)
+    pub ok : find eq (entries c) k ≡ None → OnOk result (Prepares (hash_of (settings_of c).hasher) (λ p. p.0) c (hash_of (settings_of c).hasher k) d)
     -- what becomes of the note of refused memory and of the mark of a growth that was tried
-    pub marks : find eq (entries c) k ≡ None → MarksRoom (hash_of (settings_of c).hasher) (λ p. p.0) c (hash_of (settings_of c).hasher k) d
+    pub marks : find eq (entries c) k ≡ None → MarksPreparation (hash_of (settings_of c).hasher) (λ p. p.0) c (hash_of (settings_of c).hasher k) d
     -- a growth is marked as tried only where it was before, or where refused memory is noted
     pub marked : (refused_of d).1 ≡ true → ((refused_of c).1 ≡ true) ⊎ ((refused_of d).0 ≡ true)
     -- it is refused only for a new key where there is no array

@@ -3,7 +3,7 @@ use Rattle.std.specs.Prelude.{◌≡◌, ℕ, ◌+◌, ◌^◌, ◌<◌, ◌≤�
 use Rattle.std.specs.Result.{OnOk, OnErr}
 use Rattle.scc_contents.specs.Contents.{Contents, settings_of, minimum_of, refused_of, waiting_of}
 use Rattle.scc_contents.specs.Steps.{IsUnchanged, ReachesMinimumWhenDue, Releases, Reserves, ShrinksWhenDue}
-use Rattle.scc_table.specs.Relocates.{IsGrowthDue, IsShrinkDue, Spreads}
+use Rattle.scc_table.specs.Relocates.{IsBelowMinimum, IsShrinkDue, Spreads}
 
 module _ {E S : Type 0} where
   -- a reservation of n slots: the token stands for n; it is refused where n is 0 or the minimum would pass the greatest capacity
@@ -28,7 +28,7 @@ module _ {E S : Type 0} (Distinct : Contents E S → Type 0) where
     -- the note of refused memory stays where there is no token
     pub noted : IfNone result (refused_of d ≡ refused_of c)
     -- where the array grew all buckets wait; else some of those that waited
-    pub spreads : OnSome result (Spreads (IsGrowthDue (minimum_of d) c) c d)
+    pub spreads : OnSome result (Spreads (IsBelowMinimum (minimum_of d) c) c d)
     -- the same buckets wait where there is no token
     pub waiting : IfNone result (waiting_of d ≡ waiting_of c)
     -- no two keys are equal

@@ -24,8 +24,8 @@ module _ {E S : Type 0} (Distinct : Contents E S → Type 0) where
     -- no two keys are equal
     pub unique : Distinct d
 
-  -- what `take_and_step` at a place, which answers a pair and the next place, does
-  pub record TakesAndStepsByRule (c : Contents E S) (place : Place) (result : E × Option Place) (d : Contents E S) : Type 0 where
+  -- what `take_with_next` at a place, which answers a pair and the next place, does
+  pub record TakesWithNextByRule (c : Contents E S) (place : Place) (result : E × Option Place) (d : Contents E S) : Type 0 where
     -- the answer is the pair that stood there
     pub pair : slice_get (entries c) (index_of c place) ≡ Some result.0
     -- the others stay in their order

@@ -5,11 +5,11 @@ mod methods;
 mod walk;
 
 use crate::Owned;
-use crate::held::{HeldEntry, HeldPlace, HeldReplace, HeldVacant};
+use crate::held::{HeldEntry, HeldOccupied, HeldReplace, HeldVacant};
 use std::hash::{BuildHasherDefault, FoldHasher};
 
 /// The entry of a key. While it is held, the map is borrowed.
-pub type Entry<'a, K, V, H = BuildHasherDefault<FoldHasher>> = HeldPlace<
+pub type Entry<'a, K, V, H = BuildHasherDefault<FoldHasher>> = HeldEntry<
     &'a mut Owned<K, V, H>,
     (),
     K,
@@ -18,7 +18,7 @@ pub type Entry<'a, K, V, H = BuildHasherDefault<FoldHasher>> = HeldPlace<
 >;
 
 /// An entry that the map has, at its place.
-pub type OccupiedEntry<'a, K, V, H = BuildHasherDefault<FoldHasher>> = HeldEntry<
+pub type OccupiedEntry<'a, K, V, H = BuildHasherDefault<FoldHasher>> = HeldOccupied<
     &'a mut Owned<K, V, H>,
     (),
     K,

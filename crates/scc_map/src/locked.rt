@@ -5,7 +5,7 @@ mod methods;
 pub mod walk;
 
 use crate::Owned;
-use crate::held::{HeldEntry, HeldPlace, HeldReplace, HeldVacant};
+use crate::held::{HeldEntry, HeldOccupied, HeldReplace, HeldVacant};
 pub use crate::locked::walk::first_later;
 use scc_common::Shared;
 use scc_stripes::Seat;
@@ -13,7 +13,7 @@ use std::hash::{BuildHasherDefault, FoldHasher};
 use std::sync::RwLockWriteGuard;
 
 /// The entry of a key, with the lock of its stripe held.
-pub type Entry<'a, K, V, H = BuildHasherDefault<FoldHasher>> = HeldPlace<
+pub type Entry<'a, K, V, H = BuildHasherDefault<FoldHasher>> = HeldEntry<
     RwLockWriteGuard<'a, Owned<K, V, Shared<H>>>,
     Seat<'a, Owned<K, V, Shared<H>>, H>,
     K,
@@ -22,7 +22,7 @@ pub type Entry<'a, K, V, H = BuildHasherDefault<FoldHasher>> = HeldPlace<
 >;
 
 /// An entry that is there, with the lock of its stripe held.
-pub type OccupiedEntry<'a, K, V, H = BuildHasherDefault<FoldHasher>> = HeldEntry<
+pub type OccupiedEntry<'a, K, V, H = BuildHasherDefault<FoldHasher>> = HeldOccupied<
     RwLockWriteGuard<'a, Owned<K, V, Shared<H>>>,
     Seat<'a, Owned<K, V, Shared<H>>, H>,
     K,

@@ -1,5 +1,5 @@
 //! How a part of a shared map keeps its share of what all parts together keep at least.
-ghost use Rattle.scc_stripes.specs.Following.{KeepsShare};
+ghost use Rattle.scc_stripes.specs.Minimums.{FollowsMinimum};
 ghost use Rattle.std.specs.Prelude.{◌≤◌, ◌^◌};
 
 use crate::Owned;
@@ -14,22 +14,22 @@ impl<K: Eq + Hash, V, H: BuildHasher> Owned<K, V, H> {
     /// there grow to it, a lowered one lets it become smaller, unless memory is refused. Fewer slots than were asked
     /// for change nothing.
     #[inline(always)]
-    pub fn keep_share(&mut self, share: usize)
+    pub fn follow_minimum(&mut self, share: usize)
         requires { share ≤ 2 ^ 63 }
-        ensures { KeepsShare K.eq self.old share self.new }
+        ensures { FollowsMinimum K.eq self.old share self.new }
     {
         if *self.capacity_range().start() == share {
             let _ = self.len();
         } else {
-            self.change_share(share);
+            self.change_minimum(share);
         }
     }
 
     /// The same apart from the callers: a share seldom changes.
     #[cold]
-    fn change_share(&mut self, share: usize)
+    fn change_minimum(&mut self, share: usize)
         requires { share ≤ 2 ^ 63 }
-        ensures { KeepsShare K.eq self.old share self.new }
+        ensures { FollowsMinimum K.eq self.old share self.new }
     {
         let minimum = *self.capacity_range().start();
         if share > minimum {
@@ -54,9 +54,9 @@ impl<K: Eq + Hash, V, H: BuildHasher> Follow for Owned<K, V, H> {
     #[inline(always)]
     fn follow(&mut self, share: usize)
         requires { share ≤ 2 ^ 63 }
-        ensures { KeepsShare K.eq self.old share self.new }
+        ensures { FollowsMinimum K.eq self.old share self.new }
     {
-        self.keep_share(share);
+        self.follow_minimum(share);
     }
 }
 

@@ -8,10 +8,10 @@ use Rattle.scc_common.specs.declared.errors.InsertError.TheVariants.{Exists, Mem
 use Rattle.std.specs.Borrow.{Bor}
 use Rattle.std.specs.Fn.{Once}
 use Rattle.scc_contents.specs.Contents.{Contents, entries, bucket_count, lists_of}
-use Rattle.scc_cache.specs.CacheSteps.{AnswersOn, Changes, IsAbsent, IsPresent, Puts, PutsNew, Removes, number_in}
+use Rattle.scc_cache.specs.CacheSteps.{AnswersOn, ChangesLists, IsAbsent, IsPresent, Puts, PutsNew, Removes, list_number}
 use Rattle.scc_cache.specs.Caches.{Cached}
 use Rattle.scc_cache.specs.ListSteps.{IsThere, Refreshes}
-use Rattle.scc_cache.specs.Relocations.{RelocatesTwo}
+use Rattle.scc_cache.specs.Relocations.{RelocatesTwoWithin}
 use Rattle.scc_cache.proofs.EachPair.{All, Each, each-new, each-refreshed, each-taken, each-there}
 use Rattle.scc_memo.specs.Memos.{HasValues, Remembers, refreshed, stored, refused}
 
@@ -41,12 +41,12 @@ module _ {K V S : Type 0} (value : K → V) where
 
     -- so do those of what a look-up leaves
     pub values-remembered : (c d : Cached (K × V) S) (k : K) (v : V) → Remembers hash eq c k v d → v ≡ value k → HasValues value c.contents → HasValues value d.contents
-    values-remembered c d k v (refreshed p s m) is h = record { each = each-refreshed (λ p. p.1 ≡ value p.0) eq (number_in hash c.contents) k p (lists_of c.contents) (lists_of d.contents) s.lists h.each }
+    values-remembered c d k v (refreshed p s m) is h = record { each = each-refreshed (λ p. p.1 ≡ value p.0) eq (list_number hash c.contents) k p (lists_of c.contents) (lists_of d.contents) s.lists h.each }
     values-remembered c d k v (stored x absent s m) is h = record { each = each-new (λ p. p.1 ≡ value p.0) eq hash c d (k, v) x s is h.each }
     values-remembered c d k v (refused absent none e) is h = subst (λ (z : Cached (K × V) S). HasValues value z.contents) (sym e) h
 
     -- a put of a new key is one
-    pub remembers-put : (c d : Cached (K × V) S) (k : K) (v w : V) (r : Result (Option (K × V)) (InsertError K V)) → v ≡ w → IsAbsent hash eq c.contents k → Puts hash eq c (k, v) r d → OnOk r (RelocatesTwo (hash k) c.contents d.contents) → Remembers hash eq c k w d
+    pub remembers-put : (c d : Cached (K × V) S) (k : K) (v w : V) (r : Result (Option (K × V)) (InsertError K V)) → v ≡ w → IsAbsent hash eq c.contents k → Puts hash eq c (k, v) r d → OnOk r (RelocatesTwoWithin (hash k) c.contents d.contents) → Remembers hash eq c k w d
     remembers-put c d k v w (Ok x) is absent s m = stored x absent (subst (λ u. PutsNew hash eq c (k, u) x d) is s.1) m
     remembers-put c d k v w (Err (Exists q)) is absent s m = absurd (let z : None ≡ Some s.1.1.0 = sym absent ∙ s.1.1.1.first in cc)
     remembers-put c d k v w (Err (Memory q)) is absent s m = refused absent s.2 s.3
@@ -57,9 +57,9 @@ module _ {K V S : Type 0} (value : K → V) where
 
     module _ (alike : (j k : K) → eq j k ≡ true → value j ≡ value k) where
       -- the pair of a key has its value, as equal keys have the same
-      pub value-there : (c : Contents (K × V) S) (k : K) (i : ℕ) (p : K × V) → IsThere (number_in hash c) eq (lists_of c) k i p → HasValues value c → p.1 ≡ value k
+      pub value-there : (c : Contents (K × V) S) (k : K) (i : ℕ) (p : K × V) → IsThere (list_number hash c) eq (lists_of c) k i p → HasValues value c → p.1 ≡ value k
       value-there c k i p at h =
-          let r = each-there (λ p. p.1 ≡ value p.0) eq (number_in hash c) k i p (lists_of c) at h.each in
+          let r = each-there (λ p. p.1 ≡ value p.0) eq (list_number hash c) k i p (lists_of c) at h.each in
           r.0 ∙ sym (alike k p.0 r.1)
 
       -- so does what a look-up without a move answers
@@ -70,8 +70,8 @@ module _ {K V S : Type 0} (value : K → V) where
 
 -- what was put in through an entry, seen from the cache and the key that it was made of
 pub remembers-through : {K V S : Type 0} (value : K → V) (hash : Contents (K × V) S → K → ℕ) (eq : K → K → Bool) (c e d : Cached (K × V) S) (k j : K) (v w : V) (r : Result (Option (K × V)) (InsertError K V)) → e ≡ c → j ≡ k → v ≡ w → IsAbsent (hash c.contents) eq c.contents k → Puts (hash e.contents) eq e (j, v) r d
-    → OnOk r (RelocatesTwo (hash e.contents j) e.contents d.contents) → Remembers (hash c.contents) eq c k w d
+    → OnOk r (RelocatesTwoWithin (hash e.contents j) e.contents d.contents) → Remembers (hash c.contents) eq c k w d
 remembers-through {K} {V} {S} value hash eq c e d k j v w r same key is absent puts moves =
     let P : Cached (K × V) S → K → Type 0 = λ a i. Puts (hash a.contents) eq a (i, v) r d in
-    let M : Cached (K × V) S → K → Type 0 = λ a i. OnOk r (RelocatesTwo (hash a.contents i) a.contents d.contents) in
+    let M : Cached (K × V) S → K → Type 0 = λ a i. OnOk r (RelocatesTwoWithin (hash a.contents i) a.contents d.contents) in
     remembers-put value (hash c.contents) eq c d k v w r is absent (subst (λ a. P a k) same (subst (λ i. P e i) key puts)) (subst (λ a. M a k) same (subst (λ i. M e i) key moves))

@@ -3,10 +3,10 @@ use Rattle.std.specs.Prelude.{◌≡◌, ℕ, Bool, Option, refl}
 use Rattle.std.specs.Coded.{Coded, code_by, coded×}
 use Rattle.std.specs.List.{AllByRecursion}
 use Rattle.scc_contents.specs.Contents.{Contents, bucket_count, lists_of}
-use Rattle.scc_cache.specs.CacheSteps.{Changes, IsAbsent, PutsNew, number_in}
+use Rattle.scc_cache.specs.CacheSteps.{ChangesLists, IsAbsent, PutsNew, list_number}
 use Rattle.scc_cache.specs.Caches.{Cached, cached_code}
 use Rattle.scc_cache.specs.ListSteps.{Refreshes}
-use Rattle.scc_cache.specs.Relocations.{RelocatesOne, RelocatesTwo}
+use Rattle.scc_cache.specs.Relocations.{RelocatesOne, RelocatesTwoWithin}
 
 -- a function, and the cache of its values
 pub record Memoized (P E S : Type 0) : Type 0 where
@@ -25,6 +25,6 @@ module _ {K V S : Type 0} where
   module _ (hash : K → ℕ) (eq : K → K → Bool) where
     -- what a look-up of k, whose value is v, leaves of the cache: the pair of k went to the end of its list; or (k, v) was put in, after a growth where that is due; or nothing changed, as there was no array and memory for one was refused
     pub data Remembers (c : Cached (K × V) S) (k : K) (v : V) (d : Cached (K × V) S) : Type 0 where
-      refreshed : (p : K × V) → Changes (Refreshes (number_in hash c.contents) eq k p) c d → RelocatesOne (hash k) c.contents d.contents → Remembers c k v d
-      stored : (x : Option (K × V)) → IsAbsent hash eq c.contents k → PutsNew hash eq c (k, v) x d → RelocatesTwo (hash k) c.contents d.contents → Remembers c k v d
+      refreshed : (p : K × V) → ChangesLists (Refreshes (list_number hash c.contents) eq k p) c d → RelocatesOne (hash k) c.contents d.contents → Remembers c k v d
+      stored : (x : Option (K × V)) → IsAbsent hash eq c.contents k → PutsNew hash eq c (k, v) x d → RelocatesTwoWithin (hash k) c.contents d.contents → Remembers c k v d
       refused : IsAbsent hash eq c.contents k → bucket_count c.contents ≡ 0 → d ≡ c → Remembers c k v d

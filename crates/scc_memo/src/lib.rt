@@ -5,7 +5,7 @@ ghost use Rattle.std.specs.Prelude.{◌≡◌, ◌*◌, ◌↔◌, true, length,
 ghost use Rattle.scc_contents.specs.Contents.{bucket_count, entries, key_hash};
 ghost use Rattle.scc_cache.specs.CacheSteps.{IsAbsent, IsPresent, Removes};
 ghost use Rattle.scc_cache.specs.Caches.{IsCacheState};
-ghost use Rattle.scc_cache.specs.Relocations.{RelocatesNone};
+ghost use Rattle.scc_cache.specs.Relocations.{RelocatesNoneWithin};
 ghost use Rattle.scc_memo.specs.Making.{MakesEmpty};
 ghost use Rattle.scc_memo.specs.Memos.{HasValues, Remembers};
 
@@ -118,7 +118,7 @@ impl<P: Pure, H: BuildHasher> Memo<P, H> {
         ensures state { IsCacheState P.Key.eq (key_hash H.BuildHasher H.Hasher.Hasher P.Key.hash_input
             self.new.cache.contents) self.new.cache }
         ensures values { HasValues (P.value self.new.function) self.new.cache.contents }
-        ensures relocates { RelocatesNone (λ p. key_hash H.BuildHasher H.Hasher.Hasher P.Key.hash_input
+        ensures relocates { RelocatesNoneWithin (λ p. key_hash H.BuildHasher H.Hasher.Hasher P.Key.hash_input
             self.old.cache.contents p.0) self.old.cache.contents self.new.cache.contents }
     {
         self.cache.remove_sync(k).is_some()

@@ -13,7 +13,7 @@ use Rattle.scc_calls.specs.declared.fixed.Setting.{Setting}
 use Rattle.scc_calls.specs.Made.{IsMadeFor}
 use Rattle.scc_contents.specs.Routing.{bucket_number}
 use Rattle.scc_contents.specs.Sizes.{IsArraySize}
-use Rattle.scc_recorded.specs.Setups.{share_of}
+use Rattle.scc_recorded.specs.Setups.{share_among}
 use Rattle.scc_print.specs.Finished.{IsOutput, MapOutput, SetOutput, IndexOutput, CacheOutput, script_setting, key_number, pair_cmp}
 use Rattle.scc_print.specs.Output.{reply_line, content_line}
 use Rattle.scc_print.proofs.Drained.{all-entries}
@@ -54,9 +54,9 @@ own-number n k =
     ap (λ h. h * n / 2 ^ 64) low
 
 -- the maximum of 256 slots
-the-maximum : (m n : ℕ) → m ≡ 0 → IsArraySize (max (share_of 256 1) m) n → n ≡ 256
+the-maximum : (m n : ℕ) → m ≡ 0 → IsArraySize (max (share_among 256 1) m) n → n ≡ 256
 the-maximum m n z a =
-    let b : IsArraySize 256 n = subst (λ k. IsArraySize (max (share_of 256 1) k) n) z a in
+    let b : IsArraySize 256 n = subst (λ k. IsArraySize (max (share_among 256 1) k) n) z a in
     let p : IsPowerOfTwo 256 = (8, refl) in
     let low : 256 ≤ n = b.enough in
     let high : n ≤ 256 = b.fewest 256 p (omega arith) (omega arith) in

@@ -39,15 +39,15 @@ HasOwners (cache_calls workers stripes calls) = AllByRecursion (λ c. c.worker <
 HasOwners (bad_line number) = Unit {0}
 
 -- the status and the text that answer a script
-abbrev pub Answers : Meaning → ℕ → List ℕ → Type 0
-Answers (map_calls workers stripes calls) status text = AnswersBy (MapOutput (all_calls calls)) (MapPlayed workers stripes calls) workers stripes status text
-Answers (set_calls workers stripes calls) status text = AnswersBy (SetOutput (all_calls calls)) (SetPlayed workers stripes calls) workers stripes status text
-Answers (index_calls workers stripes calls) status text = AnswersBy (IndexOutput (all_calls calls)) (IndexPlayed workers stripes calls) workers stripes status text
-Answers (cache_calls workers stripes calls) status text = AnswersBy (CacheOutput (all_calls calls)) (CachePlayed workers stripes calls) workers stripes status text
-Answers (bad_line number) status text = (status ≡ 2) × (text ≡ bad_line_text number)
+abbrev pub WritesAnswer : Meaning → ℕ → List ℕ → Type 0
+WritesAnswer (map_calls workers stripes calls) status text = AnswersBy (MapOutput (all_calls calls)) (MapPlayed workers stripes calls) workers stripes status text
+WritesAnswer (set_calls workers stripes calls) status text = AnswersBy (SetOutput (all_calls calls)) (SetPlayed workers stripes calls) workers stripes status text
+WritesAnswer (index_calls workers stripes calls) status text = AnswersBy (IndexOutput (all_calls calls)) (IndexPlayed workers stripes calls) workers stripes status text
+WritesAnswer (cache_calls workers stripes calls) status text = AnswersBy (CacheOutput (all_calls calls)) (CachePlayed workers stripes calls) workers stripes status text
+WritesAnswer (bad_line number) status text = (status ≡ 2) × (text ≡ bad_line_text number)
 
 -- what was written before, then the answer's text; or the text on memory; or a stream failed
 abbrev pub Ends : Option (List ℕ) → Option (List ℕ) → Meaning → ℕ → Type 0
 Ends old new meaning status =
-    ((text : List ℕ) × Answers meaning status text × Appends old new text)
+    ((text : List ℕ) × WritesAnswer meaning status text × Appends old new text)
     ⊎ (((status ≡ 3) × Appends old new (codes "out of memory\n")) ⊎ (status ≡ 4))

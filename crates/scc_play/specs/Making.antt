@@ -1,6 +1,6 @@
 -- What a turn of a worker adds to its receipts.
 use Rattle.std.specs.Prelude.{ℕ, ◌<◌, Bool, List, Option, None, Some}
-use Rattle.scc_history.specs.Kept.{AddsReceipt}
+use Rattle.scc_history.specs.Added.{AddsReceipt}
 use Rattle.scc_history.specs.declared.log.Receipt.{Receipt}
 use Rattle.scc_recorded.specs.Adds.{Adds, IsOf}
 

@@ -6,7 +6,7 @@ ghost use Rattle.std.specs.Io.KnownBytes.{Appends};
 ghost use Rattle.scc_print.specs.Finished.{MapOutput, SetOutput, IndexOutput, CacheOutput};
 ghost use Rattle.scc_script.specs.Grammar.{script_of, IsCrew, IsDivision};
 ghost use Rattle.scc_script.specs.Scripts.{HasCrew, meaning_of};
-ghost use Rattle.scc_play.specs.Endings.{Answers, AnswersBy, Ends, HasOwners, all_calls, bad_line_text, finish_text};
+ghost use Rattle.scc_play.specs.Endings.{WritesAnswer, AnswersBy, Ends, HasOwners, all_calls, bad_line_text, finish_text};
 ghost use Rattle.scc_play.specs.Ended.{IfPlayed, MatchEnd};
 ghost use Rattle.scc_play.specs.Kinds.{MapPlayed, SetPlayed, IndexPlayed, CachePlayed};
 
@@ -160,7 +160,7 @@ fn answer_by_kind<R: Threads + Wait + Sync>(
 ) -> Result<Answer, AllocError>
     requires crew { HasCrew script }
     requires owners { HasOwners (meaning_of script) }
-    ensures { IfOk result (λ a. Answers (meaning_of script) a.status (string_bytes a.text)) }
+    ensures { IfOk result (λ a. WritesAnswer (meaning_of script) a.status (string_bytes a.text)) }
 {
     match script {
         Script::Map(workers, stripes, calls) => {
@@ -188,7 +188,7 @@ fn answer_script<R: Threads + Wait + Sync>(
     alloc: Global,
     script: &[u8],
 ) -> Result<Answer, AllocError>
-    ensures { IfOk result (λ a. Answers (script_of script.now) a.status (string_bytes a.text)) }
+    ensures { IfOk result (λ a. WritesAnswer (script_of script.now) a.status (string_bytes a.text)) }
 {
     let script = parse_script(alloc, script)?;
     answer_by_kind(rt, alloc, script)

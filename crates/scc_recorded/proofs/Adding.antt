@@ -4,14 +4,14 @@ use Rattle.std.proofs.Math.Logic.{∥∥₁_map}
 use Rattle.std.specs.Prelude.{Result, Ok, Err, IfOk}
 use Rattle.std.proofs.lemmas.List.{append-nil}
 use Rattle.scc_calls.specs.Calling.{MayNotReply}
-use Rattle.scc_calls.specs.Changes.{Changes}
+use Rattle.scc_calls.specs.Resized.{MovesResized}
 use Rattle.scc_calls.specs.Copies.{MayNotClone}
 use Rattle.scc_history.specs.declared.log.Receipt.{Receipt}
 use Rattle.scc_recorded.specs.Adds.{Adds, MayAnswer, Told}
 
 module _ {G S A R : Type 0} (moves : G → S → A → R → S → Type 0) (call : A) where
   -- what a part answered it may answer
-  pub may-answer : (g : G) (size : S → ℕ) (resizes : S → ℕ → S → Type 0) (old new : S) (reply : R) → Changes size (moves g) resizes old call reply new → MayAnswer moves call reply
+  pub may-answer : (g : G) (size : S → ℕ) (resizes : S → ℕ → S → Type 0) (old new : S) (reply : R) → MovesResized size (moves g) resizes old call reply new → MayAnswer moves call reply
   may-answer g size resizes old new reply (inl c) = ∣ (g, old, new, c.1) ∣₁
   may-answer g size resizes old new reply (inr (inl c)) = ∣ (g, c.1.0, new, c.1.2) ∣₁
   may-answer g size resizes old new reply (inr (inr c)) = ∣ (g, old, c.1.0, c.1.1) ∣₁

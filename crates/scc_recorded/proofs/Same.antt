@@ -19,25 +19,25 @@ use Rattle.scc_calls.specs.declared.fixed.Request.{Request}
 use Rattle.scc_history.specs.Stamps.{calls_in}
 use Rattle.scc_recorded.specs.declared.closing.Closed.{Closed}
 use Rattle.scc_recorded.specs.declared.counted.Count.{Count}
-use Rattle.scc_recorded.specs.declared.counted.Guarded.{Guarded}
+use Rattle.scc_recorded.specs.declared.counted.CountedStripe.{CountedStripe}
 use Rattle.scc_recorded.specs.declared.passes.Pass.{Pass}
 use Rattle.scc_recorded.specs.declared.setups.Site as sites
 use mathlib.Core.HLevel.{is_prop→PathP}
 
 module _ {C L K H A R T : Type 0} {m : calls.Ghosts C K H A R T} {h : hash.Ghosts K} {g : eq.Ghosts K} {b : builder.Ghosts H T} {w : hasher.Ghosts T} {call_clones : clone.Ghosts A} {call_equality : eq.Ghosts A} {reply_clones : clone.Ghosts R} {reply_equality : eq.Ghosts R} where
-  pub pass-same : (x y : Pass C L K H A R T m h g b w call_clones call_equality reply_clones reply_equality) → y.log ≡ x.log → y.share ≡ x.share → y ≡ x
+  pub pass-same : (x y : Pass C L K H A R T m h g b w call_clones call_equality reply_clones reply_equality) → y.log ≡ x.log → y.ledger ≡ x.ledger → y ≡ x
   pass-same x y l s = λ i. record {
     log = l i;
-    share = s i;
+    ledger = s i;
     part = is_prop→PathP (λ j. (s j).parts ≡ 1) (λ j. hlevel props) y.part x.part i;
     counted = is_prop→PathP (λ j. (s j).amount ≡ length (l j).receipts.items) (λ j. hlevel props) y.counted x.counted i;
   }
 
 module _ {C M K H A R T : Type 0} {m : calls.Ghosts C K H A R T} {h : hash.Ghosts K} {g : eq.Ghosts K} {b : builder.Ghosts H T} {w : hasher.Ghosts T} {call_clones : clone.Ghosts A} {call_equality : eq.Ghosts A} {reply_clones : clone.Ghosts R} {reply_equality : eq.Ghosts R} {site : sites.Ghosts M H} where
-  pub guarded-same : (x y : Guarded C M K H A R T m h g b w call_clones call_equality reply_clones reply_equality site) → y.stripe ≡ x.stripe → y.share ≡ x.share → y ≡ x
+  pub guarded-same : (x y : CountedStripe C M K H A R T m h g b w call_clones call_equality reply_clones reply_equality site) → y.stripe ≡ x.stripe → y.ledger ≡ x.ledger → y ≡ x
   guarded-same x y l s = λ i. record {
     stripe = l i;
-    share = s i;
+    ledger = s i;
     placed = is_prop→PathP (λ j. ∥ ((r : Request H) × (site.chosen ≡ Some r) × IsMadeFor m.limits r (m.setting (l j).container)) ∥₁) (λ j. squash₁) y.placed x.placed i;
     part = is_prop→PathP (λ j. (s j).parts ≡ 1) (λ j. hlevel props) y.part x.part i;
     counted = is_prop→PathP (λ j. (s j).amount ≡ calls_in (l j).history.items) (λ j. hlevel props) y.counted x.counted i;

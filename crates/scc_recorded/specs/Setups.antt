@@ -11,9 +11,9 @@ abbrev pub skipped_for : ℕ → ℕ
 skipped_for stripes = if stripes == 1 then 0 else if stripes == 2 then 1 else if stripes == 4 then 2 else if stripes == 8 then 3 else 4
 
 -- the share of one stripe, rounded up
-abbrev pub share_of : ℕ → ℕ → ℕ
-share_of slots stripes = if slots % stripes == 0 then slots / stripes else slots / stripes + 1
+abbrev pub share_among : ℕ → ℕ → ℕ
+share_among slots stripes = if slots % stripes == 0 then slots / stripes else slots / stripes + 1
 
 -- what each stripe is made for
 abbrev pub request_of : {H : Type 0} → ℕ → ℕ → H → ℕ → Request H
-request_of capacity maximum hasher stripes = record { hasher = hasher; skipped = skipped_for stripes; slots = share_of capacity stripes; maximum = share_of maximum stripes }
+request_of capacity maximum hasher stripes = record { hasher = hasher; skipped = skipped_for stripes; slots = share_among capacity stripes; maximum = share_among maximum stripes }

@@ -4,7 +4,7 @@ ghost use Rattle.std.specs.List.{sum_by};
 ghost use Rattle.std.specs.Prelude.{◌≡◌, ◌+◌, ◌<◌, length};
 
 use crate::closing::Closed;
-use crate::counted::{Count, Guarded};
+use crate::counted::{Count, CountedStripe};
 use crate::passes::Pass;
 use crate::setups::Site;
 use scc_calls::{Calls, Step};
@@ -30,7 +30,7 @@ impl<C: Calls, L: Ledger, M: Site<C::Hasher>> Closed<C, L, M> {
         } = self;
         let Count { receipts, records } = count;
         Pass::audit_all(passes, receipts);
-        Guarded::audit_all(stripes.as_mut_slice(), records);
+        CountedStripe::audit_all(stripes.as_mut_slice(), records);
     }
 }
 
@@ -42,8 +42,8 @@ impl<C: Calls, L: Ledger> Pass<C, L> {
         ensures same { (book.new.total ≡ book.old.total) × (passes.new ≡ passes.old) }
     {
         let first = &mut passes[0];
-        let Pass { log: _, share } = first;
-        let mut seen = share.empty();
+        let Pass { log: _, ledger } = first;
+        let mut seen = ledger.empty();
         Pass::audit_from(passes, book, &mut seen);
     }
 
@@ -63,28 +63,28 @@ impl<C: Calls, L: Ledger> Pass<C, L> {
         let (front, rest) = passes.split_at_mut(1);
         let first = &mut front[0];
         let amount = first.log.receipts.len() as u64;
-        let Pass { log: _, share } = first;
-        share.give(seen, 1, amount);
+        let Pass { log: _, ledger } = first;
+        ledger.give(seen, 1, amount);
         Pass::audit_from(rest, book, seen);
-        seen.give(share, 1, amount);
+        seen.give(ledger, 1, amount);
     }
 }
 
-impl<C: Calls, M: Site<C::Hasher>> Guarded<C, M> {
+impl<C: Calls, M: Site<C::Hasher>> CountedStripe<C, M> {
     // The book's total is the number of all call records.
-    fn audit_all(stripes: &mut [Guarded<C, M>], book: &mut Book<M>)
+    fn audit_all(stripes: &mut [CountedStripe<C, M>], book: &mut Book<M>)
         requires { (length stripes.old ≡ M.parts) × (0 < M.parts) }
         ensures total { book.old.total ≡ sum_by (λ s. calls_in s.stripe.history.items) stripes.old }
         ensures same { (book.new.total ≡ book.old.total) × (stripes.new ≡ stripes.old) }
     {
         let first = &mut stripes[0];
-        let Guarded { stripe: _, share } = first;
-        let mut seen = share.empty();
-        Guarded::audit_from(stripes, book, &mut seen);
+        let CountedStripe { stripe: _, ledger } = first;
+        let mut seen = ledger.empty();
+        CountedStripe::audit_from(stripes, book, &mut seen);
     }
 
     // Lends the share of each stripe to `seen`, and asks the book once all have.
-    fn audit_from(stripes: &mut [Guarded<C, M>], book: &mut Book<M>, seen: &mut Share<M>)
+    fn audit_from(stripes: &mut [CountedStripe<C, M>], book: &mut Book<M>, seen: &mut Share<M>)
         requires parts { seen.old.parts + length stripes.old ≡ M.parts }
         requires backed { (seen.old.parts ≡ 0) → (seen.old.amount ≡ 0) }
         ensures total { book.old.total ≡ seen.old.amount + sum_by (λ s. calls_in s.stripe.history.items) stripes.old }
@@ -99,10 +99,10 @@ impl<C: Calls, M: Site<C::Hasher>> Guarded<C, M> {
         let (front, rest) = stripes.split_at_mut(1);
         let first = &mut front[0];
         let amount = count_of(first.stripe.history.as_slice());
-        let Guarded { stripe: _, share } = first;
-        share.give(seen, 1, amount);
-        Guarded::audit_from(rest, book, seen);
-        seen.give(share, 1, amount);
+        let CountedStripe { stripe: _, ledger } = first;
+        ledger.give(seen, 1, amount);
+        CountedStripe::audit_from(rest, book, seen);
+        seen.give(ledger, 1, amount);
     }
 }
 

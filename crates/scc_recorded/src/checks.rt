@@ -6,7 +6,7 @@ ghost use Rattle.scc_recorded.specs.Closing.{AllMatch, FirstDisagrees, lesser_of
 ghost use Rattle.std.specs.List.{AllByRecursion};
 ghost use Rattle.std.specs.Prelude.{◌≡◌, ◌<◌, ◌↔◌, [], length, map, take, IfOk, IfNone, IfSome, IsTrue, slice_get, slice_index_or};
 
-use crate::counted::Guarded;
+use crate::counted::CountedStripe;
 use crate::passes::Pass;
 use crate::setups::Site;
 use scc_calls::{Calls, Step, route};
@@ -39,7 +39,7 @@ pub(crate) fn are_all<C: Calls, L: Ledger>(
 // The first call that doesn't stand in its own stripe.
 pub(crate) fn misrouted<C: Calls, M: Site<C::Hasher>>(
     hasher: &C::Hasher,
-    stripes: &[Guarded<C, M>],
+    stripes: &[CountedStripe<C, M>],
 ) -> Option<(usize, usize)>
     requires { 0 < length stripes.now }
     ensures none { IfNone result (CallsRouted C.key_of

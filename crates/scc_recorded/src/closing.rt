@@ -2,9 +2,9 @@
 ghost use Rattle.scc_calls.specs.declared.fixed.Request.{Request};
 ghost use Rattle.std.specs.Prelude.{◌≡◌, ◌+◌, ◌<◌, ◌≤◌, map, MatchOption, Some, slice_get, vec_len, [], vec_capacity, IfOk};
 
-use crate::counted::{Count, Guarded, Parts};
+use crate::counted::{Count, CountedStripe, PartCount};
 use crate::setups::Site;
-use crate::{Locked, Recorded};
+use crate::{LockedStripe, Recorded};
 use scc_calls::{Calls, Step};
 use scc_history::{Histories, Stripe};
 use std::alloc::{AllocError, Global};
@@ -13,14 +13,14 @@ use std::sync::ledger::Ledger;
 /// The stripes of a container that nobody calls any more.
 #[derive(Drop)]
 pub struct Closed<C: Calls, L: Ledger, M: Site<C::Hasher>> {
-    pub stripes: Vec<Guarded<C, M>>,
+    pub stripes: Vec<CountedStripe<C, M>>,
     pub hasher: C::Hasher,
     /// The number of passes that were handed out.
     pub passes: usize,
     pub(crate) count: Count<L, M>,
     pub(crate) alloc: Global,
-    pub(crate) handed: Parts<L>,
-    pub(crate) divided: Parts<M>,
+    pub(crate) handed: PartCount<L>,
+    pub(crate) divided: PartCount<M>,
     pub ghost placed: { ∥ ((r : Request C.Hasher) × (M.chosen ≡ Some r) × (r.hasher ≡ hasher)) ∥₁ },
     pub ghost some: { 0 < vec_len stripes },
     pub ghost all: { vec_len stripes ≡ M.all },
@@ -50,10 +50,10 @@ where
             divided,
         } = self;
         let mut locks = locks;
-        let Room { list } = room.into_inner();
+        let StripeRoom { list } = room.into_inner();
         let mut stripes = list;
         while !locks.is_empty() {
-            let Locked { number: _, lock } = locks.remove(0);
+            let LockedStripe { number: _, lock } = locks.remove(0);
             stripes.push_reserved(lock.into_inner());
         }
         Closed {
@@ -82,7 +82,7 @@ impl<C: Calls, L: Ledger, M: Site<C::Hasher>> Closed<C, L, M> {
     }
 }
 
-impl<C: Calls, M: Site<C::Hasher>> Histories for Guarded<C, M> {
+impl<C: Calls, M: Site<C::Hasher>> Histories for CountedStripe<C, M> {
     type Call = C::Call;
 
     type Reply = C::Reply;
@@ -98,13 +98,13 @@ impl<C: Calls, M: Site<C::Hasher>> Histories for Guarded<C, M> {
     }
 }
 
-impl<C: Calls, M: Site<C::Hasher>> Guarded<C, M> {
+impl<C: Calls, M: Site<C::Hasher>> CountedStripe<C, M> {
     // The container, the history and the number of buckets at opening.
     pub(crate) fn into_parts(self) -> (C, Vec<Step<C::Call, C::Reply>>, usize)
         ensures { (result.0 ≡ self.stripe.container) × (result.1 ≡ self.stripe.history)
             × (result.2 ≡ self.stripe.opened) }
     {
-        let Guarded { stripe, share: _ } = self;
+        let CountedStripe { stripe, ledger: _ } = self;
         let Stripe {
             number: _,
             container,
@@ -118,8 +118,8 @@ impl<C: Calls, M: Site<C::Hasher>> Guarded<C, M> {
 
 // An empty list with room for all stripes. It stands under a lock, so that threads may share what holds it.
 #[derive(Drop)]
-pub struct Room<C: Calls, M: Site<C::Hasher>> {
-    pub(crate) list: Vec<Guarded<C, M>>,
+pub struct StripeRoom<C: Calls, M: Site<C::Hasher>> {
+    pub(crate) list: Vec<CountedStripe<C, M>>,
     pub ghost empty: { list.items ≡ [] },
     pub ghost reserved: { M.all ≤ vec_capacity list },
 }

@@ -3,7 +3,7 @@ ghost use Rattle.scc_calls.specs.Calling.{MayNotReply};
 ghost use Rattle.scc_calls.specs.Copies.{ClonesEqual};
 ghost use Rattle.scc_calls.specs.Made.{IsMadeFor};
 ghost use Rattle.scc_calls.specs.declared.fixed.Request.{Request};
-ghost use Rattle.scc_history.specs.Kept.{AddsReceipt};
+ghost use Rattle.scc_history.specs.Added.{AddsReceipt};
 ghost use Rattle.scc_history.specs.Stamps.{calls_in};
 ghost use Rattle.scc_recorded.specs.Adds.{MayAnswer};
 ghost use Rattle.std.specs.Prelude.{◌≡◌, ◌+◌, ◌<◌, ◌≤◌, ◌⊎◌, Err, IsSome, IfOk, OnOk, OnErr, Some};
@@ -20,16 +20,16 @@ use std::sync::{Mutex, Wait};
 
 /// A stripe that was made for the request of its site, with its part of the count of records.
 #[derive(Drop)]
-pub struct Guarded<C: Calls, M: Site<C::Hasher>> {
+pub struct CountedStripe<C: Calls, M: Site<C::Hasher>> {
     pub stripe: Stripe<C>,
-    pub(crate) share: Share<M>,
+    pub(crate) ledger: Share<M>,
     pub ghost placed: { ∥ ((r : Request C.Hasher) × (M.chosen ≡ Some r)
         × IsMadeFor C.limits r (C.setting stripe.container)) ∥₁ },
-    pub ghost part: { share.parts ≡ 1 },
-    pub ghost counted: { share.amount ≡ calls_in stripe.history.items },
+    pub ghost part: { ledger.parts ≡ 1 },
+    pub ghost counted: { ledger.amount ≡ calls_in stripe.history.items },
 }
 
-impl<C: Calls, M: Site<C::Hasher>> Guarded<C, M> {
+impl<C: Calls, M: Site<C::Hasher>> CountedStripe<C, M> {
     // An empty stripe, which takes one part of the ledger.
     pub(crate) fn open(
         alloc: Global,
@@ -39,7 +39,7 @@ impl<C: Calls, M: Site<C::Hasher>> Guarded<C, M> {
         maximum: usize,
         hasher: C::Hasher,
         all: &mut Share<M>,
-    ) -> Result<Guarded<C, M>, MakeError>
+    ) -> Result<CountedStripe<C, M>, MakeError>
     where
         C::Hasher: Drop,
         requires site { M.chosen ≡ Some (record {
@@ -53,12 +53,12 @@ impl<C: Calls, M: Site<C::Hasher>> Guarded<C, M> {
         ensures { OnOk result ((all.new.parts + 1 ≡ all.old.parts) × (all.new.amount ≡ 0)) }
     {
         let stripe = Stripe::open(alloc, number, skipped, slots, maximum, hasher)?;
-        let share = all.split_off(1, 0);
-        Ok(Guarded { stripe, share })
+        let ledger = all.split_off(1, 0);
+        Ok(CountedStripe { stripe, ledger })
     }
 
     // One step of the stripe of that number, counted in both books.
-    pub(crate) fn step<L: Ledger, R: Wait>(
+    pub(crate) fn call_counted<L: Ledger, R: Wait>(
         &mut self,
         rt: &R,
         number: usize,
@@ -81,16 +81,16 @@ impl<C: Calls, M: Site<C::Hasher>> Guarded<C, M> {
             (C.answer (C.setting self.old.stripe.container)) C.Reply.is_infallible (C.state self.old.stripe.container)
             call) }
     {
-        let Guarded {
+        let CountedStripe {
             stripe,
-            share: records,
+            ledger: records,
         } = self;
         let Pass {
             log,
-            share: receipts,
+            ledger: receipts,
         } = pass;
         stripe.number = number;
-        let reply = stripe.step(log, call)?;
+        let reply = stripe.call(log, call)?;
         count.lock(rt).add(receipts, records);
         Ok(reply)
     }
@@ -98,21 +98,21 @@ impl<C: Calls, M: Site<C::Hasher>> Guarded<C, M> {
 
 /// The number of the parts of a ledger. It stands apart from the tokens, since a fact beside one can't name that number.
 #[derive(Drop)]
-pub struct Parts<L: Ledger> {
+pub struct PartCount<L: Ledger> {
     pub count: usize,
     of: PhantomData<L>,
     pub ghost all: { count ≡ L.parts },
     pub ghost some: { 0 < count },
 }
 
-impl<L: Ledger> Parts<L> {
+impl<L: Ledger> PartCount<L> {
     // The ledger has so many.
-    pub(crate) fn new(count: usize) -> Parts<L>
+    pub(crate) fn new(count: usize) -> PartCount<L>
         requires all { count ≡ L.parts }
         requires some { 0 < count }
         ensures { result.count ≡ count }
     {
-        Parts {
+        PartCount {
             count,
             of: PhantomData,
         }

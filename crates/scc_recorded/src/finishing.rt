@@ -12,7 +12,7 @@ ghost use Rattle.std.specs.Prelude.{◌≡◌, ◌+◌, ◌<◌, ◌≤◌, [], 
 use crate::Recorded;
 use crate::checks::{are_all, first_disagreement, misrouted};
 use crate::closing::{Closed, list_for};
-use crate::counted::Guarded;
+use crate::counted::CountedStripe;
 use crate::passes::Pass;
 use crate::setups::Site;
 use scc_calls::{Calls, Step, every_merge_is_a_run};
@@ -225,7 +225,7 @@ where
 
 // The containers, the histories and the numbers of buckets at opening of all stripes, moved out.
 fn move_out<C: Calls + Drop, M: Site<C::Hasher>>(
-    stripes: Vec<Guarded<C, M>>,
+    stripes: Vec<CountedStripe<C, M>>,
     parts: &mut Vec<C>,
     histories: &mut Vec<Vec<Step<C::Call, C::Reply>>>,
     opened: &mut Vec<usize>,

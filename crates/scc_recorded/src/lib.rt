@@ -5,7 +5,7 @@ ghost use Rattle.scc_calls.specs.Copies.{ClonesEqual, MayNotClone};
 ghost use Rattle.scc_calls.specs.declared.fixed.Request.{Request};
 ghost use Rattle.scc_calls.specs.declared.fixed.Setting.{Setting};
 ghost use Rattle.scc_contents.specs.Routing.{stripe_of};
-ghost use Rattle.scc_history.specs.Kept.{AddsReceipt};
+ghost use Rattle.scc_history.specs.Added.{AddsReceipt};
 ghost use Rattle.scc_recorded.specs.Adds.{MayAnswer};
 ghost use Rattle.std.specs.List.{range_with_len};
 ghost use Rattle.std.specs.Prelude.{◌≡◌, ◌<◌, ◌⊎◌, Err, IfOk, OnErr, IsSome, Some, map, vec_len};
@@ -20,12 +20,12 @@ mod passes;
 mod setups;
 mod whole;
 
-use crate::closing::Room;
-use crate::counted::{Count, Guarded, Parts};
+use crate::closing::StripeRoom;
+use crate::counted::{Count, CountedStripe, PartCount};
 use crate::passes::Pass;
 use crate::setups::Site;
 pub use closing::Closed;
-pub use counted::Guarded;
+pub use counted::CountedStripe;
 pub use finishing::{FinishError, Finished, Unfinished};
 pub use passes::Pass;
 use scc_calls::{Calls, route};
@@ -45,13 +45,13 @@ pub struct Recorded<C: Calls, L: Ledger, M: Site<C::Hasher>> {
     pub stripes: usize,
     /// The number of passes that were handed out.
     pub passes: usize,
-    pub(crate) locks: Vec<Locked<C, M>>,
+    pub(crate) locks: Vec<LockedStripe<C, M>>,
     pub(crate) count: Mutex<Count<L, M>>,
     pub hasher: C::Hasher,
     pub(crate) alloc: Global,
-    pub(crate) room: Mutex<Room<C, M>>,
-    pub(crate) handed: Parts<L>,
-    pub(crate) divided: Parts<M>,
+    pub(crate) room: Mutex<StripeRoom<C, M>>,
+    pub(crate) handed: PartCount<L>,
+    pub(crate) divided: PartCount<M>,
     pub ghost placed: { ∥ ((r : Request C.Hasher) × (M.chosen ≡ Some r) × (r.hasher ≡ hasher)) ∥₁ },
     pub ghost number: { vec_len locks ≡ stripes },
     pub ghost some: { 0 < stripes },
@@ -63,14 +63,14 @@ pub struct Recorded<C: Calls, L: Ledger, M: Site<C::Hasher>> {
 
 // A stripe behind its lock, with its number.
 #[derive(Drop)]
-pub(crate) struct Locked<C: Calls, M: Site<C::Hasher>> {
+pub(crate) struct LockedStripe<C: Calls, M: Site<C::Hasher>> {
     pub(crate) number: usize,
-    pub(crate) lock: Mutex<Guarded<C, M>>,
+    pub(crate) lock: Mutex<CountedStripe<C, M>>,
 }
 
-impl<C: Calls, M: Site<C::Hasher>> Locked<C, M> {
+impl<C: Calls, M: Site<C::Hasher>> LockedStripe<C, M> {
     // One step of the stripe, whose receipt bears this number.
-    pub(crate) fn step<L: Ledger, R: Wait>(
+    pub(crate) fn call_locked<L: Ledger, R: Wait>(
         &self,
         rt: &R,
         pass: &mut Pass<C, L>,
@@ -91,13 +91,15 @@ impl<C: Calls, M: Site<C::Hasher>> Locked<C, M> {
             × (C.may_refuse g s call ⊎ (IsSome (C.key_of call) × MayNotClone C.Reply.is_infallible (C.answer g s call))))
             ∥₁ }
     {
-        self.lock.lock(rt).step(rt, self.number, pass, count, call)
+        self.lock
+            .lock(rt)
+            .call_counted(rt, self.number, pass, count, call)
     }
 }
 
 impl<C: Calls, L: Ledger, M: Site<C::Hasher>> Recorded<C, L, M> {
     // The stripe of that number.
-    pub(crate) fn locked(&self, i: usize) -> &Locked<C, M>
+    pub(crate) fn locked_stripe(&self, i: usize) -> &LockedStripe<C, M>
         requires { i < self.now.stripes }
         ensures { result.now.number ≡ i }
     {
@@ -107,7 +109,7 @@ impl<C: Calls, L: Ledger, M: Site<C::Hasher>> Recorded<C, L, M> {
     /// Makes a call with a key, in the stripe of its key, whose number its receipt bears. Any thread may call it, and
     /// may wait for that stripe's lock.
     ///
-    /// `Room` comes where memory for the record or the receipt was refused, or no stamp is left; then nothing was
+    /// `StripeRoom` comes where memory for the record or the receipt was refused, or no stamp is left; then nothing was
     /// touched. `Container` comes only if the container may refuse the call for memory, or a clone of its reply may be
     /// refused.
     pub fn call<R: Wait>(
@@ -137,6 +139,7 @@ impl<C: Calls, L: Ledger, M: Site<C::Hasher>> Recorded<C, L, M> {
             unreachable!();
         };
         let place = route::<C>(&self.hasher, self.stripes, key);
-        self.locked(place).step(rt, pass, &self.count, call)
+        self.locked_stripe(place)
+            .call_locked(rt, pass, &self.count, call)
     }
 }

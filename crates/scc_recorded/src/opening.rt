@@ -3,20 +3,20 @@ ghost use Rattle.scc_recorded.specs.Setups.{IsStripes, request_of};
 ghost use Rattle.std.specs.List.{AllByRecursion, range_with_len};
 ghost use Rattle.std.specs.Prelude.{◌≡◌, ◌+◌, ◌<◌, ◌≤◌, [], IfOk, Some, map, vec_len};
 
-use crate::closing::{Room, list_for};
-use crate::counted::{Count, Guarded, Parts};
+use crate::closing::{StripeRoom, list_for};
+use crate::counted::{Count, CountedStripe, PartCount};
 use crate::passes::Pass;
-use crate::setups::{Setup, Site, bits_for, slots_for};
-use crate::{Locked, Recorded};
+use crate::setups::{Setup, Site, bits_among, share_among};
+use crate::{LockedStripe, Recorded};
 use scc_calls::Calls;
-use scc_common::{MakeError, TryShare};
+use scc_common::{CloneOwner, MakeError};
 use std::alloc::Global;
 use std::sync::Mutex;
 use std::sync::ledger::{Blank, Ledger, Share as Part};
 
 impl<C: Calls + Drop, L: Ledger, M: Site<C::Hasher>> Recorded<C, L, M>
 where
-    C::Hasher: TryShare + Drop,
+    C::Hasher: CloneOwner + Drop,
 {
     /// An empty container in so many stripes, and the passes of those who may call it, numbered from 0.
     ///
@@ -67,9 +67,9 @@ where
             count: Mutex::new(Count::new(book, other)),
             hasher,
             alloc,
-            room: Mutex::new(Room { list }),
-            handed: Parts::new(passes),
-            divided: Parts::new(stripes),
+            room: Mutex::new(StripeRoom { list }),
+            handed: PartCount::new(passes),
+            divided: PartCount::new(stripes),
         };
         Ok((recorded, handed))
     }
@@ -105,9 +105,9 @@ fn lock_all<C: Calls + Drop, M: Site<C::Hasher>>(
     stripes: usize,
     hasher: &C::Hasher,
     rest: Part<M>,
-) -> Result<Vec<Locked<C, M>>, MakeError>
+) -> Result<Vec<LockedStripe<C, M>>, MakeError>
 where
-    C::Hasher: TryShare + Drop,
+    C::Hasher: CloneOwner + Drop,
     requires site { M.chosen ≡ Some (record {
       hasher = hasher.now;
       skipped = skipped;
@@ -122,12 +122,14 @@ where
     let mut rest = rest;
     let mut locks = Vec::new(alloc);
     for number in 0..stripes {
-        let Ok(shared) = hasher.share() else {
+        let Ok(shared) = hasher.clone_owner() else {
             return Err(MakeError);
         };
-        let guarded = Guarded::open(alloc, number, skipped, slots, maximum, shared, &mut rest)?;
+        let guarded = CountedStripe::open(
+            alloc, number, skipped, slots, maximum, shared, &mut rest,
+        )?;
         let lock = Mutex::new(guarded);
-        if locks.push(Locked { number, lock }).is_err() {
+        if locks.push(LockedStripe { number, lock }).is_err() {
             return Err(MakeError);
         }
     }

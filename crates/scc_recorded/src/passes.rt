@@ -10,9 +10,9 @@ use std::sync::ledger::{Ledger, Share};
 #[derive(Drop)]
 pub struct Pass<C: Calls, L: Ledger> {
     pub log: Log<C>,
-    pub(crate) share: Share<L>,
-    pub ghost part: { share.parts ≡ 1 },
-    pub ghost counted: { share.amount ≡ length log.receipts.items },
+    pub(crate) ledger: Share<L>,
+    pub ghost part: { ledger.parts ≡ 1 },
+    pub ghost counted: { ledger.amount ≡ length log.receipts.items },
 }
 
 impl<C: Calls, L: Ledger> Pass<C, L> {
@@ -53,7 +53,7 @@ impl<C: Calls, L: Ledger> Pass<C, L> {
         ensures rest { (all.new.parts + 1 ≡ all.old.parts) × (all.new.amount ≡ 0) }
     {
         let log = Log::new(alloc, number);
-        let share = all.split_off(1, 0);
-        Pass { log, share }
+        let ledger = all.split_off(1, 0);
+        Pass { log, ledger }
     }
 }

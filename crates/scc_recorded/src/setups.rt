@@ -1,6 +1,6 @@
 //! What a recorded container is made with, and what its stripes were made for.
 ghost use Rattle.scc_calls.specs.declared.fixed.Request.{Request};
-ghost use Rattle.scc_recorded.specs.Setups.{IsStripes, skipped_for, share_of};
+ghost use Rattle.scc_recorded.specs.Setups.{IsStripes, skipped_for, share_among};
 ghost use Rattle.std.specs.Prelude.{◌≡◌, ◌≤◌, ◌<◌, ℕ, None, Option};
 
 use scc_calls::Request;
@@ -18,7 +18,7 @@ pub struct Setup<H> {
 }
 
 // How many first bits of a hash pick one of so many stripes.
-pub(crate) fn bits_for(stripes: usize) -> u32
+pub(crate) fn bits_among(stripes: usize) -> u32
     requires { IsStripes stripes }
     ensures bits { result ≡ skipped_for stripes }
     ensures few { result ≤ 4 }
@@ -33,9 +33,9 @@ pub(crate) fn bits_for(stripes: usize) -> u32
 }
 
 // The share of one stripe, rounded up.
-pub(crate) fn slots_for(slots: usize, stripes: usize) -> usize
+pub(crate) fn share_among(slots: usize, stripes: usize) -> usize
     requires { 0 < stripes }
-    ensures { result ≡ share_of slots stripes }
+    ensures { result ≡ share_among slots stripes }
 {
     let whole = slots / stripes;
     if slots % stripes == 0 {

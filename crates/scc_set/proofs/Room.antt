@@ -5,9 +5,9 @@ use Rattle.std.specs.declared.hash.Hasher as hasher
 use Rattle.std.specs.declared.hash.BuildHasher as builder
 use Rattle.scc_contents.specs.Contents.{Contents, lists_of, key_hash, refused_of}
 use Rattle.scc_contents.specs.Mapped.{mapped}
-use Rattle.scc_contents.specs.Steps.{IsReadyFor, MakesRoom}
+use Rattle.scc_contents.specs.Steps.{IsPreparedFor, Prepares}
 use Rattle.scc_buckets.proofs.Mapped.{Rests-mapped, Grows-mapped, HasRoomBy-mapped, HasRoomBy-from_mapped}
-use Rattle.scc_table.specs.Marks.{IsGrowthDue, MarksRoom}
+use Rattle.scc_table.specs.Marks.{IsGrowthDue, MarksPreparation}
 use Rattle.scc_set.specs.Keys.{of_map}
 use Rattle.scc_set.proofs.Sets.{hash-same, shows, waiting-keys}
 
@@ -21,7 +21,7 @@ marked-keys c d h = rw ((shows c).refused, (shows d).refused) h
 
 module _ {K S : Type 0} (hash : K → ℕ) (k : K) where
   -- all is made in the set that is made in the map
-  ready-keys : (c : Contents (K × Unit {0}) S) → IsReadyFor hash (λ p. p.0) c k → IsReadyFor hash (λ q. q) (of_map c) k
+  ready-keys : (c : Contents (K × Unit {0}) S) → IsPreparedFor hash (λ p. p.0) c k → IsPreparedFor hash (λ q. q) (of_map c) k
   ready-keys c h =
       let s = shows c in (
         rw s.buckets h.0,
@@ -32,7 +32,7 @@ module _ {K S : Type 0} (hash : K → ℕ) (k : K) where
       )
 
   -- and in the map what is made in the set
-  pub ready-pairs : (c : Contents (K × Unit {0}) S) → IsReadyFor hash (λ q. q) (of_map c) k → IsReadyFor hash (λ (p : K × Unit {0}). p.0) c k
+  pub ready-pairs : (c : Contents (K × Unit {0}) S) → IsPreparedFor hash (λ q. q) (of_map c) k → IsPreparedFor hash (λ (p : K × Unit {0}). p.0) c k
   ready-pairs c h =
       let s = shows c in (
         rw s.buckets at h.0,
@@ -43,7 +43,7 @@ module _ {K S : Type 0} (hash : K → ℕ) (k : K) where
       )
 
   -- room that was made in the map was made in the set
-  pub room-keys : (c d : Contents (K × Unit {0}) S) → MakesRoom hash (λ p. p.0) c (hash k) d → MakesRoom hash (λ q. q) (of_map c) (hash k) (of_map d)
+  pub room-keys : (c d : Contents (K × Unit {0}) S) → Prepares hash (λ p. p.0) c (hash k) d → Prepares hash (λ q. q) (of_map c) (hash k) (of_map d)
   room-keys c d h =
       let f : K × Unit {0} → K = λ p. p.0 in
       let s = shows c in
@@ -64,7 +64,7 @@ module _ {K S : Type 0} (hash : K → ℕ) (k : K) where
       let s = shows c in
       record {
         array = rw s.buckets h.array;
-        settled = s.pending ∙ h.settled;
+        not_waiting = s.pending ∙ h.not_waiting;
         full = λ room. h.full (HasRoomBy-from_mapped (λ (p : K × Unit {0}). p.0) (λ q. q) hash c k room);
         half = rw (s.buckets, s.length) h.half;
         below = rw s.buckets h.below;
@@ -76,14 +76,14 @@ module _ {K S : Type 0} (hash : K → ℕ) (k : K) where
       let s = shows c in
       record {
         array = rw s.buckets at h.array;
-        settled = sym s.pending ∙ h.settled;
+        not_waiting = sym s.pending ∙ h.not_waiting;
         full = λ room. h.full (HasRoomBy-mapped (λ (p : K × Unit {0}). p.0) (λ q. q) hash c k room);
         half = rw (s.buckets, s.length) at h.half;
         below = rw s.buckets at h.below;
       }
 
   -- note and mark become in the set what they become in the map
-  pub marks-keys : (c d : Contents (K × Unit {0}) S) → MarksRoom hash (λ (p : K × Unit {0}). p.0) c (hash k) d → MarksRoom hash (λ q. q) (of_map c) (hash k) (of_map d)
+  pub marks-keys : (c d : Contents (K × Unit {0}) S) → MarksPreparation hash (λ (p : K × Unit {0}). p.0) c (hash k) d → MarksPreparation hash (λ q. q) (of_map c) (hash k) (of_map d)
   marks-keys c d h =
       let s = shows c in
       let t = shows d in
@@ -96,13 +96,13 @@ module _ {K S : Type 0} (hash : K → ℕ) (k : K) where
       }
 
 module _ {K S T : Type 0} (build : builder.Ghosts S T) (feed : hasher.Ghosts T) (input : K → HashWrites) (c : Contents (K × Unit {0}) S) (k : K) where
-  pub ready-hashed : IsReadyFor (key_hash build feed input (of_map c)) (λ q. q) (of_map c) k → IsReadyFor (key_hash build feed input c) (λ (p : K × Unit {0}). p.0) c k
-  ready-hashed h = ready-pairs (key_hash build feed input c) k c (subst (λ (hash : K → ℕ). IsReadyFor hash (λ q. q) (of_map c) k) (hash-same build feed input c) h)
+  pub ready-hashed : IsPreparedFor (key_hash build feed input (of_map c)) (λ q. q) (of_map c) k → IsPreparedFor (key_hash build feed input c) (λ (p : K × Unit {0}). p.0) c k
+  ready-hashed h = ready-pairs (key_hash build feed input c) k c (subst (λ (hash : K → ℕ). IsPreparedFor hash (λ q. q) (of_map c) k) (hash-same build feed input c) h)
 
-  pub room-hashed : (d : Contents (K × Unit {0}) S) → MakesRoom (key_hash build feed input c) (λ (p : K × Unit {0}). p.0) c (key_hash build feed input c k) d
-      → MakesRoom (key_hash build feed input (of_map c)) (λ q. q) (of_map c) (key_hash build feed input (of_map c) k) (of_map d)
-  room-hashed d h = subst (λ (hash : K → ℕ). MakesRoom hash (λ q. q) (of_map c) (hash k) (of_map d)) (sym (hash-same build feed input c)) (room-keys (key_hash build feed input c) k c d h)
+  pub room-hashed : (d : Contents (K × Unit {0}) S) → Prepares (key_hash build feed input c) (λ (p : K × Unit {0}). p.0) c (key_hash build feed input c k) d
+      → Prepares (key_hash build feed input (of_map c)) (λ q. q) (of_map c) (key_hash build feed input (of_map c) k) (of_map d)
+  room-hashed d h = subst (λ (hash : K → ℕ). Prepares hash (λ q. q) (of_map c) (hash k) (of_map d)) (sym (hash-same build feed input c)) (room-keys (key_hash build feed input c) k c d h)
 
-  pub marks-hashed : (d : Contents (K × Unit {0}) S) → MarksRoom (key_hash build feed input c) (λ (p : K × Unit {0}). p.0) c (key_hash build feed input c k) d
-      → MarksRoom (key_hash build feed input (of_map c)) (λ q. q) (of_map c) (key_hash build feed input (of_map c) k) (of_map d)
-  marks-hashed d h = subst (λ (hash : K → ℕ). MarksRoom hash (λ q. q) (of_map c) (hash k) (of_map d)) (sym (hash-same build feed input c)) (marks-keys (key_hash build feed input c) k c d h)
+  pub marks-hashed : (d : Contents (K × Unit {0}) S) → MarksPreparation (key_hash build feed input c) (λ (p : K × Unit {0}). p.0) c (key_hash build feed input c k) d
+      → MarksPreparation (key_hash build feed input (of_map c)) (λ q. q) (of_map c) (key_hash build feed input (of_map c) k) (of_map d)
+  marks-hashed d h = subst (λ (hash : K → ℕ). MarksPreparation hash (λ q. q) (of_map c) (hash k) (of_map d)) (sym (hash-same build feed input c)) (marks-keys (key_hash build feed input c) k c d h)

@@ -2,8 +2,8 @@
 use Rattle.std.specs.Prelude.{◌≡◌, ◌⊎◌, ℕ, Bool, true, None, Option, Some, Result, IsSome, IsOk}
 use Rattle.std.specs.Result.{OnOk, OnErr}
 use Rattle.scc_contents.specs.Contents.{Contents, entries, bucket_count, settings_of, refused_of, waiting_of}
-use Rattle.scc_contents.specs.Steps.{FirstArrayWhenDue, Grows, GrowsWhenDue, IsReadyFor, MakesRoom}
-use Rattle.scc_table.specs.Marks.{MarksRoom}
+use Rattle.scc_contents.specs.Steps.{FirstArrayWhenDue, Grows, GrowsWhenDue, IsPreparedFor, Prepares}
+use Rattle.scc_table.specs.Marks.{MarksPreparation}
 use Rattle.scc_table.specs.Relocations.{Relocates, RelocatesTwo}
 use Rattle.scc_set.specs.Keys.{find, FindsInstead, HasRoom, IsUnique}
 use Rattle.scc_set.specs.SetSteps.{Inserts, Replaces}
@@ -23,7 +23,7 @@ module _ {K S : Type 0} (eq : K → K → Bool) (hash_of : S → K → ℕ) wher
     -- the number of buckets stays where the key is new and its bucket has room
     pub kept : find eq (entries c) k ≡ None → HasRoom (hash_of (settings_of c).hasher) c k → bucket_count d ≡ bucket_count c
     -- and where room was made before
-    pub once : IsReadyFor (hash_of (settings_of c).hasher) (λ q. q) c k → bucket_count d ≡ bucket_count c
+    pub once : IsPreparedFor (hash_of (settings_of c).hasher) (λ q. q) c k → bucket_count d ≡ bucket_count c
     -- it changes only by a first array or a doubling
     pub growth : Grows c d
     -- it is doubled where the key is new and a growth is due, unless memory for that was refused
@@ -56,7 +56,7 @@ module _ {K S : Type 0} (eq : K → K → Bool) (hash_of : S → K → ℕ) wher
     -- the number of buckets stays where the key is new and its bucket has room
     pub kept : find eq (entries c) k ≡ None → HasRoom (hash_of (settings_of c).hasher) c k → bucket_count d ≡ bucket_count c
     -- and where room was made before
-    pub once : IsReadyFor (hash_of (settings_of c).hasher) (λ q. q) c k → bucket_count d ≡ bucket_count c
+    pub once : IsPreparedFor (hash_of (settings_of c).hasher) (λ q. q) c k → bucket_count d ≡ bucket_count c
     -- it changes only by a first array or a doubling
     pub growth : Grows c d
     -- it is doubled where the key is new and a growth is due, unless memory for that was refused
@@ -74,14 +74,14 @@ module _ {K S : Type 0} (eq : K → K → Bool) (hash_of : S → K → ℕ) wher
     -- no two keys are equal
     pub unique : IsUnique eq d
 
-  -- what `make_room` for the key k, answered so, does to the array
-  pub record MakesRoomByRule {R : Type 0} (c : Contents K S) (k : K) (result : Result (Unit {0}) R) (d : Contents K S) : Type 0 where
+  -- what `prepare` for the key k, answered so, does to the array
+  pub record PreparesByRule {R : Type 0} (c : Contents K S) (k : K) (result : Result (Unit {0}) R) (d : Contents K S) : Type 0 where
     -- a key that is there wants nothing
     pub present : IsSome (find eq (entries c) k) → IsOk result × (d ≡ c)
     -- for a new key all is made that its insertion wants
-    pub ok : find eq (entries c) k ≡ None → OnOk result (MakesRoom (hash_of (settings_of c).hasher) (λ q. q) c (hash_of (settings_of c).hasher k) d)
+    pub ok : find eq (entries c) k ≡ None → OnOk result (Prepares (hash_of (settings_of c).hasher) (λ q. q) c (hash_of (settings_of c).hasher k) d)
     -- what becomes of the note of refused memory and of the mark of a growth that was tried
-    pub marks : find eq (entries c) k ≡ None → MarksRoom (hash_of (settings_of c).hasher) (λ q. q) c (hash_of (settings_of c).hasher k) d
+    pub marks : find eq (entries c) k ≡ None → MarksPreparation (hash_of (settings_of c).hasher) (λ q. q) c (hash_of (settings_of c).hasher k) d
     -- a growth is marked as tried only where it was before, or where refused memory is noted
     pub marked : (refused_of d).1 ≡ true → ((refused_of c).1 ≡ true) ⊎ ((refused_of d).0 ≡ true)
     -- it is refused only for a new key where there is no array

@@ -43,8 +43,8 @@ module _ {K S : Type 0} (eq : K → K → Bool) where
     -- no two keys are equal
     pub unique : IsUnique eq d
 
-  -- what `take_and_step` at a place, which answers a key and the next place, does
-  pub record TakesAndStepsByRule (c : Contents K S) (place : Place) (result : K × Option Place) (d : Contents K S) : Type 0 where
+  -- what `take_with_next` at a place, which answers a key and the next place, does
+  pub record TakesWithNextByRule (c : Contents K S) (place : Place) (result : K × Option Place) (d : Contents K S) : Type 0 where
     -- the answer is the key that stood there
     pub key : slice_get (entries c) (index_of c place) ≡ Some result.0
     -- the others stay in their order

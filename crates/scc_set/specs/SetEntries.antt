@@ -65,7 +65,7 @@ module _ {K S T : Type 0} {g : eq.Ghosts K} {h : hash.Ghosts K} {b : builder.Gho
     pub unique : IsUnique same n
 
   -- what `remove_and_sync` of the entry o, answered so, leaves
-  pub record RemovesAndSteps (same : K → K → Bool) (o : OccupiedEntry K S T g h b w) (result : Result (Removed K × OccupiedEntry K S T g h b w) K) : Type 0 where
+  pub record RemovesWithNext (same : K → K → Bool) (o : OccupiedEntry K S T g h b w) (result : Result (Removed K × OccupiedEntry K S T g h b w) K) : Type 0 where
     -- the answer has the key of the entry
     pub key : IfOk result (λ r. r.0.key ≡ occupied_key o)
     -- beside it the entry that stood next, past the key that is out

@@ -69,7 +69,7 @@ impl<K: Eq + Hash, H: BuildHasher> Owned<K, H> {
 }
 
 impl<'a, K: Eq + Hash, H: BuildHasher> OccupiedEntry<'a, K, H> {
-    ghost use Rattle.scc_set.specs.SetEntries.{IsNext, RemovesAndSteps, RemovesEntryByRule, occupied_key, occupied_back, rests_if_none, rests_removed};
+    ghost use Rattle.scc_set.specs.SetEntries.{IsNext, RemovesWithNext, RemovesEntryByRule, occupied_key, occupied_back, rests_if_none, rests_removed};
 
     /// The stored key.
     pub fn get(&self) -> &K
@@ -112,12 +112,12 @@ impl<'a, K: Eq + Hash, H: BuildHasher> OccupiedEntry<'a, K, H> {
     /// Takes out the key, and answers it with the entry that stood next in the set's list; alone, as an `Err`, where it
     /// was the last. Nothing is resized.
     pub fn remove_and_sync(self) -> Result<(Removed<K>, OccupiedEntry<'a, K, H>), K>
-        ensures removes { RemovesAndSteps K.eq self.entry result }
+        ensures removes { RemovesWithNext K.eq self.entry result }
         ensures* kept { sem 𝓛 (rests_removed K.row H.row H.Hasher.row K.Hash H.BuildHasher H.Hasher.Hasher self.entry
             result) }
     {
         let OccupiedEntry { set, bucket, slot } = self;
-        let (key, next) = set.take_and_step(Place { bucket, slot });
+        let (key, next) = set.take_with_next(Place { bucket, slot });
         match next {
             Some(place) => Ok((
                 Removed { key },

@@ -1,6 +1,6 @@
 //! The places of keys, as an entry goes from one to the next.
 ghost use Rattle.scc_contents.specs.Contents.{entries};
-ghost use Rattle.scc_set.specs.Removals.{RemovesAtByRule, TakesAndStepsByRule};
+ghost use Rattle.scc_set.specs.Removals.{RemovesAtByRule, TakesWithNextByRule};
 ghost use Rattle.scc_set.specs.SetWalks.{CallableWhile, PassesAt, PassesNone};
 ghost use Rattle.scc_table.specs.Placed.{front_of};
 ghost use Rattle.scc_table.specs.Places.{IsPlace, StandsAt, index_of};
@@ -63,11 +63,11 @@ impl<K: Eq + Hash, H: BuildHasher> Owned<K, H> {
     }
 
     /// Takes the key out of its place, with no resize, and answers it with the place of the key that followed.
-    pub(crate) fn take_and_step(&mut self, place: Place) -> (K, Option<Place>)
+    pub(crate) fn take_with_next(&mut self, place: Place) -> (K, Option<Place>)
         requires { IsPlace self.old place }
-        ensures { TakesAndStepsByRule K.eq self.old place result self.new }
+        ensures { TakesWithNextByRule K.eq self.old place result self.new }
     {
-        let (pair, next) = self.map.take_and_step(place);
+        let (pair, next) = self.map.take_with_next(place);
         (pair.0, next)
     }
 }

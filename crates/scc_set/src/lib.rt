@@ -5,7 +5,7 @@ ghost use Rattle.scc_contents.specs.Contents.{entries, bucket_count, lists_of, s
 ghost use Rattle.scc_contents.specs.Pairs.{IsUnique as IsUniqueMap};
 ghost use Rattle.scc_contents.specs.Pairs.{find as find_pair};
 ghost use Rattle.scc_contents.specs.Steps.{HoldsExactly, IsUnchanged};
-ghost use Rattle.scc_set.specs.Insertions.{InsertsByRule, MakesRoomByRule, ReplacesByRule};
+ghost use Rattle.scc_set.specs.Insertions.{InsertsByRule, PreparesByRule, ReplacesByRule};
 ghost use Rattle.scc_set.specs.Keys.{find, with_key, FindsInstead, HasRoom, IsUnique};
 ghost use Rattle.scc_set.specs.Removals.{RemovesByRule};
 ghost use Rattle.scc_set.specs.SetSteps.{Reads, Removes, RemovesIf};
@@ -129,22 +129,22 @@ impl<K: Eq + Hash, H: BuildHasher> Owned<K, H> {
     /// and marked: the insertion of `k` that follows doesn't try it again, so that it makes no resize in any case. A
     /// growth that is made takes note and mark away; where none is due, both stay. This fails only where the first
     /// array is refused, and then nothing changes.
-    pub fn make_room(&mut self, k: &K) -> Result<(), MakeError>
-        ensures { MakesRoomByRule K.eq ⟦<H as Hashes<K>>⟧.hash_of self.old k.now result self.new }
+    pub fn prepare(&mut self, k: &K) -> Result<(), MakeError>
+        ensures { PreparesByRule K.eq ⟦<H as Hashes<K>>⟧.hash_of self.old k.now result self.new }
     {
-        self.map.make_room(k)
+        self.map.prepare(k)
     }
 
     /// Takes the mark of a refused growth away, and changes nothing else: an insertion tries a growth that is due, also
-    /// where `make_room` was refused it.
-    pub fn drop_room(&mut self)
+    /// where `prepare` was refused it.
+    pub fn drop_mark(&mut self)
         ensures same { IsUnchanged self.old self.new }
         ensures lists { lists_of self.new ≡ lists_of self.old }
         ensures waiting { waiting_of self.new ≡ waiting_of self.old }
         ensures noted { refused_of self.new ≡ ((refused_of self.old).0, false) }
         ensures unique { IsUnique K.eq self.new }
     {
-        self.map.drop_room();
+        self.map.drop_mark();
     }
 
     /// Puts `k` in the place of the key that equals it, and answers the old one; this takes no memory. Where no key

@@ -4,12 +4,12 @@ ghost use Rattle.std.specs.Prelude.{◌≡◌, true, IfSome};
 ghost use Rattle.std.specs.Sync.RwLock.{write_guard_value};
 ghost use Rattle.scc_contents.specs.Contents.{key_hash};
 ghost use Rattle.scc_cache.specs.Caches.{Cached, IsCacheState};
-ghost use Rattle.scc_cache.specs.Entries.{entry_guard, entry_key, held_cache, occupied_pair, IsEntryOf, IsRefreshed, replaced_guard, Replaces};
+ghost use Rattle.scc_cache.specs.Entries.{entry_guard, entry_key, occupied_cache, occupied_pair, IsEntryOf, IsRefreshed, replaced_guard, Replaces};
 ghost use Rattle.scc_contents.specs.Replies.{HasKey};
 ghost use Rattle.scc_shared_cache.specs.Replies.{ReplacesEqual};
 
 use super::{Entry, HashCache, OccupiedEntry, ReplaceResult};
-use scc_cache::held::{HeldEntry, HeldPlace, HeldReplace};
+use scc_cache::held::{HeldEntry, HeldOccupied, HeldReplace};
 use std::hash::{BuildHasher, Hash};
 use std::sync::Wait;
 
@@ -25,7 +25,7 @@ impl<K: Eq + Hash, V, H: BuildHasher> HashCache<K, V, H> {
             (write_guard_value (entry_guard result)).contents) (write_guard_value (entry_guard result)) }
     {
         let stripe = self.stripes.route(&k);
-        HeldPlace::of(self.stripes.write(rt, stripe), k, ())
+        HeldEntry::of(self.stripes.write(rt, stripe), k, ())
     }
 
     /// The occupied entry of `k`, whose pair becomes the most recent of its bucket, or None where no key equals it;
@@ -34,9 +34,9 @@ impl<K: Eq + Hash, V, H: BuildHasher> HashCache<K, V, H> {
         ensures key { IfSome result (λ o. HasKey K.eq k.now (occupied_pair o)) }
         ensures entry { IfSome result (λ o. (before : Cached (K × V) H) × IsRefreshed K.eq before k.now o) }
         ensures state { IfSome result (λ o. IsCacheState K.eq
-            (key_hash H.BuildHasher H.Hasher.Hasher K.hash_input (held_cache o).contents) (held_cache o)) }
+            (key_hash H.BuildHasher H.Hasher.Hasher K.hash_input (occupied_cache o).contents) (occupied_cache o)) }
     {
-        HeldEntry::of(self.stripes.write(rt, self.stripes.route(k)), k, ())
+        HeldOccupied::of(self.stripes.write(rt, self.stripes.route(k)), k, ())
     }
 
     /// Puts `k` in the place of the key that equals it, keeps the value, makes the pair the most recent of its bucket,

@@ -1,13 +1,13 @@
 -- What a reservation stands for.
 use Rattle.std.specs.Prelude.{ℕ}
-use Rattle.scc_stripes.specs.Stripes.{added_slots}
+use Rattle.scc_stripes.specs.Stripes.{reservation_slots}
 use Rattle.scc_shared_index.specs.declared.HashIndex.{HashIndex}
 use Rattle.scc_shared_index.specs.declared.sizes.Reserve.{Reserve}
 
 module _ {K V H T : Type 0} where
   -- the number of slots
   abbrev pub reserved_slots : Reserve K V H T → ℕ
-  reserved_slots r = added_slots r.added
+  reserved_slots r = reservation_slots r.added
 
   -- the index in which they are reserved
   abbrev pub reserved_in : Reserve K V H T → HashIndex K V H T

@@ -4,7 +4,7 @@ ghost use Rattle.scc_shared_index.specs.Reserves.{reserved_in, reserved_slots};
 
 use super::HashIndex;
 use scc_buckets::sizes::GREATEST_CAPACITY;
-use scc_stripes::Added;
+use scc_stripes::BookReservation;
 use std::hash::{BuildHasher, BuildHasherDefault, FoldHasher, Hash};
 use std::ops::RangeInclusive;
 use std::sync::Wait;
@@ -53,7 +53,7 @@ impl<K: Eq + Hash, V, H: BuildHasher> HashIndex<K, V, H> {
 #[derive(Drop)]
 pub struct Reserve<'h, K: Eq + Hash, V, H: BuildHasher = BuildHasherDefault<FoldHasher>> {
     of: &'h HashIndex<K, V, H>,
-    added: Added<'h>,
+    added: BookReservation<'h>,
 }
 
 impl<'h, K: Eq + Hash, V, H: BuildHasher> Reserve<'h, K, V, H> {

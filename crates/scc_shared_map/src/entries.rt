@@ -3,16 +3,16 @@ ghost use Rattle.std.specs.Prelude.{◌≡◌, [], List, IfSome};
 ghost use Rattle.std.specs.Sync.RwLock.{write_guard_value};
 ghost use Rattle.scc_contents.specs.Contents.{Contents};
 ghost use Rattle.scc_contents.specs.Pairs.{IsUnique};
-ghost use Rattle.scc_map.specs.Entries.{held_map, entry_guard, occupied_pair, occupied_front, IsEntryOf, IsOccupiedAt, replaced_guard, Replaces};
+ghost use Rattle.scc_map.specs.Entries.{occupied_map, entry_guard, occupied_pair, occupied_front, IsEntryOf, IsOccupiedAt, replaced_guard, Replaces};
 ghost use Rattle.scc_map.specs.EntrySteps.{StandsIn};
-ghost use Rattle.scc_map.specs.Seats.{entry_rest, held_rest, replaced_rest, HoldsOneOf};
+ghost use Rattle.scc_map.specs.Seats.{entry_rest, occupied_rest, replaced_rest, HasSeatIn};
 ghost use Rattle.scc_shared_map.specs.Stripes.{stripes_of};
 ghost use Rattle.scc_stripes.specs.Seats.{IsSeatOfKey};
 ghost use Rattle.scc_contents.specs.Walks.{CalledOn};
 ghost use Rattle.scc_contents.specs.PairWalks.{Declines, PassesAt};
 
 use super::{Entry, HashMap, OccupiedEntry, ReplaceResult};
-use scc_map::held::{HeldEntry, HeldPlace, HeldReplace};
+use scc_map::held::{HeldEntry, HeldOccupied, HeldReplace};
 use scc_map::locked::walk::first_later;
 use std::hash::{BuildHasher, Hash};
 use std::sync::Wait;
@@ -28,19 +28,19 @@ impl<K: Eq + Hash, V, H: BuildHasher> HashMap<K, V, H> {
     {
         let stripe = self.stripes.route(&k);
         let (guard, seat) = self.stripes.hold_to_insert(rt, stripe);
-        HeldPlace::of(guard, k, seat)
+        HeldEntry::of(guard, k, seat)
     }
 
     /// The occupied entry of `k`, or None where no key equals it.
     pub fn get_sync(&self, rt: &impl Wait, k: &K) -> Option<OccupiedEntry<'_, K, V, H>>
-        ensures entry { IfSome result (λ o. IsOccupiedAt K.eq (held_map o) k.now o) }
-        ensures unique { IfSome result (λ o. IsUnique K.eq (held_map o)) }
+        ensures entry { IfSome result (λ o. IsOccupiedAt K.eq (occupied_map o) k.now o) }
+        ensures unique { IfSome result (λ o. IsUnique K.eq (occupied_map o)) }
         ensures seat { IfSome result (λ o. IsSeatOfKey H.BuildHasher H.Hasher.Hasher K.hash_input (stripes_of self.now)
-            k.now (held_rest o)) }
+            k.now (occupied_rest o)) }
     {
         let stripe = self.stripes.route(k);
         let (guard, seat) = self.stripes.hold(rt, stripe);
-        HeldEntry::of(guard, k, seat)
+        HeldOccupied::of(guard, k, seat)
     }
 
     /// Puts `k` in the place of the key that equals it, keeps the value, and answers the entry with the old key. Where
@@ -58,11 +58,11 @@ impl<K: Eq + Hash, V, H: BuildHasher> HashMap<K, V, H> {
 
     /// The first entry of the first stripe that has one.
     pub fn begin_sync(&self, rt: &impl Wait) -> Option<OccupiedEntry<'_, K, V, H>>
-        ensures first { IfSome result (λ o. StandsIn (held_map o) o × (occupied_front o ≡ [])) }
-        ensures seat { IfSome result (HoldsOneOf (stripes_of self.now)) }
+        ensures first { IfSome result (λ o. StandsIn (occupied_map o) o × (occupied_front o ≡ [])) }
+        ensures seat { IfSome result (HasSeatIn (stripes_of self.now)) }
     {
         let (guard, seat) = self.stripes.hold(rt, 0);
-        match HeldEntry::first(guard, seat) {
+        match HeldOccupied::first(guard, seat) {
             Ok(entry) => Some(entry),
             Err(seat) => first_later(rt, seat),
         }
@@ -75,14 +75,14 @@ impl<K: Eq + Hash, V, H: BuildHasher> HashMap<K, V, H> {
         mut p: P,
     ) -> Option<OccupiedEntry<'_, K, V, H>>
         requires { P.IsAlwaysCallable p }
-        ensures here { IfSome result (λ o. StandsIn (held_map o) o) }
-        ensures seat { IfSome result (HoldsOneOf (stripes_of self.now)) }
+        ensures here { IfSome result (λ o. StandsIn (occupied_map o) o) }
+        ensures seat { IfSome result (HasSeatIn (stripes_of self.now)) }
         ensures first { IfSome result (λ o. (es : List (K × V)) × (q : P) × Declines (CalledOn P.FnMut) p es q
             × PassesAt (CalledOn P.FnMut) q (occupied_front o) (occupied_pair o)) }
     {
         for stripe in 0..self.stripes.stripes() {
             let (guard, seat) = self.stripes.hold(rt, stripe);
-            match HeldEntry::passing(guard, &mut p, seat) {
+            match HeldOccupied::passing(guard, &mut p, seat) {
                 Ok(entry) => return Some(entry),
                 Err(_) => {}
             }

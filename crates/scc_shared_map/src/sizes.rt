@@ -7,7 +7,7 @@ ghost use Rattle.scc_shared_map.specs.Reserves.{reserved_in, reserved_slots};
 
 use super::HashMap;
 use scc_buckets::sizes::GREATEST_CAPACITY;
-use scc_stripes::Added;
+use scc_stripes::BookReservation;
 use std::hash::{BuildHasher, BuildHasherDefault, FoldHasher, Hash};
 use std::ops::RangeInclusive;
 use std::sync::Wait;
@@ -69,7 +69,7 @@ impl<K: Eq + Hash, V, H: BuildHasher> HashMap<K, V, H> {
 #[derive(Drop)]
 pub struct Reserve<'h, K: Eq + Hash, V, H: BuildHasher = BuildHasherDefault<FoldHasher>> {
     of: &'h HashMap<K, V, H>,
-    added: Added<'h>,
+    added: BookReservation<'h>,
 }
 
 impl<'h, K: Eq + Hash, V, H: BuildHasher> Reserve<'h, K, V, H> {

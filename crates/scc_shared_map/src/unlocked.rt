@@ -7,7 +7,7 @@ use super::HashMap;
 use scc_buckets::sizes::slots_for;
 use scc_common::{MakeError, Shared};
 use scc_map::Owned;
-use scc_stripes::Parts;
+use scc_stripes::OpenStripes;
 use scc_stripes::shares::bits_for;
 use std::alloc::Global;
 use std::hash::{BuildHasher, Hash};
@@ -15,7 +15,7 @@ use std::hash::{BuildHasher, Hash};
 /// A map that is filled before threads share it.
 #[derive(Drop)]
 pub(crate) struct Unlocked<K: Eq + Hash, V, H: BuildHasher> {
-    parts: Parts<Owned<K, V, Shared<H>>, H>,
+    parts: OpenStripes<Owned<K, V, Shared<H>>, H>,
 }
 
 impl<K: Eq + Hash + Drop, V: Drop, H: BuildHasher + Drop> Unlocked<K, V, H> {
@@ -34,7 +34,7 @@ impl<K: Eq + Hash + Drop, V: Drop, H: BuildHasher + Drop> Unlocked<K, V, H> {
             let slots = slots_for(capacity);
             (bits_for(slots), slots)
         };
-        match Parts::make(alloc, bits, slots, 0, owner) {
+        match OpenStripes::make(alloc, bits, slots, 0, owner) {
             Ok(parts) => Ok(Unlocked { parts }),
             Err(e) => Err(e),
         }

@@ -10,49 +10,49 @@ use Rattle.scc_map.specs.EntrySteps as pairs
 use Rattle.scc_map.specs.Seats as seats
 use Rattle.scc_contents.specs.Contents.{Contents}
 use Rattle.scc_common.specs.declared.guard.Guard as guard
-use Rattle.scc_map.specs.declared.held.HeldEntry.{HeldEntry}
+use Rattle.scc_map.specs.declared.held.HeldOccupied.{HeldOccupied}
 use Rattle.scc_shared_set.specs.declared.entries.HeldKey.{HeldKey}
 use Rattle.scc_stripes.specs.declared.seats.Seat.{Seat}
 use Rattle.scc_stripes.specs.declared.Striped.{Striped}
 
 module _ {G N K S T : Type 0} {d : guard.Ghosts G (Contents (K × Unit {0}) S)} {g : eq.Ghosts K} {h : hash.Ghosts K} {b : builder.Ghosts S T} {w : hasher.Ghosts T} where
   -- the key of the entry, and the keys before and after it in the list of its stripe
-  abbrev pub occupied_key : HeldKey (HeldEntry G N K (Unit {0}) S T d g h b w) → K
+  abbrev pub occupied_key : HeldKey (HeldOccupied G N K (Unit {0}) S T d g h b w) → K
   occupied_key o = (occupied_pair o.entry).0
 
   -- the keys of the stripe before the entry
-  abbrev pub occupied_front : HeldKey (HeldEntry G N K (Unit {0}) S T d g h b w) → List K
+  abbrev pub occupied_front : HeldKey (HeldOccupied G N K (Unit {0}) S T d g h b w) → List K
   occupied_front o = keys_of (pairs_before o.entry)
 
   -- the keys of the stripe after the entry
-  abbrev pub occupied_back : HeldKey (HeldEntry G N K (Unit {0}) S T d g h b w) → List K
+  abbrev pub occupied_back : HeldKey (HeldOccupied G N K (Unit {0}) S T d g h b w) → List K
   occupied_back o = keys_of (pairs_after o.entry)
 
   -- p stands next after o in the list of the stripe, which stays
-  abbrev pub IsNext : HeldKey (HeldEntry G N K (Unit {0}) S T d g h b w) → HeldKey (HeldEntry G N K (Unit {0}) S T d g h b w) → Type 0
+  abbrev pub IsNext : HeldKey (HeldOccupied G N K (Unit {0}) S T d g h b w) → HeldKey (HeldOccupied G N K (Unit {0}) S T d g h b w) → Type 0
   IsNext o p = pairs.IsNext o.entry p.entry
 
   -- the key of o is out, the others of the stripe stay in their order, and p stands at the one that stood next after it
-  abbrev pub IsNextPastRemoved : HeldKey (HeldEntry G N K (Unit {0}) S T d g h b w) → HeldKey (HeldEntry G N K (Unit {0}) S T d g h b w) → Type 0
+  abbrev pub IsNextPastRemoved : HeldKey (HeldOccupied G N K (Unit {0}) S T d g h b w) → HeldKey (HeldOccupied G N K (Unit {0}) S T d g h b w) → Type 0
   IsNextPastRemoved o p = pairs.IsNextPastRemoved o.entry p.entry
 
   -- o is the last of its stripe
-  abbrev pub IsLastOfStripe : HeldKey (HeldEntry G N K (Unit {0}) S T d g h b w) → Type 0
+  abbrev pub IsLastOfStripe : HeldKey (HeldOccupied G N K (Unit {0}) S T d g h b w) → Type 0
   IsLastOfStripe o = pairs_after o.entry ≡ []
 
   -- o is the first of its stripe
-  abbrev pub IsFirstOfStripe : HeldKey (HeldEntry G N K (Unit {0}) S T d g h b w) → Type 0
+  abbrev pub IsFirstOfStripe : HeldKey (HeldOccupied G N K (Unit {0}) S T d g h b w) → Type 0
   IsFirstOfStripe o = pairs_before o.entry ≡ []
 
   -- p holds the same stripe as o
-  abbrev pub KeepsRest : HeldKey (HeldEntry G N K (Unit {0}) S T d g h b w) → HeldKey (HeldEntry G N K (Unit {0}) S T d g h b w) → Type 0
-  KeepsRest o p = seats.KeepsRest o.entry p.entry
+  abbrev pub HasSameRest : HeldKey (HeldOccupied G N K (Unit {0}) S T d g h b w) → HeldKey (HeldOccupied G N K (Unit {0}) S T d g h b w) → Type 0
+  HasSameRest o p = seats.HasSameRest o.entry p.entry
 
 module _ {G O H K S T : Type 0} {d : guard.Ghosts G (Contents (K × Unit {0}) S)} {g : eq.Ghosts K} {h : hash.Ghosts K} {b : builder.Ghosts S T} {w : hasher.Ghosts T} where
   -- o holds one of those stripes
-  abbrev pub HoldsOneOf : Striped O H → HeldKey (HeldEntry G (Seat O H) K (Unit {0}) S T d g h b w) → Type 0
-  HoldsOneOf stripes o = seats.HoldsOneOf stripes o.entry
+  abbrev pub HasSeatIn : Striped O H → HeldKey (HeldOccupied G (Seat O H) K (Unit {0}) S T d g h b w) → Type 0
+  HasSeatIn stripes o = seats.HasSeatIn stripes o.entry
 
   -- p holds a later stripe than o, among the same stripes
-  abbrev pub HoldsLater : HeldKey (HeldEntry G (Seat O H) K (Unit {0}) S T d g h b w) → HeldKey (HeldEntry G (Seat O H) K (Unit {0}) S T d g h b w) → Type 0
-  HoldsLater o p = seats.HoldsLater o.entry p.entry
+  abbrev pub HasLaterSeat : HeldKey (HeldOccupied G (Seat O H) K (Unit {0}) S T d g h b w) → HeldKey (HeldOccupied G (Seat O H) K (Unit {0}) S T d g h b w) → Type 0
+  HasLaterSeat o p = seats.HasLaterSeat o.entry p.entry

@@ -2,7 +2,7 @@
 ghost use Rattle.std.specs.Prelude.{◌≡◌, List, IfSome, IsSomeAnd};
 ghost use Rattle.std.specs.Fn.{CalledAt, TakesAt};
 ghost use Rattle.scc_set.specs.SetWalks.{Declines, PassesAt};
-ghost use Rattle.scc_shared_set.specs.SetEntries.{occupied_key, occupied_front, HoldsLater, HoldsOneOf, IsFirstOfStripe, IsLastOfStripe, IsNext, IsNextPastRemoved, KeepsRest};
+ghost use Rattle.scc_shared_set.specs.SetEntries.{occupied_key, occupied_front, HasLaterSeat, HasSeatIn, IsFirstOfStripe, IsLastOfStripe, IsNext, IsNextPastRemoved, HasSameRest};
 ghost use Rattle.scc_shared_set.specs.Stripes.{stripes_of};
 
 use super::HashSet;
@@ -24,7 +24,7 @@ impl<K: Eq + Hash, H: BuildHasher> HashSet<K, H> {
     /// The first key of the first stripe that has one.
     pub fn begin_sync(&self, rt: &impl Wait) -> Option<OccupiedEntry<'_, K, H>>
         ensures first { IfSome result IsFirstOfStripe }
-        ensures seat { IfSome result (HoldsOneOf (stripes_of self.now)) }
+        ensures seat { IfSome result (HasSeatIn (stripes_of self.now)) }
     {
         match self.map.begin_sync(rt) {
             Some(entry) => Some(HeldKey { entry }),
@@ -41,7 +41,7 @@ impl<K: Eq + Hash, H: BuildHasher> HashSet<K, H> {
         requires { P.IsAlwaysCallable p }
         ensures first { IfSome result (λ o. (ks : List K) × (q : P) × Declines (CalledAt P.FnMut) p ks q
             × PassesAt (CalledAt P.FnMut) q (occupied_front o) (occupied_key o)) }
-        ensures seat { IfSome result (HoldsOneOf (stripes_of self.now)) }
+        ensures seat { IfSome result (HasSeatIn (stripes_of self.now)) }
     {
         match self.map.any_sync(
             rt,
@@ -76,8 +76,8 @@ impl<'a, K: Eq + Hash, H: BuildHasher> HeldKey<scc_map::locked::OccupiedEntry<'a
     pub fn next_sync(self, rt: &impl Wait) -> Option<OccupiedEntry<'a, K, H>>
         ensures next { (IsLastOfStripe self.entry → ⊥) → IsSomeAnd result (IsNext self.entry) }
         ensures later { IsLastOfStripe self.entry → IfSome result IsFirstOfStripe }
-        ensures stays { (IsLastOfStripe self.entry → ⊥) → IfSome result (KeepsRest self.entry) }
-        ensures goes_on { IsLastOfStripe self.entry → IfSome result (HoldsLater self.entry) }
+        ensures stays { (IsLastOfStripe self.entry → ⊥) → IfSome result (HasSameRest self.entry) }
+        ensures goes_on { IsLastOfStripe self.entry → IfSome result (HasLaterSeat self.entry) }
     {
         match self.entry.next_sync(rt) {
             Some(entry) => Some(HeldKey { entry }),
@@ -91,8 +91,8 @@ impl<'a, K: Eq + Hash, H: BuildHasher> HeldKey<scc_map::locked::OccupiedEntry<'a
         ensures key { result.0 ≡ occupied_key self.entry }
         ensures next { (IsLastOfStripe self.entry → ⊥) → IsSomeAnd result.1 (IsNextPastRemoved self.entry) }
         ensures later { IsLastOfStripe self.entry → IfSome result.1 IsFirstOfStripe }
-        ensures stays { (IsLastOfStripe self.entry → ⊥) → IfSome result.1 (KeepsRest self.entry) }
-        ensures goes_on { IsLastOfStripe self.entry → IfSome result.1 (HoldsLater self.entry) }
+        ensures stays { (IsLastOfStripe self.entry → ⊥) → IfSome result.1 (HasSameRest self.entry) }
+        ensures goes_on { IsLastOfStripe self.entry → IfSome result.1 (HasLaterSeat self.entry) }
     {
         let ((key, _), next) = self.entry.remove_and_sync(rt);
         match next {

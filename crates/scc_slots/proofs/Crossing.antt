@@ -10,38 +10,38 @@ use denote.Struct.Owning.{shape, fields, to}
 use denote.Param.Send.{IsSend, IsSync, Common, AllSend, part_keyless, owning_send, struct_send, struct_sync, sendable}
 use Rattle.core.specs.declared.alloc.Allocator.{Ghosts}
 use Rattle.std_alloc.proofs.SendSync.{FreesAnywhere, quiet}
-use Rattle.scc_slots.specs.Owned.{places_own, places_show, right_owns, row_owns, row_shows}
+use Rattle.scc_slots.specs.Owned.{cells_own, cells_show, right_owns, row_owns, row_shows}
 use Rattle.scc_slots.specs.contracts.row.Right as Right
 use Rattle.scc_slots.specs.contracts.row.Row as Row
 
 module _ (R : RattleType) where
-  places-keyless : IsSend R → (b o : ℕ) (cs : List (Option R.Denot)) → Keyless (places_own R b o cs)
-  places-keyless s b o [] = tt
-  places-keyless s b o (None ∷ cs) = (tt, places-keyless s b (o + type_size R) cs)
-  places-keyless s b o (Some x ∷ cs) = (part_keyless R s full_share x b o, places-keyless s b (o + type_size R) cs)
+  cells-keyless : IsSend R → (b o : ℕ) (cs : List (Option R.Denot)) → Keyless (cells_own R b o cs)
+  cells-keyless s b o [] = tt
+  cells-keyless s b o (None ∷ cs) = (tt, cells-keyless s b (o + type_size R) cs)
+  cells-keyless s b o (Some x ∷ cs) = (part_keyless R s full_share x b o, cells-keyless s b (o + type_size R) cs)
 
   row-keyless : IsSend R → (start : Ptr) (cs : List (Option R.Denot)) → Keyless (row_owns R start cs)
   row-keyless s null_ptr [] = tt
   row-keyless s null_ptr (c ∷ cs) = tt
-  row-keyless s (block_ptr b o) cs = (places-keyless s b o cs, tt)
+  row-keyless s (block_ptr b o) cs = (cells-keyless s b o cs, tt)
 
-  places-common : IsSync R → (b o : ℕ) (cs : List (Option R.Denot)) → Common (places_show R b o cs)
-  places-common y b o [] κ = tt
-  places-common y b o (None ∷ cs) κ = (tt, places-common y b (o + type_size R) cs κ)
-  places-common y b o (Some x ∷ cs) κ = (y.shared x b o κ, places-common y b (o + type_size R) cs κ)
+  cells-common : IsSync R → (b o : ℕ) (cs : List (Option R.Denot)) → Common (cells_show R b o cs)
+  cells-common y b o [] κ = tt
+  cells-common y b o (None ∷ cs) κ = (tt, cells-common y b (o + type_size R) cs κ)
+  cells-common y b o (Some x ∷ cs) κ = (y.shared x b o κ, cells-common y b (o + type_size R) cs κ)
 
   row-common : IsSync R → (start : Ptr) (cs : List (Option R.Denot)) → Common (row_shows R start cs)
   row-common y null_ptr [] κ = tt
   row-common y null_ptr (c ∷ cs) κ = tt
-  row-common y (block_ptr b o) cs κ = (places-common y b o cs κ, tt)
+  row-common y (block_ptr b o) cs κ = (cells-common y b o cs κ, tt)
 
   pub row-send : IsSend R → IsSend (Row.the_row R)
   row-send s =
       let T = Row.the_type R in let all : AllSend (fields T) = (search sendable, tt) in
-      owning_send T all (λ d. row-keyless s d.start d.places) (λ k. quiet (to T) (exits_of k (fields T)) ((struct_send (shape T) all).leaving k))
+      owning_send T all (λ d. row-keyless s d.start d.cells) (λ k. quiet (to T) (exits_of k (fields T)) ((struct_send (shape T) all).leaving k))
 
   pub row-sync : IsSync R → IsSync (Row.the_row R)
-  row-sync y = let T = Row.the_type R in record { shared = λ d b o κ. ((struct_sync (shape T) (search sendable, tt)).shared (to T d) b o κ, row-common y d.start d.places κ) }
+  row-sync y = let T = Row.the_type R in record { shared = λ d b o κ. ((struct_sync (shape T) (search sendable, tt)).shared (to T d) b o κ, row-common y d.start d.cells κ) }
 
   module _ (A : RattleType) (g : Ghosts A.Denot) where
     right-keyless : FreesAnywhere A.Denot g → (alloc : A.Denot) (start : Ptr) (n : ℕ) → Keyless (right_owns R (g.dealloc_token alloc) start n)

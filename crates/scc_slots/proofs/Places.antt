@@ -1,4 +1,4 @@
--- One place is taken out of a row and put back, whatever lies in it then; and the room of a block is a row of free places. Assumes `Logic`.
+-- One cell is taken out of a row and put back, whatever lies in it then; and the room of a block is a row of free cells. Assumes `Logic`.
 use Rattle.std.proofs.Common.{◌≡◌, ℕ, zero, suc, ◌+◌, ◌*◌, ◌<◌, List, [], ◌∷◌, length, replicate, get_or, set, Option, Some, None, refl, subst, arith}
 use native.Mathlib.Nat.{zero-mul, suc-mul}
 use seplogic.Ra.Ura.{Ura}
@@ -28,7 +28,7 @@ use Rattle.std_alloc.proofs.RcSteps.{Good, word}
 use types.Kit.{Item, Goal, Seq, Step, some, pick, ‵, ◌⊛◌, ◌$◌, ◌∵◌, !, qed, by, move, keep, use1, use2, split, frame, fsplit, fjoin, done}
 use Rattle.std.specs.Mem.{type_size}
 use Rattle.core.proofs.mem.Param.{El, R, elτ}
-use Rattle.scc_slots.specs.Owned.{place_owns, places_own, place_shows, places_show, row_owns, row_shows}
+use Rattle.scc_slots.specs.Owned.{cell_owns, cells_own, cell_shows, cells_show, row_owns, row_shows}
 
 -- a struct of one field that has no bytes
 abbrev pub mark : Val
@@ -45,13 +45,13 @@ module _ (E : El) where
   abbrev pub size : ℕ
   size = type_size (R E)
 
--- the place that a list holds an entry for is one of it
+-- the cell that a list holds an entry for is one of it
 pub filled-within : {X : Type 0} (cs : List (Option X)) (i : ℕ) (x : X) → get_or cs i None ≡ Some x → i < length cs
 filled-within [] i x e = cc
 filled-within (c ∷ cs) zero x e = omega arith
 filled-within (c ∷ cs) (suc i) x e = let h = filled-within cs i x e in omega arith
 
--- the i-th place lies i sizes after the first
+-- the i-th cell lies i sizes after the first
 first-at : (s o at : ℕ) → at ≡ 0 * s + o → o ≡ at
 first-at s o at e = omega (arith, zero-mul s)
 
@@ -62,66 +62,66 @@ module _ (E : El) {M : Type 1} {𝓤 : Ura M} (𝓛 : Logic 𝓤) (b : ℕ) wher
   open 𝓛 use {H}
 
   abbrev Here : ℕ → Cell E → Fml
-  Here = place_owns (R E) b
+  Here = cell_owns (R E) b
 
   abbrev All : ℕ → List (Cell E) → Fml
-  All = places_own (R E) b
+  All = cells_own (R E) b
 
-  -- all places but the i-th
+  -- all cells but the i-th
   abbrev pub others : ℕ → List (Cell E) → ℕ → Fml
   others o [] i = ftrue
   others o (c ∷ cs) zero = All (o + size E) cs
   others o (c ∷ cs) (suc i) = fsep (Here o c) (others (o + size E) cs i)
 
-  pub place-out : (o at : ℕ) (cs : List (Cell E)) (i : ℕ) → i < length cs → at ≡ i * size E + o
+  pub cell-out : (o at : ℕ) (cs : List (Cell E)) (i : ℕ) → i < length cs → at ≡ i * size E + o
       → ent 𝓤 (sem 𝓛 (All o cs)) (sep 𝓤 (sem 𝓛 (Here at (get_or cs i None))) (sem 𝓛 (others o cs i)))
-  place-out o at [] i h e = absurd (omega arith)
-  place-out o at (c ∷ cs) zero h e =
+  cell-out o at [] i h e = absurd (omega arith)
+  cell-out o at (c ∷ cs) zero h e =
       subst (λ (k : ℕ). ent 𝓤 (sem 𝓛 (All o (c ∷ cs))) (sep 𝓤 (sem 𝓛 (Here k c)) (sem 𝓛 (All (o + size E) cs)))) (first-at (size E) o at e) (id⊢ 𝓤 _)
-  place-out o at (c ∷ cs) (suc i) h e =
+  cell-out o at (c ∷ cs) (suc i) h e =
       let rest = others (o + size E) cs i in
       qed 𝓛 (‵ (All o (c ∷ cs)) ∷ []) ∵ fsplit ! $ move ! (1 ∷ []) $
-      use1 𝓛 (‵ (Here at (get_or cs i None)) ⊛ ‵ rest) (place-out (o + size E) at cs i (omega arith) (later-at (size E) i o at e)) $ split ! $
+      use1 𝓛 (‵ (Here at (get_or cs i None)) ⊛ ‵ rest) (cell-out (o + size E) at cs i (omega arith) (later-at (size E) i o at e)) $ split ! $
       frame ! $ move ! (1 ∷ 0 ∷ []) $ fjoin ! $ done !
 
-  pub place-in : (o at : ℕ) (cs : List (Cell E)) (i : ℕ) (c' : Cell E) → i < length cs → at ≡ i * size E + o
+  pub cell-in : (o at : ℕ) (cs : List (Cell E)) (i : ℕ) (c' : Cell E) → i < length cs → at ≡ i * size E + o
       → ent 𝓤 (sep 𝓤 (sem 𝓛 (Here at c')) (sem 𝓛 (others o cs i))) (sem 𝓛 (All o (set cs i c')))
-  place-in o at [] i c' h e = absurd (omega arith)
-  place-in o at (c ∷ cs) zero c' h e =
+  cell-in o at [] i c' h e = absurd (omega arith)
+  cell-in o at (c ∷ cs) zero c' h e =
       subst (λ (k : ℕ). ent 𝓤 (sep 𝓤 (sem 𝓛 (Here k c')) (sem 𝓛 (All (o + size E) cs))) (sem 𝓛 (All o (c' ∷ cs)))) (first-at (size E) o at e) (id⊢ 𝓤 _)
-  place-in o at (c ∷ cs) (suc i) c' h e =
+  cell-in o at (c ∷ cs) (suc i) c' h e =
       qed 𝓛 (‵ (Here at c') ∷ ‵ (others o (c ∷ cs) (suc i)) ∷ []) ∵ move ! (1 ∷ []) $ fsplit ! $ move ! (2 ∷ 1 ∷ []) $
-      use2 𝓛 (‵ (All (o + size E) (set cs i c'))) (place-in (o + size E) at cs i c' (omega arith) (later-at (size E) i o at e)) $
+      use2 𝓛 (‵ (All (o + size E) (set cs i c'))) (cell-in (o + size E) at cs i c' (omega arith) (later-at (size E) i o at e)) $
       move ! (1 ∷ 0 ∷ []) $ fjoin ! $ done !
 
   module _ (κ : Lft) where
     abbrev Shown : ℕ → List (Cell E) → Fml
-    Shown o cs = places_show (R E) b o cs κ
+    Shown o cs = cells_show (R E) b o cs κ
 
-    pub place-shown : (o at : ℕ) (cs : List (Cell E)) (i : ℕ) → i < length cs → at ≡ i * size E + o
-        → ent 𝓤 (sem 𝓛 (Shown o cs)) (sem 𝓛 (place_shows (R E) b at (get_or cs i None) κ))
-    place-shown o at [] i h e = absurd (omega arith)
-    place-shown o at (c ∷ cs) zero h e =
-        subst (λ (k : ℕ). ent 𝓤 (sem 𝓛 (Shown o (c ∷ cs))) (sem 𝓛 (place_shows (R E) b k c κ))) (first-at (size E) o at e) (fst∗ 𝓤 (sem 𝓛 (place_shows (R E) b o c κ)) (sem 𝓛 (Shown (o + size E) cs)))
-    place-shown o at (c ∷ cs) (suc i) h e =
-        via 𝓤 (sem 𝓛 (Shown (o + size E) cs)) (snd∗ 𝓤 (sem 𝓛 (place_shows (R E) b o c κ)) (sem 𝓛 (Shown (o + size E) cs))) (place-shown (o + size E) at cs i (omega arith) (later-at (size E) i o at e))
+    pub cell-shown : (o at : ℕ) (cs : List (Cell E)) (i : ℕ) → i < length cs → at ≡ i * size E + o
+        → ent 𝓤 (sem 𝓛 (Shown o cs)) (sem 𝓛 (cell_shows (R E) b at (get_or cs i None) κ))
+    cell-shown o at [] i h e = absurd (omega arith)
+    cell-shown o at (c ∷ cs) zero h e =
+        subst (λ (k : ℕ). ent 𝓤 (sem 𝓛 (Shown o (c ∷ cs))) (sem 𝓛 (cell_shows (R E) b k c κ))) (first-at (size E) o at e) (fst∗ 𝓤 (sem 𝓛 (cell_shows (R E) b o c κ)) (sem 𝓛 (Shown (o + size E) cs)))
+    cell-shown o at (c ∷ cs) (suc i) h e =
+        via 𝓤 (sem 𝓛 (Shown (o + size E) cs)) (snd∗ 𝓤 (sem 𝓛 (cell_shows (R E) b o c κ)) (sem 𝓛 (Shown (o + size E) cs))) (cell-shown (o + size E) at cs i (omega arith) (later-at (size E) i o at e))
 
-  -- the room for n entries, place by place
-  pub room-places : (n o : ℕ) → ent 𝓤 (H.room (ty_array (elτ E) n) b o) (sem 𝓛 (All o (replicate n None)))
-  room-places zero o = qed 𝓛 (‵ (froom (ty_array (elτ E) 0) b o) ∷ []) ∵ keep ! [] $ done !
-  room-places (suc n) o = qed 𝓛 (‵ (froom (ty_array (elτ E) (suc n)) b o) ∷ []) ∵
+  -- the room for n entries, cell by cell
+  pub room-cells : (n o : ℕ) → ent 𝓤 (H.room (ty_array (elτ E) n) b o) (sem 𝓛 (All o (replicate n None)))
+  room-cells zero o = qed 𝓛 (‵ (froom (ty_array (elτ E) 0) b o) ∷ []) ∵ keep ! [] $ done !
+  room-cells (suc n) o = qed 𝓛 (‵ (froom (ty_array (elτ E) (suc n)) b o) ∷ []) ∵
       use1 𝓛 (‵ (froom (elτ E) b o) ⊛ ‵ (froom (ty_array (elτ E) n) b (o + size E))) (𝓛.laws.room_uncons (elτ E) n b o) $ split ! $
       use1 𝓛 (‵ (Here o None)) (𝓛.laws.room-raw (elτ E) b o) $ move ! (1 ∷ []) $
-      use1 𝓛 (‵ (All (o + size E) (replicate n None))) (room-places n (o + size E)) $ move ! (1 ∷ 0 ∷ []) $ fjoin ! $ done !
+      use1 𝓛 (‵ (All (o + size E) (replicate n None))) (room-cells n (o + size E)) $ move ! (1 ∷ 0 ∷ []) $ fjoin ! $ done !
 
-  -- and free places are room again
-  pub places-room : (n o : ℕ) → ent 𝓤 (sem 𝓛 (All o (replicate n None))) (H.room (ty_array (elτ E) n) b o)
-  places-room zero o = 𝓛.laws.room_nil (elτ E) b o
-  places-room (suc n) o = qed 𝓛 (‵ (All o (replicate (suc n) None)) ∷ []) ∵ fsplit ! $
+  -- and free cells are room again
+  pub cells-room : (n o : ℕ) → ent 𝓤 (sem 𝓛 (All o (replicate n None))) (H.room (ty_array (elτ E) n) b o)
+  cells-room zero o = 𝓛.laws.room_nil (elτ E) b o
+  cells-room (suc n) o = qed 𝓛 (‵ (All o (replicate (suc n) None)) ∷ []) ∵ fsplit ! $
       use1 𝓛 (‵ (froom (elτ E) b o)) (𝓛.laws.raw-room (elτ E) b o) $ move ! (1 ∷ []) $
-      use1 𝓛 (‵ (froom (ty_array (elτ E) n) b (o + size E))) (places-room n (o + size E)) $ move ! (1 ∷ 0 ∷ []) $ by ! (𝓛.laws.room_cons (elτ E) n b o)
+      use1 𝓛 (‵ (froom (ty_array (elτ E) n) b (o + size E))) (cells-room n (o + size E)) $ move ! (1 ∷ 0 ∷ []) $ by ! (𝓛.laws.room_cons (elτ E) n b o)
 
--- no place lies nowhere
+-- no cell lies nowhere
 pub nowhere-owned : {M : Type 1} {𝓤 : Ura M} (𝓛 : Logic 𝓤) (R : RattleType) (cs : List (Option R.Denot)) (i : ℕ) → i < length cs → ent 𝓤 (sem 𝓛 (row_owns R null_ptr cs)) (never 𝓤)
 nowhere-owned 𝓛 R [] i h = absurd (omega arith)
 nowhere-owned {𝓤 = 𝓤} 𝓛 R (c ∷ cs) i h = id⊢ 𝓤 (never 𝓤)
@@ -130,7 +130,7 @@ pub nowhere-shown : {M : Type 1} {𝓤 : Ura M} (𝓛 : Logic 𝓤) (R : RattleT
 nowhere-shown 𝓛 R [] κ i h = absurd (omega arith)
 nowhere-shown {𝓤 = 𝓤} 𝓛 R (c ∷ cs) κ i h = id⊢ 𝓤 (never 𝓤)
 
--- what lies in a place is a cell with one value, and what the value owns
+-- what lies in a cell is a cell with one value, and what the value owns
 pub cell_out : {M : Type 1} {𝓤 : Ura M} {𝓛 : Logic 𝓤} {K : Type 0} {Γ : List (Item 𝓤)} {G : Goal 𝓤 𝓛.H} → K → {X : RattleType} (L : Laws X) (x : X.Denot) (b o : ℕ)
     → ((v : Val) → Good (layout X) v → Seq K 𝓛 (‵ (fat full_share (layout X) b o v) ∷ ‵ (X.own_val x (v ∷ [])) ∷ Γ) G)
     → Seq K 𝓛 (‵ (part_at (param 0 X) full_share x b o) ∷ Γ) G

@@ -1,16 +1,16 @@
--- What holds of the fields of a block of places.
+-- What holds of the fields of a block of cells.
 use Rattle.std.specs.Prelude.{◌≡◌, ℕ, ◌^◌, ◌<◌, [], length, Option, Some, None}
 use Rattle.scc_slots.specs.declared.row.Right.{Right}
 use Rattle.scc_slots.specs.declared.row.Row.{Row}
 use Rattle.scc_slots.specs.declared.row.Start.{Start}
 
--- the right is to the block of the row; where there is none, the row has no places
+-- the right is to the block of the row; where there is none, the row has no cells
 abbrev pub IsRightTo : {X A : Type 0} → Row X → Option (Right X A) → ℕ → A → Type 0
-IsRightTo row None count alloc = row.places ≡ []
+IsRightTo row None count alloc = row.cells ≡ []
 IsRightTo row (Some right) count alloc = (right.start ≡ row.start) × (right.count ≡ count) × (right.alloc ≡ alloc)
 
--- the row begins at the start and has as many places as the count says, and the right is to its block
+-- the row begins at the start and has as many cells as the count says, and the right is to its block
 pub record IsBlock {X A : Type 0} (start : Start X) (row : Row X) (right : Option (Right X A)) (count : ℕ) (alloc : A) : Type 0 where
   pub begins : start.first ≡ row.start
-  pub places : (length row.places ≡ count) × (count < 2 ^ 63)
+  pub cells : (length row.cells ≡ count) × (count < 2 ^ 63)
   pub right_to : IsRightTo row right count alloc

@@ -1,5 +1,5 @@
 pub mod Blocks
+pub mod CellWords
 pub mod Owned
-pub mod Places
 pub mod RowLends
 pub mod SlotsLends

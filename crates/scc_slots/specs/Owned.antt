@@ -1,4 +1,4 @@
--- What a row of places and the right to its block own, and what a `&` to a row shows.
+-- What a row of cells and the right to its block own, and what a `&` to a row shows.
 use Rattle.std.specs.Prelude.{ℕ, ◌+◌, ◌*◌, ◌^◌, List, [], ◌∷◌, length, Option, Some, None}
 use Rattle.std.specs.Mem.{type_size}
 use base.Fraction.{full_share}
@@ -12,43 +12,43 @@ use denote.RawPtr.{Ptr, block_ptr, null_ptr}
 
 module _ (R : RattleType) (b : ℕ) where
   -- an entry o bytes into the block, or the room for one
-  abbrev pub place_owns : ℕ → Option R.Denot → Fml
-  place_owns o None = froom (raw (lone R.mir)) b o
-  place_owns o (Some x) = part_at R full_share x b o
+  abbrev pub cell_owns : ℕ → Option R.Denot → Fml
+  cell_owns o None = froom (raw (lone R.mir)) b o
+  cell_owns o (Some x) = part_at R full_share x b o
 
-  -- the same of each place of a list, one after another
-  abbrev pub places_own : ℕ → List (Option R.Denot) → Fml
-  places_own o [] = ftrue
-  places_own o (c ∷ cs) = fsep (place_owns o c) (places_own (o + type_size R) cs)
+  -- the same of each cell of a list, one after another
+  abbrev pub cells_own : ℕ → List (Option R.Denot) → Fml
+  cells_own o [] = ftrue
+  cells_own o (c ∷ cs) = fsep (cell_owns o c) (cells_own (o + type_size R) cs)
 
-  -- what a place shows while it is lent to be read
-  abbrev pub place_shows : ℕ → Option R.Denot → Lft → Fml
-  place_shows o None = nothing
-  place_shows o (Some x) = shared_of R x b o
+  -- what a cell shows while it is lent to be read
+  abbrev pub cell_shows : ℕ → Option R.Denot → Lft → Fml
+  cell_shows o None = nothing
+  cell_shows o (Some x) = shared_of R x b o
 
-  -- what places in a row show while they are lent to be read
-  abbrev pub places_show : ℕ → List (Option R.Denot) → Lft → Fml
-  places_show o [] = nothing
-  places_show o (c ∷ cs) = beside (place_shows o c) (places_show (o + type_size R) cs)
+  -- what cells in a row show while they are lent to be read
+  abbrev pub cells_show : ℕ → List (Option R.Denot) → Lft → Fml
+  cells_show o [] = nothing
+  cells_show o (c ∷ cs) = beside (cell_shows o c) (cells_show (o + type_size R) cs)
 
 module _ (R : RattleType) where
-  -- the places have fewer than 2 ^ 63 bytes
+  -- the cells have fewer than 2 ^ 63 bytes
   abbrev pub bounded : List (Option R.Denot) → Fml
   bounded cs = flt (length cs * type_size R) (2 ^ 63)
 
-  -- a row owns its places; no place lies nowhere
+  -- a row owns its cells; no cell lies nowhere
   abbrev pub row_owns : Ptr → List (Option R.Denot) → Fml
   row_owns null_ptr [] = ftrue
   row_owns null_ptr (c ∷ cs) = ffalse
-  row_owns (block_ptr b o) cs = fsep (places_own R b o cs) (bounded cs)
+  row_owns (block_ptr b o) cs = fsep (cells_own R b o cs) (bounded cs)
 
   -- what a row shows while it is lent to be read
   abbrev pub row_shows : Ptr → List (Option R.Denot) → Lft → Fml
   row_shows null_ptr [] = nothing
   row_shows null_ptr (c ∷ cs) = said ffalse
-  row_shows (block_ptr b o) cs = beside (places_show R b o cs) (said (bounded cs))
+  row_shows (block_ptr b o) cs = beside (cells_show R b o cs) (said (bounded cs))
 
-  -- what lets the block of n places go back
+  -- what lets the block of n cells go back
   abbrev pub right_owns : (Ty → Ptr → Fml) → Ptr → ℕ → Fml
   right_owns token null_ptr n = ffalse
   right_owns token (block_ptr b o) n = token (raw (ty_array (lone R.mir) n)) (block_ptr b o)

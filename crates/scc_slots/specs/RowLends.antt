@@ -4,10 +4,10 @@ use Rattle.std.specs.Borrow.{Fml, RattleType, MutBor, Lends}
 use Rattle.scc_slots.specs.declared.row.Row.{Row}
 use Rattle.scc_slots.specs.contracts.row.Row.{the_row}
 
--- the row with other places
-abbrev pub with_places : {X : Type 0} → Row X → List (Option X) → Row X
-with_places row cs = record { of = row.of; start = row.start; places = cs }
+-- the row with other cells
+abbrev pub with_cells : {X : Type 0} → Row X → List (Option X) → Row X
+with_cells row cs = record { of = row.of; start = row.start; cells = cs }
 
--- the entry at place i of a row is lent: once it is given back, the place holds what was written
+-- the entry at cell i of a row is lent: once it is given back, the cell holds what was written
 abbrev pub lends_place : (R : RattleType) → MutBor (Row R.Denot) → ℕ → MutBor R.Denot → Fml
-lends_place R row i entry = Lends (the_row R) R row entry (λ w. with_places row.now (slice_set row.now.places i (Some w)))
+lends_place R row i entry = Lends (the_row R) R row entry (λ w. with_cells row.now (slice_set row.now.cells i (Some w)))

@@ -1,8 +1,8 @@
--- What places end as, once a `&mut` to one of their entries has ended.
+-- What cells end as, once a `&mut` to one of their entries has ended.
 use Rattle.std.specs.Prelude.{ℕ, List, slice_set, Option, Some}
 use Rattle.std.specs.Borrow.{Fml, RattleType, MutBor, Lends}
-use Rattle.scc_slots.specs.contracts.cells.Slots.{the_row}
+use Rattle.scc_slots.specs.contracts.cells.Cells.{the_row}
 
--- the entry at place i is lent: once it is given back, the place holds what was written
-abbrev pub lends_slot : (R : RattleType) → MutBor (List (Option R.Denot)) → ℕ → MutBor R.Denot → Fml
-lends_slot R slots i entry = Lends (the_row R) R slots entry (λ w. slice_set slots.now i (Some w))
+-- the entry at cell i is lent: once it is given back, the cell holds what was written
+abbrev pub lends_cell : (R : RattleType) → MutBor (List (Option R.Denot)) → ℕ → MutBor R.Denot → Fml
+lends_cell R slots i entry = Lends (the_row R) R slots entry (λ w. slice_set slots.now i (Some w))

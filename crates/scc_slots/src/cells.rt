@@ -1,17 +1,17 @@
-//! Places for entries as their owner sees them: a list with an entry or nothing for each place.
-ghost use Rattle.scc_slots.specs.Places.{IsFilled, IsVacant, IsDrained};
+//! Places for entries as their owner sees them: a list with an entry or nothing for each cell.
+ghost use Rattle.scc_slots.specs.CellWords.{IsFilled, IsEmptyCell, IsDrained};
 ghost use Rattle.std.specs.Borrow.{sem};
 ghost use Rattle.std.specs.Prelude.{◌≡◌, ◌^◌, ◌<◌, [], List, Option, Some, None, length, replicate, slice_index_or, slice_set, IfOk};
 
-use crate::row::{Right, Row, Start, end_row, give_back, no_places, nowhere, obtain};
+use crate::row::{Right, Row, Start, end_row, give_back, no_cells, nowhere, obtain};
 use std::alloc::{AllocError, Global};
 use std::marker::Model;
 use std::mem;
 use std_alloc::room::may_hold;
 
-/// Places for entries, in one block of memory; what has no places has none. It drops no entry: all places have to be
+/// Places for entries, in one block of memory; what has no cells has none. It drops no entry: all cells have to be
 /// free before it is given back.
-pub struct Slots<E> {
+pub struct Cells<E> {
     start: Start<E>,
     count: usize,
     row: Row<E>,
@@ -19,7 +19,7 @@ pub struct Slots<E> {
     alloc: Global,
 }
 
-impl<E> Model for Slots<E> {
+impl<E> Model for Cells<E> {
     ghost use Rattle.scc_slots.specs.Blocks.{IsBlock};
     ghost use Rattle.std.specs.Coded.{coded_list, coded_option};
     ghost use Rattle.std.specs.Prelude.{List, Option};
@@ -28,36 +28,36 @@ impl<E> Model for Slots<E> {
 
     ghost coded = { coded_list (coded_option E.code) };
 
-    ghost view = { λ s. s.row.places };
+    ghost view = { λ s. s.row.cells };
 
     ghost invariant = { λ s. IsBlock s.start s.row s.right s.count s.alloc };
 }
 
-impl<E> Slots<E> {
-    ghost use Rattle.scc_slots.specs.SlotsLends.{lends_slot};
+impl<E> Cells<E> {
+    ghost use Rattle.scc_slots.specs.SlotsLends.{lends_cell};
 
-    /// No places, for which no memory is asked.
-    pub fn none(alloc: Global) -> Slots<E>
+    /// No cells, for which no memory is asked.
+    pub fn none(alloc: Global) -> Cells<E>
         ensures { result ≡ [] }
     {
-        Slots {
+        Cells {
             start: nowhere(),
             count: 0,
-            row: no_places(),
+            row: no_cells(),
             right: None,
             alloc,
         }
     }
 
-    /// Asks for `count` places and writes to none of them.
-    pub fn with_places(alloc: Global, count: usize) -> Result<Slots<E>, AllocError>
+    /// Asks for `count` cells and writes to none of them.
+    pub fn with_cells(alloc: Global, count: usize) -> Result<Cells<E>, AllocError>
         ensures { IfOk result (λ s. s ≡ replicate count None) }
     {
         if !may_hold::<E>(count) {
             return Err(AllocError);
         }
         let (start, (row, right)) = obtain(&alloc, count)?;
-        Ok(Slots {
+        Ok(Cells {
             start,
             count,
             row,
@@ -66,79 +66,79 @@ impl<E> Slots<E> {
         })
     }
 
-    /// The number of places.
+    /// The number of cells.
     #[inline(always)]
-    pub fn places(&self) -> usize
+    pub fn cells(&self) -> usize
         ensures count { result ≡ length self.now }
         ensures within { result < 2 ^ 63 }
     {
         self.count
     }
 
-    /// Fills a free place.
+    /// Fills a free cell.
     #[inline(always)]
-    pub fn put(&mut self, place: usize, entry: E)
-        requires { IsVacant self.old place }
-        ensures { self.new ≡ slice_set self.old place (Some entry) }
+    pub fn put(&mut self, cell: usize, entry: E)
+        requires { IsEmptyCell self.old cell }
+        ensures { self.new ≡ slice_set self.old cell (Some entry) }
     {
-        self.row.put(self.start, place, entry);
+        self.row.put(self.start, cell, entry);
     }
 
-    /// Takes the entry of a place, which is free then.
+    /// Takes the entry of a cell, which is free then.
     #[inline(always)]
-    pub fn take(&mut self, place: usize) -> E
-        requires { IsFilled self.old place }
-        ensures entry { slice_index_or self.old place None ≡ Some result }
-        ensures places { self.new ≡ slice_set self.old place None }
+    pub fn take(&mut self, cell: usize) -> E
+        requires { IsFilled self.old cell }
+        ensures entry { slice_index_or self.old cell None ≡ Some result }
+        ensures cells { self.new ≡ slice_set self.old cell None }
     {
-        self.row.take(self.start, place)
+        self.row.take(self.start, cell)
     }
 
-    /// The entry of a place.
+    /// The entry of a cell.
     #[inline(always)]
-    pub fn get(&self, place: usize) -> &E
-        requires { IsFilled self.now place }
-        ensures { slice_index_or self.now place None ≡ Some result.now }
+    pub fn get(&self, cell: usize) -> &E
+        requires { IsFilled self.now cell }
+        ensures { slice_index_or self.now cell None ≡ Some result.now }
     {
-        self.row.get(self.start, place)
+        self.row.get(self.start, cell)
     }
 
-    /// The entry of a place, to write to.
+    /// The entry of a cell, to write to.
     #[inline(always)]
-    pub fn get_mut(&mut self, place: usize) -> &mut E
-        requires { IsFilled self.old place }
-        ensures* writes_back { sem 𝓛 (lends_slot E.row self.entry place result) }
-        ensures entry { slice_index_or self.old place None ≡ Some result.now }
+    pub fn get_mut(&mut self, cell: usize) -> &mut E
+        requires { IsFilled self.old cell }
+        ensures* writes_back { sem 𝓛 (lends_cell E.row self.entry cell result) }
+        ensures entry { slice_index_or self.old cell None ≡ Some result.now }
     {
-        self.row.get_mut(self.start, place)
+        self.row.get_mut(self.start, cell)
     }
 
-    /// Writes over the entry of a place, and answers what was there.
+    /// Writes over the entry of a cell, and answers what was there.
     #[inline(always)]
-    pub fn replace(&mut self, place: usize, entry: E) -> E
-        requires { IsFilled self.old place }
-        ensures entry { slice_index_or self.old place None ≡ Some result }
-        ensures places { self.new ≡ slice_set self.old place (Some entry) }
+    pub fn replace(&mut self, cell: usize, entry: E) -> E
+        requires { IsFilled self.old cell }
+        ensures entry { slice_index_or self.old cell None ≡ Some result }
+        ensures cells { self.new ≡ slice_set self.old cell (Some entry) }
     {
-        mem::replace(self.row.get_mut(self.start, place), entry)
+        mem::replace(self.row.get_mut(self.start, cell), entry)
     }
 
-    /// Moves the entry at `from` to the free place `to`.
+    /// Moves the entry at `from` to the free cell `to`.
     #[inline(always)]
-    pub fn move_place(&mut self, from: usize, to: usize)
+    pub fn move_cell(&mut self, from: usize, to: usize)
         requires from { IsFilled self.old from }
-        requires to { IsVacant self.old to }
+        requires to { IsEmptyCell self.old to }
         ensures { self.new ≡ slice_set (slice_set self.old from None) to (slice_index_or self.old from None) }
     {
         let entry = self.row.take(self.start, from);
         self.row.put(self.start, to, entry);
     }
 
-    /// Gives the block back. All its places have to be free.
+    /// Gives the block back. All its cells have to be free.
     pub fn destroy_empty(self)
         requires { IsDrained self }
     {
-        let Slots {
+        let Cells {
             start,
             count,
             row,

@@ -1,4 +1,4 @@
-//! One block of places for entries, seen as a list of options. A place doesn't say whether it is in use: its owner has
+//! One block of cells for entries, seen as a list of options. A cell doesn't say whether it is in use: its owner has
 //! to know.
 #![tactic(auto)]
 
@@ -7,4 +7,4 @@ mod row;
 
 #[doc(hidden)]
 pub use row::{Right, Row, Start};
-pub use slots::Slots;
+pub use slots::Cells;

@@ -1,7 +1,7 @@
-//! The places themselves, behind a pointer, and the right to give their block back. The only code of the containers
+//! The cells themselves, behind a pointer, and the right to give their block back. The only code of the containers
 //! that goes by a raw pointer.
 ghost use Rattle.scc_slots.specs.Owned.{row_owns, row_shows, right_owns};
-ghost use Rattle.scc_slots.specs.Places.{IsFilled, IsVacant};
+ghost use Rattle.scc_slots.specs.CellWords.{IsFilled, IsEmptyCell};
 ghost use Rattle.std.specs.Borrow.{sem};
 ghost use Rattle.std.specs.Prelude.{◌≡◌, ℕ, ◌<◌, [], List, Option, Some, None, replicate, slice_index_or, slice_set, IfOk};
 ghost use Rattle.std.specs.Vec.Ownership.{FitsInBlock};
@@ -34,24 +34,24 @@ unsafe impl<E> Send for Start<E> {}
 
 unsafe impl<E> Sync for Start<E> {}
 
-/// The owner of each entry that lies in a place, and of the room of each place that is free. It has no bytes.
+/// The owner of each entry that lies in a cell, and of the room of each cell that is free. It has no bytes.
 pub struct Row<E> {
     of: PhantomData<*const E>,
     ghost start: { Ptr },
-    ghost places: { List (Option E) },
+    ghost cells: { List (Option E) },
 }
 
 impl<E> Model for Row<E> {
-    ghost also_owns = { λ row. row_owns E.row row.start row.places };
+    ghost also_owns = { λ row. row_owns E.row row.start row.cells };
 
-    ghost also_shares = { λ row _ κ. row_shows E.row row.start row.places κ };
+    ghost also_shares = { λ row _ κ. row_shows E.row row.start row.cells κ };
 }
 
 unsafe impl<E: Send> Send for Row<E> {}
 
 unsafe impl<E: Sync> Sync for Row<E> {}
 
-/// The right to give the block of `count` places at `start` back to `alloc`. It has no bytes.
+/// The right to give the block of `count` cells at `start` back to `alloc`. It has no bytes.
 pub struct Right<E, A: Allocator> {
     of: PhantomData<*const (E, A)>,
     ghost start: { Ptr },
@@ -70,13 +70,13 @@ unsafe impl<E, A: Allocator + Send> Send for Right<E, A> {}
 // Nothing is reached through a `&` to it.
 unsafe impl<E, A: Allocator> Sync for Right<E, A> {}
 
-/// Asks for `count` places and writes none of them.
+/// Asks for `count` cells and writes none of them.
 pub(crate) fn obtain<E, A: Allocator>(
     alloc: &A,
     count: usize,
 ) -> Result<(Start<E>, (Row<E>, Right<E, A>)), AllocError>
     requires { FitsInBlock E.row count }
-    ensures { IfOk result (λ made. (made.1.0.start ≡ made.0.first) × (made.1.0.places ≡ replicate count None)
+    ensures { IfOk result (λ made. (made.1.0.start ≡ made.0.first) × (made.1.0.cells ≡ replicate count None)
         × (made.1.1.start ≡ made.0.first) × (made.1.1.count ≡ count) × (made.1.1.alloc ≡ alloc.now)) }
 {
     match alloc.allocate(count * size_of::<E>(), align_of::<E>()) {
@@ -90,28 +90,28 @@ pub(crate) fn obtain<E, A: Allocator>(
     }
 }
 
-/// The start of no places, which lie nowhere.
+/// The start of no cells, which lie nowhere.
 pub(crate) fn nowhere<E>() -> Start<E>
     ensures { result.first ≡ null_ptr }
 {
     Start { first: null_mut() }
 }
 
-/// The row of no places.
-pub(crate) fn no_places<E>() -> Row<E>
-    ensures { (result.start ≡ null_ptr) × (result.places ≡ []) }
+/// The row of no cells.
+pub(crate) fn no_cells<E>() -> Row<E>
+    ensures { (result.start ≡ null_ptr) × (result.cells ≡ []) }
 {
     Row { of: PhantomData }
 }
 
-/// Ends a row of no places.
+/// Ends a row of no cells.
 pub(crate) fn end_row<E>(row: Row<E>)
-    requires { row.places ≡ [] }
+    requires { row.cells ≡ [] }
 {
     let Row { of: _ } = row;
 }
 
-/// Gives the block of `count` free places back.
+/// Gives the block of `count` free cells back.
 pub(crate) fn give_back<E, A: Allocator>(
     alloc: &A,
     start: Start<E>,
@@ -119,7 +119,7 @@ pub(crate) fn give_back<E, A: Allocator>(
     row: Row<E>,
     right: Right<E, A>,
 )
-    requires { (row.start ≡ start.first) × (row.places ≡ replicate count None) × (right.start ≡ start.first)
+    requires { (row.start ≡ start.first) × (row.cells ≡ replicate count None) × (right.start ≡ start.first)
         × (right.count ≡ count) × (right.alloc ≡ alloc.now) }
 {
     let Row { of: _ } = row;
@@ -136,37 +136,37 @@ pub(crate) fn give_back<E, A: Allocator>(
 impl<E> Row<E> {
     ghost use Rattle.scc_slots.specs.RowLends.{lends_place};
 
-    /// Fills a free place.
-    pub(crate) fn put(&mut self, start: Start<E>, place: usize, entry: E)
-        requires { (start.first ≡ self.old.start) × IsVacant self.old.places place }
-        ensures { (self.new.start ≡ self.old.start) × (self.new.places ≡ slice_set self.old.places place (Some entry)) }
+    /// Fills a free cell.
+    pub(crate) fn put(&mut self, start: Start<E>, cell: usize, entry: E)
+        requires { (start.first ≡ self.old.start) × IsEmptyCell self.old.cells cell }
+        ensures { (self.new.start ≡ self.old.start) × (self.new.cells ≡ slice_set self.old.cells cell (Some entry)) }
     {
-        unsafe { start.first.add(place).write(entry) }
+        unsafe { start.first.add(cell).write(entry) }
     }
 
-    /// Takes the entry of a place, which is free then.
-    pub(crate) fn take(&mut self, start: Start<E>, place: usize) -> E
-        requires { (start.first ≡ self.old.start) × IsFilled self.old.places place }
-        ensures entry { slice_index_or self.old.places place None ≡ Some result }
-        ensures places { (self.new.start ≡ self.old.start) × (self.new.places ≡ slice_set self.old.places place None) }
+    /// Takes the entry of a cell, which is free then.
+    pub(crate) fn take(&mut self, start: Start<E>, cell: usize) -> E
+        requires { (start.first ≡ self.old.start) × IsFilled self.old.cells cell }
+        ensures entry { slice_index_or self.old.cells cell None ≡ Some result }
+        ensures cells { (self.new.start ≡ self.old.start) × (self.new.cells ≡ slice_set self.old.cells cell None) }
     {
-        unsafe { start.first.add(place).read() }
+        unsafe { start.first.add(cell).read() }
     }
 
-    /// The entry of a place.
-    pub(crate) fn get(&self, start: Start<E>, place: usize) -> &E
-        requires { (start.first ≡ self.now.start) × IsFilled self.now.places place }
-        ensures { slice_index_or self.now.places place None ≡ Some result.now }
+    /// The entry of a cell.
+    pub(crate) fn get(&self, start: Start<E>, cell: usize) -> &E
+        requires { (start.first ≡ self.now.start) × IsFilled self.now.cells cell }
+        ensures { slice_index_or self.now.cells cell None ≡ Some result.now }
     {
-        unsafe { &*start.first.add(place) }
+        unsafe { &*start.first.add(cell) }
     }
 
-    /// The entry of a place, to write to.
-    pub(crate) fn get_mut(&mut self, start: Start<E>, place: usize) -> &mut E
-        requires { (start.first ≡ self.old.start) × IsFilled self.old.places place }
-        ensures* writes_back { sem 𝓛 (lends_place E.row self.entry place result) }
-        ensures entry { slice_index_or self.old.places place None ≡ Some result.now }
+    /// The entry of a cell, to write to.
+    pub(crate) fn get_mut(&mut self, start: Start<E>, cell: usize) -> &mut E
+        requires { (start.first ≡ self.old.start) × IsFilled self.old.cells cell }
+        ensures* writes_back { sem 𝓛 (lends_place E.row self.entry cell result) }
+        ensures entry { slice_index_or self.old.cells cell None ≡ Some result.now }
     {
-        unsafe { &mut *start.first.add(place) }
+        unsafe { &mut *start.first.add(cell) }
     }
 }

@@ -1,4 +1,4 @@
-pub mod Following
-pub mod Parts
+pub mod Minimums
+pub mod OpenStripes
 pub mod Seats
 pub mod Stripes

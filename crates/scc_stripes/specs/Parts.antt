@@ -3,25 +3,25 @@ use Rattle.std.specs.Prelude.{ℕ, List, vec_len}
 use Rattle.std.specs.Arc.{arc_value}
 use Rattle.std.specs.declared.alloc.Global.{Global}
 use Rattle.std.specs.declared.sync.Arc.{Arc}
-use Rattle.scc_stripes.specs.declared.parts.Parts.{Parts}
+use Rattle.scc_stripes.specs.declared.parts.OpenStripes.{OpenStripes}
 
 module _ {O H : Type 0} where
   -- the containers
-  abbrev pub parts_of : Parts O H → List O
+  abbrev pub parts_of : OpenStripes O H → List O
   parts_of p = p.parts.items
 
   -- the number of parts
-  abbrev pub part_count : Parts O H → ℕ
+  abbrev pub part_count : OpenStripes O H → ℕ
   part_count p = vec_len p.parts
 
   -- the number of first bits of a hash that pick the part
-  abbrev pub part_bits : Parts O H → ℕ
+  abbrev pub part_bits : OpenStripes O H → ℕ
   part_bits p = p.bits
 
   -- the owner of the hasher
-  abbrev pub parts_owner : Parts O H → Arc H Global
+  abbrev pub parts_owner : OpenStripes O H → Arc H Global
   parts_owner p = p.hasher
 
   -- the hasher, which all parts share
-  abbrev pub parts_hasher : Parts O H → H
+  abbrev pub parts_hasher : OpenStripes O H → H
   parts_hasher p = arc_value (parts_owner p)

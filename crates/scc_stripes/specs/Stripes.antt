@@ -1,7 +1,7 @@
 -- What stripes are, and what each gets.
 use Rattle.std.specs.Prelude.{ℕ, ◌+◌, ◌-◌, ◌/◌, ◌^◌, vec_len}
 use Rattle.std.specs.Arc.{arc_value}
-use Rattle.scc_stripes.specs.declared.shares.Added.{Added}
+use Rattle.scc_stripes.specs.declared.shares.BookReservation.{BookReservation}
 use Rattle.scc_stripes.specs.declared.Striped.{Striped}
 
 module _ {O H : Type 0} where
@@ -18,8 +18,8 @@ module _ {O H : Type 0} where
   stripes_hasher s = arc_value s.hasher
 
 -- the number of slots that were added
-abbrev pub added_slots : Added → ℕ
-added_slots a = a.additional
+abbrev pub reservation_slots : BookReservation → ℕ
+reservation_slots a = a.additional
 
 -- the share of one of 2 ^ bits stripes, rounded up
 abbrev pub share_of : ℕ → ℕ → ℕ

@@ -11,13 +11,13 @@ pub mod parts;
 pub mod seats;
 pub mod shares;
 
-use crate::parts::Parts;
-use crate::shares::{Added, ReserveBook, share};
-pub use parts::Parts;
+use crate::parts::OpenStripes;
+use crate::shares::{BookReservation, ReserveBook, share};
+pub use parts::OpenStripes;
 use scc_buckets::place::bucket_index;
 use scc_common::MakeError;
 pub use seats::Seat;
-pub use shares::{Added, ReserveBook};
+pub use shares::{BookReservation, ReserveBook};
 use std::alloc::Global;
 use std::hash::{BuildHasher, Hash};
 use std::hint::spin_loop;
@@ -68,7 +68,7 @@ pub struct Striped<O, H> {
 }
 
 impl<O, H> Striped<O, H> {
-    ghost use Rattle.scc_stripes.specs.Stripes.{added_slots, stripe_bits, stripe_count, stripes_hasher};
+    ghost use Rattle.scc_stripes.specs.Stripes.{reservation_slots, stripe_bits, stripe_count, stripes_hasher};
 
     /// As many empty containers as so many bits can number, each with its share of the slots and of the maximum.
     pub fn make(
@@ -87,7 +87,7 @@ impl<O, H> Striped<O, H> {
         ensures bits { IfOk result (λ s. stripe_bits s ≡ bits) }
         ensures hasher { IfOk result (λ s. stripes_hasher s ≡ arc_value hasher) }
     {
-        Parts::make(alloc, bits, slots, maximum, hasher)?.lock(alloc)
+        OpenStripes::make(alloc, bits, slots, maximum, hasher)?.lock(alloc)
     }
 
     /// One more owner of the hasher.
@@ -256,10 +256,10 @@ impl<O, H> Striped<O, H> {
 
     /// Adds so many slots to the minimum, and lets the stripes follow one after another; None for 0, and where the
     /// minimum would pass the greatest capacity.
-    pub fn reserve(&self, rt: &impl Wait, additional: usize) -> Option<Added<'_>>
+    pub fn reserve(&self, rt: &impl Wait, additional: usize) -> Option<BookReservation<'_>>
     where
         O: Follow,
-        ensures { IfSome result (λ r. (added_slots r ≡ additional) × (0 < additional) × (additional ≤ 2 ^ 63)) }
+        ensures { IfSome result (λ r. (reservation_slots r ≡ additional) × (0 < additional) × (additional ≤ 2 ^ 63)) }
     {
         let added = self.book.add(rt, additional)?;
         for stripe in 0..self.locks.len() {

@@ -15,7 +15,7 @@ use std::sync::{Arc, RwLock};
 /// As many containers as so many bits can number, under one hasher. No lock is round them yet, and whoever has them can
 /// fill them without waiting.
 #[derive(Drop)]
-pub struct Parts<O, H> {
+pub struct OpenStripes<O, H> {
     parts: Vec<O>,
     hasher: Arc<H>,
     bits: u32,
@@ -24,7 +24,7 @@ pub struct Parts<O, H> {
     pub ghost number: { vec_len parts ≡ 2 ^ bits },
 }
 
-impl<O, H> Parts<O, H> {
+impl<O, H> OpenStripes<O, H> {
     ghost use Rattle.scc_stripes.specs.Parts.{part_bits, part_count, parts_hasher, parts_of, parts_owner};
     ghost use Rattle.scc_stripes.specs.Stripes.{stripe_bits, stripes_hasher};
 
@@ -57,7 +57,7 @@ impl<O, H> Parts<O, H> {
                 return Err(MakeError);
             }
         }
-        Ok(Parts {
+        Ok(OpenStripes {
             parts,
             hasher,
             bits,
@@ -96,7 +96,7 @@ impl<O, H> Parts<O, H> {
         ensures bits { IfOk result (λ s. stripe_bits s ≡ part_bits self) }
         ensures hasher { IfOk result (λ s. stripes_hasher s ≡ parts_hasher self) }
     {
-        let Parts {
+        let OpenStripes {
             parts,
             hasher,
             bits,

@@ -1,5 +1,5 @@
 //! What each stripe gets, and the slots that callers of a shared container have reserved.
-ghost use Rattle.scc_stripes.specs.Stripes.{share_of, added_slots};
+ghost use Rattle.scc_stripes.specs.Stripes.{share_of, reservation_slots};
 ghost use Rattle.std.specs.Prelude.{◌≡◌, ◌≤◌, ◌<◌, ◌+◌, ◌*◌, ◌^◌, ◌⊎◌, IfSome};
 
 use scc_buckets::sizes::GREATEST_CAPACITY;
@@ -61,15 +61,15 @@ impl ReserveBook {
     }
 
     /// Adds so many slots, unless that is 0 or the sum would be above the greatest capacity. One caller adds at a time.
-    pub fn add(&self, rt: &impl Wait, additional: usize) -> Option<Added<'_>>
-        ensures { IfSome result (λ r. (added_slots r ≡ additional) × (0 < additional) × (additional ≤ 2 ^ 63)) }
+    pub fn add(&self, rt: &impl Wait, additional: usize) -> Option<BookReservation<'_>>
+        ensures { IfSome result (λ r. (reservation_slots r ≡ additional) × (0 < additional) × (additional ≤ 2 ^ 63)) }
     {
         let _turn = self.adding.lock(rt);
         if additional == 0 || additional > GREATEST_CAPACITY - self.minimum() {
             return None;
         }
         self.minimum.fetch_add(additional as u64, Ordering::SeqCst);
-        Some(Added {
+        Some(BookReservation {
             book: self,
             additional,
         })
@@ -77,23 +77,23 @@ impl ReserveBook {
 }
 
 /// Slots that were added, and are given back when this is dropped. The drop waits for nobody.
-pub struct Added<'h> {
+pub struct BookReservation<'h> {
     book: &'h ReserveBook,
     additional: usize,
 }
 
-impl<'h> Added<'h> {
+impl<'h> BookReservation<'h> {
     /// How many slots they are.
     pub fn additional_capacity(&self) -> usize
-        ensures { result ≡ added_slots self.now }
+        ensures { result ≡ reservation_slots self.now }
     {
         self.additional
     }
 }
 
-impl<'h> Drop for Added<'h> {
+impl<'h> Drop for BookReservation<'h> {
     fn drop(self) {
-        let Added { book, additional } = self;
+        let BookReservation { book, additional } = self;
         book.minimum.fetch_sub(additional as u64, Ordering::SeqCst);
     }
 }

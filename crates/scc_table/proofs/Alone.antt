@@ -4,10 +4,10 @@ use Rattle.std.specs.List.{flat_map, IsDistinct}
 use Rattle.std.proofs.lemmas.List.Sums.{sum_by-cons}
 use Rattle.scc_array.specs.Shelf.{Shelf, shelf_entries}
 use Rattle.scc_buckets.proofs.Bare.{nil-left}
-use Rattle.scc_contents.specs.Contents.{Contents, entries, bucket_count, lists_of, settings_of, refused_of, spilled_of, owed_of}
+use Rattle.scc_contents.specs.Contents.{Contents, entries, bucket_count, lists_of, settings_of, refused_of, overflow_of, owed_of}
 use Rattle.scc_buckets.specs.Pour.{bound_for}
 use Rattle.scc_contents.specs.Routing.{bucket_number}
-use Rattle.scc_buckets.specs.Tables.{spilled_in}
+use Rattle.scc_buckets.specs.Tables.{overflow_in}
 use Rattle.scc_table.specs.TwoArrays.{owed_in, target_by, together, TwoArrays, IsTable}
 
 equal : (a b : ℕ) → a ≡ b → (a == b) ≡ true
@@ -26,7 +26,7 @@ module _ {E S : Type 0} (hash : E → ℕ) (c : Contents E S) (ws : List Bool) (
   pub nothing-owed : TwoArrays hash c ws olds → flat_map shelf_entries olds ≡ []
   nothing-owed arrays =
       let there : TwoArrays hash c [] olds = subst (λ w. TwoArrays hash c w olds) none arrays in
-      bound-nowhere hash (settings_of c).skipped (bucket_count c) (flat_map shelf_entries olds) (λ i. there.settled i refl)
+      bound-nowhere hash (settings_of c).skipped (bucket_count c) (flat_map shelf_entries olds) (λ i. there.not_waiting i refl)
 
   pub lists-alone : lists_of (together hash c ws olds) ≡ lists_of c
   unfolding lists_of
@@ -44,15 +44,15 @@ module _ {E S : Type 0} (hash : E → ℕ) (c : Contents E S) (ws : List Bool) (
   unfolding owed_of
   owed-alone = ap (λ w. owed_in (target_by hash c) w olds) none
 
-pub spilled-together : {E S : Type 0} (hash : E → ℕ) (c : Contents E S) (ws : List Bool) (olds : List (Shelf E)) → spilled_of (together hash c ws olds) ≡ spilled_of c + spilled_in olds
-unfolding spilled_of
+pub spilled-together : {E S : Type 0} (hash : E → ℕ) (c : Contents E S) (ws : List Bool) (olds : List (Shelf E)) → overflow_of (together hash c ws olds) ≡ overflow_of c + overflow_in olds
+unfolding overflow_of
 spilled-together hash c ws olds = refl
 
-pub spilled-alone : {E S : Type 0} (hash : E → ℕ) (c : Contents E S) (ws : List Bool) → spilled_of (together hash c ws []) ≡ spilled_of c
+pub spilled-alone : {E S : Type 0} (hash : E → ℕ) (c : Contents E S) (ws : List Bool) → overflow_of (together hash c ws []) ≡ overflow_of c
 spilled-alone hash c ws = let z = spilled-together hash c ws [] in omega arith
 
 -- no more lie in an overflow list than there are
-pub spilled-bare : {E : Type 0} (olds : List (Shelf E)) → flat_map shelf_entries olds ≡ [] → spilled_in olds ≡ 0
+pub spilled-bare : {E : Type 0} (olds : List (Shelf E)) → flat_map shelf_entries olds ≡ [] → overflow_in olds ≡ 0
 spilled-bare [] h = refl
 spilled-bare {E} (b ∷ olds) h =
     let parts = nil-left (shelf_entries b) (flat_map shelf_entries olds) h in
@@ -64,10 +64,10 @@ spilled-bare {E} (b ∷ olds) h =
 -- an old array in which nothing lies shows nothing
 pub bare-together : {E S : Type 0} (hash : E → ℕ) (c : Contents E S) (olds : List (Shelf E)) → flat_map shelf_entries olds ≡ [] → together hash c [] olds ≡ together hash c [] []
 bare-together {E} {S} hash c olds bare =
-    ap (λ n. let d : Contents E S = record { lists = lists_of c; settings = settings_of c; refused = refused_of c; spilled = spilled_of c + n; waiting = []; owed = [] } in d) (spilled-bare olds bare)
+    ap (λ n. let d : Contents E S = record { lists = lists_of c; settings = settings_of c; refused = refused_of c; spilled = overflow_of c + n; waiting = []; owed = [] } in d) (spilled-bare olds bare)
 
 -- of all fields where there is no old array
-pub fields-alone : {E K S : Type 0} (eq : K → K → Bool) (key : E → K) (hash : K → ℕ) (c : Contents E S) (skipped next : ℕ) → skipped ≡ (settings_of c).skipped → skipped ≤ 4 → spilled_of c < 2 ^ 62 → IsDistinct eq (map key (entries c))
+pub fields-alone : {E K S : Type 0} (eq : K → K → Bool) (key : E → K) (hash : K → ℕ) (c : Contents E S) (skipped next : ℕ) → skipped ≡ (settings_of c).skipped → skipped ≤ 4 → overflow_of c < 2 ^ 62 → IsDistinct eq (map key (entries c))
     → IsTable eq key hash c (record { array = []; waiting = []; pending = 0; next = next; left = 0; left_overflow = 0 }) skipped
 fields-alone eq key hash c skipped next skips few_bits few unique = record {
   arrays = record {
@@ -75,7 +75,7 @@ fields-alone eq key hash c skipped next skips few_bits few unique = record {
     multiples = inl refl;
     sized = inl refl;
     own = record { own = λ j l. absurd (omega arith) };
-    settled = λ i down. refl;
+    not_waiting = λ i down. refl;
     bare = λ i up. absurd (let q : false ≡ true = up in cc);
   };
   skips = skips;

@@ -7,9 +7,9 @@ use Rattle.std.proofs.lemmas.List.{length-replicate}
 use Rattle.std.proofs.lemmas.List.Concat.{length-flat_map}
 use Rattle.scc_array.specs.Shelves.{shelf_of}
 use Rattle.scc_array.specs.Shelf.{Shelf, shelf_entries, empty_shelf}
-use Rattle.scc_contents.specs.Contents.{Contents, Settings, entries, bucket_count, lists_of, settings_of, spilled_of, pending_of}
+use Rattle.scc_contents.specs.Contents.{Contents, Settings, entries, bucket_count, lists_of, settings_of, overflow_of, pending_of}
 use Rattle.scc_buckets.specs.Pour.{IsRegrouped}
-use Rattle.scc_contents.specs.Sizes.{IsArray}
+use Rattle.scc_contents.specs.Sizes.{IsBucketCount}
 use Rattle.scc_buckets.specs.Tables.{IsBuckets}
 use Rattle.scc_buckets.proofs.Arrays.{shelf-at}
 use Rattle.scc_draining.specs.Moves.{TakesOver}
@@ -20,8 +20,8 @@ use Rattle.scc_draining.proofs.Counted.{bound-le}
 use Rattle.scc_table.proofs.Grown.{but-one}
 use Rattle.scc_table.proofs.Relocated.{fields-after, others, relocated-after, Settles}
 use Rattle.scc_table.proofs.Same.{entries-same, regrouped-same}
-use Rattle.scc_table.proofs.StartingLemmas.{bare-lists, flags-up, permuted-all, started-fields, started-lists}
-use Rattle.scc_table.proofs.Viewed.{count-seen, settled-flags, settings-seen}
+use Rattle.scc_table.proofs.InstallingLemmas.{bare-lists, flags-up, permuted-all, started-fields, started-lists}
+use Rattle.scc_table.proofs.Viewed.{count-seen, not_waiting-flags, settings-seen}
 
 -- the present array, of the contents c and with no bucket that waits, was exchanged for one of n empty buckets, of the contents d
 pub record IsExchanged {E K S : Type 0} (eq : K → K → Bool) (key : E → K) (hash : K → ℕ) (c d : Contents E S) (rest : Draining E) (skipped : ℕ) (a : Contents E S) (n : ℕ) (olds : List (Shelf E)) (left over : ℕ) : Type 0 where
@@ -32,9 +32,9 @@ pub record IsExchanged {E K S : Type 0} (eq : K → K → Bool) (key : E → K) 
   -- what was seen of them
   pub view : together (λ e. hash (key e)) c rest.waiting rest.array ≡ a
   -- no bucket waited
-  pub settled : pending_of a ≡ 0
+  pub not_waiting : pending_of a ≡ 0
   -- n is the size of an array
-  pub will : IsArray n
+  pub will : IsBucketCount n
   -- there was an array
   pub some : 0 < bucket_count a
   -- of another size
@@ -44,7 +44,7 @@ pub record IsExchanged {E K S : Type 0} (eq : K → K → Bool) (key : E → K) 
   -- the settings stay
   pub settings : settings_of d ≡ settings_of c
   -- no overflow list is in use
-  pub nothing : spilled_of d ≡ 0
+  pub nothing : overflow_of d ≡ 0
   -- the lists before are those of the array that drains
   pub were : lists_of c ≡ map shelf_entries olds
   -- and that one holds `left` entries, `over` of them in overflow lists
@@ -52,13 +52,13 @@ pub record IsExchanged {E K S : Type 0} (eq : K → K → Bool) (key : E → K) 
 
 -- the same by the hash of the settings afterwards
 pub exchanged : {E K S : Type 0} {eq : K → K → Bool} (laws : IsEquivalence eq) {key : E → K} (hash_for : Settings S → K → ℕ) {c d : Contents E S} {rest : Draining E} {skipped : ℕ} {a : Contents E S} {n : ℕ} {fresh olds : List (Shelf E)} {left over : ℕ} → IsTable eq key (hash_for (settings_of c)) c rest skipped
-    → together (λ e. hash_for (settings_of c) (key e)) c rest.waiting rest.array ≡ a → pending_of a ≡ 0 → fresh ≡ replicate n empty_shelf → IsArray n → 0 < bucket_count a → n ≢ bucket_count a → lists_of d ≡ map shelf_entries fresh → settings_of d ≡ settings_of c → spilled_of d ≡ 0 → lists_of c ≡ map shelf_entries olds
+    → together (λ e. hash_for (settings_of c) (key e)) c rest.waiting rest.array ≡ a → pending_of a ≡ 0 → fresh ≡ replicate n empty_shelf → IsBucketCount n → 0 < bucket_count a → n ≢ bucket_count a → lists_of d ≡ map shelf_entries fresh → settings_of d ≡ settings_of c → overflow_of d ≡ 0 → lists_of c ≡ map shelf_entries olds
     → IsBuckets (λ e. hash_for (settings_of c) (key e)) (settings_of c).skipped olds left over → IsExchanged eq key (hash_for (settings_of d)) c d rest skipped a n olds left over
-exchanged {E} {K} {S} {eq} laws {key} hash_for {c} {d} {rest} {skipped} {a} {n} {fresh} {olds} {left} {over} inv view settled empty will some other lists settings nothing were table = record {
+exchanged {E} {K} {S} {eq} laws {key} hash_for {c} {d} {rest} {skipped} {a} {n} {fresh} {olds} {left} {over} inv view not_waiting empty will some other lists settings nothing were table = record {
   laws = laws;
   inv = subst (λ (s : Settings S). IsTable eq key (hash_for s) c rest skipped) (sym settings) inv;
   view = subst (λ (s : Settings S). together (λ e. hash_for s (key e)) c rest.waiting rest.array ≡ a) (sym settings) view;
-  settled = settled;
+  not_waiting = not_waiting;
   will = will;
   some = some;
   other = other;
@@ -74,7 +74,7 @@ module _ {E K S : Type 0} {eq : K → K → Bool} {key : E → K} {hash : K → 
   inner e = hash (key e)
 
   none : rest.waiting ≡ []
-  none = settled-flags a x.inv x.view x.settled
+  none = not_waiting-flags a x.inv x.view x.not_waiting
 
   pub begun-count : bucket_count d ≡ n
   begun-count = count-were d (replicate n empty_shelf) x.lists ∙ length-replicate n (empty_shelf {E = E})
@@ -85,7 +85,7 @@ module _ {E K S : Type 0} {eq : K → K → Bool} {key : E → K} {hash : K → 
   table-now : IsBuckets inner (settings_of d).skipped olds left over
   table-now = subst (λ s. IsBuckets inner s.skipped olds left over) (sym x.settings) x.table
 
-  was : IsArray (length olds)
+  was : IsBucketCount (length olds)
   was = elim x.table.sized [ inl z ↦ absurd (omega (arith, x.some, long)) | inr z ↦ z ]
 
   differ : n ≢ length olds
@@ -133,7 +133,7 @@ module _ {E K S : Type 0} {eq : K → K → Bool} {key : E → K} {hash : K → 
           let m = length-flat_map shelf_entries olds in
           omega (arith, takes.moved, begun.left_is)
 
-      pub taken-fields : spilled_of e + over < 2 ^ 62 → IsTable eq key hash e (record { array = news; waiting = vs; pending = n - 1; next = 0; left = left - moved; left_overflow = over }) skipped
+      pub taken-fields : overflow_of e + over < 2 ^ 62 → IsTable eq key hash e (record { array = news; waiting = vs; pending = n - 1; next = 0; left = left - moved; left_overflow = over }) skipped
       taken-fields few = fields-after eq key hash k moved d e _ vs news skipped begun begun-up takes down (omega (arith, but-one n k x.will.least l, x.will.least)) few
 
       pub taken-lists : IsRegrouped inner n a (together inner e vs news)

@@ -10,7 +10,7 @@ use Rattle.scc_array.specs.Shelves.{shelf_of}
 use Rattle.scc_array.specs.Shelf.{Shelf, empty_shelf, shelf_entries}
 use Rattle.scc_contents.specs.Clones.{AddsClones, HasClones}
 use Rattle.scc_contents.specs.Contents.{Contents, entries, bucket_count, settings_of}
-use Rattle.scc_buckets.specs.Tables.{spilled_in}
+use Rattle.scc_buckets.specs.Tables.{overflow_in}
 use Rattle.scc_draining.specs.Moves.{AreOwn}
 use Rattle.scc_draining.proofs.FromBuckets.{few-each}
 
@@ -68,7 +68,7 @@ clones-together C B all c d e f olds gathered count settings h a same count-f se
     }
 
 -- no old bucket holds more than a word counts
-pub old-short : {E : Type 0} (hash : E → ℕ) (t : ℕ) (olds : List (Shelf E)) (aside : ℕ) → AreOwn hash t olds → spilled_in olds ≤ aside → aside < 2 ^ 62 → (j : ℕ) → length (shelf_entries (shelf_of olds j)) < 2 ^ 63
+pub old-short : {E : Type 0} (hash : E → ℕ) (t : ℕ) (olds : List (Shelf E)) (aside : ℕ) → AreOwn hash t olds → overflow_in olds ≤ aside → aside < 2 ^ 62 → (j : ℕ) → length (shelf_entries (shelf_of olds j)) < 2 ^ 63
 old-short hash t olds aside own over few j = elim (dec_lt j (length olds)) [
   | yes l ↦
       let w = (own.own j l).within in

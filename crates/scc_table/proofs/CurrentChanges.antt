@@ -4,9 +4,9 @@ use Rattle.std.specs.List.{filter, flat_map, IsDistinct}
 use native.Mathlib.Decide.{dec_lt}
 use Rattle.scc_array.specs.Shelf.{Shelf, shelf_entries}
 use Rattle.scc_array.specs.ShelfWrites.{write_at}
-use Rattle.scc_contents.specs.Contents.{Contents, entries, bucket_count, list_of, lists_of, settings_of, refused_of, spilled_of, waiting_of, owed_of}
+use Rattle.scc_contents.specs.Contents.{Contents, entries, bucket_count, list_of, lists_of, settings_of, refused_of, overflow_of, waiting_of, owed_of}
 use Rattle.scc_contents.specs.Routing.{bucket_number}
-use Rattle.scc_buckets.specs.Tables.{spilled_in}
+use Rattle.scc_buckets.specs.Tables.{overflow_in}
 use Rattle.scc_buckets.specs.Writes.{with_write_at_spot}
 use Rattle.scc_buckets.specs.declared.place.Place.{Place}
 use Rattle.scc_draining.specs.Moves.{AreMultiples, AreOwn}
@@ -16,8 +16,8 @@ use Rattle.scc_table.proofs.JoinedChanges.{joined-here, joined-set}
 use Rattle.scc_table.proofs.Joining.{lists-together, owed-together, settings-together, refused-together, waiting-together}
 use Rattle.scc_table.proofs.Relocated.{count-is, list-is}
 
-pub spilled-together : {E S : Type 0} (hash : E → ℕ) (c : Contents E S) (ws : List Bool) (olds : List (Shelf E)) → spilled_of (together hash c ws olds) ≡ spilled_of c + spilled_in olds
-unfolding spilled_of
+pub spilled-together : {E S : Type 0} (hash : E → ℕ) (c : Contents E S) (ws : List Bool) (olds : List (Shelf E)) → overflow_of (together hash c ws olds) ≡ overflow_of c + overflow_in olds
+unfolding overflow_of
 spilled-together hash c ws olds = refl
 
 -- the list of a bucket that doesn't wait is that of the new array
@@ -60,7 +60,7 @@ module _ {E S : Type 0} (c d : Contents E S) (i : ℕ) (x : List E) (lists : lis
         multiples = elim arrays.multiples [ inl z ↦ inl z | inr z ↦ inr (subst (AreMultiples (length olds)) (sym count-same) z) ];
         sized = arrays.sized;
         own = subst (λ s. AreOwn hash s.skipped olds) (sym settings) arrays.own;
-        settled = λ k low. ap (λ g. filter (λ e. g e == k) (flat_map shelf_entries olds)) target-same ∙ arrays.settled k low;
+        not_waiting = λ k low. ap (λ g. filter (λ e. g e == k) (flat_map shelf_entries olds)) target-same ∙ arrays.not_waiting k low;
         bare = λ k high.
             let apart = λ (ne : k ≢ i). list-is d k ∙ ap (λ z. get_or z k []) lists ∙ get_or-set_other (lists_of c) i k x [] ne ∙ sym (list-is c k) ∙ arrays.bare k high in
             elim (dec_lt k i) [
@@ -74,7 +74,7 @@ module _ {E S : Type 0} (c d : Contents E S) (i : ℕ) (x : List E) (lists : lis
 
 -- of all fields
 pub own-fields : {E K S : Type 0} (eq : K → K → Bool) (key : E → K) (hash : K → ℕ) (c d : Contents E S) (i : ℕ) (x : List E) → lists_of d ≡ set (lists_of c) i x → settings_of d ≡ settings_of c → (drain : Draining E) → waits_at drain.waiting i ≡ false
-    → (skipped : ℕ) → IsTable eq key hash c drain skipped → spilled_of d + drain.left_overflow < 2 ^ 62 → IsDistinct eq (map key (entries (together (λ e. hash (key e)) d drain.waiting drain.array)))
+    → (skipped : ℕ) → IsTable eq key hash c drain skipped → overflow_of d + drain.left_overflow < 2 ^ 62 → IsDistinct eq (map key (entries (together (λ e. hash (key e)) d drain.waiting drain.array)))
     → IsTable eq key hash d drain skipped
 own-fields eq key hash c d i x lists settings drain down skipped inv few unique = record {
   arrays = own-arrays c d i x lists settings (λ e. hash (key e)) drain.waiting drain.array down inv.arrays;
@@ -103,8 +103,8 @@ module _ {E S X : Type 0} (put : E → X → E) (c : Contents E S) (p : Place) (
   unfolding with_write_at_spot refused_of
   refused-write = refl
 
-  pub spilled-write : spilled_of (with_write_at_spot put c p w) ≡ spilled_of c
-  unfolding with_write_at_spot spilled_of
+  pub spilled-write : overflow_of (with_write_at_spot put c p w) ≡ overflow_of c
+  unfolding with_write_at_spot overflow_of
   spilled-write = refl
 
   pub waiting-write : waiting_of (with_write_at_spot put c p w) ≡ waiting_of c
@@ -126,6 +126,6 @@ module _ {E S X : Type 0} (put : E → X → E) (c : Contents E S) (p : Place) (
       (own-lists c d p.bucket x (lists-write put c p w) (settings-write put c p w) hash ws olds down ∙ ap (λ z. set (lists_of b) p.bucket (write_at put z p.slot w)) (sym (own-list hash c ws olds p.bucket down)) ∙ sym (lists-write put b p w))
       (own-settings c d p.bucket x (lists-write put c p w) (settings-write put c p w) hash ws olds down ∙ sym (settings-write put b p w))
       (own-refused c d p.bucket x (lists-write put c p w) (settings-write put c p w) hash ws olds down (refused-write put c p w) ∙ sym (refused-write put b p w))
-      (spilled-together hash d ws olds ∙ ap (λ n. n + spilled_in olds) (spilled-write put c p w) ∙ sym (spilled-together hash c ws olds) ∙ sym (spilled-write put b p w))
+      (spilled-together hash d ws olds ∙ ap (λ n. n + overflow_in olds) (spilled-write put c p w) ∙ sym (spilled-together hash c ws olds) ∙ sym (spilled-write put b p w))
       (own-waiting c d p.bucket x (lists-write put c p w) (settings-write put c p w) hash ws olds down ∙ sym (waiting-write put b p w))
       (own-owed c d p.bucket x (lists-write put c p w) (settings-write put c p w) hash ws olds down ∙ sym (owed-write put b p w))

@@ -26,9 +26,9 @@ bound-listed {E} hash c h i routed at =
     let t = bucket_number s (2 * n) h in
     let p : E → Bool = λ e. bucket_number s (2 * n) (hash e) == t in
     let q : E → Bool = λ e. bucket_number s n (hash e) == i in
-    let narrow = λ (e : E) (a : p e ≡ true).
+    let shrink_sparse_within = λ (e : E) (a : p e ≡ true).
     eq-eqb (bucket_number s n (hash e)) i (sym (number-div s n 2 (hash e) (omega arith)) ∙ ap (λ z. z / 2) (eqb-true _ _ a) ∙ number-div s n 2 h (omega arith) ∙ sym at) in
-    ap (filter p) (sym (listed-is hash c i routed)) ∙ filter-both p q narrow (entries c)
+    ap (filter p) (sym (listed-is hash c i routed)) ∙ filter-both p q shrink_sparse_within (entries c)
 
 pub bound-few : {E S : Type 0} (hash : E → ℕ) (c : Contents E S) (h i : ℕ) → IsRouted hash c → i ≡ bucket_number (settings_of c).skipped (bucket_count c) h
     → length (bound_for hash (settings_of c).skipped (2 * bucket_count c) (bucket_number (settings_of c).skipped (2 * bucket_count c) h) (list_of c i)) ≡ length (bound_for hash (settings_of c).skipped (2 * bucket_count c) (bucket_number (settings_of c).skipped (2 * bucket_count c) h) (entries c))

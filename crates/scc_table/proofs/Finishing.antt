@@ -5,7 +5,7 @@ use Rattle.scc_buckets.specs.Bounded.{IsBounded}
 use Rattle.scc_contents.specs.Contents.{Contents, lists_of, settings_of, refused_of, waiting_of, pending_of}
 use Rattle.scc_buckets.proofs.PairSplits.{by_answer}
 use Rattle.scc_table.specs.Relocates.{AreShort}
-use Rattle.scc_table.specs.TwoArrays.{IsRelocated, IsWaiting, waits_at, settle}
+use Rattle.scc_table.specs.TwoArrays.{IsRelocated, IsWaiting, waits_at, cleared}
 use Rattle.scc_table.proofs.Short.{short-later}
 
 set-down : (ws : List Bool) (i k : ℕ) → waits_at (set ws i false) k ≡ true → waits_at ws k ≡ true
@@ -15,7 +15,7 @@ set-down (w ∷ ws) zero (suc k) h = h
 set-down (w ∷ ws) (suc i) zero h = h
 set-down (w ∷ ws) (suc i) (suc k) h = set-down ws i k h
 
-pub settle-down : (ws : List Bool) (i k : ℕ) → waits_at (settle ws i) k ≡ true → waits_at ws k ≡ true
+pub settle-down : (ws : List Bool) (i k : ℕ) → waits_at (cleared ws i) k ≡ true → waits_at ws k ≡ true
 settle-down ws i k h =
     by_answer (count_by (λ w. w) (set ws i false) == 0)
     (λ q. let z : waits_at [] k ≡ true = rw q at h in absurd (let y : false ≡ true = z in cc))
@@ -24,7 +24,7 @@ settle-down ws i k h =
 equal : (a b : ℕ) → a ≡ b → (a == b) ≡ true
 equal a b h = search rules
 
-settle-none : (ws : List Bool) (i : ℕ) → count_by (λ w. w) (settle ws i) ≡ 0 → settle ws i ≡ []
+settle-none : (ws : List Bool) (i : ℕ) → count_by (λ w. w) (cleared ws i) ≡ 0 → cleared ws i ≡ []
 settle-none ws i h =
     by_answer (count_by (λ w. w) (set ws i false) == 0)
     (λ q. rw q refl)

@@ -5,9 +5,9 @@ use Rattle.std.specs.List.Sorted.{IsPermutation}
 use Rattle.std.proofs.lemmas.List.{nil_from_length}
 use Rattle.std.proofs.lemmas.List.Sorted.{IsPermutation-refl}
 use Rattle.scc_array.specs.Shelf.{shelf_entries}
-use Rattle.scc_contents.specs.Contents.{Contents, entries, bucket_count, minimum_of, settings_of, spilled_of}
+use Rattle.scc_contents.specs.Contents.{Contents, entries, bucket_count, minimum_of, settings_of, overflow_of}
 use Rattle.scc_contents.specs.Routing.{bucket_number}
-use Rattle.scc_contents.specs.Sizes.{IsArray, IsArraySize}
+use Rattle.scc_contents.specs.Sizes.{IsBucketCount, IsArraySize}
 use Rattle.scc_contents.specs.Steps.{Grows, IsUnchanged, Rests}
 use Rattle.scc_draining.specs.Moves.{AreOwn}
 use Rattle.scc_table.specs.TwoArrays.{Draining, IsTable, waits_at}
@@ -19,7 +19,7 @@ pub no-flags : (ws : List Bool) (n : ℕ) → (ws ≡ []) ⊎ (length ws ≡ n) 
 no-flags ws n flags none = elim flags [ inl z ↦ z | inr z ↦ nil_from_length ws (z ∙ none) ]
 
 module _ {E S : Type 0} (a d : Contents E S) where
-  pub first-rests : bucket_count a ≡ 0 → entries a ≡ [] → entries d ≡ [] → settings_of d ≡ settings_of a → IsArray (bucket_count d) → Rests a d
+  pub first-rests : bucket_count a ≡ 0 → entries a ≡ [] → entries d ≡ [] → settings_of d ≡ settings_of a → IsBucketCount (bucket_count d) → Rests a d
   first-rests none bare still settings array = inr (
     λ z. absurd (omega (arith, array.least)),
     record {
@@ -30,13 +30,13 @@ module _ {E S : Type 0} (a d : Contents E S) where
   )
 
   pub first-grows : bucket_count a ≡ 0 → IsArraySize (minimum_of a) (32 * bucket_count d) → Grows a d
-  first-grows none size = record { first = λ z ne. size; half = λ some ne. absurd (omega arith); below = λ some ne. absurd (omega arith); doubled = λ some ne. absurd (omega arith); settled = λ some ne. absurd (omega arith) }
+  first-grows none size = record { first = λ z ne. size; half = λ some ne. absurd (omega arith); below = λ some ne. absurd (omega arith); doubled = λ some ne. absurd (omega arith); not_waiting = λ some ne. absurd (omega arith) }
 
 pub same-rests : {E S : Type 0} (a d : Contents E S) → d ≡ a → IsUnchanged a d × Grows a d
-same-rests a d same = (record { exact = ap entries same; buckets = ap bucket_count same; settings = ap settings_of same }, record { first = λ z ne. absurd (ne (ap bucket_count same)); half = λ z ne. absurd (ne (ap bucket_count same)); below = λ z ne. absurd (ne (ap bucket_count same)); doubled = λ z ne. absurd (ne (ap bucket_count same)); settled = λ z ne. absurd (ne (ap bucket_count same)) })
+same-rests a d same = (record { exact = ap entries same; buckets = ap bucket_count same; settings = ap settings_of same }, record { first = λ z ne. absurd (ne (ap bucket_count same)); half = λ z ne. absurd (ne (ap bucket_count same)); below = λ z ne. absurd (ne (ap bucket_count same)); doubled = λ z ne. absurd (ne (ap bucket_count same)); not_waiting = λ z ne. absurd (ne (ap bucket_count same)) })
 
 -- of all fields then
-pub fields-first : {E K S : Type 0} (eq : K → K → Bool) (key : E → K) (hash : K → ℕ) (c d : Contents E S) (drain : Draining E) (skipped : ℕ) → IsTable eq key hash c drain skipped → drain.waiting ≡ [] → settings_of d ≡ settings_of c → entries d ≡ [] → spilled_of d ≡ 0
+pub fields-first : {E K S : Type 0} (eq : K → K → Bool) (key : E → K) (hash : K → ℕ) (c d : Contents E S) (drain : Draining E) (skipped : ℕ) → IsTable eq key hash c drain skipped → drain.waiting ≡ [] → settings_of d ≡ settings_of c → entries d ≡ [] → overflow_of d ≡ 0
     → IsTable eq key hash d drain skipped
 fields-first {E} eq key hash c d drain skipped inv none settings still bounded =
     let h : E → ℕ = λ e. hash (key e) in
@@ -47,7 +47,7 @@ fields-first {E} eq key hash c d drain skipped inv none settings still bounded =
         multiples = inl none;
         sized = inl none;
         own = subst (λ s. AreOwn h s.skipped drain.array) (sym settings) inv.arrays.own;
-        settled = λ i down. ap (filter (λ e. bucket_number (settings_of d).skipped (bucket_count d) (h e) == i)) nothing;
+        not_waiting = λ i down. ap (filter (λ e. bucket_number (settings_of d).skipped (bucket_count d) (h e) == i)) nothing;
         bare = λ i up. absurd (let z : false ≡ true = ap (λ w. waits_at w i) (sym none) ∙ up in cc);
       };
       skips = inv.skips ∙ ap (λ s. s.skipped) (sym settings);

@@ -9,7 +9,7 @@ use Rattle.scc_array.specs.Shelves.{shelf_of}
 use Rattle.scc_array.specs.Shelf.{Shelf, shelf_entries}
 use Rattle.scc_contents.specs.Contents.{Contents, entries, bucket_count, list_of, lists_of, settings_of}
 use Rattle.scc_buckets.specs.Pour.{bound_for}
-use Rattle.scc_buckets.specs.Tables.{spilled_in}
+use Rattle.scc_buckets.specs.Tables.{overflow_in}
 use Rattle.scc_buckets.proofs.PairSplits.{by_answer}
 use Rattle.scc_buckets.proofs.Pours.{bound_append, bound_here}
 use Rattle.scc_draining.specs.Moves.{grown, shrunk, AreMultiples}
@@ -84,7 +84,7 @@ module _ {E S : Type 0} (hash : E → ℕ) (c : Contents E S) (ws : List Bool) (
       let bs = bound_for hash t n i (take k es) in
       let cs = bound_for hash t n i r.0 in
       let all : bound_for hash t n i es ≡ bs ++ e ∷ cs = ap (bound_for hash t n i) r.1 ∙ bound_append hash t n i (take k es) (e ∷ r.0) ∙ ap (λ z. bs ++ z) (bound_here hash t n i e r.0 refl) in
-      let m : length (bs ++ e ∷ cs) ≡ 0 = ap length (sym all ∙ arrays.settled i q) in
+      let m : length (bs ++ e ∷ cs) ≡ 0 = ap length (sym all ∙ arrays.not_waiting i q) in
       let l = length-append bs (e ∷ cs) in
       absurd (omega arith))
 
@@ -116,7 +116,7 @@ module _ {E S : Type 0} (hash : E → ℕ) (c : Contents E S) (ws : List Bool) (
       omega arith
 
 -- no more than 32 entries for each bucket, and those in overflow lists
-pub owed-most : {E : Type 0} (bs : List (Shelf E)) → ((j : ℕ) → j < length bs → length (shelf_of bs j).slots ≤ 32) → sum_by (λ b. length (shelf_entries b)) bs ≤ 32 * length bs + spilled_in bs
+pub owed-most : {E : Type 0} (bs : List (Shelf E)) → ((j : ℕ) → j < length bs → length (shelf_of bs j).slots ≤ 32) → sum_by (λ b. length (shelf_entries b)) bs ≤ 32 * length bs + overflow_in bs
 owed-most [] h = omega arith
 owed-most {E} (b ∷ bs) h =
     let f : Shelf E → ℕ = λ x. length (shelf_entries x) in

@@ -20,14 +20,14 @@ use Rattle.scc_buckets.proofs.Resizes.{rests-resizes, then-resized}
 use Rattle.scc_buckets.proofs.Spots.{place-get}
 use Rattle.scc_table.specs.Places.{IsInsertedAt}
 use Rattle.scc_table.specs.Relocates.{left_after, AreMovedBeside, AreMovedFrom, AreShort, AreShortAmong, AreShortBut}
-use Rattle.scc_table.specs.TwoArrays.{pending_targets, settle, waits_at}
+use Rattle.scc_table.specs.TwoArrays.{pending_targets, cleared, waits_at}
 use Rattle.scc_table.proofs.DoublingLemmas.{bound-listed}
 use Rattle.scc_table.proofs.Finishing.{pending-is}
 use Rattle.scc_table.proofs.Inserted.{put-count, put-here, put-permuted}
 use Rattle.scc_table.proofs.OldSpots.{spot-own, split-list}
 use Rattle.scc_table.proofs.Relocated.{others, settle-after, Settles}
 use Rattle.scc_table.proofs.RelocatingLemmas.{one-down, up-within}
-use Rattle.scc_table.proofs.StartingLemmas.{count-up}
+use Rattle.scc_table.proofs.InstallingLemmas.{count-up}
 use Rattle.scc_table.proofs.Targets.{targets-all, targets-but, targets-length}
 use Rattle.std.proofs.lemmas.List.{get_or-replicate}
 
@@ -58,10 +58,10 @@ module _ (n k : ℕ) (some : 2 ≤ n) (l : k < n) where
       let all = count-up n in
       omega arith
 
-  pub settle-all : settle (replicate n true) k ≡ set (replicate n true) k false
+  pub settle-all : cleared (replicate n true) k ≡ set (replicate n true) k false
   settle-all = let q : Settles (replicate n true) k (set (replicate n true) k false) = others refl (omega (arith, but-one)) in sym (settle-after q)
 
-  module _ {E S : Type 0} (c : Contents E S) (waiting : waiting_of c ≡ settle (replicate n true) k) where
+  module _ {E S : Type 0} (c : Contents E S) (waiting : waiting_of c ≡ cleared (replicate n true) k) where
     flags : waiting_of c ≡ set (replicate n true) k false
     flags = waiting ∙ settle-all
 

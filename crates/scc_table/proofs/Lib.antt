@@ -4,6 +4,7 @@ pub mod Begun
 pub mod Cloned
 pub mod Comparing
 pub mod CurrentChanges
+pub mod CurrentTakes
 pub mod DoublingLemmas
 pub mod Finds
 pub mod Finishing
@@ -12,6 +13,7 @@ pub mod FoundInList
 pub mod Gathered
 pub mod Grown
 pub mod Inserted
+pub mod InstallingLemmas
 pub mod Joined
 pub mod JoinedChanges
 pub mod Joining
@@ -22,6 +24,7 @@ pub mod MappedPlaces
 pub mod MappedRelocations
 mod Marked
 pub mod Nexts
+pub mod NotWaiting
 pub mod Noting
 pub mod OldChanges
 pub mod OldSpots
@@ -33,19 +36,16 @@ pub mod PuttingLemmas
 pub mod Reached
 pub mod Relocated
 pub mod RelocatingLemmas
+pub mod RelocatingWithin
 pub mod Relocations
 pub mod Replies
 pub mod Same
 pub mod SearchingLemmas
 pub mod Seen
-pub mod Settled
-pub mod SettledTakes
-pub mod SettlingLemmas
 pub mod Short
 pub mod ShrunkTakes
 pub mod SpotVisits
 pub mod Spreading
-pub mod StartingLemmas
 pub mod TakeSteps
 pub mod Taken
 pub mod TakenFrom

@@ -3,10 +3,10 @@ use Rattle.std.proofs.Common.{◌≡◌, ℕ, ◌+◌, ◌*◌, ◌^◌, ◌<◌
 use Rattle.std.specs.List.{filter, flat_map, slice_get, IsDistinct}
 use Rattle.std.specs.List.Sorted.{IsPermutation}
 use Rattle.scc_array.specs.Shelf.{shelf_entries}
-use Rattle.scc_contents.specs.Contents.{Contents, entries, bucket_count, owed_of, lists_of, minimum_of, settings_of, spilled_of, waiting_of}
+use Rattle.scc_contents.specs.Contents.{Contents, entries, bucket_count, owed_of, lists_of, minimum_of, settings_of, overflow_of, waiting_of}
 use Rattle.scc_buckets.specs.Places as spots
 use Rattle.scc_contents.specs.Routing.{bucket_number}
-use Rattle.scc_contents.specs.Sizes.{IsArray, IsArraySize}
+use Rattle.scc_contents.specs.Sizes.{IsBucketCount, IsArraySize}
 use Rattle.scc_contents.specs.Steps.{FirstArrayWhenDue, Grows, IsUnchanged}
 use Rattle.scc_buckets.specs.declared.place.Place.{Place}
 use Rattle.scc_draining.specs.Moves.{AreOwn}
@@ -18,7 +18,7 @@ use Rattle.scc_table.proofs.Placing.{index-same}
 use Rattle.scc_table.proofs.Same.{count-same, entries-same, list-same}
 
 -- of all fields then
-pub fields-lone : {E K S : Type 0} (eq : K → K → Bool) (key : E → K) (hash : K → ℕ) (c d : Contents E S) (drain : Draining E) (skipped : ℕ) → IsTable eq key hash c drain skipped → drain.waiting ≡ [] → settings_of d ≡ settings_of c → spilled_of d < 2 ^ 62
+pub fields-lone : {E K S : Type 0} (eq : K → K → Bool) (key : E → K) (hash : K → ℕ) (c d : Contents E S) (drain : Draining E) (skipped : ℕ) → IsTable eq key hash c drain skipped → drain.waiting ≡ [] → settings_of d ≡ settings_of c → overflow_of d < 2 ^ 62
     → IsDistinct eq (map key (entries d)) → IsTable eq key hash d (record drain { left_overflow = 0 }) skipped
 fields-lone {E} eq key hash c d drain skipped inv none settings few unique =
     let h : E → ℕ = λ e. hash (key e) in
@@ -29,7 +29,7 @@ fields-lone {E} eq key hash c d drain skipped inv none settings few unique =
         multiples = inl none;
         sized = inl none;
         own = subst (λ s. AreOwn h s.skipped drain.array) (sym settings) inv.arrays.own;
-        settled = λ i down. ap (filter (λ e. bucket_number (settings_of d).skipped (bucket_count d) (h e) == i)) nothing;
+        not_waiting = λ i down. ap (filter (λ e. bucket_number (settings_of d).skipped (bucket_count d) (h e) == i)) nothing;
         bare = λ i up. absurd (let z : false ≡ true = ap (λ w. waits_at w i) (sym none) ∙ up in cc);
       };
       skips = inv.skips ∙ ap (λ s. s.skipped) (sym settings);
@@ -62,7 +62,7 @@ module _ {E S : Type 0} (a c d f : Contents E S) (before : lists_of a ≡ lists_
     half = λ some ne. absurd (omega arith);
     below = λ some ne. absurd (omega arith);
     doubled = λ some ne. absurd (omega arith);
-    settled = λ some ne. absurd (omega arith);
+    not_waiting = λ some ne. absurd (omega arith);
   }
 
   pub over-first : FirstArrayWhenDue c d → FirstArrayWhenDue a f
@@ -76,7 +76,7 @@ module _ {E S : Type 0} (a c d f : Contents E S) (before : lists_of a ≡ lists_
         holds = record {
           same = subst (λ es. IsPermutation (e ∷ entries a) es) (sym (entries-same d f after)) (subst (λ es. IsPermutation (e ∷ es) (entries d)) (sym (entries-same c a before)) i.holds.same);
           size = record {
-            lawful = elim i.holds.size.lawful [ inl z ↦ inl (cf ∙ z ∙ sym ca) | inr z ↦ inr (subst IsArray (sym cf) z) ];
+            lawful = elim i.holds.size.lawful [ inl z ↦ inl (cf ∙ z ∙ sym ca) | inr z ↦ inr (subst IsBucketCount (sym cf) z) ];
             minimum = λ less. let m = i.holds.size.minimum (omega arith) in let z : minimum_of a ≡ minimum_of c = ap (λ s. s.asked + s.reserved) had in omega arith;
           };
           settings = has ∙ i.holds.settings ∙ sym had;

@@ -5,7 +5,7 @@ use Rattle.std.proofs.lemmas.List.{length-map}
 use Rattle.scc_contents.specs.Contents.{Contents, owed_of, list_of, waiting_of}
 use Rattle.scc_contents.specs.Mapped.{mapped}
 use Rattle.scc_buckets.proofs.Mapped.{bucket_count-mapped, length-mapped, pending_of-mapped, settings_of-mapped}
-use Rattle.scc_table.specs.Relocates.{AreMovedFrom, AreShort, IsGrowthDue, IsShrinkDue, Spreads}
+use Rattle.scc_table.specs.Relocates.{AreMovedFrom, AreShort, IsBelowMinimum, IsShrinkDue, Spreads}
 use Rattle.scc_table.specs.Relocations.{Relocates, RelocatesNone, RelocatesTwo}
 use Rattle.scc_table.specs.TwoArrays.{pending_targets, waits_at}
 
@@ -55,7 +55,7 @@ module _ {E F S : Type 0} (f : E → F) where
 
   pub RelocatesTwo-mapped : (hash : ℕ) (c d : Contents E S) → RelocatesTwo hash c d → RelocatesTwo hash (mapped f c) (mapped f d)
   RelocatesTwo-mapped hash c d h = record {
-    settled = rw (waiting_of-mapped d, settings_of-mapped f c, bucket_count-mapped f d) h.settled;
+    not_waiting = rw (waiting_of-mapped d, settings_of-mapped f c, bucket_count-mapped f d) h.not_waiting;
     exact = λ a z short.
         let e = h.exact (rw (bucket_count-mapped f c) at a) (rw (bucket_count-mapped f c, bucket_count-mapped f d) at z) (AreShort-from_mapped c short) in
         rw (waiting_of-mapped c, waiting_of-mapped d, settings_of-mapped f c, bucket_count-mapped f c) e;
@@ -74,8 +74,8 @@ module _ {E F S : Type 0} (f : E → F) where
     waiting = λ none. rw (waiting_of-mapped c, waiting_of-mapped d) (h.waiting (λ n s. none n (rw (settings_of-mapped f c, length-mapped f d, bucket_count-mapped f c) s)));
   }
 
-  IsGrowthDue-mapped : (minimum : ℕ) (c : Contents E S) → IsGrowthDue minimum c → IsGrowthDue minimum (mapped f c)
-  IsGrowthDue-mapped minimum c h = record { array = rw (bucket_count-mapped f c) h.array; fewer = rw (bucket_count-mapped f c) h.fewer }
+  IsBelowMinimum-mapped : (minimum : ℕ) (c : Contents E S) → IsBelowMinimum minimum c → IsBelowMinimum minimum (mapped f c)
+  IsBelowMinimum-mapped minimum c h = record { array = rw (bucket_count-mapped f c) h.array; fewer = rw (bucket_count-mapped f c) h.fewer }
 
   IsShrinkDue-mapped : (minimum : ℕ) (c : Contents E S) → IsShrinkDue minimum c → IsShrinkDue minimum (mapped f c)
   IsShrinkDue-mapped minimum c h = record { buckets = h.buckets; smaller = rw (length-mapped f c, bucket_count-mapped f c) h.smaller }
@@ -89,8 +89,8 @@ module _ {E F S : Type 0} (f : E → F) where
     owed = λ no. rw (owed_of-mapped c, owed_of-mapped d) (h.owed (λ is. no (turn is)));
   }
 
-  pub grown-mapped : (minimum : ℕ) (c d : Contents E S) → Spreads (IsGrowthDue minimum c) c d → Spreads (IsGrowthDue minimum (mapped f c)) (mapped f c) (mapped f d)
-  grown-mapped minimum c d h = Spreads-mapped (IsGrowthDue minimum c) (IsGrowthDue minimum (mapped f c)) c d (IsGrowthDue-mapped minimum c) h
+  pub grown-mapped : (minimum : ℕ) (c d : Contents E S) → Spreads (IsBelowMinimum minimum c) c d → Spreads (IsBelowMinimum minimum (mapped f c)) (mapped f c) (mapped f d)
+  grown-mapped minimum c d h = Spreads-mapped (IsBelowMinimum minimum c) (IsBelowMinimum minimum (mapped f c)) c d (IsBelowMinimum-mapped minimum c) h
 
   pub shrunk-mapped : (minimum : ℕ) (c d : Contents E S) → Spreads (IsShrinkDue minimum c) c d → Spreads (IsShrinkDue minimum (mapped f c)) (mapped f c) (mapped f d)
   shrunk-mapped minimum c d h = Spreads-mapped (IsShrinkDue minimum c) (IsShrinkDue minimum (mapped f c)) c d (IsShrinkDue-mapped minimum c) h

@@ -4,9 +4,9 @@ use Rattle.std.specs.List.{count_by}
 use Rattle.std.proofs.lemmas.Bool.{cases_order}
 use Rattle.scc_contents.specs.Contents.{Contents, HasRoomAt, bucket_count, entries, lists_of, pending_of, refused_of, settings_of}
 use Rattle.scc_table.specs.Growths.{FindsBucketForNew}
-use Rattle.scc_table.specs.Marks.{IsGrowthDue, MarksRoom}
+use Rattle.scc_table.specs.Marks.{IsGrowthDue, MarksPreparation}
 use Rattle.scc_table.proofs.Finishing.{pending-is}
-use Rattle.scc_table.proofs.StartingLemmas.{count-up}
+use Rattle.scc_table.proofs.InstallingLemmas.{count-up}
 use Rattle.scc_table.proofs.Same.{count-same, entries-same, pending-same}
 
 both-are : (x : Bool × Bool) (p q : Bool) → x.0 ≡ p → x.1 ≡ q → x ≡ (p, q)
@@ -14,21 +14,21 @@ both-are x p q l r = ap (λ (y : Bool). (y, x.1)) l ∙ ap (λ (y : Bool). (p, y
 
 module _ {E K S X : Type 0} (eq : K → K → Bool) (key : E → K) (hash : K → ℕ) (a b : Contents E S) (h : ℕ) (result : Result ℕ X) (m : FindsBucketForNew eq key hash a h result b) where
   down-grown : 0 < bucket_count a → bucket_count b ≢ bucket_count a → refused_of b ≡ (false, false)
-  down-grown some ne = both-are (refused_of b) false false (m.down some ne) (m.unmarked some (m.growth.settled some ne) (λ room. ne (ap bucket_count (m.still room))) (m.growth.half some ne) (m.growth.below some ne))
+  down-grown some ne = both-are (refused_of b) false false (m.down some ne) (m.unmarked some (m.growth.not_waiting some ne) (λ room. ne (ap bucket_count (m.still room))) (m.growth.half some ne) (m.growth.below some ne))
 
   -- what becomes of both where no growth is due that wasn't made
-  pub marks-left : (IsGrowthDue hash key a h → bucket_count b ≡ bucket_count a → ⊥) → MarksRoom hash key a h b
+  pub marks-left : (IsGrowthDue hash key a h → bucket_count b ≡ bucket_count a → ⊥) → MarksPreparation hash key a h b
   marks-left none = record {
     stays = m.noted;
     grown = down-grown;
     denied = λ due same. absurd (none due same);
-    once = λ some tried. m.once some (inr tried);
+    once = λ some marked. m.once some (inr marked);
     marked = λ up. inl (sym (ap (λ (x : Bool × Bool). x.1) (m.marked up)) ∙ up);
   }
 
   -- none is due where buckets wait
-  pub not-settled : 0 < pending_of b → IsGrowthDue hash key a h → bucket_count b ≡ bucket_count a → ⊥
-  not-settled waits due same = let p = pending-same a b (m.waiting due.array same) in absurd (omega (arith, due.settled))
+  pub not-not_waiting : 0 < pending_of b → IsGrowthDue hash key a h → bucket_count b ≡ bucket_count a → ⊥
+  not-not_waiting waits due same = let p = pending-same a b (m.waiting due.array same) in absurd (omega (arith, due.not_waiting))
 
   -- none where fewer than half as many entries as slots are held
   pub not-half : 2 * length (entries b) < 32 * bucket_count b → IsGrowthDue hash key a h → bucket_count b ≡ bucket_count a → ⊥
@@ -48,7 +48,7 @@ module _ {E K S X : Type 0} (eq : K → K → Bool) (key : E → K) (hash : K �
 
   -- the array is the same where none waits and some entry is held
   pub array-same : pending_of b ≡ 0 → 0 < bucket_count b → 0 < length (entries b) → (0 < bucket_count a) × (bucket_count b ≡ bucket_count a)
-  array-same settled some held =
+  array-same not_waiting some entry_count =
       let had : 0 < bucket_count a = elim (cases_order (bucket_count a) 0) as (λ _. 0 < bucket_count a) [
         | inl none ↦ let z = ap length (m.bare none) in absurd (omega arith)
         | inr other ↦ elim other as (λ _. 0 < bucket_count a) [ inl l ↦ absurd (omega (arith, l)) | inr l ↦ l ]
@@ -59,21 +59,21 @@ module _ {E K S X : Type 0} (eq : K → K → Bool) (key : E → K) (hash : K �
           | inr other ↦
               let ne : bucket_count b ≢ bucket_count a = λ e. elim other as (λ _. ⊥) [ inl l ↦ absurd (omega (arith, l, e)) | inr l ↦ absurd (omega (arith, l, e)) ] in
               let p : pending_of b ≡ bucket_count b = pending-is b ∙ ap (count_by (λ w. w)) (m.all had ne) ∙ count-up (bucket_count b) in
-              absurd (omega (arith, p, settled))
+              absurd (omega (arith, p, not_waiting))
         ],
       )
 
   -- a growth was due that wasn't made
   pub due-left : settings_of b ≡ settings_of a → pending_of b ≡ 0 → 0 < bucket_count b → (HasRoomAt hash key b h → ⊥) → 32 * bucket_count b ≤ 2 * length (entries b) → 32 * bucket_count b < 2 ^ 63 → IsGrowthDue hash key a h × (bucket_count b ≡ bucket_count a)
-  due-left settings settled some full half below =
-      let s = array-same settled some (omega arith) in
+  due-left settings not_waiting some full half below =
+      let s = array-same not_waiting some (omega arith) in
       let lists = m.stays s.0 s.1 in
       let p = pending-same a b (m.waiting s.0 s.1) in
       let l : length (entries b) ≡ length (entries a) = ap length (entries-same a b lists) in
       let n = s.1 in (
         record {
           array = s.0;
-          settled = sym p ∙ settled;
+          not_waiting = sym p ∙ not_waiting;
           full = λ room. full (rw (settings, count-same a b lists, entries-same a b lists) room);
           half = omega (arith, half);
           below = omega (arith, below);
@@ -82,13 +82,13 @@ module _ {E K S X : Type 0} (eq : K → K → Bool) (key : E → K) (hash : K �
       )
 
   -- what becomes of both where it is marked as tried
-  pub marks-up : (d : Contents E S) → lists_of d ≡ lists_of b → refused_of d ≡ (true, true) → IsGrowthDue hash key a h × (bucket_count b ≡ bucket_count a) → MarksRoom hash key a h d
+  pub marks-up : (d : Contents E S) → lists_of d ≡ lists_of b → refused_of d ≡ (true, true) → IsGrowthDue hash key a h × (bucket_count b ≡ bucket_count a) → MarksPreparation hash key a h d
   marks-up d lists up due =
       let n = count-same b d lists in
       record {
         stays = λ none. absurd (none due.0);
         grown = λ some ne. absurd (ne (n ∙ due.1));
         denied = λ _ _. up;
-        once = λ some tried. n ∙ due.1;
+        once = λ some marked. n ∙ due.1;
         marked = λ _. inr (ap (λ (x : Bool × Bool). x.0) up);
       }

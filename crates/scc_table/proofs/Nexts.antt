@@ -8,12 +8,12 @@ use Rattle.scc_array.specs.Shelf.{Shelf, shelf_entries, empty_shelf}
 use Rattle.scc_contents.specs.Contents.{Contents, bucket_count, entries, owed_of, list_of, settings_of, waiting_of}
 use Rattle.scc_buckets.specs.Places as spots
 use Rattle.scc_buckets.specs.Pour.{bound_for}
-use Rattle.scc_buckets.specs.Tables.{spilled_in}
+use Rattle.scc_buckets.specs.Tables.{overflow_in}
 use Rattle.scc_buckets.specs.declared.place.Place.{Place}
 use Rattle.scc_buckets.proofs.Standing.{index-after, index-below}
 use Rattle.scc_draining.specs.Moves.{AreOwn, IsWithinSources}
 use Rattle.scc_table.specs.Places.{owed_before, index_of, spot_of, StandsAt}
-use Rattle.scc_table.specs.Stepping.{index_on, own, old, rank_on, spot_on, IsStart}
+use Rattle.scc_table.specs.NextPlaces.{index_on, own, old, rank_on, spot_on, IsStart}
 use Rattle.scc_draining.specs.Stepping.{entries_before, StandsNext}
 use Rattle.scc_table.specs.TwoArrays.{target_by, together, TwoArrays, waits_at}
 use Rattle.scc_draining.proofs.Draining.{before-none, take-all_bound}
@@ -25,7 +25,7 @@ use Rattle.scc_table.proofs.RelocatingLemmas.{up-within}
 use Rattle.scc_draining.proofs.Stepped.{before-start, bound-count}
 
 -- each old bucket holds fewer entries than a word counts
-pub few-entries : {E : Type 0} (hash : E → ℕ) (t : ℕ) (olds : List (Shelf E)) (aside : ℕ) → AreOwn hash t olds → spilled_in olds ≤ aside → aside < 2 ^ 62 → (j : ℕ) → length (shelf_entries (shelf_of olds j)) < 2 ^ 63
+pub few-entries : {E : Type 0} (hash : E → ℕ) (t : ℕ) (olds : List (Shelf E)) (aside : ℕ) → AreOwn hash t olds → overflow_in olds ≤ aside → aside < 2 ^ 62 → (j : ℕ) → length (shelf_entries (shelf_of olds j)) < 2 ^ 63
 few-entries hash t olds aside keeps le few j =
     let o = few-each olds aside le few j in
     let n = length-append (shelf_of olds j).slots (shelf_of olds j).overflow in

@@ -2,9 +2,9 @@
 use Rattle.std.proofs.Common.{◌≡◌, ◌==◌, ℕ, ◌+◌, ◌≤◌, inl, inr, Bool, List, length, map, sym, ap, ◌∙◌, subst, arith}
 use Rattle.std.specs.List.{filter, flat_map, IsDistinct}
 use Rattle.scc_array.specs.Shelf.{Shelf, shelf_entries}
-use Rattle.scc_contents.specs.Contents.{Contents, bucket_count, lists_of, settings_of, spilled_of, owed_of}
+use Rattle.scc_contents.specs.Contents.{Contents, bucket_count, lists_of, settings_of, overflow_of, owed_of}
 use Rattle.scc_contents.specs.Routing.{bucket_number}
-use Rattle.scc_buckets.specs.Tables.{spilled_in}
+use Rattle.scc_buckets.specs.Tables.{overflow_in}
 use Rattle.scc_draining.specs.Moves.{AreMultiples, AreOwn}
 use Rattle.scc_table.specs.TwoArrays.{Draining, IsTable, owed_in, joined, target_by, together, TwoArrays}
 use Rattle.scc_table.proofs.Alone.{spilled-together}
@@ -28,8 +28,8 @@ module _ {E S : Type 0} (hash : E → ℕ) (c d : Contents E S) (ws : List Bool)
   pub owed-kept : owed_of (together hash d ws olds) ≡ owed_of (together hash c ws olds)
   owed-kept = owed-together hash d ws olds ∙ ap (λ f. owed_in f ws olds) same-target ∙ sym (owed-together hash c ws olds)
 
-  pub spilled-kept : spilled_of d ≡ spilled_of c → spilled_of (together hash d ws olds) ≡ spilled_of (together hash c ws olds)
-  spilled-kept same = spilled-together hash d ws olds ∙ ap (λ n. n + spilled_in olds) same ∙ sym (spilled-together hash c ws olds)
+  pub spilled-kept : overflow_of d ≡ overflow_of c → overflow_of (together hash d ws olds) ≡ overflow_of (together hash c ws olds)
+  spilled-kept same = spilled-together hash d ws olds ∙ ap (λ n. n + overflow_in olds) same ∙ sym (spilled-together hash c ws olds)
 
   pub arrays-kept : TwoArrays hash c ws olds → TwoArrays hash d ws olds
   arrays-kept a = record {
@@ -37,11 +37,11 @@ module _ {E S : Type 0} (hash : E → ℕ) (c d : Contents E S) (ws : List Bool)
     multiples = elim a.multiples [ inl z ↦ inl z | inr z ↦ inr (subst (AreMultiples (length olds)) (sym (count-same c d lists)) z) ];
     sized = a.sized;
     own = subst (λ s. AreOwn hash s olds) (sym skips) a.own;
-    settled = λ i down. ap (λ g. filter (λ e. g e == i) (flat_map shelf_entries olds)) same-target ∙ a.settled i down;
+    not_waiting = λ i down. ap (λ g. filter (λ e. g e == i) (flat_map shelf_entries olds)) same-target ∙ a.not_waiting i down;
     bare = λ i up. list-same c d lists i ∙ a.bare i up;
   }
 
-pub fields-less : {E K S : Type 0} (eq : K → K → Bool) (key : E → K) (hash : K → ℕ) (c d : Contents E S) (drain : Draining E) (skipped : ℕ) → lists_of d ≡ lists_of c → (settings_of d).skipped ≡ (settings_of c).skipped → spilled_of d ≤ spilled_of c
+pub fields-less : {E K S : Type 0} (eq : K → K → Bool) (key : E → K) (hash : K → ℕ) (c d : Contents E S) (drain : Draining E) (skipped : ℕ) → lists_of d ≡ lists_of c → (settings_of d).skipped ≡ (settings_of c).skipped → overflow_of d ≤ overflow_of c
     → IsTable eq key hash c drain skipped → IsTable eq key hash d drain skipped
 fields-less {E} eq key hash c d drain skipped lists skips spilled inv =
     let h : E → ℕ = λ e. hash (key e) in
@@ -59,6 +59,6 @@ fields-less {E} eq key hash c d drain skipped lists skips spilled inv =
       unique = subst (λ es. IsDistinct eq (map key es)) (sym (entries-same (together h c drain.waiting drain.array) (together h d drain.waiting drain.array) (lists-kept h c d drain.waiting drain.array lists skips))) inv.unique;
     }
 
-pub fields-kept : {E K S : Type 0} (eq : K → K → Bool) (key : E → K) (hash : K → ℕ) (c d : Contents E S) (drain : Draining E) (skipped : ℕ) → lists_of d ≡ lists_of c → (settings_of d).skipped ≡ (settings_of c).skipped → spilled_of d ≡ spilled_of c
+pub fields-kept : {E K S : Type 0} (eq : K → K → Bool) (key : E → K) (hash : K → ℕ) (c d : Contents E S) (drain : Draining E) (skipped : ℕ) → lists_of d ≡ lists_of c → (settings_of d).skipped ≡ (settings_of c).skipped → overflow_of d ≡ overflow_of c
     → IsTable eq key hash c drain skipped → IsTable eq key hash d drain skipped
 fields-kept eq key hash c d drain skipped lists skips spilled inv = fields-less eq key hash c d drain skipped lists skips (omega arith) inv

@@ -7,10 +7,10 @@ use native.Mathlib.Decide.{dec_lt}
 use Rattle.scc_array.specs.Shelves.{shelf_of}
 use Rattle.scc_array.specs.Shelf.{Shelf, shelf_entries, empty_shelf}
 use Rattle.scc_array.specs.ShelfWrites.{write_at}
-use Rattle.scc_contents.specs.Contents.{Contents, entries, bucket_count, list_of, lists_of, settings_of, spilled_of}
+use Rattle.scc_contents.specs.Contents.{Contents, entries, bucket_count, list_of, lists_of, settings_of, overflow_of}
 use Rattle.scc_buckets.specs.Pour.{bound_for}
-use Rattle.scc_contents.specs.Sizes.{IsArray}
-use Rattle.scc_buckets.specs.Tables.{IsOwn, spilled_in}
+use Rattle.scc_contents.specs.Sizes.{IsBucketCount}
+use Rattle.scc_buckets.specs.Tables.{IsOwn, overflow_in}
 use Rattle.scc_buckets.proofs.Arrays.{drop-got}
 use Rattle.scc_draining.specs.Stepping.{entries_before}
 use Rattle.scc_draining.specs.Moves.{AreMultiples}
@@ -124,7 +124,7 @@ module _ {E S : Type 0} (hash : E → ℕ) (c : Contents E S) (ws : List Bool) (
         record {
           flags = arrays.flags;
           multiples = elim arrays.multiples [ inl z ↦ inl z | inr z ↦ inr (subst (λ m. AreMultiples m (bucket_count c)) (sym n) z) ];
-          sized = elim arrays.sized [ inl z ↦ inl z | inr z ↦ inr (subst IsArray (sym n) z) ];
+          sized = elim arrays.sized [ inl z ↦ inl z | inr z ↦ inr (subst IsBucketCount (sym n) z) ];
           own = record {
             own = λ k l.
                 let apart = λ (ne : k ≢ j). subst (λ m. IsOwn hash t m k (shelf_of news k)) (sym n) (subst (IsOwn hash t (length olds) k) (sym (get_or-set_other olds j k b empty_shelf ne)) (arrays.own.own k (omega arith))) in
@@ -139,13 +139,13 @@ module _ {E S : Type 0} (hash : E → ℕ) (c : Contents E S) (ws : List Bool) (
                   ]
                 ];
           };
-          settled = λ k down. bound-other k (λ z. let q : false ≡ true = sym down ∙ ap (waits_at ws) z ∙ old-waits hash c ws olds arrays j s e lj got in absurd (let q2 = q in cc)) ∙ arrays.settled k down;
+          not_waiting = λ k down. bound-other k (λ z. let q : false ≡ true = sym down ∙ ap (waits_at ws) z ∙ old-waits hash c ws olds arrays j s e lj got in absurd (let q2 = q in cc)) ∙ arrays.not_waiting k down;
           bare = arrays.bare;
         }
 
 -- of all fields
 pub old-fields : {E K S : Type 0} (eq : K → K → Bool) (key : E → K) (hash : K → ℕ) (c : Contents E S) (drain : Draining E) (news : List (Shelf E)) (skipped kept under : ℕ) → IsTable eq key hash c drain skipped
-    → TwoArrays (λ e. hash (key e)) c drain.waiting news → length news ≡ length drain.array → kept ≡ sum_by (λ b. length (shelf_entries b)) news → spilled_in news ≤ under → spilled_of c + under < 2 ^ 62 → IsDistinct eq (map key (entries (together (λ e. hash (key e)) c drain.waiting news)))
+    → TwoArrays (λ e. hash (key e)) c drain.waiting news → length news ≡ length drain.array → kept ≡ sum_by (λ b. length (shelf_entries b)) news → overflow_in news ≤ under → overflow_of c + under < 2 ^ 62 → IsDistinct eq (map key (entries (together (λ e. hash (key e)) c drain.waiting news)))
     → IsTable eq key hash c (record drain { array = news; left = kept; left_overflow = under }) skipped
 old-fields eq key hash c drain news skipped kept under inv arrays long count over few unique = record {
   arrays = arrays;

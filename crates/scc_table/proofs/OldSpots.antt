@@ -191,7 +191,7 @@ module _ {E S : Type 0} (hash : E → ℕ) (c : Contents E S) (ws : List Bool) (
         let r = bound-split in
         let i = target_by hash c e in
         let bs = bound_for hash (settings_of c).skipped (bucket_count c) i (entries_before olds j s) in
-        let none = arrays.settled i q in
+        let none = arrays.not_waiting i q in
         let m : length (bs ++ e ∷ r.0) ≡ 0 = ap length (sym r.1 ∙ none) in
         let n = length-append bs (e ∷ r.0) in
         absurd (omega arith))

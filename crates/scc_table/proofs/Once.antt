@@ -3,15 +3,15 @@ use Rattle.std.proofs.Common.{◌≡◌, ◌≢◌, ℕ, ◌<◌, ◌⊎◌, inl
 use Rattle.std.specs.List.{count_by}
 use Rattle.std.proofs.lemmas.Bool.{cases_order}
 use Rattle.scc_contents.specs.Contents.{Contents, HasRoomAt, bucket_count, lists_of, pending_of, refused_of, settings_of, waiting_of}
-use Rattle.scc_contents.specs.Steps.{Grows, IsReadyAt, MakesRoom, Rests}
+use Rattle.scc_contents.specs.Steps.{Grows, IsPreparedAt, Prepares, Rests}
 use Rattle.scc_table.proofs.Finishing.{pending-is}
-use Rattle.scc_table.proofs.StartingLemmas.{count-up}
+use Rattle.scc_table.proofs.InstallingLemmas.{count-up}
 use Rattle.scc_table.proofs.Same.{count-same, entries-same, pending-same}
 
 module _ {E S K : Type 0} (hash : K → ℕ) (key : E → K) (c d : Contents E S) (h : ℕ) where
   -- where all is made that an insertion wants, the number of buckets stays
   pub once-made : Grows c d → (HasRoomAt hash key c h → bucket_count d ≡ bucket_count c) → (0 < bucket_count c → (0 < pending_of c) ⊎ ((refused_of c).1 ≡ true) → bucket_count d ≡ bucket_count c)
-      → IsReadyAt hash key c h → bucket_count d ≡ bucket_count c
+      → IsPreparedAt hash key c h → bucket_count d ≡ bucket_count c
   once-made growth room once ready =
       elim ready.1 as (λ _. bucket_count d ≡ bucket_count c) [
         | inl had ↦ room had
@@ -27,7 +27,7 @@ module _ {E S K : Type 0} (hash : K → ℕ) (key : E → K) (c d : Contents E S
                 | inl same ↦ same
                 | inr other ↦ let z = growth.below ready.0 (λ e. elim other as (λ _. ⊥) [ inl l ↦ absurd (omega (arith, l, e)) | inr l ↦ absurd (omega (arith, l, e)) ]) in absurd (omega arith)
               ]
-              | inr tried ↦ once ready.0 (inr tried)
+              | inr marked ↦ once ready.0 (inr marked)
             ]
           ]
         ]
@@ -51,13 +51,13 @@ module _ {E S : Type 0} (a b d : Contents E S) (lists : lists_of d ≡ lists_of 
       ]
 
   grows-lists : Grows a b → Grows a d
-  grows-lists g = let n = count-same b d lists in record { first = rw n g.first; half = rw n g.half; below = rw n g.below; doubled = rw n g.doubled; settled = rw n g.settled }
+  grows-lists g = let n = count-same b d lists in record { first = rw n g.first; half = rw n g.half; below = rw n g.below; doubled = rw n g.doubled; not_waiting = rw n g.not_waiting }
 
   -- what is made of room: the same where a mark is set afterwards
   pub room-marked : {K : Type 0} (hash : K → ℕ) (key : E → K) (h : ℕ) → waiting_of d ≡ waiting_of b
       → Rests a b → Grows a b → (HasRoomAt hash key a h → b ≡ a) → (0 < bucket_count a → bucket_count b ≢ bucket_count a → waiting_of b ≡ replicate (bucket_count b) true) → (bucket_count a ≡ 0 → waiting_of b ≡ [])
       → (0 < bucket_count a → bucket_count b ≡ bucket_count a → lists_of b ≡ lists_of a) → (0 < bucket_count a → bucket_count b ≡ bucket_count a → waiting_of b ≡ waiting_of a)
-      → IsReadyAt hash key d h → MakesRoom hash key a h d
+      → IsPreparedAt hash key d h → Prepares hash key a h d
   room-marked hash key h waiting rests growth still all first stays waits ready =
       let n = count-same b d lists in
       let p = pending-same b d waiting in
@@ -74,5 +74,5 @@ module _ {E S : Type 0} (a b d : Contents E S) (lists : lists_of d ≡ lists_of 
 module _ {E S K : Type 0} (hash : K → ℕ) (key : E → K) (a b : Contents E S) (h : ℕ) where
   pub room-of : Rests a b → Grows a b → (HasRoomAt hash key a h → b ≡ a) → (0 < bucket_count a → bucket_count b ≢ bucket_count a → waiting_of b ≡ replicate (bucket_count b) true) → (bucket_count a ≡ 0 → waiting_of b ≡ [])
       → (0 < bucket_count a → bucket_count b ≡ bucket_count a → lists_of b ≡ lists_of a) → (0 < bucket_count a → bucket_count b ≡ bucket_count a → waiting_of b ≡ waiting_of a)
-      → IsReadyAt hash key b h → MakesRoom hash key a h b
+      → IsPreparedAt hash key b h → Prepares hash key a h b
   room-of = room-marked a b b refl refl hash key h refl

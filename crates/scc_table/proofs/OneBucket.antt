@@ -8,7 +8,7 @@ use Rattle.scc_array.specs.Shelves.{shelf_of}
 use Rattle.scc_array.specs.Shelf.{Shelf, shelf_entries}
 use Rattle.scc_contents.specs.Contents.{Contents, bucket_count, list_of, lists_of, settings_of, waiting_of, owed_of, pending_of}
 use Rattle.scc_contents.specs.Routing.{bucket_number}
-use Rattle.scc_contents.specs.Sizes.{IsArray}
+use Rattle.scc_contents.specs.Sizes.{IsBucketCount}
 use Rattle.scc_buckets.specs.Pour.{bound_for}
 use Rattle.scc_draining.specs.Moves.{AreMultiples, TakesOver}
 use Rattle.scc_draining.proofs.Counted.{bound-le}
@@ -67,7 +67,7 @@ module _ {E K S : Type 0} {eq : K → K → Bool} {key : E → K} {hash : K → 
     pub old-multiples : AreMultiples (length drain.array) (bucket_count c)
     old-multiples = multiple-flags c drain.waiting drain.array i inv.arrays.multiples up
 
-    pub old-sized : IsArray (length drain.array)
+    pub old-sized : IsBucketCount (length drain.array)
     old-sized = sized-flags c drain.waiting drain.array i inv.arrays.sized up
 
     pub unique-coming : IsDistinct eq (map key (flat_map (λ l. l) (set (lists_of c) i (bound_for (λ e. hash (key e)) skipped (bucket_count c) i (flat_map shelf_entries drain.array)))))

@@ -108,8 +108,8 @@ module _ {E S : Type 0} (i : ℕ) (c d : Contents E S) (r : IsRelocated i c d) w
       subst (λ k. AreMovedFrom rest k f) (sym one) (subst (λ ts. AreMovedFrom ts 1 f) same h)
 
 -- where the bucket doesn't wait, two others go at most
-pub moved-settled : {E S : Type 0} (i : ℕ) (c f : Contents E S) → waits_at (waiting_of c) i ≡ false → AreMovedFrom (pending_targets c) 2 f → AreMovedBeside i (pending_targets c) f
-moved-settled i c f down h =
+pub moved-not_waiting : {E S : Type 0} (i : ℕ) (c f : Contents E S) → waits_at (waiting_of c) i ≡ false → AreMovedFrom (pending_targets c) 2 f → AreMovedBeside i (pending_targets c) f
+moved-not_waiting i c f down h =
     let all = pending_targets c in
     let rest = filter (λ t. not (t == i)) all in
     let same : rest ≡ all = targets-without i c down in
@@ -125,8 +125,8 @@ moved-nothing i c f none left =
     subst (λ ts. AreMovedBeside i ts f) (sym before) nothing
 
 -- where the bucket doesn't wait, two others go
-pub settled-left : {E S : Type 0} (i : ℕ) (c : Contents E S) (ts : List ℕ) → waits_at (waiting_of c) i ≡ false → ts ≡ drop 2 (pending_targets c) → ts ≡ left_after i (pending_targets c)
-settled-left i c ts down h =
+pub not_waiting-left : {E S : Type 0} (i : ℕ) (c : Contents E S) (ts : List ℕ) → waits_at (waiting_of c) i ≡ false → ts ≡ drop 2 (pending_targets c) → ts ≡ left_after i (pending_targets c)
+not_waiting-left i c ts down h =
     let all = pending_targets c in
     let rest = filter (λ t. not (t == i)) all in
     let same : rest ≡ all = targets-without i c down in

@@ -6,7 +6,7 @@ use native.Mathlib.Decide.{dec_lt}
 use Rattle.scc_array.specs.Shelf.{Shelf, shelf_entries}
 use Rattle.scc_contents.specs.Contents.{Contents, entries, bucket_count, list_of, lists_of, settings_of}
 use Rattle.scc_buckets.specs.Pour.{bound_for}
-use Rattle.scc_contents.specs.Sizes.{IsArray}
+use Rattle.scc_contents.specs.Sizes.{IsBucketCount}
 use Rattle.scc_buckets.proofs.PairSplits.{by_answer}
 use Rattle.scc_draining.specs.Moves.{AreMultiples}
 use Rattle.scc_table.specs.TwoArrays.{joined, waits_at, target_by, together, TwoArrays}
@@ -73,7 +73,7 @@ module _ {E S : Type 0} (c : Contents E S) (ws : List Bool) (olds : List (Shelf 
   pub multiple-flags : (ws ≡ []) ⊎ AreMultiples (length olds) (bucket_count c) → waits_at ws i ≡ true → AreMultiples (length olds) (bucket_count c)
   multiple-flags h up = elim h [ inl z ↦ some-flag up z | inr z ↦ z ]
 
-  pub sized-flags : (ws ≡ []) ⊎ IsArray (length olds) → waits_at ws i ≡ true → IsArray (length olds)
+  pub sized-flags : (ws ≡ []) ⊎ IsBucketCount (length olds) → waits_at ws i ≡ true → IsBucketCount (length olds)
   sized-flags h up = elim h [ inl z ↦ some-flag up z | inr z ↦ z ]
 
 -- where some bucket waits, there is a flag for each

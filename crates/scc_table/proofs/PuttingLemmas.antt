@@ -6,7 +6,7 @@ use Rattle.std.proofs.lemmas.List.{get_or_default, get_or_past}
 use native.Mathlib.Decide.{dec_lt}
 use Rattle.scc_array.specs.Shelf.{Shelf, shelf_entries}
 use Rattle.scc_array.proofs.ListsLemmas.{get-index}
-use Rattle.scc_contents.specs.Contents.{Contents, entries, bucket_count, list_of, lists_of, settings_of, spilled_of, owed_of, bucket_of, HasRoomBy, IsRouted}
+use Rattle.scc_contents.specs.Contents.{Contents, entries, bucket_count, list_of, lists_of, settings_of, overflow_of, owed_of, bucket_of, HasRoomBy, IsRouted}
 use Rattle.scc_buckets.specs.OneList.{HasSameLists, IsPutIn}
 use Rattle.scc_contents.specs.Routing.{bucket_number}
 use Rattle.scc_buckets.specs.declared.place.Place.{Place}
@@ -123,7 +123,7 @@ module _ {E K S : Type 0} (key : E → K) (hash : K → ℕ) (c : Contents E S) 
       multiples = elim arrays.multiples [ inl z ↦ inl z | inr z ↦ inr (subst (AreMultiples (length olds)) (sym (put-count c i e b p put l)) z) ];
       sized = arrays.sized;
       own = subst (λ s. AreOwn (λ x. hash (key x)) s.skipped olds) (sym put.settings) arrays.own;
-      settled = λ k low. ap (λ g. filter (λ x. g x == k) (flat_map shelf_entries olds)) same-target ∙ arrays.settled k low;
+      not_waiting = λ k low. ap (λ g. filter (λ x. g x == k) (flat_map shelf_entries olds)) same-target ∙ arrays.not_waiting k low;
       bare = λ k up.
           let apart : k ≢ i = λ z. absurd (let s : true ≡ false = sym up ∙ ap (waits_at ws) z ∙ down in cc) in
           list-is b k ∙ ap (λ z. get_or z k []) put.lists ∙ get_or-set_other (lists_of c) i k (insert (list_of c i) p.slot e) [] apart ∙ sym (list-is c k) ∙ arrays.bare k up;
@@ -131,7 +131,7 @@ module _ {E K S : Type 0} (key : E → K) (hash : K → ℕ) (c : Contents E S) 
 
 -- of all fields then
 pub fields-put : {E K S : Type 0} (eq : K → K → Bool) (laws : IsEquivalence eq) (key : E → K) (hash : K → ℕ) (c : Contents E S) (drain : Draining E) (skipped : ℕ) (inv : IsTable eq key hash c drain skipped) (d : Contents E S)
-    → together (λ e. hash (key e)) c drain.waiting drain.array ≡ d → (e : E) (i : ℕ) (b : Contents E S) (p : Place) → IsPutIn c i e b p → i < bucket_count c → waits_at drain.waiting i ≡ false → spilled_of b + drain.left_overflow < 2 ^ 62 → position (λ x. eq (key e) (key x)) (entries d) ≡ None
+    → together (λ e. hash (key e)) c drain.waiting drain.array ≡ d → (e : E) (i : ℕ) (b : Contents E S) (p : Place) → IsPutIn c i e b p → i < bucket_count c → waits_at drain.waiting i ≡ false → overflow_of b + drain.left_overflow < 2 ^ 62 → position (λ x. eq (key e) (key x)) (entries d) ≡ None
     → IsTable eq key hash b drain skipped
 fields-put {E} eq laws key hash c drain skipped inv d view e i b p put l down few absent =
     let there = put-together key hash c drain.waiting drain.array inv.arrays d view e i b p put l down in

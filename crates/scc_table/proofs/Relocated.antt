@@ -7,14 +7,14 @@ use Rattle.std.proofs.lemmas.List.Sums.{sum_by-cons}
 use native.Mathlib.Decide.{dec_lt}
 use Rattle.scc_array.specs.Shelves.{shelf_of}
 use Rattle.scc_array.specs.Shelf.{Shelf, shelf_entries}
-use Rattle.scc_contents.specs.Contents.{Contents, entries, bucket_count, list_of, lists_of, settings_of, spilled_of, waiting_of}
+use Rattle.scc_contents.specs.Contents.{Contents, entries, bucket_count, list_of, lists_of, settings_of, overflow_of, waiting_of}
 use Rattle.scc_buckets.specs.Pour.{bound_for}
 use Rattle.scc_contents.specs.Routing.{bucket_number}
-use Rattle.scc_contents.specs.Sizes.{IsArray}
-use Rattle.scc_buckets.specs.Tables.{spilled_in}
+use Rattle.scc_contents.specs.Sizes.{IsBucketCount}
+use Rattle.scc_buckets.specs.Tables.{overflow_in}
 use Rattle.scc_buckets.proofs.PairSplits.{by_answer}
 use Rattle.scc_draining.specs.Moves.{others_for, AreMultiples, AreOwn, TakesOver}
-use Rattle.scc_table.specs.TwoArrays.{Draining, joined, waits_at, target_by, together, settle, owed_in, owed_without, TwoArrays, IsTable, IsRelocated}
+use Rattle.scc_table.specs.TwoArrays.{Draining, joined, waits_at, target_by, together, cleared, owed_in, owed_without, TwoArrays, IsTable, IsRelocated}
 use Rattle.scc_table.proofs.Alone.{entries-alone, fields-alone, nothing-owed}
 use Rattle.scc_table.proofs.Joining.{lists-together, owed-together, settings-together, refused-together, waiting-together, pending-together}
 use Rattle.scc_table.proofs.RelocatingLemmas.{not_equal, bound-others_none, bound-others_same, flat-others, none-up, one-down, up-within, joined-none, joined-moved}
@@ -27,7 +27,7 @@ pub list-is : {E S : Type 0} (c : Contents E S) (i : ℕ) → list_of c i ≡ ge
 unfolding list_of lists_of
 list-is c i = refl
 
-pub spilled-le : {E : Type 0} (olds news : List (Shelf E)) → length news ≡ length olds → ((j : ℕ) → length (shelf_of news j).overflow ≤ length (shelf_of olds j).overflow) → spilled_in news ≤ spilled_in olds
+pub spilled-le : {E : Type 0} (olds news : List (Shelf E)) → length news ≡ length olds → ((j : ℕ) → length (shelf_of news j).overflow ≤ length (shelf_of olds j).overflow) → overflow_in news ≤ overflow_in olds
 spilled-le [] [] l h = omega arith
 spilled-le [] (b ∷ news) l h = absurd (omega arith)
 spilled-le (a ∷ olds) [] l h = absurd (omega arith)
@@ -96,15 +96,15 @@ module _ {E S : Type 0} (hash : E → ℕ) (i n : ℕ) (c d : Contents E S) (ws 
     ];
     sized = elim arrays.sized [
       | inl z ↦ absurd (let q : false ≡ true = ap (λ w. waits_at w i) (sym z) ∙ up in cc)
-      | inr z ↦ inr (subst IsArray (sym takes.count) z)
+      | inr z ↦ inr (subst IsBucketCount (sym takes.count) z)
     ];
     own = subst (λ s. AreOwn hash s.skipped news) (sym takes.settings) takes.own;
-    settled = λ k down.
+    not_waiting = λ k down.
         let es = flat_map shelf_entries olds in
         let flag = sym (flags-after settles k) ∙ down in
         let there : bound_for hash (settings_of d).skipped (bucket_count d) k (flat_map shelf_entries news) ≡ bound_for hash (settings_of c).skipped (bucket_count c) k (others_for hash (settings_of c).skipped (bucket_count c) i es) =
         ap (λ g. filter (λ e. g e == k) (flat_map shelf_entries news)) target-same ∙ ap (bound_for hash (settings_of c).skipped (bucket_count c) k) flat-after in
-        let apart = λ (ne : k ≢ i). there ∙ bound-others_same hash (settings_of c).skipped (bucket_count c) i k ne es ∙ arrays.settled k (sym (get_or-set_other ws i k false false ne) ∙ flag) in
+        let apart = λ (ne : k ≢ i). there ∙ bound-others_same hash (settings_of c).skipped (bucket_count c) i k ne es ∙ arrays.not_waiting k (sym (get_or-set_other ws i k false false ne) ∙ flag) in
         elim (dec_lt k i) [
           | yes r ↦ apart (omega arith)
           | no r ↦ elim (dec_lt i k) [
@@ -144,7 +144,7 @@ module _ {E S : Type 0} (hash : E → ℕ) (i n : ℕ) (c d : Contents E S) (ws 
 
 -- of all fields, where another bucket waits still
 pub fields-after : {E K S : Type 0} (eq : K → K → Bool) (key : E → K) (hash : K → ℕ) (i n : ℕ) (c d : Contents E S) (drain : Draining E) (vs : List Bool) (news : List (Shelf E)) (skipped : ℕ)
-    → IsTable eq key hash c drain skipped → waits_at drain.waiting i ≡ true → TakesOver (λ e. hash (key e)) i n c drain.array d news → vs ≡ set drain.waiting i false → 0 < count_by (λ w. w) (set drain.waiting i false) → spilled_of d + drain.left_overflow < 2 ^ 62
+    → IsTable eq key hash c drain skipped → waits_at drain.waiting i ≡ true → TakesOver (λ e. hash (key e)) i n c drain.array d news → vs ≡ set drain.waiting i false → 0 < count_by (λ w. w) (set drain.waiting i false) → overflow_of d + drain.left_overflow < 2 ^ 62
     → IsTable eq key hash d (record drain { array = news; waiting = vs; pending = drain.pending - 1; left = drain.left - n }) skipped
 fields-after {E} eq key hash i n c d drain vs news skipped inv up takes down some few =
     let h : E → ℕ = λ e. hash (key e) in
@@ -177,7 +177,7 @@ bare-after hash i n c d ws olds news arrays up takes none = nothing-owed hash d 
 
 -- of all fields, where no other bucket waits and the old array is given back
 pub fields-last : {E K S : Type 0} (eq : K → K → Bool) (key : E → K) (hash : K → ℕ) (i n : ℕ) (c d : Contents E S) (drain : Draining E) (news : List (Shelf E)) (skipped : ℕ)
-    → IsTable eq key hash c drain skipped → waits_at drain.waiting i ≡ true → TakesOver (λ e. hash (key e)) i n c drain.array d news → count_by (λ w. w) (set drain.waiting i false) ≡ 0 → spilled_of d + drain.left_overflow < 2 ^ 62
+    → IsTable eq key hash c drain skipped → waits_at drain.waiting i ≡ true → TakesOver (λ e. hash (key e)) i n c drain.array d news → count_by (λ w. w) (set drain.waiting i false) ≡ 0 → overflow_of d + drain.left_overflow < 2 ^ 62
     → IsTable eq key hash d (record drain { array = []; waiting = []; pending = drain.pending - 1; left = drain.left - n; left_overflow = 0 }) skipped
 fields-last {E} eq key hash i n c d drain news skipped inv up takes none few =
     let h : E → ℕ = λ e. hash (key e) in
@@ -191,13 +191,13 @@ fields-last {E} eq key hash i n c d drain news skipped inv up takes none few =
     let unique = subst (λ z. IsDistinct eq (map key z)) (sym (entries-after h i n c d drain.waiting [] drain.array news inv.arrays up takes settles) ∙ entries-alone h d [] news refl) inv.unique in
     rw (nothing, last_one) (fields-alone eq key hash d skipped drain.next (inv.skips ∙ ap (λ s. s.skipped) (sym takes.settings)) inv.few_bits (omega arith) unique)
 
-settle-others : (ws : List Bool) (i : ℕ) → 0 < count_by (λ w. w) (set ws i false) → settle ws i ≡ set ws i false
+settle-others : (ws : List Bool) (i : ℕ) → 0 < count_by (λ w. w) (set ws i false) → cleared ws i ≡ set ws i false
 settle-others ws i some = let z : (count_by (λ w. w) (set ws i false) == 0) ≡ false = not_equal _ _ (omega arith) in rw z
 
-settle-last : (ws : List Bool) (i : ℕ) → count_by (λ w. w) (set ws i false) ≡ 0 → settle ws i ≡ []
+settle-last : (ws : List Bool) (i : ℕ) → count_by (λ w. w) (set ws i false) ≡ 0 → cleared ws i ≡ []
 settle-last ws i none = let z : (count_by (λ w. w) (set ws i false) == 0) ≡ true = eq-eqb _ _ none in rw z
 
-pub settle-after : {ws vs : List Bool} {i : ℕ} → Settles ws i vs → vs ≡ settle ws i
+pub settle-after : {ws vs : List Bool} {i : ℕ} → Settles ws i vs → vs ≡ cleared ws i
 settle-after {ws} {i = i} (others e some) = e ∙ sym (settle-others ws i some)
 settle-after {ws} {i = i} (last e none) = e ∙ sym (settle-last ws i none)
 
@@ -227,7 +227,7 @@ relocated-after hash i n c d ws vs olds news arrays up takes settles = record {
   lists = lists-together hash d vs news ∙ joined-after hash i n c d ws vs olds news arrays up takes settles ∙ sym (lists-together hash c ws olds);
   settings = settings-together hash d vs news ∙ takes.settings ∙ sym (settings-together hash c ws olds);
   refused = refused-together hash d vs news ∙ takes.refused ∙ sym (refused-together hash c ws olds);
-  waiting = waiting-together hash d vs news ∙ settle-after settles ∙ ap (λ w. settle w i) (sym (waiting-together hash c ws olds));
+  waiting = waiting-together hash d vs news ∙ settle-after settles ∙ ap (λ w. cleared w i) (sym (waiting-together hash c ws olds));
   owed = owed-together hash d vs news ∙ ap (λ f. owed_in f vs news) (target-same hash i n c d ws vs olds news arrays up takes settles) ∙ owed-after (target_by hash c) i ws vs olds news up takes.count takes.kept
       ∙ ap (λ v. owed_without v i (owed_in (target_by hash c) ws olds)) (sym (waiting-together hash d vs news)) ∙ ap (owed_without (waiting_of (together hash d vs news)) i) (sym (owed-together hash c ws olds));
   pending = pending-together hash c ws olds ∙ one-down ws i (up-within ws i up) up ∙ ap (λ m. m + 1) (sym (count-after settles) ∙ sym (pending-together hash d vs news));

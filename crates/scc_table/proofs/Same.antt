@@ -6,7 +6,7 @@ use Rattle.std.specs.List.{flat_map, slice_get, count_by, IsDistinct}
 use Rattle.std.specs.declared.hash.Hasher as hasher
 use Rattle.std.specs.declared.hash.BuildHasher as builder
 use Rattle.scc_buckets.specs.Bounded.{IsListed}
-use Rattle.scc_contents.specs.Contents.{Contents, entries, bucket_count, list_of, lists_of, settings_of, spilled_of, waiting_of, pending_of, key_hash, IsUniqueBy}
+use Rattle.scc_contents.specs.Contents.{Contents, entries, bucket_count, list_of, lists_of, settings_of, overflow_of, waiting_of, pending_of, key_hash, IsUniqueBy}
 use Rattle.scc_contents.specs.Hashing.{hash_of}
 use Rattle.scc_buckets.specs.Pour.{IsRegrouped, bound_for}
 use Rattle.scc_contents.specs.Sizes.{IsLawful}
@@ -31,7 +31,7 @@ module _ {E S : Type 0} (c d : Contents E S) (same : lists_of d ≡ lists_of c) 
   pub unique-same : {K : Type 0} (eq : K → K → Bool) (key : E → K) → IsUniqueBy eq key c → IsUniqueBy eq key d
   unique-same eq key unique = subst (λ (es : List E). IsDistinct eq (map key es)) (sym entries-same) unique
 
-  pub listed-same : (hash : E → ℕ) → settings_of d ≡ settings_of c → spilled_of d ≡ spilled_of c → IsListed hash c → IsListed hash d
+  pub listed-same : (hash : E → ℕ) → settings_of d ≡ settings_of c → overflow_of d ≡ overflow_of c → IsListed hash c → IsListed hash d
   listed-same hash settings spilled h = record {
     lawful = subst IsLawful (sym count-same) h.lawful;
     bounded = spilled ∙ h.bounded;

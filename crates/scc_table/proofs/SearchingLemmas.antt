@@ -210,18 +210,18 @@ module _ {E S : Type 0} (hash : E → ℕ) (c : Contents E S) (ws : List Bool) (
 
 module _ {E S : Type 0} (hash : E → ℕ) (c : Contents E S) (olds : List (Shelf E)) where
   -- where nothing waits, it stands where it does in the new array
-  pub found-settled : (ws : List Bool) → ws ≡ [] → (p : E → Bool) (q : Place) → spots.IsFoundAtSpot p c q → IsFoundAt p (together hash c ws olds) q
+  pub found-not_waiting : (ws : List Bool) → ws ≡ [] → (p : E → Bool) (q : Place) → spots.IsFoundAtSpot p c q → IsFoundAt p (together hash c ws olds) q
   unfolding waiting_of owed_of bucket_count list_of entries spots.index_of_spot lists_of
-  found-settled [] z p q f = record { within = record { bucket = f.within.bucket; slot = f.within.slot }; found = f.found }
-  found-settled (w ∷ ws) z p q f = absurd (let y : w ∷ ws ≡ [] = z in cc)
+  found-not_waiting [] z p q f = record { within = record { bucket = f.within.bucket; slot = f.within.slot }; found = f.found }
+  found-not_waiting (w ∷ ws) z p q f = absurd (let y : w ∷ ws ≡ [] = z in cc)
 
   -- where none waits, an entry stands in the present array
-  pub near-settled : (ws : List Bool) → ws ≡ [] → (q : Place) → IsPlace (together hash c ws olds) q → q.bucket < bucket_count c
+  pub near-not_waiting : (ws : List Bool) → ws ≡ [] → (q : Place) → IsPlace (together hash c ws olds) q → q.bucket < bucket_count c
   unfolding waiting_of owed_of bucket_count list_of lists_of
-  near-settled [] z q w = w.bucket
-  near-settled (w ∷ ws) z q p = absurd (let y : w ∷ ws ≡ [] = z in cc)
+  near-not_waiting [] z q w = w.bucket
+  near-not_waiting (w ∷ ws) z q p = absurd (let y : w ∷ ws ≡ [] = z in cc)
 
-  pub entries-settled : (ws : List Bool) → ws ≡ [] → entries (together hash c ws olds) ≡ entries c
+  pub entries-not_waiting : (ws : List Bool) → ws ≡ [] → entries (together hash c ws olds) ≡ entries c
   unfolding entries lists_of
-  entries-settled [] z = refl
-  entries-settled (w ∷ ws) z = absurd (let y : w ∷ ws ≡ [] = z in cc)
+  entries-not_waiting [] z = refl
+  entries-not_waiting (w ∷ ws) z = absurd (let y : w ∷ ws ≡ [] = z in cc)

@@ -8,12 +8,12 @@ use Rattle.scc_buckets.specs.Bounded.{HasList, IsBounded, IsListed, IsResized, P
 use Rattle.scc_contents.specs.Contents.{Contents, Settings, entries, bucket_count, list_of, lists_of, refused_of, settings_of, IsRouted}
 use Rattle.scc_buckets.specs.Pour.{bound_for}
 use Rattle.scc_contents.specs.Routing.{bucket_number}
-use Rattle.scc_contents.specs.Sizes.{IsArray, IsLawful}
+use Rattle.scc_contents.specs.Sizes.{IsBucketCount, IsLawful}
 use Rattle.scc_buckets.proofs.Bounds.{none-there}
 use Rattle.scc_buckets.proofs.PairSplits.{by_answer}
 use Rattle.scc_buckets.proofs.Pours.{bound_append}
 use Rattle.scc_table.specs.Relocates.{AreShort}
-use Rattle.scc_table.specs.TwoArrays.{IsWaiting, settle, waits_at}
+use Rattle.scc_table.specs.TwoArrays.{IsWaiting, cleared, waits_at}
 use Rattle.scc_buckets.proofs.Bare.{nil-left}
 use Rattle.scc_draining.proofs.Counted.{bound-le}
 use Rattle.scc_table.proofs.DoublingLemmas.{filter-both}
@@ -21,7 +21,7 @@ use Rattle.scc_table.proofs.Listed.{filter-all, filter-no, listed-is}
 use Rattle.scc_draining.proofs.Numbers.{number-div, quotient, some-quotient}
 use Rattle.scc_table.proofs.Relocated.{count-is, list-is}
 use Rattle.scc_table.proofs.Same.{list-same, listed-same}
-use Rattle.scc_table.proofs.StartingLemmas.{powers-multiples}
+use Rattle.scc_table.proofs.InstallingLemmas.{powers-multiples}
 
 none-in : {X : Type 0} (ls : List (List X)) (i : ℕ) → flat_map (λ l. l) ls ≡ [] → get_or ls i [] ≡ []
 none-in [] i h = refl
@@ -64,7 +64,7 @@ module _ {E S : Type 0} where
   unfolding entries list_of
   list-none d none i = none-in d.lists i none
 
-  pub listed-none : (hash : E → ℕ) (d : Contents E S) → IsArray (bucket_count d) → IsBounded d → entries d ≡ [] → IsListed hash d
+  pub listed-none : (hash : E → ℕ) (d : Contents E S) → IsBucketCount (bucket_count d) → IsBounded d → entries d ≡ [] → IsListed hash d
   listed-none hash d array bounded none = record {
     lawful = inr array;
     bounded = bounded;
@@ -73,7 +73,7 @@ module _ {E S : Type 0} where
   }
 
   -- the first array
-  pub first-resized : (hash : E → ℕ) (a d : Contents E S) → entries a ≡ [] → entries d ≡ [] → settings_of d ≡ settings_of a → IsArray (bucket_count d) → IsBounded d → IsResized hash a d
+  pub first-resized : (hash : E → ℕ) (a d : Contents E S) → entries a ≡ [] → entries d ≡ [] → settings_of d ≡ settings_of a → IsBucketCount (bucket_count d) → IsBounded d → IsResized hash a d
   first-resized hash a d bare still settings array bounded = record {
     array = array;
     lists = record { count = refl; each = λ i l. list-none d still i ∙ sym (ap (bound_for hash (settings_of a).skipped (bucket_count d) i) bare); settings = settings };
@@ -87,8 +87,8 @@ module _ {E S : Type 0} where
       let n = bucket_count c in
       let p : E → Bool = λ e. bucket_number s (2 * n) (hash e) == i in
       let q : E → Bool = λ e. bucket_number s n (hash e) == i / 2 in
-      let narrow = λ (e : E) (a : p e ≡ true). eq-eqb (bucket_number s n (hash e)) (i / 2) (sym (number-div s n 2 (hash e) (omega arith)) ∙ ap (λ z. z / 2) (eqb-true _ _ a)) in
-      let same : filter p (entries c) ≡ filter p (list_of c (i / 2)) = sym (filter-both p q narrow (entries c)) ∙ ap (filter p) (listed-is hash c (i / 2) (record { routed = h.routed })) in
+      let shrink_sparse_within = λ (e : E) (a : p e ≡ true). eq-eqb (bucket_number s n (hash e)) (i / 2) (sym (number-div s n 2 (hash e) (omega arith)) ∙ ap (λ z. z / 2) (eqb-true _ _ a)) in
+      let same : filter p (entries c) ≡ filter p (list_of c (i / 2)) = sym (filter-both p q shrink_sparse_within (entries c)) ∙ ap (filter p) (listed-is hash c (i / 2) (record { routed = h.routed })) in
       let few = bound-le hash s (2 * n) i (list_of c (i / 2)) in
       let less = h.short (i / 2) in
       let count : length (filter p (entries c)) ≡ length (filter p (list_of c (i / 2))) = ap length same in
@@ -100,7 +100,7 @@ set-here [] i = refl
 set-here (w ∷ ws) zero = refl
 set-here (w ∷ ws) (suc i) = set-here ws i
 
-pub settle-here : (ws : List Bool) (i : ℕ) → waits_at (settle ws i) i ≡ false
+pub settle-here : (ws : List Bool) (i : ℕ) → waits_at (cleared ws i) i ≡ false
 settle-here ws i = by_answer (count_by (λ w. w) (set ws i false) == 0) (λ q. rw q refl) (λ q. rw q (set-here ws i))
 
 -- the quotient by r
@@ -201,7 +201,7 @@ module _ {E S : Type 0} (c m : Contents E S) (lists : lists_of m ≡ lists_of c)
   puts-later b i e (Some x) bounded t = (t.0, (t.1.0, t.1.1, has-later b i (t.1.0 ++ e ∷ []) bounded t.1.2))
 
 -- fewer buckets than there are, of two lawful numbers, divide them evenly
-pub even-parts : (m n : ℕ) → IsLawful m → IsArray n → n < m → ((m / n) * n ≡ m) × (0 < m / n)
+pub even-parts : (m n : ℕ) → IsLawful m → IsBucketCount n → n < m → ((m / n) * n ≡ m) × (0 < m / n)
 even-parts m n lawful array less = elim lawful [
   | inl z ↦ absurd (omega arith)
   | inr z ↦

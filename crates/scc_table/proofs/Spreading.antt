@@ -3,7 +3,7 @@ use Rattle.std.proofs.Common.{◌≡◌, ◌≢◌, ℕ, ◌*◌, ◌<◌, ◌�
 use Rattle.scc_contents.specs.Contents.{Contents, entries, bucket_count, minimum_of, pending_of, waiting_of, owed_of}
 use Rattle.scc_contents.specs.Sizes.{IsArraySize, IsSmaller}
 use Rattle.scc_buckets.proofs.Powers.{size-once}
-use Rattle.scc_table.specs.Relocates.{IsGrowthDue, IsShrinkDue, Spreads}
+use Rattle.scc_table.specs.Relocates.{IsBelowMinimum, IsShrinkDue, Spreads}
 use Rattle.scc_table.specs.TwoArrays.{IsWaiting, waits_at}
 use Rattle.scc_table.proofs.Same.{pending-same}
 
@@ -18,7 +18,7 @@ module _ {E S : Type 0} {due : Type 0} (c d : Contents E S) where
   spreads-less count fewer less is = record { all = λ ne. absurd (ne count); fewer = λ e. fewer; less = λ e. less; waiting = λ no. absurd (no is); owed = λ no. absurd (no is) }
 
 -- an array smaller than that of the minimum is to grow
-pub growth-due : {E S : Type 0} (m n : ℕ) (c : Contents E S) → 0 < bucket_count c → IsArraySize m (32 * n) → bucket_count c < n → IsGrowthDue m c
+pub growth-due : {E S : Type 0} (m n : ℕ) (c : Contents E S) → 0 < bucket_count c → IsArraySize m (32 * n) → bucket_count c < n → IsBelowMinimum m c
 growth-due m n c some size less = record { array = some; fewer = λ slots is. let e = size-once _ _ _ size is in omega arith }
 
 -- a shrink that came was due
@@ -38,7 +38,7 @@ spreads-after a b d counts waiting left is s = record {
   owed = λ no. s.owed (λ x. no (is x)) ∙ left;
 }
 
-pub growth-due_after : {E S : Type 0} (m n : ℕ) (a b : Contents E S) → m ≡ n → bucket_count b ≡ bucket_count a → IsGrowthDue m b → IsGrowthDue n a
+pub growth-due_after : {E S : Type 0} (m n : ℕ) (a b : Contents E S) → m ≡ n → bucket_count b ≡ bucket_count a → IsBelowMinimum m b → IsBelowMinimum n a
 growth-due_after m n a b same counts h = record { array = omega (arith, h.array, counts); fewer = λ slots is. let z = h.fewer slots (subst (λ k. IsArraySize k slots) (sym same) is) in omega (arith, counts) }
 
 pub shrink-due_after : {E S : Type 0} (m n : ℕ) (a b : Contents E S) → m ≡ n → bucket_count b ≡ bucket_count a → entries b ≡ entries a → IsShrinkDue m b → IsShrinkDue n a

@@ -8,7 +8,7 @@ use Rattle.scc_buckets.specs.Places as spots
 use Rattle.scc_buckets.specs.declared.place.Place.{Place}
 use Rattle.scc_buckets.proofs.Standing.{along, index-below}
 use Rattle.scc_table.specs.Places.{IsPlace, StandsAt, owed_before, index_of, spot_by, spot_of}
-use Rattle.scc_table.specs.Stepping.{index_on, rank_on, spot_on, IsStart, own, old}
+use Rattle.scc_table.specs.NextPlaces.{index_on, rank_on, spot_on, IsStart, own, old}
 use Rattle.scc_table.specs.Takes.{owed_taken}
 use Rattle.scc_table.specs.TwoArrays.{waits_at}
 use Rattle.scc_table.proofs.OldSpots.{spot-old, spot-own}

@@ -8,12 +8,12 @@ use Rattle.std.proofs.lemmas.List.Edits.{length-remove}
 use Rattle.std.proofs.lemmas.List.Sums.{sum_by-set}
 use native.Mathlib.Decide.{dec_lt}
 use Rattle.scc_array.specs.Shelves.{shelf_of}
-use Rattle.scc_array.specs.Shelf.{Shelf, shelf_entries, empty_shelf, without_place}
+use Rattle.scc_array.specs.Shelf.{Shelf, shelf_entries, empty_shelf, without_slot}
 use Rattle.scc_array.proofs.ListsLemmas.{get-below}
 use Rattle.scc_contents.specs.Contents.{owed_of, Contents, entries, bucket_count, list_of, lists_of, settings_of}
 use Rattle.scc_buckets.specs.OneList.{IsSwappedOutOf, IsTakenFrom}
 use Rattle.scc_buckets.specs.Places as spots
-use Rattle.scc_buckets.specs.Tables.{spilled_in}
+use Rattle.scc_buckets.specs.Tables.{overflow_in}
 use Rattle.scc_buckets.specs.declared.place.Place.{Place}
 use Rattle.scc_buckets.proofs.Removes.{entries_without, overflow_without, own_without}
 use Rattle.scc_table.specs.Places.{IsPlace, spot_of}
@@ -39,10 +39,10 @@ map-remove f (x ∷ xs) zero = refl
 map-remove f (x ∷ xs) (suc i) = ap (λ z. f x ∷ z) (map-remove f xs i)
 
 owed-removed : {E : Type 0} (f : E → ℕ) (ws : List Bool) (olds : List (Shelf E)) (j s : ℕ) → j < length olds → s < length (shelf_entries (shelf_of olds j))
-    → owed_in f ws (set olds j (without_place (shelf_of olds j) s)) ≡ set (owed_in f ws olds) j (remove (get_or (owed_in f ws olds) j []) s)
+    → owed_in f ws (set olds j (without_slot (shelf_of olds j) s)) ≡ set (owed_in f ws olds) j (remove (get_or (owed_in f ws olds) j []) s)
 owed-removed f [] olds j s lj ls = sym (set-none j (remove (get_or [] j []) s))
 owed-removed f (w ∷ ws) olds j s lj ls =
-    let b = without_place (shelf_of olds j) s in
+    let b = without_slot (shelf_of olds j) s in
     let g : Shelf _ → List ℕ = λ x. map f (shelf_entries x) in
     let here : get_or (map g olds) j [] ≡ map f (shelf_entries (shelf_of olds j)) = get_or-map g olds j empty_shelf [] lj in
     map-set g olds j b ∙ ap (set (map g olds) j) (ap (map f) (entries_without (shelf_of olds j) s ls) ∙ map-remove f (shelf_entries (shelf_of olds j)) s ∙ ap (λ z. remove z s) (sym here))
@@ -55,20 +55,20 @@ module _ {E S : Type 0} (hash : E → ℕ) (c : Contents E S) (ws : List Bool) (
   inside : s < length (shelf_entries (shelf_of olds j))
   inside = get-below (shelf_entries (shelf_of olds j)) s e got
 
-  parts : shelf_entries (without_place (shelf_of olds j) s) ≡ take s (shelf_entries (shelf_of olds j)) ++ ([] ++ drop (suc s) (shelf_entries (shelf_of olds j)))
+  parts : shelf_entries (without_slot (shelf_of olds j) s) ≡ take s (shelf_entries (shelf_of olds j)) ++ ([] ++ drop (suc s) (shelf_entries (shelf_of olds j)))
   parts = entries_without (shelf_of olds j) s inside ∙ remove-parts (shelf_entries (shelf_of olds j)) s e got
 
   seen : (k : ℕ) → filter (λ x. target_by hash c x == k) [] ≡ cond (target_by hash c e == k) [] []
   seen k = none-either (target_by hash c e == k)
 
-  pub arrays-less : TwoArrays hash c ws (set olds j (without_place (shelf_of olds j) s))
-  arrays-less = old-arrays hash c ws olds arrays j s e lj got (without_place (shelf_of olds j) s) [] parts seen (own_without (shelf_of olds j) s inside hash (settings_of c).skipped (length olds) j (arrays.own.own j lj))
+  pub arrays-less : TwoArrays hash c ws (set olds j (without_slot (shelf_of olds j) s))
+  arrays-less = old-arrays hash c ws olds arrays j s e lj got (without_slot (shelf_of olds j) s) [] parts seen (own_without (shelf_of olds j) s inside hash (settings_of c).skipped (length olds) j (arrays.own.own j lj))
 
   -- one entry less
-  pub owed-less : sum_by (λ b. length (shelf_entries b)) (set olds j (without_place (shelf_of olds j) s)) + 1 ≡ sum_by (λ b. length (shelf_entries b)) olds
+  pub owed-less : sum_by (λ b. length (shelf_entries b)) (set olds j (without_slot (shelf_of olds j) s)) + 1 ≡ sum_by (λ b. length (shelf_entries b)) olds
   owed-less =
       let f : Shelf E → ℕ = λ b. length (shelf_entries b) in
-      let d = without_place (shelf_of olds j) s in
+      let d = without_slot (shelf_of olds j) s in
       let sums = sum_by-set f olds j d empty_shelf lj in
       let n : length (shelf_entries d) ≡ length (remove (shelf_entries (shelf_of olds j)) s) = ap length (entries_without (shelf_of olds j) s inside) in
       let m = length-remove (shelf_entries (shelf_of olds j)) s inside in
@@ -76,11 +76,11 @@ module _ {E S : Type 0} (hash : E → ℕ) (c : Contents E S) (ws : List Bool) (
       goal_is
 
   -- and none more past the places
-  pub spilled-less : spilled_in (set olds j (without_place (shelf_of olds j) s)) ≤ spilled_in olds
+  pub spilled-less : overflow_in (set olds j (without_slot (shelf_of olds j) s)) ≤ overflow_in olds
   spilled-less =
       let f : Shelf E → ℕ = λ b. length b.overflow in
       let b = shelf_of olds j in
-      let d = without_place b s in
+      let d = without_slot b s in
       let sums = sum_by-set f olds j d empty_shelf lj in
       let w = overflow_without b s inside in
       let goal_is : sum_by f (set olds j d) ≤ sum_by f olds = elim (dec_lt s (length b.slots)) [
@@ -90,9 +90,9 @@ module _ {E S : Type 0} (hash : E → ℕ) (c : Contents E S) (ws : List Bool) (
       goal_is
 
   -- it is gone from the list of its bucket
-  pub old-taken : IsTakenFrom (together hash c ws olds) (record { bucket = target_by hash c e; slot = rank_of hash c ws olds arrays j s e lj got }) (together hash c ws (set olds j (without_place (shelf_of olds j) s)))
+  pub old-taken : IsTakenFrom (together hash c ws olds) (record { bucket = target_by hash c e; slot = rank_of hash c ws olds arrays j s e lj got }) (together hash c ws (set olds j (without_slot (shelf_of olds j) s)))
   old-taken =
-      let b = without_place (shelf_of olds j) s in
+      let b = without_slot (shelf_of olds j) s in
       let news = set olds j b in
       let i = target_by hash c e in
       let m : ℕ = rank_of hash c ws olds arrays j s e lj got in
@@ -179,16 +179,16 @@ module _ {E K S : Type 0} {eq : K → K → Bool} (laws : IsEquivalence eq) {key
     lj = (old-is laws inv p within far).0
 
     pub old-taken_at : IsTakenFrom (together (λ x. hash (key x)) c drain.waiting drain.array) (spot_of (together (λ x. hash (key x)) c drain.waiting drain.array) p)
-        (together (λ x. hash (key x)) c drain.waiting (set drain.array (p.bucket - bucket_count c) (without_place (shelf_of drain.array (p.bucket - bucket_count c)) p.slot)))
+        (together (λ x. hash (key x)) c drain.waiting (set drain.array (p.bucket - bucket_count c) (without_slot (shelf_of drain.array (p.bucket - bucket_count c)) p.slot)))
     old-taken_at =
         let h : E → ℕ = λ x. hash (key x) in
         let j = p.bucket - bucket_count c in
         let back : p.bucket ≡ bucket_count c + j = omega arith in
-        subst (λ q. IsTakenFrom (together h c drain.waiting drain.array) q (together h c drain.waiting (set drain.array j (without_place (shelf_of drain.array j) p.slot)))) (sym (old-spot h c drain.waiting drain.array inv.arrays j p.slot e lj got p back refl))
+        subst (λ q. IsTakenFrom (together h c drain.waiting drain.array) q (together h c drain.waiting (set drain.array j (without_slot (shelf_of drain.array j) p.slot)))) (sym (old-spot h c drain.waiting drain.array inv.arrays j p.slot e lj got p back refl))
         (old-taken h c drain.waiting drain.array inv.arrays j p.slot e lj got)
 
     -- the annotation of that entry goes
-    pub old-owed_taken : owed_of (together (λ x. hash (key x)) c drain.waiting (set drain.array (p.bucket - bucket_count c) (without_place (shelf_of drain.array (p.bucket - bucket_count c)) p.slot)))
+    pub old-owed_taken : owed_of (together (λ x. hash (key x)) c drain.waiting (set drain.array (p.bucket - bucket_count c) (without_slot (shelf_of drain.array (p.bucket - bucket_count c)) p.slot)))
         ≡ owed_taken (bucket_count (together (λ x. hash (key x)) c drain.waiting drain.array)) (owed_of (together (λ x. hash (key x)) c drain.waiting drain.array)) p
     old-owed_taken =
         let h : E → ℕ = λ x. hash (key x) in
@@ -200,21 +200,21 @@ module _ {E K S : Type 0} {eq : K → K → Bool} (laws : IsEquivalence eq) {key
         let past : nat_lt p.bucket n ≡ false = search rules in
         let ls = (old-is laws inv p within far).1 in
         let hs = owed_in f drain.waiting drain.array in
-        owed-together h c drain.waiting (set drain.array j (without_place (shelf_of drain.array j) p.slot)) ∙ owed-removed f drain.waiting drain.array j p.slot lj ls
+        owed-together h c drain.waiting (set drain.array j (without_slot (shelf_of drain.array j) p.slot)) ∙ owed-removed f drain.waiting drain.array j p.slot lj ls
         ∙ sym (ap (λ m. owed_taken m (owed_of u) p) count ∙ ap (λ z. owed_taken n z p) (owed-together h c drain.waiting drain.array) ∙ ap (λ (b : Bool). cond b hs (set hs j (remove (get_or hs j []) p.slot))) past)
 
     -- there is one to take
     pub old-some : 1 ≤ drain.left
     old-some = let h : E → ℕ = λ x. hash (key x) in let n = owed-less h c drain.waiting drain.array inv.arrays (p.bucket - bucket_count c) p.slot e lj got in let m = inv.left_is in omega arith
 
-    pub old-less : IsTable eq key hash c (record drain { array = set drain.array (p.bucket - bucket_count c) (without_place (shelf_of drain.array (p.bucket - bucket_count c)) p.slot); left = drain.left - 1 }) skipped
+    pub old-less : IsTable eq key hash c (record drain { array = set drain.array (p.bucket - bucket_count c) (without_slot (shelf_of drain.array (p.bucket - bucket_count c)) p.slot); left = drain.left - 1 }) skipped
     old-less =
         let h : E → ℕ = λ x. hash (key x) in
         let j = p.bucket - bucket_count c in
-        let news = set drain.array j (without_place (shelf_of drain.array j) p.slot) in
+        let news = set drain.array j (without_slot (shelf_of drain.array j) p.slot) in
         let u = together h c drain.waiting drain.array in
         let there = old-got laws inv p within far e got in
-        old-fields eq key hash c drain news skipped (drain.left - 1) drain.left_overflow inv (arrays-less h c drain.waiting drain.array inv.arrays j p.slot e lj got) (length-set drain.array j (without_place (shelf_of drain.array j) p.slot))
+        old-fields eq key hash c drain news skipped (drain.left - 1) drain.left_overflow inv (arrays-less h c drain.waiting drain.array inv.arrays j p.slot e lj got) (length-set drain.array j (without_slot (shelf_of drain.array j) p.slot))
         (let n = owed-less h c drain.waiting drain.array inv.arrays j p.slot e lj got in let m = inv.left_is in omega arith)
         (let n = spilled-less h c drain.waiting drain.array inv.arrays j p.slot e lj got in let m = inv.overflow_is in omega arith) inv.few
         (taken-unique u (together h c drain.waiting news) (spot_of u p) within old-taken_at laws key e there inv.unique)

@@ -7,7 +7,7 @@ use Rattle.std.proofs.lemmas.List.Sums.{sum_by-cons}
 use Rattle.scc_contents.specs.Contents.{Contents, pending_of, waiting_of}
 use Rattle.scc_buckets.proofs.PairSplits.{by_answer}
 use Rattle.scc_table.specs.Relocates.{left_after}
-use Rattle.scc_table.specs.TwoArrays.{IsFirstWaiting, IsRelocated, pending_targets, settle, waits_at}
+use Rattle.scc_table.specs.TwoArrays.{IsFirstWaiting, IsRelocated, pending_targets, cleared, waits_at}
 use Rattle.scc_table.proofs.Finishing.{pending-is}
 use Rattle.scc_table.proofs.RelocatingLemmas.{not_equal, one-down, up-within}
 
@@ -124,7 +124,7 @@ module _ {E S : Type 0} where
   targets-after i c d r =
       let ws = waiting_of c in
       let near : 0 + i ≡ i = omega arith in
-      let there : ups 0 (settle ws i) ≡ ups 0 (set ws i false) =
+      let there : ups 0 (cleared ws i) ≡ ups 0 (set ws i false) =
       by_answer (count_by (λ w. w) (set ws i false) == 0)
       (λ q.
       let none : length (ups 0 (set ws i false)) ≡ 0 = ups-length 0 (set ws i false) ∙ eqb-true _ _ q in

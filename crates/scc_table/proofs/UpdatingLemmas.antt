@@ -11,7 +11,7 @@ use Rattle.scc_buckets.specs.Writes as writes
 use Rattle.scc_table.specs.TwoArrays.{Draining, together, IsTable}
 use Rattle.scc_table.specs.Updates.{UpdatesFirst}
 use Rattle.scc_table.proofs.CurrentChanges.{settings-write}
-use Rattle.scc_table.proofs.SearchingLemmas.{entries-settled, found-settled}
+use Rattle.scc_table.proofs.SearchingLemmas.{entries-not_waiting, found-not_waiting}
 use Rattle.scc_table.proofs.Written.{own-got, own-kept, own-written}
 
 module _ {F E K V R S : Type 0} (g : Once F (Bor K × (MutBor V × Unit {0})) (R × (MutBor V × Unit {0}))) (f : F) (key : E → K) (value_of : E → V) (put : E → V → E) (p : E → Bool) {eq : K → K → Bool} (laws : IsEquivalence eq) (hash_for : Settings S → K → ℕ) (c d : Contents E S)
@@ -23,10 +23,10 @@ module _ {F E K V R S : Type 0} (g : Once F (Bor K × (MutBor V × Unit {0})) (R
   both z = together (λ e. hash_for (settings_of z) (key e)) z drain.waiting drain.array
 
   -- what was done to the present array was done to both
-  pub settled-first : (r : Option R) → one.UpdatesFirstSpot g f key value_of put p c d r → UpdatesFirst g f key value_of put p (both c) (both d) r
-  settled-first None (missed, stays) = (ap (position p) (entries-settled (λ e. hk (key e)) c drain.array drain.waiting none) ∙ missed, ap both stays)
-  settled-first (Some r) (q, e, w, found, got, called, written) =
-      let at = found-settled (λ x. hk (key x)) c drain.array drain.waiting none p q found in
+  pub not_waiting-first : (r : Option R) → one.UpdatesFirstSpot g f key value_of put p c d r → UpdatesFirst g f key value_of put p (both c) (both d) r
+  not_waiting-first None (missed, stays) = (ap (position p) (entries-not_waiting (λ e. hk (key e)) c drain.array drain.waiting none) ∙ missed, ap both stays)
+  not_waiting-first (Some r) (q, e, w, found, got, called, written) =
+      let at = found-not_waiting (λ x. hk (key x)) c drain.array drain.waiting none p q found in
       let near = found.within.bucket in (
         q,
         e,
@@ -38,10 +38,10 @@ module _ {F E K V R S : Type 0} (g : Once F (Bor K × (MutBor V × Unit {0})) (R
       )
 
   -- they are two arrays still, if a written value keeps the key
-  pub settled-kept : ((e : E) (w : V) → eq (key (put e w)) (key e) ≡ true) → (r : Option R) → one.UpdatesFirstSpot g f key value_of put p c d r → IsTable eq key (hash_for (settings_of d)) d drain skipped
-  settled-kept keeps None (missed, stays) = subst (λ (z : Contents E S). IsTable eq key (hash_for (settings_of z)) z drain skipped) (sym stays) inv
-  settled-kept keeps (Some r) (q, e, w, found, got, called, written) =
-      let at = found-settled (λ x. hk (key x)) c drain.array drain.waiting none p q found in
+  pub not_waiting-kept : ((e : E) (w : V) → eq (key (put e w)) (key e) ≡ true) → (r : Option R) → one.UpdatesFirstSpot g f key value_of put p c d r → IsTable eq key (hash_for (settings_of d)) d drain skipped
+  not_waiting-kept keeps None (missed, stays) = subst (λ (z : Contents E S). IsTable eq key (hash_for (settings_of z)) z drain skipped) (sym stays) inv
+  not_waiting-kept keeps (Some r) (q, e, w, found, got, called, written) =
+      let at = found-not_waiting (λ x. hk (key x)) c drain.array drain.waiting none p q found in
       subst (λ (z : Contents E S). IsTable eq key (hash_for (settings_of z)) z drain skipped) (sym written)
       (subst (λ (s : Settings S). IsTable eq key (hash_for s) (writes.with_write_at_spot put c q w) drain skipped) (sym (settings-write put c q w))
       (own-kept laws inv q at.within found.within.bucket put w e got (keeps e w)))

@@ -2,8 +2,8 @@
 use Rattle.std.proofs.Common.{◌≡◌, ℕ, ◌+◌, ◌⊎◌, Bool, List, [], length, sym, ap, ◌∙◌}
 use Rattle.std.specs.List.{count_by}
 use Rattle.scc_array.specs.Shelf.{Shelf}
-use Rattle.scc_contents.specs.Contents.{Contents, bucket_count, lists_of, settings_of, refused_of, spilled_of, waiting_of, owed_of, pending_of}
-use Rattle.scc_buckets.specs.Tables.{spilled_in}
+use Rattle.scc_contents.specs.Contents.{Contents, bucket_count, lists_of, settings_of, refused_of, overflow_of, waiting_of, owed_of, pending_of}
+use Rattle.scc_buckets.specs.Tables.{overflow_in}
 use Rattle.scc_table.specs.TwoArrays.{Draining, together, IsTable}
 use Rattle.scc_table.proofs.Alone.{lists-alone, owed-alone, spilled-together}
 use Rattle.scc_table.proofs.Joining.{settings-together, refused-together, waiting-together, pending-together, count-together}
@@ -21,8 +21,8 @@ module _ {E S : Type 0} (hash : E → ℕ) (c : Contents E S) (ws : List Bool) (
   pub pending-seen : pending_of d ≡ count_by (λ w. w) ws
   pending-seen = ap pending_of (sym view) ∙ pending-together hash c ws olds
 
-  pub spilled-seen : spilled_of d ≡ spilled_of c + spilled_in olds
-  spilled-seen = ap spilled_of (sym view) ∙ spilled-together hash c ws olds
+  pub spilled-seen : overflow_of d ≡ overflow_of c + overflow_in olds
+  spilled-seen = ap overflow_of (sym view) ∙ spilled-together hash c ws olds
 
   pub count-seen : (ws ≡ []) ⊎ (length ws ≡ bucket_count c) → bucket_count d ≡ bucket_count c
   count-seen flags = ap bucket_count (sym view) ∙ count-together hash c ws olds flags
@@ -35,5 +35,5 @@ module _ {E S : Type 0} (hash : E → ℕ) (c : Contents E S) (ws : List Bool) (
   owed-seen none = ap owed_of (sym view) ∙ owed-alone hash c ws olds none
 
 -- nothing waits where nothing is pending
-pub settled-flags : {E K S : Type 0} {eq : K → K → Bool} {key : E → K} {hash : K → ℕ} {c : Contents E S} {drain : Draining E} {skipped : ℕ} (d : Contents E S) → IsTable eq key hash c drain skipped → together (λ e. hash (key e)) c drain.waiting drain.array ≡ d → pending_of d ≡ 0 → drain.waiting ≡ []
-settled-flags {key = key} {hash = hash} {c = c} {drain = drain} d inv view none = inv.none (inv.counted ∙ sym (pending-seen (λ e. hash (key e)) c drain.waiting drain.array d view) ∙ none)
+pub not_waiting-flags : {E K S : Type 0} {eq : K → K → Bool} {key : E → K} {hash : K → ℕ} {c : Contents E S} {drain : Draining E} {skipped : ℕ} (d : Contents E S) → IsTable eq key hash c drain skipped → together (λ e. hash (key e)) c drain.waiting drain.array ≡ d → pending_of d ≡ 0 → drain.waiting ≡ []
+not_waiting-flags {key = key} {hash = hash} {c = c} {drain = drain} d inv view none = inv.none (inv.counted ∙ sym (pending-seen (λ e. hash (key e)) c drain.waiting drain.array d view) ∙ none)

@@ -7,12 +7,12 @@ use Rattle.std.proofs.lemmas.List.{get_or_default}
 use Rattle.scc_array.specs.Shelves.{shelf_of}
 use Rattle.scc_array.specs.Shelf.{Shelf, shelf_entries, empty_shelf}
 use Rattle.scc_array.specs.ShelfWrites.{write_at, shelf_write_at}
-use Rattle.scc_contents.specs.Contents.{Contents, entries, bucket_count, list_of, lists_of, settings_of, refused_of, spilled_of}
+use Rattle.scc_contents.specs.Contents.{Contents, entries, bucket_count, list_of, lists_of, settings_of, refused_of, overflow_of}
 use Rattle.scc_buckets.specs.Placed.{at, at-get}
 use Rattle.scc_buckets.specs.Places as spots
 use Rattle.scc_contents.specs.Routing.{bucket_number}
-use Rattle.scc_contents.specs.Sizes.{IsArray}
-use Rattle.scc_buckets.specs.Tables.{IsOwn, IsBuckets, spilled_in}
+use Rattle.scc_contents.specs.Sizes.{IsBucketCount}
+use Rattle.scc_buckets.specs.Tables.{IsOwn, IsBuckets, overflow_in}
 use Rattle.scc_buckets.specs.Writes as writes
 use Rattle.scc_buckets.specs.declared.place.Place.{Place}
 use Rattle.scc_buckets.proofs.Arrays.{shelf-at}
@@ -31,7 +31,7 @@ use Rattle.scc_table.proofs.OldSpots.{own, old, own-get, own-spot, old-get, old-
 use Rattle.scc_table.proofs.Preparing.{sized-flags}
 
 -- an old array is made of buckets as a table is
-pub old-table : {E : Type 0} (hash : E → ℕ) (t : ℕ) (olds : List (Shelf E)) → IsArray (length olds) → AreOwn hash t olds → spilled_in olds < 2 ^ 62 → IsBuckets hash t olds (sum_by (λ b. length (shelf_entries b)) olds) (spilled_in olds)
+pub old-table : {E : Type 0} (hash : E → ℕ) (t : ℕ) (olds : List (Shelf E)) → IsBucketCount (length olds) → AreOwn hash t olds → overflow_in olds < 2 ^ 62 → IsBuckets hash t olds (sum_by (λ b. length (shelf_entries b)) olds) (overflow_in olds)
 old-table hash t olds sized ours few = record {
   sized = inr sized;
   counted = refl;
@@ -49,13 +49,13 @@ pub owed-same : {E : Type 0} (f : E → ℕ) (ws : List Bool) (olds news : List 
 owed-same f [] olds news h = refl
 owed-same f (w ∷ ws) olds news h = h
 
-module _ {E S X : Type 0} (put : E → X → E) (hash : E → ℕ) (c : Contents E S) (ws : List Bool) (olds : List (Shelf E)) (arrays : TwoArrays hash c ws olds) (few : spilled_in olds < 2 ^ 62) (j s : ℕ) (e : E) (lj : j < length olds) (got : slice_get (shelf_entries (shelf_of olds j)) s ≡ Some e)
+module _ {E S X : Type 0} (put : E → X → E) (hash : E → ℕ) (c : Contents E S) (ws : List Bool) (olds : List (Shelf E)) (arrays : TwoArrays hash c ws olds) (few : overflow_in olds < 2 ^ 62) (j s : ℕ) (e : E) (lj : j < length olds) (got : slice_get (shelf_entries (shelf_of olds j)) s ≡ Some e)
     (w : X) (same : hash (put e w) ≡ hash e) where
-  pub table-after : IsBuckets hash (settings_of c).skipped (set olds j (shelf_write_at put (shelf_of olds j) s w)) (sum_by (λ b. length (shelf_entries b)) olds) (spilled_in olds)
+  pub table-after : IsBuckets hash (settings_of c).skipped (set olds j (shelf_write_at put (shelf_of olds j) s w)) (sum_by (λ b. length (shelf_entries b)) olds) (overflow_in olds)
   table-after =
       let sized = sized-flags c ws olds (target_by hash c e) arrays.sized (old-waits hash c ws olds arrays j s e lj got) in
       let p : Place = record { bucket = j; slot = s } in
-      written-table put hash (settings_of c).skipped (sum_by (λ b. length (shelf_entries b)) olds) (spilled_in olds) p olds (old-table hash (settings_of c).skipped olds sized arrays.own few) (settings_of c)
+      written-table put hash (settings_of c).skipped (sum_by (λ b. length (shelf_entries b)) olds) (overflow_in olds) p olds (old-table hash (settings_of c).skipped olds sized arrays.own few) (settings_of c)
       (view_of (refused_of c) olds (settings_of c)) refl (shelf_of olds j) lj (shelf-at olds j lj) e got w same
 
   own-after : IsOwn hash (settings_of c).skipped (length olds) j (shelf_write_at put (shelf_of olds j) s w)
@@ -96,7 +96,7 @@ module _ {E S X : Type 0} (put : E → X → E) (hash : E → ℕ) (c : Contents
       (old-lists hash c ws olds arrays j s e lj got b (put e w ∷ []) parts seen ∙ ap (set (lists_of u) (f e)) (sym list) ∙ sym (lists-write put u p w))
       (settings-together hash c ws news ∙ sym (settings-together hash c ws olds) ∙ sym (settings-write put u p w))
       (refused-together hash c ws news ∙ sym (refused-together hash c ws olds) ∙ sym (refused-write put u p w))
-      (spilled-together hash c ws news ∙ ap (λ n. spilled_of c + n) (sym table-after.spilled) ∙ sym (spilled-together hash c ws olds) ∙ sym (spilled-write put u p w))
+      (spilled-together hash c ws news ∙ ap (λ n. overflow_of c + n) (sym table-after.spilled) ∙ sym (spilled-together hash c ws olds) ∙ sym (spilled-write put u p w))
       (waiting-together hash c ws news ∙ sym (waiting-together hash c ws olds) ∙ sym (waiting-write put u p w))
       (owed-together hash c ws news ∙ owed-same f ws olds news rows ∙ sym (owed-together hash c ws olds) ∙ sym (owed-write put u p w))
 
@@ -155,7 +155,7 @@ module _ {E K S : Type 0} {eq : K → K → Bool} (laws : IsEquivalence eq) {key
     back-is : p.bucket ≡ bucket_count c + (p.bucket - bucket_count c)
     back-is = omega arith
 
-    few-owed : spilled_in drain.array < 2 ^ 62
+    few-owed : overflow_in drain.array < 2 ^ 62
     few-owed = let a = inv.overflow_is in let b = inv.few in omega arith
 
     module _ (e : E) (got : slice_get (shelf_entries (shelf_of drain.array (p.bucket - bucket_count c))) p.slot ≡ Some e) where

@@ -1,7 +1,7 @@
 -- Tables of two arrays whose lists hold at most 32 entries each. Where an entry of one stands in its list: the word for the buckets of one array, at the spot of the place.
 use Rattle.std.specs.Prelude.{◌≡◌, ℕ, ◌*◌, ◌<◌, ◌≤◌, ◌⊎◌, Bool, false, true, length}
 use Rattle.scc_buckets.specs.Bounded as bounded
-use Rattle.scc_buckets.specs.Bounded.{IsResized, KeepsLists}
+use Rattle.scc_buckets.specs.Bounded.{IsResized, HasListsOf}
 use Rattle.scc_contents.specs.Contents.{Contents, entries, bucket_count, list_of, minimum_of, pending_of, refused_of}
 use Rattle.scc_contents.specs.Sizes.{IsArraySize}
 use Rattle.scc_buckets.specs.declared.place.Place.{Place}
@@ -14,14 +14,14 @@ IsListedAt passes c i p = bounded.IsListedAtSpot passes c i (spot_of c p)
 module _ {E S : Type 0} where
   -- no bucket waits, at least half as many entries as slots are left, and the slots are below `most`
   pub record IsDoublingDue (most : ℕ) (c : Contents E S) : Type 0 where
-    pub settled : pending_of c ≡ 0
+    pub not_waiting : pending_of c ≡ 0
     pub half : 32 * bucket_count c ≤ 2 * length (entries c)
     pub below : 32 * bucket_count c < most
 
   -- the buckets are doubled where that is due and wasn't refused just before; where memory for it is refused, or was just before, that is noted and nothing else changes
   pub data DoublesBelow (hash : E → ℕ) (most : ℕ) (c d : Contents E S) : Type 0 where
     stays : (IsDoublingDue most c → ⊥) → d ≡ c → DoublesBelow hash most c d
-    denied : IsDoublingDue most c → (refused_of d).0 ≡ true → KeepsLists c d → DoublesBelow hash most c d
+    denied : IsDoublingDue most c → (refused_of d).0 ≡ true → HasListsOf c d → DoublesBelow hash most c d
     doubles : IsDoublingDue most c → (refused_of c).1 ≡ false → (refused_of d).0 ≡ false → bucket_count d ≡ 2 * bucket_count c → IsResized hash c d → DoublesBelow hash most c d
 
   -- what a new entry of list i lets happen first: an array of the size of the minimum is made where there is none, and the buckets are doubled where list i holds 32 and that is due
@@ -31,5 +31,5 @@ module _ {E S : Type 0} where
     is_full : 0 < bucket_count c → 32 ≤ length (list_of c i) → DoublesBelow hash most c d → GrowsBelow hash most i c d
 
   -- all is made that a new entry of list i wants: there is an array, and the list has room, no doubling is due, or it was refused just before
-  abbrev pub IsReadyBelow : ℕ → ℕ → Contents E S → Type 0
-  IsReadyBelow most i c = (0 < bucket_count c) × (length (list_of c i) < 32 ⊎ ((IsDoublingDue most c → ⊥) ⊎ ((refused_of c).1 ≡ true)))
+  abbrev pub IsPreparedBelow : ℕ → ℕ → Contents E S → Type 0
+  IsPreparedBelow most i c = (0 < bucket_count c) × (length (list_of c i) < 32 ⊎ ((IsDoublingDue most c → ⊥) ⊎ ((refused_of c).1 ≡ true)))

@@ -6,10 +6,10 @@ use Rattle.std.specs.Result.{OnOk, OnErr}
 use Rattle.scc_contents.specs.Contents.{Contents, entries, bucket_count, list_of, lists_of, pending_of, refused_of, settings_of, waiting_of, HasRoomAt, IsUniqueBy}
 use Rattle.scc_contents.specs.Routing.{bucket_number}
 use Rattle.scc_contents.specs.Steps.{FirstArrayWhenDue, Grows, IsUnchanged, Rests}
-use Rattle.scc_buckets.specs.Bounded.{IsListed, KeepsLists}
+use Rattle.scc_buckets.specs.Bounded.{IsListed, HasListsOf}
 use Rattle.scc_buckets.specs.Pour.{IsRegrouped}
 use Rattle.scc_buckets.specs.declared.place.Place.{Place}
-use Rattle.scc_table.specs.Bounded.{DoublesBelow, GrowsBelow, IsDoublingDue, IsReadyBelow}
+use Rattle.scc_table.specs.Bounded.{DoublesBelow, GrowsBelow, IsDoublingDue, IsPreparedBelow}
 use Rattle.scc_table.specs.Marks.{IsGrowthDue}
 use Rattle.scc_table.specs.Places.{IsInsertedAt}
 use Rattle.scc_table.specs.Relocates.{left_after, AreMovedBeside, AreShortAmong, AreShortBut}
@@ -77,7 +77,7 @@ module _ {E K S : Type 0} (eq : K → K → Bool) (key : E → K) where
       -- where there was no array there is no entry
       pub bare : bucket_count c ≡ 0 → entries d ≡ []
       -- and no bucket waits
-      pub settled : bucket_count c ≡ 0 → waiting_of d ≡ []
+      pub not_waiting : bucket_count c ≡ 0 → waiting_of d ≡ []
       -- of the same array each list stays
       pub stays : 0 < bucket_count c → bucket_count d ≡ bucket_count c → lists_of d ≡ lists_of c
       -- and the same buckets wait
@@ -122,7 +122,7 @@ module _ {E K S : Type 0} (eq : K → K → Bool) (key : E → K) where
       -- the bucket is the one of the hash
       pub routed : result.bucket ≡ bucket_number (settings_of c).skipped (bucket_count d) hash
       -- it doesn't wait
-      pub settled : waits_at (waiting_of d) result.bucket ≡ false
+      pub not_waiting : waits_at (waiting_of d) result.bucket ≡ false
       -- of the same array none waits
       pub none : bucket_count d ≡ bucket_count c → pending_of d ≡ 0
       -- of a larger one all wait but two at most
@@ -151,7 +151,7 @@ module _ {E K S : Type 0} (eq : K → K → Bool) (key : E → K) where
       -- the key's bucket and the first ones took their entries over
       pub drained : AreMovedBeside (bucket_number (settings_of c).skipped count hash) (range_with_len 0 count) d
       -- the key's bucket doesn't wait
-      pub settled : waits_at (waiting_of d) (bucket_number (settings_of c).skipped count hash) ≡ false
+      pub not_waiting : waits_at (waiting_of d) (bucket_number (settings_of c).skipped count hash) ≡ false
       -- no two keys are equal
       pub unique : IsUniqueBy eq key d
 
@@ -173,7 +173,7 @@ module _ {E K S : Type 0} (eq : K → K → Bool) (key : E → K) where
       -- of a larger one every bucket does
       pub all : bucket_count d ≢ bucket_count c → pending_of d ≡ bucket_count d
       -- true says that it was due and each list stayed
-      pub refused : IsTrue result → IsDoublingDue most c × KeepsLists c d
+      pub refused : IsTrue result → IsDoublingDue most c × HasListsOf c d
       -- after false none is due
       pub made : (IsTrue result → ⊥) → IsDoublingDue most d → ⊥
       -- a growth is marked as tried only where nothing changed
@@ -207,11 +207,11 @@ module _ {E K S : Type 0} (eq : K → K → Bool) (key : E → K) where
       pub unique : IsUniqueBy eq key d
 
     -- all is made that a put of a new key of that hash wants where arrays of fewer slots than `most` may grow
-    pub record MakesRoomWithin {X : Type 0} (most : ℕ) (c : Contents E S) (hash : ℕ) (result : Result (Unit {0}) X) (d : Contents E S) : Type 0 where
+    pub record PreparesWithin {X : Type 0} (most : ℕ) (c : Contents E S) (hash : ℕ) (result : Result (Unit {0}) X) (d : Contents E S) : Type 0 where
       -- the first array is made, or the buckets are doubled where that is due
       pub grows : OnOk result (GrowsBelow (λ e. hash_in c (key e)) most (bucket_number (settings_of c).skipped (bucket_count c) hash) c d)
       -- the put wants nothing more then
-      pub ready : OnOk result (IsReadyBelow most (bucket_number (settings_of d).skipped (bucket_count d) hash) d)
+      pub ready : OnOk result (IsPreparedBelow most (bucket_number (settings_of d).skipped (bucket_count d) hash) d)
       -- a growth is marked as tried only where it was before, or where it is noted as refused
       pub marked : (refused_of d).1 ≡ true → ((refused_of c).1 ≡ true) ⊎ ((refused_of d).0 ≡ true)
       -- the settings stay
@@ -230,7 +230,7 @@ module _ {E K S : Type 0} (eq : K → K → Bool) (key : E → K) where
       pub unique : IsUniqueBy eq key d
 
     -- the mark of a growth that was tried is taken away, and nothing else changed
-    pub record DropsRoomWithin (c d : Contents E S) : Type 0 where
+    pub record DropsMarkWithin (c d : Contents E S) : Type 0 where
       -- each list stays
       pub lists : lists_of d ≡ lists_of c
       -- the settings stay

@@ -4,7 +4,7 @@ use Rattle.std.specs.List.{filter, range_with_len}
 use Rattle.std.specs.Result.{OnOk, OnErr}
 use Rattle.scc_contents.specs.Contents.{Contents, bucket_count, pending_of, refused_of, settings_of, waiting_of, HasRoomBy, IsUniqueBy}
 use Rattle.scc_contents.specs.Routing.{bucket_number}
-use Rattle.scc_contents.specs.Steps.{FirstArrayWhenDue, Grows, GrowsWhenDue, IsReadyFor, IsUnchanged, Rests}
+use Rattle.scc_contents.specs.Steps.{FirstArrayWhenDue, Grows, GrowsWhenDue, IsPreparedFor, IsUnchanged, Rests}
 use Rattle.scc_buckets.specs.declared.place.Place.{Place}
 use Rattle.scc_table.specs.Places.{IsInsertedAt}
 use Rattle.scc_table.specs.Relocates.{left_after, AreMovedBeside, AreMovedFrom, AreShort, AreShortAmong}
@@ -12,7 +12,7 @@ use Rattle.scc_table.specs.TwoArrays.{IsWaiting, pending_targets, waits_at}
 
 module _ {E K S : Type 0} (eq : K → K → Bool) (key : E → K) where
   -- what putting the new entry e, or nothing and handing x back, into bucket i does, where the first n of the buckets ts take their entries over, `all` in all, and a refusal has that cause
-  pub record InsertsInto {X : Type 0} (c : Contents E S) (i : ℕ) (e : E) (x : X) (ts : List ℕ) (n all : ℕ) (cause : Type 0) (result : Result Place X) (d : Contents E S) : Type 0 where
+  pub record InsertsThenRelocates {X : Type 0} (c : Contents E S) (i : ℕ) (e : E) (x : X) (ts : List ℕ) (n all : ℕ) (cause : Type 0) (result : Result Place X) (d : Contents E S) : Type 0 where
     -- the entry is put in, and the place is its place
     pub ok : IfOk result (IsInsertedAt c e d)
     -- refused, what was supplied comes back and nothing changed
@@ -30,7 +30,7 @@ module _ {E K S : Type 0} (eq : K → K → Bool) (key : E → K) where
     -- at most so many wait no more
     pub most : pending_of c ≤ pending_of d + all
     -- the bucket itself doesn't wait
-    pub settled : OnOk result (waits_at (waiting_of d) i ≡ false)
+    pub not_waiting : OnOk result (waits_at (waiting_of d) i ≡ false)
     -- the first of the buckets took their entries over
     pub moved : OnOk result (AreMovedFrom ts n d)
     -- and all of them did where none that waits is long
@@ -39,8 +39,8 @@ module _ {E K S : Type 0} (eq : K → K → Bool) (key : E → K) where
     pub unique : IsUniqueBy eq key d
 
   -- the same, where the bucket takes its own entries over first and then the first ones that wait do, two in all
-  abbrev pub InsertsAt : {X : Type 0} → Contents E S → ℕ → E → X → Type 0 → Result Place X → Contents E S → Type 0
-  InsertsAt c i e x cause result d = InsertsInto c i e x (filter (λ t. not (t == i)) (pending_targets c)) (length (filter (λ t. not (t == i)) (pending_targets c)) + 2 - length (pending_targets c)) 2 cause result d
+  abbrev pub InsertsAndRelocates : {X : Type 0} → Contents E S → ℕ → E → X → Type 0 → Result Place X → Contents E S → Type 0
+  InsertsAndRelocates c i e x cause result d = InsertsThenRelocates c i e x (filter (λ t. not (t == i)) (pending_targets c)) (length (filter (λ t. not (t == i)) (pending_targets c)) + 2 - length (pending_targets c)) 2 cause result d
 
   -- what an insertion of the new entry e does, whose key has that hash
   pub record InsertsNew (hash_of : K → ℕ) (c : Contents E S) (hash : ℕ) (e : E) (result : Result Place E) (d : Contents E S) : Type 0 where
@@ -61,7 +61,7 @@ module _ {E K S : Type 0} (eq : K → K → Bool) (key : E → K) where
     -- the number of buckets stays where the key's bucket has room
     pub kept : HasRoomBy hash_of key c (key e) → bucket_count d ≡ bucket_count c
     -- and where room was made before
-    pub once : IsReadyFor hash_of key c (key e) → bucket_count d ≡ bucket_count c
+    pub once : IsPreparedFor hash_of key c (key e) → bucket_count d ≡ bucket_count c
     -- of the same array none waits that didn't
     pub fewer : 0 < bucket_count c → bucket_count d ≡ bucket_count c → (i : ℕ) → IsWaiting d i → IsWaiting c i
     -- no more wait than before
@@ -73,7 +73,7 @@ module _ {E K S : Type 0} (eq : K → K → Bool) (key : E → K) where
     -- of a first array none does
     pub array : bucket_count c ≡ 0 → pending_of d ≡ 0
     -- the key's bucket doesn't wait
-    pub settled : OnOk result (waits_at (waiting_of d) (bucket_number (settings_of c).skipped (bucket_count d) hash) ≡ false)
+    pub not_waiting : OnOk result (waits_at (waiting_of d) (bucket_number (settings_of c).skipped (bucket_count d) hash) ≡ false)
     -- of the same array that one and then the first ones wait no more, two in all, where none of them is long
     pub exact : OnOk result (0 < bucket_count c → bucket_count d ≡ bucket_count c → AreShort c → pending_targets d ≡ left_after (bucket_number (settings_of c).skipped (bucket_count c) hash) (pending_targets c))
     -- of a larger array that one and the first ones don't wait, two in all, where none of its buckets is long

@@ -4,7 +4,7 @@ use Rattle.std.specs.List.{range_with_len}
 use Rattle.std.specs.Result.{OnOk, OnErr}
 use Rattle.scc_contents.specs.Contents.{Contents, entries, bucket_count, pending_of, refused_of, settings_of, waiting_of, HasRoomBy, IsUniqueBy}
 use Rattle.scc_contents.specs.Routing.{bucket_number}
-use Rattle.scc_contents.specs.Steps.{FirstArrayWhenDue, Grows, GrowsWhenDue, IsReadyFor, IsUnchanged, RaisesWhenDue}
+use Rattle.scc_contents.specs.Steps.{FirstArrayWhenDue, Grows, GrowsWhenDue, IsPreparedFor, IsUnchanged, RaisesWhenDue}
 use Rattle.scc_buckets.specs.declared.place.Place.{Place}
 use Rattle.scc_table.specs.Places.{IsInsertedAt}
 use Rattle.scc_table.specs.Relocates.{left_after, AreMovedBeside, AreShort, AreShortAmong}
@@ -45,7 +45,7 @@ module _ {E K S X : Type 0} (eq : K → K → Bool) (key : E → K) where
     -- no more wait than before
     pub less : pending_of d ≤ pending_of c
     -- the bucket itself doesn't wait
-    pub settled : OnOk result (waits_at (waiting_of d) i ≡ false)
+    pub not_waiting : OnOk result (waits_at (waiting_of d) i ≡ false)
     -- no two keys are equal
     pub unique : IsUniqueBy eq key d
 
@@ -69,7 +69,7 @@ module _ {E K S X : Type 0} (eq : K → K → Bool) (key : E → K) where
       -- the number of buckets stays where the key's bucket has room
       pub kept : HasRoomBy hash_of key c (key e) → bucket_count d ≡ bucket_count c
       -- and where room was made before
-      pub once : IsReadyFor hash_of key c (key e) → bucket_count d ≡ bucket_count c
+      pub once : IsPreparedFor hash_of key c (key e) → bucket_count d ≡ bucket_count c
       -- of the same array none waits that didn't
       pub fewer : 0 < bucket_count c → bucket_count d ≡ bucket_count c → (i : ℕ) → IsWaiting d i → IsWaiting c i
       -- no more wait than before
@@ -81,7 +81,7 @@ module _ {E K S X : Type 0} (eq : K → K → Bool) (key : E → K) where
       -- of a first array none does
       pub array : bucket_count c ≡ 0 → pending_of d ≡ 0
       -- the key's bucket doesn't wait
-      pub settled : OnOk result (waits_at (waiting_of d) (bucket_number (settings_of c).skipped (bucket_count d) hash) ≡ false)
+      pub not_waiting : OnOk result (waits_at (waiting_of d) (bucket_number (settings_of c).skipped (bucket_count d) hash) ≡ false)
       -- of the same array that one and then the first ones wait no more, two in all, where none of them is long
       pub exact : OnOk result (0 < bucket_count c → bucket_count d ≡ bucket_count c → AreShort c → pending_targets d ≡ left_after (bucket_number (settings_of c).skipped (bucket_count c) hash) (pending_targets c))
       -- of a larger array that one and the first ones don't wait, two in all, where none of its buckets is long
@@ -128,12 +128,12 @@ module _ {E K S X : Type 0} (eq : K → K → Bool) (key : E → K) where
       -- of a larger array the key's bucket and the first ones took their entries over
       pub drained : OnOk result (bucket_count d ≢ bucket_count c → AreMovedBeside (bucket_number (settings_of c).skipped (bucket_count d) hash) (range_with_len 0 (bucket_count d)) d)
       -- the key's bucket doesn't wait
-      pub settled : OnOk result (waits_at (waiting_of d) (bucket_number (settings_of c).skipped (bucket_count d) hash) ≡ false)
+      pub not_waiting : OnOk result (waits_at (waiting_of d) (bucket_number (settings_of c).skipped (bucket_count d) hash) ≡ false)
       -- no two keys are equal
       pub unique : IsUniqueBy eq key d
 
     -- the same where so many new buckets take the place of the present ones before the entry is put in
-    pub record InsertsMadeWith (c : Contents E S) (count hash : ℕ) (e : E) (x : X) (result : Result Place X) (d : Contents E S) : Type 0 where
+    pub record InsertsMadeGrown (c : Contents E S) (count hash : ℕ) (e : E) (x : X) (result : Result Place X) (d : Contents E S) : Type 0 where
       -- the entry is put in, and the place is its place
       pub ok : IfOk result (IsInsertedAt c e d)
       -- there are so many buckets then
@@ -161,7 +161,7 @@ module _ {E K S X : Type 0} (eq : K → K → Bool) (key : E → K) where
       -- the key's bucket and the first ones took their entries over
       pub drained : OnOk result (AreMovedBeside (bucket_number (settings_of c).skipped count hash) (range_with_len 0 count) d)
       -- the key's bucket doesn't wait
-      pub settled : OnOk result (waits_at (waiting_of d) (bucket_number (settings_of c).skipped count hash) ≡ false)
+      pub not_waiting : OnOk result (waits_at (waiting_of d) (bucket_number (settings_of c).skipped count hash) ≡ false)
       -- refused, the parts come back and nothing changed
       pub err : IfErr result (λ y. (y ≡ x) × IsUnchanged c d)
       -- a refusal is noted
@@ -196,6 +196,6 @@ module _ {E K S X : Type 0} (eq : K → K → Bool) (key : E → K) where
       -- of a larger array the key's bucket and the first ones took their entries over
       pub drained : OnOk result (bucket_count d ≢ bucket_count c → AreMovedBeside (bucket_number (settings_of c).skipped (bucket_count d) hash) (range_with_len 0 (bucket_count d)) d)
       -- the key's bucket doesn't wait
-      pub settled : OnOk result (waits_at (waiting_of d) (bucket_number (settings_of c).skipped (bucket_count d) hash) ≡ false)
+      pub not_waiting : OnOk result (waits_at (waiting_of d) (bucket_number (settings_of c).skipped (bucket_count d) hash) ≡ false)
       -- no two keys are equal
       pub unique : IsUniqueBy eq key d

@@ -6,13 +6,13 @@ module _ {E K S : Type 0} (hash : K → ℕ) (key : E → K) where
   -- a growth is due for a new key of hash h: no bucket waits, the bucket of h has no room, at least half as many entries as slots are held, and the slots are below the greatest number
   pub record IsGrowthDue (c : Contents E S) (h : ℕ) : Type 0 where
     pub array : 0 < bucket_count c
-    pub settled : pending_of c ≡ 0
+    pub not_waiting : pending_of c ≡ 0
     pub full : HasRoomAt hash key c h → ⊥
     pub half : 32 * bucket_count c ≤ 2 * length (entries c)
     pub below : 32 * bucket_count c < 2 ^ 63
 
   -- what room for a new key of hash h does to the note of refused memory, the first of the two, and to the mark of a growth that was tried, the second
-  pub record MarksRoom (c : Contents E S) (h : ℕ) (d : Contents E S) : Type 0 where
+  pub record MarksPreparation (c : Contents E S) (h : ℕ) (d : Contents E S) : Type 0 where
     -- both stay where no growth is due
     pub stays : (IsGrowthDue c h → ⊥) → refused_of d ≡ refused_of c
     -- both are down after a growth

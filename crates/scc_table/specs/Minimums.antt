@@ -3,7 +3,7 @@ use Rattle.std.specs.Prelude.{◌≡◌, ◌≢◌, ◌≤◌, ◌<◌, ◌+◌,
 use Rattle.scc_contents.specs.Contents.{Contents, bucket_count, minimum_of, refused_of, settings_of, waiting_of, IsUniqueBy}
 use Rattle.scc_contents.specs.Sizes.{IsArraySize}
 use Rattle.scc_contents.specs.Steps.{IsUnchanged, ReachesMinimumWhenDue, Releases, Reserves, Resizes, ShrinksWhenDue}
-use Rattle.scc_table.specs.Relocates.{IsGrowthDue, IsShrinkDue, Spreads}
+use Rattle.scc_table.specs.Relocates.{IsBelowMinimum, IsShrinkDue, Spreads}
 
 module _ {E K S : Type 0} (eq : K → K → Bool) (key : E → K) where
   -- the minimum is raised by so many slots, and a token that stands for them is answered
@@ -17,7 +17,7 @@ module _ {E K S : Type 0} (eq : K → K → Bool) (key : E → K) where
     -- the array reaches it, unless memory is refused
     pub due : OnSome result (ReachesMinimumWhenDue c d)
     -- and every bucket of a larger one waits
-    pub spreads : OnSome result (Spreads (IsGrowthDue (minimum_of d) c) c d)
+    pub spreads : OnSome result (Spreads (IsBelowMinimum (minimum_of d) c) c d)
     -- without, no entry, bucket or setting changed
     pub no : IfNone result (IsUnchanged c d)
     -- nor the note of refused memory
@@ -36,7 +36,7 @@ module _ {E K S : Type 0} (eq : K → K → Bool) (key : E → K) where
     -- the array reaches it, unless memory is refused
     pub due : IsTrue result → ReachesMinimumWhenDue c d
     -- and every bucket of a larger one waits
-    pub spreads : IsTrue result → Spreads (IsGrowthDue (minimum_of d) c) c d
+    pub spreads : IsTrue result → Spreads (IsBelowMinimum (minimum_of d) c) c d
     -- after false no entry, bucket or setting changed
     pub no : (IsTrue result → ⊥) → IsUnchanged c d
     -- nor the note of refused memory
@@ -76,6 +76,6 @@ module _ {E K S : Type 0} (eq : K → K → Bool) (key : E → K) where
     -- the array reaches the minimum, unless memory is refused
     pub due : ReachesMinimumWhenDue c d
     -- every bucket of a larger one waits
-    pub spreads : Spreads (IsGrowthDue (minimum_of c) c) c d
+    pub spreads : Spreads (IsBelowMinimum (minimum_of c) c) c d
     -- no two keys are equal
     pub unique : IsUniqueBy eq key d

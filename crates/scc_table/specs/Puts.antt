@@ -9,7 +9,7 @@ use Rattle.scc_table.specs.TwoArrays.{pending_targets, waits_at}
 
 module _ {E K S : Type 0} (eq : K → K → Bool) (key : E → K) where
   -- the new entry e is put into bucket i, or nothing is and x comes back, where a refusal has that cause
-  pub record PutsInto {X : Type 0} (c : Contents E S) (i : ℕ) (e : E) (x : X) (cause : Type 0) (result : Result Place X) (d : Contents E S) : Type 0 where
+  pub record InsertsIn {X : Type 0} (c : Contents E S) (i : ℕ) (e : E) (x : X) (cause : Type 0) (result : Result Place X) (d : Contents E S) : Type 0 where
     -- the entry is put in, and the place is its place
     pub exact : IfOk result (IsPutIn c i e d)
     -- refused, what was supplied comes back
@@ -59,7 +59,7 @@ module _ {E K S : Type 0} (eq : K → K → Bool) (key : E → K) where
       -- each entry stands in the list of its hash
       pub listed : IsListed (λ f. hash d (key f)) d
       -- the bucket itself doesn't wait
-      pub settled : waits_at (waiting_of d) i ≡ false
+      pub not_waiting : waits_at (waiting_of d) i ≡ false
       -- the buckets that wait are those
       pub exact : pending_targets d ≡ left
       -- so many fewer wait, where as many did

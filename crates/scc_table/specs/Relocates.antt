@@ -12,7 +12,7 @@ left_after i ts = drop (length (filter (λ t. not (t == i)) ts) + 2 - length ts)
 
 module _ {E S : Type 0} where
   -- the array has fewer slots than the minimum
-  pub record IsGrowthDue (minimum : ℕ) (c : Contents E S) : Type 0 where
+  pub record IsBelowMinimum (minimum : ℕ) (c : Contents E S) : Type 0 where
     pub array : 0 < bucket_count c
     pub fewer : (slots : ℕ) → IsArraySize minimum slots → 32 * bucket_count c < slots
 

@@ -21,7 +21,7 @@ module _ {E S : Type 0} where
   -- a new key of that hash is in: its bucket doesn't wait; that one, where it waited, and then the first ones took their entries over, two in all, and fewer only where none waits or memory was refused for one of them or the next, to which more than 32 entries come
   pub record RelocatesTwo (hash : ℕ) (c d : Contents E S) : Type 0 where
     -- the key's bucket doesn't wait
-    pub settled : waits_at (waiting_of d) (bucket_number (settings_of c).skipped (bucket_count d) hash) ≡ false
+    pub not_waiting : waits_at (waiting_of d) (bucket_number (settings_of c).skipped (bucket_count d) hash) ≡ false
     -- of the same array that one and then the first ones wait no more, two in all, where none of them is long
     pub exact : 0 < bucket_count c → bucket_count d ≡ bucket_count c → AreShort c → pending_targets d ≡ left_after (bucket_number (settings_of c).skipped (bucket_count c) hash) (pending_targets c)
     -- of the same array that one and then the first ones took their entries over, whatever was refused

@@ -60,7 +60,7 @@ module _ {E K S : Type 0} (eq : K → K → Bool) (key : E → K) where
     pub unique : IsUniqueBy eq key d
 
   -- the same, and the place of the entry that stood next is answered
-  pub record TakesAndSteps (c : Contents E S) (p : Place) (result : E × Option Place) (d : Contents E S) : Type 0 where
+  pub record TakesWithNext (c : Contents E S) (p : Place) (result : E × Option Place) (d : Contents E S) : Type 0 where
     -- it is that entry
     pub entry : slice_get (entries c) (index_of c p) ≡ Some result.0
     -- the others stay in their order

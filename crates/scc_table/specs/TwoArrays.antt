@@ -3,11 +3,11 @@ use Rattle.std.specs.Prelude.{◌≡◌, ◌==◌, ℕ, suc, ◌+◌, ◌^◌, �
 use Rattle.std.specs.List.{filter, flat_map, range_with_len, sum_by, IsDistinct}
 use Rattle.scc_table.specs.declared.Draining as code
 use Rattle.scc_array.specs.Shelf.{Shelf, shelf_entries}
-use Rattle.scc_contents.specs.Contents.{Contents, entries, bucket_count, list_of, lists_of, settings_of, refused_of, spilled_of, waiting_of, owed_of, pending_of}
+use Rattle.scc_contents.specs.Contents.{Contents, entries, bucket_count, list_of, lists_of, settings_of, refused_of, overflow_of, waiting_of, owed_of, pending_of}
 use Rattle.scc_buckets.specs.Pour.{bound_for}
 use Rattle.scc_contents.specs.Routing.{bucket_number}
-use Rattle.scc_contents.specs.Sizes.{IsArray}
-use Rattle.scc_buckets.specs.Tables.{spilled_in}
+use Rattle.scc_contents.specs.Sizes.{IsBucketCount}
+use Rattle.scc_buckets.specs.Tables.{overflow_in}
 use Rattle.scc_draining.specs.Moves.{AreMultiples, AreOwn}
 
 -- whether bucket i waits
@@ -36,7 +36,7 @@ module _ {E S : Type 0} where
     lists = joined (target_by hash c) 0 ws (lists_of c) (flat_map shelf_entries olds);
     settings = settings_of c;
     refused = refused_of c;
-    spilled = spilled_of c + spilled_in olds;
+    spilled = overflow_of c + overflow_in olds;
     waiting = ws;
     owed = owed_in (target_by hash c) ws olds;
   }
@@ -45,9 +45,9 @@ module _ {E S : Type 0} where
   pub record TwoArrays (hash : E → ℕ) (c : Contents E S) (ws : List Bool) (olds : List (Shelf E)) : Type 0 where
     pub flags : (ws ≡ []) ⊎ (length ws ≡ bucket_count c)
     pub multiples : (ws ≡ []) ⊎ AreMultiples (length olds) (bucket_count c)
-    pub sized : (ws ≡ []) ⊎ IsArray (length olds)
+    pub sized : (ws ≡ []) ⊎ IsBucketCount (length olds)
     pub own : AreOwn hash (settings_of c).skipped olds
-    pub settled : (i : ℕ) → waits_at ws i ≡ false → bound_for hash (settings_of c).skipped (bucket_count c) i (flat_map shelf_entries olds) ≡ []
+    pub not_waiting : (i : ℕ) → waits_at ws i ≡ false → bound_for hash (settings_of c).skipped (bucket_count c) i (flat_map shelf_entries olds) ≡ []
     pub bare : (i : ℕ) → waits_at ws i ≡ true → list_of c i ≡ []
 
   -- bucket i waits for its entries to come from the old array
@@ -64,8 +64,8 @@ module _ {E S : Type 0} where
   pending_targets c = filter (waits_at (waiting_of c)) (range_with_len 0 (length (waiting_of c)))
 
 -- the flags once bucket i doesn't wait any more; none where no other does
-abbrev pub settle : List Bool → ℕ → List Bool
-settle ws i = cond (count_by (λ w. w) (slice_set ws i false) == 0) [] (slice_set ws i false)
+abbrev pub cleared : List Bool → ℕ → List Bool
+cleared ws i = cond (count_by (λ w. w) (slice_set ws i false) == 0) [] (slice_set ws i false)
 
 -- the annotations without bucket i; none where no bucket waits
 abbrev pub owed_without : List Bool → ℕ → List (List ℕ) → List (List ℕ)
@@ -77,7 +77,7 @@ pub record IsRelocated {E S : Type 0} (i : ℕ) (c d : Contents E S) : Type 0 wh
   pub lists : lists_of d ≡ lists_of c
   pub settings : settings_of d ≡ settings_of c
   pub refused : refused_of d ≡ refused_of c
-  pub waiting : waiting_of d ≡ settle (waiting_of c) i
+  pub waiting : waiting_of d ≡ cleared (waiting_of c) i
   pub owed : owed_of d ≡ owed_without (waiting_of d) i (owed_of c)
   pub pending : pending_of c ≡ pending_of d + 1
 
@@ -110,6 +110,6 @@ pub record IsTable {E K S : Type 0} (eq : K → K → Bool) (key : E → K) (has
   pub given_back : drain.pending ≡ 0 → drain.array ≡ []
   pub below : (i : ℕ) → i < drain.next → waits_at drain.waiting i ≡ false
   pub left_is : drain.left ≡ sum_by (λ b. length (shelf_entries b)) drain.array
-  pub overflow_is : spilled_in drain.array ≤ drain.left_overflow
-  pub few : spilled_of c + drain.left_overflow < 2 ^ 62
+  pub overflow_is : overflow_in drain.array ≤ drain.left_overflow
+  pub few : overflow_of c + drain.left_overflow < 2 ^ 62
   pub unique : IsDistinct eq (map key (entries (together (λ e. hash (key e)) c drain.waiting drain.array)))

@@ -98,10 +98,10 @@ where
 
     /// Whether the next insertion is not to try the growth that is due: it was refused just before.
     #[inline(always)]
-    pub fn is_tried(&self) -> bool
+    pub fn is_marked(&self) -> bool
         ensures { result ≡ (refused_of self.now).1 }
     {
-        self.current.is_tried()
+        self.current.is_marked()
     }
 
     /// Whether the bucket waits for its entries to come from the old array.

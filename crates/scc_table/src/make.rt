@@ -1,7 +1,7 @@
 //! How a table of two arrays is made: with one, empty or with clones.
 ghost use Rattle.scc_buckets.specs.Making.{AreNewBuckets, MakesBuckets};
 ghost use Rattle.scc_contents.specs.Clones.{HasClones};
-ghost use Rattle.scc_contents.specs.Contents.{key_hash, lists_of, refused_of, settings_of, spilled_of, waiting_of};
+ghost use Rattle.scc_contents.specs.Contents.{key_hash, lists_of, refused_of, settings_of, overflow_of, waiting_of};
 ghost use Rattle.std.specs.Arc.{arc_value};
 ghost use Rattle.std.specs.Prelude.{◌≡◌, ◌≤◌, ◌<◌, [], false, IfOk};
 
@@ -56,10 +56,10 @@ where
         ensures lists { lists_of result ≡ lists_of current }
         ensures settings { settings_of result ≡ settings_of current }
         ensures noted { refused_of result ≡ refused_of current }
-        ensures spilled { spilled_of result ≡ spilled_of current }
+        ensures spilled { overflow_of result ≡ overflow_of current }
         ensures waiting { waiting_of result ≡ [] }
     {
-        current.keep_lists();
+        current.list_facts();
         let _overflow = current.overflow_len();
         let alloc = current.allocator();
         Table {

@@ -14,7 +14,7 @@ use Rattle.scc_calls.specs.declared.replies.Reply.{Reply}
 use Rattle.scc_uses.specs.Alikeness.{Both, FindsAlike, RepliesAlike}
 use Rattle.scc_uses.specs.AlikeIndexes.{IndexCallsAlike}
 use Rattle.scc_uses.proofs.AlikeRuns.{Agrees, runs-alike, alike-symm, alike-trans, equal-symm, equal-trans, replies-given, replies-symm, replies-trans}
-use Rattle.scc_uses.proofs.IndexIndependence.{answered, keeps-distinct, left, rearranged-values, settled, there}
+use Rattle.scc_uses.proofs.IndexIndependence.{answered, keeps-distinct, left, rearranged-values, not_waiting, there}
 use Rattle.scc_uses.proofs.MapAlike.{AreAlike, as-many-there, both-cond, both-there, there-alike}
 
 module _ {K V : Type 0} {eq : K → K → Bool} {values : V → V → Bool} (laws : IsEquivalence eq) (part : IsPartialEquivalence values) where
@@ -101,8 +101,8 @@ module _ {K V H I : Type 0} {eq : K → K → Bool} {values : V → V → Bool} 
   moves-alike clone s t u v call q r l m n =
       let d = keeps-distinct laws clone s u m.0 m.1 l.first m.4 in
       let e = keeps-distinct laws clone t v n.0 n.1 l.second n.4 in
-      let a = settled laws clone s m.0 m.1 u l.first d m.4 in
-      let b = settled laws clone t n.0 n.1 v l.second e n.4 in
+      let a = not_waiting laws clone s m.0 m.1 u l.first d m.4 in
+      let b = not_waiting laws clone t n.0 n.1 v l.second e n.4 in
       let made = calls-euclid laws part call m.0 n.0 (calls-given m.0 call m.2) (calls-given n.0 call n.2) in
       let o : Both (Alike values) a.0 b.0 = subst (λ z. Both (Alike values) z b.0) a.1 (subst (Both (Alike values) (there eq s.0 m.0)) b.1 (calls-there laws part m.0 n.0 s.0 t.0 made l.finds)) in
       let count : length s.0 ≡ length t.0 = sym (as-many-there laws s.0 t.0 l.first l.second (λ q. both-there (Alike values) (lookup (eq q) s.0) (lookup (eq q) t.0) (l.finds q))) in

@@ -130,15 +130,15 @@ module _ {K V : Type 0} {eq : K → K → Bool} (laws : IsEquivalence eq) where
   kept s t e q = ap (λ (z : State (K × V)). lookup (eq q) z.0) e
 
   -- a move answers and leaves just that
-  pub settled : (clone : K → K → Type 0) (s : State (K × V)) (call : IndexCall K V) (reply : Reply K V) (t : State (K × V)) → IsDistinct eq (keys_of s.0) → IsDistinct eq (keys_of t.0) → IndexMoves eq clone s call reply t
+  pub not_waiting : (clone : K → K → Type 0) (s : State (K × V)) (call : IndexCall K V) (reply : Reply K V) (t : State (K × V)) → IsDistinct eq (keys_of s.0) → IsDistinct eq (keys_of t.0) → IndexMoves eq clone s call reply t
       → (o : Option V) × (there eq s.0 call ≡ o) × (reply ≡ answered eq o (length s.0) call) × ((q : K) → lookup (eq q) t.0 ≡ left eq o (lookup (eq q) s.0) q call)
-  settled clone s (Insert k v) Inserted t d e m =
+  not_waiting clone s (Insert k v) Inserted t d e m =
       (None, found-value (eq k) s.0 ∙ ap value m.0, refl, λ q. instead eq s.0 t.0 k (Some (k, v)) (λ q. (finds-added laws s.0 t.0 (k, v) m.1.0 e).finds q) q)
-  settled clone s (Insert k v) (Exists l w) t d e m =
+  not_waiting clone s (Insert k v) (Exists l w) t d e m =
       let p = some-of (find eq s.0 k) m.1 in
       (Some p.0.1, found-value (eq k) s.0 ∙ ap value p.1, ap (λ q. Exists q.0 q.1) m.0, kept s t m.2)
-  settled clone s (Update k v) (Has false) t d e m = (None, found-value (eq k) s.0 ∙ ap value m.0, refl, kept s t m.1)
-  settled clone s (Update k v) (Has true) t d e m =
+  not_waiting clone s (Update k v) (Has false) t d e m = (None, found-value (eq k) s.0 ∙ ap value m.0, refl, kept s t m.1)
+  not_waiting clone s (Update k v) (Has true) t d e m =
       let w = m.6 in
       let here : lookup (eq k) s.0 ≡ Some m.3 = found-value (eq k) s.0 ∙ ap value w.1 in (
         Some m.3,
@@ -148,17 +148,17 @@ module _ {K V : Type 0} {eq : K → K → Bool} (laws : IsEquivalence eq) where
             ap (lookup (eq q)) m.7.2.0 ∙ value-set_key laws m.1 q m.0.0 ∙ ap (lookup (eq q)) w.2.0
             ∙ lookup-set_value laws (eq k) (λ x y h. laws.congr k x y h) q v s.0 (ap is_some here) ∙ ap (λ b. cond b (Some v) (lookup (eq q) s.0)) (laws.symm k q),
       )
-  settled clone s (Remove k) (Has false) t d e m = (None, found-value (eq k) s.0 ∙ ap value m.0, refl, kept s t m.1)
-  settled clone s (Remove k) (Has true) t d e m =
+  not_waiting clone s (Remove k) (Has false) t d e m = (None, found-value (eq k) s.0 ∙ ap value m.0, refl, kept s t m.1)
+  not_waiting clone s (Remove k) (Has true) t d e m =
       let perm : IsPermutation (without eq s.0 k) t.0 = m.1.1.0 in
       let apart = distinct-IsPermutation laws t.0 (without eq s.0 k) (IsPermutation-sym (without eq s.0 k) t.0 perm) e in
       (Some m.0.1, found-value (eq k) s.0 ∙ ap value m.1.0, refl, λ q. rearranged-values laws (without eq s.0 k) t.0 q perm apart ∙ others laws s.0 k q d)
-  settled clone s (Read k) (Value r) t d e m = (lookup (eq k) s.0, refl, ap Value (m.0 ∙ sym (found-value (eq k) s.0)), kept s t m.1)
-  settled clone s (Contains k) (Has b) t d e m =
+  not_waiting clone s (Read k) (Value r) t d e m = (lookup (eq k) s.0, refl, ap Value (m.0 ∙ sym (found-value (eq k) s.0)), kept s t m.1)
+  not_waiting clone s (Contains k) (Has b) t d e m =
       (lookup (eq k) s.0, refl, ap Has (m.0 ∙ sym (is_some-map (λ p. p.1) (find eq s.0 k)) ∙ ap is_some (sym (found-value (eq k) s.0))), kept s t m.1)
-  settled clone s Clear Cleared t d e m = (None, refl, refl, λ q. ap (lookup (eq q)) m.0)
-  settled clone s Len (Count n) t d e m = (None, refl, ap Count m.0, kept s t m.1)
-  settled clone s call reply t d e m = absurd m
+  not_waiting clone s Clear Cleared t d e m = (None, refl, refl, λ q. ap (lookup (eq q)) m.0)
+  not_waiting clone s Len (Count n) t d e m = (None, refl, ap Count m.0, kept s t m.1)
+  not_waiting clone s call reply t d e m = absurd m
 
   -- a move keeps the keys distinct
   pub keeps-distinct : (clone : K → K → Type 0) (s t : State (K × V)) (call : IndexCall K V) (reply : Reply K V) → IsDistinct eq (keys_of s.0) → IndexMoves eq clone s call reply t → IsDistinct eq (keys_of t.0)
@@ -191,8 +191,8 @@ module _ {K V : Type 0} {eq : K → K → Bool} (laws : IsEquivalence eq) where
   moves-alike clone s t u v call q r l m n =
       let d = keeps-distinct laws clone s u call q l.first m in
       let e = keeps-distinct laws clone t v call r l.second n in
-      let a = settled laws clone s call q u l.first d m in
-      let b = settled laws clone t call r v l.second e n in
+      let a = not_waiting laws clone s call q u l.first d m in
+      let b = not_waiting laws clone t call r v l.second e n in
       let o : a.0 ≡ b.0 = sym a.1 ∙ sym (there-alike s t (index_key call) l) ∙ b.1 in
       let count : length t.0 ≡ length s.0 = same-count laws s.0 t.0 l.first l.second l.values in (
         a.2 ∙ ap (λ z. answered eq z (length s.0) call) o ∙ ap (λ z. answered eq b.0 z call) (sym count) ∙ sym b.2,

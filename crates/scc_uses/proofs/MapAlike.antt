@@ -94,31 +94,31 @@ module _ {K V : Type 0} (eq : K → K → Bool) where
 
 module _ {K V : Type 0} {eq : K → K → Bool} (laws : IsEquivalence eq) (values : V → V → Bool) where
   -- a move answers and leaves just that
-  settled : (s : State (K × V)) (call : MapCall K V) (reply : Reply K V) (t : State (K × V)) → IsDistinct eq (keys_of s.0) → IsDistinct eq (keys_of t.0) → MapMoves eq s call reply t
+  not_waiting : (s : State (K × V)) (call : MapCall K V) (reply : Reply K V) (t : State (K × V)) → IsDistinct eq (keys_of s.0) → IsDistinct eq (keys_of t.0) → MapMoves eq s call reply t
       → (o : Option V) × (there eq s.0 call ≡ o) × RepliesAlike eq values reply (answered eq o (length s.0) call) × ((q : K) → lookup (eq q) t.0 ≡ left eq o (lookup (eq q) s.0) q call)
-  settled s (Insert k v) Inserted t d e m =
+  not_waiting s (Insert k v) Inserted t d e m =
       (None, found-value (eq k) s.0 ∙ ap value m.0, tt, λ q. instead eq s.0 t.0 k (Some (k, v)) (λ q. (finds-added laws s.0 t.0 (k, v) m.1.0 e).finds q) q)
-  settled s (Insert k v) (Exists l w) t d e m =
+  not_waiting s (Insert k v) (Exists l w) t d e m =
       let p = some-of (find eq s.0 k) m.1 in
       (Some p.0.1, found-value (eq k) s.0 ∙ ap value p.1, subst (λ (q : K × V). RepliesAlike eq values (Exists q.0 q.1) (Exists k v)) (sym m.0) (laws.refl k, inl refl), kept laws s t m.2)
-  settled s (Upsert k v) (Old None) t d e m =
+  not_waiting s (Upsert k v) (Old None) t d e m =
       (None, found-value (eq k) s.0 ∙ ap value m.0, tt, λ q. instead eq s.0 t.0 k (Some (k, v)) (λ q. (finds-added laws s.0 t.0 (k, v) m.1.0 e).finds q) q)
-  settled s (Upsert k v) (Old (Some w)) t d e m =
+  not_waiting s (Upsert k v) (Old (Some w)) t d e m =
       let here : lookup (eq k) s.0 ≡ Some w = found-value (eq k) s.0 ∙ ap value m.1 in (
         Some w,
         here,
         inl refl,
         λ q. ap (lookup (eq q)) m.2.0 ∙ lookup-set_value laws (eq k) (λ x y h. laws.congr k x y h) q v s.0 (ap is_some here) ∙ ap (λ b. cond b (Some v) (lookup (eq q) s.0)) (laws.symm k q),
       )
-  settled s (Replace k) (Key None) t d e m = (None, found-value (eq k) s.0 ∙ ap value m.0, tt, kept laws s t m.1)
-  settled s (Replace k) (Key (Some l)) t d e m =
+  not_waiting s (Replace k) (Key None) t d e m = (None, found-value (eq k) s.0 ∙ ap value m.0, tt, kept laws s t m.1)
+  not_waiting s (Replace k) (Key (Some l)) t d e m =
       let at = place-of_find (eq k) s.0 (l, m.0) m.1 in
       (Some m.0, found-value (eq k) s.0 ∙ ap value m.1, laws.symm l k ∙ at.2, λ q. ap (lookup (eq q)) m.2.0 ∙ value-set_key laws k q s.0)
-  settled s (Read k) (Value r) t d e m = (lookup (eq k) s.0, refl, both-same (Alike values) (λ v. inl refl) r (lookup (eq k) s.0) (m.0 ∙ sym (found-value (eq k) s.0)), kept laws s t m.1)
-  settled s (Contains k) (Has b) t d e m =
+  not_waiting s (Read k) (Value r) t d e m = (lookup (eq k) s.0, refl, both-same (Alike values) (λ v. inl refl) r (lookup (eq k) s.0) (m.0 ∙ sym (found-value (eq k) s.0)), kept laws s t m.1)
+  not_waiting s (Contains k) (Has b) t d e m =
       (lookup (eq k) s.0, refl, m.0 ∙ sym (is_some-map (λ p. p.1) (find eq s.0 k)) ∙ ap is_some (sym (found-value (eq k) s.0)), kept laws s t m.1)
-  settled s (Remove k) (Pair None) t d e m = (None, found-value (eq k) s.0 ∙ ap value m.0, tt, kept laws s t m.1)
-  settled s (Remove k) (Pair (Some p)) t d e m =
+  not_waiting s (Remove k) (Pair None) t d e m = (None, found-value (eq k) s.0 ∙ ap value m.0, tt, kept laws s t m.1)
+  not_waiting s (Remove k) (Pair (Some p)) t d e m =
       let perm : IsPermutation (without eq s.0 k) t.0 = m.1.0 in
       let apart = distinct-IsPermutation laws t.0 (without eq s.0 k) (IsPermutation-sym (without eq s.0 k) t.0 perm) e in
       let at = place-of_find (eq k) s.0 p m.0 in (
@@ -127,9 +127,9 @@ module _ {K V : Type 0} {eq : K → K → Bool} (laws : IsEquivalence eq) (value
         (laws.symm p.0 k ∙ at.2, inl refl),
         λ q. rearranged-values laws (without eq s.0 k) t.0 q perm apart ∙ others laws s.0 k q d,
       )
-  settled s Clear Cleared t d e m = (None, refl, tt, λ q. ap (lookup (eq q)) m.0)
-  settled s Len (Count n) t d e m = (None, refl, m.0, kept laws s t m.1)
-  settled s call reply t d e m = absurd m
+  not_waiting s Clear Cleared t d e m = (None, refl, tt, λ q. ap (lookup (eq q)) m.0)
+  not_waiting s Len (Count n) t d e m = (None, refl, m.0, kept laws s t m.1)
+  not_waiting s call reply t d e m = absurd m
 
 module _ {K V : Type 0} {eq : K → K → Bool} {values : V → V → Bool} (laws : IsEquivalence eq) (part : IsPartialEquivalence values) where
   -- two calls that are alike to a third are alike
@@ -238,8 +238,8 @@ module _ {K V H I : Type 0} {eq : K → K → Bool} {values : V → V → Bool} 
   moves-alike s t u v call q r l m n =
       let d = moves-distinct laws s u m.0 m.1 l.first m.4 in
       let e = moves-distinct laws t v n.0 n.1 l.second n.4 in
-      let a = settled laws values s m.0 m.1 u l.first d m.4 in
-      let b = settled laws values t n.0 n.1 v l.second e n.4 in
+      let a = not_waiting laws values s m.0 m.1 u l.first d m.4 in
+      let b = not_waiting laws values t n.0 n.1 v l.second e n.4 in
       let made = calls-euclid laws part call m.0 n.0 (calls-given m.0 call m.2) (calls-given n.0 call n.2) in
       let o : Both (Alike values) a.0 b.0 = subst (λ z. Both (Alike values) z b.0) a.1 (subst (Both (Alike values) (there eq s.0 m.0)) b.1 (calls-there laws part m.0 n.0 s.0 t.0 made l.finds)) in
       let count : length s.0 ≡ length t.0 = sym (as-many-there laws s.0 t.0 l.first l.second (λ q. both-there (Alike values) (lookup (eq q) s.0) (lookup (eq q) t.0) (l.finds q))) in

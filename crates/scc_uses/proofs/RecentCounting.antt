@@ -8,13 +8,13 @@ use Rattle.std.specs.declared.hash.Hasher as hasher
 use Rattle.std.specs.declared.hash.BuildHasher as builder
 use Rattle.scc_contents.specs.Contents.{key_hash, lists_of}
 use Rattle.scc_common.specs.declared.guard.Guard as guard
-use Rattle.scc_cache.specs.CacheSteps.{Changes, IsAbsent, IsPresent, PutsNew, number_in}
+use Rattle.scc_cache.specs.CacheSteps.{ChangesLists, IsAbsent, IsPresent, PutsNew, list_number}
 use Rattle.scc_cache.specs.Caches.{Cached}
 use Rattle.scc_cache.specs.Entries.{occupied_pair, IsEntryOf, IsPut, Modifies, OrPuts}
 use Rattle.scc_cache.specs.ListSteps.{IsThere, RefreshesAs, list_for}
+use Rattle.scc_cache.specs.declared.held.HeldOccupied.{HeldOccupied}
+use Rattle.scc_cache.specs.declared.held.HeldEntry.TheVariants.{Occupied, Vacant}
 use Rattle.scc_cache.specs.declared.held.HeldEntry.{HeldEntry}
-use Rattle.scc_cache.specs.declared.held.HeldPlace.TheVariants.{Occupied, Vacant}
-use Rattle.scc_cache.specs.declared.held.HeldPlace.{HeldPlace}
 use Rattle.scc_cache.proofs.Entries.{moved-written}
 use Rattle.scc_uses.specs.Counts.{one_more}
 
@@ -27,24 +27,24 @@ one-pair number eq ls k i j p q a b =
     cc
 
 module _ {G N S T : Type 0} {keep : guard.Ghosts G (Cached (ℕ × ℕ) S)} {g : equality.Ghosts ℕ} {h : hash.Ghosts ℕ} {b : builder.Ghosts S T} {w : hasher.Ghosts T} (c : Cached (ℕ × ℕ) S) (k : ℕ)
-    {F : Type 0} (f : Once F (MutBor ℕ × Unit {0}) (Unit {0} × (MutBor ℕ × Unit {0}))) (x : F) (says : (m n : ℕ) → FnOnceReturnsAtMut f x m tt n → n ≡ min (suc m) (2 ^ 64 - 1)) (v : Option (ℕ × ℕ)) (o : HeldEntry G N ℕ ℕ S T keep g h b w) where
+    {F : Type 0} (f : Once F (MutBor ℕ × Unit {0}) (Unit {0} × (MutBor ℕ × Unit {0}))) (x : F) (says : (m n : ℕ) → FnOnceReturnsAtMut f x m tt n → n ≡ min (suc m) (2 ^ 64 - 1)) (v : Option (ℕ × ℕ)) (o : HeldOccupied G N ℕ ℕ S T keep g h b w) where
   -- a word that was there has one more, and goes to the end of its list
-  pub counted-again : (e d : HeldPlace G N ℕ ℕ S T keep g h b w) → IsEntryOf nat_eq c k e → Modifies f x e d → OrPuts nat_eq d 1 v o → (p : ℕ × ℕ) → IsPresent (key_hash b w h.hash_input c.contents) nat_eq c.contents k p
-      → (v ≡ None) × Changes (RefreshesAs (number_in (key_hash b w h.hash_input c.contents) c.contents) nat_eq k p (p.0, one_more (Some p))) c (keep.kept o.guard)
+  pub counted-again : (e d : HeldEntry G N ℕ ℕ S T keep g h b w) → IsEntryOf nat_eq c k e → Modifies f x e d → OrPuts nat_eq d 1 v o → (p : ℕ × ℕ) → IsPresent (key_hash b w h.hash_input c.contents) nat_eq c.contents k p
+      → (v ≡ None) × ChangesLists (RefreshesAs (list_number (key_hash b w h.hash_input c.contents) c.contents) nat_eq k p (p.0, one_more (Some p))) c (keep.kept o.guard)
   counted-again (Occupied e) (Occupied d) at is or p there =
-      let number = number_in (key_hash b w h.hash_input c.contents) c.contents in
+      let number = list_number (key_hash b w h.hash_input c.contents) c.contents in
       let one : occupied_pair e ≡ p = one-pair number nat_eq (lists_of c.contents) k _ _ (occupied_pair e) p at.changes.lists.1 there.1 in
       let value : is.0 ≡ one_more (Some p) = says (occupied_pair e).1 is.0 is.1 ∙ ap (λ (q : ℕ × ℕ). one_more (Some q)) one in
       let moved = moved-written nat_eq c k (occupied_pair e) e d is.0 at is.2 in
-      let now : Changes (RefreshesAs number nat_eq k p (p.0, is.0)) c (keep.kept d.guard) = subst (λ (q : ℕ × ℕ). Changes (RefreshesAs number nat_eq k q (q.0, is.0)) c (keep.kept d.guard)) one moved in
-      let then : Changes (RefreshesAs number nat_eq k p (p.0, one_more (Some p))) c (keep.kept d.guard) = subst (λ (n : ℕ). Changes (RefreshesAs number nat_eq k p (p.0, n)) c (keep.kept d.guard)) value now in
-      (or.0, subst (λ (q : HeldEntry G N ℕ ℕ S T keep g h b w). Changes (RefreshesAs number nat_eq k p (p.0, one_more (Some p))) c (keep.kept q.guard)) (sym or.1) then)
+      let now : ChangesLists (RefreshesAs number nat_eq k p (p.0, is.0)) c (keep.kept d.guard) = subst (λ (q : ℕ × ℕ). ChangesLists (RefreshesAs number nat_eq k q (q.0, is.0)) c (keep.kept d.guard)) one moved in
+      let then : ChangesLists (RefreshesAs number nat_eq k p (p.0, one_more (Some p))) c (keep.kept d.guard) = subst (λ (n : ℕ). ChangesLists (RefreshesAs number nat_eq k p (p.0, n)) c (keep.kept d.guard)) value now in
+      (or.0, subst (λ (q : HeldOccupied G N ℕ ℕ S T keep g h b w). ChangesLists (RefreshesAs number nat_eq k p (p.0, one_more (Some p))) c (keep.kept q.guard)) (sym or.1) then)
   counted-again (Vacant e) (Vacant d) at is or p there = absurd (let z : None ≡ Some there.0 = sym at.absent ∙ there.1.first in cc)
   counted-again (Occupied e) (Vacant d) at is or p there = absurd is
   counted-again (Vacant e) (Occupied d) at is or p there = absurd is
 
   -- a new word is put in with 1
-  pub counted-first : (e d : HeldPlace G N ℕ ℕ S T keep g h b w) → IsEntryOf nat_eq c k e → Modifies f x e d → OrPuts nat_eq d 1 v o → IsAbsent (key_hash b w h.hash_input c.contents) nat_eq c.contents k
+  pub counted-first : (e d : HeldEntry G N ℕ ℕ S T keep g h b w) → IsEntryOf nat_eq c k e → Modifies f x e d → OrPuts nat_eq d 1 v o → IsAbsent (key_hash b w h.hash_input c.contents) nat_eq c.contents k
       → PutsNew (key_hash b w h.hash_input c.contents) nat_eq c (k, 1) v (keep.kept o.guard)
   counted-first (Occupied e) d at is or none = absurd (let z : None ≡ Some at.changes.lists.0 = sym none ∙ at.changes.lists.1.first in cc)
   counted-first (Vacant e) (Vacant d) at is or none =

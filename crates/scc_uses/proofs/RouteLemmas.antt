@@ -7,7 +7,7 @@ use Rattle.std.specs.declared.hash.Hash as hash
 use Rattle.std.specs.declared.hash.Hasher as hasher
 use Rattle.std.specs.declared.hash.BuildHasher as builder
 use Rattle.scc_map.specs.Entries.{RestsRefused, occupied_pair, IsOccupiedAt, IsVacantAt, IsWritten, IsInserted}
-use Rattle.scc_map.specs.declared.held.HeldEntry.{HeldEntry}
+use Rattle.scc_map.specs.declared.held.HeldOccupied.{HeldOccupied}
 use Rattle.scc_map.specs.declared.held.HeldVacant.{HeldVacant}
 use Rattle.scc_common.specs.declared.guard.Guard as guard
 use Rattle.scc_map.proofs.CallerLemmas.{finds-rearranged, finds-written, finds-put}
@@ -62,13 +62,13 @@ module _ {S : Type 0} (c d : Contents (ℕ × Route) S) where
 
 module _ {G N S T : Type 0} {keep : guard.Ghosts G (Contents (ℕ × Route) S)} {g : equality.Ghosts ℕ} {h : hash.Ghosts ℕ} {b : builder.Ghosts S T} {w : hasher.Ghosts T} (c : Contents (ℕ × Route) S) (k : ℕ) (r : Route) where
   -- a route was written over the one that is there
-  pub offer_better : (o d : HeldEntry G N ℕ Route S T keep g h b w) → IsOccupiedAt nat_eq c k o → IsWritten o r d → r.metric < (occupied_pair o).1.metric → Offers (route_to c k) c k r (keep.kept d.guard) true
+  pub offer_better : (o d : HeldOccupied G N ℕ Route S T keep g h b w) → IsOccupiedAt nat_eq c k o → IsWritten o r d → r.metric < (occupied_pair o).1.metric → Offers (route_to c k) c k r (keep.kept d.guard) true
   offer_better o d at written less = better c (keep.kept d.guard) k (occupied_pair o).0 r (occupied_pair o).1 at.found less (finds-written nat_eq_equiv c k o d r at written)
 
-  pub offer_worse : (o : HeldEntry G N ℕ Route S T keep g h b w) → IsOccupiedAt nat_eq c k o → (occupied_pair o).1.metric ≤ r.metric → Offers (route_to c k) c k r (keep.kept o.guard) false
+  pub offer_worse : (o : HeldOccupied G N ℕ Route S T keep g h b w) → IsOccupiedAt nat_eq c k o → (occupied_pair o).1.metric ≤ r.metric → Offers (route_to c k) c k r (keep.kept o.guard) false
   offer_worse o at more = worse c (keep.kept o.guard) k (occupied_pair o).0 r (occupied_pair o).1 at.found more (as_before c (keep.kept o.guard) (λ q. ap (λ d. find nat_eq (entries d) q) at.contents))
 
-  pub offer_first : (e : HeldVacant G N ℕ Route S T keep g h b w) (o : HeldEntry G N ℕ Route S T keep g h b w) → IsVacantAt nat_eq c k e → IsInserted e r o → IsUnique nat_eq (keep.kept o.guard) → Offers (route_to c k) c k r (keep.kept o.guard) true
+  pub offer_first : (e : HeldVacant G N ℕ Route S T keep g h b w) (o : HeldOccupied G N ℕ Route S T keep g h b w) → IsVacantAt nat_eq c k e → IsInserted e r o → IsUnique nat_eq (keep.kept o.guard) → Offers (route_to c k) c k r (keep.kept o.guard) true
   offer_first e o at put u = first c (keep.kept o.guard) k r at.found (finds-put nat_eq_equiv c k e o r at put u)
 
   -- a refused insertion changes no route

@@ -22,7 +22,7 @@ use Rattle.scc_uses.proofs.AlikeRuns.{Agrees, runs-alike, replies-given, replies
 use Rattle.scc_uses.proofs.IndexIndependence.{is_some-map, found-value}
 use Rattle.scc_uses.proofs.KeyLemmas.{paired, find-alike, find-rearranged, find-units, units-distinct, without-units}
 use Rattle.scc_uses.proofs.MapAlike.{as-many-there, both-there}
-use Rattle.scc_uses.proofs.SetIndependence.{answered, found-equal, left, left-distinct, moves-distinct, settled, there}
+use Rattle.scc_uses.proofs.SetIndependence.{answered, found-equal, left, left-distinct, moves-distinct, not_waiting, there}
 
 abbrev pub any_unit : Unit {0} → Unit {0} → Bool
 any_unit a b = true
@@ -193,15 +193,15 @@ module _ {K H I : Type 0} {eq : K → K → Bool} (laws : IsEquivalence eq) (g :
   calls-given made call (inr e) = like-calls made call e
 
   left-finds : (s u : State K) (call : SetCall K) (reply : Reply K (Unit {0})) → IsDistinct eq s.0 → (m : SetMoves eq s call reply u) → (q : K)
-      → is_some (find eq u.0 q) ≡ stays eq (is_some (settled eq s call reply u m).0) (is_some (find eq s.0 q)) q call
+      → is_some (find eq u.0 q) ≡ stays eq (is_some (not_waiting eq s call reply u m).0) (is_some (find eq s.0 q)) q call
   left-finds s u call reply d m q =
-      let a = settled eq s call reply u m in
+      let a = not_waiting eq s call reply u m in
       ap is_some (find-rearranged laws (left eq a.0 s.0 call) u.0 q a.3 (left-distinct laws a.0 s.0 call a.1 d)) ∙ left-there laws a.0 s.0 call q d
 
   moves-alike : (s t u v : State K) (call : SetCall K) (q r : Reply K (Unit {0})) → AreAlike eq s t → Means calls replies (SetMoves eq) s call q u → Means calls replies (SetMoves eq) t call r v → RepliesAlike eq any_unit q r × AreAlike eq u v
   moves-alike s t u v call q r l m n =
-      let a = settled eq s m.0 m.1 u m.4 in
-      let b = settled eq t n.0 n.1 v n.4 in
+      let a = not_waiting eq s m.0 m.1 u m.4 in
+      let b = not_waiting eq t n.0 n.1 v n.4 in
       let made = calls-euclid laws call m.0 n.0 (calls-given m.0 call m.2) (calls-given n.0 call n.2) in
       let o : Both (λ a b. eq a b ≡ true) a.0 b.0 = subst (λ z. Both (λ a b. eq a b ≡ true) z b.0) a.1 (subst (Both (λ a b. eq a b ≡ true) (there eq s.0 m.0)) b.1 (calls-there laws m.0 n.0 s.0 t.0 made l.have)) in
       let count : length s.0 ≡ length t.0 = sym (as-many laws s.0 t.0 l.first l.second l.have) in

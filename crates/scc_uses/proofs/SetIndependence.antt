@@ -130,22 +130,22 @@ module _ {K : Type 0} (eq : K → K → Bool) where
   left o ks Len = ks
 
   -- a move answers and leaves just that
-  pub settled : (s : State K) (call : SetCall K) (reply : Reply K (Unit {0})) (t : State K) → SetMoves eq s call reply t
+  pub not_waiting : (s : State K) (call : SetCall K) (reply : Reply K (Unit {0})) (t : State K) → SetMoves eq s call reply t
       → (o : Option K) × (there s.0 call ≡ o) × (reply ≡ answered o s.0 call) × IsPermutation (left o s.0 call) t.0
-  settled s (Insert k) Inserted t m = (None, m.0, refl, m.1)
-  settled s (Insert k) (Exists l u) t m =
+  not_waiting s (Insert k) Inserted t m = (None, m.0, refl, m.1)
+  not_waiting s (Insert k) (Exists l u) t m =
       let p = some-of (find eq s.0 k) m.1 in
       (Some p.0, p.1, ap (λ q. Exists q u) m.0, same s t m.2)
-  settled s (Replace k) (Key None) t m = (None, m.0, refl, m.1)
-  settled s (Replace k) (Key (Some l)) t m =
+  not_waiting s (Replace k) (Key None) t m = (None, m.0, refl, m.1)
+  not_waiting s (Replace k) (Key (Some l)) t m =
       (Some l, m.0, refl, subst (IsPermutation (k ∷ without eq s.0 k)) (sym m.1) (IsPermutation-sym (with_key eq s.0 k) (k ∷ without eq s.0 k) (key-apart eq s.0 k k l m.0)))
-  settled s (Remove k) (Key None) t m = (None, m.0, refl, same s t m.1)
-  settled s (Remove k) (Key (Some l)) t m = (Some l, m.0, refl, m.1)
-  settled s (Read k) (Key r) t m = (find eq s.0 k, refl, ap Key m.0, same s t m.1)
-  settled s (Contains k) (Has b) t m = (find eq s.0 k, refl, ap Has m.0, same s t m.1)
-  settled s Clear Cleared t m = (None, refl, refl, subst (IsPermutation []) (sym m.0) (IsPermutation-refl []))
-  settled s Len (Count n) t m = (None, refl, ap Count m.0, same s t m.1)
-  settled s call reply t m = absurd m
+  not_waiting s (Remove k) (Key None) t m = (None, m.0, refl, same s t m.1)
+  not_waiting s (Remove k) (Key (Some l)) t m = (Some l, m.0, refl, m.1)
+  not_waiting s (Read k) (Key r) t m = (find eq s.0 k, refl, ap Key m.0, same s t m.1)
+  not_waiting s (Contains k) (Has b) t m = (find eq s.0 k, refl, ap Has m.0, same s t m.1)
+  not_waiting s Clear Cleared t m = (None, refl, refl, subst (IsPermutation []) (sym m.0) (IsPermutation-refl []))
+  not_waiting s Len (Count n) t m = (None, refl, ap Count m.0, same s t m.1)
+  not_waiting s call reply t m = absurd m
 
 module _ {K : Type 0} {eq : K → K → Bool} (laws : IsEquivalence eq) where
   there-alike : (ks ls : List K) (k : Option K) → IsDistinct eq ks → IsPermutation ks ls → find-if eq ls k ≡ find-if eq ks k
@@ -184,14 +184,14 @@ module _ {K : Type 0} {eq : K → K → Bool} (laws : IsEquivalence eq) where
   -- a move keeps the keys distinct
   pub moves-distinct : (s t : State K) (call : SetCall K) (reply : Reply K (Unit {0})) → IsDistinct eq s.0 → SetMoves eq s call reply t → IsDistinct eq t.0
   moves-distinct s t call reply d m =
-      let a = settled eq s call reply t m in
+      let a = not_waiting eq s call reply t m in
       IsDistinct-IsPermutation eq laws.symm (left eq a.0 s.0 call) t.0 a.3 (left-distinct a.0 s.0 call a.1 d)
 
   -- the same call on the same keys in another order gives the same reply, and leaves the same keys in some order
   moves-alike : (s t u v : State K) (call : SetCall K) (q r : Reply K (Unit {0})) → IsDistinct eq s.0 → IsPermutation s.0 t.0 → SetMoves eq s call q u → SetMoves eq t call r v → (q ≡ r) × IsPermutation u.0 v.0
   moves-alike s t u v call q r d perm m n =
-      let a = settled eq s call q u m in
-      let b = settled eq t call r v n in
+      let a = not_waiting eq s call q u m in
+      let b = not_waiting eq t call r v n in
       let o : a.0 ≡ b.0 = sym a.1 ∙ sym (there-alike s.0 t.0 (key_of_set call) d perm) ∙ b.1 in (
         a.2 ∙ answered-alike a.0 s.0 t.0 call perm ∙ ap (λ z. answered eq z t.0 call) o ∙ sym b.2,
         IsPermutation-trans u.0 (left eq a.0 s.0 call) v.0 (IsPermutation-sym (left eq a.0 s.0 call) u.0 a.3)

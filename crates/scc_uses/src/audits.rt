@@ -27,9 +27,9 @@ pub fn one_after_another<C: Calls>(
     requires replies { ClonesEqual C.Reply.is_clone C.Reply.eq }
     ensures { OnOk result (first.new.clock < second.new.clock) }
 {
-    stripe.step(first, call)?;
+    stripe.call(first, call)?;
     second.told(first);
-    stripe.step(second, later)?;
+    stripe.call(second, later)?;
     Ok(())
 }
 

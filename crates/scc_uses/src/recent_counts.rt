@@ -2,7 +2,7 @@
 ghost use Rattle.std.specs.Prelude.{◌≡◌, ℕ, nat_eq, None, Some, Ok, OnErr, IfOk};
 ghost use Rattle.std.specs.Hash as fed;
 ghost use Rattle.scc_contents.specs.Contents.{key_hash};
-ghost use Rattle.scc_cache.specs.CacheSteps.{Changes, IsAbsent, IsPresent, PutsNew, number_in};
+ghost use Rattle.scc_cache.specs.CacheSteps.{ChangesLists, IsAbsent, IsPresent, PutsNew, list_number};
 ghost use Rattle.scc_cache.specs.ListSteps.{RefreshesAs};
 ghost use Rattle.scc_uses.specs.Counts.{one_more};
 
@@ -18,7 +18,7 @@ pub fn count_recent<H: BuildHasher>(
 ) -> Result<Option<(u64, u64)>, InsertError<u64, u64>>
     ensures again { (p : ℕ × ℕ) → IsPresent (key_hash H.BuildHasher H.Hasher.Hasher fed.u64 counts.old.contents) nat_eq
         counts.old.contents word p → (result ≡ Ok None)
-        × Changes (RefreshesAs (number_in (key_hash H.BuildHasher H.Hasher.Hasher fed.u64 counts.old.contents)
+        × ChangesLists (RefreshesAs (list_number (key_hash H.BuildHasher H.Hasher.Hasher fed.u64 counts.old.contents)
         counts.old.contents) nat_eq word p (p.0, one_more (Some p))) counts.old counts.new }
     ensures first { IsAbsent (key_hash H.BuildHasher H.Hasher.Hasher fed.u64 counts.old.contents) nat_eq
         counts.old.contents word

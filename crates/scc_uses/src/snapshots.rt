@@ -4,8 +4,7 @@ ghost use Rattle.scc_contents.specs.Contents.{entries};
 ghost use Rattle.scc_uses.specs.Sums.{sum_from};
 
 use scc_common::MakeError;
-use scc_index::Owned;
-use scc_index::Iter;
+use scc_index::{Iter, Owned};
 
 /// The sum of the values of a snapshot, modulo 2^64. It is that of the pairs when the snapshot was taken, since their
 /// versions never change.

@@ -6,7 +6,7 @@ ghost use Rattle.scc_recorded.specs.Setups.{request_of};
 use crate::expect::{expect, expect_eq};
 use crate::finishes::expect_finished;
 use crate::kinds::{CALLS, Cache, Index, Map, Set, Tried, What};
-use scc::recorded::{CallError, Pass, Recorded, Setup, Shared, Site, TryShare};
+use scc::recorded::{CallError, CloneOwner, Pass, Recorded, Setup, Shared, Site};
 use std::io::Print;
 use std::marker::Brand;
 use std::process::Abort;
@@ -148,7 +148,7 @@ fn call_and_finish<C: Tried, L: Ledger, M: Site<C::Hasher>, R: AllocGlobal + Abo
     records: Blank,
 ) -> bool
 where
-    C::Hasher: TryShare + Drop,
+    C::Hasher: CloneOwner + Drop,
     requires receipts { (receipts.name ≡ L.name) × (receipts.parts ≡ L.parts) × (receipts.parts ≡ 1) }
     requires records { (records.name ≡ M.name) × (records.parts ≡ M.parts) × (records.parts ≡ 2) }
     requires site { (M.chosen ≡ Some (request_of 0 64 hasher 2)) × (M.all ≡ 2) }
@@ -196,7 +196,7 @@ fn call_all<C: Tried, L: Ledger, M: Site<C::Hasher>, R: Abort + Print + Wait>(
 // Whether a container was opened, whose hasher has several owners.
 fn attempt<C: Tried, R: AllocGlobal + Abort + Print + Wait>(rt: &R, refusal: &mut Refusal) -> bool
 where
-    C::Hasher: TryShare + Drop,
+    C::Hasher: CloneOwner + Drop,
 {
     match shared(rt, refusal) {
         Some(owner) => {
@@ -209,7 +209,7 @@ where
 
 fn expect_recording<C: Tried, R: AllocGlobal + Abort + Print + Wait>(rt: &R)
 where
-    C::Hasher: TryShare + Drop,
+    C::Hasher: CloneOwner + Drop,
 {
     let mut refusal = Refusal::new();
     for _ in 0..TRIES {

@@ -7,7 +7,7 @@ use crate::finished::finish_as_plain;
 use crate::kinds::{Cache, Index, Map, Set};
 use crate::turns::{all_turns, callers_of, passes_of};
 use scc_calls::Calls;
-use scc_common::{Shared, TryShare};
+use scc_common::{CloneOwner, Shared};
 use scc_recorded::{Pass, Recorded, Setup, Site};
 use scc_script::same::Same;
 use scc_workers::{Open, run};
@@ -30,7 +30,7 @@ fn opened<C: Calls + Drop, L: Ledger, M: Site<C::Hasher>>(
     records: Blank,
 ) -> Result<(Recorded<C, L, M>, Vec<Pass<C, L>>), AllocError>
 where
-    C::Hasher: TryShare + Drop,
+    C::Hasher: CloneOwner + Drop,
     requires receipts { (receipts.name ≡ L.name) × (receipts.parts ≡ L.parts) × (receipts.parts ≡ 8) }
     requires records { (records.name ≡ M.name) × (records.parts ≡ M.parts) × (records.parts ≡ 1) }
     requires site { (M.chosen ≡ Some (request_of 0 128 hasher 1)) × (M.all ≡ 1) }

@@ -1,6 +1,6 @@
 // An entry that is let go lets its lock go, in whatever state it is: the next call on its stripe comes through.
 use crate::expect::expect;
-use scc_map::held::{HeldPlace, HeldReplace};
+use scc_map::held::{HeldEntry, HeldReplace};
 use scc_script::same::Same;
 use scc_shared_map::HashMap;
 use std::process::Abort;
@@ -34,8 +34,8 @@ fn lets_go_vacant(rt: &impl Wait, map: &Map) -> bool {
     drop(map.entry_sync(rt, 2));
     let vacant = comes_through(rt, map);
     let key = match map.entry_sync(rt, 2) {
-        HeldPlace::Vacant(entry) => entry.into_key() == 2,
-        HeldPlace::Occupied(_) => false,
+        HeldEntry::Vacant(entry) => entry.into_key() == 2,
+        HeldEntry::Occupied(_) => false,
     };
     let taken = comes_through(rt, map);
     drop(map.entry_sync(rt, 2).or_insert(5));

@@ -7,7 +7,7 @@ use crate::expect::expect_eq;
 use crate::kinds::{Cache, Index, Map, Set};
 use crate::streams::{LOOKS, MAXIMUM, Streamed, count, look, stream};
 use scc_calls::{Step, run};
-use scc_common::{Shared, TryShare};
+use scc_common::{CloneOwner, Shared};
 use scc_history::Receipt;
 use scc_recorded::{Finished, Pass, Recorded, Setup, Site};
 use scc_script::same::Same;
@@ -102,7 +102,7 @@ fn record<C: Streamed, L: Ledger, M: Site<C::Hasher>, R: Wait>(
     wanted: &[C::Reply],
 ) -> Result<Option<Finished<C>>, AllocError>
 where
-    C::Hasher: TryShare + Drop,
+    C::Hasher: CloneOwner + Drop,
     requires receipts { (receipts.name ≡ L.name) × (receipts.parts ≡ L.parts) × (receipts.parts ≡ 1) }
     requires records { (records.name ≡ M.name) × (records.parts ≡ M.parts) × (records.parts ≡ 1) }
     requires site { (M.chosen ≡ Some (request_of 0 128 hasher 1)) × (M.all ≡ 1) }
@@ -200,7 +200,7 @@ fn compare<C: Streamed, R: Wait>(
     sizes: &[usize],
 ) -> Result<bool, AllocError>
 where
-    C::Hasher: TryShare + Drop,
+    C::Hasher: CloneOwner + Drop,
 {
     let mut replies = Vec::new(alloc);
     let mut alone: C = run_alone(alloc, hasher.share()?, calls, &mut replies)?;
@@ -240,7 +240,7 @@ fn show_calls<C: Streamed, R: Wait>(
     calls: &[C::Call],
 ) -> Result<Shown, AllocError>
 where
-    C::Hasher: TryShare + Drop,
+    C::Hasher: CloneOwner + Drop,
 {
     let came = count::<C>(alloc, hasher.share()?, calls)?;
     let as_run = compare::<C, R>(rt, alloc, hasher, calls, came.sizes.as_slice())?;
@@ -255,7 +255,7 @@ where
 // What the stream of a kind shows.
 fn show<C: Streamed, R: Wait>(rt: &R, alloc: Global, hasher: C::Hasher) -> Result<Shown, AllocError>
 where
-    C::Hasher: TryShare + Drop,
+    C::Hasher: CloneOwner + Drop,
 {
     let calls = stream::<C>(alloc)?;
     show_calls::<C, R>(rt, alloc, &hasher, calls.as_slice())

@@ -22,7 +22,7 @@ where
         ensures { option_copied result ≡ find (λ e. E.Key.eq key.now (E.key_of e)) (window_of self.now bucket).slots }
     {
         match self.find(bucket, key, tag) {
-            Some(place) => Some(self.entry_at(bucket, place)),
+            Some(slot) => Some(self.entry_at(bucket, slot)),
             None => None,
         }
     }
@@ -38,8 +38,8 @@ where
     {
         let mut bits = self.hits(bucket, tag);
         'hits: while bits != 0 {
-            let place = lowest_bit(bits);
-            let entry = self.entry_at(bucket, place);
+            let slot = lowest_bit(bits);
+            let entry = self.entry_at(bucket, slot);
             if *key == *entry.key() {
                 return Some(entry);
             }

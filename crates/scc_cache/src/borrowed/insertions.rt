@@ -5,12 +5,12 @@ ghost use Rattle.std.specs.Fn.{FnOnceTakesAt, FnOnceReturnsAt};
 ghost use Rattle.std.specs.Prelude.{◌≡◌, None, Ok, IfOk, IfErr};
 
 use crate::borrowed::OccupiedEntry;
-use crate::held::{HeldEntry, HeldPlace};
+use crate::held::{HeldEntry, HeldOccupied};
 use crate::{EvictedEntry, Owned};
 use scc_common::InsertError;
 use std::hash::{BuildHasher, Hash};
 
-impl<'a, K: Eq + Hash, V, H: BuildHasher> HeldPlace<&'a mut Owned<K, V, H>, (), K, V, H> {
+impl<'a, K: Eq + Hash, V, H: BuildHasher> HeldEntry<&'a mut Owned<K, V, H>, (), K, V, H> {
     /// Puts in `default` where the entry is vacant, by the rules of `put_sync`, and answers the pair that it drove out
     /// and the occupied entry. An occupied one stays as it is, and can't be refused.
     pub fn or_put(
@@ -25,11 +25,11 @@ impl<'a, K: Eq + Hash, V, H: BuildHasher> HeldPlace<&'a mut Owned<K, V, H>, (), 
             (entry_guard self.entry) result) }
     {
         match self {
-            HeldPlace::Occupied(entry) => {
+            HeldEntry::Occupied(entry) => {
                 drop(default);
                 entry.as_it_is()
             }
-            HeldPlace::Vacant(entry) => entry.put_entry(default),
+            HeldEntry::Vacant(entry) => entry.put_entry(default),
         }
     }
 
@@ -45,8 +45,8 @@ impl<'a, K: Eq + Hash, V, H: BuildHasher> HeldPlace<&'a mut Owned<K, V, H>, (), 
             (entry_guard self.entry) result) }
     {
         match self {
-            HeldPlace::Occupied(entry) => entry.as_it_is(),
-            HeldPlace::Vacant(entry) => {
+            HeldEntry::Occupied(entry) => entry.as_it_is(),
+            HeldEntry::Vacant(entry) => {
                 let value = f();
                 entry.put_entry(value)
             }
@@ -66,8 +66,8 @@ impl<'a, K: Eq + Hash, V, H: BuildHasher> HeldPlace<&'a mut Owned<K, V, H>, (), 
             (entry_guard self.entry) result) }
     {
         match self {
-            HeldPlace::Occupied(entry) => entry.as_it_is(),
-            HeldPlace::Vacant(entry) => {
+            HeldEntry::Occupied(entry) => entry.as_it_is(),
+            HeldEntry::Vacant(entry) => {
                 let value = f(entry.key());
                 entry.put_entry(value)
             }
@@ -86,8 +86,8 @@ impl<'a, K: Eq + Hash, V, H: BuildHasher> HeldPlace<&'a mut Owned<K, V, H>, (), 
             (entry_guard self.entry) result) }
     {
         match self {
-            HeldPlace::Occupied(entry) => entry.as_it_is(),
-            HeldPlace::Vacant(entry) => {
+            HeldEntry::Occupied(entry) => entry.as_it_is(),
+            HeldEntry::Vacant(entry) => {
                 let value = V::default();
                 entry.put_entry(value)
             }
@@ -107,8 +107,8 @@ impl<'a, K: Eq + Hash, V, H: BuildHasher> HeldPlace<&'a mut Owned<K, V, H>, (), 
             (entry_guard self.entry) result) }
     {
         match self {
-            HeldPlace::Occupied(entry) => {
-                let HeldEntry {
+            HeldEntry::Occupied(entry) => {
+                let HeldOccupied {
                     guard,
                     place,
                     rest,
@@ -117,7 +117,7 @@ impl<'a, K: Eq + Hash, V, H: BuildHasher> HeldPlace<&'a mut Owned<K, V, H>, (), 
                 let _old = guard.write_at(place, value);
                 Ok((
                     None,
-                    HeldEntry {
+                    HeldOccupied {
                         guard,
                         place,
                         rest,
@@ -125,19 +125,19 @@ impl<'a, K: Eq + Hash, V, H: BuildHasher> HeldPlace<&'a mut Owned<K, V, H>, (), 
                     },
                 ))
             }
-            HeldPlace::Vacant(entry) => entry.put_entry(value),
+            HeldEntry::Vacant(entry) => entry.put_entry(value),
         }
     }
 }
 
-impl<'a, K: Eq + Hash, V, H: BuildHasher> HeldEntry<&'a mut Owned<K, V, H>, (), K, V, H> {
+impl<'a, K: Eq + Hash, V, H: BuildHasher> HeldOccupied<&'a mut Owned<K, V, H>, (), K, V, H> {
     /// The entry as it is, as a put that drives nothing out answers it.
     fn as_it_is(self) -> Result<(EvictedEntry<K, V>, OccupiedEntry<'a, K, V, H>), InsertError<K, V>>
         ensures same { result ≡ Ok (None, self.entry) }
         ensures* kept { sem 𝓛 (rests_if_refused K.row V.row H.row H.Hasher.row K.Hash H.BuildHasher H.Hasher.Hasher
             self.entry.guard result) }
     {
-        let HeldEntry {
+        let HeldOccupied {
             guard,
             place,
             rest,
@@ -145,7 +145,7 @@ impl<'a, K: Eq + Hash, V, H: BuildHasher> HeldEntry<&'a mut Owned<K, V, H>, (), 
         } = self;
         Ok((
             None,
-            HeldEntry {
+            HeldOccupied {
                 guard,
                 place,
                 rest,

@@ -2,14 +2,14 @@
 //! place.
 ghost use Rattle.scc_cache.specs.CacheSteps.{IsAbsent, Puts, TakesAt};
 ghost use Rattle.scc_cache.specs.Caches.{IsCacheState};
-ghost use Rattle.scc_cache.specs.Entries.{Memory, held_cache, occupied_pair, entry_guard, IsEntryOf, IsRefreshed, IsPut, rests_if_refused, rests_if_none, replaced_guard, Replaces};
-ghost use Rattle.scc_cache.specs.Relocations.{RelocatesNone, RelocatesTwo};
+ghost use Rattle.scc_cache.specs.Entries.{Memory, occupied_cache, occupied_pair, entry_guard, IsEntryOf, IsRefreshed, IsPut, rests_if_refused, rests_if_none, replaced_guard, Replaces};
+ghost use Rattle.scc_cache.specs.Relocations.{RelocatesNoneWithin, RelocatesTwoWithin};
 ghost use Rattle.scc_contents.specs.Contents.{bucket_count, hash_in};
 ghost use Rattle.std.specs.Borrow.{sem};
 ghost use Rattle.std.specs.Prelude.{◌≡◌, IfOk, IfErr, OnOk, IfSome, IfNone};
 
 use crate::borrowed::{Entry, OccupiedEntry, ReplaceResult};
-use crate::held::{HeldEntry, HeldPlace, HeldReplace, HeldVacant};
+use crate::held::{HeldEntry, HeldOccupied, HeldReplace, HeldVacant};
 use crate::{EvictedEntry, Owned};
 use scc_common::InsertError;
 use scc_contents::Hashes;
@@ -28,13 +28,13 @@ impl<K: Eq + Hash, V, H: BuildHasher> Owned<K, V, H> {
     {
         let hash = self.table.hash(&k);
         match self.refresh(hash, &k) {
-            Some(place) => HeldPlace::Occupied(HeldEntry {
+            Some(place) => HeldEntry::Occupied(HeldOccupied {
                 guard: self,
                 place,
                 rest: (),
                 of: PhantomData,
             }),
-            None => HeldPlace::Vacant(HeldVacant {
+            None => HeldEntry::Vacant(HeldVacant {
                 guard: self,
                 key: k,
                 hash,
@@ -57,7 +57,7 @@ impl<K: Eq + Hash, V, H: BuildHasher> Owned<K, V, H> {
     {
         let hash = self.table.hash(k);
         match self.refresh(hash, k) {
-            Some(place) => Some(HeldEntry {
+            Some(place) => Some(HeldOccupied {
                 guard: self,
                 place,
                 rest: (),
@@ -80,7 +80,7 @@ impl<K: Eq + Hash, V, H: BuildHasher> Owned<K, V, H> {
             Some(place) => {
                 let old = self.replace_key_at(place, k);
                 HeldReplace::Replaced(
-                    HeldEntry {
+                    HeldOccupied {
                         guard: self,
                         place,
                         rest: (),
@@ -100,19 +100,19 @@ impl<K: Eq + Hash, V, H: BuildHasher> Owned<K, V, H> {
     }
 }
 
-impl<'a, N, K: Eq + Hash, V, H: BuildHasher> HeldEntry<&'a mut Owned<K, V, H>, N, K, V, H> {
+impl<'a, N, K: Eq + Hash, V, H: BuildHasher> HeldOccupied<&'a mut Owned<K, V, H>, N, K, V, H> {
     /// Removes the pair, and answers its value. The array may become smaller.
     pub fn remove(self) -> V
     where
         N: Drop,
         K: Drop,
         ensures value { result ≡ (occupied_pair self.entry).1 }
-        ensures removed { TakesAt (hash_in ⟦<H as Hashes<K>>⟧.hash_of (held_cache self.entry).contents)
-            (held_cache self.entry) self.entry.place self.exit.0.now }
+        ensures removed { TakesAt (hash_in ⟦<H as Hashes<K>>⟧.hash_of (occupied_cache self.entry).contents)
+            (occupied_cache self.entry) self.entry.place self.exit.0.now }
         ensures state { IsCacheState K.eq (hash_in ⟦<H as Hashes<K>>⟧.hash_of self.exit.0.now.contents)
             self.exit.0.now }
-        ensures relocates { RelocatesNone (λ p. hash_in ⟦<H as Hashes<K>>⟧.hash_of (held_cache self.entry).contents
-            p.0) (held_cache self.entry).contents self.exit.0.now.contents }
+        ensures relocates { RelocatesNoneWithin (λ p. hash_in ⟦<H as Hashes<K>>⟧.hash_of (occupied_cache self.entry).contents
+            p.0) (occupied_cache self.entry).contents self.exit.0.now.contents }
     {
         let (_key, value) = self.remove_entry();
         value
@@ -123,12 +123,12 @@ impl<'a, N, K: Eq + Hash, V, H: BuildHasher> HeldEntry<&'a mut Owned<K, V, H>, N
     where
         N: Drop,
         ensures pair { result ≡ occupied_pair self.entry }
-        ensures removed { TakesAt (hash_in ⟦<H as Hashes<K>>⟧.hash_of (held_cache self.entry).contents)
-            (held_cache self.entry) self.entry.place self.exit.0.now }
+        ensures removed { TakesAt (hash_in ⟦<H as Hashes<K>>⟧.hash_of (occupied_cache self.entry).contents)
+            (occupied_cache self.entry) self.entry.place self.exit.0.now }
         ensures state { IsCacheState K.eq (hash_in ⟦<H as Hashes<K>>⟧.hash_of self.exit.0.now.contents)
             self.exit.0.now }
-        ensures relocates { RelocatesNone (λ p. hash_in ⟦<H as Hashes<K>>⟧.hash_of (held_cache self.entry).contents
-            p.0) (held_cache self.entry).contents self.exit.0.now.contents }
+        ensures relocates { RelocatesNoneWithin (λ p. hash_in ⟦<H as Hashes<K>>⟧.hash_of (occupied_cache self.entry).contents
+            p.0) (occupied_cache self.entry).contents self.exit.0.now.contents }
     {
         let place = self.place;
         self.guard.remove_at(place)
@@ -149,7 +149,7 @@ impl<'a, K: Eq + Hash, V, H: BuildHasher> HeldVacant<&'a mut Owned<K, V, H>, (),
     pub fn put(self, value: V) -> Result<EvictedEntry<K, V>, InsertError<K, V>>
         ensures step { Puts (hash_in ⟦<H as Hashes<K>>⟧.hash_of self.entry.guard.now.contents) K.eq
             self.entry.guard.now (self.entry.key, value) result self.exit.0.now }
-        ensures relocates { OnOk result (RelocatesTwo
+        ensures relocates { OnOk result (RelocatesTwoWithin
             (hash_in ⟦<H as Hashes<K>>⟧.hash_of self.entry.guard.now.contents self.entry.key)
             self.entry.guard.now.contents self.exit.0.now.contents) }
         ensures state { IsCacheState K.eq (hash_in ⟦<H as Hashes<K>>⟧.hash_of self.exit.0.now.contents)
@@ -186,7 +186,7 @@ impl<'a, K: Eq + Hash, V, H: BuildHasher> HeldVacant<&'a mut Owned<K, V, H>, (),
         match guard.put_at(hash, key, value) {
             Ok((evicted, place)) => Ok((
                 evicted,
-                HeldEntry {
+                HeldOccupied {
                     guard,
                     place,
                     rest,

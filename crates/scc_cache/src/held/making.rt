@@ -2,38 +2,44 @@
 //! bucket first.
 ghost use Rattle.scc_cache.specs.CacheSteps.{IsAbsent};
 ghost use Rattle.scc_cache.specs.Caches.{IsCacheState};
-ghost use Rattle.scc_cache.specs.Entries.{entry_guard, held_cache, IsEntryOf, IsRefreshed, replaced_guard, Replaces};
+ghost use Rattle.scc_cache.specs.Entries.{entry_guard, occupied_cache, IsEntryOf, IsRefreshed, replaced_guard, Replaces};
 ghost use Rattle.scc_contents.specs.Contents.{hash_in};
 ghost use Rattle.std.specs.Prelude.{◌≡◌, IfSome, IfNone};
 
 use crate::Owned;
-use crate::held::{HeldEntry, HeldPlace, HeldReplace, HeldVacant};
+use crate::held::{HeldEntry, HeldOccupied, HeldReplace, HeldVacant};
 use scc_common::Guard;
 use scc_contents::Hashes;
 use std::hash::{BuildHasher, Hash};
 use std::marker::PhantomData;
 
-impl<G: Guard<Kept = Owned<K, V, H>>, N, K: Eq + Hash, V, H: BuildHasher> HeldPlace<G, N, K, V, H> {
+impl<G: Guard<Inner = Owned<K, V, H>>, N, K: Eq + Hash, V, H: BuildHasher> HeldEntry<
+    G,
+    N,
+    K,
+    V,
+    H,
+> {
     /// The entry of `k` in the cache that is held: occupied at the stored pair, which becomes the most recent of its
     /// bucket, or vacant with `k`. It takes no memory and makes no array.
     pub fn of(guard: G, k: K, rest: N) -> Self
     where
         K: Drop,
-        ensures same_guard { entry_guard result ≡ G.keeping guard (G.kept (entry_guard result)) }
-        ensures entry { IsEntryOf K.eq (G.kept guard) k result }
-        ensures state { IsCacheState K.eq (hash_in ⟦<H as Hashes<K>>⟧.hash_of (G.kept (entry_guard result)).contents)
-            (G.kept (entry_guard result)) }
+        ensures same_guard { entry_guard result ≡ G.with_inner guard (G.inner (entry_guard result)) }
+        ensures entry { IsEntryOf K.eq (G.inner guard) k result }
+        ensures state { IsCacheState K.eq (hash_in ⟦<H as Hashes<K>>⟧.hash_of (G.inner (entry_guard result)).contents)
+            (G.inner (entry_guard result)) }
     {
         let mut guard = guard;
         let hash = guard.look().hash_of(&k);
         match guard.lend().refresh(hash, &k) {
-            Some(place) => HeldPlace::Occupied(HeldEntry {
+            Some(place) => HeldEntry::Occupied(HeldOccupied {
                 guard,
                 place,
                 rest,
                 of: PhantomData,
             }),
-            None => HeldPlace::Vacant(HeldVacant {
+            None => HeldEntry::Vacant(HeldVacant {
                 guard,
                 key: k,
                 hash,
@@ -44,24 +50,30 @@ impl<G: Guard<Kept = Owned<K, V, H>>, N, K: Eq + Hash, V, H: BuildHasher> HeldPl
     }
 }
 
-impl<G: Guard<Kept = Owned<K, V, H>>, N, K: Eq + Hash, V, H: BuildHasher> HeldEntry<G, N, K, V, H> {
+impl<G: Guard<Inner = Owned<K, V, H>>, N, K: Eq + Hash, V, H: BuildHasher> HeldOccupied<
+    G,
+    N,
+    K,
+    V,
+    H,
+> {
     /// The occupied entry of `k`, whose pair becomes the most recent of its bucket, or None where no key equals it;
     /// then nothing changes, and the cache is let go.
     pub fn of(guard: G, k: &K, rest: N) -> Option<Self>
     where
         G: Drop,
         N: Drop,
-        ensures same_guard { IfSome result (λ o. o.guard ≡ G.keeping guard (held_cache o)) }
-        ensures entry { IfSome result (IsRefreshed K.eq (G.kept guard) k.now) }
-        ensures missing { IfNone result (IsAbsent (hash_in ⟦<H as Hashes<K>>⟧.hash_of (G.kept guard).contents) K.eq
-            (G.kept guard).contents k.now) }
+        ensures same_guard { IfSome result (λ o. o.guard ≡ G.with_inner guard (occupied_cache o)) }
+        ensures entry { IfSome result (IsRefreshed K.eq (G.inner guard) k.now) }
+        ensures missing { IfNone result (IsAbsent (hash_in ⟦<H as Hashes<K>>⟧.hash_of (G.inner guard).contents) K.eq
+            (G.inner guard).contents k.now) }
         ensures state { IfSome result (λ o. IsCacheState K.eq
-            (hash_in ⟦<H as Hashes<K>>⟧.hash_of (held_cache o).contents) (held_cache o)) }
+            (hash_in ⟦<H as Hashes<K>>⟧.hash_of (occupied_cache o).contents) (occupied_cache o)) }
     {
         let mut guard = guard;
         let hash = guard.look().hash_of(k);
         match guard.lend().refresh(hash, k) {
-            Some(place) => Some(HeldEntry {
+            Some(place) => Some(HeldOccupied {
                 guard,
                 place,
                 rest,
@@ -72,7 +84,7 @@ impl<G: Guard<Kept = Owned<K, V, H>>, N, K: Eq + Hash, V, H: BuildHasher> HeldEn
     }
 }
 
-impl<G: Guard<Kept = Owned<K, V, H>>, N, K: Eq + Hash, V, H: BuildHasher> HeldReplace<
+impl<G: Guard<Inner = Owned<K, V, H>>, N, K: Eq + Hash, V, H: BuildHasher> HeldReplace<
     G,
     N,
     K,
@@ -82,9 +94,9 @@ impl<G: Guard<Kept = Owned<K, V, H>>, N, K: Eq + Hash, V, H: BuildHasher> HeldRe
     /// Puts `k` in the place of the key that equals it, makes the pair the most recent of its bucket, and answers the
     /// entry with the old key; or the vacant entry of `k`.
     pub fn of(guard: G, k: K, rest: N) -> Self
-        ensures step { Replaces K.eq (G.kept guard) k result }
+        ensures step { Replaces K.eq (G.inner guard) k result }
         ensures state { IsCacheState K.eq (hash_in ⟦<H as Hashes<K>>⟧.hash_of
-            (G.kept (replaced_guard result)).contents) (G.kept (replaced_guard result)) }
+            (G.inner (replaced_guard result)).contents) (G.inner (replaced_guard result)) }
     {
         let mut guard = guard;
         let hash = guard.look().hash_of(&k);
@@ -92,7 +104,7 @@ impl<G: Guard<Kept = Owned<K, V, H>>, N, K: Eq + Hash, V, H: BuildHasher> HeldRe
             Some(place) => {
                 let old = guard.lend().replace_key_at(place, k);
                 HeldReplace::Replaced(
-                    HeldEntry {
+                    HeldOccupied {
                         guard,
                         place,
                         rest,

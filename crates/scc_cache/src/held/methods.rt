@@ -4,11 +4,17 @@ ghost use Rattle.std.specs.Borrow.{sem};
 ghost use Rattle.std.specs.Prelude.{◌≡◌};
 
 use crate::Owned;
-use crate::held::{HeldEntry, HeldPlace, HeldVacant};
+use crate::held::{HeldEntry, HeldOccupied, HeldVacant};
 use scc_common::Guard;
 use std::hash::{BuildHasher, Hash};
 
-impl<G: Guard<Kept = Owned<K, V, H>>, N, K: Eq + Hash, V, H: BuildHasher> HeldEntry<G, N, K, V, H> {
+impl<G: Guard<Inner = Owned<K, V, H>>, N, K: Eq + Hash, V, H: BuildHasher> HeldOccupied<
+    G,
+    N,
+    K,
+    V,
+    H,
+> {
     /// The stored key.
     pub fn key(&self) -> &K
         ensures { result.now ≡ (occupied_pair self.now).0 }
@@ -44,7 +50,7 @@ impl<G: Guard<Kept = Owned<K, V, H>>, N, K: Eq + Hash, V, H: BuildHasher> HeldEn
     }
 }
 
-impl<G: Guard<Kept = Owned<K, V, H>>, N, K: Eq + Hash, V, H: BuildHasher> HeldVacant<
+impl<G: Guard<Inner = Owned<K, V, H>>, N, K: Eq + Hash, V, H: BuildHasher> HeldVacant<
     G,
     N,
     K,
@@ -59,14 +65,20 @@ impl<G: Guard<Kept = Owned<K, V, H>>, N, K: Eq + Hash, V, H: BuildHasher> HeldVa
     }
 }
 
-impl<G: Guard<Kept = Owned<K, V, H>>, N, K: Eq + Hash, V, H: BuildHasher> HeldPlace<G, N, K, V, H> {
+impl<G: Guard<Inner = Owned<K, V, H>>, N, K: Eq + Hash, V, H: BuildHasher> HeldEntry<
+    G,
+    N,
+    K,
+    V,
+    H,
+> {
     /// The stored key, or the one that was asked for.
     pub fn key(&self) -> &K
         ensures { result.now ≡ entry_key self.now }
     {
         match self {
-            HeldPlace::Occupied(entry) => entry.key(),
-            HeldPlace::Vacant(entry) => entry.key(),
+            HeldEntry::Occupied(entry) => entry.key(),
+            HeldEntry::Vacant(entry) => entry.key(),
         }
     }
 
@@ -76,11 +88,11 @@ impl<G: Guard<Kept = Owned<K, V, H>>, N, K: Eq + Hash, V, H: BuildHasher> HeldPl
         ensures { Modifies F.FnOnce f self result }
     {
         match self {
-            HeldPlace::Occupied(mut entry) => {
+            HeldEntry::Occupied(mut entry) => {
                 f(entry.get_mut());
-                HeldPlace::Occupied(entry)
+                HeldEntry::Occupied(entry)
             }
-            HeldPlace::Vacant(entry) => HeldPlace::Vacant(entry),
+            HeldEntry::Vacant(entry) => HeldEntry::Vacant(entry),
         }
     }
 }

@@ -3,14 +3,14 @@ ghost use Rattle.scc_cache.specs.Entries.{entry_key, IsVacant, OrPuts, OrPutsSom
 ghost use Rattle.std.specs.Fn.{FnOnceTakesAt, FnOnceReturnsAt};
 ghost use Rattle.std.specs.Prelude.{IfOk, IfErr};
 
-use crate::held::HeldPlace;
+use crate::held::HeldEntry;
 use crate::locked::OccupiedEntry;
 use crate::{EvictedEntry, Owned};
 use scc_common::{InsertError, Shared};
 use std::hash::{BuildHasher, Hash};
 use std::sync::RwLockWriteGuard;
 
-impl<'a, K: Eq + Hash, V, H: BuildHasher> HeldPlace<
+impl<'a, K: Eq + Hash, V, H: BuildHasher> HeldEntry<
     RwLockWriteGuard<'a, Owned<K, V, Shared<H>>>,
     (),
     K,
@@ -29,11 +29,11 @@ impl<'a, K: Eq + Hash, V, H: BuildHasher> HeldPlace<
         ensures refused { IfErr result (Refuses self.entry default) }
     {
         match self {
-            HeldPlace::Occupied(entry) => {
+            HeldEntry::Occupied(entry) => {
                 drop(default);
                 Ok((None, entry))
             }
-            HeldPlace::Vacant(entry) => entry.put_entry(default),
+            HeldEntry::Vacant(entry) => entry.put_entry(default),
         }
     }
 
@@ -47,8 +47,8 @@ impl<'a, K: Eq + Hash, V, H: BuildHasher> HeldPlace<
         ensures refused { IfErr result (RefusesSome self.entry (λ k v. F.post f v)) }
     {
         match self {
-            HeldPlace::Occupied(entry) => Ok((None, entry)),
-            HeldPlace::Vacant(entry) => {
+            HeldEntry::Occupied(entry) => Ok((None, entry)),
+            HeldEntry::Vacant(entry) => {
                 let value = f();
                 entry.put_entry(value)
             }
@@ -66,8 +66,8 @@ impl<'a, K: Eq + Hash, V, H: BuildHasher> HeldPlace<
         ensures refused { IfErr result (RefusesSome self.entry (FnOnceReturnsAt F.FnOnce f)) }
     {
         match self {
-            HeldPlace::Occupied(entry) => Ok((None, entry)),
-            HeldPlace::Vacant(entry) => {
+            HeldEntry::Occupied(entry) => Ok((None, entry)),
+            HeldEntry::Vacant(entry) => {
                 let value = f(&entry.key);
                 entry.put_entry(value)
             }
@@ -84,8 +84,8 @@ impl<'a, K: Eq + Hash, V, H: BuildHasher> HeldPlace<
         ensures refused { IfErr result (RefusesSome self.entry (λ k v. V.is_default v)) }
     {
         match self {
-            HeldPlace::Occupied(entry) => Ok((None, entry)),
-            HeldPlace::Vacant(entry) => {
+            HeldEntry::Occupied(entry) => Ok((None, entry)),
+            HeldEntry::Vacant(entry) => {
                 let value = V::default();
                 entry.put_entry(value)
             }
@@ -103,12 +103,12 @@ impl<'a, K: Eq + Hash, V, H: BuildHasher> HeldPlace<
         ensures refused { IfErr result (Refuses self.entry value) }
     {
         match self {
-            HeldPlace::Occupied(entry) => {
+            HeldEntry::Occupied(entry) => {
                 let mut entry = entry;
                 let _old = entry.put(value);
                 Ok((None, entry))
             }
-            HeldPlace::Vacant(entry) => entry.put_entry(value),
+            HeldEntry::Vacant(entry) => entry.put_entry(value),
         }
     }
 }

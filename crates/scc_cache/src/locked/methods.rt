@@ -4,7 +4,7 @@ ghost use Rattle.scc_contents.specs.Contents.{bucket_count};
 ghost use Rattle.std.specs.Prelude.{◌≡◌, IfOk, IfErr};
 ghost use Rattle.std.specs.Sync.RwLock.{write_guard_value};
 
-use crate::held::{HeldEntry, HeldVacant};
+use crate::held::{HeldOccupied, HeldVacant};
 use crate::locked::OccupiedEntry;
 use crate::{EvictedEntry, Owned};
 use scc_common::{InsertError, Shared};
@@ -12,7 +12,7 @@ use std::hash::{BuildHasher, Hash};
 use std::marker::PhantomData;
 use std::sync::RwLockWriteGuard;
 
-impl<'a, K: Eq + Hash, V, H: BuildHasher> HeldEntry<
+impl<'a, K: Eq + Hash, V, H: BuildHasher> HeldOccupied<
     RwLockWriteGuard<'a, Owned<K, V, Shared<H>>>,
     (),
     K,
@@ -33,7 +33,7 @@ impl<'a, K: Eq + Hash, V, H: BuildHasher> HeldEntry<
     pub fn remove_entry(self) -> (K, V)
         ensures pair { result ≡ occupied_pair self.entry }
     {
-        let HeldEntry {
+        let HeldOccupied {
             mut guard,
             place,
             rest: _,
@@ -85,7 +85,7 @@ impl<'a, K: Eq + Hash, V, H: BuildHasher> HeldVacant<
         match guard.put_at(hash, key, value) {
             Ok((evicted, place)) => Ok((
                 evicted,
-                HeldEntry {
+                HeldOccupied {
                     guard,
                     place,
                     rest,

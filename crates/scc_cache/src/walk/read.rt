@@ -1,8 +1,8 @@
 //! Walks over the pairs of a cache. No walk makes a pair more recent.
 ghost use Rattle.scc_cache.specs.CacheSteps.{Clears};
 ghost use Rattle.scc_cache.specs.Caches.{IsCacheState};
-ghost use Rattle.scc_cache.specs.Relocations.{RelocatesNone};
-ghost use Rattle.scc_cache.specs.TakingWalks.{StepsOut};
+ghost use Rattle.scc_cache.specs.Relocations.{RelocatesNoneWithin};
+ghost use Rattle.scc_cache.specs.TakingWalks.{TakesOutWithNext};
 ghost use Rattle.scc_contents.specs.Contents.{entries, refused_of, waiting_of, hash_in};
 ghost use Rattle.scc_contents.specs.Steps.{HoldsExactly};
 ghost use Rattle.scc_contents.specs.Walks.{CalledOn, CallableWhile, Walks};
@@ -36,7 +36,7 @@ impl<K: Eq + Hash, V, H: BuildHasher> Owned<K, V, H> {
         ensures empty { entries self.new.contents ≡ [] }
         ensures step { Clears (hash_in ⟦<H as Hashes<K>>⟧.hash_of self.old.contents) self.old self.new }
         ensures state { IsCacheState K.eq (hash_in ⟦<H as Hashes<K>>⟧.hash_of self.new.contents) self.new }
-        ensures relocates { RelocatesNone (λ p. hash_in ⟦<H as Hashes<K>>⟧.hash_of self.old.contents p.0)
+        ensures relocates { RelocatesNoneWithin (λ p. hash_in ⟦<H as Hashes<K>>⟧.hash_of self.old.contents p.0)
             self.old.contents self.new.contents }
     {
         self.take_all();
@@ -56,7 +56,7 @@ impl<K: Eq + Hash, V, H: BuildHasher> Owned<K, V, H> {
     {
         let mut at = self.table.first_place();
         while let Some(place) = at {
-            let (_pair, next) = self.take_and_step(place);
+            let (_pair, next) = self.take_with_next(place);
             at = next;
         }
         let _ = self.len();
@@ -72,11 +72,11 @@ impl<K: Eq + Hash, V, H: BuildHasher> Owned<K, V, H> {
     }
 
     /// Takes the pair out of its place, with no resize, and answers it with the place of the pair that followed.
-    pub(crate) fn take_and_step(&mut self, place: Place) -> ((K, V), Option<Place>)
+    pub(crate) fn take_with_next(&mut self, place: Place) -> ((K, V), Option<Place>)
         requires { IsPlace self.old.contents place }
-        ensures { StepsOut self.old place result self.new }
+        ensures { TakesOutWithNext self.old place result self.new }
     {
-        self.table.take_and_step(place)
+        self.table.take_with_next(place)
     }
 
     /// Calls `f` on the pairs in the order of the lists until its first false, and answers false where it stopped. The

@@ -108,7 +108,7 @@ impl<K: Eq + Hash, V, H: BuildHasher> Owned<K, V, H> {
         requires room { vec_len taken.old < vec_capacity taken.old }
         ensures { MovesOut self.old place taken.old result self.new taken.new }
     {
-        let (pair, next) = self.take_and_step(place);
+        let (pair, next) = self.take_with_next(place);
         taken.push_reserved(pair);
         next
     }

@@ -3,7 +3,7 @@ ghost use Rattle.scc_cache.specs.CacheSteps.{ShrinksTo};
 ghost use Rattle.scc_cache.specs.CacheWalks.{GoesOver, LeavesPairs};
 ghost use Rattle.scc_cache.specs.Caches.{Cached, IsCacheState};
 ghost use Rattle.scc_cache.specs.Lends.{with_value_at};
-ghost use Rattle.scc_cache.specs.Relocations.{RelocatesNone};
+ghost use Rattle.scc_cache.specs.Relocations.{RelocatesNoneWithin};
 ghost use Rattle.scc_contents.specs.Contents.{entries, hash_in, refused_of, waiting_of};
 ghost use Rattle.scc_contents.specs.PairWalks.{CallableToWrite, CalledToWrite, Retains, TakesToWrite};
 ghost use Rattle.scc_contents.specs.Pairs.{IsUnique};
@@ -34,7 +34,7 @@ impl<K: Eq + Hash, V, H: BuildHasher> Owned<K, V, H> {
             × ShrinksTo (λ e. hash_in ⟦<H as Hashes<K>>⟧.hash_of self.old.contents e.0) left self.new }
         ensures was_unique { IsUnique K.eq self.old.contents }
         ensures state { IsCacheState K.eq (hash_in ⟦<H as Hashes<K>>⟧.hash_of self.new.contents) self.new }
-        ensures relocates { RelocatesNone (λ p. hash_in ⟦<H as Hashes<K>>⟧.hash_of self.old.contents p.0)
+        ensures relocates { RelocatesNoneWithin (λ p. hash_in ⟦<H as Hashes<K>>⟧.hash_of self.old.contents p.0)
             self.old.contents self.new.contents }
     {
         let mut f = f;
@@ -55,7 +55,7 @@ impl<K: Eq + Hash, V, H: BuildHasher> Owned<K, V, H> {
             × ShrinksTo (λ e. hash_in ⟦<H as Hashes<K>>⟧.hash_of self.old.contents e.0) left self.new }
         ensures was_unique { IsUnique K.eq self.old.contents }
         ensures state { IsCacheState K.eq (hash_in ⟦<H as Hashes<K>>⟧.hash_of self.new.contents) self.new }
-        ensures relocates { RelocatesNone (λ p. hash_in ⟦<H as Hashes<K>>⟧.hash_of self.old.contents p.0)
+        ensures relocates { RelocatesNoneWithin (λ p. hash_in ⟦<H as Hashes<K>>⟧.hash_of self.old.contents p.0)
             self.old.contents self.new.contents }
     {
         let _ = self.len();
@@ -80,7 +80,7 @@ impl<K: Eq + Hash, V, H: BuildHasher> Owned<K, V, H> {
             if self.visit(place, f) {
                 at = self.next_place(place);
             } else {
-                let (_pair, next) = self.take_and_step(place);
+                let (_pair, next) = self.take_with_next(place);
                 at = next;
             }
         }

@@ -1,19 +1,19 @@
 //! The insertions of an entry of a borrowed index. Each goes on at the place that the search found. Where an entry is
 //! occupied, `len` is called for its contract: no two keys are equal.
 ghost use Rattle.scc_contents.specs.Pairs.{IsUnique};
-ghost use Rattle.scc_index.specs.Entries.{held_index, entry_guard, entry_key, InsertsThrough, IsVacant, OrInserts, OrInsertsSome, Refuses, RefusesSome, occupied_pair, rests_if_refused};
+ghost use Rattle.scc_index.specs.Entries.{occupied_index, entry_guard, entry_key, InsertsThrough, IsVacant, OrInserts, OrInsertsSome, Refuses, RefusesSome, occupied_pair, rests_if_refused};
 ghost use Rattle.std.specs.Borrow.{sem};
 ghost use Rattle.std.specs.Fn.{FnOnceTakesAt, FnOnceReturnsAt};
 ghost use Rattle.std.specs.Prelude.{◌≡◌, Ok};
 
 use crate::Owned;
 use crate::borrowed::OccupiedEntry;
-use crate::held::{HeldEntry, HeldPlace};
+use crate::held::{HeldEntry, HeldOccupied};
 use scc_common::InsertError;
 use scc_contents::Hashes;
 use std::hash::{BuildHasher, Hash};
 
-impl<'a, K: Eq + Hash, V, H: BuildHasher> HeldPlace<&'a mut Owned<K, V, H>, (), K, V, H> {
+impl<'a, K: Eq + Hash, V, H: BuildHasher> HeldEntry<&'a mut Owned<K, V, H>, (), K, V, H> {
     /// Inserts `default` where the entry is vacant, and answers the occupied entry. An occupied one stays as it is, and
     /// can't be refused.
     pub fn or_insert(self, default: V) -> Result<OccupiedEntry<'a, K, V, H>, InsertError<K, V>>
@@ -25,11 +25,11 @@ impl<'a, K: Eq + Hash, V, H: BuildHasher> HeldPlace<&'a mut Owned<K, V, H>, (), 
             (entry_guard self.entry) (entry_key self.entry) result) }
     {
         match self {
-            HeldPlace::Occupied(entry) => {
+            HeldEntry::Occupied(entry) => {
                 drop(default);
                 entry.as_it_is()
             }
-            HeldPlace::Vacant(entry) => entry.insert_entry(default),
+            HeldEntry::Vacant(entry) => entry.insert_entry(default),
         }
     }
 
@@ -46,8 +46,8 @@ impl<'a, K: Eq + Hash, V, H: BuildHasher> HeldPlace<&'a mut Owned<K, V, H>, (), 
             (entry_guard self.entry) (entry_key self.entry) result) }
     {
         match self {
-            HeldPlace::Occupied(entry) => entry.as_it_is(),
-            HeldPlace::Vacant(entry) => {
+            HeldEntry::Occupied(entry) => entry.as_it_is(),
+            HeldEntry::Vacant(entry) => {
                 let value = f();
                 entry.insert_entry(value)
             }
@@ -68,8 +68,8 @@ impl<'a, K: Eq + Hash, V, H: BuildHasher> HeldPlace<&'a mut Owned<K, V, H>, (), 
             (entry_guard self.entry) (entry_key self.entry) result) }
     {
         match self {
-            HeldPlace::Occupied(entry) => entry.as_it_is(),
-            HeldPlace::Vacant(entry) => {
+            HeldEntry::Occupied(entry) => entry.as_it_is(),
+            HeldEntry::Vacant(entry) => {
                 let value = f(entry.key());
                 entry.insert_entry(value)
             }
@@ -86,8 +86,8 @@ impl<'a, K: Eq + Hash, V, H: BuildHasher> HeldPlace<&'a mut Owned<K, V, H>, (), 
             (entry_guard self.entry) (entry_key self.entry) result) }
     {
         match self {
-            HeldPlace::Occupied(entry) => entry.as_it_is(),
-            HeldPlace::Vacant(entry) => {
+            HeldEntry::Occupied(entry) => entry.as_it_is(),
+            HeldEntry::Vacant(entry) => {
                 let value = V::default();
                 entry.insert_entry(value)
             }
@@ -95,22 +95,22 @@ impl<'a, K: Eq + Hash, V, H: BuildHasher> HeldPlace<&'a mut Owned<K, V, H>, (), 
     }
 }
 
-impl<'a, K: Eq + Hash, V, H: BuildHasher> HeldEntry<&'a mut Owned<K, V, H>, (), K, V, H> {
+impl<'a, K: Eq + Hash, V, H: BuildHasher> HeldOccupied<&'a mut Owned<K, V, H>, (), K, V, H> {
     /// The entry as it is, as an insertion answers it.
     fn as_it_is(self) -> Result<OccupiedEntry<'a, K, V, H>, InsertError<K, V>>
         ensures same { result ≡ Ok self.entry }
-        ensures unique { IsUnique K.eq (held_index self.entry) }
+        ensures unique { IsUnique K.eq (occupied_index self.entry) }
         ensures* kept { sem 𝓛 (rests_if_refused K.row V.row H.row H.Hasher.row K.Hash H.BuildHasher H.Hasher.Hasher
             self.entry.guard (occupied_pair self.entry).0 result) }
     {
-        let HeldEntry {
+        let HeldOccupied {
             guard,
             place,
             rest,
             of,
         } = self;
         let _ = guard.len();
-        Ok(HeldEntry {
+        Ok(HeldOccupied {
             guard,
             place,
             rest,

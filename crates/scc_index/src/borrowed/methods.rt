@@ -4,14 +4,14 @@ ghost use Rattle.scc_contents.specs.Contents.{entries, bucket_count, minimum_of}
 ghost use Rattle.scc_contents.specs.Pairs.{find, IsUnique};
 ghost use Rattle.scc_contents.specs.Sizes.{IsSmaller};
 ghost use Rattle.scc_contents.specs.Steps.{Holds, ShrinksWhenDue};
-ghost use Rattle.scc_index.specs.Entries.{held_index, occupied_front, occupied_back, entry_guard, InsertsAtVacant, IsOccupiedAt, IsEntryOf, rests_if_refused, rests_if_none};
+ghost use Rattle.scc_index.specs.Entries.{occupied_index, occupied_front, occupied_back, entry_guard, InsertsAtVacant, IsOccupiedAt, IsEntryOf, rests_if_refused, rests_if_none};
 ghost use Rattle.scc_table.specs.Relocations.{RelocatesNone};
 ghost use Rattle.std.specs.Borrow.{sem};
 ghost use Rattle.std.specs.Prelude.{◌≡◌, ◌≢◌, ◌++◌, length, None, IfSome, IfNone};
 
 use crate::Owned;
 use crate::borrowed::{Entry, OccupiedEntry};
-use crate::held::{HeldEntry, HeldPlace, HeldVacant};
+use crate::held::{HeldEntry, HeldOccupied, HeldVacant};
 use scc_common::InsertError;
 use scc_contents::Hashes;
 use std::hash::{BuildHasher, Hash};
@@ -28,13 +28,13 @@ impl<K: Eq + Hash, V, H: BuildHasher> Owned<K, V, H> {
     {
         let hash = self.table.hash(&k);
         match self.table.search(hash, &k) {
-            Some(place) => HeldPlace::Occupied(HeldEntry {
+            Some(place) => HeldEntry::Occupied(HeldOccupied {
                 guard: self,
                 place,
                 rest: (),
                 of: PhantomData,
             }),
-            None => HeldPlace::Vacant(HeldVacant {
+            None => HeldEntry::Vacant(HeldVacant {
                 guard: self,
                 key: k,
                 hash,
@@ -55,7 +55,7 @@ impl<K: Eq + Hash, V, H: BuildHasher> Owned<K, V, H> {
     {
         let hash = self.table.hash(k);
         match self.table.search(hash, k) {
-            Some(place) => Some(HeldEntry {
+            Some(place) => Some(HeldOccupied {
                 guard: self,
                 place,
                 rest: (),
@@ -66,20 +66,20 @@ impl<K: Eq + Hash, V, H: BuildHasher> Owned<K, V, H> {
     }
 }
 
-impl<'a, N, K: Eq + Hash, V, H: BuildHasher> HeldEntry<&'a mut Owned<K, V, H>, N, K, V, H> {
+impl<'a, N, K: Eq + Hash, V, H: BuildHasher> HeldOccupied<&'a mut Owned<K, V, H>, N, K, V, H> {
     /// Removes the version. Who kept it keeps it. The array may become smaller.
     pub fn remove_entry(self)
     where
         N: Drop,
         K: Drop,
         V: Drop,
-        ensures removed { Holds (held_index self.entry) (occupied_front self.entry ++ occupied_back self.entry)
+        ensures removed { Holds (occupied_index self.entry) (occupied_front self.entry ++ occupied_back self.entry)
             self.exit.0.now }
-        ensures smaller { bucket_count self.exit.0.now ≢ bucket_count (held_index self.entry)
-            → IsSmaller (minimum_of (held_index self.entry)) (length (entries self.exit.0.now))
-            (bucket_count (held_index self.entry)) (bucket_count self.exit.0.now) }
-        ensures due { ShrinksWhenDue (held_index self.entry) self.exit.0.now }
-        ensures relocates { RelocatesNone (held_index self.entry) self.exit.0.now }
+        ensures smaller { bucket_count self.exit.0.now ≢ bucket_count (occupied_index self.entry)
+            → IsSmaller (minimum_of (occupied_index self.entry)) (length (entries self.exit.0.now))
+            (bucket_count (occupied_index self.entry)) (bucket_count self.exit.0.now) }
+        ensures due { ShrinksWhenDue (occupied_index self.entry) self.exit.0.now }
+        ensures relocates { RelocatesNone (occupied_index self.entry) self.exit.0.now }
         ensures unique { IsUnique K.eq self.exit.0.now }
     {
         let place = self.place;
@@ -110,7 +110,7 @@ impl<'a, K: Eq + Hash, V, H: BuildHasher> HeldVacant<&'a mut Owned<K, V, H>, (),
             of: _,
         } = self;
         match guard.insert_new(hash, key, value) {
-            Ok(place) => Ok(HeldEntry {
+            Ok(place) => Ok(HeldOccupied {
                 guard,
                 place,
                 rest,

@@ -3,14 +3,14 @@ ghost use Rattle.scc_contents.specs.Contents.{entries, waiting_of};
 ghost use Rattle.scc_contents.specs.PairWalks.{PassesAt, PassesNone};
 ghost use Rattle.scc_contents.specs.Pairs.{IsUnique};
 ghost use Rattle.scc_contents.specs.Walks.{CalledOn, CallableWhile};
-ghost use Rattle.scc_index.specs.Entries.{held_index, occupied_pair, occupied_front, occupied_back, rests_if_none};
+ghost use Rattle.scc_index.specs.Entries.{occupied_index, occupied_pair, occupied_front, occupied_back, rests_if_none};
 ghost use Rattle.scc_index.specs.EntrySteps.{StandsIn, IsNext, IsNextPastRemoved, rests_removed};
 ghost use Rattle.std.specs.Borrow.{sem};
 ghost use Rattle.std.specs.Prelude.{◌≡◌, [], IfSome, IfNone, false};
 
 use crate::Owned;
 use crate::borrowed::OccupiedEntry;
-use crate::held::HeldEntry;
+use crate::held::HeldOccupied;
 use std::hash::{BuildHasher, Hash};
 use std::marker::PhantomData;
 
@@ -24,7 +24,7 @@ impl<K: Eq + Hash, V, H: BuildHasher> Owned<K, V, H> {
             self.entry result) }
     {
         match self.table.first_place() {
-            Some(place) => Some(HeldEntry {
+            Some(place) => Some(HeldOccupied {
                 guard: self,
                 place,
                 rest: (),
@@ -47,7 +47,7 @@ impl<K: Eq + Hash, V, H: BuildHasher> Owned<K, V, H> {
     {
         let mut p = p;
         match self.first_passing(&mut p) {
-            Some(place) => Some(HeldEntry {
+            Some(place) => Some(HeldOccupied {
                 guard: self,
                 place,
                 rest: (),
@@ -58,7 +58,7 @@ impl<K: Eq + Hash, V, H: BuildHasher> Owned<K, V, H> {
     }
 }
 
-impl<'a, K: Eq + Hash, V, H: BuildHasher> HeldEntry<&'a mut Owned<K, V, H>, (), K, V, H> {
+impl<'a, K: Eq + Hash, V, H: BuildHasher> HeldOccupied<&'a mut Owned<K, V, H>, (), K, V, H> {
     /// The entry that stands next in the index's list, or None where this one is the last. Nothing is resized.
     pub fn next_sync(self) -> Option<OccupiedEntry<'a, K, V, H>>
         ensures next { IfSome result (IsNext self.entry) }
@@ -66,14 +66,14 @@ impl<'a, K: Eq + Hash, V, H: BuildHasher> HeldEntry<&'a mut Owned<K, V, H>, (), 
         ensures* kept { sem 𝓛 (rests_if_none K.row V.row H.row H.Hasher.row K.Hash H.BuildHasher H.Hasher.Hasher
             self.entry.guard result) }
     {
-        let HeldEntry {
+        let HeldOccupied {
             guard,
             place,
             rest,
             of: _,
         } = self;
         match guard.next_place(place) {
-            Some(place) => Some(HeldEntry {
+            Some(place) => Some(HeldOccupied {
                 guard,
                 place,
                 rest,
@@ -90,20 +90,20 @@ impl<'a, K: Eq + Hash, V, H: BuildHasher> HeldEntry<&'a mut Owned<K, V, H>, (), 
         K: Drop,
         V: Drop,
         ensures next { IfSome result (IsNextPastRemoved self.entry) }
-        ensures waiting { IfSome result (λ o. waiting_of (held_index o) ≡ waiting_of (held_index self.entry)) }
-        ensures unique { IfSome result (λ o. IsUnique K.eq (held_index o)) }
+        ensures waiting { IfSome result (λ o. waiting_of (occupied_index o) ≡ waiting_of (occupied_index self.entry)) }
+        ensures unique { IfSome result (λ o. IsUnique K.eq (occupied_index o)) }
         ensures last { IfNone result (occupied_back self.entry ≡ []) }
         ensures* kept { sem 𝓛 (rests_removed K.row V.row H.row H.Hasher.row K.Hash H.BuildHasher H.Hasher.Hasher
             self.entry result) }
     {
-        let HeldEntry {
+        let HeldOccupied {
             guard,
             place,
             rest,
             of: _,
         } = self;
-        match guard.take_and_step(place) {
-            Some(place) => Some(HeldEntry {
+        match guard.take_with_next(place) {
+            Some(place) => Some(HeldOccupied {
                 guard,
                 place,
                 rest,

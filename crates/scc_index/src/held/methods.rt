@@ -1,15 +1,21 @@
 //! What an entry does while it keeps its guard, the same under each.
 ghost use Rattle.scc_contents.specs.Contents.{waiting_of};
 ghost use Rattle.scc_contents.specs.Pairs.{IsUnique};
-ghost use Rattle.scc_index.specs.Entries.{held_index, occupied_pair, entry_guard, entry_key, IsUpdated, TakesEntry, Modifies, RefusesModify};
+ghost use Rattle.scc_index.specs.Entries.{occupied_index, occupied_pair, entry_guard, entry_key, IsUpdated, TakesEntry, Modifies, RefusesModify};
 ghost use Rattle.std.specs.Prelude.{◌≡◌, IfOk, IfErr, OnOk};
 
 use crate::Owned;
-use crate::held::{HeldEntry, HeldPlace, HeldVacant};
+use crate::held::{HeldEntry, HeldOccupied, HeldVacant};
 use scc_common::Guard;
 use std::hash::{BuildHasher, Hash};
 
-impl<G: Guard<Kept = Owned<K, V, H>>, N, K: Eq + Hash, V, H: BuildHasher> HeldEntry<G, N, K, V, H> {
+impl<G: Guard<Inner = Owned<K, V, H>>, N, K: Eq + Hash, V, H: BuildHasher> HeldOccupied<
+    G,
+    N,
+    K,
+    V,
+    H,
+> {
     /// The stored key.
     pub fn key(&self) -> &K
         ensures { result.now ≡ (occupied_pair self.now).0 }
@@ -33,8 +39,8 @@ impl<G: Guard<Kept = Owned<K, V, H>>, N, K: Eq + Hash, V, H: BuildHasher> HeldEn
         V: Drop,
         ensures updated { OnOk result (IsUpdated K.is_clone K.eq self.old value self.new) }
         ensures refused { IfErr result (λ v. (v ≡ value) × (self.new ≡ self.old)) }
-        ensures waiting { waiting_of (held_index self.new) ≡ waiting_of (held_index self.old) }
-        ensures unique { IsUnique K.eq (held_index self.new) }
+        ensures waiting { waiting_of (occupied_index self.new) ≡ waiting_of (occupied_index self.old) }
+        ensures unique { IsUnique K.eq (occupied_index self.new) }
     {
         let place = self.place;
         match self.guard.look().next_version(place, value) {
@@ -51,13 +57,13 @@ impl<G: Guard<Kept = Owned<K, V, H>>, N, K: Eq + Hash, V, H: BuildHasher> HeldEn
 
     /// A look at the index, for what its type says: no two keys are equal.
     pub(crate) fn look_at_index(&self)
-        ensures { IsUnique K.eq (held_index self.now) }
+        ensures { IsUnique K.eq (occupied_index self.now) }
     {
         let _ = self.guard.look().len();
     }
 }
 
-impl<G: Guard<Kept = Owned<K, V, H>>, N, K: Eq + Hash, V, H: BuildHasher> HeldVacant<
+impl<G: Guard<Inner = Owned<K, V, H>>, N, K: Eq + Hash, V, H: BuildHasher> HeldVacant<
     G,
     N,
     K,
@@ -73,20 +79,26 @@ impl<G: Guard<Kept = Owned<K, V, H>>, N, K: Eq + Hash, V, H: BuildHasher> HeldVa
 
     /// A look at the index, for what its type says: no two keys are equal.
     pub(crate) fn look_at_index(&self)
-        ensures { IsUnique K.eq (G.kept self.now.guard) }
+        ensures { IsUnique K.eq (G.inner self.now.guard) }
     {
         let _ = self.guard.look().len();
     }
 }
 
-impl<G: Guard<Kept = Owned<K, V, H>>, N, K: Eq + Hash, V, H: BuildHasher> HeldPlace<G, N, K, V, H> {
+impl<G: Guard<Inner = Owned<K, V, H>>, N, K: Eq + Hash, V, H: BuildHasher> HeldEntry<
+    G,
+    N,
+    K,
+    V,
+    H,
+> {
     /// The stored key, or the one that was asked for.
     pub fn key(&self) -> &K
         ensures { result.now ≡ entry_key self.now }
     {
         match self {
-            HeldPlace::Occupied(entry) => entry.key(),
-            HeldPlace::Vacant(entry) => entry.key(),
+            HeldEntry::Occupied(entry) => entry.key(),
+            HeldEntry::Vacant(entry) => entry.key(),
         }
     }
 
@@ -99,21 +111,21 @@ impl<G: Guard<Kept = Owned<K, V, H>>, N, K: Eq + Hash, V, H: BuildHasher> HeldPl
         requires { TakesEntry F.FnOnce f self }
         ensures modifies { IfOk result (Modifies F.FnOnce f K.is_clone K.eq self) }
         ensures refused { IfErr result (RefusesModify F.FnOnce f self) }
-        ensures waiting { IfOk result (λ e. waiting_of (G.kept (entry_guard e))
-            ≡ waiting_of (G.kept (entry_guard self))) }
-        ensures unique { IfOk result (λ e. IsUnique K.eq (G.kept (entry_guard e))) }
+        ensures waiting { IfOk result (λ e. waiting_of (G.inner (entry_guard e))
+            ≡ waiting_of (G.inner (entry_guard self))) }
+        ensures unique { IfOk result (λ e. IsUnique K.eq (G.inner (entry_guard e))) }
     {
         match self {
-            HeldPlace::Occupied(mut entry) => {
+            HeldEntry::Occupied(mut entry) => {
                 let value = f(entry.get());
                 match entry.update(value) {
-                    Ok(()) => Ok(HeldPlace::Occupied(entry)),
-                    Err(value) => Err((HeldPlace::Occupied(entry), value)),
+                    Ok(()) => Ok(HeldEntry::Occupied(entry)),
+                    Err(value) => Err((HeldEntry::Occupied(entry), value)),
                 }
             }
-            HeldPlace::Vacant(entry) => {
+            HeldEntry::Vacant(entry) => {
                 entry.look_at_index();
-                Ok(HeldPlace::Vacant(entry))
+                Ok(HeldEntry::Vacant(entry))
             }
         }
     }

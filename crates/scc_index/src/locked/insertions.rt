@@ -3,7 +3,7 @@ ghost use Rattle.scc_index.specs.Entries.{entry_key, InsertsThrough, IsVacant, O
 ghost use Rattle.std.specs.Fn.{FnOnceReturnsAt, FnOnceTakesAt};
 
 use crate::Owned;
-use crate::held::HeldPlace;
+use crate::held::HeldEntry;
 use crate::locked::OccupiedEntry;
 use scc_common::{InsertError, Shared};
 use scc_contents::Hashes;
@@ -11,7 +11,7 @@ use scc_stripes::Seat;
 use std::hash::{BuildHasher, Hash};
 use std::sync::RwLockWriteGuard;
 
-impl<'a, K: Eq + Hash, V, H: BuildHasher> HeldPlace<
+impl<'a, K: Eq + Hash, V, H: BuildHasher> HeldEntry<
     RwLockWriteGuard<'a, Owned<K, V, Shared<H>>>,
     Seat<'a, Owned<K, V, Shared<H>>, H>,
     K,
@@ -27,12 +27,12 @@ impl<'a, K: Eq + Hash, V, H: BuildHasher> HeldPlace<
             (OrInserts self.entry default) (Refuses self.entry default) result }
     {
         match self {
-            HeldPlace::Occupied(entry) => {
+            HeldEntry::Occupied(entry) => {
                 drop(default);
                 entry.look_at_index();
                 Ok(entry)
             }
-            HeldPlace::Vacant(entry) => entry.insert_entry(default),
+            HeldEntry::Vacant(entry) => entry.insert_entry(default),
         }
     }
 
@@ -47,11 +47,11 @@ impl<'a, K: Eq + Hash, V, H: BuildHasher> HeldPlace<
             (OrInsertsSome self.entry (λ k v. F.post f v)) (RefusesSome self.entry (λ k v. F.post f v)) result }
     {
         match self {
-            HeldPlace::Occupied(entry) => {
+            HeldEntry::Occupied(entry) => {
                 entry.look_at_index();
                 Ok(entry)
             }
-            HeldPlace::Vacant(entry) => {
+            HeldEntry::Vacant(entry) => {
                 let value = f();
                 entry.insert_entry(value)
             }
@@ -70,11 +70,11 @@ impl<'a, K: Eq + Hash, V, H: BuildHasher> HeldPlace<
             (RefusesSome self.entry (FnOnceReturnsAt F.FnOnce f)) result }
     {
         match self {
-            HeldPlace::Occupied(entry) => {
+            HeldEntry::Occupied(entry) => {
                 entry.look_at_index();
                 Ok(entry)
             }
-            HeldPlace::Vacant(entry) => {
+            HeldEntry::Vacant(entry) => {
                 let value = f(entry.key());
                 entry.insert_entry(value)
             }
@@ -90,11 +90,11 @@ impl<'a, K: Eq + Hash, V, H: BuildHasher> HeldPlace<
             (RefusesSome self.entry (λ k v. V.is_default v)) result }
     {
         match self {
-            HeldPlace::Occupied(entry) => {
+            HeldEntry::Occupied(entry) => {
                 entry.look_at_index();
                 Ok(entry)
             }
-            HeldPlace::Vacant(entry) => {
+            HeldEntry::Vacant(entry) => {
                 let value = V::default();
                 entry.insert_entry(value)
             }

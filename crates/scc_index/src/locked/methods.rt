@@ -3,7 +3,7 @@ ghost use Rattle.scc_index.specs.Entries.{InsertsAtVacant};
 ghost use Rattle.std.specs.Prelude.{◌≡◌};
 
 use crate::Owned;
-use crate::held::{HeldEntry, HeldVacant};
+use crate::held::{HeldOccupied, HeldVacant};
 use crate::locked::OccupiedEntry;
 use scc_common::{InsertError, Shared};
 use scc_contents::Hashes;
@@ -12,7 +12,7 @@ use std::hash::{BuildHasher, Hash};
 use std::marker::PhantomData;
 use std::sync::RwLockWriteGuard;
 
-impl<'a, K: Eq + Hash, V, H: BuildHasher> HeldEntry<
+impl<'a, K: Eq + Hash, V, H: BuildHasher> HeldOccupied<
     RwLockWriteGuard<'a, Owned<K, V, Shared<H>>>,
     Seat<'a, Owned<K, V, Shared<H>>, H>,
     K,
@@ -25,7 +25,7 @@ impl<'a, K: Eq + Hash, V, H: BuildHasher> HeldEntry<
         K: Drop,
         V: Drop,
     {
-        let HeldEntry {
+        let HeldOccupied {
             mut guard,
             place,
             rest,
@@ -70,7 +70,7 @@ impl<'a, K: Eq + Hash, V, H: BuildHasher> HeldVacant<
             of: _,
         } = self;
         match guard.insert_new(hash, key, value) {
-            Ok(place) => Ok(HeldEntry {
+            Ok(place) => Ok(HeldOccupied {
                 guard,
                 place,
                 rest,

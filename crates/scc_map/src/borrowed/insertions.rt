@@ -8,13 +8,13 @@ ghost use Rattle.std.specs.Prelude.{◌≡◌};
 
 use crate::Owned;
 use crate::borrowed::OccupiedEntry;
-use crate::held::{HeldEntry, HeldPlace, HeldVacant};
+use crate::held::{HeldEntry, HeldOccupied, HeldVacant};
 use scc_common::InsertError;
 use scc_contents::Hashes;
 use std::hash::{BuildHasher, Hash};
 use std::marker::PhantomData;
 
-impl<'a, K: Eq + Hash, V, H: BuildHasher> HeldPlace<&'a mut Owned<K, V, H>, (), K, V, H> {
+impl<'a, K: Eq + Hash, V, H: BuildHasher> HeldEntry<&'a mut Owned<K, V, H>, (), K, V, H> {
     /// Inserts `default` where the entry is vacant, and answers the occupied entry. An occupied one stays as it is, and
     /// can't be refused.
     pub fn or_insert(self, default: V) -> Result<OccupiedEntry<'a, K, V, H>, InsertError<K, V>>
@@ -66,22 +66,22 @@ impl<'a, K: Eq + Hash, V, H: BuildHasher> HeldPlace<&'a mut Owned<K, V, H>, (), 
             (entry_guard self.entry) (entry_key self.entry) result) }
     {
         match self {
-            HeldPlace::Occupied(entry) => {
-                let HeldEntry {
+            HeldEntry::Occupied(entry) => {
+                let HeldOccupied {
                     guard,
                     place,
                     rest,
                     of,
                 } = entry;
                 let _ = guard.len();
-                Ok(HeldEntry {
+                Ok(HeldOccupied {
                     guard,
                     place,
                     rest,
                     of,
                 })
             }
-            HeldPlace::Vacant(entry) => {
+            HeldEntry::Vacant(entry) => {
                 let HeldVacant {
                     guard,
                     key,
@@ -91,7 +91,7 @@ impl<'a, K: Eq + Hash, V, H: BuildHasher> HeldPlace<&'a mut Owned<K, V, H>, (), 
                 } = entry;
                 let value = f(&key);
                 match guard.insert_new(hash, key, value) {
-                    Ok(place) => Ok(HeldEntry {
+                    Ok(place) => Ok(HeldOccupied {
                         guard,
                         place,
                         rest,
@@ -129,22 +129,22 @@ impl<'a, K: Eq + Hash, V, H: BuildHasher> HeldPlace<&'a mut Owned<K, V, H>, (), 
             (entry_guard self.entry) (entry_key self.entry) result) }
     {
         match self {
-            HeldPlace::Occupied(entry) => {
-                let HeldEntry {
+            HeldEntry::Occupied(entry) => {
+                let HeldOccupied {
                     guard,
                     place,
                     rest,
                     of,
                 } = entry;
                 let _old = guard.write_at(place, value);
-                Ok(HeldEntry {
+                Ok(HeldOccupied {
                     guard,
                     place,
                     rest,
                     of,
                 })
             }
-            HeldPlace::Vacant(entry) => {
+            HeldEntry::Vacant(entry) => {
                 let HeldVacant {
                     guard,
                     key,
@@ -153,7 +153,7 @@ impl<'a, K: Eq + Hash, V, H: BuildHasher> HeldPlace<&'a mut Owned<K, V, H>, (), 
                     of: _,
                 } = entry;
                 match guard.insert_new(hash, key, value) {
-                    Ok(place) => Ok(HeldEntry {
+                    Ok(place) => Ok(HeldOccupied {
                         guard,
                         place,
                         rest,

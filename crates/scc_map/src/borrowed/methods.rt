@@ -9,7 +9,7 @@ ghost use Rattle.std.specs.Prelude.{◌≡◌, None, IfSome, IfNone};
 
 use crate::Owned;
 use crate::borrowed::{Entry, OccupiedEntry, ReplaceResult};
-use crate::held::{HeldEntry, HeldPlace, HeldReplace, HeldVacant};
+use crate::held::{HeldEntry, HeldOccupied, HeldReplace, HeldVacant};
 use scc_common::InsertError;
 use scc_contents::Hashes;
 use std::hash::{BuildHasher, Hash};
@@ -26,13 +26,13 @@ impl<K: Eq + Hash, V, H: BuildHasher> Owned<K, V, H> {
     {
         let hash = self.table.hash(&k);
         match self.table.search(hash, &k) {
-            Some(place) => HeldPlace::Occupied(HeldEntry {
+            Some(place) => HeldEntry::Occupied(HeldOccupied {
                 guard: self,
                 place,
                 rest: (),
                 of: PhantomData,
             }),
-            None => HeldPlace::Vacant(HeldVacant {
+            None => HeldEntry::Vacant(HeldVacant {
                 guard: self,
                 key: k,
                 hash,
@@ -53,7 +53,7 @@ impl<K: Eq + Hash, V, H: BuildHasher> Owned<K, V, H> {
     {
         let hash = self.table.hash(k);
         match self.table.search(hash, k) {
-            Some(place) => Some(HeldEntry {
+            Some(place) => Some(HeldOccupied {
                 guard: self,
                 place,
                 rest: (),
@@ -77,7 +77,7 @@ impl<K: Eq + Hash, V, H: BuildHasher> Owned<K, V, H> {
             Some(place) => {
                 let old = self.replace_key_at(place, k);
                 HeldReplace::Replaced(
-                    HeldEntry {
+                    HeldOccupied {
                         guard: self,
                         place,
                         rest: (),
@@ -97,7 +97,7 @@ impl<K: Eq + Hash, V, H: BuildHasher> Owned<K, V, H> {
     }
 }
 
-impl<'a, N, K: Eq + Hash, V, H: BuildHasher> HeldEntry<&'a mut Owned<K, V, H>, N, K, V, H> {
+impl<'a, N, K: Eq + Hash, V, H: BuildHasher> HeldOccupied<&'a mut Owned<K, V, H>, N, K, V, H> {
     /// Removes the pair, and answers its value. The array may become smaller.
     pub fn remove(self) -> V
     where
@@ -143,7 +143,7 @@ impl<'a, K: Eq + Hash, V, H: BuildHasher> HeldVacant<&'a mut Owned<K, V, H>, (),
             of: _,
         } = self;
         match guard.insert_new(hash, key, value) {
-            Ok(place) => Ok(HeldEntry {
+            Ok(place) => Ok(HeldOccupied {
                 guard,
                 place,
                 rest,

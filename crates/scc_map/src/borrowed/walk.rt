@@ -3,13 +3,13 @@ ghost use Rattle.scc_contents.specs.Contents.{entries};
 ghost use Rattle.scc_contents.specs.PairWalks.{PassesAt, PassesNone};
 ghost use Rattle.scc_contents.specs.Walks.{CalledOn, CallableWhile};
 ghost use Rattle.scc_map.specs.Entries.{occupied_pair, occupied_front, occupied_back, rests_if_none};
-ghost use Rattle.scc_map.specs.EntrySteps.{StandsIn, IsNext, RemovesAndSteps, rests_removed};
+ghost use Rattle.scc_map.specs.EntrySteps.{StandsIn, IsNext, RemovesWithNext, rests_removed};
 ghost use Rattle.std.specs.Borrow.{sem};
 ghost use Rattle.std.specs.Prelude.{◌≡◌, [], IfSome, IfNone, false};
 
 use crate::Owned;
 use crate::borrowed::OccupiedEntry;
-use crate::held::HeldEntry;
+use crate::held::HeldOccupied;
 use std::hash::{BuildHasher, Hash};
 use std::marker::PhantomData;
 
@@ -23,7 +23,7 @@ impl<K: Eq + Hash, V, H: BuildHasher> Owned<K, V, H> {
             self.entry result) }
     {
         match self.table.first_place() {
-            Some(place) => Some(HeldEntry {
+            Some(place) => Some(HeldOccupied {
                 guard: self,
                 place,
                 rest: (),
@@ -46,7 +46,7 @@ impl<K: Eq + Hash, V, H: BuildHasher> Owned<K, V, H> {
     {
         let mut p = p;
         match self.first_passing(&mut p) {
-            Some(place) => Some(HeldEntry {
+            Some(place) => Some(HeldOccupied {
                 guard: self,
                 place,
                 rest: (),
@@ -57,7 +57,7 @@ impl<K: Eq + Hash, V, H: BuildHasher> Owned<K, V, H> {
     }
 }
 
-impl<'a, K: Eq + Hash, V, H: BuildHasher> HeldEntry<&'a mut Owned<K, V, H>, (), K, V, H> {
+impl<'a, K: Eq + Hash, V, H: BuildHasher> HeldOccupied<&'a mut Owned<K, V, H>, (), K, V, H> {
     /// The entry that stands next in the map's list, or None where this one is the last. Nothing is resized.
     pub fn next_sync(self) -> Option<OccupiedEntry<'a, K, V, H>>
         ensures next { IfSome result (IsNext self.entry) }
@@ -65,14 +65,14 @@ impl<'a, K: Eq + Hash, V, H: BuildHasher> HeldEntry<&'a mut Owned<K, V, H>, (), 
         ensures* kept { sem 𝓛 (rests_if_none K.row V.row H.row H.Hasher.row K.Hash H.BuildHasher H.Hasher.Hasher
             self.entry.guard result) }
     {
-        let HeldEntry {
+        let HeldOccupied {
             guard,
             place,
             rest,
             of: _,
         } = self;
         match guard.next_place(place) {
-            Some(place) => Some(HeldEntry {
+            Some(place) => Some(HeldOccupied {
                 guard,
                 place,
                 rest,
@@ -85,21 +85,21 @@ impl<'a, K: Eq + Hash, V, H: BuildHasher> HeldEntry<&'a mut Owned<K, V, H>, (), 
     /// Takes out the pair, and answers it with the entry that stood next in the map's list; alone, as an `Err`, where
     /// it was the last. Nothing is resized.
     pub fn remove_and_sync(self) -> Result<((K, V), OccupiedEntry<'a, K, V, H>), (K, V)>
-        ensures removes { RemovesAndSteps K.eq self.entry result }
+        ensures removes { RemovesWithNext K.eq self.entry result }
         ensures* kept { sem 𝓛 (rests_removed K.row V.row H.row H.Hasher.row K.Hash H.BuildHasher H.Hasher.Hasher
             self.entry result) }
     {
-        let HeldEntry {
+        let HeldOccupied {
             guard,
             place,
             rest,
             of: _,
         } = self;
-        let (pair, next) = guard.take_and_step(place);
+        let (pair, next) = guard.take_with_next(place);
         match next {
             Some(place) => Ok((
                 pair,
-                HeldEntry {
+                HeldOccupied {
                     guard,
                     place,
                     rest,

@@ -5,16 +5,22 @@ ghost use Rattle.scc_contents.specs.Pairs.{find, IsUnique};
 ghost use Rattle.scc_contents.specs.Walks.{CalledOn, CallableWhile};
 ghost use Rattle.scc_map.specs.Entries.{entry_guard, occupied_pair, occupied_front, IsOccupiedAt, IsEntryOf, replaced_guard, Replaces};
 ghost use Rattle.scc_map.specs.EntrySteps.{StandsIn};
-ghost use Rattle.scc_map.specs.Seats.{entry_rest, held_rest, replaced_rest};
+ghost use Rattle.scc_map.specs.Seats.{entry_rest, occupied_rest, replaced_rest};
 ghost use Rattle.std.specs.Prelude.{◌≡◌, [], None, false, IfOk, IfErr, IfSome, IfNone};
 
 use crate::Owned;
-use crate::held::{HeldEntry, HeldPlace, HeldReplace, HeldVacant};
+use crate::held::{HeldEntry, HeldOccupied, HeldReplace, HeldVacant};
 use scc_common::Guard;
 use std::hash::{BuildHasher, Hash};
 use std::marker::PhantomData;
 
-impl<G: Guard<Kept = Owned<K, V, H>>, N, K: Eq + Hash, V, H: BuildHasher> HeldPlace<G, N, K, V, H> {
+impl<G: Guard<Inner = Owned<K, V, H>>, N, K: Eq + Hash, V, H: BuildHasher> HeldEntry<
+    G,
+    N,
+    K,
+    V,
+    H,
+> {
     /// The entry of `k` in the map that is held: occupied at the stored pair, or vacant with `k`. It takes no memory
     /// and makes no array.
     pub fn of(guard: G, k: K, rest: N) -> Self
@@ -22,18 +28,18 @@ impl<G: Guard<Kept = Owned<K, V, H>>, N, K: Eq + Hash, V, H: BuildHasher> HeldPl
         K: Drop,
         ensures guard { entry_guard result ≡ guard }
         ensures rest { entry_rest result ≡ rest }
-        ensures entry { IsEntryOf K.eq (G.kept guard) k result }
-        ensures unique { IsUnique K.eq (G.kept guard) }
+        ensures entry { IsEntryOf K.eq (G.inner guard) k result }
+        ensures unique { IsUnique K.eq (G.inner guard) }
     {
         let hash = guard.look().hash_of(&k);
         match guard.look().place_of(hash, &k) {
-            Some(place) => HeldPlace::Occupied(HeldEntry {
+            Some(place) => HeldEntry::Occupied(HeldOccupied {
                 guard,
                 place,
                 rest,
                 of: PhantomData,
             }),
-            None => HeldPlace::Vacant(HeldVacant {
+            None => HeldEntry::Vacant(HeldVacant {
                 guard,
                 key: k,
                 hash,
@@ -44,21 +50,27 @@ impl<G: Guard<Kept = Owned<K, V, H>>, N, K: Eq + Hash, V, H: BuildHasher> HeldPl
     }
 }
 
-impl<G: Guard<Kept = Owned<K, V, H>>, N, K: Eq + Hash, V, H: BuildHasher> HeldEntry<G, N, K, V, H> {
+impl<G: Guard<Inner = Owned<K, V, H>>, N, K: Eq + Hash, V, H: BuildHasher> HeldOccupied<
+    G,
+    N,
+    K,
+    V,
+    H,
+> {
     /// The occupied entry of `k`, or None where no key equals it; then the map is let go.
     pub fn of(guard: G, k: &K, rest: N) -> Option<Self>
     where
         G: Drop,
         N: Drop,
         ensures guard { IfSome result (λ o. o.guard ≡ guard) }
-        ensures rest { IfSome result (λ o. held_rest o ≡ rest) }
-        ensures entry { IfSome result (IsOccupiedAt K.eq (G.kept guard) k.now) }
-        ensures missing { IfNone result (find K.eq (entries (G.kept guard)) k.now ≡ None) }
-        ensures unique { IsUnique K.eq (G.kept guard) }
+        ensures rest { IfSome result (λ o. occupied_rest o ≡ rest) }
+        ensures entry { IfSome result (IsOccupiedAt K.eq (G.inner guard) k.now) }
+        ensures missing { IfNone result (find K.eq (entries (G.inner guard)) k.now ≡ None) }
+        ensures unique { IsUnique K.eq (G.inner guard) }
     {
         let hash = guard.look().hash_of(k);
         match guard.look().place_of(hash, k) {
-            Some(place) => Some(HeldEntry {
+            Some(place) => Some(HeldOccupied {
                 guard,
                 place,
                 rest,
@@ -74,12 +86,12 @@ impl<G: Guard<Kept = Owned<K, V, H>>, N, K: Eq + Hash, V, H: BuildHasher> HeldEn
     where
         G: Drop,
         ensures guard { IfOk result (λ o. o.guard ≡ guard) }
-        ensures rest { IfOk result (λ o. held_rest o ≡ rest) }
-        ensures first { IfOk result (λ o. StandsIn (G.kept guard) o × (occupied_front o ≡ [])) }
-        ensures empty { IfErr result (λ n. (n ≡ rest) × (entries (G.kept guard) ≡ [])) }
+        ensures rest { IfOk result (λ o. occupied_rest o ≡ rest) }
+        ensures first { IfOk result (λ o. StandsIn (G.inner guard) o × (occupied_front o ≡ [])) }
+        ensures empty { IfErr result (λ n. (n ≡ rest) × (entries (G.inner guard) ≡ [])) }
     {
         match guard.look().first_place() {
-            Some(place) => Ok(HeldEntry {
+            Some(place) => Ok(HeldOccupied {
                 guard,
                 place,
                 rest,
@@ -94,15 +106,15 @@ impl<G: Guard<Kept = Owned<K, V, H>>, N, K: Eq + Hash, V, H: BuildHasher> HeldEn
     pub fn passing<P: FnMut(&K, &V) -> bool>(guard: G, p: &mut P, rest: N) -> Result<Self, N>
     where
         G: Drop,
-        requires { CallableWhile P.FnMut false p.old (entries (G.kept guard)) }
-        ensures rest { IfOk result (λ o. held_rest o ≡ rest) }
-        ensures here { IfOk result (StandsIn (G.kept guard)) }
+        requires { CallableWhile P.FnMut false p.old (entries (G.inner guard)) }
+        ensures rest { IfOk result (λ o. occupied_rest o ≡ rest) }
+        ensures here { IfOk result (StandsIn (G.inner guard)) }
         ensures first { IfOk result (λ o. PassesAt (CalledOn P.FnMut) p.old (occupied_front o) (occupied_pair o)) }
         ensures none { IfErr result (λ n. (n ≡ rest)
-            × Declines (CalledOn P.FnMut) p.old (entries (G.kept guard)) p.new) }
+            × Declines (CalledOn P.FnMut) p.old (entries (G.inner guard)) p.new) }
     {
         match guard.look().first_passing(p) {
-            Some(place) => Ok(HeldEntry {
+            Some(place) => Ok(HeldOccupied {
                 guard,
                 place,
                 rest,
@@ -113,7 +125,7 @@ impl<G: Guard<Kept = Owned<K, V, H>>, N, K: Eq + Hash, V, H: BuildHasher> HeldEn
     }
 }
 
-impl<G: Guard<Kept = Owned<K, V, H>>, N, K: Eq + Hash, V, H: BuildHasher> HeldReplace<
+impl<G: Guard<Inner = Owned<K, V, H>>, N, K: Eq + Hash, V, H: BuildHasher> HeldReplace<
     G,
     N,
     K,
@@ -124,10 +136,10 @@ impl<G: Guard<Kept = Owned<K, V, H>>, N, K: Eq + Hash, V, H: BuildHasher> HeldRe
     /// `k`.
     pub fn of(guard: G, k: K, rest: N) -> Self
         ensures rest { replaced_rest result ≡ rest }
-        ensures step { Replaces K.eq (G.kept guard) k result }
-        ensures noted { refused_of (G.kept (replaced_guard result)) ≡ refused_of (G.kept guard) }
-        ensures waiting { waiting_of (G.kept (replaced_guard result)) ≡ waiting_of (G.kept guard) }
-        ensures unique { IsUnique K.eq (G.kept (replaced_guard result)) }
+        ensures step { Replaces K.eq (G.inner guard) k result }
+        ensures noted { refused_of (G.inner (replaced_guard result)) ≡ refused_of (G.inner guard) }
+        ensures waiting { waiting_of (G.inner (replaced_guard result)) ≡ waiting_of (G.inner guard) }
+        ensures unique { IsUnique K.eq (G.inner (replaced_guard result)) }
     {
         let mut guard = guard;
         let hash = guard.look().hash_of(&k);
@@ -135,7 +147,7 @@ impl<G: Guard<Kept = Owned<K, V, H>>, N, K: Eq + Hash, V, H: BuildHasher> HeldRe
             Some(place) => {
                 let old = guard.lend().replace_key_at(place, k);
                 HeldReplace::Replaced(
-                    HeldEntry {
+                    HeldOccupied {
                         guard,
                         place,
                         rest,

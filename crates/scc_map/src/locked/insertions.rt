@@ -4,7 +4,7 @@ ghost use Rattle.std.specs.Fn.{FnOnceTakesAt, FnOnceReturnsAt};
 ghost use Rattle.std.specs.Prelude.{◌≡◌};
 
 use crate::Owned;
-use crate::held::HeldPlace;
+use crate::held::HeldEntry;
 use crate::locked::OccupiedEntry;
 use scc_common::{InsertError, Shared};
 use scc_contents::Hashes;
@@ -12,7 +12,7 @@ use scc_stripes::Seat;
 use std::hash::{BuildHasher, Hash};
 use std::sync::RwLockWriteGuard;
 
-impl<'a, K: Eq + Hash, V, H: BuildHasher> HeldPlace<
+impl<'a, K: Eq + Hash, V, H: BuildHasher> HeldEntry<
     RwLockWriteGuard<'a, Owned<K, V, Shared<H>>>,
     Seat<'a, Owned<K, V, Shared<H>>, H>,
     K,
@@ -64,11 +64,11 @@ impl<'a, K: Eq + Hash, V, H: BuildHasher> HeldPlace<
             (RefusesSome self.entry (FnOnceReturnsAt F.FnOnce f)) result }
     {
         match self {
-            HeldPlace::Occupied(entry) => {
+            HeldEntry::Occupied(entry) => {
                 entry.look_at_map();
                 Ok(entry)
             }
-            HeldPlace::Vacant(entry) => {
+            HeldEntry::Vacant(entry) => {
                 let value = f(entry.key());
                 entry.insert_entry(value)
             }
@@ -98,12 +98,12 @@ impl<'a, K: Eq + Hash, V, H: BuildHasher> HeldPlace<
             (SetsEntry self.entry value) (Refuses self.entry value) result }
     {
         match self {
-            HeldPlace::Occupied(entry) => {
+            HeldEntry::Occupied(entry) => {
                 let mut entry = entry;
                 let _old = entry.insert(value);
                 Ok(entry)
             }
-            HeldPlace::Vacant(entry) => entry.insert_entry(value),
+            HeldEntry::Vacant(entry) => entry.insert_entry(value),
         }
     }
 }

@@ -3,7 +3,7 @@ ghost use Rattle.scc_map.specs.Entries.{occupied_pair, InsertsAtVacant};
 ghost use Rattle.std.specs.Prelude.{◌≡◌};
 
 use crate::Owned;
-use crate::held::{HeldEntry, HeldVacant};
+use crate::held::{HeldOccupied, HeldVacant};
 use crate::locked::OccupiedEntry;
 use scc_common::{InsertError, Shared};
 use scc_contents::Hashes;
@@ -12,7 +12,7 @@ use std::hash::{BuildHasher, Hash};
 use std::marker::PhantomData;
 use std::sync::RwLockWriteGuard;
 
-impl<'a, K: Eq + Hash, V, H: BuildHasher> HeldEntry<
+impl<'a, K: Eq + Hash, V, H: BuildHasher> HeldOccupied<
     RwLockWriteGuard<'a, Owned<K, V, Shared<H>>>,
     Seat<'a, Owned<K, V, Shared<H>>, H>,
     K,
@@ -33,7 +33,7 @@ impl<'a, K: Eq + Hash, V, H: BuildHasher> HeldEntry<
     pub fn remove_entry(self) -> (K, V)
         ensures pair { result ≡ occupied_pair self.entry }
     {
-        let HeldEntry {
+        let HeldOccupied {
             mut guard,
             place,
             rest,
@@ -79,7 +79,7 @@ impl<'a, K: Eq + Hash, V, H: BuildHasher> HeldVacant<
             of: _,
         } = self;
         match guard.insert_new(hash, key, value) {
-            Ok(place) => Ok(HeldEntry {
+            Ok(place) => Ok(HeldOccupied {
                 guard,
                 place,
                 rest,

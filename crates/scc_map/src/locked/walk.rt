@@ -1,13 +1,13 @@
 //! From entry to entry, inside a stripe and on to later ones. The lock of a stripe is let go before the next one is
 //! taken.
-ghost use Rattle.scc_map.specs.Entries.{held_map, occupied_pair, occupied_front, occupied_back};
+ghost use Rattle.scc_map.specs.Entries.{occupied_map, occupied_pair, occupied_front, occupied_back};
 ghost use Rattle.scc_map.specs.EntrySteps.{StandsIn, IsNext, IsNextPastRemoved};
-ghost use Rattle.scc_map.specs.Seats.{held_rest, HoldsLater, KeepsRest};
+ghost use Rattle.scc_map.specs.Seats.{occupied_rest, HasLaterSeat, HasSameRest};
 ghost use Rattle.scc_stripes.specs.Seats.{IsLaterSeat};
 ghost use Rattle.std.specs.Prelude.{◌≡◌, [], IfSome, IsSomeAnd};
 
 use crate::Owned;
-use crate::held::HeldEntry;
+use crate::held::HeldOccupied;
 use crate::locked::OccupiedEntry;
 use scc_common::Shared;
 use scc_stripes::Seat;
@@ -20,13 +20,13 @@ pub fn first_later<'a, K: Eq + Hash, V, H: BuildHasher>(
     rt: &impl Wait,
     seat: Seat<'a, Owned<K, V, Shared<H>>, H>,
 ) -> Option<OccupiedEntry<'a, K, V, H>>
-    ensures first { IfSome result (λ n. StandsIn (held_map n) n × (occupied_front n ≡ [])) }
-    ensures seat { IfSome result (λ n. IsLaterSeat seat.entry (held_rest n)) }
+    ensures first { IfSome result (λ n. StandsIn (occupied_map n) n × (occupied_front n ≡ [])) }
+    ensures seat { IfSome result (λ n. IsLaterSeat seat.entry (occupied_rest n)) }
 {
     let mut seat = seat;
     for _ in 0..16u8 {
         let (guard, here) = seat.later(rt)?;
-        match HeldEntry::first(guard, here) {
+        match HeldOccupied::first(guard, here) {
             Ok(entry) => return Some(entry),
             Err(here) => seat = here,
         }
@@ -34,7 +34,7 @@ pub fn first_later<'a, K: Eq + Hash, V, H: BuildHasher>(
     None
 }
 
-impl<'a, K: Eq + Hash, V, H: BuildHasher> HeldEntry<
+impl<'a, K: Eq + Hash, V, H: BuildHasher> HeldOccupied<
     RwLockWriteGuard<'a, Owned<K, V, Shared<H>>>,
     Seat<'a, Owned<K, V, Shared<H>>, H>,
     K,
@@ -46,18 +46,18 @@ impl<'a, K: Eq + Hash, V, H: BuildHasher> HeldEntry<
     pub fn next_sync(self, rt: &impl Wait) -> Option<OccupiedEntry<'a, K, V, H>>
         ensures next { (occupied_back self.entry ≡ [] → ⊥) → IsSomeAnd result (IsNext self.entry) }
         ensures later { occupied_back self.entry ≡ []
-            → IfSome result (λ n. StandsIn (held_map n) n × (occupied_front n ≡ [])) }
-        ensures stays { (occupied_back self.entry ≡ [] → ⊥) → IfSome result (KeepsRest self.entry) }
-        ensures goes_on { occupied_back self.entry ≡ [] → IfSome result (HoldsLater self.entry) }
+            → IfSome result (λ n. StandsIn (occupied_map n) n × (occupied_front n ≡ [])) }
+        ensures stays { (occupied_back self.entry ≡ [] → ⊥) → IfSome result (HasSameRest self.entry) }
+        ensures goes_on { occupied_back self.entry ≡ [] → IfSome result (HasLaterSeat self.entry) }
     {
-        let HeldEntry {
+        let HeldOccupied {
             guard,
             place,
             rest,
             of: _,
         } = self;
         match guard.next_place(place) {
-            Some(place) => Some(HeldEntry {
+            Some(place) => Some(HeldOccupied {
                 guard,
                 place,
                 rest,
@@ -76,21 +76,21 @@ impl<'a, K: Eq + Hash, V, H: BuildHasher> HeldEntry<
         ensures pair { result.0 ≡ occupied_pair self.entry }
         ensures next { (occupied_back self.entry ≡ [] → ⊥) → IsSomeAnd result.1 (IsNextPastRemoved self.entry) }
         ensures later { occupied_back self.entry ≡ []
-            → IfSome result.1 (λ n. StandsIn (held_map n) n × (occupied_front n ≡ [])) }
-        ensures stays { (occupied_back self.entry ≡ [] → ⊥) → IfSome result.1 (KeepsRest self.entry) }
-        ensures goes_on { occupied_back self.entry ≡ [] → IfSome result.1 (HoldsLater self.entry) }
+            → IfSome result.1 (λ n. StandsIn (occupied_map n) n × (occupied_front n ≡ [])) }
+        ensures stays { (occupied_back self.entry ≡ [] → ⊥) → IfSome result.1 (HasSameRest self.entry) }
+        ensures goes_on { occupied_back self.entry ≡ [] → IfSome result.1 (HasLaterSeat self.entry) }
     {
-        let HeldEntry {
+        let HeldOccupied {
             mut guard,
             place,
             rest,
             of: _,
         } = self;
-        let (pair, next) = guard.take_and_step(place);
+        let (pair, next) = guard.take_with_next(place);
         match next {
             Some(place) => (
                 pair,
-                Some(HeldEntry {
+                Some(HeldOccupied {
                     guard,
                     place,
                     rest,

@@ -3,7 +3,7 @@ ghost use Rattle.scc_contents.specs.Contents.{entries};
 ghost use Rattle.scc_contents.specs.PairWalks.{Declines, PassesFirst};
 ghost use Rattle.scc_contents.specs.Pairs.{IsUnique};
 ghost use Rattle.scc_contents.specs.Walks.{CalledOn, CallableWhile, Walks};
-ghost use Rattle.scc_map.specs.Shrinking.{TakesAndStepsByRule};
+ghost use Rattle.scc_map.specs.Shrinking.{TakesWithNextByRule};
 ghost use Rattle.scc_table.specs.Places.{IsPlace, index_of, StandsAt};
 ghost use Rattle.std.specs.Prelude.{◌≡◌, [], suc, length, Some, MatchOption, false, true};
 
@@ -29,11 +29,11 @@ impl<K: Eq + Hash, V, H: BuildHasher> Owned<K, V, H> {
     }
 
     /// Takes the pair out of its place, with no resize, and answers it with the place of the pair that followed.
-    pub fn take_and_step(&mut self, place: Place) -> ((K, V), Option<Place>)
+    pub fn take_with_next(&mut self, place: Place) -> ((K, V), Option<Place>)
         requires { IsPlace self.old place }
-        ensures { TakesAndStepsByRule (IsUnique K.eq) self.old place result self.new }
+        ensures { TakesWithNextByRule (IsUnique K.eq) self.old place result self.new }
     {
-        self.table.take_and_step(place)
+        self.table.take_with_next(place)
     }
 
     /// The place of the first pair on which `p` answers true. It is called on the pairs in their order, up to that one.

@@ -118,7 +118,7 @@ impl<K: Eq + Hash, V, H: BuildHasher> Owned<K, V, H> {
         requires room { length (L.pairs taken.old) < L.capacity taken.old }
         ensures { TakesIntoByRule L.pairs L.capacity self.old place taken.old result self.new taken.new }
     {
-        let (pair, next) = self.take_and_step(place);
+        let (pair, next) = self.take_with_next(place);
         taken.push_pair(pair);
         next
     }

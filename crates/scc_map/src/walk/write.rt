@@ -35,7 +35,7 @@ impl<K: Eq + Hash, V, H: BuildHasher> Owned<K, V, H> {
     {
         let mut at = self.table.first_place();
         while let Some(place) = at {
-            let (_pair, next) = self.take_and_step(place);
+            let (_pair, next) = self.take_with_next(place);
             at = next;
         }
     }
@@ -88,7 +88,7 @@ impl<K: Eq + Hash, V, H: BuildHasher> Owned<K, V, H> {
             if self.visit(place, f) {
                 at = self.next_place(place);
             } else {
-                let (_pair, next) = self.take_and_step(place);
+                let (_pair, next) = self.take_with_next(place);
                 at = next;
             }
         }

@@ -1,7 +1,7 @@
 //! What a put would have to make first, made before it.
 ghost use Rattle.scc_buckets.specs.Bounded.{IsListed};
 ghost use Rattle.scc_contents.specs.Contents.{bucket_count, key_hash};
-ghost use Rattle.scc_table.specs.Growths.{DropsRoomWithin, MakesRoomWithin};
+ghost use Rattle.scc_table.specs.Growths.{DropsMarkWithin, PreparesWithin};
 ghost use Rattle.std.specs.Prelude.{◌≤◌, ◌<◌, ◌^◌, false};
 
 use crate::Table;
@@ -16,15 +16,15 @@ where
     /// Makes what a put of a new key of that hash wants, with no entry moved: the first array, or a doubling as
     /// `bucket_within` makes it. A doubling that is refused is marked, so that the put doesn't try it again. Fails only
     /// where the first array is refused.
-    pub fn make_room_within(&mut self, hash: u64, most: usize) -> Result<(), AllocError>
+    pub fn prepare_within(&mut self, hash: u64, most: usize) -> Result<(), AllocError>
         requires listed { IsListed (λ e. key_hash H.BuildHasher H.Hasher.Hasher E.Key.hash_input self.old
             (E.key_of e)) self.old }
         requires most { most ≤ 2 ^ 63 }
-        ensures { MakesRoomWithin E.Key.eq E.key_of (key_hash H.BuildHasher H.Hasher.Hasher E.Key.hash_input) most
+        ensures { PreparesWithin E.Key.eq E.key_of (key_hash H.BuildHasher H.Hasher.Hasher E.Key.hash_input) most
             self.old hash result self.new }
     {
         if self.bucket_count() == 0 {
-            self.make_array()?;
+            self.install_first()?;
             return Ok(());
         }
         let bucket = self.bucket_at(hash);
@@ -39,14 +39,14 @@ where
 
     /// Takes the mark of a refused doubling away, so that the next put tries a doubling that is due.
     #[inline(always)]
-    pub fn drop_room_within(&mut self)
+    pub fn drop_mark_within(&mut self)
         requires { IsListed (λ e. key_hash H.BuildHasher H.Hasher.Hasher E.Key.hash_input self.old (E.key_of e))
             self.old }
-        ensures { DropsRoomWithin E.Key.eq E.key_of (key_hash H.BuildHasher H.Hasher.Hasher E.Key.hash_input)
+        ensures { DropsMarkWithin E.Key.eq E.key_of (key_hash H.BuildHasher H.Hasher.Hasher E.Key.hash_input)
             self.old self.new }
     {
-        self.keep_lists();
-        if self.is_tried() {
+        self.list_facts();
+        if self.is_marked() {
             let refused = self.is_resize_refused();
             self.mark(refused, false);
         }

@@ -18,19 +18,19 @@ where
 {
     /// Moves the entries of a bucket that waits to it, in their order. It takes no memory.
     #[cold]
-    pub fn settle(&mut self, bucket: usize)
+    pub fn relocate_within(&mut self, bucket: usize)
         requires waits { IsWaiting self.old bucket }
         requires listed { IsListed (λ e. key_hash H.BuildHasher H.Hasher.Hasher E.Key.hash_input self.old
             (E.key_of e)) self.old }
         ensures moved { IsRelocated bucket self.old self.new }
         ensures listed { IsListed (λ e. key_hash H.BuildHasher H.Hasher.Hasher E.Key.hash_input self.new (E.key_of e))
             self.new }
-        ensures settled { waits_at (waiting_of self.new) bucket ≡ false }
+        ensures not_waiting { waits_at (waiting_of self.new) bucket ≡ false }
         ensures targets { pending_targets self.new ≡ filter (λ t. not (t == bucket)) (pending_targets self.old) }
         ensures unique { IsUniqueBy E.Key.eq E.key_of self.new }
     {
         match self.relocate(bucket) {
-            Ok(()) => self.keep_lists(),
+            Ok(()) => self.list_facts(),
             Err(_) => unreachable!(),
         }
     }
@@ -50,14 +50,14 @@ where
             bucket entry (left_after bucket (pending_targets self.old)) 2 result self.new }
     {
         if self.is_waiting(bucket) {
-            return self.put_waiting(bucket, hash, entry);
+            return self.put_after_relocation(bucket, hash, entry);
         }
-        self.put_settled(bucket, hash, entry, 2)
+        self.put_then_relocate(bucket, hash, entry, 2)
     }
 
     /// The same where the bucket waits.
     #[cold]
-    fn put_waiting(&mut self, bucket: usize, hash: u64, entry: E) -> Option<E>
+    fn put_after_relocation(&mut self, bucket: usize, hash: u64, entry: E) -> Option<E>
         requires within { bucket < bucket_count self.old }
         requires waits { IsWaiting self.old bucket }
         requires routed { bucket ≡ bucket_number (settings_of self.old).skipped (bucket_count self.old) hash }
@@ -68,15 +68,15 @@ where
         ensures { PutsWithin E.Key.eq E.key_of (key_hash H.BuildHasher H.Hasher.Hasher E.Key.hash_input) self.old
             bucket entry (left_after bucket (pending_targets self.old)) 2 result self.new }
     {
-        self.settle(bucket);
-        self.put_settled(bucket, hash, entry, 1)
+        self.relocate_within(bucket);
+        self.put_then_relocate(bucket, hash, entry, 1)
     }
 
     /// The same where the bucket doesn't wait, and so many others take their entries over afterwards.
     #[inline(always)]
-    fn put_settled(&mut self, bucket: usize, hash: u64, entry: E, most: usize) -> Option<E>
+    fn put_then_relocate(&mut self, bucket: usize, hash: u64, entry: E, most: usize) -> Option<E>
         requires within { bucket < bucket_count self.old }
-        requires settled { waits_at (waiting_of self.old) bucket ≡ false }
+        requires not_waiting { waits_at (waiting_of self.old) bucket ≡ false }
         requires routed { bucket ≡ bucket_number (settings_of self.old).skipped (bucket_count self.old) hash }
         requires hashed { hash ≡ key_hash H.BuildHasher H.Hasher.Hasher E.Key.hash_input self.old (E.key_of entry) }
         requires absent { position (λ e. E.Key.eq (E.key_of entry) (E.key_of e)) (entries self.old) ≡ None }
@@ -95,7 +95,7 @@ where
     #[inline(always)]
     pub fn put_last(&mut self, bucket: usize, hash: u64, entry: E) -> Option<E>
         requires within { bucket < bucket_count self.old }
-        requires settled { IsWaiting self.old bucket → ⊥ }
+        requires not_waiting { IsWaiting self.old bucket → ⊥ }
         requires routed { bucket ≡ bucket_number (settings_of self.old).skipped (bucket_count self.old) hash }
         requires hashed { hash ≡ key_hash H.BuildHasher H.Hasher.Hasher E.Key.hash_input self.old (E.key_of entry) }
         requires absent { position (λ e. E.Key.eq (E.key_of entry) (E.key_of e)) (entries self.old) ≡ None }
@@ -103,7 +103,7 @@ where
         ensures { PutsAtEnd E.Key.eq E.key_of (key_hash H.BuildHasher H.Hasher.Hasher E.Key.hash_input) self.old
             bucket entry result self.new }
     {
-        self.current.keep_lists();
+        self.current.list_facts();
         self.current.put_last(bucket, hash, entry)
     }
 
@@ -111,7 +111,7 @@ where
     #[inline(always)]
     pub fn touch(&mut self, bucket: usize, slot: usize, hash: u64)
         requires within { bucket < bucket_count self.old }
-        requires settled { IsWaiting self.old bucket → ⊥ }
+        requires not_waiting { IsWaiting self.old bucket → ⊥ }
         requires slot { slot < length (list_of self.old bucket) }
         requires routed { bucket ≡ bucket_number (settings_of self.old).skipped (bucket_count self.old) hash }
         requires bounded { IsBounded self.old }

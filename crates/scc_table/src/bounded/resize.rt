@@ -1,8 +1,8 @@
 //! Arrays that grow and shrink so that no list gets longer than 32.
-ghost use Rattle.scc_buckets.specs.Bounded.{IsListed, MayNarrow, ShrinksBounded};
+ghost use Rattle.scc_buckets.specs.Bounded.{IsListed, MayShrinkWithin, ShrinksBounded};
 ghost use Rattle.scc_buckets.specs.Pour.{bound_for};
 ghost use Rattle.scc_contents.specs.Contents.{entries, bucket_count, key_hash, settings_of, IsUniqueBy};
-ghost use Rattle.scc_contents.specs.Sizes.{IsArray};
+ghost use Rattle.scc_contents.specs.Sizes.{IsBucketCount};
 ghost use Rattle.scc_table.specs.Growths.{DoublesWithin, FindsBucketWithin};
 ghost use Rattle.scc_table.specs.Relocates.{Spreads};
 ghost use Rattle.std.specs.List.Sorted.{IsPermutation};
@@ -31,7 +31,7 @@ where
             most self.old hash result self.new }
     {
         if self.bucket_count() == 0 {
-            self.make_array()?;
+            self.install_first()?;
             return Ok(self.bucket_at(hash));
         }
         let bucket = self.bucket_at(hash);
@@ -59,13 +59,13 @@ where
         if self.pending() > 0 || length < 16 * count || 32 * count >= most {
             return false;
         }
-        if self.is_tried() {
+        if self.is_marked() {
             self.note(true);
             return true;
         }
-        match self.start(2 * count) {
+        match self.install_fresh(2 * count) {
             Ok(()) => {
-                self.keep_lists();
+                self.list_facts();
                 false
             }
             Err(_) => true,
@@ -85,7 +85,7 @@ where
         ensures listed { IsListed (λ e. key_hash H.BuildHasher H.Hasher.Hasher E.Key.hash_input self.new (E.key_of e))
             self.new }
         ensures same { IsPermutation (entries self.old) (entries self.new) }
-        ensures spreads { Spreads ((n : ℕ) × MayNarrow
+        ensures spreads { Spreads ((n : ℕ) × MayShrinkWithin
             (λ e. key_hash H.BuildHasher H.Hasher.Hasher E.Key.hash_input self.old (E.key_of e)) self.old n) self.old
             self.new }
         ensures unique { IsUniqueBy E.Key.eq E.key_of self.new }
@@ -95,12 +95,12 @@ where
         if present <= 2 || length > 4 * present {
             return;
         }
-        self.narrow();
+        self.shrink_sparse_within();
     }
 
     /// The same where so few entries are held.
     #[cold]
-    fn narrow(&mut self)
+    fn shrink_sparse_within(&mut self)
         requires listed { IsListed (λ e. key_hash H.BuildHasher H.Hasher.Hasher E.Key.hash_input self.old
             (E.key_of e)) self.old }
         requires few { length (entries self.old) ≤ 4 * bucket_count self.old }
@@ -109,7 +109,7 @@ where
         ensures listed { IsListed (λ e. key_hash H.BuildHasher H.Hasher.Hasher E.Key.hash_input self.new (E.key_of e))
             self.new }
         ensures same { IsPermutation (entries self.old) (entries self.new) }
-        ensures spreads { Spreads ((n : ℕ) × MayNarrow
+        ensures spreads { Spreads ((n : ℕ) × MayShrinkWithin
             (λ e. key_hash H.BuildHasher H.Hasher.Hasher E.Key.hash_input self.old (E.key_of e)) self.old n) self.old
             self.new }
         ensures unique { IsUniqueBy E.Key.eq E.key_of self.new }
@@ -123,14 +123,14 @@ where
             return;
         }
         match self.resize_to(count) {
-            Ok(()) => self.keep_lists(),
+            Ok(()) => self.list_facts(),
             Err(_) => {}
         }
     }
 
     /// Whether each of so many buckets, fewer than there are, would get at most 32 entries.
     fn is_short_in(&self, count: usize) -> bool
-        requires array { IsArray count }
+        requires array { IsBucketCount count }
         requires fewer { count < bucket_count self.now }
         requires listed { IsListed (λ e. key_hash H.BuildHasher H.Hasher.Hasher E.Key.hash_input self.now
             (E.key_of e)) self.now }

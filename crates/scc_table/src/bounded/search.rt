@@ -20,13 +20,13 @@ where
     #[inline(always)]
     pub fn search_in(&self, bucket: usize, hash: u64, key: &E::Key) -> Option<usize>
         requires within { bucket < bucket_count self.now }
-        requires settled { IsWaiting self.now bucket → ⊥ }
+        requires not_waiting { IsWaiting self.now bucket → ⊥ }
         requires routed { bucket ≡ bucket_number (settings_of self.now).skipped (bucket_count self.now) hash }
         requires hashed { hash ≡ key_hash H.BuildHasher H.Hasher.Hasher E.Key.hash_input self.now key.now }
         ensures place { result ≡ position (λ e. E.Key.eq key.now (E.key_of e)) (list_of self.now bucket) }
         ensures missed { result ≡ None → position (λ e. E.Key.eq key.now (E.key_of e)) (entries self.now) ≡ None }
     {
-        self.current.keep_lists();
+        self.current.list_facts();
         self.current.search_in(bucket, hash, key)
     }
 

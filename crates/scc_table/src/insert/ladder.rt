@@ -1,8 +1,8 @@
 //! The insertion of an entry whose key is new, from the look for a growth down to the bucket.
 ghost use Rattle.scc_contents.specs.Contents.{entries, bucket_count, key_hash, settings_of, waiting_of, HasRoomBy};
 ghost use Rattle.scc_contents.specs.Routing.{bucket_number};
-ghost use Rattle.scc_table.specs.Insertions.{InsertsAt, InsertsInto, InsertsNew};
-ghost use Rattle.scc_table.specs.Puts.{PutsInto};
+ghost use Rattle.scc_table.specs.Insertions.{InsertsAndRelocates, InsertsThenRelocates, InsertsNew};
+ghost use Rattle.scc_table.specs.Puts.{InsertsIn};
 ghost use Rattle.scc_table.specs.TwoArrays.{IsWaiting, pending_targets, waits_at};
 ghost use Rattle.std.specs.List.{position};
 ghost use Rattle.std.specs.Prelude.{◌≡◌, ◌<◌, ◌+◌, false, None};
@@ -33,21 +33,21 @@ where
         if self.draining.pending == 0 && self.bucket_count() > 0 {
             let bucket = self.bucket_at(hash);
             if self.list_len(bucket) < 32 {
-                return self.insert_at(bucket, hash, entry);
+                return self.insert_and_relocate(bucket, hash, entry);
             }
         }
-        self.insert_making_room(hash, entry)
+        self.insert_after_growth(hash, entry)
     }
 
     /// The same, with a look whether the array has to be made or to grow.
-    pub(crate) fn insert_making_room(&mut self, hash: u64, entry: E) -> Result<Place, E>
+    pub(crate) fn insert_after_growth(&mut self, hash: u64, entry: E) -> Result<Place, E>
         requires hashed { hash ≡ key_hash H.BuildHasher H.Hasher.Hasher E.Key.hash_input self.old (E.key_of entry) }
         requires absent { position (λ e. E.Key.eq (E.key_of entry) (E.key_of e)) (entries self.old) ≡ None }
         ensures { InsertsNew E.Key.eq E.key_of (key_hash H.BuildHasher H.Hasher.Hasher E.Key.hash_input self.old)
             self.old hash entry result self.new }
     {
         match self.bucket_for_new(hash) {
-            Ok(bucket) => self.insert_at(bucket, hash, entry),
+            Ok(bucket) => self.insert_and_relocate(bucket, hash, entry),
             Err(_) => Err(entry),
         }
     }
@@ -56,43 +56,53 @@ where
     /// bucket waits, it takes its entries over first, and then the first ones that wait, two in all. The entry is
     /// handed back where memory for its own bucket is refused.
     #[inline(always)]
-    pub(crate) fn insert_at(&mut self, bucket: usize, hash: u64, entry: E) -> Result<Place, E>
+    pub(crate) fn insert_and_relocate(
+        &mut self,
+        bucket: usize,
+        hash: u64,
+        entry: E,
+    ) -> Result<Place, E>
         requires within { bucket < bucket_count self.old }
         requires routed { bucket ≡ bucket_number (settings_of self.old).skipped (bucket_count self.old) hash }
         requires hashed { hash ≡ key_hash H.BuildHasher H.Hasher.Hasher E.Key.hash_input self.old (E.key_of entry) }
         requires absent { position (λ e. E.Key.eq (E.key_of entry) (E.key_of e)) (entries self.old) ≡ None }
-        ensures { InsertsAt E.Key.eq E.key_of self.old bucket entry entry
+        ensures { InsertsAndRelocates E.Key.eq E.key_of self.old bucket entry entry
             (HasRoomBy (key_hash H.BuildHasher H.Hasher.Hasher E.Key.hash_input self.old) E.key_of self.old
             (E.key_of entry) → ⊥) result self.new }
     {
         if self.is_waiting(bucket) {
-            return self.insert_waiting(bucket, hash, entry);
+            return self.insert_after_relocation(bucket, hash, entry);
         }
-        self.insert_settled(bucket, hash, entry, 2)
+        self.insert_then_relocate(bucket, hash, entry, 2)
     }
 
     /// The same where the bucket waits.
     #[cold]
-    pub(crate) fn insert_waiting(&mut self, bucket: usize, hash: u64, entry: E) -> Result<Place, E>
+    pub(crate) fn insert_after_relocation(
+        &mut self,
+        bucket: usize,
+        hash: u64,
+        entry: E,
+    ) -> Result<Place, E>
         requires within { bucket < bucket_count self.old }
         requires routed { bucket ≡ bucket_number (settings_of self.old).skipped (bucket_count self.old) hash }
         requires hashed { hash ≡ key_hash H.BuildHasher H.Hasher.Hasher E.Key.hash_input self.old (E.key_of entry) }
         requires absent { position (λ e. E.Key.eq (E.key_of entry) (E.key_of e)) (entries self.old) ≡ None }
         requires waits { IsWaiting self.old bucket }
-        ensures { InsertsAt E.Key.eq E.key_of self.old bucket entry entry
+        ensures { InsertsAndRelocates E.Key.eq E.key_of self.old bucket entry entry
             (HasRoomBy (key_hash H.BuildHasher H.Hasher.Hasher E.Key.hash_input self.old) E.key_of self.old
             (E.key_of entry) → ⊥) result self.new }
     {
-        self.keep_lists();
+        self.list_facts();
         match self.relocate(bucket) {
-            Ok(()) => self.insert_settled(bucket, hash, entry, 1),
+            Ok(()) => self.insert_then_relocate(bucket, hash, entry, 1),
             Err(_) => Err(entry),
         }
     }
 
     /// The same where the bucket doesn't wait, and so many others take their entries over afterwards.
     #[inline(always)]
-    pub(crate) fn insert_settled(
+    pub(crate) fn insert_then_relocate(
         &mut self,
         bucket: usize,
         hash: u64,
@@ -103,12 +113,12 @@ where
         requires routed { bucket ≡ bucket_number (settings_of self.old).skipped (bucket_count self.old) hash }
         requires hashed { hash ≡ key_hash H.BuildHasher H.Hasher.Hasher E.Key.hash_input self.old (E.key_of entry) }
         requires absent { position (λ e. E.Key.eq (E.key_of entry) (E.key_of e)) (entries self.old) ≡ None }
-        requires settled { waits_at (waiting_of self.old) bucket ≡ false }
-        ensures { InsertsInto E.Key.eq E.key_of self.old bucket entry entry (pending_targets self.old) most most
+        requires not_waiting { waits_at (waiting_of self.old) bucket ≡ false }
+        ensures { InsertsThenRelocates E.Key.eq E.key_of self.old bucket entry entry (pending_targets self.old) most most
             (HasRoomBy (key_hash H.BuildHasher H.Hasher.Hasher E.Key.hash_input self.old) E.key_of self.old
             (E.key_of entry) → ⊥) result self.new }
     {
-        match self.put_in(bucket, hash, entry) {
+        match self.insert_in(bucket, hash, entry) {
             Ok(place) => {
                 self.relocate_some(most);
                 Ok(place)
@@ -120,17 +130,17 @@ where
     /// Puts in an entry whose key is new, into that bucket, the one of the hash, which doesn't wait. The entry is
     /// handed back where the bucket is full and the overflow list can't grow.
     #[inline(always)]
-    pub fn put_in(&mut self, bucket: usize, hash: u64, entry: E) -> Result<Place, E>
+    pub fn insert_in(&mut self, bucket: usize, hash: u64, entry: E) -> Result<Place, E>
         requires within { bucket < bucket_count self.old }
         requires routed { bucket ≡ bucket_number (settings_of self.old).skipped (bucket_count self.old) hash }
         requires hashed { hash ≡ key_hash H.BuildHasher H.Hasher.Hasher E.Key.hash_input self.old (E.key_of entry) }
         requires absent { position (λ e. E.Key.eq (E.key_of entry) (E.key_of e)) (entries self.old) ≡ None }
-        requires settled { waits_at (waiting_of self.old) bucket ≡ false }
-        ensures { PutsInto E.Key.eq E.key_of self.old bucket entry entry
+        requires not_waiting { waits_at (waiting_of self.old) bucket ≡ false }
+        ensures { InsertsIn E.Key.eq E.key_of self.old bucket entry entry
             (HasRoomBy (key_hash H.BuildHasher H.Hasher.Hasher E.Key.hash_input self.old) E.key_of self.old
             (E.key_of entry) → ⊥) result self.new }
     {
-        self.current.keep_lists();
+        self.current.list_facts();
         if self.draining.left_overflow > 0 {
             let listed = self.current.list_len(bucket);
             let spilled = self.current.overflow_len();

@@ -1,7 +1,7 @@
 //! What an insertion would have to make first, made before it.
 ghost use Rattle.scc_contents.specs.Contents.{bucket_count, key_hash, lists_of, refused_of, settings_of, waiting_of, IsUniqueBy};
-ghost use Rattle.scc_contents.specs.Steps.{IsUnchanged, MakesRoom};
-ghost use Rattle.scc_table.specs.Marks.{MarksRoom};
+ghost use Rattle.scc_contents.specs.Steps.{IsUnchanged, Prepares};
+ghost use Rattle.scc_table.specs.Marks.{MarksPreparation};
 ghost use Rattle.std.specs.Prelude.{◌≡◌, ◌<◌, false, OnOk, OnErr};
 
 use crate::Table;
@@ -17,18 +17,18 @@ where
     /// Makes what an insertion of a new key of that hash wants: the first array, or twice as many buckets, all of which
     /// wait then. A growth that is refused is noted, and marked: the insertion doesn't try it again. Fails only where
     /// the first array is refused, and then nothing changes.
-    pub fn make_room(&mut self, hash: u64) -> Result<(), AllocError>
-        ensures ok { OnOk result (MakesRoom (key_hash H.BuildHasher H.Hasher.Hasher E.Key.hash_input self.old)
+    pub fn prepare(&mut self, hash: u64) -> Result<(), AllocError>
+        ensures ok { OnOk result (Prepares (key_hash H.BuildHasher H.Hasher.Hasher E.Key.hash_input self.old)
             E.key_of self.old hash self.new) }
         ensures err { OnErr result (bucket_count self.old ≡ 0) }
         ensures same { OnErr result (self.new ≡ self.old) }
-        ensures marks { MarksRoom (key_hash H.BuildHasher H.Hasher.Hasher E.Key.hash_input self.old) E.key_of
+        ensures marks { MarksPreparation (key_hash H.BuildHasher H.Hasher.Hasher E.Key.hash_input self.old) E.key_of
             self.old hash self.new }
         ensures settings { settings_of self.new ≡ settings_of self.old }
         ensures unique { IsUniqueBy E.Key.eq E.key_of self.new }
     {
         let bucket = self.bucket_for_new(hash)?;
-        self.keep_lists();
+        self.list_facts();
         if self.pending() > 0 {
             return Ok(());
         }
@@ -47,7 +47,7 @@ where
     }
 
     /// The next insertion tries a growth that is due.
-    pub fn drop_room(&mut self)
+    pub fn drop_mark(&mut self)
         ensures same { IsUnchanged self.old self.new }
         ensures lists { lists_of self.new ≡ lists_of self.old }
         ensures waiting { waiting_of self.new ≡ waiting_of self.old }

@@ -3,9 +3,9 @@ ghost use Rattle.scc_array.specs.Shelf.{empty_shelf};
 ghost use Rattle.scc_buckets.specs.Pour.{bound_for};
 ghost use Rattle.scc_contents.specs.Contents.{entries, bucket_count, key_hash, list_of, pending_of, settings_of, waiting_of};
 ghost use Rattle.scc_contents.specs.Routing.{bucket_number};
-ghost use Rattle.scc_contents.specs.Sizes.{IsArray};
+ghost use Rattle.scc_contents.specs.Sizes.{IsBucketCount};
 ghost use Rattle.scc_table.specs.Growths.{DoublesAround, InsertsGrown};
-ghost use Rattle.scc_table.specs.MadeInsertions.{InsertsMadeCrowded, InsertsMadeWith};
+ghost use Rattle.scc_table.specs.MadeInsertions.{InsertsMadeCrowded, InsertsMadeGrown};
 ghost use Rattle.scc_table.specs.TwoArrays.{waits_at};
 ghost use Rattle.std.specs.List.{position};
 ghost use Rattle.std.specs.Prelude.{◌≡◌, ◌<◌, ◌*◌, ◌^◌, false, true, None, Some, length, replicate, slice_get};
@@ -27,18 +27,25 @@ where
     pub(crate) fn is_crowded(&self, bucket: usize, hash: u64) -> bool
         requires within { bucket < bucket_count self.now }
         requires routed { bucket ≡ bucket_number (settings_of self.now).skipped (bucket_count self.now) hash }
-        requires settled { waits_at (waiting_of self.now) bucket ≡ false }
+        requires not_waiting { waits_at (waiting_of self.now) bucket ≡ false }
         requires below { 32 * bucket_count self.now < 2 ^ 63 }
         ensures { result ≡ false → length (bound_for
             (λ e. key_hash H.BuildHasher H.Hasher.Hasher E.Key.hash_input self.now (E.key_of e))
             (settings_of self.now).skipped (2 * bucket_count self.now)
             (bucket_number (settings_of self.now).skipped (2 * bucket_count self.now) hash) (entries self.now)) < 32 }
     {
-        self.keep_lists();
+        self.list_facts();
         let count = 2 * self.bucket_count();
         let target = bucket_index(hash, self.skipped, count);
-        let held = self.list_len(bucket);
-        count_bound(&self.current, bucket, held, target, self.skipped, count) >= 32
+        let entry_count = self.list_len(bucket);
+        count_bound(
+            &self.current,
+            bucket,
+            entry_count,
+            target,
+            self.skipped,
+            count,
+        ) >= 32
     }
 
     /// Puts twice as many empty buckets in the place of the present ones, and answers where the entry at the place
@@ -56,7 +63,7 @@ where
         ensures { DoublesAround E.Key.eq E.key_of (key_hash H.BuildHasher H.Hasher.Hasher E.Key.hash_input self.old)
             self.old place hash result self.new }
     {
-        self.keep_lists();
+        self.list_facts();
         let count = 2 * self.bucket_count();
         let bucket = bucket_index(hash, self.skipped, count);
         let slot = count_bound(
@@ -67,7 +74,7 @@ where
             self.skipped,
             count,
         );
-        match self.start_at(count, fresh, flags, bucket) {
+        match self.install_relocating(count, fresh, flags, bucket) {
             Ok(()) => {
                 self.note(false);
                 self.relocate_some(1);
@@ -92,7 +99,7 @@ where
         entry: E,
     ) -> Place
         requires pending { pending_of self.old ≡ 0 }
-        requires array { IsArray count }
+        requires array { IsBucketCount count }
         requires some { 0 < bucket_count self.old }
         requires more { bucket_count self.old < count }
         requires empty { fresh ≡ replicate count empty_shelf }
@@ -105,10 +112,10 @@ where
         ensures { InsertsGrown E.Key.eq E.key_of (key_hash H.BuildHasher H.Hasher.Hasher E.Key.hash_input self.old)
             self.old count hash entry result self.new }
     {
-        self.begin(count, fresh, flags);
+        self.install(count, fresh, flags);
         self.note(false);
         let bucket = self.bucket_at(hash);
-        match self.insert_at(bucket, hash, entry) {
+        match self.insert_and_relocate(bucket, hash, entry) {
             Ok(place) => place,
             Err(_) => unreachable!(),
         }
@@ -121,7 +128,7 @@ where
 {
     /// The same with an entry of the parts, which is made first. Where it can't be, the parts are handed back, that the
     /// growth wasn't made is noted, and nothing else changed.
-    pub(crate) fn insert_made_with(
+    pub(crate) fn insert_made_grown(
         &mut self,
         count: usize,
         fresh: Array<E>,
@@ -130,7 +137,7 @@ where
         parts: E::Parts,
     ) -> Result<Place, E::Parts>
         requires pending { pending_of self.old ≡ 0 }
-        requires array { IsArray count }
+        requires array { IsBucketCount count }
         requires some { 0 < bucket_count self.old }
         requires more { bucket_count self.old < count }
         requires empty { fresh ≡ replicate count empty_shelf }
@@ -141,7 +148,7 @@ where
         requires hashed { hash ≡ key_hash H.BuildHasher H.Hasher.Hasher E.Key.hash_input self.old
             (E.key_of (E.made_of parts)) }
         requires absent { position (λ e. E.Key.eq (E.key_of (E.made_of parts)) (E.key_of e)) (entries self.old) ≡ None }
-        ensures { InsertsMadeWith E.Key.eq E.key_of
+        ensures { InsertsMadeGrown E.Key.eq E.key_of
             (key_hash H.BuildHasher H.Hasher.Hasher E.Key.hash_input self.old) self.old count hash
             (E.made_of parts) parts result self.new }
     {
@@ -180,7 +187,7 @@ where
             (key_hash H.BuildHasher H.Hasher.Hasher E.Key.hash_input self.old) self.old hash (E.made_of parts)
             parts result self.new }
     {
-        match self.put_made_in(bucket, hash, parts) {
+        match self.insert_made_in(bucket, hash, parts) {
             Ok(place) => Ok(self.double_around(place, fresh, flags, hash)),
             Err(back) => {
                 fresh.destroy_empty();

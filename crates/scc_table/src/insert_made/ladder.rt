@@ -1,9 +1,9 @@
 //! The insertion of an entry that is made when it is put in, down to the bucket.
 ghost use Rattle.scc_contents.specs.Contents.{entries, bucket_count, key_hash, pending_of, settings_of, waiting_of};
 ghost use Rattle.scc_contents.specs.Routing.{bucket_number};
-ghost use Rattle.scc_table.specs.Insertions.{InsertsAt, InsertsInto};
+ghost use Rattle.scc_table.specs.Insertions.{InsertsAndRelocates, InsertsThenRelocates};
 ghost use Rattle.scc_table.specs.MadeInsertions.{InsertsMade, InsertsMadeFirst, InsertsMadeFull, InsertsMadeNoted};
-ghost use Rattle.scc_table.specs.Puts.{PutsInto};
+ghost use Rattle.scc_table.specs.Puts.{InsertsIn};
 ghost use Rattle.scc_table.specs.TwoArrays.{IsWaiting, pending_targets, waits_at};
 ghost use Rattle.std.specs.List.{position};
 ghost use Rattle.std.specs.Prelude.{◌≡◌, ◌<◌, false, None};
@@ -35,10 +35,10 @@ where
         }
         let bucket = self.bucket_at(hash);
         if self.pending() > 0 {
-            return self.insert_made_at(bucket, hash, parts);
+            return self.insert_made_and_relocate(bucket, hash, parts);
         }
         if self.list_len(bucket) < 32 {
-            return self.insert_made_at(bucket, hash, parts);
+            return self.insert_made_and_relocate(bucket, hash, parts);
         }
         self.insert_made_full(bucket, hash, parts)
     }
@@ -82,9 +82,9 @@ where
         let count = self.bucket_count();
         let length = self.len();
         if length < 16 * count || count >= MOST_BUCKETS {
-            return self.insert_made_at(bucket, hash, parts);
+            return self.insert_made_and_relocate(bucket, hash, parts);
         }
-        if self.is_tried() {
+        if self.is_marked() {
             return self.insert_made_noted(bucket, hash, parts);
         }
         match fresh_waiting(self.current.allocator(), 2 * count) {
@@ -92,7 +92,7 @@ where
                 if self.is_crowded(bucket, hash) {
                     return self.insert_made_crowded(bucket, fresh, flags, hash, parts);
                 }
-                self.insert_made_with(2 * count, fresh, flags, hash, parts)
+                self.insert_made_grown(2 * count, fresh, flags, hash, parts)
             }
             Err(_) => self.insert_made_noted(bucket, hash, parts),
         }
@@ -114,13 +114,13 @@ where
             self.new }
     {
         self.note(true);
-        self.insert_made_at(bucket, hash, parts)
+        self.insert_made_and_relocate(bucket, hash, parts)
     }
 
     /// Puts in an entry of the parts, whose key is new, into that bucket, the one of the hash, and answers its place.
     /// Where that bucket waits, it takes its entries over first, and then the first ones that wait, two in all. The
     /// parts are handed back where memory is refused: that of its own bucket, or that of the entry.
-    fn insert_made_at(
+    fn insert_made_and_relocate(
         &mut self,
         bucket: usize,
         hash: u64,
@@ -131,18 +131,18 @@ where
         requires hashed { hash ≡ key_hash H.BuildHasher H.Hasher.Hasher E.Key.hash_input self.old
             (E.key_of (E.made_of parts)) }
         requires absent { position (λ e. E.Key.eq (E.key_of (E.made_of parts)) (E.key_of e)) (entries self.old) ≡ None }
-        ensures { InsertsAt E.Key.eq E.key_of self.old bucket (E.made_of parts) parts (Unit {0}) result
+        ensures { InsertsAndRelocates E.Key.eq E.key_of self.old bucket (E.made_of parts) parts (Unit {0}) result
             self.new }
     {
         if self.is_waiting(bucket) {
-            return self.insert_made_waiting(bucket, hash, parts);
+            return self.insert_made_after_relocation(bucket, hash, parts);
         }
-        self.insert_made_settled(bucket, hash, parts, 2)
+        self.insert_made_then_relocate(bucket, hash, parts, 2)
     }
 
     /// The same where the bucket waits.
     #[cold]
-    fn insert_made_waiting(
+    fn insert_made_after_relocation(
         &mut self,
         bucket: usize,
         hash: u64,
@@ -154,19 +154,19 @@ where
             (E.key_of (E.made_of parts)) }
         requires absent { position (λ e. E.Key.eq (E.key_of (E.made_of parts)) (E.key_of e)) (entries self.old) ≡ None }
         requires waits { IsWaiting self.old bucket }
-        ensures { InsertsAt E.Key.eq E.key_of self.old bucket (E.made_of parts) parts (Unit {0}) result
+        ensures { InsertsAndRelocates E.Key.eq E.key_of self.old bucket (E.made_of parts) parts (Unit {0}) result
             self.new }
     {
-        self.keep_lists();
+        self.list_facts();
         match self.relocate(bucket) {
-            Ok(()) => self.insert_made_settled(bucket, hash, parts, 1),
+            Ok(()) => self.insert_made_then_relocate(bucket, hash, parts, 1),
             Err(_) => Err(parts),
         }
     }
 
     /// The same where the bucket doesn't wait, and so many others take their entries over afterwards.
     #[inline(always)]
-    fn insert_made_settled(
+    fn insert_made_then_relocate(
         &mut self,
         bucket: usize,
         hash: u64,
@@ -178,11 +178,11 @@ where
         requires hashed { hash ≡ key_hash H.BuildHasher H.Hasher.Hasher E.Key.hash_input self.old
             (E.key_of (E.made_of parts)) }
         requires absent { position (λ e. E.Key.eq (E.key_of (E.made_of parts)) (E.key_of e)) (entries self.old) ≡ None }
-        requires settled { waits_at (waiting_of self.old) bucket ≡ false }
-        ensures { InsertsInto E.Key.eq E.key_of self.old bucket (E.made_of parts) parts
+        requires not_waiting { waits_at (waiting_of self.old) bucket ≡ false }
+        ensures { InsertsThenRelocates E.Key.eq E.key_of self.old bucket (E.made_of parts) parts
             (pending_targets self.old) most most (Unit {0}) result self.new }
     {
-        match self.put_made_in(bucket, hash, parts) {
+        match self.insert_made_in(bucket, hash, parts) {
             Ok(place) => {
                 self.relocate_some(most);
                 Ok(place)
@@ -195,7 +195,7 @@ where
     /// parts are handed back where the bucket is full and the overflow list can't grow, and where the entry can't be
     /// made.
     #[inline(always)]
-    pub(crate) fn put_made_in(
+    pub(crate) fn insert_made_in(
         &mut self,
         bucket: usize,
         hash: u64,
@@ -206,8 +206,8 @@ where
         requires hashed { hash ≡ key_hash H.BuildHasher H.Hasher.Hasher E.Key.hash_input self.old
             (E.key_of (E.made_of parts)) }
         requires absent { position (λ e. E.Key.eq (E.key_of (E.made_of parts)) (E.key_of e)) (entries self.old) ≡ None }
-        requires settled { waits_at (waiting_of self.old) bucket ≡ false }
-        ensures { PutsInto E.Key.eq E.key_of self.old bucket (E.made_of parts) parts (Unit {0}) result
+        requires not_waiting { waits_at (waiting_of self.old) bucket ≡ false }
+        ensures { InsertsIn E.Key.eq E.key_of self.old bucket (E.made_of parts) parts (Unit {0}) result
             self.new }
     {
         if self.draining.left_overflow > 0 {

@@ -39,12 +39,12 @@ where
 
     /// What every table keeps of its lists. It does nothing, and is there for its contract.
     #[inline(always)]
-    pub fn keep_lists(&self)
+    pub fn list_facts(&self)
         ensures routed { IsRouted (λ e. key_hash H.BuildHasher H.Hasher.Hasher E.Key.hash_input self.now (E.key_of e))
             self.now }
         ensures unique { IsUniqueBy E.Key.eq E.key_of self.now }
     {
-        self.current.keep_lists();
+        self.current.list_facts();
     }
 
     /// The same where some bucket waits. There is no such entry where the answer's bucket is `NOWHERE`. A place comes

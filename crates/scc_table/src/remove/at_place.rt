@@ -2,7 +2,7 @@
 ghost use Rattle.scc_buckets.specs.OneList.{IsTakenFrom};
 ghost use Rattle.scc_contents.specs.Contents.{entries, bucket_count, waiting_of, owed_of, IsUniqueBy};
 ghost use Rattle.scc_table.specs.Places.{IsPlace, index_of, spot_of};
-ghost use Rattle.scc_table.specs.Removals.{SwapTakesAt, TakesAndSteps, TakesIn};
+ghost use Rattle.scc_table.specs.Removals.{SwapTakesAt, TakesWithNext, TakesIn};
 ghost use Rattle.scc_table.specs.Takes.{owed_taken};
 ghost use Rattle.std.specs.Prelude.{◌≡◌, ◌≤◌, Some, slice_get};
 
@@ -62,9 +62,9 @@ where
 
     /// Takes the entry out of its place, with no resize, and answers the place of the one that stood next, or None
     /// where it was the last: the others stay in their order.
-    pub fn take_and_step(&mut self, place: Place) -> (E, Option<Place>)
+    pub fn take_with_next(&mut self, place: Place) -> (E, Option<Place>)
         requires { IsPlace self.old place }
-        ensures { TakesAndSteps E.Key.eq E.key_of self.old place result self.new }
+        ensures { TakesWithNext E.Key.eq E.key_of self.old place result self.new }
     {
         let target = self.target_of(place);
         let entry = self.take_in(place);

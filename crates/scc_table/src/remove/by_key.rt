@@ -37,7 +37,7 @@ where
         if self.draining.pending != 0 {
             return self.remove_from_both(hash, key);
         }
-        match self.take_settled(hash, key) {
+        match self.take_from_current(hash, key) {
             Some(entry) => {
                 self.shrink();
                 Some(entry)
@@ -48,8 +48,8 @@ where
 
     /// Takes it out where no bucket waits, with no resize.
     #[inline(always)]
-    fn take_settled(&mut self, hash: u64, key: &E::Key) -> Option<E>
-        requires settled { waiting_of self.old ≡ [] }
+    fn take_from_current(&mut self, hash: u64, key: &E::Key) -> Option<E>
+        requires not_waiting { waiting_of self.old ≡ [] }
         requires hashed { hash ≡ key_hash H.BuildHasher H.Hasher.Hasher E.Key.hash_input self.old key.now }
         ensures { SwapTakesFirst E.Key.eq E.key_of (λ e. E.Key.eq key.now (E.key_of e)) self.old self.new result }
     {

@@ -1,7 +1,7 @@
 //! The first array, and growths for a new key.
 ghost use Rattle.scc_contents.specs.Contents.{bucket_count, key_hash, pending_of};
 ghost use Rattle.scc_table.specs.Growths.{FindsBucketForNew, GrowsHalfFull};
-ghost use Rattle.scc_table.specs.Starts.{MakesFirst};
+ghost use Rattle.scc_table.specs.Installations.{InstallsFirst};
 ghost use Rattle.std.specs.Prelude.{◌≡◌, ◌<◌};
 
 use crate::Table;
@@ -21,7 +21,7 @@ where
             (key_hash H.BuildHasher H.Hasher.Hasher E.Key.hash_input self.old) self.old hash result self.new }
     {
         if self.bucket_count() == 0 {
-            self.make_array()?;
+            self.install_first()?;
             return Ok(self.bucket_at(hash));
         }
         let bucket = self.bucket_at(hash);
@@ -40,7 +40,7 @@ where
     /// number of buckets.
     pub(crate) fn grow(&mut self)
         requires some { 0 < bucket_count self.old }
-        requires settled { pending_of self.old ≡ 0 }
+        requires not_waiting { pending_of self.old ≡ 0 }
         ensures { GrowsHalfFull E.Key.eq E.key_of (key_hash H.BuildHasher H.Hasher.Hasher E.Key.hash_input self.old)
             self.old self.new }
     {
@@ -49,24 +49,24 @@ where
         if length < 16 * count || count >= MOST_BUCKETS {
             return;
         }
-        if self.is_tried() {
+        if self.is_marked() {
             self.note(true);
             return;
         }
-        match self.start(2 * count) {
+        match self.install_fresh(2 * count) {
             Ok(()) => {}
             Err(_) => {}
         }
     }
 
     /// Makes the first array, of the size of the minimum. None of its buckets waits.
-    pub(crate) fn make_array(&mut self) -> Result<(), AllocError>
+    pub(crate) fn install_first(&mut self) -> Result<(), AllocError>
         requires { bucket_count self.old ≡ 0 }
-        ensures { MakesFirst E.Key.eq E.key_of
+        ensures { InstallsFirst E.Key.eq E.key_of
             (λ e. key_hash H.BuildHasher H.Hasher.Hasher E.Key.hash_input self.old (E.key_of e)) self.old result
             self.new }
     {
-        self.current.make_array()?;
+        self.current.install_first()?;
         Ok(())
     }
 }

@@ -1,13 +1,13 @@
 //! How a new array takes the place of the present one, which drains from then on.
 ghost use Rattle.scc_array.specs.Shelf.{empty_shelf};
 ghost use Rattle.scc_contents.specs.Contents.{bucket_count, key_hash, pending_of};
-ghost use Rattle.scc_contents.specs.Sizes.{IsArray};
-ghost use Rattle.scc_table.specs.Starts.{Begins, Notes, ResizesArray, StartsArray, StartsAt};
+ghost use Rattle.scc_contents.specs.Sizes.{IsBucketCount};
+ghost use Rattle.scc_table.specs.Installations.{Installs, Notes, ResizesArray, InstallsFresh, InstallsRelocating};
 ghost use Rattle.std.specs.Prelude.{◌≡◌, ◌≢◌, ◌<◌, true, false, replicate};
 
 use crate::Table;
 use scc_array::Array;
-use scc_draining::{fresh_waiting, take};
+use scc_draining::{fresh_waiting, move_target};
 use scc_entry::Keyed;
 use std::alloc::AllocError;
 use std::hash::{BuildHasher, Hash};
@@ -20,7 +20,7 @@ where
     /// the new array waits. Where memory is refused, each list is as it was, and the buckets that took their entries
     /// over still have them. Whether it was is noted.
     pub(crate) fn resize_to(&mut self, count: usize) -> Result<(), AllocError>
-        requires array { IsArray count }
+        requires array { IsBucketCount count }
         requires some { 0 < bucket_count self.old }
         requires other { count ≢ bucket_count self.old }
         ensures { ResizesArray E.Key.eq E.key_of
@@ -28,7 +28,7 @@ where
             self.old result self.new }
     {
         match self.finish() {
-            Ok(()) => self.start(count),
+            Ok(()) => self.install_fresh(count),
             Err(e) => {
                 self.note(true);
                 Err(e)
@@ -37,18 +37,18 @@ where
     }
 
     /// The same where no bucket waits. Where memory is refused, none does afterwards either.
-    pub(crate) fn start(&mut self, count: usize) -> Result<(), AllocError>
-        requires settled { pending_of self.old ≡ 0 }
-        requires array { IsArray count }
+    pub(crate) fn install_fresh(&mut self, count: usize) -> Result<(), AllocError>
+        requires not_waiting { pending_of self.old ≡ 0 }
+        requires array { IsBucketCount count }
         requires some { 0 < bucket_count self.old }
         requires other { count ≢ bucket_count self.old }
-        ensures { StartsArray E.Key.eq E.key_of
+        ensures { InstallsFresh E.Key.eq E.key_of
             (λ e. key_hash H.BuildHasher H.Hasher.Hasher E.Key.hash_input self.old (E.key_of e)) count
             self.old result self.new }
     {
         match fresh_waiting(self.current.allocator(), count) {
             Ok((fresh, flags)) => {
-                self.begin(count, fresh, flags);
+                self.install(count, fresh, flags);
                 self.note(false);
                 Ok(())
             }
@@ -67,25 +67,25 @@ where
     }
 
     /// Sets the note of refused memory, and whether the next insertion is not to try the growth again.
-    pub(crate) fn mark(&mut self, refused: bool, tried: bool)
-        ensures { Notes E.Key.eq E.key_of (refused, tried) self.old self.new }
+    pub(crate) fn mark(&mut self, refused: bool, marked: bool)
+        ensures { Notes E.Key.eq E.key_of (refused, marked) self.old self.new }
     {
-        self.current.mark(refused, tried);
+        self.current.mark(refused, marked);
     }
 
     /// Puts the empty buckets in the place of the present ones, which drain from then on: every one of the new buckets
     /// waits, as the flags say.
-    pub(crate) fn begin(&mut self, count: usize, fresh: Array<E>, flags: Vec<bool>)
-        requires settled { pending_of self.old ≡ 0 }
-        requires array { IsArray count }
+    pub(crate) fn install(&mut self, count: usize, fresh: Array<E>, flags: Vec<bool>)
+        requires not_waiting { pending_of self.old ≡ 0 }
+        requires array { IsBucketCount count }
         requires some { 0 < bucket_count self.old }
         requires other { count ≢ bucket_count self.old }
         requires empty { fresh ≡ replicate count empty_shelf }
         requires flags { flags.items ≡ replicate count true }
-        ensures { Begins (λ e. key_hash H.BuildHasher H.Hasher.Hasher E.Key.hash_input self.old (E.key_of e))
+        ensures { Installs (λ e. key_hash H.BuildHasher H.Hasher.Hasher E.Key.hash_input self.old (E.key_of e))
             count self.old self.new }
     {
-        let (old, left, left_overflow) = self.current.exchange(fresh, 0, 0);
+        let (old, left, left_overflow) = self.current.install(fresh, 0, 0);
         let bare = std::mem::replace(&mut self.draining.array, old);
         bare.destroy_empty();
         self.draining.waiting = flags;
@@ -98,25 +98,25 @@ where
     /// Puts the empty buckets in the place of the present ones, where none waits. That bucket of the new array takes
     /// its entries over at once, and every other one waits, as the flags say. Where memory for that bucket is refused,
     /// all stays.
-    pub(crate) fn start_at(
+    pub(crate) fn install_relocating(
         &mut self,
         count: usize,
         fresh: Array<E>,
         mut flags: Vec<bool>,
         bucket: usize,
     ) -> Result<(), AllocError>
-        requires settled { pending_of self.old ≡ 0 }
-        requires array { IsArray count }
+        requires not_waiting { pending_of self.old ≡ 0 }
+        requires array { IsBucketCount count }
         requires some { 0 < bucket_count self.old }
         requires other { count ≢ bucket_count self.old }
         requires within { bucket < count }
         requires empty { fresh ≡ replicate count empty_shelf }
         requires flags { flags.items ≡ replicate count true }
-        ensures { StartsAt E.Key.eq E.key_of
+        ensures { InstallsRelocating E.Key.eq E.key_of
             (λ e. key_hash H.BuildHasher H.Hasher.Hasher E.Key.hash_input self.old (E.key_of e)) count
             bucket self.old result self.new }
     {
-        let (mut old, left, overflow) = self.current.exchange(fresh, 0, 0);
+        let (mut old, left, overflow) = self.current.install(fresh, 0, 0);
         match take(
             &mut self.current,
             &mut old,
@@ -137,7 +137,7 @@ where
                 Ok(())
             }
             Err(e) => {
-                let (bare, _, _) = self.current.exchange(old, left, overflow);
+                let (bare, _, _) = self.current.install(old, left, overflow);
                 bare.destroy_empty();
                 Err(e)
             }

@@ -1,7 +1,7 @@
 //! How many slots a table of two arrays keeps at least, and the tokens of reserved ones.
 ghost use Rattle.scc_contents.specs.Contents.{bucket_count, settings_of};
 ghost use Rattle.scc_table.specs.Minimums.{GrowsToMinimum, LowersMinimum, RaisesMinimum, ReservesSlots};
-ghost use Rattle.scc_table.specs.Starts.{SetsReserved};
+ghost use Rattle.scc_table.specs.Installations.{SetsReserved};
 ghost use Rattle.std.specs.Prelude.{◌≡◌, ◌≤◌, ◌<◌, ◌+◌, ◌^◌};
 
 use crate::Table;
@@ -72,7 +72,7 @@ where
     pub fn lower_minimum(&mut self, additional: usize) -> bool
         ensures { LowersMinimum E.Key.eq E.key_of additional self.old result self.new }
     {
-        self.keep_lists();
+        self.list_facts();
         let reserved = self.current.reserved();
         if additional > reserved {
             return false;

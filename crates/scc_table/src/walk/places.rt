@@ -2,7 +2,7 @@
 ghost use Rattle.scc_buckets.specs.Places as spots;
 ghost use Rattle.scc_contents.specs.Contents.{entries, bucket_count, owed_of, list_of};
 ghost use Rattle.scc_table.specs.Places.{IsPlace, index_of, spot_of, StandsAt};
-ghost use Rattle.scc_table.specs.Stepping.{index_on, rank_on, IsStart};
+ghost use Rattle.scc_table.specs.NextPlaces.{index_on, rank_on, IsStart};
 ghost use Rattle.scc_table.specs.TwoArrays.{IsWaiting};
 ghost use Rattle.std.specs.Prelude.{◌≡◌, ◌≤◌, ◌<◌, ◌^◌, ◌+◌, [], length, suc, MatchOption};
 

@@ -10,24 +10,24 @@ use Rattle.scc_array.proofs.Array.entry_at.Goals as goal
 pub entry_at-requires-clause-bucket : goal.entry_at-requires-clause-bucket
 entry_at-requires-clause-bucket g c = window-within c.self.inside.columns c.self.inside.overflow.items c.args.self.now c.self.view_is c.args.bucket c.requires.bucket
 
-pub entry_at-requires-clause-place : goal.entry_at-requires-clause-place
-entry_at-requires-clause-place g c = omega (arith, c.count_past-count.ensures.within c.if-place-count.true, ap length (slots-are c.self.inside.columns c.self.inside.overflow.items c.args.self.now c.self.view_is c.args.bucket c.requires.bucket))
+pub entry_at-requires-clause-slot : goal.entry_at-requires-clause-slot
+entry_at-requires-clause-slot g c = omega (arith, c.slots_before_overflow-count.ensures.within c.if-slot-count.true, ap length (slots-are c.self.inside.columns c.self.inside.overflow.items c.args.self.now c.self.view_is c.args.bucket c.requires.bucket))
 
-pub returns-then-place-count : goal.returns-then-place-count
-returns-then-place-count g c =
+pub returns-then-slot-count : goal.returns-then-slot-count
+returns-then-slot-count g c =
     let ws = c.self.inside.columns in let os = c.self.inside.overflow.items in let bs = c.args.self.now in let b = c.args.bucket in
     let view = c.self.view_is in let within = window-within ws os bs view b c.requires.bucket in
     let slots = slots-are ws os bs view b c.requires.bucket in
-    get-left (shelf_of bs b).slots (shelf_of bs b).overflow c.args.place c.entry_at.result.now (ap (λ l. slice_get l c.args.place) (sym slots) ∙ c.entry_at.ensures)
+    get-left (shelf_of bs b).slots (shelf_of bs b).overflow c.args.slot c.entry_at.result.now (ap (λ l. slice_get l c.args.slot) (sym slots) ∙ c.entry_at.ensures)
 
 pub index-requires : goal.index-requires
 index-requires g c =
     let ws = c.self.inside.columns in let os = c.self.inside.overflow.items in let bs = c.args.self.now in let b = c.args.bucket in
     let view = c.self.view_is in let within = window-within ws os bs view b c.requires.bucket in
     let slots = slots-are ws os bs view b c.requires.bucket in
-    let k : c.count_past-count.result ≡ length (shelf_of bs b).slots = (c.count_past-count.ensures.past (omega (arith, c.if-place-count.false)) ∙ sym (ap length slots)) ∙ ap length slots in
-    let far : length (shelf_of bs b).slots ≤ c.args.place = omega (arith, c.if-place-count.false) in
-    let some : c.args.place - c.count_past-count.result < length (shelf_of bs b).overflow = omega (arith, c.requires.place, length-append (shelf_of bs b).slots (shelf_of bs b).overflow) in
+    let k : c.slots_before_overflow-count.result ≡ length (shelf_of bs b).slots = (c.slots_before_overflow-count.ensures.past (omega (arith, c.if-slot-count.false)) ∙ sym (ap length slots)) ∙ ap length slots in
+    let far : length (shelf_of bs b).slots ≤ c.args.slot = omega (arith, c.if-slot-count.false) in
+    let some : c.args.slot - c.slots_before_overflow-count.result < length (shelf_of bs b).overflow = omega (arith, c.requires.slot, length-append (shelf_of bs b).slots (shelf_of bs b).overflow) in
     let there = spilled-there ws os bs view b c.requires.bucket c.self.invariant.0 (omega arith) in
     omega (arith, c.self.inside.overflow.ok.0)
 
@@ -36,9 +36,9 @@ index-requires-2 g c =
     let ws = c.self.inside.columns in let os = c.self.inside.overflow.items in let bs = c.args.self.now in let b = c.args.bucket in
     let view = c.self.view_is in let within = window-within ws os bs view b c.requires.bucket in
     let slots = slots-are ws os bs view b c.requires.bucket in
-    let k : c.count_past-count.result ≡ length (shelf_of bs b).slots = (c.count_past-count.ensures.past (omega (arith, c.if-place-count.false)) ∙ sym (ap length slots)) ∙ ap length slots in
-    let far : length (shelf_of bs b).slots ≤ c.args.place = omega (arith, c.if-place-count.false) in
-    let some : c.args.place - c.count_past-count.result < length (shelf_of bs b).overflow = omega (arith, c.requires.place, length-append (shelf_of bs b).slots (shelf_of bs b).overflow) in
+    let k : c.slots_before_overflow-count.result ≡ length (shelf_of bs b).slots = (c.slots_before_overflow-count.ensures.past (omega (arith, c.if-slot-count.false)) ∙ sym (ap length slots)) ∙ ap length slots in
+    let far : length (shelf_of bs b).slots ≤ c.args.slot = omega (arith, c.if-slot-count.false) in
+    let some : c.args.slot - c.slots_before_overflow-count.result < length (shelf_of bs b).overflow = omega (arith, c.requires.slot, length-append (shelf_of bs b).slots (shelf_of bs b).overflow) in
     let there = spilled-there ws os bs view b c.requires.bucket c.self.invariant.0 (omega arith) in
     let v = c.index.result.now in let items = list-is ws os bs view b c.requires.bucket v (list-read os b v there c.index.ensures) in
     omega (arith, v.ok.0, ap length items)
@@ -48,10 +48,10 @@ returns g c =
     let ws = c.self.inside.columns in let os = c.self.inside.overflow.items in let bs = c.args.self.now in let b = c.args.bucket in
     let view = c.self.view_is in let within = window-within ws os bs view b c.requires.bucket in
     let slots = slots-are ws os bs view b c.requires.bucket in
-    let k : c.count_past-count.result ≡ length (shelf_of bs b).slots = (c.count_past-count.ensures.past (omega (arith, c.if-place-count.false)) ∙ sym (ap length slots)) ∙ ap length slots in
-    let far : length (shelf_of bs b).slots ≤ c.args.place = omega (arith, c.if-place-count.false) in
-    let some : c.args.place - c.count_past-count.result < length (shelf_of bs b).overflow = omega (arith, c.requires.place, length-append (shelf_of bs b).slots (shelf_of bs b).overflow) in
+    let k : c.slots_before_overflow-count.result ≡ length (shelf_of bs b).slots = (c.slots_before_overflow-count.ensures.past (omega (arith, c.if-slot-count.false)) ∙ sym (ap length slots)) ∙ ap length slots in
+    let far : length (shelf_of bs b).slots ≤ c.args.slot = omega (arith, c.if-slot-count.false) in
+    let some : c.args.slot - c.slots_before_overflow-count.result < length (shelf_of bs b).overflow = omega (arith, c.requires.slot, length-append (shelf_of bs b).slots (shelf_of bs b).overflow) in
     let there = spilled-there ws os bs view b c.requires.bucket c.self.invariant.0 (omega arith) in
     let v = c.index.result.now in let items = list-is ws os bs view b c.requires.bucket v (list-read os b v there c.index.ensures) in
-    let x = c.index-2.result.now in let j = c.args.place - c.count_past-count.result in
-    get-later (shelf_of bs b).slots (shelf_of bs b).overflow c.args.place j (omega arith) ∙ ap (λ l. slice_get l j) (sym items) ∙ get-here v.items j x (omega (arith, ap length items)) ∙ ap Some (sym c.index-2.ensures)
+    let x = c.index-2.result.now in let j = c.args.slot - c.slots_before_overflow-count.result in
+    get-later (shelf_of bs b).slots (shelf_of bs b).overflow c.args.slot j (omega arith) ∙ ap (λ l. slice_get l j) (sym items) ∙ get-here v.items j x (omega (arith, ap length items)) ∙ ap Some (sym c.index-2.ensures)

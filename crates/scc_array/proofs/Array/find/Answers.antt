@@ -39,4 +39,4 @@ returns-else-not-is_crowded g c =
     let p = λ (e : g.row.E.Denot). g.E.Key.PartialEq.eq c.args.key.now (g.E.Keyed.key_of e) in
     let xs = (shelf_of bs b).slots in let ys = (shelf_of bs b).overflow in
     let missed : find p xs ≡ None = ap (find p) (sym (slots-are ws os bs c.self.view_is b c.requires.bucket)) ∙ sym c.in-None.ensures in
-    c.find_past.ensures ∙ sym (find-append p xs ys ∙ ap (λ o. option_or o (find p ys)) missed)
+    c.find_in_overflow.ensures ∙ sym (find-append p xs ys ∙ ap (λ o. option_or o (find p ys)) missed)

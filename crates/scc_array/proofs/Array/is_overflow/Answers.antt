@@ -5,7 +5,7 @@ use Rattle.scc_array.proofs.Array.is_overflow.Goals as goal
 
 pub returns : goal.returns
 returns g c =
-    let here = c.count_past.ensures.within in let past = c.count_past.ensures.past in (
-      (λ t. let l : c.count_past.result ≤ c.args.place = leb-true c.count_past.result c.args.place t in let k = past l in omega arith),
-      (λ l. le-leb c.count_past.result c.args.place (elim (dec_lt c.args.place c.count_past.result) [ yes h ↦ let k = here h in absurd (omega arith) | no h ↦ omega arith ])),
+    let here = c.slots_before_overflow.ensures.within in let past = c.slots_before_overflow.ensures.past in (
+      (λ t. let l : c.slots_before_overflow.result ≤ c.args.slot = leb-true c.slots_before_overflow.result c.args.slot t in let k = past l in omega arith),
+      (λ l. le-leb c.slots_before_overflow.result c.args.slot (elim (dec_lt c.args.slot c.slots_before_overflow.result) [ yes h ↦ let k = here h in absurd (omega arith) | no h ↦ omega arith ])),
     )

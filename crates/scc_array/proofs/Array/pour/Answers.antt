@@ -2,7 +2,7 @@ use Rattle.std.proofs.Common.{arith, length, set, refl, sym, ap, ◌∙◌}
 use Rattle.scc_array.proofs.Shelves.{shelf-is, seen-window, window-within, slots-are}
 use Rattle.scc_array.proofs.Array.pour.Goals as goal
 use Rattle.scc_array.specs.Shelves.{shelf_at, shelf_of}
-use Rattle.scc_array.specs.Sifts.{all_up, kept_of, picked_of, shelf_kept, shelf_with, window_with}
+use Rattle.scc_array.specs.Sifts.{all_up, unflagged_of, picked_of, shelf_unflagged, shelf_with, window_with}
 use Rattle.scc_array.specs.Windows.{window_of}
 use Rattle.scc_array.specs.Shelf.{Shelf}
 
@@ -25,7 +25,7 @@ returns-clause-stays g c =
     let ws = c.self.inside.columns in let os = c.self.inside.overflow.items in let bs = c.args.self.now in let b = c.args.bucket in
     let vs = c.into.inside.columns in let ls = c.into.inside.overflow.items in let cs = c.args.into.now in let t = c.args.target in
     let fs = all_up in
-    rw c.pour.ensures.stays (seen-window ws os bs c.self.view_is b c.requires.bucket (shelf_kept fs) (kept_of fs (window_of ws b)) refl)
+    rw c.pour.ensures.stays (seen-window ws os bs c.self.view_is b c.requires.bucket (shelf_unflagged fs) (unflagged_of fs (window_of ws b)) refl)
 
 pub returns-clause-moved : goal.returns-clause-moved
 returns-clause-moved g c =

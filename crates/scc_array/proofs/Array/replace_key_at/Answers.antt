@@ -1,6 +1,6 @@
 use Rattle.std.proofs.Common.{◌≤◌, ◌<◌, ◌-◌, arith, length, set, refl, ap, ◌∙◌, sym}
 use Rattle.std.specs.Vec.{with_item}
-use Rattle.scc_array.proofs.ArrayWriting.{place-got, place-written, list-there, list-long, list-got, list-written}
+use Rattle.scc_array.proofs.ArrayWriting.{slot-got, slot-written, list-there, list-long, list-got, list-written}
 use Rattle.scc_array.proofs.Shelves.{slots-are, window-within, list-read}
 use Rattle.scc_array.specs.Shelves.{shelves}
 use Rattle.scc_array.specs.Windows.{window_of, written_over}
@@ -9,59 +9,59 @@ use Rattle.scc_array.proofs.Array.replace_key_at.Goals as goal
 pub entry_mut-entry-requires-clause-bucket : goal.entry_mut-entry-requires-clause-bucket
 entry_mut-entry-requires-clause-bucket g c = window-within c.self.inside.columns c.self.inside.overflow.items c.args.self.now c.self.view_is c.args.bucket c.requires.bucket
 
-pub entry_mut-entry-requires-clause-place : goal.entry_mut-entry-requires-clause-place
-entry_mut-entry-requires-clause-place g c = omega (arith, c.count_past-count.ensures.within c.if-place-count.true, ap length (slots-are c.self.inside.columns c.self.inside.overflow.items c.args.self.now c.self.view_is c.args.bucket c.requires.bucket))
+pub entry_mut-entry-requires-clause-slot : goal.entry_mut-entry-requires-clause-slot
+entry_mut-entry-requires-clause-slot g c = omega (arith, c.slots_before_overflow-count.ensures.within c.if-slot-count.true, ap length (slots-are c.self.inside.columns c.self.inside.overflow.items c.args.self.now c.self.view_is c.args.bucket c.requires.bucket))
 
-pub returns-then-place-count-clause-old : goal.returns-then-place-count-clause-old
-returns-then-place-count-clause-old g c =
+pub returns-then-slot-count-clause-old : goal.returns-then-slot-count-clause-old
+returns-then-slot-count-clause-old g c =
     let ws = c.self.inside.columns in let os = c.self.inside.overflow.items in let bs = c.args.self.now in let b = c.args.bucket in
-    let view = c.self.view_is in let kept = c.self.invariant.0 in let i = c.args.place in
-    let e = c.entry_mut-entry.result.now in let l : i < length (window_of ws b).slots = omega (arith, c.count_past-count.ensures.within c.if-place-count.true, ap length (slots-are ws os bs view b c.requires.bucket)) in
-    let got = place-got g.E.Valued.with_key ws os bs view kept b c.requires.bucket i e l c.entry_mut-entry.ensures.entry in
+    let view = c.self.view_is in let kept = c.self.invariant.0 in let i = c.args.slot in
+    let e = c.entry_mut-entry.result.now in let l : i < length (window_of ws b).slots = omega (arith, c.slots_before_overflow-count.ensures.within c.if-slot-count.true, ap length (slots-are ws os bs view b c.requires.bucket)) in
+    let got = slot-got g.E.Valued.with_key ws os bs view kept b c.requires.bucket i e l c.entry_mut-entry.ensures.entry in
     (e, got, c.replace_key.ensures.old)
 
-pub returns-then-place-count-clause-new : goal.returns-then-place-count-clause-new
-returns-then-place-count-clause-new g c =
+pub returns-then-slot-count-clause-new : goal.returns-then-slot-count-clause-new
+returns-then-slot-count-clause-new g c =
     let ws = c.self.inside.columns in let os = c.self.inside.overflow.items in let bs = c.args.self.now in let b = c.args.bucket in
-    let view = c.self.view_is in let kept = c.self.invariant.0 in let i = c.args.place in
-    let e = c.entry_mut-entry.result.now in let l : i < length (window_of ws b).slots = omega (arith, c.count_past-count.ensures.within c.if-place-count.true, ap length (slots-are ws os bs view b c.requires.bucket)) in
-    ap (λ x. shelves (set ws b (written_over (window_of ws b) i x)) os) c.replace_key.ensures.new ∙ place-written g.E.Valued.with_key ws os bs view kept b c.requires.bucket i e l c.entry_mut-entry.ensures.entry c.args.key
+    let view = c.self.view_is in let kept = c.self.invariant.0 in let i = c.args.slot in
+    let e = c.entry_mut-entry.result.now in let l : i < length (window_of ws b).slots = omega (arith, c.slots_before_overflow-count.ensures.within c.if-slot-count.true, ap length (slots-are ws os bs view b c.requires.bucket)) in
+    ap (λ x. shelves (set ws b (written_over (window_of ws b) i x)) os) c.replace_key.ensures.new ∙ slot-written g.E.Valued.with_key ws os bs view kept b c.requires.bucket i e l c.entry_mut-entry.ensures.entry c.args.key
 
 pub index_mut-list-requires : goal.index_mut-list-requires
 index_mut-list-requires g c =
     let ws = c.self.inside.columns in let os = c.self.inside.overflow.items in let bs = c.args.self.now in let b = c.args.bucket in
-    let view = c.self.view_is in let kept = c.self.invariant.0 in let i = c.args.place in
-    let k = c.count_past-count.result in let far : k ≤ i = omega (arith, c.if-place-count.false) in
-    let there = list-there g.E.Valued.with_key ws os bs view kept b c.requires.bucket i c.requires.place k (c.count_past-count.ensures.past (omega (arith, c.if-place-count.false)) ∙ sym (ap length (slots-are ws os bs view b c.requires.bucket))) far in
+    let view = c.self.view_is in let kept = c.self.invariant.0 in let i = c.args.slot in
+    let k = c.slots_before_overflow-count.result in let far : k ≤ i = omega (arith, c.if-slot-count.false) in
+    let there = list-there g.E.Valued.with_key ws os bs view kept b c.requires.bucket i c.requires.slot k (c.slots_before_overflow-count.ensures.past (omega (arith, c.if-slot-count.false)) ∙ sym (ap length (slots-are ws os bs view b c.requires.bucket))) far in
     omega (arith, c.self.inside.overflow.ok.0)
 
 pub index_mut-entry-requires : goal.index_mut-entry-requires
 index_mut-entry-requires g c =
     let ws = c.self.inside.columns in let os = c.self.inside.overflow.items in let bs = c.args.self.now in let b = c.args.bucket in
-    let view = c.self.view_is in let kept = c.self.invariant.0 in let i = c.args.place in
-    let k = c.count_past-count.result in let far : k ≤ i = omega (arith, c.if-place-count.false) in
-    let there = list-there g.E.Valued.with_key ws os bs view kept b c.requires.bucket i c.requires.place k (c.count_past-count.ensures.past (omega (arith, c.if-place-count.false)) ∙ sym (ap length (slots-are ws os bs view b c.requires.bucket))) far in
-    let v = c.index_mut-list.result.now in let held = list-read os b v there c.index_mut-list.ensures.value in
-    let l = list-long g.E.Valued.with_key ws os bs view kept b c.requires.bucket i c.requires.place k (c.count_past-count.ensures.past (omega (arith, c.if-place-count.false)) ∙ sym (ap length (slots-are ws os bs view b c.requires.bucket))) far v held in
+    let view = c.self.view_is in let kept = c.self.invariant.0 in let i = c.args.slot in
+    let k = c.slots_before_overflow-count.result in let far : k ≤ i = omega (arith, c.if-slot-count.false) in
+    let there = list-there g.E.Valued.with_key ws os bs view kept b c.requires.bucket i c.requires.slot k (c.slots_before_overflow-count.ensures.past (omega (arith, c.if-slot-count.false)) ∙ sym (ap length (slots-are ws os bs view b c.requires.bucket))) far in
+    let v = c.index_mut-list.result.now in let entry_count = list-read os b v there c.index_mut-list.ensures.value in
+    let l = list-long g.E.Valued.with_key ws os bs view kept b c.requires.bucket i c.requires.slot k (c.slots_before_overflow-count.ensures.past (omega (arith, c.if-slot-count.false)) ∙ sym (ap length (slots-are ws os bs view b c.requires.bucket))) far v entry_count in
     omega (arith, v.ok.0)
 
 pub returns-clause-old : goal.returns-clause-old
 returns-clause-old g c =
     let ws = c.self.inside.columns in let os = c.self.inside.overflow.items in let bs = c.args.self.now in let b = c.args.bucket in
-    let view = c.self.view_is in let kept = c.self.invariant.0 in let i = c.args.place in
-    let k = c.count_past-count.result in let far : k ≤ i = omega (arith, c.if-place-count.false) in
-    let there = list-there g.E.Valued.with_key ws os bs view kept b c.requires.bucket i c.requires.place k (c.count_past-count.ensures.past (omega (arith, c.if-place-count.false)) ∙ sym (ap length (slots-are ws os bs view b c.requires.bucket))) far in
-    let v = c.index_mut-list.result.now in let held = list-read os b v there c.index_mut-list.ensures.value in
+    let view = c.self.view_is in let kept = c.self.invariant.0 in let i = c.args.slot in
+    let k = c.slots_before_overflow-count.result in let far : k ≤ i = omega (arith, c.if-slot-count.false) in
+    let there = list-there g.E.Valued.with_key ws os bs view kept b c.requires.bucket i c.requires.slot k (c.slots_before_overflow-count.ensures.past (omega (arith, c.if-slot-count.false)) ∙ sym (ap length (slots-are ws os bs view b c.requires.bucket))) far in
+    let v = c.index_mut-list.result.now in let entry_count = list-read os b v there c.index_mut-list.ensures.value in
     let e = c.index_mut-entry.result.now in
-    let got = list-got g.E.Valued.with_key ws os bs view kept b c.requires.bucket i c.requires.place k (c.count_past-count.ensures.past (omega (arith, c.if-place-count.false)) ∙ sym (ap length (slots-are ws os bs view b c.requires.bucket))) far v held e c.index_mut-entry.ensures.value in
+    let got = list-got g.E.Valued.with_key ws os bs view kept b c.requires.bucket i c.requires.slot k (c.slots_before_overflow-count.ensures.past (omega (arith, c.if-slot-count.false)) ∙ sym (ap length (slots-are ws os bs view b c.requires.bucket))) far v entry_count e c.index_mut-entry.ensures.value in
     (e, got, c.replace_key-2.ensures.old)
 
 pub returns-clause-new : goal.returns-clause-new
 returns-clause-new g c =
     let ws = c.self.inside.columns in let os = c.self.inside.overflow.items in let bs = c.args.self.now in let b = c.args.bucket in
-    let view = c.self.view_is in let kept = c.self.invariant.0 in let i = c.args.place in
-    let k = c.count_past-count.result in let far : k ≤ i = omega (arith, c.if-place-count.false) in
-    let there = list-there g.E.Valued.with_key ws os bs view kept b c.requires.bucket i c.requires.place k (c.count_past-count.ensures.past (omega (arith, c.if-place-count.false)) ∙ sym (ap length (slots-are ws os bs view b c.requires.bucket))) far in
-    let v = c.index_mut-list.result.now in let held = list-read os b v there c.index_mut-list.ensures.value in
+    let view = c.self.view_is in let kept = c.self.invariant.0 in let i = c.args.slot in
+    let k = c.slots_before_overflow-count.result in let far : k ≤ i = omega (arith, c.if-slot-count.false) in
+    let there = list-there g.E.Valued.with_key ws os bs view kept b c.requires.bucket i c.requires.slot k (c.slots_before_overflow-count.ensures.past (omega (arith, c.if-slot-count.false)) ∙ sym (ap length (slots-are ws os bs view b c.requires.bucket))) far in
+    let v = c.index_mut-list.result.now in let entry_count = list-read os b v there c.index_mut-list.ensures.value in
     let e = c.index_mut-entry.result.now in
-    list-written g.E.Valued.with_key ws os bs view kept b c.requires.bucket i c.requires.place k (c.count_past-count.ensures.past (omega (arith, c.if-place-count.false)) ∙ sym (ap length (slots-are ws os bs view b c.requires.bucket))) far v held e c.index_mut-entry.ensures.value (with_item v (i - k) c.replace_key-2.new.self) c.args.key (ap (λ x. set v.items (i - k) x) c.replace_key-2.ensures.new) refl
+    list-written g.E.Valued.with_key ws os bs view kept b c.requires.bucket i c.requires.slot k (c.slots_before_overflow-count.ensures.past (omega (arith, c.if-slot-count.false)) ∙ sym (ap length (slots-are ws os bs view b c.requires.bucket))) far v entry_count e c.index_mut-entry.ensures.value (with_item v (i - k) c.replace_key-2.new.self) c.args.key (ap (λ x. set v.items (i - k) x) c.replace_key-2.ensures.new) refl

@@ -29,7 +29,7 @@ returns-in-Some g c =
     let view = c.self.view_is in let within = window-within ws os bs view b c.requires.bucket in
     let p : g.row.E.Denot → Bool = λ e. g.E.Key.PartialEq.eq c.args.key.now (g.E.Keyed.key_of e) in
     let xs = (shelf_of bs b).slots in let ys = (shelf_of bs b).overflow in
-    let found : position p xs ≡ Some c.in-Some.place = ap (position p) (sym (slots-are ws os bs view b c.requires.bucket)) ∙ sym c.find.ensures ∙ c.in-Some.is in
+    let found : position p xs ≡ Some c.in-Some.slot = ap (position p) (sym (slots-are ws os bs view b c.requires.bucket)) ∙ sym c.find.ensures ∙ c.in-Some.is in
     sym (position-joined p xs ys ∙ ap (λ o. or_later o (length xs) (position p ys)) found)
 
 pub returns-then-not-is_crowded : goal.returns-then-not-is_crowded

@@ -13,33 +13,33 @@ use Rattle.scc_array.proofs.Array.swap_remove_at.Goals as goal
 pub swap_remove-requires-clause-bucket : goal.swap_remove-requires-clause-bucket
 swap_remove-requires-clause-bucket g c = window-within c.self.inside.columns c.self.inside.overflow.items c.args.self.now c.self.view_is c.args.bucket c.requires.bucket
 
-pub swap_remove-requires-clause-place : goal.swap_remove-requires-clause-place
-swap_remove-requires-clause-place g c = omega (arith, c.count_past-count.ensures.within c.if-place-count.true, ap length (slots-are c.self.inside.columns c.self.inside.overflow.items c.args.self.now c.self.view_is c.args.bucket c.requires.bucket))
+pub swap_remove-requires-clause-slot : goal.swap_remove-requires-clause-slot
+swap_remove-requires-clause-slot g c = omega (arith, c.slots_before_overflow-count.ensures.within c.if-slot-count.true, ap length (slots-are c.self.inside.columns c.self.inside.overflow.items c.args.self.now c.self.view_is c.args.bucket c.requires.bucket))
 
-pub returns-then-place-count-clause-entry : goal.returns-then-place-count-clause-entry
-returns-then-place-count-clause-entry g c =
+pub returns-then-slot-count-clause-entry : goal.returns-then-slot-count-clause-entry
+returns-then-slot-count-clause-entry g c =
     let ws = c.self.inside.columns in let os = c.self.inside.overflow.items in let bs = c.args.self.now in let b = c.args.bucket in
     let view = c.self.view_is in let within = window-within ws os bs view b c.requires.bucket in
     let slots = slots-are ws os bs view b c.requires.bucket in
-    get-left (shelf_of bs b).slots (shelf_of bs b).overflow c.args.place c.swap_remove.result (ap (λ l. slice_get l c.args.place) (sym slots) ∙ c.swap_remove.ensures.entry)
+    get-left (shelf_of bs b).slots (shelf_of bs b).overflow c.args.slot c.swap_remove.result (ap (λ l. slice_get l c.args.slot) (sym slots) ∙ c.swap_remove.ensures.entry)
 
-pub returns-then-place-count-clause-others : goal.returns-then-place-count-clause-others
-returns-then-place-count-clause-others g c =
+pub returns-then-slot-count-clause-others : goal.returns-then-slot-count-clause-others
+returns-then-slot-count-clause-others g c =
     let ws = c.self.inside.columns in let os = c.self.inside.overflow.items in let bs = c.args.self.now in let b = c.args.bucket in
     let view = c.self.view_is in let within = window-within ws os bs view b c.requires.bucket in
     let slots = slots-are ws os bs view b c.requires.bucket in
     let x = c.swap_remove.result in
-    let t : nat_lt c.args.place (length (window_of ws b).slots) ≡ true = let l : c.args.place < length (window_of ws b).slots = omega (arith, c.count_past-count.ensures.within c.if-place-count.true, ap length slots) in search rules in
-    rw c.swap_remove.ensures.others (seen-window ws os bs view b c.requires.bucket (λ s. swapped_out s c.args.place x) (popped_over (window_of ws b) c.args.place x) (rw t refl))
+    let t : nat_lt c.args.slot (length (window_of ws b).slots) ≡ true = let l : c.args.slot < length (window_of ws b).slots = omega (arith, c.slots_before_overflow-count.ensures.within c.if-slot-count.true, ap length slots) in search rules in
+    rw c.swap_remove.ensures.others (seen-window ws os bs view b c.requires.bucket (λ s. swapped_out s c.args.slot x) (popped_over (window_of ws b) c.args.slot x) (rw t refl))
 
 pub index_mut-list-requires : goal.index_mut-list-requires
 index_mut-list-requires g c =
     let ws = c.self.inside.columns in let os = c.self.inside.overflow.items in let bs = c.args.self.now in let b = c.args.bucket in
     let view = c.self.view_is in let within = window-within ws os bs view b c.requires.bucket in
     let slots = slots-are ws os bs view b c.requires.bucket in
-    let k : c.count_past-count.result ≡ length (shelf_of bs b).slots = (c.count_past-count.ensures.past (omega (arith, c.if-place-count.false)) ∙ sym (ap length slots)) ∙ ap length slots in
-    let far : length (shelf_of bs b).slots ≤ c.args.place = omega (arith, c.if-place-count.false) in
-    let some : c.args.place - c.count_past-count.result < length (shelf_of bs b).overflow = omega (arith, c.requires.place, length-append (shelf_of bs b).slots (shelf_of bs b).overflow) in
+    let k : c.slots_before_overflow-count.result ≡ length (shelf_of bs b).slots = (c.slots_before_overflow-count.ensures.past (omega (arith, c.if-slot-count.false)) ∙ sym (ap length slots)) ∙ ap length slots in
+    let far : length (shelf_of bs b).slots ≤ c.args.slot = omega (arith, c.if-slot-count.false) in
+    let some : c.args.slot - c.slots_before_overflow-count.result < length (shelf_of bs b).overflow = omega (arith, c.requires.slot, length-append (shelf_of bs b).slots (shelf_of bs b).overflow) in
     let there = spilled-there ws os bs view b c.requires.bucket c.self.invariant.0 (omega arith) in
     omega (arith, c.self.inside.overflow.ok.0)
 
@@ -48,9 +48,9 @@ swap_remove-requires-2 g c =
     let ws = c.self.inside.columns in let os = c.self.inside.overflow.items in let bs = c.args.self.now in let b = c.args.bucket in
     let view = c.self.view_is in let within = window-within ws os bs view b c.requires.bucket in
     let slots = slots-are ws os bs view b c.requires.bucket in
-    let k : c.count_past-count.result ≡ length (shelf_of bs b).slots = (c.count_past-count.ensures.past (omega (arith, c.if-place-count.false)) ∙ sym (ap length slots)) ∙ ap length slots in
-    let far : length (shelf_of bs b).slots ≤ c.args.place = omega (arith, c.if-place-count.false) in
-    let some : c.args.place - c.count_past-count.result < length (shelf_of bs b).overflow = omega (arith, c.requires.place, length-append (shelf_of bs b).slots (shelf_of bs b).overflow) in
+    let k : c.slots_before_overflow-count.result ≡ length (shelf_of bs b).slots = (c.slots_before_overflow-count.ensures.past (omega (arith, c.if-slot-count.false)) ∙ sym (ap length slots)) ∙ ap length slots in
+    let far : length (shelf_of bs b).slots ≤ c.args.slot = omega (arith, c.if-slot-count.false) in
+    let some : c.args.slot - c.slots_before_overflow-count.result < length (shelf_of bs b).overflow = omega (arith, c.requires.slot, length-append (shelf_of bs b).slots (shelf_of bs b).overflow) in
     let there = spilled-there ws os bs view b c.requires.bucket c.self.invariant.0 (omega arith) in
     let v = c.index_mut-list.result.now in let items = list-is ws os bs view b c.requires.bucket v (list-read os b v there c.index_mut-list.ensures.value) in
     omega (arith, v.ok.0, ap length items)
@@ -60,26 +60,26 @@ returns-clause-entry g c =
     let ws = c.self.inside.columns in let os = c.self.inside.overflow.items in let bs = c.args.self.now in let b = c.args.bucket in
     let view = c.self.view_is in let within = window-within ws os bs view b c.requires.bucket in
     let slots = slots-are ws os bs view b c.requires.bucket in
-    let k : c.count_past-count.result ≡ length (shelf_of bs b).slots = (c.count_past-count.ensures.past (omega (arith, c.if-place-count.false)) ∙ sym (ap length slots)) ∙ ap length slots in
-    let far : length (shelf_of bs b).slots ≤ c.args.place = omega (arith, c.if-place-count.false) in
-    let some : c.args.place - c.count_past-count.result < length (shelf_of bs b).overflow = omega (arith, c.requires.place, length-append (shelf_of bs b).slots (shelf_of bs b).overflow) in
+    let k : c.slots_before_overflow-count.result ≡ length (shelf_of bs b).slots = (c.slots_before_overflow-count.ensures.past (omega (arith, c.if-slot-count.false)) ∙ sym (ap length slots)) ∙ ap length slots in
+    let far : length (shelf_of bs b).slots ≤ c.args.slot = omega (arith, c.if-slot-count.false) in
+    let some : c.args.slot - c.slots_before_overflow-count.result < length (shelf_of bs b).overflow = omega (arith, c.requires.slot, length-append (shelf_of bs b).slots (shelf_of bs b).overflow) in
     let there = spilled-there ws os bs view b c.requires.bucket c.self.invariant.0 (omega arith) in
     let v = c.index_mut-list.result.now in let items = list-is ws os bs view b c.requires.bucket v (list-read os b v there c.index_mut-list.ensures.value) in
-    let x = c.swap_remove-2.result in let j = c.args.place - c.count_past-count.result in
-    get-later (shelf_of bs b).slots (shelf_of bs b).overflow c.args.place j (omega arith) ∙ ap (λ l. slice_get l j) (sym items) ∙ get-here v.items j x (omega (arith, ap length items)) ∙ ap Some (sym c.swap_remove-2.ensures.value)
+    let x = c.swap_remove-2.result in let j = c.args.slot - c.slots_before_overflow-count.result in
+    get-later (shelf_of bs b).slots (shelf_of bs b).overflow c.args.slot j (omega arith) ∙ ap (λ l. slice_get l j) (sym items) ∙ get-here v.items j x (omega (arith, ap length items)) ∙ ap Some (sym c.swap_remove-2.ensures.value)
 
 pub returns-clause-others : goal.returns-clause-others
 returns-clause-others g c =
     let ws = c.self.inside.columns in let os = c.self.inside.overflow.items in let bs = c.args.self.now in let b = c.args.bucket in
     let view = c.self.view_is in let within = window-within ws os bs view b c.requires.bucket in
     let slots = slots-are ws os bs view b c.requires.bucket in
-    let k : c.count_past-count.result ≡ length (shelf_of bs b).slots = (c.count_past-count.ensures.past (omega (arith, c.if-place-count.false)) ∙ sym (ap length slots)) ∙ ap length slots in
-    let far : length (shelf_of bs b).slots ≤ c.args.place = omega (arith, c.if-place-count.false) in
-    let some : c.args.place - c.count_past-count.result < length (shelf_of bs b).overflow = omega (arith, c.requires.place, length-append (shelf_of bs b).slots (shelf_of bs b).overflow) in
+    let k : c.slots_before_overflow-count.result ≡ length (shelf_of bs b).slots = (c.slots_before_overflow-count.ensures.past (omega (arith, c.if-slot-count.false)) ∙ sym (ap length slots)) ∙ ap length slots in
+    let far : length (shelf_of bs b).slots ≤ c.args.slot = omega (arith, c.if-slot-count.false) in
+    let some : c.args.slot - c.slots_before_overflow-count.result < length (shelf_of bs b).overflow = omega (arith, c.requires.slot, length-append (shelf_of bs b).slots (shelf_of bs b).overflow) in
     let there = spilled-there ws os bs view b c.requires.bucket c.self.invariant.0 (omega arith) in
-    let v = c.index_mut-list.result.now in let held = list-read os b v there c.index_mut-list.ensures.value in
-    let x = c.swap_remove-2.result in let count = (c.count_past-count.ensures.past (omega (arith, c.if-place-count.false)) ∙ sym (ap length slots)) in
-    let t : nat_lt c.args.place (length (window_of ws b).slots) ≡ false = let l : length (window_of ws b).slots ≤ c.args.place = omega (arith, (c.count_past-count.ensures.past (omega (arith, c.if-place-count.false)) ∙ sym (ap length slots)), c.if-place-count.false) in search rules in
-    let j = c.args.place - c.count_past-count.result in let same : c.args.place - length (window_of ws b).slots ≡ j = ap (λ n. c.args.place - n) (sym count) in
-    seen-list ws os bs view b c.requires.bucket (λ s. swapped_out s c.args.place x) c.swap_remove-2.new.self (swap_remove v.items j x) (vec_capacity v) there c.swap_remove-2.ensures.items c.swap_remove-2.ensures.capacity
-    (rw (t, held, same) refl)
+    let v = c.index_mut-list.result.now in let entry_count = list-read os b v there c.index_mut-list.ensures.value in
+    let x = c.swap_remove-2.result in let count = (c.slots_before_overflow-count.ensures.past (omega (arith, c.if-slot-count.false)) ∙ sym (ap length slots)) in
+    let t : nat_lt c.args.slot (length (window_of ws b).slots) ≡ false = let l : length (window_of ws b).slots ≤ c.args.slot = omega (arith, (c.slots_before_overflow-count.ensures.past (omega (arith, c.if-slot-count.false)) ∙ sym (ap length slots)), c.if-slot-count.false) in search rules in
+    let j = c.args.slot - c.slots_before_overflow-count.result in let same : c.args.slot - length (window_of ws b).slots ≡ j = ap (λ n. c.args.slot - n) (sym count) in
+    seen-list ws os bs view b c.requires.bucket (λ s. swapped_out s c.args.slot x) c.swap_remove-2.new.self (swap_remove v.items j x) (vec_capacity v) there c.swap_remove-2.ensures.items c.swap_remove-2.ensures.capacity
+    (rw (t, entry_count, same) refl)

@@ -10,13 +10,13 @@ u-requires g c =
     let p : g.row.E.Denot → Bool = λ e. g.E.Key.PartialEq.eq c.args.key.now (g.E.Keyed.key_of e) in
     let es = shelf_entries (shelf_of c.args.self.now c.args.bucket) in
     let parts = c.parts_mut_at-value.ensures.parts in
-    let found : position p es ≡ Some c.in-Some.place = sym c.in-Some.ensures in
-    c.requires.takes parts.0 c.parts_mut_at-value.result.0 c.parts_mut_at-value.result.1 (find-position p es c.in-Some.place found ∙ parts.1) parts.2 parts.3
+    let found : position p es ≡ Some c.in-Some.slot = sym c.in-Some.ensures in
+    c.requires.takes parts.0 c.parts_mut_at-value.result.0 c.parts_mut_at-value.result.1 (find-position p es c.in-Some.slot found ∙ parts.1) parts.2 parts.3
 
 pub returns-in-Some : goal.returns-in-Some
 returns-in-Some g c =
     let parts = c.parts_mut_at-value.ensures.parts in (
-      c.in-Some.place,
+      c.in-Some.slot,
       parts.0,
       c.u.new.arg3,
       sym c.in-Some.ensures,

@@ -22,29 +22,29 @@ picked-init g c = record {
 
 pub take-entry-requires : goal.take-entry-requires
 take-entry-requires g c =
-    let w = c.requires.held.0 in let at = c.requires.held.1 in
+    let w = c.requires.entry_count.0 in let at = c.requires.entry_count.1 in
     let e = picks-entry (ups c.args.flags.now) c.args.base c.args.target w c.args.into.now c.args.first at.same at.most c.picked.slots c.picked.row c.picked.into c.picked.bits c.picked.next (c.picked.invariant.picks w at) c.lowest_bit-p.result c.lowest_bit-p.ensures.set in
     (e.0, e.1)
 
 pub push_at-requires-clause-room : goal.push_at-requires-clause-room
 push_at-requires-clause-room g c =
-    let w = c.requires.held.0 in let at = c.requires.held.1 in
-    picks-room (ups c.args.flags.now) c.args.base c.args.target w c.args.into.now c.args.first at.same at.most c.picked.slots c.picked.row c.picked.into c.picked.bits c.picked.next (c.picked.invariant.picks w at) c.lowest_bit-p.result c.lowest_bit-p.ensures.set c.requires.held.2
+    let w = c.requires.entry_count.0 in let at = c.requires.entry_count.1 in
+    picks-room (ups c.args.flags.now) c.args.base c.args.target w c.args.into.now c.args.first at.same at.most c.picked.slots c.picked.row c.picked.into c.picked.bits c.picked.next (c.picked.invariant.picks w at) c.lowest_bit-p.result c.lowest_bit-p.ensures.set c.requires.entry_count.2
 
 pub push_at-requires-clause-tag : goal.push_at-requires-clause-tag
 push_at-requires-clause-tag g c =
-    let w = c.requires.held.0 in let at = c.requires.held.1 in
+    let w = c.requires.entry_count.0 in let at = c.requires.entry_count.1 in
     picks-some (ups c.args.flags.now) c.args.base c.args.target w c.args.into.now c.args.first at.same at.most c.picked.slots c.picked.row c.picked.into c.picked.bits c.picked.next (c.picked.invariant.picks w at) c.lowest_bit-p.result c.lowest_bit-p.ensures.set
 
 pub overflow_add-next : goal.overflow_add-next
 overflow_add-next g c =
-    let w = c.requires.held.0 in let at = c.requires.held.1 in
-    let r = picks-room (ups c.args.flags.now) c.args.base c.args.target w c.args.into.now c.args.first at.same at.most c.picked.slots c.picked.row c.picked.into c.picked.bits c.picked.next (c.picked.invariant.picks w at) c.lowest_bit-p.result c.lowest_bit-p.ensures.set c.requires.held.2 in
+    let w = c.requires.entry_count.0 in let at = c.requires.entry_count.1 in
+    let r = picks-room (ups c.args.flags.now) c.args.base c.args.target w c.args.into.now c.args.first at.same at.most c.picked.slots c.picked.row c.picked.into c.picked.bits c.picked.next (c.picked.invariant.picks w at) c.lowest_bit-p.result c.lowest_bit-p.ensures.set c.requires.entry_count.2 in
     record { fits = omega arith }
 
 pub picked-preserved : goal.picked-preserved
 picked-preserved g c =
-    let w = c.requires.held.0 in let at = c.requires.held.1 in
+    let w = c.requires.entry_count.0 in let at = c.requires.entry_count.1 in
     let p = c.lowest_bit-p.result in
     let within = picks-within (ups c.args.flags.now) c.args.base c.args.target w c.args.into.now c.args.first at.same at.most c.picked.slots c.picked.row c.picked.into c.picked.bits c.picked.next (c.picked.invariant.picks w at) c.lowest_bit-p.result c.lowest_bit-p.ensures.set in
     record {
@@ -52,10 +52,10 @@ picked-preserved g c =
           let more = picks-out (ups c.args.flags.now) c.args.base c.args.target v c.args.into.now c.args.first here.same here.most c.picked.slots c.picked.row c.picked.into c.picked.bits c.picked.next (c.picked.invariant.picks v here) c.lowest_bit-p.result c.lowest_bit-p.ensures.set c.lowest_bit-p.ensures.first (omega arith) (omega arith) c.requires.target
           c.take-entry.result c.take-entry.ensures.entry c.push_at.new.self c.push_at.ensures c.without_lowest_bit-bits.result
           (λ k b ne. c.without_lowest_bit-bits.ensures.others k b (λ z. ne (z ∙ sym c.lowest_bit-p.ensures.value))) (λ k b. let o = c.without_lowest_bit-bits.ensures.only k b in (o.0, λ z. o.1 (z ∙ c.lowest_bit-p.ensures.value))) in
-          rw c.take-entry.ensures.places more;
-      count = rw c.take-entry.ensures.places (length-set c.picked.slots (c.args.base + p) None ∙ c.picked.invariant.count);
+          rw c.take-entry.ensures.cells more;
+      count = rw c.take-entry.ensures.cells (length-set c.picked.slots (c.args.base + p) None ∙ c.picked.invariant.count);
       wide = length-set c.picked.row p 0 ∙ c.picked.invariant.wide;
-      others = λ q o. rw c.take-entry.ensures.places (get_or-set_other c.picked.slots (c.args.base + p) q None None (λ z. elim o [ inl a ↦ omega arith | inr a ↦ omega arith ]) ∙ c.picked.invariant.others q o);
+      others = λ q o. rw c.take-entry.ensures.cells (get_or-set_other c.picked.slots (c.args.base + p) q None None (λ z. elim o [ inl a ↦ omega arith | inr a ↦ omega arith ]) ∙ c.picked.invariant.others q o);
     }
 
 pub returns-clause-left : goal.returns-clause-left

@@ -11,5 +11,5 @@ returns-in-Err g c =
       growth = (search rules);
       first = (search rules);
       noted = (search rules);
-      unique = (rw c.make_array.ensures.still tt);
+      unique = (rw c.install_first.ensures.still tt);
     }

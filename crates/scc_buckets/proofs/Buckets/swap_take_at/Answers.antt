@@ -1,6 +1,6 @@
 use Rattle.std.proofs.Common.{refl, sym, ◌∙◌, ◌≡◌, ◌<◌, ◌≤◌, ap, rules, arith, length}
 use Rattle.scc_contents.specs.Hashing.{hash_of}
-use Rattle.scc_array.specs.Shelf.{shelf_entries, without_place}
+use Rattle.scc_array.specs.Shelf.{shelf_entries, without_slot}
 use Rattle.scc_buckets.proofs.Inserts.{read-again}
 use Rattle.scc_buckets.proofs.Removes.{at-least-one}
 use Rattle.scc_buckets.proofs.OneList.{swapped-out-of-list}
@@ -55,7 +55,7 @@ overflow_sub-self g c =
     let l : c.args.place.bucket < length bs = rw count at c.requires.bucket in
     let b = (shelf_of c.self.inside.buckets c.args.place.bucket) in
     let lk : c.args.place.slot < length (shelf_entries b) = rw (list-view bs _ c.args.self.now c.self.view_is c.args.place.bucket b l (shelf-at c.self.inside.buckets c.args.place.bucket l)) at c.requires.slot in
-    at-least-one (λ e. hash_of g.H.BuildHasher g.H.Hasher.Hasher c.self.inside.hasher (g.E.Key.Hash.hash_input (g.E.Keyed.key_of e))) t.skipped t.length t.overflowing c.args.place bs c.self.invariant.table _ c.args.self.now c.self.view_is b l (shelf-at c.self.inside.buckets c.args.place.bucket l) lk (without_place b c.args.place.slot) refl
+    at-least-one (λ e. hash_of g.H.BuildHasher g.H.Hasher.Hasher c.self.inside.hasher (g.E.Key.Hash.hash_input (g.E.Keyed.key_of e))) t.skipped t.length t.overflowing c.args.place bs c.self.invariant.table _ c.args.self.now c.self.view_is b l (shelf-at c.self.inside.buckets c.args.place.bucket l) lk (without_slot b c.args.place.slot) refl
 
 pub overflow_sub-self-2 : goal.overflow_sub-self-2
 overflow_sub-self-2 g c =

@@ -16,8 +16,8 @@ returns-then-count-eq0 g c =
     let none : length c.self.inside.buckets ≡ 0 = search rules in
     (ap (position p) (no-entries c.self.inside.buckets _ c.args.self.now c.self.view_is none), refl)
 
-pub take_in_places-requires-clause-tagged : goal.take_in_places-requires-clause-tagged
-take_in_places-requires-clause-tagged g c =
+pub take_in_slots-requires-clause-tagged : goal.take_in_slots-requires-clause-tagged
+take_in_slots-requires-clause-tagged g c =
     let t = c.self.inside in
     let bs = t.buckets in
     let i = c.bucket_index-bucket.result in
@@ -36,7 +36,7 @@ invariant_of-self g c =
     let hash = λ (x : g.row.E.Denot). hash_of g.H.BuildHasher g.H.Hasher.Hasher t.hasher (g.E.Key.Hash.hash_input (g.E.Keyed.key_of x)) in
     let hashed = rw (settings-view bs _ c.args.self.now c.self.view_is) at c.requires in
     let same : HashOf p hash c.args.hash = record { same = λ x w. sym (hashed ∙ ap (hash_of g.H.BuildHasher g.H.Hasher.Hasher t.hasher) (g.met.E.Key.Hash.respects_eq c.args.key.now (g.E.Keyed.key_of x) w)) } in
-    let ds = c.take_in_places.new.self in
+    let ds = c.take_in_slots.new.self in
     let took = c.in-Some.ensures in
     let j = took.0 in
     let out : IsTakenOut p bs i ds j c.in-Some.entry = took.2 in
@@ -56,7 +56,7 @@ returns-in-Some g c =
     let hash = λ (x : g.row.E.Denot). hash_of g.H.BuildHasher g.H.Hasher.Hasher t.hasher (g.E.Key.Hash.hash_input (g.E.Keyed.key_of x)) in
     let hashed = rw (settings-view bs _ c.args.self.now c.self.view_is) at c.requires in
     let same : HashOf p hash c.args.hash = record { same = λ x w. sym (hashed ∙ ap (hash_of g.H.BuildHasher g.H.Hasher.Hasher t.hasher) (g.met.E.Key.Hash.respects_eq c.args.key.now (g.E.Keyed.key_of x) w)) } in
-    let ds = c.take_in_places.new.self in
+    let ds = c.take_in_slots.new.self in
     let took = c.in-Some.ensures in
     let j = took.0 in
     let out : IsTakenOut p bs i ds j c.in-Some.entry = took.2 in
@@ -71,13 +71,13 @@ returns-then-not-is_crowded g c =
     let hash = λ (x : g.row.E.Denot). hash_of g.H.BuildHasher g.H.Hasher.Hasher t.hasher (g.E.Key.Hash.hash_input (g.E.Keyed.key_of x)) in
     let hashed = rw (settings-view bs _ c.args.self.now c.self.view_is) at c.requires in
     let same : HashOf p hash c.args.hash = record { same = λ x w. sym (hashed ∙ ap (hash_of g.H.BuildHasher g.H.Hasher.Hasher t.hasher) (g.met.E.Key.Hash.respects_eq c.args.key.now (g.E.Keyed.key_of x) w)) } in
-    let ds = c.take_in_places.new.self in
+    let ds = c.take_in_slots.new.self in
     let stays : ds ≡ bs = c.in-None.ensures.1 in
     let empty : (shelf_of bs i).overflow ≡ [] = subst (λ (z : List (Shelf g.row.E.Denot)). (shelf_of z i).overflow ≡ []) stays (c.is_crowded.ensures c.if-not-is_crowded.true) in
     missed-places p hash c.args.hash t.skipped t.length t.overflowing i bs c.self.invariant.table same (search rules) (search rules) _ c.args.self.now c.self.view_is c.in-None.ensures.0 empty ds stays
 
-pub invariant_of-self-in-Some-take_past_places : goal.invariant_of-self-in-Some-take_past_places
-invariant_of-self-in-Some-take_past_places g c =
+pub invariant_of-self-in-Some-take_in_overflow : goal.invariant_of-self-in-Some-take_in_overflow
+invariant_of-self-in-Some-take_in_overflow g c =
     let t = c.self.inside in
     let bs = t.buckets in
     let i = c.bucket_index-bucket.result in
@@ -85,10 +85,10 @@ invariant_of-self-in-Some-take_past_places g c =
     let hash = λ (x : g.row.E.Denot). hash_of g.H.BuildHasher g.H.Hasher.Hasher t.hasher (g.E.Key.Hash.hash_input (g.E.Keyed.key_of x)) in
     let hashed = rw (settings-view bs _ c.args.self.now c.self.view_is) at c.requires in
     let same : HashOf p hash c.args.hash = record { same = λ x w. sym (hashed ∙ ap (hash_of g.H.BuildHasher g.H.Hasher.Hasher t.hasher) (g.met.E.Key.Hash.respects_eq c.args.key.now (g.E.Keyed.key_of x) w)) } in
-    let ds = c.take_past_places.new.self in
-    let took = c.in-Some-take_past_places.ensures in
+    let ds = c.take_in_overflow.new.self in
+    let took = c.in-Some-take_in_overflow.ensures in
     let j = took.0 in
-    let x = c.in-Some-take_past_places.entry in
+    let x = c.in-Some-take_in_overflow.entry in
     let out : IsTakenOut p bs i ds j x = subst (λ (z : List (Shelf g.row.E.Denot)). IsTakenOut p z i ds j x) c.in-None.ensures.1 took.2 in
     let past : length (shelf_of bs i).slots ≤ j = subst (λ (z : List (Shelf g.row.E.Denot)). length (shelf_of z i).slots ≤ j) c.in-None.ensures.1 took.1 in
     record {
@@ -98,8 +98,8 @@ invariant_of-self-in-Some-take_past_places g c =
       unique = taken-unique p hash c.args.hash t.skipped t.length t.overflowing i bs c.self.invariant.table same (search rules) (search rules) _ c.args.self.now c.self.view_is ds j x out g.met.E.Key.Eq.laws g.E.Keyed.key_of c.self.invariant.unique;
     }
 
-pub returns-in-Some-take_past_places : goal.returns-in-Some-take_past_places
-returns-in-Some-take_past_places g c =
+pub returns-in-Some-take_in_overflow : goal.returns-in-Some-take_in_overflow
+returns-in-Some-take_in_overflow g c =
     let t = c.self.inside in
     let bs = t.buckets in
     let i = c.bucket_index-bucket.result in
@@ -107,16 +107,16 @@ returns-in-Some-take_past_places g c =
     let hash = λ (x : g.row.E.Denot). hash_of g.H.BuildHasher g.H.Hasher.Hasher t.hasher (g.E.Key.Hash.hash_input (g.E.Keyed.key_of x)) in
     let hashed = rw (settings-view bs _ c.args.self.now c.self.view_is) at c.requires in
     let same : HashOf p hash c.args.hash = record { same = λ x w. sym (hashed ∙ ap (hash_of g.H.BuildHasher g.H.Hasher.Hasher t.hasher) (g.met.E.Key.Hash.respects_eq c.args.key.now (g.E.Keyed.key_of x) w)) } in
-    let ds = c.take_past_places.new.self in
-    let took = c.in-Some-take_past_places.ensures in
+    let ds = c.take_in_overflow.new.self in
+    let took = c.in-Some-take_in_overflow.ensures in
     let j = took.0 in
-    let x = c.in-Some-take_past_places.entry in
+    let x = c.in-Some-take_in_overflow.entry in
     let out : IsTakenOut p bs i ds j x = subst (λ (z : List (Shelf g.row.E.Denot)). IsTakenOut p z i ds j x) c.in-None.ensures.1 took.2 in
     let past : length (shelf_of bs i).slots ≤ j = subst (λ (z : List (Shelf g.row.E.Denot)). length (shelf_of z i).slots ≤ j) c.in-None.ensures.1 took.1 in
     taken-first p hash c.args.hash t.skipped t.length t.overflowing i bs c.self.invariant.table same (search rules) (search rules) _ c.args.self.now c.self.view_is ds j x out
 
-pub returns-in-None-take_past_places : goal.returns-in-None-take_past_places
-returns-in-None-take_past_places g c =
+pub returns-in-None-take_in_overflow : goal.returns-in-None-take_in_overflow
+returns-in-None-take_in_overflow g c =
     let t = c.self.inside in
     let bs = t.buckets in
     let i = c.bucket_index-bucket.result in
@@ -124,7 +124,7 @@ returns-in-None-take_past_places g c =
     let hash = λ (x : g.row.E.Denot). hash_of g.H.BuildHasher g.H.Hasher.Hasher t.hasher (g.E.Key.Hash.hash_input (g.E.Keyed.key_of x)) in
     let hashed = rw (settings-view bs _ c.args.self.now c.self.view_is) at c.requires in
     let same : HashOf p hash c.args.hash = record { same = λ x w. sym (hashed ∙ ap (hash_of g.H.BuildHasher g.H.Hasher.Hasher t.hasher) (g.met.E.Key.Hash.respects_eq c.args.key.now (g.E.Keyed.key_of x) w)) } in
-    let ds = c.take_past_places.new.self in
+    let ds = c.take_in_overflow.new.self in
     let stays = c.in-None.ensures.1 in
-    let missed : position p (shelf_entries (shelf_of bs i)) ≡ None = subst (λ (z : List (Shelf g.row.E.Denot)). position p (shelf_entries (shelf_of z i)) ≡ None) stays c.in-None-take_past_places.ensures.0 in
-    missed-all p hash c.args.hash t.skipped t.length t.overflowing i bs c.self.invariant.table same (search rules) (search rules) _ c.args.self.now c.self.view_is missed ds (c.in-None-take_past_places.ensures.1 ∙ stays)
+    let missed : position p (shelf_entries (shelf_of bs i)) ≡ None = subst (λ (z : List (Shelf g.row.E.Denot)). position p (shelf_entries (shelf_of z i)) ≡ None) stays c.in-None-take_in_overflow.ensures.0 in
+    missed-all p hash c.args.hash t.skipped t.length t.overflowing i bs c.self.invariant.table same (search rules) (search rules) _ c.args.self.now c.self.view_is missed ds (c.in-None-take_in_overflow.ensures.1 ∙ stays)

@@ -1,5 +1,5 @@
 use Rattle.std.proofs.Common.{ℕ, subst, refl, arith}
-use Rattle.scc_buckets.specs.Bounded.{MayNarrow, ShrinksBounded}
+use Rattle.scc_buckets.specs.Bounded.{MayShrinkWithin, ShrinksBounded}
 use Rattle.scc_contents.specs.Hashing.{hash_of}
 use Rattle.scc_table.specs.Relocates.{Spreads}
 use Rattle.scc_cache.proofs.Relocations.{shrunk-none}
@@ -44,5 +44,5 @@ returns-clause-relocates g c =
     let left = c.self.inside.table in
     let held = rw (← c.self.view_is) at c.take_all.ensures.empty in
     let shrinks = subst (λ s. ShrinksBounded (λ e. hash_of g.H.BuildHasher g.H.Hasher.Hasher s.hasher (g.K.Hash.hash_input e.0)) left c.shrink_within.new.self) held.settings c.shrink_within.ensures.shrinks in
-    let spreads = subst (λ s. Spreads ((n : ℕ) × MayNarrow (λ e. hash_of g.H.BuildHasher g.H.Hasher.Hasher s.hasher (g.K.Hash.hash_input e.0)) left n) left c.shrink_within.new.self) held.settings c.shrink_within.ensures.spreads in
+    let spreads = subst (λ s. Spreads ((n : ℕ) × MayShrinkWithin (λ e. hash_of g.H.BuildHasher g.H.Hasher.Hasher s.hasher (g.K.Hash.hash_input e.0)) left n) left c.shrink_within.new.self) held.settings c.shrink_within.ensures.spreads in
     shrunk-none _ c.args.self.now.contents left c.shrink_within.new.self held.buckets (rw (← c.self.view_is) at c.take_all.ensures.waiting) shrinks spreads

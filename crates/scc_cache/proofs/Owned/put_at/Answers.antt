@@ -17,51 +17,51 @@ use Rattle.scc_cache.proofs.Owned.put_at.Goals as goal
 
 pub put_within-evicted-requires-clause-within : goal.put_within-evicted-requires-clause-within
 put_within-evicted-requires-clause-within g c =
-    let n = count-same c.bucket_within.new.self c.drop_room_within.new.self c.drop_room_within.ensures.lists in
+    let n = count-same c.bucket_within.new.self c.drop_mark_within.new.self c.drop_mark_within.ensures.lists in
     omega (arith, c.in-Ok.ensures.within)
 
 pub put_within-evicted-requires-clause-routed : goal.put_within-evicted-requires-clause-routed
 put_within-evicted-requires-clause-routed g c =
     let m = c.bucket_within.new.self in
-    let u = c.drop_room_within.new.self in
-    let n = count-same m u c.drop_room_within.ensures.lists in
-    c.in-Ok.ensures.routed ∙ ap (λ s. bucket_number s.skipped (bucket_count m) c.args.hash) (sym c.drop_room_within.ensures.settings) ∙ ap (λ k. bucket_number (settings_of u).skipped k c.args.hash) (sym n)
+    let u = c.drop_mark_within.new.self in
+    let n = count-same m u c.drop_mark_within.ensures.lists in
+    c.in-Ok.ensures.routed ∙ ap (λ s. bucket_number s.skipped (bucket_count m) c.args.hash) (sym c.drop_mark_within.ensures.settings) ∙ ap (λ k. bucket_number (settings_of u).skipped k c.args.hash) (sym n)
 
 pub put_within-evicted-requires-clause-hashed : goal.put_within-evicted-requires-clause-hashed
 put_within-evicted-requires-clause-hashed g c =
     let t = c.self.inside.table in
-    let u = c.drop_room_within.new.self in
+    let u = c.drop_mark_within.new.self in
     let hashed = rw (← c.self.view_is) at c.requires.hashed in
-    hashed ∙ ap (λ s. hash_of g.H.BuildHasher g.H.Hasher.Hasher s.hasher (g.K.Hash.hash_input c.args.k)) (sym (c.drop_room_within.ensures.settings ∙ c.bucket_within.ensures.settings))
+    hashed ∙ ap (λ s. hash_of g.H.BuildHasher g.H.Hasher.Hasher s.hasher (g.K.Hash.hash_input c.args.k)) (sym (c.drop_mark_within.ensures.settings ∙ c.bucket_within.ensures.settings))
 
 pub put_within-evicted-requires-clause-absent : goal.put_within-evicted-requires-clause-absent
 put_within-evicted-requires-clause-absent g c =
     let m = c.bucket_within.new.self in
     let lacking = rw (← c.self.view_is) at c.requires.lacking in
-    ap (position (λ (e : g.row.K.Denot × g.row.V.Denot). g.K.PartialEq.eq c.args.k e.0)) (entries-same m c.drop_room_within.new.self c.drop_room_within.ensures.lists)
+    ap (position (λ (e : g.row.K.Denot × g.row.V.Denot). g.K.PartialEq.eq c.args.k e.0)) (entries-same m c.drop_mark_within.new.self c.drop_mark_within.ensures.lists)
     ∙ absent-permuted (λ e. g.K.PartialEq.eq c.args.k e.0) (entries c.self.inside.table) (entries m) c.bucket_within.ensures.same lacking.all
 
 pub list_len-slot-requires : goal.list_len-slot-requires
 list_len-slot-requires g c =
-    let n = count-same c.bucket_within.new.self c.drop_room_within.new.self c.drop_room_within.ensures.lists in
-    let put = puts-count c.drop_room_within.new.self c.put_within-evicted.new.self _ _ c.put_within-evicted.result c.put_within-evicted.ensures.step in
+    let n = count-same c.bucket_within.new.self c.drop_mark_within.new.self c.drop_mark_within.ensures.lists in
+    let put = puts-count c.drop_mark_within.new.self c.put_within-evicted.new.self _ _ c.put_within-evicted.result c.put_within-evicted.ensures.step in
     omega (arith, put.0, c.in-Ok.ensures.within)
 
 pub overflow_sub-slot : goal.overflow_sub-slot
 overflow_sub-slot g c =
-    let n = count-same c.bucket_within.new.self c.drop_room_within.new.self c.drop_room_within.ensures.lists in
-    let l : c.in-Ok.bucket < bucket_count c.drop_room_within.new.self = omega (arith, c.in-Ok.ensures.within) in
-    omega (arith, c.list_len-slot.ensures, put-length c.drop_room_within.new.self c.put_within-evicted.new.self _ _ c.put_within-evicted.result c.put_within-evicted.ensures.step l)
+    let n = count-same c.bucket_within.new.self c.drop_mark_within.new.self c.drop_mark_within.ensures.lists in
+    let l : c.in-Ok.bucket < bucket_count c.drop_mark_within.new.self = omega (arith, c.in-Ok.ensures.within) in
+    omega (arith, c.list_len-slot.ensures, put-length c.drop_mark_within.new.self c.put_within-evicted.new.self _ _ c.put_within-evicted.result c.put_within-evicted.ensures.step l)
 
 pub invariant_of-self : goal.invariant_of-self
 invariant_of-self g c =
     let h = c.self.invariant in
     let m = c.bucket_within.new.self in
-    let u = c.drop_room_within.new.self in
-    let n = count-same m u c.drop_room_within.ensures.lists in
+    let u = c.drop_mark_within.new.self in
+    let n = count-same m u c.drop_mark_within.ensures.lists in
     let put = puts-count u c.put_within-evicted.new.self _ _ c.put_within-evicted.result c.put_within-evicted.ensures.step in
-    let within = grown-within _ c.self.inside.table m c.self.inside.maximum _ c.in-Ok.ensures.grows h.power h.least h.within h.minimum in
-    state-after g.K.PartialEq.eq _ _ c.self.inside.table c.put_within-evicted.new.self c.self.inside.maximum h c.put_within-evicted.ensures.listed c.put_within-evicted.ensures.unique (put.1 ∙ c.drop_room_within.ensures.settings ∙ c.bucket_within.ensures.settings) (subst (λ n. 32 * n ≤ c.self.inside.maximum) (sym (put.0 ∙ n)) within)
+    let within = grown-within _ c.self.inside.table m c.self.inside.maximum _ c.in-Ok.ensures.grows h.power h.least_slots h.within h.minimum in
+    state-after g.K.PartialEq.eq _ _ c.self.inside.table c.put_within-evicted.new.self c.self.inside.maximum h c.put_within-evicted.ensures.listed c.put_within-evicted.ensures.unique (put.1 ∙ c.drop_mark_within.ensures.settings ∙ c.bucket_within.ensures.settings) (subst (λ n. 32 * n ≤ c.self.inside.maximum) (sym (put.0 ∙ n)) within)
 
 pub returns-in-Ok : goal.returns-in-Ok
 returns-in-Ok g c =
@@ -69,9 +69,9 @@ returns-in-Ok g c =
       step = (
           let t = c.self.inside.table in
           let m = c.bucket_within.new.self in
-          let u = c.drop_room_within.new.self in
+          let u = c.drop_mark_within.new.self in
           let d = c.put_within-evicted.new.self in
-          let r = c.drop_room_within.ensures in
+          let r = c.drop_mark_within.ensures in
           let f : g.row.K.Denot → ℕ = (λ k. hash_of g.H.BuildHasher g.H.Hasher.Hasher (settings_of t).hasher (g.K.Hash.hash_input k)) in
           let number : ℕ → g.row.K.Denot → ℕ = λ n k. bucket_number (settings_of t).skipped n (f k) in
           let hashed = rw (← c.self.view_is) at c.requires.hashed in
@@ -94,48 +94,48 @@ returns-in-Ok g c =
             },
           ));
       here = (
-          let u = c.drop_room_within.new.self in
-          let n = count-same c.bucket_within.new.self u c.drop_room_within.ensures.lists in
+          let u = c.drop_mark_within.new.self in
+          let n = count-same c.bucket_within.new.self u c.drop_mark_within.ensures.lists in
           let l : c.in-Ok.bucket < bucket_count u = omega (arith, c.in-Ok.ensures.within) in
           let some = put-length u c.put_within-evicted.new.self _ _ c.put_within-evicted.result c.put_within-evicted.ensures.step l in
           at-spot c.put_within-evicted.new.self (record { bucket = c.in-Ok.bucket; slot = c.list_len-slot.result - 1 }) (c.args.k, c.args.v)
-          (put-place u c.put_within-evicted.new.self c.in-Ok.bucket (c.args.k, c.args.v) c.put_within-evicted.result c.put_within-evicted.ensures.step l (c.list_len-slot.result - 1) (omega (arith, c.list_len-slot.ensures))) c.put_within-evicted.ensures.settled);
+          (put-place u c.put_within-evicted.new.self c.in-Ok.bucket (c.args.k, c.args.v) c.put_within-evicted.result c.put_within-evicted.ensures.step l (c.list_len-slot.result - 1) (omega (arith, c.list_len-slot.ensures))) c.put_within-evicted.ensures.not_waiting);
       refused = tt;
       state = (
           let h = c.self.invariant in
           let m = c.bucket_within.new.self in
-          let u = c.drop_room_within.new.self in
-          let n = count-same m u c.drop_room_within.ensures.lists in
+          let u = c.drop_mark_within.new.self in
+          let n = count-same m u c.drop_mark_within.ensures.lists in
           let put = puts-count u c.put_within-evicted.new.self _ _ c.put_within-evicted.result c.put_within-evicted.ensures.step in
-          let within = grown-within _ c.self.inside.table m c.self.inside.maximum _ c.in-Ok.ensures.grows h.power h.least h.within h.minimum in
-          state-after g.K.PartialEq.eq _ _ c.self.inside.table c.put_within-evicted.new.self c.self.inside.maximum h c.put_within-evicted.ensures.listed c.put_within-evicted.ensures.unique (put.1 ∙ c.drop_room_within.ensures.settings ∙ c.bucket_within.ensures.settings) (subst (λ n. 32 * n ≤ c.self.inside.maximum) (sym (put.0 ∙ n)) within));
+          let within = grown-within _ c.self.inside.table m c.self.inside.maximum _ c.in-Ok.ensures.grows h.power h.least_slots h.within h.minimum in
+          state-after g.K.PartialEq.eq _ _ c.self.inside.table c.put_within-evicted.new.self c.self.inside.maximum h c.put_within-evicted.ensures.listed c.put_within-evicted.ensures.unique (put.1 ∙ c.drop_mark_within.ensures.settings ∙ c.bucket_within.ensures.settings) (subst (λ n. 32 * n ≤ c.self.inside.maximum) (sym (put.0 ∙ n)) within));
       relocates = (
           let t = c.self.inside.table in
           let m = c.bucket_within.new.self in
-          let u = c.drop_room_within.new.self in
+          let u = c.drop_mark_within.new.self in
           let d = c.put_within-evicted.new.self in
           let w = c.bucket_within.ensures in
           let x = c.put_within-evicted.ensures in
           let hashed = rw (← c.self.view_is) at c.requires.hashed in
           let routed = c.in-Ok.ensures.routed ∙ ap (λ s. bucket_number s.skipped (bucket_count m) c.args.hash) w.settings ∙ ap (bucket_number (settings_of t).skipped (bucket_count m)) hashed in
           let put = puts-count u d _ _ c.put_within-evicted.result x.step in
-          let same = count-same m u c.drop_room_within.ensures.lists in
-          let pending = pending-same m u c.drop_room_within.ensures.waiting in
-          let targets = targets-same m u c.drop_room_within.ensures.waiting in
-          rw (← c.self.view_is) (put-relocates _ c.in-Ok.bucket t m d routed (put.0 ∙ same) c.in-Ok.ensures.within w.listed.lawful w.first w.waiting w.all x.settled (x.exact ∙ ap (left_after c.in-Ok.bucket) targets) (λ two. let z : 2 ≤ pending_of u = omega arith in x.count z ∙ pending)));
+          let same = count-same m u c.drop_mark_within.ensures.lists in
+          let pending = pending-same m u c.drop_mark_within.ensures.waiting in
+          let targets = targets-same m u c.drop_mark_within.ensures.waiting in
+          rw (← c.self.view_is) (put-relocates _ c.in-Ok.bucket t m d routed (put.0 ∙ same) c.in-Ok.ensures.within w.listed.lawful w.first w.waiting w.all x.not_waiting (x.exact ∙ ap (left_after c.in-Ok.bucket) targets) (λ two. let z : 2 ≤ pending_of u = omega arith in x.count z ∙ pending)));
       once = (
           let t = c.self.inside.table in
           let m = c.bucket_within.new.self in
-          let u = c.drop_room_within.new.self in
+          let u = c.drop_mark_within.new.self in
           let d = c.put_within-evicted.new.self in
           let f : g.row.K.Denot → ℕ = (λ k. hash_of g.H.BuildHasher g.H.Hasher.Hasher (settings_of t).hasher (g.K.Hash.hash_input k)) in
           let hashed = rw (← c.self.view_is) at c.requires.hashed in
           let grows = subst (λ h. GrowsBelow (λ e. f e.0) c.self.inside.maximum (bucket_number (settings_of t).skipped (bucket_count t) h) t m) hashed c.in-Ok.ensures.grows in
           let put = puts-count u d _ _ c.put_within-evicted.result c.put_within-evicted.ensures.step in
-          let same = count-same m u c.drop_room_within.ensures.lists in
+          let same = count-same m u c.drop_mark_within.ensures.lists in
           rw (← c.self.view_is) (λ ready. put.0 ∙ same ∙ once-grown _ t m c.self.inside.maximum _ grows ready));
       unmarked = (
-          let refused = puts-refused g.K.PartialEq.eq c.drop_room_within.new.self c.put_within-evicted.new.self _ _ c.put_within-evicted.result c.put_within-evicted.ensures.step ∙ c.drop_room_within.ensures.noted in
+          let refused = puts-refused g.K.PartialEq.eq c.drop_mark_within.new.self c.put_within-evicted.new.self _ _ c.put_within-evicted.result c.put_within-evicted.ensures.step ∙ c.drop_mark_within.ensures.noted in
           ap (λ (x : Bool × Bool). x.1) refused);
     }
 

@@ -6,7 +6,7 @@ use Rattle.scc_buckets.proofs.Bounds.{unlisted-none}
 use Rattle.scc_table.specs.TwoArrays.{waits_at}
 use Rattle.scc_table.proofs.SearchingLemmas.{not_true}
 use Rattle.scc_cache.proofs.Caching.{is-lacking}
-use Rattle.scc_cache.proofs.Relocations.{any-some, settled-one}
+use Rattle.scc_cache.proofs.Relocations.{any-some, not_waiting-one}
 use Rattle.scc_cache.proofs.Owned.refresh.Goals as goal
 
 pub returns-then-bucket_count-eq0-clause-step : goal.returns-then-bucket_count-eq0-clause-step
@@ -22,4 +22,4 @@ returns-clause-relocates g c =
     let at = c.bucket_at-bucket.ensures.value ∙ ap (bucket_number (settings_of t).skipped (bucket_count t)) (rw (← c.self.view_is) at c.requires) in
     let down : waits_at (waiting_of t) i ≡ false = not_true (waits_at (waiting_of t) i) (λ up. let z : true ≡ false = sym (c.is_waiting.ensures.1 up) ∙ c.if-is_waiting.false in cc) in
     let low = ap (waits_at (waiting_of t)) (sym at) ∙ down in
-    any-some c.refresh_settled.result (rw (← c.self.view_is) (settled-one _ t c.refresh_settled.new.self.contents (rw (← c.self.view_is) at c.refresh_settled.ensures.waiting) low))
+    any-some c.refresh_in_bucket.result (rw (← c.self.view_is) (not_waiting-one _ t c.refresh_in_bucket.new.self.contents (rw (← c.self.view_is) at c.refresh_in_bucket.ensures.waiting) low))

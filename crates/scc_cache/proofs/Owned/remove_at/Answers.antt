@@ -1,6 +1,6 @@
 use Rattle.std.proofs.Common.{◌∙◌, ℕ, refl, sym, subst, arith}
 use Rattle.std.specs.List.{remove}
-use Rattle.scc_buckets.specs.Bounded.{MayNarrow, ShrinksBounded}
+use Rattle.scc_buckets.specs.Bounded.{MayShrinkWithin, ShrinksBounded}
 use Rattle.scc_contents.specs.Hashing.{hash_of}
 use Rattle.scc_table.specs.Places.{IsPlace, spot_of}
 use Rattle.scc_table.specs.Relocates.{Spreads}
@@ -58,5 +58,5 @@ returns-clause-relocates g c =
     let list = c.take_in-pair.ensures.lists c.self.invariant.lists.bounded in
     let same = list-count t left _ _ list in
     let shrinks = subst (λ s. ShrinksBounded (λ e. hash_of g.H.BuildHasher g.H.Hasher.Hasher s.hasher (g.K.Hash.hash_input e.0)) left c.shrink_within.new.self) list.settings c.shrink_within.ensures.shrinks in
-    let spreads = subst (λ s. Spreads ((n : ℕ) × MayNarrow (λ e. hash_of g.H.BuildHasher g.H.Hasher.Hasher s.hasher (g.K.Hash.hash_input e.0)) left n) left c.shrink_within.new.self) list.settings c.shrink_within.ensures.spreads in
+    let spreads = subst (λ s. Spreads ((n : ℕ) × MayShrinkWithin (λ e. hash_of g.H.BuildHasher g.H.Hasher.Hasher s.hasher (g.K.Hash.hash_input e.0)) left n) left c.shrink_within.new.self) list.settings c.shrink_within.ensures.spreads in
     rw (← c.self.view_is) (shrunk-none _ t left c.shrink_within.new.self same c.take_in-pair.ensures.waiting shrinks spreads)

@@ -4,7 +4,7 @@ use Rattle.scc_contents.specs.Pairs.{with_pair_value}
 use Rattle.scc_table.specs.Placed.{IsPlace-with_write_at}
 use Rattle.scc_table.specs.Places.{spot_of}
 use Rattle.scc_cache.specs.Lends.{with_value_at}
-use Rattle.scc_cache.specs.Relocations.{RelocatesNone}
+use Rattle.scc_cache.specs.Relocations.{RelocatesNoneWithin}
 use Rattle.scc_cache.proofs.Relocations.{kept-none, none-after, waiting-written}
 use Rattle.scc_cache.proofs.Writing.{written-count, written-settings}
 use Rattle.scc_cache.specs.CacheWalks.{declined, removed}
@@ -46,7 +46,7 @@ returns-then-f-clause-relocates g c =
     let p = c.in_ok-place.place in
     let w = c.f.new.arg2 in
     let within = c.in_ok-place.ensures.within in
-    let moved = subst (λ s. RelocatesNone (λ q. hash_of g.H.BuildHasher g.H.Hasher.Hasher s.hasher (g.K.Hash.hash_input q.0)) (with_value_at m p w).contents c.remove_at.new.self.contents) (written-settings with_pair_value m.contents (spot_of m.contents p) within w) c.remove_at.ensures.relocates in
+    let moved = subst (λ s. RelocatesNoneWithin (λ q. hash_of g.H.BuildHasher g.H.Hasher.Hasher s.hasher (g.K.Hash.hash_input q.0)) (with_value_at m p w).contents c.remove_at.new.self.contents) (written-settings with_pair_value m.contents (spot_of m.contents p) within w) c.remove_at.ensures.relocates in
     none-after _ m.contents (with_value_at m p w).contents c.remove_at.new.self.contents (written-count with_pair_value m.contents (spot_of m.contents p) within w) (waiting-written m p w) moved
 
 pub returns-else-f-clause-relocates : goal.returns-else-f-clause-relocates

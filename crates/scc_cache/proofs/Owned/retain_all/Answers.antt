@@ -66,8 +66,8 @@ loop-at-preserved-then-visit g c =
       calls = retains-kept c.args.f.now (entries c.args.self.now.contents) m q c.loop-at.f c.visit.new.f x.0 x.1 n v (rw c.in-Some.is at c.loop-at.invariant.calls) x.3 (walk_spot n c.next_place-at.result) next.0;
     }
 
-pub take_and_step-pair-requires : goal.take_and_step-pair-requires
-take_and_step-pair-requires g c =
+pub take_with_next-pair-requires : goal.take_with_next-pair-requires
+take_with_next-pair-requires g c =
     let x = c.if-visit.ensures in
     let within = rw c.in-Some.is at c.loop-at.invariant.within in
     let m = c.loop-at.self.contents in
@@ -88,11 +88,11 @@ loop-at-smaller g c =
     let q = spot_of m p in
     let s = visits c.loop-at.self c.in-Some.place x.0 x.1 c.visit.new.self within x.2 x.4 in
     let v = s.now in
-    let d = c.take_and_step-pair.new.self.contents in
-    let out = c.take_and_step-pair.ensures in
+    let d = c.take_with_next-pair.new.self.contents in
+    let out = c.take_with_next-pair.ensures in
     let others = others-out m p x.0 x.1 n s.made v d out.others in
-    let next = took-spot m p x.0 x.1 n s.made v d out.others c.take_and_step-pair.result.1 out.next in
-    rw c.in-Some.is (took-nearer m q x.0 x.1 n v d others (walk_spot d c.take_and_step-pair.result.1) within next.0)
+    let next = took-spot m p x.0 x.1 n s.made v d out.others c.take_with_next-pair.result.1 out.next in
+    rw c.in-Some.is (took-nearer m q x.0 x.1 n v d others (walk_spot d c.take_with_next-pair.result.1) within next.0)
 
 pub loop-at-preserved : goal.loop-at-preserved
 loop-at-preserved g c =
@@ -104,19 +104,19 @@ loop-at-preserved g c =
     let q = spot_of m p in
     let s = visits c.loop-at.self c.in-Some.place x.0 x.1 c.visit.new.self within x.2 x.4 in
     let v = s.now in
-    let d = c.take_and_step-pair.new.self.contents in
-    let out = c.take_and_step-pair.ensures in
+    let d = c.take_with_next-pair.new.self.contents in
+    let out = c.take_with_next-pair.ensures in
     let others = others-out m p x.0 x.1 n s.made v d out.others in
-    let next = took-spot m p x.0 x.1 n s.made v d out.others c.take_and_step-pair.result.1 out.next in
+    let next = took-spot m p x.0 x.1 n s.made v d out.others c.take_with_next-pair.result.1 out.next in
     record {
-      callable = turn-removed m q x.0 x.1 n v (rw c.in-Some.is at c.loop-at.invariant.callable) (_, x.1, tt, x.3) d others (walk_spot d c.take_and_step-pair.result.1) next.0;
+      callable = turn-removed m q x.0 x.1 n v (rw c.in-Some.is at c.loop-at.invariant.callable) (_, x.1, tt, x.3) d others (walk_spot d c.take_with_next-pair.result.1) next.0;
       within = next.1;
       buckets = out.others.buckets ∙ v.buckets ∙ c.loop-at.invariant.buckets;
       settings = out.others.settings ∙ v.settings ∙ c.loop-at.invariant.settings;
       refused = out.refused ∙ s.refused ∙ c.loop-at.invariant.refused;
       maximum = out.maximum ∙ s.maximum ∙ c.loop-at.invariant.maximum;
       waiting = out.waiting ∙ s.waiting ∙ c.loop-at.invariant.waiting;
-      calls = retains-removed c.args.f.now (entries c.args.self.now.contents) m q c.loop-at.f c.visit.new.f x.0 x.1 n v (rw c.in-Some.is at c.loop-at.invariant.calls) x.3 d others (walk_spot d c.take_and_step-pair.result.1) next.0;
+      calls = retains-removed c.args.f.now (entries c.args.self.now.contents) m q c.loop-at.f c.visit.new.f x.0 x.1 n v (rw c.in-Some.is at c.loop-at.invariant.calls) x.3 d others (walk_spot d c.take_with_next-pair.result.1) next.0;
     }
 
 pub returns-clause-step : goal.returns-clause-step

@@ -1,6 +1,6 @@
 use Rattle.std.proofs.Common.{ℕ, refl, subst, arith}
 use Rattle.std.proofs.lemmas.List.Sorted.{IsPermutation-refl}
-use Rattle.scc_buckets.specs.Bounded.{MayNarrow, ShrinksBounded}
+use Rattle.scc_buckets.specs.Bounded.{MayShrinkWithin, ShrinksBounded}
 use Rattle.scc_contents.specs.Contents.{entries}
 use Rattle.scc_contents.specs.Hashing.{hash_of}
 use Rattle.scc_table.specs.Relocates.{Spreads}
@@ -49,5 +49,5 @@ returns-clause-relocates g c =
     let step = rw (← c.self.view_is) at c.retain_all.ensures.step in
     let held = step.2 in
     let shrinks = subst (λ s. ShrinksBounded (λ e. hash_of g.H.BuildHasher g.H.Hasher.Hasher s.hasher (g.K.Hash.hash_input e.0)) left c.shrink_within.new.self) held.settings c.shrink_within.ensures.shrinks in
-    let spreads = subst (λ s. Spreads ((n : ℕ) × MayNarrow (λ e. hash_of g.H.BuildHasher g.H.Hasher.Hasher s.hasher (g.K.Hash.hash_input e.0)) left n) left c.shrink_within.new.self) held.settings c.shrink_within.ensures.spreads in
+    let spreads = subst (λ s. Spreads ((n : ℕ) × MayShrinkWithin (λ e. hash_of g.H.BuildHasher g.H.Hasher.Hasher s.hasher (g.K.Hash.hash_input e.0)) left n) left c.shrink_within.new.self) held.settings c.shrink_within.ensures.spreads in
     shrunk-none _ c.args.self.now.contents left c.shrink_within.new.self held.buckets (rw (← c.self.view_is) at c.retain_all.ensures.waiting) shrinks spreads

@@ -13,13 +13,13 @@ overflow_add-found g c =
     let es = shelf_entries (shelf_of c.args.old.now c.args.source) in
     let m = bound-le hash c.args.skipped c.args.count c.args.target (take c.loop-place.place es) in
     let n = length-take c.loop-place.place es in
-    omega (arith, c.loop-place.invariant, c.bucket_len-held.ensures, c.requires.few)
+    omega (arith, c.loop-place.invariant, c.bucket_len-entry_count.ensures, c.requires.few)
 
 pub loop-place-preserved : goal.loop-place-preserved
 loop-place-preserved g c =
     let hash = λ (e : g.row.E.Denot). key_hash g.H.BuildHasher g.H.Hasher.Hasher g.E.Key.Hash.hash_input c.args.table.now (g.E.Keyed.key_of e) in
     let es = shelf_entries (shelf_of c.args.old.now c.args.source) in
-    let l : c.loop-place.place < length es = omega (arith, c.bucket_len-held.ensures) in
+    let l : c.loop-place.place < length es = omega (arith, c.bucket_len-entry_count.ensures) in
     let hashed = c.hash-hash.ensures ∙ ap (λ k. key_hash g.H.BuildHasher g.H.Hasher.Hasher g.E.Key.Hash.hash_input c.args.table.now k) c.key.ensures in
     let number = c.bucket_index.ensures.value ∙ ap (bucket_number c.args.skipped c.args.count) hashed in
     elim c.if-bucket_index-target.branch [

@@ -9,7 +9,7 @@ returns g c =
     record {
       ok = (search rules);
       few = (search rules);
-      others = (c.drain.ensures.others ∙ ap (λ v. set v i (shelf_of c.drain.new.into i)) c.make_ready.ensures.value ∙ set-set c.args.into.now i _ (shelf_of c.drain.new.into i));
+      others = (c.drain.ensures.others ∙ ap (λ v. set v i (shelf_of c.drain.new.into i)) c.make_room_for.ensures.value ∙ set-set c.args.into.now i _ (shelf_of c.drain.new.into i));
       stays = (search rules);
       err = (search rules);
       refused = (search rules);

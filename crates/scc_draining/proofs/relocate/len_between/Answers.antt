@@ -6,18 +6,18 @@ use Rattle.scc_draining.proofs.Counted.{part-le}
 use Rattle.scc_draining.proofs.Draining.{flat-more}
 use Rattle.scc_draining.proofs.relocate.len_between.Goals as goal
 
-pub overflow_add-held : goal.overflow_add-held
-overflow_add-held g c =
+pub overflow_add-entry_count : goal.overflow_add-entry_count
+overflow_add-entry_count g c =
     let l : c.loop-source.source < length c.args.old.now = omega (arith, c.requires.within) in
     let m = part-le c.args.old.now c.loop-source.source l in
-    omega (arith, c.requires.most, c.loop-source.invariant, c.bucket_len-held.ensures)
+    omega (arith, c.requires.most, c.loop-source.invariant, c.bucket_len-entry_count.ensures)
 
 pub loop-source-preserved : goal.loop-source-preserved
 loop-source-preserved g c =
     let olds = c.args.old.now in let j = c.loop-source.source in
     let l : j < length olds = omega (arith, c.requires.within) in
     let more = ap length (flat-more j olds l) ∙ length-append (flat_map shelf_entries (take j olds)) (shelf_entries (shelf_of olds j)) in
-    omega (arith, more, c.loop-source.invariant, c.bucket_len-held.ensures)
+    omega (arith, more, c.loop-source.invariant, c.bucket_len-entry_count.ensures)
 
 pub returns : goal.returns
 returns g c =

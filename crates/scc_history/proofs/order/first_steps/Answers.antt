@@ -14,6 +14,6 @@ loop-i-preserved g c =
     let n : length hs ≡ length stripes = simp length-map in
     let t = opened (λ x. x.0) hs i zeros _ c.loop-i.invariant.waiting in
     record {
-      waiting = advanced (λ x. x.0) hs i (i + 1) 0 zeros _ _ c.history.result.now t (omega arith) (omega (arith, n, c.loop-i-test.true)) at (zero_at stripes i) c.in_ok-await_step.ensures.joins;
-      heap = c.in_ok-await_step.ensures.heap c.loop-i.invariant.heap;
+      waiting = advanced (λ x. x.0) hs i (i + 1) 0 zeros _ _ c.history.result.now t (omega arith) (omega (arith, n, c.loop-i-test.true)) at (zero_at stripes i) c.in_ok-queue_step.ensures.joins;
+      heap = c.in_ok-queue_step.ensures.heap c.loop-i.invariant.heap;
     }

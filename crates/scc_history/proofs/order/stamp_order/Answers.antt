@@ -61,8 +61,8 @@ loop-i-preserved g c =
     let t = taken (λ x. x.0) hs (length stripes) done _ _ x w perm within h in
     record {
       ordered = rw (c.in_ok-push.ensures.items, j) (ordered_more _ _ hs done c.loop-i.order.items x.0.1 c.loop-i.invariant.ordered next.0 next.1 least);
-      waiting = rw j (advanced (λ x. x.0) hs x.0.1 (length stripes) (slice_index done x.0.1 + 1) (slice_set done x.0.1 (slice_index done x.0.1 + 1)) _ _ c.history-history.result.now t within next.0 at (get_or-set_same done x.0.1 (slice_index done x.0.1 + 1) 0 h) (rw j at c.in_ok-await_step.ensures.joins));
-      heap = c.in_ok-await_step.ensures.heap popped.0;
+      waiting = rw j (advanced (λ x. x.0) hs x.0.1 (length stripes) (slice_index done x.0.1 + 1) (slice_set done x.0.1 (slice_index done x.0.1 + 1)) _ _ c.history-history.result.now t within next.0 at (get_or-set_same done x.0.1 (slice_index done x.0.1 + 1) 0 h) (rw j at c.in_ok-queue_step.ensures.joins));
+      heap = c.in_ok-queue_step.ensures.heap popped.0;
     }
 
 pub returns : goal.returns

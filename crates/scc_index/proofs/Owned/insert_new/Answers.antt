@@ -39,7 +39,7 @@ returns g c =
           let own = rw (← c.self.view_is) at c.requires.hashed in
           rw (← c.self.view_is)
           (all_ok c.insert_made.result
-          (λ settled exact moved drained. subst (λ h. RelocatesTwo h c.self.inside.table c.insert_made.new.self) own record { settled = settled; exact = exact; moved = moved; drained = drained })
-          c.insert_made.ensures.settled c.insert_made.ensures.exact c.insert_made.ensures.moved c.insert_made.ensures.drained));
+          (λ not_waiting exact moved drained. subst (λ h. RelocatesTwo h c.self.inside.table c.insert_made.new.self) own record { not_waiting = not_waiting; exact = exact; moved = moved; drained = drained })
+          c.insert_made.ensures.not_waiting c.insert_made.ensures.exact c.insert_made.ensures.moved c.insert_made.ensures.drained));
       unique = (search rules);
     }

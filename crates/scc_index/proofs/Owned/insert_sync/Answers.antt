@@ -82,7 +82,7 @@ returns-after-insert_made g c =
       relocates = (λ _. rw (← c.self.view_is) record { fewer = c.insert_made.ensures.fewer; less = c.insert_made.ensures.less; most = c.insert_made.ensures.most; grown = c.insert_made.ensures.grown; array = c.insert_made.ensures.array });
       two = (
           elim c.match-insert_made.branch [
-            | in-Ok w ↦ λ _. rw (w.result-is, ← c.self.view_is) (subst (λ h. RelocatesTwo h c.self.inside.table c.insert_made.new.self) c.hash-hash.ensures record { settled = w.in-Ok.ensures.settled; exact = w.in-Ok.ensures.exact; moved = w.in-Ok.ensures.moved; drained = w.in-Ok.ensures.drained })
+            | in-Ok w ↦ λ _. rw (w.result-is, ← c.self.view_is) (subst (λ h. RelocatesTwo h c.self.inside.table c.insert_made.new.self) c.hash-hash.ensures record { not_waiting = w.in-Ok.ensures.not_waiting; exact = w.in-Ok.ensures.exact; moved = w.in-Ok.ensures.moved; drained = w.in-Ok.ensures.drained })
             | in-Err w ↦ λ _. rw w.result-is tt
           ]);
       waiting = (

@@ -45,27 +45,27 @@ pub loop-at-smaller : goal.loop-at-smaller
 loop-at-smaller g c =
     let m = c.loop-at.self in
     let within = rw c.in-Some.is at c.loop-at.invariant.within in
-    let d = c.take_and_step-at.new.self in
-    let others = c.take_and_step-at.ensures.others in
-    let next = took-next m c.in-Some.place _ within c.pair_at.ensures d others c.take_and_step-at.result c.take_and_step-at.ensures.next in
-    rw c.in-Some.is (took-nearer m c.in-Some.place _ within c.pair_at.ensures d others c.take_and_step-at.result next.0)
+    let d = c.take_with_next-at.new.self in
+    let others = c.take_with_next-at.ensures.others in
+    let next = took-next m c.in-Some.place _ within c.pair_at.ensures d others c.take_with_next-at.result c.take_with_next-at.ensures.next in
+    rw c.in-Some.is (took-nearer m c.in-Some.place _ within c.pair_at.ensures d others c.take_with_next-at.result next.0)
 
 pub loop-at-preserved : goal.loop-at-preserved
 loop-at-preserved g c =
     let m = c.loop-at.self in
     let within = rw c.in-Some.is at c.loop-at.invariant.within in
     let got = c.pair_at.ensures in
-    let d = c.take_and_step-at.new.self in
-    let others = c.take_and_step-at.ensures.others in
-    let next = took-next m c.in-Some.place _ within got d others c.take_and_step-at.result c.take_and_step-at.ensures.next in
+    let d = c.take_with_next-at.new.self in
+    let others = c.take_with_next-at.ensures.others in
+    let next = took-next m c.in-Some.place _ within got d others c.take_with_next-at.result c.take_with_next-at.ensures.next in
     record {
-      callable = turn-removed m c.in-Some.place _ within got (rw c.in-Some.is at c.loop-at.invariant.callable) (_, record { key = _; value = _; shows = refl; called = c.if-f.ensures }) d others c.take_and_step-at.result next.0;
+      callable = turn-removed m c.in-Some.place _ within got (rw c.in-Some.is at c.loop-at.invariant.callable) (_, record { key = _; value = _; shows = refl; called = c.if-f.ensures }) d others c.take_with_next-at.result next.0;
       within = next.1;
       buckets = others.buckets ∙ c.loop-at.invariant.buckets;
       settings = others.settings ∙ c.loop-at.invariant.settings;
-      noted = c.take_and_step-at.ensures.noted ∙ c.loop-at.invariant.noted;
-      waiting = c.take_and_step-at.ensures.waiting ∙ c.loop-at.invariant.waiting;
-      calls = retains-removed m c.in-Some.place _ within got c.args.f.now (entries c.args.self.now) c.loop-at.f c.f.new.self (rw c.in-Some.is at c.loop-at.invariant.calls) record { key = _; value = _; shows = refl; called = c.if-f.ensures } d others c.take_and_step-at.result next.0;
+      noted = c.take_with_next-at.ensures.noted ∙ c.loop-at.invariant.noted;
+      waiting = c.take_with_next-at.ensures.waiting ∙ c.loop-at.invariant.waiting;
+      calls = retains-removed m c.in-Some.place _ within got c.args.f.now (entries c.args.self.now) c.loop-at.f c.f.new.self (rw c.in-Some.is at c.loop-at.invariant.calls) record { key = _; value = _; shows = refl; called = c.if-f.ensures } d others c.take_with_next-at.result next.0;
     }
 
 pub returns-clause-step : goal.returns-clause-step

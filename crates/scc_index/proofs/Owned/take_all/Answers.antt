@@ -19,5 +19,5 @@ loop-at-smaller g c =
     let within = rw c.in-Some.is at c.loop-at.invariant.within in
     let below = index-below m (spot_of m c.in-Some.place) within in
     let less = shorter (entries m) i below in
-    let left : length (entries c.take_and_step-at.new.self) ≡ length (remove (entries m) i) = ap length c.take_and_step-at.ensures.others.exact in
+    let left : length (entries c.take_with_next-at.new.self) ≡ length (remove (entries m) i) = ap length c.take_with_next-at.ensures.others.exact in
     omega arith

@@ -26,7 +26,7 @@ returns g c =
           let own = rw (← c.self.view_is) at c.requires.hashed in
           rw (← c.self.view_is)
           (all_ok c.insert_new.result
-          (λ settled exact moved drained. subst (λ h. RelocatesTwo h c.self.inside.table c.insert_new.new.self) own record { settled = settled; exact = exact; moved = moved; drained = drained })
-          c.insert_new.ensures.settled c.insert_new.ensures.exact c.insert_new.ensures.moved c.insert_new.ensures.drained));
+          (λ not_waiting exact moved drained. subst (λ h. RelocatesTwo h c.self.inside.table c.insert_new.new.self) own record { not_waiting = not_waiting; exact = exact; moved = moved; drained = drained })
+          c.insert_new.ensures.not_waiting c.insert_new.ensures.exact c.insert_new.ensures.moved c.insert_new.ensures.drained));
       unique = (search rules);
     }

@@ -49,8 +49,8 @@ loop-at-preserved-then-visit g c =
       calls = retains-kept c.args.f.now (entries c.args.self.now) c.loop-at.self (spot_of c.loop-at.self c.in-Some.place) c.loop-at.f c.visit.new.f x.0 x.1 c.visit.new.self v (rw c.in-Some.is at c.loop-at.invariant.calls) x.3 (walk_spot c.visit.new.self c.next_place-at.result) next.0;
     }
 
-pub take_and_step-pair-requires : goal.take_and_step-pair-requires
-take_and_step-pair-requires g c =
+pub take_with_next-pair-requires : goal.take_with_next-pair-requires
+take_with_next-pair-requires g c =
     let x = c.if-visit.ensures in
     let within = rw c.in-Some.is at c.loop-at.invariant.within in
     place-after c.loop-at.self c.in-Some.place x.0 x.1 c.visit.new.self x.4 (visited c.loop-at.self (spot_of c.loop-at.self c.in-Some.place) x.0 x.1 c.visit.new.self within x.2 x.4)
@@ -60,26 +60,26 @@ loop-at-smaller g c =
     let x = c.if-visit.ensures in
     let within = rw c.in-Some.is at c.loop-at.invariant.within in
     let v = visited c.loop-at.self (spot_of c.loop-at.self c.in-Some.place) x.0 x.1 c.visit.new.self within x.2 x.4 in
-    let d = c.take_and_step-pair.new.self in
-    let next = took-spot c.loop-at.self c.in-Some.place x.0 x.1 c.visit.new.self x.4 v d c.take_and_step-pair.ensures.others c.take_and_step-pair.result.1 c.take_and_step-pair.ensures.next in
-    rw c.in-Some.is (took-nearer c.loop-at.self (spot_of c.loop-at.self c.in-Some.place) x.0 x.1 c.visit.new.self v d (others-out c.loop-at.self c.in-Some.place x.0 x.1 c.visit.new.self x.4 v d c.take_and_step-pair.ensures.others) (walk_spot d c.take_and_step-pair.result.1) within next.0)
+    let d = c.take_with_next-pair.new.self in
+    let next = took-spot c.loop-at.self c.in-Some.place x.0 x.1 c.visit.new.self x.4 v d c.take_with_next-pair.ensures.others c.take_with_next-pair.result.1 c.take_with_next-pair.ensures.next in
+    rw c.in-Some.is (took-nearer c.loop-at.self (spot_of c.loop-at.self c.in-Some.place) x.0 x.1 c.visit.new.self v d (others-out c.loop-at.self c.in-Some.place x.0 x.1 c.visit.new.self x.4 v d c.take_with_next-pair.ensures.others) (walk_spot d c.take_with_next-pair.result.1) within next.0)
 
 pub loop-at-preserved : goal.loop-at-preserved
 loop-at-preserved g c =
     let x = c.if-visit.ensures in
     let within = rw c.in-Some.is at c.loop-at.invariant.within in
     let v = visited c.loop-at.self (spot_of c.loop-at.self c.in-Some.place) x.0 x.1 c.visit.new.self within x.2 x.4 in
-    let d = c.take_and_step-pair.new.self in
-    let others = others-out c.loop-at.self c.in-Some.place x.0 x.1 c.visit.new.self x.4 v d c.take_and_step-pair.ensures.others in
-    let next = took-spot c.loop-at.self c.in-Some.place x.0 x.1 c.visit.new.self x.4 v d c.take_and_step-pair.ensures.others c.take_and_step-pair.result.1 c.take_and_step-pair.ensures.next in
+    let d = c.take_with_next-pair.new.self in
+    let others = others-out c.loop-at.self c.in-Some.place x.0 x.1 c.visit.new.self x.4 v d c.take_with_next-pair.ensures.others in
+    let next = took-spot c.loop-at.self c.in-Some.place x.0 x.1 c.visit.new.self x.4 v d c.take_with_next-pair.ensures.others c.take_with_next-pair.result.1 c.take_with_next-pair.ensures.next in
     record {
-      callable = turn-removed c.loop-at.self (spot_of c.loop-at.self c.in-Some.place) x.0 x.1 c.visit.new.self v (rw c.in-Some.is at c.loop-at.invariant.callable) (_, x.1, tt, x.3) d others (walk_spot d c.take_and_step-pair.result.1) next.0;
+      callable = turn-removed c.loop-at.self (spot_of c.loop-at.self c.in-Some.place) x.0 x.1 c.visit.new.self v (rw c.in-Some.is at c.loop-at.invariant.callable) (_, x.1, tt, x.3) d others (walk_spot d c.take_with_next-pair.result.1) next.0;
       within = next.1;
       buckets = others.buckets ∙ v.buckets ∙ c.loop-at.invariant.buckets;
       settings = others.settings ∙ v.settings ∙ c.loop-at.invariant.settings;
-      noted = c.take_and_step-pair.ensures.noted ∙ v.noted ∙ c.loop-at.invariant.noted;
-      waiting = c.take_and_step-pair.ensures.waiting ∙ (ap waiting_of x.4 ∙ waiting-write with_pair_value c.loop-at.self c.in-Some.place x.1) ∙ c.loop-at.invariant.waiting;
-      calls = retains-removed c.args.f.now (entries c.args.self.now) c.loop-at.self (spot_of c.loop-at.self c.in-Some.place) c.loop-at.f c.visit.new.f x.0 x.1 c.visit.new.self v (rw c.in-Some.is at c.loop-at.invariant.calls) x.3 d others (walk_spot d c.take_and_step-pair.result.1) next.0;
+      noted = c.take_with_next-pair.ensures.noted ∙ v.noted ∙ c.loop-at.invariant.noted;
+      waiting = c.take_with_next-pair.ensures.waiting ∙ (ap waiting_of x.4 ∙ waiting-write with_pair_value c.loop-at.self c.in-Some.place x.1) ∙ c.loop-at.invariant.waiting;
+      calls = retains-removed c.args.f.now (entries c.args.self.now) c.loop-at.self (spot_of c.loop-at.self c.in-Some.place) c.loop-at.f c.visit.new.f x.0 x.1 c.visit.new.self v (rw c.in-Some.is at c.loop-at.invariant.calls) x.3 d others (walk_spot d c.take_with_next-pair.result.1) next.0;
     }
 
 pub returns-clause-step : goal.returns-clause-step

@@ -108,7 +108,7 @@ returns-after-insert_new g c =
       relocates = (λ _. rw (← c.self.view_is) record { fewer = c.insert_new.ensures.fewer; less = c.insert_new.ensures.less; most = c.insert_new.ensures.most; grown = c.insert_new.ensures.grown; array = c.insert_new.ensures.array });
       two = (
           elim c.match-insert_new.branch [
-            | in-Ok w ↦ λ _. rw (w.result-is, ← c.self.view_is) (subst (λ h. RelocatesTwo h c.self.inside.table c.insert_new.new.self) c.hash-hash.ensures record { settled = w.in-Ok.ensures.settled; exact = w.in-Ok.ensures.exact; moved = w.in-Ok.ensures.moved; drained = w.in-Ok.ensures.drained })
+            | in-Ok w ↦ λ _. rw (w.result-is, ← c.self.view_is) (subst (λ h. RelocatesTwo h c.self.inside.table c.insert_new.new.self) c.hash-hash.ensures record { not_waiting = w.in-Ok.ensures.not_waiting; exact = w.in-Ok.ensures.exact; moved = w.in-Ok.ensures.moved; drained = w.in-Ok.ensures.drained })
             | in-Err w ↦ λ _. rw w.result-is tt
           ]);
       waiting = (

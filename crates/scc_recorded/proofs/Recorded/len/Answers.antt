@@ -21,8 +21,8 @@ loop-i-preserved g c =
     let such : g.C.Call.Clone.is_clone word made.0 = rw c.len_call.ensures at made.2.0 in
     record {
       number = c.in_default.ensures.number ∙ c.loop-i.invariant.number;
-      adds = adds_more _ _ (IsOf g.C.Call.Clone.is_clone m.means word) c.args.pass.now.log.clock c.loop-i.pass.log.clock c.loop-i.i (receipt c.locked-counted.result.now.number c.step.new.pass.log.clock made.0 made.1)
-          c.args.pass.now.log.receipts.items c.loop-i.pass.log.receipts.items c.step.new.pass.log.receipts.items c.loop-i.invariant.adds made.3 c.locked-counted.ensures ok.0 (such, may-answer-alike m.moves word m.means given made.1 like may);
+      adds = adds_more _ _ (IsOf g.C.Call.Clone.is_clone m.means word) c.args.pass.now.log.clock c.loop-i.pass.log.clock c.loop-i.i (receipt c.locked_stripe-counted.result.now.number c.call_locked.new.pass.log.clock made.0 made.1)
+          c.args.pass.now.log.receipts.items c.loop-i.pass.log.receipts.items c.call_locked.new.pass.log.receipts.items c.loop-i.invariant.adds made.3 c.locked_stripe-counted.ensures ok.0 (such, may-answer-alike m.moves word m.means given made.1 like may);
     }
 
 pub returns-in-Err-clause-err : goal.returns-in-Err-clause-err

@@ -1,4 +1,4 @@
--- `give_back` joins free places to the room of one block, which the right lets go back. Assumes `Logic`.
+-- `give_back` joins free cells to the room of one block, which the right lets go back. Assumes `Logic`.
 use Rattle.std.proofs.Common.{◌≡◌, ℕ, ◌*◌, ◌^◌, ◌<◌, List, [], ◌∷◌, ◌++◌, replicate, None, refl, sym, ap, subst, ◌∙◌, arith}
 use Rattle.std.proofs.lemmas.List.{length-replicate}
 use base.Fml.{ftrue, flft, froom, Incl-trans}
@@ -35,7 +35,7 @@ use Rattle.std.proofs.raw_atomic.Walks.{proved_at, leaves}
 use Rattle.std_alloc.proofs.RawLayout.{as_raw}
 use Rattle.std_alloc.proofs.RcSteps.{word, word-Good}
 use Rattle.std_alloc.proofs.VecSteps.Shapes.{after}
-use Rattle.scc_slots.proofs.Places.{Cell, mark, size, places-room}
+use Rattle.scc_slots.proofs.Places.{Cell, mark, size, cells-room}
 use Rattle.scc_slots.proofs.row.give_back.Code as code
 use Rattle.scc_slots.proofs.row.give_back.Statement.{statement}
 use Rattle.scc_slots.proofs.row.Right.TheLaws as right_laws
@@ -72,17 +72,17 @@ give_back_spec 𝓤 𝓛 𝓜 𝓡 wired X Y L LY g d dd met md =
     let e4 = (right_laws.lowers (R E) (P E Z) g (param_laws 0 X L) (param_laws 1 Y LY)).val_is right vss.1.1.1.1.0 are.1.1.1.1.0 in
     let fits : count < 2 ^ 64 = are.1.1.0.1 in
     qed 𝓛 (((‵ (flft κ q) ⊛ ‵ (flft κ₁ q₁) ⊛ ‵ (flft κ₂ q₂) ⊛ ‵ ftrue) ⊛ ‵ (owns (types_at T.signature.params y.0.0) a vss)) ∷ (raw (fact 𝓤 (κ₁ ⊑ X.lives)) ⊛ raw (fact 𝓤 (κ₂ ⊑ Y.lives)) ⊛
-    raw (fact 𝓤 ((row.start ≡ start.first) × (row.places ≡ replicate count None) × (right.start ≡ start.first) × (right.count ≡ count) × (right.alloc ≡ alloc)))) ∷ []) ∵
+    raw (fact 𝓤 ((row.start ≡ start.first) × (row.cells ≡ replicate count None) × (right.start ≡ start.first) × (right.count ≡ count) × (right.alloc ≡ alloc)))) ∷ []) ∵
     move ! (1 ∷ []) $ split ! $ heard ! _ (λ lives. split ! $ heard ! _ (λ within. heard ! _ (λ asks.
     split ! $ split ! $ move ! (2 ∷ []) $ fsplit ! $ fsplit ! $ feq_l ! (λ e0. move ! (1 ∷ []) $ fsplit ! $ skip ! $ fsplit ! $ skip ! $
     fsplit ! $ fsplit ! $ skip ! $ move ! (1 ∷ []) $ fsplit ! $ fsplit ! $ skip ! $ move ! (2 ∷ 0 ∷ 3 ∷ 4 ∷ 5 ∷ []) $
-    -- [the places; the right; the handle; its token; the other tokens]
+    -- [the cells; the right; the handle; its token; the other tokens]
     rewrite ! 0 (λ (r : Ptr × List (Cell E)). ‵ (row_owns (R E) r.0 r.1)) (λ i. (asks.0 i, asks.1 i)) refl $
     move ! (1 ∷ []) $ rewrite ! 0 (λ (r : Y.Denot × Ptr × ℕ). ‵ (right_owns (R E) (token Z r.0) r.1 r.2)) (λ i. (asks.4 i, asks.2 i, asks.3 i)) refl $
     in_a_block ! start.first (λ p. right_owns (R E) (token Z alloc) p count) (id⊢ 𝓤 (never 𝓤)) (λ b o e. rewrite ! 1 (λ (p : Ptr). ‵ (row_owns (R E) p (replicate count None))) e refl $ move ! (1 ∷ []) $ fsplit ! $ move ! (1 ∷ []) $ flt_l ! (λ fit.
     let s = size E in let al : ℕ = capped (align (elτ E)) in
     let small : count * s < 2 ^ 63 = subst (λ k. k * s < 2 ^ 63) (length-replicate count None) fit in let bytes : count * s < 2 ^ 64 = omega arith in
-    use1 𝓛 (‵ (froom (ty_array (elτ E) count) b o)) (places-room E 𝓛 b count o) $ as_raw ! (ty_array (elτ E) count) b o $
+    use1 𝓛 (‵ (froom (ty_array (elτ E) count) b o)) (cells-room E 𝓛 b count o) $ as_raw ! (ty_array (elτ E) count) b o $
     regoal ! (λ (ws : List Val). prop (WpFn 𝓤 𝓛.H C Λ fn ws Post)) (λ i. e0 i ++ ((e1 ∙ ap (λ p. word p ∷ []) e) i ++ (are.1.1.0.0 i ++ (e3 i ++ (e4 i ++ []))))) refl $
     enter ! C Λ fn (vptr rb ro ∷ word (block_ptr b o) ∷ vint w64 count ∷ mark ∷ mark ∷ []) Post $
     alloc_all ! (λ l. pass_all ! refl ((tt, tt), (word-Good [] (block_ptr b o), ((tt, record { fits = fits }), ((tt, (tt, tt)), ((tt, (tt, tt)), tt))))) $

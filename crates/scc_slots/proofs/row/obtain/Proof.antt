@@ -1,4 +1,4 @@
--- `obtain` cuts the room of a new block into free places, and keeps the right to give it back. Assumes `Logic`.
+-- `obtain` cuts the room of a new block into free cells, and keeps the right to give it back. Assumes `Logic`.
 use Rattle.std.proofs.Common.{◌≡◌, ℕ, ◌*◌, ◌^◌, ◌<◌, List, [], ◌∷◌, ◌++◌, length, replicate, None, Ok, Err, refl, sym, ap, subst, arith}
 use Rattle.std.proofs.lemmas.List.{length-replicate}
 use base.Fml.{ftrue, flft, Incl-trans}
@@ -47,10 +47,10 @@ use Rattle.std_alloc.proofs.RcSteps.{Good, first_Good, word, word-Good}
 use Rattle.std_alloc.proofs.VecSteps.Shapes.{after, head, arm_body}
 use Rattle.std_alloc.proofs.Pairs.{pair_of, pair_val}
 use Rattle.std_alloc.proofs.ResultValues.{ok_of, err_of}
-use Rattle.scc_slots.proofs.Places.{mark, size, field_made, start_made, room-places}
+use Rattle.scc_slots.proofs.Places.{mark, size, field_made, start_made, room-cells}
 use Rattle.scc_slots.proofs.row.obtain.Code as code
 use Rattle.scc_slots.proofs.row.obtain.Statement.{statement}
-use Rattle.scc_slots.specs.Owned.{places_own}
+use Rattle.scc_slots.specs.Owned.{cells_own}
 use Rattle.scc_slots.specs.contracts.row.Right as Right
 use Rattle.scc_slots.specs.contracts.row.Row as Row
 use Rattle.scc_slots.specs.contracts.row.Start as Start
@@ -80,7 +80,7 @@ obtain_spec 𝓤 𝓛 𝓜 𝓡 wired X Y L LY g d dd met md =
     let Post : Val → SProp 𝓤 = (walk_of 𝓛 T hs c).post y in
     let rb = a.0.ref_ptr.0 in let ro = a.0.ref_ptr.1 in let alloc = a.0.now in let count = a.1.0 in
     let fits : count < 2 ^ 64 = are.1.0.1 in
-    let Says : Out.Denot → Type 0 = λ r. IfOk r (λ made. (made.1.0.start ≡ made.0.first) × (made.1.0.places ≡ replicate count None) × (made.1.1.start ≡ made.0.first) × (made.1.1.count ≡ count) × (made.1.1.alloc ≡ alloc)) in
+    let Says : Out.Denot → Type 0 = λ r. IfOk r (λ made. (made.1.0.start ≡ made.0.first) × (made.1.0.cells ≡ replicate count None) × (made.1.1.start ≡ made.0.first) × (made.1.1.count ≡ count) × (made.1.1.alloc ≡ alloc)) in
     qed 𝓛 (((‵ (flft κ q) ⊛ ‵ (flft κ₁ q₁) ⊛ ‵ (flft κ₂ q₂) ⊛ ‵ ftrue) ⊛ ‵ (owns (types_at T.signature.params y.0.0) a vss)) ∷ (raw (fact 𝓤 (κ₁ ⊑ X.lives)) ⊛ raw (fact 𝓤 (κ₂ ⊑ Y.lives)) ⊛ raw (fact 𝓤 (FitsInBlock (R E) count))) ∷ []) ∵
     move ! (1 ∷ []) $ split ! $ heard ! _ (λ lives. split ! $ heard ! _ (λ within. heard ! _ (λ asks.
     let s = size E in let al : ℕ = capped (align (elτ E)) in let small : count * s < 2 ^ 63 = asks.0 in let bytes : count * s < 2 ^ 64 = omega arith in
@@ -100,7 +100,7 @@ obtain_spec 𝓤 𝓛 𝓜 𝓡 wired X Y L LY g d dd met md =
     answers Z ! 𝓜.mem 𝓡.returns alloc (block_ty E count) v
     (λ b o e.
     let p : Ptr = block_ptr b o in
-    let row : W.Denot = record { of = record {}; start = p; places = replicate count None } in
+    let row : W.Denot = record { of = record {}; start = p; cells = replicate count None } in
     let right : D.Denot = record { of = record {}; start = p; count = count; alloc = alloc } in
     let start : S.Denot = record { first = p } in
     let pair : Val = pair_val mark mark in let made : Val = pair_val (word p) pair in
@@ -118,8 +118,8 @@ obtain_spec 𝓤 𝓛 𝓜 𝓡 wired X Y L LY g d dd met md =
     sets_last ! (agg ! (and_then ! (lit ! tt) (and_then ! (get ! refl) (no_more !)))) refl ok $
     exec ! C Λ En (after 3 fn.body) (at_ret En Post) $ sets ! (of_opd ! (get ! refl)) refl ok $
     move ! (1 ∷ []) $ field_made ! E $ fjoin ! $ move ! (1 ∷ []) $ as_written ! (ty_array (elτ E) count) b o $
-    use1 𝓛 (‵ (places_own (R E) b o row.places)) (room-places E 𝓛 b count o) $
-    flt_i ! (length row.places * s) (2 ^ 63) (subst (λ k. k * s < 2 ^ 63) (sym (length-replicate count None)) small) $ move ! (1 ∷ 0 ∷ []) $ fjoin ! $ field_made ! E $ fjoin ! $
+    use1 𝓛 (‵ (cells_own (R E) b o row.cells)) (room-cells E 𝓛 b count o) $
+    flt_i ! (length row.cells * s) (2 ^ 63) (subst (λ k. k * s < 2 ^ 63) (sym (length-replicate count None)) small) $ move ! (1 ∷ 0 ∷ []) $ fjoin ! $ field_made ! E $ fjoin ! $
     use2 𝓛 (‵ (Two.own_val (row, right) (pair ∷ []))) (pair_of 𝓛 W D row right mark mark) $
     start_made ! E p $ use2 𝓛 (‵ (Made.own_val (start, (row, right)) (made ∷ []))) (pair_of 𝓛 S Two start (row, right) (word p) pair) $
     use1 𝓛 (‵ (Out.own_val (Ok (start, (row, right))) (live 0 (vcons made vnil) ∷ []))) (ok_of 𝓛 Made AE.the_row (start, (row, right)) made) $

@@ -26,7 +26,7 @@ returns-then-list_len-lt32 g c =
       down = (search rules);
       first = (search rules);
       bare = (search rules);
-      settled = (search rules);
+      not_waiting = (search rules);
       stays = (search rules);
       waiting = (search rules);
       all = (search rules);
@@ -67,7 +67,7 @@ returns g c =
       down = (search rules);
       first = (search rules);
       bare = (search rules);
-      settled = (search rules);
+      not_waiting = (search rules);
       stays = (search rules);
       waiting = (search rules);
       all = (search rules);
@@ -81,7 +81,7 @@ returns g c =
           let full : HasRoomAt hk g.E.Keyed.key_of a c.args.hash → ⊥ = λ room. absurd (let r = room.1 in omega arith) in
           let some : 0 < bucket_count a = let z = c.if-bucket_count-eq0.false in let m = c.bucket_count.ensures.count in omega arith in
           let none : pending_of a ≡ 0 = let z = c.if-pending-gt0.false in omega arith in
-          λ none_due. c.grow.ensures.noted (λ p. none_due record { array = some; settled = none; full = full; half = p.0; below = p.1 }));
+          λ none_due. c.grow.ensures.noted (λ p. none_due record { array = some; not_waiting = none; full = full; half = p.0; below = p.1 }));
       marked = (search rules);
       unique = (search rules);
     }

@@ -9,8 +9,8 @@ returns-then-bucket_count-eq0 g c =
       same = (search rules);
       settings = (search rules);
       listed = (
-          let r = c.in_ok-make_array.ensures.resized in
-          listed-none _ c.make_array.new.self r.array r.bounded c.make_array.ensures.bare);
+          let r = c.in_ok-install_first.ensures.resized in
+          listed-none _ c.install_first.new.self r.array r.bounded c.install_first.ensures.bare);
       within = (search rules);
       routed = (search rules);
       none = (search rules);

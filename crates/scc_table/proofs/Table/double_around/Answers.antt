@@ -13,8 +13,8 @@ use Rattle.scc_table.specs.Relocates.{left_after, AreMovedBeside, AreShortBut}
 use Rattle.scc_table.specs.TwoArrays.{pending_targets, waits_at}
 use Rattle.scc_table.proofs.Grown.{but-down, but-left, but-moved, but-pending, but-short, stands-after, stands-routed}
 use Rattle.scc_table.proofs.Same.{count-same, entries-same, list-same, pending-same, regrouped-same, unchanged-same, unique-same}
-use Rattle.scc_table.proofs.Settled.{settled-all}
-use Rattle.scc_table.proofs.Viewed.{count-seen, lists-seen, settings-seen, settled-flags}
+use Rattle.scc_table.proofs.NotWaiting.{not_waiting-all}
+use Rattle.scc_table.proofs.Viewed.{count-seen, lists-seen, settings-seen, not_waiting-flags}
 use Rattle.scc_table.proofs.Table.double_around.Goals as goal
 
 pub count_bound-slot-requires-clause-within : goal.count_bound-slot-requires-clause-within
@@ -27,22 +27,22 @@ pub count_bound-slot-requires-clause-first : goal.count_bound-slot-requires-clau
 count_bound-slot-requires-clause-first g c =
     let t = c.self.inside in
     let a = c.args.self.now in
-    let lists = lists-seen _ t.current t.draining.waiting.items t.draining.array a c.self.view_is (settled-flags a c.self.invariant c.self.view_is c.requires.pending) in
+    let lists = lists-seen _ t.current t.draining.waiting.items t.draining.array a c.self.view_is (not_waiting-flags a c.self.invariant c.self.view_is c.requires.pending) in
     let own = ap length (list-same t.current a lists c.args.place.bucket) in
     omega (arith, own, c.requires.slot)
 
-pub start_at-requires-clause-array : goal.start_at-requires-clause-array
-start_at-requires-clause-array g c =
+pub install_relocating-requires-clause-array : goal.install_relocating-requires-clause-array
+install_relocating-requires-clause-array g c =
     let n = c.bucket_count-count.result in
     let array = double-array n c.bucket_count-count.ensures.lawful (omega (arith, c.requires.within, c.bucket_count-count.ensures.count)) (omega (arith, c.requires.below, c.bucket_count-count.ensures.count)) in
     array
 
-pub start_at-requires-clause-other : goal.start_at-requires-clause-other
-start_at-requires-clause-other g c =
+pub install_relocating-requires-clause-other : goal.install_relocating-requires-clause-other
+install_relocating-requires-clause-other g c =
     λ z. absurd (omega (arith, c.requires.within, c.bucket_count-count.ensures.count))
 
-pub start_at-requires-clause-within : goal.start_at-requires-clause-within
-start_at-requires-clause-within g c =
+pub install_relocating-requires-clause-within : goal.install_relocating-requires-clause-within
+install_relocating-requires-clause-within g c =
     let n = c.bucket_count-count.result in
     let array = double-array n c.bucket_count-count.ensures.lawful (omega (arith, c.requires.within, c.bucket_count-count.ensures.count)) (omega (arith, c.requires.below, c.bucket_count-count.ensures.count)) in
     c.bucket_index-bucket.ensures.within (omega (arith, array.least))
@@ -52,7 +52,7 @@ returns-in-Ok g c =
     let a = c.args.self.now in
     let n = c.bucket_count-count.result in
     let array = double-array n c.bucket_count-count.ensures.lawful (omega (arith, c.requires.within, c.bucket_count-count.ensures.count)) (omega (arith, c.requires.below, c.bucket_count-count.ensures.count)) in
-    let b = c.start_at.new.self in
+    let b = c.install_relocating.new.self in
     let m = c.note.new.self in
     let d = c.relocate_some.new.self in
     let k = c.bucket_index-bucket.result in
@@ -83,15 +83,15 @@ returns-in-Ok g c =
           let twice : 2 * n ≡ 2 * bucket_count a = ap (λ z. 2 * z) counted in
           let near : k ≡ bucket_number t (2 * bucket_count a) c.args.hash = at ∙ ap (λ z. bucket_number t z c.args.hash) twice in
           let list : list_of d k ≡ bound_for hash t (2 * bucket_count a) k (entries a) = reg.each k l ∙ ap (λ z. bound_for hash t z k (entries a)) twice in
-          let lists-now = lists-seen _ c.self.inside.current c.self.inside.draining.waiting.items c.self.inside.draining.array a c.self.view_is (settled-flags a c.self.invariant c.self.view_is c.requires.pending) in
+          let lists-now = lists-seen _ c.self.inside.current c.self.inside.draining.waiting.items c.self.inside.draining.array a c.self.view_is (not_waiting-flags a c.self.invariant c.self.view_is c.requires.pending) in
           let own : es ≡ list_of c.self.inside.current c.args.place.bucket = list-same c.self.inside.current a lists-now c.args.place.bucket in
           let hashes = λ (s : Settings g.row.H.Denot). let h : g.row.E.Denot → ℕ = λ e. hash_of g.H.BuildHasher g.H.Hasher.Hasher s.hasher (g.E.Key.Hash.hash_input (g.E.Keyed.key_of e)) in h in
           let few = c.count_bound-slot.ensures ∙ ap (λ xs. length (bound_for (hashes (settings_of c.self.inside.current)) c.self.inside.skipped (2 * n) k (take c.args.place.slot xs))) (sym own)
           ∙ ap (λ s. length (bound_for (hashes s) c.self.inside.skipped (2 * n) k (take c.args.place.slot es))) (sym set) in
           let slot : c.count_bound-slot.result ≡ length (bound_for hash t (2 * bucket_count a) k (take c.args.place.slot es)) = few ∙ ap (λ z. length (bound_for hash z (2 * n) k (take c.args.place.slot es))) s ∙ ap (λ z. length (bound_for hash t z k (take c.args.place.slot es))) twice in
-          ap (slice_get (list_of d k)) slot ∙ stands-after hash a d c.keep_lists.ensures.routed c.args.place.bucket c.args.place.slot c.args.hash x.0 x.1 (c.requires.hashed x.0 x.1) k near list);
+          ap (slice_get (list_of d k)) slot ∙ stands-after hash a d c.list_facts.ensures.routed c.args.place.bucket c.args.place.slot c.args.hash x.0 x.1 (c.requires.hashed x.0 x.1) k near list);
       routed = (at ∙ ap (λ z. bucket_number (settings_of a).skipped z c.args.hash) (sym reg.count));
-      settled = (
+      not_waiting = (
           let down : waits_at (waiting_of b) k ≡ false = but-down (2 * n) k array.least l b done.waiting in
           by_answer (waits_at (waiting_of d) k) (λ q. absurd (let z : true ≡ false = sym (ap (λ w. waits_at w k) (sym c.note.ensures.waiting) ∙ rel.fewer k q) ∙ down in cc)) (λ q. q));
       none = (λ z. let e = reg.count in absurd (omega (arith, array.least)));
@@ -115,7 +115,7 @@ returns-in-Ok g c =
 pub returns-in-Err : goal.returns-in-Err
 returns-in-Err g c =
     let a = c.args.self.now in
-    let b = c.start_at.new.self in
+    let b = c.install_relocating.new.self in
     let d = c.note-in-Err.new.self in
     record {
       rests = (
@@ -137,7 +137,7 @@ returns-in-Err g c =
           let count = count-same a d lists in
           λ down. absurd (let z : true ≡ false = sym (ap (λ (x : Bool × Bool). x.0) c.note-in-Err.ensures.noted) ∙ down in cc));
       down = (
-          let same : c.start_at.new.self ≡ c.args.self.now = c.in-Err.ensures.err in
+          let same : c.install_relocating.new.self ≡ c.args.self.now = c.in-Err.ensures.err in
           λ ne. absurd (ne (count-same c.args.self.now c.note-in-Err.new.self (c.note-in-Err.ensures.lists ∙ ap lists_of same))));
       unmarked = (search rules);
       within = (
@@ -159,13 +159,13 @@ returns-in-Err g c =
           let count = count-same a d lists in
           let hash = λ (e : g.row.E.Denot). key_hash g.H.BuildHasher g.H.Hasher.Hasher g.E.Key.Hash.hash_input a (g.E.Keyed.key_of e) in
           let x = get-some (list_of a c.args.place.bucket) c.args.place.slot c.requires.slot in
-          stands-routed hash a d c.keep_lists.ensures.routed c.args.place.bucket c.args.place.slot c.args.hash x.0 x.1 (c.requires.hashed x.0 x.1) ∙ ap (λ z. bucket_number (settings_of a).skipped z c.args.hash) (sym count));
-      settled = (
+          stands-routed hash a d c.list_facts.ensures.routed c.args.place.bucket c.args.place.slot c.args.hash x.0 x.1 (c.requires.hashed x.0 x.1) ∙ ap (λ z. bucket_number (settings_of a).skipped z c.args.hash) (sym count));
+      not_waiting = (
           let same : b ≡ a = c.in-Err.ensures.err in
           let lists = c.note-in-Err.ensures.lists ∙ ap lists_of same in
           let settings = c.note-in-Err.ensures.settings ∙ ap settings_of same in
           let count = count-same a d lists in
-          ap (λ w. waits_at w c.args.place.bucket) (c.note-in-Err.ensures.waiting ∙ ap waiting_of same) ∙ settled-all a c.requires.pending c.args.place.bucket);
+          ap (λ w. waits_at w c.args.place.bucket) (c.note-in-Err.ensures.waiting ∙ ap waiting_of same) ∙ not_waiting-all a c.requires.pending c.args.place.bucket);
       none = (
           let same : b ≡ a = c.in-Err.ensures.err in
           let lists = c.note-in-Err.ensures.lists ∙ ap lists_of same in

@@ -5,38 +5,38 @@ use Rattle.scc_buckets.specs.Bounded.{IsResized}
 use Rattle.scc_contents.specs.Contents.{bucket_count, entries, key_hash, settings_of}
 use Rattle.scc_contents.specs.Hashing.{hash_of}
 use Rattle.scc_buckets.specs.Pour.{IsRegrouped, bound_for}
-use Rattle.scc_contents.specs.Sizes.{IsArray}
+use Rattle.scc_contents.specs.Sizes.{IsBucketCount}
 use Rattle.scc_buckets.proofs.Powers.{double-array}
 use Rattle.scc_table.specs.Bounded.{IsDoublingDue, doubles}
 use Rattle.scc_table.proofs.Same.{count-same, entries-same}
 use Rattle.scc_table.proofs.Short.{listed-anew, listed-later, listed-resized, routed-before, short-doubled}
 use Rattle.scc_table.proofs.Table.double_within.Goals as goal
 
-pub start-requires-clause-array : goal.start-requires-clause-array
-start-requires-clause-array g c = double-array c.bucket_count-count.result c.bucket_count-count.ensures.lawful (omega (arith, c.requires.array, c.bucket_count-count.ensures.count)) (omega (arith, c.requires.most))
+pub install_fresh-requires-clause-array : goal.install_fresh-requires-clause-array
+install_fresh-requires-clause-array g c = double-array c.bucket_count-count.result c.bucket_count-count.ensures.lawful (omega (arith, c.requires.array, c.bucket_count-count.ensures.count)) (omega (arith, c.requires.most))
 
 pub returns-in-Ok : goal.returns-in-Ok
 returns-in-Ok g c =
     let a = c.args.self.now in
-    let d = c.start.new.self in
+    let d = c.install_fresh.new.self in
     let hash = λ (e : g.row.E.Denot). key_hash g.H.BuildHasher g.H.Hasher.Hasher g.E.Key.Hash.hash_input c.args.self.now (g.E.Keyed.key_of e) in
     let r = c.in-Ok.ensures in
     let size : bucket_count d ≡ 2 * bucket_count a = r.lists.count ∙ ap (λ n. 2 * n) c.bucket_count-count.ensures.count in
     let array = double-array c.bucket_count-count.result c.bucket_count-count.ensures.lawful (omega (arith, c.requires.array, c.bucket_count-count.ensures.count)) (omega (arith, c.requires.most)) in
     let resized : IsResized hash a d = record {
-      array = subst IsArray (sym r.lists.count) array;
+      array = subst IsBucketCount (sym r.lists.count) array;
       lists = subst (λ n. IsRegrouped hash n a d) (sym r.lists.count) r.lists;
-      bounded = c.start.ensures.bounded c.requires.listed.bounded;
+      bounded = c.install_fresh.ensures.bounded c.requires.listed.bounded;
     } in
     record {
       doubles = (
-          let due : IsDoublingDue c.args.most a = record { settled = omega arith; half = omega arith; below = omega arith } in
-          doubles due (sym c.is_tried.ensures ∙ c.if-is_tried.false) r.down size resized);
+          let due : IsDoublingDue c.args.most a = record { not_waiting = omega arith; half = omega arith; below = omega arith } in
+          doubles due (sym c.is_marked.ensures ∙ c.if-is_marked.false) r.down size resized);
       same = (search rules);
       settings = (search rules);
       listed = (
-          let settings = c.start.ensures.settings in
-          let routed = routed-before (λ s (e : g.row.E.Denot). hash_of g.H.BuildHasher g.H.Hasher.Hasher s.hasher (g.E.Key.Hash.hash_input (g.E.Keyed.key_of e))) a d settings c.keep_lists.ensures.routed in
+          let settings = c.install_fresh.ensures.settings in
+          let routed = routed-before (λ s (e : g.row.E.Denot). hash_of g.H.BuildHasher g.H.Hasher.Hasher s.hasher (g.E.Key.Hash.hash_input (g.E.Keyed.key_of e))) a d settings c.list_facts.ensures.routed in
           listed-anew (λ s (e : g.row.E.Denot). hash_of g.H.BuildHasher g.H.Hasher.Hasher s.hasher (g.E.Key.Hash.hash_input (g.E.Keyed.key_of e))) a d settings
           (listed-resized hash a d resized routed (λ i l. subst (λ n. length (bound_for hash (settings_of a).skipped n i (entries a)) ≤ 32) (sym size) (short-doubled hash a c.requires.listed i))));
       array = (search rules);
@@ -54,20 +54,20 @@ returns-in-Err g c =
       doubles = (search rules);
       same = (
           let a = c.args.self.now in
-          subst (λ es. IsPermutation (entries a) es) (sym (entries-same a c.start.new.self c.in-Err.ensures.err)) (IsPermutation-refl (entries a)));
+          subst (λ es. IsPermutation (entries a) es) (sym (entries-same a c.install_fresh.new.self c.in-Err.ensures.err)) (IsPermutation-refl (entries a)));
       settings = (search rules);
-      listed = (listed-later (λ s (e : g.row.E.Denot). hash_of g.H.BuildHasher g.H.Hasher.Hasher s.hasher (g.E.Key.Hash.hash_input (g.E.Keyed.key_of e))) c.args.self.now c.start.new.self c.in-Err.ensures.err c.start.ensures.settings (c.start.ensures.bounded c.requires.listed.bounded) c.requires.listed);
-      array = (let n = count-same c.args.self.now c.start.new.self c.in-Err.ensures.err in omega (arith, c.requires.array));
+      listed = (listed-later (λ s (e : g.row.E.Denot). hash_of g.H.BuildHasher g.H.Hasher.Hasher s.hasher (g.E.Key.Hash.hash_input (g.E.Keyed.key_of e))) c.args.self.now c.install_fresh.new.self c.in-Err.ensures.err c.install_fresh.ensures.settings (c.install_fresh.ensures.bounded c.requires.listed.bounded) c.requires.listed);
+      array = (let n = count-same c.args.self.now c.install_fresh.new.self c.in-Err.ensures.err in omega (arith, c.requires.array));
       waiting = (search rules);
-      all = (λ ne. absurd (ne (count-same c.args.self.now c.start.new.self c.in-Err.ensures.err)));
+      all = (λ ne. absurd (ne (count-same c.args.self.now c.install_fresh.new.self c.in-Err.ensures.err)));
       refused = (search rules);
       made = (search rules);
       marked = (search rules);
       unique = (search rules);
     }
 
-pub returns-then-is_tried : goal.returns-then-is_tried
-returns-then-is_tried g c =
+pub returns-then-is_marked : goal.returns-then-is_marked
+returns-then-is_marked g c =
     record {
       doubles = (search rules);
       same = (

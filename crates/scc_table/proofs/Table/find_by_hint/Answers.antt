@@ -4,7 +4,7 @@ use Rattle.scc_contents.specs.Contents.{entries, key_hash, pending_of}
 use Rattle.scc_contents.specs.Hashing.{hash_of}
 use Rattle.scc_table.proofs.Joining.{pending-together}
 use Rattle.scc_table.proofs.Seen.{settings-seen}
-use Rattle.scc_table.proofs.SearchingLemmas.{entries-settled}
+use Rattle.scc_table.proofs.SearchingLemmas.{entries-not_waiting}
 use Rattle.scc_table.proofs.Table.find_by_hint.Goals as goal
 
 pub find_both-requires-clause-pending : goal.find_both-requires-clause-pending
@@ -29,4 +29,4 @@ returns-then-self-eq0 g c =
     let hk = key_hash g.H.BuildHasher g.H.Hasher.Hasher g.E.Key.Hash.hash_input cur in
     let hash = λ (e : g.row.E.Denot). hk (g.E.Keyed.key_of e) in
     let passes = λ (e : g.row.E.Denot). g.E.Key.PartialEq.eq c.args.key.now (g.E.Keyed.key_of e) in
-    c.find_by_hint.ensures ∙ ap (find passes) (sym (entries-settled hash cur olds ws (inv.none c.if-self-eq0.true))) ∙ ap (λ d. find passes (entries d)) c.self.view_is
+    c.find_by_hint.ensures ∙ ap (find passes) (sym (entries-not_waiting hash cur olds ws (inv.none c.if-self-eq0.true))) ∙ ap (λ d. find passes (entries d)) c.self.view_is

@@ -4,7 +4,7 @@ use Rattle.scc_contents.specs.Contents.{pending_of, waiting_of}
 use Rattle.scc_table.proofs.Finishing.{finish-start, finish-step}
 use Rattle.scc_table.specs.TwoArrays.{pending_targets}
 use Rattle.scc_table.proofs.Joining.{waiting-together, pending-together}
-use Rattle.scc_table.proofs.SettlingLemmas.{drop-next, moved-all, moved-most, moved-none}
+use Rattle.scc_table.proofs.RelocatingWithin.{drop-next, moved-all, moved-most, moved-none}
 use Rattle.scc_table.proofs.Targets.{targets-first}
 use Rattle.scc_table.proofs.Table.finish.Goals as goal
 

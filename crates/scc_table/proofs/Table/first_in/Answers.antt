@@ -4,7 +4,7 @@ use Rattle.scc_buckets.specs.Places as spots
 use Rattle.scc_buckets.specs.declared.place.Place.{Place}
 use Rattle.scc_buckets.proofs.Standing.{along, length-zero}
 use Rattle.scc_table.specs.Places.{StandsAt}
-use Rattle.scc_table.specs.Stepping.{rank_on}
+use Rattle.scc_table.specs.NextPlaces.{rank_on}
 use Rattle.scc_table.specs.TwoArrays.{waits_at}
 use Rattle.scc_table.proofs.Nexts.{list-past, own-stands, rank-start}
 use Rattle.scc_table.proofs.OldSpots.{own-list}

@@ -12,31 +12,31 @@ use Rattle.scc_table.proofs.Listed.{count-listed}
 use Rattle.scc_table.proofs.Same.{entries-same, hash-same, pending-same, regrouped-same}
 use Rattle.scc_table.proofs.Table.insert_grown.Goals as goal
 
-pub insert_at-requires-clause-within : goal.insert_at-requires-clause-within
-insert_at-requires-clause-within g c =
+pub insert_and_relocate-requires-clause-within : goal.insert_and_relocate-requires-clause-within
+insert_and_relocate-requires-clause-within g c =
     let a = c.args.self.now in
-    let b = c.begin.new.self in
+    let b = c.install.new.self in
     let d = c.note.new.self in
     let hash = λ (e : g.row.E.Denot). key_hash g.H.BuildHasher g.H.Hasher.Hasher g.E.Key.Hash.hash_input a (g.E.Keyed.key_of e) in
-    let reg = regrouped-same hash c.args.count a b d c.note.ensures.lists c.note.ensures.settings c.begin.ensures.lists in
+    let reg = regrouped-same hash c.args.count a b d c.note.ensures.lists c.note.ensures.settings c.install.ensures.lists in
     let n = reg.count in
     c.bucket_at-bucket.ensures.within (omega (arith, c.requires.some, c.requires.more))
 
-pub insert_at-requires-clause-absent : goal.insert_at-requires-clause-absent
-insert_at-requires-clause-absent g c =
+pub insert_and_relocate-requires-clause-absent : goal.insert_and_relocate-requires-clause-absent
+insert_and_relocate-requires-clause-absent g c =
     let a = c.args.self.now in
-    let b = c.begin.new.self in
+    let b = c.install.new.self in
     let d = c.note.new.self in
-    let perm = subst (λ es. IsPermutation (entries a) es) (sym (entries-same b d c.note.ensures.lists)) c.begin.ensures.same in
+    let perm = subst (λ es. IsPermutation (entries a) es) (sym (entries-same b d c.note.ensures.lists)) c.install.ensures.same in
     absent-permuted _ (entries a) (entries d) perm c.requires.absent
 
 pub unreachable-requires : goal.unreachable-requires
 unreachable-requires g c =
     let a = c.args.self.now in
-    let b = c.begin.new.self in
+    let b = c.install.new.self in
     let d = c.note.new.self in
     let hash = λ (e : g.row.E.Denot). key_hash g.H.BuildHasher g.H.Hasher.Hasher g.E.Key.Hash.hash_input a (g.E.Keyed.key_of e) in
-    let reg = regrouped-same hash c.args.count a b d c.note.ensures.lists c.note.ensures.settings c.begin.ensures.lists in
+    let reg = regrouped-same hash c.args.count a b d c.note.ensures.lists c.note.ensures.settings c.install.ensures.lists in
     let i = c.bucket_at-bucket.result in
     let at : i ≡ bucket_number (settings_of a).skipped c.args.count c.args.hash = c.bucket_at-bucket.ensures.value ∙ ap (λ s. bucket_number s.skipped (bucket_count d) c.args.hash) reg.settings ∙ ap (λ n. bucket_number (settings_of a).skipped n c.args.hash) reg.count in
     let k = g.E.Keyed.key_of c.args.entry in
@@ -56,26 +56,26 @@ unreachable-requires g c =
 pub returns : goal.returns
 returns g c =
     let a = c.args.self.now in
-    let b = c.begin.new.self in
+    let b = c.install.new.self in
     let d = c.note.new.self in
     let hash = λ (e : g.row.E.Denot). key_hash g.H.BuildHasher g.H.Hasher.Hasher g.E.Key.Hash.hash_input a (g.E.Keyed.key_of e) in
-    let reg = regrouped-same hash c.args.count a b d c.note.ensures.lists c.note.ensures.settings c.begin.ensures.lists in
+    let reg = regrouped-same hash c.args.count a b d c.note.ensures.lists c.note.ensures.settings c.install.ensures.lists in
     record {
       ok = (
-          let perm = subst (λ es. IsPermutation (entries a) es) (sym (entries-same b d c.note.ensures.lists)) c.begin.ensures.same in
+          let perm = subst (λ es. IsPermutation (entries a) es) (sym (entries-same b d c.note.ensures.lists)) c.install.ensures.same in
           let rests = inr (λ z. absurd (omega (arith, c.requires.more, reg.count)), regrouped-resizes hash c.args.count a d reg perm c.requires.array (λ less. absurd (omega (arith, c.requires.more)))) in
-          rests-inserted a d c.insert_at.new.self c.args.entry (spot_of c.insert_at.new.self c.in-Ok.place) rests c.in-Ok.ensures.ok);
-      buckets = (c.insert_at.ensures.buckets ∙ reg.count);
+          rests-inserted a d c.insert_and_relocate.new.self c.args.entry (spot_of c.insert_and_relocate.new.self c.in-Ok.place) rests c.in-Ok.ensures.ok);
+      buckets = (c.insert_and_relocate.ensures.buckets ∙ reg.count);
       down = (search rules);
       unmarked = (search rules);
       most = (
-          let n = pending-same c.begin.new.self c.note.new.self c.note.ensures.waiting ∙ c.begin.ensures.pending in
-          omega (arith, c.insert_at.ensures.most));
-      spread = (grown-spread hash c.args.count a d c.insert_at.new.self c.args.hash c.bucket_at-bucket.result reg (c.note.ensures.waiting ∙ c.begin.ensures.waiting) c.bucket_at-bucket.ensures.value c.in-Ok.ensures.exact);
-      drained = (grown-drained hash c.args.count a d c.insert_at.new.self c.args.hash c.bucket_at-bucket.result reg (c.note.ensures.waiting ∙ c.begin.ensures.waiting) c.bucket_at-bucket.ensures.value c.in-Ok.ensures.moved);
-      settled = (
+          let n = pending-same c.install.new.self c.note.new.self c.note.ensures.waiting ∙ c.install.ensures.pending in
+          omega (arith, c.insert_and_relocate.ensures.most));
+      spread = (grown-spread hash c.args.count a d c.insert_and_relocate.new.self c.args.hash c.bucket_at-bucket.result reg (c.note.ensures.waiting ∙ c.install.ensures.waiting) c.bucket_at-bucket.ensures.value c.in-Ok.ensures.exact);
+      drained = (grown-drained hash c.args.count a d c.insert_and_relocate.new.self c.args.hash c.bucket_at-bucket.result reg (c.note.ensures.waiting ∙ c.install.ensures.waiting) c.bucket_at-bucket.ensures.value c.in-Ok.ensures.moved);
+      not_waiting = (
           let i = c.bucket_at-bucket.result in
           let at : i ≡ bucket_number (settings_of a).skipped c.args.count c.args.hash = c.bucket_at-bucket.ensures.value ∙ ap (λ s. bucket_number s.skipped (bucket_count d) c.args.hash) reg.settings ∙ ap (λ n. bucket_number (settings_of a).skipped n c.args.hash) reg.count in
-          ap (waits_at (waiting_of c.insert_at.new.self)) (sym at) ∙ c.in-Ok.ensures.settled);
+          ap (waits_at (waiting_of c.insert_and_relocate.new.self)) (sym at) ∙ c.in-Ok.ensures.not_waiting);
       unique = (search rules);
     }

@@ -31,7 +31,7 @@ returns-then-bucket_count-eq0 g c =
       most = (search rules);
       grown = (search rules);
       array = (λ none. pending-is c.insert_made_first.new.self ∙ ap (count_by (λ w. w)) c.insert_made_first.ensures.waiting);
-      settled = (search rules);
+      not_waiting = (search rules);
       exact = (search rules);
       spread = (search rules);
       all_but_two = (search rules);
@@ -48,9 +48,9 @@ returns-then-pending-gt0 g c =
       ok = (search rules);
       err = (search rules);
       growth = (search rules);
-      due = (any-ok c.insert_made_at.result (record { doubled = λ some none. absurd (let q = c.if-pending-gt0.true in omega arith); raised = λ low up. absurd (let z : true ≡ false = sym up ∙ ap (λ (x : Bool × Bool). x.0) c.insert_made_at.ensures.refused ∙ low in cc); unmarked = λ some none. absurd (let q = c.if-pending-gt0.true in omega arith); lowered = λ up low. absurd (let z : true ≡ false = sym up ∙ sym (ap (λ (x : Bool × Bool). x.0) c.insert_made_at.ensures.refused) ∙ low in cc); down = λ some ne. absurd (ne c.insert_made_at.ensures.buckets) }));
+      due = (any-ok c.insert_made_and_relocate.result (record { doubled = λ some none. absurd (let q = c.if-pending-gt0.true in omega arith); raised = λ low up. absurd (let z : true ≡ false = sym up ∙ ap (λ (x : Bool × Bool). x.0) c.insert_made_and_relocate.ensures.refused ∙ low in cc); unmarked = λ some none. absurd (let q = c.if-pending-gt0.true in omega arith); lowered = λ up low. absurd (let z : true ≡ false = sym up ∙ sym (ap (λ (x : Bool × Bool). x.0) c.insert_made_and_relocate.ensures.refused) ∙ low in cc); down = λ some ne. absurd (ne c.insert_made_and_relocate.ensures.buckets) }));
       raised = (search rules);
-      undone = (any-err c.insert_made_at.result (record { doubled = λ some none. absurd (let q = c.if-pending-gt0.true in omega arith); raised = λ low up. absurd (let z : true ≡ false = sym up ∙ ap (λ (x : Bool × Bool). x.0) c.insert_made_at.ensures.refused ∙ low in cc); unmarked = λ some none. absurd (let q = c.if-pending-gt0.true in omega arith); lowered = λ up low. absurd (let z : true ≡ false = sym up ∙ sym (ap (λ (x : Bool × Bool). x.0) c.insert_made_at.ensures.refused) ∙ low in cc); down = λ some ne. absurd (ne c.insert_made_at.ensures.buckets) }));
+      undone = (any-err c.insert_made_and_relocate.result (record { doubled = λ some none. absurd (let q = c.if-pending-gt0.true in omega arith); raised = λ low up. absurd (let z : true ≡ false = sym up ∙ ap (λ (x : Bool × Bool). x.0) c.insert_made_and_relocate.ensures.refused ∙ low in cc); unmarked = λ some none. absurd (let q = c.if-pending-gt0.true in omega arith); lowered = λ up low. absurd (let z : true ≡ false = sym up ∙ sym (ap (λ (x : Bool × Bool). x.0) c.insert_made_and_relocate.ensures.refused) ∙ low in cc); down = λ some ne. absurd (ne c.insert_made_and_relocate.ensures.buckets) }));
       first = (search rules);
       kept = (search rules);
       once = (search rules);
@@ -59,15 +59,15 @@ returns-then-pending-gt0 g c =
       most = (search rules);
       grown = (search rules);
       array = (search rules);
-      settled = (search rules);
+      not_waiting = (search rules);
       exact = (search rules);
-      spread = (any-ok c.insert_made_at.result (λ some ne. absurd (ne c.insert_made_at.ensures.buckets)));
-      all_but_two = (any-ok c.insert_made_at.result (λ some ne. absurd (ne c.insert_made_at.ensures.buckets)));
-      by_two = (on-ok c.insert_made_at.result (λ h some same short. by-two c.bucket_at-bucket.result c.args.self.now c.insert_made_at.new.self (h short)) c.insert_made_at.ensures.exact);
+      spread = (any-ok c.insert_made_and_relocate.result (λ some ne. absurd (ne c.insert_made_and_relocate.ensures.buckets)));
+      all_but_two = (any-ok c.insert_made_and_relocate.result (λ some ne. absurd (ne c.insert_made_and_relocate.ensures.buckets)));
+      by_two = (on-ok c.insert_made_and_relocate.result (λ h some same short. by-two c.bucket_at-bucket.result c.args.self.now c.insert_made_and_relocate.new.self (h short)) c.insert_made_and_relocate.ensures.exact);
       moved = (
           let ts = pending_targets c.args.self.now in
-          on-ok c.insert_made_at.result (λ h some same. subst (λ i. AreMovedBeside i ts c.insert_made_at.new.self) c.bucket_at-bucket.ensures.value h) c.insert_made_at.ensures.moved);
-      drained = (any-ok c.insert_made_at.result (λ some ne. absurd (ne c.insert_made_at.ensures.buckets)));
+          on-ok c.insert_made_and_relocate.result (λ h some same. subst (λ i. AreMovedBeside i ts c.insert_made_and_relocate.new.self) c.bucket_at-bucket.ensures.value h) c.insert_made_and_relocate.ensures.moved);
+      drained = (any-ok c.insert_made_and_relocate.result (λ some ne. absurd (ne c.insert_made_and_relocate.ensures.buckets)));
       unique = (search rules);
     }
 
@@ -84,9 +84,9 @@ returns-then-list_len-lt32 g c =
       ok = (search rules);
       err = (search rules);
       growth = (search rules);
-      due = (any-ok c.insert_made_at-then-list_len-lt32.result (record { doubled = λ some none full. absurd (let room : HasRoomAt hk g.E.Keyed.key_of a c.args.hash = (some, omega arith) in full (rw c.requires.hashed at room)); raised = λ low up. absurd (let z : true ≡ false = sym up ∙ ap (λ (x : Bool × Bool). x.0) c.insert_made_at-then-list_len-lt32.ensures.refused ∙ low in cc); unmarked = λ some none full. absurd (let room : HasRoomAt hk g.E.Keyed.key_of a c.args.hash = (some, omega arith) in full (rw c.requires.hashed at room)); lowered = λ up low. absurd (let z : true ≡ false = sym up ∙ sym (ap (λ (x : Bool × Bool). x.0) c.insert_made_at-then-list_len-lt32.ensures.refused) ∙ low in cc); down = λ some ne. absurd (ne c.insert_made_at-then-list_len-lt32.ensures.buckets) }));
+      due = (any-ok c.insert_made_and_relocate-then-list_len-lt32.result (record { doubled = λ some none full. absurd (let room : HasRoomAt hk g.E.Keyed.key_of a c.args.hash = (some, omega arith) in full (rw c.requires.hashed at room)); raised = λ low up. absurd (let z : true ≡ false = sym up ∙ ap (λ (x : Bool × Bool). x.0) c.insert_made_and_relocate-then-list_len-lt32.ensures.refused ∙ low in cc); unmarked = λ some none full. absurd (let room : HasRoomAt hk g.E.Keyed.key_of a c.args.hash = (some, omega arith) in full (rw c.requires.hashed at room)); lowered = λ up low. absurd (let z : true ≡ false = sym up ∙ sym (ap (λ (x : Bool × Bool). x.0) c.insert_made_and_relocate-then-list_len-lt32.ensures.refused) ∙ low in cc); down = λ some ne. absurd (ne c.insert_made_and_relocate-then-list_len-lt32.ensures.buckets) }));
       raised = (search rules);
-      undone = (any-err c.insert_made_at-then-list_len-lt32.result (record { doubled = λ some none full. absurd (let room : HasRoomAt hk g.E.Keyed.key_of a c.args.hash = (some, omega arith) in full (rw c.requires.hashed at room)); raised = λ low up. absurd (let z : true ≡ false = sym up ∙ ap (λ (x : Bool × Bool). x.0) c.insert_made_at-then-list_len-lt32.ensures.refused ∙ low in cc); unmarked = λ some none full. absurd (let room : HasRoomAt hk g.E.Keyed.key_of a c.args.hash = (some, omega arith) in full (rw c.requires.hashed at room)); lowered = λ up low. absurd (let z : true ≡ false = sym up ∙ sym (ap (λ (x : Bool × Bool). x.0) c.insert_made_at-then-list_len-lt32.ensures.refused) ∙ low in cc); down = λ some ne. absurd (ne c.insert_made_at-then-list_len-lt32.ensures.buckets) }));
+      undone = (any-err c.insert_made_and_relocate-then-list_len-lt32.result (record { doubled = λ some none full. absurd (let room : HasRoomAt hk g.E.Keyed.key_of a c.args.hash = (some, omega arith) in full (rw c.requires.hashed at room)); raised = λ low up. absurd (let z : true ≡ false = sym up ∙ ap (λ (x : Bool × Bool). x.0) c.insert_made_and_relocate-then-list_len-lt32.ensures.refused ∙ low in cc); unmarked = λ some none full. absurd (let room : HasRoomAt hk g.E.Keyed.key_of a c.args.hash = (some, omega arith) in full (rw c.requires.hashed at room)); lowered = λ up low. absurd (let z : true ≡ false = sym up ∙ sym (ap (λ (x : Bool × Bool). x.0) c.insert_made_and_relocate-then-list_len-lt32.ensures.refused) ∙ low in cc); down = λ some ne. absurd (ne c.insert_made_and_relocate-then-list_len-lt32.ensures.buckets) }));
       first = (search rules);
       kept = (search rules);
       once = (search rules);
@@ -95,16 +95,16 @@ returns-then-list_len-lt32 g c =
       most = (search rules);
       grown = (search rules);
       array = (search rules);
-      settled = (search rules);
+      not_waiting = (search rules);
       exact = (search rules);
-      spread = (any-ok c.insert_made_at-then-list_len-lt32.result (λ some ne. absurd (ne c.insert_made_at-then-list_len-lt32.ensures.buckets)));
-      all_but_two = (any-ok c.insert_made_at-then-list_len-lt32.result (λ some ne. absurd (ne c.insert_made_at-then-list_len-lt32.ensures.buckets)));
-      by_two = (on-ok c.insert_made_at-then-list_len-lt32.result (λ h some same short. by-two c.bucket_at-bucket.result c.args.self.now c.insert_made_at-then-list_len-lt32.new.self (h short)) c.insert_made_at-then-list_len-lt32.ensures.exact);
+      spread = (any-ok c.insert_made_and_relocate-then-list_len-lt32.result (λ some ne. absurd (ne c.insert_made_and_relocate-then-list_len-lt32.ensures.buckets)));
+      all_but_two = (any-ok c.insert_made_and_relocate-then-list_len-lt32.result (λ some ne. absurd (ne c.insert_made_and_relocate-then-list_len-lt32.ensures.buckets)));
+      by_two = (on-ok c.insert_made_and_relocate-then-list_len-lt32.result (λ h some same short. by-two c.bucket_at-bucket.result c.args.self.now c.insert_made_and_relocate-then-list_len-lt32.new.self (h short)) c.insert_made_and_relocate-then-list_len-lt32.ensures.exact);
       moved = (
           let ts = pending_targets c.args.self.now in
-          let f = c.insert_made_at-then-list_len-lt32.new.self in
-          on-ok c.insert_made_at-then-list_len-lt32.result (λ h some same. subst (λ i. AreMovedBeside i ts f) c.bucket_at-bucket.ensures.value h) c.insert_made_at-then-list_len-lt32.ensures.moved);
-      drained = (any-ok c.insert_made_at-then-list_len-lt32.result (λ some ne. absurd (ne c.insert_made_at-then-list_len-lt32.ensures.buckets)));
+          let f = c.insert_made_and_relocate-then-list_len-lt32.new.self in
+          on-ok c.insert_made_and_relocate-then-list_len-lt32.result (λ h some same. subst (λ i. AreMovedBeside i ts f) c.bucket_at-bucket.ensures.value h) c.insert_made_and_relocate-then-list_len-lt32.ensures.moved);
+      drained = (any-ok c.insert_made_and_relocate-then-list_len-lt32.result (λ some ne. absurd (ne c.insert_made_and_relocate-then-list_len-lt32.ensures.buckets)));
       unique = (search rules);
     }
 
@@ -132,13 +132,13 @@ returns g c =
       kept = (λ room. absurd (full (rw c.requires.hashed room)));
       once = (
           λ ready. once-made hk g.E.Keyed.key_of a c.insert_made_full.new.self c.args.hash c.insert_made_full.ensures.growth (λ room. absurd (full room))
-          (λ some w. elim w as (λ _. bucket_count c.insert_made_full.new.self ≡ bucket_count a) [ inl up ↦ absurd (omega arith) | inr tried ↦ c.insert_made_full.ensures.once tried ]) (rw c.requires.hashed ready));
+          (λ some w. elim w as (λ _. bucket_count c.insert_made_full.new.self ≡ bucket_count a) [ inl up ↦ absurd (omega arith) | inr marked ↦ c.insert_made_full.ensures.once marked ]) (rw c.requires.hashed ready));
       fewer = (search rules);
       less = (search rules);
       most = (search rules);
       grown = (search rules);
       array = (search rules);
-      settled = (search rules);
+      not_waiting = (search rules);
       exact = (
           any-ok c.insert_made_full.result
           (λ some same short.

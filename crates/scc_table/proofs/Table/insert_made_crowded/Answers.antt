@@ -7,13 +7,13 @@ use Rattle.scc_table.specs.TwoArrays.{waits_at}
 use Rattle.scc_table.proofs.Grown.{around-inserted, around-short}
 use Rattle.scc_table.proofs.Inserted.{put-count, put-here, put-within}
 use Rattle.scc_table.proofs.Same.{count-same, hash-same, pending-same, unchanged-same}
-use Rattle.scc_table.proofs.Settled.{settled-all}
+use Rattle.scc_table.proofs.NotWaiting.{not_waiting-all}
 use Rattle.scc_table.proofs.Table.insert_made_crowded.Goals as goal
 
 pub double_around-requires-clause-within : goal.double_around-requires-clause-within
 double_around-requires-clause-within g c =
     let a = c.args.self.now in
-    let m = c.put_made_in.new.self in
+    let m = c.insert_made_in.new.self in
     let i = c.args.bucket in
     let p = c.in-Ok.place in
     let e = g.E.Made.made_of c.args.parts in
@@ -25,7 +25,7 @@ double_around-requires-clause-within g c =
 pub double_around-requires-clause-slot : goal.double_around-requires-clause-slot
 double_around-requires-clause-slot g c =
     let a = c.args.self.now in
-    let m = c.put_made_in.new.self in
+    let m = c.insert_made_in.new.self in
     let i = c.args.bucket in
     let p = c.in-Ok.place in
     let e = g.E.Made.made_of c.args.parts in
@@ -36,7 +36,7 @@ double_around-requires-clause-slot g c =
 pub double_around-requires-clause-hashed : goal.double_around-requires-clause-hashed
 double_around-requires-clause-hashed g c =
     let a = c.args.self.now in
-    let m = c.put_made_in.new.self in
+    let m = c.insert_made_in.new.self in
     let i = c.args.bucket in
     let p = c.in-Ok.place in
     let e = g.E.Made.made_of c.args.parts in
@@ -51,12 +51,12 @@ double_around-requires-clause-hashed g c =
 
 pub double_around-requires-clause-pending : goal.double_around-requires-clause-pending
 double_around-requires-clause-pending g c =
-    pending-same c.args.self.now c.put_made_in.new.self c.put_made_in.ensures.waiting ∙ c.requires.pending
+    pending-same c.args.self.now c.insert_made_in.new.self c.insert_made_in.ensures.waiting ∙ c.requires.pending
 
 pub double_around-requires-clause-below : goal.double_around-requires-clause-below
 double_around-requires-clause-below g c =
     let a = c.args.self.now in
-    let m = c.put_made_in.new.self in
+    let m = c.insert_made_in.new.self in
     let i = c.args.bucket in
     let p = c.in-Ok.place in
     let e = g.E.Made.made_of c.args.parts in
@@ -68,7 +68,7 @@ double_around-requires-clause-below g c =
 pub returns-in-Ok : goal.returns-in-Ok
 returns-in-Ok g c =
     let a = c.args.self.now in
-    let m = c.put_made_in.new.self in
+    let m = c.insert_made_in.new.self in
     let i = c.args.bucket in
     let p = c.in-Ok.place in
     let e = g.E.Made.made_of c.args.parts in
@@ -81,7 +81,7 @@ returns-in-Ok g c =
     record {
       ok = (
           let counted = put-count a i e m p put l in
-          around-inserted a i e m p put l d q r.rests r.within r.here r.settled);
+          around-inserted a i e m p put l d q r.rests r.within r.here r.not_waiting);
       err = (search rules);
       up = (search rules);
       doubled = (
@@ -91,10 +91,10 @@ returns-in-Ok g c =
           let counted = put-count a i e m p put l in
           λ down. r.doubled (r.due down) ∙ ap (λ n. 2 * n) counted);
       lowered = (
-          let counted = put-count c.args.self.now c.args.bucket (g.E.Made.made_of c.args.parts) c.put_made_in.new.self c.in-Ok.place c.in-Ok.ensures.exact c.requires.within in
+          let counted = put-count c.args.self.now c.args.bucket (g.E.Made.made_of c.args.parts) c.insert_made_in.new.self c.in-Ok.place c.in-Ok.ensures.exact c.requires.within in
           λ up low z. c.double_around.ensures.due low (z ∙ sym counted));
       fallen = (
-          let counted = put-count c.args.self.now c.args.bucket (g.E.Made.made_of c.args.parts) c.put_made_in.new.self c.in-Ok.place c.in-Ok.ensures.exact c.requires.within in
+          let counted = put-count c.args.self.now c.args.bucket (g.E.Made.made_of c.args.parts) c.insert_made_in.new.self c.in-Ok.place c.in-Ok.ensures.exact c.requires.within in
           λ ne. c.double_around.ensures.down (λ z. ne (z ∙ counted)));
       unmarked = (search rules);
       none = (
@@ -113,9 +113,9 @@ returns-in-Ok g c =
       drained = (
           let counted = put-count a i e m p put l in
           λ ne. subst (λ z. AreMovedBeside z (range_with_len 0 (bucket_count d)) d) at (r.drained (λ z. ne (z ∙ counted))));
-      settled = (
+      not_waiting = (
           let counted = put-count a i e m p put l in
-          ap (waits_at (waiting_of d)) (sym at) ∙ r.settled);
+          ap (waits_at (waiting_of d)) (sym at) ∙ r.not_waiting);
       unique = (search rules);
     }
 
@@ -133,23 +133,23 @@ returns-in-Err g c =
       lowered = (λ up low. absurd (let z : true ≡ false = sym (ap (λ (x : Bool × Bool). x.0) c.note.ensures.noted) ∙ low in cc));
       fallen = (λ ne. absurd (ne (count-same c.args.self.now c.note.new.self (c.note.ensures.lists ∙ c.in-Err.ensures.stays.lists))));
       unmarked = (search rules);
-      none = (λ same. pending-same c.args.self.now c.note.new.self (c.note.ensures.waiting ∙ c.put_made_in.ensures.waiting) ∙ c.requires.pending);
+      none = (λ same. pending-same c.args.self.now c.note.new.self (c.note.ensures.waiting ∙ c.insert_made_in.ensures.waiting) ∙ c.requires.pending);
       most = (λ ne. absurd (ne (count-same c.args.self.now c.note.new.self (c.note.ensures.lists ∙ c.in-Err.ensures.stays.lists))));
       spread = (search rules);
       drained = (search rules);
-      settled = (search rules);
+      not_waiting = (search rules);
       unique = (search rules);
     }
 
-pub put_made_in-requires-clause-settled : goal.put_made_in-requires-clause-settled
-put_made_in-requires-clause-settled g c = settled-all c.args.self.now c.requires.pending c.args.bucket
+pub insert_made_in-requires-clause-not_waiting : goal.insert_made_in-requires-clause-not_waiting
+insert_made_in-requires-clause-not_waiting g c = not_waiting-all c.args.self.now c.requires.pending c.args.bucket
 
 pub double_around-requires-clause-empty : goal.double_around-requires-clause-empty
 double_around-requires-clause-empty g c =
-    let counted = put-count c.args.self.now c.args.bucket (g.E.Made.made_of c.args.parts) c.put_made_in.new.self c.in-Ok.place c.in-Ok.ensures.exact c.requires.within in
+    let counted = put-count c.args.self.now c.args.bucket (g.E.Made.made_of c.args.parts) c.insert_made_in.new.self c.in-Ok.place c.in-Ok.ensures.exact c.requires.within in
     rw counted c.requires.empty
 
 pub double_around-requires-clause-flags : goal.double_around-requires-clause-flags
 double_around-requires-clause-flags g c =
-    let counted = put-count c.args.self.now c.args.bucket (g.E.Made.made_of c.args.parts) c.put_made_in.new.self c.in-Ok.place c.in-Ok.ensures.exact c.requires.within in
+    let counted = put-count c.args.self.now c.args.bucket (g.E.Made.made_of c.args.parts) c.insert_made_in.new.self c.in-Ok.place c.in-Ok.ensures.exact c.requires.within in
     rw counted c.requires.flags

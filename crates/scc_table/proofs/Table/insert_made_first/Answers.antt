@@ -7,7 +7,7 @@ use Rattle.scc_table.proofs.Firsts.{no-flags}
 use Rattle.scc_table.proofs.Joining.{refused-together, settings-together, waiting-together}
 use Rattle.scc_table.proofs.Lone.{fields-lone, over-first, over-grows, over-inserted, over-unchanged}
 use Rattle.scc_table.proofs.Same.{entries-same, hash-same, if-err, if-ok, on-ok}
-use Rattle.scc_table.proofs.Settled.{either-answer}
+use Rattle.scc_table.proofs.NotWaiting.{either-answer}
 use Rattle.scc_table.proofs.Viewed.{count-seen, lists-seen, refused-seen, settings-seen}
 use Rattle.scc_table.proofs.Table.insert_made_first.Goals as goal
 

@@ -8,15 +8,15 @@ use Rattle.scc_table.specs.TwoArrays.{pending_targets, waits_at}
 use Rattle.scc_draining.proofs.Arriving.{any-ok}
 use Rattle.scc_table.proofs.Grown.{on-both}
 use Rattle.scc_table.proofs.Same.{pending-same}
-use Rattle.scc_table.proofs.Settled.{settled-all}
+use Rattle.scc_table.proofs.NotWaiting.{not_waiting-all}
 use Rattle.scc_table.proofs.Table.insert_made_full.Goals as goal
 
-pub is_crowded-requires-clause-settled : goal.is_crowded-requires-clause-settled
-is_crowded-requires-clause-settled g c =
-    settled-all c.args.self.now c.requires.pending c.args.bucket
+pub is_crowded-requires-clause-not_waiting : goal.is_crowded-requires-clause-not_waiting
+is_crowded-requires-clause-not_waiting g c =
+    not_waiting-all c.args.self.now c.requires.pending c.args.bucket
 
-pub insert_made_with-requires-clause-array : goal.insert_made_with-requires-clause-array
-insert_made_with-requires-clause-array g c =
+pub insert_made_grown-requires-clause-array : goal.insert_made_grown-requires-clause-array
+insert_made_grown-requires-clause-array g c =
     double-array c.bucket_count-count.result c.bucket_count-count.ensures.lawful (omega (arith, c.requires.within, c.bucket_count-count.ensures.count)) (omega arith)
 
 pub returns-then-is_crowded : goal.returns-then-is_crowded
@@ -30,7 +30,7 @@ returns-then-is_crowded g c =
             half = λ some ne. omega (arith, c.bucket_count-count.ensures.count, c.len-length.ensures.len);
             below = λ some ne. omega (arith, c.bucket_count-count.ensures.count);
             doubled = λ some ne. c.insert_made_crowded.ensures.doubled ne;
-            settled = λ some ne. c.requires.pending;
+            not_waiting = λ some ne. c.requires.pending;
           });
       due = (λ half below down. c.insert_made_crowded.ensures.due down);
       raised = (search rules);
@@ -38,12 +38,12 @@ returns-then-is_crowded g c =
       down = (search rules);
       once = (search rules);
       unmarked = (search rules);
-      fewer = (λ same i up. absurd (let z : true ≡ false = sym up ∙ settled-all c.insert_made_crowded.new.self (c.insert_made_crowded.ensures.none same) i in cc));
+      fewer = (λ same i up. absurd (let z : true ≡ false = sym up ∙ not_waiting-all c.insert_made_crowded.new.self (c.insert_made_crowded.ensures.none same) i in cc));
       less = (λ same. let none = c.insert_made_crowded.ensures.none same in omega arith);
       grown = (search rules);
       spread = (search rules);
       drained = (search rules);
-      settled = (search rules);
+      not_waiting = (search rules);
       unique = (search rules);
     }
 
@@ -61,38 +61,38 @@ returns-else-is_crowded g c =
             first = λ none ne. absurd (omega (arith, c.requires.within));
             half = λ some ne. omega (arith, c.bucket_count-count.ensures.count, c.len-length.ensures.len);
             below = λ some ne. omega (arith, c.bucket_count-count.ensures.count);
-            doubled = λ some ne. c.insert_made_with.ensures.doubled ne ∙ ap (λ n. 2 * n) c.bucket_count-count.ensures.count;
-            settled = λ some ne. c.requires.pending;
+            doubled = λ some ne. c.insert_made_grown.ensures.doubled ne ∙ ap (λ n. 2 * n) c.bucket_count-count.ensures.count;
+            not_waiting = λ some ne. c.requires.pending;
           });
-      due = (λ _ _ down. c.insert_made_with.ensures.due down ∙ ap (λ n. 2 * n) c.bucket_count-count.ensures.count);
+      due = (λ _ _ down. c.insert_made_grown.ensures.due down ∙ ap (λ n. 2 * n) c.bucket_count-count.ensures.count);
       raised = (search rules);
       lowered = (search rules);
       down = (search rules);
       once = (search rules);
       unmarked = (search rules);
-      fewer = (λ same i up. ap (λ ws. waits_at ws i) (sym (c.insert_made_with.ensures.same same)) ∙ up);
-      less = (λ same. let p = pending-same c.args.self.now c.insert_made_with.new.self (c.insert_made_with.ensures.same same) in omega arith);
-      grown = (λ ne. let n = c.insert_made_with.ensures.doubled ne in let p = c.insert_made_with.ensures.grown ne in omega arith);
+      fewer = (λ same i up. ap (λ ws. waits_at ws i) (sym (c.insert_made_grown.ensures.same same)) ∙ up);
+      less = (λ same. let p = pending-same c.args.self.now c.insert_made_grown.new.self (c.insert_made_grown.ensures.same same) in omega arith);
+      grown = (λ ne. let n = c.insert_made_grown.ensures.doubled ne in let p = c.insert_made_grown.ensures.grown ne in omega arith);
       spread = (
           let a = c.args.self.now in
-          let f = c.insert_made_with.new.self in
+          let f = c.insert_made_grown.new.self in
           let n = 2 * c.bucket_count-count.result in
           let hash = λ (e : g.row.E.Denot). key_hash g.H.BuildHasher g.H.Hasher.Hasher g.E.Key.Hash.hash_input a (g.E.Keyed.key_of e) in
           let s = (settings_of a).skipped in
-          on-both c.insert_made_with.result
+          on-both c.insert_made_grown.result
           (λ (e : bucket_count f ≡ n) (h : AreShortAmong hash n a → pending_targets f ≡ left_after (bucket_number s n c.args.hash) (range_with_len 0 n)) ne short.
           subst (λ m. pending_targets f ≡ left_after (bucket_number s m c.args.hash) (range_with_len 0 m)) (sym e) (h (subst (λ m. AreShortAmong hash m a) e short)))
-          c.insert_made_with.ensures.buckets c.insert_made_with.ensures.spread);
+          c.insert_made_grown.ensures.buckets c.insert_made_grown.ensures.spread);
       drained = (
           let a = c.args.self.now in
-          let f = c.insert_made_with.new.self in
+          let f = c.insert_made_grown.new.self in
           let n = 2 * c.bucket_count-count.result in
           let s = (settings_of a).skipped in
-          on-both c.insert_made_with.result
+          on-both c.insert_made_grown.result
           (λ (e : bucket_count f ≡ n) (h : AreMovedBeside (bucket_number s n c.args.hash) (range_with_len 0 n) f) ne.
           subst (λ m. AreMovedBeside (bucket_number s m c.args.hash) (range_with_len 0 m) f) (sym e) h)
-          c.insert_made_with.ensures.buckets c.insert_made_with.ensures.drained);
-      settled = (search rules);
+          c.insert_made_grown.ensures.buckets c.insert_made_grown.ensures.drained);
+      not_waiting = (search rules);
       unique = (search rules);
     }
 
@@ -111,8 +111,8 @@ returns-then-length-count g c =
       fewer = (search rules);
       less = (search rules);
       grown = (search rules);
-      spread = (any-ok c.insert_made_at.result (λ ne. absurd (ne c.insert_made_at.ensures.buckets)));
-      drained = (any-ok c.insert_made_at.result (λ ne. absurd (ne c.insert_made_at.ensures.buckets)));
-      settled = (search rules);
+      spread = (any-ok c.insert_made_and_relocate.result (λ ne. absurd (ne c.insert_made_and_relocate.ensures.buckets)));
+      drained = (any-ok c.insert_made_and_relocate.result (λ ne. absurd (ne c.insert_made_and_relocate.ensures.buckets)));
+      not_waiting = (search rules);
       unique = (search rules);
     }

@@ -8,17 +8,17 @@ use Rattle.scc_table.specs.TwoArrays.{waits_at}
 use Rattle.scc_table.proofs.Same.{count-same, entries-same, if-err, if-ok, pending-same, unchanged-same}
 use Rattle.scc_table.proofs.Table.insert_made_noted.Goals as goal
 
-pub insert_made_at-requires-clause-within : goal.insert_made_at-requires-clause-within
-insert_made_at-requires-clause-within g c = let n = count-same c.args.self.now c.note.new.self c.note.ensures.lists in omega (arith, c.requires.within)
+pub insert_made_and_relocate-requires-clause-within : goal.insert_made_and_relocate-requires-clause-within
+insert_made_and_relocate-requires-clause-within g c = let n = count-same c.args.self.now c.note.new.self c.note.ensures.lists in omega (arith, c.requires.within)
 
-pub insert_made_at-requires-clause-routed : goal.insert_made_at-requires-clause-routed
-insert_made_at-requires-clause-routed g c =
+pub insert_made_and_relocate-requires-clause-routed : goal.insert_made_and_relocate-requires-clause-routed
+insert_made_and_relocate-requires-clause-routed g c =
     let a = c.args.self.now in
     let d = c.note.new.self in
     c.requires.routed ∙ ap (λ s. bucket_number s.skipped (bucket_count a) c.args.hash) (sym c.note.ensures.settings) ∙ ap (λ n. bucket_number (settings_of d).skipped n c.args.hash) (sym (count-same a d c.note.ensures.lists))
 
-pub insert_made_at-requires-clause-absent : goal.insert_made_at-requires-clause-absent
-insert_made_at-requires-clause-absent g c =
+pub insert_made_and_relocate-requires-clause-absent : goal.insert_made_and_relocate-requires-clause-absent
+insert_made_and_relocate-requires-clause-absent g c =
     subst (λ es. position (λ e. g.E.Key.PartialEq.eq (g.E.Keyed.key_of (g.E.Made.made_of c.args.parts)) (g.E.Keyed.key_of e)) es ≡ None) (sym (entries-same c.args.self.now c.note.new.self c.note.ensures.lists)) c.requires.absent
 
 pub returns : goal.returns
@@ -27,14 +27,14 @@ returns g c =
     let d = c.note.new.self in
     record {
       ok = (
-          let f = c.insert_made_at.new.self in
-          if-ok c.insert_made_at.result (λ p h. rests-inserted a d f (g.E.Made.made_of c.args.parts) (spot_of f p) (inl (unchanged-same a d c.note.ensures.lists c.note.ensures.settings)) h) c.insert_made_at.ensures.ok);
-      err = (if-err c.insert_made_at.result (λ e h. (h.0, record { exact = h.1.exact ∙ entries-same a d c.note.ensures.lists; buckets = h.1.buckets ∙ count-same a d c.note.ensures.lists; settings = h.1.settings ∙ c.note.ensures.settings })) c.insert_made_at.ensures.err);
-      buckets = (c.insert_made_at.ensures.buckets ∙ count-same c.args.self.now c.note.new.self c.note.ensures.lists);
+          let f = c.insert_made_and_relocate.new.self in
+          if-ok c.insert_made_and_relocate.result (λ p h. rests-inserted a d f (g.E.Made.made_of c.args.parts) (spot_of f p) (inl (unchanged-same a d c.note.ensures.lists c.note.ensures.settings)) h) c.insert_made_and_relocate.ensures.ok);
+      err = (if-err c.insert_made_and_relocate.result (λ e h. (h.0, record { exact = h.1.exact ∙ entries-same a d c.note.ensures.lists; buckets = h.1.buckets ∙ count-same a d c.note.ensures.lists; settings = h.1.settings ∙ c.note.ensures.settings })) c.insert_made_and_relocate.ensures.err);
+      buckets = (c.insert_made_and_relocate.ensures.buckets ∙ count-same c.args.self.now c.note.new.self c.note.ensures.lists);
       up = (search rules);
       unmarked = (search rules);
-      fewer = (λ k up. ap (λ w. waits_at w k) (sym c.note.ensures.waiting) ∙ c.insert_made_at.ensures.fewer k up);
-      less = (let n = pending-same c.args.self.now c.note.new.self c.note.ensures.waiting in omega (arith, c.insert_made_at.ensures.less));
-      settled = (search rules);
+      fewer = (λ k up. ap (λ w. waits_at w k) (sym c.note.ensures.waiting) ∙ c.insert_made_and_relocate.ensures.fewer k up);
+      less = (let n = pending-same c.args.self.now c.note.new.self c.note.ensures.waiting in omega (arith, c.insert_made_and_relocate.ensures.less));
+      not_waiting = (search rules);
       unique = (search rules);
     }

@@ -25,15 +25,15 @@ returns-then-list_len-lt32 g c =
           ap (λ m. count_by (λ (e : g.row.E.Denot). bucket_number (settings_of a).skipped (bucket_count a) (hk (g.E.Keyed.key_of e)) == m) (entries a)) (sym c.bucket_at-bucket.ensures.value) ∙ count-listed (λ (e : g.row.E.Denot). hk (g.E.Keyed.key_of e)) a i c.bucket_at-bucket.ensures.routed in
           let long = c.list_len.ensures in
           record {
-            doubled = λ some settled full half below few down.
+            doubled = λ some not_waiting full half below few down.
                 let had : HasRoomAt hk g.E.Keyed.key_of a c.args.hash = (some, omega arith) in
                 absurd (full (rw c.requires.hashed at had));
-            raised = λ low up. absurd (let z : false ≡ true = sym low ∙ sym (ap (λ (x : Bool × Bool). x.0) c.insert_at.ensures.refused) ∙ up in cc);
-            unmarked = λ some settled full half below.
+            raised = λ low up. absurd (let z : false ≡ true = sym low ∙ sym (ap (λ (x : Bool × Bool). x.0) c.insert_and_relocate.ensures.refused) ∙ up in cc);
+            unmarked = λ some not_waiting full half below.
                 let had : HasRoomAt hk g.E.Keyed.key_of a c.args.hash = (some, omega arith) in
                 absurd (full (rw c.requires.hashed at had));
-            lowered = λ up low. absurd (let z : true ≡ false = sym up ∙ sym (ap (λ (x : Bool × Bool). x.0) c.insert_at.ensures.refused) ∙ low in cc);
-            down = λ some ne. absurd (ne c.insert_at.ensures.buckets);
+            lowered = λ up low. absurd (let z : true ≡ false = sym up ∙ sym (ap (λ (x : Bool × Bool). x.0) c.insert_and_relocate.ensures.refused) ∙ low in cc);
+            down = λ some ne. absurd (ne c.insert_and_relocate.ensures.buckets);
           });
       first = (search rules);
       none = (search rules);
@@ -44,14 +44,14 @@ returns-then-list_len-lt32 g c =
       most = (search rules);
       grown = (search rules);
       array = (search rules);
-      settled = (search rules);
+      not_waiting = (search rules);
       exact = (search rules);
-      spread = (on-ok c.insert_at.result (λ h some ne. absurd (ne c.insert_at.ensures.buckets)) c.insert_at.ensures.exact);
-      all_but_two = (on-ok c.insert_at.result (λ h some ne. absurd (ne c.insert_at.ensures.buckets)) c.insert_at.ensures.exact);
-      by_two = (on-ok c.insert_at.result (λ h some kept short. by-two c.bucket_at-bucket.result c.args.self.now c.insert_at.new.self (h short)) c.insert_at.ensures.exact);
+      spread = (on-ok c.insert_and_relocate.result (λ h some ne. absurd (ne c.insert_and_relocate.ensures.buckets)) c.insert_and_relocate.ensures.exact);
+      all_but_two = (on-ok c.insert_and_relocate.result (λ h some ne. absurd (ne c.insert_and_relocate.ensures.buckets)) c.insert_and_relocate.ensures.exact);
+      by_two = (on-ok c.insert_and_relocate.result (λ h some kept short. by-two c.bucket_at-bucket.result c.args.self.now c.insert_and_relocate.new.self (h short)) c.insert_and_relocate.ensures.exact);
       moved = (
           let ts = pending_targets c.args.self.now in
-          on-ok c.insert_at.result (λ h some kept. subst (λ i. AreMovedBeside i ts c.insert_at.new.self) c.bucket_at-bucket.ensures.value h) c.insert_at.ensures.moved);
-      drained = (on-ok c.insert_at.result (λ h some ne. absurd (ne c.insert_at.ensures.buckets)) c.insert_at.ensures.moved);
+          on-ok c.insert_and_relocate.result (λ h some kept. subst (λ i. AreMovedBeside i ts c.insert_and_relocate.new.self) c.bucket_at-bucket.ensures.value h) c.insert_and_relocate.ensures.moved);
+      drained = (on-ok c.insert_and_relocate.result (λ h some ne. absurd (ne c.insert_and_relocate.ensures.buckets)) c.insert_and_relocate.ensures.moved);
       unique = (search rules);
     }

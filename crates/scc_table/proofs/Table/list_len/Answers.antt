@@ -5,9 +5,9 @@ use Rattle.scc_buckets.specs.Pour.{bound_for}
 use Rattle.scc_contents.specs.Contents.{bucket_count, key_hash, list_of, settings_of}
 use Rattle.scc_table.specs.TwoArrays.{waits_at}
 use Rattle.scc_table.proofs.OldSpots.{own-list}
-use Rattle.scc_draining.proofs.FromBuckets.{most-held, within-sources}
+use Rattle.scc_draining.proofs.FromBuckets.{most-entry_count, within-sources}
 use Rattle.scc_table.proofs.Preparing.{long-flags, waiting-list}
-use Rattle.scc_buckets.specs.Tables.{spilled_in}
+use Rattle.scc_buckets.specs.Tables.{overflow_in}
 use Rattle.scc_table.proofs.OneBucket.{count-own, flag-free, flag-up, old-multiples, old-sized, target-within}
 use Rattle.scc_table.proofs.Table.list_len.Goals as goal
 
@@ -60,8 +60,8 @@ count_all-requires-clause-most g c =
     let up = flag-up c.self.invariant _ c.self.view_is (c.is_waiting.ensures.0 c.if-is_waiting.true) in
     let array = old-sized c.self.invariant _ up in
     let within = target-within c.self.invariant _ up in
-    let low : spilled_in olds < 2 ^ 62 = omega (arith, inv.overflow_is, inv.few) in
-    let m = most-held hash (settings_of cur).skipped olds array inv.arrays.own low in
+    let low : overflow_in olds < 2 ^ 62 = omega (arith, inv.overflow_is, inv.few) in
+    let m = most-entry_count hash (settings_of cur).skipped olds array inv.arrays.own low in
     omega arith
 
 pub returns-then-is_waiting : goal.returns-then-is_waiting

@@ -1,5 +1,5 @@
 use Rattle.std.proofs.Common.{◌∙◌, ℕ, sym, ap, subst}
-use Rattle.scc_contents.specs.Contents.{key_hash, lists_of, owed_of, spilled_of}
+use Rattle.scc_contents.specs.Contents.{key_hash, lists_of, owed_of, overflow_of}
 use Rattle.scc_table.specs.TwoArrays.{draining_of, IsTable, together}
 use Rattle.scc_table.proofs.Joining.{settings-together, refused-together, waiting-together}
 use Rattle.scc_table.proofs.Noting.{fields-kept, lists-kept, owed-kept, spilled-kept}
@@ -26,7 +26,7 @@ returns g c =
       lists = (ap (λ (h : g.row.E-Key.Denot → ℕ). lists_of (together (λ e. h (g.E.Keyed.key_of e)) d t.draining.waiting.items t.draining.array)) same ∙ lists-kept (λ e. hk (g.E.Keyed.key_of e)) t.current d t.draining.waiting.items t.draining.array c.note.ensures.lists (ap (λ s. s.skipped) c.note.ensures.settings) ∙ ap lists_of c.self.view_is);
       settings = (settings-together _ c.note.new.self t.draining.waiting.items t.draining.array ∙ c.note.ensures.settings ∙ sym (settings-seen _ t.current t.draining.waiting.items t.draining.array c.args.self.now c.self.view_is));
       noted = (refused-together _ c.note.new.self c.self.inside.draining.waiting.items c.self.inside.draining.array ∙ c.note.ensures.noted);
-      spilled = (ap (λ (h : g.row.E-Key.Denot → ℕ). spilled_of (together (λ e. h (g.E.Keyed.key_of e)) d t.draining.waiting.items t.draining.array)) same ∙ spilled-kept (λ e. hk (g.E.Keyed.key_of e)) t.current d t.draining.waiting.items t.draining.array c.note.ensures.lists (ap (λ s. s.skipped) c.note.ensures.settings) c.note.ensures.spilled ∙ ap spilled_of c.self.view_is);
+      spilled = (ap (λ (h : g.row.E-Key.Denot → ℕ). overflow_of (together (λ e. h (g.E.Keyed.key_of e)) d t.draining.waiting.items t.draining.array)) same ∙ spilled-kept (λ e. hk (g.E.Keyed.key_of e)) t.current d t.draining.waiting.items t.draining.array c.note.ensures.lists (ap (λ s. s.skipped) c.note.ensures.settings) c.note.ensures.spilled ∙ ap overflow_of c.self.view_is);
       waiting = (waiting-together _ c.note.new.self t.draining.waiting.items t.draining.array ∙ sym (waiting-seen _ t.current t.draining.waiting.items t.draining.array c.args.self.now c.self.view_is));
       owed = (ap (λ (h : g.row.E-Key.Denot → ℕ). owed_of (together (λ e. h (g.E.Keyed.key_of e)) d t.draining.waiting.items t.draining.array)) same ∙ owed-kept (λ e. hk (g.E.Keyed.key_of e)) t.current d t.draining.waiting.items t.draining.array c.note.ensures.lists (ap (λ s. s.skipped) c.note.ensures.settings) ∙ ap owed_of c.self.view_is);
       unique = (

@@ -3,7 +3,7 @@ use Rattle.scc_contents.specs.Contents.{bucket_count, key_hash, list_of, setting
 use Rattle.scc_buckets.specs.Places as spots
 use Rattle.scc_buckets.specs.declared.place.Place.{Place}
 use Rattle.scc_table.specs.Places.{StandsAt}
-use Rattle.scc_table.specs.Stepping.{rank_on}
+use Rattle.scc_table.specs.NextPlaces.{rank_on}
 use Rattle.scc_table.proofs.Nexts.{bound-same, next-same, rank-end, rank-next, sources-more}
 use Rattle.scc_draining.proofs.FromBuckets.{within-sources}
 use Rattle.scc_table.proofs.OneBucket.{flag-up, old-multiples, old-sized, owed-length, target-within}

@@ -9,7 +9,7 @@ use Rattle.scc_buckets.specs.Writes as writes
 use Rattle.scc_table.specs.Places.{index_of, with_write_at}
 use Rattle.scc_table.specs.TwoArrays.{draining_of, together, IsTable}
 use Rattle.scc_table.proofs.CurrentChanges.{settings-write}
-use Rattle.scc_table.proofs.SearchingLemmas.{near-settled}
+use Rattle.scc_table.proofs.SearchingLemmas.{near-not_waiting}
 use Rattle.scc_table.proofs.Written.{place-seen, own-got, own-is, own-kept, own-written, old-got, old-is, old-kept, old-written}
 use Rattle.scc_table.proofs.Table.parts_mut_at.Goals as goal
 use Rattle.scc_table.proofs.Table.parts_mut_at.Goals.{then-self-eq0-via-then-self-eq0, then-self-eq0-via-else-self-eq0+then-place-count}
@@ -28,7 +28,7 @@ parts_mut_at-requires g c =
     let within = place-seen c.self.invariant c.args.place c.self.view_is c.requires in
     let count = c.bucket_count-count.ensures.count in
     let near : p.bucket < bucket_count cur = elim c.then-self-eq0.branch [
-      | then-self-eq0-via-then-self-eq0 w ↦ near-settled (λ e. hk (key e)) cur olds ws (inv.none w.if-self-eq0.true) p within
+      | then-self-eq0-via-then-self-eq0 w ↦ near-not_waiting (λ e. hk (key e)) cur olds ws (inv.none w.if-self-eq0.true) p within
       | then-self-eq0-via-else-self-eq0+then-place-count w ↦ omega (arith, count, w.if-place-count.true)
     ] in
     (own-is laws inv c.args.place within near).0
@@ -47,7 +47,7 @@ invariant_of-self-lent g c = λ w.
     let within = place-seen c.self.invariant c.args.place c.self.view_is c.requires in
     let count = c.bucket_count-count.ensures.count in
     let near : p.bucket < bucket_count cur = elim c.then-self-eq0.branch [
-      | then-self-eq0-via-then-self-eq0 w ↦ near-settled (λ e. hk (key e)) cur olds ws (inv.none w.if-self-eq0.true) p within
+      | then-self-eq0-via-then-self-eq0 w ↦ near-not_waiting (λ e. hk (key e)) cur olds ws (inv.none w.if-self-eq0.true) p within
       | then-self-eq0-via-else-self-eq0+then-place-count w ↦ omega (arith, count, w.if-place-count.true)
     ] in
     let x = c.parts_mut_at.ensures.parts in
@@ -71,7 +71,7 @@ returns-then-self-eq0 g c =
     let within = place-seen c.self.invariant c.args.place c.self.view_is c.requires in
     let count = c.bucket_count-count.ensures.count in
     let near : p.bucket < bucket_count cur = elim c.then-self-eq0.branch [
-      | then-self-eq0-via-then-self-eq0 w ↦ near-settled (λ e. hk (key e)) cur olds ws (inv.none w.if-self-eq0.true) p within
+      | then-self-eq0-via-then-self-eq0 w ↦ near-not_waiting (λ e. hk (key e)) cur olds ws (inv.none w.if-self-eq0.true) p within
       | then-self-eq0-via-else-self-eq0+then-place-count w ↦ omega (arith, count, w.if-place-count.true)
     ] in
     let x = c.parts_mut_at.ensures.parts in

@@ -4,7 +4,7 @@ use Rattle.scc_buckets.specs.Places as spots
 use Rattle.scc_buckets.specs.declared.place.Place.{Place}
 use Rattle.scc_buckets.proofs.Standing.{along, index-skip}
 use Rattle.scc_table.specs.Places.{StandsAt}
-use Rattle.scc_table.specs.Stepping.{index_on, rank_on}
+use Rattle.scc_table.specs.NextPlaces.{index_on, rank_on}
 use Rattle.scc_table.specs.TwoArrays.{waits_at}
 use Rattle.scc_table.proofs.Nexts.{start-old, start-own, spot-on_old, spot-on_own, own-stands}
 use Rattle.scc_table.proofs.OldSpots.{own-list}

@@ -1,7 +1,7 @@
 use Rattle.std.proofs.Common.{◌≡◌, ℕ, ◌+◌, ◌^◌, ◌<◌, Bool, None, map, sym, ap, ◌∙◌, subst, arith}
 use Rattle.std.specs.List.{position, IsDistinct}
 use Rattle.scc_buckets.specs.Bounded.{IsBounded, IsListed, PutsLast}
-use Rattle.scc_contents.specs.Contents.{Contents, bucket_count, entries, owed_of, key_hash, settings_of, spilled_of}
+use Rattle.scc_contents.specs.Contents.{Contents, bucket_count, entries, owed_of, key_hash, settings_of, overflow_of}
 use Rattle.scc_contents.specs.Hashing.{hash_of}
 use Rattle.scc_buckets.proofs.FindingLemmas.{HashOf}
 use Rattle.scc_table.specs.TwoArrays.{draining_of, together, IsTable}
@@ -50,7 +50,7 @@ put_last-requires-clause-absent g c =
     let now = c.args.self.now in
     let i = c.args.bucket in
     let hash = λ (e : g.row.E.Denot). hk (key e) in
-    let down = flag-free c.self.invariant _ c.self.view_is c.requires.settled in
+    let down = flag-free c.self.invariant _ c.self.view_is c.requires.not_waiting in
     let set = settings-seen hash cur ws olds now view in
     let within = within-own c.self.invariant c.self.view_is c.requires.within in
     let u = together hash cur ws olds in
@@ -59,7 +59,7 @@ put_last-requires-clause-absent g c =
     let hashed = c.requires.hashed ∙ ap (λ s. hash_of g.H.BuildHasher g.H.Hasher.Hasher s.hasher (g.E.Key.Hash.hash_input (key c.args.entry))) (sym set) in
     let same_hash : HashOf passes hash c.args.hash = record { same = λ e w. sym (hashed ∙ ap (hash_of g.H.BuildHasher g.H.Hasher.Hasher (settings_of cur).hasher) (g.met.E.Key.Hash.respects_eq (key c.args.entry) (key e) w)) } in
     let absent : position passes (entries u) ≡ None = subst (λ (z : Contents g.row.E.Denot g.row.H.Denot). position passes (entries z) ≡ None) (sym view) c.requires.absent in
-    missed-listed hash cur c.keep_lists.ensures.routed passes c.args.hash i same_hash routed within (ap (position passes) (sym (own-list hash cur ws olds i down)) ∙ absent-list u passes i absent)
+    missed-listed hash cur c.list_facts.ensures.routed passes c.args.hash i same_hash routed within (ap (position passes) (sym (own-list hash cur ws olds i down)) ∙ absent-list u passes i absent)
 
 pub put_last-requires-clause-bounded : goal.put_last-requires-clause-bounded
 put_last-requires-clause-bounded g c =
@@ -72,7 +72,7 @@ put_last-requires-clause-bounded g c =
     let view = c.self.view_is in
     let i = c.args.bucket in
     let hash = λ (e : g.row.E.Denot). hk (key e) in
-    let down = flag-free c.self.invariant _ c.self.view_is c.requires.settled in
+    let down = flag-free c.self.invariant _ c.self.view_is c.requires.not_waiting in
     let u = together hash cur ws olds in
     let bounded : IsBounded u = subst (λ (z : Contents g.row.E.Denot g.row.H.Denot). IsBounded z) (sym view) c.requires.bounded in
     own-bounded hash cur cur ws olds i down bounded
@@ -90,7 +90,7 @@ invariant_of-self g c =
     let view = c.self.view_is in
     let i = c.args.bucket in
     let hash = λ (e : g.row.E.Denot). hk (key e) in
-    let down = flag-free c.self.invariant _ c.self.view_is c.requires.settled in
+    let down = flag-free c.self.invariant _ c.self.view_is c.requires.not_waiting in
     let u = together hash cur ws olds in
     let bounded : IsBounded u = subst (λ (z : Contents g.row.E.Denot g.row.H.Denot). IsBounded z) (sym view) c.requires.bounded in
     let passes : g.row.E.Denot → Bool = λ e. g.E.Key.PartialEq.eq (key c.args.entry) (key e) in
@@ -102,8 +102,8 @@ invariant_of-self g c =
     let same = ap (λ s. let h : g.row.E-Key.Denot → ℕ = λ k. hash_of g.H.BuildHasher g.H.Hasher.Hasher s.hasher (g.E.Key.Hash.hash_input k) in h) stay in
     let v = together hash d ws olds in
     let first = own-puts_last hash cur d ws olds i down bounded c.args.entry c.put_last.result c.put_last.ensures.step in
-    let low : spilled_of d ≡ 0 = changed.bounded in
-    let few : spilled_of d + t.draining.left_overflow < 2 ^ 62 = let f = inv.few in omega arith in
+    let low : overflow_of d ≡ 0 = changed.bounded in
+    let few : overflow_of d + t.draining.left_overflow < 2 ^ 62 = let f = inv.few in omega arith in
     let inside : i < bucket_count u = let n = ap bucket_count view in let q = c.requires.within in omega arith in
     subst (λ (h : g.row.E-Key.Denot → ℕ). IsTable g.E.Key.PartialEq.eq key h d (draining_of t.draining) t.skipped) (sym same)
     (own-fields g.E.Key.PartialEq.eq key hk cur d i changes.0 changed.lists stay (draining_of t.draining) down t.skipped inv few
@@ -122,7 +122,7 @@ returns g c =
     let i = c.args.bucket in
     let hash = λ (e : g.row.E.Denot). hk (key e) in
     let flags = waiting-seen hash cur ws olds now view in
-    let down = flag-free c.self.invariant _ c.self.view_is c.requires.settled in
+    let down = flag-free c.self.invariant _ c.self.view_is c.requires.not_waiting in
     let u = together hash cur ws olds in
     let bounded : IsBounded u = subst (λ (z : Contents g.row.E.Denot g.row.H.Denot). IsBounded z) (sym view) c.requires.bounded in
     let d = c.put_last.new.self in

@@ -2,11 +2,11 @@ use Rattle.std.proofs.Common.{◌≡◌, ◌∙◌, true, false, sym, rules}
 use Rattle.scc_contents.specs.Contents.{waiting_of}
 use Rattle.scc_buckets.proofs.PairSplits.{by_answer}
 use Rattle.scc_table.specs.TwoArrays.{pending_targets, waits_at}
-use Rattle.scc_table.proofs.Placing.{settled-left}
+use Rattle.scc_table.proofs.Placing.{not_waiting-left}
 use Rattle.scc_table.proofs.Table.put_within.Goals as goal
 
-pub put_settled-requires-clause-settled : goal.put_settled-requires-clause-settled
-put_settled-requires-clause-settled g c =
+pub put_then_relocate-requires-clause-not_waiting : goal.put_then_relocate-requires-clause-not_waiting
+put_then_relocate-requires-clause-not_waiting g c =
     let a = c.args.self.now in
     by_answer (waits_at (waiting_of a) c.args.bucket) (λ q. absurd (let z : true ≡ false = sym (c.is_waiting.ensures.1 q) ∙ c.if-is_waiting.false in cc)) (λ q. q)
 
@@ -15,11 +15,11 @@ returns g c =
     record {
       step = (search rules);
       listed = (search rules);
-      settled = (search rules);
+      not_waiting = (search rules);
       exact = (
           let a = c.args.self.now in
           let down : waits_at (waiting_of a) c.args.bucket ≡ false = by_answer (waits_at (waiting_of a) c.args.bucket) (λ q. absurd (let z : true ≡ false = sym (c.is_waiting.ensures.1 q) ∙ c.if-is_waiting.false in cc)) (λ q. q) in
-          settled-left c.args.bucket a (pending_targets c.put_settled.new.self) down c.put_settled.ensures.exact);
+          not_waiting-left c.args.bucket a (pending_targets c.put_then_relocate.new.self) down c.put_then_relocate.ensures.exact);
       count = (search rules);
       unique = (search rules);
     }

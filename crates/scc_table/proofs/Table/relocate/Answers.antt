@@ -1,7 +1,7 @@
 use Rattle.std.proofs.Common.{◌≡◌, ◌∙◌, ℕ, ◌+◌, ◌-◌, ◌<◌, false, [], length, set, refl, sym, ap, subst, arith, rules}
 use Rattle.std.specs.List.{count_by}
-use Rattle.scc_contents.specs.Contents.{key_hash, spilled_of}
-use Rattle.scc_buckets.specs.Tables.{spilled_in}
+use Rattle.scc_contents.specs.Contents.{key_hash, overflow_of}
+use Rattle.scc_buckets.specs.Tables.{overflow_in}
 use Rattle.scc_contents.specs.Hashing.{hash_of}
 use Rattle.scc_table.specs.TwoArrays.{draining_of, together, IsTable, IsRelocated}
 use Rattle.scc_buckets.proofs.Bare.{all-bare}
@@ -12,25 +12,25 @@ use Rattle.scc_table.proofs.Viewed.{spilled-seen}
 use Rattle.scc_table.proofs.OneBucket.{flag-up, flags-whole, list-coming, moved-within, old-multiples, old-sized, some-pending, target-within, unique-coming}
 use Rattle.scc_table.proofs.Table.relocate.Goals as goal
 
-pub take-requires-clause-target : goal.take-requires-clause-target
-take-requires-clause-target g c = target-within c.self.invariant _ (flag-up c.self.invariant _ c.self.view_is c.requires)
+pub move_target-requires-clause-target : goal.move_target-requires-clause-target
+move_target-requires-clause-target g c = target-within c.self.invariant _ (flag-up c.self.invariant _ c.self.view_is c.requires)
 
-pub take-requires-clause-bare : goal.take-requires-clause-bare
-take-requires-clause-bare g c = c.self.invariant.arrays.bare c.args.bucket (flag-up c.self.invariant _ c.self.view_is c.requires)
+pub move_target-requires-clause-bare : goal.move_target-requires-clause-bare
+move_target-requires-clause-bare g c = c.self.invariant.arrays.bare c.args.bucket (flag-up c.self.invariant _ c.self.view_is c.requires)
 
-pub take-requires-clause-sized : goal.take-requires-clause-sized
-take-requires-clause-sized g c = old-sized c.self.invariant _ (flag-up c.self.invariant _ c.self.view_is c.requires)
+pub move_target-requires-clause-sized : goal.move_target-requires-clause-sized
+move_target-requires-clause-sized g c = old-sized c.self.invariant _ (flag-up c.self.invariant _ c.self.view_is c.requires)
 
-pub take-requires-clause-multiples : goal.take-requires-clause-multiples
-take-requires-clause-multiples g c = old-multiples c.self.invariant _ (flag-up c.self.invariant _ c.self.view_is c.requires)
+pub move_target-requires-clause-multiples : goal.move_target-requires-clause-multiples
+move_target-requires-clause-multiples g c = old-multiples c.self.invariant _ (flag-up c.self.invariant _ c.self.view_is c.requires)
 
-pub take-requires-clause-own : goal.take-requires-clause-own
-take-requires-clause-own g c =
+pub move_target-requires-clause-own : goal.move_target-requires-clause-own
+move_target-requires-clause-own g c =
     let inv = c.self.invariant in
     rw inv.skips inv.arrays.own
 
-pub take-requires-clause-unique : goal.take-requires-clause-unique
-take-requires-clause-unique g c = unique-coming c.self.invariant _ (flag-up c.self.invariant _ c.self.view_is c.requires)
+pub move_target-requires-clause-unique : goal.move_target-requires-clause-unique
+move_target-requires-clause-unique g c = unique-coming c.self.invariant _ (flag-up c.self.invariant _ c.self.view_is c.requires)
 
 pub invariant_of-self-in-Err : goal.invariant_of-self-in-Err
 invariant_of-self-in-Err g c =
@@ -61,8 +61,8 @@ destroy_empty-requires g c =
     let takes = c.in-Ok.ensures.ok in
     let fewer = one-down ws i l up in
     let none : count_by (λ w. w) (set ws i false) ≡ 0 = omega (arith, fewer, inv.counted, c.if-self-eq0.true) in
-    let bare = bare-after hash i c.in-Ok.moved cur c.take.new.current ws olds c.take.new.old inv.arrays up takes none in
-    λ j q. rw c.replace-bare.ensures.value (all-bare c.take.new.old bare j)
+    let bare = bare-after hash i c.in-Ok.moved cur c.move_target.new.current ws olds c.move_target.new.old inv.arrays up takes none in
+    λ j q. rw c.replace-bare.ensures.value (all-bare c.move_target.new.old bare j)
 
 pub invariant_of-self : goal.invariant_of-self
 invariant_of-self g c =
@@ -79,8 +79,8 @@ invariant_of-self g c =
     let fewer = one-down ws i l up in
     let none : count_by (λ w. w) (set ws i false) ≡ 0 = omega (arith, fewer, inv.counted, c.if-self-eq0.true) in
     rw (c.clear.ensures.items, c.replace-bare.ensures.after, c.none-none.ensures)
-    (subst (λ (h : g.row.E-Key.Denot → ℕ). IsTable g.E.Key.PartialEq.eq g.E.Keyed.key_of h c.take.new.current (record (draining_of t.draining) { array = []; waiting = []; pending = t.draining.pending - 1; left = t.draining.left - c.in-Ok.moved; left_overflow = 0 }) t.skipped) (sym same)
-    (fields-last g.E.Key.PartialEq.eq g.E.Keyed.key_of hk i c.in-Ok.moved cur c.take.new.current (draining_of t.draining) c.take.new.old t.skipped inv up takes none c.in-Ok.ensures.few))
+    (subst (λ (h : g.row.E-Key.Denot → ℕ). IsTable g.E.Key.PartialEq.eq g.E.Keyed.key_of h c.move_target.new.current (record (draining_of t.draining) { array = []; waiting = []; pending = t.draining.pending - 1; left = t.draining.left - c.in-Ok.moved; left_overflow = 0 }) t.skipped) (sym same)
+    (fields-last g.E.Key.PartialEq.eq g.E.Keyed.key_of hk i c.in-Ok.moved cur c.move_target.new.current (draining_of t.draining) c.move_target.new.old t.skipped inv up takes none c.in-Ok.ensures.few))
 
 pub invariant_of-self-else-self-eq0 : goal.invariant_of-self-else-self-eq0
 invariant_of-self-else-self-eq0 g c =
@@ -96,8 +96,8 @@ invariant_of-self-else-self-eq0 g c =
     let same = ap (λ s. let h : g.row.E-Key.Denot → ℕ = λ k. hash_of g.H.BuildHasher g.H.Hasher.Hasher s.hasher (g.E.Key.Hash.hash_input k) in h) takes.settings in
     let fewer = one-down ws i l up in
     let some : 0 < count_by (λ w. w) (set ws i false) = omega (arith, fewer, inv.counted, c.if-self-eq0.false) in
-    subst (λ (h : g.row.E-Key.Denot → ℕ). IsTable g.E.Key.PartialEq.eq g.E.Keyed.key_of h c.take.new.current (record (draining_of t.draining) { array = c.take.new.old; waiting = set ws i false; pending = t.draining.pending - 1; left = t.draining.left - c.in-Ok.moved }) t.skipped) (sym same)
-    (fields-after g.E.Key.PartialEq.eq g.E.Keyed.key_of hk i c.in-Ok.moved cur c.take.new.current (draining_of t.draining) (set ws i false) c.take.new.old t.skipped inv up takes refl some c.in-Ok.ensures.few)
+    subst (λ (h : g.row.E-Key.Denot → ℕ). IsTable g.E.Key.PartialEq.eq g.E.Keyed.key_of h c.move_target.new.current (record (draining_of t.draining) { array = c.move_target.new.old; waiting = set ws i false; pending = t.draining.pending - 1; left = t.draining.left - c.in-Ok.moved }) t.skipped) (sym same)
+    (fields-after g.E.Key.PartialEq.eq g.E.Keyed.key_of hk i c.in-Ok.moved cur c.move_target.new.current (draining_of t.draining) (set ws i false) c.move_target.new.old t.skipped inv up takes refl some c.in-Ok.ensures.few)
 
 pub returns-then-self-eq0-clause-ok : goal.returns-then-self-eq0-clause-ok
 returns-then-self-eq0-clause-ok g c =
@@ -115,12 +115,12 @@ returns-then-self-eq0-clause-ok g c =
     let same = ap (λ s. let h : g.row.E-Key.Denot → ℕ = λ k. hash_of g.H.BuildHasher g.H.Hasher.Hasher s.hasher (g.E.Key.Hash.hash_input k) in h) takes.settings in
     let fewer = one-down ws i l up in
     let none : count_by (λ w. w) (set ws i false) ≡ 0 = omega (arith, fewer, inv.counted, c.if-self-eq0.true) in
-    let bare = bare-after hash i c.in-Ok.moved cur c.take.new.current ws olds c.take.new.old inv.arrays up takes none in
-    let there = subst (λ d. IsRelocated i (together hash cur ws olds) d) (bare-together hash c.take.new.current c.take.new.old bare)
-    (relocated-after hash i c.in-Ok.moved cur c.take.new.current ws [] olds c.take.new.old inv.arrays up takes (last refl none)) in
-    let moved = subst (λ (h : g.row.E-Key.Denot → ℕ). IsRelocated i (together hash cur ws olds) (together (λ e. h (g.E.Keyed.key_of e)) c.take.new.current [] [])) (sym same) there in
+    let bare = bare-after hash i c.in-Ok.moved cur c.move_target.new.current ws olds c.move_target.new.old inv.arrays up takes none in
+    let there = subst (λ d. IsRelocated i (together hash cur ws olds) d) (bare-together hash c.move_target.new.current c.move_target.new.old bare)
+    (relocated-after hash i c.in-Ok.moved cur c.move_target.new.current ws [] olds c.move_target.new.old inv.arrays up takes (last refl none)) in
+    let moved = subst (λ (h : g.row.E-Key.Denot → ℕ). IsRelocated i (together hash cur ws olds) (together (λ e. h (g.E.Keyed.key_of e)) c.move_target.new.current [] [])) (sym same) there in
     rw (c.clear.ensures.items, c.replace-bare.ensures.after, c.none-none.ensures)
-    (subst (λ z. IsRelocated i z (together (λ e. key_hash g.H.BuildHasher g.H.Hasher.Hasher g.E.Key.Hash.hash_input c.take.new.current (g.E.Keyed.key_of e)) c.take.new.current [] [])) c.self.view_is moved)
+    (subst (λ z. IsRelocated i z (together (λ e. key_hash g.H.BuildHasher g.H.Hasher.Hasher g.E.Key.Hash.hash_input c.move_target.new.current (g.E.Keyed.key_of e)) c.move_target.new.current [] [])) c.self.view_is moved)
 
 pub returns-else-self-eq0-clause-ok : goal.returns-else-self-eq0-clause-ok
 returns-else-self-eq0-clause-ok g c =
@@ -138,9 +138,9 @@ returns-else-self-eq0-clause-ok g c =
     let same = ap (λ s. let h : g.row.E-Key.Denot → ℕ = λ k. hash_of g.H.BuildHasher g.H.Hasher.Hasher s.hasher (g.E.Key.Hash.hash_input k) in h) takes.settings in
     let fewer = one-down ws i l up in
     let settles = others refl (omega (arith, fewer, inv.counted, c.if-self-eq0.false)) in
-    let there = relocated-after hash i c.in-Ok.moved cur c.take.new.current ws (set ws i false) olds c.take.new.old inv.arrays up takes settles in
-    let moved = subst (λ (h : g.row.E-Key.Denot → ℕ). IsRelocated i (together hash cur ws olds) (together (λ e. h (g.E.Keyed.key_of e)) c.take.new.current (set ws i false) c.take.new.old)) (sym same) there in
-    subst (λ z. IsRelocated i z (together (λ e. key_hash g.H.BuildHasher g.H.Hasher.Hasher g.E.Key.Hash.hash_input c.take.new.current (g.E.Keyed.key_of e)) c.take.new.current (set ws i false) c.take.new.old)) c.self.view_is moved
+    let there = relocated-after hash i c.in-Ok.moved cur c.move_target.new.current ws (set ws i false) olds c.move_target.new.old inv.arrays up takes settles in
+    let moved = subst (λ (h : g.row.E-Key.Denot → ℕ). IsRelocated i (together hash cur ws olds) (together (λ e. h (g.E.Keyed.key_of e)) c.move_target.new.current (set ws i false) c.move_target.new.old)) (sym same) there in
+    subst (λ z. IsRelocated i z (together (λ e. key_hash g.H.BuildHasher g.H.Hasher.Hasher g.E.Key.Hash.hash_input c.move_target.new.current (g.E.Keyed.key_of e)) c.move_target.new.current (set ws i false) c.move_target.new.old)) c.self.view_is moved
 
 pub returns-in-Err-clause-err : goal.returns-in-Err-clause-err
 returns-in-Err-clause-err g c =
@@ -175,8 +175,8 @@ returns-then-self-eq0-clause-bounded g c =
     let was = spilled-seen hash cur ws olds c.args.self.now c.self.view_is in
     λ none few.
     let less = short (omega (arith, same, few)) in
-    let zero : spilled_of c.take.new.current ≡ 0 = omega (arith, was, less, none) in
-    rw (c.clear.ensures.items, c.replace-bare.ensures.after, c.none-none.ensures) (spilled-alone (λ e. key_hash g.H.BuildHasher g.H.Hasher.Hasher g.E.Key.Hash.hash_input c.take.new.current (g.E.Keyed.key_of e)) c.take.new.current [] ∙ zero)
+    let zero : overflow_of c.move_target.new.current ≡ 0 = omega (arith, was, less, none) in
+    rw (c.clear.ensures.items, c.replace-bare.ensures.after, c.none-none.ensures) (spilled-alone (λ e. key_hash g.H.BuildHasher g.H.Hasher.Hasher g.E.Key.Hash.hash_input c.move_target.new.current (g.E.Keyed.key_of e)) c.move_target.new.current [] ∙ zero)
 
 pub returns-else-self-eq0-clause-bounded : goal.returns-else-self-eq0-clause-bounded
 returns-else-self-eq0-clause-bounded g c =
@@ -194,17 +194,17 @@ returns-else-self-eq0-clause-bounded g c =
     let short = rw inv.skips at c.in-Ok.ensures.short in
     let was = spilled-seen hash cur ws olds c.args.self.now c.self.view_is in
     let takes = c.in-Ok.ensures.ok in
-    let left = spilled-le olds c.take.new.old takes.count takes.overflow in
+    let left = spilled-le olds c.move_target.new.old takes.count takes.overflow in
     λ none few.
     let less = short (omega (arith, same, few)) in
-    let zero : spilled_of c.take.new.current + spilled_in c.take.new.old ≡ 0 = omega (arith, was, less, left, none) in
-    spilled-together (λ e. key_hash g.H.BuildHasher g.H.Hasher.Hasher g.E.Key.Hash.hash_input c.take.new.current (g.E.Keyed.key_of e)) c.take.new.current (set ws i false) c.take.new.old ∙ zero
+    let zero : overflow_of c.move_target.new.current + overflow_in c.move_target.new.old ≡ 0 = omega (arith, was, less, left, none) in
+    spilled-together (λ e. key_hash g.H.BuildHasher g.H.Hasher.Hasher g.E.Key.Hash.hash_input c.move_target.new.current (g.E.Keyed.key_of e)) c.move_target.new.current (set ws i false) c.move_target.new.old ∙ zero
 
 pub returns-in-Err-clause-bounded : goal.returns-in-Err-clause-bounded
 returns-in-Err-clause-bounded g c =
     let t = c.self.inside in
-    let same : together (λ e. key_hash g.H.BuildHasher g.H.Hasher.Hasher g.E.Key.Hash.hash_input c.take.new.current (g.E.Keyed.key_of e)) c.take.new.current t.draining.waiting.items c.take.new.old ≡ c.args.self.now = rw (c.in-Err.ensures.err, c.in-Err.ensures.stays) c.self.view_is in
-    λ none few. ap spilled_of same ∙ none
+    let same : together (λ e. key_hash g.H.BuildHasher g.H.Hasher.Hasher g.E.Key.Hash.hash_input c.move_target.new.current (g.E.Keyed.key_of e)) c.move_target.new.current t.draining.waiting.items c.move_target.new.old ≡ c.args.self.now = rw (c.in-Err.ensures.err, c.in-Err.ensures.stays) c.self.view_is in
+    λ none few. ap overflow_of same ∙ none
 
-pub take-requires-clause-flags : goal.take-requires-clause-flags
-take-requires-clause-flags g c = let long = flags-whole c.self.invariant _ (flag-up c.self.invariant _ c.self.view_is c.requires) in search rules
+pub move_target-requires-clause-flags : goal.move_target-requires-clause-flags
+move_target-requires-clause-flags g c = let long = flags-whole c.self.invariant _ (flag-up c.self.invariant _ c.self.view_is c.requires) in search rules

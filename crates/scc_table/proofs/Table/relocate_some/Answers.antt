@@ -1,6 +1,6 @@
 use Rattle.std.proofs.Common.{◌∙◌, ◌+◌, sym, subst, arith}
 use Rattle.scc_table.specs.TwoArrays.{pending_targets}
-use Rattle.scc_table.proofs.SettlingLemmas.{SettlesFirst, moved-all, settles-all, settles-start, settles-none, settles-one}
+use Rattle.scc_table.proofs.RelocatingWithin.{SettlesFirst, moved-all, settles-all, settles-start, settles-none, settles-one}
 use Rattle.scc_table.proofs.Viewed.{pending-seen}
 use Rattle.scc_table.proofs.Table.relocate_some.Goals as goal
 use Rattle.scc_table.proofs.Table.relocate_some.Goals.{in-Ok, in-Err}

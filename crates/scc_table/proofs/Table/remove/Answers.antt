@@ -12,8 +12,8 @@ remove_from_both-requires-clause-pending g c =
     let counted = ap pending_of (sym c.self.view_is) ∙ pending-together hash t.current t.draining.waiting.items t.draining.array in
     omega (arith, counted, inv.counted, c.if-self-ne0.true)
 
-pub take_settled-requires-clause-settled : goal.take_settled-requires-clause-settled
-take_settled-requires-clause-settled g c =
+pub take_from_current-requires-clause-not_waiting : goal.take_from_current-requires-clause-not_waiting
+take_from_current-requires-clause-not_waiting g c =
     let t = c.self.inside in
     let hash = λ (e : g.row.E.Denot). key_hash g.H.BuildHasher g.H.Hasher.Hasher g.E.Key.Hash.hash_input t.current (g.E.Keyed.key_of e) in
     ap waiting_of (sym c.self.view_is) ∙ waiting-together hash t.current t.draining.waiting.items t.draining.array ∙ c.self.invariant.none (omega (arith, c.if-self-ne0.false))
@@ -24,5 +24,5 @@ returns-in-Some-clause-step g c =
     let took = c.in-Some.ensures in (
       took.0,
       took.1,
-      removed-at c.args.self.now c.take_settled.new.self c.shrink.new.self took.0 c.in-Some.entry took.2 shrunk.resizes shrunk.shrinks shrunk.due shrunk.spreads shrunk.unique,
+      removed-at c.args.self.now c.take_from_current.new.self c.shrink.new.self took.0 c.in-Some.entry took.2 shrunk.resizes shrunk.shrinks shrunk.due shrunk.spreads shrunk.unique,
     )

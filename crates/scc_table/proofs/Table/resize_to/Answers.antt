@@ -6,14 +6,14 @@ use Rattle.scc_table.proofs.Finishing.{pending-is}
 use Rattle.scc_table.proofs.Same.{count-same, entries-same, hash-same, on-ok, on-err, pending-same, regrouped-from, unchanged-same}
 use Rattle.scc_table.proofs.Table.resize_to.Goals as goal
 
-pub start-requires-clause-settled : goal.start-requires-clause-settled
-start-requires-clause-settled g c = pending-is c.finish.new.self ∙ ap (count_by (λ w. w)) c.in-Ok.ensures.ok
+pub install_fresh-requires-clause-not_waiting : goal.install_fresh-requires-clause-not_waiting
+install_fresh-requires-clause-not_waiting g c = pending-is c.finish.new.self ∙ ap (count_by (λ w. w)) c.in-Ok.ensures.ok
 
-pub start-requires-clause-some : goal.start-requires-clause-some
-start-requires-clause-some g c = let same = count-same c.args.self.now c.finish.new.self c.finish.ensures.lists in omega (arith, c.requires.some)
+pub install_fresh-requires-clause-some : goal.install_fresh-requires-clause-some
+install_fresh-requires-clause-some g c = let same = count-same c.args.self.now c.finish.new.self c.finish.ensures.lists in omega (arith, c.requires.some)
 
-pub start-requires-clause-other : goal.start-requires-clause-other
-start-requires-clause-other g c = λ z. c.requires.other (z ∙ count-same c.args.self.now c.finish.new.self c.finish.ensures.lists)
+pub install_fresh-requires-clause-other : goal.install_fresh-requires-clause-other
+install_fresh-requires-clause-other g c = λ z. c.requires.other (z ∙ count-same c.args.self.now c.finish.new.self c.finish.ensures.lists)
 
 pub returns-in-Ok : goal.returns-in-Ok
 returns-in-Ok g c =
@@ -25,17 +25,17 @@ returns-in-Ok g c =
           let outer = λ (e : g.row.E.Denot). key_hash g.H.BuildHasher g.H.Hasher.Hasher g.E.Key.Hash.hash_input a (g.E.Keyed.key_of e) in
           let keys = hash-same g.H.BuildHasher g.H.Hasher.Hasher g.E.Key.Hash.hash_input a b c.finish.ensures.settings in
           let same : inner ≡ outer = ap (λ (h : g.row.E-Key.Denot → ℕ). let f : g.row.E.Denot → ℕ = λ e. h (g.E.Keyed.key_of e) in f) keys in
-          on-ok c.start.result (regrouped-from inner outer c.args.count a b c.start.new.self same c.finish.ensures.lists c.finish.ensures.settings) c.start.ensures.lists);
-      same = (on-ok c.start.result (λ p. subst (λ es. IsPermutation es (entries c.start.new.self)) (entries-same c.args.self.now c.finish.new.self c.finish.ensures.lists) p) c.start.ensures.same);
+          on-ok c.install_fresh.result (regrouped-from inner outer c.args.count a b c.install_fresh.new.self same c.finish.ensures.lists c.finish.ensures.settings) c.install_fresh.ensures.lists);
+      same = (on-ok c.install_fresh.result (λ p. subst (λ es. IsPermutation es (entries c.install_fresh.new.self)) (entries-same c.args.self.now c.finish.new.self c.finish.ensures.lists) p) c.install_fresh.ensures.same);
       waiting = (search rules);
       pending = (search rules);
       down = (search rules);
-      err = (on-err c.start.result (λ z. unchanged-same c.args.self.now c.start.new.self (z ∙ c.finish.ensures.lists) (c.start.ensures.settings ∙ c.finish.ensures.settings)) c.start.ensures.err);
+      err = (on-err c.install_fresh.result (λ z. unchanged-same c.args.self.now c.install_fresh.new.self (z ∙ c.finish.ensures.lists) (c.install_fresh.ensures.settings ∙ c.finish.ensures.settings)) c.install_fresh.ensures.err);
       fewer = (search rules);
-      less = (on-err c.start.result (λ z. let n = pending-same c.finish.new.self c.start.new.self z in omega (arith, c.finish.ensures.less)) c.start.ensures.stays);
-      still = (on-err c.start.result (λ z. z ∙ c.finish.ensures.lists) c.start.ensures.err);
+      less = (on-err c.install_fresh.result (λ z. let n = pending-same c.finish.new.self c.install_fresh.new.self z in omega (arith, c.finish.ensures.less)) c.install_fresh.ensures.stays);
+      still = (on-err c.install_fresh.result (λ z. z ∙ c.finish.ensures.lists) c.install_fresh.ensures.err);
       settings = (search rules);
-      bounded = (λ none short. c.start.ensures.bounded (c.finish.ensures.bounded none short));
+      bounded = (λ none short. c.install_fresh.ensures.bounded (c.finish.ensures.bounded none short));
       up = (search rules);
       unique = (search rules);
     }

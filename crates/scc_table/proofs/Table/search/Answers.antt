@@ -6,7 +6,7 @@ use Rattle.scc_buckets.proofs.Standing.{along}
 use Rattle.scc_table.specs.Places.{IsFoundAt}
 use Rattle.scc_table.proofs.Joining.{pending-together}
 use Rattle.scc_table.proofs.Seen.{settings-seen}
-use Rattle.scc_table.proofs.SearchingLemmas.{entries-settled, found-settled}
+use Rattle.scc_table.proofs.SearchingLemmas.{entries-not_waiting, found-not_waiting}
 use Rattle.scc_table.proofs.Table.search.Goals as goal
 
 pub search-requires : goal.search-requires
@@ -32,8 +32,8 @@ returns-then-self-eq0-clause-place g c =
     let hash = λ (e : g.row.E.Denot). hk (g.E.Keyed.key_of e) in
     let passes = λ (e : g.row.E.Denot). g.E.Key.PartialEq.eq c.args.key.now (g.E.Keyed.key_of e) in
     let none = inv.none c.if-self-eq0.true in
-    along c.search.result (λ n. ap (λ d. position passes (entries d)) (sym c.self.view_is) ∙ ap (position passes) (entries-settled hash cur olds ws none) ∙ n)
-    (λ q f. subst (λ d. IsFoundAt passes d q) c.self.view_is (found-settled hash cur olds ws none passes q f)) c.search.ensures.place
+    along c.search.result (λ n. ap (λ d. position passes (entries d)) (sym c.self.view_is) ∙ ap (position passes) (entries-not_waiting hash cur olds ws none) ∙ n)
+    (λ q f. subst (λ d. IsFoundAt passes d q) c.self.view_is (found-not_waiting hash cur olds ws none passes q f)) c.search.ensures.place
 
 pub search_both-place-requires-clause-pending : goal.search_both-place-requires-clause-pending
 search_both-place-requires-clause-pending g c =

@@ -61,7 +61,7 @@ returns-clause-place g c =
     let view = c.self.view_is in
     let i = c.args.bucket in
     let hash = λ (e : g.row.E.Denot). hk (key e) in
-    let down = flag-free c.self.invariant _ c.self.view_is c.requires.settled in
+    let down = flag-free c.self.invariant _ c.self.view_is c.requires.not_waiting in
     let here = ap (λ z. list_of z i) (sym view) ∙ own-list hash cur ws olds i down in
     let passes : g.row.E.Denot → Bool = λ e. g.E.Key.PartialEq.eq c.args.key.now (key e) in
     c.search_in.ensures.place ∙ ap (position passes) (sym here)
@@ -79,7 +79,7 @@ returns-clause-missed g c =
     let now = c.args.self.now in
     let i = c.args.bucket in
     let hash = λ (e : g.row.E.Denot). hk (key e) in
-    let down = flag-free c.self.invariant _ c.self.view_is c.requires.settled in
+    let down = flag-free c.self.invariant _ c.self.view_is c.requires.not_waiting in
     let set = settings-seen hash cur ws olds now view in
     let count = count-own c.self.invariant c.self.view_is in
     let within : i < bucket_count cur = let q = c.requires.within in omega (arith, count) in
@@ -87,4 +87,4 @@ returns-clause-missed g c =
     let passes : g.row.E.Denot → Bool = λ e. g.E.Key.PartialEq.eq c.args.key.now (key e) in
     let hashed = c.requires.hashed ∙ ap (λ s. hash_of g.H.BuildHasher g.H.Hasher.Hasher s.hasher (g.E.Key.Hash.hash_input c.args.key.now)) (sym set) in
     let same_hash : HashOf passes hash c.args.hash = record { same = λ e w. sym (hashed ∙ ap (hash_of g.H.BuildHasher g.H.Hasher.Hasher (settings_of cur).hasher) (g.met.E.Key.Hash.respects_eq c.args.key.now (key e) w)) } in
-    λ none. subst (λ (z : Contents g.row.E.Denot g.row.H.Denot). position passes (entries z) ≡ None) view (missed-own hash cur ws olds inv.arrays c.keep_lists.ensures.routed passes c.args.hash i same_hash routed within down (sym c.search_in.ensures.place ∙ none))
+    λ none. subst (λ (z : Contents g.row.E.Denot g.row.H.Denot). position passes (entries z) ≡ None) view (missed-own hash cur ws olds inv.arrays c.list_facts.ensures.routed passes c.args.hash i same_hash routed within down (sym c.search_in.ensures.place ∙ none))

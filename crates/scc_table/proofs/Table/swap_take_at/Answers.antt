@@ -9,7 +9,7 @@ use Rattle.scc_table.specs.TwoArrays.{draining_of, together, IsTable}
 use Rattle.scc_table.proofs.Joining.{waiting-together}
 use Rattle.scc_table.proofs.Taken.{own-owed_kept, own-less_swapped, own-swapped}
 use Rattle.scc_table.proofs.TakenFrom.{swapped-count, swapped-moved, swapped-unique, taken-swapped}
-use Rattle.scc_table.proofs.SearchingLemmas.{near-settled}
+use Rattle.scc_table.proofs.SearchingLemmas.{near-not_waiting}
 use Rattle.scc_table.proofs.Viewed.{count-seen}
 use Rattle.scc_table.proofs.Written.{place-seen, own-got, own-is}
 use Rattle.scc_table.proofs.Table.swap_take_at.Goals as goal
@@ -30,7 +30,7 @@ swap_take_at-requires g c =
     let within = place-seen c.self.invariant c.args.place c.self.view_is c.requires in
     let count = count-seen (λ e. hk (key e)) cur ws olds c.args.self.now view inv.arrays.flags in
     let near : p.bucket < bucket_count cur = elim c.then-self-eq0.branch [
-      | then-self-eq0-via-then-self-eq0 w ↦ near-settled (λ e. hk (key e)) cur olds ws (inv.none w.if-self-eq0.true) p within
+      | then-self-eq0-via-then-self-eq0 w ↦ near-not_waiting (λ e. hk (key e)) cur olds ws (inv.none w.if-self-eq0.true) p within
       | then-self-eq0-via-else-self-eq0+then-place-bucket_count w ↦ omega (arith, count, w.bucket_count.ensures.count, w.if-place-bucket_count.true)
     ] in
     (own-is laws inv c.args.place within near).0
@@ -50,7 +50,7 @@ invariant_of-self g c =
     let within = place-seen c.self.invariant c.args.place c.self.view_is c.requires in
     let count = count-seen (λ e. hk (key e)) cur ws olds c.args.self.now view inv.arrays.flags in
     let near : p.bucket < bucket_count cur = elim c.then-self-eq0.branch [
-      | then-self-eq0-via-then-self-eq0 w ↦ near-settled (λ e. hk (key e)) cur olds ws (inv.none w.if-self-eq0.true) p within
+      | then-self-eq0-via-then-self-eq0 w ↦ near-not_waiting (λ e. hk (key e)) cur olds ws (inv.none w.if-self-eq0.true) p within
       | then-self-eq0-via-else-self-eq0+then-place-bucket_count w ↦ omega (arith, count, w.bucket_count.ensures.count, w.if-place-bucket_count.true)
     ] in
     let d = c.swap_take_at.new.self in
@@ -72,7 +72,7 @@ returns-then-self-eq0 g c =
     let within = place-seen c.self.invariant c.args.place c.self.view_is c.requires in
     let count = count-seen (λ e. hk (key e)) cur ws olds c.args.self.now view inv.arrays.flags in
     let near : p.bucket < bucket_count cur = elim c.then-self-eq0.branch [
-      | then-self-eq0-via-then-self-eq0 w ↦ near-settled (λ e. hk (key e)) cur olds ws (inv.none w.if-self-eq0.true) p within
+      | then-self-eq0-via-then-self-eq0 w ↦ near-not_waiting (λ e. hk (key e)) cur olds ws (inv.none w.if-self-eq0.true) p within
       | then-self-eq0-via-else-self-eq0+then-place-bucket_count w ↦ omega (arith, count, w.bucket_count.ensures.count, w.if-place-bucket_count.true)
     ] in
     let there = subst (λ (z : Contents g.row.E.Denot g.row.H.Denot). slice_get (entries z) (index_of z p) ≡ Some c.swap_take_at.result) view (own-got laws inv c.args.place within near c.swap_take_at.result c.swap_take_at.ensures.entry) in

@@ -1,7 +1,7 @@
 use Rattle.std.proofs.Common.{◌≡◌, ◌-◌, ◌≤◌, Some, List, map, set, sym, ap, ◌∙◌, subst, arith}
 use Rattle.std.specs.List.{slice_get, IsDistinct}
 use Rattle.scc_array.specs.Shelves.{shelf_of}
-use Rattle.scc_array.specs.Shelf.{Shelf, shelf_entries, without_place}
+use Rattle.scc_array.specs.Shelf.{Shelf, shelf_entries, without_slot}
 use Rattle.scc_contents.specs.Contents.{Contents, bucket_count, entries, key_hash, waiting_of, owed_of}
 use Rattle.scc_buckets.specs.OneList.{IsTakenFrom}
 use Rattle.scc_table.specs.Places.{index_of, spot_of}
@@ -97,7 +97,7 @@ invariant_of-self g c =
     let count = c.bucket_count-count.ensures.count in
     let far : bucket_count cur ≤ p.bucket = omega (arith, count-seen (λ e. hk (key e)) cur ws olds c.args.self.now view inv.arrays.flags, c.requires.old) in
     let got = subst (λ n. slice_get (shelf_entries (shelf_of olds (p.bucket - n))) p.slot ≡ Some c.remove_at-entry.result) count c.remove_at-entry.ensures.entry in
-    let new = c.remove_at-entry.ensures.others ∙ ap (λ n. let r : List (Shelf g.row.E.Denot) = set olds (p.bucket - n) (without_place (shelf_of olds (p.bucket - n)) p.slot) in r) count in
+    let new = c.remove_at-entry.ensures.others ∙ ap (λ n. let r : List (Shelf g.row.E.Denot) = set olds (p.bucket - n) (without_slot (shelf_of olds (p.bucket - n)) p.slot) in r) count in
     subst (λ ns. IsTable g.E.Key.PartialEq.eq key hk cur (record (draining_of t.draining) { array = ns; left = t.draining.left - 1 }) t.skipped) (sym new) (old-less laws inv c.args.place within far c.remove_at-entry.result got)
 
 pub returns-clause-entry : goal.returns-clause-entry
@@ -148,7 +148,7 @@ returns-clause-owed g c =
     let count = c.bucket_count-count.ensures.count in
     let far : bucket_count cur ≤ p.bucket = omega (arith, count-seen (λ e. hk (key e)) cur ws olds c.args.self.now view inv.arrays.flags, c.requires.old) in
     let got = subst (λ n. slice_get (shelf_entries (shelf_of olds (p.bucket - n))) p.slot ≡ Some c.remove_at-entry.result) count c.remove_at-entry.ensures.entry in
-    let new = c.remove_at-entry.ensures.others ∙ ap (λ n. let r : List (Shelf g.row.E.Denot) = set olds (p.bucket - n) (without_place (shelf_of olds (p.bucket - n)) p.slot) in r) count in
+    let new = c.remove_at-entry.ensures.others ∙ ap (λ n. let r : List (Shelf g.row.E.Denot) = set olds (p.bucket - n) (without_slot (shelf_of olds (p.bucket - n)) p.slot) in r) count in
     ap (λ ns. owed_of (together (λ e. hk (key e)) cur ws ns)) new ∙ old-owed_taken laws inv c.args.place within far c.remove_at-entry.result got ∙ ap (λ (z : Contents g.row.E.Denot g.row.H.Denot). owed_taken (bucket_count z) (owed_of z) p) view
 
 pub returns-clause-exact : goal.returns-clause-exact
@@ -168,7 +168,7 @@ returns-clause-exact g c =
     let far : bucket_count cur ≤ p.bucket = omega (arith, count-seen (λ e. hk (key e)) cur ws olds c.args.self.now view inv.arrays.flags, c.requires.old) in
     let got = subst (λ n. slice_get (shelf_entries (shelf_of olds (p.bucket - n))) p.slot ≡ Some c.remove_at-entry.result) count c.remove_at-entry.ensures.entry in
     let news = c.remove_at-entry.new.self in
-    let new = c.remove_at-entry.ensures.others ∙ ap (λ n. let r : List (Shelf g.row.E.Denot) = set olds (p.bucket - n) (without_place (shelf_of olds (p.bucket - n)) p.slot) in r) count in
+    let new = c.remove_at-entry.ensures.others ∙ ap (λ n. let r : List (Shelf g.row.E.Denot) = set olds (p.bucket - n) (without_slot (shelf_of olds (p.bucket - n)) p.slot) in r) count in
     let after = together (λ e. hk (key e)) cur ws news in
     let first = subst (λ ns. IsTakenFrom (together (λ e. hk (key e)) cur ws olds) (spot_of (together (λ e. hk (key e)) cur ws olds) p) (together (λ e. hk (key e)) cur ws ns)) (sym new) (old-taken_at laws inv c.args.place within far c.remove_at-entry.result got) in
     let less = subst (λ (z : Contents g.row.E.Denot g.row.H.Denot). IsTakenFrom z (spot_of z p) after) view first in

@@ -1,7 +1,7 @@
 use Rattle.std.proofs.Common.{◌≡◌, ℕ, ◌+◌, ◌^◌, ◌<◌, ◌∷◌, ◌++◌, Some, [], length, map, sym, ap, ◌∙◌, subst, arith}
 use Rattle.std.specs.List.{remove, slice_get, slice_set, IsDistinct}
 use Rattle.scc_buckets.specs.Bounded.{HasList, IsBounded, IsListed}
-use Rattle.scc_contents.specs.Contents.{Contents, bucket_count, entries, owed_of, key_hash, list_of, lists_of, spilled_of}
+use Rattle.scc_contents.specs.Contents.{Contents, bucket_count, entries, owed_of, key_hash, list_of, lists_of, overflow_of}
 use Rattle.scc_contents.specs.Hashing.{hash_of}
 use Rattle.scc_table.specs.TwoArrays.{draining_of, together, IsTable}
 use Rattle.scc_table.proofs.CurrentChanges.{own-fields, own-owed, own-list}
@@ -27,7 +27,7 @@ touch-requires-clause-slot g c =
     let view = c.self.view_is in
     let i = c.args.bucket in
     let hash = λ (e : g.row.E.Denot). hk (key e) in
-    let down = flag-free c.self.invariant _ c.self.view_is c.requires.settled in
+    let down = flag-free c.self.invariant _ c.self.view_is c.requires.not_waiting in
     let here = ap (λ z. list_of z i) (sym view) ∙ own-list hash cur ws olds i down in
     subst (λ z. c.args.slot < length z) here c.requires.slot
 
@@ -47,7 +47,7 @@ touch-requires-clause-bounded g c =
     let view = c.self.view_is in
     let i = c.args.bucket in
     let hash = λ (e : g.row.E.Denot). hk (key e) in
-    let down = flag-free c.self.invariant _ c.self.view_is c.requires.settled in
+    let down = flag-free c.self.invariant _ c.self.view_is c.requires.not_waiting in
     let u = together hash cur ws olds in
     let bounded : IsBounded u = subst (λ (z : Contents g.row.E.Denot g.row.H.Denot). IsBounded z) (sym view) c.requires.bounded in
     own-bounded hash cur cur ws olds i down bounded
@@ -64,7 +64,7 @@ touch-requires-clause-hashed g c =
     let now = c.args.self.now in
     let i = c.args.bucket in
     let hash = λ (e : g.row.E.Denot). hk (key e) in
-    let down = flag-free c.self.invariant _ c.self.view_is c.requires.settled in
+    let down = flag-free c.self.invariant _ c.self.view_is c.requires.not_waiting in
     let set = settings-seen hash cur ws olds now view in
     let here = ap (λ z. list_of z i) (sym view) ∙ own-list hash cur ws olds i down in
     λ e got. c.requires.hashed e (ap (λ z. slice_get z c.args.slot) here ∙ got) ∙ ap (λ s. hash_of g.H.BuildHasher g.H.Hasher.Hasher s.hasher (g.E.Key.Hash.hash_input (key e))) (sym set)
@@ -82,7 +82,7 @@ invariant_of-self g c =
     let view = c.self.view_is in
     let i = c.args.bucket in
     let hash = λ (e : g.row.E.Denot). hk (key e) in
-    let down = flag-free c.self.invariant _ c.self.view_is c.requires.settled in
+    let down = flag-free c.self.invariant _ c.self.view_is c.requires.not_waiting in
     let u = together hash cur ws olds in
     let bounded : IsBounded u = subst (λ (z : Contents g.row.E.Denot g.row.H.Denot). IsBounded z) (sym view) c.requires.bounded in
     let d = c.touch.new.self in
@@ -93,8 +93,8 @@ invariant_of-self g c =
     let v = together hash d ws olds in
     let first = own-has_list hash cur d ws olds i down bounded (remove (list_of cur i) c.args.slot ++ x.0 ∷ []) changed in
     let own = own-list hash cur ws olds i down in
-    let low : spilled_of d ≡ 0 = changed.bounded in
-    let few : spilled_of d + t.draining.left_overflow < 2 ^ 62 = let f = inv.few in omega arith in
+    let low : overflow_of d ≡ 0 = changed.bounded in
+    let few : overflow_of d + t.draining.left_overflow < 2 ^ 62 = let f = inv.few in omega arith in
     let inside : i < bucket_count u = let n = ap bucket_count view in let q = c.requires.within in omega arith in
     subst (λ (h : g.row.E-Key.Denot → ℕ). IsTable g.E.Key.PartialEq.eq key h d (draining_of t.draining) t.skipped) (sym same)
     (own-fields g.E.Key.PartialEq.eq key hk cur d i (remove (list_of cur i) c.args.slot ++ x.0 ∷ []) changed.lists stay (draining_of t.draining) down t.skipped inv few
@@ -113,7 +113,7 @@ returns g c =
     let i = c.args.bucket in
     let hash = λ (e : g.row.E.Denot). hk (key e) in
     let flags = waiting-seen hash cur ws olds now view in
-    let down = flag-free c.self.invariant _ c.self.view_is c.requires.settled in
+    let down = flag-free c.self.invariant _ c.self.view_is c.requires.not_waiting in
     let u = together hash cur ws olds in
     let here = ap (λ z. list_of z i) (sym view) ∙ own-list hash cur ws olds i down in
     let bounded : IsBounded u = subst (λ (z : Contents g.row.E.Denot g.row.H.Denot). IsBounded z) (sym view) c.requires.bounded in

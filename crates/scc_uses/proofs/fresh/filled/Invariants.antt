@@ -5,5 +5,5 @@ use Rattle.scc_uses.proofs.fresh.filled.Given as goal
 abbrev pub invariant-loop-key : goal.invariant-loop-key
 invariant-loop-key l = record {
   array : 0 < bucket_count l.map;
-  settled : pending_of l.map ≡ 0;
+  not_waiting : pending_of l.map ≡ 0;
 }

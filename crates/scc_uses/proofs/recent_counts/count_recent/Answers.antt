@@ -2,7 +2,7 @@ use Rattle.std.proofs.Common.{ℕ, nat_eq, Some, Ok, ap, sym, subst, rules}
 use Rattle.std.specs.Hash as fed
 use Rattle.scc_contents.specs.Contents.{key_hash}
 use Rattle.scc_cache.specs.Caches.{Cached}
-use Rattle.scc_cache.specs.CacheSteps.{Changes, PutsNew, number_in}
+use Rattle.scc_cache.specs.CacheSteps.{ChangesLists, PutsNew, list_number}
 use Rattle.scc_cache.specs.ListSteps.{RefreshesAs}
 use Rattle.scc_uses.specs.Counts.{one_more}
 use Rattle.scc_uses.proofs.RecentCounting.{counted-again, counted-first}
@@ -14,7 +14,7 @@ returns-in-Ok-clause-again g c = λ p there.
     let hash = key_hash g.H.BuildHasher g.H.Hasher.Hasher fed.u64 a.contents in
     let h = counted-again a c.args.word _ _ (λ m n says. search rules) c.in-Ok.evicted c.in-Ok._entry c.entry_sync.result c.and_modify.result c.entry_sync.ensures.entry c.and_modify.ensures c.in-Ok.ensures.entry p there in
     let last = c.counts-1.given.1 (search rules) in
-    (ap Ok h.0, subst (λ (d : Cached (ℕ × ℕ) g.row.H.Denot). Changes (RefreshesAs (number_in hash a.contents) nat_eq c.args.word p (p.0, one_more (Some p))) a d) (sym last) h.1)
+    (ap Ok h.0, subst (λ (d : Cached (ℕ × ℕ) g.row.H.Denot). ChangesLists (RefreshesAs (list_number hash a.contents) nat_eq c.args.word p (p.0, one_more (Some p))) a d) (sym last) h.1)
 
 pub returns-in-Ok-clause-first : goal.returns-in-Ok-clause-first
 returns-in-Ok-clause-first g c = λ none.

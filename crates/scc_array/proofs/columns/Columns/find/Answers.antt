@@ -8,18 +8,18 @@ pub returns-then-eq : goal.returns-then-eq
 returns-then-eq g c =
     let xs = (window_of c.args.self.now c.args.bucket).slots in
     let x = c.entry_at.result.now in
-    let i = c.lowest_bit-place.result in
+    let i = c.lowest_bit-slot.result in
     let passes : g.E.Key.PartialEq.eq c.args.key.now (g.E.Keyed.key_of x) ≡ true = sym (ap (λ k. g.E.Key.PartialEq.eq c.args.key.now k) c.key.ensures) ∙ sym c.eq.ensures ∙ c.if-eq.true in
-    let there = found_slot _ xs [] c.hits.bits i x c.hits.invariant.0 c.lowest_bit-place.ensures.first (c.hits.invariant.1 i c.lowest_bit-place.ensures.set) (get-is xs i x x c.entry_at.ensures) passes in
+    let there = found_slot _ xs [] c.hits.bits i x c.hits.invariant.0 c.lowest_bit-slot.ensures.first (c.hits.invariant.1 i c.lowest_bit-slot.ensures.set) (get-is xs i x x c.entry_at.ensures) passes in
     sym (rw append-nil at there)
 
 pub hits-preserved : goal.hits-preserved
 hits-preserved g c =
     let xs = (window_of c.args.self.now c.args.bucket).slots in
     let x = c.entry_at.result.now in
-    let i = c.lowest_bit-place.result in
+    let i = c.lowest_bit-slot.result in
     let failed : g.E.Key.PartialEq.eq c.args.key.now (g.E.Keyed.key_of x) ≡ false = sym (ap (λ k. g.E.Key.PartialEq.eq c.args.key.now k) c.key.ensures) ∙ sym c.eq.ensures ∙ c.if-eq.false in (
-      hits_next _ xs c.hits.bits c.without_lowest_bit-bits.result i c.hits.invariant.0 c.lowest_bit-place.ensures.value
+      hits_next _ xs c.hits.bits c.without_lowest_bit-bits.result i c.hits.invariant.0 c.lowest_bit-slot.ensures.value
           (λ d l t. let same = get-is xs i x d c.entry_at.ensures in let both : true ≡ false = sym (subst (λ y. g.E.Key.PartialEq.eq c.args.key.now (g.E.Keyed.key_of y) ≡ true) (sym same) t) ∙ failed in cc)
           c.without_lowest_bit-bits.ensures.others,
       (λ j e. c.hits.invariant.1 j (c.without_lowest_bit-bits.ensures.only j e).0),

@@ -8,16 +8,16 @@ pub returns-then-eq : goal.returns-then-eq
 returns-then-eq g c =
     let x = c.entry_at-entry.result.now in
     let passes : g.E.Key.PartialEq.eq c.args.key.now (g.E.Keyed.key_of x) ≡ true = sym (ap (λ k. g.E.Key.PartialEq.eq c.args.key.now k) c.key.ensures) ∙ sym c.eq.ensures ∙ c.if-eq.true in
-    record { passes = passes; place = (_, c.entry_at-entry.ensures) }
+    record { passes = passes; slot = (_, c.entry_at-entry.ensures) }
 
 pub hits-preserved : goal.hits-preserved
 hits-preserved g c =
     let xs = (window_of c.args.self.now c.args.bucket).slots in
     let x = c.entry_at-entry.result.now in
-    let i = c.lowest_bit-place.result in
+    let i = c.lowest_bit-slot.result in
     let failed : g.E.Key.PartialEq.eq c.args.key.now (g.E.Keyed.key_of x) ≡ false = sym (ap (λ k. g.E.Key.PartialEq.eq c.args.key.now k) c.key.ensures) ∙ sym c.eq.ensures ∙ c.if-eq.false in (
       (λ j e. c.hits.invariant.0 j (c.without_lowest_bit-bits.ensures.only j e).0),
-      (λ tagged. hits_next _ xs c.hits.bits c.without_lowest_bit-bits.result i (c.hits.invariant.1 tagged) c.lowest_bit-place.ensures.value
+      (λ tagged. hits_next _ xs c.hits.bits c.without_lowest_bit-bits.result i (c.hits.invariant.1 tagged) c.lowest_bit-slot.ensures.value
           (λ d l t. let same = get-is xs i x d c.entry_at-entry.ensures in let both : true ≡ false = sym (subst (λ y. g.E.Key.PartialEq.eq c.args.key.now (g.E.Keyed.key_of y) ≡ true) (sym same) t) ∙ failed in cc)
           c.without_lowest_bit-bits.ensures.others),
     )

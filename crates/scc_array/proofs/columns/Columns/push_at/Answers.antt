@@ -1,6 +1,6 @@
 use Rattle.std.proofs.Common.{◌≡◌, arith, set, length, ap, ◌∙◌}
-use Rattle.scc_array.proofs.Bucket.{packed-there, number-small, row-within, row-read, place-within}
-use Rattle.scc_array.proofs.Counting.{place-free}
+use Rattle.scc_array.proofs.Bucket.{packed-there, number-small, row-within, row-read, slot-within}
+use Rattle.scc_array.proofs.Counting.{slot-free}
 use Rattle.scc_array.proofs.Pushing.{windows-pushed, columns-pushed}
 use Rattle.scc_array.proofs.columns.Columns.push_at.Goals as goal
 use Rattle.scc_array.specs.Windows.{window_of, pushed}
@@ -18,29 +18,29 @@ overflow_add-bucket g c =
 
 pub put-requires : goal.put-requires
 put-requires g c =
-    let rows = c.self.inside.tags.items in let places = c.self.inside.slots in let ws = c.args.self.now in let b = c.args.bucket in
-    let packed = packed-there rows places c.self.invariant ws c.self.view_is b c.requires.bucket in
-    let k : c.args.place ≡ length (window_of ws b).slots = c.requires.place in (
-      place-within rows places c.self.invariant ws c.self.view_is b c.requires.bucket c.args.place (omega (arith, c.requires.room)),
-      place-free rows places b _ _ packed c.args.place (omega (arith, k)) c.requires.room,
+    let rows = c.self.inside.tags.items in let cells = c.self.inside.slots in let ws = c.args.self.now in let b = c.args.bucket in
+    let packed = packed-there rows cells c.self.invariant ws c.self.view_is b c.requires.bucket in
+    let k : c.args.slot ≡ length (window_of ws b).slots = c.requires.slot in (
+      slot-within rows cells c.self.invariant ws c.self.view_is b c.requires.bucket c.args.slot (omega (arith, c.requires.room)),
+      slot-free rows cells b _ _ packed c.args.slot (omega (arith, k)) c.requires.room,
     )
 
 pub invariant_of-self : goal.invariant_of-self
 invariant_of-self g c =
-    let rows = c.self.inside.tags.items in let places = c.self.inside.slots in let ws = c.args.self.now in let b = c.args.bucket in
-    let within = row-within rows places c.self.invariant ws c.self.view_is b c.requires.bucket in
-    let packed = packed-there rows places c.self.invariant ws c.self.view_is b c.requires.bucket in
+    let rows = c.self.inside.tags.items in let cells = c.self.inside.slots in let ws = c.args.self.now in let b = c.args.bucket in
+    let within = row-within rows cells c.self.invariant ws c.self.view_is b c.requires.bucket in
+    let packed = packed-there rows cells c.self.invariant ws c.self.view_is b c.requires.bucket in
     let row = row-read rows b c.index_mut-row.result.now within c.index_mut-row.ensures.value in
-    let k : c.args.place ≡ length (window_of ws b).slots = c.requires.place in
-    let all = columns-pushed rows places c.self.invariant b within _ _ packed (omega (arith, c.requires.room, k)) c.args.entry c.args.tag c.requires.tag in
+    let k : c.args.slot ≡ length (window_of ws b).slots = c.requires.slot in
+    let all = columns-pushed rows cells c.self.invariant b within _ _ packed (omega (arith, c.requires.room, k)) c.args.entry c.args.tag c.requires.tag in
     rw (c.put.ensures, k, ← row) all
 
 pub returns : goal.returns
 returns g c =
-    let rows = c.self.inside.tags.items in let places = c.self.inside.slots in let ws = c.args.self.now in let b = c.args.bucket in
-    let within = row-within rows places c.self.invariant ws c.self.view_is b c.requires.bucket in
-    let packed = packed-there rows places c.self.invariant ws c.self.view_is b c.requires.bucket in
+    let rows = c.self.inside.tags.items in let cells = c.self.inside.slots in let ws = c.args.self.now in let b = c.args.bucket in
+    let within = row-within rows cells c.self.invariant ws c.self.view_is b c.requires.bucket in
+    let packed = packed-there rows cells c.self.invariant ws c.self.view_is b c.requires.bucket in
     let row = row-read rows b c.index_mut-row.result.now within c.index_mut-row.ensures.value in
-    let k : c.args.place ≡ length (window_of ws b).slots = c.requires.place in
-    let all = windows-pushed rows places c.self.invariant b within _ _ packed (omega (arith, c.requires.room, k)) c.args.entry c.args.tag c.requires.tag in
+    let k : c.args.slot ≡ length (window_of ws b).slots = c.requires.slot in
+    let all = windows-pushed rows cells c.self.invariant b within _ _ packed (omega (arith, c.requires.room, k)) c.args.entry c.args.tag c.requires.tag in
     rw (c.put.ensures, k, ← row) (all ∙ ap (λ v. set v b (pushed (window_of ws b) c.args.entry c.args.tag)) c.self.view_is)

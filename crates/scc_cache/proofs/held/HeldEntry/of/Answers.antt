@@ -1,4 +1,4 @@
-use Rattle.std.proofs.Common.{ap, sym, refl}
+use Rattle.std.proofs.Common.{◌∙◌, ap, sym, refl}
 use Rattle.scc_cache.proofs.Entries.{refreshed-under}
 use Rattle.scc_cache.proofs.held.HeldEntry.of.Goals as goal
 
@@ -6,16 +6,31 @@ pub refresh-requires : goal.refresh-requires
 refresh-requires g c = rw c.lend.ensures.value (rw c.look.ensures at c.hash_of-hash.ensures)
 
 pub invariant_of-result : goal.invariant_of-result
-invariant_of-result g c = record { within = rw (g.G.Guard.keeps c.args.guard c.refresh.new.self) c.in-Some.ensures.step.within }
+invariant_of-result g c = record { within = rw (g.G.Guard.inner_law c.args.guard c.refresh.new.self) c.in-Some.ensures.step.within }
+
+pub invariant_of-result-in-None : goal.invariant_of-result-in-None
+invariant_of-result-in-None g c =
+    let step = c.in-None.ensures.step in
+    let is = g.G.Guard.inner_law c.args.guard c.refresh.new.self ∙ step.1 ∙ c.lend.ensures.value in
+    record { lacking = rw is (rw c.lend.ensures.value at step.0); hashed = rw is (rw c.look.ensures at c.hash_of-hash.ensures) }
 
 pub returns-in-Some-clause-same_guard : goal.returns-in-Some-clause-same_guard
-returns-in-Some-clause-same_guard g c = ap (g.G.Guard.keeping c.args.guard) (sym (g.G.Guard.keeps c.args.guard c.refresh.new.self))
+returns-in-Some-clause-same_guard g c = ap (g.G.Guard.with_inner c.args.guard) (sym (g.G.Guard.inner_law c.args.guard c.refresh.new.self))
 
 pub returns-in-Some-clause-entry : goal.returns-in-Some-clause-entry
-returns-in-Some-clause-entry g c = refreshed-under g.K.PartialEq.eq c.args.guard c.lend.result.now c.refresh.new.self c.args.k.now _ c.lend.ensures.value refl c.in-Some.ensures.step c.in-Some.ensures.relocates
+returns-in-Some-clause-entry g c = refreshed-under g.K.PartialEq.eq c.args.guard c.lend.result.now c.refresh.new.self c.args.k _ c.lend.ensures.value refl c.in-Some.ensures.step c.in-Some.ensures.relocates
 
 pub returns-in-Some-clause-state : goal.returns-in-Some-clause-state
-returns-in-Some-clause-state g c = rw (g.G.Guard.keeps c.args.guard c.refresh.new.self) c.refresh.ensures.state
+returns-in-Some-clause-state g c = rw (g.G.Guard.inner_law c.args.guard c.refresh.new.self) c.refresh.ensures.state
 
-pub returns-in-None-clause-missing : goal.returns-in-None-clause-missing
-returns-in-None-clause-missing g c = let lacking = rw c.lend.ensures.value at c.in-None.ensures.step.0 in lacking.absent
+pub returns-in-None-clause-same_guard : goal.returns-in-None-clause-same_guard
+returns-in-None-clause-same_guard g c = ap (g.G.Guard.with_inner c.args.guard) (sym (g.G.Guard.inner_law c.args.guard c.refresh.new.self))
+
+pub returns-in-None-clause-entry : goal.returns-in-None-clause-entry
+returns-in-None-clause-entry g c =
+    let step = c.in-None.ensures.step in
+    let lacking = rw c.lend.ensures.value at step.0 in
+    record { contents = g.G.Guard.inner_law c.args.guard c.refresh.new.self ∙ step.1 ∙ c.lend.ensures.value; absent = lacking.absent; key = refl }
+
+pub returns-in-None-clause-state : goal.returns-in-None-clause-state
+returns-in-None-clause-state g c = rw (g.G.Guard.inner_law c.args.guard c.refresh.new.self) c.refresh.ensures.state

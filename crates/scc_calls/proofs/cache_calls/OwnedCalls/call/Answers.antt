@@ -2,11 +2,11 @@ use Rattle.std.proofs.Common.{◌≤◌, ℕ, length, None, Some, Err, inl, inr,
 use Rattle.std.specs.Option.{option_map}
 use Rattle.scc_contents.specs.Contents.{key_hash, lists_of}
 use Rattle.scc_common.specs.declared.errors.InsertError.{InsertError}
-use Rattle.scc_cache.specs.CacheSteps.{number_in, pair_of, Puts}
+use Rattle.scc_cache.specs.CacheSteps.{list_number, pair_of, Puts}
 use Rattle.scc_cache.specs.Entries.{occupied_pair}
 use Rattle.scc_cache.proofs.Entries.{moved-written}
 use Rattle.scc_calls.specs.CacheCalls.{cache_setting, CacheMoves, CacheResizes}
-use Rattle.scc_calls.specs.Changes.{Changes}
+use Rattle.scc_calls.specs.Resized.{MovesResized}
 use Rattle.scc_calls.specs.declared.calls_as_values.CacheCall.TheVariants.{Put, Get, Write, Replace, Remove, Read, Contains, Clear, Len}
 use Rattle.scc_calls.specs.Stems.{ClonesValue}
 use Rattle.scc_calls.specs.declared.replies.Reply.{Reply}
@@ -21,7 +21,7 @@ returns-in-Ok g c =
     let s = c.args.self.now in
     let hash : g.row.K.Denot → ℕ = key_hash g.H.BuildHasher g.H.Hasher.Hasher g.K.Hash.hash_input c.args.self.now.contents in
     let eq = g.K.PartialEq.eq in
-    let raw : Changes length (CacheMoves eq (number_in hash s.contents)) (CacheResizes (cache_setting s) (number_in hash s.contents)) (lists_of s.contents) (Put c.in-Put.k c.in-Put.v) (Evicted c.in-Ok.evicted) (lists_of c.put_sync.new.self.contents) = put-changes hash eq s c.put_sync.new.self c.in-Put.k c.in-Put.v c.in-Ok.evicted c.in-Ok.ensures.step c.in-Ok.ensures.state.within in
+    let raw : MovesResized length (CacheMoves eq (list_number hash s.contents)) (CacheResizes (cache_setting s) (list_number hash s.contents)) (lists_of s.contents) (Put c.in-Put.k c.in-Put.v) (Evicted c.in-Ok.evicted) (lists_of c.put_sync.new.self.contents) = put-changes hash eq s c.put_sync.new.self c.in-Put.k c.in-Put.v c.in-Ok.evicted c.in-Ok.ensures.step c.in-Ok.ensures.state.within in
     record {
       setting = (search rules);
       ok = (answers-own g.V.Clone.is_clone hash eq s c.put_sync.new.self c.args.call (Put c.in-Put.k c.in-Put.v) c.in-Put.is (Evicted c.in-Ok.evicted) (Evicted c.in-Ok.evicted) refl raw);
@@ -42,7 +42,7 @@ returns-in-Err-Exists g c =
     let hash : g.row.K.Denot → ℕ = key_hash g.H.BuildHasher g.H.Hasher.Hasher g.K.Hash.hash_input c.args.self.now.contents in
     let eq = g.K.PartialEq.eq in
     let step = subst (λ (e : InsertError g.row.K.Denot g.row.V.Denot). Puts hash eq s (c.in-Put.k, c.in-Put.v) (Err e) c.put_sync.new.self) c.in-Err-Exists.field-0-is c.in-Err-Exists.ensures.step in
-    let raw : Changes length (CacheMoves eq (number_in hash s.contents)) (CacheResizes (cache_setting s) (number_in hash s.contents)) (lists_of s.contents) (Put c.in-Put.k c.in-Put.v) (Exists c.in-Err-Exists.k c.in-Err-Exists.v) (lists_of c.put_sync.new.self.contents) = exists-changes hash eq s c.put_sync.new.self c.in-Put.k c.in-Put.v (c.in-Err-Exists.k, c.in-Err-Exists.v) step in
+    let raw : MovesResized length (CacheMoves eq (list_number hash s.contents)) (CacheResizes (cache_setting s) (list_number hash s.contents)) (lists_of s.contents) (Put c.in-Put.k c.in-Put.v) (Exists c.in-Err-Exists.k c.in-Err-Exists.v) (lists_of c.put_sync.new.self.contents) = exists-changes hash eq s c.put_sync.new.self c.in-Put.k c.in-Put.v (c.in-Err-Exists.k, c.in-Err-Exists.v) step in
     record {
       setting = (search rules);
       ok = (answers-own g.V.Clone.is_clone hash eq s c.put_sync.new.self c.args.call (Put c.in-Put.k c.in-Put.v) c.in-Put.is (Exists c.in-Err-Exists.k c.in-Err-Exists.v) (Exists c.in-Err-Exists.k c.in-Err-Exists.v) refl raw);
@@ -77,18 +77,18 @@ returns-in-Some g c =
     let s = c.args.self.now in
     let hash : g.row.K.Denot → ℕ = key_hash g.H.BuildHasher g.H.Hasher.Hasher g.K.Hash.hash_input c.args.self.now.contents in
     let eq = g.K.PartialEq.eq in
-    let raw : Changes length (CacheMoves eq (number_in hash s.contents)) (CacheResizes (cache_setting s) (number_in hash s.contents)) (lists_of s.contents) (Get c.in-Get.k) (Value (Some (occupied_pair c.in-Some._entry).1)) (lists_of c.in-Some._entry.guard.now.contents) = get-changes hash eq s c.in-Some._entry.guard.now c.in-Get.k (occupied_pair c.in-Some._entry) (occupied_pair c.in-Some._entry).1 refl c.in-Some.ensures.entry.changes in
+    let raw : MovesResized length (CacheMoves eq (list_number hash s.contents)) (CacheResizes (cache_setting s) (list_number hash s.contents)) (lists_of s.contents) (Get c.in-Get.k) (Value (Some (occupied_pair c.in-Some._entry).1)) (lists_of c.in-Some._entry.guard.now.contents) = get-changes hash eq s c.in-Some._entry.guard.now c.in-Get.k (occupied_pair c.in-Some._entry) (occupied_pair c.in-Some._entry).1 refl c.in-Some.ensures.entry.changes in
     let less : length (lists_of c.in-Some._entry.guard.now.contents) ≤ length (lists_of s.contents) = (let n = refresh-same hash eq s c.in-Some._entry.guard.now c.in-Get.k (occupied_pair c.in-Some._entry) (occupied_pair c.in-Some._entry) c.in-Some.ensures.entry.changes in omega arith) in
     let same = answers-made c.equals.ensures c.equals-2.ensures hash eq s c.in-Some._entry.guard.now (Get c.in-Get.k) (Get c.in-Get.k) refl (Value (Some (occupied_pair c.in-Some._entry).1)) raw (Value c.in-Ok-cloned_value.value) less (copied c.requires.clones Value _ (λ p. p.1) refl (λ x y h. h) (pair_of hash eq s.contents c.in-Get.k) c.in-Ok-cloned_value.value c.in-Ok-cloned_value.ensures.ok) in
     record {
       setting = (search rules);
       ok = (
-          let m : CacheMoves eq (number_in hash s.contents) (lists_of s.contents) (Get c.in-Get.k) (Value (Some (occupied_pair c.in-Some._entry).1)) (lists_of c.in-Some._entry.guard.now.contents) = get-moves hash eq s c.in-Some._entry.guard.now c.in-Get.k (occupied_pair c.in-Some._entry) (occupied_pair c.in-Some._entry).1 refl c.in-Some.ensures.entry.changes in
+          let m : CacheMoves eq (list_number hash s.contents) (lists_of s.contents) (Get c.in-Get.k) (Value (Some (occupied_pair c.in-Some._entry).1)) (lists_of c.in-Some._entry.guard.now.contents) = get-moves hash eq s c.in-Some._entry.guard.now c.in-Get.k (occupied_pair c.in-Some._entry) (occupied_pair c.in-Some._entry).1 refl c.in-Some.ensures.entry.changes in
           let n = refresh-same hash eq s c.in-Some._entry.guard.now c.in-Get.k (occupied_pair c.in-Some._entry) (occupied_pair c.in-Some._entry) c.in-Some.ensures.entry.changes in
           let here : ClonesValue {K = g.row.K.Denot} g.V.Clone.is_clone (Value (Some (occupied_pair c.in-Some._entry).1)) (Value c.in-Ok-cloned_value.value) =
-          subst (λ (r : Reply g.row.K.Denot g.row.V.Denot). ClonesValue {K = g.row.K.Denot} g.V.Clone.is_clone r (Value c.in-Ok-cloned_value.value)) (changes-answer eq (number_in hash s.contents) (CacheResizes (cache_setting s) (number_in hash s.contents)) (lists_of s.contents) (lists_of c.in-Some._entry.guard.now.contents) (Get c.in-Get.k) (Value (Some (occupied_pair c.in-Some._entry).1)) less raw)
+          subst (λ (r : Reply g.row.K.Denot g.row.V.Denot). ClonesValue {K = g.row.K.Denot} g.V.Clone.is_clone r (Value c.in-Ok-cloned_value.value)) (changes-answer eq (list_number hash s.contents) (CacheResizes (cache_setting s) (list_number hash s.contents)) (lists_of s.contents) (lists_of c.in-Some._entry.guard.now.contents) (Get c.in-Get.k) (Value (Some (occupied_pair c.in-Some._entry).1)) less raw)
           (copied-part g.V.Clone.is_clone (λ p. p.1) (pair_of hash eq s.contents c.in-Get.k) c.in-Ok-cloned_value.value c.in-Ok-cloned_value.ensures.ok) in
-          inl (search (rules, n), (Value (Some (occupied_pair c.in-Some._entry).1), rw c.in-Get.is here, rw c.in-Get.is (moves-same eq (number_in hash s.contents) (lists_of s.contents) (lists_of c.in-Some._entry.guard.now.contents) _ (Get c.in-Get.k) (Value (Some (occupied_pair c.in-Some._entry).1)) m (search rules)))));
+          inl (search (rules, n), (Value (Some (occupied_pair c.in-Some._entry).1), rw c.in-Get.is here, rw c.in-Get.is (moves-same eq (list_number hash s.contents) (lists_of s.contents) (lists_of c.in-Some._entry.guard.now.contents) _ (Get c.in-Get.k) (Value (Some (occupied_pair c.in-Some._entry).1)) m (search rules)))));
       err = (search rules);
       refused = (search rules);
       answer = (λ copy ready. answers-given c.equals.ensures c.equals-2.ensures hash eq s c.in-Some._entry.guard.now c.args.call (Get c.in-Get.k) c.in-Get.is (Value (Some (occupied_pair c.in-Some._entry).1)) raw (Value c.in-Ok-cloned_value.value) copy same less ready.1);
@@ -104,12 +104,12 @@ returns-in-Ok-cloned_value g c =
     record {
       setting = (search rules);
       ok = (
-          let m : CacheMoves eq (number_in hash s.contents) (lists_of s.contents) (Get c.in-Get.k) (Value None) (lists_of s.contents) = (c.in-None.ensures.missing, refl) in
+          let m : CacheMoves eq (list_number hash s.contents) (lists_of s.contents) (Get c.in-Get.k) (Value None) (lists_of s.contents) = (c.in-None.ensures.missing, refl) in
           inl (search rules, (Value None, rw c.in-Get.is tt, rw c.in-Get.is (search (rules, m)))));
       err = (search rules);
       refused = (search rules);
       answer = (
-          λ copy ready. let raw : Changes length (CacheMoves eq (number_in hash s.contents)) (CacheResizes (cache_setting s) (number_in hash s.contents)) (lists_of s.contents) (Get c.in-Get.k) (Value None) (lists_of s.contents) = inl (refl, (c.in-None.ensures.missing, refl)) in
+          λ copy ready. let raw : MovesResized length (CacheMoves eq (list_number hash s.contents)) (CacheResizes (cache_setting s) (list_number hash s.contents)) (lists_of s.contents) (Get c.in-Get.k) (Value None) (lists_of s.contents) = inl (refl, (c.in-None.ensures.missing, refl)) in
           let less : length (lists_of s.contents) ≤ length (lists_of s.contents) = omega arith in
           answers-made c.equals.ensures c.equals-2.ensures hash eq s s c.args.call (Get c.in-Get.k) c.in-Get.is (Value None) raw copy less ready.1);
       made = (search rules);
@@ -137,13 +137,13 @@ returns-in-Occupied g c =
     record {
       setting = (search rules);
       ok = (
-          let m : CacheMoves eq (number_in hash s.contents) (lists_of s.contents) (Write c.in-Write.k c.in-Write.v) (Old (Some c.put.result)) (lists_of c.put.new.self.guard.now.contents) = write-moves hash eq s c.put.new.self.guard.now c.in-Write.k (occupied_pair c.in-Occupied.entry) c.put.result c.in-Write.v c.put.ensures.old (moved-written eq s c.in-Write.k (occupied_pair c.in-Occupied.entry) c.in-Occupied.entry c.put.new.self c.in-Write.v c.in-Occupied.ensures.entry c.put.ensures.written) in
+          let m : CacheMoves eq (list_number hash s.contents) (lists_of s.contents) (Write c.in-Write.k c.in-Write.v) (Old (Some c.put.result)) (lists_of c.put.new.self.guard.now.contents) = write-moves hash eq s c.put.new.self.guard.now c.in-Write.k (occupied_pair c.in-Occupied.entry) c.put.result c.in-Write.v c.put.ensures.old (moved-written eq s c.in-Write.k (occupied_pair c.in-Occupied.entry) c.in-Occupied.entry c.put.new.self c.in-Write.v c.in-Occupied.ensures.entry c.put.ensures.written) in
           let n = refresh-same hash eq s c.put.new.self.guard.now c.in-Write.k (occupied_pair c.in-Occupied.entry) ((occupied_pair c.in-Occupied.entry).0, c.in-Write.v) (moved-written eq s c.in-Write.k (occupied_pair c.in-Occupied.entry) c.in-Occupied.entry c.put.new.self c.in-Write.v c.in-Occupied.ensures.entry c.put.ensures.written) in
-          inl (search (rules, n), (Old (Some c.put.result), rw c.in-Write.is refl, rw c.in-Write.is (moves-same eq (number_in hash s.contents) (lists_of s.contents) (lists_of c.put.new.self.guard.now.contents) _ (Write c.in-Write.k c.in-Write.v) (Old (Some c.put.result)) m (search rules)))));
+          inl (search (rules, n), (Old (Some c.put.result), rw c.in-Write.is refl, rw c.in-Write.is (moves-same eq (list_number hash s.contents) (lists_of s.contents) (lists_of c.put.new.self.guard.now.contents) _ (Write c.in-Write.k c.in-Write.v) (Old (Some c.put.result)) m (search rules)))));
       err = (search rules);
       refused = (search rules);
       answer = (
-          λ copy ready. let raw : Changes length (CacheMoves eq (number_in hash s.contents)) (CacheResizes (cache_setting s) (number_in hash s.contents)) (lists_of s.contents) (Write c.in-Write.k c.in-Write.v) (Old (Some c.put.result)) (lists_of c.put.new.self.guard.now.contents) = write-changes hash eq s c.put.new.self.guard.now c.in-Write.k (occupied_pair c.in-Occupied.entry) c.put.result c.in-Write.v c.put.ensures.old (moved-written eq s c.in-Write.k (occupied_pair c.in-Occupied.entry) c.in-Occupied.entry c.put.new.self c.in-Write.v c.in-Occupied.ensures.entry c.put.ensures.written) in
+          λ copy ready. let raw : MovesResized length (CacheMoves eq (list_number hash s.contents)) (CacheResizes (cache_setting s) (list_number hash s.contents)) (lists_of s.contents) (Write c.in-Write.k c.in-Write.v) (Old (Some c.put.result)) (lists_of c.put.new.self.guard.now.contents) = write-changes hash eq s c.put.new.self.guard.now c.in-Write.k (occupied_pair c.in-Occupied.entry) c.put.result c.in-Write.v c.put.ensures.old (moved-written eq s c.in-Write.k (occupied_pair c.in-Occupied.entry) c.in-Occupied.entry c.put.new.self c.in-Write.v c.in-Occupied.ensures.entry c.put.ensures.written) in
           answers-made c.equals.ensures c.equals-2.ensures hash eq s c.put.new.self.guard.now c.args.call (Write c.in-Write.k c.in-Write.v) c.in-Write.is (Old (Some c.put.result)) raw copy less ready.1);
       made = (λ copy ready. search (rules, less));
       kept = (search rules);
@@ -160,7 +160,7 @@ returns-in-Write g c =
           λ copy ready. let s = c.args.self.now in
           let hash : g.row.K.Denot → ℕ = key_hash g.H.BuildHasher g.H.Hasher.Hasher g.K.Hash.hash_input c.args.self.now.contents in
           let eq = g.K.PartialEq.eq in
-          let raw : Changes length (CacheMoves eq (number_in hash s.contents)) (CacheResizes (cache_setting s) (number_in hash s.contents)) (lists_of s.contents) (Write c.in-Write.k c.in-Write.v) (Old None) (lists_of s.contents) = inl (refl, (c.in-Vacant.ensures.entry.absent, refl)) in
+          let raw : MovesResized length (CacheMoves eq (list_number hash s.contents)) (CacheResizes (cache_setting s) (list_number hash s.contents)) (lists_of s.contents) (Write c.in-Write.k c.in-Write.v) (Old None) (lists_of s.contents) = inl (refl, (c.in-Vacant.ensures.entry.absent, refl)) in
           let less : length (lists_of s.contents) ≤ length (lists_of s.contents) = omega arith in
           answers-made c.equals.ensures c.equals-2.ensures hash eq s s c.args.call (Write c.in-Write.k c.in-Write.v) c.in-Write.is (Old None) raw copy less ready.1);
       made = (search rules);
@@ -176,13 +176,13 @@ returns-in-Replaced g c =
     record {
       setting = (search rules);
       ok = (
-          let m : CacheMoves eq (number_in hash s.contents) (lists_of s.contents) (Replace c.in-Replace.k) (Key (Some c.in-Replaced.old)) (lists_of c.in-Replaced._entry.guard.now.contents) = replace-moves hash eq s c.in-Replaced._entry.guard.now c.in-Replace.k c.in-Replaced.old c.in-Replaced.ensures.step.value (occupied_pair c.in-Replaced._entry) c.in-Replaced.ensures.step.pair c.in-Replaced.ensures.step.moved.changes in
+          let m : CacheMoves eq (list_number hash s.contents) (lists_of s.contents) (Replace c.in-Replace.k) (Key (Some c.in-Replaced.old)) (lists_of c.in-Replaced._entry.guard.now.contents) = replace-moves hash eq s c.in-Replaced._entry.guard.now c.in-Replace.k c.in-Replaced.old c.in-Replaced.ensures.step.value (occupied_pair c.in-Replaced._entry) c.in-Replaced.ensures.step.pair c.in-Replaced.ensures.step.moved.changes in
           let n = refresh-same hash eq s c.in-Replaced._entry.guard.now c.in-Replace.k (c.in-Replaced.old, c.in-Replaced.ensures.step.value) (occupied_pair c.in-Replaced._entry) c.in-Replaced.ensures.step.moved.changes in
-          inl (search (rules, n), (Key (Some c.in-Replaced.old), rw c.in-Replace.is refl, rw c.in-Replace.is (moves-same eq (number_in hash s.contents) (lists_of s.contents) (lists_of c.in-Replaced._entry.guard.now.contents) _ (Replace c.in-Replace.k) (Key (Some c.in-Replaced.old)) m (search rules)))));
+          inl (search (rules, n), (Key (Some c.in-Replaced.old), rw c.in-Replace.is refl, rw c.in-Replace.is (moves-same eq (list_number hash s.contents) (lists_of s.contents) (lists_of c.in-Replaced._entry.guard.now.contents) _ (Replace c.in-Replace.k) (Key (Some c.in-Replaced.old)) m (search rules)))));
       err = (search rules);
       refused = (search rules);
       answer = (
-          λ copy ready. let raw : Changes length (CacheMoves eq (number_in hash s.contents)) (CacheResizes (cache_setting s) (number_in hash s.contents)) (lists_of s.contents) (Replace c.in-Replace.k) (Key (Some c.in-Replaced.old)) (lists_of c.in-Replaced._entry.guard.now.contents) = replace-changes hash eq s c.in-Replaced._entry.guard.now c.in-Replace.k c.in-Replaced.old c.in-Replaced.ensures.step.value (occupied_pair c.in-Replaced._entry) c.in-Replaced.ensures.step.pair c.in-Replaced.ensures.step.moved.changes in
+          λ copy ready. let raw : MovesResized length (CacheMoves eq (list_number hash s.contents)) (CacheResizes (cache_setting s) (list_number hash s.contents)) (lists_of s.contents) (Replace c.in-Replace.k) (Key (Some c.in-Replaced.old)) (lists_of c.in-Replaced._entry.guard.now.contents) = replace-changes hash eq s c.in-Replaced._entry.guard.now c.in-Replace.k c.in-Replaced.old c.in-Replaced.ensures.step.value (occupied_pair c.in-Replaced._entry) c.in-Replaced.ensures.step.pair c.in-Replaced.ensures.step.moved.changes in
           answers-made c.equals.ensures c.equals-2.ensures hash eq s c.in-Replaced._entry.guard.now c.args.call (Replace c.in-Replace.k) c.in-Replace.is (Key (Some c.in-Replaced.old)) raw copy less ready.1);
       made = (λ copy ready. search (rules, less));
       kept = (search rules);
@@ -199,7 +199,7 @@ returns-in-Replace g c =
           λ copy ready. let s = c.args.self.now in
           let hash : g.row.K.Denot → ℕ = key_hash g.H.BuildHasher g.H.Hasher.Hasher g.K.Hash.hash_input c.args.self.now.contents in
           let eq = g.K.PartialEq.eq in
-          let raw : Changes length (CacheMoves eq (number_in hash s.contents)) (CacheResizes (cache_setting s) (number_in hash s.contents)) (lists_of s.contents) (Replace c.in-Replace.k) (Key None) (lists_of s.contents) = inl (refl, (c.in-NotReplaced.ensures.step.absent, refl)) in
+          let raw : MovesResized length (CacheMoves eq (list_number hash s.contents)) (CacheResizes (cache_setting s) (list_number hash s.contents)) (lists_of s.contents) (Replace c.in-Replace.k) (Key None) (lists_of s.contents) = inl (refl, (c.in-NotReplaced.ensures.step.absent, refl)) in
           let less : length (lists_of s.contents) ≤ length (lists_of s.contents) = omega arith in
           answers-made c.equals.ensures c.equals-2.ensures hash eq s s c.args.call (Replace c.in-Replace.k) c.in-Replace.is (Key None) raw copy less ready.1);
       made = (search rules);
@@ -211,7 +211,7 @@ returns-in-Remove g c =
     let s = c.args.self.now in
     let hash : g.row.K.Denot → ℕ = key_hash g.H.BuildHasher g.H.Hasher.Hasher g.K.Hash.hash_input c.args.self.now.contents in
     let eq = g.K.PartialEq.eq in
-    let raw : Changes length (CacheMoves eq (number_in hash s.contents)) (CacheResizes (cache_setting s) (number_in hash s.contents)) (lists_of s.contents) (Remove c.in-Remove.k) (Pair c.remove_sync.result) (lists_of c.remove_sync.new.self.contents) = remove-changes hash eq s c.remove_sync.new.self c.in-Remove.k c.remove_sync.result c.remove_sync.ensures.step c.remove_sync.ensures.state.lists.short c.remove_sync.ensures.state.within in
+    let raw : MovesResized length (CacheMoves eq (list_number hash s.contents)) (CacheResizes (cache_setting s) (list_number hash s.contents)) (lists_of s.contents) (Remove c.in-Remove.k) (Pair c.remove_sync.result) (lists_of c.remove_sync.new.self.contents) = remove-changes hash eq s c.remove_sync.new.self c.in-Remove.k c.remove_sync.result c.remove_sync.ensures.step c.remove_sync.ensures.state.lists.short c.remove_sync.ensures.state.within in
     let less : length (lists_of c.remove_sync.new.self.contents) ≤ length (lists_of s.contents) = remove-less hash eq s c.remove_sync.new.self c.in-Remove.k c.remove_sync.result c.remove_sync.ensures.step in
     record {
       setting = (search rules);
@@ -228,7 +228,7 @@ returns-in-Ok-cloned_value-2 g c =
     let s = c.args.self.now in
     let hash : g.row.K.Denot → ℕ = key_hash g.H.BuildHasher g.H.Hasher.Hasher g.K.Hash.hash_input c.args.self.now.contents in
     let eq = g.K.PartialEq.eq in
-    let raw : Changes length (CacheMoves eq (number_in hash s.contents)) (CacheResizes (cache_setting s) (number_in hash s.contents)) (lists_of s.contents) (Read c.in-Read.k) (Value (option_map (λ p. p.1) (pair_of hash eq s.contents c.in-Read.k))) (lists_of s.contents) = inl (refl, read-moves eq (number_in hash s.contents) (lists_of s.contents) c.in-Read.k) in
+    let raw : MovesResized length (CacheMoves eq (list_number hash s.contents)) (CacheResizes (cache_setting s) (list_number hash s.contents)) (lists_of s.contents) (Read c.in-Read.k) (Value (option_map (λ p. p.1) (pair_of hash eq s.contents c.in-Read.k))) (lists_of s.contents) = inl (refl, read-moves eq (list_number hash s.contents) (lists_of s.contents) c.in-Read.k) in
     let less : length (lists_of s.contents) ≤ length (lists_of s.contents) = omega arith in
     let same = answers-made c.equals.ensures c.equals-2.ensures hash eq s s (Read c.in-Read.k) (Read c.in-Read.k) refl (Value (option_map (λ p. p.1) (pair_of hash eq s.contents c.in-Read.k))) raw (Value c.in-Ok-cloned_value-2.value) less (copied c.requires.clones Value _ (λ p. p.1) refl (λ x y h. h) (pair_of hash eq s.contents c.in-Read.k) c.in-Ok-cloned_value-2.value c.in-Ok-cloned_value-2.ensures.ok) in
     record {
@@ -258,7 +258,7 @@ returns-in-Contains g c =
     let s = c.args.self.now in
     let hash : g.row.K.Denot → ℕ = key_hash g.H.BuildHasher g.H.Hasher.Hasher g.K.Hash.hash_input c.args.self.now.contents in
     let eq = g.K.PartialEq.eq in
-    let raw : Changes length (CacheMoves eq (number_in hash s.contents)) (CacheResizes (cache_setting s) (number_in hash s.contents)) (lists_of s.contents) (Contains c.in-Contains.k) (Has c.contains_sync.result) (lists_of s.contents) = contains-changes hash eq s c.in-Contains.k c.contains_sync.result c.contains_sync.ensures.yes c.contains_sync.ensures.no in
+    let raw : MovesResized length (CacheMoves eq (list_number hash s.contents)) (CacheResizes (cache_setting s) (list_number hash s.contents)) (lists_of s.contents) (Contains c.in-Contains.k) (Has c.contains_sync.result) (lists_of s.contents) = contains-changes hash eq s c.in-Contains.k c.contains_sync.result c.contains_sync.ensures.yes c.contains_sync.ensures.no in
     record {
       setting = (search rules);
       ok = (answers-own g.V.Clone.is_clone hash eq s s c.args.call (Contains c.in-Contains.k) c.in-Contains.is (Has c.contains_sync.result) (Has c.contains_sync.result) refl raw);
@@ -279,7 +279,7 @@ returns-in-Clear g c =
     record {
       setting = (search rules);
       ok = (
-          let raw : Changes length (CacheMoves eq (number_in hash s.contents)) (CacheResizes (cache_setting s) (number_in hash s.contents)) (lists_of s.contents) (Clear) (Cleared) (lists_of c.clear_sync.new.self.contents) = clear-changes hash eq s c.clear_sync.new.self c.clear_sync.ensures.step c.clear_sync.ensures.state.lists.short c.clear_sync.ensures.state.within in
+          let raw : MovesResized length (CacheMoves eq (list_number hash s.contents)) (CacheResizes (cache_setting s) (list_number hash s.contents)) (lists_of s.contents) (Clear) (Cleared) (lists_of c.clear_sync.new.self.contents) = clear-changes hash eq s c.clear_sync.new.self c.clear_sync.ensures.step c.clear_sync.ensures.state.lists.short c.clear_sync.ensures.state.within in
           answers-own g.V.Clone.is_clone hash eq s c.clear_sync.new.self c.args.call (Clear) c.in-Clear.is (Cleared) (Cleared) refl raw);
       err = (search rules);
       refused = (search rules);
@@ -295,7 +295,7 @@ returns g c =
     let s = c.args.self.now in
     let hash : g.row.K.Denot → ℕ = key_hash g.H.BuildHasher g.H.Hasher.Hasher g.K.Hash.hash_input c.args.self.now.contents in
     let eq = g.K.PartialEq.eq in
-    let raw : Changes length (CacheMoves eq (number_in hash s.contents)) (CacheResizes (cache_setting s) (number_in hash s.contents)) (lists_of s.contents) (Len) (Count c.len.result) (lists_of s.contents) = len-changes hash eq s c.len.result c.len.ensures.len in
+    let raw : MovesResized length (CacheMoves eq (list_number hash s.contents)) (CacheResizes (cache_setting s) (list_number hash s.contents)) (lists_of s.contents) (Len) (Count c.len.result) (lists_of s.contents) = len-changes hash eq s c.len.result c.len.ensures.len in
     record {
       setting = (search rules);
       ok = (answers-own g.V.Clone.is_clone hash eq s s c.args.call (Len) c.in-Len.is (Count c.len.result) (Count c.len.result) refl raw);

@@ -1,6 +1,6 @@
 use Rattle.std.proofs.Common.{Some, None, ◌∙◌, rules, inl, inr, refl}
 use Rattle.scc_contents.specs.Hashing.{hash_of}
-use Rattle.scc_calls.specs.Changes.{Changes}
+use Rattle.scc_calls.specs.Resized.{MovesResized}
 use Rattle.scc_calls.specs.Means.{answered}
 use Rattle.scc_calls.specs.Stems.{MapStems}
 use Rattle.scc_calls.specs.MapCalls.{MapMoves}
@@ -18,7 +18,7 @@ returns-in-Ok g c =
     record {
       setting = (search rules);
       ok = (
-          let raw : Changes (λ (s : State (g.row.K.Denot × g.row.V.Denot)). s.1) (MapMoves g.K.PartialEq.eq) (ResizesTo (setting_of c.args.self.now)) (state_of c.args.self.now) c.args.call Inserted (state_of c.insert_sync.new.self) = rw c.in-Insert.is (inserted g.K.PartialEq.eq (λ h k. hash_of g.H.BuildHasher g.H.Hasher.Hasher h (g.K.Hash.hash_input k)) c.args.self.now c.insert_sync.new.self c.in-Insert.k c.in-Insert.v c.in-Ok.field-0 c.in-Ok.ensures.step) in
+          let raw : MovesResized (λ (s : State (g.row.K.Denot × g.row.V.Denot)). s.1) (MapMoves g.K.PartialEq.eq) (ResizesTo (setting_of c.args.self.now)) (state_of c.args.self.now) c.args.call Inserted (state_of c.insert_sync.new.self) = rw c.in-Insert.is (inserted g.K.PartialEq.eq (λ h k. hash_of g.H.BuildHasher g.H.Hasher.Hasher h (g.K.Hash.hash_input k)) c.args.self.now c.insert_sync.new.self c.in-Insert.k c.in-Insert.v c.in-Ok.field-0 c.in-Ok.ensures.step) in
           answered (MapStems g.V.Clone.is_clone) (MapMoves g.K.PartialEq.eq) (λ (s : State (g.row.K.Denot × g.row.V.Denot)). s.1) (ResizesTo (setting_of c.args.self.now)) _ _ c.args.call Inserted Inserted (rw c.in-Insert.is refl) raw);
       err = (search rules);
       refused = (search rules);
@@ -32,7 +32,7 @@ returns-in-Remove g c =
     record {
       setting = (removed-setting g.K.PartialEq.eq c.args.self.now c.remove_sync.new.self c.in-Remove.k c.remove_sync.result c.remove_sync.ensures.step);
       ok = (
-          let raw : Changes (λ (s : State (g.row.K.Denot × g.row.V.Denot)). s.1) (MapMoves g.K.PartialEq.eq) (ResizesTo (setting_of c.args.self.now)) (state_of c.args.self.now) c.args.call (Pair c.remove_sync.result) (state_of c.remove_sync.new.self) = rw c.in-Remove.is (removed g.K.PartialEq.eq c.args.self.now c.remove_sync.new.self c.in-Remove.k c.remove_sync.result c.remove_sync.ensures.step) in
+          let raw : MovesResized (λ (s : State (g.row.K.Denot × g.row.V.Denot)). s.1) (MapMoves g.K.PartialEq.eq) (ResizesTo (setting_of c.args.self.now)) (state_of c.args.self.now) c.args.call (Pair c.remove_sync.result) (state_of c.remove_sync.new.self) = rw c.in-Remove.is (removed g.K.PartialEq.eq c.args.self.now c.remove_sync.new.self c.in-Remove.k c.remove_sync.result c.remove_sync.ensures.step) in
           answered (MapStems g.V.Clone.is_clone) (MapMoves g.K.PartialEq.eq) (λ (s : State (g.row.K.Denot × g.row.V.Denot)). s.1) (ResizesTo (setting_of c.args.self.now)) _ _ c.args.call (Pair c.remove_sync.result) (Pair c.remove_sync.result) (rw c.in-Remove.is refl) raw);
       err = (search rules);
       refused = (search rules);
@@ -46,7 +46,7 @@ returns-in-Ok-upsert_sync g c =
     record {
       setting = (search rules);
       ok = (
-          let raw : Changes (λ (s : State (g.row.K.Denot × g.row.V.Denot)). s.1) (MapMoves g.K.PartialEq.eq) (ResizesTo (setting_of c.args.self.now)) (state_of c.args.self.now) c.args.call (Old c.in-Ok-upsert_sync.old) (state_of c.upsert_sync.new.self) = rw c.in-Upsert.is (upserted g.K.PartialEq.eq (λ h k. hash_of g.H.BuildHasher g.H.Hasher.Hasher h (g.K.Hash.hash_input k)) c.args.self.now c.upsert_sync.new.self c.in-Upsert.k c.in-Upsert.v c.in-Ok-upsert_sync.old c.in-Ok-upsert_sync.ensures.step) in
+          let raw : MovesResized (λ (s : State (g.row.K.Denot × g.row.V.Denot)). s.1) (MapMoves g.K.PartialEq.eq) (ResizesTo (setting_of c.args.self.now)) (state_of c.args.self.now) c.args.call (Old c.in-Ok-upsert_sync.old) (state_of c.upsert_sync.new.self) = rw c.in-Upsert.is (upserted g.K.PartialEq.eq (λ h k. hash_of g.H.BuildHasher g.H.Hasher.Hasher h (g.K.Hash.hash_input k)) c.args.self.now c.upsert_sync.new.self c.in-Upsert.k c.in-Upsert.v c.in-Ok-upsert_sync.old c.in-Ok-upsert_sync.ensures.step) in
           answered (MapStems g.V.Clone.is_clone) (MapMoves g.K.PartialEq.eq) (λ (s : State (g.row.K.Denot × g.row.V.Denot)). s.1) (ResizesTo (setting_of c.args.self.now)) _ _ c.args.call (Old c.in-Ok-upsert_sync.old) (Old c.in-Ok-upsert_sync.old) (rw c.in-Upsert.is refl) raw);
       err = (search rules);
       refused = (search rules);
@@ -60,7 +60,7 @@ returns-in-Clear g c =
     record {
       setting = (search rules);
       ok = (
-          let raw : Changes (λ (s : State (g.row.K.Denot × g.row.V.Denot)). s.1) (MapMoves g.K.PartialEq.eq) (ResizesTo (setting_of c.args.self.now)) (state_of c.args.self.now) c.args.call Cleared (state_of c.clear_sync.new.self) = rw c.in-Clear.is (cleared g.K.PartialEq.eq c.args.self.now c.clear_sync.new.self c.clear_sync.ensures.holds) in
+          let raw : MovesResized (λ (s : State (g.row.K.Denot × g.row.V.Denot)). s.1) (MapMoves g.K.PartialEq.eq) (ResizesTo (setting_of c.args.self.now)) (state_of c.args.self.now) c.args.call Cleared (state_of c.clear_sync.new.self) = rw c.in-Clear.is (cleared g.K.PartialEq.eq c.args.self.now c.clear_sync.new.self c.clear_sync.ensures.holds) in
           answered (MapStems g.V.Clone.is_clone) (MapMoves g.K.PartialEq.eq) (λ (s : State (g.row.K.Denot × g.row.V.Denot)). s.1) (ResizesTo (setting_of c.args.self.now)) _ _ c.args.call Cleared Cleared (rw c.in-Clear.is refl) raw);
       err = (search rules);
       refused = (search rules);
@@ -86,7 +86,7 @@ returns-in-Err-Exists g c =
     record {
       setting = (search rules);
       ok = (
-          let raw : Changes (λ (s : State (g.row.K.Denot × g.row.V.Denot)). s.1) (MapMoves g.K.PartialEq.eq) (ResizesTo (setting_of c.args.self.now)) (state_of c.args.self.now) c.args.call (Exists c.in-Err-Exists.k c.in-Err-Exists.v) (state_of c.insert_sync.new.self) = search rules in
+          let raw : MovesResized (λ (s : State (g.row.K.Denot × g.row.V.Denot)). s.1) (MapMoves g.K.PartialEq.eq) (ResizesTo (setting_of c.args.self.now)) (state_of c.args.self.now) c.args.call (Exists c.in-Err-Exists.k c.in-Err-Exists.v) (state_of c.insert_sync.new.self) = search rules in
           answered (MapStems g.V.Clone.is_clone) (MapMoves g.K.PartialEq.eq) (λ (s : State (g.row.K.Denot × g.row.V.Denot)). s.1) (ResizesTo (setting_of c.args.self.now)) _ _ c.args.call (Exists c.in-Err-Exists.k c.in-Err-Exists.v) (Exists c.in-Err-Exists.k c.in-Err-Exists.v) (rw c.in-Insert.is refl) raw);
       err = (search rules);
       refused = (search rules);
@@ -100,7 +100,7 @@ returns-in-Contains g c =
     record {
       setting = (search rules);
       ok = (
-          let raw : Changes (λ (s : State (g.row.K.Denot × g.row.V.Denot)). s.1) (MapMoves g.K.PartialEq.eq) (ResizesTo (setting_of c.args.self.now)) (state_of c.args.self.now) c.args.call (Has c.contains_sync.result) (state_of c.args.self.now) = search rules in
+          let raw : MovesResized (λ (s : State (g.row.K.Denot × g.row.V.Denot)). s.1) (MapMoves g.K.PartialEq.eq) (ResizesTo (setting_of c.args.self.now)) (state_of c.args.self.now) c.args.call (Has c.contains_sync.result) (state_of c.args.self.now) = search rules in
           answered (MapStems g.V.Clone.is_clone) (MapMoves g.K.PartialEq.eq) (λ (s : State (g.row.K.Denot × g.row.V.Denot)). s.1) (ResizesTo (setting_of c.args.self.now)) _ _ c.args.call (Has c.contains_sync.result) (Has c.contains_sync.result) (rw c.in-Contains.is refl) raw);
       err = (search rules);
       refused = (search rules);
@@ -114,7 +114,7 @@ returns-in-Ok-cloned_value g c =
     record {
       setting = (search rules);
       ok = (
-          let raw : Changes (λ (s : State (g.row.K.Denot × g.row.V.Denot)). s.1) (MapMoves g.K.PartialEq.eq) (ResizesTo (setting_of c.args.self.now)) (state_of c.args.self.now) c.args.call (Value (option_map (λ p. p.1) (find g.K.PartialEq.eq (entries c.args.self.now) c.in-Read.k))) (state_of c.args.self.now) = inl (refl, rw c.in-Read.is (refl, refl)) in
+          let raw : MovesResized (λ (s : State (g.row.K.Denot × g.row.V.Denot)). s.1) (MapMoves g.K.PartialEq.eq) (ResizesTo (setting_of c.args.self.now)) (state_of c.args.self.now) c.args.call (Value (option_map (λ p. p.1) (find g.K.PartialEq.eq (entries c.args.self.now) c.in-Read.k))) (state_of c.args.self.now) = inl (refl, rw c.in-Read.is (refl, refl)) in
           answered (MapStems g.V.Clone.is_clone) (MapMoves g.K.PartialEq.eq) (λ (s : State (g.row.K.Denot × g.row.V.Denot)). s.1) (ResizesTo (setting_of c.args.self.now)) _ _ c.args.call (Value (option_map (λ p. p.1) (find g.K.PartialEq.eq (entries c.args.self.now) c.in-Read.k))) (Value c.in-Ok-cloned_value.value) (rw c.in-Read.is (copied-part g.V.Clone.is_clone (λ p. p.1) (find g.K.PartialEq.eq (entries c.args.self.now) c.in-Read.k) c.in-Ok-cloned_value.value c.in-Ok-cloned_value.ensures.ok)) raw);
       err = (search rules);
       refused = (search rules);
@@ -132,7 +132,7 @@ returns g c =
     record {
       setting = (search rules);
       ok = (
-          let raw : Changes (λ (s : State (g.row.K.Denot × g.row.V.Denot)). s.1) (MapMoves g.K.PartialEq.eq) (ResizesTo (setting_of c.args.self.now)) (state_of c.args.self.now) c.args.call (Count c.len.result) (state_of c.args.self.now) = search rules in
+          let raw : MovesResized (λ (s : State (g.row.K.Denot × g.row.V.Denot)). s.1) (MapMoves g.K.PartialEq.eq) (ResizesTo (setting_of c.args.self.now)) (state_of c.args.self.now) c.args.call (Count c.len.result) (state_of c.args.self.now) = search rules in
           answered (MapStems g.V.Clone.is_clone) (MapMoves g.K.PartialEq.eq) (λ (s : State (g.row.K.Denot × g.row.V.Denot)). s.1) (ResizesTo (setting_of c.args.self.now)) _ _ c.args.call (Count c.len.result) (Count c.len.result) (rw c.in-Len.is refl) raw);
       err = (search rules);
       refused = (search rules);

@@ -2,7 +2,7 @@ use Rattle.std.proofs.Common.{◌∙◌, Some, inl, inr, refl, rules}
 use Rattle.scc_contents.specs.Contents.{entries}
 use Rattle.scc_contents.specs.Hashing.{hash_of}
 use Rattle.scc_set.specs.Keys.{find}
-use Rattle.scc_calls.specs.Changes.{Changes}
+use Rattle.scc_calls.specs.Resized.{MovesResized}
 use Rattle.scc_calls.specs.Means.{answered}
 use Rattle.scc_calls.specs.Stems.{SetStems}
 use Rattle.scc_calls.specs.SetCalls.{SetMoves}
@@ -17,7 +17,7 @@ returns-in-Ok g c =
     record {
       setting = (search rules);
       ok = (
-          let raw : Changes (λ (s : State g.row.K.Denot). s.1) (SetMoves g.K.PartialEq.eq) (ResizesTo (setting_of c.args.self.now)) (state_of c.args.self.now) c.args.call Inserted (state_of c.insert_sync.new.self) = rw c.in-Insert.is (inserted g.K.PartialEq.eq (λ h k. hash_of g.H.BuildHasher g.H.Hasher.Hasher h (g.K.Hash.hash_input k)) c.args.self.now c.insert_sync.new.self c.in-Insert.k c.in-Ok.field-0 c.in-Ok.ensures.step) in
+          let raw : MovesResized (λ (s : State g.row.K.Denot). s.1) (SetMoves g.K.PartialEq.eq) (ResizesTo (setting_of c.args.self.now)) (state_of c.args.self.now) c.args.call Inserted (state_of c.insert_sync.new.self) = rw c.in-Insert.is (inserted g.K.PartialEq.eq (λ h k. hash_of g.H.BuildHasher g.H.Hasher.Hasher h (g.K.Hash.hash_input k)) c.args.self.now c.insert_sync.new.self c.in-Insert.k c.in-Ok.field-0 c.in-Ok.ensures.step) in
           answered (SetStems g.K.Clone.is_clone) (SetMoves g.K.PartialEq.eq) (λ (s : State g.row.K.Denot). s.1) (ResizesTo (setting_of c.args.self.now)) _ _ c.args.call Inserted Inserted (rw c.in-Insert.is refl) raw);
       err = (search rules);
       refused = (search rules);
@@ -31,7 +31,7 @@ returns-in-Err-Exists g c =
     record {
       setting = (search rules);
       ok = (
-          let raw : Changes (λ (s : State g.row.K.Denot). s.1) (SetMoves g.K.PartialEq.eq) (ResizesTo (setting_of c.args.self.now)) (state_of c.args.self.now) c.args.call (Exists c.in-Err-Exists.k tt) (state_of c.insert_sync.new.self) = search rules in
+          let raw : MovesResized (λ (s : State g.row.K.Denot). s.1) (SetMoves g.K.PartialEq.eq) (ResizesTo (setting_of c.args.self.now)) (state_of c.args.self.now) c.args.call (Exists c.in-Err-Exists.k tt) (state_of c.insert_sync.new.self) = search rules in
           answered (SetStems g.K.Clone.is_clone) (SetMoves g.K.PartialEq.eq) (λ (s : State g.row.K.Denot). s.1) (ResizesTo (setting_of c.args.self.now)) _ _ c.args.call (Exists c.in-Err-Exists.k tt) (Exists c.in-Err-Exists.k tt) (rw c.in-Insert.is refl) raw);
       err = (search rules);
       refused = (search rules);
@@ -45,7 +45,7 @@ returns-in-Ok-replace_sync g c =
     record {
       setting = (search rules);
       ok = (
-          let raw : Changes (λ (s : State g.row.K.Denot). s.1) (SetMoves g.K.PartialEq.eq) (ResizesTo (setting_of c.args.self.now)) (state_of c.args.self.now) c.args.call (Key c.in-Ok-replace_sync.old) (state_of c.replace_sync.new.self) = rw c.in-Replace.is (replaced g.K.PartialEq.eq (λ h k. hash_of g.H.BuildHasher g.H.Hasher.Hasher h (g.K.Hash.hash_input k)) c.args.self.now c.replace_sync.new.self c.in-Replace.k c.in-Ok-replace_sync.old c.in-Ok-replace_sync.ensures.step) in
+          let raw : MovesResized (λ (s : State g.row.K.Denot). s.1) (SetMoves g.K.PartialEq.eq) (ResizesTo (setting_of c.args.self.now)) (state_of c.args.self.now) c.args.call (Key c.in-Ok-replace_sync.old) (state_of c.replace_sync.new.self) = rw c.in-Replace.is (replaced g.K.PartialEq.eq (λ h k. hash_of g.H.BuildHasher g.H.Hasher.Hasher h (g.K.Hash.hash_input k)) c.args.self.now c.replace_sync.new.self c.in-Replace.k c.in-Ok-replace_sync.old c.in-Ok-replace_sync.ensures.step) in
           answered (SetStems g.K.Clone.is_clone) (SetMoves g.K.PartialEq.eq) (λ (s : State g.row.K.Denot). s.1) (ResizesTo (setting_of c.args.self.now)) _ _ c.args.call (Key c.in-Ok-replace_sync.old) (Key c.in-Ok-replace_sync.old) (rw c.in-Replace.is refl) raw);
       err = (search rules);
       refused = (search rules);
@@ -59,7 +59,7 @@ returns-in-Remove g c =
     record {
       setting = (search rules);
       ok = (
-          let raw : Changes (λ (s : State g.row.K.Denot). s.1) (SetMoves g.K.PartialEq.eq) (ResizesTo (setting_of c.args.self.now)) (state_of c.args.self.now) c.args.call (Key c.remove_sync.result) (state_of c.remove_sync.new.self) = rw c.in-Remove.is (removed g.K.PartialEq.eq c.args.self.now c.remove_sync.new.self c.in-Remove.k c.remove_sync.result c.remove_sync.ensures.step) in
+          let raw : MovesResized (λ (s : State g.row.K.Denot). s.1) (SetMoves g.K.PartialEq.eq) (ResizesTo (setting_of c.args.self.now)) (state_of c.args.self.now) c.args.call (Key c.remove_sync.result) (state_of c.remove_sync.new.self) = rw c.in-Remove.is (removed g.K.PartialEq.eq c.args.self.now c.remove_sync.new.self c.in-Remove.k c.remove_sync.result c.remove_sync.ensures.step) in
           answered (SetStems g.K.Clone.is_clone) (SetMoves g.K.PartialEq.eq) (λ (s : State g.row.K.Denot). s.1) (ResizesTo (setting_of c.args.self.now)) _ _ c.args.call (Key c.remove_sync.result) (Key c.remove_sync.result) (rw c.in-Remove.is refl) raw);
       err = (search rules);
       refused = (search rules);
@@ -73,7 +73,7 @@ returns-in-Ok-cloned_key g c =
     record {
       setting = (search rules);
       ok = (
-          let raw : Changes (λ (s : State g.row.K.Denot). s.1) (SetMoves g.K.PartialEq.eq) (ResizesTo (setting_of c.args.self.now)) (state_of c.args.self.now) c.args.call (Key (find g.K.PartialEq.eq (entries c.args.self.now) c.in-Read.k)) (state_of c.args.self.now) = inl (refl, rw c.in-Read.is (refl, refl)) in
+          let raw : MovesResized (λ (s : State g.row.K.Denot). s.1) (SetMoves g.K.PartialEq.eq) (ResizesTo (setting_of c.args.self.now)) (state_of c.args.self.now) c.args.call (Key (find g.K.PartialEq.eq (entries c.args.self.now) c.in-Read.k)) (state_of c.args.self.now) = inl (refl, rw c.in-Read.is (refl, refl)) in
           answered (SetStems g.K.Clone.is_clone) (SetMoves g.K.PartialEq.eq) (λ (s : State g.row.K.Denot). s.1) (ResizesTo (setting_of c.args.self.now)) _ _ c.args.call (Key (find g.K.PartialEq.eq (entries c.args.self.now) c.in-Read.k)) (Key c.in-Ok-cloned_key.key) (rw c.in-Read.is c.in-Ok-cloned_key.ensures.ok) raw);
       err = (search rules);
       refused = (search rules);
@@ -103,7 +103,7 @@ returns-in-Contains g c =
     record {
       setting = (search rules);
       ok = (
-          let raw : Changes (λ (s : State g.row.K.Denot). s.1) (SetMoves g.K.PartialEq.eq) (ResizesTo (setting_of c.args.self.now)) (state_of c.args.self.now) c.args.call (Has c.contains_sync.result) (state_of c.args.self.now) = search rules in
+          let raw : MovesResized (λ (s : State g.row.K.Denot). s.1) (SetMoves g.K.PartialEq.eq) (ResizesTo (setting_of c.args.self.now)) (state_of c.args.self.now) c.args.call (Has c.contains_sync.result) (state_of c.args.self.now) = search rules in
           answered (SetStems g.K.Clone.is_clone) (SetMoves g.K.PartialEq.eq) (λ (s : State g.row.K.Denot). s.1) (ResizesTo (setting_of c.args.self.now)) _ _ c.args.call (Has c.contains_sync.result) (Has c.contains_sync.result) (rw c.in-Contains.is refl) raw);
       err = (search rules);
       refused = (search rules);
@@ -117,7 +117,7 @@ returns-in-Clear g c =
     record {
       setting = (search rules);
       ok = (
-          let raw : Changes (λ (s : State g.row.K.Denot). s.1) (SetMoves g.K.PartialEq.eq) (ResizesTo (setting_of c.args.self.now)) (state_of c.args.self.now) c.args.call Cleared (state_of c.clear_sync.new.self) = rw c.in-Clear.is (cleared g.K.PartialEq.eq c.args.self.now c.clear_sync.new.self c.clear_sync.ensures.holds) in
+          let raw : MovesResized (λ (s : State g.row.K.Denot). s.1) (SetMoves g.K.PartialEq.eq) (ResizesTo (setting_of c.args.self.now)) (state_of c.args.self.now) c.args.call Cleared (state_of c.clear_sync.new.self) = rw c.in-Clear.is (cleared g.K.PartialEq.eq c.args.self.now c.clear_sync.new.self c.clear_sync.ensures.holds) in
           answered (SetStems g.K.Clone.is_clone) (SetMoves g.K.PartialEq.eq) (λ (s : State g.row.K.Denot). s.1) (ResizesTo (setting_of c.args.self.now)) _ _ c.args.call Cleared Cleared (rw c.in-Clear.is refl) raw);
       err = (search rules);
       refused = (search rules);
@@ -131,7 +131,7 @@ returns g c =
     record {
       setting = (search rules);
       ok = (
-          let raw : Changes (λ (s : State g.row.K.Denot). s.1) (SetMoves g.K.PartialEq.eq) (ResizesTo (setting_of c.args.self.now)) (state_of c.args.self.now) c.args.call (Count c.len.result) (state_of c.args.self.now) = search rules in
+          let raw : MovesResized (λ (s : State g.row.K.Denot). s.1) (SetMoves g.K.PartialEq.eq) (ResizesTo (setting_of c.args.self.now)) (state_of c.args.self.now) c.args.call (Count c.len.result) (state_of c.args.self.now) = search rules in
           answered (SetStems g.K.Clone.is_clone) (SetMoves g.K.PartialEq.eq) (λ (s : State g.row.K.Denot). s.1) (ResizesTo (setting_of c.args.self.now)) _ _ c.args.call (Count c.len.result) (Count c.len.result) (rw c.in-Len.is refl) raw);
       err = (search rules);
       refused = (search rules);

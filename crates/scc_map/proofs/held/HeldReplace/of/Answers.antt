@@ -14,22 +14,22 @@ replace_key_at-old-requires-clause-within g c = let found = rw c.look-2.ensures 
 pub replace_key_at-old-requires-clause-same : goal.replace_key_at-old-requires-clause-same
 replace_key_at-old-requires-clause-same g c =
     let found = rw c.look-2.ensures at c.in-Some.ensures.place in
-    let f = place-found g.K.PartialEq.eq (g.G.Guard.kept c.args.guard) c.args.k c.in-Some.place found in
+    let f = place-found g.K.PartialEq.eq (g.G.Guard.inner c.args.guard) c.args.k c.in-Some.place found in
     rw c.lend.ensures.value (λ p got. let s : Some f.0 ≡ Some p = sym f.1 ∙ got in let w : f.0 ≡ p = cc in rw (← w) f.3)
 
 pub invariant_of-result : goal.invariant_of-result
 invariant_of-result g c =
     let found = rw c.look-2.ensures at c.in-Some.ensures.place in
-    record { within = subst (λ m. IsPlace m c.in-Some.place) (sym (g.G.Guard.keeps c.args.guard c.replace_key_at-old.new.self ∙ c.replace_key_at-old.ensures.new ∙ ap (λ m. with_write_at with_pair_key m c.in-Some.place c.args.k) c.lend.ensures.value)) (IsPlace-with_write_at with_pair_key (g.G.Guard.kept c.args.guard) c.in-Some.place c.args.k found.within) }
+    record { within = subst (λ m. IsPlace m c.in-Some.place) (sym (g.G.Guard.inner_law c.args.guard c.replace_key_at-old.new.self ∙ c.replace_key_at-old.ensures.new ∙ ap (λ m. with_write_at with_pair_key m c.in-Some.place c.args.k) c.lend.ensures.value)) (IsPlace-with_write_at with_pair_key (g.G.Guard.inner c.args.guard) c.in-Some.place c.args.k found.within) }
 
 pub returns-in-Some-clause-step : goal.returns-in-Some-clause-step
 returns-in-Some-clause-step g c =
     let laws = g.met.K.Eq.laws in
-    let m = g.G.Guard.kept c.args.guard in
+    let m = g.G.Guard.inner c.args.guard in
     let found = rw c.look-2.ensures at c.in-Some.ensures.place in
     let unique = rw c.look-2.ensures at c.place_of.ensures.unique in
     let f = place-found g.K.PartialEq.eq m c.args.k c.in-Some.place found in
-    let is = g.G.Guard.keeps c.args.guard c.replace_key_at-old.new.self ∙ c.replace_key_at-old.ensures.new ∙ ap (λ m. with_write_at with_pair_key m c.in-Some.place c.args.k) c.lend.ensures.value in
+    let is = g.G.Guard.inner_law c.args.guard c.replace_key_at-old.new.self ∙ c.replace_key_at-old.ensures.new ∙ ap (λ m. with_write_at with_pair_key m c.in-Some.place c.args.k) c.lend.ensures.value in
     let old = rw c.lend.ensures.value at c.replace_key_at-old.ensures.old in
     let same : Some f.0 ≡ Some old.0 = sym f.1 ∙ old.1 in
     let first : f.0 ≡ old.0 = cc in
@@ -44,20 +44,20 @@ returns-in-Some-clause-step g c =
 
 pub returns-in-Some-clause-noted : goal.returns-in-Some-clause-noted
 returns-in-Some-clause-noted g c =
-    let is = g.G.Guard.keeps c.args.guard c.replace_key_at-old.new.self ∙ c.replace_key_at-old.ensures.new ∙ ap (λ m. with_write_at with_pair_key m c.in-Some.place c.args.k) c.lend.ensures.value in
-    ap refused_of is ∙ noted-write with_pair_key (g.G.Guard.kept c.args.guard) c.in-Some.place c.args.k
+    let is = g.G.Guard.inner_law c.args.guard c.replace_key_at-old.new.self ∙ c.replace_key_at-old.ensures.new ∙ ap (λ m. with_write_at with_pair_key m c.in-Some.place c.args.k) c.lend.ensures.value in
+    ap refused_of is ∙ noted-write with_pair_key (g.G.Guard.inner c.args.guard) c.in-Some.place c.args.k
 
 pub returns-in-Some-clause-waiting : goal.returns-in-Some-clause-waiting
 returns-in-Some-clause-waiting g c =
-    let is = g.G.Guard.keeps c.args.guard c.replace_key_at-old.new.self ∙ c.replace_key_at-old.ensures.new ∙ ap (λ m. with_write_at with_pair_key m c.in-Some.place c.args.k) c.lend.ensures.value in
-    ap waiting_of is ∙ waiting-write with_pair_key (g.G.Guard.kept c.args.guard) c.in-Some.place c.args.k
+    let is = g.G.Guard.inner_law c.args.guard c.replace_key_at-old.new.self ∙ c.replace_key_at-old.ensures.new ∙ ap (λ m. with_write_at with_pair_key m c.in-Some.place c.args.k) c.lend.ensures.value in
+    ap waiting_of is ∙ waiting-write with_pair_key (g.G.Guard.inner c.args.guard) c.in-Some.place c.args.k
 
 pub returns-in-Some-clause-unique : goal.returns-in-Some-clause-unique
 returns-in-Some-clause-unique g c =
     let laws = g.met.K.Eq.laws in
-    let m = g.G.Guard.kept c.args.guard in
+    let m = g.G.Guard.inner c.args.guard in
     let found = rw c.look-2.ensures at c.in-Some.ensures.place in
     let unique = rw c.look-2.ensures at c.place_of.ensures.unique in
     let f = place-found g.K.PartialEq.eq m c.args.k c.in-Some.place found in
-    let is = g.G.Guard.keeps c.args.guard c.replace_key_at-old.new.self ∙ c.replace_key_at-old.ensures.new ∙ ap (λ m. with_write_at with_pair_key m c.in-Some.place c.args.k) c.lend.ensures.value in
+    let is = g.G.Guard.inner_law c.args.guard c.replace_key_at-old.new.self ∙ c.replace_key_at-old.ensures.new ∙ ap (λ m. with_write_at with_pair_key m c.in-Some.place c.args.k) c.lend.ensures.value in
     rw is (key-unique laws m c.in-Some.place found.within c.args.k unique f c.args.k f.3)

@@ -8,5 +8,5 @@ returns-clause-same g c =
     let all = c.args.passes.now in
     let was = c.index-passes-0.result in
     let is = c.index-passes-0.is in
-    let share : c.empty-seen.new.self ≡ was.share = search (rules, c.empty-seen.ensures.same, ap (λ x. x.share) is) in
-    (c.audit_from.ensures.same.0, c.audit_from.ensures.passes ∙ ap (λ z. set all 0 z) (pass-same was _ (ap (λ x. x.log) (sym is)) share) ∙ ap (λ z. set all 0 z) is ∙ set-get_or all 0 was)
+    let ledger : c.empty-seen.new.self ≡ was.ledger = search (rules, c.empty-seen.ensures.same, ap (λ x. x.ledger) is) in
+    (c.audit_from.ensures.same.0, c.audit_from.ensures.passes ∙ ap (λ z. set all 0 z) (pass-same was _ (ap (λ x. x.log) (sym is)) ledger) ∙ ap (λ z. set all 0 z) is ∙ set-get_or all 0 was)

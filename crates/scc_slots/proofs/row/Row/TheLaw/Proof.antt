@@ -17,5 +17,5 @@ pub shares : (R : RattleType) (L : Laws R) → statement R L
 shares R L =
     let outlives = Incl-trans (meet_⊑_left (R.lives ++ []) _) (meet_⊑_left R.lives []) in
     of_Lends (Row.struct R) (Row.the_codes R.Denot R.coded (marker.the_row RawPtr).coded) (Row.the_heap R) (Row.the_lent R)
-    (λ d p. row_shows-laws R L.shr_laws d.start d.places) (copy_shared (marker.the_field RawPtr) (field_copy (marker.the_type RawPtr) tt), tt)
-    (λ M 𝓤 𝓛 d p. row-lends 𝓛 (Row.the_row R).lives R L outlives d.start d.places)
+    (λ d p. row_shows-laws R L.shr_laws d.start d.cells) (copy_shared (marker.the_field RawPtr) (field_copy (marker.the_type RawPtr) tt), tt)
+    (λ M 𝓤 𝓛 d p. row-lends 𝓛 (Row.the_row R).lives R L outlives d.start d.cells)

@@ -1,4 +1,4 @@
--- `take` reads the entry of a place out, and its room is free. Assumes `Logic`.
+-- `take` reads the entry of a cell out, and its room is free. Assumes `Logic`.
 use Rattle.std.proofs.Common.{◌≡◌, ◌+◌, ◌*◌, ◌^◌, ◌<◌, List, [], ◌∷◌, ◌++◌, length, set, get_or, Some, None, refl, sym, subst, ◌∙◌, arith}
 use lib.ListN.{length-set}
 use base.Fml.{froom, ftrue, flft, fat}
@@ -31,12 +31,12 @@ use Rattle.std.proofs.raw_atomic.Walks.{proved_at, leaves}
 use Rattle.std_alloc.proofs.RawLayout.{as_raw}
 use Rattle.std_alloc.proofs.RcSteps.{word, word-Good}
 use Rattle.std_alloc.proofs.VecSteps.Shapes.{after}
-use Rattle.scc_slots.proofs.Places.{nowhere-owned, Cell, size, others, filled-within, cell_out, place-out, place-in}
+use Rattle.scc_slots.proofs.Places.{nowhere-owned, Cell, size, others, filled-within, cell_out, cell-out, cell-in}
 use Rattle.scc_slots.proofs.row.Row.take.Code as code
 use Rattle.scc_slots.proofs.row.Row.take.Statement.{statement}
 use Rattle.scc_slots.proofs.row.Start.TheLaws as start_laws
-use Rattle.scc_slots.specs.Owned.{place_owns, places_own, row_owns}
-use Rattle.scc_slots.specs.Places.{IsFilled}
+use Rattle.scc_slots.specs.Owned.{cell_owns, cells_own, row_owns}
+use Rattle.scc_slots.specs.CellWords.{IsFilled}
 use Rattle.scc_slots.specs.contracts.row.Row as Row
 use Rattle.scc_slots.specs.contracts.row.Start as Start
 use Rattle.scc_slots.specs.contracts.row.Row.take as f
@@ -58,43 +58,43 @@ take_spec 𝓤 𝓛 𝓜 𝓡 wired X L =
     let κ = y.0.0.0 in let κ' = y.0.0.1.0 in let q = y.0.1.0 in let q' = y.0.1.1.0 in
     let a = y.0.3 in let vss = y.0.4 in
     let Post : Val → SProp 𝓤 = (walk_of 𝓛 T hs c).post y in
-    let rb = a.0.ref_ptr.0 in let ro = a.0.ref_ptr.1 in let d = a.0.now in let start = a.1.0 in let place = a.1.1.0 in
+    let rb = a.0.ref_ptr.0 in let ro = a.0.ref_ptr.1 in let d = a.0.now in let start = a.1.0 in let cell = a.1.1.0 in
     let e1 = (start_laws.lowers (R E) (param_laws 0 X L)).val_is start vss.1.0 are.1.0 in
-    let fits : place < 2 ^ 64 = are.1.1.0.1 in
-    let new : W.Denot = record { of = d.of; start = d.start; places = set d.places place None } in
-    qed 𝓛 (((‵ (flft κ q) ⊛ ‵ (flft κ' q') ⊛ ‵ ftrue) ⊛ ‵ (owns (types_at T.signature.params y.0.0) a vss)) ∷ (raw (fact 𝓤 (κ' ⊑ X.lives)) ⊛ raw (fact 𝓤 ((start.first ≡ d.start) × IsFilled d.places place))) ∷ []) ∵
+    let fits : cell < 2 ^ 64 = are.1.1.0.1 in
+    let new : W.Denot = record { of = d.of; start = d.start; cells = set d.cells cell None } in
+    qed 𝓛 (((‵ (flft κ q) ⊛ ‵ (flft κ' q') ⊛ ‵ ftrue) ⊛ ‵ (owns (types_at T.signature.params y.0.0) a vss)) ∷ (raw (fact 𝓤 (κ' ⊑ X.lives)) ⊛ raw (fact 𝓤 ((start.first ≡ d.start) × IsFilled d.cells cell))) ∷ []) ∵
     move ! (1 ∷ []) $ split ! $ heard ! _ (λ short. heard ! _ (λ asks.
-    let x = asks.1.0 in let within = filled-within d.places place x asks.1.1 in
+    let x = asks.1.0 in let within = filled-within d.cells cell x asks.1.1 in
     split ! $ split ! $ move ! (2 ∷ []) $ fsplit ! $ fsplit3 ! $ feq_l ! (λ e0. move ! (0 ∷ 1 ∷ 3 ∷ 4 ∷ []) $
     -- [what is known of the row; its borrow; the token; the other tokens]
     regoal ! (λ (ws : List Val). prop (WpFn 𝓤 𝓛.H C Λ fn ws Post)) (λ i. e0 i ++ (e1 i ++ (are.1.1.0.0 i ++ []))) refl $
-    enter ! C Λ fn (vptr rb ro ∷ word start.first ∷ vint w64 place ∷ []) Post $
+    enter ! C Λ fn (vptr rb ro ∷ word start.first ∷ vint w64 cell ∷ []) Post $
     alloc_all ! (λ l. pass_all ! refl ((tt, tt), (word-Good [] start.first, ((tt, record { fits = fits }), tt))) $
     let En = env fn.locals l in
     opens ! tt W {h = d} rb ro (λ us. move ! (1 ∷ []) $ fsplit ! $ move ! (1 ∷ []) $
-    in_a_block ! d.start (λ p. row_owns (R E) p d.places) (nowhere-owned 𝓛 (R E) d.places place within) (λ b o e. fsplit ! $ move ! (1 ∷ []) $ flt_l ! (λ small.
-    let s = size E in let at = place * s + o in
-    let whole_size : s < 2 ^ 64 = omega (arith, one_below (length d.places) s (2 ^ 63) (omega arith) small) in
-    let far : place * s < 2 ^ 64 = omega (arith, times_below place (length d.places) s (2 ^ 63) (omega arith) small) in
-    -- [the places; the field; its cell; the open borrow, in three entries; the other tokens]
+    in_a_block ! d.start (λ p. row_owns (R E) p d.cells) (nowhere-owned 𝓛 (R E) d.cells cell within) (λ b o e. fsplit ! $ move ! (1 ∷ []) $ flt_l ! (λ small.
+    let s = size E in let at = cell * s + o in
+    let whole_size : s < 2 ^ 64 = omega (arith, one_below (length d.cells) s (2 ^ 63) (omega arith) small) in
+    let far : cell * s < 2 ^ 64 = omega (arith, times_below cell (length d.cells) s (2 ^ 63) (omega arith) small) in
+    -- [the cells; the field; its cell; the open borrow, in three entries; the other tokens]
     take_at ! 2 $ rewrite ! 0 (λ (p : Ptr). ‵ (fat full_share (layout S) (l 2) 0 (word p))) (asks.0 ∙ e) refl $ give_at ! 2 $
     first ! $ blocks ! $
     sets ! (bin ! (get ! refl) (size_lit ! (record { fits = whole_size })) (record { fits = far })) refl (tt, record { fits = far }) $
     sets ! (bin ! (get_in ! (fld ! refl (stop !)) (sub ! 0 refl (whole !))) (get ! refl) tt) refl (tt, tt) $
-    use1 𝓛 (‵ (place_owns (R E) b at (get_or d.places place None)) ⊛ ‵ (others E 𝓛 b o d.places place)) (place-out E 𝓛 b o at d.places place within refl) $ split ! $
-    rewrite ! 0 (λ (x : Cell E). ‵ (place_owns (R E) b at x)) asks.1.1 refl $
+    use1 𝓛 (‵ (cell_owns (R E) b at (get_or d.cells cell None)) ⊛ ‵ (others E 𝓛 b o d.cells cell)) (cell-out E 𝓛 b o at d.cells cell within refl) $ split ! $
+    rewrite ! 0 (λ (x : Cell E). ‵ (cell_owns (R E) b at x)) asks.1.1 refl $
     cell_out ! L x b at (λ v good.
     sets_last ! (of_opd ! (load ! (through ! refl (stop !)) (look ! 0 refl))) refl good $
     exec ! C Λ En (after 1 fn.body) (at_ret En Post) $ sets ! (of_opd ! (get ! refl)) refl good $
-    -- [the cell of the entry; the entry; the other places; ..]
+    -- [the cell of the entry; the entry; the other cells; ..]
     use1 𝓛 (‵ (froom (elτ E) b at)) (𝓛.laws.at_room (elτ E) b at v) $ as_raw ! (elτ E) b at $ move ! (0 ∷ 2 ∷ []) $
-    use2 𝓛 (‵ (places_own (R E) b o new.places)) (place-in E 𝓛 b o at d.places place None within refl) $
-    flt_i ! (length new.places * s) (2 ^ 63) (subst (λ k. k * s < 2 ^ 63) (sym (length-set d.places place None)) small) $ move ! (1 ∷ 0 ∷ []) $ fjoin ! $
-    rewrite ! 0 (λ (p : Ptr). ‵ (row_owns (R E) p new.places)) (sym e) refl $ move ! (2 ∷ 0 ∷ []) $ fjoin ! $ move ! (2 ∷ 0 ∷ 3 ∷ 4 ∷ 5 ∷ []) $ closes ! tt W new us rb ro $
+    use2 𝓛 (‵ (cells_own (R E) b o new.cells)) (cell-in E 𝓛 b o at d.cells cell None within refl) $
+    flt_i ! (length new.cells * s) (2 ^ 63) (subst (λ k. k * s < 2 ^ 63) (sym (length-set d.cells cell None)) small) $ move ! (1 ∷ 0 ∷ []) $ fjoin ! $
+    rewrite ! 0 (λ (p : Ptr). ‵ (row_owns (R E) p new.cells)) (sym e) refl $ move ! (2 ∷ 0 ∷ []) $ fjoin ! $ move ! (2 ∷ 0 ∷ 3 ∷ 4 ∷ 5 ∷ []) $ closes ! tt W new us rb ro $
     -- [what is known of the row; its borrow; the token; the entry; the other tokens]
     returns ! (look_at ! 0 refl) $ free_all ! refl $ keep ! (0 ∷ 1 ∷ 2 ∷ 3 ∷ 4 ∷ []) $
-    use0 𝓛 (raw (fact 𝓤 ((new.start ≡ d.start) × (new.places ≡ set d.places place None)))) (fact_i 𝓤 _ (emp 𝓤) (refl, refl)) $
-    use0 𝓛 (raw (fact 𝓤 (get_or d.places place None ≡ Some x))) (fact_i 𝓤 _ (emp 𝓤) asks.1.1) $ join ! $
+    use0 𝓛 (raw (fact 𝓤 ((new.start ≡ d.start) × (new.cells ≡ set d.cells cell None)))) (fact_i 𝓤 _ (emp 𝓤) (refl, refl)) $
+    use0 𝓛 (raw (fact 𝓤 (get_or d.cells cell None ≡ Some x))) (fact_i 𝓤 _ (emp 𝓤) asks.1.1) $ join ! $
     move ! (3 ∷ 5 ∷ []) $ join ! $ move ! (2 ∷ 3 ∷ []) $ feq_i ! (List Val) vss.0 (vptr rb ro ∷ []) e0 $ fjoin3 ! $
     nothing ! $ nothing ! $ fjoin ! $ nothing ! $ fjoin ! $ move ! (1 ∷ 0 ∷ []) $ fjoin ! $
     -- [what is left of the parameters; the tokens; what the clauses say; the entry]

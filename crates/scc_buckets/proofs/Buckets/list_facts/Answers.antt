@@ -1,0 +1,18 @@
+use Rattle.scc_contents.specs.Hashing.{hash_of}
+use Rattle.scc_buckets.proofs.Bounds.{listed-view, routed-view}
+use Rattle.scc_buckets.proofs.Views.{entries-view, settings-view}
+use Rattle.scc_buckets.proofs.Buckets.list_facts.Goals as goal
+
+pub returns-clause-listed : goal.returns-clause-listed
+returns-clause-listed g c =
+    λ bounded.
+    rw (settings-view c.self.inside.buckets _ c.args.self.now c.self.view_is)
+    (listed-view (λ e. hash_of g.H.BuildHasher g.H.Hasher.Hasher c.self.inside.hasher (g.E.Key.Hash.hash_input (g.E.Keyed.key_of e))) _ _ c.self.inside.buckets _ c.args.self.now c.self.view_is c.self.invariant.table bounded)
+
+pub returns-clause-unique : goal.returns-clause-unique
+returns-clause-unique g c = rw (entries-view c.self.inside.buckets _ c.args.self.now c.self.view_is) c.self.invariant.unique
+
+pub returns-clause-routed : goal.returns-clause-routed
+returns-clause-routed g c =
+    rw (settings-view c.self.inside.buckets _ c.args.self.now c.self.view_is)
+    (routed-view (λ e. hash_of g.H.BuildHasher g.H.Hasher.Hasher c.self.inside.hasher (g.E.Key.Hash.hash_input (g.E.Keyed.key_of e))) _ _ c.self.inside.buckets _ c.args.self.now c.self.view_is c.self.invariant.table)

@@ -1,0 +1,26 @@
+use Rattle.std.proofs.Common.{◌≡◌, ℕ, refl, sym, inl, inr, subst, rules}
+use Rattle.scc_contents.specs.Contents.{entries}
+use Rattle.scc_contents.specs.Pairs.{find}
+use Rattle.scc_contents.specs.Steps.{IsPreparedAt}
+use Rattle.scc_table.proofs.Same.{hash-same}
+use Rattle.scc_calls.proofs.MapCalls.{by-find}
+use Rattle.scc_calls.proofs.index_calls.prepare_key.Goals as goal
+
+pub returns-in-Ok : goal.returns-in-Ok
+returns-in-Ok g c =
+    record {
+      made = (
+          let a = c.args.index.now in
+          let d = c.prepare.new.self in
+          let k = c.args.k.now in
+          let like = hash-same g.H.BuildHasher g.H.Hasher.Hasher g.K.Hash.hash_input a d c.prepare.ensures.settings in
+          by-find (find g.K.PartialEq.eq (entries a) k)
+          (λ p is. let same : d ≡ a = (c.in-Ok.ensures.present (rw is refl)).1 in inl (rw same (rw is refl)))
+          (λ none. inr (subst (λ (h : g.row.K.Denot → ℕ). IsPreparedAt h (λ p. p.0) d (h k)) (sym like) (c.in-Ok.ensures.ok none).made)));
+      stays = (search rules);
+      settings = (search rules);
+      grows = (search rules);
+      refused = (search rules);
+      unmarked = (search rules);
+      still = (search rules);
+    }

@@ -1,0 +1,27 @@
+use Rattle.scc_calls.proofs.set_calls.prepare.Goals as goal
+
+pub returns-in-Insert : goal.returns-in-Insert
+returns-in-Insert g c =
+    record {
+      made = (rw c.in-Insert.is c.prepare_key.ensures.made);
+      stays = c.prepare_key.ensures.stays;
+      settings = c.prepare_key.ensures.settings;
+      grows = c.prepare_key.ensures.grows;
+      adds = (rw c.in-Insert.is (λ more. tt));
+      refused = (rw c.in-Insert.is c.prepare_key.ensures.refused);
+      unmarked = c.prepare_key.ensures.unmarked;
+      still = (rw c.in-Insert.is c.prepare_key.ensures.still);
+    }
+
+pub returns-in-Replace : goal.returns-in-Replace
+returns-in-Replace g c =
+    record {
+      made = (rw c.in-Replace.is c.prepare_key-in-Replace.ensures.made);
+      stays = c.prepare_key-in-Replace.ensures.stays;
+      settings = c.prepare_key-in-Replace.ensures.settings;
+      grows = c.prepare_key-in-Replace.ensures.grows;
+      adds = (rw c.in-Replace.is (λ more. tt));
+      refused = (rw c.in-Replace.is c.prepare_key-in-Replace.ensures.refused);
+      unmarked = c.prepare_key-in-Replace.ensures.unmarked;
+      still = (rw c.in-Replace.is c.prepare_key-in-Replace.ensures.still);
+    }

@@ -1,0 +1,91 @@
+use Rattle.std.proofs.Common.{◌^◌, ◌<◌, ◌∙◌, sym, arith, rules}
+use Rattle.std.proofs.lemmas.Result.{on_ok_weaker, on_err_weaker}
+use Rattle.scc_contents.specs.Contents.{bucket_count, key_hash}
+use Rattle.scc_buckets.specs.Tables.{overflow_in}
+use Rattle.scc_draining.proofs.Counted.{short-counted}
+use Rattle.scc_draining.proofs.FromBuckets.{within-sources, few-each, most-entry_count}
+use Rattle.scc_draining.proofs.Joined.{whole-joined}
+use Rattle.scc_draining.proofs.relocate.move_target.Goals as goal
+
+pub sources-first-requires-clause-some : goal.sources-first-requires-clause-some
+sources-first-requires-clause-some g c = let z = c.requires.sized in omega (arith, z.least, c.len-before.ensures.count)
+
+pub sources-first-requires-clause-most : goal.sources-first-requires-clause-most
+sources-first-requires-clause-most g c = let z = c.requires.sized in omega (arith, z.most, c.len-before.ensures.count)
+
+pub sources-first-requires-clause-target : goal.sources-first-requires-clause-target
+sources-first-requires-clause-target g c = omega (arith, c.requires.target, c.bucket_count-count.ensures.count)
+
+pub sources-first-requires-clause-multiples : goal.sources-first-requires-clause-multiples
+sources-first-requires-clause-multiples g c = rw (c.len-before.ensures.count, c.bucket_count-count.ensures.count) c.requires.multiples
+
+pub count_coming-coming-requires-clause-sources : goal.count_coming-coming-requires-clause-sources
+count_coming-coming-requires-clause-sources g c =
+    let cur = c.args.current.now in
+    let olds = c.args.old.now in
+    let hash = λ (e : g.row.E.Denot). key_hash g.H.BuildHasher g.H.Hasher.Hasher g.E.Key.Hash.hash_input cur (g.E.Keyed.key_of e) in
+    let only = rw (c.len-before.ensures.count, c.bucket_count-count.ensures.count) at c.sources-first.ensures.only in
+    let last = rw c.len-before.ensures.count at c.sources-first.ensures.within in
+    let sources = within-sources hash c.args.skipped (bucket_count cur) c.args.target c.sources-first.result.0 c.sources-first.result.1 olds c.requires.own c.sources-first.ensures.order last only in
+    rw c.bucket_count-count.ensures.count sources
+
+pub count_coming-coming-requires-clause-few : goal.count_coming-coming-requires-clause-few
+count_coming-coming-requires-clause-few g c = few-each c.args.old.now c.args.aside c.requires.spilled (let f = c.requires.aside in omega arith)
+
+pub count_coming-coming-requires-clause-most : goal.count_coming-coming-requires-clause-most
+count_coming-coming-requires-clause-most g c =
+    let hash = λ (e : g.row.E.Denot). key_hash g.H.BuildHasher g.H.Hasher.Hasher g.E.Key.Hash.hash_input c.args.current.now (g.E.Keyed.key_of e) in
+    let low : overflow_in c.args.old.now < 2 ^ 62 = omega (arith, c.requires.spilled, c.requires.aside) in
+    let m = most-entry_count hash c.args.skipped c.args.old.now c.requires.sized c.requires.own low in
+    omega arith
+
+pub move_in-requires-clause-sources : goal.move_in-requires-clause-sources
+move_in-requires-clause-sources g c =
+    let cur = c.args.current.now in
+    let olds = c.args.old.now in
+    let hash = λ (e : g.row.E.Denot). key_hash g.H.BuildHasher g.H.Hasher.Hasher g.E.Key.Hash.hash_input cur (g.E.Keyed.key_of e) in
+    let only = rw (c.len-before.ensures.count, c.bucket_count-count.ensures.count) at c.sources-first.ensures.only in
+    let last = rw c.len-before.ensures.count at c.sources-first.ensures.within in
+    within-sources hash c.args.skipped (bucket_count cur) c.args.target c.sources-first.result.0 c.sources-first.result.1 olds c.requires.own c.sources-first.ensures.order last only
+
+pub move_in-requires-clause-few : goal.move_in-requires-clause-few
+move_in-requires-clause-few g c = few-each c.args.old.now c.args.aside c.requires.spilled (let f = c.requires.aside in omega arith)
+
+pub is_whole-whole-requires-clause-flags : goal.is_whole-whole-requires-clause-flags
+is_whole-whole-requires-clause-flags g c = c.requires.flags ∙ sym c.bucket_count-count.ensures.count
+
+pub count_coming-coming-requires-clause-joined : goal.count_coming-coming-requires-clause-joined
+count_coming-coming-requires-clause-joined g c =
+    let cur = c.args.current.now in
+    let olds = c.args.old.now in
+    let hash = λ (e : g.row.E.Denot). key_hash g.H.BuildHasher g.H.Hasher.Hasher g.E.Key.Hash.hash_input cur (g.E.Keyed.key_of e) in
+    let all = rw (c.len-before.ensures.count, c.bucket_count-count.ensures.count) at c.sources-first.ensures.joined in
+    let two = rw (c.len-before.ensures.count, c.bucket_count-count.ensures.count) at c.sources-first.ensures.doubled in
+    let last = rw c.len-before.ensures.count at c.sources-first.ensures.within in
+    let whole = rw (c.len-before.ensures.count, c.bucket_count-count.ensures.count) at c.is_whole-whole.ensures in
+    let joined = whole-joined hash c.args.skipped (bucket_count cur) c.args.target c.sources-first.result.0 c.sources-first.result.1 olds c.args.waiting.now c.is_whole-whole.result c.requires.own last all two c.requires.not_waiting whole in
+    rw c.bucket_count-count.ensures.count joined
+
+pub move_in-requires-clause-joined : goal.move_in-requires-clause-joined
+move_in-requires-clause-joined g c =
+    let cur = c.args.current.now in
+    let olds = c.args.old.now in
+    let hash = λ (e : g.row.E.Denot). key_hash g.H.BuildHasher g.H.Hasher.Hasher g.E.Key.Hash.hash_input cur (g.E.Keyed.key_of e) in
+    let all = rw (c.len-before.ensures.count, c.bucket_count-count.ensures.count) at c.sources-first.ensures.joined in
+    let two = rw (c.len-before.ensures.count, c.bucket_count-count.ensures.count) at c.sources-first.ensures.doubled in
+    let last = rw c.len-before.ensures.count at c.sources-first.ensures.within in
+    let whole = rw (c.len-before.ensures.count, c.bucket_count-count.ensures.count) at c.is_whole-whole.ensures in
+    let joined = whole-joined hash c.args.skipped (bucket_count cur) c.args.target c.sources-first.result.0 c.sources-first.result.1 olds c.args.waiting.now c.is_whole-whole.result c.requires.own last all two c.requires.not_waiting whole in
+    joined
+
+pub returns : goal.returns
+returns g c =
+    let exact = rw c.bucket_count-count.ensures.count at c.count_coming-coming.ensures.exact in
+    record {
+      ok = (search rules);
+      few = (search rules);
+      short = (on_ok_weaker c.move_in.result (λ h few. h (short-counted c.count_coming-coming.result _ exact few)) c.move_in.ensures.short);
+      err = (search rules);
+      stays = (search rules);
+      refused = (on_err_weaker c.move_in.result (λ l. let same = exact l in omega arith) c.move_in.ensures.refused);
+    }

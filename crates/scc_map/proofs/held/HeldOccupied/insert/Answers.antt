@@ -1,0 +1,17 @@
+use Rattle.std.proofs.Common.{ap, ◌∙◌}
+use Rattle.scc_map.proofs.Entries.{within-after, written-after, waiting-after, pair-is}
+use Rattle.scc_map.proofs.held.HeldOccupied.insert.Goals as goal
+
+pub invariant_of-self : goal.invariant_of-self
+invariant_of-self g c = record { within = within-after c.args.self.now c.lend.result.now c.write_at.new.self c.args.value c.lend.ensures.value c.write_at.ensures.new }
+
+pub returns-clause-old : goal.returns-clause-old
+returns-clause-old g c =
+    let v = c.write_at.ensures.old in
+    v.2 ∙ ap (λ p. p.1) (pair-is c.args.self.now c.lend.result.now v.0 c.lend.ensures.value v.1)
+
+pub returns-clause-written : goal.returns-clause-written
+returns-clause-written g c = written-after c.args.self.now c.lend.result.now c.write_at.new.self c.args.value c.lend.ensures.value c.write_at.ensures.new _
+
+pub returns-clause-waiting : goal.returns-clause-waiting
+returns-clause-waiting g c = waiting-after c.args.self.now c.lend.result.now c.write_at.new.self c.args.value c.lend.ensures.value c.write_at.ensures.new

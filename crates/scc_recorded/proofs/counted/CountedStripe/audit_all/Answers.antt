@@ -1,0 +1,12 @@
+use Rattle.std.proofs.Common.{rules, ◌≡◌, ap, ◌∙◌, sym, set}
+use Rattle.std.proofs.lemmas.List.{set-get_or}
+use Rattle.scc_recorded.proofs.Same.{guarded-same}
+use Rattle.scc_recorded.proofs.counted.CountedStripe.audit_all.Goals as goal
+
+pub returns-clause-same : goal.returns-clause-same
+returns-clause-same g c =
+    let all = c.args.stripes.now in
+    let was = c.index-stripes-0.result in
+    let is = c.index-stripes-0.is in
+    let ledger : c.empty-seen.new.self ≡ was.ledger = search (rules, c.empty-seen.ensures.same, ap (λ x. x.ledger) is) in
+    (c.audit_from.ensures.same.0, c.audit_from.ensures.stripes ∙ ap (λ z. set all 0 z) (guarded-same was _ (ap (λ x. x.stripe) (sym is)) ledger) ∙ ap (λ z. set all 0 z) is ∙ set-get_or all 0 was)

@@ -1,5 +1,0 @@
-use Rattle.std.proofs.Common.{length}
-use Rattle.scc_recorded.proofs.counted.Guarded.+audit_from.Given as goal
-
-abbrev pub decreases-audit_from : goal.decreases-audit_from
-decreases-audit_from g l = length l.stripes.now

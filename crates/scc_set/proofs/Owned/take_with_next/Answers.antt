@@ -1,0 +1,18 @@
+use Rattle.scc_table.proofs.MappedPlaces.{IsPlace-from_mapped}
+use Rattle.scc_set.proofs.Sets.{waiting-keys, noted-keys, unique-keys}
+use Rattle.scc_set.proofs.Places.{get-key, exactly-others, follows-taken}
+use Rattle.scc_set.proofs.Owned.take_with_next.Goals as goal
+
+pub take_with_next-pair-requires : goal.take_with_next-pair-requires
+take_with_next-pair-requires g c = IsPlace-from_mapped _ c.self.inside.map c.args.place (rw (← c.self.view_is) at c.requires)
+
+pub returns : goal.returns
+returns g c =
+    record {
+      key = rw (← c.self.view_is) (get-key c.self.inside.map c.args.place _ c.take_with_next-pair.ensures.pair);
+      others = rw (← c.self.view_is) (exactly-others c.self.inside.map c.args.place _ c.take_with_next-pair.ensures.others);
+      noted = rw (← c.self.view_is) (noted-keys _ _ c.take_with_next-pair.ensures.noted);
+      waiting = rw (← c.self.view_is) (waiting-keys _ _ c.take_with_next-pair.ensures.waiting);
+      next = rw (← c.self.view_is) (follows-taken c.self.inside.map c.args.place c.take_with_next-pair.new.self c.take_with_next-pair.result.1 c.take_with_next-pair.ensures.next);
+      unique = unique-keys _ _ c.take_with_next-pair.ensures.unique;
+    }

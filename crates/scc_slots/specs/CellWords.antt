@@ -1,0 +1,15 @@
+-- Which cells are in use.
+use Rattle.std.specs.Prelude.{◌≡◌, ℕ, ◌<◌, List, length, slice_index_or, Option, Some, None}
+
+module _ {X : Type 0} where
+  -- an entry lies in the cell
+  abbrev pub IsFilled : List (Option X) → ℕ → Type 0
+  IsFilled cells i = (x : X) × (slice_index_or cells i None ≡ Some x)
+
+  -- the cell is there, and free
+  abbrev pub IsEmptyCell : List (Option X) → ℕ → Type 0
+  IsEmptyCell cells i = (i < length cells) × (slice_index_or cells i None ≡ None)
+
+  -- no entry lies in any cell
+  abbrev pub IsDrained : List (Option X) → Type 0
+  IsDrained cells = (i : ℕ) → slice_index_or cells i None ≡ None

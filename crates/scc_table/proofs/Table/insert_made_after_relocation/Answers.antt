@@ -1,0 +1,42 @@
+use Rattle.std.proofs.Common.{◌≡◌, ◌∙◌, None, sym, ap, subst, arith, rules}
+use Rattle.std.specs.List.{position}
+use Rattle.scc_contents.specs.Contents.{bucket_count, settings_of}
+use Rattle.scc_contents.specs.Routing.{bucket_number}
+use Rattle.scc_table.specs.TwoArrays.{pending_targets}
+use Rattle.scc_table.proofs.Placing.{moved-relocated, relocated-fewer, relocated-inserted, relocated-left, relocated-short}
+use Rattle.scc_table.proofs.Same.{count-same, entries-same, if-err, if-ok, on-ok}
+use Rattle.scc_table.proofs.Table.insert_made_after_relocation.Goals as goal
+
+pub insert_made_then_relocate-requires-clause-within : goal.insert_made_then_relocate-requires-clause-within
+insert_made_then_relocate-requires-clause-within g c = let n = count-same c.args.self.now c.relocate.new.self c.in-Ok.ensures.ok.lists in omega (arith, c.requires.within)
+
+pub insert_made_then_relocate-requires-clause-routed : goal.insert_made_then_relocate-requires-clause-routed
+insert_made_then_relocate-requires-clause-routed g c =
+    let a = c.args.self.now in
+    let b = c.relocate.new.self in
+    let r = c.in-Ok.ensures.ok in
+    c.requires.routed ∙ ap (λ s. bucket_number s.skipped (bucket_count a) c.args.hash) (sym r.settings) ∙ ap (λ n. bucket_number (settings_of b).skipped n c.args.hash) (sym (count-same a b r.lists))
+
+pub insert_made_then_relocate-requires-clause-absent : goal.insert_made_then_relocate-requires-clause-absent
+insert_made_then_relocate-requires-clause-absent g c =
+    subst (λ es. position (λ e. g.E.Key.PartialEq.eq (g.E.Keyed.key_of (g.E.Made.made_of c.args.parts)) (g.E.Keyed.key_of e)) es ≡ None) (sym (entries-same c.args.self.now c.relocate.new.self c.in-Ok.ensures.ok.lists)) c.requires.absent
+
+pub returns-in-Ok : goal.returns-in-Ok
+returns-in-Ok g c =
+    let a = c.args.self.now in
+    let b = c.relocate.new.self in
+    let r = c.in-Ok.ensures.ok in
+    record {
+      ok = (if-ok c.insert_made_then_relocate.result (λ p h. relocated-inserted c.args.bucket c.args.self.now c.relocate.new.self c.in-Ok.ensures.ok (g.E.Made.made_of c.args.parts) c.insert_made_then_relocate.new.self p h) c.insert_made_then_relocate.ensures.ok);
+      err = (if-err c.insert_made_then_relocate.result (λ e h. (h.0, record { exact = h.1.exact ∙ entries-same a b r.lists; buckets = h.1.buckets ∙ count-same a b r.lists; settings = h.1.settings ∙ r.settings })) c.insert_made_then_relocate.ensures.err);
+      full = (search rules);
+      buckets = (c.insert_made_then_relocate.ensures.buckets ∙ count-same c.args.self.now c.relocate.new.self c.in-Ok.ensures.ok.lists);
+      refused = (search rules);
+      fewer = (λ k up. relocated-fewer c.args.bucket c.args.self.now c.relocate.new.self c.in-Ok.ensures.ok k (c.insert_made_then_relocate.ensures.fewer k up));
+      less = (search rules);
+      most = (search rules);
+      not_waiting = (search rules);
+      moved = (on-ok c.insert_made_then_relocate.result (λ h. moved-relocated c.args.bucket a b c.in-Ok.ensures.ok c.insert_made_then_relocate.new.self h) c.insert_made_then_relocate.ensures.moved);
+      exact = (on-ok c.insert_made_then_relocate.result (λ h short. relocated-left c.args.bucket a b r (pending_targets c.insert_made_then_relocate.new.self) (h (relocated-short c.args.bucket a b r short))) c.insert_made_then_relocate.ensures.exact);
+      unique = (search rules);
+    }

@@ -1,0 +1,128 @@
+use Rattle.std.proofs.Common.{◌≡◌, ◌∙◌, ◌<◌, ℕ, ◌+◌, ◌^◌, true, false, inl, inr, map, sym, ap, subst, arith, rules}
+use Rattle.std.specs.List.{IsDistinct}
+use Rattle.scc_contents.specs.Contents.{entries, owed_of, key_hash, settings_of, overflow_of}
+use Rattle.scc_buckets.specs.OneList.{HasSameLists, IsPutIn}
+use Rattle.scc_table.specs.TwoArrays.{draining_of, IsTable, together}
+use Rattle.scc_table.proofs.Joining.{waiting-together}
+use Rattle.scc_table.proofs.Noting.{fields-less, owed-kept}
+use Rattle.scc_table.proofs.PuttingLemmas.{unique-answered, absent-own, fields-put, owed-put, put-together, same-together}
+use Rattle.scc_table.proofs.Same.{by-answer, hash-same, if-ok, on-err}
+use Rattle.scc_table.proofs.Viewed.{settings-seen, waiting-seen}
+use Rattle.scc_table.proofs.OneBucket.{flag-down, routed-own, within-own}
+use Rattle.scc_table.proofs.Table.insert_made_in.Goals as goal
+use Rattle.scc_table.proofs.Table.insert_made_in.Goals.{then-self-gt0+else-is_overflow_full, else-self-gt0}
+
+pub list_len-listed-requires : goal.list_len-listed-requires
+list_len-listed-requires g c =
+    let within = within-own c.self.invariant c.self.view_is c.requires.within in
+    within
+
+pub insert_made_in-placed-requires-clause-within : goal.insert_made_in-placed-requires-clause-within
+insert_made_in-placed-requires-clause-within g c =
+    let within = within-own c.self.invariant c.self.view_is c.requires.within in
+    within
+
+pub insert_made_in-placed-requires-clause-routed : goal.insert_made_in-placed-requires-clause-routed
+insert_made_in-placed-requires-clause-routed g c =
+    let routed = routed-own c.self.invariant _ c.self.view_is c.requires.routed in
+    routed
+
+pub insert_made_in-placed-requires-clause-hashed : goal.insert_made_in-placed-requires-clause-hashed
+insert_made_in-placed-requires-clause-hashed g c =
+    let t = c.self.inside in
+    let cur = t.current in
+    let ws = t.draining.waiting.items in
+    let olds = t.draining.array in
+    let hk = key_hash g.H.BuildHasher g.H.Hasher.Hasher g.E.Key.Hash.hash_input cur in
+    let hash = λ (e : g.row.E.Denot). hk (g.E.Keyed.key_of e) in
+    let view = c.self.view_is in
+    let settings = settings-seen hash cur ws olds c.args.self.now view in
+    let outer = hash-same g.H.BuildHasher g.H.Hasher.Hasher g.E.Key.Hash.hash_input cur c.args.self.now settings in
+    let hashed : c.args.hash ≡ hk (g.E.Keyed.key_of (g.E.Made.made_of c.args.parts)) = c.requires.hashed ∙ ap (λ (h : g.row.E-Key.Denot → ℕ). h (g.E.Keyed.key_of (g.E.Made.made_of c.args.parts))) outer in
+    hashed
+
+pub insert_made_in-placed-requires-clause-absent : goal.insert_made_in-placed-requires-clause-absent
+insert_made_in-placed-requires-clause-absent g c =
+    let t = c.self.inside in
+    let cur = t.current in
+    let ws = t.draining.waiting.items in
+    let olds = t.draining.array in
+    let inv = c.self.invariant in
+    let hk = key_hash g.H.BuildHasher g.H.Hasher.Hasher g.E.Key.Hash.hash_input cur in
+    let view = c.self.view_is in
+    absent-own g.E.Keyed.key_of hk cur ws olds inv.arrays c.args.self.now view (λ e. g.E.Key.PartialEq.eq (g.E.Keyed.key_of (g.E.Made.made_of c.args.parts)) (g.E.Keyed.key_of e)) c.requires.absent
+
+pub invariant_of-self : goal.invariant_of-self
+invariant_of-self g c =
+    let t = c.self.inside in
+    let cur = t.current in
+    let ws = t.draining.waiting.items in
+    let olds = t.draining.array in
+    let i = c.args.bucket in
+    let inv = c.self.invariant in
+    let hk = key_hash g.H.BuildHasher g.H.Hasher.Hasher g.E.Key.Hash.hash_input cur in
+    let hash = λ (e : g.row.E.Denot). hk (g.E.Keyed.key_of e) in
+    let view = c.self.view_is in
+    let settings = settings-seen hash cur ws olds c.args.self.now view in
+    let outer = hash-same g.H.BuildHasher g.H.Hasher.Hasher g.E.Key.Hash.hash_input cur c.args.self.now settings in
+    let within = within-own c.self.invariant c.self.view_is c.requires.within in
+    let down = flag-down c.self.invariant _ c.self.view_is c.requires.not_waiting in
+    let new = c.insert_made_in-placed.new.self in
+    let after : settings_of new ≡ settings_of cur = by-answer c.insert_made_in-placed.result c.insert_made_in-placed.ensures.exact c.insert_made_in-placed.ensures.stays (λ p put. put.settings) (λ z. z.settings) in
+    let inner = hash-same g.H.BuildHasher g.H.Hasher.Hasher g.E.Key.Hash.hash_input cur new after in
+    let IsAfter = IsTable g.E.Key.PartialEq.eq g.E.Keyed.key_of hk new (draining_of t.draining) t.skipped in
+    let few = c.overflow_len-few.ensures in
+    let there : IsAfter = by-answer c.insert_made_in-placed.result c.insert_made_in-placed.ensures.exact c.insert_made_in-placed.ensures.stays
+    (λ p put.
+    let left : overflow_of new + t.draining.left_overflow < 2 ^ 62 = elim c.if-self-gt0.branch [
+      | then-self-gt0+else-is_overflow_full w ↦
+          let was = w.overflow_len-spilled.ensures.value in
+          elim (w.if-is_overflow_full.ensures.room (λ h. absurd (let z : false ≡ true = h in cc))) [
+            | inl q ↦ let s = put.short (omega (arith, w.list_len-listed.ensures)) in omega (arith, inv.few)
+            | inr q ↦ omega (arith, put.spilled)
+          ]
+      | else-self-gt0 w ↦ let z = w.if-self-gt0.false in omega (arith, few.value, few.most)
+    ] in
+    fields-put g.E.Key.PartialEq.eq g.met.E.Key.Eq.laws g.E.Keyed.key_of hk cur (draining_of t.draining) t.skipped inv c.args.self.now view (g.E.Made.made_of c.args.parts) i new p put within down left c.requires.absent)
+    (λ z. fields-less g.E.Key.PartialEq.eq g.E.Keyed.key_of hk cur new (draining_of t.draining) t.skipped z.lists (ap (λ s. s.skipped) z.settings) z.spilled inv) in
+    subst (λ (h : g.row.E-Key.Denot → ℕ). IsTable g.E.Key.PartialEq.eq g.E.Keyed.key_of h new (draining_of t.draining) t.skipped) (sym inner) there
+
+pub returns : goal.returns
+returns g c =
+    let t = c.self.inside in
+    let cur = t.current in
+    let ws = t.draining.waiting.items in
+    let olds = t.draining.array in
+    let i = c.args.bucket in
+    let inv = c.self.invariant in
+    let hk = key_hash g.H.BuildHasher g.H.Hasher.Hasher g.E.Key.Hash.hash_input cur in
+    let hash = λ (e : g.row.E.Denot). hk (g.E.Keyed.key_of e) in
+    let view = c.self.view_is in
+    let settings = settings-seen hash cur ws olds c.args.self.now view in
+    let outer = hash-same g.H.BuildHasher g.H.Hasher.Hasher g.E.Key.Hash.hash_input cur c.args.self.now settings in
+    let within = within-own c.self.invariant c.self.view_is c.requires.within in
+    let down = flag-down c.self.invariant _ c.self.view_is c.requires.not_waiting in
+    let new = c.insert_made_in-placed.new.self in
+    let after : settings_of new ≡ settings_of cur = by-answer c.insert_made_in-placed.result c.insert_made_in-placed.ensures.exact c.insert_made_in-placed.ensures.stays (λ p put. put.settings) (λ z. z.settings) in
+    let inner = hash-same g.H.BuildHasher g.H.Hasher.Hasher g.E.Key.Hash.hash_input cur new after in
+    record {
+      exact = (
+          if-ok c.insert_made_in-placed.result
+          (λ p put. subst (λ (h : g.row.E-Key.Denot → ℕ). IsPutIn c.args.self.now i (g.E.Made.made_of c.args.parts) (together (λ e. h (g.E.Keyed.key_of e)) new ws olds) p) (sym inner) (put-together g.E.Keyed.key_of hk cur ws olds inv.arrays c.args.self.now view (g.E.Made.made_of c.args.parts) i new p put within down))
+          c.insert_made_in-placed.ensures.exact);
+      err = (search rules);
+      stays = (
+          on-err c.insert_made_in-placed.result
+          (λ z. subst (λ (h : g.row.E-Key.Denot → ℕ). HasSameLists c.args.self.now (together (λ e. h (g.E.Keyed.key_of e)) new ws olds)) (sym inner) (subst (λ x. HasSameLists x (together hash new ws olds)) view (same-together hash cur new ws olds z)))
+          c.insert_made_in-placed.ensures.stays);
+      full = (search rules);
+      waiting = (waiting-together _ c.insert_made_in-placed.new.self t.draining.waiting.items t.draining.array ∙ sym (waiting-seen _ t.current t.draining.waiting.items t.draining.array c.args.self.now c.self.view_is));
+      owed = (
+          let there : owed_of (together hash new ws olds) ≡ owed_of c.args.self.now = by-answer c.insert_made_in-placed.result c.insert_made_in-placed.ensures.exact c.insert_made_in-placed.ensures.stays
+          (λ p put. owed-put g.E.Keyed.key_of hk cur ws olds inv.arrays c.args.self.now view (g.E.Made.made_of c.args.parts) i new p put within down)
+          (λ z. owed-kept hash cur new ws olds z.lists (ap (λ s. s.skipped) z.settings) ∙ ap owed_of view) in
+          subst (λ (h : g.row.E-Key.Denot → ℕ). owed_of (together (λ e. h (g.E.Keyed.key_of e)) new ws olds) ≡ owed_of c.args.self.now) (sym inner) there);
+      unique = (
+          subst (λ (h : g.row.E-Key.Denot → ℕ). IsDistinct g.E.Key.PartialEq.eq (map g.E.Keyed.key_of (entries (together (λ e. h (g.E.Keyed.key_of e)) new ws olds)))) (sym inner)
+          (unique-answered g.met.E.Key.Eq.laws inv view (g.E.Made.made_of c.args.parts) i new c.insert_made_in-placed.result c.insert_made_in-placed.ensures.exact c.insert_made_in-placed.ensures.stays within down c.requires.absent));
+    }

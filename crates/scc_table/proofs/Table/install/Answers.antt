@@ -1,0 +1,77 @@
+use Rattle.scc_contents.specs.Hashing.{hash_of}
+use Rattle.std.proofs.Common.{◌≡◌, ◌∙◌, ◌+◌, ℕ, List, length, replicate, true, inr, sym, ap, subst, arith}
+use Rattle.std.proofs.lemmas.List.{length-replicate}
+use Rattle.std.specs.List.{count_by}
+use Rattle.scc_array.specs.Shelf.{Shelf, empty_shelf}
+use Rattle.scc_contents.specs.Contents.{Settings, key_hash, overflow_of}
+use Rattle.scc_buckets.specs.Pour.{IsRegrouped}
+use Rattle.scc_contents.specs.Sizes.{IsBucketCount, IsLawful}
+use Rattle.scc_buckets.specs.Tables.{overflow_in}
+use Rattle.scc_buckets.proofs.Fresh.{empty-replicate}
+use Rattle.scc_buckets.proofs.MakingLemmas.{flat-empty, table-empty}
+use Rattle.scc_table.specs.TwoArrays.{together}
+use Rattle.scc_buckets.proofs.Bare.{all-bare}
+use Rattle.scc_table.proofs.Alone.{nothing-owed, spilled-together}
+use Rattle.scc_draining.proofs.Arriving.{IsDistinct-nil}
+use Rattle.scc_table.proofs.Joining.{waiting-together, pending-together, refused-together}
+use Rattle.scc_table.proofs.Same.{hash-same}
+use Rattle.scc_table.proofs.InstallingLemmas.{count-up}
+use Rattle.scc_table.proofs.Viewed.{not_waiting-flags, settings-seen, refused-seen, spilled-seen}
+use Rattle.scc_table.proofs.Begun.{begun, begun-lists, begun-same, exchanged}
+use Rattle.scc_table.proofs.Table.install.Goals as goal
+
+pub install-old-requires-clause-table : goal.install-old-requires-clause-table
+install-old-requires-clause-table g c =
+    let n = c.args.count in
+    let lawful : IsLawful (length (replicate n (empty_shelf {E = g.row.E.Denot}))) = inr (subst IsBucketCount (sym (length-replicate n (empty_shelf {E = g.row.E.Denot}))) c.requires.array) in
+    rw c.requires.empty (table-empty _ _ (replicate n empty_shelf) (empty-replicate g.row.E.Denot n) lawful)
+
+pub install-old-requires-clause-unique : goal.install-old-requires-clause-unique
+install-old-requires-clause-unique g c =
+    let n = c.args.count in
+    let none = flat-empty (replicate n (empty_shelf {E = g.row.E.Denot})) (empty-replicate g.row.E.Denot n) in
+    rw (c.requires.empty, none) (IsDistinct-nil g.E.Key.PartialEq.eq)
+
+pub destroy_empty-requires : goal.destroy_empty-requires
+destroy_empty-requires g c =
+    let t = c.self.inside in
+    let none = not_waiting-flags c.args.self.now c.self.invariant c.self.view_is c.requires.not_waiting in
+    let bare = nothing-owed _ t.current t.draining.waiting.items t.draining.array none c.self.invariant.arrays in
+    λ i l. rw c.replace-bare.ensures.value (all-bare t.draining.array bare i)
+
+pub invariant_of-self : goal.invariant_of-self
+invariant_of-self g c =
+    let r = c.requires in
+    let e = c.install-old.ensures in
+    let x = exchanged g.met.E.Key.Eq.laws (λ (s : Settings g.row.H.Denot) (k : g.row.E-Key.Denot). hash_of g.H.BuildHasher g.H.Hasher.Hasher s.hasher (g.E.Key.Hash.hash_input k)) c.self.invariant c.self.view_is r.not_waiting r.empty r.array r.some r.other e.lists e.settings e.spilled e.were e.table in
+    rw (c.replace-bare.ensures.after, r.flags) (begun x)
+
+pub returns : goal.returns
+returns g c =
+    let r = c.requires in
+    let e = c.install-old.ensures in
+    let x = exchanged g.met.E.Key.Eq.laws (λ (s : Settings g.row.H.Denot) (k : g.row.E-Key.Denot). hash_of g.H.BuildHasher g.H.Hasher.Hasher s.hasher (g.E.Key.Hash.hash_input k)) c.self.invariant c.self.view_is r.not_waiting r.empty r.array r.some r.other e.lists e.settings e.spilled e.were e.table in
+    let t = c.self.inside in
+    let cur = t.current in
+    let a = c.args.self.now in
+    let d = c.install-old.new.self in
+    let olds = c.install-old.result.0 in
+    let key = g.E.Keyed.key_of in
+    record {
+      lists = (
+          let outer = hash-same g.H.BuildHasher g.H.Hasher.Hasher g.E.Key.Hash.hash_input d a (settings-seen _ _ _ _ a c.self.view_is ∙ sym e.settings) in
+          rw (c.replace-bare.ensures.after, r.flags)
+          (subst (λ (h : g.row.E-Key.Denot → ℕ). IsRegrouped (λ z. h (key z)) c.args.count a (together (λ z. key_hash g.H.BuildHasher g.H.Hasher.Hasher g.E.Key.Hash.hash_input d (key z)) d (replicate c.args.count true) olds)) (sym outer) (begun-lists x)));
+      same = (rw (c.replace-bare.ensures.after, r.flags) (begun-same x));
+      waiting = (waiting-together _ c.install-old.new.self c.args.flags.items c.replace-bare.new.dest ∙ c.requires.flags);
+      pending = (pending-together _ c.install-old.new.self c.args.flags.items c.replace-bare.new.dest ∙ ap (count_by (λ w. w)) c.requires.flags ∙ count-up c.args.count);
+      noted = (refused-together _ c.install-old.new.self c.args.flags.items c.replace-bare.new.dest ∙ c.install-old.ensures.noted ∙ sym (refused-seen _ t.current t.draining.waiting.items t.draining.array c.args.self.now c.self.view_is));
+      bounded = (
+          let was = spilled-seen (λ (e : g.row.E.Denot). key_hash g.H.BuildHasher g.H.Hasher.Hasher g.E.Key.Hash.hash_input cur (g.E.Keyed.key_of e)) cur t.draining.waiting.items t.draining.array c.args.self.now c.self.view_is in
+          let nothing : overflow_of d ≡ 0 = c.install-old.ensures.spilled in
+          let over : overflow_in olds ≡ overflow_of cur = sym c.install-old.ensures.table.spilled ∙ c.install-old.ensures.overflowing in
+          let now : overflow_in c.replace-bare.new.dest ≡ overflow_in olds = ap (λ (z : List (Shelf g.row.E.Denot)). overflow_in z) c.replace-bare.ensures.after in
+          λ none.
+          let zero : overflow_of d + overflow_in c.replace-bare.new.dest ≡ 0 = omega (arith, was, nothing, over, now, none) in
+          spilled-together (λ e. key_hash g.H.BuildHasher g.H.Hasher.Hasher g.E.Key.Hash.hash_input d (g.E.Keyed.key_of e)) d c.args.flags.items c.replace-bare.new.dest ∙ zero);
+    }

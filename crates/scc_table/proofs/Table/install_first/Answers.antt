@@ -1,0 +1,133 @@
+use Rattle.std.specs.List.{IsDistinct}
+use Rattle.std.proofs.Common.{◌≡◌, ◌∙◌, ◌+◌, ◌*◌, ℕ, List, map, inl, sym, ap, subst, arith, rules}
+use Rattle.scc_contents.specs.Contents.{bucket_count, entries, key_hash, minimum_of, overflow_of, refused_of}
+use Rattle.scc_contents.specs.Sizes.{IsBucketCount, IsArraySize}
+use Rattle.scc_buckets.specs.Tables.{overflow_in}
+use Rattle.scc_table.specs.TwoArrays.{draining_of, IsTable, together}
+use Rattle.scc_table.proofs.Alone.{count-alone, entries-alone, nothing-owed, spilled-bare, spilled-together}
+use Rattle.scc_draining.proofs.Arriving.{IsDistinct-nil}
+use Rattle.scc_table.proofs.Firsts.{fields-first, first-grows, first-rests, no-flags, same-rests}
+use Rattle.scc_table.proofs.Joining.{refused-together, settings-together, waiting-together}
+use Rattle.scc_table.proofs.Same.{any-err, hash-same}
+use Rattle.scc_table.proofs.Short.{first-resized}
+use Rattle.scc_table.proofs.Viewed.{count-seen, refused-seen, settings-seen}
+use Rattle.scc_table.proofs.Table.install_first.Goals as goal
+
+pub install_first-requires : goal.install_first-requires
+install_first-requires g c =
+    let t = c.self.inside in
+    sym (count-seen _ t.current t.draining.waiting.items t.draining.array c.args.self.now c.self.view_is c.self.invariant.arrays.flags) ∙ c.requires
+
+pub invariant_of-self-2 : goal.invariant_of-self-2
+invariant_of-self-2 g c =
+    let t = c.self.inside in
+    let cur = t.current in
+    let ws = t.draining.waiting.items in
+    let olds = t.draining.array in
+    let a = c.args.self.now in
+    let new = c.install_first.new.self in
+    let inv = c.self.invariant in
+    let hk = key_hash g.H.BuildHasher g.H.Hasher.Hasher g.E.Key.Hash.hash_input cur in
+    let hash = λ (e : g.row.E.Denot). hk (g.E.Keyed.key_of e) in
+    let view = c.self.view_is in
+    let count = count-seen hash cur ws olds a view inv.arrays.flags in
+    let none = no-flags ws (bucket_count cur) inv.arrays.flags (sym count ∙ c.requires) in
+    let same = hash-same g.H.BuildHasher g.H.Hasher.Hasher g.E.Key.Hash.hash_input cur new c.install_first.ensures.settings in
+    subst (λ (h : g.row.E-Key.Denot → ℕ). IsTable g.E.Key.PartialEq.eq g.E.Keyed.key_of h new (draining_of t.draining) t.skipped) (sym same)
+    (fields-first g.E.Key.PartialEq.eq g.E.Keyed.key_of hk cur new (draining_of t.draining) t.skipped inv none c.install_first.ensures.settings c.install_first.ensures.still c.in_ok-install_first.ensures.resized.bounded)
+
+pub returns : goal.returns
+returns g c =
+    let t = c.self.inside in
+    let cur = t.current in
+    let ws = t.draining.waiting.items in
+    let olds = t.draining.array in
+    let a = c.args.self.now in
+    let new = c.install_first.new.self in
+    let inv = c.self.invariant in
+    let hk = key_hash g.H.BuildHasher g.H.Hasher.Hasher g.E.Key.Hash.hash_input cur in
+    let hash = λ (e : g.row.E.Denot). hk (g.E.Keyed.key_of e) in
+    let view = c.self.view_is in
+    let count = count-seen hash cur ws olds a view inv.arrays.flags in
+    let none = no-flags ws (bucket_count cur) inv.arrays.flags (sym count ∙ c.requires) in
+    let later = λ (e : g.row.E.Denot). key_hash g.H.BuildHasher g.H.Hasher.Hasher g.E.Key.Hash.hash_input new (g.E.Keyed.key_of e) in
+    let d = together later new ws olds in
+    let still = entries-alone later new ws olds none ∙ c.install_first.ensures.still in
+    let bare = ap entries (sym view) ∙ entries-alone hash cur ws olds none ∙ c.install_first.ensures.entries in
+    let kept = settings-seen hash cur ws olds a view in
+    let settings = settings-together later new ws olds ∙ c.install_first.ensures.settings ∙ sym kept in
+    let buckets = count-alone later new ws olds none in
+    let array = subst IsBucketCount (sym buckets) c.in_ok-install_first.ensures.array in
+    let minimum = ap (λ s. s.asked + s.reserved) (sym kept) in
+    let size = subst (λ m. IsArraySize m (32 * bucket_count d)) minimum (subst (λ n. IsArraySize (minimum_of cur) (32 * n)) (sym buckets) c.in_ok-install_first.ensures.size) in
+    record {
+      rests = (first-rests a d c.requires bare still settings array);
+      growth = (first-grows a d c.requires size);
+      noted = (refused-together later new ws olds ∙ c.install_first.ensures.noted ∙ sym (refused-seen hash cur ws olds a view));
+      first = (record { made = λ z. size });
+      array = (omega (arith, array.least));
+      bare = still;
+      waiting = (waiting-together later new ws olds ∙ none);
+      refused = (search rules);
+      resized = (
+          let low : overflow_of new ≡ 0 = c.in_ok-install_first.ensures.resized.bounded in
+          let nothing = spilled-bare olds (nothing-owed hash cur ws olds none inv.arrays) in
+          let zero : overflow_of new + overflow_in olds ≡ 0 = omega (arith, low, nothing) in
+          first-resized _ a d bare still settings array (spilled-together later new ws olds ∙ zero));
+      same = (search rules);
+      unique = (subst (λ (es : List g.row.E.Denot). IsDistinct g.E.Key.PartialEq.eq (map g.E.Keyed.key_of es)) (sym still) (IsDistinct-nil g.E.Key.PartialEq.eq));
+    }
+
+pub invariant_of-self : goal.invariant_of-self
+invariant_of-self g c =
+    rw c.in_err-install_first.ensures.same c.self.invariant
+
+pub returns-in_err-install_first : goal.returns-in_err-install_first
+returns-in_err-install_first g c =
+    let t = c.self.inside in
+    let cur = t.current in
+    let ws = t.draining.waiting.items in
+    let olds = t.draining.array in
+    let a = c.args.self.now in
+    let new = c.install_first.new.self in
+    let inv = c.self.invariant in
+    let hk = key_hash g.H.BuildHasher g.H.Hasher.Hasher g.E.Key.Hash.hash_input cur in
+    let hash = λ (e : g.row.E.Denot). hk (g.E.Keyed.key_of e) in
+    let view = c.self.view_is in
+    let count = count-seen hash cur ws olds a view inv.arrays.flags in
+    let none = no-flags ws (bucket_count cur) inv.arrays.flags (sym count ∙ c.requires) in
+    let later = λ (e : g.row.E.Denot). key_hash g.H.BuildHasher g.H.Hasher.Hasher g.E.Key.Hash.hash_input new (g.E.Keyed.key_of e) in
+    let still = entries-alone later new ws olds none ∙ c.install_first.ensures.still in
+    record {
+      rests = (
+          let d = together (λ e. key_hash g.H.BuildHasher g.H.Hasher.Hasher g.E.Key.Hash.hash_input c.install_first.new.self (g.E.Keyed.key_of e)) c.install_first.new.self t.draining.waiting.items t.draining.array in
+          let same : d ≡ c.args.self.now = rw c.in_err-install_first.ensures.same c.self.view_is in
+          inl (same-rests c.args.self.now d same).0);
+      growth = (
+          let d = together (λ e. key_hash g.H.BuildHasher g.H.Hasher.Hasher g.E.Key.Hash.hash_input c.install_first.new.self (g.E.Keyed.key_of e)) c.install_first.new.self t.draining.waiting.items t.draining.array in
+          let same : d ≡ c.args.self.now = rw c.in_err-install_first.ensures.same c.self.view_is in
+          (same-rests c.args.self.now d same).1);
+      noted = (
+          let d = together (λ e. key_hash g.H.BuildHasher g.H.Hasher.Hasher g.E.Key.Hash.hash_input c.install_first.new.self (g.E.Keyed.key_of e)) c.install_first.new.self t.draining.waiting.items t.draining.array in
+          let same : d ≡ c.args.self.now = rw c.in_err-install_first.ensures.same c.self.view_is in
+          ap refused_of same);
+      first = (search rules);
+      array = (search rules);
+      bare = (
+          let d = together later new ws olds in
+          still);
+      waiting = (
+          let d = together later new ws olds in
+          waiting-together later new ws olds ∙ none);
+      refused = (
+          let d = together (λ e. key_hash g.H.BuildHasher g.H.Hasher.Hasher g.E.Key.Hash.hash_input c.install_first.new.self (g.E.Keyed.key_of e)) c.install_first.new.self t.draining.waiting.items t.draining.array in
+          let same : d ≡ c.args.self.now = rw c.in_err-install_first.ensures.same c.self.view_is in
+          any-err c.from_residual.result (same-rests c.args.self.now d same).0);
+      resized = (search rules);
+      same = (
+          let d = together (λ e. key_hash g.H.BuildHasher g.H.Hasher.Hasher g.E.Key.Hash.hash_input c.install_first.new.self (g.E.Keyed.key_of e)) c.install_first.new.self t.draining.waiting.items t.draining.array in
+          let same : d ≡ c.args.self.now = rw c.in_err-install_first.ensures.same c.self.view_is in
+          any-err c.from_residual.result same);
+      unique = (
+          subst (λ (es : List g.row.E.Denot). IsDistinct g.E.Key.PartialEq.eq (map g.E.Keyed.key_of es)) (sym still) (IsDistinct-nil g.E.Key.PartialEq.eq));
+    }
