@@ -15,7 +15,7 @@ pub trait Guard {
 
     ghost with_inner: { Self → Self.Inner → Self };
 
-    ghost inner_law: { (s : Self) (x : Self.Inner) → kept (with_inner s x) ≡ x };
+    ghost inner_law: { (s : Self) (x : Self.Inner) → inner (with_inner s x) ≡ x };
 
     /// The value.
     fn look(&self) -> &Self::Inner

@@ -5,6 +5,6 @@
 mod cells;
 mod row;
 
+pub use cells::Cells;
 #[doc(hidden)]
 pub use row::{Right, Row, Start};
-pub use slots::Cells;
