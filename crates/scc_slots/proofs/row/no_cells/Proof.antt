@@ -26,8 +26,8 @@ use Rattle.scc_slots.specs.contracts.row.Row as Row
 use Rattle.scc_slots.specs.contracts.row.no_cells as f
 use Rattle.scc_slots.specs.contracts.row.no_cells.Key.{name as #no_cells}
 
-pub no_places_spec : {M : Type 1} → statement M
-no_places_spec 𝓤 𝓛 𝓜 𝓡 wired X L =
+pub no_cells_spec : {M : Type 1} → statement M
+no_cells_spec 𝓤 𝓛 𝓜 𝓡 wired X L =
     let E : El = record { row = X; laws = L } in
     let T : Ended = f.ended X in
     let W : RattleType = Row.the_row (R E) in
