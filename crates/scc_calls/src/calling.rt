@@ -96,13 +96,13 @@ pub trait Calls: Sized {
     /// wasn't marked before.
     fn prepare_call(&mut self, call: &Self::Call) -> Result<(Self::Reply, Self::Reply), Refused>
         requires clones { ClonesEqual Self.Reply.is_clone Self.Reply.eq }
-        ensures { PreparesCallByRule setting state size key_of answer resizes may_refuse adds is_prepared is_marked
-            Self.Reply.is_infallible self.old call.now result self.new };
+        ensures { PreparesCallByRule setting state size key_of answer resizes may_refuse adds is_prepared
+            Self.Reply.is_infallible is_marked self.old call.now result self.new };
 
     /// Makes the call.
     fn call(&mut self, call: Self::Call) -> Result<Self::Reply, Refused>
         requires clones { ClonesEqual Self.Reply.is_clone Self.Reply.eq }
-        ensures { CallsByRule setting state size key_of answer resizes may_refuse adds is_prepared is_marked
+        ensures { CallsByRule setting state size key_of answer resizes may_refuse adds is_prepared
             Self.Reply.is_infallible moves Self.Reply.eq self.old call result self.new };
 
     /// The number of buckets, 0 where there is no array.

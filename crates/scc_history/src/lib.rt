@@ -12,7 +12,6 @@ mod matching;
 mod order;
 mod recording;
 
-use crate::log::{Log, Receipt};
 use crate::recording::{record_call, record_refused};
 pub use log::{Log, Receipt};
 pub use matching::{first_difference, records_by_pass};

@@ -34,17 +34,6 @@ pub record IsOutput {S C R X : Type 0} (moves : S → C → R → S → Type 0) 
   pub rising : IsSorted order shown
   pub whole : text ≡ output_of reply content (replies ∷ []) shown (length calls)
 
--- the same of a container that is left, with its state and what it shows
-pub record IsOutputOf {P S C R X : Type 0} (state : P → S) (items : P → List X) (moves : S → C → R → S → Type 0) (resizes : S → ℕ → S → Type 0) (start : S) (order : X → X → Ordering) (reply : R → List ℕ) (content : X → List ℕ) (calls : List C) (text : List ℕ) : Type 0 where
-  pub replies : List R
-  pub last : P
-  pub shown : List X
-  pub run : IsRun moves resizes start calls replies (state last)
-  pub all : length replies ≡ length calls
-  pub same : IsPermutation (items last) shown
-  pub rising : IsSorted order shown
-  pub whole : text ≡ output_of reply content (replies ∷ []) shown (length calls)
-
 -- the output of a run of these calls of a map from no pairs
 abbrev pub MapOutput : List (MapCall ℕ ℕ) → List ℕ → Type 0
 MapOutput calls text = (setting : Setting Same) × IsOutput (MapMoves nat_eq) (ResizesTo setting) ([], 0) (λ s. s.0) pair_cmp reply_line content_line calls text

@@ -21,9 +21,7 @@ mod setups;
 mod whole;
 
 use crate::closing::StripeRoom;
-use crate::counted::{Count, CountedStripe, PartCount};
-use crate::passes::Pass;
-use crate::setups::Site;
+use crate::counted::{Count, PartCount};
 pub use closing::Closed;
 pub use counted::CountedStripe;
 pub use finishing::{FinishError, Finished, Unfinished};

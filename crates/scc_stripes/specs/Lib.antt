@@ -1,4 +1,4 @@
 pub mod Minimums
-pub mod OpenStripes
+pub mod Parts
 pub mod Seats
 pub mod Stripes

@@ -18,6 +18,10 @@ module _ {O H : Type 0} where
   abbrev pub part_bits : OpenStripes O H → ℕ
   part_bits p = p.bits
 
+  -- the slots that all parts together were asked for
+  abbrev pub part_slots : OpenStripes O H → ℕ
+  part_slots p = p.slots
+
   -- the owner of the hasher
   abbrev pub parts_owner : OpenStripes O H → Arc H Global
   parts_owner p = p.hasher

@@ -11,8 +11,7 @@ pub mod parts;
 pub mod seats;
 pub mod shares;
 
-use crate::parts::OpenStripes;
-use crate::shares::{BookReservation, ReserveBook, share};
+use crate::shares::share;
 pub use parts::OpenStripes;
 use scc_buckets::place::bucket_index;
 use scc_common::MakeError;

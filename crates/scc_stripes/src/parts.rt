@@ -25,7 +25,7 @@ pub struct OpenStripes<O, H> {
 }
 
 impl<O, H> OpenStripes<O, H> {
-    ghost use Rattle.scc_stripes.specs.Parts.{part_bits, part_count, parts_hasher, parts_of, parts_owner};
+    ghost use Rattle.scc_stripes.specs.Parts.{part_bits, part_count, part_slots, parts_hasher, parts_of, parts_owner};
     ghost use Rattle.scc_stripes.specs.Stripes.{stripe_bits, stripes_hasher};
 
     /// As many empty containers as so many bits can number, each with its share of the slots and of the maximum.
@@ -43,6 +43,7 @@ impl<O, H> OpenStripes<O, H> {
         requires slots { slots ≤ 2 ^ 63 }
         requires maximum { maximum ≤ 2 ^ 63 }
         ensures bits { IfOk result (λ p. part_bits p ≡ bits) }
+        ensures slots { IfOk result (λ p. part_slots p ≡ slots) }
         ensures hasher { IfOk result (λ p. parts_hasher p ≡ arc_value hasher) }
     {
         let count = 1usize << bits;
@@ -81,6 +82,7 @@ impl<O, H> OpenStripes<O, H> {
         requires part { part < part_count self.old }
         requires callable { F.IsAlwaysCallable f }
         ensures hasher { parts_owner self.new ≡ parts_owner self.old }
+        ensures slots { part_slots self.new ≡ part_slots self.old }
         ensures change { (old : O) × (new : O) × (slice_get (parts_of self.old) part ≡ Some old)
             × FnOnceReturnsAtMut F.FnOnce f old result new
             × (parts_of self.new ≡ slice_set (parts_of self.old) part new) }
