@@ -107,7 +107,7 @@ impl<C: Calls, L: Ledger, M: Site<C::Hasher>> Recorded<C, L, M> {
     /// Makes a call with a key, in the stripe of its key, whose number its receipt bears. Any thread may call it, and
     /// may wait for that stripe's lock.
     ///
-    /// `StripeRoom` comes where memory for the record or the receipt was refused, or no stamp is left; then nothing was
+    /// `Room` comes where memory for the record or the receipt was refused, or no stamp is left; then nothing was
     /// touched. `Container` comes only if the container may refuse the call for memory, or a clone of its reply may be
     /// refused.
     pub fn call<R: Wait>(

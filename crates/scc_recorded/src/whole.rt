@@ -15,7 +15,7 @@ use std::sync::ledger::Ledger;
 impl<C: WholeCalls, L: Ledger, M: Site<C::Hasher>> Recorded<C, L, M> {
     /// Clears all stripes, stripe 0 first, each with a call, a stamp and a receipt of its own.
     ///
-    /// The only error is `StripeRoom`, where a stripe has no room for the record or the receipt, or no stamp is left; then
+    /// The only error is `Room`, where a stripe has no room for the record or the receipt, or no stamp is left; then
     /// those before it are cleared and recorded, and their receipts stand in the pass.
     pub fn clear<R: Wait>(&self, rt: &R, pass: &mut Pass<C, L>) -> Result<(), CallError>
         requires calls { ClonesEqual C.Call.is_clone C.Call.eq }
@@ -40,7 +40,7 @@ impl<C: WholeCalls, L: Ledger, M: Site<C::Hasher>> Recorded<C, L, M> {
     /// The sum of the entries that the stripes hold, counted one after another, each with a call, a stamp and a receipt
     /// of its own. It stops at the greatest number.
     ///
-    /// The only error is `StripeRoom`, where a stripe has no room for the record or the receipt, or no stamp is left; then
+    /// The only error is `Room`, where a stripe has no room for the record or the receipt, or no stamp is left; then
     /// those before it are counted and recorded, and their receipts stand in the pass.
     pub fn len<R: Wait>(&self, rt: &R, pass: &mut Pass<C, L>) -> Result<usize, CallError>
         requires calls { ClonesEqual C.Call.is_clone C.Call.eq }
