@@ -4,5 +4,5 @@ pub mod bucket;
 
 pub use scc_array::tags;
 pub use scc_buckets::Place;
-pub use scc_entry::{Keyed, Made, SharedVersion, Valued, Version};
+pub use scc_common::{Keyed, Made, SharedVersion, Valued, Version};
 pub use scc_table::Table;

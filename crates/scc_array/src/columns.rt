@@ -13,7 +13,7 @@ mod lookup;
 
 use crate::sifting::{close_gap, pour, sift};
 use crate::tags::{lowest_bit, tag_mask, without_lowest_bit};
-use scc_entry::Keyed;
+use scc_common::Keyed;
 use scc_slots::Cells;
 use std::alloc::{AllocError, Global};
 use std::marker::Model;

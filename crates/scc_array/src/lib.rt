@@ -17,7 +17,7 @@ mod write;
 
 use crate::lists::{flag_of, open_lists, push_to, raise};
 pub use columns::Columns;
-use scc_entry::Keyed;
+use scc_common::Keyed;
 use std::alloc::{AllocError, Global};
 use std::marker::Model;
 

@@ -7,7 +7,7 @@ ghost use Rattle.std.specs.Option.{option_copied};
 ghost use Rattle.std.specs.Prelude.{◌≡◌, ◌<◌, length, MatchOption, None, ◌≤◌, Some, slice_get};
 
 use crate::{Array, find_in};
-use scc_entry::Keyed;
+use scc_common::Keyed;
 
 impl<E: Keyed> Array<E>
 where

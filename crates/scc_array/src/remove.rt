@@ -8,7 +8,7 @@ ghost use Rattle.std.specs.Prelude.{◌≡◌, [], ◌<◌, length, slice_set, s
 use crate::Array;
 pub use crate::columns::Columns;
 use crate::lists::destroy_lists;
-use scc_entry::Keyed;
+use scc_common::Keyed;
 
 impl<E> Array<E> {
     /// Takes an entry out. The entries after it in the places, or in the list past them, move up by one.

@@ -5,7 +5,7 @@ ghost use Rattle.std.specs.Prelude.{◌≡◌, ◌≤◌, ◌<◌, ◌+◌, ◌^
 
 use crate::Array;
 use crate::lists::{open_lists, push_to, raise, reserve_in};
-use scc_entry::Made;
+use scc_common::Made;
 use std::alloc::{AllocError, Global};
 
 impl<E> Array<E> {

@@ -9,7 +9,7 @@ ghost use Rattle.std.specs.List.{find, position};
 ghost use Rattle.std.specs.Prelude.{◌≡◌, ◌<◌, length, slice_get, None, Some, slice_set};
 
 use crate::Array;
-use scc_entry::Valued;
+use scc_common::Valued;
 use std::mem;
 
 impl<E: Valued> Array<E>

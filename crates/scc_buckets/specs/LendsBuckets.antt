@@ -6,7 +6,7 @@ use Rattle.std.specs.declared.hash.BuildHasher as builder
 use Rattle.scc_contents.specs.Contents.{Contents}
 use Rattle.scc_buckets.specs.Writes.{with_write_at_spot}
 use Rattle.scc_buckets.specs.contracts.Buckets.{the_row}
-use Rattle.scc_entry.specs.declared.keyed.Keyed as keyed
+use Rattle.scc_common.specs.declared.entry.Keyed as keyed
 use Rattle.scc_buckets.specs.declared.place.Place.{Place}
 
 module _ (E H K T V : RattleType) (by : keyed.Ghosts E.Denot K.Denot) (key : HashMembers K.Denot) (build : builder.Ghosts H.Denot T.Denot) (feed : hasher.Ghosts T.Denot) (put : E.Denot → V.Denot → E.Denot) where

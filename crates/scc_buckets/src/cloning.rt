@@ -9,8 +9,7 @@ use crate::Buckets;
 use crate::make::fresh_buckets;
 use crate::place::bucket_index;
 use scc_array::Array;
-use scc_common::MakeError;
-use scc_entry::Keyed;
+use scc_common::{Keyed, MakeError};
 use std::hash::{BuildHasher, Hash};
 
 impl<E: Keyed, H: BuildHasher> Buckets<E, H>

@@ -7,7 +7,7 @@ ghost use Rattle.std.specs.Prelude.{◌≡◌, ◌≤◌, ◌<◌, ◌+◌, ◌-
 
 use crate::Buckets;
 use crate::place::{Place, tag};
-use scc_entry::{Keyed, Made};
+use scc_common::{Keyed, Made};
 use std::hash::{BuildHasher, Hash};
 
 /// How many entries may lie in the overflow lists of all buckets: fewer than this.

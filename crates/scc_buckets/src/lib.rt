@@ -24,7 +24,7 @@ mod write;
 use crate::place::{bucket_index, tag};
 pub use place::Place;
 use scc_array::Array;
-use scc_entry::Keyed;
+use scc_common::Keyed;
 use std::hash::{BuildHasher, Hash};
 use std::marker::Model;
 

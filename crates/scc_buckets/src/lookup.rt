@@ -9,7 +9,7 @@ ghost use Rattle.std.specs.Prelude.{◌≡◌, MatchOption, Some, None, ◌<◌,
 
 use crate::Buckets;
 use crate::place::{Place, bucket_index, tag};
-use scc_entry::Keyed;
+use scc_common::Keyed;
 use std::hash::{BuildHasher, Hash};
 
 impl<E: Keyed, H: BuildHasher> Buckets<E, H>

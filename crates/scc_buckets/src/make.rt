@@ -9,8 +9,7 @@ ghost use Rattle.std.specs.Prelude.{◌≡◌, ◌<◌, ◌≤◌, ◌+◌, ◌*
 use crate::Buckets;
 use crate::sizes::buckets_for;
 use scc_array::Array;
-use scc_common::MakeError;
-use scc_entry::Keyed;
+use scc_common::{Keyed, MakeError};
 use std::alloc::{AllocError, Global};
 use std::hash::{BuildHasher, Hash};
 

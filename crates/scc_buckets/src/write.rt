@@ -11,7 +11,7 @@ ghost use Rattle.std.specs.Prelude.{◌≡◌, ◌<◌, Some, None, true, slice_
 
 use crate::Buckets;
 use crate::place::{Place, bucket_index, tag};
-use scc_entry::{Keyed, Valued};
+use scc_common::{Keyed, Valued};
 use std::hash::{BuildHasher, Hash};
 
 impl<E: Keyed, H: BuildHasher> Buckets<E, H>

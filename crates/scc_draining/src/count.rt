@@ -5,7 +5,7 @@ ghost use Rattle.std.specs.Prelude.{◌≡◌, ◌<◌, ◌≤◌, length, take,
 
 use scc_buckets::place::bucket_index;
 use scc_buckets::{Buckets, Place};
-use scc_entry::Keyed;
+use scc_common::Keyed;
 use std::hash::{BuildHasher, Hash};
 
 /// How many of the first entries of a bucket belong to the target among so many buckets.

@@ -7,8 +7,7 @@ ghost use Rattle.std.specs.Prelude.{◌≡◌, ◌≤◌, ◌^◌, true, replica
 
 use scc_array::Array;
 use scc_buckets::Buckets;
-use scc_common::MakeError;
-use scc_entry::Keyed;
+use scc_common::{Keyed, MakeError};
 use std::alloc::{AllocError, Global};
 use std::hash::{BuildHasher, Hash};
 

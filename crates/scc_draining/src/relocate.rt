@@ -16,7 +16,7 @@ use crate::count::left_of;
 use scc_array::Array;
 use scc_buckets::Buckets;
 use scc_buckets::place::{bucket_index, tag};
-use scc_entry::Keyed;
+use scc_common::Keyed;
 use std::alloc::AllocError;
 use std::hash::{BuildHasher, Hash};
 

@@ -10,7 +10,7 @@ ghost use Rattle.std.specs.Prelude.{◌≡◌, ◌<◌, ◌≤◌, ◌⊎◌, �
 use scc_array::Array;
 use scc_buckets::Buckets;
 use scc_buckets::place::bucket_index;
-use scc_entry::Keyed;
+use scc_common::Keyed;
 use std::hash::{BuildHasher, Hash};
 
 /// The end of a range, or the number after `first` where it would end before.

@@ -29,9 +29,8 @@ mod walk;
 mod whole;
 
 pub use borrowed::{Entry, OccupiedEntry, VacantEntry};
-use scc_common::{InsertError, MakeError};
+use scc_common::{InsertError, MakeError, SharedVersion, Version};
 use scc_contents::Hashes;
-use scc_entry::{SharedVersion, Version};
 pub use scc_snapshot::Iter;
 use scc_table::Table;
 use std::hash::{BuildHasher, BuildHasherDefault, FoldHasher, Hash};

@@ -11,8 +11,8 @@ ghost use Rattle.std.specs.Prelude.{◌≡◌, ◌≢◌, ◌<◌, ◌*◌, leng
 
 pub use crate::borrowed::{Entry, OccupiedEntry, VacantEntry};
 use scc_buckets::Place;
+use scc_common::SharedVersion;
 use scc_contents::Hashes;
-use scc_entry::SharedVersion;
 pub use scc_snapshot::Iter;
 use std::hash::{BuildHasher, Hash};
 

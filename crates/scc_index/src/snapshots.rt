@@ -4,8 +4,7 @@ ghost use Rattle.std.specs.Arc.{arc_value};
 ghost use Rattle.std.specs.Prelude.{◌≡◌, ◌++◌, ℕ, IfOk, OnOk, OnErr, map, take};
 
 use crate::Owned;
-use scc_common::MakeError;
-use scc_entry::Version;
+use scc_common::{MakeError, Version};
 use scc_snapshot::Iter;
 use std::hash::{BuildHasher, Hash};
 use std::sync::Arc;

@@ -11,8 +11,7 @@ mod walks;
 mod whole;
 
 use scc_buckets::sizes::slots_for;
-use scc_common::{MakeError, Shared};
-use scc_entry::Version;
+use scc_common::{MakeError, Shared, Version};
 use scc_index::locked::{Entry, OccupiedEntry, VacantEntry};
 use scc_index::{Iter, Owned};
 use scc_stripes::Striped;

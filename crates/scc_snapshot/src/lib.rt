@@ -5,8 +5,7 @@ ghost use Rattle.std.specs.Prelude.{◌≡◌, IfOk, map};
 ghost use Rattle.std.specs.Arc.{arc_value};
 ghost use Rattle.std.specs.Iterator.{YieldsFirstBy, item_count};
 
-use scc_common::MakeError;
-use scc_entry::Version;
+use scc_common::{MakeError, Version};
 use std::iter::FusedIterator;
 use std::marker::Model;
 use std::sync::Arc;

@@ -19,7 +19,7 @@ mod walk;
 pub use resize::reserve::Reservation;
 use scc_array::Array;
 use scc_buckets::Buckets;
-use scc_entry::Keyed;
+use scc_common::Keyed;
 use std::hash::{BuildHasher, Hash};
 use std::marker::Model;
 

@@ -8,9 +8,8 @@ ghost use Rattle.std.specs.Prelude.{◌≡◌, ◌≤◌, ◌<◌, [], false, If
 use crate::{Draining, Table};
 use scc_array::Array;
 use scc_buckets::Buckets;
-use scc_common::{MakeError, Shared};
+use scc_common::{Keyed, MakeError, Shared};
 use scc_draining::insert_clones_of;
-use scc_entry::Keyed;
 use std::alloc::Global;
 use std::hash::{BuildHasher, Hash};
 use std::sync::Arc;

@@ -4,7 +4,7 @@ ghost use Rattle.std.specs.Prelude.{◌≡◌, nat_eq, Some, IfOk, IfErr, OnOk, 
 ghost use Rattle.scc_contents.specs.Contents.{entries};
 ghost use Rattle.scc_contents.specs.Pairs.{find, FindsInstead};
 
-use scc_entry::Version;
+use scc_common::Version;
 use scc_index::Owned;
 use std::sync::Arc;
 

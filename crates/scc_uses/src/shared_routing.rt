@@ -4,8 +4,7 @@ ghost use Rattle.std.specs.Arc.{arc_value};
 ghost use Rattle.scc_index.specs.Entries.{Memory};
 
 use crate::routing::Route;
-use scc_common::{InsertError, MakeError};
-use scc_entry::Version;
+use scc_common::{InsertError, MakeError, Version};
 use scc_index::locked::Entry;
 use scc_shared_index::HashIndex;
 use std::alloc::Global;

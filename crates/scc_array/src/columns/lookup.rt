@@ -7,7 +7,7 @@ ghost use Rattle.std.specs.Prelude.{◌≡◌, ◌<◌, length, MatchOption, Non
 
 use crate::columns::Columns;
 use crate::tags::{lowest_bit, without_lowest_bit};
-use scc_entry::Keyed;
+use scc_common::Keyed;
 
 impl<E: Keyed> Columns<E>
 where

@@ -7,7 +7,7 @@ ghost use Rattle.std.specs.Prelude.{◌≡◌, ◌<◌, ◌^◌, drop, length, t
 
 use crate::Buckets;
 use scc_array::Array;
-use scc_entry::SharedVersion;
+use scc_common::SharedVersion;
 use std::hash::{BuildHasher, Hash};
 
 /// Calls `f` on the pairs of a bucket's versions past its places in turn, until its first false. The answer is false

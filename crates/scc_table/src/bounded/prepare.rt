@@ -5,7 +5,7 @@ ghost use Rattle.scc_table.specs.Growths.{DropsMarkWithin, PreparesWithin};
 ghost use Rattle.std.specs.Prelude.{◌≤◌, ◌<◌, ◌^◌, false};
 
 use crate::Table;
-use scc_entry::Keyed;
+use scc_common::Keyed;
 use std::alloc::AllocError;
 use std::hash::{BuildHasher, Hash};
 

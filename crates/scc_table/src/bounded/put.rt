@@ -9,7 +9,7 @@ ghost use Rattle.std.specs.List.{filter, position};
 ghost use Rattle.std.specs.Prelude.{◌≡◌, ◌==◌, ◌<◌, false, drop, None, not, length, Some, slice_get};
 
 use crate::Table;
-use scc_entry::Keyed;
+use scc_common::Keyed;
 use std::hash::{BuildHasher, Hash};
 
 impl<E: Keyed, H: BuildHasher> Table<E, H>

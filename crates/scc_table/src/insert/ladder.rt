@@ -9,8 +9,8 @@ ghost use Rattle.std.specs.Prelude.{◌≡◌, ◌<◌, ◌+◌, false, None};
 
 use crate::Table;
 use scc_buckets::Place;
+use scc_common::Keyed;
 use scc_draining::is_overflow_full;
-use scc_entry::Keyed;
 use std::hash::{BuildHasher, Hash};
 
 impl<E: Keyed, H: BuildHasher> Table<E, H>

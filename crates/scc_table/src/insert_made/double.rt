@@ -14,8 +14,8 @@ use crate::Table;
 use scc_array::Array;
 use scc_buckets::Place;
 use scc_buckets::place::bucket_index;
+use scc_common::{Keyed, Made};
 use scc_draining::count_bound;
-use scc_entry::{Keyed, Made};
 use std::hash::{BuildHasher, Hash};
 
 impl<E: Keyed, H: BuildHasher> Table<E, H>

@@ -11,8 +11,8 @@ ghost use Rattle.std.specs.Prelude.{◌≡◌, ◌<◌, false, None};
 use crate::Table;
 use scc_buckets::Place;
 use scc_buckets::sizes::MOST_BUCKETS;
+use scc_common::{Keyed, Made};
 use scc_draining::{fresh_waiting, is_overflow_full};
-use scc_entry::{Keyed, Made};
 use std::hash::{BuildHasher, Hash};
 
 impl<E: Keyed + Made, H: BuildHasher> Table<E, H>

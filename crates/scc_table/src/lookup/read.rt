@@ -6,8 +6,8 @@ ghost use Rattle.std.specs.Prelude.{◌≡◌, ◌≤◌, ◌<◌, ◌^◌, ◌�
 
 use crate::Table;
 use scc_buckets::Place;
+use scc_common::{Keyed, SharedVersion, Version};
 use scc_draining::{count_all, sources};
-use scc_entry::{Keyed, SharedVersion, Version};
 use std::hash::{BuildHasher, Hash};
 
 impl<E: Keyed, H: BuildHasher> Table<E, H>

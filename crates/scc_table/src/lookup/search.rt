@@ -8,7 +8,7 @@ ghost use Rattle.std.specs.Prelude.{◌≡◌, ◌<◌, ◌≤◌, ◌^◌, None
 use crate::Table;
 use scc_buckets::Place;
 use scc_buckets::place::{bucket_index, tag};
-use scc_entry::Keyed;
+use scc_common::Keyed;
 use std::hash::{BuildHasher, Hash};
 
 /// No array has a bucket of that number.

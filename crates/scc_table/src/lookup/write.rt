@@ -11,7 +11,7 @@ ghost use Rattle.std.specs.Prelude.{◌≡◌, Some, true, slice_get};
 use crate::Table;
 use crate::lookup::search::NOWHERE;
 use scc_buckets::Place;
-use scc_entry::{Keyed, Valued};
+use scc_common::{Keyed, Valued};
 use std::hash::{BuildHasher, Hash};
 
 impl<E: Keyed, H: BuildHasher> Table<E, H>

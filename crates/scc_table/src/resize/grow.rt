@@ -6,7 +6,7 @@ ghost use Rattle.std.specs.Prelude.{◌≡◌, ◌<◌};
 
 use crate::Table;
 use scc_buckets::sizes::MOST_BUCKETS;
-use scc_entry::Keyed;
+use scc_common::Keyed;
 use std::alloc::AllocError;
 use std::hash::{BuildHasher, Hash};
 

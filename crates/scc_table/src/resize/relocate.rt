@@ -8,8 +8,8 @@ ghost use Rattle.std.specs.Prelude.{◌≡◌, ◌<◌, ◌+◌, false, ◌≤�
 
 use crate::Table;
 use scc_array::Array;
+use scc_common::Keyed;
 use scc_draining::move_target;
-use scc_entry::Keyed;
 use std::alloc::AllocError;
 use std::hash::{BuildHasher, Hash};
 

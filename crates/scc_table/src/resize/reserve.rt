@@ -6,7 +6,7 @@ ghost use Rattle.std.specs.Prelude.{◌≡◌, ◌≤◌, ◌<◌, ◌+◌, ◌^
 
 use crate::Table;
 use scc_buckets::sizes::{GREATEST_CAPACITY, buckets_for};
-use scc_entry::Keyed;
+use scc_common::Keyed;
 use std::hash::{BuildHasher, Hash};
 use std::marker::Model;
 

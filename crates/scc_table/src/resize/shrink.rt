@@ -6,7 +6,7 @@ ghost use Rattle.std.specs.Prelude.{◌≤◌, ◌*◌, length};
 
 use crate::Table;
 use scc_buckets::sizes::buckets_for;
-use scc_entry::Keyed;
+use scc_common::Keyed;
 use std::hash::{BuildHasher, Hash};
 
 impl<E: Keyed, H: BuildHasher> Table<E, H>

@@ -4,7 +4,7 @@ ghost use Rattle.scc_contents.specs.Walks.{CalledOn, CallableWhile, Walks};
 ghost use Rattle.std.specs.Prelude.{true};
 
 use crate::Table;
-use scc_entry::SharedVersion;
+use scc_common::SharedVersion;
 use std::hash::{BuildHasher, Hash};
 
 impl<K: Eq + Hash, V, H: BuildHasher> Table<(K, V), H> {

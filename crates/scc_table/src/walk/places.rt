@@ -9,8 +9,8 @@ ghost use Rattle.std.specs.Prelude.{◌≡◌, ◌≤◌, ◌<◌, ◌^◌, ◌+
 use crate::Table;
 use scc_buckets::Place;
 use scc_buckets::place::bucket_index;
+use scc_common::Keyed;
 use scc_draining::{end_past, sources, spot_from};
-use scc_entry::Keyed;
 use std::hash::{BuildHasher, Hash};
 
 impl<E: Keyed, H: BuildHasher> Table<E, H>

@@ -1,8 +1,29 @@
-//! Entries whose value may be written, and whose key may be replaced by an equal one.
-ghost use Rattle.std.specs.Prelude.{◌≡◌};
+//! What an entry of a table is: it has a key, may have a value beside it, and may be made of the two.
 ghost use Rattle.std.specs.Borrow.{sem, Lends};
+ghost use Rattle.std.specs.Prelude.{◌≡◌, IfOk, IfErr};
 
-use crate::keyed::Keyed;
+use std::alloc::Global;
+
+/// An entry of a table: what it is found by.
+pub trait Keyed {
+    type Key;
+
+    ghost key_of: { Self → Self.Key };
+
+    fn key(&self) -> &Self::Key
+        ensures { result.now ≡ key_of self.now };
+}
+
+impl<K, V> Keyed for (K, V) {
+    type Key = K;
+
+    ghost key_of = { λ e. e.0 };
+
+    #[inline(always)]
+    fn key(&self) -> &K {
+        &self.0
+    }
+}
 
 /// An entry with a value beside its key.
 pub trait Valued: Keyed {
@@ -54,4 +75,16 @@ impl<K, V> Valued for (K, V) {
     ghost value_keeps_key = { λ e v. refl };
 
     ghost key_is = { λ e k. refl };
+}
+
+/// An entry that is made of parts, in memory that may be refused.
+pub trait Made: Sized {
+    type Parts;
+
+    // The entry that is made of the parts.
+    ghost made_of: { Self.Parts → Self };
+
+    fn make(alloc: Global, parts: Self::Parts) -> Result<Self, Self::Parts>
+        ensures ok { IfOk result (λ e. e ≡ made_of parts) }
+        ensures err { IfErr result (λ p. p ≡ parts) };
 }
