@@ -9,7 +9,6 @@ use crate::Buckets;
 use crate::insert::one_if;
 use crate::place::{Place, bucket_index, tag};
 use scc_common::Keyed;
-use scc_common::entry::Keyed;
 use std::hash::{BuildHasher, Hash};
 
 impl<E: Keyed, H: BuildHasher> Buckets<E, H>
