@@ -114,7 +114,7 @@ impl<C: Calls> Stripe<C> {
                 Err(CallError::Container)
             }
             Ok(reply) => {
-                note(
+                record_call(
                     history,
                     before,
                     container.buckets(),

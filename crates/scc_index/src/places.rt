@@ -9,11 +9,10 @@ ghost use Rattle.scc_table.specs.Places.{IsPlace, IsFoundAt, index_of, with_writ
 ghost use Rattle.scc_table.specs.Relocations.{RelocatesNone};
 ghost use Rattle.std.specs.Prelude.{◌≡◌, ◌≢◌, ◌<◌, ◌*◌, length, Some, None, IfOk, true, IfErr, MatchOption, slice_get, remove};
 
-pub use crate::borrowed::{Entry, OccupiedEntry, VacantEntry};
+use crate::Owned;
 use scc_buckets::Place;
 use scc_common::SharedVersion;
 use scc_contents::Hashes;
-pub use scc_snapshot::Iter;
 use std::hash::{BuildHasher, Hash};
 
 impl<K: Eq + Hash, V, H: BuildHasher> Owned<K, V, H> {

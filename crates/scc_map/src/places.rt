@@ -8,7 +8,7 @@ ghost use Rattle.scc_table.specs.Places.{IsPlace, IsFoundAt, index_of, with_writ
 ghost use Rattle.std.specs.Borrow.{sem};
 ghost use Rattle.std.specs.Prelude.{◌≡◌, ◌<◌, ◌*◌, Some, None, true, MatchOption, slice_get};
 
-pub use crate::borrowed::{Entry, OccupiedEntry, ReplaceResult, VacantEntry};
+use crate::Owned;
 use scc_buckets::Place;
 use scc_contents::Hashes;
 use std::hash::{BuildHasher, Hash};

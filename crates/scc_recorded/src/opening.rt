@@ -45,12 +45,12 @@ where
         let (book, mut all) = receipts.open::<L>();
         let (other, rest) = records.open::<M>();
         let handed = pass_all(alloc, passes, &mut all)?;
-        let slots = slots_for(setup.capacity, stripes);
-        let maximum = slots_for(setup.maximum, stripes);
+        let slots = share_among(setup.capacity, stripes);
+        let maximum = share_among(setup.maximum, stripes);
         let hasher = setup.hasher;
         let locks = lock_all(
             alloc,
-            bits_for(stripes),
+            bits_among(stripes),
             slots,
             maximum,
             stripes,

@@ -1,5 +1,5 @@
 //! Look-ups, and reads and writes of the entries that they find. None of them changes a place.
 
 mod read;
-mod search;
+pub(crate) mod search;
 mod write;

@@ -3,5 +3,5 @@
 mod grow;
 mod install;
 mod relocate;
-mod reserve;
+pub(crate) mod reserve;
 mod shrink;

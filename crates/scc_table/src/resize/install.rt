@@ -117,7 +117,7 @@ where
             bucket self.old result self.new }
     {
         let (mut old, left, overflow) = self.current.install(fresh, 0, 0);
-        match take(
+        match move_target(
             &mut self.current,
             &mut old,
             bucket,

@@ -45,7 +45,7 @@ where
         ensures bounded { IsBounded self.old → length (list_of self.old bucket) ≤ 32 → IsBounded self.new }
     {
         let aside = self.draining.left_overflow;
-        match take(
+        match move_target(
             &mut self.current,
             &mut self.draining.array,
             bucket,
