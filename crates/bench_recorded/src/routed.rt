@@ -18,7 +18,7 @@ fn locked_parts(alloc: Global, hasher: &Fold) -> io::Result<Vec<Mutex<Map>>>
 {
     let mut parts = Vec::new(alloc);
     for _part in 0..PARTS {
-        let part = locked_map(alloc, 4, hasher.share()?)?;
+        let part = locked_map(alloc, 4, hasher.clone_owner()?)?;
         parts.push(part).map_err(AllocError::from)?;
     }
     Ok(parts)

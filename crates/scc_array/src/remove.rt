@@ -6,7 +6,7 @@ ghost use Rattle.std.specs.List.{position};
 ghost use Rattle.std.specs.Prelude.{◌≡◌, [], ◌<◌, length, slice_set, slice_get, Some, None, ℕ};
 
 use crate::Array;
-pub use crate::columns::Columns;
+use crate::columns::Columns;
 use crate::lists::destroy_lists;
 use scc_common::Keyed;
 

@@ -6,6 +6,7 @@ mod walk;
 
 use crate::Owned;
 use crate::held::{HeldEntry, HeldOccupied, HeldVacant};
+pub use scc_snapshot::Iter;
 use std::hash::{BuildHasherDefault, FoldHasher};
 
 /// The entry of a key. While it is held, the index is borrowed.

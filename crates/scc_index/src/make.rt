@@ -8,9 +8,7 @@ ghost use Rattle.std.specs.Iterator.{Drains, IsFinite};
 ghost use Rattle.std.specs.Prelude.{◌<◌, ◌≤◌, List, IfOk, IfErr, OnOk};
 
 use crate::Owned;
-pub use crate::borrowed::{Entry, OccupiedEntry, VacantEntry};
 use scc_common::{InsertError, MakeError, Shared};
-pub use scc_snapshot::Iter;
 use scc_table::Table;
 use std::alloc::Global;
 use std::hash::{BuildHasher, BuildHasherDefault, Hash};

@@ -11,7 +11,7 @@ ghost use Rattle.std.specs.Prelude.{◌≡◌, ◌≢◌, ◌<◌, ◌*◌, leng
 
 use crate::Owned;
 use scc_buckets::Place;
-use scc_common::SharedVersion;
+use scc_common::{Made, SharedVersion};
 use scc_contents::Hashes;
 use std::hash::{BuildHasher, Hash};
 

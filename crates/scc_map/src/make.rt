@@ -8,7 +8,6 @@ ghost use Rattle.std.specs.Iterator.{Drains, IsFinite};
 ghost use Rattle.std.specs.Prelude.{◌<◌, ◌≤◌, List, IfOk, OnOk};
 
 use crate::Owned;
-pub use crate::borrowed::{Entry, OccupiedEntry, ReplaceResult, VacantEntry};
 use scc_common::{MakeError, Shared};
 use scc_contents::Hashes;
 use scc_table::Table;

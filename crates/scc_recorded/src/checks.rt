@@ -10,7 +10,7 @@ use crate::counted::CountedStripe;
 use crate::passes::Pass;
 use crate::setups::Site;
 use scc_calls::{Calls, Step, route};
-use scc_history::{Receipt, first_difference};
+use scc_history::{Histories, Receipt, first_difference};
 use std::alloc::{AllocError, Global};
 use std::sync::ledger::Ledger;
 

@@ -9,7 +9,6 @@ ghost use Rattle.std.specs.Option.{option_or};
 ghost use Rattle.std.specs.Prelude.{◌≡◌, ◌<◌, ◌≤◌, IfErr, IfOk, List, OnOk};
 
 use crate::Owned;
-pub use crate::entry::{OccupiedEntry, Removed};
 use scc_common::{KeyError, MakeError, Shared};
 use std::alloc::Global;
 use std::hash::{BuildHasher, BuildHasherDefault, Hash};

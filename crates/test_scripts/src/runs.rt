@@ -177,7 +177,7 @@ impl Calls for Tally {
 
     ghost adds = { λ _. ⊥ };
 
-    ghost is_ready = { λ t c r. r ≡ t.total + c };
+    ghost is_prepared = { λ t c r. r ≡ t.total + c };
 
     ghost is_marked = { λ _. false };
 
@@ -191,7 +191,7 @@ impl Calls for Tally {
         None
     }
 
-    fn ready(&mut self, call: &u8) -> Result<(u8, u8), Refused> {
+    fn prepare_call(&mut self, call: &u8) -> Result<(u8, u8), Refused> {
         if self.total > 9 || *call > 9 - self.total {
             return Err(Refused);
         }

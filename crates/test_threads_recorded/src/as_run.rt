@@ -203,11 +203,11 @@ where
     C::Hasher: CloneOwner + Drop,
 {
     let mut replies = Vec::new(alloc);
-    let mut alone: C = run_alone(alloc, hasher.share()?, calls, &mut replies)?;
+    let mut alone: C = run_alone(alloc, hasher.clone_owner()?, calls, &mut replies)?;
     let finished = record::<C, Brand, Brand, R>(
         rt,
         alloc,
-        hasher.share()?,
+        hasher.clone_owner()?,
         Blank::new(1),
         Blank::new(1),
         calls,
@@ -242,7 +242,7 @@ fn show_calls<C: Streamed, R: Wait>(
 where
     C::Hasher: CloneOwner + Drop,
 {
-    let came = count::<C>(alloc, hasher.share()?, calls)?;
+    let came = count::<C>(alloc, hasher.clone_owner()?, calls)?;
     let as_run = compare::<C, R>(rt, alloc, hasher, calls, came.sizes.as_slice())?;
     Ok(Shown {
         all_calls: came.has_all(C::KEYED.saturating_add(2)),
