@@ -1,8 +1,8 @@
 //! Lets four workers open, touch, expire and count sessions in a map that they share, as the lines of standard input
 //! say.
 //!
-//! Each line is a step that all workers make at once, and prints how many sessions it met. The status is 2 where a line
-//! is no step, which is named, 3 where memory is refused, and 4 where a stream fails.
+//! Each line is a step that all workers make at once, and prints how many sessions it met, or how long they last. The
+//! status is 2 if a line is no step, whose number is printed, 3 if memory is refused, and 4 if a stream fails.
 #![tactic(auto)]
 
 mod sessions;
@@ -18,7 +18,7 @@ use std::thread::Threads;
 use steps::{Step, parse_step};
 use workers::{draw_tokens, make_step};
 
-// Makes the step of a line, and prints how many sessions it met.
+// Makes the step of a line, and prints what it counted.
 fn print_step<R: Threads + Sync + Wait + Print>(
     rt: &R,
     alloc: Global,
@@ -28,14 +28,14 @@ fn print_step<R: Threads + Sync + Wait + Print>(
 ) -> io::Result<()> {
     let met = match step {
         Step::Count => sessions.len(rt) as u64,
-        Step::Open(number, end) => {
+        Step::Open(number, session) => {
             let opened = draw_tokens(alloc, tokens.len(), number)?;
             let met = make_step(
                 rt,
                 alloc,
                 sessions,
                 opened.as_slice(),
-                Step::Open(number, end),
+                Step::Open(number, session),
             )?;
             for token in opened {
                 tokens.push(token).map_err(AllocError::from)?;
@@ -48,7 +48,7 @@ fn print_step<R: Threads + Sync + Wait + Print>(
     Ok(())
 }
 
-// Makes the steps of all lines, and says with which status.
+// Makes the steps of all lines, and returns the status.
 fn run<R: Threads + Sync + Wait + Print, I: Read + Drop>(
     rt: &R,
     alloc: Global,

@@ -1,5 +1,5 @@
 //! Workers that make a step on the sessions of the tokens that are theirs.
-use crate::sessions::{Sessions, expire, touch};
+use crate::sessions::{Sessions, expire, length, touch};
 use crate::steps::Step;
 use rand::rngs::SmallRng;
 use rand::{Rng, SeedableRng};
@@ -11,7 +11,7 @@ use std::thread::{Threads, map_indices};
 /// How many workers there are.
 const WORKERS: usize = 4;
 
-/// So many new tokens, the same in each run of the program.
+/// Returns `number` new tokens, the same in each run of the program.
 pub fn draw_tokens(alloc: Global, seed: usize, number: usize) -> Result<Vec<u64>, AllocError> {
     let mut random = SmallRng::seed_from_u64(seed as u64);
     let mut tokens = Vec::new(alloc);
@@ -21,21 +21,24 @@ pub fn draw_tokens(alloc: Global, seed: usize, number: usize) -> Result<Vec<u64>
     Ok(tokens)
 }
 
-// Makes the step on one session, and says whether there was one that it met; None where memory is refused.
-fn meets<R: Wait>(rt: &R, sessions: &Sessions, token: u64, step: Step) -> Option<bool> {
-    match step {
-        Step::Open(_, end) => match sessions.insert_sync(rt, token, end) {
-            Ok(()) => Some(true),
-            Err(scc::InsertError::Exists(_)) => Some(false),
-            Err(scc::InsertError::Memory(_)) => None,
+// Makes the step on the session of a token, and returns what it counts for: the length of the session, or 1 if the step
+// met one. Returns `None` if memory is refused.
+fn make_one<R: Wait>(rt: &R, sessions: &Sessions, token: u64, step: Step) -> Option<u64> {
+    let met = match step {
+        Step::Open(_, session) => match sessions.insert_sync(rt, token, session) {
+            Ok(()) => true,
+            Err(scc::InsertError::Exists(_)) => false,
+            Err(scc::InsertError::Memory(_)) => return None,
         },
-        Step::Touch(end) => Some(touch(rt, sessions, token, end).is_some()),
-        Step::Expire(now) => Some(expire(rt, sessions, token, now).is_some()),
-        Step::Count => Some(sessions.contains_sync(rt, &token)),
-    }
+        Step::Touch(time) => touch(rt, sessions, token, time).is_some(),
+        Step::Expire(now) => expire(rt, sessions, token, now).is_some(),
+        Step::Lengths => return Some(length(rt, sessions, token).unwrap_or(0)),
+        Step::Count => sessions.contains_sync(rt, &token),
+    };
+    Some(met as u64)
 }
 
-// Makes the step on every fourth token from that of the worker on.
+// Makes the step on every fourth token, from the token number `worker` on, and adds up what they count for.
 fn make_part<R: Wait>(
     rt: &R,
     sessions: &Sessions,
@@ -45,14 +48,12 @@ fn make_part<R: Wait>(
 ) -> Option<u64> {
     let mut met = 0u64;
     for token in tokens.iter().skip(worker).step_by(WORKERS) {
-        if meets(rt, sessions, *token, step)? {
-            met = met.saturating_add(1);
-        }
+        met = met.saturating_add(make_one(rt, sessions, *token, step)?);
     }
     Some(met)
 }
 
-/// Lets all workers make the step, each on its tokens, and adds up how many sessions they met.
+/// Lets all workers make the step, each on its tokens, and adds up what their sessions count for.
 pub fn make_step<R: Threads + Sync + Wait>(
     rt: &R,
     alloc: Global,
