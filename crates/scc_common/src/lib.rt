@@ -1,4 +1,4 @@
-//! What all containers share: errors, verdicts, what holds a container for writing, and hashers with several owners.
+//! What all containers share: errors, verdicts, guards, and hashers with several owners.
 #![tactic(auto)]
 
 pub mod errors;
