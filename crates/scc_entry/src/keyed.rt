@@ -1,7 +1,7 @@
-//! Entries that have a key.
+//! `Keyed`: entries that have a key.
 ghost use Rattle.std.specs.Prelude.{◌≡◌};
 
-/// An entry of a table: what it is found by.
+/// An entry of a table, which is found by its key.
 pub trait Keyed {
     type Key;
 

@@ -1,5 +1,5 @@
-//! What an entry of a table is: it has a key, may have a value beside it, may be made of the two, and may be a version
-//! that several owners share.
+//! The entries of a table: an entry has a key, may have a value, may be made of a key and a value, and may be a version
+//! with several owners.
 #![tactic(auto)]
 
 pub mod keyed;

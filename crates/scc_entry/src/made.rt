@@ -1,9 +1,9 @@
-//! Entries that are made when they are put in.
+//! `Made`: entries that are made of parts when they are inserted.
 ghost use Rattle.std.specs.Prelude.{◌≡◌, IfOk, IfErr};
 
 use std::alloc::Global;
 
-/// An entry that is made of parts, in memory that may be refused.
+/// An entry that is made of parts, which fails if memory is refused.
 pub trait Made: Sized {
     type Parts;
 

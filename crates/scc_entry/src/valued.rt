@@ -1,19 +1,19 @@
-//! Entries whose value may be written, and whose key may be replaced by an equal one.
+//! `Valued`: entries whose value may be written, and whose key may be replaced by an equal key.
 ghost use Rattle.std.specs.Prelude.{◌≡◌};
 ghost use Rattle.std.specs.Borrow.{sem, Lends};
 
 use crate::keyed::Keyed;
 
-/// An entry with a value beside its key.
+/// An entry with a key and a value.
 pub trait Valued: Keyed {
     type Value;
 
     ghost value_of: { Self → Self.Value };
 
-    // The entry with that value.
+    // The entry with its value replaced.
     ghost with_value: { Self → Self.Value → Self };
 
-    // The entry with that key.
+    // The entry with its key replaced.
     ghost with_key: { Self → Self.Key → Self };
 
     fn parts_mut(&mut self) -> (&Self::Key, &mut Self::Value)
