@@ -1,4 +1,4 @@
-//! `Verdict`: what a closure tells a walk that may remove entries.
+//! `Verdict`: what a closure tells a walk that may take entries out.
 
 /// What becomes of a visited entry, and whether the walk goes on.
 #[derive(Clone, Copy, Debug, PartialEq)]
