@@ -1,4 +1,4 @@
-//! The errors of the containers. Keys and values need `Debug` only where an error is printed.
+//! The errors of the containers. Keys and values need `Debug` only when an error is printed.
 
 use std::fmt::Debug;
 use thiserror::Error;

@@ -117,8 +117,8 @@ module _ {E S : Type 0} where
   abbrev pub IsPreparedFor : {K : Type 0} → (K → ℕ) → (E → K) → Contents E S → K → Type 0
   IsPreparedFor hash key c k = IsPreparedAt hash key c (hash k)
 
-  -- an insertion of a new key with the hash h is prepared by the call: nothing changes, or there is the first array, or
-  -- an array of twice as many buckets, all of which wait
+  -- the call prepares an insertion of a new key with the hash h: nothing changes, or the first array is made, or the
+  -- array doubles and all buckets wait
   pub record Prepares {K : Type 0} (hash : K → ℕ) (key : E → K) (c : Contents E S) (h : ℕ) (d : Contents E S) : Type 0 where
     pub rests : Rests c d
     pub growth : Grows c d

@@ -246,7 +246,8 @@ where
 
 /// Moves the entries of all old buckets that belong to the target into this bucket of `current`, in order, and returns
 /// their number. The bucket must be empty, and the entries at most `coming`. `aside` entries count as if they stood in
-/// overflow lists of `current`. Fails if memory is refused; then all stays.
+/// overflow lists of `current`. Fails if memory is refused, or if the overflow lists would hold too many entries; then
+/// all stays.
 fn move_in<E: Keyed, H: BuildHasher>(
     current: &mut Buckets<E, H>,
     old: &mut Array<E>,
@@ -421,9 +422,8 @@ fn len_between<E>(old: &Array<E>, first: usize, last: usize) -> usize
     entry_count
 }
 
-/// Returns a number that is at least the number of entries of all old buckets that belong to the target, and equals it
-/// if it is greater than 32. Hashes no entry if the entries stand in one old bucket of at most 32 entries, or if
-/// `whole`.
+/// Returns at least the number of entries of all old buckets that belong to the target. A result greater than 32 is
+/// exact. Hashes no entry if these entries stand in one old bucket of at most 32 entries, or if `whole`.
 fn count_coming<E: Keyed, H: BuildHasher>(
     old: &Array<E>,
     task: Relocation,
@@ -466,7 +466,8 @@ where
 /// Moves the entries of all old buckets that belong to `target` into this bucket of `current`, in order, and returns
 /// their number. The bucket must be empty. `aside` entries, at least those in the overflow lists of `old`, count as if
 /// they stood in overflow lists of `current`. `waiting` must have a flag for each bucket of `current`, and `old` must
-/// hold no entry of a bucket whose flag is down. Fails if memory is refused; then all stays.
+/// hold no entry of a bucket whose flag is down. Fails if memory is refused, or if the overflow lists would hold too
+/// many entries; then all stays.
 pub fn move_target<E: Keyed, H: BuildHasher>(
     current: &mut Buckets<E, H>,
     old: &mut Array<E>,

@@ -31,7 +31,8 @@ pub trait Follow {
     /// Returns the number of slots of the array, 0 without an array.
     fn slots(&self) -> usize;
 
-    /// Makes `share` the minimum of the container, unless more slots were asked for when it was made.
+    /// Makes `share` the minimum of the container, unless more slots were asked for when it was made. A cache ignores
+    /// it.
     fn follow(&mut self, share: usize)
         requires { share ≤ 2 ^ 63 };
 }

@@ -6,8 +6,8 @@ use scc_buckets::sizes::GREATEST_CAPACITY;
 use std::sync::atomic::{AtomicU64, Ordering};
 use std::sync::{Mutex, Wait};
 
-/// Returns how many first bits of a hash name a stripe, if all stripes together have `slots` slots: as many bits, at
-/// most 4, as leave each stripe 64 slots, or 0.
+/// Returns how many first bits of a hash name a stripe, if all stripes together have `slots` slots: the greatest number
+/// of bits, at most 4, that leaves each stripe 64 slots, or 0.
 pub fn bits_for(slots: usize) -> u32
     ensures few { result ≤ 4 }
     ensures room { 64 ≤ slots → 64 * 2 ^ result ≤ slots }

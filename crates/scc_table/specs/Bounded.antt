@@ -1,5 +1,5 @@
--- Tables of two arrays whose lists hold at most 32 entries each. A place of the table stands for its spot, of which the
--- words of `scc_buckets` speak.
+-- Tables of two arrays whose lists hold at most 32 entries each. A place of the table stands for its spot, and the
+-- words of `scc_buckets` speak of spots.
 use Rattle.std.specs.Prelude.{◌≡◌, ℕ, ◌*◌, ◌<◌, ◌≤◌, ◌⊎◌, Bool, false, true, length}
 use Rattle.scc_buckets.specs.Bounded as bounded
 use Rattle.scc_buckets.specs.Bounded.{IsResized, HasListsOf}

@@ -87,7 +87,7 @@ module _ {E K S : Type 0} (eq : K → K → Bool) (key : E → K) where
       -- no two keys are equal
       pub unique : IsUniqueBy eq key d
 
-    -- if no bucket waits, a new array of `count` buckets is installed, all of which wait then, or memory is refused
+    -- if no bucket waits, a new array of `count` buckets is installed, and all of them wait; or memory is refused
     pub record InstallsFresh (count : ℕ) (c : Contents E S) (result : Result (Unit {0}) X) (d : Contents E S) : Type 0 where
       -- on success, each list has the entries that belong to it
       pub lists : OnOk result (IsRegrouped hash count c d)
@@ -114,7 +114,7 @@ module _ {E K S : Type 0} (eq : K → K → Bool) (key : E → K) where
       -- no two keys are equal
       pub unique : IsUniqueBy eq key d
 
-    -- all waiting buckets are relocated, and a new array of `count` buckets is installed, all of which wait then, or
+    -- all waiting buckets are relocated, and a new array of `count` buckets is installed, and all of them wait; or
     -- memory is refused
     pub record ResizesArray (count : ℕ) (c : Contents E S) (result : Result (Unit {0}) X) (d : Contents E S) : Type 0 where
       -- on success, each list has the entries that belong to it
@@ -144,7 +144,7 @@ module _ {E K S : Type 0} (eq : K → K → Bool) (key : E → K) where
       -- no two keys are equal
       pub unique : IsUniqueBy eq key d
 
-    -- a new array of `count` buckets is installed, all of which wait but `bucket`, which is relocated, or memory is
+    -- a new array of `count` buckets is installed, bucket `bucket` is relocated, and all others wait; or memory is
     -- refused
     pub record InstallsRelocating (count bucket : ℕ) (c : Contents E S) (result : Result (Unit {0}) X) (d : Contents E S) : Type 0 where
       -- on success, each list has the entries that belong to it

@@ -140,7 +140,7 @@ module _ {E K S X : Type 0} (eq : K → K → Bool) (key : E → K) where
       -- no two keys are equal
       pub unique : IsUniqueBy eq key d
 
-    -- as `InsertsMadeFull`, with an array of `count` buckets that is installed before e is inserted
+    -- as `InsertsMadeFull`, and an array of `count` buckets is installed before e is inserted
     pub record InsertsMadeGrown (c : Contents E S) (count hash : ℕ) (e : E) (x : X) (result : Result Place X) (d : Contents E S) : Type 0 where
       -- on success, e is inserted, and the result is its place
       pub ok : IfOk result (IsInsertedAt c e d)
@@ -178,7 +178,7 @@ module _ {E K S X : Type 0} (eq : K → K → Bool) (key : E → K) where
       -- no two keys are equal
       pub unique : IsUniqueBy eq key d
 
-    -- as `InsertsMadeFull`, with an array of twice as many buckets that is installed after e is inserted
+    -- as `InsertsMadeFull`, and an array of twice as many buckets is installed after e is inserted
     pub record InsertsMadeCrowded (c : Contents E S) (hash : ℕ) (e : E) (x : X) (result : Result Place X) (d : Contents E S) : Type 0 where
       -- on success, e is inserted, and the result is its place
       pub ok : IfOk result (IsInsertedAt c e d)

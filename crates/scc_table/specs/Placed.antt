@@ -1,5 +1,5 @@
 -- The entry at a place of two arrays, the entries before and after it, and what a change at the place leaves. A place
--- stands for its spot, of which the words of `scc_buckets` speak.
+-- stands for its spot, and the words of `scc_buckets` speak of spots.
 use Rattle.std.specs.Prelude.{◌≡◌, List}
 use Rattle.std.proofs.Common.{sym, ap, subst, length-set}
 use Rattle.scc_contents.specs.Contents.{Contents, bucket_count, waiting_of, owed_of}

@@ -30,7 +30,7 @@ module _ {E K S : Type 0} (eq : K → K → Bool) (key : E → K) where
     pub record PutsAtEnd (c : Contents E S) (i : ℕ) (e : E) (result : Option E) (d : Contents E S) : Type 0 where
       -- e stands at the end of list i
       pub step : PutsLast c i e result d
-      -- if each entry stood in the bucket of its hash and no list had more than 32, so it is still
+      -- if each entry stood in the bucket of its hash and no list had more than 32 entries, both still hold
       pub listed : IsListed (λ f. hash c (key f)) c → IsListed (λ f. hash d (key f)) d
       -- the waiting buckets stay
       pub waiting : waiting_of d ≡ waiting_of c
@@ -43,7 +43,7 @@ module _ {E K S : Type 0} (eq : K → K → Bool) (key : E → K) where
     pub record MovesToEnd (c : Contents E S) (i slot : ℕ) (d : Contents E S) : Type 0 where
       -- the entry stands at the end of list i
       pub list : (e : E) × (slice_get (list_of c i) slot ≡ Some e) × HasList c i (remove (list_of c i) slot ++ e ∷ []) d
-      -- if each entry stood in the bucket of its hash and no list had more than 32, so it is still
+      -- if each entry stood in the bucket of its hash and no list had more than 32 entries, both still hold
       pub listed : IsListed (λ f. hash c (key f)) c → IsListed (λ f. hash d (key f)) d
       -- the waiting buckets stay
       pub waiting : waiting_of d ≡ waiting_of c
